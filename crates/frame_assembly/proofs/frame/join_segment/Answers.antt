@@ -1,0 +1,33 @@
+use Rattle.std.proofs.Common.{◌≡◌, ℕ, zero, suc, ◌+◌, ◌<◌, ◌≤◌, Bool, true, false, eqb, List, [], length, sym, ◌∙◌, ap, subst, arith}
+use Rattle.std.proofs.lemmas.Bool.{eqb-true, eqb-false}
+use Rattle.st_format.specs.declared.cell.Cell.{Cell}
+use Rattle.st_format.specs.Raster.{Segment, written_from}
+use Rattle.payload_header.specs.Payload.{seen, IsInside}
+use Rattle.frame_assembly.proofs.Put.{no_octets, segment_written, segment_ends, offset_below}
+use Rattle.frame_assembly.proofs.frame.join_segment.Goals as goal
+
+some : (n : ℕ) → false ≡ eqb n 0 → 0 < n
+some n h = let ne : n ≡ 0 → ⊥ = eqb-false n 0 (sym h) in omega arith
+
+pub returns-then-is_empty : goal.returns-then-is_empty
+returns-then-is_empty c = λ ts. no_octets c.args.format.now ts c.args.cells.now (seen c.args.segment.now) c.requires.whole (eqb-true (length c.args.segment.now.octets.now) 0 (sym c.if-is_empty.ensures))
+
+pub samples_before-start-requires : goal.samples_before-start-requires
+samples_before-start-requires c =
+    let has : 0 < length c.args.segment.now.octets.now = some (length c.args.segment.now.octets.now) c.if-is_empty.ensures in
+    let inside : IsInside c.args.format.now (seen c.args.segment.now) = c.requires.inside has in
+    record { row = inside.row; column = offset_below c.args.format.now (seen c.args.segment.now) has inside }
+
+pub write_octets-requires : goal.write_octets-requires
+write_octets-requires c =
+    let has : 0 < length c.args.segment.now.octets.now = some (length c.args.segment.now.octets.now) c.if-is_empty.ensures in
+    let inside : IsInside c.args.format.now (seen c.args.segment.now) = c.requires.inside has in
+    omega (arith, segment_ends c.args.format.now (seen c.args.segment.now) inside, c.samples_before-start.ensures.value, c.requires.whole)
+
+pub returns : goal.returns
+returns c = λ ts.
+    let has : 0 < length c.args.segment.now.octets.now = some (length c.args.segment.now.octets.now) c.if-is_empty.ensures in
+    let inside : IsInside c.args.format.now (seen c.args.segment.now) = c.requires.inside has in
+    c.write_octets.ensures.written
+    ∙ ap (λ (k : ℕ). written_from k c.args.segment.now.octets.now c.args.cells.now) c.samples_before-start.ensures.value
+    ∙ segment_written c.args.format.now ts c.args.cells.now (seen c.args.segment.now) c.requires.whole inside c.write_octets.ensures.octets

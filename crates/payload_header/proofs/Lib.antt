@@ -1,0 +1,4 @@
+pub mod HeaderLists
+pub mod Grammar
+pub mod Taken
+pub mod Again

@@ -1,0 +1,3 @@
+pub mod Payload
+pub mod Reading
+pub mod View

@@ -1,0 +1,72 @@
+-- The grammar of a payload: what octets are a payload with these segments.
+use Rattle.std.specs.Prelude.{◌≡◌, ℕ, ◌+◌, ◌*◌, ◌/◌, ◌%◌, ◌^◌, ◌<◌, ◌≤◌, Bool, true, false, if◌then◌else◌, List, [], ◌∷◌, ◌++◌, length}
+use Rattle.std.specs.List.{flat_map, AllByRecursion, AllZip}
+use Rattle.std.specs.Int.{w16, to_be_bytes}
+use Rattle.st_format.specs.declared.format.Format.{Format}
+use Rattle.st_format.specs.Position.{Group, pixel_group}
+use Rattle.st_format.specs.Raster.{Segment}
+use Rattle.payload_header.specs.declared.payload.Segment.{Segment as SegmentView}
+
+abbrev pub group_of : Format → Group
+group_of f = pixel_group f.sampling f.depth
+
+-- A segment with octets has whole pixel groups, begins at one, and lies in the raster.
+pub record IsInside (f : Format) (s : Segment) : Type 0 where
+  pub whole_groups : length s.octets % (group_of f).octets ≡ 0
+  pub at_group : s.offset % (group_of f).pixels ≡ 0
+  pub row : s.row < f.height
+  pub columns : s.offset + length s.octets / (group_of f).octets * (group_of f).pixels ≤ f.width
+
+-- The fields of a segment's header
+pub record Header : Type 0 where
+  pub octets : ℕ
+  pub second_field : Bool
+  pub row : ℕ
+  pub more : Bool
+  pub offset : ℕ
+
+pub record HeaderFits (h : Header) : Type 0 where
+  pub octets : h.octets < 2 ^ 16
+  pub row : h.row < 2 ^ 15
+  pub offset : h.offset < 2 ^ 15
+
+-- 15 bits behind a flag
+abbrev pub flagged : Bool → ℕ → List ℕ
+flagged flag n = to_be_bytes w16 ((if flag then 2 ^ 15 else 0) + n)
+
+-- Length; F and row; C and Offset
+abbrev pub header_text : Header → List ℕ
+header_text h = to_be_bytes w16 h.octets ++ flagged h.second_field h.row ++ flagged h.more h.offset
+
+-- one header or more, of which all but the last say that another follows
+abbrev pub IsChain : List Header → Type 0
+IsChain [] = ⊥
+IsChain (h ∷ []) = h.more ≡ false
+IsChain (h ∷ k ∷ hs) = (h.more ≡ true) × IsChain (k ∷ hs)
+
+-- A header describes a segment. One without octets is free in its field, row and offset.
+pub record Describes (f : Format) (h : Header) (s : Segment) : Type 0 where
+  pub octets : h.octets ≡ length s.octets
+  pub row : h.row ≡ s.row
+  pub offset : h.offset ≡ s.offset
+  pub first_field : 0 < length s.octets → h.second_field ≡ false
+  pub inside : 0 < length s.octets → IsInside f s
+
+-- up to this many segments
+abbrev pub most_segments : ℕ
+most_segments = 3
+
+-- The extended number, the headers, the segments' octets in the order of the headers, and any rest
+pub record IsPayload (f : Format) (extended : ℕ) (segments : List Segment) (payload : List ℕ) : Type 0 where
+  pub headers : List Header
+  pub rest : List ℕ
+  pub extended_fits : extended < 2 ^ 16
+  pub headers_fit : AllByRecursion HeaderFits headers
+  pub few : length headers ≤ most_segments
+  pub chain : IsChain headers
+  pub described : AllZip (Describes f) headers segments
+  pub whole : payload ≡ to_be_bytes w16 extended ++ (flat_map header_text headers ++ (flat_map (λ s. s.octets) segments ++ rest))
+
+-- a segment without where its octets lie in memory
+abbrev pub seen : SegmentView → Segment
+seen s = record { row = s.row; offset = s.offset; octets = s.octets.now }

@@ -1,0 +1,12 @@
+-- What a payload that was read says.
+use Rattle.std.specs.Prelude.{ℕ, List, map}
+use Rattle.st_format.specs.Raster.{Segment}
+use Rattle.payload_header.specs.declared.payload.PayloadView.{PayloadView}
+use Rattle.payload_header.specs.Payload.{seen}
+
+abbrev pub segments_of : PayloadView → List Segment
+segments_of v = map seen v.segments.items
+
+-- the extended number and the segments
+abbrev pub said : PayloadView → ℕ × List Segment
+said v = (v.extended, segments_of v)

@@ -1,0 +1,6 @@
+//! The RTP header of RFC 3550.
+#![tactic(auto)]
+
+mod header;
+
+pub use header::{RtpFault, RtpView, read_rtp};
