@@ -1,0 +1,50 @@
+-- What a format says, and which formats there are.
+use Rattle.std.specs.Prelude.{◌≡◌, ℕ, ◌*◌, ◌/◌, ◌%◌, Bool, ◌||◌, nat_lt, not, ◌==◌, if◌then◌else◌, Result, Ok, Err}
+use Rattle.st_format.specs.declared.format.Sampling.{Sampling}
+use Rattle.st_format.specs.declared.format.Depth.{Depth}
+use Rattle.st_format.specs.declared.format.Format.{Format}
+use Rattle.st_format.specs.declared.format.FormatFault.{FormatFault}
+use Rattle.st_format.specs.declared.format.FormatFault.TheVariants.{BadWidth, BadHeight, BadRate}
+use Rattle.st_format.specs.Pgroup.{pixel_group}
+use Rattle.st_format.specs.Rate.{common_divisor}
+
+-- the fields of a format, without what is known of them
+pub record Fields : Type 0 where
+  pub sampling : Sampling
+  pub depth : Depth
+  pub width : ℕ
+  pub height : ℕ
+  pub n : ℕ
+  pub d : ℕ
+
+abbrev pub fields_of : Format → Fields
+fields_of f = record { sampling = f.sampling; depth = f.depth; width = f.width; height = f.height; n = f.n; d = f.d }
+
+-- tests of the limits
+abbrev pub is_bad_width : Sampling → Depth → ℕ → Bool
+is_bad_width s b w = nat_lt w 2 || nat_lt 8192 w || not (w % 2 == 0) || not (w % (pixel_group s b).pixels == 0)
+
+abbrev pub is_bad_height : ℕ → Bool
+is_bad_height h = nat_lt h 1 || nat_lt 8192 h
+
+abbrev pub is_bad_rate : ℕ → ℕ → Bool
+is_bad_rate n d = nat_lt n 1 || nat_lt 1000000 n || nat_lt d 1 || nat_lt 1000000 d || nat_lt n d || nat_lt (300 * d) n
+
+-- the format of these, its rate in lowest terms, or the first refusal
+abbrev pub format_at : Sampling → Depth → ℕ → ℕ → ℕ → ℕ → Result Fields FormatFault
+format_at s b w h n d =
+    if is_bad_width s b w then Err BadWidth else
+    (if is_bad_height h then Err BadHeight else
+    (if is_bad_rate n d then Err BadRate else
+    Ok (record { sampling = s; depth = b; width = w; height = h; n = n / common_divisor n d; d = d / common_divisor n d })))
+
+-- what a call made, by its fields
+abbrev pub made : Result Format FormatFault → Result Fields FormatFault
+made (Ok f) = Ok (fields_of f)
+made (Err e) = Err e
+
+-- the numbers of the refusals
+abbrev pub fault_number : FormatFault → ℕ
+fault_number BadWidth = 1
+fault_number BadHeight = 2
+fault_number BadRate = 3

@@ -1,0 +1,21 @@
+-- Pixel groups: SMPTE ST 2110-20, 6.2 (tables of pgroups); RFC 4175, 4.3.
+use Rattle.std.specs.Prelude.{ℕ}
+use Rattle.st_format.specs.declared.format.Sampling.{Sampling}
+use Rattle.st_format.specs.declared.format.Sampling.TheVariants.{Ycc422, Ycc444, Rgb}
+use Rattle.st_format.specs.declared.format.Depth.{Depth}
+use Rattle.st_format.specs.declared.format.Depth.TheVariants.{D8}
+
+-- Octets, pixels and samples of a pixel group, the smallest piece that a segment carries
+pub record Group : Type 0 where
+  pub octets : ℕ
+  pub pixels : ℕ
+  pub samples : ℕ
+
+abbrev pub pixel_group : Sampling → Depth → Group
+pixel_group Ycc422 D8 = record { octets = 4; pixels = 2; samples = 4 }
+pixel_group Ycc444 D8 = record { octets = 3; pixels = 1; samples = 3 }
+pixel_group Rgb D8 = record { octets = 3; pixels = 1; samples = 3 }
+
+-- how many bits a sample has
+abbrev pub bits_of : Depth → ℕ
+bits_of D8 = 8
