@@ -1,3 +1,4 @@
 pub mod Octets
-pub mod HeaderTaken
-pub mod HeaderAgain
+pub mod Taken
+pub mod Again
+pub mod Faulted

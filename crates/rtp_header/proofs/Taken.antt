@@ -8,7 +8,8 @@ use Rattle.std.proofs.lemmas.Nat.{be_bytes_2, be_bytes_4}
 use Rattle.rtp_header.proofs.Octets.{IsBytes, IsBytes-drop, IsBytes-take}
 use Rattle.rtp_header.specs.declared.header.RtpFault.{RtpFault}
 use Rattle.rtp_header.specs.declared.header.RtpFault.TheVariants.{ShortHeader, BadVersion, ShortExtension, BadPadding}
-use Rattle.rtp_header.specs.Header.{Rtp, Flags, ◌>>=◌, behind, behind_extension, without_padding, fields_of, fixed_at, rtp_at, bit, fixed_text, IsExtension, IsExtensionIf, IsPadding, IsPaddingIf, IsRtp}
+use Rattle.rtp_header.specs.Grammar.{Rtp, Flags, bit, fixed_text, IsExtension, IsExtensionIf, IsPadding, IsPaddingIf, IsRtp}
+use Rattle.rtp_header.specs.Reading.{◌>>=◌, behind, behind_extension, without_padding, fields_of, fixed_at, rtp_at}
 
 bind_ok : {A B : Type 0} (r : Result A RtpFault) (f : A → Result B RtpFault) (y : B) → (r >>= f) ≡ Ok y → (x : A) × (r ≡ Ok x) × (f x ≡ Ok y)
 bind_ok (Ok x) f y e = (x, refl, e)
