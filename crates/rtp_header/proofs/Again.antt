@@ -7,11 +7,10 @@ use Rattle.std.proofs.lemmas.List.{take_at, drop_at, length-append, append-nil, 
 use Rattle.std.proofs.lemmas.Nat.{from_be_bytes-to_be_bytes_2, from_be_bytes-to_be_bytes_4}
 use Rattle.rtp_header.specs.declared.header.RtpFault.{RtpFault}
 use Rattle.rtp_header.specs.declared.header.RtpFault.TheVariants.{ShortHeader, BadVersion, ShortExtension, BadPadding}
-use Rattle.rtp_header.specs.Grammar.{Rtp, Flags, bit, fixed_text, IsExtension, IsExtensionIf, IsPadding, IsPaddingIf, IsRtp}
+use Rattle.rtp_header.specs.Grammar.{AreOctets, Rtp, Flags, bit, fixed_text, IsExtension, IsExtensionIf, IsPadding, IsPaddingIf, IsRtp}
 use Rattle.rtp_header.specs.Reading.{◌>>=◌, behind, behind_extension, without_padding, fields_of, fixed_at, rtp_at, Gives}
 use Rattle.rtp_header.specs.Views.{seen}
 use Rattle.rtp_header.specs.declared.header.RtpView.{RtpView}
-use Rattle.rtp_header.proofs.Octets.{IsBytes}
 use Rattle.rtp_header.proofs.Taken.{rtp_takes}
 
 abbrev rtp_ok : Rtp → Result Rtp RtpFault
@@ -124,7 +123,7 @@ rtp_again r octets is =
     ∙ ap (λ (q : Rtp). Ok q) (fields_again g r tail is.payload_type is.sequence is.timestamp is.ssrc)
 
 -- The clauses of a reader that gives what reading gives
-pub is_found : (octets : List ℕ) (r : Result RtpView RtpFault) → IsBytes octets → Gives seen r (rtp_at octets) → IfOk r (λ v. IsRtp (seen v) octets)
+pub is_found : (octets : List ℕ) (r : Result RtpView RtpFault) → AreOctets octets → Gives seen r (rtp_at octets) → IfOk r (λ v. IsRtp (seen v) octets)
 is_found octets (Ok v) bytes gives = rtp_takes octets (seen v) bytes gives
 is_found octets (Err e) bytes gives = tt
 

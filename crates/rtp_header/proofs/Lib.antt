@@ -2,3 +2,4 @@ pub mod Octets
 pub mod Taken
 pub mod Again
 pub mod Faulted
+pub mod Written

@@ -3,10 +3,10 @@
 #![tactic(auto)]
 
 mod header;
-
+pub mod laws;
 mod reading;
-
+mod writing;
 
 pub use header::{RtpFault, RtpHead, RtpView};
 pub use reading::read_rtp;
-
+pub use writing::write_rtp;
