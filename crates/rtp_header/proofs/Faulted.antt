@@ -1,5 +1,5 @@
 -- Which fault is told: exactly the one that stands in the octets.
-use Rattle.std.proofs.Common.{◌≡◌, ◌≢◌, ℕ, zero, suc, ◌+◌, ◌-◌, ◌*◌, ◌/◌, ◌%◌, ◌^◌, ◌<◌, ◌≤◌, ◌⊎◌, ◌↔◌, inl, inr, Bool, true, false, cond, not, eqb, ltb, leb, ◌||◌, List, [], ◌∷◌, ◌++◌, length, get_or, take, drop, Result, Ok, Err, refl, sym, ap, ◌∙◌, subst, arith}
+use Rattle.std.proofs.Common.{◌≡◌, ℕ, ◌+◌, ◌-◌, ◌*◌, ◌/◌, ◌%◌, ◌<◌, ◌≤◌, ◌⊎◌, ◌↔◌, inl, inr, Bool, true, false, cond, not, eqb, ltb, ◌||◌, List, length, get_or, take, drop, Result, Ok, Err, refl, sym, ap, ◌∙◌, subst, arith}
 use Rattle.std.specs.Prelude.{IsErrOf}
 use Rattle.std.specs.Int.{w16, from_be_bytes}
 use Rattle.std.proofs.lemmas.Bool.{cases_lt, eqb-true, eqb-false, ltb-true, ltb-false}
@@ -8,8 +8,8 @@ use Rattle.rtp_header.specs.declared.header.RtpFault.{RtpFault}
 use Rattle.rtp_header.specs.declared.header.RtpFault.TheVariants.{ShortHeader, BadVersion, ShortExtension, BadPadding}
 use Rattle.rtp_header.specs.declared.header.RtpView.{RtpView}
 use Rattle.rtp_header.specs.Grammar.{Rtp}
-use Rattle.rtp_header.specs.Reading.{◌>>=◌, behind, behind_extension, without_padding, fields_of, fixed_at, rtp_at, Gives}
-use Rattle.rtp_header.specs.Faults.{HasFault, IsShortHeader, IsBadVersion, IsShortExtension, IsBadPadding, version_of, IsPadded, sources_end, extension_words, headers_end, last_octet}
+use Rattle.rtp_header.specs.Reading.{◌>>=◌, behind, behind_extension, without_padding, fields_of, rtp_at, Gives}
+use Rattle.rtp_header.specs.Faults.{HasFault, IsShortExtension, IsBadPadding, version_of, IsPadded, sources_end, extension_words, headers_end, last_octet}
 use Rattle.rtp_header.specs.Views.{seen}
 
 abbrev rtp_err : RtpFault → Result Rtp RtpFault
@@ -49,7 +49,7 @@ last_behind octets rest is some =
     ap (λ (x : List ℕ). get_or x (length rest - 1) 0) is.is ∙ get_or-drop (headers_end octets) octets (length rest - 1) 0 ∙ ap (λ (i : ℕ). get_or octets i 0) at
 
 wrong_none : (octets : List ℕ) → length octets ≤ headers_end octets → (last_octet octets ≡ 0) ⊎ (length octets < headers_end octets + last_octet octets)
-wrong_none octets none = elim (cases_lt 0 (last_octet octets)) [ | inl some ↦ inr (omega arith) | inr less ↦ inl (omega arith) ]
+wrong_none octets none = elim (cases_lt 0 (last_octet octets)) [ inl some ↦ inr (omega arith) | inr less ↦ inl (omega arith) ]
 
 wrong_zero : (octets rest : List ℕ) → IsBehind octets rest → get_or rest (length rest - 1) 0 ≡ 0 → (last_octet octets ≡ 0) ⊎ (length octets < headers_end octets + last_octet octets)
 wrong_zero octets rest is nought =
@@ -129,8 +129,12 @@ words_stand octets rest k false p is end e ep =
     let count = count_sources octets rest is in
     let fits : 4 + 4 * k ≤ length rest = ltb-false (length rest) (4 + 4 * k) e in
     padding_stands octets (drop (4 + 4 * k) rest) p
-    (record { whole = is.whole; version = is.version; headers = omega arith;
-        is = ap (drop (4 + 4 * k)) is.is ∙ drop-drop (4 + 4 * k) (sources_end octets) octets ∙ ap (λ (n : ℕ). drop n octets) (sym end) })
+    (record {
+      whole = is.whole;
+      version = is.version;
+      headers = omega arith;
+      is = ap (drop (4 + 4 * k)) is.is ∙ drop-drop (4 + 4 * k) (sources_end octets) octets ∙ ap (λ (n : ℕ). drop n octets) (sym end);
+    })
     ep
 
 count_stands : (octets rest : List ℕ) (s p : Bool) → IsBehindSources octets rest → eqb (get_or octets 0 0 / 16 % 2) 1 ≡ true → ltb (length rest) 4 ≡ s → eqb (get_or octets 0 0 / 32 % 2) 1 ≡ p
@@ -172,7 +176,7 @@ sources_stand octets false x p whole version es ex ep =
 
 fixed_stands : (octets : List ℕ) (s v : Bool) → ltb (length octets) 12 ≡ s → eqb (get_or octets 0 0 / 64) 2 ≡ v
     → Stands octets (cond s (Err ShortHeader) (cond (not v) (Err BadVersion) (Ok (drop 12 octets))) >>= λ words. behind (4 * (get_or octets 0 0 % 16)) words
-        >>= λ y. behind_extension (eqb (get_or octets 0 0 / 16 % 2) 1) y >>= λ z. without_padding (eqb (get_or octets 0 0 / 32 % 2) 1) z >>= λ w. Ok (fields_of octets w))
+    >>= λ y. behind_extension (eqb (get_or octets 0 0 / 16 % 2) 1) y >>= λ z. without_padding (eqb (get_or octets 0 0 / 32 % 2) 1) z >>= λ w. Ok (fields_of octets w))
 fixed_stands octets true v es ev = ltb-true (length octets) 12 es
 fixed_stands octets false false es ev = record { whole = ltb-false (length octets) 12 es; other = eqb-false (get_or octets 0 0 / 64) 2 ev }
 fixed_stands octets false true es ev =
@@ -204,7 +208,7 @@ unlike BadPadding ShortExtension octets h g = absurd (omega (arith, g.cut, h.hea
 unlike BadPadding BadPadding octets h g = refl
 
 not_wrong : (octets : List ℕ) → (last_octet octets ≡ 0 → ⊥) × (headers_end octets + last_octet octets ≤ length octets) → (last_octet octets ≡ 0) ⊎ (length octets < headers_end octets + last_octet octets) → ⊥
-not_wrong octets counted wrong = elim wrong [ | inl nought ↦ counted.0 nought | inr more ↦ omega (arith, counted.1) ]
+not_wrong octets counted wrong = elim wrong [ inl nought ↦ counted.0 nought | inr more ↦ omega (arith, counted.1) ]
 
 not_faulted : (e : RtpFault) (octets : List ℕ) → IsFaultless octets → HasFault e octets → ⊥
 not_faulted ShortHeader octets is h = omega (arith, is.whole)

@@ -1,14 +1,14 @@
 -- What is read is in the grammar of headers.
-use Rattle.std.proofs.Common.{◌≡◌, ℕ, zero, suc, ◌+◌, ◌-◌, ◌*◌, ◌/◌, ◌%◌, ◌^◌, ◌<◌, ◌≤◌, inl, inr, Bool, true, false, cond, not, eqb, ltb, leb, ◌||◌, List, [], ◌∷◌, ◌++◌, length, get_or, take, drop, map, Option, Some, None, Result, Ok, Err, append_assoc, drop-drop, refl, sym, ap, ◌∙◌, subst, arith}
+use Rattle.std.proofs.Common.{◌≡◌, ℕ, suc, ◌+◌, ◌-◌, ◌*◌, ◌/◌, ◌%◌, ◌^◌, ◌<◌, ◌≤◌, Bool, true, false, cond, not, eqb, ltb, leb, ◌||◌, List, [], ◌∷◌, ◌++◌, length, get_or, take, drop, Result, Ok, Err, append_assoc, refl, sym, ap, ◌∙◌, subst, arith}
 use Rattle.std.specs.Int.{w16, w32, from_be_bytes, to_be_bytes}
-use Rattle.std.proofs.lemmas.Bool.{cases_lt, eqb-true, eqb-false, eq-eqb, ltb-false, leb-true, leb-false, le-ltb}
-use Rattle.std.proofs.lemmas.List.{take-append-drop, take_at, drop_at, length-take, length-drop, length-append, get_or-drop, get_or-take, get_or_past, append-nil}
+use Rattle.std.proofs.lemmas.Bool.{eqb-true, eqb-false, ltb-false, leb-true, leb-false}
+use Rattle.std.proofs.lemmas.List.{take-append-drop, length-take, length-drop, get_or-drop, append-nil}
 use Rattle.std.proofs.Math.Seq.{take-add}
 use Rattle.std.proofs.lemmas.Nat.{be_bytes_2, be_bytes_4}
 use Rattle.rtp_header.proofs.Octets.{AreOctets-drop, AreOctets-take}
 use Rattle.rtp_header.specs.declared.header.RtpFault.{RtpFault}
 use Rattle.rtp_header.specs.declared.header.RtpFault.TheVariants.{ShortHeader, BadVersion, ShortExtension, BadPadding}
-use Rattle.rtp_header.specs.Grammar.{AreOctets, Rtp, Flags, bit, fixed_text, IsExtension, IsExtensionIf, IsPadding, IsPaddingIf, IsRtp}
+use Rattle.rtp_header.specs.Grammar.{AreOctets, Rtp, Flags, bit, fixed_text, IsExtension, IsExtensionIf, IsPaddingIf, IsRtp}
 use Rattle.rtp_header.specs.Reading.{◌>>=◌, behind, behind_extension, without_padding, fields_of, fixed_at, rtp_at}
 
 bind_ok : {A B : Type 0} (r : Result A RtpFault) (f : A → Result B RtpFault) (y : B) → (r >>= f) ≡ Ok y → (x : A) × (r ≡ Ok x) × (f x ≡ Ok y)
@@ -53,7 +53,7 @@ extension_text octets n bytes long below is =
     let count : length words ≡ 4 * n = omega (arith, length-take (4 * n) (drop 4 octets), length-drop 4 octets) in
     let quarter : length words / 4 ≡ n = omega arith in
     let number : to_be_bytes w16 (length words / 4) ≡ take 2 (drop 2 octets) =
-        ap (to_be_bytes w16) quarter ∙ be_bytes_2 (take 2 (drop 2 octets)) n (omega (arith, length-take 2 (drop 2 octets), length-drop 2 octets)) (AreOctets-take 2 (drop 2 octets) (AreOctets-drop 2 octets bytes)) is in
+    ap (to_be_bytes w16) quarter ∙ be_bytes_2 (take 2 (drop 2 octets)) n (omega (arith, length-take 2 (drop 2 octets), length-drop 2 octets)) (AreOctets-take 2 (drop 2 octets) (AreOctets-drop 2 octets bytes)) is in
     record {
       profile = take 2 octets;
       words = words;
@@ -61,7 +61,7 @@ extension_text octets n bytes long below is =
       whole_words = omega arith;
       few = omega arith;
       parts = take-add 4 (4 * n) octets ∙ ap (λ (x : List ℕ). x ++ words) (take-add 2 2 octets)
-        ∙ append_assoc (take 2 octets) (take 2 (drop 2 octets)) words ∙ ap (λ (x : List ℕ). take 2 octets ++ (x ++ words)) (sym number);
+          ∙ append_assoc (take 2 octets) (take 2 (drop 2 octets)) words ∙ ap (λ (x : List ℕ). take 2 octets ++ (x ++ words)) (sym number);
     }
 
 abbrev ok_list : List ℕ → Result (List ℕ) RtpFault
@@ -194,7 +194,7 @@ rtp_takes octets y bytes e =
       is_extension = extension.is;
       is_padding = padded.is;
       whole = sym (take-append-drop 12 octets) ∙ ap (λ (x : List ℕ). x ++ drop 12 octets) (twelve octets d.0 bytes long version)
-        ∙ ap (λ (x : List ℕ). fixed_text (flags_of octets) (fields_of octets d.0) ++ x)
-            (g.2 ∙ sources.parts ∙ ap (λ (x : List ℕ). take (4 * (o % 16)) a.0 ++ x) (extension.parts ∙ ap (λ (x : List ℕ). extension.front ++ x) padded.parts));
+          ∙ ap (λ (x : List ℕ). fixed_text (flags_of octets) (fields_of octets d.0) ++ x)
+          (g.2 ∙ sources.parts ∙ ap (λ (x : List ℕ). take (4 * (o % 16)) a.0 ++ x) (extension.parts ∙ ap (λ (x : List ℕ). extension.front ++ x) padded.parts));
     } in
     subst (λ (r : Rtp). IsRtp r octets) (done (fields_of octets d.0) y d.2) made

@@ -1,5 +1,5 @@
 -- A fixed header's text, and any payload behind it, are in the grammar.
-use Rattle.std.proofs.Common.{◌≡◌, ℕ, ◌^◌, ◌<◌, ◌≤◌, List, [], ◌++◌, drop, take, refl, sym, ap, ◌∙◌, arith}
+use Rattle.std.proofs.Common.{◌≡◌, ℕ, ◌^◌, ◌<◌, ◌≤◌, List, [], ◌++◌, take, refl, sym, ap, ◌∙◌, arith}
 use Rattle.std.proofs.lemmas.List.{append-nil, take_at}
 use Rattle.rtp_header.specs.Grammar.{Rtp, IsRtp, IsPlainRtp, fixed_text, plain}
 
@@ -13,10 +13,18 @@ pub record Fits (r : Rtp) : Type 0 where
 pub plain_rtp : (r : Rtp) (octets : List ℕ) → Fits r → octets ≡ fixed_text plain r ++ r.payload → IsPlainRtp r octets
 plain_rtp r octets fits parts =
     let is : IsRtp r octets = record {
-      flags = plain; source_list = []; extension = []; padding = [];
-      few_sources = omega arith; payload_type = omega (arith, fits.payload_type);
-      sequence = fits.sequence; timestamp = fits.timestamp; ssrc = fits.ssrc;
-      sources = refl; is_extension = refl; is_padding = refl;
+      flags = plain;
+      source_list = [];
+      extension = [];
+      padding = [];
+      few_sources = omega arith;
+      payload_type = omega (arith, fits.payload_type);
+      sequence = fits.sequence;
+      timestamp = fits.timestamp;
+      ssrc = fits.ssrc;
+      sources = refl;
+      is_extension = refl;
+      is_padding = refl;
       whole = parts ∙ ap (λ (x : List ℕ). fixed_text plain r ++ x) (sym (append-nil r.payload));
     } in
     record { is = is; flags = refl; no_sources = refl; no_extension = refl; no_padding = refl }

@@ -4,6 +4,12 @@ ghost use Rattle.rtp_header.specs.Faults.{number_of};
 
 use thiserror::Error;
 
+/// The octets of the fixed header (RFC 3550, 5.1).
+pub(crate) const FIXED: usize = 12;
+
+/// The one version (RFC 3550, 5.1).
+pub(crate) const VERSION: u8 = 2;
+
 /// Why octets are no RTP datagram: the first fault, in this order. It displays as its name.
 #[derive(Clone, Copy, Debug, PartialEq, Eq, Error)]
 pub enum RtpFault {

@@ -5,10 +5,7 @@ ghost use Rattle.rtp_header.specs.Faults.{IsBadPadding, IsBadVersion, IsShortExt
 ghost use Rattle.rtp_header.specs.Reading.{Gives, behind, behind_extension, rtp_at, without_padding};
 ghost use Rattle.rtp_header.specs.Views.{seen};
 
-use crate::header::{RtpFault, RtpView};
-
-/// The octets of the fixed header.
-const FIXED: usize = 12;
+use crate::header::{FIXED, RtpFault, RtpView, VERSION};
 
 /// What stands behind `count` octets.
 fn skip(octets: &[u8], count: usize) -> Result<&[u8], RtpFault>
@@ -61,13 +58,15 @@ fn read(octets: &[u8]) -> Result<RtpView<'_>, RtpFault>
     if octets.len() < FIXED {
         return Err(RtpFault::ShortHeader);
     }
-    if octets[0] / 64 != 2 {
+    // The version in two bits, P, X, and CC in four.
+    let first = octets[0];
+    if first / 64 != VERSION {
         return Err(RtpFault::BadVersion);
     }
-    let (_, words) = octets.split_at(FIXED);
-    let extension = skip(words, 4 * (octets[0] % 16) as usize)?;
-    let padded = skip_extension(octets[0] / 16 % 2 == 1, extension)?;
-    let payload = strip_padding(octets[0] / 32 % 2 == 1, padded)?;
+    let (_, rest) = octets.split_at(FIXED);
+    let rest = skip(rest, 4 * (first % 16) as usize)?;
+    let rest = skip_extension(first / 16 % 2 == 1, rest)?;
+    let payload = strip_padding(first / 32 % 2 == 1, rest)?;
     Ok(RtpView {
         marker: octets[1] >= 128,
         payload_type: octets[1] % 128,

@@ -3,7 +3,7 @@ ghost use Rattle.std.specs.Prelude.{◌≡◌, ◌^◌, ◌<◌, ◌≤◌, ◌+
 ghost use Rattle.rtp_header.specs.Grammar.{IsPlainRtp, fixed_text, plain};
 ghost use Rattle.rtp_header.specs.Views.{headed};
 
-use crate::header::RtpHead;
+use crate::header::{RtpHead, VERSION};
 use byteorder::{BigEndian, ByteOrder};
 
 /// Writes the text of the fixed header over the first 12 octets.
@@ -15,8 +15,12 @@ fn write_fixed(buffer: &mut [u8], head: &RtpHead)
     ensures timestamp { head.now.timestamp < 2 ^ 32 }
     ensures ssrc { head.now.ssrc < 2 ^ 32 }
 {
-    buffer[0] = 2 * 64;
-    buffer[1] = if head.marker { 128 + head.payload_type } else { head.payload_type };
+    buffer[0] = VERSION * 64;
+    buffer[1] = if head.marker {
+        128 + head.payload_type
+    } else {
+        head.payload_type
+    };
     BigEndian::write_u16(&mut buffer[2..], head.sequence);
     BigEndian::write_u32(&mut buffer[4..], head.timestamp);
     BigEndian::write_u32(&mut buffer[8..], head.ssrc);
