@@ -32,7 +32,8 @@ pub fn write_rtp(buffer: &mut [u8], head: &RtpHead)
     requires room { 12 ≤ length buffer.old }
     requires payload_type { head.now.payload_type ≤ 127 }
     // Whatever payload follows them, the 12 octets and it are a datagram that says this.
-    ensures header { (payload : List ℕ) → IsPlainRtp (headed head.now payload) (take 12 buffer.new ++ payload) }
+    ensures header { (payload : List ℕ) →
+        IsPlainRtp (headed head.now payload) (take 12 buffer.new ++ payload) }
     // The octets behind them stay.
     ensures kept { drop 12 buffer.new ≡ drop 12 buffer.old }
     ensures length { length buffer.new ≡ length buffer.old }
