@@ -1,3 +1,5 @@
 pub mod Octets
-pub mod HeaderTaken
-pub mod HeaderAgain
+pub mod Taken
+pub mod Again
+pub mod Faulted
+pub mod Written

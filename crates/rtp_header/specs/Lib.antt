@@ -1,1 +1,4 @@
-pub mod Header
+pub mod Grammar
+pub mod Faults
+pub mod Reading
+pub mod Views

@@ -1,16 +1,20 @@
 -- What is in the grammar of headers is read.
-use Rattle.std.proofs.Common.{◌≡◌, ℕ, zero, suc, ◌+◌, ◌-◌, ◌*◌, ◌/◌, ◌%◌, ◌^◌, ◌<◌, ◌≤◌, inl, inr, Bool, true, false, cond, not, eqb, ltb, leb, ◌||◌, List, [], ◌∷◌, ◌++◌, length, get_or, take, drop, map, Result, Ok, Err, append_assoc, drop-drop, refl, sym, ap, ◌∙◌, subst, arith}
-use Rattle.std.specs.Prelude.{IfOk}
+use Rattle.std.proofs.Common.{◌≡◌, ℕ, ◌+◌, ◌-◌, ◌*◌, ◌/◌, ◌%◌, ◌^◌, ◌<◌, Bool, true, false, cond, not, eqb, ltb, leb, ◌||◌, List, ◌++◌, length, get_or, take, drop, Result, Ok, Err, append_assoc, refl, sym, ap, ◌∙◌, arith}
+use Rattle.std.specs.Prelude.{IfOk, IfErr, IsOkAnd}
 use Rattle.std.specs.Int.{w16, w32, from_be_bytes, to_be_bytes}
-use Rattle.std.proofs.lemmas.Bool.{cases_lt, eqb-true, eqb-false, eq-eqb, ne_eqb, ltb-false, leb-true, leb-false, le-ltb, le-leb, lt-leb}
+use Rattle.std.proofs.lemmas.Bool.{eq-eqb, ne_eqb, le-ltb, le-leb, lt-leb}
 use Rattle.std.proofs.lemmas.List.{take_at, drop_at, length-append, append-nil, get_or-append-add}
 use Rattle.std.proofs.lemmas.Nat.{from_be_bytes-to_be_bytes_2, from_be_bytes-to_be_bytes_4}
 use Rattle.rtp_header.specs.declared.header.RtpFault.{RtpFault}
 use Rattle.rtp_header.specs.declared.header.RtpFault.TheVariants.{ShortHeader, BadVersion, ShortExtension, BadPadding}
-use Rattle.rtp_header.specs.Header.{Rtp, Flags, ◌>>=◌, behind, behind_extension, without_padding, fields_of, fixed_at, rtp_at, bit, fixed_text, IsExtension, IsExtensionIf, IsPadding, IsPaddingIf, IsRtp, seen, Gives}
+use Rattle.rtp_header.specs.Grammar.{AreOctets, Rtp, Flags, bit, fixed_text, IsExtensionIf, IsPaddingIf, IsRtp}
+use Rattle.rtp_header.specs.Reading.{◌>>=◌, behind, behind_extension, without_padding, fields_of, fixed_at, rtp_at, Gives}
+use Rattle.rtp_header.specs.Views.{seen}
 use Rattle.rtp_header.specs.declared.header.RtpView.{RtpView}
-use Rattle.rtp_header.proofs.Octets.{IsBytes}
-use Rattle.rtp_header.proofs.HeaderTaken.{rtp_takes}
+use Rattle.rtp_header.proofs.Taken.{rtp_takes}
+
+abbrev rtp_ok : Rtp → Result Rtp RtpFault
+rtp_ok r = Ok r
 
 abbrev ok_list : List ℕ → Result (List ℕ) RtpFault
 ok_list x = Ok x
@@ -27,9 +31,9 @@ extension_again true extension rest is =
     let n : ℕ = length is.words / 4 in
     let size : length extension ≡ 4 + 4 * n = ap length is.parts ∙ omega (arith, length-append is.profile (to_be_bytes w16 n ++ is.words), length-append (to_be_bytes w16 n) is.words, is.profile_length, is.whole_words) in
     let grouped : extension ++ rest ≡ is.profile ++ (to_be_bytes w16 n ++ (is.words ++ rest)) =
-        ap (λ (x : List ℕ). x ++ rest) is.parts ∙ append_assoc is.profile (to_be_bytes w16 n ++ is.words) rest ∙ ap (λ (x : List ℕ). is.profile ++ x) (append_assoc (to_be_bytes w16 n) is.words rest) in
+    ap (λ (x : List ℕ). x ++ rest) is.parts ∙ append_assoc is.profile (to_be_bytes w16 n ++ is.words) rest ∙ ap (λ (x : List ℕ). is.profile ++ x) (append_assoc (to_be_bytes w16 n) is.words rest) in
     let number : take 2 (drop 2 (extension ++ rest)) ≡ to_be_bytes w16 n =
-        ap (λ (x : List ℕ). take 2 (drop 2 x)) grouped ∙ ap (take 2) (drop_at is.profile (to_be_bytes w16 n ++ (is.words ++ rest)) 2 is.profile_length) ∙ take_at (to_be_bytes w16 n) (is.words ++ rest) 2 refl in
+    ap (λ (x : List ℕ). take 2 (drop 2 x)) grouped ∙ ap (take 2) (drop_at is.profile (to_be_bytes w16 n ++ (is.words ++ rest)) 2 is.profile_length) ∙ take_at (to_be_bytes w16 n) (is.words ++ rest) 2 refl in
     let value : from_be_bytes w16 (take 2 (drop 2 (extension ++ rest))) ≡ n = ap (from_be_bytes w16) number ∙ from_be_bytes-to_be_bytes_2 n is.few in
     let long : ltb (length (extension ++ rest)) 4 ≡ false = le-ltb (length (extension ++ rest)) 4 (omega (arith, length-append extension rest, size)) in
     ap (λ (b : Bool). cond b (Err ShortExtension) (behind (4 + 4 * from_be_bytes w16 (take 2 (drop 2 (extension ++ rest)))) (extension ++ rest))) long
@@ -119,10 +123,17 @@ rtp_again r octets is =
     ∙ ap (λ (q : Rtp). Ok q) (fields_again g r tail is.payload_type is.sequence is.timestamp is.ssrc)
 
 -- The clauses of a reader that gives what reading gives
-pub is_found : (octets : List ℕ) (r : Result RtpView RtpFault) → IsBytes octets → Gives seen r (rtp_at octets) → IfOk r (λ v. IsRtp (seen v) octets)
+pub is_found : (octets : List ℕ) (r : Result RtpView RtpFault) → AreOctets octets → Gives seen r (rtp_at octets) → IfOk r (λ v. IsRtp (seen v) octets)
 is_found octets (Ok v) bytes gives = rtp_takes octets (seen v) bytes gives
 is_found octets (Err e) bytes gives = tt
 
-pub is_only : (octets : List ℕ) (r : Result RtpView RtpFault) → Gives seen r (rtp_at octets) → (q : Rtp) → IsRtp q octets → Gives seen r (Ok q)
-is_only octets (Ok v) gives q is = sym (rtp_again q octets is) ∙ gives
-is_only octets (Err e) gives q is = sym (rtp_again q octets is) ∙ gives
+ok_is : (r q : Rtp) → rtp_ok r ≡ rtp_ok q → r ≡ q
+ok_is r q e = cc
+
+pub is_only : (octets : List ℕ) (r : Result RtpView RtpFault) → Gives seen r (rtp_at octets) → (q : Rtp) → IsRtp q octets → IsOkAnd r (λ v. seen v ≡ q)
+is_only octets (Ok v) gives q is = ok_is (seen v) q (sym gives ∙ rtp_again q octets is)
+is_only octets (Err e) gives q is = let again : rtp_at octets ≡ Ok q = rtp_again q octets is in absurd cc
+
+pub is_none : (octets : List ℕ) (r : Result RtpView RtpFault) → Gives seen r (rtp_at octets) → IfErr r (λ e. (q : Rtp) → IsRtp q octets → ⊥)
+is_none octets (Ok v) gives = tt
+is_none octets (Err e) gives = λ q is. let again : rtp_at octets ≡ Ok q = rtp_again q octets is in absurd cc

@@ -1,14 +1,15 @@
 -- What is read is in the grammar of headers.
-use Rattle.std.proofs.Common.{◌≡◌, ℕ, zero, suc, ◌+◌, ◌-◌, ◌*◌, ◌/◌, ◌%◌, ◌^◌, ◌<◌, ◌≤◌, inl, inr, Bool, true, false, cond, not, eqb, ltb, leb, ◌||◌, List, [], ◌∷◌, ◌++◌, length, get_or, take, drop, map, Option, Some, None, Result, Ok, Err, append_assoc, drop-drop, refl, sym, ap, ◌∙◌, subst, arith}
+use Rattle.std.proofs.Common.{◌≡◌, ℕ, suc, ◌+◌, ◌-◌, ◌*◌, ◌/◌, ◌%◌, ◌^◌, ◌<◌, ◌≤◌, Bool, true, false, cond, not, eqb, ltb, leb, ◌||◌, List, [], ◌∷◌, ◌++◌, length, get_or, take, drop, Result, Ok, Err, append_assoc, refl, sym, ap, ◌∙◌, subst, arith}
 use Rattle.std.specs.Int.{w16, w32, from_be_bytes, to_be_bytes}
-use Rattle.std.proofs.lemmas.Bool.{cases_lt, eqb-true, eqb-false, eq-eqb, ltb-false, leb-true, leb-false, le-ltb}
-use Rattle.std.proofs.lemmas.List.{take-append-drop, take_at, drop_at, length-take, length-drop, length-append, get_or-drop, get_or-take, get_or_past, append-nil}
+use Rattle.std.proofs.lemmas.Bool.{eqb-true, eqb-false, ltb-false, leb-true, leb-false}
+use Rattle.std.proofs.lemmas.List.{take-append-drop, length-take, length-drop, get_or-drop, append-nil}
 use Rattle.std.proofs.Math.Seq.{take-add}
 use Rattle.std.proofs.lemmas.Nat.{be_bytes_2, be_bytes_4}
-use Rattle.rtp_header.proofs.Octets.{IsBytes, IsBytes-drop, IsBytes-take}
+use Rattle.rtp_header.proofs.Octets.{AreOctets-drop, AreOctets-take}
 use Rattle.rtp_header.specs.declared.header.RtpFault.{RtpFault}
 use Rattle.rtp_header.specs.declared.header.RtpFault.TheVariants.{ShortHeader, BadVersion, ShortExtension, BadPadding}
-use Rattle.rtp_header.specs.Header.{Rtp, Flags, ◌>>=◌, behind, behind_extension, without_padding, fields_of, fixed_at, rtp_at, bit, fixed_text, IsExtension, IsExtensionIf, IsPadding, IsPaddingIf, IsRtp}
+use Rattle.rtp_header.specs.Grammar.{AreOctets, Rtp, Flags, bit, fixed_text, IsExtension, IsExtensionIf, IsPaddingIf, IsRtp}
+use Rattle.rtp_header.specs.Reading.{◌>>=◌, behind, behind_extension, without_padding, fields_of, fixed_at, rtp_at}
 
 bind_ok : {A B : Type 0} (r : Result A RtpFault) (f : A → Result B RtpFault) (y : B) → (r >>= f) ≡ Ok y → (x : A) × (r ≡ Ok x) × (f x ≡ Ok y)
 bind_ok (Ok x) f y e = (x, refl, e)
@@ -31,28 +32,28 @@ not_eqb_at a b false e h = absurd cc
 record Splits (octets front rest : List ℕ) (n : ℕ) : Type 0 where
   parts : octets ≡ front ++ rest
   count : length front ≡ n
-  bytes : IsBytes rest
+  bytes : AreOctets rest
 
-behind_ok : (n : ℕ) (octets rest : List ℕ) → IsBytes octets → behind n octets ≡ Ok rest → Splits octets (take n octets) rest n
+behind_ok : (n : ℕ) (octets rest : List ℕ) → AreOctets octets → behind n octets ≡ Ok rest → Splits octets (take n octets) rest n
 behind_ok n octets rest bytes e =
     let g = guard_ok (ltb (length octets) n) ShortExtension (drop n octets) rest e in
     let long : n ≤ length octets = ltb-false (length octets) n g.0 in
-    subst (λ (r : List ℕ). Splits octets (take n octets) r n) g.1 (record { parts = sym (take-append-drop n octets); count = omega (arith, length-take n octets); bytes = IsBytes-drop n octets bytes })
+    subst (λ (r : List ℕ). Splits octets (take n octets) r n) g.1 (record { parts = sym (take-append-drop n octets); count = omega (arith, length-take n octets); bytes = AreOctets-drop n octets bytes })
 
 record Extended (flag : Bool) (octets rest : List ℕ) : Type 0 where
   front : List ℕ
   is : IsExtensionIf flag front
   parts : octets ≡ front ++ rest
-  bytes : IsBytes rest
+  bytes : AreOctets rest
 
 -- the text of an extension of n words
-extension_text : (octets : List ℕ) (n : ℕ) → IsBytes octets → 4 + 4 * n ≤ length octets → n < 2 ^ 16 → n ≡ from_be_bytes w16 (take 2 (drop 2 octets)) → IsExtension (take (4 + 4 * n) octets)
+extension_text : (octets : List ℕ) (n : ℕ) → AreOctets octets → 4 + 4 * n ≤ length octets → n < 2 ^ 16 → n ≡ from_be_bytes w16 (take 2 (drop 2 octets)) → IsExtension (take (4 + 4 * n) octets)
 extension_text octets n bytes long below is =
     let words : List ℕ = take (4 * n) (drop 4 octets) in
     let count : length words ≡ 4 * n = omega (arith, length-take (4 * n) (drop 4 octets), length-drop 4 octets) in
     let quarter : length words / 4 ≡ n = omega arith in
     let number : to_be_bytes w16 (length words / 4) ≡ take 2 (drop 2 octets) =
-        ap (to_be_bytes w16) quarter ∙ be_bytes_2 (take 2 (drop 2 octets)) n (omega (arith, length-take 2 (drop 2 octets), length-drop 2 octets)) (IsBytes-take 2 (drop 2 octets) (IsBytes-drop 2 octets bytes)) is in
+    ap (to_be_bytes w16) quarter ∙ be_bytes_2 (take 2 (drop 2 octets)) n (omega (arith, length-take 2 (drop 2 octets), length-drop 2 octets)) (AreOctets-take 2 (drop 2 octets) (AreOctets-drop 2 octets bytes)) is in
     record {
       profile = take 2 octets;
       words = words;
@@ -60,7 +61,7 @@ extension_text octets n bytes long below is =
       whole_words = omega arith;
       few = omega arith;
       parts = take-add 4 (4 * n) octets ∙ ap (λ (x : List ℕ). x ++ words) (take-add 2 2 octets)
-        ∙ append_assoc (take 2 octets) (take 2 (drop 2 octets)) words ∙ ap (λ (x : List ℕ). take 2 octets ++ (x ++ words)) (sym number);
+          ∙ append_assoc (take 2 octets) (take 2 (drop 2 octets)) words ∙ ap (λ (x : List ℕ). take 2 octets ++ (x ++ words)) (sym number);
     }
 
 abbrev ok_list : List ℕ → Result (List ℕ) RtpFault
@@ -69,19 +70,19 @@ ok_list x = Ok x
 same_ok : (a b : List ℕ) → ok_list a ≡ ok_list b → a ≡ b
 same_ok a b e = cc
 
-extension_at : (octets rest : List ℕ) (short : Bool) → IsBytes octets → ltb (length octets) 4 ≡ short
+extension_at : (octets rest : List ℕ) (short : Bool) → AreOctets octets → ltb (length octets) 4 ≡ short
     → cond short (Err ShortExtension) (behind (4 + 4 * from_be_bytes w16 (take 2 (drop 2 octets))) octets) ≡ Ok rest → Extended true octets rest
 extension_at octets rest true bytes s e = absurd cc
 extension_at octets rest false bytes s e =
     let n : ℕ = from_be_bytes w16 (take 2 (drop 2 octets)) in
-    let two : IsBytes (take 2 (drop 2 octets)) = IsBytes-take 2 (drop 2 octets) (IsBytes-drop 2 octets bytes) in
+    let two : AreOctets (take 2 (drop 2 octets)) = AreOctets-take 2 (drop 2 octets) (AreOctets-drop 2 octets bytes) in
     let below : n < 2 ^ 16 = omega (arith, two 0, two 1) in
     let b = behind_ok (4 + 4 * n) octets rest bytes e in
     let long : 4 + 4 * n ≤ length octets = omega (arith, b.count, length-take (4 + 4 * n) octets) in
     record { front = take (4 + 4 * n) octets; is = extension_text octets n bytes long below refl; parts = b.parts; bytes = b.bytes }
 
-extension_ok : (flag : Bool) (octets rest : List ℕ) → IsBytes octets → behind_extension flag octets ≡ Ok rest → Extended flag octets rest
-extension_ok false octets rest bytes e = record { front = []; is = refl; parts = same_ok octets rest e; bytes = subst IsBytes (same_ok octets rest e) bytes }
+extension_ok : (flag : Bool) (octets rest : List ℕ) → AreOctets octets → behind_extension flag octets ≡ Ok rest → Extended flag octets rest
+extension_ok false octets rest bytes e = record { front = []; is = refl; parts = same_ok octets rest e; bytes = subst AreOctets (same_ok octets rest e) bytes }
 extension_ok true octets rest bytes e = extension_at octets rest (ltb (length octets) 4) bytes refl e
 
 record Padded (flag : Bool) (octets payload : List ℕ) : Type 0 where
@@ -135,17 +136,17 @@ two_heads : (a b c d : ℕ) (t u : List ℕ) → a ≡ c → b ≡ d → t ≡ u
 two_heads a b c d t u p q r = cc
 
 -- the first twelve octets are the text of their fields
-twelve : (octets payload : List ℕ) → IsBytes octets → 12 ≤ length octets → get_or octets 0 0 / 64 ≡ 2 → take 12 octets ≡ fixed_text (flags_of octets) (fields_of octets payload)
+twelve : (octets payload : List ℕ) → AreOctets octets → 12 ≤ length octets → get_or octets 0 0 / 64 ≡ 2 → take 12 octets ≡ fixed_text (flags_of octets) (fields_of octets payload)
 twelve [] payload bytes long v = absurd (omega arith)
 twelve (a ∷ []) payload bytes long v = absurd (omega arith)
 twelve (a ∷ b ∷ t) payload bytes long v =
-    let bytes_t : IsBytes t = λ i. bytes (suc (suc i)) in
+    let bytes_t : AreOctets t = λ i. bytes (suc (suc i)) in
     let s : List ℕ = take 2 t in
     let m : List ℕ = take 4 (drop 2 t) in
     let c : List ℕ = take 4 (drop 6 t) in
-    let ts : to_be_bytes w16 (from_be_bytes w16 s) ≡ s = be_bytes_2 s (from_be_bytes w16 s) (omega (arith, length-take 2 t)) (IsBytes-take 2 t bytes_t) refl in
-    let tm : to_be_bytes w32 (from_be_bytes w32 m) ≡ m = be_bytes_4 m (from_be_bytes w32 m) (omega (arith, length-take 4 (drop 2 t), length-drop 2 t)) (IsBytes-take 4 (drop 2 t) (IsBytes-drop 2 t bytes_t)) refl in
-    let tc : to_be_bytes w32 (from_be_bytes w32 c) ≡ c = be_bytes_4 c (from_be_bytes w32 c) (omega (arith, length-take 4 (drop 6 t), length-drop 6 t)) (IsBytes-take 4 (drop 6 t) (IsBytes-drop 6 t bytes_t)) refl in
+    let ts : to_be_bytes w16 (from_be_bytes w16 s) ≡ s = be_bytes_2 s (from_be_bytes w16 s) (omega (arith, length-take 2 t)) (AreOctets-take 2 t bytes_t) refl in
+    let tm : to_be_bytes w32 (from_be_bytes w32 m) ≡ m = be_bytes_4 m (from_be_bytes w32 m) (omega (arith, length-take 4 (drop 2 t), length-drop 2 t)) (AreOctets-take 4 (drop 2 t) (AreOctets-drop 2 t bytes_t)) refl in
+    let tc : to_be_bytes w32 (from_be_bytes w32 c) ≡ c = be_bytes_4 c (from_be_bytes w32 c) (omega (arith, length-take 4 (drop 6 t), length-drop 6 t)) (AreOctets-take 4 (drop 6 t) (AreOctets-drop 6 t bytes_t)) refl in
     let rest : take 10 t ≡ (to_be_bytes w16 (from_be_bytes w16 s) ++ to_be_bytes w32 (from_be_bytes w32 m)) ++ to_be_bytes w32 (from_be_bytes w32 c) = ten t ∙ sym (three ts tm tc) in
     two_heads a b _ _ (take 10 t) _ (sym (first_octet a (eqb (a / 32 % 2) 1) (eqb (a / 16 % 2) 1) (bytes 0) v refl refl)) (sym (second_octet b (leb 128 b) (bytes 1) refl)) rest
 
@@ -155,14 +156,14 @@ rtp_ok x = Ok x
 done : (x y : Rtp) → rtp_ok x ≡ rtp_ok y → x ≡ y
 done x y e = cc
 
-four_below : (bs : List ℕ) → IsBytes bs → from_be_bytes w32 bs < 2 ^ 32
+four_below : (bs : List ℕ) → AreOctets bs → from_be_bytes w32 bs < 2 ^ 32
 four_below bs bytes = omega (arith, bytes 0, bytes 1, bytes 2, bytes 3)
 
-two_below : (bs : List ℕ) → IsBytes bs → from_be_bytes w16 bs < 2 ^ 16
+two_below : (bs : List ℕ) → AreOctets bs → from_be_bytes w16 bs < 2 ^ 16
 two_below bs bytes = omega (arith, bytes 0, bytes 1)
 
 -- What is read is in the grammar of headers.
-pub rtp_takes : (octets : List ℕ) (y : Rtp) → IsBytes octets → rtp_at octets ≡ Ok y → IsRtp y octets
+pub rtp_takes : (octets : List ℕ) (y : Rtp) → AreOctets octets → rtp_at octets ≡ Ok y → IsRtp y octets
 unfolding rtp_at
 rtp_takes octets y bytes e =
     let o : ℕ = get_or octets 0 0 in
@@ -175,7 +176,7 @@ rtp_takes octets y bytes e =
     let g = guards_ok (ltb (length octets) 12) (not (eqb (o / 64) 2)) ShortHeader BadVersion (drop 12 octets) a.0 a.1 in
     let long : 12 ≤ length octets = ltb-false (length octets) 12 g.0 in
     let version : o / 64 ≡ 2 = not_eqb_at (o / 64) 2 (eqb (o / 64) 2) refl g.1 in
-    let bytes_a : IsBytes a.0 = subst IsBytes g.2 (IsBytes-drop 12 octets bytes) in
+    let bytes_a : AreOctets a.0 = subst AreOctets g.2 (AreOctets-drop 12 octets bytes) in
     let sources = behind_ok (4 * (o % 16)) a.0 b.0 bytes_a b.1 in
     let extension = extension_ok px b.0 c.0 sources.bytes c.1 in
     let padded = padding_ok pp c.0 d.0 d.1 in
@@ -186,14 +187,14 @@ rtp_takes octets y bytes e =
       padding = padded.padding;
       few_sources = omega arith;
       payload_type = omega arith;
-      sequence = two_below (take 2 (drop 2 octets)) (IsBytes-take 2 (drop 2 octets) (IsBytes-drop 2 octets bytes));
-      timestamp = four_below (take 4 (drop 4 octets)) (IsBytes-take 4 (drop 4 octets) (IsBytes-drop 4 octets bytes));
-      ssrc = four_below (take 4 (drop 8 octets)) (IsBytes-take 4 (drop 8 octets) (IsBytes-drop 8 octets bytes));
+      sequence = two_below (take 2 (drop 2 octets)) (AreOctets-take 2 (drop 2 octets) (AreOctets-drop 2 octets bytes));
+      timestamp = four_below (take 4 (drop 4 octets)) (AreOctets-take 4 (drop 4 octets) (AreOctets-drop 4 octets bytes));
+      ssrc = four_below (take 4 (drop 8 octets)) (AreOctets-take 4 (drop 8 octets) (AreOctets-drop 8 octets bytes));
       sources = sources.count;
       is_extension = extension.is;
       is_padding = padded.is;
       whole = sym (take-append-drop 12 octets) ∙ ap (λ (x : List ℕ). x ++ drop 12 octets) (twelve octets d.0 bytes long version)
-        ∙ ap (λ (x : List ℕ). fixed_text (flags_of octets) (fields_of octets d.0) ++ x)
-            (g.2 ∙ sources.parts ∙ ap (λ (x : List ℕ). take (4 * (o % 16)) a.0 ++ x) (extension.parts ∙ ap (λ (x : List ℕ). extension.front ++ x) padded.parts));
+          ∙ ap (λ (x : List ℕ). fixed_text (flags_of octets) (fields_of octets d.0) ++ x)
+          (g.2 ∙ sources.parts ∙ ap (λ (x : List ℕ). take (4 * (o % 16)) a.0 ++ x) (extension.parts ∙ ap (λ (x : List ℕ). extension.front ++ x) padded.parts));
     } in
     subst (λ (r : Rtp). IsRtp r octets) (done (fields_of octets d.0) y d.2) made

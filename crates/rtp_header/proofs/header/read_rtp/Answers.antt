@@ -1,9 +1,0 @@
-use Rattle.std.proofs.Common.{arith}
-use Rattle.rtp_header.proofs.HeaderAgain.{is_found, is_only}
-use Rattle.rtp_header.proofs.header.read_rtp.Goals as goal
-
-pub returns-clause-found : goal.returns-clause-found
-returns-clause-found c = is_found c.args.octets.now c.read.result (λ i. omega (arith, c.type_inv.octets i)) c.read.ensures.exact
-
-pub returns-clause-only : goal.returns-clause-only
-returns-clause-only c = is_only c.args.octets.now c.read.result c.read.ensures.exact

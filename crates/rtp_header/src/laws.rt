@@ -1,0 +1,40 @@
+//! What holds of the definitions themselves. Each law is a function's contract; the functions do
+//! nothing.
+ghost use Rattle.std.specs.Prelude.{◌≡◌, ◌⊎◌, ◌↔◌, ℕ, List, Ok, Err};
+ghost use Rattle.rtp_header.specs.declared.header.RtpFault.{RtpFault};
+ghost use Rattle.rtp_header.specs.Faults.{HasFault, IsBadPadding, IsBadVersion, IsShortExtension, IsShortHeader};
+ghost use Rattle.rtp_header.specs.Grammar.{AreOctets, IsRtp, Rtp};
+ghost use Rattle.rtp_header.specs.Reading.{rtp_at};
+
+/// Octets say one thing at most: a datagram has one reading (RFC 3550, 5.1).
+pub fn one_reading()
+    ensures { (octets : List ℕ) (r s : Rtp) → IsRtp r octets → IsRtp s octets → r ≡ s }
+{}
+
+/// Reading from the left answers what the octets say, exactly where they are in the grammar.
+pub fn read_in_grammar()
+    ensures { (octets : List ℕ) (r : Rtp) → AreOctets octets →
+        (rtp_at octets ≡ Ok r) ↔ IsRtp r octets }
+{}
+
+/// Reading from the left tells each fault exactly where its condition stands in the octets.
+pub fn first_fault()
+    ensures short_header { (octets : List ℕ) →
+        (rtp_at octets ≡ Err RtpFault.ShortHeader) ↔ IsShortHeader octets }
+    ensures bad_version { (octets : List ℕ) →
+        (rtp_at octets ≡ Err RtpFault.BadVersion) ↔ IsBadVersion octets }
+    ensures short_extension { (octets : List ℕ) →
+        (rtp_at octets ≡ Err RtpFault.ShortExtension) ↔ IsShortExtension octets }
+    ensures bad_padding { (octets : List ℕ) →
+        (rtp_at octets ≡ Err RtpFault.BadPadding) ↔ IsBadPadding octets }
+{}
+
+/// Octets are a datagram, or one fault stands in them and no other.
+pub fn datagram_or_fault()
+    ensures some { (octets : List ℕ) → AreOctets octets →
+        ((r : Rtp) × IsRtp r octets) ⊎ ((e : RtpFault) × HasFault e octets) }
+    ensures apart { (octets : List ℕ) (r : Rtp) (e : RtpFault) →
+        IsRtp r octets → HasFault e octets → ⊥ }
+    ensures one { (octets : List ℕ) (e d : RtpFault) →
+        HasFault e octets → HasFault d octets → e ≡ d }
+{}
