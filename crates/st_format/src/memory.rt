@@ -1,0 +1,9 @@
+//! Devices over vectors that are handed in with their room, so that nothing they do takes memory,
+//! and an allocator that refuses a growth. All are for tests: each can fail where a test wants it.
+mod datagrams;
+mod sink;
+mod source;
+
+pub use datagrams::MemoryDatagrams;
+pub use sink::MemorySink;
+pub use source::MemorySource;
