@@ -1,0 +1,12 @@
+use Rattle.std.proofs.Common.{◌≡◌, ◌≤◌, ◌-◌, length, take}
+use Rattle.std.specs.Io.KnownBytes.{Consumes}
+use Rattle.st_format.proofs.device.read_whole.Given as goal
+
+abbrev pub decreases-loop-filled : goal.decreases-loop-filled
+decreases-loop-filled g l = length l.initial.buf - l.filled
+
+abbrev pub invariant-loop-filled : goal.invariant-loop-filled
+invariant-loop-filled g l =
+    (l.filled ≤ length l.buf)
+    × Consumes (g.S.ByteSource.to_give l.initial.source) (g.S.ByteSource.to_give l.source) (take l.filled l.buf)
+    × (g.S.ByteSource.failures l.source ≡ g.S.ByteSource.failures l.initial.source)

@@ -1,0 +1,17 @@
+use Rattle.std.proofs.Common.{rules, arith, ◌≡◌, ◌+◌, ◌++◌, List, ℕ, length, drop, ap, sym, ◌∙◌}
+use Rattle.std.specs.List.{slice_range}
+use Rattle.std.proofs.lemmas.List.{take_at}
+use Rattle.std.proofs.lemmas.List.Folds.{drop_split}
+use Rattle.st_format.specs.Memory.{Source}
+use Rattle.st_format.proofs.memory.source.MemorySourceByteSource.read.Goals as goal
+
+pub returns-clause-given : goal.returns-clause-given
+returns-clause-given g c =
+    let items = c.self.inside.octets.items in
+    let at = c.self.inside.at in
+    let n = c.min-n.result in
+    let copied : c.copy_from_slice.new.self ≡ slice_range items at (at + n) = search rules in
+    let long : length c.copy_from_slice.new.self ≡ n = search rules in
+    sym (ap (λ (s : Source). s.to_give) c.self.view_is)
+    ∙ drop_split items at (at + n) (omega arith)
+    ∙ ap (λ (xs : List ℕ). xs ++ drop (at + n) items) (sym copied ∙ sym (take_at c.copy_from_slice.new.self (drop n c.args.buf.now) n long))

@@ -1,0 +1,43 @@
+-- What a device tells of itself from one call to the next. A list that is `None` is not told.
+use Rattle.std.specs.Prelude.{◌≡◌, ℕ, ◌+◌, ◌-◌, ◌^◌, ◌<◌, ◌≤◌, ◌⊎◌, min, List, [], ◌∷◌, ◌++◌, length, take, ⊤, Option, None, Some, Result, MatchResult}
+use Rattle.std.specs.Io.KnownBytes.{Consumes, Appends}
+
+-- one more, but at most 2^64 - 1 (own)
+abbrev pub CountsOne : ℕ → ℕ → Type 0
+CountsOne old new = new ≡ min (old + 1) (2 ^ 64 - 1)
+
+-- an `Err` is one failure more, and an `Ok` none (own)
+abbrev pub CountsFaults : {V E : Type 0} → ℕ → ℕ → Result V E → Type 0
+CountsFaults old new result = MatchResult result (λ _. new ≡ old) (λ _. CountsOne old new)
+
+-- a failure was counted between old and new, or the count already stood at its greatest (own)
+abbrev pub Failed : ℕ → ℕ → Type 0
+Failed old new = (old < new) ⊎ (2 ^ 64 - 1 ≤ old)
+
+-- a source gave some first part of these octets, and not all (own)
+pub record ConsumesPrefix (old new : Option (List ℕ)) (octets : List ℕ) : Type 0 where
+  pub count : ℕ
+  pub short : count < length octets
+  pub given : Consumes old new (take count octets)
+
+-- a sink took some first part of these octets, and not all (own)
+pub record AppendsPrefix (old new : Option (List ℕ)) (octets : List ℕ) : Type 0 where
+  pub count : ℕ
+  pub short : count < length octets
+  pub taken : Appends old new (take count octets)
+
+-- a sink took these datagrams, in this order (own)
+abbrev pub TakesAll : Option (List (List ℕ)) → Option (List (List ℕ)) → List (List ℕ) → Type 0
+TakesAll None new datagrams = ⊤
+TakesAll (Some old) None datagrams = ⊥
+TakesAll (Some old) (Some new) datagrams = new ≡ old ++ datagrams
+
+-- a sink took one datagram (own)
+abbrev pub TakesOne : Option (List (List ℕ)) → Option (List (List ℕ)) → List ℕ → Type 0
+TakesOne old new octets = TakesAll old new (octets ∷ [])
+
+-- a sink took none (own)
+abbrev pub KeepsAll : Option (List (List ℕ)) → Option (List (List ℕ)) → Type 0
+KeepsAll None new = ⊤
+KeepsAll (Some old) None = ⊥
+KeepsAll (Some old) (Some new) = new ≡ old

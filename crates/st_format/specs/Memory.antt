@@ -1,0 +1,39 @@
+-- What contracts see of the devices in memory (own).
+use Rattle.std.specs.Prelude.{ℕ, ◌<◌, List, [], ◌∷◌, Vec, ⊤}
+
+-- `fails_in` is the call that fails, counted from 1 for the next one; 0 where none does.
+
+-- a source in memory: a call gives at most `piece` octets
+pub record Source : Type 0 where
+  pub to_give : List ℕ
+  pub piece : ℕ
+  pub fails_in : ℕ
+  pub failures : ℕ
+
+-- a sink in memory: it has room for `room` octets more, and a call takes at most `piece`
+pub record Sink : Type 0 where
+  pub held : List ℕ
+  pub room : ℕ
+  pub piece : ℕ
+  pub fails_in : ℕ
+  pub failures : ℕ
+
+-- a sink of datagrams in memory: `rooms` has the octets that each slot takes which is still free
+pub record Datagrams : Type 0 where
+  pub taken : List (List ℕ)
+  pub rooms : List ℕ
+  pub fails_in : ℕ
+  pub failures : ℕ
+
+-- the octets of a vector
+abbrev pub octets_of : {A : Type 0} → Vec ℕ A → List ℕ
+octets_of v = v.items
+
+-- how many octets a vector has room for
+abbrev pub capacity_of : {A : Type 0} → Vec ℕ A → ℕ
+capacity_of v = v.cap
+
+-- no slot is free, or the next one is too small for so many octets
+abbrev pub HasNoRoom : List ℕ → ℕ → Type 0
+HasNoRoom [] octets = ⊤
+HasNoRoom (room ∷ rooms) octets = room < octets

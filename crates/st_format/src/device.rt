@@ -1,0 +1,135 @@
+//! What devices give and take, and loops over any of them.
+//!
+//! A device says what it does by ghost members, which only contracts see: the octets that it has
+//! still to give, those that it holds, the datagrams that it took, and how often it has failed. A
+//! device of this machine, as a file or a socket, can't say which octets it carries, so its list is
+//! `None`: then only the clauses on numbers of octets and on failures hold of it.
+//!
+//! A count of failures stays at 2^64 - 1 once it is there.
+ghost use Rattle.std.specs.Prelude.{◌≡◌, ◌≤◌, ◌<◌, ℕ, List, Option, length, take, IfOk, OnOk, OnErr};
+ghost use Rattle.std.specs.Io.KnownBytes.{Consumes, Appends, Keeps, IsAtEnd};
+ghost use Rattle.st_format.specs.Device.{CountsFaults, ConsumesPrefix, AppendsPrefix, TakesOne, KeepsAll};
+
+use thiserror::Error;
+
+/// A source or a sink of octets failed. Why is the device's own matter.
+#[derive(Clone, Copy, Debug, PartialEq, Eq, Error)]
+#[error("DeviceFault")]
+pub struct DeviceFault;
+
+/// A sink of datagrams failed, and did not take the datagram.
+#[derive(Clone, Copy, Debug, PartialEq, Eq, Error)]
+#[error("SinkFault")]
+pub struct SinkFault;
+
+/// Gives octets, one piece after another, until its end.
+///
+/// To read as far as a buffer goes, call [`read_whole`].
+pub trait ByteSource {
+    /// The octets still to give, first one first; `None` where the device can't tell them.
+    ghost to_give: { Self → Option (List ℕ) };
+
+    /// How often it has failed.
+    ghost failures: { Self → ℕ };
+
+    /// Puts octets at the front of `buf`, and answers how many: at most as many as `buf` has, and
+    /// maybe fewer than there are. They are the first of those still to give, and are then given.
+    /// What `buf` holds behind them is not said.
+    ///
+    /// 0 means the end, if `buf` is not empty: nothing is left to give. At an empty `buf` it means
+    /// nothing.
+    ///
+    /// An `Err` is one failure more. It gives nothing: the octets still to give stay, and a later
+    /// call may give them. What `buf` then holds is not said.
+    fn read(&mut self, buf: &mut [u8]) -> Result<usize, DeviceFault>
+        ensures room { length buf.new ≡ length buf.old }
+        ensures within { IfOk result (λ n. n ≤ length buf.new) }
+        ensures given { IfOk result (λ n. Consumes (to_give self.old) (to_give self.new) (take n buf.new)) }
+        ensures end { IfOk result (λ n. n ≡ 0 → 0 < length buf.old → IsAtEnd (to_give self.new)) }
+        ensures fault { OnErr result (Keeps (to_give self.old) (to_give self.new)) }
+        ensures counted { CountsFaults (failures self.old) (failures self.new) result };
+}
+
+/// Takes octets, one piece after another.
+///
+/// To write all of a slice, call [`write_whole`].
+pub trait ByteSink {
+    /// The octets that it holds, in the order in which it took them; `None` where the device can't
+    /// tell them.
+    ghost held: { Self → Option (List ℕ) };
+
+    /// How often it has failed.
+    ghost failures: { Self → ℕ };
+
+    /// Takes octets from the front of `octets`, and answers how many: maybe fewer than there are,
+    /// but at least one if there is one. They come behind those that it holds.
+    ///
+    /// 0 means only that `octets` is empty: a sink that can take no more fails.
+    ///
+    /// An `Err` is one failure more. It takes nothing: the octets held stay.
+    fn write(&mut self, octets: &[u8]) -> Result<usize, DeviceFault>
+        ensures within { IfOk result (λ n. n ≤ length octets.now) }
+        ensures some { IfOk result (λ n. 0 < length octets.now → 0 < n) }
+        ensures taken { IfOk result (λ n. Appends (held self.old) (held self.new) (take n octets.now)) }
+        ensures fault { OnErr result (Keeps (held self.old) (held self.new)) }
+        ensures counted { CountsFaults (failures self.old) (failures self.new) result };
+}
+
+/// Takes datagrams, each whole or not at all.
+pub trait DatagramSink {
+    /// The datagrams that it took, in order; `None` where the device can't tell them.
+    ghost taken: { Self → Option (List (List ℕ)) };
+
+    /// How often it has failed.
+    ghost failures: { Self → ℕ };
+
+    /// Takes one datagram, of at most 65,535 octets; it comes behind those taken before. It may be
+    /// empty.
+    ///
+    /// An `Err` is one failure more. It takes nothing: the datagrams taken stay.
+    fn put(&mut self, octets: &[u8]) -> Result<(), SinkFault>
+        requires { length octets.now ≤ 65535 }
+        ensures taken { OnOk result (TakesOne (taken self.old) (taken self.new) octets.now) }
+        ensures fault { OnErr result (KeepsAll (taken self.old) (taken self.new)) }
+        ensures counted { CountsFaults (failures self.old) (failures self.new) result };
+}
+
+/// Reads until `buf` is full or the source is at its end, and answers how many octets stand at the
+/// front of `buf`. Fewer than `buf` has room for means the end.
+///
+/// An `Err` is the source's one failure in this call. The octets given before it are lost to the
+/// source, and stand at the front of `buf`, which they do not fill.
+pub fn read_whole<S: ByteSource>(source: &mut S, buf: &mut [u8]) -> Result<usize, DeviceFault>
+    ensures room { length buf.new ≡ length buf.old }
+    ensures within { IfOk result (λ n. n ≤ length buf.new) }
+    ensures given { IfOk result (λ n. Consumes (S.to_give source.old) (S.to_give source.new) (take n buf.new)) }
+    ensures short { IfOk result (λ n. n < length buf.new → IsAtEnd (S.to_give source.new)) }
+    ensures fault { OnErr result (ConsumesPrefix (S.to_give source.old) (S.to_give source.new) buf.new) }
+    ensures counted { CountsFaults (S.failures source.old) (S.failures source.new) result }
+{
+    let mut filled = 0;
+    while filled < buf.len() {
+        let n = source.read(&mut buf[filled..])?;
+        if n == 0 {
+            return Ok(filled);
+        }
+        filled += n;
+    }
+    Ok(filled)
+}
+
+/// Writes all of `octets`.
+///
+/// An `Err` is the sink's one failure in this call. The sink has then taken octets from the front
+/// of `octets`, maybe none, and not all.
+pub fn write_whole<K: ByteSink>(sink: &mut K, octets: &[u8]) -> Result<(), DeviceFault>
+    ensures ok { OnOk result (Appends (K.held sink.old) (K.held sink.new) octets.now) }
+    ensures fault { OnErr result (AppendsPrefix (K.held sink.old) (K.held sink.new) octets.now) }
+    ensures counted { CountsFaults (K.failures sink.old) (K.failures sink.new) result }
+{
+    let mut done = 0;
+    while done < octets.len() {
+        done += sink.write(&octets[done..])?;
+    }
+    Ok(())
+}

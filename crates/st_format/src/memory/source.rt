@@ -1,0 +1,94 @@
+ghost use Rattle.std.specs.Prelude.{◌≡◌, ◌≤◌, ◌<◌, ◌+◌, ◌-◌, ◌↔◌, Some, length, take, drop, min, vec_len, IfOk, OnErr, IsErr};
+ghost use Rattle.std.specs.Io.KnownBytes.{Consumes, Keeps, IsAtEnd};
+ghost use Rattle.st_format.specs.Device.{CountsFaults};
+
+use crate::{ByteSource, DeviceFault};
+use std::alloc::{Allocator, Global};
+use std::marker::Model;
+
+/// Gives the octets of a vector, in pieces, and fails at one call if it is told to.
+#[derive(Drop)]
+pub struct MemorySource<A: Allocator = Global> {
+    octets: Vec<u8, A>,
+    at: usize,
+    piece: usize,
+    fails_in: u64,
+    failures: u64,
+}
+
+impl<A: Allocator> Model for MemorySource<A> {
+    ghost use Rattle.std.specs.Prelude.{◌≤◌, ◌<◌, drop, vec_len};
+    ghost use Rattle.st_format.specs.Memory.{Source};
+
+    ghost Value = { Source };
+
+    ghost view = { λ s. record { to_give = drop s.at s.octets.items; piece = s.piece; fails_in = s.fails_in; failures = s.failures } };
+
+    ghost invariant = { λ s. (s.at ≤ vec_len s.octets) × (0 < s.piece) };
+}
+
+impl<A: Allocator> MemorySource<A> {
+    /// A source of these octets. A call gives at most `piece` of them, and the call `fails_in`
+    /// fails, counted from 1; 0 means that none does.
+    pub fn new(octets: Vec<u8, A>, piece: usize, fails_in: u64) -> Self
+        requires { 0 < piece }
+        ensures tells { ⟦<MemorySource<A> as ByteSource>⟧.to_give result ≡ Some octets.items }
+        ensures unfailed { ⟦<MemorySource<A> as ByteSource>⟧.failures result ≡ 0 }
+        ensures value { result ≡ record { to_give = octets.items; piece = piece; fails_in = fails_in; failures = 0 } }
+    {
+        MemorySource {
+            octets,
+            at: 0,
+            piece,
+            fails_in,
+            failures: 0,
+        }
+    }
+
+    /// The octets still to give.
+    pub fn to_give(&self) -> &[u8]
+        ensures tells { ⟦<MemorySource<A> as ByteSource>⟧.to_give self.now ≡ Some result.now }
+    {
+        &self.octets[self.at..]
+    }
+
+    /// How often it has failed.
+    pub fn failures(&self) -> u64
+        ensures tells { result ≡ ⟦<MemorySource<A> as ByteSource>⟧.failures self.now }
+    {
+        self.failures
+    }
+}
+
+impl<A: Allocator> ByteSource for MemorySource<A> {
+    ghost to_give = { λ s. Some s.to_give };
+
+    ghost failures = { λ s. s.failures };
+
+    /// Gives as many octets as `buf`, the piece and the rest of them allow.
+    fn read(&mut self, buf: &mut [u8]) -> Result<usize, DeviceFault>
+        ensures room { length buf.new ≡ length buf.old }
+        ensures within { IfOk result (λ n. n ≤ length buf.new) }
+        ensures given { IfOk result (λ n. Consumes (Some self.old.to_give) (Some self.new.to_give) (take n buf.new)) }
+        ensures end { IfOk result (λ n. n ≡ 0 → 0 < length buf.old → IsAtEnd (Some self.new.to_give)) }
+        ensures fault { OnErr result (Keeps (Some self.old.to_give) (Some self.new.to_give)) }
+        ensures counted { CountsFaults self.old.failures self.new.failures result }
+
+        // It fails at the call named and at no other, and gives no less than it can.
+        ensures when { IsErr result ↔ (self.old.fails_in ≡ 1) }
+        ensures most { IfOk result (λ n. n ≡ min (length buf.old) (min self.old.piece (length self.old.to_give))) }
+        ensures next { (self.new.fails_in ≡ self.old.fails_in - 1) × (self.new.piece ≡ self.old.piece) }
+    {
+        let fails = self.fails_in == 1;
+        self.fails_in = self.fails_in.saturating_sub(1);
+        if fails {
+            self.failures = self.failures.saturating_add(1);
+            return Err(DeviceFault);
+        }
+        let n = buf.len().min(self.piece).min(self.octets.len() - self.at);
+        let from = self.at;
+        buf[..n].copy_from_slice(&self.octets[from..from + n]);
+        self.at += n;
+        Ok(n)
+    }
+}
