@@ -5,3 +5,4 @@ pub mod Again
 pub mod Tests
 pub mod Refused
 pub mod Both
+pub mod Written

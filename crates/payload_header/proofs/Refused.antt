@@ -27,7 +27,7 @@ put_front h r = Ok (h ∷ r.0, r.1)
 abbrev one_read : Header → List ℕ → Read
 one_read h rest = Ok (h ∷ [], rest)
 
-abbrev with_number : ℕ → List Segment → Result (ℕ × List Segment) PayloadFault
+abbrev pub with_number : ℕ → List Segment → Result (ℕ × List Segment) PayloadFault
 with_number n ss = Ok (n, ss)
 
 abbrev failed : (A : Type 0) → PayloadFault → Result A PayloadFault
@@ -159,7 +159,7 @@ ok_last : (n : ℕ) (r : Result (List Segment) PayloadFault) (fault : PayloadFau
 ok_last n (Ok x) fault e = absurd cc
 ok_last n (Err d) fault e = ap (λ (y : PayloadFault). Err y) (err_is (ℕ × List Segment) d fault e)
 
-abbrev after_headers : Format → ℕ → List Header × List ℕ → Result (ℕ × List Segment) PayloadFault
+abbrev pub after_headers : Format → ℕ → List Header × List ℕ → Result (ℕ × List Segment) PayloadFault
 after_headers f n hs = fault_or (headers_fault f hs.0) (data_at hs.0 hs.1) >>= with_number n
 
 refused_after : (f : Format) (octets : List ℕ) (n : ℕ) (rest : List ℕ) (hs : List Header × List ℕ) (fault : PayloadFault) → IsNumber octets n rest → Heads most_segments rest hs.0 hs.1
@@ -226,7 +226,7 @@ unfolding payload_at
 begun f octets headers more b =
     ap (payload_at f) b.parts ∙ ap (λ (r : Result (ℕ × List ℕ) PayloadFault). r >>= after_number f) (number_again b.extended (flat_map header_text headers ++ more) b.extended_fits)
 
-begun_whole : (f : Format) (octets : List ℕ) (headers : List Header) (more : List ℕ) (whole : HasHeaders octets headers more)
+pub begun_whole : (f : Format) (octets : List ℕ) (headers : List Header) (more : List ℕ) (whole : HasHeaders octets headers more)
     → payload_at f octets ≡ after_headers f whole.begins.extended (headers, more)
 begun_whole f octets headers more whole =
     begun f octets headers more whole.begins ∙ ap (λ (r : Read). r >>= after_headers f whole.begins.extended) (headers_again most_segments headers more whole.chain whole.few whole.begins.headers_fit)

@@ -7,6 +7,8 @@
 pub mod laws;
 mod payload;
 mod reading;
+mod writing;
 
 pub use payload::{PayloadFault, PayloadView, Segment};
 pub use reading::read_payload;
+pub use writing::{SegmentHead, write_payload_header};
