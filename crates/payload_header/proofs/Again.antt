@@ -1,17 +1,16 @@
 -- What is in the grammar is read.
-use Rattle.std.proofs.Common.{◌≡◌, ℕ, zero, suc, ◌+◌, ◌-◌, ◌*◌, ◌/◌, ◌%◌, ◌^◌, ◌<◌, ◌≤◌, inl, inr, Bool, true, false, cond, not, eqb, ltb, leb, List, [], ◌∷◌, ◌++◌, length, get_or, take, drop, map, Option, Some, None, Result, Ok, Err, append_assoc, drop-drop, refl, sym, ap, ◌∙◌, subst, arith}
-use Rattle.std.specs.List.{AllZip, AllByRecursion, sum_by, flat_map}
+use Rattle.std.proofs.Common.{◌≡◌, ℕ, zero, suc, ◌+◌, ◌*◌, ◌/◌, ◌%◌, ◌^◌, ◌<◌, ◌≤◌, Bool, true, false, cond, not, eqb, ltb, leb, List, [], ◌∷◌, ◌++◌, length, take, drop, Option, None, Result, Ok, Err, append_assoc, refl, sym, ap, ◌∙◌, subst, arith}
+use Rattle.std.specs.List.{AllZip, AllByRecursion, flat_map}
 use Rattle.std.specs.Int.{w16, from_be_bytes, to_be_bytes}
-use Rattle.std.proofs.lemmas.Bool.{cases_lt, eqb-true, eqb-false, eq-eqb, ne_eqb, ltb-false, leb-true, leb-false, le-ltb, le-leb, lt-leb}
+use Rattle.std.proofs.lemmas.Bool.{eqb-false, eq-eqb, le-ltb, le-leb, lt-leb}
 use Rattle.std.proofs.lemmas.List.{take_at, drop_at, length-append, append-nil}
 use Rattle.std.proofs.lemmas.Nat.{from_be_bytes-to_be_bytes_2}
-use Rattle.std.proofs.lemmas.List.Concat.{flat_map-cons}
 use Rattle.st_format.specs.declared.format.Format.{Format}
 use Rattle.st_format.specs.Raster.{Segment}
 use Rattle.payload_header.specs.declared.payload.PayloadFault.{PayloadFault}
-use Rattle.payload_header.specs.declared.payload.PayloadFault.TheVariants.{ShortPayloadHeader, TooManySegments, ShortData, SecondField, BadLength, BadOffset, RowOutside, ColumnsOutside}
-use Rattle.payload_header.specs.Payload.{group_of, Header, HeaderFits, flagged, header_text, IsChain, IsInside, Describes, IsPayload, most_segments}
-use Rattle.payload_header.specs.Reading.{◌>>=◌, first_of, number_at, header_of, headers_at, header_fault, headers_fault, option_or, fault_or, segments_at, octets_of, data_at, payload_at, Gives}
+use Rattle.payload_header.specs.declared.payload.PayloadFault.TheVariants.{ShortPayloadHeader, ShortData, SecondField, BadLength, BadOffset, RowOutside, ColumnsOutside}
+use Rattle.payload_header.specs.Payload.{group_of, Header, HeaderFits, header_text, IsChain, IsInside, Describes, IsPayload, most_segments}
+use Rattle.payload_header.specs.Reading.{◌>>=◌, first_of, number_at, header_of, headers_at, headers_fault, option_or, fault_or, segments_at, octets_of, data_at, payload_at, Gives}
 use Rattle.std.specs.Prelude.{IfOk}
 use Rattle.payload_header.specs.declared.payload.PayloadView.{PayloadView}
 use Rattle.payload_header.specs.View.{said, segments_of}
@@ -42,10 +41,11 @@ header_made len f row c offset = record { octets = len; second_field = f; row = 
 
 parts_of : (a r o : List ℕ) → length a ≡ 2 → length r ≡ 2 → (take 2 ((a ++ r) ++ o) ≡ a) × (take 2 (drop 2 ((a ++ r) ++ o)) ≡ r) × (drop 4 ((a ++ r) ++ o) ≡ o)
 parts_of a r o la lr =
-    let same : (a ++ r) ++ o ≡ a ++ (r ++ o) = append_assoc a r o in
-    (ap (take 2) same ∙ take_at a (r ++ o) 2 la,
-     ap (λ (x : List ℕ). take 2 (drop 2 x)) same ∙ ap (take 2) (drop_at a (r ++ o) 2 la) ∙ take_at r o 2 lr,
-     drop_at (a ++ r) o 4 (omega (arith, length-append a r)))
+    let same : (a ++ r) ++ o ≡ a ++ (r ++ o) = append_assoc a r o in (
+      ap (take 2) same ∙ take_at a (r ++ o) 2 la,
+      ap (λ (x : List ℕ). take 2 (drop 2 x)) same ∙ ap (take 2) (drop_at a (r ++ o) 2 la) ∙ take_at r o 2 lr,
+      drop_at (a ++ r) o 4 (omega (arith, length-append a r)),
+    )
 
 -- The fields of a header's text are the fields.
 header_again : (h : Header) → HeaderFits h → header_of (header_text h) ≡ h
@@ -69,7 +69,7 @@ abbrev Read : Type 0
 Read = Result (List Header × List ℕ) PayloadFault
 
 -- reading one header more
-one_again : (n : ℕ) (h : Header) (rest : List ℕ) → HeaderFits h → headers_at (suc n) (header_text h ++ rest) ≡ cond h.more (headers_at n rest >>= λ r. Ok (h ∷ r.0, r.1)) (Ok (h ∷ [], rest))
+pub one_again : (n : ℕ) (h : Header) (rest : List ℕ) → HeaderFits h → headers_at (suc n) (header_text h ++ rest) ≡ cond h.more (headers_at n rest >>= λ r. Ok (h ∷ r.0, r.1)) (Ok (h ∷ [], rest))
 unfolding headers_at
 one_again n h rest fits =
     let t : List ℕ = header_text h in
@@ -82,7 +82,7 @@ one_again n h rest fits =
     ∙ ap (λ (x : List ℕ). cond h.more (headers_at n x >>= λ r. Ok (h ∷ r.0, r.1)) (Ok (h ∷ [], x))) back
 
 -- Headers of the grammar are read.
-headers_again : (n : ℕ) (hs : List Header) (rest : List ℕ) → IsChain hs → length hs ≤ n → AllByRecursion HeaderFits hs → headers_at n (flat_map header_text hs ++ rest) ≡ Ok (hs, rest)
+pub headers_again : (n : ℕ) (hs : List Header) (rest : List ℕ) → IsChain hs → length hs ≤ n → AllByRecursion HeaderFits hs → headers_at n (flat_map header_text hs ++ rest) ≡ Ok (hs, rest)
 headers_again n [] rest chain few fit = absurd chain
 headers_again zero (h ∷ hs) rest chain few fit = absurd (omega arith)
 headers_again (suc n) (h ∷ []) rest chain few fit =
@@ -105,7 +105,7 @@ zero_test n e = ap not (eq-eqb n 0 e)
 
 fault_free : (f : Format) (h : Header) (s : Segment) (b : Bool) → Describes f h s → eqb h.octets 0 ≡ b
     → cond b None (first_of ((h.second_field, SecondField) ∷ (not (eqb (h.octets % (group_of f).octets) 0), BadLength) ∷ (not (eqb (h.offset % (group_of f).pixels) 0), BadOffset)
-        ∷ (leb f.height h.row, RowOutside) ∷ (ltb f.width (h.offset + h.octets / (group_of f).octets * (group_of f).pixels), ColumnsOutside) ∷ [])) ≡ None
+    ∷ (leb f.height h.row, RowOutside) ∷ (ltb f.width (h.offset + h.octets / (group_of f).octets * (group_of f).pixels), ColumnsOutside) ∷ [])) ≡ None
 fault_free f h s true d e = refl
 fault_free f h s false d e =
     let ne : h.octets ≡ 0 → ⊥ = eqb-false h.octets 0 e in
@@ -117,7 +117,7 @@ fault_free f h s false d e =
     (zero_test (h.offset % (group_of f).pixels) (ap (λ (n : ℕ). n % (group_of f).pixels) d.offset ∙ is.at_group))
     (lt-leb f.height h.row (subst (λ (n : ℕ). n < f.height) (sym d.row) is.row))
     (le-ltb f.width (h.offset + h.octets / (group_of f).octets * (group_of f).pixels)
-        (subst (λ (n : ℕ). n + h.octets / (group_of f).octets * (group_of f).pixels ≤ f.width) (sym d.offset) (subst (λ (n : ℕ). s.offset + n / (group_of f).octets * (group_of f).pixels ≤ f.width) (sym d.octets) is.columns)))
+    (subst (λ (n : ℕ). n + h.octets / (group_of f).octets * (group_of f).pixels ≤ f.width) (sym d.offset) (subst (λ (n : ℕ). s.offset + n / (group_of f).octets * (group_of f).pixels ≤ f.width) (sym d.octets) is.columns)))
 
 no_faults : (f : Format) (hs : List Header) (ss : List Segment) → AllZip (Describes f) hs ss → headers_fault f hs ≡ None
 no_faults f [] ss d = refl
@@ -155,7 +155,7 @@ segments_again f (h ∷ hs) (s ∷ ss) rest d =
 abbrev number_rest : ℕ → List ℕ → Result (ℕ × List ℕ) PayloadFault
 number_rest n rest = Ok (n, rest)
 
-number_again : (n : ℕ) (rest : List ℕ) → n < 2 ^ 16 → number_at (to_be_bytes w16 n ++ rest) ≡ Ok (n, rest)
+pub number_again : (n : ℕ) (rest : List ℕ) → n < 2 ^ 16 → number_at (to_be_bytes w16 n ++ rest) ≡ Ok (n, rest)
 number_again n rest lt =
     let long : ltb (length (to_be_bytes w16 n ++ rest)) 2 ≡ false = le-ltb (length (to_be_bytes w16 n ++ rest)) 2 (omega (arith, length-append (to_be_bytes w16 n) rest)) in
     ap (λ (b : Bool). cond b (Err ShortPayloadHeader) (number_rest (from_be_bytes w16 (to_be_bytes w16 n)) rest)) long

@@ -1,7 +1,7 @@
 -- What is read is in the grammar, and what is in the grammar is read.
-use Rattle.std.proofs.Common.{◌≡◌, ℕ, zero, suc, ◌+◌, ◌-◌, ◌*◌, ◌/◌, ◌%◌, ◌^◌, ◌<◌, ◌≤◌, ◌⊎◌, inl, inr, Bool, true, false, cond, not, eqb, ltb, leb, List, [], ◌∷◌, ◌++◌, length, get_or, take, drop, map, All, Option, Some, None, Result, Ok, Err, add-one, append_assoc, refl, sym, ap, ◌∙◌, subst, arith}
-use Rattle.std.specs.List.{AllZip, AllByRecursion, sum_by, flat_map}
-use Rattle.std.proofs.lemmas.Bool.{eqb-true, eqb-false, eq-eqb, leb-false, leb-true, lt-leb, ltb-false, ltb-true, le-ltb, lt-ltb}
+use Rattle.std.proofs.Common.{◌≡◌, ℕ, ◌+◌, ◌*◌, ◌/◌, ◌%◌, ◌<◌, ◌≤◌, Bool, true, false, cond, not, eqb, ltb, leb, List, [], ◌∷◌, length, take, drop, map, All, Option, Some, None, refl, sym, ap, ◌∙◌, subst, arith}
+use Rattle.std.specs.List.{AllZip, AllByRecursion}
+use Rattle.std.proofs.lemmas.Bool.{eqb-true, leb-false, ltb-false}
 use Rattle.std.proofs.lemmas.List.{length-take, length-drop}
 use Rattle.std.proofs.lemmas.List.Elements.{All-from_recursion}
 use Rattle.std.proofs.lemmas.List.Sums.{sum_by-cons}
@@ -33,7 +33,7 @@ not_eqb a b h = not_eqb_at a b (eqb a b) refl h
 -- A header that has octets and no fault describes a segment of its octets.
 header_ok : (f : Format) (h : Header) (b : Bool) → eqb h.octets 0 ≡ b
     → cond b None (first_of ((h.second_field, SecondField) ∷ (not (eqb (h.octets % (group_of f).octets) 0), BadLength) ∷ (not (eqb (h.offset % (group_of f).pixels) 0), BadOffset)
-        ∷ (leb f.height h.row, RowOutside) ∷ (ltb f.width (h.offset + h.octets / (group_of f).octets * (group_of f).pixels), ColumnsOutside) ∷ [])) ≡ None
+    ∷ (leb f.height h.row, RowOutside) ∷ (ltb f.width (h.offset + h.octets / (group_of f).octets * (group_of f).pixels), ColumnsOutside) ∷ [])) ≡ None
     → (s : Segment) → h.octets ≡ length s.octets → h.row ≡ s.row → h.offset ≡ s.offset → Describes f h s
 header_ok f h true e none s o r p =
     let empty : h.octets ≡ 0 = eqb-true h.octets 0 e in
@@ -41,7 +41,9 @@ header_ok f h true e none s o r p =
 header_ok f h false e none s o r p =
     let t = none_holds f h.second_field (not (eqb (h.octets % (group_of f).octets) 0)) (not (eqb (h.offset % (group_of f).pixels) 0)) (leb f.height h.row) (ltb f.width (h.offset + h.octets / (group_of f).octets * (group_of f).pixels)) none in
     record {
-      octets = o; row = r; offset = p;
+      octets = o;
+      row = r;
+      offset = p;
       first_field = λ some. t.0;
       inside = λ some. record {
         whole_groups = ap (λ (n : ℕ). n % (group_of f).octets) (sym o) ∙ not_eqb (h.octets % (group_of f).octets) 0 t.1;
@@ -63,9 +65,10 @@ pub all_described : (f : Format) (hs : List Header) (octets : List ℕ) → head
 all_described f [] octets none enough = tt
 all_described f (h ∷ hs) octets none enough =
     let two = option_none (header_fault f h) (headers_fault f hs) none in
-    let total : h.octets + octets_of hs ≤ length octets = omega (arith, octets_of-cons h hs) in
-    (header_ok f h (eqb h.octets 0) refl two.0 (record { row = h.row; offset = h.offset; octets = take h.octets octets }) (omega (arith, length-take h.octets octets)) refl refl,
-     all_described f hs (drop h.octets octets) two.1 (omega (arith, length-drop h.octets octets)))
+    let total : h.octets + octets_of hs ≤ length octets = omega (arith, octets_of-cons h hs) in (
+      header_ok f h (eqb h.octets 0) refl two.0 (record { row = h.row; offset = h.offset; octets = take h.octets octets }) (omega (arith, length-take h.octets octets)) refl refl,
+      all_described f hs (drop h.octets octets) two.1 (omega (arith, length-drop h.octets octets)),
+    )
 
 -- what the segments of a view owe
 pub all_inside : (f : Format) (hs : List Header) (ss : List Segment) → AllZip (Describes f) hs ss → AllByRecursion (λ s. 0 < length s.octets → IsInside f s) ss

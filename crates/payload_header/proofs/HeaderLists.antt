@@ -1,5 +1,5 @@
 -- Headers read one after the other.
-use Rattle.std.proofs.Common.{◌≡◌, ℕ, zero, suc, ◌+◌, ◌-◌, ◌<◌, ◌≤◌, Bool, true, false, cond, not, ltb, List, [], ◌∷◌, ◌++◌, length, get_or, take, drop, map, Result, Ok, Err, add-one, append_assoc, refl, sym, ap, ◌∙◌, subst, arith}
+use Rattle.std.proofs.Common.{◌≡◌, ℕ, suc, ◌+◌, ◌-◌, ◌<◌, ◌≤◌, Bool, true, false, cond, not, List, [], ◌∷◌, ◌++◌, length, take, drop, map, Result, Ok, Err, append_assoc, refl, sym, ap, ◌∙◌, arith}
 use Rattle.payload_header.specs.declared.payload.PayloadFault.{PayloadFault}
 use Rattle.payload_header.specs.declared.payload.PayloadFault.TheVariants.{ShortPayloadHeader, TooManySegments}
 use Rattle.std.proofs.lemmas.Bool.{lt-ltb, le-ltb}
@@ -59,7 +59,7 @@ goes_on front i rest whole h lt long is more before =
     let more_read : Result (List Header × List ℕ) PayloadFault = headers_at (3 - (i + 1)) (drop 6 rest) >>= λ r. Ok (x ∷ r.0, r.1) in
     let opened : headers_at (3 - i) rest ≡ cond x.more more_read (Ok (x ∷ [], drop 6 rest)) = rw (k, le-ltb (length rest) 6 long) refl in
     let one : with_front front (headers_at (3 - i) rest) ≡ with_front (front ++ x ∷ []) (headers_at (3 - (i + 1)) (drop 6 rest)) =
-        ap (with_front front) (opened ∙ ap (λ (b : Bool). cond b more_read (Ok (x ∷ [], drop 6 rest))) more') ∙ regroup front x (headers_at (3 - (i + 1)) (drop 6 rest)) in
+    ap (with_front front) (opened ∙ ap (λ (b : Bool). cond b more_read (Ok (x ∷ [], drop 6 rest))) more') ∙ regroup front x (headers_at (3 - (i + 1)) (drop 6 rest)) in
     ap (λ (y : Header). with_front (front ++ y ∷ []) (headers_at (3 - (i + 1)) (drop 6 rest))) is ∙ sym one ∙ before
 
 -- The same in the code's words: the header of six octets, and what follows them

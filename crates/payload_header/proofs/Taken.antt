@@ -1,16 +1,16 @@
 -- What is read is in the grammar.
-use Rattle.std.proofs.Common.{◌≡◌, ℕ, zero, suc, ◌+◌, ◌-◌, ◌*◌, ◌/◌, ◌%◌, ◌^◌, ◌<◌, ◌≤◌, inl, inr, Bool, true, false, cond, not, eqb, ltb, leb, List, [], ◌∷◌, ◌++◌, length, get_or, take, drop, map, Option, Some, None, Result, Ok, Err, append_assoc, drop-drop, refl, sym, ap, ◌∙◌, subst, arith}
-use Rattle.std.specs.List.{AllZip, AllByRecursion, sum_by, flat_map}
+use Rattle.std.proofs.Common.{◌≡◌, ℕ, zero, suc, ◌+◌, ◌%◌, ◌^◌, ◌<◌, ◌≤◌, inl, inr, Bool, true, false, cond, ltb, leb, List, [], ◌∷◌, ◌++◌, length, get_or, take, drop, Option, Some, None, Result, Ok, Err, append_assoc, drop-drop, refl, sym, ap, ◌∙◌, subst, arith}
+use Rattle.std.specs.List.{AllByRecursion, flat_map}
 use Rattle.std.specs.Int.{w16, from_be_bytes, to_be_bytes}
-use Rattle.std.proofs.lemmas.Bool.{cases_lt, eqb-true, ltb-false, leb-true, leb-false, le-ltb}
-use Rattle.std.proofs.lemmas.List.{take-append-drop, length-take, length-drop, length-append, get_or-drop, get_or-take, get_or_past, append-nil}
+use Rattle.std.proofs.lemmas.Bool.{cases_lt, ltb-false, leb-true, leb-false}
+use Rattle.std.proofs.lemmas.List.{take-append-drop, length-take, length-drop, get_or-drop, get_or-take, get_or_past, append-nil}
 use Rattle.std.proofs.lemmas.Nat.{be_bytes_2}
 use Rattle.std.proofs.lemmas.List.Concat.{flat_map-cons}
 use Rattle.st_format.specs.declared.format.Format.{Format}
 use Rattle.st_format.specs.Raster.{Segment}
 use Rattle.payload_header.specs.declared.payload.PayloadFault.{PayloadFault}
-use Rattle.payload_header.specs.declared.payload.PayloadFault.TheVariants.{ShortPayloadHeader, TooManySegments, ShortData}
-use Rattle.payload_header.specs.Payload.{Header, HeaderFits, flagged, header_text, IsChain, Describes, IsPayload, most_segments}
+use Rattle.payload_header.specs.declared.payload.PayloadFault.TheVariants.{ShortPayloadHeader, ShortData}
+use Rattle.payload_header.specs.Payload.{Header, HeaderFits, flagged, header_text, IsChain, IsPayload, most_segments}
 use Rattle.payload_header.specs.Reading.{◌>>=◌, number_at, header_of, headers_at, headers_fault, fault_or, segments_at, octets_of, data_at, payload_at}
 use Rattle.payload_header.proofs.Grammar.{all_described, octets_of-cons}
 
@@ -60,9 +60,9 @@ pieces six =
     ∙ ap (λ (x : List ℕ). take 2 six ++ (take 2 (drop 2 six) ++ x)) four
     ∙ ap (λ (x : List ℕ). take 2 six ++ x) (take-append-drop 2 (drop 2 six)) ∙ take-append-drop 2 six
 
-record IsText (h : Header) (six : List ℕ) : Type 0 where
-  text : header_text h ≡ six
-  fits : HeaderFits h
+pub record IsText (h : Header) (six : List ℕ) : Type 0 where
+  pub text : header_text h ≡ six
+  pub fits : HeaderFits h
 
 -- a header is the text of its fields
 header_back : (six : List ℕ) → length six ≡ 6 → IsBytes six → IsText (header_of six) six
@@ -75,9 +75,9 @@ header_back six len bytes =
     let bytes_o : IsBytes o = IsBytes-drop 4 six bytes in
     let ta : to_be_bytes w16 (from_be_bytes w16 a) ≡ a = two_back a (omega (arith, length-take 2 six)) (IsBytes-take 2 six bytes) in
     let tr : flagged (leb (2 ^ 15) (from_be_bytes w16 r)) (from_be_bytes w16 r % 2 ^ 15) ≡ r =
-        flag_back (from_be_bytes w16 r) (two_below r bytes_r) ∙ two_back r (omega (arith, length-take 2 (drop 2 six), length-drop 2 six)) bytes_r in
+    flag_back (from_be_bytes w16 r) (two_below r bytes_r) ∙ two_back r (omega (arith, length-take 2 (drop 2 six), length-drop 2 six)) bytes_r in
     let to : flagged (leb (2 ^ 15) (from_be_bytes w16 o)) (from_be_bytes w16 o % 2 ^ 15) ≡ o =
-        flag_back (from_be_bytes w16 o) (two_below o bytes_o) ∙ two_back o (omega (arith, length-drop 4 six)) bytes_o in
+    flag_back (from_be_bytes w16 o) (two_below o bytes_o) ∙ two_back o (omega (arith, length-drop 4 six)) bytes_o in
     record {
       text = three ta tr to ∙ pieces six;
       fits = record { octets = two_below a (IsBytes-take 2 six bytes); row = omega arith; offset = omega arith };
@@ -105,7 +105,7 @@ done x y e = cc
 heads_more : (n : ℕ) (octets : List ℕ) (h : Header) (hs : List Header) (rest : List ℕ) → 6 ≤ length octets → IsText h (take 6 octets) → h.more ≡ true → Heads n (drop 6 octets) hs rest → Heads (suc n) octets (h ∷ hs) rest
 heads_more n octets h hs rest long is more later = record {
   parts = sym (take-append-drop 6 octets) ∙ ap (λ (x : List ℕ). x ++ drop 6 octets) (sym is.text) ∙ ap (λ (x : List ℕ). header_text h ++ x) later.parts
-    ∙ sym (append_assoc (header_text h) (flat_map header_text hs) rest) ∙ ap (λ (x : List ℕ). x ++ rest) (sym (flat_map-cons header_text h hs));
+      ∙ sym (append_assoc (header_text h) (flat_map header_text hs) rest) ∙ ap (λ (x : List ℕ). x ++ rest) (sym (flat_map-cons header_text h hs));
   fit = (is.fits, later.fit);
   chain = chain_more h hs more later.chain;
   few = omega (arith, later.few);
@@ -136,7 +136,7 @@ heads_at n octets y h later false false bytes s m is rest e =
     let long : 6 ≤ length octets = ltb-false (length octets) 6 s in
     subst (λ (z : List Header × List ℕ). Heads (suc n) octets z.0 z.1) (done (h ∷ [], drop 6 octets) y e) (heads_last n octets h bytes long is m)
 
-text_at : (octets : List ℕ) → IsBytes octets → (b : Bool) → ltb (length octets) 6 ≡ b → (b ≡ false → IsText (header_of (take 6 octets)) (take 6 octets))
+pub text_at : (octets : List ℕ) → IsBytes octets → (b : Bool) → ltb (length octets) 6 ≡ b → (b ≡ false → IsText (header_of (take 6 octets)) (take 6 octets))
 text_at octets bytes b e = λ no. header_back (take 6 octets) (omega (arith, length-take 6 octets, ltb-false (length octets) 6 (e ∙ no))) (IsBytes-take 6 octets bytes)
 
 heads_of : (n : ℕ) (octets : List ℕ) (y : List Header × List ℕ) (short : Bool) → IsBytes octets → ltb (length octets) 6 ≡ short
@@ -160,7 +160,7 @@ data_parts [] octets = refl
 data_parts (h ∷ hs) octets =
     let later : drop h.octets octets ≡ flat_map (λ (s : Segment). s.octets) (segments_at hs (drop h.octets octets)) ++ drop (octets_of hs) (drop h.octets octets) = data_parts hs (drop h.octets octets) in
     let same : drop (octets_of hs) (drop h.octets octets) ≡ drop (octets_of (h ∷ hs)) octets =
-        drop-drop (octets_of hs) h.octets octets ∙ ap (λ (n : ℕ). drop n octets) (omega (arith, octets_of-cons h hs)) in
+    drop-drop (octets_of hs) h.octets octets ∙ ap (λ (n : ℕ). drop n octets) (omega (arith, octets_of-cons h hs)) in
     sym (take-append-drop h.octets octets) ∙ ap (λ (x : List ℕ). take h.octets octets ++ x) (later ∙ ap (λ (x : List ℕ). flat_map (λ (s : Segment). s.octets) (segments_at hs (drop h.octets octets)) ++ x) same)
     ∙ sym (append_assoc (take h.octets octets) (flat_map (λ (s : Segment). s.octets) (segments_at hs (drop h.octets octets))) (drop (octets_of (h ∷ hs)) octets))
 
@@ -168,12 +168,12 @@ fault_none : (o : Option PayloadFault) (later : Result (List Segment) PayloadFau
 fault_none None later ss e = (refl, e)
 fault_none (Some d) later ss e = absurd cc
 
-record IsNumber (octets : List ℕ) (n : ℕ) (rest : List ℕ) : Type 0 where
-  parts : octets ≡ to_be_bytes w16 n ++ rest
-  below : n < 2 ^ 16
-  bytes : IsBytes rest
+pub record IsNumber (octets : List ℕ) (n : ℕ) (rest : List ℕ) : Type 0 where
+  pub parts : octets ≡ to_be_bytes w16 n ++ rest
+  pub below : n < 2 ^ 16
+  pub bytes : IsBytes rest
 
-number_take : (octets : List ℕ) (y : ℕ × List ℕ) → IsBytes octets → number_at octets ≡ Ok y → IsNumber octets y.0 y.1
+pub number_take : (octets : List ℕ) (y : ℕ × List ℕ) → IsBytes octets → number_at octets ≡ Ok y → IsNumber octets y.0 y.1
 number_take octets y bytes e =
     let g = guard_ok (ltb (length octets) 2) ShortPayloadHeader (from_be_bytes w16 (take 2 octets), drop 2 octets) y e in
     let long : 2 ≤ length octets = ltb-false (length octets) 2 g.0 in

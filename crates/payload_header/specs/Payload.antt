@@ -3,7 +3,7 @@ use Rattle.std.specs.Prelude.{◌≡◌, ℕ, ◌+◌, ◌*◌, ◌/◌, ◌%◌
 use Rattle.std.specs.List.{flat_map, AllByRecursion, AllZip}
 use Rattle.std.specs.Int.{w16, to_be_bytes}
 use Rattle.st_format.specs.declared.format.Format.{Format}
-use Rattle.st_format.specs.Position.{Group, pixel_group}
+use Rattle.st_format.specs.Pgroup.{Group, pixel_group}
 use Rattle.st_format.specs.Raster.{Segment}
 use Rattle.payload_header.specs.declared.payload.Segment.{Segment as SegmentView}
 

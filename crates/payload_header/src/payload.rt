@@ -1,28 +1,73 @@
-//! The payload of a datagram: a number, and segments of rows.
+//! What a payload says: an extended number and segments of rows, or the fault of its octets.
 ghost use Rattle.std.specs.Prelude.{◌<◌, length, All};
 ghost use Rattle.payload_header.specs.Payload.{IsInside, seen};
 
 use arrayvec::ArrayVec;
 use st_format::Format;
+use thiserror::Error;
 
 /// What is wrong with a payload: the first fault.
-#[derive(Clone, Copy, Debug, PartialEq, Eq)]
+///
+/// The headers are read first, one after another. Then each header in turn is tested, in the order of
+/// the faults below; a header of Length 0 passes. Last comes the data (this order is the project's own).
+#[derive(Clone, Copy, Debug, PartialEq, Eq, Error)]
 pub enum PayloadFault {
-    ShortPayloadHeader,
-    TooManySegments,
-    SecondField,
-    BadLength,
-    BadOffset,
-    RowOutside,
-    ColumnsOutside,
-    ShortData,
+    /// There aren't two octets of extended number, or a header isn't whole (RFC 4175, 4).
+    #[error("ShortPayloadHeader")]
+    ShortPayloadHeader = 1,
+
+    /// The third header says that another follows. RFC 4175 allows more headers; SMPTE ST 2110-20, 6.2
+    /// allows three, and so does this reader: a sender of plain RFC 4175 is refused here.
+    #[error("TooManySegments")]
+    TooManySegments = 2,
+
+    /// F is set: the segment is of the second field of an interlaced frame.
+    #[error("SecondField")]
+    SecondField = 3,
+
+    /// Length is no whole number of pgroups.
+    #[error("BadLength")]
+    BadLength = 4,
+
+    /// Offset isn't at the first pixel of a pgroup.
+    #[error("BadOffset")]
+    BadOffset = 5,
+
+    /// The row isn't below the height.
+    #[error("RowOutside")]
+    RowOutside = 6,
+
+    /// The pixels reach beyond the width.
+    #[error("ColumnsOutside")]
+    ColumnsOutside = 7,
+
+    /// Behind the headers there are fewer octets than the sum of their Lengths.
+    #[error("ShortData")]
+    ShortData = 8,
 }
 
-/// Some pixel groups of a row, from a column on.
+impl PayloadFault {
+    ghost use Rattle.std.specs.Prelude.{◌≡◌};
+    ghost use Rattle.payload_header.specs.Faults.{fault_number};
+
+    /// The number of the fault: its place in the order of tests, from 1.
+    pub fn number(self) -> u8
+        ensures { result ≡ fault_number self }
+    {
+        self as u8
+    }
+}
+
+/// Whole pgroups of a row, from a column on (SMPTE ST 2110-20, 6.2).
+///
+/// A segment of Length 0 has no octets, and its row and offset may be any.
 #[derive(Clone, Copy)]
 pub struct Segment<'a> {
+    /// The row, from 0 at the top.
     pub row: u32,
+    /// The column of the first pixel, from 0 at the left.
     pub offset: u32,
+    /// The pgroups' octets, where they lie in the payload.
     pub octets: &'a [u8],
 }
 
@@ -36,11 +81,14 @@ impl<'a> Default for Segment<'a> {
     }
 }
 
-/// A payload that was read.
+/// A payload that was read: every segment that has octets lies inside the format's raster.
 #[derive(Drop)]
 pub struct PayloadView<'a> {
+    /// The format that the payload was read as.
     pub format: Format,
+    /// The high 16 bits of the packet number (RFC 4175, 4.1, Extended Sequence Number).
     pub extended: u16,
+    /// One to three segments, in the order of their headers.
     pub segments: ArrayVec<Segment<'a>, 3>,
     pub ghost inside: { All (λ s. 0 < length s.octets.now → IsInside format (seen s)) segments.items },
 }

@@ -1,4 +1,4 @@
-use Rattle.std.proofs.Common.{◌≡◌, map, arith}
+use Rattle.std.proofs.Common.{map, arith}
 use Rattle.payload_header.specs.Reading.{fields}
 use Rattle.payload_header.proofs.HeaderLists.{ends_short, is_over, code_last, code_more}
 use Rattle.payload_header.proofs.reading.headers_of.Goals as goal
@@ -17,6 +17,6 @@ returns-then-not-header c =
 pub loop-preserved : goal.loop-preserved
 loop-preserved c = record {
   reads = code_more c.loop.headers.items c.loop.counter c.loop.rest.now c.split_at.result.0.now c.split_at.result.1.now _ c.header_at-header.result c.push.new.self.items c.loop-test.true c.if-rest-lt6.false
-    c.header_at-header.ensures c.split_at.ensures.front c.split_at.ensures.back c.if-not-header.false c.push.ensures.items c.loop.invariant.reads;
+      c.header_at-header.ensures c.split_at.ensures.front c.split_at.ensures.back c.if-not-header.false c.push.ensures.items c.loop.invariant.reads;
   as_many = omega (arith, c.push.ensures.len, c.loop.invariant.as_many);
 }

@@ -1,0 +1,109 @@
+-- When octets are refused: one condition for each fault, over the whole list of headers (RFC 4175, 4; the
+-- order of the faults is own).
+use Rattle.std.specs.Prelude.{◌≡◌, ◌≢◌, ℕ, ◌+◌, ◌*◌, ◌/◌, ◌%◌, ◌^◌, ◌<◌, ◌≤◌, ◌⊎◌, true, List, ◌∷◌, ◌++◌, length, slice_index_or}
+use Rattle.std.specs.List.{flat_map, AllByRecursion}
+use Rattle.std.specs.Int.{w16, to_be_bytes}
+use Rattle.st_format.specs.declared.format.Format.{Format}
+use Rattle.payload_header.specs.declared.payload.PayloadFault.{PayloadFault}
+use Rattle.payload_header.specs.declared.payload.PayloadFault.TheVariants.{ShortPayloadHeader, TooManySegments, SecondField, BadLength, BadOffset, RowOutside, ColumnsOutside, ShortData}
+use Rattle.payload_header.specs.Payload.{group_of, Header, HeaderFits, header_text, IsChain, most_segments}
+use Rattle.payload_header.specs.Reading.{octets_of}
+
+-- the faults in their order
+abbrev pub fault_number : PayloadFault → ℕ
+fault_number ShortPayloadHeader = 1
+fault_number TooManySegments = 2
+fault_number SecondField = 3
+fault_number BadLength = 4
+fault_number BadOffset = 5
+fault_number RowOutside = 6
+fault_number ColumnsOutside = 7
+fault_number ShortData = 8
+
+abbrev pub AreOctets : List ℕ → Type 0
+AreOctets octets = (k : ℕ) → slice_index_or octets k 0 < 256
+
+-- The octets are an extended number, the texts of these headers, and some more.
+pub record BeginsWith (octets : List ℕ) (headers : List Header) (more : List ℕ) : Type 0 where
+  pub extended : ℕ
+  pub extended_fits : extended < 2 ^ 16
+  pub headers_fit : AllByRecursion HeaderFits headers
+  pub parts : octets ≡ to_be_bytes w16 extended ++ (flat_map header_text headers ++ more)
+
+-- each says that another header follows
+abbrev pub AllGoOn : List Header → Type 0
+AllGoOn headers = AllByRecursion (λ h. h.more ≡ true) headers
+
+-- A header is missing, or cut: fewer than three headers, all of which say that another follows, and behind them
+-- less than a header.
+pub record LacksHeader (octets : List ℕ) : Type 0 where
+  pub headers : List Header
+  pub more : List ℕ
+  pub begins : BeginsWith octets headers more
+  pub go_on : AllGoOn headers
+  pub few : length headers < most_segments
+  pub short : length more < 6
+
+-- three headers, all of which say that another follows
+pub record GoesOn (octets : List ℕ) : Type 0 where
+  pub headers : List Header
+  pub more : List ℕ
+  pub begins : BeginsWith octets headers more
+  pub go_on : AllGoOn headers
+  pub as_many : length headers ≡ most_segments
+
+-- Whole headers: one to three, of which all but the last say that another follows, and the data behind them
+pub record HasHeaders (octets : List ℕ) (headers : List Header) (more : List ℕ) : Type 0 where
+  pub begins : BeginsWith octets headers more
+  pub chain : IsChain headers
+  pub few : length headers ≤ most_segments
+
+-- what the fields of a header can have wrong
+abbrev pub IsWrong : Format → Header → PayloadFault → Type 0
+IsWrong f h SecondField = h.second_field ≡ true
+IsWrong f h BadLength = h.octets % (group_of f).octets ≢ 0
+IsWrong f h BadOffset = h.offset % (group_of f).pixels ≢ 0
+IsWrong f h RowOutside = f.height ≤ h.row
+IsWrong f h ColumnsOutside = f.width < h.offset + h.octets / (group_of f).octets * (group_of f).pixels
+IsWrong f h ShortPayloadHeader = ⊥
+IsWrong f h TooManySegments = ⊥
+IsWrong f h ShortData = ⊥
+
+-- A header with octets has nothing wrong; one without octets may have anything.
+abbrev pub IsSound : Format → Header → Type 0
+IsSound f h = 0 < h.octets → (fault : PayloadFault) → IsWrong f h fault → ⊥
+
+-- A header has octets, and this is the first that is wrong with it.
+pub record HasFirst (f : Format) (h : Header) (fault : PayloadFault) : Type 0 where
+  pub some : 0 < h.octets
+  pub wrong : IsWrong f h fault
+  pub first : (earlier : PayloadFault) → fault_number earlier < fault_number fault → IsWrong f h earlier → ⊥
+
+-- Whole headers, and of the first in turn that isn't sound this is the first that is wrong.
+pub record HasFault (f : Format) (octets : List ℕ) (fault : PayloadFault) : Type 0 where
+  pub before : List Header
+  pub header : Header
+  pub after : List Header
+  pub more : List ℕ
+  pub whole : HasHeaders octets (before ++ header ∷ after) more
+  pub sound : AllByRecursion (IsSound f) before
+  pub has : HasFirst f header fault
+
+-- Whole headers, all sound, and fewer octets behind them than the sum of their Lengths
+pub record LacksData (f : Format) (octets : List ℕ) : Type 0 where
+  pub headers : List Header
+  pub more : List ℕ
+  pub whole : HasHeaders octets headers more
+  pub sound : AllByRecursion (IsSound f) headers
+  pub short : length more < octets_of headers
+
+-- why octets are refused
+abbrev pub IsRefused : Format → List ℕ → PayloadFault → Type 0
+IsRefused f octets ShortPayloadHeader = (length octets < 2) ⊎ LacksHeader octets
+IsRefused f octets TooManySegments = GoesOn octets
+IsRefused f octets SecondField = HasFault f octets SecondField
+IsRefused f octets BadLength = HasFault f octets BadLength
+IsRefused f octets BadOffset = HasFault f octets BadOffset
+IsRefused f octets RowOutside = HasFault f octets RowOutside
+IsRefused f octets ColumnsOutside = HasFault f octets ColumnsOutside
+IsRefused f octets ShortData = LacksData f octets
