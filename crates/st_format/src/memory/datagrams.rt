@@ -22,7 +22,12 @@ impl<A: Allocator> Model for MemoryDatagrams<A> {
 
     ghost Value = { Datagrams };
 
-    ghost view = { λ s. record { taken = map octets_of (take s.used s.slots.items); rooms = map capacity_of (drop s.used s.slots.items); fails_in = s.fails_in; failures = s.failures } };
+    ghost view = { λ s. record {
+      taken = map octets_of (take s.used s.slots.items);
+      rooms = map capacity_of (drop s.used s.slots.items);
+      fails_in = s.fails_in;
+      failures = s.failures;
+    } };
 
     ghost invariant = { λ s. s.used ≤ vec_len s.slots };
 }
@@ -33,7 +38,12 @@ impl<A: Allocator> MemoryDatagrams<A> {
     pub fn new(slots: Vec<Vec<u8, A>, A>, fails_in: u64) -> Self
         ensures tells { ⟦<MemoryDatagrams<A> as DatagramSink>⟧.taken result ≡ Some [] }
         ensures unfailed { ⟦<MemoryDatagrams<A> as DatagramSink>⟧.failures result ≡ 0 }
-        ensures value { result ≡ record { taken = []; rooms = map capacity_of slots.items; fails_in = fails_in; failures = 0 } }
+        ensures value { result ≡ record {
+          taken = [];
+          rooms = map capacity_of slots.items;
+          fails_in = fails_in;
+          failures = 0;
+        } }
     {
         MemoryDatagrams {
             slots,

@@ -23,7 +23,13 @@ impl<A: Allocator> Model for MemorySink<A> {
 
     ghost Value = { Sink };
 
-    ghost view = { λ s. record { held = s.octets.items; room = s.room; piece = s.piece; fails_in = s.fails_in; failures = s.failures } };
+    ghost view = { λ s. record {
+      held = s.octets.items;
+      room = s.room;
+      piece = s.piece;
+      fails_in = s.fails_in;
+      failures = s.failures;
+    } };
 
     ghost invariant = { λ s. (vec_len s.octets + s.room ≤ vec_capacity s.octets) × (0 < s.piece) };
 }
@@ -35,7 +41,13 @@ impl<A: Allocator> MemorySink<A> {
         requires { 0 < piece }
         ensures tells { ⟦<MemorySink<A> as ByteSink>⟧.held result ≡ Some octets.items }
         ensures unfailed { ⟦<MemorySink<A> as ByteSink>⟧.failures result ≡ 0 }
-        ensures value { result ≡ record { held = octets.items; room = vec_capacity octets - vec_len octets; piece = piece; fails_in = fails_in; failures = 0 } }
+        ensures value { result ≡ record {
+          held = octets.items;
+          room = vec_capacity octets - vec_len octets;
+          piece = piece;
+          fails_in = fails_in;
+          failures = 0;
+        } }
     {
         let room = octets.capacity() - octets.len();
         MemorySink {

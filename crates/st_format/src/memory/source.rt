@@ -22,7 +22,12 @@ impl<A: Allocator> Model for MemorySource<A> {
 
     ghost Value = { Source };
 
-    ghost view = { λ s. record { to_give = drop s.at s.octets.items; piece = s.piece; fails_in = s.fails_in; failures = s.failures } };
+    ghost view = { λ s. record {
+      to_give = drop s.at s.octets.items;
+      piece = s.piece;
+      fails_in = s.fails_in;
+      failures = s.failures;
+    } };
 
     ghost invariant = { λ s. (s.at ≤ vec_len s.octets) × (0 < s.piece) };
 }
@@ -34,7 +39,12 @@ impl<A: Allocator> MemorySource<A> {
         requires { 0 < piece }
         ensures tells { ⟦<MemorySource<A> as ByteSource>⟧.to_give result ≡ Some octets.items }
         ensures unfailed { ⟦<MemorySource<A> as ByteSource>⟧.failures result ≡ 0 }
-        ensures value { result ≡ record { to_give = octets.items; piece = piece; fails_in = fails_in; failures = 0 } }
+        ensures value { result ≡ record {
+          to_give = octets.items;
+          piece = piece;
+          fails_in = fails_in;
+          failures = 0;
+        } }
     {
         MemorySource {
             octets,
