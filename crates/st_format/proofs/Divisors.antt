@@ -1,10 +1,10 @@
 -- The greatest common divisor, and fractions in lowest terms.
-use Rattle.std.proofs.Common.{◌≡◌, ℕ, zero, suc, ◌*◌, ◌/◌, ◌%◌, ◌<◌, ◌≤◌, Bool, true, false, cond, eqb, ◌&&◌, refl, sym, ap, ◌∙◌, subst, arith}
+use Rattle.std.proofs.Common.{◌≡◌, ℕ, zero, suc, ◌*◌, ◌/◌, ◌%◌, ◌<◌, ◌≤◌, Bool, true, false, cond, eqb, ◌&&◌, refl, sym, ◌∙◌, subst, arith}
 use Rattle.std.specs.Int.{IsGcd}
 use Rattle.std.proofs.lemmas.Bool.{eqb-true, eq-eqb}
 use Prim.Native.Nat.{◌∣◌}
-use Rattle.std.proofs.Math.Nat.{pos_of_dvd_of_pos, one-dvd, div-mul_cancel, mul-div_cancel', mul-dvd-mul_left, le_of_mul-le-mul_left, div-le_self}
-use Rattle.std.proofs.lemmas.Nat.Gcd.{dvd_of_mod-eq-zero, mod-eq-zero_of_dvd, le_of_dvd, same_from_IsGcd}
+use Rattle.std.proofs.Math.Nat.{pos_of_dvd_of_pos, one-dvd, mul-div_cancel', mul-dvd-mul_left, le_of_mul-le-mul_left, div-le_self}
+use Rattle.std.proofs.lemmas.Nat.Gcd.{dvd_of_mod-eq-zero, mod-eq-zero_of_dvd, le_of_dvd}
 use Rattle.st_format.specs.Rate.{greatest_up_to, common_divisor}
 use Rattle.st_format.specs.Limits.{IsRate}
 use Rattle.st_format.proofs.Cells.{both}

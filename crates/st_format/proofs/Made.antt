@@ -1,5 +1,5 @@
 -- A format made again from its own fields is itself.
-use Rattle.std.proofs.Common.{◌≡◌, ℕ, ◌*◌, ◌/◌, ◌%◌, ◌<◌, ◌≤◌, Bool, true, false, cond, ltb, eqb, not, ◌||◌, refl, sym, ap, ◌∙◌, subst, arith, Result, Ok, Err}
+use Rattle.std.proofs.Common.{◌≡◌, ℕ, ◌*◌, ◌%◌, false, refl, Ok}
 use Rattle.std.proofs.lemmas.Bool.{le-ltb, eq-eqb}
 use Rattle.std.proofs.Math.Nat.{div-one}
 use Rattle.st_format.specs.declared.format.Sampling.{Sampling}
@@ -7,8 +7,7 @@ use Rattle.st_format.specs.declared.format.Depth.{Depth}
 use Rattle.st_format.specs.declared.format.Format.{Format}
 use Rattle.st_format.specs.Pgroup.{pixel_group}
 use Rattle.st_format.specs.Limits.{IsWidth, IsHeight, IsRate}
-use Rattle.st_format.specs.Rate.{common_divisor}
-use Rattle.st_format.specs.Fields.{Fields, fields_of, is_bad_width, is_bad_height, is_bad_rate, format_at}
+use Rattle.st_format.specs.Fields.{fields_of, is_bad_width, is_bad_height, is_bad_rate, format_at}
 
 good_width : (s : Sampling) (b : Depth) (w : ℕ) → IsWidth s b w → is_bad_width s b w ≡ false
 good_width s b w h = rw (le-ltb w 2 h.least, le-ltb 8192 w h.most, eq-eqb (w % 2) 0 h.even, eq-eqb (w % (pixel_group s b).pixels) 0 h.whole_groups) refl

@@ -1,5 +1,5 @@
 -- The positions of a format are the places of its sample numbers, each once.
-use Rattle.std.proofs.Common.{◌≡◌, ℕ, zero, suc, ◌+◌, ◌*◌, ◌/◌, ◌%◌, ◌<◌, ◌≤◌, ◌⊎◌, inl, inr, refl, sym, ap, ◌∙◌, subst, arith, List, [], ◌∷◌, length, get_or, map, ◌↔◌}
+use Rattle.std.proofs.Common.{◌≡◌, ℕ, zero, suc, ◌+◌, ◌*◌, ◌/◌, ◌%◌, ◌<◌, ◌≤◌, inl, inr, refl, sym, ap, ◌∙◌, subst, arith, ◌↔◌}
 use Rattle.std.specs.List.{range_with_len}
 use Rattle.std.proofs.lemmas.Nat.{mod_below, div_below, mul-add-lt}
 use Rattle.std.proofs.Math.Nat.{mul_comm}
@@ -9,7 +9,7 @@ use Rattle.st_format.specs.declared.format.Format.{Format}
 use Rattle.st_format.specs.Member.{IsMember}
 use Rattle.st_format.specs.Position.{Position, HasComponent, IsPosition, run_columns, run_samples, row_samples, sample_count, place_in_row, place, places, number_of}
 use Rattle.st_format.proofs.Members.{member-map, member_of_map}
-use Rattle.st_format.proofs.Numbering.{InRun, in_run, some_samples, some_columns, sample_of, whole_runs, number_of-place, number_of-below, place-number_of}
+use Rattle.st_format.proofs.Numbering.{InRun, in_run, some_samples, sample_of, whole_runs, number_of-place, number_of-below, place-number_of}
 
 -- runs before it change no component
 moved : (s : Sampling) (q column component : ℕ) → HasComponent s column component → HasComponent s (q * run_columns s + column) component
