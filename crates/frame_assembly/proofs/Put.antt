@@ -1,5 +1,5 @@
 -- What writing a segment's octets does to the cells.
-use Rattle.std.proofs.Common.{◌≡◌, ℕ, zero, suc, ◌+◌, ◌*◌, ◌/◌, ◌%◌, ◌<◌, ◌≤◌, List, [], ◌∷◌, ◌++◌, length, get_or, set, take, drop, map, All, add-one, refl, sym, ap, ◌∙◌, subst, arith}
+use Rattle.std.proofs.Common.{◌≡◌, ℕ, ◌+◌, ◌*◌, ◌/◌, ◌%◌, ◌<◌, ◌≤◌, List, [], ◌∷◌, ◌++◌, length, get_or, set, take, drop, map, All, add-one, refl, sym, ap, ◌∙◌, arith}
 use Rattle.std.specs.List.{AllByRecursion}
 use Rattle.std.proofs.lemmas.List.{nil_from_length, drop_all, take_at}
 use Rattle.std.proofs.lemmas.List.Elements.{recursion_from_All}
@@ -13,15 +13,18 @@ use Rattle.st_format.specs.declared.format.Depth.{Depth}
 use Rattle.st_format.specs.declared.format.Depth.TheVariants.{D8}
 use Rattle.st_format.specs.declared.format.Format.{Format}
 use Rattle.st_format.specs.Samples.{values_in}
-use Rattle.st_format.specs.Position.{run_columns, run_samples, row_samples, sample_count, pixel_group, bits_of}
+use Rattle.st_format.specs.Position.{run_columns, run_samples, row_samples, sample_count}
+use Rattle.st_format.specs.Pgroup.{pixel_group, bits_of}
 use Rattle.st_format.specs.Offer.{Offer}
-use Rattle.st_format.specs.Raster.{Raster, Segment, first_number, offers_from, offers_in, offers_in_all, cells_of, joined, written_from}
+use Rattle.st_format.specs.Raster.{Raster, Segment, first_number, offers_from, offers_in, offers_in_all, cells_of, joined}
 use Rattle.st_format.proofs.Spelled.{values_in_octets}
-use Rattle.st_format.proofs.Rasters.{written_from-joined, cells_of-append, joined-assoc, joined_none, length-joined, length-cells_of}
+use Rattle.st_format.proofs.Rasters.{cells_of-append, joined-assoc, joined_none, length-joined, length-cells_of}
 use Rattle.payload_header.specs.declared.payload.Segment.{Segment as SegmentView}
 use Rattle.payload_header.specs.declared.payload.PayloadView.{PayloadView}
 use Rattle.payload_header.specs.Payload.{IsInside, seen}
 use Rattle.payload_header.specs.View.{segments_of}
+use Rattle.frame_assembly.specs.Written.{written_from}
+use Rattle.frame_assembly.proofs.WrittenLemmas.{written_from-joined}
 
 -- a segment ends in its row
 fits_row : (s : Sampling) (d : Depth) (width offset len : ℕ) → width % 2 ≡ 0 → offset % (pixel_group s d).pixels ≡ 0 → len % (pixel_group s d).octets ≡ 0
@@ -94,20 +97,21 @@ pub length_kept : (f : Format) (os : List Offer) (ts : ℕ) (cells new : List Ce
 length_kept f os ts cells new whole is = ap length is ∙ length-joined cells (cells_of f os ts) (whole ∙ sym (length-cells_of f os ts)) ∙ whole
 
 -- One octet more is one write.
-pub written_more : (k i v : ℕ) (os : List ℕ) (cells : List Cell) (new : Cell) → i < length os → v ≡ get_or os i 0 → new ≡ join (get_or cells (k + i) Missing) (Value v)
+pub written_more : (k i : ℕ) (os : List ℕ) (cells : List Cell) (new : Cell) → i < length os → new ≡ join (get_or cells (k + i) Missing) (Value (get_or os i 0))
     → written_from (k + i) (drop i os) cells ≡ written_from (k + (i + 1)) (drop (i + 1) os) (set cells (k + i) new)
 unfolding written_from
-written_more k i v os cells new lt is now =
+written_more k i os cells new lt now =
     let at : Cell = get_or cells (k + i) Missing in
     let e : k + i + 1 ≡ k + (i + 1) = omega arith in
     let split : drop i os ≡ get_or os i 0 ∷ drop (i + 1) os = rw (drop-cons os i 0 lt, add-one) refl in
     ap (λ (xs : List ℕ). written_from (k + i) xs cells) split
     ∙ ap (λ (n : ℕ). written_from n (drop (i + 1) os) (set cells (k + i) (join at (Value (get_or os i 0))))) e
-    ∙ ap (λ (c : Cell). written_from (k + (i + 1)) (drop (i + 1) os) (set cells (k + i) c)) (sym (now ∙ ap (λ (x : ℕ). join at (Value x)) is))
+    ∙ ap (λ (c : Cell). written_from (k + (i + 1)) (drop (i + 1) os) (set cells (k + i) c)) (sym now)
 
-pub written_all : (k : ℕ) (os : List ℕ) (cells : List Cell) → written_from k [] cells ≡ cells
+-- Behind the last octet nothing is left to write.
+pub written_all : (k i : ℕ) (os : List ℕ) (cells : List Cell) → length os ≤ i → written_from (k + i) (drop i os) cells ≡ cells
 unfolding written_from
-written_all k os cells = refl
+written_all k i os cells le = ap (λ (xs : List ℕ). written_from (k + i) xs cells) (drop_all i os le)
 
 abbrev pub frame_view : Format → List Cell → Raster
 frame_view f cells = record { format = f; cells = cells }

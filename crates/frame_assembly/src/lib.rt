@@ -1,7 +1,10 @@
-//! Frames that are put together from datagrams.
+//! Frames that are put together from datagrams: what is known of each sample of a raster.
 #![tactic(auto)]
 
+mod counts;
 mod frame;
+mod joining;
 
-pub use frame::{Counts, Frame};
+pub use counts::Counts;
+pub use frame::Frame;
 pub use st_format::Cell;

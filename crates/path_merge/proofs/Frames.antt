@@ -1,7 +1,7 @@
--- The frames of a list of datagrams and one more.
-use Rattle.std.proofs.Common.{◌≡◌, ℕ, zero, suc, ◌+◌, Bool, true, false, cond, eqb, ◌&&◌, List, [], ◌∷◌, ◌++◌, length, map, replicate, Option, Result, Ok, Err, refl, sym, ap, ◌∙◌, subst, append_assoc, arith}
+-- The frames of lists of datagrams.
+use Rattle.std.proofs.Common.{◌≡◌, ℕ, zero, suc, ◌+◌, List, [], ◌∷◌, ◌++◌, map, replicate, Option, refl, ap, ◌∙◌}
 use Rattle.std.specs.List.{flat_map, filter, range_with_len}
-use Rattle.std.proofs.lemmas.Bool.{eqb-true, eqb-false, eq-eqb, ne_eqb}
+use Rattle.std.proofs.lemmas.Bool.{ne_eqb}
 use Rattle.std.proofs.lemmas.List.{append-nil}
 use Rattle.std.proofs.lemmas.List.Concat.{flat_map-append}
 use Rattle.std.proofs.lemmas.List.Elements.{filter-append}
@@ -10,14 +10,16 @@ use Rattle.st_format.specs.declared.cell.Cell.TheVariants.{Missing}
 use Rattle.st_format.specs.declared.format.Format.{Format}
 use Rattle.st_format.specs.Cell.{cell_of_values}
 use Rattle.st_format.specs.Member.{SameMembers}
-use Rattle.st_format.specs.Position.{Position, place, places, sample_count, bits_of}
+use Rattle.st_format.specs.Position.{Position, place, places, sample_count}
+use Rattle.st_format.specs.Pgroup.{bits_of}
 use Rattle.st_format.specs.Samples.{values_in}
-use Rattle.st_format.specs.Offer.{Offer, is_for, values_for, cell_of}
-use Rattle.st_format.specs.Raster.{Raster, Segment, raster_of, cells_of, joined, offers_from, offers_in, offers_in_all, first_number, blank}
+use Rattle.st_format.specs.Offer.{Offer, is_for, cell_of}
+use Rattle.st_format.specs.Raster.{Raster, Segment, raster_of, cells_of, offers_from, offers_in, offers_in_all, first_number, blank}
 use Rattle.st_format.proofs.Members.{SameMembers-flat_map}
-use Rattle.st_format.proofs.Rasters.{cells_of-append, cells_of-same, map_same, length-places}
-use Rattle.path_merge.specs.declared.admitting.Refusal.{Refusal}
-use Rattle.path_merge.specs.Datagram.{Opening, Datagram, offers, offers_of, frames_of, joined_frames, admitted_at}
+use Rattle.st_format.proofs.Rasters.{cells_of-append, cells_of-same, map_same}
+use Rattle.path_merge.specs.Opening.{Opening}
+use Rattle.path_merge.specs.Offers.{offers}
+use Rattle.path_merge.specs.Frames.{frames_of, joined_frames}
 
 -- ---- offers at another timestamp
 
@@ -32,72 +34,32 @@ none_in_all f ts other p (s ∷ ss) ne =
     ∙ ap (λ (xs : List Offer). xs ++ filter (is_for ts p) (offers_in_all f other ss)) (none_from f ts other (first_number f s) p (values_in (bits_of f.depth) s.octets) ne)
     ∙ none_in_all f ts other p ss ne
 
--- they leave the cells
 cell_kept : (xs ys : List Offer) (ts : ℕ) (p : Position) → filter (is_for ts p) ys ≡ [] → cell_of (xs ++ ys) ts p ≡ cell_of xs ts p
 cell_kept xs ys ts p none =
     ap (λ (os : List Offer). cell_of_values (map (λ o. o.value) os)) (filter-append (is_for ts p) xs ys ∙ ap (λ (zs : List Offer). filter (is_for ts p) xs ++ zs) none ∙ append-nil (filter (is_for ts p) xs))
 
-cells_kept : (f : Format) (xs : List Offer) (ts other : ℕ) (ss : List Segment) → (other ≡ ts → ⊥) → cells_of f (xs ++ offers_in_all f other ss) ts ≡ cells_of f xs ts
+-- Offers at another timestamp leave the cells.
+pub cells_kept : (f : Format) (xs : List Offer) (ts other : ℕ) (ss : List Segment) → (other ≡ ts → ⊥) → cells_of f (xs ++ offers_in_all f other ss) ts ≡ cells_of f xs ts
 cells_kept f xs ts other ss ne =
     map_same (cell_of (xs ++ offers_in_all f other ss) ts) (cell_of xs ts) (places f) (λ p. cell_kept xs (offers_in_all f other ss) ts p (none_in_all f ts other p ss ne))
 
--- ---- one datagram more
+-- ---- a blank frame
 
 abbrev raster_with : Format → List Cell → Raster
 raster_with f cells = record { format = f; cells = cells }
 
-offers_more : (o : Opening) (ds : List (List ℕ)) (d : List ℕ) → flat_map (offers o) (ds ++ d ∷ []) ≡ flat_map (offers o) ds ++ offers o d
-offers_more o ds d = flat_map-append (offers o) ds (d ∷ []) ∙ ap (λ (os : List Offer). flat_map (offers o) ds ++ os) (append-nil (offers o d))
-
 abbrev pub opened : Format → ℕ → Option ℕ → ℕ → Opening
 opened f pt ssrc ts = record { format = f; payload_type = pt; ssrc = ssrc; window = ts ∷ [] }
-
-pub holds_refused : (f : Format) (pt : ℕ) (ssrc : Option ℕ) (ts : ℕ) (ds : List (List ℕ)) (d : List ℕ) (e : Refusal) (frames : List Raster)
-    → admitted_at f pt ssrc d ≡ Err e → frames ≡ frames_of (opened f pt ssrc ts) ds → frames ≡ frames_of (opened f pt ssrc ts) (ds ++ d ∷ [])
-holds_refused f pt ssrc ts ds d e frames refused holds =
-    let o : Opening = opened f pt ssrc ts in
-    let same : flat_map (offers o) (ds ++ d ∷ []) ≡ flat_map (offers o) ds =
-        offers_more o ds d ∙ ap (λ (r : Result Datagram Refusal). flat_map (offers o) ds ++ offers_of f r) refused ∙ append-nil (flat_map (offers o) ds) in
-    holds ∙ ap (λ (os : List Offer). raster_of f os ts ∷ []) (sym same)
-
-pub holds_outside : (f : Format) (pt : ℕ) (ssrc : Option ℕ) (ts : ℕ) (ds : List (List ℕ)) (d : List ℕ) (a : Datagram) (frames : List Raster)
-    → admitted_at f pt ssrc d ≡ Ok a → (a.timestamp ≡ ts → ⊥) → frames ≡ frames_of (opened f pt ssrc ts) ds → frames ≡ frames_of (opened f pt ssrc ts) (ds ++ d ∷ [])
-holds_outside f pt ssrc ts ds d a frames read ne holds =
-    let o : Opening = opened f pt ssrc ts in
-    let all : flat_map (offers o) (ds ++ d ∷ []) ≡ flat_map (offers o) ds ++ offers_in_all f a.timestamp a.segments =
-        offers_more o ds d ∙ ap (λ (r : Result Datagram Refusal). flat_map (offers o) ds ++ offers_of f r) read in
-    let same : cells_of f (flat_map (offers o) (ds ++ d ∷ [])) ts ≡ cells_of f (flat_map (offers o) ds) ts =
-        ap (λ (os : List Offer). cells_of f os ts) all ∙ cells_kept f (flat_map (offers o) ds) ts a.timestamp a.segments ne in
-    holds ∙ ap (λ (cs : List Cell). raster_with f cs ∷ []) (sym same)
-
-pub holds_kept : (f : Format) (pt : ℕ) (ssrc : Option ℕ) (ts : ℕ) (ds : List (List ℕ)) (d : List ℕ) (a : Datagram) (old new : Raster)
-    → admitted_at f pt ssrc d ≡ Ok a → a.timestamp ≡ ts → old.format ≡ f → new.format ≡ old.format
-    → new.cells ≡ joined old.cells (cells_of old.format (offers_in_all old.format ts a.segments) ts)
-    → old ∷ [] ≡ frames_of (opened f pt ssrc ts) ds → new ∷ [] ≡ frames_of (opened f pt ssrc ts) (ds ++ d ∷ [])
-holds_kept f pt ssrc ts ds d a old new read at is_f kept joins holds =
-    let o : Opening = opened f pt ssrc ts in
-    let xs : List Offer = flat_map (offers o) ds in
-    let ys : List Offer = offers_in_all f ts a.segments in
-    let all : flat_map (offers o) (ds ++ d ∷ []) ≡ xs ++ ys =
-        offers_more o ds d ∙ ap (λ (r : Result Datagram Refusal). xs ++ offers_of f r) read ∙ ap (λ (t : ℕ). xs ++ offers_in_all f t a.segments) at in
-    let before : old ≡ raster_of f xs ts = cc in
-    let cells : new.cells ≡ joined (cells_of f xs ts) (cells_of f ys ts) =
-        joins ∙ ap (λ (g : Format). joined old.cells (cells_of g (offers_in_all g ts a.segments) ts)) is_f
-        ∙ ap (λ (r : Raster). joined r.cells (cells_of f ys ts)) before in
-    let after : new.cells ≡ cells_of f (flat_map (offers o) (ds ++ d ∷ [])) ts =
-        cells ∙ sym (cells_of-append f xs ys ts) ∙ ap (λ (os : List Offer). cells_of f os ts) (sym all) in
-    ap (λ (g : Format). raster_with g new.cells ∷ []) (kept ∙ is_f) ∙ ap (λ (cs : List Cell). raster_with f cs ∷ []) after
-
--- ---- a blank frame
 
 blank_cells : (f : Format) (ts n k : ℕ) → replicate n Missing ≡ map (cell_of [] ts) (map (place f) (range_with_len k n))
 blank_cells f ts zero k = refl
 blank_cells f ts (suc n) k = ap (λ (cs : List Cell). Missing ∷ cs) (blank_cells f ts n (k + 1))
 
+-- A receiver that has taken nothing holds the frames of nothing.
 pub holds_nothing : (f : Format) (pt : ℕ) (ssrc : Option ℕ) (ts : ℕ) → blank f ∷ [] ≡ frames_of (opened f pt ssrc ts) []
 holds_nothing f pt ssrc ts = ap (λ (cs : List Cell). raster_with f cs ∷ []) (blank_cells f ts (sample_count f) 0)
 
--- ---- the headline's first two clauses
+-- ---- lists of datagrams
 
 raster_same : (f : Format) (xs ys : List Offer) (w : List ℕ) → SameMembers xs ys → map (raster_of f xs) w ≡ map (raster_of f ys) w
 raster_same f xs ys w h = map_same (raster_of f xs) (raster_of f ys) w (λ ts. ap (raster_with f) (cells_of-same f xs ys ts h))

@@ -1,3 +1,5 @@
-pub mod Frames
-pub mod Rows
 pub mod Offered
+pub mod Answered
+pub mod Frames
+pub mod Joined
+pub mod Rows

@@ -1,45 +1,61 @@
--- What is offered, by the grammar.
-use Rattle.std.proofs.Common.{◌≡◌, ℕ, zero, suc, ◌+◌, ◌*◌, ◌<◌, Bool, true, false, cond, not, eqb, List, [], ◌∷◌, ◌++◌, get_or, Option, Result, Ok, Err, refl, sym, ap, ◌∙◌, subst, arith}
+-- What is admitted and offered, by the grammar.
+use Rattle.std.proofs.Common.{◌≡◌, ℕ, zero, suc, ◌<◌, Bool, true, false, cond, not, eqb, List, [], ◌∷◌, ◌++◌, Option, Some, None, Result, Ok, Err, refl, ap, ◌∙◌, subst, arith}
 use Rattle.std.specs.List.{AllByRecursion}
 use Rattle.std.proofs.lemmas.Bool.{eqb-true, eq-eqb}
-use Rattle.st_format.specs.declared.format.Format.{Format}
 use Rattle.st_format.specs.Raster.{Segment, offers_in_all}
 use Rattle.payload_header.specs.declared.payload.PayloadFault.{PayloadFault}
 use Rattle.payload_header.specs.Reading.{payload_at}
 use Rattle.payload_header.proofs.Taken.{IsBytes, payload_takes}
 use Rattle.payload_header.proofs.Again.{payload_again}
 use Rattle.rtp_header.specs.declared.header.RtpFault.{RtpFault}
-use Rattle.path_merge.specs.declared.admitting.Refusal.{Refusal}
-use Rattle.path_merge.specs.declared.admitting.Refusal.TheVariants.{WrongPayloadType, WrongSource}
-use Rattle.rtp_header.specs.Header.{Rtp, rtp_at, fixed_text, IsRtp}
-use Rattle.path_merge.specs.Datagram.{Opening, Datagram, IsDatagram, IsFor, ◌>>=◌, by_header, by_payload, checked, is_other, admitted_at, offers, offers_of}
-use Rattle.rtp_header.proofs.HeaderTaken.{rtp_takes}
-use Rattle.rtp_header.proofs.HeaderAgain.{rtp_again}
+use Rattle.rtp_header.specs.Grammar.{Rtp, fixed_text, IsRtp}
+use Rattle.rtp_header.specs.Reading.{rtp_at}
+use Rattle.rtp_header.proofs.Taken.{rtp_takes}
+use Rattle.rtp_header.proofs.Again.{rtp_again}
+use Rattle.path_merge.specs.declared.answer.Refusal.{Refusal}
+use Rattle.path_merge.specs.declared.answer.Refusal.TheVariants.{WrongPayloadType, WrongSource}
+use Rattle.path_merge.specs.Opening.{Opening, IsSource}
+use Rattle.path_merge.specs.Grammar.{Datagram, IsDatagram, IsFor, header_with}
+use Rattle.path_merge.specs.Admission.{◌>>=◌, by_header, by_payload, checked, is_other, datagram_with, admitted_at}
+use Rattle.path_merge.specs.Offers.{offers, offers_of}
 
-abbrev told : ℕ → ℕ → List Segment → Datagram
-told ts n ss = record { timestamp = ts; number = n; segments = ss }
+-- ---- the test of the source says what its words say
+
+source_from : (pinned : Option ℕ) (ssrc : ℕ) → is_other pinned ssrc ≡ false → IsSource pinned ssrc
+source_from None ssrc h = tt
+source_from (Some p) ssrc h = pinned_from p ssrc (eqb p ssrc) refl h
+  where
+    pinned_from : (p ssrc : ℕ) (b : Bool) → eqb p ssrc ≡ b → not b ≡ false → p ≡ ssrc
+    pinned_from p ssrc true e h = eqb-true p ssrc e
+    pinned_from p ssrc false e h = absurd cc
+
+source_again : (pinned : Option ℕ) (ssrc : ℕ) → IsSource pinned ssrc → is_other pinned ssrc ≡ false
+source_again None ssrc h = refl
+source_again (Some p) ssrc h = ap not (eq-eqb p ssrc h)
+
+-- ---- what is in the grammar is admitted
 
 abbrev by_rtp : Rtp → ℕ × List Segment → Result Datagram Refusal
-by_rtp r p = Ok (told r.timestamp (65536 * p.0 + r.sequence) p.1)
+by_rtp r p = Ok (datagram_with r p)
 
+abbrev numbered : Datagram → ℕ → Datagram
+numbered d n = record { payload_type = d.payload_type; number = n; timestamp = d.timestamp; ssrc = d.ssrc; marker = d.marker; segments = d.segments }
+
+-- A datagram for a receiver is admitted, and says what the grammar reads.
 pub admitted_for : (o : Opening) (octets : List ℕ) (d : Datagram) → IsFor o octets d → admitted_at o.format o.payload_type o.ssrc octets ≡ Ok d
 unfolding admitted_at
 admitted_for o octets d f =
     let is = f.is in
-    let r : Rtp = is.header in
-    let same : eqb r.payload_type o.payload_type ≡ true = eq-eqb r.payload_type o.payload_type is.type_is in
-    let source : is_other o.ssrc r.ssrc ≡ false = ap (is_other o.ssrc) is.ssrc_is ∙ f.source in
+    let r : Rtp = header_with d is.sequence is.payload in
     let pass : checked o.payload_type o.ssrc r ≡ Ok r =
-        ap (λ (b : Bool). cond (not b) (Err WrongPayloadType) (cond (is_other o.ssrc r.ssrc) (Err WrongSource) (Ok r))) same ∙ ap (λ (b : Bool). cond b (Err WrongSource) (Ok r)) source in
+    ap (λ (b : Bool). cond (not b) (Err WrongPayloadType) (cond (is_other o.ssrc r.ssrc) (Err WrongSource) (Ok r))) (eq-eqb d.payload_type o.payload_type f.type_is)
+    ∙ ap (λ (b : Bool). cond b (Err WrongSource) (Ok r)) (source_again o.ssrc d.ssrc f.source) in
     ap (λ (x : Result Rtp RtpFault). by_header x >>= λ q. checked o.payload_type o.ssrc q >>= λ w. by_payload (payload_at o.format w.payload) >>= by_rtp w) (rtp_again r octets is.is_header)
     ∙ ap (λ (x : Result Rtp Refusal). x >>= λ w. by_payload (payload_at o.format w.payload) >>= by_rtp w) pass
-    ∙ ap (λ (x : Result (ℕ × List Segment) PayloadFault). by_payload x >>= by_rtp r) (payload_again o.format is.extended d.segments r.payload is.is_payload)
-    ∙ ap (λ (n : ℕ). Ok (told n (65536 * is.extended + r.sequence) d.segments)) is.timestamp_is ∙ ap (λ (n : ℕ). Ok (told d.timestamp n d.segments)) is.number_is
+    ∙ ap (λ (x : Result (ℕ × List Segment) PayloadFault). by_payload x >>= by_rtp r) (payload_again o.format is.extended d.segments is.payload is.is_payload)
+    ∙ ap (λ (n : ℕ). Ok (numbered d n)) is.number_is
 
-pub offers-for : (o : Opening) (octets : List ℕ) (d : Datagram) → IsFor o octets d → offers o octets ≡ offers_in_all o.format d.timestamp d.segments
-offers-for o octets d f = ap (offers_of o.format) (admitted_for o octets d f)
-
--- ---- nothing else
+-- ---- what is admitted is in the grammar
 
 bytes_of : (bs : List ℕ) → AllByRecursion (λ v. v < 256) bs → IsBytes bs
 bytes_of [] h i = omega arith
@@ -65,31 +81,49 @@ payload_bytes r octets fit is =
     let c = all_right is.extension (r.payload ++ is.padding) b in
     bytes_of r.payload (all_left r.payload is.padding c)
 
-nothing_payload : (o : Opening) (octets : List ℕ) (r : Rtp) (p : Result (ℕ × List Segment) PayloadFault) → IsRtp r octets → IsBytes r.payload → r.payload_type ≡ o.payload_type → is_other o.ssrc r.ssrc ≡ false
-    → payload_at o.format r.payload ≡ p → ((d : Datagram) → IsFor o octets d → ⊥) → offers_of o.format (by_payload p >>= by_rtp r) ≡ []
-nothing_payload o octets r (Err e) is bytes pt source read none = refl
-nothing_payload o octets r (Ok p) is bytes pt source read none =
-    let d : Datagram = told r.timestamp (65536 * p.0 + r.sequence) p.1 in
-    let one : IsDatagram o.format octets o.payload_type r.ssrc d = record {
-      header = r; extended = p.0; is_header = is; is_payload = payload_takes o.format r.payload p bytes read;
-      type_is = pt; ssrc_is = refl; timestamp_is = refl; number_is = refl;
+same_ok : {X : Type 0} (x y : X) → (let r : Result X Refusal = Ok x in r ≡ Ok y) → x ≡ y
+same_ok x y h = cc
+
+takes_payload : (o : Opening) (octets : List ℕ) (r : Rtp) (p : Result (ℕ × List Segment) PayloadFault) (d : Datagram) → IsRtp r octets → IsBytes r.payload → r.payload_type ≡ o.payload_type → is_other o.ssrc r.ssrc ≡ false
+    → payload_at o.format r.payload ≡ p → (by_payload p >>= by_rtp r) ≡ Ok d → IsFor o octets d
+takes_payload o octets r (Err e) d is bytes pt source read h = absurd cc
+takes_payload o octets r (Ok p) d is bytes pt source read h =
+    let one : IsDatagram o.format octets (datagram_with r p) = record {
+      sequence = r.sequence;
+      extended = p.0;
+      payload = r.payload;
+      is_header = is;
+      is_payload = payload_takes o.format r.payload p bytes read;
+      number_is = refl;
     } in
-    absurd (none d (record { ssrc = r.ssrc; is = one; source = source }))
+    subst (λ (x : Datagram). IsFor o octets x) (same_ok (datagram_with r p) d h) (record { is = one; type_is = pt; source = source_from o.ssrc r.ssrc source })
 
-nothing_checked : (o : Opening) (octets : List ℕ) (r : Rtp) (t s : Bool) → IsRtp r octets → IsBytes r.payload → eqb r.payload_type o.payload_type ≡ t → is_other o.ssrc r.ssrc ≡ s
-    → ((d : Datagram) → IsFor o octets d → ⊥)
-    → offers_of o.format (cond (not t) (Err WrongPayloadType) (cond s (Err WrongSource) (Ok r)) >>= λ w. by_payload (payload_at o.format w.payload) >>= by_rtp w) ≡ []
-nothing_checked o octets r false s is bytes e f none = refl
-nothing_checked o octets r true true is bytes e f none = refl
-nothing_checked o octets r true false is bytes e f none = nothing_payload o octets r (payload_at o.format r.payload) is bytes (eqb-true r.payload_type o.payload_type e) f refl none
+takes_checked : (o : Opening) (octets : List ℕ) (r : Rtp) (t s : Bool) (d : Datagram) → IsRtp r octets → IsBytes r.payload → eqb r.payload_type o.payload_type ≡ t → is_other o.ssrc r.ssrc ≡ s
+    → (cond (not t) (Err WrongPayloadType) (cond s (Err WrongSource) (Ok r)) >>= λ w. by_payload (payload_at o.format w.payload) >>= by_rtp w) ≡ Ok d → IsFor o octets d
+takes_checked o octets r false s d is bytes e f h = absurd cc
+takes_checked o octets r true true d is bytes e f h = absurd cc
+takes_checked o octets r true false d is bytes e f h = takes_payload o octets r (payload_at o.format r.payload) d is bytes (eqb-true r.payload_type o.payload_type e) f refl h
 
-nothing_read : (o : Opening) (octets : List ℕ) (h : Result Rtp RtpFault) → AllByRecursion Fits octets → rtp_at octets ≡ h → ((d : Datagram) → IsFor o octets d → ⊥)
-    → offers_of o.format (by_header h >>= λ q. checked o.payload_type o.ssrc q >>= λ w. by_payload (payload_at o.format w.payload) >>= by_rtp w) ≡ []
-nothing_read o octets (Err e) fit read none = refl
-nothing_read o octets (Ok r) fit read none =
+takes_read : (o : Opening) (octets : List ℕ) (x : Result Rtp RtpFault) (d : Datagram) → AllByRecursion Fits octets → rtp_at octets ≡ x
+    → (by_header x >>= λ q. checked o.payload_type o.ssrc q >>= λ w. by_payload (payload_at o.format w.payload) >>= by_rtp w) ≡ Ok d → IsFor o octets d
+takes_read o octets (Err e) d fit read h = absurd cc
+takes_read o octets (Ok r) d fit read h =
     let is : IsRtp r octets = rtp_takes octets r (bytes_of octets fit) read in
-    nothing_checked o octets r (eqb r.payload_type o.payload_type) (is_other o.ssrc r.ssrc) is (payload_bytes r octets fit is) refl refl none
+    takes_checked o octets r (eqb r.payload_type o.payload_type) (is_other o.ssrc r.ssrc) d is (payload_bytes r octets fit is) refl refl h
+
+-- What is admitted is a datagram for the receiver.
+pub admitted_takes : (o : Opening) (octets : List ℕ) (d : Datagram) → AllByRecursion (λ v. v < 256) octets → admitted_at o.format o.payload_type o.ssrc octets ≡ Ok d → IsFor o octets d
+unfolding admitted_at
+admitted_takes o octets d fit h = takes_read o octets (rtp_at octets) d fit refl h
+
+-- ---- offers
+
+pub offers-for : (o : Opening) (octets : List ℕ) (d : Datagram) → IsFor o octets d → offers o octets ≡ offers_in_all o.format d.timestamp d.segments
+offers-for o octets d f = ap (offers_of o.format) (admitted_for o octets d f)
+
+nothing_at : (o : Opening) (octets : List ℕ) (x : Result Datagram Refusal) → AllByRecursion (λ v. v < 256) octets → admitted_at o.format o.payload_type o.ssrc octets ≡ x → ((d : Datagram) → IsFor o octets d → ⊥) → offers_of o.format x ≡ []
+nothing_at o octets (Err e) fit read none = refl
+nothing_at o octets (Ok d) fit read none = absurd (none d (admitted_takes o octets d fit read))
 
 pub offers-none : (o : Opening) (octets : List ℕ) → AllByRecursion (λ v. v < 256) octets → ((d : Datagram) → IsFor o octets d → ⊥) → offers o octets ≡ []
-unfolding admitted_at
-offers-none o octets fit none = nothing_read o octets (rtp_at octets) fit refl none
+offers-none o octets fit none = nothing_at o octets (admitted_at o.format o.payload_type o.ssrc octets) fit refl none

@@ -1,5 +1,5 @@
 -- Worked rows, by computation: what datagrams offer and the frames that follow.
-use Rattle.std.proofs.Common.{◌≡◌, ℕ, List, [], ◌∷◌, ◌++◌, None, Some, Ok, refl, lit≤}
+use Rattle.std.proofs.Common.{◌≡◌, ℕ, List, [], ◌∷◌, ◌++◌, None, refl, lit≤}
 use Rattle.st_format.specs.declared.format.Format.{Format}
 use Rattle.st_format.specs.declared.format.Sampling.TheVariants.{Ycc422}
 use Rattle.st_format.specs.declared.format.Depth.TheVariants.{D8}
@@ -7,16 +7,24 @@ use Rattle.st_format.specs.declared.cell.Cell.{Cell}
 use Rattle.st_format.specs.declared.cell.Cell.TheVariants.{Missing, Value, Contested}
 use Rattle.st_format.specs.Position.{place, place_in_row}
 use Rattle.st_format.specs.Samples.{bits, number, pieces, values_in}
-use Rattle.st_format.specs.Raster.{Raster}
 use Rattle.payload_header.specs.Reading.{header_of, headers_at, payload_at}
-use Rattle.rtp_header.specs.Header.{rtp_at}
-use Rattle.path_merge.specs.Datagram.{Opening, admitted_at, frames_of}
+use Rattle.rtp_header.specs.Reading.{rtp_at}
+use Rattle.path_merge.specs.Opening.{Opening}
+use Rattle.path_merge.specs.Admission.{admitted_at}
+use Rattle.path_merge.specs.Frames.{frames_of}
 
 abbrev f1 : Format
-f1 = record { sampling = Ycc422; depth = D8; width = 4; height = 2; n = 60; d = 1;
-    whole_width = record { least = lit≤ tt; most = lit≤ tt; even = refl };
-    whole_height = record { least = lit≤ tt; most = lit≤ tt };
-    sane_rate = record { some_n = lit≤ tt; most_n = lit≤ tt; some_d = lit≤ tt; most_d = lit≤ tt; at_least_one = lit≤ tt; at_most_300 = lit≤ tt } }
+f1 = record {
+  sampling = Ycc422;
+  depth = D8;
+  width = 4;
+  height = 2;
+  n = 60;
+  d = 1;
+  whole_width = record { least = lit≤ tt; most = lit≤ tt; even = refl };
+  whole_height = record { least = lit≤ tt; most = lit≤ tt };
+  sane_rate = record { some_n = lit≤ tt; most_n = lit≤ tt; some_d = lit≤ tt; most_d = lit≤ tt; at_least_one = lit≤ tt; at_most_300 = lit≤ tt };
+}
 
 abbrev opening : Opening
 opening = record { format = f1; payload_type = 96; ssrc = None; window = 900 ∷ [] }

@@ -1,1 +1,6 @@
-pub mod Datagram
+pub mod Opening
+pub mod Grammar
+pub mod Admission
+pub mod Offers
+pub mod Frames
+pub mod Answers

@@ -1,29 +1,40 @@
-//! Which datagrams are taken.
-use rtp_header::RtpFault;
-use payload_header::{PayloadFault, PayloadView};
+//! Which datagrams are for a receiver.
+ghost use Rattle.std.specs.Prelude.{◌≡◌, IfOk};
+ghost use Rattle.path_merge.specs.Admission.{Gives, admitted_at, datagram_of};
 
-/// Why a datagram was refused.
-#[derive(Clone, Copy, Debug, PartialEq, Eq)]
-pub enum Refusal {
-    Header(RtpFault),
-    WrongPayloadType,
-    WrongSource,
-    Payload(PayloadFault),
-}
+use crate::answer::Refusal;
+use payload_header::{PayloadView, read_payload};
+use rtp_header::{RtpView, read_rtp};
+use st_format::Format;
 
-/// What became of a datagram.
-#[derive(Clone, Copy, Debug, PartialEq, Eq)]
-pub enum Taken {
-    /// Its packet number.
-    Kept(u32),
-    /// Its timestamp isn't in the window.
-    Outside,
-}
-
-/// A datagram that is not refused.
+/// A datagram that is not refused: its header, and its payload.
 #[derive(Drop)]
 pub struct Admitted<'a> {
-    pub timestamp: u32,
-    pub number: u32,
-    pub view: PayloadView<'a>,
+    pub header: RtpView<'a>,
+    pub payload: PayloadView<'a>,
+}
+
+/// What a datagram says to a receiver of this format, payload type and pinned source, or the first
+/// refusal.
+#[tactic(auto, unfolding(crate::specs::Admission::admitted_at))]
+pub fn admit<'a>(
+    format: &Format,
+    payload_type: u8,
+    ssrc: Option<u32>,
+    octets: &'a [u8],
+) -> Result<Admitted<'a>, Refusal>
+    ensures exact { Gives datagram_of result (admitted_at format.now payload_type ssrc octets.now) }
+    ensures format { IfOk result (λ a. a.payload.format ≡ format.now) }
+{
+    let header = read_rtp(octets)?;
+    if header.payload_type != payload_type {
+        return Err(Refusal::WrongPayloadType);
+    }
+    if let Some(pinned) = ssrc
+        && pinned != header.ssrc
+    {
+        return Err(Refusal::WrongSource);
+    }
+    let payload = read_payload(format, header.payload)?;
+    Ok(Admitted { header, payload })
 }

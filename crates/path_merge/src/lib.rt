@@ -1,9 +1,11 @@
-//! A receiver of two redundant paths.
+//! A receiver of one stream of datagrams by two redundant paths (SMPTE ST 2022-7): it holds the cells of
+//! all offers that it took, whatever their order, their paths and their repeats.
 #![tactic(auto)]
 
 mod admitting;
+mod answer;
 pub mod laws;
 mod receiver;
 
-pub use admitting::{Refusal, Taken};
+pub use answer::{Refusal, Taken};
 pub use receiver::{OpenFault, Receiver};

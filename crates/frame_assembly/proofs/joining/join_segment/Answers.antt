@@ -1,10 +1,9 @@
-use Rattle.std.proofs.Common.{◌≡◌, ℕ, zero, suc, ◌+◌, ◌<◌, ◌≤◌, Bool, true, false, eqb, List, [], length, sym, ◌∙◌, ap, subst, arith}
+use Rattle.std.proofs.Common.{◌≡◌, ℕ, ◌<◌, false, eqb, length, sym, ◌∙◌, ap, arith}
 use Rattle.std.proofs.lemmas.Bool.{eqb-true, eqb-false}
-use Rattle.st_format.specs.declared.cell.Cell.{Cell}
-use Rattle.st_format.specs.Raster.{Segment, written_from}
+use Rattle.frame_assembly.specs.Written.{written_from}
 use Rattle.payload_header.specs.Payload.{seen, IsInside}
 use Rattle.frame_assembly.proofs.Put.{no_octets, segment_written, segment_ends, offset_below}
-use Rattle.frame_assembly.proofs.frame.join_segment.Goals as goal
+use Rattle.frame_assembly.proofs.joining.join_segment.Goals as goal
 
 some : (n : ℕ) → false ≡ eqb n 0 → 0 < n
 some n h = let ne : n ≡ 0 → ⊥ = eqb-false n 0 (sym h) in omega arith
@@ -18,8 +17,8 @@ samples_before-start-requires c =
     let inside : IsInside c.args.format.now (seen c.args.segment.now) = c.requires.inside has in
     record { row = inside.row; column = offset_below c.args.format.now (seen c.args.segment.now) has inside }
 
-pub write_octets-requires : goal.write_octets-requires
-write_octets-requires c =
+pub join_octets-requires : goal.join_octets-requires
+join_octets-requires c =
     let has : 0 < length c.args.segment.now.octets.now = some (length c.args.segment.now.octets.now) c.if-is_empty.ensures in
     let inside : IsInside c.args.format.now (seen c.args.segment.now) = c.requires.inside has in
     omega (arith, segment_ends c.args.format.now (seen c.args.segment.now) inside, c.samples_before-start.ensures.value, c.requires.whole)
@@ -28,6 +27,6 @@ pub returns : goal.returns
 returns c = λ ts.
     let has : 0 < length c.args.segment.now.octets.now = some (length c.args.segment.now.octets.now) c.if-is_empty.ensures in
     let inside : IsInside c.args.format.now (seen c.args.segment.now) = c.requires.inside has in
-    c.write_octets.ensures.written
+    c.join_octets.ensures.written
     ∙ ap (λ (k : ℕ). written_from k c.args.segment.now.octets.now c.args.cells.now) c.samples_before-start.ensures.value
-    ∙ segment_written c.args.format.now ts c.args.cells.now (seen c.args.segment.now) c.requires.whole inside c.write_octets.ensures.octets
+    ∙ segment_written c.args.format.now ts c.args.cells.now (seen c.args.segment.now) c.requires.whole inside c.join_octets.ensures.octets

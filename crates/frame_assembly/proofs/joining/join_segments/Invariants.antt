@@ -2,7 +2,7 @@ use Rattle.std.proofs.Common.{◌≡◌, ℕ, drop, length, map}
 use Rattle.st_format.specs.Position.{sample_count}
 use Rattle.st_format.specs.Raster.{cells_of, joined, offers_in_all}
 use Rattle.payload_header.specs.Payload.{seen}
-use Rattle.frame_assembly.proofs.frame.join_segments.Given as goal
+use Rattle.frame_assembly.proofs.joining.join_segments.Given as goal
 
 pub record Joins (whole : Type 0) (rest : Type 0) : Type 0 where
   pub is_whole : whole

@@ -1,14 +1,13 @@
-use Rattle.std.proofs.Common.{◌≡◌, ℕ, ◌+◌, ◌<◌, List, [], drop, get_or, length, sym, ◌∙◌, ap, arith}
+use Rattle.std.proofs.Common.{[], get_or}
 use Rattle.frame_assembly.proofs.Put.{segments_more, segments_all, length_kept}
 use Rattle.st_format.specs.Raster.{offers_in}
 use Rattle.payload_header.specs.declared.payload.Segment.{Segment}
 use Rattle.payload_header.specs.Payload.{seen}
-use Rattle.frame_assembly.proofs.frame.join_segments.Goals as goal
+use Rattle.frame_assembly.proofs.joining.join_segments.Goals as goal
 
 -- what the generated goals read past the end
 abbrev blank_segment : Segment
 blank_segment = record { row = 0; offset = 0; octets = record { ref_ptr = (0, 0); now = [] } }
-
 
 pub loop-segment-preserved : goal.loop-segment-preserved
 loop-segment-preserved c = record {

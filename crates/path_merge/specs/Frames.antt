@@ -1,0 +1,51 @@
+-- What a receiver holds.
+use Rattle.std.specs.Prelude.{◌≡◌, ℕ, ◌<◌, ◌==◌, if◌then◌else◌, List, [], ◌∷◌, length, map, All, Option, Some, None}
+use Rattle.std.specs.List.{flat_map}
+use Rattle.st_format.specs.declared.cell.Cell.{Cell}
+use Rattle.st_format.specs.declared.cell.Cell.TheVariants.{Missing}
+use Rattle.st_format.specs.Position.{Position}
+use Rattle.st_format.specs.Raster.{Raster, IsWhole, raster_of, cell_at, joined}
+use Rattle.path_merge.specs.Opening.{Opening}
+use Rattle.path_merge.specs.Offers.{offers}
+
+-- Frames: of a list of datagrams, at each timestamp of the window and each position, the cell of all
+-- their offers. Neither order nor path enters (SMPTE ST 2022-7).
+abbrev pub frames_of : Opening → List (List ℕ) → List Raster
+frames_of o datagrams = map (raster_of o.format (flat_map (offers o) datagrams)) o.window
+
+-- the joins of the cells of frames, one by one (own)
+abbrev pub joined_frames : List Raster → List Raster → List Raster
+joined_frames [] qs = []
+joined_frames (r ∷ rs) [] = []
+joined_frames (r ∷ rs) (q ∷ qs) = record { format = r.format; cells = joined r.cells q.cells } ∷ joined_frames rs qs
+
+-- A receiver: what it was opened with, and its frames
+pub record State : Type 0 where
+  pub opening : Opening
+  pub frames : List Raster
+
+-- What a receiver always is: it has one frame for each timestamp of its window, each of its format and
+-- with a cell for each position; its payload type has 7 bits (RFC 3550, 5.1).
+pub record IsReceiver (s : State) : Type 0 where
+  pub payload_type : s.opening.payload_type < 128
+  pub one_each : length s.frames ≡ length s.opening.window
+  pub of_format : All (λ r. r.format ≡ s.opening.format) s.frames
+  pub whole : All IsWhole s.frames
+
+-- It holds the Frames of a list of datagrams.
+abbrev pub Holds : State → List (List ℕ) → Type 0
+Holds s datagrams = s.frames ≡ frames_of s.opening datagrams
+
+-- the frame of a timestamp, where the window has it
+abbrev pub frame_at : List ℕ → List Raster → ℕ → Option Raster
+frame_at [] rs ts = None
+frame_at (t ∷ w) [] ts = None
+frame_at (t ∷ w) (r ∷ rs) ts = if ts == t then Some r else frame_at w rs ts
+
+abbrev pub cell_if : Option Raster → Position → Cell
+cell_if None p = Missing
+cell_if (Some r) p = cell_at r p
+
+-- the cell of a timestamp and a position
+abbrev pub cell_in : State → ℕ → Position → Cell
+cell_in s ts p = cell_if (frame_at s.opening.window s.frames ts) p
