@@ -1,9 +1,9 @@
 -- What is written, with the segments' octets behind it, is in the grammar.
-use Rattle.std.proofs.Common.{◌≡◌, ℕ, zero, suc, ◌+◌, ◌*◌, ◌^◌, ◌<◌, ◌≤◌, ◌↔◌, Bool, true, false, cond, ltb, List, [], ◌∷◌, ◌++◌, length, take, drop, Option, Some, None, Result, Ok, Err, append_assoc, drop-drop, refl, sym, ap, ◌∙◌, subst, arith}
+use Rattle.std.proofs.Common.{◌≡◌, ℕ, suc, ◌+◌, ◌*◌, ◌^◌, ◌<◌, ◌≤◌, ◌↔◌, Bool, true, false, cond, ltb, List, [], ◌∷◌, ◌++◌, length, take, drop, Option, Some, None, Result, Ok, Err, append_assoc, refl, sym, ap, ◌∙◌, subst, arith}
 use Rattle.std.specs.List.{AllZip, AllByRecursion, flat_map}
 use Rattle.std.specs.Int.{w16, to_be_bytes}
 use Rattle.std.proofs.lemmas.Bool.{le-ltb}
-use Rattle.std.proofs.lemmas.List.{take_at, drop_at, length-append, length-take, append-nil}
+use Rattle.std.proofs.lemmas.List.{take_at, drop_at, length-append, append-nil}
 use Rattle.std.proofs.lemmas.List.Concat.{flat_map-cons}
 use Rattle.st_format.specs.declared.format.Format.{Format}
 use Rattle.st_format.specs.Raster.{Segment}
@@ -11,12 +11,12 @@ use Rattle.payload_header.specs.declared.payload.PayloadFault.{PayloadFault}
 use Rattle.payload_header.specs.declared.payload.PayloadFault.TheVariants.{ShortData}
 use Rattle.payload_header.specs.declared.writing.SegmentHead.{SegmentHead}
 use Rattle.payload_header.specs.Payload.{Header, HeaderFits, header_text, IsChain, IsInside, Describes, IsPayload, most_segments}
-use Rattle.payload_header.specs.Reading.{◌>>=◌, headers_fault, fault_or, segments_at, octets_of, data_at, payload_at}
+use Rattle.payload_header.specs.Reading.{◌>>=◌, headers_fault, fault_or, segments_at, octets_of, data_at}
 use Rattle.payload_header.specs.Faults.{HasHeaders}
 use Rattle.payload_header.specs.Writing.{HeadFits, header_of_head, headers_of_heads, front_text, Announces, AreHeads, data_text, AreInside, IsWholePayload}
 use Rattle.payload_header.proofs.Grammar.{octets_of-cons, all_inside}
 use Rattle.payload_header.proofs.Again.{payload_again}
-use Rattle.payload_header.proofs.Refused.{after_headers, begun_whole, with_number}
+use Rattle.payload_header.proofs.Refused.{begun_whole, with_number}
 
 -- ---- the headers of heads
 

@@ -9,7 +9,7 @@ use Rattle.payload_header.specs.declared.payload.PayloadFault.TheVariants.{Short
 use Rattle.payload_header.specs.Payload.{group_of, Header, HeaderFits, header_text, IsChain, most_segments}
 use Rattle.payload_header.specs.Reading.{octets_of}
 
--- the faults in their order
+-- the faults in their order (own)
 abbrev pub fault_number : PayloadFault → ℕ
 fault_number ShortPayloadHeader = 1
 fault_number TooManySegments = 2
@@ -20,17 +20,18 @@ fault_number RowOutside = 6
 fault_number ColumnsOutside = 7
 fault_number ShortData = 8
 
+-- numbers below 256
 abbrev pub AreOctets : List ℕ → Type 0
 AreOctets octets = (k : ℕ) → slice_index_or octets k 0 < 256
 
--- The octets are an extended number, the texts of these headers, and some more.
+-- The octets are an extended number, the texts of these headers (RFC 4175, 4.2), and some more.
 pub record BeginsWith (octets : List ℕ) (headers : List Header) (more : List ℕ) : Type 0 where
   pub extended : ℕ
   pub extended_fits : extended < 2 ^ 16
   pub headers_fit : AllByRecursion HeaderFits headers
   pub parts : octets ≡ to_be_bytes w16 extended ++ (flat_map header_text headers ++ more)
 
--- each says that another header follows
+-- each says by C that another header follows (RFC 4175, 4.2)
 abbrev pub AllGoOn : List Header → Type 0
 AllGoOn headers = AllByRecursion (λ h. h.more ≡ true) headers
 
@@ -44,7 +45,7 @@ pub record LacksHeader (octets : List ℕ) : Type 0 where
   pub few : length headers < most_segments
   pub short : length more < 6
 
--- three headers, all of which say that another follows
+-- three headers, all of which say that another follows (SMPTE ST 2110-20, 6.1)
 pub record GoesOn (octets : List ℕ) : Type 0 where
   pub headers : List Header
   pub more : List ℕ
@@ -58,7 +59,7 @@ pub record HasHeaders (octets : List ℕ) (headers : List Header) (more : List �
   pub chain : IsChain headers
   pub few : length headers ≤ most_segments
 
--- what the fields of a header can have wrong
+-- what can be wrong with the fields of a header (RFC 4175, 4.2; SMPTE ST 2110-20, 6.2)
 abbrev pub IsWrong : Format → Header → PayloadFault → Type 0
 IsWrong f h SecondField = h.second_field ≡ true
 IsWrong f h BadLength = h.octets % (group_of f).octets ≢ 0
@@ -69,7 +70,7 @@ IsWrong f h ShortPayloadHeader = ⊥
 IsWrong f h TooManySegments = ⊥
 IsWrong f h ShortData = ⊥
 
--- A header with octets has nothing wrong; one without octets may have anything.
+-- A header with octets has nothing wrong; one without octets may have anything (own).
 abbrev pub IsSound : Format → Header → Type 0
 IsSound f h = 0 < h.octets → (fault : PayloadFault) → IsWrong f h fault → ⊥
 
@@ -97,7 +98,7 @@ pub record LacksData (f : Format) (octets : List ℕ) : Type 0 where
   pub sound : AllByRecursion (IsSound f) headers
   pub short : length more < octets_of headers
 
--- why octets are refused
+-- Why octets are refused. ShortPayloadHeader also stands for less than an extended number.
 abbrev pub IsRefused : Format → List ℕ → PayloadFault → Type 0
 IsRefused f octets ShortPayloadHeader = (length octets < 2) ⊎ LacksHeader octets
 IsRefused f octets TooManySegments = GoesOn octets

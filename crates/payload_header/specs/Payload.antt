@@ -1,4 +1,5 @@
--- The grammar of a payload: what octets are a payload with these segments.
+-- The grammar of a payload: what octets are a payload with these segments (RFC 4175, 4.2 and 4.3; SMPTE
+-- ST 2110-20, 6.1 and 6.2).
 use Rattle.std.specs.Prelude.{◌≡◌, ℕ, ◌+◌, ◌*◌, ◌/◌, ◌%◌, ◌^◌, ◌<◌, ◌≤◌, Bool, true, false, if◌then◌else◌, List, [], ◌∷◌, ◌++◌, length}
 use Rattle.std.specs.List.{flat_map, AllByRecursion, AllZip}
 use Rattle.std.specs.Int.{w16, to_be_bytes}
@@ -7,17 +8,19 @@ use Rattle.st_format.specs.Pgroup.{Group, pixel_group}
 use Rattle.st_format.specs.Raster.{Segment}
 use Rattle.payload_header.specs.declared.payload.Segment.{Segment as SegmentView}
 
+-- the pixel group of a format (SMPTE ST 2110-20, 6.2)
 abbrev pub group_of : Format → Group
 group_of f = pixel_group f.sampling f.depth
 
--- A segment with octets has whole pixel groups, begins at one, and lies in the raster.
+-- A segment with octets has whole pixel groups, begins at one, and lies in the raster (RFC 4175, 4.2 and
+-- 4.3; SMPTE ST 2110-20, 6.2).
 pub record IsInside (f : Format) (s : Segment) : Type 0 where
   pub whole_groups : length s.octets % (group_of f).octets ≡ 0
   pub at_group : s.offset % (group_of f).pixels ≡ 0
   pub row : s.row < f.height
   pub columns : s.offset + length s.octets / (group_of f).octets * (group_of f).pixels ≤ f.width
 
--- The fields of a segment's header
+-- The fields of a segment's header: Length, F, row, C and Offset (RFC 4175, 4.2)
 pub record Header : Type 0 where
   pub octets : ℕ
   pub second_field : Bool
@@ -25,26 +28,28 @@ pub record Header : Type 0 where
   pub more : Bool
   pub offset : ℕ
 
+-- the fields have 16, 15 and 15 bits
 pub record HeaderFits (h : Header) : Type 0 where
   pub octets : h.octets < 2 ^ 16
   pub row : h.row < 2 ^ 15
   pub offset : h.offset < 2 ^ 15
 
--- 15 bits behind a flag
+-- 15 bits behind a flag, the highest bit of 16
 abbrev pub flagged : Bool → ℕ → List ℕ
 flagged flag n = to_be_bytes w16 ((if flag then 2 ^ 15 else 0) + n)
 
--- Length; F and row; C and Offset
+-- the six octets of a header: Length; F and row; C and Offset (RFC 4175, 4.2)
 abbrev pub header_text : Header → List ℕ
 header_text h = to_be_bytes w16 h.octets ++ flagged h.second_field h.row ++ flagged h.more h.offset
 
--- one header or more, of which all but the last say that another follows
+-- one header or more, of which all but the last say by C that another follows (RFC 4175, 4.2)
 abbrev pub IsChain : List Header → Type 0
 IsChain [] = ⊥
 IsChain (h ∷ []) = h.more ≡ false
 IsChain (h ∷ k ∷ hs) = (h.more ≡ true) × IsChain (k ∷ hs)
 
--- A header describes a segment. One without octets is free in its field, row and offset.
+-- A header describes a segment of the first field. One without octets is free in its field, row and offset
+-- (own).
 pub record Describes (f : Format) (h : Header) (s : Segment) : Type 0 where
   pub octets : h.octets ≡ length s.octets
   pub row : h.row ≡ s.row
@@ -52,11 +57,12 @@ pub record Describes (f : Format) (h : Header) (s : Segment) : Type 0 where
   pub first_field : 0 < length s.octets → h.second_field ≡ false
   pub inside : 0 < length s.octets → IsInside f s
 
--- up to this many segments
+-- up to this many segments (SMPTE ST 2110-20, 6.1)
 abbrev pub most_segments : ℕ
 most_segments = 3
 
--- The extended number, the headers, the segments' octets in the order of the headers, and any rest
+-- The extended number, the headers, the segments' octets in the order of the headers (RFC 4175, 4.2 and 4.3),
+-- and any rest (own)
 pub record IsPayload (f : Format) (extended : ℕ) (segments : List Segment) (payload : List ℕ) : Type 0 where
   pub headers : List Header
   pub rest : List ℕ

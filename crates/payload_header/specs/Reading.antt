@@ -1,4 +1,4 @@
--- A payload read from the left, with the first fault.
+-- A payload read from the left, with the first fault (RFC 4175, 4.2 and 4.3; the order of the tests is own).
 use Rattle.std.specs.Prelude.{◌≡◌, ℕ, zero, suc, ◌+◌, ◌*◌, ◌/◌, ◌%◌, ◌^◌, Bool, not, nat_lt, nat_le, ◌==◌, if◌then◌else◌, List, [], ◌∷◌, length, take, drop, sum_by, Option, Some, None, Result, Ok, Err}
 use Rattle.std.specs.Int.{w16, from_be_bytes}
 use Rattle.st_format.specs.declared.format.Format.{Format}

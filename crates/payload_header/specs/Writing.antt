@@ -1,4 +1,4 @@
--- What is written: the front of a payload, which heads announce.
+-- What is written: the front of a payload, which heads announce (RFC 4175, 4.2).
 use Rattle.std.specs.Prelude.{◌≡◌, ℕ, ◌^◌, ◌<◌, ◌≤◌, Bool, true, false, List, [], ◌∷◌, ◌++◌, length}
 use Rattle.std.specs.List.{flat_map, AllByRecursion, AllZip}
 use Rattle.std.specs.Int.{w16, to_be_bytes}
@@ -7,7 +7,7 @@ use Rattle.st_format.specs.Raster.{Segment}
 use Rattle.payload_header.specs.declared.writing.SegmentHead.{SegmentHead}
 use Rattle.payload_header.specs.Payload.{Header, header_text, IsInside, IsPayload, most_segments}
 
--- A head whose numbers fit the fields of a header: Length has 16 bits, row and Offset 15 (RFC 4175, 4)
+-- A head whose numbers fit the fields of a header: Length has 16 bits, row and Offset 15 (RFC 4175, 4.2)
 pub record HeadFits (h : SegmentHead) : Type 0 where
   pub octets : h.octets < 2 ^ 16
   pub row : h.row < 2 ^ 15
@@ -17,6 +17,7 @@ pub record HeadFits (h : SegmentHead) : Type 0 where
 abbrev pub header_of_head : Bool → SegmentHead → Header
 header_of_head more h = record { octets = h.octets; second_field = false; row = h.row; more = more; offset = h.offset }
 
+-- C is set on all but the last
 abbrev pub headers_of_heads : List SegmentHead → List Header
 headers_of_heads [] = []
 headers_of_heads (h ∷ []) = header_of_head false h ∷ []
@@ -40,7 +41,7 @@ pub record AreHeads (extended : ℕ) (heads : List SegmentHead) (segments : List
   pub fields : AllByRecursion HeadFits heads
   pub announce : AllZip Announces heads segments
 
--- the octets of segments, one after another
+-- the octets of segments, one after another (RFC 4175, 4.3)
 abbrev pub data_text : List Segment → List ℕ
 data_text segments = flat_map (λ s. s.octets) segments
 

@@ -12,11 +12,11 @@ use thiserror::Error;
 /// the faults below; a header of Length 0 passes. Last comes the data (this order is the project's own).
 #[derive(Clone, Copy, Debug, PartialEq, Eq, Error)]
 pub enum PayloadFault {
-    /// There aren't two octets of extended number, or a header isn't whole (RFC 4175, 4).
+    /// There aren't two octets of extended number, or a header isn't whole (RFC 4175, 4.2).
     #[error("ShortPayloadHeader")]
     ShortPayloadHeader = 1,
 
-    /// The third header says that another follows. RFC 4175 allows more headers; SMPTE ST 2110-20, 6.2
+    /// The third header says that another follows. RFC 4175 allows more headers; SMPTE ST 2110-20, 6.1
     /// allows three, and so does this reader: a sender of plain RFC 4175 is refused here.
     #[error("TooManySegments")]
     TooManySegments = 2,
@@ -86,7 +86,7 @@ impl<'a> Default for Segment<'a> {
 pub struct PayloadView<'a> {
     /// The format that the payload was read as.
     pub format: Format,
-    /// The high 16 bits of the packet number (RFC 4175, 4.1, Extended Sequence Number).
+    /// The high 16 bits of the packet number (RFC 4175, 4.2, Extended Sequence Number).
     pub extended: u16,
     /// One to three segments, in the order of their headers.
     pub segments: ArrayVec<Segment<'a>, 3>,

@@ -1,4 +1,4 @@
-//! Writing the front of a payload: its extended number and headers (RFC 4175, 4).
+//! Writing the front of a payload: its extended number and headers (RFC 4175, 4.2).
 ghost use Rattle.std.specs.Prelude.{◌≡◌, ◌<◌, ◌≤◌, ◌+◌, ◌*◌, ◌^◌, ◌++◌, ◌↔◌, List, length, take, drop};
 ghost use Rattle.std.specs.List.{flat_map, AllByRecursion, AllZip};
 ghost use Rattle.st_format.specs.declared.format.Format.{Format};
