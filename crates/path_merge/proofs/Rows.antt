@@ -5,6 +5,7 @@ use Rattle.st_format.specs.declared.format.Sampling.TheVariants.{Ycc422}
 use Rattle.st_format.specs.declared.format.Depth.TheVariants.{D8}
 use Rattle.st_format.specs.declared.cell.Cell.{Cell}
 use Rattle.st_format.specs.declared.cell.Cell.TheVariants.{Missing, Value, Contested}
+use Rattle.st_format.specs.Rate.{greatest_up_to, IsLowest}
 use Rattle.st_format.specs.Position.{place, place_in_row}
 use Rattle.st_format.specs.Samples.{bits, number, pieces, values_in}
 use Rattle.payload_header.specs.Reading.{header_of, headers_at, payload_at}
@@ -12,6 +13,11 @@ use Rattle.rtp_header.specs.Reading.{rtp_at}
 use Rattle.path_merge.specs.Opening.{Opening}
 use Rattle.path_merge.specs.Admission.{admitted_at}
 use Rattle.path_merge.specs.Frames.{frames_of}
+
+-- 60 / 1 is in lowest terms
+sixty : IsLowest 60 1
+unfolding greatest_up_to
+sixty = refl
 
 abbrev f1 : Format
 f1 = record {
@@ -21,9 +27,10 @@ f1 = record {
   height = 2;
   n = 60;
   d = 1;
-  whole_width = record { least = lit≤ tt; most = lit≤ tt; even = refl };
+  whole_width = record { least = lit≤ tt; most = lit≤ tt; even = refl; whole_groups = refl };
   whole_height = record { least = lit≤ tt; most = lit≤ tt };
   sane_rate = record { some_n = lit≤ tt; most_n = lit≤ tt; some_d = lit≤ tt; most_d = lit≤ tt; at_least_one = lit≤ tt; at_most_300 = lit≤ tt };
+  lowest_rate = sixty;
 }
 
 abbrev opening : Opening
