@@ -1,8 +1,8 @@
 //! Laws over the definitions alone.
-ghost use Rattle.std.specs.Prelude.{◌≡◌, ◌<◌, ℕ, List, [], ◌++◌};
-ghost use Rattle.std.specs.List.{AllByRecursion};
+ghost use Rattle.std.specs.Prelude.{◌≡◌, ℕ, List, [], ◌++◌};
 ghost use Rattle.st_format.specs.Raster.{offers_in_all};
-ghost use Rattle.st_format.specs.Member.{SameMembers};
+ghost use Rattle.st_format.specs.Member.{SameDatagrams};
+ghost use Rattle.rtp_header.specs.Grammar.{AreOctets};
 ghost use Rattle.path_merge.specs.Frames.{frames_of, joined_frames};
 ghost use Rattle.path_merge.specs.Grammar.{Datagram, IsFor};
 ghost use Rattle.path_merge.specs.Offers.{offers};
@@ -10,7 +10,7 @@ ghost use Rattle.path_merge.specs.Opening.{Opening};
 
 /// Receivers opened alike that took the same datagrams, in any order and with any repeats, hold the same frames.
 pub fn same_datagrams()
-    ensures { (o : Opening) (xs ys : List (List ℕ)) → SameMembers xs ys → frames_of o xs ≡ frames_of o ys }
+    ensures { (o : Opening) (xs ys : List (List ℕ)) → SameDatagrams xs ys → frames_of o xs ≡ frames_of o ys }
 {}
 
 /// The frames of two lists of datagrams are the joins of their frames.
@@ -25,5 +25,5 @@ pub fn offered_by_grammar()
 
 /// Octets that are no such datagram offer nothing.
 pub fn nothing_else_offered()
-    ensures { (o : Opening) (octets : List ℕ) → AllByRecursion (λ v. v < 256) octets → ((d : Datagram) → IsFor o octets d → ⊥) → offers o octets ≡ [] }
+    ensures { (o : Opening) (octets : List ℕ) → AreOctets octets → ((d : Datagram) → IsFor o octets d → ⊥) → offers o octets ≡ [] }
 {}
