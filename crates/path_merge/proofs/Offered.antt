@@ -1,5 +1,5 @@
 -- What is admitted and offered, by the grammar.
-use Rattle.std.proofs.Common.{◌≡◌, ℕ, zero, suc, ◌<◌, Bool, true, false, cond, not, eqb, List, [], ◌∷◌, ◌++◌, Option, Some, None, Result, Ok, Err, refl, ap, ◌∙◌, subst, arith}
+use Rattle.std.proofs.Common.{◌≡◌, ℕ, zero, suc, ◌<◌, Bool, true, false, cond, not, eqb, List, [], ◌∷◌, ◌++◌, Option, Some, None, Result, Ok, Err, refl, sym, ap, ◌∙◌, subst, arith}
 use Rattle.std.specs.List.{AllByRecursion}
 use Rattle.std.proofs.lemmas.Bool.{eqb-true, eq-eqb}
 use Rattle.st_format.specs.Raster.{Segment, offers_in_all}
@@ -54,6 +54,16 @@ admitted_for o octets d f =
     ∙ ap (λ (x : Result Rtp Refusal). x >>= λ w. by_payload (payload_at o.format w.payload) >>= by_rtp w) pass
     ∙ ap (λ (x : Result (ℕ × List Segment) PayloadFault). by_payload x >>= by_rtp r) (payload_again o.format is.extended d.segments is.payload is.is_payload)
     ∙ ap (λ (n : ℕ). Ok (numbered d n)) is.number_is
+
+abbrev admitted : Datagram → Result Datagram Refusal
+admitted d = Ok d
+
+same_admitted : (d e : Datagram) → admitted d ≡ admitted e → d ≡ e
+same_admitted d e h = cc
+
+-- Octets say one thing at most to a receiver.
+pub reading_is_one : (o : Opening) (octets : List ℕ) (d e : Datagram) → IsFor o octets d → IsFor o octets e → d ≡ e
+reading_is_one o octets d e f g = same_admitted d e (sym (admitted_for o octets d f) ∙ admitted_for o octets e g)
 
 -- ---- what is admitted is in the grammar
 

@@ -1,5 +1,5 @@
 -- Which refusal is told: exactly the one whose condition holds.
-use Rattle.std.proofs.Common.{◌≡◌, ℕ, ◌↔◌, Bool, true, false, cond, not, eqb, List, Option, Some, None, Result, Ok, Err, refl, sym, ap, ◌∙◌, subst}
+use Rattle.std.proofs.Common.{◌≡◌, ℕ, ◌↔◌, ◌⊎◌, inl, inr, Bool, true, false, cond, not, eqb, List, Option, Some, None, Result, Ok, Err, refl, sym, ap, ◌∙◌, subst}
 use Rattle.std.proofs.lemmas.Bool.{eqb-true, eqb-false, eq-eqb, ne_eqb, false≢true}
 use Rattle.st_format.specs.Raster.{Segment}
 use Rattle.payload_header.specs.declared.payload.PayloadFault.{PayloadFault}
@@ -15,11 +15,11 @@ use Rattle.path_merge.specs.declared.answer.Refusal.{Refusal}
 use Rattle.path_merge.specs.declared.answer.Refusal.TheVariants.{Header, WrongPayloadType, WrongSource, Payload}
 use Rattle.path_merge.specs.declared.answer.Taken.{Taken}
 use Rattle.path_merge.specs.Opening.{Opening, IsSource}
-use Rattle.path_merge.specs.Grammar.{Datagram}
+use Rattle.path_merge.specs.Grammar.{Datagram, IsFor}
 use Rattle.path_merge.specs.Refused.{IsRefused, HasOtherType, HasOtherSource, HasBadPayload}
 use Rattle.path_merge.specs.Admission.{◌>>=◌, by_header, by_payload, checked, is_other, admitted_at}
 use Rattle.path_merge.specs.Answers.{taken, taken_at}
-use Rattle.path_merge.proofs.Offered.{by_rtp, payload_octets, source_again, source_from}
+use Rattle.path_merge.proofs.Offered.{admitted_for, admitted_takes, by_rtp, payload_octets, source_again, source_from}
 
 abbrev refused : Refusal → Result Datagram Refusal
 refused e = Err e
@@ -114,3 +114,24 @@ refusal_iff o octets r fit is e = (
   λ h. refused_from o octets e fit (answer_err o (admitted_at o.format o.payload_type o.ssrc octets) e (sym is ∙ h)),
   λ has. is ∙ ap (λ (x : Result Datagram Refusal). x >>= λ d. Ok (taken o.window d)) (refused_back o octets e fit has),
 )
+
+-- ---- one or the other
+
+some_at : (o : Opening) (octets : List ℕ) (x : Result Datagram Refusal) → AreOctets octets → admitted_at o.format o.payload_type o.ssrc octets ≡ x → ((d : Datagram) × IsFor o octets d) ⊎ ((e : Refusal) × IsRefused o octets e)
+some_at o octets (Ok d) fit read = inl (d, admitted_takes o octets d fit read)
+some_at o octets (Err e) fit read = inr (e, refused_from o octets e fit read)
+
+pub datagram_or_refused : (o : Opening) (octets : List ℕ) → AreOctets octets → ((d : Datagram) × IsFor o octets d) ⊎ ((e : Refusal) × IsRefused o octets e)
+datagram_or_refused o octets fit = some_at o octets (admitted_at o.format o.payload_type o.ssrc octets) fit refl
+
+abbrev read_as : Datagram → Result Datagram Refusal
+read_as d = Ok d
+
+apart_at : (d : Datagram) (e : Refusal) → read_as d ≡ refused e → ⊥
+apart_at d e h = cc
+
+pub datagram_not_refused : (o : Opening) (octets : List ℕ) (d : Datagram) (e : Refusal) → AreOctets octets → IsFor o octets d → IsRefused o octets e → ⊥
+datagram_not_refused o octets d e fit f has = apart_at d e (sym (admitted_for o octets d f) ∙ refused_back o octets e fit has)
+
+pub refusal_is_one : (o : Opening) (octets : List ℕ) (d e : Refusal) → AreOctets octets → IsRefused o octets d → IsRefused o octets e → d ≡ e
+refusal_is_one o octets d e fit a b = same_err d e (sym (refused_back o octets d fit a) ∙ refused_back o octets e fit b)
