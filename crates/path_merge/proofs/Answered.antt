@@ -1,9 +1,10 @@
 -- Kept, outside and refused, by the grammar.
-use Rattle.std.proofs.Common.{◌≡◌, ℕ, suc, get_or, ◌<◌, inl, inr, ◌↔◌, ◌||◌, Bool, true, false, cond, eqb, List, [], ◌∷◌, Result, Ok, Err, refl, sym, ap, ◌∙◌, subst}
+use Rattle.std.proofs.Common.{◌≡◌, ℕ, inl, inr, ◌↔◌, ◌||◌, Bool, true, false, cond, eqb, List, [], ◌∷◌, Result, Ok, Err, refl, sym, ap, ◌∙◌, subst}
 use Rattle.std.specs.Prelude.{IsErr}
-use Rattle.std.specs.List.{AllByRecursion, list_any}
+use Rattle.std.specs.List.{list_any}
 use Rattle.std.proofs.lemmas.Bool.{eqb-true, eqb-false}
 use Rattle.st_format.specs.Member.{IsMember}
+use Rattle.rtp_header.specs.Grammar.{AreOctets}
 use Rattle.path_merge.specs.declared.answer.Refusal.{Refusal}
 use Rattle.path_merge.specs.declared.answer.Taken.{Taken}
 use Rattle.path_merge.specs.declared.answer.Taken.TheVariants.{Kept, Outside}
@@ -12,11 +13,6 @@ use Rattle.path_merge.specs.Grammar.{Datagram, IsFor, IsKept, IsOutside}
 use Rattle.path_merge.specs.Admission.{admitted_at, ◌>>=◌}
 use Rattle.path_merge.specs.Answers.{taken, taken_at}
 use Rattle.path_merge.proofs.Offered.{admitted_for, admitted_takes}
-
--- octets one by one
-pub bytes_from : (os : List ℕ) → ((k : ℕ) → get_or os k 0 < 256) → AllByRecursion (λ v. v < 256) os
-bytes_from [] h = tt
-bytes_from (o ∷ os) h = (h 0, bytes_from os (λ k. h (suc k)))
 
 -- ---- whether a window has a timestamp
 
@@ -66,7 +62,7 @@ taken_for o octets d f = ap (λ (x : Result Datagram Refusal). x >>= λ q. Ok (t
 
 -- ---- kept
 
-kept_from : (o : Opening) (octets : List ℕ) (x : Result Datagram Refusal) (n : ℕ) → AllByRecursion (λ v. v < 256) octets → admitted_at o.format o.payload_type o.ssrc octets ≡ x
+kept_from : (o : Opening) (octets : List ℕ) (x : Result Datagram Refusal) (n : ℕ) → AreOctets octets → admitted_at o.format o.payload_type o.ssrc octets ≡ x
     → (x >>= λ d. Ok (taken o.window d)) ≡ Ok (Kept n) → IsKept o octets n
 kept_from o octets (Err e) n fit read h = absurd cc
 kept_from o octets (Ok d) n fit read h =
@@ -81,13 +77,13 @@ kept_back o octets n k =
     ∙ ap (λ (m : ℕ). Ok (Kept m)) k.number_is
 
 -- Kept exactly where the octets are a datagram for the receiver of a timestamp of its window
-pub kept_iff : (o : Opening) (octets : List ℕ) (r : Result Taken Refusal) → AllByRecursion (λ v. v < 256) octets → r ≡ taken_at o octets → (n : ℕ) → (r ≡ Ok (Kept n)) ↔ IsKept o octets n
+pub kept_iff : (o : Opening) (octets : List ℕ) (r : Result Taken Refusal) → AreOctets octets → r ≡ taken_at o octets → (n : ℕ) → (r ≡ Ok (Kept n)) ↔ IsKept o octets n
 kept_iff o octets r fit is n =
     (λ h. kept_from o octets (admitted_at o.format o.payload_type o.ssrc octets) n fit refl (sym is ∙ h), λ k. is ∙ kept_back o octets n k)
 
 -- ---- outside
 
-outside_from : (o : Opening) (octets : List ℕ) (x : Result Datagram Refusal) → AllByRecursion (λ v. v < 256) octets → admitted_at o.format o.payload_type o.ssrc octets ≡ x
+outside_from : (o : Opening) (octets : List ℕ) (x : Result Datagram Refusal) → AreOctets octets → admitted_at o.format o.payload_type o.ssrc octets ≡ x
     → (x >>= λ d. Ok (taken o.window d)) ≡ Ok Outside → IsOutside o octets
 outside_from o octets (Err e) fit read h = absurd cc
 outside_from o octets (Ok d) fit read h =
@@ -103,13 +99,13 @@ outside_back o octets k =
     taken_for o octets d k.is_for ∙ ap (λ (b : Bool). Ok (word b d.number)) (not_any d.timestamp o.window k.outside)
 
 -- Outside exactly where they are one of another timestamp
-pub outside_iff : (o : Opening) (octets : List ℕ) (r : Result Taken Refusal) → AllByRecursion (λ v. v < 256) octets → r ≡ taken_at o octets → (r ≡ Ok Outside) ↔ IsOutside o octets
+pub outside_iff : (o : Opening) (octets : List ℕ) (r : Result Taken Refusal) → AreOctets octets → r ≡ taken_at o octets → (r ≡ Ok Outside) ↔ IsOutside o octets
 outside_iff o octets r fit is =
     (λ h. outside_from o octets (admitted_at o.format o.payload_type o.ssrc octets) fit refl (sym is ∙ h), λ k. is ∙ outside_back o octets k)
 
 -- ---- refused
 
-refused_at : (o : Opening) (octets : List ℕ) (x : Result Datagram Refusal) → AllByRecursion (λ v. v < 256) octets → admitted_at o.format o.payload_type o.ssrc octets ≡ x
+refused_at : (o : Opening) (octets : List ℕ) (x : Result Datagram Refusal) → AreOctets octets → admitted_at o.format o.payload_type o.ssrc octets ≡ x
     → ((d : Datagram) → IsFor o octets d → ⊥) → IsErr (x >>= λ d. Ok (taken o.window d))
 refused_at o octets (Err e) fit read none = refl
 refused_at o octets (Ok d) fit read none = absurd (none d (admitted_takes o octets d fit read))
@@ -121,7 +117,7 @@ not_refused : (d : Datagram) (w : List ℕ) → IsErr (told d w) → ⊥
 not_refused d w h = cc
 
 -- Refused exactly where they are no datagram for the receiver
-pub refused_iff : (o : Opening) (octets : List ℕ) (r : Result Taken Refusal) → AllByRecursion (λ v. v < 256) octets → r ≡ taken_at o octets → IsErr r ↔ ((d : Datagram) → IsFor o octets d → ⊥)
+pub refused_iff : (o : Opening) (octets : List ℕ) (r : Result Taken Refusal) → AreOctets octets → r ≡ taken_at o octets → IsErr r ↔ ((d : Datagram) → IsFor o octets d → ⊥)
 refused_iff o octets r fit is = (
   λ h. λ d f. not_refused d o.window (subst (λ (x : Result Taken Refusal). IsErr x) (is ∙ taken_for o octets d f) h),
   λ none. subst (λ (x : Result Taken Refusal). IsErr x) (sym is) (refused_at o octets (admitted_at o.format o.payload_type o.ssrc octets) fit refl none),

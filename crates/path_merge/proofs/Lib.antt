@@ -1,4 +1,5 @@
 pub mod Offered
+pub mod RefusedLemmas
 pub mod Answered
 pub mod Frames
 pub mod Joined

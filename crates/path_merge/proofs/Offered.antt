@@ -1,5 +1,5 @@
 -- What is admitted and offered, by the grammar.
-use Rattle.std.proofs.Common.{◌≡◌, ℕ, zero, suc, ◌<◌, Bool, true, false, cond, not, eqb, List, [], ◌∷◌, ◌++◌, Option, Some, None, Result, Ok, Err, refl, ap, ◌∙◌, subst, arith}
+use Rattle.std.proofs.Common.{◌≡◌, ℕ, zero, suc, ◌<◌, Bool, true, false, cond, not, eqb, List, [], ◌∷◌, ◌++◌, Option, Some, None, Result, Ok, Err, refl, sym, ap, ◌∙◌, subst, arith}
 use Rattle.std.specs.List.{AllByRecursion}
 use Rattle.std.proofs.lemmas.Bool.{eqb-true, eq-eqb}
 use Rattle.st_format.specs.Raster.{Segment, offers_in_all}
@@ -8,7 +8,7 @@ use Rattle.payload_header.specs.Reading.{payload_at}
 use Rattle.payload_header.proofs.Taken.{IsBytes, payload_takes}
 use Rattle.payload_header.proofs.Again.{payload_again}
 use Rattle.rtp_header.specs.declared.header.RtpFault.{RtpFault}
-use Rattle.rtp_header.specs.Grammar.{Rtp, fixed_text, IsRtp}
+use Rattle.rtp_header.specs.Grammar.{AreOctets, Rtp, fixed_text, IsRtp}
 use Rattle.rtp_header.specs.Reading.{rtp_at}
 use Rattle.rtp_header.proofs.Taken.{rtp_takes}
 use Rattle.rtp_header.proofs.Again.{rtp_again}
@@ -21,7 +21,7 @@ use Rattle.path_merge.specs.Offers.{offers, offers_of}
 
 -- ---- the test of the source says what its words say
 
-source_from : (pinned : Option ℕ) (ssrc : ℕ) → is_other pinned ssrc ≡ false → IsSource pinned ssrc
+pub source_from : (pinned : Option ℕ) (ssrc : ℕ) → is_other pinned ssrc ≡ false → IsSource pinned ssrc
 source_from None ssrc h = tt
 source_from (Some p) ssrc h = pinned_from p ssrc (eqb p ssrc) refl h
   where
@@ -29,13 +29,13 @@ source_from (Some p) ssrc h = pinned_from p ssrc (eqb p ssrc) refl h
     pinned_from p ssrc true e h = eqb-true p ssrc e
     pinned_from p ssrc false e h = absurd cc
 
-source_again : (pinned : Option ℕ) (ssrc : ℕ) → IsSource pinned ssrc → is_other pinned ssrc ≡ false
+pub source_again : (pinned : Option ℕ) (ssrc : ℕ) → IsSource pinned ssrc → is_other pinned ssrc ≡ false
 source_again None ssrc h = refl
 source_again (Some p) ssrc h = ap not (eq-eqb p ssrc h)
 
 -- ---- what is in the grammar is admitted
 
-abbrev by_rtp : Rtp → ℕ × List Segment → Result Datagram Refusal
+abbrev pub by_rtp : Rtp → ℕ × List Segment → Result Datagram Refusal
 by_rtp r p = Ok (datagram_with r p)
 
 abbrev numbered : Datagram → ℕ → Datagram
@@ -55,12 +55,26 @@ admitted_for o octets d f =
     ∙ ap (λ (x : Result (ℕ × List Segment) PayloadFault). by_payload x >>= by_rtp r) (payload_again o.format is.extended d.segments is.payload is.is_payload)
     ∙ ap (λ (n : ℕ). Ok (numbered d n)) is.number_is
 
+abbrev admitted : Datagram → Result Datagram Refusal
+admitted d = Ok d
+
+same_admitted : (d e : Datagram) → admitted d ≡ admitted e → d ≡ e
+same_admitted d e h = cc
+
+-- Octets say one thing at most to a receiver.
+pub reading_is_one : (o : Opening) (octets : List ℕ) (d e : Datagram) → IsFor o octets d → IsFor o octets e → d ≡ e
+reading_is_one o octets d e f g = same_admitted d e (sym (admitted_for o octets d f) ∙ admitted_for o octets e g)
+
 -- ---- what is admitted is in the grammar
 
 bytes_of : (bs : List ℕ) → AllByRecursion (λ v. v < 256) bs → IsBytes bs
 bytes_of [] h i = omega arith
 bytes_of (b ∷ bs) h zero = h.0
 bytes_of (b ∷ bs) h (suc i) = bytes_of bs h.1 i
+
+bytes_from : (bs : List ℕ) → AreOctets bs → AllByRecursion (λ v. v < 256) bs
+bytes_from [] h = tt
+bytes_from (b ∷ bs) h = (h 0, bytes_from bs (λ k. h (suc k)))
 
 abbrev Fits : ℕ → Type 0
 Fits v = v < 256
@@ -73,9 +87,10 @@ all_right : (xs ys : List ℕ) → AllByRecursion Fits (xs ++ ys) → AllByRecur
 all_right [] ys h = h
 all_right (x ∷ xs) ys h = all_right xs ys h.1
 
-payload_bytes : (r : Rtp) (octets : List ℕ) → AllByRecursion Fits octets → IsRtp r octets → IsBytes r.payload
-payload_bytes r octets fit is =
-    let whole = subst (λ (x : List ℕ). AllByRecursion Fits x) is.whole fit in
+-- the payload's are octets too
+pub payload_octets : (r : Rtp) (octets : List ℕ) → AreOctets octets → IsRtp r octets → AreOctets r.payload
+payload_octets r octets fit is =
+    let whole = subst (λ (x : List ℕ). AllByRecursion Fits x) is.whole (bytes_from octets fit) in
     let a = all_right (fixed_text is.flags r) (is.source_list ++ (is.extension ++ (r.payload ++ is.padding))) whole in
     let b = all_right is.source_list (is.extension ++ (r.payload ++ is.padding)) a in
     let c = all_right is.extension (r.payload ++ is.padding) b in
@@ -104,15 +119,15 @@ takes_checked o octets r false s d is bytes e f h = absurd cc
 takes_checked o octets r true true d is bytes e f h = absurd cc
 takes_checked o octets r true false d is bytes e f h = takes_payload o octets r (payload_at o.format r.payload) d is bytes (eqb-true r.payload_type o.payload_type e) f refl h
 
-takes_read : (o : Opening) (octets : List ℕ) (x : Result Rtp RtpFault) (d : Datagram) → AllByRecursion Fits octets → rtp_at octets ≡ x
+takes_read : (o : Opening) (octets : List ℕ) (x : Result Rtp RtpFault) (d : Datagram) → AreOctets octets → rtp_at octets ≡ x
     → (by_header x >>= λ q. checked o.payload_type o.ssrc q >>= λ w. by_payload (payload_at o.format w.payload) >>= by_rtp w) ≡ Ok d → IsFor o octets d
 takes_read o octets (Err e) d fit read h = absurd cc
 takes_read o octets (Ok r) d fit read h =
-    let is : IsRtp r octets = rtp_takes octets r (bytes_of octets fit) read in
-    takes_checked o octets r (eqb r.payload_type o.payload_type) (is_other o.ssrc r.ssrc) d is (payload_bytes r octets fit is) refl refl h
+    let is : IsRtp r octets = rtp_takes octets r fit read in
+    takes_checked o octets r (eqb r.payload_type o.payload_type) (is_other o.ssrc r.ssrc) d is (payload_octets r octets fit is) refl refl h
 
 -- What is admitted is a datagram for the receiver.
-pub admitted_takes : (o : Opening) (octets : List ℕ) (d : Datagram) → AllByRecursion (λ v. v < 256) octets → admitted_at o.format o.payload_type o.ssrc octets ≡ Ok d → IsFor o octets d
+pub admitted_takes : (o : Opening) (octets : List ℕ) (d : Datagram) → AreOctets octets → admitted_at o.format o.payload_type o.ssrc octets ≡ Ok d → IsFor o octets d
 unfolding admitted_at
 admitted_takes o octets d fit h = takes_read o octets (rtp_at octets) d fit refl h
 
@@ -121,9 +136,9 @@ admitted_takes o octets d fit h = takes_read o octets (rtp_at octets) d fit refl
 pub offers-for : (o : Opening) (octets : List ℕ) (d : Datagram) → IsFor o octets d → offers o octets ≡ offers_in_all o.format d.timestamp d.segments
 offers-for o octets d f = ap (offers_of o.format) (admitted_for o octets d f)
 
-nothing_at : (o : Opening) (octets : List ℕ) (x : Result Datagram Refusal) → AllByRecursion (λ v. v < 256) octets → admitted_at o.format o.payload_type o.ssrc octets ≡ x → ((d : Datagram) → IsFor o octets d → ⊥) → offers_of o.format x ≡ []
+nothing_at : (o : Opening) (octets : List ℕ) (x : Result Datagram Refusal) → AreOctets octets → admitted_at o.format o.payload_type o.ssrc octets ≡ x → ((d : Datagram) → IsFor o octets d → ⊥) → offers_of o.format x ≡ []
 nothing_at o octets (Err e) fit read none = refl
 nothing_at o octets (Ok d) fit read none = absurd (none d (admitted_takes o octets d fit read))
 
-pub offers-none : (o : Opening) (octets : List ℕ) → AllByRecursion (λ v. v < 256) octets → ((d : Datagram) → IsFor o octets d → ⊥) → offers o octets ≡ []
+pub offers-none : (o : Opening) (octets : List ℕ) → AreOctets octets → ((d : Datagram) → IsFor o octets d → ⊥) → offers o octets ≡ []
 offers-none o octets fit none = nothing_at o octets (admitted_at o.format o.payload_type o.ssrc octets) fit refl none

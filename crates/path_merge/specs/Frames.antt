@@ -4,7 +4,7 @@ use Rattle.std.specs.List.{flat_map}
 use Rattle.st_format.specs.declared.cell.Cell.{Cell}
 use Rattle.st_format.specs.declared.cell.Cell.TheVariants.{Missing}
 use Rattle.st_format.specs.Position.{Position}
-use Rattle.st_format.specs.Raster.{Raster, IsWhole, raster_of, cell_at, joined}
+use Rattle.st_format.specs.Raster.{Raster, IsWhole, raster_of, cell_at, joined_rasters}
 use Rattle.path_merge.specs.Opening.{Opening}
 use Rattle.path_merge.specs.Offers.{offers}
 
@@ -17,7 +17,7 @@ frames_of o datagrams = map (raster_of o.format (flat_map (offers o) datagrams))
 abbrev pub joined_frames : List Raster → List Raster → List Raster
 joined_frames [] qs = []
 joined_frames (r ∷ rs) [] = []
-joined_frames (r ∷ rs) (q ∷ qs) = record { format = r.format; cells = joined r.cells q.cells } ∷ joined_frames rs qs
+joined_frames (r ∷ rs) (q ∷ qs) = joined_rasters r q ∷ joined_frames rs qs
 
 -- A receiver: what it was opened with, and its frames
 pub record State : Type 0 where

@@ -1,5 +1,6 @@
 pub mod Opening
 pub mod Grammar
+pub mod Refused
 pub mod Admission
 pub mod Offers
 pub mod Frames

@@ -1,14 +1,17 @@
-//! Laws over the definitions alone.
-ghost use Rattle.std.specs.Prelude.{◌≡◌, ◌<◌, ℕ, List, [], ◌++◌};
-ghost use Rattle.std.specs.List.{AllByRecursion};
+//! Laws over the definitions alone. Each is the contract of a function that does nothing.
+ghost use Rattle.std.specs.Prelude.{◌≡◌, ◌⊎◌, ℕ, List, [], ◌++◌};
 ghost use Rattle.st_format.specs.Raster.{offers_in_all};
 ghost use Rattle.st_format.specs.Member.{SameDatagrams};
+ghost use Rattle.rtp_header.specs.Grammar.{AreOctets};
 ghost use Rattle.path_merge.specs.Frames.{frames_of, joined_frames};
 ghost use Rattle.path_merge.specs.Grammar.{Datagram, IsFor};
 ghost use Rattle.path_merge.specs.Offers.{offers};
 ghost use Rattle.path_merge.specs.Opening.{Opening};
+ghost use Rattle.path_merge.specs.Refused.{IsRefused};
+ghost use Rattle.path_merge.specs.declared.answer.Refusal.{Refusal};
 
-/// Receivers opened alike that took the same datagrams, in any order and with any repeats, hold the same frames.
+/// Receivers opened alike that took the same datagrams, by either path, in any order and with any repeats,
+/// hold the same frames (SMPTE ST 2022-7): Frames depends on which datagrams there are, and on nothing else.
 pub fn same_datagrams()
     ensures { (o : Opening) (xs ys : List (List ℕ)) → SameDatagrams xs ys → frames_of o xs ≡ frames_of o ys }
 {}
@@ -18,12 +21,28 @@ pub fn both_lists()
     ensures { (o : Opening) (xs ys : List (List ℕ)) → frames_of o (xs ++ ys) ≡ joined_frames (frames_of o xs) (frames_of o ys) }
 {}
 
-/// What a datagram of the grammar offers is what its segments spell.
+/// What a datagram for a receiver offers is what its segments spell, at its timestamp (RFC 4175, 4.3).
 pub fn offered_by_grammar()
     ensures { (o : Opening) (octets : List ℕ) (d : Datagram) → IsFor o octets d → offers o octets ≡ offers_in_all o.format d.timestamp d.segments }
 {}
 
-/// Octets that are no such datagram offer nothing.
+/// Octets that are no datagram for a receiver offer nothing.
 pub fn nothing_else_offered()
-    ensures { (o : Opening) (octets : List ℕ) → AllByRecursion (λ v. v < 256) octets → ((d : Datagram) → IsFor o octets d → ⊥) → offers o octets ≡ [] }
+    ensures { (o : Opening) (octets : List ℕ) → AreOctets octets → ((d : Datagram) → IsFor o octets d → ⊥) → offers o octets ≡ [] }
+{}
+
+/// Octets say one thing at most to a receiver.
+pub fn one_reading()
+    ensures { (o : Opening) (octets : List ℕ) (d e : Datagram) → IsFor o octets d → IsFor o octets e → d ≡ e }
+{}
+
+/// Octets are a datagram for a receiver, or refused; and never both.
+pub fn datagram_or_refusal()
+    ensures some { (o : Opening) (octets : List ℕ) → AreOctets octets → ((d : Datagram) × IsFor o octets d) ⊎ ((e : Refusal) × IsRefused o octets e) }
+    ensures apart { (o : Opening) (octets : List ℕ) (d : Datagram) (e : Refusal) → AreOctets octets → IsFor o octets d → IsRefused o octets e → ⊥ }
+{}
+
+/// Octets are refused for one reason at most.
+pub fn refused_once()
+    ensures { (o : Opening) (octets : List ℕ) (d e : Refusal) → AreOctets octets → IsRefused o octets d → IsRefused o octets e → d ≡ e }
 {}

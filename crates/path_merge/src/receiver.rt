@@ -1,5 +1,5 @@
 //! A receiver: a frame for each timestamp of a window.
-ghost use Rattle.std.specs.Prelude.{◌≡◌, ◌≢◌, ◌↔◌, ◌≤◌, IfOk, IsErr, IsErrOf, IsSome, List, OnErr, Ok, [], length, ◌++◌, ◌∷◌, ℕ};
+ghost use Rattle.std.specs.Prelude.{◌≡◌, ◌≢◌, ◌↔◌, ◌≤◌, IfOk, IsErr, IsErrOf, IsSome, List, OnErr, Err, Ok, [], length, ◌++◌, ◌∷◌, ℕ};
 ghost use Rattle.std.specs.Option.{option_copied};
 ghost use Rattle.st_format.specs.Cell.{join};
 ghost use Rattle.st_format.specs.Member.{IsMember};
@@ -9,6 +9,8 @@ ghost use Rattle.path_merge.specs.Answers.{taken_at};
 ghost use Rattle.path_merge.specs.Frames.{Holds, IsReceiver, cell_in, frame_at, frames_of, joined_frames};
 ghost use Rattle.path_merge.specs.Grammar.{Datagram, IsFor, IsKept, IsOutside};
 ghost use Rattle.path_merge.specs.Offers.{offers};
+ghost use Rattle.path_merge.specs.Refused.{IsRefused};
+ghost use Rattle.path_merge.specs.declared.answer.Refusal.{Refusal};
 
 use crate::admitting::admit;
 use crate::answer::{Refusal, Taken};
@@ -115,10 +117,11 @@ impl<A: Allocator> Receiver<A> {
         // Which answer, and which refusal is the first.
         ensures answer { result ≡ taken_at self.old.opening octets.now }
 
-        // The same in the words of the grammar: kept and outside exactly where these hold, and refused
-        // exactly where the octets are no datagram for this receiver.
+        // The same in the words of the grammar: kept, outside and each refusal exactly where its condition
+        // holds, and refused exactly where the octets are no datagram for this receiver.
         ensures kept { (number : ℕ) → (result ≡ Ok (Taken.Kept number)) ↔ IsKept self.old.opening octets.now number }
         ensures outside { (result ≡ Ok Taken.Outside) ↔ IsOutside self.old.opening octets.now }
+        ensures refusals { (refusal : Refusal) → (result ≡ Err refusal) ↔ IsRefused self.old.opening octets.now refusal }
         ensures others { IsErr result ↔ ((d : Datagram) → IsFor self.old.opening octets.now d → ⊥) }
 
         // What stays.

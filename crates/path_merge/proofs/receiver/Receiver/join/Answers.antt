@@ -1,5 +1,4 @@
-use Rattle.std.proofs.Common.{List, [], ◌∷◌, sym, ◌∙◌, ap, lit<, refl}
-use Rattle.st_format.specs.Raster.{Raster}
+use Rattle.std.proofs.Common.{[], ◌∷◌, sym, ◌∙◌, ap, lit<, refl}
 use Rattle.path_merge.specs.Admission.{datagram_of}
 use Rattle.path_merge.specs.Frames.{State, frames_of, joined_frames}
 use Rattle.path_merge.proofs.Frames.{opened}

@@ -1,19 +1,24 @@
 use Rattle.std.proofs.Common.{arith}
-use Rattle.path_merge.proofs.Answered.{bytes_from, kept_iff, outside_iff, refused_iff}
+use Rattle.path_merge.proofs.Answered.{kept_iff, outside_iff, refused_iff}
+use Rattle.path_merge.proofs.RefusedLemmas.{refusal_iff}
 use Rattle.path_merge.proofs.Joined.{cells_more, holds_more}
 use Rattle.path_merge.proofs.receiver.Receiver.take.Goals as goal
 
 pub returns-clause-kept : goal.returns-clause-kept
 returns-clause-kept g c =
-    kept_iff c.args.self.now.opening c.args.octets.now c.join.result (bytes_from c.args.octets.now (λ k. omega (arith, c.type_inv.octets k))) c.join.ensures.answer
+    kept_iff c.args.self.now.opening c.args.octets.now c.join.result (λ k. omega (arith, c.type_inv.octets k)) c.join.ensures.answer
 
 pub returns-clause-outside : goal.returns-clause-outside
 returns-clause-outside g c =
-    outside_iff c.args.self.now.opening c.args.octets.now c.join.result (bytes_from c.args.octets.now (λ k. omega (arith, c.type_inv.octets k))) c.join.ensures.answer
+    outside_iff c.args.self.now.opening c.args.octets.now c.join.result (λ k. omega (arith, c.type_inv.octets k)) c.join.ensures.answer
 
 pub returns-clause-others : goal.returns-clause-others
 returns-clause-others g c =
-    refused_iff c.args.self.now.opening c.args.octets.now c.join.result (bytes_from c.args.octets.now (λ k. omega (arith, c.type_inv.octets k))) c.join.ensures.answer
+    refused_iff c.args.self.now.opening c.args.octets.now c.join.result (λ k. omega (arith, c.type_inv.octets k)) c.join.ensures.answer
+
+pub returns-clause-refusals : goal.returns-clause-refusals
+returns-clause-refusals g c =
+    refusal_iff c.args.self.now.opening c.args.octets.now c.join.result (λ k. omega (arith, c.type_inv.octets k)) c.join.ensures.answer
 
 pub returns-clause-cells : goal.returns-clause-cells
 returns-clause-cells g c =
