@@ -1,0 +1,71 @@
+-- Faults that end a run.
+use Rattle.std.specs.Prelude.{◌≡◌, ℕ, ◌⊎◌, List, ◌++◌, codes, Option, Some, None, IfSome, Result, MatchResult}
+use Rattle.std.specs.Fmt.{decimal}
+use Rattle.std.specs.Io.KnownBytes.{Appends}
+use Rattle.st_format.specs.Device.{Failed}
+use Rattle.st2110_tool.specs.declared.fault.Fault.{Fault}
+use Rattle.st2110_tool.specs.declared.fault.Fault.TheVariants as fault
+use Rattle.st2110_tool.specs.declared.status.Status.{Status}
+use Rattle.st2110_tool.specs.declared.status.Status.TheVariants.{Refused, Device, Memory}
+
+-- what a fault says of a device that had failed old times and now new times: a device's fault that it
+-- failed, and any other that it did not
+abbrev pub Blames : Fault → ℕ → ℕ → Type 0
+Blames (fault.Script line) old new = new ≡ old
+Blames (fault.Format f) old new = new ≡ old
+Blames (fault.Open f) old new = new ≡ old
+Blames fault.Device old new = Failed old new
+Blames fault.Memory old new = new ≡ old
+
+-- the same of two devices, of which either may have failed
+abbrev pub BlamesEither : Fault → ℕ → ℕ → ℕ → ℕ → Type 0
+BlamesEither (fault.Script line) old new old' new' = (new ≡ old) × (new' ≡ old')
+BlamesEither (fault.Format f) old new old' new' = (new ≡ old) × (new' ≡ old')
+BlamesEither (fault.Open f) old new old' new' = (new ≡ old) × (new' ≡ old')
+BlamesEither fault.Device old new old' new' = Failed old new ⊎ Failed old' new'
+BlamesEither fault.Memory old new old' new' = (new ≡ old) × (new' ≡ old')
+
+-- where a run succeeds no device failed, and where it ends by a fault that fault says so
+abbrev pub Accounts : {V : Type 0} → Result V Fault → ℕ → ℕ → Type 0
+Accounts result old new = MatchResult result (λ _. new ≡ old) (λ f. Blames f old new)
+
+abbrev pub AccountsBoth : {V : Type 0} → Result V Fault → ℕ → ℕ → ℕ → ℕ → Type 0
+AccountsBoth result old new old' new' = MatchResult result (λ _. (new ≡ old) × (new' ≡ old')) (λ f. BlamesEither f old new old' new')
+
+-- A line was told: the sink took it whole, or it failed, and then the run ends by that
+abbrev pub Tells : Status → List ℕ → Status → ℕ → ℕ → Option (List ℕ) → Option (List ℕ) → Type 0
+Tells status line result old new held held' =
+    ((result ≡ status) × (new ≡ old) × Appends held held' line) ⊎ ((result ≡ Device) × Failed old new)
+
+-- the text of a fault; that of a format or an opening holds a name of the crate below
+abbrev pub fault_text : Fault → Option (List ℕ)
+fault_text (fault.Script line) = Some (codes "script " ++ decimal line)
+fault_text (fault.Format f) = None
+fault_text (fault.Open f) = None
+fault_text fault.Device = Some (codes "device")
+fault_text fault.Memory = Some (codes "memory")
+
+abbrev pub device_line : List ℕ
+device_line = codes "st2110: device\n"
+
+abbrev pub memory_line : List ℕ
+memory_line = codes "st2110: memory\n"
+
+-- the line of a refusal with this text; where memory is wanted for it, that of memory
+abbrev pub IsRefusalLine : Option (List ℕ) → Status → List ℕ → Type 0
+IsRefusalLine text status line =
+    ((status ≡ Refused) × IfSome text (λ t. line ≡ codes "st2110: " ++ t ++ codes "\n"))
+    ⊎ ((status ≡ Memory) × (line ≡ memory_line))
+
+-- the line of a fault, and the status
+abbrev pub IsLineOf : Fault → Status → List ℕ → Type 0
+IsLineOf (fault.Script n) status line = IsRefusalLine (fault_text (fault.Script n)) status line
+IsLineOf (fault.Format f) status line = IsRefusalLine (fault_text (fault.Format f)) status line
+IsLineOf (fault.Open f) status line = IsRefusalLine (fault_text (fault.Open f)) status line
+IsLineOf fault.Device status line = (status ≡ Device) × (line ≡ device_line)
+IsLineOf fault.Memory status line = (status ≡ Memory) × (line ≡ memory_line)
+
+-- a fault was told by such a line, or the sink failed
+abbrev pub TellsFault : Fault → Status → ℕ → ℕ → Option (List ℕ) → Option (List ℕ) → Type 0
+TellsFault f result old new held held' =
+    (status : Status) × (line : List ℕ) × IsLineOf f status line × Tells status line result old new held held'

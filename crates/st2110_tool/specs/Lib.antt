@@ -1,0 +1,5 @@
+pub mod Number
+pub mod Fields
+pub mod Fault
+pub mod Status
+pub mod Script

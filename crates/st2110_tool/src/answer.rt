@@ -1,0 +1,51 @@
+//! Lines of output.
+use frame_assembly::Counts;
+use path_merge::Refusal;
+use std::fmt;
+
+/// What a run says of one line of a script, or of one frame.
+#[derive(Clone, Copy, Debug, PartialEq, Eq)]
+pub(crate) enum Answer {
+    /// The datagram of this packet number was kept.
+    Kept(u32),
+    /// The datagram's timestamp isn't in the window.
+    Outside,
+    /// The datagram was refused.
+    Refused(Refusal),
+    /// Nothing is known of the sample.
+    Missing,
+    /// All offers of the sample are this value.
+    Value(u16),
+    /// Offers of the sample differ.
+    Contested,
+    /// There is no such sample.
+    Nowhere,
+    /// How many samples of the frame of this timestamp are of each kind.
+    Frame(u32, Counts),
+}
+
+impl fmt::Display for Answer {
+    fn fmt<W: fmt::Write>(&self, f: &mut fmt::Formatter<W>) -> fmt::Result {
+        match self {
+            Answer::Kept(number) => write!(f, "kept {number}"),
+            Answer::Outside => f.write_str("outside"),
+            Answer::Refused(refusal) => {
+                let number = refusal.number();
+                write!(f, "refused {number} {refusal}")
+            }
+            Answer::Missing => f.write_str("missing"),
+            Answer::Value(value) => write!(f, "value {value}"),
+            Answer::Contested => f.write_str("contested"),
+            Answer::Nowhere => f.write_str("none"),
+            Answer::Frame(timestamp, counts) => {
+                let present = counts.present;
+                let missing = counts.missing;
+                let contested = counts.contested;
+                write!(
+                    f,
+                    "frame {timestamp} present {present} missing {missing} contested {contested}"
+                )
+            }
+        }
+    }
+}

@@ -1,0 +1,64 @@
+//! What ends a run before its end.
+use path_merge::OpenFault;
+use st_format::{DeviceFault, FormatFault};
+use std::alloc::AllocError;
+use std::fmt;
+
+/// What ends a run before its end.
+#[derive(Clone, Copy, Debug, PartialEq, Eq)]
+pub(crate) enum Fault {
+    /// The line of this number isn't of its form, or stands where it may not.
+    Script(usize),
+    /// There is no such format.
+    Format(FormatFault),
+    /// There is no such receiver.
+    Open(OpenFault),
+    /// A device failed.
+    Device,
+    /// Memory was wanted.
+    Memory,
+}
+
+impl From<AllocError> for Fault {
+    ghost use Rattle.std.specs.Prelude.{◌≡◌};
+    ghost use Rattle.st2110_tool.specs.declared.fault.Fault.TheVariants.{Memory};
+
+    ghost from_gives = { λ _ fault. fault ≡ Memory };
+
+    fn from(_: AllocError) -> Fault {
+        Fault::Memory
+    }
+}
+
+impl From<DeviceFault> for Fault {
+    ghost use Rattle.std.specs.Prelude.{◌≡◌};
+    ghost use Rattle.st2110_tool.specs.declared.fault.Fault.TheVariants.{Device};
+
+    ghost from_gives = { λ _ fault. fault ≡ Device };
+
+    fn from(_: DeviceFault) -> Fault {
+        Fault::Device
+    }
+}
+
+impl fmt::Display for Fault {
+    ghost use Rattle.st2110_tool.specs.Fault.{fault_text};
+
+    ghost output = { fault_text };
+
+    fn fmt<W: fmt::Write>(&self, f: &mut fmt::Formatter<W>) -> fmt::Result {
+        match self {
+            Fault::Script(line) => write!(f, "script {line}"),
+            Fault::Format(fault) => {
+                let number = fault.number();
+                write!(f, "format {number} {fault}")
+            }
+            Fault::Open(fault) => {
+                let number = fault.number();
+                write!(f, "open {number} {fault}")
+            }
+            Fault::Device => f.write_str("device"),
+            Fault::Memory => f.write_str("memory"),
+        }
+    }
+}

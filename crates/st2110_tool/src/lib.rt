@@ -1,0 +1,14 @@
+//! The engines of the program: text in, text out, and a status.
+#![tactic(auto)]
+
+mod answer;
+mod fault;
+mod fields;
+mod line;
+mod number;
+mod script;
+mod status;
+mod trace;
+
+pub use status::Status;
+pub use trace::run_trace;

@@ -1,0 +1,172 @@
+//! What a line of a script says.
+ghost use Rattle.std.specs.Prelude.{◌≡◌, ◌≤◌, ◌<◌, length, IfSome};
+
+use crate::fields::split_once;
+use crate::number::read_number;
+use st_format::{Depth, Path, Sampling};
+use std::alloc::{AllocError, Allocator};
+
+/// A line `format S B W H N/D`.
+#[derive(Clone, Copy)]
+pub(crate) struct FormatLine {
+    pub sampling: Sampling,
+    pub depth: Depth,
+    pub width: u32,
+    pub height: u32,
+    pub n: u32,
+    pub d: u32,
+}
+
+/// A line `open PT SSRC WINDOW`.
+#[derive(Clone, Copy)]
+pub(crate) struct OpenLine<'a> {
+    pub payload_type: u8,
+    pub ssrc: Option<u32>,
+    pub window: &'a [u8],
+    ghost in_range: { payload_type ≤ 127 },
+}
+
+/// A line behind those two.
+#[derive(Clone, Copy)]
+pub(crate) enum TraceLine<'a> {
+    /// `A HEX` or `B HEX`.
+    Datagram(Path, &'a [u8]),
+    /// `cell TS ROW COL COMP`.
+    Cell(Place),
+}
+
+/// A sample of a frame: a timestamp, a row, a column and a component.
+#[derive(Clone, Copy)]
+pub(crate) struct Place {
+    pub timestamp: u32,
+    pub row: u32,
+    pub column: u32,
+    pub component: u32,
+}
+
+pub(crate) fn read_format_line(text: &[u8]) -> Option<FormatLine> {
+    let Some((b"format", rest)) = split_once(text, b' ') else {
+        return None;
+    };
+    let (sampling, rest) = split_once(rest, b' ')?;
+    let (depth, rest) = split_once(rest, b' ')?;
+    let (width, rest) = split_once(rest, b' ')?;
+    let (height, rate) = split_once(rest, b' ')?;
+    let (n, d) = split_once(rate, b'/')?;
+    Some(FormatLine {
+        sampling: read_sampling(sampling)?,
+        depth: read_depth(depth)?,
+        width: read_number(width)?,
+        height: read_number(height)?,
+        n: read_number(n)?,
+        d: read_number(d)?,
+    })
+}
+
+fn read_sampling(text: &[u8]) -> Option<Sampling> {
+    match text {
+        b"YCbCr-4:2:2" => Some(Sampling::Ycc422),
+        b"YCbCr-4:4:4" => Some(Sampling::Ycc444),
+        b"RGB" => Some(Sampling::Rgb),
+        _ => None,
+    }
+}
+
+fn read_depth(text: &[u8]) -> Option<Depth> {
+    match read_number(text)? {
+        8 => Some(Depth::D8),
+        _ => None,
+    }
+}
+
+pub(crate) fn read_open_line(text: &[u8]) -> Option<OpenLine<'_>> {
+    let Some((b"open", rest)) = split_once(text, b' ') else {
+        return None;
+    };
+    let (payload_type, rest) = split_once(rest, b' ')?;
+    let (ssrc, window) = split_once(rest, b' ')?;
+    Some(OpenLine {
+        payload_type: read_payload_type(payload_type)?,
+        ssrc: read_source(ssrc)?,
+        window,
+    })
+}
+
+fn read_payload_type(text: &[u8]) -> Option<u8>
+    ensures { IfSome result (λ n. n ≤ 127) }
+{
+    let number = read_number(text)?;
+    if number <= 127 {
+        Some(number as u8)
+    } else {
+        None
+    }
+}
+
+/// A pinned SSRC, or none.
+fn read_source(text: &[u8]) -> Option<Option<u32>> {
+    match text {
+        b"any" => Some(None),
+        _ => Some(Some(read_number(text)?)),
+    }
+}
+
+/// The timestamps of a window, and none where the text isn't of its form.
+pub(crate) fn read_window<A: Allocator>(
+    alloc: A,
+    text: &[u8],
+) -> Result<Option<Vec<u32, A>>, AllocError> {
+    let mut window = Vec::new(alloc);
+    if let b"-" = text {
+        return Ok(Some(window));
+    }
+    let mut rest = text;
+    while let Some((first, more)) = split_once(rest, b',') {
+        let Some(timestamp) = read_number(first) else {
+            return Ok(None);
+        };
+        window.push(timestamp)?;
+        rest = more;
+    }
+    let Some(timestamp) = read_number(rest) else {
+        return Ok(None);
+    };
+    window.push(timestamp)?;
+    Ok(Some(window))
+}
+
+pub(crate) fn read_trace_line(text: &[u8]) -> Option<TraceLine<'_>> {
+    let (word, rest) = split_once(text, b' ')?;
+    match word {
+        b"A" => Some(TraceLine::Datagram(Path::A, rest)),
+        b"B" => Some(TraceLine::Datagram(Path::B, rest)),
+        b"cell" => Some(TraceLine::Cell(read_place(rest)?)),
+        _ => None,
+    }
+}
+
+fn read_place(text: &[u8]) -> Option<Place> {
+    let (timestamp, rest) = split_once(text, b' ')?;
+    let (row, rest) = split_once(rest, b' ')?;
+    let (column, component) = split_once(rest, b' ')?;
+    Some(Place {
+        timestamp: read_number(timestamp)?,
+        row: read_number(row)?,
+        column: read_number(column)?,
+        component: read_number(component)?,
+    })
+}
+
+/// Reads the octets of a datagram, and answers how many they are.
+pub(crate) fn read_octets(text: &[u8], octets: &mut [u8]) -> Option<usize>
+    ensures { IfSome result (λ n. n ≤ length octets.new) }
+{
+    if let b"-" = text {
+        return Some(0);
+    }
+    let n = text.len() / 2;
+    if n == 0 || n > octets.len() || hex::decode_to_slice(text, &mut octets[..n]).is_err() {
+        return None;
+    }
+    Some(n)
+}

@@ -1,0 +1,244 @@
+//! The engine of `trace`.
+ghost use Rattle.std.specs.Prelude.{◌≡◌, ◌≢◌, ◌≤◌, ◌<◌, ◌⊎◌, length, IfErr};
+ghost use Rattle.std.specs.Io.KnownBytes.{Appends};
+ghost use Rattle.st_format.specs.Device.{Failed};
+ghost use Rattle.st2110_tool.specs.Fault.{Accounts, AccountsBoth, Tells, TellsFault, memory_line};
+
+use crate::answer::Answer;
+use crate::fault::Fault;
+use crate::line::{
+    Place, TraceLine, read_format_line, read_octets, read_open_line, read_trace_line, read_window,
+};
+use crate::script::{Line, Lines, Script, read_script};
+use crate::status::Status;
+use path_merge::{OpenFault, Receiver, Taken};
+use st_format::{ByteSink, ByteSource, Cell, Format, write_whole};
+use std::alloc::Allocator;
+
+/// The greatest number of octets of a datagram.
+const DATAGRAM: usize = 65_535;
+
+/// Room for any line of output, so that no line asks for memory.
+const LINE: usize = 128;
+
+/// What is told where a device failed.
+const DEVICE_LINE: &[u8] = b"st2110: device\n";
+
+/// What is told where memory was wanted.
+const MEMORY_LINE: &[u8] = b"st2110: memory\n";
+
+/// Runs the script that the source gives.
+pub fn run_trace<A, S, O, F>(alloc: A, source: &mut S, output: &mut O, faults: &mut F) -> u8
+where
+    A: Allocator + Copy,
+    S: ByteSource,
+    O: ByteSink,
+    F: ByteSink,
+    ensures range { (result ≡ 0) ⊎ (result ≡ 1) ⊎ (result ≡ 3) ⊎ (result ≡ 4) }
+    ensures device { result ≡ 3 → Failed (S.failures source.old) (S.failures source.new) ⊎ Failed (O.failures output.old) (O.failures output.new) ⊎ Failed (F.failures faults.old) (F.failures faults.new) }
+    ensures working { result ≢ 3 → (S.failures source.new ≡ S.failures source.old) × (O.failures output.new ≡ O.failures output.old) × (F.failures faults.new ≡ F.failures faults.old) }
+    ensures silent { result ≡ 0 → faults.new ≡ faults.old }
+    ensures memory { result ≡ 4 → Appends (F.held faults.old) (F.held faults.new) memory_line }
+{
+    let Ok(mut text) = String::with_capacity(alloc, LINE) else {
+        return report(Status::Memory, MEMORY_LINE, faults).number();
+    };
+    match trace(alloc, source, output, &mut text) {
+        Ok(()) => Status::Done.number(),
+        Err(fault) => tell(fault, &mut text, faults).number(),
+    }
+}
+
+fn trace<A, S, O>(
+    alloc: A,
+    source: &mut S,
+    output: &mut O,
+    text: &mut String<A>,
+) -> Result<(), Fault>
+where
+    A: Allocator + Copy,
+    S: ByteSource,
+    O: ByteSink,
+    ensures { AccountsBoth result (S.failures source.old) (S.failures source.new) (O.failures output.old) (O.failures output.new) }
+{
+    let script = read_script(alloc, source)?;
+    play(alloc, &script, output, text)
+}
+
+fn play<A: Allocator + Copy, O: ByteSink>(
+    alloc: A,
+    script: &Script<A>,
+    output: &mut O,
+    text: &mut String<A>,
+) -> Result<(), Fault>
+    requires { length script.now.octets.items ≤ 16777216 }
+    ensures { Accounts result (O.failures output.old) (O.failures output.new) }
+{
+    let mut lines = Lines::new(&script.octets);
+    let format = read_format(&mut lines)?;
+    let mut receiver = open_receiver(alloc, format, &mut lines)?;
+    play_lines(alloc, &mut lines, &mut receiver, output, text)?;
+    if script.is_cut {
+        return Err(Fault::Script(lines.following()));
+    }
+    print_frames(&receiver, output, text)
+}
+
+fn read_format(lines: &mut Lines<'_>) -> Result<Format, Fault>
+    ensures { IfErr result (λ fault. fault ≢ Fault.Device) }
+{
+    let Some(line) = lines.next() else {
+        return Err(Fault::Script(lines.following()));
+    };
+    let Some(said) = read_format_line(line.text) else {
+        return Err(Fault::Script(line.number));
+    };
+    match Format::new(
+        said.sampling,
+        said.depth,
+        said.width,
+        said.height,
+        said.n,
+        said.d,
+    ) {
+        Ok(format) => Ok(format),
+        Err(fault) => Err(Fault::Format(fault)),
+    }
+}
+
+fn open_receiver<A: Allocator + Copy>(
+    alloc: A,
+    format: Format,
+    lines: &mut Lines<'_>,
+) -> Result<Receiver<A>, Fault>
+    ensures { IfErr result (λ fault. fault ≢ Fault.Device) }
+{
+    let Some(line) = lines.next() else {
+        return Err(Fault::Script(lines.following()));
+    };
+    let Some(said) = read_open_line(line.text) else {
+        return Err(Fault::Script(line.number));
+    };
+    let Some(window) = read_window(alloc, said.window)? else {
+        return Err(Fault::Script(line.number));
+    };
+    match Receiver::open(alloc, format, said.payload_type, said.ssrc, &window) {
+        Ok(receiver) => Ok(receiver),
+        Err(OpenFault::NoMemory) => Err(Fault::Memory),
+        Err(fault) => Err(Fault::Open(fault)),
+    }
+}
+
+fn play_lines<A: Allocator + Copy, O: ByteSink>(
+    alloc: A,
+    lines: &mut Lines<'_>,
+    receiver: &mut Receiver<A>,
+    output: &mut O,
+    text: &mut String<A>,
+) -> Result<(), Fault>
+    ensures { Accounts result (O.failures output.old) (O.failures output.new) }
+{
+    let mut octets = Vec::from_elem(alloc, 0u8, DATAGRAM)?;
+    while let Some(line) = lines.next() {
+        let answer = answer_to(line, receiver, &mut octets)?;
+        print(answer, output, text)?;
+    }
+    Ok(())
+}
+
+fn answer_to<A: Allocator>(
+    line: Line<'_>,
+    receiver: &mut Receiver<A>,
+    octets: &mut [u8],
+) -> Result<Answer, Fault>
+    ensures { IfErr result (λ fault. fault ≡ Fault.Script line.entry.number) }
+{
+    match read_trace_line(line.text) {
+        Some(TraceLine::Datagram(path, digits)) => match read_octets(digits, octets) {
+            Some(n) => Ok(match receiver.take(path, &octets[..n]) {
+                Ok(Taken::Kept(number)) => Answer::Kept(number),
+                Ok(Taken::Outside) => Answer::Outside,
+                Err(refusal) => Answer::Refused(refusal),
+            }),
+            None => Err(Fault::Script(line.number)),
+        },
+        Some(TraceLine::Cell(place)) => Ok(cell_answer(receiver, place)),
+        None => Err(Fault::Script(line.number)),
+    }
+}
+
+fn cell_answer<A: Allocator>(receiver: &Receiver<A>, place: Place) -> Answer {
+    let Some(frame) = receiver.frame(place.timestamp) else {
+        return Answer::Nowhere;
+    };
+    let Ok(component) = u8::try_from(place.component) else {
+        return Answer::Nowhere;
+    };
+    if !frame
+        .format()
+        .has_position(place.row, place.column, component)
+    {
+        return Answer::Nowhere;
+    }
+    match frame.cell(place.row, place.column, component) {
+        Cell::Missing => Answer::Missing,
+        Cell::Value(value) => Answer::Value(value),
+        Cell::Contested => Answer::Contested,
+    }
+}
+
+fn print_frames<A: Allocator, O: ByteSink>(
+    receiver: &Receiver<A>,
+    output: &mut O,
+    text: &mut String<A>,
+) -> Result<(), Fault>
+    ensures { Accounts result (O.failures output.old) (O.failures output.new) }
+{
+    for timestamp in receiver.window() {
+        if let Some(frame) = receiver.frame(*timestamp) {
+            print(Answer::Frame(*timestamp, frame.counts()), output, text)?;
+        }
+    }
+    Ok(())
+}
+
+/// Prints a line.
+fn print<A: Allocator, O: ByteSink>(
+    answer: Answer,
+    output: &mut O,
+    text: &mut String<A>,
+) -> Result<(), Fault>
+    ensures { Accounts result (O.failures output.old) (O.failures output.new) }
+{
+    text.clear();
+    writeln!(text, "{answer}")?;
+    write_whole(output, text.as_bytes())?;
+    Ok(())
+}
+
+/// Prints a fault, and tells how the run ends.
+fn tell<A: Allocator, F: ByteSink>(fault: Fault, text: &mut String<A>, faults: &mut F) -> Status
+    ensures { TellsFault fault result (F.failures faults.old) (F.failures faults.new) (F.held faults.old) (F.held faults.new) }
+{
+    match fault {
+        Fault::Device => report(Status::Device, DEVICE_LINE, faults),
+        Fault::Memory => report(Status::Memory, MEMORY_LINE, faults),
+        _ => {
+            text.clear();
+            match writeln!(text, "st2110: {fault}") {
+                Ok(()) => report(Status::Refused, text.as_bytes(), faults),
+                Err(_) => report(Status::Memory, MEMORY_LINE, faults),
+            }
+        }
+    }
+}
+
+/// Writes a line to the faults, and tells how the run ends: by this status, but where the sink fails.
+fn report<F: ByteSink>(status: Status, line: &[u8], faults: &mut F) -> Status
+    ensures { Tells status line.now result (F.failures faults.old) (F.failures faults.new) (F.held faults.old) (F.held faults.new) }
+{
+    match write_whole(faults, line) {
+        Ok(()) => status,
+        Err(_) => Status::Device,
+    }
+}

@@ -1,0 +1,18 @@
+//! The worked examples of docs/EXAMPLES.md, through the library and as text, and runs in which a device
+//! fails or memory is wanted. Tests alone: the expected values are worked out by hand.
+#![tactic(auto)]
+
+#[cfg(test)]
+mod devices;
+#[cfg(test)]
+mod examples;
+#[cfg(test)]
+mod forms;
+#[cfg(test)]
+mod growths;
+#[cfg(test)]
+mod limits;
+#[cfg(test)]
+mod receivers;
+#[cfg(test)]
+mod running;

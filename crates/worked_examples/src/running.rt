@@ -1,0 +1,95 @@
+//! A run of the engine over devices in memory.
+use st_format::memory::{MemorySink, MemorySource};
+use st2110_tool::run_trace;
+use std::alloc::{AllocError, Allocator, Global};
+use std::process::Abort;
+use std::test::Fail;
+
+/// At which of its calls each device fails, counted from 1; 0 means that it does not.
+#[derive(Clone, Copy, Debug)]
+pub struct Failing {
+    pub source: u64,
+    pub output: u64,
+    pub faults: u64,
+}
+
+/// No device fails.
+pub const SOUND: Failing = Failing {
+    source: 0,
+    output: 0,
+    faults: 0,
+};
+
+/// How a run ended, and what it wrote.
+#[derive(Drop)]
+pub struct Ran {
+    pub status: u8,
+    pub output: MemorySink,
+    pub faults: MemorySink,
+}
+
+impl Ran {
+    /// What it printed.
+    pub fn printed(&self) -> &[u8] {
+        self.output.held()
+    }
+
+    /// What it told of a fault.
+    pub fn told(&self) -> &[u8] {
+        self.faults.held()
+    }
+}
+
+/// Runs a script over devices that move at most `piece` octets a call.
+pub fn run<A: Allocator + Copy>(
+    rt: &(impl Abort + AllocGlobal),
+    alloc: A,
+    script: &[u8],
+    piece: usize,
+    failing: Failing,
+) -> Result<Ran, AllocError> {
+    let piece = piece.max(1);
+    let octets = Vec::from_slice(rt.alloc(), script)?;
+    let mut source = MemorySource::new(octets, piece, failing.source);
+    let mut output = sink(rt.alloc(), piece, failing.output)?;
+    let mut faults = sink(rt.alloc(), piece, failing.faults)?;
+    let status = run_trace(alloc, &mut source, &mut output, &mut faults);
+    Ok(Ran {
+        status,
+        output,
+        faults,
+    })
+}
+
+fn sink(alloc: Global, piece: usize, fails_in: u64) -> Result<MemorySink, AllocError> {
+    let room = Vec::with_capacity(alloc, 4096)?;
+    Ok(MemorySink::new(room, piece.max(1), fails_in))
+}
+
+/// A run of the script prints this and ends well.
+pub fn prints(
+    rt: &(impl Abort + AllocGlobal),
+    name: &str,
+    script: &str,
+    output: &str,
+) -> Result<(), Fail> {
+    let run = run(rt, rt.alloc(), script.as_bytes(), 4096, SOUND)?;
+    assert_eq!(rt; run.printed(), output.as_bytes(), "{name}");
+    assert!(rt; run.told().is_empty(), "{name}");
+    assert_eq!(rt; run.status, 0, "{name}");
+    Ok(())
+}
+
+/// A run of the script prints this, and then ends by a refusal that it tells so.
+pub fn refuses(
+    rt: &(impl Abort + AllocGlobal),
+    script: &str,
+    output: &str,
+    told: &str,
+) -> Result<(), Fail> {
+    let run = run(rt, rt.alloc(), script.as_bytes(), 4096, SOUND)?;
+    assert_eq!(rt; run.printed(), output.as_bytes(), "{script}");
+    assert_eq!(rt; run.told(), told.as_bytes(), "{script}");
+    assert_eq!(rt; run.status, 1, "{script}");
+    Ok(())
+}
