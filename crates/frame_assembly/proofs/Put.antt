@@ -1,8 +1,6 @@
--- What writing a segment's octets does to the cells.
-use Rattle.std.proofs.Common.{◌≡◌, ℕ, ◌+◌, ◌*◌, ◌/◌, ◌%◌, ◌<◌, ◌≤◌, List, [], ◌∷◌, ◌++◌, length, get_or, set, take, drop, map, All, add-one, refl, sym, ap, ◌∙◌, arith}
-use Rattle.std.specs.List.{AllByRecursion}
+-- What writing a segment's samples does to the cells.
+use Rattle.std.proofs.Common.{◌≡◌, ℕ, ◌+◌, ◌*◌, ◌/◌, ◌%◌, ◌<◌, ◌≤◌, List, [], ◌∷◌, ◌++◌, length, get_or, set, take, drop, map, add-one, refl, sym, ap, ◌∙◌, arith}
 use Rattle.std.proofs.lemmas.List.{nil_from_length, drop_all, take_at}
-use Rattle.std.proofs.lemmas.List.Elements.{recursion_from_All}
 use Rattle.std.proofs.Math.Seq.{drop-cons}
 use Rattle.st_format.specs.declared.cell.Cell.{Cell}
 use Rattle.st_format.specs.declared.cell.Cell.TheVariants.{Missing, Value}
@@ -10,14 +8,15 @@ use Rattle.st_format.specs.Cell.{join}
 use Rattle.st_format.specs.declared.format.Sampling.{Sampling}
 use Rattle.st_format.specs.declared.format.Sampling.TheVariants.{Ycc422, Ycc444, Rgb}
 use Rattle.st_format.specs.declared.format.Depth.{Depth}
-use Rattle.st_format.specs.declared.format.Depth.TheVariants.{D8}
+use Rattle.st_format.specs.declared.format.Depth.TheVariants.{D8, D10, D12, D16}
 use Rattle.st_format.specs.declared.format.Format.{Format}
 use Rattle.st_format.specs.Samples.{values_in}
 use Rattle.st_format.specs.Position.{run_columns, run_samples, row_samples, sample_count}
 use Rattle.st_format.specs.Pgroup.{pixel_group, bits_of}
 use Rattle.st_format.specs.Offer.{Offer}
 use Rattle.st_format.specs.Raster.{Raster, Segment, first_number, offers_from, offers_in, offers_in_all, cells_of, joined}
-use Rattle.st_format.proofs.Spelled.{values_in_octets}
+use Rattle.pgroup_pack.proofs.Values.{length-values_in}
+use Rattle.frame_assembly.proofs.Blocks.{no_values}
 use Rattle.st_format.proofs.Rasters.{cells_of-append, joined-assoc, joined_none, length-joined, length-cells_of}
 use Rattle.payload_header.specs.declared.payload.Segment.{Segment as SegmentView}
 use Rattle.payload_header.specs.declared.payload.PayloadView.{PayloadView}
@@ -29,19 +28,52 @@ use Rattle.frame_assembly.proofs.WrittenLemmas.{written_from-joined}
 -- a segment ends in its row
 fits_row : (s : Sampling) (d : Depth) (width offset len : ℕ) → width % 2 ≡ 0 → offset % (pixel_group s d).pixels ≡ 0 → len % (pixel_group s d).octets ≡ 0
     → offset + len / (pixel_group s d).octets * (pixel_group s d).pixels ≤ width
-    → offset / run_columns s * run_samples s + len ≤ width / run_columns s * run_samples s
+    → offset / run_columns s * run_samples s + 8 * len / bits_of d ≤ width / run_columns s * run_samples s
 fits_row Ycc422 D8 width offset len even at whole le = omega arith
+fits_row Ycc422 D10 width offset len even at whole le = omega arith
+fits_row Ycc422 D12 width offset len even at whole le = omega arith
+fits_row Ycc422 D16 width offset len even at whole le = omega arith
 fits_row Ycc444 D8 width offset len even at whole le = omega arith
+fits_row Ycc444 D10 width offset len even at whole le = omega arith
+fits_row Ycc444 D12 width offset len even at whole le = omega arith
+fits_row Ycc444 D16 width offset len even at whole le = omega arith
 fits_row Rgb D8 width offset len even at whole le = omega arith
+fits_row Rgb D10 width offset len even at whole le = omega arith
+fits_row Rgb D12 width offset len even at whole le = omega arith
+fits_row Rgb D16 width offset len even at whole le = omega arith
 
 begins_in_row : (s : Sampling) (d : Depth) (width offset len : ℕ) → 0 < len → len % (pixel_group s d).octets ≡ 0
     → offset + len / (pixel_group s d).octets * (pixel_group s d).pixels ≤ width → offset < width
 begins_in_row Ycc422 D8 width offset len some whole le = omega arith
+begins_in_row Ycc422 D10 width offset len some whole le = omega arith
+begins_in_row Ycc422 D12 width offset len some whole le = omega arith
+begins_in_row Ycc422 D16 width offset len some whole le = omega arith
 begins_in_row Ycc444 D8 width offset len some whole le = omega arith
+begins_in_row Ycc444 D10 width offset len some whole le = omega arith
+begins_in_row Ycc444 D12 width offset len some whole le = omega arith
+begins_in_row Ycc444 D16 width offset len some whole le = omega arith
 begins_in_row Rgb D8 width offset len some whole le = omega arith
+begins_in_row Rgb D10 width offset len some whole le = omega arith
+begins_in_row Rgb D12 width offset len some whole le = omega arith
+begins_in_row Rgb D16 width offset len some whole le = omega arith
 
-values_of_octets : (d : Depth) (octets : List ℕ) → AllByRecursion (λ v. v < 256) octets → values_in (bits_of d) octets ≡ octets
-values_of_octets D8 octets fit = values_in_octets octets fit
+-- whole pixel groups are whole samples
+whole_samples : (s : Sampling) (d : Depth) (len : ℕ) → len % (pixel_group s d).octets ≡ 0 → 8 * len % bits_of d ≡ 0
+whole_samples Ycc422 D8 len whole = omega arith
+whole_samples Ycc422 D10 len whole = omega arith
+whole_samples Ycc422 D12 len whole = omega arith
+whole_samples Ycc422 D16 len whole = omega arith
+whole_samples Ycc444 D8 len whole = omega arith
+whole_samples Ycc444 D10 len whole = omega arith
+whole_samples Ycc444 D12 len whole = omega arith
+whole_samples Ycc444 D16 len whole = omega arith
+whole_samples Rgb D8 len whole = omega arith
+whole_samples Rgb D10 len whole = omega arith
+whole_samples Rgb D12 len whole = omega arith
+whole_samples Rgb D16 len whole = omega arith
+
+pub segment_whole : (f : Format) (s : Segment) → IsInside f s → 8 * length s.octets % bits_of f.depth ≡ 0
+segment_whole f s is = whole_samples f.sampling f.depth (length s.octets) is.whole_groups
 
 pub offset_below : (f : Format) (s : Segment) → 0 < length s.octets → IsInside f s → s.offset < f.width
 offset_below f s some is = begins_in_row f.sampling f.depth f.width s.offset (length s.octets) some is.whole_groups is.columns
@@ -50,27 +82,25 @@ offset_below f s some is = begins_in_row f.sampling f.depth f.width s.offset (le
 row_ends : (row height w n : ℕ) → row < height → n ≤ w → row * w + n ≤ height * w
 row_ends row height w n lt le = grind (arith)
 
-pub segment_ends : (f : Format) (s : Segment) → IsInside f s → first_number f s + length s.octets ≤ sample_count f
+pub segment_ends : (f : Format) (s : Segment) → IsInside f s → first_number f s + 8 * length s.octets / bits_of f.depth ≤ sample_count f
 segment_ends f s is =
     let inner = fits_row f.sampling f.depth f.width s.offset (length s.octets) f.whole_width.even is.at_group is.whole_groups is.columns in
-    omega (arith, row_ends s.row f.height (row_samples f) (s.offset / run_columns f.sampling * run_samples f.sampling + length s.octets) is.row inner)
+    omega (arith, row_ends s.row f.height (row_samples f) (s.offset / run_columns f.sampling * run_samples f.sampling + 8 * length s.octets / bits_of f.depth) is.row inner)
 
 -- A segment without octets offers nothing.
 pub no_octets : (f : Format) (ts : ℕ) (cells : List Cell) (s : Segment) → length cells ≡ sample_count f → length s.octets ≡ 0 → cells ≡ joined cells (cells_of f (offers_in f ts s) ts)
 no_octets f ts cells s whole none =
     let nil : s.octets ≡ [] = nil_from_length s.octets none in
     sym (ap (λ (os : List ℕ). joined cells (cells_of f (offers_from f ts (first_number f s) (values_in (bits_of f.depth) os)) ts)) nil
-    ∙ ap (λ (vs : List ℕ). joined cells (cells_of f (offers_from f ts (first_number f s) vs) ts)) (values_of_octets f.depth [] tt)
+    ∙ ap (λ (vs : List ℕ). joined cells (cells_of f (offers_from f ts (first_number f s) vs) ts)) (no_values f.depth)
     ∙ joined_none f ts cells whole)
 
--- Writing a segment's octets joins its offers.
-pub segment_written : (f : Format) (ts : ℕ) (cells : List Cell) (s : Segment) → length cells ≡ sample_count f → IsInside f s → All (λ v. v < 256) s.octets
-    → written_from (first_number f s) s.octets cells ≡ joined cells (cells_of f (offers_in f ts s) ts)
-segment_written f ts cells s whole is bytes =
-    let k : ℕ = first_number f s in
-    let fit = recursion_from_All (λ v. v < 256) s.octets bytes in
-    written_from-joined f ts k s.octets cells whole (segment_ends f s is)
-    ∙ ap (λ (vs : List ℕ). joined cells (cells_of f (offers_from f ts k vs) ts)) (sym (values_of_octets f.depth s.octets fit))
+-- Writing a segment's samples joins its offers.
+pub segment_written : (f : Format) (ts : ℕ) (cells : List Cell) (s : Segment) → length cells ≡ sample_count f → IsInside f s
+    → written_from (first_number f s) (values_in (bits_of f.depth) s.octets) cells ≡ joined cells (cells_of f (offers_in f ts s) ts)
+segment_written f ts cells s whole is =
+    written_from-joined f ts (first_number f s) (values_in (bits_of f.depth) s.octets) cells whole
+    (omega (arith, segment_ends f s is, length-values_in (bits_of f.depth) s.octets))
 
 -- One segment joined, and the segments that are left
 pub segments_more : (f : Format) (ts i : ℕ) (old cells new : List Cell) (ss : List SegmentView) (d : SegmentView) → i < length ss → new ≡ joined cells (cells_of f (offers_in f ts (seen (get_or ss i d))) ts)
@@ -96,7 +126,7 @@ segments_all f ts i old cells ss whole le before =
 pub length_kept : (f : Format) (os : List Offer) (ts : ℕ) (cells new : List Cell) → length cells ≡ sample_count f → new ≡ joined cells (cells_of f os ts) → length new ≡ sample_count f
 length_kept f os ts cells new whole is = ap length is ∙ length-joined cells (cells_of f os ts) (whole ∙ sym (length-cells_of f os ts)) ∙ whole
 
--- One octet more is one write.
+-- One value more is one write.
 pub written_more : (k i : ℕ) (os : List ℕ) (cells : List Cell) (new : Cell) → i < length os → new ≡ join (get_or cells (k + i) Missing) (Value (get_or os i 0))
     → written_from (k + i) (drop i os) cells ≡ written_from (k + (i + 1)) (drop (i + 1) os) (set cells (k + i) new)
 unfolding written_from
@@ -108,7 +138,7 @@ written_more k i os cells new lt now =
     ∙ ap (λ (n : ℕ). written_from n (drop (i + 1) os) (set cells (k + i) (join at (Value (get_or os i 0))))) e
     ∙ ap (λ (c : Cell). written_from (k + (i + 1)) (drop (i + 1) os) (set cells (k + i) c)) (sym now)
 
--- Behind the last octet nothing is left to write.
+-- Behind the last value nothing is left to write.
 pub written_all : (k i : ℕ) (os : List ℕ) (cells : List Cell) → length os ≤ i → written_from (k + i) (drop i os) cells ≡ cells
 unfolding written_from
 written_all k i os cells le = ap (λ (xs : List ℕ). written_from (k + i) xs cells) (drop_all i os le)

@@ -2,7 +2,9 @@ use Rattle.std.proofs.Common.{◌≡◌, ℕ, ◌<◌, false, eqb, length, sym, 
 use Rattle.std.proofs.lemmas.Bool.{eqb-true, eqb-false}
 use Rattle.frame_assembly.specs.Written.{written_from}
 use Rattle.payload_header.specs.Payload.{seen, IsInside}
-use Rattle.frame_assembly.proofs.Put.{no_octets, segment_written, segment_ends, offset_below}
+use Rattle.frame_assembly.proofs.Put.{no_octets, segment_written, segment_ends, segment_whole, offset_below}
+use Rattle.st_format.specs.Pgroup.{bits_of}
+use Rattle.st_format.specs.Samples.{values_in}
 use Rattle.frame_assembly.proofs.joining.join_segment.Goals as goal
 
 some : (n : ℕ) → false ≡ eqb n 0 → 0 < n
@@ -21,12 +23,15 @@ pub join_octets-requires : goal.join_octets-requires
 join_octets-requires c =
     let has : 0 < length c.args.segment.now.octets.now = some (length c.args.segment.now.octets.now) c.if-is_empty.ensures in
     let inside : IsInside c.args.format.now (seen c.args.segment.now) = c.requires.inside has in
-    omega (arith, segment_ends c.args.format.now (seen c.args.segment.now) inside, c.samples_before-start.ensures.value, c.requires.whole)
+    record {
+      whole = segment_whole c.args.format.now (seen c.args.segment.now) inside;
+      room = omega (arith, segment_ends c.args.format.now (seen c.args.segment.now) inside, c.samples_before-start.ensures.value, c.requires.whole);
+    }
 
 pub returns : goal.returns
 returns c = λ ts.
     let has : 0 < length c.args.segment.now.octets.now = some (length c.args.segment.now.octets.now) c.if-is_empty.ensures in
     let inside : IsInside c.args.format.now (seen c.args.segment.now) = c.requires.inside has in
-    c.join_octets.ensures.written
-    ∙ ap (λ (k : ℕ). written_from k c.args.segment.now.octets.now c.args.cells.now) c.samples_before-start.ensures.value
-    ∙ segment_written c.args.format.now ts c.args.cells.now (seen c.args.segment.now) c.requires.whole inside c.join_octets.ensures.octets
+    c.join_octets.ensures
+    ∙ ap (λ (k : ℕ). written_from k (values_in (bits_of c.args.format.now.depth) c.args.segment.now.octets.now) c.args.cells.now) c.samples_before-start.ensures.value
+    ∙ segment_written c.args.format.now ts c.args.cells.now (seen c.args.segment.now) c.requires.whole inside

@@ -1,0 +1,4 @@
+pub mod Numbers
+pub mod Units
+pub mod Values
+pub mod Blocks

@@ -1,0 +1,6 @@
+use Rattle.std.proofs.Common.{◌*◌, take}
+use Rattle.st_format.specs.Samples.{Spells}
+use Rattle.pgroup_pack.proofs.sixteen_bits.pack.Given as goal
+
+abbrev pub invariant-loop-i : goal.invariant-loop-i
+invariant-loop-i l = Spells 16 (take (2 * l.i) l.octets) (take l.i l.samples)

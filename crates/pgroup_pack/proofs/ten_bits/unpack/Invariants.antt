@@ -1,0 +1,6 @@
+use Rattle.std.proofs.Common.{◌*◌, take}
+use Rattle.st_format.specs.Samples.{Spells}
+use Rattle.pgroup_pack.proofs.ten_bits.unpack.Given as goal
+
+abbrev pub invariant-loop-i : goal.invariant-loop-i
+invariant-loop-i l = Spells 10 (take (10 * l.i) l.octets) (take (8 * l.i) l.samples)

@@ -1,0 +1,5 @@
+use Rattle.pgroup_pack.proofs.Values.{spelled_values}
+use Rattle.pgroup_pack.proofs.unpack.Goals as goal
+
+pub returns-clause-values : goal.returns-clause-values
+returns-clause-values c = spelled_values c.args.format.now.depth c.unpack_at.ensures
