@@ -81,6 +81,3 @@ fn pack_at(depth: Depth, samples: &[u16], octets: &mut [u8])
         Depth::D16 => sixteen_bits::pack(samples, octets),
     }
 }
-
-#[cfg(test)]
-mod tests;

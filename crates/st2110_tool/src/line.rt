@@ -75,6 +75,9 @@ fn read_sampling(text: &[u8]) -> Option<Sampling> {
 fn read_depth(text: &[u8]) -> Option<Depth> {
     match read_number(text)? {
         8 => Some(Depth::D8),
+        10 => Some(Depth::D10),
+        12 => Some(Depth::D12),
+        16 => Some(Depth::D16),
         _ => None,
     }
 }

@@ -13,6 +13,8 @@ mod growths;
 #[cfg(test)]
 mod limits;
 #[cfg(test)]
+mod packing;
+#[cfg(test)]
 mod receivers;
 #[cfg(test)]
 mod running;

@@ -1,4 +1,5 @@
-use crate::{pack, sample_at, unpack};
+//! The example packed-octets, and rows of each sampling and depth with each bit in turn.
+use pgroup_pack::{pack, sample_at, unpack};
 use st_format::{Depth, Format, Sampling};
 use std::process::Abort;
 use std::test::Fail;
