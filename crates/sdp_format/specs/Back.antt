@@ -1,0 +1,38 @@
+-- Texts that have a section's canonical line.
+use Rattle.std.specs.Prelude.{◌≡◌, ◌<◌, ◌≤◌, ◌^◌, ◌++◌, ℕ, true, List, [], ◌∷◌, length, Some, Ok}
+use Rattle.std.specs.List.{AllZip}
+use Rattle.std.specs.Str.{str_eq_ignore_ascii_case}
+use Rattle.std.proofs.Common.{codes}
+use Rattle.st_format.specs.Fields.{format_at}
+use Rattle.sdp_format.specs.Bytes.{trimmed, lines}
+use Rattle.sdp_format.specs.Naming.{colorimetry}
+use Rattle.sdp_format.specs.Sections.{Section, Leg, video_sections}
+use Rattle.sdp_format.specs.Reading.{description_at}
+use Rattle.sdp_format.specs.Grammar.{IsMediaLine, HasNone, IsFirst}
+
+-- What a section can say: numbers of 32 bits, a payload type, a format that its own fields give, a colorimetry
+pub record IsLeg (l : Leg) : Type 0 where
+  pub small_type : l.payload_type ≤ 127
+  pub width : l.format.width < 2 ^ 32
+  pub height : l.format.height < 2 ^ 32
+  pub n : l.format.n < 2 ^ 32
+  pub d : l.format.d < 2 ^ 32
+  pub is_format : format_at l.format.sampling l.format.depth l.format.width l.format.height l.format.n l.format.d ≡ Ok l.format
+  pub is_colorimetry : colorimetry l.colorimetry ≡ Some l.colorimetry
+
+-- A section of this port and payload type, with raw/90000 and with this line as its first fmtp line
+pub record HasLine (line : List ℕ) (payload_type : ℕ) (s : Section) (port : ℕ) : Type 0 where
+  pub media : IsMediaLine s.media port payload_type
+  pub map : List ℕ
+  pub rtpmap : IsFirst (codes "a=rtpmap:") payload_type s.lines map
+  pub raw : str_eq_ignore_ascii_case (trimmed map) (codes "raw/90000") ≡ true
+  pub before : List (List ℕ)
+  pub after : List (List ℕ)
+  pub whole : s.lines ≡ before ++ line ∷ after
+  pub none : HasNone (codes "a=fmtp:") payload_type before
+
+-- each text of one or two video sections that have this line says the leg, whatever its ports are
+abbrev pub ReadsBack : List ℕ → Leg → Type 0
+ReadsBack line l =
+    (text ports : List ℕ) → AllZip (HasLine line l.payload_type) (video_sections (lines text)) ports → 0 < length ports → length ports ≤ 2
+    → description_at text ≡ Ok (record { ports = ports; leg = l })

@@ -1,0 +1,42 @@
+-- The one fmtp line of what a section says.
+use Rattle.std.specs.Prelude.{ℕ, ◌==◌, if◌then◌else◌, List, [], ◌∷◌, ◌++◌}
+use Rattle.std.specs.Fmt.{decimal}
+use Rattle.std.proofs.Common.{codes}
+use Rattle.st_format.specs.declared.format.Sampling.{Sampling}
+use Rattle.st_format.specs.declared.format.Sampling.TheVariants.{Ycc422, Ycc444, Rgb}
+use Rattle.st_format.specs.declared.format.Depth.{Depth}
+use Rattle.st_format.specs.declared.format.Depth.TheVariants.{D8, D10, D12, D16}
+use Rattle.sdp_format.specs.declared.sdp.Range.{Range}
+use Rattle.sdp_format.specs.declared.sdp.Range.TheVariants.{Narrow, FullProtect, Full}
+use Rattle.sdp_format.specs.Sections.{Leg}
+
+abbrev pub sampling_text : Sampling → List ℕ
+sampling_text Ycc422 = codes "YCbCr-4:2:2"
+sampling_text Ycc444 = codes "YCbCr-4:4:4"
+sampling_text Rgb = codes "RGB"
+
+abbrev pub depth_text : Depth → List ℕ
+depth_text D8 = codes "8"
+depth_text D10 = codes "10"
+depth_text D12 = codes "12"
+depth_text D16 = codes "16"
+
+-- the part of a rate behind its first number, and the end of the line
+abbrev pub divisor_text : ℕ → List ℕ
+divisor_text d = if d == 1 then [] else codes "/" ++ decimal d
+
+abbrev pub range_text : Range → List ℕ
+range_text Narrow = []
+range_text FullProtect = codes "; RANGE=FULLPROTECT"
+range_text Full = codes "; RANGE=FULL"
+
+unfoldable pub canonical : Leg → List ℕ
+canonical l =
+    codes "a=fmtp:" ++ decimal l.payload_type
+    ++ codes " sampling=" ++ sampling_text l.format.sampling
+    ++ codes "; width=" ++ decimal l.format.width
+    ++ codes "; height=" ++ decimal l.format.height
+    ++ codes "; exactframerate=" ++ decimal l.format.n ++ divisor_text l.format.d
+    ++ codes "; depth=" ++ depth_text l.format.depth
+    ++ codes "; colorimetry=" ++ l.colorimetry
+    ++ codes "; PM=2110GPM; SSN=ST2110-20:2017" ++ range_text l.range

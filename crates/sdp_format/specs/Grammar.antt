@@ -1,0 +1,223 @@
+-- The grammar of SDP texts (SdpGrammar): for each fault a condition of its own, on the whole list of lines, of video
+-- sections or of items, and what a text without a fault says. RFC 8866, 5 and 6; SMPTE ST 2110-20, 7. The order of
+-- the faults, which line counts and the accepted spellings are own.
+use Rattle.std.specs.Prelude.{◌≡◌, ◌≢◌, ◌⊎◌, ◌<◌, ◌≤◌, ◌++◌, ℕ, true, false, List, [], ◌∷◌, All, Contains, Some, None, Ok, IsErr}
+use Rattle.std.specs.List.{list_all}
+use Rattle.std.specs.Str.{str_eq_ignore_ascii_case}
+use Rattle.std.proofs.Common.{codes}
+use Rattle.st_format.specs.declared.format.Sampling.{Sampling}
+use Rattle.st_format.specs.declared.format.Depth.{Depth}
+use Rattle.st_format.specs.Fields.{Fields, format_at}
+use Rattle.sdp_format.specs.declared.sdp.Range.{Range}
+use Rattle.sdp_format.specs.declared.sdp.Range.TheVariants.{Narrow, FullProtect, Full}
+use Rattle.sdp_format.specs.declared.fault.SdpFault.{SdpFault}
+use Rattle.sdp_format.specs.declared.fault.SdpFault.TheVariants.{NoVideo, TooManyLegs, BadMediaLine, NoRtpmap, NotRaw90000, NoFmtp, BadParameter, DoubleParameter, MissingParameter, UnsupportedSampling, UnsupportedDepth, Interlaced, UnsupportedPacking, BadSsn, BadFormat, LegsDiffer}
+use Rattle.sdp_format.specs.Faults.{fault_number}
+use Rattle.sdp_format.specs.Bytes.{is_space, trimmed, number}
+use Rattle.sdp_format.specs.Naming.{Item, items, rate, colorimetry, range_named, required}
+use Rattle.sdp_format.specs.Sections.{Section, Leg, Description}
+use Rattle.sdp_format.specs.Canonical.{sampling_text, depth_text}
+
+-- LINES
+
+-- The first line of a video section: one port and one payload type, single spaces between the words, spaces and tabs
+-- at the end (RFC 8866, 5.14)
+pub record IsMediaLine (line : List ℕ) (port payload_type : ℕ) : Type 0 where
+  pub port_text : List ℕ
+  pub type_text : List ℕ
+  pub spaces : List ℕ
+  pub whole : line ≡ codes "m=video " ++ port_text ++ codes " RTP/AVP " ++ type_text ++ spaces
+  pub is_port : number port_text ≡ Some port
+  pub most_port : port ≤ 65535
+  pub is_type : number type_text ≡ Some payload_type
+  pub most_type : payload_type ≤ 127
+  pub blank : list_all is_space spaces ≡ true
+
+-- An attribute of a payload type: the word, a number equal to the type, a space, and the rest (RFC 8866, 6.6, 6.15)
+pub record IsAttribute (word : List ℕ) (payload_type : ℕ) (line rest : List ℕ) : Type 0 where
+  pub digits : List ℕ
+  pub whole : line ≡ word ++ digits ++ 32 ∷ rest
+  pub is_type : number digits ≡ Some payload_type
+
+abbrev pub HasNone : List ℕ → ℕ → List (List ℕ) → Type 0
+HasNone word payload_type lines = All (λ line. (rest : List ℕ) → IsAttribute word payload_type line rest → ⊥) lines
+
+-- The first such line counts
+pub record IsFirst (word : List ℕ) (payload_type : ℕ) (lines : List (List ℕ)) (rest : List ℕ) : Type 0 where
+  pub before : List (List ℕ)
+  pub line : List ℕ
+  pub after : List (List ℕ)
+  pub whole : lines ≡ before ++ line ∷ after
+  pub none : HasNone word payload_type before
+  pub first : IsAttribute word payload_type line rest
+
+-- ITEMS
+
+-- an item has this name and this value; some item has the name; none has
+abbrev pub Says : List Item → List ℕ → List ℕ → Type 0
+Says is name value = Contains is (name, value)
+
+abbrev pub Has : List Item → List ℕ → Type 0
+Has is name = (value : List ℕ) × Says is name value
+
+abbrev pub Lacks : List Item → List ℕ → Type 0
+Lacks is name = (value : List ℕ) → Says is name value → ⊥
+
+-- An item that is wrong by itself: without a name, or with a value that is not of its name's form
+pub data IsBadItem (i : Item) : Type 0 where
+  NoName : i.0 ≡ [] → IsBadItem i
+  NoWidth : i.0 ≡ codes "width" → number i.1 ≡ None → IsBadItem i
+  NoHeight : i.0 ≡ codes "height" → number i.1 ≡ None → IsBadItem i
+  NoRate : i.0 ≡ codes "exactframerate" → rate i.1 ≡ None → IsBadItem i
+  NoColorimetry : i.0 ≡ codes "colorimetry" → colorimetry i.1 ≡ None → IsBadItem i
+  NoRange : i.0 ≡ codes "RANGE" → range_named i.1 ≡ None → IsBadItem i
+
+-- Two items with one name
+pub record HasDouble (is : List Item) : Type 0 where
+  pub before : List Item
+  pub first : Item
+  pub between : List Item
+  pub second : Item
+  pub after : List Item
+  pub whole : is ≡ before ++ first ∷ (between ++ second ∷ after)
+  pub same : second.0 ≡ first.0
+
+-- What the items say of a format, the rate as it is given (SMPTE ST 2110-20, 7)
+pub record IsGiven (is : List Item) (given : Fields) : Type 0 where
+  pub sampling : Says is (codes "sampling") (sampling_text given.sampling)
+  pub depth : Says is (codes "depth") (depth_text given.depth)
+  pub width : (text : List ℕ) × Says is (codes "width") text × (number text ≡ Some given.width)
+  pub height : (text : List ℕ) × Says is (codes "height") text × (number text ≡ Some given.height)
+  pub rate_given : (text : List ℕ) × Says is (codes "exactframerate") text × (rate text ≡ Some (given.n, given.d))
+
+-- The condition of each fault of items, by itself
+abbrev pub ItemFault : SdpFault → List Item → Type 0
+ItemFault BadParameter is = (i : Item) × Contains is i × IsBadItem i
+ItemFault DoubleParameter is = HasDouble is
+ItemFault MissingParameter is = (name : List ℕ) × Contains required name × Lacks is name
+ItemFault UnsupportedSampling is = (text : List ℕ) × Says is (codes "sampling") text × ((s : Sampling) → text ≢ sampling_text s)
+ItemFault UnsupportedDepth is = (text : List ℕ) × Says is (codes "depth") text × ((b : Depth) → text ≢ depth_text b)
+ItemFault Interlaced is = Has is (codes "interlace") ⊎ Has is (codes "segmented")
+ItemFault UnsupportedPacking is = (text : List ℕ) × Says is (codes "PM") text × (text ≢ codes "2110GPM")
+ItemFault BadSsn is = (text : List ℕ) × Says is (codes "SSN") text × ((rest : List ℕ) → text ≢ codes "ST2110-20:" ++ rest)
+ItemFault BadFormat is = (given : Fields) × IsGiven is given × IsErr (format_at given.sampling given.depth given.width given.height given.n given.d)
+ItemFault fault is = ⊥
+
+-- what the items say of the range: narrow where they say nothing
+abbrev pub SaysRange : List Item → Range → Type 0
+SaysRange is Narrow = Lacks is (codes "RANGE") ⊎ Says is (codes "RANGE") (codes "NARROW")
+SaysRange is FullProtect = Says is (codes "RANGE") (codes "FULLPROTECT")
+SaysRange is Full = Says is (codes "RANGE") (codes "FULL")
+
+-- What items without a fault say: the format of what they give, the range, the colorimetry
+pub record IsSaid (is : List Item) (l : Leg) : Type 0 where
+  pub given : Fields
+  pub is_given : IsGiven is given
+  pub format : format_at given.sampling given.depth given.width given.height given.n given.d ≡ Ok l.format
+  pub range : SaysRange is l.range
+  pub colorimetry : Says is (codes "colorimetry") l.colorimetry
+
+-- SECTIONS
+
+-- the items of a section: those of the first fmtp line of its payload type
+pub record HasItems (s : Section) (port payload_type : ℕ) (is : List Item) : Type 0 where
+  pub media : IsMediaLine s.media port payload_type
+  pub text : List ℕ
+  pub fmtp : IsFirst (codes "a=fmtp:") payload_type s.lines text
+  pub list : is ≡ items text
+
+-- no line with the word for the payload type; another first rtpmap line than raw/90000; items with a fault
+pub record LacksLine (word : List ℕ) (s : Section) : Type 0 where
+  pub port : ℕ
+  pub payload_type : ℕ
+  pub media : IsMediaLine s.media port payload_type
+  pub none : HasNone word payload_type s.lines
+
+pub record HasOtherMap (s : Section) : Type 0 where
+  pub port : ℕ
+  pub payload_type : ℕ
+  pub map : List ℕ
+  pub media : IsMediaLine s.media port payload_type
+  pub rtpmap : IsFirst (codes "a=rtpmap:") payload_type s.lines map
+  pub other : str_eq_ignore_ascii_case (trimmed map) (codes "raw/90000") ≡ false
+
+pub record HasItemFault (fault : SdpFault) (s : Section) : Type 0 where
+  pub port : ℕ
+  pub payload_type : ℕ
+  pub list : List Item
+  pub has : HasItems s port payload_type list
+  pub holds : ItemFault fault list
+
+-- The condition of each fault of a section, by itself
+abbrev pub SectionFault : SdpFault → Section → Type 0
+SectionFault BadMediaLine s = (port payload_type : ℕ) → IsMediaLine s.media port payload_type → ⊥
+SectionFault NoRtpmap s = LacksLine (codes "a=rtpmap:") s
+SectionFault NotRaw90000 s = HasOtherMap s
+SectionFault NoFmtp s = LacksLine (codes "a=fmtp:") s
+SectionFault fault s = HasItemFault fault s
+
+-- no condition of a fault before this one holds; the first fault of a section in the order of numbers; no fault at all
+abbrev pub NoneBefore : SdpFault → Section → Type 0
+NoneBefore fault s = (other : SdpFault) → fault_number other < fault_number fault → SectionFault other s → ⊥
+
+abbrev pub IsFirstFault : SdpFault → Section → Type 0
+IsFirstFault fault s = SectionFault fault s × NoneBefore fault s
+
+abbrev pub IsFaultless : Section → Type 0
+IsFaultless s = (fault : SdpFault) → SectionFault fault s → ⊥
+
+-- What a section without a fault says
+pub record SectionSays (s : Section) (port : ℕ) (l : Leg) : Type 0 where
+  pub list : List Item
+  pub has : HasItems s port l.payload_type list
+  pub said : IsSaid list l
+
+-- TEXTS
+
+-- two sections that say something else than each other
+pub record Differ (s t : Section) : Type 0 where
+  pub port : ℕ
+  pub leg : Leg
+  pub second_port : ℕ
+  pub second_leg : Leg
+  pub says : SectionSays s port leg
+  pub second_says : SectionSays t second_port second_leg
+  pub unlike : leg ≢ second_leg
+
+abbrev pub TwoDiffer : List Section → Type 0
+TwoDiffer [] = ⊥
+TwoDiffer (s ∷ []) = ⊥
+TwoDiffer (s ∷ t ∷ []) = IsFaultless s × IsFaultless t × Differ s t
+TwoDiffer (s ∷ t ∷ u ∷ rest) = ⊥
+
+-- The fault of the video sections of a text: that of the first section, then that of the second, then that they differ
+abbrev pub IsTextFault : SdpFault → List Section → Type 0
+IsTextFault fault [] = fault ≡ NoVideo
+IsTextFault fault (s ∷ []) = IsFirstFault fault s
+IsTextFault fault (s ∷ t ∷ []) =
+    IsFirstFault fault s
+    ⊎ ((IsFaultless s × IsFirstFault fault t)
+    ⊎ (IsFaultless s × IsFaultless t × Differ s t × (fault ≡ LegsDiffer)))
+IsTextFault fault (s ∷ t ∷ u ∷ rest) = fault ≡ TooManyLegs
+
+-- What one or two video sections without a fault say
+pub record BothSay (s t : Section) (d : Description) : Type 0 where
+  pub faultless : IsFaultless s
+  pub second_faultless : IsFaultless t
+  pub port : ℕ
+  pub second_port : ℕ
+  pub says : SectionSays s port d.leg
+  pub second_says : SectionSays t second_port d.leg
+  pub ports : d.ports ≡ port ∷ second_port ∷ []
+
+pub record OneSays (s : Section) (d : Description) : Type 0 where
+  pub faultless : IsFaultless s
+  pub port : ℕ
+  pub says : SectionSays s port d.leg
+  pub ports : d.ports ≡ port ∷ []
+
+abbrev pub IsDescribed : Description → List Section → Type 0
+IsDescribed d [] = ⊥
+IsDescribed d (s ∷ []) = OneSays s d
+IsDescribed d (s ∷ t ∷ []) = BothSay s t d
+IsDescribed d (s ∷ t ∷ u ∷ rest) = ⊥

@@ -1,0 +1,10 @@
+pub mod Faults
+pub mod Bytes
+pub mod Naming
+pub mod Sections
+pub mod Reading
+pub mod Grammar
+pub mod ReadLeg
+pub mod Views
+pub mod Canonical
+pub mod Back

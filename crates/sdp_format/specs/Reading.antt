@@ -1,0 +1,186 @@
+-- How a text is read: each fault in its order, or what the text says. Grammar.antt has what the faults and the values mean.
+use Rattle.std.specs.Prelude.{◌≡◌, ◌⊎◌, ℕ, Bool, true, false, not, ◌&&◌, ◌||◌, nat_le, ◌==◌, if◌then◌else◌, is_some, is_none, List, [], ◌∷◌, map, length, take, drop, Option, Some, None, Result, Ok, Err, IsOk}
+use Rattle.std.specs.List.{list_all, list_any}
+use Rattle.std.specs.Str.{bytes_eq, str_eq_ignore_ascii_case}
+use Rattle.std.proofs.Common.{codes}
+use Rattle.st_format.specs.declared.format.Sampling.{Sampling}
+use Rattle.st_format.specs.declared.format.Sampling.TheVariants.{Ycc422, Ycc444, Rgb}
+use Rattle.st_format.specs.declared.format.Depth.{Depth}
+use Rattle.st_format.specs.declared.format.Depth.TheVariants.{D8, D10, D12, D16}
+use Rattle.st_format.specs.Fields.{Fields, format_at}
+use Rattle.sdp_format.specs.declared.sdp.Range.{Range}
+use Rattle.sdp_format.specs.declared.sdp.Range.TheVariants.{Narrow, FullProtect, Full}
+use Rattle.sdp_format.specs.declared.fault.SdpFault.{SdpFault}
+use Rattle.sdp_format.specs.declared.fault.SdpFault.TheVariants.{NoMemory, NoVideo, TooManyLegs, BadMediaLine, NoRtpmap, NotRaw90000, NoFmtp, BadParameter, DoubleParameter, MissingParameter, UnsupportedSampling, UnsupportedDepth, Interlaced, UnsupportedPacking, BadSsn, BadFormat, LegsDiffer}
+use Rattle.sdp_format.specs.Bytes.{trimmed, trim_end, number, at_most, split, lines, begins, attribute}
+use Rattle.sdp_format.specs.Sections.{Section, Leg, Description, video_sections}
+use Rattle.sdp_format.specs.Naming.{Item, items, is_bad, has_double, has, value_of, required, rate, range_or, colorimetry, text_of}
+
+infixl 10 ◌>>=◌
+abbrev pub ◌>>=◌ : {A B : Type 0} → Result A SdpFault → (A → Result B SdpFault) → Result B SdpFault
+(Ok x) >>= f = f x
+(Err e) >>= f = Err e
+
+-- a value that has to be there, and a condition that has not to hold
+abbrev pub wanted : {A : Type 0} → SdpFault → Option A → Result A SdpFault
+wanted fault None = Err fault
+wanted fault (Some x) = Ok x
+
+abbrev pub refused : SdpFault → Bool → Result (Unit {0}) SdpFault
+refused fault holds = if holds then Err fault else Ok tt
+
+-- port and payload type of a media line
+abbrev pub both : Option ℕ → Option ℕ → Option (ℕ × ℕ)
+both None b = None
+both (Some a) None = None
+both (Some a) (Some b) = Some (a, b)
+
+abbrev pub media_of_parts : List (List ℕ) → Option (ℕ × ℕ)
+media_of_parts [] = None
+media_of_parts (a ∷ []) = None
+media_of_parts (a ∷ b ∷ []) = None
+media_of_parts (a ∷ b ∷ c ∷ []) = None
+media_of_parts (a ∷ port ∷ profile ∷ type ∷ []) =
+    if bytes_eq a (codes "m=video") && bytes_eq profile (codes "RTP/AVP") then both (at_most 65535 (number port)) (at_most 127 (number type)) else None
+media_of_parts (a ∷ b ∷ c ∷ d ∷ e ∷ es) = None
+
+unfoldable pub media_of : List ℕ → Option (ℕ × ℕ)
+media_of line = media_of_parts (split 32 (trim_end line))
+
+-- what follows in the first line that has the word and the number
+abbrev pub first_attribute : List ℕ → ℕ → List (List ℕ) → Option (List ℕ)
+first_attribute word n [] = None
+first_attribute word n (l ∷ ls) = if is_some (attribute word n l) then attribute word n l else first_attribute word n ls
+
+unfoldable pub is_raw90000 : List ℕ → Bool
+is_raw90000 text = str_eq_ignore_ascii_case (trimmed text) (codes "raw/90000")
+
+unfoldable pub sampling_named : List ℕ → Option Sampling
+sampling_named text =
+    if bytes_eq text (codes "YCbCr-4:2:2") then Some Ycc422 else
+    (if bytes_eq text (codes "YCbCr-4:4:4") then Some Ycc444 else
+    (if bytes_eq text (codes "RGB") then Some Rgb else None))
+
+unfoldable pub depth_named : List ℕ → Option Depth
+depth_named text =
+    if bytes_eq text (codes "8") then Some D8 else
+    (if bytes_eq text (codes "10") then Some D10 else
+    (if bytes_eq text (codes "12") then Some D12 else
+    (if bytes_eq text (codes "16") then Some D16 else None)))
+
+abbrev pub is_missing : List Item → Bool
+is_missing is = not (list_all (has is) required)
+
+abbrev pub is_interlaced : List Item → Bool
+is_interlaced is = has is (codes "interlace") || has is (codes "segmented")
+
+abbrev pub seen : {X Y : Type 0} → (X → Y) → Result X SdpFault → Result Y SdpFault
+seen view (Ok x) = Ok (view x)
+seen view (Err e) = Err e
+
+-- What a function returned, seen by view, is what reading gives, unless memory ran out
+abbrev pub Gives : {X Y : Type 0} → (X → Y) → Result X SdpFault → Result Y SdpFault → Type 0
+Gives view (Ok x) read = read ≡ Ok (view x)
+Gives view (Err e) read = (e ≡ NoMemory) ⊎ (read ≡ Err e)
+
+abbrev pub or_fault : {E : Type 0} → Result Fields E → Result Fields SdpFault
+or_fault (Ok f) = Ok f
+or_fault (Err e) = Err BadFormat
+
+-- the format that the items give, once each has its form and stands there
+unfoldable pub format_of : List Item → Result Fields SdpFault
+format_of is = do
+  sampling ← wanted UnsupportedSampling (sampling_named (text_of (codes "sampling") is))
+  depth ← wanted UnsupportedDepth (depth_named (text_of (codes "depth") is))
+  tt ← refused Interlaced (is_interlaced is)
+  tt ← refused UnsupportedPacking (not (bytes_eq (text_of (codes "PM") is) (codes "2110GPM")))
+  tt ← refused BadSsn (not (begins (codes "ST2110-20:") (text_of (codes "SSN") is)))
+  width ← wanted BadParameter (number (text_of (codes "width") is))
+  height ← wanted BadParameter (number (text_of (codes "height") is))
+  rate ← wanted BadParameter (rate (text_of (codes "exactframerate") is))
+  or_fault (format_at sampling depth width height rate.0 rate.1)
+
+-- what items say, with the payload type of their line
+unfoldable pub said_in : ℕ → List Item → Result Leg SdpFault
+said_in payload_type is = do
+  tt ← refused MissingParameter (is_missing is)
+  format ← format_of is
+  range ← wanted BadParameter (range_or (value_of (codes "RANGE") is))
+  colorimetry ← wanted BadParameter (colorimetry (text_of (codes "colorimetry") is))
+  Ok (record { payload_type = payload_type; format = format; range = range; colorimetry = colorimetry })
+
+-- the same, of items that may have one name twice
+unfoldable pub leg_of : ℕ → List Item → Result Leg SdpFault
+leg_of payload_type is = do
+  tt ← refused DoubleParameter (has_double is)
+  said_in payload_type is
+
+-- The port, the payload type and the items of a section
+pub record Listed : Type 0 where
+  pub port : ℕ
+  pub payload_type : ℕ
+  pub list : List Item
+
+unfoldable pub listed_at : Section → Result Listed SdpFault
+listed_at s = do
+  media ← wanted BadMediaLine (media_of s.media)
+  map ← wanted NoRtpmap (first_attribute (codes "a=rtpmap:") media.1 s.lines)
+  tt ← refused NotRaw90000 (not (is_raw90000 map))
+  text ← wanted NoFmtp (first_attribute (codes "a=fmtp:") media.1 s.lines)
+  tt ← refused BadParameter (list_any is_bad (items text))
+  Ok (record { port = media.0; payload_type = media.1; list = items text })
+
+-- the port of a section, and what it says
+unfoldable pub section_at : Section → Result (ℕ × Leg) SdpFault
+section_at s = do
+  listed ← listed_at s
+  leg ← leg_of listed.payload_type listed.list
+  Ok (listed.port, leg)
+
+-- Memory is first wanted for the items of a first section, where there are one or two sections
+abbrev pub WantsMemory : List Section → Type 0
+WantsMemory [] = ⊥
+WantsMemory (s ∷ []) = IsOk (listed_at s)
+WantsMemory (s ∷ t ∷ []) = IsOk (listed_at s)
+WantsMemory (s ∷ t ∷ u ∷ rest) = ⊥
+
+-- whether two sections say the same
+abbrev pub same_sampling : Sampling → Sampling → Bool
+same_sampling Ycc422 Ycc422 = true
+same_sampling Ycc444 Ycc444 = true
+same_sampling Rgb Rgb = true
+same_sampling a b = false
+
+abbrev pub same_depth : Depth → Depth → Bool
+same_depth D8 D8 = true
+same_depth D10 D10 = true
+same_depth D12 D12 = true
+same_depth D16 D16 = true
+same_depth a b = false
+
+abbrev pub same_range : Range → Range → Bool
+same_range Narrow Narrow = true
+same_range FullProtect FullProtect = true
+same_range Full Full = true
+same_range a b = false
+
+abbrev pub same_format : Fields → Fields → Bool
+same_format f g = same_sampling f.sampling g.sampling && same_depth f.depth g.depth && f.width == g.width && f.height == g.height && f.n == g.n && f.d == g.d
+
+unfoldable pub same_leg : Leg → Leg → Bool
+same_leg l m = l.payload_type == m.payload_type && same_format l.format m.format && same_range l.range m.range && bytes_eq l.colorimetry m.colorimetry
+
+unfoldable pub description_of : List Section → Result Description SdpFault
+description_of [] = Err NoVideo
+description_of (s ∷ []) = do
+  first ← section_at s
+  Ok (record { ports = first.0 ∷ []; leg = first.1 })
+description_of (s ∷ t ∷ []) = do
+  first ← section_at s
+  second ← section_at t
+  tt ← refused LegsDiffer (not (same_leg first.1 second.1))
+  Ok (record { ports = first.0 ∷ second.0 ∷ []; leg = first.1 })
+description_of (s ∷ t ∷ u ∷ rest) = Err TooManyLegs
+
+unfoldable pub description_at : List ℕ → Result Description SdpFault
+description_at text = description_of (video_sections (lines text))

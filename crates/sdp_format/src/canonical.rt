@@ -1,0 +1,110 @@
+//! The one fmtp line of what a text says.
+ghost use Rattle.std.specs.Prelude.{◌≡◌, ◌++◌, MatchResult, IfOk, decimal};
+ghost use Rattle.sdp_format.specs.declared.fault.SdpFault.TheVariants.{NoMemory};
+ghost use Rattle.sdp_format.specs.Canonical.{canonical, divisor_text, sampling_text, depth_text, range_text};
+ghost use Rattle.sdp_format.specs.Views.{description};
+ghost use Rattle.sdp_format.specs.Back.{ReadsBack};
+
+use crate::fault::SdpFault;
+use crate::sdp::{Range, Sdp};
+use st_format::{Depth, Sampling};
+use std::alloc::Allocator;
+
+fn sampling_text(sampling: Sampling) -> &'static [u8]
+    ensures { result.now ≡ sampling_text sampling }
+{
+    match sampling {
+        Sampling::Ycc422 => b"YCbCr-4:2:2",
+        Sampling::Ycc444 => b"YCbCr-4:4:4",
+        Sampling::Rgb => b"RGB",
+    }
+}
+
+fn depth_text(depth: Depth) -> &'static [u8]
+    ensures { result.now ≡ depth_text depth }
+{
+    match depth {
+        Depth::D8 => b"8",
+        Depth::D10 => b"10",
+        Depth::D12 => b"12",
+        Depth::D16 => b"16",
+    }
+}
+
+fn range_text(range: Range) -> &'static [u8]
+    ensures { result.now ≡ range_text range }
+{
+    match range {
+        Range::Narrow => b"",
+        Range::FullProtect => b"; RANGE=FULLPROTECT",
+        Range::Full => b"; RANGE=FULL",
+    }
+}
+
+fn add<A: Allocator + Copy>(text: &mut Vec<u8, A>, piece: &[u8]) -> Result<(), SdpFault>
+    ensures { MatchResult result (λ _. text.new.items ≡ text.old.items ++ piece.now) (λ e. e ≡ NoMemory) }
+{
+    text.extend_from_slice(piece)?;
+    Ok(())
+}
+
+fn add_number<A: Allocator + Copy>(
+    alloc: A,
+    text: &mut Vec<u8, A>,
+    number: u32,
+) -> Result<(), SdpFault>
+    ensures { MatchResult result (λ _. text.new.items ≡ text.old.items ++ decimal number) (λ e. e ≡ NoMemory) }
+{
+    let digits = format!(in alloc; "{number}")?;
+    add(text, digits.as_bytes())
+}
+
+fn add_divisor<A: Allocator + Copy>(
+    alloc: A,
+    text: &mut Vec<u8, A>,
+    number: u32,
+) -> Result<(), SdpFault>
+    ensures { MatchResult result (λ _. text.new.items ≡ text.old.items ++ divisor_text number) (λ e. e ≡ NoMemory) }
+{
+    if number == 1 {
+        return Ok(());
+    }
+    let digits = format!(in alloc; "/{number}")?;
+    add(text, digits.as_bytes())
+}
+
+#[tactic(auto, unfolding(crate::specs::Canonical::canonical))]
+fn written<A: Allocator + Copy>(alloc: A, sdp: &Sdp) -> Result<Vec<u8, A>, SdpFault>
+    ensures { MatchResult result (λ v. v.items ≡ canonical (description sdp.now).leg) (λ e. e ≡ NoMemory) }
+{
+    let mut text = Vec::new(alloc);
+    add(&mut text, b"a=fmtp:")?;
+    add_number(alloc, &mut text, sdp.payload_type as u32)?;
+    add(&mut text, b" sampling=")?;
+    add(&mut text, sampling_text(sdp.format.sampling))?;
+    add(&mut text, b"; width=")?;
+    add_number(alloc, &mut text, sdp.format.width)?;
+    add(&mut text, b"; height=")?;
+    add_number(alloc, &mut text, sdp.format.height)?;
+    add(&mut text, b"; exactframerate=")?;
+    add_number(alloc, &mut text, sdp.format.n)?;
+    add_divisor(alloc, &mut text, sdp.format.d)?;
+    add(&mut text, b"; depth=")?;
+    add(&mut text, depth_text(sdp.format.depth))?;
+    add(&mut text, b"; colorimetry=")?;
+    add(&mut text, sdp.colorimetry.as_slice())?;
+    add(&mut text, b"; PM=2110GPM; SSN=ST2110-20:2017")?;
+    add(&mut text, range_text(sdp.range))?;
+    Ok(text)
+}
+
+/// The canonical fmtp line of what a text says, without a line end (SMPTE ST 2110-20, 7). A text of one or two video
+/// sections that have it as their fmtp line reads back as the same payload type, format, range and colorimetry.
+///
+/// The only error is `NoMemory`, where a growth was refused.
+pub fn fmtp_text<A: Allocator + Copy>(alloc: A, sdp: &Sdp) -> Result<Vec<u8, A>, SdpFault>
+    ensures line { MatchResult result (λ v. v.items ≡ canonical (description sdp.now).leg) (λ e. e ≡ NoMemory) }
+    ensures back { IfOk result (λ v. ReadsBack v.items (description sdp.now).leg) }
+{
+    written(alloc, sdp)
+}

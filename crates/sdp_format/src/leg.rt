@@ -1,0 +1,73 @@
+//! What one section says.
+ghost use Rattle.std.specs.Prelude.{◌≡◌, ◌≤◌};
+ghost use Rattle.sdp_format.specs.Views.{pairs};
+ghost use Rattle.sdp_format.specs.Reading.{seen, Gives, format_of, sampling_named, depth_named};
+ghost use Rattle.st_format.specs.Fields.{fields_of};
+
+use crate::fault::SdpFault;
+use crate::items::rate;
+use crate::lines::{begins, is_word};
+use crate::parameters::{Parameters, is_interlaced, text_of};
+use crate::text::number;
+use st_format::{Depth, Format, Sampling};
+use std::alloc::Allocator;
+
+#[tactic(auto, unfolding(crate::specs::Reading::sampling_named))]
+fn sampling_named(text: &[u8]) -> Option<Sampling>
+    ensures { result ≡ sampling_named text.now }
+{
+    if is_word(text, b"YCbCr-4:2:2") {
+        Some(Sampling::Ycc422)
+    } else if is_word(text, b"YCbCr-4:4:4") {
+        Some(Sampling::Ycc444)
+    } else if is_word(text, b"RGB") {
+        Some(Sampling::Rgb)
+    } else {
+        None
+    }
+}
+
+#[tactic(auto, unfolding(crate::specs::Reading::depth_named))]
+fn depth_named(text: &[u8]) -> Option<Depth>
+    ensures { result ≡ depth_named text.now }
+{
+    if is_word(text, b"8") {
+        Some(Depth::D8)
+    } else if is_word(text, b"10") {
+        Some(Depth::D10)
+    } else if is_word(text, b"12") {
+        Some(Depth::D12)
+    } else if is_word(text, b"16") {
+        Some(Depth::D16)
+    } else {
+        None
+    }
+}
+
+/// The format that the items give.
+#[tactic(auto, unfolding(crate::specs::Reading::format_of))]
+pub(crate) fn format_of<'a, A: Allocator + Copy>(
+    map: &Parameters<'a, A>,
+) -> Result<Format, SdpFault>
+    ensures { seen fields_of result ≡ format_of (pairs map.now.entries) }
+{
+    let sampling =
+        sampling_named(text_of(map, b"sampling")).ok_or(SdpFault::UnsupportedSampling)?;
+    let depth = depth_named(text_of(map, b"depth")).ok_or(SdpFault::UnsupportedDepth)?;
+    if is_interlaced(map) {
+        return Err(SdpFault::Interlaced);
+    }
+    if !is_word(text_of(map, b"PM"), b"2110GPM") {
+        return Err(SdpFault::UnsupportedPacking);
+    }
+    if !begins(b"ST2110-20:", text_of(map, b"SSN")) {
+        return Err(SdpFault::BadSsn);
+    }
+    let width = number(text_of(map, b"width")).ok_or(SdpFault::BadParameter)?;
+    let height = number(text_of(map, b"height")).ok_or(SdpFault::BadParameter)?;
+    let (n, d) = rate(text_of(map, b"exactframerate")).ok_or(SdpFault::BadParameter)?;
+    match Format::new(sampling, depth, width, height, n, d) {
+        Ok(format) => Ok(format),
+        Err(_) => Err(SdpFault::BadFormat),
+    }
+}

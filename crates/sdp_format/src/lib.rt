@@ -1,0 +1,22 @@
+//! SDP of studio video (RFC 8866; SMPTE ST 2110-20, 7): what a text announces is read exactly, or refused by the first
+//! of its faults, and written as one canonical fmtp line.
+#![tactic(auto)]
+
+mod canonical;
+mod fault;
+mod items;
+pub mod laws;
+mod leg;
+mod lines;
+mod parameters;
+mod read;
+mod sdp;
+mod text;
+
+pub use canonical::fmtp_text;
+pub use fault::SdpFault;
+pub use read::read_sdp;
+pub use sdp::{Range, Sdp};
+
+#[cfg(test)]
+mod tests;

@@ -1,0 +1,245 @@
+//! The reader of whole texts.
+ghost use Rattle.std.specs.Prelude.{◌≡◌, ◌≢◌, ◌≤◌, ◌<◌, ◌∷◌, [], None, Some, length, ◌⊎◌, IfOk, IfErr, IsErrOf, IsOk};
+ghost use Rattle.std.specs.Option.{option_copied};
+ghost use Rattle.sdp_format.specs.Bytes.{lines};
+ghost use Rattle.sdp_format.specs.Views.{pairs, description};
+ghost use Rattle.sdp_format.specs.declared.fault.SdpFault.TheVariants.{NoMemory};
+ghost use Rattle.sdp_format.specs.Sections.{video_sections};
+ghost use Rattle.sdp_format.specs.Reading.{Gives, seen, leg_of, said_in, listed_at, WantsMemory, same_leg, same_sampling, same_depth, same_range, same_format, section_at, description_at, description_of};
+ghost use Rattle.sdp_format.specs.Grammar.{IsDescribed, IsTextFault};
+ghost use Rattle.st_format.specs.Fields.{fields_of};
+ghost use Rattle.sdp_format.specs.Naming.{items, range_or};
+ghost use Rattle.sdp_format.specs.ReadLeg.{leg_seen, listed_seen, section_of};
+
+use crate::fault::SdpFault;
+use crate::items::{colorimetry, has_bad, range_named};
+use crate::leg::format_of;
+use crate::lines::{first_attribute, is_word, is_raw90000, media_of, next_video};
+use crate::parameters::{Parameters, is_missing, parameters_of, text_of, value_of};
+use crate::sdp::{Leg, Listed, Range, Sdp};
+use arrayvec::ArrayVec;
+use st_format::{Depth, Format, Sampling};
+use std::alloc::Allocator;
+
+fn range_or(text: Option<&[u8]>) -> Option<Range>
+    ensures { result ≡ range_or (option_copied text.entry) }
+{
+    match text {
+        Some(text) => range_named(text),
+        None => Some(Range::Narrow),
+    }
+}
+
+/// What items of different names say.
+#[tactic(auto, unfolding(crate::specs::Reading::said_in))]
+fn said_in<'a, A: Allocator + Copy>(
+    payload_type: u8,
+    map: &Parameters<'a, A>,
+) -> Result<Leg, SdpFault>
+    requires { payload_type ≤ 127 }
+    ensures { seen leg_seen result ≡ said_in payload_type (pairs map.now.entries) }
+{
+    if is_missing(map) {
+        return Err(SdpFault::MissingParameter);
+    }
+    let format = format_of(map)?;
+    let range = range_or(value_of(map, b"RANGE")).ok_or(SdpFault::BadParameter)?;
+    let colorimetry = colorimetry(text_of(map, b"colorimetry")).ok_or(SdpFault::BadParameter)?;
+    Ok(Leg {
+        payload_type,
+        format,
+        range,
+        colorimetry,
+    })
+}
+
+/// What the items of an fmtp line say.
+#[tactic(auto, unfolding(crate::specs::Reading::leg_of))]
+fn leg_of<A: Allocator + Copy>(alloc: A, payload_type: u8, text: &[u8]) -> Result<Leg, SdpFault>
+    requires { payload_type ≤ 127 }
+    ensures { Gives leg_seen result (leg_of payload_type (items text.now)) }
+{
+    let map = parameters_of(alloc, text)?;
+    said_in(payload_type, &map)
+}
+
+/// The port and the payload type of a section, and the text of its items, none of them bad.
+#[tactic(auto, unfolding(crate::specs::Reading::listed_at))]
+fn listed<'a>(media: &[u8], left: Option<&'a [u8]>) -> Result<Listed<'a>, SdpFault>
+    ensures exact { seen listed_seen result ≡ listed_at (section_of media.now (option_copied left.entry)) }
+    ensures no_memory { IfErr result (λ e. e ≢ NoMemory) }
+{
+    let (port, payload_type) = media_of(media).ok_or(SdpFault::BadMediaLine)?;
+    let map = first_attribute(b"a=rtpmap:", payload_type, left).ok_or(SdpFault::NoRtpmap)?;
+    if !is_raw90000(map) {
+        return Err(SdpFault::NotRaw90000);
+    }
+    let text = first_attribute(b"a=fmtp:", payload_type, left).ok_or(SdpFault::NoFmtp)?;
+    if has_bad(text) {
+        return Err(SdpFault::BadParameter);
+    }
+    Ok(Listed {
+        port,
+        payload_type,
+        text,
+    })
+}
+
+/// The port of a section, and what the section says.
+#[tactic(auto, unfolding(crate::specs::Reading::section_at))]
+fn section<A: Allocator + Copy>(
+    alloc: A,
+    media: &[u8],
+    left: Option<&[u8]>,
+) -> Result<(u16, Leg), SdpFault>
+    ensures exact { Gives (λ x. (x.0, leg_seen x.1)) result (section_at (section_of media.now (option_copied left.entry))) }
+    ensures found { IsOk result → IsOk (listed_at (section_of media.now (option_copied left.entry))) }
+    ensures memory { IsErrOf result NoMemory → IsOk (listed_at (section_of media.now (option_copied left.entry))) }
+{
+    let listed = listed(media, left)?;
+    let leg = leg_of(alloc, listed.payload_type, listed.text)?;
+    Ok((listed.port, leg))
+}
+
+fn same_sampling(a: Sampling, b: Sampling) -> bool
+    ensures { result ≡ same_sampling a b }
+{
+    match (a, b) {
+        (Sampling::Ycc422, Sampling::Ycc422) => true,
+        (Sampling::Ycc444, Sampling::Ycc444) => true,
+        (Sampling::Rgb, Sampling::Rgb) => true,
+        _ => false,
+    }
+}
+
+fn same_depth(a: Depth, b: Depth) -> bool
+    ensures { result ≡ same_depth a b }
+{
+    match (a, b) {
+        (Depth::D8, Depth::D8) => true,
+        (Depth::D10, Depth::D10) => true,
+        (Depth::D12, Depth::D12) => true,
+        (Depth::D16, Depth::D16) => true,
+        _ => false,
+    }
+}
+
+fn same_range(a: Range, b: Range) -> bool
+    ensures { result ≡ same_range a b }
+{
+    match (a, b) {
+        (Range::Narrow, Range::Narrow) => true,
+        (Range::FullProtect, Range::FullProtect) => true,
+        (Range::Full, Range::Full) => true,
+        _ => false,
+    }
+}
+
+fn same_format(a: &Format, b: &Format) -> bool
+    ensures { result ≡ same_format (fields_of a.now) (fields_of b.now) }
+{
+    same_sampling(a.sampling, b.sampling)
+        && same_depth(a.depth, b.depth)
+        && a.width == b.width
+        && a.height == b.height
+        && a.n == b.n
+        && a.d == b.d
+}
+
+#[tactic(auto, unfolding(crate::specs::Reading::same_leg))]
+fn same_leg(a: &Leg, b: &Leg) -> bool
+    ensures { result ≡ same_leg (leg_seen a.now) (leg_seen b.now) }
+{
+    a.payload_type == b.payload_type
+        && same_format(&a.format, &b.format)
+        && same_range(a.range, b.range)
+        && is_word(a.colorimetry.as_slice(), b.colorimetry.as_slice())
+}
+
+fn described(ports: ArrayVec<u16, 2>, leg: Leg) -> Sdp
+    requires { 0 < length ports.items }
+    ensures { description result ≡ record { ports = ports.items; leg = leg_seen leg } }
+{
+    let Leg {
+        payload_type,
+        format,
+        range,
+        colorimetry,
+    } = leg;
+    Sdp {
+        ports,
+        payload_type,
+        format,
+        range,
+        colorimetry,
+    }
+}
+
+#[tactic(auto, unfolding(crate::specs::Reading::description_of))]
+fn one<A: Allocator + Copy>(
+    alloc: A,
+    media: &[u8],
+    left: Option<&[u8]>,
+) -> Result<Sdp, SdpFault>
+    ensures exact { Gives description result (description_of (section_of media.now (option_copied left.entry) ∷ [])) }
+    ensures memory { IsErrOf result NoMemory → IsOk (listed_at (section_of media.now (option_copied left.entry))) }
+{
+    let (port, leg) = section(alloc, media, left)?;
+    let mut ports = ArrayVec::new();
+    ports.push(port);
+    Ok(described(ports, leg))
+}
+
+#[tactic(auto, unfolding(crate::specs::Reading::description_of))]
+fn two<A: Allocator + Copy>(
+    alloc: A,
+    media: &[u8],
+    left: Option<&[u8]>,
+    second_media: &[u8],
+    second_left: Option<&[u8]>,
+) -> Result<Sdp, SdpFault>
+    ensures exact { Gives description result (description_of (section_of media.now (option_copied left.entry) ∷ section_of second_media.now (option_copied second_left.entry) ∷ [])) }
+    ensures memory { IsErrOf result NoMemory → IsOk (listed_at (section_of media.now (option_copied left.entry))) }
+{
+    let (port, leg) = section(alloc, media, left)?;
+    let (second_port, second) = section(alloc, second_media, second_left)?;
+    if !same_leg(&leg, &second) {
+        return Err(SdpFault::LegsDiffer);
+    }
+    let mut ports = ArrayVec::new();
+    ports.push(port);
+    ports.push(second_port);
+    Ok(described(ports, leg))
+}
+
+#[tactic(auto, unfolding(crate::specs::Reading::description_at, crate::specs::Reading::description_of))]
+fn read_text<A: Allocator + Copy>(alloc: A, text: &[u8]) -> Result<Sdp, SdpFault>
+    ensures exact { Gives description result (description_at text.now) }
+    ensures memory { IsErrOf result NoMemory → WantsMemory (video_sections (lines text.now)) }
+{
+    let Some((media, left)) = next_video(Some(text)) else {
+        return Err(SdpFault::NoVideo);
+    };
+    let Some((second_media, second_left)) = next_video(left) else {
+        return one(alloc, media, left);
+    };
+    if next_video(second_left).is_some() {
+        return Err(SdpFault::TooManyLegs);
+    }
+    two(alloc, media, left, second_media, second_left)
+}
+
+/// Reads what an SDP text says of the studio video that it announces (RFC 8866, 5 and 6; SMPTE ST 2110-20, 7).
+///
+/// A text has one or two video sections; two are the legs of one video and say the same but for their ports. The
+/// error is the first fault of the text: `NoVideo`, `TooManyLegs`, then the faults 4 to 16 of the first section, those
+/// of the second, and `LegsDiffer`. `NoMemory` comes where a growth was refused, in place of an answer that would come
+/// later than the tests that take no memory: those up to `BadParameter` of the first section.
+pub fn read_sdp<A: Allocator + Copy>(alloc: A, text: &[u8]) -> Result<Sdp, SdpFault>
+    ensures exact { Gives description result (description_at text.now) }
+    ensures said { IfOk result (λ sdp. IsDescribed (description sdp) (video_sections (lines text.now))) }
+    ensures fault { IfErr result (λ f. (f ≡ NoMemory) ⊎ IsTextFault f (video_sections (lines text.now))) }
+    ensures memory { IsErrOf result NoMemory → WantsMemory (video_sections (lines text.now)) }
+{
+    read_text(alloc, text)
+}
