@@ -10,6 +10,8 @@ use std::{env, io};
 pub enum Words {
     /// Run the script on standard input.
     Trace,
+    /// Read the SDP text on standard input.
+    Sdp,
 }
 
 /// Why the words are not followed.
@@ -57,9 +59,12 @@ pub fn given_words<R: Env + AllocGlobal>(rt: &R) -> Result<Vec<String>, WordsFau
 
 /// Reads the words; without any behind the program's name the command is `trace`.
 pub fn read_words(alloc: Global, words: &[String]) -> Result<Words, WordsFault> {
-    // clap lets `trace` and no words through, and nothing else.
-    let _ = program(alloc)?.try_get_matches_from(words)?;
-    Ok(Words::Trace)
+    let matches = program(alloc)?.try_get_matches_from(words)?;
+    Ok(match matches.subcommand() {
+        Some(("sdp", _)) => Words::Sdp,
+        // clap lets `trace` and no words through, and nothing else.
+        _ => Words::Trace,
+    })
 }
 
 fn program<'a>(alloc: Global) -> Result<Command<'a>, AllocError> {
@@ -67,7 +72,8 @@ fn program<'a>(alloc: Global) -> Result<Command<'a>, AllocError> {
         .version("0.1")
         .about("Uncompressed studio video over redundant paths")
         .bin_name("st2110")?;
-    with_command(named, trace_command(alloc))
+    let named = with_command(named, trace_command(alloc))?;
+    with_command(named, sdp_command(alloc))
 }
 
 fn with_command<'a>(program: Command<'a>, command: Command<'a>) -> Result<Command<'a>, AllocError> {
@@ -77,5 +83,11 @@ fn with_command<'a>(program: Command<'a>, command: Command<'a>) -> Result<Comman
 fn trace_command<'a>(alloc: Global) -> Command<'a> {
     Command::new(alloc, "trace").about(
         "Runs a script of datagrams on standard input, and prints what a receiver makes of them",
+    )
+}
+
+fn sdp_command<'a>(alloc: Global) -> Command<'a> {
+    Command::new(alloc, "sdp").about(
+        "Reads an SDP text on standard input, and prints its canonical fmtp line or the first fault",
     )
 }

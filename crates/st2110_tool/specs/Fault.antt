@@ -14,6 +14,7 @@ abbrev pub Blames : Fault → ℕ → ℕ → Type 0
 Blames (fault.Script line) old new = new ≡ old
 Blames (fault.Format f) old new = new ≡ old
 Blames (fault.Open f) old new = new ≡ old
+Blames (fault.Sdp f) old new = new ≡ old
 Blames fault.Device old new = Failed old new
 Blames fault.Memory old new = new ≡ old
 
@@ -22,6 +23,7 @@ abbrev pub BlamesEither : Fault → ℕ → ℕ → ℕ → ℕ → Type 0
 BlamesEither (fault.Script line) old new old' new' = (new ≡ old) × (new' ≡ old')
 BlamesEither (fault.Format f) old new old' new' = (new ≡ old) × (new' ≡ old')
 BlamesEither (fault.Open f) old new old' new' = (new ≡ old) × (new' ≡ old')
+BlamesEither (fault.Sdp f) old new old' new' = (new ≡ old) × (new' ≡ old')
 BlamesEither fault.Device old new old' new' = Failed old new ⊎ Failed old' new'
 BlamesEither fault.Memory old new old' new' = (new ≡ old) × (new' ≡ old')
 
@@ -37,11 +39,12 @@ abbrev pub Tells : Status → List ℕ → Status → ℕ → ℕ → Option (Li
 Tells status line result old new held held' =
     ((result ≡ status) × (new ≡ old) × Appends held held' line) ⊎ ((result ≡ Device) × Failed old new)
 
--- the text of a fault; that of a format or an opening holds a name of the crate below
+-- the text of a fault; that of a format, an opening or an SDP holds a name of the crate below
 abbrev pub fault_text : Fault → Option (List ℕ)
 fault_text (fault.Script line) = Some (codes "script " ++ decimal line)
 fault_text (fault.Format f) = None
 fault_text (fault.Open f) = None
+fault_text (fault.Sdp f) = None
 fault_text fault.Device = Some (codes "device")
 fault_text fault.Memory = Some (codes "memory")
 
@@ -62,6 +65,7 @@ abbrev pub IsLineOf : Fault → Status → List ℕ → Type 0
 IsLineOf (fault.Script n) status line = IsRefusalLine (fault_text (fault.Script n)) status line
 IsLineOf (fault.Format f) status line = IsRefusalLine (fault_text (fault.Format f)) status line
 IsLineOf (fault.Open f) status line = IsRefusalLine (fault_text (fault.Open f)) status line
+IsLineOf (fault.Sdp f) status line = IsRefusalLine (fault_text (fault.Sdp f)) status line
 IsLineOf fault.Device status line = (status ≡ Device) × (line ≡ device_line)
 IsLineOf fault.Memory status line = (status ≡ Memory) × (line ≡ memory_line)
 

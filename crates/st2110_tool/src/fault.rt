@@ -1,5 +1,6 @@
 //! What ends a run before its end.
 use path_merge::OpenFault;
+use sdp_format::SdpFault;
 use st_format::{DeviceFault, FormatFault};
 use std::alloc::AllocError;
 use std::fmt;
@@ -13,6 +14,8 @@ pub(crate) enum Fault {
     Format(FormatFault),
     /// There is no such receiver.
     Open(OpenFault),
+    /// The SDP is refused.
+    Sdp(SdpFault),
     /// A device failed.
     Device,
     /// Memory was wanted.
@@ -27,6 +30,20 @@ impl From<AllocError> for Fault {
 
     fn from(_: AllocError) -> Fault {
         Fault::Memory
+    }
+}
+
+impl From<SdpFault> for Fault {
+    ghost use Rattle.std.specs.Prelude.{◌≡◌};
+    ghost use Rattle.st2110_tool.specs.SdpFaults.{of_sdp};
+
+    ghost from_gives = { λ refusal fault. fault ≡ of_sdp refusal };
+
+    fn from(refusal: SdpFault) -> Fault {
+        match refusal {
+            SdpFault::NoMemory => Fault::Memory,
+            refusal => Fault::Sdp(refusal),
+        }
     }
 }
 
@@ -56,6 +73,10 @@ impl fmt::Display for Fault {
             Fault::Open(fault) => {
                 let number = fault.number();
                 write!(f, "open {number} {fault}")
+            }
+            Fault::Sdp(fault) => {
+                let number = fault.number();
+                write!(f, "sdp {number} {fault}")
             }
             Fault::Device => f.write_str("device"),
             Fault::Memory => f.write_str("memory"),

@@ -7,8 +7,11 @@ mod fields;
 mod line;
 mod number;
 mod script;
+mod sdp;
 mod status;
+mod telling;
 mod trace;
 
+pub use sdp::run_sdp;
 pub use status::Status;
 pub use trace::run_trace;

@@ -2,7 +2,7 @@
 ghost use Rattle.std.specs.Prelude.{◌≡◌, ◌≢◌, ◌≤◌, ◌<◌, ◌⊎◌, length, IfErr};
 ghost use Rattle.std.specs.Io.KnownBytes.{Appends};
 ghost use Rattle.st_format.specs.Device.{Failed};
-ghost use Rattle.st2110_tool.specs.Fault.{Accounts, AccountsBoth, Tells, TellsFault, memory_line};
+ghost use Rattle.st2110_tool.specs.Fault.{Accounts, AccountsBoth, memory_line};
 
 use crate::answer::Answer;
 use crate::fault::Fault;
@@ -11,21 +11,13 @@ use crate::line::{
 };
 use crate::script::{Line, Lines, Script, read_script};
 use crate::status::Status;
+use crate::telling::{LINE, tell, tell_memory};
 use path_merge::{OpenFault, Receiver, Taken};
 use st_format::{ByteSink, ByteSource, Cell, Format, write_whole};
 use std::alloc::Allocator;
 
 /// The greatest number of octets of a datagram.
 const DATAGRAM: usize = 65_535;
-
-/// Room for any line of output, so that no line asks for memory.
-const LINE: usize = 128;
-
-/// What is told where a device failed.
-const DEVICE_LINE: &[u8] = b"st2110: device\n";
-
-/// What is told where memory was wanted.
-const MEMORY_LINE: &[u8] = b"st2110: memory\n";
 
 /// Runs the script that the source gives.
 pub fn run_trace<A, S, O, F>(alloc: A, source: &mut S, output: &mut O, faults: &mut F) -> u8
@@ -41,7 +33,7 @@ where
     ensures memory { result ≡ 4 → Appends (F.held faults.old) (F.held faults.new) memory_line }
 {
     let Ok(mut text) = String::with_capacity(alloc, LINE) else {
-        return report(Status::Memory, MEMORY_LINE, faults).number();
+        return tell_memory(faults).number();
     };
     match trace(alloc, source, output, &mut text) {
         Ok(()) => Status::Done.number(),
@@ -214,31 +206,4 @@ fn print<A: Allocator, O: ByteSink>(
     writeln!(text, "{answer}")?;
     write_whole(output, text.as_bytes())?;
     Ok(())
-}
-
-/// Prints a fault, and tells how the run ends.
-fn tell<A: Allocator, F: ByteSink>(fault: Fault, text: &mut String<A>, faults: &mut F) -> Status
-    ensures { TellsFault fault result (F.failures faults.old) (F.failures faults.new) (F.held faults.old) (F.held faults.new) }
-{
-    match fault {
-        Fault::Device => report(Status::Device, DEVICE_LINE, faults),
-        Fault::Memory => report(Status::Memory, MEMORY_LINE, faults),
-        _ => {
-            text.clear();
-            match writeln!(text, "st2110: {fault}") {
-                Ok(()) => report(Status::Refused, text.as_bytes(), faults),
-                Err(_) => report(Status::Memory, MEMORY_LINE, faults),
-            }
-        }
-    }
-}
-
-/// Writes a line to the faults, and tells how the run ends: by this status, but where the sink fails.
-fn report<F: ByteSink>(status: Status, line: &[u8], faults: &mut F) -> Status
-    ensures { Tells status line.now result (F.failures faults.old) (F.failures faults.new) (F.held faults.old) (F.held faults.new) }
-{
-    match write_whole(faults, line) {
-        Ok(()) => status,
-        Err(_) => Status::Device,
-    }
 }
