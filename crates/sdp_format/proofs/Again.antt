@@ -1,19 +1,15 @@
 -- What is spelled is read again.
-use Rattle.std.proofs.Common.{◌≡◌, ℕ, ◌+◌, ◌^◌, ◌<◌, ◌≤◌, Bool, true, false, cond, not, ◌&&◌, List, [], ◌∷◌, ◌++◌, length, Option, Some, None, refl, ap, ◌∙◌, sym, arith, rules, lit<, codes}
-use Rattle.std.specs.Prelude.{map, ◌==◌, nat_le}
-use mathlib.Core.List.{append_assoc}
-use Rattle.std.specs.List.{list_all, filter, onto_first}
+use Rattle.std.proofs.Common.{◌≡◌, ℕ, ◌^◌, ◌<◌, ◌≤◌, Bool, true, false, cond, not, ◌&&◌, List, [], ◌∷◌, ◌++◌, length, Some, None, refl, ap, ◌∙◌, sym, arith, rules, lit<}
+use Rattle.std.specs.Prelude.{◌==◌, nat_le}
+use Rattle.std.specs.List.{list_all}
 use Rattle.std.specs.Char.{is_ascii_digit}
 use Rattle.std.specs.Fmt.{decimal}
 use Rattle.std.specs.Str.Parse.{digits_value}
-use Rattle.std.proofs.lemmas.Grind.{common_steps}
 use Rattle.std.proofs.lemmas.Bool.Decides.{nat_tests}
 use Rattle.std.proofs.lemmas.Str.Parse.{IsNumeralModel, numerals_by_value}
 use Rattle.std.proofs.lemmas.Fmt.{digits_decimal, digits_value-decimal, decimal_nonempty, length-decimal-le}
-use Rattle.sdp_format.specs.Bytes.{is_space, trim_front, trim_end, unless_spaces, trimmed, number, is_number, front, behind, split, split_left, attribute, is_equal, text_or}
-use Rattle.sdp_format.specs.Naming.{Item, item, items, items_of, is_filled}
-use Rattle.sdp_format.proofs.SpelledItems.{spelled}
-use Rattle.sdp_format.proofs.Parts.{front_here, front_later, behind_here, behind_later, next_part}
+use Rattle.sdp_format.specs.Bytes.{is_space, trim_front, trim_end, unless_spaces, trimmed, number, is_number, front, behind, split}
+use Rattle.sdp_format.proofs.Parts.{front_here, front_later, behind_here, behind_later}
 
 pub own : IsNumeralModel (λ ds. list_all is_ascii_digit ds ≡ true) (digits_value 10)
 own = numerals_by_value _ (search rules)
@@ -37,11 +33,11 @@ number_decimal n small =
     let some : 0 < length (decimal n) = decimal_nonempty n wide in
     let few : length (decimal n) ≤ 10 = length-decimal-le 10 n (lit< tt) (omega arith) wide in
     let ok : is_number (decimal n) ≡ true =
-        and_true (nat_le 1 (length (decimal n)) && nat_le (length (decimal n)) 10 && list_all is_ascii_digit (decimal n)) (nat_le (digits_value 10 (decimal n)) 4294967295)
-          (and_true (nat_le 1 (length (decimal n)) && nat_le (length (decimal n)) 10) (list_all is_ascii_digit (decimal n))
-            (and_true (nat_le 1 (length (decimal n))) (nat_le (length (decimal n)) 10) (le_true 1 (length (decimal n)) (omega arith)) (le_true (length (decimal n)) 10 few))
-            (digits_decimal own n wide))
-          (le_true (digits_value 10 (decimal n)) 4294967295 (omega arith)) in
+    and_true (nat_le 1 (length (decimal n)) && nat_le (length (decimal n)) 10 && list_all is_ascii_digit (decimal n)) (nat_le (digits_value 10 (decimal n)) 4294967295)
+    (and_true (nat_le 1 (length (decimal n)) && nat_le (length (decimal n)) 10) (list_all is_ascii_digit (decimal n))
+    (and_true (nat_le 1 (length (decimal n))) (nat_le (length (decimal n)) 10) (le_true 1 (length (decimal n)) (omega arith)) (le_true (length (decimal n)) 10 few))
+    (digits_decimal own n wide))
+    (le_true (digits_value 10 (decimal n)) 4294967295 (omega arith)) in
     ap (λ t. cond t (Some (digits_value 10 (decimal n))) None) ok ∙ ap Some value
 
 -- Bytes that stand in a name or a value

@@ -1,17 +1,15 @@
 -- Texts that have the canonical line read back.
-use Rattle.std.proofs.Common.{◌≡◌, ℕ, ◌<◌, ◌≤◌, ◌^◌, true, false, List, [], ◌∷◌, ◌++◌, length, Some, Ok, Err, Result, refl, ap, subst, ◌∙◌, sym, arith, codes}
+use Rattle.std.proofs.Common.{◌≡◌, ℕ, ◌<◌, ◌≤◌, List, [], ◌∷◌, length, Some, Ok, Err, Result, refl, subst, sym, arith, codes}
 use Rattle.std.specs.Prelude.{MatchResult, IfOk}
-use Rattle.std.specs.List.{list_any, AllZip}
-use Rattle.st_format.specs.Limits.{IsWidth, IsHeight, IsRate}
+use Rattle.std.specs.List.{AllZip}
 use Rattle.st_format.proofs.Made.{format_at-fields}
 use Rattle.sdp_format.specs.declared.fault.SdpFault.{SdpFault}
 use Rattle.sdp_format.specs.declared.fault.SdpFault.TheVariants.{NoMemory}
 use Rattle.sdp_format.specs.declared.sdp.Sdp.{Sdp}
-use Rattle.sdp_format.specs.Bytes.{attribute, lines}
-use Rattle.sdp_format.specs.Naming.{items, is_bad}
-use Rattle.sdp_format.specs.Sections.{Section, Leg, Description, video_sections}
-use Rattle.sdp_format.specs.Reading.{listed_at, leg_of, section_at, media_of, first_attribute, is_raw90000, description_of, description_at}
-use Rattle.sdp_format.specs.Grammar.{IsFirst, IsAttribute}
+use Rattle.sdp_format.specs.Bytes.{lines}
+use Rattle.sdp_format.specs.Sections.{Section, Leg, video_sections}
+use Rattle.sdp_format.specs.Reading.{listed_at, section_at, media_of, first_attribute, is_raw90000, description_of, description_at}
+use Rattle.sdp_format.specs.Grammar.{IsFirst}
 use Rattle.sdp_format.specs.Canonical.{canonical}
 use Rattle.sdp_format.specs.Views.{description}
 use Rattle.sdp_format.specs.Back.{IsLeg, HasLine, ReadsBack}
@@ -27,15 +25,21 @@ leg_of_sdp s =
     let n : s.format.n ≤ 1000000 = s.format.sane_rate.most_n in
     let d : s.format.d ≤ 1000000 = s.format.sane_rate.most_d in
     record {
-      small_type = s.small_type; width = omega arith; height = omega arith; n = omega arith; d = omega arith;
-      is_format = format_at-fields s.format; is_colorimetry = s.named }
+      small_type = s.small_type;
+      width = omega arith;
+      height = omega arith;
+      n = omega arith;
+      d = omega arith;
+      is_format = format_at-fields s.format;
+      is_colorimetry = s.named;
+    }
 
 pub section_back : (l : Leg) (s : Section) (port : ℕ) → IsLeg l → HasLine (canonical l) l.payload_type s port → section_at s ≡ Ok (port, l)
 unfolding section_at listed_at is_raw90000
 section_back l s port k h =
     let e = line_again l k in
     let first : IsFirst (codes "a=fmtp:") l.payload_type s.lines (tail_of l) =
-        record { before = h.before; line = canonical l; after = h.after; whole = h.whole; none = h.none; first = attribute_says (codes "a=fmtp:") l.payload_type (canonical l) (tail_of l) e.0 } in
+    record { before = h.before; line = canonical l; after = h.after; whole = h.whole; none = h.none; first = attribute_says (codes "a=fmtp:") l.payload_type (canonical l) (tail_of l) e.0 } in
     let media : media_of s.media ≡ Some (port, l.payload_type) = says_media s.media port l.payload_type h.media in
     let rtpmap : first_attribute (codes "a=rtpmap:") l.payload_type s.lines ≡ Some h.map = says_first (codes "a=rtpmap:") l.payload_type s.lines h.map h.rtpmap in
     let fmtp : first_attribute (codes "a=fmtp:") l.payload_type s.lines ≡ Some (tail_of l) = says_first (codes "a=fmtp:") l.payload_type s.lines (tail_of l) first in

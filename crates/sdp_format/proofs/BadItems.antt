@@ -1,5 +1,5 @@
 -- Which items are wrong by themselves.
-use Rattle.std.proofs.Common.{◌≡◌, ℕ, Bool, true, false, not, cond, List, [], ◌∷◌, length, Option, Some, None, refl, ap, ◌∙◌, sym, arith, ◌⊎◌, inl, inr, codes}
+use Rattle.std.proofs.Common.{◌≡◌, ℕ, Bool, true, false, cond, List, [], ◌∷◌, length, Option, Some, None, refl, ap, ◌∙◌, arith, ◌⊎◌, inl, inr, codes}
 use Rattle.std.specs.Prelude.{Contains, ◌==◌, is_none}
 use Rattle.std.specs.List.{list_any}
 use Rattle.std.specs.Str.{bytes_eq}
@@ -9,7 +9,7 @@ use Rattle.sdp_format.specs.Naming.{Item, is_bad, rate, colorimetry, range_named
 use Rattle.sdp_format.specs.Grammar.{Says, IsBadItem}
 use Rattle.sdp_format.specs.Grammar.IsBadItem.{NoName, NoWidth, NoHeight, NoRate, NoColorimetry, NoRange}
 use Rattle.sdp_format.proofs.Members.{not_both, any_member, member_any}
-use Rattle.sdp_format.proofs.Said.{bytes_same, false_from}
+use Rattle.sdp_format.proofs.Said.{bytes_same}
 
 pub cond_true : (t a b : Bool) → cond t a b ≡ true → ((t ≡ true) × (a ≡ true)) ⊎ ((t ≡ false) × (b ≡ true))
 cond_true true a b e = inl (refl, e)
@@ -26,13 +26,30 @@ empty_is (x ∷ xs) e = absurd (grind (arith, nat_tests))
 pub bad_says : (i : Item) → is_bad i ≡ true → IsBadItem i
 unfolding is_bad
 bad_says i e =
-    elim (cond_true (length i.0 == 0) true _ e) [ inl h ↦ NoName (empty_is i.0 h.0) | inr a ↦
-    elim (cond_true (bytes_eq i.0 (codes "width")) (is_none (number i.1)) _ a.1) [ inl h ↦ NoWidth (bytes_same i.0 _ h.0) (none_is (number i.1) h.1) | inr b ↦
-    elim (cond_true (bytes_eq i.0 (codes "height")) (is_none (number i.1)) _ b.1) [ inl h ↦ NoHeight (bytes_same i.0 _ h.0) (none_is (number i.1) h.1) | inr c ↦
-    elim (cond_true (bytes_eq i.0 (codes "exactframerate")) (is_none (rate i.1)) _ c.1) [ inl h ↦ NoRate (bytes_same i.0 _ h.0) (none_is (rate i.1) h.1) | inr d ↦
-    elim (cond_true (bytes_eq i.0 (codes "colorimetry")) (is_none (colorimetry i.1)) _ d.1) [ inl h ↦ NoColorimetry (bytes_same i.0 _ h.0) (none_is (colorimetry i.1) h.1) | inr f ↦
-    elim (cond_true (bytes_eq i.0 (codes "RANGE")) (is_none (range_named i.1)) false f.1) [ inl h ↦ NoRange (bytes_same i.0 _ h.0) (none_is (range_named i.1) h.1) | inr g ↦ absurd (not_both false g.1 refl)
-    ] ] ] ] ] ]
+    elim (cond_true (length i.0 == 0) true _ e) [
+      | inl h ↦ NoName (empty_is i.0 h.0)
+      | inr a ↦
+          elim (cond_true (bytes_eq i.0 (codes "width")) (is_none (number i.1)) _ a.1) [
+            | inl h ↦ NoWidth (bytes_same i.0 _ h.0) (none_is (number i.1) h.1)
+            | inr b ↦
+                elim (cond_true (bytes_eq i.0 (codes "height")) (is_none (number i.1)) _ b.1) [
+                  | inl h ↦ NoHeight (bytes_same i.0 _ h.0) (none_is (number i.1) h.1)
+                  | inr c ↦
+                      elim (cond_true (bytes_eq i.0 (codes "exactframerate")) (is_none (rate i.1)) _ c.1) [
+                        | inl h ↦ NoRate (bytes_same i.0 _ h.0) (none_is (rate i.1) h.1)
+                        | inr d ↦
+                            elim (cond_true (bytes_eq i.0 (codes "colorimetry")) (is_none (colorimetry i.1)) _ d.1) [
+                              | inl h ↦ NoColorimetry (bytes_same i.0 _ h.0) (none_is (colorimetry i.1) h.1)
+                              | inr f ↦
+                                  elim (cond_true (bytes_eq i.0 (codes "RANGE")) (is_none (range_named i.1)) false f.1) [
+                                    | inl h ↦ NoRange (bytes_same i.0 _ h.0) (none_is (range_named i.1) h.1)
+                                    | inr g ↦ absurd (not_both false g.1 refl)
+                                  ]
+                            ]
+                      ]
+                ]
+          ]
+    ]
 
 named : (i : Item) (name : List ℕ) → i.0 ≡ name → is_bad i ≡ is_bad (name, i.1)
 named i name e = ap (λ (n : List ℕ). is_bad (n, i.1)) e

@@ -1,12 +1,11 @@
 -- Items put into a map one after another.
-use Rattle.std.proofs.Common.{◌≡◌, ℕ, List, [], ◌∷◌, ◌++◌, Bool, true, false, cond, ◌||◌, Option, Some, None, refl, ap, ◌∙◌, sym, arith, Bor}
+use Rattle.std.proofs.Common.{◌≡◌, ℕ, List, [], ◌∷◌, ◌++◌, Bool, true, false, cond, ◌||◌, Option, Some, None, refl, ap, ◌∙◌, sym, Bor}
 use Rattle.std.specs.Option.{option_copied}
 use Rattle.std.specs.List.{list_any}
 use Rattle.std.specs.Str.{bytes_eq}
 use Rattle.std.specs.Map.{lookup}
 use Rattle.std.specs.Prelude.{is_some}
 use mathlib.Core.List.{append_assoc}
-use Rattle.std.proofs.lemmas.Grind.{common_steps}
 use Rattle.indexmap.specs.IndexMap.{insert_entry}
 use Rattle.sdp_format.specs.Naming.{Item, has_double, value_of}
 use Rattle.sdp_format.specs.Views.{pairs}
@@ -21,7 +20,7 @@ pub lookup_pairs : (name : List ℕ) (es : List (Slice × Slice)) → option_cop
 lookup_pairs name [] = refl
 lookup_pairs name (e ∷ es) =
     elim (bytes_eq name e.0.now) as (λ t. option_copied (cond t (Some e.1) (lookup (λ q. bytes_eq name q.now) es)) ≡ cond t (Some e.1.now) (value_of name (pairs es)))
-      [ true ↦ refl | false ↦ lookup_pairs name es ]
+    [ true ↦ refl | false ↦ lookup_pairs name es ]
 
 insert_by : (e : Slice × Slice) (es : List (Slice × Slice)) (k v : Slice) (t : Bool) → cond t (Some e.1) (lookup (slice_is k) es) ≡ None
     → (lookup (slice_is k) es ≡ None → pairs (insert_entry slice_is es k v) ≡ pairs es ++ (k.now, v.now) ∷ [])
@@ -89,7 +88,8 @@ insert_kept es new left rest all k v old kept e o none n =
     let made : pairs new ≡ pairs es ++ (k.now, v.now) ∷ [] = ap pairs n ∙ insert_pairs es k v absent in
     record {
       whole = rw (made, append_assoc) (ap (λ xs. pairs es ++ xs) (sym e) ∙ kept.whole);
-      single = rw made (double_push (pairs es) (k.now, v.now) kept.single (sym (lookup_pairs k.now es) ∙ ap option_copied absent)) }
+      single = rw made (double_push (pairs es) (k.now, v.now) kept.single (sym (lookup_pairs k.now es) ∙ ap option_copied absent));
+    }
 
 pub insert_double : (es : List (Slice × Slice)) (left rest all : List Item) (k v : Slice) (old : Option Slice) → Kept es left all → left ≡ (k.now, v.now) ∷ rest
     → old ≡ lookup (slice_is k) es → is_some old ≡ true → has_double all ≡ true

@@ -1,5 +1,5 @@
 -- The items of a section: the first of their faults is told, or what they say.
-use Rattle.std.proofs.Common.{◌≡◌, ◌≢◌, ℕ, ◌+◌, ◌<◌, Bool, true, false, not, cond, ◌&&◌, ◌||◌, List, [], ◌∷◌, ◌++◌, length, drop, Option, Some, None, Ok, Err, Result, refl, ap, subst, ◌∙◌, sym, arith, lit<, ◌⊎◌, inl, inr, codes}
+use Rattle.std.proofs.Common.{◌≡◌, ◌≢◌, ℕ, ◌<◌, Bool, true, false, not, cond, List, ◌++◌, length, drop, Option, Some, None, Ok, Err, Result, refl, ap, subst, ◌∙◌, sym, arith, lit<, ◌⊎◌, inl, inr, codes}
 use Rattle.std.specs.Prelude.{Contains, IsErr, is_err, slice_index_or}
 use Rattle.std.specs.List.{list_any, list_all}
 use Rattle.std.specs.Str.{bytes_eq}
@@ -19,8 +19,8 @@ use Rattle.sdp_format.specs.Bytes.{number, begins}
 use Rattle.sdp_format.specs.Naming.{Item, is_bad, has_double, has, value_of, text_of, required, rate, range_or, range_named, colorimetry}
 use Rattle.sdp_format.specs.Sections.{Leg}
 use Rattle.sdp_format.specs.Canonical.{sampling_text, depth_text}
-use Rattle.sdp_format.specs.Reading.{sampling_named, depth_named, is_missing, is_interlaced, or_fault, format_of, said_in, leg_of, wanted}
-use Rattle.sdp_format.specs.Grammar.{Says, Has, Lacks, HasDouble, IsGiven, ItemFault, SaysRange, IsSaid}
+use Rattle.sdp_format.specs.Reading.{sampling_named, depth_named, is_missing, is_interlaced, or_fault, format_of, said_in, leg_of}
+use Rattle.sdp_format.specs.Grammar.{Says, Has, Lacks, IsGiven, ItemFault, SaysRange, IsSaid}
 use Rattle.sdp_format.proofs.Members.{not_both, or_cases, or_left, or_right, all_member, not_all_member}
 use Rattle.sdp_format.proofs.Said.{bytes_same, same_bytes, found_says, says_found, none_lacks, lacks_none, some_text, has_says, says_has, lacks_has, text_known, double_says, says_double, not_none}
 use Rattle.sdp_format.proofs.BadItems.{bad_any, said_width, said_height, said_rate, said_colorimetry, said_range}
@@ -99,8 +99,9 @@ says_missing is e m =
 interlaced_says : (is : List Item) → is_interlaced is ≡ true → Has is (codes "interlace") ⊎ Has is (codes "segmented")
 interlaced_says is e =
     elim (or_cases (has is (codes "interlace")) (has is (codes "segmented")) e) [
-      inl h ↦ inl (has_says (codes "interlace") is h)
-    | inr h ↦ inr (has_says (codes "segmented") is h) ]
+      | inl h ↦ inl (has_says (codes "interlace") is h)
+      | inr h ↦ inr (has_says (codes "segmented") is h)
+    ]
 
 says_interlaced : (is : List Item) → Has is (codes "interlace") ⊎ Has is (codes "segmented") → is_interlaced is ≡ true
 says_interlaced is (inl h) = or_left (has is (codes "interlace")) (has is (codes "segmented")) (says_has (codes "interlace") is h)
@@ -192,13 +193,17 @@ format_end : (is : List Item) (g : Fields) → has_double is ≡ false → IsGiv
     → Told 18 (Of is) (SaysFormat is) (or_fault (format_at g.sampling g.depth g.width g.height g.n g.d))
 format_end is g single i b =
     (elim (format_at g.sampling g.depth g.width g.height g.n g.d)
-      as (λ q. format_at g.sampling g.depth g.width g.height g.n g.d ≡ q → Told 18 (Of is) (SaysFormat is) (or_fault q))
-      [ Ok f ↦ λ e. (record { given = g; is_given = i; made = e },
-          more (Of is) LegsDiffer 18 refl (more (Of is) BadFormat 17 refl b (λ c. made_twice (given_once is c.0 g single c.1 i ∙ e) c.2)) (λ c. c))
-      | Err x ↦ λ e. ((g, i, err_is e), b) ]) refl
+    as (λ q. format_at g.sampling g.depth g.width g.height g.n g.d ≡ q → Told 18 (Of is) (SaysFormat is) (or_fault q)) [
+      | Ok f ↦ λ e. (
+        record { given = g; is_given = i; made = e },
+        more (Of is) LegsDiffer 18 refl (more (Of is) BadFormat 17 refl b (λ c. made_twice (given_once is c.0 g single c.1 i ∙ e) c.2)) (λ c. c),
+      )
+      | Err x ↦ λ e. ((g, i, err_is e), b)
+    ]) refl
   where
     made_twice : {E : Type 0} {q : Result Fields E} {f : Fields} → q ≡ Ok f → IsErr q → ⊥
     made_twice e h = not_both false (sym (ap is_err e) ∙ h) refl
+
     err_is : {E : Type 0} {q : Result Fields E} {x : E} → q ≡ Err x → IsErr q
     err_is e = ap is_err e
 
@@ -209,40 +214,44 @@ pub format_told : (is : List Item) → Sound is → Below (Of is) 11 → Told 18
 unfolding format_of
 format_told is k b =
     want 18 (Of is) (SaysFormat is) UnsupportedSampling (sampling_named (text_of (codes "sampling") is)) _ b
-      (λ e. (text_of (codes "sampling") is, said_text is k (codes "sampling") (in_required 0 (codes "sampling") (lit< tt) refl), other_sampling (text_of (codes "sampling") is) e))
-      (λ s e c. c.2 s (sym (text_known (codes "sampling") c.0 is k.single c.1) ∙ named_sampling (text_of (codes "sampling") is) s e))
-      (λ s es b.
+    (λ e. (text_of (codes "sampling") is, said_text is k (codes "sampling") (in_required 0 (codes "sampling") (lit< tt) refl), other_sampling (text_of (codes "sampling") is) e))
+    (λ s e c. c.2 s (sym (text_known (codes "sampling") c.0 is k.single c.1) ∙ named_sampling (text_of (codes "sampling") is) s e))
+    (λ s es b.
     want 18 (Of is) (SaysFormat is) UnsupportedDepth (depth_named (text_of (codes "depth") is)) _ b
-      (λ e. (text_of (codes "depth") is, said_text is k (codes "depth") (in_required 4 (codes "depth") (lit< tt) refl), other_depth (text_of (codes "depth") is) e))
-      (λ d e c. c.2 d (sym (text_known (codes "depth") c.0 is k.single c.1) ∙ named_depth (text_of (codes "depth") is) d e))
-      (λ d ed b.
+    (λ e. (text_of (codes "depth") is, said_text is k (codes "depth") (in_required 4 (codes "depth") (lit< tt) refl), other_depth (text_of (codes "depth") is) e))
+    (λ d e c. c.2 d (sym (text_known (codes "depth") c.0 is k.single c.1) ∙ named_depth (text_of (codes "depth") is) d e))
+    (λ d ed b.
     refuse 18 (Of is) (SaysFormat is) Interlaced (is_interlaced is) _ b (interlaced_says is) (λ e c. not_both _ (says_interlaced is c) e)
-      (λ ei b.
+    (λ ei b.
     refuse 18 (Of is) (SaysFormat is) UnsupportedPacking (not (bytes_eq (text_of (codes "PM") is) (codes "2110GPM"))) _ b
-      (λ e. (text_of (codes "PM") is, said_text is k (codes "PM") (in_required 6 (codes "PM") (lit< tt) refl), λ h. not_both _ (same_bytes (text_of (codes "PM") is) (codes "2110GPM") h) (not_true _ e)))
-      (λ e c. c.2 (sym (text_known (codes "PM") c.0 is k.single c.1) ∙ bytes_same (text_of (codes "PM") is) (codes "2110GPM") (not_false _ e)))
-      (λ ep b.
+    (λ e. (text_of (codes "PM") is, said_text is k (codes "PM") (in_required 6 (codes "PM") (lit< tt) refl), λ h. not_both _ (same_bytes (text_of (codes "PM") is) (codes "2110GPM") h) (not_true _ e)))
+    (λ e c. c.2 (sym (text_known (codes "PM") c.0 is k.single c.1) ∙ bytes_same (text_of (codes "PM") is) (codes "2110GPM") (not_false _ e)))
+    (λ ep b.
     refuse 18 (Of is) (SaysFormat is) BadSsn (not (begins (codes "ST2110-20:") (text_of (codes "SSN") is))) _ b
-      (λ e. (text_of (codes "SSN") is, said_text is k (codes "SSN") (in_required 7 (codes "SSN") (lit< tt) refl), λ rest h. not_both _ (from_word (codes "ST2110-20:") (text_of (codes "SSN") is) rest h) (not_true _ e)))
-      (λ e c. c.2 (drop 10 (text_of (codes "SSN") is)) (sym (text_known (codes "SSN") c.0 is k.single c.1) ∙ to_word (codes "ST2110-20:") (text_of (codes "SSN") is) (not_false _ e)))
-      (λ en b.
+    (λ e. (text_of (codes "SSN") is, said_text is k (codes "SSN") (in_required 7 (codes "SSN") (lit< tt) refl), λ rest h. not_both _ (from_word (codes "ST2110-20:") (text_of (codes "SSN") is) rest h) (not_true _ e)))
+    (λ e c. c.2 (drop 10 (text_of (codes "SSN") is)) (sym (text_known (codes "SSN") c.0 is k.single c.1) ∙ to_word (codes "ST2110-20:") (text_of (codes "SSN") is) (not_false _ e)))
+    (λ en b.
     there 18 (Of is) (SaysFormat is) BadParameter (number (text_of (codes "width") is)) _ (said_width is (text_of (codes "width") is) k.good (width_said is k)) (λ w ew.
     there 18 (Of is) (SaysFormat is) BadParameter (number (text_of (codes "height") is)) _ (said_height is (text_of (codes "height") is) k.good (height_said is k)) (λ h eh.
     there 18 (Of is) (SaysFormat is) BadParameter (rate (text_of (codes "exactframerate") is)) _ (said_rate is (text_of (codes "exactframerate") is) k.good (rate_said is k)) (λ r er.
     format_end is (record { sampling = s; depth = d; width = w; height = h; n = r.0; d = r.1 }) k.single
-      (record {
-        sampling = named_says is (codes "sampling") (text_of (codes "sampling") is) (sampling_text s) (named_sampling (text_of (codes "sampling") is) s es) (said_text is k (codes "sampling") (in_required 0 (codes "sampling") (lit< tt) refl));
-        depth = named_says is (codes "depth") (text_of (codes "depth") is) (depth_text d) (named_depth (text_of (codes "depth") is) d ed) (said_text is k (codes "depth") (in_required 4 (codes "depth") (lit< tt) refl));
-        width = (text_of (codes "width") is, width_said is k, ew);
-        height = (text_of (codes "height") is, height_said is k, eh);
-        rate_given = (text_of (codes "exactframerate") is, rate_said is k, er) }) b))))))))
+    (record {
+      sampling = named_says is (codes "sampling") (text_of (codes "sampling") is) (sampling_text s) (named_sampling (text_of (codes "sampling") is) s es) (said_text is k (codes "sampling") (in_required 0 (codes "sampling") (lit< tt) refl));
+      depth = named_says is (codes "depth") (text_of (codes "depth") is) (depth_text d) (named_depth (text_of (codes "depth") is) d ed) (said_text is k (codes "depth") (in_required 4 (codes "depth") (lit< tt) refl));
+      width = (text_of (codes "width") is, width_said is k, ew);
+      height = (text_of (codes "height") is, height_said is k, eh);
+      rate_given = (text_of (codes "exactframerate") is, rate_said is k, er);
+    }) b))))))))
   where
     named_says : (is : List Item) (name a b : List ℕ) → a ≡ b → Says is name a → Says is name b
     named_says is name a b e m = let P : List ℕ → Type 0 = λ v. Says is name v in subst P e m
+
     width_said : (is : List Item) → Sound is → Says is (codes "width") (text_of (codes "width") is)
     width_said is k = said_text is k (codes "width") (in_required 1 (codes "width") (lit< tt) refl)
+
     height_said : (is : List Item) → Sound is → Says is (codes "height") (text_of (codes "height") is)
     height_said is k = said_text is k (codes "height") (in_required 2 (codes "height") (lit< tt) refl)
+
     rate_said : (is : List Item) → Sound is → Says is (codes "exactframerate") (text_of (codes "exactframerate") is)
     rate_said is k = said_text is k (codes "exactframerate") (in_required 3 (codes "exactframerate") (lit< tt) refl)
 
@@ -274,20 +283,29 @@ pub leg_told : (pt : ℕ) (is : List Item) → list_any is_bad is ≡ false → 
 unfolding leg_of said_in
 leg_told pt is good =
     refuse 18 (Of is) (λ l. IsSaid is l × (l.payload_type ≡ pt)) DoubleParameter (has_double is) _ (below_double is good) (double_says is) (λ e c. not_both _ (says_double is c) e)
-      (λ single b.
+    (λ single b.
     refuse 18 (Of is) (λ l. IsSaid is l × (l.payload_type ≡ pt)) MissingParameter (is_missing is) _ b (missing_says is) (says_missing is)
-      (λ whole b.
+    (λ whole b.
     let k : Sound is = record { good = good; single = single; whole = whole } in
     follow 18 18 (Of is) (SaysFormat is) (λ l. IsSaid is l × (l.payload_type ≡ pt)) (format_of is) _ (format_told is k b) (λ f sf b.
     there 18 (Of is) (λ l. IsSaid is l × (l.payload_type ≡ pt)) BadParameter (range_or (value_of (codes "RANGE") is)) _ (range_there is (value_of (codes "RANGE") is) good refl) (λ g eg.
-    there 18 (Of is) (λ l. IsSaid is l × (l.payload_type ≡ pt)) BadParameter (colorimetry (text_of (codes "colorimetry") is)) _ (said_colorimetry is (text_of (codes "colorimetry") is) good (colour_said is k)) (λ c ec.
-      ((record {
-         given = sf.given; is_given = sf.is_given; format = sf.made;
-         range = range_by is g (value_of (codes "RANGE") is) refl eg;
-         colorimetry = colour_same is c (colorimetry_same (text_of (codes "colorimetry") is) c ec) (colour_said is k) }, refl), b))))))
+    there 18 (Of is) (λ l. IsSaid is l × (l.payload_type ≡ pt)) BadParameter (colorimetry (text_of (codes "colorimetry") is)) _ (said_colorimetry is (text_of (codes "colorimetry") is) good (colour_said is k)) (λ c ec. (
+      (
+        record {
+          given = sf.given;
+          is_given = sf.is_given;
+          format = sf.made;
+          range = range_by is g (value_of (codes "RANGE") is) refl eg;
+          colorimetry = colour_same is c (colorimetry_same (text_of (codes "colorimetry") is) c ec) (colour_said is k);
+        },
+        refl,
+      ),
+      b,
+    ))))))
   where
     colour_said : (is : List Item) → Sound is → Says is (codes "colorimetry") (text_of (codes "colorimetry") is)
     colour_said is k = said_text is k (codes "colorimetry") (in_required 5 (codes "colorimetry") (lit< tt) refl)
+
     colour_same : (is : List Item) (c : List ℕ) → text_of (codes "colorimetry") is ≡ c → Says is (codes "colorimetry") (text_of (codes "colorimetry") is) → Says is (codes "colorimetry") c
     colour_same is c e m = let P : List ℕ → Type 0 = λ v. Says is (codes "colorimetry") v in subst P e m
 
@@ -311,6 +329,7 @@ said_once is l m single p a b =
   where
     same_ok : {E : Type 0} (r : Result Fields E) (x y : Fields) → r ≡ Ok x → r ≡ Ok y → x ≡ y
     same_ok r x y e h = cc
+
     same_leg : {p q : ℕ} {f g : Fields} {r s : Range} {c d : List ℕ} → p ≡ q → f ≡ g → r ≡ s → c ≡ d
         → leg p f r c ≡ leg q g s d
     same_leg {p = p} {q = q} {f = f} {g = g} {r = r} {s = s} {c = c} {d = d} ep ef er ec =

@@ -1,5 +1,5 @@
 -- The canonical line of a section reads back as what the section says.
-use Rattle.std.proofs.Common.{◌≡◌, ℕ, ◌+◌, ◌^◌, ◌<◌, ◌≤◌, Bool, true, false, cond, not, ◌&&◌, List, [], ◌∷◌, ◌++◌, length, drop, Option, Some, None, Ok, refl, ap, ◌∙◌, sym, arith, rules, codes}
+use Rattle.std.proofs.Common.{◌≡◌, ℕ, ◌^◌, ◌<◌, ◌≤◌, Bool, true, false, cond, not, List, [], ◌∷◌, ◌++◌, drop, Some, None, Ok, refl, ap, ◌∙◌, sym, arith, codes}
 use Rattle.std.specs.Prelude.{map, ◌==◌}
 use mathlib.Core.List.{append_assoc}
 use Rattle.std.specs.List.{list_all, list_any, filter, onto_first}
@@ -11,8 +11,8 @@ use Rattle.st_format.specs.declared.format.Depth.{Depth}
 use Rattle.st_format.specs.declared.format.Depth.TheVariants.{D8, D10, D12, D16}
 use Rattle.sdp_format.specs.declared.sdp.Range.{Range}
 use Rattle.sdp_format.specs.declared.sdp.Range.TheVariants.{Narrow, FullProtect, Full}
-use Rattle.sdp_format.specs.Bytes.{is_space, trimmed, number, front, behind, split, split_left, attribute, is_equal}
-use Rattle.sdp_format.specs.Naming.{Item, item, items, items_of, is_filled, colorimetry, is_name_byte, is_bad}
+use Rattle.sdp_format.specs.Bytes.{trimmed, number, front, behind, split_left, attribute, is_equal}
+use Rattle.sdp_format.specs.Naming.{item, items, items_of, is_filled, colorimetry, is_name_byte, is_bad}
 use Rattle.sdp_format.specs.Sections.{Leg}
 use Rattle.sdp_format.specs.Reading.{leg_of}
 use Rattle.sdp_format.specs.Canonical.{canonical, sampling_text, depth_text, divisor_text, range_text}
@@ -20,7 +20,7 @@ use Rattle.sdp_format.proofs.SpelledItems.{spelled, said_items, range_items}
 use Rattle.sdp_format.specs.Back.{IsLeg}
 use Rattle.sdp_format.proofs.Parts.{next_part}
 use Rattle.sdp_format.proofs.Again.{number_decimal, is_word, trimmed_space, cut_at, and_parts}
-use Rattle.sdp_format.proofs.Line.{IsPlain, AllPlain, items_spelled, leg_again, good_again, decimal_all, digit_word, digit_space, all_append, all_so}
+use Rattle.sdp_format.proofs.Line.{AllPlain, items_spelled, leg_again, good_again, decimal_all, digit_word, digit_space, all_append, all_so}
 
 same_self : (n : ℕ) → (n == n) ≡ true
 same_self n = grind (arith, nat_tests)
@@ -74,16 +74,31 @@ plain l k =
     let n : list_all is_word (decimal l.format.n) ≡ true = decimal_all is_word digit_word l.format.n k.n in
     let d : list_all is_word (divisor_text l.format.d) ≡ true = divisor_by l.format.d (l.format.d == 1) (decimal_all is_word digit_word l.format.d k.d) in
     let r : list_all is_word (decimal l.format.n ++ divisor_text l.format.d) ≡ true = all_append is_word (decimal l.format.n) (divisor_text l.format.d) n d in
-    let c : list_all is_word l.colorimetry ≡ true = colorimetry_word l.colorimetry k.is_colorimetry in
-    (record { word = sampling_word l.format.sampling; key = refl; name = refl; value = sampling_word l.format.sampling },
-    (record { word = w; key = refl; name = refl; value = w },
-    (record { word = h; key = refl; name = refl; value = h },
-    (record { word = r; key = refl; name = refl; value = r },
-    (record { word = depth_word l.format.depth; key = refl; name = refl; value = depth_word l.format.depth },
-    (record { word = c; key = refl; name = refl; value = c },
-    (record { word = refl; key = refl; name = refl; value = refl },
-    (record { word = refl; key = refl; name = refl; value = refl },
-    end_plain l.range))))))))
+    let c : list_all is_word l.colorimetry ≡ true = colorimetry_word l.colorimetry k.is_colorimetry in (
+      record { word = sampling_word l.format.sampling; key = refl; name = refl; value = sampling_word l.format.sampling },
+      (
+        record { word = w; key = refl; name = refl; value = w },
+        (
+          record { word = h; key = refl; name = refl; value = h },
+          (
+            record { word = r; key = refl; name = refl; value = r },
+            (
+              record { word = depth_word l.format.depth; key = refl; name = refl; value = depth_word l.format.depth },
+              (
+                record { word = c; key = refl; name = refl; value = c },
+                (
+                  record { word = refl; key = refl; name = refl; value = refl },
+                  (
+                    record { word = refl; key = refl; name = refl; value = refl },
+                    end_plain l.range,
+                  ),
+                ),
+              ),
+            ),
+          ),
+        ),
+      ),
+    )
   where
     end_plain : (r : Range) → AllPlain (range_items r)
     end_plain Narrow = tt
@@ -92,9 +107,9 @@ plain l k =
 
 spelled_by : (r : Range) (pt w h n d c s b : List ℕ) →
     codes "a=fmtp:" ++ pt ++ codes " sampling=" ++ s ++ codes "; width=" ++ w ++ codes "; height=" ++ h ++ codes "; exactframerate=" ++ n ++ d ++ codes "; depth=" ++ b ++ codes "; colorimetry=" ++ c
-      ++ codes "; PM=2110GPM; SSN=ST2110-20:2017" ++ range_text r
+    ++ codes "; PM=2110GPM; SSN=ST2110-20:2017" ++ range_text r
     ≡ codes "a=fmtp:" ++ (pt ++ spelled ((codes "sampling", s) ∷ (codes "width", w) ∷ (codes "height", h) ∷ (codes "exactframerate", n ++ d) ∷ (codes "depth", b) ∷ (codes "colorimetry", c)
-      ∷ (codes "PM", codes "2110GPM") ∷ (codes "SSN", codes "ST2110-20:2017") ∷ range_items r))
+    ∷ (codes "PM", codes "2110GPM") ∷ (codes "SSN", codes "ST2110-20:2017") ∷ range_items r))
 spelled_by Narrow pt w h n d c s b = simp append_assoc
 spelled_by FullProtect pt w h n d c s b = simp append_assoc
 spelled_by Full pt w h n d c s b = simp append_assoc
@@ -111,6 +126,8 @@ pub line_again : (l : Leg) → IsLeg l → (attribute (codes "a=fmtp:") l.payloa
 line_again l k =
     let small : l.payload_type < 2 ^ 32 = let p : l.payload_type ≤ 127 = k.small_type in omega arith in
     let a : attribute (codes "a=fmtp:") l.payload_type (canonical l) ≡ Some (tail_of l) = ap (attribute (codes "a=fmtp:") l.payload_type) (canonical_spelled l) ∙ attribute_spelled l.payload_type (tail_of l) small in
-    let i : items (tail_of l) ≡ said_items l = sym (items_space (tail_of l)) ∙ items_spelled (said_items l) (plain l k) in
-    (a, ap (leg_of l.payload_type) i ∙ leg_again l.payload_type l.format.width l.format.height l.format.n l.format.d l.format.sampling l.format.depth l.range l.colorimetry k.width k.height k.n k.d k.is_format k.is_colorimetry,
-     ap (list_any is_bad) i ∙ good_again l.payload_type l.format.width l.format.height l.format.n l.format.d l.format.sampling l.format.depth l.range l.colorimetry k.width k.height k.n k.d k.is_colorimetry)
+    let i : items (tail_of l) ≡ said_items l = sym (items_space (tail_of l)) ∙ items_spelled (said_items l) (plain l k) in (
+      a,
+      ap (leg_of l.payload_type) i ∙ leg_again l.payload_type l.format.width l.format.height l.format.n l.format.d l.format.sampling l.format.depth l.range l.colorimetry k.width k.height k.n k.d k.is_format k.is_colorimetry,
+      ap (list_any is_bad) i ∙ good_again l.payload_type l.format.width l.format.height l.format.n l.format.d l.format.sampling l.format.depth l.range l.colorimetry k.width k.height k.n k.d k.is_colorimetry,
+    )

@@ -1,27 +1,24 @@
 -- The canonical line reads back.
-use Rattle.std.proofs.Common.{◌≡◌, ℕ, ◌+◌, ◌^◌, ◌<◌, ◌≤◌, Bool, true, false, cond, not, ◌&&◌, List, [], ◌∷◌, ◌++◌, length, Option, Some, None, Ok, refl, ap, ◌∙◌, sym, arith, rules, lit<, codes, eqb}
-use Rattle.std.specs.Prelude.{map, ◌==◌, nat_le}
-use mathlib.Core.List.{append_assoc}
-use Rattle.std.specs.List.{list_all, list_any, filter, onto_first}
+use Rattle.std.proofs.Common.{◌≡◌, ℕ, ◌^◌, ◌<◌, Bool, true, false, cond, not, List, [], ◌∷◌, ◌++◌, Some, None, Ok, refl, ap, ◌∙◌, arith}
+use Rattle.std.specs.Prelude.{map, ◌==◌}
+use Rattle.std.specs.List.{list_all, list_any, filter}
 use Rattle.std.specs.Char.{is_ascii_digit}
 use Rattle.std.specs.Fmt.{decimal}
 use Rattle.std.proofs.lemmas.Grind.{common_steps}
 use Rattle.std.proofs.lemmas.Bool.Decides.{nat_tests}
 use Rattle.std.proofs.lemmas.Fmt.{digits_decimal}
-use Rattle.st_format.specs.Fields.{Fields, format_at}
+use Rattle.st_format.specs.Fields.{format_at}
 use Rattle.st_format.specs.declared.format.Sampling.{Sampling}
 use Rattle.st_format.specs.declared.format.Sampling.TheVariants.{Ycc422, Ycc444, Rgb}
 use Rattle.st_format.specs.declared.format.Depth.{Depth}
 use Rattle.st_format.specs.declared.format.Depth.TheVariants.{D8, D10, D12, D16}
 use Rattle.sdp_format.specs.declared.sdp.Range.{Range}
 use Rattle.sdp_format.specs.declared.sdp.Range.TheVariants.{Narrow, FullProtect, Full}
-use Rattle.sdp_format.specs.Bytes.{is_space, trimmed, number, front, behind, split, attribute, text_or}
-use Rattle.sdp_format.specs.Naming.{Item, item, items, items_of, is_filled, rate, is_bad, range_named, colorimetry, is_name_byte}
-use Rattle.sdp_format.specs.Sections.{Leg}
+use Rattle.sdp_format.specs.Bytes.{is_space, trimmed, front, behind, split, text_or}
+use Rattle.sdp_format.specs.Naming.{Item, item, items, items_of, is_filled, rate, is_bad, range_named, colorimetry}
 use Rattle.sdp_format.specs.Reading.{leg_of, said_in, format_of, sampling_named, depth_named}
-use Rattle.sdp_format.specs.Canonical.{canonical, sampling_text, depth_text, divisor_text}
+use Rattle.sdp_format.specs.Canonical.{sampling_text, depth_text, divisor_text}
 use Rattle.sdp_format.proofs.SpelledItems.{spelled, said_items}
-use Rattle.sdp_format.specs.Back.{IsLeg}
 use Rattle.sdp_format.proofs.Parts.{front_later, behind_later}
 use Rattle.sdp_format.proofs.Again.{own, number_decimal, is_word, trimmed_word, trimmed_space, split_word, split_last, cut_at, and_parts, not_true}
 
@@ -141,7 +138,7 @@ good_again pt w h n d s b Full c sw sh sn sd k = rw (number_decimal w sw, number
 pub leg_again : (pt w h n d : ℕ) (s : Sampling) (b : Depth) (r : Range) (c : List ℕ) → w < 2 ^ 32 → h < 2 ^ 32 → n < 2 ^ 32 → d < 2 ^ 32
     → format_at s b w h n d ≡ Ok (record { sampling = s; depth = b; width = w; height = h; n = n; d = d }) → colorimetry c ≡ Some c
     → leg_of pt (said_items (record { payload_type = pt; format = record { sampling = s; depth = b; width = w; height = h; n = n; d = d }; range = r; colorimetry = c }))
-      ≡ Ok (record { payload_type = pt; format = record { sampling = s; depth = b; width = w; height = h; n = n; d = d }; range = r; colorimetry = c })
+    ≡ Ok (record { payload_type = pt; format = record { sampling = s; depth = b; width = w; height = h; n = n; d = d }; range = r; colorimetry = c })
 unfolding leg_of said_in format_of range_named
 leg_again pt w h n d s b Narrow c sw sh sn sd f k = rw (number_decimal w sw, number_decimal h sh, rate_again n d sn sd, k, sampling_again s, depth_again b, f) refl
 leg_again pt w h n d s b FullProtect c sw sh sn sd f k = rw (number_decimal w sw, number_decimal h sh, rate_again n d sn sd, k, sampling_again s, depth_again b, f) refl

@@ -1,11 +1,11 @@
 -- Media lines and attribute lines: what reading them gives is what stands in them.
-use Rattle.std.proofs.Common.{◌≡◌, ℕ, ◌+◌, ◌<◌, ◌≤◌, ◌^◌, Bool, true, false, not, cond, ◌&&◌, List, [], ◌∷◌, ◌++◌, length, drop, Option, Some, None, refl, ap, subst, ◌∙◌, sym, arith, codes}
-use Rattle.std.specs.Prelude.{◌==◌, nat_le, is_some, All}
-use Rattle.std.specs.List.{list_all, slice_split, onto_first, join_with_byte}
+use Rattle.std.proofs.Common.{◌≡◌, ℕ, ◌≤◌, Bool, true, false, not, cond, ◌&&◌, List, [], ◌∷◌, ◌++◌, length, drop, Option, Some, None, refl, ap, ◌∙◌, sym, arith, codes}
+use Rattle.std.specs.Prelude.{◌==◌, nat_le, is_some}
+use Rattle.std.specs.List.{list_all, join_with_byte}
 use Rattle.std.specs.Str.{bytes_eq}
 use Rattle.std.specs.Char.{is_ascii_digit}
 use Rattle.std.specs.Str.Parse.{digits_value}
-use Rattle.std.proofs.lemmas.List.{length-append, append_assoc, append-nil}
+use Rattle.std.proofs.lemmas.List.{length-append, append_assoc}
 use Rattle.std.proofs.lemmas.List.Elements.{All-nil, All-cons, All-head, All-tail}
 use Rattle.std.proofs.lemmas.List.Splits.{join_with_byte-slice_split}
 use Rattle.std.proofs.lemmas.Bool.Decides.{Decides-eqb, nat_tests}
@@ -120,9 +120,12 @@ words_of (a ∷ port ∷ profile ∷ type ∷ []) m e =
     let w = and_parts (bytes_eq a (codes "m=video")) (bytes_eq profile (codes "RTP/AVP")) t.0 in
     let b = both_some (at_most 65535 (number port)) (at_most 127 (number type)) m t.1 in
     record {
-      port_text = port; type_text = type;
+      port_text = port;
+      type_text = type;
       whole = ap (λ z. z ∷ port ∷ profile ∷ type ∷ []) (bytes_same a (codes "m=video") w.0) ∙ ap (λ z. codes "m=video" ∷ port ∷ z ∷ type ∷ []) (bytes_same profile (codes "RTP/AVP") w.1);
-      port = b.0; type = b.1 }
+      port = b.0;
+      type = b.1;
+    }
 words_of (a ∷ b ∷ c ∷ d ∷ f ∷ fs) m e = absurd (not_none m (sym e))
 
 most_by : (limit k n : ℕ) (t : Bool) → nat_le k limit ≡ t → cond t (Some k) None ≡ Some n → (k ≡ n) × (n ≤ limit)
@@ -147,11 +150,18 @@ media_says line m e =
     let p = most_is 65535 (number w.port_text) m.0 w.port in
     let t = most_is 127 (number w.type_text) m.1 w.type in
     let joined : trim_end line ≡ codes "m=video" ++ 32 ∷ (w.port_text ++ 32 ∷ (codes "RTP/AVP" ++ 32 ∷ w.type_text)) =
-        sym (join_with_byte-slice_split 32 (trim_end line)) ∙ ap (join_with_byte 32) w.whole in
+    sym (join_with_byte-slice_split 32 (trim_end line)) ∙ ap (join_with_byte 32) w.whole in
     record {
-      port_text = w.port_text; type_text = w.type_text; spaces = r.0;
+      port_text = w.port_text;
+      type_text = w.type_text;
+      spaces = r.0;
       whole = r.1 ∙ ap (λ z. z ++ r.0) joined ∙ regroup w.port_text w.type_text r.0;
-      is_port = p.0; most_port = p.1; is_type = t.0; most_type = t.1; blank = r.2 }
+      is_port = p.0;
+      most_port = p.1;
+      is_type = t.0;
+      most_type = t.1;
+      blank = r.2;
+    }
 
 solid : (p t : List ℕ) (n : ℕ) → number t ≡ Some n
     → trim_end (codes "m=video" ++ 32 ∷ (p ++ 32 ∷ (codes "RTP/AVP" ++ 32 ∷ t))) ≡ codes "m=video" ++ 32 ∷ (p ++ 32 ∷ (codes "RTP/AVP" ++ 32 ∷ t))
@@ -165,15 +175,15 @@ four : (p t : List ℕ) (m n : ℕ) → number p ≡ Some m → number t ≡ Som
 four p t m n e f =
     split_at 32 (codes "m=video") (p ++ 32 ∷ (codes "RTP/AVP" ++ 32 ∷ t)) refl refl
     ∙ ap (λ z. codes "m=video" ∷ z)
-        (split_at 32 p (codes "RTP/AVP" ++ 32 ∷ t) (no_space p m e) refl
-        ∙ ap (λ z. p ∷ z) (split_at 32 (codes "RTP/AVP") t refl refl ∙ ap (λ z. codes "RTP/AVP" ∷ z) (split_end 32 t (no_space t n f))))
+    (split_at 32 p (codes "RTP/AVP" ++ 32 ∷ t) (no_space p m e) refl
+    ∙ ap (λ z. p ∷ z) (split_at 32 (codes "RTP/AVP") t refl refl ∙ ap (λ z. codes "RTP/AVP" ∷ z) (split_end 32 t (no_space t n f))))
 
 pub says_media : (line : List ℕ) (port type : ℕ) → IsMediaLine line port type → media_of line ≡ Some (port, type)
 unfolding media_of
 says_media line port type i =
     let whole : line ≡ (codes "m=video" ++ 32 ∷ (i.port_text ++ 32 ∷ (codes "RTP/AVP" ++ 32 ∷ i.type_text))) ++ i.spaces = i.whole ∙ sym (regroup i.port_text i.type_text i.spaces) in
     let cut : trim_end line ≡ codes "m=video" ++ 32 ∷ (i.port_text ++ 32 ∷ (codes "RTP/AVP" ++ 32 ∷ i.type_text)) =
-        ap trim_end whole ∙ trim_blank (codes "m=video" ++ 32 ∷ (i.port_text ++ 32 ∷ (codes "RTP/AVP" ++ 32 ∷ i.type_text))) i.spaces i.blank ∙ solid i.port_text i.type_text type i.is_type in
+    ap trim_end whole ∙ trim_blank (codes "m=video" ++ 32 ∷ (i.port_text ++ 32 ∷ (codes "RTP/AVP" ++ 32 ∷ i.type_text))) i.spaces i.blank ∙ solid i.port_text i.type_text type i.is_type in
     ap (λ z. media_of_parts (split 32 z)) cut
     ∙ ap media_of_parts (four i.port_text i.type_text port type i.is_port i.is_type)
     ∙ ap (λ z. both (at_most 65535 z) (at_most 127 (number i.type_text))) i.is_port
@@ -216,7 +226,8 @@ attribute_says word n line rest e =
     record {
       digits = front 32 (drop (length word) line);
       whole = to_word word line a.0 ∙ ap (λ z. word ++ z) (cut_whole 32 (drop (length word) line) rest b.1) ∙ sym (append_assoc word (front 32 (drop (length word) line)) (32 ∷ rest));
-      is_type = equal_is (number (front 32 (drop (length word) line))) n b.0 }
+      is_type = equal_is (number (front 32 (drop (length word) line))) n b.0;
+    }
 
 pub says_attribute : (word : List ℕ) (n : ℕ) (line rest : List ℕ) → IsAttribute word n line rest → attribute word n line ≡ Some rest
 unfolding attribute

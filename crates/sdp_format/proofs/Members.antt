@@ -1,5 +1,5 @@
 -- Members of lists, and what tests over lists say of them.
-use Rattle.std.proofs.Common.{◌≡◌, ◌≢◌, ℕ, suc, zero, ◌<◌, Bool, true, false, not, ◌||◌, ◌&&◌, List, [], ◌∷◌, ◌++◌, length, refl, ap, ◌∙◌, sym, arith, ◌⊎◌, inl, inr}
+use Rattle.std.proofs.Common.{◌≡◌, suc, zero, ◌<◌, Bool, true, false, ◌||◌, ◌&&◌, List, [], ◌∷◌, ◌++◌, length, refl, ap, ◌∙◌, sym, arith, ◌⊎◌, inl, inr}
 use Rattle.std.specs.Prelude.{Contains}
 use Rattle.std.specs.List.{list_any, list_all}
 
@@ -37,23 +37,26 @@ pub any_member : {X : Type 0} (p : X → Bool) (xs : List X) → list_any p xs �
 any_member p [] e = absurd (not_both false e refl)
 any_member p (x ∷ xs) e =
     elim (or_cases (p x) (list_any p xs) e) [
-      inl h ↦ (x, member_here x xs, h)
-    | inr h ↦ let r = any_member p xs h in (r.0, member_later r.0 x xs r.1, r.2) ]
+      | inl h ↦ (x, member_here x xs, h)
+      | inr h ↦ let r = any_member p xs h in (r.0, member_later r.0 x xs r.1, r.2)
+    ]
 
 pub member_any : {X : Type 0} (p : X → Bool) (xs : List X) (x : X) → Contains xs x → p x ≡ true → list_any p xs ≡ true
 member_any p [] x m e = absurd (no_member x m)
 member_any p (y ∷ xs) x m e =
     elim (member_cases x y xs m) [
-      inl h ↦ or_left (p y) (list_any p xs) (ap p h ∙ e)
-    | inr h ↦ or_right (p y) (list_any p xs) (member_any p xs x h e) ]
+      | inl h ↦ or_left (p y) (list_any p xs) (ap p h ∙ e)
+      | inr h ↦ or_right (p y) (list_any p xs) (member_any p xs x h e)
+    ]
 
 pub all_member : {X : Type 0} (p : X → Bool) (xs : List X) (x : X) → list_all p xs ≡ true → Contains xs x → p x ≡ true
 all_member p [] x e m = absurd (no_member x m)
 all_member p (y ∷ xs) x e m =
     let both = and_cases (p y) (list_all p xs) e in
     elim (member_cases x y xs m) [
-      inl h ↦ sym (ap p h) ∙ both.0
-    | inr h ↦ all_member p xs x both.1 h ]
+      | inl h ↦ sym (ap p h) ∙ both.0
+      | inr h ↦ all_member p xs x both.1 h
+    ]
   where
     and_cases : (a b : Bool) → (a && b) ≡ true → (a ≡ true) × (b ≡ true)
     and_cases true b e = (refl, e)
@@ -73,5 +76,6 @@ pub member_split : {X : Type 0} (xs : List X) (x : X) → Contains xs x → (bef
 member_split [] x m = absurd (no_member x m)
 member_split (y ∷ xs) x m =
     elim (member_cases x y xs m) [
-      inl h ↦ ([], (xs, ap (λ z. z ∷ xs) h))
-    | inr h ↦ let r = member_split xs x h in (y ∷ r.0, (r.1.0, ap (λ zs. y ∷ zs) r.1.1)) ]
+      | inl h ↦ ([], (xs, ap (λ z. z ∷ xs) h))
+      | inr h ↦ let r = member_split xs x h in (y ∷ r.0, (r.1.0, ap (λ zs. y ∷ zs) r.1.1))
+    ]

@@ -1,13 +1,13 @@
 -- Items by their names: what looking up finds, and what items say.
-use Rattle.std.proofs.Common.{◌≡◌, ◌≢◌, ℕ, Bool, true, false, not, cond, ◌||◌, List, [], ◌∷◌, ◌++◌, Option, Some, None, refl, ap, subst, ◌∙◌, sym, arith, ◌⊎◌, inl, inr}
-use Rattle.std.specs.Prelude.{Contains, is_some, is_none}
+use Rattle.std.proofs.Common.{◌≡◌, ℕ, Bool, true, false, cond, List, [], ◌∷◌, ◌++◌, Option, Some, None, refl, ap, subst, ◌∙◌, sym, arith, inl, inr}
+use Rattle.std.specs.Prelude.{is_some}
 use Rattle.std.specs.List.{list_any}
 use Rattle.std.specs.Str.{bytes_eq}
 use Rattle.std.proofs.lemmas.Slice.Eq.{bytes_eq-Decides}
 use Rattle.sdp_format.specs.Bytes.{text_or}
 use Rattle.sdp_format.specs.Naming.{Item, value_of, text_of, has, has_double}
 use Rattle.sdp_format.specs.Grammar.{Says, Has, Lacks, HasDouble}
-use Rattle.sdp_format.proofs.Members.{member_here, member_later, member_cases, no_member, not_both, or_cases, or_right, any_member, member_any, member_split}
+use Rattle.sdp_format.proofs.Members.{member_later, member_cases, no_member, not_both, or_cases, or_right, any_member, member_any, member_split}
 use Rattle.sdp_format.proofs.Doubles.{any_here, or_false, cond_none}
 
 pub bytes_same : (xs ys : List ℕ) → bytes_eq xs ys ≡ true → xs ≡ ys
@@ -48,17 +48,19 @@ says_found name value [] single m = absurd (no_member _ m)
 says_found name value (i ∷ is) single m =
     let h : (list_any (λ j. bytes_eq j.0 i.0) is ≡ false) × (has_double is ≡ false) = or_false (list_any (λ j. bytes_eq j.0 i.0) is) (has_double is) single in
     elim (member_cases (name, value) i is m) [
-      inl e ↦ let P : Item → Type 0 = λ j. value_of name (j ∷ is) ≡ Some value in
-              subst P (sym e) (ap (λ t. cond t (Some value) (value_of name is)) (same_bytes name name refl))
-    | inr n ↦ later_by name value i is (bytes_eq name i.0) refl h.0 n (says_found name value is h.1 n) ]
+      | inl e ↦ let P : Item → Type 0 = λ j. value_of name (j ∷ is) ≡ Some value in
+          subst P (sym e) (ap (λ t. cond t (Some value) (value_of name is)) (same_bytes name name refl))
+      | inr n ↦ later_by name value i is (bytes_eq name i.0) refl h.0 n (says_found name value is h.1 n)
+    ]
 
 pub says_some : (name value : List ℕ) (is : List Item) → Says is name value → value_of name is ≡ None → ⊥
 says_some name value [] m e = no_member _ m
 says_some name value (i ∷ is) m e =
     let h : (bytes_eq name i.0 ≡ false) × (value_of name is ≡ None) = cond_none (bytes_eq name i.0) i.1 (value_of name is) e in
     elim (member_cases (name, value) i is m) [
-      inl here ↦ not_both (bytes_eq name i.0) (same_bytes name i.0 (sym (ap (λ (j : Item). j.0) here))) h.0
-    | inr n ↦ says_some name value is n h.1 ]
+      | inl here ↦ not_both (bytes_eq name i.0) (same_bytes name i.0 (sym (ap (λ (j : Item). j.0) here))) h.0
+      | inr n ↦ says_some name value is n h.1
+    ]
 
 pub some_text : (o : Option (List ℕ)) → is_some o ≡ true → o ≡ Some (text_or o)
 some_text None e = absurd (not_both false e refl)
@@ -96,13 +98,14 @@ pub double_says : (is : List Item) → has_double is ≡ true → HasDouble is
 double_says [] e = absurd (not_both false e refl)
 double_says (i ∷ is) e =
     elim (or_cases (list_any (λ j. bytes_eq j.0 i.0) is) (has_double is) e) [
-      inl h ↦
-        let r = any_member (λ (j : Item). bytes_eq j.0 i.0) is h in
-        let q = member_split is r.0 r.1 in
-        record { before = []; first = i; between = q.0; second = r.0; after = q.1.0; whole = ap (λ zs. i ∷ zs) q.1.1; same = bytes_same r.0.0 i.0 r.2 }
-    | inr h ↦
-        let d = double_says is h in
-        record { before = i ∷ d.before; first = d.first; between = d.between; second = d.second; after = d.after; whole = ap (λ zs. i ∷ zs) d.whole; same = d.same } ]
+      | inl h ↦
+          let r = any_member (λ (j : Item). bytes_eq j.0 i.0) is h in
+          let q = member_split is r.0 r.1 in
+          record { before = []; first = i; between = q.0; second = r.0; after = q.1.0; whole = ap (λ zs. i ∷ zs) q.1.1; same = bytes_same r.0.0 i.0 r.2 }
+      | inr h ↦
+          let d = double_says is h in
+          record { before = i ∷ d.before; first = d.first; between = d.between; second = d.second; after = d.after; whole = ap (λ zs. i ∷ zs) d.whole; same = d.same }
+    ]
 
 double_at : (before between after : List Item) (first second : Item) → second.0 ≡ first.0 → has_double (before ++ first ∷ (between ++ second ∷ after)) ≡ true
 double_at [] between after first second e =

@@ -1,5 +1,5 @@
 -- Sections: the first of their faults is told, or what they say.
-use Rattle.std.proofs.Common.{◌≡◌, ℕ, ◌+◌, ◌<◌, ◌≤◌, Bool, true, false, not, List, [], ◌∷◌, Option, Some, None, Ok, Err, Result, refl, ap, subst, ◌∙◌, sym, arith, ◌⊎◌, inl, inr, codes}
+use Rattle.std.proofs.Common.{◌≡◌, ℕ, ◌<◌, ◌≤◌, true, false, not, List, Some, Ok, Err, Result, refl, ap, subst, ◌∙◌, sym, arith, inl, inr, codes}
 use Rattle.std.specs.Prelude.{◌↔◌}
 use Rattle.std.specs.List.{list_any}
 use Rattle.std.specs.Str.{str_eq_ignore_ascii_case}
@@ -80,25 +80,25 @@ pub listed_told : (s : Section) → Told 9 (At s) (IsListed s) (listed_at s)
 unfolding listed_at
 listed_told s =
     want 9 (At s) (IsListed s) BadMediaLine (media_of s.media) _ (below_media s)
-      (λ e. λ p t i. not_none (p, t) (sym (says_media s.media p t i) ∙ e)) (λ m e c. c m.0 m.1 (media_says s.media m e))
-      (λ m em b.
+    (λ e. λ p t i. not_none (p, t) (sym (says_media s.media p t i) ∙ e)) (λ m e c. c m.0 m.1 (media_says s.media m e))
+    (λ m em b.
     want 9 (At s) (IsListed s) NoRtpmap (first_attribute (codes "a=rtpmap:") m.1 s.lines) _ b
-      (λ e. record { port = m.0; payload_type = m.1; media = media_says s.media m em; none = none_says (codes "a=rtpmap:") m.1 s.lines e })
-      (λ map e c. lacks_once (codes "a=rtpmap:") s m map em e c)
-      (λ map er b.
+    (λ e. record { port = m.0; payload_type = m.1; media = media_says s.media m em; none = none_says (codes "a=rtpmap:") m.1 s.lines e })
+    (λ map e c. lacks_once (codes "a=rtpmap:") s m map em e c)
+    (λ map er b.
     refuse 9 (At s) (IsListed s) NotRaw90000 (not (is_raw90000 map)) _ b
-      (λ e. record { port = m.0; payload_type = m.1; map = map; media = media_says s.media m em; rtpmap = first_says (codes "a=rtpmap:") m.1 s.lines map er; other = sym (raw_is map) ∙ not_true (is_raw90000 map) e })
-      (λ e c. other_once s m map em er (not_false (is_raw90000 map) e) c)
-      (λ ew b.
+    (λ e. record { port = m.0; payload_type = m.1; map = map; media = media_says s.media m em; rtpmap = first_says (codes "a=rtpmap:") m.1 s.lines map er; other = sym (raw_is map) ∙ not_true (is_raw90000 map) e })
+    (λ e c. other_once s m map em er (not_false (is_raw90000 map) e) c)
+    (λ ew b.
     want 9 (At s) (IsListed s) NoFmtp (first_attribute (codes "a=fmtp:") m.1 s.lines) _ b
-      (λ e. record { port = m.0; payload_type = m.1; media = media_says s.media m em; none = none_says (codes "a=fmtp:") m.1 s.lines e })
-      (λ text e c. lacks_once (codes "a=fmtp:") s m text em e c)
-      (λ text et b.
+    (λ e. record { port = m.0; payload_type = m.1; media = media_says s.media m em; none = none_says (codes "a=fmtp:") m.1 s.lines e })
+    (λ text e c. lacks_once (codes "a=fmtp:") s m text em e c)
+    (λ text et b.
     let has : HasItems s m.0 m.1 (items text) = record { media = media_says s.media m em; text = text; fmtp = first_says (codes "a=fmtp:") m.1 s.lines text et; list = refl } in
     refuse 9 (At s) (IsListed s) BadParameter (list_any is_bad (items text)) _ b
-      (λ e. record { port = m.0; payload_type = m.1; list = items text; has = has; holds = any_bad (items text) e })
-      (λ e c. not_both (list_any is_bad (items text)) (bad_any (items text) (found_in c has)) e)
-      (λ eb b. (record { has = has; good = eb }, b))))))
+    (λ e. record { port = m.0; payload_type = m.1; list = items text; has = has; holds = any_bad (items text) e })
+    (λ e c. not_both (list_any is_bad (items text)) (bad_any (items text) (found_in c has)) e)
+    (λ eb b. (record { has = has; good = eb }, b))))))
   where
     found_in : {p t : ℕ} {js : List Item} → HasItemFault BadParameter s → HasItems s p t js → ItemFault BadParameter js
     found_in {p = p} {t = t} {js = js} c i = subst (λ (is : List Item). ItemFault BadParameter is) (items_once s c.port c.payload_type p t c.list js c.has i) c.holds
@@ -147,9 +147,11 @@ down s p t is i LegsDiffer l c = c.holds
 
 join_below : (s : Section) (p t : ℕ) (is : List Item) (n : ℕ) → HasItems s p t is → Below (At s) 9 → Below (Of is) n → Below (At s) n
 join_below s p t is n i low high = record {
-    none = λ g l c. elim (cases_lt (fault_number g) 9) [
-      inl h ↦ low.none g h c
-    | inr h ↦ high.none g l (down s p t is i g h c) ] }
+  none = λ g l c. elim (cases_lt (fault_number g) 9) [
+    | inl h ↦ low.none g h c
+    | inr h ↦ high.none g l (down s p t is i g h c)
+  ];
+}
 
 raise : {X : Type 0} (s : Section) (p t : ℕ) (is : List Item) (R : X → Type 0) (r : Result X SdpFault) → HasItems s p t is → Below (At s) 9 → Told 18 (Of is) R r → Told 18 (At s) R r
 raise s p t is R (Ok x) i low told = (told.0, join_below s p t is 18 i low told.1)
@@ -160,8 +162,8 @@ unfolding section_at
 section_told s =
     follow 9 18 (At s) (IsListed s) (λ x. SectionSays s x.0 x.1) (listed_at s) _ (listed_told s) (λ x k b.
     follow 18 18 (At s) (λ l. IsSaid x.list l × (l.payload_type ≡ x.payload_type)) (λ z. SectionSays s z.0 z.1) (leg_of x.payload_type x.list) _
-      (raise s x.port x.payload_type x.list (λ l. IsSaid x.list l × (l.payload_type ≡ x.payload_type)) (leg_of x.payload_type x.list) k.has b (leg_told x.payload_type x.list k.good)) (λ l q b.
-      (record { list = x.list; has = subst (λ (t : ℕ). HasItems s x.port t x.list) (sym q.1) k.has; said = q.0 }, b)))
+    (raise s x.port x.payload_type x.list (λ l. IsSaid x.list l × (l.payload_type ≡ x.payload_type)) (leg_of x.payload_type x.list) k.has b (leg_told x.payload_type x.list k.good)) (λ l q b.
+    (record { list = x.list; has = subst (λ (t : ℕ). HasItems s x.port t x.list) (sym q.1) k.has; said = q.0 }, b)))
 
 -- THE LAWS OF A SECTION
 
@@ -175,10 +177,12 @@ first_by : (s : Section) (f : SdpFault) (r : Result (ℕ × Leg) SdpFault) → T
 first_by s f (Ok x) told c = absurd (none_at_all (At s) told.1 f c.0)
 first_by s f (Err g) told c =
     elim (cases_lt (fault_number g) (fault_number f)) [
-      inl h ↦ absurd (c.1 g h told.0)
-    | inr h ↦ elim (cases_lt (fault_number f) (fault_number g)) [
-      inl k ↦ absurd (told.1.none f k c.0)
-    | inr k ↦ let same : fault_number g ≡ fault_number f = omega arith in ap (λ (z : SdpFault). Err z) (number_same g f same) ] ]
+      | inl h ↦ absurd (c.1 g h told.0)
+      | inr h ↦ elim (cases_lt (fault_number f) (fault_number g)) [
+        | inl k ↦ absurd (told.1.none f k c.0)
+        | inr k ↦ let same : fault_number g ≡ fault_number f = omega arith in ap (λ (z : SdpFault). Err z) (number_same g f same)
+      ]
+    ]
 
 pub section_fault : (s : Section) (f : SdpFault) → (section_at s ≡ Err f) ↔ IsFirstFault f s
 section_fault s f = (err_by s f (section_at s) (section_told s), first_by s f (section_at s) (section_told s))
@@ -199,7 +203,7 @@ one_by s port l (Ok x) told clean says =
     let media : (x.0 ≡ port) × (x.1.payload_type ≡ l.payload_type) = media_once s.media x.0 x.1.payload_type port l.payload_type there.has.media says.has.media in
     let list : says.list ≡ there.list = items_once s port l.payload_type x.0 x.1.payload_type says.list there.list says.has there.has in
     let single : has_double there.list ≡ false =
-        false_from (has_double there.list) (λ d. clean DoubleParameter (record { port = x.0; payload_type = x.1.payload_type; list = there.list; has = there.has; holds = double_says there.list d })) in
+    false_from (has_double there.list) (λ d. clean DoubleParameter (record { port = x.0; payload_type = x.1.payload_type; list = there.list; has = there.has; holds = double_says there.list d })) in
     let leg : x.1 ≡ l = said_once there.list x.1 l single media.1 there.said (subst (λ (js : List Item). IsSaid js l) list says.said) in
     ap (λ (p : ℕ). Ok (p, x.1)) media.0 ∙ ap (λ (m : Leg). Ok (port, m)) leg
 

@@ -1,5 +1,5 @@
 -- A chain of tests tells the first fault in the order of numbers.
-use Rattle.std.proofs.Common.{◌≡◌, ℕ, ◌+◌, ◌<◌, ◌≤◌, Bool, true, false, Option, Some, None, Result, Ok, Err, refl, ap, subst, ◌∙◌, sym, arith, lit<, ◌⊎◌, inl, inr}
+use Rattle.std.proofs.Common.{◌≡◌, ℕ, ◌+◌, ◌<◌, Bool, true, false, Option, Some, None, Result, Ok, Err, refl, ap, subst, ◌∙◌, sym, arith, lit<, inl, inr}
 use Rattle.std.specs.Prelude.{◌==◌, if◌then◌else◌}
 use Rattle.std.proofs.lemmas.Bool.{cases_lt}
 use Rattle.sdp_format.specs.declared.fault.SdpFault.{SdpFault}
@@ -65,9 +65,11 @@ pub record Below (C : SdpFault → Type 0) (n : ℕ) : Type 0 where
 -- one condition more that does not hold
 pub more : (C : SdpFault → Type 0) (f : SdpFault) (n : ℕ) → n ≡ fault_number f + 1 → Below C (fault_number f) → (C f → ⊥) → Below C n
 more C f n e b fails = record {
-    none = λ g less c. elim (cases_lt (fault_number g) (fault_number f)) [
-      inl h ↦ b.none g h c
-    | inr h ↦ let same : fault_number g ≡ fault_number f = omega arith in fails (subst C (number_same g f same) c) ] }
+  none = λ g less c. elim (cases_lt (fault_number g) (fault_number f)) [
+    | inl h ↦ b.none g h c
+    | inr h ↦ let same : fault_number g ≡ fault_number f = omega arith in fails (subst C (number_same g f same) c)
+  ];
+}
 
 pub none_at_all : (C : SdpFault → Type 0) → Below C 18 → (g : SdpFault) → C g → ⊥
 none_at_all C b g c = b.none g (number_small g) c

@@ -1,6 +1,6 @@
 -- Texts of several sections: which fault is told, or what they say.
 use Rattle.std.proofs.Common.{◌≡◌, ℕ, ◌<◌, Bool, true, false, not, ◌&&◌, List, [], ◌∷◌, length, Ok, Err, Result, refl, ap, subst, ◌∙◌, sym, arith, ◌⊎◌, inl, inr}
-use Rattle.std.specs.Prelude.{◌↔◌, ◌==◌, MatchResult, IfOk, IfErr}
+use Rattle.std.specs.Prelude.{◌↔◌, ◌==◌, IfOk, IfErr}
 use Rattle.std.specs.Str.{bytes_eq}
 use Rattle.std.proofs.lemmas.Bool.Decides.{Decides-eqb}
 use Rattle.st_format.specs.declared.format.Sampling.{Sampling}
@@ -18,7 +18,7 @@ use Rattle.sdp_format.specs.Reading.{◌>>=◌, refused, Gives, section_at, same
 use Rattle.sdp_format.specs.Grammar.{IsFirstFault, IsFaultless, SectionSays, Differ, TwoDiffer, IsTextFault, OneSays, BothSay, IsDescribed}
 use Rattle.sdp_format.proofs.Members.{not_both}
 use Rattle.sdp_format.proofs.Said.{bytes_same, same_bytes, false_from}
-use Rattle.sdp_format.proofs.Again.{and_parts, not_true}
+use Rattle.sdp_format.proofs.Again.{and_parts}
 use Rattle.sdp_format.proofs.SectionFaults.{section_fault, section_read, section_said}
 
 -- WHETHER TWO SECTIONS SAY THE SAME
@@ -105,10 +105,10 @@ pub leg_self : (l : Leg) → same_leg l l ≡ true
 unfolding same_leg
 leg_self l =
     and_all (l.payload_type == l.payload_type && same_format l.format l.format && same_range l.range l.range) (bytes_eq l.colorimetry l.colorimetry)
-      (and_all (l.payload_type == l.payload_type && same_format l.format l.format) (same_range l.range l.range)
-        (and_all (l.payload_type == l.payload_type) (same_format l.format l.format) (number_self l.payload_type) (format_self l.format))
-        (range_self l.range))
-      (same_bytes l.colorimetry l.colorimetry refl)
+    (and_all (l.payload_type == l.payload_type && same_format l.format l.format) (same_range l.range l.range)
+    (and_all (l.payload_type == l.payload_type) (same_format l.format l.format) (number_self l.payload_type) (format_self l.format))
+    (range_self l.range))
+    (same_bytes l.colorimetry l.colorimetry refl)
 
 -- RESULTS OF SECTIONS, ONE AFTER ANOTHER
 
@@ -211,24 +211,36 @@ two_ok (Ok x) (Ok y) d e =
 -- SECTIONS OF A TEXT
 
 one_fault : (s : Section) (f : SdpFault) → (description_of (s ∷ []) ≡ Err f) ↔ IsFirstFault f s
-one_fault s f =
-    (λ e. (section_fault s f).0 (one_err (section_at s) f (sym (as_one s) ∙ e)),
-     λ h. as_one s ∙ ap one_of ((section_fault s f).1 h))
+one_fault s f = (
+  λ e. (section_fault s f).0 (one_err (section_at s) f (sym (as_one s) ∙ e)),
+  λ h. as_one s ∙ ap one_of ((section_fault s f).1 h),
+)
 
 two_fault_from : (s t : Section) (f : SdpFault) → description_of (s ∷ t ∷ []) ≡ Err f → IsTextFault f (s ∷ t ∷ [])
 two_fault_from s t f e =
     elim (two_err (section_at s) (section_at t) f (sym (as_two s t) ∙ e)) [
-      inl h ↦ inl ((section_fault s f).0 h)
-    | inr k ↦ elim k [
-      inl h ↦ inr (inl ((section_read s h.0 h.1).0, (section_fault t f).0 h.2))
-    | inr u ↦
-        let a = section_read s u.first u.read in
-        let b = section_read t u.second u.second_read in
-        inr (inr (a.0, b.0,
-          record {
-            port = u.first.0; leg = u.first.1; second_port = u.second.0; second_leg = u.second.1; says = a.1; second_says = b.1;
-            unlike = λ same. not_both (same_leg u.first.1 u.second.1) (ap (same_leg u.first.1) (sym same) ∙ leg_self u.first.1) u.unlike },
-          u.fault)) ] ]
+      | inl h ↦ inl ((section_fault s f).0 h)
+      | inr k ↦ elim k [
+        | inl h ↦ inr (inl ((section_read s h.0 h.1).0, (section_fault t f).0 h.2))
+        | inr u ↦
+            let a = section_read s u.first u.read in
+            let b = section_read t u.second u.second_read in
+            inr (inr (
+              a.0,
+              b.0,
+              record {
+                port = u.first.0;
+                leg = u.first.1;
+                second_port = u.second.0;
+                second_leg = u.second.1;
+                says = a.1;
+                second_says = b.1;
+                unlike = λ same. not_both (same_leg u.first.1 u.second.1) (ap (same_leg u.first.1) (sym same) ∙ leg_self u.first.1) u.unlike;
+              },
+              u.fault,
+            ))
+      ]
+    ]
 
 second_fault : (s t : Section) (f : SdpFault) → IsFaultless s → IsFirstFault f t → (r : Result Read SdpFault) → section_at s ≡ r → two_of r (section_at t) ≡ Err f
 second_fault s t f clean h (Ok x) e = ap (λ q. q >>= λ y. both x y) ((section_fault t f).1 h)
@@ -256,9 +268,11 @@ one_said_from s d e =
     let x = one_ok (section_at s) d (sym (as_one s) ∙ e) in
     let r = section_read s x.0 x.1 in
     record {
-      faultless = r.0; port = x.0.0;
+      faultless = r.0;
+      port = x.0.0;
       says = subst (λ (l : Leg). SectionSays s x.0.0 l) (ap (λ (z : Description). z.leg) x.2) r.1;
-      ports = sym (ap (λ (z : Description). z.ports) x.2) }
+      ports = sym (ap (λ (z : Description). z.ports) x.2);
+    }
 
 one_said_to : (s : Section) (d : Description) → OneSays s d → description_of (s ∷ []) ≡ Ok d
 one_said_to s d h =
@@ -272,10 +286,14 @@ both_said_from s t d e =
     let first : x.first.1 ≡ d.leg = ap (λ (z : Description). z.leg) x.said in
     let second : x.second.1 ≡ d.leg = sym (leg_is x.first.1 x.second.1 x.alike) ∙ first in
     record {
-      faultless = a.0; second_faultless = b.0; port = x.first.0; second_port = x.second.0;
+      faultless = a.0;
+      second_faultless = b.0;
+      port = x.first.0;
+      second_port = x.second.0;
       says = subst (λ (l : Leg). SectionSays s x.first.0 l) first a.1;
       second_says = subst (λ (l : Leg). SectionSays t x.second.0 l) second b.1;
-      ports = sym (ap (λ (z : Description). z.ports) x.said) }
+      ports = sym (ap (λ (z : Description). z.ports) x.said);
+    }
 
 pub two_read : (s t : Section) (p q : ℕ) (l : Leg) → section_at s ≡ Ok (p, l) → section_at t ≡ Ok (q, l) → description_of (s ∷ t ∷ []) ≡ Ok (described (p ∷ q ∷ []) l)
 two_read s t p q l a b =
@@ -328,6 +346,7 @@ too_many_legs text = (λ e. many_from (video_sections (lines text)) ((text_fault
     many_from (s ∷ t ∷ []) (inr (inl h)) = absurd h.1.0.holds
     many_from (s ∷ t ∷ []) (inr (inr h)) = absurd (let k : TooManyLegs ≡ LegsDiffer = h.3 in let z : ⊥ = cc in z)
     many_from (s ∷ t ∷ u ∷ rest) h = omega arith
+
     many_to : (ss : List Section) → 2 < length ss → IsTextFault TooManyLegs ss
     many_to [] h = absurd (omega arith)
     many_to (s ∷ []) h = absurd (omega arith)
@@ -344,6 +363,7 @@ legs_differ text = (λ e. differ_from (video_sections (lines text)) ((text_fault
     differ_from (s ∷ t ∷ []) (inr (inl h)) = absurd h.1.0.holds
     differ_from (s ∷ t ∷ []) (inr (inr h)) = (h.0, h.1, h.2)
     differ_from (s ∷ t ∷ u ∷ rest) h = absurd (let k : LegsDiffer ≡ TooManyLegs = h in let z : ⊥ = cc in z)
+
     differ_to : (ss : List Section) → TwoDiffer ss → IsTextFault LegsDiffer ss
     differ_to [] h = absurd h
     differ_to (s ∷ []) h = absurd h

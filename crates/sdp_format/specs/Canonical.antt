@@ -1,5 +1,5 @@
 -- The one fmtp line of what a section says.
-use Rattle.std.specs.Prelude.{ℕ, ◌==◌, if◌then◌else◌, List, [], ◌∷◌, ◌++◌}
+use Rattle.std.specs.Prelude.{ℕ, ◌==◌, if◌then◌else◌, List, [], ◌++◌}
 use Rattle.std.specs.Fmt.{decimal}
 use Rattle.std.proofs.Common.{codes}
 use Rattle.st_format.specs.declared.format.Sampling.{Sampling}

@@ -18,8 +18,7 @@ pub fn text_faults()
     ensures legs_differ { (text : List ℕ) → ((description_at text ≡ Err LegsDiffer) ↔ TwoDiffer (video_sections (lines text))) }
     ensures first_fault { (text : List ℕ) (fault : SdpFault) → ((description_at text ≡ Err fault) ↔ IsTextFault fault (video_sections (lines text))) }
     ensures said { (text : List ℕ) (d : Description) → ((description_at text ≡ Ok d) ↔ IsDescribed d (video_sections (lines text))) }
-{
-}
+{}
 
 /// When a section has which fault: its condition holds, and that of no earlier fault does.
 pub fn section_faults()
@@ -36,11 +35,9 @@ pub fn section_faults()
     ensures unsupported_packing { (s : Section) → ((section_at s ≡ Err UnsupportedPacking) ↔ ((HasItemFault UnsupportedPacking s) × NoneBefore UnsupportedPacking s)) }
     ensures bad_ssn { (s : Section) → ((section_at s ≡ Err BadSsn) ↔ ((HasItemFault BadSsn s) × NoneBefore BadSsn s)) }
     ensures bad_format { (s : Section) → ((section_at s ≡ Err BadFormat) ↔ ((HasItemFault BadFormat s) × NoneBefore BadFormat s)) }
-{
-}
+{}
 
 /// The canonical line of each `Sdp` reads back.
 pub fn reads_back()
     ensures { (sdp : Sdp) → ReadsBack (canonical (description sdp).leg) (description sdp).leg }
-{
-}
+{}

@@ -51,8 +51,7 @@ pub(crate) fn format_of<'a, A: Allocator + Copy>(
 ) -> Result<Format, SdpFault>
     ensures { seen fields_of result ≡ format_of (pairs map.now.entries) }
 {
-    let sampling =
-        sampling_named(text_of(map, b"sampling")).ok_or(SdpFault::UnsupportedSampling)?;
+    let sampling = sampling_named(text_of(map, b"sampling")).ok_or(SdpFault::UnsupportedSampling)?;
     let depth = depth_named(text_of(map, b"depth")).ok_or(SdpFault::UnsupportedDepth)?;
     if is_interlaced(map) {
         return Err(SdpFault::Interlaced);

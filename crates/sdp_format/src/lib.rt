@@ -17,6 +17,3 @@ pub use canonical::fmtp_text;
 pub use fault::SdpFault;
 pub use read::read_sdp;
 pub use sdp::{Range, Sdp};
-
-#[cfg(test)]
-mod tests;

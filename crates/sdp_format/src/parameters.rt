@@ -12,8 +12,7 @@ use indexmap::IndexMap;
 use std::alloc::Allocator;
 use std::hash::{BuildHasherDefault, FoldHasher};
 
-pub(crate) type Parameters<'a, A> =
-    IndexMap<&'a [u8], &'a [u8], BuildHasherDefault<FoldHasher>, A>;
+pub(crate) type Parameters<'a, A> = IndexMap<&'a [u8], &'a [u8], BuildHasherDefault<FoldHasher>, A>;
 
 /// The items by their names, unless two have one name.
 pub(crate) fn parameters_of<'a, A: Allocator + Copy>(
@@ -33,7 +32,6 @@ pub(crate) fn parameters_of<'a, A: Allocator + Copy>(
     }
     Ok(map)
 }
-
 
 pub(crate) fn value_of<'a, A: Allocator + Copy>(
     map: &Parameters<'a, A>,

@@ -14,7 +14,7 @@ ghost use Rattle.sdp_format.specs.ReadLeg.{leg_seen, listed_seen, section_of};
 use crate::fault::SdpFault;
 use crate::items::{colorimetry, has_bad, range_named};
 use crate::leg::format_of;
-use crate::lines::{first_attribute, is_word, is_raw90000, media_of, next_video};
+use crate::lines::{first_attribute, is_raw90000, is_word, media_of, next_video};
 use crate::parameters::{Parameters, is_missing, parameters_of, text_of, value_of};
 use crate::sdp::{Leg, Listed, Range, Sdp};
 use arrayvec::ArrayVec;
@@ -176,11 +176,7 @@ fn described(ports: ArrayVec<u16, 2>, leg: Leg) -> Sdp
 }
 
 #[tactic(auto, unfolding(crate::specs::Reading::description_of))]
-fn one<A: Allocator + Copy>(
-    alloc: A,
-    media: &[u8],
-    left: Option<&[u8]>,
-) -> Result<Sdp, SdpFault>
+fn one<A: Allocator + Copy>(alloc: A, media: &[u8], left: Option<&[u8]>) -> Result<Sdp, SdpFault>
     ensures exact { Gives description result (description_of (section_of media.now (option_copied left.entry) ∷ [])) }
     ensures memory { IsErrOf result NoMemory → IsOk (listed_at (section_of media.now (option_copied left.entry))) }
 {

@@ -18,3 +18,7 @@ mod packing;
 mod receivers;
 #[cfg(test)]
 mod running;
+#[cfg(test)]
+mod sdp;
+#[cfg(test)]
+mod sdp_runs;

@@ -1,14 +1,22 @@
-use crate::{Range, Sdp, SdpFault, fmtp_text, read_sdp};
+//! The example camera-sdp, each change of it, and two faults at once.
+use sdp_format::{Range, Sdp, SdpFault, fmtp_text, read_sdp};
 use st_format::{Depth, Sampling};
-use std::alloc::Global;
+use std::alloc::{Allocator, Global};
 use std::test::Fail;
 
-const HEAD: &str = "v=0\no=- 1 1 IN IP4 192.0.2.1\ns=Camera 1\nt=0 0\na=group:DUP primary secondary\n";
-const FIRST: &str = "m=video 5004 RTP/AVP 112\nc=IN IP4 239.0.0.1/32\na=rtpmap:112 raw/90000\na=fmtp:112 sampling=YCbCr-4:2:2; width=1920; height=1080; exactframerate=60000/1001; depth=10; TCS=SDR; colorimetry=BT709; PM=2110GPM; SSN=ST2110-20:2017; TP=2110TPN; \na=mid:primary\n";
-const SECOND: &str = "m=video 5006 RTP/AVP 112\nc=IN IP4 239.0.0.2/32\na=rtpmap:112 raw/90000\na=fmtp:112 sampling=YCbCr-4:2:2; width=1920; height=1080; exactframerate=60000/1001; depth=10; TCS=SDR; colorimetry=BT709; PM=2110GPM; SSN=ST2110-20:2017; TP=2110TPN; \na=mid:secondary\n";
-const LINE: &str = "a=fmtp:112 sampling=YCbCr-4:2:2; width=1920; height=1080; exactframerate=60000/1001; depth=10; colorimetry=BT709; PM=2110GPM; SSN=ST2110-20:2017";
+const HEAD: &str =
+    "v=0\no=- 1 1 IN IP4 192.0.2.1\ns=Camera 1\nt=0 0\na=group:DUP primary secondary\n";
 
-fn camera(alloc: Global) -> Result<String, Fail> {
+const FIRST: &str =
+    "m=video 5004 RTP/AVP 112\nc=IN IP4 239.0.0.1/32\na=rtpmap:112 raw/90000\na=fmtp:112 sampling=YCbCr-4:2:2; width=1920; height=1080; exactframerate=60000/1001; depth=10; TCS=SDR; colorimetry=BT709; PM=2110GPM; SSN=ST2110-20:2017; TP=2110TPN; \na=mid:primary\n";
+
+const SECOND: &str =
+    "m=video 5006 RTP/AVP 112\nc=IN IP4 239.0.0.2/32\na=rtpmap:112 raw/90000\na=fmtp:112 sampling=YCbCr-4:2:2; width=1920; height=1080; exactframerate=60000/1001; depth=10; TCS=SDR; colorimetry=BT709; PM=2110GPM; SSN=ST2110-20:2017; TP=2110TPN; \na=mid:secondary\n";
+
+pub const LINE: &str =
+    "a=fmtp:112 sampling=YCbCr-4:2:2; width=1920; height=1080; exactframerate=60000/1001; depth=10; colorimetry=BT709; PM=2110GPM; SSN=ST2110-20:2017";
+
+pub fn camera(alloc: Global) -> Result<String, Fail> {
     Ok(format!(in alloc; "{HEAD}{FIRST}{SECOND}")?)
 }
 
@@ -21,7 +29,7 @@ fn fault_of(alloc: Global, text: &str) -> Option<SdpFault> {
 }
 
 /// The canonical line of a text.
-fn line_of(alloc: Global, text: &[u8]) -> Result<Vec<u8>, SdpFault> {
+pub fn line_of<A: Allocator + Copy>(alloc: A, text: &[u8]) -> Result<Vec<u8, A>, SdpFault> {
     let sdp = read_sdp(alloc, text)?;
     fmtp_text(alloc, &sdp)
 }
@@ -91,10 +99,18 @@ fn changes_of_the_camera(rt: HostRuntime) -> Result<(), Fail> {
         ("60000/1001", "60000/1001/1", SdpFault::BadParameter),
         ("BT709", "BT 709", SdpFault::BadParameter),
         ("TCS=SDR", "RANGE=full", SdpFault::BadParameter),
-        ("width=1920", "width=1920; width=1920", SdpFault::DoubleParameter),
+        (
+            "width=1920",
+            "width=1920; width=1920",
+            SdpFault::DoubleParameter,
+        ),
         ("TCS=SDR", "TP=SDR", SdpFault::DoubleParameter),
         ("PM=2110GPM; ", "", SdpFault::MissingParameter),
-        ("sampling=YCbCr-4:2:2", "sampling=KEY", SdpFault::UnsupportedSampling),
+        (
+            "sampling=YCbCr-4:2:2",
+            "sampling=KEY",
+            SdpFault::UnsupportedSampling,
+        ),
         ("depth=10", "depth=010", SdpFault::UnsupportedDepth),
         ("TCS=SDR", "interlace", SdpFault::Interlaced),
         ("TCS=SDR", "segmented=0", SdpFault::Interlaced),
@@ -104,7 +120,11 @@ fn changes_of_the_camera(rt: HostRuntime) -> Result<(), Fail> {
         ("60000/1001", "0", SdpFault::BadFormat),
     ] {
         let changed = text.as_str().replace(alloc, old, new)?;
-        assert_eq!(rt; fault_of(alloc, changed.as_str()), Some(want), "{old} to {new}");
+        assert_eq!(rt;
+            fault_of(alloc, changed.as_str()),
+            Some(want),
+            "{old} to {new}"
+        );
     }
     Ok(())
 }
@@ -113,7 +133,10 @@ fn changes_of_the_camera(rt: HostRuntime) -> Result<(), Fail> {
 fn changes_of_one_section(rt: HostRuntime) -> Result<(), Fail> {
     let alloc = rt.alloc();
     let third = format!(in alloc; "{HEAD}{FIRST}{SECOND}{SECOND}")?;
-    assert_eq!(rt; fault_of(alloc, third.as_str()), Some(SdpFault::TooManyLegs));
+    assert_eq!(rt;
+        fault_of(alloc, third.as_str()),
+        Some(SdpFault::TooManyLegs)
+    );
     for (old, new) in [
         ("width=1920", "width=1280"),
         ("depth=10", "depth=12"),
@@ -123,7 +146,11 @@ fn changes_of_one_section(rt: HostRuntime) -> Result<(), Fail> {
     ] {
         let second = SECOND.replace(alloc, old, new)?;
         let text = format!(in alloc; "{HEAD}{FIRST}{second}")?;
-        assert_eq!(rt; fault_of(alloc, text.as_str()), Some(SdpFault::LegsDiffer), "{old} to {new}");
+        assert_eq!(rt;
+            fault_of(alloc, text.as_str()),
+            Some(SdpFault::LegsDiffer),
+            "{old} to {new}"
+        );
     }
     let same = SECOND.replace(alloc, "60000/1001", "120000/2002")?;
     let text = format!(in alloc; "{HEAD}{FIRST}{same}")?;
@@ -149,7 +176,9 @@ fn the_same_in_other_letters(rt: HostRuntime) -> Result<(), Fail> {
         let changed = text.as_str().replace(alloc, old, new)?;
         assert!(rt; has_camera_line(alloc, changed.as_str()), "{old} to {new}");
     }
-    let full = text.as_str().replace(alloc, "TP=2110TPN; ", "TP=2110TPN; RANGE=FULL")?;
+    let full = text
+        .as_str()
+        .replace(alloc, "TP=2110TPN; ", "TP=2110TPN; RANGE=FULL")?;
     let wanted = format!(in alloc; "{LINE}; RANGE=FULL")?;
     assert!(rt; has_line(alloc, full.as_bytes(), wanted.as_bytes()));
     Ok(())
@@ -161,22 +190,98 @@ fn neighbouring_faults(rt: HostRuntime) -> Result<(), Fail> {
     let alloc = rt.alloc();
     let text = camera(alloc)?;
     for (old, new, other, another, want) in [
-        ("5004 RTP", "65536 RTP", "a=rtpmap:112", "a=rtpmap:113", SdpFault::BadMediaLine),
-        ("a=rtpmap:112", "a=rtpmap:113", "raw/90000", "raw/48000", SdpFault::NoRtpmap),
-        ("raw/90000", "raw/48000", "a=fmtp:112", "a=fmtp:113", SdpFault::NotRaw90000),
-        ("a=fmtp:112", "a=fmtp:113", "width=1920", "width=", SdpFault::NoFmtp),
-        ("width=1920", "width=", "TCS=SDR", "TP=SDR", SdpFault::BadParameter),
-        ("TCS=SDR", "TP=SDR", "PM=2110GPM; ", "", SdpFault::DoubleParameter),
-        ("PM=2110GPM; ", "", "sampling=YCbCr-4:2:2", "sampling=KEY", SdpFault::MissingParameter),
-        ("sampling=YCbCr-4:2:2", "sampling=KEY", "depth=10", "depth=9", SdpFault::UnsupportedSampling),
-        ("depth=10", "depth=9", "TCS=SDR", "interlace", SdpFault::UnsupportedDepth),
-        ("TCS=SDR", "interlace", "PM=2110GPM", "PM=2110BPM", SdpFault::Interlaced),
-        ("PM=2110GPM", "PM=2110BPM", "SSN=ST2110-20:2017", "SSN=1", SdpFault::UnsupportedPacking),
-        ("SSN=ST2110-20:2017", "SSN=1", "width=1920", "width=1921", SdpFault::BadSsn),
+        (
+            "5004 RTP",
+            "65536 RTP",
+            "a=rtpmap:112",
+            "a=rtpmap:113",
+            SdpFault::BadMediaLine,
+        ),
+        (
+            "a=rtpmap:112",
+            "a=rtpmap:113",
+            "raw/90000",
+            "raw/48000",
+            SdpFault::NoRtpmap,
+        ),
+        (
+            "raw/90000",
+            "raw/48000",
+            "a=fmtp:112",
+            "a=fmtp:113",
+            SdpFault::NotRaw90000,
+        ),
+        (
+            "a=fmtp:112",
+            "a=fmtp:113",
+            "width=1920",
+            "width=",
+            SdpFault::NoFmtp,
+        ),
+        (
+            "width=1920",
+            "width=",
+            "TCS=SDR",
+            "TP=SDR",
+            SdpFault::BadParameter,
+        ),
+        (
+            "TCS=SDR",
+            "TP=SDR",
+            "PM=2110GPM; ",
+            "",
+            SdpFault::DoubleParameter,
+        ),
+        (
+            "PM=2110GPM; ",
+            "",
+            "sampling=YCbCr-4:2:2",
+            "sampling=KEY",
+            SdpFault::MissingParameter,
+        ),
+        (
+            "sampling=YCbCr-4:2:2",
+            "sampling=KEY",
+            "depth=10",
+            "depth=9",
+            SdpFault::UnsupportedSampling,
+        ),
+        (
+            "depth=10",
+            "depth=9",
+            "TCS=SDR",
+            "interlace",
+            SdpFault::UnsupportedDepth,
+        ),
+        (
+            "TCS=SDR",
+            "interlace",
+            "PM=2110GPM",
+            "PM=2110BPM",
+            SdpFault::Interlaced,
+        ),
+        (
+            "PM=2110GPM",
+            "PM=2110BPM",
+            "SSN=ST2110-20:2017",
+            "SSN=1",
+            SdpFault::UnsupportedPacking,
+        ),
+        (
+            "SSN=ST2110-20:2017",
+            "SSN=1",
+            "width=1920",
+            "width=1921",
+            SdpFault::BadSsn,
+        ),
     ] {
         let once = text.as_str().replace(alloc, old, new)?;
         let twice = once.as_str().replace(alloc, other, another)?;
-        assert_eq!(rt; fault_of(alloc, twice.as_str()), Some(want), "{old} to {new}, {other} to {another}");
+        assert_eq!(rt;
+            fault_of(alloc, twice.as_str()),
+            Some(want),
+            "{old} to {new}, {other} to {another}"
+        );
     }
     let bad_media = FIRST.replace(alloc, "5004", "x")?;
     let legs = format!(in alloc; "{bad_media}{SECOND}{SECOND}")?;
@@ -188,15 +293,22 @@ fn neighbouring_faults(rt: HostRuntime) -> Result<(), Fail> {
     assert_eq!(rt; fault_of(alloc, first.as_str()), Some(SdpFault::BadFormat));
     let other = SECOND.replace(alloc, "width=1920", "width=1280")?;
     let both = format!(in alloc; "{bad_media}{other}")?;
-    assert_eq!(rt; fault_of(alloc, both.as_str()), Some(SdpFault::BadMediaLine));
+    assert_eq!(rt;
+        fault_of(alloc, both.as_str()),
+        Some(SdpFault::BadMediaLine)
+    );
     Ok(())
 }
 
 /// A plain RFC 4175 sender states four of the eight parameters.
 #[test]
 fn plain_rfc_4175(rt: HostRuntime) {
-    let text = "m=video 30000 RTP/AVP 112\na=rtpmap:112 raw/90000\na=fmtp:112 sampling=YCbCr-4:2:2; width=1280; height=720; depth=10\n";
-    assert_eq!(rt; fault_of(rt.alloc(), text), Some(SdpFault::MissingParameter));
+    let text =
+        "m=video 30000 RTP/AVP 112\na=rtpmap:112 raw/90000\na=fmtp:112 sampling=YCbCr-4:2:2; width=1280; height=720; depth=10\n";
+    assert_eq!(rt;
+        fault_of(rt.alloc(), text),
+        Some(SdpFault::MissingParameter)
+    );
 }
 
 /// Cut anywhere, the text is read or has a named fault of its own.
@@ -208,7 +320,10 @@ fn cut_at_every_octet(rt: HostRuntime) -> Result<(), Fail> {
     for n in 0..octets.len() {
         match read_sdp(rt.alloc(), &octets[..n]) {
             Ok(_) => read = read.saturating_add(1),
-            Err(fault) => assert!(rt; fault != SdpFault::NoMemory && fault != SdpFault::TooManyLegs, "cut at {n}"),
+            Err(fault) => assert!(rt;
+                fault != SdpFault::NoMemory && fault != SdpFault::TooManyLegs,
+                "cut at {n}"
+            ),
         }
     }
     assert!(rt; read > 0);
@@ -236,7 +351,10 @@ fn canonical_lines_read_back(rt: HostRuntime) -> Result<(), Fail> {
                 let named = format!(in alloc; "depth={depth}")?;
                 let deep = said.as_str().replace(alloc, "depth=10", named.as_str())?;
                 let text = deep.as_str().replace(alloc, "TCS=SDR", more)?;
-                assert!(rt; reads_back(alloc, text.as_bytes())?, "{sampling} {depth} {more}");
+                assert!(rt;
+                    reads_back(alloc, text.as_bytes())?,
+                    "{sampling} {depth} {more}"
+                );
             }
         }
     }
