@@ -68,7 +68,7 @@ sets_one p q v is at =
       format = refl;
       changed = get_or-set_same p.samples k v 0 below;
       others = λ r there other. get_or-set_other p.samples k (number_of p.format r) v 0
-        (λ e. other (sym (place-number_of p.format r there) ∙ ap (place p.format) e ∙ place-number_of p.format q at));
+          (λ e. other (sym (place-number_of p.format r there) ∙ ap (place p.format) e ∙ place-number_of p.format q at));
     }
 
 pub set-is_picture : (p : Values) (k v : ℕ) → IsPicture p → FitsDepth p.format v → IsPicture (with_sample p k v)
