@@ -2,8 +2,8 @@
 use Rattle.std.proofs.Common.{◌≡◌, ℕ, zero, suc, ◌+◌, ◌*◌, ◌/◌, ◌%◌, ◌^◌, ◌<◌, ◌≤◌, List, [], ◌∷◌, ◌++◌, length, map, take, drop, refl, sym, ap, ◌∙◌, subst, arith}
 use Rattle.std.specs.List.{flat_map, AllByRecursion}
 use Rattle.std.proofs.lemmas.List.{length-append, length-take-le, length-drop, take-append-drop}
-use Rattle.std.proofs.lemmas.Nat.{pow_pos, pow-add, div-mul-add, mul-add-lt}
-use Rattle.std.proofs.Math.Nat.{mod-eq_of_lt, mul-div_right, pow-succ', mul-add-div_right, mul_assoc}
+use Rattle.std.proofs.lemmas.Nat.{div-add-mod', pow_pos, pow-add, div-mul-add, mul-add-lt}
+use Rattle.std.proofs.Math.Nat.{mod-eq_of_lt, mul-div_right, pow-succ', mul-add-div_right, mul_assoc, mul_comm}
 use Rattle.st_format.specs.Samples.{bits, number, pieces, values_in, Spells}
 use Rattle.st_format.proofs.Spelled.{length-bits, values_in-spelled, values_in_octets}
 
@@ -80,7 +80,7 @@ same_pieces n zero (b ∷ bs) long ok = absurd (omega arith)
 same_pieces n (suc count) bs long ok =
     rw (piece n bs (omega arith) ok, same_pieces n count (drop n bs) (omega (arith, length-drop n bs)) (rest n bs ok)) (take-append-drop n bs)
 
-fit_pieces : (n count : ℕ) (bs : List ℕ) → length bs ≡ n * count → Bits bs → AllByRecursion (λ v. v < 2 ^ n) (map number (pieces n count bs))
+fit_pieces : (n count : ℕ) (bs : List ℕ) → n * count ≤ length bs → Bits bs → AllByRecursion (λ v. v < 2 ^ n) (map number (pieces n count bs))
 unfolding pieces
 fit_pieces n zero bs long ok = tt
 fit_pieces n (suc count) bs long ok =
@@ -89,6 +89,14 @@ fit_pieces n (suc count) bs long ok =
       fit_pieces n count (drop n bs) (omega (arith, length-drop n bs)) (rest n bs ok),
     )
 
+-- the values that are read from octets have no more bits
+pub values_in-fit : (n : ℕ) (octets : List ℕ) → AllByRecursion (λ v. v < 2 ^ n) (values_in n octets)
+unfolding values_in
+values_in-fit n octets =
+    let bs : List ℕ = flat_map (bits 8) octets in
+    let count : ℕ = 8 * length octets / n in
+    fit_pieces n count bs (omega (arith, div-add-mod' (8 * length octets) n, length-all_bits 8 octets, mul_comm n count)) (all_bits 8 octets)
+
 -- octets of whole values spell the values that are read from them
 pub Spells-values_in : (n : ℕ) (octets : List ℕ) (count : ℕ) → 0 < n → 8 * length octets ≡ n * count → Spells n octets (values_in n octets)
 unfolding values_in
@@ -96,7 +104,7 @@ Spells-values_in n octets count pos whole =
     let bs : List ℕ = flat_map (bits 8) octets in
     let e : 8 * length octets / n ≡ count = ap (λ (k : ℕ). k / n) whole ∙ mul-div_right count pos in
     let long : length bs ≡ n * count = length-all_bits 8 octets ∙ whole in
-    rw e (record { fit = fit_pieces n count bs long (all_bits 8 octets); same_bits = sym (same_pieces n count bs long (all_bits 8 octets)) })
+    rw e (record { fit = fit_pieces n count bs (omega arith) (all_bits 8 octets); same_bits = sym (same_pieces n count bs long (all_bits 8 octets)) })
 
 -- Octets spell one list of values.
 pub one_list : (n : ℕ) (octets vs ws : List ℕ) → 0 < n → Spells n octets vs → Spells n octets ws → vs ≡ ws

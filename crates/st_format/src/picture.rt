@@ -76,6 +76,16 @@ impl<A: Allocator> Picture<A> {
         Ok(Picture { format, samples })
     }
 
+    /// The picture of these values, which are in raster order: one for each position of the format, and
+    /// each fits the depth. No memory is taken.
+    pub fn from_samples(format: Format, samples: Vec<u16, A>) -> Picture<A>
+        requires { IsPicture (record { format = format; samples = samples.items }) }
+        ensures value { result ≡ record { format = format; samples = samples.items } }
+        ensures whole { IsPicture result }
+    {
+        Picture { format, samples }
+    }
+
     /// Its format.
     pub fn format(&self) -> Format
         ensures value { result ≡ self.now.format }
