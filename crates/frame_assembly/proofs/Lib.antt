@@ -1,3 +1,4 @@
 pub mod WrittenLemmas
 pub mod Put
 pub mod Blocks
+pub mod SettledLemmas

@@ -1,5 +1,6 @@
 -- What writing a segment's samples does to the cells.
-use Rattle.std.proofs.Common.{◌≡◌, ℕ, ◌+◌, ◌*◌, ◌/◌, ◌%◌, ◌<◌, ◌≤◌, List, [], ◌∷◌, ◌++◌, length, get_or, set, take, drop, map, add-one, refl, sym, ap, ◌∙◌, arith}
+use Rattle.std.proofs.Common.{◌≡◌, ℕ, ◌+◌, ◌*◌, ◌/◌, ◌%◌, ◌<◌, ◌≤◌, List, [], ◌∷◌, ◌++◌, length, get_or, set, take, drop, map, All, add-one, refl, sym, ap, ◌∙◌, subst, arith}
+use Rattle.std.specs.List.{AllByRecursion}
 use Rattle.std.proofs.lemmas.List.{nil_from_length, drop_all, take_at}
 use Rattle.std.proofs.Math.Seq.{drop-cons}
 use Rattle.st_format.specs.declared.cell.Cell.{Cell}
@@ -17,6 +18,8 @@ use Rattle.st_format.specs.Offer.{Offer}
 use Rattle.st_format.specs.Raster.{Raster, Segment, first_number, offers_from, offers_in, offers_in_all, cells_of, joined}
 use Rattle.pgroup_pack.proofs.Values.{length-values_in}
 use Rattle.frame_assembly.proofs.Blocks.{no_values}
+use Rattle.st_format.specs.Fit.{CellFits, IsFrame}
+use Rattle.st_format.proofs.Fits.{offered-fit}
 use Rattle.st_format.proofs.Rasters.{cells_of-append, joined-assoc, joined_none, length-joined, length-cells_of}
 use Rattle.payload_header.specs.declared.payload.Segment.{Segment as SegmentView}
 use Rattle.payload_header.specs.declared.payload.PayloadView.{PayloadView}
@@ -156,3 +159,16 @@ put_back ts len f r items cells new v segs is_view same long is_segs joins =
     ∙ ap (λ (cs : List Cell). joined cs (cells_of f (offers_in_all f ts (map seen segs)) ts)) same
     ∙ ap (λ (ss : List SegmentView). joined items (cells_of f (offers_in_all f ts (map seen ss)) ts)) is_segs
     ∙ ap (λ (q : Raster). joined q.cells (cells_of q.format (offers_in_all q.format ts (segments_of v)) ts)) is_view
+
+-- and it is a frame
+pub frame_put_back : (len : ℕ) (f : Format) (items cells new : List Cell) (segs : List SegmentView) → IsFrame (frame_view f items)
+    → cells ≡ items → length items ≡ len → length new ≡ len → new ≡ joined cells (cells_of f (offers_in_all f 0 (map seen segs)) 0)
+    → IsFrame (frame_view f (take len (new ++ drop (length new) items)))
+frame_put_back len f items cells new segs is same long kept joins =
+    let back : take len (new ++ drop (length new) items) ≡ new = take_at new (drop (length new) items) len kept in
+    let joins_here : new ≡ joined items (cells_of f (offers_in_all f 0 (map seen segs)) 0) =
+    joins ∙ ap (λ (cs : List Cell). joined cs (cells_of f (offers_in_all f 0 (map seen segs)) 0)) same in
+    record {
+      whole = ap length back ∙ kept ∙ sym long ∙ is.whole;
+      fit = subst (AllByRecursion (CellFits f)) (sym (back ∙ joins_here)) (offered-fit f 0 (map seen segs) items is.fit);
+    }

@@ -1,14 +1,19 @@
 //! A frame: what is known of each sample of a raster.
-ghost use Rattle.std.specs.Prelude.{◌≡◌, ℕ, IfOk, count_by};
+ghost use Rattle.std.specs.Prelude.{◌≡◌, ◌↔◌, ℕ, IfOk, IsTrue, count_by};
+ghost use Rattle.std.specs.List.{AllByRecursion};
+ghost use Rattle.frame_assembly.specs.Settled.{settled};
 ghost use Rattle.payload_header.specs.View.{segments_of};
 ghost use Rattle.st_format.specs.Cell.{is_contested, is_missing, is_present};
+ghost use Rattle.st_format.specs.Fit.{ValuesFit};
+ghost use Rattle.st_format.specs.Picture.{FitsDepth, IsPicture};
 ghost use Rattle.st_format.specs.Position.{IsPosition};
 ghost use Rattle.st_format.specs.Raster.{IsWhole, blank, cell_at, cells_of, joined, offers_in_all};
 
 use crate::counts::{Counts, count_cells};
 use crate::joining::join_segments;
+use crate::settling::settled_samples;
 use payload_header::PayloadView;
-use st_format::{Cell, Format};
+use st_format::{Cell, Format, Picture};
 use std::alloc::{AllocError, Allocator, Global};
 use std::marker::Model;
 
@@ -23,8 +28,7 @@ pub struct Frame<A: Allocator = Global> {
 }
 
 impl<A: Allocator> Model for Frame<A> {
-    ghost use Rattle.std.specs.Prelude.{◌≡◌, length};
-    ghost use Rattle.st_format.specs.Position.{sample_count};
+    ghost use Rattle.st_format.specs.Fit.{IsFrame};
     ghost use Rattle.st_format.specs.Raster.{Raster};
 
     // The format, and the cells in raster order
@@ -32,7 +36,7 @@ impl<A: Allocator> Model for Frame<A> {
 
     ghost view = { λ a. record { format = a.format; cells = a.cells.items } };
 
-    ghost invariant = { λ a. length a.cells.items ≡ sample_count a.format };
+    ghost invariant = { λ a. IsFrame (record { format = a.format; cells = a.cells.items }) };
 }
 
 impl<A: Allocator> Frame<A> {
@@ -42,6 +46,7 @@ impl<A: Allocator> Frame<A> {
     pub fn new(alloc: A, format: Format) -> Result<Frame<A>, AllocError>
         ensures blank { IfOk result (λ f. f ≡ blank format) }
         ensures whole { IfOk result (λ f. IsWhole f) }
+        ensures fit { IfOk result (λ f. ValuesFit f) }
     {
         let cells = vec![in alloc; Cell::Missing; format.sample_count()]?;
         Ok(Frame { format, cells })
@@ -51,6 +56,7 @@ impl<A: Allocator> Frame<A> {
     pub fn format(&self) -> Format
         ensures format { result ≡ self.now.format }
         ensures whole { IsWhole self.now }
+        ensures fit { ValuesFit self.now }
     {
         self.format
     }
@@ -76,6 +82,7 @@ impl<A: Allocator> Frame<A> {
         // A payload has no timestamp: its offers join alike at whichever it is given.
         ensures cells { (ts : ℕ) → self.new.cells ≡ joined self.old.cells (cells_of self.old.format (offers_in_all self.old.format ts (segments_of view.now)) ts) }
         ensures whole { IsWhole self.new }
+        ensures fit { ValuesFit self.new }
     {
         let segments = view.segments.as_slice();
         join_segments(&self.format, self.cells.as_mut_slice(), segments);
@@ -90,4 +97,61 @@ impl<A: Allocator> Frame<A> {
     {
         count_cells(self.cells.as_slice())
     }
+
+    /// Makes every cell missing. No memory is taken.
+    pub fn clear(&mut self)
+        ensures blank { self.new ≡ blank self.old.format }
+        ensures whole { IsWhole self.new }
+        ensures fit { ValuesFit self.new }
+    {
+        self.cells.fill(Cell::Missing);
+    }
+
+    /// A picture of the frame: the value of each sample that has one; for a missing or a contested sample
+    /// `fill` has the value of its component (Y, Cb, Cr or R, G, B), which fits the depth.
+    ///
+    /// `AllocError` comes only where the allocator refused the memory for the values.
+    pub fn settle<B: Allocator>(&self, alloc: B, fill: [u16; 3]) -> Result<Picture<B>, AllocError>
+        requires { AllByRecursion (FitsDepth self.now.format) fill }
+        ensures settled { IfOk result (λ p. p ≡ settled self.now fill) }
+        ensures picture { IfOk result (λ p. IsPicture p) }
+    {
+        let samples = settled_samples(alloc, self.format.sampling, self.cells.as_slice(), fill)?;
+        Ok(Picture::from_samples(self.format, samples))
+    }
+
+    /// A copy of its own, over another allocator.
+    ///
+    /// `AllocError` comes only where the allocator refused the memory for the cells.
+    pub fn try_copy<B: Allocator>(&self, alloc: B) -> Result<Frame<B>, AllocError>
+        ensures same { IfOk result (λ f. f ≡ self.now) }
+        ensures whole { IsWhole self.now }
+        ensures fit { ValuesFit self.now }
+    {
+        let cells = Vec::from_slice(alloc, self.cells.as_slice())?;
+        Ok(Frame {
+            format: self.format,
+            cells,
+        })
+    }
+
+    /// Whether two frames have one format and the same cells.
+    pub fn same<B: Allocator>(&self, other: &Frame<B>) -> bool
+        ensures { IsTrue result ↔ (self.now ≡ other.now) }
+    {
+        same_format(&self.format, &other.format)
+            && same_cells(self.cells.as_slice(), other.cells.as_slice())
+    }
+}
+
+fn same_format(left: &Format, right: &Format) -> bool
+    ensures { IsTrue result ↔ (left.now ≡ right.now) }
+{
+    left == right
+}
+
+fn same_cells(left: &[Cell], right: &[Cell]) -> bool
+    ensures { IsTrue result ↔ (left.now ≡ right.now) }
+{
+    left == right
 }

@@ -4,6 +4,7 @@
 mod counts;
 mod frame;
 mod joining;
+mod settling;
 
 pub use counts::Counts;
 pub use frame::Frame;
