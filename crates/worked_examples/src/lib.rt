@@ -15,6 +15,8 @@ mod limits;
 #[cfg(test)]
 mod packing;
 #[cfg(test)]
+mod pictures;
+#[cfg(test)]
 mod receivers;
 #[cfg(test)]
 mod running;
