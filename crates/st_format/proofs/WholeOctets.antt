@@ -27,7 +27,7 @@ pub AllByRecursion-append : (P : ℕ → Type 0) (xs ys : List ℕ) → AllByRec
 AllByRecursion-append P [] ys a b = b
 AllByRecursion-append P (x ∷ xs) ys a b = (a.0, AllByRecursion-append P xs ys a.1 b)
 
-abbrev Bits : List ℕ → Type 0
+abbrev pub Bits : List ℕ → Type 0
 Bits bs = AllByRecursion (λ b. b < 2) bs
 
 bits_of_bits : (n v : ℕ) → Bits (bits n v)
@@ -35,7 +35,7 @@ unfolding bits
 bits_of_bits zero v = tt
 bits_of_bits (suc n) v = (omega arith, bits_of_bits n v)
 
-all_bits : (n : ℕ) (vs : List ℕ) → Bits (flat_map (bits n) vs)
+pub all_bits : (n : ℕ) (vs : List ℕ) → Bits (flat_map (bits n) vs)
 all_bits n [] = tt
 all_bits n (v ∷ vs) = AllByRecursion-append (λ b. b < 2) (bits n v) (flat_map (bits n) vs) (bits_of_bits n v) (all_bits n vs)
 
@@ -73,7 +73,7 @@ piece n bs le ok =
     let e : length (take n bs) ≡ n = length-take-le n bs le in
     subst (λ k. bits k (number (take n bs)) ≡ take n bs) e (bits-number (take n bs) (front n bs ok))
 
-same_pieces : (n count : ℕ) (bs : List ℕ) → length bs ≡ n * count → Bits bs → flat_map (bits n) (map number (pieces n count bs)) ≡ bs
+pub same_pieces : (n count : ℕ) (bs : List ℕ) → length bs ≡ n * count → Bits bs → flat_map (bits n) (map number (pieces n count bs)) ≡ bs
 unfolding pieces
 same_pieces n zero [] long ok = refl
 same_pieces n zero (b ∷ bs) long ok = absurd (omega arith)

@@ -24,3 +24,5 @@ mod running;
 mod sdp;
 #[cfg(test)]
 mod sdp_runs;
+#[cfg(test)]
+mod sending;

@@ -1,0 +1,16 @@
+use Rattle.std.proofs.Common.{◌/◌, [], take, length, map, sym, subst, refl, arith}
+use Rattle.std.specs.List.{AllByRecursion}
+use Rattle.payload_header.specs.Writing.{HeadFits}
+use Rattle.packet_plan.specs.Text.{head_of, header_of}
+use Rattle.packet_plan.proofs.Texts.{heads_fit, front_at}
+use Rattle.packet_plan.proofs.writing.write_front.Goals as goal
+
+pub write_payload_header-front-requires-clause-fields : goal.write_payload_header-front-requires-clause-fields
+write_payload_header-front-requires-clause-fields c =
+    subst (AllByRecursion HeadFits) (sym c.heads_of-heads.ensures) (heads_fit c.args.format.now c.args.runs.now c.requires.runs.heads)
+
+pub returns-clause-text : goal.returns-clause-text
+returns-clause-text c =
+    front_at (header_of c.args.stamp c.args.number c.args.is_last []) c.write_rtp.new.buffer c.write_payload_header-front.new.buf _ _ (c.args.number / 65536) c.write_payload_header-front.result
+    (take (length c.args.runs.now) c.heads_of-heads.result) (map (head_of c.args.format.now) c.args.runs.now)
+    (c.write_rtp.ensures.header []) refl c.write_payload_header-front.ensures.written c.heads_of-heads.ensures c.write_payload_header-front.ensures.value (omega (arith, c.requires.room, c.write_rtp.ensures.length))

@@ -1,0 +1,101 @@
+-- Raster plans: which pixel groups each packet of a picture carries (SMPTE ST 2110-20, 6.3, general
+-- packing mode; RFC 4175, 4.3).
+use Rattle.std.specs.Prelude.{◌≡◌, ℕ, ◌+◌, ◌*◌, ◌/◌, ◌<◌, ◌≤◌, ◌==◌, if◌then◌else◌, List, [], ◌∷◌, length, slice_index_or}
+use Rattle.std.specs.List.{flat_map, range_with_len, AllByRecursion}
+use Rattle.st_format.specs.declared.format.Format.{Format}
+use Rattle.payload_header.specs.Payload.{group_of, most_segments}
+use Rattle.packet_plan.specs.declared.run.PacketRun.{PacketRun}
+
+-- how many octets a pixel group has
+unfoldable pub group_octets : Format → ℕ
+group_octets f = (group_of f).octets
+
+-- how many pixel groups a row has, and a raster
+unfoldable pub row_groups : Format → ℕ
+row_groups f = f.width / (group_of f).pixels
+
+abbrev pub group_count : Format → ℕ
+group_count f = f.height * row_groups f
+
+-- A run is some pixel groups, at least one, of one row (RFC 4175, 4.3).
+pub record IsRun (f : Format) (r : PacketRun) : Type 0 where
+  pub some : 1 ≤ r.groups
+  pub inside : r.first + r.groups ≤ row_groups f
+
+-- Pixel groups are numbered in raster order. The numbers of a run's groups
+abbrev pub numbers : Format → PacketRun → List ℕ
+numbers f r = range_with_len (r.row * row_groups f + r.first) r.groups
+
+-- how many pixel groups runs have
+abbrev pub groups_in : List PacketRun → ℕ
+groups_in [] = 0
+groups_in (r ∷ rs) = r.groups + groups_in rs
+
+-- how long a packet is: the RTP header of 12 octets, the extended number of two, a header of six for
+-- each run, and the pixel groups (RFC 3550, 5.1; RFC 4175, 4)
+abbrev pub packet_octets : Format → List PacketRun → ℕ
+packet_octets f p = 14 + 6 * length p + group_octets f * groups_in p
+
+-- A packet is one to three runs that fit a greatest size (SMPTE ST 2110-20, 6.2).
+pub record IsPacket (f : Format) (size : ℕ) (p : List PacketRun) : Type 0 where
+  pub some : 1 ≤ length p
+  pub few : length p ≤ most_segments
+  pub runs : AllByRecursion (IsRun f) p
+  pub fits : packet_octets f p ≤ size
+
+-- The runs of all packets, joined, are all pixel groups in raster order, each once (SMPTE ST 2110-20,
+-- 6.3, general packing mode).
+pub record IsRasterPlan (f : Format) (size : ℕ) (packets : List (List PacketRun)) : Type 0 where
+  pub each : AllByRecursion (IsPacket f size) packets
+  pub whole : flat_map (flat_map (numbers f)) packets ≡ range_with_len 0 (group_count f)
+
+-- Each run is of a later row than those before it (own).
+abbrev pub RowsDiffer : List PacketRun → Type 0
+RowsDiffer [] = Unit {0}
+RowsDiffer (r ∷ rs) = AllByRecursion (λ s. r.row < s.row) rs × RowsDiffer rs
+
+-- a packet with one pixel group more, the next of the raster: in its last run, or in a new run where a
+-- row begins (own)
+unfoldable pub one_more : Format → List PacketRun → List PacketRun
+one_more f [] = []
+one_more f (r ∷ []) =
+    if r.first + r.groups == row_groups f
+    then r ∷ record { row = r.row + 1; first = 0; groups = 1 } ∷ []
+    else record { row = r.row; first = r.first; groups = r.groups + 1 } ∷ []
+one_more f (r ∷ s ∷ rs) = r ∷ one_more f (s ∷ rs)
+
+-- A packet has room where that passes neither three runs nor the greatest size (own).
+pub record HasRoom (f : Format) (size : ℕ) (p : List PacketRun) : Type 0 where
+  pub few : length (one_more f p) ≤ most_segments
+  pub fits : packet_octets f (one_more f p) ≤ size
+
+-- No packet but the last has room (own).
+abbrev pub NoneHasRoom : Format → ℕ → List (List PacketRun) → Type 0
+NoneHasRoom f size [] = Unit {0}
+NoneHasRoom f size (p ∷ []) = Unit {0}
+NoneHasRoom f size (p ∷ q ∷ ps) = (HasRoom f size p → ⊥) × NoneHasRoom f size (q ∷ ps)
+
+-- The sizes of packets that plans are made for: room for a run of one pixel group, and at most 9000
+-- octets (own).
+pub record IsSize (f : Format) (size : ℕ) : Type 0 where
+  pub least : 20 + group_octets f ≤ size
+  pub most : size ≤ 9000
+
+-- A raster plan with all that is said of the plans that are made: runs of a packet are of different
+-- rows, no packet but the last has room, and no raster plan has fewer packets (own).
+pub record IsFullPlan (f : Format) (size : ℕ) (packets : List (List PacketRun)) : Type 0 where
+  pub limits : IsSize f size
+  pub plan : IsRasterPlan f size packets
+  pub rows : AllByRecursion RowsDiffer packets
+  pub room : NoneHasRoom f size packets
+  pub fewest : (others : List (List PacketRun)) → IsRasterPlan f size others → length packets ≤ length others
+
+-- A plan as callers see it
+pub record RasterPlan : Type 0 where
+  pub format : Format
+  pub max_octets : ℕ
+  pub packets : List (List PacketRun)
+
+-- the runs of a packet, by its place
+abbrev pub packet_at : RasterPlan → ℕ → List PacketRun
+packet_at plan i = slice_index_or plan.packets i []

@@ -1,0 +1,21 @@
+//! Laws over the definitions alone. Each is the contract of a function that does nothing.
+ghost use Rattle.std.specs.Prelude.{◌≡◌, ◌<◌, ◌≤◌, ◌+◌, Bool, ℕ, List};
+ghost use Rattle.std.specs.List.{flat_map, range_with_len};
+ghost use Rattle.st_format.specs.Picture.{IsPicture, Values};
+ghost use Rattle.packet_plan.specs.declared.run.PacketRun.{PacketRun};
+ghost use Rattle.packet_plan.specs.declared.stamp.Stamp.{Stamp};
+ghost use Rattle.packet_plan.specs.Plan.{IsPacket, IsRasterPlan, group_count, numbers};
+ghost use Rattle.packet_plan.specs.Sent.{IsSentPacket, IsSentPicture};
+ghost use Rattle.packet_plan.specs.Text.{IsStamp, datagram_text, datagram_texts};
+
+/// The text of a datagram is a datagram of the picture; the texts of all packets of a raster plan, up
+/// to 9000 octets each, are the datagrams of the picture. So every picture can be sent by every such
+/// plan.
+pub fn text_is_sent()
+    ensures datagram { (p : Values) (stamp : Stamp) (size i first count : ℕ) (is_last : Bool) (runs : List PacketRun)
+        → size ≤ 9000 → IsPacket p.format size runs → flat_map (numbers p.format) runs ≡ range_with_len first count → first + count ≤ group_count p.format
+        → IsPicture p → IsStamp stamp → IsSentPacket p stamp i is_last runs (datagram_text p stamp i is_last runs) }
+    ensures picture { (p : Values) (stamp : Stamp) (size : ℕ) (packets : List (List PacketRun))
+        → size ≤ 9000 → IsRasterPlan p.format size packets → IsPicture p → IsStamp stamp
+        → IsSentPicture p stamp size packets (datagram_texts p stamp 0 packets) }
+{}

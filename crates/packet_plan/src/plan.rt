@@ -1,0 +1,210 @@
+//! A plan: which pgroups each packet of a picture carries.
+ghost use Rattle.std.specs.Prelude.{◌≡◌, ◌<◌, ◌≤◌, ◌+◌, ◌*◌, ◌↔◌, ◌⊎◌, ◌==◌, ℕ, List, length, take, IfOk, Err};
+ghost use Rattle.std.specs.List.{AllByRecursion};
+ghost use Rattle.packet_plan.specs.Plan.{IsFullPlan, IsRasterPlan, NoneHasRoom, RowsDiffer, group_octets, packet_at, packet_octets};
+ghost use Rattle.packet_plan.specs.Sending.{EachHasRoom};
+ghost use Rattle.packet_plan.specs.Sent.{IsSentPacket};
+ghost use Rattle.packet_plan.specs.Text.{AreRuns, IsStamp, datagram_text};
+ghost use Rattle.st_format.specs.Picture.{IsPicture};
+ghost use Rattle.packet_plan.specs.declared.run.PacketRun.{PacketRun as Run};
+
+use crate::greedy::{group_octets_of, runs_from, starts_of};
+use crate::run::PacketRun;
+use crate::stamp::Stamp;
+use crate::writing::write_datagram;
+use arrayvec::ArrayVec;
+use st_format::{Format, Picture};
+use std::alloc::{AllocError, Allocator, Global};
+use std::marker::Model;
+use thiserror::Error;
+
+/// Octets before the pgroups of a packet of one segment: the RTP header of 12, the extended number of
+/// two, and a header of six (RFC 3550, 5.1; RFC 4175, 4).
+const ONE_SEGMENT: u32 = 20;
+
+/// The greatest size of a packet, in octets.
+const MOST_OCTETS: u32 = 9000;
+
+/// Why there is no plan. The size is tested first.
+#[derive(Clone, Copy, Debug, PartialEq, Eq, Error)]
+pub enum PlanFault {
+    /// The memory was refused.
+    #[error("NoMemory")]
+    NoMemory = 1,
+    /// The greatest size is below 20 octets and a pgroup, or above 9000.
+    #[error("BadPacketSize")]
+    BadPacketSize = 2,
+}
+
+impl PlanFault {
+    ghost use Rattle.packet_plan.specs.Faults.{fault_number};
+
+    /// Its number: 1 or 2.
+    pub fn number(self) -> u8
+        ensures { result ≡ fault_number self }
+    {
+        self as u8
+    }
+}
+
+impl From<AllocError> for PlanFault {
+    ghost use Rattle.packet_plan.specs.declared.plan.PlanFault.TheVariants.{NoMemory};
+
+    ghost from_gives = { λ _ e. e ≡ NoMemory };
+
+    fn from(_error: AllocError) -> PlanFault {
+        PlanFault::NoMemory
+    }
+}
+
+/// Which pgroups each packet of a picture carries. It keeps the number of each packet's first pgroup,
+/// four octets a packet.
+///
+/// Contracts see it as its format, its greatest size and a list of packets, each a list of runs.
+#[derive(Drop)]
+pub struct Plan<A: Allocator = Global> {
+    format: Format,
+    max_octets: u32,
+    // the first pgroup of each packet
+    starts: Vec<u32, A>,
+}
+
+impl<A: Allocator> Model for Plan<A> {
+    ghost use Rattle.std.specs.Prelude.{map};
+    ghost use Rattle.packet_plan.specs.Plan.{IsSize, RasterPlan, group_count};
+    ghost use Rattle.packet_plan.specs.Greedy.{IsWalk, packet_from};
+
+    ghost Value = { RasterPlan };
+
+    ghost view = { λ p. record {
+      format = p.format;
+      max_octets = p.max_octets;
+      packets = map (packet_from p.format p.max_octets) p.starts.items;
+    } };
+
+    ghost invariant = { λ p. IsSize p.format p.max_octets × IsWalk p.format p.max_octets 0 p.starts.items (group_count p.format) };
+}
+
+impl<A: Allocator> Plan<A> {
+    /// A plan for pictures of a format, by packets of at most `max_octets` octets.
+    ///
+    /// Packets are filled in raster order, each with as many pgroups as fit into at most three
+    /// segments. A further segment begins the next row, where at least one pgroup fits behind its
+    /// header.
+    ///
+    /// # Errors
+    ///
+    /// `BadPacketSize` where `max_octets` is below 20 and the octets of a pgroup, or above 9000; else
+    /// `NoMemory` where the memory was refused.
+    pub fn new(alloc: A, format: Format, max_octets: u32) -> Result<Plan<A>, PlanFault>
+        ensures size { (result ≡ Err PlanFault.BadPacketSize) ↔ ((max_octets < 20 + group_octets format) ⊎ (9000 < max_octets)) }
+        ensures made { IfOk result (λ p. (p.format ≡ format) × (p.max_octets ≡ max_octets)) }
+        // The packets are a raster plan, and as full as can be.
+        ensures plan { IfOk result (λ p. IsRasterPlan format max_octets p.packets) }
+        ensures rows { IfOk result (λ p. AllByRecursion RowsDiffer p.packets) }
+        ensures room { IfOk result (λ p. NoneHasRoom format max_octets p.packets) }
+        // No raster plan has fewer packets.
+        ensures fewest { IfOk result (λ p. (others : List (List Run)) → IsRasterPlan format max_octets others → length p.packets ≤ length others) }
+    {
+        if max_octets < ONE_SEGMENT + group_octets_of(&format) || max_octets > MOST_OCTETS {
+            return Err(PlanFault::BadPacketSize);
+        }
+        let starts = starts_of(alloc, &format, max_octets)?;
+        Ok(Plan {
+            format,
+            max_octets,
+            starts,
+        })
+    }
+
+    /// How many packets there are.
+    pub fn len(&self) -> usize
+        ensures value { result ≡ length self.now.packets }
+        ensures some { 0 < length self.now.packets }
+        ensures most { length self.now.packets ≤ 8192 * 8192 }
+        // What `new` ensures holds of every plan.
+        ensures full { IsFullPlan self.now.format self.now.max_octets self.now.packets }
+    {
+        self.starts.len()
+    }
+
+    /// The runs of a packet, one for each of its segments.
+    pub fn packet(&self, index: usize) -> ArrayVec<PacketRun, 3>
+        requires { index < length self.now.packets }
+        ensures { result.items ≡ packet_at self.now index }
+    {
+        runs_from(&self.format, self.max_octets, self.starts[index])
+    }
+
+    /// Writes the datagram of a packet over the first octets of `buf`, and answers how long it is.
+    ///
+    /// The packet `index`, from 0, has the number `stamp.first + index` modulo 2^32, and the marker
+    /// where it is the last. It is a plain RTP header (RFC 3550, 5.1) and a payload (RFC 4175, 4) whose
+    /// segments are the packet's runs and spell the picture there.
+    ///
+    /// The picture has the plan's format, the payload type is at most 127, and `buf` has room for the
+    /// datagram, for which [`max_octets`](Plan::max_octets) octets are enough.
+    pub fn datagram<B: Allocator>(
+        &self,
+        index: usize,
+        picture: &Picture<B>,
+        stamp: Stamp,
+        buf: &mut [u8],
+    ) -> usize
+        requires index { index < length self.now.packets }
+        requires format { picture.now.format ≡ self.now.format }
+        requires room { packet_octets self.now.format (packet_at self.now index) ≤ length buf.old }
+        requires payload_type { stamp.payload_type ≤ 127 }
+        ensures length { length buf.new ≡ length buf.old }
+        ensures value { result ≡ packet_octets self.now.format (packet_at self.now index) }
+        ensures sent { IsSentPacket picture.now stamp index (index + 1 == length self.now.packets) (packet_at self.now index) (take result buf.new) }
+    {
+        self.write_packet(index, picture, stamp, buf)
+    }
+
+    /// The same, by the very octets, and what else is known of them.
+    pub(crate) fn write_packet<B: Allocator>(
+        &self,
+        index: usize,
+        picture: &Picture<B>,
+        stamp: Stamp,
+        buf: &mut [u8],
+    ) -> usize
+        requires index { index < length self.now.packets }
+        requires format { picture.now.format ≡ self.now.format }
+        requires room { packet_octets self.now.format (packet_at self.now index) ≤ length buf.old }
+        requires payload_type { stamp.payload_type ≤ 127 }
+        ensures length { length buf.new ≡ length buf.old }
+        ensures value { result ≡ packet_octets self.now.format (packet_at self.now index) }
+        ensures text { take result buf.new ≡ datagram_text picture.now stamp index (index + 1 == length self.now.packets) (packet_at self.now index) }
+        ensures runs { AreRuns self.now.format (packet_at self.now index) }
+        ensures stamp { IsStamp stamp }
+        ensures picture { IsPicture picture.now }
+    {
+        let count = self.len();
+        let runs = self.packet(index);
+        write_datagram(
+            buf,
+            picture,
+            runs.as_slice(),
+            stamp,
+            index as u32,
+            index + 1 == count,
+        )
+    }
+
+    /// Its format.
+    pub fn format(&self) -> Format
+        ensures { result ≡ self.now.format }
+    {
+        self.format
+    }
+
+    /// The greatest size of a packet, in octets: each datagram has room in so many, and in more.
+    pub fn max_octets(&self) -> u32
+        ensures value { result ≡ self.now.max_octets }
+        ensures room { (octets : ℕ) → result ≤ octets → EachHasRoom self.now octets }
+    {
+        self.max_octets
+    }
+}

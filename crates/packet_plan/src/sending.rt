@@ -1,0 +1,55 @@
+//! Sending a picture.
+ghost use Rattle.std.specs.Prelude.{◌≡◌, ◌≤◌, ◌+◌, ◌%◌, ◌^◌, length, IfErr, IfOk, OnOk};
+ghost use Rattle.st_format.specs.Device.{CountsFaults};
+ghost use Rattle.packet_plan.specs.Sending.{EachHasRoom, SendsPart, SendsPicture};
+
+use crate::plan::Plan;
+use crate::stamp::Stamp;
+use st_format::{DatagramSink, Picture};
+use std::alloc::Allocator;
+use thiserror::Error;
+
+/// The sink failed: it took the first `sent` datagrams of the picture, and no more.
+#[derive(Clone, Copy, Debug, PartialEq, Eq, Error)]
+#[error("SendFault")]
+pub struct SendFault {
+    /// How many datagrams the sink took, fewer than the plan has.
+    pub sent: u32,
+}
+
+/// Sends a picture by a plan, and answers the number of the packet that comes next: `stamp.first` and
+/// the number of packets, modulo 2^32.
+///
+/// Each datagram is written over the first octets of `buf`, as [`Plan::datagram`] does, and put into
+/// the sink. The picture has the plan's format, the payload type is at most 127, and `buf` has room for
+/// each datagram, for which [`Plan::max_octets`] octets are enough.
+///
+/// # Errors
+///
+/// `SendFault` where the sink failed, which was its one failure in this call.
+pub fn send_frame<A: Allocator, B: Allocator, S: DatagramSink>(
+    plan: &Plan<A>,
+    picture: &Picture<B>,
+    stamp: Stamp,
+    buf: &mut [u8],
+    sink: &mut S,
+) -> Result<u32, SendFault>
+    requires format { picture.now.format ≡ plan.now.format }
+    requires room { EachHasRoom plan.now (length buf.old) }
+    requires payload_type { stamp.payload_type ≤ 127 }
+    ensures length { length buf.new ≡ length buf.old }
+    ensures sent { OnOk result (SendsPicture picture.now stamp plan.now (S.taken sink.old) (S.taken sink.new)) }
+    ensures next { IfOk result (λ next. next ≡ (stamp.first + length plan.now.packets) % 2 ^ 32) }
+    ensures fault { IfErr result (λ e. SendsPart picture.now stamp plan.now e.sent (S.taken sink.old) (S.taken sink.new)) }
+    // The sink fails once where there is a fault, and not at all where there is none.
+    ensures counted { CountsFaults (S.failures sink.old) (S.failures sink.new) result }
+{
+    let count = plan.len();
+    for index in 0..count {
+        let length = plan.write_packet(index, picture, stamp, buf);
+        let Ok(()) = sink.put(&buf[..length]) else {
+            return Err(SendFault { sent: index as u32 });
+        };
+    }
+    Ok(stamp.first.wrapping_add(count as u32))
+}
