@@ -28,7 +28,7 @@ by_count : (r : Raster) (fill : List ℕ)
 by_count r fill =
     map-map (λ (p : Position). settled_cell (cell_at r p) (get_or fill p.component 0)) (place r.format) (range_with_len 0 (sample_count r.format))
     ∙ map_same (λ (k : ℕ). settled_cell (cell_at r (place r.format k)) (get_or fill (place r.format k).component 0))
-        (λ k. settled_cell (get_or r.cells k Missing) (get_or fill (component_in_row r.format.sampling k) 0)) (range_with_len 0 (sample_count r.format)) (at_number r fill)
+    (λ k. settled_cell (get_or r.cells k Missing) (get_or fill (component_in_row r.format.sampling k) 0)) (range_with_len 0 (sample_count r.format)) (at_number r fill)
 
 pub settled-samples : (r : Raster) (fill : List ℕ) → length r.cells ≡ sample_count r.format → settled_numbers r.format.sampling r.cells fill ≡ (settled r fill).samples
 settled-samples r fill whole =

@@ -240,8 +240,7 @@ fn comes_back(rt: &(impl Abort + AllocGlobal), picture: &Picture, size: u32) -> 
     let plan = Plan::new(rt.alloc(), format, size)?;
     let mut sink = sink(rt.alloc(), 0)?;
     assert!(rt; matches!(sent(&plan, picture, STAMP, &mut sink), Some(Ok(_))));
-    let mut receiver =
-        Receiver::open(rt.alloc(), format, 96, Some(1), &[900]).expect(rt, "opened");
+    let mut receiver = Receiver::open(rt.alloc(), format, 96, Some(1), &[900]).expect(rt, "opened");
     for octets in sink.taken() {
         assert!(rt; receiver.take(Path::B, octets.as_slice()).is_ok());
     }
