@@ -6,7 +6,6 @@ use Rattle.packet_plan.specs.declared.run.PacketRun.{PacketRun}
 use Rattle.packet_plan.specs.Plan.{IsSize, IsFullPlan, IsPacket, IsRasterPlan, NoneHasRoom, RowsDiffer, row_groups, group_count, numbers, packet_octets}
 use Rattle.packet_plan.specs.Greedy.{next, packet_from, IsWalk}
 use Rattle.packet_plan.proofs.Packets.{range-append, from_numbers, from_packet, from_differ, next_room, next_below, no_room, ahead, some_groups}
-use Rattle.std.proofs.lemmas.List.{get_or-map}
 use Rattle.std.proofs.lemmas.Nat.{mul-le}
 use Rattle.std.proofs.Math.Nat.{div-le_self}
 use Rattle.payload_header.specs.Payload.{group_of}

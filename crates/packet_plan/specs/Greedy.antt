@@ -3,7 +3,7 @@
 use Rattle.std.specs.Prelude.{◌≡◌, ℕ, zero, suc, ◌+◌, ◌-◌, ◌*◌, ◌/◌, ◌%◌, ◌<◌, min, max, List, [], ◌∷◌}
 use Rattle.st_format.specs.declared.format.Format.{Format}
 use Rattle.packet_plan.specs.declared.run.PacketRun.{PacketRun}
-use Rattle.packet_plan.specs.Plan.{IsSize, group_octets, row_groups, group_count}
+use Rattle.packet_plan.specs.Plan.{group_octets, row_groups, group_count}
 
 -- how many pixel groups fit behind this many heads
 unfoldable pub room : Format → ℕ → ℕ → ℕ

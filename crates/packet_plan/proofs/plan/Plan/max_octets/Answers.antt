@@ -1,4 +1,4 @@
-use Rattle.std.proofs.Common.{◌≤◌, ℕ, ap, ◌∙◌, subst, sym, arith}
+use Rattle.std.proofs.Common.{◌≤◌, ℕ, subst}
 use Rattle.packet_plan.specs.Plan.{RasterPlan}
 use Rattle.packet_plan.specs.Sending.{EachHasRoom}
 use Rattle.packet_plan.proofs.Walks.{promised, size_room}
