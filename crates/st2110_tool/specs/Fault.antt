@@ -1,8 +1,9 @@
 -- Faults that end a run.
-use Rattle.std.specs.Prelude.{◌≡◌, ℕ, ◌⊎◌, List, ◌++◌, codes, Option, Some, None, IfSome, Result, MatchResult}
+use Rattle.std.specs.Prelude.{◌≡◌, ℕ, ◌⊎◌, List, ◌++◌, codes, Option, Some, None, IfSome, Result, MatchResult, ⊤}
 use Rattle.std.specs.Fmt.{decimal}
 use Rattle.std.specs.Io.KnownBytes.{Appends}
 use Rattle.st_format.specs.Device.{Failed}
+use Rattle.st2110_tool.specs.Script.{GivesAll, GivesScript}
 use Rattle.st2110_tool.specs.declared.fault.Fault.{Fault}
 use Rattle.st2110_tool.specs.declared.fault.Fault.TheVariants as fault
 use Rattle.st2110_tool.specs.declared.status.Status.{Status}
@@ -33,6 +34,19 @@ Accounts result old new = MatchResult result (λ _. new ≡ old) (λ f. Blames f
 
 abbrev pub AccountsBoth : {V : Type 0} → Result V Fault → ℕ → ℕ → ℕ → ℕ → Type 0
 AccountsBoth result old new old' new' = MatchResult result (λ _. (new ≡ old) × (new' ≡ old')) (λ f. BlamesEither f old new old' new')
+
+-- What a run was given that ends by a fault: where it refuses a script, all of it, or more than a script may have
+abbrev pub ReadsAt : Fault → Option (List ℕ) → Option (List ℕ) → Type 0
+ReadsAt (fault.Script line) old new = GivesAll old new
+ReadsAt (fault.Format f) old new = GivesAll old new
+ReadsAt (fault.Open f) old new = GivesAll old new
+ReadsAt (fault.Sdp f) old new = GivesAll old new
+ReadsAt fault.Device old new = ⊤
+ReadsAt fault.Memory old new = ⊤
+
+-- a run that succeeds was given a whole script
+abbrev pub Reads : {V : Type 0} → Result V Fault → Option (List ℕ) → Option (List ℕ) → Type 0
+Reads result old new = MatchResult result (λ _. GivesScript old new) (λ f. ReadsAt f old new)
 
 -- A line was told: the sink took it whole, or it failed, and then the run ends by that
 abbrev pub Tells : Status → List ℕ → Status → ℕ → ℕ → Option (List ℕ) → Option (List ℕ) → Type 0

@@ -4,3 +4,4 @@ pub mod Fault
 pub mod SdpFaults
 pub mod Status
 pub mod Script
+pub mod Answer

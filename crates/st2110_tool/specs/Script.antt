@@ -25,3 +25,11 @@ IsCut given script true = (LIMIT < length given) × IsWholeLines (take LIMIT giv
 -- a source gave such octets, and all that it had but where they pass the limit
 abbrev pub IsReadFrom : Option (List ℕ) → Option (List ℕ) → List ℕ → Bool → Type 0
 IsReadFrom old new script is_cut = (given : List ℕ) × Consumes old new given × IsCut given script is_cut × (length given ≤ LIMIT → IsAtEnd new)
+
+-- a source gave a whole script
+abbrev pub GivesScript : Option (List ℕ) → Option (List ℕ) → Type 0
+GivesScript old new = (script : List ℕ) × IsReadFrom old new script false
+
+-- a source gave all that it had, or more than a script may have
+abbrev pub GivesAll : Option (List ℕ) → Option (List ℕ) → Type 0
+GivesAll old new = (script : List ℕ) × (is_cut : Bool) × IsReadFrom old new script is_cut

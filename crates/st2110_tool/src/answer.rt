@@ -25,6 +25,10 @@ pub(crate) enum Answer {
 }
 
 impl fmt::Display for Answer {
+    ghost use Rattle.st2110_tool.specs.Answer.{answer_text};
+
+    ghost output = { answer_text };
+
     fn fmt<W: fmt::Write>(&self, f: &mut fmt::Formatter<W>) -> fmt::Result {
         match self {
             Answer::Kept(number) => write!(f, "kept {number}"),

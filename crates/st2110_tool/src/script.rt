@@ -1,8 +1,8 @@
 //! A script: the octets that a source gives, and their lines.
-ghost use Rattle.std.specs.Prelude.{◌≡◌, ◌≤◌, ◌<◌, ◌+◌, ◌∷◌, [], length, IfNone, IfSome, IfOk, MatchOption};
+ghost use Rattle.std.specs.Prelude.{◌≡◌, ◌≤◌, ◌<◌, ◌+◌, ◌∷◌, [], length, IfErr, IfNone, IfSome, IfOk, MatchOption};
 ghost use Rattle.std.specs.Io.KnownBytes.{Consumes, IsAtEnd};
 ghost use Rattle.std.specs.Str.Lines.{lines, strip_carriage_return};
-ghost use Rattle.st2110_tool.specs.Fault.{Accounts};
+ghost use Rattle.st2110_tool.specs.Fault.{Accounts, ReadsAt};
 ghost use Rattle.st2110_tool.specs.Script.{IsCut, IsReadFrom, IsWholeLines, numbered_lines};
 
 use crate::fault::Fault;
@@ -29,6 +29,7 @@ where
     S: ByteSource,
     ensures limit { IfOk result (λ s. length s.octets.items ≤ LIMIT) }
     ensures failures { Accounts result (S.failures source.old) (S.failures source.new) }
+    ensures refused { IfErr result (λ fault. ReadsAt fault (S.to_give source.old) (S.to_give source.new)) }
     ensures read { IfOk result (λ s. IsReadFrom (S.to_give source.old) (S.to_give source.new) s.octets.items s.is_cut) }
 {
     Ok(cut_at_limit(read_past_limit(alloc, source)?))
@@ -39,6 +40,7 @@ fn read_past_limit<A, S>(alloc: A, source: &mut S) -> Result<Vec<u8, A>, Fault>
 where
     A: Allocator,
     S: ByteSource,
+    ensures refused { IfErr result (λ fault. ReadsAt fault (S.to_give source.old) (S.to_give source.new)) }
     ensures given { IfOk result (λ octets. Consumes (S.to_give source.old) (S.to_give source.new) octets.items) }
     ensures whole { IfOk result (λ octets. length octets.items ≤ LIMIT → IsAtEnd (S.to_give source.new)) }
     ensures failures { Accounts result (S.failures source.old) (S.failures source.new) }
@@ -103,8 +105,11 @@ pub(crate) struct Lines<'a> {
 }
 
 impl<'a> Lines<'a> {
+    /// All lines of a text.
     pub fn new(text: &'a [u8]) -> Lines<'a>
         requires { length text.now ≤ 16777216 }
+        ensures rest { result.rest.now ≡ text.now }
+        ensures passed { result.passed ≡ 0 }
     {
         Lines {
             rest: text,

@@ -2,7 +2,8 @@
 ghost use Rattle.std.specs.Prelude.{◌≡◌, ◌≢◌, ◌⊎◌, IfErr};
 ghost use Rattle.std.specs.Io.KnownBytes.{Appends};
 ghost use Rattle.st_format.specs.Device.{Failed};
-ghost use Rattle.st2110_tool.specs.Fault.{AccountsBoth, memory_line};
+ghost use Rattle.st2110_tool.specs.Fault.{AccountsBoth, Reads, memory_line};
+ghost use Rattle.st2110_tool.specs.Script.{GivesAll, GivesScript};
 
 use crate::fault::Fault;
 use crate::script::read_script;
@@ -25,6 +26,8 @@ where
     ensures range { (result ≡ 0) ⊎ (result ≡ 1) ⊎ (result ≡ 3) ⊎ (result ≡ 4) }
     ensures device { result ≡ 3 → Failed (S.failures source.old) (S.failures source.new) ⊎ Failed (O.failures output.old) (O.failures output.new) ⊎ Failed (F.failures faults.old) (F.failures faults.new) }
     ensures working { result ≢ 3 → (S.failures source.new ≡ S.failures source.old) × (O.failures output.new ≡ O.failures output.old) × (F.failures faults.new ≡ F.failures faults.old) }
+    ensures whole { result ≡ 0 → GivesScript (S.to_give source.old) (S.to_give source.new) }
+    ensures read { result ≡ 1 → GivesAll (S.to_give source.old) (S.to_give source.new) }
     ensures silent { result ≡ 0 → faults.new ≡ faults.old }
     ensures memory { result ≡ 4 → Appends (F.held faults.old) (F.held faults.new) memory_line }
 {
@@ -43,7 +46,8 @@ where
     A: Allocator + Copy,
     S: ByteSource,
     O: ByteSink,
-    ensures { AccountsBoth result (S.failures source.old) (S.failures source.new) (O.failures output.old) (O.failures output.new) }
+    ensures read { Reads result (S.to_give source.old) (S.to_give source.new) }
+    ensures failures { AccountsBoth result (S.failures source.old) (S.failures source.new) (O.failures output.old) (O.failures output.new) }
 {
     let script = read_script(alloc, source)?;
     if script.is_cut {

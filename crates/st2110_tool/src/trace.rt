@@ -1,8 +1,9 @@
 //! The engine of `trace`.
-ghost use Rattle.std.specs.Prelude.{◌≡◌, ◌≢◌, ◌≤◌, ◌<◌, ◌⊎◌, length, IfErr};
+ghost use Rattle.std.specs.Prelude.{◌≡◌, ◌≢◌, ◌≤◌, ◌<◌, ◌⊎◌, false, length, IfErr, OnOk};
 ghost use Rattle.std.specs.Io.KnownBytes.{Appends};
 ghost use Rattle.st_format.specs.Device.{Failed};
-ghost use Rattle.st2110_tool.specs.Fault.{Accounts, AccountsBoth, memory_line};
+ghost use Rattle.st2110_tool.specs.Fault.{Accounts, AccountsBoth, Reads, memory_line};
+ghost use Rattle.st2110_tool.specs.Script.{GivesAll, GivesScript};
 
 use crate::answer::Answer;
 use crate::fault::Fault;
@@ -19,7 +20,12 @@ use std::alloc::Allocator;
 /// The greatest number of octets of a datagram.
 const DATAGRAM: usize = 65_535;
 
-/// Runs the script that the source gives.
+/// Runs the script that the source gives, and answers the exit status.
+///
+/// The script is read whole; then its lines are followed one by one, and what each says is printed to
+/// `output`. At the end a line for the frame of each timestamp of the window is printed. The status is 0;
+/// or 1 where the script, its format or its opening is refused, 3 where a device failed, and 4 where the
+/// allocator refused memory, which `faults` is told by one line.
 pub fn run_trace<A, S, O, F>(alloc: A, source: &mut S, output: &mut O, faults: &mut F) -> u8
 where
     A: Allocator + Copy,
@@ -29,6 +35,8 @@ where
     ensures range { (result ≡ 0) ⊎ (result ≡ 1) ⊎ (result ≡ 3) ⊎ (result ≡ 4) }
     ensures device { result ≡ 3 → Failed (S.failures source.old) (S.failures source.new) ⊎ Failed (O.failures output.old) (O.failures output.new) ⊎ Failed (F.failures faults.old) (F.failures faults.new) }
     ensures working { result ≢ 3 → (S.failures source.new ≡ S.failures source.old) × (O.failures output.new ≡ O.failures output.old) × (F.failures faults.new ≡ F.failures faults.old) }
+    ensures whole { result ≡ 0 → GivesScript (S.to_give source.old) (S.to_give source.new) }
+    ensures read { result ≡ 1 → GivesAll (S.to_give source.old) (S.to_give source.new) }
     ensures silent { result ≡ 0 → faults.new ≡ faults.old }
     ensures memory { result ≡ 4 → Appends (F.held faults.old) (F.held faults.new) memory_line }
 {
@@ -51,7 +59,8 @@ where
     A: Allocator + Copy,
     S: ByteSource,
     O: ByteSink,
-    ensures { AccountsBoth result (S.failures source.old) (S.failures source.new) (O.failures output.old) (O.failures output.new) }
+    ensures failures { AccountsBoth result (S.failures source.old) (S.failures source.new) (O.failures output.old) (O.failures output.new) }
+    ensures read { Reads result (S.to_give source.old) (S.to_give source.new) }
 {
     let script = read_script(alloc, source)?;
     play(alloc, &script, output, text)
@@ -64,7 +73,8 @@ fn play<A: Allocator + Copy, O: ByteSink>(
     text: &mut String<A>,
 ) -> Result<(), Fault>
     requires { length script.now.octets.items ≤ 16777216 }
-    ensures { Accounts result (O.failures output.old) (O.failures output.new) }
+    ensures failures { Accounts result (O.failures output.old) (O.failures output.new) }
+    ensures whole { OnOk result (script.now.is_cut ≡ false) }
 {
     let mut lines = Lines::new(&script.octets);
     let format = read_format(&mut lines)?;

@@ -1,0 +1,18 @@
+-- Lines of output.
+use Rattle.std.specs.Prelude.{ℕ, List, ◌++◌, codes, Option, Some, None}
+use Rattle.std.specs.Fmt.{decimal}
+use Rattle.st2110_tool.specs.declared.answer.Answer.{Answer}
+use Rattle.st2110_tool.specs.declared.answer.Answer.TheVariants.{Kept, Outside, Refused, Missing, Value, Contested, Nowhere, Frame}
+
+-- the text of an answer; that of a refusal holds a name of the crate below
+abbrev pub answer_text : Answer → Option (List ℕ)
+answer_text (Kept number) = Some (codes "kept " ++ decimal number)
+answer_text Outside = Some (codes "outside")
+answer_text (Refused refusal) = None
+answer_text Missing = Some (codes "missing")
+answer_text (Value v) = Some (codes "value " ++ decimal v)
+answer_text Contested = Some (codes "contested")
+answer_text Nowhere = Some (codes "none")
+answer_text (Frame timestamp counts) =
+    Some (codes "frame " ++ (decimal timestamp ++ (codes " present " ++ (decimal counts.present
+    ++ (codes " missing " ++ (decimal counts.missing ++ (codes " contested " ++ decimal counts.contested)))))))
