@@ -1,4 +1,6 @@
 //! Plans, and pictures that are sent and taken again.
+ghost use Rattle.std.specs.Prelude.{◌≡◌, ◌↔◌, IsTrue};
+
 use packet_plan::{Plan, PlanFault, SendFault, Stamp, send_frame};
 use path_merge::Receiver;
 use st_format::memory::{MemoryDatagrams, Refusing};
@@ -55,6 +57,13 @@ fn sink(alloc: Global, fails_in: u64) -> Result<MemoryDatagrams, AllocError> {
     Ok(MemoryDatagrams::new(slots, fails_in))
 }
 
+/// Whether two formats are one.
+fn same_format(left: &Format, right: &Format) -> bool
+    ensures { IsTrue result ↔ (left.now ≡ right.now) }
+{
+    left == right
+}
+
 /// Sends a picture by a plan, where their formats are one and the buffer is large enough.
 fn sent<A: Allocator, B: Allocator>(
     plan: &Plan<A>,
@@ -64,7 +73,9 @@ fn sent<A: Allocator, B: Allocator>(
 ) -> Option<Result<u32, SendFault>> {
     let mut buf = [0; 1400];
     let is_large = plan.max_octets() as usize <= buf.len();
-    if is_large && picture.format() == plan.format() && stamp.payload_type <= 127 {
+    let ours = picture.format();
+    let theirs = plan.format();
+    if is_large && same_format(&ours, &theirs) && stamp.payload_type <= 127 {
         Some(send_frame(plan, picture, stamp, &mut buf, sink))
     } else {
         None
@@ -217,17 +228,16 @@ fn plans(rt: HostRuntime) -> Result<(), Fail> {
 fn runs_through(alloc: Global, format: Format) -> Result<Picture, Fail> {
     let mut picture = Picture::new(alloc, format, [0, 0, 0])?;
     let most = format.max_value();
-    let mut turn = 0u32;
     for row in 0..format.height() {
         for column in 0..format.width() {
             for component in 0..3u8 {
-                let value = match turn % 18 {
+                let turn = row.wrapping_mul(31).wrapping_add(column.wrapping_mul(3));
+                let value = match turn.wrapping_add(u32::from(component)) % 18 {
                     0 => 0,
                     1 => most,
                     bit => (1u16 << (bit - 2)) & most,
                 };
                 set(&mut picture, row, column, component, value);
-                turn = (turn + 1) % 18;
             }
         }
     }
