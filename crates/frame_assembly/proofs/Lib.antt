@@ -2,3 +2,4 @@ pub mod WrittenLemmas
 pub mod Put
 pub mod Blocks
 pub mod SettledLemmas
+pub mod Absorbed

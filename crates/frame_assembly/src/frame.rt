@@ -3,12 +3,13 @@ ghost use Rattle.std.specs.Prelude.{◌≡◌, ◌↔◌, ℕ, IfOk, IsTrue, cou
 ghost use Rattle.std.specs.List.{AllByRecursion};
 ghost use Rattle.frame_assembly.specs.Settled.{settled};
 ghost use Rattle.payload_header.specs.View.{segments_of};
-ghost use Rattle.st_format.specs.Cell.{is_contested, is_missing, is_present};
+ghost use Rattle.st_format.specs.Cell.{is_contested, is_missing, is_present, join};
 ghost use Rattle.st_format.specs.Fit.{ValuesFit};
 ghost use Rattle.st_format.specs.Picture.{FitsDepth, IsPicture};
-ghost use Rattle.st_format.specs.Position.{IsPosition};
-ghost use Rattle.st_format.specs.Raster.{IsWhole, blank, cell_at, cells_of, joined, offers_in_all};
+ghost use Rattle.st_format.specs.Position.{IsPosition, Position};
+ghost use Rattle.st_format.specs.Raster.{IsWhole, blank, cell_at, cells_of, joined, joined_rasters, offers_in_all};
 
+use crate::absorbing::join_cells;
 use crate::counts::{Counts, count_cells};
 use crate::joining::join_segments;
 use crate::settling::settled_samples;
@@ -86,6 +87,20 @@ impl<A: Allocator> Frame<A> {
     {
         let segments = view.segments.as_slice();
         join_segments(&self.format, self.cells.as_mut_slice(), segments);
+    }
+
+    /// Joins another frame of the same format, which may be over another allocator: each cell becomes the
+    /// join of the two. No memory is taken.
+    pub fn absorb<B: Allocator>(&mut self, other: &Frame<B>)
+        requires { other.now.format ≡ self.old.format }
+        ensures format { self.new.format ≡ self.old.format }
+        ensures rasters { self.new ≡ joined_rasters self.old other.now }
+        ensures cells { self.new.cells ≡ joined self.old.cells other.now.cells }
+        ensures each { (p : Position) → IsPosition self.old.format p → cell_at self.new p ≡ join (cell_at self.old p) (cell_at other.now p) }
+        ensures whole { IsWhole self.new }
+        ensures fit { ValuesFit self.new }
+    {
+        join_cells(self.cells.as_mut_slice(), other.cells.as_slice());
     }
 
     /// How many samples are present, missing and contested.

@@ -70,7 +70,7 @@ join-fits f (Value v) (Value w) a b = one_of f v (eqb v w) a
 join-fits f (Value v) Contested a b = tt
 join-fits f Contested d a b = tt
 
-joined-fit : (f : Format) (cs ds : List Cell) → AllByRecursion (CellFits f) cs → AllByRecursion (CellFits f) ds → AllByRecursion (CellFits f) (joined cs ds)
+pub joined-fit : (f : Format) (cs ds : List Cell) → AllByRecursion (CellFits f) cs → AllByRecursion (CellFits f) ds → AllByRecursion (CellFits f) (joined cs ds)
 joined-fit f [] ds a b = tt
 joined-fit f (c ∷ cs) [] a b = tt
 joined-fit f (c ∷ cs) (d ∷ ds) a b = (join-fits f c d a.0 b.0, joined-fit f cs ds a.1 b.1)
