@@ -1,6 +1,6 @@
 -- Kept, outside and refused, by the grammar.
 use Rattle.std.proofs.Common.{◌≡◌, ℕ, inl, inr, ◌↔◌, ◌||◌, Bool, true, false, cond, eqb, List, [], ◌∷◌, Result, Ok, Err, refl, sym, ap, ◌∙◌, subst}
-use Rattle.std.specs.Prelude.{IsErr}
+use Rattle.std.specs.Prelude.{IsErr, IsTrue}
 use Rattle.std.specs.List.{list_any}
 use Rattle.std.proofs.lemmas.Bool.{eqb-true, eqb-false}
 use Rattle.st_format.specs.Member.{IsMember}
@@ -39,6 +39,10 @@ none_at ts w false e none = refl
 
 not_any : (ts : ℕ) (w : List ℕ) → (IsMember ts w → ⊥) → list_any (λ x. eqb x ts) w ≡ false
 not_any ts w none = none_at ts w (list_any (λ x. eqb x ts) w) refl none
+
+-- The whole test
+pub has_iff : (ts : ℕ) (w : List ℕ) (b : Bool) → b ≡ list_any (λ x. eqb x ts) w → IsTrue b ↔ IsMember ts w
+has_iff ts w b is = (λ h. member_from_any ts w (sym is ∙ h), λ m. is ∙ any_from_member ts w m)
 
 -- ---- the window's word
 
@@ -122,3 +126,17 @@ refused_iff o octets r fit is = (
   λ h. λ d f. not_refused d o.window (subst (λ (x : Result Taken Refusal). IsErr x) (is ∙ taken_for o octets d f) h),
   λ none. subst (λ (x : Result Taken Refusal). IsErr x) (sym is) (refused_at o octets (admitted_at o.format o.payload_type o.ssrc octets) fit refl none),
 )
+
+-- ---- what is admitted, and the window
+
+abbrev by_window : List ℕ → Datagram → Result Taken Refusal
+by_window w d = Ok (taken w d)
+
+abbrev answered : Datagram → Bool → Result Taken Refusal
+answered d b = Ok (word b d.number)
+
+pub taken_outside : (o : Opening) (octets : List ℕ) (d : Datagram) → admitted_at o.format o.payload_type o.ssrc octets ≡ Ok d → (IsMember d.timestamp o.window → ⊥) → taken_at o octets ≡ Ok Outside
+taken_outside o octets d read out = ap (λ (x : Result Datagram Refusal). x >>= by_window o.window) read ∙ ap (answered d) (not_any d.timestamp o.window out)
+
+pub taken_inside : (o : Opening) (octets : List ℕ) (d : Datagram) → admitted_at o.format o.payload_type o.ssrc octets ≡ Ok d → IsMember d.timestamp o.window → taken_at o octets ≡ Ok (Kept d.number)
+taken_inside o octets d read in_it = ap (λ (x : Result Datagram Refusal). x >>= by_window o.window) read ∙ ap (answered d) (any_from_member d.timestamp o.window in_it)

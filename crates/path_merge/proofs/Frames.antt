@@ -1,5 +1,5 @@
 -- The frames of lists of datagrams.
-use Rattle.std.proofs.Common.{◌≡◌, ℕ, zero, suc, ◌+◌, List, [], ◌∷◌, ◌++◌, map, replicate, Option, refl, ap, ◌∙◌}
+use Rattle.std.proofs.Common.{◌≡◌, ℕ, zero, suc, ◌+◌, List, [], ◌∷◌, ◌++◌, length, map, replicate, refl, ap, ◌∙◌}
 use Rattle.std.specs.List.{flat_map, filter, range_with_len}
 use Rattle.std.proofs.lemmas.Bool.{ne_eqb}
 use Rattle.std.proofs.lemmas.List.{append-nil}
@@ -48,16 +48,16 @@ cells_kept f xs ts other ss ne =
 abbrev raster_with : Format → List Cell → Raster
 raster_with f cells = record { format = f; cells = cells }
 
-abbrev pub opened : Format → ℕ → Option ℕ → ℕ → Opening
-opened f pt ssrc ts = record { format = f; payload_type = pt; ssrc = ssrc; window = ts ∷ [] }
-
 blank_cells : (f : Format) (ts n k : ℕ) → replicate n Missing ≡ map (cell_of [] ts) (map (place f) (range_with_len k n))
 blank_cells f ts zero k = refl
 blank_cells f ts (suc n) k = ap (λ (cs : List Cell). Missing ∷ cs) (blank_cells f ts n (k + 1))
 
 -- A receiver that has taken nothing holds the frames of nothing.
-pub holds_nothing : (f : Format) (pt : ℕ) (ssrc : Option ℕ) (ts : ℕ) → blank f ∷ [] ≡ frames_of (opened f pt ssrc ts) []
-holds_nothing f pt ssrc ts = ap (λ (cs : List Cell). raster_with f cs ∷ []) (blank_cells f ts (sample_count f) 0)
+pub holds_blank : (f : Format) (w : List ℕ) → replicate (length w) (blank f) ≡ map (raster_of f []) w
+holds_blank f [] = refl
+holds_blank f (ts ∷ w) =
+    ap (λ (cs : List Cell). raster_with f cs ∷ replicate (length w) (blank f)) (blank_cells f ts (sample_count f) 0)
+    ∙ ap (λ (rs : List Raster). raster_of f [] ts ∷ rs) (holds_blank f w)
 
 -- ---- lists of datagrams
 

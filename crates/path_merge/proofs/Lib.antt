@@ -1,3 +1,4 @@
+pub mod Windows
 pub mod Offered
 pub mod RefusedLemmas
 pub mod Answered

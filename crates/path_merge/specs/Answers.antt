@@ -1,14 +1,17 @@
 -- What the calls of a receiver answer.
-use Rattle.std.specs.Prelude.{ℕ, ◌+◌, ◌==◌, if◌then◌else◌, List, Result, Ok}
+use Rattle.std.specs.Prelude.{ℕ, ◌+◌, ◌-◌, ◌==◌, if◌then◌else◌, List, [], ◌∷◌, ◌++◌, length, drop, Result, Ok, Err}
 use Rattle.std.specs.List.{list_any}
+use Rattle.st_format.specs.declared.path.Path.{Path}
 use Rattle.payload_header.specs.Faults.{fault_number as payload_fault_number}
 use Rattle.rtp_header.specs.Faults.{number_of as rtp_fault_number}
 use Rattle.path_merge.specs.declared.answer.Refusal.{Refusal}
 use Rattle.path_merge.specs.declared.answer.Refusal.TheVariants.{Header, WrongPayloadType, WrongSource, Payload}
 use Rattle.path_merge.specs.declared.answer.Taken.{Taken}
 use Rattle.path_merge.specs.declared.answer.Taken.TheVariants.{Kept, Outside}
-use Rattle.path_merge.specs.declared.receiver.OpenFault.{OpenFault}
-use Rattle.path_merge.specs.declared.receiver.OpenFault.TheVariants.{NoMemory, BadWindow}
+use Rattle.path_merge.specs.declared.fault.OpenFault.{OpenFault}
+use Rattle.path_merge.specs.declared.fault.OpenFault.TheVariants.{NoMemory, BadWindow, DoubleTimestamp}
+use Rattle.path_merge.specs.declared.fault.SlideFault.{SlideFault}
+use Rattle.path_merge.specs.declared.fault.SlideFault.TheVariants.{InWindow, OtherFormat}
 use Rattle.path_merge.specs.Opening.{Opening}
 use Rattle.path_merge.specs.Grammar.{Datagram}
 use Rattle.path_merge.specs.Admission.{admitted_at, ◌>>=◌}
@@ -21,6 +24,15 @@ taken window d = if list_any (λ t. t == d.timestamp) window then Kept d.number 
 abbrev pub taken_at : Opening → List ℕ → Result Taken Refusal
 taken_at o octets = admitted_at o.format o.payload_type o.ssrc octets >>= λ d. Ok (taken o.window d)
 
+-- the last 64 of a list
+abbrev pub last_64 : {X : Type 0} → List X → List X
+last_64 xs = drop (length xs - 64) xs
+
+-- the refusals after a datagram by a path: where it was refused there is one more, and the last 64 stay (own)
+abbrev pub refusals_after : Path → Result Taken Refusal → List (Path × Refusal) → List (Path × Refusal)
+refusals_after path (Ok t) refusals = refusals
+refusals_after path (Err e) refusals = last_64 (refusals ++ (path, e) ∷ [])
+
 -- the numbers of the refusals, in their order
 abbrev pub refusal_number : Refusal → ℕ
 refusal_number (Header e) = rtp_fault_number e
@@ -32,3 +44,9 @@ refusal_number (Payload e) = 6 + payload_fault_number e
 abbrev pub open_fault_number : OpenFault → ℕ
 open_fault_number NoMemory = 1
 open_fault_number BadWindow = 2
+open_fault_number DoubleTimestamp = 3
+
+-- the numbers of the faults of a slide, in their order
+abbrev pub slide_fault_number : SlideFault → ℕ
+slide_fault_number InWindow = 1
+slide_fault_number OtherFormat = 2

@@ -1,11 +1,13 @@
 -- What a receiver holds.
-use Rattle.std.specs.Prelude.{◌≡◌, ℕ, ◌<◌, ◌==◌, if◌then◌else◌, List, [], ◌∷◌, length, map, All, Option, Some, None}
+use Rattle.std.specs.Prelude.{◌≡◌, ℕ, ◌<◌, ◌≤◌, ◌==◌, if◌then◌else◌, List, [], ◌∷◌, length, map, All, Option, Some, None, ⊤}
 use Rattle.std.specs.List.{flat_map}
 use Rattle.st_format.specs.declared.cell.Cell.{Cell}
 use Rattle.st_format.specs.declared.cell.Cell.TheVariants.{Missing}
+use Rattle.st_format.specs.declared.path.Path.{Path}
 use Rattle.st_format.specs.Position.{Position}
 use Rattle.st_format.specs.Raster.{Raster, IsWhole, raster_of, cell_at, joined_rasters}
-use Rattle.path_merge.specs.Opening.{Opening}
+use Rattle.path_merge.specs.declared.answer.Refusal.{Refusal}
+use Rattle.path_merge.specs.Opening.{Opening, IsWindow}
 use Rattle.path_merge.specs.Offers.{offers}
 
 -- Frames: of a list of datagrams, at each timestamp of the window and each position, the cell of all
@@ -19,18 +21,22 @@ joined_frames [] qs = []
 joined_frames (r ∷ rs) [] = []
 joined_frames (r ∷ rs) (q ∷ qs) = joined_rasters r q ∷ joined_frames rs qs
 
--- A receiver: what it was opened with, and its frames
+-- A receiver: what it was opened with, its frames, and the last refusals with their paths, oldest first
 pub record State : Type 0 where
   pub opening : Opening
   pub frames : List Raster
+  pub refusals : List (Path × Refusal)
 
--- What a receiver always is: it has one frame for each timestamp of its window, each of its format and
--- with a cell for each position; its payload type has 7 bits (RFC 3550, 5.1).
+-- What a receiver always is: its payload type has 7 bits (RFC 3550, 5.1); it has one frame for each
+-- timestamp of its window, each of its format and with a cell for each position; and it keeps at most 64
+-- refusals (own).
 pub record IsReceiver (s : State) : Type 0 where
   pub payload_type : s.opening.payload_type < 128
+  pub window : IsWindow s.opening.window
   pub one_each : length s.frames ≡ length s.opening.window
   pub of_format : All (λ r. r.format ≡ s.opening.format) s.frames
   pub whole : All IsWhole s.frames
+  pub few_refusals : length s.refusals ≤ 64
 
 -- It holds the Frames of a list of datagrams.
 abbrev pub Holds : State → List (List ℕ) → Type 0
@@ -49,3 +55,10 @@ cell_if (Some r) p = cell_at r p
 -- the cell of a timestamp and a position
 abbrev pub cell_in : State → ℕ → Position → Cell
 cell_in s ts p = cell_if (frame_at s.opening.window s.frames ts) p
+
+-- two lists of frames of the same formats, one by one (own)
+abbrev pub AreAlike : List Raster → List Raster → Type 0
+AreAlike [] [] = ⊤
+AreAlike [] (q ∷ qs) = ⊥
+AreAlike (r ∷ rs) [] = ⊥
+AreAlike (r ∷ rs) (q ∷ qs) = (q.format ≡ r.format) × AreAlike rs qs

@@ -5,3 +5,4 @@ pub mod Admission
 pub mod Offers
 pub mod Frames
 pub mod Answers
+pub mod Sliding

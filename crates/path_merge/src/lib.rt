@@ -4,8 +4,14 @@
 
 mod admitting;
 mod answer;
+mod fault;
+mod joining;
 pub mod laws;
 mod receiver;
+mod unlike;
+mod window;
 
 pub use answer::{Refusal, Taken};
-pub use receiver::{OpenFault, Receiver};
+pub use fault::{OpenFault, SlideFault};
+pub use receiver::Receiver;
+pub use unlike::OpenedUnlike;

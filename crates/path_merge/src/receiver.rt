@@ -1,86 +1,78 @@
 //! A receiver: a frame for each timestamp of a window.
-ghost use Rattle.std.specs.Prelude.{◌≡◌, ◌≢◌, ◌↔◌, ◌≤◌, IfOk, IsErr, IsErrOf, IsSome, List, OnErr, Err, Ok, [], length, ◌++◌, ◌∷◌, ℕ};
+ghost use Rattle.std.specs.Prelude.{◌≡◌, ◌≢◌, ◌↔◌, ◌≤◌, ◌<◌, ◌+◌, ◌*◌, IfOk, IsErr, IsErrOf, IsSome, IsTrue, List, OnErr, OnOk, Err, Ok, Some, [], length, ◌++◌, ◌∷◌, ℕ, slice_get};
 ghost use Rattle.std.specs.Option.{option_copied};
 ghost use Rattle.st_format.specs.Cell.{join};
 ghost use Rattle.st_format.specs.Member.{IsMember};
 ghost use Rattle.st_format.specs.Offer.{cell_of};
 ghost use Rattle.st_format.specs.Position.{IsPosition, Position};
-ghost use Rattle.path_merge.specs.Answers.{taken_at};
+ghost use Rattle.path_merge.specs.Answers.{refusals_after, taken_at};
 ghost use Rattle.path_merge.specs.Frames.{Holds, IsReceiver, cell_in, frame_at, frames_of, joined_frames};
 ghost use Rattle.path_merge.specs.Grammar.{Datagram, IsFor, IsKept, IsOutside};
 ghost use Rattle.path_merge.specs.Offers.{offers};
+ghost use Rattle.path_merge.specs.Opening.{AreDifferent, IsWindowSize};
 ghost use Rattle.path_merge.specs.Refused.{IsRefused};
+ghost use Rattle.path_merge.specs.Sliding.{slid, with_frame};
 ghost use Rattle.path_merge.specs.declared.answer.Refusal.{Refusal};
 
 use crate::admitting::admit;
 use crate::answer::{Refusal, Taken};
+use crate::fault::{OpenFault, SlideFault};
+use crate::joining::{blank_frames, join_frames};
+use crate::unlike::OpenedUnlike;
+use crate::window::{MOST_TIMESTAMPS, check_window, has_timestamp, place_of};
+use arrayvec::ArrayVec;
+use circular_buffer::HeapCircularBuffer;
 use frame_assembly::Frame;
 use st_format::{Format, Path};
 use std::alloc::{Allocator, Global};
 use std::marker::Model;
-use std::slice;
-use thiserror::Error;
+use std::mem;
 
-/// Why a receiver was not opened.
-#[derive(Clone, Copy, Debug, PartialEq, Eq, Error)]
-pub enum OpenFault {
-    /// The allocator refused the memory for the frames. Tested last.
-    #[error("NoMemory")]
-    NoMemory = 1,
-    /// The window is not one timestamp.
-    #[error("BadWindow")]
-    BadWindow = 2,
-}
-
-impl OpenFault {
-    ghost use Rattle.path_merge.specs.Answers.{open_fault_number};
-
-    /// The fault's number, 1 or 2.
-    pub fn number(self) -> u8
-        ensures { result ≡ open_fault_number self }
-    {
-        self as u8
-    }
-}
+/// How many refusals are kept.
+const MOST_REFUSALS: usize = 64;
 
 /// A receiver of datagrams by two paths: a frame for each timestamp of its window.
 ///
 /// It takes the datagrams of one payload type, and of one source where it is pinned. What it holds is
 /// the cells of all offers that it took, whatever their order, their paths and their repeats
-/// (SMPTE ST 2022-7).
+/// (SMPTE ST 2022-7). It keeps the last 64 refusals.
 #[derive(Drop)]
 pub struct Receiver<A: Allocator = Global> {
     format: Format,
     payload_type: u8,
     ssrc: Option<u32>,
-    timestamp: u32,
-    frame: Frame<A>,
+    window: ArrayVec<u32, MOST_TIMESTAMPS>,
+    frames: Vec<Frame<A>, A>,
+    refusals: HeapCircularBuffer<(Path, Refusal), A>,
 }
 
 impl<A: Allocator> Model for Receiver<A> {
-    ghost use Rattle.std.specs.Prelude.{◌∷◌, []};
+    ghost use Rattle.std.specs.Prelude.{◌≡◌};
     ghost use Rattle.path_merge.specs.Frames.{IsReceiver, State};
     ghost use Rattle.path_merge.specs.Opening.{Opening};
 
-    // What it was opened with, and a frame for each timestamp of the window
+    // What it was opened with, a frame for each timestamp of the window, and the last refusals
     ghost Value = { State };
 
     ghost view = { λ a. record {
-      opening = record { format = a.format; payload_type = a.payload_type; ssrc = a.ssrc; window = a.timestamp ∷ [] };
-      frames = a.frame ∷ [];
+      opening = record { format = a.format; payload_type = a.payload_type; ssrc = a.ssrc; window = a.window.items };
+      frames = a.frames.items;
+      refusals = a.refusals.items;
     } };
 
     ghost invariant = { λ a. IsReceiver (record {
-      opening = record { format = a.format; payload_type = a.payload_type; ssrc = a.ssrc; window = a.timestamp ∷ [] };
-      frames = a.frame ∷ [];
-    }) };
+      opening = record { format = a.format; payload_type = a.payload_type; ssrc = a.ssrc; window = a.window.items };
+      frames = a.frames.items;
+      refusals = a.refusals.items;
+    }) × (a.refusals.capacity ≡ 64) };
 }
 
-impl<A: Allocator> Receiver<A> {
+impl<A: Allocator + Copy> Receiver<A> {
     /// A receiver that has taken nothing.
     ///
-    /// `BadWindow` comes where the window is not one timestamp, and then `NoMemory` only where the
-    /// allocator refused the memory for the frame. The payload type has 7 bits (RFC 3550, 5.1).
+    /// `BadWindow` comes where the window has no timestamp or more than 16, `DoubleTimestamp` where one
+    /// stands twice in it, and then `NoMemory` only where the allocator refused the memory for the frames or
+    /// for the refusals. The payload type has 7 bits (RFC 3550, 5.1).
     pub fn open(
         alloc: A,
         format: Format,
@@ -91,29 +83,31 @@ impl<A: Allocator> Receiver<A> {
         requires { payload_type ≤ 127 }
         ensures opening { IfOk result (λ r. r.opening ≡ record { format = format; payload_type = payload_type; ssrc = ssrc; window = window.now }) }
         ensures holds { IfOk result (λ r. Holds r []) }
+        ensures refusals { IfOk result (λ r. r.refusals ≡ []) }
         ensures receiver { IfOk result (λ r. IsReceiver r) }
-        ensures window { IsErrOf result OpenFault.BadWindow ↔ (length window.now ≢ 1) }
+        ensures size { IsErrOf result OpenFault.BadWindow ↔ (IsWindowSize (length window.now) → ⊥) }
+        ensures double { IsErrOf result OpenFault.DoubleTimestamp ↔ (IsWindowSize (length window.now) × (AreDifferent window.now → ⊥)) }
     {
-        let [timestamp] = window else {
-            return Err(OpenFault::BadWindow);
-        };
-        let Ok(frame) = Frame::new(alloc, format) else {
-            return Err(OpenFault::NoMemory);
-        };
+        check_window(window)?;
+        let frames = blank_frames(alloc, format, window.len())?;
+        let refusals = HeapCircularBuffer::with_capacity(alloc, MOST_REFUSALS)?;
         Ok(Receiver {
             format,
             payload_type,
             ssrc,
-            timestamp: *timestamp,
-            frame,
+            window: timestamps(window),
+            frames,
+            refusals,
         })
     }
+}
 
+impl<A: Allocator> Receiver<A> {
     /// Takes a datagram that came by a path: joins what it offers to the frame of its timestamp.
     ///
-    /// The first refusal is answered, in the order of their numbers; a refused datagram changes nothing.
-    /// No memory is taken.
-    pub fn take(&mut self, _path: Path, octets: &[u8]) -> Result<Taken, Refusal>
+    /// The first refusal is answered, in the order of their numbers. A refused datagram changes no frame; it
+    /// is kept as one of the last 64 refusals, with its path. No memory is taken.
+    pub fn take(&mut self, path: Path, octets: &[u8]) -> Result<Taken, Refusal>
         // Which answer, and which refusal is the first.
         ensures answer { result ≡ taken_at self.old.opening octets.now }
 
@@ -121,12 +115,13 @@ impl<A: Allocator> Receiver<A> {
         // holds, and refused exactly where the octets are no datagram for this receiver.
         ensures kept { (number : ℕ) → (result ≡ Ok (Taken.Kept number)) ↔ IsKept self.old.opening octets.now number }
         ensures outside { (result ≡ Ok Taken.Outside) ↔ IsOutside self.old.opening octets.now }
-        ensures refusals { (refusal : Refusal) → (result ≡ Err refusal) ↔ IsRefused self.old.opening octets.now refusal }
+        ensures refusal { (refusal : Refusal) → (result ≡ Err refusal) ↔ IsRefused self.old.opening octets.now refusal }
         ensures others { IsErr result ↔ ((d : Datagram) → IsFor self.old.opening octets.now d → ⊥) }
 
-        // What stays.
+        // What stays, and the refusals.
         ensures opening { self.new.opening ≡ self.old.opening }
-        ensures refused { OnErr result (self.new ≡ self.old) }
+        ensures refused { OnErr result (self.new.frames ≡ self.old.frames) }
+        ensures refusals { self.new.refusals ≡ refusals_after path result self.old.refusals }
         ensures receiver { IsReceiver self.new }
 
         // Each cell afterwards is Join of the old one and Cell of the datagram's offers, in lists and
@@ -138,26 +133,144 @@ impl<A: Allocator> Receiver<A> {
         // Where it holds the Frames of some datagrams, it then holds those of them and this one.
         ensures holds { (datagrams : List (List ℕ)) → Holds self.old datagrams → Holds self.new (datagrams ++ octets.now ∷ []) }
     {
-        self.join(octets)
+        let taken = self.join(octets);
+        self.keep_refusal(path, taken);
+        taken
     }
 
     /// Joins what a datagram offers.
-    #[tactic(auto, using(crate::proofs::Joined::frames_refused, crate::proofs::Joined::frames_outside, crate::proofs::Joined::one_frame))]
+    #[tactic(auto, using(crate::proofs::Joined::frames_refused, crate::proofs::Joined::frames_outside))]
     fn join(&mut self, octets: &[u8]) -> Result<Taken, Refusal>
         ensures answer { result ≡ taken_at self.old.opening octets.now }
         ensures opening { self.new.opening ≡ self.old.opening }
         ensures refused { OnErr result (self.new ≡ self.old) }
+        ensures refusals { self.new.refusals ≡ self.old.refusals }
         ensures old { IsReceiver self.old }
-        ensures receiver { IsReceiver self.new }
         ensures frames { self.new.frames ≡ joined_frames self.old.frames (frames_of self.old.opening (octets.now ∷ [])) }
     {
         let datagram = admit(&self.format, self.payload_type, self.ssrc, octets)?;
-        if datagram.header.timestamp != self.timestamp {
-            return Ok(Taken::Outside);
+        match place_of(self.window.as_slice(), datagram.header.timestamp) {
+            None => Ok(Taken::Outside),
+            Some(place) => {
+                self.frames[place].put(&datagram.payload);
+                let (extended, sequence) = (datagram.payload.extended, datagram.header.sequence);
+                Ok(Taken::Kept(packet_number(extended, sequence)))
+            }
         }
-        self.frame.put(&datagram.payload);
-        let sequence = u32::from(datagram.header.sequence);
-        Ok(Taken::Kept(65536 * u32::from(datagram.payload.extended) + sequence))
+    }
+
+    /// Keeps a refusal with its path; where there are 64 already, the oldest goes.
+    fn keep_refusal(&mut self, path: Path, taken: Result<Taken, Refusal>)
+        ensures opening { self.new.opening ≡ self.old.opening }
+        ensures frames { self.new.frames ≡ self.old.frames }
+        ensures refusals { self.new.refusals ≡ refusals_after path taken self.old.refusals }
+        ensures receiver { IsReceiver self.new }
+    {
+        if let Err(refusal) = taken {
+            self.refusals.push_back((path, refusal));
+        }
+    }
+
+    /// Takes what another receiver holds: each cell is then Join of its own and the other's.
+    ///
+    /// `OpenedUnlike` comes where the two differ in format, payload type, pinned source or window. The
+    /// refusals stay, and the other receiver is as it was. No memory is taken.
+    pub fn merge<B: Allocator>(&mut self, other: &Receiver<B>) -> Result<(), OpenedUnlike>
+        ensures unlike { IsErr result ↔ (self.old.opening ≢ other.now.opening) }
+        ensures refused { OnErr result (self.new ≡ self.old) }
+        ensures opening { self.new.opening ≡ self.old.opening }
+        ensures refusals { self.new.refusals ≡ self.old.refusals }
+        ensures receiver { IsReceiver self.new }
+        ensures frames { OnOk result (self.new.frames ≡ joined_frames self.old.frames other.now.frames) }
+        ensures cells { OnOk result ((ts : ℕ) (p : Position) → IsMember ts self.old.opening.window → IsPosition self.old.opening.format p
+            → cell_in self.new ts p ≡ join (cell_in self.old ts p) (cell_in other.now ts p)) }
+
+        // Where the two hold the Frames of some datagrams, it then holds those of all of them.
+        ensures holds { OnOk result ((xs ys : List (List ℕ)) → Holds self.old xs → Holds other.now ys → Holds self.new (xs ++ ys)) }
+    {
+        if !self.is_opened_like(other) {
+            return Err(OpenedUnlike);
+        }
+        self.join_all(other);
+        Ok(())
+    }
+
+    /// Whether two receivers have one format, payload type, pinned source and window.
+    fn is_opened_like<B: Allocator>(&self, other: &Receiver<B>) -> bool
+        ensures alike { IsTrue result ↔ (self.now.opening ≡ other.now.opening) }
+        ensures receiver { IsReceiver self.now }
+    {
+        same_format(&self.format, &other.format)
+            && self.payload_type == other.payload_type
+            && same_source(self.ssrc, other.ssrc)
+            && same_window(self.window.as_slice(), other.window.as_slice())
+    }
+
+    /// Joins the frames of a receiver that was opened alike.
+    fn join_all<B: Allocator>(&mut self, other: &Receiver<B>)
+        requires { self.old.opening ≡ other.now.opening }
+        ensures opening { self.new.opening ≡ self.old.opening }
+        ensures refusals { self.new.refusals ≡ self.old.refusals }
+        ensures frames { self.new.frames ≡ joined_frames self.old.frames other.now.frames }
+        ensures old { IsReceiver self.old }
+        ensures other { IsReceiver other.now }
+        ensures receiver { IsReceiver self.new }
+    {
+        join_frames(self.frames.as_mut_slice(), other.frames.as_slice());
+    }
+
+    /// Moves the window on: its first timestamp leaves and is answered, its frame is then in `out`, and
+    /// `next` stands last with every cell missing. What `out` held is lost.
+    ///
+    /// `InWindow` comes where the window has `next` already, then `OtherFormat` where `out` has another
+    /// format than the receiver; the two are then as they were. Frames are exchanged: none is copied, and no
+    /// memory is taken.
+    pub fn slide(&mut self, next: u32, out: &mut Frame<A>) -> Result<u32, SlideFault>
+        ensures in_window { IsErrOf result SlideFault.InWindow ↔ IsMember next self.old.opening.window }
+        ensures other_format { IsErrOf result SlideFault.OtherFormat ↔ ((IsMember next self.old.opening.window → ⊥) × (out.old.format ≢ self.old.opening.format)) }
+        ensures refused { OnErr result ((self.new ≡ self.old) × (out.new ≡ out.old)) }
+        ensures first { IfOk result (λ first. slice_get self.old.opening.window 0 ≡ Some first) }
+        ensures out { OnOk result (slice_get self.old.frames 0 ≡ Some out.new) }
+        ensures slid { OnOk result (self.new ≡ slid self.old next) }
+        ensures receiver { IsReceiver self.new }
+    {
+        if has_timestamp(self.window.as_slice(), next) {
+            return Err(SlideFault::InWindow);
+        }
+        if !same_format(&self.format, &out.format()) {
+            return Err(SlideFault::OtherFormat);
+        }
+        Ok(self.move_on(next, out))
+    }
+
+    /// Exchanges the first frame and blanks the new one, which then stands last.
+    fn move_on(&mut self, next: u32, out: &mut Frame<A>) -> u32
+        requires new { IsMember next self.old.opening.window → ⊥ }
+        requires format { out.old.format ≡ self.old.opening.format }
+        ensures first { slice_get self.old.opening.window 0 ≡ Some result }
+        ensures out { slice_get self.old.frames 0 ≡ Some out.new }
+        ensures slid { self.new ≡ slid self.old next }
+        ensures receiver { IsReceiver self.new }
+    {
+        mem::swap(&mut self.frames[0], out);
+        self.frames[0].clear();
+        self.frames.rotate_left(1);
+        let first = self.window.remove(0);
+        self.window.push(next);
+        first
+    }
+
+    /// Exchanges the frame at a place of the window, counted from 0, for another of the receiver's format.
+    pub fn set_frame(&mut self, place: usize, frame: &mut Frame<A>)
+        requires place { place < length self.old.opening.window }
+        requires format { frame.old.format ≡ self.old.opening.format }
+        ensures set { self.new ≡ with_frame self.old place frame.old }
+        ensures frame { slice_get self.old.frames place ≡ Some frame.new }
+        ensures receiver { IsReceiver self.new }
+    {
+        // What its format tells: it has a cell for each position
+        frame.format();
+        mem::swap(&mut self.frames[place], frame);
     }
 
     /// The frame of a timestamp, where the window has it.
@@ -166,11 +279,28 @@ impl<A: Allocator> Receiver<A> {
         ensures within { IsSome result ↔ IsMember timestamp self.now.opening.window }
         ensures receiver { IsReceiver self.now }
     {
-        if timestamp == self.timestamp {
-            Some(&self.frame)
-        } else {
-            None
+        match place_of(self.window.as_slice(), timestamp) {
+            None => None,
+            Some(place) => Some(&self.frames[place]),
         }
+    }
+
+    /// How many refusals are kept: at most 64.
+    pub fn refusal_count(&self) -> usize
+        ensures count { result ≡ length self.now.refusals }
+        ensures most { result ≤ 64 }
+        ensures receiver { IsReceiver self.now }
+    {
+        self.refusals.len()
+    }
+
+    /// The refusal at a place below the count, and its path; the oldest that is kept is at 0.
+    pub fn refusal_at(&self, place: usize) -> (Path, Refusal)
+        requires { place < length self.now.refusals }
+        ensures refusal { slice_get self.now.refusals place ≡ Some result }
+        ensures receiver { IsReceiver self.now }
+    {
+        *self.refusals.get(place).unwrap()
     }
 
     /// The format of the frames.
@@ -202,6 +332,41 @@ impl<A: Allocator> Receiver<A> {
         ensures window { result.now ≡ self.now.opening.window }
         ensures receiver { IsReceiver self.now }
     {
-        slice::from_ref(&self.timestamp)
+        self.window.as_slice()
     }
+}
+
+/// A packet number: the extended number is its high half, the sequence number its low half (RFC 4175, 4.1).
+fn packet_number(extended: u16, sequence: u16) -> u32
+    ensures { result ≡ 65536 * extended + sequence }
+{
+    65536 * u32::from(extended) + u32::from(sequence)
+}
+
+/// The timestamps of a window of 1 to 16.
+fn timestamps(window: &[u32]) -> ArrayVec<u32, MOST_TIMESTAMPS>
+    requires { length window.now ≤ MOST_TIMESTAMPS }
+    ensures { result.items ≡ window.now }
+{
+    let mut timestamps = ArrayVec::new();
+    timestamps.try_extend_from_slice(window).unwrap();
+    timestamps
+}
+
+fn same_format(left: &Format, right: &Format) -> bool
+    ensures { IsTrue result ↔ (left.now ≡ right.now) }
+{
+    left == right
+}
+
+fn same_source(left: Option<u32>, right: Option<u32>) -> bool
+    ensures { IsTrue result ↔ (left ≡ right) }
+{
+    left == right
+}
+
+fn same_window(left: &[u32], right: &[u32]) -> bool
+    ensures { IsTrue result ↔ (left.now ≡ right.now) }
+{
+    left == right
 }

@@ -1,13 +1,46 @@
-use Rattle.std.proofs.Common.{[], ◌∷◌, sym, ◌∙◌, ap, lit<, refl}
+use Rattle.std.proofs.Common.{List, ℕ, Some, ap, sym, ◌∙◌, subst, ◌≡◌, ◌∷◌, [], Ok, Result}
+use Rattle.std.specs.Prelude.{slice_get}
+use Rattle.st_format.specs.Member.{IsMember}
+use Rattle.path_merge.specs.declared.answer.Refusal.{Refusal}
+use Rattle.path_merge.specs.declared.answer.Taken.{Taken}
+use Rattle.path_merge.specs.declared.answer.Taken.TheVariants.{Kept}
 use Rattle.path_merge.specs.Admission.{datagram_of}
+use Rattle.path_merge.specs.Answers.{taken_at}
 use Rattle.path_merge.specs.Frames.{State, frames_of, joined_frames}
-use Rattle.path_merge.proofs.Frames.{opened}
-use Rattle.path_merge.proofs.Joined.{held, frames_kept}
+use Rattle.path_merge.proofs.Answered.{taken_inside, taken_outside}
+use Rattle.path_merge.proofs.Joined.{frames_kept, frames_outside}
+use Rattle.path_merge.proofs.Windows.{member_get, not_member}
 use Rattle.path_merge.proofs.receiver.Receiver.join.Goals as goal
 
-pub returns-clause-frames : goal.returns-clause-frames
-returns-clause-frames g c =
-    let s = c.self.inside in
-    frames_kept (held s.format s.payload_type s.ssrc s.timestamp s.frame) c.args.octets.now (datagram_of c.in_ok-datagram.datagram) s.frame c.put.new.self c.self.invariant
-    c.in_ok-datagram.ensures.exact (ap (opened s.format s.payload_type s.ssrc) (sym c.if-datagram-self.false)) refl (c.self.invariant.of_format 0 s.frame (lit< tt)) c.put.ensures.format c.put.ensures.cells
-    ∙ ap (λ (q : State). joined_frames q.frames (frames_of q.opening (c.args.octets.now ∷ []))) c.self.view_is
+abbrev Joins : List ℕ → State → Type 0
+Joins octets s = s.frames ≡ joined_frames s.frames (frames_of s.opening (octets ∷ []))
+
+pub returns-in-None-clause-answer : goal.returns-in-None-clause-answer
+returns-in-None-clause-answer g c =
+    let d = datagram_of c.in_ok-datagram.datagram in
+    let out = subst (λ (w : List ℕ). IsMember d.timestamp w → ⊥) c.as_slice.ensures.value (not_member d.timestamp c.as_slice.result.now c.in-None.ensures.none) in
+    sym (taken_outside _ c.args.octets.now d c.in_ok-datagram.ensures.exact out) ∙ ap (λ (s : State). taken_at s.opening c.args.octets.now) c.self.view_is
+
+pub returns-in-None-clause-frames : goal.returns-in-None-clause-frames
+returns-in-None-clause-frames g c =
+    let d = datagram_of c.in_ok-datagram.datagram in
+    let out = subst (λ (w : List ℕ). IsMember d.timestamp w → ⊥) c.as_slice.ensures.value (not_member d.timestamp c.as_slice.result.now c.in-None.ensures.none) in
+    subst (Joins c.args.octets.now) c.self.view_is (frames_outside _ c.args.octets.now d c.self.invariant.0 c.in_ok-datagram.ensures.exact out)
+
+pub returns-in-Some-clause-answer : goal.returns-in-Some-clause-answer
+returns-in-Some-clause-answer g c =
+    let d = datagram_of c.in_ok-datagram.datagram in
+    let at = subst (λ (w : List ℕ). slice_get w c.in-Some.place ≡ Some d.timestamp) c.as_slice.ensures.value c.in-Some.ensures.found in
+    ap (λ (n : ℕ). kept n) c.packet_number.ensures
+    ∙ sym (taken_inside _ c.args.octets.now d c.in_ok-datagram.ensures.exact (member_get d.timestamp c.in-Some.place c.self.inside.window.items at))
+    ∙ ap (λ (s : State). taken_at s.opening c.args.octets.now) c.self.view_is
+  where
+    kept : ℕ → Result Taken Refusal
+    kept n = Ok (Kept n)
+
+pub returns-in-Some-clause-frames : goal.returns-in-Some-clause-frames
+returns-in-Some-clause-frames g c =
+    let d = datagram_of c.in_ok-datagram.datagram in
+    let at = subst (λ (w : List ℕ). slice_get w c.in-Some.place ≡ Some d.timestamp) c.as_slice.ensures.value c.in-Some.ensures.found in
+    frames_kept _ c.args.octets.now d c.in-Some.place c.put.new.self c.index_mut.result.now c.self.invariant.0 c.in_ok-datagram.ensures.exact at c.index_mut.ensures.value c.put.ensures.format c.put.ensures.cells
+    ∙ ap (λ (s : State). joined_frames s.frames (frames_of s.opening (c.args.octets.now ∷ []))) c.self.view_is
