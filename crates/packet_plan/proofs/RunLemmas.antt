@@ -75,7 +75,7 @@ groups_joined h s g (suc n) =
     ap (λ (xs : List _). map h (range_with_len (g * s) s) ++ xs) (groups_joined h s (g + 1) n)
     ∙ map-range-append h (g * s) s (n * s) ((g + 1) * s) (suc n * s) (omega arith) (omega arith)
 
-row_by : (s : Sampling) (d : Depth) (w : ℕ) → w % (pixel_group s d).pixels ≡ 0 → w / (pixel_group s d).pixels * (pixel_group s d).samples ≡ w / run_columns s * run_samples s
+pub row_by : (s : Sampling) (d : Depth) (w : ℕ) → w % (pixel_group s d).pixels ≡ 0 → w / (pixel_group s d).pixels * (pixel_group s d).samples ≡ w / run_columns s * run_samples s
 row_by Ycc422 D8 w e = omega arith
 row_by Ycc422 D10 w e = omega arith
 row_by Ycc422 D12 w e = omega arith

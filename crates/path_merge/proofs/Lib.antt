@@ -5,3 +5,4 @@ pub mod Answered
 pub mod Frames
 pub mod Joined
 pub mod Rows
+pub mod SentOffers

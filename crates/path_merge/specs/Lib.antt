@@ -6,3 +6,4 @@ pub mod Offers
 pub mod Frames
 pub mod Answers
 pub mod Sliding
+pub mod Sender

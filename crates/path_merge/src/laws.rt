@@ -1,13 +1,20 @@
 //! Laws over the definitions alone. Each is the contract of a function that does nothing.
-ghost use Rattle.std.specs.Prelude.{◌≡◌, ◌⊎◌, ℕ, List, [], ◌++◌};
+ghost use Rattle.std.specs.Prelude.{◌≡◌, ◌⊎◌, ℕ, Bool, List, [], ◌++◌, map};
+ghost use Rattle.std.specs.List.{flat_map};
 ghost use Rattle.st_format.specs.Raster.{offers_in_all};
 ghost use Rattle.st_format.specs.Member.{SameDatagrams};
+ghost use Rattle.st_format.specs.Picture.{Values};
+ghost use Rattle.st_format.specs.Position.{places};
 ghost use Rattle.rtp_header.specs.Grammar.{AreOctets};
+ghost use Rattle.packet_plan.specs.declared.run.PacketRun.{PacketRun};
+ghost use Rattle.packet_plan.specs.declared.stamp.Stamp.{Stamp};
+ghost use Rattle.packet_plan.specs.Sent.{IsSentPacket, IsSentPicture};
 ghost use Rattle.path_merge.specs.Frames.{frames_of, joined_frames};
 ghost use Rattle.path_merge.specs.Grammar.{Datagram, IsFor};
 ghost use Rattle.path_merge.specs.Offers.{offers};
 ghost use Rattle.path_merge.specs.Opening.{Opening};
 ghost use Rattle.path_merge.specs.Refused.{IsRefused};
+ghost use Rattle.path_merge.specs.Sender.{IsOpenFor, offer_at, run_offers};
 ghost use Rattle.path_merge.specs.declared.answer.Refusal.{Refusal};
 
 /// Receivers opened alike that took the same datagrams, by either path, in any order and with any repeats,
@@ -45,4 +52,16 @@ pub fn datagram_or_refusal()
 /// Octets are refused for one reason at most.
 pub fn refused_once()
     ensures { (o : Opening) (octets : List ℕ) (d e : Refusal) → AreOctets octets → IsRefused o octets d → IsRefused o octets e → d ≡ e }
+{}
+
+/// What a sender's datagrams offer to a receiver that is opened for them: each one, for each of its runs in
+/// turn, the picture's values at the run's positions, at the stamp's timestamp; and all of a picture's, by
+/// any raster plan, its value at each position, in raster order, once (RFC 4175, 4.3; SMPTE ST 2110-20, 6).
+pub fn offered_by_sent()
+    ensures datagram { (o : Opening) (p : Values) (stamp : Stamp) (i : ℕ) (is_last : Bool) (runs : List PacketRun) (octets : List ℕ)
+        → IsOpenFor o p stamp → IsSentPacket p stamp i is_last runs octets
+        → offers o octets ≡ flat_map (run_offers p stamp.timestamp) runs }
+    ensures picture { (o : Opening) (p : Values) (stamp : Stamp) (size : ℕ) (packets : List (List PacketRun)) (datagrams : List (List ℕ))
+        → IsOpenFor o p stamp → IsSentPicture p stamp size packets datagrams
+        → flat_map (offers o) datagrams ≡ map (offer_at p stamp.timestamp) (places p.format) }
 {}
