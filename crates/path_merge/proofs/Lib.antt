@@ -6,3 +6,4 @@ pub mod Frames
 pub mod Joined
 pub mod Rows
 pub mod SentOffers
+pub mod WholeFrames

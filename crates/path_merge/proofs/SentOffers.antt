@@ -92,7 +92,7 @@ offers_in_all-runs p ts (r ∷ rs) (s ∷ ss) c =
 -- ---- a datagram
 
 -- The i-th datagram of a picture offers the picture's values at the positions of its runs.
-pub offers-packet : (o : Opening) (p : Values) (stamp : Stamp) (i : ℕ) (l : Bool) (rs : List PacketRun) (d : List ℕ) → IsOpenFor o p stamp → IsSentPacket p stamp i l rs d
+pub offers-packet : (o : Opening) (p : Values) (stamp : Stamp) (i : ℕ) (l : Bool) (rs : List PacketRun) (d : List ℕ) → IsOpenFor o p.format stamp.payload_type stamp.ssrc → IsSentPacket p stamp i l rs d
     → offers o d ≡ flat_map (run_offers p stamp.timestamp) rs
 offers-packet o p stamp i l rs d opened sent =
     let h : Rtp = sent.header in
@@ -105,7 +105,7 @@ offers-packet o p stamp i l rs d opened sent =
       is_payload = subst (λ (f : Format). IsPayload f sent.extended sent.segments h.payload) opened.format sent.is_payload.is_payload;
       number_is = refl;
     } in
-    offers-for o d g (record { is = is; type_is = sent.payload_type ∙ opened.payload_type; source = subst (λ (x : ℕ). IsSource o.ssrc x) (sym sent.ssrc) opened.source })
+    offers-for o d g (record { is = is; type_is = sent.payload_type ∙ opened.type_is; source = subst (λ (x : ℕ). IsSource o.ssrc x) (sym sent.ssrc) opened.source })
     ∙ ap (λ (f : Format). offers_in_all f h.timestamp sent.segments) (sym opened.format)
     ∙ ap (λ (ts : ℕ). offers_in_all p.format ts sent.segments) sent.timestamp
     ∙ offers_in_all-runs p stamp.timestamp rs sent.segments sent.carries
@@ -122,7 +122,7 @@ joined_through h g n (x ∷ xs) =
 abbrev packet_offers : Values → ℕ → List PacketRun → List Offer
 packet_offers p ts q = map (offer_at p ts) (flat_map (group_places p.format) (flat_map (numbers p.format) q))
 
-offers-packets : (o : Opening) (p : Values) (stamp : Stamp) (i : ℕ) (qs : List (List PacketRun)) (ds : List (List ℕ)) → IsOpenFor o p stamp → AreSent p stamp i qs ds
+offers-packets : (o : Opening) (p : Values) (stamp : Stamp) (i : ℕ) (qs : List (List PacketRun)) (ds : List (List ℕ)) → IsOpenFor o p.format stamp.payload_type stamp.ssrc → AreSent p stamp i qs ds
     → flat_map (offers o) ds ≡ flat_map (packet_offers p stamp.timestamp) qs
 offers-packets o p stamp i [] [] opened sent = refl
 offers-packets o p stamp i [] (d ∷ ds) opened sent = absurd sent
@@ -133,7 +133,7 @@ offers-packets o p stamp i (q ∷ qs) (d ∷ ds) opened sent =
     ∙ ap (λ (os : List Offer). packet_offers p stamp.timestamp q ++ os) (offers-packets o p stamp (i + 1) qs ds opened sent.1)
 
 -- The datagrams of a picture offer its value at each position, in raster order, once.
-pub offers-picture : (o : Opening) (p : Values) (stamp : Stamp) (size : ℕ) (qs : List (List PacketRun)) (ds : List (List ℕ)) → IsOpenFor o p stamp → IsSentPicture p stamp size qs ds
+pub offers-picture : (o : Opening) (p : Values) (stamp : Stamp) (size : ℕ) (qs : List (List PacketRun)) (ds : List (List ℕ)) → IsOpenFor o p.format stamp.payload_type stamp.ssrc → IsSentPicture p stamp size qs ds
     → flat_map (offers o) ds ≡ map (offer_at p stamp.timestamp) (places p.format)
 offers-picture o p stamp size qs ds opened is =
     let f : Format = p.format in

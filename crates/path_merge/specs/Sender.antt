@@ -1,27 +1,29 @@
 -- What a sender's datagrams mean to a receiver.
-use Rattle.std.specs.Prelude.{◌≡◌, ◌≢◌, ℕ, ◌*◌, List, map}
+use Rattle.std.specs.Prelude.{◌≡◌, ◌≢◌, ◌⊎◌, ⊤, ℕ, ◌*◌, List, map, Some, slice_get}
 use Rattle.std.specs.List.{flat_map, range_with_len}
 use Rattle.st_format.specs.declared.cell.Cell.{Cell}
-use Rattle.st_format.specs.declared.cell.Cell.TheVariants.{Value}
+use Rattle.st_format.specs.declared.cell.Cell.TheVariants.{Missing, Value, Contested}
 use Rattle.st_format.specs.declared.format.Format.{Format}
 use Rattle.st_format.specs.Member.{IsMember}
 use Rattle.st_format.specs.Offer.{Offer}
-use Rattle.st_format.specs.Picture.{Values, value_at}
+use Rattle.st_format.specs.Picture.{Values, value_at, timestamp_of}
 use Rattle.st_format.specs.Position.{Position, place}
 use Rattle.st_format.specs.Raster.{Raster}
 use Rattle.packet_plan.specs.declared.run.PacketRun.{PacketRun}
 use Rattle.packet_plan.specs.declared.stamp.Stamp.{Stamp}
 use Rattle.packet_plan.specs.Plan.{numbers}
-use Rattle.packet_plan.specs.Sent.{group_samples}
+use Rattle.packet_plan.specs.Sent.{group_samples, IsSentPicture}
+use Rattle.packet_plan.specs.Sender.{Sender, stamp_of}
 use Rattle.path_merge.specs.Opening.{Opening, IsSource}
 use Rattle.path_merge.specs.Offers.{offers}
+use Rattle.path_merge.specs.Frames.{frames_of, frame_at, cell_if}
 
--- A receiver is opened for the datagrams of a picture: for its format and its stamp's payload type, and for
--- the stamp's source or any (RFC 3550, 5.1).
-pub record IsOpenFor (o : Opening) (p : Values) (stamp : Stamp) : Type 0 where
-  pub format : p.format ≡ o.format
-  pub payload_type : stamp.payload_type ≡ o.payload_type
-  pub source : IsSource o.ssrc stamp.ssrc
+-- A receiver is opened for datagrams of this format, payload type and source: the source is the one that is
+-- pinned, where one is (RFC 3550, 5.1).
+pub record IsOpenFor (o : Opening) (f : Format) (payload_type ssrc : ℕ) : Type 0 where
+  pub format : f ≡ o.format
+  pub type_is : payload_type ≡ o.payload_type
+  pub source : IsSource o.ssrc ssrc
 
 -- the positions of a pixel group, by its number, and of a run of them, in the order in which they are sent
 -- (RFC 4175, 4.3)
@@ -39,10 +41,48 @@ offer_at p timestamp at = record { timestamp = timestamp; position = at; value =
 abbrev pub run_offers : Values → ℕ → PacketRun → List Offer
 run_offers p timestamp r = map (offer_at p timestamp) (run_places p.format r)
 
+-- each datagram of the one list is in the other
+abbrev pub AreAmong : List (List ℕ) → List (List ℕ) → Type 0
+AreAmong xs ys = (octets : List ℕ) → IsMember octets xs → IsMember octets ys
+
 -- A datagram offers nothing at a timestamp.
 abbrev pub OffersNothingAt : Opening → ℕ → List ℕ → Type 0
 OffersNothingAt o timestamp octets = (x : Offer) → IsMember x (offers o octets) → x.timestamp ≢ timestamp
 
+-- Each datagram that a receiver took is one of these, or offers nothing at this timestamp.
+abbrev pub AreAmongAt : Opening → ℕ → List (List ℕ) → List (List ℕ) → Type 0
+AreAmongAt o timestamp xs ys = (octets : List ℕ) → IsMember octets xs → IsMember octets ys ⊎ OffersNothingAt o timestamp octets
+
 -- the raster of a picture, with nothing missing
 abbrev pub picture_raster : Values → Raster
 picture_raster p = record { format = p.format; cells = map (λ v. Value v) p.samples }
+
+-- the cell of Frames at a timestamp and a position
+abbrev pub frame_cell : Opening → List (List ℕ) → ℕ → Position → Cell
+frame_cell o datagrams timestamp at = cell_if (frame_at o.window (frames_of o datagrams) timestamp) at
+
+-- A value is a sender's at a timestamp and a position: a picture of the sender has that timestamp, and has it
+-- there.
+pub record IsSendersValue (s : Sender) (pictures : List Values) (timestamp : ℕ) (at : Position) (v : ℕ) : Type 0 where
+  pub number : ℕ
+  pub picture : Values
+  pub there : slice_get pictures number ≡ Some picture
+  pub time : timestamp_of s.format s.base number ≡ timestamp
+  pub is : value_at picture at ≡ v
+
+-- A cell is a sender's: nothing is known, or the sender's value.
+abbrev pub IsSendersCell : Sender → List Values → ℕ → Position → Cell → Type 0
+IsSendersCell s pictures timestamp at Missing = ⊤
+IsSendersCell s pictures timestamp at (Value v) = IsSendersValue s pictures timestamp at v
+IsSendersCell s pictures timestamp at Contested = ⊥
+
+-- A picture of a sender is sent by a list: some of its datagrams are the picture's by some raster plan, from
+-- some packet number on.
+pub record IsSentAmong (s : Sender) (k : ℕ) (p : Values) (datagrams : List (List ℕ)) : Type 0 where
+  pub first : ℕ
+  pub size : ℕ
+  pub packets : List (List PacketRun)
+  pub mine : List (List ℕ)
+  pub format : p.format ≡ s.format
+  pub picture : IsSentPicture p (stamp_of s k first) size packets mine
+  pub among : AreAmong mine datagrams

@@ -1,20 +1,20 @@
 //! Laws over the definitions alone. Each is the contract of a function that does nothing.
-ghost use Rattle.std.specs.Prelude.{◌≡◌, ◌⊎◌, ℕ, Bool, List, [], ◌++◌, map};
+ghost use Rattle.std.specs.Prelude.{◌≡◌, ◌⊎◌, ℕ, Bool, List, [], ◌++◌, map, length, Some};
 ghost use Rattle.std.specs.List.{flat_map};
 ghost use Rattle.st_format.specs.Raster.{offers_in_all};
-ghost use Rattle.st_format.specs.Member.{SameDatagrams};
+ghost use Rattle.st_format.specs.Member.{IsMember, SameDatagrams};
 ghost use Rattle.st_format.specs.Picture.{Values};
-ghost use Rattle.st_format.specs.Position.{places};
+ghost use Rattle.st_format.specs.Position.{places, sample_count};
 ghost use Rattle.rtp_header.specs.Grammar.{AreOctets};
 ghost use Rattle.packet_plan.specs.declared.run.PacketRun.{PacketRun};
 ghost use Rattle.packet_plan.specs.declared.stamp.Stamp.{Stamp};
 ghost use Rattle.packet_plan.specs.Sent.{IsSentPacket, IsSentPicture};
-ghost use Rattle.path_merge.specs.Frames.{frames_of, joined_frames};
+ghost use Rattle.path_merge.specs.Frames.{frame_at, frames_of, joined_frames};
 ghost use Rattle.path_merge.specs.Grammar.{Datagram, IsFor};
 ghost use Rattle.path_merge.specs.Offers.{offers};
 ghost use Rattle.path_merge.specs.Opening.{Opening};
 ghost use Rattle.path_merge.specs.Refused.{IsRefused};
-ghost use Rattle.path_merge.specs.Sender.{IsOpenFor, offer_at, run_offers};
+ghost use Rattle.path_merge.specs.Sender.{AreAmong, AreAmongAt, IsOpenFor, offer_at, picture_raster, run_offers};
 ghost use Rattle.path_merge.specs.declared.answer.Refusal.{Refusal};
 
 /// Receivers opened alike that took the same datagrams, by either path, in any order and with any repeats,
@@ -59,9 +59,20 @@ pub fn refused_once()
 /// any raster plan, its value at each position, in raster order, once (RFC 4175, 4.3; SMPTE ST 2110-20, 6).
 pub fn offered_by_sent()
     ensures datagram { (o : Opening) (p : Values) (stamp : Stamp) (i : ℕ) (is_last : Bool) (runs : List PacketRun) (octets : List ℕ)
-        → IsOpenFor o p stamp → IsSentPacket p stamp i is_last runs octets
+        → IsOpenFor o p.format stamp.payload_type stamp.ssrc → IsSentPacket p stamp i is_last runs octets
         → offers o octets ≡ flat_map (run_offers p stamp.timestamp) runs }
     ensures picture { (o : Opening) (p : Values) (stamp : Stamp) (size : ℕ) (packets : List (List PacketRun)) (datagrams : List (List ℕ))
-        → IsOpenFor o p stamp → IsSentPicture p stamp size packets datagrams
+        → IsOpenFor o p.format stamp.payload_type stamp.ssrc → IsSentPicture p stamp size packets datagrams
         → flat_map (offers o) datagrams ≡ map (offer_at p stamp.timestamp) (places p.format) }
+{}
+
+/// Where all datagrams of a picture, by any raster plan, are among those that a receiver of them took, by
+/// one path or the other, and every other one offers nothing at the picture's timestamp, the frame is the
+/// picture with nothing missing (SMPTE ST 2022-7).
+pub fn whole_frame()
+    ensures { (o : Opening) (p : Values) (stamp : Stamp) (size : ℕ) (packets : List (List PacketRun)) (datagrams taken : List (List ℕ))
+        → IsOpenFor o p.format stamp.payload_type stamp.ssrc → IsMember stamp.timestamp o.window
+        → length p.samples ≡ sample_count p.format → IsSentPicture p stamp size packets datagrams
+        → AreAmong datagrams taken → AreAmongAt o stamp.timestamp taken datagrams
+        → frame_at o.window (frames_of o taken) stamp.timestamp ≡ Some (picture_raster p) }
 {}
