@@ -7,3 +7,4 @@ pub mod Joined
 pub mod Rows
 pub mod SentOffers
 pub mod WholeFrames
+pub mod SenderCells

@@ -1,20 +1,23 @@
 //! Laws over the definitions alone. Each is the contract of a function that does nothing.
-ghost use Rattle.std.specs.Prelude.{◌≡◌, ◌⊎◌, ℕ, Bool, List, [], ◌++◌, map, length, Some};
+ghost use Rattle.std.specs.Prelude.{◌≡◌, ◌≢◌, ◌⊎◌, ◌<◌, ℕ, Bool, List, [], ◌++◌, map, length, Some, slice_get};
 ghost use Rattle.std.specs.List.{flat_map};
+ghost use Rattle.st_format.specs.declared.cell.Cell.TheVariants.{Contested, Value};
+ghost use Rattle.st_format.specs.declared.format.Format.{Format};
 ghost use Rattle.st_format.specs.Raster.{offers_in_all};
 ghost use Rattle.st_format.specs.Member.{IsMember, SameDatagrams};
-ghost use Rattle.st_format.specs.Picture.{Values};
-ghost use Rattle.st_format.specs.Position.{places, sample_count};
+ghost use Rattle.st_format.specs.Picture.{Values, timestamp_of, value_at};
+ghost use Rattle.st_format.specs.Position.{Position, places, sample_count};
 ghost use Rattle.rtp_header.specs.Grammar.{AreOctets};
 ghost use Rattle.packet_plan.specs.declared.run.PacketRun.{PacketRun};
 ghost use Rattle.packet_plan.specs.declared.stamp.Stamp.{Stamp};
+ghost use Rattle.packet_plan.specs.Sender.{IsSenderList, Sender, stamp_of};
 ghost use Rattle.packet_plan.specs.Sent.{IsSentPacket, IsSentPicture};
 ghost use Rattle.path_merge.specs.Frames.{frame_at, frames_of, joined_frames};
 ghost use Rattle.path_merge.specs.Grammar.{Datagram, IsFor};
 ghost use Rattle.path_merge.specs.Offers.{offers};
 ghost use Rattle.path_merge.specs.Opening.{Opening};
 ghost use Rattle.path_merge.specs.Refused.{IsRefused};
-ghost use Rattle.path_merge.specs.Sender.{AreAmong, AreAmongAt, IsOpenFor, offer_at, picture_raster, run_offers};
+ghost use Rattle.path_merge.specs.Sender.{AreAmong, AreAmongAt, IsOpenFor, IsSendersCell, IsSentAmong, frame_cell, offer_at, picture_raster, run_offers};
 ghost use Rattle.path_merge.specs.declared.answer.Refusal.{Refusal};
 
 /// Receivers opened alike that took the same datagrams, by either path, in any order and with any repeats,
@@ -75,4 +78,49 @@ pub fn whole_frame()
         → length p.samples ≡ sample_count p.format → IsSentPicture p stamp size packets datagrams
         → AreAmong datagrams taken → AreAmongAt o stamp.timestamp taken datagrams
         → frame_at o.window (frames_of o taken) stamp.timestamp ≡ Some (picture_raster p) }
+{}
+
+/// The pictures of a sender's list have different timestamps: 10,000 pictures of a rate of at least one a
+/// second span less than 2^32 ticks of the 90 kHz clock, and each is at least 300 ticks later than the one
+/// before.
+pub fn timestamps_differ()
+    ensures { (f : Format) (base j k : ℕ) → j < 10000 → k < 10000 → timestamp_of f base j ≡ timestamp_of f base k → j ≡ k }
+{}
+
+/// Each picture of a sender's list is sent by it: its datagrams by some raster plan are among the list's.
+pub fn pictures_sent()
+    ensures { (s : Sender) (first : ℕ) (pictures : List Values) (datagrams : List (List ℕ)) (k : ℕ) (p : Values)
+        → IsSenderList s first pictures datagrams → slice_get pictures k ≡ Some p → IsSentAmong s k p datagrams }
+{}
+
+/// Where every datagram that a receiver took is of one sender's list, whose format is the receiver's, each
+/// cell of its frames is missing or the value there of the sender's picture of that timestamp. So none is
+/// contested, and a value at picture k's timestamp is picture k's. This holds for a receiver of any payload
+/// type and source, whatever was lost, repeated or came out of order.
+pub fn sender_cells()
+    ensures cells { (o : Opening) (s : Sender) (first : ℕ) (pictures : List Values) (datagrams taken : List (List ℕ))
+        → IsSenderList s first pictures datagrams → s.format ≡ o.format → AreAmong taken datagrams
+        → (timestamp : ℕ) (at : Position) → IsSendersCell s pictures timestamp at (frame_cell o taken timestamp at) }
+    ensures none_contested { (o : Opening) (s : Sender) (first : ℕ) (pictures : List Values) (datagrams taken : List (List ℕ))
+        → IsSenderList s first pictures datagrams → s.format ≡ o.format → AreAmong taken datagrams
+        → (timestamp : ℕ) (at : Position) → frame_cell o taken timestamp at ≢ Contested }
+    ensures values { (o : Opening) (s : Sender) (first : ℕ) (pictures : List Values) (datagrams taken : List (List ℕ))
+        → IsSenderList s first pictures datagrams → s.format ≡ o.format → AreAmong taken datagrams
+        → (k : ℕ) (p : Values) (at : Position) (v : ℕ) → slice_get pictures k ≡ Some p
+        → frame_cell o taken (timestamp_of s.format s.base k) at ≡ Value v → v ≡ value_at p at }
+{}
+
+/// Where every datagram that a receiver took is of one sender's list and all of picture k's, by any raster
+/// plan, are among them, the frame at picture k's timestamp is the picture with nothing missing. So it is
+/// where the whole list arrived.
+pub fn sender_frame()
+    ensures picture { (o : Opening) (s : Sender) (first : ℕ) (pictures : List Values) (datagrams taken : List (List ℕ))
+        → IsSenderList s first pictures datagrams → IsOpenFor o s.format s.payload_type s.ssrc → AreAmong taken datagrams
+        → (k : ℕ) (p : Values) → slice_get pictures k ≡ Some p → length p.samples ≡ sample_count p.format → IsMember (timestamp_of s.format s.base k) o.window
+        → (number size : ℕ) (packets : List (List PacketRun)) (mine : List (List ℕ)) → IsSentPicture p (stamp_of s k number) size packets mine → AreAmong mine taken
+        → frame_at o.window (frames_of o taken) (timestamp_of s.format s.base k) ≡ Some (picture_raster p) }
+    ensures all { (o : Opening) (s : Sender) (first : ℕ) (pictures : List Values) (datagrams taken : List (List ℕ))
+        → IsSenderList s first pictures datagrams → IsOpenFor o s.format s.payload_type s.ssrc → AreAmong taken datagrams → AreAmong datagrams taken
+        → (k : ℕ) (p : Values) → slice_get pictures k ≡ Some p → length p.samples ≡ sample_count p.format → IsMember (timestamp_of s.format s.base k) o.window
+        → frame_at o.window (frames_of o taken) (timestamp_of s.format s.base k) ≡ Some (picture_raster p) }
 {}
