@@ -1,5 +1,5 @@
 -- Frames of a sender's datagrams.
-use Rattle.std.proofs.Common.{◌≡◌, ℕ, zero, suc, ◌+◌, ◌*◌, ◌/◌, ◌%◌, ◌^◌, ◌<◌, ◌≤◌, ◌⊎◌, inl, inr, Bool, true, false, eqb, ◌&&◌, cond, not, List, [], ◌∷◌, ◌++◌, length, map, get_or, Result, Ok, Err, Option, Some, None, refl, sym, ap, ◌∙◌, subst, arith}
+use Rattle.std.proofs.Common.{◌≡◌, ℕ, zero, suc, ◌+◌, ◌*◌, ◌/◌, ◌%◌, ◌^◌, ◌<◌, ◌≤◌, inl, inr, Bool, true, false, eqb, ◌&&◌, cond, not, List, [], ◌∷◌, length, map, Result, Ok, Err, Option, Some, refl, sym, ap, ◌∙◌, subst, arith}
 use Rattle.std.specs.Prelude.{slice_get}
 use Rattle.std.specs.List.{flat_map, filter}
 use Rattle.std.proofs.lemmas.Bool.{eqb-true, cases_order, cases_lt}
@@ -15,7 +15,7 @@ use Rattle.st_format.specs.Member.{IsMember}
 use Rattle.st_format.specs.Picture.{Values, value_at, timestamp_of}
 use Rattle.st_format.specs.Position.{Position, place, number_of, sample_count}
 use Rattle.st_format.specs.Offer.{Offer, is_for, values_for, cell_of}
-use Rattle.st_format.specs.Raster.{Raster, Segment, raster_of, cell_at, cells_of}
+use Rattle.st_format.specs.Raster.{raster_of, cell_at, cells_of}
 use Rattle.st_format.proofs.Members.{member-map, member-filter, member-flat_map, member_of_flat_map, member_left, member_right, member_cases}
 use Rattle.st_format.proofs.Cells.{is_cell, is_for-true}
 use Rattle.st_format.proofs.Numbering.{number_of-place}
@@ -28,9 +28,8 @@ use Rattle.packet_plan.specs.declared.run.PacketRun.{PacketRun}
 use Rattle.packet_plan.specs.declared.stamp.Stamp.{Stamp}
 use Rattle.packet_plan.specs.Sent.{sample, AreSent, IsSentPicture}
 use Rattle.packet_plan.specs.Sender.{Sender, stamp_of, SendsFrom, IsSenderList}
-use Rattle.path_merge.specs.declared.answer.Refusal.{Refusal}
 use Rattle.path_merge.specs.declared.answer.Refusal.TheVariants.{WrongPayloadType, WrongSource}
-use Rattle.path_merge.specs.Opening.{Opening, IsSource}
+use Rattle.path_merge.specs.Opening.{Opening}
 use Rattle.path_merge.specs.Admission.{admitted_at, ◌>>=◌, by_header, by_payload, checked, is_other}
 use Rattle.path_merge.specs.Offers.{offers, offers_of}
 use Rattle.path_merge.specs.Frames.{frames_of, frame_at, cell_if}
@@ -111,11 +110,11 @@ offered_at o p stamp size qs ds true false same is e f d m x n =
 offered_at o p stamp size qs ds true true same is e f d m x n =
     let h = header_of_sent p stamp 0 qs ds d is.sent m in
     absurd (subst (λ (os : List Offer). IsMember x os)
-        (other_offers o d h.header true true h.is_header (ap (λ (k : ℕ). eqb k o.payload_type) h.payload_type ∙ e) (ap (is_other o.ssrc) h.ssrc ∙ f) refl) n)
+    (other_offers o d h.header true true h.is_header (ap (λ (k : ℕ). eqb k o.payload_type) h.payload_type ∙ e) (ap (is_other o.ssrc) h.ssrc ∙ f) refl) n)
 offered_at o p stamp size qs ds false s same is e f d m x n =
     let h = header_of_sent p stamp 0 qs ds d is.sent m in
     absurd (subst (λ (os : List Offer). IsMember x os)
-        (other_offers o d h.header false s h.is_header (ap (λ (k : ℕ). eqb k o.payload_type) h.payload_type ∙ e) (ap (is_other o.ssrc) h.ssrc ∙ f) refl) n)
+    (other_offers o d h.header false s h.is_header (ap (λ (k : ℕ). eqb k o.payload_type) h.payload_type ∙ e) (ap (is_other o.ssrc) h.ssrc ∙ f) refl) n)
 
 -- ---- what a sender's list offers
 
@@ -284,9 +283,9 @@ frame-senders o s first ps ds xs is opened among k p there whole inside number s
     let ts : ℕ = timestamp_of s.format s.base k in
     let form : p.format ≡ o.format = (sent-among s first ps ds k p is there).format ∙ opened.format in
     let only : (x : Offer) → IsMember x (flat_map (offers o) xs) → x.timestamp ≡ ts → x.value ≡ value_at p x.position = λ x m e.
-        let r = all-senders o s ps first ds xs opened.format is.sent among x m in
-        let z : r.number ≡ 0 + r.number = omega arith in
-        r.value ∙ ap (λ (q : Values). value_at q x.position) (one_picture s ps r.number k ts r.picture p is.few r.there there (ap (timestamp_of s.format s.base) z ∙ r.time ∙ e) refl) in
+    let r = all-senders o s ps first ds xs opened.format is.sent among x m in
+    let z : r.number ≡ 0 + r.number = omega arith in
+    r.value ∙ ap (λ (q : Values). value_at q x.position) (one_picture s ps r.number k ts r.picture p is.few r.there there (ap (timestamp_of s.format s.base) z ∙ r.time ∙ e) refl) in
     frame-raster o xs ts inside
     ∙ ap Some (whole_raster o p (stamp_of s k number) size qs mine xs (record { format = form; type_is = opened.type_is; source = opened.source }) sent whole all only)
 

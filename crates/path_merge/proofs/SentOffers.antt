@@ -1,5 +1,5 @@
 -- What the datagrams of a picture offer.
-use Rattle.std.proofs.Common.{◌≡◌, ℕ, zero, suc, ◌+◌, ◌*◌, ◌/◌, ◌%◌, ◌<◌, Bool, List, [], ◌∷◌, ◌++◌, map, refl, sym, ap, ◌∙◌, subst, arith}
+use Rattle.std.proofs.Common.{◌≡◌, ℕ, zero, suc, ◌+◌, ◌*◌, ◌/◌, ◌<◌, Bool, List, [], ◌∷◌, ◌++◌, map, refl, sym, ap, ◌∙◌, subst, arith}
 use Rattle.std.specs.List.{flat_map, range_with_len, AllZip}
 use Rattle.std.proofs.lemmas.List.{map-append}
 use Rattle.std.proofs.lemmas.List.Concat.{flat_map-append}
@@ -10,8 +10,7 @@ use Rattle.st_format.specs.declared.format.Depth.{Depth}
 use Rattle.st_format.specs.declared.format.Depth.TheVariants.{D8, D10, D12, D16}
 use Rattle.st_format.specs.Pgroup.{pixel_group, bits_of}
 use Rattle.st_format.specs.Picture.{Values}
-use Rattle.st_format.specs.Position.{Position, place, places, sample_count, run_columns, run_samples}
-use Rattle.st_format.specs.Samples.{values_in}
+use Rattle.st_format.specs.Position.{place, places, run_columns, run_samples}
 use Rattle.st_format.specs.Offer.{Offer}
 use Rattle.st_format.specs.Raster.{Segment, first_number, offers_from, offers_in, offers_in_all}
 use Rattle.st_format.proofs.Numbering.{number_of-place}
@@ -26,7 +25,7 @@ use Rattle.packet_plan.proofs.RunLemmas.{groups_joined, row_by, count_is}
 use Rattle.path_merge.specs.Opening.{Opening, IsSource}
 use Rattle.path_merge.specs.Grammar.{Datagram, IsDatagram}
 use Rattle.path_merge.specs.Offers.{offers}
-use Rattle.path_merge.specs.Sender.{IsOpenFor, group_places, run_places, offer_at, run_offers}
+use Rattle.path_merge.specs.Sender.{IsOpenFor, group_places, offer_at, run_offers}
 use Rattle.path_merge.proofs.Offered.{offers-for}
 
 -- ---- a run

@@ -10,7 +10,6 @@ use Rattle.st_format.specs.Picture.{Values, value_at, timestamp_of}
 use Rattle.st_format.specs.Position.{Position, place}
 use Rattle.st_format.specs.Raster.{Raster}
 use Rattle.packet_plan.specs.declared.run.PacketRun.{PacketRun}
-use Rattle.packet_plan.specs.declared.stamp.Stamp.{Stamp}
 use Rattle.packet_plan.specs.Plan.{numbers}
 use Rattle.packet_plan.specs.Sent.{group_samples, IsSentPicture}
 use Rattle.packet_plan.specs.Sender.{Sender, stamp_of}
