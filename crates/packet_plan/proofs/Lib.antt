@@ -4,3 +4,4 @@ pub mod RunOctets
 pub mod RunLemmas
 pub mod Texts
 pub mod Taken
+pub mod SenderLists
