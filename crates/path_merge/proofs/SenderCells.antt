@@ -11,7 +11,7 @@ use Rattle.st_format.specs.declared.cell.Cell.{Cell}
 use Rattle.st_format.specs.declared.cell.Cell.TheVariants.{Missing, Value, Contested}
 use Rattle.st_format.specs.declared.format.Format.{Format}
 use Rattle.st_format.specs.Cell.{IsCellOf}
-use Rattle.st_format.specs.Member.{IsMember}
+use Rattle.st_format.specs.Member.{IsMember, SameDatagrams}
 use Rattle.st_format.specs.Picture.{Values, value_at, timestamp_of}
 use Rattle.st_format.specs.Position.{Position, place, number_of, sample_count}
 use Rattle.st_format.specs.Offer.{Offer, is_for, values_for, cell_of}
@@ -290,9 +290,9 @@ frame-senders o s first ps ds xs is opened among k p there whole inside number s
     ∙ ap Some (whole_raster o p (stamp_of s k number) size qs mine xs (record { format = form; type_is = opened.type_is; source = opened.source }) sent whole all only)
 
 -- Where they have the same members, each frame of a picture is the picture.
-pub frame-all : (o : Opening) (s : Sender) (first : ℕ) (ps : List Values) (ds xs : List (List ℕ)) → IsSenderList s first ps ds → IsOpenFor o s.format s.payload_type s.ssrc → AreAmong xs ds → AreAmong ds xs
+pub frame-all : (o : Opening) (s : Sender) (first : ℕ) (ps : List Values) (ds xs : List (List ℕ)) → IsSenderList s first ps ds → IsOpenFor o s.format s.payload_type s.ssrc → SameDatagrams xs ds
     → (k : ℕ) (p : Values) → slice_get ps k ≡ Some p → length p.samples ≡ sample_count p.format → IsMember (timestamp_of s.format s.base k) o.window
     → frame_at o.window (frames_of o xs) (timestamp_of s.format s.base k) ≡ Some (picture_raster p)
-frame-all o s first ps ds xs is opened among all k p there whole inside =
+frame-all o s first ps ds xs is opened same k p there whole inside =
     let h = sent-among s first ps ds k p is there in
-    frame-senders o s first ps ds xs is opened among k p there whole inside h.first h.size h.packets h.mine h.picture (λ d m. all d (h.among d m))
+    frame-senders o s first ps ds xs is opened same.forth k p there whole inside h.first h.size h.packets h.mine h.picture (λ d m. same.back d (h.among d m))

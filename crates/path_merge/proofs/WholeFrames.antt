@@ -1,5 +1,5 @@
 -- The frame of a picture whose datagrams are all there.
-use Rattle.std.proofs.Common.{◌≡◌, ℕ, zero, suc, ◌+◌, ◌<◌, ◌≤◌, inl, inr, Bool, true, false, eqb, cond, List, [], ◌∷◌, length, map, get_or, Some, refl, sym, ap, ◌∙◌, subst, arith}
+use Rattle.std.proofs.Common.{◌≡◌, ℕ, zero, suc, ◌+◌, ◌<◌, ◌≤◌, inl, inr, Bool, true, false, eqb, cond, List, [], ◌∷◌, length, map, get_or, Some, Result, Ok, Err, refl, sym, ap, ◌∙◌, subst, arith}
 use Rattle.std.specs.List.{flat_map, range_with_len, filter}
 use Rattle.std.proofs.lemmas.Bool.{eqb-true, eqb-false, eq-eqb, cases_order}
 use Rattle.std.proofs.lemmas.List.{ext_get_or}
@@ -8,21 +8,28 @@ use Rattle.st_format.specs.declared.cell.Cell.TheVariants.{Missing, Value}
 use Rattle.st_format.specs.declared.format.Format.{Format}
 use Rattle.st_format.specs.Cell.{IsCellOf}
 use Rattle.st_format.specs.Member.{IsMember}
+use Rattle.st_format.specs.Pgroup.{bits_of}
 use Rattle.st_format.specs.Picture.{Values, value_at}
 use Rattle.st_format.specs.Position.{Position, place, places, sample_count}
+use Rattle.st_format.specs.Samples.{values_in}
 use Rattle.st_format.specs.Offer.{Offer, is_for, values_for, cell_of}
-use Rattle.st_format.specs.Raster.{Raster, raster_of, cells_of}
-use Rattle.st_format.proofs.Members.{member-map, member_of_map, member_of_filter, member-flat_map, member_of_flat_map}
+use Rattle.st_format.specs.Raster.{Raster, Segment, raster_of, cells_of, first_number, offers_from, offers_in, offers_in_all}
+use Rattle.st_format.proofs.Members.{member-map, member_of_map, member_of_filter, member-flat_map, member_of_flat_map, member_cases}
 use Rattle.st_format.proofs.Cells.{cell_of-sender, is_cell}
 use Rattle.st_format.proofs.Numbering.{number_of-place}
 use Rattle.st_format.proofs.Rasters.{length-cells_of, get_or-cells_of}
 use Rattle.packet_plan.specs.declared.run.PacketRun.{PacketRun}
 use Rattle.packet_plan.specs.declared.stamp.Stamp.{Stamp}
 use Rattle.packet_plan.specs.Sent.{sample, IsSentPicture}
+use Rattle.rtp_header.specs.Grammar.{AreOctets}
+use Rattle.path_merge.specs.declared.answer.Refusal.{Refusal}
 use Rattle.path_merge.specs.Opening.{Opening}
-use Rattle.path_merge.specs.Offers.{offers}
+use Rattle.path_merge.specs.Grammar.{Datagram, IsFor}
+use Rattle.path_merge.specs.Admission.{admitted_at}
+use Rattle.path_merge.specs.Offers.{offers, offers_of}
 use Rattle.path_merge.specs.Frames.{frames_of, frame_at}
 use Rattle.path_merge.specs.Sender.{IsOpenFor, AreAmong, AreAmongAt, offer_at, picture_raster}
+use Rattle.path_merge.proofs.Offered.{admitted_takes}
 use Rattle.path_merge.proofs.SentOffers.{offers-picture}
 
 -- ---- a cell for which something is offered
@@ -136,4 +143,36 @@ frame-whole o p stamp size qs ds xs opened inside whole is all others =
       | inl mine ↦ (sent_offers o p stamp size qs ds opened is x (member_of_flat_map (offers o) at.0 x ds mine at.2)).1
       | inr none ↦ absurd (none x at.2 e)
     ] in
+    frame-raster o xs stamp.timestamp inside ∙ ap Some (whole_raster o p stamp size qs ds xs opened is whole all only)
+
+-- ---- in words of the grammar
+
+from_time : (f : Format) (ts k : ℕ) (vs : List ℕ) (x : Offer) → IsMember x (offers_from f ts k vs) → x.timestamp ≡ ts
+from_time f ts k [] x m = absurd m
+from_time f ts k (v ∷ vs) x (inl e) = ap (λ (q : Offer). q.timestamp) e
+from_time f ts k (v ∷ vs) x (inr m) = from_time f ts (k + 1) vs x m
+
+in_all_time : (f : Format) (ts : ℕ) (ss : List Segment) (x : Offer) → IsMember x (offers_in_all f ts ss) → x.timestamp ≡ ts
+in_all_time f ts [] x m = absurd m
+in_all_time f ts (s ∷ ss) x m = elim (member_cases x (offers_in f ts s) (offers_in_all f ts ss) m) [
+  | inl a ↦ from_time f ts (first_number f s) (values_in (bits_of f.depth) s.octets) x a
+  | inr b ↦ in_all_time f ts ss x b
+]
+
+-- What offers something at a timestamp is a datagram of it.
+among_offers : (o : Opening) (ts : ℕ) (d : List ℕ) (ds : List (List ℕ)) (r : Result Datagram Refusal) → AreOctets d → admitted_at o.format o.payload_type o.ssrc d ≡ r
+    → ((g : Datagram) → IsFor o d g → g.timestamp ≡ ts → IsMember d ds) → (x : Offer) → IsMember x (offers_of o.format r) → x.timestamp ≡ ts → IsMember d ds
+among_offers o ts d ds (Err e) fit read at x m h = absurd m
+among_offers o ts d ds (Ok g) fit read at x m h = at g (admitted_takes o d g fit read) (sym (in_all_time o.format g.timestamp g.segments x m) ∙ h)
+
+-- Where every datagram of its timestamp is one of the picture's, the frame is the picture.
+pub frame-grammar : (o : Opening) (p : Values) (stamp : Stamp) (size : ℕ) (qs : List (List PacketRun)) (ds xs : List (List ℕ)) → IsOpenFor o p.format stamp.payload_type stamp.ssrc → IsMember stamp.timestamp o.window
+    → length p.samples ≡ sample_count p.format → IsSentPicture p stamp size qs ds → AreAmong ds xs
+    → ((d : List ℕ) → IsMember d xs → AreOctets d) → ((d : List ℕ) (g : Datagram) → IsMember d xs → IsFor o d g → g.timestamp ≡ stamp.timestamp → IsMember d ds)
+    → frame_at o.window (frames_of o xs) stamp.timestamp ≡ Some (picture_raster p)
+frame-grammar o p stamp size qs ds xs opened inside whole is all fit others =
+    let only : (x : Offer) → IsMember x (flat_map (offers o) xs) → x.timestamp ≡ stamp.timestamp → x.value ≡ value_at p x.position = λ x m e.
+    let at = member-flat_map (offers o) x xs m in
+    let mine : IsMember at.0 ds = among_offers o stamp.timestamp at.0 ds (admitted_at o.format o.payload_type o.ssrc at.0) (fit at.0 at.1) refl (λ g f h. others at.0 g at.1 f h) x at.2 e in
+    (sent_offers o p stamp size qs ds opened is x (member_of_flat_map (offers o) at.0 x ds mine at.2)).1 in
     frame-raster o xs stamp.timestamp inside ∙ ap Some (whole_raster o p stamp size qs ds xs opened is whole all only)

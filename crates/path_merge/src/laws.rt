@@ -71,12 +71,19 @@ pub fn offered_by_sent()
 
 /// Where all datagrams of a picture, by any raster plan, are among those that a receiver of them took, by
 /// one path or the other, and every other one offers nothing at the picture's timestamp, the frame is the
-/// picture with nothing missing (SMPTE ST 2022-7).
+/// picture with nothing missing (SMPTE ST 2022-7). So it is where every datagram for the receiver of that
+/// timestamp is one of the picture's.
 pub fn whole_frame()
-    ensures { (o : Opening) (p : Values) (stamp : Stamp) (size : ℕ) (packets : List (List PacketRun)) (datagrams taken : List (List ℕ))
+    ensures others { (o : Opening) (p : Values) (stamp : Stamp) (size : ℕ) (packets : List (List PacketRun)) (datagrams taken : List (List ℕ))
         → IsOpenFor o p.format stamp.payload_type stamp.ssrc → IsMember stamp.timestamp o.window
         → length p.samples ≡ sample_count p.format → IsSentPicture p stamp size packets datagrams
         → AreAmong datagrams taken → AreAmongAt o stamp.timestamp taken datagrams
+        → frame_at o.window (frames_of o taken) stamp.timestamp ≡ Some (picture_raster p) }
+    ensures grammar { (o : Opening) (p : Values) (stamp : Stamp) (size : ℕ) (packets : List (List PacketRun)) (datagrams taken : List (List ℕ))
+        → IsOpenFor o p.format stamp.payload_type stamp.ssrc → IsMember stamp.timestamp o.window
+        → length p.samples ≡ sample_count p.format → IsSentPicture p stamp size packets datagrams
+        → AreAmong datagrams taken → ((octets : List ℕ) → IsMember octets taken → AreOctets octets)
+        → ((octets : List ℕ) (d : Datagram) → IsMember octets taken → IsFor o octets d → d.timestamp ≡ stamp.timestamp → IsMember octets datagrams)
         → frame_at o.window (frames_of o taken) stamp.timestamp ≡ Some (picture_raster p) }
 {}
 
@@ -120,7 +127,7 @@ pub fn sender_frame()
         → (number size : ℕ) (packets : List (List PacketRun)) (mine : List (List ℕ)) → IsSentPicture p (stamp_of s k number) size packets mine → AreAmong mine taken
         → frame_at o.window (frames_of o taken) (timestamp_of s.format s.base k) ≡ Some (picture_raster p) }
     ensures all { (o : Opening) (s : Sender) (first : ℕ) (pictures : List Values) (datagrams taken : List (List ℕ))
-        → IsSenderList s first pictures datagrams → IsOpenFor o s.format s.payload_type s.ssrc → AreAmong taken datagrams → AreAmong datagrams taken
+        → IsSenderList s first pictures datagrams → IsOpenFor o s.format s.payload_type s.ssrc → SameDatagrams taken datagrams
         → (k : ℕ) (p : Values) → slice_get pictures k ≡ Some p → length p.samples ≡ sample_count p.format → IsMember (timestamp_of s.format s.base k) o.window
         → frame_at o.window (frames_of o taken) (timestamp_of s.format s.base k) ≡ Some (picture_raster p) }
 {}
