@@ -8,3 +8,6 @@ pub mod Rows
 pub mod SentOffers
 pub mod WholeFrames
 pub mod SenderCells
+pub mod BitLemmas
+pub mod Runs
+pub mod NumberSets

@@ -7,3 +7,5 @@ pub mod Frames
 pub mod Answers
 pub mod Sliding
 pub mod Sender
+pub mod BitList
+pub mod Numbers

@@ -1,17 +1,21 @@
 //! A receiver of one stream of datagrams by two redundant paths (SMPTE ST 2022-7): it holds the cells of
-//! all offers that it took, whatever their order, their paths and their repeats.
+//! all offers that it took, whatever their order, their paths and their repeats. Beside it a map of the packet
+//! numbers that came.
 #![tactic(auto)]
 
 mod admitting;
 mod answer;
+mod bit_list;
 mod fault;
 mod joining;
 pub mod laws;
 mod receiver;
+mod seq_map;
 mod unlike;
 mod window;
 
 pub use answer::{Refusal, Taken};
 pub use fault::{OpenFault, SlideFault};
 pub use receiver::Receiver;
+pub use seq_map::{MAX_COUNT, Noted, SeqMap, SeqMapFault};
 pub use unlike::OpenedUnlike;

@@ -1,15 +1,15 @@
-//! The refusal of what can't be merged.
+//! Two values that were opened unlike can't be joined.
 ghost use Rattle.std.specs.Prelude.{◌≡◌};
 
 use thiserror::Error;
 
-/// The two were not opened alike, so one can't take what the other holds.
+/// The two were opened unlike, and neither changed.
 #[derive(Clone, Copy, Debug, PartialEq, Eq, Error)]
 #[error("OpenedUnlike")]
 pub struct OpenedUnlike;
 
 impl OpenedUnlike {
-    /// The fault's number: 1.
+    /// Its number: 1.
     pub fn number(self) -> u8
         ensures { result ≡ 1 }
     {
