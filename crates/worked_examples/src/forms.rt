@@ -268,6 +268,10 @@ fn formats_that_are_refused(rt: HostRuntime) -> Result<(), Fail> {
             "format YCbCr-4:2:2 8 0 0 0/0\n",
             "st2110: format 1 BadWidth\n",
         ),
+        (
+            "format YCbCr-4:4:4 10 6 1 60/1\n",
+            "st2110: format 1 BadWidth\n",
+        ),
         ("format RGB 8 8194 2 60/1\n", "st2110: format 1 BadWidth\n"),
         ("format RGB 8 4 0 60/1\n", "st2110: format 2 BadHeight\n"),
         ("format RGB 8 4 8193 0/1\n", "st2110: format 2 BadHeight\n"),
