@@ -123,3 +123,14 @@ fn pixel_groups_of_ten_bits(rt: HostRuntime) -> Result<(), Fail> {
         "kept 1\nvalue 64\nvalue 512\nrefused 11 BadOffset\nframe 900 present 12 missing 0 contested 0\n",
     )
 }
+
+/// P0 in packets of at most 40 octets, as a sender gives it.
+#[test]
+fn datagrams_of_a_sender(rt: HostRuntime) -> Result<(), Fail> {
+    prints(
+        &rt,
+        "sender-sizes",
+        "format YCbCr-4:2:2 8 4 2 60/1\nopen 96 any 900\nA 8060000100000384000000010000000800008000000400010000801080118012801380148015\nA 80E000020000038400000001000000040001000280168017\n",
+        "kept 1\nkept 2\nframe 900 present 16 missing 0 contested 0\n",
+    )
+}
