@@ -11,3 +11,4 @@ pub mod SenderCells
 pub mod BitLemmas
 pub mod Runs
 pub mod NumberSets
+pub mod NumberLaws

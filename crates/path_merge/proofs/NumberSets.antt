@@ -11,7 +11,7 @@ union_numbers m n is alike =
     let e : count_of (union m n) ≡ count_of m = length-union m.noted n.noted alike.count in
     record { first = is.first; count = subst IsCount (sym e) is.count }
 
-noted_below : (m : Numbers) (place : ℕ) → IsNoted m place → place < count_of m
+pub noted_below : (m : Numbers) (place : ℕ) → IsNoted m place → place < count_of m
 noted_below m place h = elim (cases_lt place (count_of m)) [
   | inl lt ↦ lt
   | inr ge ↦ absurd (false≢true (sym (get_or_past m.noted place false ge) ∙ h))

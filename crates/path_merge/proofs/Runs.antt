@@ -163,7 +163,7 @@ runs_all m start place (false ∷ flags) e o s len run from =
 -- ---- in rising order
 
 -- each number is at least n, and above the one before it
-abbrev Rises : ℕ → List ℕ → Type 0
+abbrev pub Rises : ℕ → List ℕ → Type 0
 Rises n [] = Unit {0}
 Rises n (x ∷ xs) = (n ≤ x) × Rises (x + 1) xs
 

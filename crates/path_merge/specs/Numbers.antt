@@ -37,6 +37,12 @@ IsNoted m place = get_or m.noted place false ≡ true
 abbrev pub with_place : Numbers → ℕ → Numbers
 with_place m place = record { first = m.first; noted = set m.noted place true }
 
+-- a map after these packet numbers were noted, one after the other
+abbrev pub after_notes : Numbers → List ℕ → Numbers
+after_notes m [] = m
+after_notes m (number ∷ numbers) = after_notes (with_place m (place_of m number)) numbers
+
+-- the same first number, and as many places
 pub record AreAlike (m n : Numbers) : Type 0 where
   pub first : m.first ≡ n.first
   pub count : count_of m ≡ count_of n

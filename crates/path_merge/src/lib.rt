@@ -9,6 +9,7 @@ mod bit_list;
 mod fault;
 mod joining;
 pub mod laws;
+pub mod number_laws;
 mod receiver;
 mod seq_map;
 mod unlike;
