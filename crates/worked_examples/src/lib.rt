@@ -15,6 +15,8 @@ mod growths;
 #[cfg(test)]
 mod limits;
 #[cfg(test)]
+mod number_map;
+#[cfg(test)]
 mod packing;
 #[cfg(test)]
 mod pictures;

@@ -1,0 +1,151 @@
+//! *number-map*, and what else a map of packet numbers answers.
+use path_merge::{MAX_COUNT, Noted, OpenedUnlike, SeqMap, SeqMapFault};
+use st_format::memory::Refusing;
+use std::alloc::{AllocError, Allocator};
+use std::test::Fail;
+
+/// Whether the missing runs of a map are these.
+fn misses<A: Allocator, B: Allocator>(
+    alloc: A,
+    map: &SeqMap<B>,
+    runs: &[(u32, u32)],
+) -> Result<bool, AllocError> {
+    Ok(map.missing_runs(alloc)?.as_slice() == runs)
+}
+
+/// *number-map*: the numbers run on past 2^32.
+#[test]
+fn number_map(rt: HostRuntime) -> Result<(), Fail> {
+    let mut map = SeqMap::open(rt.alloc(), 4_294_967_294, 4)?;
+    for (number, noted) in [
+        (4_294_967_294u32, Noted::New),
+        (0, Noted::New),
+        (0, Noted::Again),
+        (2, Noted::Beyond),
+    ] {
+        assert_eq!(rt; map.note(number), noted, "{number}");
+    }
+    assert!(rt; misses(rt.alloc(), &map, &[(4_294_967_295, 1), (1, 1)])?);
+    assert_eq!(rt; map.first(), 4_294_967_294);
+    assert_eq!(rt; map.count(), 4);
+    Ok(())
+}
+
+/// Why a map is not opened, or `None` where it is.
+fn fault_of<A: Allocator>(alloc: A, count: u32) -> Option<SeqMapFault> {
+    SeqMap::open(alloc, 5, count).err()
+}
+
+/// Counts from 1 to 1,048,576, and others.
+#[test]
+fn counts(rt: HostRuntime) -> Result<(), Fail> {
+    for count in [0u32, 1_048_577, 4_294_967_295] {
+        assert_eq!(rt;
+            fault_of(rt.alloc(), count),
+            Some(SeqMapFault::BadCount),
+            "{count}"
+        );
+    }
+    assert_eq!(rt; MAX_COUNT, 1_048_576);
+    let mut least = SeqMap::open(rt.alloc(), 5, 1)?;
+    assert!(rt; misses(rt.alloc(), &least, &[(5, 1)])?);
+    assert_eq!(rt; least.note(6), Noted::Beyond);
+    assert_eq!(rt; least.note(4), Noted::Beyond);
+    assert_eq!(rt; least.note(5), Noted::New);
+    assert!(rt; misses(rt.alloc(), &least, &[])?);
+    let mut greatest = SeqMap::open(rt.alloc(), 5, 1_048_576)?;
+    assert!(rt; misses(rt.alloc(), &greatest, &[(5, 1_048_576)])?);
+    assert_eq!(rt; greatest.note(1_048_581), Noted::Beyond);
+    assert_eq!(rt; greatest.note(1_048_580), Noted::New);
+    assert_eq!(rt; greatest.note(1_048_580), Noted::Again);
+    assert!(rt; misses(rt.alloc(), &greatest, &[(5, 1_048_575)])?);
+    Ok(())
+}
+
+/// Each fault by its number and its name.
+#[test]
+fn faults(rt: HostRuntime) -> Result<(), Fail> {
+    for (fault, number, name) in [
+        (SeqMapFault::NoMemory, 1u8, "NoMemory"),
+        (SeqMapFault::BadCount, 2, "BadCount"),
+    ] {
+        assert_eq!(rt; fault.number(), number);
+        assert_eq!(rt; format!(in rt.alloc(); "{fault}")?.as_str(), name);
+    }
+    assert_eq!(rt; OpenedUnlike.number(), 1);
+    assert_eq!(rt;
+        format!(in rt.alloc(); "{}", OpenedUnlike)?.as_str(),
+        "OpenedUnlike"
+    );
+    Ok(())
+}
+
+/// Runs that begin and end beside the bounds of words.
+#[test]
+fn words(rt: HostRuntime) -> Result<(), Fail> {
+    let mut map = SeqMap::open(rt.alloc(), 0, 130)?;
+    for number in [0u32, 63, 64, 127, 129] {
+        assert_eq!(rt; map.note(number), Noted::New, "{number}");
+    }
+    assert!(rt; misses(rt.alloc(), &map, &[(1, 62), (65, 62), (128, 1)])?);
+    assert_eq!(rt; map.note(128), Noted::New);
+    assert_eq!(rt; map.note(130), Noted::Beyond);
+    assert!(rt; misses(rt.alloc(), &map, &[(1, 62), (65, 62)])?);
+    Ok(())
+}
+
+/// The numbers of two paths: the union, or a refusal that changes nothing.
+#[test]
+fn two_paths(rt: HostRuntime) -> Result<(), Fail> {
+    let mut left = SeqMap::open(rt.alloc(), 10, 70)?;
+    let mut right = SeqMap::open(rt.alloc(), 10, 70)?;
+    for number in [10u32, 73] {
+        assert_eq!(rt; left.note(number), Noted::New, "{number}");
+    }
+    for number in [74u32, 12, 73] {
+        assert_eq!(rt; right.note(number), Noted::New, "{number}");
+    }
+    for (first, count) in [(11u32, 70u32), (10, 69)] {
+        let other = SeqMap::open(rt.alloc(), first, count)?;
+        assert_eq!(rt; left.absorb(&other), Err(OpenedUnlike), "{first} {count}");
+        assert!(rt; misses(rt.alloc(), &left, &[(11, 62), (74, 6)])?);
+    }
+    assert_eq!(rt; left.absorb(&right), Ok(()));
+    assert!(rt; misses(rt.alloc(), &left, &[(11, 1), (13, 60), (75, 5)])?);
+    assert!(rt; misses(rt.alloc(), &right, &[(10, 2), (13, 60), (75, 5)])?);
+    assert_eq!(rt; left.note(74), Noted::Again);
+    Ok(())
+}
+
+/// Each growth refused in turn, and then had; a count is tested before memory is asked for, and noting
+/// and absorbing ask for none.
+#[test]
+fn growths(rt: HostRuntime) -> Result<(), Fail> {
+    let refusing = Refusing::new(rt.alloc(), 1);
+    assert_eq!(rt; fault_of(&refusing, 0), Some(SeqMapFault::BadCount));
+    assert!(rt; !refusing.was_met());
+    assert_eq!(rt; fault_of(&refusing, 64), Some(SeqMapFault::NoMemory));
+    let mut map = SeqMap::open(&refusing, 0, 12)?;
+    let mut other = SeqMap::open(&refusing, 0, 12)?;
+    refusing.refuse(1);
+    for number in [1u32, 3, 5] {
+        assert_eq!(rt; map.note(number), Noted::New, "{number}");
+        assert_eq!(rt; other.note(number + 6), Noted::New, "{number}");
+    }
+    assert_eq!(rt; map.absorb(&other), Ok(()));
+    assert!(rt; !refusing.was_met());
+    let runs = [(0u32, 1u32), (2, 1), (4, 1), (6, 1), (8, 1), (10, 1)];
+    for nth in 1..1000u64 {
+        refusing.refuse(nth);
+        let result = misses(&refusing, &map, &runs);
+        if !refusing.was_met() {
+            assert_eq!(rt; result, Ok(true));
+            assert!(rt; nth > 1);
+            break;
+        }
+        assert!(rt; result.is_err(), "growth {nth}");
+        refusing.refuse(0);
+        assert_eq!(rt; misses(&refusing, &map, &runs), Ok(true), "growth {nth}");
+    }
+    Ok(())
+}
