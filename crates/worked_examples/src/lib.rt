@@ -30,3 +30,5 @@ mod sdp;
 mod sdp_runs;
 #[cfg(test)]
 mod sending;
+#[cfg(test)]
+mod two_paths;

@@ -10,7 +10,7 @@ use std::process::Abort;
 use std::test::Fail;
 
 /// *sender-sizes*' stamp.
-const STAMP: Stamp = Stamp {
+pub const STAMP: Stamp = Stamp {
     payload_type: 96,
     first: 1,
     timestamp: 900,
@@ -58,14 +58,14 @@ fn sink(alloc: Global, fails_in: u64) -> Result<MemoryDatagrams, AllocError> {
 }
 
 /// Whether two formats are one.
-fn same_format(left: &Format, right: &Format) -> bool
+pub fn same_format(left: &Format, right: &Format) -> bool
     ensures { IsTrue result ↔ (left.now ≡ right.now) }
 {
     left == right
 }
 
 /// Sends a picture by a plan, where their formats are one and the buffer is large enough.
-fn sent<A: Allocator, B: Allocator>(
+pub fn sent<A: Allocator, B: Allocator>(
     plan: &Plan<A>,
     picture: &Picture<B>,
     stamp: Stamp,
@@ -225,7 +225,7 @@ fn plans(rt: HostRuntime) -> Result<(), Fail> {
 }
 
 /// A picture whose values run through 0, the greatest, and values with one bit set.
-fn runs_through(alloc: Global, format: Format) -> Result<Picture, Fail> {
+pub fn runs_through(alloc: Global, format: Format) -> Result<Picture, Fail> {
     let mut picture = Picture::new(alloc, format, [0, 0, 0])?;
     let most = format.max_value();
     for row in 0..format.height() {
