@@ -1,5 +1,5 @@
 -- Values that fit: those of octets, of offers, of cells and of their joins.
-use Rattle.std.proofs.Common.{ℕ, zero, suc, ◌+◌, ◌^◌, ◌<◌, Bool, true, false, cond, eqb, List, [], ◌∷◌, ◌++◌, get_or, map, replicate}
+use Rattle.std.proofs.Common.{ℕ, zero, suc, ◌+◌, Bool, true, false, cond, eqb, List, [], ◌∷◌, ◌++◌, get_or, map, replicate}
 use Rattle.std.specs.List.{AllByRecursion, filter, list_all}
 use Rattle.std.proofs.lemmas.Nat.{pow_pos}
 use Rattle.st_format.specs.declared.cell.Cell.{Cell}

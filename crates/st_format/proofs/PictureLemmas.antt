@@ -1,15 +1,14 @@
 -- Pictures of one colour, and one value set.
-use Rattle.std.proofs.Common.{◌≡◌, ℕ, zero, suc, ◌+◌, ◌*◌, ◌/◌, ◌%◌, ◌^◌, ◌<◌, ◌≤◌, refl, sym, ap, ◌∙◌, subst, arith, List, [], ◌∷◌, length, get_or, set, map}
+use Rattle.std.proofs.Common.{◌≡◌, ℕ, zero, suc, ◌/◌, ◌^◌, ◌<◌, refl, sym, ap, ◌∙◌, subst, arith, List, [], ◌∷◌, length, get_or, set, map}
 use Rattle.std.specs.List.{range_with_len, AllByRecursion}
 use Rattle.std.proofs.lemmas.List.{ext_get_or, get_or-set_same, get_or-set_other, get_or_past}
 use Rattle.std.proofs.Math.ListN.{length-set}
 use Rattle.std.proofs.Math.Nat.{mod-mod_of_dvd, dvd-mul_left}
 use Rattle.std.proofs.lemmas.List.FromFn.{get_or-map-range_with_len, length-map-range_with_len}
-use Rattle.st_format.specs.declared.format.Sampling.{Sampling}
 use Rattle.st_format.specs.declared.format.Format.{Format}
 use Rattle.st_format.specs.Pgroup.{bits_of}
-use Rattle.st_format.specs.Picture.{Values, IsPicture, FitsDepth, SetsOne, value_at, filled}
-use Rattle.st_format.specs.Position.{Position, IsPosition, component_in_row, run, run_columns, run_samples, row_samples, sample_count, place, places, number_of, place_in_row}
+use Rattle.st_format.specs.Picture.{Values, IsPicture, FitsDepth, SetsOne, filled}
+use Rattle.st_format.specs.Position.{Position, IsPosition, component_in_row, run, run_columns, run_samples, sample_count, place, places, number_of, place_in_row}
 use Rattle.st_format.proofs.Numbering.{number_of-below, place-number_of}
 use Rattle.st_format.proofs.Rasters.{map-map, map_same}
 

@@ -1,7 +1,7 @@
 -- The octets that values spell are the ones that spell them.
-use Rattle.std.proofs.Common.{◌≡◌, ℕ, zero, suc, ◌+◌, ◌*◌, ◌/◌, ◌^◌, ◌<◌, List, [], ◌∷◌, length, map, take, drop, refl, sym, ap, ◌∙◌, arith}
+use Rattle.std.proofs.Common.{◌≡◌, ℕ, zero, suc, ◌*◌, ◌/◌, ◌^◌, ◌<◌, List, length, map, drop, refl, sym, ap, ◌∙◌, arith}
 use Rattle.std.specs.List.{flat_map, AllByRecursion}
-use Rattle.std.proofs.Math.Nat.{div-eq_of_eq-mul_right, mul-div_right}
+use Rattle.std.proofs.Math.Nat.{div-eq_of_eq-mul_right}
 use Rattle.st_format.specs.Samples.{bits, number, pieces, octets_in, Spells}
 use Rattle.st_format.proofs.Spelled.{numbers_back, pieces_back, joined_length}
 use Rattle.st_format.proofs.WholeOctets.{all_bits, same_pieces}

@@ -1,5 +1,9 @@
 -- What contracts see of the devices in memory (own).
-use Rattle.std.specs.Prelude.{ℕ, ◌<◌, List, [], ◌∷◌, Vec, ⊤}
+use Rattle.std.specs.Prelude.{ℕ, ◌<◌, List, [], ◌∷◌, length, Option, Vec, ⊤}
+use Rattle.st_format.specs.Turns.{Due, Comes, Nothing}
+use Rattle.st_format.specs.declared.device.SourceFault.{SourceFault}
+use Rattle.st_format.specs.declared.memory.turns.MemoryTurn.{MemoryTurn}
+use Rattle.st_format.specs.declared.memory.turns.MemoryTurn.TheVariants.{Datagram, Quiet}
 
 -- `fails_in` is the call that fails, counted from 1 for the next one; 0 where none does.
 
@@ -25,6 +29,14 @@ pub record Datagrams : Type 0 where
   pub fails_in : ℕ
   pub failures : ℕ
 
+-- a source of datagrams in memory
+pub record Turns : Type 0 where
+  pub turns : List Due
+  pub fails_in : ℕ
+  pub delivered : ℕ
+  pub failures : ℕ
+  pub last_fault : Option SourceFault
+
 -- the octets of a vector
 abbrev pub octets_of : {A : Type 0} → Vec ℕ A → List ℕ
 octets_of v = v.items
@@ -37,3 +49,14 @@ capacity_of v = v.cap
 abbrev pub HasNoRoom : List ℕ → ℕ → Type 0
 HasNoRoom [] octets = ⊤
 HasNoRoom (room ∷ rooms) octets = room < octets
+
+-- a turn that is kept as a vector of octets
+abbrev pub due_of : {A : Type 0} → MemoryTurn A → Due
+due_of (Datagram path octets) = Comes path octets.items
+due_of Quiet = Nothing
+
+-- the next turn is a datagram of more octets than a datagram can have
+abbrev pub IsTooLong : List Due → Type 0
+IsTooLong [] = ⊥
+IsTooLong (Comes path octets ∷ due) = 65535 < length octets
+IsTooLong (Nothing ∷ due) = ⊥

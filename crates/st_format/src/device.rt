@@ -1,15 +1,17 @@
 //! What devices give and take, and loops over any of them.
 //!
 //! A device says what it does by ghost members, which only contracts see: the octets that it has
-//! still to give, those that it holds, the datagrams that it took, and how often it has failed. A
-//! device of this machine, as a file or a socket, can't say which octets it carries, so its list is
-//! `None`: then only the clauses on numbers of octets and on failures hold of it.
+//! still to give, those that it holds, the datagrams that it took, the turns that are to come, and
+//! how often it has failed. A device of this machine, as a file or a socket, can't say which octets
+//! it carries, so its list is `None`: then only the clauses on numbers of octets and on failures
+//! hold of it.
 //!
-//! A count of failures stays at 2^64 - 1 once it is there.
-ghost use Rattle.std.specs.Prelude.{◌≡◌, ◌≤◌, ◌<◌, ℕ, List, Option, length, take, IfOk, OnOk, OnErr};
+//! A count of failures or of datagrams stays at 2^64 - 1 once it is there.
+ghost use Rattle.std.specs.Prelude.{◌≡◌, ◌≤◌, ◌<◌, ℕ, List, Option, length, take, IfOk, OnOk, IfErr, OnErr, MatchResult};
 ghost use Rattle.std.specs.Io.KnownBytes.{Consumes, Appends, Keeps, IsAtEnd};
 ghost use Rattle.st_format.specs.Device.{CountsFaults, ConsumesPrefix, AppendsPrefix, TakesOne, KeepsAll};
 
+use crate::Path;
 use thiserror::Error;
 
 /// A source or a sink of octets failed. Why is the device's own matter.
@@ -21,6 +23,28 @@ pub struct DeviceFault;
 #[derive(Clone, Copy, Debug, PartialEq, Eq, Error)]
 #[error("SinkFault")]
 pub struct SinkFault;
+
+/// A source of datagrams failed.
+#[derive(Clone, Copy, Debug, PartialEq, Eq, Error)]
+pub enum SourceFault {
+    /// The device failed. Why is its own matter.
+    #[error("Device")]
+    Device,
+    /// What the device carries is at fault, by the number that the source gives to faults of its content.
+    #[error("Content {0}")]
+    Content(u8),
+}
+
+/// What a source of datagrams answers to one call.
+#[derive(Clone, Copy, Debug, PartialEq, Eq)]
+pub enum Turn {
+    /// A datagram came by a path, of so many octets: at most 65,535.
+    Datagram(Path, usize),
+    /// None came in this turn; one may come later.
+    Quiet,
+    /// None will come.
+    End,
+}
 
 /// Gives octets, one piece after another, until its end.
 ///
@@ -92,6 +116,41 @@ pub trait DatagramSink {
         ensures taken { OnOk result (TakesOne (taken self.old) (taken self.new) octets.now) }
         ensures fault { OnErr result (KeepsAll (taken self.old) (taken self.new)) }
         ensures counted { CountsFaults (failures self.old) (failures self.new) result };
+}
+
+/// Gives datagrams that come by two paths, one turn after another, until its end.
+pub trait DatagramSource {
+    ghost use Rattle.std.specs.Prelude.{Some};
+    ghost use Rattle.st_format.specs.Turns.{CountsTurn, Due, IsWithin, TakesTurn};
+    ghost use Rattle.st_format.specs.declared.device.SourceFault.{SourceFault as Fault};
+
+    /// The turns to come, first one first: datagrams with their octets and paths, and turns without
+    /// one; `None` where the device can't tell them.
+    ghost turns: { Self → Option (List Due) };
+
+    /// How many datagrams it has delivered.
+    ghost delivered: { Self → ℕ };
+
+    /// How often it has failed.
+    ghost failures: { Self → ℕ };
+
+    /// Its last fault, if it has failed.
+    ghost last_fault: { Self → Option Fault };
+
+    /// Tells the first of the turns to come, which is then past, or `End` where none is left. The octets
+    /// of a datagram stand at the front of `buf`, which has room for any datagram: 65,535 octets.
+    /// What `buf` holds behind them, or after another turn, is not said.
+    ///
+    /// An `Err` is one failure more, and the source's last fault. It delivers nothing, and says nothing
+    /// of what is to come.
+    fn next(&mut self, buf: &mut [u8]) -> Result<Turn, SourceFault>
+        requires { 65535 ≤ length buf.old }
+        ensures room { length buf.new ≡ length buf.old }
+        ensures within { IfOk result (λ t. IsWithin t) }
+        ensures turn { IfOk result (λ t. TakesTurn (turns self.old) (turns self.new) t buf.new) }
+        ensures delivered { MatchResult result (λ t. CountsTurn t (delivered self.old) (delivered self.new)) (λ _. delivered self.new ≡ delivered self.old) }
+        ensures counted { CountsFaults (failures self.old) (failures self.new) result }
+        ensures last { IfErr result (λ e. last_fault self.new ≡ Some e) };
 }
 
 /// Reads until `buf` is full or the source is at its end, and answers how many octets stand at the

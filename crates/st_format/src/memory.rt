@@ -4,8 +4,10 @@ mod datagrams;
 mod refusing;
 mod sink;
 mod source;
+mod turns;
 
 pub use datagrams::MemoryDatagrams;
 pub use refusing::Refusing;
 pub use sink::MemorySink;
 pub use source::MemorySource;
+pub use turns::{MemoryTurn, MemoryTurns};

@@ -1,7 +1,6 @@
-use Rattle.std.proofs.Common.{ℕ, sym, ap, ◌≡◌, ◌∙◌, arith, length, map, get_or, drop}
+use Rattle.std.proofs.Common.{ℕ, sym, ap, ◌≡◌, ◌∙◌, length, map, get_or, drop}
 use Rattle.std.specs.List.{range_with_len}
 use Rattle.std.proofs.lemmas.List.{take_at}
-use Rattle.std.proofs.lemmas.List.FromFn.{length-map-range_with_len}
 use Rattle.st_format.specs.Position.{component_in_row, sample_count}
 use Rattle.st_format.proofs.PictureLemmas.{filled-samples}
 use Rattle.st_format.proofs.picture.filled_samples.Goals as goal

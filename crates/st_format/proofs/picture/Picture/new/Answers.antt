@@ -1,7 +1,7 @@
-use Rattle.std.proofs.Common.{◌≡◌, ◌<◌, ◌^◌, subst, sym, List, ℕ, arith, ap, ◌∙◌, length, get_or}
+use Rattle.std.proofs.Common.{◌≡◌, ◌<◌, ◌^◌, subst, sym, List, ℕ, arith, length}
 use Rattle.std.proofs.lemmas.Nat.{pow_pos}
 use Rattle.st_format.specs.Pgroup.{bits_of}
-use Rattle.st_format.specs.Picture.{IsPicture, filled, Values}
+use Rattle.st_format.specs.Picture.{IsPicture, filled}
 use Rattle.st_format.proofs.PictureLemmas.{filled-is_picture, values}
 use Rattle.st_format.proofs.picture.Picture.new.Goals as goal
 

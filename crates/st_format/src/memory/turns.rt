@@ -1,0 +1,165 @@
+ghost use Rattle.std.specs.Prelude.{◌≡◌, ◌≤◌, ◌+◌, ◌-◌, ◌^◌, ◌↔◌, ◌⊎◌, Some, None, Err, length, map, min, IfOk, IfErr, OnErr, IsErr, MatchResult};
+ghost use Rattle.st_format.specs.Device.{CountsFaults};
+ghost use Rattle.st_format.specs.Memory.{IsTooLong, due_of};
+ghost use Rattle.st_format.specs.Turns.{CountsTurn, IsWithin, TakesTurn};
+
+use crate::{DatagramSource, Path, SourceFault, Turn};
+use std::alloc::{Allocator, Global};
+use std::marker::Model;
+
+/// One turn of a source in memory: a datagram that comes by a path, or none.
+#[derive(Drop)]
+pub enum MemoryTurn<A: Allocator = Global> {
+    Datagram(Path, Vec<u8, A>),
+    Quiet,
+}
+
+/// Gives the turns of a vector, and fails at one call if it is told to. A datagram of more than 65,535
+/// octets fails too, and stays the next.
+#[derive(Drop)]
+pub struct MemoryTurns<A: Allocator = Global> {
+    turns: Vec<MemoryTurn<A>, A>,
+    at: usize,
+    fails_in: u64,
+    delivered: u64,
+    failures: u64,
+    last_fault: Option<SourceFault>,
+}
+
+impl<A: Allocator> Model for MemoryTurns<A> {
+    ghost use Rattle.std.specs.Prelude.{◌≤◌, vec_len, drop, map};
+    ghost use Rattle.st_format.specs.Memory.{Turns, due_of};
+
+    ghost Value = { Turns };
+
+    ghost view = { λ s. record {
+      turns = map due_of (drop s.at s.turns.items);
+      fails_in = s.fails_in;
+      delivered = s.delivered;
+      failures = s.failures;
+      last_fault = s.last_fault;
+    } };
+
+    ghost invariant = { λ s. s.at ≤ vec_len s.turns };
+}
+
+impl<A: Allocator> MemoryTurns<A> {
+    /// A source of these turns. The call `fails_in` fails, counted from 1; 0 means that none does.
+    pub fn new(turns: Vec<MemoryTurn<A>, A>, fails_in: u64) -> Self
+        ensures tells { ⟦<MemoryTurns<A> as DatagramSource>⟧.turns result ≡ Some (map due_of turns.items) }
+        ensures undelivered { ⟦<MemoryTurns<A> as DatagramSource>⟧.delivered result ≡ 0 }
+        ensures unfailed { ⟦<MemoryTurns<A> as DatagramSource>⟧.failures result ≡ 0 }
+        ensures value { result ≡ record {
+          turns = map due_of turns.items;
+          fails_in = fails_in;
+          delivered = 0;
+          failures = 0;
+          last_fault = None;
+        } }
+    {
+        MemoryTurns {
+            turns,
+            at: 0,
+            fails_in,
+            delivered: 0,
+            failures: 0,
+            last_fault: None,
+        }
+    }
+
+    /// The turns to come.
+    pub fn turns(&self) -> &[MemoryTurn<A>]
+        ensures tells { ⟦<MemoryTurns<A> as DatagramSource>⟧.turns self.now ≡ Some (map due_of result.now) }
+    {
+        &self.turns[self.at..]
+    }
+
+    /// How many datagrams it has delivered.
+    pub fn delivered(&self) -> u64
+        ensures tells { result ≡ ⟦<MemoryTurns<A> as DatagramSource>⟧.delivered self.now }
+    {
+        self.delivered
+    }
+
+    /// How often it has failed.
+    pub fn failures(&self) -> u64
+        ensures tells { result ≡ ⟦<MemoryTurns<A> as DatagramSource>⟧.failures self.now }
+    {
+        self.failures
+    }
+
+    /// Its last fault, if it has failed: `Device`, which is its only one.
+    pub fn last_fault(&self) -> Option<SourceFault>
+        ensures tells { result ≡ ⟦<MemoryTurns<A> as DatagramSource>⟧.last_fault self.now }
+    {
+        self.last_fault
+    }
+
+    // One failure more.
+    fn fail(&mut self) -> Result<Turn, SourceFault>
+        ensures fault { result ≡ Err SourceFault.Device }
+        ensures counted { self.new.failures ≡ min (self.old.failures + 1) (2 ^ 64 - 1) }
+        ensures last { self.new.last_fault ≡ Some SourceFault.Device }
+        ensures turns { self.new.turns ≡ self.old.turns }
+        ensures delivered { self.new.delivered ≡ self.old.delivered }
+        ensures fails_in { self.new.fails_in ≡ self.old.fails_in }
+    {
+        self.failures = self.failures.saturating_add(1);
+        self.last_fault = Some(SourceFault::Device);
+        Err(SourceFault::Device)
+    }
+}
+
+impl<A: Allocator> DatagramSource for MemoryTurns<A> {
+    ghost turns = { λ s. Some s.turns };
+
+    ghost delivered = { λ s. s.delivered };
+
+    ghost failures = { λ s. s.failures };
+
+    ghost last_fault = { λ s. s.last_fault };
+
+    /// Tells the next turn, or the end. One that fails leaves the turns.
+    fn next(&mut self, buf: &mut [u8]) -> Result<Turn, SourceFault>
+        requires { 65535 ≤ length buf.old }
+        ensures room { length buf.new ≡ length buf.old }
+        ensures within { IfOk result (λ t. IsWithin t) }
+        ensures turn { IfOk result (λ t. TakesTurn (Some self.old.turns) (Some self.new.turns) t buf.new) }
+        ensures delivered { MatchResult result (λ t. CountsTurn t self.old.delivered self.new.delivered) (λ _. self.new.delivered ≡ self.old.delivered) }
+        ensures counted { CountsFaults self.old.failures self.new.failures result }
+        ensures last { IfErr result (λ e. self.new.last_fault ≡ Some e) }
+
+        // It fails at the call named and where a datagram is too long, for the device's sake, and keeps
+        // the turns then.
+        ensures when { IsErr result ↔ ((self.old.fails_in ≡ 1) ⊎ IsTooLong self.old.turns) }
+        ensures device { IfErr result (λ e. e ≡ SourceFault.Device) }
+        ensures fault { OnErr result (self.new.turns ≡ self.old.turns) }
+        ensures next { self.new.fails_in ≡ self.old.fails_in - 1 }
+    {
+        let fails = self.fails_in == 1;
+        self.fails_in = self.fails_in.saturating_sub(1);
+        if fails {
+            return self.fail();
+        }
+        if self.at == self.turns.len() {
+            return Ok(Turn::End);
+        }
+        match &self.turns[self.at] {
+            MemoryTurn::Quiet => {
+                self.at += 1;
+                Ok(Turn::Quiet)
+            }
+            MemoryTurn::Datagram(path, octets) => {
+                let count = octets.len();
+                if count > 65535 {
+                    return self.fail();
+                }
+                buf[..count].copy_from_slice(octets);
+                let path = *path;
+                self.at += 1;
+                self.delivered = self.delivered.saturating_add(1);
+                Ok(Turn::Datagram(path, count))
+            }
+        }
+    }
+}
