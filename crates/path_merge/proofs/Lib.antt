@@ -12,3 +12,4 @@ pub mod BitLemmas
 pub mod Runs
 pub mod NumberSets
 pub mod NumberLaws
+pub mod TurnLemmas

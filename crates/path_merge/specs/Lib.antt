@@ -9,3 +9,4 @@ pub mod Sliding
 pub mod Sender
 pub mod BitList
 pub mod Numbers
+pub mod Took

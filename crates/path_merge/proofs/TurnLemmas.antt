@@ -1,0 +1,158 @@
+-- What a receiver has of the turns of a source.
+use Rattle.std.proofs.Common.{◌≡◌, ℕ, zero, suc, ◌+◌, ◌-◌, ◌^◌, min, List, [], ◌∷◌, ◌++◌, length, map, take, Option, Some, None, Result, Ok, Err, MatchResult, refl, sym, ap, ◌∙◌, subst, arith}
+use Rattle.std.specs.List.{AllByRecursion}
+use Rattle.std.proofs.lemmas.List.{append-nil, append_assoc, length-append, take_at}
+use Rattle.std.proofs.lemmas.List.Elements.{recursion_from_All}
+use Rattle.st_format.specs.declared.cell.Cell.{Cell}
+use Rattle.st_format.specs.declared.device.Turn.TheVariants.{Datagram, Quiet}
+use Rattle.st_format.specs.declared.format.Format.{Format}
+use Rattle.st_format.specs.declared.path.Path.{Path}
+use Rattle.st_format.specs.Device.{CountsOne}
+use Rattle.st_format.specs.Position.{sample_count}
+use Rattle.st_format.specs.Raster.{Raster, IsWhole, cells_of, joined, raster_of}
+use Rattle.st_format.specs.Turns.{Due, Comes, Nothing, GivesTurns, TakesTurn, datagrams_of}
+use Rattle.st_format.proofs.Rasters.{joined-assoc, joined_none}
+use Rattle.path_merge.specs.declared.receiving.ReceiveFault.{ReceiveFault}
+use Rattle.path_merge.specs.declared.receiving.Received.{Received}
+use Rattle.path_merge.specs.Frames.{State, Holds, IsReceiver, frames_of, joined_frames}
+use Rattle.path_merge.specs.Opening.{Opening}
+use Rattle.path_merge.specs.Took.{CountsAll, TakesDue, Took, TookUpTo, delivered_in}
+use Rattle.path_merge.proofs.Frames.{frames_of-append}
+
+-- ---- joins of frames
+
+joined_frames-assoc : (rs qs ps : List Raster) → joined_frames (joined_frames rs qs) ps ≡ joined_frames rs (joined_frames qs ps)
+joined_frames-assoc [] qs ps = refl
+joined_frames-assoc (r ∷ rs) [] ps = refl
+joined_frames-assoc (r ∷ rs) (q ∷ qs) [] = refl
+joined_frames-assoc (r ∷ rs) (q ∷ qs) (p ∷ ps) = rw (joined-assoc r.cells q.cells p.cells, joined_frames-assoc rs qs ps) refl
+
+abbrev with_cells : Raster → List Cell → Raster
+with_cells r cells = record { format = r.format; cells = cells }
+
+frames_stay : (f : Format) (w : List ℕ) (rs : List Raster) → length rs ≡ length w → AllByRecursion (λ r. r.format ≡ f) rs → AllByRecursion IsWhole rs
+    → rs ≡ joined_frames rs (map (raster_of f []) w)
+frames_stay f [] [] e formats whole = refl
+frames_stay f [] (r ∷ rs) e formats whole = absurd (omega arith)
+frames_stay f (t ∷ w) [] e formats whole = absurd (omega arith)
+frames_stay f (t ∷ w) (r ∷ rs) e formats whole =
+    let first : r ≡ with_cells r (joined r.cells (cells_of f [] t)) = ap (with_cells r) (sym (joined_none f t r.cells (whole.0 ∙ ap sample_count formats.0))) in
+    let rest : rs ≡ joined_frames rs (map (raster_of f []) w) = frames_stay f w rs (omega arith) formats.1 whole.1 in
+    ap (λ (q : Raster). q ∷ rs) first ∙ ap (λ (qs : List Raster). with_cells r (joined r.cells (cells_of f [] t)) ∷ qs) rest
+
+-- no datagram leaves the frames
+no_datagram : (s : State) → IsReceiver s → s.frames ≡ joined_frames s.frames (frames_of s.opening [])
+no_datagram s is =
+    frames_stay s.opening.format s.opening.window s.frames is.one_each
+    (recursion_from_All (λ (r : Raster). r.format ≡ s.opening.format) s.frames is.of_format) (recursion_from_All IsWhole s.frames is.whole)
+
+-- some datagrams, and one more
+one_more : (s t u : State) (ds : List (List ℕ)) (d : List ℕ) → t.opening ≡ s.opening → t.frames ≡ joined_frames s.frames (frames_of s.opening ds)
+    → u.frames ≡ joined_frames t.frames (frames_of t.opening (d ∷ [])) → u.frames ≡ joined_frames s.frames (frames_of s.opening (ds ++ d ∷ []))
+one_more s t u ds d opening before now =
+    now ∙ ap (λ (o : Opening). joined_frames t.frames (frames_of o (d ∷ []))) opening
+    ∙ ap (λ (rs : List Raster). joined_frames rs (frames_of s.opening (d ∷ []))) before
+    ∙ joined_frames-assoc s.frames (frames_of s.opening ds) (frames_of s.opening (d ∷ []))
+    ∙ ap (joined_frames s.frames) (sym (frames_of-append s.opening ds (d ∷ [])))
+
+-- ---- turns
+
+datagrams_of-append : (xs ys : List Due) → datagrams_of (xs ++ ys) ≡ datagrams_of xs ++ datagrams_of ys
+datagrams_of-append [] ys = refl
+datagrams_of-append (Comes path octets ∷ xs) ys = ap (λ (ds : List (List ℕ)). octets ∷ ds) (datagrams_of-append xs ys)
+datagrams_of-append (Nothing ∷ xs) ys = datagrams_of-append xs ys
+
+gives_none : (old : Option (List Due)) → GivesTurns old old []
+gives_none None = tt
+gives_none (Some due) = refl
+
+gives_more : (xs ys : List Due) (old mid new : Option (List Due)) → GivesTurns old mid xs → GivesTurns mid new ys → GivesTurns old new (xs ++ ys)
+gives_more xs ys None mid new first next = tt
+gives_more xs ys (Some a) None new first next = absurd first
+gives_more xs ys (Some a) (Some b) None first next = absurd next
+gives_more xs ys (Some a) (Some b) (Some c) first next = first ∙ ap (λ (l : List Due). xs ++ l) next ∙ sym (append_assoc xs ys c)
+
+-- what was taken in k turns
+pub record SoFar (k delivered : ℕ) (old now : Option (List Due)) (before after : State) : Type 0 where
+  pub due : List Due
+  pub given : GivesTurns old now due
+  pub turns : length due ≡ k
+  pub taken : TakesDue due delivered before after
+
+pub nothing_taken : (old : Option (List Due)) (s : State) → IsReceiver s → SoFar 0 0 old old s s
+nothing_taken old s is = record {
+  due = [];
+  given = gives_none old;
+  turns = refl;
+  taken = record { count = refl; opening = refl; frames = no_datagram s is };
+}
+
+pub datagram_taken : (k n count : ℕ) (path : Path) (buf : List ℕ) (old mid new : Option (List Due)) (s t u : State) → SoFar k n old mid s t
+    → TakesTurn mid new (Datagram path count) buf → u.opening ≡ t.opening → u.frames ≡ joined_frames t.frames (frames_of t.opening (take count buf ∷ []))
+    → SoFar (k + 1) (n + 1) old new s u
+datagram_taken k n count path buf old mid new s t u so_far turn opening frames =
+    let d : List ℕ = take count buf in
+    let more : List Due = Comes path d ∷ [] in
+    let all : datagrams_of (so_far.due ++ more) ≡ datagrams_of so_far.due ++ d ∷ [] = datagrams_of-append so_far.due more in
+    record {
+      due = so_far.due ++ more;
+      given = gives_more so_far.due more old mid new so_far.given turn;
+      turns = omega (arith, length-append so_far.due more, so_far.turns);
+      taken = record {
+        count = ap length all ∙ omega (arith, length-append (datagrams_of so_far.due) (d ∷ []), so_far.taken.count);
+        opening = opening ∙ so_far.taken.opening;
+        frames = one_more s t u (datagrams_of so_far.due) d so_far.taken.opening so_far.taken.frames frames
+            ∙ ap (λ (ds : List (List ℕ)). joined_frames s.frames (frames_of s.opening ds)) (sym all);
+      };
+    }
+
+pub quiet_taken : (k n : ℕ) (buf : List ℕ) (old mid new : Option (List Due)) (s t : State) → SoFar k n old mid s t → TakesTurn mid new Quiet buf → SoFar (k + 1) n old new s t
+quiet_taken k n buf old mid new s t so_far turn =
+    let more : List Due = Nothing ∷ [] in
+    let all : datagrams_of (so_far.due ++ more) ≡ datagrams_of so_far.due = datagrams_of-append so_far.due more ∙ append-nil (datagrams_of so_far.due) in
+    record {
+      due = so_far.due ++ more;
+      given = gives_more so_far.due more old mid new so_far.given turn;
+      turns = omega (arith, length-append so_far.due more, so_far.turns);
+      taken = record {
+        count = ap length all ∙ so_far.taken.count;
+        opening = so_far.taken.opening;
+        frames = so_far.taken.frames ∙ ap (λ (ds : List (List ℕ)). joined_frames s.frames (frames_of s.opening ds)) (sym all);
+      };
+    }
+
+-- ---- counts
+
+pub counts_none : (old : ℕ) → CountsAll 0 old old
+counts_none old = record { none = λ _. refl; some = λ lt. absurd (omega arith) }
+
+one_counted : (n old mid new : ℕ) → CountsAll n old mid → CountsOne mid new → new ≡ min (old + (n + 1)) (2 ^ 64 - 1)
+one_counted zero old mid new before one = let same : mid ≡ old = before.none refl in omega (arith, one, same)
+one_counted (suc n) old mid new before one = let is : mid ≡ min (old + suc n) (2 ^ 64 - 1) = before.some (omega arith) in omega (arith, one, is)
+
+pub counts_more : (n old mid new : ℕ) → CountsAll n old mid → CountsOne mid new → CountsAll (n + 1) old new
+counts_more n old mid new before one = record { none = λ e. absurd (omega arith); some = λ _. one_counted n old mid new before one }
+
+-- ---- what it holds
+
+gave_first : (old : List Due) (rest : Option (List Due)) (due : List Due) (n : ℕ) → GivesTurns (Some old) rest due → length (datagrams_of due) ≡ n → take n (datagrams_of old) ≡ datagrams_of due
+gave_first old None due n given count = absurd given
+gave_first old (Some rest) due n given count =
+    ap (λ (ts : List Due). take n (datagrams_of ts)) given ∙ ap (take n) (datagrams_of-append due rest) ∙ take_at (datagrams_of due) (datagrams_of rest) n count
+
+holds_due : (old rest : Option (List Due)) (due turns : List Due) (n : ℕ) (s t : State) (ds : List (List ℕ)) → GivesTurns old rest due → TakesDue due n s t → old ≡ Some turns → Holds s ds
+    → Holds t (ds ++ take n (datagrams_of turns))
+holds_due old rest due turns n s t ds given taken told holds =
+    let xs : List (List ℕ) = datagrams_of due in
+    let first : take n (datagrams_of turns) ≡ xs = gave_first turns rest due n (subst (λ (o : Option (List Due)). GivesTurns o rest due) told given) taken.count in
+    taken.frames ∙ ap (λ (rs : List Raster). joined_frames rs (frames_of s.opening xs)) holds
+    ∙ sym (frames_of-append s.opening ds xs)
+    ∙ ap (λ (o : Opening). frames_of o (ds ++ xs)) (sym taken.opening)
+    ∙ ap (λ (ys : List (List ℕ)). frames_of t.opening (ds ++ ys)) (sym first)
+
+-- Where a receiver held the Frames of some datagrams, it then holds those of them and of what was delivered.
+pub holds_delivered : (limit : ℕ) (r : Result Received ReceiveFault) (old new : Option (List Due)) (s t : State)
+    → MatchResult r (λ x. Took limit x old new s t) (λ e. TookUpTo limit e.delivered old s t)
+    → (ds : List (List ℕ)) (turns : List Due) → old ≡ Some turns → Holds s ds → Holds t (ds ++ take (delivered_in r) (datagrams_of turns))
+holds_delivered limit (Ok x) old new s t took ds turns told holds = holds_due old new took.due turns x.delivered s t ds took.given took.taken told holds
+holds_delivered limit (Err e) old new s t took ds turns told holds = holds_due old took.rest took.due turns e.delivered s t ds took.given took.taken told holds

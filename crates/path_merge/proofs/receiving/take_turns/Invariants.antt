@@ -1,0 +1,16 @@
+use Rattle.std.proofs.Common.{◌≡◌, ◌≤◌, length}
+use Rattle.path_merge.specs.Frames.{IsReceiver}
+use Rattle.path_merge.specs.Took.{CountsAll}
+use Rattle.path_merge.proofs.TurnLemmas.{SoFar}
+use Rattle.path_merge.proofs.receiving.take_turns.Given as goal
+
+-- what was taken in the turns so far, and what the source counted
+abbrev pub invariant-loop : goal.invariant-loop
+invariant-loop g l = record {
+  few : l.delivered ≤ l.counter;
+  room : length l.buf ≡ length l.initial.buf;
+  receiver : IsReceiver l.receiver;
+  so_far : SoFar l.counter l.delivered (g.S.DatagramSource.turns l.initial.source) (g.S.DatagramSource.turns l.source) l.initial.receiver l.receiver;
+  delivered : CountsAll l.delivered (g.S.DatagramSource.delivered l.initial.source) (g.S.DatagramSource.delivered l.source);
+  failures : g.S.DatagramSource.failures l.source ≡ g.S.DatagramSource.failures l.initial.source;
+}

@@ -1,0 +1,45 @@
+-- What `receive` does with the turns of a source (own).
+use Rattle.std.specs.Prelude.{◌≡◌, ℕ, ◌+◌, ◌-◌, ◌^◌, ◌<◌, min, Bool, true, false, List, length, Option, Result, Ok, Err}
+use Rattle.st_format.specs.Turns.{Due, GivesTurns, HasEnded, datagrams_of}
+use Rattle.path_merge.specs.declared.receiving.ReceiveFault.{ReceiveFault}
+use Rattle.path_merge.specs.declared.receiving.Received.{Received}
+use Rattle.path_merge.specs.Frames.{State, frames_of, joined_frames}
+
+-- A receiver took the datagrams among turns, so many, one after the other: their frames are joined to its own.
+pub record TakesDue (due : List Due) (delivered : ℕ) (before after : State) : Type 0 where
+  pub count : length (datagrams_of due) ≡ delivered
+  pub opening : after.opening ≡ before.opening
+  pub frames : after.frames ≡ joined_frames before.frames (frames_of before.opening (datagrams_of due))
+
+-- As many turns as the limit were taken, or fewer where the next was the end.
+abbrev pub AreTurns : ℕ → Bool → List Due → Type 0
+AreTurns limit false due = length due ≡ limit
+AreTurns limit true due = length due < limit
+
+-- The turns of a source were taken up to the limit or the end. A source that doesn't tell its turns still
+-- gave some.
+pub record Took (limit : ℕ) (r : Received) (old new : Option (List Due)) (before after : State) : Type 0 where
+  pub due : List Due
+  pub given : GivesTurns old new due
+  pub turns : AreTurns limit r.ended due
+  pub ended : r.ended ≡ true → HasEnded new
+  pub taken : TakesDue due r.delivered before after
+
+-- The turns of a source were taken up to a fault: fewer than the limit. What it then has to tell is not
+-- said; `rest` were the turns to come before it failed.
+pub record TookUpTo (limit delivered : ℕ) (old : Option (List Due)) (before after : State) : Type 0 where
+  pub due : List Due
+  pub rest : Option (List Due)
+  pub given : GivesTurns old rest due
+  pub turns : length due < limit
+  pub taken : TakesDue due delivered before after
+
+-- how many datagrams were delivered
+abbrev pub delivered_in : Result Received ReceiveFault → ℕ
+delivered_in (Ok r) = r.delivered
+delivered_in (Err e) = e.delivered
+
+-- so many more, but at most 2^64 - 1
+pub record CountsAll (count old new : ℕ) : Type 0 where
+  pub none : count ≡ 0 → new ≡ old
+  pub some : 0 < count → new ≡ min (old + count) (2 ^ 64 - 1)

@@ -1,0 +1,110 @@
+//! Taking what a source of datagrams gives.
+ghost use Rattle.std.specs.Prelude.{◌≡◌, ◌≤◌, ℕ, List, Some, ◌++◌, length, take, IfErr, MatchResult};
+ghost use Rattle.path_merge.specs.Frames.{Holds, IsReceiver};
+ghost use Rattle.path_merge.specs.Took.{CountsAll, Took, TookUpTo, delivered_in};
+ghost use Rattle.st_format.specs.Device.{CountsFaults};
+ghost use Rattle.st_format.specs.Turns.{Due, datagrams_of};
+
+use crate::receiver::Receiver;
+use st_format::{DatagramSource, SourceFault, Turn};
+use std::alloc::Allocator;
+use thiserror::Error;
+
+/// What came of the turns that were taken.
+#[derive(Clone, Copy, Debug, PartialEq, Eq)]
+pub struct Received {
+    /// How many of them were datagrams, refused ones and such outside the window among them.
+    pub delivered: u64,
+    /// Whether the last was the end of the source.
+    pub ended: bool,
+}
+
+/// The source failed.
+#[derive(Clone, Copy, Debug, PartialEq, Eq, Error)]
+#[error("{fault} after {delivered} datagrams")]
+pub struct ReceiveFault {
+    /// How many datagrams it had delivered in this call. They are taken.
+    pub delivered: u64,
+    /// Its fault.
+    pub fault: SourceFault,
+}
+
+/// Gives a receiver the datagrams of a source: `limit` turns, or fewer where one is the end or a fault.
+///
+/// A datagram that the receiver refuses, or that is outside its window, counts as delivered and stops
+/// nothing. `buf` has room for any datagram: 65,535 octets. No memory is taken.
+///
+/// An `Err` is the source's one failure in this call. What it delivered before is taken.
+pub fn receive<S: DatagramSource, A: Allocator>(
+    source: &mut S,
+    receiver: &mut Receiver<A>,
+    buf: &mut [u8],
+    limit: u64,
+) -> Result<Received, ReceiveFault>
+    requires { 65535 ≤ length buf.old }
+
+    // Which turns were taken, and what the receiver has of their datagrams.
+    ensures took { MatchResult result
+        (λ r. Took limit r (S.turns source.old) (S.turns source.new) receiver.old receiver.new)
+        (λ e. TookUpTo limit e.delivered (S.turns source.old) receiver.old receiver.new) }
+
+    // Where it held the Frames of some datagrams and the source tells its turns, it then holds those of
+    // them and the first datagrams that were to come: as many as were delivered.
+    ensures holds { (datagrams : List (List ℕ)) (due : List Due) → S.turns source.old ≡ Some due → Holds receiver.old datagrams
+        → Holds receiver.new (datagrams ++ take (delivered_in result) (datagrams_of due)) }
+
+    // What the source counts, and its fault.
+    ensures delivered { CountsAll (delivered_in result) (S.delivered source.old) (S.delivered source.new) }
+    ensures counted { CountsFaults (S.failures source.old) (S.failures source.new) result }
+    ensures fault { IfErr result (λ e. S.last_fault source.new ≡ Some e.fault) }
+
+    // What stays.
+    ensures opening { receiver.new.opening ≡ receiver.old.opening }
+    ensures receiver { IsReceiver receiver.new }
+    ensures room { length buf.new ≡ length buf.old }
+{
+    // Says what a receiver always is, where not one turn is taken too.
+    let _ = receiver.format();
+    take_turns(source, receiver, buf, limit)
+}
+
+fn take_turns<S: DatagramSource, A: Allocator>(
+    source: &mut S,
+    receiver: &mut Receiver<A>,
+    buf: &mut [u8],
+    limit: u64,
+) -> Result<Received, ReceiveFault>
+    requires room { 65535 ≤ length buf.old }
+    requires receiver { IsReceiver receiver.old }
+    ensures took { MatchResult result
+        (λ r. Took limit r (S.turns source.old) (S.turns source.new) receiver.old receiver.new)
+        (λ e. TookUpTo limit e.delivered (S.turns source.old) receiver.old receiver.new) }
+    ensures delivered { CountsAll (delivered_in result) (S.delivered source.old) (S.delivered source.new) }
+    ensures counted { CountsFaults (S.failures source.old) (S.failures source.new) result }
+    ensures fault { IfErr result (λ e. S.last_fault source.new ≡ Some e.fault) }
+    ensures receiver { IsReceiver receiver.new }
+    ensures room { length buf.new ≡ length buf.old }
+{
+    let mut delivered = 0;
+    for _ in 0..limit {
+        match source.next(buf) {
+            Ok(Turn::Datagram(path, count)) => {
+                let _ = receiver.take(path, &buf[..count]);
+                delivered += 1;
+                continue;
+            }
+            Ok(Turn::Quiet) => continue,
+            Ok(Turn::End) => {
+                return Ok(Received {
+                    delivered,
+                    ended: true,
+                });
+            }
+            Err(fault) => return Err(ReceiveFault { delivered, fault }),
+        }
+    }
+    Ok(Received {
+        delivered,
+        ended: false,
+    })
+}
