@@ -1,7 +1,8 @@
 -- What a receiver has of the turns of a source.
-use Rattle.std.proofs.Common.{◌≡◌, ℕ, zero, suc, ◌+◌, ◌-◌, ◌^◌, min, List, [], ◌∷◌, ◌++◌, length, map, take, Option, Some, None, Result, Ok, Err, MatchResult, refl, sym, ap, ◌∙◌, subst, arith}
-use Rattle.std.specs.List.{AllByRecursion}
-use Rattle.std.proofs.lemmas.List.{append-nil, append_assoc, length-append, take_at}
+use Rattle.std.proofs.Common.{◌≡◌, ℕ, zero, suc, ◌+◌, ◌-◌, ◌^◌, ◌≤◌, min, List, [], ◌∷◌, ◌++◌, length, map, take, drop, Option, Some, None, Result, Ok, Err, MatchResult, refl, sym, ap, ◌∙◌, subst, arith}
+use Rattle.std.specs.List.{AllByRecursion, flat_map}
+use Rattle.std.proofs.lemmas.List.{append-nil, append_assoc, length-append, length-drop, take_at, drop-append-le, drop-drop}
+use Rattle.std.proofs.lemmas.List.Concat.{flat_map-append}
 use Rattle.std.proofs.lemmas.List.Elements.{recursion_from_All}
 use Rattle.st_format.specs.declared.cell.Cell.{Cell}
 use Rattle.st_format.specs.declared.device.Turn.TheVariants.{Datagram, Quiet}
@@ -12,11 +13,14 @@ use Rattle.st_format.specs.Position.{sample_count}
 use Rattle.st_format.specs.Raster.{Raster, IsWhole, cells_of, joined, raster_of}
 use Rattle.st_format.specs.Turns.{Due, Comes, Nothing, GivesTurns, TakesTurn, datagrams_of}
 use Rattle.st_format.proofs.Rasters.{joined-assoc, joined_none}
+use Rattle.path_merge.specs.declared.answer.Refusal.{Refusal}
+use Rattle.path_merge.specs.declared.answer.Taken.{Taken}
 use Rattle.path_merge.specs.declared.receiving.ReceiveFault.{ReceiveFault}
 use Rattle.path_merge.specs.declared.receiving.Received.{Received}
 use Rattle.path_merge.specs.Frames.{State, Holds, IsReceiver, frames_of, joined_frames}
+use Rattle.path_merge.specs.Answers.{last_64, refusals_after, taken_at}
 use Rattle.path_merge.specs.Opening.{Opening}
-use Rattle.path_merge.specs.Took.{CountsAll, TakesDue, Took, TookUpTo, delivered_in}
+use Rattle.path_merge.specs.Took.{CountsAll, TakesDue, Took, TookUpTo, delivered_in, refused_by, refusal_of}
 use Rattle.path_merge.proofs.Frames.{frames_of-append}
 
 -- ---- joins of frames
@@ -72,6 +76,44 @@ gives_more xs ys (Some a) None new first next = absurd first
 gives_more xs ys (Some a) (Some b) None first next = absurd next
 gives_more xs ys (Some a) (Some b) (Some c) first next = first ∙ ap (λ (l : List Due). xs ++ l) next ∙ sym (append_assoc xs ys c)
 
+-- ---- refusals
+
+pub last_64_few : {X : Type 0} → (xs : List X) → length xs ≤ 64 → last_64 xs ≡ xs
+last_64_few xs few = let none : length xs - 64 ≡ 0 = omega (arith, few) in ap (λ (n : ℕ). drop n xs) none
+
+-- the last of the last and more are the last of all
+pub last_64_again : {X : Type 0} → (xs ys : List X) → last_64 (last_64 xs ++ ys) ≡ last_64 (xs ++ ys)
+last_64_again xs ys =
+    let n : ℕ = length xs - 64 in
+    let le : n ≤ length xs = omega arith in
+    let front : drop n xs ++ ys ≡ drop n (xs ++ ys) = sym (drop-append-le n xs ys le) in
+    let many : n + (length (drop n xs ++ ys) - 64) ≡ length (xs ++ ys) - 64 = omega (arith, length-append (drop n xs) ys, length-append xs ys, length-drop n xs) in
+    ap (drop (length (drop n xs ++ ys) - 64)) front
+    ∙ drop-drop (length (drop n xs ++ ys) - 64) n (xs ++ ys)
+    ∙ ap (λ (m : ℕ). drop m (xs ++ ys)) many
+
+-- what is kept after an answer
+kept_after : (path : Path) (r : Result Taken Refusal) (xs : List (Path × Refusal)) → length xs ≤ 64 → refusals_after path r xs ≡ last_64 (xs ++ refused_by path r)
+kept_after path (Ok t) xs few = sym (ap (λ (ys : List (Path × Refusal)). last_64 ys) (append-nil xs) ∙ last_64_few xs few)
+kept_after path (Err e) xs few = refl
+
+-- what is kept after one turn more
+refused_more : (s t u : State) (due more : List Due) (path : Path) (d : List ℕ) (r : Result Taken Refusal) → more ≡ Comes path d ∷ [] → IsReceiver t → t.opening ≡ s.opening
+    → t.refusals ≡ last_64 (s.refusals ++ flat_map (refusal_of s.opening) due) → r ≡ taken_at t.opening d → u.refusals ≡ refusals_after path r t.refusals
+    → u.refusals ≡ last_64 (s.refusals ++ flat_map (refusal_of s.opening) (due ++ more))
+refused_more s t u due more path d r is_more is opening before answer now =
+    let before_all : List (Path × Refusal) = s.refusals ++ flat_map (refusal_of s.opening) due in
+    let one : List (Path × Refusal) = refused_by path r in
+    let said : one ≡ flat_map (refusal_of s.opening) more =
+    ap (refused_by path) (answer ∙ ap (λ (o : Opening). taken_at o d) opening) ∙ sym (append-nil (refusal_of s.opening (Comes path d))) ∙ ap (flat_map (refusal_of s.opening)) (sym is_more) in
+    now ∙ kept_after path r t.refusals is.few_refusals
+    ∙ ap (λ (xs : List (Path × Refusal)). last_64 (xs ++ one)) before
+    ∙ last_64_again before_all one
+    ∙ ap (λ (xs : List (Path × Refusal)). last_64 (before_all ++ xs)) said
+    ∙ ap (λ (xs : List (Path × Refusal)). last_64 xs) (append_assoc s.refusals (flat_map (refusal_of s.opening) due) (flat_map (refusal_of s.opening) more) ∙ ap (λ (xs : List (Path × Refusal)). s.refusals ++ xs) (sym (flat_map-append (refusal_of s.opening) due more)))
+
+-- ---- what was taken
+
 -- what was taken in k turns
 pub record SoFar (k delivered : ℕ) (old now : Option (List Due)) (before after : State) : Type 0 where
   pub due : List Due
@@ -84,13 +126,14 @@ nothing_taken old s is = record {
   due = [];
   given = gives_none old;
   turns = refl;
-  taken = record { count = refl; opening = refl; frames = no_datagram s is };
+  taken = record { count = refl; opening = refl; frames = no_datagram s is; refusals = sym (ap (λ (xs : List (Path × Refusal)). last_64 xs) (append-nil s.refusals) ∙ last_64_few s.refusals is.few_refusals) };
 }
 
-pub datagram_taken : (k n count : ℕ) (path : Path) (buf : List ℕ) (old mid new : Option (List Due)) (s t u : State) → SoFar k n old mid s t
+pub datagram_taken : (k n count : ℕ) (path : Path) (buf : List ℕ) (r : Result Taken Refusal) (old mid new : Option (List Due)) (s t u : State) → SoFar k n old mid s t → IsReceiver t
     → TakesTurn mid new (Datagram path count) buf → u.opening ≡ t.opening → u.frames ≡ joined_frames t.frames (frames_of t.opening (take count buf ∷ []))
+    → r ≡ taken_at t.opening (take count buf) → u.refusals ≡ refusals_after path r t.refusals
     → SoFar (k + 1) (n + 1) old new s u
-datagram_taken k n count path buf old mid new s t u so_far turn opening frames =
+datagram_taken k n count path buf r old mid new s t u so_far is turn opening frames answer refusals =
     let d : List ℕ = take count buf in
     let more : List Due = Comes path d ∷ [] in
     let all : datagrams_of (so_far.due ++ more) ≡ datagrams_of so_far.due ++ d ∷ [] = datagrams_of-append so_far.due more in
@@ -103,6 +146,7 @@ datagram_taken k n count path buf old mid new s t u so_far turn opening frames =
         opening = opening ∙ so_far.taken.opening;
         frames = one_more s t u (datagrams_of so_far.due) d so_far.taken.opening so_far.taken.frames frames
             ∙ ap (λ (ds : List (List ℕ)). joined_frames s.frames (frames_of s.opening ds)) (sym all);
+        refusals = refused_more s t u so_far.due more path d r refl is so_far.taken.opening so_far.taken.refusals answer refusals;
       };
     }
 
@@ -118,6 +162,7 @@ quiet_taken k n buf old mid new s t so_far turn =
         count = ap length all ∙ so_far.taken.count;
         opening = so_far.taken.opening;
         frames = so_far.taken.frames ∙ ap (λ (ds : List (List ℕ)). joined_frames s.frames (frames_of s.opening ds)) (sym all);
+        refusals = so_far.taken.refusals ∙ ap (λ (xs : List (Path × Refusal)). last_64 (s.refusals ++ xs)) (sym (flat_map-append (refusal_of s.opening) so_far.due more ∙ append-nil (flat_map (refusal_of s.opening) so_far.due)));
       };
     }
 

@@ -1,15 +1,33 @@
 -- What `receive` does with the turns of a source (own).
-use Rattle.std.specs.Prelude.{◌≡◌, ℕ, ◌+◌, ◌-◌, ◌^◌, ◌<◌, min, Bool, true, false, List, length, Option, Result, Ok, Err}
-use Rattle.st_format.specs.Turns.{Due, GivesTurns, HasEnded, datagrams_of}
+use Rattle.std.specs.Prelude.{◌≡◌, ℕ, ◌+◌, ◌-◌, ◌^◌, ◌<◌, ◌++◌, min, Bool, true, false, List, [], ◌∷◌, length, Option, Result, Ok, Err}
+use Rattle.std.specs.List.{flat_map}
+use Rattle.st_format.specs.declared.path.Path.{Path}
+use Rattle.st_format.specs.Turns.{Due, Comes, Nothing, GivesTurns, HasEnded, datagrams_of}
 use Rattle.path_merge.specs.declared.receiving.ReceiveFault.{ReceiveFault}
 use Rattle.path_merge.specs.declared.receiving.Received.{Received}
+use Rattle.path_merge.specs.declared.answer.Refusal.{Refusal}
+use Rattle.path_merge.specs.declared.answer.Taken.{Taken}
+use Rattle.path_merge.specs.Answers.{last_64, taken_at}
+use Rattle.path_merge.specs.Opening.{Opening}
 use Rattle.path_merge.specs.Frames.{State, frames_of, joined_frames}
 
--- A receiver took the datagrams among turns, so many, one after the other: their frames are joined to its own.
+-- the refusal that is answered, with its path
+abbrev pub refused_by : Path → Result Taken Refusal → List (Path × Refusal)
+refused_by path (Ok t) = []
+refused_by path (Err e) = (path, e) ∷ []
+
+-- the refusal of a turn's datagram, where it is refused
+abbrev pub refusal_of : Opening → Due → List (Path × Refusal)
+refusal_of o (Comes path octets) = refused_by path (taken_at o octets)
+refusal_of o Nothing = []
+
+-- A receiver took the datagrams among turns, so many, one after the other: their frames are joined to its own,
+-- and of its refusals and theirs the last 64 stay.
 pub record TakesDue (due : List Due) (delivered : ℕ) (before after : State) : Type 0 where
   pub count : length (datagrams_of due) ≡ delivered
   pub opening : after.opening ≡ before.opening
   pub frames : after.frames ≡ joined_frames before.frames (frames_of before.opening (datagrams_of due))
+  pub refusals : after.refusals ≡ last_64 (before.refusals ++ flat_map (refusal_of before.opening) due)
 
 -- As many turns as the limit were taken, or fewer where the next was the end.
 abbrev pub AreTurns : ℕ → Bool → List Due → Type 0

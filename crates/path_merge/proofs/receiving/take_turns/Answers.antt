@@ -27,8 +27,8 @@ loop-preserved-in-Ok-Datagram g c =
       few = omega (arith, before.few);
       room = w.ensures.room ∙ before.room;
       receiver = c.take.ensures.receiver;
-      so_far = datagram_taken c.loop.counter c.loop.delivered w.count w.path c.next.new.buf (turns c.args.source.now) (turns c.loop.source) (turns c.next.new.self)
-          c.args.receiver.now c.loop.receiver c.take.new.self before.so_far turn c.take.ensures.opening c.take.ensures.frames;
+      so_far = datagram_taken c.loop.counter c.loop.delivered w.count w.path c.next.new.buf c.take.result (turns c.args.source.now) (turns c.loop.source) (turns c.next.new.self)
+          c.args.receiver.now c.loop.receiver c.take.new.self before.so_far before.receiver turn c.take.ensures.opening c.take.ensures.frames c.take.ensures.answer c.take.ensures.refusals;
       delivered = counts_more c.loop.delivered (counted c.args.source.now) (counted c.loop.source) (counted c.next.new.self) before.delivered one;
       failures = w.ensures.counted ∙ before.failures;
     }
