@@ -68,10 +68,10 @@ fn last_refusals(rt: HostRuntime) -> Result<(), Fail> {
     assert_eq!(rt; receiver.take(Path::A, &[]), Err(short));
     assert_eq!(rt; refusal(&receiver, 0), Some((Path::A, short)));
     let version = Refusal::Header(RtpFault::BadVersion);
-    let mut octets = hex::decode(rt.alloc(), UPPER).expect(&rt, "digits");
-    octets[0] = 0x40;
+    let other_version = "40E00001000003840000000100000008000000008010801180128013";
     for k in 1..65usize {
-        assert_eq!(rt; receiver.take(Path::B, octets.as_slice()), Err(version));
+        let answer = take(&rt, &mut receiver, Path::B, other_version);
+        assert_eq!(rt; answer, Err(version));
         assert_eq!(rt; receiver.refusal_count(), (k + 1).min(64));
         assert_eq!(rt;
             take(&rt, &mut receiver, Path::A, UPPER),
