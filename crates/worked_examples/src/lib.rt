@@ -31,4 +31,6 @@ mod sdp_runs;
 #[cfg(test)]
 mod sending;
 #[cfg(test)]
+mod turns;
+#[cfg(test)]
 mod two_paths;
