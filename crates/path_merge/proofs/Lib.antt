@@ -12,4 +12,5 @@ pub mod BitLemmas
 pub mod Runs
 pub mod NumberSets
 pub mod NumberLaws
+pub mod MergeLemmas
 pub mod TurnLemmas

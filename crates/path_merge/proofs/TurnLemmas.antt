@@ -12,7 +12,7 @@ use Rattle.st_format.specs.Device.{CountsOne}
 use Rattle.st_format.specs.Position.{sample_count}
 use Rattle.st_format.specs.Raster.{Raster, IsWhole, cells_of, joined, raster_of}
 use Rattle.st_format.specs.Turns.{Due, Comes, Nothing, GivesTurns, TakesTurn, datagrams_of}
-use Rattle.st_format.proofs.Rasters.{joined-assoc, joined_none}
+use Rattle.st_format.proofs.Rasters.{joined_none}
 use Rattle.path_merge.specs.declared.answer.Refusal.{Refusal}
 use Rattle.path_merge.specs.declared.answer.Taken.{Taken}
 use Rattle.path_merge.specs.declared.receiving.ReceiveFault.{ReceiveFault}
@@ -22,14 +22,9 @@ use Rattle.path_merge.specs.Answers.{last_64, refusals_after, taken_at}
 use Rattle.path_merge.specs.Opening.{Opening}
 use Rattle.path_merge.specs.Took.{CountsAll, TakesDue, Took, TookUpTo, delivered_in, refused_by, refusal_of}
 use Rattle.path_merge.proofs.Frames.{frames_of-append}
+use Rattle.path_merge.proofs.MergeLemmas.{joined_frames-assoc}
 
 -- ---- joins of frames
-
-joined_frames-assoc : (rs qs ps : List Raster) → joined_frames (joined_frames rs qs) ps ≡ joined_frames rs (joined_frames qs ps)
-joined_frames-assoc [] qs ps = refl
-joined_frames-assoc (r ∷ rs) [] ps = refl
-joined_frames-assoc (r ∷ rs) (q ∷ qs) [] = refl
-joined_frames-assoc (r ∷ rs) (q ∷ qs) (p ∷ ps) = rw (joined-assoc r.cells q.cells p.cells, joined_frames-assoc rs qs ps) refl
 
 abbrev with_cells : Raster → List Cell → Raster
 with_cells r cells = record { format = r.format; cells = cells }

@@ -12,7 +12,7 @@ ghost use Rattle.packet_plan.specs.declared.run.PacketRun.{PacketRun};
 ghost use Rattle.packet_plan.specs.declared.stamp.Stamp.{Stamp};
 ghost use Rattle.packet_plan.specs.Sender.{IsSenderList, Sender, stamp_of};
 ghost use Rattle.packet_plan.specs.Sent.{IsSentPacket, IsSentPicture};
-ghost use Rattle.path_merge.specs.Frames.{frame_at, frames_of, joined_frames};
+ghost use Rattle.path_merge.specs.Frames.{IsReceiver, State, frame_at, frames_of, joined_frames};
 ghost use Rattle.path_merge.specs.Grammar.{Datagram, IsFor};
 ghost use Rattle.path_merge.specs.Offers.{offers};
 ghost use Rattle.path_merge.specs.Opening.{Opening};
@@ -29,6 +29,14 @@ pub fn same_datagrams()
 /// The frames of two lists of datagrams are the joins of their frames.
 pub fn both_lists()
     ensures { (o : Opening) (xs ys : List (List ℕ)) → frames_of o (xs ++ ys) ≡ joined_frames (frames_of o xs) (frames_of o ys) }
+{}
+
+/// Merging receivers that were opened alike is commutative, associative and idempotent on their frames: a
+/// stream can be received in pieces anywhere, and merged in any tree (SMPTE ST 2022-7).
+pub fn any_tree()
+    ensures commutative { (s t : State) → s.opening ≡ t.opening → IsReceiver s → IsReceiver t → joined_frames s.frames t.frames ≡ joined_frames t.frames s.frames }
+    ensures associative { (s t u : State) → joined_frames (joined_frames s.frames t.frames) u.frames ≡ joined_frames s.frames (joined_frames t.frames u.frames) }
+    ensures idempotent { (s : State) → joined_frames s.frames s.frames ≡ s.frames }
 {}
 
 /// What a datagram for a receiver offers is what its segments spell, at its timestamp (RFC 4175, 4.3).
