@@ -1,8 +1,15 @@
 -- Lines of output.
 use Rattle.std.specs.Prelude.{ℕ, List, ◌++◌, codes, Option, Some, None}
 use Rattle.std.specs.Fmt.{decimal}
+use Rattle.frame_assembly.specs.declared.counts.Counts.{Counts}
 use Rattle.st2110_tool.specs.declared.answer.Answer.{Answer}
-use Rattle.st2110_tool.specs.declared.answer.Answer.TheVariants.{Kept, Outside, Refused, Missing, Value, Contested, Nowhere, Frame}
+use Rattle.st2110_tool.specs.declared.answer.Answer.TheVariants.{Kept, Outside, Refused, Missing, Value, Contested, Nowhere, Frame, Out, NotSlid, Absent}
+
+-- a word, a timestamp and how many samples are of each kind
+abbrev pub counts_text : List ℕ → ℕ → Counts → List ℕ
+counts_text word timestamp counts =
+    word ++ (decimal timestamp ++ (codes " present " ++ (decimal counts.present
+    ++ (codes " missing " ++ (decimal counts.missing ++ (codes " contested " ++ decimal counts.contested))))))
 
 -- the text of an answer; that of a refusal holds a name of the crate below
 abbrev pub answer_text : Answer → Option (List ℕ)
@@ -13,6 +20,7 @@ answer_text Missing = Some (codes "missing")
 answer_text (Value v) = Some (codes "value " ++ decimal v)
 answer_text Contested = Some (codes "contested")
 answer_text Nowhere = Some (codes "none")
-answer_text (Frame timestamp counts) =
-    Some (codes "frame " ++ (decimal timestamp ++ (codes " present " ++ (decimal counts.present
-    ++ (codes " missing " ++ (decimal counts.missing ++ (codes " contested " ++ decimal counts.contested)))))))
+answer_text (Frame timestamp counts) = Some (counts_text (codes "frame ") timestamp counts)
+answer_text (Out timestamp counts) = Some (counts_text (codes "out ") timestamp counts)
+answer_text (NotSlid fault) = None
+answer_text (Absent first count) = Some (codes "absent " ++ (decimal first ++ (codes " " ++ decimal count)))

@@ -15,6 +15,7 @@ abbrev pub Blames : Fault → ℕ → ℕ → Type 0
 Blames (fault.Script line) old new = new ≡ old
 Blames (fault.Format f) old new = new ≡ old
 Blames (fault.Open f) old new = new ≡ old
+Blames (fault.Numbers f) old new = new ≡ old
 Blames (fault.Sdp f) old new = new ≡ old
 Blames fault.Device old new = Failed old new
 Blames fault.Memory old new = new ≡ old
@@ -24,6 +25,7 @@ abbrev pub BlamesEither : Fault → ℕ → ℕ → ℕ → ℕ → Type 0
 BlamesEither (fault.Script line) old new old' new' = (new ≡ old) × (new' ≡ old')
 BlamesEither (fault.Format f) old new old' new' = (new ≡ old) × (new' ≡ old')
 BlamesEither (fault.Open f) old new old' new' = (new ≡ old) × (new' ≡ old')
+BlamesEither (fault.Numbers f) old new old' new' = (new ≡ old) × (new' ≡ old')
 BlamesEither (fault.Sdp f) old new old' new' = (new ≡ old) × (new' ≡ old')
 BlamesEither fault.Device old new old' new' = Failed old new ⊎ Failed old' new'
 BlamesEither fault.Memory old new old' new' = (new ≡ old) × (new' ≡ old')
@@ -40,6 +42,7 @@ abbrev pub ReadsAt : Fault → Option (List ℕ) → Option (List ℕ) → Type 
 ReadsAt (fault.Script line) old new = GivesAll old new
 ReadsAt (fault.Format f) old new = GivesAll old new
 ReadsAt (fault.Open f) old new = GivesAll old new
+ReadsAt (fault.Numbers f) old new = GivesAll old new
 ReadsAt (fault.Sdp f) old new = GivesAll old new
 ReadsAt fault.Device old new = ⊤
 ReadsAt fault.Memory old new = ⊤
@@ -53,11 +56,13 @@ abbrev pub Tells : Status → List ℕ → Status → ℕ → ℕ → Option (Li
 Tells status line result old new held held' =
     ((result ≡ status) × (new ≡ old) × Appends held held' line) ⊎ ((result ≡ Device) × Failed old new)
 
--- the text of a fault; that of a format, an opening or an SDP holds a name of the crate below
+-- the text of a fault; that of a format, an opening, a map of numbers or an SDP
+-- holds a name of the crate below
 abbrev pub fault_text : Fault → Option (List ℕ)
 fault_text (fault.Script line) = Some (codes "script " ++ decimal line)
 fault_text (fault.Format f) = None
 fault_text (fault.Open f) = None
+fault_text (fault.Numbers f) = None
 fault_text (fault.Sdp f) = None
 fault_text fault.Device = Some (codes "device")
 fault_text fault.Memory = Some (codes "memory")
@@ -79,6 +84,7 @@ abbrev pub IsLineOf : Fault → Status → List ℕ → Type 0
 IsLineOf (fault.Script n) status line = IsRefusalLine (fault_text (fault.Script n)) status line
 IsLineOf (fault.Format f) status line = IsRefusalLine (fault_text (fault.Format f)) status line
 IsLineOf (fault.Open f) status line = IsRefusalLine (fault_text (fault.Open f)) status line
+IsLineOf (fault.Numbers f) status line = IsRefusalLine (fault_text (fault.Numbers f)) status line
 IsLineOf (fault.Sdp f) status line = IsRefusalLine (fault_text (fault.Sdp f)) status line
 IsLineOf fault.Device status line = (status ≡ Device) × (line ≡ device_line)
 IsLineOf fault.Memory status line = (status ≡ Memory) × (line ≡ memory_line)

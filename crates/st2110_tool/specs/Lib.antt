@@ -1,7 +1,8 @@
 pub mod Number
 pub mod Fields
 pub mod Fault
-pub mod SdpFaults
+pub mod LowerFaults
 pub mod Status
 pub mod Script
 pub mod Answer
+pub mod Session

@@ -1,6 +1,6 @@
 //! Lines of output.
 use frame_assembly::Counts;
-use path_merge::Refusal;
+use path_merge::{Refusal, SlideFault};
 use std::fmt;
 
 /// What a run says of one line of a script, or of one frame.
@@ -22,6 +22,12 @@ pub(crate) enum Answer {
     Nowhere,
     /// How many samples of the frame of this timestamp are of each kind.
     Frame(u32, Counts),
+    /// The frame of this timestamp left the window, with so many samples of each kind.
+    Out(u32, Counts),
+    /// The window did not move on.
+    NotSlid(SlideFault),
+    /// Of the numbers that are noted, none came from this one on, so many of them.
+    Absent(u32, u32),
 }
 
 impl fmt::Display for Answer {
@@ -42,14 +48,32 @@ impl fmt::Display for Answer {
             Answer::Contested => f.write_str("contested"),
             Answer::Nowhere => f.write_str("none"),
             Answer::Frame(timestamp, counts) => {
-                let present = counts.present;
-                let missing = counts.missing;
-                let contested = counts.contested;
+                let (present, missing, contested) = (
+                    counts.present,
+                    counts.missing,
+                    counts.contested,
+                );
                 write!(
                     f,
                     "frame {timestamp} present {present} missing {missing} contested {contested}"
                 )
             }
+            Answer::Out(timestamp, counts) => {
+                let (present, missing, contested) = (
+                    counts.present,
+                    counts.missing,
+                    counts.contested,
+                );
+                write!(
+                    f,
+                    "out {timestamp} present {present} missing {missing} contested {contested}"
+                )
+            }
+            Answer::NotSlid(fault) => {
+                let number = fault.number();
+                write!(f, "refused slide {number} {fault}")
+            }
+            Answer::Absent(first, count) => write!(f, "absent {first} {count}"),
         }
     }
 }

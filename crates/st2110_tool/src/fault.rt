@@ -1,5 +1,5 @@
 //! What ends a run before its end.
-use path_merge::OpenFault;
+use path_merge::{OpenFault, SeqMapFault};
 use sdp_format::SdpFault;
 use st_format::{DeviceFault, FormatFault};
 use std::alloc::AllocError;
@@ -14,6 +14,8 @@ pub(crate) enum Fault {
     Format(FormatFault),
     /// There is no such receiver.
     Open(OpenFault),
+    /// There is no such map of packet numbers.
+    Numbers(SeqMapFault),
     /// The SDP is refused.
     Sdp(SdpFault),
     /// A device failed.
@@ -33,9 +35,23 @@ impl From<AllocError> for Fault {
     }
 }
 
+impl From<SeqMapFault> for Fault {
+    ghost use Rattle.std.specs.Prelude.{◌≡◌};
+    ghost use Rattle.st2110_tool.specs.LowerFaults.{of_numbers};
+
+    ghost from_gives = { λ refusal fault. fault ≡ of_numbers refusal };
+
+    fn from(refusal: SeqMapFault) -> Fault {
+        match refusal {
+            SeqMapFault::NoMemory => Fault::Memory,
+            refusal => Fault::Numbers(refusal),
+        }
+    }
+}
+
 impl From<SdpFault> for Fault {
     ghost use Rattle.std.specs.Prelude.{◌≡◌};
-    ghost use Rattle.st2110_tool.specs.SdpFaults.{of_sdp};
+    ghost use Rattle.st2110_tool.specs.LowerFaults.{of_sdp};
 
     ghost from_gives = { λ refusal fault. fault ≡ of_sdp refusal };
 
@@ -73,6 +89,10 @@ impl fmt::Display for Fault {
             Fault::Open(fault) => {
                 let number = fault.number();
                 write!(f, "open {number} {fault}")
+            }
+            Fault::Numbers(fault) => {
+                let number = fault.number();
+                write!(f, "numbers {number} {fault}")
             }
             Fault::Sdp(fault) => {
                 let number = fault.number();

@@ -8,6 +8,7 @@ mod line;
 mod number;
 mod script;
 mod sdp;
+mod session;
 mod status;
 mod telling;
 mod trace;

@@ -31,6 +31,10 @@ pub(crate) struct OpenLine<'a> {
 pub(crate) enum TraceLine<'a> {
     /// `A HEX` or `B HEX`.
     Datagram(Path, &'a [u8]),
+    /// `slide TS`.
+    Slide(u32),
+    /// `numbers FIRST COUNT`.
+    Numbers(u32, u32),
     /// `cell TS ROW COL COMP`.
     Cell(Place),
 }
@@ -143,6 +147,11 @@ pub(crate) fn read_trace_line(text: &[u8]) -> Option<TraceLine<'_>> {
     match word {
         b"A" => Some(TraceLine::Datagram(Path::A, rest)),
         b"B" => Some(TraceLine::Datagram(Path::B, rest)),
+        b"slide" => Some(TraceLine::Slide(read_number(rest)?)),
+        b"numbers" => {
+            let (first, count) = split_once(rest, b' ')?;
+            Some(TraceLine::Numbers(read_number(first)?, read_number(count)?))
+        }
         b"cell" => Some(TraceLine::Cell(read_place(rest)?)),
         _ => None,
     }

@@ -8,13 +8,14 @@ ghost use Rattle.st2110_tool.specs.Script.{GivesAll, GivesScript};
 use crate::answer::Answer;
 use crate::fault::Fault;
 use crate::line::{
-    Place, TraceLine, read_format_line, read_octets, read_open_line, read_trace_line, read_window,
+    TraceLine, read_format_line, read_octets, read_open_line, read_trace_line, read_window,
 };
 use crate::script::{Line, Lines, Script, read_script};
+use crate::session::Session;
 use crate::status::Status;
 use crate::telling::{LINE, tell, tell_memory};
-use path_merge::{OpenFault, Receiver, Taken};
-use st_format::{ByteSink, ByteSource, Cell, Format, write_whole};
+use path_merge::{OpenFault, Receiver, SeqMap};
+use st_format::{ByteSink, ByteSource, Format, write_whole};
 use std::alloc::Allocator;
 
 /// The greatest number of octets of a datagram.
@@ -23,9 +24,10 @@ const DATAGRAM: usize = 65_535;
 /// Runs the script that the source gives, and answers the exit status.
 ///
 /// The script is read whole; then its lines are followed one by one, and what each says is printed to
-/// `output`. At the end a line for the frame of each timestamp of the window is printed. The status is 0;
-/// or 1 where the script, its format or its opening is refused, 3 where a device failed, and 4 where the
-/// allocator refused memory, which `faults` is told by one line.
+/// `output`. At the end a line for the frame of each timestamp of the window is printed, and one for each run
+/// of numbers that did not come, where numbers are noted. The status is 0; or 1 where the script, its format,
+/// its opening or its count of numbers is refused, 3 where a device failed, and 4 where the allocator refused
+/// memory, which `faults` is told by one line.
 pub fn run_trace<A, S, O, F>(alloc: A, source: &mut S, output: &mut O, faults: &mut F) -> u8
 where
     A: Allocator + Copy,
@@ -78,12 +80,14 @@ fn play<A: Allocator + Copy, O: ByteSink>(
 {
     let mut lines = Lines::new(&script.octets);
     let format = read_format(&mut lines)?;
-    let mut receiver = open_receiver(alloc, format, &mut lines)?;
-    play_lines(alloc, &mut lines, &mut receiver, output, text)?;
+    let receiver = open_receiver(alloc, format, &mut lines)?;
+    let mut session = Session::new(alloc, receiver)?;
+    play_lines(alloc, &mut lines, &mut session, output, text)?;
     if script.is_cut {
         return Err(Fault::Script(lines.following()));
     }
-    print_frames(&receiver, output, text)
+    print_frames(&session.receiver, output, text)?;
+    print_absent(alloc, &session.numbers, output, text)
 }
 
 fn read_format(lines: &mut Lines<'_>) -> Result<Format, Fault>
@@ -134,7 +138,7 @@ fn open_receiver<A: Allocator + Copy>(
 fn play_lines<A: Allocator + Copy, O: ByteSink>(
     alloc: A,
     lines: &mut Lines<'_>,
-    receiver: &mut Receiver<A>,
+    session: &mut Session<A>,
     output: &mut O,
     text: &mut String<A>,
 ) -> Result<(), Fault>
@@ -142,51 +146,52 @@ fn play_lines<A: Allocator + Copy, O: ByteSink>(
 {
     let mut octets = Vec::from_elem(alloc, 0u8, DATAGRAM)?;
     while let Some(line) = lines.next() {
-        let answer = answer_to(line, receiver, &mut octets)?;
-        print(answer, output, text)?;
+        play_line(alloc, line, session, &mut octets, output, text)?;
     }
     Ok(())
 }
 
-fn answer_to<A: Allocator>(
+/// Follows a line, and prints what it says.
+fn play_line<A: Allocator + Copy, O: ByteSink>(
+    alloc: A,
     line: Line<'_>,
-    receiver: &mut Receiver<A>,
+    session: &mut Session<A>,
     octets: &mut [u8],
-) -> Result<Answer, Fault>
-    ensures { IfErr result (λ fault. fault ≡ Fault.Script line.entry.number) }
+    output: &mut O,
+    text: &mut String<A>,
+) -> Result<(), Fault>
+    ensures { Accounts result (O.failures output.old) (O.failures output.new) }
 {
-    match read_trace_line(line.text) {
-        Some(TraceLine::Datagram(path, digits)) => match read_octets(digits, octets) {
-            Some(n) => Ok(match receiver.take(path, &octets[..n]) {
-                Ok(Taken::Kept(number)) => Answer::Kept(number),
-                Ok(Taken::Outside) => Answer::Outside,
-                Err(refusal) => Answer::Refused(refusal),
-            }),
-            None => Err(Fault::Script(line.number)),
-        },
-        Some(TraceLine::Cell(place)) => Ok(cell_answer(receiver, place)),
-        None => Err(Fault::Script(line.number)),
+    match answer_to(alloc, line, session, octets)? {
+        Some(answer) => print(answer, output, text),
+        None => Ok(()),
     }
 }
 
-fn cell_answer<A: Allocator>(receiver: &Receiver<A>, place: Place) -> Answer {
-    let Some(frame) = receiver.frame(place.timestamp) else {
-        return Answer::Nowhere;
+/// Follows a line, and tells what is to be printed, if anything.
+fn answer_to<A: Allocator>(
+    alloc: A,
+    line: Line<'_>,
+    session: &mut Session<A>,
+    octets: &mut [u8],
+) -> Result<Option<Answer>, Fault>
+    ensures { IfErr result (λ fault. fault ≢ Fault.Device) }
+{
+    let Some(said) = read_trace_line(line.text) else {
+        return Err(Fault::Script(line.number));
     };
-    let Ok(component) = u8::try_from(place.component) else {
-        return Answer::Nowhere;
-    };
-    if !frame
-        .format()
-        .has_position(place.row, place.column, component)
-    {
-        return Answer::Nowhere;
-    }
-    match frame.cell(place.row, place.column, component) {
-        Cell::Missing => Answer::Missing,
-        Cell::Value(value) => Answer::Value(value),
-        Cell::Contested => Answer::Contested,
-    }
+    Ok(match said {
+        TraceLine::Datagram(path, digits) => match read_octets(digits, octets) {
+            Some(n) => Some(session.take(path, &octets[..n])),
+            None => return Err(Fault::Script(line.number)),
+        },
+        TraceLine::Slide(next) => Some(session.slide(next)),
+        TraceLine::Numbers(first, count) => {
+            session.open_numbers(alloc, line.number, first, count)?;
+            None
+        }
+        TraceLine::Cell(place) => Some(session.cell(place)),
+    })
 }
 
 fn print_frames<A: Allocator, O: ByteSink>(
@@ -200,6 +205,24 @@ fn print_frames<A: Allocator, O: ByteSink>(
         if let Some(frame) = receiver.frame(*timestamp) {
             print(Answer::Frame(*timestamp, frame.counts()), output, text)?;
         }
+    }
+    Ok(())
+}
+
+/// Prints the runs of numbers that did not come, where numbers are noted.
+fn print_absent<A: Allocator + Copy, O: ByteSink>(
+    alloc: A,
+    numbers: &Option<SeqMap<A>>,
+    output: &mut O,
+    text: &mut String<A>,
+) -> Result<(), Fault>
+    ensures { Accounts result (O.failures output.old) (O.failures output.new) }
+{
+    let Some(numbers) = numbers else {
+        return Ok(());
+    };
+    for (first, count) in numbers.missing_runs(alloc)? {
+        print(Answer::Absent(first, count), output, text)?;
     }
     Ok(())
 }

@@ -1,0 +1,16 @@
+-- Faults of the crates below as faults that end a run: want of memory is told as such, and any other refusal by
+-- its number and name (own).
+use Rattle.path_merge.specs.declared.seq_map.SeqMapFault.{SeqMapFault}
+use Rattle.path_merge.specs.declared.seq_map.SeqMapFault.TheVariants as numbers
+use Rattle.sdp_format.specs.declared.fault.SdpFault.{SdpFault}
+use Rattle.sdp_format.specs.declared.fault.SdpFault.TheVariants as sdp
+use Rattle.st2110_tool.specs.declared.fault.Fault.{Fault}
+use Rattle.st2110_tool.specs.declared.fault.Fault.TheVariants.{Numbers, Sdp, Memory}
+
+abbrev pub of_sdp : SdpFault → Fault
+of_sdp sdp.NoMemory = Memory
+of_sdp refusal = Sdp refusal
+
+abbrev pub of_numbers : SeqMapFault → Fault
+of_numbers numbers.NoMemory = Memory
+of_numbers refusal = Numbers refusal

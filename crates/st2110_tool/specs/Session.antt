@@ -1,0 +1,62 @@
+-- What the lines of a script do to a receiver and to what stands beside it.
+use Rattle.std.specs.Prelude.{◌≡◌, ℕ, Option, Some, None, Result, Ok, Err, count_by, slice_get}
+use Rattle.frame_assembly.specs.declared.counts.Counts.{Counts}
+use Rattle.path_merge.specs.declared.answer.Refusal.{Refusal}
+use Rattle.path_merge.specs.declared.answer.Taken.{Taken}
+use Rattle.path_merge.specs.declared.answer.Taken.TheVariants as taken
+use Rattle.path_merge.specs.Frames.{State}
+use Rattle.path_merge.specs.Numbers.{Numbers, place_of, with_place}
+use Rattle.path_merge.specs.Sliding.{slid}
+use Rattle.st_format.specs.Cell.{is_contested, is_missing, is_present}
+use Rattle.st_format.specs.declared.cell.Cell.{Cell}
+use Rattle.st_format.specs.declared.cell.Cell.TheVariants as cell
+use Rattle.st_format.specs.Member.{IsMember}
+use Rattle.st_format.specs.Position.{IsPosition, Position}
+use Rattle.st_format.specs.Raster.{Raster}
+use Rattle.st2110_tool.specs.declared.answer.Answer.{Answer}
+use Rattle.st2110_tool.specs.declared.answer.Answer.TheVariants.{Kept, Outside, Refused, Missing, Value, Contested, Out}
+
+-- the answer to a datagram, by what the receiver says of it
+abbrev pub datagram_answer : Result Taken Refusal → Answer
+datagram_answer (Ok (taken.Kept number)) = Kept number
+datagram_answer (Ok taken.Outside) = Outside
+datagram_answer (Err refusal) = Refused refusal
+
+-- numbers with one number more, where any are noted
+abbrev pub with_number : ℕ → Option Numbers → Option Numbers
+with_number number None = None
+with_number number (Some m) = Some (with_place m (place_of m number))
+
+-- the numbers behind a datagram: that of a datagram that was kept is noted, and no other (own)
+abbrev pub numbers_after : Result Taken Refusal → Option Numbers → Option Numbers
+numbers_after (Ok (taken.Kept number)) numbers = with_number number numbers
+numbers_after (Ok taken.Outside) numbers = numbers
+numbers_after (Err refusal) numbers = numbers
+
+-- how many cells of a frame are of each kind
+abbrev pub counts_of : Raster → Counts
+counts_of r = record {
+  present = count_by is_present r.cells;
+  missing = count_by is_missing r.cells;
+  contested = count_by is_contested r.cells;
+}
+
+-- A slide to a timestamp that the window has not: the window moves on, and the answer tells of its first
+-- timestamp and of that one's frame, which is then the spare one (own).
+pub record IsSlide (old : State) (next : ℕ) (new : State) (spare : Raster) (answer : Answer) : Type 0 where
+  pub first : ℕ
+  pub first_is : slice_get old.opening.window 0 ≡ Some first
+  pub moved : new ≡ slid old next
+  pub frame_is : slice_get old.frames 0 ≡ Some spare
+  pub answer_is : answer ≡ Out first (counts_of spare)
+
+-- a sample of a frame of the window
+pub record IsPlace (s : State) (timestamp : ℕ) (p : Position) : Type 0 where
+  pub inside : IsMember timestamp s.opening.window
+  pub position : IsPosition s.opening.format p
+
+-- the answer to a question for a cell
+abbrev pub cell_answer : Cell → Answer
+cell_answer cell.Missing = Missing
+cell_answer (cell.Value v) = Value v
+cell_answer cell.Contested = Contested

@@ -1,0 +1,128 @@
+//! What the lines of a script are followed with.
+ghost use Rattle.std.specs.Prelude.{◌≡◌, ◌≢◌, ◌↔◌, ◌∷◌, [], IfErr, IfOk, IsErrOf, None, OnOk, Some, false, replicate};
+ghost use Rattle.path_merge.specs.Answers.{taken_at};
+ghost use Rattle.path_merge.specs.Frames.{cell_in, frames_of, joined_frames};
+ghost use Rattle.path_merge.specs.Numbers.{IsCount};
+ghost use Rattle.st_format.specs.Member.{IsMember};
+ghost use Rattle.st2110_tool.specs.Session.{IsPlace, IsSlide, cell_answer, datagram_answer, numbers_after, with_number};
+
+use crate::answer::Answer;
+use crate::fault::Fault;
+use crate::line::Place;
+use frame_assembly::Frame;
+use path_merge::{Receiver, SeqMap, SeqMapFault, SlideFault, Taken};
+use st_format::{Cell, Path};
+use std::alloc::{AllocError, Allocator};
+
+/// A receiver, and what stands beside it while the lines of a script are followed.
+#[derive(Drop)]
+pub(crate) struct Session<A: Allocator> {
+    pub receiver: Receiver<A>,
+    /// The frame that a slide exchanges for the one that leaves.
+    spare: Frame<A>,
+    /// The numbers of the datagrams that were kept since the line `numbers`.
+    pub numbers: Option<SeqMap<A>>,
+    ghost alike: { spare.format ≡ receiver.opening.format },
+}
+
+impl<A: Allocator> Session<A> {
+    /// A receiver with a spare frame of its format, and no numbers.
+    ///
+    /// `AllocError` comes only where the allocator refused the memory for the frame.
+    pub fn new(alloc: A, receiver: Receiver<A>) -> Result<Session<A>, AllocError>
+        ensures receiver { IfOk result (λ s. s.receiver ≡ receiver) }
+        ensures numbers { IfOk result (λ s. s.numbers ≡ None) }
+    {
+        let spare = Frame::new(alloc, receiver.format())?;
+        Ok(Session {
+            receiver,
+            spare,
+            numbers: None,
+        })
+    }
+
+    /// Takes a datagram, and notes its number where it is kept.
+    pub fn take(&mut self, path: Path, octets: &[u8]) -> Answer
+        ensures answer { result ≡ datagram_answer (taken_at self.old.receiver.opening octets.now) }
+        ensures opening { self.new.receiver.opening ≡ self.old.receiver.opening }
+        ensures frames { self.new.receiver.frames ≡ joined_frames self.old.receiver.frames (frames_of self.old.receiver.opening (octets.now ∷ [])) }
+        ensures numbers { self.new.numbers ≡ numbers_after (taken_at self.old.receiver.opening octets.now) self.old.numbers }
+    {
+        match self.receiver.take(path, octets) {
+            Ok(Taken::Kept(number)) => {
+                note(&mut self.numbers, number);
+                Answer::Kept(number)
+            }
+            Ok(Taken::Outside) => Answer::Outside,
+            Err(refusal) => Answer::Refused(refusal),
+        }
+    }
+
+    /// Moves the window on to a timestamp, and tells of the frame that leaves. Frames are exchanged.
+    pub fn slide(&mut self, next: u32) -> Answer
+        ensures refused { IsMember next self.old.receiver.opening.window → (result ≡ Answer.NotSlid SlideFault.InWindow) × (self.new.receiver ≡ self.old.receiver) }
+        ensures slid { (IsMember next self.old.receiver.opening.window → ⊥) → IsSlide self.old.receiver next self.new.receiver self.new.spare result }
+        ensures numbers { self.new.numbers ≡ self.old.numbers }
+    {
+        // What its format tells: each of its frames has it
+        self.receiver.format();
+        match self.receiver.slide(next, &mut self.spare) {
+            Ok(first) => Answer::Out(first, self.spare.counts()),
+            Err(fault) => Answer::NotSlid(fault),
+        }
+    }
+
+    /// Begins to note the numbers of the datagrams that are kept, which a script may do once: `line` is at
+    /// fault where it has done so before. Then a count may be refused, and last memory may be wanted.
+    pub fn open_numbers(
+        &mut self,
+        alloc: A,
+        line: usize,
+        first: u32,
+        count: u32,
+    ) -> Result<(), Fault>
+        ensures twice { IsErrOf result (Fault.Script line) ↔ (self.old.numbers ≢ None) }
+        ensures count { IsErrOf result (Fault.Numbers SeqMapFault.BadCount) ↔ ((self.old.numbers ≡ None) × (IsCount count → ⊥)) }
+        ensures refused { IfErr result (λ fault. fault ≢ Fault.Device) }
+        ensures opened { OnOk result (self.new.numbers ≡ Some (record { first = first; noted = replicate count false })) }
+        ensures receiver { self.new.receiver ≡ self.old.receiver }
+    {
+        if self.numbers.is_some() {
+            return Err(Fault::Script(line));
+        }
+        self.numbers = Some(SeqMap::open(alloc, first, count)?);
+        Ok(())
+    }
+
+    /// What is known of a sample.
+    pub fn cell(&self, place: Place) -> Answer
+        ensures there { IsPlace self.now.receiver place.timestamp (record { row = place.row; column = place.column; component = place.component })
+            → result ≡ cell_answer (cell_in self.now.receiver place.timestamp (record { row = place.row; column = place.column; component = place.component })) }
+        ensures nowhere { (IsPlace self.now.receiver place.timestamp (record { row = place.row; column = place.column; component = place.component }) → ⊥) → result ≡ Answer.Nowhere }
+    {
+        let Some(frame) = self.receiver.frame(place.timestamp) else {
+            return Answer::Nowhere;
+        };
+        let Ok(component) = u8::try_from(place.component) else {
+            return Answer::Nowhere;
+        };
+        let format = self.receiver.format();
+        if !format.has_position(place.row, place.column, component) {
+            return Answer::Nowhere;
+        }
+        match frame.cell(place.row, place.column, component) {
+            Cell::Missing => Answer::Missing,
+            Cell::Value(value) => Answer::Value(value),
+            Cell::Contested => Answer::Contested,
+        }
+    }
+}
+
+/// Notes a number, where numbers are noted.
+fn note<A: Allocator>(numbers: &mut Option<SeqMap<A>>, number: u32)
+    ensures { numbers.new ≡ with_number number numbers.old }
+{
+    if let Some(numbers) = numbers {
+        numbers.note(number);
+    }
+}
