@@ -54,6 +54,7 @@ pub fn receive<S: DatagramSource, A: Allocator>(
         → Holds receiver.new (datagrams ++ take (delivered_in result) (datagrams_of due)) }
 
     // What the source counts, and its fault.
+    ensures few { delivered_in result ≤ limit }
     ensures delivered { CountsAll (delivered_in result) (S.delivered source.old) (S.delivered source.new) }
     ensures counted { CountsFaults (S.failures source.old) (S.failures source.new) result }
     ensures fault { IfErr result (λ e. S.last_fault source.new ≡ Some e.fault) }
@@ -76,6 +77,7 @@ fn take_turns<S: DatagramSource, A: Allocator>(
 ) -> Result<Received, ReceiveFault>
     requires room { 65535 ≤ length buf.old }
     requires receiver { IsReceiver receiver.old }
+    ensures few { delivered_in result ≤ limit }
     ensures took { MatchResult result
         (λ r. Took limit r (S.turns source.old) (S.turns source.new) receiver.old receiver.new)
         (λ e. TookUpTo limit e.delivered (S.turns source.old) receiver.old receiver.new) }
