@@ -213,16 +213,16 @@ fn cells(rt: HostRuntime) -> Result<(), Fail> {
     Ok(())
 }
 
-/// Lines that this program does not know yet.
+/// Lines of other scripts than `trace`'s.
 #[test]
-fn lines_of_later_engines(rt: HostRuntime) -> Result<(), Fail> {
+fn lines_of_other_scripts(rt: HostRuntime) -> Result<(), Fail> {
     for (script, line) in [
         (
-            "format YCbCr-4:2:2 8 4 2 60/1\nopen 96 any 900\nnumbers 0 1\n",
+            "format YCbCr-4:2:2 8 4 2 60/1\nopen 96 any 900\nstamp 96 0 900 1\n",
             3,
         ),
         (
-            "format YCbCr-4:2:2 8 4 2 60/1\nopen 96 any 900\nslide 2400\n",
+            "format YCbCr-4:2:2 8 4 2 60/1\nopen 96 any 900\nslide 0 2400\n",
             3,
         ),
     ] {

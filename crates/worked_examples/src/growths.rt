@@ -31,7 +31,7 @@ fn frames(rt: HostRuntime) -> Result<(), Fail> {
     Ok(())
 }
 
-fn opened<A: Allocator>(alloc: A, format: Format) -> Result<u64, OpenFault> {
+fn opened<A: Allocator + Copy>(alloc: A, format: Format) -> Result<u64, OpenFault> {
     let receiver = Receiver::open(alloc, format, 96, None, &[900])?;
     match receiver.frame(900) {
         Some(frame) => Ok(frame.counts().missing),

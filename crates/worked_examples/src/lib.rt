@@ -34,3 +34,5 @@ mod sending;
 mod turns;
 #[cfg(test)]
 mod two_paths;
+#[cfg(test)]
+mod windows;
