@@ -1,4 +1,5 @@
-use Rattle.std.proofs.Common.{List, ℕ, Some, ap, sym, ◌∙◌, subst, ◌≡◌, ◌∷◌, [], Ok, Result}
+use Rattle.std.proofs.Common.{List, ℕ, Some, length, ap, sym, ◌∙◌, subst, arith, ◌≡◌, ◌<◌, ◌∷◌, [], Ok, Result}
+use Rattle.st_format.specs.Raster.{Raster}
 use Rattle.std.specs.Prelude.{slice_get}
 use Rattle.st_format.specs.Member.{IsMember}
 use Rattle.path_merge.specs.declared.answer.Refusal.{Refusal}
@@ -8,8 +9,8 @@ use Rattle.path_merge.specs.Admission.{datagram_of}
 use Rattle.path_merge.specs.Answers.{taken_at}
 use Rattle.path_merge.specs.Frames.{State, frames_of, joined_frames}
 use Rattle.path_merge.proofs.Answered.{taken_inside, taken_outside}
-use Rattle.path_merge.proofs.Joined.{frames_kept, frames_outside}
-use Rattle.path_merge.proofs.Windows.{member_get, not_member}
+use Rattle.path_merge.proofs.Joined.{frames_kept, frames_outside, receiver_set}
+use Rattle.path_merge.proofs.Windows.{below_get, member_get, not_member}
 use Rattle.path_merge.proofs.receiver.Receiver.join.Goals as goal
 
 abbrev Joins : List ℕ → State → Type 0
@@ -44,3 +45,26 @@ returns-in-Some-clause-frames g c =
     let at = subst (λ (w : List ℕ). slice_get w c.in-Some.place ≡ Some d.timestamp) c.as_slice.ensures.value c.in-Some.ensures.found in
     frames_kept _ c.args.octets.now d c.in-Some.place c.put.new.self c.index_mut.result.now c.self.invariant.0 c.in_ok-datagram.ensures.exact at c.index_mut.ensures.value c.put.ensures.format c.put.ensures.cells
     ∙ ap (λ (s : State). joined_frames s.frames (frames_of s.opening (c.args.octets.now ∷ []))) c.self.view_is
+
+pub index_mut-requires : goal.index_mut-requires
+index_mut-requires g c =
+    let ts = c.in_ok-datagram.datagram.header.timestamp in
+    let at = subst (λ (w : List ℕ). slice_get w c.in-Some.place ≡ Some ts) c.as_slice.ensures.value c.in-Some.ensures.found in
+    let lt : c.in-Some.place < length c.self.inside.window.items = below_get ts c.in-Some.place c.self.inside.window.items at in
+    omega (arith, lt, c.self.invariant.0.one_each)
+
+pub put-requires : goal.put-requires
+put-requires g c =
+    let ts = c.in_ok-datagram.datagram.header.timestamp in
+    let at = subst (λ (w : List ℕ). slice_get w c.in-Some.place ≡ Some ts) c.as_slice.ensures.value c.in-Some.ensures.found in
+    let lt : c.in-Some.place < length c.self.inside.window.items = below_get ts c.in-Some.place c.self.inside.window.items at in
+    c.in_ok-datagram.ensures.format
+    ∙ sym (ap (λ (r : Raster). r.format) c.index_mut.ensures.value ∙ c.self.invariant.0.of_format c.in-Some.place c.index_mut.result.now (omega (arith, lt, c.self.invariant.0.one_each)))
+
+pub invariant_of-self : goal.invariant_of-self
+invariant_of-self g c =
+    let ts = c.in_ok-datagram.datagram.header.timestamp in
+    let at = subst (λ (w : List ℕ). slice_get w c.in-Some.place ≡ Some ts) c.as_slice.ensures.value c.in-Some.ensures.found in
+    let lt : c.in-Some.place < length c.self.inside.window.items = below_get ts c.in-Some.place c.self.inside.window.items at in
+    let of_format = ap (λ (r : Raster). r.format) c.index_mut.ensures.value ∙ c.self.invariant.0.of_format c.in-Some.place c.index_mut.result.now (omega (arith, lt, c.self.invariant.0.one_each)) in
+    (receiver_set _ c.in-Some.place c.put.new.self c.self.invariant.0 (c.put.ensures.format ∙ of_format) c.put.ensures.whole, c.self.invariant.1)
