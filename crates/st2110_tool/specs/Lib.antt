@@ -6,3 +6,4 @@ pub mod Status
 pub mod Script
 pub mod Answer
 pub mod Session
+pub mod Forms

@@ -1,5 +1,5 @@
 //! Fields of a line.
-ghost use Rattle.std.specs.Prelude.{◌≡◌, ◌<◌, ◌==◌, IfSome, length, position};
+ghost use Rattle.std.specs.Prelude.{◌≡◌, ◌≢◌, ◌<◌, ◌==◌, ◌++◌, List, ℕ, IfSome, MatchOption, length, position};
 ghost use Rattle.std.specs.Option.{option_map};
 ghost use Rattle.st2110_tool.specs.Fields.{parted};
 
@@ -12,6 +12,13 @@ pub(crate) fn split_once(text: &[u8], separator: u8) -> Option<(&[u8], &[u8])>
         Some(place) => Some((&text[..place], &text[place + 1..])),
         None => None,
     }
+}
+
+/// The text behind a word, where it begins so.
+pub(crate) fn after_word<'a>(text: &'a [u8], word: &[u8]) -> Option<&'a [u8]>
+    ensures cases { MatchOption result ((rest : List ℕ) → text.now ≢ word.now ++ rest) (λ rest. text.now ≡ word.now ++ rest.now) }
+{
+    text.strip_prefix(word)
 }
 
 /// The index of the first `octet`.

@@ -1,7 +1,8 @@
 //! What a line of a script says.
-ghost use Rattle.std.specs.Prelude.{◌≡◌, ◌≤◌, ◌<◌, length, IfSome};
+ghost use Rattle.std.specs.Prelude.{◌≡◌, ◌≤◌, ◌<◌, ℕ, length, IfNone, IfSome};
+ghost use Rattle.st2110_tool.specs.Forms.{AreFour, AreTwo, IsTraceLine};
 
-use crate::fields::split_once;
+use crate::fields::{after_word, split_once};
 use crate::number::read_number;
 use st_format::{Depth, Path, Sampling};
 use std::alloc::{AllocError, Allocator};
@@ -142,30 +143,48 @@ pub(crate) fn read_window<A: Allocator>(
     Ok(Some(window))
 }
 
-pub(crate) fn read_trace_line(text: &[u8]) -> Option<TraceLine<'_>> {
-    let (word, rest) = split_once(text, b' ')?;
-    match word {
-        b"A" => Some(TraceLine::Datagram(Path::A, rest)),
-        b"B" => Some(TraceLine::Datagram(Path::B, rest)),
-        b"slide" => Some(TraceLine::Slide(read_number(rest)?)),
-        b"numbers" => {
-            let (first, count) = split_once(rest, b' ')?;
-            Some(TraceLine::Numbers(read_number(first)?, read_number(count)?))
-        }
-        b"cell" => Some(TraceLine::Cell(read_place(rest)?)),
-        _ => None,
+/// What a line behind the first two says, where it is of a form.
+pub(crate) fn read_trace_line(text: &[u8]) -> Option<TraceLine<'_>>
+    ensures is { IfSome result (λ line. IsTraceLine text.now line) }
+    ensures none { IfNone result ((line : TraceLine) → IsTraceLine text.now line → ⊥) }
+{
+    if let Some(digits) = after_word(text, b"A ") {
+        return Some(TraceLine::Datagram(Path::A, digits));
     }
+    if let Some(digits) = after_word(text, b"B ") {
+        return Some(TraceLine::Datagram(Path::B, digits));
+    }
+    if let Some(rest) = after_word(text, b"slide ") {
+        return Some(TraceLine::Slide(read_number(rest)?));
+    }
+    if let Some(rest) = after_word(text, b"numbers ") {
+        let (first, count) = read_two(rest)?;
+        return Some(TraceLine::Numbers(first, count));
+    }
+    let rest = after_word(text, b"cell ")?;
+    Some(TraceLine::Cell(read_place(rest)?))
 }
 
-fn read_place(text: &[u8]) -> Option<Place> {
+fn read_two(text: &[u8]) -> Option<(u32, u32)>
+    ensures is { IfSome result (λ p. AreTwo text.now p.0 p.1) }
+    ensures none { IfNone result ((m n : ℕ) → AreTwo text.now m n → ⊥) }
+{
+    let (first, second) = split_once(text, b' ')?;
+    Some((read_number(first)?, read_number(second)?))
+}
+
+fn read_place(text: &[u8]) -> Option<Place>
+    ensures is { IfSome result (λ place. AreFour text.now place) }
+    ensures none { IfNone result ((place : Place) → AreFour text.now place → ⊥) }
+{
     let (timestamp, rest) = split_once(text, b' ')?;
     let (row, rest) = split_once(rest, b' ')?;
-    let (column, component) = split_once(rest, b' ')?;
+    let (column, component) = read_two(rest)?;
     Some(Place {
         timestamp: read_number(timestamp)?,
         row: read_number(row)?,
-        column: read_number(column)?,
-        component: read_number(component)?,
+        column,
+        component,
     })
 }
 
