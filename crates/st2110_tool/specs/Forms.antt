@@ -1,7 +1,11 @@
 -- The forms of a script's lines.
-use Rattle.std.specs.Prelude.{◌≡◌, ℕ, List, ◌++◌, codes, Some}
+use Rattle.std.specs.Prelude.{◌≡◌, ◌≤◌, ℕ, List, ◌++◌, codes, Option, None, Some}
 use Rattle.std.specs.Str.Parse.{digits_value}
 use Rattle.st_format.specs.declared.path.Path.TheVariants as path
+use Rattle.st_format.specs.declared.format.Sampling.{Sampling}
+use Rattle.st_format.specs.declared.format.Sampling.TheVariants as sampling
+use Rattle.st_format.specs.Pgroup.{bits_of}
+use Rattle.st2110_tool.specs.declared.line.FormatLine.{FormatLine}
 use Rattle.st2110_tool.specs.declared.line.Place.{Place}
 use Rattle.st2110_tool.specs.declared.line.TraceLine.{TraceLine}
 use Rattle.st2110_tool.specs.declared.line.TraceLine.TheVariants.{Datagram, Slide, Numbers, Cell}
@@ -32,6 +36,70 @@ pub record AreFour (text : List ℕ) (p : Place) : Type 0 where
   pub timestamp_is : Spells timestamp p.timestamp
   pub row_is : Spells row p.row
   pub last_are : AreTwo last p.column p.component
+
+-- the words for a sampling
+abbrev pub sampling_text : Sampling → List ℕ
+sampling_text sampling.Ycc422 = codes "YCbCr-4:2:2"
+sampling_text sampling.Ycc444 = codes "YCbCr-4:4:4"
+sampling_text sampling.Rgb = codes "RGB"
+
+-- two numbers, parted by the first stroke
+pub record IsRate (text : List ℕ) (n d : ℕ) : Type 0 where
+  pub over : List ℕ
+  pub under : List ℕ
+  pub parts : parted 47 text ≡ Some (over, under)
+  pub over_is : Spells over n
+  pub under_is : Spells under d
+
+-- the fields behind a width
+pub record AreHeightAndRate (text : List ℕ) (height n d : ℕ) : Type 0 where
+  pub first : List ℕ
+  pub rate : List ℕ
+  pub parts : parted 32 text ≡ Some (first, rate)
+  pub height_is : Spells first height
+  pub rate_is : IsRate rate n d
+
+-- Six fields, parted by spaces but the last two, which a stroke parts (own)
+pub record AreFormat (text : List ℕ) (f : FormatLine) : Type 0 where
+  pub depth : List ℕ
+  pub width : List ℕ
+  pub behind : List ℕ
+  pub more : List ℕ
+  pub last : List ℕ
+  pub parts : parted 32 text ≡ Some (sampling_text f.sampling, behind)
+  pub parts_behind : parted 32 behind ≡ Some (depth, more)
+  pub parts_more : parted 32 more ≡ Some (width, last)
+  pub depth_is : Spells depth (bits_of f.depth)
+  pub width_is : Spells width f.width
+  pub last_are : AreHeightAndRate last f.height f.n f.d
+
+-- a line `format S B W H N/D` (own)
+pub record IsFormatLine (text : List ℕ) (f : FormatLine) : Type 0 where
+  pub rest : List ℕ
+  pub text_is : text ≡ codes "format " ++ rest
+  pub fields : AreFormat rest f
+
+-- a number, or `any` for none
+abbrev pub IsSourceText : List ℕ → Option ℕ → Type 0
+IsSourceText text None = text ≡ codes "any"
+IsSourceText text (Some n) = Spells text n
+
+-- a payload type of 7 bits, a source and a window, parted by spaces
+pub record AreOpening (text : List ℕ) (payload_type : ℕ) (ssrc : Option ℕ) (window : List ℕ) : Type 0 where
+  pub number : List ℕ
+  pub source : List ℕ
+  pub behind : List ℕ
+  pub parts : parted 32 text ≡ Some (number, behind)
+  pub parts_behind : parted 32 behind ≡ Some (source, window)
+  pub number_is : Spells number payload_type
+  pub seven_bits : payload_type ≤ 127
+  pub source_is : IsSourceText source ssrc
+
+-- a line `open PT SSRC WINDOW`, whose window is text yet (own)
+pub record IsOpenLine (text : List ℕ) (payload_type : ℕ) (ssrc : Option ℕ) (window : List ℕ) : Type 0 where
+  pub rest : List ℕ
+  pub text_is : text ≡ codes "open " ++ rest
+  pub fields : AreOpening rest payload_type ssrc window
 
 -- Lines of `trace` behind the first two: a word, one space and what follows (own)
 abbrev pub IsTraceLine : List ℕ → TraceLine → Type 0

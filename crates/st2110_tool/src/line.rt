@@ -1,6 +1,7 @@
 //! What a line of a script says.
-ghost use Rattle.std.specs.Prelude.{◌≡◌, ◌≤◌, ◌<◌, ℕ, length, IfNone, IfSome};
-ghost use Rattle.st2110_tool.specs.Forms.{AreFour, AreTwo, IsTraceLine};
+ghost use Rattle.std.specs.Prelude.{◌≡◌, ◌≢◌, ◌≤◌, ◌<◌, ℕ, List, Option, length, IfNone, IfSome};
+ghost use Rattle.st2110_tool.specs.Forms.{AreFormat, AreFour, AreHeightAndRate, AreOpening, AreTwo, IsFormatLine, IsOpenLine, IsRate, IsSourceText, IsTraceLine, Spells, sampling_text};
+ghost use Rattle.st_format.specs.Pgroup.{bits_of};
 
 use crate::fields::{after_word, split_once};
 use crate::number::read_number;
@@ -49,35 +50,70 @@ pub(crate) struct Place {
     pub component: u32,
 }
 
-pub(crate) fn read_format_line(text: &[u8]) -> Option<FormatLine> {
-    let Some((b"format", rest)) = split_once(text, b' ') else {
-        return None;
-    };
-    let (sampling, rest) = split_once(rest, b' ')?;
+/// What a line `format` says.
+pub(crate) fn read_format_line(text: &[u8]) -> Option<FormatLine>
+    ensures is { IfSome result (λ line. IsFormatLine text.now line) }
+    ensures none { IfNone result ((line : FormatLine) → IsFormatLine text.now line → ⊥) }
+{
+    let rest = after_word(text, b"format ")?;
+    read_format_fields(rest)
+}
+
+fn read_format_fields(text: &[u8]) -> Option<FormatLine>
+    ensures is { IfSome result (λ line. AreFormat text.now line) }
+    ensures none { IfNone result ((line : FormatLine) → AreFormat text.now line → ⊥) }
+{
+    let (sampling, rest) = split_once(text, b' ')?;
     let (depth, rest) = split_once(rest, b' ')?;
     let (width, rest) = split_once(rest, b' ')?;
-    let (height, rate) = split_once(rest, b' ')?;
-    let (n, d) = split_once(rate, b'/')?;
+    let (height, n, d) = read_height_and_rate(rest)?;
     Some(FormatLine {
         sampling: read_sampling(sampling)?,
         depth: read_depth(depth)?,
         width: read_number(width)?,
-        height: read_number(height)?,
-        n: read_number(n)?,
-        d: read_number(d)?,
+        height,
+        n,
+        d,
     })
 }
 
-fn read_sampling(text: &[u8]) -> Option<Sampling> {
-    match text {
-        b"YCbCr-4:2:2" => Some(Sampling::Ycc422),
-        b"YCbCr-4:4:4" => Some(Sampling::Ycc444),
-        b"RGB" => Some(Sampling::Rgb),
-        _ => None,
-    }
+fn read_height_and_rate(text: &[u8]) -> Option<(u32, u32, u32)>
+    ensures is { IfSome result (λ p. AreHeightAndRate text.now p.0 p.1 p.2) }
+    ensures none { IfNone result ((height n d : ℕ) → AreHeightAndRate text.now height n d → ⊥) }
+{
+    let (height, rate) = split_once(text, b' ')?;
+    let (n, d) = read_rate(rate)?;
+    Some((read_number(height)?, n, d))
 }
 
-fn read_depth(text: &[u8]) -> Option<Depth> {
+fn read_rate(text: &[u8]) -> Option<(u32, u32)>
+    ensures is { IfSome result (λ p. IsRate text.now p.0 p.1) }
+    ensures none { IfNone result ((n d : ℕ) → IsRate text.now n d → ⊥) }
+{
+    let (n, d) = split_once(text, b'/')?;
+    Some((read_number(n)?, read_number(d)?))
+}
+
+fn read_sampling(text: &[u8]) -> Option<Sampling>
+    ensures is { IfSome result (λ s. text.now ≡ sampling_text s) }
+    ensures none { IfNone result ((s : Sampling) → text.now ≢ sampling_text s) }
+{
+    if text == b"YCbCr-4:2:2".as_slice() {
+        return Some(Sampling::Ycc422);
+    }
+    if text == b"YCbCr-4:4:4".as_slice() {
+        return Some(Sampling::Ycc444);
+    }
+    if text == b"RGB".as_slice() {
+        return Some(Sampling::Rgb);
+    }
+    None
+}
+
+fn read_depth(text: &[u8]) -> Option<Depth>
+    ensures is { IfSome result (λ depth. Spells text.now (bits_of depth)) }
+    ensures none { IfNone result ((depth : Depth) → Spells text.now (bits_of depth) → ⊥) }
+{
     match read_number(text)? {
         8 => Some(Depth::D8),
         10 => Some(Depth::D10),
@@ -87,11 +123,20 @@ fn read_depth(text: &[u8]) -> Option<Depth> {
     }
 }
 
-pub(crate) fn read_open_line(text: &[u8]) -> Option<OpenLine<'_>> {
-    let Some((b"open", rest)) = split_once(text, b' ') else {
-        return None;
-    };
-    let (payload_type, rest) = split_once(rest, b' ')?;
+/// What a line `open` says; its window is text yet.
+pub(crate) fn read_open_line(text: &[u8]) -> Option<OpenLine<'_>>
+    ensures is { IfSome result (λ line. IsOpenLine text.now line.payload_type line.ssrc line.window.now) }
+    ensures none { IfNone result ((payload_type : ℕ) (ssrc : Option ℕ) (window : List ℕ) → IsOpenLine text.now payload_type ssrc window → ⊥) }
+{
+    let rest = after_word(text, b"open ")?;
+    read_opening(rest)
+}
+
+fn read_opening(text: &[u8]) -> Option<OpenLine<'_>>
+    ensures is { IfSome result (λ line. AreOpening text.now line.payload_type line.ssrc line.window.now) }
+    ensures none { IfNone result ((payload_type : ℕ) (ssrc : Option ℕ) (window : List ℕ) → AreOpening text.now payload_type ssrc window → ⊥) }
+{
+    let (payload_type, rest) = split_once(text, b' ')?;
     let (ssrc, window) = split_once(rest, b' ')?;
     Some(OpenLine {
         payload_type: read_payload_type(payload_type)?,
@@ -101,7 +146,9 @@ pub(crate) fn read_open_line(text: &[u8]) -> Option<OpenLine<'_>> {
 }
 
 fn read_payload_type(text: &[u8]) -> Option<u8>
-    ensures { IfSome result (λ n. n ≤ 127) }
+    ensures range { IfSome result (λ n. n ≤ 127) }
+    ensures is { IfSome result (λ n. Spells text.now n) }
+    ensures none { IfNone result ((n : ℕ) → n ≤ 127 → Spells text.now n → ⊥) }
 {
     let number = read_number(text)?;
     if number <= 127 {
@@ -112,11 +159,14 @@ fn read_payload_type(text: &[u8]) -> Option<u8>
 }
 
 /// A pinned SSRC, or none.
-fn read_source(text: &[u8]) -> Option<Option<u32>> {
-    match text {
-        b"any" => Some(None),
-        _ => Some(Some(read_number(text)?)),
+fn read_source(text: &[u8]) -> Option<Option<u32>>
+    ensures is { IfSome result (λ source. IsSourceText text.now source) }
+    ensures none { IfNone result ((source : Option ℕ) → IsSourceText text.now source → ⊥) }
+{
+    if text == b"any".as_slice() {
+        return Some(None);
     }
+    Some(Some(read_number(text)?))
 }
 
 /// The timestamps of a window, and none where the text isn't of its form.
