@@ -1,8 +1,9 @@
 //! The engine of `trace`.
-ghost use Rattle.std.specs.Prelude.{◌≡◌, ◌≢◌, ◌≤◌, ◌<◌, ◌⊎◌, false, length, IfErr, OnOk};
+ghost use Rattle.std.specs.Prelude.{◌≡◌, ◌≢◌, ◌≤◌, ◌<◌, ◌⊎◌, false, length, Err, IfErr, OnOk};
 ghost use Rattle.std.specs.Io.KnownBytes.{Appends};
 ghost use Rattle.st_format.specs.Device.{Failed};
 ghost use Rattle.st2110_tool.specs.Fault.{Accounts, AccountsBoth, Reads, memory_line};
+ghost use Rattle.st2110_tool.specs.Forms.{IsTraceLine};
 ghost use Rattle.st2110_tool.specs.Script.{GivesAll, GivesScript};
 
 use crate::answer::Answer;
@@ -175,7 +176,8 @@ fn answer_to<A: Allocator>(
     session: &mut Session<A>,
     octets: &mut [u8],
 ) -> Result<Option<Answer>, Fault>
-    ensures { IfErr result (λ fault. fault ≢ Fault.Device) }
+    ensures refused { IfErr result (λ fault. fault ≢ Fault.Device) }
+    ensures unknown { ((said : TraceLine) → IsTraceLine line.entry.text.now said → ⊥) → result ≡ Err (Fault.Script line.entry.number) }
 {
     let Some(said) = read_trace_line(line.text) else {
         return Err(Fault::Script(line.number));
