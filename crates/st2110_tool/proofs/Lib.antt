@@ -1,3 +1,5 @@
 mod LineLemmas
 mod FrameLemmas
 mod FormLemmas
+pub mod OctetLemmas
+pub mod TimestampLemmas

@@ -1,5 +1,6 @@
 -- The forms of a script's lines.
-use Rattle.std.specs.Prelude.{◌≡◌, ◌≤◌, ℕ, List, ◌++◌, codes, Option, None, Some}
+use Rattle.std.specs.Prelude.{◌≡◌, ◌≤◌, ℕ, List, [], ◌∷◌, ◌++◌, codes, Option, None, Some, Ok}
+use Rattle.hex.specs.Hex.{decode_of}
 use Rattle.std.specs.Str.Parse.{digits_value}
 use Rattle.st_format.specs.declared.path.Path.TheVariants as path
 use Rattle.st_format.specs.declared.format.Sampling.{Sampling}
@@ -100,6 +101,22 @@ pub record IsOpenLine (text : List ℕ) (payload_type : ℕ) (ssrc : Option ℕ)
   pub rest : List ℕ
   pub text_is : text ≡ codes "open " ++ rest
   pub fields : AreOpening rest payload_type ssrc window
+
+-- one timestamp or more, parted by commas
+abbrev pub AreTimestamps : List ℕ → List ℕ → Type 0
+AreTimestamps text [] = ⊥
+AreTimestamps text (t ∷ []) = (parted 44 text ≡ None) × Spells text t
+AreTimestamps text (t ∷ u ∷ ts) = (first : List ℕ) × (rest : List ℕ) × (parted 44 text ≡ Some (first, rest)) × Spells first t × AreTimestamps rest (u ∷ ts)
+
+-- The timestamps of a window, or `-` for none (own)
+abbrev pub IsWindowText : List ℕ → List ℕ → Type 0
+IsWindowText text [] = text ≡ codes "-"
+IsWindowText text (t ∷ ts) = AreTimestamps text (t ∷ ts)
+
+-- The octets of a datagram: two hexadecimal digits of either case for each, or `-` for none (own)
+abbrev pub IsOctetsText : List ℕ → List ℕ → Type 0
+IsOctetsText text [] = text ≡ codes "-"
+IsOctetsText text (b ∷ octets) = decode_of text ≡ Ok (b ∷ octets)
 
 -- Lines of `trace` behind the first two: a word, one space and what follows (own)
 abbrev pub IsTraceLine : List ℕ → TraceLine → Type 0

@@ -1,6 +1,7 @@
 //! What a line of a script says.
-ghost use Rattle.std.specs.Prelude.{◌≡◌, ◌≢◌, ◌≤◌, ◌<◌, ℕ, List, Option, length, IfNone, IfSome};
-ghost use Rattle.st2110_tool.specs.Forms.{AreFormat, AreFour, AreHeightAndRate, AreOpening, AreTwo, IsFormatLine, IsOpenLine, IsRate, IsSourceText, IsTraceLine, Spells, sampling_text};
+ghost use Rattle.std.specs.Prelude.{◌≡◌, ◌≢◌, ◌≤◌, ◌<◌, ℕ, List, Ok, Option, length, take, IfNone, IfOk, IfSome, IsFalse, IsTrue};
+ghost use Rattle.hex.specs.Hex.{decode_of};
+ghost use Rattle.st2110_tool.specs.Forms.{AreFormat, AreFour, AreHeightAndRate, AreOpening, AreTimestamps, AreTwo, IsFormatLine, IsOctetsText, IsOpenLine, IsRate, IsWindowText, IsSourceText, IsTraceLine, Spells, sampling_text};
 ghost use Rattle.st_format.specs.Pgroup.{bits_of};
 
 use crate::fields::{after_word, split_once};
@@ -173,24 +174,38 @@ fn read_source(text: &[u8]) -> Option<Option<u32>>
 pub(crate) fn read_window<A: Allocator>(
     alloc: A,
     text: &[u8],
-) -> Result<Option<Vec<u32, A>>, AllocError> {
-    let mut window = Vec::new(alloc);
-    if let b"-" = text {
-        return Ok(Some(window));
+) -> Result<Option<Vec<u32, A>>, AllocError>
+    ensures is { IfOk result (λ window. IfSome window (λ w. IsWindowText text.now w.items)) }
+    ensures none { IfOk result (λ window. IfNone window ((said : List ℕ) → IsWindowText text.now said → ⊥)) }
+{
+    if text == b"-".as_slice() {
+        return Ok(Some(Vec::new(alloc)));
     }
+    read_timestamps(alloc, text)
+}
+
+/// Timestamps parted by commas, and none where the text isn't of that form.
+fn read_timestamps<A: Allocator>(
+    alloc: A,
+    text: &[u8],
+) -> Result<Option<Vec<u32, A>>, AllocError>
+    ensures is { IfOk result (λ window. IfSome window (λ w. AreTimestamps text.now w.items)) }
+    ensures none { IfOk result (λ window. IfNone window ((said : List ℕ) → AreTimestamps text.now said → ⊥)) }
+{
+    let mut timestamps = Vec::new(alloc);
     let mut rest = text;
     while let Some((first, more)) = split_once(rest, b',') {
         let Some(timestamp) = read_number(first) else {
             return Ok(None);
         };
-        window.push(timestamp)?;
+        timestamps.push(timestamp)?;
         rest = more;
     }
     let Some(timestamp) = read_number(rest) else {
         return Ok(None);
     };
-    window.push(timestamp)?;
-    Ok(Some(window))
+    timestamps.push(timestamp)?;
+    Ok(Some(timestamps))
 }
 
 /// What a line behind the first two says, where it is of a form.
@@ -238,16 +253,32 @@ fn read_place(text: &[u8]) -> Option<Place>
     })
 }
 
-/// Reads the octets of a datagram, and answers how many they are.
+/// Reads the octets of a datagram to the front of `octets`, and answers how many they are.
 pub(crate) fn read_octets(text: &[u8], octets: &mut [u8]) -> Option<usize>
-    ensures { IfSome result (λ n. n ≤ length octets.new) }
+    ensures within { IfSome result (λ n. n ≤ length octets.new) }
+    ensures room { length octets.new ≡ length octets.old }
+    ensures is { IfSome result (λ n. IsOctetsText text.now (take n octets.new)) }
+    ensures none { IfNone result ((said : List ℕ) → length said ≤ length octets.old → IsOctetsText text.now said → ⊥) }
 {
-    if let b"-" = text {
+    if text == b"-".as_slice() {
         return Some(0);
     }
     let n = text.len() / 2;
-    if n == 0 || n > octets.len() || hex::decode_to_slice(text, &mut octets[..n]).is_err() {
+    if n == 0 || n > octets.len() {
         return None;
     }
-    Some(n)
+    if decodes(text, &mut octets[..n]) {
+        Some(n)
+    } else {
+        None
+    }
+}
+
+/// Decodes hexadecimal digits, and tells whether they are those of just as many octets as there is room for.
+fn decodes(text: &[u8], octets: &mut [u8]) -> bool
+    ensures room { length octets.new ≡ length octets.old }
+    ensures is { IsTrue result → decode_of text.now ≡ Ok octets.new }
+    ensures none { IsFalse result → (said : List ℕ) → length said ≡ length octets.old → decode_of text.now ≡ Ok said → ⊥ }
+{
+    hex::decode_to_slice(text, octets).is_ok()
 }
