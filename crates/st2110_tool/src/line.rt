@@ -185,10 +185,7 @@ pub(crate) fn read_window<A: Allocator>(
 }
 
 /// Timestamps parted by commas, and none where the text isn't of that form.
-fn read_timestamps<A: Allocator>(
-    alloc: A,
-    text: &[u8],
-) -> Result<Option<Vec<u32, A>>, AllocError>
+fn read_timestamps<A: Allocator>(alloc: A, text: &[u8]) -> Result<Option<Vec<u32, A>>, AllocError>
     ensures is { IfOk result (λ window. IfSome window (λ w. AreTimestamps text.now w.items)) }
     ensures none { IfOk result (λ window. IfNone window ((said : List ℕ) → AreTimestamps text.now said → ⊥)) }
 {

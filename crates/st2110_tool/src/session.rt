@@ -1,6 +1,6 @@
 //! What the lines of a script are followed with.
 ghost use Rattle.std.specs.Prelude.{◌≡◌, ◌≢◌, ◌↔◌, ◌∷◌, [], IfErr, IfOk, IsErrOf, None, OnOk, Some, false, replicate};
-ghost use Rattle.path_merge.specs.Answers.{taken_at};
+ghost use Rattle.path_merge.specs.Answers.{refusals_after, taken_at};
 ghost use Rattle.path_merge.specs.Frames.{cell_in, frames_of, joined_frames};
 ghost use Rattle.path_merge.specs.Numbers.{IsCount};
 ghost use Rattle.st_format.specs.Member.{IsMember};
@@ -46,6 +46,7 @@ impl<A: Allocator> Session<A> {
         ensures answer { result ≡ datagram_answer (taken_at self.old.receiver.opening octets.now) }
         ensures opening { self.new.receiver.opening ≡ self.old.receiver.opening }
         ensures frames { self.new.receiver.frames ≡ joined_frames self.old.receiver.frames (frames_of self.old.receiver.opening (octets.now ∷ [])) }
+        ensures refusals { self.new.receiver.refusals ≡ refusals_after path (taken_at self.old.receiver.opening octets.now) self.old.receiver.refusals }
         ensures numbers { self.new.numbers ≡ numbers_after (taken_at self.old.receiver.opening octets.now) self.old.numbers }
     {
         match self.receiver.take(path, octets) {

@@ -1,10 +1,11 @@
 //! The engine of `trace`.
-ghost use Rattle.std.specs.Prelude.{◌≡◌, ◌≢◌, ◌≤◌, ◌<◌, ◌⊎◌, false, length, Err, IfErr, OnOk};
+ghost use Rattle.std.specs.Prelude.{◌≡◌, ◌≢◌, ◌≤◌, ◌<◌, ◌⊎◌, false, length, Err, IfErr, IfOk, OnOk};
 ghost use Rattle.std.specs.Io.KnownBytes.{Appends};
 ghost use Rattle.st_format.specs.Device.{Failed};
 ghost use Rattle.st2110_tool.specs.Fault.{Accounts, AccountsBoth, Reads, memory_line};
 ghost use Rattle.st2110_tool.specs.Forms.{IsTraceLine};
 ghost use Rattle.st2110_tool.specs.Script.{GivesAll, GivesScript};
+ghost use Rattle.st2110_tool.specs.Session.{Follows};
 
 use crate::answer::Answer;
 use crate::fault::Fault;
@@ -177,6 +178,8 @@ fn answer_to<A: Allocator>(
     octets: &mut [u8],
 ) -> Result<Option<Answer>, Fault>
     ensures refused { IfErr result (λ fault. fault ≢ Fault.Device) }
+    ensures follows { IfOk result (λ answer. (said : TraceLine) × IsTraceLine line.entry.text.now said
+        × Follows said session.old.receiver session.new.receiver session.old.numbers session.new.numbers answer) }
     ensures unknown { ((said : TraceLine) → IsTraceLine line.entry.text.now said → ⊥) → result ≡ Err (Fault.Script line.entry.number) }
 {
     let Some(said) = read_trace_line(line.text) else {
