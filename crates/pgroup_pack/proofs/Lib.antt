@@ -2,3 +2,4 @@ pub mod Numbers
 pub mod Units
 pub mod Values
 pub mod Blocks
+pub mod GroupLemmas

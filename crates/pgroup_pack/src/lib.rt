@@ -6,6 +6,7 @@
 #![tactic(auto)]
 
 mod eight_bits;
+mod groups;
 mod sixteen_bits;
 mod ten_bits;
 mod twelve_bits;
@@ -15,6 +16,7 @@ ghost use Rattle.pgroup_pack.specs.Packing.{Agree, Fit};
 ghost use Rattle.st_format.specs.Pgroup.{bits_of};
 ghost use Rattle.st_format.specs.Samples.{Spells, values_in};
 
+pub use groups::{blank, differing};
 use st_format::{Depth, Format};
 
 /// Reads the samples that octets spell, in the order in which they are sent.
