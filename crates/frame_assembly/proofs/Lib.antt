@@ -1,3 +1,5 @@
+pub mod PackedLemmas
+pub mod Runs
 pub mod WrittenLemmas
 pub mod Put
 pub mod Blocks
