@@ -1,5 +1,6 @@
 pub mod PackedLemmas
 pub mod Runs
+pub mod GroupJoins
 pub mod WrittenLemmas
 pub mod Put
 pub mod Blocks

@@ -1,10 +1,11 @@
 -- Runs of groups that are joined part by part.
-use Rattle.std.proofs.Common.{◌≡◌, ℕ, zero, suc, ◌+◌, ◌-◌, ◌*◌, ◌/◌, ◌<◌, ◌≤◌, Bool, true, false, ◌==◌, if◌then◌else◌, List, [], ◌∷◌, ◌++◌, length, take, drop, map, replicate, refl, sym, ap, ◌∙◌, subst, inl, inr, arith, append_assoc, length-append}
+use Rattle.std.proofs.Common.{◌≡◌, ℕ, zero, suc, ◌+◌, ◌-◌, ◌*◌, ◌/◌, ◌<◌, ◌≤◌, Bool, true, false, ◌==◌, if◌then◌else◌, List, [], ◌∷◌, ◌++◌, length, get_or, set, take, drop, map, replicate, refl, sym, ap, ◌∙◌, subst, inl, inr, arith, append_assoc, length-append}
 use Rattle.std.specs.Int.{bit_at}
 use Rattle.std.specs.List.{AllByRecursion}
 use Rattle.std.proofs.lemmas.Bool.{eq-eqb}
-use Rattle.std.proofs.lemmas.List.{append-nil, drop_all, drop-drop, drop_at, length-drop, length-take-le, take-append-drop, take_at, take_rest}
+use Rattle.std.proofs.lemmas.List.{append-nil, drop_all, drop_more, drop-drop, drop_at, length-drop, length-take-le, take-append-drop, take_at, take_rest}
 use Rattle.std.proofs.Math.Nat.{mul-add}
+use borrow.Rule.Slice.PartMut.{put_mid}
 use Rattle.std.proofs.Math.Seq.{take-add}
 use Rattle.st_format.specs.declared.cell.Cell.{Cell}
 use Rattle.st_format.specs.declared.cell.Cell.TheVariants.{Missing, Value, Contested}
@@ -13,7 +14,10 @@ use Rattle.st_format.specs.Raster.{joined}
 use Rattle.st_format.specs.Samples.{values_in}
 use Rattle.st_format.proofs.Spelled.{values_in-spelled}
 use Rattle.frame_assembly.specs.Packed.{IsMark, IsPacked, Joins, cells_from, known_value, marked, packed_cells, whole_marks}
-use Rattle.frame_assembly.proofs.PackedLemmas.{AreParts, AreSizes, IsPacked-parts, Joins-append, first_long, joined-append, length-cells_from, length-packed_cells, length-groups, one_long, rest_long}
+use Rattle.frame_assembly.proofs.PackedLemmas.{AreParts, AreSizes, IsPacked-parts, Joins-append, first_long, joined-append, length-cells_from, length-packed_cells, length-groups, one_long, rest_long, sizes}
+use Rattle.st_format.specs.declared.format.Sampling.{Sampling}
+use Rattle.st_format.specs.declared.format.Depth.{Depth}
+use Rattle.st_format.specs.Pgroup.{bits_of, pixel_group}
 
 -- ---- parts of a run
 
@@ -90,6 +94,11 @@ left_part n size samples at count marks octets other_marks others new_marks new_
     subst (λ (ms : List ℕ). IsPacked n size samples (take count ms) (octets_part size at count new_octets)) (sym so_far.marks_left)
     (subst (λ (os : List ℕ). IsPacked n size samples (marks_part at count marks) (take (size * count) os)) (sym so_far.octets_left)
     (packed_part n size samples at count marks octets are.sizes le are.packed))
+
+pub left_long : (n size samples at : ℕ) (marks octets other_marks others new_marks new_octets : List ℕ) → AreAlike n size samples marks octets other_marks others
+    → JoinedTo n size samples at marks octets other_marks others new_marks new_octets → length new_octets ≡ size * length new_marks
+left_long n size samples at marks octets other_marks others new_marks new_octets are so_far =
+    so_far.octets_long ∙ are.packed.long ∙ ap (λ (k : ℕ). size * k) (sym so_far.marks_long)
 
 -- a part written over
 abbrev pub written_part : {X : Type 0} → ℕ → ℕ → List X → List X → List X
@@ -171,3 +180,109 @@ joined_all n size samples at marks octets other_marks others new_marks new_octet
     let e4 = take_whole at new_marks (end ∙ sym so_far.marks_long) in
     let e5 = take_whole (size * at) new_octets (times ∙ sym are.packed.long ∙ sym so_far.octets_long) in
     rw (e0, e1, e2, e3, e4, e5) at before
+
+-- ---- the same in the numbers that the code's slices have
+
+-- a part from group number at on, as slices of marks and of octets have it
+pub record IsPart (size at count marks_at marks_count octets_at octets_count : ℕ) : Type 0 where
+  pub marks_at_is : marks_at ≡ at
+  pub marks_count_is : marks_count ≡ count
+  pub octets_at_is : octets_at ≡ size * at
+  pub octets_count_is : octets_count ≡ size * count
+
+-- from one number to another
+pub part_between : (size z at count end : ℕ) → z ≡ size → end ≡ at + count → IsPart size at count at (end - at) (z * at) (z * end - z * at)
+part_between size z at count end same e = record {
+  marks_at_is = refl;
+  marks_count_is = omega arith;
+  octets_at_is = ap (λ (x : ℕ). x * at) same;
+  octets_count_is = ap (λ (x : ℕ). x * end - x * at) same ∙ ap (λ (x : ℕ). size * x - size * at) e ∙ omega (arith, mul-add size at count);
+}
+
+-- from a number to the end
+pub part_behind : (size z at a count marks_long octets_long : ℕ) → z ≡ size → a ≡ at → at + count ≡ marks_long → octets_long ≡ size * marks_long
+    → IsPart size at count a (marks_long - a) (z * a) (octets_long - z * a)
+part_behind size z at a count marks_long octets_long same here e long = record {
+  marks_at_is = here;
+  marks_count_is = omega arith;
+  octets_at_is = ap (λ (x : ℕ). x * a) same ∙ ap (λ (x : ℕ). size * x) here;
+  octets_count_is = ap (λ (x : ℕ). octets_long - x * a) same ∙ ap (λ (x : ℕ). octets_long - size * x) here
+      ∙ ap (λ (x : ℕ). x - size * at) (long ∙ ap (λ (x : ℕ). size * x) (sym e)) ∙ omega (arith, mul-add size at count);
+}
+
+pub part_packed : (n size samples at count a c oa oc : ℕ) (marks octets : List ℕ) → IsPart size at count a c oa oc → AreSizes n size samples → at + count ≤ length marks → IsPacked n size samples marks octets
+    → IsPacked n size samples (take c (drop a marks)) (take oc (drop oa octets))
+part_packed n size samples at count a c oa oc marks octets at_part is le packed =
+    rw (at_part.marks_at_is, at_part.marks_count_is, at_part.octets_at_is, at_part.octets_count_is) (packed_part n size samples at count marks octets is le packed)
+
+pub left_packed : (n size samples at count a c oa oc : ℕ) (marks octets other_marks others new_marks new_octets : List ℕ) → IsPart size at count a c oa oc
+    → AreAlike n size samples marks octets other_marks others → at + count ≤ length marks → JoinedTo n size samples at marks octets other_marks others new_marks new_octets
+    → IsPacked n size samples (take c (drop a new_marks)) (take oc (drop oa new_octets))
+left_packed n size samples at count a c oa oc marks octets other_marks others new_marks new_octets at_part are le so_far =
+    rw (at_part.marks_at_is, at_part.marks_count_is, at_part.octets_at_is, at_part.octets_count_is) (left_part n size samples at count marks octets other_marks others new_marks new_octets are le so_far)
+
+pub part_joined : (n size samples at count end a c oa oc a1 c1 oa1 oc1 : ℕ) (marks octets other_marks others now_marks now_octets part_marks part_octets : List ℕ)
+    → IsPart size at count a c oa oc → IsPart size at count a1 c1 oa1 oc1
+    → AreAlike n size samples marks octets other_marks others → at + count ≤ length marks → end ≡ at + count
+    → JoinedTo n size samples at marks octets other_marks others now_marks now_octets
+    → Joins n size samples (take c (drop a now_marks)) (take oc (drop oa now_octets)) (take c1 (drop a1 other_marks)) (take oc1 (drop oa1 others)) part_marks part_octets
+    → JoinedTo n size samples end marks octets other_marks others (put_mid a c now_marks part_marks) (put_mid oa oc now_octets part_octets)
+part_joined n size samples at count end a c oa oc a1 c1 oa1 oc1 marks octets other_marks others now_marks now_octets part_marks part_octets here there are le e so_far step =
+    let others_here : Joins n size samples (take c (drop a now_marks)) (take oc (drop oa now_octets)) (marks_part at count other_marks) (octets_part size at count others) part_marks part_octets =
+        rw (← there.octets_at_is, ← there.octets_count_is, ← there.marks_at_is, ← there.marks_count_is) step in
+    let step_here : Joins n size samples (marks_part at count now_marks) (octets_part size at count now_octets) (marks_part at count other_marks) (octets_part size at count others) part_marks part_octets =
+        subst (λ (k : ℕ). Joins n size samples (marks_part at count now_marks) (take k (drop (size * at) now_octets)) (marks_part at count other_marks) (octets_part size at count others) part_marks part_octets) here.octets_count_is
+        (subst (λ (k : ℕ). Joins n size samples (marks_part at count now_marks) (take oc (drop k now_octets)) (marks_part at count other_marks) (octets_part size at count others) part_marks part_octets) here.octets_at_is
+        (subst (λ (k : ℕ). Joins n size samples (take k (drop at now_marks)) (take oc (drop oa now_octets)) (marks_part at count other_marks) (octets_part size at count others) part_marks part_octets) here.marks_count_is
+        (subst (λ (k : ℕ). Joins n size samples (take c (drop k now_marks)) (take oc (drop oa now_octets)) (marks_part at count other_marks) (octets_part size at count others) part_marks part_octets) here.marks_at_is others_here))) in
+    rw (here.marks_at_is, here.marks_count_is, here.octets_at_is, here.octets_count_is)
+    (joined_more n size samples at count end marks octets other_marks others now_marks now_octets part_marks part_octets are le e so_far step_here)
+
+pub are_alike : (s : Sampling) (d : Depth) (marks octets other_marks others : List ℕ)
+    → IsPacked (bits_of d) (pixel_group s d).octets (pixel_group s d).samples marks octets → IsPacked (bits_of d) (pixel_group s d).octets (pixel_group s d).samples other_marks others
+    → length other_marks ≡ length marks → AreAlike (bits_of d) (pixel_group s d).octets (pixel_group s d).samples marks octets other_marks others
+are_alike s d marks octets other_marks others packed other alike = record { sizes = sizes s d; packed = packed; other = other; alike = alike }
+
+-- ---- one group
+
+one_part : (i : ℕ) (xs : List ℕ) → i < length xs → take ((i + 1) - i) (drop i xs) ≡ get_or xs i 0 ∷ []
+one_part i xs lt =
+    let e : (i + 1) - i ≡ 1 = omega arith in
+    ap (λ (k : ℕ). take k (drop i xs)) e ∙ ap (take 1) (drop_more xs i 0 lt)
+
+set_split : (i : ℕ) (xs : List ℕ) (x : ℕ) → i < length xs → take i xs ++ x ∷ drop 1 (drop i xs) ≡ set xs i x
+set_split i [] x lt = absurd (omega arith)
+set_split zero (y ∷ ys) x lt = refl
+set_split (suc i) (y ∷ ys) x lt = ap (λ (zs : List ℕ). y ∷ zs) (set_split i ys x (omega arith))
+
+one_set : (i : ℕ) (xs : List ℕ) (x : ℕ) → i < length xs → put_mid i ((i + 1) - i) xs (x ∷ []) ≡ set xs i x
+one_set i xs x lt =
+    let e : (i + 1) - i ≡ 1 = omega arith in
+    ap (λ (k : ℕ). put_mid i k xs (x ∷ [])) e ∙ set_split i xs x lt
+
+pub one_packed : (n size samples i oa oc : ℕ) (marks octets : List ℕ) → IsPart size i 1 i ((i + 1) - i) oa oc → AreSizes n size samples → i < length marks → IsPacked n size samples marks octets
+    → IsPacked n size samples (get_or marks i 0 ∷ []) (take oc (drop oa octets))
+one_packed n size samples i oa oc marks octets here is lt packed =
+    subst (λ (ms : List ℕ). IsPacked n size samples ms (take oc (drop oa octets))) (one_part i marks lt)
+    (part_packed n size samples i 1 i ((i + 1) - i) oa oc marks octets here is (omega arith) packed)
+
+pub one_left : (n size samples i oa oc : ℕ) (marks octets other_marks others new_marks new_octets : List ℕ) → IsPart size i 1 i ((i + 1) - i) oa oc
+    → AreAlike n size samples marks octets other_marks others → i < length marks → JoinedTo n size samples i marks octets other_marks others new_marks new_octets
+    → IsPacked n size samples (get_or new_marks i 0 ∷ []) (take oc (drop oa new_octets))
+one_left n size samples i oa oc marks octets other_marks others new_marks new_octets here are lt so_far =
+    subst (λ (ms : List ℕ). IsPacked n size samples ms (take oc (drop oa new_octets))) (one_part i new_marks (omega (arith, so_far.marks_long)))
+    (left_packed n size samples i 1 i ((i + 1) - i) oa oc marks octets other_marks others new_marks new_octets here are (omega arith) so_far)
+
+pub one_joined : (n size samples i oa oc : ℕ) (marks octets other_marks others now_marks now_octets : List ℕ) (mark : ℕ) (part_octets : List ℕ)
+    → IsPart size i 1 i ((i + 1) - i) oa oc → AreAlike n size samples marks octets other_marks others → i < length marks
+    → JoinedTo n size samples i marks octets other_marks others now_marks now_octets
+    → Joins n size samples (get_or now_marks i 0 ∷ []) (take oc (drop oa now_octets)) (get_or other_marks i 0 ∷ []) (take oc (drop oa others)) (mark ∷ []) part_octets
+    → JoinedTo n size samples (i + 1) marks octets other_marks others (set now_marks i mark) (put_mid oa oc now_octets part_octets)
+one_joined n size samples i oa oc marks octets other_marks others now_marks now_octets mark part_octets here are lt so_far step =
+    let inside : i < length now_marks = omega (arith, so_far.marks_long) in
+    let others_inside : i < length other_marks = omega (arith, are.alike) in
+    let step_here : Joins n size samples (take ((i + 1) - i) (drop i now_marks)) (take oc (drop oa now_octets)) (take ((i + 1) - i) (drop i other_marks)) (take oc (drop oa others)) (mark ∷ []) part_octets =
+        rw (one_part i now_marks inside, one_part i other_marks others_inside) step in
+    subst (λ (ms : List ℕ). JoinedTo n size samples (i + 1) marks octets other_marks others ms (put_mid oa oc now_octets part_octets)) (one_set i now_marks mark inside)
+    (part_joined n size samples i 1 (i + 1) i ((i + 1) - i) oa oc i ((i + 1) - i) oa oc marks octets other_marks others now_marks now_octets (mark ∷ []) part_octets
+    here here are (omega arith) refl so_far step_here)

@@ -4,6 +4,7 @@
 mod absorbing;
 mod counts;
 mod frame;
+mod groups;
 mod joining;
 mod settling;
 
