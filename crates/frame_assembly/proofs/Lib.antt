@@ -1,7 +1,10 @@
 pub mod PackedLemmas
 pub mod Runs
 pub mod GroupJoins
+pub mod CellLemmas
+pub mod Segments
 pub mod WrittenLemmas
+pub mod SegmentPut
 pub mod Put
 pub mod Blocks
 pub mod SettledLemmas

@@ -28,7 +28,7 @@ marks_part at count marks = take count (drop at marks)
 abbrev pub octets_part : ℕ → ℕ → ℕ → List ℕ → List ℕ
 octets_part size at count octets = take (size * count) (drop (size * at) octets)
 
-times_le : (size a b : ℕ) → a ≤ b → size * a ≤ size * b
+pub times_le : (size a b : ℕ) → a ≤ b → size * a ≤ size * b
 times_le size a b le = omega (arith, mul-add size a (b - a), (let e : a + (b - a) ≡ b = omega arith in ap (λ (x : ℕ). size * x) e))
 
 pub packed_first : (n size samples at : ℕ) (marks octets : List ℕ) → AreSizes n size samples → at ≤ length marks → IsPacked n size samples marks octets
@@ -286,3 +286,12 @@ one_joined n size samples i oa oc marks octets other_marks others now_marks now_
     subst (λ (ms : List ℕ). JoinedTo n size samples (i + 1) marks octets other_marks others ms (put_mid oa oc now_octets part_octets)) (one_set i now_marks mark inside)
     (part_joined n size samples i 1 (i + 1) i ((i + 1) - i) oa oc i ((i + 1) - i) oa oc marks octets other_marks others now_marks now_octets (mark ∷ []) part_octets
     here here are (omega arith) refl so_far step_here)
+
+-- the marks alone, where the numbers are the part's own
+pub part_marks : {size at count a c oa oc : ℕ} → IsPart size at count a c oa oc → IsPart size at count at count oa oc
+part_marks here = record { marks_at_is = refl; marks_count_is = refl; octets_at_is = here.octets_at_is; octets_count_is = here.octets_count_is }
+
+pub marks_same : (n size samples : ℕ) (marks octets other_marks same_marks others new_marks new_octets : List ℕ) → other_marks ≡ same_marks
+    → Joins n size samples marks octets other_marks others new_marks new_octets → Joins n size samples marks octets same_marks others new_marks new_octets
+marks_same n size samples marks octets other_marks same_marks others new_marks new_octets e joins =
+    subst (λ (ms : List ℕ). Joins n size samples marks octets ms others new_marks new_octets) e joins

@@ -64,3 +64,8 @@ whole_marks count = replicate count 32768
 -- how many groups a raster has
 abbrev pub group_count : Format → ℕ
 group_count f = f.height * (f.width / (pixel_group f.sampling f.depth).pixels)
+
+-- What a frame keeps: all groups of its raster
+pub record IsKept (f : Format) (marks octets : List ℕ) : Type 0 where
+  pub whole : length marks ≡ group_count f
+  pub packed : ArePacked f marks octets

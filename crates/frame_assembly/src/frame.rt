@@ -9,9 +9,10 @@ ghost use Rattle.st_format.specs.Picture.{FitsDepth, IsPicture};
 ghost use Rattle.st_format.specs.Position.{IsPosition, Position};
 ghost use Rattle.st_format.specs.Raster.{IsWhole, blank, cell_at, cells_of, joined, joined_rasters, offers_in_all};
 
-use crate::absorbing::join_cells;
+use crate::cells::cell_in;
 use crate::counts::{Counts, count_cells};
-use crate::joining::join_segments;
+use crate::groups::{join_run, same_octets, same_words};
+use crate::joining::{group_total, join_segments};
 use crate::settling::settled_samples;
 use payload_header::PayloadView;
 use st_format::{Cell, Format, Picture};
@@ -25,22 +26,23 @@ use std::marker::Model;
 #[derive(Drop)]
 pub struct Frame<A: Allocator = Global> {
     format: Format,
-    cells: Vec<Cell, A>,
+    marks: Vec<u16, A>,
+    octets: Vec<u8, A>,
 }
 
 impl<A: Allocator> Model for Frame<A> {
-    ghost use Rattle.st_format.specs.Fit.{IsFrame};
+    ghost use Rattle.frame_assembly.specs.Packed.{IsKept, cells_in};
     ghost use Rattle.st_format.specs.Raster.{Raster};
 
     // The format, and the cells in raster order
     ghost Value = { Raster };
 
-    ghost view = { λ a. record { format = a.format; cells = a.cells.items } };
+    ghost view = { λ a. record { format = a.format; cells = cells_in a.format a.marks.items a.octets.items } };
 
-    ghost invariant = { λ a. IsFrame (record { format = a.format; cells = a.cells.items }) };
+    ghost invariant = { λ a. IsKept a.format a.marks.items a.octets.items };
 }
 
-impl<A: Allocator> Frame<A> {
+impl<A: Allocator + Copy> Frame<A> {
     /// A frame of which nothing is known: every cell is missing.
     ///
     /// `AllocError` comes only where the allocator refused the memory for the cells.
@@ -49,10 +51,18 @@ impl<A: Allocator> Frame<A> {
         ensures whole { IfOk result (λ f. IsWhole f) }
         ensures fit { IfOk result (λ f. ValuesFit f) }
     {
-        let cells = vec![in alloc; Cell::Missing; format.sample_count()]?;
-        Ok(Frame { format, cells })
+        let groups = group_total(&format);
+        let marks = Vec::from_elem(alloc, 0, groups)?;
+        let octets = Vec::from_elem(alloc, 0, format.pgroup().octets * groups)?;
+        Ok(Frame {
+            format,
+            marks,
+            octets,
+        })
     }
+}
 
+impl<A: Allocator> Frame<A> {
     /// The format that the frame was made with.
     pub fn format(&self) -> Format
         ensures format { result ≡ self.now.format }
@@ -71,7 +81,8 @@ impl<A: Allocator> Frame<A> {
         ensures cell { result ≡ cell_at self.now (record { row = row; column = column; component = component }) }
         ensures whole { IsWhole self.now }
     {
-        self.cells[self.format.sample_number(row, column, component)]
+        let number = self.format.sample_number(row, column, component);
+        cell_in(&self.format, self.marks.as_slice(), self.octets.as_slice(), number)
     }
 
     /// Joins what a payload offers: for each sample of its segments the value that their octets spell.
@@ -86,7 +97,12 @@ impl<A: Allocator> Frame<A> {
         ensures fit { ValuesFit self.new }
     {
         let segments = view.segments.as_slice();
-        join_segments(&self.format, self.cells.as_mut_slice(), segments);
+        join_segments(
+            &self.format,
+            self.marks.as_mut_slice(),
+            self.octets.as_mut_slice(),
+            segments,
+        );
     }
 
     /// Joins another frame of the same format, which may be over another allocator: each cell becomes the
@@ -100,7 +116,13 @@ impl<A: Allocator> Frame<A> {
         ensures whole { IsWhole self.new }
         ensures fit { ValuesFit self.new }
     {
-        join_cells(self.cells.as_mut_slice(), other.cells.as_slice());
+        join_run(
+            &self.format,
+            self.marks.as_mut_slice(),
+            self.octets.as_mut_slice(),
+            other.marks.as_slice(),
+            other.octets.as_slice(),
+        );
     }
 
     /// How many samples are present, missing and contested.
@@ -110,7 +132,7 @@ impl<A: Allocator> Frame<A> {
         ensures contested { result.contested ≡ count_by is_contested self.now.cells }
         ensures whole { IsWhole self.now }
     {
-        count_cells(self.cells.as_slice())
+        count_cells(&self.format, self.marks.as_slice(), self.octets.as_slice())
     }
 
     /// Makes every cell missing. No memory is taken.
@@ -119,7 +141,8 @@ impl<A: Allocator> Frame<A> {
         ensures whole { IsWhole self.new }
         ensures fit { ValuesFit self.new }
     {
-        self.cells.fill(Cell::Missing);
+        self.marks.fill(0);
+        self.octets.fill(0);
     }
 
     /// A picture of the frame: the value of each sample that has one; for a missing or a contested sample
@@ -131,22 +154,30 @@ impl<A: Allocator> Frame<A> {
         ensures settled { IfOk result (λ p. p ≡ settled self.now fill) }
         ensures picture { IfOk result (λ p. IsPicture p) }
     {
-        let samples = settled_samples(alloc, self.format.sampling, self.cells.as_slice(), fill)?;
+        let samples = settled_samples(
+            alloc,
+            &self.format,
+            self.marks.as_slice(),
+            self.octets.as_slice(),
+            fill,
+        )?;
         Ok(Picture::from_samples(self.format, samples))
     }
 
     /// A copy of its own, over another allocator.
     ///
     /// `AllocError` comes only where the allocator refused the memory for the cells.
-    pub fn try_copy<B: Allocator>(&self, alloc: B) -> Result<Frame<B>, AllocError>
+    pub fn try_copy<B: Allocator + Copy>(&self, alloc: B) -> Result<Frame<B>, AllocError>
         ensures same { IfOk result (λ f. f ≡ self.now) }
         ensures whole { IsWhole self.now }
         ensures fit { ValuesFit self.now }
     {
-        let cells = Vec::from_slice(alloc, self.cells.as_slice())?;
+        let marks = Vec::from_slice(alloc, self.marks.as_slice())?;
+        let octets = Vec::from_slice(alloc, self.octets.as_slice())?;
         Ok(Frame {
             format: self.format,
-            cells,
+            marks,
+            octets,
         })
     }
 
@@ -155,17 +186,12 @@ impl<A: Allocator> Frame<A> {
         ensures { IsTrue result ↔ (self.now ≡ other.now) }
     {
         same_format(&self.format, &other.format)
-            && same_cells(self.cells.as_slice(), other.cells.as_slice())
+            && same_words(self.marks.as_slice(), other.marks.as_slice())
+            && same_octets(self.octets.as_slice(), other.octets.as_slice())
     }
 }
 
 fn same_format(left: &Format, right: &Format) -> bool
-    ensures { IsTrue result ↔ (left.now ≡ right.now) }
-{
-    left == right
-}
-
-fn same_cells(left: &[Cell], right: &[Cell]) -> bool
     ensures { IsTrue result ↔ (left.now ≡ right.now) }
 {
     left == right

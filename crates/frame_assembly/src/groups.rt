@@ -1,10 +1,10 @@
 //! Joining pixel groups as a frame keeps them: packed octets, and a mark word for each group.
 ghost use Rattle.std.specs.Prelude.{◌≡◌, ◌<◌, ◌*◌, ◌↔◌, ℕ, [], ◌∷◌, IsTrue, length, slice_index};
-ghost use Rattle.frame_assembly.specs.Packed.{AreJoined, ArePacked};
+ghost use Rattle.frame_assembly.specs.Packed.{AreJoined, ArePacked, marked};
 ghost use Rattle.st_format.specs.Pgroup.{pixel_group};
 
 use pgroup_pack::{blank, differing};
-use st_format::Format;
+use st_format::{Cell, Format};
 
 /// Bit 15 of a mark word: the group has no missing sample.
 pub const PRESENT: u16 = 0x8000;
@@ -141,4 +141,18 @@ pub fn same_octets(left: &[u8], right: &[u8]) -> bool
     ensures { IsTrue result ↔ (left.now ≡ right.now) }
 {
     left == right
+}
+
+/// The cell of sample `i` of a group, by its mark word and the value that its octets spell for it.
+pub fn marked_cell(mark: u16, i: usize, value: u16) -> Cell
+    requires { i < 15 }
+    ensures { result ≡ marked mark i value }
+{
+    if mark < PRESENT {
+        Cell::Missing
+    } else if (mark >> i) & 1 == 1 {
+        Cell::Contested
+    } else {
+        Cell::Value(value)
+    }
 }

@@ -1,89 +1,119 @@
-//! Joining what segments offer to the cells of a raster.
-ghost use Rattle.std.specs.Prelude.{◌≡◌, ◌<◌, ◌≤◌, ◌+◌, ℕ, length, All, map};
-ghost use Rattle.frame_assembly.specs.Written.{AreWhole, samples_in, written_from};
+//! Joining what segments offer to the groups of a frame.
+ghost use Rattle.std.specs.Prelude.{◌≡◌, ◌<◌, ◌≤◌, ◌+◌, ◌*◌, ◌/◌, ℕ, length, All, map};
+ghost use Rattle.frame_assembly.specs.Packed.{AreJoined, ArePacked, cells_in, group_count, whole_marks};
 ghost use Rattle.payload_header.specs.Payload.{IsInside, seen};
-ghost use Rattle.st_format.specs.Cell.{join};
-ghost use Rattle.st_format.specs.Pgroup.{bits_of};
-ghost use Rattle.st_format.specs.Position.{sample_count};
+ghost use Rattle.st_format.specs.Pgroup.{pixel_group};
 ghost use Rattle.st_format.specs.Raster.{cells_of, joined, offers_in, offers_in_all};
-ghost use Rattle.st_format.specs.Samples.{values_in};
-ghost use Rattle.st_format.specs.declared.cell.Cell.TheVariants.{Value};
 
+use crate::groups::{BLOCK, PRESENT, join_block};
 use payload_header::Segment;
-use pgroup_pack::unpack;
-use st_format::{Cell, Format};
+use st_format::Format;
+
+/// How many groups a row has.
+pub fn row_groups(format: &Format) -> usize
+    ensures value { result ≡ format.now.width / (pixel_group format.now.sampling format.now.depth).pixels }
+    ensures limit { result ≤ 8192 }
+{
+    (format.width() / format.pgroup().pixels) as usize
+}
+
+/// How many groups a raster has.
+pub fn group_total(format: &Format) -> usize
+    ensures value { result ≡ group_count format.now }
+    ensures limit { result ≤ 8192 * 8192 }
+{
+    format.height() as usize * row_groups(format)
+}
+
+/// How many groups stand before the one of a column of a row, in raster order.
+fn groups_before(format: &Format, row: u32, column: u32) -> usize
+    requires row { row < format.now.height }
+    requires column { column < format.now.width }
+    ensures value { result ≡ row * (format.now.width / (pixel_group format.now.sampling format.now.depth).pixels) + column / (pixel_group format.now.sampling format.now.depth).pixels }
+    ensures limit { result ≤ 8192 * 8192 + 8192 }
+{
+    row as usize * row_groups(format) + (column / format.pgroup().pixels) as usize
+}
 
 /// Joins what the segments offer.
-pub fn join_segments(format: &Format, cells: &mut [Cell], segments: &[Segment<'_>])
-    requires whole { length cells.old ≡ sample_count format.now }
+pub fn join_segments(
+    format: &Format,
+    marks: &mut [u16],
+    octets: &mut [u8],
+    segments: &[Segment<'_>],
+)
+    requires whole { length marks.old ≡ group_count format.now }
+    requires packed { ArePacked format.now marks.old octets.old }
     requires inside { All (λ s. 0 < length s.octets.now → IsInside format.now (seen s)) segments.now }
-    ensures { (ts : ℕ) → cells.new ≡ joined cells.old (cells_of format.now (offers_in_all format.now ts (map seen segments.now)) ts) }
+    ensures packed { ArePacked format.now marks.new octets.new }
+    ensures cells { (ts : ℕ) → cells_in format.now marks.new octets.new ≡ joined (cells_in format.now marks.old octets.old) (cells_of format.now (offers_in_all format.now ts (map seen segments.now)) ts) }
 {
     for segment in segments {
-        join_segment(format, cells, segment);
+        join_segment(format, marks, octets, segment);
     }
 }
 
 /// Joins what one segment offers.
-fn join_segment(format: &Format, cells: &mut [Cell], segment: &Segment<'_>)
-    requires whole { length cells.old ≡ sample_count format.now }
+fn join_segment(format: &Format, marks: &mut [u16], octets: &mut [u8], segment: &Segment<'_>)
+    requires whole { length marks.old ≡ group_count format.now }
+    requires packed { ArePacked format.now marks.old octets.old }
     requires inside { 0 < length segment.now.octets.now → IsInside format.now (seen segment.now) }
-    ensures { (ts : ℕ) → cells.new ≡ joined cells.old (cells_of format.now (offers_in format.now ts (seen segment.now)) ts) }
+    ensures packed { ArePacked format.now marks.new octets.new }
+    ensures cells { (ts : ℕ) → cells_in format.now marks.new octets.new ≡ joined (cells_in format.now marks.old octets.old) (cells_of format.now (offers_in format.now ts (seen segment.now)) ts) }
 {
     if segment.octets.is_empty() {
         return;
     }
-    let start = format.samples_before(segment.row, segment.offset);
-    join_octets(format, cells, start, segment.octets);
+    let first = groups_before(format, segment.row, segment.offset);
+    let size = format.pgroup().octets;
+    let end = first + segment.octets.len() / size;
+    join_whole(
+        format,
+        &mut marks[first..end],
+        &mut octets[size * first..size * end],
+        segment.octets,
+    );
 }
 
-/// How many octets are unpacked at a time: whole samples at each depth.
-const BLOCK: usize = 240;
-
-/// Joins the samples that octets spell to the cells from number `start` on, a block after the other.
-fn join_octets(format: &Format, cells: &mut [Cell], start: usize, octets: &[u8])
-    requires whole { AreWhole format.now (length octets.now) }
-    requires room { start + samples_in format.now (length octets.now) ≤ length cells.old }
-    ensures { cells.new ≡ written_from start (values_in (bits_of format.now.depth) octets.now) cells.old }
+/// Joins groups of which each sample is offered.
+fn join_whole(format: &Format, marks: &mut [u16], octets: &mut [u8], others: &[u8])
+    requires packed { ArePacked format.now marks.old octets.old }
+    requires alike { length others.now ≡ length octets.old }
+    ensures { AreJoined format.now marks.old octets.old (whole_marks (length marks.old)) others.now marks.new octets.new }
 {
-    let blocks = octets.len() / BLOCK;
-    let mut at = start;
+    join_blocks(format, marks, octets, &[PRESENT; BLOCK], others);
+}
+
+/// Joins groups of which each sample is offered, a block after the other; `whole` are the marks of a block.
+fn join_blocks(
+    format: &Format,
+    marks: &mut [u16],
+    octets: &mut [u8],
+    whole: &[u16],
+    others: &[u8],
+)
+    requires packed { ArePacked format.now marks.old octets.old }
+    requires whole { whole.now ≡ whole_marks BLOCK }
+    requires alike { length others.now ≡ length octets.old }
+    ensures { AreJoined format.now marks.old octets.old (whole_marks (length marks.old)) others.now marks.new octets.new }
+{
+    let size = format.pgroup().octets;
+    let blocks = marks.len() / BLOCK;
     for i in 0..blocks {
-        at = join_block(format, cells, at, &octets[BLOCK * i..BLOCK * (i + 1)]);
+        join_block(
+            format,
+            &mut marks[BLOCK * i..BLOCK * (i + 1)],
+            &mut octets[size * (BLOCK * i)..size * (BLOCK * (i + 1))],
+            whole,
+            &others[size * (BLOCK * i)..size * (BLOCK * (i + 1))],
+        );
     }
-    join_block(format, cells, at, &octets[BLOCK * blocks..]);
-}
-
-/// Joins the samples that a block's octets spell, and answers the number behind them.
-fn join_block(format: &Format, cells: &mut [Cell], start: usize, octets: &[u8]) -> usize
-    requires short { length octets.now ≤ BLOCK }
-    requires whole { AreWhole format.now (length octets.now) }
-    requires room { start + samples_in format.now (length octets.now) ≤ length cells.old }
-    ensures written { cells.new ≡ written_from start (values_in (bits_of format.now.depth) octets.now) cells.old }
-    ensures end { result ≡ start + samples_in format.now (length octets.now) }
-{
-    let mut room = [0; BLOCK];
-    let count = 8 * octets.len() / format.depth().bits() as usize;
-    let samples = &mut room[..count];
-    unpack(format, octets, samples);
-    join_samples(cells, start, samples);
-    start + count
-}
-
-/// Joins a value to each cell from number `start` on.
-#[tactic(auto, using(crate::proofs::Put::written_more, crate::proofs::Put::written_all))]
-fn join_samples(cells: &mut [Cell], start: usize, samples: &[u16])
-    requires { start + length samples.now ≤ length cells.old }
-    ensures { cells.new ≡ written_from start samples.now cells.old }
-{
-    for (i, sample) in samples.iter().enumerate() {
-        cells[start + i] = join_sample(cells[start + i], *sample);
-    }
-}
-
-/// What is known of a sample once a value was offered for it.
-fn join_sample(cell: Cell, value: u16) -> Cell
-    ensures { result ≡ join cell (Value value) }
-{
-    cell.join(Cell::Value(value))
+    let rest = marks.len() - BLOCK * blocks;
+    join_block(
+        format,
+        &mut marks[BLOCK * blocks..],
+        &mut octets[size * (BLOCK * blocks)..],
+        &whole[..rest],
+        &others[size * (BLOCK * blocks)..],
+    );
 }

@@ -1,7 +1,7 @@
 //! Frames that are put together from datagrams: what is known of each sample of a raster.
 #![tactic(auto)]
 
-mod absorbing;
+mod cells;
 mod counts;
 mod frame;
 mod groups;

@@ -1,31 +1,50 @@
 //! Settling cells: a value for each sample.
-ghost use Rattle.std.specs.Prelude.{◌≡◌, IfOk, length};
+ghost use Rattle.std.specs.Prelude.{◌≡◌, ◌≤◌, ◌*◌, IfOk, length};
+ghost use Rattle.frame_assembly.specs.Packed.{ArePacked, cells_in};
 ghost use Rattle.frame_assembly.specs.Settled.{settled_cell, settled_numbers};
+ghost use Rattle.st_format.specs.Pgroup.{bits_of, pixel_group};
+ghost use Rattle.st_format.specs.Samples.{values_in};
 
-use st_format::{Cell, Sampling};
+use crate::groups::marked_cell;
+use pgroup_pack::unpack;
+use st_format::{Cell, Format};
 use std::alloc::{AllocError, Allocator};
 
 /// The value of each cell, or the fill's value of its component where it has none.
 pub fn settled_samples<B: Allocator>(
     alloc: B,
-    sampling: Sampling,
-    cells: &[Cell],
+    format: &Format,
+    marks: &[u16],
+    octets: &[u8],
     fill: [u16; 3],
 ) -> Result<Vec<u16, B>, AllocError>
-    ensures { IfOk result (λ v. v.items ≡ settled_numbers sampling cells.now fill) }
+    requires packed { ArePacked format.now marks.now octets.now }
+    requires few { length marks.now ≤ 8192 * 8192 }
+    ensures { IfOk result (λ v. v.items ≡ settled_numbers format.now.sampling (cells_in format.now marks.now octets.now) fill) }
 {
-    let mut samples = Vec::from_elem(alloc, 0, cells.len())?;
-    settle_samples(sampling, cells, fill, samples.as_mut_slice());
+    let count = format.pgroup().samples * marks.len();
+    let mut samples = Vec::from_elem(alloc, 0, count)?;
+    unpack(format, octets, samples.as_mut_slice());
+    settle_samples(format, marks, octets, fill, samples.as_mut_slice());
     Ok(samples)
 }
 
-/// Gives each sample the value of its cell, or the fill's value of its component.
-fn settle_samples(sampling: Sampling, cells: &[Cell], fill: [u16; 3], samples: &mut [u16])
-    requires { length samples.old ≡ length cells.now }
-    ensures { samples.new ≡ settled_numbers sampling cells.now fill }
+/// Gives each sample the fill's value of its component where its cell has none.
+fn settle_samples(
+    format: &Format,
+    marks: &[u16],
+    octets: &[u8],
+    fill: [u16; 3],
+    samples: &mut [u16],
+)
+    requires packed { ArePacked format.now marks.now octets.now }
+    requires values { samples.old ≡ values_in (bits_of format.now.depth) octets.now }
+    ensures { samples.new ≡ settled_numbers format.now.sampling (cells_in format.now marks.now octets.now) fill }
 {
-    for (number, sample) in samples.iter_mut().enumerate() {
-        *sample = settled_value(cells[number], fill[sampling.component_in_row(number)]);
+    let of_group = format.pgroup().samples;
+    for number in 0..samples.len() {
+        let cell = marked_cell(marks[number / of_group], number % of_group, samples[number]);
+        samples[number] = settled_value(cell, fill[format.sampling.component_in_row(number)]);
     }
 }
 
