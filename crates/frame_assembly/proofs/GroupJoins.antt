@@ -1,10 +1,10 @@
 -- Groups that are joined at once, and one group.
-use Rattle.std.proofs.Common.{◌≡◌, ℕ, zero, suc, ◌+◌, ◌-◌, ◌*◌, ◌/◌, ◌%◌, ◌^◌, ◌<◌, ◌≤◌, max, Bool, true, false, ◌==◌, if◌then◌else◌, List, [], ◌∷◌, ◌++◌, length, get_or, take, drop, map, bit_or, refl, sym, ap, ◌∙◌, subst, inl, inr, arith, length-append}
+use Rattle.std.proofs.Common.{◌≡◌, ℕ, zero, suc, ◌+◌, ◌-◌, ◌*◌, ◌/◌, ◌%◌, ◌^◌, ◌<◌, ◌≤◌, max, Bool, true, false, ◌==◌, if◌then◌else◌, List, [], ◌∷◌, ◌++◌, length, get_or, take, drop, map, bit_and, bit_or, refl, sym, ap, ◌∙◌, subst, inl, inr, arith, length-append}
 use Rattle.std.specs.Int.{bit_at}
 use Rattle.std.specs.List.{AllByRecursion}
-use Rattle.std.proofs.lemmas.Bool.{eq-eqb}
+use Rattle.std.proofs.lemmas.Bool.{eq-eqb, ne_eqb}
 use Rattle.std.proofs.lemmas.List.{append-nil, nil_from_length, take_at, length-drop, length-take-le}
-use Rattle.std.proofs.lemmas.Nat.Bits.{bit_at-lt, bit_at-zero, bit_at_or}
+use Rattle.std.proofs.lemmas.Nat.Bits.{bit_at-lt, bit_at-zero, bit_at_or, shr_and_one}
 use Rattle.st_format.specs.declared.cell.Cell.{Cell}
 use Rattle.st_format.specs.declared.cell.Cell.TheVariants.{Missing, Value, Contested}
 use Rattle.st_format.specs.Cell.{join}
@@ -37,7 +37,7 @@ same_joined n size samples marks octets other_marks others packed same_marks sam
 
 -- ---- groups that are missing
 
-abbrev AreMissing : List Cell → Type 0
+abbrev pub AreMissing : List Cell → Type 0
 AreMissing cs = AllByRecursion (λ c. c ≡ Missing) cs
 
 low_bit : (m : ℕ) → m < 32768 → bit_at m 15 ≡ 0
@@ -46,7 +46,7 @@ low_bit m lt = omega arith
 high_bit : (m : ℕ) → 32768 ≤ m → m < 65536 → bit_at m 15 ≡ 1
 high_bit m ge lt = omega arith
 
-marked_missing : (m i v : ℕ) → bit_at m 15 ≡ 0 → marked m i v ≡ Missing
+pub marked_missing : (m i v : ℕ) → bit_at m 15 ≡ 0 → marked m i v ≡ Missing
 unfolding marked
 marked_missing m i v e = ap (λ (b : ℕ). if b == 1 then (if bit_at m i == 1 then Contested else Value v) else Missing) e
 
@@ -59,7 +59,7 @@ both_missing : (cs ds : List Cell) → AreMissing cs → AreMissing ds → AreMi
 both_missing [] ds a b = b
 both_missing (c ∷ cs) ds a b = (a.0, both_missing cs ds a.1 b)
 
-packed_missing : (n size : ℕ) (marks octets : List ℕ) → ((k : ℕ) → k < length marks → get_or marks k 0 < 32768) → AreMissing (packed_cells n size marks octets)
+pub packed_missing : (n size : ℕ) (marks octets : List ℕ) → ((k : ℕ) → k < length marks → get_or marks k 0 < 32768) → AreMissing (packed_cells n size marks octets)
 unfolding packed_cells
 packed_missing n size [] octets low = tt
 packed_missing n size (m ∷ marks) octets low =
@@ -116,10 +116,10 @@ left_joined n size samples marks octets other_marks others is packed other alike
 
 -- ---- one group with one that has values too
 
-abbrev seen : ℕ → ℕ → Cell
+abbrev pub seen : ℕ → ℕ → Cell
 seen b v = if b == 1 then Contested else Value v
 
-marked_seen : (m i v : ℕ) → bit_at m 15 ≡ 1 → marked m i v ≡ seen (bit_at m i) v
+pub marked_seen : (m i v : ℕ) → bit_at m 15 ≡ 1 → marked m i v ≡ seen (bit_at m i) v
 unfolding marked
 marked_seen m i v e = ap (λ (b : ℕ). if b == 1 then seen (bit_at m i) v else Missing) e
 
@@ -182,7 +182,7 @@ known_blanked c i (v ∷ vs) both =
     ap (λ (y : ℕ). y ∷ blanked_from c (i + 1) vs) here ∙ ap (λ (ys : List ℕ). known_value (marked c i x) ∷ ys) (known_blanked c (i + 1) vs both)
 
 -- one group's cells
-one_cells : (n size m : ℕ) (octets : List ℕ) → length octets ≡ size → packed_cells n size (m ∷ []) octets ≡ cells_from m 0 (values_in n octets)
+pub one_cells : (n size m : ℕ) (octets : List ℕ) → length octets ≡ size → packed_cells n size (m ∷ []) octets ≡ cells_from m 0 (values_in n octets)
 unfolding packed_cells
 one_cells n size m octets long =
     let e : take size octets ≡ octets = ap (take size) (sym (append-nil octets)) ∙ take_at octets [] size long in
@@ -252,3 +252,18 @@ group_joined n size samples m o d octets others new_octets is packed other high_
 pub only : (m : ℕ) → m < 32768 → (k : ℕ) → k < length (m ∷ []) → get_or (m ∷ []) k 0 < 32768
 only m lt zero below = lt
 only m lt (suc k) below = absurd (omega arith)
+
+-- ---- the cell of one sample, as the code reads it
+
+pub marked_absent : (m i v : ℕ) → m < 32768 → Missing ≡ marked m i v
+marked_absent m i v lt = sym (marked_missing m i v (low_bit m lt))
+
+pub marked_contested : (m i v : ℕ) → 32768 ≤ m → m < 65536 → bit_and (m / 2 ^ i) 1 ≡ 1 → Contested ≡ marked m i v
+marked_contested m i v ge lt e =
+    let bit : bit_at m i ≡ 1 = sym (shr_and_one m i) ∙ e in
+    sym (marked_seen m i v (high_bit m ge lt) ∙ ap (λ (b : ℕ). seen b v) bit)
+
+pub marked_value : (m i v : ℕ) → 32768 ≤ m → m < 65536 → (bit_and (m / 2 ^ i) 1 ≡ 1 → ⊥) → Value v ≡ marked m i v
+marked_value m i v ge lt ne =
+    let bit : bit_at m i ≡ 1 → ⊥ = λ e. ne (shr_and_one m i ∙ e) in
+    sym (marked_seen m i v (high_bit m ge lt) ∙ ap (λ (b : Bool). if b then Contested else Value v) (ne_eqb (bit_at m i) 1 bit))

@@ -3,6 +3,10 @@ pub mod Runs
 pub mod GroupJoins
 pub mod CellLemmas
 pub mod Segments
+pub mod CountLemmas
+pub mod SettleSteps
+pub mod SameLemmas
+pub mod Kept
 pub mod WrittenLemmas
 pub mod SegmentPut
 pub mod Put

@@ -295,3 +295,11 @@ pub marks_same : (n size samples : ℕ) (marks octets other_marks same_marks oth
     → Joins n size samples marks octets other_marks others new_marks new_octets → Joins n size samples marks octets same_marks others new_marks new_octets
 marks_same n size samples marks octets other_marks same_marks others new_marks new_octets e joins =
     subst (λ (ms : List ℕ). Joins n size samples marks octets ms others new_marks new_octets) e joins
+
+-- the octets of one group
+pub one_octets : (n size samples g : ℕ) (marks octets : List ℕ) → AreSizes n size samples → g < length marks → IsPacked n size samples marks octets → length (take size (drop (size * g) octets)) ≡ size
+one_octets n size samples g marks octets is lt packed =
+    let room : size * (g + 1) ≤ size * length marks = times_le size (g + 1) (length marks) (omega arith) in
+    let both : size * (g + 1) ≡ size * g + size * 1 = mul-add size g 1 in
+    let one : size * 1 ≡ size = omega arith in
+    length-take-le size (drop (size * g) octets) (omega (arith, packed.long, length-drop (size * g) octets))

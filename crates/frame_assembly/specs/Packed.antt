@@ -5,6 +5,7 @@ use Rattle.std.specs.List.{AllByRecursion}
 use Rattle.st_format.specs.declared.cell.Cell.{Cell}
 use Rattle.st_format.specs.declared.cell.Cell.TheVariants.{Missing, Value, Contested}
 use Rattle.st_format.specs.declared.format.Format.{Format}
+use Rattle.st_format.specs.Fit.{IsFrame}
 use Rattle.st_format.specs.Pgroup.{bits_of, pixel_group}
 use Rattle.st_format.specs.Raster.{joined}
 use Rattle.st_format.specs.Samples.{values_in}
@@ -65,7 +66,8 @@ whole_marks count = replicate count 32768
 abbrev pub group_count : Format → ℕ
 group_count f = f.height * (f.width / (pixel_group f.sampling f.depth).pixels)
 
--- What a frame keeps: all groups of its raster
+-- What a frame keeps: all groups of its raster; so its cells are a frame's
 pub record IsKept (f : Format) (marks octets : List ℕ) : Type 0 where
-  pub whole : length marks ≡ group_count f
+  pub groups : length marks ≡ group_count f
   pub packed : ArePacked f marks octets
+  pub frame : IsFrame (record { format = f; cells = cells_in f marks octets })

@@ -11,7 +11,7 @@ ghost use Rattle.st_format.specs.Raster.{IsWhole, blank, cell_at, cells_of, join
 
 use crate::cells::cell_in;
 use crate::counts::{Counts, count_cells};
-use crate::groups::{join_run, same_octets, same_words};
+use crate::groups::{join_run, same_groups};
 use crate::joining::{group_total, join_segments};
 use crate::settling::settled_samples;
 use payload_header::PayloadView;
@@ -186,8 +186,13 @@ impl<A: Allocator> Frame<A> {
         ensures { IsTrue result ↔ (self.now ≡ other.now) }
     {
         same_format(&self.format, &other.format)
-            && same_words(self.marks.as_slice(), other.marks.as_slice())
-            && same_octets(self.octets.as_slice(), other.octets.as_slice())
+            && same_groups(
+                &self.format,
+                self.marks.as_slice(),
+                self.octets.as_slice(),
+                other.marks.as_slice(),
+                other.octets.as_slice(),
+            )
     }
 }
 

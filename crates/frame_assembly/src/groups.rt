@@ -1,6 +1,6 @@
 //! Joining pixel groups as a frame keeps them: packed octets, and a mark word for each group.
 ghost use Rattle.std.specs.Prelude.{◌≡◌, ◌<◌, ◌*◌, ◌↔◌, ℕ, [], ◌∷◌, IsTrue, length, slice_index};
-ghost use Rattle.frame_assembly.specs.Packed.{AreJoined, ArePacked, marked};
+ghost use Rattle.frame_assembly.specs.Packed.{AreJoined, ArePacked, cells_in, marked};
 ghost use Rattle.st_format.specs.Pgroup.{pixel_group};
 
 use pgroup_pack::{blank, differing};
@@ -129,15 +129,31 @@ fn are_missing(marks: &[u16]) -> bool
     most < PRESENT
 }
 
+/// Whether groups have the same cells: then they have the same marks and the same octets.
+pub fn same_groups(
+    format: &Format,
+    marks: &[u16],
+    octets: &[u8],
+    other_marks: &[u16],
+    others: &[u8],
+) -> bool
+    requires packed { ArePacked format.now marks.now octets.now }
+    requires other { ArePacked format.now other_marks.now others.now }
+    requires alike { length marks.now ≡ length other_marks.now }
+    ensures { IsTrue result ↔ (cells_in format.now marks.now octets.now ≡ cells_in format.now other_marks.now others.now) }
+{
+    same_words(marks, other_marks) && same_octets(octets, others)
+}
+
 /// Whether the mark words are the same.
-pub fn same_words(left: &[u16], right: &[u16]) -> bool
+fn same_words(left: &[u16], right: &[u16]) -> bool
     ensures { IsTrue result ↔ (left.now ≡ right.now) }
 {
     left == right
 }
 
 /// Whether the octets are the same.
-pub fn same_octets(left: &[u8], right: &[u8]) -> bool
+fn same_octets(left: &[u8], right: &[u8]) -> bool
     ensures { IsTrue result ↔ (left.now ≡ right.now) }
 {
     left == right

@@ -1,9 +1,6 @@
-use Rattle.std.proofs.Common.{◌≡◌, ℕ, ◌<◌, get_or}
-use Rattle.st_format.specs.declared.cell.Cell.TheVariants.{Missing}
-use Rattle.st_format.specs.Position.{component_in_row}
-use Rattle.frame_assembly.specs.Settled.{settled_cell}
+use Rattle.frame_assembly.proofs.SettleSteps.{SettledTo}
 use Rattle.frame_assembly.proofs.settling.settle_samples.Given as goal
 
 -- the samples so far are settled
 abbrev pub invariant-loop-number : goal.invariant-loop-number
-invariant-loop-number l = (i : ℕ) → i < l.number → get_or l.samples i 0 ≡ settled_cell (get_or l.cells i Missing) (get_or l.fill (component_in_row l.sampling i) 0)
+invariant-loop-number l = SettledTo l.format l.marks l.octets l.fill l.number l.samples

@@ -1,30 +1,27 @@
-use Rattle.std.proofs.Common.{◌≡◌, refl, sym, ap, ◌∙◌, arith, subst}
-use Rattle.st_format.specs.declared.format.Format.{Format}
+use Rattle.std.proofs.Common.{length, ap, ◌∙◌, arith, subst}
 use Rattle.st_format.specs.Fit.{IsFrame}
-use Rattle.st_format.specs.Raster.{Raster}
-use Rattle.frame_assembly.proofs.Put.{frame_view}
-use Rattle.frame_assembly.proofs.Absorbed.{absorbed, frame_absorbed, each_absorbed}
+use Rattle.frame_assembly.proofs.Absorbed.{each_absorbed}
+use Rattle.frame_assembly.proofs.Kept.{frame_absorb, kept, kept_back}
 use Rattle.frame_assembly.proofs.frame.Frame.absorb.Goals as goal
 
 pub invariant_of-self : goal.invariant_of-self
 invariant_of-self g c =
-    let f : Format = c.self.inside.format in
-    let r : Raster = frame_view f c.self.inside.cells.items in
-    let q : Raster = frame_view c.other.inside.format c.other.inside.cells.items in
-    let same : q.format ≡ r.format = ap (λ (x : Raster). x.format) c.other.view_is ∙ c.requires ∙ sym (ap (λ (x : Raster). x.format) c.self.view_is) in
-    subst IsFrame
-    (sym (absorbed c.self.inside.cells.len f r q c.self.inside.cells.items c.as_mut_slice.result.now c.join_cells.new.cells c.as_slice.result.now
-    refl c.as_mut_slice.ensures.value c.as_slice.ensures.value (omega arith) c.join_cells.ensures))
-    (frame_absorbed r q c.self.invariant c.other.invariant same)
+    kept_back c.self.inside.format c.self.inside.marks.len c.self.inside.octets.len c.self.inside.marks.items c.self.inside.octets.items c.join_run.new.marks c.join_run.new.octets (omega arith) (omega arith)
+    (kept c.self.inside.format c.join_run.new.marks c.join_run.new.octets
+    (c.join_run.auto.marks ∙ ap length c.as_mut_slice.ensures.value ∙ c.self.invariant.groups) c.join_run.ensures.packed)
+
+pub returns-clause-rasters : goal.returns-clause-rasters
+returns-clause-rasters g c =
+    frame_absorb c.self.inside.marks.len c.self.inside.octets.len c.self.inside.format c.other.inside.format c.args.self.now c.args.other.now c.self.inside.marks.items c.self.inside.octets.items
+    c.as_mut_slice.result.now c.as_mut_slice-2.result.now c.as_slice.result.now c.as_slice-2.result.now c.other.inside.marks.items c.other.inside.octets.items c.join_run.new.marks c.join_run.new.octets
+    c.self.view_is c.other.view_is c.requires c.as_mut_slice.ensures.value c.as_mut_slice-2.ensures.value c.as_slice.ensures.value c.as_slice-2.ensures.value (omega arith) (omega arith) c.join_run.ensures.cells
 
 pub returns-clause-each : goal.returns-clause-each
 returns-clause-each g c =
-    let f : Format = c.self.inside.format in
-    let r : Raster = c.args.self.now in
-    let q : Raster = c.args.other.now in
-    each_absorbed r q _ (subst IsFrame c.self.view_is c.self.invariant) (subst IsFrame c.other.view_is c.other.invariant) c.requires
-    (absorbed c.self.inside.cells.len f r q c.self.inside.cells.items c.as_mut_slice.result.now c.join_cells.new.cells c.as_slice.result.now
-    c.self.view_is c.as_mut_slice.ensures.value (c.as_slice.ensures.value ∙ ap (λ (x : Raster). x.cells) c.other.view_is) (omega arith) c.join_cells.ensures)
+    each_absorbed c.args.self.now c.args.other.now _ (subst IsFrame c.self.view_is c.self.invariant.frame) (subst IsFrame c.other.view_is c.other.invariant.frame) c.requires (returns-clause-rasters g c)
+
+pub returns-clause-whole : goal.returns-clause-whole
+returns-clause-whole g c = (invariant_of-self g c).frame.whole
 
 pub returns-clause-fit : goal.returns-clause-fit
-returns-clause-fit g c = (invariant_of-self g c).fit
+returns-clause-fit g c = (invariant_of-self g c).frame.fit
