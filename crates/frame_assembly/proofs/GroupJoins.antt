@@ -173,7 +173,7 @@ unfolding known_value
 known_seen b v true e = rw e refl
 known_seen b v false e = rw e refl
 
-known_blanked : (c i : ℕ) (vs : List ℕ) → bit_at c 15 ≡ 1 → blanked_from c i vs ≡ map known_value (cells_from c i (blanked_from c i vs))
+pub known_blanked : (c i : ℕ) (vs : List ℕ) → bit_at c 15 ≡ 1 → blanked_from c i vs ≡ map known_value (cells_from c i (blanked_from c i vs))
 unfolding cells_from
 known_blanked c i [] both = refl
 known_blanked c i (v ∷ vs) both =

@@ -106,7 +106,7 @@ low_zero k j lt =
     let e : get_or {A = ℕ} (replicate k 0) j 0 ≡ 0 = get_or-replicate {A = ℕ} k j 0 0 (omega (arith, length-replicate {A = ℕ} k 0)) in
     omega arith
 
-zero_cells : (n size samples k : ℕ) → AreSizes n size samples → packed_cells n size (replicate k 0) (replicate (size * k) 0) ≡ replicate (samples * k) Missing
+pub zero_cells : (n size samples k : ℕ) → AreSizes n size samples → packed_cells n size (replicate k 0) (replicate (size * k) 0) ≡ replicate (samples * k) Missing
 zero_cells n size samples k is =
     let marks : List ℕ = replicate k 0 in
     let octets : List ℕ = replicate (size * k) 0 in
@@ -115,7 +115,7 @@ zero_cells n size samples k is =
     let many : length (packed_cells n size marks octets) ≡ samples * k = length-packed_cells n size samples marks octets is long ∙ ap (λ (j : ℕ). samples * j) marks_long in
     missing_list (packed_cells n size marks octets) (packed_missing n size marks octets (low_zero k)) ∙ ap (λ (j : ℕ). replicate {A = Cell} j Missing) many
 
-zero_packed : (n size samples k : ℕ) → AreSizes n size samples → IsPacked n size samples (replicate k 0) (replicate (size * k) 0)
+pub zero_packed : (n size samples k : ℕ) → AreSizes n size samples → IsPacked n size samples (replicate k 0) (replicate (size * k) 0)
 zero_packed n size samples k is = record {
   long = length-replicate {A = ℕ} (size * k) 0 ∙ ap (λ (j : ℕ). size * j) (sym (length-replicate {A = ℕ} k 0));
   words = zero_words samples k;

@@ -6,6 +6,9 @@ pub mod Segments
 pub mod CountLemmas
 pub mod SettleSteps
 pub mod SameLemmas
+pub mod GroupCells
+pub mod RowLemmas
+pub mod GivenLemmas
 pub mod Kept
 pub mod WrittenLemmas
 pub mod SegmentPut

@@ -250,7 +250,7 @@ one_part i xs lt =
     let e : (i + 1) - i ≡ 1 = omega arith in
     ap (λ (k : ℕ). take k (drop i xs)) e ∙ ap (take 1) (drop_more xs i 0 lt)
 
-set_split : (i : ℕ) (xs : List ℕ) (x : ℕ) → i < length xs → take i xs ++ x ∷ drop 1 (drop i xs) ≡ set xs i x
+pub set_split : (i : ℕ) (xs : List ℕ) (x : ℕ) → i < length xs → take i xs ++ x ∷ drop 1 (drop i xs) ≡ set xs i x
 set_split i [] x lt = absurd (omega arith)
 set_split zero (y ∷ ys) x lt = refl
 set_split (suc i) (y ∷ ys) x lt = ap (λ (zs : List ℕ). y ∷ zs) (set_split i ys x (omega arith))
@@ -303,3 +303,6 @@ one_octets n size samples g marks octets is lt packed =
     let both : size * (g + 1) ≡ size * g + size * 1 = mul-add size g 1 in
     let one : size * 1 ≡ size = omega arith in
     length-take-le size (drop (size * g) octets) (omega (arith, packed.long, length-drop (size * g) octets))
+
+pub first_one : (i : ℕ) (xs : List ℕ) → i < length xs → take 1 (drop i xs) ≡ get_or xs i 0 ∷ []
+first_one i xs lt = ap (take 1) (drop_more xs i 0 lt)

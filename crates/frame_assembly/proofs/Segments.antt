@@ -213,7 +213,7 @@ row_group_count f = f.width / (pixel_group f.sampling f.depth).pixels
 abbrev pub first_group : Format → Segment → ℕ
 first_group f s = s.row * row_group_count f + s.offset / (pixel_group f.sampling f.depth).pixels
 
-swap_first : (a b c : ℕ) → a * (b * c) ≡ b * (a * c)
+pub swap_first : (a b c : ℕ) → a * (b * c) ≡ b * (a * c)
 swap_first a b c = sym (mul_assoc a b c) ∙ ap (λ (x : ℕ). x * c) (mul_comm a b) ∙ mul_assoc b a c
 
 pub row_samples_groups : (f : Format) → (pixel_group f.sampling f.depth).samples * row_group_count f ≡ row_samples f
@@ -229,7 +229,7 @@ first_sample f s is =
     ∙ ap (λ (x : ℕ). x + k * (s.offset / (pixel_group f.sampling f.depth).pixels)) (swap_first k s.row (row_group_count f) ∙ ap (λ (x : ℕ). s.row * x) (row_samples_groups f))
     ∙ ap (λ (x : ℕ). s.row * row_samples f + x) (samples_before f.sampling f.depth s.offset is.at_group)
 
-row_ends : (row height w n : ℕ) → row < height → n ≤ w → row * w + n ≤ height * w
+pub row_ends : (row height w n : ℕ) → row < height → n ≤ w → row * w + n ≤ height * w
 row_ends row height w n lt le = grind (arith)
 
 pub groups_end : (f : Format) (s : Segment) → IsInside f s → first_group f s + length s.octets / (pixel_group f.sampling f.depth).octets ≤ group_count f

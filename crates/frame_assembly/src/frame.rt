@@ -1,19 +1,27 @@
 //! A frame: what is known of each sample of a raster.
-ghost use Rattle.std.specs.Prelude.{◌≡◌, ◌↔◌, ℕ, IfOk, IsTrue, count_by};
+ghost use Rattle.std.specs.Prelude.{◌≡◌, ◌<◌, ◌≤◌, ◌↔◌, ℕ, IfOk, IsTrue, count_by, length, map, slice_index};
 ghost use Rattle.std.specs.List.{AllByRecursion};
+ghost use Rattle.std.specs.Int.{bit_at};
+ghost use Rattle.frame_assembly.specs.Packed.{known_value};
+ghost use Rattle.frame_assembly.specs.Rows.{IsMarkOf, IsStateOf, given_cells, group_cells, group_start, replaced, row_cells, row_groups};
 ghost use Rattle.frame_assembly.specs.Settled.{settled};
+ghost use Rattle.pgroup_pack.specs.Groups.{blanked};
 ghost use Rattle.payload_header.specs.View.{segments_of};
 ghost use Rattle.st_format.specs.Cell.{is_contested, is_missing, is_present, join};
 ghost use Rattle.st_format.specs.Fit.{ValuesFit};
 ghost use Rattle.st_format.specs.Picture.{FitsDepth, IsPicture};
-ghost use Rattle.st_format.specs.Position.{IsPosition, Position};
+ghost use Rattle.st_format.specs.Pgroup.{bits_of, pixel_group};
+ghost use Rattle.st_format.specs.Position.{IsPosition, Position, row_octets};
+ghost use Rattle.st_format.specs.Samples.{Spells, values_in};
 ghost use Rattle.st_format.specs.Raster.{IsWhole, blank, cell_at, cells_of, joined, joined_rasters, offers_in_all};
 
 use crate::cells::cell_in;
 use crate::counts::{Counts, count_cells};
 use crate::groups::{join_run, same_groups};
 use crate::joining::{group_total, join_segments};
+use crate::rows::{group_of, marks_of_row, octets_of_row, set_group_of};
 use crate::settling::settled_samples;
+use crate::state::GroupState;
 use payload_header::PayloadView;
 use st_format::{Cell, Format, Picture};
 use std::alloc::{AllocError, Allocator, Global};
@@ -179,6 +187,71 @@ impl<A: Allocator> Frame<A> {
             marks,
             octets,
         })
+    }
+
+    /// The octets of a row, as they are sent, with 0 for each sample that is missing or contested.
+    pub fn packed_row(&self, row: u32) -> &[u8]
+        requires { row < self.now.format.height }
+        ensures long { length result.now ≡ row_octets self.now.format }
+        ensures spelled { Spells (bits_of self.now.format.depth) result.now (map known_value (row_cells self.now row)) }
+    {
+        octets_of_row(&self.format, self.marks.as_slice(), self.octets.as_slice(), row)
+    }
+
+    /// A mark word for each pgroup of a row: bit 15 is set where it has no missing sample, bit `i` where its
+    /// sample `i` is contested; the word of a missing pgroup is 0.
+    pub fn marks(&self, row: u32) -> &[u16]
+        requires { row < self.now.format.height }
+        ensures long { length result.now ≡ row_groups self.now.format }
+        ensures marks { (group : ℕ) → group < row_groups self.now.format → IsMarkOf (slice_index result.now group) (group_cells self.now row group) }
+    {
+        marks_of_row(&self.format, self.marks.as_slice(), self.octets.as_slice(), row)
+    }
+
+    /// Copies the octets of a pgroup, with 0 for each sample that is missing or contested, and tells what is
+    /// known of its samples.
+    pub fn group(&self, row: u32, group: u32, out: &mut [u8]) -> GroupState
+        requires row { row < self.now.format.height }
+        requires group { group < row_groups self.now.format }
+        requires room { length out.old ≡ (pixel_group self.now.format.sampling self.now.format.depth).octets }
+        ensures spelled { Spells (bits_of self.now.format.depth) out.new (map known_value (group_cells self.now row group)) }
+        ensures state { IsStateOf result (group_cells self.now row group) }
+    {
+        group_of(
+            &self.format,
+            self.marks.as_slice(),
+            self.octets.as_slice(),
+            row,
+            group,
+            out,
+        )
+    }
+
+    /// Makes a pgroup's samples those that the octets spell, contested where the bit of the mask is set; or
+    /// missing, if it isn't present. No other sample changes.
+    ///
+    /// The mask has no bit beyond the pgroup's samples, and contested samples are 0.
+    pub fn set_group(&mut self, row: u32, group: u32, octets: &[u8], contested: u16, present: bool)
+        requires row { row < self.old.format.height }
+        requires group { group < row_groups self.old.format }
+        requires octets { length octets.now ≡ (pixel_group self.old.format.sampling self.old.format.depth).octets }
+        requires bits { (i : ℕ) → (pixel_group self.old.format.sampling self.old.format.depth).samples ≤ i → bit_at contested i ≡ 0 }
+        requires zero { values_in (bits_of self.old.format.depth) octets.now ≡ blanked contested (values_in (bits_of self.old.format.depth) octets.now) }
+        ensures format { self.new.format ≡ self.old.format }
+        ensures cells { self.new.cells ≡ replaced (group_start self.old.format row group) (given_cells present contested (values_in (bits_of self.old.format.depth) octets.now)) self.old.cells }
+        ensures whole { IsWhole self.new }
+        ensures fit { ValuesFit self.new }
+    {
+        set_group_of(
+            &self.format,
+            self.marks.as_mut_slice(),
+            self.octets.as_mut_slice(),
+            row,
+            group,
+            octets,
+            contested,
+            present,
+        );
     }
 
     /// Whether two frames have one format and the same cells.

@@ -6,8 +6,11 @@ mod counts;
 mod frame;
 mod groups;
 mod joining;
+mod rows;
 mod settling;
+mod state;
 
 pub use counts::Counts;
 pub use frame::Frame;
+pub use state::GroupState;
 pub use st_format::Cell;

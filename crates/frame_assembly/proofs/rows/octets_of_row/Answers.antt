@@ -1,0 +1,17 @@
+use Rattle.std.proofs.Common.{◌≡◌, ℕ, ◌+◌, ◌*◌, ap, arith}
+use Rattle.frame_assembly.proofs.RowLemmas.{octets_inside, row_inside, row_spelled}
+use Rattle.frame_assembly.proofs.rows.octets_of_row.Goals as goal
+
+pub slice_bounds-result-end : goal.slice_bounds-result-end
+slice_bounds-result-end c =
+    let k : ℕ = c.args.row in
+    let same = c.row_groups-count.ensures.value in
+    let at : k * c.row_groups-count.result ≡ _ = ap (λ (j : ℕ). k * j) same in
+    let le = octets_inside c.args.format.now c.args.marks.now c.args.octets.now (c.args.row * c.row_groups-count.result) c.row_groups-count.result c.pgroup-size.result.octets c.requires.packed
+        (omega (arith, row_inside c.args.format.now c.args.marks.now c.args.row c.requires.whole c.requires.row)) c.pgroup-size.ensures.octets in
+    omega arith
+
+pub returns-clause-spelled : goal.returns-clause-spelled
+returns-clause-spelled c =
+    row_spelled c.args.format.now c.args.marks.now c.args.octets.now c.args.row c.pgroup-size.result.octets c.row_groups-count.result c.pgroup-size.ensures.octets c.row_groups-count.ensures.value
+    c.requires.whole c.requires.packed c.requires.row

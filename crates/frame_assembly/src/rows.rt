@@ -1,0 +1,141 @@
+//! The octets and mark words of a row and of a group.
+ghost use Rattle.std.specs.Prelude.{◌≡◌, ◌<◌, ◌≤◌, ◌+◌, ◌*◌, ◌/◌, ◌==◌, ℕ, List, [], ◌∷◌, length, map, slice_index, take, drop};
+ghost use Rattle.std.specs.Int.{bit_at};
+ghost use Rattle.frame_assembly.specs.Packed.{ArePacked, cells_in, group_count, known_value};
+ghost use Rattle.frame_assembly.specs.Rows.{IsMarkOf, IsStateOf, given_cells, group_cells, group_start, replaced, row_cells, row_groups};
+ghost use Rattle.pgroup_pack.specs.Groups.{blanked};
+ghost use Rattle.st_format.specs.Pgroup.{bits_of, pixel_group};
+ghost use Rattle.st_format.specs.Position.{row_octets};
+ghost use Rattle.st_format.specs.Samples.{Spells, values_in};
+ghost use Rattle.st_format.specs.declared.cell.Cell.{Cell};
+
+use crate::groups::PRESENT;
+use crate::joining::row_groups;
+use crate::state::GroupState;
+use st_format::Format;
+
+/// The octets of a row.
+pub fn octets_of_row<'a>(format: &Format, marks: &[u16], octets: &'a [u8], row: u32) -> &'a [u8]
+    requires whole { length marks.now ≡ group_count format.now }
+    requires packed { ArePacked format.now marks.now octets.now }
+    requires row { row < format.now.height }
+    ensures long { length result.now ≡ row_octets format.now }
+    ensures spelled { Spells (bits_of format.now.depth) result.now (map known_value (row_cells (record { format = format.now; cells = cells_in format.now marks.now octets.now }) row)) }
+{
+    let size = format.pgroup().octets;
+    let count = row_groups(format);
+    let first = row as usize * count;
+    &octets[size * first..size * (first + count)]
+}
+
+/// The mark words of a row.
+pub fn marks_of_row<'a>(format: &Format, marks: &'a [u16], octets: &[u8], row: u32) -> &'a [u16]
+    requires whole { length marks.now ≡ group_count format.now }
+    requires packed { ArePacked format.now marks.now octets.now }
+    requires row { row < format.now.height }
+    ensures long { length result.now ≡ row_groups format.now }
+    ensures marks { (group : ℕ) → group < row_groups format.now → IsMarkOf (slice_index result.now group) (group_cells (record { format = format.now; cells = cells_in format.now marks.now octets.now }) row group) }
+{
+    let count = row_groups(format);
+    let first = row as usize * count;
+    &marks[first..first + count]
+}
+
+/// How many groups stand before a row's group, in raster order.
+fn place_of(format: &Format, row: u32, group: u32) -> usize
+    requires row { row < format.now.height }
+    requires group { group < row_groups format.now }
+    ensures place { result ≡ row * row_groups format.now + group }
+    ensures limit { result < group_count format.now }
+{
+    row as usize * row_groups(format) + group as usize
+}
+
+/// Copies the octets of a group, and tells what is known of it.
+pub fn group_of(
+    format: &Format,
+    marks: &[u16],
+    octets: &[u8],
+    row: u32,
+    group: u32,
+    out: &mut [u8],
+) -> GroupState
+    requires whole { length marks.now ≡ group_count format.now }
+    requires packed { ArePacked format.now marks.now octets.now }
+    requires row { row < format.now.height }
+    requires group { group < row_groups format.now }
+    requires room { length out.old ≡ (pixel_group format.now.sampling format.now.depth).octets }
+    ensures spelled { Spells (bits_of format.now.depth) out.new (map known_value (group_cells (record { format = format.now; cells = cells_in format.now marks.now octets.now }) row group)) }
+    ensures state { IsStateOf result (group_cells (record { format = format.now; cells = cells_in format.now marks.now octets.now }) row group) }
+{
+    let size = format.pgroup().octets;
+    let at = place_of(format, row, group);
+    out.copy_from_slice(&octets[size * at..size * (at + 1)]);
+    state_of(marks[at])
+}
+
+/// What a mark word says of its group's cells.
+fn state_of(mark: u16) -> GroupState
+    ensures { (cells : List Cell) → length cells ≤ 12 → IsMarkOf mark cells → IsStateOf result cells }
+{
+    if mark < PRESENT {
+        GroupState::Gone
+    } else if mark == PRESENT {
+        GroupState::Whole
+    } else {
+        GroupState::Mixed(mark - PRESENT)
+    }
+}
+
+/// Gives a group other octets and contested samples, or makes it missing.
+pub fn set_group_of(
+    format: &Format,
+    marks: &mut [u16],
+    octets: &mut [u8],
+    row: u32,
+    group: u32,
+    from: &[u8],
+    contested: u16,
+    present: bool,
+)
+    requires whole { length marks.old ≡ group_count format.now }
+    requires packed { ArePacked format.now marks.old octets.old }
+    requires row { row < format.now.height }
+    requires group { group < row_groups format.now }
+    requires octets { length from.now ≡ (pixel_group format.now.sampling format.now.depth).octets }
+    requires bits { (i : ℕ) → (pixel_group format.now.sampling format.now.depth).samples ≤ i → bit_at contested i ≡ 0 }
+    requires zero { values_in (bits_of format.now.depth) from.now ≡ blanked contested (values_in (bits_of format.now.depth) from.now) }
+    ensures packed { ArePacked format.now marks.new octets.new }
+    ensures cells { cells_in format.now marks.new octets.new ≡ replaced (group_start format.now row group) (given_cells present contested (values_in (bits_of format.now.depth) from.now)) (cells_in format.now marks.old octets.old) }
+{
+    let at = place_of(format, row, group);
+    if present {
+        put_group(format, marks, octets, at, PRESENT | contested, from);
+    } else {
+        let none = [0; MOST_OCTETS];
+        put_group(format, marks, octets, at, 0, &none[..format.pgroup().octets]);
+    }
+}
+
+/// The most octets that a group has.
+const MOST_OCTETS: usize = 15;
+
+/// Replaces one group.
+fn put_group(
+    format: &Format,
+    marks: &mut [u16],
+    octets: &mut [u8],
+    at: usize,
+    mark: u16,
+    from: &[u8],
+)
+    requires packed { ArePacked format.now marks.old octets.old }
+    requires inside { at < length marks.old }
+    requires group { ArePacked format.now (mark ∷ []) from.now }
+    ensures packed { ArePacked format.now marks.new octets.new }
+    ensures cells { cells_in format.now marks.new octets.new ≡ replaced ((pixel_group format.now.sampling format.now.depth).samples * at) (cells_in format.now (mark ∷ []) from.now) (cells_in format.now marks.old octets.old) }
+{
+    let size = format.pgroup().octets;
+    marks[at] = mark;
+    octets[size * at..size * (at + 1)].copy_from_slice(from);
+}
