@@ -1,9 +1,8 @@
 -- The cell of a number.
-use Rattle.std.proofs.Common.{◌≡◌, ℕ, zero, suc, ◌+◌, ◌-◌, ◌*◌, ◌/◌, ◌%◌, ◌<◌, ◌≤◌, List, [], ◌∷◌, ◌++◌, length, get_or, take, drop, refl, sym, ap, ◌∙◌, arith}
+use Rattle.std.proofs.Common.{◌≡◌, ℕ, zero, suc, ◌+◌, ◌*◌, ◌/◌, ◌%◌, ◌<◌, List, [], ◌∷◌, ◌++◌, length, get_or, take, drop, sym, ap, ◌∙◌, arith}
 use Rattle.std.proofs.lemmas.List.{length-take-le, take-append-drop, get_or-append-add}
 use Rattle.std.proofs.Math.ListN.{get_or-append}
 use Rattle.std.proofs.Math.Nat.{div-add-mod, div-lt_iff_lt-mul, mod-lt, mul-suc, mul_comm}
-use Rattle.st_format.specs.declared.cell.Cell.{Cell}
 use Rattle.st_format.specs.declared.cell.Cell.TheVariants.{Missing}
 use Rattle.st_format.specs.Samples.{values_in}
 use Rattle.frame_assembly.specs.Packed.{cells_from, marked, packed_cells}
@@ -33,9 +32,9 @@ get_or-packed_cells n size samples zero i (m ∷ marks) octets is long lt inside
     let cell_within : i < length (cells_from m 0 vs) = omega (arith, length-cells_from m 0 vs) in
     let zero_is : 0 + i ≡ i = omega arith in
     let values : get_or (values_in n octets) i 0 ≡ get_or vs i 0 =
-        ap (λ (os : List ℕ). get_or (values_in n os) i 0) (sym (take-append-drop size octets))
-        ∙ ap (λ (xs : List ℕ). get_or xs i 0) (both_values n size samples 1 (length marks) (take size octets) (drop size octets) is (first ∙ one) (rest_long size (length marks) octets long))
-        ∙ get_or-append vs ws 0 i within in
+    ap (λ (os : List ℕ). get_or (values_in n os) i 0) (sym (take-append-drop size octets))
+    ∙ ap (λ (xs : List ℕ). get_or xs i 0) (both_values n size samples 1 (length marks) (take size octets) (drop size octets) is (first ∙ one) (rest_long size (length marks) octets long))
+    ∙ get_or-append vs ws 0 i within in
     ap (λ (k : ℕ). get_or (cells_from m 0 vs ++ packed_cells n size marks (drop size octets)) k Missing) e
     ∙ get_or-append (cells_from m 0 vs) (packed_cells n size marks (drop size octets)) Missing i cell_within
     ∙ get_or-cells_from m 0 vs i within ∙ ap (λ (j : ℕ). marked m j (get_or vs i 0)) zero_is
@@ -52,9 +51,9 @@ get_or-packed_cells n size samples (suc g) i (m ∷ marks) octets is long lt ins
     let cells_at : samples * suc g + i ≡ length (cells_from m 0 vs) + k = omega (arith, mul-suc samples g) in
     let values_at : samples * suc g + i ≡ length vs + k = omega (arith, mul-suc samples g) in
     let values : get_or (values_in n octets) (samples * suc g + i) 0 ≡ get_or ws k 0 =
-        ap (λ (os : List ℕ). get_or (values_in n os) (samples * suc g + i) 0) (sym (take-append-drop size octets))
-        ∙ ap (λ (xs : List ℕ). get_or xs (samples * suc g + i) 0) (both_values n size samples 1 (length marks) (take size octets) (drop size octets) is (first ∙ one) rest)
-        ∙ ap (λ (j : ℕ). get_or (vs ++ ws) j 0) values_at ∙ get_or-append-add vs ws k 0 in
+    ap (λ (os : List ℕ). get_or (values_in n os) (samples * suc g + i) 0) (sym (take-append-drop size octets))
+    ∙ ap (λ (xs : List ℕ). get_or xs (samples * suc g + i) 0) (both_values n size samples 1 (length marks) (take size octets) (drop size octets) is (first ∙ one) rest)
+    ∙ ap (λ (j : ℕ). get_or (vs ++ ws) j 0) values_at ∙ get_or-append-add vs ws k 0 in
     ap (λ (j : ℕ). get_or (cells_from m 0 vs ++ packed_cells n size marks (drop size octets)) j Missing) cells_at
     ∙ get_or-append-add (cells_from m 0 vs) (packed_cells n size marks (drop size octets)) k Missing
     ∙ get_or-packed_cells n size samples g i marks (drop size octets) is rest (omega arith) inside

@@ -1,7 +1,7 @@
 -- How many cells of groups are of each kind.
-use Rattle.std.proofs.Common.{◌≡◌, ℕ, zero, suc, ◌+◌, ◌*◌, ◌<◌, ◌≤◌, Bool, true, false, cond, ◌==◌, if◌then◌else◌, List, [], ◌∷◌, ◌++◌, length, get_or, take, drop, replicate, count_by, refl, sym, ap, ◌∙◌, arith}
+use Rattle.std.proofs.Common.{◌≡◌, ℕ, ◌+◌, ◌*◌, ◌<◌, ◌≤◌, Bool, true, false, cond, ◌==◌, if◌then◌else◌, List, [], ◌∷◌, ◌++◌, length, get_or, take, drop, replicate, count_by, refl, sym, ap, ◌∙◌, arith}
 use Rattle.std.specs.Int.{bit_at}
-use Rattle.std.proofs.lemmas.List.{append-nil, get_or-replicate, length-replicate, length-take-le, take_at, take_more}
+use Rattle.std.proofs.lemmas.List.{append-nil, get_or-replicate, length-replicate, take_at, take_more}
 use Rattle.std.proofs.lemmas.List.Sums.{sum_by-append}
 use Rattle.std.proofs.Math.Nat.{mul-add}
 use Rattle.std.proofs.Math.Seq.{take-add}
@@ -36,8 +36,8 @@ one_more p m samples i n r b c lt so_far is_cell is_kind is =
     let within : i < length xs = omega (arith, length-cells_from m 0 (replicate samples 0)) in
     let zero_is : 0 + i ≡ i = omega arith in
     let read : get_or xs i Missing ≡ c =
-        get_or-cells_from m 0 (replicate samples 0) i (omega arith) ∙ ap (λ (j : ℕ). marked m j (get_or {A = ℕ} (replicate samples 0) i 0)) zero_is
-        ∙ ap (marked m i) (get_or-replicate {A = ℕ} samples i 0 0 lt) ∙ sym is_cell in
+    get_or-cells_from m 0 (replicate samples 0) i (omega arith) ∙ ap (λ (j : ℕ). marked m j (get_or {A = ℕ} (replicate samples 0) i 0)) zero_is
+    ∙ ap (marked m i) (get_or-replicate {A = ℕ} samples i 0 0 lt) ∙ sym is_cell in
     let last : count_by p (c ∷ []) ≡ r = (let e : 0 + cond (p c) 1 0 ≡ cond (p c) 1 0 = omega arith in e) ∙ ap (λ (t : Bool). cond t 1 0) (sym is_kind) ∙ sym is in
     sym (ap (count_by p) (take_more xs i Missing within ∙ ap (λ (x : Cell). take i xs ++ x ∷ []) read) ∙ count_both p (take i xs) (c ∷ [])
     ∙ omega (arith, so_far, last))
@@ -83,13 +83,13 @@ group_more p n size samples g count r marks octets same is packed lt so_far now 
     let before = packed_first n size samples g marks octets is (omega arith) packed in
     let part_long : length part ≡ size = one_octets n size samples g marks octets is lt packed in
     let cells : packed_cells n size (take (g + 1) marks) (take (size * (g + 1)) octets)
-        ≡ packed_cells n size (take g marks) (take (size * g) octets) ++ cells_from m 0 (values_in n part) =
-        ap (λ (ms : List ℕ). packed_cells n size ms (take (size * (g + 1)) octets)) (take_more marks g 0 lt)
-        ∙ ap (packed_cells n size (take g marks ++ m ∷ [])) (ap (λ (k : ℕ). take k octets) split ∙ take-add (size * g) size octets)
-        ∙ packed_cells-append n size (take g marks) (take (size * g) octets) (m ∷ []) part before.first.long
-        ∙ ap (λ (cs : List Cell). packed_cells n size (take g marks) (take (size * g) octets) ++ cs) (one_cells n size m part part_long) in
+    ≡ packed_cells n size (take g marks) (take (size * g) octets) ++ cells_from m 0 (values_in n part) =
+    ap (λ (ms : List ℕ). packed_cells n size ms (take (size * (g + 1)) octets)) (take_more marks g 0 lt)
+    ∙ ap (packed_cells n size (take g marks ++ m ∷ [])) (ap (λ (k : ℕ). take k octets) split ∙ take-add (size * g) size octets)
+    ∙ packed_cells-append n size (take g marks) (take (size * g) octets) (m ∷ []) part before.first.long
+    ∙ ap (λ (cs : List Cell). packed_cells n size (take g marks) (take (size * g) octets) ++ cs) (one_cells n size m part part_long) in
     let here : count_by p (cells_from m 0 (values_in n part)) ≡ r =
-        cells_kind p m 0 (values_in n part) same ∙ ap (λ (k : ℕ). count_by p (cells_from m 0 (replicate k 0))) (one_long n size samples part is part_long) ∙ sym now in
+    cells_kind p m 0 (values_in n part) same ∙ ap (λ (k : ℕ). count_by p (cells_from m 0 (replicate k 0))) (one_long n size samples part is part_long) ∙ sym now in
     sym (ap (count_by p) cells ∙ count_both p (packed_cells n size (take g marks) (take (size * g) octets)) (cells_from m 0 (values_in n part)) ∙ omega (arith, so_far, here))
 
 pub groups_counted : (p : Cell → Bool) (n size samples g count : ℕ) (marks octets : List ℕ) → IsPacked n size samples marks octets → length marks ≤ g → g ≤ length marks

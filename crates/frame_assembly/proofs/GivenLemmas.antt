@@ -1,12 +1,12 @@
 -- One group that is replaced.
-use Rattle.std.proofs.Common.{◌≡◌, ℕ, zero, suc, ◌+◌, ◌-◌, ◌*◌, ◌^◌, ◌<◌, ◌≤◌, max, Bool, true, false, ◌==◌, if◌then◌else◌, List, [], ◌∷◌, ◌++◌, length, get_or, set, take, drop, map, replicate, bit_or, refl, sym, ap, ◌∙◌, subst, inl, inr, arith}
+use Rattle.std.proofs.Common.{◌≡◌, ℕ, zero, suc, ◌+◌, ◌-◌, ◌*◌, ◌<◌, ◌≤◌, max, ◌==◌, if◌then◌else◌, List, [], ◌∷◌, ◌++◌, length, set, take, drop, map, replicate, bit_or, refl, sym, ap, ◌∙◌, subst, inr, arith}
 use Rattle.std.specs.Int.{bit_at}
-use Rattle.std.proofs.lemmas.List.{drop_at, length-replicate, take_at}
+use Rattle.std.proofs.lemmas.List.{drop_at, take_at}
 use Rattle.std.proofs.lemmas.Nat.Bits.{bit_at-lt, bit_at-pow_other, bit_at_or}
 use Rattle.std.proofs.Math.Nat.{mul-add}
 use borrow.Rule.Slice.PartMut.{put_mid}
 use Rattle.st_format.specs.declared.cell.Cell.{Cell}
-use Rattle.st_format.specs.declared.cell.Cell.TheVariants.{Missing, Value, Contested}
+use Rattle.st_format.specs.declared.cell.Cell.TheVariants.{Missing}
 use Rattle.st_format.specs.declared.format.Sampling.{Sampling}
 use Rattle.st_format.specs.declared.format.Sampling.TheVariants.{Ycc422, Ycc444, Rgb}
 use Rattle.st_format.specs.declared.format.Depth.{Depth}
@@ -15,7 +15,7 @@ use Rattle.st_format.specs.Pgroup.{pixel_group}
 use Rattle.st_format.specs.Samples.{values_in}
 use Rattle.pgroup_pack.specs.Groups.{blanked, blanked_from}
 use Rattle.frame_assembly.specs.Packed.{IsMark, IsPacked, cells_from, known_value, marked, packed_cells}
-use Rattle.frame_assembly.specs.Rows.{given_cells, given_from, replaced}
+use Rattle.frame_assembly.specs.Rows.{given_from, replaced}
 use Rattle.frame_assembly.proofs.PackedLemmas.{AreSizes, IsPacked-append, length-packed_cells, one_long, packed_cells-append}
 use Rattle.frame_assembly.proofs.GroupJoins.{known_blanked, marked_seen, one_cells, seen}
 use Rattle.frame_assembly.proofs.GroupCells.{split_cells}
@@ -31,7 +31,7 @@ replaced_here : (xs new bs cs cells : List Cell) (k : ℕ) → cells ≡ xs ++ (
 replaced_here xs new bs cs cells k split long alike =
     let front : take k cells ≡ xs = ap (take k) split ∙ take_at xs (bs ++ cs) k long in
     let back : drop (length new) (drop k cells) ≡ cs =
-        ap (λ (zs : List Cell). drop (length new) (drop k zs)) split ∙ ap (drop (length new)) (drop_at xs (bs ++ cs) k long) ∙ drop_at bs cs (length new) alike in
+    ap (λ (zs : List Cell). drop (length new) (drop k zs)) split ∙ ap (drop (length new)) (drop_at xs (bs ++ cs) k long) ∙ drop_at bs cs (length new) alike in
     sym (ap (λ (zs : List Cell). zs ++ (new ++ drop (length new) (drop k cells))) front ∙ ap (λ (zs : List Cell). xs ++ (new ++ zs)) back)
 
 pub group_replaced : (n size samples at mark z : ℕ) (from marks octets part : List ℕ) → AreSizes n size samples → at < length marks → IsPacked n size samples marks octets → IsPacked n size samples (mark ∷ []) from
@@ -46,13 +46,13 @@ group_replaced n size samples at mark z from marks octets part is lt packed one 
     let count : size * (at + 1) - size * at ≡ size * 1 = omega (arith, mul-add size at 1) in
     let new_long : length new ≡ samples * 1 = length-packed_cells n size samples (mark ∷ []) from is one.long in
     let tail : IsPacked n size samples (mark ∷ drop 1 (drop at marks)) (from ++ drop (size * 1) (drop (size * at) octets)) =
-        IsPacked-append n size samples (mark ∷ []) from (drop 1 (drop at marks)) (drop (size * 1) (drop (size * at) octets)) is one are.behind_packed in
+    IsPacked-append n size samples (mark ∷ []) from (drop 1 (drop at marks)) (drop (size * 1) (drop (size * at) octets)) is one are.behind_packed in
     let here : IsReplaced n size samples at mark from marks octets (take at marks ++ mark ∷ drop 1 (drop at marks)) (take (size * at) octets ++ (from ++ drop (size * 1) (drop (size * at) octets))) = record {
-        packed = IsPacked-append n size samples (take at marks) (take (size * at) octets) (mark ∷ drop 1 (drop at marks)) (from ++ drop (size * 1) (drop (size * at) octets)) is are.before_packed tail;
-        cells =
-            packed_cells-append n size (take at marks) (take (size * at) octets) (mark ∷ drop 1 (drop at marks)) (from ++ drop (size * 1) (drop (size * at) octets)) are.before_packed.long
-            ∙ ap (λ (zs : List Cell). xs ++ zs) (packed_cells-append n size (mark ∷ []) from (drop 1 (drop at marks)) (drop (size * 1) (drop (size * at) octets)) one.long)
-            ∙ replaced_here xs new bs cs (packed_cells n size marks octets) (samples * at) are.split are.before (are.here ∙ sym new_long);
+      packed = IsPacked-append n size samples (take at marks) (take (size * at) octets) (mark ∷ drop 1 (drop at marks)) (from ++ drop (size * 1) (drop (size * at) octets)) is are.before_packed tail;
+      cells =
+          packed_cells-append n size (take at marks) (take (size * at) octets) (mark ∷ drop 1 (drop at marks)) (from ++ drop (size * 1) (drop (size * at) octets)) are.before_packed.long
+          ∙ ap (λ (zs : List Cell). xs ++ zs) (packed_cells-append n size (mark ∷ []) from (drop 1 (drop at marks)) (drop (size * 1) (drop (size * at) octets)) one.long)
+          ∙ replaced_here xs new bs cs (packed_cells n size marks octets) (samples * at) are.split are.before (are.here ∙ sym new_long);
     } in
     subst (λ (ms : List ℕ). IsReplaced n size samples at mark from marks octets ms (put_mid (z * at) (z * (at + 1) - z * at) octets part)) (set_split at marks mark lt)
     (subst (λ (y : ℕ). IsReplaced n size samples at mark from marks octets (take at marks ++ mark ∷ drop 1 (drop at marks)) (put_mid (y * at) (y * (at + 1) - y * at) octets part)) (sym same)

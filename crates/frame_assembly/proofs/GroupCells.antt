@@ -1,5 +1,5 @@
 -- The cells of a part of the groups.
-use Rattle.std.proofs.Common.{◌≡◌, ℕ, zero, suc, ◌+◌, ◌-◌, ◌*◌, ◌/◌, ◌^◌, ◌<◌, ◌≤◌, Bool, true, false, ◌==◌, if◌then◌else◌, List, [], ◌∷◌, ◌++◌, length, get_or, take, drop, map, refl, sym, ap, ◌∙◌, subst, inl, inr, arith}
+use Rattle.std.proofs.Common.{◌≡◌, ℕ, zero, suc, ◌+◌, ◌-◌, ◌*◌, ◌^◌, ◌<◌, ◌≤◌, Bool, true, false, ◌==◌, if◌then◌else◌, List, [], ◌∷◌, ◌++◌, length, get_or, take, drop, map, refl, sym, ap, ◌∙◌, subst, inl, inr, arith}
 use Rattle.std.specs.Int.{bit_at}
 use Rattle.std.specs.List.{AllByRecursion}
 use Rattle.std.proofs.lemmas.Bool.{cases_lt}
@@ -44,9 +44,9 @@ split_cells n size samples at count marks octets is le packed =
           ∙ ap (packed_cells n size (am ++ drop at marks)) (sym (take-append-drop (size * at) octets))
           ∙ packed_cells-append n size am ao (drop at marks) (drop (size * at) octets) a.first.long
           ∙ ap (λ (zs : List Cell). packed_cells n size am ao ++ zs)
-            (ap (λ (ms : List ℕ). packed_cells n size ms (drop (size * at) octets)) (sym (take-append-drop count (drop at marks)))
-            ∙ ap (packed_cells n size (bm ++ cm)) (sym (take-append-drop (size * count) (drop (size * at) octets)))
-            ∙ packed_cells-append n size bm bo cm co bc.first.long);
+          (ap (λ (ms : List ℕ). packed_cells n size ms (drop (size * at) octets)) (sym (take-append-drop count (drop at marks)))
+          ∙ ap (packed_cells n size (bm ++ cm)) (sym (take-append-drop (size * count) (drop (size * at) octets)))
+          ∙ packed_cells-append n size bm bo cm co bc.first.long);
       before = length-packed_cells n size samples am ao is a.first.long ∙ ap (λ (k : ℕ). samples * k) am_long;
       here = length-packed_cells n size samples bm bo is bc.first.long ∙ ap (λ (k : ℕ). samples * k) bm_long;
       before_packed = a.first;
@@ -106,7 +106,7 @@ unfolding IsMark
 mark_of samples m vs long (inl e) =
     let clear : (i : ℕ) → bit_at m i ≡ 0 = λ i. ap (λ (x : ℕ). bit_at x i) e ∙ bit_at-zero i in
     let cell : (i : ℕ) → i < length (cells_from m 0 vs) → get_or (cells_from m 0 vs) i Missing ≡ Missing =
-        λ i lt. get_or-cells_from m 0 vs i (omega (arith, length-cells_from m 0 vs)) ∙ marked_missing m (0 + i) (get_or vs i 0) (clear 15) in
+    λ i lt. get_or-cells_from m 0 vs i (omega (arith, length-cells_from m 0 vs)) ∙ marked_missing m (0 + i) (get_or vs i 0) (clear 15) in
     record {
       missing = λ i lt. ap is_missing (cell i lt) ∙ ap (λ (b : ℕ). b == 0) (sym (clear 15));
       contested = λ i lt. ap is_contested (cell i lt) ∙ ap (λ (b : ℕ). b == 1) (sym (clear i));
@@ -114,8 +114,8 @@ mark_of samples m vs long (inl e) =
     }
 mark_of samples m vs long (inr h) =
     let cell : (i : ℕ) → i < length (cells_from m 0 vs) → get_or (cells_from m 0 vs) i Missing ≡ seen (bit_at m i) (get_or vs i 0) =
-        λ i lt. let zero_is : 0 + i ≡ i = omega arith in
-            get_or-cells_from m 0 vs i (omega (arith, length-cells_from m 0 vs)) ∙ ap (λ (j : ℕ). marked m j (get_or vs i 0)) zero_is ∙ marked_seen m i (get_or vs i 0) h.0 in
+    λ i lt. let zero_is : 0 + i ≡ i = omega arith in
+    get_or-cells_from m 0 vs i (omega (arith, length-cells_from m 0 vs)) ∙ ap (λ (j : ℕ). marked m j (get_or vs i 0)) zero_is ∙ marked_seen m i (get_or vs i 0) h.0 in
     record {
       missing = λ i lt. ap is_missing (cell i lt) ∙ missing_seen (get_or vs i 0) (bit_at m i == 1) ∙ ap (λ (b : ℕ). b == 0) (sym h.0);
       contested = λ i lt. ap is_contested (cell i lt) ∙ contested_seen (get_or vs i 0) (bit_at m i == 1);
@@ -135,11 +135,6 @@ present_else : (c : Cell) → is_missing c ≡ false → is_contested c ≡ fals
 present_else Missing e f = let g = e in cc
 present_else (Value v) e f = refl
 present_else Contested e f = let g = f in cc
-
-pub gone : (m : ℕ) (cells : List Cell) → m < 32768 → IsMarkOf m cells → (i : ℕ) → i < length cells → is_missing (get_or cells i Missing) ≡ true
-gone m cells lt is i within =
-    let e : bit_at m 15 ≡ 0 = omega arith in
-    is.missing i within ∙ ap (λ (b : ℕ). b == 0) e
 
 pub not_missing : (m : ℕ) (cells : List Cell) → 32768 ≤ m → m < 65536 → IsMarkOf m cells → (i : ℕ) → i < length cells → is_missing (get_or cells i Missing) ≡ false
 not_missing m cells ge lt is i within =

@@ -1,9 +1,9 @@
 -- Groups that are joined at once, and one group.
-use Rattle.std.proofs.Common.{◌≡◌, ℕ, zero, suc, ◌+◌, ◌-◌, ◌*◌, ◌/◌, ◌%◌, ◌^◌, ◌<◌, ◌≤◌, max, Bool, true, false, ◌==◌, if◌then◌else◌, List, [], ◌∷◌, ◌++◌, length, get_or, take, drop, map, bit_and, bit_or, refl, sym, ap, ◌∙◌, subst, inl, inr, arith, length-append}
+use Rattle.std.proofs.Common.{◌≡◌, ℕ, zero, suc, ◌+◌, ◌*◌, ◌/◌, ◌^◌, ◌<◌, ◌≤◌, max, Bool, true, false, ◌==◌, if◌then◌else◌, List, [], ◌∷◌, ◌++◌, length, get_or, take, drop, map, bit_and, bit_or, refl, sym, ap, ◌∙◌, subst, inl, inr, arith}
 use Rattle.std.specs.Int.{bit_at}
 use Rattle.std.specs.List.{AllByRecursion}
 use Rattle.std.proofs.lemmas.Bool.{eq-eqb, ne_eqb}
-use Rattle.std.proofs.lemmas.List.{append-nil, nil_from_length, take_at, length-drop, length-take-le}
+use Rattle.std.proofs.lemmas.List.{append-nil, take_at}
 use Rattle.std.proofs.lemmas.Nat.Bits.{bit_at-lt, bit_at-zero, bit_at_or, shr_and_one}
 use Rattle.st_format.specs.declared.cell.Cell.{Cell}
 use Rattle.st_format.specs.declared.cell.Cell.TheVariants.{Missing, Value, Contested}
@@ -12,7 +12,7 @@ use Rattle.st_format.specs.Raster.{joined}
 use Rattle.st_format.specs.Samples.{values_in}
 use Rattle.pgroup_pack.specs.Groups.{blanked, blanked_from, differs_at}
 use Rattle.frame_assembly.specs.Packed.{IsMark, IsPacked, Joins, cells_from, known_value, marked, packed_cells}
-use Rattle.frame_assembly.proofs.PackedLemmas.{AreSizes, first_long, joined-append, length-cells_from, length-packed_cells, one_long, rest_long}
+use Rattle.frame_assembly.proofs.PackedLemmas.{AreSizes, length-packed_cells, one_long}
 
 -- ---- groups that are the same
 
@@ -153,18 +153,18 @@ cells_both m o c i (v ∷ vs) [] long is = absurd (omega arith)
 cells_both m o c i (v ∷ vs) (w ∷ ws) long is =
     let zero_is : i + 0 ≡ i = omega arith in
     let here : bit_at c i ≡ max (max (bit_at m i) (bit_at o i)) (if v == w then 0 else 1) =
-        subst (λ (j : ℕ). bit_at c j ≡ max (max (bit_at m j) (bit_at o j)) (if v == w then 0 else 1)) zero_is (is.bits 0) in
+    subst (λ (j : ℕ). bit_at c j ≡ max (max (bit_at m j) (bit_at o j)) (if v == w then 0 else 1)) zero_is (is.bits 0) in
     let first : marked c i (if bit_at c i == 1 then 0 else v) ≡ join (marked m i v) (marked o i w) =
-        marked_seen c i (if bit_at c i == 1 then 0 else v) is.both
-        ∙ join_seen (bit_at m i) (bit_at o i) (bit_at c i) v w (v == w) (bit_at-lt m i) (bit_at-lt o i) refl here
-        ∙ ap (λ (x : Cell). join x (seen (bit_at o i) w)) (sym (marked_seen m i v is.present))
-        ∙ ap (join (marked m i v)) (sym (marked_seen o i w is.other)) in
+    marked_seen c i (if bit_at c i == 1 then 0 else v) is.both
+    ∙ join_seen (bit_at m i) (bit_at o i) (bit_at c i) v w (v == w) (bit_at-lt m i) (bit_at-lt o i) refl here
+    ∙ ap (λ (x : Cell). join x (seen (bit_at o i) w)) (sym (marked_seen m i v is.present))
+    ∙ ap (join (marked m i v)) (sym (marked_seen o i w is.other)) in
     let rest = cells_both m o c (i + 1) vs ws (omega arith) (record {
-        present = is.present;
-        other = is.other;
-        both = is.both;
-        bits = λ k. let e : i + suc k ≡ i + 1 + k = omega arith in
-            subst (λ (j : ℕ). bit_at c j ≡ max (max (bit_at m j) (bit_at o j)) (differs_at vs ws k)) e (is.bits (suc k));
+      present = is.present;
+      other = is.other;
+      both = is.both;
+      bits = λ k. let e : i + suc k ≡ i + 1 + k = omega arith in
+          subst (λ (j : ℕ). bit_at c j ≡ max (max (bit_at m j) (bit_at o j)) (differs_at vs ws k)) e (is.bits (suc k));
     }) in
     rw (first, rest) refl
 
@@ -230,7 +230,7 @@ group_joined n size samples m o d octets others new_octets is packed other high_
     let vs_long : length vs ≡ samples = one_long n size samples octets is octets_long in
     let ws_long : length ws ≡ samples = one_long n size samples others is others_long in
     let bits : (i : ℕ) → bit_at c i ≡ max (max (bit_at m i) (bit_at o i)) (differs_at vs ws i) =
-        λ i. bit_at_or (bit_or m o) d i ∙ ap (λ (x : ℕ). max x (bit_at d i)) (bit_at_or m o i) ∙ ap (max (max (bit_at m i) (bit_at o i))) (differ i) in
+    λ i. bit_at_or (bit_or m o) d i ∙ ap (λ (x : ℕ). max x (bit_at d i)) (bit_at_or m o i) ∙ ap (max (max (bit_at m i) (bit_at o i))) (differ i) in
     let present : bit_at m 15 ≡ 1 = high_bit m high_m fits_m in
     let present_other : bit_at o 15 ≡ 1 = high_bit o high_o fits_o in
     let few = is.few in

@@ -1,5 +1,5 @@
 -- What a frame keeps, and its cells.
-use Rattle.std.proofs.Common.{◌≡◌, ℕ, zero, suc, ◌+◌, ◌*◌, ◌/◌, ◌%◌, ◌^◌, ◌<◌, ◌≤◌, Bool, true, false, ◌==◌, if◌then◌else◌, List, [], ◌∷◌, ◌++◌, length, get_or, take, drop, map, replicate, refl, sym, ap, ◌∙◌, subst, inl, inr, arith}
+use Rattle.std.proofs.Common.{◌≡◌, ℕ, zero, suc, ◌+◌, ◌*◌, ◌^◌, ◌<◌, Bool, true, false, ◌==◌, if◌then◌else◌, List, [], ◌∷◌, ◌++◌, length, get_or, take, drop, map, replicate, refl, sym, ap, ◌∙◌, subst, inl, arith}
 use Rattle.std.specs.Int.{bit_at}
 use Rattle.std.specs.List.{AllByRecursion, flat_map}
 use Rattle.std.proofs.lemmas.List.{get_or-replicate, length-replicate, replicate-append-replicate, take_at}
@@ -8,11 +8,11 @@ use Rattle.std.proofs.lemmas.Nat.{pow_pos}
 use Rattle.st_format.specs.declared.cell.Cell.{Cell}
 use Rattle.st_format.specs.declared.cell.Cell.TheVariants.{Missing, Value, Contested}
 use Rattle.st_format.specs.declared.format.Format.{Format}
-use Rattle.st_format.specs.Fit.{CellFits, IsFrame}
+use Rattle.st_format.specs.Fit.{CellFits}
 use Rattle.st_format.specs.Pgroup.{bits_of, pixel_group}
 use Rattle.st_format.specs.Picture.{FitsDepth}
 use Rattle.st_format.specs.Position.{sample_count}
-use Rattle.st_format.specs.Raster.{Raster, blank, cells_of, joined, joined_rasters, offers_in_all}
+use Rattle.st_format.specs.Raster.{Raster, cells_of, joined, joined_rasters, offers_in_all}
 use Rattle.payload_header.specs.declared.payload.Segment.{Segment as SegmentView}
 use Rattle.payload_header.specs.declared.payload.PayloadView.{PayloadView}
 use Rattle.payload_header.specs.Payload.{seen}

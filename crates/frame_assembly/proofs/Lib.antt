@@ -13,6 +13,5 @@ pub mod Kept
 pub mod WrittenLemmas
 pub mod SegmentPut
 pub mod Put
-pub mod Blocks
 pub mod SettledLemmas
 pub mod Absorbed

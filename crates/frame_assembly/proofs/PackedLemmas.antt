@@ -1,7 +1,7 @@
 -- Groups as a frame keeps them: one part after the other.
-use Rattle.std.proofs.Common.{◌≡◌, ℕ, zero, suc, ◌+◌, ◌-◌, ◌*◌, ◌/◌, ◌<◌, ◌≤◌, List, [], ◌∷◌, ◌++◌, length, take, drop, map, refl, sym, ap, ◌∙◌, subst, arith, append_assoc, length-append}
+use Rattle.std.proofs.Common.{◌≡◌, ℕ, suc, ◌+◌, ◌*◌, ◌/◌, ◌<◌, ◌≤◌, List, [], ◌∷◌, ◌++◌, length, take, drop, map, refl, sym, ap, ◌∙◌, arith, append_assoc, length-append}
 use Rattle.std.specs.List.{AllByRecursion}
-use Rattle.std.proofs.lemmas.List.{append-nil, drop-append-le, length-drop, length-take-le, map-append, nil_from_length, take-append-drop, take-append-le}
+use Rattle.std.proofs.lemmas.List.{drop-append-le, length-drop, length-take-le, map-append, nil_from_length, take-append-le}
 use Rattle.std.proofs.Math.Nat.{mul-add, mul-div_cancel_left, mul-suc, mul_assoc}
 use Rattle.st_format.specs.declared.cell.Cell.{Cell}
 use Rattle.st_format.specs.declared.format.Sampling.{Sampling}
@@ -12,10 +12,9 @@ use Rattle.st_format.specs.Cell.{join}
 use Rattle.st_format.specs.Pgroup.{bits_of, pixel_group}
 use Rattle.st_format.specs.Raster.{joined}
 use Rattle.st_format.specs.Samples.{values_in}
-use Rattle.st_format.proofs.Rasters.{length-joined}
 use Rattle.st_format.proofs.WholeOctets.{AllByRecursion-append}
 use Rattle.pgroup_pack.proofs.Values.{length-values_in, values_in-append}
-use Rattle.frame_assembly.specs.Packed.{IsMark, IsPacked, Joins, cells_from, known_value, marked, packed_cells}
+use Rattle.frame_assembly.specs.Packed.{IsMark, IsPacked, Joins, cells_from, known_value, packed_cells}
 
 -- A group's bits are those of its samples.
 pub record AreSizes (n size samples : ℕ) : Type 0 where
@@ -150,14 +149,14 @@ pub IsPacked-parts : (n size samples : ℕ) (marks octets others rest : List ℕ
     → IsPacked n size samples (marks ++ others) (octets ++ rest) → AreParts n size samples marks octets others rest
 IsPacked-parts n size samples marks octets others rest is long a =
     let rest_long : length rest ≡ size * length others =
-        omega (arith, a.long, long, length-append octets rest, ap (λ (k : ℕ). size * k) (length-append marks others), mul-add size (length marks) (length others)) in
+    omega (arith, a.long, long, length-append octets rest, ap (λ (k : ℕ). size * k) (length-append marks others), mul-add size (length marks) (length others)) in
     let cs : List Cell = packed_cells n size marks octets in
     let ds : List Cell = packed_cells n size others rest in
     let split : values_in n octets ++ values_in n rest ≡ map known_value cs ++ map known_value ds =
-        sym (both_values n size samples (length marks) (length others) octets rest is long rest_long) ∙ a.known
-        ∙ ap (map known_value) (packed_cells-append n size marks octets others rest long) ∙ map-append known_value cs ds in
+    sym (both_values n size samples (length marks) (length others) octets rest is long rest_long) ∙ a.known
+    ∙ ap (map known_value) (packed_cells-append n size marks octets others rest long) ∙ map-append known_value cs ds in
     let alike : length (values_in n octets) ≡ length (map known_value cs) =
-        length-groups n size samples (length marks) octets is long ∙ sym (length-map known_value cs ∙ length-packed_cells n size samples marks octets is long) in
+    length-groups n size samples (length marks) octets is long ∙ sym (length-map known_value cs ∙ length-packed_cells n size samples marks octets is long) in
     record {
       first = record {
         long = long;
@@ -188,7 +187,7 @@ Joins-append n size samples ms os ms1 os1 ms2 os2 ns ps ns1 ps1 ns2 ps2 is long 
     let cs : List Cell = packed_cells n size ms1 os1 in
     let ds : List Cell = packed_cells n size ns1 ps1 in
     let same : length xs0 ≡ length cs =
-        length-packed_cells n size samples ms os is long ∙ ap (λ (k : ℕ). samples * k) (sym alike) ∙ sym (length-packed_cells n size samples ms1 os1 is long1) in
+    length-packed_cells n size samples ms os is long ∙ ap (λ (k : ℕ). samples * k) (sym alike) ∙ sym (length-packed_cells n size samples ms1 os1 is long1) in
     record {
       packed = IsPacked-append n size samples ms2 os2 ns2 ps2 is a.packed b.packed;
       long = omega (arith, length-append ms2 ns2, length-append ms ns, a.long, b.long);

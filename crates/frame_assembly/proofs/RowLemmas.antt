@@ -1,5 +1,5 @@
 -- Rows and groups of a raster, in the code's numbers.
-use Rattle.std.proofs.Common.{◌≡◌, ℕ, ◌+◌, ◌-◌, ◌*◌, ◌/◌, ◌<◌, ◌≤◌, List, length, get_or, take, drop, map, refl, sym, ap, ◌∙◌, subst, arith}
+use Rattle.std.proofs.Common.{◌≡◌, ℕ, ◌+◌, ◌-◌, ◌*◌, ◌<◌, ◌≤◌, List, length, get_or, take, drop, map, sym, ap, ◌∙◌, subst, arith}
 use Rattle.std.proofs.lemmas.List.{get_or-drop, get_or-take, length-take}
 use Rattle.std.proofs.Math.Nat.{mul-add}
 use Rattle.st_format.specs.declared.format.Format.{Format}
@@ -32,7 +32,7 @@ octets_inside f marks octets at count z packed le same =
 
 row_spelled_here : (f : Format) (marks octets : List ℕ) (row : ℕ) → length marks ≡ group_count f → ArePacked f marks octets → row < f.height
     → Spells (bits_of f.depth) (take ((pixel_group f.sampling f.depth).octets * (row * row_groups f + row_groups f) - (pixel_group f.sampling f.depth).octets * (row * row_groups f))
-      (drop ((pixel_group f.sampling f.depth).octets * (row * row_groups f)) octets)) (map known_value (row_cells (raster_in f marks octets) row))
+    (drop ((pixel_group f.sampling f.depth).octets * (row * row_groups f)) octets)) (map known_value (row_cells (raster_in f marks octets) row))
 row_spelled_here f marks octets row whole packed lt =
     let size : ℕ = (pixel_group f.sampling f.depth).octets in
     let s : ℕ = (pixel_group f.sampling f.depth).samples in
@@ -59,8 +59,8 @@ row_marks f marks octets row count same whole packed lt group below =
     let k : ℕ = row * row_groups f + group in
     let at : row * count ≡ row * row_groups f = ap (λ (c : ℕ). row * c) same in
     let read : get_or (take (row * count + count - row * count) (drop (row * count) marks)) group 0 ≡ get_or marks k 0 =
-        get_or-take (row * count + count - row * count) (drop (row * count) marks) group 0 (omega arith) ∙ get_or-drop (row * count) marks group 0
-        ∙ ap (λ (j : ℕ). get_or marks (j + group) 0) at in
+    get_or-take (row * count + count - row * count) (drop (row * count) marks) group 0 (omega arith) ∙ get_or-drop (row * count) marks group 0
+    ∙ ap (λ (j : ℕ). get_or marks (j + group) 0) at in
     subst (λ (m : ℕ). IsMarkOf m (group_cells (raster_in f marks octets) row group)) (sym read)
     (group_mark (bits_of f.depth) (pixel_group f.sampling f.depth).octets (pixel_group f.sampling f.depth).samples k marks octets (sizes f.sampling f.depth) (group_inside f marks row group whole lt below) packed)
 

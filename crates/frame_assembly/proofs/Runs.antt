@@ -1,20 +1,13 @@
 -- Runs of groups that are joined part by part.
-use Rattle.std.proofs.Common.{◌≡◌, ℕ, zero, suc, ◌+◌, ◌-◌, ◌*◌, ◌/◌, ◌<◌, ◌≤◌, Bool, true, false, ◌==◌, if◌then◌else◌, List, [], ◌∷◌, ◌++◌, length, get_or, set, take, drop, map, replicate, refl, sym, ap, ◌∙◌, subst, inl, inr, arith, append_assoc, length-append}
-use Rattle.std.specs.Int.{bit_at}
-use Rattle.std.specs.List.{AllByRecursion}
-use Rattle.std.proofs.lemmas.Bool.{eq-eqb}
-use Rattle.std.proofs.lemmas.List.{append-nil, drop_all, drop_more, drop-drop, drop_at, length-drop, length-take-le, take-append-drop, take_at, take_rest}
+use Rattle.std.proofs.Common.{◌≡◌, ℕ, zero, suc, ◌+◌, ◌-◌, ◌*◌, ◌<◌, ◌≤◌, List, [], ◌∷◌, ◌++◌, length, get_or, set, take, drop, refl, sym, ap, ◌∙◌, subst, arith, append_assoc, length-append}
+use Rattle.std.proofs.lemmas.List.{append-nil, drop_more, drop-drop, drop_at, length-drop, length-take-le, take-append-drop, take_at}
 use Rattle.std.proofs.Math.Nat.{mul-add}
 use borrow.Rule.Slice.PartMut.{put_mid}
 use Rattle.std.proofs.Math.Seq.{take-add}
-use Rattle.st_format.specs.declared.cell.Cell.{Cell}
-use Rattle.st_format.specs.declared.cell.Cell.TheVariants.{Missing, Value, Contested}
-use Rattle.st_format.specs.Cell.{join}
-use Rattle.st_format.specs.Raster.{joined}
 use Rattle.st_format.specs.Samples.{values_in}
 use Rattle.st_format.proofs.Spelled.{values_in-spelled}
-use Rattle.frame_assembly.specs.Packed.{IsMark, IsPacked, Joins, cells_from, known_value, marked, packed_cells, whole_marks}
-use Rattle.frame_assembly.proofs.PackedLemmas.{AreParts, AreSizes, IsPacked-parts, Joins-append, first_long, joined-append, length-cells_from, length-packed_cells, length-groups, one_long, rest_long, sizes}
+use Rattle.frame_assembly.specs.Packed.{IsPacked, Joins, packed_cells}
+use Rattle.frame_assembly.proofs.PackedLemmas.{AreParts, AreSizes, IsPacked-parts, Joins-append, sizes}
 use Rattle.st_format.specs.declared.format.Sampling.{Sampling}
 use Rattle.st_format.specs.declared.format.Depth.{Depth}
 use Rattle.st_format.specs.Pgroup.{bits_of, pixel_group}
@@ -140,13 +133,13 @@ joined_more n size samples at count end marks octets other_marks others now_mark
     let before = packed_first n size samples at marks octets are.sizes (omega arith) are.packed in
     let before_others = packed_first n size samples at other_marks others are.sizes (omega (arith, are.alike)) are.other in
     let alike : length (take at other_marks) ≡ length (take at marks) =
-        length-take-le at other_marks (omega (arith, are.alike)) ∙ sym (length-take-le at marks (omega arith)) in
+    length-take-le at other_marks (omega (arith, are.alike)) ∙ sym (length-take-le at marks (omega arith)) in
     let here : Joins n size samples (marks_part at count marks) (octets_part size at count octets) (marks_part at count other_marks) (octets_part size at count others) part_marks part_octets =
-        subst (λ (xs : List ℕ). Joins n size samples (take count xs) (octets_part size at count octets) (marks_part at count other_marks) (octets_part size at count others) part_marks part_octets) so_far.marks_left
-        (subst (λ (xs : List ℕ). Joins n size samples (marks_part at count now_marks) (take (size * count) xs) (marks_part at count other_marks) (octets_part size at count others) part_marks part_octets) so_far.octets_left step) in
+    subst (λ (xs : List ℕ). Joins n size samples (take count xs) (octets_part size at count octets) (marks_part at count other_marks) (octets_part size at count others) part_marks part_octets) so_far.marks_left
+    (subst (λ (xs : List ℕ). Joins n size samples (marks_part at count now_marks) (take (size * count) xs) (marks_part at count other_marks) (octets_part size at count others) part_marks part_octets) so_far.octets_left step) in
     let both = Joins-append n size samples (take at marks) (take (size * at) octets) (take at other_marks) (take (size * at) others) (take at now_marks) (take (size * at) now_octets)
-        (marks_part at count marks) (octets_part size at count octets) (marks_part at count other_marks) (octets_part size at count others) part_marks part_octets
-        are.sizes before.first.long before_others.first.long alike so_far.done here in
+    (marks_part at count marks) (octets_part size at count octets) (marks_part at count other_marks) (octets_part size at count others) part_marks part_octets
+    are.sizes before.first.long before_others.first.long alike so_far.done here in
     let marks_is : (xs : List ℕ) → take end xs ≡ take at xs ++ marks_part at count xs = λ xs. ap (λ (k : ℕ). take k xs) e ∙ take-add at count xs in
     let octets_is : (xs : List ℕ) → take (size * end) xs ≡ take (size * at) xs ++ octets_part size at count xs = λ xs. ap (λ (k : ℕ). take k xs) split ∙ take-add (size * at) (size * count) xs in
     let new_marks : take end ms ≡ take at now_marks ++ part_marks = ap (λ (k : ℕ). take k ms) e ∙ take_written at count now_marks part_marks room part_long in
@@ -229,12 +222,12 @@ pub part_joined : (n size samples at count end a c oa oc a1 c1 oa1 oc1 : ℕ) (m
     → JoinedTo n size samples end marks octets other_marks others (put_mid a c now_marks part_marks) (put_mid oa oc now_octets part_octets)
 part_joined n size samples at count end a c oa oc a1 c1 oa1 oc1 marks octets other_marks others now_marks now_octets part_marks part_octets here there are le e so_far step =
     let others_here : Joins n size samples (take c (drop a now_marks)) (take oc (drop oa now_octets)) (marks_part at count other_marks) (octets_part size at count others) part_marks part_octets =
-        rw (← there.octets_at_is, ← there.octets_count_is, ← there.marks_at_is, ← there.marks_count_is) step in
+    rw (← there.octets_at_is, ← there.octets_count_is, ← there.marks_at_is, ← there.marks_count_is) step in
     let step_here : Joins n size samples (marks_part at count now_marks) (octets_part size at count now_octets) (marks_part at count other_marks) (octets_part size at count others) part_marks part_octets =
-        subst (λ (k : ℕ). Joins n size samples (marks_part at count now_marks) (take k (drop (size * at) now_octets)) (marks_part at count other_marks) (octets_part size at count others) part_marks part_octets) here.octets_count_is
-        (subst (λ (k : ℕ). Joins n size samples (marks_part at count now_marks) (take oc (drop k now_octets)) (marks_part at count other_marks) (octets_part size at count others) part_marks part_octets) here.octets_at_is
-        (subst (λ (k : ℕ). Joins n size samples (take k (drop at now_marks)) (take oc (drop oa now_octets)) (marks_part at count other_marks) (octets_part size at count others) part_marks part_octets) here.marks_count_is
-        (subst (λ (k : ℕ). Joins n size samples (take c (drop k now_marks)) (take oc (drop oa now_octets)) (marks_part at count other_marks) (octets_part size at count others) part_marks part_octets) here.marks_at_is others_here))) in
+    subst (λ (k : ℕ). Joins n size samples (marks_part at count now_marks) (take k (drop (size * at) now_octets)) (marks_part at count other_marks) (octets_part size at count others) part_marks part_octets) here.octets_count_is
+    (subst (λ (k : ℕ). Joins n size samples (marks_part at count now_marks) (take oc (drop k now_octets)) (marks_part at count other_marks) (octets_part size at count others) part_marks part_octets) here.octets_at_is
+    (subst (λ (k : ℕ). Joins n size samples (take k (drop at now_marks)) (take oc (drop oa now_octets)) (marks_part at count other_marks) (octets_part size at count others) part_marks part_octets) here.marks_count_is
+    (subst (λ (k : ℕ). Joins n size samples (take c (drop k now_marks)) (take oc (drop oa now_octets)) (marks_part at count other_marks) (octets_part size at count others) part_marks part_octets) here.marks_at_is others_here))) in
     rw (here.marks_at_is, here.marks_count_is, here.octets_at_is, here.octets_count_is)
     (joined_more n size samples at count end marks octets other_marks others now_marks now_octets part_marks part_octets are le e so_far step_here)
 
@@ -282,7 +275,7 @@ one_joined n size samples i oa oc marks octets other_marks others now_marks now_
     let inside : i < length now_marks = omega (arith, so_far.marks_long) in
     let others_inside : i < length other_marks = omega (arith, are.alike) in
     let step_here : Joins n size samples (take ((i + 1) - i) (drop i now_marks)) (take oc (drop oa now_octets)) (take ((i + 1) - i) (drop i other_marks)) (take oc (drop oa others)) (mark ∷ []) part_octets =
-        rw (one_part i now_marks inside, one_part i other_marks others_inside) step in
+    rw (one_part i now_marks inside, one_part i other_marks others_inside) step in
     subst (λ (ms : List ℕ). JoinedTo n size samples (i + 1) marks octets other_marks others ms (put_mid oa oc now_octets part_octets)) (one_set i now_marks mark inside)
     (part_joined n size samples i 1 (i + 1) i ((i + 1) - i) oa oc i ((i + 1) - i) oa oc marks octets other_marks others now_marks now_octets (mark ∷ []) part_octets
     here here are (omega arith) refl so_far step_here)

@@ -1,5 +1,5 @@
 -- One list of marks and octets for each list of cells.
-use Rattle.std.proofs.Common.{◌≡◌, ℕ, zero, suc, ◌+◌, ◌*◌, ◌/◌, ◌^◌, ◌<◌, ◌≤◌, Bool, true, false, ◌==◌, if◌then◌else◌, List, [], ◌∷◌, ◌++◌, length, get_or, take, drop, map, refl, sym, ap, ◌∙◌, subst, inl, inr, arith}
+use Rattle.std.proofs.Common.{◌≡◌, ℕ, zero, suc, ◌+◌, ◌*◌, ◌<◌, Bool, true, false, ◌==◌, if◌then◌else◌, List, [], ◌∷◌, length, get_or, take, drop, map, refl, sym, ap, ◌∙◌, subst, inl, inr, arith}
 use Rattle.std.specs.Int.{bit_at}
 use Rattle.std.specs.List.{AllByRecursion}
 use Rattle.std.proofs.lemmas.Bool.{cases_eq, cases_lt}
@@ -10,7 +10,7 @@ use Rattle.st_format.specs.declared.cell.Cell.TheVariants.{Missing, Value, Conte
 use Rattle.st_format.specs.Samples.{Spells, values_in}
 use Rattle.st_format.proofs.WholeOctets.{Spells-values_in, one_spelling}
 use Rattle.frame_assembly.specs.Packed.{IsMark, IsPacked, cells_from, known_value, marked, packed_cells}
-use Rattle.frame_assembly.proofs.PackedLemmas.{AreSizes, first_long, first_part, groups_agree, length-cells_from, length-packed_cells, one_long, rest_long, second_part}
+use Rattle.frame_assembly.proofs.PackedLemmas.{AreSizes, first_long, first_part, groups_agree, length-cells_from, one_long, rest_long, second_part}
 use Rattle.frame_assembly.proofs.CellLemmas.{get_or-cells_from}
 use Rattle.frame_assembly.proofs.GroupJoins.{marked_missing, marked_seen, seen}
 
@@ -82,9 +82,9 @@ same_marks_from n size samples (m ∷ marks) octets (o ∷ other_marks) others i
     let firsts : cs ≡ ds = first_part cs (packed_cells n size marks (drop size octets)) ds (packed_cells n size other_marks (drop size others)) as_long same in
     let rests = second_part cs (packed_cells n size marks (drop size octets)) ds (packed_cells n size other_marks (drop size others)) as_long same in
     let first : m ≡ o = mark_same samples m o vs ws is.some words.0 other_words.0 small.0 other_small.0 (λ i lt.
-        let zero_is : 0 + i ≡ i = omega arith in
-        ap (λ (j : ℕ). marked m j (get_or vs i 0)) (sym zero_is) ∙ sym (get_or-cells_from m 0 vs i (omega arith)) ∙ ap (λ (xs : List Cell). get_or xs i Missing) firsts
-        ∙ get_or-cells_from o 0 ws i (omega arith) ∙ ap (λ (j : ℕ). marked o j (get_or ws i 0)) zero_is) in
+    let zero_is : 0 + i ≡ i = omega arith in
+    ap (λ (j : ℕ). marked m j (get_or vs i 0)) (sym zero_is) ∙ sym (get_or-cells_from m 0 vs i (omega arith)) ∙ ap (λ (xs : List Cell). get_or xs i Missing) firsts
+    ∙ get_or-cells_from o 0 ws i (omega arith) ∙ ap (λ (j : ℕ). marked o j (get_or ws i 0)) zero_is) in
     let rest : marks ≡ other_marks = same_marks_from n size samples marks (drop size octets) other_marks (drop size others) is (rest_long size (length marks) octets long) (rest_long size (length other_marks) others other_long)
-        words.1 other_words.1 small.1 other_small.1 (omega arith) rests in
+    words.1 other_words.1 small.1 other_small.1 (omega arith) rests in
     ap (λ (x : ℕ). x ∷ marks) first ∙ ap (λ (xs : List ℕ). o ∷ xs) rest

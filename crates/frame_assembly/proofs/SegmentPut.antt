@@ -1,8 +1,7 @@
 -- What joining a segment's groups does to the cells of a raster.
-use Rattle.std.proofs.Common.{◌≡◌, ℕ, ◌+◌, ◌-◌, ◌*◌, ◌/◌, ◌<◌, ◌≤◌, List, length, take, drop, refl, sym, ap, ◌∙◌, arith}
+use Rattle.std.proofs.Common.{◌≡◌, ℕ, ◌+◌, ◌-◌, ◌*◌, ◌/◌, ◌≤◌, List, length, take, drop, ap, ◌∙◌, arith}
 use Rattle.std.proofs.lemmas.List.{length-drop, length-take-le}
 use borrow.Rule.Slice.PartMut.{put_mid}
-use Rattle.st_format.specs.declared.cell.Cell.{Cell}
 use Rattle.st_format.specs.declared.format.Format.{Format}
 use Rattle.st_format.specs.Pgroup.{bits_of, pixel_group}
 use Rattle.st_format.specs.Raster.{Segment, cells_of, joined, offers_in}
@@ -22,17 +21,17 @@ pub record IsSegmentPut (f : Format) (s : Segment) (marks octets new_marks new_o
 pub segment_put : (f : Format) (s : Segment) (first z : ℕ) (marks octets part_marks part_octets : List ℕ) → IsInside f s → length marks ≡ group_count f → ArePacked f marks octets
     → first ≡ first_group f s → z ≡ (pixel_group f.sampling f.depth).octets
     → AreJoined f (take (first + length s.octets / z - first) (drop first marks)) (take (z * (first + length s.octets / z) - z * first) (drop (z * first) octets))
-      (whole_marks (length (take (first + length s.octets / z - first) (drop first marks)))) s.octets part_marks part_octets
+    (whole_marks (length (take (first + length s.octets / z - first) (drop first marks)))) s.octets part_marks part_octets
     → IsSegmentPut f s marks octets (put_mid first (first + length s.octets / z - first) marks part_marks) (put_mid (z * first) (z * (first + length s.octets / z) - z * first) octets part_octets)
 segment_put f s first z marks octets part_marks part_octets inside whole packed at same joins =
     let count : ℕ = length s.octets / (pixel_group f.sampling f.depth).octets in
     let quotient : length s.octets / z ≡ count = ap (λ (k : ℕ). length s.octets / k) same in
     let room : first + count ≤ length marks = omega (arith, groups_end f s inside) in
     let long : length (take (first + length s.octets / z - first) (drop first marks)) ≡ count =
-        length-take-le (first + length s.octets / z - first) (drop first marks) (omega (arith, length-drop first marks)) ∙ omega arith in
+    length-take-le (first + length s.octets / z - first) (drop first marks) (omega (arith, length-drop first marks)) ∙ omega arith in
     let put = put_part (bits_of f.depth) (pixel_group f.sampling f.depth).octets (pixel_group f.sampling f.depth).samples first count _ _ _ _ _ marks octets s.octets part_marks part_octets
-        (part_between (pixel_group f.sampling f.depth).octets z first count (first + length s.octets / z) same (ap (λ (k : ℕ). first + k) quotient))
-        (sizes f.sampling f.depth) room (segment_octets f s inside) long packed joins in
+    (part_between (pixel_group f.sampling f.depth).octets z first count (first + length s.octets / z) same (ap (λ (k : ℕ). first + k) quotient))
+    (sizes f.sampling f.depth) room (segment_octets f s inside) long packed joins in
     record {
       packed = put.packed;
       cells = λ ts. put.cells

@@ -1,5 +1,5 @@
 -- Groups of which each sample is offered, and the part of a raster that a segment writes.
-use Rattle.std.proofs.Common.{◌≡◌, ℕ, zero, suc, ◌+◌, ◌-◌, ◌*◌, ◌/◌, ◌%◌, ◌<◌, ◌≤◌, List, [], ◌∷◌, ◌++◌, length, get_or, set, take, drop, map, replicate, refl, sym, ap, ◌∙◌, subst, inl, inr, arith, append_assoc, length-append}
+use Rattle.std.proofs.Common.{◌≡◌, ℕ, zero, suc, ◌+◌, ◌-◌, ◌*◌, ◌/◌, ◌%◌, ◌<◌, ◌≤◌, List, [], ◌∷◌, ◌++◌, length, get_or, set, take, drop, map, refl, sym, ap, ◌∙◌, subst, inr, arith, append_assoc, length-append}
 use Rattle.std.specs.Int.{bit_at}
 use Rattle.std.specs.List.{AllByRecursion}
 use Rattle.std.proofs.lemmas.List.{drop_at, length-drop, length-take-le, length-replicate, replicate-append-replicate, take_at, map-append, nil_from_length, take-append-drop}
@@ -8,7 +8,7 @@ use Rattle.std.proofs.Math.Nat.{mul-add, mul_assoc, mul_comm}
 use Rattle.std.proofs.Math.Seq.{get_or-append_seam}
 use borrow.Rule.Slice.PartMut.{put_mid}
 use Rattle.st_format.specs.declared.cell.Cell.{Cell}
-use Rattle.st_format.specs.declared.cell.Cell.TheVariants.{Missing, Value, Contested}
+use Rattle.st_format.specs.declared.cell.Cell.TheVariants.{Missing, Value}
 use Rattle.st_format.specs.declared.format.Sampling.{Sampling}
 use Rattle.st_format.specs.declared.format.Sampling.TheVariants.{Ycc422, Ycc444, Rgb}
 use Rattle.st_format.specs.declared.format.Depth.{Depth}
@@ -22,7 +22,7 @@ use Rattle.st_format.specs.Samples.{values_in}
 use Rattle.payload_header.specs.Payload.{IsInside}
 use Rattle.frame_assembly.specs.Packed.{IsMark, IsPacked, Joins, cells_from, group_count, known_value, marked, packed_cells, whole_marks}
 use Rattle.frame_assembly.specs.Written.{written_from}
-use Rattle.frame_assembly.proofs.PackedLemmas.{AreParts, AreSizes, IsPacked-append, both_values, first_long, length-groups, length-packed_cells, one_long, packed_cells-append, rest_long, sizes}
+use Rattle.frame_assembly.proofs.PackedLemmas.{AreSizes, IsPacked-append, both_values, first_long, length-groups, length-packed_cells, one_long, packed_cells-append, rest_long, sizes}
 use Rattle.frame_assembly.proofs.Runs.{IsPart, packed_first, times_le}
 
 -- ---- each sample is offered
@@ -126,16 +126,16 @@ put_here n size samples at count marks octets others part_marks part_octets is l
     let bm_long : length bm ≡ count = length-take-le count (drop at marks) (omega (arith, length-drop at marks)) in
     let xs_long : length xs ≡ samples * at = length-packed_cells n size samples am ao is a.first.long ∙ ap (λ (k : ℕ). samples * k) am_long in
     let bs_long : length bs ≡ length vs =
-        length-packed_cells n size samples bm bo is bc.first.long ∙ ap (λ (k : ℕ). samples * k) bm_long ∙ sym (length-groups n size samples count others is long) in
+    length-packed_cells n size samples bm bo is bc.first.long ∙ ap (λ (k : ℕ). samples * k) bm_long ∙ sym (length-groups n size samples count others is long) in
     let tail : IsPacked n size samples (part_marks ++ cm) (part_octets ++ co) = IsPacked-append n size samples part_marks part_octets cm co is joins.packed bc.second in
     let old : packed_cells n size marks octets ≡ xs ++ (bs ++ cs) =
-        ap (λ (ms : List ℕ). packed_cells n size ms octets) (sym (take-append-drop at marks))
-        ∙ ap (packed_cells n size (am ++ drop at marks)) (sym (take-append-drop (size * at) octets))
-        ∙ packed_cells-append n size am ao (drop at marks) (drop (size * at) octets) a.first.long
-        ∙ ap (λ (zs : List Cell). xs ++ zs)
-          (ap (λ (ms : List ℕ). packed_cells n size ms (drop (size * at) octets)) (sym (take-append-drop count (drop at marks)))
-          ∙ ap (packed_cells n size (bm ++ cm)) (sym (take-append-drop (size * count) (drop (size * at) octets)))
-          ∙ packed_cells-append n size bm bo cm co bc.first.long) in
+    ap (λ (ms : List ℕ). packed_cells n size ms octets) (sym (take-append-drop at marks))
+    ∙ ap (packed_cells n size (am ++ drop at marks)) (sym (take-append-drop (size * at) octets))
+    ∙ packed_cells-append n size am ao (drop at marks) (drop (size * at) octets) a.first.long
+    ∙ ap (λ (zs : List Cell). xs ++ zs)
+    (ap (λ (ms : List ℕ). packed_cells n size ms (drop (size * at) octets)) (sym (take-append-drop count (drop at marks)))
+    ∙ ap (packed_cells n size (bm ++ cm)) (sym (take-append-drop (size * count) (drop (size * at) octets)))
+    ∙ packed_cells-append n size bm bo cm co bc.first.long) in
     record {
       packed = IsPacked-append n size samples am ao (part_marks ++ cm) (part_octets ++ co) is a.first tail;
       cells =
@@ -154,11 +154,11 @@ pub put_part : (n size samples at count a c oa oc whole : ℕ) (marks octets oth
     → IsPut n size samples at marks octets others (put_mid a c marks part_marks) (put_mid oa oc octets part_octets)
 put_part n size samples at count a c oa oc whole marks octets others part_marks part_octets here is le long same packed joins =
     let step : Joins n size samples (take count (drop at marks)) (take (size * count) (drop (size * at) octets)) (whole_marks count) others part_marks part_octets =
-        subst (λ (k : ℕ). Joins n size samples (take count (drop at marks)) (take k (drop (size * at) octets)) (whole_marks count) others part_marks part_octets) here.octets_count_is
-        (subst (λ (k : ℕ). Joins n size samples (take count (drop at marks)) (take oc (drop k octets)) (whole_marks count) others part_marks part_octets) here.octets_at_is
-        (subst (λ (k : ℕ). Joins n size samples (take k (drop at marks)) (take oc (drop oa octets)) (whole_marks count) others part_marks part_octets) here.marks_count_is
-        (subst (λ (k : ℕ). Joins n size samples (take c (drop k marks)) (take oc (drop oa octets)) (whole_marks count) others part_marks part_octets) here.marks_at_is
-        (subst (λ (k : ℕ). Joins n size samples (take c (drop a marks)) (take oc (drop oa octets)) (whole_marks k) others part_marks part_octets) same joins)))) in
+    subst (λ (k : ℕ). Joins n size samples (take count (drop at marks)) (take k (drop (size * at) octets)) (whole_marks count) others part_marks part_octets) here.octets_count_is
+    (subst (λ (k : ℕ). Joins n size samples (take count (drop at marks)) (take oc (drop k octets)) (whole_marks count) others part_marks part_octets) here.octets_at_is
+    (subst (λ (k : ℕ). Joins n size samples (take k (drop at marks)) (take oc (drop oa octets)) (whole_marks count) others part_marks part_octets) here.marks_count_is
+    (subst (λ (k : ℕ). Joins n size samples (take c (drop k marks)) (take oc (drop oa octets)) (whole_marks count) others part_marks part_octets) here.marks_at_is
+    (subst (λ (k : ℕ). Joins n size samples (take c (drop a marks)) (take oc (drop oa octets)) (whole_marks k) others part_marks part_octets) same joins)))) in
     rw (here.marks_at_is, here.marks_count_is, here.octets_at_is, here.octets_count_is) (put_here n size samples at count marks octets others part_marks part_octets is le long packed step)
 
 -- ---- the groups of a segment
@@ -251,7 +251,7 @@ pub whole_part : (a c k : ℕ) → a + c ≤ k → take c (drop a (whole_marks k
 whole_part a c k le =
     let e : k ≡ a + (c + (k - (a + c))) = omega arith in
     let split : whole_marks k ≡ whole_marks a ++ (whole_marks c ++ whole_marks (k - (a + c))) =
-        ap whole_marks e ∙ sym (replicate-append-replicate a (c + (k - (a + c))) 32768) ∙ ap (λ (xs : List ℕ). whole_marks a ++ xs) (sym (replicate-append-replicate c (k - (a + c)) 32768)) in
+    ap whole_marks e ∙ sym (replicate-append-replicate a (c + (k - (a + c))) 32768) ∙ ap (λ (xs : List ℕ). whole_marks a ++ xs) (sym (replicate-append-replicate c (k - (a + c)) 32768)) in
     ap (λ (xs : List ℕ). take c (drop a xs)) split
     ∙ ap (take c) (drop_at (whole_marks a) (whole_marks c ++ whole_marks (k - (a + c))) a (length-replicate a 32768))
     ∙ take_at (whole_marks c) (whole_marks (k - (a + c))) c (length-replicate c 32768)
@@ -272,5 +272,5 @@ slice_long size z at len many octets same whole long le =
     let room : size * (at + count) ≤ size * many = times_le size (at + count) many le in
     let both : size * (at + count) ≡ size * at + size * count = mul-add size at count in
     let here : len ≡ length (take (size * (at + count) - size * at) (drop (size * at) octets)) =
-        whole ∙ sym (length-take-le (size * (at + count) - size * at) (drop (size * at) octets) (omega (arith, length-drop (size * at) octets)) ∙ omega arith) in
+    whole ∙ sym (length-take-le (size * (at + count) - size * at) (drop (size * at) octets) (omega (arith, length-drop (size * at) octets)) ∙ omega arith) in
     subst (λ (x : ℕ). len ≡ length (take (x * (at + len / x) - x * at) (drop (x * at) octets))) (sym same) here

@@ -1,6 +1,5 @@
 -- Samples that are settled one after the other.
-use Rattle.std.proofs.Common.{◌≡◌, ℕ, ◌+◌, ◌*◌, ◌/◌, ◌%◌, ◌<◌, ◌≤◌, List, length, get_or, set, map, refl, sym, ap, ◌∙◌, inl, inr, arith}
-use Rattle.std.specs.List.{range_with_len}
+use Rattle.std.proofs.Common.{◌≡◌, ℕ, ◌+◌, ◌*◌, ◌/◌, ◌%◌, ◌<◌, ◌≤◌, List, length, get_or, set, sym, ap, ◌∙◌, inl, inr, arith}
 use Rattle.std.proofs.lemmas.Bool.{cases_eq}
 use Rattle.std.proofs.lemmas.List.{get_or-set_same, get_or-set_other}
 use Rattle.std.proofs.Math.ListN.{length-set}
@@ -44,9 +43,9 @@ one_settled f marks octets fill samples at z v c packed so_far lt same is_cell i
     let s : ℕ = (pixel_group f.sampling f.depth).samples in
     let inside : at < s * length marks = omega (arith, so_far.long) in
     let cell : c ≡ get_or (cells_in f marks octets) at Missing =
-        is_cell ∙ ap (marked (get_or marks (at / z) 0) (at % z)) (so_far.behind at (omega arith))
-        ∙ ap (λ (k : ℕ). marked (get_or marks (at / k) 0) (at % k) (get_or (values_in (bits_of f.depth) octets) at 0)) same
-        ∙ sym (get_or-number (bits_of f.depth) (pixel_group f.sampling f.depth).octets s at marks octets (sizes f.sampling f.depth) packed.long inside) in
+    is_cell ∙ ap (marked (get_or marks (at / z) 0) (at % z)) (so_far.behind at (omega arith))
+    ∙ ap (λ (k : ℕ). marked (get_or marks (at / k) 0) (at % k) (get_or (values_in (bits_of f.depth) octets) at 0)) same
+    ∙ sym (get_or-number (bits_of f.depth) (pixel_group f.sampling f.depth).octets s at marks octets (sizes f.sampling f.depth) packed.long inside) in
     record {
       long = length-set samples at v ∙ so_far.long;
       before = λ k below. elim (cases_eq k at) [

@@ -14,7 +14,7 @@ use Rattle.st_format.proofs.Numbering.{number_of-place}
 use Rattle.st_format.proofs.PictureLemmas.{component-place}
 use Rattle.st_format.proofs.Rasters.{map-map, map_same}
 use Rattle.frame_assembly.specs.Settled.{settled, settled_cell, settled_numbers}
-use Rattle.frame_assembly.proofs.Put.{frame_view}
+use Rattle.frame_assembly.proofs.Kept.{frame_view}
 
 -- the value at a position, by its number
 at_number : (r : Raster) (fill : List ℕ) (k : ℕ)

@@ -1,5 +1,5 @@
 -- What a frame tells of its rows and pixel groups, in the words of its cells (own).
-use Rattle.std.specs.Prelude.{◌≡◌, ◌≢◌, ℕ, ◌+◌, ◌*◌, ◌/◌, ◌<◌, ◌≤◌, ◌==◌, Bool, true, false, if◌then◌else◌, List, [], ◌∷◌, ◌++◌, length, map, take, drop, slice_index_or, replicate}
+use Rattle.std.specs.Prelude.{◌≡◌, ◌≢◌, ℕ, ◌+◌, ◌*◌, ◌/◌, ◌<◌, ◌≤◌, ◌==◌, Bool, true, false, if◌then◌else◌, List, [], ◌∷◌, ◌++◌, length, take, drop, slice_index_or, replicate}
 use Rattle.std.specs.Int.{bit_at}
 use Rattle.st_format.specs.declared.cell.Cell.{Cell}
 use Rattle.st_format.specs.declared.cell.Cell.TheVariants.{Missing, Value, Contested}

@@ -90,7 +90,12 @@ impl<A: Allocator> Frame<A> {
         ensures whole { IsWhole self.now }
     {
         let number = self.format.sample_number(row, column, component);
-        cell_in(&self.format, self.marks.as_slice(), self.octets.as_slice(), number)
+        cell_in(
+            &self.format,
+            self.marks.as_slice(),
+            self.octets.as_slice(),
+            number,
+        )
     }
 
     /// Joins what a payload offers: for each sample of its segments the value that their octets spell.
@@ -195,7 +200,12 @@ impl<A: Allocator> Frame<A> {
         ensures long { length result.now ≡ row_octets self.now.format }
         ensures spelled { Spells (bits_of self.now.format.depth) result.now (map known_value (row_cells self.now row)) }
     {
-        octets_of_row(&self.format, self.marks.as_slice(), self.octets.as_slice(), row)
+        octets_of_row(
+            &self.format,
+            self.marks.as_slice(),
+            self.octets.as_slice(),
+            row,
+        )
     }
 
     /// A mark word for each pgroup of a row: bit 15 is set where it has no missing sample, bit `i` where its
@@ -205,7 +215,12 @@ impl<A: Allocator> Frame<A> {
         ensures long { length result.now ≡ row_groups self.now.format }
         ensures marks { (group : ℕ) → group < row_groups self.now.format → IsMarkOf (slice_index result.now group) (group_cells self.now row group) }
     {
-        marks_of_row(&self.format, self.marks.as_slice(), self.octets.as_slice(), row)
+        marks_of_row(
+            &self.format,
+            self.marks.as_slice(),
+            self.octets.as_slice(),
+            row,
+        )
     }
 
     /// Copies the octets of a pgroup, with 0 for each sample that is missing or contested, and tells what is

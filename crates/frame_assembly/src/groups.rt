@@ -95,13 +95,7 @@ fn join_groups(
 }
 
 /// Joins another group, and answers the mark word of both.
-fn join_group(
-    format: &Format,
-    mark: u16,
-    octets: &mut [u8],
-    other_mark: u16,
-    others: &[u8],
-) -> u16
+fn join_group(format: &Format, mark: u16, octets: &mut [u8], other_mark: u16, others: &[u8]) -> u16
     requires packed { ArePacked format.now (mark ∷ []) octets.old }
     requires other { ArePacked format.now (other_mark ∷ []) others.now }
     ensures { AreJoined format.now (mark ∷ []) octets.old (other_mark ∷ []) others.now (result ∷ []) octets.new }

@@ -85,13 +85,7 @@ fn join_whole(format: &Format, marks: &mut [u16], octets: &mut [u8], others: &[u
 }
 
 /// Joins groups of which each sample is offered, a block after the other; `whole` are the marks of a block.
-fn join_blocks(
-    format: &Format,
-    marks: &mut [u16],
-    octets: &mut [u8],
-    whole: &[u16],
-    others: &[u8],
-)
+fn join_blocks(format: &Format, marks: &mut [u16], octets: &mut [u8], whole: &[u16], others: &[u8])
     requires packed { ArePacked format.now marks.old octets.old }
     requires whole { whole.now ≡ whole_marks BLOCK }
     requires alike { length others.now ≡ length octets.old }

@@ -12,5 +12,5 @@ mod state;
 
 pub use counts::Counts;
 pub use frame::Frame;
-pub use state::GroupState;
 pub use st_format::Cell;
+pub use state::GroupState;

@@ -113,7 +113,14 @@ pub fn set_group_of(
         put_group(format, marks, octets, at, PRESENT | contested, from);
     } else {
         let none = [0; MOST_OCTETS];
-        put_group(format, marks, octets, at, 0, &none[..format.pgroup().octets]);
+        put_group(
+            format,
+            marks,
+            octets,
+            at,
+            0,
+            &none[..format.pgroup().octets],
+        );
     }
 }
 

@@ -1,5 +1,5 @@
-use Rattle.std.proofs.Common.{◌≡◌, ℕ, ◌/◌, ◌%◌, get_or, ap, sym, ◌∙◌}
-use Rattle.st_format.specs.Pgroup.{bits_of, pixel_group}
+use Rattle.std.proofs.Common.{ℕ, ◌/◌, ◌%◌, get_or, ap, sym, ◌∙◌}
+use Rattle.st_format.specs.Pgroup.{pixel_group}
 use Rattle.frame_assembly.specs.Packed.{marked}
 use Rattle.frame_assembly.proofs.PackedLemmas.{sizes}
 use Rattle.frame_assembly.proofs.CellLemmas.{get_or-number}

@@ -1,6 +1,5 @@
-use Rattle.std.proofs.Common.{◌≡◌, ℕ, List, refl, ap, subst, sym, ◌∙◌, arith, count_by, get_or, replicate}
+use Rattle.std.proofs.Common.{ℕ, refl, ap, ◌∙◌, arith, count_by, get_or, replicate}
 use Rattle.st_format.specs.Cell.{is_contested, is_missing, is_present}
-use Rattle.st_format.specs.Pgroup.{bits_of, pixel_group}
 use Rattle.frame_assembly.specs.Packed.{cells_from}
 use Rattle.frame_assembly.proofs.PackedLemmas.{sizes}
 use Rattle.frame_assembly.proofs.CountLemmas.{group_more, groups_counted, none_counted}

@@ -1,8 +1,6 @@
-use Rattle.std.proofs.Common.{◌≡◌, ℕ, ◌+◌, ◌-◌, ◌*◌, ◌/◌, [], ◌∷◌, length, get_or, refl, ◌∙◌, sym, ap, arith}
-use Rattle.st_format.specs.Pgroup.{bits_of, pixel_group}
-use Rattle.frame_assembly.specs.Packed.{IsPacked}
+use Rattle.std.proofs.Common.{◌+◌, refl, arith}
 use Rattle.frame_assembly.proofs.PackedLemmas.{sizes}
-use Rattle.frame_assembly.proofs.Runs.{are_alike, none_joined_to, part_between, part_packed, left_packed, left_long, one_joined, one_packed, one_left, joined_all}
+use Rattle.frame_assembly.proofs.Runs.{are_alike, none_joined_to, part_between, one_joined, one_packed, one_left, joined_all}
 use Rattle.frame_assembly.proofs.groups.join_groups.Goals as goal
 
 pub loop-i-init : goal.loop-i-init

@@ -1,4 +1,4 @@
-use Rattle.std.proofs.Common.{◌≡◌, ℕ, ◌+◌, ◌-◌, ◌*◌, ◌/◌, length, refl, ◌∙◌, sym, ap, arith}
+use Rattle.std.proofs.Common.{ℕ, ◌+◌, ◌-◌, ◌*◌, ◌/◌, length, refl, arith}
 use Rattle.frame_assembly.proofs.PackedLemmas.{sizes}
 use Rattle.frame_assembly.proofs.Runs.{are_alike, none_joined_to, part_between, part_behind, part_packed, left_packed, left_long, part_joined, joined_all}
 use Rattle.frame_assembly.proofs.groups.join_run.Goals as goal

@@ -1,7 +1,7 @@
-use Rattle.std.proofs.Common.{◌≡◌, ℕ, ◌+◌, ◌-◌, ◌*◌, ◌/◌, List, length, take, drop, refl, ◌∙◌, sym, ap, subst, arith}
+use Rattle.std.proofs.Common.{ℕ, ◌+◌, ◌-◌, ◌*◌, ◌/◌, List, length, take, drop, refl, ◌∙◌, sym, subst, arith}
 use Rattle.std.proofs.lemmas.List.{length-replicate}
 use Rattle.st_format.specs.Pgroup.{bits_of, pixel_group}
-use Rattle.frame_assembly.specs.Packed.{IsPacked, Joins, whole_marks}
+use Rattle.frame_assembly.specs.Packed.{IsPacked, whole_marks}
 use Rattle.frame_assembly.proofs.PackedLemmas.{sizes}
 use Rattle.frame_assembly.proofs.Runs.{are_alike, none_joined_to, part_between, part_behind, part_marks, part_packed, left_packed, left_long, part_joined, joined_all, marks_same}
 use Rattle.frame_assembly.proofs.Segments.{other_marks_same, whole_packed, whole_part, whole_rest}

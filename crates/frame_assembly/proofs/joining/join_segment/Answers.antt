@@ -1,15 +1,13 @@
-use Rattle.std.proofs.Common.{◌≡◌, ℕ, ◌+◌, ◌*◌, ◌/◌, ◌<◌, false, eqb, length, sym, ◌∙◌, ap, arith}
+use Rattle.std.proofs.Common.{◌≡◌, ℕ, ◌+◌, ◌/◌, ◌<◌, false, eqb, length, sym, ap, arith}
 use Rattle.std.proofs.lemmas.Bool.{eqb-true, eqb-false}
 use Rattle.payload_header.specs.Payload.{seen, IsInside}
 use Rattle.frame_assembly.specs.Packed.{cells_in}
-use Rattle.frame_assembly.specs.Written.{written_from}
 use Rattle.frame_assembly.proofs.PackedLemmas.{sizes}
-use Rattle.frame_assembly.proofs.Put.{no_octets, segment_written, offset_below}
+use Rattle.frame_assembly.proofs.Put.{no_octets, offset_below}
 use Rattle.frame_assembly.proofs.Runs.{part_between, part_packed}
-use Rattle.frame_assembly.proofs.Segments.{cells_long, first_group, first_sample, groups_end, put_part, segment_octets, slice_long}
+use Rattle.frame_assembly.proofs.Segments.{cells_long, groups_end, segment_octets, slice_long}
 use Rattle.frame_assembly.proofs.SegmentPut.{segment_put}
-use Rattle.st_format.specs.Pgroup.{bits_of, pixel_group}
-use Rattle.st_format.specs.Samples.{values_in}
+use Rattle.st_format.specs.Pgroup.{pixel_group}
 use Rattle.frame_assembly.proofs.joining.join_segment.Goals as goal
 
 some : (n : ℕ) → false ≡ eqb n 0 → 0 < n

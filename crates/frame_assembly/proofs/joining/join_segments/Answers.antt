@@ -1,4 +1,4 @@
-use Rattle.std.proofs.Common.{[], ◌∙◌, arith}
+use Rattle.std.proofs.Common.{[], ◌∙◌}
 use Rattle.frame_assembly.specs.Packed.{cells_in}
 use Rattle.frame_assembly.proofs.Put.{segments_more, segments_all}
 use Rattle.frame_assembly.proofs.Segments.{cells_long}

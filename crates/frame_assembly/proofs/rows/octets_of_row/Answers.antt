@@ -1,4 +1,4 @@
-use Rattle.std.proofs.Common.{◌≡◌, ℕ, ◌+◌, ◌*◌, ap, arith}
+use Rattle.std.proofs.Common.{◌≡◌, ℕ, ◌*◌, ap, arith}
 use Rattle.frame_assembly.proofs.RowLemmas.{octets_inside, row_inside, row_spelled}
 use Rattle.frame_assembly.proofs.rows.octets_of_row.Goals as goal
 
@@ -8,7 +8,7 @@ slice_bounds-result-end c =
     let same = c.row_groups-count.ensures.value in
     let at : k * c.row_groups-count.result ≡ _ = ap (λ (j : ℕ). k * j) same in
     let le = octets_inside c.args.format.now c.args.marks.now c.args.octets.now (c.args.row * c.row_groups-count.result) c.row_groups-count.result c.pgroup-size.result.octets c.requires.packed
-        (omega (arith, row_inside c.args.format.now c.args.marks.now c.args.row c.requires.whole c.requires.row)) c.pgroup-size.ensures.octets in
+    (omega (arith, row_inside c.args.format.now c.args.marks.now c.args.row c.requires.whole c.requires.row)) c.pgroup-size.ensures.octets in
     omega arith
 
 pub returns-clause-spelled : goal.returns-clause-spelled

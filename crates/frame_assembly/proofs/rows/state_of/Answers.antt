@@ -1,12 +1,11 @@
-use Rattle.std.proofs.Common.{◌≡◌, ℕ, ◌-◌, arith}
+use Rattle.std.proofs.Common.{arith}
 use Rattle.frame_assembly.proofs.GroupCells.{mixed_contested, mixed_others, not_missing}
 use Rattle.frame_assembly.proofs.rows.state_of.Goals as goal
 
 pub returns-else-mark-eq-PRESENT : goal.returns-else-mark-eq-PRESENT
 returns-else-mark-eq-PRESENT c = λ cells few is.
     let high = c.if-mark-lt-PRESENT.false in
-    let unlike = c.if-mark-eq-PRESENT.false in
-    (
+    let unlike = c.if-mark-eq-PRESENT.false in (
       λ e. unlike (omega arith),
       not_missing c.args.mark cells high (omega arith) is,
       mixed_contested c.args.mark cells high few is,

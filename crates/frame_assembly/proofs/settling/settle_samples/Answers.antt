@@ -1,4 +1,4 @@
-use Rattle.std.proofs.Common.{◌≡◌, ℕ, ap, ◌∙◌, get_or, arith}
+use Rattle.std.proofs.Common.{ℕ, ap, ◌∙◌, get_or, arith}
 use Rattle.frame_assembly.specs.Settled.{settled_cell}
 use Rattle.frame_assembly.proofs.SettleSteps.{none_settled, group_of_sample, one_settled, all_settled}
 use Rattle.frame_assembly.proofs.settling.settle_samples.Goals as goal

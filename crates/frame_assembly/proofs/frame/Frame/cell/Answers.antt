@@ -1,4 +1,4 @@
-use Rattle.std.proofs.Common.{◌≡◌, ℕ, ◌*◌, length, ap, sym, ◌∙◌, arith}
+use Rattle.std.proofs.Common.{ℕ, ◌*◌, length, ap, ◌∙◌, arith}
 use Rattle.st_format.specs.Pgroup.{pixel_group}
 use Rattle.frame_assembly.proofs.Segments.{sample_count_groups}
 use Rattle.frame_assembly.proofs.frame.Frame.cell.Goals as goal

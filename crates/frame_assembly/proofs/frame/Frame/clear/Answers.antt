@@ -1,4 +1,4 @@
-use Rattle.std.proofs.Common.{◌≡◌, ℕ, List, ◌*◌, length, replicate, ap, sym, ◌∙◌, arith}
+use Rattle.std.proofs.Common.{◌≡◌, ℕ, ◌*◌, length, replicate, ap, ◌∙◌, arith}
 use Rattle.st_format.specs.Pgroup.{pixel_group}
 use Rattle.st_format.specs.Raster.{Raster, blank}
 use Rattle.frame_assembly.proofs.Kept.{blank_cells, blank_kept, frame_view}
@@ -8,8 +8,8 @@ pub invariant_of-self : goal.invariant_of-self
 invariant_of-self g c =
     let size : ℕ = (pixel_group c.self.inside.format.sampling c.self.inside.format.depth).octets in
     let many : c.self.inside.octets.len ≡ size * c.self.inside.marks.len =
-        (let e : c.self.inside.octets.len ≡ length c.self.inside.octets.items = omega arith in e) ∙ c.self.invariant.packed.long
-        ∙ ap (λ (k : ℕ). size * k) (let e : length c.self.inside.marks.items ≡ c.self.inside.marks.len = omega arith in e) in
+    (let e : c.self.inside.octets.len ≡ length c.self.inside.octets.items = omega arith in e) ∙ c.self.invariant.packed.long
+    ∙ ap (λ (k : ℕ). size * k) (let e : length c.self.inside.marks.items ≡ c.self.inside.marks.len = omega arith in e) in
     blank_kept c.self.inside.format c.fill.new.self.items c.fill-2.new.self.items c.self.inside.marks.len
     (omega (arith, c.self.invariant.groups)) (c.fill.ensures.items (λ y e. e)) (c.fill-2.ensures.items (λ y e. e) ∙ ap (λ (k : ℕ). replicate {A = ℕ} k 0) many)
 
@@ -17,8 +17,8 @@ pub returns-clause-blank : goal.returns-clause-blank
 returns-clause-blank g c =
     let size : ℕ = (pixel_group c.self.inside.format.sampling c.self.inside.format.depth).octets in
     let many : c.self.inside.octets.len ≡ size * c.self.inside.marks.len =
-        (let e : c.self.inside.octets.len ≡ length c.self.inside.octets.items = omega arith in e) ∙ c.self.invariant.packed.long
-        ∙ ap (λ (k : ℕ). size * k) (let e : length c.self.inside.marks.items ≡ c.self.inside.marks.len = omega arith in e) in
+    (let e : c.self.inside.octets.len ≡ length c.self.inside.octets.items = omega arith in e) ∙ c.self.invariant.packed.long
+    ∙ ap (λ (k : ℕ). size * k) (let e : length c.self.inside.marks.items ≡ c.self.inside.marks.len = omega arith in e) in
     ap (frame_view c.self.inside.format)
     (blank_cells c.self.inside.format c.fill.new.self.items c.fill-2.new.self.items c.self.inside.marks.len
     (omega (arith, c.self.invariant.groups)) (c.fill.ensures.items (λ y e. e)) (c.fill-2.ensures.items (λ y e. e) ∙ ap (λ (k : ℕ). replicate {A = ℕ} k 0) many))
