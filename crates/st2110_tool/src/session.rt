@@ -25,7 +25,7 @@ pub(crate) struct Session<A: Allocator> {
     ghost alike: { spare.format ≡ receiver.opening.format },
 }
 
-impl<A: Allocator> Session<A> {
+impl<A: Allocator + Copy> Session<A> {
     /// A receiver with a spare frame of its format, and no numbers.
     ///
     /// `AllocError` comes only where the allocator refused the memory for the frame.
@@ -40,7 +40,9 @@ impl<A: Allocator> Session<A> {
             numbers: None,
         })
     }
+}
 
+impl<A: Allocator> Session<A> {
     /// Takes a datagram, and notes its number where it is kept.
     pub fn take(&mut self, path: Path, octets: &[u8]) -> Answer
         ensures answer { result ≡ datagram_answer (taken_at self.old.receiver.opening octets.now) }
