@@ -100,6 +100,9 @@ fn join_group(format: &Format, mark: u16, octets: &mut [u8], other_mark: u16, ot
     requires other { ArePacked format.now (other_mark ∷ []) others.now }
     ensures { AreJoined format.now (mark ∷ []) octets.old (other_mark ∷ []) others.now (result ∷ []) octets.new }
 {
+    if mark == other_mark && same_octets(octets, others) {
+        return mark;
+    }
     if other_mark < PRESENT {
         return mark;
     }

@@ -1,7 +1,11 @@
-use Rattle.std.proofs.Common.{refl, arith}
+use Rattle.std.proofs.Common.{ap, ℕ, [], ◌∷◌, refl, arith}
 use Rattle.frame_assembly.proofs.PackedLemmas.{sizes}
-use Rattle.frame_assembly.proofs.GroupJoins.{only, left_joined, copy_joined, group_joined}
+use Rattle.frame_assembly.proofs.GroupJoins.{same_joined, only, left_joined, copy_joined, group_joined}
 use Rattle.frame_assembly.proofs.groups.join_group.Goals as goal
+
+pub returns-then-same_octets : goal.returns-then-same_octets
+returns-then-same_octets c =
+    same_joined _ _ _ _ _ _ _ c.requires.packed (ap (λ (m : ℕ). m ∷ []) c.if-mark-other_mark.true) (c.if-same_octets.ensures.0 refl)
 
 pub returns-then-other_mark-lt-PRESENT : goal.returns-then-other_mark-lt-PRESENT
 returns-then-other_mark-lt-PRESENT c =
