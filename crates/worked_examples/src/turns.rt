@@ -106,7 +106,7 @@ fn long_datagrams(rt: HostRuntime) -> Result<(), Fail> {
 }
 
 /// A frame of one payload.
-fn holding<A: Allocator>(
+fn holding<A: Allocator + Copy>(
     rt: &(impl Abort + AllocGlobal),
     alloc: A,
     format: Format,
