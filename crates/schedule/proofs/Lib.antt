@@ -1,2 +1,4 @@
 pub mod Places
 pub mod Chains
+pub mod Reaching
+pub mod StayFrames
