@@ -158,6 +158,8 @@ impl<A: Allocator> Plan<A> {
         ensures length { length buf.new ≡ length buf.old }
         ensures value { result ≡ packet_octets self.now.format (packet_at self.now index) }
         ensures sent { IsSentPacket picture.now stamp index (index + 1 == length self.now.packets) (packet_at self.now index) (take result buf.new) }
+        // These very octets, and no others, are such a datagram.
+        ensures text { take result buf.new ≡ datagram_text picture.now stamp index (index + 1 == length self.now.packets) (packet_at self.now index) }
     {
         self.write_packet(index, picture, stamp, buf)
     }

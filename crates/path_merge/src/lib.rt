@@ -22,3 +22,4 @@ pub use receiver::Receiver;
 pub use receiving::{ReceiveFault, Received, receive};
 pub use seq_map::{MAX_COUNT, Noted, SeqMap, SeqMapFault};
 pub use unlike::OpenedUnlike;
+pub use window::check_window;

@@ -1,5 +1,5 @@
 -- Chains of a list of events and one event more.
-use Rattle.std.proofs.Common.{◌≡◌, ℕ, ◌<◌, ◌≤◌, ◌⊎◌, inl, inr, List, [], ◌∷◌, ◌++◌, length, take, Some, refl, sym, ap, ◌∙◌, subst, arith, length-append}
+use Rattle.std.proofs.Common.{◌≡◌, ◌↔◌, ℕ, ◌<◌, ◌≤◌, ◌⊎◌, inl, inr, List, [], ◌∷◌, ◌++◌, length, take, Some, refl, sym, ap, ◌∙◌, subst, arith, length-append}
 use Rattle.std.proofs.lemmas.List.{take-append-le, take_all}
 use Rattle.std.specs.Prelude.{slice_get}
 use Rattle.schedule.specs.declared.event.Event.{Event}
@@ -80,3 +80,19 @@ chain_last w es e n stay (By_arrive path is lasts) =
 chain_last w es e n stay (By_merge from earlier is from_lasts lasts same chain) =
     Merged earlier (length es) from stay (chain_more w es (e ∷ []) n from earlier chain) (chain_below w es n from earlier chain) (last_get es e ∙ ap Some is)
     (lasts_now w es e from from_lasts) (lasts_now w es e stay lasts) same
+
+-- in one equivalence
+pub one_event_more : (w : List ℕ) (es : List Event) (e : Event) (n : ℕ) (stay : Stay) (place : ℕ)
+    → Chain w (es ++ e ∷ []) n stay place ↔ (Chain w es n stay place ⊎ ((place ≡ length es) × LastStep w es e n stay))
+one_event_more w es e n stay place = (there, back)
+  where
+    by_place : (place < length es) ⊎ (place ≡ length es) → Chain w (es ++ e ∷ []) n stay place → Chain w es n stay place ⊎ ((place ≡ length es) × LastStep w es e n stay)
+    by_place (inl below) chain = inl (chain_back w es (e ∷ []) n stay place chain below)
+    by_place (inr at) chain = elim (chain_cases w es e n stay place chain) [ inl old ↦ inl old | inr last ↦ inr (at, last) ]
+    there : Chain w (es ++ e ∷ []) n stay place → Chain w es n stay place ⊎ ((place ≡ length es) × LastStep w es e n stay)
+    there chain =
+        let below : place < length (es ++ e ∷ []) = chain_below w (es ++ e ∷ []) n stay place chain in
+        by_place (below_or_at place (length es) (omega (arith, below, length-append es (e ∷ [])))) chain
+    back : Chain w es n stay place ⊎ ((place ≡ length es) × LastStep w es e n stay) → Chain w (es ++ e ∷ []) n stay place
+    back (inl old) = chain_more w es (e ∷ []) n stay place old
+    back (inr last) = subst (λ (p : ℕ). Chain w (es ++ e ∷ []) n stay p) (sym last.0) (chain_last w es e n stay last.1)

@@ -20,7 +20,7 @@ use Rattle.path_merge.proofs.Windows.{member_get}
 use Rattle.schedule.specs.declared.event.Event.{Event}
 use Rattle.schedule.specs.declared.event.Event.TheVariants.{Send, Arrive, Slide, Merge}
 use Rattle.schedule.specs.Stays.{Stay, Lasts, brings, brought, window_after}
-use Rattle.schedule.specs.Reached.{Scene, Chain, LastStep, Reaches, IsFrameOf, AreFrames, IsAt}
+use Rattle.schedule.specs.Reached.{Scene, Chain, LastStep, Reaches, IsFrameOf, AreFrames, IsAt, Leaves}
 use Rattle.schedule.proofs.Chains.{chain_below}
 use Rattle.schedule.proofs.Places.{drop_get, drop_next, get_below}
 use Rattle.schedule.proofs.Reaching.{Newly, frame_kept, frame_taken, frame_merged, frame_new, frame_none, LeavesFrames, none_by_other, none_when_over}
@@ -146,13 +146,6 @@ at_same s es e r state none opening frames =
     let h : at_window s (es ++ e ∷ []) r (brought r (es ++ e ∷ [])) state =
     subst (λ (xs : List ℕ). at_window s (es ++ e ∷ []) r xs state) (sym (brought_same r es e none)) (opening, frames) in
     record { opening = h.0; frames = h.1 }
-
--- An event leaves a receiver that it isn't about.
-abbrev pub Leaves : Event → ℕ → Type 0
-Leaves Send r = Unit {0}
-Leaves (Arrive to path number) r = to ≡ r → ⊥
-Leaves (Slide at next) r = at ≡ r → ⊥
-Leaves (Merge into from) r = into ≡ r → ⊥
 
 left_frames : (e : Event) (r : ℕ) → Leaves e r → LeavesFrames e r
 left_frames Send r other = tt

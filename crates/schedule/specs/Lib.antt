@@ -1,2 +1,5 @@
 pub mod Stays
 pub mod Reached
+pub mod Sent
+pub mod Admitted
+pub mod Played

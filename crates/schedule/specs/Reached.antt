@@ -83,3 +83,10 @@ pub data LastStep (window : List ℕ) (before : List Event) (event : Event) (num
     → from.timestamp ≡ stay.timestamp
     → Chain window before number from earlier
     → LastStep window before event number stay
+
+-- An event leaves a receiver that it isn't about, and a Send leaves each.
+abbrev pub Leaves : Event → ℕ → Type 0
+Leaves Send receiver = ⊤
+Leaves (Arrive to path number) receiver = to ≢ receiver
+Leaves (Slide at next) receiver = at ≢ receiver
+Leaves (Merge into from) receiver = into ≢ receiver

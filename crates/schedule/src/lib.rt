@@ -2,5 +2,7 @@
 #![tactic(auto)]
 
 mod event;
+mod played;
 
 pub use event::Event;
+pub use played::{Handed, Played};
