@@ -177,6 +177,7 @@ impl<A: Allocator> Receiver<A> {
     /// refusals stay, and the other receiver is as it was. No memory is taken.
     pub fn merge<B: Allocator>(&mut self, other: &Receiver<B>) -> Result<(), OpenedUnlike>
         ensures unlike { IsErr result ↔ (self.old.opening ≢ other.now.opening) }
+        ensures alike { OnOk result (self.old.opening ≡ other.now.opening) }
         ensures refused { OnErr result (self.new ≡ self.old) }
         ensures opening { self.new.opening ≡ self.old.opening }
         ensures refusals { self.new.refusals ≡ self.old.refusals }

@@ -2,3 +2,5 @@ pub mod Places
 pub mod Chains
 pub mod Reaching
 pub mod StayFrames
+pub mod SenderStays
+pub mod StepLemmas

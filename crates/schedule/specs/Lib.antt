@@ -3,3 +3,4 @@ pub mod Reached
 pub mod Sent
 pub mod Admitted
 pub mod Played
+pub mod Steps

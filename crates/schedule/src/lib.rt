@@ -2,7 +2,12 @@
 #![tactic(auto)]
 
 mod event;
+mod fault;
+pub mod laws;
 mod played;
+mod sending;
+mod steps;
 
 pub use event::Event;
+pub use fault::PlayFault;
 pub use played::{Handed, Played};
