@@ -4,3 +4,4 @@ pub mod Reaching
 pub mod StayFrames
 pub mod SenderStays
 pub mod StepLemmas
+pub mod SendLemmas

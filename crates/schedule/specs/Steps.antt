@@ -4,9 +4,9 @@ use Rattle.st_format.specs.Member.{IsMember}
 use Rattle.st_format.specs.Picture.{Values}
 use Rattle.rtp_header.specs.Grammar.{AreOctets}
 use Rattle.packet_plan.specs.declared.stamp.Stamp.{Stamp}
-use Rattle.packet_plan.specs.Plan.{RasterPlan}
+use Rattle.packet_plan.specs.Plan.{RasterPlan, packet_at}
 use Rattle.packet_plan.specs.Sender.{stamp_of}
-use Rattle.packet_plan.specs.Text.{datagram_texts}
+use Rattle.packet_plan.specs.Text.{datagram_text, datagram_texts}
 use Rattle.path_merge.specs.Frames.{State, IsReceiver, frames_of, joined_frames}
 use Rattle.path_merge.specs.Sliding.{slid}
 use Rattle.schedule.specs.declared.played.Handed.{Handed}
@@ -67,3 +67,7 @@ after_packet count next =
     if next.index + 1 == count
     then record { picture = next.picture + 1; index = 0; first = (next.first + count) % 2 ^ 32 }
     else record { picture = next.picture; index = next.index + 1; first = next.first }
+
+-- the datagram of a packet of a plan
+unfoldable pub text_at : RasterPlan → Values → Stamp → ℕ → List ℕ
+text_at plan picture stamp index = datagram_text picture stamp index (index + 1 == length plan.packets) (packet_at plan index)

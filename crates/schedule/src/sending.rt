@@ -1,7 +1,7 @@
 //! The sender of a schedule: one datagram after another.
-ghost use Rattle.std.specs.Prelude.{◌≡◌, ◌<◌, ◌≤◌, ◌*◌, ℕ, ◌∷◌, [], All, IfOk, Err, length};
+ghost use Rattle.std.specs.Prelude.{◌≡◌, ◌<◌, ◌≤◌, ◌*◌, ◌+◌, ◌==◌, ℕ, ◌∷◌, [], All, IfOk, OnErr, Err, length};
 ghost use Rattle.packet_plan.specs.Sending.{EachHasRoom};
-ghost use Rattle.schedule.specs.Steps.{after_packet, to_come};
+ghost use Rattle.schedule.specs.Steps.{after_packet, text_at, to_come};
 
 use crate::fault::Stop;
 use packet_plan::{Plan, Stamp};
@@ -45,10 +45,31 @@ pub fn next_datagram<A: Allocator, B: Allocator, C: Allocator>(
         timestamp: plan.format().timestamp(stamp.timestamp, next.picture as u32),
         ssrc: stamp.ssrc,
     };
-    let length = plan.datagram(next.index, &pictures[next.picture], own, buf);
-    let octets = Vec::from_slice(alloc, &buf[..length])?;
+    let octets = datagram_of(alloc, plan, next.index, &pictures[next.picture], own, buf)?;
     move_on(next, plan.len());
     Ok(octets)
+}
+
+/// The datagram of a packet.
+#[tactic(auto, unfolding(crate::specs::Steps::text_at))]
+fn datagram_of<A: Allocator, B: Allocator, C: Allocator>(
+    alloc: A,
+    plan: &Plan<B>,
+    index: usize,
+    picture: &Picture<C>,
+    stamp: Stamp,
+    buf: &mut [u8],
+) -> Result<Vec<u8, A>, Stop>
+    requires payload_type { stamp.payload_type ≤ 127 }
+    requires format { picture.now.format ≡ plan.now.format }
+    requires room { EachHasRoom plan.now (length buf.old) }
+    requires index { index < length plan.now.packets }
+    ensures text { IfOk result (λ v. v.items ≡ text_at plan.now picture.now stamp index) }
+    ensures memory { OnErr result (result ≡ Err Stop.NoMemory) }
+    ensures room { length buf.new ≡ length buf.old }
+{
+    let length = plan.datagram(index, picture, stamp, buf);
+    Ok(Vec::from_slice(alloc, &buf[..length])?)
 }
 
 /// Moves on by one packet, of so many in each picture.
