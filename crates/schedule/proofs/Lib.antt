@@ -5,3 +5,4 @@ pub mod StayFrames
 pub mod SenderStays
 pub mod StepLemmas
 pub mod SendLemmas
+pub mod StageLemmas

@@ -25,7 +25,7 @@ use Rattle.schedule.proofs.Chains.{chain_below}
 use Rattle.schedule.proofs.Places.{drop_get, drop_next, get_below}
 use Rattle.schedule.proofs.Reaching.{Newly, frame_kept, frame_taken, frame_merged, frame_new, frame_none, LeavesFrames, none_by_other, none_when_over}
 
-abbrev stay_at : ℕ → ℕ → ℕ → Stay
+abbrev pub stay_at : ℕ → ℕ → ℕ → Stay
 stay_at r n t = record { receiver = r; number = n; timestamp = t }
 
 -- ---- lists of frames
@@ -125,13 +125,13 @@ frames_none s es r n (t ∷ w) none =
 -- ---- receivers
 
 -- what one event more brings
-brought_more : (r : ℕ) (es : List Event) (e : Event) → brought r (es ++ e ∷ []) ≡ brought r es ++ brings r e
+pub brought_more : (r : ℕ) (es : List Event) (e : Event) → brought r (es ++ e ∷ []) ≡ brought r es ++ brings r e
 brought_more r es e = flat_map-append (brings r) es (e ∷ []) ∙ ap (λ (xs : List ℕ). brought r es ++ xs) (append-nil (brings r e))
 
 brought_same : (r : ℕ) (es : List Event) (e : Event) → brings r e ≡ [] → brought r (es ++ e ∷ []) ≡ brought r es
 brought_same r es e none = brought_more r es e ∙ ap (λ (xs : List ℕ). brought r es ++ xs) none ∙ append-nil (brought r es)
 
-brings_here : (r next : ℕ) → brings r (Slide r next) ≡ next ∷ []
+pub brings_here : (r next : ℕ) → brings r (Slide r next) ≡ next ∷ []
 brings_here r next = ap (λ (b : Bool). cond b (next ∷ []) []) (eq-eqb r r refl)
 
 abbrev at_window : Scene → List Event → ℕ → List ℕ → State → Type 0

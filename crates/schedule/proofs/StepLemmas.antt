@@ -142,3 +142,27 @@ refused_at i j into from old r e f h =
 pub merged_at : {T E : Type 0} (i j into from : ℕ) (old new : List State) (r : Result T E) → i ≡ into → j ≡ from → OnOk r (Merges i j old new) → OnOk r (Merges into from old new)
 merged_at i j into from old new r e f h =
     subst (λ (y : ℕ). OnOk r (Merges into y old new)) f (subst (λ (x : ℕ). OnOk r (Merges x j old new)) e h)
+
+-- ---- the same of equal lists
+
+pub arrives_of : {A T E : Type 0} (to number : ℕ) (sent sent' : List (Vec ℕ A)) (old old' new new' : List State) (r : Result T E) → sent' ≡ sent → old' ≡ old → new ≡ new'
+    → OnOk r (Arrives to number sent' old' new') → OnOk r (Arrives to number sent old new)
+arrives_of to number sent sent' old old' new new' r e f g h =
+    subst (λ (xs : List (Vec ℕ _)). OnOk r (Arrives to number xs old new)) e
+    (subst (λ (xs : List State). OnOk r (Arrives to number sent' xs new)) f (subst (λ (xs : List State). OnOk r (Arrives to number sent' old' xs)) (sym g) h))
+
+pub arrive_unfit_of : {A T E : Type 0} (to number : ℕ) (sent sent' : List (Vec ℕ A)) (old old' : List State) (r : Result T E) → sent' ≡ sent → old' ≡ old
+    → OnErr r (to < length old' → number < length sent' → ⊥) → OnErr r (to < length old → number < length sent → ⊥)
+arrive_unfit_of to number sent sent' old old' r e f h =
+    subst (λ (xs : List (Vec ℕ _)). OnErr r (to < length old → number < length xs → ⊥)) e (subst (λ (xs : List State). OnErr r (to < length xs → number < length sent' → ⊥)) f h)
+
+pub slides_of : {A : Type 0} (at next : ℕ) (old old' new new' : List State) (out : Handed A) → old' ≡ old → new ≡ new' → Slides at next old' new' out → Slides at next old new out
+slides_of at next old old' new new' out f g h = subst (λ (xs : List State). Slides at next xs new out) f (subst (λ (xs : List State). Slides at next old' xs out) (sym g) h)
+
+pub merges_of : {T E : Type 0} (into from : ℕ) (old old' new new' : List State) (r : Result T E) → old' ≡ old → new ≡ new' → OnOk r (Merges into from old' new') → OnOk r (Merges into from old new)
+merges_of into from old old' new new' r f g h = subst (λ (xs : List State). OnOk r (Merges into from xs new)) f (subst (λ (xs : List State). OnOk r (Merges into from old' xs)) (sym g) h)
+
+pub merge_unfit_of : {T E : Type 0} (into from : ℕ) (old old' : List State) (r : Result T E) → old' ≡ old
+    → OnErr r ((a b : State) → slice_get old' into ≡ Some a → slice_get old' from ≡ Some b → into ≢ from → a.opening ≢ b.opening)
+    → OnErr r ((a b : State) → slice_get old into ≡ Some a → slice_get old from ≡ Some b → into ≢ from → a.opening ≢ b.opening)
+merge_unfit_of into from old old' r f h = subst (λ (xs : List State). OnErr r ((a b : State) → slice_get xs into ≡ Some a → slice_get xs from ≡ Some b → into ≢ from → a.opening ≢ b.opening)) f h

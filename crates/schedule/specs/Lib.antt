@@ -4,3 +4,4 @@ pub mod Sent
 pub mod Admitted
 pub mod Played
 pub mod Steps
+pub mod Stage

@@ -8,7 +8,7 @@ use Rattle.schedule.specs.declared.event.Event.{Event}
 use Rattle.schedule.specs.declared.event.Event.TheVariants.{Send, Arrive, Slide, Merge}
 use Rattle.schedule.specs.declared.played.Handed.{Handed}
 use Rattle.schedule.specs.declared.played.Played.{Played}
-use Rattle.schedule.specs.Stays.{Stay, brought}
+use Rattle.schedule.specs.Stays.{Stay, HasEnded, brought}
 use Rattle.schedule.specs.Reached.{Scene, IsFrameOf, IsAt}
 use Rattle.schedule.specs.Admitted.{AreAdmittedTo}
 
@@ -38,10 +38,11 @@ ended_behind window before (event ∷ events) = ended_by window before event ++ 
 abbrev pub ended : List ℕ → List Event → List Stay
 ended window events = ended_behind window [] events
 
--- A stay was handed out with its frame.
+-- A stay that has ended was handed out with its frame.
 pub record IsHanded {A : Type 0} (s : Scene) (events : List Event) (stay : Stay) (h : Handed A) : Type 0 where
   pub receiver : h.receiver ≡ stay.receiver
   pub timestamp : h.timestamp ≡ stay.timestamp
+  pub over : HasEnded events stay
   pub frame : IsFrameOf s events stay h.frame
 
 -- The frames handed out are those of the stays that ended, in order; the receivers have the others'.

@@ -1,5 +1,5 @@
 -- The stays of timestamps in the windows of receivers (own).
-use Rattle.std.specs.Prelude.{◌≡◌, ℕ, ◌==◌, ◌≤◌, if◌then◌else◌, List, [], ◌∷◌, ◌++◌, length, drop, Some, slice_get}
+use Rattle.std.specs.Prelude.{◌≡◌, ℕ, ◌==◌, ◌≤◌, ◌<◌, if◌then◌else◌, List, [], ◌∷◌, ◌++◌, length, drop, Some, slice_get}
 use Rattle.std.specs.List.{flat_map}
 use Rattle.schedule.specs.declared.event.Event.{Event}
 use Rattle.schedule.specs.declared.event.Event.TheVariants.{Send, Arrive, Slide, Merge}
@@ -30,3 +30,7 @@ pub record Lasts (window : List ℕ) (events : List Event) (stay : Stay) : Type 
 -- the window of a receiver after some events: the timestamps of the stays that last
 abbrev pub window_after : List ℕ → ℕ → List Event → List ℕ
 window_after window receiver events = drop (length (brought receiver events)) (window ++ brought receiver events)
+
+-- a stay has ended: a Slide at its receiver ended it
+abbrev pub HasEnded : List Event → Stay → Type 0
+HasEnded events stay = stay.number < length (brought stay.receiver events)

@@ -6,6 +6,7 @@ mod fault;
 pub mod laws;
 mod played;
 mod sending;
+mod stage;
 mod steps;
 
 pub use event::Event;
