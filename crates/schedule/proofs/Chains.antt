@@ -1,9 +1,9 @@
 -- Chains of a list of events and one event more.
-use Rattle.std.proofs.Common.{◌≡◌, ◌↔◌, ℕ, ◌<◌, ◌≤◌, ◌⊎◌, inl, inr, List, [], ◌∷◌, ◌++◌, length, take, Some, refl, sym, ap, ◌∙◌, subst, arith, length-append}
+use Rattle.std.proofs.Common.{◌≡◌, ◌↔◌, ℕ, ◌<◌, ◌≤◌, ◌⊎◌, inl, inr, List, [], ◌∷◌, ◌++◌, length, take, Some, sym, ap, ◌∙◌, subst, arith, length-append}
 use Rattle.std.proofs.lemmas.List.{take-append-le, take_all}
 use Rattle.std.specs.Prelude.{slice_get}
 use Rattle.schedule.specs.declared.event.Event.{Event}
-use Rattle.schedule.specs.declared.event.Event.TheVariants.{Send, Arrive, Slide, Merge}
+use Rattle.schedule.specs.declared.event.Event.TheVariants.{Arrive, Merge}
 use Rattle.schedule.specs.Stays.{Stay, Lasts}
 use Rattle.schedule.specs.Reached.{Chain, Arrived, Merged, LastStep, By_arrive, By_merge}
 use Rattle.schedule.proofs.Places.{get_left, get_back, get_below, last_get, below_or_at}
@@ -39,7 +39,6 @@ chain_back w es fs n stay place (Arrived p path s is lasts) below =
 chain_back w es fs n stay place (Merged earlier p from s chain lt is from_lasts lasts same) below =
     Merged earlier p from s (chain_back w es fs n from earlier chain (omega arith)) lt (get_back es fs p (Merge s.receiver from.receiver) below is)
     (lasts_back w es fs from p (at_once _ _ below) from_lasts) (lasts_back w es fs s p (at_once _ _ below) lasts) same
-
 
 last_is : (es : List Event) (e f : Event) (place : ℕ) → place ≡ length es → slice_get (es ++ e ∷ []) place ≡ Some f → e ≡ f
 last_is es e f place at is =
@@ -89,10 +88,12 @@ one_event_more w es e n stay place = (there, back)
     by_place : (place < length es) ⊎ (place ≡ length es) → Chain w (es ++ e ∷ []) n stay place → Chain w es n stay place ⊎ ((place ≡ length es) × LastStep w es e n stay)
     by_place (inl below) chain = inl (chain_back w es (e ∷ []) n stay place chain below)
     by_place (inr at) chain = elim (chain_cases w es e n stay place chain) [ inl old ↦ inl old | inr last ↦ inr (at, last) ]
+
     there : Chain w (es ++ e ∷ []) n stay place → Chain w es n stay place ⊎ ((place ≡ length es) × LastStep w es e n stay)
     there chain =
         let below : place < length (es ++ e ∷ []) = chain_below w (es ++ e ∷ []) n stay place chain in
         by_place (below_or_at place (length es) (omega (arith, below, length-append es (e ∷ [])))) chain
+
     back : Chain w es n stay place ⊎ ((place ≡ length es) × LastStep w es e n stay) → Chain w (es ++ e ∷ []) n stay place
     back (inl old) = chain_more w es (e ∷ []) n stay place old
     back (inr last) = subst (λ (p : ℕ). Chain w (es ++ e ∷ []) n stay p) (sym last.0) (chain_last w es e n stay last.1)

@@ -6,3 +6,5 @@ pub mod SenderStays
 pub mod StepLemmas
 pub mod SendLemmas
 pub mod StageLemmas
+pub mod OpeningLemmas
+pub mod PlayLemmas

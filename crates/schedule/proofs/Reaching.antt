@@ -1,5 +1,5 @@
 -- What reaches a stay after one event more, and its frame.
-use Rattle.std.proofs.Common.{◌≡◌, ℕ, zero, suc, ◌+◌, ◌<◌, ◌≤◌, ◌⊎◌, inl, inr, Bool, true, false, eqb, List, [], ◌∷◌, ◌++◌, length, take, drop, map, Result, Ok, Err, Some, refl, sym, ap, ◌∙◌, subst, arith, length-append}
+use Rattle.std.proofs.Common.{◌≡◌, ℕ, ◌+◌, ◌<◌, ◌≤◌, ◌⊎◌, inl, inr, List, [], ◌∷◌, ◌++◌, length, take, drop, Result, Ok, Err, Some, refl, sym, ap, ◌∙◌, subst, arith, length-append}
 use Rattle.std.specs.Prelude.{slice_get}
 use Rattle.std.specs.List.{flat_map}
 use Rattle.std.proofs.lemmas.Bool.Decides.{eqb_tells}
@@ -8,16 +8,14 @@ use Rattle.std.proofs.lemmas.List.Concat.{flat_map-append}
 use Rattle.st_format.specs.declared.cell.Cell.{Cell}
 use Rattle.st_format.specs.declared.format.Format.{Format}
 use Rattle.st_format.specs.declared.path.Path.{Path}
-use Rattle.st_format.specs.Member.{IsMember}
 use Rattle.st_format.specs.Offer.{Offer}
-use Rattle.st_format.specs.Position.{sample_count}
-use Rattle.st_format.specs.Raster.{Raster, blank, raster_of, cells_of, joined, joined_rasters, offers_in_all}
+use Rattle.st_format.specs.Raster.{Raster, blank, raster_of, cells_of, joined, joined_rasters}
 use Rattle.st_format.proofs.Members.{member_left, member_right, member_cases}
 use Rattle.st_format.proofs.Rasters.{cells_of-append, joined_none, length-cells_of}
 use Rattle.rtp_header.specs.Grammar.{AreOctets}
 use Rattle.path_merge.specs.declared.answer.Refusal.{Refusal}
 use Rattle.path_merge.specs.Admission.{admitted_at}
-use Rattle.path_merge.specs.Grammar.{Datagram, IsFor}
+use Rattle.path_merge.specs.Grammar.{Datagram}
 use Rattle.path_merge.specs.Offers.{offers, offers_of}
 use Rattle.path_merge.specs.Opening.{Opening}
 use Rattle.path_merge.proofs.Frames.{cells_kept, holds_blank}
@@ -26,7 +24,7 @@ use Rattle.schedule.specs.declared.event.Event.{Event}
 use Rattle.schedule.specs.declared.event.Event.TheVariants.{Send, Arrive, Slide, Merge}
 use Rattle.schedule.specs.Stays.{Stay, Lasts, brings, brought}
 use Rattle.schedule.specs.Reached.{Scene, Chain, Arrived, Merged, LastStep, By_arrive, By_merge, IsOf, Reaches, IsFrameOf}
-use Rattle.schedule.proofs.Chains.{chain_more, chain_cases, chain_last, chain_below}
+use Rattle.schedule.proofs.Chains.{chain_more, chain_cases, chain_last}
 use Rattle.schedule.proofs.Places.{get_below}
 
 -- ---- what reaches a stay
@@ -70,7 +68,7 @@ frame_kept s es e stay q none is = record {
   reached = is.reached;
   each = λ octets. (
     λ m. reach_more s es (e ∷ []) octets stay ((is.each octets).0 m),
-    λ r. elim (reach_cases s es e octets stay r) [ inl old ↦ (is.each octets).1 old | inr new ↦ absurd (none octets new) ]
+    λ r. elim (reach_cases s es e octets stay r) [ inl old ↦ (is.each octets).1 old | inr new ↦ absurd (none octets new) ],
   );
   frame_is = is.frame_is;
 }
@@ -150,14 +148,14 @@ frame_taken s es to number path octets stay q sent fit at lasts is =
             | inl old ↦ reach_more s es (e ∷ []) other stay ((is.each other).0 old)
             | inr new ↦ elim new [
               | inl same ↦ subst (λ (x : List ℕ). Reaches s (es ++ e ∷ []) x stay) (sym same)
-              (reach_newly s es e octets stay (record { number = number; sent = sent; is_of = is_of; last = By_arrive path (ap (λ (x : ℕ). Arrive x path number) (sym at)) lasts }))
+                  (reach_newly s es e octets stay (record { number = number; sent = sent; is_of = is_of; last = By_arrive path (ap (λ (x : ℕ). Arrive x path number) (sym at)) lasts }))
               | inr bad ↦ absurd bad
             ]
           ],
           λ r. elim (reach_cases s es e other stay r) [
             | inl old ↦ member_left other is.reached (octets ∷ []) ((is.each other).1 old)
             | inr new ↦ member_right other is.reached (octets ∷ []) (inl (newly_arrived s es to number path octets other stay sent new))
-          ]
+          ],
         );
         frame_is = with_q ∙ both_rasters o is.reached (octets ∷ []) ts;
       }
@@ -168,7 +166,7 @@ frame_taken s es to number path octets stay q sent fit at lasts is =
           λ r. elim (reach_cases s es e other stay r) [
             | inl old ↦ (is.each other).1 old
             | inr new ↦ absurd (not_of (subst (λ (x : List ℕ). IsOf o x ts) (newly_arrived s es to number path octets other stay sent new) new.is_of))
-          ]
+          ],
         );
         frame_is = with_q ∙ none_joined o is.reached octets ts (none_at o octets ts (admitted_at o.format o.payload_type o.ssrc octets) fit refl not_of);
       }
@@ -207,11 +205,11 @@ frame_merged s es into other from stay q p at there from_lasts lasts same only i
         λ r. elim (reach_cases s es e octets stay r) [
           | inl old ↦ member_left octets is.reached its.reached ((is.each octets).1 old)
           | inr new ↦ member_right octets is.reached its.reached ((its.each octets).1 (by_last octets new.number new.sent new.is_of new.last))
-        ]
+        ],
       );
       frame_is = ap (λ (r : Raster). joined_rasters r p) is.frame_is
-      ∙ ap (λ (r : Raster). joined_rasters (raster_of o.format (flat_map (offers o) is.reached) ts) r) (its.frame_is ∙ ap (raster_of o.format (flat_map (offers o) its.reached)) same)
-      ∙ both_rasters o is.reached its.reached ts;
+          ∙ ap (λ (r : Raster). joined_rasters (raster_of o.format (flat_map (offers o) is.reached) ts) r) (its.frame_is ∙ ap (raster_of o.format (flat_map (offers o) its.reached)) same)
+          ∙ both_rasters o is.reached its.reached ts;
     }
   where
     by_last : (octets : List ℕ) (n : ℕ) → slice_get s.sent n ≡ Some octets → IsOf s.opening octets stay.timestamp → LastStep s.opening.window es (Merge into other) n stay → Reaches s es octets from

@@ -1,8 +1,8 @@
 -- The next datagram of those that are to come.
-use Rattle.std.proofs.Common.{◌≡◌, ℕ, zero, suc, ◌+◌, ◌%◌, ◌^◌, ◌<◌, ◌≤◌, ◌⊎◌, inl, inr, Bool, true, false, cond, eqb, List, [], ◌∷◌, ◌++◌, length, drop, get_or, refl, sym, ap, ◌∙◌, subst, arith}
+use Rattle.std.proofs.Common.{◌≡◌, ℕ, zero, suc, ◌+◌, ◌%◌, ◌^◌, ◌<◌, ◌≤◌, inl, inr, Bool, true, false, cond, eqb, List, [], ◌∷◌, ◌++◌, length, drop, get_or, refl, sym, ap, ◌∙◌, arith}
 use Rattle.std.proofs.lemmas.Bool.{eqb-true}
 use Rattle.std.proofs.lemmas.Bool.Decides.{eqb_tells}
-use Rattle.st_format.specs.Picture.{Values, timestamp_of}
+use Rattle.st_format.specs.Picture.{Values}
 use Rattle.packet_plan.specs.declared.run.PacketRun.{PacketRun}
 use Rattle.packet_plan.specs.declared.stamp.Stamp.{Stamp}
 use Rattle.packet_plan.specs.Plan.{RasterPlan, packet_at}
@@ -34,7 +34,7 @@ none_left xs i le = elim (eqb_tells i (length xs)) [
   | inr h ↦ ap is_empty (drop_here xs i [] (omega (arith, le, h.1))) ∙ sym h.0
 ]
 
-behind_first : (plan : RasterPlan) (stamp : Stamp) (k first : ℕ) (ps : List Values) → texts_from (sender_of plan stamp) plan.packets k first ps ≡ texts_behind plan stamp k 0 first ps
+pub behind_first : (plan : RasterPlan) (stamp : Stamp) (k first : ℕ) (ps : List Values) → texts_from (sender_of plan stamp) plan.packets k first ps ≡ texts_behind plan stamp k 0 first ps
 behind_first plan stamp k first [] = refl
 behind_first plan stamp k first (p ∷ ps) = refl
 

@@ -1,16 +1,16 @@
 -- The frames of stays, where every datagram is a sender's.
-use Rattle.std.proofs.Common.{◌≡◌, ◌↔◌, ℕ, zero, suc, inl, inr, Bool, true, false, eqb, ◌&&◌, cond, List, [], ◌∷◌, ◌++◌, map, Some, None, refl, sym, ap, ◌∙◌, subst, arith, eq-eqb}
+use Rattle.std.proofs.Common.{◌≡◌, ◌↔◌, ℕ, zero, suc, inl, inr, Bool, true, cond, List, [], ◌∷◌, Some, None, refl, sym, ap, ◌∙◌, subst, eq-eqb}
 use Rattle.std.specs.Prelude.{slice_get}
 use Rattle.std.specs.List.{flat_map, filter}
 use Rattle.st_format.specs.declared.cell.Cell.{Cell}
 use Rattle.st_format.specs.declared.cell.Cell.TheVariants.{Missing, Value, Contested}
 use Rattle.st_format.specs.declared.format.Format.{Format}
-use Rattle.st_format.specs.Cell.{IsCellOf, cell_of_values}
+use Rattle.st_format.specs.Cell.{IsCellOf}
 use Rattle.st_format.specs.Member.{IsMember, SameMembers}
 use Rattle.st_format.specs.Offer.{Offer, is_for, values_for, cell_of}
 use Rattle.st_format.specs.Picture.{Values}
 use Rattle.st_format.specs.Position.{Position, IsPosition, same_place}
-use Rattle.st_format.specs.Raster.{Raster, raster_of, cell_at, cells_of}
+use Rattle.st_format.specs.Raster.{Raster, raster_of, cell_at}
 use Rattle.st_format.proofs.Cells.{is_cell, is_for-true}
 use Rattle.st_format.proofs.Members.{member-map, member_of_map, member-filter, member_of_filter, member-flat_map, member_of_flat_map, SameMembers-flat_map}
 use Rattle.st_format.proofs.Rasters.{cell_at-raster_of, cells_of-same}
@@ -21,7 +21,6 @@ use Rattle.path_merge.specs.Opening.{Opening}
 use Rattle.path_merge.specs.Sender.{AreAmong, IsSendersCell, frame_cell}
 use Rattle.path_merge.specs.Sliding.{with_window}
 use Rattle.path_merge.proofs.SenderCells.{cells-senders}
-use Rattle.path_merge.proofs.Windows.{member_get}
 use Rattle.schedule.specs.declared.event.Event.{Event}
 use Rattle.schedule.specs.Stays.{Stay}
 use Rattle.schedule.specs.Reached.{Scene, Reaches, IsFrameOf}
@@ -103,6 +102,7 @@ missing_iff s es stay q is at there = (forth, back)
         let none : IsCellOf (values_for os ts at) Missing =
         subst (IsCellOf (values_for os ts at)) (sym (cell_at-raster_of s.opening.format os ts at there) ∙ ap (λ (x : Raster). cell_at x at) (sym is.frame_is) ∙ e) (is_cell (values_for os ts at)) in
         none c.value (offered_here s.opening is.reached ts at octets c ((is.each octets).1 r))
+
     back : ((octets : List ℕ) → Reaches s es octets stay → Carries s.opening octets stay.timestamp at → ⊥) → cell_at q at ≡ Missing
     back none =
         let ts : ℕ = stay.timestamp in
@@ -116,8 +116,8 @@ pub senders_frame : (s : Scene) (snd : Sender) (first : ℕ) (ps : List Values) 
     → IsSenderList snd first ps ds → snd.format ≡ s.opening.format → AreAmong s.sent ds → IsFrameOf s es stay q → IsSendersFrame s snd ps es stay q
 senders_frame s snd first ps ds es stay q list same among is = record {
   cells = λ at.
-  let ts : ℕ = stay.timestamp in
-  subst (λ (c : Cell). IsSendersCell snd ps ts at c) (in_window s.opening is.reached ts at ∙ ap (λ (x : Raster). cell_at x at) (sym is.frame_is))
-  (cells-senders (with_window s.opening (ts ∷ [])) snd first ps ds is.reached list same (reached_among s es stay q ds among is) ts at);
+      let ts : ℕ = stay.timestamp in
+      subst (λ (c : Cell). IsSendersCell snd ps ts at c) (in_window s.opening is.reached ts at ∙ ap (λ (x : Raster). cell_at x at) (sym is.frame_is))
+      (cells-senders (with_window s.opening (ts ∷ [])) snd first ps ds is.reached list same (reached_among s es stay q ds among is) ts at);
   missing = missing_iff s es stay q is;
 }

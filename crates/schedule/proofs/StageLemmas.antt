@@ -1,16 +1,15 @@
 -- One event more, on the stage.
-use Rattle.std.proofs.Common.{◌≡◌, ◌≢◌, ℕ, zero, suc, ◌+◌, ◌<◌, ◌≤◌, ◌⊎◌, inl, inr, List, [], ◌∷◌, ◌++◌, length, map, get_or, set, drop, Option, Some, Vec, refl, sym, ap, ◌∙◌, subst, arith, length-append, append_assoc}
+use Rattle.std.proofs.Common.{◌≡◌, ◌≢◌, ℕ, zero, suc, ◌+◌, ◌<◌, ◌⊎◌, inl, inr, List, [], ◌∷◌, ◌++◌, length, map, get_or, set, drop, Some, Vec, refl, sym, ap, ◌∙◌, subst, arith, length-append, append_assoc}
 use Rattle.std.specs.Prelude.{slice_get, OnErr, OnOk, Result, Ok, Err}
-use Rattle.std.specs.List.{AllZip, flat_map}
+use Rattle.std.specs.List.{AllZip}
 use Rattle.std.proofs.lemmas.List.{append-nil, length-map}
-use Rattle.std.proofs.lemmas.List.Concat.{flat_map-append}
-use Rattle.std.proofs.lemmas.Option.{get_or_from_slice_get, slice_get-get_or}
+use Rattle.std.proofs.lemmas.Option.{get_or_from_slice_get}
 use Rattle.st_format.specs.declared.path.Path.{Path}
 use Rattle.st_format.specs.Member.{IsMember}
 use Rattle.st_format.specs.Picture.{Values}
 use Rattle.packet_plan.specs.declared.stamp.Stamp.{Stamp}
 use Rattle.packet_plan.specs.Plan.{RasterPlan}
-use Rattle.path_merge.specs.Frames.{State, IsReceiver}
+use Rattle.path_merge.specs.Frames.{State}
 use Rattle.path_merge.specs.Opening.{Opening, AreDifferent}
 use Rattle.path_merge.specs.Sliding.{with_window, slid}
 use Rattle.schedule.specs.declared.event.Event.{Event}
@@ -18,12 +17,12 @@ use Rattle.schedule.specs.declared.event.Event.TheVariants.{Send, Arrive, Slide,
 use Rattle.schedule.specs.declared.played.Handed.{Handed}
 use Rattle.schedule.specs.declared.sending.Next.{Next}
 use Rattle.schedule.specs.declared.stage.Stage.{Stage}
-use Rattle.schedule.specs.Stays.{Stay, Lasts, HasEnded, brings, brought, window_after}
+use Rattle.schedule.specs.Stays.{Stay, Lasts, HasEnded, brings, brought}
 use Rattle.schedule.specs.Reached.{Scene, IsAt, IsFrameOf, Leaves}
-use Rattle.schedule.specs.Admitted.{IsAdmitted, CanArrive, CanSlide, CanMerge, sends}
+use Rattle.schedule.specs.Admitted.{sends}
 use Rattle.schedule.specs.Played.{IsHanded, ended, ended_by, ended_behind}
-use Rattle.schedule.specs.Stage.{Follows, HandsOut, IsFollowed, IsStage, NeverFits, Sends, octets_of}
-use Rattle.schedule.specs.Steps.{Arrives, Slides, Merges, to_come}
+use Rattle.schedule.specs.Stage.{Follows, HandsOut, NeverFits, Sends, octets_of}
+use Rattle.schedule.specs.Steps.{Arrives, Merges, to_come}
 use Rattle.schedule.proofs.Places.{get_below, get_left}
 use Rattle.schedule.proofs.Reaching.{frame_kept, none_by_other, none_when_over}
 use Rattle.schedule.proofs.StayFrames.{at_left, at_taken, at_merged, at_slid, at_first, brings_here, brought_more, stay_at}
@@ -137,10 +136,10 @@ follows_send plan stamp pictures old new h s es some is = record {
     receivers = λ r state there. at_left s es Send r state tt (is.receivers r state (ap (λ (xs : List State). slice_get xs r) (sym h.receivers) ∙ there));
     handed = subst (λ (hs : List (Handed _)). AllZip (IsHanded s (es ++ Send ∷ [])) (ended s.opening.window (es ++ Send ∷ [])) hs) (sym h.handed) (kept_handed s es Send old.handed.items refl is.handed);
     sent = ap (λ (vs : List (Vec ℕ _)). map octets_of vs ++ to_come plan stamp pictures new.next) h.sent
-    ∙ ap (λ (xs : List (List ℕ)). xs ++ to_come plan stamp pictures new.next) (map_snoc old.sent.items h.datagram)
-    ∙ append_assoc (map octets_of old.sent.items) (h.datagram.items ∷ []) (to_come plan stamp pictures new.next)
-    ∙ ap (λ (xs : List (List ℕ)). map octets_of old.sent.items ++ xs) (sym h.is_next)
-    ∙ is.sent;
+        ∙ ap (λ (xs : List (List ℕ)). xs ++ to_come plan stamp pictures new.next) (map_snoc old.sent.items h.datagram)
+        ∙ append_assoc (map octets_of old.sent.items) (h.datagram.items ∷ []) (to_come plan stamp pictures new.next)
+        ∙ ap (λ (xs : List (List ℕ)). map octets_of old.sent.items ++ xs) (sym h.is_next)
+        ∙ is.sent;
     sends = omega (arith, ap length h.sent, length-append old.sent.items (h.datagram ∷ []), is.sends, sends_more es Send 1 refl);
   };
 }
@@ -158,7 +157,7 @@ follows_arrive plan stamp pictures to number path old new h sent handed next s e
       stage = record {
         count = ap length h.all ∙ length-set_state old.receivers.items to h.after ∙ is.count;
         receivers = λ r state there. each_receiver s es e old.receivers.items to h.after (λ q other. other) is.receivers
-        (at_taken s es to number path h.datagram.items h.before h.after datagram h.octets (is.receivers to h.before h.there) h.opening h.frames) r state (ap (λ (xs : List State). slice_get xs r) (sym h.all) ∙ there);
+            (at_taken s es to number path h.datagram.items h.before h.after datagram h.octets (is.receivers to h.before h.there) h.opening h.frames) r state (ap (λ (xs : List State). slice_get xs r) (sym h.all) ∙ there);
         handed = subst (λ (hs : List (Handed _)). AllZip (IsHanded s (es ++ e ∷ [])) (ended s.opening.window (es ++ e ∷ [])) hs) (sym handed) (kept_handed s es e old.handed.items refl is.handed);
         sent = ap (λ (vs : List (Vec ℕ _)). map octets_of vs ++ to_come plan stamp pictures new.next) sent ∙ ap (λ (n : Next). map octets_of old.sent.items ++ to_come plan stamp pictures n) next ∙ is.sent;
         sends = omega (arith, ap length sent, is.sends, sends_more es e 0 refl);
@@ -195,7 +194,7 @@ follows_slide plan stamp pictures at next old new out same s es some is =
       stage = record {
         count = ap length h.all ∙ length-set_state old.receivers.items at (slid h.before next) ∙ is.count;
         receivers = λ r state there. each_receiver s es e old.receivers.items at (slid h.before next) (λ q other. other) is.receivers
-        (at_slid s es at next h.before some here) r state (ap (λ (xs : List State). slice_get xs r) (sym h.all) ∙ there);
+            (at_slid s es at next h.before some here) r state (ap (λ (xs : List State). slice_get xs r) (sym h.all) ∙ there);
         handed = subst (λ (hs : List (Handed _)). AllZip (IsHanded s (es ++ e ∷ [])) (ended w (es ++ e ∷ [])) hs) (sym out.handed) (more_handed s es e old.handed.items stay out.out refl is.handed handed);
         sent = ap (λ (vs : List (Vec ℕ _)). map octets_of vs ++ to_come plan stamp pictures new.next) out.sent ∙ ap (λ (n : Next). map octets_of old.sent.items ++ to_come plan stamp pictures n) same ∙ is.sent;
         sends = omega (arith, ap length out.sent, is.sends, sends_more es e 0 refl);
@@ -220,7 +219,7 @@ follows_merge plan stamp pictures into from old new h sent handed next s es some
       stage = record {
         count = ap length h.all ∙ length-set_state old.receivers.items into h.after ∙ is.count;
         receivers = λ r state at. each_receiver s es e old.receivers.items into h.after (λ q other. other) is.receivers
-        (at_merged s es into from h.before h.other h.after here there h.alike (subst (λ (o : Opening). AreDifferent o.window) h.opening h.receiver.window.different) h.opening h.frames) r state (ap (λ (xs : List State). slice_get xs r) (sym h.all) ∙ at);
+            (at_merged s es into from h.before h.other h.after here there h.alike (subst (λ (o : Opening). AreDifferent o.window) h.opening h.receiver.window.different) h.opening h.frames) r state (ap (λ (xs : List State). slice_get xs r) (sym h.all) ∙ at);
         handed = subst (λ (hs : List (Handed _)). AllZip (IsHanded s (es ++ e ∷ [])) (ended s.opening.window (es ++ e ∷ [])) hs) (sym handed) (kept_handed s es e old.handed.items refl is.handed);
         sent = ap (λ (vs : List (Vec ℕ _)). map octets_of vs ++ to_come plan stamp pictures new.next) sent ∙ ap (λ (n : Next). map octets_of old.sent.items ++ to_come plan stamp pictures n) next ∙ is.sent;
         sends = omega (arith, ap length sent, is.sends, sends_more es e 0 refl);

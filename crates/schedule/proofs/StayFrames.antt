@@ -1,18 +1,15 @@
 -- The frames of a receiver after one event more.
-use Rattle.std.proofs.Common.{◌≡◌, ℕ, zero, suc, ◌+◌, ◌<◌, ◌≤◌, ◌⊎◌, inl, inr, Bool, true, false, eqb, cond, List, [], ◌∷◌, ◌++◌, length, take, drop, map, Option, Some, refl, sym, ap, ◌∙◌, subst, arith, length-append, append_assoc}
+use Rattle.std.proofs.Common.{◌≡◌, ℕ, zero, suc, ◌+◌, ◌<◌, ◌≤◌, Bool, cond, List, [], ◌∷◌, ◌++◌, length, drop, map, Some, refl, sym, ap, ◌∙◌, subst, arith, length-append, append_assoc}
 use Rattle.std.specs.Prelude.{slice_get}
 use Rattle.std.specs.List.{flat_map}
 use Rattle.std.proofs.Common.{eq-eqb, ne_eqb}
 use Rattle.std.proofs.lemmas.List.{append-nil, length-drop, drop-append-le}
 use Rattle.std.proofs.lemmas.List.Concat.{flat_map-append}
-use Rattle.st_format.specs.declared.format.Format.{Format}
 use Rattle.st_format.specs.declared.path.Path.{Path}
 use Rattle.st_format.specs.Member.{IsMember}
-use Rattle.st_format.specs.Offer.{Offer}
-use Rattle.st_format.specs.Raster.{Raster, blank, raster_of, joined_rasters}
+use Rattle.st_format.specs.Raster.{Raster, blank, raster_of}
 use Rattle.rtp_header.specs.Grammar.{AreOctets}
-use Rattle.path_merge.specs.declared.answer.Refusal.{Refusal}
-use Rattle.path_merge.specs.Frames.{State, IsReceiver, Holds, frames_of, joined_frames}
+use Rattle.path_merge.specs.Frames.{State, Holds, frames_of, joined_frames}
 use Rattle.path_merge.specs.Offers.{offers}
 use Rattle.path_merge.specs.Opening.{Opening, AreDifferent}
 use Rattle.path_merge.specs.Sliding.{with_window, slid}
@@ -20,10 +17,10 @@ use Rattle.path_merge.proofs.Windows.{member_get}
 use Rattle.schedule.specs.declared.event.Event.{Event}
 use Rattle.schedule.specs.declared.event.Event.TheVariants.{Send, Arrive, Slide, Merge}
 use Rattle.schedule.specs.Stays.{Stay, Lasts, brings, brought, window_after}
-use Rattle.schedule.specs.Reached.{Scene, Chain, LastStep, Reaches, IsFrameOf, AreFrames, IsAt, Leaves}
+use Rattle.schedule.specs.Reached.{Scene, Reaches, IsFrameOf, AreFrames, IsAt, Leaves}
 use Rattle.schedule.proofs.Chains.{chain_below}
-use Rattle.schedule.proofs.Places.{drop_get, drop_next, get_below}
-use Rattle.schedule.proofs.Reaching.{Newly, frame_kept, frame_taken, frame_merged, frame_new, frame_none, LeavesFrames, none_by_other, none_when_over}
+use Rattle.schedule.proofs.Places.{drop_get, drop_next}
+use Rattle.schedule.proofs.Reaching.{Newly, frame_kept, frame_taken, frame_merged, frame_new, LeavesFrames, none_by_other}
 
 abbrev pub stay_at : ℕ → ℕ → ℕ → Stay
 stay_at r n t = record { receiver = r; number = n; timestamp = t }
@@ -48,9 +45,10 @@ frames_taken s es r k n path octets [] [] sent fit le at are = tt
 frames_taken s es r k n path octets [] (q ∷ fs) sent fit le at are = absurd are
 frames_taken s es r k n path octets (t ∷ w) [] sent fit le at are = absurd are
 frames_taken s es r k n path octets (t ∷ w) (q ∷ fs) sent fit le at are =
-    let all : List ℕ = s.opening.window ++ brought r es in
-    (frame_taken s es r k path octets (stay_at r n t) q sent fit refl (record { begun = drop_get all w n t at; not_ended = le }) are.0,
-    frames_taken s es r k (suc n) path octets w fs sent fit (omega (arith, le)) (drop_next all w n t at) are.1)
+    let all : List ℕ = s.opening.window ++ brought r es in (
+      frame_taken s es r k path octets (stay_at r n t) q sent fit refl (record { begun = drop_get all w n t at; not_ended = le }) are.0,
+      frames_taken s es r k (suc n) path octets w fs sent fit (omega (arith, le)) (drop_next all w n t at) are.1,
+    )
 
 -- the stays that last have different timestamps where the window does
 member_drop : (t i n : ℕ) (xs : List ℕ) → n ≤ i → slice_get xs i ≡ Some t → IsMember t (drop n xs)
@@ -83,9 +81,10 @@ rebuilt r n t x e f g = ap (λ (y : ℕ). stay_at y x.number x.timestamp) e ∙ 
 
 lasts_here : (w : List ℕ) (es : List Event) (r n t : ℕ) (x : Stay) → x.receiver ≡ r → Lasts w es x → x.timestamp ≡ t
     → (slice_get (w ++ brought r es) x.number ≡ Some t) × (length (brought r es) ≤ x.number)
-lasts_here w es r n t x at lasts same =
-    (ap (λ (y : ℕ). slice_get (w ++ brought y es) x.number) (sym at) ∙ lasts.begun ∙ ap Some same,
-    subst (λ (y : ℕ). length (brought y es) ≤ x.number) at lasts.not_ended)
+lasts_here w es r n t x at lasts same = (
+  ap (λ (y : ℕ). slice_get (w ++ brought y es) x.number) (sym at) ∙ lasts.begun ∙ ap Some same,
+  subst (λ (y : ℕ). length (brought y es) ≤ x.number) at lasts.not_ended,
+)
 
 -- the frames of another receiver of the same window are joined to each
 pub frames_merged : (s : Scene) (es : List Event) (r o n m : ℕ) (w : List ℕ) (fs gs : List Raster)
@@ -100,13 +99,14 @@ frames_merged s es r o n m (t ∷ w) (q ∷ fs) [] different le at lf bt are its
 frames_merged s es r o n m (t ∷ w) (q ∷ fs) (p ∷ gs) different le at lf bt are its =
     let all : List ℕ = s.opening.window ++ brought r es in
     let others : List ℕ = s.opening.window ++ brought o es in
-    let there : slice_get others m ≡ Some t = drop_get others w m t bt in
-    (frame_merged s es r o (stay_at o m t) (stay_at r n t) q p refl refl
-    (record { begun = there; not_ended = lf }) (record { begun = drop_get all w n t at; not_ended = le }) refl
-    (λ x is lasts same. let h = lasts_here s.opening.window es o m t x is lasts same in
-      rebuilt o m t x is (one_place t x.number m (length (brought o es)) others different h.1 lf h.0 there) same)
-    are.0 its.0,
-    frames_merged s es r o (suc n) (suc m) w fs gs different (omega (arith, le)) (drop_next all w n t at) (omega (arith, lf)) (drop_next others w m t bt) are.1 its.1)
+    let there : slice_get others m ≡ Some t = drop_get others w m t bt in (
+      frame_merged s es r o (stay_at o m t) (stay_at r n t) q p refl refl
+          (record { begun = there; not_ended = lf }) (record { begun = drop_get all w n t at; not_ended = le }) refl
+          (λ x is lasts same. let h = lasts_here s.opening.window es o m t x is lasts same in
+          rebuilt o m t x is (one_place t x.number m (length (brought o es)) others different h.1 lf h.0 there) same)
+          are.0 its.0,
+      frames_merged s es r o (suc n) (suc m) w fs gs different (omega (arith, le)) (drop_next all w n t at) (omega (arith, lf)) (drop_next others w m t bt) are.1 its.1,
+    )
 
 -- one frame more at the end
 pub frames_snoc : (s : Scene) (es : List Event) (r n : ℕ) (w : List ℕ) (t k : ℕ) (fs : List Raster) (q : Raster) → AreFrames s es r n w fs → n + length w ≡ k → IsFrameOf s es (stay_at r k t) q
@@ -231,11 +231,12 @@ at_slid s es r next state some is =
     let window : drop 1 w ++ next ∷ [] ≡ drop (length (xs ++ next ∷ [])) (s.opening.window ++ (xs ++ next ∷ [])) = sym (slid_window s.opening.window xs next some) in
     let blanks : blank s.opening.format ≡ blank state.opening.format = ap (λ (o : Opening). blank o.format) (sym is.opening) in
     let opening : (slid state next).opening ≡ with_window s.opening (drop 1 w ++ next ∷ []) = ap (λ (o : Opening). with_window o (drop 1 o.window ++ next ∷ [])) is.opening in
-    let h : at_window s (es ++ e ∷ []) r (xs ++ next ∷ []) (slid state next) =
-    (opening ∙ ap (with_window s.opening) window,
-    subst (λ (n : ℕ). AreFrames s (es ++ e ∷ []) r n (drop (length (xs ++ next ∷ [])) (s.opening.window ++ (xs ++ next ∷ []))) (slid state next).frames) one
-    (subst (λ (v : List ℕ). AreFrames s (es ++ e ∷ []) r (suc (length xs)) v (slid state next).frames) window
-    (subst (λ (b : Raster). AreFrames s (es ++ e ∷ []) r (suc (length xs)) (drop 1 w ++ next ∷ []) (drop 1 state.frames ++ b ∷ [])) blanks frames))) in
+    let h : at_window s (es ++ e ∷ []) r (xs ++ next ∷ []) (slid state next) = (
+      opening ∙ ap (with_window s.opening) window,
+      subst (λ (n : ℕ). AreFrames s (es ++ e ∷ []) r n (drop (length (xs ++ next ∷ [])) (s.opening.window ++ (xs ++ next ∷ []))) (slid state next).frames) one
+          (subst (λ (v : List ℕ). AreFrames s (es ++ e ∷ []) r (suc (length xs)) v (slid state next).frames) window
+          (subst (λ (b : Raster). AreFrames s (es ++ e ∷ []) r (suc (length xs)) (drop 1 w ++ next ∷ []) (drop 1 state.frames ++ b ∷ [])) blanks frames)),
+    ) in
     let g : at_window s (es ++ e ∷ []) r (brought r (es ++ e ∷ [])) (slid state next) = subst (λ (ys : List ℕ). at_window s (es ++ e ∷ []) r ys (slid state next)) (sym more) h in
     record { opening = g.0; frames = g.1 }
 
@@ -244,8 +245,8 @@ pub at_opening : (s : Scene) (r : ℕ) (state : State) → state.opening ≡ s.o
 at_opening s r state opening holds = record {
   opening = opening ∙ ap (with_window s.opening) (sym (append-nil s.opening.window));
   frames = subst (λ (w : List ℕ). AreFrames s [] r 0 w state.frames) (sym (append-nil s.opening.window))
-  (subst (AreFrames s [] r 0 s.opening.window) (sym (holds ∙ ap (λ (o : Opening). frames_of o []) opening))
-  (frames_none s [] r 0 s.opening.window (λ stay octets h. let lt = chain_below s.opening.window [] h.number stay h.place h.chain in absurd (omega (arith, lt)))));
+      (subst (AreFrames s [] r 0 s.opening.window) (sym (holds ∙ ap (λ (o : Opening). frames_of o []) opening))
+      (frames_none s [] r 0 s.opening.window (λ stay octets h. let lt = chain_below s.opening.window [] h.number stay h.place h.chain in absurd (omega (arith, lt)))));
 }
 
 -- The stay that leaves next, and its frame
@@ -256,6 +257,7 @@ at_first s es r t state q is window frame =
   where
     same_of : {X : Type 0} (x y : X) → Some x ≡ Some y → x ≡ y
     same_of x y e = cc
+
     first_of : (n : ℕ) (w : List ℕ) (fs : List Raster) → slice_get w 0 ≡ Some t → slice_get fs 0 ≡ Some q → AreFrames s es r n w fs → IsFrameOf s es (stay_at r n t) q
     first_of n [] fs g h are = absurd cc
     first_of n (u ∷ w) [] g h are = absurd are

@@ -1,6 +1,6 @@
 -- What one step does to the list of receivers.
-use Rattle.std.proofs.Common.{◌≡◌, ◌≢◌, ◌↔◌, ℕ, zero, suc, ◌+◌, ◌<◌, ◌≤◌, List, [], ◌∷◌, ◌++◌, length, get_or, set, Result, Ok, Err, Some, Vec, refl, sym, ap, ◌∙◌, subst, arith, length-append}
-use Rattle.std.specs.Prelude.{slice_get, IsErr, OnOk, OnErr, IfOk, IsErrOf}
+use Rattle.std.proofs.Common.{◌≡◌, ◌≢◌, ℕ, zero, suc, ◌<◌, List, [], ◌∷◌, ◌++◌, length, get_or, set, Result, Ok, Err, Some, Vec, refl, sym, ap, ◌∙◌, subst, arith}
+use Rattle.std.specs.Prelude.{slice_get, IsErr, OnOk, OnErr, IsErrOf}
 use Rattle.std.proofs.lemmas.Option.{slice_get_read, slice_get-get_or}
 use Rattle.st_format.specs.declared.format.Format.{Format}
 use Rattle.st_format.specs.Member.{IsMember}
@@ -9,7 +9,6 @@ use Rattle.rtp_header.specs.Grammar.{AreOctets}
 use Rattle.path_merge.specs.declared.fault.SlideFault.{SlideFault}
 use Rattle.path_merge.specs.declared.fault.SlideFault.TheVariants.{InWindow, OtherFormat}
 use Rattle.path_merge.specs.Frames.{State, IsReceiver, frames_of, joined_frames}
-use Rattle.path_merge.specs.Opening.{Opening}
 use Rattle.path_merge.specs.Sliding.{slid}
 use Rattle.schedule.specs.declared.played.Handed.{Handed}
 use Rattle.schedule.specs.Steps.{Arrives, Slides, Merges}
@@ -60,6 +59,7 @@ slid_refused at next r old d state e f same lt there one two format =
   where
     one_some : (p q : State) → Some p ≡ Some q → p ≡ q
     one_some p q h = cc
+
     by_fault : (e : SlideFault) → (IsErrOf {T = ℕ} (Err e) InWindow → IsMember next (get_or old r d).opening.window)
         → (IsErrOf {T = ℕ} (Err e) OtherFormat → (IsMember next (get_or old r d).opening.window → ⊥) × (f ≢ (get_or old r d).opening.format)) → IsMember next (get_or old r d).opening.window
     by_fault InWindow one two = one refl

@@ -1,5 +1,5 @@
 -- Which datagrams reach a stay (own).
-use Rattle.std.specs.Prelude.{◌≡◌, ◌↔◌, ◌≢◌, ℕ, ◌<◌, suc, List, [], ◌∷◌, ◌++◌, length, take, Some, slice_get, ⊤}
+use Rattle.std.specs.Prelude.{◌≡◌, ◌↔◌, ◌≢◌, ℕ, ◌<◌, suc, List, [], ◌∷◌, length, take, Some, slice_get, ⊤}
 use Rattle.std.specs.List.{flat_map}
 use Rattle.st_format.specs.declared.path.Path.{Path}
 use Rattle.st_format.specs.Member.{IsMember}
@@ -25,17 +25,17 @@ pub record Scene : Type 0 where
 -- and at a later place a Merge from that stay's receiver into this one's while both last.
 pub data Chain (window : List ℕ) (events : List Event) (number : ℕ) : Stay → ℕ → Type 0 where
   Arrived : (place : ℕ) (path : Path) (stay : Stay)
-    → slice_get events place ≡ Some (Arrive stay.receiver path number)
-    → Lasts window (take place events) stay
-    → Chain window events number stay place
+      → slice_get events place ≡ Some (Arrive stay.receiver path number)
+      → Lasts window (take place events) stay
+      → Chain window events number stay place
   Merged : (earlier place : ℕ) (from stay : Stay)
-    → Chain window events number from earlier
-    → earlier < place
-    → slice_get events place ≡ Some (Merge stay.receiver from.receiver)
-    → Lasts window (take place events) from
-    → Lasts window (take place events) stay
-    → from.timestamp ≡ stay.timestamp
-    → Chain window events number stay place
+      → Chain window events number from earlier
+      → earlier < place
+      → slice_get events place ≡ Some (Merge stay.receiver from.receiver)
+      → Lasts window (take place events) from
+      → Lasts window (take place events) stay
+      → from.timestamp ≡ stay.timestamp
+      → Chain window events number stay place
 
 -- octets are a datagram for a receiver, of this timestamp
 pub record IsOf (o : Opening) (octets : List ℕ) (timestamp : ℕ) : Type 0 where
@@ -73,16 +73,16 @@ pub record IsAt (s : Scene) (events : List Event) (receiver : ℕ) (state : Stat
 -- One event more: a chain whose last step is that event.
 pub data LastStep (window : List ℕ) (before : List Event) (event : Event) (number : ℕ) (stay : Stay) : Type 0 where
   By_arrive : (path : Path)
-    → event ≡ Arrive stay.receiver path number
-    → Lasts window before stay
-    → LastStep window before event number stay
+      → event ≡ Arrive stay.receiver path number
+      → Lasts window before stay
+      → LastStep window before event number stay
   By_merge : (from : Stay) (earlier : ℕ)
-    → event ≡ Merge stay.receiver from.receiver
-    → Lasts window before from
-    → Lasts window before stay
-    → from.timestamp ≡ stay.timestamp
-    → Chain window before number from earlier
-    → LastStep window before event number stay
+      → event ≡ Merge stay.receiver from.receiver
+      → Lasts window before from
+      → Lasts window before stay
+      → from.timestamp ≡ stay.timestamp
+      → Chain window before number from earlier
+      → LastStep window before event number stay
 
 -- An event leaves a receiver that it isn't about, and a Send leaves each.
 abbrev pub Leaves : Event → ℕ → Type 0

@@ -2,7 +2,6 @@
 use Rattle.std.specs.Prelude.{◌≡◌, ◌↔◌, ℕ, ◌+◌, ◌%◌, ◌^◌, List, [], ◌∷◌, ◌++◌, length, Some}
 use Rattle.st_format.specs.declared.cell.Cell.TheVariants.{Missing}
 use Rattle.st_format.specs.Member.{IsMember}
-use Rattle.st_format.specs.Offer.{Offer}
 use Rattle.st_format.specs.Picture.{Values}
 use Rattle.st_format.specs.Position.{Position, IsPosition}
 use Rattle.st_format.specs.Raster.{Raster, cell_at}
@@ -45,4 +44,4 @@ pub record Carries (o : Opening) (octets : List ℕ) (timestamp : ℕ) (at : Pos
 pub record IsSendersFrame (s : Scene) (sender : Sender) (pictures : List Values) (events : List Event) (stay : Stay) (frame : Raster) : Type 0 where
   pub cells : (at : Position) → IsSendersCell sender pictures stay.timestamp at (cell_at frame at)
   pub missing : (at : Position) → IsPosition s.opening.format at
-    → (cell_at frame at ≡ Missing) ↔ ((octets : List ℕ) → Reaches s events octets stay → Carries s.opening octets stay.timestamp at → ⊥)
+      → (cell_at frame at ≡ Missing) ↔ ((octets : List ℕ) → Reaches s events octets stay → Carries s.opening octets stay.timestamp at → ⊥)

@@ -1,16 +1,16 @@
 -- What is kept while a schedule is played (own).
-use Rattle.std.specs.Prelude.{◌≡◌, ℕ, ◌<◌, List, [], ◌∷◌, ◌++◌, length, map, Some, slice_get, Vec}
+use Rattle.std.specs.Prelude.{◌≡◌, ℕ, ◌<◌, List, [], ◌∷◌, ◌++◌, length, map, take, Some, slice_get, Vec}
 use Rattle.std.specs.List.{AllZip}
 use Rattle.st_format.specs.Picture.{Values}
 use Rattle.packet_plan.specs.declared.stamp.Stamp.{Stamp}
 use Rattle.packet_plan.specs.Plan.{RasterPlan}
 use Rattle.packet_plan.specs.Sending.{EachHasRoom}
-use Rattle.path_merge.specs.Frames.{State}
+use Rattle.path_merge.specs.Frames.{Holds, State}
+use Rattle.path_merge.specs.Opening.{Opening}
 use Rattle.schedule.specs.declared.event.Event.{Event}
 use Rattle.schedule.specs.declared.stage.Stage.{Stage}
-use Rattle.schedule.specs.Stays.{Stay}
 use Rattle.schedule.specs.Reached.{Scene, IsAt}
-use Rattle.schedule.specs.Admitted.{IsAdmitted, sends}
+use Rattle.schedule.specs.Admitted.{AreAdmittedTo, IsAdmitted, IsFirstBad, sends}
 use Rattle.schedule.specs.Played.{IsHanded, ended}
 use Rattle.schedule.specs.Steps.{Slides, to_come}
 use Rattle.schedule.specs.declared.played.Handed.{Handed}
@@ -60,3 +60,23 @@ Follows plan stamp pictures event old new =
 -- an event is not admitted, whatever the events before were
 abbrev pub NeverFits : {A : Type 0} → RasterPlan → Stamp → List Values → Event → Stage A → Type 0
 NeverFits plan stamp pictures event old = (s : Scene) (before : List Event) → IsStage plan stamp pictures s before old → IsAdmitted s before event → ⊥
+
+-- a receiver that was just opened
+pub record IsOpened (o : Opening) (state : State) : Type 0 where
+  pub opening : state.opening ≡ o
+  pub blank : Holds state []
+
+-- events were all admitted and followed, from the first on
+pub record AllFollowed {A : Type 0} (plan : RasterPlan) (stamp : Stamp) (pictures : List Values) (s : Scene) (events : List Event) (count : ℕ) (new : Stage A) : Type 0 where
+  pub admitted : AreAdmittedTo s events count
+  pub stage : IsStage plan stamp pictures s (take count events) new
+
+abbrev pub FollowsTo : {A : Type 0} → RasterPlan → Stamp → List Values → List Event → ℕ → Stage A → Stage A → Type 0
+FollowsTo plan stamp pictures events count old new = (s : Scene) → 0 < length s.opening.window → IsStage plan stamp pictures s [] old → AllFollowed plan stamp pictures s events count new
+
+abbrev pub FollowsAll : {A : Type 0} → RasterPlan → Stamp → List Values → List Event → Stage A → Stage A → Type 0
+FollowsAll plan stamp pictures events old new = FollowsTo plan stamp pictures events (length events) old new
+
+-- the first that is not admitted stands at this place
+abbrev pub FailsAt : {A : Type 0} → RasterPlan → Stamp → List Values → List Event → ℕ → Stage A → Type 0
+FailsAt plan stamp pictures events place old = (s : Scene) → 0 < length s.opening.window → IsStage plan stamp pictures s [] old → IsFirstBad s events place

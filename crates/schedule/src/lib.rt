@@ -1,10 +1,13 @@
 //! Schedules of two paths: what receivers hold after a list of events.
 #![tactic(auto)]
 
+mod check;
 mod event;
 mod fault;
 pub mod laws;
+mod opening;
 mod played;
+mod playing;
 mod sending;
 mod stage;
 mod steps;
@@ -12,3 +15,4 @@ mod steps;
 pub use event::Event;
 pub use fault::PlayFault;
 pub use played::{Handed, Played};
+pub use playing::play;

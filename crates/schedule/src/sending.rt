@@ -42,7 +42,9 @@ pub fn next_datagram<A: Allocator, B: Allocator, C: Allocator>(
     let own = Stamp {
         payload_type: stamp.payload_type,
         first: next.first,
-        timestamp: plan.format().timestamp(stamp.timestamp, next.picture as u32),
+        timestamp: plan
+            .format()
+            .timestamp(stamp.timestamp, next.picture as u32),
         ssrc: stamp.ssrc,
     };
     let octets = datagram_of(alloc, plan, next.index, &pictures[next.picture], own, buf)?;

@@ -88,7 +88,12 @@ fn send<A: Allocator, B: Allocator, C: Allocator>(
 }
 
 /// A receiver's window moves on, and its first frame is handed out.
-fn hand_out<A: Allocator + Copy>(alloc: A, stage: &mut Stage<A>, at: u8, next: u32) -> Result<(), Stop>
+fn hand_out<A: Allocator + Copy>(
+    alloc: A,
+    stage: &mut Stage<A>,
+    at: u8,
+    next: u32,
+) -> Result<(), Stop>
     ensures handed { OnOk result (HandsOut at next stage.old stage.new) }
     ensures rest { (stage.new.next ≡ stage.old.next) × (stage.new.buf.items ≡ stage.old.buf.items) }
     ensures unfit { result ≡ Err Stop.Unfit → (state : State) → slice_get stage.old.receivers.items at ≡ Some state → IsMember next state.opening.window }

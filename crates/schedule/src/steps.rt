@@ -26,7 +26,11 @@ pub fn arrive<A: Allocator>(
     if usize::from(to) >= receivers.len() || number as usize >= sent.len() {
         return Err(Stop::Unfit);
     }
-    take(&mut receivers[usize::from(to)], path, &sent[number as usize]);
+    take(
+        &mut receivers[usize::from(to)],
+        path,
+        &sent[number as usize],
+    );
     Ok(())
 }
 
@@ -78,7 +82,11 @@ pub fn merge<A: Allocator>(receivers: &mut [Receiver<A>], into: u8, from: u8) ->
 }
 
 /// The same, of two different places.
-fn merge_two<A: Allocator>(receivers: &mut [Receiver<A>], into: usize, from: usize) -> Result<(), Stop>
+fn merge_two<A: Allocator>(
+    receivers: &mut [Receiver<A>],
+    into: usize,
+    from: usize,
+) -> Result<(), Stop>
     requires into { into < length receivers.old }
     requires from { from < length receivers.old }
     requires two { into ≢ from }

@@ -20,9 +20,9 @@ pub returns-in-Arrive-clause-followed : goal.returns-in-Arrive-clause-followed
 returns-in-Arrive-clause-followed g c =
     on_ok_map c.arrive.result
     (λ h. follows_of c.args.plan.now c.args.stamp c.args.pictures.now (Arrive c.in-Arrive.to c.in-Arrive.path c.in-Arrive.number) c.args.event c.args.stage.now _ c.in-Arrive.is
-      (follows_arrive c.args.plan.now c.args.stamp c.args.pictures.now c.in-Arrive.to c.in-Arrive.number c.in-Arrive.path c.args.stage.now _ h refl refl refl))
+    (follows_arrive c.args.plan.now c.args.stamp c.args.pictures.now c.in-Arrive.to c.in-Arrive.number c.in-Arrive.path c.args.stage.now _ h refl refl refl))
     (arrives_of c.in-Arrive.to c.in-Arrive.number c.args.stage.now.sent.items c.as_slice.result.now c.args.stage.now.receivers.items c.as_mut_slice.result.now _ c.arrive.new.receivers c.arrive.result
-      c.as_slice.ensures.value c.as_mut_slice.ensures.value (with_items_is c.args.stage.now.receivers c.arrive.new.receivers (omega (arith, c.arrive.auto.receivers, c.as_mut_slice.ensures.len))) c.arrive.ensures.taken)
+    c.as_slice.ensures.value c.as_mut_slice.ensures.value (with_items_is c.args.stage.now.receivers c.arrive.new.receivers (omega (arith, c.arrive.auto.receivers, c.as_mut_slice.ensures.len))) c.arrive.ensures.taken)
 
 pub returns-in-Arrive-clause-unfit : goal.returns-in-Arrive-clause-unfit
 returns-in-Arrive-clause-unfit g c is =
@@ -33,7 +33,7 @@ pub returns-in-Slide-clause-followed : goal.returns-in-Slide-clause-followed
 returns-in-Slide-clause-followed g c =
     on_ok_map c.hand_out.result
     (λ h. follows_of c.args.plan.now c.args.stamp c.args.pictures.now (Slide c.in-Slide.at c.in-Slide.next) c.args.event c.args.stage.now c.hand_out.new.stage c.in-Slide.is
-      (follows_slide c.args.plan.now c.args.stamp c.args.pictures.now c.in-Slide.at c.in-Slide.next c.args.stage.now c.hand_out.new.stage h c.hand_out.ensures.rest.0))
+    (follows_slide c.args.plan.now c.args.stamp c.args.pictures.now c.in-Slide.at c.in-Slide.next c.args.stage.now c.hand_out.new.stage h c.hand_out.ensures.rest.0))
     c.hand_out.ensures.handed
 
 pub returns-in-Slide-clause-unfit : goal.returns-in-Slide-clause-unfit
@@ -45,9 +45,9 @@ pub returns-in-Merge-clause-followed : goal.returns-in-Merge-clause-followed
 returns-in-Merge-clause-followed g c =
     on_ok_map c.merge.result
     (λ h. follows_of c.args.plan.now c.args.stamp c.args.pictures.now (Merge c.in-Merge.into c.in-Merge.from) c.args.event c.args.stage.now _ c.in-Merge.is
-      (follows_merge c.args.plan.now c.args.stamp c.args.pictures.now c.in-Merge.into c.in-Merge.from c.args.stage.now _ h refl refl refl))
+    (follows_merge c.args.plan.now c.args.stamp c.args.pictures.now c.in-Merge.into c.in-Merge.from c.args.stage.now _ h refl refl refl))
     (merges_of c.in-Merge.into c.in-Merge.from c.args.stage.now.receivers.items c.as_mut_slice-in-Merge.result.now _ c.merge.new.receivers c.merge.result
-      c.as_mut_slice-in-Merge.ensures.value (with_items_is c.args.stage.now.receivers c.merge.new.receivers (omega (arith, c.merge.auto.receivers, c.as_mut_slice-in-Merge.ensures.len))) c.merge.ensures.merged)
+    c.as_mut_slice-in-Merge.ensures.value (with_items_is c.args.stage.now.receivers c.merge.new.receivers (omega (arith, c.merge.auto.receivers, c.as_mut_slice-in-Merge.ensures.len))) c.merge.ensures.merged)
 
 pub returns-in-Merge-clause-unfit : goal.returns-in-Merge-clause-unfit
 returns-in-Merge-clause-unfit g c is =
