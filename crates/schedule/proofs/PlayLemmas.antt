@@ -20,7 +20,8 @@ use Rattle.schedule.specs.Sent.{sender_of, texts_from}
 use Rattle.schedule.specs.Admitted.{IsAdmitted}
 use Rattle.schedule.specs.Reached.{Scene}
 use Rattle.schedule.specs.Stage.{FailsAt, Follows, FollowsAll, FollowsTo, IsStage, NeverFits}
-use Rattle.schedule.proofs.Places.{below_or_at}
+use Rattle.schedule.proofs.Places.{below_or_at, get_below}
+use Rattle.std.proofs.lemmas.Bool.Decides.{leb_tells}
 
 take_suc : {X : Type 0} (xs : List X) (i : ℕ) (x : X) → slice_get xs i ≡ Some x → take (suc i) xs ≡ take i xs ++ x ∷ []
 take_suc [] i x h = absurd cc
@@ -110,3 +111,17 @@ texts_list plan stamp ps full low fits are whole = record {
 
 pub same_place : (m n : ℕ) → BadEvent m ≡ BadEvent n → m ≡ n
 same_place m n e = cc
+
+-- ---- the first that is not admitted
+
+pub none_bad : (s : Scene) (events : List Event) (p : ℕ) → AreAdmittedTo s events (length events) → IsFirstBad s events p → ⊥
+none_bad s events p all bad = bad.bad (all p bad.event (get_below events p bad.event bad.there) bad.there)
+
+pub one_bad : (s : Scene) (events : List Event) (p q : ℕ) → IsFirstBad s events p → IsFirstBad s events q → p ≡ q
+one_bad s events p q a b = elim (leb_tells q p) [
+  | inr below ↦ absurd (a.bad (b.before p a.event below.1 a.there))
+  | inl up ↦ elim (leb_tells p q) [
+    | inr below ↦ absurd (b.bad (a.before q b.event below.1 b.there))
+    | inl down ↦ omega (arith, up.1, down.1)
+  ]
+]

@@ -10,6 +10,7 @@ ghost use Rattle.path_merge.specs.Sender.{AreAmong};
 ghost use Rattle.path_merge.specs.Sliding.{slid};
 ghost use Rattle.schedule.specs.declared.event.Event.{Event as AnEvent};
 ghost use Rattle.schedule.specs.declared.event.Event.TheVariants.{Arrive, Merge, Slide};
+ghost use Rattle.schedule.specs.Admitted.{AreAdmittedTo, IsFirstBad};
 ghost use Rattle.schedule.specs.Reached.{Chain, IsAt, IsFrameOf, LastStep, Leaves, Scene};
 ghost use Rattle.schedule.specs.Sent.{IsSendersFrame};
 ghost use Rattle.schedule.specs.Stays.{Lasts, Stay};
@@ -49,4 +50,10 @@ pub fn senders_frames()
     ensures { (s : Scene) (sender : Sender) (first : ℕ) (pictures : List Values) (datagrams : List (List ℕ)) (events : List AnEvent) (stay : Stay) (frame : Raster)
         → IsSenderList sender first pictures datagrams → sender.format ≡ s.opening.format → AreAmong s.sent datagrams
         → IsFrameOf s events stay frame → IsSendersFrame s sender pictures events stay frame }
+{}
+
+/// At most one event is the first that is not admitted, and none is where all are.
+pub fn first_bad()
+    ensures one { (s : Scene) (events : List AnEvent) (p q : ℕ) → IsFirstBad s events p → IsFirstBad s events q → p ≡ q }
+    ensures none { (s : Scene) (events : List AnEvent) (p : ℕ) → AreAdmittedTo s events (length events) → IsFirstBad s events p → ⊥ }
 {}

@@ -8,6 +8,8 @@ pub mod laws;
 mod opening;
 mod played;
 mod playing;
+#[cfg(test)]
+mod rehearsals;
 mod sending;
 mod stage;
 mod steps;
