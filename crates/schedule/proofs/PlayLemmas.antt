@@ -17,7 +17,7 @@ use Rattle.schedule.specs.declared.fault.PlayFault.{PlayFault}
 use Rattle.schedule.specs.declared.fault.PlayFault.TheVariants.{BadEvent, BadPictures, BadReceivers, NoMemory}
 use Rattle.schedule.specs.Played.{ArePictures, IsPlayed}
 use Rattle.schedule.specs.Sent.{sender_of, texts_from}
-use Rattle.schedule.specs.Admitted.{IsAdmitted}
+use Rattle.schedule.specs.Admitted.{AreAdmittedTo, IsAdmitted, IsFirstBad}
 use Rattle.schedule.specs.Reached.{Scene}
 use Rattle.schedule.specs.Stage.{FailsAt, Follows, FollowsAll, FollowsTo, IsStage, NeverFits}
 use Rattle.schedule.proofs.Places.{below_or_at, get_below}
