@@ -8,3 +8,4 @@ pub mod SendLemmas
 pub mod StageLemmas
 pub mod OpeningLemmas
 pub mod PlayLemmas
+pub mod Outcomes

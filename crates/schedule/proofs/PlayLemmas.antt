@@ -31,7 +31,7 @@ take_suc (z ∷ xs) zero x h = ap (λ y. y ∷ []) (same_some z x h)
     same_some a b e = cc
 take_suc (z ∷ xs) (suc i) x h = ap (λ ys. z ∷ ys) (take_suc xs i x h)
 
-take_more : (es : List Event) (i : ℕ) (e : Event) → slice_get es i ≡ Some e → take (i + 1) es ≡ take i es ++ e ∷ []
+pub take_more : (es : List Event) (i : ℕ) (e : Event) → slice_get es i ≡ Some e → take (i + 1) es ≡ take i es ++ e ∷ []
 take_more es i e h = let one : i + 1 ≡ suc i = omega arith in ap (λ (n : ℕ). take n es) one ∙ take_suc es i e h
 
 pub follows_none : {A : Type 0} (plan : RasterPlan) (stamp : Stamp) (pictures : List Values) (events : List Event) (stage : Stage A) → FollowsTo plan stamp pictures events 0 stage stage

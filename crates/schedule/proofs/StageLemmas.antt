@@ -102,7 +102,7 @@ length-set_state [] i x = refl
 length-set_state (z ∷ xs) zero x = refl
 length-set_state (z ∷ xs) (suc i) x = ap suc (length-set_state xs i x)
 
-sends_more : (es : List Event) (e : Event) (k : ℕ) → sends (e ∷ []) ≡ k → sends (es ++ e ∷ []) ≡ sends es + k
+pub sends_more : (es : List Event) (e : Event) (k : ℕ) → sends (e ∷ []) ≡ k → sends (es ++ e ∷ []) ≡ sends es + k
 sends_more [] e k h = omega (arith, h)
 sends_more (Send ∷ es) e k h = let r = sends_more es e k h in omega (arith, r)
 sends_more (Arrive to path number ∷ es) e k h = sends_more es e k h

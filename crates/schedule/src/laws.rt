@@ -6,6 +6,7 @@ ghost use Rattle.st_format.specs.declared.path.Path.{Path as ByPath};
 ghost use Rattle.rtp_header.specs.Grammar.{AreOctets};
 ghost use Rattle.packet_plan.specs.Sender.{IsSenderList, Sender};
 ghost use Rattle.path_merge.specs.Frames.{Holds, IsReceiver, State, frames_of, joined_frames};
+ghost use Rattle.path_merge.specs.Opening.{IsWindow};
 ghost use Rattle.path_merge.specs.Sender.{AreAmong};
 ghost use Rattle.path_merge.specs.Sliding.{slid};
 ghost use Rattle.schedule.specs.declared.event.Event.{Event as AnEvent};
@@ -56,4 +57,11 @@ pub fn senders_frames()
 pub fn first_bad()
     ensures one { (s : Scene) (events : List AnEvent) (p q : ℕ) → IsFirstBad s events p → IsFirstBad s events q → p ≡ q }
     ensures none { (s : Scene) (events : List AnEvent) (p : ℕ) → AreAdmittedTo s events (length events) → IsFirstBad s events p → ⊥ }
+{}
+
+/// Whatever events are admitted, each receiver has a state after them, so each stay that lasts has a frame: the
+/// definitions leave none out. A stay that has ended lasted before, and keeps its frame.
+pub fn every_schedule()
+    ensures { (s : Scene) (events : List AnEvent) → IsWindow s.opening.window → ((n : ℕ) (octets : List ℕ) → slice_get s.sent n ≡ Some octets → AreOctets octets)
+        → AreAdmittedTo s events (length events) → (r : ℕ) → (state : State) × IsAt s events r state }
 {}
