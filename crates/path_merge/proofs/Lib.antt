@@ -14,3 +14,14 @@ pub mod NumberSets
 pub mod NumberLaws
 pub mod MergeLemmas
 pub mod TurnLemmas
+pub mod Places
+pub mod Chains
+pub mod Reaching
+pub mod StayFrames
+pub mod SenderStays
+pub mod StepLemmas
+pub mod SendLemmas
+pub mod StageLemmas
+pub mod OpeningLemmas
+pub mod PlayLemmas
+pub mod Outcomes

@@ -10,3 +10,10 @@ pub mod Sender
 pub mod BitList
 pub mod Numbers
 pub mod Took
+pub mod Stays
+pub mod Reached
+pub mod Sent
+pub mod Admitted
+pub mod Played
+pub mod Steps
+pub mod Stage

@@ -1,0 +1,47 @@
+-- What the sender of a schedule sends, and what its frames have of it (own).
+use Rattle.std.specs.Prelude.{◌≡◌, ◌↔◌, ℕ, ◌+◌, ◌%◌, ◌^◌, List, [], ◌∷◌, ◌++◌, length, Some}
+use Rattle.st_format.specs.declared.cell.Cell.TheVariants.{Missing}
+use Rattle.st_format.specs.Member.{IsMember}
+use Rattle.st_format.specs.Picture.{Values}
+use Rattle.st_format.specs.Position.{Position, IsPosition}
+use Rattle.st_format.specs.Raster.{Raster, cell_at}
+use Rattle.packet_plan.specs.declared.run.PacketRun.{PacketRun}
+use Rattle.packet_plan.specs.declared.stamp.Stamp.{Stamp}
+use Rattle.packet_plan.specs.Plan.{RasterPlan}
+use Rattle.packet_plan.specs.Sender.{Sender, stamp_of}
+use Rattle.packet_plan.specs.Text.{datagram_texts}
+use Rattle.path_merge.specs.Offers.{offers}
+use Rattle.path_merge.specs.Opening.{Opening}
+use Rattle.path_merge.specs.Sender.{IsSendersCell}
+use Rattle.path_merge.specs.declared.event.Event.{Event}
+use Rattle.path_merge.specs.Stays.{Stay}
+use Rattle.path_merge.specs.Reached.{Scene, Reaches}
+
+-- the sender of pictures by a plan, the first picture's stamp given
+abbrev pub sender_of : RasterPlan → Stamp → Sender
+sender_of plan stamp = record { format = plan.format; base = stamp.timestamp; payload_type = stamp.payload_type; ssrc = stamp.ssrc }
+
+-- the datagrams of pictures from the k-th on, by packets, the first packet's number given
+abbrev pub texts_from : Sender → List (List PacketRun) → ℕ → ℕ → List Values → List (List ℕ)
+texts_from s packets k first [] = []
+texts_from s packets k first (p ∷ ps) = datagram_texts p (stamp_of s k first) 0 packets ++ texts_from s packets (k + 1) ((first + length packets) % 2 ^ 32) ps
+
+-- the receivers take the sender's datagrams alone: its format, payload type and source are pinned
+abbrev pub scene_of : RasterPlan → List Values → Stamp → List ℕ → ℕ → Scene
+scene_of plan pictures stamp window receivers = record {
+  opening = record { format = plan.format; payload_type = stamp.payload_type; ssrc = Some stamp.ssrc; window = window };
+  receivers = receivers;
+  sent = texts_from (sender_of plan stamp) plan.packets 0 stamp.first pictures;
+}
+
+-- A datagram carries a position at a timestamp: it offers a value for it.
+pub record Carries (o : Opening) (octets : List ℕ) (timestamp : ℕ) (at : Position) : Type 0 where
+  pub value : ℕ
+  pub offered : IsMember (record { timestamp = timestamp; position = at; value = value }) (offers o octets)
+
+-- A stay's frame has at each position the sender's value or nothing, and nothing exactly where no datagram that
+-- reached the stay carries the position.
+pub record IsSendersFrame (s : Scene) (sender : Sender) (pictures : List Values) (events : List Event) (stay : Stay) (frame : Raster) : Type 0 where
+  pub cells : (at : Position) → IsSendersCell sender pictures stay.timestamp at (cell_at frame at)
+  pub missing : (at : Position) → IsPosition s.opening.format at
+      → (cell_at frame at ≡ Missing) ↔ ((octets : List ℕ) → Reaches s events octets stay → Carries s.opening octets stay.timestamp at → ⊥)

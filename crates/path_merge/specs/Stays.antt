@@ -1,0 +1,36 @@
+-- The stays of timestamps in the windows of receivers (own).
+use Rattle.std.specs.Prelude.{◌≡◌, ℕ, ◌==◌, ◌≤◌, ◌<◌, if◌then◌else◌, List, [], ◌∷◌, ◌++◌, length, drop, Some, slice_get}
+use Rattle.std.specs.List.{flat_map}
+use Rattle.path_merge.specs.declared.event.Event.{Event}
+use Rattle.path_merge.specs.declared.event.Event.TheVariants.{Send, Arrive, Slide, Merge}
+
+-- the timestamp that an event brings into a receiver's window
+abbrev pub brings : ℕ → Event → List ℕ
+brings receiver Send = []
+brings receiver (Arrive to path number) = []
+brings receiver (Slide at next) = if at == receiver then next ∷ [] else []
+brings receiver (Merge into from) = []
+
+-- the timestamps that events bring into it, in order
+abbrev pub brought : ℕ → List Event → List ℕ
+brought receiver events = flat_map (brings receiver) events
+
+-- A stay of a timestamp at a receiver. The stays at a receiver are numbered as they begin: those of the window
+-- that it was opened with, and then one for each of its Slides.
+pub record Stay : Type 0 where
+  pub receiver : ℕ
+  pub number : ℕ
+  pub timestamp : ℕ
+
+-- A stay lasts after some events: it has begun, and each Slide at its receiver ended one stay before it.
+pub record Lasts (window : List ℕ) (events : List Event) (stay : Stay) : Type 0 where
+  pub begun : slice_get (window ++ brought stay.receiver events) stay.number ≡ Some stay.timestamp
+  pub not_ended : length (brought stay.receiver events) ≤ stay.number
+
+-- the window of a receiver after some events: the timestamps of the stays that last
+abbrev pub window_after : List ℕ → ℕ → List Event → List ℕ
+window_after window receiver events = drop (length (brought receiver events)) (window ++ brought receiver events)
+
+-- a stay has ended: a Slide at its receiver ended it
+abbrev pub HasEnded : List Event → Stay → Type 0
+HasEnded events stay = stay.number < length (brought stay.receiver events)

@@ -1,0 +1,24 @@
+//! What came of a schedule.
+ghost use Rattle.std.specs.Prelude.{◌≡◌};
+
+use crate::receiver::Receiver;
+use frame_assembly::Frame;
+use std::alloc::{Allocator, Global};
+
+/// A frame that a receiver handed out.
+#[derive(Drop)]
+pub struct Handed<A: Allocator = Global> {
+    /// The receiver.
+    pub receiver: u8,
+    /// The timestamp that left its window, in 90 kHz ticks.
+    pub timestamp: u32,
+    /// Its frame.
+    pub frame: Frame<A>,
+}
+
+/// What came of a schedule: the frames that were handed out, in order, and the receivers.
+#[derive(Drop)]
+pub struct Played<A: Allocator = Global> {
+    pub handed: Vec<Handed<A>, A>,
+    pub receivers: Vec<Receiver<A>, A>,
+}

@@ -1,8 +1,0 @@
-use Rattle.schedule.proofs.PlayLemmas.{none_bad, one_bad}
-use Rattle.schedule.proofs.laws.first_bad.Goals as goal
-
-pub returns-clause-one : goal.returns-clause-one
-returns-clause-one c = one_bad
-
-pub returns-clause-none : goal.returns-clause-none
-returns-clause-none c = none_bad
