@@ -5,6 +5,7 @@ use crate::played::Played;
 use crate::playing::play;
 use frame_assembly::{Counts, Frame};
 use packet_plan::{Plan, Stamp};
+use st_format::memory::Refusing;
 use st_format::{Depth, Format, FormatFault, Path, Picture, Sampling};
 use std::alloc::{Allocator, Global};
 use std::process::Abort;
@@ -182,5 +183,44 @@ fn other_format(rt: HostRuntime) -> Result<(), Fail> {
     let pictures = vec![in rt.alloc(); Picture::new(rt.alloc(), other, [16, 128, 128])?]?;
     let played = play(rt.alloc(), &plan, pictures.as_slice(), STAMP, &[0], 2, &[]);
     assert!(rt; matches!(&played, Err(PlayFault::BadPictures)));
+    Ok(())
+}
+
+/// How many frames were handed out.
+fn handed_out<A: Allocator + Copy>(
+    alloc: A,
+    plan: &Plan,
+    pictures: &[Picture],
+    events: &[Event],
+) -> Result<usize, PlayFault> {
+    Ok(
+        play(alloc, plan, pictures, STAMP, &[0], 2, events)?
+            .handed
+            .len(),
+    )
+}
+
+/// Each growth refused in turn is `NoMemory`, and nothing else is.
+#[test]
+fn growths(rt: HostRuntime) -> Result<(), Fail> {
+    let plan = Plan::new(rt.alloc(), small()?, 40)?;
+    let pictures = vec![in rt.alloc(); first_picture(&rt)?, first_picture(&rt)?]?;
+    let refusing = Refusing::new(rt.alloc(), 0);
+    for nth in 1..1000u64 {
+        refusing.refuse(nth);
+        let result = handed_out(&refusing, &plan, pictures.as_slice(), &SHOW);
+        if !refusing.was_met() {
+            assert_eq!(rt; result, Ok(1));
+            assert!(rt; nth > 8);
+            break;
+        }
+        assert_eq!(rt; result, Err(PlayFault::NoMemory), "growth {nth}");
+        refusing.refuse(0);
+        assert_eq!(rt;
+            handed_out(&refusing, &plan, pictures.as_slice(), &SHOW),
+            Ok(1),
+            "growth {nth}"
+        );
+    }
     Ok(())
 }
