@@ -1,0 +1,100 @@
+-- The rest of a record, read from a source.
+use Rattle.std.proofs.Common.{◌≡◌, ℕ, ◌+◌, ◌-◌, ◌^◌, ◌<◌, ◌≤◌, Bool, true, false, cond, eqb, ltb, List, [], ◌∷◌, ◌++◌, length, get_or, take, drop, Option, None, Some, Result, Ok, Err, append_assoc, append-nil, refl, sym, ap, ◌∙◌, subst, arith}
+use Rattle.std.specs.Prelude.{⊤}
+use Rattle.std.specs.Int.{w16, w64, from_be_bytes, to_be_bytes}
+use Rattle.std.specs.Io.KnownBytes.{Consumes, IsAtEnd}
+use Rattle.std.proofs.KnownBytes.{Consumes-trans}
+use Rattle.std.proofs.lemmas.Bool.{lt-ltb, le-ltb}
+use Rattle.std.proofs.lemmas.List.{length-append, length-take-le, take_all, take_at, drop_at}
+use Rattle.capture_file.specs.declared.fault.FileFault.{FileFault}
+use Rattle.capture_file.specs.declared.fault.FileFault.TheVariants.{NoMemory, Device, BadName, BadVersion, Truncated, BadField, TrailingBytes, MixedGroup, TooManyRecords}
+use Rattle.capture_file.specs.declared.record.RecordHead.{RecordHead}
+use Rattle.capture_file.specs.Reading.{fault_at, fault_by, head_at, octets_at, rest_at}
+use Rattle.capture_file.specs.Records.{Entry, Fits, IsHead, entry_of, path_octet, rest_text}
+use Rattle.capture_file.specs.Faults.{IfContent}
+use Rattle.capture_file.specs.Source.{FailsRecord, FailsRest, IsOfRecord}
+
+abbrev truncated : Result (Entry × List ℕ) FileFault
+truncated = Err Truncated
+
+-- what a source gave that is then at its end is all that it told
+all_given : (o rest given : List ℕ) → o ≡ given ++ rest → rest ≡ [] → o ≡ given
+all_given o rest given p e = p ∙ ap (λ (xs : List ℕ). given ++ xs) e ∙ append-nil given
+
+if_content : (f : FileFault) (P : Type 0) → P → IfContent f P
+if_content NoMemory P p = tt
+if_content Device P p = tt
+if_content BadName P p = p
+if_content BadVersion P p = p
+if_content Truncated P p = p
+if_content BadField P p = p
+if_content TrailingBytes P p = p
+if_content MixedGroup P p = p
+if_content TooManyRecords P p = p
+
+-- fewer than ten octets are no head
+pub cut_head : (first : ℕ) (old new : Option (List ℕ)) (given : List ℕ) → Consumes old new given → IsAtEnd new → length given < 10 → FailsRest Truncated first old
+unfolding rest_at
+cut_head first None new given p e lt = record { named = tt; content = tt }
+cut_head first (Some o) None given p e lt = absurd p
+cut_head first (Some o) (Some rest) given p e lt =
+    let all : o ≡ given = all_given o rest given p e in
+    let short : ltb (length o) 10 ≡ true = lt-ltb (length o) 10 (omega (arith, ap length all)) in
+    record { named = tt; content = ap (λ (b : Bool). cond b truncated (octets_at (head_at first (take 10 o)) (drop 10 o))) short }
+
+-- a source gave all of a list
+pub gave_all : (old new : Option (List ℕ)) (n : ℕ) (given : List ℕ) → Consumes old new (take n given) → length given ≤ n → Consumes old new given
+gave_all old new n given p le = subst (Consumes old new) (take_all n given le) p
+
+-- ten octets are a head, and what follows them has its octets
+pub behind_head : (first : ℕ) (head rest : List ℕ) → length head ≡ 10 → rest_at first (head ++ rest) ≡ octets_at (head_at first head) rest
+unfolding rest_at
+behind_head first head rest ten =
+    let long : ltb (length (head ++ rest)) 10 ≡ false = le-ltb (length (head ++ rest)) 10 (omega (arith, length-append head rest)) in
+    ap (λ (b : Bool). cond b truncated (octets_at (head_at first (take 10 (head ++ rest))) (drop 10 (head ++ rest)))) long
+    ∙ ap (λ (xs : List ℕ). octets_at (head_at first xs) (drop 10 (head ++ rest))) (take_at head rest 10 ten)
+    ∙ ap (λ (xs : List ℕ). octets_at (head_at first head) xs) (drop_at head rest 10 ten)
+
+-- a head that is none
+pub bad_head : (f : FileFault) (first : ℕ) (old new : Option (List ℕ)) (head : List ℕ) → Consumes old new head → length head ≡ 10 → head_at first head ≡ Err f → f ≡ BadField → FailsRest f first old
+bad_head f first None new head p ten bad is = record { named = subst IsOfRecord (sym is) tt; content = subst (λ (e : FileFault). IfContent e ⊤) (sym is) tt }
+bad_head f first (Some o) None head p ten bad is = absurd p
+bad_head f first (Some o) (Some rest) head p ten bad is =
+    let at : rest_at first o ≡ Err f = ap (rest_at first) p ∙ behind_head first head rest ten ∙ ap (λ (r : Result RecordHead FileFault). octets_at r rest) bad in
+    record { named = subst IsOfRecord (sym is) tt; content = if_content f (rest_at first o ≡ Err f) at }
+
+-- fewer octets than the head says
+pub cut_octets : (first : ℕ) (old mid new : Option (List ℕ)) (head given : List ℕ) (h : RecordHead) → Consumes old mid head → length head ≡ 10 → head_at first head ≡ Ok h
+    → Consumes mid new given → IsAtEnd new → length given < h.length → FailsRest Truncated first old
+cut_octets first None mid new head given h p ten is q e lt = record { named = tt; content = tt }
+cut_octets first (Some o) None new head given h p ten is q e lt = absurd p
+cut_octets first (Some o) (Some m) None head given h p ten is q e lt = absurd q
+cut_octets first (Some o) (Some m) (Some rest) head given h p ten is q e lt =
+    let all : m ≡ given = all_given m rest given q e in
+    let short : ltb (length m) h.length ≡ true = lt-ltb (length m) h.length (omega (arith, ap length all)) in
+    record {
+      named = tt;
+      content = ap (rest_at first) p ∙ behind_head first head m ten ∙ ap (λ (r : Result RecordHead FileFault). octets_at r m) is
+      ∙ ap (λ (b : Bool). cond b truncated (Ok (entry_of h m, drop h.length m))) short;
+    }
+
+if_content_weaker : (f : FileFault) (P Q : Type 0) → (P → Q) → IfContent f P → IfContent f Q
+if_content_weaker NoMemory P Q h p = tt
+if_content_weaker Device P Q h p = tt
+if_content_weaker BadName P Q h p = h p
+if_content_weaker BadVersion P Q h p = h p
+if_content_weaker Truncated P Q h p = h p
+if_content_weaker BadField P Q h p = h p
+if_content_weaker TrailingBytes P Q h p = h p
+if_content_weaker MixedGroup P Q h p = h p
+if_content_weaker TooManyRecords P Q h p = h p
+
+-- what is wrong behind an octet is wrong at the front of it and them
+pub fails_from : (f : FileFault) (first : ℕ) (old mid : Option (List ℕ)) → Consumes old mid (first ∷ []) → FailsRest f first mid → FailsRecord f old
+unfolding fault_at
+fails_from f first None mid p is = record { named = is.named; content = if_content f ⊤ tt }
+fails_from f first (Some o) None p is = absurd p
+fails_from f first (Some o) (Some m) p is = record {
+  named = is.named;
+  content = if_content_weaker f (rest_at first m ≡ Err f) (fault_at o ≡ Some f) (λ e. ap fault_at p ∙ ap fault_by e) is.content;
+}

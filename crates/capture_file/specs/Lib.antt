@@ -1,0 +1,5 @@
+pub mod Faults
+pub mod Records
+pub mod Reading
+pub mod Source
+pub mod Reader

@@ -1,0 +1,77 @@
+-- A reader of a capture as a source of datagrams (own).
+use Rattle.std.specs.Prelude.{◌≡◌, ℕ, List, [], ⊤, map, Option, None, Some, Result, Ok, Err}
+use Rattle.std.specs.Option.{option_map}
+use Rattle.std.specs.Io.KnownBytes.{IsAtEnd}
+use Rattle.st_format.specs.Turns.{Due, Comes}
+use Rattle.st_format.specs.declared.device.SourceFault.{SourceFault}
+use Rattle.st_format.specs.declared.device.SourceFault.TheVariants.{Content}
+use Rattle.st_format.specs.declared.device.SourceFault.TheVariants.{Device as FailedDevice}
+use Rattle.st_format.specs.declared.device.Turn.{Turn}
+use Rattle.st_format.specs.declared.device.Turn.TheVariants.{Datagram, Quiet, End}
+use Rattle.capture_file.specs.declared.fault.FileFault.{FileFault}
+use Rattle.capture_file.specs.declared.fault.FileFault.TheVariants.{Device}
+use Rattle.capture_file.specs.declared.reader.Standing.{Standing}
+use Rattle.capture_file.specs.declared.reader.Standing.TheVariants.{Reads, Ended, Failed}
+use Rattle.capture_file.specs.Faults.{fault_number}
+use Rattle.capture_file.specs.Reading.{entries_in}
+use Rattle.capture_file.specs.Records.{Entry}
+use Rattle.capture_file.specs.Source.{FailsRecord}
+use Rattle.st_format.specs.Device.{CountsOne}
+
+-- a record as a turn
+abbrev pub due_of : Entry → Due
+due_of e = Comes e.path e.octets
+
+-- the turns of octets: their records in order, up to their first fault
+abbrev pub dues_in : List ℕ → List Due
+dues_in octets = map due_of (entries_in octets)
+
+-- The turns to come. After the end, and after a fault, no datagram comes.
+abbrev pub turns_of : Standing → Option (List ℕ) → Option (List Due)
+turns_of Reads to_give = option_map dues_in to_give
+turns_of Ended to_give = Some []
+turns_of (Failed f) to_give = Some []
+
+-- a fault as a source of datagrams tells it
+abbrev pub source_fault : FileFault → SourceFault
+source_fault Device = FailedDevice
+source_fault f = Content (fault_number f)
+
+abbrev pub last_fault_of : Standing → Option SourceFault
+last_fault_of Reads = None
+last_fault_of Ended = None
+last_fault_of (Failed f) = Some (source_fault f)
+
+-- a reader that came to the end stands at it
+abbrev pub StandsRight : Standing → Option (List ℕ) → Type 0
+StandsRight Reads to_give = ⊤
+StandsRight Ended to_give = IsAtEnd to_give
+StandsRight (Failed f) to_give = ⊤
+
+-- what is seen of a reader
+pub record Reader (S : Type 0) : Type 0 where
+  pub source : S
+  pub text_len : ℕ
+  pub standing : Standing
+  pub delivered : ℕ
+  pub failures : ℕ
+
+-- Where a reader stands after a turn: it reads on after a datagram, and no octet is left at the end. No turn is
+-- without a datagram.
+abbrev pub StandsAfter : Turn → Standing → Option (List ℕ) → Type 0
+StandsAfter (Datagram path count) stands to_give = stands ≡ Reads
+StandsAfter Quiet stands to_give = ⊥
+StandsAfter End stands to_give = (stands ≡ Ended) × IsAtEnd to_give
+
+-- where a reader stands after a fault, by the octets that were to come
+abbrev pub StandsAtFault : Standing → Option (List ℕ) → Type 0
+StandsAtFault Reads to_give = ⊥
+StandsAtFault Ended to_give = ⊥
+StandsAtFault (Failed f) to_give = FailsRecord f to_give
+
+-- a fault of the device is one failure of the source more, and all else none
+abbrev pub CountsDeviceAt : Standing → ℕ → ℕ → Type 0
+CountsDeviceAt Reads old new = new ≡ old
+CountsDeviceAt Ended old new = new ≡ old
+CountsDeviceAt (Failed Device) old new = CountsOne old new
+CountsDeviceAt (Failed f) old new = new ≡ old

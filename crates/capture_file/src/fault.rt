@@ -1,0 +1,74 @@
+//! Why a file was not read or not written.
+ghost use Rattle.std.specs.Prelude.{◌≡◌};
+ghost use Rattle.capture_file.specs.declared.fault.FileFault.TheVariants.{NoMemory, Device};
+ghost use Rattle.capture_file.specs.Faults.{fault_number};
+
+use st_format::DeviceFault;
+use std::alloc::{AllocError, AllocFailed};
+use thiserror::Error;
+
+/// The first fault in the order of a file's octets, or a fault of the machine that came before it.
+/// `Display` is the fault's name.
+#[derive(Clone, Copy, Debug, PartialEq, Eq, Error)]
+pub enum FileFault {
+    /// A growth was refused.
+    #[error("NoMemory")]
+    NoMemory = 1,
+    /// The device failed.
+    #[error("Device")]
+    Device = 2,
+    /// The first six octets aren't the name of such a file.
+    #[error("BadName")]
+    BadName = 3,
+    /// The two octets behind the name are no version that is read.
+    #[error("BadVersion")]
+    BadVersion = 4,
+    /// The octets end within the name, a field or what a field counts.
+    #[error("Truncated")]
+    Truncated = 5,
+    /// A field says what no such file says.
+    #[error("BadField")]
+    BadField = 6,
+    /// An octet stands behind the file's last field.
+    #[error("TrailingBytes")]
+    TrailingBytes = 7,
+    /// A contested group of samples is not spelled as one.
+    #[error("MixedGroup")]
+    MixedGroup = 8,
+    /// A record more than the limit begins.
+    #[error("TooManyRecords")]
+    TooManyRecords = 9,
+}
+
+impl FileFault {
+    /// The fault's number, 1 to 9.
+    pub fn number(self) -> u8
+        ensures { result ≡ fault_number self }
+    {
+        self as u8
+    }
+}
+
+impl From<DeviceFault> for FileFault {
+    ghost from_gives = { λ _ fault. fault ≡ Device };
+
+    fn from(_: DeviceFault) -> FileFault {
+        FileFault::Device
+    }
+}
+
+impl From<AllocError> for FileFault {
+    ghost from_gives = { λ _ fault. fault ≡ NoMemory };
+
+    fn from(_: AllocError) -> FileFault {
+        FileFault::NoMemory
+    }
+}
+
+impl<T: Drop> From<AllocFailed<T>> for FileFault {
+    ghost from_gives = { λ _ fault. fault ≡ NoMemory };
+
+    fn from(_: AllocFailed<T>) -> FileFault {
+        FileFault::NoMemory
+    }
+}

@@ -1,0 +1,12 @@
+//! Records of a capture.
+use st_format::Path;
+
+/// What a record says before its octets.
+#[derive(Clone, Copy, Debug, PartialEq, Eq)]
+pub struct RecordHead {
+    pub path: Path,
+    /// What the writer handed in; it has no meaning to a reader.
+    pub moment: u64,
+    /// How many octets it has: at most 65,535.
+    pub length: usize,
+}
