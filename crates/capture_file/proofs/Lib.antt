@@ -1,3 +1,6 @@
+pub mod Content
+pub mod Parsing
 pub mod Rests
 pub mod Entries
 pub mod Dues
+pub mod Fronted

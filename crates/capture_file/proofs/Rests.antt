@@ -12,6 +12,7 @@ use Rattle.capture_file.specs.declared.record.RecordHead.{RecordHead}
 use Rattle.capture_file.specs.Reading.{fault_at, fault_by, head_at, octets_at, rest_at}
 use Rattle.capture_file.specs.Records.{Entry, Fits, IsHead, entry_of, path_octet, rest_text}
 use Rattle.capture_file.specs.Faults.{IfContent}
+use Rattle.capture_file.proofs.Content.{if_content, if_content_weaker}
 use Rattle.capture_file.specs.Source.{FailsRecord, FailsRest, IsOfRecord}
 
 abbrev truncated : Result (Entry × List ℕ) FileFault
@@ -20,17 +21,6 @@ truncated = Err Truncated
 -- what a source gave that is then at its end is all that it told
 all_given : (o rest given : List ℕ) → o ≡ given ++ rest → rest ≡ [] → o ≡ given
 all_given o rest given p e = p ∙ ap (λ (xs : List ℕ). given ++ xs) e ∙ append-nil given
-
-if_content : (f : FileFault) (P : Type 0) → P → IfContent f P
-if_content NoMemory P p = tt
-if_content Device P p = tt
-if_content BadName P p = p
-if_content BadVersion P p = p
-if_content Truncated P p = p
-if_content BadField P p = p
-if_content TrailingBytes P p = p
-if_content MixedGroup P p = p
-if_content TooManyRecords P p = p
 
 -- fewer than ten octets are no head
 pub cut_head : (first : ℕ) (old new : Option (List ℕ)) (given : List ℕ) → Consumes old new given → IsAtEnd new → length given < 10 → FailsRest Truncated first old
@@ -77,17 +67,6 @@ cut_octets first (Some o) (Some m) (Some rest) head given h p ten is q e lt =
       content = ap (rest_at first) p ∙ behind_head first head m ten ∙ ap (λ (r : Result RecordHead FileFault). octets_at r m) is
       ∙ ap (λ (b : Bool). cond b truncated (Ok (entry_of h m, drop h.length m))) short;
     }
-
-if_content_weaker : (f : FileFault) (P Q : Type 0) → (P → Q) → IfContent f P → IfContent f Q
-if_content_weaker NoMemory P Q h p = tt
-if_content_weaker Device P Q h p = tt
-if_content_weaker BadName P Q h p = h p
-if_content_weaker BadVersion P Q h p = h p
-if_content_weaker Truncated P Q h p = h p
-if_content_weaker BadField P Q h p = h p
-if_content_weaker TrailingBytes P Q h p = h p
-if_content_weaker MixedGroup P Q h p = h p
-if_content_weaker TooManyRecords P Q h p = h p
 
 -- what is wrong behind an octet is wrong at the front of it and them
 pub fails_from : (f : FileFault) (first : ℕ) (old mid : Option (List ℕ)) → Consumes old mid (first ∷ []) → FailsRest f first mid → FailsRecord f old

@@ -27,8 +27,26 @@ IfContent NoMemory P = ⊤
 IfContent Device P = ⊤
 IfContent _ P = P
 
--- a fault of the device is one failure more, and any other answer none (own)
+-- a fault of the device is one failure more, and any other none (own)
+abbrev pub CountsFault : FileFault → ℕ → ℕ → Type 0
+CountsFault Device old new = CountsOne old new
+CountsFault _ old new = new ≡ old
+
+-- what is answered without a fault is none either
 abbrev pub CountsDevice : {V : Type 0} → ℕ → ℕ → Result V FileFault → Type 0
 CountsDevice old new (Ok v) = new ≡ old
-CountsDevice old new (Err Device) = CountsOne old new
-CountsDevice old new (Err _) = new ≡ old
+CountsDevice old new (Err f) = CountsFault f old new
+
+-- the faults of a field
+abbrev pub IsOfField : FileFault → Type 0
+IsOfField Device = ⊤
+IsOfField Truncated = ⊤
+IsOfField _ = ⊥
+
+-- the faults of a file's front
+abbrev pub IsOfFront : FileFault → Type 0
+IsOfFront Device = ⊤
+IsOfFront BadName = ⊤
+IsOfFront BadVersion = ⊤
+IsOfFront Truncated = ⊤
+IsOfFront _ = ⊥

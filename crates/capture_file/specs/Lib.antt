@@ -3,3 +3,5 @@ pub mod Records
 pub mod Reading
 pub mod Source
 pub mod Reader
+pub mod Fields
+pub mod Fronts

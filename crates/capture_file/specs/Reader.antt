@@ -12,7 +12,7 @@ use Rattle.capture_file.specs.declared.fault.FileFault.{FileFault}
 use Rattle.capture_file.specs.declared.fault.FileFault.TheVariants.{Device}
 use Rattle.capture_file.specs.declared.reader.Standing.{Standing}
 use Rattle.capture_file.specs.declared.reader.Standing.TheVariants.{Reads, Ended, Failed}
-use Rattle.capture_file.specs.Faults.{fault_number}
+use Rattle.capture_file.specs.Faults.{CountsFault, fault_number}
 use Rattle.capture_file.specs.Reading.{entries_in}
 use Rattle.capture_file.specs.Records.{Entry}
 use Rattle.capture_file.specs.Source.{FailsRecord}
@@ -73,5 +73,10 @@ StandsAtFault (Failed f) to_give = FailsRecord f to_give
 abbrev pub CountsDeviceAt : Standing → ℕ → ℕ → Type 0
 CountsDeviceAt Reads old new = new ≡ old
 CountsDeviceAt Ended old new = new ≡ old
-CountsDeviceAt (Failed Device) old new = CountsOne old new
-CountsDeviceAt (Failed f) old new = new ≡ old
+CountsDeviceAt (Failed f) old new = CountsFault f old new
+
+-- a reader that has told nothing yet
+pub record IsNewReader {S : Type 0} (r : Reader S) : Type 0 where
+  pub reads : r.standing ≡ Reads
+  pub delivered : r.delivered ≡ 0
+  pub failures : r.failures ≡ 0

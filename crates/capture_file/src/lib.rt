@@ -2,6 +2,7 @@
 #![tactic(auto)]
 
 mod fault;
+mod front;
 mod reader;
 mod record;
 mod steps;

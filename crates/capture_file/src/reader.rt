@@ -1,16 +1,19 @@
 //! A capture as a source of datagrams.
-ghost use Rattle.std.specs.Prelude.{◌≡◌, ◌≤◌, ◌<◌, ◌+◌, ◌-◌, ◌^◌, Some, Ok, Err, length, min, IfErr, IfOk, IfSome, OnErr, MatchOption, MatchResult};
+ghost use Rattle.std.specs.Prelude.{◌≡◌, ◌≤◌, ◌<◌, ◌+◌, ◌-◌, ◌^◌, Some, Ok, Err, length, take, min, IfErr, IfOk, IfSome, OnErr, MatchOption, MatchResult};
 ghost use Rattle.std.specs.Io.KnownBytes.{IsAtEnd};
 ghost use Rattle.st_format.specs.Device.{CountsFaults, CountsOne};
 ghost use Rattle.st_format.specs.Turns.{CountsTurn, IsWithin, TakesTurn};
-ghost use Rattle.capture_file.specs.Faults.{CountsDevice};
-ghost use Rattle.capture_file.specs.Reader.{CountsDeviceAt, StandsAfter, StandsAtFault, last_fault_of, source_fault, turns_of};
+ghost use Rattle.capture_file.specs.Faults.{CountsDevice, CountsFault, IsOfFront};
+ghost use Rattle.capture_file.specs.Fields.{Fails, Gives};
+ghost use Rattle.capture_file.specs.Fronts.{front_at};
+ghost use Rattle.capture_file.specs.Reader.{CountsDeviceAt, IsNewReader, StandsAfter, StandsAtFault, last_fault_of, source_fault, turns_of};
 ghost use Rattle.capture_file.specs.Records.{entry_of};
 ghost use Rattle.capture_file.specs.Source.{FailsRecord, ReadsEnd, ReadsRecord};
 ghost use Rattle.capture_file.specs.declared.fault.FileFault.{FileFault};
 ghost use Rattle.capture_file.specs.declared.reader.Standing.TheVariants.{Reads, Ended, Failed};
 
 use crate::fault::FileFault;
+use crate::front::read_front;
 use crate::record::RecordHead;
 use crate::steps::{record_begins, record_rest};
 use st_format::{ByteSource, DatagramSource, SourceFault, Turn};
@@ -40,7 +43,9 @@ pub struct CaptureReader<S: ByteSource> {
 }
 
 impl<S: ByteSource> Model for CaptureReader<S> {
-    ghost use Rattle.capture_file.specs.Reader.{Reader, StandsRight};
+    ghost use Rattle.capture_file.specs.Fields.{Fails, Gives};
+ghost use Rattle.capture_file.specs.Fronts.{front_at};
+ghost use Rattle.capture_file.specs.Reader.{Reader, StandsRight};
 
     ghost Value = { Reader S };
 
@@ -76,6 +81,40 @@ fn read_record<S: ByteSource>(
 }
 
 impl<S: ByteSource> CaptureReader<S> {
+    /// Begins to read a capture. Its text then stands at the front of `text`, which has room for any, 65,535
+    /// octets; `text_len` tells its length. What `text` holds behind it, or after a fault, is not said.
+    ///
+    /// # Errors
+    ///
+    /// The fault, and the source as it then is.
+    ///
+    /// - `Device`: the source failed.
+    /// - `Truncated`: the octets end within name and version, or within the text.
+    /// - `BadName`: it is no capture.
+    /// - `BadVersion`: its version is neither 01 nor 02.
+    pub fn open(mut source: S, text: &mut [u8]) -> Result<CaptureReader<S>, (FileFault, S)>
+        requires { 65535 ≤ length text.old }
+        ensures room { length text.new ≡ length text.old }
+        ensures reader { IfOk result (λ r. IsNewReader r) }
+        ensures text_len { IfOk result (λ r. r.text_len < 65536) }
+        // The text, and what the source is left with, are those of the octets that it was to give, and a fault is
+        // their first.
+        ensures read { IfOk result (λ r. Gives front_at (S.to_give source) (S.to_give r.source) (take r.text_len text.new)) }
+        ensures fault { IfErr result (λ e. IsOfFront e.0 × Fails front_at (S.to_give source) e.0) }
+        ensures counted { MatchResult result (λ r. S.failures r.source ≡ S.failures source) (λ e. CountsFault e.0 (S.failures source) (S.failures e.1)) }
+    {
+        match read_front(&mut source, text) {
+            Ok(text_len) => Ok(CaptureReader {
+                source,
+                text_len,
+                standing: Standing::Reads,
+                delivered: 0,
+                failures: 0,
+            }),
+            Err(fault) => Err((fault, source)),
+        }
+    }
+
     /// How many octets the capture's text has.
     pub fn text_len(&self) -> usize
         ensures { result ≡ self.now.text_len }

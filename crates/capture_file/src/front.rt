@@ -1,0 +1,96 @@
+//! What stands at the front of a file.
+ghost use Rattle.std.specs.Prelude.{◌≡◌, ◌≤◌, ◌<◌, codes, length, take, IfErr, IfOk, OnOk};
+ghost use Rattle.capture_file.specs.Faults.{CountsDevice, IsOfField, IsOfFront};
+ghost use Rattle.capture_file.specs.Fields.{Fails, Gives, field_at};
+ghost use Rattle.capture_file.specs.Fronts.{front_at, kind_at, kind_of, text_at};
+
+use crate::fault::FileFault;
+use st_format::{ByteSource, read_whole};
+
+/// The name of captures.
+pub(crate) const CAPTURE: &[u8] = b"S20CAP";
+
+/// The versions of files.
+#[derive(Clone, Copy, Debug, PartialEq, Eq)]
+pub(crate) enum Version {
+    One,
+    Two,
+}
+
+/// Fills `buf`.
+pub(crate) fn read_field<S: ByteSource>(source: &mut S, buf: &mut [u8]) -> Result<(), FileFault>
+    ensures room { length buf.new ≡ length buf.old }
+    ensures named { IfErr result IsOfField }
+    ensures read { OnOk result (Gives (field_at (length buf.old)) (S.to_give source.old) (S.to_give source.new) buf.new) }
+    ensures fault { IfErr result (λ f. Fails (field_at (length buf.old)) (S.to_give source.old) f) }
+    ensures counted { CountsDevice (S.failures source.old) (S.failures source.new) result }
+{
+    if read_whole(source, buf)? < buf.len() {
+        return Err(FileFault::Truncated);
+    }
+    Ok(())
+}
+
+/// The version of a file that begins with these octets.
+fn version_in(name: &[u8], octets: &[u8; 8]) -> Result<Version, FileFault>
+    ensures exact { result ≡ kind_of name.now octets.now }
+    ensures named { IfErr result IsOfFront }
+{
+    let (front, version) = octets.split_at(6);
+    if front != name {
+        return Err(FileFault::BadName);
+    }
+    if version == b"01".as_slice() {
+        return Ok(Version::One);
+    }
+    if version == b"02".as_slice() {
+        return Ok(Version::Two);
+    }
+    Err(FileFault::BadVersion)
+}
+
+/// Reads name and version.
+pub(crate) fn read_kind<S: ByteSource>(source: &mut S, name: &[u8]) -> Result<Version, FileFault>
+    ensures named { IfErr result IsOfFront }
+    ensures read { IfOk result (λ v. Gives (kind_at name.now) (S.to_give source.old) (S.to_give source.new) v) }
+    ensures fault { IfErr result (λ f. Fails (kind_at name.now) (S.to_give source.old) f) }
+    ensures counted { CountsDevice (S.failures source.old) (S.failures source.new) result }
+{
+    let mut octets = [0u8; 8];
+    read_field(source, &mut octets)?;
+    version_in(name, &octets)
+}
+
+/// Reads what stands before the records of a capture. Its text then stands at the front of `text`, which has room
+/// for any; answers how many octets it has.
+pub(crate) fn read_front<S: ByteSource>(source: &mut S, text: &mut [u8]) -> Result<usize, FileFault>
+    requires { 65535 ≤ length text.old }
+    ensures room { length text.new ≡ length text.old }
+    ensures within { IfOk result (λ n. n < 65536) }
+    ensures named { IfErr result IsOfFront }
+    ensures read { IfOk result (λ n. Gives front_at (S.to_give source.old) (S.to_give source.new) (take n text.new)) }
+    ensures fault { IfErr result (λ f. Fails front_at (S.to_give source.old) f) }
+    ensures counted { CountsDevice (S.failures source.old) (S.failures source.new) result }
+{
+    match read_kind(source, CAPTURE)? {
+        Version::One => Ok(0),
+        Version::Two => read_text(source, text),
+    }
+}
+
+/// Reads a text behind its length.
+fn read_text<S: ByteSource>(source: &mut S, text: &mut [u8]) -> Result<usize, FileFault>
+    requires { 65535 ≤ length text.old }
+    ensures room { length text.new ≡ length text.old }
+    ensures within { IfOk result (λ n. n < 65536) }
+    ensures named { IfErr result IsOfField }
+    ensures read { IfOk result (λ n. Gives text_at (S.to_give source.old) (S.to_give source.new) (take n text.new)) }
+    ensures fault { IfErr result (λ f. Fails text_at (S.to_give source.old) f) }
+    ensures counted { CountsDevice (S.failures source.old) (S.failures source.new) result }
+{
+    let mut octets = [0u8; 2];
+    read_field(source, &mut octets)?;
+    let length = u16::from_be_bytes(octets) as usize;
+    read_field(source, &mut text[..length])?;
+    Ok(length)
+}
