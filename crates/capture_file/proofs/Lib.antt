@@ -4,3 +4,4 @@ pub mod Rests
 pub mod Entries
 pub mod Dues
 pub mod Fronted
+pub mod Written

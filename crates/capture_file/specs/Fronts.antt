@@ -37,6 +37,10 @@ abbrev pub front_text : Version → List ℕ → List ℕ
 front_text One text = kind_text capture_name One
 front_text Two text = kind_text capture_name Two ++ counted_text text
 
+-- the ten octets before a text
+abbrev pub front_head : ℕ → List ℕ
+front_head count = kind_text capture_name Two ++ to_be_bytes w16 count
+
 -- a text that a capture of this version can have
 abbrev pub HasFront : Version → List ℕ → Type 0
 HasFront One text = text ≡ []

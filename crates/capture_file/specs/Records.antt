@@ -48,3 +48,7 @@ pub record IsHead (first : ℕ) (octets : List ℕ) (h : RecordHead) : Type 0 wh
   pub moment : h.moment < 2 ^ 64
   pub length_fits : h.length < 2 ^ 16
   pub text : octets ≡ to_be_bytes w64 h.moment ++ to_be_bytes w16 h.length
+
+-- the eleven octets of a head
+abbrev pub head_text : Path → ℕ → ℕ → List ℕ
+head_text path moment count = path_octet path ∷ (to_be_bytes w64 moment ++ to_be_bytes w16 count)

@@ -4,9 +4,16 @@
 mod fault;
 mod front;
 mod reader;
+mod paths;
 mod record;
 mod steps;
+// mod writer;
+mod writing;
 
 pub use fault::FileFault;
-pub use record::RecordHead;
+pub use paths::Paths;
+pub use reader::{CaptureReader, Standing};
+pub use record::{Record, RecordHead};
 pub use steps::{record_begins, record_rest};
+// pub use writer::CaptureWriter;
+// pub use writing::write_capture;

@@ -1,5 +1,6 @@
 //! Records of a capture.
 use st_format::Path;
+use std::alloc::{Allocator, Global};
 
 /// What a record says before its octets.
 #[derive(Clone, Copy, Debug, PartialEq, Eq)]
@@ -9,4 +10,14 @@ pub struct RecordHead {
     pub moment: u64,
     /// How many octets it has: at most 65,535.
     pub length: usize,
+}
+
+/// A record of a capture.
+#[derive(Drop)]
+pub struct Record<A: Allocator = Global> {
+    pub path: Path,
+    /// What the writer handed in; it has no meaning to a reader.
+    pub moment: u64,
+    /// At most 65,535.
+    pub octets: Vec<u8, A>,
 }
