@@ -14,10 +14,10 @@ use Rattle.capture_file.specs.Reading.{path_of, head_by, head_at, octets_at, res
 use Rattle.capture_file.specs.Records.{Entry, Fits, entry_of, path_octet, record_text, rest_text}
 use Rattle.capture_file.proofs.Rests.{behind_head}
 
-abbrev Read : Type 0
+abbrev pub Read : Type 0
 Read = Result (Entry × List ℕ) FileFault
 
-abbrev truncated : Read
+abbrev pub truncated : Read
 truncated = Err Truncated
 
 abbrev ok_head : RecordHead → Result RecordHead FileFault
@@ -35,19 +35,23 @@ path_again : (p : Path) → path_of (path_octet p) ≡ Ok p
 path_again A = refl
 path_again B = refl
 
+-- the head of a record is read
+pub head_again : (e : Entry) → Fits e → head_at (path_octet e.path) (to_be_bytes w64 e.moment ++ to_be_bytes w16 (length e.octets)) ≡ Ok (record { path = e.path; moment = e.moment; length = length e.octets })
+head_again e fits =
+    let n : ℕ = length e.octets in
+    ap (λ (p : Result Path FileFault). head_by p (to_be_bytes w64 e.moment ++ to_be_bytes w16 n)) (path_again e.path)
+    ∙ ap (λ (m : ℕ). ok_head (record { path = e.path; moment = m; length = from_be_bytes w16 (to_be_bytes w16 n) })) (from_be_bytes-to_be_bytes_8 e.moment fits.moment)
+    ∙ ap (λ (k : ℕ). ok_head (record { path = e.path; moment = e.moment; length = k })) (from_be_bytes-to_be_bytes_2 n fits.octets)
+
 -- what is spelled so is read
 pub rest_again : (e : Entry) (behind : List ℕ) → Fits e → rest_at (path_octet e.path) (rest_text e ++ behind) ≡ Ok (e, behind)
 rest_again e behind fits =
     let n : ℕ = length e.octets in
     let head : List ℕ = to_be_bytes w64 e.moment ++ to_be_bytes w16 n in
     let h : RecordHead = record { path = e.path; moment = e.moment; length = n } in
-    let is : head_at (path_octet e.path) head ≡ Ok h =
-    ap (λ (p : Result Path FileFault). head_by p head) (path_again e.path)
-    ∙ ap (λ (m : ℕ). ok_head (record { path = e.path; moment = m; length = from_be_bytes w16 (to_be_bytes w16 n) })) (from_be_bytes-to_be_bytes_8 e.moment fits.moment)
-    ∙ ap (λ (k : ℕ). ok_head (record { path = e.path; moment = e.moment; length = k })) (from_be_bytes-to_be_bytes_2 n fits.octets) in
     let long : ltb (length (e.octets ++ behind)) n ≡ false = le-ltb (length (e.octets ++ behind)) n (omega (arith, length-append e.octets behind)) in
     behind_head (path_octet e.path) head (e.octets ++ behind) refl
-    ∙ ap (λ (r : Result RecordHead FileFault). octets_at r (e.octets ++ behind)) is
+    ∙ ap (λ (r : Result RecordHead FileFault). octets_at r (e.octets ++ behind)) (head_again e fits)
     ∙ ap (λ (b : Bool). cond b truncated (ok_read (entry_of h (e.octets ++ behind)) (drop n (e.octets ++ behind)))) long
     ∙ ap (λ (xs : List ℕ). ok_read (record { path = e.path; moment = e.moment; octets = xs }) (drop n (e.octets ++ behind))) (take_at e.octets behind n refl)
     ∙ ap (λ (xs : List ℕ). ok_read e xs) (drop_at e.octets behind n refl)

@@ -5,3 +5,6 @@ pub mod Entries
 pub mod Dues
 pub mod Fronted
 pub mod Written
+pub mod Cuts
+pub mod Datagrams
+pub mod Told

@@ -1,5 +1,5 @@
 -- One text written after another.
-use Rattle.std.proofs.Common.{◌≡◌, ℕ, ◌+◌, ◌<◌, ◌≤◌, List, [], ◌∷◌, ◌++◌, length, take, Option, None, Some, Result, Ok, Err, append_assoc, refl, sym, ap, ◌∙◌, subst, arith}
+use Rattle.std.proofs.Common.{◌≡◌, ℕ, ◌+◌, ◌<◌, ◌≤◌, List, [], ◌∷◌, ◌++◌, length, take, Option, None, Some, Result, Ok, Err, append_assoc, append-nil, refl, sym, ap, ◌∙◌, subst, arith}
 use Rattle.std.specs.Io.KnownBytes.{Appends, Keeps}
 use Rattle.std.proofs.KnownBytes.{Appends-trans, Appends-nil}
 use Rattle.std.proofs.Math.Seq.{take-append-add}
@@ -21,3 +21,10 @@ prefix_then old mid new xs ys p q = record {
   short = let s : q.count < length ys = q.short in omega (arith, length-append xs ys);
   taken = subst (Appends old new) (sym (take-append-add xs ys q.count)) (Appends-trans old mid new xs (take q.count ys) p q.taken);
 }
+
+-- two texts and nothing behind them
+pub both_whole : (old mid new : Option (List ℕ)) (xs ys : List ℕ) → Appends old mid xs → Appends mid new ys → Appends old new (xs ++ (ys ++ []))
+both_whole old mid new xs ys p q = subst (λ (t : List ℕ). Appends old new (xs ++ t)) (sym (append-nil ys)) (Appends-trans old mid new xs ys p q)
+
+pub both_cut : (old mid new : Option (List ℕ)) (xs ys : List ℕ) → Appends old mid xs → AppendsPrefix mid new ys → AppendsPrefix old new (xs ++ (ys ++ []))
+both_cut old mid new xs ys p q = subst (λ (t : List ℕ). AppendsPrefix old new (xs ++ t)) (sym (append-nil ys)) (prefix_then old mid new xs ys p q)

@@ -5,3 +5,4 @@ pub mod Source
 pub mod Reader
 pub mod Fields
 pub mod Fronts
+pub mod Writer

@@ -7,7 +7,7 @@ mod reader;
 mod paths;
 mod record;
 mod steps;
-// mod writer;
+mod writer;
 mod writing;
 
 pub use fault::FileFault;
@@ -15,5 +15,5 @@ pub use paths::Paths;
 pub use reader::{CaptureReader, Standing};
 pub use record::{Record, RecordHead};
 pub use steps::{record_begins, record_rest};
-// pub use writer::CaptureWriter;
+pub use writer::CaptureWriter;
 // pub use writing::write_capture;

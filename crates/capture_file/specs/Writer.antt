@@ -1,0 +1,117 @@
+-- What a writer of a capture writes (own).
+use Rattle.std.specs.Prelude.{◌≡◌, ℕ, ◌+◌, ◌%◌, ◌^◌, ◌<◌, ◌≤◌, Bool, true, false, ◌&&◌, ◌||◌, ◌==◌, nat_lt, if◌then◌else◌, take, List, [], ◌∷◌, ◌++◌, ⊤, length, drop, map, Option, None, Some}
+use Rattle.std.specs.List.{AllByRecursion, list_all}
+use Rattle.std.specs.Str.{bytes_eq}
+use Rattle.std.specs.Option.{option_map}
+use Rattle.st_format.specs.declared.path.Path.{Path}
+use Rattle.st_format.specs.declared.path.Path.TheVariants.{A, B}
+use Rattle.capture_file.specs.declared.paths.Paths.{Paths}
+use Rattle.capture_file.specs.declared.paths.Paths.TheVariants.{OnlyA, OnlyB, Both}
+use Rattle.capture_file.specs.declared.front.Version.TheVariants.{Two}
+use Rattle.capture_file.specs.Fronts.{front_text}
+use Rattle.capture_file.specs.Reading.{entries_in}
+use Rattle.capture_file.specs.Records.{Entry, records_text}
+
+abbrev pub entry : Path → ℕ → List ℕ → Entry
+entry path moment octets = record { path = path; moment = moment; octets = octets }
+
+-- the records of a datagram, the first of this moment
+abbrev pub entries_of : Paths → ℕ → List ℕ → List Entry
+entries_of OnlyA moment octets = entry A moment octets ∷ []
+entries_of OnlyB moment octets = entry B moment octets ∷ []
+entries_of Both moment octets = entry A moment octets ∷ entry B ((moment + 1) % 2 ^ 64) octets ∷ []
+
+-- how many they are
+abbrev pub width : Paths → ℕ
+width OnlyA = 1
+width OnlyB = 1
+width Both = 2
+
+-- the moment of what follows a datagram
+abbrev pub moment_behind : Paths → ℕ → ℕ
+moment_behind paths moment = (moment + width paths) % 2 ^ 64
+
+-- The records of datagrams, the first of this moment: a record's moment is its index modulo 2^64.
+abbrev pub entries_from : Paths → ℕ → List (List ℕ) → List Entry
+entries_from paths moment [] = []
+entries_from paths moment (d ∷ ds) = entries_of paths moment d ++ entries_from paths (moment_behind paths moment) ds
+
+-- the moment behind datagrams
+abbrev pub moment_after : Paths → ℕ → List (List ℕ) → ℕ
+moment_after paths moment [] = moment
+moment_after paths moment (d ∷ ds) = moment_after paths (moment_behind paths moment) ds
+
+-- the capture of a text and datagrams
+abbrev pub written : Paths → List ℕ → List (List ℕ) → List ℕ
+written paths text datagrams = front_text Two text ++ records_text (entries_from paths 0 datagrams)
+
+-- the first of each two
+abbrev pub first_of_two : List Entry → List (List ℕ)
+first_of_two [] = []
+first_of_two (e ∷ []) = []
+first_of_two (e ∷ f ∷ es) = e.octets ∷ first_of_two es
+
+-- the datagrams of records
+abbrev pub datagrams_by : Paths → List Entry → List (List ℕ)
+datagrams_by OnlyA entries = map (λ e. e.octets) entries
+datagrams_by OnlyB entries = map (λ e. e.octets) entries
+datagrams_by Both entries = first_of_two entries
+
+-- The datagrams that a sink holds behind the front of a capture: those all of whose records are whole.
+abbrev pub datagrams_in : Paths → ℕ → List ℕ → List (List ℕ)
+datagrams_in paths text_len held = datagrams_by paths (entries_in (drop (10 + text_len) held))
+
+-- where a writer stands: the moment is that of the next record
+pub record Place : Type 0 where
+  pub paths : Paths
+  pub text_len : ℕ
+  pub moment : ℕ
+  pub failed : Bool
+
+-- behind a datagram, and after a fault
+abbrev pub place_behind : Place → Place
+place_behind p = record { paths = p.paths; text_len = p.text_len; moment = moment_behind p.paths p.moment; failed = p.failed }
+
+abbrev pub place_failed : Place → Place
+place_failed p = record { paths = p.paths; text_len = p.text_len; moment = p.moment; failed = true }
+
+-- what is seen of a writer
+pub record Writer (K : Type 0) : Type 0 where
+  pub sink : K
+  pub place : Place
+  pub failures : ℕ
+
+-- of at most 65,535 octets
+abbrev pub IsDatagram : List ℕ → Type 0
+IsDatagram octets = length octets < 2 ^ 16
+
+-- A sink holds the capture of a text and datagrams, of which the next record's moment is this.
+pub record IsWritten (paths : Paths) (text_len moment : ℕ) (held : List ℕ) : Type 0 where
+  pub text : List ℕ
+  pub datagrams : List (List ℕ)
+  pub text_fits : length text < 2 ^ 16
+  pub text_len_is : length text ≡ text_len
+  pub fit : AllByRecursion IsDatagram datagrams
+  pub moment_is : moment_after paths 0 datagrams ≡ moment
+  pub whole : held ≡ written paths text datagrams
+
+-- the text that a sink holds
+abbrev pub text_in : ℕ → List ℕ → List ℕ
+text_in text_len held = take text_len (drop 10 held)
+
+-- the same as a test, of a text and datagrams
+abbrev pub is_of : Paths → List ℕ → List (List ℕ) → ℕ → ℕ → List ℕ → Bool
+is_of paths text datagrams text_len moment held =
+    (length text == text_len) && (nat_lt (length text) (2 ^ 16)) && (list_all (λ d. nat_lt (length d) (2 ^ 16)) datagrams) && (moment_after paths 0 datagrams == moment) && bytes_eq held (written paths text datagrams)
+
+abbrev pub is_written : Paths → ℕ → ℕ → List ℕ → Bool
+is_written paths text_len moment held = is_of paths (text_in text_len held) (datagrams_in paths text_len held) text_len moment held
+
+-- The datagrams that a writer took: those whose records its sink holds. Where the sink doesn't tell what it holds, or
+-- held something else before, they are not told.
+abbrev pub taken_in : Place → List ℕ → Option (List (List ℕ))
+taken_in p held = if p.failed || is_written p.paths p.text_len p.moment held then Some (datagrams_in p.paths p.text_len held) else None
+
+abbrev pub taken_of : Place → Option (List ℕ) → Option (List (List ℕ))
+taken_of p None = None
+taken_of p (Some held) = taken_in p held
