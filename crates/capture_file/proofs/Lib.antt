@@ -8,3 +8,4 @@ pub mod Written
 pub mod Cuts
 pub mod Datagrams
 pub mod Told
+pub mod Loops

@@ -6,3 +6,4 @@ pub mod Reader
 pub mod Fields
 pub mod Fronts
 pub mod Writer
+pub mod Capture

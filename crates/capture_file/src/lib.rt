@@ -1,6 +1,7 @@
 //! Captures, pictures and receivers as files (own).
 #![tactic(auto)]
 
+mod capture;
 mod fault;
 mod front;
 mod reader;
@@ -10,6 +11,7 @@ mod steps;
 mod writer;
 mod writing;
 
+pub use capture::{Capture, read_capture};
 pub use fault::FileFault;
 pub use paths::Paths;
 pub use reader::{CaptureReader, Standing};
