@@ -15,11 +15,8 @@ use Rattle.capture_file.specs.Reading.{entries_in}
 use Rattle.capture_file.specs.Records.{AllFit, Entry, Fits, record_text, records_text}
 use Rattle.capture_file.specs.Writer.{IsDatagram, IsWritten, datagrams_by, datagrams_in, entries_from, entries_of, entry, first_of_two, moment_after, moment_behind, width, written}
 use Rattle.capture_file.proofs.Cuts.{entries_front, entries_cut}
+use Rattle.capture_file.proofs.Written.{records_append}
 use Rattle.capture_file.proofs.Dues.{entries_first, entries_none}
-
-pub records_append : (xs ys : List Entry) → records_text (xs ++ ys) ≡ records_text xs ++ records_text ys
-records_append [] ys = refl
-records_append (x ∷ xs) ys = ap (λ (t : List ℕ). record_text x ++ t) (records_append xs ys) ∙ sym (append_assoc (record_text x) (records_text xs) (records_text ys))
 
 -- the datagrams of all their records, and of what follows them
 by_from : (paths : Paths) (m : ℕ) (ds : List (List ℕ)) (more : List Entry) → datagrams_by paths (entries_from paths m ds ++ more) ≡ ds ++ datagrams_by paths more

@@ -1,14 +1,19 @@
 //! Writing a capture.
-ghost use Rattle.std.specs.Prelude.{◌≡◌, ◌≤◌, ◌<◌, ◌^◌, ◌%◌, length, map, OnErr, OnOk};
+ghost use Rattle.std.specs.Prelude.{◌≡◌, ◌≤◌, ◌<◌, ◌^◌, ◌%◌, length, map, IfErr, OnErr, OnOk};
 ghost use Rattle.std.specs.Io.KnownBytes.{Appends};
-ghost use Rattle.std.specs.List.{AllByRecursion};
+ghost use Rattle.std.specs.List.{All};
 ghost use Rattle.st_format.specs.Device.{AppendsPrefix, CountsFaults};
+ghost use Rattle.capture_file.specs.Capture.{capture_text, entry_seen};
+ghost use Rattle.capture_file.specs.Faults.{CountsDevice, IsDevice};
 ghost use Rattle.capture_file.specs.Fronts.{front_head, front_text};
-ghost use Rattle.capture_file.specs.Records.{head_text, record_text};
+ghost use Rattle.capture_file.specs.Records.{head_text, record_text, records_text};
 ghost use Rattle.capture_file.specs.declared.front.Version.TheVariants.{Two};
 
+use crate::fault::FileFault;
+use crate::record::Record;
 use byteorder::{BigEndian, ByteOrder};
 use st_format::{ByteSink, DeviceFault, Path, write_whole};
+use std::alloc::Allocator;
 
 /// The octets of a record's head.
 const HEAD: usize = 11;
@@ -66,4 +71,41 @@ fn front_of(length: u16) -> [u8; FRONT]
     let mut front = *b"S20CAP02\0\0";
     BigEndian::write_u16(&mut front[8..], length);
     front
+}
+
+/// Writes a capture of version 02 with this text, of at most 65,535 octets, and these records, each of at most 65,535.
+///
+/// # Errors
+///
+/// `Device` where the sink failed: it then has a first part of the capture more than before, and not all.
+pub fn write_capture<A: Allocator, K: ByteSink>(
+    sink: &mut K,
+    text: &[u8],
+    records: &[Record<A>],
+) -> Result<(), FileFault>
+    requires text { length text.now ≤ 65535 }
+    requires records { All (λ r. length r.octets.items ≤ 65535) records.now }
+    ensures ok { OnOk result (Appends (K.held sink.old) (K.held sink.new) (capture_text text.now (map entry_seen records.now))) }
+    ensures fault { IfErr result (λ f. IsDevice f × AppendsPrefix (K.held sink.old) (K.held sink.new) (capture_text text.now (map entry_seen records.now))) }
+    ensures counted { CountsDevice (K.failures sink.old) (K.failures sink.new) result }
+{
+    write_front(sink, text)?;
+    write_records(sink, records)?;
+    Ok(())
+}
+
+/// Writes records.
+fn write_records<A: Allocator, K: ByteSink>(
+    sink: &mut K,
+    records: &[Record<A>],
+) -> Result<(), DeviceFault>
+    requires { All (λ r. length r.octets.items ≤ 65535) records.now }
+    ensures ok { OnOk result (Appends (K.held sink.old) (K.held sink.new) (records_text (map entry_seen records.now))) }
+    ensures fault { OnErr result (AppendsPrefix (K.held sink.old) (K.held sink.new) (records_text (map entry_seen records.now))) }
+    ensures counted { CountsFaults (K.failures sink.old) (K.failures sink.new) result }
+{
+    for record in records {
+        write_record(sink, record.path, record.moment, &record.octets)?;
+    }
+    Ok(())
 }
