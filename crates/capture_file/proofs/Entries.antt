@@ -31,7 +31,7 @@ pub chosen : {T : Type 0} (b : Bool) (x y z : T) → cond b x y ≡ z → ((b �
 chosen true x y z e = inl (refl, e)
 chosen false x y z e = inr (refl, e)
 
-path_again : (p : Path) → path_of (path_octet p) ≡ Ok p
+pub path_again : (p : Path) → path_of (path_octet p) ≡ Ok p
 path_again A = refl
 path_again B = refl
 
@@ -62,7 +62,7 @@ pub record HeadRead (p : Result Path FileFault) (octets : List ℕ) (h : RecordH
   pub moment : h.moment ≡ from_be_bytes w64 (take 8 octets)
   pub count : h.length ≡ from_be_bytes w16 (take 2 (drop 8 octets))
 
-head_read : (p : Result Path FileFault) (octets : List ℕ) (h : RecordHead) → head_by p octets ≡ Ok h → HeadRead p octets h
+pub head_read : (p : Result Path FileFault) (octets : List ℕ) (h : RecordHead) → head_by p octets ≡ Ok h → HeadRead p octets h
 head_read (Ok path) octets h e =
     let made : RecordHead = record { path = path; moment = from_be_bytes w64 (take 8 octets); length = from_be_bytes w16 (take 2 (drop 8 octets)) } in
     let same : made ≡ h = cc in
@@ -80,7 +80,7 @@ pub record OctetsRead (r : Result RecordHead FileFault) (octets : List ℕ) (x :
   pub long : head.length ≤ length octets
   pub made : (entry_of head octets, drop head.length octets) ≡ x
 
-octets_read : (r : Result RecordHead FileFault) (octets : List ℕ) (x : Entry × List ℕ) → octets_at r octets ≡ Ok x → OctetsRead r octets x
+pub octets_read : (r : Result RecordHead FileFault) (octets : List ℕ) (x : Entry × List ℕ) → octets_at r octets ≡ Ok x → OctetsRead r octets x
 octets_read (Ok h) octets x e =
     elim (chosen (ltb (length octets) h.length) truncated (Ok (entry_of h octets, drop h.length octets)) (Ok x) e) [
       inl w ↦ let bad : truncated ≡ Ok x = w.1 in absurd cc

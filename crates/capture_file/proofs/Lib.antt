@@ -9,3 +9,4 @@ pub mod Cuts
 pub mod Datagrams
 pub mod Told
 pub mod Loops
+pub mod Splits

@@ -7,3 +7,4 @@ pub mod Fields
 pub mod Fronts
 pub mod Writer
 pub mod Capture
+pub mod Runs

@@ -6,6 +6,7 @@ mod fault;
 mod front;
 mod reader;
 mod paths;
+pub mod laws;
 mod record;
 mod steps;
 mod writer;

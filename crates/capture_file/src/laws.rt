@@ -1,0 +1,39 @@
+//! Laws of the definitions.
+ghost use Rattle.std.specs.Prelude.{◌≡◌, ◌≤◌, ℕ, Ok, List, [], ◌++◌, length, map};
+
+ghost use Rattle.st_format.specs.Turns.{Due};
+ghost use Rattle.capture_file.specs.Capture.{Content, IsCapture, capture_at};
+ghost use Rattle.capture_file.specs.Reader.{due_of, dues_in};
+ghost use Rattle.capture_file.specs.Reading.{entries_in};
+ghost use Rattle.capture_file.specs.Records.{Entry};
+ghost use Rattle.capture_file.specs.Runs.{AreOctets, IsRun};
+
+/// The records that are read of octets are those that they spell up to their first fault.
+pub fn records_read()
+    ensures { (octets : List ℕ) → AreOctets octets → (rest : List ℕ) × IsRun (entries_in octets) rest octets }
+{
+}
+
+/// Octets spell one list of records up to their first fault: those that are read of them.
+pub fn one_run()
+    ensures { (octets rest : List ℕ) (entries : List Entry) → AreOctets octets → IsRun entries rest octets → entries ≡ entries_in octets }
+{
+}
+
+/// The turns of octets are the datagrams of the records that they spell up to their first fault.
+pub fn turns_of_run()
+    ensures { (octets rest : List ℕ) (entries : List Entry) → AreOctets octets → IsRun entries rest octets → dues_in octets ≡ map due_of entries }
+{
+}
+
+/// What is a capture is read as what it says.
+pub fn capture_read()
+    ensures { (c : Content) (octets : List ℕ) (limit : ℕ) → IsCapture c octets → length c.records ≤ limit → capture_at limit octets ≡ Ok (c, []) }
+{
+}
+
+/// Octets are a capture of one content.
+pub fn one_content()
+    ensures { (c d : Content) (octets : List ℕ) → IsCapture c octets → IsCapture d octets → c ≡ d }
+{
+}
