@@ -10,3 +10,5 @@ pub mod Datagrams
 pub mod Told
 pub mod Loops
 pub mod Splits
+pub mod Grouped
+pub mod Once

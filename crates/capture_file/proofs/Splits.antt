@@ -190,7 +190,7 @@ records_again (suc limit) (e ∷ es) fit le =
     ap (λ (r : Result (Entry × List ℕ) FileFault). r >>= λ x. records_at limit x.1 >>= λ y. many (x.0 ∷ y.0) y.1) (rest_again e (records_text es) fit.0)
     ∙ ap (λ (r : Result (List Entry × List ℕ) FileFault). r >>= λ y. many (e ∷ y.0) y.1) (records_again limit es fit.1 (omega arith))
 
-field_again : (n : ℕ) (front rest : List ℕ) → length front ≡ n → field_at n (front ++ rest) ≡ Ok (front, rest)
+pub field_again : (n : ℕ) (front rest : List ℕ) → length front ≡ n → field_at n (front ++ rest) ≡ Ok (front, rest)
 unfolding field_at
 field_again n front rest len =
     let long : ltb (length (front ++ rest)) n ≡ false = le-ltb (length (front ++ rest)) n (omega (arith, length-append front rest)) in

@@ -8,3 +8,5 @@ pub mod Fronts
 pub mod Writer
 pub mod Capture
 pub mod Runs
+pub mod Groups
+pub mod StateFile

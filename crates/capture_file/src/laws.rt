@@ -7,6 +7,7 @@ ghost use Rattle.capture_file.specs.Reader.{due_of, dues_in};
 ghost use Rattle.capture_file.specs.Reading.{entries_in};
 ghost use Rattle.capture_file.specs.Records.{Entry};
 ghost use Rattle.capture_file.specs.Runs.{AreOctets, IsRun};
+ghost use Rattle.capture_file.specs.StateFile.{IsKept, Kept, state_text};
 
 /// The records that are read of octets are those that they spell up to their first fault.
 pub fn records_read()
@@ -35,5 +36,12 @@ pub fn capture_read()
 /// Octets are a capture of one content.
 pub fn one_content()
     ensures { (c d : Content) (octets : List ℕ) → IsCapture c octets → IsCapture d octets → c ≡ d }
+{
+}
+
+/// A receiver has one file: two that have equal files have the same format, payload type, source, timestamps and cells.
+/// That equal ones have equal files is plain, since the text is a function of these.
+pub fn one_file()
+    ensures { (k l : Kept) → IsKept k → IsKept l → state_text k ≡ state_text l → k ≡ l }
 {
 }
