@@ -12,3 +12,4 @@ pub mod Loops
 pub mod Splits
 pub mod Grouped
 pub mod Once
+pub mod Moved

@@ -10,3 +10,4 @@ pub mod Capture
 pub mod Runs
 pub mod Groups
 pub mod StateFile
+pub mod Migrated

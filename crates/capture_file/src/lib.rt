@@ -7,6 +7,7 @@ mod front;
 mod reader;
 mod paths;
 pub mod laws;
+mod migrating;
 mod record;
 mod steps;
 mod writer;
@@ -14,6 +15,7 @@ mod writing;
 
 pub use capture::{Capture, read_capture};
 pub use fault::FileFault;
+pub use migrating::migrate_capture;
 pub use paths::Paths;
 pub use reader::{CaptureReader, Standing};
 pub use record::{Record, RecordHead};

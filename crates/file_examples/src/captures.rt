@@ -1,0 +1,125 @@
+//! Captures, read and written.
+use capture_file::{
+    Capture, CaptureReader, CaptureWriter, FileFault, Paths, Record, read_capture, write_capture,
+};
+use frame_assembly::Counts;
+use path_merge::{Receiver, receive};
+use st_format::memory::{MemorySink, MemorySource};
+use st_format::{DatagramSink, DatagramSource, Depth, Format, Path, Sampling, SourceFault, Turn};
+use std::alloc::{AllocError, Allocator, Global};
+use std::process::Abort;
+use std::test::Fail;
+
+const D1: &str = "80E00001000003840000000100000008000000008010801180128013";
+const OLD: &str = "5332304341503031000000000000000000001C80E00001000003840000000100000008000000008010801180128013";
+const NEW: &str = "53323043415030320000000000000000000000001C80E00001000003840000000100000008000000008010801180128013";
+
+fn source(rt: &(impl Abort + AllocGlobal), digits: &str, cut: usize, more: &[u8]) -> MemorySource {
+    let mut octets = hex::decode(rt.alloc(), digits).expect(rt, "digits");
+    octets.truncate(octets.len() - cut.min(octets.len()));
+    octets.extend_from_slice(more).expect(rt, "memory");
+    MemorySource::new(octets, 3, 0)
+}
+
+fn sink(rt: &(impl Abort + AllocGlobal), fails_in: u64) -> MemorySink {
+    MemorySink::new(Vec::with_capacity(rt.alloc(), 4096).expect(rt, "room"), 7, fails_in)
+}
+
+#[test]
+fn capture_of_one(rt: HostRuntime) -> Result<(), Fail> {
+    for digits in [OLD, NEW] {
+        let mut old = source(&rt, digits, 0, &[]);
+        match read_capture(rt.alloc(), &mut old, 1) {
+            Ok(capture) => {
+                assert_eq!(rt; capture.text.len(), 0);
+                assert_eq!(rt; capture.records.len(), 1);
+                assert_eq!(rt; capture.records[0].path, Path::A);
+                assert_eq!(rt; capture.records[0].moment, 0);
+                assert_eq!(rt; capture.records[0].octets.len(), 28);
+            }
+            Err(fault) => assert!(rt; false, "{fault}"),
+        }
+    }
+    assert_eq!(rt; faulted(&rt, OLD, 1, &[], 5), Some(FileFault::Truncated));
+    assert_eq!(rt; faulted(&rt, OLD, 0, &[0], 5), Some(FileFault::Truncated));
+    assert_eq!(rt; faulted(&rt, OLD, 0, &[], 0), Some(FileFault::TooManyRecords));
+    assert_eq!(rt; faulted(&rt, OLD, 39, &[], 0), None);
+    for cut in 0..50 {
+        let wanted = match cut {
+            0 | 39 => None,
+            _ => Some(FileFault::Truncated),
+        };
+        assert_eq!(rt; faulted(&rt, NEW, cut, &[], 9), wanted, "{cut}");
+    }
+    Ok(())
+}
+
+fn faulted(rt: &(impl Abort + AllocGlobal), digits: &str, cut: usize, more: &[u8], limit: u64) -> Option<FileFault> {
+    match read_capture(rt.alloc(), &mut source(rt, digits, cut, more), limit) {
+        Ok(_) => None,
+        Err(fault) => Some(fault),
+    }
+}
+
+#[test]
+fn written(rt: HostRuntime) -> Result<(), Fail> {
+    let octets = hex::decode(rt.alloc(), D1).expect(&rt, "digits");
+    let mut records = Vec::new(rt.alloc());
+    records.push(Record { path: Path::A, moment: 0, octets })?;
+    let mut sink = sink(&rt, 0);
+    assert!(rt; write_capture(&mut sink, &[], &records).is_ok());
+    let wanted = hex::decode(rt.alloc(), NEW).expect(&rt, "digits");
+    assert_eq!(rt; sink.held(), wanted.as_slice());
+    Ok(())
+}
+
+#[test]
+fn writer_and_reader(rt: HostRuntime) -> Result<(), Fail> {
+    let mut text = vec![in rt.alloc(); 0u8; 65535]?;
+    let mut buf = vec![in rt.alloc(); 0u8; 65535]?;
+    let octets = hex::decode(rt.alloc(), D1).expect(&rt, "digits");
+    let Ok(mut writer) = CaptureWriter::open(sink(&rt, 0), Paths::Both, b"v=0") else {
+        assert!(rt; false);
+        return Ok(());
+    };
+    for _ in 0..3 {
+        assert!(rt; writer.put(&octets).is_ok());
+    }
+    let sink = writer.into_inner();
+    let mut held = Vec::from_slice(rt.alloc(), sink.held())?;
+    assert_eq!(rt; held.len(), 13 + 6 * 39);
+    held.truncate(13 + 6 * 39 - 1);
+    let Ok(mut reader) = CaptureReader::open(MemorySource::new(held, 5, 0), &mut text) else {
+        assert!(rt; false);
+        return Ok(());
+    };
+    assert_eq!(rt; reader.text_len(), 3);
+    for i in 0..5 {
+        let path = if i % 2 == 0 { Path::A } else { Path::B };
+        assert_eq!(rt; reader.next(&mut buf), Ok(Turn::Datagram(path, 28)));
+        assert_eq!(rt; &buf[..28], octets.as_slice());
+    }
+    assert_eq!(rt; reader.next(&mut buf), Err(SourceFault::Content(5)));
+    assert_eq!(rt; reader.next(&mut buf), Err(SourceFault::Content(5)));
+    Ok(())
+}
+
+#[test]
+fn capture_receive(rt: HostRuntime) -> Result<(), Fail> {
+    let mut text = vec![in rt.alloc(); 0u8; 65535]?;
+    let mut buf = vec![in rt.alloc(); 0u8; 65535]?;
+    let format = Format::new(Sampling::Ycc422, Depth::D8, 4, 2, 60, 1).expect(&rt, "format");
+    let mut receiver = Receiver::open(rt.alloc(), format, 96, None, &[900]).expect(&rt, "opened");
+    let Ok(mut reader) = CaptureReader::open(source(&rt, OLD, 0, &[]), &mut text) else {
+        assert!(rt; false);
+        return Ok(());
+    };
+    let received = receive(&mut reader, &mut receiver, &mut buf, 10).expect(&rt, "received");
+    assert_eq!(rt; received.delivered, 1);
+    assert!(rt; received.ended);
+    if let Some(frame) = receiver.frame(900) {
+        assert_eq!(rt; frame.counts().present, 8);
+    }
+    assert_eq!(rt; reader.next(&mut buf), Ok(Turn::End));
+    Ok(())
+}

@@ -1,0 +1,5 @@
+//! The worked examples of captures. Tests alone.
+#![tactic(auto)]
+
+#[cfg(test)]
+mod captures;
