@@ -13,3 +13,4 @@ pub mod Splits
 pub mod Grouped
 pub mod Once
 pub mod Moved
+pub mod Blocked

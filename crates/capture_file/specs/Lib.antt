@@ -11,3 +11,4 @@ pub mod Runs
 pub mod Groups
 pub mod StateFile
 pub mod Migrated
+pub mod Blocks

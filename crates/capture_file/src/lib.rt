@@ -1,6 +1,7 @@
 //! Captures, pictures and receivers as files (own).
 #![tactic(auto)]
 
+mod block;
 mod capture;
 mod fault;
 mod front;
