@@ -9,12 +9,15 @@ use Rattle.std.proofs.lemmas.Nat.{be_bytes_2, be_bytes_8, from_be_bytes-to_be_by
 use Rattle.st_format.specs.declared.path.Path.{Path}
 use Rattle.st_format.specs.declared.path.Path.TheVariants.{A, B}
 use Rattle.capture_file.specs.declared.fault.FileFault.{FileFault}
-use Rattle.capture_file.specs.declared.fault.FileFault.TheVariants.{BadField, Truncated}
+use Rattle.capture_file.specs.declared.fault.FileFault.TheVariants.{NoMemory, Device, BadName, BadVersion, Truncated, BadField, TrailingBytes, MixedGroup, TooManyRecords}
 use Rattle.capture_file.specs.declared.front.Version.{Version}
 use Rattle.capture_file.specs.declared.front.Version.TheVariants.{One, Two}
 use Rattle.capture_file.specs.declared.record.RecordHead.{RecordHead}
-use Rattle.capture_file.specs.Capture.{Content, IsCapture, capture_at, capture_by, records_at}
-use Rattle.capture_file.specs.Fields.{◌>>=◌, field_at}
+use Rattle.capture_file.specs.Capture.{Content, IsCapture, capture_at, capture_by, capture_seen, records_at}
+use Rattle.capture_file.specs.Fields.{◌>>=◌, Fails, Gives, Leaves, field_at}
+use Rattle.capture_file.specs.Faults.{IfContent, IsMachine}
+use Rattle.capture_file.specs.declared.capture.Capture.{Capture}
+use Rattle.std.specs.Prelude.{IfOk, IfErr, MatchResult}
 use Rattle.capture_file.specs.Fronts.{HasFront, capture_name, counted_text, front_at, front_text, kind_at, kind_of, kind_text, text_at, text_by, version_text, with_rest}
 use Rattle.capture_file.specs.Reading.{entries_by, entries_in, entries_up_to, path_of, rest_at}
 use Rattle.capture_file.specs.Records.{AllFit, Entry, Fits, entry_of, path_octet, record_text, records_text, rest_text}
@@ -228,6 +231,9 @@ capture_again c octets limit is le =
     ∙ ap (λ (r : Result (List ℕ × List ℕ) FileFault). r >>= λ x. records_at limit x.1 >>= λ y. said x.0 y.0 y.1) (front_again is.version c.text (records_text c.records) is.front)
     ∙ ap (λ (r : Result (List Entry × List ℕ) FileFault). r >>= λ y. said c.text y.0 y.1) (records_again limit c.records is.fit le)
 
+abbrev failed : FileFault → Result (Content × List ℕ) FileFault
+failed f = Err f
+
 abbrev content_in : Content → Result (Content × List ℕ) FileFault → Content
 content_in c (Ok x) = x.0
 content_in c (Err f) = c
@@ -239,3 +245,30 @@ one c d octets p q =
     let b : capture_at limit octets ≡ said d.text d.records [] = capture_again d octets limit q (omega arith) in
     let same : said c.text c.records [] ≡ said d.text d.records [] = a ∙ b in
     ap (content_in c) same
+
+-- ---- what a reader of captures owes
+
+only_ok : (c d : Content) (limit : ℕ) (octets : List ℕ) (new : Option (List ℕ)) → capture_at limit octets ≡ Ok (c, []) → Leaves (capture_at limit octets) d new → d ≡ c
+only_ok c d limit octets None e p = absurd p
+only_ok c d limit octets (Some rest) e p = ap (content_in d) (sym p ∙ e)
+
+clash : (c : Content) (limit : ℕ) (octets : List ℕ) (f : FileFault) → capture_at limit octets ≡ Ok (c, []) → capture_at limit octets ≡ Err f → ⊥
+clash c limit octets f e p = let bad : said c.text c.records [] ≡ failed f = sym e ∙ p in absurd cc
+
+only_err : (c : Content) (limit : ℕ) (octets : List ℕ) (f : FileFault) → capture_at limit octets ≡ Ok (c, []) → IfContent f (capture_at limit octets ≡ Err f) → IsMachine f
+only_err c limit octets NoMemory e p = tt
+only_err c limit octets Device e p = tt
+only_err c limit octets BadName e p = clash c limit octets BadName e p
+only_err c limit octets BadVersion e p = clash c limit octets BadVersion e p
+only_err c limit octets Truncated e p = clash c limit octets Truncated e p
+only_err c limit octets BadField e p = clash c limit octets BadField e p
+only_err c limit octets TrailingBytes e p = clash c limit octets TrailingBytes e p
+only_err c limit octets MixedGroup e p = clash c limit octets MixedGroup e p
+only_err c limit octets TooManyRecords e p = clash c limit octets TooManyRecords e p
+
+pub only_read : {A : Type 0} (limit : ℕ) (old new : Option (List ℕ)) (r : Result (Capture A) FileFault) → IfOk r (λ v. Gives (capture_at limit) old new (capture_seen v)) → IfErr r (λ f. Fails (capture_at limit) old f)
+    → (c : Content) (octets : List ℕ) → old ≡ Some octets → IsCapture c octets → length c.records ≤ limit → MatchResult r (λ v. capture_seen v ≡ c) IsMachine
+only_read limit old new (Ok v) p q c octets told is le =
+    only_ok c (capture_seen v) limit octets new (capture_again c octets limit is le) (subst (λ (k : Option (List ℕ)). Gives (capture_at limit) k new (capture_seen v)) told p)
+only_read limit old new (Err f) p q c octets told is le =
+    only_err c limit octets f (capture_again c octets limit is le) (subst (λ (k : Option (List ℕ)). Fails (capture_at limit) k f) told q)

@@ -50,3 +50,9 @@ IsOfFront BadName = ⊤
 IsOfFront BadVersion = ⊤
 IsOfFront Truncated = ⊤
 IsOfFront _ = ⊥
+
+-- it is the memory's or the device's
+abbrev pub IsMachine : FileFault → Type 0
+IsMachine NoMemory = ⊤
+IsMachine Device = ⊤
+IsMachine _ = ⊥

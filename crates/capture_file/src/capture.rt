@@ -1,8 +1,8 @@
 //! A capture as one value.
-ghost use Rattle.std.specs.Prelude.{◌≡◌, ◌≤◌, length, map, vec_len, IfErr, IfOk};
+ghost use Rattle.std.specs.Prelude.{◌≡◌, ◌≤◌, ℕ, List, Some, length, map, vec_len, IfErr, IfOk, MatchResult};
 ghost use Rattle.std.specs.List.{All};
-ghost use Rattle.capture_file.specs.Capture.{capture_at, capture_seen, entry_seen, records_at};
-ghost use Rattle.capture_file.specs.Faults.{CountsDevice};
+ghost use Rattle.capture_file.specs.Capture.{Content, IsCapture, capture_at, capture_seen, entry_seen, records_at};
+ghost use Rattle.capture_file.specs.Faults.{CountsDevice, IsMachine};
 ghost use Rattle.capture_file.specs.Fields.{Fails, Gives};
 
 use crate::fault::FileFault;
@@ -31,6 +31,21 @@ pub struct Capture<A: Allocator = Global> {
 /// `BadName`, `BadVersion`, `Truncated`, `BadField`, or `TooManyRecords` where one octet was read behind the last
 /// record that the limit allows.
 pub fn read_capture<A: Allocator + Copy, S: ByteSource>(
+    alloc: A,
+    source: &mut S,
+    limit: u64,
+) -> Result<Capture<A>, FileFault>
+    ensures read { IfOk result (λ c. Gives (capture_at limit) (S.to_give source.old) (S.to_give source.new) (capture_seen c)) }
+    ensures fault { IfErr result (λ f. Fails (capture_at limit) (S.to_give source.old) f) }
+    ensures counted { CountsDevice (S.failures source.old) (S.failures source.new) result }
+    // What is a capture is read as what it says, unless the memory or the device fails.
+    ensures only { (c : Content) (octets : List ℕ) → S.to_give source.old ≡ Some octets → IsCapture c octets → length c.records ≤ limit
+        → MatchResult result (λ v. capture_seen v ≡ c) IsMachine }
+{
+    read_whole_capture(alloc, source, limit)
+}
+
+fn read_whole_capture<A: Allocator + Copy, S: ByteSource>(
     alloc: A,
     source: &mut S,
     limit: u64,
