@@ -14,3 +14,4 @@ pub mod Grouped
 pub mod Once
 pub mod Moved
 pub mod Blocked
+pub mod Found

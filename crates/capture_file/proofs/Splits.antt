@@ -70,7 +70,7 @@ head_spelled head moment count bytes ten m n =
     ∙ ap (λ (t : List ℕ). t ++ rest) (sym (be_bytes_8 (take 8 head) moment l8 (AreOctets-take 8 head bytes) m))
     ∙ ap (λ (t : List ℕ). to_be_bytes w64 moment ++ t) (sym (be_bytes_2 rest count l2 (AreOctets-drop 8 head bytes) (n ∙ ap (from_be_bytes w16) same)))
 
-below_16 : (bs : List ℕ) → AreOctets bs → from_be_bytes w16 bs < 2 ^ 16
+pub below_16 : (bs : List ℕ) → AreOctets bs → from_be_bytes w16 bs < 2 ^ 16
 below_16 bs h = omega (arith, h 0, h 1)
 
 below_64 : (bs : List ℕ) → AreOctets bs → from_be_bytes w64 bs < 2 ^ 64
@@ -117,13 +117,13 @@ cut = Err Truncated
 abbrev said : List ℕ → List Entry → List ℕ → Result (Content × List ℕ) FileFault
 said text es rest = Ok (record { text = text; records = es }, rest)
 
-AreOctets-back : (front rest : List ℕ) → AreOctets (front ++ rest) → AreOctets rest
+pub AreOctets-back : (front rest : List ℕ) → AreOctets (front ++ rest) → AreOctets rest
 AreOctets-back front rest h = subst AreOctets (drop_at front rest (length front) refl) (AreOctets-drop (length front) (front ++ rest) h)
 
 -- ---- runs
 
 -- an octet and what follows it
-AreOctets-tail : (x : ℕ) (xs : List ℕ) → AreOctets (x ∷ xs) → AreOctets xs
+pub AreOctets-tail : (x : ℕ) (xs : List ℕ) → AreOctets (x ∷ xs) → AreOctets xs
 AreOctets-tail x xs h i = h (suc i)
 
 abbrev Split : ℕ → List ℕ → Type 0

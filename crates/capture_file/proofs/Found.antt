@@ -1,0 +1,188 @@
+-- What is read as a capture is one.
+use Rattle.std.proofs.Common.{◌≡◌, ℕ, zero, suc, ◌+◌, ◌-◌, ◌^◌, ◌<◌, ◌≤◌, Bool, true, false, cond, ltb, List, [], ◌∷◌, ◌++◌, length, take, drop, Result, Ok, Err, append_assoc, append-nil, refl, sym, ap, ◌∙◌, subst, inl, inr, arith}
+use Rattle.std.specs.Prelude.{◌⊎◌, codes}
+use Rattle.std.specs.Int.{w16, from_be_bytes, to_be_bytes}
+use Rattle.std.specs.Str.{bytes_eq}
+use Rattle.std.proofs.lemmas.Bool.{ltb-false}
+use Rattle.std.proofs.lemmas.List.{length-take-le, take-append-drop}
+use Rattle.std.proofs.lemmas.Nat.{be_bytes_2}
+use Rattle.std.proofs.lemmas.Slice.Eq.{bytes_eq-Decides}
+use Rattle.capture_file.specs.declared.fault.FileFault.{FileFault}
+use Rattle.capture_file.specs.declared.fault.FileFault.TheVariants.{BadName, BadVersion, Truncated, TooManyRecords}
+use Rattle.capture_file.specs.declared.front.Version.{Version}
+use Rattle.capture_file.specs.declared.front.Version.TheVariants.{One, Two}
+use Rattle.capture_file.specs.Capture.{Content, IsCapture, capture_at, records_at}
+use Rattle.capture_file.specs.Fields.{◌>>=◌, field_at}
+use Rattle.capture_file.specs.Fronts.{HasFront, capture_name, counted_text, front_at, front_text, kind_at, kind_of, kind_text, text_at, text_by, version_of, with_rest}
+use Rattle.capture_file.specs.Reading.{rest_at}
+use Rattle.capture_file.specs.Records.{AllFit, Entry, Fits, path_octet, record_text, records_text, rest_text}
+use Rattle.capture_file.specs.Runs.{AreOctets}
+use Rattle.capture_file.proofs.Entries.{chosen}
+use Rattle.capture_file.proofs.Splits.{AreOctets-back, AreOctets-tail, AreOctets-take, below_16, rest_takes}
+
+abbrev failed : (B : Type 0) → FileFault → Result B FileFault
+failed B d = Err d
+
+abbrev given : {B : Type 0} → Result B FileFault → B → B
+given (Ok x) y = x
+given (Err d) y = y
+
+-- a reading that is followed by another
+record Then (A B : Type 0) (r : Result A FileFault) (f : A → Result B FileFault) (y : B) : Type 0 where
+  first : A
+  is : r ≡ Ok first
+  next : f first ≡ Ok y
+
+split_then : {A B : Type 0} (r : Result A FileFault) (f : A → Result B FileFault) (y : B) → (r >>= f) ≡ Ok y → Then A B r f y
+split_then (Ok x) f y e = record { first = x; is = refl; next = e }
+split_then {A} {B} (Err d) f y e = let bad : failed B d ≡ Ok y = e in absurd cc
+
+abbrev with_tail : Version → List ℕ → Result (Version × List ℕ) FileFault
+with_tail v rest = Ok (v, rest)
+
+abbrev more : Entry → List Entry × List ℕ → Result (List Entry × List ℕ) FileFault
+more e z = Ok (e ∷ z.0, z.1)
+
+abbrev whole : List ℕ → List Entry × List ℕ → Result (Content × List ℕ) FileFault
+whole text z = Ok (record { text = text; records = z.0 }, z.1)
+
+-- so many octets, cut off
+record Field (n : ℕ) (octets : List ℕ) (x : List ℕ × List ℕ) : Type 0 where
+  long : n ≤ length octets
+  front : take n octets ≡ x.0
+  rest : drop n octets ≡ x.1
+
+field_takes : (n : ℕ) (octets : List ℕ) (x : List ℕ × List ℕ) → field_at n octets ≡ Ok x → Field n octets x
+unfolding field_at
+field_takes n octets x e =
+    elim (chosen (ltb (length octets) n) (failed (List ℕ × List ℕ) Truncated) (Ok (take n octets, drop n octets)) (Ok x) e) [
+      inl w ↦ let bad : failed (List ℕ × List ℕ) Truncated ≡ Ok x = w.1 in absurd cc
+    | inr w ↦ let same : (take n octets, drop n octets) ≡ x = ap (λ (r : Result (List ℕ × List ℕ) FileFault). given r x) w.1 in
+      record { long = ltb-false (length octets) n w.0; front = ap (λ (p : List ℕ × List ℕ). p.0) same; rest = ap (λ (p : List ℕ × List ℕ). p.1) same }
+    ]
+
+-- the version of eight octets
+version_is : (x : List ℕ) (v : Version) → kind_of capture_name x ≡ Ok v → x ≡ kind_text capture_name v
+version_is x v e =
+    elim (chosen (bytes_eq (take 6 x) capture_name) (version_of (drop 6 x)) (failed Version BadName) (Ok v) e) [
+      inl w ↦
+      let name : take 6 x ≡ capture_name = (bytes_eq-Decides (take 6 x) capture_name).0 w.0 in
+      let start : x ≡ capture_name ++ drop 6 x = sym (take-append-drop 6 x) ∙ ap (λ (t : List ℕ). t ++ drop 6 x) name in
+      elim (chosen (bytes_eq (drop 6 x) (codes "01")) (Ok One) (cond (bytes_eq (drop 6 x) (codes "02")) (Ok Two) (failed Version BadVersion)) (Ok v) w.1) [
+        inl u ↦
+        let same : One ≡ v = ap (λ (r : Result Version FileFault). given r v) u.1 in
+        start ∙ ap (λ (t : List ℕ). capture_name ++ t) ((bytes_eq-Decides (drop 6 x) (codes "01")).0 u.0) ∙ ap (kind_text capture_name) same
+      | inr u ↦
+        elim (chosen (bytes_eq (drop 6 x) (codes "02")) (Ok Two) (failed Version BadVersion) (Ok v) u.1) [
+          inl t ↦
+          let same : Two ≡ v = ap (λ (r : Result Version FileFault). given r v) t.1 in
+          start ∙ ap (λ (k : List ℕ). capture_name ++ k) ((bytes_eq-Decides (drop 6 x) (codes "02")).0 t.0) ∙ ap (kind_text capture_name) same
+        | inr t ↦ let bad : failed Version BadVersion ≡ Ok v = t.1 in absurd cc
+        ]
+      ]
+    | inr w ↦ let bad : failed Version BadName ≡ Ok v = w.1 in absurd cc
+    ]
+
+kind_takes : (octets : List ℕ) (x : Version × List ℕ) → kind_at capture_name octets ≡ Ok x → octets ≡ kind_text capture_name x.0 ++ x.1
+unfolding kind_at
+kind_takes octets x e =
+    let a = split_then (field_at 8 octets) (λ y. with_rest (kind_of capture_name y.0) y.1) x e in
+    let b = split_then (kind_of capture_name a.first.0) (λ v. with_tail v a.first.1) x a.next in
+    let f = field_takes 8 octets a.first a.is in
+    let same : (b.first, a.first.1) ≡ x = ap (λ (r : Result (Version × List ℕ) FileFault). given r x) b.next in
+    sym (take-append-drop 8 octets) ∙ ap (λ (t : List ℕ). t ++ drop 8 octets) (f.front ∙ version_is a.first.0 b.first b.is)
+    ∙ ap (λ (t : List ℕ). kind_text capture_name b.first ++ t) f.rest
+    ∙ ap (λ (p : Version × List ℕ). kind_text capture_name p.0 ++ p.1) same
+
+record TakesText (octets : List ℕ) (x : List ℕ × List ℕ) : Type 0 where
+  fits : length x.0 < 2 ^ 16
+  text : octets ≡ counted_text x.0 ++ x.1
+
+text_takes : (octets : List ℕ) (x : List ℕ × List ℕ) → AreOctets octets → text_at octets ≡ Ok x → TakesText octets x
+unfolding text_at
+text_takes octets x bytes e =
+    let a = split_then (field_at 2 octets) (λ y. field_at (from_be_bytes w16 y.0) y.1) x e in
+    let f = field_takes 2 octets a.first a.is in
+    let n : ℕ = from_be_bytes w16 a.first.0 in
+    let g = field_takes n a.first.1 x a.next in
+    let two : AreOctets a.first.0 = subst AreOctets f.front (AreOctets-take 2 octets bytes) in
+    let len2 : length a.first.0 ≡ 2 = ap length (sym f.front) ∙ length-take-le 2 octets f.long in
+    let len : length x.0 ≡ n = ap length (sym g.front) ∙ length-take-le n a.first.1 g.long in
+    let count : to_be_bytes w16 (length x.0) ≡ a.first.0 = be_bytes_2 a.first.0 (length x.0) len2 two len in
+    record {
+      fits = subst (λ (k : ℕ). k < 2 ^ 16) (sym len) (below_16 a.first.0 two);
+      text = sym (take-append-drop 2 octets) ∙ ap (λ (t : List ℕ). t ++ drop 2 octets) (f.front ∙ sym count)
+        ∙ ap (λ (t : List ℕ). to_be_bytes w16 (length x.0) ++ t) (f.rest ∙ sym (take-append-drop n a.first.1) ∙ ap (λ (t : List ℕ). t ++ drop n a.first.1) g.front ∙ ap (λ (t : List ℕ). x.0 ++ t) g.rest);
+    }
+
+record TakesFront (octets : List ℕ) (x : List ℕ × List ℕ) : Type 0 where
+  version : Version
+  front : HasFront version x.0
+  text : octets ≡ front_text version x.0 ++ x.1
+
+front_by : (v : Version) (octets rest : List ℕ) (x : List ℕ × List ℕ) → AreOctets rest → octets ≡ kind_text capture_name v ++ rest → text_by v rest ≡ Ok x → TakesFront octets x
+front_by One octets rest x bytes p e =
+    let same : ([], rest) ≡ x = ap (λ (r : Result (List ℕ × List ℕ) FileFault). given r x) e in
+    record {
+      version = One;
+      front = sym (ap (λ (q : List ℕ × List ℕ). q.0) same);
+      text = p ∙ ap (λ (t : List ℕ). kind_text capture_name One ++ t) (ap (λ (q : List ℕ × List ℕ). q.1) same);
+    }
+front_by Two octets rest x bytes p e =
+    let t = text_takes rest x bytes e in
+    record { version = Two; front = t.fits; text = p ∙ ap (λ (k : List ℕ). kind_text capture_name Two ++ k) t.text }
+
+front_takes : (octets : List ℕ) (x : List ℕ × List ℕ) → AreOctets octets → front_at octets ≡ Ok x → TakesFront octets x
+unfolding front_at
+front_takes octets x bytes e =
+    let a = split_then (kind_at capture_name octets) (λ y. text_by y.0 y.1) x e in
+    let k = kind_takes octets a.first a.is in
+    front_by a.first.0 octets a.first.1 x (AreOctets-back (kind_text capture_name a.first.0) a.first.1 (subst AreOctets k bytes)) k a.next
+
+record TakesRecords (limit : ℕ) (octets : List ℕ) (x : List Entry × List ℕ) : Type 0 where
+  fit : AllFit x.0
+  few : length x.0 ≤ limit
+  text : octets ≡ records_text x.0
+  end : x.1 ≡ []
+
+no_more : (limit : ℕ) (x : List Entry × List ℕ) → ([], []) ≡ x → TakesRecords limit [] x
+no_more limit x same = subst (TakesRecords limit []) same (record { fit = tt; few = omega arith; text = refl; end = refl })
+
+records_takes : (limit : ℕ) (octets : List ℕ) (x : List Entry × List ℕ) → AreOctets octets → records_at limit octets ≡ Ok x → TakesRecords limit octets x
+unfolding records_at
+records_takes zero [] x bytes e = no_more zero x (ap (λ (r : Result (List Entry × List ℕ) FileFault). given r x) e)
+records_takes zero (first ∷ octets) x bytes e = let bad : failed (List Entry × List ℕ) TooManyRecords ≡ Ok x = e in absurd cc
+records_takes (suc limit) [] x bytes e = no_more (suc limit) x (ap (λ (r : Result (List Entry × List ℕ) FileFault). given r x) e)
+records_takes (suc limit) (first ∷ octets) x bytes e =
+    let a = split_then (rest_at first octets) (λ y. records_at limit y.1 >>= λ z. more y.0 z) x e in
+    let b = split_then (records_at limit a.first.1) (λ z. more a.first.0 z) x a.next in
+    let t = rest_takes first octets a.first (AreOctets-tail first octets bytes) a.is in
+    let rest : AreOctets a.first.1 = AreOctets-back (rest_text a.first.0) a.first.1 (subst AreOctets t.text (AreOctets-tail first octets bytes)) in
+    let r = records_takes limit a.first.1 b.first rest b.is in
+    let same : (a.first.0 ∷ b.first.0, b.first.1) ≡ x = ap (λ (q : Result (List Entry × List ℕ) FileFault). given q x) b.next in
+    subst (TakesRecords (suc limit) (first ∷ octets)) same (record {
+      fit = (t.fits, r.fit);
+      few = let h : length b.first.0 ≤ limit = r.few in omega (arith, h);
+      text = ap (λ (k : ℕ). k ∷ octets) t.first_is ∙ ap (λ (o : List ℕ). path_octet a.first.0.path ∷ o) (t.text ∙ ap (λ (o : List ℕ). rest_text a.first.0 ++ o) r.text);
+      end = r.end;
+    })
+
+-- What is read as a capture is one, all of it.
+pub record Found (limit : ℕ) (octets : List ℕ) (x : Content × List ℕ) : Type 0 where
+  pub is : IsCapture x.0 octets
+  pub few : length x.0.records ≤ limit
+  pub all : x.1 ≡ []
+
+pub capture_found : (limit : ℕ) (octets : List ℕ) (x : Content × List ℕ) → AreOctets octets → capture_at limit octets ≡ Ok x → Found limit octets x
+unfolding capture_at
+capture_found limit octets x bytes e =
+    let a = split_then (front_at octets) (λ y. records_at limit y.1 >>= λ z. whole y.0 z) x e in
+    let b = split_then (records_at limit a.first.1) (λ z. whole a.first.0 z) x a.next in
+    let t = front_takes octets a.first bytes a.is in
+    let r = records_takes limit a.first.1 b.first (AreOctets-back (front_text t.version a.first.0) a.first.1 (subst AreOctets t.text bytes)) b.is in
+    let same : (record { text = a.first.0; records = b.first.0 }, b.first.1) ≡ x = ap (λ (q : Result (Content × List ℕ) FileFault). given q x) b.next in
+    subst (Found limit octets) same (record {
+      is = record { version = t.version; front = t.front; fit = r.fit; whole = t.text ∙ ap (λ (o : List ℕ). front_text t.version a.first.0 ++ o) r.text };
+      few = r.few;
+      all = r.end;
+    })
