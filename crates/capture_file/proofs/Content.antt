@@ -1,5 +1,4 @@
 -- What is said of a fault only where it is the content's.
-use Rattle.std.specs.Prelude.{⊤}
 use Rattle.capture_file.specs.declared.fault.FileFault.{FileFault}
 use Rattle.capture_file.specs.declared.fault.FileFault.TheVariants.{NoMemory, Device, BadName, BadVersion, Truncated, BadField, TrailingBytes, MixedGroup, TooManyRecords}
 use Rattle.capture_file.specs.Faults.{IfContent}

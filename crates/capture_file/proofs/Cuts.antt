@@ -1,16 +1,15 @@
 -- The records of a text, and of a text that is cut.
-use Rattle.std.proofs.Common.{◌≡◌, ℕ, zero, suc, ◌+◌, ◌-◌, ◌^◌, ◌<◌, ◌≤◌, Bool, true, false, cond, eqb, ltb, List, [], ◌∷◌, ◌++◌, length, take, drop, Result, Ok, Err, append_assoc, append-nil, refl, sym, ap, ◌∙◌, subst, inl, inr, arith}
-use Rattle.std.specs.Int.{w16, w64, from_be_bytes, to_be_bytes}
-use Rattle.std.proofs.lemmas.Bool.{cases_lt, lt-ltb, le-ltb}
-use Rattle.std.proofs.lemmas.List.{length-append, length-take-le, take_at, drop_at, take-append-le}
+use Rattle.std.proofs.Common.{◌≡◌, ℕ, zero, suc, ◌+◌, ◌-◌, ◌<◌, Bool, true, cond, ltb, List, [], ◌∷◌, ◌++◌, length, take, drop, Result, Ok, Err, append_assoc, refl, ap, ◌∙◌, inl, inr, arith}
+use Rattle.std.specs.Int.{w16, w64, to_be_bytes}
+use Rattle.std.proofs.lemmas.Bool.{cases_lt, lt-ltb}
+use Rattle.std.proofs.lemmas.List.{length-append, length-take-le}
 use Rattle.std.proofs.Math.Seq.{take-append-add}
-use Rattle.std.proofs.lemmas.Nat.{from_be_bytes-to_be_bytes_2, from_be_bytes-to_be_bytes_8}
 use Rattle.capture_file.specs.declared.fault.FileFault.{FileFault}
 use Rattle.capture_file.specs.declared.fault.FileFault.TheVariants.{Truncated}
 use Rattle.capture_file.specs.declared.record.RecordHead.{RecordHead}
 use Rattle.capture_file.specs.Reading.{entries_by, entries_up_to, entries_in, head_at, octets_at, rest_at}
 use Rattle.capture_file.specs.Records.{AllFit, Entry, Fits, entry_of, path_octet, record_text, records_text, rest_text}
-use Rattle.capture_file.proofs.Dues.{entries_first, entries_none}
+use Rattle.capture_file.proofs.Dues.{entries_first}
 use Rattle.capture_file.proofs.Entries.{head_again, truncated}
 use Rattle.capture_file.proofs.Rests.{behind_head}
 
@@ -29,19 +28,19 @@ cut_rest e k fits lt =
     let part : List ℕ = take k (rest_text e) in
     let len : length part ≡ k = length-take-le k (rest_text e) (omega arith) in
     elim (cases_lt k 10) [
-      inl w ↦ ap (λ (b : Bool). cond b truncated (octets_at (head_at (path_octet e.path) (take 10 part)) (drop 10 part))) (lt-ltb (length part) 10 (omega arith))
-    | inr w ↦
-      let j : ℕ = k - 10 in
-      let cut : List ℕ = take j e.octets in
-      let all : rest_text e ≡ head ++ e.octets = refl in
-      let size : length (rest_text e) ≡ 10 + n = length-append head e.octets in
-      let whole : part ≡ head ++ cut = ap (λ (m : ℕ). take m (head ++ e.octets)) (let s : k ≡ 10 + j = omega arith in s) ∙ take-append-add head e.octets j in
-      let short : ltb (length cut) n ≡ true = lt-ltb (length cut) n (omega (arith, length-take-le j e.octets (omega arith))) in
-      let h : RecordHead = record { path = e.path; moment = e.moment; length = n } in
-      ap (rest_at (path_octet e.path)) whole
-      ∙ behind_head (path_octet e.path) head cut refl
-      ∙ ap (λ (r : Result RecordHead FileFault). octets_at r cut) (head_again e fits)
-      ∙ ap (λ (b : Bool). cond b truncated (Ok (entry_of h cut, drop n cut))) short
+      | inl w ↦ ap (λ (b : Bool). cond b truncated (octets_at (head_at (path_octet e.path) (take 10 part)) (drop 10 part))) (lt-ltb (length part) 10 (omega arith))
+      | inr w ↦
+          let j : ℕ = k - 10 in
+          let cut : List ℕ = take j e.octets in
+          let all : rest_text e ≡ head ++ e.octets = refl in
+          let size : length (rest_text e) ≡ 10 + n = length-append head e.octets in
+          let whole : part ≡ head ++ cut = ap (λ (m : ℕ). take m (head ++ e.octets)) (let s : k ≡ 10 + j = omega arith in s) ∙ take-append-add head e.octets j in
+          let short : ltb (length cut) n ≡ true = lt-ltb (length cut) n (omega (arith, length-take-le j e.octets (omega arith))) in
+          let h : RecordHead = record { path = e.path; moment = e.moment; length = n } in
+          ap (rest_at (path_octet e.path)) whole
+          ∙ behind_head (path_octet e.path) head cut refl
+          ∙ ap (λ (r : Result RecordHead FileFault). octets_at r cut) (head_again e fits)
+          ∙ ap (λ (b : Bool). cond b truncated (Ok (entry_of h cut, drop n cut))) short
     ]
 
 -- a record that is cut is none

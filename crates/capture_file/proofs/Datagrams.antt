@@ -1,10 +1,8 @@
 -- The datagrams that a writer's sink holds.
 use Rattle.std.proofs.Common.{◌≡◌, ℕ, ◌+◌, ◌-◌, ◌%◌, ◌^◌, ◌<◌, ◌≤◌, List, [], ◌∷◌, ◌++◌, length, take, drop, map, append_assoc, append-nil, refl, sym, ap, ◌∙◌, subst, inl, inr, lit<, arith}
 use Rattle.std.specs.List.{AllByRecursion}
-use Rattle.std.specs.Int.{w16, to_be_bytes}
 use Rattle.std.proofs.lemmas.Bool.{cases_lt}
 use Rattle.std.proofs.lemmas.List.{length-append, take-append-le, drop_at}
-use Rattle.std.proofs.lemmas.List.Concat.{flat_map-append}
 use Rattle.std.proofs.Math.Seq.{take-append-add}
 use Rattle.st_format.specs.declared.path.Path.TheVariants.{A, B}
 use Rattle.capture_file.specs.declared.paths.Paths.{Paths}
@@ -13,7 +11,7 @@ use Rattle.capture_file.specs.declared.front.Version.TheVariants.{Two}
 use Rattle.capture_file.specs.Fronts.{front_head, front_text}
 use Rattle.capture_file.specs.Reading.{entries_in}
 use Rattle.capture_file.specs.Records.{AllFit, Entry, Fits, record_text, records_text}
-use Rattle.capture_file.specs.Writer.{IsDatagram, IsWritten, datagrams_by, datagrams_in, entries_from, entries_of, entry, first_of_two, moment_after, moment_behind, width, written}
+use Rattle.capture_file.specs.Writer.{IsDatagram, IsWritten, datagrams_by, datagrams_in, entries_from, entries_of, entry, first_of_two, moment_after, moment_behind}
 use Rattle.capture_file.proofs.Cuts.{entries_front, entries_cut}
 use Rattle.capture_file.proofs.Written.{records_append}
 use Rattle.capture_file.proofs.Dues.{entries_first, entries_none}
@@ -66,17 +64,17 @@ tail_cut Both m d k lt fits short =
     let short2 : k < length (ta ++ tb) = subst (λ (t : List ℕ). k < length t) drops short in
     ap (λ (t : List ℕ). first_of_two (entries_in (take k t))) drops ∙
     elim (cases_lt k (length ta)) [
-      inl w ↦
-      let le : k ≤ length ta = omega (arith, w) in
-      ap (λ (t : List ℕ). first_of_two (entries_in t)) (take-append-le k ta tb le) ∙ ap first_of_two (entries_cut a k fa w)
-    | inr w ↦
-      let j : ℕ = k - length ta in
-      let is : k ≡ length ta + j = omega (arith, w) in
-      let fit : j < length tb = omega (arith, w, length-append ta tb) in
-      ap (λ (n : ℕ). first_of_two (entries_in (take n (ta ++ tb)))) is
-      ∙ ap (λ (t : List ℕ). first_of_two (entries_in t)) (take-append-add ta tb j)
-      ∙ ap first_of_two (entries_first a (take j tb) fa)
-      ∙ ap (λ (es : List Entry). first_of_two (a ∷ es)) (entries_cut b j fb fit)
+      | inl w ↦
+          let le : k ≤ length ta = omega (arith, w) in
+          ap (λ (t : List ℕ). first_of_two (entries_in t)) (take-append-le k ta tb le) ∙ ap first_of_two (entries_cut a k fa w)
+      | inr w ↦
+          let j : ℕ = k - length ta in
+          let is : k ≡ length ta + j = omega (arith, w) in
+          let fit : j < length tb = omega (arith, w, length-append ta tb) in
+          ap (λ (n : ℕ). first_of_two (entries_in (take n (ta ++ tb)))) is
+          ∙ ap (λ (t : List ℕ). first_of_two (entries_in t)) (take-append-add ta tb j)
+          ∙ ap first_of_two (entries_first a (take j tb) fa)
+          ∙ ap (λ (es : List Entry). first_of_two (a ∷ es)) (entries_cut b j fb fit)
     ]
 
 -- and of one that is whole
@@ -157,6 +155,6 @@ writes paths n m held d is fits =
       fit = datagrams_fit is.datagrams d is.fit fits;
       moment_is = moment_snoc paths 0 is.datagrams d ∙ ap (moment_behind paths) is.moment_is;
       whole = ap (λ (t : List ℕ). t ++ more) is.whole ∙ append_assoc front (records_text es) more
-        ∙ ap (λ (t : List ℕ). front ++ t) (sym (records_append es (entries_of paths m d))
+          ∙ ap (λ (t : List ℕ). front ++ t) (sym (records_append es (entries_of paths m d))
           ∙ ap (λ (q : ℕ). records_text (es ++ entries_of paths q d)) (sym is.moment_is) ∙ ap records_text (sym (snoc paths 0 is.datagrams d)));
     }

@@ -1,15 +1,15 @@
 -- The records at the front of octets, and the turns of a reader.
-use Rattle.std.proofs.Common.{◌≡◌, ℕ, zero, suc, ◌+◌, ◌-◌, ◌<◌, ◌≤◌, List, [], ◌∷◌, ◌++◌, length, take, drop, map, Option, None, Some, Result, Ok, Err, append_assoc, append-nil, refl, sym, ap, ◌∙◌, subst, arith}
+use Rattle.std.proofs.Common.{◌≡◌, ℕ, zero, suc, ◌≤◌, List, [], ◌∷◌, ◌++◌, length, map, Option, None, Some, Result, Ok, Err, refl, ap, ◌∙◌, arith}
 use Rattle.std.specs.Option.{option_map}
-use Rattle.std.specs.Io.KnownBytes.{Consumes, IsAtEnd}
+use Rattle.std.specs.Io.KnownBytes.{IsAtEnd}
 use Rattle.std.proofs.lemmas.List.{length-append}
-use Rattle.st_format.specs.Turns.{Due, Comes, GivesTurns, HasEnded}
+use Rattle.st_format.specs.Turns.{Comes, GivesTurns, HasEnded}
 use Rattle.capture_file.specs.declared.fault.FileFault.{FileFault}
 use Rattle.capture_file.specs.declared.reader.Standing.{Standing}
-use Rattle.capture_file.specs.declared.reader.Standing.TheVariants.{Reads, Ended, Failed}
+use Rattle.capture_file.specs.declared.reader.Standing.TheVariants.{Reads}
 use Rattle.capture_file.specs.Reader.{due_of, dues_in, turns_of}
 use Rattle.capture_file.specs.Reading.{entries_by, entries_up_to, entries_in, rest_at}
-use Rattle.capture_file.specs.Records.{Entry, Fits, path_octet, record_text, rest_text}
+use Rattle.capture_file.specs.Records.{Entry, Fits, record_text, rest_text}
 use Rattle.capture_file.specs.Source.{ReadsEnd, ReadsRecord}
 use Rattle.capture_file.proofs.Entries.{rest_again, rest_shrinks}
 

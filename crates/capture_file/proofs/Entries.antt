@@ -1,17 +1,17 @@
 -- What is read of a record is spelled so, and what is spelled so is read.
-use Rattle.std.proofs.Common.{◌≡◌, ℕ, zero, suc, ◌+◌, ◌-◌, ◌^◌, ◌<◌, ◌≤◌, Bool, true, false, cond, eqb, ltb, List, [], ◌∷◌, ◌++◌, length, get_or, take, drop, Option, None, Some, Result, Ok, Err, append_assoc, append-nil, refl, sym, ap, ◌∙◌, subst, inl, inr, arith}
+use Rattle.std.proofs.Common.{◌≡◌, ℕ, ◌≤◌, Bool, true, false, cond, ltb, List, ◌++◌, length, take, drop, Result, Ok, Err, refl, sym, ap, ◌∙◌, inl, inr, arith}
 use Rattle.std.specs.Prelude.{◌⊎◌}
 use Rattle.std.specs.Int.{w16, w64, from_be_bytes, to_be_bytes}
-use Rattle.std.proofs.lemmas.Bool.{ltb-true, ltb-false, lt-ltb, le-ltb, eqb-true}
-use Rattle.std.proofs.lemmas.List.{length-append, length-drop, length-take-le, take_all, take_at, drop_at, take-append-drop, get_or-take, get_or-drop}
-use Rattle.std.proofs.lemmas.Nat.{be_bytes_2, be_bytes_8, from_be_bytes-to_be_bytes_2, from_be_bytes-to_be_bytes_8}
+use Rattle.std.proofs.lemmas.Bool.{ltb-false, le-ltb}
+use Rattle.std.proofs.lemmas.List.{length-append, length-drop, take_at, drop_at}
+use Rattle.std.proofs.lemmas.Nat.{from_be_bytes-to_be_bytes_2, from_be_bytes-to_be_bytes_8}
 use Rattle.st_format.specs.declared.path.Path.{Path}
 use Rattle.st_format.specs.declared.path.Path.TheVariants.{A, B}
 use Rattle.capture_file.specs.declared.fault.FileFault.{FileFault}
-use Rattle.capture_file.specs.declared.fault.FileFault.TheVariants.{Truncated, BadField}
+use Rattle.capture_file.specs.declared.fault.FileFault.TheVariants.{Truncated}
 use Rattle.capture_file.specs.declared.record.RecordHead.{RecordHead}
 use Rattle.capture_file.specs.Reading.{path_of, head_by, head_at, octets_at, rest_at}
-use Rattle.capture_file.specs.Records.{Entry, Fits, entry_of, path_octet, record_text, rest_text}
+use Rattle.capture_file.specs.Records.{Entry, Fits, entry_of, path_octet, rest_text}
 use Rattle.capture_file.proofs.Rests.{behind_head}
 
 abbrev pub Read : Type 0
@@ -83,10 +83,10 @@ pub record OctetsRead (r : Result RecordHead FileFault) (octets : List ℕ) (x :
 pub octets_read : (r : Result RecordHead FileFault) (octets : List ℕ) (x : Entry × List ℕ) → octets_at r octets ≡ Ok x → OctetsRead r octets x
 octets_read (Ok h) octets x e =
     elim (chosen (ltb (length octets) h.length) truncated (Ok (entry_of h octets, drop h.length octets)) (Ok x) e) [
-      inl w ↦ let bad : truncated ≡ Ok x = w.1 in absurd cc
-    | inr w ↦
-      let same : ok_read (entry_of h octets) (drop h.length octets) ≡ Ok x = w.1 in
-      record { head = h; is = refl; long = ltb-false (length octets) h.length w.0; made = cc }
+      | inl w ↦ let bad : truncated ≡ Ok x = w.1 in absurd cc
+      | inr w ↦
+          let same : ok_read (entry_of h octets) (drop h.length octets) ≡ Ok x = w.1 in
+          record { head = h; is = refl; long = ltb-false (length octets) h.length w.0; made = cc }
     ]
 octets_read (Err f) octets x e = absurd cc
 
@@ -99,8 +99,8 @@ pub rest_read : (first : ℕ) (octets : List ℕ) (x : Entry × List ℕ) → re
 unfolding rest_at
 rest_read first octets x e =
     elim (chosen (ltb (length octets) 10) truncated (octets_at (head_at first (take 10 octets)) (drop 10 octets)) (Ok x) e) [
-      inl w ↦ let bad : truncated ≡ Ok x = w.1 in absurd cc
-    | inr w ↦ record { long = ltb-false (length octets) 10 w.0; parts = octets_read (head_at first (take 10 octets)) (drop 10 octets) x w.1 }
+      | inl w ↦ let bad : truncated ≡ Ok x = w.1 in absurd cc
+      | inr w ↦ record { long = ltb-false (length octets) 10 w.0; parts = octets_read (head_at first (take 10 octets)) (drop 10 octets) x w.1 }
     ]
 
 -- what is behind a record is no longer than the octets

@@ -1,21 +1,24 @@
 -- What is read as a capture is one.
-use Rattle.std.proofs.Common.{◌≡◌, ℕ, zero, suc, ◌+◌, ◌-◌, ◌^◌, ◌<◌, ◌≤◌, Bool, true, false, cond, ltb, List, [], ◌∷◌, ◌++◌, length, take, drop, Result, Ok, Err, append_assoc, append-nil, refl, sym, ap, ◌∙◌, subst, inl, inr, arith}
-use Rattle.std.specs.Prelude.{◌⊎◌, codes}
+use Rattle.std.proofs.Common.{◌≡◌, ℕ, zero, suc, ◌^◌, ◌<◌, ◌≤◌, cond, ltb, List, [], ◌∷◌, ◌++◌, length, take, drop, Result, Ok, Err, refl, sym, ap, ◌∙◌, subst, inl, inr, arith}
+use Rattle.std.specs.Prelude.{codes}
 use Rattle.std.specs.Int.{w16, from_be_bytes, to_be_bytes}
 use Rattle.std.specs.Str.{bytes_eq}
 use Rattle.std.proofs.lemmas.Bool.{ltb-false}
-use Rattle.std.proofs.lemmas.List.{length-take-le, take-append-drop}
+use Rattle.std.proofs.lemmas.List.{length-map, length-take-le, take-append-drop}
 use Rattle.std.proofs.lemmas.Nat.{be_bytes_2}
 use Rattle.std.proofs.lemmas.Slice.Eq.{bytes_eq-Decides}
 use Rattle.capture_file.specs.declared.fault.FileFault.{FileFault}
 use Rattle.capture_file.specs.declared.fault.FileFault.TheVariants.{BadName, BadVersion, Truncated, TooManyRecords}
 use Rattle.capture_file.specs.declared.front.Version.{Version}
 use Rattle.capture_file.specs.declared.front.Version.TheVariants.{One, Two}
-use Rattle.capture_file.specs.Capture.{Content, IsCapture, capture_at, records_at}
-use Rattle.capture_file.specs.Fields.{◌>>=◌, field_at}
+use Rattle.std.specs.Prelude.{Option, None, Some, IfOk, map}
+use Rattle.std.specs.Io.KnownBytes.{IsAtEnd}
+use Rattle.capture_file.specs.declared.capture.Capture.{Capture}
+use Rattle.capture_file.specs.Capture.{Content, IsCapture, capture_at, capture_seen, entry_seen, records_at}
+use Rattle.capture_file.specs.Fields.{◌>>=◌, Gives, Leaves, field_at}
 use Rattle.capture_file.specs.Fronts.{HasFront, capture_name, counted_text, front_at, front_text, kind_at, kind_of, kind_text, text_at, text_by, version_of, with_rest}
 use Rattle.capture_file.specs.Reading.{rest_at}
-use Rattle.capture_file.specs.Records.{AllFit, Entry, Fits, path_octet, record_text, records_text, rest_text}
+use Rattle.capture_file.specs.Records.{AllFit, Entry, path_octet, records_text, rest_text}
 use Rattle.capture_file.specs.Runs.{AreOctets}
 use Rattle.capture_file.proofs.Entries.{chosen}
 use Rattle.capture_file.proofs.Splits.{AreOctets-back, AreOctets-tail, AreOctets-take, below_16, rest_takes}
@@ -56,31 +59,31 @@ field_takes : (n : ℕ) (octets : List ℕ) (x : List ℕ × List ℕ) → field
 unfolding field_at
 field_takes n octets x e =
     elim (chosen (ltb (length octets) n) (failed (List ℕ × List ℕ) Truncated) (Ok (take n octets, drop n octets)) (Ok x) e) [
-      inl w ↦ let bad : failed (List ℕ × List ℕ) Truncated ≡ Ok x = w.1 in absurd cc
-    | inr w ↦ let same : (take n octets, drop n octets) ≡ x = ap (λ (r : Result (List ℕ × List ℕ) FileFault). given r x) w.1 in
-      record { long = ltb-false (length octets) n w.0; front = ap (λ (p : List ℕ × List ℕ). p.0) same; rest = ap (λ (p : List ℕ × List ℕ). p.1) same }
+      | inl w ↦ let bad : failed (List ℕ × List ℕ) Truncated ≡ Ok x = w.1 in absurd cc
+      | inr w ↦ let same : (take n octets, drop n octets) ≡ x = ap (λ (r : Result (List ℕ × List ℕ) FileFault). given r x) w.1 in
+          record { long = ltb-false (length octets) n w.0; front = ap (λ (p : List ℕ × List ℕ). p.0) same; rest = ap (λ (p : List ℕ × List ℕ). p.1) same }
     ]
 
 -- the version of eight octets
 version_is : (x : List ℕ) (v : Version) → kind_of capture_name x ≡ Ok v → x ≡ kind_text capture_name v
 version_is x v e =
     elim (chosen (bytes_eq (take 6 x) capture_name) (version_of (drop 6 x)) (failed Version BadName) (Ok v) e) [
-      inl w ↦
-      let name : take 6 x ≡ capture_name = (bytes_eq-Decides (take 6 x) capture_name).0 w.0 in
-      let start : x ≡ capture_name ++ drop 6 x = sym (take-append-drop 6 x) ∙ ap (λ (t : List ℕ). t ++ drop 6 x) name in
-      elim (chosen (bytes_eq (drop 6 x) (codes "01")) (Ok One) (cond (bytes_eq (drop 6 x) (codes "02")) (Ok Two) (failed Version BadVersion)) (Ok v) w.1) [
-        inl u ↦
-        let same : One ≡ v = ap (λ (r : Result Version FileFault). given r v) u.1 in
-        start ∙ ap (λ (t : List ℕ). capture_name ++ t) ((bytes_eq-Decides (drop 6 x) (codes "01")).0 u.0) ∙ ap (kind_text capture_name) same
-      | inr u ↦
-        elim (chosen (bytes_eq (drop 6 x) (codes "02")) (Ok Two) (failed Version BadVersion) (Ok v) u.1) [
-          inl t ↦
-          let same : Two ≡ v = ap (λ (r : Result Version FileFault). given r v) t.1 in
-          start ∙ ap (λ (k : List ℕ). capture_name ++ k) ((bytes_eq-Decides (drop 6 x) (codes "02")).0 t.0) ∙ ap (kind_text capture_name) same
-        | inr t ↦ let bad : failed Version BadVersion ≡ Ok v = t.1 in absurd cc
-        ]
-      ]
-    | inr w ↦ let bad : failed Version BadName ≡ Ok v = w.1 in absurd cc
+      | inl w ↦
+          let name : take 6 x ≡ capture_name = (bytes_eq-Decides (take 6 x) capture_name).0 w.0 in
+          let start : x ≡ capture_name ++ drop 6 x = sym (take-append-drop 6 x) ∙ ap (λ (t : List ℕ). t ++ drop 6 x) name in
+          elim (chosen (bytes_eq (drop 6 x) (codes "01")) (Ok One) (cond (bytes_eq (drop 6 x) (codes "02")) (Ok Two) (failed Version BadVersion)) (Ok v) w.1) [
+            | inl u ↦
+                let same : One ≡ v = ap (λ (r : Result Version FileFault). given r v) u.1 in
+                start ∙ ap (λ (t : List ℕ). capture_name ++ t) ((bytes_eq-Decides (drop 6 x) (codes "01")).0 u.0) ∙ ap (kind_text capture_name) same
+            | inr u ↦
+                elim (chosen (bytes_eq (drop 6 x) (codes "02")) (Ok Two) (failed Version BadVersion) (Ok v) u.1) [
+                  | inl t ↦
+                      let same : Two ≡ v = ap (λ (r : Result Version FileFault). given r v) t.1 in
+                      start ∙ ap (λ (k : List ℕ). capture_name ++ k) ((bytes_eq-Decides (drop 6 x) (codes "02")).0 t.0) ∙ ap (kind_text capture_name) same
+                  | inr t ↦ let bad : failed Version BadVersion ≡ Ok v = t.1 in absurd cc
+                ]
+          ]
+      | inr w ↦ let bad : failed Version BadName ≡ Ok v = w.1 in absurd cc
     ]
 
 kind_takes : (octets : List ℕ) (x : Version × List ℕ) → kind_at capture_name octets ≡ Ok x → octets ≡ kind_text capture_name x.0 ++ x.1
@@ -112,7 +115,7 @@ text_takes octets x bytes e =
     record {
       fits = subst (λ (k : ℕ). k < 2 ^ 16) (sym len) (below_16 a.first.0 two);
       text = sym (take-append-drop 2 octets) ∙ ap (λ (t : List ℕ). t ++ drop 2 octets) (f.front ∙ sym count)
-        ∙ ap (λ (t : List ℕ). to_be_bytes w16 (length x.0) ++ t) (f.rest ∙ sym (take-append-drop n a.first.1) ∙ ap (λ (t : List ℕ). t ++ drop n a.first.1) g.front ∙ ap (λ (t : List ℕ). x.0 ++ t) g.rest);
+          ∙ ap (λ (t : List ℕ). to_be_bytes w16 (length x.0) ++ t) (f.rest ∙ sym (take-append-drop n a.first.1) ∙ ap (λ (t : List ℕ). t ++ drop n a.first.1) g.front ∙ ap (λ (t : List ℕ). x.0 ++ t) g.rest);
     }
 
 record TakesFront (octets : List ℕ) (x : List ℕ × List ℕ) : Type 0 where
@@ -186,3 +189,16 @@ capture_found limit octets x bytes e =
       few = r.few;
       all = r.end;
     })
+
+found_by : {A : Type 0} (limit : ℕ) (octets : List ℕ) (new : Option (List ℕ)) (v : Capture A) → AreOctets octets → Leaves (capture_at limit octets) (capture_seen v) new → IsCapture (capture_seen v) octets × (length v.records.items ≤ limit) × IsAtEnd new
+found_by limit octets None v bytes p = absurd p
+found_by limit octets (Some rest) v bytes p =
+    let f = capture_found limit octets (capture_seen v, rest) bytes p in
+    let count : length (map entry_seen v.records.items) ≡ length v.records.items = length-map v.records.items entry_seen in
+    let few : length (map entry_seen v.records.items) ≤ limit = f.few in
+    (f.is, omega (arith, count, few), f.all)
+
+pub found_read : {A : Type 0} (limit : ℕ) (old new : Option (List ℕ)) (r : Result (Capture A) FileFault) → IfOk r (λ v. Gives (capture_at limit) old new (capture_seen v))
+    → IfOk r (λ v. (octets : List ℕ) → old ≡ Some octets → AreOctets octets → IsCapture (capture_seen v) octets × (length v.records.items ≤ limit) × IsAtEnd new)
+found_read limit old new (Ok v) p = λ octets told bytes. found_by limit octets new v bytes (subst (λ (k : Option (List ℕ)). Gives (capture_at limit) k new (capture_seen v)) told p)
+found_read limit old new (Err f) p = tt

@@ -1,5 +1,5 @@
 -- The front of a file, read from a source.
-use Rattle.std.proofs.Common.{◌≡◌, ℕ, List, [], Option, None, Some, Result, Ok, Err, refl, sym, ◌∙◌, subst}
+use Rattle.std.proofs.Common.{◌≡◌, ℕ, List, [], Option, None, Some, Result, Ok, Err, refl, sym, subst}
 use Rattle.std.specs.Prelude.{IfOk, IfErr, take}
 use Rattle.std.specs.Int.{w16, from_be_bytes}
 use Rattle.capture_file.specs.declared.fault.FileFault.{FileFault}

@@ -1,24 +1,24 @@
 -- What is written of a group is read as it.
-use Rattle.std.proofs.Common.{◌≡◌, ℕ, zero, suc, ◌+◌, ◌-◌, ◌*◌, ◌/◌, ◌%◌, ◌^◌, ◌<◌, ◌≤◌, Bool, true, false, cond, not, ◌&&◌, ◌||◌, eqb, ltb, List, [], ◌∷◌, ◌++◌, length, map, replicate, take, drop, Result, Ok, Err, append_assoc, refl, sym, ap, ◌∙◌, subst, inl, inr, arith}
-use Rattle.std.specs.Prelude.{⊤, ◌⊎◌}
+use Rattle.std.proofs.Common.{◌≡◌, ℕ, zero, suc, ◌+◌, ◌*◌, ◌/◌, ◌%◌, ◌^◌, ◌<◌, ◌≤◌, Bool, true, false, cond, not, ◌||◌, eqb, ltb, List, [], ◌∷◌, ◌++◌, length, map, replicate, Result, Ok, Err, append_assoc, refl, sym, ap, ◌∙◌, subst, inl, inr, arith}
+use Rattle.std.specs.Prelude.{◌⊎◌}
 use Rattle.std.specs.Int.{w16, from_be_bytes, to_be_bytes}
-use Rattle.std.specs.List.{AllByRecursion, flat_map, list_all}
+use Rattle.std.specs.List.{AllByRecursion, list_all}
 use Rattle.std.specs.Cmp.Derive.{both_true}
-use Rattle.std.proofs.lemmas.Bool.{eq-eqb, ne_eqb, lt-ltb, le-ltb}
-use Rattle.std.proofs.lemmas.List.{length-append, length-map, take_at, drop_at}
+use Rattle.std.proofs.lemmas.Bool.{eq-eqb, ne_eqb, lt-ltb}
+use Rattle.std.proofs.lemmas.List.{length-map}
 use Rattle.std.proofs.lemmas.Nat.{from_be_bytes-to_be_bytes_2, pow_pos}
 use Rattle.std.proofs.Math.Nat.{pow-suc}
 use Rattle.std.proofs.Math.Pow.{pow_mono}
 use Rattle.st_format.specs.declared.cell.Cell.{Cell}
 use Rattle.st_format.specs.declared.cell.Cell.TheVariants.{Missing, Value, Contested}
 use Rattle.st_format.specs.Cell.{is_missing}
-use Rattle.st_format.specs.Samples.{Spells, octets_in, values_in}
+use Rattle.st_format.specs.Samples.{octets_in, values_in}
 use Rattle.st_format.proofs.Spelled.{values_in-spelled}
 use Rattle.st_format.proofs.SpelledOctets.{Spells-octets_in, length-octets_in}
 use Rattle.capture_file.specs.declared.fault.FileFault.{FileFault}
-use Rattle.capture_file.specs.declared.fault.FileFault.TheVariants.{BadField, MixedGroup, Truncated}
+use Rattle.capture_file.specs.declared.fault.FileFault.TheVariants.{BadField, MixedGroup}
 use Rattle.capture_file.specs.Fields.{◌>>=◌, field_at}
-use Rattle.capture_file.specs.Groups.{IsGroup, IsHad, IsShape, Shape, are_zeroed, cells_by, contested_bit, group_at, group_text, groups_at, groups_text, mask_of, mixed_by, samples_text, value_or_0}
+use Rattle.capture_file.specs.Groups.{IsGroup, IsHad, IsShape, Shape, are_zeroed, cells_by, group_at, group_text, groups_at, groups_text, mask_of, mixed_by, samples_text, value_or_0}
 use Rattle.capture_file.proofs.Splits.{field_again}
 
 abbrev Cells : Type 0
@@ -161,10 +161,10 @@ group_had s cs rest is whole had =
     let start : group_at s (group_text s cs ++ rest) ≡ group_at s (cond (eqb (mask_of cs) 0) (1 ∷ samples_text s cs) (2 ∷ (to_be_bytes w16 (mask_of cs) ++ samples_text s cs)) ++ rest) =
     ap (λ (b : Bool). group_at s (cond b (0 ∷ []) (cond (eqb (mask_of cs) 0) (1 ∷ samples_text s cs) (2 ∷ (to_be_bytes w16 (mask_of cs) ++ samples_text s cs))) ++ rest)) told in
     elim (cases_zero (mask_of cs)) [
-      inl none ↦ start ∙ ap (λ (b : Bool). group_at s (cond b (1 ∷ samples_text s cs) (2 ∷ (to_be_bytes w16 (mask_of cs) ++ samples_text s cs)) ++ rest)) (eq-eqb (mask_of cs) 0 none)
-      ∙ plain_group s cs rest is whole had none
-    | inr some ↦ start ∙ ap (λ (b : Bool). group_at s (cond b (1 ∷ samples_text s cs) (2 ∷ (to_be_bytes w16 (mask_of cs) ++ samples_text s cs)) ++ rest)) (ne_eqb (mask_of cs) 0 some)
-      ∙ mixed_group s cs rest is whole had some
+      | inl none ↦ start ∙ ap (λ (b : Bool). group_at s (cond b (1 ∷ samples_text s cs) (2 ∷ (to_be_bytes w16 (mask_of cs) ++ samples_text s cs)) ++ rest)) (eq-eqb (mask_of cs) 0 none)
+          ∙ plain_group s cs rest is whole had none
+      | inr some ↦ start ∙ ap (λ (b : Bool). group_at s (cond b (1 ∷ samples_text s cs) (2 ∷ (to_be_bytes w16 (mask_of cs) ++ samples_text s cs)) ++ rest)) (ne_eqb (mask_of cs) 0 some)
+          ∙ mixed_group s cs rest is whole had some
     ]
 
 group_gone : (s : Shape) (rest : List ℕ) → group_at s (group_text s (replicate s.samples Missing) ++ rest) ≡ Ok (replicate s.samples Missing, rest)
@@ -177,8 +177,8 @@ group_gone s rest =
 pub group_again : (s : Shape) (cs : List Cell) (rest : List ℕ) → IsShape s → IsGroup s cs → group_at s (group_text s cs ++ rest) ≡ Ok (cs, rest)
 group_again s cs rest is g =
     elim g.alike [
-      inl gone ↦ ap (λ (xs : List Cell). group_at s (group_text s xs ++ rest)) gone ∙ group_gone s rest ∙ ap (λ (xs : List Cell). ok_cells xs rest) (sym gone)
-    | inr had ↦ group_had s cs rest is g.whole had
+      | inl gone ↦ ap (λ (xs : List Cell). group_at s (group_text s xs ++ rest)) gone ∙ group_gone s rest ∙ ap (λ (xs : List Cell). ok_cells xs rest) (sym gone)
+      | inr had ↦ group_had s cs rest is g.whole had
     ]
 
 abbrev Many : Type 0

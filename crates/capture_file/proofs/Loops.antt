@@ -1,17 +1,16 @@
 -- A loop that reads records up to the end.
-use Rattle.std.proofs.Common.{◌≡◌, ℕ, zero, suc, ◌+◌, ◌-◌, ◌<◌, ◌≤◌, List, [], ◌∷◌, ◌++◌, length, take, drop, map, Option, None, Some, Result, Ok, Err, append_assoc, append-nil, refl, sym, ap, ◌∙◌, subst, arith}
+use Rattle.std.proofs.Common.{◌≡◌, ℕ, zero, suc, ◌-◌, List, [], ◌∷◌, ◌++◌, Option, None, Some, Result, Ok, Err, append_assoc, append-nil, refl, sym, ap, ◌∙◌, subst, arith}
 use Rattle.std.specs.Prelude.{⊤}
 use Rattle.std.specs.Io.KnownBytes.{Consumes, IsAtEnd}
 use Rattle.capture_file.specs.declared.fault.FileFault.{FileFault}
 use Rattle.capture_file.specs.declared.fault.FileFault.TheVariants.{NoMemory, Device, TooManyRecords}
 use Rattle.capture_file.specs.Capture.{Content, capture_at, records_at}
-use Rattle.capture_file.specs.Faults.{IfContent}
-use Rattle.capture_file.specs.Fields.{◌>>=◌, Leaves, Gives, Fails}
+use Rattle.capture_file.specs.Fields.{◌>>=◌, Gives, Fails}
 use Rattle.capture_file.specs.Fronts.{front_at}
 use Rattle.capture_file.specs.Reading.{rest_at}
 use Rattle.capture_file.specs.Records.{Entry, Fits, path_octet, rest_text}
 use Rattle.capture_file.specs.Source.{FailsRest, ReadsRest}
-use Rattle.capture_file.proofs.Content.{if_content, if_content_weaker}
+use Rattle.capture_file.proofs.Content.{if_content_weaker}
 use Rattle.capture_file.proofs.Entries.{rest_again}
 use Rattle.capture_file.proofs.Parsing.{gives_then, fails_first, fails_then}
 

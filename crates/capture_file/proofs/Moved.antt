@@ -1,5 +1,5 @@
 -- A loop that moves records from a source to a sink.
-use Rattle.std.proofs.Common.{◌≡◌, ℕ, suc, ◌+◌, ◌-◌, ◌<◌, ◌≤◌, List, [], ◌∷◌, ◌++◌, length, Option, None, Some, append_assoc, append-nil, refl, sym, ap, ◌∙◌, subst, inl, inr, arith}
+use Rattle.std.proofs.Common.{◌≡◌, ℕ, ◌+◌, ◌-◌, List, [], ◌∷◌, ◌++◌, length, Option, None, Some, append_assoc, append-nil, refl, sym, ap, ◌∙◌, subst, inl, inr, arith}
 use Rattle.std.specs.Prelude.{◌⊎◌}
 use Rattle.std.specs.Io.KnownBytes.{Appends, Consumes, IsAtEnd}
 use Rattle.std.proofs.KnownBytes.{Appends-nil, Appends-trans, Consumes-nil, Consumes-trans}
@@ -17,7 +17,7 @@ use Rattle.capture_file.specs.declared.front.Version.TheVariants.{One, Two}
 use Rattle.capture_file.specs.Fields.{◌>>=◌, Fails, Gives, field_at}
 use Rattle.capture_file.specs.Fronts.{capture_name, front_text, kind_at, kind_of, kind_text, version_of, with_rest}
 use Rattle.capture_file.specs.Migrated.{BeginsWith, Migrated, MovesAll, MovesSome, Stopped, old_at, old_by}
-use Rattle.capture_file.specs.Records.{Entry, path_octet, record_text, records_text, rest_text}
+use Rattle.capture_file.specs.Records.{Entry, record_text, records_text, rest_text}
 use Rattle.capture_file.specs.Source.{IfTold, ReadsRest}
 use Rattle.capture_file.proofs.Loops.{GoesOn, goes_on_end, goes_on_first, goes_on_more, one_less}
 use Rattle.capture_file.proofs.Parsing.{fails_first, fails_then, gives_then}
@@ -150,26 +150,26 @@ kind_rest (Err f) = []
 kind_by : (x rest r : List ℕ) → with_rest (kind_of capture_name x) rest ≡ kind One r → (x ≡ kind_text capture_name One) × (rest ≡ r)
 kind_by x rest r e =
     elim (chosen_with (bytes_eq (take 6 x) capture_name) (version_of (drop 6 x)) (Err BadName) rest (kind One r) e) [
-      inl w ↦
-      elim (chosen_with (bytes_eq (drop 6 x) (codes "01")) (Ok One) (cond (bytes_eq (drop 6 x) (codes "02")) (Ok Two) (Err BadVersion)) rest (kind One r) w.1) [
-        inl v ↦
-        let name : take 6 x ≡ capture_name = (bytes_eq-Decides (take 6 x) capture_name).0 w.0 in
-        let digits : drop 6 x ≡ codes "01" = (bytes_eq-Decides (drop 6 x) (codes "01")).0 v.0 in
-        (sym (take-append-drop 6 x) ∙ ap (λ (t : List ℕ). t ++ drop 6 x) name ∙ ap (λ (t : List ℕ). capture_name ++ t) digits, ap kind_rest v.1)
-      | inr v ↦ elim (chosen_with (bytes_eq (drop 6 x) (codes "02")) (Ok Two) (Err BadVersion) rest (kind One r) v.1) [
-          inl u ↦ let bad : kind Two rest ≡ kind One r = u.1 in absurd (two_one 2 refl (ap is_two bad))
-        | inr u ↦ let bad : no_kind BadVersion ≡ kind One r = u.1 in absurd cc
-        ]
-      ]
-    | inr w ↦ let bad : no_kind BadName ≡ kind One r = w.1 in absurd cc
+      | inl w ↦
+          elim (chosen_with (bytes_eq (drop 6 x) (codes "01")) (Ok One) (cond (bytes_eq (drop 6 x) (codes "02")) (Ok Two) (Err BadVersion)) rest (kind One r) w.1) [
+            | inl v ↦
+                let name : take 6 x ≡ capture_name = (bytes_eq-Decides (take 6 x) capture_name).0 w.0 in
+                let digits : drop 6 x ≡ codes "01" = (bytes_eq-Decides (drop 6 x) (codes "01")).0 v.0 in
+                (sym (take-append-drop 6 x) ∙ ap (λ (t : List ℕ). t ++ drop 6 x) name ∙ ap (λ (t : List ℕ). capture_name ++ t) digits, ap kind_rest v.1)
+            | inr v ↦ elim (chosen_with (bytes_eq (drop 6 x) (codes "02")) (Ok Two) (Err BadVersion) rest (kind One r) v.1) [
+              | inl u ↦ let bad : kind Two rest ≡ kind One r = u.1 in absurd (two_one 2 refl (ap is_two bad))
+              | inr u ↦ let bad : no_kind BadVersion ≡ kind One r = u.1 in absurd cc
+            ]
+          ]
+      | inr w ↦ let bad : no_kind BadName ≡ kind One r = w.1 in absurd cc
     ]
 
 kind_spelled : (o rest : List ℕ) → kind_at capture_name o ≡ Ok (One, rest) → o ≡ kind_text capture_name One ++ rest
 unfolding kind_at field_at
 kind_spelled o rest e =
     elim (chosen_then (ltb (length o) 8) o (kind One rest) e) [
-      inl w ↦ let bad : no_kind Truncated ≡ kind One rest = w in absurd cc
-    | inr w ↦ let p = kind_by (take 8 o) (drop 8 o) rest w in sym (take-append-drop 8 o) ∙ ap (λ (t : List ℕ). t ++ drop 8 o) p.0 ∙ ap (λ (t : List ℕ). kind_text capture_name One ++ t) p.1
+      | inl w ↦ let bad : no_kind Truncated ≡ kind One rest = w in absurd cc
+      | inr w ↦ let p = kind_by (take 8 o) (drop 8 o) rest w in sym (take-append-drop 8 o) ∙ ap (λ (t : List ℕ). t ++ drop 8 o) p.0 ∙ ap (λ (t : List ℕ). kind_text capture_name One ++ t) p.1
     ]
 
 front_first : (old mid : Option (List ℕ)) (text : List ℕ) → Gives (kind_at capture_name) old mid One → IfTold mid (BeginsWith text) → IfTold old (BeginsWith (kind_text capture_name One ++ text))

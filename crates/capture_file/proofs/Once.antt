@@ -1,5 +1,5 @@
 -- A receiver has one file.
-use Rattle.std.proofs.Common.{◌≡◌, ℕ, zero, suc, ◌+◌, ◌*◌, ◌^◌, ◌<◌, ◌≤◌, List, [], ◌∷◌, ◌++◌, length, take, drop, Option, None, Some, Result, Ok, Err, append_assoc, append-nil, refl, sym, ap, ◌∙◌, subst, arith}
+use Rattle.std.proofs.Common.{◌≡◌, ℕ, ◌^◌, ◌<◌, List, [], ◌∷◌, ◌++◌, length, take, drop, Option, None, Some, Result, Ok, Err, append_assoc, refl, sym, ap, ◌∙◌, subst, arith}
 use Rattle.std.specs.Int.{w16, w32, from_be_bytes, to_be_bytes}
 use Rattle.std.specs.List.{AllByRecursion, flat_map}
 use Rattle.std.proofs.lemmas.List.{length-append, take_at, drop_at}
@@ -15,7 +15,7 @@ use Rattle.capture_file.specs.declared.fault.FileFault.{FileFault}
 use Rattle.capture_file.specs.declared.front.Version.TheVariants.{One}
 use Rattle.capture_file.specs.Fronts.{kind_text, receiver_name}
 use Rattle.capture_file.specs.Groups.{IsGroup, IsShape, Shape, groups_at, groups_text, shape_of}
-use Rattle.capture_file.specs.StateFile.{HasRoom, Held, IsHeld, IsKept, Kept, SsrcFits, format_text, group_count, held_text, opening_text, sampling_code, ssrc_text, state_text}
+use Rattle.capture_file.specs.StateFile.{HasRoom, Held, IsHeld, IsKept, Kept, SsrcFits, format_text, held_text, opening_text, sampling_code, ssrc_text, state_text}
 use Rattle.capture_file.proofs.Grouped.{groups_again}
 
 record Both (xs ys a b : List ℕ) : Type 0 where
@@ -107,7 +107,7 @@ frames_once f (h ∷ hs) (j ∷ js) p q len e =
     let a : List ℕ = flat_map (held_text f) hs in
     let b : List ℕ = flat_map (held_text f) js in
     let first = cut_both 4 (to_be_bytes w32 h.timestamp) (to_be_bytes w32 j.timestamp) (groups_text s h.groups ++ a) (groups_text s j.groups ++ b) refl refl
-      (sym (append_assoc (to_be_bytes w32 h.timestamp) (groups_text s h.groups) a) ∙ e ∙ append_assoc (to_be_bytes w32 j.timestamp) (groups_text s j.groups) b) in
+    (sym (append_assoc (to_be_bytes w32 h.timestamp) (groups_text s h.groups) a) ∙ e ∙ append_assoc (to_be_bytes w32 j.timestamp) (groups_text s j.groups) b) in
     let ts : h.timestamp ≡ j.timestamp = once_32 h.timestamp j.timestamp p.0.timestamp q.0.timestamp first.front in
     let both : read h.groups a ≡ read j.groups b = groups_once s h.groups j.groups a b (shape_is f.sampling f.depth) p.0.groups q.0.groups (p.0.count ∙ sym q.0.count) first.rest in
     let gs : h.groups ≡ j.groups = ap groups_in both in

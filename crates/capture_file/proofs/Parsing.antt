@@ -1,12 +1,10 @@
 -- One reading after another.
-use Rattle.std.proofs.Common.{◌≡◌, ℕ, ◌<◌, ◌≤◌, Bool, true, false, cond, ltb, List, [], ◌∷◌, ◌++◌, length, take, drop, Option, None, Some, Result, Ok, Err, append-nil, refl, sym, ap, ◌∙◌, subst, arith}
-use Rattle.std.specs.Prelude.{⊤}
+use Rattle.std.proofs.Common.{◌≡◌, ℕ, ◌<◌, Bool, false, cond, ltb, List, ◌++◌, length, take, drop, Option, None, Some, Result, Ok, Err, append-nil, sym, ap, ◌∙◌, subst, arith}
 use Rattle.std.specs.Io.KnownBytes.{Consumes, IsAtEnd}
 use Rattle.std.proofs.lemmas.Bool.{lt-ltb, le-ltb}
 use Rattle.std.proofs.lemmas.List.{length-append, take_at, drop_at}
 use Rattle.capture_file.specs.declared.fault.FileFault.{FileFault}
 use Rattle.capture_file.specs.declared.fault.FileFault.TheVariants.{Truncated}
-use Rattle.capture_file.specs.Faults.{IfContent}
 use Rattle.capture_file.specs.Fields.{◌>>=◌, field_at, Leaves, Gives, Fails}
 use Rattle.capture_file.specs.Fronts.{with_rest}
 use Rattle.capture_file.proofs.Content.{if_content, if_content_weaker}

@@ -1,16 +1,14 @@
 -- The rest of a record, read from a source.
-use Rattle.std.proofs.Common.{◌≡◌, ℕ, ◌+◌, ◌-◌, ◌^◌, ◌<◌, ◌≤◌, Bool, true, false, cond, eqb, ltb, List, [], ◌∷◌, ◌++◌, length, get_or, take, drop, Option, None, Some, Result, Ok, Err, append_assoc, append-nil, refl, sym, ap, ◌∙◌, subst, arith}
+use Rattle.std.proofs.Common.{◌≡◌, ℕ, ◌<◌, ◌≤◌, Bool, true, false, cond, ltb, List, [], ◌∷◌, ◌++◌, length, take, drop, Option, None, Some, Result, Ok, Err, append-nil, sym, ap, ◌∙◌, subst, arith}
 use Rattle.std.specs.Prelude.{⊤}
-use Rattle.std.specs.Int.{w16, w64, from_be_bytes, to_be_bytes}
 use Rattle.std.specs.Io.KnownBytes.{Consumes, IsAtEnd}
-use Rattle.std.proofs.KnownBytes.{Consumes-trans}
 use Rattle.std.proofs.lemmas.Bool.{lt-ltb, le-ltb}
-use Rattle.std.proofs.lemmas.List.{length-append, length-take-le, take_all, take_at, drop_at}
+use Rattle.std.proofs.lemmas.List.{length-append, take_all, take_at, drop_at}
 use Rattle.capture_file.specs.declared.fault.FileFault.{FileFault}
-use Rattle.capture_file.specs.declared.fault.FileFault.TheVariants.{NoMemory, Device, BadName, BadVersion, Truncated, BadField, TrailingBytes, MixedGroup, TooManyRecords}
+use Rattle.capture_file.specs.declared.fault.FileFault.TheVariants.{Truncated, BadField}
 use Rattle.capture_file.specs.declared.record.RecordHead.{RecordHead}
 use Rattle.capture_file.specs.Reading.{fault_at, fault_by, head_at, octets_at, rest_at}
-use Rattle.capture_file.specs.Records.{Entry, Fits, IsHead, entry_of, path_octet, rest_text}
+use Rattle.capture_file.specs.Records.{Entry, entry_of}
 use Rattle.capture_file.specs.Faults.{IfContent}
 use Rattle.capture_file.proofs.Content.{if_content, if_content_weaker}
 use Rattle.capture_file.specs.Source.{FailsRecord, FailsRest, IsOfRecord}
@@ -65,7 +63,7 @@ cut_octets first (Some o) (Some m) (Some rest) head given h p ten is q e lt =
     record {
       named = tt;
       content = ap (rest_at first) p ∙ behind_head first head m ten ∙ ap (λ (r : Result RecordHead FileFault). octets_at r m) is
-      ∙ ap (λ (b : Bool). cond b truncated (Ok (entry_of h m, drop h.length m))) short;
+          ∙ ap (λ (b : Bool). cond b truncated (Ok (entry_of h m, drop h.length m))) short;
     }
 
 -- what is wrong behind an octet is wrong at the front of it and them

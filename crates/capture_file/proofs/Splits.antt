@@ -1,8 +1,6 @@
 -- Octets and the records that they spell.
-use Rattle.std.proofs.Common.{◌≡◌, ℕ, zero, suc, ◌+◌, ◌-◌, ◌%◌, ◌^◌, ◌<◌, ◌≤◌, Bool, true, false, cond, eqb, ltb, List, [], ◌∷◌, ◌++◌, length, get_or, take, drop, map, Option, None, Some, Result, Ok, Err, append_assoc, append-nil, refl, sym, ap, ◌∙◌, subst, inl, inr, arith}
-use Rattle.std.specs.Prelude.{◌⊎◌}
+use Rattle.std.proofs.Common.{◌≡◌, ℕ, zero, suc, ◌+◌, ◌^◌, ◌<◌, ◌≤◌, Bool, false, cond, eqb, ltb, List, [], ◌∷◌, ◌++◌, length, take, drop, Option, None, Some, Result, Ok, Err, append_assoc, append-nil, refl, sym, ap, ◌∙◌, subst, inl, inr, arith}
 use Rattle.std.specs.Int.{w16, w64, from_be_bytes, to_be_bytes}
-use Rattle.std.specs.Str.{bytes_eq}
 use Rattle.std.proofs.lemmas.Bool.{cases_lt, eqb-true, le-ltb}
 use Rattle.std.proofs.lemmas.List.{length-append, length-drop, length-take, length-take-le, take-append-drop, get_or-take, get_or-drop, get_or_past, take_at, drop_at, take_all}
 use Rattle.std.proofs.lemmas.Nat.{be_bytes_2, be_bytes_8, from_be_bytes-to_be_bytes_2}
@@ -13,18 +11,17 @@ use Rattle.capture_file.specs.declared.fault.FileFault.TheVariants.{NoMemory, De
 use Rattle.capture_file.specs.declared.front.Version.{Version}
 use Rattle.capture_file.specs.declared.front.Version.TheVariants.{One, Two}
 use Rattle.capture_file.specs.declared.record.RecordHead.{RecordHead}
-use Rattle.capture_file.specs.Capture.{Content, IsCapture, capture_at, capture_by, capture_seen, records_at}
+use Rattle.capture_file.specs.Capture.{Content, IsCapture, capture_at, capture_seen, records_at}
 use Rattle.capture_file.specs.Fields.{◌>>=◌, Fails, Gives, Leaves, field_at}
 use Rattle.capture_file.specs.Faults.{IfContent, IsMachine}
 use Rattle.capture_file.specs.declared.capture.Capture.{Capture}
 use Rattle.std.specs.Prelude.{IfOk, IfErr, MatchResult}
-use Rattle.capture_file.specs.Fronts.{HasFront, capture_name, counted_text, front_at, front_text, kind_at, kind_of, kind_text, text_at, text_by, version_text, with_rest}
+use Rattle.capture_file.specs.Fronts.{HasFront, capture_name, counted_text, front_at, front_text, kind_at, kind_of, kind_text, text_at, text_by, with_rest}
 use Rattle.capture_file.specs.Reading.{entries_by, entries_in, entries_up_to, path_of, rest_at}
 use Rattle.capture_file.specs.Records.{AllFit, Entry, Fits, entry_of, path_octet, record_text, records_text, rest_text}
 use Rattle.capture_file.specs.Runs.{AreOctets, HasNoRecord, IsRun}
 use Rattle.capture_file.proofs.Cuts.{entries_front}
-use Rattle.capture_file.proofs.Dues.{entries_first, entries_none}
-use Rattle.capture_file.proofs.Entries.{chosen, head_read, rest_again, rest_read, rest_shrinks, octets_read}
+use Rattle.capture_file.proofs.Entries.{chosen, head_read, rest_again, rest_read, rest_shrinks}
 
 pub AreOctets-drop : (n : ℕ) (bytes : List ℕ) → AreOctets bytes → AreOctets (drop n bytes)
 AreOctets-drop n bytes h i = rw get_or-drop (h (n + i))
@@ -46,10 +43,10 @@ no_path = Err BadField
 path_read : (first : ℕ) (p : Path) → path_of first ≡ Ok p → first ≡ path_octet p
 path_read first p e =
     elim (chosen (eqb first 0) (ok_path A) (cond (eqb first 1) (Ok B) (Err BadField)) (Ok p) e) [
-      inl w ↦ let f : first ≡ 0 = eqb-true first 0 w.0 in let same : ok_path A ≡ ok_path p = w.1 in let q : A ≡ p = cc in f ∙ ap path_octet q
-    | inr w ↦ elim (chosen (eqb first 1) (ok_path B) (Err BadField) (Ok p) w.1) [
-        inl v ↦ let f : first ≡ 1 = eqb-true first 1 v.0 in let same : ok_path B ≡ ok_path p = v.1 in let q : B ≡ p = cc in f ∙ ap path_octet q
-      | inr v ↦ let bad : no_path ≡ Ok p = v.1 in absurd cc
+      | inl w ↦ let f : first ≡ 0 = eqb-true first 0 w.0 in let same : ok_path A ≡ ok_path p = w.1 in let q : A ≡ p = cc in f ∙ ap path_octet q
+      | inr w ↦ elim (chosen (eqb first 1) (ok_path B) (Err BadField) (Ok p) w.1) [
+        | inl v ↦ let f : first ≡ 1 = eqb-true first 1 v.0 in let same : ok_path B ≡ ok_path p = v.1 in let q : B ≡ p = cc in f ∙ ap path_octet q
+        | inr v ↦ let bad : no_path ≡ Ok p = v.1 in absurd cc
       ]
     ]
 
@@ -94,8 +91,8 @@ rest_takes first octets x bytes e =
       fits = record { moment = m64; octets = subst (λ (k : ℕ). k < 2 ^ 16) (sym len) n16 };
       first_is = path_read first h.path q.path;
       text = sym (take-append-drop 10 octets) ∙ ap (λ (t : List ℕ). t ++ d) is
-        ∙ ap (λ (t : List ℕ). (to_be_bytes w64 h.moment ++ to_be_bytes w16 n) ++ t) (sym (take-append-drop n d))
-        ∙ ap (λ (k : ℕ). (to_be_bytes w64 h.moment ++ to_be_bytes w16 k) ++ (take n d ++ drop n d)) (sym len);
+          ∙ ap (λ (t : List ℕ). (to_be_bytes w64 h.moment ++ to_be_bytes w16 n) ++ t) (sym (take-append-drop n d))
+          ∙ ap (λ (k : ℕ). (to_be_bytes w64 h.moment ++ to_be_bytes w16 k) ++ (take n d ++ drop n d)) (sym len);
     } in
     subst (Takes first octets) r.parts.made made
 
@@ -146,13 +143,15 @@ split_by : (n : ℕ) (first : ℕ) (octets : List ℕ) (r : Result (Entry × Lis
 split_by n first octets (Ok x) e bytes le more =
     let t = rest_takes first octets x bytes e in
     let shrinks : length x.1 ≤ length octets = rest_shrinks first octets x e in
-    let s = more x.1 (AreOctets-back (rest_text x.0) x.1 (subst AreOctets t.text bytes)) (omega arith) in
-    (s.0, record {
-      fit = (t.fits, s.1.fit);
-      whole = ap (λ (k : ℕ). k ∷ octets) t.first_is ∙ ap (λ (o : List ℕ). path_octet x.0.path ∷ o) t.text ∙ ap (λ (o : List ℕ). record_text x.0 ++ o) s.1.whole
-        ∙ sym (append_assoc (record_text x.0) (records_text (entries_up_to n x.1)) s.0);
-      no_more = s.1.no_more;
-    })
+    let s = more x.1 (AreOctets-back (rest_text x.0) x.1 (subst AreOctets t.text bytes)) (omega arith) in (
+      s.0,
+      record {
+        fit = (t.fits, s.1.fit);
+        whole = ap (λ (k : ℕ). k ∷ octets) t.first_is ∙ ap (λ (o : List ℕ). path_octet x.0.path ∷ o) t.text ∙ ap (λ (o : List ℕ). record_text x.0 ++ o) s.1.whole
+            ∙ sym (append_assoc (record_text x.0) (records_text (entries_up_to n x.1)) s.0);
+        no_more = s.1.no_more;
+      },
+    )
 split_by n first octets (Err f) e bytes le more = (first ∷ octets, record { fit = tt; whole = refl; no_more = no_record first octets f e })
 
 split : (n : ℕ) (octets : List ℕ) → AreOctets octets → length octets ≤ n → Split n octets

@@ -1,5 +1,5 @@
 -- The datagrams that a writer tells.
-use Rattle.std.proofs.Common.{◌≡◌, ℕ, ◌+◌, ◌-◌, ◌%◌, ◌^◌, ◌<◌, ◌≤◌, Bool, true, false, ◌&&◌, ◌||◌, cond, eqb, ltb, List, [], ◌∷◌, ◌++◌, length, take, drop, Option, None, Some, append_assoc, append-nil, refl, sym, ap, ◌∙◌, subst, inl, inr, lit<, arith}
+use Rattle.std.proofs.Common.{◌≡◌, ℕ, ◌^◌, ◌<◌, Bool, true, false, ◌&&◌, ◌||◌, cond, eqb, ltb, List, [], ◌∷◌, ◌++◌, length, take, drop, Option, None, Some, append_assoc, append-nil, refl, sym, ap, ◌∙◌, subst, inl, inr}
 use Rattle.std.specs.List.{AllByRecursion, list_all}
 use Rattle.std.specs.Str.{bytes_eq}
 use Rattle.std.specs.Io.KnownBytes.{Appends, IsAtEnd}
@@ -11,7 +11,7 @@ use Rattle.std.specs.Cmp.Derive.{both_true}
 use Rattle.st_format.specs.Device.{AppendsPrefix, TakesOne, KeepsAll}
 use Rattle.capture_file.specs.declared.paths.Paths.{Paths}
 use Rattle.capture_file.specs.declared.front.Version.TheVariants.{Two}
-use Rattle.capture_file.specs.Fronts.{capture_name, counted_text, front_head, front_text, kind_text}
+use Rattle.capture_file.specs.Fronts.{front_head, front_text}
 use Rattle.capture_file.specs.Records.{records_text}
 use Rattle.capture_file.specs.Source.{IfTold}
 use Rattle.capture_file.specs.Writer.{IsDatagram, IsWritten, Place, datagrams_in, entries_from, entries_of, is_of, is_written, moment_after, moment_behind, place_behind, place_failed, taken_in, taken_of, text_in, written}
@@ -69,7 +69,7 @@ written_test paths n m held is =
     ap (λ (t : List ℕ). is_of paths t (datagrams_in paths n held) n m held) text
     ∙ ap (λ (ds : List (List ℕ)). is_of paths is.text ds n m held) (holds paths n m held is)
     ∙ both_true (both_true (both_true (both_true (eq-eqb (length is.text) n is.text_len_is) (lt-ltb (length is.text) (2 ^ 16) is.text_fits)) (fit_test is.datagrams is.fit)) (eq-eqb (moment_after paths 0 is.datagrams) m is.moment_is))
-      ((bytes_eq-Decides held (written paths is.text is.datagrams)).1 is.whole)
+    ((bytes_eq-Decides held (written paths is.text is.datagrams)).1 is.whole)
 
 either : (b : Bool) → (b ≡ true) ⊎ (b ≡ false)
 either true = inl refl
@@ -92,27 +92,27 @@ told_other p o ok e = none_by p.failed (is_written p.paths p.text_len p.moment o
 takes_some : (p : Place) (o o2 d : List ℕ) → p.failed ≡ false → p.moment < 2 ^ 64 → IsDatagram d → o2 ≡ o ++ records_text (entries_of p.paths p.moment d) → TakesOne (taken_in p o) (taken_in (place_behind p) o2) d
 takes_some p o o2 d ok lt fits e =
     elim (either (is_written p.paths p.text_len p.moment o)) [
-      inl w ↦
-      let is : IsWritten p.paths p.text_len p.moment o = test_written p.paths p.text_len p.moment o w in
-      let after : IsWritten p.paths p.text_len (moment_behind p.paths p.moment) o2 = subst (IsWritten p.paths p.text_len (moment_behind p.paths p.moment)) (sym e) (writes p.paths p.text_len p.moment o d is fits) in
-      let new : taken_in (place_behind p) o2 ≡ Some (datagrams_in p.paths p.text_len o2) = told_written (place_behind p) o2 (written_test p.paths p.text_len (moment_behind p.paths p.moment) o2 after) in
-      let more : datagrams_in p.paths p.text_len o2 ≡ datagrams_in p.paths p.text_len o ++ d ∷ [] =
-      ap (datagrams_in p.paths p.text_len) e ∙ takes p.paths p.text_len p.moment o d is lt fits ∙ ap (λ (xs : List (List ℕ)). xs ++ d ∷ []) (sym (holds p.paths p.text_len p.moment o is)) in
-      subst (λ (x : Option (List (List ℕ))). TakesOne x (taken_in (place_behind p) o2) d) (sym (told_written p o w))
-      (subst (λ (y : Option (List (List ℕ))). TakesOne (Some (datagrams_in p.paths p.text_len o)) y d) (sym new) more)
-    | inr w ↦ subst (λ (x : Option (List (List ℕ))). TakesOne x (taken_in (place_behind p) o2) d) (sym (told_other p o ok w)) tt
+      | inl w ↦
+          let is : IsWritten p.paths p.text_len p.moment o = test_written p.paths p.text_len p.moment o w in
+          let after : IsWritten p.paths p.text_len (moment_behind p.paths p.moment) o2 = subst (IsWritten p.paths p.text_len (moment_behind p.paths p.moment)) (sym e) (writes p.paths p.text_len p.moment o d is fits) in
+          let new : taken_in (place_behind p) o2 ≡ Some (datagrams_in p.paths p.text_len o2) = told_written (place_behind p) o2 (written_test p.paths p.text_len (moment_behind p.paths p.moment) o2 after) in
+          let more : datagrams_in p.paths p.text_len o2 ≡ datagrams_in p.paths p.text_len o ++ d ∷ [] =
+          ap (datagrams_in p.paths p.text_len) e ∙ takes p.paths p.text_len p.moment o d is lt fits ∙ ap (λ (xs : List (List ℕ)). xs ++ d ∷ []) (sym (holds p.paths p.text_len p.moment o is)) in
+          subst (λ (x : Option (List (List ℕ))). TakesOne x (taken_in (place_behind p) o2) d) (sym (told_written p o w))
+          (subst (λ (y : Option (List (List ℕ))). TakesOne (Some (datagrams_in p.paths p.text_len o)) y d) (sym new) more)
+      | inr w ↦ subst (λ (x : Option (List (List ℕ))). TakesOne x (taken_in (place_behind p) o2) d) (sym (told_other p o ok w)) tt
     ]
 
 keeps_some : (p : Place) (o o2 d : List ℕ) (k : ℕ) → p.failed ≡ false → p.moment < 2 ^ 64 → IsDatagram d → k < length (records_text (entries_of p.paths p.moment d)) → o2 ≡ o ++ take k (records_text (entries_of p.paths p.moment d))
     → KeepsAll (taken_in p o) (taken_in (place_failed p) o2)
 keeps_some p o o2 d k ok lt fits short e =
     elim (either (is_written p.paths p.text_len p.moment o)) [
-      inl w ↦
-      let is : IsWritten p.paths p.text_len p.moment o = test_written p.paths p.text_len p.moment o w in
-      let same : datagrams_in p.paths p.text_len o2 ≡ datagrams_in p.paths p.text_len o =
-      ap (datagrams_in p.paths p.text_len) e ∙ keeps p.paths p.text_len p.moment o d k is lt fits short ∙ sym (holds p.paths p.text_len p.moment o is) in
-      subst (λ (x : Option (List (List ℕ))). KeepsAll x (taken_in (place_failed p) o2)) (sym (told_written p o w)) same
-    | inr w ↦ subst (λ (x : Option (List (List ℕ))). KeepsAll x (taken_in (place_failed p) o2)) (sym (told_other p o ok w)) tt
+      | inl w ↦
+          let is : IsWritten p.paths p.text_len p.moment o = test_written p.paths p.text_len p.moment o w in
+          let same : datagrams_in p.paths p.text_len o2 ≡ datagrams_in p.paths p.text_len o =
+          ap (datagrams_in p.paths p.text_len) e ∙ keeps p.paths p.text_len p.moment o d k is lt fits short ∙ sym (holds p.paths p.text_len p.moment o is) in
+          subst (λ (x : Option (List (List ℕ))). KeepsAll x (taken_in (place_failed p) o2)) (sym (told_written p o w)) same
+      | inr w ↦ subst (λ (x : Option (List (List ℕ))). KeepsAll x (taken_in (place_failed p) o2)) (sym (told_other p o ok w)) tt
     ]
 
 -- a writer that wrote a datagram took it

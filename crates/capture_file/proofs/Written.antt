@@ -1,7 +1,7 @@
 -- One text written after another.
-use Rattle.std.proofs.Common.{get_or, drop, map, ◌≡◌, ℕ, ◌+◌, ◌<◌, ◌≤◌, List, [], ◌∷◌, ◌++◌, length, take, Option, None, Some, Result, Ok, Err, append_assoc, append-nil, refl, sym, ap, ◌∙◌, subst, arith}
-use Rattle.std.specs.Io.KnownBytes.{Appends, Keeps}
-use Rattle.std.proofs.KnownBytes.{Appends-trans, Appends-nil}
+use Rattle.std.proofs.Common.{get_or, drop, map, ◌≡◌, ℕ, ◌+◌, ◌<◌, ◌≤◌, List, [], ◌∷◌, ◌++◌, length, take, Option, append_assoc, append-nil, refl, sym, ap, ◌∙◌, subst, arith}
+use Rattle.std.specs.Io.KnownBytes.{Appends}
+use Rattle.std.proofs.KnownBytes.{Appends-trans}
 use Rattle.std.proofs.Math.Seq.{take-append-add}
 use Rattle.std.proofs.lemmas.List.{length-append, map-append, take-append-drop, take-append-le, take_more}
 use Rattle.capture_file.specs.declared.record.Record.{Record}

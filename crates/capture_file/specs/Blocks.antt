@@ -1,5 +1,5 @@
 -- A format block, read (own).
-use Rattle.std.specs.Prelude.{◌≡◌, ℕ, ◌==◌, ◌&&◌, if◌then◌else◌, List, [], ◌∷◌, take, drop, slice_index, Result, Ok, Err}
+use Rattle.std.specs.Prelude.{ℕ, ◌==◌, ◌&&◌, if◌then◌else◌, List, [], ◌∷◌, slice_index, Result, Ok, Err}
 use Rattle.std.specs.Int.{w16, w32, from_be_bytes}
 use Rattle.st_format.specs.declared.format.Sampling.{Sampling}
 use Rattle.st_format.specs.declared.format.Sampling.TheVariants.{Ycc422, Ycc444, Rgb}
@@ -29,7 +29,7 @@ abbrev pub block_of : List ℕ → Result Fields FileFault
 block_of block =
     sampling_of (slice_index block 0) >>= λ s. depth_of (slice_index block 1) >>= λ b.
     lowest (format_at s b (from_be_bytes w16 (slice_index block 2 ∷ slice_index block 3 ∷ [])) (from_be_bytes w16 (slice_index block 4 ∷ slice_index block 5 ∷ [])) (from_be_bytes w32 (slice_index block 6 ∷ slice_index block 7 ∷ slice_index block 8 ∷ slice_index block 9 ∷ [])) (from_be_bytes w32 (slice_index block 10 ∷ slice_index block 11 ∷ slice_index block 12 ∷ slice_index block 13 ∷ [])))
-      (from_be_bytes w32 (slice_index block 6 ∷ slice_index block 7 ∷ slice_index block 8 ∷ slice_index block 9 ∷ [])) (from_be_bytes w32 (slice_index block 10 ∷ slice_index block 11 ∷ slice_index block 12 ∷ slice_index block 13 ∷ []))
+    (from_be_bytes w32 (slice_index block 6 ∷ slice_index block 7 ∷ slice_index block 8 ∷ slice_index block 9 ∷ [])) (from_be_bytes w32 (slice_index block 10 ∷ slice_index block 11 ∷ slice_index block 12 ∷ slice_index block 13 ∷ []))
 
 unfoldable pub block_at : List ℕ → Result (Fields × List ℕ) FileFault
 block_at octets = field_at 14 octets >>= λ x. with_rest (block_of x.0) x.1

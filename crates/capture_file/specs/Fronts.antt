@@ -1,6 +1,6 @@
 -- What stands at the front of a file: six octets of name and two of version; and behind them, in a capture of
 -- version 02, a text (own).
-use Rattle.std.specs.Prelude.{◌≡◌, ℕ, ◌+◌, ◌^◌, ◌<◌, if◌then◌else◌, List, [], ◌∷◌, ◌++◌, length, take, drop, codes, Result, Ok, Err}
+use Rattle.std.specs.Prelude.{◌≡◌, ℕ, ◌^◌, ◌<◌, if◌then◌else◌, List, [], ◌++◌, length, take, drop, codes, Result, Ok, Err}
 use Rattle.std.specs.Int.{w16, from_be_bytes, to_be_bytes}
 use Rattle.std.specs.Str.{bytes_eq}
 use Rattle.capture_file.specs.declared.fault.FileFault.{FileFault}

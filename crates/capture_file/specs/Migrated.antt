@@ -1,15 +1,15 @@
 -- A capture of version 01, written as one of version 02 (own).
-use Rattle.std.specs.Prelude.{◌≡◌, ℕ, ◌+◌, List, [], ◌∷◌, ◌++◌, ◌⊎◌, length, Option, Result, Ok, Err}
-use Rattle.std.specs.Io.KnownBytes.{Appends, Consumes, Keeps}
+use Rattle.std.specs.Prelude.{◌≡◌, ℕ, List, ◌++◌, ◌⊎◌, length, Option, Result, Err}
+use Rattle.std.specs.Io.KnownBytes.{Appends}
 use Rattle.st_format.specs.Device.{AppendsPrefix, CountsOne}
 use Rattle.capture_file.specs.declared.fault.FileFault.{FileFault}
 use Rattle.capture_file.specs.declared.fault.FileFault.TheVariants.{BadVersion, Device}
 use Rattle.capture_file.specs.declared.front.Version.{Version}
 use Rattle.capture_file.specs.declared.front.Version.TheVariants.{One, Two}
 use Rattle.capture_file.specs.Capture.{capture_text, records_at}
-use Rattle.capture_file.specs.Fields.{◌>>=◌, Fails, Gives}
+use Rattle.capture_file.specs.Fields.{◌>>=◌, Gives}
 use Rattle.capture_file.specs.Fronts.{capture_name, kind_at, kind_text}
-use Rattle.capture_file.specs.Records.{AllFit, Entry, records_text}
+use Rattle.capture_file.specs.Records.{Entry, records_text}
 use Rattle.capture_file.specs.Source.{IfTold}
 
 abbrev pub old_by : Version → ℕ → List ℕ → Result (List Entry × List ℕ) FileFault

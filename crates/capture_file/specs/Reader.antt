@@ -1,5 +1,5 @@
 -- A reader of a capture as a source of datagrams (own).
-use Rattle.std.specs.Prelude.{◌≡◌, ℕ, List, [], ⊤, map, Option, None, Some, Result, Ok, Err}
+use Rattle.std.specs.Prelude.{◌≡◌, ℕ, List, [], ⊤, map, Option, None, Some}
 use Rattle.std.specs.Option.{option_map}
 use Rattle.std.specs.Io.KnownBytes.{IsAtEnd}
 use Rattle.st_format.specs.Turns.{Due, Comes}
@@ -16,7 +16,6 @@ use Rattle.capture_file.specs.Faults.{CountsFault, fault_number}
 use Rattle.capture_file.specs.Reading.{entries_in}
 use Rattle.capture_file.specs.Records.{Entry}
 use Rattle.capture_file.specs.Source.{FailsRecord}
-use Rattle.st_format.specs.Device.{CountsOne}
 
 -- a record as a turn
 abbrev pub due_of : Entry → Due

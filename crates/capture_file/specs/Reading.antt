@@ -1,6 +1,6 @@
 -- A capture's records read from the left, with the first fault. What the text of a record is says Records; laws
 -- join the two.
-use Rattle.std.specs.Prelude.{◌≡◌, ℕ, zero, suc, ◌+◌, ◌==◌, nat_lt, if◌then◌else◌, List, [], ◌∷◌, length, take, drop, slice_index, Option, None, Some, Result, Ok, Err}
+use Rattle.std.specs.Prelude.{ℕ, zero, suc, ◌==◌, nat_lt, if◌then◌else◌, List, [], ◌∷◌, length, take, drop, Option, None, Some, Result, Ok, Err}
 use Rattle.std.specs.Int.{w16, w64, from_be_bytes}
 use Rattle.st_format.specs.declared.path.Path.{Path}
 use Rattle.st_format.specs.declared.path.Path.TheVariants.{A, B}

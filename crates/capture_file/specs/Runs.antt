@@ -1,6 +1,5 @@
 -- What it means that octets spell some records up to their first fault (own). No step of reading is in it.
-use Rattle.std.specs.Prelude.{◌≡◌, ℕ, ◌+◌, ◌<◌, ◌≤◌, List, [], ◌∷◌, ◌++◌, length, slice_index}
-use Rattle.st_format.specs.declared.path.Path.{Path}
+use Rattle.std.specs.Prelude.{◌≡◌, ℕ, ◌<◌, List, ◌++◌, slice_index}
 use Rattle.capture_file.specs.Records.{AllFit, Entry, Fits, record_text, records_text}
 
 -- octets: numbers below 256

@@ -1,8 +1,8 @@
 -- What reading does to a source of octets.
-use Rattle.std.specs.Prelude.{◌≡◌, ℕ, List, ⊤, Option, None, Some, Result, Err}
+use Rattle.std.specs.Prelude.{◌≡◌, ℕ, List, ⊤, Option, None, Some, Err}
 use Rattle.std.specs.Io.KnownBytes.{Consumes, IsAtEnd}
 use Rattle.capture_file.specs.declared.fault.FileFault.{FileFault}
-use Rattle.capture_file.specs.declared.fault.FileFault.TheVariants.{NoMemory, Device, Truncated, BadField}
+use Rattle.capture_file.specs.declared.fault.FileFault.TheVariants.{Device, Truncated, BadField}
 use Rattle.capture_file.specs.Faults.{IfContent}
 use Rattle.capture_file.specs.Reading.{fault_at, rest_at}
 use Rattle.capture_file.specs.Records.{Entry, Fits, path_octet, record_text, rest_text}

@@ -1,24 +1,15 @@
 -- A receiver as a file (own): its text as a function of what it was opened with and of its frames' cells.
-use Rattle.std.specs.Prelude.{◌≡◌, ℕ, zero, suc, ◌+◌, ◌*◌, ◌/◌, ◌%◌, ◌^◌, ◌<◌, ◌≤◌, Bool, true, false, not, ◌&&◌, ◌||◌, ◌==◌, nat_lt, if◌then◌else◌, List, [], ◌∷◌, ◌++◌, length, map, take, drop, slice_index, ⊤, Option, None, Some, Result, Ok, Err}
-use Rattle.std.specs.Int.{w16, w32, from_be_bytes, to_be_bytes}
-use Rattle.std.specs.List.{AllByRecursion, flat_map, list_any}
+use Rattle.std.specs.Prelude.{◌≡◌, ℕ, ◌*◌, ◌/◌, ◌^◌, ◌<◌, List, [], ◌∷◌, ◌++◌, length, ⊤, Option, None, Some}
+use Rattle.std.specs.Int.{w16, w32, to_be_bytes}
+use Rattle.std.specs.List.{AllByRecursion, flat_map}
 use Rattle.st_format.specs.declared.cell.Cell.{Cell}
 use Rattle.st_format.specs.declared.format.Sampling.{Sampling}
 use Rattle.st_format.specs.declared.format.Sampling.TheVariants.{Ycc422, Ycc444, Rgb}
-use Rattle.st_format.specs.declared.format.Depth.{Depth}
-use Rattle.st_format.specs.declared.format.Depth.TheVariants.{D8, D10, D12, D16}
-use Rattle.st_format.specs.declared.format.Format.{Format}
-use Rattle.st_format.specs.declared.format.FormatFault.{FormatFault}
-use Rattle.st_format.specs.Fields.{Fields, fields_of, format_at}
-use Rattle.st_format.specs.Member.{IsMember}
+use Rattle.st_format.specs.Fields.{Fields}
 use Rattle.st_format.specs.Pgroup.{bits_of, pixel_group}
-use Rattle.capture_file.specs.declared.fault.FileFault.{FileFault}
-use Rattle.capture_file.specs.declared.fault.FileFault.TheVariants.{BadField, BadVersion, TrailingBytes}
-use Rattle.capture_file.specs.declared.front.Version.{Version}
-use Rattle.capture_file.specs.declared.front.Version.TheVariants.{One, Two}
-use Rattle.capture_file.specs.Fields.{◌>>=◌, field_at}
-use Rattle.capture_file.specs.Fronts.{kind_at, kind_text, receiver_name}
-use Rattle.capture_file.specs.Groups.{IsGroup, groups_at, groups_text, shape_of}
+use Rattle.capture_file.specs.declared.front.Version.TheVariants.{One}
+use Rattle.capture_file.specs.Fronts.{kind_text, receiver_name}
+use Rattle.capture_file.specs.Groups.{IsGroup, groups_text, shape_of}
 
 -- codes of a format block
 abbrev pub sampling_code : Sampling → ℕ

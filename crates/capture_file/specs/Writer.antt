@@ -1,8 +1,7 @@
 -- What a writer of a capture writes (own).
-use Rattle.std.specs.Prelude.{◌≡◌, ℕ, ◌+◌, ◌%◌, ◌^◌, ◌<◌, ◌≤◌, Bool, true, false, ◌&&◌, ◌||◌, ◌==◌, nat_lt, if◌then◌else◌, take, List, [], ◌∷◌, ◌++◌, ⊤, length, drop, map, Option, None, Some}
+use Rattle.std.specs.Prelude.{◌≡◌, ℕ, ◌+◌, ◌%◌, ◌^◌, ◌<◌, Bool, true, ◌&&◌, ◌||◌, ◌==◌, nat_lt, if◌then◌else◌, take, List, [], ◌∷◌, ◌++◌, length, drop, map, Option, None, Some}
 use Rattle.std.specs.List.{AllByRecursion, list_all}
 use Rattle.std.specs.Str.{bytes_eq}
-use Rattle.std.specs.Option.{option_map}
 use Rattle.st_format.specs.declared.path.Path.{Path}
 use Rattle.st_format.specs.declared.path.Path.TheVariants.{A, B}
 use Rattle.capture_file.specs.declared.paths.Paths.{Paths}

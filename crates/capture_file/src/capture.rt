@@ -4,6 +4,8 @@ ghost use Rattle.std.specs.List.{All};
 ghost use Rattle.capture_file.specs.Capture.{Content, IsCapture, capture_at, capture_seen, entry_seen, records_at};
 ghost use Rattle.capture_file.specs.Faults.{CountsDevice, IsMachine};
 ghost use Rattle.capture_file.specs.Fields.{Fails, Gives};
+ghost use Rattle.capture_file.specs.Runs.{AreOctets};
+ghost use Rattle.std.specs.Io.KnownBytes.{IsAtEnd};
 
 use crate::fault::FileFault;
 use crate::front::read_front;
@@ -38,6 +40,9 @@ pub fn read_capture<A: Allocator + Copy, S: ByteSource>(
     ensures read { IfOk result (λ c. Gives (capture_at limit) (S.to_give source.old) (S.to_give source.new) (capture_seen c)) }
     ensures fault { IfErr result (λ f. Fails (capture_at limit) (S.to_give source.old) f) }
     ensures counted { CountsDevice (S.failures source.old) (S.failures source.new) result }
+    // What is read is a capture, all of it, of at most so many records.
+    ensures found { IfOk result (λ v. (octets : List ℕ) → S.to_give source.old ≡ Some octets → AreOctets octets
+        → IsCapture (capture_seen v) octets × (length v.records.items ≤ limit) × IsAtEnd (S.to_give source.new)) }
     // What is a capture is read as what it says, unless the memory or the device fails.
     ensures only { (c : Content) (octets : List ℕ) → S.to_give source.old ≡ Some octets → IsCapture c octets → length c.records ≤ limit
         → MatchResult result (λ v. capture_seen v ≡ c) IsMachine }

@@ -1,6 +1,5 @@
 //! Laws of the definitions.
 ghost use Rattle.std.specs.Prelude.{◌≡◌, ◌≤◌, ℕ, Ok, List, [], ◌++◌, length, map};
-
 ghost use Rattle.st_format.specs.Turns.{Due};
 ghost use Rattle.capture_file.specs.Capture.{Content, IsCapture, capture_at};
 ghost use Rattle.capture_file.specs.Reader.{due_of, dues_in};
@@ -12,36 +11,30 @@ ghost use Rattle.capture_file.specs.StateFile.{IsKept, Kept, state_text};
 /// The records that are read of octets are those that they spell up to their first fault.
 pub fn records_read()
     ensures { (octets : List ℕ) → AreOctets octets → (rest : List ℕ) × IsRun (entries_in octets) rest octets }
-{
-}
+{}
 
 /// Octets spell one list of records up to their first fault: those that are read of them.
 pub fn one_run()
     ensures { (octets rest : List ℕ) (entries : List Entry) → AreOctets octets → IsRun entries rest octets → entries ≡ entries_in octets }
-{
-}
+{}
 
 /// The turns of octets are the datagrams of the records that they spell up to their first fault.
 pub fn turns_of_run()
     ensures { (octets rest : List ℕ) (entries : List Entry) → AreOctets octets → IsRun entries rest octets → dues_in octets ≡ map due_of entries }
-{
-}
+{}
 
 /// What is a capture is read as what it says.
 pub fn capture_read()
     ensures { (c : Content) (octets : List ℕ) (limit : ℕ) → IsCapture c octets → length c.records ≤ limit → capture_at limit octets ≡ Ok (c, []) }
-{
-}
+{}
 
 /// Octets are a capture of one content.
 pub fn one_content()
     ensures { (c d : Content) (octets : List ℕ) → IsCapture c octets → IsCapture d octets → c ≡ d }
-{
-}
+{}
 
 /// A receiver has one file: two that have equal files have the same format, payload type, source, timestamps and cells.
 /// That equal ones have equal files is plain, since the text is a function of these.
 pub fn one_file()
     ensures { (k l : Kept) → IsKept k → IsKept l → state_text k ≡ state_text l → k ≡ l }
-{
-}
+{}

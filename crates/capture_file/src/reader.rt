@@ -44,8 +44,8 @@ pub struct CaptureReader<S: ByteSource> {
 
 impl<S: ByteSource> Model for CaptureReader<S> {
     ghost use Rattle.capture_file.specs.Fields.{Fails, Gives};
-ghost use Rattle.capture_file.specs.Fronts.{front_at};
-ghost use Rattle.capture_file.specs.Reader.{Reader, StandsRight};
+    ghost use Rattle.capture_file.specs.Fronts.{front_at};
+    ghost use Rattle.capture_file.specs.Reader.{Reader, StandsRight};
 
     ghost Value = { Reader S };
 

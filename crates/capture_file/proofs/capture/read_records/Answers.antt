@@ -1,5 +1,5 @@
 use Rattle.std.proofs.lemmas.List.{map-append}
-use Rattle.std.proofs.Common.{ℕ, ◌-◌, ◌≡◌, ◌≤◌, ◌∙◌, ap, sym, subst, List, ◌++◌, ◌∷◌, [], map, length, arith}
+use Rattle.std.proofs.Common.{ℕ, ◌-◌, ◌≡◌, ◌∙◌, ap, sym, subst, List, ◌++◌, ◌∷◌, [], map, arith}
 use Rattle.std.proofs.lemmas.Result.{err_from_is_err_and}
 use Rattle.capture_file.specs.Capture.{entry_seen}
 use Rattle.capture_file.specs.Records.{Entry, entry_of}
@@ -16,7 +16,7 @@ returns-in_err-head-clause-fault g c =
     let l = c.loop-records in
     let p = err_from_is_err_and c.from_residual-in_err-head.result c.from_residual-in_err-head.ensures.1 in
     rw (p.1, p.2) (goes_on_fault c.args.limit _ _ _ _ (map entry_seen l.records.items) c.in-Some.first c.in_err-head.field-0.0
-      (one_less c.args.limit _ _ _ _ c.if-left-eq0.false l.invariant.goes) (rw c.in-Some.is at c.in_ok-first.ensures.given) c.in_err-head.ensures.fault)
+    (one_less c.args.limit _ _ _ _ c.if-left-eq0.false l.invariant.goes) (rw c.in-Some.is at c.in_ok-first.ensures.given) c.in_err-head.ensures.fault)
 
 pub loop-records-preserved : goal.loop-records-preserved
 loop-records-preserved g c =
@@ -27,7 +27,7 @@ loop-records-preserved g c =
     ∙ ap (λ (xs : List ℕ). let r : Entry = record { path = e.path; moment = e.moment; octets = xs } in first ++ r ∷ []) c.in_ok-octets.ensures.items in
     record {
       goes = subst (λ (es : List Entry). GoesOn c.args.limit (g.S.ByteSource.to_give c.args.source.now) (c.loop-records.left - 1) es (g.S.ByteSource.to_give c.record_rest.new.source)) (sym pushed)
-        (goes_on_more c.args.limit _ _ _ _ _ first c.in-Some.first e (one_less c.args.limit _ _ _ _ c.if-left-eq0.false c.loop-records.invariant.goes) (rw c.in-Some.is at c.in_ok-first.ensures.given) c.in_ok-head.ensures.read);
+          (goes_on_more c.args.limit _ _ _ _ _ first c.in-Some.first e (one_less c.args.limit _ _ _ _ c.if-left-eq0.false c.loop-records.invariant.goes) (rw c.in-Some.is at c.in_ok-first.ensures.given) c.in_ok-head.ensures.read);
       failures = c.in_ok-head.ensures.counted ∙ c.in_ok-first.ensures.counted ∙ c.loop-records.invariant.failures;
       room = omega (arith, c.in_ok-head.ensures.room, c.loop-records.invariant.room);
     }

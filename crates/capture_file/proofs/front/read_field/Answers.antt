@@ -1,4 +1,4 @@
-use Rattle.std.proofs.Common.{◌≡◌, ◌<◌, ◌≤◌, length, take, arith}
+use Rattle.std.proofs.Common.{◌<◌, length, take, arith}
 use Rattle.std.proofs.lemmas.List.{length-take}
 use Rattle.capture_file.proofs.Parsing.{gives_field, fails_field}
 use Rattle.capture_file.proofs.Rests.{gave_all}

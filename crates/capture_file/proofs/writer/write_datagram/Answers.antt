@@ -1,8 +1,5 @@
-use Rattle.std.proofs.Common.{subst, sym, ap, ◌%◌, ◌^◌, ◌+◌, ◌++◌, List, [], ℕ, append-nil}
-use Rattle.std.proofs.KnownBytes.{Appends-trans}
+use Rattle.std.proofs.Common.{◌%◌, ◌^◌, ◌+◌, ◌++◌, List, [], ℕ}
 use Rattle.std.proofs.lemmas.Result.{err_from_is_err_and, on_err_weaker, on_ok_weaker}
-use Rattle.std.specs.Io.KnownBytes.{Appends}
-use Rattle.st_format.specs.Device.{AppendsPrefix}
 use Rattle.st_format.specs.declared.path.Path.TheVariants.{A, B}
 use Rattle.capture_file.specs.Records.{record_text}
 use Rattle.capture_file.specs.Writer.{entry}
