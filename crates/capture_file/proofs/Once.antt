@@ -1,8 +1,8 @@
 -- A receiver has one file.
-use Rattle.std.proofs.Common.{◌≡◌, ℕ, ◌^◌, ◌<◌, List, [], ◌∷◌, ◌++◌, length, take, drop, Option, None, Some, Result, Ok, Err, append_assoc, refl, sym, ap, ◌∙◌, subst, arith}
+use Rattle.std.proofs.Common.{◌*◌, zero, suc, ◌≡◌, ℕ, ◌^◌, ◌<◌, List, [], ◌∷◌, ◌++◌, length, take, drop, Option, None, Some, Result, Ok, Err, append_assoc, refl, sym, ap, ◌∙◌, subst, arith}
 use Rattle.std.specs.Int.{w16, w32, from_be_bytes, to_be_bytes}
 use Rattle.std.specs.List.{AllByRecursion, flat_map}
-use Rattle.std.proofs.lemmas.List.{length-append, take_at, drop_at}
+use Rattle.std.proofs.lemmas.List.{length-append, length-drop, take-append-drop, take_at, drop_at}
 use Rattle.std.proofs.lemmas.Nat.{from_be_bytes-to_be_bytes_2, from_be_bytes-to_be_bytes_4}
 use Rattle.st_format.specs.declared.cell.Cell.{Cell}
 use Rattle.st_format.specs.declared.format.Sampling.{Sampling}
@@ -15,7 +15,7 @@ use Rattle.capture_file.specs.declared.fault.FileFault.{FileFault}
 use Rattle.capture_file.specs.declared.front.Version.TheVariants.{One}
 use Rattle.capture_file.specs.Fronts.{kind_text, receiver_name}
 use Rattle.capture_file.specs.Groups.{IsGroup, IsShape, Shape, groups_at, groups_text, shape_of}
-use Rattle.capture_file.specs.StateFile.{HasRoom, Held, IsHeld, IsKept, Kept, SsrcFits, format_text, held_text, opening_text, sampling_code, ssrc_text, state_text}
+use Rattle.capture_file.specs.StateFile.{cut_cells, joined_groups, HasRoom, Held, IsHeld, IsKept, Kept, SsrcFits, format_text, held_text, opening_text, sampling_code, ssrc_text, state_text}
 use Rattle.capture_file.proofs.Grouped.{groups_again}
 
 record Both (xs ys a b : List ℕ) : Type 0 where
@@ -174,3 +174,15 @@ state_once k l p q e =
     let frames : k.frames ≡ l.frames = frames_once k.format k.frames l.frames p.frames lf count (c.rest ∙ same) in
     ap (λ (x : Fields). kept x k.payload_type k.ssrc k.frames) f ∙ ap (λ (x : ℕ). kept l.format x k.ssrc k.frames) pt
     ∙ ap (λ (x : Option ℕ). kept l.format l.payload_type x k.frames) ssrc ∙ ap (kept l.format l.payload_type l.ssrc) frames
+
+-- cells are those of their groups
+pub cut_joined : (size n : ℕ) (cells : List Cell) → length cells ≡ n * size → joined_groups (cut_cells size n cells) ≡ cells
+unfolding cut_cells
+cut_joined size zero [] e = refl
+cut_joined size zero (c ∷ cells) e = absurd (omega (arith, e))
+cut_joined size (suc n) cells e =
+    ap (λ (t : List Cell). take size cells ++ t) (cut_joined size n (drop size cells) (omega (arith, e, length-drop size cells))) ∙ take-append-drop size cells
+
+-- so cells with equal groups are equal
+pub cells_once : (size n : ℕ) (a b : List Cell) → length a ≡ n * size → length b ≡ n * size → cut_cells size n a ≡ cut_cells size n b → a ≡ b
+cells_once size n a b p q e = sym (cut_joined size n a p) ∙ ap joined_groups e ∙ cut_joined size n b q

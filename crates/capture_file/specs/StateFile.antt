@@ -1,5 +1,5 @@
 -- A receiver as a file (own): its text as a function of what it was opened with and of its frames' cells.
-use Rattle.std.specs.Prelude.{◌≡◌, ℕ, ◌*◌, ◌/◌, ◌^◌, ◌<◌, List, [], ◌∷◌, ◌++◌, length, ⊤, Option, None, Some}
+use Rattle.std.specs.Prelude.{take, drop, zero, suc, ◌≡◌, ℕ, ◌*◌, ◌/◌, ◌^◌, ◌<◌, List, [], ◌∷◌, ◌++◌, length, ⊤, Option, None, Some}
 use Rattle.std.specs.Int.{w16, w32, to_be_bytes}
 use Rattle.std.specs.List.{AllByRecursion, flat_map}
 use Rattle.st_format.specs.declared.cell.Cell.{Cell}
@@ -74,3 +74,16 @@ pub record IsKept (k : Kept) : Type 0 where
   pub room : HasRoom k.format
   pub ssrc : SsrcFits k.ssrc
   pub frames : AllByRecursion (IsHeld k.format) k.frames
+
+-- a raster's cells in groups of so many, and the groups joined
+unfoldable pub cut_cells : ℕ → ℕ → List Cell → List (List Cell)
+cut_cells size zero cells = []
+cut_cells size (suc n) cells = take size cells ∷ cut_cells size n (drop size cells)
+
+abbrev pub joined_groups : List (List Cell) → List Cell
+joined_groups [] = []
+joined_groups (g ∷ gs) = g ++ joined_groups gs
+
+-- what is kept of a raster's cells
+abbrev pub held_of : Fields → ℕ → List Cell → Held
+held_of f timestamp cells = record { timestamp = timestamp; groups = cut_cells (pixel_group f.sampling f.depth).samples (group_count f) cells }

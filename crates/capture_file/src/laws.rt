@@ -1,12 +1,13 @@
 //! Laws of the definitions.
-ghost use Rattle.std.specs.Prelude.{◌≡◌, ◌≤◌, ℕ, Ok, List, [], ◌++◌, length, map};
+ghost use Rattle.std.specs.Prelude.{◌*◌, ◌≡◌, ◌≤◌, ℕ, Ok, List, [], ◌++◌, length, map};
+ghost use Rattle.st_format.specs.declared.cell.Cell.{Cell};
 ghost use Rattle.st_format.specs.Turns.{Due};
 ghost use Rattle.capture_file.specs.Capture.{Content, IsCapture, capture_at};
 ghost use Rattle.capture_file.specs.Reader.{due_of, dues_in};
 ghost use Rattle.capture_file.specs.Reading.{entries_in};
 ghost use Rattle.capture_file.specs.Records.{Entry};
 ghost use Rattle.capture_file.specs.Runs.{AreOctets, IsRun};
-ghost use Rattle.capture_file.specs.StateFile.{IsKept, Kept, state_text};
+ghost use Rattle.capture_file.specs.StateFile.{IsKept, Kept, cut_cells, state_text};
 
 /// The records that are read of octets are those that they spell up to their first fault.
 pub fn records_read()
@@ -37,4 +38,9 @@ pub fn one_content()
 /// That equal ones have equal files is plain, since the text is a function of these.
 pub fn one_file()
     ensures { (k l : Kept) → IsKept k → IsKept l → state_text k ≡ state_text l → k ≡ l }
+{}
+
+/// Cells with equal groups are equal: so with [`one_file`] equal files are of equal frames.
+pub fn one_raster()
+    ensures { (size n : ℕ) (a b : List Cell) → length a ≡ n * size → length b ≡ n * size → cut_cells size n a ≡ cut_cells size n b → a ≡ b }
 {}

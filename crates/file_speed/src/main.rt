@@ -14,6 +14,7 @@ use std::process::ExitCode;
 use std::time::Instant;
 
 const FILE: &str = "bench.capture";
+
 const COUNT: u64 = 300_000;
 
 fn main(rt: HostRuntime) -> ExitCode {
@@ -45,7 +46,9 @@ fn run(rt: &HostRuntime) -> Result<(), Failed> {
     for round in 0..2 {
         for shift in [13u32, 16, 18, 20, 22] {
             let file = fs::open(rt, FILE).map_err(|_| Failed)?;
-            let file = BufReader::with_capacity(rt.alloc(), 1usize << shift, file).map_err(|_| Failed)?;
+            let file = BufReader::with_capacity(rt.alloc(), 1usize << shift, file).map_err(
+                |_| Failed,
+            )?;
             read(rt, InputSource::new(file), shift)?;
         }
         let file = fs::open(rt, FILE).map_err(|_| Failed)?;
