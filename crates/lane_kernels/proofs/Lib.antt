@@ -1,0 +1,6 @@
+pub mod Clipping
+pub mod Floor
+pub mod Gaining
+pub mod Luma
+pub mod Ones
+pub mod Stored
