@@ -1,10 +1,10 @@
 -- What a vector holds lane by lane, put together as the code puts the vector together, and a loop that stores vectors.
-use Rattle.std.proofs.Common.{◌≡◌, ℕ, ◌+◌, ◌-◌, ◌^◌, ◌<◌, ◌≤◌, List, Bool, false, cond, length, get_or, map, replicate, inl, inr, refl, sym, ap, subst, ◌∙◌, arith}
+use Rattle.std.proofs.Common.{◌≡◌, ℕ, ◌+◌, ◌-◌, ◌^◌, ◌<◌, ◌≤◌, List, Bool, false, cond, length, get_or, map, replicate, inl, inr, w16, Fits, refl, sym, ap, subst, ◌∙◌, arith}
 use Rattle.std.specs.Int.{Width}
 use Rattle.std.proofs.lemmas.Bool.{cases_lt}
 use Rattle.std.proofs.lemmas.List.{length-map, get_or-map}
-use Rattle.std.proofs.lemmas.Simd.{get_or-put_chunk_below, get_or-put_chunk_at, get_or-put_chunk_above, get_or-chunk, get_or-zip2, get_or-replicate, get_or-sel_l, length-replicate, length-zip2, length-sel_l, tops_compared, length-chunk}
-use lib.Lanes.{put_chunk, chunk, zip2, sel_l, top}
+use Rattle.std.proofs.lemmas.Simd.{get_or-put_chunk_below, get_or-put_chunk_at, get_or-put_chunk_above, get_or-chunk, Each1-get_or, get_or-zip2, get_or-replicate, get_or-sel_l, length-replicate, length-zip2, length-sel_l, tops_compared, length-chunk}
+use lib.Lanes.{Each1, put_chunk, chunk, zip2, sel_l, top}
 use mir.Val.{bits, hbits}
 use Rattle.lane_kernels.specs.Lanes.{HasLanes}
 
@@ -74,3 +74,7 @@ HasLanes-kept old i n out room kept = record { long = length-chunk i n out room;
 -- the same lanes, told in other words
 pub HasLanes-same : (n : ℕ) {v : List ℕ} {f g : ℕ → ℕ} → HasLanes n v f → ((k : ℕ) → k < n → f k ≡ g k) → HasLanes n v g
 HasLanes-same n p same = record { long = p.long; each = λ k h. p.each k h ∙ same k h }
+
+-- a lane of 16 bits
+pub lane_below : (n : ℕ) (v : List ℕ) → (length v ≡ n) × Each1 (Fits w16) v → (k : ℕ) → k < n → get_or v k 0 < 65536
+lane_below n v fits k h = let f = Each1-get_or (Fits w16) v k 0 (omega (arith, fits.0)) fits.1 in f.fits
