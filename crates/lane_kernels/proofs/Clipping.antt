@@ -21,12 +21,15 @@ clip_raised low high k q (pos v) h e = let is : v + k ≡ q = omega (arith, ints
 clip_raised low high k q (negsuc v) h e = let is : q + v + 1 ≡ k = omega (arith, ints) in omega arith
 
 -- the same by lanes, whose subtraction wraps at t
+abbrev pub lanes_clipped : ℕ → ℕ → ℕ → ℕ → ℕ → ℕ
+lanes_clipped t low high k q = (cond (ltb (cond (ltb q low) low q) high) (cond (ltb q low) low q) high + (t - k)) % t
+
 pub clip_lanes : (t low high k q m : ℕ) (z : ℤ) → low ≤ high → high + k < t → q ≡ m → z +ℤ pos k ≡ pos m
-    → (cond (ltb (cond (ltb q (low + k)) (low + k) q) (high + k)) (cond (ltb q (low + k)) (low + k) q) (high + k) + (t - k)) % t ≡ clip low high z
+    → lanes_clipped t (low + k) (high + k) k q ≡ clip low high z
 clip_lanes t low high k q m z h room same e =
     let x = min (high + k) (max (low + k) m) in
     let turns : x + (t - k) ≡ 1 * t + (x - k) = omega arith in
-    ap (λ q. (cond (ltb (cond (ltb q (low + k)) (low + k) q) (high + k)) (cond (ltb q (low + k)) (low + k) q) (high + k) + (t - k)) % t) same
+    ap (lanes_clipped t (low + k) (high + k) k) same
     ∙ ap (λ x. (x + (t - k)) % t) (chosen m (low + k) (high + k))
     ∙ ap (λ y. y % t) turns ∙ mod-mul-add 1 t (x - k) (omega arith)
     ∙ clip_raised low high k m z h e

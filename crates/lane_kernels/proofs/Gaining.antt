@@ -1,10 +1,10 @@
 -- Gain, raised by three times the value that it keeps, so that nothing lies below 0.
-use Rattle.std.proofs.Common.{◌≡◌, ℕ, suc, inl, inr, ◌+◌, ◌-◌, ◌*◌, ◌/◌, ◌%◌, ◌^◌, ◌<◌, ◌≤◌, arith, sym, ap, ◌∙◌}
-use Rattle.std.specs.Prelude.{ℤ, pos, negsuc, ◌+ℤ◌, ◌-ℤ◌, ◌*ℤ◌}
+use Rattle.std.proofs.Common.{◌≡◌, ℕ, suc, inl, inr, ◌+◌, ◌-◌, ◌*◌, ◌/◌, ◌%◌, ◌^◌, ◌<◌, ◌≤◌, arith, ap, ◌∙◌}
+use Rattle.std.specs.Prelude.{pos, negsuc, ◌+ℤ◌, ◌-ℤ◌, ◌*ℤ◌}
 use Rattle.std.proofs.lemmas.Bool.{cases_lt}
 use Rattle.std.proofs.lemmas.Int.{ints}
 use Rattle.std.proofs.lemmas.Nat.{mul-le}
-use Rattle.lane_kernels.specs.Formulas.{gain, floor}
+use Rattle.lane_kernels.specs.Formulas.{gain}
 use Rattle.lane_kernels.proofs.Floor.{floor_biased}
 
 -- g and what 16384 is above it share z
@@ -14,7 +14,7 @@ shared z g h = let d = 16384 - g in let is : d + g ≡ 16384 = omega arith in om
     split : (a b c : ℕ) → a * (b + c) ≡ a * b + a * c
     split a b c = omega arith
 
-times : (v z g : ℕ) → (pos v -ℤ pos z) *ℤ pos g +ℤ pos (z * g) ≡ pos (v * g)
+pub times : (v z g : ℕ) → (pos v -ℤ pos z) *ℤ pos g +ℤ pos (z * g) ≡ pos (v * g)
 times v z g = elim (cases_lt v z) [
   | inl l ↦
       let d = z - v - 1 in
@@ -30,6 +30,7 @@ times v z g = elim (cases_lt v z) [
   where
     share : (a b c : ℕ) → (a + b) * c ≡ a * c + b * c
     share a b c = omega arith
+
     below : (d : ℕ) → suc d * g + v * g ≡ z * g → negsuc d *ℤ pos g +ℤ pos (z * g) ≡ pos (v * g)
     below d e = omega (arith, ints)
 

@@ -1,7 +1,9 @@
 pub mod Clipping
+pub mod Colour
 pub mod Floor
 pub mod Gaining
 pub mod Luma
 pub mod Mixing
 pub mod Ones
+pub mod Scales
 pub mod Stored

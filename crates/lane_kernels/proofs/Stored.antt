@@ -78,3 +78,10 @@ HasLanes-same n p same = record { long = p.long; each = λ k h. p.each k h ∙ s
 -- a lane of 16 bits
 pub lane_below : (n : ℕ) (v : List ℕ) → (length v ≡ n) × Each1 (Fits w16) v → (k : ℕ) → k < n → get_or v k 0 < 65536
 lane_below n v fits k h = let f = Each1-get_or (Fits w16) v k 0 (omega (arith, fits.0)) fits.1 in f.fits
+
+-- what bounds a list bounds the lanes that are loaded from it
+pub lanes_below : (n i : ℕ) (xs : List ℕ) (m : ℕ) → i + n ≤ length xs → ((k : ℕ) → k < length xs → get_or xs k 0 < m)
+    → (k : ℕ) → k < length (chunk i n xs) → get_or (chunk i n xs) k 0 < m
+lanes_below n i xs m room each k h =
+    let load = HasLanes-load i n xs room in
+    omega (arith, load.each k (omega (arith, load.long)), each (i + k) (omega (arith, load.long)))

@@ -1,4 +1,4 @@
-use Rattle.std.proofs.Common.{◌≡◌, ℕ, ◌<◌, List, length, get_or, ltb, w16, w32, ◌+◌, ◌-◌, ◌*◌, ◌/◌, ◌%◌, ◌^◌, arith, rules, Fits, ◌∙◌, ap, sym}
+use Rattle.std.proofs.Common.{ℕ, get_or, ltb, w16, w32, ◌+◌, ◌-◌, ◌*◌, ◌/◌, ◌%◌, ◌^◌, arith, rules, Fits}
 use Rattle.std.proofs.lemmas.Simd.{Each1-all, Each1-get_or, Each2-splat}
 use Rattle.lane_kernels.proofs.Clipping.{clip_lanes}
 use Rattle.lane_kernels.specs.Formulas.{gain}

@@ -1,5 +1,5 @@
-use Rattle.std.proofs.Common.{◌≡◌, ℕ, ◌<◌, List, length, get_or, w16, ◌+◌, ◌-◌, ◌*◌, ◌/◌, ◌%◌, ◌^◌, arith, rules, Fits}
-use Rattle.std.proofs.lemmas.Simd.{Each1-all, Each1-get_or, Each2-splat}
+use Rattle.std.proofs.Common.{ℕ, ◌<◌, get_or, ◌+◌, ◌-◌, ◌*◌, ◌/◌, ◌%◌, ◌^◌, arith, rules}
+use Rattle.std.proofs.lemmas.Simd.{Each1-all, Each2-splat}
 use Rattle.lane_kernels.proofs.Mixing.{key_fits, key_most}
 use Rattle.lane_kernels.proofs.Stored.{HasLanes-given, HasLanes-map, HasLanes-splat, HasLanes-zip2, HasLanes-same, lane_below}
 use Rattle.lane_kernels.proofs.key_lanes.Goals as goal

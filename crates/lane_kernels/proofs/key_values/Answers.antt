@@ -1,4 +1,4 @@
-use Rattle.std.proofs.Common.{ℕ, ◌+◌, ◌<◌, ◌≤◌, length, arith, get_or, ◌∙◌}
+use Rattle.std.proofs.Common.{◌+◌, arith, ◌∙◌}
 use Rattle.std.proofs.lemmas.Simd.{length-put_chunk}
 use Rattle.lane_kernels.specs.Formulas.{key}
 use Rattle.lane_kernels.proofs.Stored.{Below-store, HasLanes-load, HasLanes-same}

@@ -1,4 +1,4 @@
-use Rattle.std.proofs.Common.{◌∙◌, arith, min, max, ◌-◌, ◌*◌}
+use Rattle.std.proofs.Common.{◌∙◌, arith, ◌-◌, ◌*◌}
 use Rattle.std.proofs.lemmas.Simd.{length-put_chunk}
 use Rattle.lane_kernels.specs.Formulas.{clip, luma}
 use Rattle.lane_kernels.proofs.Stored.{Below-store, HasLanes-load, HasLanes-same}
