@@ -4,7 +4,7 @@ use Rattle.std.specs.Prelude.{ℤ, pos, negsuc, ◌+ℤ◌, ◌*ℤ◌}
 use Rattle.std.proofs.lemmas.Bool.{cases_lt}
 use Rattle.std.proofs.lemmas.Int.{ints}
 use Rattle.std.proofs.lemmas.Nat.{div-add-mod', mod_below, div-mul-add, mul-le}
-use Rattle.lane_kernels.specs.Formulas.{floor, nearest}
+use Rattle.lane_kernels.specs.Formulas.{IsFloor, floor, nearest}
 
 -- m and k are a quotient and what is left
 quotient_is : (m d q r : ℕ) → r < d → m ≡ q * d + r → m / d ≡ q
@@ -55,3 +55,22 @@ nearest_biased z d k m some e =
 -- where there is nothing below 0, no bias
 pub nearest_natural : (m d : ℕ) → 0 < d → nearest (pos m) d ≡ pos ((m + d / 2) / d)
 nearest_natural m d some = let e = nearest_biased (pos m) d 0 m some (omega (arith, ints)) in omega (arith, ints)
+
+-- a floor in words of a product
+pub floor_is : (z : ℤ) (d : ℕ) → 0 < d → IsFloor z d (floor z d)
+unfolding floor
+floor_is (pos a) d some = (a % d, mod_below a d some, ap pos (sym (div-add-mod' a d)))
+floor_is (negsuc a) d some =
+    let r = d - 1 - a % d in
+    let small = mod_below a d some in
+    let one : suc (a / d) * d ≡ a / d * d + d = omega (arith, times_sum (a / d) 1 d) in
+    let is : suc (a / d) * d ≡ suc (a + r) = omega (arith, div-add-mod' a d) in
+    (r, omega arith, omega (arith, ints))
+
+pub floor_only : (z : ℤ) (d : ℕ) (v : ℤ) → 0 < d → IsFloor z d v → v ≡ floor z d
+floor_only z d (pos n) some (r, small, is) =
+    let low = floor_biased z d 0 (n * d + r) some (omega (arith, ints)) in
+    omega (arith, ints, low, div-mul-add n d r small)
+floor_only z d (negsuc n) some (r, small, is) =
+    let low = floor_biased z d (suc n) r some (omega (arith, ints)) in
+    omega (arith, ints, low, quotient_is r d 0 r small (omega arith))

@@ -1,6 +1,6 @@
 -- The formulas of the processor over whole numbers, n bits to a sample (ITU-R BT.709, and own forms).
 -- A fraction that is rounded stands as its numerator, a whole number of either sign, and its divisor.
-use Rattle.std.specs.Prelude.{ℕ, ◌+◌, ◌-◌, ◌*◌, ◌/◌, ◌^◌, min, max, if◌then◌else◌, nat_lt, nat_le, ℤ, pos, negsuc, ◌+ℤ◌, ◌-ℤ◌, ◌*ℤ◌}
+use Rattle.std.specs.Prelude.{◌≡◌, ◌<◌, ℕ, ◌+◌, ◌-◌, ◌*◌, ◌/◌, ◌^◌, min, max, if◌then◌else◌, nat_lt, nat_le, ℤ, pos, negsuc, ◌+ℤ◌, ◌-ℤ◌, ◌*ℤ◌}
 
 -- ---- rounding
 
@@ -8,6 +8,10 @@ use Rattle.std.specs.Prelude.{ℕ, ◌+◌, ◌-◌, ◌*◌, ◌/◌, ◌^◌, 
 unfoldable pub floor : ℤ → ℕ → ℤ
 floor (pos a) d = pos (a / d)
 floor (negsuc a) d = negsuc (a / d)
+
+-- the same in words of a product: z is v times d and a rest below d
+abbrev pub IsFloor : ℤ → ℕ → ℤ → Type 0
+IsFloor z d v = (r : ℕ) × (r < d) × (z ≡ v *ℤ pos d +ℤ pos r)
 
 -- INT(z / d): floor(z / d + 1 / 2), over the one divisor 2 d
 abbrev pub nearest : ℤ → ℕ → ℤ

@@ -8,11 +8,14 @@ ghost use Rattle.lane_kernels.specs.Formulas.{cb, clip, cr, gain, key, luma, sca
 
 use std::simd::prelude::*;
 
+pub mod laws;
+
 /// 255 where the octets differ, else 0.
 pub fn differs(a: &[u8], b: &[u8], out: &mut [u8])
     requires lengths { length b.now ≡ length a.now }
     requires room { length out.old ≡ length a.now }
-    ensures { EachIndex out.new (λ k. slice_index out.new k ≡ (if slice_index a.now k == slice_index b.now k then 0 else 255)) }
+    ensures { EachIndex out.new (λ k.
+        slice_index out.new k ≡ (if slice_index a.now k == slice_index b.now k then 0 else 255)) }
 {
     let mut at = 0;
     while out.len() - at >= 32 {
@@ -32,7 +35,8 @@ pub fn select(mask: &[u8], a: &[u8], b: &[u8], out: &mut [u8])
     requires of_mask { length mask.now ≡ length out.old }
     requires of_a { length a.now ≡ length out.old }
     requires of_b { length b.now ≡ length out.old }
-    ensures { EachIndex out.new (λ k. slice_index out.new k ≡ bit_xor (slice_index b.now k) (bit_and (slice_index mask.now k) (bit_xor (slice_index a.now k) (slice_index b.now k)))) }
+    ensures { EachIndex out.new (λ k.
+        slice_index out.new k ≡ bit_xor (slice_index b.now k) (bit_and (slice_index mask.now k) (bit_xor (slice_index a.now k) (slice_index b.now k)))) }
 {
     let mut at = 0;
     while out.len() - at >= 32 {
@@ -50,7 +54,8 @@ pub fn select(mask: &[u8], a: &[u8], b: &[u8], out: &mut [u8])
 /// Sets in each word the bits that are set in the other.
 pub fn or_marks(into: &mut [u16], from: &[u16])
     requires { length from.now ≡ length into.old }
-    ensures { EachIndex into.new (λ k. slice_index into.new k ≡ bit_or (slice_index into.old k) (slice_index from.now k)) }
+    ensures { EachIndex into.new (λ k.
+        slice_index into.new k ≡ bit_or (slice_index into.old k) (slice_index from.now k)) }
 {
     let mut at = 0;
     while into.len() - at >= 16 {
@@ -68,7 +73,8 @@ pub fn or_marks(into: &mut [u16], from: &[u16])
 /// Brings each value to the nearest one from `low` to `high`.
 pub fn clip(values: &mut [u16], low: u16, high: u16)
     requires { low ≤ high }
-    ensures { EachIndex values.new (λ k. slice_index values.new k ≡ clip low high (pos (slice_index values.old k))) }
+    ensures { EachIndex values.new (λ k.
+        slice_index values.new k ≡ clip low high (pos (slice_index values.old k))) }
 {
     let mut at = 0;
     while values.len() - at >= 16 {
@@ -114,7 +120,8 @@ fn narrowed_wide(v: u64x8) -> u16x8
 /// The luma of each triple of lanes, from `low` to `high`.
 #[inline(always)]
 fn luma_lanes(red: u16x8, green: u16x8, blue: u16x8, low: u32, high: u32) -> u32x8
-    ensures { HasLanes 8 result (λ k. clip low high (luma (slice_index red k) (slice_index green k) (slice_index blue k))) }
+    ensures { HasLanes 8 result (λ k.
+        clip low high (luma (slice_index red k) (slice_index green k) (slice_index blue k))) }
 {
     let sum = red.cast::<u32>() * u32x8::splat(1063)
         + green.cast::<u32>() * u32x8::splat(3576)
@@ -142,7 +149,8 @@ pub fn luma709(r: &[u16], g: &[u16], b: &[u16], bits: u32, out: &mut [u16])
     requires of_r { length r.now ≡ length out.old }
     requires of_g { length g.now ≡ length out.old }
     requires of_b { length b.now ≡ length out.old }
-    ensures { EachIndex out.new (λ k. slice_index out.new k ≡ video_data bits (luma (slice_index r.now k) (slice_index g.now k) (slice_index b.now k))) }
+    ensures { EachIndex out.new (λ k.
+        slice_index out.new k ≡ video_data bits (luma (slice_index r.now k) (slice_index g.now k) (slice_index b.now k))) }
 {
     let low = scale(bits);
     let high = 255 * low - 1;
@@ -160,7 +168,8 @@ pub fn luma709(r: &[u16], g: &[u16], b: &[u16], bits: u32, out: &mut [u16])
     }
 }
 
-/// Cb of the triples of lanes, of up to 12 bits, brought to video data. All is raised by 131 scales, so
+/// Cb of the triples of lanes, of up to 12 bits, brought to video data. All is raised by 131
+/// scales, so
 /// that nothing lies below 0.
 #[inline(always)]
 fn cb_lanes(red: u16x8, green: u16x8, blue: u16x8, bits: u32) -> u32x8
@@ -168,7 +177,8 @@ fn cb_lanes(red: u16x8, green: u16x8, blue: u16x8, bits: u32) -> u32x8
     requires of_red { EachIndex red (λ k. slice_index red k < 2 ^ bits) }
     requires of_green { EachIndex green (λ k. slice_index green k < 2 ^ bits) }
     requires of_blue { EachIndex blue (λ k. slice_index blue k < 2 ^ bits) }
-    ensures { HasLanes 8 result (λ k. video_data bits (cb bits (slice_index red k) (slice_index green k) (slice_index blue k))) }
+    ensures { HasLanes 8 result (λ k.
+        video_data bits (cb bits (slice_index red k) (slice_index green k) (slice_index blue k))) }
 {
     let s = scale(bits);
     let up = blue.cast::<u32>() * u32x8::splat(519568) + u32x8::splat(507970 + 133088271 * s);
@@ -188,7 +198,8 @@ fn cb_wide_lanes(red: u16x8, green: u16x8, blue: u16x8, bits: u32) -> u64x8
     requires of_red { EachIndex red (λ k. slice_index red k < 2 ^ bits) }
     requires of_green { EachIndex green (λ k. slice_index green k < 2 ^ bits) }
     requires of_blue { EachIndex blue (λ k. slice_index blue k < 2 ^ bits) }
-    ensures { HasLanes 8 result (λ k. video_data bits (cb bits (slice_index red k) (slice_index green k) (slice_index blue k))) }
+    ensures { HasLanes 8 result (λ k.
+        video_data bits (cb bits (slice_index red k) (slice_index green k) (slice_index blue k))) }
 {
     let s = scale(bits) as u64;
     let up = blue.cast::<u64>() * u64x8::splat(519568) + u64x8::splat(507970 + 133088271 * s);
@@ -208,7 +219,8 @@ fn cb_block(red: u16x8, green: u16x8, blue: u16x8, bits: u32) -> u16x8
     requires of_red { EachIndex red (λ k. slice_index red k < 2 ^ bits) }
     requires of_green { EachIndex green (λ k. slice_index green k < 2 ^ bits) }
     requires of_blue { EachIndex blue (λ k. slice_index blue k < 2 ^ bits) }
-    ensures { HasLanes 8 result (λ k. video_data bits (cb bits (slice_index red k) (slice_index green k) (slice_index blue k))) }
+    ensures { HasLanes 8 result (λ k.
+        video_data bits (cb bits (slice_index red k) (slice_index green k) (slice_index blue k))) }
 {
     if bits <= 12 {
         narrowed(cb_lanes(red, green, blue, bits))
@@ -242,7 +254,8 @@ pub fn cb709(r: &[u16], g: &[u16], b: &[u16], bits: u32, out: &mut [u16])
     requires fit_r { EachIndex r.now (λ k. slice_index r.now k < 2 ^ bits) }
     requires fit_g { EachIndex g.now (λ k. slice_index g.now k < 2 ^ bits) }
     requires fit_b { EachIndex b.now (λ k. slice_index b.now k < 2 ^ bits) }
-    ensures { EachIndex out.new (λ k. slice_index out.new k ≡ video_data bits (cb bits (slice_index r.now k) (slice_index g.now k) (slice_index b.now k))) }
+    ensures { EachIndex out.new (λ k.
+        slice_index out.new k ≡ video_data bits (cb bits (slice_index r.now k) (slice_index g.now k) (slice_index b.now k))) }
 {
     let mut at = 0;
     while out.len() - at >= 8 {
@@ -258,7 +271,8 @@ pub fn cb709(r: &[u16], g: &[u16], b: &[u16], bits: u32, out: &mut [u16])
     }
 }
 
-/// Cr of the triples of lanes, of up to 12 bits, brought to video data. All is raised by 131 scales, so
+/// Cr of the triples of lanes, of up to 12 bits, brought to video data. All is raised by 131
+/// scales, so
 /// that nothing lies below 0.
 #[inline(always)]
 fn cr_lanes(red: u16x8, green: u16x8, blue: u16x8, bits: u32) -> u32x8
@@ -266,7 +280,8 @@ fn cr_lanes(red: u16x8, green: u16x8, blue: u16x8, bits: u32) -> u32x8
     requires of_red { EachIndex red (λ k. slice_index red k < 2 ^ bits) }
     requires of_green { EachIndex green (λ k. slice_index green k < 2 ^ bits) }
     requires of_blue { EachIndex blue (λ k. slice_index blue k < 2 ^ bits) }
-    ensures { HasLanes 8 result (λ k. video_data bits (cr bits (slice_index red k) (slice_index green k) (slice_index blue k))) }
+    ensures { HasLanes 8 result (λ k.
+        video_data bits (cr bits (slice_index red k) (slice_index green k) (slice_index blue k))) }
 {
     let s = scale(bits);
     let up = red.cast::<u32>() * u32x8::splat(440944) + u32x8::splat(431101 + 112948593 * s);
@@ -286,7 +301,8 @@ fn cr_wide_lanes(red: u16x8, green: u16x8, blue: u16x8, bits: u32) -> u64x8
     requires of_red { EachIndex red (λ k. slice_index red k < 2 ^ bits) }
     requires of_green { EachIndex green (λ k. slice_index green k < 2 ^ bits) }
     requires of_blue { EachIndex blue (λ k. slice_index blue k < 2 ^ bits) }
-    ensures { HasLanes 8 result (λ k. video_data bits (cr bits (slice_index red k) (slice_index green k) (slice_index blue k))) }
+    ensures { HasLanes 8 result (λ k.
+        video_data bits (cr bits (slice_index red k) (slice_index green k) (slice_index blue k))) }
 {
     let s = scale(bits) as u64;
     let up = red.cast::<u64>() * u64x8::splat(440944) + u64x8::splat(431101 + 112948593 * s);
@@ -306,7 +322,8 @@ fn cr_block(red: u16x8, green: u16x8, blue: u16x8, bits: u32) -> u16x8
     requires of_red { EachIndex red (λ k. slice_index red k < 2 ^ bits) }
     requires of_green { EachIndex green (λ k. slice_index green k < 2 ^ bits) }
     requires of_blue { EachIndex blue (λ k. slice_index blue k < 2 ^ bits) }
-    ensures { HasLanes 8 result (λ k. video_data bits (cr bits (slice_index red k) (slice_index green k) (slice_index blue k))) }
+    ensures { HasLanes 8 result (λ k.
+        video_data bits (cr bits (slice_index red k) (slice_index green k) (slice_index blue k))) }
 {
     if bits <= 12 {
         narrowed(cr_lanes(red, green, blue, bits))
@@ -340,7 +357,8 @@ pub fn cr709(r: &[u16], g: &[u16], b: &[u16], bits: u32, out: &mut [u16])
     requires fit_r { EachIndex r.now (λ k. slice_index r.now k < 2 ^ bits) }
     requires fit_g { EachIndex g.now (λ k. slice_index g.now k < 2 ^ bits) }
     requires fit_b { EachIndex b.now (λ k. slice_index b.now k < 2 ^ bits) }
-    ensures { EachIndex out.new (λ k. slice_index out.new k ≡ video_data bits (cr bits (slice_index r.now k) (slice_index g.now k) (slice_index b.now k))) }
+    ensures { EachIndex out.new (λ k.
+        slice_index out.new k ≡ video_data bits (cr bits (slice_index r.now k) (slice_index g.now k) (slice_index b.now k))) }
 {
     let mut at = 0;
     while out.len() - at >= 8 {
@@ -387,11 +405,13 @@ fn gain_of(x: u16, zero: u32, g: u32, low: u32, high: u32) -> u16
     (raised.max(low + 3 * zero).min(high + 3 * zero) - 3 * zero) as u16
 }
 
-/// Brings each value `g / 4096` as far from `zero`, and then to the nearest one from `low` to `high`.
+/// Brings each value `g / 4096` as far from `zero`, and then to the nearest one from `low` to
+/// `high`.
 pub fn gain(values: &mut [u16], zero: u16, g: u32, low: u16, high: u16)
     requires of_g { g ≤ 16384 }
     requires range { low ≤ high }
-    ensures { EachIndex values.new (λ k. slice_index values.new k ≡ clip low high (gain zero g (slice_index values.old k))) }
+    ensures { EachIndex values.new (λ k.
+        slice_index values.new k ≡ clip low high (gain zero g (slice_index values.old k))) }
 {
     let mut at = 0;
     while values.len() - at >= 8 {
@@ -409,8 +429,10 @@ pub fn gain(values: &mut [u16], zero: u16, g: u32, low: u16, high: u16)
 #[inline(always)]
 fn mix_lanes(x: u16x8, y: u16x8, w: u16x8) -> u32x8
     requires { EachIndex w (λ k. slice_index w k ≤ 256) }
-    ensures value { HasLanes 8 result (λ k. wipe (slice_index x k) (slice_index y k) (slice_index w k)) }
-    ensures fit { EachIndex x (λ k. wipe (slice_index x k) (slice_index y k) (slice_index w k) < 65536) }
+    ensures value { HasLanes 8 result (λ k.
+        wipe (slice_index x k) (slice_index y k) (slice_index w k)) }
+    ensures fit { EachIndex x (λ k.
+        wipe (slice_index x k) (slice_index y k) (slice_index w k) < 65536) }
 {
     let to_y = w.cast::<u32>();
     let sum = x.cast::<u32>() * (u32x8::splat(256) - to_y) + y.cast::<u32>() * to_y;
@@ -432,7 +454,8 @@ pub fn mix256(a: &[u16], b: &[u16], w: &[u16], out: &mut [u16])
     requires of_b { length b.now ≡ length out.old }
     requires of_w { length w.now ≡ length out.old }
     requires weights { EachIndex w.now (λ k. slice_index w.now k ≤ 256) }
-    ensures { EachIndex out.new (λ k. slice_index out.new k ≡ wipe (slice_index a.now k) (slice_index b.now k) (slice_index w.now k)) }
+    ensures { EachIndex out.new (λ k.
+        slice_index out.new k ≡ wipe (slice_index a.now k) (slice_index b.now k) (slice_index w.now k)) }
 {
     let mut at = 0;
     while out.len() - at >= 8 {
@@ -454,8 +477,10 @@ fn key_lanes(x: u16x8, y: u16x8, k: u16x8, p: u32) -> u32x8
     requires some { 1 ≤ p }
     requires most { p < 65536 }
     requires of_k { EachIndex k (λ i. slice_index k i ≤ p) }
-    ensures value { HasLanes 8 result (λ i. key p (slice_index x i) (slice_index y i) (slice_index k i)) }
-    ensures fit { EachIndex x (λ i. key p (slice_index x i) (slice_index y i) (slice_index k i) < 65536) }
+    ensures value { HasLanes 8 result (λ i.
+        key p (slice_index x i) (slice_index y i) (slice_index k i)) }
+    ensures fit { EachIndex x (λ i.
+        key p (slice_index x i) (slice_index y i) (slice_index k i) < 65536) }
 {
     let to_y = k.cast::<u32>();
     let sum = x.cast::<u32>() * (u32x8::splat(p) - to_y) + y.cast::<u32>() * to_y;
@@ -473,7 +498,8 @@ fn key_of(x: u16, y: u16, k: u16, p: u32) -> u16
     ((x as u32 * (p - k as u32) + y as u32 * k as u32 + p / 2) / p) as u16
 }
 
-/// The values `k / p` of the way from `a` to `b`. Inlined where `p` is a literal, it divides by one.
+/// The values `k / p` of the way from `a` to `b`. Inlined where `p` is a literal, it divides by
+/// one.
 #[inline(always)]
 fn key_values(a: &[u16], b: &[u16], k: &[u16], p: u32, out: &mut [u16])
     requires of_a { length a.now ≡ length out.old }
@@ -482,7 +508,8 @@ fn key_values(a: &[u16], b: &[u16], k: &[u16], p: u32, out: &mut [u16])
     requires some { 1 ≤ p }
     requires most { p < 65536 }
     requires keys { EachIndex k.now (λ i. slice_index k.now i ≤ p) }
-    ensures { EachIndex out.new (λ i. slice_index out.new i ≡ key p (slice_index a.now i) (slice_index b.now i) (slice_index k.now i)) }
+    ensures { EachIndex out.new (λ i.
+        slice_index out.new i ≡ key p (slice_index a.now i) (slice_index b.now i) (slice_index k.now i)) }
 {
     let mut at = 0;
     while out.len() - at >= 8 {
@@ -505,7 +532,8 @@ pub fn key_mix(a: &[u16], b: &[u16], k: &[u16], p: u16, out: &mut [u16])
     requires of_k { length k.now ≡ length out.old }
     requires some { 1 ≤ p }
     requires keys { EachIndex k.now (λ i. slice_index k.now i ≤ p) }
-    ensures { EachIndex out.new (λ i. slice_index out.new i ≡ key p (slice_index a.now i) (slice_index b.now i) (slice_index k.now i)) }
+    ensures { EachIndex out.new (λ i.
+        slice_index out.new i ≡ key p (slice_index a.now i) (slice_index b.now i) (slice_index k.now i)) }
 {
     match p {
         219 => key_values(a, b, k, 219, out),
