@@ -122,6 +122,14 @@ impl<A: Allocator> Picture<A> {
         &self.samples
     }
 
+    /// All its values, in raster order, given up. No memory is taken.
+    pub fn into_samples(self) -> Vec<u16, A>
+        ensures value { result.items ≡ self.samples }
+        ensures whole { IsPicture self }
+    {
+        self.samples
+    }
+
     /// A copy of its own, over another allocator. `NoMemory` where the memory was refused.
     pub fn try_copy<B: Allocator>(&self, alloc: B) -> Result<Picture<B>, PictureFault>
         ensures same { IfOk result (λ p. p ≡ self.now) }

@@ -1,0 +1,23 @@
+-- From sample numbers to positions.
+use Rattle.std.proofs.Common.{◌≡◌, ℕ, ◌<◌, List, [], ◌∷◌, zero, suc, get_or, length, arith, sym, ap, ◌∙◌, subst}
+use Rattle.std.specs.List.{AllByRecursion}
+use Rattle.st_format.specs.declared.format.Format.{Format}
+use Rattle.st_format.specs.Position.{Position, IsPosition, component_in_row, number_of, place, sample_count}
+use Rattle.st_format.proofs.Numbering.{number_of-below, place-number_of}
+use Rattle.st_format.proofs.PictureLemmas.{component-place}
+
+-- the component of a position's number
+pub component-number : (f : Format) (p : Position) → IsPosition f p → component_in_row f.sampling (number_of f p) ≡ p.component
+component-number f p h = sym (component-place f (number_of f p)) ∙ ap (λ q. q.component) (place-number_of f p h)
+
+-- what is so of each sample number is so at each position
+pub made_at : (f : Format) (old new : List ℕ) (g : ℕ → ℕ → ℕ) → length new ≡ sample_count f
+    → ((k : ℕ) → k < length new → get_or new k 0 ≡ g (component_in_row f.sampling k) (get_or old k 0))
+    → (p : Position) → IsPosition f p → get_or new (number_of f p) 0 ≡ g p.component (get_or old (number_of f p) 0)
+made_at f old new g long each p h =
+    let below = number_of-below f p h in
+    each (number_of f p) (omega arith) ∙ ap (λ c. g c (get_or old (number_of f p) 0)) (component-number f p h)
+
+pub all_from_each : (P : ℕ → Type 0) (xs : List ℕ) → ((k : ℕ) → k < length xs → P (get_or xs k 0)) → AllByRecursion P xs
+all_from_each P [] each = tt
+all_from_each P (x ∷ xs) each = (each 0 (omega arith), all_from_each P xs (λ k h. each (suc k) (omega arith)))

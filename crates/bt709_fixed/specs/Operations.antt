@@ -1,0 +1,74 @@
+-- What range, gain and matrix make of a picture, one position at a time (ITU-R BT.709; gain and 4:2:2 own).
+use Rattle.std.specs.Prelude.{◌≡◌, ℕ, ◌*◌, min, Bool, true, false, not, ◌==◌, if◌then◌else◌, ℤ, pos}
+use Rattle.st_format.specs.declared.format.Format.{Format}
+use Rattle.st_format.specs.declared.format.Sampling.{Sampling}
+use Rattle.st_format.specs.declared.format.Sampling.TheVariants.{Ycc422, Ycc444, Rgb}
+use Rattle.st_format.specs.Pgroup.{bits_of}
+use Rattle.st_format.specs.Picture.{Values, value_at}
+use Rattle.st_format.specs.Position.{Position, IsPosition, component_in_row}
+use Rattle.lane_kernels.specs.Formulas.{cb, centre, cr, gain, luma, nominal, nominal_colour, scale, video_data}
+use Rattle.bt709_fixed.specs.declared.RangeKind.{RangeKind}
+use Rattle.bt709_fixed.specs.declared.RangeKind.TheVariants.{Nominal, VideoData}
+
+-- The picture p has the format f, and at each position the value that is given
+pub record IsOf (f : Format) (value : Position → ℕ) (p : Values) : Type 0 where
+  pub format : p.format ≡ f
+  pub each : (at : Position) → IsPosition f at → value_at p at ≡ value at
+
+-- whether a component is Cb or Cr
+abbrev pub is_colour : Sampling → ℕ → Bool
+is_colour Ycc422 component = not (component == 0)
+is_colour Ycc444 component = not (component == 0)
+is_colour Rgb component = false
+
+-- a value brought to a range, of n bits
+abbrev pub limited : RangeKind → ℕ → Bool → ℕ → ℕ
+limited Nominal n true v = nominal_colour n (pos v)
+limited Nominal n false v = nominal n (pos v)
+limited VideoData n colour v = video_data n (pos v)
+
+-- a luma sample of number k that isn't above most; the others as they are
+abbrev pub lowered : Sampling → ℕ → ℕ → ℕ → ℕ
+lowered s most k v = if component_in_row s k == 0 then min most v else v
+
+-- the value that gain keeps: the centre for Cb and Cr, else black
+abbrev pub kept : ℕ → Bool → ℕ
+kept n true = centre n
+kept n false = 16 * scale n
+
+abbrev pub gained : ℕ → ℕ → Bool → ℕ → ℕ
+gained g n colour v = video_data n (gain (kept n colour) g v)
+
+-- Y, Cb or Cr of n bits
+abbrev pub matrixed : ℕ → ℕ → ℕ → ℕ → ℕ → ℕ
+matrixed n component r g b =
+    if component == 0 then video_data n (luma r g b) else
+    (if component == 1 then video_data n (cb n r g b) else video_data n (cr n r g b))
+
+-- the value of another component at the same row and column
+abbrev pub component_at : Values → Position → ℕ → ℕ
+component_at v at component = value_at v (record { row = at.row; column = at.column; component = component })
+
+-- ---- the four operations: the value at each position
+
+abbrev pub limit_value : RangeKind → Values → Position → ℕ
+limit_value range v at = limited range (bits_of v.format.depth) (is_colour v.format.sampling at.component) (value_at v at)
+
+abbrev pub gain_value : ℕ → Values → Position → ℕ
+gain_value g v at = gained g (bits_of v.format.depth) (is_colour v.format.sampling at.component) (value_at v at)
+
+abbrev pub ycc444_value : Values → Position → ℕ
+ycc444_value v at = matrixed (bits_of v.format.depth) at.component (component_at v at 0) (component_at v at 1) (component_at v at 2)
+
+-- Cb and Cr of the even columns, where alone 4:2:2 has a position for them
+abbrev pub ycc422_value : Values → Position → ℕ
+ycc422_value v at = value_at v at
+
+-- f is g but for its sampling
+pub record IsResampled (s : Sampling) (g f : Format) : Type 0 where
+  pub sampling : f.sampling ≡ s
+  pub depth : f.depth ≡ g.depth
+  pub width : f.width ≡ g.width
+  pub height : f.height ≡ g.height
+  pub n : f.n ≡ g.n
+  pub d : f.d ≡ g.d

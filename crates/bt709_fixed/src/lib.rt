@@ -1,0 +1,78 @@
+//! Range and gain of a picture, and the matrix of ITU-R BT.709 in fixed point.
+#![tactic(auto)]
+
+ghost use Rattle.std.specs.Prelude.{◌≡◌, ◌≤◌, ◌<◌, ◌*◌, ◌-◌, ◌^◌, EachIndex, length, slice_index, IfOk};
+ghost use Rattle.st_format.specs.Pgroup.{bits_of};
+ghost use Rattle.st_format.specs.Picture.{FitsDepth, IsPicture};
+ghost use Rattle.st_format.specs.Position.{component_in_row};
+ghost use Rattle.lane_kernels.specs.Formulas.{centre, scale};
+ghost use Rattle.bt709_fixed.specs.Operations.{IsOf, gain_value, gained, is_colour, kept, limit_value, limited, lowered};
+
+use st_format::{Depth, Format, Picture, Sampling};
+use std::alloc::Allocator;
+
+/// A range of values.
+#[derive(Clone, Copy, Debug, PartialEq, Eq)]
+pub enum RangeKind {
+    /// Luma, R, G and B from 16 to 235 scales, Cb and Cr from 16 to 240.
+    Nominal,
+    /// All from one scale to one below 255 scales.
+    VideoData,
+}
+
+/// The scale of a depth against 8 bits.
+fn scale_of(depth: Depth) -> u16
+    ensures value { result ≡ scale (bits_of depth) }
+    ensures least { 1 ≤ result }
+    ensures most { result ≤ 256 }
+{
+    match depth {
+        Depth::D8 => 1,
+        Depth::D10 => 4,
+        Depth::D12 => 16,
+        Depth::D16 => 256,
+    }
+}
+
+/// Brings each value to the range named.
+pub fn limit<A: Allocator>(picture: Picture<A>, range: RangeKind) -> Picture<A>
+    ensures value { IsOf picture.format (limit_value range picture) result }
+    ensures whole { IsPicture result }
+{
+    let format = picture.format();
+    let mut samples = picture.into_samples();
+    limit_samples(format.sampling(), format.depth(), range, samples.as_mut_slice());
+    Picture::from_samples(format, samples)
+}
+
+/// Brings each sample to the range named.
+fn limit_samples(sampling: Sampling, depth: Depth, range: RangeKind, samples: &mut [u16])
+    ensures long { length samples.new ≡ length samples.old }
+    ensures each { EachIndex samples.new (λ k.
+        slice_index samples.new k ≡ limited range (bits_of depth) (is_colour sampling (component_in_row sampling k)) (slice_index samples.old k)) }
+{
+    let s = scale_of(depth);
+    match range {
+        RangeKind::VideoData => lane_kernels::clip(samples, s, 255 * s - 1),
+        RangeKind::Nominal => match sampling {
+            Sampling::Rgb => lane_kernels::clip(samples, 16 * s, 235 * s),
+            Sampling::Ycc422 | Sampling::Ycc444 => {
+                lane_kernels::clip(samples, 16 * s, 240 * s);
+                lower_luma(sampling, 235 * s, samples);
+            }
+        },
+    }
+}
+
+/// Brings each luma sample above `most` to it.
+fn lower_luma(sampling: Sampling, most: u16, samples: &mut [u16])
+    ensures long { length samples.new ≡ length samples.old }
+    ensures each { EachIndex samples.new (λ k.
+        slice_index samples.new k ≡ lowered sampling most k (slice_index samples.old k)) }
+{
+    for (number, sample) in samples.iter_mut().enumerate() {
+        if sampling.component_in_row(number) == 0 && *sample > most {
+            *sample = most;
+        }
+    }
+}
