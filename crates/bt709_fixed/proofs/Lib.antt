@@ -1,2 +1,4 @@
+pub mod Gained
 pub mod Made
+pub mod Part
 pub mod Ranges

@@ -1,7 +1,7 @@
 //! Range and gain of a picture, and the matrix of ITU-R BT.709 in fixed point.
 #![tactic(auto)]
 
-ghost use Rattle.std.specs.Prelude.{◌≡◌, ◌≤◌, ◌<◌, ◌*◌, ◌-◌, ◌^◌, EachIndex, length, slice_index, IfOk};
+ghost use Rattle.std.specs.Prelude.{◌≡◌, if◌then◌else◌, ◌+◌, ◌≤◌, ◌<◌, ◌*◌, ◌-◌, ◌^◌, EachIndex, length, slice_index, IfOk};
 ghost use Rattle.st_format.specs.Pgroup.{bits_of};
 ghost use Rattle.st_format.specs.Picture.{FitsDepth, IsPicture};
 ghost use Rattle.st_format.specs.Position.{component_in_row};
@@ -73,6 +73,71 @@ fn lower_luma(sampling: Sampling, most: u16, samples: &mut [u16])
     for (number, sample) in samples.iter_mut().enumerate() {
         if sampling.component_in_row(number) == 0 && *sample > most {
             *sample = most;
+        }
+    }
+}
+
+/// Brings each value `g / 4096` as far from black, or from the centre for Cb and Cr, and to video data.
+pub fn gain<A: Allocator>(picture: Picture<A>, g: u32) -> Picture<A>
+    requires { g ≤ 16384 }
+    ensures value { IsOf picture.format (gain_value g picture) result }
+    ensures whole { IsPicture result }
+{
+    let format = picture.format();
+    let mut samples = picture.into_samples();
+    gain_samples(format.sampling(), format.depth(), g, samples.as_mut_slice());
+    Picture::from_samples(format, samples)
+}
+
+/// Brings each sample `g / 4096` as far from the value that it keeps.
+fn gain_samples(sampling: Sampling, depth: Depth, g: u32, samples: &mut [u16])
+    requires { g ≤ 16384 }
+    ensures long { length samples.new ≡ length samples.old }
+    ensures each { EachIndex samples.new (λ k.
+        slice_index samples.new k ≡ gained g (bits_of depth) (is_colour sampling (component_in_row sampling k)) (slice_index samples.old k)) }
+{
+    let mut at = 0;
+    while samples.len() - at >= BLOCK {
+        gain_block(sampling, depth, g, at, &mut samples[at..at + BLOCK]);
+        at += BLOCK;
+    }
+    gain_block(sampling, depth, g, at, &mut samples[at..]);
+}
+
+/// How many samples are worked on at a time.
+const BLOCK: usize = 64;
+
+/// The same for some samples, the first of which has the number `first`. They are taken both as luma
+/// and as colour, and the one that they are is kept.
+fn gain_block(sampling: Sampling, depth: Depth, g: u32, first: usize, samples: &mut [u16])
+    requires of_g { g ≤ 16384 }
+    requires block { length samples.old ≤ 64 }
+    requires room { first + length samples.old < 2 ^ 63 }
+    ensures long { length samples.new ≡ length samples.old }
+    ensures each { EachIndex samples.new (λ k.
+        slice_index samples.new k ≡ gained g (bits_of depth) (is_colour sampling (component_in_row sampling (first + k))) (slice_index samples.old k)) }
+{
+    let s = scale_of(depth);
+    let high = 255 * s - 1;
+    let mut colour = [0u16; BLOCK];
+    let copy = &mut colour[..samples.len()];
+    copy.copy_from_slice(samples);
+    lane_kernels::gain(copy, 128 * s, g, s, high);
+    lane_kernels::gain(samples, 16 * s, g, s, high);
+    choose_colour(sampling, first, copy, samples);
+}
+
+/// Takes the samples of Cb and Cr from `colour`.
+fn choose_colour(sampling: Sampling, first: usize, colour: &[u16], samples: &mut [u16])
+    requires lengths { length colour.now ≡ length samples.old }
+    requires room { first + length samples.old < 2 ^ 63 }
+    ensures long { length samples.new ≡ length samples.old }
+    ensures each { EachIndex samples.new (λ k.
+        slice_index samples.new k ≡ (if is_colour sampling (component_in_row sampling (first + k)) then slice_index colour.now k else slice_index samples.old k)) }
+{
+    for (k, sample) in samples.iter_mut().enumerate() {
+        if sampling != Sampling::Rgb && sampling.component_in_row(first + k) != 0 {
+            *sample = colour[k];
         }
     }
 }
