@@ -1,5 +1,5 @@
 -- From sample numbers to positions.
-use Rattle.std.proofs.Common.{◌≡◌, ℕ, ◌<◌, ◌≤◌, ◌^◌, refl, List, [], ◌∷◌, zero, suc, get_or, length, arith, sym, ap, ◌∙◌, subst}
+use Rattle.std.proofs.Common.{◌≡◌, ℕ, ◌<◌, ◌≤◌, ◌^◌, refl, List, [], ◌∷◌, suc, get_or, length, arith, sym, ap, ◌∙◌, subst}
 use Rattle.std.specs.List.{AllByRecursion}
 use Rattle.st_format.specs.declared.format.Format.{Format}
 use Rattle.st_format.specs.declared.format.Depth.{Depth}
@@ -7,7 +7,7 @@ use Rattle.st_format.specs.declared.format.Depth.TheVariants.{D8, D10, D12, D16}
 use Rattle.st_format.specs.Pgroup.{bits_of}
 use Rattle.st_format.specs.Picture.{FitsDepth, IsPicture, Values, value_at}
 use Rattle.bt709_fixed.specs.Operations.{IsOf}
-use Rattle.st_format.specs.Position.{Position, IsPosition, component_in_row, number_of, place, sample_count}
+use Rattle.st_format.specs.Position.{Position, IsPosition, component_in_row, number_of, sample_count}
 use Rattle.st_format.proofs.Numbering.{number_of-below, place-number_of}
 use Rattle.st_format.proofs.PictureLemmas.{component-place}
 

@@ -23,7 +23,7 @@ put_above a m xs ys k room long h =
 -- The elements before a were made by h, those from a on are as they were, and the part that is written at a was
 -- made by h: then so are all up to the part's end
 module _ (h : ℕ → ℕ → ℕ) (old xs ys : List ℕ) (a m : ℕ) (room : a + m ≤ length xs)
-  (kept : (k : ℕ) → a ≤ k → get_or xs k 0 ≡ get_or old k 0) (long : length ys ≡ length (take m (drop a xs))) where
+    (kept : (k : ℕ) → a ≤ k → get_or xs k 0 ≡ get_or old k 0) (long : length ys ≡ length (take m (drop a xs))) where
   whole : length ys ≡ m
   whole = omega (arith, long, length-take m (drop a xs), length-drop a xs)
 

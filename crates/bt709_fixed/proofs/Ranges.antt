@@ -1,5 +1,5 @@
 -- Values of a range fit the depth.
-use Rattle.std.proofs.Common.{◌≡◌, ℕ, ◌+◌, ◌-◌, ◌*◌, ◌^◌, ◌<◌, ◌≤◌, arith, Bool, true, false}
+use Rattle.std.proofs.Common.{ℕ, ◌-◌, ◌*◌, ◌^◌, ◌<◌, ◌≤◌, arith, Bool, true, false}
 use Rattle.std.specs.Prelude.{ℤ, pos}
 use Rattle.lane_kernels.specs.Formulas.{gain, scale, video_data}
 use Rattle.lane_kernels.proofs.Clipping.{clip_most}

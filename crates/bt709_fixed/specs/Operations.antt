@@ -1,5 +1,5 @@
 -- What range, gain and matrix make of a picture, one position at a time (ITU-R BT.709; gain and 4:2:2 own).
-use Rattle.std.specs.Prelude.{◌≡◌, ℕ, ◌*◌, min, Bool, true, false, not, ◌==◌, if◌then◌else◌, ℤ, pos}
+use Rattle.std.specs.Prelude.{◌≡◌, ℕ, ◌*◌, min, Bool, true, false, not, ◌==◌, if◌then◌else◌, pos}
 use Rattle.st_format.specs.declared.format.Format.{Format}
 use Rattle.st_format.specs.declared.format.Sampling.{Sampling}
 use Rattle.st_format.specs.declared.format.Sampling.TheVariants.{Ycc422, Ycc444, Rgb}

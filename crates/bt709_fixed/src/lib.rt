@@ -41,7 +41,12 @@ pub fn limit<A: Allocator>(picture: Picture<A>, range: RangeKind) -> Picture<A>
 {
     let format = picture.format();
     let mut samples = picture.into_samples();
-    limit_samples(format.sampling(), format.depth(), range, samples.as_mut_slice());
+    limit_samples(
+        format.sampling(),
+        format.depth(),
+        range,
+        samples.as_mut_slice(),
+    );
     Picture::from_samples(format, samples)
 }
 

@@ -1,4 +1,4 @@
-use Rattle.std.proofs.Common.{◌≡◌, ℕ, ◌+◌, ◌<◌, ◌≤◌, if◌then◌else◌, get_or, length}
+use Rattle.std.proofs.Common.{◌≡◌, ℕ, ◌+◌, ◌<◌, ◌≤◌, if◌then◌else◌, get_or}
 use Rattle.st_format.specs.Position.{component_in_row}
 use Rattle.bt709_fixed.specs.Operations.{is_colour}
 use Rattle.bt709_fixed.proofs.choose_colour.Given as goal

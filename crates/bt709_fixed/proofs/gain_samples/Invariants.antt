@@ -1,4 +1,4 @@
-use Rattle.std.proofs.Common.{◌≡◌, ℕ, ◌+◌, ◌-◌, ◌<◌, ◌≤◌, get_or, length}
+use Rattle.std.proofs.Common.{◌≡◌, ℕ, ◌-◌, ◌<◌, ◌≤◌, get_or, length}
 use Rattle.st_format.specs.Pgroup.{bits_of}
 use Rattle.st_format.specs.Position.{component_in_row}
 use Rattle.bt709_fixed.specs.Operations.{is_colour, gained}

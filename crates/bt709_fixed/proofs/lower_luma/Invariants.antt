@@ -1,4 +1,4 @@
-use Rattle.std.proofs.Common.{◌≡◌, ℕ, ◌<◌, ◌≤◌, get_or, length}
+use Rattle.std.proofs.Common.{◌≡◌, ℕ, ◌<◌, ◌≤◌, get_or}
 use Rattle.bt709_fixed.specs.Operations.{lowered}
 use Rattle.bt709_fixed.proofs.lower_luma.Given as goal
 
