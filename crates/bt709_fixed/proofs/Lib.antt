@@ -1,4 +1,5 @@
 pub mod Gained
 pub mod Made
 pub mod Part
+pub mod Pixels
 pub mod Ranges

@@ -1,5 +1,5 @@
 -- What range, gain and matrix make of a picture, one position at a time (ITU-R BT.709; gain and 4:2:2 own).
-use Rattle.std.specs.Prelude.{◌≡◌, ℕ, ◌*◌, min, Bool, true, false, not, ◌==◌, if◌then◌else◌, pos}
+use Rattle.std.specs.Prelude.{◌≡◌, ℕ, ◌+◌, ◌*◌, ◌/◌, min, Bool, true, false, not, ◌==◌, if◌then◌else◌, pos, List, slice_index}
 use Rattle.st_format.specs.declared.format.Format.{Format}
 use Rattle.st_format.specs.declared.format.Sampling.{Sampling}
 use Rattle.st_format.specs.declared.format.Sampling.TheVariants.{Ycc422, Ycc444, Rgb}
@@ -39,11 +39,17 @@ kept n false = 16 * scale n
 abbrev pub gained : ℕ → ℕ → Bool → ℕ → ℕ
 gained g n colour v = video_data n (gain (kept n colour) g v)
 
+-- the one of three values that a component has
+abbrev pub of_component : ℕ → ℕ → ℕ → ℕ → ℕ
+of_component component y cb cr = if component == 0 then y else (if component == 1 then cb else cr)
+
 -- Y, Cb or Cr of n bits
 abbrev pub matrixed : ℕ → ℕ → ℕ → ℕ → ℕ → ℕ
-matrixed n component r g b =
-    if component == 0 then video_data n (luma r g b) else
-    (if component == 1 then video_data n (cb n r g b) else video_data n (cr n r g b))
+matrixed n component r g b = of_component component (video_data n (luma r g b)) (video_data n (cb n r g b)) (video_data n (cr n r g b))
+
+-- the same of the pixel of sample number k, in a list of R, G and B
+abbrev pub matrixed_at : ℕ → List ℕ → ℕ → ℕ
+matrixed_at n rgb k = matrixed n (component_in_row Ycc444 k) (slice_index rgb (3 * (k / 3) + 0)) (slice_index rgb (3 * (k / 3) + 1)) (slice_index rgb (3 * (k / 3) + 2))
 
 -- the value of another component at the same row and column
 abbrev pub component_at : Values → Position → ℕ → ℕ

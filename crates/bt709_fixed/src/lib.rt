@@ -1,12 +1,13 @@
 //! Range and gain of a picture, and the matrix of ITU-R BT.709 in fixed point.
 #![tactic(auto)]
 
-ghost use Rattle.std.specs.Prelude.{◌≡◌, if◌then◌else◌, ◌+◌, ◌≤◌, ◌<◌, ◌*◌, ◌-◌, ◌^◌, EachIndex, length, slice_index, IfOk};
+ghost use Rattle.std.specs.Prelude.{◌≡◌, if◌then◌else◌, ◌+◌, ◌≤◌, ◌<◌, ◌*◌, ◌/◌, ◌%◌, ◌-◌, ◌^◌, EachIndex, length, slice_index, IfOk};
 ghost use Rattle.st_format.specs.Pgroup.{bits_of};
 ghost use Rattle.st_format.specs.Picture.{FitsDepth, IsPicture};
 ghost use Rattle.st_format.specs.Position.{component_in_row};
 ghost use Rattle.lane_kernels.specs.Formulas.{centre, scale};
-ghost use Rattle.bt709_fixed.specs.Operations.{IsOf, gain_value, gained, is_colour, kept, limit_value, limited, lowered};
+ghost use Rattle.bt709_fixed.specs.Operations.{IsOf, gain_value, gained, is_colour, kept, limit_value, limited, lowered, matrixed_at, of_component};
+ghost use Rattle.st_format.specs.declared.format.Sampling.TheVariants.{Ycc444};
 
 use st_format::{Depth, Format, Picture, Sampling};
 use std::alloc::Allocator;
@@ -144,5 +145,81 @@ fn choose_colour(sampling: Sampling, first: usize, colour: &[u16], samples: &mut
         if sampling != Sampling::Rgb && sampling.component_in_row(first + k) != 0 {
             *sample = colour[k];
         }
+    }
+}
+
+/// Y, Cb and Cr of R, G and B, in the order in which 4:4:4 sends them. Each slice is whole pixels.
+fn matrix_samples(depth: Depth, rgb: &[u16], out: &mut [u16])
+    requires lengths { length rgb.now ≡ length out.old }
+    requires whole { length out.old % 3 ≡ 0 }
+    requires fit { EachIndex rgb.now (λ k. slice_index rgb.now k < 2 ^ bits_of depth) }
+    ensures long { length out.new ≡ length out.old }
+    ensures each { EachIndex out.new (λ k. slice_index out.new k ≡ matrixed_at (bits_of depth) rgb.now k) }
+{
+    let mut at = 0;
+    while out.len() - at >= 192 {
+        matrix_block(depth, &rgb[at..at + 192], &mut out[at..at + 192]);
+        at += 192;
+    }
+    matrix_block(depth, &rgb[at..], &mut out[at..]);
+}
+
+/// The same for up to 64 pixels.
+fn matrix_block(depth: Depth, rgb: &[u16], out: &mut [u16])
+    requires lengths { length rgb.now ≡ length out.old }
+    requires whole { length out.old % 3 ≡ 0 }
+    requires block { length out.old ≤ 192 }
+    requires fit { EachIndex rgb.now (λ k. slice_index rgb.now k < 2 ^ bits_of depth) }
+    ensures long { length out.new ≡ length out.old }
+    ensures each { EachIndex out.new (λ k. slice_index out.new k ≡ matrixed_at (bits_of depth) rgb.now k) }
+{
+    let pixels = out.len() / 3;
+    let mut reds = [0u16; BLOCK];
+    let mut greens = [0u16; BLOCK];
+    let mut blues = [0u16; BLOCK];
+    let (mut lumas, mut cbs, mut crs) = ([0u16; BLOCK], [0u16; BLOCK], [0u16; BLOCK]);
+    let r = &mut reds[..pixels];
+    let g = &mut greens[..pixels];
+    let b = &mut blues[..pixels];
+    take_component(rgb, 0, r);
+    take_component(rgb, 1, g);
+    take_component(rgb, 2, b);
+    let y = &mut lumas[..pixels];
+    let cb = &mut cbs[..pixels];
+    let cr = &mut crs[..pixels];
+    let bits = depth.bits();
+    lane_kernels::luma709(r, g, b, bits, y);
+    lane_kernels::cb709(r, g, b, bits, cb);
+    lane_kernels::cr709(r, g, b, bits, cr);
+    join_components(y, cb, cr, out);
+}
+
+/// The samples of one component of R, G and B.
+fn take_component(rgb: &[u16], component: usize, out: &mut [u16])
+    requires component { component < 3 }
+    requires lengths { length rgb.now ≡ 3 * length out.old }
+    ensures long { length out.new ≡ length out.old }
+    ensures each { EachIndex out.new (λ i. slice_index out.new i ≡ slice_index rgb.now (3 * i + component)) }
+{
+    for (i, sample) in out.iter_mut().enumerate() {
+        *sample = rgb[3 * i + component];
+    }
+}
+
+/// The samples of three components, in the order in which 4:4:4 sends them.
+fn join_components(y: &[u16], cb: &[u16], cr: &[u16], out: &mut [u16])
+    requires of_y { length out.old ≡ 3 * length y.now }
+    requires of_cb { length out.old ≡ 3 * length cb.now }
+    requires of_cr { length out.old ≡ 3 * length cr.now }
+    ensures long { length out.new ≡ length out.old }
+    ensures each { EachIndex out.new (λ k. slice_index out.new k
+        ≡ of_component (component_in_row Ycc444 k) (slice_index y.now (k / 3)) (slice_index cb.now (k / 3)) (slice_index cr.now (k / 3))) }
+{
+    for (k, sample) in out.iter_mut().enumerate() {
+        *sample = match Sampling::Ycc444.component_in_row(k) {
+            0 => y[k / 3],
+            1 => cb[k / 3],
+            _ => cr[k / 3],
+        };
     }
 }
