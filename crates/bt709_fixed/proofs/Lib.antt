@@ -1,5 +1,6 @@
 pub mod Gained
 pub mod Made
+pub mod Numbers
 pub mod Part
 pub mod Pixels
 pub mod Ranges

@@ -6,11 +6,12 @@ ghost use Rattle.st_format.specs.Pgroup.{bits_of};
 ghost use Rattle.st_format.specs.Picture.{FitsDepth, IsPicture};
 ghost use Rattle.st_format.specs.Position.{component_in_row};
 ghost use Rattle.lane_kernels.specs.Formulas.{centre, scale};
-ghost use Rattle.bt709_fixed.specs.Operations.{IsOf, gain_value, gained, is_colour, kept, limit_value, limited, lowered, matrixed_at, of_component};
-ghost use Rattle.st_format.specs.declared.format.Sampling.TheVariants.{Ycc444};
+ghost use Rattle.bt709_fixed.specs.Operations.{IsOf, IsResampled, gain_value, gained, is_colour, kept, limit_value, limited, lowered, matrixed_at, of_component, ycc444_value};
+ghost use Rattle.bt709_fixed.specs.declared.ColourFault.TheVariants.{NoMemory, NotRgb};
+ghost use Rattle.st_format.specs.declared.format.Sampling.TheVariants.{Rgb, Ycc444};
 
 use st_format::{Depth, Format, Picture, Sampling};
-use std::alloc::Allocator;
+use std::alloc::{AllocError, Allocator};
 
 /// A range of values.
 #[derive(Clone, Copy, Debug, PartialEq, Eq)]
@@ -222,4 +223,74 @@ fn join_components(y: &[u16], cb: &[u16], cr: &[u16], out: &mut [u16])
             _ => cr[k / 3],
         };
     }
+}
+
+/// The raster with Y, Cb and Cr in place of R, G and B.
+fn as_ycc444(format: Format) -> Format
+    requires { format.sampling ≡ Rgb }
+    ensures { IsResampled Ycc444 format result }
+{
+    Format {
+        sampling: Sampling::Ycc444,
+        depth: format.depth,
+        width: format.width,
+        height: format.height,
+        n: format.n,
+        d: format.d,
+    }
+}
+
+/// Why there is no picture of other components.
+#[derive(Clone, Copy, Debug, PartialEq, Eq)]
+pub enum ColourFault {
+    /// The memory was refused.
+    NoMemory = 1,
+    /// The picture isn't of R, G and B.
+    NotRgb,
+    /// The picture isn't of Y, Cb and Cr at each column.
+    NotYcc444,
+}
+
+impl From<AllocError> for ColourFault {
+    ghost from_gives = { λ _ e. e ≡ NoMemory };
+
+    fn from(_error: AllocError) -> ColourFault {
+        ColourFault::NoMemory
+    }
+}
+
+/// The picture in Y, Cb and Cr. `NotRgb` where it isn't of R, G and B; else `NoMemory` where the memory
+/// was refused.
+pub fn to_ycc444<A: Allocator, B: Allocator>(
+    alloc: B,
+    picture: &Picture<A>,
+) -> Result<Picture<B>, ColourFault>
+    ensures made { IfOk result (λ p. IsOf p.format (ycc444_value picture.now) p) }
+    ensures format { IfOk result (λ p. IsResampled Ycc444 picture.now.format p.format) }
+    ensures whole { IfOk result (λ p. IsPicture p) }
+    ensures only { IfOk result (λ p. picture.now.format.sampling ≡ Rgb) }
+{
+    let format = picture.format();
+    let Sampling::Rgb = format.sampling() else {
+        return Err(ColourFault::NotRgb);
+    };
+    let rgb = picture.samples();
+    let samples = matrixed_samples(alloc, format.depth(), rgb)?;
+    Ok(Picture::from_samples(as_ycc444(format), samples))
+}
+
+/// Y, Cb and Cr of R, G and B.
+fn matrixed_samples<B: Allocator>(
+    alloc: B,
+    depth: Depth,
+    rgb: &[u16],
+) -> Result<Vec<u16, B>, AllocError>
+    requires whole { length rgb.now % 3 ≡ 0 }
+    requires fit { EachIndex rgb.now (λ k. slice_index rgb.now k < 2 ^ bits_of depth) }
+    ensures long { IfOk result (λ v. length v.items ≡ length rgb.now) }
+    ensures each { IfOk result (λ v. EachIndex v.items (λ k. slice_index v.items k ≡ matrixed_at (bits_of depth) rgb.now k)) }
+{
+    let mut samples = Vec::from_elem(alloc, 0, rgb.len())?;
+    matrix_samples(depth, rgb, samples.as_mut_slice());
+    Ok(samples)
 }
