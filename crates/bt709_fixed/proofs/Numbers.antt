@@ -1,15 +1,14 @@
 -- Sample numbers where a pixel has three samples.
 use Rattle.std.proofs.Common.{◌≡◌, ℕ, ◌+◌, ◌*◌, ◌/◌, ◌%◌, ◌^◌, ◌<◌, ◌≤◌, ◌==◌, List, Bool, true, false, if◌then◌else◌, get_or, length, sym, arith, ap, subst, refl, ◌∙◌}
 use Rattle.st_format.specs.declared.format.Format.{Format}
-use Rattle.st_format.specs.declared.format.Sampling.{Sampling}
 use Rattle.st_format.specs.declared.format.Sampling.TheVariants.{Rgb, Ycc444}
 use Rattle.st_format.specs.Position.{Position, number_of, number_in_row, number_in_run, row_samples, run_columns, run_samples, sample_count}
-use Rattle.st_format.specs.Position.{IsPosition, component_in_row}
+use Rattle.st_format.specs.Position.{component_in_row}
 use Rattle.st_format.specs.Pgroup.{bits_of}
-use Rattle.st_format.specs.Picture.{FitsDepth, IsPicture, Values, value_at}
+use Rattle.st_format.specs.Picture.{FitsDepth, IsPicture, Values}
 use Rattle.st_format.proofs.Numbering.{number_of-below}
-use Rattle.lane_kernels.specs.Formulas.{cb, cr, luma, video_data}
-use Rattle.bt709_fixed.specs.Operations.{IsOf, IsResampled, component_at, matrixed, matrixed_at, of_component, ycc444_value}
+use Rattle.lane_kernels.specs.Formulas.{cb, cr, luma}
+use Rattle.bt709_fixed.specs.Operations.{IsOf, IsResampled, matrixed, matrixed_at, ycc444_value}
 use Rattle.bt709_fixed.proofs.Made.{all_from_each, component-number, some_bits}
 use Rattle.bt709_fixed.proofs.Ranges.{video_data_fits}
 
@@ -74,21 +73,22 @@ pub matrixed_picture : (v : Values) (f : Format) (new : List ℕ) → v.format.s
     → IsPicture (record { format = f; samples = new }) × IsOf f (ycc444_value v) (record { format = f; samples = new })
 matrixed_picture v f new s r w long each =
     let n = bits_of v.format.depth in
-    let whole : length new ≡ sample_count f = long ∙ w.whole ∙ sym (count_same v.format f s r) in
-    (record {
-      whole = whole;
-      fit = all_from_each (FitsDepth f) new (λ k h.
-        subst (λ d. get_or new k 0 < 2 ^ bits_of d) (sym r.depth)
-        (subst (λ x. x < 2 ^ n) (sym (each k h)) (matrixed_fits n (component_in_row Ycc444 k) _ _ _ (some_bits v.format.depth))));
-    },
-    record {
-      format = refl;
-      each = λ at h.
-        let k = number_of f at in
-        let below = number_of-below f at h in
-        let same : component_in_row Ycc444 k ≡ at.component = ap (λ s. component_in_row s k) (sym r.sampling) ∙ component-number f at h in
-        let x = pixel_at v.format f at 0 s r in
-        let y = pixel_at v.format f at 1 s r in
-        let z = pixel_at v.format f at 2 s r in
-        each k (omega (arith, below, whole)) ∙ (λ i. matrixed n (same i) (get_or v.samples (x i) 0) (get_or v.samples (y i) 0) (get_or v.samples (z i) 0));
-    })
+    let whole : length new ≡ sample_count f = long ∙ w.whole ∙ sym (count_same v.format f s r) in (
+      record {
+        whole = whole;
+        fit = all_from_each (FitsDepth f) new (λ k h.
+            subst (λ d. get_or new k 0 < 2 ^ bits_of d) (sym r.depth)
+            (subst (λ x. x < 2 ^ n) (sym (each k h)) (matrixed_fits n (component_in_row Ycc444 k) _ _ _ (some_bits v.format.depth))));
+      },
+      record {
+        format = refl;
+        each = λ at h.
+            let k = number_of f at in
+            let below = number_of-below f at h in
+            let same : component_in_row Ycc444 k ≡ at.component = ap (λ s. component_in_row s k) (sym r.sampling) ∙ component-number f at h in
+            let x = pixel_at v.format f at 0 s r in
+            let y = pixel_at v.format f at 1 s r in
+            let z = pixel_at v.format f at 2 s r in
+            each k (omega (arith, below, whole)) ∙ (λ i. matrixed n (same i) (get_or v.samples (x i) 0) (get_or v.samples (y i) 0) (get_or v.samples (z i) 0));
+      },
+    )

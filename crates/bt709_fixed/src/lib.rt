@@ -1,7 +1,7 @@
 //! Range and gain of a picture, and the matrix of ITU-R BT.709 in fixed point.
 #![tactic(auto)]
 
-ghost use Rattle.std.specs.Prelude.{◌≡◌, if◌then◌else◌, ◌+◌, ◌≤◌, ◌<◌, ◌*◌, ◌/◌, ◌%◌, ◌-◌, ◌^◌, EachIndex, length, slice_index, IfOk};
+ghost use Rattle.std.specs.Prelude.{◌≡◌, if◌then◌else◌, ◌+◌, ◌≤◌, ◌<◌, ◌*◌, ◌/◌, ◌%◌, ◌-◌, ◌^◌, EachIndex, length, slice_index, IfOk, Err, ◌↔◌, ◌≢◌};
 ghost use Rattle.st_format.specs.Pgroup.{bits_of};
 ghost use Rattle.st_format.specs.Picture.{FitsDepth, IsPicture};
 ghost use Rattle.st_format.specs.Position.{component_in_row};
@@ -268,7 +268,7 @@ pub fn to_ycc444<A: Allocator, B: Allocator>(
     ensures made { IfOk result (λ p. IsOf p.format (ycc444_value picture.now) p) }
     ensures format { IfOk result (λ p. IsResampled Ycc444 picture.now.format p.format) }
     ensures whole { IfOk result (λ p. IsPicture p) }
-    ensures only { IfOk result (λ p. picture.now.format.sampling ≡ Rgb) }
+    ensures rgb { (result ≡ Err NotRgb) ↔ (picture.now.format.sampling ≢ Rgb) }
 {
     let format = picture.format();
     let Sampling::Rgb = format.sampling() else {

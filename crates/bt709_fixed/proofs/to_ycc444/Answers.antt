@@ -1,7 +1,6 @@
-use Rattle.std.proofs.Common.{◌≡◌, ◌%◌, length, get_or, sym, subst, ap, ◌∙◌}
-use Rattle.st_format.specs.declared.format.Sampling.TheVariants.{Rgb, Ycc444}
+use Rattle.std.proofs.Common.{◌%◌, length, sym, subst, ap, ◌∙◌}
+use Rattle.st_format.specs.declared.format.Sampling.TheVariants.{Ycc444}
 use Rattle.st_format.specs.Pgroup.{bits_of}
-use Rattle.st_format.specs.Picture.{IsPicture}
 use Rattle.bt709_fixed.specs.Operations.{IsOf, IsResampled, matrixed_at, ycc444_value}
 use Rattle.bt709_fixed.proofs.Numbers.{whole_pixels, matrixed_picture}
 use Rattle.bt709_fixed.proofs.to_ycc444.Goals as goal
@@ -20,9 +19,9 @@ from_samples-requires g c =
     let d = c.depth.ensures ∙ ap (λ f. f.depth) form in
     let rgb = c.samples-rgb.ensures.value in
     let is = matrixed_picture v c.as_ycc444.result c.in_ok-samples.samples.items s
-        (subst (λ f. IsResampled Ycc444 f c.as_ycc444.result) form c.as_ycc444.ensures) c.samples-rgb.ensures.whole
-        (c.in_ok-samples.ensures.long ∙ ap length rgb)
-        (λ k h. c.in_ok-samples.ensures.each k h ∙ (λ j. matrixed_at (bits_of (d j)) (rgb j) k)) in
+    (subst (λ f. IsResampled Ycc444 f c.as_ycc444.result) form c.as_ycc444.ensures) c.samples-rgb.ensures.whole
+    (c.in_ok-samples.ensures.long ∙ ap length rgb)
+    (λ k h. c.in_ok-samples.ensures.each k h ∙ (λ j. matrixed_at (bits_of (d j)) (rgb j) k)) in
     is.0
 
 pub returns-clause-made : goal.returns-clause-made
@@ -33,7 +32,7 @@ returns-clause-made g c =
     let d = c.depth.ensures ∙ ap (λ f. f.depth) form in
     let rgb = c.samples-rgb.ensures.value in
     let is = matrixed_picture v c.as_ycc444.result c.in_ok-samples.samples.items s
-        (subst (λ f. IsResampled Ycc444 f c.as_ycc444.result) form c.as_ycc444.ensures) c.samples-rgb.ensures.whole
-        (c.in_ok-samples.ensures.long ∙ ap length rgb)
-        (λ k h. c.in_ok-samples.ensures.each k h ∙ (λ j. matrixed_at (bits_of (d j)) (rgb j) k)) in
+    (subst (λ f. IsResampled Ycc444 f c.as_ycc444.result) form c.as_ycc444.ensures) c.samples-rgb.ensures.whole
+    (c.in_ok-samples.ensures.long ∙ ap length rgb)
+    (λ k h. c.in_ok-samples.ensures.each k h ∙ (λ j. matrixed_at (bits_of (d j)) (rgb j) k)) in
     subst (λ p. IsOf p.format (ycc444_value v) p) (sym c.from_samples.ensures.value) is.1
