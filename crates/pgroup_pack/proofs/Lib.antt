@@ -3,3 +3,4 @@ pub mod Units
 pub mod Values
 pub mod Blocks
 pub mod GroupLemmas
+pub mod Marking

@@ -5,6 +5,7 @@
 //! order. Octets are passed by whole pixel groups, as a row, a segment or one group of it.
 #![tactic(auto)]
 
+mod contests;
 mod eight_bits;
 mod groups;
 mod sixteen_bits;
@@ -16,6 +17,7 @@ ghost use Rattle.pgroup_pack.specs.Packing.{Agree, Fit};
 ghost use Rattle.st_format.specs.Pgroup.{bits_of};
 ghost use Rattle.st_format.specs.Samples.{Spells, values_in};
 
+pub use contests::contest;
 pub use groups::{blank, differing};
 use st_format::{Depth, Format};
 
