@@ -214,13 +214,18 @@ unfolding IsMark
 both_mark samples m o c d is other both bits none =
     inr (both, λ i le lt. bits i ∙ low_of_both (bit_at m i) (bit_at o i) (d i) (beyond samples m i is le lt) (beyond samples o i other le lt) (none i le))
 
-pub group_joined : (n size samples m o d : ℕ) (octets others new_octets : List ℕ) → AreSizes n size samples
-    → IsPacked n size samples (m ∷ []) octets → IsPacked n size samples (o ∷ []) others → 32768 ≤ m → m < 65536 → 32768 ≤ o → o < 65536
-    → ((i : ℕ) → bit_at d i ≡ differs_at (values_in n octets) (values_in n others) i)
-    → length new_octets ≡ length octets → values_in n new_octets ≡ blanked (bit_or (bit_or m o) d) (values_in n octets)
-    → Joins n size samples (m ∷ []) octets (o ∷ []) others (bit_or (bit_or m o) d ∷ []) new_octets
-group_joined n size samples m o d octets others new_octets is packed other high_m fits_m high_o fits_o differ long blank =
-    let c : ℕ = bit_or (bit_or m o) d in
+-- a word of a group that isn't missing has bit 15
+present_bit : (samples m : ℕ) → IsMark samples m → 32768 ≤ m → bit_at m 15 ≡ 1
+unfolding IsMark
+present_bit samples m (inl e) high = absurd (omega arith)
+present_bit samples m (inr h) high = h.0
+
+pub group_contested : (n size samples m o c : ℕ) (octets others new_octets : List ℕ) → AreSizes n size samples
+    → IsPacked n size samples (m ∷ []) octets → IsPacked n size samples (o ∷ []) others → 32768 ≤ m → 32768 ≤ o
+    → ((i : ℕ) → bit_at c i ≡ max (max (bit_at m i) (bit_at o i)) (differs_at (values_in n octets) (values_in n others) i))
+    → length new_octets ≡ length octets → values_in n new_octets ≡ blanked c (values_in n octets)
+    → Joins n size samples (m ∷ []) octets (o ∷ []) others (c ∷ []) new_octets
+group_contested n size samples m o c octets others new_octets is packed other high_m high_o bits long blank =
     let vs : List ℕ = values_in n octets in
     let ws : List ℕ = values_in n others in
     let size_one : size * 1 ≡ size = omega arith in
@@ -229,10 +234,8 @@ group_joined n size samples m o d octets others new_octets is packed other high_
     let new_long : length new_octets ≡ size = long ∙ octets_long in
     let vs_long : length vs ≡ samples = one_long n size samples octets is octets_long in
     let ws_long : length ws ≡ samples = one_long n size samples others is others_long in
-    let bits : (i : ℕ) → bit_at c i ≡ max (max (bit_at m i) (bit_at o i)) (differs_at vs ws i) =
-    λ i. bit_at_or (bit_or m o) d i ∙ ap (λ (x : ℕ). max x (bit_at d i)) (bit_at_or m o i) ∙ ap (max (max (bit_at m i) (bit_at o i))) (differ i) in
-    let present : bit_at m 15 ≡ 1 = high_bit m high_m fits_m in
-    let present_other : bit_at o 15 ≡ 1 = high_bit o high_o fits_o in
+    let present : bit_at m 15 ≡ 1 = present_bit samples m packed.words.0 high_m in
+    let present_other : bit_at o 15 ≡ 1 = present_bit samples o other.words.0 high_o in
     let few = is.few in
     let both : bit_at c 15 ≡ 1 = bits 15 ∙ high_of_both (bit_at m 15) (bit_at o 15) (differs_at vs ws 15) present present_other (same_past vs ws 15 (omega arith) (omega arith)) in
     let are : IsBoth m o c vs ws 0 = record { present = present; other = present_other; both = both; bits = λ k. let e : 0 + k ≡ k = omega arith in subst (λ (j : ℕ). bit_at c j ≡ max (max (bit_at m j) (bit_at o j)) (differs_at vs ws k)) (sym e) (bits k) } in
@@ -248,6 +251,15 @@ group_joined n size samples m o d octets others new_octets is packed other high_
           ∙ ap (λ (cs : List Cell). joined cs (cells_from o 0 ws)) (sym (one_cells n size m octets octets_long))
           ∙ ap (joined (packed_cells n size (m ∷ []) octets)) (sym (one_cells n size o others others_long));
     }
+
+pub group_joined : (n size samples m o d : ℕ) (octets others new_octets : List ℕ) → AreSizes n size samples
+    → IsPacked n size samples (m ∷ []) octets → IsPacked n size samples (o ∷ []) others → 32768 ≤ m → 32768 ≤ o
+    → ((i : ℕ) → bit_at d i ≡ differs_at (values_in n octets) (values_in n others) i)
+    → length new_octets ≡ length octets → values_in n new_octets ≡ blanked (bit_or (bit_or m o) d) (values_in n octets)
+    → Joins n size samples (m ∷ []) octets (o ∷ []) others (bit_or (bit_or m o) d ∷ []) new_octets
+group_joined n size samples m o d octets others new_octets is packed other high_m high_o differ long blank =
+    group_contested n size samples m o (bit_or (bit_or m o) d) octets others new_octets is packed other high_m high_o
+    (λ i. bit_at_or (bit_or m o) d i ∙ ap (λ (x : ℕ). max x (bit_at d i)) (bit_at_or m o i) ∙ ap (max (max (bit_at m i) (bit_at o i))) (differ i)) long blank
 
 pub only : (m : ℕ) → m < 32768 → (k : ℕ) → k < length (m ∷ []) → get_or (m ∷ []) k 0 < 32768
 only m lt zero below = lt

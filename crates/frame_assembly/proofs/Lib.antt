@@ -1,6 +1,8 @@
 pub mod PackedLemmas
 pub mod Runs
 pub mod GroupJoins
+pub mod Equal
+pub mod Contested
 pub mod CellLemmas
 pub mod Segments
 pub mod CountLemmas

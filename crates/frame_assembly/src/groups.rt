@@ -1,9 +1,10 @@
 //! Joining pixel groups as a frame keeps them: packed octets, and a mark word for each group.
-ghost use Rattle.std.specs.Prelude.{◌≡◌, ◌<◌, ◌*◌, ◌↔◌, ℕ, [], ◌∷◌, IsTrue, length, slice_index};
+ghost use Rattle.std.specs.Prelude.{◌≡◌, ◌<◌, ◌≤◌, ◌*◌, ◌↔◌, ℕ, [], ◌∷◌, IsTrue, length, slice_index};
 ghost use Rattle.frame_assembly.specs.Packed.{AreJoined, ArePacked, cells_in, marked};
 ghost use Rattle.st_format.specs.Pgroup.{pixel_group};
 
-use pgroup_pack::{blank, differing};
+use lane_kernels::or_marks;
+use pgroup_pack::{blank, contest, differing};
 use st_format::{Cell, Format};
 
 /// Bit 15 of a mark word: the group has no missing sample.
@@ -11,6 +12,9 @@ pub const PRESENT: u16 = 0x8000;
 
 /// How many groups are compared or copied at once.
 pub const BLOCK: usize = 64;
+
+/// How many groups of a block that is neither the same nor missing are looked at together.
+const CHUNK: usize = 8;
 
 /// Joins other groups, a block after the other.
 pub fn join_run(
@@ -45,7 +49,7 @@ pub fn join_run(
     );
 }
 
-/// Joins other groups: at once where they are the same or all of these are missing, else one by one.
+/// Joins other groups: at once where they are the same or all of these are missing, else a few at a time.
 pub fn join_block(
     format: &Format,
     marks: &mut [u16],
@@ -66,7 +70,117 @@ pub fn join_block(
         octets.copy_from_slice(others);
         return;
     }
+    // The sizes of 4:2:2 at 8 and 10 bits as literals: the compiler then unrolls what is compared.
+    match format.pgroup().octets {
+        4 => join_chunks(format, 4, marks, octets, other_marks, others),
+        5 => join_chunks(format, 5, marks, octets, other_marks, others),
+        size => join_chunks(format, size, marks, octets, other_marks, others),
+    }
+}
+
+/// Joins other groups, of `size` octets each, a chunk after the other.
+#[inline(always)]
+fn join_chunks(
+    format: &Format,
+    size: usize,
+    marks: &mut [u16],
+    octets: &mut [u8],
+    other_marks: &[u16],
+    others: &[u8],
+)
+    requires size { size ≡ (pixel_group format.now.sampling format.now.depth).octets }
+    requires packed { ArePacked format.now marks.old octets.old }
+    requires other { ArePacked format.now other_marks.now others.now }
+    requires alike { length other_marks.now ≡ length marks.old }
+    ensures { AreJoined format.now marks.old octets.old other_marks.now others.now marks.new octets.new }
+{
+    let chunks = marks.len() / CHUNK;
+    for i in 0..chunks {
+        join_chunk(
+            format,
+            &mut marks[CHUNK * i..CHUNK * (i + 1)],
+            &mut octets[size * (CHUNK * i)..size * (CHUNK * (i + 1))],
+            &other_marks[CHUNK * i..CHUNK * (i + 1)],
+            &others[size * (CHUNK * i)..size * (CHUNK * (i + 1))],
+        );
+    }
+    join_chunk(
+        format,
+        &mut marks[CHUNK * chunks..],
+        &mut octets[size * (CHUNK * chunks)..],
+        &other_marks[CHUNK * chunks..],
+        &others[size * (CHUNK * chunks)..],
+    );
+}
+
+/// Joins a few other groups: at once where they are the same, all of one side are missing, or none is missing.
+#[inline(always)]
+fn join_chunk(
+    format: &Format,
+    marks: &mut [u16],
+    octets: &mut [u8],
+    other_marks: &[u16],
+    others: &[u8],
+)
+    requires few { length marks.old ≤ CHUNK }
+    requires packed { ArePacked format.now marks.old octets.old }
+    requires other { ArePacked format.now other_marks.now others.now }
+    requires alike { length other_marks.now ≡ length marks.old }
+    ensures { AreJoined format.now marks.old octets.old other_marks.now others.now marks.new octets.new }
+{
+    if equal_words(marks, other_marks) && equal_octets(octets, others) {
+        return;
+    }
+    join_unlike(format, marks, octets, other_marks, others);
+}
+
+/// Joins a few other groups that are not the same.
+fn join_unlike(
+    format: &Format,
+    marks: &mut [u16],
+    octets: &mut [u8],
+    other_marks: &[u16],
+    others: &[u8],
+)
+    requires few { length marks.old ≤ CHUNK }
+    requires packed { ArePacked format.now marks.old octets.old }
+    requires other { ArePacked format.now other_marks.now others.now }
+    requires alike { length other_marks.now ≡ length marks.old }
+    ensures { AreJoined format.now marks.old octets.old other_marks.now others.now marks.new octets.new }
+{
+    if are_present(marks) && are_present(other_marks) {
+        join_present(format, marks, octets, other_marks, others);
+        return;
+    }
+    if are_missing(marks) {
+        marks.copy_from_slice(other_marks);
+        octets.copy_from_slice(others);
+        return;
+    }
+    if are_missing(other_marks) {
+        return;
+    }
     join_groups(format, marks, octets, other_marks, others);
+}
+
+/// Joins a few other groups where no sample is missing on either side.
+fn join_present(
+    format: &Format,
+    marks: &mut [u16],
+    octets: &mut [u8],
+    other_marks: &[u16],
+    others: &[u8],
+)
+    requires few { length marks.old ≤ CHUNK }
+    requires packed { ArePacked format.now marks.old octets.old }
+    requires other { ArePacked format.now other_marks.now others.now }
+    requires alike { length other_marks.now ≡ length marks.old }
+    requires present { (k : ℕ) → k < length marks.old → 32768 ≤ slice_index marks.old k }
+    requires other_present { (k : ℕ) → k < length marks.old → 32768 ≤ slice_index other_marks.now k }
+    ensures { AreJoined format.now marks.old octets.old other_marks.now others.now marks.new octets.new }
+{
+    or_marks(marks, other_marks);
+    contest(format, octets, others, marks);
 }
 
 /// Joins other groups one by one.
@@ -124,6 +238,43 @@ fn are_missing(marks: &[u16]) -> bool
         most = most.max(*mark);
     }
     most < PRESENT
+}
+
+/// Whether no group is missing.
+fn are_present(marks: &[u16]) -> bool
+    ensures { IsTrue result → (k : ℕ) → k < length marks.now → 32768 ≤ slice_index marks.now k }
+{
+    let mut least = u16::MAX;
+    for mark in marks {
+        least = least.min(*mark);
+    }
+    least >= PRESENT
+}
+
+/// Whether a few mark words are the same, without a branch for each.
+#[inline(always)]
+fn equal_words(left: &[u16], right: &[u16]) -> bool
+    requires { length left.now ≡ length right.now }
+    ensures { IsTrue result → left.now ≡ right.now }
+{
+    let mut unlike = 0;
+    for i in 0..left.len() {
+        unlike = unlike.max(left[i] ^ right[i]);
+    }
+    unlike == 0
+}
+
+/// Whether a few octets are the same, without a branch for each.
+#[inline(always)]
+fn equal_octets(left: &[u8], right: &[u8]) -> bool
+    requires { length left.now ≡ length right.now }
+    ensures { IsTrue result → left.now ≡ right.now }
+{
+    let mut unlike = 0;
+    for i in 0..left.len() {
+        unlike = unlike.max(left[i] ^ right[i]);
+    }
+    unlike == 0
 }
 
 /// Whether groups have the same cells: then they have the same marks and the same octets.

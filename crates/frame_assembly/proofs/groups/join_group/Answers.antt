@@ -21,4 +21,4 @@ pub returns : goal.returns
 returns c =
     group_joined _ _ _ c.args.mark c.args.other_mark c.differing.result c.args.octets.now c.args.others.now c.blank.new.octets
     (sizes c.args.format.now.sampling c.args.format.now.depth) c.requires.packed c.requires.other
-    c.if-mark-lt-PRESENT.false (omega arith) c.if-other_mark-lt-PRESENT.false (omega arith) c.differing.ensures c.blank.auto.octets c.blank.ensures
+    c.if-mark-lt-PRESENT.false c.if-other_mark-lt-PRESENT.false c.differing.ensures c.blank.auto.octets c.blank.ensures
