@@ -6,4 +6,5 @@ pub mod Luma
 pub mod Mixing
 pub mod Ones
 pub mod Scales
+pub mod Selecting
 pub mod Stored

@@ -1,3 +1,4 @@
 pub mod Formulas
 pub mod Lanes
 pub mod Marks
+pub mod Octets

@@ -8,7 +8,8 @@ pub fn floor_in_words()
     ensures only { (z : ℤ) (d : ℕ) (v : ℤ) → 0 < d → IsFloor z d v → v ≡ floor z d }
 {}
 
-/// Raised by k divisors, a numerator is the natural m: so floors and nearest numbers are divisions of naturals.
+/// Raised by k divisors, a numerator is the natural m: so floors and nearest numbers are divisions
+/// of naturals.
 pub fn raised()
     ensures floor { (z : ℤ) (d k m : ℕ) → 0 < d → z +ℤ pos (k * d) ≡ pos m
         → floor z d +ℤ pos k ≡ pos (m / d) }
@@ -20,10 +21,12 @@ pub fn raised()
 pub fn formulas_raised()
     ensures cb { (n r g b : ℕ) → 8 ≤ n → r < 256 * scale n → g < 256 * scale n
         → cb n r g b +ℤ pos (3 * scale n)
-        ≡ pos ((b * 519568 + (507970 + 133088271 * scale n) - (r * 119056 + g * 400512)) / 1015941) }
+        ≡ pos ((b * 519568 + (507970 + 133088271 * scale n)
+        - (r * 119056 + g * 400512)) / 1015941) }
     ensures cr { (n r g b : ℕ) → 8 ≤ n → g < 256 * scale n → b < 256 * scale n
         → cr n r g b +ℤ pos (3 * scale n)
-        ≡ pos ((r * 440944 + (431101 + 112948593 * scale n) - (g * 400512 + b * 40432)) / 862203) }
+        ≡ pos ((r * 440944 + (431101 + 112948593 * scale n)
+        - (g * 400512 + b * 40432)) / 862203) }
     ensures gain { (z g v : ℕ) → g ≤ 16384
         → gain z g v +ℤ pos (3 * z) ≡ pos ((v * g + (z * (16384 - g) + 2048)) / 4096) }
 {}

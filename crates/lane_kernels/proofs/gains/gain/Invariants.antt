@@ -1,0 +1,22 @@
+use Rattle.std.proofs.Common.{◌≡◌, ◌-◌, ◌≤◌, length, get_or}
+use Rattle.lane_kernels.specs.Formulas.{clip, gain}
+use Rattle.lane_kernels.proofs.Stored.{Below, Kept}
+use Rattle.lane_kernels.proofs.gains.gain.Given as goal
+
+abbrev pub invariant-loop-values : goal.invariant-loop-values
+invariant-loop-values l = record {
+  long : length l.values ≡ length l.initial.values;
+  within : l.at ≤ length l.initial.values;
+  done : Below (λ k. clip l.low l.high (gain l.zero l.g (get_or l.initial.values k 0))) l.at l.values;
+  kept : Kept l.initial.values l.at l.values;
+}
+
+abbrev pub decreases-loop-values : goal.decreases-loop-values
+decreases-loop-values l = length l.values - l.at
+
+abbrev pub invariant-loop-i : goal.invariant-loop-i
+invariant-loop-i l = record {
+  long : length l.values ≡ length l.fn.values;
+  done : Below (λ k. clip l.low l.high (gain l.zero l.g (get_or l.fn.values k 0))) l.i l.values;
+  kept : Kept l.fn.values l.i l.values;
+}
