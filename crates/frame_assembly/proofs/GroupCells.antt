@@ -93,11 +93,11 @@ all_at P [] k all lt = absurd (omega arith)
 all_at P (x ∷ xs) zero all lt = all.0
 all_at P (x ∷ xs) (suc k) all lt = all_at P xs k all.1 (omega arith)
 
-missing_seen : (v : ℕ) (t : Bool) → is_missing (if t then Contested else Value v) ≡ false
+pub missing_seen : (v : ℕ) (t : Bool) → is_missing (if t then Contested else Value v) ≡ false
 missing_seen v true = refl
 missing_seen v false = refl
 
-contested_seen : (v : ℕ) (t : Bool) → is_contested (if t then Contested else Value v) ≡ t
+pub contested_seen : (v : ℕ) (t : Bool) → is_contested (if t then Contested else Value v) ≡ t
 contested_seen v true = refl
 contested_seen v false = refl
 

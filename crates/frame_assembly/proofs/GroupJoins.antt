@@ -50,7 +50,7 @@ pub marked_missing : (m i v : ℕ) → bit_at m 15 ≡ 0 → marked m i v ≡ Mi
 unfolding marked
 marked_missing m i v e = ap (λ (b : ℕ). if b == 1 then (if bit_at m i == 1 then Contested else Value v) else Missing) e
 
-cells_missing : (m i : ℕ) (vs : List ℕ) → bit_at m 15 ≡ 0 → AreMissing (cells_from m i vs)
+pub cells_missing : (m i : ℕ) (vs : List ℕ) → bit_at m 15 ≡ 0 → AreMissing (cells_from m i vs)
 unfolding cells_from
 cells_missing m i [] e = tt
 cells_missing m i (v ∷ vs) e = (marked_missing m i v e, cells_missing m (i + 1) vs e)

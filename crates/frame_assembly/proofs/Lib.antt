@@ -5,10 +5,10 @@ pub mod Equal
 pub mod Contested
 pub mod CellLemmas
 pub mod Segments
-pub mod CountLemmas
 pub mod SettleSteps
 pub mod SameLemmas
 pub mod GroupCells
+pub mod CountLemmas
 pub mod RowLemmas
 pub mod GivenLemmas
 pub mod Kept

@@ -1,9 +1,10 @@
 //! How many cells are of each kind.
-ghost use Rattle.std.specs.Prelude.{◌≡◌, ◌≤◌, ◌*◌, count_by, length, replicate};
-ghost use Rattle.frame_assembly.specs.Packed.{ArePacked, cells_from, cells_in};
+ghost use Rattle.std.specs.Prelude.{◌≡◌, ◌≤◌, ◌-◌, ◌*◌, ◌^◌, count_by, length};
+ghost use Rattle.frame_assembly.specs.Packed.{ArePacked, cells_in};
 ghost use Rattle.st_format.specs.Cell.{is_contested, is_missing, is_present};
 
-use crate::groups::{PRESENT, marked_cell};
+use crate::groups::PRESENT;
+use lane_kernels::count_marks;
 use st_format::Format;
 
 /// How many samples of a frame are of each kind.
@@ -17,7 +18,7 @@ pub struct Counts {
     pub contested: u64,
 }
 
-/// How many cells of groups are of each kind, in one pass over the mark words.
+/// How many cells of groups are of each kind, by lanes over the mark words alone.
 pub fn count_cells(format: &Format, marks: &[u16], octets: &[u8]) -> Counts
     requires packed { ArePacked format.now marks.now octets.now }
     requires few { length marks.now ≤ 8192 * 8192 }
@@ -26,42 +27,19 @@ pub fn count_cells(format: &Format, marks: &[u16], octets: &[u8]) -> Counts
     ensures contested { result.contested ≡ count_by is_contested (cells_in format.now marks.now octets.now) }
 {
     let samples = format.pgroup().samples;
-    let mut present = 0;
-    let mut missing = 0;
-    let mut contested = 0;
-    for mark in marks {
-        let of_group = count_group(samples, *mark);
-        present += of_group.present;
-        missing += of_group.missing;
-        contested += of_group.contested;
-    }
+    let groups = count_marks(marks, PRESENT);
+    let contested = count_marks(marks, samples_mask(samples));
     Counts {
-        present,
-        missing,
+        present: samples as u64 * groups - contested,
+        missing: samples as u64 * (marks.len() as u64 - groups),
         contested,
     }
 }
 
-/// How many cells of a group are of each kind, by its mark word.
-fn count_group(samples: usize, mark: u16) -> Counts
+/// A bit for each sample of a group.
+fn samples_mask(samples: usize) -> u16
     requires { samples ≤ 12 }
-    ensures present { result.present ≡ count_by is_present (cells_from mark 0 (replicate samples 0)) }
-    ensures missing { result.missing ≡ count_by is_missing (cells_from mark 0 (replicate samples 0)) }
-    ensures contested { result.contested ≡ count_by is_contested (cells_from mark 0 (replicate samples 0)) }
-    ensures few { (result.present ≤ 12) × (result.missing ≤ 12) × (result.contested ≤ 12) }
+    ensures { result ≡ 2 ^ samples - 1 }
 {
-    let mut present = 0;
-    let mut missing = 0;
-    let mut contested = 0;
-    for i in 0..samples {
-        let cell = marked_cell(mark, i, 0);
-        present += u64::from(cell.is_present());
-        missing += u64::from(cell.is_missing());
-        contested += u64::from(cell.is_contested());
-    }
-    Counts {
-        present,
-        missing,
-        contested,
-    }
+    (1 << samples) - 1
 }

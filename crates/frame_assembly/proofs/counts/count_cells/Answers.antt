@@ -1,41 +1,41 @@
-use Rattle.std.proofs.Common.{ℕ, refl, ap, ◌∙◌, arith, count_by, get_or, replicate}
-use Rattle.st_format.specs.Cell.{is_contested, is_missing, is_present}
-use Rattle.frame_assembly.specs.Packed.{cells_from}
+use Rattle.std.proofs.Common.{arith}
+use Rattle.std.proofs.Math.Nat.{mul-le-mul}
 use Rattle.frame_assembly.proofs.PackedLemmas.{sizes}
-use Rattle.frame_assembly.proofs.CountLemmas.{group_more, groups_counted, none_counted}
+use Rattle.frame_assembly.proofs.CountLemmas.{counted}
 use Rattle.frame_assembly.proofs.counts.count_cells.Goals as goal
 
-pub loop-mark-init : goal.loop-mark-init
-loop-mark-init c = record {
-  present = none_counted is_present _ _ _ _;
-  missing = none_counted is_missing _ _ _ _;
-  contested = none_counted is_contested _ _ _ _;
-  some = omega arith;
-  none = omega arith;
-  other = omega arith;
-}
+pub overflow_mul-result : goal.overflow_mul-result
+overflow_mul-result c =
+    let are = counted _ _ _ c.pgroup-samples.result.samples c.count_marks-groups.result c.samples_mask.result c.count_marks-contested.result c.args.marks.now c.args.octets.now
+    (sizes c.args.format.now.sampling c.args.format.now.depth) c.requires.packed c.pgroup-samples.ensures.samples c.count_marks-groups.ensures c.samples_mask.ensures c.count_marks-contested.ensures in
+    record { fits = omega (arith, are.few, mul-le-mul c.pgroup-samples.ensures.few are.few) }
 
-pub loop-mark-preserved : goal.loop-mark-preserved
-loop-mark-preserved c =
-    let same = c.pgroup-samples.ensures.samples in
-    let few = c.count_group-of_group.ensures.few in
-    record {
-      present = group_more is_present _ _ _ c.loop-mark.mark-index _ _ c.args.marks.now c.args.octets.now (λ w. refl) (sizes c.args.format.now.sampling c.args.format.now.depth) c.requires.packed c.loop-mark-test.true
-          c.loop-mark.invariant.present (c.count_group-of_group.ensures.present ∙ ap (λ (s : ℕ). count_by is_present (cells_from (get_or c.args.marks.now c.loop-mark.mark-index 0) 0 (replicate s 0))) same);
-      missing = group_more is_missing _ _ _ c.loop-mark.mark-index _ _ c.args.marks.now c.args.octets.now (λ w. refl) (sizes c.args.format.now.sampling c.args.format.now.depth) c.requires.packed c.loop-mark-test.true
-          c.loop-mark.invariant.missing (c.count_group-of_group.ensures.missing ∙ ap (λ (s : ℕ). count_by is_missing (cells_from (get_or c.args.marks.now c.loop-mark.mark-index 0) 0 (replicate s 0))) same);
-      contested = group_more is_contested _ _ _ c.loop-mark.mark-index _ _ c.args.marks.now c.args.octets.now (λ w. refl) (sizes c.args.format.now.sampling c.args.format.now.depth) c.requires.packed c.loop-mark-test.true
-          c.loop-mark.invariant.contested (c.count_group-of_group.ensures.contested ∙ ap (λ (s : ℕ). count_by is_contested (cells_from (get_or c.args.marks.now c.loop-mark.mark-index 0) 0 (replicate s 0))) same);
-      some = omega arith;
-      none = omega arith;
-      other = omega arith;
-    }
+pub overflow_sub-result : goal.overflow_sub-result
+overflow_sub-result c =
+    let are = counted _ _ _ c.pgroup-samples.result.samples c.count_marks-groups.result c.samples_mask.result c.count_marks-contested.result c.args.marks.now c.args.octets.now
+    (sizes c.args.format.now.sampling c.args.format.now.depth) c.requires.packed c.pgroup-samples.ensures.samples c.count_marks-groups.ensures c.samples_mask.ensures c.count_marks-contested.ensures in
+    omega (arith, are.present)
+
+pub overflow_sub-result-2 : goal.overflow_sub-result-2
+overflow_sub-result-2 c =
+    let are = counted _ _ _ c.pgroup-samples.result.samples c.count_marks-groups.result c.samples_mask.result c.count_marks-contested.result c.args.marks.now c.args.octets.now
+    (sizes c.args.format.now.sampling c.args.format.now.depth) c.requires.packed c.pgroup-samples.ensures.samples c.count_marks-groups.ensures c.samples_mask.ensures c.count_marks-contested.ensures in
+    are.few
 
 pub returns-clause-present : goal.returns-clause-present
-returns-clause-present c = groups_counted is_present _ _ _ c.loop-mark.mark-index _ c.args.marks.now c.args.octets.now c.requires.packed (omega arith) (omega arith) c.loop-mark.invariant.present
+returns-clause-present c =
+    let are = counted _ _ _ c.pgroup-samples.result.samples c.count_marks-groups.result c.samples_mask.result c.count_marks-contested.result c.args.marks.now c.args.octets.now
+    (sizes c.args.format.now.sampling c.args.format.now.depth) c.requires.packed c.pgroup-samples.ensures.samples c.count_marks-groups.ensures c.samples_mask.ensures c.count_marks-contested.ensures in
+    omega (arith, are.present)
 
 pub returns-clause-missing : goal.returns-clause-missing
-returns-clause-missing c = groups_counted is_missing _ _ _ c.loop-mark.mark-index _ c.args.marks.now c.args.octets.now c.requires.packed (omega arith) (omega arith) c.loop-mark.invariant.missing
+returns-clause-missing c =
+    let are = counted _ _ _ c.pgroup-samples.result.samples c.count_marks-groups.result c.samples_mask.result c.count_marks-contested.result c.args.marks.now c.args.octets.now
+    (sizes c.args.format.now.sampling c.args.format.now.depth) c.requires.packed c.pgroup-samples.ensures.samples c.count_marks-groups.ensures c.samples_mask.ensures c.count_marks-contested.ensures in
+    are.missing
 
 pub returns-clause-contested : goal.returns-clause-contested
-returns-clause-contested c = groups_counted is_contested _ _ _ c.loop-mark.mark-index _ c.args.marks.now c.args.octets.now c.requires.packed (omega arith) (omega arith) c.loop-mark.invariant.contested
+returns-clause-contested c =
+    let are = counted _ _ _ c.pgroup-samples.result.samples c.count_marks-groups.result c.samples_mask.result c.count_marks-contested.result c.args.marks.now c.args.octets.now
+    (sizes c.args.format.now.sampling c.args.format.now.depth) c.requires.packed c.pgroup-samples.ensures.samples c.count_marks-groups.ensures c.samples_mask.ensures c.count_marks-contested.ensures in
+    are.contested_is
