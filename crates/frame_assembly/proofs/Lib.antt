@@ -17,3 +17,5 @@ pub mod SegmentPut
 pub mod Put
 pub mod SettledLemmas
 pub mod Absorbed
+pub mod WholeGroups
+pub mod Positions

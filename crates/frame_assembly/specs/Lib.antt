@@ -1,4 +1,5 @@
 pub mod Packed
 pub mod Rows
+pub mod Kinds
 pub mod Written
 pub mod Settled

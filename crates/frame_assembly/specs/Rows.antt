@@ -1,5 +1,5 @@
 -- What a frame tells of its rows and pixel groups, in the words of its cells (own).
-use Rattle.std.specs.Prelude.{◌≡◌, ◌≢◌, ℕ, ◌+◌, ◌*◌, ◌/◌, ◌<◌, ◌≤◌, ◌==◌, Bool, true, false, if◌then◌else◌, List, [], ◌∷◌, ◌++◌, length, take, drop, slice_index_or, replicate}
+use Rattle.std.specs.Prelude.{◌≡◌, ◌≢◌, ◌⊎◌, ℕ, ◌+◌, ◌*◌, ◌/◌, ◌<◌, ◌≤◌, ◌==◌, Bool, true, false, if◌then◌else◌, List, [], ◌∷◌, ◌++◌, length, take, drop, slice_index_or, replicate}
 use Rattle.std.specs.Int.{bit_at}
 use Rattle.st_format.specs.declared.cell.Cell.{Cell}
 use Rattle.st_format.specs.declared.cell.Cell.TheVariants.{Missing, Value, Contested}
@@ -41,6 +41,15 @@ IsStateOf Gone cells = (i : ℕ) → i < length cells → is_missing (slice_inde
 IsStateOf Whole cells = (i : ℕ) → i < length cells → is_present (slice_index_or cells i Missing) ≡ true
 IsStateOf (Mixed mask) cells = (mask ≢ 0) × ((i : ℕ) → i < length cells → is_missing (slice_index_or cells i Missing) ≡ false) × ((i : ℕ) → i < length cells → is_contested (slice_index_or cells i Missing) ≡ (bit_at mask i == 1))
     × ((i : ℕ) → length cells ≤ i → bit_at mask i ≡ 0)
+
+-- the cells of a group: all are missing, or none is
+abbrev pub IsAllOrNone : List Cell → Type 0
+IsAllOrNone cells = ((i : ℕ) → i < length cells → is_missing (slice_index_or cells i Missing) ≡ true)
+    ⊎ ((i : ℕ) → i < length cells → is_missing (slice_index_or cells i Missing) ≡ false)
+
+-- each group of each row is missing as a whole, or has no missing sample
+abbrev pub GroupsAreWhole : Raster → Type 0
+GroupsAreWhole r = (row group : ℕ) → row < r.format.height → group < row_groups r.format → IsAllOrNone (group_cells r row group)
 
 -- cells of values, the first of number i: contested where the bit of the mask is set
 unfoldable pub given_from : ℕ → ℕ → List ℕ → List Cell

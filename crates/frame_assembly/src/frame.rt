@@ -2,13 +2,15 @@
 ghost use Rattle.std.specs.Prelude.{◌≡◌, ◌<◌, ◌≤◌, ◌↔◌, ℕ, IfOk, IsTrue, count_by, length, map, slice_index};
 ghost use Rattle.std.specs.List.{AllByRecursion};
 ghost use Rattle.std.specs.Int.{bit_at};
+ghost use Rattle.frame_assembly.specs.Kinds.{AreCounts};
 ghost use Rattle.frame_assembly.specs.Packed.{known_value};
-ghost use Rattle.frame_assembly.specs.Rows.{IsMarkOf, IsStateOf, given_cells, group_cells, group_start, replaced, row_cells, row_groups};
+ghost use Rattle.frame_assembly.specs.Rows.{GroupsAreWhole, IsMarkOf, IsStateOf, given_cells, group_cells, group_start, replaced, row_cells, row_groups};
 ghost use Rattle.frame_assembly.specs.Settled.{settled};
 ghost use Rattle.pgroup_pack.specs.Groups.{blanked};
 ghost use Rattle.payload_header.specs.View.{segments_of};
 ghost use Rattle.st_format.specs.Cell.{is_contested, is_missing, is_present, join};
 ghost use Rattle.st_format.specs.Fit.{ValuesFit};
+ghost use Rattle.st_format.specs.Offer.{cell_of};
 ghost use Rattle.st_format.specs.Picture.{FitsDepth, IsPicture};
 ghost use Rattle.st_format.specs.Pgroup.{bits_of, pixel_group};
 ghost use Rattle.st_format.specs.Position.{IsPosition, Position, row_octets};
@@ -58,6 +60,7 @@ impl<A: Allocator + Copy> Frame<A> {
         ensures blank { IfOk result (λ f. f ≡ blank format) }
         ensures whole { IfOk result (λ f. IsWhole f) }
         ensures fit { IfOk result (λ f. ValuesFit f) }
+        ensures groups { IfOk result (λ f. GroupsAreWhole f) }
     {
         let groups = group_total(&format);
         let marks = Vec::from_elem(alloc, 0, groups)?;
@@ -76,6 +79,7 @@ impl<A: Allocator> Frame<A> {
         ensures format { result ≡ self.now.format }
         ensures whole { IsWhole self.now }
         ensures fit { ValuesFit self.now }
+        ensures groups { GroupsAreWhole self.now }
     {
         self.format
     }
@@ -106,8 +110,12 @@ impl<A: Allocator> Frame<A> {
         ensures format { self.new.format ≡ self.old.format }
         // A payload has no timestamp: its offers join alike at whichever it is given.
         ensures cells { (ts : ℕ) → self.new.cells ≡ joined self.old.cells (cells_of self.old.format (offers_in_all self.old.format ts (segments_of view.now)) ts) }
+        ensures each { (ts : ℕ) (p : Position) → IsPosition self.old.format p
+            → cell_at self.new p ≡ join (cell_at self.old p)
+            (cell_of (offers_in_all self.old.format ts (segments_of view.now)) ts p) }
         ensures whole { IsWhole self.new }
         ensures fit { ValuesFit self.new }
+        ensures groups { GroupsAreWhole self.new }
     {
         let segments = view.segments.as_slice();
         join_segments(
@@ -128,6 +136,7 @@ impl<A: Allocator> Frame<A> {
         ensures each { (p : Position) → IsPosition self.old.format p → cell_at self.new p ≡ join (cell_at self.old p) (cell_at other.now p) }
         ensures whole { IsWhole self.new }
         ensures fit { ValuesFit self.new }
+        ensures groups { GroupsAreWhole self.new }
     {
         join_run(
             &self.format,
@@ -143,6 +152,7 @@ impl<A: Allocator> Frame<A> {
         ensures present { result.present ≡ count_by is_present self.now.cells }
         ensures missing { result.missing ≡ count_by is_missing self.now.cells }
         ensures contested { result.contested ≡ count_by is_contested self.now.cells }
+        ensures positions { AreCounts self.now result }
         ensures whole { IsWhole self.now }
     {
         count_cells(&self.format, self.marks.as_slice(), self.octets.as_slice())
@@ -153,6 +163,7 @@ impl<A: Allocator> Frame<A> {
         ensures blank { self.new ≡ blank self.old.format }
         ensures whole { IsWhole self.new }
         ensures fit { ValuesFit self.new }
+        ensures groups { GroupsAreWhole self.new }
     {
         self.marks.fill(0);
         self.octets.fill(0);
@@ -184,6 +195,7 @@ impl<A: Allocator> Frame<A> {
         ensures same { IfOk result (λ f. f ≡ self.now) }
         ensures whole { IsWhole self.now }
         ensures fit { ValuesFit self.now }
+        ensures groups { GroupsAreWhole self.now }
     {
         let marks = Vec::from_slice(alloc, self.marks.as_slice())?;
         let octets = Vec::from_slice(alloc, self.octets.as_slice())?;
@@ -256,6 +268,7 @@ impl<A: Allocator> Frame<A> {
         ensures cells { self.new.cells ≡ replaced (group_start self.old.format row group) (given_cells present contested (values_in (bits_of self.old.format.depth) octets.now)) self.old.cells }
         ensures whole { IsWhole self.new }
         ensures fit { ValuesFit self.new }
+        ensures groups { GroupsAreWhole self.new }
     {
         set_group_of(
             &self.format,

@@ -2,6 +2,7 @@ use Rattle.std.proofs.Common.{length, ap, ◌∙◌, arith, subst}
 use Rattle.st_format.specs.Fit.{IsFrame}
 use Rattle.frame_assembly.proofs.Absorbed.{each_absorbed}
 use Rattle.frame_assembly.proofs.Kept.{frame_absorb, kept, kept_back}
+use Rattle.frame_assembly.proofs.WholeGroups.{whole_groups}
 use Rattle.frame_assembly.proofs.frame.Frame.absorb.Goals as goal
 
 pub invariant_of-self : goal.invariant_of-self
@@ -25,3 +26,6 @@ returns-clause-whole g c = (invariant_of-self g c).frame.whole
 
 pub returns-clause-fit : goal.returns-clause-fit
 returns-clause-fit g c = (invariant_of-self g c).frame.fit
+
+pub returns-clause-groups : goal.returns-clause-groups
+returns-clause-groups g c = whole_groups _ _ _ (invariant_of-self g c)

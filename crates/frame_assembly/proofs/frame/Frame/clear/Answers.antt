@@ -2,6 +2,7 @@ use Rattle.std.proofs.Common.{◌≡◌, ℕ, ◌*◌, length, replicate, ap, �
 use Rattle.st_format.specs.Pgroup.{pixel_group}
 use Rattle.st_format.specs.Raster.{Raster, blank}
 use Rattle.frame_assembly.proofs.Kept.{blank_cells, blank_kept, frame_view}
+use Rattle.frame_assembly.proofs.WholeGroups.{whole_groups}
 use Rattle.frame_assembly.proofs.frame.Frame.clear.Goals as goal
 
 pub invariant_of-self : goal.invariant_of-self
@@ -29,3 +30,6 @@ returns-clause-whole g c = (invariant_of-self g c).frame.whole
 
 pub returns-clause-fit : goal.returns-clause-fit
 returns-clause-fit g c = (invariant_of-self g c).frame.fit
+
+pub returns-clause-groups : goal.returns-clause-groups
+returns-clause-groups g c = whole_groups _ _ _ (invariant_of-self g c)

@@ -1,5 +1,6 @@
 use Rattle.std.proofs.Common.{ℕ, ◌*◌, replicate, ap, ◌∙◌}
 use Rattle.frame_assembly.proofs.Kept.{blank_cells, blank_kept, frame_view}
+use Rattle.frame_assembly.proofs.WholeGroups.{whole_groups}
 use Rattle.frame_assembly.proofs.frame.Frame.new.Goals as goal
 
 pub invariant_of-result : goal.invariant_of-result
@@ -20,3 +21,6 @@ returns-clause-whole g c = (invariant_of-result g c).frame.whole
 
 pub returns-clause-fit : goal.returns-clause-fit
 returns-clause-fit g c = (invariant_of-result g c).frame.fit
+
+pub returns-clause-groups : goal.returns-clause-groups
+returns-clause-groups g c = whole_groups _ _ _ (invariant_of-result g c)

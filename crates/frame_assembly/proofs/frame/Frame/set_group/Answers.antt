@@ -1,5 +1,6 @@
 use Rattle.std.proofs.Common.{length, ap, ◌∙◌, arith}
 use Rattle.frame_assembly.proofs.Kept.{kept, kept_back}
+use Rattle.frame_assembly.proofs.WholeGroups.{whole_groups}
 use Rattle.frame_assembly.proofs.frame.Frame.set_group.Goals as goal
 
 pub invariant_of-self : goal.invariant_of-self
@@ -12,3 +13,6 @@ returns-clause-whole g c = (invariant_of-self g c).frame.whole
 
 pub returns-clause-fit : goal.returns-clause-fit
 returns-clause-fit g c = (invariant_of-self g c).frame.fit
+
+pub returns-clause-groups : goal.returns-clause-groups
+returns-clause-groups g c = whole_groups _ _ _ (invariant_of-self g c)
