@@ -135,6 +135,7 @@ fn join_chunk(
 }
 
 /// Joins a few other groups that are not the same.
+#[inline(always)]
 fn join_unlike(
     format: &Format,
     marks: &mut [u16],
@@ -164,6 +165,7 @@ fn join_unlike(
 }
 
 /// Joins a few other groups where no sample is missing on either side.
+#[inline(always)]
 fn join_present(
     format: &Format,
     marks: &mut [u16],
@@ -241,6 +243,7 @@ fn are_missing(marks: &[u16]) -> bool
 }
 
 /// Whether no group is missing.
+#[inline(always)]
 fn are_present(marks: &[u16]) -> bool
     ensures { IsTrue result → (k : ℕ) → k < length marks.now → 32768 ≤ slice_index marks.now k }
 {
@@ -259,7 +262,7 @@ fn equal_words(left: &[u16], right: &[u16]) -> bool
 {
     let mut unlike = 0;
     for i in 0..left.len() {
-        unlike = unlike.max(left[i] ^ right[i]);
+        unlike |= left[i] ^ right[i];
     }
     unlike == 0
 }
@@ -272,7 +275,7 @@ fn equal_octets(left: &[u8], right: &[u8]) -> bool
 {
     let mut unlike = 0;
     for i in 0..left.len() {
-        unlike = unlike.max(left[i] ^ right[i]);
+        unlike |= left[i] ^ right[i];
     }
     unlike == 0
 }

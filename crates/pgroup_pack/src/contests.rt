@@ -5,8 +5,8 @@ ghost use Rattle.pgroup_pack.specs.Groups.{AreContested, differs_at};
 ghost use Rattle.st_format.specs.Pgroup.{bits_of, pixel_group};
 ghost use Rattle.st_format.specs.Samples.{values_in};
 
-use crate::{pack, unpack};
-use st_format::Format;
+use crate::{pack_at, unpack_at};
+use st_format::{Depth, Format};
 use std::simd::prelude::*;
 
 /// How many samples are compared at once, as three vectors; each has a bit of one word.
@@ -52,18 +52,49 @@ fn contest_few(format: &Format, octets: &mut [u8], others: &[u8], marks: &mut [u
     ensures { AreContested (pixel_group format.now.sampling format.now.depth).samples (values_in (bits_of format.now.depth) octets.old) (values_in (bits_of format.now.depth) others.now) marks.old marks.new (values_in (bits_of format.now.depth) octets.new) }
 {
     let samples = format.pgroup().samples;
+    let are_eight = samples == 4 && marks.len() == 8 && octets.len() == others.len();
+    // Eight pgroups of 4:2:2 at 8 and 10 bits as literals: the compiler then unrolls all that is done.
+    match format.depth {
+        Depth::D8 if are_eight && octets.len() == 32 => {
+            contest_lanes(format, Depth::D8, 4, octets, others, marks)
+        }
+        Depth::D10 if are_eight && octets.len() == 40 => {
+            contest_lanes(format, Depth::D10, 4, octets, others, marks)
+        }
+        depth => contest_lanes(format, depth, samples, octets, others, marks),
+    }
+}
+
+/// The same, of this depth and so many samples a pgroup.
+#[inline(always)]
+fn contest_lanes(
+    format: &Format,
+    depth: Depth,
+    samples: usize,
+    octets: &mut [u8],
+    others: &[u8],
+    marks: &mut [u16],
+)
+    requires depth { depth ≡ format.now.depth }
+    requires samples { samples ≡ (pixel_group format.now.sampling format.now.depth).samples }
+    requires few { (pixel_group format.now.sampling format.now.depth).samples * length marks.old ≤ LANES }
+    requires octets { length octets.old ≡ (pixel_group format.now.sampling format.now.depth).octets * length marks.old }
+    requires others { length others.now ≡ length octets.old }
+    ensures { AreContested (pixel_group format.now.sampling format.now.depth).samples (values_in (bits_of format.now.depth) octets.old) (values_in (bits_of format.now.depth) others.now) marks.old marks.new (values_in (bits_of format.now.depth) octets.new) }
+{
     let count = samples * marks.len();
     let mut left = [0; LANES];
     let mut right = [0; LANES];
-    unpack(format, octets, &mut left[..count]);
-    unpack(format, others, &mut right[..count]);
+    unpack_at(depth, octets, &mut left[..count]);
+    unpack_at(depth, others, &mut right[..count]);
     let differ = differing_bits(&left, &right);
     let contested = mark_differing(samples, differ, marks);
     blank_bits(&mut left, contested);
-    pack(format, &left[..count], octets);
+    pack_at(depth, &left[..count], octets);
 }
 
 /// Bit `k` is set where the samples of number `k` differ.
+#[inline(always)]
 fn differing_bits(left: &[u16], right: &[u16]) -> u64
     requires left { length left.now ≡ LANES }
     requires right { length right.now ≡ LANES }
@@ -90,6 +121,7 @@ fn differing_lanes(left: &[u16], right: &[u16]) -> u64
 
 /// Sets in each pgroup's mark word the bits of its samples that differ, and answers the bits of all
 /// samples that are then set.
+#[inline(always)]
 fn mark_differing(samples: usize, differ: u64, marks: &mut [u16]) -> u64
     requires some { 0 < samples }
     requires most { samples ≤ 12 }
@@ -108,6 +140,7 @@ fn mark_differing(samples: usize, differ: u64, marks: &mut [u16]) -> u64
 }
 
 /// Makes each sample 0 whose bit is set.
+#[inline(always)]
 fn blank_bits(samples: &mut [u16], bits: u64)
     requires { length samples.old ≡ LANES }
     ensures { (k : ℕ) → k < LANES → slice_index samples.new k ≡ (if bit_at bits k == 1 then 0 else slice_index samples.old k) }

@@ -3,6 +3,7 @@ ghost use Rattle.std.specs.Prelude.{◌≡◌, ◌<◌, ◌*◌, ◌/◌, length
 ghost use Rattle.pgroup_pack.specs.Packing.{Fit};
 ghost use Rattle.st_format.specs.Samples.{Spells, values_in};
 
+#[inline(always)]
 pub(crate) fn unpack(octets: &[u8], samples: &mut [u16])
     requires { 8 * length octets.now ≡ 8 * length samples.old }
     ensures { Spells 8 octets.now samples.new }
@@ -12,6 +13,7 @@ pub(crate) fn unpack(octets: &[u8], samples: &mut [u16])
     }
 }
 
+#[inline(always)]
 pub(crate) fn pack(samples: &[u16], octets: &mut [u8])
     requires lengths { 8 * length octets.old ≡ 8 * length samples.now }
     requires fit { Fit 8 samples.now }

@@ -61,6 +61,7 @@ pub fn sample_at(format: &Format, octets: &[u8], i: usize) -> u16
     }
 }
 
+#[inline(always)]
 fn unpack_at(depth: Depth, octets: &[u8], samples: &mut [u16])
     requires { 8 * length octets.now ≡ bits_of depth * length samples.old }
     ensures { Spells (bits_of depth) octets.now samples.new }
@@ -73,6 +74,7 @@ fn unpack_at(depth: Depth, octets: &[u8], samples: &mut [u16])
     }
 }
 
+#[inline(always)]
 fn pack_at(depth: Depth, samples: &[u16], octets: &mut [u8])
     requires lengths { 8 * length octets.old ≡ bits_of depth * length samples.now }
     requires fit { Fit (bits_of depth) samples.now }

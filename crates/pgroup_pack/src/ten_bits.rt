@@ -1,11 +1,12 @@
 //! Samples of 10 bits: four are five octets.
-ghost use Rattle.std.specs.Prelude.{◌≡◌, ◌<◌, ◌*◌, ◌/◌, length, slice_index, take};
+ghost use Rattle.std.specs.Prelude.{◌≡◌, ◌<◌, ◌≤◌, ◌*◌, ◌/◌, ◌++◌, length, slice_index, take, drop};
 ghost use Rattle.pgroup_pack.specs.Packing.{Fit};
 ghost use Rattle.st_format.specs.Samples.{Spells, values_in};
 
 use std::simd::prelude::*;
 
 /// Most octets go ten at a time, as eight lanes, and the last few five at a time.
+#[inline(always)]
 pub(crate) fn unpack(octets: &[u8], samples: &mut [u16])
     requires { 8 * length octets.now ≡ 10 * length samples.old }
     ensures { Spells 10 octets.now samples.new }
@@ -16,10 +17,37 @@ pub(crate) fn unpack(octets: &[u8], samples: &mut [u16])
         let block = u8x16::from_slice(&octets[10 * i..]);
         samples_of(block).copy_to_slice(&mut samples[8 * i..]);
     }
-    unpack_fives(&octets[10 * blocks..], &mut samples[8 * blocks..]);
+    unpack_rest(&octets[10 * blocks..], &mut samples[8 * blocks..]);
+}
+
+/// Ten octets that are fewer than a load go as lanes too.
+#[inline(always)]
+fn unpack_rest(octets: &[u8], samples: &mut [u16])
+    requires { 8 * length octets.now ≡ 10 * length samples.old }
+    ensures { Spells 10 octets.now samples.new }
+{
+    if octets.len() < 10 {
+        unpack_fives(octets, samples);
+        return;
+    }
+    samples_of(ten_octets(octets)).copy_to_slice(samples);
+    unpack_fives(&octets[10..], &mut samples[8..]);
+}
+
+/// The first ten octets, and six more of no meaning.
+#[inline(always)]
+fn ten_octets(octets: &[u8]) -> u8x16
+    requires { 10 ≤ length octets.now }
+    ensures octets { take 10 result ≡ take 10 octets.now }
+    ensures long { length result ≡ 16 }
+{
+    let first = u8x8::from_slice(octets);
+    let last = u8x8::from_slice(&octets[2..]);
+    first.shuffle(last, [0, 1, 2, 3, 4, 5, 6, 7, 14, 15, 0, 0, 0, 0, 0, 0])
 }
 
 /// Most samples go eight at a time, as lanes, and the last few four at a time.
+#[inline(always)]
 pub(crate) fn pack(samples: &[u16], octets: &mut [u8])
     requires lengths { 8 * length octets.old ≡ 10 * length samples.now }
     requires fit { Fit 10 samples.now }
@@ -31,7 +59,33 @@ pub(crate) fn pack(samples: &[u16], octets: &mut [u8])
         let block = u16x8::from_slice(&samples[8 * i..]);
         octets_of(block).copy_to_slice(&mut octets[10 * i..]);
     }
-    pack_fours(&samples[8 * blocks..], &mut octets[10 * blocks..]);
+    pack_rest(&samples[8 * blocks..], &mut octets[10 * blocks..]);
+}
+
+/// Ten octets that are fewer than a store go as lanes too.
+#[inline(always)]
+fn pack_rest(samples: &[u16], octets: &mut [u8])
+    requires lengths { 8 * length octets.old ≡ 10 * length samples.now }
+    requires fit { Fit 10 samples.now }
+    ensures { Spells 10 octets.new samples.now }
+{
+    if samples.len() < 8 {
+        pack_fours(samples, octets);
+        return;
+    }
+    store_ten(octets_of(u16x8::from_slice(samples)), octets);
+    pack_fours(&samples[8..], &mut octets[10..]);
+}
+
+/// Stores the first ten octets of a vector, and leaves what is behind them.
+#[inline(always)]
+fn store_ten(from: u8x16, octets: &mut [u8])
+    requires { 10 ≤ length octets.old }
+    ensures { octets.new ≡ take 10 from ++ drop 10 octets.old }
+{
+    from.swizzle([0, 1, 2, 3, 4, 5, 6, 7]).copy_to_slice(octets);
+    octets[8] = from[8];
+    octets[9] = from[9];
 }
 
 /// A sample's bits lie in two octets.
@@ -74,6 +128,7 @@ fn octets_of(samples: u16x8) -> u8x16
     first + second
 }
 
+#[inline(always)]
 fn unpack_fives(octets: &[u8], samples: &mut [u16])
     requires { 8 * length octets.now ≡ 10 * length samples.old }
     ensures { Spells 10 octets.now samples.new }
@@ -91,6 +146,7 @@ fn unpack_fives(octets: &[u8], samples: &mut [u16])
     }
 }
 
+#[inline(always)]
 fn pack_fours(samples: &[u16], octets: &mut [u8])
     requires lengths { 8 * length octets.old ≡ 10 * length samples.now }
     requires fit { Fit 10 samples.now }

@@ -1,6 +1,6 @@
-use Rattle.std.proofs.Common.{ℕ, ◌<◌, ◌≤◌, get_or, bit_xor}
+use Rattle.std.proofs.Common.{◌≡◌, ℕ, ◌<◌, get_or}
 use Rattle.frame_assembly.proofs.groups.equal_octets.Given as goal
 
--- no two octets so far are more unlike
+-- where no bit is set, those so far are the same
 abbrev pub invariant-loop-i : goal.invariant-loop-i
-invariant-loop-i l = (k : ℕ) → k < l.i → bit_xor (get_or l.left k 0) (get_or l.right k 0) ≤ l.unlike
+invariant-loop-i l = l.unlike ≡ 0 → (k : ℕ) → k < l.i → get_or l.left k 0 ≡ get_or l.right k 0

@@ -17,5 +17,5 @@ returns c =
     let end : c.loop-i.i ≡ blocks = omega arith in
     let done : Spells 10 (take (10 * blocks) c.loop-i.octets) (take (8 * blocks) c.args.samples.now)
     = subst (λ (k : ℕ). Spells 10 (take (10 * k) c.loop-i.octets) (take (8 * k) c.args.samples.now)) end c.loop-i.invariant in
-    Spells-more 10 (rest_put (10 * blocks) (length c.loop-i.octets - 10 * blocks) c.loop-i.octets c.pack_fours.new.octets (omega arith))
-    (in_two (8 * blocks) c.args.samples.now) done c.pack_fours.ensures
+    Spells-more 10 (rest_put (10 * blocks) (length c.loop-i.octets - 10 * blocks) c.loop-i.octets c.pack_rest.new.octets (omega arith))
+    (in_two (8 * blocks) c.args.samples.now) done c.pack_rest.ensures

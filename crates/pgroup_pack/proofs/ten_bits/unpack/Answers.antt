@@ -20,4 +20,4 @@ returns c =
     let done : Spells 10 (take (10 * blocks) c.args.octets.now) (take (8 * blocks) c.loop-i.samples)
     = subst (λ (k : ℕ). Spells 10 (take (10 * k) c.args.octets.now) (take (8 * k) c.loop-i.samples)) end c.loop-i.invariant in
     Spells-more 10 (in_two (10 * blocks) c.args.octets.now)
-    (rest_put (8 * blocks) (length c.loop-i.samples - 8 * blocks) c.loop-i.samples c.unpack_fives.new.samples (omega arith)) done c.unpack_fives.ensures
+    (rest_put (8 * blocks) (length c.loop-i.samples - 8 * blocks) c.loop-i.samples c.unpack_rest.new.samples (omega arith)) done c.unpack_rest.ensures
