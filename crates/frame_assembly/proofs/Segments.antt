@@ -30,7 +30,7 @@ use Rattle.frame_assembly.proofs.Runs.{IsPart, packed_first, times_le}
 low_bit : (i : ℕ) → i < 15 → bit_at 32768 i ≡ 0
 low_bit i lt = let ne : i ≡ 15 → ⊥ = λ e. absurd (omega arith) in bit_at-pow_other 15 i ne
 
-marked_whole : (i v : ℕ) → i < 15 → marked 32768 i v ≡ Value v
+pub marked_whole : (i v : ℕ) → i < 15 → marked 32768 i v ≡ Value v
 unfolding marked
 marked_whole i v lt = rw (low_bit i lt) refl
 

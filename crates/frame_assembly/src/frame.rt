@@ -1,22 +1,22 @@
 //! A frame: what is known of each sample of a raster.
 ghost use Rattle.std.specs.Prelude.{◌≡◌, ◌<◌, ◌≤◌, ◌↔◌, ℕ, IfOk, IsTrue, count_by, length, map, slice_index};
-ghost use Rattle.std.specs.List.{AllByRecursion};
 ghost use Rattle.std.specs.Int.{bit_at};
 ghost use Rattle.frame_assembly.specs.Kinds.{AreCounts};
 ghost use Rattle.frame_assembly.specs.Packed.{known_value};
 ghost use Rattle.frame_assembly.specs.Rows.{GroupsAreWhole, IsMarkOf, IsStateOf, given_cells, group_cells, group_start, replaced, row_cells, row_groups};
-ghost use Rattle.frame_assembly.specs.Settled.{settled};
+ghost use Rattle.frame_assembly.specs.Settled.{IsBaseOf, settled};
 ghost use Rattle.pgroup_pack.specs.Groups.{blanked};
 ghost use Rattle.payload_header.specs.View.{segments_of};
 ghost use Rattle.st_format.specs.Cell.{is_contested, is_missing, is_present, join};
 ghost use Rattle.st_format.specs.Fit.{ValuesFit};
 ghost use Rattle.st_format.specs.Offer.{cell_of};
-ghost use Rattle.st_format.specs.Picture.{FitsDepth, IsPicture};
+ghost use Rattle.st_format.specs.Picture.{IsPicture};
 ghost use Rattle.st_format.specs.Pgroup.{bits_of, pixel_group};
 ghost use Rattle.st_format.specs.Position.{IsPosition, Position, row_octets};
 ghost use Rattle.st_format.specs.Samples.{Spells, values_in};
 ghost use Rattle.st_format.specs.Raster.{IsWhole, blank, cell_at, cells_of, joined, joined_rasters, offers_in_all};
 
+use crate::base::Base;
 use crate::cells::cell_in;
 use crate::counts::{Counts, count_cells};
 use crate::groups::{join_run, same_groups};
@@ -169,13 +169,18 @@ impl<A: Allocator> Frame<A> {
         self.octets.fill(0);
     }
 
-    /// A picture of the frame: the value of each sample that has one; for a missing or a contested sample
-    /// `fill` has the value of its component (Y, Cb, Cr or R, G, B), which fits the depth.
+    /// A picture of the frame: the value of each sample that has one, and the base's value for a missing or a
+    /// contested sample.
     ///
+    /// A fill fits the depth, and a held picture has the frame's format; it may be over another allocator.
     /// `AllocError` comes only where the allocator refused the memory for the values.
-    pub fn settle<B: Allocator>(&self, alloc: B, fill: [u16; 3]) -> Result<Picture<B>, AllocError>
-        requires { AllByRecursion (FitsDepth self.now.format) fill }
-        ensures settled { IfOk result (λ p. p ≡ settled self.now fill) }
+    pub fn settle<B: Allocator, C: Allocator>(
+        &self,
+        alloc: B,
+        base: Base<'_, C>,
+    ) -> Result<Picture<B>, AllocError>
+        requires { IsBaseOf self.now.format base }
+        ensures settled { IfOk result (λ p. p ≡ settled self.now base.entry) }
         ensures picture { IfOk result (λ p. IsPicture p) }
     {
         let samples = settled_samples(
@@ -183,7 +188,7 @@ impl<A: Allocator> Frame<A> {
             &self.format,
             self.marks.as_slice(),
             self.octets.as_slice(),
-            fill,
+            base,
         )?;
         Ok(Picture::from_samples(self.format, samples))
     }

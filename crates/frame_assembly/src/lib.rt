@@ -1,6 +1,7 @@
 //! Frames that are put together from datagrams: what is known of each sample of a raster.
 #![tactic(auto)]
 
+mod base;
 mod cells;
 mod counts;
 mod frame;
@@ -10,6 +11,7 @@ mod rows;
 mod settling;
 mod state;
 
+pub use base::Base;
 pub use counts::Counts;
 pub use frame::Frame;
 pub use st_format::Cell;

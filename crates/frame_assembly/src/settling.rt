@@ -1,50 +1,192 @@
 //! Settling cells: a value for each sample.
-ghost use Rattle.std.specs.Prelude.{◌≡◌, ◌≤◌, ◌*◌, IfOk, length};
-ghost use Rattle.frame_assembly.specs.Packed.{ArePacked, cells_in};
-ghost use Rattle.frame_assembly.specs.Settled.{settled_cell, settled_numbers};
-ghost use Rattle.st_format.specs.Pgroup.{bits_of, pixel_group};
-ghost use Rattle.st_format.specs.Samples.{values_in};
+ghost use Rattle.std.specs.Prelude.{◌≡◌, ◌<◌, ◌≤◌, ◌*◌, ◌%◌, ◌↔◌, ℕ, IfOk, IsTrue, length, map, slice_index};
+ghost use Rattle.std.specs.List.{range_with_len};
+ghost use Rattle.frame_assembly.specs.Packed.{ArePacked, cells_in, group_count, marked};
+ghost use Rattle.frame_assembly.specs.Settled.{HoldsPicture, IsBaseOf, IsSettledTo, base_number, settled_cell, settled_numbers};
+ghost use Rattle.st_format.specs.Pgroup.{pixel_group};
+ghost use Rattle.st_format.specs.Position.{component_in_row};
 
-use crate::groups::marked_cell;
+use crate::base::Base;
+use crate::groups::{BLOCK, PRESENT, marked_cell};
 use pgroup_pack::unpack;
-use st_format::{Cell, Format};
+use st_format::{Cell, Format, Sampling};
 use std::alloc::{AllocError, Allocator};
 
-/// The value of each cell, or the fill's value of its component where it has none.
-pub fn settled_samples<B: Allocator>(
+/// How many samples a block of groups has at most: a group has 12 or fewer.
+const BLOCK_SAMPLES: usize = 768;
+
+/// The value of each cell, or the base's value where it has none.
+pub fn settled_samples<B: Allocator, C: Allocator>(
     alloc: B,
     format: &Format,
     marks: &[u16],
     octets: &[u8],
-    fill: [u16; 3],
+    base: Base<'_, C>,
 ) -> Result<Vec<u16, B>, AllocError>
     requires packed { ArePacked format.now marks.now octets.now }
     requires few { length marks.now ≤ 8192 * 8192 }
-    ensures { IfOk result (λ v. v.items ≡ settled_numbers format.now.sampling (cells_in format.now marks.now octets.now) fill) }
+    requires groups { length marks.now ≡ group_count format.now }
+    requires base { IsBaseOf format.now base }
+    ensures settled { IfOk result (λ v. v.items ≡ settled_numbers (cells_in format.now marks.now octets.now) (base_number format.now.sampling base.entry)) }
+    ensures held { IfOk result (λ v. HoldsPicture base.entry) }
 {
     let count = format.pgroup().samples * marks.len();
     let mut samples = Vec::from_elem(alloc, 0, count)?;
-    unpack(format, octets, samples.as_mut_slice());
-    settle_samples(format, marks, octets, fill, samples.as_mut_slice());
+    read_settled(format, marks, octets, base, samples.as_mut_slice());
     Ok(samples)
 }
 
-/// Gives each sample the fill's value of its component where its cell has none.
-fn settle_samples(
+/// Reads the samples, and gives each the base's value where its cell has none.
+fn read_settled<C: Allocator>(
     format: &Format,
     marks: &[u16],
     octets: &[u8],
-    fill: [u16; 3],
+    base: Base<'_, C>,
     samples: &mut [u16],
 )
     requires packed { ArePacked format.now marks.now octets.now }
-    requires values { samples.old ≡ values_in (bits_of format.now.depth) octets.now }
-    ensures { samples.new ≡ settled_numbers format.now.sampling (cells_in format.now marks.now octets.now) fill }
+    requires groups { length marks.now ≡ group_count format.now }
+    requires base { IsBaseOf format.now base }
+    requires samples { length samples.old ≡ (pixel_group format.now.sampling format.now.depth).samples * length marks.now }
+    ensures settled { samples.new ≡ settled_numbers (cells_in format.now marks.now octets.now) (base_number format.now.sampling base.entry) }
+    ensures held { HoldsPicture base.entry }
+{
+    unpack(format, octets, samples);
+    settle_over(format, marks, base, samples);
+}
+
+/// Gives each sample the base's value where its cell has none.
+fn settle_over<C: Allocator>(format: &Format, marks: &[u16], base: Base<'_, C>, samples: &mut [u16])
+    requires groups { length marks.now ≡ group_count format.now }
+    requires base { IsBaseOf format.now base }
+    requires samples { length samples.old ≡ (pixel_group format.now.sampling format.now.depth).samples * length marks.now }
+    ensures settled { IsSettledTo (pixel_group format.now.sampling format.now.depth).samples (length marks.now) marks.now (base_number format.now.sampling base.entry) samples.old samples.new }
+    ensures held { HoldsPicture base.entry }
 {
     let of_group = format.pgroup().samples;
-    for number in 0..samples.len() {
-        let cell = marked_cell(marks[number / of_group], number % of_group, samples[number]);
-        samples[number] = settled_value(cell, fill[format.sampling.component_in_row(number)]);
+    match base {
+        Base::Fill(fill) => {
+            let mut pattern = [0; BLOCK_SAMPLES];
+            fill_samples(format.sampling, fill, &mut pattern);
+            settle_over_pattern(of_group, marks, &pattern, samples);
+        }
+        Base::Hold(picture) => {
+            settle_over_held(of_group, marks, picture.samples(), samples);
+        }
+    }
+}
+
+/// Gives each sample the value of its component.
+fn fill_samples(sampling: Sampling, fill: [u16; 3], samples: &mut [u16])
+    ensures { samples.new ≡ map (λ k. slice_index fill (component_in_row sampling k)) (range_with_len 0 (length samples.old)) }
+{
+    for (number, sample) in samples.iter_mut().enumerate() {
+        *sample = fill[sampling.component_in_row(number)];
+    }
+}
+
+/// Settles over values that come again with each block, a block after the other.
+fn settle_over_pattern(of_group: usize, marks: &[u16], pattern: &[u16], samples: &mut [u16])
+    requires few { of_group ≤ 12 }
+    requires pattern { length pattern.now ≡ 768 }
+    requires samples { length samples.old ≡ of_group * length marks.now }
+    ensures { IsSettledTo of_group (length marks.now) marks.now (λ k. slice_index pattern.now (k % (of_group * 64))) samples.old samples.new }
+{
+    let blocks = marks.len() / BLOCK;
+    for i in 0..blocks {
+        settle_block(
+            of_group,
+            &marks[BLOCK * i..BLOCK * (i + 1)],
+            pattern,
+            &mut samples[of_group * (BLOCK * i)..of_group * (BLOCK * (i + 1))],
+        );
+    }
+    settle_block(
+        of_group,
+        &marks[BLOCK * blocks..],
+        pattern,
+        &mut samples[of_group * (BLOCK * blocks)..],
+    );
+}
+
+/// Settles over the values of a picture, a block after the other.
+fn settle_over_held(of_group: usize, marks: &[u16], held: &[u16], samples: &mut [u16])
+    requires few { of_group ≤ 12 }
+    requires held { length held.now ≡ of_group * length marks.now }
+    requires samples { length samples.old ≡ of_group * length marks.now }
+    ensures { IsSettledTo of_group (length marks.now) marks.now (λ k. slice_index held.now k) samples.old samples.new }
+{
+    let blocks = marks.len() / BLOCK;
+    for i in 0..blocks {
+        settle_block(
+            of_group,
+            &marks[BLOCK * i..BLOCK * (i + 1)],
+            &held[of_group * (BLOCK * i)..of_group * (BLOCK * (i + 1))],
+            &mut samples[of_group * (BLOCK * i)..of_group * (BLOCK * (i + 1))],
+        );
+    }
+    settle_block(
+        of_group,
+        &marks[BLOCK * blocks..],
+        &held[of_group * (BLOCK * blocks)..],
+        &mut samples[of_group * (BLOCK * blocks)..],
+    );
+}
+
+/// Settles a block over its values of the base. Where each cell has a value, they stay as they were read.
+fn settle_block(of_group: usize, marks: &[u16], base: &[u16], samples: &mut [u16])
+    requires few { of_group ≤ 12 }
+    requires base { of_group * length marks.now ≤ length base.now }
+    requires samples { length samples.old ≡ of_group * length marks.now }
+    ensures { IsSettledTo of_group (length marks.now) marks.now (λ k. slice_index base.now k) samples.old samples.new }
+{
+    if are_whole(marks) {
+        return;
+    }
+    settle_groups(of_group, marks, base, samples);
+}
+
+/// Whether each group has all its values.
+fn are_whole(marks: &[u16]) -> bool
+    ensures { IsTrue result → (k : ℕ) → k < length marks.now → slice_index marks.now k ≡ 32768 }
+{
+    let mut least = PRESENT;
+    let mut most = PRESENT;
+    for mark in marks {
+        least = least.min(*mark);
+        most = most.max(*mark);
+    }
+    least == PRESENT && most == PRESENT
+}
+
+/// Settles groups one by one.
+fn settle_groups(of_group: usize, marks: &[u16], base: &[u16], samples: &mut [u16])
+    requires few { of_group ≤ 12 }
+    requires base { of_group * length marks.now ≤ length base.now }
+    requires samples { length samples.old ≡ of_group * length marks.now }
+    ensures { IsSettledTo of_group (length marks.now) marks.now (λ k. slice_index base.now k) samples.old samples.new }
+{
+    for i in 0..marks.len() {
+        settle_group(
+            marks[i],
+            &base[of_group * i..of_group * (i + 1)],
+            &mut samples[of_group * i..of_group * (i + 1)],
+        );
+    }
+}
+
+/// Gives each sample of a group the base's value where its cell has none.
+fn settle_group(mark: u16, base: &[u16], samples: &mut [u16])
+    requires few { length samples.old ≤ 12 }
+    requires base { length base.now ≡ length samples.old }
+    ensures { (i : ℕ) → i < length samples.old → slice_index samples.new i ≡ settled_cell (marked mark i (slice_index samples.old i)) (slice_index base.now i) }
+{
+    if mark == PRESENT {
+        return;
+    }
+    for i in 0..samples.len() {
+        let cell = marked_cell(mark, i, samples[i]);
+        samples[i] = settled_value(cell, base[i]);
     }
 }
 

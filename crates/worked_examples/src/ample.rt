@@ -1,8 +1,9 @@
 //! Calls that want memory, of many sizes, where there is enough of it.
-use frame_assembly::Frame;
+use frame_assembly::{Base, Frame};
 use packet_plan::Plan;
 use path_merge::Receiver;
 use st_format::{Depth, Format, Picture, Sampling};
+use std::alloc::Global;
 use std::process::Abort;
 use std::test::Fail;
 
@@ -10,7 +11,8 @@ use std::test::Fail;
 /// refusal is an Err.
 fn has_memory(rt: &(impl Abort + AllocGlobal), format: Format) -> Result<(), Fail> {
     let frame = Frame::new(rt.alloc(), format)?;
-    let settled = frame.try_copy(rt.alloc())?.settle(rt.alloc(), [0, 0, 0])?;
+    let copy = frame.try_copy(rt.alloc())?;
+    let settled = copy.settle(rt.alloc(), Base::<Global>::Fill([0, 0, 0]))?;
     let picture = Picture::new(rt.alloc(), format, [0, 0, 0])?.try_copy(rt.alloc())?;
     assert!(rt; settled.same(&picture), "{format:?}");
     let least = 20 + format.pgroup().octets as u32 % 100;

@@ -1,5 +1,5 @@
 //! Pictures, timestamps, and frames that are copied and settled.
-use frame_assembly::Frame;
+use frame_assembly::{Base, Frame};
 use path_merge::Receiver;
 use st_format::memory::Refusing;
 use st_format::{Depth, Format, FormatFault, Path, Picture, PictureFault, Sampling};
@@ -125,7 +125,7 @@ fn settled<A: Allocator, B: Allocator>(
 ) -> Result<Option<Picture<A>>, AllocError> {
     let most = frame.format().max_value();
     if fill[0] <= most && fill[1] <= most && fill[2] <= most {
-        Ok(Some(frame.settle(alloc, fill)?))
+        Ok(Some(frame.settle(alloc, Base::<Global>::Fill(fill))?))
     } else {
         Ok(None)
     }

@@ -1,6 +1,7 @@
 //! Plans, and pictures that are sent and taken again.
 ghost use Rattle.std.specs.Prelude.{◌≡◌, ◌↔◌, IsTrue};
 
+use frame_assembly::Base;
 use packet_plan::{Plan, PlanFault, SendFault, Stamp, send_frame};
 use path_merge::Receiver;
 use st_format::memory::{MemoryDatagrams, Refusing};
@@ -256,7 +257,7 @@ fn comes_back(rt: &(impl Abort + AllocGlobal), picture: &Picture, size: u32) -> 
     }
     let frame = receiver.frame(900).expect(rt, "a frame");
     let counts = frame.counts();
-    let settled = frame.settle(rt.alloc(), [0, 0, 0])?;
+    let settled = frame.settle(rt.alloc(), Base::<Global>::Fill([0, 0, 0]))?;
     Ok(counts.missing == 0 && counts.contested == 0 && settled.same(picture))
 }
 

@@ -3,7 +3,7 @@
 ghost use Rattle.std.specs.Prelude.{◌≡◌, ◌↔◌, IsTrue};
 
 use crate::sending::{STAMP, runs_through, same_format, sent};
-use frame_assembly::{Counts, Frame};
+use frame_assembly::{Base, Counts, Frame};
 use packet_plan::Plan;
 use path_merge::{OpenFault, OpenedUnlike, Receiver, Refusal, SlideFault, Taken};
 use rtp_header::RtpFault;
@@ -409,7 +409,7 @@ fn comes_back(rt: &(impl Abort + AllocGlobal), picture: &Picture) -> Result<(), 
     let frame = left.frame(900).expect(rt, "a frame");
     assert_eq!(rt; frame.counts().missing, 0, "{format:?}");
     assert_eq!(rt; frame.counts().contested, 0, "{format:?}");
-    let settled = frame.settle(rt.alloc(), [0, 0, 0])?;
+    let settled = frame.settle(rt.alloc(), Base::<Global>::Fill([0, 0, 0]))?;
     assert!(rt; settled.same(picture), "{format:?}");
     let first = sink.taken().first().expect(rt, "a datagram");
     contested_by_octet(
