@@ -148,7 +148,7 @@ fn settle_block(of_group: usize, marks: &[u16], base: &[u16], samples: &mut [u16
 
 /// Whether each group has all its values.
 fn are_whole(marks: &[u16]) -> bool
-    ensures { IsTrue result → (k : ℕ) → k < length marks.now → slice_index marks.now k ≡ 32768 }
+    ensures { IsTrue result ↔ ((k : ℕ) → k < length marks.now → slice_index marks.now k ≡ 32768) }
 {
     let mut least = PRESENT;
     let mut most = PRESENT;
