@@ -24,6 +24,7 @@ use Rattle.frame_assembly.proofs.PackedLemmas.{length-groups, length-packed_cell
 use Rattle.frame_assembly.proofs.CellLemmas.{get_or-number, group_below}
 use Rattle.frame_assembly.proofs.Runs.{IsPart, times_le}
 use Rattle.frame_assembly.proofs.Segments.{marked_whole}
+use Rattle.frame_assembly.proofs.GroupJoins.{marked_absent}
 
 -- ---- elements of a part, and of a list with a part written over
 
@@ -150,6 +151,21 @@ whole_settled s marks b old few whole = record {
       ∙ ap (λ (c : Cell). settled_cell c (b (s * g + i))) (marked_whole i (get_or old (s * g + i) 0) (omega arith)));
   others = λ k le. refl;
 }
+
+pub missing_settled : (s : ℕ) (marks base old new : List ℕ) → ((k : ℕ) → k < length marks → get_or marks k 0 < 32768) → length old ≡ s * length marks → s * length marks ≤ length base
+    → new ≡ take (length old) base → IsSettledTo s (length marks) marks (λ k. get_or base k 0) old new
+missing_settled s marks base old new missing long room is =
+    let new_long : length new ≡ length old = ap length is ∙ length-take-le (length old) base (omega arith) in
+    record {
+      long = new_long;
+      settled = λ g i below inside.
+          let k : ℕ = s * g + i in
+          let lt : k < s * length marks = sample_below s g i (length marks) below inside in
+          ap (λ (xs : List ℕ). get_or xs k 0) is ∙ get_or-take (length old) base k 0 (omega arith)
+          ∙ ap (λ (c : Cell). settled_cell c (get_or base k 0)) (marked_absent (get_or marks g 0) i (get_or old k 0) (missing g below));
+      others = λ k past. let behind : length old ≤ k = omega arith in
+          get_or_past new k 0 (omega arith) ∙ sym (get_or_past old k 0 behind);
+    }
 
 -- a group by itself
 pub group_settled : (s mark : ℕ) (base old new : List ℕ) → length old ≡ s → length new ≡ length old

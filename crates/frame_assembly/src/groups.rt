@@ -232,7 +232,7 @@ fn join_group(format: &Format, mark: u16, octets: &mut [u8], other_mark: u16, ot
 }
 
 /// Whether all groups are missing.
-fn are_missing(marks: &[u16]) -> bool
+pub fn are_missing(marks: &[u16]) -> bool
     ensures { IsTrue result → (k : ℕ) → k < length marks.now → slice_index marks.now k < 32768 }
 {
     let mut most = 0;

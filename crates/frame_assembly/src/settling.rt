@@ -7,7 +7,7 @@ ghost use Rattle.st_format.specs.Pgroup.{pixel_group};
 ghost use Rattle.st_format.specs.Position.{component_in_row};
 
 use crate::base::Base;
-use crate::groups::{BLOCK, PRESENT, marked_cell};
+use crate::groups::{BLOCK, PRESENT, are_missing, marked_cell};
 use pgroup_pack::unpack;
 use st_format::{Cell, Format, Sampling};
 use std::alloc::{AllocError, Allocator};
@@ -133,7 +133,8 @@ fn settle_over_held(of_group: usize, marks: &[u16], held: &[u16], samples: &mut 
     );
 }
 
-/// Settles a block over its values of the base. Where each cell has a value, they stay as they were read.
+/// Settles a block over its values of the base: where each cell has a value, the samples stay as they were read,
+/// and where none has, they are the base's.
 fn settle_block(of_group: usize, marks: &[u16], base: &[u16], samples: &mut [u16])
     requires few { of_group ≤ 12 }
     requires base { of_group * length marks.now ≤ length base.now }
@@ -141,6 +142,11 @@ fn settle_block(of_group: usize, marks: &[u16], base: &[u16], samples: &mut [u16
     ensures { IsSettledTo of_group (length marks.now) marks.now (λ k. slice_index base.now k) samples.old samples.new }
 {
     if are_whole(marks) {
+        return;
+    }
+    if are_missing(marks) {
+        let count = samples.len();
+        samples.copy_from_slice(&base[..count]);
         return;
     }
     settle_groups(of_group, marks, base, samples);
