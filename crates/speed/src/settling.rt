@@ -2,6 +2,8 @@
 use crate::fault::Fault;
 use crate::rounds::{nanoseconds, taken};
 use crate::streams::Stream;
+use frame_assembly::Base;
+use std::alloc::Global;
 use std::time::Instant;
 
 /// Settles a frame, each time into memory that the allocator gives.
@@ -13,7 +15,7 @@ pub fn settle(rt: &HostRuntime, stream: &Stream, rounds: u32) -> Result<u64, Fau
         let picture = receiver
             .frame(900)
             .ok_or(Fault)?
-            .settle(rt.alloc(), [0, 0, 0])?;
+            .settle(rt.alloc(), Base::<Global>::Fill([0, 0, 0]))?;
         best = best.min(nanoseconds(start.elapsed(rt)?));
         drop(picture);
     }
