@@ -8,10 +8,6 @@ pub mod Rows
 pub mod SentOffers
 pub mod WholeFrames
 pub mod SenderCells
-pub mod BitLemmas
-pub mod Runs
-pub mod NumberSets
-pub mod NumberLaws
 pub mod MergeLemmas
 pub mod TurnLemmas
 pub mod Places

@@ -10,8 +10,8 @@ use Rattle.packet_plan.specs.declared.stamp.Stamp.{Stamp}
 use Rattle.packet_plan.specs.Plan.{RasterPlan}
 use Rattle.path_merge.specs.Frames.{Holds, State}
 use Rattle.path_merge.specs.Opening.{Opening}
-use Rattle.path_merge.specs.declared.played.Handed.{Handed}
-use Rattle.path_merge.specs.declared.stage.Stage.{Stage}
+use Rattle.path_merge.specs.declared.schedule.played.Handed.{Handed}
+use Rattle.path_merge.specs.declared.schedule.stage.Stage.{Stage}
 use Rattle.path_merge.specs.Played.{IsHanded}
 use Rattle.path_merge.specs.Sent.{scene_of}
 use Rattle.path_merge.specs.Stage.{IsOpened, IsStage, octets_of}

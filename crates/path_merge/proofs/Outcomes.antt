@@ -11,8 +11,8 @@ use Rattle.rtp_header.specs.Grammar.{AreOctets}
 use Rattle.path_merge.specs.Frames.{State, frames_of, joined_frames}
 use Rattle.path_merge.specs.Opening.{Opening, AreDifferent}
 use Rattle.path_merge.specs.Sliding.{slid, with_window}
-use Rattle.path_merge.specs.declared.event.Event.{Event}
-use Rattle.path_merge.specs.declared.event.Event.TheVariants.{Send, Arrive, Slide, Merge}
+use Rattle.path_merge.specs.declared.schedule.event.Event.{Event}
+use Rattle.path_merge.specs.declared.schedule.event.Event.TheVariants.{Send, Arrive, Slide, Merge}
 use Rattle.path_merge.specs.Admitted.{AreAdmittedTo, CanSlide, IsAdmitted, sends}
 use Rattle.path_merge.specs.Reached.{Scene, IsAt, Leaves}
 use Rattle.path_merge.proofs.PlayLemmas.{take_more}

@@ -11,12 +11,12 @@ use Rattle.packet_plan.specs.Plan.{RasterPlan, IsFullPlan, IsRasterPlan}
 use Rattle.packet_plan.specs.Sender.{Sender, IsSenderList, SendsFrom, stamp_of}
 use Rattle.packet_plan.specs.Text.{IsStamp, datagram_texts}
 use Rattle.packet_plan.proofs.Texts.{picture_sent}
-use Rattle.path_merge.specs.declared.event.Event.{Event}
-use Rattle.path_merge.specs.declared.stage.Stage.{Stage}
-use Rattle.path_merge.specs.declared.play_fault.PlayFault.{PlayFault}
-use Rattle.path_merge.specs.declared.play_fault.PlayFault.TheVariants.{BadEvent, BadPictures, BadReceivers, NoMemory}
+use Rattle.path_merge.specs.declared.schedule.event.Event.{Event}
+use Rattle.path_merge.specs.declared.schedule.stage.Stage.{Stage}
+use Rattle.path_merge.specs.declared.schedule.play_fault.PlayFault.{PlayFault}
+use Rattle.path_merge.specs.declared.schedule.play_fault.PlayFault.TheVariants.{BadEvent, BadPictures, BadReceivers, NoMemory}
 use Rattle.path_merge.specs.Played.{ArePictures, IsPlayed}
-use Rattle.path_merge.specs.Sent.{sender_of, texts_from}
+use Rattle.path_merge.specs.Sent.{AreSentBy, sender_of, texts_from}
 use Rattle.path_merge.specs.Admitted.{AreAdmittedTo, IsAdmitted, IsFirstBad}
 use Rattle.path_merge.specs.Reached.{Scene}
 use Rattle.path_merge.specs.Stage.{FailsAt, Follows, FollowsAll, FollowsTo, IsStage, NeverFits}
@@ -108,6 +108,23 @@ texts_list plan stamp ps full low fits are whole = record {
   few = are.few;
   sent = sends_texts (sender_of plan stamp) plan 0 stamp.first ps refl full low fits (recursion_from_All (λ (p : Values). p.format ≡ plan.format) ps are.of_format) (recursion_from_All IsPicture ps whole);
 }
+
+sent_by : (s : Sender) (plan : RasterPlan) (k first : ℕ) (ps : List Values) → s.format ≡ plan.format → IsFullPlan plan.format plan.max_octets plan.packets → s.payload_type < 128 → s.ssrc < 2 ^ 32
+    → AllByRecursion (λ p. p.format ≡ plan.format) ps → AllByRecursion IsPicture ps → AreSentBy s plan k first ps (texts_from s plan.packets k first ps)
+sent_by s plan k first [] same full low fits formats whole = refl
+sent_by s plan k first (p ∷ ps) same full low fits formats whole = record {
+  mine = datagram_texts p (stamp_of s k first) 0 plan.packets;
+  others = texts_from s plan.packets (k + 1) ((first + length plan.packets) % 2 ^ 32) ps;
+  picture = picture_sent p (stamp_of s k first) plan.max_octets plan.packets (omega (arith, full.limits.most)) (subst (λ (f : Format). IsRasterPlan f plan.max_octets plan.packets) (sym formats.0) full.plan) whole.0 (stamp_is s k first low fits);
+  rest = sent_by s plan (k + 1) ((first + length plan.packets) % 2 ^ 32) ps same full low fits formats.1 whole.1;
+  whole = refl;
+}
+
+-- each picture's datagrams are by the plan's own packets
+pub texts_by : (plan : RasterPlan) (stamp : Stamp) (ps : List Values) → IsFullPlan plan.format plan.max_octets plan.packets → stamp.payload_type < 128 → stamp.ssrc < 2 ^ 32
+    → ArePictures plan.format ps → All IsPicture ps → AreSentBy (sender_of plan stamp) plan 0 stamp.first ps (texts_from (sender_of plan stamp) plan.packets 0 stamp.first ps)
+texts_by plan stamp ps full low fits are whole =
+    sent_by (sender_of plan stamp) plan 0 stamp.first ps refl full low fits (recursion_from_All (λ (p : Values). p.format ≡ plan.format) ps are.of_format) (recursion_from_All IsPicture ps whole)
 
 pub same_place : (m n : ℕ) → BadEvent m ≡ BadEvent n → m ≡ n
 same_place m n e = cc

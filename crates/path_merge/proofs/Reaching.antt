@@ -20,8 +20,8 @@ use Rattle.path_merge.specs.Offers.{offers, offers_of}
 use Rattle.path_merge.specs.Opening.{Opening}
 use Rattle.path_merge.proofs.Frames.{cells_kept, holds_blank}
 use Rattle.path_merge.proofs.Offered.{admitted_for, admitted_takes}
-use Rattle.path_merge.specs.declared.event.Event.{Event}
-use Rattle.path_merge.specs.declared.event.Event.TheVariants.{Send, Arrive, Slide, Merge}
+use Rattle.path_merge.specs.declared.schedule.event.Event.{Event}
+use Rattle.path_merge.specs.declared.schedule.event.Event.TheVariants.{Send, Arrive, Slide, Merge}
 use Rattle.path_merge.specs.Stays.{Stay, Lasts, brings, brought}
 use Rattle.path_merge.specs.Reached.{Scene, Chain, Arrived, Merged, LastStep, By_arrive, By_merge, IsOf, Reaches, IsFrameOf}
 use Rattle.path_merge.proofs.Chains.{chain_more, chain_cases, chain_last}

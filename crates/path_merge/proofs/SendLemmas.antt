@@ -9,7 +9,7 @@ use Rattle.packet_plan.specs.Plan.{RasterPlan, packet_at}
 use Rattle.packet_plan.specs.Sender.{stamp_of}
 use Rattle.packet_plan.specs.Sent.{is_empty}
 use Rattle.packet_plan.specs.Text.{datagram_text, datagram_texts}
-use Rattle.path_merge.specs.declared.sending.Next.{Next}
+use Rattle.path_merge.specs.declared.schedule.sending.Next.{Next}
 use Rattle.path_merge.specs.Sent.{sender_of, texts_from}
 use Rattle.path_merge.specs.Steps.{after_packet, text_at, texts_behind, to_come}
 

@@ -21,7 +21,7 @@ use Rattle.path_merge.specs.Opening.{Opening}
 use Rattle.path_merge.specs.Sender.{AreAmong, IsSendersCell, frame_cell}
 use Rattle.path_merge.specs.Sliding.{with_window}
 use Rattle.path_merge.proofs.SenderCells.{cells-senders}
-use Rattle.path_merge.specs.declared.event.Event.{Event}
+use Rattle.path_merge.specs.declared.schedule.event.Event.{Event}
 use Rattle.path_merge.specs.Stays.{Stay}
 use Rattle.path_merge.specs.Reached.{Scene, Reaches, IsFrameOf}
 use Rattle.path_merge.specs.Sent.{Carries, IsSendersFrame}

@@ -12,11 +12,11 @@ use Rattle.packet_plan.specs.Plan.{RasterPlan}
 use Rattle.path_merge.specs.Frames.{State}
 use Rattle.path_merge.specs.Opening.{Opening, AreDifferent}
 use Rattle.path_merge.specs.Sliding.{with_window, slid}
-use Rattle.path_merge.specs.declared.event.Event.{Event}
-use Rattle.path_merge.specs.declared.event.Event.TheVariants.{Send, Arrive, Slide, Merge}
-use Rattle.path_merge.specs.declared.played.Handed.{Handed}
-use Rattle.path_merge.specs.declared.sending.Next.{Next}
-use Rattle.path_merge.specs.declared.stage.Stage.{Stage}
+use Rattle.path_merge.specs.declared.schedule.event.Event.{Event}
+use Rattle.path_merge.specs.declared.schedule.event.Event.TheVariants.{Send, Arrive, Slide, Merge}
+use Rattle.path_merge.specs.declared.schedule.played.Handed.{Handed}
+use Rattle.path_merge.specs.declared.schedule.sending.Next.{Next}
+use Rattle.path_merge.specs.declared.schedule.stage.Stage.{Stage}
 use Rattle.path_merge.specs.Stays.{Stay, Lasts, HasEnded, brings, brought}
 use Rattle.path_merge.specs.Reached.{Scene, IsAt, IsFrameOf, Leaves}
 use Rattle.path_merge.specs.Admitted.{sends}

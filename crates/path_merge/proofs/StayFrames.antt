@@ -14,8 +14,8 @@ use Rattle.path_merge.specs.Offers.{offers}
 use Rattle.path_merge.specs.Opening.{Opening, AreDifferent}
 use Rattle.path_merge.specs.Sliding.{with_window, slid}
 use Rattle.path_merge.proofs.Windows.{member_get}
-use Rattle.path_merge.specs.declared.event.Event.{Event}
-use Rattle.path_merge.specs.declared.event.Event.TheVariants.{Send, Arrive, Slide, Merge}
+use Rattle.path_merge.specs.declared.schedule.event.Event.{Event}
+use Rattle.path_merge.specs.declared.schedule.event.Event.TheVariants.{Send, Arrive, Slide, Merge}
 use Rattle.path_merge.specs.Stays.{Stay, Lasts, brings, brought, window_after}
 use Rattle.path_merge.specs.Reached.{Scene, Reaches, IsFrameOf, AreFrames, IsAt, Leaves}
 use Rattle.path_merge.proofs.Chains.{chain_below}

@@ -10,7 +10,7 @@ use Rattle.path_merge.specs.declared.fault.SlideFault.{SlideFault}
 use Rattle.path_merge.specs.declared.fault.SlideFault.TheVariants.{InWindow, OtherFormat}
 use Rattle.path_merge.specs.Frames.{State, IsReceiver, frames_of, joined_frames}
 use Rattle.path_merge.specs.Sliding.{slid}
-use Rattle.path_merge.specs.declared.played.Handed.{Handed}
+use Rattle.path_merge.specs.declared.schedule.played.Handed.{Handed}
 use Rattle.path_merge.specs.Steps.{Arrives, Slides, Merges}
 
 pub arrives_made : {A : Type 0} (to number r : ℕ) (sent : List (Vec ℕ A)) (old : List State) (before after : State) (v : Vec ℕ A) (octets : List ℕ) → r ≡ to → r < length old → number < length sent

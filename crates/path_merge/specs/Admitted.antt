@@ -1,8 +1,8 @@
 -- Which events a schedule admits (own).
 use Rattle.std.specs.Prelude.{◌≡◌, ◌≢◌, ℕ, ◌<◌, suc, List, [], ◌∷◌, length, take, Some, slice_get}
 use Rattle.st_format.specs.Member.{IsMember}
-use Rattle.path_merge.specs.declared.event.Event.{Event}
-use Rattle.path_merge.specs.declared.event.Event.TheVariants.{Send, Arrive, Slide, Merge}
+use Rattle.path_merge.specs.declared.schedule.event.Event.{Event}
+use Rattle.path_merge.specs.declared.schedule.event.Event.TheVariants.{Send, Arrive, Slide, Merge}
 use Rattle.path_merge.specs.Stays.{window_after}
 use Rattle.path_merge.specs.Reached.{Scene}
 

@@ -7,8 +7,6 @@ pub mod Frames
 pub mod Answers
 pub mod Sliding
 pub mod Sender
-pub mod BitList
-pub mod Numbers
 pub mod Took
 pub mod Stays
 pub mod Reached
@@ -17,3 +15,6 @@ pub mod Admitted
 pub mod Played
 pub mod Steps
 pub mod Stage
+pub mod PlayFault
+pub use Rattle.packet_numbers.specs.BitList
+pub use Rattle.packet_numbers.specs.Numbers

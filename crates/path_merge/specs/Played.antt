@@ -4,10 +4,10 @@ use Rattle.std.specs.List.{AllZip}
 use Rattle.st_format.specs.declared.format.Format.{Format}
 use Rattle.st_format.specs.Picture.{Values}
 use Rattle.path_merge.specs.Frames.{State}
-use Rattle.path_merge.specs.declared.event.Event.{Event}
-use Rattle.path_merge.specs.declared.event.Event.TheVariants.{Send, Arrive, Slide, Merge}
-use Rattle.path_merge.specs.declared.played.Handed.{Handed}
-use Rattle.path_merge.specs.declared.played.Played.{Played}
+use Rattle.path_merge.specs.declared.schedule.event.Event.{Event}
+use Rattle.path_merge.specs.declared.schedule.event.Event.TheVariants.{Send, Arrive, Slide, Merge}
+use Rattle.path_merge.specs.declared.schedule.played.Handed.{Handed}
+use Rattle.path_merge.specs.declared.schedule.played.Played.{Played}
 use Rattle.path_merge.specs.Stays.{Stay, HasEnded, brought}
 use Rattle.path_merge.specs.Reached.{Scene, IsFrameOf, IsAt}
 use Rattle.path_merge.specs.Admitted.{AreAdmittedTo}

@@ -9,8 +9,8 @@ use Rattle.path_merge.specs.Grammar.{Datagram, IsFor}
 use Rattle.path_merge.specs.Offers.{offers}
 use Rattle.path_merge.specs.Opening.{Opening}
 use Rattle.path_merge.specs.Sliding.{with_window}
-use Rattle.path_merge.specs.declared.event.Event.{Event}
-use Rattle.path_merge.specs.declared.event.Event.TheVariants.{Send, Arrive, Slide, Merge}
+use Rattle.path_merge.specs.declared.schedule.event.Event.{Event}
+use Rattle.path_merge.specs.declared.schedule.event.Event.TheVariants.{Send, Arrive, Slide, Merge}
 use Rattle.path_merge.specs.Stays.{Stay, Lasts, brought, window_after}
 
 -- What a schedule starts from: what all receivers are opened with, how many there are, and the datagrams that

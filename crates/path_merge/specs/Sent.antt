@@ -9,11 +9,12 @@ use Rattle.packet_plan.specs.declared.run.PacketRun.{PacketRun}
 use Rattle.packet_plan.specs.declared.stamp.Stamp.{Stamp}
 use Rattle.packet_plan.specs.Plan.{RasterPlan}
 use Rattle.packet_plan.specs.Sender.{Sender, stamp_of}
+use Rattle.packet_plan.specs.Sent.{IsSentPicture}
 use Rattle.packet_plan.specs.Text.{datagram_texts}
 use Rattle.path_merge.specs.Offers.{offers}
 use Rattle.path_merge.specs.Opening.{Opening}
 use Rattle.path_merge.specs.Sender.{IsSendersCell}
-use Rattle.path_merge.specs.declared.event.Event.{Event}
+use Rattle.path_merge.specs.declared.schedule.event.Event.{Event}
 use Rattle.path_merge.specs.Stays.{Stay}
 use Rattle.path_merge.specs.Reached.{Scene, Reaches}
 
@@ -25,6 +26,21 @@ sender_of plan stamp = record { format = plan.format; base = stamp.timestamp; pa
 abbrev pub texts_from : Sender → List (List PacketRun) → ℕ → ℕ → List Values → List (List ℕ)
 texts_from s packets k first [] = []
 texts_from s packets k first (p ∷ ps) = datagram_texts p (stamp_of s k first) 0 packets ++ texts_from s packets (k + 1) ((first + length packets) % 2 ^ 32) ps
+
+-- The datagrams of picture k by the very packets of a plan, and then others
+pub record IsNextBy (s : Sender) (plan : RasterPlan) (k first : ℕ) (p : Values) (later : List (List ℕ) → Type 0) (datagrams : List (List ℕ)) : Type 0 where
+  pub mine : List (List ℕ)
+  pub others : List (List ℕ)
+  pub picture : IsSentPicture p (stamp_of s k first) plan.max_octets plan.packets mine
+  pub rest : later others
+  pub whole : datagrams ≡ mine ++ others
+
+-- Datagrams are those of pictures from the k-th on, each picture's by the very packets of one plan, numbers running
+-- on from the first (SMPTE ST 2110-20, 6 and 7.1)
+abbrev pub AreSentBy : Sender → RasterPlan → ℕ → ℕ → List Values → List (List ℕ) → Type 0
+AreSentBy s plan k first [] datagrams = datagrams ≡ []
+AreSentBy s plan k first (p ∷ ps) datagrams =
+    IsNextBy s plan k first p (AreSentBy s plan (k + 1) ((first + length plan.packets) % 2 ^ 32) ps) datagrams
 
 -- the receivers take the sender's datagrams alone: its format, payload type and source are pinned
 abbrev pub scene_of : RasterPlan → List Values → Stamp → List ℕ → ℕ → Scene

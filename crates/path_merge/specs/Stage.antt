@@ -7,13 +7,13 @@ use Rattle.packet_plan.specs.Plan.{RasterPlan}
 use Rattle.packet_plan.specs.Sending.{EachHasRoom}
 use Rattle.path_merge.specs.Frames.{Holds, State}
 use Rattle.path_merge.specs.Opening.{Opening}
-use Rattle.path_merge.specs.declared.event.Event.{Event}
-use Rattle.path_merge.specs.declared.stage.Stage.{Stage}
+use Rattle.path_merge.specs.declared.schedule.event.Event.{Event}
+use Rattle.path_merge.specs.declared.schedule.stage.Stage.{Stage}
 use Rattle.path_merge.specs.Reached.{Scene, IsAt}
 use Rattle.path_merge.specs.Admitted.{AreAdmittedTo, IsAdmitted, IsFirstBad, sends}
 use Rattle.path_merge.specs.Played.{IsHanded, ended}
 use Rattle.path_merge.specs.Steps.{Slides, to_come}
-use Rattle.path_merge.specs.declared.played.Handed.{Handed}
+use Rattle.path_merge.specs.declared.schedule.played.Handed.{Handed}
 
 abbrev pub octets_of : {A : Type 0} → Vec ℕ A → List ℕ
 octets_of v = v.items

@@ -1,7 +1,7 @@
 -- Faults of the crates below as faults that end a run: want of memory is told as such, and any other refusal by
 -- its number and name (own).
-use Rattle.path_merge.specs.declared.seq_map.SeqMapFault.{SeqMapFault}
-use Rattle.path_merge.specs.declared.seq_map.SeqMapFault.TheVariants as numbers
+use Rattle.packet_numbers.specs.declared.seq_map.SeqMapFault.{SeqMapFault}
+use Rattle.packet_numbers.specs.declared.seq_map.SeqMapFault.TheVariants as numbers
 use Rattle.sdp_format.specs.declared.fault.SdpFault.{SdpFault}
 use Rattle.sdp_format.specs.declared.fault.SdpFault.TheVariants as sdp
 use Rattle.st2110_tool.specs.declared.fault.Fault.{Fault}

@@ -1,0 +1,4 @@
+pub mod BitLemmas
+pub mod Runs
+pub mod NumberSets
+pub mod NumberLaws

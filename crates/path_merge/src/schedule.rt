@@ -1,0 +1,10 @@
+//! Schedules of receivers: what any list of Sends, Arrives, Slides and Merges does to their frames.
+mod check;
+pub mod event;
+mod opening;
+pub mod play_fault;
+pub mod played;
+pub mod playing;
+mod sending;
+mod stage;
+mod steps;

@@ -1,0 +1,73 @@
+//! Why a schedule was not played.
+ghost use Rattle.std.specs.Prelude.{◌≡◌};
+ghost use Rattle.path_merge.specs.declared.schedule.play_fault.Stop.TheVariants.{NoMemory};
+
+use std::alloc::{AllocError, AllocFailed};
+use thiserror::Error;
+
+/// Why a schedule was not played: the first reason. The window, the pictures and the number of receivers are
+/// tested first, then the events one by one; `NoMemory` may stand in place of what an event would say.
+#[derive(Clone, Copy, Debug, PartialEq, Eq, Error)]
+pub enum PlayFault {
+    /// 1: the memory was refused.
+    #[error("NoMemory")]
+    NoMemory,
+    /// 2: the event at this place, counted from 0, is not admitted after those before it.
+    #[error("BadEvent {0}")]
+    BadEvent(usize),
+    /// 3: the window has no timestamp, or more than 16.
+    #[error("BadWindow")]
+    BadWindow,
+    /// 4: a timestamp stands twice in the window.
+    #[error("DoubleTimestamp")]
+    DoubleTimestamp,
+    /// 5: there are more than 10,000 pictures, or one of another format than the plan's.
+    #[error("BadPictures")]
+    BadPictures,
+    /// 6: there is no receiver, or there are more than 8.
+    #[error("BadReceivers")]
+    BadReceivers,
+}
+
+impl PlayFault {
+    ghost use Rattle.path_merge.specs.PlayFault.{play_fault_number};
+
+    /// The fault's number, 1 to 6.
+    pub fn number(self) -> u8
+        ensures { result ≡ play_fault_number self }
+    {
+        match self {
+            PlayFault::NoMemory => 1,
+            PlayFault::BadEvent(_) => 2,
+            PlayFault::BadWindow => 3,
+            PlayFault::DoubleTimestamp => 4,
+            PlayFault::BadPictures => 5,
+            PlayFault::BadReceivers => 6,
+        }
+    }
+}
+
+/// Why an event was not followed.
+#[derive(Clone, Copy, Debug, PartialEq, Eq)]
+pub enum Stop {
+    /// The memory was refused.
+    NoMemory,
+    /// It is not admitted.
+    Unfit,
+}
+
+impl From<AllocError> for Stop {
+    ghost from_gives = { λ _ stop. stop ≡ NoMemory };
+
+    fn from(_: AllocError) -> Stop {
+        Stop::NoMemory
+    }
+}
+
+impl<T: Drop> From<AllocFailed<T>> for Stop {
+    ghost from_gives = { λ _ stop. stop ≡ NoMemory };
+
+    fn from(_: AllocFailed<T>) -> Stop {
+        Stop::NoMemory
+    }
+}

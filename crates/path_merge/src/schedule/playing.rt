@@ -1,0 +1,111 @@
+//! Playing a schedule.
+ghost use Rattle.std.specs.Prelude.{◌≡◌, ◌↔◌, ◌≤◌, ◌⊎◌, ◌<◌, ◌^◌, ℕ, IfErr, IfOk, IsErrOf, OnOk, length};
+ghost use Rattle.st_format.specs.Raster.{Raster};
+ghost use Rattle.packet_plan.specs.Sender.{IsSenderList};
+ghost use Rattle.path_merge.specs.Opening.{AreDifferent, IsWindow, IsWindowSize};
+ghost use Rattle.path_merge.specs.Admitted.{IsFirstBad};
+ghost use Rattle.path_merge.specs.Played.{ArePictures, IsPlayed, IsReceiverCount};
+ghost use Rattle.path_merge.specs.Reached.{IsFrameOf};
+ghost use Rattle.path_merge.specs.Sent.{AreSentBy, IsSendersFrame, scene_of, sender_of};
+ghost use Rattle.path_merge.specs.Stage.{FailsAt, FollowsAll, IsReady};
+ghost use Rattle.path_merge.specs.Stays.{Stay};
+
+use crate::schedule::check::check;
+use crate::schedule::event::Event;
+use crate::schedule::opening::open;
+use crate::schedule::play_fault::{PlayFault, Stop};
+use crate::schedule::played::Played;
+use crate::schedule::stage::{Stage, follow};
+use packet_plan::{Plan, Stamp};
+use st_format::Picture;
+use std::alloc::Allocator;
+
+/// Plays a schedule: what `receivers` receivers, opened alike, hand out and have in the end of a list of events.
+///
+/// The pictures are sent in order by one plan, the first with this stamp. The receivers have the plan's format
+/// and the stamp's payload type, and pin its source.
+///
+/// # Errors
+///
+/// `BadWindow`, `DoubleTimestamp`, `BadPictures`, `BadReceivers`, in this order; then `BadEvent` with the place of
+/// the first event that is not admitted after those before it. `NoMemory` comes only where the allocator refused
+/// memory, and may stand in place of what a later event would say.
+pub fn play<A: Allocator + Copy, B: Allocator, C: Allocator>(
+    alloc: A,
+    plan: &Plan<B>,
+    pictures: &[Picture<C>],
+    stamp: Stamp,
+    window: &[u32],
+    receivers: u8,
+    events: &[Event],
+) -> Result<Played<A>, PlayFault>
+    requires { stamp.payload_type ≤ 127 }
+
+    // What is tested before the first event.
+    ensures window { IsErrOf result PlayFault.BadWindow ↔ (IsWindowSize (length window.now) → ⊥) }
+    ensures double { IsErrOf result PlayFault.DoubleTimestamp ↔ (IsWindowSize (length window.now) × (AreDifferent window.now → ⊥)) }
+    ensures pictures { IsErrOf result PlayFault.BadPictures ↔ (IsWindow window.now × (ArePictures plan.now.format pictures.now → ⊥)) }
+    ensures receivers { IsErrOf result PlayFault.BadReceivers ↔ (IsWindow window.now × ArePictures plan.now.format pictures.now × (IsReceiverCount receivers → ⊥)) }
+    ensures fine { OnOk result (IsWindow window.now × ArePictures plan.now.format pictures.now × IsReceiverCount receivers) }
+
+    // The first event that is not admitted; where there is an answer, all are.
+    ensures event { (place : ℕ) → IsErrOf result (PlayFault.BadEvent place) → IsFirstBad (scene_of plan.now pictures.now stamp window.now receivers) events.now place }
+
+    // What is handed out, and what the receivers have.
+    ensures played { IfOk result (λ played. IsPlayed (scene_of plan.now pictures.now stamp window.now receivers) events.now played) }
+
+    // The datagrams are those of one sender's list, by the plan's own packets, and each frame is the sender's.
+    ensures list { OnOk result (IsSenderList (sender_of plan.now stamp) stamp.first pictures.now (scene_of plan.now pictures.now stamp window.now receivers).sent) }
+    ensures packets { OnOk result (AreSentBy (sender_of plan.now stamp) plan.now 0 stamp.first pictures.now (scene_of plan.now pictures.now stamp window.now receivers).sent) }
+    ensures senders { OnOk result ((stay : Stay) (frame : Raster) → IsFrameOf (scene_of plan.now pictures.now stamp window.now receivers) events.now stay frame
+        → IsSendersFrame (scene_of plan.now pictures.now stamp window.now receivers) (sender_of plan.now stamp) pictures.now events.now stay frame) }
+{
+    check(plan.format(), pictures, window, receivers)?;
+    // Say what a plan is, and that a source has 32 bits
+    let _ = plan.len();
+    let _ = source_of(stamp);
+    let mut stage = open(alloc, plan, stamp, window, receivers)?;
+    if let Err(fault) = follow_all(alloc, plan, pictures, stamp, &mut stage, events) {
+        return Err(fault);
+    }
+    let Stage {
+        receivers,
+        handed,
+        ..
+    } = stage;
+    Ok(Played { handed, receivers })
+}
+
+/// Follows the events one by one.
+fn follow_all<A: Allocator + Copy, B: Allocator, C: Allocator>(
+    alloc: A,
+    plan: &Plan<B>,
+    pictures: &[Picture<C>],
+    stamp: Stamp,
+    stage: &mut Stage<A>,
+    events: &[Event],
+) -> Result<(), PlayFault>
+    requires payload_type { stamp.payload_type ≤ 127 }
+    requires pictures { ArePictures plan.now.format pictures.now }
+    requires ready { IsReady plan.now stage.old }
+    ensures followed { OnOk result (FollowsAll plan.now stamp pictures.now events.now stage.old stage.new) }
+    ensures bad { IfErr result (λ fault. (place : ℕ) → fault ≡ PlayFault.BadEvent place → FailsAt plan.now stamp pictures.now events.now place stage.old) }
+    ensures others { IfErr result (λ fault. (fault ≡ PlayFault.NoMemory) ⊎ ((place : ℕ) × (fault ≡ PlayFault.BadEvent place))) }
+{
+    for (place, event) in events.iter().enumerate() {
+        match follow(alloc, plan, pictures, stamp, stage, *event) {
+            Ok(()) => continue,
+            Err(Stop::NoMemory) => return Err(PlayFault::NoMemory),
+            Err(Stop::Unfit) => return Err(PlayFault::BadEvent(place)),
+        }
+    }
+    Ok(())
+}
+
+/// The source of a stamp.
+fn source_of(stamp: Stamp) -> u32
+    ensures value { result ≡ stamp.ssrc }
+    ensures fits { stamp.ssrc < 2 ^ 32 }
+{
+    stamp.ssrc
+}

@@ -1,0 +1,104 @@
+//! What is kept while a schedule is played.
+ghost use Rattle.std.specs.Prelude.{◌≡◌, ◌<◌, ◌≤◌, ◌++◌, ◌∷◌, [], All, Err, List, OnOk, Some, length, slice_get};
+ghost use Rattle.path_merge.specs.Stage.{Follows, HandsOut, IsReady, NeverFits, Sends};
+ghost use Rattle.path_merge.specs.Steps.{to_come};
+ghost use Rattle.path_merge.specs.Frames.{State};
+ghost use Rattle.st_format.specs.Member.{IsMember};
+
+use crate::receiver::Receiver;
+use crate::schedule::event::Event;
+use crate::schedule::play_fault::Stop;
+use crate::schedule::played::Handed;
+use crate::schedule::sending::{Next, next_datagram};
+use crate::schedule::steps::{arrive, merge, slide};
+use packet_plan::{Plan, Stamp};
+use st_format::Picture;
+use std::alloc::Allocator;
+
+/// What is kept while a schedule is played.
+#[derive(Drop)]
+pub struct Stage<A: Allocator> {
+    pub receivers: Vec<Receiver<A>, A>,
+    /// What was handed out, in order.
+    pub handed: Vec<Handed<A>, A>,
+    /// The datagrams that were sent, in order.
+    pub sent: Vec<Vec<u8, A>, A>,
+    pub next: Next,
+    /// Room for a datagram.
+    pub buf: Vec<u8, A>,
+}
+
+/// Follows one event more. Where it is not admitted the answer is `Unfit`.
+pub fn follow<A: Allocator + Copy, B: Allocator, C: Allocator>(
+    alloc: A,
+    plan: &Plan<B>,
+    pictures: &[Picture<C>],
+    stamp: Stamp,
+    stage: &mut Stage<A>,
+    event: Event,
+) -> Result<(), Stop>
+    requires payload_type { stamp.payload_type ≤ 127 }
+    requires formats { All (λ p. p.format ≡ plan.now.format) pictures.now }
+    requires few { length pictures.now ≤ 10000 }
+    requires ready { IsReady plan.now stage.old }
+    ensures ready { IsReady plan.now stage.new }
+    ensures followed { OnOk result (Follows plan.now stamp pictures.now event stage.old stage.new) }
+    ensures unfit { result ≡ Err Stop.Unfit → NeverFits plan.now stamp pictures.now event stage.old }
+{
+    match event {
+        Event::Send => send(alloc, plan, pictures, stamp, stage),
+        Event::Arrive(to, path, number) => arrive(
+            stage.receivers.as_mut_slice(),
+            stage.sent.as_slice(),
+            to,
+            path,
+            number,
+        ),
+        Event::Slide(at, next) => hand_out(alloc, stage, at, next),
+        Event::Merge(into, from) => merge(stage.receivers.as_mut_slice(), into, from),
+    }
+}
+
+/// Makes the next datagram.
+fn send<A: Allocator, B: Allocator, C: Allocator>(
+    alloc: A,
+    plan: &Plan<B>,
+    pictures: &[Picture<C>],
+    stamp: Stamp,
+    stage: &mut Stage<A>,
+) -> Result<(), Stop>
+    requires payload_type { stamp.payload_type ≤ 127 }
+    requires formats { All (λ p. p.format ≡ plan.now.format) pictures.now }
+    requires few { length pictures.now ≤ 10000 }
+    requires ready { IsReady plan.now stage.old }
+    ensures ready { IsReady plan.now stage.new }
+    ensures sent { OnOk result (Sends plan.now stamp pictures.now stage.old stage.new) }
+    ensures none { result ≡ Err Stop.Unfit → to_come plan.now stamp pictures.now stage.old.next ≡ [] }
+{
+    let octets = next_datagram(
+        alloc,
+        plan,
+        pictures,
+        stamp,
+        &mut stage.next,
+        stage.buf.as_mut_slice(),
+    )?;
+    stage.sent.push(octets)?;
+    Ok(())
+}
+
+/// A receiver's window moves on, and its first frame is handed out.
+fn hand_out<A: Allocator + Copy>(
+    alloc: A,
+    stage: &mut Stage<A>,
+    at: u8,
+    next: u32,
+) -> Result<(), Stop>
+    ensures handed { OnOk result (HandsOut at next stage.old stage.new) }
+    ensures rest { (stage.new.next ≡ stage.old.next) × (stage.new.buf.items ≡ stage.old.buf.items) }
+    ensures unfit { result ≡ Err Stop.Unfit → (state : State) → slice_get stage.old.receivers.items at ≡ Some state → IsMember next state.opening.window }
+{
+    let handed = slide(alloc, stage.receivers.as_mut_slice(), at, next)?;
+    stage.handed.push(handed)?;
+    Ok(())
+}

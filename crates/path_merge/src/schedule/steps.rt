@@ -1,0 +1,107 @@
+//! What each event does to the receivers.
+ghost use Rattle.std.specs.Prelude.{◌≡◌, ◌≢◌, ◌<◌, ℕ, ◌∷◌, [], IfOk, OnOk, OnErr, Err, Some, length, slice_get};
+ghost use Rattle.rtp_header.specs.Grammar.{AreOctets};
+ghost use Rattle.st_format.specs.Member.{IsMember};
+ghost use Rattle.path_merge.specs.Frames.{IsReceiver, State, frames_of, joined_frames};
+ghost use Rattle.path_merge.specs.Steps.{Arrives, Merges, Slides};
+
+use crate::receiver::Receiver;
+use crate::schedule::play_fault::Stop;
+use crate::schedule::played::Handed;
+use frame_assembly::Frame;
+use st_format::Path;
+use std::alloc::Allocator;
+
+/// A receiver takes a datagram of those sent.
+pub fn arrive<A: Allocator>(
+    receivers: &mut [Receiver<A>],
+    sent: &[Vec<u8, A>],
+    to: u8,
+    path: Path,
+    number: u32,
+) -> Result<(), Stop>
+    ensures taken { OnOk result (Arrives to number sent.now receivers.old receivers.new) }
+    ensures unfit { OnErr result (to < length receivers.old → number < length sent.now → ⊥) }
+{
+    if usize::from(to) >= receivers.len() || number as usize >= sent.len() {
+        return Err(Stop::Unfit);
+    }
+    take(
+        &mut receivers[usize::from(to)],
+        path,
+        &sent[number as usize],
+    );
+    Ok(())
+}
+
+/// A receiver takes a datagram, whatever it answers.
+fn take<A: Allocator>(receiver: &mut Receiver<A>, path: Path, octets: &[u8])
+    ensures octets { AreOctets octets.now }
+    ensures opening { receiver.new.opening ≡ receiver.old.opening }
+    ensures frames { receiver.new.frames ≡ joined_frames receiver.old.frames (frames_of receiver.old.opening (octets.now ∷ [])) }
+    ensures receiver { IsReceiver receiver.new }
+{
+    let _ = receiver.take(path, octets);
+}
+
+/// A receiver's window moves on, and hands out its first frame.
+pub fn slide<A: Allocator + Copy>(
+    alloc: A,
+    receivers: &mut [Receiver<A>],
+    at: u8,
+    next: u32,
+) -> Result<Handed<A>, Stop>
+    ensures handed { IfOk result (λ h. Slides at next receivers.old receivers.new h) }
+    ensures unfit { result ≡ Err Stop.Unfit → (state : State) → slice_get receivers.old at ≡ Some state → IsMember next state.opening.window }
+{
+    if usize::from(at) >= receivers.len() {
+        return Err(Stop::Unfit);
+    }
+    let receiver = &mut receivers[usize::from(at)];
+    let mut frame = Frame::new(alloc, receiver.format())?;
+    match receiver.slide(next, &mut frame) {
+        Ok(timestamp) => Ok(Handed {
+            receiver: at,
+            timestamp,
+            frame,
+        }),
+        Err(_) => Err(Stop::Unfit),
+    }
+}
+
+/// A receiver is merged into another.
+pub fn merge<A: Allocator>(receivers: &mut [Receiver<A>], into: u8, from: u8) -> Result<(), Stop>
+    ensures merged { OnOk result (Merges into from receivers.old receivers.new) }
+    ensures unfit { OnErr result ((state other : State) → slice_get receivers.old into ≡ Some state → slice_get receivers.old from ≡ Some other → into ≢ from → state.opening ≢ other.opening) }
+{
+    let (into, from) = (usize::from(into), usize::from(from));
+    if into >= receivers.len() || from >= receivers.len() || into == from {
+        return Err(Stop::Unfit);
+    }
+    merge_two(receivers, into, from)
+}
+
+/// The same, of two different places.
+fn merge_two<A: Allocator>(
+    receivers: &mut [Receiver<A>],
+    into: usize,
+    from: usize,
+) -> Result<(), Stop>
+    requires into { into < length receivers.old }
+    requires from { from < length receivers.old }
+    requires two { into ≢ from }
+    ensures merged { OnOk result (Merges into from receivers.old receivers.new) }
+    ensures unfit { OnErr result ((state other : State) → slice_get receivers.old into ≡ Some state → slice_get receivers.old from ≡ Some other → into ≢ from → state.opening ≢ other.opening) }
+{
+    let merged = if into < from {
+        let (front, back) = receivers.split_at_mut(from);
+        front[into].merge(&back[0])
+    } else {
+        let (front, back) = receivers.split_at_mut(into);
+        back[0].merge(&front[from])
+    };
+    match merged {
+        Ok(()) => Ok(()),
+        Err(_) => Err(Stop::Unfit),
+    }
+}
