@@ -18,10 +18,10 @@ if_none None e p = p
 if_none (Some x) e p = absurd cc
 
 -- texts of different first letters differ
-differ : (text u v : List ℕ) → (get_or u 0 0 == get_or v 0 0) ≡ false → text ≡ u → text ≡ v → ⊥
+pub differ : (text u v : List ℕ) → (get_or u 0 0 == get_or v 0 0) ≡ false → text ≡ u → text ≡ v → ⊥
 differ text u v none e f = eqb-false (get_or u 0 0) (get_or v 0 0) none (ap (λ (l : List ℕ). get_or l 0 0) (sym e ∙ f))
 
-same_rest : (w a b : List ℕ) → w ++ a ≡ w ++ b → a ≡ b
+pub same_rest : (w a b : List ℕ) → w ++ a ≡ w ++ b → a ≡ b
 same_rest [] a b e = e
 same_rest (x ∷ w) a b e = same_rest w a b (ap (λ (l : List ℕ). drop 1 l) e)
 
@@ -69,10 +69,10 @@ pub sampling_none : (text word behind : List ℕ) → parted 32 text ≡ Some (w
     → (f : FormatLine) → AreFormat text f → ⊥
 sampling_none text word behind e none f all = none f.sampling (some_pair_parts word (sampling_text f.sampling) behind all.behind (sym e ∙ all.parts)).0
 
-second_same : (text a b c d : List ℕ) → parted 32 text ≡ Some (a, b) → parted 32 text ≡ Some (c, d) → (a ≡ c) × (b ≡ d)
+pub second_same : (text a b c d : List ℕ) → parted 32 text ≡ Some (a, b) → parted 32 text ≡ Some (c, d) → (a ≡ c) × (b ≡ d)
 second_same text a b c d e f = some_pair_parts a c b d (sym e ∙ f)
 
-later : (x y : List ℕ) (p : Option (List ℕ × List ℕ)) → x ≡ y → parted 32 y ≡ p → parted 32 x ≡ p
+pub later : (x y : List ℕ) (p : Option (List ℕ × List ℕ)) → x ≡ y → parted 32 y ≡ p → parted 32 x ≡ p
 later x y p same e = ap (λ (l : List ℕ). parted 32 l) same ∙ e
 
 pub depth_none : (text word behind depth more : List ℕ) → parted 32 text ≡ Some (word, behind) → parted 32 behind ≡ Some (depth, more)

@@ -3,3 +3,4 @@ mod FrameLemmas
 mod FormLemmas
 pub mod OctetLemmas
 pub mod TimestampLemmas
+mod RehearsalLemmas

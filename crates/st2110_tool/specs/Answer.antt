@@ -3,7 +3,7 @@ use Rattle.std.specs.Prelude.{ℕ, List, ◌++◌, codes, Option, Some, None}
 use Rattle.std.specs.Fmt.{decimal}
 use Rattle.frame_assembly.specs.declared.counts.Counts.{Counts}
 use Rattle.st2110_tool.specs.declared.answer.Answer.{Answer}
-use Rattle.st2110_tool.specs.declared.answer.Answer.TheVariants.{Kept, Outside, Refused, Missing, Value, Contested, Nowhere, Frame, Out, NotSlid, Absent}
+use Rattle.st2110_tool.specs.declared.answer.Answer.TheVariants.{Kept, Outside, Refused, Missing, Value, Contested, Nowhere, Frame, Out, NotSlid, HandedOut, Receiver, Absent}
 
 -- a word, a timestamp and how many samples are of each kind
 abbrev pub counts_text : List ℕ → ℕ → Counts → List ℕ
@@ -23,4 +23,6 @@ answer_text Nowhere = Some (codes "none")
 answer_text (Frame timestamp counts) = Some (counts_text (codes "frame ") timestamp counts)
 answer_text (Out timestamp counts) = Some (counts_text (codes "out ") timestamp counts)
 answer_text (NotSlid fault) = None
+answer_text (HandedOut receiver timestamp counts) = Some (codes "out " ++ (decimal receiver ++ counts_text (codes " ") timestamp counts))
+answer_text (Receiver number) = Some (codes "receiver " ++ decimal number)
 answer_text (Absent first count) = Some (codes "absent " ++ (decimal first ++ (codes " " ++ decimal count)))

@@ -17,6 +17,8 @@ Blames (fault.Format f) old new = new ≡ old
 Blames (fault.Open f) old new = new ≡ old
 Blames (fault.Numbers f) old new = new ≡ old
 Blames (fault.Sdp f) old new = new ≡ old
+Blames (fault.Plan f) old new = new ≡ old
+Blames (fault.Play f) old new = new ≡ old
 Blames fault.Device old new = Failed old new
 Blames fault.Memory old new = new ≡ old
 
@@ -27,6 +29,8 @@ BlamesEither (fault.Format f) old new old' new' = (new ≡ old) × (new' ≡ old
 BlamesEither (fault.Open f) old new old' new' = (new ≡ old) × (new' ≡ old')
 BlamesEither (fault.Numbers f) old new old' new' = (new ≡ old) × (new' ≡ old')
 BlamesEither (fault.Sdp f) old new old' new' = (new ≡ old) × (new' ≡ old')
+BlamesEither (fault.Plan f) old new old' new' = (new ≡ old) × (new' ≡ old')
+BlamesEither (fault.Play f) old new old' new' = (new ≡ old) × (new' ≡ old')
 BlamesEither fault.Device old new old' new' = Failed old new ⊎ Failed old' new'
 BlamesEither fault.Memory old new old' new' = (new ≡ old) × (new' ≡ old')
 
@@ -44,6 +48,8 @@ ReadsAt (fault.Format f) old new = GivesAll old new
 ReadsAt (fault.Open f) old new = GivesAll old new
 ReadsAt (fault.Numbers f) old new = GivesAll old new
 ReadsAt (fault.Sdp f) old new = GivesAll old new
+ReadsAt (fault.Plan f) old new = GivesAll old new
+ReadsAt (fault.Play f) old new = GivesAll old new
 ReadsAt fault.Device old new = ⊤
 ReadsAt fault.Memory old new = ⊤
 
@@ -56,7 +62,7 @@ abbrev pub Tells : Status → List ℕ → Status → ℕ → ℕ → Option (Li
 Tells status line result old new held held' =
     ((result ≡ status) × (new ≡ old) × Appends held held' line) ⊎ ((result ≡ Device) × Failed old new)
 
--- the text of a fault; that of a format, an opening, a map of numbers or an SDP
+-- the text of a fault; that of a format, an opening, a map of numbers, an SDP, a plan or a schedule
 -- holds a name of the crate below
 abbrev pub fault_text : Fault → Option (List ℕ)
 fault_text (fault.Script line) = Some (codes "script " ++ decimal line)
@@ -64,6 +70,8 @@ fault_text (fault.Format f) = None
 fault_text (fault.Open f) = None
 fault_text (fault.Numbers f) = None
 fault_text (fault.Sdp f) = None
+fault_text (fault.Plan f) = None
+fault_text (fault.Play f) = None
 fault_text fault.Device = Some (codes "device")
 fault_text fault.Memory = Some (codes "memory")
 
@@ -86,6 +94,8 @@ IsLineOf (fault.Format f) status line = IsRefusalLine (fault_text (fault.Format 
 IsLineOf (fault.Open f) status line = IsRefusalLine (fault_text (fault.Open f)) status line
 IsLineOf (fault.Numbers f) status line = IsRefusalLine (fault_text (fault.Numbers f)) status line
 IsLineOf (fault.Sdp f) status line = IsRefusalLine (fault_text (fault.Sdp f)) status line
+IsLineOf (fault.Plan f) status line = IsRefusalLine (fault_text (fault.Plan f)) status line
+IsLineOf (fault.Play f) status line = IsRefusalLine (fault_text (fault.Play f)) status line
 IsLineOf fault.Device status line = (status ≡ Device) × (line ≡ device_line)
 IsLineOf fault.Memory status line = (status ≡ Memory) × (line ≡ memory_line)
 

@@ -7,3 +7,4 @@ pub mod Script
 pub mod Answer
 pub mod Session
 pub mod Forms
+pub mod RehearsalForms

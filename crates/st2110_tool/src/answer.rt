@@ -26,6 +26,10 @@ pub(crate) enum Answer {
     Out(u32, Counts),
     /// The window did not move on.
     NotSlid(SlideFault),
+    /// The receiver of this number handed out the frame of this timestamp, with so many samples of each kind.
+    HandedOut(u8, u32, Counts),
+    /// The frames of the receiver of this number follow.
+    Receiver(usize),
     /// Of the numbers that are noted, none came from this one on, so many of them.
     Absent(u32, u32),
 }
@@ -73,6 +77,18 @@ impl fmt::Display for Answer {
                 let number = fault.number();
                 write!(f, "refused slide {number} {fault}")
             }
+            Answer::HandedOut(receiver, timestamp, counts) => {
+                let (present, missing, contested) = (
+                    counts.present,
+                    counts.missing,
+                    counts.contested,
+                );
+                write!(
+                    f,
+                    "out {receiver} {timestamp} present {present} missing {missing} contested {contested}"
+                )
+            }
+            Answer::Receiver(number) => write!(f, "receiver {number}"),
             Answer::Absent(first, count) => write!(f, "absent {first} {count}"),
         }
     }

@@ -1,5 +1,6 @@
 //! What ends a run before its end.
-use path_merge::{OpenFault, SeqMapFault};
+use packet_plan::PlanFault;
+use path_merge::{OpenFault, PlayFault, SeqMapFault};
 use sdp_format::SdpFault;
 use st_format::{DeviceFault, FormatFault};
 use std::alloc::AllocError;
@@ -18,6 +19,10 @@ pub(crate) enum Fault {
     Numbers(SeqMapFault),
     /// The SDP is refused.
     Sdp(SdpFault),
+    /// There is no such plan.
+    Plan(PlanFault),
+    /// The schedule is not played.
+    Play(PlayFault),
     /// A device failed.
     Device,
     /// Memory was wanted.
@@ -63,6 +68,34 @@ impl From<SdpFault> for Fault {
     }
 }
 
+impl From<PlanFault> for Fault {
+    ghost use Rattle.std.specs.Prelude.{◌≡◌};
+    ghost use Rattle.st2110_tool.specs.LowerFaults.{of_plan};
+
+    ghost from_gives = { λ refusal fault. fault ≡ of_plan refusal };
+
+    fn from(refusal: PlanFault) -> Fault {
+        match refusal {
+            PlanFault::NoMemory => Fault::Memory,
+            refusal => Fault::Plan(refusal),
+        }
+    }
+}
+
+impl From<PlayFault> for Fault {
+    ghost use Rattle.std.specs.Prelude.{◌≡◌};
+    ghost use Rattle.st2110_tool.specs.LowerFaults.{of_play};
+
+    ghost from_gives = { λ refusal fault. fault ≡ of_play refusal };
+
+    fn from(refusal: PlayFault) -> Fault {
+        match refusal {
+            PlayFault::NoMemory => Fault::Memory,
+            refusal => Fault::Play(refusal),
+        }
+    }
+}
+
 impl From<DeviceFault> for Fault {
     ghost use Rattle.std.specs.Prelude.{◌≡◌};
     ghost use Rattle.st2110_tool.specs.declared.fault.Fault.TheVariants.{Device};
@@ -97,6 +130,14 @@ impl fmt::Display for Fault {
             Fault::Sdp(fault) => {
                 let number = fault.number();
                 write!(f, "sdp {number} {fault}")
+            }
+            Fault::Plan(fault) => {
+                let number = fault.number();
+                write!(f, "plan {number} {fault}")
+            }
+            Fault::Play(fault) => {
+                let number = fault.number();
+                write!(f, "play {number} {fault}")
             }
             Fault::Device => f.write_str("device"),
             Fault::Memory => f.write_str("memory"),

@@ -4,8 +4,14 @@
 mod answer;
 mod fault;
 mod fields;
+mod first_lines;
 mod line;
 mod number;
+mod picture_text;
+mod printing;
+mod rehearsal;
+mod rehearsal_line;
+mod rehearse;
 mod script;
 mod sdp;
 mod session;
@@ -13,6 +19,7 @@ mod status;
 mod telling;
 mod trace;
 
+pub use rehearse::run_rehearse;
 pub use sdp::run_sdp;
 pub use status::Status;
 pub use trace::run_trace;

@@ -146,7 +146,8 @@ fn read_opening(text: &[u8]) -> Option<OpenLine<'_>>
     })
 }
 
-fn read_payload_type(text: &[u8]) -> Option<u8>
+/// A payload type: up to 127.
+pub(crate) fn read_payload_type(text: &[u8]) -> Option<u8>
     ensures range { IfSome result (λ n. n ≤ 127) }
     ensures is { IfSome result (λ n. Spells text.now n) }
     ensures none { IfNone result ((n : ℕ) → n ≤ 127 → Spells text.now n → ⊥) }
@@ -227,7 +228,8 @@ pub(crate) fn read_trace_line(text: &[u8]) -> Option<TraceLine<'_>>
     Some(TraceLine::Cell(read_place(rest)?))
 }
 
-fn read_two(text: &[u8]) -> Option<(u32, u32)>
+/// Two numbers, parted by a space.
+pub(crate) fn read_two(text: &[u8]) -> Option<(u32, u32)>
     ensures is { IfSome result (λ p. AreTwo text.now p.0 p.1) }
     ensures none { IfNone result ((m n : ℕ) → AreTwo text.now m n → ⊥) }
 {
@@ -272,7 +274,7 @@ pub(crate) fn read_octets(text: &[u8], octets: &mut [u8]) -> Option<usize>
 }
 
 /// Decodes hexadecimal digits, and tells whether they are those of just as many octets as there is room for.
-fn decodes(text: &[u8], octets: &mut [u8]) -> bool
+pub(crate) fn decodes(text: &[u8], octets: &mut [u8]) -> bool
     ensures room { length octets.new ≡ length octets.old }
     ensures is { IsTrue result → decode_of text.now ≡ Ok octets.new }
     ensures none { IsFalse result → (said : List ℕ) → length said ≡ length octets.old → decode_of text.now ≡ Ok said → ⊥ }

@@ -9,15 +9,15 @@ ghost use Rattle.st2110_tool.specs.Session.{Follows};
 
 use crate::answer::Answer;
 use crate::fault::Fault;
-use crate::line::{
-    TraceLine, read_format_line, read_octets, read_open_line, read_trace_line, read_window,
-};
+use crate::first_lines::{next_line, read_format};
+use crate::line::{TraceLine, read_octets, read_open_line, read_trace_line, read_window};
+use crate::printing::{print, print_frames};
 use crate::script::{Line, Lines, Script, read_script};
 use crate::session::Session;
 use crate::status::Status;
 use crate::telling::{LINE, tell, tell_memory};
 use path_merge::{OpenFault, Receiver, SeqMap};
-use st_format::{ByteSink, ByteSource, Format, write_whole};
+use st_format::{ByteSink, ByteSource, Format};
 use std::alloc::Allocator;
 
 /// The greatest number of octets of a datagram.
@@ -92,28 +92,6 @@ fn play<A: Allocator + Copy, O: ByteSink>(
     print_absent(alloc, &session.numbers, output, text)
 }
 
-fn read_format(lines: &mut Lines<'_>) -> Result<Format, Fault>
-    ensures { IfErr result (λ fault. fault ≢ Fault.Device) }
-{
-    let Some(line) = lines.next() else {
-        return Err(Fault::Script(lines.following()));
-    };
-    let Some(said) = read_format_line(line.text) else {
-        return Err(Fault::Script(line.number));
-    };
-    match Format::new(
-        said.sampling,
-        said.depth,
-        said.width,
-        said.height,
-        said.n,
-        said.d,
-    ) {
-        Ok(format) => Ok(format),
-        Err(fault) => Err(Fault::Format(fault)),
-    }
-}
-
 fn open_receiver<A: Allocator + Copy>(
     alloc: A,
     format: Format,
@@ -121,9 +99,7 @@ fn open_receiver<A: Allocator + Copy>(
 ) -> Result<Receiver<A>, Fault>
     ensures { IfErr result (λ fault. fault ≢ Fault.Device) }
 {
-    let Some(line) = lines.next() else {
-        return Err(Fault::Script(lines.following()));
-    };
+    let line = next_line(lines)?;
     let Some(said) = read_open_line(line.text) else {
         return Err(Fault::Script(line.number));
     };
@@ -199,21 +175,6 @@ fn answer_to<A: Allocator>(
     })
 }
 
-fn print_frames<A: Allocator, O: ByteSink>(
-    receiver: &Receiver<A>,
-    output: &mut O,
-    text: &mut String<A>,
-) -> Result<(), Fault>
-    ensures { Accounts result (O.failures output.old) (O.failures output.new) }
-{
-    for timestamp in receiver.window() {
-        if let Some(frame) = receiver.frame(*timestamp) {
-            print(Answer::Frame(*timestamp, frame.counts()), output, text)?;
-        }
-    }
-    Ok(())
-}
-
 /// Prints the runs of numbers that did not come, where numbers are noted.
 fn print_absent<A: Allocator + Copy, O: ByteSink>(
     alloc: A,
@@ -229,19 +190,5 @@ fn print_absent<A: Allocator + Copy, O: ByteSink>(
     for (first, count) in numbers.missing_runs(alloc)? {
         print(Answer::Absent(first, count), output, text)?;
     }
-    Ok(())
-}
-
-/// Prints a line.
-fn print<A: Allocator, O: ByteSink>(
-    answer: Answer,
-    output: &mut O,
-    text: &mut String<A>,
-) -> Result<(), Fault>
-    ensures { Accounts result (O.failures output.old) (O.failures output.new) }
-{
-    text.clear();
-    writeln!(text, "{answer}")?;
-    write_whole(output, text.as_bytes())?;
     Ok(())
 }

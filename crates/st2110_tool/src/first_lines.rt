@@ -1,0 +1,38 @@
+//! The lines that a script begins with.
+ghost use Rattle.std.specs.Prelude.{◌≢◌, IfErr};
+
+use crate::fault::Fault;
+use crate::line::read_format_line;
+use crate::script::{Line, Lines};
+use st_format::Format;
+
+/// The next line of those that a script needs; where there is none, the line behind its last is at fault.
+pub(crate) fn next_line<'a>(lines: &mut Lines<'a>) -> Result<Line<'a>, Fault>
+    ensures { IfErr result (λ fault. fault ≢ Fault.Device) }
+{
+    match lines.next() {
+        Some(line) => Ok(line),
+        None => Err(Fault::Script(lines.following())),
+    }
+}
+
+/// The format that the next line says.
+pub(crate) fn read_format(lines: &mut Lines<'_>) -> Result<Format, Fault>
+    ensures { IfErr result (λ fault. fault ≢ Fault.Device) }
+{
+    let line = next_line(lines)?;
+    let Some(said) = read_format_line(line.text) else {
+        return Err(Fault::Script(line.number));
+    };
+    match Format::new(
+        said.sampling,
+        said.depth,
+        said.width,
+        said.height,
+        said.n,
+        said.d,
+    ) {
+        Ok(format) => Ok(format),
+        Err(fault) => Err(Fault::Format(fault)),
+    }
+}
