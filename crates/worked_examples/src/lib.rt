@@ -11,7 +11,13 @@ mod examples;
 #[cfg(test)]
 mod forms;
 #[cfg(test)]
+mod generator;
+#[cfg(test)]
+mod groups;
+#[cfg(test)]
 mod growths;
+#[cfg(test)]
+mod kernels;
 #[cfg(test)]
 mod limits;
 #[cfg(test)]
