@@ -121,6 +121,12 @@ fn pixel_groups_of_ten_bits(rt: HostRuntime) -> Result<(), Fail> {
         "ten-bit-pixel-group",
         "format YCbCr-4:4:4 10 4 1 60/1\nopen 96 any 900\nA 80E0000100000384000000010000000F00000000800408020010200800408020010200\ncell 900 0 3 0\ncell 900 0 0 1\nA 80E0000100000384000000010000000F00000002800408020010200800408020010200\n",
         "kept 1\nvalue 64\nvalue 512\nrefused 11 BadOffset\nframe 900 present 12 missing 0 contested 0\n",
+    )?;
+    prints(
+        &rt,
+        "packed-marks",
+        "format YCbCr-4:4:4 10 4 1 60/1\nopen 96 any 900\nA 80E0000100000384000000010000000F00000000800408020010200800408020010200\nA 80E0000100000384000000010000000F00000000800408020010600800408020010200\ncell 900 0 1 0\ncell 900 0 1 2\n",
+        "kept 1\nkept 1\ncontested\nvalue 512\nframe 900 present 11 missing 0 contested 1\n",
     )
 }
 

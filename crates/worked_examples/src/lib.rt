@@ -5,6 +5,8 @@
 #[cfg(test)]
 mod ample;
 #[cfg(test)]
+mod datagrams;
+#[cfg(test)]
 mod devices;
 #[cfg(test)]
 mod examples;
@@ -19,9 +21,13 @@ mod growths;
 #[cfg(test)]
 mod kernels;
 #[cfg(test)]
+mod last_samples;
+#[cfg(test)]
 mod limits;
 #[cfg(test)]
 mod number_map;
+#[cfg(test)]
+mod packed_marks;
 #[cfg(test)]
 mod packing;
 #[cfg(test)]
