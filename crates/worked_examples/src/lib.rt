@@ -33,7 +33,11 @@ mod packing;
 #[cfg(test)]
 mod pictures;
 #[cfg(test)]
+mod rasters;
+#[cfg(test)]
 mod receivers;
+#[cfg(test)]
+mod rows;
 #[cfg(test)]
 mod running;
 #[cfg(test)]
