@@ -1,10 +1,11 @@
 //! Captures, read and written.
+use crate::receive_capture;
 use capture_file::{
     Capture, CaptureReader, CaptureWriter, FileFault, Paths, Record, migrate_capture, read_capture,
     write_capture,
 };
 use frame_assembly::Counts;
-use path_merge::{Receiver, receive};
+use path_merge::Receiver;
 use st_format::memory::{MemorySink, MemorySource};
 use st_format::{DatagramSink, DatagramSource, Depth, Format, Path, Sampling, SourceFault, Turn};
 use std::alloc::{AllocError, Allocator, Global};
@@ -136,7 +137,9 @@ fn capture_receive(rt: HostRuntime) -> Result<(), Fail> {
         assert!(rt; false);
         return Ok(());
     };
-    let received = receive(&mut reader, &mut receiver, &mut buf, 10).expect(&rt, "received");
+    let received = receive_capture(&mut reader, &mut receiver, &mut buf, 10).expect(
+        &rt, "received",
+    );
     assert_eq!(rt; received.delivered, 1);
     assert!(rt; received.ended);
     if let Some(frame) = receiver.frame(900) {

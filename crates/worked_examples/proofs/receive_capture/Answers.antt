@@ -3,7 +3,7 @@ use Rattle.st_format.specs.Turns.{Due}
 use Rattle.capture_file.specs.declared.reader.Standing.{Standing}
 use Rattle.capture_file.specs.declared.reader.Standing.TheVariants.{Reads}
 use Rattle.capture_file.specs.Reader.{dues_in, turns_of}
-use Rattle.file_examples.proofs.receive_capture.Goals as goal
+use Rattle.worked_examples.proofs.receive_capture.Goals as goal
 
 told : (s : Standing) (known : Option (List ℕ)) (octets : List ℕ) → s ≡ Reads → known ≡ Some octets → turns_of s known ≡ Some (dues_in octets)
 told s known octets p q = ap (λ (x : Standing). turns_of x known) p ∙ ap (λ (k : Option (List ℕ)). turns_of Reads k) q
