@@ -27,6 +27,8 @@ mod generator;
 #[cfg(test)]
 mod groups;
 #[cfg(test)]
+mod held;
+#[cfg(test)]
 mod growths;
 #[cfg(test)]
 mod kernels;
