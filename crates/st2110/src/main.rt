@@ -6,7 +6,7 @@ mod words;
 
 use crate::streams::{InputSource, OutputSink};
 use crate::words::{Words, WordsFault, given_words, read_words};
-use st2110_tool::{Status, run_sdp, run_trace};
+use st2110_tool::{Status, run_rehearse, run_sdp, run_trace};
 use std::process::ExitCode;
 
 fn main(rt: HostRuntime) -> ExitCode {
@@ -22,6 +22,7 @@ fn run(rt: &HostRuntime) -> u8 {
     match read_words(rt.alloc(), words.as_slice()) {
         Ok(Words::Trace) => trace(rt),
         Ok(Words::Sdp) => sdp(rt),
+        Ok(Words::Rehearse) => rehearse(rt),
         Err(fault) => refuse(rt, &fault).number(),
     }
 }
@@ -40,6 +41,14 @@ fn sdp(rt: &HostRuntime) -> u8 {
     let mut output = OutputSink::new(rt.stdout());
     let mut faults = OutputSink::new(rt.stderr());
     run_sdp(rt.alloc(), &mut input, &mut output, &mut faults)
+}
+
+/// Plays the schedule on standard input.
+fn rehearse(rt: &HostRuntime) -> u8 {
+    let mut input = InputSource::new(rt.stdin());
+    let mut output = OutputSink::new(rt.stdout());
+    let mut faults = OutputSink::new(rt.stderr());
+    run_rehearse(rt.alloc(), &mut input, &mut output, &mut faults)
 }
 
 /// Prints why the words are not followed: help and version to standard output, all else to standard error.

@@ -12,6 +12,8 @@ pub enum Words {
     Trace,
     /// Read the SDP text on standard input.
     Sdp,
+    /// Play the schedule on standard input.
+    Rehearse,
 }
 
 /// Why the words are not followed.
@@ -62,6 +64,7 @@ pub fn read_words(alloc: Global, words: &[String]) -> Result<Words, WordsFault> 
     let matches = program(alloc)?.try_get_matches_from(words)?;
     Ok(match matches.subcommand() {
         Some(("sdp", _)) => Words::Sdp,
+        Some(("rehearse", _)) => Words::Rehearse,
         // clap lets `trace` and no words through, and nothing else.
         _ => Words::Trace,
     })
@@ -73,7 +76,8 @@ fn program<'a>(alloc: Global) -> Result<Command<'a>, AllocError> {
         .about("Uncompressed studio video over redundant paths")
         .bin_name("st2110")?;
     let named = with_command(named, trace_command(alloc))?;
-    with_command(named, sdp_command(alloc))
+    let named = with_command(named, sdp_command(alloc))?;
+    with_command(named, rehearse_command(alloc))
 }
 
 fn with_command<'a>(program: Command<'a>, command: Command<'a>) -> Result<Command<'a>, AllocError> {
@@ -89,5 +93,11 @@ fn trace_command<'a>(alloc: Global) -> Command<'a> {
 fn sdp_command<'a>(alloc: Global) -> Command<'a> {
     Command::new(alloc, "sdp").about(
         "Reads an SDP text on standard input, and prints its canonical fmtp line or the first fault",
+    )
+}
+
+fn rehearse_command<'a>(alloc: Global) -> Command<'a> {
+    Command::new(alloc, "rehearse").about(
+        "Plays a schedule of sends, arrivals, slides and merges on standard input, and prints what each receiver has",
     )
 }
