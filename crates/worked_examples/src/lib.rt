@@ -13,6 +13,8 @@ ghost use Rattle.st_format.specs.Turns.{datagrams_of};
 #[cfg(test)]
 mod ample;
 #[cfg(test)]
+mod bad_events;
+#[cfg(test)]
 mod captures;
 #[cfg(test)]
 mod datagrams;
@@ -27,9 +29,9 @@ mod generator;
 #[cfg(test)]
 mod groups;
 #[cfg(test)]
-mod held;
-#[cfg(test)]
 mod growths;
+#[cfg(test)]
+mod held;
 #[cfg(test)]
 mod kernels;
 #[cfg(test)]
@@ -49,6 +51,10 @@ mod rasters;
 #[cfg(test)]
 mod receivers;
 #[cfg(test)]
+mod rehearsal_scripts;
+#[cfg(test)]
+mod rehearsals;
+#[cfg(test)]
 mod rows;
 #[cfg(test)]
 mod running;
@@ -58,6 +64,8 @@ mod sdp;
 mod sdp_runs;
 #[cfg(test)]
 mod sending;
+#[cfg(test)]
+mod stay_model;
 #[cfg(test)]
 mod turns;
 #[cfg(test)]
