@@ -47,4 +47,4 @@ Sends j inputs size stamp old new (Err (fault.Job e)) =
     (new ≡ old) × ((e ≡ NoMemory) ⊎ ((settled : List Values) × AllZip IsSettled inputs settled × IsRefusal e j settled))
 Sends j inputs size stamp old new (Err fault.BadPacketSize) =
     (new ≡ old) × ((settled : List Values) × AllZip IsSettled inputs settled × IsSound j settled
-      × ((picture : Values) → IsJobPicture j settled picture → IsSize picture.format size → ⊥))
+    × ((picture : Values) → IsJobPicture j settled picture → IsSize picture.format size → ⊥))
