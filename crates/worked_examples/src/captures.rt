@@ -83,12 +83,12 @@ fn faulted(
 #[test]
 fn written(rt: HostRuntime) -> Result<(), Fail> {
     let octets = hex::decode(rt.alloc(), D1).expect(&rt, "digits");
-    let mut records = Vec::new(rt.alloc());
-    records.push(Record {
+    assert!(rt; octets.len() <= 65535);
+    let records = [Record {
         path: Path::A,
         moment: 0,
         octets,
-    })?;
+    }];
     let mut sink = sink(&rt, 0);
     assert!(rt; write_capture(&mut sink, &[], &records).is_ok());
     let wanted = hex::decode(rt.alloc(), NEW).expect(&rt, "digits");
