@@ -1,4 +1,6 @@
 //! Captures, read and written.
+ghost use Rattle.std.specs.Prelude.{◌≡◌, []};
+
 use crate::receive_capture;
 use capture_file::{
     Capture, CaptureReader, CaptureWriter, FileFault, Paths, Record, migrate_capture, read_capture,
@@ -27,7 +29,10 @@ fn source(rt: &(impl Abort + AllocGlobal), digits: &str, cut: usize, more: &[u8]
     MemorySource::new(octets, 3, 0)
 }
 
-fn sink(rt: &(impl Abort + AllocGlobal), fails_in: u64) -> MemorySink {
+/// A sink that holds nothing yet.
+fn sink(rt: &(impl Abort + AllocGlobal), fails_in: u64) -> MemorySink
+    ensures { result.held ≡ [] }
+{
     MemorySink::new(
         Vec::with_capacity(rt.alloc(), 4096).expect(rt, "room"),
         7,
@@ -93,37 +98,6 @@ fn written(rt: HostRuntime) -> Result<(), Fail> {
     assert!(rt; write_capture(&mut sink, &[], &records).is_ok());
     let wanted = hex::decode(rt.alloc(), NEW).expect(&rt, "digits");
     assert_eq!(rt; sink.held(), wanted.as_slice());
-    Ok(())
-}
-
-#[test]
-fn writer_and_reader(rt: HostRuntime) -> Result<(), Fail> {
-    let mut text = vec![in rt.alloc(); 0u8; 65535]?;
-    let mut buf = vec![in rt.alloc(); 0u8; 65535]?;
-    let octets = hex::decode(rt.alloc(), D1).expect(&rt, "digits");
-    let Ok(mut writer) = CaptureWriter::open(sink(&rt, 0), Paths::Both, b"v=0") else {
-        assert!(rt; false);
-        return Ok(());
-    };
-    for _ in 0..3 {
-        assert!(rt; writer.put(&octets).is_ok());
-    }
-    let sink = writer.into_inner();
-    let mut held = Vec::from_slice(rt.alloc(), sink.held())?;
-    assert_eq!(rt; held.len(), 13 + 6 * 39);
-    held.truncate(13 + 6 * 39 - 1);
-    let Ok(mut reader) = CaptureReader::open(MemorySource::new(held, 5, 0), &mut text) else {
-        assert!(rt; false);
-        return Ok(());
-    };
-    assert_eq!(rt; reader.text_len(), 3);
-    for i in 0..5 {
-        let path = if i % 2 == 0 { Path::A } else { Path::B };
-        assert_eq!(rt; reader.next(&mut buf), Ok(Turn::Datagram(path, 28)));
-        assert_eq!(rt; &buf[..28], octets.as_slice());
-    }
-    assert_eq!(rt; reader.next(&mut buf), Err(SourceFault::Content(5)));
-    assert_eq!(rt; reader.next(&mut buf), Err(SourceFault::Content(5)));
     Ok(())
 }
 
