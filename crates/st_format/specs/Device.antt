@@ -1,5 +1,5 @@
 -- What a device tells of itself from one call to the next. A list that is `None` is not told.
-use Rattle.std.specs.Prelude.{◌≡◌, ℕ, ◌+◌, ◌-◌, ◌^◌, ◌<◌, ◌≤◌, ◌⊎◌, min, List, [], ◌∷◌, ◌++◌, length, take, ⊤, Option, None, Some, Result, MatchResult}
+use Rattle.std.specs.Prelude.{◌≡◌, ℕ, ◌+◌, ◌-◌, ◌^◌, ◌<◌, ◌≤◌, ◌⊎◌, min, List, [], ◌∷◌, ◌++◌, length, slice_index, take, ⊤, Option, None, Some, Result, MatchResult}
 use Rattle.std.specs.Io.KnownBytes.{Consumes, Appends}
 
 -- one more, but at most 2^64 - 1 (own)
@@ -13,6 +13,20 @@ CountsFaults old new result = MatchResult result (λ _. new ≡ old) (λ _. Coun
 -- a failure was counted between old and new, or the count already stood at its greatest (own)
 abbrev pub Failed : ℕ → ℕ → Type 0
 Failed old new = (old < new) ⊎ (2 ^ 64 - 1 ≤ old)
+
+-- octets: numbers below 256 (own)
+abbrev pub AreOctets : List ℕ → Type 0
+AreOctets octets = (i : ℕ) → slice_index octets i < 256
+
+-- what a device tells, if it tells it, is octets (own)
+abbrev pub TellsOctets : Option (List ℕ) → Type 0
+TellsOctets None = ⊤
+TellsOctets (Some octets) = AreOctets octets
+
+-- a device that didn't tell octets goes on telling none (own)
+abbrev pub StaysUntold : Option (List ℕ) → Option (List ℕ) → Type 0
+StaysUntold None new = new ≡ None
+StaysUntold (Some old) new = ⊤
 
 -- a source gave some first part of these octets, and not all (own)
 pub record ConsumesPrefix (old new : Option (List ℕ)) (octets : List ℕ) : Type 0 where

@@ -9,7 +9,7 @@
 //! A count of failures or of datagrams stays at 2^64 - 1 once it is there.
 ghost use Rattle.std.specs.Prelude.{◌≡◌, ◌≤◌, ◌<◌, ℕ, List, Option, length, take, IfOk, OnOk, IfErr, OnErr, MatchResult};
 ghost use Rattle.std.specs.Io.KnownBytes.{Consumes, Appends, Keeps, IsAtEnd};
-ghost use Rattle.st_format.specs.Device.{CountsFaults, ConsumesPrefix, AppendsPrefix, TakesOne, KeepsAll};
+ghost use Rattle.st_format.specs.Device.{CountsFaults, ConsumesPrefix, AppendsPrefix, StaysUntold, TakesOne, KeepsAll, TellsOctets};
 
 use crate::Path;
 use thiserror::Error;
@@ -65,12 +65,15 @@ pub trait ByteSource {
     ///
     /// An `Err` is one failure more. It gives nothing: the octets still to give stay, and a later
     /// call may give them. What `buf` then holds is not said.
+    ///
+    /// What a source tells of its octets is numbers below 256, as a call shows.
     fn read(&mut self, buf: &mut [u8]) -> Result<usize, DeviceFault>
         ensures room { length buf.new ≡ length buf.old }
         ensures within { IfOk result (λ n. n ≤ length buf.new) }
         ensures given { IfOk result (λ n. Consumes (to_give self.old) (to_give self.new) (take n buf.new)) }
         ensures end { IfOk result (λ n. n ≡ 0 → 0 < length buf.old → IsAtEnd (to_give self.new)) }
         ensures fault { OnErr result (Keeps (to_give self.old) (to_give self.new)) }
+        ensures octets { TellsOctets (to_give self.old) }
         ensures counted { CountsFaults (failures self.old) (failures self.new) result };
 }
 
@@ -91,11 +94,14 @@ pub trait ByteSink {
     /// 0 means only that `octets` is empty: a sink that can take no more fails.
     ///
     /// An `Err` is one failure more. It takes nothing: the octets held stay.
+    ///
+    /// A sink that doesn't tell what it holds goes on telling nothing.
     fn write(&mut self, octets: &[u8]) -> Result<usize, DeviceFault>
         ensures within { IfOk result (λ n. n ≤ length octets.now) }
         ensures some { IfOk result (λ n. 0 < length octets.now → 0 < n) }
         ensures taken { IfOk result (λ n. Appends (held self.old) (held self.new) (take n octets.now)) }
         ensures fault { OnErr result (Keeps (held self.old) (held self.new)) }
+        ensures untold { StaysUntold (held self.old) (held self.new) }
         ensures counted { CountsFaults (failures self.old) (failures self.new) result };
 }
 
@@ -164,6 +170,7 @@ pub fn read_whole<S: ByteSource>(source: &mut S, buf: &mut [u8]) -> Result<usize
     ensures given { IfOk result (λ n. Consumes (S.to_give source.old) (S.to_give source.new) (take n buf.new)) }
     ensures short { IfOk result (λ n. n < length buf.new → IsAtEnd (S.to_give source.new)) }
     ensures fault { OnErr result (ConsumesPrefix (S.to_give source.old) (S.to_give source.new) buf.new) }
+    ensures octets { 0 < length buf.old → TellsOctets (S.to_give source.old) }
     ensures counted { CountsFaults (S.failures source.old) (S.failures source.new) result }
 {
     let mut filled = 0;
@@ -184,6 +191,7 @@ pub fn read_whole<S: ByteSource>(source: &mut S, buf: &mut [u8]) -> Result<usize
 pub fn write_whole<K: ByteSink>(sink: &mut K, octets: &[u8]) -> Result<(), DeviceFault>
     ensures ok { OnOk result (Appends (K.held sink.old) (K.held sink.new) octets.now) }
     ensures fault { OnErr result (AppendsPrefix (K.held sink.old) (K.held sink.new) octets.now) }
+    ensures untold { StaysUntold (K.held sink.old) (K.held sink.new) }
     ensures counted { CountsFaults (K.failures sink.old) (K.failures sink.new) result }
 {
     let mut done = 0;

@@ -1,6 +1,6 @@
 ghost use Rattle.std.specs.Prelude.{◌≡◌, ◌≤◌, ◌<◌, ◌+◌, ◌-◌, ◌↔◌, ◌⊎◌, Some, length, take, min, vec_len, vec_capacity, IfOk, OnErr, IsErr};
 ghost use Rattle.std.specs.Io.KnownBytes.{Appends, Keeps};
-ghost use Rattle.st_format.specs.Device.{CountsFaults};
+ghost use Rattle.st_format.specs.Device.{CountsFaults, StaysUntold};
 
 use crate::{ByteSink, DeviceFault};
 use std::alloc::{Allocator, Global};
@@ -85,6 +85,7 @@ impl<A: Allocator> ByteSink for MemorySink<A> {
         ensures some { IfOk result (λ n. 0 < length octets.now → 0 < n) }
         ensures taken { IfOk result (λ n. Appends (Some self.old.held) (Some self.new.held) (take n octets.now)) }
         ensures fault { OnErr result (Keeps (Some self.old.held) (Some self.new.held)) }
+        ensures untold { StaysUntold (Some self.old.held) (Some self.new.held) }
         ensures counted { CountsFaults self.old.failures self.new.failures result }
 
         // It fails at the call named and where it is full, and takes no less than it can.

@@ -1,6 +1,6 @@
 ghost use Rattle.std.specs.Prelude.{◌≡◌, ◌≤◌, ◌<◌, ◌+◌, ◌-◌, ◌↔◌, Some, length, take, drop, min, vec_len, IfOk, OnErr, IsErr};
 ghost use Rattle.std.specs.Io.KnownBytes.{Consumes, Keeps, IsAtEnd};
-ghost use Rattle.st_format.specs.Device.{CountsFaults};
+ghost use Rattle.st_format.specs.Device.{AreOctets, CountsFaults, TellsOctets};
 
 use crate::{ByteSource, DeviceFault};
 use std::alloc::{Allocator, Global};
@@ -70,6 +70,11 @@ impl<A: Allocator> MemorySource<A> {
     }
 }
 
+/// What a slice of octets holds is numbers below 256: a fact for proofs, which costs nothing.
+fn are_octets(octets: &[u8])
+    ensures { AreOctets octets.now }
+{}
+
 impl<A: Allocator> ByteSource for MemorySource<A> {
     ghost to_give = { λ s. Some s.to_give };
 
@@ -82,6 +87,7 @@ impl<A: Allocator> ByteSource for MemorySource<A> {
         ensures given { IfOk result (λ n. Consumes (Some self.old.to_give) (Some self.new.to_give) (take n buf.new)) }
         ensures end { IfOk result (λ n. n ≡ 0 → 0 < length buf.old → IsAtEnd (Some self.new.to_give)) }
         ensures fault { OnErr result (Keeps (Some self.old.to_give) (Some self.new.to_give)) }
+        ensures octets { TellsOctets (Some self.old.to_give) }
         ensures counted { CountsFaults self.old.failures self.new.failures result }
 
         // It fails at the call named and at no other, and gives no less than it can.
@@ -89,6 +95,7 @@ impl<A: Allocator> ByteSource for MemorySource<A> {
         ensures most { IfOk result (λ n. n ≡ min (length buf.old) (min self.old.piece (length self.old.to_give))) }
         ensures next { (self.new.fails_in ≡ self.old.fails_in - 1) × (self.new.piece ≡ self.old.piece) }
     {
+        are_octets(&self.octets);
         let fails = self.fails_in == 1;
         self.fails_in = self.fails_in.saturating_sub(1);
         if fails {

@@ -1,6 +1,6 @@
 use Rattle.std.proofs.Common.{rules, arith, ◌≡◌, ◌-◌, length, ◌∙◌}
 use borrow.Rule.Slice.PartMut.{put_mid, same_len_mid}
-use Rattle.st_format.proofs.Octets.{reads_more}
+use Rattle.st_format.proofs.Octets.{reads_more, tells_before}
 use Rattle.st_format.proofs.device.read_whole.Goals as goal
 
 pub loop-filled-preserved : goal.loop-filled-preserved
@@ -13,4 +13,5 @@ loop-filled-preserved g c =
       omega (arith, long, room, now.within, l.invariant.0),
       reads_more l.filled k c.in_ok-n.n l.buf c.read.new.buf _ _ _ l.invariant.0 now.within l.invariant.1 now.given,
       now.counted ∙ l.invariant.2,
+      λ _. tells_before l.filled l.buf _ _ l.invariant.1 l.invariant.3 now.octets,
     )

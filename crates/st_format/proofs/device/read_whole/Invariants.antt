@@ -1,5 +1,6 @@
-use Rattle.std.proofs.Common.{◌≡◌, ◌≤◌, ◌-◌, length, take}
+use Rattle.std.proofs.Common.{◌≡◌, ◌≤◌, ◌<◌, ◌-◌, length, take}
 use Rattle.std.specs.Io.KnownBytes.{Consumes}
+use Rattle.st_format.specs.Device.{TellsOctets}
 use Rattle.st_format.proofs.device.read_whole.Given as goal
 
 abbrev pub decreases-loop-filled : goal.decreases-loop-filled
@@ -10,3 +11,4 @@ invariant-loop-filled g l =
     (l.filled ≤ length l.buf)
     × Consumes (g.S.ByteSource.to_give l.initial.source) (g.S.ByteSource.to_give l.source) (take l.filled l.buf)
     × (g.S.ByteSource.failures l.source ≡ g.S.ByteSource.failures l.initial.source)
+    × (0 < l.filled → TellsOctets (g.S.ByteSource.to_give l.initial.source))

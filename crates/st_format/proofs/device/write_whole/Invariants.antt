@@ -1,5 +1,6 @@
 use Rattle.std.proofs.Common.{◌≡◌, ◌≤◌, ◌-◌, length, take}
 use Rattle.std.specs.Io.KnownBytes.{Appends}
+use Rattle.st_format.specs.Device.{StaysUntold}
 use Rattle.st_format.proofs.device.write_whole.Given as goal
 
 abbrev pub decreases-loop-done : goal.decreases-loop-done
@@ -10,3 +11,4 @@ invariant-loop-done g l =
     (l.done ≤ length l.octets)
     × Appends (g.K.ByteSink.held l.initial.sink) (g.K.ByteSink.held l.sink) (take l.done l.octets)
     × (g.K.ByteSink.failures l.sink ≡ g.K.ByteSink.failures l.initial.sink)
+    × StaysUntold (g.K.ByteSink.held l.initial.sink) (g.K.ByteSink.held l.sink)
