@@ -11,7 +11,7 @@ use Rattle.capture_file.specs.declared.fault.FileFault.{FileFault}
 use Rattle.capture_file.specs.declared.fault.FileFault.TheVariants.{BadName, BadVersion, Truncated, TooManyRecords}
 use Rattle.capture_file.specs.declared.front.Version.{Version}
 use Rattle.capture_file.specs.declared.front.Version.TheVariants.{One, Two}
-use Rattle.std.specs.Prelude.{Option, None, Some, IfOk, map}
+use Rattle.std.specs.Prelude.{Option, None, Some, IfOk, OnOk, map}
 use Rattle.std.specs.Io.KnownBytes.{IsAtEnd}
 use Rattle.capture_file.specs.declared.capture.Capture.{Capture}
 use Rattle.capture_file.specs.Capture.{Content, IsCapture, capture_at, capture_seen, entry_seen, records_at}
@@ -19,7 +19,7 @@ use Rattle.capture_file.specs.Fields.{◌>>=◌, Gives, Leaves, field_at}
 use Rattle.capture_file.specs.Fronts.{HasFront, capture_name, counted_text, front_at, front_text, kind_at, kind_of, kind_text, text_at, text_by, version_of, with_rest}
 use Rattle.capture_file.specs.Reading.{rest_at}
 use Rattle.capture_file.specs.Records.{AllFit, Entry, path_octet, records_text, rest_text}
-use Rattle.capture_file.specs.Runs.{AreOctets}
+use Rattle.st_format.specs.Device.{AreOctets, TellsOctets}
 use Rattle.capture_file.proofs.Entries.{chosen}
 use Rattle.capture_file.proofs.Splits.{AreOctets-back, AreOctets-tail, AreOctets-take, below_16, rest_takes}
 
@@ -198,7 +198,7 @@ found_by limit octets (Some rest) v bytes p =
     let few : length (map entry_seen v.records.items) ≤ limit = f.few in
     (f.is, omega (arith, count, few), f.all)
 
-pub found_read : {A : Type 0} (limit : ℕ) (old new : Option (List ℕ)) (r : Result (Capture A) FileFault) → IfOk r (λ v. Gives (capture_at limit) old new (capture_seen v))
-    → IfOk r (λ v. (octets : List ℕ) → old ≡ Some octets → AreOctets octets → IsCapture (capture_seen v) octets × (length v.records.items ≤ limit) × IsAtEnd new)
-found_read limit old new (Ok v) p = λ octets told bytes. found_by limit octets new v bytes (subst (λ (k : Option (List ℕ)). Gives (capture_at limit) k new (capture_seen v)) told p)
-found_read limit old new (Err f) p = tt
+pub found_read : {A : Type 0} (limit : ℕ) (old new : Option (List ℕ)) (r : Result (Capture A) FileFault) → IfOk r (λ v. Gives (capture_at limit) old new (capture_seen v)) → OnOk r (TellsOctets old)
+    → IfOk r (λ v. (octets : List ℕ) → old ≡ Some octets → IsCapture (capture_seen v) octets × (length v.records.items ≤ limit) × IsAtEnd new)
+found_read limit old new (Ok v) p bytes = λ octets told. found_by limit octets new v (subst TellsOctets told bytes) (subst (λ (k : Option (List ℕ)). Gives (capture_at limit) k new (capture_seen v)) told p)
+found_read limit old new (Err f) p bytes = tt

@@ -19,7 +19,8 @@ use Rattle.std.specs.Prelude.{IfOk, IfErr, MatchResult}
 use Rattle.capture_file.specs.Fronts.{HasFront, capture_name, counted_text, front_at, front_text, kind_at, kind_of, kind_text, text_at, text_by, with_rest}
 use Rattle.capture_file.specs.Reading.{entries_by, entries_in, entries_up_to, path_of, rest_at}
 use Rattle.capture_file.specs.Records.{AllFit, Entry, Fits, entry_of, path_octet, record_text, records_text, rest_text}
-use Rattle.capture_file.specs.Runs.{AreOctets, HasNoRecord, IsRun}
+use Rattle.capture_file.specs.Runs.{HasNoRecord, IsRun}
+use Rattle.st_format.specs.Device.{AreOctets}
 use Rattle.capture_file.proofs.Cuts.{entries_front}
 use Rattle.capture_file.proofs.Entries.{chosen, head_read, rest_again, rest_read, rest_shrinks}
 

@@ -1,10 +1,6 @@
 -- What it means that octets spell some records up to their first fault (own). No step of reading is in it.
-use Rattle.std.specs.Prelude.{◌≡◌, ℕ, ◌<◌, List, ◌++◌, slice_index}
+use Rattle.std.specs.Prelude.{◌≡◌, ℕ, List, ◌++◌}
 use Rattle.capture_file.specs.Records.{AllFit, Entry, Fits, record_text, records_text}
-
--- octets: numbers below 256
-abbrev pub AreOctets : List ℕ → Type 0
-AreOctets octets = (i : ℕ) → slice_index octets i < 256
 
 -- no record stands at the front
 abbrev pub HasNoRecord : List ℕ → Type 0

@@ -1,10 +1,10 @@
 //! A capture as one value.
-ghost use Rattle.std.specs.Prelude.{◌≡◌, ◌≤◌, ℕ, List, Some, length, map, vec_len, IfErr, IfOk, MatchResult};
+ghost use Rattle.std.specs.Prelude.{◌≡◌, ◌≤◌, ℕ, List, Some, length, map, vec_len, IfErr, IfOk, OnOk, MatchResult};
 ghost use Rattle.std.specs.List.{All};
 ghost use Rattle.capture_file.specs.Capture.{Content, IsCapture, capture_at, capture_seen, entry_seen, records_at};
 ghost use Rattle.capture_file.specs.Faults.{CountsDevice, IsMachine};
 ghost use Rattle.capture_file.specs.Fields.{Fails, Gives};
-ghost use Rattle.capture_file.specs.Runs.{AreOctets};
+ghost use Rattle.st_format.specs.Device.{TellsOctets};
 ghost use Rattle.std.specs.Io.KnownBytes.{IsAtEnd};
 
 use crate::fault::FileFault;
@@ -41,7 +41,7 @@ pub fn read_capture<A: Allocator + Copy, S: ByteSource>(
     ensures fault { IfErr result (λ f. Fails (capture_at limit) (S.to_give source.old) f) }
     ensures counted { CountsDevice (S.failures source.old) (S.failures source.new) result }
     // What is read is a capture, all of it, of at most so many records.
-    ensures found { IfOk result (λ v. (octets : List ℕ) → S.to_give source.old ≡ Some octets → AreOctets octets
+    ensures found { IfOk result (λ v. (octets : List ℕ) → S.to_give source.old ≡ Some octets
         → IsCapture (capture_seen v) octets × (length v.records.items ≤ limit) × IsAtEnd (S.to_give source.new)) }
     // What is a capture is read as what it says, unless the memory or the device fails.
     ensures only { (c : Content) (octets : List ℕ) → S.to_give source.old ≡ Some octets → IsCapture c octets → length c.records ≤ limit
@@ -57,6 +57,7 @@ fn read_whole_capture<A: Allocator + Copy, S: ByteSource>(
 ) -> Result<Capture<A>, FileFault>
     ensures read { IfOk result (λ c. Gives (capture_at limit) (S.to_give source.old) (S.to_give source.new) (capture_seen c)) }
     ensures fault { IfErr result (λ f. Fails (capture_at limit) (S.to_give source.old) f) }
+    ensures octets { OnOk result (TellsOctets (S.to_give source.old)) }
     ensures counted { CountsDevice (S.failures source.old) (S.failures source.new) result }
 {
     let mut buf = buffer(alloc)?;

@@ -3,6 +3,7 @@ ghost use Rattle.std.specs.Prelude.{◌≡◌, ◌≤◌, ◌<◌, codes, length
 ghost use Rattle.capture_file.specs.Faults.{CountsDevice, IsOfField, IsOfFront};
 ghost use Rattle.capture_file.specs.Fields.{Fails, Gives, field_at};
 ghost use Rattle.capture_file.specs.Fronts.{front_at, kind_at, kind_of, text_at};
+ghost use Rattle.st_format.specs.Device.{TellsOctets};
 
 use crate::fault::FileFault;
 use st_format::{ByteSource, read_whole};
@@ -23,6 +24,7 @@ pub(crate) fn read_field<S: ByteSource>(source: &mut S, buf: &mut [u8]) -> Resul
     ensures named { IfErr result IsOfField }
     ensures read { OnOk result (Gives (field_at (length buf.old)) (S.to_give source.old) (S.to_give source.new) buf.new) }
     ensures fault { IfErr result (λ f. Fails (field_at (length buf.old)) (S.to_give source.old) f) }
+    ensures octets { 0 < length buf.old → TellsOctets (S.to_give source.old) }
     ensures counted { CountsDevice (S.failures source.old) (S.failures source.new) result }
 {
     if read_whole(source, buf)? < buf.len() {
@@ -54,6 +56,7 @@ pub(crate) fn read_kind<S: ByteSource>(source: &mut S, name: &[u8]) -> Result<Ve
     ensures named { IfErr result IsOfFront }
     ensures read { IfOk result (λ v. Gives (kind_at name.now) (S.to_give source.old) (S.to_give source.new) v) }
     ensures fault { IfErr result (λ f. Fails (kind_at name.now) (S.to_give source.old) f) }
+    ensures octets { TellsOctets (S.to_give source.old) }
     ensures counted { CountsDevice (S.failures source.old) (S.failures source.new) result }
 {
     let mut octets = [0u8; 8];
@@ -70,6 +73,7 @@ pub(crate) fn read_front<S: ByteSource>(source: &mut S, text: &mut [u8]) -> Resu
     ensures named { IfErr result IsOfFront }
     ensures read { IfOk result (λ n. Gives front_at (S.to_give source.old) (S.to_give source.new) (take n text.new)) }
     ensures fault { IfErr result (λ f. Fails front_at (S.to_give source.old) f) }
+    ensures octets { TellsOctets (S.to_give source.old) }
     ensures counted { CountsDevice (S.failures source.old) (S.failures source.new) result }
 {
     match read_kind(source, CAPTURE)? {

@@ -1,12 +1,13 @@
 //! Laws of the definitions.
 ghost use Rattle.std.specs.Prelude.{◌*◌, ◌≡◌, ◌≤◌, ℕ, Ok, List, [], ◌++◌, length, map};
 ghost use Rattle.st_format.specs.declared.cell.Cell.{Cell};
+ghost use Rattle.st_format.specs.Device.{AreOctets};
 ghost use Rattle.st_format.specs.Turns.{Due};
 ghost use Rattle.capture_file.specs.Capture.{Content, IsCapture, capture_at};
 ghost use Rattle.capture_file.specs.Reader.{due_of, dues_in};
 ghost use Rattle.capture_file.specs.Reading.{entries_in};
 ghost use Rattle.capture_file.specs.Records.{Entry};
-ghost use Rattle.capture_file.specs.Runs.{AreOctets, IsRun};
+ghost use Rattle.capture_file.specs.Runs.{IsRun};
 ghost use Rattle.capture_file.specs.StateFile.{IsKept, Kept, cut_cells, state_text};
 
 /// The records that are read of octets are those that they spell up to their first fault.
