@@ -1,7 +1,6 @@
 -- What a writer of a capture writes (own).
-use Rattle.std.specs.Prelude.{◌≡◌, ℕ, ◌+◌, ◌%◌, ◌^◌, ◌<◌, Bool, true, ◌&&◌, ◌||◌, ◌==◌, nat_lt, if◌then◌else◌, take, List, [], ◌∷◌, ◌++◌, length, drop, map, Option, None, Some}
-use Rattle.std.specs.List.{AllByRecursion, list_all}
-use Rattle.std.specs.Str.{bytes_eq}
+use Rattle.std.specs.Prelude.{◌≡◌, ℕ, ◌+◌, ◌%◌, ◌^◌, ◌<◌, Bool, true, false, List, [], ◌∷◌, ◌++◌, length, drop, map, ⊤, Option, None, Some}
+use Rattle.std.specs.List.{AllByRecursion}
 use Rattle.st_format.specs.declared.path.Path.{Path}
 use Rattle.st_format.specs.declared.path.Path.TheVariants.{A, B}
 use Rattle.capture_file.specs.declared.paths.Paths.{Paths}
@@ -94,23 +93,13 @@ pub record IsWritten (paths : Paths) (text_len moment : ℕ) (held : List ℕ) :
   pub moment_is : moment_after paths 0 datagrams ≡ moment
   pub whole : held ≡ written paths text datagrams
 
--- the text that a sink holds
-abbrev pub text_in : ℕ → List ℕ → List ℕ
-text_in text_len held = take text_len (drop 10 held)
+-- What a writer's sink holds, where it tells it: until a fault, the capture of a text and datagrams.
+abbrev pub StandsWritten : Place → Option (List ℕ) → Type 0
+StandsWritten p None = ⊤
+StandsWritten p (Some held) = p.failed ≡ false → IsWritten p.paths p.text_len p.moment held
 
--- the same as a test, of a text and datagrams
-abbrev pub is_of : Paths → List ℕ → List (List ℕ) → ℕ → ℕ → List ℕ → Bool
-is_of paths text datagrams text_len moment held =
-    (length text == text_len) && (nat_lt (length text) (2 ^ 16)) && (list_all (λ d. nat_lt (length d) (2 ^ 16)) datagrams) && (moment_after paths 0 datagrams == moment) && bytes_eq held (written paths text datagrams)
-
-abbrev pub is_written : Paths → ℕ → ℕ → List ℕ → Bool
-is_written paths text_len moment held = is_of paths (text_in text_len held) (datagrams_in paths text_len held) text_len moment held
-
--- The datagrams that a writer took: those whose records its sink holds. Where the sink doesn't tell what it holds, or
--- held something else before, they are not told.
-abbrev pub taken_in : Place → List ℕ → Option (List (List ℕ))
-taken_in p held = if p.failed || is_written p.paths p.text_len p.moment held then Some (datagrams_in p.paths p.text_len held) else None
-
+-- The datagrams that a writer took: those whose records its sink holds. Where the sink doesn't tell what it holds,
+-- they are not told.
 abbrev pub taken_of : Place → Option (List ℕ) → Option (List (List ℕ))
 taken_of p None = None
-taken_of p (Some held) = taken_in p held
+taken_of p (Some held) = Some (datagrams_in p.paths p.text_len held)

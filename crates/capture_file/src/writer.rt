@@ -1,12 +1,12 @@
 //! A capture as a sink of datagrams.
 ghost use Rattle.std.specs.Prelude.{◌≡◌, ◌≤◌, ◌<◌, ◌+◌, ◌%◌, ◌^◌, [], Some, length, IfErr, IfOk, IsErr, OnErr, OnOk, MatchResult, true, false};
 ghost use Rattle.std.specs.Io.KnownBytes.{Appends, IsAtEnd, Keeps};
-ghost use Rattle.st_format.specs.Device.{AppendsPrefix, CountsFaults, CountsOne, KeepsAll, TakesOne};
+ghost use Rattle.st_format.specs.Device.{AppendsPrefix, CountsFaults, CountsOne, KeepsAll, StaysUntold, TakesOne};
 ghost use Rattle.capture_file.specs.Faults.{CountsFault, IsDevice};
 ghost use Rattle.capture_file.specs.Fronts.{front_text};
 ghost use Rattle.capture_file.specs.Records.{records_text};
 ghost use Rattle.capture_file.specs.Source.{IfTold};
-ghost use Rattle.capture_file.specs.Writer.{entries_of, moment_behind, place_failed, taken_of};
+ghost use Rattle.capture_file.specs.Writer.{StandsWritten, entries_of, moment_behind, taken_of};
 ghost use Rattle.capture_file.specs.declared.front.Version.TheVariants.{Two};
 
 use crate::fault::FileFault;
@@ -31,7 +31,7 @@ pub struct CaptureWriter<K: ByteSink> {
 
 impl<K: ByteSink> Model for CaptureWriter<K> {
     ghost use Rattle.std.specs.Prelude.{◌<◌, ◌^◌};
-    ghost use Rattle.capture_file.specs.Writer.{Writer};
+    ghost use Rattle.capture_file.specs.Writer.{StandsWritten, Writer};
 
     ghost Value = { Writer K };
 
@@ -41,7 +41,8 @@ impl<K: ByteSink> Model for CaptureWriter<K> {
       failures = w.failures;
     } };
 
-    ghost invariant = { λ w. w.moment < 2 ^ 64 };
+    ghost invariant = { λ w. (w.moment < 2 ^ 64)
+        × StandsWritten (record { paths = w.paths; text_len = w.text_len; moment = w.moment; failed = w.failed }) (K.held w.sink) };
 }
 
 /// Writes the records of a datagram, the first of this moment.
@@ -54,6 +55,7 @@ fn write_datagram<K: ByteSink>(
     requires { length octets.now ≤ 65535 }
     ensures ok { OnOk result (Appends (K.held sink.old) (K.held sink.new) (records_text (entries_of paths moment octets.now))) }
     ensures fault { OnErr result (AppendsPrefix (K.held sink.old) (K.held sink.new) (records_text (entries_of paths moment octets.now))) }
+    ensures untold { StaysUntold (K.held sink.old) (K.held sink.new) }
     ensures counted { CountsFaults (K.failures sink.old) (K.failures sink.new) result }
 {
     match paths {
@@ -95,21 +97,22 @@ impl<K: ByteSink> CaptureWriter<K> {
         }
     }
 
-    /// Gives the sink back, as it then is.
+    /// Gives the sink back, as it then is. After no fault it holds the capture of a text and of the datagrams that the
+    /// writer took, if it tells what it holds.
     pub fn into_inner(self) -> K
-        ensures { result ≡ self.sink }
+        ensures sink { result ≡ self.sink }
+        ensures whole { StandsWritten self.place (K.held result) }
     {
         self.sink
     }
 
-    // One failure more, from which on it fails.
+    // One failure more, which is told of.
     fn fail(&mut self) -> Result<(), SinkFault>
         ensures fault { IsErr result }
         ensures sink { self.new.sink ≡ self.old.sink }
-        ensures place { self.new.place ≡ place_failed self.old.place }
+        ensures place { self.new.place ≡ self.old.place }
         ensures counted { CountsOne self.old.failures self.new.failures }
     {
-        self.failed = true;
         self.failures = self.failures.saturating_add(1);
         Err(SinkFault)
     }
@@ -146,7 +149,10 @@ impl<K: ByteSink> DatagramSink for CaptureWriter<K> {
                 self.moment = self.moment.wrapping_add(self.paths.width());
                 Ok(())
             }
-            Err(_) => self.fail(),
+            Err(_) => {
+                self.failed = true;
+                self.fail()
+            }
         }
     }
 }

@@ -2,7 +2,7 @@
 ghost use Rattle.std.specs.Prelude.{◌≡◌, ◌≤◌, ◌<◌, ◌^◌, ◌%◌, length, map, IfErr, OnErr, OnOk};
 ghost use Rattle.std.specs.Io.KnownBytes.{Appends};
 ghost use Rattle.std.specs.List.{All};
-ghost use Rattle.st_format.specs.Device.{AppendsPrefix, CountsFaults};
+ghost use Rattle.st_format.specs.Device.{AppendsPrefix, CountsFaults, StaysUntold};
 ghost use Rattle.capture_file.specs.Capture.{capture_text, entry_seen};
 ghost use Rattle.capture_file.specs.Faults.{CountsDevice, IsDevice};
 ghost use Rattle.capture_file.specs.Fronts.{front_head, front_text};
@@ -31,6 +31,7 @@ pub(crate) fn write_record<K: ByteSink>(
     requires { length octets.now ≤ 65535 }
     ensures ok { OnOk result (Appends (K.held sink.old) (K.held sink.new) (record_text (record { path = path; moment = moment; octets = octets.now }))) }
     ensures fault { OnErr result (AppendsPrefix (K.held sink.old) (K.held sink.new) (record_text (record { path = path; moment = moment; octets = octets.now }))) }
+    ensures untold { StaysUntold (K.held sink.old) (K.held sink.new) }
     ensures counted { CountsFaults (K.failures sink.old) (K.failures sink.new) result }
 {
     let head = head_of(path, moment, octets.len() as u16);
@@ -57,6 +58,7 @@ pub(crate) fn write_front<K: ByteSink>(sink: &mut K, text: &[u8]) -> Result<(), 
     requires { length text.now ≤ 65535 }
     ensures ok { OnOk result (Appends (K.held sink.old) (K.held sink.new) (front_text Two text.now)) }
     ensures fault { OnErr result (AppendsPrefix (K.held sink.old) (K.held sink.new) (front_text Two text.now)) }
+    ensures untold { StaysUntold (K.held sink.old) (K.held sink.new) }
     ensures counted { CountsFaults (K.failures sink.old) (K.failures sink.new) result }
 {
     let front = front_of(text.len() as u16);

@@ -1,5 +1,6 @@
 use Rattle.std.proofs.Common.{◌%◌, ◌^◌, ◌+◌, ◌++◌, List, [], ℕ}
 use Rattle.std.proofs.lemmas.Result.{err_from_is_err_and, on_err_weaker, on_ok_weaker}
+use Rattle.st_format.proofs.Octets.{stays_untold}
 use Rattle.st_format.specs.declared.path.Path.TheVariants.{A, B}
 use Rattle.capture_file.specs.Records.{record_text}
 use Rattle.capture_file.specs.Writer.{entry}
@@ -21,3 +22,6 @@ pub returns-in_ok-write_record-in-Both-clause-fault : goal.returns-in_ok-write_r
 returns-in_ok-write_record-in-Both-clause-fault g c =
     rw c.in-Both.is (on_err_weaker c.write_record-in-Both-2.result (λ q. both_cut _ _ _ (record_text (entry A c.args.moment c.args.octets.now)) _ c.in_ok-write_record-in-Both.ensures.ok q)
     c.write_record-in-Both-2.ensures.fault)
+
+pub returns-in_ok-write_record-in-Both-clause-untold : goal.returns-in_ok-write_record-in-Both-clause-untold
+returns-in_ok-write_record-in-Both-clause-untold g c = stays_untold _ _ _ c.in_ok-write_record-in-Both.ensures.untold c.write_record-in-Both-2.ensures.untold

@@ -2,6 +2,7 @@ use Rattle.std.proofs.Common.{length}
 use Rattle.std.proofs.KnownBytes.{Appends-trans}
 use Rattle.std.proofs.lemmas.Result.{err_from_is_err_and, on_err_weaker, on_ok_weaker}
 use Rattle.capture_file.specs.Records.{head_text}
+use Rattle.st_format.proofs.Octets.{stays_untold}
 use Rattle.capture_file.proofs.Written.{prefix_first, prefix_then}
 use Rattle.capture_file.proofs.writing.write_record.Goals as goal
 
@@ -15,3 +16,6 @@ returns-clause-ok g c = on_ok_weaker c.write_whole-2.result (λ q. Appends-trans
 
 pub returns-clause-fault : goal.returns-clause-fault
 returns-clause-fault g c = on_err_weaker c.write_whole-2.result (λ q. prefix_then _ _ _ (head_text c.args.path c.args.moment (length c.args.octets.now)) c.args.octets.now (rw c.head_of-head.ensures at c.in_ok-write_whole.ensures.ok) q) c.write_whole-2.ensures.fault
+
+pub returns-clause-untold : goal.returns-clause-untold
+returns-clause-untold g c = stays_untold _ _ _ c.in_ok-write_whole.ensures.untold c.write_whole-2.ensures.untold
