@@ -12,3 +12,4 @@ pub mod Groups
 pub mod StateFile
 pub mod Migrated
 pub mod Blocks
+pub mod PictureFile

@@ -11,6 +11,9 @@ use st_format::{ByteSource, read_whole};
 /// The name of captures.
 pub(crate) const CAPTURE: &[u8] = b"S20CAP";
 
+/// The name of pictures.
+pub(crate) const PICTURE: &[u8] = b"S20PIC";
+
 /// The versions of files.
 #[derive(Clone, Copy, Debug, PartialEq, Eq)]
 pub(crate) enum Version {

@@ -1,0 +1,149 @@
+//! Reading a picture's file.
+ghost use Rattle.std.specs.Prelude.{◌≡◌, ◌*◌, ◌/◌, ◌%◌, ℕ, List, Some, length, IfErr, IfOk, MatchResult, OnOk};
+ghost use Rattle.std.specs.Io.KnownBytes.{IsAtEnd};
+ghost use Rattle.pgroup_pack.specs.Packing.{Agree};
+ghost use Rattle.st_format.specs.Fields.{fields_of};
+ghost use Rattle.st_format.specs.Pgroup.{bits_of};
+ghost use Rattle.st_format.specs.Picture.{IsPicture, Values};
+ghost use Rattle.capture_file.specs.declared.front.Version.TheVariants.{One};
+ghost use Rattle.capture_file.specs.Faults.{CountsDevice, IsMachine, IsOfField};
+ghost use Rattle.capture_file.specs.Fields.{Fails, Gives, field_at};
+ghost use Rattle.capture_file.specs.Fronts.{picture_name};
+ghost use Rattle.capture_file.specs.PictureFile.{GivesSpelled, ends_with, one_at, picture_at, picture_text, raster_at, shown_of};
+ghost use Rattle.capture_file.specs.Runs.{AreOctets};
+
+use crate::block::read_format;
+use crate::fault::FileFault;
+use crate::front::{PICTURE, Version, read_field, read_kind};
+use crate::pieces::{PIECE, octets_in, piece_samples};
+use st_format::{ByteSource, Format, Picture};
+use std::alloc::Allocator;
+
+/// Reads a picture's file, of version 01. The picture's samples are the one memory that is taken.
+///
+/// # Errors
+///
+/// The first fault in the order of the octets, or one of the memory or the device before it: `NoMemory`, `Device`,
+/// `BadName`, `BadVersion` (version 02 too), `Truncated`, `BadField`, or `TrailingBytes` where one octet was read
+/// behind the last pixel group.
+pub fn read_picture<A: Allocator, S: ByteSource>(
+    alloc: A,
+    source: &mut S,
+) -> Result<Picture<A>, FileFault>
+    ensures whole { IfOk result (λ p. IsPicture p) }
+    ensures read { IfOk result (λ p. Gives picture_at (S.to_give source.old) (S.to_give source.new) (shown_of p)) }
+    ensures fault { IfErr result (λ f. Fails picture_at (S.to_give source.old) f) }
+    ensures counted { CountsDevice (S.failures source.old) (S.failures source.new) result }
+    // What is read is the file of the picture that is answered, all of it.
+    ensures found { IfOk result (λ p. (octets : List ℕ) → S.to_give source.old ≡ Some octets → AreOctets octets
+        → (octets ≡ picture_text p) × IsAtEnd (S.to_give source.new)) }
+    // What is a picture's file is read as that picture, unless the memory or the device fails.
+    ensures only { (p : Values) (octets : List ℕ) → S.to_give source.old ≡ Some octets → IsPicture p → octets ≡ picture_text p
+        → MatchResult result (λ q. q ≡ p) IsMachine }
+{
+    read_whole_picture(alloc, source)
+}
+
+fn read_whole_picture<A: Allocator, S: ByteSource>(
+    alloc: A,
+    source: &mut S,
+) -> Result<Picture<A>, FileFault>
+    ensures whole { IfOk result (λ p. IsPicture p) }
+    ensures read { IfOk result (λ p. Gives picture_at (S.to_give source.old) (S.to_give source.new) (shown_of p)) }
+    ensures fault { IfErr result (λ f. Fails picture_at (S.to_give source.old) f) }
+    ensures counted { CountsDevice (S.failures source.old) (S.failures source.new) result }
+{
+    read_version_one(source, PICTURE)?;
+    let format = read_format(source)?;
+    let samples = read_raster(alloc, source, &format)?;
+    read_end(source)?;
+    Ok(Picture::from_samples(format, samples))
+}
+
+/// Reads name and version of a file whose one version is 01.
+fn read_version_one<S: ByteSource>(source: &mut S, name: &[u8]) -> Result<(), FileFault>
+    ensures read { OnOk result (Gives (one_at name.now) (S.to_give source.old) (S.to_give source.new) One) }
+    ensures fault { IfErr result (λ f. Fails (one_at name.now) (S.to_give source.old) f) }
+    ensures counted { CountsDevice (S.failures source.old) (S.failures source.new) result }
+{
+    match read_kind(source, name)? {
+        Version::One => Ok(()),
+        Version::Two => Err(FileFault::BadVersion),
+    }
+}
+
+/// Reads the samples of a raster.
+fn read_raster<A: Allocator, S: ByteSource>(
+    alloc: A,
+    source: &mut S,
+    format: &Format,
+) -> Result<Vec<u16, A>, FileFault>
+    ensures whole { IfOk result (λ v. IsPicture (record { format = format.now; samples = v.items })) }
+    ensures read { IfOk result (λ v. Gives (raster_at (fields_of format.now)) (S.to_give source.old) (S.to_give source.new) v.items) }
+    ensures fault { IfErr result (λ f. Fails (raster_at (fields_of format.now)) (S.to_give source.old) f) }
+    ensures counted { CountsDevice (S.failures source.old) (S.failures source.new) result }
+{
+    let mut samples = Vec::from_elem(alloc, 0u16, format.sample_count())?;
+    let mut piece = [0u8; PIECE];
+    read_samples(source, format, samples.as_mut_slice(), &mut piece)?;
+    Ok(samples)
+}
+
+/// Reads samples up to the end of `samples`, in pieces that are read into `piece`.
+fn read_samples<S: ByteSource>(
+    source: &mut S,
+    format: &Format,
+    samples: &mut [u16],
+    piece: &mut [u8],
+) -> Result<(), FileFault>
+    requires room { length piece.old ≡ 3600 }
+    requires whole { bits_of format.now.depth * length samples.old % 8 ≡ 0 }
+    ensures size { length samples.new ≡ length samples.old }
+    ensures read { OnOk result (GivesSpelled (bits_of format.now.depth) (S.to_give source.old) (S.to_give source.new) samples.new) }
+    ensures fault { IfErr result (λ f. Fails (field_at (bits_of format.now.depth * length samples.old / 8)) (S.to_give source.old) f) }
+    ensures named { IfErr result IsOfField }
+    ensures counted { CountsDevice (S.failures source.old) (S.failures source.new) result }
+{
+    let most = piece_samples(format);
+    let mut done = 0;
+    while done < samples.len() {
+        let n = most.min(samples.len() - done);
+        let size = octets_in(format, n);
+        read_piece(source, format, &mut samples[done..done + n], &mut piece[..size])?;
+        done += n;
+    }
+    Ok(())
+}
+
+/// Reads all samples of `samples`, for whose octets `octets` has just the room.
+fn read_piece<S: ByteSource>(
+    source: &mut S,
+    format: &Format,
+    samples: &mut [u16],
+    octets: &mut [u8],
+) -> Result<(), FileFault>
+    requires { Agree format.now (length octets.old) (length samples.old) }
+    ensures room { length octets.new ≡ length octets.old }
+    ensures size { length samples.new ≡ length samples.old }
+    ensures read { OnOk result (GivesSpelled (bits_of format.now.depth) (S.to_give source.old) (S.to_give source.new) samples.new) }
+    ensures fault { IfErr result (λ f. Fails (field_at (length octets.old)) (S.to_give source.old) f) }
+    ensures named { IfErr result IsOfField }
+    ensures counted { CountsDevice (S.failures source.old) (S.failures source.new) result }
+{
+    read_field(source, octets)?;
+    pgroup_pack::unpack(format, octets, samples);
+    Ok(())
+}
+
+/// Finds that nothing stands behind what was read.
+fn read_end<S: ByteSource>(source: &mut S) -> Result<(), FileFault>
+    ensures read { OnOk result (Gives (ends_with ()) (S.to_give source.old) (S.to_give source.new) ()) }
+    ensures fault { IfErr result (λ f. Fails (ends_with ()) (S.to_give source.old) f) }
+    ensures counted { CountsDevice (S.failures source.old) (S.failures source.new) result }
+{
+    let mut octet = [0u8; 1];
+    if source.read(&mut octet)? > 0 {
+        return Err(FileFault::TrailingBytes);
+    }
+    Ok(())
+}
