@@ -23,20 +23,20 @@ use Rattle.st_format.specs.Device.{AreOctets, TellsOctets}
 use Rattle.capture_file.proofs.Entries.{chosen}
 use Rattle.capture_file.proofs.Splits.{AreOctets-back, AreOctets-tail, AreOctets-take, below_16, rest_takes}
 
-abbrev failed : (B : Type 0) → FileFault → Result B FileFault
+abbrev pub failed : (B : Type 0) → FileFault → Result B FileFault
 failed B d = Err d
 
-abbrev given : {B : Type 0} → Result B FileFault → B → B
+abbrev pub given : {B : Type 0} → Result B FileFault → B → B
 given (Ok x) y = x
 given (Err d) y = y
 
 -- a reading that is followed by another
-record Then (A B : Type 0) (r : Result A FileFault) (f : A → Result B FileFault) (y : B) : Type 0 where
-  first : A
-  is : r ≡ Ok first
-  next : f first ≡ Ok y
+pub record Then (A B : Type 0) (r : Result A FileFault) (f : A → Result B FileFault) (y : B) : Type 0 where
+  pub first : A
+  pub is : r ≡ Ok first
+  pub next : f first ≡ Ok y
 
-split_then : {A B : Type 0} (r : Result A FileFault) (f : A → Result B FileFault) (y : B) → (r >>= f) ≡ Ok y → Then A B r f y
+pub split_then : {A B : Type 0} (r : Result A FileFault) (f : A → Result B FileFault) (y : B) → (r >>= f) ≡ Ok y → Then A B r f y
 split_then (Ok x) f y e = record { first = x; is = refl; next = e }
 split_then {A} {B} (Err d) f y e = let bad : failed B d ≡ Ok y = e in absurd cc
 
@@ -50,12 +50,12 @@ abbrev whole : List ℕ → List Entry × List ℕ → Result (Content × List �
 whole text z = Ok (record { text = text; records = z.0 }, z.1)
 
 -- so many octets, cut off
-record Field (n : ℕ) (octets : List ℕ) (x : List ℕ × List ℕ) : Type 0 where
-  long : n ≤ length octets
-  front : take n octets ≡ x.0
-  rest : drop n octets ≡ x.1
+pub record Field (n : ℕ) (octets : List ℕ) (x : List ℕ × List ℕ) : Type 0 where
+  pub long : n ≤ length octets
+  pub front : take n octets ≡ x.0
+  pub rest : drop n octets ≡ x.1
 
-field_takes : (n : ℕ) (octets : List ℕ) (x : List ℕ × List ℕ) → field_at n octets ≡ Ok x → Field n octets x
+pub field_takes : (n : ℕ) (octets : List ℕ) (x : List ℕ × List ℕ) → field_at n octets ≡ Ok x → Field n octets x
 unfolding field_at
 field_takes n octets x e =
     elim (chosen (ltb (length octets) n) (failed (List ℕ × List ℕ) Truncated) (Ok (take n octets, drop n octets)) (Ok x) e) [
@@ -65,37 +65,37 @@ field_takes n octets x e =
     ]
 
 -- the version of eight octets
-version_is : (x : List ℕ) (v : Version) → kind_of capture_name x ≡ Ok v → x ≡ kind_text capture_name v
-version_is x v e =
-    elim (chosen (bytes_eq (take 6 x) capture_name) (version_of (drop 6 x)) (failed Version BadName) (Ok v) e) [
+version_is : (name x : List ℕ) (v : Version) → kind_of name x ≡ Ok v → x ≡ kind_text name v
+version_is name x v e =
+    elim (chosen (bytes_eq (take 6 x) name) (version_of (drop 6 x)) (failed Version BadName) (Ok v) e) [
       | inl w ↦
-          let name : take 6 x ≡ capture_name = (bytes_eq-Decides (take 6 x) capture_name).0 w.0 in
-          let start : x ≡ capture_name ++ drop 6 x = sym (take-append-drop 6 x) ∙ ap (λ (t : List ℕ). t ++ drop 6 x) name in
+          let same : take 6 x ≡ name = (bytes_eq-Decides (take 6 x) name).0 w.0 in
+          let start : x ≡ name ++ drop 6 x = sym (take-append-drop 6 x) ∙ ap (λ (t : List ℕ). t ++ drop 6 x) same in
           elim (chosen (bytes_eq (drop 6 x) (codes "01")) (Ok One) (cond (bytes_eq (drop 6 x) (codes "02")) (Ok Two) (failed Version BadVersion)) (Ok v) w.1) [
             | inl u ↦
-                let same : One ≡ v = ap (λ (r : Result Version FileFault). given r v) u.1 in
-                start ∙ ap (λ (t : List ℕ). capture_name ++ t) ((bytes_eq-Decides (drop 6 x) (codes "01")).0 u.0) ∙ ap (kind_text capture_name) same
+                let one : One ≡ v = ap (λ (r : Result Version FileFault). given r v) u.1 in
+                start ∙ ap (λ (t : List ℕ). name ++ t) ((bytes_eq-Decides (drop 6 x) (codes "01")).0 u.0) ∙ ap (kind_text name) one
             | inr u ↦
                 elim (chosen (bytes_eq (drop 6 x) (codes "02")) (Ok Two) (failed Version BadVersion) (Ok v) u.1) [
                   | inl t ↦
                       let same : Two ≡ v = ap (λ (r : Result Version FileFault). given r v) t.1 in
-                      start ∙ ap (λ (k : List ℕ). capture_name ++ k) ((bytes_eq-Decides (drop 6 x) (codes "02")).0 t.0) ∙ ap (kind_text capture_name) same
+                      start ∙ ap (λ (k : List ℕ). name ++ k) ((bytes_eq-Decides (drop 6 x) (codes "02")).0 t.0) ∙ ap (kind_text name) same
                   | inr t ↦ let bad : failed Version BadVersion ≡ Ok v = t.1 in absurd cc
                 ]
           ]
       | inr w ↦ let bad : failed Version BadName ≡ Ok v = w.1 in absurd cc
     ]
 
-kind_takes : (octets : List ℕ) (x : Version × List ℕ) → kind_at capture_name octets ≡ Ok x → octets ≡ kind_text capture_name x.0 ++ x.1
+pub kind_takes : (name octets : List ℕ) (x : Version × List ℕ) → kind_at name octets ≡ Ok x → octets ≡ kind_text name x.0 ++ x.1
 unfolding kind_at
-kind_takes octets x e =
-    let a = split_then (field_at 8 octets) (λ y. with_rest (kind_of capture_name y.0) y.1) x e in
-    let b = split_then (kind_of capture_name a.first.0) (λ v. with_tail v a.first.1) x a.next in
+kind_takes name octets x e =
+    let a = split_then (field_at 8 octets) (λ y. with_rest (kind_of name y.0) y.1) x e in
+    let b = split_then (kind_of name a.first.0) (λ v. with_tail v a.first.1) x a.next in
     let f = field_takes 8 octets a.first a.is in
     let same : (b.first, a.first.1) ≡ x = ap (λ (r : Result (Version × List ℕ) FileFault). given r x) b.next in
-    sym (take-append-drop 8 octets) ∙ ap (λ (t : List ℕ). t ++ drop 8 octets) (f.front ∙ version_is a.first.0 b.first b.is)
-    ∙ ap (λ (t : List ℕ). kind_text capture_name b.first ++ t) f.rest
-    ∙ ap (λ (p : Version × List ℕ). kind_text capture_name p.0 ++ p.1) same
+    sym (take-append-drop 8 octets) ∙ ap (λ (t : List ℕ). t ++ drop 8 octets) (f.front ∙ version_is name a.first.0 b.first b.is)
+    ∙ ap (λ (t : List ℕ). kind_text name b.first ++ t) f.rest
+    ∙ ap (λ (p : Version × List ℕ). kind_text name p.0 ++ p.1) same
 
 record TakesText (octets : List ℕ) (x : List ℕ × List ℕ) : Type 0 where
   fits : length x.0 < 2 ^ 16
@@ -139,7 +139,7 @@ front_takes : (octets : List ℕ) (x : List ℕ × List ℕ) → AreOctets octet
 unfolding front_at
 front_takes octets x bytes e =
     let a = split_then (kind_at capture_name octets) (λ y. text_by y.0 y.1) x e in
-    let k = kind_takes octets a.first a.is in
+    let k = kind_takes capture_name octets a.first a.is in
     front_by a.first.0 octets a.first.1 x (AreOctets-back (kind_text capture_name a.first.0) a.first.1 (subst AreOctets k bytes)) k a.next
 
 record TakesRecords (limit : ℕ) (octets : List ℕ) (x : List Entry × List ℕ) : Type 0 where

@@ -15,3 +15,7 @@ pub mod Once
 pub mod Moved
 pub mod Blocked
 pub mod Found
+pub mod Spelt
+pub mod Versions
+pub mod Raster
+pub mod Seen

@@ -1,5 +1,5 @@
 -- A picture as a file (own): its text as a function of what it holds, and how octets are read as one.
-use Rattle.std.specs.Prelude.{◌≡◌, ℕ, ◌+◌, ◌*◌, ◌/◌, List, [], ◌∷◌, ◌++◌, length, Option, Result, Ok, Err}
+use Rattle.std.specs.Prelude.{ℕ, ◌*◌, ◌/◌, List, [], ◌∷◌, ◌++◌, ⊤, Option, Result, Ok, Err}
 use Rattle.std.specs.Io.KnownBytes.{Consumes}
 use Rattle.st_format.specs.declared.format.Format.{Format}
 use Rattle.st_format.specs.Fields.{Fields, fields_of}
@@ -48,23 +48,19 @@ unfoldable pub raster_at : Fields → List ℕ → Result (List ℕ × List ℕ)
 raster_at f octets = field_at (raster_octets f) octets >>= λ x. Ok (values_in (bits_of f.depth) x.0, x.1)
 
 -- nothing stands behind what was read
-abbrev pub ends_with : {X : Type 0} → X → List ℕ → Result (X × List ℕ) FileFault
-ends_with x [] = Ok (x, [])
-ends_with x (octet ∷ octets) = Err TrailingBytes
+abbrev pub nothing_at : List ℕ → Result (⊤ × List ℕ) FileFault
+nothing_at [] = Ok (tt, [])
+nothing_at (octet ∷ octets) = Err TrailingBytes
 
 -- a picture's file
 abbrev pub shows : Fields → List ℕ → Shown
 shows f samples = record { format = f; samples = samples }
 
 unfoldable pub picture_at : List ℕ → Result (Shown × List ℕ) FileFault
-picture_at octets = one_at picture_name octets >>= λ v. block_at v.1 >>= λ f. raster_at f.0 f.1 >>= λ s. ends_with (shows f.0 s.0) s.1
+picture_at octets = one_at picture_name octets >>= λ v. block_at v.1 >>= λ f. raster_at f.0 f.1 >>= λ s. nothing_at s.1 >>= λ e. Ok (shows f.0 s.0, e.1)
 
 -- A source gave octets that spell these values of so many bits.
 pub record GivesSpelled (bits : ℕ) (old new : Option (List ℕ)) (values : List ℕ) : Type 0 where
   pub octets : List ℕ
   pub given : Consumes old new octets
   pub spelled : Spells bits octets values
-
--- So many octets are as many bits as so many samples. Those of whole pixel groups are.
-abbrev pub Holds : ℕ → ℕ → ℕ → Type 0
-Holds bits octets samples = 8 * octets ≡ bits * samples

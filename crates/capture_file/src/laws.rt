@@ -2,8 +2,10 @@
 ghost use Rattle.std.specs.Prelude.{◌*◌, ◌≡◌, ◌≤◌, ℕ, Ok, List, [], ◌++◌, length, map};
 ghost use Rattle.st_format.specs.declared.cell.Cell.{Cell};
 ghost use Rattle.st_format.specs.Device.{AreOctets};
+ghost use Rattle.st_format.specs.Picture.{IsPicture, Values};
 ghost use Rattle.st_format.specs.Turns.{Due};
 ghost use Rattle.capture_file.specs.Capture.{Content, IsCapture, capture_at};
+ghost use Rattle.capture_file.specs.PictureFile.{picture_at, picture_text, shown_of};
 ghost use Rattle.capture_file.specs.Reader.{due_of, dues_in};
 ghost use Rattle.capture_file.specs.Reading.{entries_in};
 ghost use Rattle.capture_file.specs.Records.{Entry};
@@ -44,4 +46,15 @@ pub fn one_file()
 /// Cells with equal groups are equal: so with [`one_file`] equal files are of equal frames.
 pub fn one_raster()
     ensures { (size n : ℕ) (a b : List Cell) → length a ≡ n * size → length b ≡ n * size → cut_cells size n a ≡ cut_cells size n b → a ≡ b }
+{}
+
+/// A picture's file is read as that picture.
+pub fn picture_read()
+    ensures { (p : Values) → IsPicture p → picture_at (picture_text p) ≡ Ok (shown_of p, []) }
+{}
+
+/// A picture has one file: two that have equal files have the same format and the same samples. That equal ones have
+/// equal files is plain, since the text is a function of these.
+pub fn one_picture()
+    ensures { (p q : Values) → IsPicture p → IsPicture q → picture_text p ≡ picture_text q → shown_of p ≡ shown_of q }
 {}

@@ -9,13 +9,13 @@ ghost use Rattle.capture_file.specs.declared.front.Version.TheVariants.{One};
 ghost use Rattle.capture_file.specs.Faults.{CountsDevice, IsMachine, IsOfField};
 ghost use Rattle.capture_file.specs.Fields.{Fails, Gives, field_at};
 ghost use Rattle.capture_file.specs.Fronts.{picture_name};
-ghost use Rattle.capture_file.specs.PictureFile.{GivesSpelled, ends_with, one_at, picture_at, picture_text, raster_at, shown_of};
+ghost use Rattle.capture_file.specs.PictureFile.{GivesSpelled, nothing_at, one_at, picture_at, picture_text, raster_at, shown_of};
 ghost use Rattle.capture_file.specs.Runs.{AreOctets};
 
 use crate::block::read_format;
 use crate::fault::FileFault;
 use crate::front::{PICTURE, Version, read_field, read_kind};
-use crate::pieces::{PIECE, octets_in, piece_samples};
+use crate::pieces::{PIECE, piece_octets, piece_samples};
 use st_format::{ByteSource, Format, Picture};
 use std::alloc::Allocator;
 
@@ -39,7 +39,7 @@ pub fn read_picture<A: Allocator, S: ByteSource>(
         → (octets ≡ picture_text p) × IsAtEnd (S.to_give source.new)) }
     // What is a picture's file is read as that picture, unless the memory or the device fails.
     ensures only { (p : Values) (octets : List ℕ) → S.to_give source.old ≡ Some octets → IsPicture p → octets ≡ picture_text p
-        → MatchResult result (λ q. q ≡ p) IsMachine }
+        → MatchResult result (λ q. shown_of q ≡ shown_of p) IsMachine }
 {
     read_whole_picture(alloc, source)
 }
@@ -104,12 +104,16 @@ fn read_samples<S: ByteSource>(
     ensures named { IfErr result IsOfField }
     ensures counted { CountsDevice (S.failures source.old) (S.failures source.new) result }
 {
-    let most = piece_samples(format);
     let mut done = 0;
     while done < samples.len() {
-        let n = most.min(samples.len() - done);
-        let size = octets_in(format, n);
-        read_piece(source, format, &mut samples[done..done + n], &mut piece[..size])?;
+        let n = piece_samples(format, done, samples.len());
+        let size = piece_octets(format, n);
+        read_piece(
+            source,
+            format,
+            &mut samples[done..done + n],
+            &mut piece[..size],
+        )?;
         done += n;
     }
     Ok(())
@@ -137,8 +141,8 @@ fn read_piece<S: ByteSource>(
 
 /// Finds that nothing stands behind what was read.
 fn read_end<S: ByteSource>(source: &mut S) -> Result<(), FileFault>
-    ensures read { OnOk result (Gives (ends_with ()) (S.to_give source.old) (S.to_give source.new) ()) }
-    ensures fault { IfErr result (λ f. Fails (ends_with ()) (S.to_give source.old) f) }
+    ensures read { OnOk result (Gives nothing_at (S.to_give source.old) (S.to_give source.new) tt) }
+    ensures fault { IfErr result (λ f. Fails nothing_at (S.to_give source.old) f) }
     ensures counted { CountsDevice (S.failures source.old) (S.failures source.new) result }
 {
     let mut octet = [0u8; 1];

@@ -11,7 +11,7 @@ ghost use Rattle.capture_file.specs.PictureFile.{head_of, picture_text};
 ghost use Rattle.capture_file.specs.StateFile.{format_text, sampling_code};
 
 use crate::fault::FileFault;
-use crate::pieces::{PIECE, octets_in, piece_samples};
+use crate::pieces::{PIECE, piece_octets, piece_samples};
 use byteorder::{BigEndian, ByteOrder};
 use st_format::{ByteSink, DeviceFault, Format, Picture, Sampling, write_whole};
 use std::alloc::Allocator;
@@ -91,11 +91,10 @@ fn write_samples<K: ByteSink>(
         (octets_in (bits_of format.now.depth) samples.now)) }
     ensures counted { CountsFaults (K.failures sink.old) (K.failures sink.new) result }
 {
-    let most = piece_samples(format);
     let mut done = 0;
     while done < samples.len() {
-        let n = most.min(samples.len() - done);
-        let size = octets_in(format, n);
+        let n = piece_samples(format, done, samples.len());
+        let size = piece_octets(format, n);
         write_piece(sink, format, &samples[done..done + n], &mut piece[..size])?;
         done += n;
     }
@@ -118,6 +117,15 @@ fn write_piece<K: ByteSink>(
         (octets_in (bits_of format.now.depth) samples.now)) }
     ensures counted { CountsFaults (K.failures sink.old) (K.failures sink.new) result }
 {
-    pgroup_pack::pack(format, samples, octets);
+    pack(format, samples, octets);
     write_whole(sink, octets)
+}
+
+/// Packs samples.
+fn pack(format: &Format, samples: &[u16], octets: &mut [u8])
+    requires lengths { Agree format.now (length octets.old) (length samples.now) }
+    requires fit { Fit (bits_of format.now.depth) samples.now }
+    ensures { octets.new ≡ octets_in (bits_of format.now.depth) samples.now }
+{
+    pgroup_pack::pack(format, samples, octets);
 }

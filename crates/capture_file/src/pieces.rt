@@ -1,5 +1,5 @@
 //! The pieces in which the samples of a picture are packed and unpacked.
-ghost use Rattle.std.specs.Prelude.{◌≡◌, ◌≤◌, ◌*◌, ◌%◌};
+ghost use Rattle.std.specs.Prelude.{◌≡◌, ◌≤◌, ◌<◌, ◌+◌, ◌*◌, ◌%◌};
 ghost use Rattle.st_format.specs.Pgroup.{bits_of};
 
 use st_format::{Depth, Format};
@@ -8,7 +8,7 @@ use st_format::{Depth, Format};
 pub(crate) const PIECE: usize = 3600;
 
 /// How many samples of a format that many octets spell.
-pub(crate) fn piece_samples(format: &Format) -> usize
+fn most_samples(format: &Format) -> usize
     ensures { bits_of format.now.depth * result ≡ 28800 }
 {
     match format.depth() {
@@ -19,11 +19,32 @@ pub(crate) fn piece_samples(format: &Format) -> usize
     }
 }
 
-/// How many octets samples of a format take, which are those of whole octets.
-pub(crate) fn octets_in(format: &Format, samples: usize) -> usize
+/// How many samples the next piece has, behind `done` of `count`: as many as a piece's octets spell, or those that
+/// are left. All of them and those that are done take whole octets.
+pub(crate) fn piece_samples(format: &Format, done: usize, count: usize) -> usize
+    requires left { done < count }
+    requires done { bits_of format.now.depth * done % 8 ≡ 0 }
+    requires count { bits_of format.now.depth * count % 8 ≡ 0 }
+    ensures some { 0 < result }
+    ensures within { done + result ≤ count }
+    ensures few { bits_of format.now.depth * result ≤ 28800 }
+    ensures whole { bits_of format.now.depth * result % 8 ≡ 0 }
+    ensures next { bits_of format.now.depth * (done + result) % 8 ≡ 0 }
+{
+    let left = count - done;
+    let most = most_samples(format);
+    if left < most {
+        return left;
+    }
+    most
+}
+
+/// How many octets a piece's samples take.
+pub(crate) fn piece_octets(format: &Format, samples: usize) -> usize
     requires few { bits_of format.now.depth * samples ≤ 28800 }
     requires whole { bits_of format.now.depth * samples % 8 ≡ 0 }
-    ensures { 8 * result ≡ bits_of format.now.depth * samples }
+    ensures exact { 8 * result ≡ bits_of format.now.depth * samples }
+    ensures few { result ≤ 3600 }
 {
     format.depth().bits() as usize * samples / 8
 }

@@ -45,6 +45,8 @@ mod packed_marks;
 #[cfg(test)]
 mod packing;
 #[cfg(test)]
+mod picture_files;
+#[cfg(test)]
 mod pictures;
 #[cfg(test)]
 mod rasters;
