@@ -23,22 +23,25 @@ use std::alloc::Allocator;
 ///
 /// # Errors
 ///
-/// The first fault in the order of the octets, or one of the memory or the device before it: `NoMemory`, `Device`,
-/// `BadName`, `BadVersion` (version 02 too), `Truncated`, `BadField`, or `TrailingBytes` where one octet was read
-/// behind the last pixel group.
+/// The first fault in the order of the octets, or one of the memory or the device before it:
+/// `NoMemory`, `Device`, `BadName`, `BadVersion` (version 02 too), `Truncated`, `BadField`, or
+/// `TrailingBytes` where one octet was read behind the last pixel group.
 pub fn read_picture<A: Allocator, S: ByteSource>(
     alloc: A,
     source: &mut S,
 ) -> Result<Picture<A>, FileFault>
     ensures whole { IfOk result (λ p. IsPicture p) }
-    ensures read { IfOk result (λ p. Gives picture_at (S.to_give source.old) (S.to_give source.new) (shown_of p)) }
+    ensures read { IfOk result (λ p. Gives picture_at
+        (S.to_give source.old) (S.to_give source.new) (shown_of p)) }
     ensures fault { IfErr result (λ f. Fails picture_at (S.to_give source.old) f) }
     ensures counted { CountsDevice (S.failures source.old) (S.failures source.new) result }
     // What is read is the file of the picture that is answered, all of it.
-    ensures found { IfOk result (λ p. (octets : List ℕ) → S.to_give source.old ≡ Some octets → AreOctets octets
+    ensures found { IfOk result (λ p. (octets : List ℕ)
+        → S.to_give source.old ≡ Some octets → AreOctets octets
         → (octets ≡ picture_text p) × IsAtEnd (S.to_give source.new)) }
     // What is a picture's file is read as that picture, unless the memory or the device fails.
-    ensures only { (p : Values) (octets : List ℕ) → S.to_give source.old ≡ Some octets → IsPicture p → octets ≡ picture_text p
+    ensures only { (p : Values) (octets : List ℕ)
+        → S.to_give source.old ≡ Some octets → IsPicture p → octets ≡ picture_text p
         → MatchResult result (λ q. shown_of q ≡ shown_of p) IsMachine }
 {
     read_whole_picture(alloc, source)
@@ -49,7 +52,8 @@ fn read_whole_picture<A: Allocator, S: ByteSource>(
     source: &mut S,
 ) -> Result<Picture<A>, FileFault>
     ensures whole { IfOk result (λ p. IsPicture p) }
-    ensures read { IfOk result (λ p. Gives picture_at (S.to_give source.old) (S.to_give source.new) (shown_of p)) }
+    ensures read { IfOk result (λ p. Gives picture_at
+        (S.to_give source.old) (S.to_give source.new) (shown_of p)) }
     ensures fault { IfErr result (λ f. Fails picture_at (S.to_give source.old) f) }
     ensures counted { CountsDevice (S.failures source.old) (S.failures source.new) result }
 {
@@ -62,7 +66,8 @@ fn read_whole_picture<A: Allocator, S: ByteSource>(
 
 /// Reads name and version of a file whose one version is 01.
 fn read_version_one<S: ByteSource>(source: &mut S, name: &[u8]) -> Result<(), FileFault>
-    ensures read { OnOk result (Gives (one_at name.now) (S.to_give source.old) (S.to_give source.new) One) }
+    ensures read { OnOk result (Gives (one_at name.now)
+        (S.to_give source.old) (S.to_give source.new) One) }
     ensures fault { IfErr result (λ f. Fails (one_at name.now) (S.to_give source.old) f) }
     ensures counted { CountsDevice (S.failures source.old) (S.failures source.new) result }
 {
@@ -78,9 +83,12 @@ fn read_raster<A: Allocator, S: ByteSource>(
     source: &mut S,
     format: &Format,
 ) -> Result<Vec<u16, A>, FileFault>
-    ensures whole { IfOk result (λ v. IsPicture (record { format = format.now; samples = v.items })) }
-    ensures read { IfOk result (λ v. Gives (raster_at (fields_of format.now)) (S.to_give source.old) (S.to_give source.new) v.items) }
-    ensures fault { IfErr result (λ f. Fails (raster_at (fields_of format.now)) (S.to_give source.old) f) }
+    ensures whole { IfOk result (λ v.
+        IsPicture (record { format = format.now; samples = v.items })) }
+    ensures read { IfOk result (λ v. Gives (raster_at (fields_of format.now))
+        (S.to_give source.old) (S.to_give source.new) v.items) }
+    ensures fault { IfErr result (λ f.
+        Fails (raster_at (fields_of format.now)) (S.to_give source.old) f) }
     ensures counted { CountsDevice (S.failures source.old) (S.failures source.new) result }
 {
     let mut samples = Vec::from_elem(alloc, 0u16, format.sample_count())?;
@@ -99,8 +107,10 @@ fn read_samples<S: ByteSource>(
     requires room { length piece.old ≡ 3600 }
     requires whole { bits_of format.now.depth * length samples.old % 8 ≡ 0 }
     ensures size { length samples.new ≡ length samples.old }
-    ensures read { OnOk result (GivesSpelled (bits_of format.now.depth) (S.to_give source.old) (S.to_give source.new) samples.new) }
-    ensures fault { IfErr result (λ f. Fails (field_at (bits_of format.now.depth * length samples.old / 8)) (S.to_give source.old) f) }
+    ensures read { OnOk result (GivesSpelled (bits_of format.now.depth)
+        (S.to_give source.old) (S.to_give source.new) samples.new) }
+    ensures fault { IfErr result (λ f.
+        Fails (field_at (bits_of format.now.depth * length samples.old / 8)) (S.to_give source.old) f) }
     ensures named { IfErr result IsOfField }
     ensures counted { CountsDevice (S.failures source.old) (S.failures source.new) result }
 {
@@ -129,7 +139,8 @@ fn read_piece<S: ByteSource>(
     requires { Agree format.now (length octets.old) (length samples.old) }
     ensures room { length octets.new ≡ length octets.old }
     ensures size { length samples.new ≡ length samples.old }
-    ensures read { OnOk result (GivesSpelled (bits_of format.now.depth) (S.to_give source.old) (S.to_give source.new) samples.new) }
+    ensures read { OnOk result (GivesSpelled (bits_of format.now.depth)
+        (S.to_give source.old) (S.to_give source.new) samples.new) }
     ensures fault { IfErr result (λ f. Fails (field_at (length octets.old)) (S.to_give source.old) f) }
     ensures named { IfErr result IsOfField }
     ensures counted { CountsDevice (S.failures source.old) (S.failures source.new) result }
@@ -141,7 +152,8 @@ fn read_piece<S: ByteSource>(
 
 /// Finds that nothing stands behind what was read.
 fn read_end<S: ByteSource>(source: &mut S) -> Result<(), FileFault>
-    ensures read { OnOk result (Gives nothing_at (S.to_give source.old) (S.to_give source.new) tt) }
+    ensures read { OnOk result
+        (Gives nothing_at (S.to_give source.old) (S.to_give source.new) tt) }
     ensures fault { IfErr result (λ f. Fails nothing_at (S.to_give source.old) f) }
     ensures counted { CountsDevice (S.failures source.old) (S.failures source.new) result }
 {

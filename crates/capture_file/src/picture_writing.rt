@@ -19,7 +19,8 @@ use std::alloc::Allocator;
 /// The octets of a format block.
 const BLOCK: usize = 14;
 
-/// Writes a picture's file: name, version 01, format block, and the pixel groups packed. No memory is taken.
+/// Writes a picture's file: name, version 01, format block, and the pixel groups packed. No memory
+/// is taken.
 ///
 /// # Errors
 ///
@@ -28,7 +29,8 @@ pub fn write_picture<A: Allocator, K: ByteSink>(
     sink: &mut K,
     picture: &Picture<A>,
 ) -> Result<(), FileFault>
-    ensures ok { OnOk result (Appends (K.held sink.old) (K.held sink.new) (picture_text picture.now)) }
+    ensures ok { OnOk result
+        (Appends (K.held sink.old) (K.held sink.new) (picture_text picture.now)) }
     ensures fault { IfErr result (λ f. IsDevice f
         × AppendsPrefix (K.held sink.old) (K.held sink.new) (picture_text picture.now)) }
     ensures counted { CountsDevice (K.failures sink.old) (K.failures sink.new) result }
@@ -42,8 +44,10 @@ pub fn write_picture<A: Allocator, K: ByteSink>(
 
 /// Writes what stands before the pixel groups.
 fn write_head<K: ByteSink>(sink: &mut K, format: &Format) -> Result<(), DeviceFault>
-    ensures ok { OnOk result (Appends (K.held sink.old) (K.held sink.new) (head_of (fields_of format.now))) }
-    ensures fault { OnErr result (AppendsPrefix (K.held sink.old) (K.held sink.new) (head_of (fields_of format.now))) }
+    ensures ok { OnOk result (Appends (K.held sink.old) (K.held sink.new)
+        (head_of (fields_of format.now))) }
+    ensures fault { OnErr result (AppendsPrefix (K.held sink.old) (K.held sink.new)
+        (head_of (fields_of format.now))) }
     ensures counted { CountsFaults (K.failures sink.old) (K.failures sink.new) result }
 {
     write_whole(sink, b"S20PIC01")?;

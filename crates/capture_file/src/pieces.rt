@@ -4,7 +4,8 @@ ghost use Rattle.st_format.specs.Pgroup.{bits_of};
 
 use st_format::{Depth, Format};
 
-/// How many octets are read or written at once: whole pixel groups of each format, as 360 octets are.
+/// How many octets are read or written at once: whole pixel groups of each format, as 360 octets
+/// are.
 pub(crate) const PIECE: usize = 3600;
 
 /// How many samples of a format that many octets spell.
@@ -19,8 +20,8 @@ fn most_samples(format: &Format) -> usize
     }
 }
 
-/// How many samples the next piece has, behind `done` of `count`: as many as a piece's octets spell, or those that
-/// are left. All of them and those that are done take whole octets.
+/// How many samples the next piece has, behind `done` of `count`: as many as a piece's octets spell,
+/// or those that are left. All of them and those that are done take whole octets.
 pub(crate) fn piece_samples(format: &Format, done: usize, count: usize) -> usize
     requires left { done < count }
     requires done { bits_of format.now.depth * done % 8 ≡ 0 }

@@ -9,7 +9,8 @@ use std::test::Fail;
 /// P0: chroma 128, and luma 16 to 23 in raster order.
 const FILE: &str = "53323050494330310008000400020000003C0000000180108011801280138014801580168017";
 
-/// Its octets, and others behind them, without the last few; a call gives at most `piece`, and one may fail.
+/// Its octets without the last few, and others behind them; a call gives at most `piece`, and one
+/// may fail.
 fn source(
     rt: &(impl Abort + AllocGlobal),
     cut: usize,

@@ -1,4 +1,4 @@
-use Rattle.std.proofs.Common.{◌≡◌, ◌<◌, ℕ, length, take, subst, arith}
+use Rattle.std.proofs.Common.{◌≡◌, ℕ, take, subst, arith}
 use Rattle.std.specs.Io.KnownBytes.{Consumes}
 use Rattle.std.proofs.lemmas.List.{length-take-le}
 use Rattle.capture_file.proofs.Raster.{at_end, not_end}

@@ -1,4 +1,4 @@
-use Rattle.std.proofs.Common.{◌≡◌, ◌≤◌, ◌+◌, ◌∙◌, ℕ, List, length, drop, refl, take, arith}
+use Rattle.std.proofs.Common.{◌≤◌, ◌∙◌, ℕ, List, length, drop, refl, arith}
 use Rattle.std.proofs.lemmas.List.{length-append, length-drop, length-take-le}
 use Rattle.std.proofs.lemmas.Result.{err_from_is_err_and}
 use Rattle.st_format.specs.Pgroup.{bits_of}

@@ -1,6 +1,6 @@
-use Rattle.std.proofs.Common.{◌-◌, arith}
+use Rattle.std.proofs.Common.{arith}
 use Rattle.st_format.specs.Pgroup.{bits_of}
-use Rattle.capture_file.proofs.Spelt.{Piece, piece_last, piece_most}
+use Rattle.capture_file.proofs.Spelt.{piece_last, piece_most}
 use Rattle.capture_file.proofs.pieces.piece_samples.Goals as goal
 
 pub returns-then-left-most-clause-few : goal.returns-then-left-most-clause-few
