@@ -1,6 +1,6 @@
 -- What is read as a picture's file is one, and what is one is read as it.
 use Rattle.std.proofs.Common.{◌≡◌, ℕ, ◌*◌, ◌/◌, ◌<◌, Bool, true, false, cond, ◌&&◌, eqb, List, [], ◌∷◌, ◌++◌, length, drop, Option, None, Some, Result, Ok, Err, append_assoc, append-nil, refl, sym, ap, ◌∙◌, subst, inl, inr, arith}
-use Rattle.std.specs.Prelude.{⊤, IfErr, IfOk, MatchResult}
+use Rattle.std.specs.Prelude.{⊤, IfErr, IfOk, MatchResult, OnOk}
 use Rattle.std.specs.Int.{w16, w32, from_be_bytes, to_be_bytes}
 use Rattle.std.specs.Io.KnownBytes.{IsAtEnd}
 use Rattle.std.specs.List.{AllByRecursion}
@@ -34,7 +34,7 @@ use Rattle.capture_file.specs.Faults.{IfContent, IsMachine}
 use Rattle.capture_file.specs.Fields.{◌>>=◌, Fails, Gives, Leaves, field_at}
 use Rattle.capture_file.specs.Fronts.{kind_at, kind_of, kind_text, picture_name, with_rest}
 use Rattle.capture_file.specs.PictureFile.{Shown, nothing_at, one_at, one_by, picture_at, picture_text, raster_at, raster_octets, shown_of, shows}
-use Rattle.capture_file.specs.Runs.{AreOctets}
+use Rattle.st_format.specs.Device.{AreOctets, TellsOctets}
 use Rattle.capture_file.specs.StateFile.{format_text, sampling_code}
 use Rattle.capture_file.proofs.Blocked.{block_parts, lowest_good}
 use Rattle.capture_file.proofs.Entries.{chosen}
@@ -323,8 +323,13 @@ found_by : (p : Values) (octets : List ℕ) (new : Option (List ℕ)) → AreOct
 found_by p octets None bytes q = absurd q
 found_by p octets (Some rest) bytes q = let f = picture_found p octets rest bytes q in (f.text, f.all)
 
-pub found_picture : (p : Values) (old new : Option (List ℕ)) → Gives picture_at old new (shown_of p) → (octets : List ℕ) → old ≡ Some octets → AreOctets octets → (octets ≡ picture_text p) × IsAtEnd new
-found_picture p old new g octets told bytes = found_by p octets new bytes (subst (λ (k : Option (List ℕ)). Gives picture_at k new (shown_of p)) told g)
+found_told : (p : Values) (old new : Option (List ℕ)) → TellsOctets old → Gives picture_at old new (shown_of p) → (octets : List ℕ) → old ≡ Some octets → (octets ≡ picture_text p) × IsAtEnd new
+found_told p old new bytes g octets told = found_by p octets new (subst TellsOctets told bytes) (subst (λ (k : Option (List ℕ)). Gives picture_at k new (shown_of p)) told g)
+
+pub found_picture : (old new : Option (List ℕ)) (r : Result Values FileFault) → IfOk r (λ p. Gives picture_at old new (shown_of p)) → OnOk r (TellsOctets old)
+    → IfOk r (λ p. (octets : List ℕ) → old ≡ Some octets → (octets ≡ picture_text p) × IsAtEnd new)
+found_picture old new (Ok p) g bytes = found_told p old new bytes g
+found_picture old new (Err f) g bytes = tt
 
 kind_again : (rest : List ℕ) → kind_at picture_name (kind_text picture_name One ++ rest) ≡ Ok (One, rest)
 unfolding kind_at

@@ -2,6 +2,7 @@
 ghost use Rattle.std.specs.Prelude.{◌≡◌, ◌*◌, ◌/◌, ◌%◌, ℕ, List, Some, length, IfErr, IfOk, MatchResult, OnOk};
 ghost use Rattle.std.specs.Io.KnownBytes.{IsAtEnd};
 ghost use Rattle.pgroup_pack.specs.Packing.{Agree};
+ghost use Rattle.st_format.specs.Device.{TellsOctets};
 ghost use Rattle.st_format.specs.Fields.{fields_of};
 ghost use Rattle.st_format.specs.Pgroup.{bits_of};
 ghost use Rattle.st_format.specs.Picture.{IsPicture, Values};
@@ -10,7 +11,6 @@ ghost use Rattle.capture_file.specs.Faults.{CountsDevice, IsMachine, IsOfField};
 ghost use Rattle.capture_file.specs.Fields.{Fails, Gives, field_at};
 ghost use Rattle.capture_file.specs.Fronts.{picture_name};
 ghost use Rattle.capture_file.specs.PictureFile.{GivesSpelled, nothing_at, one_at, picture_at, picture_text, raster_at, shown_of};
-ghost use Rattle.capture_file.specs.Runs.{AreOctets};
 
 use crate::block::read_format;
 use crate::fault::FileFault;
@@ -36,8 +36,7 @@ pub fn read_picture<A: Allocator, S: ByteSource>(
     ensures fault { IfErr result (λ f. Fails picture_at (S.to_give source.old) f) }
     ensures counted { CountsDevice (S.failures source.old) (S.failures source.new) result }
     // What is read is the file of the picture that is answered, all of it.
-    ensures found { IfOk result (λ p. (octets : List ℕ)
-        → S.to_give source.old ≡ Some octets → AreOctets octets
+    ensures found { IfOk result (λ p. (octets : List ℕ) → S.to_give source.old ≡ Some octets
         → (octets ≡ picture_text p) × IsAtEnd (S.to_give source.new)) }
     // What is a picture's file is read as that picture, unless the memory or the device fails.
     ensures only { (p : Values) (octets : List ℕ)
@@ -55,6 +54,7 @@ fn read_whole_picture<A: Allocator, S: ByteSource>(
     ensures read { IfOk result (λ p. Gives picture_at
         (S.to_give source.old) (S.to_give source.new) (shown_of p)) }
     ensures fault { IfErr result (λ f. Fails picture_at (S.to_give source.old) f) }
+    ensures octets { OnOk result (TellsOctets (S.to_give source.old)) }
     ensures counted { CountsDevice (S.failures source.old) (S.failures source.new) result }
 {
     read_version_one(source, PICTURE)?;
@@ -69,6 +69,7 @@ fn read_version_one<S: ByteSource>(source: &mut S, name: &[u8]) -> Result<(), Fi
     ensures read { OnOk result (Gives (one_at name.now)
         (S.to_give source.old) (S.to_give source.new) One) }
     ensures fault { IfErr result (λ f. Fails (one_at name.now) (S.to_give source.old) f) }
+    ensures octets { TellsOctets (S.to_give source.old) }
     ensures counted { CountsDevice (S.failures source.old) (S.failures source.new) result }
 {
     match read_kind(source, name)? {

@@ -1,9 +1,8 @@
-use Rattle.std.proofs.lemmas.Result.{IfOk-weaker}
 use Rattle.capture_file.proofs.Seen.{found_picture, only_picture}
 use Rattle.capture_file.proofs.picture_reading.read_picture.Goals as goal
 
 pub returns-clause-found : goal.returns-clause-found
-returns-clause-found g c = IfOk-weaker c.read_whole_picture.result _ _ (λ p q. found_picture p _ _ q) c.read_whole_picture.ensures.read
+returns-clause-found g c = found_picture _ _ c.read_whole_picture.result c.read_whole_picture.ensures.read c.read_whole_picture.ensures.octets
 
 pub returns-clause-only : goal.returns-clause-only
 returns-clause-only g c p octets told is text =
