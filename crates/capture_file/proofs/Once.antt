@@ -18,25 +18,25 @@ use Rattle.capture_file.specs.Groups.{IsGroup, IsShape, Shape, groups_at, groups
 use Rattle.capture_file.specs.StateFile.{cut_cells, joined_groups, HasRoom, Held, IsHeld, IsKept, Kept, SsrcFits, format_text, held_text, opening_text, sampling_code, ssrc_text, state_text}
 use Rattle.capture_file.proofs.Grouped.{groups_again}
 
-record Both (xs ys a b : List ℕ) : Type 0 where
-  front : xs ≡ ys
-  rest : a ≡ b
+pub record Both (xs ys a b : List ℕ) : Type 0 where
+  pub front : xs ≡ ys
+  pub rest : a ≡ b
 
 -- two lists that are cut at one place
-cut_both : (n : ℕ) (xs ys a b : List ℕ) → length xs ≡ n → length ys ≡ n → xs ++ a ≡ ys ++ b → Both xs ys a b
+pub cut_both : (n : ℕ) (xs ys a b : List ℕ) → length xs ≡ n → length ys ≡ n → xs ++ a ≡ ys ++ b → Both xs ys a b
 cut_both n xs ys a b p q e = record {
   front = sym (take_at xs a n p) ∙ ap (take n) e ∙ take_at ys b n q;
   rest = sym (drop_at xs a n p) ∙ ap (drop n) e ∙ drop_at ys b n q;
 }
 
-once_16 : (m n : ℕ) → m < 2 ^ 16 → n < 2 ^ 16 → to_be_bytes w16 m ≡ to_be_bytes w16 n → m ≡ n
+pub once_16 : (m n : ℕ) → m < 2 ^ 16 → n < 2 ^ 16 → to_be_bytes w16 m ≡ to_be_bytes w16 n → m ≡ n
 once_16 m n p q e = sym (from_be_bytes-to_be_bytes_2 m p) ∙ ap (from_be_bytes w16) e ∙ from_be_bytes-to_be_bytes_2 n q
 
-once_32 : (m n : ℕ) → m < 2 ^ 32 → n < 2 ^ 32 → to_be_bytes w32 m ≡ to_be_bytes w32 n → m ≡ n
+pub once_32 : (m n : ℕ) → m < 2 ^ 32 → n < 2 ^ 32 → to_be_bytes w32 m ≡ to_be_bytes w32 n → m ≡ n
 once_32 m n p q e = sym (from_be_bytes-to_be_bytes_4 m p) ∙ ap (from_be_bytes w32) e ∙ from_be_bytes-to_be_bytes_4 n q
 
 -- the pixel groups of each format
-shape_is : (s : Sampling) (b : Depth) → IsShape (shape_of s b)
+pub shape_is : (s : Sampling) (b : Depth) → IsShape (shape_of s b)
 shape_is Ycc422 D8 = record { some = omega arith; few = omega arith; some_bits = omega arith; octets = refl }
 shape_is Ycc422 D10 = record { some = omega arith; few = omega arith; some_bits = omega arith; octets = refl }
 shape_is Ycc422 D12 = record { some = omega arith; few = omega arith; some_bits = omega arith; octets = refl }

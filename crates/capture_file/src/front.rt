@@ -14,15 +14,21 @@ pub(crate) const CAPTURE: &[u8] = b"S20CAP";
 /// The name of pictures.
 pub(crate) const PICTURE: &[u8] = b"S20PIC";
 
-/// The versions of files.
+/// The versions of files, which are two digits behind a file's name.
 #[derive(Clone, Copy, Debug, PartialEq, Eq)]
-pub(crate) enum Version {
+pub enum Version {
+    /// `01`
     One,
+    /// `02`
     Two,
 }
 
-/// Fills `buf`.
-pub(crate) fn read_field<S: ByteSource>(source: &mut S, buf: &mut [u8]) -> Result<(), FileFault>
+/// Fills `buf` with the next octets of a file.
+///
+/// # Errors
+///
+/// `Truncated` where the source ends before `buf` is full, and `Device`.
+pub fn read_field<S: ByteSource>(source: &mut S, buf: &mut [u8]) -> Result<(), FileFault>
     ensures room { length buf.new ≡ length buf.old }
     ensures named { IfErr result IsOfField }
     ensures read { OnOk result (Gives (field_at (length buf.old)) (S.to_give source.old) (S.to_give source.new) buf.new) }
@@ -54,8 +60,13 @@ fn version_in(name: &[u8], octets: &[u8; 8]) -> Result<Version, FileFault>
     Err(FileFault::BadVersion)
 }
 
-/// Reads name and version.
-pub(crate) fn read_kind<S: ByteSource>(source: &mut S, name: &[u8]) -> Result<Version, FileFault>
+/// Reads what each file begins with: six octets of name, and two of version. Answers the version.
+///
+/// # Errors
+///
+/// `Truncated` where there are fewer than eight octets, `BadName` where the first six are another name, `BadVersion`
+/// where the others are no version, and `Device`.
+pub fn read_kind<S: ByteSource>(source: &mut S, name: &[u8]) -> Result<Version, FileFault>
     ensures named { IfErr result IsOfFront }
     ensures read { IfOk result (λ v. Gives (kind_at name.now) (S.to_give source.old) (S.to_give source.new) v) }
     ensures fault { IfErr result (λ f. Fails (kind_at name.now) (S.to_give source.old) f) }

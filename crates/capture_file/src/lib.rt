@@ -17,8 +17,10 @@ mod steps;
 mod writer;
 mod writing;
 
+pub use block::read_format;
 pub use capture::{Capture, read_capture};
 pub use fault::FileFault;
+pub use front::{Version, read_field, read_kind};
 pub use migrating::migrate_capture;
 pub use paths::Paths;
 pub use picture_reading::read_picture;
