@@ -1,0 +1,5 @@
+pub mod GroupRuns
+pub mod CutCells
+pub mod Spelling
+pub mod RowRuns
+pub mod KeptRuns

@@ -1,0 +1,11 @@
+use Rattle.std.proofs.lemmas.Result.{err_from_is_err_and, on_err_weaker}
+use Rattle.capture_file.proofs.Written.{prefix_first, prefix_then}
+use Rattle.receiver_file.proofs.groups.write_behind.Goals as goal
+
+pub returns-in_err-write_whole-clause-fault : goal.returns-in_err-write_whole-clause-fault
+returns-in_err-write_whole-clause-fault g c =
+    let p = err_from_is_err_and c.from_residual.result c.from_residual.ensures.1 in
+    rw (p.1) (prefix_first _ _ c.args.head.now c.args.octets.now c.in_err-write_whole.ensures.fault)
+
+pub returns-clause-fault : goal.returns-clause-fault
+returns-clause-fault g c = on_err_weaker c.write_whole-2.result (λ q. prefix_then _ _ _ c.args.head.now c.args.octets.now c.in_ok-write_whole.ensures.ok q) c.write_whole-2.ensures.fault

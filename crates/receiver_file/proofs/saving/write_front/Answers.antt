@@ -1,0 +1,46 @@
+use Rattle.std.proofs.Common.{◌≡◌, ◌++◌, ◌∙◌, ap, List, ℕ}
+use Rattle.std.proofs.KnownBytes.{Appends-trans}
+use Rattle.std.proofs.lemmas.Result.{err_from_is_err_and, on_err_weaker, on_ok_weaker}
+use Rattle.st_format.specs.declared.format.Format.{Format}
+use Rattle.st_format.specs.Fields.{fields_of}
+use Rattle.capture_file.specs.declared.front.Version.TheVariants.{One}
+use Rattle.capture_file.specs.Fronts.{kind_text, receiver_name}
+use Rattle.capture_file.specs.StateFile.{Kept, format_text, opening_text}
+use Rattle.capture_file.proofs.Written.{prefix_first, prefix_then}
+use Rattle.receiver_file.specs.Saved.{kept_of}
+use Rattle.receiver_file.proofs.saving.write_front.Goals as goal
+
+abbrev name : List ℕ
+name = kind_text receiver_name One
+
+pub returns-in_err-write_whole-clause-fault : goal.returns-in_err-write_whole-clause-fault
+returns-in_err-write_whole-clause-fault g c =
+    let p = err_from_is_err_and c.from_residual.result c.from_residual.ensures.1 in
+    let k : Kept = kept_of c.args.receiver.now in
+    rw (p.1) (prefix_first _ _ name (format_text k.format ++ opening_text k) c.in_err-write_whole.ensures.fault)
+
+pub returns-in_err-write_whole-2-clause-fault : goal.returns-in_err-write_whole-2-clause-fault
+returns-in_err-write_whole-2-clause-fault g c =
+    let p = err_from_is_err_and c.from_residual-in_err-write_whole-2.result c.from_residual-in_err-write_whole-2.ensures.1 in
+    let k : Kept = kept_of c.args.receiver.now in
+    let block : c.block_of.result ≡ format_text k.format = c.block_of.ensures ∙ ap (λ (f : Format). format_text (fields_of f)) c.format.ensures.format in
+    rw (p.1) (prefix_then _ _ _ name (format_text k.format ++ opening_text k) c.in_ok-write_whole.ensures.ok
+    (prefix_first _ _ (format_text k.format) (opening_text k) (rw block at c.in_err-write_whole-2.ensures.fault)))
+
+pub returns-clause-ok : goal.returns-clause-ok
+returns-clause-ok g c =
+    let k : Kept = kept_of c.args.receiver.now in
+    let block : c.block_of.result ≡ format_text k.format = c.block_of.ensures ∙ ap (λ (f : Format). format_text (fields_of f)) c.format.ensures.format in
+    on_ok_weaker c.write_whole-3.result
+    (λ q. Appends-trans _ _ _ name (format_text k.format ++ opening_text k) c.in_ok-write_whole.ensures.ok
+    (Appends-trans _ _ _ (format_text k.format) (opening_text k) (rw block at c.in_ok-write_whole-2.ensures.ok) (rw c.head_of.ensures at q)))
+    c.write_whole-3.ensures.ok
+
+pub returns-clause-fault : goal.returns-clause-fault
+returns-clause-fault g c =
+    let k : Kept = kept_of c.args.receiver.now in
+    let block : c.block_of.result ≡ format_text k.format = c.block_of.ensures ∙ ap (λ (f : Format). format_text (fields_of f)) c.format.ensures.format in
+    on_err_weaker c.write_whole-3.result
+    (λ q. prefix_then _ _ _ name (format_text k.format ++ opening_text k) c.in_ok-write_whole.ensures.ok
+    (prefix_then _ _ _ (format_text k.format) (opening_text k) (rw block at c.in_ok-write_whole-2.ensures.ok) (rw c.head_of.ensures at q)))
+    c.write_whole-3.ensures.fault

@@ -1,0 +1,53 @@
+-- What is kept of a receiver, and what a receiver's file says (own).
+use Rattle.std.specs.Prelude.{◌≡◌, ℕ, ◌<◌, List, [], ◌∷◌, ◌++◌, map, Ok}
+use Rattle.std.specs.List.{flat_map}
+use Rattle.st_format.specs.declared.cell.Cell.{Cell}
+use Rattle.st_format.specs.Pgroup.{pixel_group}
+use Rattle.st_format.specs.Fields.{Fields, fields_of, format_at}
+use Rattle.st_format.specs.Raster.{Raster}
+use Rattle.path_merge.specs.Frames.{State}
+use Rattle.path_merge.specs.Opening.{IsWindow}
+use Rattle.capture_file.specs.declared.front.Version.TheVariants.{One}
+use Rattle.capture_file.specs.Fronts.{kind_text, receiver_name}
+use Rattle.capture_file.specs.StateFile.{Held, IsKept, Kept, cut_cells, format_text, group_count, held_of, held_text, opening_text}
+
+-- what is kept of frames, one for each timestamp
+abbrev pub kept_frames : Fields → List ℕ → List Raster → List Held
+kept_frames f [] rs = []
+kept_frames f (t ∷ w) [] = []
+kept_frames f (t ∷ w) (r ∷ rs) = held_of f t r.cells ∷ kept_frames f w rs
+
+-- What is kept of a receiver: what it was opened with, and its frames. The refusals are not.
+abbrev pub kept_of : State → Kept
+kept_of s = record {
+  format = fields_of s.opening.format;
+  payload_type = s.opening.payload_type;
+  ssrc = s.opening.ssrc;
+  frames = kept_frames (fields_of s.opening.format) s.opening.window s.frames;
+}
+
+abbrev pub timestamp_in : Held → ℕ
+timestamp_in h = h.timestamp
+
+-- What a file can say: a format there is, with its rate in lowest terms, a payload type of seven bits, and a window of
+-- 1 to 16 timestamps, all different
+pub record IsSaved (k : Kept) : Type 0 where
+  pub kept : IsKept k
+  pub format : format_at k.format.sampling k.format.depth k.format.width k.format.height k.format.n k.format.d ≡ Ok k.format
+  pub payload_type : k.payload_type < 128
+  pub window : IsWindow (map timestamp_in k.frames)
+
+-- the two parts of a file: what stands before the frames, and the frames
+abbrev pub front_text : Kept → List ℕ
+front_text k = kind_text receiver_name One ++ (format_text k.format ++ opening_text k)
+
+abbrev pub frames_text : Kept → List ℕ
+frames_text k = flat_map (held_text k.format) k.frames
+
+-- a timestamp and its frame
+abbrev pub frame_text : ℕ → Raster → List ℕ
+frame_text timestamp r = held_text (fields_of r.format) (held_of (fields_of r.format) timestamp r.cells)
+
+-- the groups of a frame's cells
+abbrev pub groups_in : Fields → List Cell → List (List Cell)
+groups_in f cells = cut_cells (pixel_group f.sampling f.depth).samples (group_count f) cells

@@ -1,0 +1,10 @@
+//! A receiver as a file (own): what it was opened with, and what is known of each sample of its frames.
+//!
+//! What a file says is told by `state_text` and `kept_of`, and how octets are read as one by `state_at`.
+#![tactic(auto)]
+
+mod groups;
+mod rows;
+mod saving;
+
+pub use saving::save_receiver;

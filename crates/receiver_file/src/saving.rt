@@ -1,0 +1,123 @@
+//! A receiver to a sink.
+ghost use Rattle.std.specs.Prelude.{◌≡◌, ◌≤◌, ◌<◌, ◌∷◌, ◌++◌, [], length, IfErr, OnErr, OnOk};
+ghost use Rattle.std.specs.Int.{w32, to_be_bytes};
+ghost use Rattle.std.specs.Io.KnownBytes.{Appends};
+ghost use Rattle.std.specs.List.{flat_map};
+ghost use Rattle.st_format.specs.Device.{AppendsPrefix, CountsFaults};
+ghost use Rattle.st_format.specs.Fields.{fields_of};
+ghost use Rattle.capture_file.specs.Faults.{CountsDevice, IsDevice};
+ghost use Rattle.capture_file.specs.StateFile.{format_text, opening_text, ssrc_text, state_text};
+ghost use Rattle.receiver_file.specs.Saved.{frame_text, frames_text, front_text, kept_of};
+
+use crate::rows::write_rows;
+use byteorder::{BigEndian, ByteOrder};
+use capture_file::FileFault;
+use frame_assembly::Frame;
+use path_merge::Receiver;
+use st_format::{ByteSink, DeviceFault, Format, Sampling, write_whole};
+use std::alloc::Allocator;
+
+/// Name and version.
+const RECEIVER_ONE: &[u8] = b"S20RCV01";
+
+/// Writes a receiver as a file: what it was opened with, and for each timestamp of its window, in window order, what is
+/// known of each sample of its frame. The refusals are not written. No memory is taken.
+///
+/// # Errors
+///
+/// `Device` where the sink failed: it then has a first part of the file more than before, and not all.
+pub fn save_receiver<A: Allocator, K: ByteSink>(
+    sink: &mut K,
+    receiver: &Receiver<A>,
+) -> Result<(), FileFault>
+    ensures ok { OnOk result (Appends (K.held sink.old) (K.held sink.new) (state_text (kept_of receiver.now))) }
+    ensures fault { IfErr result (λ f. IsDevice f × AppendsPrefix (K.held sink.old) (K.held sink.new) (state_text (kept_of receiver.now))) }
+    ensures counted { CountsDevice (K.failures sink.old) (K.failures sink.new) result }
+{
+    write_front(sink, receiver)?;
+    write_frames(sink, receiver)?;
+    Ok(())
+}
+
+/// Writes what stands before the frames.
+fn write_front<A: Allocator, K: ByteSink>(
+    sink: &mut K,
+    receiver: &Receiver<A>,
+) -> Result<(), DeviceFault>
+    ensures ok { OnOk result (Appends (K.held sink.old) (K.held sink.new) (front_text (kept_of receiver.now))) }
+    ensures fault { OnErr result (AppendsPrefix (K.held sink.old) (K.held sink.new) (front_text (kept_of receiver.now))) }
+    ensures counted { CountsFaults (K.failures sink.old) (K.failures sink.new) result }
+{
+    write_whole(sink, RECEIVER_ONE)?;
+    write_whole(sink, &block_of(&receiver.format()))?;
+    write_whole(sink, &head_of(receiver))
+}
+
+/// A format block.
+fn block_of(format: &Format) -> [u8; 14]
+    ensures { result ≡ format_text (fields_of format.now) }
+{
+    let mut block = [0u8; 14];
+    block[0] = match format.sampling() {
+        Sampling::Ycc422 => 0,
+        Sampling::Ycc444 => 1,
+        Sampling::Rgb => 2,
+    };
+    block[1] = format.depth().bits() as u8;
+    BigEndian::write_u16(&mut block[2..], format.width() as u16);
+    BigEndian::write_u16(&mut block[4..], format.height() as u16);
+    BigEndian::write_u32(&mut block[6..], format.n());
+    BigEndian::write_u32(&mut block[10..], format.d());
+    block
+}
+
+/// The fields behind the format block.
+fn head_of<A: Allocator>(receiver: &Receiver<A>) -> [u8; 7]
+    ensures { result ≡ opening_text (kept_of receiver.now) }
+{
+    let count = receiver.window().len() as u8;
+    opening_of(receiver.payload_type(), receiver.ssrc(), count)
+}
+
+/// A payload type, the source that is pinned or none, and how many timestamps there are.
+fn opening_of(payload_type: u8, ssrc: Option<u32>, count: u8) -> [u8; 7]
+    ensures { result ≡ payload_type ∷ (ssrc_text ssrc ++ (count ∷ [])) }
+{
+    let mut opening = [0u8; 7];
+    opening[0] = payload_type;
+    if let Some(ssrc) = ssrc {
+        opening[1] = 1;
+        BigEndian::write_u32(&mut opening[2..], ssrc);
+    }
+    opening[6] = count;
+    opening
+}
+
+/// Writes the frames, in window order.
+fn write_frames<A: Allocator, K: ByteSink>(
+    sink: &mut K,
+    receiver: &Receiver<A>,
+) -> Result<(), DeviceFault>
+    ensures ok { OnOk result (Appends (K.held sink.old) (K.held sink.new) (frames_text (kept_of receiver.now))) }
+    ensures fault { OnErr result (AppendsPrefix (K.held sink.old) (K.held sink.new) (frames_text (kept_of receiver.now))) }
+    ensures counted { CountsFaults (K.failures sink.old) (K.failures sink.new) result }
+{
+    for timestamp in receiver.window() {
+        write_frame(sink, *timestamp, receiver.frame(*timestamp).unwrap())?;
+    }
+    Ok(())
+}
+
+/// Writes a timestamp and its frame.
+fn write_frame<A: Allocator, K: ByteSink>(
+    sink: &mut K,
+    timestamp: u32,
+    frame: &Frame<A>,
+) -> Result<(), DeviceFault>
+    ensures ok { OnOk result (Appends (K.held sink.old) (K.held sink.new) (frame_text timestamp frame.now)) }
+    ensures fault { OnErr result (AppendsPrefix (K.held sink.old) (K.held sink.new) (frame_text timestamp frame.now)) }
+    ensures counted { CountsFaults (K.failures sink.old) (K.failures sink.new) result }
+{
+    write_whole(sink, &timestamp.to_be_bytes())?;
+    write_rows(sink, frame)
+}
