@@ -1,12 +1,12 @@
 -- Groups that are read and written after others.
-use Rattle.std.proofs.Common.{◌≡◌, ℕ, zero, suc, ◌+◌, ◌<◌, List, [], ◌∷◌, ◌++◌, Option, None, Some, Result, Ok, Err, refl, sym, ap, ◌∙◌, subst, append_assoc, append-nil, arith}
+use Rattle.std.proofs.Common.{◌≡◌, ℕ, zero, suc, ◌+◌, List, [], ◌∷◌, ◌++◌, Option, None, Some, Result, Ok, Err, refl, sym, ap, ◌∙◌, subst, append-nil, arith}
 use Rattle.std.specs.Io.KnownBytes.{Appends}
 use Rattle.std.proofs.KnownBytes.{Appends-trans}
 use Rattle.std.proofs.lemmas.Grind.{flat_map-append}
 use Rattle.st_format.specs.declared.cell.Cell.{Cell}
 use Rattle.st_format.specs.Device.{AppendsPrefix}
 use Rattle.capture_file.specs.declared.fault.FileFault.{FileFault}
-use Rattle.capture_file.specs.Fields.{◌>>=◌, Fails, Gives, Leaves}
+use Rattle.capture_file.specs.Fields.{◌>>=◌, Fails, Gives}
 use Rattle.capture_file.specs.Groups.{Shape, group_at, group_text, groups_at, groups_text}
 use Rattle.capture_file.proofs.Content.{if_content_weaker}
 use Rattle.capture_file.proofs.Written.{prefix_first, prefix_then}

@@ -1,5 +1,5 @@
 -- The groups of a row, and the rows of a frame, one after the other.
-use Rattle.std.proofs.Common.{◌≡◌, ℕ, zero, suc, ◌+◌, ◌-◌, ◌*◌, ◌<◌, ◌≤◌, List, [], ◌∷◌, ◌++◌, length, take, drop, drop-drop, Option, None, Some, append-nil, refl, sym, ap, ◌∙◌, subst, arith}
+use Rattle.std.proofs.Common.{◌≡◌, ℕ, ◌+◌, ◌-◌, ◌*◌, ◌<◌, List, [], ◌∷◌, ◌++◌, length, take, drop, Option, None, Some, append-nil, sym, ap, ◌∙◌, subst, arith}
 use Rattle.std.specs.Io.KnownBytes.{Appends}
 use Rattle.std.proofs.lemmas.List.{length-drop, length-take-le}
 use Rattle.st_format.specs.Raster.{IsWhole, Raster}
@@ -9,21 +9,19 @@ use Rattle.capture_file.proofs.Once.{shape_is}
 use Rattle.receiver_file.specs.Known.{shape_in}
 use Rattle.st_format.specs.declared.cell.Cell.{Cell}
 use Rattle.st_format.specs.Device.{AppendsPrefix}
-use Rattle.capture_file.specs.declared.fault.FileFault.{FileFault}
-use Rattle.capture_file.specs.Fields.{Fails, Gives}
-use Rattle.capture_file.specs.Groups.{Shape, group_at, group_text, groups_at, groups_text}
+use Rattle.capture_file.specs.Groups.{Shape, group_text, groups_text}
 use Rattle.capture_file.specs.StateFile.{cut_cells}
-use Rattle.receiver_file.proofs.CutCells.{cut_add, cut_alike, cut_none, cut_place, cut_three}
-use Rattle.receiver_file.proofs.GroupRuns.{groups_more, groups_none, groups_one, groups_one_fault, groups_stop, text_one, texts_cut, texts_more}
+use Rattle.receiver_file.proofs.CutCells.{cut_add, cut_place, cut_three}
+use Rattle.receiver_file.proofs.GroupRuns.{text_one, texts_cut, texts_more}
 
 -- the cells of a row, and one group of it
-abbrev row_from : ℕ → ℕ → List Cell → List Cell
+abbrev pub row_from : ℕ → ℕ → List Cell → List Cell
 row_from size a cells = drop (size * (a + 0)) cells
 
-abbrev group_from : ℕ → ℕ → ℕ → List Cell → List Cell
+abbrev pub group_from : ℕ → ℕ → ℕ → List Cell → List Cell
 group_from size a g cells = take size (drop (size * (a + g)) cells)
 
-cut_next : (size a g : ℕ) (cells : List Cell) → cut_cells size (g + 1) (row_from size a cells) ≡ cut_cells size g (row_from size a cells) ++ group_from size a g cells ∷ []
+pub cut_next : (size a g : ℕ) (cells : List Cell) → cut_cells size (g + 1) (row_from size a cells) ≡ cut_cells size g (row_from size a cells) ++ group_from size a g cells ∷ []
 cut_next size a g cells =
     cut_add size g 1 (row_from size a cells) ∙ ap (λ (t : List (List Cell)). cut_cells size g (row_from size a cells) ++ t) (cut_place size a g cells)
 
@@ -56,7 +54,7 @@ written_stop s size a g n cells old mid new lt p q =
     (subst (AppendsPrefix mid new) (text_one s (group_from size a g cells)) q)
 
 -- rows
-rows_next : (size per row : ℕ) (cells : List Cell) → cut_cells size ((row + 1) * per) cells ≡ cut_cells size (row * per) cells ++ cut_cells size per (row_from size (row * per) cells)
+pub rows_next : (size per row : ℕ) (cells : List Cell) → cut_cells size ((row + 1) * per) cells ≡ cut_cells size (row * per) cells ++ cut_cells size per (row_from size (row * per) cells)
 rows_next size per row cells =
     let e : (row + 1) * per ≡ row * per + per = omega arith in
     let z : size * (row * per) ≡ size * (row * per + 0) = omega arith in
@@ -65,7 +63,7 @@ rows_next size per row cells =
 rows_rest : ℕ → ℕ → ℕ → ℕ → List Cell → List (List Cell)
 rows_rest size per row h cells = cut_cells size ((h - (row + 1)) * per) (drop (size * (row * per + per)) cells)
 
-sum_rows : (per row h k : ℕ) → h ≡ (row + 1) + k → (row * per + per) + k * per ≡ h * per
+pub sum_rows : (per row h k : ℕ) → h ≡ (row + 1) + k → (row * per + per) + k * per ≡ h * per
 sum_rows per row h k e = let m : ((row + 1) + k) * per ≡ h * per = ap (λ (n : ℕ). n * per) (sym e) in let l : (row * per + per) + k * per ≡ ((row + 1) + k) * per = omega arith in l ∙ m
 
 cut_rows : (size per row h : ℕ) (cells : List Cell) → row < h → cut_cells size (h * per) cells ≡ (cut_cells size (row * per) cells ++ cut_cells size per (row_from size (row * per) cells)) ++ rows_rest size per row h cells

@@ -1,8 +1,7 @@
 //! A receiver to a sink.
-ghost use Rattle.std.specs.Prelude.{◌≡◌, ◌≤◌, ◌<◌, ◌∷◌, ◌++◌, [], length, IfErr, OnErr, OnOk};
-ghost use Rattle.std.specs.Int.{w32, to_be_bytes};
+ghost use Rattle.std.specs.Prelude.{◌≡◌, ◌∷◌, ◌++◌, [], IfErr, OnErr, OnOk};
+ghost use Rattle.std.specs.Int.{to_be_bytes};
 ghost use Rattle.std.specs.Io.KnownBytes.{Appends};
-ghost use Rattle.std.specs.List.{flat_map};
 ghost use Rattle.st_format.specs.Device.{AppendsPrefix, CountsFaults};
 ghost use Rattle.st_format.specs.Fields.{fields_of};
 ghost use Rattle.capture_file.specs.Faults.{CountsDevice, IsDevice};

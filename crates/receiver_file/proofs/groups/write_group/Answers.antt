@@ -1,4 +1,4 @@
-use Rattle.std.proofs.Common.{◌≡◌, List, ℕ}
+use Rattle.std.proofs.Common.{◌≡◌}
 use Rattle.frame_assembly.specs.Rows.{group_cells}
 use Rattle.capture_file.specs.Groups.{group_text}
 use Rattle.receiver_file.specs.Known.{known_text, shape_in}
