@@ -1,0 +1,5 @@
+pub mod Fault
+pub mod LowerFaults
+pub mod Text
+pub mod Line
+pub mod Migrating

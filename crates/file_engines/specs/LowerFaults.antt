@@ -1,0 +1,30 @@
+-- Faults of the crates below as faults that end a run: want of memory and a device's fault are told as such, and any
+-- other refusal by its subject, number and name (own).
+use Rattle.capture_file.specs.declared.fault.FileFault.{FileFault}
+use Rattle.capture_file.specs.declared.fault.FileFault.TheVariants as file
+use Rattle.packet_plan.specs.declared.plan.PlanFault.{PlanFault}
+use Rattle.packet_plan.specs.declared.plan.PlanFault.TheVariants as plan
+use Rattle.path_merge.specs.declared.fault.OpenFault.{OpenFault}
+use Rattle.path_merge.specs.declared.fault.OpenFault.TheVariants as open_fault
+use Rattle.sdp_format.specs.declared.fault.SdpFault.{SdpFault}
+use Rattle.sdp_format.specs.declared.fault.SdpFault.TheVariants as sdp
+use Rattle.file_engines.specs.declared.fault.Fault.{Fault}
+use Rattle.file_engines.specs.declared.fault.Fault.TheVariants.{Refused, Device, Memory}
+use Rattle.file_engines.specs.declared.fault.Refusal.TheVariants.{Sdp, Open, Plan, Capture}
+
+abbrev pub of_sdp : SdpFault → Fault
+of_sdp sdp.NoMemory = Memory
+of_sdp refusal = Refused (Sdp refusal)
+
+abbrev pub of_open : OpenFault → Fault
+of_open open_fault.NoMemory = Memory
+of_open refusal = Refused (Open refusal)
+
+abbrev pub of_plan : PlanFault → Fault
+of_plan plan.NoMemory = Memory
+of_plan refusal = Refused (Plan refusal)
+
+abbrev pub capture_fault : FileFault → Fault
+capture_fault file.Device = Device
+capture_fault file.NoMemory = Memory
+capture_fault refusal = Refused (Capture refusal)

@@ -1,0 +1,148 @@
+//! What ends a run before its end.
+ghost use Rattle.std.specs.Prelude.{◌≡◌};
+ghost use Rattle.file_engines.specs.LowerFaults.{capture_fault};
+
+use capture_file::FileFault;
+use packet_plan::PlanFault;
+use path_merge::OpenFault;
+use sdp_format::SdpFault;
+use st_format::DeviceFault;
+use std::alloc::AllocError;
+use std::fmt;
+
+/// What ends a run before its end.
+#[derive(Clone, Copy, Debug, PartialEq, Eq)]
+pub(crate) enum Fault {
+    /// The words or the files are refused.
+    Refused(Refusal),
+    /// A device failed.
+    Device,
+    /// Memory was wanted.
+    Memory,
+}
+
+/// Why words or files are refused.
+#[derive(Clone, Copy, Debug, PartialEq, Eq)]
+pub(crate) enum Refusal {
+    /// The text for a capture is longer than a capture's text may be.
+    MigrateSdp,
+    /// The window is no text of timestamps.
+    ReceiveWindow,
+    /// The source is neither a number nor `any`.
+    ReceiveSource,
+    /// The SDP text is longer than one that is read.
+    ReceiveSdp,
+    /// No SDP is given, and the first capture has none.
+    ReceiveNoSdp,
+    /// The SDP is refused.
+    Sdp(SdpFault),
+    /// There is no such receiver.
+    Open(OpenFault),
+    /// There is no such plan.
+    Plan(PlanFault),
+    /// A capture is refused.
+    Capture(FileFault),
+}
+
+impl From<AllocError> for Fault {
+    ghost use Rattle.std.specs.Prelude.{◌≡◌};
+    ghost use Rattle.file_engines.specs.declared.fault.Fault.TheVariants.{Memory};
+
+    ghost from_gives = { λ _ fault. fault ≡ Memory };
+
+    fn from(_: AllocError) -> Fault {
+        Fault::Memory
+    }
+}
+
+impl From<DeviceFault> for Fault {
+    ghost use Rattle.std.specs.Prelude.{◌≡◌};
+    ghost use Rattle.file_engines.specs.declared.fault.Fault.TheVariants.{Device};
+
+    ghost from_gives = { λ _ fault. fault ≡ Device };
+
+    fn from(_: DeviceFault) -> Fault {
+        Fault::Device
+    }
+}
+
+impl From<SdpFault> for Fault {
+    ghost use Rattle.std.specs.Prelude.{◌≡◌};
+    ghost use Rattle.file_engines.specs.LowerFaults.{of_sdp};
+
+    ghost from_gives = { λ refusal fault. fault ≡ of_sdp refusal };
+
+    fn from(refusal: SdpFault) -> Fault {
+        match refusal {
+            SdpFault::NoMemory => Fault::Memory,
+            refusal => Fault::Refused(Refusal::Sdp(refusal)),
+        }
+    }
+}
+
+impl From<OpenFault> for Fault {
+    ghost use Rattle.std.specs.Prelude.{◌≡◌};
+    ghost use Rattle.file_engines.specs.LowerFaults.{of_open};
+
+    ghost from_gives = { λ refusal fault. fault ≡ of_open refusal };
+
+    fn from(refusal: OpenFault) -> Fault {
+        match refusal {
+            OpenFault::NoMemory => Fault::Memory,
+            refusal => Fault::Refused(Refusal::Open(refusal)),
+        }
+    }
+}
+
+impl From<PlanFault> for Fault {
+    ghost use Rattle.std.specs.Prelude.{◌≡◌};
+    ghost use Rattle.file_engines.specs.LowerFaults.{of_plan};
+
+    ghost from_gives = { λ refusal fault. fault ≡ of_plan refusal };
+
+    fn from(refusal: PlanFault) -> Fault {
+        match refusal {
+            PlanFault::NoMemory => Fault::Memory,
+            refusal => Fault::Refused(Refusal::Plan(refusal)),
+        }
+    }
+}
+
+/// A fault of a capture.
+pub(crate) fn of_capture(fault: FileFault) -> Fault
+    ensures { result ≡ capture_fault fault }
+{
+    match fault {
+        FileFault::Device => Fault::Device,
+        FileFault::NoMemory => Fault::Memory,
+        fault => Fault::Refused(Refusal::Capture(fault)),
+    }
+}
+
+impl fmt::Display for Refusal {
+    fn fmt<W: fmt::Write>(&self, f: &mut fmt::Formatter<W>) -> fmt::Result {
+        match self {
+            Refusal::MigrateSdp => f.write_str("migrate 1 SdpTooLong"),
+            Refusal::ReceiveWindow => f.write_str("receive 1 BadWindowText"),
+            Refusal::ReceiveSource => f.write_str("receive 2 BadSource"),
+            Refusal::ReceiveSdp => f.write_str("receive 3 SdpTooLong"),
+            Refusal::ReceiveNoSdp => f.write_str("receive 4 NoSdp"),
+            Refusal::Sdp(fault) => {
+                let number = fault.number();
+                write!(f, "sdp {number} {fault}")
+            }
+            Refusal::Open(fault) => {
+                let number = fault.number();
+                write!(f, "open {number} {fault}")
+            }
+            Refusal::Plan(fault) => {
+                let number = fault.number();
+                write!(f, "plan {number} {fault}")
+            }
+            Refusal::Capture(fault) => {
+                let number = fault.number();
+                write!(f, "capture {number} {fault}")
+            }
+        }
+    }
+}

@@ -1,0 +1,11 @@
+//! The engines of the program that read and write files: captures, pictures and receivers.
+#![tactic(auto)]
+
+mod fault;
+mod line;
+mod migrate;
+mod printing;
+mod telling;
+mod text;
+
+pub use migrate::run_migrate;

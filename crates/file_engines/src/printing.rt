@@ -1,0 +1,44 @@
+//! Printing what a run says.
+ghost use Rattle.std.specs.Prelude.{◌∷◌, []};
+ghost use Rattle.file_engines.specs.Fault.{Accounts, counts};
+
+use crate::fault::Fault;
+use crate::line::Line;
+use path_merge::Receiver;
+use st_format::{ByteSink, write_whole};
+use std::alloc::Allocator;
+use tool_text::FrameLine;
+
+/// Prints a line for the frame of each timestamp of a receiver's window.
+pub(crate) fn print_frames<A: Allocator, O: ByteSink>(
+    receiver: &Receiver<A>,
+    output: &mut O,
+    text: &mut String<A>,
+) -> Result<(), Fault>
+    ensures { Accounts result (counts (O.failures output.old) (O.failures output.new) ∷ []) }
+{
+    for timestamp in receiver.window() {
+        if let Some(frame) = receiver.frame(*timestamp) {
+            let line = FrameLine {
+                timestamp: *timestamp,
+                counts: frame.counts(),
+            };
+            print(Line::Frame(line), output, text)?;
+        }
+    }
+    Ok(())
+}
+
+/// Prints a line.
+pub(crate) fn print<A: Allocator, O: ByteSink>(
+    line: Line,
+    output: &mut O,
+    text: &mut String<A>,
+) -> Result<(), Fault>
+    ensures { Accounts result (counts (O.failures output.old) (O.failures output.new) ∷ []) }
+{
+    text.clear();
+    writeln!(text, "{line}")?;
+    write_whole(output, text.as_bytes())?;
+    Ok(())
+}

@@ -1,0 +1,62 @@
+//! Texts that are read whole, and SDP among them.
+ghost use Rattle.std.specs.Prelude.{◌≡◌, ◌≤◌, ◌<◌, ◌∷◌, [], length, vec_len, IfErr, IfOk, MatchOption};
+ghost use Rattle.std.specs.Io.KnownBytes.{Consumes, IsAtEnd};
+ghost use Rattle.file_engines.specs.Fault.{Accounts, counts};
+ghost use Rattle.file_engines.specs.Text.{GivesMore, GivesText};
+
+use crate::fault::Fault;
+use st_format::{ByteSource, read_whole};
+use std::alloc::{AllocError, Allocator};
+
+/// The greatest number of octets of a capture's text, and of a datagram.
+pub(crate) const CAPTURE_TEXT: usize = 65_535;
+
+/// Reads a source to its end, and answers what it gave, or none where that is more than so many octets.
+pub(crate) fn read_text<A: Allocator, S: ByteSource>(
+    alloc: A,
+    source: &mut S,
+    most: usize,
+) -> Result<Option<Vec<u8, A>>, Fault>
+    requires { most ≤ 16777216 }
+    ensures read { IfOk result (λ said. MatchOption said
+        (GivesMore most (S.to_give source.old) (S.to_give source.new))
+        (λ text. GivesText most (S.to_give source.old) (S.to_give source.new) text.items)) }
+    ensures failures { Accounts result (counts (S.failures source.old) (S.failures source.new) ∷ []) }
+{
+    let octets = read_past(alloc, source, most)?;
+    if octets.len() <= most {
+        Ok(Some(octets))
+    } else {
+        Ok(None)
+    }
+}
+
+/// Reads a source to its end, or until it gave more than so many octets.
+fn read_past<A: Allocator, S: ByteSource>(
+    alloc: A,
+    source: &mut S,
+    most: usize,
+) -> Result<Vec<u8, A>, Fault>
+    requires { most ≤ 16777216 }
+    ensures given { IfOk result (λ octets. Consumes (S.to_give source.old) (S.to_give source.new) octets.items) }
+    ensures whole { IfOk result (λ octets. length octets.items ≤ most → IsAtEnd (S.to_give source.new)) }
+    ensures failures { Accounts result (counts (S.failures source.old) (S.failures source.new) ∷ []) }
+{
+    let mut octets = Vec::new(alloc);
+    let mut piece = [0u8; 4096];
+    while octets.len() <= most {
+        let n = read_whole(source, &mut piece)?;
+        octets.extend_from_slice(&piece[..n])?;
+        if n < piece.len() {
+            return Ok(octets);
+        }
+    }
+    Ok(octets)
+}
+
+/// Room for the octets of any datagram, and of a capture's text.
+pub(crate) fn room<A: Allocator>(alloc: A) -> Result<Vec<u8, A>, AllocError>
+    ensures { IfOk result (λ room. vec_len room ≡ 65535) }
+{
+    vec![in alloc; 0u8; CAPTURE_TEXT]
+}

@@ -1,0 +1,6 @@
+pub mod Status
+pub mod Number
+pub mod Fields
+pub mod Timestamps
+pub mod Telling
+pub mod Frames
