@@ -1,12 +1,15 @@
 //! The program `st2110`: words in, a status out.
 #![tactic(auto)]
 
+mod commands;
+mod files;
+mod runs;
 mod streams;
 mod words;
 
-use crate::streams::{InputSource, OutputSink};
+use crate::runs::{migrate, rehearse, sdp, trace};
 use crate::words::{Words, WordsFault, given_words, read_words};
-use st2110_tool::{Status, run_rehearse, run_sdp, run_trace};
+use st2110_tool::Status;
 use std::process::ExitCode;
 
 fn main(rt: HostRuntime) -> ExitCode {
@@ -23,32 +26,9 @@ fn run(rt: &HostRuntime) -> u8 {
         Ok(Words::Trace) => trace(rt),
         Ok(Words::Sdp) => sdp(rt),
         Ok(Words::Rehearse) => rehearse(rt),
+        Ok(Words::Migrate(words)) => migrate(rt, words),
         Err(fault) => refuse(rt, &fault).number(),
     }
-}
-
-/// Runs the script on standard input.
-fn trace(rt: &HostRuntime) -> u8 {
-    let mut input = InputSource::new(rt.stdin());
-    let mut output = OutputSink::new(rt.stdout());
-    let mut faults = OutputSink::new(rt.stderr());
-    run_trace(rt.alloc(), &mut input, &mut output, &mut faults)
-}
-
-/// Tells the canonical line of the SDP on standard input.
-fn sdp(rt: &HostRuntime) -> u8 {
-    let mut input = InputSource::new(rt.stdin());
-    let mut output = OutputSink::new(rt.stdout());
-    let mut faults = OutputSink::new(rt.stderr());
-    run_sdp(rt.alloc(), &mut input, &mut output, &mut faults)
-}
-
-/// Plays the schedule on standard input.
-fn rehearse(rt: &HostRuntime) -> u8 {
-    let mut input = InputSource::new(rt.stdin());
-    let mut output = OutputSink::new(rt.stdout());
-    let mut faults = OutputSink::new(rt.stderr());
-    run_rehearse(rt.alloc(), &mut input, &mut output, &mut faults)
 }
 
 /// Prints why the words are not followed: help and version to standard output, all else to standard error.

@@ -1,19 +1,30 @@
 //! The words of the command line.
+use crate::commands::program;
 use clap::error::ErrorKind;
-use clap::{Command, Error};
+use clap::{ArgMatches, Error};
 use std::alloc::{AllocError, Global};
 use std::rt::Env;
 use std::{env, io};
 
 /// What the command line asks for.
-#[derive(Clone, Copy, Debug, PartialEq, Eq)]
-pub enum Words {
+#[derive(Clone, Copy)]
+pub enum Words<'a> {
     /// Run the script on standard input.
     Trace,
     /// Read the SDP text on standard input.
     Sdp,
     /// Play the schedule on standard input.
     Rehearse,
+    /// Write a capture of version 01 as one of version 02.
+    Migrate(MigrateWords<'a>),
+}
+
+/// The words behind `migrate`: names of files.
+#[derive(Clone, Copy)]
+pub struct MigrateWords<'a> {
+    pub sdp: &'a str,
+    pub out: &'a str,
+    pub capture: &'a str,
 }
 
 /// Why the words are not followed.
@@ -60,44 +71,26 @@ pub fn given_words<R: Env + AllocGlobal>(rt: &R) -> Result<Vec<String>, WordsFau
 }
 
 /// Reads the words; without any behind the program's name the command is `trace`.
-pub fn read_words(alloc: Global, words: &[String]) -> Result<Words, WordsFault> {
+pub fn read_words(alloc: Global, words: &[String]) -> Result<Words<'_>, WordsFault> {
     let matches = program(alloc)?.try_get_matches_from(words)?;
     Ok(match matches.subcommand() {
         Some(("sdp", _)) => Words::Sdp,
         Some(("rehearse", _)) => Words::Rehearse,
+        Some(("migrate", given)) => Words::Migrate(migrate_words(given)),
         // clap lets `trace` and no words through, and nothing else.
         _ => Words::Trace,
     })
 }
 
-fn program<'a>(alloc: Global) -> Result<Command<'a>, AllocError> {
-    let named = Command::new(alloc, "st2110")
-        .version("0.1")
-        .about("Uncompressed studio video over redundant paths")
-        .bin_name("st2110")?;
-    let named = with_command(named, trace_command(alloc))?;
-    let named = with_command(named, sdp_command(alloc))?;
-    with_command(named, rehearse_command(alloc))
+fn migrate_words<'a>(given: &ArgMatches<'a>) -> MigrateWords<'a> {
+    MigrateWords {
+        sdp: word(given, "sdp"),
+        out: word(given, "out"),
+        capture: word(given, "capture"),
+    }
 }
 
-fn with_command<'a>(program: Command<'a>, command: Command<'a>) -> Result<Command<'a>, AllocError> {
-    program.subcommand(command)
-}
-
-fn trace_command<'a>(alloc: Global) -> Command<'a> {
-    Command::new(alloc, "trace").about(
-        "Runs a script of datagrams on standard input, and prints what a receiver makes of them",
-    )
-}
-
-fn sdp_command<'a>(alloc: Global) -> Command<'a> {
-    Command::new(alloc, "sdp").about(
-        "Reads an SDP text on standard input, and prints its canonical fmtp line or the first fault",
-    )
-}
-
-fn rehearse_command<'a>(alloc: Global) -> Command<'a> {
-    Command::new(alloc, "rehearse").about(
-        "Plays a schedule of sends, arrivals, slides and merges on standard input, and prints what each receiver has",
-    )
+/// The word of an option that has one: clap asks for it, or has a default.
+fn word<'a>(given: &ArgMatches<'a>, id: &str) -> &'a str {
+    given.get_str(id).unwrap_or("")
 }

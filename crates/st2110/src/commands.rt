@@ -1,0 +1,62 @@
+//! The commands of the program and their options, with help for a person.
+use clap::{Arg, Command};
+use std::alloc::{AllocError, Global};
+
+/// The program with its commands.
+pub fn program<'a>(alloc: Global) -> Result<Command<'a>, AllocError> {
+    let named = Command::new(alloc, "st2110")
+        .version("0.1")
+        .about("Uncompressed studio video over redundant paths")
+        .bin_name("st2110")?;
+    let named = with_command(named, trace_command(alloc))?;
+    let named = with_command(named, sdp_command(alloc))?;
+    let named = with_command(named, rehearse_command(alloc))?;
+    with_command(named, migrate_command(alloc)?)
+}
+
+fn with_command<'a>(program: Command<'a>, command: Command<'a>) -> Result<Command<'a>, AllocError> {
+    program.subcommand(command)
+}
+
+fn trace_command<'a>(alloc: Global) -> Command<'a> {
+    Command::new(alloc, "trace").about(
+        "Runs a script of datagrams on standard input, and prints what a receiver makes of them",
+    )
+}
+
+fn sdp_command<'a>(alloc: Global) -> Command<'a> {
+    Command::new(alloc, "sdp").about(
+        "Reads an SDP text on standard input, and prints its canonical fmtp line or the first fault",
+    )
+}
+
+fn rehearse_command<'a>(alloc: Global) -> Command<'a> {
+    Command::new(alloc, "rehearse").about(
+        "Plays a schedule of sends, arrivals, slides and merges on standard input, and prints what each receiver has",
+    )
+}
+
+fn migrate_command<'a>(alloc: Global) -> Result<Command<'a>, AllocError> {
+    Command::new(alloc, "migrate")
+        .about(
+            "Writes a capture of version 01 as one of version 02, with an SDP text, and prints how many records it has",
+        )
+        .arg(required(alloc, "sdp", "FILE").help("SDP text that the new capture has"))?
+        .arg(required(alloc, "out", "FILE").help("Where the new capture is written"))?
+        .arg(
+            Arg::new(alloc, "capture")
+                .value_name("CAPTURE")
+                .required(true)
+                .help("Capture of version 01"),
+        )
+}
+
+/// An option with a value.
+fn optional<'a>(alloc: Global, name: &'a str, value: &'a str) -> Arg<'a> {
+    Arg::new(alloc, name).long(name).value_name(value)
+}
+
+/// An option with a value that has to be given.
+fn required<'a>(alloc: Global, name: &'a str, value: &'a str) -> Arg<'a> {
+    optional(alloc, name, value).required(true)
+}

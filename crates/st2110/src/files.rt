@@ -1,0 +1,146 @@
+//! Files as devices. They tell no octets.
+//!
+//! A file is opened where its first octets are wanted and closed at its end, so that a long list of files has one
+//! open at a time, and one that is refused before it is read, or written, is not touched.
+ghost use Rattle.std.specs.Prelude.{◌≡◌, ◌≤◌, length, None, IfOk};
+
+use st_format::{ByteSink, ByteSource, DeviceFault};
+use std::fs::{self, File};
+use std::io::{self, BufReader, BufWriter, Read, Write};
+
+/// How many octets a buffer before a file has.
+const BUFFER: usize = 1 << 18;
+
+/// A file that is read, by its name.
+#[derive(Drop)]
+pub struct FileSource<'a> {
+    rt: &'a HostRuntime,
+    name: &'a str,
+    place: Place,
+    failures: u64,
+}
+
+/// Where the reading of a file stands.
+#[derive(Drop)]
+enum Place {
+    /// The file isn't open yet.
+    Front,
+    /// It is open.
+    Within(BufReader<File>),
+    /// It was read to its end, and closed.
+    Past,
+}
+
+impl<'a> FileSource<'a> {
+    /// The file of this name, which isn't looked at yet.
+    pub fn new(rt: &'a HostRuntime, name: &'a str) -> Self
+        ensures { ⟦<FileSource<'a> as ByteSource>⟧.failures result ≡ 0 }
+    {
+        FileSource {
+            rt,
+            name,
+            place: Place::Front,
+            failures: 0,
+        }
+    }
+
+    fn read_file(&mut self, buf: &mut [u8]) -> io::Result<usize>
+        ensures room { length buf.new ≡ length buf.old }
+        ensures within { IfOk result (λ n. n ≤ length buf.new) }
+        ensures failures { self.new.failures ≡ self.old.failures }
+    {
+        if let Place::Front = self.place {
+            let file = fs::open(self.rt, self.name)?;
+            let reader = BufReader::with_capacity(self.rt.alloc(), BUFFER, file)?;
+            self.place = Place::Within(reader);
+        }
+        let Place::Within(file) = &mut self.place else {
+            return Ok(0);
+        };
+        let n = file.read(buf)?;
+        if n == 0 && !buf.is_empty() {
+            self.place = Place::Past;
+        }
+        Ok(n)
+    }
+}
+
+impl<'a> ByteSource for FileSource<'a> {
+    ghost to_give = { λ _. None };
+
+    ghost failures = { λ s. s.failures };
+
+    /// A file that can't be opened, and a buffer for which there is no memory, are failures too.
+    fn read(&mut self, buf: &mut [u8]) -> Result<usize, DeviceFault> {
+        match self.read_file(buf) {
+            Ok(n) => Ok(n),
+            Err(_) => {
+                self.failures = self.failures.saturating_add(1);
+                Err(DeviceFault)
+            }
+        }
+    }
+}
+
+/// A file that is written, by its name.
+#[derive(Drop)]
+pub struct FileSink<'a> {
+    rt: &'a HostRuntime,
+    name: &'a str,
+    file: Option<BufWriter<File>>,
+    failures: u64,
+}
+
+impl<'a> FileSink<'a> {
+    /// The file of this name, which is made, or emptied, at the first write.
+    pub fn new(rt: &'a HostRuntime, name: &'a str) -> Self
+        ensures { ⟦<FileSink<'a> as ByteSink>⟧.failures result ≡ 0 }
+    {
+        FileSink {
+            rt,
+            name,
+            file: None,
+            failures: 0,
+        }
+    }
+
+    /// Writes out what was buffered, and tells whether that succeeded. Nothing is flushed where nothing was written.
+    pub fn finish(mut self) -> bool {
+        match &mut self.file {
+            Some(file) => file.flush().is_ok(),
+            None => true,
+        }
+    }
+
+    fn write_file(&mut self, octets: &[u8]) -> io::Result<usize>
+        ensures within { IfOk result (λ n. n ≤ length octets.now) }
+        ensures failures { self.new.failures ≡ self.old.failures }
+    {
+        if self.file.is_none() {
+            let file = fs::create(self.rt, self.name)?;
+            self.file = Some(BufWriter::with_capacity(self.rt.alloc(), BUFFER, file)?);
+        }
+        match &mut self.file {
+            Some(file) => file.write(octets),
+            None => Ok(0),
+        }
+    }
+}
+
+impl<'a> ByteSink for FileSink<'a> {
+    ghost held = { λ _. None };
+
+    ghost failures = { λ s. s.failures };
+
+    /// A write of no octets of some is a failure, and so are a file that can't be made and a buffer for which there
+    /// is no memory.
+    fn write(&mut self, octets: &[u8]) -> Result<usize, DeviceFault> {
+        match self.write_file(octets) {
+            Ok(n) if n > 0 || octets.is_empty() => Ok(n),
+            _ => {
+                self.failures = self.failures.saturating_add(1);
+                Err(DeviceFault)
+            }
+        }
+    }
+}

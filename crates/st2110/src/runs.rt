@@ -1,0 +1,60 @@
+//! The commands, each with the real devices that its engine works on.
+use crate::files::{FileSink, FileSource};
+use crate::streams::{InputSource, OutputSink};
+use crate::words::MigrateWords;
+use file_engines::run_migrate;
+use st2110_tool::{Status, run_rehearse, run_sdp, run_trace};
+
+/// Runs the script on standard input.
+pub fn trace(rt: &HostRuntime) -> u8 {
+    let mut input = InputSource::new(rt.stdin());
+    let mut output = OutputSink::new(rt.stdout());
+    let mut faults = OutputSink::new(rt.stderr());
+    run_trace(rt.alloc(), &mut input, &mut output, &mut faults)
+}
+
+/// Tells the canonical line of the SDP on standard input.
+pub fn sdp(rt: &HostRuntime) -> u8 {
+    let mut input = InputSource::new(rt.stdin());
+    let mut output = OutputSink::new(rt.stdout());
+    let mut faults = OutputSink::new(rt.stderr());
+    run_sdp(rt.alloc(), &mut input, &mut output, &mut faults)
+}
+
+/// Plays the schedule on standard input.
+pub fn rehearse(rt: &HostRuntime) -> u8 {
+    let mut input = InputSource::new(rt.stdin());
+    let mut output = OutputSink::new(rt.stdout());
+    let mut faults = OutputSink::new(rt.stderr());
+    run_rehearse(rt.alloc(), &mut input, &mut output, &mut faults)
+}
+
+/// Writes a capture of version 01 as one of version 02.
+pub fn migrate(rt: &HostRuntime, words: MigrateWords<'_>) -> u8 {
+    let mut sdp = FileSource::new(rt, words.sdp);
+    let mut capture = FileSource::new(rt, words.capture);
+    let mut out = FileSink::new(rt, words.out);
+    let mut output = OutputSink::new(rt.stdout());
+    let mut faults = OutputSink::new(rt.stderr());
+    let status = run_migrate(
+        rt.alloc(),
+        &mut sdp,
+        &mut capture,
+        &mut out,
+        &mut output,
+        &mut faults,
+    );
+    finish(rt, status, out)
+}
+
+/// Writes out what a file's buffer holds. Where that fails, which the engine can't know, the run ends by a device's
+/// fault.
+fn finish(rt: &HostRuntime, status: u8, file: FileSink<'_>) -> u8 {
+    let device = Status::Device.number();
+    if file.finish() || status == device {
+        return status;
+    }
+    // That standard error may fail too changes nothing
+    let _ = eprintln!(rt; "st2110: device");
+    device
+}

@@ -1,0 +1,103 @@
+#!/bin/sh
+# Starts the built program, ./st2110 at the root or the one that is named, and compares status, output, faults and
+# written files with what they must be. Prints a line for each test, and last 'N passed, M failed'.
+root=$(cd "$(dirname "$0")/.." && pwd) || exit 125
+program=${1:-$root/st2110}
+case $program in
+    /*) ;;
+    *) program=$(pwd)/$program ;;
+esac
+room=$(mktemp -d) || exit 125
+trap 'rm -rf "$room"' EXIT
+cd "$room" || exit 125
+passed=0
+failed=0
+
+# Counts a test that passed, or one that failed for a reason.
+pass() {
+    passed=$((passed + 1))
+    echo "passed: $1"
+}
+fail() {
+    failed=$((failed + 1))
+    echo "FAILED: $1: $2"
+}
+
+# Writes octets that are given as hexadecimal digits, with spaces anywhere.
+octets() {
+    digits=$(printf '%s' "$*" | tr -d ' \n')
+    while [ -n "$digits" ]; do
+        rest=${digits#??}
+        printf "\\$(printf '%03o' "0x${digits%"$rest"}")"
+        digits=$rest
+    done
+}
+
+# Runs the program: its output, faults and status are then in the files out, err and the variable status.
+run() {
+    "$program" "$@" >out 2>err </dev/null
+    status=$?
+}
+
+# says NAME STATUS OUTPUT FAULTS: whether the last run ended so. An empty text stands for nothing at all.
+says() {
+    name=$1
+    if [ "$status" != "$2" ]; then
+        fail "$name" "status $status in place of $2: $(head -c 200 err)"
+        return
+    fi
+    expect "$3" >want.out
+    expect "$4" >want.err
+    if ! cmp -s out want.out; then
+        fail "$name" "output '$(head -c 300 out)' in place of '$3'"
+    elif ! cmp -s err want.err; then
+        fail "$name" "faults '$(head -c 300 err)' in place of '$4'"
+    else
+        pass "$name"
+    fi
+}
+expect() {
+    [ -z "$1" ] || printf '%s\n' "$1"
+}
+
+# holds NAME FILE DIGITS: whether a file has just these octets.
+holds() {
+    octets "$3" >want.file
+    if cmp -s "$2" want.file; then
+        pass "$1"
+    else
+        fail "$1" "$2 holds $(od -An -v -tx1 "$2" 2>&1 | tr -d ' \n' | head -c 300)"
+    fi
+}
+
+# none NAME FILE: whether there is no such file.
+none() {
+    if [ -e "$2" ]; then
+        fail "$1" "$2 is there"
+    else
+        pass "$1"
+    fi
+}
+
+u=8010801180128013
+l=8014801580168017
+d1="80E00001000003840000000100000008000000008010801180128013"
+old_head="5332304341503031 00 0000000000000000 001C"
+frame='frame 900 present 8 missing 8 contested 0'
+
+# The SDP text Q of the worked examples, and a capture of version 01 of one record, d1 by path A.
+cat >q.sdp <<'END'
+m=video 5004 RTP/AVP 96
+a=rtpmap:96 raw/90000
+a=fmtp:96 sampling=YCbCr-4:2:2; width=4; height=2; exactframerate=60; depth=8; colorimetry=BT709; PM=2110GPM; SSN=ST2110-20:2017
+END
+octets "$old_head $d1" >old.cap
+
+for part in text migrate receive send merge; do
+    if [ -f "$root/tests/program/$part.sh" ]; then
+        . "$root/tests/program/$part.sh"
+    fi
+done
+
+echo "$passed passed, $failed failed"
+[ "$failed" = 0 ]
