@@ -1,0 +1,2 @@
+pub mod ReaderFaults
+pub mod CaptureSums

@@ -3,3 +3,4 @@ pub mod LowerFaults
 pub mod Text
 pub mod Line
 pub mod Migrating
+pub mod Receiving

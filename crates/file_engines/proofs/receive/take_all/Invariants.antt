@@ -1,0 +1,9 @@
+use Rattle.std.proofs.Common.{◌≡◌, vec_len}
+use Rattle.std.specs.List.{sum_by}
+use Rattle.file_engines.proofs.receive.take_all.Given as goal
+
+abbrev pub invariant-loop : goal.invariant-loop
+invariant-loop g l = record {
+  len : vec_len l.captures ≡ vec_len l.initial.captures;
+  failures : sum_by g.S.ByteSource.failures l.captures.items ≡ sum_by g.S.ByteSource.failures l.initial.captures.items;
+}

@@ -1,0 +1,290 @@
+//! The engine of `receive`.
+ghost use Rattle.std.specs.Prelude.{◌≡◌, ◌≢◌, ◌≤◌, ◌<◌, ◌⊎◌, ◌∷◌, [], IfOk, OnOk, length, vec_len, sum_by};
+ghost use Rattle.std.specs.Io.KnownBytes.{Appends};
+ghost use Rattle.file_engines.specs.Fault.{Accounts, NoneFailed, OneFailed, counts};
+ghost use Rattle.file_engines.specs.Receiving.{failures_in};
+ghost use Rattle.tool_text.specs.Telling.{memory_line};
+
+use crate::fault::{Fault, Refusal, of_capture};
+use crate::line::Line;
+use crate::printing::{print, print_frames};
+use crate::session::Session;
+use crate::tally::{REFUSALS, Tally};
+use crate::telling::tell;
+use crate::text::{read_text, room};
+use capture_file::CaptureReader;
+use st_format::{ByteSink, ByteSource};
+use std::alloc::Allocator;
+use tool_text::{LINE, Status, read_number, read_timestamps, tell_memory};
+
+/// The greatest number of octets of an SDP's file (own).
+const SDP: usize = 16_777_216;
+
+/// What `receive` is asked for, beside its files.
+#[derive(Clone, Copy, Debug, PartialEq, Eq)]
+pub struct Wanted<'a> {
+    /// Timestamps with commas between.
+    pub window: &'a [u8],
+    /// The number of the one source to take datagrams of, or `any`.
+    pub ssrc: &'a [u8],
+    /// Whether refusals are told.
+    pub tells_refusals: bool,
+}
+
+/// What is received with: the timestamps and the source that are asked for.
+#[derive(Drop)]
+struct Opening<A: Allocator> {
+    window: Vec<u32, A>,
+    ssrc: Option<u32>,
+}
+
+/// Takes the datagrams of captures into one receiver.
+///
+/// The receiver is opened by the SDP text of `sdp`, of at most 16,777,216 octets, or, where there is none, by that of
+/// the first capture. Then the captures' datagrams are taken, one capture after the other. `delivered N` is printed to
+/// `output`, then, where they are wanted, how many datagrams were refused for which reason, and then a line for the
+/// frame of each timestamp.
+///
+/// The status is 0; or 1 where a word, the SDP, the opening or a capture is refused, 3 where a device failed, and 4
+/// where the allocator refused memory, which `faults` is told by one line. The captures' sources stay in their order
+/// where the status is 0, and else stand in some turn of it.
+pub fn run_receive<A, S, O, F>(
+    alloc: A,
+    wanted: Wanted<'_>,
+    sdp: &mut Option<S>,
+    captures: &mut Vec<S, A>,
+    output: &mut O,
+    faults: &mut F,
+) -> u8
+where
+    A: Allocator + Copy,
+    S: ByteSource,
+    O: ByteSink,
+    F: ByteSink,
+    ensures range { (result ≡ 0) ⊎ (result ≡ 1) ⊎ (result ≡ 3) ⊎ (result ≡ 4) }
+    ensures device { result ≡ 3 → OneFailed (counts (failures_in S.failures sdp.old) (failures_in S.failures sdp.new) ∷ counts (sum_by S.failures captures.old.items) (sum_by S.failures captures.new.items) ∷ counts (O.failures output.old) (O.failures output.new) ∷ counts (F.failures faults.old) (F.failures faults.new) ∷ []) }
+    ensures silent { result ≡ 0 → faults.new ≡ faults.old }
+    ensures memory { result ≡ 4 → Appends (F.held faults.old) (F.held faults.new) memory_line }
+{
+    let Ok(mut text) = String::with_capacity(alloc, LINE) else {
+        return tell_memory(faults).number();
+    };
+    match receive(alloc, wanted, sdp, captures, output, &mut text) {
+        Ok(()) => Status::Done.number(),
+        Err(fault) => tell(fault, &mut text, faults).number(),
+    }
+}
+
+fn receive<A, S, O>(
+    alloc: A,
+    wanted: Wanted<'_>,
+    sdp: &mut Option<S>,
+    captures: &mut Vec<S, A>,
+    output: &mut O,
+    text: &mut String<A>,
+) -> Result<(), Fault>
+where
+    A: Allocator + Copy,
+    S: ByteSource,
+    O: ByteSink,
+    ensures failures { Accounts result (counts (failures_in S.failures sdp.old) (failures_in S.failures sdp.new) ∷ counts (sum_by S.failures captures.old.items) (sum_by S.failures captures.new.items) ∷ counts (O.failures output.old) (O.failures output.new) ∷ []) }
+{
+    let opening = read_opening(alloc, wanted)?;
+    let begun = begin(alloc, &opening, sdp)?;
+    let session = take_captures(alloc, &opening, begun, captures)?;
+    print_session(&session, wanted.tells_refusals, output, text)
+}
+
+/// Reads the words.
+fn read_opening<A: Allocator + Copy>(alloc: A, wanted: Wanted<'_>) -> Result<Opening<A>, Fault>
+    ensures { Accounts result [] }
+{
+    let Some(window) = read_timestamps(alloc, wanted.window)? else {
+        return Err(Fault::Refused(Refusal::ReceiveWindow));
+    };
+    let Some(ssrc) = read_source(wanted.ssrc) else {
+        return Err(Fault::Refused(Refusal::ReceiveSource));
+    };
+    Ok(Opening { window, ssrc })
+}
+
+/// A source that is pinned, or none.
+fn read_source(text: &[u8]) -> Option<Option<u32>> {
+    if text == b"any".as_slice() {
+        return Some(None);
+    }
+    Some(Some(read_number(text)?))
+}
+
+/// Opens a receiver by the SDP, where there is one.
+fn begin<A: Allocator + Copy, S: ByteSource>(
+    alloc: A,
+    opening: &Opening<A>,
+    sdp: &mut Option<S>,
+) -> Result<Option<Session<A>>, Fault>
+    ensures { Accounts result (counts (failures_in S.failures sdp.old) (failures_in S.failures sdp.new) ∷ []) }
+{
+    match sdp {
+        None => Ok(None),
+        Some(source) => match open_by_sdp(alloc, opening, source) {
+            Ok(session) => Ok(Some(session)),
+            Err(fault) => Err(fault),
+        },
+    }
+}
+
+/// Opens a receiver by an SDP text.
+fn open_by_sdp<A: Allocator + Copy, S: ByteSource>(
+    alloc: A,
+    opening: &Opening<A>,
+    source: &mut S,
+) -> Result<Session<A>, Fault>
+    ensures { Accounts result (counts (S.failures source.old) (S.failures source.new) ∷ []) }
+{
+    let Some(said) = read_text(alloc, source, SDP)? else {
+        return Err(Fault::Refused(Refusal::ReceiveSdp));
+    };
+    Session::open(alloc, &said, opening.ssrc, &opening.window)
+}
+
+/// Takes all captures.
+fn take_captures<A: Allocator + Copy, S: ByteSource>(
+    alloc: A,
+    opening: &Opening<A>,
+    mut begun: Option<Session<A>>,
+    captures: &mut Vec<S, A>,
+) -> Result<Session<A>, Fault>
+    ensures { Accounts result (counts (sum_by S.failures captures.old.items) (sum_by S.failures captures.new.items) ∷ []) }
+{
+    let mut buf = room(alloc)?;
+    let mut said = room(alloc)?;
+    take_all(alloc, opening, &mut begun, captures, &mut said, &mut buf)?;
+    match begun {
+        Some(session) => Ok(session),
+        None => Err(Fault::Refused(Refusal::ReceiveNoSdp)),
+    }
+}
+
+/// Takes all captures, each by way of the two rooms: one for its text, and one for its datagrams.
+fn take_all<A: Allocator + Copy, S: ByteSource>(
+    alloc: A,
+    opening: &Opening<A>,
+    begun: &mut Option<Session<A>>,
+    captures: &mut Vec<S, A>,
+    said: &mut [u8],
+    buf: &mut [u8],
+) -> Result<(), Fault>
+    requires text { 65535 ≤ length said.old }
+    requires room { 65535 ≤ length buf.old }
+    ensures failures { Accounts result (counts (sum_by S.failures captures.old.items) (sum_by S.failures captures.new.items) ∷ []) }
+{
+    let count = captures.len();
+    for _ in 0..count {
+        take_next(alloc, opening, begun, captures, said, buf)?;
+    }
+    Ok(())
+}
+
+/// Takes the capture that stands first, which then stands last.
+fn take_next<A: Allocator + Copy, S: ByteSource>(
+    alloc: A,
+    opening: &Opening<A>,
+    begun: &mut Option<Session<A>>,
+    captures: &mut Vec<S, A>,
+    said: &mut [u8],
+    buf: &mut [u8],
+) -> Result<(), Fault>
+    requires some { 0 < vec_len captures.old }
+    requires text { 65535 ≤ length said.old }
+    requires room { 65535 ≤ length buf.old }
+    ensures text { length said.new ≡ length said.old }
+    ensures room { length buf.new ≡ length buf.old }
+    ensures len { vec_len captures.new ≡ vec_len captures.old }
+    ensures failures { Accounts result (counts (sum_by S.failures captures.old.items) (sum_by S.failures captures.new.items) ∷ []) }
+{
+    let capture = captures.remove(0);
+    let (capture, outcome) = take_one(alloc, opening, begun, capture, said, buf);
+    captures.push(capture).unwrap();
+    outcome
+}
+
+/// Takes a capture, and gives its source back. Where no receiver is open yet, its text opens one.
+fn take_one<A: Allocator + Copy, S: ByteSource>(
+    alloc: A,
+    opening: &Opening<A>,
+    begun: &mut Option<Session<A>>,
+    capture: S,
+    said: &mut [u8],
+    buf: &mut [u8],
+) -> (S, Result<(), Fault>)
+    requires text { 65535 ≤ length said.old }
+    requires room { 65535 ≤ length buf.old }
+    ensures text { length said.new ≡ length said.old }
+    ensures room { length buf.new ≡ length buf.old }
+    ensures failures { Accounts result.1 (counts (S.failures capture) (S.failures result.0) ∷ []) }
+{
+    let reader = match CaptureReader::open(capture, said) {
+        Ok(reader) => reader,
+        Err((fault, capture)) => return (capture, Err(of_capture(fault))),
+    };
+    if begun.is_none() {
+        match open_by_text(alloc, opening, &said[..reader.text_len()]) {
+            Ok(session) => *begun = Some(session),
+            Err(fault) => return (reader.into_inner(), Err(fault)),
+        }
+    }
+    match begun {
+        Some(session) => session.take_capture(reader, buf),
+        None => (reader.into_inner(), Ok(())),
+    }
+}
+
+/// Opens a receiver by a capture's text.
+fn open_by_text<A: Allocator + Copy>(
+    alloc: A,
+    opening: &Opening<A>,
+    said: &[u8],
+) -> Result<Session<A>, Fault>
+    ensures { Accounts result [] }
+{
+    if said.is_empty() {
+        return Err(Fault::Refused(Refusal::ReceiveNoSdp));
+    }
+    Session::open(alloc, said, opening.ssrc, &opening.window)
+}
+
+/// Prints what was delivered, and what is then known.
+fn print_session<A: Allocator, O: ByteSink>(
+    session: &Session<A>,
+    tells_refusals: bool,
+    output: &mut O,
+    text: &mut String<A>,
+) -> Result<(), Fault>
+    ensures { Accounts result (counts (O.failures output.old) (O.failures output.new) ∷ []) }
+{
+    print(Line::Delivered(session.delivered), output, text)?;
+    if tells_refusals {
+        print_tally(&session.tally, output, text)?;
+    }
+    print_frames(&session.receiver, output, text)
+}
+
+/// Prints how many datagrams were refused, for each reason that came, and how many were outside the window.
+fn print_tally<A: Allocator, O: ByteSink>(
+    tally: &Tally,
+    output: &mut O,
+    text: &mut String<A>,
+) -> Result<(), Fault>
+    ensures { Accounts result (counts (O.failures output.old) (O.failures output.new) ∷ []) }
+{
+    for place in 0..REFUSALS.len() {
+        let count = tally.refused[place];
+        if count > 0 {
+            print(Line::Refused(REFUSALS[place], count), output, text)?;
+        }
+    }
+    if tally.outside > 0 {
+        print(Line::Outside(tally.outside), output, text)?;
+    }
+    Ok(())
+}

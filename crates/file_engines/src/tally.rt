@@ -1,0 +1,54 @@
+//! Counts of what a receiver answered.
+use path_merge::{Refusal, Taken};
+use payload_header::PayloadFault;
+use rtp_header::RtpFault;
+
+/// All refusals, in the order of their numbers.
+pub(crate) const REFUSALS: [Refusal; 14] = [
+    Refusal::Header(RtpFault::ShortHeader),
+    Refusal::Header(RtpFault::BadVersion),
+    Refusal::Header(RtpFault::ShortExtension),
+    Refusal::Header(RtpFault::BadPadding),
+    Refusal::WrongPayloadType,
+    Refusal::WrongSource,
+    Refusal::Payload(PayloadFault::ShortPayloadHeader),
+    Refusal::Payload(PayloadFault::TooManySegments),
+    Refusal::Payload(PayloadFault::SecondField),
+    Refusal::Payload(PayloadFault::BadLength),
+    Refusal::Payload(PayloadFault::BadOffset),
+    Refusal::Payload(PayloadFault::RowOutside),
+    Refusal::Payload(PayloadFault::ColumnsOutside),
+    Refusal::Payload(PayloadFault::ShortData),
+];
+
+/// How many datagrams were refused, for which reason, and how many had timestamps outside the window.
+#[derive(Clone, Copy, Debug, PartialEq, Eq)]
+pub(crate) struct Tally {
+    /// The count of the refusal of number n stands at n - 1.
+    pub refused: [u64; 14],
+    pub outside: u64,
+}
+
+impl Tally {
+    /// Nothing was counted.
+    pub fn new() -> Tally {
+        Tally {
+            refused: [0; 14],
+            outside: 0,
+        }
+    }
+
+    /// Counts an answer.
+    pub fn note(&mut self, answer: Result<Taken, Refusal>) {
+        match answer {
+            Ok(Taken::Kept(_)) => {}
+            Ok(Taken::Outside) => self.outside = self.outside.saturating_add(1),
+            Err(refusal) => self.note_refusal(refusal),
+        }
+    }
+
+    fn note_refusal(&mut self, refusal: Refusal) {
+        let place = usize::from(refusal.number()) - 1;
+        self.refused[place] = self.refused[place].saturating_add(1);
+    }
+}
