@@ -1,5 +1,5 @@
 //! The commands of the program and their options, with help for a person.
-use clap::{Arg, Command};
+use clap::{Arg, ArgAction, Command};
 use std::alloc::{AllocError, Global};
 
 /// The program with its commands.
@@ -11,6 +11,7 @@ pub fn program<'a>(alloc: Global) -> Result<Command<'a>, AllocError> {
     let named = with_command(named, trace_command(alloc))?;
     let named = with_command(named, sdp_command(alloc))?;
     let named = with_command(named, rehearse_command(alloc))?;
+    let named = with_command(named, receive_command(alloc)?)?;
     with_command(named, migrate_command(alloc)?)
 }
 
@@ -36,6 +37,28 @@ fn rehearse_command<'a>(alloc: Global) -> Command<'a> {
     )
 }
 
+fn receive_command<'a>(alloc: Global) -> Result<Command<'a>, AllocError> {
+    Command::new(alloc, "receive")
+        .about(
+            "Takes the datagrams of captures into one receiver, and prints how many came and a line for each frame",
+        )
+        .arg(optional(alloc, "sdp", "FILE").help(
+            "SDP text that says format and payload type; without it, the text of the first capture",
+        ))?
+        .arg(required(alloc, "window", "TS[,TS..]").help(
+            "Timestamps of the frames to receive, 1 to 16, with commas between",
+        ))?
+        .arg(
+            optional(alloc, "ssrc", "N")
+                .default_value("any")
+                .help("The one source to take datagrams of: a number, or any"),
+        )?
+        .arg(flag(alloc, "refusals").help(
+            "Also print how many datagrams were refused for which reason, and how many had other timestamps",
+        ))?
+        .arg(files(alloc, "captures", "CAPTURE").help("Captures, taken one after the other"))
+}
+
 fn migrate_command<'a>(alloc: Global) -> Result<Command<'a>, AllocError> {
     Command::new(alloc, "migrate")
         .about(
@@ -59,4 +82,17 @@ fn optional<'a>(alloc: Global, name: &'a str, value: &'a str) -> Arg<'a> {
 /// An option with a value that has to be given.
 fn required<'a>(alloc: Global, name: &'a str, value: &'a str) -> Arg<'a> {
     optional(alloc, name, value).required(true)
+}
+
+/// An option without a value.
+fn flag<'a>(alloc: Global, name: &'a str) -> Arg<'a> {
+    Arg::new(alloc, name).long(name).action(ArgAction::SetTrue)
+}
+
+/// One file or more.
+fn files<'a>(alloc: Global, name: &'a str, value: &'a str) -> Arg<'a> {
+    Arg::new(alloc, name)
+        .value_name(value)
+        .num_args(1..)
+        .required(true)
 }

@@ -1,9 +1,10 @@
 //! The commands, each with the real devices that its engine works on.
 use crate::files::{FileSink, FileSource};
 use crate::streams::{InputSource, OutputSink};
-use crate::words::MigrateWords;
-use file_engines::run_migrate;
+use crate::words::{MigrateWords, ReceiveWords};
+use file_engines::{Wanted, run_migrate, run_receive};
 use st2110_tool::{Status, run_rehearse, run_sdp, run_trace};
+use std::alloc::AllocError;
 
 /// Runs the script on standard input.
 pub fn trace(rt: &HostRuntime) -> u8 {
@@ -45,6 +46,43 @@ pub fn migrate(rt: &HostRuntime, words: MigrateWords<'_>) -> u8 {
         &mut faults,
     );
     finish(rt, status, out)
+}
+
+/// Takes the datagrams of captures into one receiver.
+pub fn receive<'a>(rt: &'a HostRuntime, words: &ReceiveWords<'a>) -> u8 {
+    let mut output = OutputSink::new(rt.stdout());
+    let mut faults = OutputSink::new(rt.stderr());
+    let Ok(mut captures) = sources(rt, words.captures.as_slice()) else {
+        // That standard error may fail too changes nothing
+        let _ = eprintln!(rt; "st2110: memory");
+        return Status::Memory.number();
+    };
+    let mut sdp = match words.sdp {
+        Some(name) => Some(FileSource::new(rt, name)),
+        None => None,
+    };
+    let wanted = Wanted {
+        window: words.window.as_bytes(),
+        ssrc: words.ssrc.as_bytes(),
+        tells_refusals: words.refusals,
+    };
+    run_receive(
+        rt.alloc(),
+        wanted,
+        &mut sdp,
+        &mut captures,
+        &mut output,
+        &mut faults,
+    )
+}
+
+/// The files of these names, none of which is looked at yet.
+fn sources<'a>(rt: &'a HostRuntime, names: &[&'a str]) -> Result<Vec<FileSource<'a>>, AllocError> {
+    let mut sources = Vec::new(rt.alloc());
+    for name in names {
+        sources.push(FileSource::new(rt, name))?;
+    }
+    Ok(sources)
 }
 
 /// Writes out what a file's buffer holds. Where that fails, which the engine can't know, the run ends by a device's

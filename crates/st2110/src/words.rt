@@ -7,7 +7,7 @@ use std::rt::Env;
 use std::{env, io};
 
 /// What the command line asks for.
-#[derive(Clone, Copy)]
+#[derive(Drop)]
 pub enum Words<'a> {
     /// Run the script on standard input.
     Trace,
@@ -17,6 +17,8 @@ pub enum Words<'a> {
     Rehearse,
     /// Write a capture of version 01 as one of version 02.
     Migrate(MigrateWords<'a>),
+    /// Take the datagrams of captures.
+    Receive(ReceiveWords<'a>),
 }
 
 /// The words behind `migrate`: names of files.
@@ -25,6 +27,19 @@ pub struct MigrateWords<'a> {
     pub sdp: &'a str,
     pub out: &'a str,
     pub capture: &'a str,
+}
+
+/// The words behind `receive`.
+#[derive(Drop)]
+pub struct ReceiveWords<'a> {
+    /// The SDP's file, where one is named.
+    pub sdp: Option<&'a str>,
+    pub window: &'a str,
+    pub ssrc: &'a str,
+    /// Whether refusals are counted and told.
+    pub refusals: bool,
+    /// The captures' files.
+    pub captures: Vec<&'a str>,
 }
 
 /// Why the words are not followed.
@@ -77,6 +92,7 @@ pub fn read_words(alloc: Global, words: &[String]) -> Result<Words<'_>, WordsFau
         Some(("sdp", _)) => Words::Sdp,
         Some(("rehearse", _)) => Words::Rehearse,
         Some(("migrate", given)) => Words::Migrate(migrate_words(given)),
+        Some(("receive", given)) => Words::Receive(receive_words(alloc, given)?),
         // clap lets `trace` and no words through, and nothing else.
         _ => Words::Trace,
     })
@@ -90,7 +106,28 @@ fn migrate_words<'a>(given: &ArgMatches<'a>) -> MigrateWords<'a> {
     }
 }
 
+fn receive_words<'a>(
+    alloc: Global,
+    given: &ArgMatches<'a>,
+) -> Result<ReceiveWords<'a>, AllocError> {
+    Ok(ReceiveWords {
+        sdp: given.get_str("sdp"),
+        window: word(given, "window"),
+        ssrc: word(given, "ssrc"),
+        refusals: given.get_flag("refusals"),
+        captures: list(alloc, given, "captures")?,
+    })
+}
+
 /// The word of an option that has one: clap asks for it, or has a default.
 fn word<'a>(given: &ArgMatches<'a>, id: &str) -> &'a str {
     given.get_str(id).unwrap_or("")
+}
+
+/// The words of a list.
+fn list<'a>(alloc: Global, given: &ArgMatches<'a>, id: &str) -> Result<Vec<&'a str>, AllocError> {
+    match given.get_strs(id) {
+        Some(words) => words.to_vec(alloc),
+        None => Ok(Vec::new(alloc)),
+    }
 }
