@@ -3,3 +3,15 @@ pub mod CutCells
 pub mod Spelling
 pub mod RowRuns
 pub mod KeptRuns
+pub mod Valued
+pub mod Knowing
+pub mod RowReads
+pub mod Fronting
+pub mod MixedReads
+pub mod KnownReads
+pub mod FrameRuns
+pub mod Stamped
+pub mod FrameReads
+pub mod StateRuns
+pub mod Again
+pub mod Exchanged

@@ -1,5 +1,5 @@
 -- The groups of a row, and the rows of a frame, one after the other.
-use Rattle.std.proofs.Common.{◌≡◌, ℕ, ◌+◌, ◌-◌, ◌*◌, ◌<◌, List, [], ◌∷◌, ◌++◌, length, take, drop, Option, None, Some, append-nil, sym, ap, ◌∙◌, subst, arith}
+use Rattle.std.proofs.Common.{◌≡◌, ℕ, ◌+◌, ◌-◌, ◌*◌, ◌<◌, ◌≤◌, List, [], ◌∷◌, ◌++◌, length, take, drop, Option, None, Some, append-nil, sym, ap, ◌∙◌, subst, arith}
 use Rattle.std.specs.Io.KnownBytes.{Appends}
 use Rattle.std.proofs.lemmas.List.{length-drop, length-take-le}
 use Rattle.st_format.specs.Raster.{IsWhole, Raster}
@@ -100,6 +100,20 @@ group_long r row group whole lt below =
     let split : size * ((row * per + group) + (1 + e)) ≡ size * (row * per + group) + (size + size * e) = omega arith in
     let total : length r.cells ≡ size * (row * per + group) + (size + size * e) = whole ∙ sym (sample_count_groups r.format) ∙ ap (λ (n : ℕ). size * n) all ∙ split in
     length-take-le size (drop (group_start r.format row group) r.cells) (omega (arith, length-drop (group_start r.format row group) r.cells, total))
+
+-- a group begins within the cells
+pub start_within : (r : Raster) (row group : ℕ) → IsWhole r → row < r.format.height → group < row_groups r.format → group_start r.format row group ≤ length r.cells
+start_within r row group whole lt below =
+    let h : ℕ = r.format.height in
+    let size : ℕ = (shape_in r.format).samples in
+    let per : ℕ = row_groups r.format in
+    let d : ℕ = h - (row + 1) in
+    let e : ℕ = (per - group) + d * per in
+    let rows : (row * per + per) + d * per ≡ h * per = sum_rows per row h d (omega arith) in
+    let all : h * per ≡ (row * per + group) + e = omega (arith, rows, below) in
+    let split : size * ((row * per + group) + e) ≡ size * (row * per + group) + size * e = omega arith in
+    let total : length r.cells ≡ size * (row * per + group) + size * e = whole ∙ sym (sample_count_groups r.format) ∙ ap (λ (n : ℕ). size * n) all ∙ split in
+    omega (arith, total)
 
 pub group_some : (r : Raster) (row group : ℕ) → IsWhole r → row < r.format.height → group < row_groups r.format → 0 < length (group_cells r row group)
 group_some r row group whole lt below = omega (arith, group_long r row group whole lt below, (shape_is r.format.sampling r.format.depth).some)

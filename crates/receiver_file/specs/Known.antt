@@ -1,13 +1,17 @@
 -- The pixel groups of a format, and those of a frame's rows (own).
-use Rattle.std.specs.Prelude.{ℕ, ◌*◌, List, [], ◌∷◌, ◌++◌, drop}
-use Rattle.std.specs.Int.{w16, to_be_bytes}
+use Rattle.std.specs.Prelude.{◌≡◌, ℕ, ◌*◌, ◌^◌, ◌<◌, Bool, true, false, List, [], ◌∷◌, ◌++◌, map, replicate, drop, ⊤, Result}
+use Rattle.std.specs.Int.{w16, from_be_bytes, to_be_bytes}
 use Rattle.st_format.specs.declared.cell.Cell.{Cell}
+use Rattle.st_format.specs.declared.cell.Cell.TheVariants.{Missing, Value}
 use Rattle.st_format.specs.declared.format.Format.{Format}
 use Rattle.st_format.specs.Raster.{Raster}
 use Rattle.frame_assembly.specs.declared.state.GroupState.{GroupState}
 use Rattle.frame_assembly.specs.declared.state.GroupState.TheVariants.{Gone, Whole, Mixed}
 use Rattle.frame_assembly.specs.Rows.{group_start, row_groups}
-use Rattle.capture_file.specs.Groups.{Shape, shape_of}
+use Rattle.st_format.specs.Samples.{values_in}
+use Rattle.capture_file.specs.declared.fault.FileFault.{FileFault}
+use Rattle.capture_file.specs.Fields.{◌>>=◌, field_at}
+use Rattle.capture_file.specs.Groups.{Shape, are_zeroed, cells_by, mixed_by, shape_of}
 use Rattle.capture_file.specs.StateFile.{cut_cells}
 
 -- the pixel groups of a format
@@ -26,3 +30,30 @@ abbrev pub known_text : GroupState → List ℕ → List ℕ
 known_text Gone octets = 0 ∷ []
 known_text Whole octets = 1 ∷ octets
 known_text (Mixed mask) octets = 2 ∷ (to_be_bytes w16 mask ++ octets)
+
+-- the cells of a group of this state
+abbrev pub cells_known : Shape → GroupState → List ℕ → List Cell
+cells_known s Gone octets = replicate s.samples Missing
+cells_known s Whole octets = map Value (values_in s.bits octets)
+cells_known s (Mixed mask) octets = cells_by mask (values_in s.bits octets)
+
+-- the mask of a state, 0 where no sample is contested, and whether the group isn't missing
+abbrev pub mask_in : GroupState → ℕ
+mask_in Gone = 0
+mask_in Whole = 0
+mask_in (Mixed mask) = mask
+
+abbrev pub is_there : GroupState → Bool
+is_there Gone = false
+is_there Whole = true
+is_there (Mixed mask) = true
+
+-- a mask has no bit beyond the group's samples, and a contested sample is 0
+abbrev pub IsKnown : Shape → GroupState → List ℕ → Type 0
+IsKnown s Gone octets = ⊤
+IsKnown s Whole octets = ⊤
+IsKnown s (Mixed mask) octets = (mask < 2 ^ s.samples) × (are_zeroed mask (values_in s.bits octets) ≡ true)
+
+-- the mask and the octets of a group some of whose samples are contested
+unfoldable pub mixed_at : Shape → List ℕ → Result (List Cell × List ℕ) FileFault
+mixed_at s octets = field_at 2 octets >>= λ m. field_at s.octets m.1 >>= λ x. mixed_by s (from_be_bytes w16 m.0) (values_in s.bits x.0) x.1

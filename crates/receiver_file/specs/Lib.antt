@@ -1,2 +1,5 @@
 pub mod Known
 pub mod Saved
+pub mod Numbers
+pub mod Front
+pub mod StateReading

@@ -3,8 +3,15 @@
 //! What a file says is told by `state_text`, and what is kept of a receiver by `kept_of`.
 #![tactic(auto)]
 
+mod filling;
+mod frames;
+mod front;
 mod groups;
+mod known;
+mod loading;
+mod octets;
 mod rows;
 mod saving;
 
+pub use loading::load_receiver;
 pub use saving::save_receiver;

@@ -51,6 +51,8 @@ mod pictures;
 #[cfg(test)]
 mod rasters;
 #[cfg(test)]
+mod receiver_files;
+#[cfg(test)]
 mod receivers;
 #[cfg(test)]
 mod rehearsal_scripts;

@@ -1,0 +1,18 @@
+use Rattle.std.proofs.Common.{◌≡◌, ◌*◌}
+use Rattle.frame_assembly.specs.Rows.{row_groups}
+use Rattle.capture_file.specs.Fields.{Gives}
+use Rattle.capture_file.specs.Groups.{groups_at}
+use Rattle.capture_file.specs.StateFile.{cut_cells}
+use Rattle.receiver_file.specs.Known.{shape_in}
+use Rattle.receiver_file.proofs.filling.read_rows.Given as goal
+
+pub record Reading (same so_far count : Type 0) : Type 0 where
+  pub format : same
+  pub goes : so_far
+  pub failures : count
+
+abbrev pub invariant-loop-row : goal.invariant-loop-row
+invariant-loop-row g l = Reading
+    (l.frame.format ≡ l.initial.frame.format)
+    (Gives (groups_at (shape_in l.initial.frame.format) (l.row * row_groups l.initial.frame.format)) (g.S.ByteSource.to_give l.initial.source) (g.S.ByteSource.to_give l.source) (cut_cells (shape_in l.initial.frame.format).samples (l.row * row_groups l.initial.frame.format) l.frame.cells))
+    (g.S.ByteSource.failures l.source ≡ g.S.ByteSource.failures l.initial.source)

@@ -1,0 +1,13 @@
+-- Numbers at the front of octets (own).
+use Rattle.std.specs.Prelude.{ℕ, List, slice_index, Result, Ok}
+use Rattle.std.specs.Int.{w32, from_be_bytes}
+use Rattle.capture_file.specs.declared.fault.FileFault.{FileFault}
+use Rattle.capture_file.specs.Fields.{◌>>=◌, field_at}
+
+-- one octet
+unfoldable pub octet_at : List ℕ → Result (ℕ × List ℕ) FileFault
+octet_at octets = field_at 1 octets >>= λ x. Ok (slice_index x.0 0, x.1)
+
+-- a number of four octets
+unfoldable pub number_at : List ℕ → Result (ℕ × List ℕ) FileFault
+number_at octets = field_at 4 octets >>= λ x. Ok (from_be_bytes w32 x.0, x.1)

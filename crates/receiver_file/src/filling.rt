@@ -1,0 +1,49 @@
+//! The pixel groups of a frame, from a source.
+ghost use Rattle.std.specs.Prelude.{◌≡◌, ◌<◌, ◌*◌, IfErr, OnOk, take};
+ghost use Rattle.frame_assembly.specs.Rows.{group_start, row_groups};
+ghost use Rattle.capture_file.specs.Faults.{CountsDevice};
+ghost use Rattle.capture_file.specs.Fields.{Fails, Gives};
+ghost use Rattle.capture_file.specs.Groups.{groups_at};
+ghost use Rattle.receiver_file.specs.Known.{row_cut, rows_cut, shape_in};
+
+use crate::known::read_group;
+use crate::rows::groups_in_row;
+use capture_file::FileFault;
+use frame_assembly::Frame;
+use st_format::ByteSource;
+use std::alloc::Allocator;
+
+/// Reads the groups of a frame, in raster order.
+pub(crate) fn read_rows<A: Allocator, S: ByteSource>(
+    source: &mut S,
+    frame: &mut Frame<A>,
+) -> Result<(), FileFault>
+    ensures format { frame.new.format ≡ frame.old.format }
+    ensures read { OnOk result (Gives (groups_at (shape_in frame.old.format) (frame.old.format.height * row_groups frame.old.format)) (S.to_give source.old) (S.to_give source.new) (rows_cut frame.new frame.old.format.height)) }
+    ensures fault { IfErr result (λ f. Fails (groups_at (shape_in frame.old.format) (frame.old.format.height * row_groups frame.old.format)) (S.to_give source.old) f) }
+    ensures counted { CountsDevice (S.failures source.old) (S.failures source.new) result }
+{
+    for row in 0..frame.format().height() {
+        read_row(source, frame, row)?;
+    }
+    Ok(())
+}
+
+/// Reads the groups of a row. No other row changes.
+fn read_row<A: Allocator, S: ByteSource>(
+    source: &mut S,
+    frame: &mut Frame<A>,
+    row: u32,
+) -> Result<(), FileFault>
+    requires { row < frame.old.format.height }
+    ensures format { frame.new.format ≡ frame.old.format }
+    ensures before { take (group_start frame.old.format row 0) frame.new.cells ≡ take (group_start frame.old.format row 0) frame.old.cells }
+    ensures read { OnOk result (Gives (groups_at (shape_in frame.old.format) (row_groups frame.old.format)) (S.to_give source.old) (S.to_give source.new) (row_cut frame.new row)) }
+    ensures fault { IfErr result (λ f. Fails (groups_at (shape_in frame.old.format) (row_groups frame.old.format)) (S.to_give source.old) f) }
+    ensures counted { CountsDevice (S.failures source.old) (S.failures source.new) result }
+{
+    for group in 0..groups_in_row(&frame.format()) {
+        read_group(source, frame, row, group)?;
+    }
+    Ok(())
+}

@@ -1,0 +1,94 @@
+//! The frames of a receiver, from a source.
+ghost use Rattle.std.specs.Prelude.{◌≡◌, ◌≤◌, [], All, IfErr, IfOk, length};
+ghost use Rattle.st_format.specs.Fields.{fields_of};
+ghost use Rattle.path_merge.specs.Opening.{AreDifferent};
+ghost use Rattle.st_format.specs.Member.{IsMember};
+ghost use Rattle.capture_file.specs.Faults.{CountsDevice};
+ghost use Rattle.capture_file.specs.Fields.{Fails, Gives};
+ghost use Rattle.capture_file.specs.StateFile.{group_count};
+ghost use Rattle.capture_file.specs.Groups.{groups_at};
+ghost use Rattle.receiver_file.specs.Known.{shape_in};
+ghost use Rattle.receiver_file.specs.Saved.{groups_in, kept_frames};
+ghost use Rattle.receiver_file.specs.StateReading.{all_held_at, new_of, timestamp_at};
+
+use crate::filling::read_rows;
+use crate::octets::read_number;
+use arrayvec::ArrayVec;
+use capture_file::FileFault;
+use frame_assembly::Frame;
+use st_format::{ByteSource, Format};
+use std::alloc::Allocator;
+
+/// The most timestamps that a window has.
+pub(crate) const MOST_TIMESTAMPS: usize = 16;
+
+/// Timestamps, and a frame for each.
+#[derive(Drop)]
+pub(crate) struct Frames<A: Allocator> {
+    pub window: ArrayVec<u32, MOST_TIMESTAMPS>,
+    pub frames: Vec<Frame<A>, A>,
+}
+
+/// Reads so many timestamps, which differ, each with its frame.
+pub(crate) fn read_frames<A: Allocator + Copy, S: ByteSource>(
+    alloc: A,
+    source: &mut S,
+    format: Format,
+    count: u8,
+) -> Result<Frames<A>, FileFault>
+    requires { count ≤ 16 }
+    ensures count { IfOk result (λ it. length it.window.items ≡ count) }
+    ensures different { IfOk result (λ it. AreDifferent it.window.items) }
+    ensures one_each { IfOk result (λ it. length it.frames.items ≡ count) }
+    ensures of_format { IfOk result (λ it. All (λ r. r.format ≡ format) it.frames.items) }
+    ensures read { IfOk result (λ it. Gives (all_held_at (fields_of format) count []) (S.to_give source.old) (S.to_give source.new) (kept_frames (fields_of format) it.window.items it.frames.items)) }
+    ensures fault { IfErr result (λ f. Fails (all_held_at (fields_of format) count []) (S.to_give source.old) f) }
+    ensures counted { CountsDevice (S.failures source.old) (S.failures source.new) result }
+{
+    let mut window = ArrayVec::new();
+    let mut frames = Vec::new(alloc);
+    for _ in 0..count {
+        let timestamp = read_timestamp(source, window.as_slice())?;
+        let frame = read_frame(alloc, source, format)?;
+        window.push(timestamp);
+        frames.push(frame)?;
+    }
+    Ok(Frames { window, frames })
+}
+
+/// Reads a timestamp that isn't one of those before.
+fn read_timestamp<S: ByteSource>(source: &mut S, before: &[u32]) -> Result<u32, FileFault>
+    ensures new { IfOk result (λ t. IsMember t before.now → ⊥) }
+    ensures read { IfOk result (λ t. Gives (timestamp_at before.now) (S.to_give source.old) (S.to_give source.new) t) }
+    ensures fault { IfErr result (λ f. Fails (timestamp_at before.now) (S.to_give source.old) f) }
+    ensures counted { CountsDevice (S.failures source.old) (S.failures source.new) result }
+{
+    let timestamp = read_number(source)?;
+    new_in(before, timestamp)
+}
+
+/// A timestamp that isn't one of those before.
+fn new_in(before: &[u32], timestamp: u32) -> Result<u32, FileFault>
+    ensures { result ≡ new_of before.now timestamp }
+{
+    if before.contains(&timestamp) {
+        return Err(FileFault::BadField);
+    }
+    Ok(timestamp)
+}
+
+/// Reads the groups of a frame.
+fn read_frame<A: Allocator + Copy, S: ByteSource>(
+    alloc: A,
+    source: &mut S,
+    format: Format,
+) -> Result<Frame<A>, FileFault>
+    ensures format { IfOk result (λ r. r.format ≡ format) }
+    ensures read { IfOk result (λ r. Gives (groups_at (shape_in format) (group_count (fields_of format))) (S.to_give source.old) (S.to_give source.new) (groups_in (fields_of format) r.cells)) }
+    ensures fault { IfErr result (λ f. Fails (groups_at (shape_in format) (group_count (fields_of format))) (S.to_give source.old) f) }
+    ensures counted { CountsDevice (S.failures source.old) (S.failures source.new) result }
+{
+    let mut frame = Frame::new(alloc, format)?;
+    read_rows(source, &mut frame)?;
+    Ok(frame)
+}

@@ -1,0 +1,126 @@
+//! What stands before the frames: name and version, and what a receiver is opened with but its format and window.
+ghost use Rattle.std.specs.Prelude.{◌≡◌, ◌<◌, ◌≤◌, IfErr, IfOk, OnOk};
+ghost use Rattle.capture_file.specs.Faults.{CountsDevice};
+ghost use Rattle.capture_file.specs.Fields.{Fails, Gives};
+ghost use Rattle.receiver_file.specs.Front.{count_at, count_of, flag_at, flag_of, head_at, name_at, payload_type_at, payload_type_of, ssrc_at, ssrc_of};
+
+use crate::octets::{read_number, read_octet};
+use capture_file::{FileFault, Version, read_kind};
+use st_format::ByteSource;
+
+/// The name of receivers' files.
+const RECEIVER: &[u8] = b"S20RCV";
+
+/// The fields behind the format block.
+#[derive(Clone, Copy, Debug, PartialEq, Eq)]
+pub(crate) struct Head {
+    /// Up to 127.
+    pub payload_type: u8,
+    /// The source that is pinned, if one is.
+    pub ssrc: Option<u32>,
+    /// How many timestamps there are: 1 to 16.
+    pub count: u8,
+}
+
+/// Reads name and version.
+pub(crate) fn read_name<S: ByteSource>(source: &mut S) -> Result<(), FileFault>
+    ensures read { OnOk result (Gives name_at (S.to_give source.old) (S.to_give source.new) tt) }
+    ensures fault { IfErr result (λ f. Fails name_at (S.to_give source.old) f) }
+    ensures counted { CountsDevice (S.failures source.old) (S.failures source.new) result }
+{
+    match read_kind(source, RECEIVER)? {
+        Version::One => Ok(()),
+        Version::Two => Err(FileFault::BadVersion),
+    }
+}
+
+/// Reads the fields behind the format block.
+pub(crate) fn read_head<S: ByteSource>(source: &mut S) -> Result<Head, FileFault>
+    ensures payload_type { IfOk result (λ h. h.payload_type ≤ 127) }
+    ensures some { IfOk result (λ h. 0 < h.count) }
+    ensures few { IfOk result (λ h. h.count ≤ 16) }
+    ensures read { IfOk result (λ h. Gives head_at (S.to_give source.old) (S.to_give source.new) h) }
+    ensures fault { IfErr result (λ f. Fails head_at (S.to_give source.old) f) }
+    ensures counted { CountsDevice (S.failures source.old) (S.failures source.new) result }
+{
+    let payload_type = read_payload_type(source)?;
+    let ssrc = read_ssrc(source)?;
+    let count = read_count(source)?;
+    Ok(Head {
+        payload_type,
+        ssrc,
+        count,
+    })
+}
+
+/// Reads the payload type.
+fn read_payload_type<S: ByteSource>(source: &mut S) -> Result<u8, FileFault>
+    ensures most { IfOk result (λ n. n ≤ 127) }
+    ensures read { IfOk result (λ n. Gives payload_type_at (S.to_give source.old) (S.to_give source.new) n) }
+    ensures fault { IfErr result (λ f. Fails payload_type_at (S.to_give source.old) f) }
+    ensures counted { CountsDevice (S.failures source.old) (S.failures source.new) result }
+{
+    let payload_type = read_octet(source)?;
+    if payload_type > 127 {
+        return Err(FileFault::BadField);
+    }
+    Ok(payload_type)
+}
+
+/// Reads whether a source is pinned, and which.
+fn read_ssrc<S: ByteSource>(source: &mut S) -> Result<Option<u32>, FileFault>
+    ensures read { IfOk result (λ s. Gives ssrc_at (S.to_give source.old) (S.to_give source.new) s) }
+    ensures fault { IfErr result (λ f. Fails ssrc_at (S.to_give source.old) f) }
+    ensures counted { CountsDevice (S.failures source.old) (S.failures source.new) result }
+{
+    let pinned = read_flag(source)?;
+    let ssrc = read_number(source)?;
+    ssrc_in(pinned, ssrc)
+}
+
+/// Reads whether a source is pinned.
+fn read_flag<S: ByteSource>(source: &mut S) -> Result<bool, FileFault>
+    ensures read { IfOk result (λ b. Gives flag_at (S.to_give source.old) (S.to_give source.new) b) }
+    ensures fault { IfErr result (λ f. Fails flag_at (S.to_give source.old) f) }
+    ensures counted { CountsDevice (S.failures source.old) (S.failures source.new) result }
+{
+    let code = read_octet(source)?;
+    flag_in(code)
+}
+
+/// What a flag says.
+fn flag_in(code: u8) -> Result<bool, FileFault>
+    ensures { result ≡ flag_of code }
+{
+    match code {
+        0 => Ok(false),
+        1 => Ok(true),
+        _ => Err(FileFault::BadField),
+    }
+}
+
+/// The source that is pinned. Where none is, 0 stands in its place.
+fn ssrc_in(pinned: bool, ssrc: u32) -> Result<Option<u32>, FileFault>
+    ensures { result ≡ ssrc_of pinned ssrc }
+{
+    match (pinned, ssrc) {
+        (true, _) => Ok(Some(ssrc)),
+        (false, 0) => Ok(None),
+        (false, _) => Err(FileFault::BadField),
+    }
+}
+
+/// Reads the number of timestamps.
+fn read_count<S: ByteSource>(source: &mut S) -> Result<u8, FileFault>
+    ensures some { IfOk result (λ n. 0 < n) }
+    ensures few { IfOk result (λ n. n ≤ 16) }
+    ensures read { IfOk result (λ n. Gives count_at (S.to_give source.old) (S.to_give source.new) n) }
+    ensures fault { IfErr result (λ f. Fails count_at (S.to_give source.old) f) }
+    ensures counted { CountsDevice (S.failures source.old) (S.failures source.new) result }
+{
+    let count = read_octet(source)?;
+    if count == 0 || count > 16 {
+        return Err(FileFault::BadField);
+    }
+    Ok(count)
+}

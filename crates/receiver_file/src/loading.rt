@@ -1,0 +1,123 @@
+//! A receiver from a source.
+ghost use Rattle.std.specs.Prelude.{◌≡◌, ◌≤◌, ◌<◌, All, [], Some, length, IfErr, IfOk, OnOk, MatchResult};
+ghost use Rattle.path_merge.specs.Frames.{IsReceiver};
+ghost use Rattle.path_merge.specs.Opening.{AreDifferent};
+ghost use Rattle.capture_file.specs.Faults.{CountsDevice, IsMachine};
+ghost use Rattle.capture_file.specs.Fields.{Fails, Gives};
+ghost use Rattle.capture_file.specs.StateFile.{Kept, state_text};
+ghost use Rattle.receiver_file.specs.Saved.{IsSaved, kept_of};
+ghost use Rattle.receiver_file.specs.StateReading.{end_at, state_at};
+
+use crate::frames::{Frames, read_frames};
+use crate::front::{Head, read_head, read_name};
+use capture_file::{FileFault, read_format};
+use frame_assembly::Frame;
+use path_merge::Receiver;
+use st_format::{ByteSource, Format, read_whole};
+use std::alloc::Allocator;
+
+/// Reads a receiver that was written as a file. Its list of refusals is empty.
+///
+/// # Errors
+///
+/// The first fault in the order of the octets, or one of the memory or the device before it: `NoMemory`, `Device`,
+/// `BadName`, `BadVersion`, `Truncated`, `BadField` (a format block that is none, a payload type above 127, a flag
+/// above 1, a source other than 0 where none is pinned, 0 or more than 16 timestamps, one that stood before, or a state
+/// of a group above 2), `MixedGroup` (a mask of 0, a bit beyond the group's samples, or a contested sample that isn't 0),
+/// or `TrailingBytes` where an octet stands behind the last group.
+pub fn load_receiver<A: Allocator + Copy, S: ByteSource>(
+    alloc: A,
+    source: &mut S,
+) -> Result<Receiver<A>, FileFault>
+    ensures read { IfOk result (λ r. Gives state_at (S.to_give source.old) (S.to_give source.new) (kept_of r)) }
+    ensures fault { IfErr result (λ f. Fails state_at (S.to_give source.old) f) }
+    ensures counted { CountsDevice (S.failures source.old) (S.failures source.new) result }
+    ensures receiver { IfOk result (λ r. IsReceiver r) }
+    ensures refusals { IfOk result (λ r. r.refusals ≡ []) }
+    // What is a receiver's file is read as what it says, unless the memory or the device fails.
+    ensures only { (k : Kept) → S.to_give source.old ≡ Some (state_text k) → IsSaved k
+        → MatchResult result (λ r. kept_of r ≡ k) IsMachine }
+{
+    read_receiver(alloc, source)
+}
+
+/// The same; what this says of octets is what the public call is proved from.
+fn read_receiver<A: Allocator + Copy, S: ByteSource>(
+    alloc: A,
+    source: &mut S,
+) -> Result<Receiver<A>, FileFault>
+    ensures read { IfOk result (λ r. Gives state_at (S.to_give source.old) (S.to_give source.new) (kept_of r)) }
+    ensures fault { IfErr result (λ f. Fails state_at (S.to_give source.old) f) }
+    ensures counted { CountsDevice (S.failures source.old) (S.failures source.new) result }
+    ensures receiver { IfOk result (λ r. IsReceiver r) }
+    ensures refusals { IfOk result (λ r. r.refusals ≡ []) }
+{
+    read_name(source)?;
+    let format = read_format(source)?;
+    let head = read_head(source)?;
+    let frames = read_frames(alloc, source, format, head.count)?;
+    read_end(source)?;
+    open_again(alloc, format, head, frames)
+}
+
+/// Finds a source at its end.
+fn read_end<S: ByteSource>(source: &mut S) -> Result<(), FileFault>
+    ensures read { OnOk result (Gives end_at (S.to_give source.old) (S.to_give source.new) tt) }
+    ensures fault { IfErr result (λ f. Fails end_at (S.to_give source.old) f) }
+    ensures counted { CountsDevice (S.failures source.old) (S.failures source.new) result }
+{
+    let mut octet = [0u8; 1];
+    if read_whole(source, &mut octet)? > 0 {
+        return Err(FileFault::TrailingBytes);
+    }
+    Ok(())
+}
+
+/// A receiver of these frames.
+fn open_again<A: Allocator + Copy>(
+    alloc: A,
+    format: Format,
+    head: Head,
+    frames: Frames<A>,
+) -> Result<Receiver<A>, FileFault>
+    requires payload_type { head.payload_type ≤ 127 }
+    requires some { 0 < length frames.window.items }
+    requires few { length frames.window.items ≤ 16 }
+    requires different { AreDifferent frames.window.items }
+    requires one_each { length frames.frames.items ≡ length frames.window.items }
+    requires of_format { All (λ r. r.format ≡ format) frames.frames.items }
+    ensures memory { IfErr result (λ f. f ≡ FileFault.NoMemory) }
+    ensures receiver { IfOk result (λ r. IsReceiver r) }
+    ensures opening { IfOk result (λ r. r.opening ≡ record { format = format; payload_type = head.payload_type; ssrc = head.ssrc; window = frames.window.items }) }
+    ensures frames { IfOk result (λ r. r.frames ≡ frames.frames.items) }
+    ensures refusals { IfOk result (λ r. r.refusals ≡ []) }
+{
+    let Frames { window, mut frames } = frames;
+    let opened = Receiver::open(
+        alloc,
+        format,
+        head.payload_type,
+        head.ssrc,
+        window.as_slice(),
+    );
+    let Ok(mut receiver) = opened else {
+        return Err(FileFault::NoMemory);
+    };
+    set_frames(&mut receiver, frames.as_mut_slice());
+    Ok(receiver)
+}
+
+/// Gives a receiver its frames, and takes those that it had.
+fn set_frames<A: Allocator>(receiver: &mut Receiver<A>, frames: &mut [Frame<A>])
+    requires receiver { IsReceiver receiver.old }
+    requires one_each { length frames.old ≡ length receiver.old.opening.window }
+    requires of_format { All (λ r. r.format ≡ receiver.old.opening.format) frames.old }
+    ensures opening { receiver.new.opening ≡ receiver.old.opening }
+    ensures frames { receiver.new.frames ≡ frames.old }
+    ensures refusals { receiver.new.refusals ≡ receiver.old.refusals }
+    ensures receiver { IsReceiver receiver.new }
+{
+    for place in 0..frames.len() {
+        receiver.set_frame(place, &mut frames[place]);
+    }
+}
