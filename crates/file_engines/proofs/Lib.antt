@@ -1,2 +1,3 @@
 pub mod ReaderFaults
 pub mod CaptureSums
+pub mod SetSums

@@ -47,3 +47,9 @@ IsLineOf Memory status line = (status ≡ ended.Memory) × (line ≡ memory_line
 abbrev pub TellsFault : Fault → Status → ℕ → ℕ → Option (List ℕ) → Option (List ℕ) → Type 0
 TellsFault f result old new held held' =
     (status : Status) × (line : List ℕ) × IsLineOf f status line × Tells status line result old new held held'
+
+-- where a run ends by a refusal, this holds
+abbrev pub IfRefused : Fault → Type 0 → Type 0
+IfRefused (Refused r) P = P
+IfRefused Device P = ⊤
+IfRefused Memory P = ⊤

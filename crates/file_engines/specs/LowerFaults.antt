@@ -10,7 +10,8 @@ use Rattle.sdp_format.specs.declared.fault.SdpFault.{SdpFault}
 use Rattle.sdp_format.specs.declared.fault.SdpFault.TheVariants as sdp
 use Rattle.file_engines.specs.declared.fault.Fault.{Fault}
 use Rattle.file_engines.specs.declared.fault.Fault.TheVariants.{Refused, Device, Memory}
-use Rattle.file_engines.specs.declared.fault.Refusal.TheVariants.{Sdp, Open, Plan, Capture}
+use Rattle.file_engines.specs.declared.fault.Refusal.{Refusal}
+use Rattle.file_engines.specs.declared.fault.Refusal.TheVariants.{Sdp, Open, Plan, Capture, Picture}
 
 abbrev pub of_sdp : SdpFault → Fault
 of_sdp sdp.NoMemory = Memory
@@ -24,7 +25,13 @@ abbrev pub of_plan : PlanFault → Fault
 of_plan plan.NoMemory = Memory
 of_plan refusal = Refused (Plan refusal)
 
+abbrev pub file_fault : FileFault → Refusal → Fault
+file_fault file.Device refusal = Device
+file_fault file.NoMemory refusal = Memory
+file_fault fault refusal = Refused refusal
+
 abbrev pub capture_fault : FileFault → Fault
-capture_fault file.Device = Device
-capture_fault file.NoMemory = Memory
-capture_fault refusal = Refused (Capture refusal)
+capture_fault fault = file_fault fault (Capture fault)
+
+abbrev pub picture_fault : FileFault → Fault
+picture_fault fault = file_fault fault (Picture fault)

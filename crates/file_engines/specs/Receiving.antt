@@ -1,5 +1,9 @@
--- Devices that may not be there, and what a reader of a capture tells.
-use Rattle.std.specs.Prelude.{ℕ, ◌==◌, if◌then◌else◌, Option, None, Some}
+-- Devices that may not be there, what a reader of a capture tells, and what is written of a receiver.
+use Rattle.std.specs.Prelude.{ℕ, ◌==◌, if◌then◌else◌, List, Option, None, Some}
+use Rattle.std.specs.Io.KnownBytes.{Appends}
+use Rattle.capture_file.specs.StateFile.{state_text}
+use Rattle.path_merge.specs.Frames.{State}
+use Rattle.receiver_file.specs.Saved.{kept_of}
 use Rattle.capture_file.specs.declared.fault.FileFault.TheVariants.{BadField, Truncated}
 use Rattle.st_format.specs.declared.device.SourceFault.{SourceFault}
 use Rattle.st_format.specs.declared.device.SourceFault.TheVariants.{Device as SourceDevice, Content}
@@ -17,3 +21,8 @@ failures_in failures (Some s) = failures s
 abbrev pub told_fault : SourceFault → Fault
 told_fault SourceDevice = Device
 told_fault (Content n) = Refused (Capture (if n == 6 then BadField else Truncated))
+
+-- a sink took the file of a receiver
+pub record Saves (old new : Option (List ℕ)) : Type 0 where
+  pub receiver : State
+  pub taken : Appends old new (state_text (kept_of receiver))

@@ -1,6 +1,6 @@
 //! What ends a run before its end.
 ghost use Rattle.std.specs.Prelude.{◌≡◌};
-ghost use Rattle.file_engines.specs.LowerFaults.{capture_fault};
+ghost use Rattle.file_engines.specs.LowerFaults.{capture_fault, file_fault, picture_fault};
 
 use capture_file::FileFault;
 use packet_plan::PlanFault;
@@ -34,6 +34,12 @@ pub(crate) enum Refusal {
     ReceiveSdp,
     /// No SDP is given, and the first capture has none.
     ReceiveNoSdp,
+    /// A picture's format is not that of the first.
+    SendFormats,
+    /// There are too many pictures.
+    SendPictures,
+    /// The text for a capture is longer than a capture's text may be.
+    SendSdp,
     /// The SDP is refused.
     Sdp(SdpFault),
     /// There is no such receiver.
@@ -42,6 +48,8 @@ pub(crate) enum Refusal {
     Plan(PlanFault),
     /// A capture is refused.
     Capture(FileFault),
+    /// A picture's file is refused.
+    Picture(FileFault),
 }
 
 impl From<AllocError> for Fault {
@@ -112,10 +120,24 @@ impl From<PlanFault> for Fault {
 pub(crate) fn of_capture(fault: FileFault) -> Fault
     ensures { result ≡ capture_fault fault }
 {
+    of_file(fault, Refusal::Capture(fault))
+}
+
+/// A fault of a picture's file.
+pub(crate) fn of_picture(fault: FileFault) -> Fault
+    ensures { result ≡ picture_fault fault }
+{
+    of_file(fault, Refusal::Picture(fault))
+}
+
+/// A fault of a file, which is this refusal where it is one of the content.
+fn of_file(fault: FileFault, refusal: Refusal) -> Fault
+    ensures { result ≡ file_fault fault refusal }
+{
     match fault {
         FileFault::Device => Fault::Device,
         FileFault::NoMemory => Fault::Memory,
-        fault => Fault::Refused(Refusal::Capture(fault)),
+        _ => Fault::Refused(refusal),
     }
 }
 
@@ -127,6 +149,9 @@ impl fmt::Display for Refusal {
             Refusal::ReceiveSource => f.write_str("receive 2 BadSource"),
             Refusal::ReceiveSdp => f.write_str("receive 3 SdpTooLong"),
             Refusal::ReceiveNoSdp => f.write_str("receive 4 NoSdp"),
+            Refusal::SendFormats => f.write_str("send 1 FormatsDiffer"),
+            Refusal::SendPictures => f.write_str("send 2 TooManyPictures"),
+            Refusal::SendSdp => f.write_str("send 3 SdpTooLong"),
             Refusal::Sdp(fault) => {
                 let number = fault.number();
                 write!(f, "sdp {number} {fault}")
@@ -142,6 +167,10 @@ impl fmt::Display for Refusal {
             Refusal::Capture(fault) => {
                 let number = fault.number();
                 write!(f, "capture {number} {fault}")
+            }
+            Refusal::Picture(fault) => {
+                let number = fault.number();
+                write!(f, "picture {number} {fault}")
             }
         }
     }

@@ -6,10 +6,15 @@ mod line;
 mod migrate;
 mod printing;
 mod receive;
+mod send;
+mod sender;
 mod session;
 mod tally;
 mod telling;
 mod text;
 
+pub use capture_file::Paths;
 pub use migrate::run_migrate;
 pub use receive::{Wanted, run_receive};
+pub use send::run_send;
+pub use sender::Sending;

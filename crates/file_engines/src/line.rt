@@ -8,6 +8,8 @@ use tool_text::FrameLine;
 pub(crate) enum Line {
     /// How many records were written.
     Records(u64),
+    /// How many datagrams were sent.
+    Sent(u64),
     /// How many datagrams were delivered.
     Delivered(u64),
     /// How many datagrams were refused for this reason.
@@ -26,6 +28,7 @@ impl fmt::Display for Line {
     fn fmt<W: fmt::Write>(&self, f: &mut fmt::Formatter<W>) -> fmt::Result {
         match self {
             Line::Records(count) => write!(f, "records {count}"),
+            Line::Sent(count) => write!(f, "sent {count}"),
             Line::Delivered(count) => write!(f, "delivered {count}"),
             Line::Refused(refusal, count) => {
                 let number = refusal.number();

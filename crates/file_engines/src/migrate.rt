@@ -3,7 +3,6 @@ ghost use Rattle.std.specs.Prelude.{◌≡◌, ◌≢◌, ◌≤◌, ◌⊎◌, 
 ghost use Rattle.std.specs.Io.KnownBytes.{Appends};
 ghost use Rattle.file_engines.specs.Fault.{Accounts, NoneFailed, OneFailed, counts};
 ghost use Rattle.file_engines.specs.Migrating.{Migrates};
-ghost use Rattle.file_engines.specs.Text.{GivesText};
 ghost use Rattle.capture_file.specs.Migrated.{Migrated};
 ghost use Rattle.tool_text.specs.Telling.{memory_line};
 
@@ -11,9 +10,8 @@ use crate::fault::{Fault, Refusal, of_capture};
 use crate::line::Line;
 use crate::printing::print;
 use crate::telling::tell;
-use crate::text::{CAPTURE_TEXT, read_text, room};
+use crate::text::{read_checked, room};
 use capture_file::migrate_capture;
-use sdp_format::read_sdp;
 use st_format::{ByteSink, ByteSource};
 use std::alloc::Allocator;
 use tool_text::{LINE, Status, tell_memory};
@@ -74,24 +72,9 @@ where
     ensures migrated { OnOk result (Migrates (D.to_give sdp.old) (D.to_give sdp.new) (S.to_give source.old) (S.to_give source.new) (K.held sink.old) (K.held sink.new)) }
     ensures failures { Accounts result (counts (D.failures sdp.old) (D.failures sdp.new) ∷ counts (S.failures source.old) (S.failures source.new) ∷ counts (K.failures sink.old) (K.failures sink.new) ∷ counts (O.failures output.old) (O.failures output.new) ∷ []) }
 {
-    let said = read_checked(alloc, sdp)?;
+    let said = read_checked(alloc, sdp, Refusal::MigrateSdp)?;
     let records = move_capture(alloc, source, sink, &said)?;
     print(Line::Records(records), output, text)
-}
-
-/// Reads an SDP text for a capture, and finds that it is one.
-fn read_checked<A: Allocator + Copy, D: ByteSource>(
-    alloc: A,
-    sdp: &mut D,
-) -> Result<Vec<u8, A>, Fault>
-    ensures read { IfOk result (λ said. GivesText 65535 (D.to_give sdp.old) (D.to_give sdp.new) said.items) }
-    ensures failures { Accounts result (counts (D.failures sdp.old) (D.failures sdp.new) ∷ []) }
-{
-    let Some(said) = read_text(alloc, sdp, CAPTURE_TEXT)? else {
-        return Err(Fault::Refused(Refusal::MigrateSdp));
-    };
-    read_sdp(alloc, &said)?;
-    Ok(said)
 }
 
 /// Writes a capture of version 01 as one of version 02 with this text.

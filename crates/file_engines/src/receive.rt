@@ -1,8 +1,10 @@
 //! The engine of `receive`.
-ghost use Rattle.std.specs.Prelude.{◌≡◌, ◌≢◌, ◌≤◌, ◌<◌, ◌⊎◌, ◌∷◌, [], IfOk, OnOk, length, vec_len, sum_by};
+ghost use Rattle.std.specs.Prelude.{◌≡◌, ◌≢◌, ◌≤◌, ◌<◌, ◌⊎◌, ◌∷◌, [], IfErr, OnOk, length, vec_len, sum_by};
 ghost use Rattle.std.specs.Io.KnownBytes.{Appends};
-ghost use Rattle.file_engines.specs.Fault.{Accounts, NoneFailed, OneFailed, counts};
-ghost use Rattle.file_engines.specs.Receiving.{failures_in};
+ghost use Rattle.capture_file.specs.StateFile.{state_text};
+ghost use Rattle.file_engines.specs.Fault.{Accounts, IfRefused, NoneFailed, OneFailed, counts};
+ghost use Rattle.file_engines.specs.Receiving.{Saves, failures_in};
+ghost use Rattle.receiver_file.specs.Saved.{kept_of};
 ghost use Rattle.tool_text.specs.Telling.{memory_line};
 
 use crate::fault::{Fault, Refusal, of_capture};
@@ -13,6 +15,8 @@ use crate::tally::{REFUSALS, Tally};
 use crate::telling::tell;
 use crate::text::{read_text, room};
 use capture_file::CaptureReader;
+use path_merge::Receiver;
+use receiver_file::save_receiver;
 use st_format::{ByteSink, ByteSource};
 use std::alloc::Allocator;
 use tool_text::{LINE, Status, read_number, read_timestamps, tell_memory};
@@ -43,56 +47,79 @@ struct Opening<A: Allocator> {
 /// The receiver is opened by the SDP text of `sdp`, of at most 16,777,216 octets, or, where there is none, by that of
 /// the first capture. Then the captures' datagrams are taken, one capture after the other. `delivered N` is printed to
 /// `output`, then, where they are wanted, how many datagrams were refused for which reason, and then a line for the
-/// frame of each timestamp.
+/// frame of each timestamp. Last the receiver is written to `state`.
 ///
 /// The status is 0; or 1 where a word, the SDP, the opening or a capture is refused, 3 where a device failed, and 4
-/// where the allocator refused memory, which `faults` is told by one line. The captures' sources stay in their order
-/// where the status is 0, and else stand in some turn of it.
-pub fn run_receive<A, S, O, F>(
+/// where the allocator refused memory, which `faults` is told by one line. Nothing is written to `state` where the
+/// status is 1. The captures' sources stay in their order where the status is 0, and else stand in some turn of it.
+pub fn run_receive<A, S, K, O, F>(
     alloc: A,
     wanted: Wanted<'_>,
     sdp: &mut Option<S>,
     captures: &mut Vec<S, A>,
+    state: &mut K,
     output: &mut O,
     faults: &mut F,
 ) -> u8
 where
     A: Allocator + Copy,
     S: ByteSource,
+    K: ByteSink,
     O: ByteSink,
     F: ByteSink,
     ensures range { (result ≡ 0) ⊎ (result ≡ 1) ⊎ (result ≡ 3) ⊎ (result ≡ 4) }
-    ensures device { result ≡ 3 → OneFailed (counts (failures_in S.failures sdp.old) (failures_in S.failures sdp.new) ∷ counts (sum_by S.failures captures.old.items) (sum_by S.failures captures.new.items) ∷ counts (O.failures output.old) (O.failures output.new) ∷ counts (F.failures faults.old) (F.failures faults.new) ∷ []) }
+    ensures device { result ≡ 3 → OneFailed (counts (failures_in S.failures sdp.old) (failures_in S.failures sdp.new) ∷ counts (sum_by S.failures captures.old.items) (sum_by S.failures captures.new.items) ∷ counts (K.failures state.old) (K.failures state.new) ∷ counts (O.failures output.old) (O.failures output.new) ∷ counts (F.failures faults.old) (F.failures faults.new) ∷ []) }
+    ensures working { result ≢ 3 → NoneFailed (counts (failures_in S.failures sdp.old) (failures_in S.failures sdp.new) ∷ counts (sum_by S.failures captures.old.items) (sum_by S.failures captures.new.items) ∷ counts (K.failures state.old) (K.failures state.new) ∷ counts (O.failures output.old) (O.failures output.new) ∷ counts (F.failures faults.old) (F.failures faults.new) ∷ []) }
+    ensures saved { result ≡ 0 → Saves (K.held state.old) (K.held state.new) }
+    ensures refused { result ≡ 1 → state.new ≡ state.old }
     ensures silent { result ≡ 0 → faults.new ≡ faults.old }
     ensures memory { result ≡ 4 → Appends (F.held faults.old) (F.held faults.new) memory_line }
 {
     let Ok(mut text) = String::with_capacity(alloc, LINE) else {
         return tell_memory(faults).number();
     };
-    match receive(alloc, wanted, sdp, captures, output, &mut text) {
+    match receive(alloc, wanted, sdp, captures, state, output, &mut text) {
         Ok(()) => Status::Done.number(),
         Err(fault) => tell(fault, &mut text, faults).number(),
     }
 }
 
-fn receive<A, S, O>(
+fn receive<A, S, K, O>(
     alloc: A,
     wanted: Wanted<'_>,
     sdp: &mut Option<S>,
     captures: &mut Vec<S, A>,
+    state: &mut K,
     output: &mut O,
     text: &mut String<A>,
 ) -> Result<(), Fault>
 where
     A: Allocator + Copy,
     S: ByteSource,
+    K: ByteSink,
     O: ByteSink,
-    ensures failures { Accounts result (counts (failures_in S.failures sdp.old) (failures_in S.failures sdp.new) ∷ counts (sum_by S.failures captures.old.items) (sum_by S.failures captures.new.items) ∷ counts (O.failures output.old) (O.failures output.new) ∷ []) }
+    ensures saved { OnOk result (Saves (K.held state.old) (K.held state.new)) }
+    ensures refused { IfErr result (λ f. IfRefused f (state.new ≡ state.old)) }
+    ensures failures { Accounts result (counts (failures_in S.failures sdp.old) (failures_in S.failures sdp.new) ∷ counts (sum_by S.failures captures.old.items) (sum_by S.failures captures.new.items) ∷ counts (K.failures state.old) (K.failures state.new) ∷ counts (O.failures output.old) (O.failures output.new) ∷ []) }
 {
     let opening = read_opening(alloc, wanted)?;
     let begun = begin(alloc, &opening, sdp)?;
     let session = take_captures(alloc, &opening, begun, captures)?;
-    print_session(&session, wanted.tells_refusals, output, text)
+    print_session(&session, wanted.tells_refusals, output, text)?;
+    save(&session.receiver, state)
+}
+
+/// Writes a receiver's file.
+fn save<A: Allocator, K: ByteSink>(receiver: &Receiver<A>, state: &mut K) -> Result<(), Fault>
+    ensures whole { OnOk result (Appends (K.held state.old) (K.held state.new) (state_text (kept_of receiver.now))) }
+    ensures saved { OnOk result (Saves (K.held state.old) (K.held state.new)) }
+    ensures refused { IfErr result (λ f. IfRefused f (state.new ≡ state.old)) }
+    ensures failures { Accounts result (counts (K.failures state.old) (K.failures state.new) ∷ []) }
+{
+    match save_receiver(state, receiver) {
+        Ok(()) => Ok(()),
+        Err(_) => Err(Fault::Device),
+    }
 }
 
 /// Reads the words.

@@ -4,12 +4,29 @@ ghost use Rattle.std.specs.Io.KnownBytes.{Consumes, IsAtEnd};
 ghost use Rattle.file_engines.specs.Fault.{Accounts, counts};
 ghost use Rattle.file_engines.specs.Text.{GivesMore, GivesText};
 
-use crate::fault::Fault;
+use crate::fault::{Fault, Refusal};
+use sdp_format::read_sdp;
 use st_format::{ByteSource, read_whole};
 use std::alloc::{AllocError, Allocator};
 
 /// The greatest number of octets of a capture's text, and of a datagram.
-pub(crate) const CAPTURE_TEXT: usize = 65_535;
+const CAPTURE_TEXT: usize = 65_535;
+
+/// Reads an SDP text for a capture, and finds that it is one. A longer text than a capture may have is refused so.
+pub(crate) fn read_checked<A: Allocator + Copy, S: ByteSource>(
+    alloc: A,
+    source: &mut S,
+    too_long: Refusal,
+) -> Result<Vec<u8, A>, Fault>
+    ensures read { IfOk result (λ said. GivesText 65535 (S.to_give source.old) (S.to_give source.new) said.items) }
+    ensures failures { Accounts result (counts (S.failures source.old) (S.failures source.new) ∷ []) }
+{
+    let Some(said) = read_text(alloc, source, CAPTURE_TEXT)? else {
+        return Err(Fault::Refused(too_long));
+    };
+    read_sdp(alloc, &said)?;
+    Ok(said)
+}
 
 /// Reads a source to its end, and answers what it gave, or none where that is more than so many octets.
 pub(crate) fn read_text<A: Allocator, S: ByteSource>(

@@ -1,0 +1,12 @@
+use Rattle.std.proofs.Common.{◌≡◌, false, length}
+use Rattle.std.specs.List.{sum_by}
+use Rattle.file_engines.proofs.send.send_rest.Given as goal
+
+abbrev pub invariant-loop-place : goal.invariant-loop-place
+invariant-loop-place g l = record {
+  len : length l.pictures ≡ length l.initial.pictures;
+  room : length l.buf ≡ 65535;
+  stands : l.sender.writer.place.failed ≡ false;
+  pictures : sum_by g.S.ByteSource.failures l.pictures ≡ sum_by g.S.ByteSource.failures l.initial.pictures;
+  sink : g.K.ByteSink.failures l.sender.writer.sink ≡ g.K.ByteSink.failures l.initial.sender.writer.sink;
+}

@@ -1,0 +1,239 @@
+//! The engine of `send`.
+ghost use Rattle.std.specs.Prelude.{◌≡◌, ◌≢◌, ◌≤◌, ◌<◌, ◌⊎◌, ◌∷◌, [], false, IfOk, MatchResult, length, sum_by, vec_len};
+ghost use Rattle.std.specs.Io.KnownBytes.{Appends, IsAtEnd};
+ghost use Rattle.file_engines.specs.Fault.{Accounts, Blames, NoneFailed, OneFailed, counts};
+ghost use Rattle.file_engines.specs.Receiving.{failures_in};
+ghost use Rattle.tool_text.specs.Telling.{memory_line};
+
+use crate::fault::{Fault, Refusal, of_picture};
+use crate::line::Line;
+use crate::printing::print;
+use crate::sender::{Sender, Sending};
+use crate::telling::tell;
+use crate::text::{read_checked, room};
+use capture_file::{CaptureWriter, read_picture};
+use packet_plan::Plan;
+use st_format::{ByteSink, ByteSource, Picture};
+use std::alloc::Allocator;
+use tool_text::{LINE, Status, tell_memory};
+
+/// The greatest number of pictures (own).
+const PICTURES: usize = 10_000;
+
+/// Sends pictures, one after the other, into a capture, and prints `sent N` to `output`, how many datagrams that are.
+///
+/// The SDP text of `sdp`, where there is one, is read first, and is the capture's text, which else is empty. Each
+/// picture is read and sent before the next. The plan is made, and then the capture begun, once the first is read. The
+/// k-th picture is the k-th frame, and the packets' numbers run on. Without pictures nothing is written.
+///
+/// The status is 0; or 1 where there are more than 10,000 pictures (`send 2`, before anything is read), the SDP is
+/// longer than 65,535 octets (`send 3`) or refused, there is no such plan, or a picture is refused or is of another
+/// format than the first (`send 1`); 3 where a device failed, and 4 where the allocator refused memory. `faults` is
+/// told of it by one line. What was sent before a fault stands in the capture. Its sink is given back; one that tells
+/// its octets holds none before.
+pub fn run_send<A, S, K, O, F>(
+    alloc: A,
+    wanted: Sending,
+    sdp: &mut Option<S>,
+    pictures: &mut [S],
+    sink: K,
+    output: &mut O,
+    faults: &mut F,
+) -> (u8, K)
+where
+    A: Allocator + Copy,
+    S: ByteSource,
+    K: ByteSink,
+    O: ByteSink,
+    F: ByteSink,
+    requires payload_type { wanted.payload_type ≤ 127 }
+    requires empty { IsAtEnd (K.held sink) }
+    ensures range { (result.0 ≡ 0) ⊎ (result.0 ≡ 1) ⊎ (result.0 ≡ 3) ⊎ (result.0 ≡ 4) }
+    ensures device { result.0 ≡ 3 → OneFailed (counts (failures_in S.failures sdp.old) (failures_in S.failures sdp.new) ∷ counts (sum_by S.failures pictures.old) (sum_by S.failures pictures.new) ∷ counts (K.failures sink) (K.failures result.1) ∷ counts (O.failures output.old) (O.failures output.new) ∷ counts (F.failures faults.old) (F.failures faults.new) ∷ []) }
+    ensures working { result.0 ≢ 3 → NoneFailed (counts (failures_in S.failures sdp.old) (failures_in S.failures sdp.new) ∷ counts (sum_by S.failures pictures.old) (sum_by S.failures pictures.new) ∷ counts (K.failures sink) (K.failures result.1) ∷ counts (O.failures output.old) (O.failures output.new) ∷ counts (F.failures faults.old) (F.failures faults.new) ∷ []) }
+    ensures silent { result.0 ≡ 0 → faults.new ≡ faults.old }
+    ensures memory { result.0 ≡ 4 → Appends (F.held faults.old) (F.held faults.new) memory_line }
+{
+    let Ok(mut text) = String::with_capacity(alloc, LINE) else {
+        return (tell_memory(faults).number(), sink);
+    };
+    let (outcome, sink) = send(alloc, wanted, sdp, pictures, sink, output, &mut text);
+    match outcome {
+        Ok(()) => (Status::Done.number(), sink),
+        Err(fault) => (tell(fault, &mut text, faults).number(), sink),
+    }
+}
+
+fn send<A, S, K, O>(
+    alloc: A,
+    wanted: Sending,
+    sdp: &mut Option<S>,
+    pictures: &mut [S],
+    sink: K,
+    output: &mut O,
+    text: &mut String<A>,
+) -> (Result<(), Fault>, K)
+where
+    A: Allocator + Copy,
+    S: ByteSource,
+    K: ByteSink,
+    O: ByteSink,
+    requires payload_type { wanted.payload_type ≤ 127 }
+    requires empty { IsAtEnd (K.held sink) }
+    ensures failures { Accounts result.0 (counts (failures_in S.failures sdp.old) (failures_in S.failures sdp.new) ∷ counts (sum_by S.failures pictures.old) (sum_by S.failures pictures.new) ∷ counts (K.failures sink) (K.failures result.1) ∷ counts (O.failures output.old) (O.failures output.new) ∷ []) }
+{
+    let said = match read_said(alloc, sdp, pictures.len()) {
+        Ok(said) => said,
+        Err(fault) => return (Err(fault), sink),
+    };
+    let (sent, sink) = send_pictures(alloc, wanted, &said, pictures, sink);
+    let outcome = match sent {
+        Ok(sent) => print(Line::Sent(sent), output, text),
+        Err(fault) => Err(fault),
+    };
+    (outcome, sink)
+}
+
+/// Finds that there are few pictures, and reads the capture's text.
+fn read_said<A: Allocator + Copy, S: ByteSource>(
+    alloc: A,
+    sdp: &mut Option<S>,
+    pictures: usize,
+) -> Result<Vec<u8, A>, Fault>
+    ensures few { IfOk result (λ _. pictures ≤ 10000) }
+    ensures text { IfOk result (λ said. vec_len said ≤ 65535) }
+    ensures failures { Accounts result (counts (failures_in S.failures sdp.old) (failures_in S.failures sdp.new) ∷ []) }
+{
+    if pictures > PICTURES {
+        return Err(Fault::Refused(Refusal::SendPictures));
+    }
+    match sdp {
+        None => Ok(Vec::new(alloc)),
+        Some(source) => match read_checked(alloc, source, Refusal::SendSdp) {
+            Ok(said) => Ok(said),
+            Err(fault) => Err(fault),
+        },
+    }
+}
+
+/// Sends all pictures, and answers how many datagrams that are.
+fn send_pictures<A: Allocator + Copy, S: ByteSource, K: ByteSink>(
+    alloc: A,
+    wanted: Sending,
+    said: &[u8],
+    pictures: &mut [S],
+    sink: K,
+) -> (Result<u64, Fault>, K)
+    requires text { length said.now ≤ 65535 }
+    requires few { length pictures.old ≤ 10000 }
+    requires payload_type { wanted.payload_type ≤ 127 }
+    requires empty { IsAtEnd (K.held sink) }
+    ensures failures { Accounts result.0 (counts (sum_by S.failures pictures.old) (sum_by S.failures pictures.new) ∷ counts (K.failures sink) (K.failures result.1) ∷ []) }
+{
+    if pictures.is_empty() {
+        return (Ok(0), sink);
+    }
+    let mut buf = match room(alloc) {
+        Ok(buf) => buf,
+        Err(_) => return (Err(Fault::Memory), sink),
+    };
+    let mut sender = match begin(alloc, wanted, said, pictures, sink, &mut buf) {
+        Ok(sender) => sender,
+        Err((fault, sink)) => return (Err(fault), sink),
+    };
+    let sent = send_rest(alloc, &mut sender, pictures, &mut buf);
+    (sent, sender.into_sink())
+}
+
+/// Reads the first picture, makes the plan, begins the capture and sends that picture.
+fn begin<A: Allocator + Copy, S: ByteSource, K: ByteSink>(
+    alloc: A,
+    wanted: Sending,
+    said: &[u8],
+    pictures: &mut [S],
+    sink: K,
+    buf: &mut [u8],
+) -> Result<Sender<A, K>, (Fault, K)>
+    requires text { length said.now ≤ 65535 }
+    requires some { 0 < length pictures.old }
+    requires payload_type { wanted.payload_type ≤ 127 }
+    requires empty { IsAtEnd (K.held sink) }
+    requires room { length buf.old ≡ 65535 }
+    ensures len { length pictures.new ≡ length pictures.old }
+    ensures room { length buf.new ≡ 65535 }
+    ensures stands { IfOk result (λ s. s.writer.place.failed ≡ false) }
+    ensures failures { MatchResult result
+        (λ s. NoneFailed (counts (sum_by S.failures pictures.old) (sum_by S.failures pictures.new) ∷ counts (K.failures sink) (K.failures s.writer.sink) ∷ []))
+        (λ e. Blames (counts (sum_by S.failures pictures.old) (sum_by S.failures pictures.new) ∷ counts (K.failures sink) (K.failures e.1) ∷ []) e.0) }
+{
+    let (picture, plan) = match read_first(alloc, wanted.max_octets, pictures) {
+        Ok(first) => first,
+        Err(fault) => return Err((fault, sink)),
+    };
+    let writer = match CaptureWriter::open(sink, wanted.paths, said) {
+        Ok(writer) => writer,
+        Err((_, sink)) => return Err((Fault::Device, sink)),
+    };
+    let mut sender = Sender::new(plan, writer, wanted);
+    match sender.send(&picture, 0, buf) {
+        Ok(()) => Ok(sender),
+        Err(fault) => Err((fault, sender.into_sink())),
+    }
+}
+
+/// Reads the first picture, and makes a plan for pictures of its format.
+fn read_first<A: Allocator + Copy, S: ByteSource>(
+    alloc: A,
+    max_octets: u32,
+    pictures: &mut [S],
+) -> Result<(Picture<A>, Plan<A>), Fault>
+    requires { 0 < length pictures.old }
+    ensures len { length pictures.new ≡ length pictures.old }
+    ensures failures { Accounts result (counts (sum_by S.failures pictures.old) (sum_by S.failures pictures.new) ∷ []) }
+{
+    let picture = read_at(alloc, pictures, 0)?;
+    let plan = Plan::new(alloc, picture.format(), max_octets)?;
+    Ok((picture, plan))
+}
+
+/// Reads and sends the pictures behind the first, and answers how many datagrams were sent.
+fn send_rest<A: Allocator + Copy, S: ByteSource, K: ByteSink>(
+    alloc: A,
+    sender: &mut Sender<A, K>,
+    pictures: &mut [S],
+    buf: &mut [u8],
+) -> Result<u64, Fault>
+    requires few { length pictures.old ≤ 10000 }
+    requires room { length buf.old ≡ 65535 }
+    requires stands { sender.old.writer.place.failed ≡ false }
+    ensures failures { Accounts result (counts (sum_by S.failures pictures.old) (sum_by S.failures pictures.new) ∷ counts (K.failures sender.old.writer.sink) (K.failures sender.new.writer.sink) ∷ []) }
+{
+    for place in 1..pictures.len() {
+        let picture = read_at(alloc, pictures, place)?;
+        sender.send(&picture, place as u32, buf)?;
+    }
+    Ok(sender.sent)
+}
+
+/// Reads the picture of a place.
+fn read_at<A: Allocator, S: ByteSource>(
+    alloc: A,
+    pictures: &mut [S],
+    place: usize,
+) -> Result<Picture<A>, Fault>
+    requires { place < length pictures.old }
+    ensures len { length pictures.new ≡ length pictures.old }
+    ensures failures { Accounts result (counts (sum_by S.failures pictures.old) (sum_by S.failures pictures.new) ∷ []) }
+{
+    read_one(alloc, &mut pictures[place])
+}
+
+/// Reads a picture.
+fn read_one<A: Allocator, S: ByteSource>(alloc: A, source: &mut S) -> Result<Picture<A>, Fault>
+    ensures { Accounts result (counts (S.failures source.old) (S.failures source.new) ∷ []) }
+{
+    match read_picture(alloc, source) {
+        Ok(picture) => Ok(picture),
+        Err(fault) => Err(of_picture(fault)),
+    }
+}

@@ -1,0 +1,124 @@
+//! Sending pictures into a capture.
+ghost use Rattle.std.specs.Prelude.{◌≡◌, ◌≤◌, ◌∷◌, [], false, length, IsTrue, OnOk};
+ghost use Rattle.file_engines.specs.Fault.{Accounts, counts};
+
+use crate::fault::{Fault, Refusal};
+use capture_file::{CaptureWriter, Paths};
+use packet_plan::{Plan, Stamp};
+use st_format::{ByteSink, DatagramSink, Format, Picture};
+use std::alloc::Allocator;
+
+/// What `send` is asked for, beside its files.
+#[derive(Clone, Copy, Debug, PartialEq, Eq)]
+pub struct Sending {
+    /// The payload type, at most 127.
+    pub payload_type: u8,
+    /// The number of the first packet.
+    pub first: u32,
+    /// The timestamp of the first picture, in ticks of a 90 kHz clock.
+    pub base: u32,
+    /// The synchronization source.
+    pub ssrc: u32,
+    /// The most octets of a packet.
+    pub max_octets: u32,
+    /// The paths by which each packet goes.
+    pub paths: Paths,
+}
+
+/// A capture that pictures of one format are sent into.
+#[derive(Drop)]
+pub(crate) struct Sender<A: Allocator, K: ByteSink> {
+    plan: Plan<A>,
+    pub writer: CaptureWriter<K>,
+    wanted: Sending,
+    /// The number of the next packet.
+    next: u32,
+    /// How many datagrams were sent.
+    pub sent: u64,
+    ghost payload_type: { wanted.payload_type ≤ 127 },
+}
+
+impl<A: Allocator, K: ByteSink> Sender<A, K> {
+    /// Nothing was sent yet.
+    pub fn new(plan: Plan<A>, writer: CaptureWriter<K>, wanted: Sending) -> Sender<A, K>
+        requires { wanted.payload_type ≤ 127 }
+        ensures { result.writer ≡ writer }
+    {
+        Sender {
+            plan,
+            writer,
+            wanted,
+            next: wanted.first,
+            sent: 0,
+        }
+    }
+
+    /// Sends the picture of this place. One of another format is refused.
+    pub fn send<B: Allocator>(
+        &mut self,
+        picture: &Picture<B>,
+        place: u32,
+        buf: &mut [u8],
+    ) -> Result<(), Fault>
+        requires room { length buf.old ≡ 65535 }
+        requires stands { self.old.writer.place.failed ≡ false }
+        ensures room { length buf.new ≡ 65535 }
+        ensures stands { OnOk result (self.new.writer.place.failed ≡ false) }
+        ensures failures { Accounts result (counts (K.failures self.old.writer.sink) (K.failures self.new.writer.sink) ∷ []) }
+    {
+        let format = self.plan.format();
+        if !same_format(picture.format(), format) {
+            return Err(Fault::Refused(Refusal::SendFormats));
+        }
+        let stamp = Stamp {
+            payload_type: self.wanted.payload_type,
+            first: self.next,
+            timestamp: format.timestamp(self.wanted.base, place),
+            ssrc: self.wanted.ssrc,
+        };
+        put_all(&self.plan, picture, stamp, buf, &mut self.writer)?;
+        let count = self.plan.len();
+        self.next = self.next.wrapping_add(count as u32);
+        self.sent = self.sent.saturating_add(count as u64);
+        Ok(())
+    }
+
+    /// Gives the capture's sink back, as it then is.
+    pub fn into_sink(self) -> K
+        ensures { result ≡ self.writer.sink }
+    {
+        self.writer.into_inner()
+    }
+}
+
+fn same_format(left: Format, right: Format) -> bool
+    ensures { IsTrue result → left ≡ right }
+{
+    left == right
+}
+
+/// Writes all datagrams of a picture, each over the first octets of `buf`.
+fn put_all<A: Allocator, B: Allocator, K: ByteSink>(
+    plan: &Plan<A>,
+    picture: &Picture<B>,
+    stamp: Stamp,
+    buf: &mut [u8],
+    writer: &mut CaptureWriter<K>,
+) -> Result<(), Fault>
+    requires format { picture.now.format ≡ plan.now.format }
+    requires payload_type { stamp.payload_type ≤ 127 }
+    requires room { length buf.old ≡ 65535 }
+    requires stands { writer.old.place.failed ≡ false }
+    ensures room { length buf.new ≡ 65535 }
+    ensures stands { OnOk result (writer.new.place.failed ≡ false) }
+    ensures failures { Accounts result (counts (K.failures writer.old.sink) (K.failures writer.new.sink) ∷ []) }
+{
+    let packets = plan.len();
+    for index in 0..packets {
+        let count = plan.datagram(index, picture, stamp, buf);
+        let Ok(()) = writer.put(&buf[..count]) else {
+            return Err(Fault::Device);
+        };
+    }
+    Ok(())
+}
