@@ -11,7 +11,7 @@ use Rattle.sdp_format.specs.declared.fault.SdpFault.TheVariants as sdp
 use Rattle.file_engines.specs.declared.fault.Fault.{Fault}
 use Rattle.file_engines.specs.declared.fault.Fault.TheVariants.{Refused, Device, Memory}
 use Rattle.file_engines.specs.declared.fault.Refusal.{Refusal}
-use Rattle.file_engines.specs.declared.fault.Refusal.TheVariants.{Sdp, Open, Plan, Capture, Picture}
+use Rattle.file_engines.specs.declared.fault.Refusal.TheVariants.{Sdp, Open, Plan, Capture, Picture, State}
 
 abbrev pub of_sdp : SdpFault → Fault
 of_sdp sdp.NoMemory = Memory
@@ -35,3 +35,6 @@ capture_fault fault = file_fault fault (Capture fault)
 
 abbrev pub picture_fault : FileFault → Fault
 picture_fault fault = file_fault fault (Picture fault)
+
+abbrev pub state_fault : FileFault → Fault
+state_fault fault = file_fault fault (State fault)

@@ -1,6 +1,6 @@
 //! What ends a run before its end.
 ghost use Rattle.std.specs.Prelude.{◌≡◌};
-ghost use Rattle.file_engines.specs.LowerFaults.{capture_fault, file_fault, picture_fault};
+ghost use Rattle.file_engines.specs.LowerFaults.{capture_fault, file_fault, picture_fault, state_fault};
 
 use capture_file::FileFault;
 use packet_plan::PlanFault;
@@ -40,6 +40,8 @@ pub(crate) enum Refusal {
     SendPictures,
     /// The text for a capture is longer than a capture's text may be.
     SendSdp,
+    /// The two receivers are opened unlike.
+    MergeUnlike,
     /// The SDP is refused.
     Sdp(SdpFault),
     /// There is no such receiver.
@@ -50,6 +52,8 @@ pub(crate) enum Refusal {
     Capture(FileFault),
     /// A picture's file is refused.
     Picture(FileFault),
+    /// A receiver's file is refused.
+    State(FileFault),
 }
 
 impl From<AllocError> for Fault {
@@ -130,6 +134,13 @@ pub(crate) fn of_picture(fault: FileFault) -> Fault
     of_file(fault, Refusal::Picture(fault))
 }
 
+/// A fault of a receiver's file.
+pub(crate) fn of_state(fault: FileFault) -> Fault
+    ensures { result ≡ state_fault fault }
+{
+    of_file(fault, Refusal::State(fault))
+}
+
 /// A fault of a file, which is this refusal where it is one of the content.
 fn of_file(fault: FileFault, refusal: Refusal) -> Fault
     ensures { result ≡ file_fault fault refusal }
@@ -152,6 +163,7 @@ impl fmt::Display for Refusal {
             Refusal::SendFormats => f.write_str("send 1 FormatsDiffer"),
             Refusal::SendPictures => f.write_str("send 2 TooManyPictures"),
             Refusal::SendSdp => f.write_str("send 3 SdpTooLong"),
+            Refusal::MergeUnlike => f.write_str("merge 1 OpenedUnlike"),
             Refusal::Sdp(fault) => {
                 let number = fault.number();
                 write!(f, "sdp {number} {fault}")
@@ -171,6 +183,10 @@ impl fmt::Display for Refusal {
             Refusal::Picture(fault) => {
                 let number = fault.number();
                 write!(f, "picture {number} {fault}")
+            }
+            Refusal::State(fault) => {
+                let number = fault.number();
+                write!(f, "state {number} {fault}")
             }
         }
     }

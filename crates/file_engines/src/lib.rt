@@ -3,6 +3,7 @@
 
 mod fault;
 mod line;
+mod merge;
 mod migrate;
 mod printing;
 mod receive;
@@ -14,6 +15,7 @@ mod telling;
 mod text;
 
 pub use capture_file::Paths;
+pub use merge::run_merge;
 pub use migrate::run_migrate;
 pub use receive::{Wanted, run_receive};
 pub use send::run_send;

@@ -110,7 +110,10 @@ where
 }
 
 /// Writes a receiver's file.
-fn save<A: Allocator, K: ByteSink>(receiver: &Receiver<A>, state: &mut K) -> Result<(), Fault>
+pub(crate) fn save<A: Allocator, K: ByteSink>(
+    receiver: &Receiver<A>,
+    state: &mut K,
+) -> Result<(), Fault>
     ensures whole { OnOk result (Appends (K.held state.old) (K.held state.new) (state_text (kept_of receiver.now))) }
     ensures saved { OnOk result (Saves (K.held state.old) (K.held state.new)) }
     ensures refused { IfErr result (λ f. IfRefused f (state.new ≡ state.old)) }
