@@ -15,3 +15,4 @@ pub mod FrameReads
 pub mod StateRuns
 pub mod Again
 pub mod Exchanged
+pub mod SameKept

@@ -8,6 +8,7 @@ mod frames;
 mod front;
 mod groups;
 mod known;
+pub mod laws;
 mod loading;
 mod octets;
 mod rows;

@@ -1,6 +1,6 @@
 //! A receiver from a source.
-ghost use Rattle.std.specs.Prelude.{◌≡◌, ◌≤◌, ◌<◌, All, [], Some, length, IfErr, IfOk, OnOk, MatchResult};
-ghost use Rattle.path_merge.specs.Frames.{IsReceiver};
+ghost use Rattle.std.specs.Prelude.{◌≡◌, ℕ, ◌≤◌, ◌<◌, All, List, [], Some, length, IfErr, IfOk, OnOk, MatchResult};
+ghost use Rattle.path_merge.specs.Frames.{Holds, IsReceiver, State};
 ghost use Rattle.path_merge.specs.Opening.{AreDifferent};
 ghost use Rattle.capture_file.specs.Faults.{CountsDevice, IsMachine};
 ghost use Rattle.capture_file.specs.Fields.{Fails, Gives};
@@ -37,6 +37,12 @@ pub fn load_receiver<A: Allocator + Copy, S: ByteSource>(
     // What is a receiver's file is read as what it says, unless the memory or the device fails.
     ensures only { (k : Kept) → S.to_give source.old ≡ Some (state_text k) → IsSaved k
         → MatchResult result (λ r. kept_of r ≡ k) IsMachine }
+    // The file of a receiver is read as that receiver, its refusals aside,
+    ensures same { (s : State) → S.to_give source.old ≡ Some (state_text (kept_of s)) → IsReceiver s → IsSaved (kept_of s)
+        → IfOk result (λ r. (r.opening ≡ s.opening) × (r.frames ≡ s.frames)) }
+    // and so it holds the frames of the datagrams that that one held.
+    ensures holds { (s : State) (datagrams : List (List ℕ)) → S.to_give source.old ≡ Some (state_text (kept_of s)) → IsReceiver s
+        → IsSaved (kept_of s) → Holds s datagrams → IfOk result (λ r. Holds r datagrams) }
 {
     read_receiver(alloc, source)
 }
