@@ -1,4 +1,5 @@
 //! The commands of the program and their options, with help for a person.
+use clap::builder::ValueParser;
 use clap::{Arg, ArgAction, Command};
 use std::alloc::{AllocError, Global};
 
@@ -11,7 +12,9 @@ pub fn program<'a>(alloc: Global) -> Result<Command<'a>, AllocError> {
     let named = with_command(named, trace_command(alloc))?;
     let named = with_command(named, sdp_command(alloc))?;
     let named = with_command(named, rehearse_command(alloc))?;
+    let named = with_command(named, send_command(alloc)?)?;
     let named = with_command(named, receive_command(alloc)?)?;
+    let named = with_command(named, merge_command(alloc)?)?;
     with_command(named, migrate_command(alloc)?)
 }
 
@@ -37,10 +40,70 @@ fn rehearse_command<'a>(alloc: Global) -> Command<'a> {
     )
 }
 
+/// The words for the paths of a capture.
+const PATHS: &[&str] = &["a", "b", "both"];
+
+fn send_command<'a>(alloc: Global) -> Result<Command<'a>, AllocError> {
+    let command = Command::new(alloc, "send")
+        .about(
+            "Sends pictures of one format into a capture, and prints how many datagrams that are",
+        )
+        .arg(required(alloc, "out", "FILE").help("Where the capture is written"))?
+        .arg(optional(alloc, "sdp", "FILE").help(
+            "SDP text that the capture has; without it, its text is empty",
+        ))?;
+    let command = with_stamp(alloc, command)?;
+    command
+        .arg(
+            optional(alloc, "max", "OCTETS")
+                .value_parser(clap::value_parser!(u32))
+                .default_value("1400")
+                .help("The most octets of a packet, up to 9000"),
+        )?
+        .arg(
+            optional(alloc, "paths", "PATHS")
+                .value_parser(ValueParser::Names(PATHS))
+                .default_value("a")
+                .help("The paths by which each packet goes"),
+        )?
+        .arg(files(alloc, "pictures", "PICTURE").help(
+            "Pictures, sent one after the other: the k-th is the k-th frame",
+        ))
+}
+
+/// What the packets of a stream have in common, and where its numbers and timestamps begin.
+fn with_stamp<'a>(alloc: Global, command: Command<'a>) -> Result<Command<'a>, AllocError> {
+    command
+        .arg(
+            optional(alloc, "pt", "N")
+                .value_parser(clap::value_parser!(u8).range(..128))
+                .default_value("96")
+                .help("The payload type, up to 127"),
+        )?
+        .arg(
+            optional(alloc, "first", "N")
+                .value_parser(clap::value_parser!(u32))
+                .default_value("0")
+                .help("The number of the first packet; numbers run on"),
+        )?
+        .arg(
+            optional(alloc, "base", "TS")
+                .value_parser(clap::value_parser!(u32))
+                .default_value("0")
+                .help("The timestamp of the first picture, in ticks of 90 kHz"),
+        )?
+        .arg(
+            optional(alloc, "ssrc", "N")
+                .value_parser(clap::value_parser!(u32))
+                .default_value("1")
+                .help("The synchronization source"),
+        )
+}
+
 fn receive_command<'a>(alloc: Global) -> Result<Command<'a>, AllocError> {
     Command::new(alloc, "receive")
         .about(
-            "Takes the datagrams of captures into one receiver, and prints how many came and a line for each frame",
+            "Takes the datagrams of captures into one receiver, prints how many came and a line for each frame, and writes what is known of each sample",
         )
         .arg(optional(alloc, "sdp", "FILE").help(
             "SDP text that says format and payload type; without it, the text of the first capture",
@@ -53,10 +116,21 @@ fn receive_command<'a>(alloc: Global) -> Result<Command<'a>, AllocError> {
                 .default_value("any")
                 .help("The one source to take datagrams of: a number, or any"),
         )?
+        .arg(required(alloc, "state", "FILE").help("Where the receiver is written"))?
         .arg(flag(alloc, "refusals").help(
             "Also print how many datagrams were refused for which reason, and how many had other timestamps",
         ))?
         .arg(files(alloc, "captures", "CAPTURE").help("Captures, taken one after the other"))
+}
+
+fn merge_command<'a>(alloc: Global) -> Result<Command<'a>, AllocError> {
+    Command::new(alloc, "merge")
+        .about(
+            "Merges two receivers that were opened alike, prints a line for each frame, and writes what both know of each sample",
+        )
+        .arg(required(alloc, "state", "FILE").help("Where the merged receiver is written"))?
+        .arg(one_file(alloc, "left", "LEFT").help("Receiver's file, as receive writes it"))?
+        .arg(one_file(alloc, "right", "RIGHT").help("The receiver's file that is merged into it"))
 }
 
 fn migrate_command<'a>(alloc: Global) -> Result<Command<'a>, AllocError> {
@@ -66,12 +140,7 @@ fn migrate_command<'a>(alloc: Global) -> Result<Command<'a>, AllocError> {
         )
         .arg(required(alloc, "sdp", "FILE").help("SDP text that the new capture has"))?
         .arg(required(alloc, "out", "FILE").help("Where the new capture is written"))?
-        .arg(
-            Arg::new(alloc, "capture")
-                .value_name("CAPTURE")
-                .required(true)
-                .help("Capture of version 01"),
-        )
+        .arg(one_file(alloc, "capture", "CAPTURE").help("Capture of version 01"))
 }
 
 /// An option with a value.
@@ -87,6 +156,11 @@ fn required<'a>(alloc: Global, name: &'a str, value: &'a str) -> Arg<'a> {
 /// An option without a value.
 fn flag<'a>(alloc: Global, name: &'a str) -> Arg<'a> {
     Arg::new(alloc, name).long(name).action(ArgAction::SetTrue)
+}
+
+/// One file.
+fn one_file<'a>(alloc: Global, name: &'a str, value: &'a str) -> Arg<'a> {
+    Arg::new(alloc, name).value_name(value).required(true)
 }
 
 /// One file or more.

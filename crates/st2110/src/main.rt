@@ -7,7 +7,7 @@ mod runs;
 mod streams;
 mod words;
 
-use crate::runs::{migrate, receive, rehearse, sdp, trace};
+use crate::runs::{merge, migrate, receive, rehearse, sdp, send, trace};
 use crate::words::{Words, WordsFault, given_words, read_words};
 use st2110_tool::Status;
 use std::process::ExitCode;
@@ -27,7 +27,9 @@ fn run(rt: &HostRuntime) -> u8 {
         Ok(Words::Sdp) => sdp(rt),
         Ok(Words::Rehearse) => rehearse(rt),
         Ok(Words::Migrate(words)) => migrate(rt, words),
+        Ok(Words::Send(words)) => send(rt, &words),
         Ok(Words::Receive(words)) => receive(rt, &words),
+        Ok(Words::Merge(words)) => merge(rt, words),
         Err(fault) => refuse(rt, &fault).number(),
     }
 }

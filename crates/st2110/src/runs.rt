@@ -1,8 +1,8 @@
 //! The commands, each with the real devices that its engine works on.
 use crate::files::{FileSink, FileSource};
 use crate::streams::{InputSource, OutputSink};
-use crate::words::{MigrateWords, ReceiveWords};
-use file_engines::{Wanted, run_migrate, run_receive};
+use crate::words::{MergeWords, MigrateWords, ReceiveWords, SendWords};
+use file_engines::{Wanted, run_merge, run_migrate, run_receive, run_send};
 use st2110_tool::{Status, run_rehearse, run_sdp, run_trace};
 use std::alloc::AllocError;
 
@@ -48,32 +48,76 @@ pub fn migrate(rt: &HostRuntime, words: MigrateWords<'_>) -> u8 {
     finish(rt, status, out)
 }
 
+/// Sends pictures into a capture.
+pub fn send<'a>(rt: &'a HostRuntime, words: &SendWords<'a>) -> u8 {
+    let mut output = OutputSink::new(rt.stdout());
+    let mut faults = OutputSink::new(rt.stderr());
+    let Ok(mut pictures) = sources(rt, words.pictures.as_slice()) else {
+        return without_memory(rt);
+    };
+    let mut sdp = source(rt, words.sdp);
+    let (status, out) = run_send(
+        rt.alloc(),
+        words.sending,
+        &mut sdp,
+        pictures.as_mut_slice(),
+        FileSink::new(rt, words.out),
+        &mut output,
+        &mut faults,
+    );
+    finish(rt, status, out)
+}
+
 /// Takes the datagrams of captures into one receiver.
 pub fn receive<'a>(rt: &'a HostRuntime, words: &ReceiveWords<'a>) -> u8 {
     let mut output = OutputSink::new(rt.stdout());
     let mut faults = OutputSink::new(rt.stderr());
     let Ok(mut captures) = sources(rt, words.captures.as_slice()) else {
-        // That standard error may fail too changes nothing
-        let _ = eprintln!(rt; "st2110: memory");
-        return Status::Memory.number();
+        return without_memory(rt);
     };
-    let mut sdp = match words.sdp {
-        Some(name) => Some(FileSource::new(rt, name)),
-        None => None,
-    };
+    let mut sdp = source(rt, words.sdp);
+    let mut state = FileSink::new(rt, words.state);
     let wanted = Wanted {
         window: words.window.as_bytes(),
         ssrc: words.ssrc.as_bytes(),
         tells_refusals: words.refusals,
     };
-    run_receive(
+    let status = run_receive(
         rt.alloc(),
         wanted,
         &mut sdp,
         &mut captures,
+        &mut state,
         &mut output,
         &mut faults,
-    )
+    );
+    finish(rt, status, state)
+}
+
+/// Merges two receivers that were written as files.
+pub fn merge(rt: &HostRuntime, words: MergeWords<'_>) -> u8 {
+    let mut left = FileSource::new(rt, words.left);
+    let mut right = FileSource::new(rt, words.right);
+    let mut state = FileSink::new(rt, words.state);
+    let mut output = OutputSink::new(rt.stdout());
+    let mut faults = OutputSink::new(rt.stderr());
+    let status = run_merge(
+        rt.alloc(),
+        &mut left,
+        &mut right,
+        &mut state,
+        &mut output,
+        &mut faults,
+    );
+    finish(rt, status, state)
+}
+
+/// The file of this name, where one is named, which isn't looked at yet.
+fn source<'a>(rt: &'a HostRuntime, name: Option<&'a str>) -> Option<FileSource<'a>> {
+    match name {
+        Some(name) => Some(FileSource::new(rt, name)),
+        None => None,
+    }
 }
 
 /// The files of these names, none of which is looked at yet.
@@ -83,6 +127,13 @@ fn sources<'a>(rt: &'a HostRuntime, names: &[&'a str]) -> Result<Vec<FileSource<
         sources.push(FileSource::new(rt, name))?;
     }
     Ok(sources)
+}
+
+/// Tells that memory was wanted.
+fn without_memory(rt: &HostRuntime) -> u8 {
+    // That standard error may fail too changes nothing
+    let _ = eprintln!(rt; "st2110: memory");
+    Status::Memory.number()
 }
 
 /// Writes out what a file's buffer holds. Where that fails, which the engine can't know, the run ends by a device's

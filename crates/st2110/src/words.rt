@@ -1,7 +1,10 @@
 //! The words of the command line.
+ghost use Rattle.std.specs.Prelude.{◌≤◌};
+
 use crate::commands::program;
 use clap::error::ErrorKind;
 use clap::{ArgMatches, Error};
+use file_engines::{Paths, Sending};
 use std::alloc::{AllocError, Global};
 use std::rt::Env;
 use std::{env, io};
@@ -17,8 +20,12 @@ pub enum Words<'a> {
     Rehearse,
     /// Write a capture of version 01 as one of version 02.
     Migrate(MigrateWords<'a>),
+    /// Send pictures into a capture.
+    Send(SendWords<'a>),
     /// Take the datagrams of captures.
     Receive(ReceiveWords<'a>),
+    /// Merge two receivers.
+    Merge(MergeWords<'a>),
 }
 
 /// The words behind `migrate`: names of files.
@@ -29,6 +36,19 @@ pub struct MigrateWords<'a> {
     pub capture: &'a str,
 }
 
+/// The words behind `send`.
+#[derive(Drop)]
+pub struct SendWords<'a> {
+    /// The SDP's file, where one is named.
+    pub sdp: Option<&'a str>,
+    /// The capture's file.
+    pub out: &'a str,
+    pub sending: Sending,
+    /// The pictures' files.
+    pub pictures: Vec<&'a str>,
+    ghost payload_type: { sending.payload_type ≤ 127 },
+}
+
 /// The words behind `receive`.
 #[derive(Drop)]
 pub struct ReceiveWords<'a> {
@@ -36,10 +56,20 @@ pub struct ReceiveWords<'a> {
     pub sdp: Option<&'a str>,
     pub window: &'a str,
     pub ssrc: &'a str,
+    /// The receiver's file.
+    pub state: &'a str,
     /// Whether refusals are counted and told.
     pub refusals: bool,
     /// The captures' files.
     pub captures: Vec<&'a str>,
+}
+
+/// The words behind `merge`: names of receivers' files.
+#[derive(Clone, Copy)]
+pub struct MergeWords<'a> {
+    pub state: &'a str,
+    pub left: &'a str,
+    pub right: &'a str,
 }
 
 /// Why the words are not followed.
@@ -92,7 +122,9 @@ pub fn read_words(alloc: Global, words: &[String]) -> Result<Words<'_>, WordsFau
         Some(("sdp", _)) => Words::Sdp,
         Some(("rehearse", _)) => Words::Rehearse,
         Some(("migrate", given)) => Words::Migrate(migrate_words(given)),
+        Some(("send", given)) => Words::Send(send_words(alloc, given)?),
         Some(("receive", given)) => Words::Receive(receive_words(alloc, given)?),
+        Some(("merge", given)) => Words::Merge(merge_words(given)),
         // clap lets `trace` and no words through, and nothing else.
         _ => Words::Trace,
     })
@@ -106,6 +138,42 @@ fn migrate_words<'a>(given: &ArgMatches<'a>) -> MigrateWords<'a> {
     }
 }
 
+fn send_words<'a>(alloc: Global, given: &ArgMatches<'a>) -> Result<SendWords<'a>, AllocError> {
+    let sending = Sending {
+        payload_type: payload_type(given),
+        first: number(given, "first"),
+        base: number(given, "base"),
+        ssrc: number(given, "ssrc"),
+        max_octets: number(given, "max"),
+        paths: paths(given),
+    };
+    Ok(SendWords {
+        sdp: given.get_str("sdp"),
+        out: word(given, "out"),
+        sending,
+        pictures: list(alloc, given, "pictures")?,
+    })
+}
+
+/// The payload type: clap lets none above 127 through.
+fn payload_type(given: &ArgMatches<'_>) -> u8
+    ensures { result ≤ 127 }
+{
+    match given.get_one::<u8>("pt") {
+        Some(payload_type) if payload_type <= 127 => payload_type,
+        _ => 96,
+    }
+}
+
+/// The paths that are named: clap lets `a`, `b` and `both` through.
+fn paths(given: &ArgMatches<'_>) -> Paths {
+    match word(given, "paths") {
+        "b" => Paths::OnlyB,
+        "both" => Paths::Both,
+        _ => Paths::OnlyA,
+    }
+}
+
 fn receive_words<'a>(
     alloc: Global,
     given: &ArgMatches<'a>,
@@ -114,14 +182,28 @@ fn receive_words<'a>(
         sdp: given.get_str("sdp"),
         window: word(given, "window"),
         ssrc: word(given, "ssrc"),
+        state: word(given, "state"),
         refusals: given.get_flag("refusals"),
         captures: list(alloc, given, "captures")?,
     })
 }
 
+fn merge_words<'a>(given: &ArgMatches<'a>) -> MergeWords<'a> {
+    MergeWords {
+        state: word(given, "state"),
+        left: word(given, "left"),
+        right: word(given, "right"),
+    }
+}
+
 /// The word of an option that has one: clap asks for it, or has a default.
 fn word<'a>(given: &ArgMatches<'a>, id: &str) -> &'a str {
     given.get_str(id).unwrap_or("")
+}
+
+/// The number of an option that has one: clap reads it, or has a default.
+fn number(given: &ArgMatches<'_>, id: &str) -> u32 {
+    given.get_one::<u32>(id).unwrap_or(0)
 }
 
 /// The words of a list.

@@ -1,0 +1,71 @@
+# merge: two receivers' files as one.
+run receive --state g.rcv --sdp q.sdp --window 900 old.cap
+run merge --state h.rcv g.rcv g.rcv
+says 'received-capture: merged with itself' 0 "$frame" ''
+holds 'received-capture: merged with itself, the receiver' h.rcv "$opened 00 00000000 01 00000384 $known"
+run receive --state second.rcv --sdp q.sdp --window 900 second.cap
+run merge --state h.rcv g.rcv second.rcv
+says merge-two-halves 0 "$whole" ''
+holds 'merge-two-halves: the receiver' h.rcv "$opened 00 00000000 01 00000384 01 80108011 01 80128013 01 80148015 01 80168017"
+run merge --state g.rcv g.rcv second.rcv
+says 'merge-two-halves: into its own file' 0 "$whole" ''
+holds 'merge-two-halves: into its own file, the receiver' g.rcv "$opened 00 00000000 01 00000384 01 80108011 01 80128013 01 80148015 01 80168017"
+run receive --state g.rcv --sdp q.sdp --window 900 old.cap
+run receive --state differ.rcv --sdp q.sdp --window 900 differ.cap
+run merge --state h.rcv g.rcv differ.rcv
+says 'a contested sample stays so' 0 'frame 900 present 7 missing 8 contested 1' ''
+
+# The round trip: what two lossy captures give each by itself and then merged is what both give one receiver.
+run receive --state lossy3.rcv --window 900 lossy3.cap
+run receive --state lossy4.rcv --window 900 lossy4.cap
+run merge --state merged.rcv lossy3.rcv lossy4.rcv
+says 'a round trip: merged' 0 "$whole" ''
+if cmp -s merged.rcv lossy.rcv; then
+    pass 'a round trip: merged, the receiver'
+else
+    fail 'a round trip: merged, the receiver' 'it differs from that of both captures'
+fi
+
+# Receivers that were opened unlike: another window, another source.
+run receive --state other.rcv --sdp q.sdp --window 901 old.cap
+run merge --state no-merge.rcv g.rcv other.rcv
+says 'another window' 1 '' 'st2110: merge 1 OpenedUnlike'
+run receive --state other.rcv --sdp q.sdp --window 900 --ssrc 1 old.cap
+run merge --state no-merge.rcv g.rcv other.rcv
+says 'another source' 1 '' 'st2110: merge 1 OpenedUnlike'
+
+# Files that are refused, and devices that fail.
+state="$opened 00 00000000 01 00000384"
+refuse_state() {
+    octets "$2" >bad.rcv
+    run merge --state no-merge.rcv bad.rcv g.rcv
+    says "merge: $1, left" 1 '' "st2110: state $3"
+    run merge --state no-merge.rcv g.rcv bad.rcv
+    says "merge: $1, right" 1 '' "st2110: state $3"
+}
+refuse_state 'a cut receiver' "$state 01 80108011 01 80128013 00" '5 Truncated'
+refuse_state 'an empty file' '' '5 Truncated'
+refuse_state 'a picture' "5332305049433031 0008000400020000003C00000001 $u$l" '3 BadName'
+refuse_state 'version 02' "5332305243563032 0008000400020000003C00000001 60 00 00000000 01 00000384 00 00 00 00" '4 BadVersion'
+refuse_state 'a state of 3' "$state 03 80108011 01 80128013 00 00" '6 BadField'
+refuse_state 'a timestamp twice' "$opened 00 00000000 02 00000384 00 00 00 00 00000384 00 00 00 00" '6 BadField'
+refuse_state 'a mask of 0' "$state 02 0000 80008011 01 80128013 00 00" '8 MixedGroup'
+refuse_state 'an octet more' "$state 00 00 00 00 00" '7 TrailingBytes'
+run merge --state no-merge.rcv no-such-file g.rcv
+says 'merge: no such file' 3 '' 'st2110: device'
+run merge --state no-merge.rcv g.rcv .
+says 'merge: a folder' 3 '' 'st2110: device'
+none 'merge: nothing is written after a refusal' no-merge.rcv
+run merge --state /dev/full g.rcv g.rcv
+says 'merge: a full file' 3 "$frame" 'st2110: device'
+run merge --state no-such-folder/h.rcv g.rcv g.rcv
+says 'merge: a file that cannot be made' 3 "$frame" 'st2110: device'
+cat g.rcv | "$program" merge --state h.rcv /dev/stdin g.rcv >out 2>err
+status=$?
+says 'merge: a pipe' 0 "$frame" ''
+run merge --state h.rcv g.rcv
+if [ "$status" = 2 ] && [ -s err ] && [ ! -s out ]; then
+    pass 'merge: one file alone'
+else
+    fail 'merge: one file alone' "status $status"
+fi

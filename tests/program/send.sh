@@ -1,0 +1,141 @@
+# send: pictures as captures of datagrams.
+picture="5332305049433031 0008000400020000003C00000001 $u$l"
+octets "$picture" >p.pic
+octets "5332305049433031 0008000400010000003C00000001 $u" >row.pic
+sent="80E00000 00000000 00000001 0000 0008 0000 8000 0008 0001 0000 $u$l"
+one="5332304341503032 0000 00 0000000000000000 002A $sent"
+
+run send --out f.cap --max 42 p.pic
+says sent-capture 0 'sent 1' ''
+holds 'sent-capture: the file' f.cap "$one"
+run send --out f.cap --max 42 --paths both p.pic
+says 'sent-capture: both paths' 0 'sent 1' ''
+holds 'sent-capture: both paths, the file' f.cap "$one 01 0000000000000001 002A $sent"
+run send --out f.cap --max 42 --paths b p.pic
+says 'sent-capture: path B' 0 'sent 1' ''
+holds 'sent-capture: path B, the file' f.cap "5332304341503032 0000 01 0000000000000000 002A $sent"
+run send --out f.cap --max 42 p.pic row.pic
+says 'sent-capture: a picture of 4 by 1' 1 '' 'st2110: send 1 FormatsDiffer'
+holds 'sent-capture: a picture of 4 by 1, what was sent' f.cap "$one"
+
+# Numbers and timestamps run on, and the stamp's other fields are as they were asked for.
+behind="0008 0000 8000 0008 0001 0000 $u$l"
+run send --out f.cap --pt 97 --first 65535 --base 900 --ssrc 7 p.pic p.pic
+says 'two pictures' 0 'sent 2' ''
+holds 'two pictures: the file' f.cap "5332304341503032 0000 00 0000000000000000 002A 80E1FFFF 00000384 00000007 0000 $behind \
+    00 0000000000000001 002A 80E10000 00000960 00000007 0001 $behind"
+run send --out f.cap --first 4294967295 --base 4294967295 p.pic p.pic
+says 'numbers and timestamps begin anew' 0 'sent 2' ''
+holds 'numbers and timestamps begin anew: the file' f.cap "5332304341503032 0000 00 0000000000000000 002A 80E0FFFF FFFFFFFF 00000001 FFFF $behind \
+    00 0000000000000001 002A 80E00000 000005DB 00000001 0000 $behind"
+
+# A round trip: the capture's text opens the receiver, and what is known of the frame is the picture.
+run send --out trip.cap --sdp q.sdp --base 900 --max 24 --paths both p.pic
+says 'a round trip: sent' 0 'sent 4' ''
+run receive --state trip.rcv --window 900 trip.cap
+says 'a round trip: received' 0 "delivered 8
+$whole" ''
+holds 'a round trip: the receiver' trip.rcv "$opened 00 00000000 01 00000384 01 80108011 01 80128013 01 80148015 01 80168017"
+# Its eight records have 35 octets each. A capture lacks every third, another every fourth.
+front=$((10 + $(wc -c <q.sdp)))
+for every in 3 4; do
+    head -c "$front" trip.cap >"lossy$every.cap"
+    i=0
+    while [ $i -lt 8 ]; do
+        if [ $(((i + 1) % every)) != 0 ]; then
+            tail -c +$((front + 35 * i + 1)) trip.cap | head -c 35 >>"lossy$every.cap"
+        fi
+        i=$((i + 1))
+    done
+done
+run receive --state lossy.rcv --window 900 lossy3.cap lossy4.cap
+says 'a round trip: what two captures lack' 0 "delivered 12
+$whole" ''
+if cmp -s lossy.rcv trip.rcv; then
+    pass 'a round trip: what two captures lack, the receiver'
+else
+    fail 'a round trip: what two captures lack, the receiver' 'it differs'
+fi
+run send --out text.cap --sdp q.sdp --max 42 p.pic
+says 'a capture with a text' 0 'sent 1' ''
+holds 'a capture with a text: the file' text.cap "5332304341503032 $q_length $q_digits 00 0000000000000000 002A $sent"
+
+# What is refused before a picture is read, and then nothing is written.
+words() {
+    i=0
+    while [ $i -lt "$1" ]; do
+        echo no-such-file
+        i=$((i + 1))
+    done
+}
+run send --out no-send.cap --sdp no-such-file $(words 10001)
+says 'ten thousand pictures and one' 1 '' 'st2110: send 2 TooManyPictures'
+run send --out no-send.cap $(words 10000)
+says 'ten thousand pictures that are not there' 3 '' 'st2110: device'
+head -c 65536 /dev/zero >long.sdp
+run send --out no-send.cap --sdp long.sdp no-such-file
+says 'send: a long SDP' 1 '' 'st2110: send 3 SdpTooLong'
+head -c 65535 /dev/zero >long.sdp
+run send --out no-send.cap --sdp long.sdp no-such-file
+says 'send: an SDP of 65,535 octets' 1 '' 'st2110: sdp 2 NoVideo'
+run send --out no-send.cap --sdp no-such-file p.pic
+says 'send: no such SDP' 3 '' 'st2110: device'
+run send --out no-send.cap --max 23 p.pic
+says 'send: small packets' 1 '' 'st2110: plan 2 BadPacketSize'
+run send --out no-send.cap --max 9001 p.pic
+says 'send: large packets' 1 '' 'st2110: plan 2 BadPacketSize'
+
+# Pictures that are refused, and devices that fail.
+run send --out no-send.cap no-such-file
+says 'send: no such picture' 3 '' 'st2110: device'
+run send --out no-send.cap .
+says 'send: a folder' 3 '' 'st2110: device'
+run send --out no-send.cap empty
+says 'send: an empty picture' 1 '' 'st2110: picture 5 Truncated'
+head -c 37 p.pic >bad.pic
+run send --out no-send.cap bad.pic
+says 'send: a cut picture' 1 '' 'st2110: picture 5 Truncated'
+octets "$picture 00" >bad.pic
+run send --out no-send.cap bad.pic
+says 'send: a picture with an octet more' 1 '' 'st2110: picture 7 TrailingBytes'
+octets "5332305049433032 0008000400020000003C00000001 $u$l" >bad.pic
+run send --out no-send.cap bad.pic
+says 'send: a picture of version 02' 1 '' 'st2110: picture 4 BadVersion'
+run send --out no-send.cap old.cap
+says 'send: a capture' 1 '' 'st2110: picture 3 BadName'
+octets "5332305049433031 000E000400020000003C00000001 $u$l" >bad.pic
+run send --out no-send.cap bad.pic
+says 'send: a depth of 14 bits' 1 '' 'st2110: picture 6 BadField'
+none 'send: nothing is written after a refusal' no-send.cap
+run send --out f.cap --max 42 p.pic no-such-file
+says 'send: no such second picture' 3 '' 'st2110: device'
+holds 'send: no such second picture, what was sent' f.cap "$one"
+run send --out /dev/full p.pic
+says 'send: a full file' 3 'sent 1' 'st2110: device'
+run send --out no-such-folder/f.cap p.pic
+says 'send: a file that cannot be made' 3 '' 'st2110: device'
+"$program" send --out f.cap p.pic >/dev/full 2>err
+status=$?
+: >out
+says 'send: a full output' 3 '' 'st2110: device'
+cat p.pic | "$program" send --out f.cap --max 42 /dev/stdin >out 2>err
+status=$?
+says 'send: a pipe' 0 'sent 1' ''
+holds 'send: a pipe, the file' f.cap "$one"
+
+# Words that the command line refuses.
+refused() {
+    name=$1
+    shift
+    run send "$@"
+    if [ "$status" = 2 ] && [ -s err ] && [ ! -s out ]; then
+        pass "send: $name"
+    else
+        fail "send: $name" "status $status"
+    fi
+}
+refused 'without --out' p.pic
+refused 'without pictures' --out f.cap
+refused 'a payload type of 128' --out f.cap --pt 128 p.pic
+refused 'a number of 33 bits' --out f.cap --first 4294967296 p.pic
+refused 'a path C' --out f.cap --paths c p.pic
