@@ -16,3 +16,4 @@ pub mod StateRuns
 pub mod Again
 pub mod Exchanged
 pub mod SameKept
+pub mod Savable

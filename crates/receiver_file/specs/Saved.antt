@@ -1,15 +1,17 @@
 -- What is kept of a receiver, and what a receiver's file says (own).
-use Rattle.std.specs.Prelude.{◌≡◌, ℕ, ◌<◌, List, [], ◌∷◌, ◌++◌, map, Ok}
-use Rattle.std.specs.List.{flat_map}
+use Rattle.std.specs.Prelude.{◌≡◌, ℕ, ◌^◌, ◌<◌, List, [], ◌∷◌, ◌++◌, map, Ok}
+use Rattle.std.specs.List.{AllByRecursion, flat_map}
 use Rattle.st_format.specs.declared.cell.Cell.{Cell}
 use Rattle.st_format.specs.Pgroup.{pixel_group}
+use Rattle.st_format.specs.Fit.{ValuesFit}
 use Rattle.st_format.specs.Fields.{Fields, fields_of, format_at}
-use Rattle.st_format.specs.Raster.{Raster}
-use Rattle.path_merge.specs.Frames.{State}
+use Rattle.st_format.specs.Raster.{IsWhole, Raster}
+use Rattle.frame_assembly.specs.Rows.{GroupsAreWhole}
+use Rattle.path_merge.specs.Frames.{IsReceiver, State}
 use Rattle.path_merge.specs.Opening.{IsWindow}
 use Rattle.capture_file.specs.declared.front.Version.TheVariants.{One}
 use Rattle.capture_file.specs.Fronts.{kind_text, receiver_name}
-use Rattle.capture_file.specs.StateFile.{Held, IsKept, Kept, cut_cells, format_text, group_count, held_of, held_text, opening_text}
+use Rattle.capture_file.specs.StateFile.{Held, IsKept, Kept, SsrcFits, cut_cells, format_text, group_count, held_of, held_text, opening_text}
 
 -- what is kept of frames, one for each timestamp
 abbrev pub kept_frames : Fields → List ℕ → List Raster → List Held
@@ -36,6 +38,20 @@ pub record IsSaved (k : Kept) : Type 0 where
   pub format : format_at k.format.sampling k.format.depth k.format.width k.format.height k.format.n k.format.d ≡ Ok k.format
   pub payload_type : k.payload_type < 128
   pub window : IsWindow (map timestamp_in k.frames)
+
+-- What each call on a frame tells of it: a cell for each position, values that fit, and groups that are missing as a
+-- whole or have no missing sample
+pub record IsFilled (r : Raster) : Type 0 where
+  pub whole : IsWhole r
+  pub fit : ValuesFit r
+  pub groups : GroupsAreWhole r
+
+-- a receiver whose numbers have their widths, and whose frames are so
+pub record IsWritable (s : State) : Type 0 where
+  pub receiver : IsReceiver s
+  pub ssrc : SsrcFits s.opening.ssrc
+  pub timestamps : AllByRecursion (λ t. t < 2 ^ 32) s.opening.window
+  pub frames : AllByRecursion IsFilled s.frames
 
 -- the two parts of a file: what stands before the frames, and the frames
 abbrev pub front_text : Kept → List ℕ

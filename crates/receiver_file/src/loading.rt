@@ -5,7 +5,7 @@ ghost use Rattle.path_merge.specs.Opening.{AreDifferent};
 ghost use Rattle.capture_file.specs.Faults.{CountsDevice, IsMachine};
 ghost use Rattle.capture_file.specs.Fields.{Fails, Gives};
 ghost use Rattle.capture_file.specs.StateFile.{Kept, state_text};
-ghost use Rattle.receiver_file.specs.Saved.{IsSaved, kept_of};
+ghost use Rattle.receiver_file.specs.Saved.{IsSaved, IsWritable, kept_of};
 ghost use Rattle.receiver_file.specs.StateReading.{end_at, state_at};
 
 use crate::frames::{Frames, read_frames};
@@ -38,11 +38,11 @@ pub fn load_receiver<A: Allocator + Copy, S: ByteSource>(
     ensures only { (k : Kept) → S.to_give source.old ≡ Some (state_text k) → IsSaved k
         → MatchResult result (λ r. kept_of r ≡ k) IsMachine }
     // The file of a receiver is read as that receiver, its refusals aside,
-    ensures same { (s : State) → S.to_give source.old ≡ Some (state_text (kept_of s)) → IsReceiver s → IsSaved (kept_of s)
+    ensures same { (s : State) → S.to_give source.old ≡ Some (state_text (kept_of s)) → IsWritable s
         → IfOk result (λ r. (r.opening ≡ s.opening) × (r.frames ≡ s.frames)) }
     // and so it holds the frames of the datagrams that that one held.
-    ensures holds { (s : State) (datagrams : List (List ℕ)) → S.to_give source.old ≡ Some (state_text (kept_of s)) → IsReceiver s
-        → IsSaved (kept_of s) → Holds s datagrams → IfOk result (λ r. Holds r datagrams) }
+    ensures holds { (s : State) (datagrams : List (List ℕ)) → S.to_give source.old ≡ Some (state_text (kept_of s)) → IsWritable s
+        → Holds s datagrams → IfOk result (λ r. Holds r datagrams) }
 {
     read_receiver(alloc, source)
 }

@@ -1,14 +1,16 @@
 use Rattle.receiver_file.proofs.Again.{only_state}
 use Rattle.receiver_file.proofs.SameKept.{loaded_holds, loaded_same}
+use Rattle.receiver_file.proofs.Savable.{writable_saved}
 use Rattle.receiver_file.proofs.loading.load_receiver.Goals as goal
 
 pub returns-clause-only : goal.returns-clause-only
 returns-clause-only g c = λ k told is. only_state _ _ c.read_receiver.result c.read_receiver.ensures.read c.read_receiver.ensures.fault k told is
 
 pub returns-clause-same : goal.returns-clause-same
-returns-clause-same g c = λ s told b is. loaded_same _ _ c.read_receiver.result c.read_receiver.ensures.read c.read_receiver.ensures.fault c.read_receiver.ensures.receiver s told b is
+returns-clause-same g c =
+    λ s told is. loaded_same _ _ c.read_receiver.result c.read_receiver.ensures.read c.read_receiver.ensures.fault c.read_receiver.ensures.receiver s told is.receiver (writable_saved s is)
 
 pub returns-clause-holds : goal.returns-clause-holds
 returns-clause-holds g c =
-    λ s datagrams told b is h. loaded_holds c.read_receiver.result s datagrams h
-    (loaded_same _ _ c.read_receiver.result c.read_receiver.ensures.read c.read_receiver.ensures.fault c.read_receiver.ensures.receiver s told b is)
+    λ s datagrams told is h. loaded_holds c.read_receiver.result s datagrams h
+    (loaded_same _ _ c.read_receiver.result c.read_receiver.ensures.read c.read_receiver.ensures.fault c.read_receiver.ensures.receiver s told is.receiver (writable_saved s is))
