@@ -185,3 +185,29 @@ fn state_file_without_memory(rt: HostRuntime) -> Result<(), Fail> {
     }
     Ok(())
 }
+
+/// Nothing is known yet of a receiver of each depth: its file says its depth, and is read again.
+#[test]
+fn state_file_of_each_depth(rt: HostRuntime) -> Result<(), Fail> {
+    for (depth, bits) in [
+        (Depth::D8, 8),
+        (Depth::D10, 10),
+        (Depth::D12, 12),
+        (Depth::D16, 16),
+    ] {
+        let format = Format::new(Sampling::Ycc422, depth, 4, 2, 60, 1).expect(&rt, "a format");
+        let receiver = Receiver::open(rt.alloc(), format, 96, Some(7), &[900, 901]).expect(
+            &rt,
+            "a receiver",
+        );
+        let sink = saved(&rt, &receiver);
+        assert_eq!(rt; sink.held()[9], bits);
+        let mut octets = decoded(&rt, "");
+        octets.extend_from_slice(sink.held()).expect(&rt, "memory");
+        let mut source = MemorySource::new(octets, 3, 0);
+        let again = load_receiver(rt.alloc(), &mut source).expect(&rt, "a receiver");
+        assert_eq!(rt; again.ssrc(), Some(7));
+        assert_eq!(rt; saved(&rt, &again).held(), sink.held());
+    }
+    Ok(())
+}
