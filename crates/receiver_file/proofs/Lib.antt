@@ -17,3 +17,4 @@ pub mod Again
 pub mod Exchanged
 pub mod SameKept
 pub mod Savable
+pub mod AtEnd

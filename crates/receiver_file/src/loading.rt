@@ -1,5 +1,6 @@
 //! A receiver from a source.
 ghost use Rattle.std.specs.Prelude.{◌≡◌, ℕ, ◌≤◌, ◌<◌, All, List, [], Some, length, IfErr, IfOk, OnOk, MatchResult};
+ghost use Rattle.std.specs.Io.KnownBytes.{IsAtEnd};
 ghost use Rattle.path_merge.specs.Frames.{Holds, IsReceiver, State};
 ghost use Rattle.path_merge.specs.Opening.{AreDifferent};
 ghost use Rattle.capture_file.specs.Faults.{CountsDevice, IsMachine};
@@ -34,6 +35,8 @@ pub fn load_receiver<A: Allocator + Copy, S: ByteSource>(
     ensures counted { CountsDevice (S.failures source.old) (S.failures source.new) result }
     ensures receiver { IfOk result (λ r. IsReceiver r) }
     ensures refusals { IfOk result (λ r. r.refusals ≡ []) }
+    // A source that told its octets is at its end.
+    ensures end { IfOk result (λ r. (octets : List ℕ) → S.to_give source.old ≡ Some octets → IsAtEnd (S.to_give source.new)) }
     // What is a receiver's file is read as what it says, unless the memory or the device fails.
     ensures only { (k : Kept) → S.to_give source.old ≡ Some (state_text k) → IsSaved k
         → MatchResult result (λ r. kept_of r ≡ k) IsMachine }

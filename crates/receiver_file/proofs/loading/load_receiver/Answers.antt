@@ -1,7 +1,11 @@
 use Rattle.receiver_file.proofs.Again.{only_state}
 use Rattle.receiver_file.proofs.SameKept.{loaded_holds, loaded_same}
+use Rattle.receiver_file.proofs.AtEnd.{loaded_end}
 use Rattle.receiver_file.proofs.Savable.{writable_saved}
 use Rattle.receiver_file.proofs.loading.load_receiver.Goals as goal
+
+pub returns-clause-end : goal.returns-clause-end
+returns-clause-end g c = loaded_end _ _ c.read_receiver.result c.read_receiver.ensures.read
 
 pub returns-clause-only : goal.returns-clause-only
 returns-clause-only g c = λ k told is. only_state _ _ c.read_receiver.result c.read_receiver.ensures.read c.read_receiver.ensures.fault k told is
