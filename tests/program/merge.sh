@@ -69,3 +69,14 @@ if [ "$status" = 2 ] && [ -s err ] && [ ! -s out ]; then
 else
     fail 'merge: one file alone' "status $status"
 fi
+
+# The README's two captures, of which each has one of a picture's two datagrams.
+run receive --window 900 --state a.rcv "$root/examples/path-a.cap"
+says 'the first of two datagrams by A' 0 'delivered 1
+frame 900 present 12 missing 4 contested 0' ''
+run receive --window 900 --state b.rcv "$root/examples/path-b.cap"
+says 'the second of two datagrams by B' 0 'delivered 1
+frame 900 present 4 missing 12 contested 0' ''
+run merge --state merged.rcv a.rcv b.rcv
+says 'one datagram of each path' 0 "$whole" ''
+holds 'one datagram of each path: the receiver' merged.rcv "$opened 00 00000000 01 00000384 01 80108011 01 80128013 01 80148015 01 80168017"

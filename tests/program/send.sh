@@ -139,3 +139,15 @@ refused 'without pictures' --out f.cap
 refused 'a payload type of 128' --out f.cap --pt 128 p.pic
 refused 'a number of 33 bits' --out f.cap --first 4294967296 p.pic
 refused 'a path C' --out f.cap --paths c p.pic
+
+# The commands of README's first page.
+run send --sdp "$root/examples/four-by-two.sdp" --base 900 --max 40 --paths both --out sent.cap "$root/examples/four-by-two.pic"
+says 'README: send' 0 'sent 2' ''
+run receive --window 900 --state sent.rcv sent.cap
+says 'README: receive' 0 "delivered 4
+$whole" ''
+run migrate --sdp "$root/examples/four-by-two.sdp" --out new.cap "$root/examples/one-record-01.cap"
+says 'README: migrate' 0 'records 1' ''
+run receive --window 900 --state new.rcv new.cap
+says 'README: receive what was migrated' 0 "delivered 1
+$frame" ''
