@@ -9,7 +9,10 @@ use std::alloc::{AllocError, Allocator};
 /// Timestamps parted by commas, and none where the text isn't of that form.
 ///
 /// `AllocError` comes only where the allocator refused the memory for them.
-pub fn read_timestamps<A: Allocator>(alloc: A, text: &[u8]) -> Result<Option<Vec<u32, A>>, AllocError>
+pub fn read_timestamps<A: Allocator>(
+    alloc: A,
+    text: &[u8],
+) -> Result<Option<Vec<u32, A>>, AllocError>
     ensures is { IfOk result (λ window. IfSome window (λ w. AreTimestamps text.now w.items)) }
     ensures none { IfOk result (λ window. IfNone window ((said : List ℕ) → AreTimestamps text.now said → ⊥)) }
 {
