@@ -10,8 +10,9 @@ use Rattle.st2110_tool.specs.declared.line.FormatLine.{FormatLine}
 use Rattle.st2110_tool.specs.declared.line.Place.{Place}
 use Rattle.st2110_tool.specs.declared.line.TraceLine.{TraceLine}
 use Rattle.st2110_tool.specs.declared.line.TraceLine.TheVariants.{Datagram, Slide, Numbers, Cell}
-use Rattle.st2110_tool.specs.Fields.{parted}
-use Rattle.st2110_tool.specs.Forms.{AreFormat, AreFour, AreHeightAndRate, AreOpening, AreTwo, IsFormatLine, IsOpenLine, IsRate, IsSourceText, IsTraceLine, Spells, sampling_text}
+use Rattle.tool_text.specs.Fields.{parted}
+use Rattle.st2110_tool.specs.Forms.{AreFormat, AreFour, AreHeightAndRate, AreOpening, AreTwo, IsFormatLine, IsOpenLine, IsRate, IsSourceText, IsTraceLine, sampling_text}
+use Rattle.tool_text.specs.Timestamps.{Spells}
 
 pub if_none : {X P : Type 0} (r : Option X) → r ≡ None → P → IfNone r P
 if_none None e p = p

@@ -2,5 +2,5 @@ mod LineLemmas
 mod FrameLemmas
 mod FormLemmas
 pub mod OctetLemmas
-pub mod TimestampLemmas
+pub mod WindowLemmas
 mod RehearsalLemmas

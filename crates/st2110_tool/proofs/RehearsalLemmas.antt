@@ -13,9 +13,9 @@ use Rattle.frame_assembly.proofs.PackedLemmas.{groups_agree, sizes}
 use Rattle.frame_assembly.proofs.Segments.{sample_count_groups}
 use Rattle.path_merge.specs.declared.schedule.event.Event.{Event}
 use Rattle.path_merge.specs.declared.schedule.event.Event.TheVariants.{Send, Arrive, Slide, Merge}
-use Rattle.st2110_tool.specs.Fields.{parted}
+use Rattle.tool_text.specs.Fields.{parted}
 use Rattle.st2110_tool.specs.Forms.{AreTwo}
-use Rattle.st2110_tool.specs.Number.{IsNumber}
+use Rattle.tool_text.specs.Number.{IsNumber}
 use Rattle.st2110_tool.specs.RehearsalForms.{AreArrival, AreReceiverAndNumber, AreReceivers, AreStamp, IsEventLine, IsNumberLine, IsStampLine}
 use Rattle.st2110_tool.proofs.FormLemmas.{differ, later, same_rest, second_same}
 

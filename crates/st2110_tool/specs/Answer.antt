@@ -1,15 +1,9 @@
 -- Lines of output.
 use Rattle.std.specs.Prelude.{ℕ, List, ◌++◌, codes, Option, Some, None}
 use Rattle.std.specs.Fmt.{decimal}
-use Rattle.frame_assembly.specs.declared.counts.Counts.{Counts}
+use Rattle.tool_text.specs.Frames.{counts_text}
 use Rattle.st2110_tool.specs.declared.answer.Answer.{Answer}
 use Rattle.st2110_tool.specs.declared.answer.Answer.TheVariants.{Kept, Outside, Refused, Missing, Value, Contested, Nowhere, Frame, Out, NotSlid, HandedOut, Receiver, Absent}
-
--- a word, a timestamp and how many samples are of each kind
-abbrev pub counts_text : List ℕ → ℕ → Counts → List ℕ
-counts_text word timestamp counts =
-    word ++ (decimal timestamp ++ (codes " present " ++ (decimal counts.present
-    ++ (codes " missing " ++ (decimal counts.missing ++ (codes " contested " ++ decimal counts.contested))))))
 
 -- the text of an answer; that of a refusal holds a name of the crate below
 abbrev pub answer_text : Answer → Option (List ℕ)

@@ -6,8 +6,9 @@ use Rattle.st_format.specs.Device.{Failed}
 use Rattle.st2110_tool.specs.Script.{GivesAll, GivesScript}
 use Rattle.st2110_tool.specs.declared.fault.Fault.{Fault}
 use Rattle.st2110_tool.specs.declared.fault.Fault.TheVariants as fault
-use Rattle.st2110_tool.specs.declared.status.Status.{Status}
-use Rattle.st2110_tool.specs.declared.status.Status.TheVariants.{Refused, Device, Memory}
+use Rattle.tool_text.specs.Telling.{IsRefusalLine, Tells, device_line, memory_line}
+use Rattle.tool_text.specs.declared.status.Status.{Status}
+use Rattle.tool_text.specs.declared.status.Status.TheVariants.{Device, Memory}
 
 -- what a fault says of a device that had failed old times and now new times: a device's fault that it
 -- failed, and any other that it did not
@@ -57,11 +58,6 @@ ReadsAt fault.Memory old new = ⊤
 abbrev pub Reads : {V : Type 0} → Result V Fault → Option (List ℕ) → Option (List ℕ) → Type 0
 Reads result old new = MatchResult result (λ _. GivesScript old new) (λ f. ReadsAt f old new)
 
--- A line was told: the sink took it whole, or it failed, and then the run ends by that
-abbrev pub Tells : Status → List ℕ → Status → ℕ → ℕ → Option (List ℕ) → Option (List ℕ) → Type 0
-Tells status line result old new held held' =
-    ((result ≡ status) × (new ≡ old) × Appends held held' line) ⊎ ((result ≡ Device) × Failed old new)
-
 -- the text of a fault; that of a format, an opening, a map of numbers, an SDP, a plan or a schedule
 -- holds a name of the crate below
 abbrev pub fault_text : Fault → Option (List ℕ)
@@ -74,18 +70,6 @@ fault_text (fault.Plan f) = None
 fault_text (fault.Play f) = None
 fault_text fault.Device = Some (codes "device")
 fault_text fault.Memory = Some (codes "memory")
-
-abbrev pub device_line : List ℕ
-device_line = codes "st2110: device\n"
-
-abbrev pub memory_line : List ℕ
-memory_line = codes "st2110: memory\n"
-
--- the line of a refusal with this text; where memory is wanted for it, that of memory
-abbrev pub IsRefusalLine : Option (List ℕ) → Status → List ℕ → Type 0
-IsRefusalLine text status line =
-    ((status ≡ Refused) × IfSome text (λ t. line ≡ codes "st2110: " ++ t ++ codes "\n"))
-    ⊎ ((status ≡ Memory) × (line ≡ memory_line))
 
 -- the line of a fault, and the status
 abbrev pub IsLineOf : Fault → Status → List ℕ → Type 0

@@ -1,7 +1,6 @@
 -- The forms of a script's lines.
 use Rattle.std.specs.Prelude.{◌≡◌, ◌≤◌, ℕ, List, [], ◌∷◌, ◌++◌, codes, Option, None, Some, Ok}
 use Rattle.hex.specs.Hex.{decode_of}
-use Rattle.std.specs.Str.Parse.{digits_value}
 use Rattle.st_format.specs.declared.path.Path.TheVariants as path
 use Rattle.st_format.specs.declared.format.Sampling.{Sampling}
 use Rattle.st_format.specs.declared.format.Sampling.TheVariants as sampling
@@ -10,13 +9,8 @@ use Rattle.st2110_tool.specs.declared.line.FormatLine.{FormatLine}
 use Rattle.st2110_tool.specs.declared.line.Place.{Place}
 use Rattle.st2110_tool.specs.declared.line.TraceLine.{TraceLine}
 use Rattle.st2110_tool.specs.declared.line.TraceLine.TheVariants.{Datagram, Slide, Numbers, Cell}
-use Rattle.st2110_tool.specs.Fields.{parted}
-use Rattle.st2110_tool.specs.Number.{IsNumber}
-
--- a number of this value
-pub record Spells (text : List ℕ) (n : ℕ) : Type 0 where
-  pub is : IsNumber text
-  pub value : n ≡ digits_value 10 text
+use Rattle.tool_text.specs.Fields.{parted}
+use Rattle.tool_text.specs.Timestamps.{AreTimestamps, Spells}
 
 -- two numbers, parted by the first space
 pub record AreTwo (text : List ℕ) (m n : ℕ) : Type 0 where
@@ -101,12 +95,6 @@ pub record IsOpenLine (text : List ℕ) (payload_type : ℕ) (ssrc : Option ℕ)
   pub rest : List ℕ
   pub text_is : text ≡ codes "open " ++ rest
   pub fields : AreOpening rest payload_type ssrc window
-
--- one timestamp or more, parted by commas
-abbrev pub AreTimestamps : List ℕ → List ℕ → Type 0
-AreTimestamps text [] = ⊥
-AreTimestamps text (t ∷ []) = (parted 44 text ≡ None) × Spells text t
-AreTimestamps text (t ∷ u ∷ ts) = (first : List ℕ) × (rest : List ℕ) × (parted 44 text ≡ Some (first, rest)) × Spells first t × AreTimestamps rest (u ∷ ts)
 
 -- The timestamps of a window, or `-` for none (own)
 abbrev pub IsWindowText : List ℕ → List ℕ → Type 0

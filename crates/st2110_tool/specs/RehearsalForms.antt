@@ -9,8 +9,9 @@ use Rattle.st_format.specs.Samples.{Spells as OctetsSpell}
 use Rattle.packet_plan.specs.declared.stamp.Stamp.{Stamp}
 use Rattle.path_merge.specs.declared.schedule.event.Event.{Event}
 use Rattle.path_merge.specs.declared.schedule.event.Event.TheVariants.{Send, Arrive, Slide, Merge}
-use Rattle.st2110_tool.specs.Fields.{parted}
-use Rattle.st2110_tool.specs.Forms.{AreTwo, IsWindowText, Spells}
+use Rattle.tool_text.specs.Fields.{parted}
+use Rattle.st2110_tool.specs.Forms.{AreTwo, IsWindowText}
+use Rattle.tool_text.specs.Timestamps.{Spells}
 
 -- the fields of a stamp, parted by spaces: a payload type of 7 bits, a number, a timestamp and a source
 pub record AreStamp (text : List ℕ) (s : Stamp) : Type 0 where

@@ -4,7 +4,7 @@ use path_merge::{Refusal, SlideFault};
 use std::fmt;
 
 /// What a run says of one line of a script, or of one frame.
-#[derive(Clone, Copy, Debug, PartialEq, Eq)]
+#[derive(Clone, Copy)]
 pub(crate) enum Answer {
     /// The datagram of this packet number was kept.
     Kept(u32),

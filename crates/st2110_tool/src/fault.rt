@@ -7,7 +7,7 @@ use std::alloc::AllocError;
 use std::fmt;
 
 /// What ends a run before its end.
-#[derive(Clone, Copy, Debug, PartialEq, Eq)]
+#[derive(Clone, Copy)]
 pub(crate) enum Fault {
     /// The line of this number isn't of its form, or stands where it may not.
     Script(usize),

@@ -3,10 +3,8 @@
 
 mod answer;
 mod fault;
-mod fields;
 mod first_lines;
 mod line;
-mod number;
 mod picture_text;
 mod printing;
 mod rehearsal;
@@ -15,11 +13,10 @@ mod rehearse;
 mod script;
 mod sdp;
 mod session;
-mod status;
 mod telling;
 mod trace;
 
 pub use rehearse::run_rehearse;
 pub use sdp::run_sdp;
-pub use status::Status;
+pub use tool_text::Status;
 pub use trace::run_trace;

@@ -1,13 +1,13 @@
 //! What a line of a script says.
 ghost use Rattle.std.specs.Prelude.{◌≡◌, ◌≢◌, ◌≤◌, ◌<◌, ℕ, List, Ok, Option, length, take, IfNone, IfOk, IfSome, IsFalse, IsTrue};
 ghost use Rattle.hex.specs.Hex.{decode_of};
-ghost use Rattle.st2110_tool.specs.Forms.{AreFormat, AreFour, AreHeightAndRate, AreOpening, AreTimestamps, AreTwo, IsFormatLine, IsOctetsText, IsOpenLine, IsRate, IsWindowText, IsSourceText, IsTraceLine, Spells, sampling_text};
+ghost use Rattle.st2110_tool.specs.Forms.{AreFormat, AreFour, AreHeightAndRate, AreOpening, AreTwo, IsFormatLine, IsOctetsText, IsOpenLine, IsRate, IsWindowText, IsSourceText, IsTraceLine, sampling_text};
+ghost use Rattle.tool_text.specs.Timestamps.{Spells};
 ghost use Rattle.st_format.specs.Pgroup.{bits_of};
 
-use crate::fields::{after_word, split_once};
-use crate::number::read_number;
 use st_format::{Depth, Path, Sampling};
 use std::alloc::{AllocError, Allocator};
+use tool_text::{after_word, read_number, read_timestamps, split_once};
 
 /// A line `format S B W H N/D`.
 #[derive(Clone, Copy)]
@@ -183,27 +183,6 @@ pub(crate) fn read_window<A: Allocator>(
         return Ok(Some(Vec::new(alloc)));
     }
     read_timestamps(alloc, text)
-}
-
-/// Timestamps parted by commas, and none where the text isn't of that form.
-fn read_timestamps<A: Allocator>(alloc: A, text: &[u8]) -> Result<Option<Vec<u32, A>>, AllocError>
-    ensures is { IfOk result (λ window. IfSome window (λ w. AreTimestamps text.now w.items)) }
-    ensures none { IfOk result (λ window. IfNone window ((said : List ℕ) → AreTimestamps text.now said → ⊥)) }
-{
-    let mut timestamps = Vec::new(alloc);
-    let mut rest = text;
-    while let Some((first, more)) = split_once(rest, b',') {
-        let Some(timestamp) = read_number(first) else {
-            return Ok(None);
-        };
-        timestamps.push(timestamp)?;
-        rest = more;
-    }
-    let Some(timestamp) = read_number(rest) else {
-        return Ok(None);
-    };
-    timestamps.push(timestamp)?;
-    Ok(Some(timestamps))
 }
 
 /// What a line behind the first two says, where it is of a form.

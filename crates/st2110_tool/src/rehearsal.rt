@@ -2,7 +2,6 @@
 ghost use Rattle.std.specs.Prelude.{◌≡◌, ◌≢◌, ◌≤◌, false, length, IfErr, IfOk, OnOk};
 
 use crate::fault::Fault;
-use crate::fields::after_word;
 use crate::first_lines::{next_line, read_format};
 use crate::picture_text::read_picture;
 use crate::rehearsal_line::{read_event, read_number_line, read_stamp_line, read_window_line};
@@ -11,6 +10,7 @@ use packet_plan::Stamp;
 use path_merge::Event;
 use st_format::{Format, Picture};
 use std::alloc::Allocator;
+use tool_text::after_word;
 
 /// What the first lines of a rehearsal say.
 #[derive(Drop)]

@@ -3,16 +3,15 @@ ghost use Rattle.std.specs.Prelude.{◌≡◌, ◌≤◌, ℕ, List, IfNone, IfO
 ghost use Rattle.st_format.specs.declared.path.Path.{Path as ByPath};
 ghost use Rattle.packet_plan.specs.declared.stamp.Stamp.{Stamp as AStamp};
 ghost use Rattle.path_merge.specs.declared.schedule.event.Event.{Event as AnEvent};
-ghost use Rattle.st2110_tool.specs.Forms.{Spells};
+ghost use Rattle.tool_text.specs.Timestamps.{Spells};
 ghost use Rattle.st2110_tool.specs.RehearsalForms.{AreArrival, AreReceiverAndNumber, AreReceivers, AreStamp, IsEventLine, IsNumberLine, IsStampLine, IsWindowLine, path_text};
 
-use crate::fields::{after_word, split_once};
 use crate::line::{read_payload_type, read_two, read_window};
-use crate::number::read_number;
 use packet_plan::Stamp;
 use path_merge::Event;
 use st_format::Path;
 use std::alloc::{AllocError, Allocator};
+use tool_text::{after_word, read_number, split_once};
 
 /// What a line `stamp PT FIRST TIMESTAMP SSRC` says.
 pub(crate) fn read_stamp_line(text: &[u8]) -> Option<Stamp>

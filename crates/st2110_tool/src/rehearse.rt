@@ -2,7 +2,8 @@
 ghost use Rattle.std.specs.Prelude.{◌≡◌, ◌≢◌, ◌≤◌, ◌⊎◌, false, length, IfErr, OnOk};
 ghost use Rattle.std.specs.Io.KnownBytes.{Appends};
 ghost use Rattle.st_format.specs.Device.{Failed};
-ghost use Rattle.st2110_tool.specs.Fault.{Accounts, AccountsBoth, Reads, memory_line};
+ghost use Rattle.st2110_tool.specs.Fault.{Accounts, AccountsBoth, Reads};
+ghost use Rattle.tool_text.specs.Telling.{memory_line};
 ghost use Rattle.st2110_tool.specs.Script.{GivesAll, GivesScript};
 
 use crate::answer::Answer;
@@ -10,12 +11,12 @@ use crate::fault::Fault;
 use crate::printing::{print, print_frames};
 use crate::rehearsal::{Rehearsal, read_rehearsal};
 use crate::script::{Script, read_script};
-use crate::status::Status;
-use crate::telling::{LINE, tell, tell_memory};
+use crate::telling::tell;
 use packet_plan::Plan;
 use path_merge::{Handed, Played, Receiver, play};
 use st_format::{ByteSink, ByteSource};
 use std::alloc::Allocator;
+use tool_text::{LINE, Status, tell_memory};
 
 /// Plays the schedule that the source gives as a script, and answers the exit status.
 ///

@@ -6,9 +6,9 @@ ghost use Rattle.st2110_tool.specs.Fault.{Accounts, ReadsAt};
 ghost use Rattle.st2110_tool.specs.Script.{IsCut, IsReadFrom, IsWholeLines, numbered_lines};
 
 use crate::fault::Fault;
-use crate::fields::split_once;
 use st_format::{ByteSource, read_whole};
 use std::alloc::Allocator;
+use tool_text::split_once;
 
 /// The greatest number of octets of a script (own).
 pub(crate) const LIMIT: usize = 16_777_216;

@@ -2,16 +2,17 @@
 ghost use Rattle.std.specs.Prelude.{◌≡◌, ◌≢◌, ◌⊎◌, IfErr};
 ghost use Rattle.std.specs.Io.KnownBytes.{Appends};
 ghost use Rattle.st_format.specs.Device.{Failed};
-ghost use Rattle.st2110_tool.specs.Fault.{AccountsBoth, Reads, memory_line};
+ghost use Rattle.st2110_tool.specs.Fault.{AccountsBoth, Reads};
+ghost use Rattle.tool_text.specs.Telling.{memory_line};
 ghost use Rattle.st2110_tool.specs.Script.{GivesAll, GivesScript};
 
 use crate::fault::Fault;
 use crate::script::read_script;
-use crate::status::Status;
-use crate::telling::{LINE, tell, tell_memory};
+use crate::telling::tell;
 use sdp_format::{fmtp_text, read_sdp};
 use st_format::{ByteSink, ByteSource, write_whole};
 use std::alloc::Allocator;
+use tool_text::{LINE, Status, tell_memory};
 
 /// Reads the SDP text that the source gives, and writes its canonical fmtp line (RFC 8866; SMPTE ST 2110-20, 7).
 ///

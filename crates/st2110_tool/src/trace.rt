@@ -2,7 +2,8 @@
 ghost use Rattle.std.specs.Prelude.{◌≡◌, ◌≢◌, ◌≤◌, ◌<◌, ◌⊎◌, false, length, Err, IfErr, IfOk, OnOk};
 ghost use Rattle.std.specs.Io.KnownBytes.{Appends};
 ghost use Rattle.st_format.specs.Device.{Failed};
-ghost use Rattle.st2110_tool.specs.Fault.{Accounts, AccountsBoth, Reads, memory_line};
+ghost use Rattle.st2110_tool.specs.Fault.{Accounts, AccountsBoth, Reads};
+ghost use Rattle.tool_text.specs.Telling.{memory_line};
 ghost use Rattle.st2110_tool.specs.Forms.{IsTraceLine};
 ghost use Rattle.st2110_tool.specs.Script.{GivesAll, GivesScript};
 ghost use Rattle.st2110_tool.specs.Session.{Follows};
@@ -14,11 +15,11 @@ use crate::line::{TraceLine, read_octets, read_open_line, read_trace_line, read_
 use crate::printing::{print, print_frames};
 use crate::script::{Line, Lines, Script, read_script};
 use crate::session::Session;
-use crate::status::Status;
-use crate::telling::{LINE, tell, tell_memory};
+use crate::telling::tell;
 use path_merge::{OpenFault, Receiver, SeqMap};
 use st_format::{ByteSink, ByteSource, Format};
 use std::alloc::Allocator;
+use tool_text::{LINE, Status, tell_memory};
 
 /// The greatest number of octets of a datagram.
 const DATAGRAM: usize = 65_535;

@@ -1,6 +1,6 @@
 use Rattle.std.proofs.Common.{rules, List, ℕ, Some, sym, subst, ◌≡◌}
-use Rattle.st2110_tool.specs.Fields.{parted}
-use Rattle.st2110_tool.specs.Forms.{Spells}
+use Rattle.tool_text.specs.Fields.{parted}
+use Rattle.tool_text.specs.Timestamps.{Spells}
 use Rattle.st2110_tool.proofs.FormLemmas.{depth_none, height_none, if_none, sampling_none}
 use Rattle.st2110_tool.proofs.line.read_format_fields.Goals as goal
 

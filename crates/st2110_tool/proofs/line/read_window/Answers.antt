@@ -1,5 +1,5 @@
 use Rattle.std.proofs.Common.{◌≡◌, codes, rules}
-use Rattle.st2110_tool.proofs.TimestampLemmas.{window_none}
+use Rattle.st2110_tool.proofs.WindowLemmas.{window_none}
 use Rattle.st2110_tool.proofs.line.read_window.Goals as goal
 
 pub returns-clause-none : goal.returns-clause-none
