@@ -1,5 +1,5 @@
 -- Texts that are no line of a form.
-use Rattle.std.proofs.Common.{◌≡◌, ◌≢◌, ℕ, Bool, false, ◌==◌, List, [], ◌∷◌, ◌++◌, codes, drop, get_or, Option, None, Some, IfNone, IfSome, ◌≤◌, refl, ap, sym, subst, ◌∙◌}
+use Rattle.std.proofs.Common.{◌≡◌, ◌≢◌, ℕ, false, ◌==◌, List, [], ◌∷◌, ◌++◌, codes, drop, get_or, Option, None, Some, IfNone, IfSome, ◌≤◌, refl, ap, sym, subst, ◌∙◌}
 use Rattle.std.proofs.lemmas.Bool.{eqb-false}
 use Rattle.std.proofs.lemmas.Option.{some_pair_parts}
 use Rattle.st_format.specs.declared.path.Path.TheVariants as path

@@ -1,6 +1,6 @@
 -- Texts that say octets.
-use Rattle.std.proofs.Common.{◌≡◌, ℕ, ◌*◌, ◌<◌, Bool, true, false, true≢false, List, [], ◌∷◌, codes, length, Result, Ok, Err, MatchResult, refl, ap, sym, subst, ◌∙◌, arith}
-use Rattle.std.specs.Prelude.{IsOk, IsFalse, is_ok}
+use Rattle.std.proofs.Common.{◌≡◌, ℕ, ◌*◌, ◌<◌, false, true≢false, List, [], ◌∷◌, codes, length, Result, Ok, Err, MatchResult, refl, sym, ◌∙◌, arith}
+use Rattle.std.specs.Prelude.{is_ok}
 use Rattle.hex.specs.declared.error.FromHexError.{FromHexError}
 use Rattle.hex.specs.Hex.{decode_of, decode_sized}
 use Rattle.hex.proofs.HexLemmas.{decode_of-ok, decode_sized-twice, IsOk-written}

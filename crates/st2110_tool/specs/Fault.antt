@@ -1,7 +1,6 @@
 -- Faults that end a run.
-use Rattle.std.specs.Prelude.{◌≡◌, ℕ, ◌⊎◌, List, ◌++◌, codes, Option, Some, None, IfSome, Result, MatchResult, ⊤}
+use Rattle.std.specs.Prelude.{◌≡◌, ℕ, ◌⊎◌, List, ◌++◌, codes, Option, Some, None, Result, MatchResult, ⊤}
 use Rattle.std.specs.Fmt.{decimal}
-use Rattle.std.specs.Io.KnownBytes.{Appends}
 use Rattle.st_format.specs.Device.{Failed}
 use Rattle.st2110_tool.specs.Script.{GivesAll, GivesScript}
 use Rattle.st2110_tool.specs.declared.fault.Fault.{Fault}

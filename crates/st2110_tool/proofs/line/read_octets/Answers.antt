@@ -1,4 +1,4 @@
-use Rattle.std.proofs.Common.{◌≡◌, ◌*◌, ◌/◌, codes, length-take-le, length, refl, rules, arith}
+use Rattle.std.proofs.Common.{◌≡◌, ◌/◌, codes, length-take-le, length, refl, rules, arith}
 use Rattle.st2110_tool.proofs.OctetLemmas.{said_decoded, said_long}
 use Rattle.st2110_tool.proofs.line.read_octets.Goals.{then-n-eq0-via-then-n-eq0, then-n-eq0-via-else-n-eq0+then-n-octets}
 use Rattle.st2110_tool.proofs.line.read_octets.Goals as goal
