@@ -2,8 +2,9 @@
 use crate::files::{FileSink, FileSource};
 use crate::streams::{InputSource, OutputSink};
 use crate::words::{MergeWords, MigrateWords, ReceiveWords, SendWords};
-use file_engines::{Wanted, run_merge, run_migrate, run_receive, run_send};
-use st2110_tool::{Status, run_rehearse, run_sdp, run_trace};
+use st2110_tool::{
+    Status, Wanted, run_merge, run_migrate, run_receive, run_rehearse, run_sdp, run_send, run_trace,
+};
 use std::alloc::AllocError;
 
 /// Runs the script on standard input.

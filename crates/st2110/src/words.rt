@@ -4,7 +4,7 @@ ghost use Rattle.std.specs.Prelude.{◌≤◌};
 use crate::commands::program;
 use clap::error::ErrorKind;
 use clap::{ArgMatches, Error};
-use file_engines::{Paths, Sending};
+use st2110_tool::{Paths, Sending};
 use std::alloc::{AllocError, Global};
 use std::rt::Env;
 use std::{env, io};

@@ -16,6 +16,7 @@ mod session;
 mod telling;
 mod trace;
 
+pub use file_engines::{Paths, Sending, Wanted, run_merge, run_migrate, run_receive, run_send};
 pub use rehearse::run_rehearse;
 pub use sdp::run_sdp;
 pub use tool_text::Status;
