@@ -193,7 +193,7 @@ fourteen block f len bytes is = absurd (omega (arith, len))
 abbrev with_fields : Fields → List ℕ → Result (Fields × List ℕ) FileFault
 with_fields f rest = Ok (f, rest)
 
-block_takes : (octets : List ℕ) (x : Fields × List ℕ) → AreOctets octets → block_at octets ≡ Ok x → octets ≡ format_text x.0 ++ x.1
+pub block_takes : (octets : List ℕ) (x : Fields × List ℕ) → AreOctets octets → block_at octets ≡ Ok x → octets ≡ format_text x.0 ++ x.1
 unfolding block_at
 block_takes octets x bytes e =
     let a = split_then (field_at 14 octets) (λ y. with_rest (block_of y.0) y.1) x e in
@@ -234,7 +234,7 @@ block_again f rest =
 abbrev with_values : List ℕ → List ℕ → Result (List ℕ × List ℕ) FileFault
 with_values values rest = Ok (values, rest)
 
-all_octets : (xs : List ℕ) → AreOctets xs → AllByRecursion (λ v. v < 256) xs
+pub all_octets : (xs : List ℕ) → AreOctets xs → AllByRecursion (λ v. v < 256) xs
 all_octets [] bytes = tt
 all_octets (x ∷ xs) bytes = (bytes 0, all_octets xs (AreOctets-tail x xs bytes))
 

@@ -200,7 +200,7 @@ state_again k is =
 
 -- ---- what a reader of receivers' files owes
 
-abbrev kept_in : Kept → Result (Kept × List ℕ) FileFault → Kept
+abbrev pub kept_in : Kept → Result (Kept × List ℕ) FileFault → Kept
 kept_in k (Ok x) = x.0
 kept_in k (Err f) = k
 

@@ -18,3 +18,6 @@ pub mod Exchanged
 pub mod SameKept
 pub mod Savable
 pub mod AtEnd
+pub mod Filled
+pub mod GroupsFound
+pub mod Found

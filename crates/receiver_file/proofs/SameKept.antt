@@ -17,9 +17,10 @@ use Rattle.capture_file.specs.Fields.{Fails, Gives}
 use Rattle.capture_file.specs.StateFile.{Held, Kept, group_count, state_text}
 use Rattle.capture_file.proofs.Once.{cells_once}
 use Rattle.receiver_file.specs.Known.{shape_in}
-use Rattle.receiver_file.specs.Saved.{IsSaved, kept_frames, kept_of, timestamp_in}
+use Rattle.receiver_file.specs.Saved.{IsSaved, IsWritable, kept_frames, kept_of, timestamp_in}
 use Rattle.receiver_file.specs.StateReading.{state_at}
-use Rattle.receiver_file.proofs.Again.{only_state}
+use Rattle.receiver_file.proofs.Again.{kept_in, only_state, state_again}
+use Rattle.receiver_file.proofs.Savable.{writable_saved}
 use Rattle.receiver_file.proofs.Stamped.{kept_stamps}
 
 -- ---- formats of the same fields
@@ -104,6 +105,12 @@ same_held r s a b e =
     ap (λ (x : Opening). kept_frames (fields_of x.format) x.window r.frames) (sym o) ∙ ap (λ (k : Kept). k.frames) e in
     same_frames s.opening.format s.opening.window r.frames s.frames (a.one_each ∙ ap (λ (x : List ℕ). length x) w) b.one_each
     (subst (λ (x : Format). All (λ (q : Raster). q.format ≡ x) r.frames) f a.of_format) b.of_format a.whole b.whole kept
+
+-- a receiver that is read of another's file
+pub same_read : (s r : State) → IsWritable s → IsReceiver r → state_at (state_text (kept_of s)) ≡ Ok (kept_of r, []) → (r.opening ≡ s.opening) × (r.frames ≡ s.frames)
+same_read s r is b e =
+    let kept : kept_of r ≡ kept_of s = ap (kept_in (kept_of s)) (sym e ∙ state_again (kept_of s) (writable_saved s is)) in
+    (same_opening r s b is.receiver kept, same_held r s b is.receiver kept)
 
 -- ---- what is answered of a receiver's file
 

@@ -1,5 +1,6 @@
 //! What stands before the frames: name and version, and what a receiver is opened with but its format and window.
 ghost use Rattle.std.specs.Prelude.{◌≡◌, ◌<◌, ◌≤◌, IfErr, IfOk, OnOk};
+ghost use Rattle.st_format.specs.Device.{TellsOctets};
 ghost use Rattle.capture_file.specs.Faults.{CountsDevice};
 ghost use Rattle.capture_file.specs.Fields.{Fails, Gives};
 ghost use Rattle.receiver_file.specs.Front.{count_at, count_of, flag_at, flag_of, head_at, name_at, payload_type_at, payload_type_of, ssrc_at, ssrc_of};
@@ -26,6 +27,7 @@ pub(crate) struct Head {
 pub(crate) fn read_name<S: ByteSource>(source: &mut S) -> Result<(), FileFault>
     ensures read { OnOk result (Gives name_at (S.to_give source.old) (S.to_give source.new) tt) }
     ensures fault { IfErr result (λ f. Fails name_at (S.to_give source.old) f) }
+    ensures octets { TellsOctets (S.to_give source.old) }
     ensures counted { CountsDevice (S.failures source.old) (S.failures source.new) result }
 {
     match read_kind(source, RECEIVER)? {

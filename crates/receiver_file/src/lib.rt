@@ -13,6 +13,7 @@ mod loading;
 mod octets;
 mod rows;
 mod saving;
+mod telling;
 
 pub use loading::load_receiver;
 pub use saving::save_receiver;

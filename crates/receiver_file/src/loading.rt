@@ -1,6 +1,7 @@
 //! A receiver from a source.
 ghost use Rattle.std.specs.Prelude.{◌≡◌, ℕ, ◌≤◌, ◌<◌, All, List, [], Some, length, IfErr, IfOk, OnOk, MatchResult};
 ghost use Rattle.std.specs.Io.KnownBytes.{IsAtEnd};
+ghost use Rattle.st_format.specs.Device.{TellsOctets};
 ghost use Rattle.path_merge.specs.Frames.{Holds, IsReceiver, State};
 ghost use Rattle.path_merge.specs.Opening.{AreDifferent};
 ghost use Rattle.capture_file.specs.Faults.{CountsDevice, IsMachine};
@@ -11,6 +12,7 @@ ghost use Rattle.receiver_file.specs.StateReading.{end_at, state_at};
 
 use crate::frames::{Frames, read_frames};
 use crate::front::{Head, read_head, read_name};
+use crate::telling::tell_receiver;
 use capture_file::{FileFault, read_format};
 use frame_assembly::Frame;
 use path_merge::Receiver;
@@ -35,8 +37,13 @@ pub fn load_receiver<A: Allocator + Copy, S: ByteSource>(
     ensures counted { CountsDevice (S.failures source.old) (S.failures source.new) result }
     ensures receiver { IfOk result (λ r. IsReceiver r) }
     ensures refusals { IfOk result (λ r. r.refusals ≡ []) }
+    // It can be written again.
+    ensures writable { IfOk result (λ r. IsWritable r) }
     // A source that told its octets is at its end.
     ensures end { IfOk result (λ r. (octets : List ℕ) → S.to_give source.old ≡ Some octets → IsAtEnd (S.to_give source.new)) }
+    // What is read is the file of the receiver that is answered, all of it, and one that can be.
+    ensures found { IfOk result (λ r. (octets : List ℕ) → S.to_give source.old ≡ Some octets
+        → (octets ≡ state_text (kept_of r)) × IsSaved (kept_of r)) }
     // What is a receiver's file is read as what it says, unless the memory or the device fails.
     ensures only { (k : Kept) → S.to_give source.old ≡ Some (state_text k) → IsSaved k
         → MatchResult result (λ r. kept_of r ≡ k) IsMachine }
@@ -58,8 +65,10 @@ fn read_receiver<A: Allocator + Copy, S: ByteSource>(
     ensures read { IfOk result (λ r. Gives state_at (S.to_give source.old) (S.to_give source.new) (kept_of r)) }
     ensures fault { IfErr result (λ f. Fails state_at (S.to_give source.old) f) }
     ensures counted { CountsDevice (S.failures source.old) (S.failures source.new) result }
+    ensures octets { OnOk result (TellsOctets (S.to_give source.old)) }
     ensures receiver { IfOk result (λ r. IsReceiver r) }
     ensures refusals { IfOk result (λ r. r.refusals ≡ []) }
+    ensures writable { IfOk result (λ r. IsWritable r) }
 {
     read_name(source)?;
     let format = read_format(source)?;
@@ -100,6 +109,7 @@ fn open_again<A: Allocator + Copy>(
     ensures opening { IfOk result (λ r. r.opening ≡ record { format = format; payload_type = head.payload_type; ssrc = head.ssrc; window = frames.window.items }) }
     ensures frames { IfOk result (λ r. r.frames ≡ frames.frames.items) }
     ensures refusals { IfOk result (λ r. r.refusals ≡ []) }
+    ensures writable { IfOk result (λ r. IsWritable r) }
 {
     let Frames { window, mut frames } = frames;
     let opened = Receiver::open(
@@ -113,6 +123,7 @@ fn open_again<A: Allocator + Copy>(
         return Err(FileFault::NoMemory);
     };
     set_frames(&mut receiver, frames.as_mut_slice());
+    tell_receiver(&receiver);
     Ok(receiver)
 }
 

@@ -1,14 +1,18 @@
 //! A receiver to a sink.
-ghost use Rattle.std.specs.Prelude.{◌≡◌, ◌∷◌, ◌++◌, [], IfErr, OnErr, OnOk};
+ghost use Rattle.std.specs.Prelude.{◌≡◌, ◌∷◌, ◌++◌, [], IfErr, Ok, OnErr, OnOk};
 ghost use Rattle.std.specs.Int.{to_be_bytes};
 ghost use Rattle.std.specs.Io.KnownBytes.{Appends};
 ghost use Rattle.st_format.specs.Device.{AppendsPrefix, CountsFaults};
 ghost use Rattle.st_format.specs.Fields.{fields_of};
+ghost use Rattle.path_merge.specs.Frames.{IsReceiver, State};
 ghost use Rattle.capture_file.specs.Faults.{CountsDevice, IsDevice};
 ghost use Rattle.capture_file.specs.StateFile.{format_text, opening_text, ssrc_text, state_text};
-ghost use Rattle.receiver_file.specs.Saved.{frame_text, frames_text, front_text, kept_of};
+ghost use Rattle.receiver_file.specs.Saved.{IsWritable, kept_of};
+ghost use Rattle.receiver_file.specs.Saved.{frame_text, frames_text, front_text};
+ghost use Rattle.receiver_file.specs.StateReading.{state_at};
 
 use crate::rows::write_rows;
+use crate::telling::tell_receiver;
 use byteorder::{BigEndian, ByteOrder};
 use capture_file::FileFault;
 use frame_assembly::Frame;
@@ -32,7 +36,15 @@ pub fn save_receiver<A: Allocator, K: ByteSink>(
     ensures ok { OnOk result (Appends (K.held sink.old) (K.held sink.new) (state_text (kept_of receiver.now))) }
     ensures fault { IfErr result (λ f. IsDevice f × AppendsPrefix (K.held sink.old) (K.held sink.new) (state_text (kept_of receiver.now))) }
     ensures counted { CountsDevice (K.failures sink.old) (K.failures sink.new) result }
+    // Each receiver can be written: its file is read, to its end, as what is kept of it,
+    ensures writable { IsWritable receiver.now }
+    ensures again { state_at (state_text (kept_of receiver.now)) ≡ Ok (kept_of receiver.now, []) }
+    // and a receiver that is read of it is this one, its refusals aside.
+    ensures same { (s : State) → IsReceiver s
+        → state_at (state_text (kept_of receiver.now)) ≡ Ok (kept_of s, [])
+        → (s.opening ≡ receiver.now.opening) × (s.frames ≡ receiver.now.frames) }
 {
+    tell_receiver(receiver);
     write_front(sink, receiver)?;
     write_frames(sink, receiver)?;
     Ok(())
