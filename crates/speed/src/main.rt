@@ -1,31 +1,49 @@
 //! Measures the calls of the hot path as ratios to a copy of the same octets, all in one run.
 //!
-//! Without words it makes one round of a small picture and prints nothing. Its words:
-//!
-//! - `measure`: pictures of 1920 by 1080, 4:2:2, 8 and 10 bits, in packets of 1400 and 9000 octets, and one of
-//!   1280 by 720;
-//! - `measure large`: one of 8192 by 8192, for which it takes about 2 GB;
-//! - `captures FILE`: writes a capture to a file, and reads it through buffers of some sizes.
+//! Without words it makes one round of a small picture and prints nothing. Its words are `measure`, or `measure large`
+//! for a picture of 8192 by 8192, which takes about 2 GB.
 #![tactic(auto)]
 
-mod captures;
-mod devices;
-mod discard;
+mod calls;
 mod fault;
-mod lines;
-mod rounds;
-mod settling;
 mod streams;
 
-use crate::captures::measure_captures;
+use crate::calls::{Call, Room};
 use crate::fault::Fault;
-use crate::lines::Lines;
-use crate::rounds::{copy, copy_frame, count, merge, send, take, take_second};
-use crate::settling::settle;
 use crate::streams::{Change, Stream};
 use st_format::{Depth, Format, Sampling};
 use std::env;
 use std::process::ExitCode;
+
+/// A depth, columns and rows of 4:2:2, the most octets of a packet, and how many of the calls are measured.
+type Case = (Depth, u32, u32, u32, usize);
+
+const CASES: [Case; 5] = [
+    (Depth::D8, 1920, 1080, 1400, 12),
+    (Depth::D8, 1920, 1080, 9000, 12),
+    (Depth::D10, 1920, 1080, 1400, 12),
+    (Depth::D10, 1920, 1080, 9000, 12),
+    (Depth::D10, 1280, 720, 1400, 5),
+];
+
+/// The calls, first those on the way of each datagram, without loss and where nothing is contested.
+const CALLS: [(&str, Call); 12] = [
+    ("send_frame", Call::Send),
+    ("take, into missing cells", Call::TakeFirst),
+    ("take, second path", Call::TakeSecond),
+    ("merge, into a blank receiver", Call::MergeBlank),
+    ("merge, equal", Call::MergeEqual),
+    ("second path, 1 % lost by the first", Call::TakeLost),
+    ("second path, a region of 1 % differs", Call::Differ(1, 10)),
+    (
+        "second path, each 100th sample differs",
+        Call::Differ(100, 1),
+    ),
+    ("second path, every sample differs", Call::Differ(1, 1)),
+    ("counts", Call::Counts),
+    ("settle", Call::Settle),
+    ("try_copy", Call::TryCopy),
+];
 
 fn main(rt: HostRuntime) -> ExitCode {
     match run(&rt) {
@@ -34,109 +52,80 @@ fn main(rt: HostRuntime) -> ExitCode {
     }
 }
 
-/// What the words ask for.
-#[derive(Drop)]
-enum Task {
-    Try,
-    Measure,
-    MeasureLarge,
-    Captures(String),
-    Unknown,
-}
-
 fn run(rt: &HostRuntime) -> Result<(), Fault> {
-    match read_words(rt)? {
-        Task::Try => all_calls(rt, ycc422(Depth::D10, 48, 4)?, 1400, 1, false),
-        Task::Measure => measure(rt),
-        Task::MeasureLarge => main_calls(rt, ycc422(Depth::D10, 8192, 8192)?, 1400, 5, true),
-        Task::Captures(file) => measure_captures(rt, file.as_str()),
-        Task::Unknown => Err(Fault),
-    }
-}
-
-/// Reads the words.
-fn read_words(rt: &HostRuntime) -> Result<Task, Fault> {
     let mut words = env::args(rt)?;
     words.next();
     let Some(word) = words.next() else {
-        return Ok(Task::Try);
+        return measure(rt, (Depth::D10, 48, 4, 1400, 12), 1, false);
     };
-    Ok(match (word.as_str(), words.next()) {
-        ("measure", None) => Task::Measure,
-        ("measure", Some(size)) if size.as_str() == "large" => Task::MeasureLarge,
-        ("captures", Some(file)) => Task::Captures(file),
-        _ => Task::Unknown,
-    })
+    match (word.as_str(), words.next()) {
+        ("measure", None) => {
+            for case in CASES {
+                measure(rt, case, 25, true)?;
+            }
+            Ok(())
+        }
+        ("measure", Some(size)) if size.as_str() == "large" => {
+            measure(rt, (Depth::D10, 8192, 8192, 1400, 5), 5, true)
+        }
+        _ => Err(Fault),
+    }
 }
 
-fn ycc422(depth: Depth, width: u32, height: u32) -> Result<Format, Fault> {
-    Ok(Format::new(Sampling::Ycc422, depth, width, height, 60, 1)?)
-}
-
-/// All calls at 1920 by 1080, and the main ones at 1280 by 720.
-fn measure(rt: &HostRuntime) -> Result<(), Fault> {
-    for depth in [Depth::D8, Depth::D10] {
-        for size in [1400, 9000] {
-            all_calls(rt, ycc422(depth, 1920, 1080)?, size, 25, true)?;
+/// Measures the calls of a case.
+fn measure(rt: &HostRuntime, case: Case, rounds: u32, prints: bool) -> Result<(), Fault> {
+    let (depth, width, height, size, count) = case;
+    let Ok(format) = Format::new(Sampling::Ycc422, depth, width, height, 60, 1) else {
+        return Err(Fault);
+    };
+    let first = Stream::new(rt.alloc(), format, size, Change(0, 1))?;
+    let mut room = Room::new(rt.alloc(), &first)?;
+    let copied = room.best(rt, Call::Copy, (&first, &first), rounds)?;
+    let octets = room.octets.len();
+    if prints {
+        let bits = depth.bits();
+        println!(rt;
+            "{width} by {height}, 4:2:2, {bits} bits, packets of {size}, {octets} octets"
+        )?;
+        print(rt, "copy of the octets", copied, copied, octets)?;
+    }
+    for (name, call) in CALLS.iter().take(count) {
+        let spent = spend(rt, *call, &first, &mut room, size, rounds)?;
+        if prints {
+            print(rt, name, spent, copied, octets)?;
         }
     }
-    main_calls(rt, ycc422(Depth::D10, 1280, 720)?, 1400, 25, true)
+    Ok(())
 }
 
-/// The calls on the way of each datagram, without loss and where nothing is contested.
-fn main_calls(
+/// The nanoseconds of a call's best round, in packets of this size.
+fn spend(
     rt: &HostRuntime,
-    format: Format,
+    call: Call,
+    first: &Stream,
+    room: &mut Room,
     size: u32,
     rounds: u32,
-    prints: bool,
-) -> Result<(), Fault> {
-    let stream = Stream::new(rt.alloc(), format, size, Change::None)?;
-    let octets = stream.octets(rt.alloc())?;
-    let copied = copy(rt, octets.as_slice(), rounds)?;
-    let lines = Lines::new(prints, copied, octets.len());
-    drop(octets);
-    if prints {
-        lines.head(rt, format, size)?;
-    }
-    lines.print(rt, "copy of the octets", copied)?;
-    lines.print(rt, "send_frame", send(rt, &stream, rounds)?)?;
-    let (first, second) = take(rt, &stream, rounds)?;
-    lines.print(rt, "take, into missing cells", first)?;
-    lines.print(rt, "take, second path", second)?;
-    let (blank, equal) = merge(rt, &stream, rounds)?;
-    lines.print(rt, "merge, into a blank receiver", blank)?;
-    lines.print(rt, "merge, equal", equal)
+) -> Result<u64, Fault> {
+    let Call::Differ(step, part) = call else {
+        return room.best(rt, call, (first, first), rounds);
+    };
+    let other = Stream::new(rt.alloc(), first.format, size, Change(step, part))?;
+    room.best(rt, call, (first, &other), rounds)
 }
 
-/// All calls.
-fn all_calls(
+/// Prints a call's line: the microseconds of its best round, its ratio to the copy of so many octets (the copy's time
+/// divided by its own) and its nanoseconds for 1000 octets.
+fn print(
     rt: &HostRuntime,
-    format: Format,
-    size: u32,
-    rounds: u32,
-    prints: bool,
+    name: &str,
+    nanoseconds: u64,
+    copied: u64,
+    octets: usize,
 ) -> Result<(), Fault> {
-    main_calls(rt, format, size, rounds, prints)?;
-    let stream = Stream::new(rt.alloc(), format, size, Change::None)?;
-    let octets = stream.octets(rt.alloc())?;
-    let copied = copy(rt, octets.as_slice(), rounds)?;
-    let lines = Lines::new(prints, copied, octets.len());
-    let lost = take_second(rt, &stream, &stream, true, rounds)?;
-    lines.print(rt, "take, second path, 1 % lost by the first", lost)?;
-    for (name, change) in [
-        ("take, second path, a region of 1 % differs", Change::Region),
-        (
-            "take, second path, each 100th sample differs",
-            Change::Scattered,
-        ),
-        ("take, second path, every sample differs", Change::All),
-    ] {
-        let other = Stream::new(rt.alloc(), format, size, change)?;
-        let time = take_second(rt, &stream, &other, false, rounds)?;
-        lines.print(rt, name, time)?;
-    }
-    lines.print(rt, "counts", count(rt, &stream, rounds)?)?;
-    lines.print(rt, "settle", settle(rt, &stream, rounds)?)?;
-    lines.print(rt, "try_copy", copy_frame(rt, &stream, rounds)?)
+    let ratio = u128::from(copied) * 1000 / u128::from(nanoseconds.max(1));
+    let cost = u128::from(nanoseconds) * 1000 / (octets as u128).max(1);
+    let (whole, part, micros) = (ratio / 1000, ratio % 1000, nanoseconds / 1000);
+    println!(rt; "  {name}: {micros} us, {whole}.{part:03}, {cost} ns per 1000 octets")?;
+    Ok(())
 }

@@ -1,44 +1,23 @@
 //! Pictures whose values have no order, and their datagrams.
-ghost use Rattle.std.specs.Prelude.{◌≡◌, ◌↔◌, IsTrue};
+ghost use Rattle.std.specs.Prelude.{◌≡◌, ◌↔◌, IsTrue, None};
 
 use crate::fault::Fault;
 use packet_plan::{Plan, Stamp, send_frame};
 use st_format::memory::MemoryDatagrams;
-use st_format::{DatagramSink, Format, Picture};
+use st_format::{DatagramSink, Format, Picture, SinkFault};
 use std::alloc::Global;
 
-/// The greatest number of octets of a packet.
-const MOST_SIZE: usize = 9000;
-
-const STAMP: Stamp = Stamp {
-    payload_type: 96,
-    first: 1,
-    timestamp: 900,
-    ssrc: 1,
-};
-
-/// Which samples of a picture are changed.
+/// Which samples of a picture are changed: each so manyth (none at 0), in such a part of the rows and of each row.
 #[derive(Clone, Copy)]
-pub enum Change {
-    None,
-    /// A tenth of each row, in a tenth of the rows.
-    Region,
-    /// Each hundredth sample.
-    Scattered,
-    All,
-}
+pub struct Change(pub usize, pub usize);
 
 impl Change {
     fn is_at(self, number: usize, format: &Format) -> bool {
         let row = format.row_samples().max(1);
-        match self {
-            Change::None => false,
-            Change::Region => {
-                number % row < row / 10 && number / row <= format.height() as usize / 10
-            }
-            Change::Scattered => number % 100 == 0,
-            Change::All => true,
-        }
+        let part = self.1.max(1);
+        let is_within = number % row < row / part
+            && number / row <= format.height() as usize / part;
+        is_within && self.0 > 0 && number % self.0 == 0
     }
 }
 
@@ -55,15 +34,18 @@ impl Stream {
     /// The picture, with some samples changed, in packets of at most so many octets.
     pub fn new(alloc: Global, format: Format, size: u32, change: Change) -> Result<Stream, Fault> {
         let picture = picture(alloc, format, change)?;
-        let plan = Plan::new(alloc, format, size)?;
+        let plan = Plan::new(alloc, format, size).ok().ok_or(Fault)?;
         let mut slots = Vec::with_capacity(alloc, plan.len())?;
         for _ in 0..plan.len() {
-            slots.push(Vec::with_capacity(alloc, size as usize)?)?;
+            if slots
+                .push(Vec::with_capacity(alloc, size as usize)?)
+                .is_err()
+            {
+                return Err(Fault);
+            }
         }
         let mut datagrams = MemoryDatagrams::new(slots, 0);
-        if !sends(&plan, &picture, &mut datagrams) {
-            return Err(Fault);
-        }
+        send_all(&plan, &picture, &mut datagrams)?;
         Ok(Stream {
             format,
             picture,
@@ -85,7 +67,7 @@ impl Stream {
 /// A picture of values without order, the upper bits of a linear congruential generator; the last bit of those that
 /// are changed is turned.
 fn picture(alloc: Global, format: Format, change: Change) -> Result<Picture, Fault> {
-    let mut picture = Picture::new(alloc, format, [0, 0, 0])?;
+    let mut picture = Picture::new(alloc, format, [0, 0, 0]).ok().ok_or(Fault)?;
     let mut state = 1u64;
     for row in 0..format.height() {
         for column in 0..format.width() {
@@ -93,14 +75,8 @@ fn picture(alloc: Global, format: Format, change: Change) -> Result<Picture, Fau
                 state = state
                     .wrapping_mul(6_364_136_223_846_793_005)
                     .wrapping_add(1_442_695_040_888_963_407);
-                set(
-                    &mut picture,
-                    row,
-                    column,
-                    component,
-                    (state >> 48) as u16,
-                    change,
-                );
+                let value = (state >> 48) as u16;
+                set(&mut picture, (row, column, component), value, change);
             }
         }
     }
@@ -108,7 +84,8 @@ fn picture(alloc: Global, format: Format, change: Change) -> Result<Picture, Fau
 }
 
 /// Sets a sample to a value's last bits, where there is such a position.
-fn set(picture: &mut Picture, row: u32, column: u32, component: u8, value: u16, change: Change) {
+fn set(picture: &mut Picture, place: (u32, u32, u8), value: u16, change: Change) {
+    let (row, column, component) = place;
     let format = picture.format();
     let most = format.max_value();
     if format.has_position(row, column, component) {
@@ -127,14 +104,39 @@ fn same_format(left: &Format, right: &Format) -> bool
     left == right
 }
 
-/// Sends a picture by a plan into a sink, and tells whether all was sent.
-pub fn sends<K: DatagramSink>(plan: &Plan, picture: &Picture, sink: &mut K) -> bool {
-    let mut buf = [0; MOST_SIZE];
-    let is_large = plan.max_octets() as usize <= buf.len();
-    let (ours, theirs) = (picture.format(), plan.format());
-    if is_large && same_format(&ours, &theirs) {
-        send_frame(plan, picture, STAMP, &mut buf, sink).is_ok()
-    } else {
-        false
+/// Sends a picture by a plan into a sink.
+pub fn send_all<K: DatagramSink>(
+    plan: &Plan,
+    picture: &Picture,
+    sink: &mut K,
+) -> Result<(), Fault> {
+    let stamp = Stamp {
+        payload_type: 96,
+        first: 1,
+        timestamp: 900,
+        ssrc: 1,
+    };
+    let mut buf = [0; 9000];
+    let has_room = plan.max_octets() as usize <= buf.len();
+    if !has_room || !same_format(&picture.format(), &plan.format()) {
+        return Err(Fault);
+    }
+    send_frame(plan, picture, stamp, &mut buf, sink)
+        .ok()
+        .ok_or(Fault)?;
+    Ok(())
+}
+
+/// A sink that takes each datagram and forgets it.
+#[derive(Drop)]
+pub struct Discard;
+
+impl DatagramSink for Discard {
+    ghost taken = { λ _. None };
+
+    ghost failures = { λ _. 0 };
+
+    fn put(&mut self, _octets: &[u8]) -> Result<(), SinkFault> {
+        Ok(())
     }
 }
