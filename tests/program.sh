@@ -16,11 +16,11 @@ failed=0
 # Counts a test that passed, or one that failed for a reason.
 pass() {
     passed=$((passed + 1))
-    echo "passed: $1"
+    printf 'passed: %s\n' "$1"
 }
 fail() {
     failed=$((failed + 1))
-    echo "FAILED: $1: $2"
+    printf 'FAILED: %s: %s\n' "$1" "$2"
 }
 
 # Writes octets that are given as hexadecimal digits, with spaces anywhere.
@@ -79,6 +79,61 @@ none() {
     fi
 }
 
+# feed COMMAND TEXT: runs a command that reads standard input on a text, whose backslashes are those of printf.
+feed() {
+    printf '%b' "$2" >in
+    "$program" "$1" <in >out 2>err
+    status=$?
+}
+
+# shows COMMAND NAME TEXT OUTPUT: whether a command on these lines prints this and ends well.
+shows() {
+    feed "$1" "$3\n"
+    says "$2" 0 "$4" ''
+}
+
+# stops COMMAND NAME TEXT FAULT: whether a command on these lines prints nothing and is refused so.
+stops() {
+    feed "$1" "$3\n"
+    says "$2" 1 '' "st2110: $4"
+}
+
+# COMMAND NAME, and a table on standard input, of which each row is a test: a script, and before it what it comes to.
+# Rows of `prints` are OUTPUT|SCRIPT, of `refuses` FAULT|OUTPUT|SCRIPT, of `at_fault` LINE|SCRIPT.
+prints() {
+    while IFS='|' read -r output script; do
+        feed "$1" "$script"
+        says "$2: $script" 0 "$(printf '%b' "$output")" ''
+    done
+}
+refuses() {
+    while IFS='|' read -r fault output script; do
+        feed "$1" "$script"
+        says "$2: $script" 1 "$(printf '%b' "$output")" "st2110: $fault"
+    done
+}
+at_fault() {
+    while IFS='|' read -r line script; do
+        feed "$1" "$script"
+        says "$2: $script" 1 '' "st2110: script $line"
+    done
+}
+
+# turn TEXT OLD NEW: `turned` is then the text with the new in each place of the old.
+turn() {
+    turned=
+    rest=$1
+    while :; do
+        case $rest in
+            *"$2"*) ;;
+            *) break ;;
+        esac
+        turned=$turned${rest%%"$2"*}$3
+        rest=${rest#*"$2"}
+    done
+    turned=$turned$rest
+}
+
 u=8010801180128013
 l=8014801580168017
 d1="80E00001000003840000000100000008000000008010801180128013"
@@ -93,7 +148,8 @@ a=fmtp:96 sampling=YCbCr-4:2:2; width=4; height=2; exactframerate=60; depth=8; c
 END
 octets "$old_head $d1" >old.cap
 
-for part in text migrate receive send merge; do
+for part in text examples forms windows rehearsals descriptions limits \
+    migrate receive send merge; do
     if [ -f "$root/tests/program/$part.sh" ]; then
         . "$root/tests/program/$part.sh"
     fi

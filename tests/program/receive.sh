@@ -112,6 +112,41 @@ none 'cut-capture: no receiver' none.rcv
 run receive --state g.rcv --sdp q.sdp --window 900 both.cap
 says 'a whole capture of both paths' 0 "delivered 2
 $frame" ''
+# cuts NAME CAPTURE ENDS..: a capture that is cut at any octet is Truncated, but at these, where its front or a record
+# ends, and so many records are delivered.
+cuts() {
+    capture=$2
+    cut="$1, cut at each octet"
+    size=$(wc -c <"$capture")
+    shift 2
+    n=0
+    records=0
+    amiss=
+    while [ $n -le "$size" ]; do
+        head -c $n "$capture" >cut.cap
+        run receive --state cut.rcv --sdp q.sdp --window 900 cut.cap
+        if [ "$n" != "${1:-}" ]; then
+            [ "$status" = 1 ] && [ ! -s out ] && [ "$(cat err)" = 'st2110: capture 5 Truncated' ] || amiss="$amiss $n"
+        else
+            shown=$frame
+            [ $records != 0 ] || shown=$blank
+            says "$cut: $n octets" 0 "delivered $records
+$shown" ''
+            records=$((records + 1))
+            shift
+        fi
+        n=$((n + 1))
+    done
+    if [ -z "$amiss" ] && [ $# = 0 ]; then
+        pass "$cut"
+    else
+        fail "$cut" "not Truncated at$amiss"
+    fi
+}
+cuts 'a capture of both paths' both.cap 8 47 86
+octets "5332304341503032 0000 $record_a" "$d1" >one.cap
+cuts 'a capture of version 02' one.cap 10 49
+cuts 'a capture with a text' new.cap $((0x$q_length + 10)) $((0x$q_length + 49))
 run receive --state g.rcv --sdp q.sdp --window 900 path.cap
 says 'receive: a third path' 1 '' 'st2110: capture 6 BadField'
 run receive --state g.rcv --sdp q.sdp --window 900 name.cap

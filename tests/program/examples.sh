@@ -1,0 +1,22 @@
+# The worked examples of examples/: each script or text that has an answer beside it.
+for text in "$root"/examples/*.trace "$root"/examples/*.rehearse "$root"/examples/*.sdp; do
+    answer=${text%.*}.out
+    if [ -e "$answer" ]; then
+        command=${text##*.}
+        "$program" "$command" <"$text" >out 2>err
+        status=$?
+        example=${text##*/}
+        says "$example" 0 "$(cat "$answer")" ''
+        # By the other path the answer is the same.
+        if [ "$command" = trace ]; then
+            sed 's/^A /C /; s/^B /A /; s/^C /B /' "$text" >in
+            "$program" trace <in >out 2>err
+            status=$?
+            says "$example, by the other path" 0 "$(cat "$answer")" ''
+        fi
+    fi
+done
+sed '4s/^A /B /' "$root/examples/last-sample-differs.trace" >in
+"$program" trace <in >out 2>err
+status=$?
+says 'last-sample-differs.trace, by both paths' 0 "$(cat "$root/examples/last-sample-differs.out")" ''

@@ -1,0 +1,89 @@
+# The greatest scripts, datagrams and lists.
+zeros() {
+    head -c "$1" /dev/zero | tr '\0' 0
+}
+
+# A datagram's line `A HEX` of so many octets, all 0.
+long_line() {
+    printf 'A '
+    zeros $((2 * $1))
+    echo
+}
+
+# script NAME STATUS OUTPUT FAULTS: of the file `in`.
+limit() {
+    "$program" "$1" <in >out 2>err
+    status=$?
+    says "$2" "$3" "$4" "$5"
+}
+
+# 65,535 octets are a datagram, which is refused for its version; one more is none.
+{ printf '%b\n' "$open"; long_line 65535; } >in
+limit trace 'a datagram of 65,535 octets' 0 "refused 2 BadVersion
+$blank" ''
+{ printf '%b\n' "$open"; long_line 65536; } >in
+limit trace 'a datagram of 65,536 octets' 1 '' 'st2110: script 3'
+
+# 46 octets, 127 datagrams of 65,535 octets and one of 65,448 are a script of 16,777,216 octets, of 130 lines.
+long_line 65535 >line
+printf '%b\n' "$open" >in
+refusals='refused 2 BadVersion'
+i=0
+while [ $i -lt 127 ]; do
+    cat line >>in
+    refusals="$refusals
+refused 2 BadVersion"
+    i=$((i + 1))
+done
+long_line 65448 >>in
+if [ "$(wc -c <in)" -ne 16777216 ]; then
+    fail 'a script of 16,777,216 octets' 'it has another length'
+fi
+limit trace 'a script of 16,777,216 octets' 0 "$refusals
+$blank" ''
+echo >>in
+limit trace 'one LF more is a line more' 1 "$refusals" 'st2110: script 131'
+{ printf '%b\n' "$open\ncell 900 0 0 0"; printf 'A '; zeros 16782216; } >in
+limit trace 'the line that passes the limit is at fault' 1 'missing' 'st2110: script 4'
+
+# The seven lines of `two` and then empty ones: each octet more is a line more, the one past the limit too.
+printf '%b\n' "$two" >in
+head=$(wc -c <in)
+head -c $((16777217 - head)) /dev/zero | tr '\0' '\n' >>in
+echo send >>in
+limit rehearse 'rehearse: a script of 16,777,217 octets' 1 '' "st2110: script $((7 + 16777217 - head))"
+
+# A text for sdp.
+zeros 16777217 >in
+limit sdp 'sdp: 16,777,217 octets' 1 '' 'st2110: script 1'
+zeros 16777216 >in
+limit sdp 'sdp: 16,777,216 octets' 1 '' 'st2110: sdp 2 NoVideo'
+
+# Pictures of one packet each.
+pictures() {
+    printf 'format YCbCr-4:2:2 8 2 1 60/1\nstamp 96 0 0 1\nmax 40\nwindow 0\nreceivers 1\n'
+    yes 'picture 80108011' | head -n "$1"
+    printf 'send\narrive 0 A 0\n'
+}
+pictures 10000 >in
+limit rehearse 'rehearse: ten thousand pictures' 0 'receiver 0
+frame 0 present 4 missing 0 contested 0' ''
+pictures 10001 >in
+limit rehearse 'rehearse: ten thousand pictures and one' 1 '' 'st2110: play 5 BadPictures'
+
+# A capture's record of 65,535 octets: refused, and kept, since octets behind the last segment are ignored.
+octets 5332304341503031 '00 0000000000000000 FFFF' >refused.cap
+head -c 65535 /dev/zero >>refused.cap
+run receive --state long.rcv --sdp q.sdp --window 900 --refusals refused.cap
+says 'a record of 65,535 octets, refused' 0 "delivered 1
+refused 2 BadVersion 1
+$blank" ''
+octets 5332304341503031 '00 0000000000000000 FFFF' "$d1" >kept.cap
+head -c 65507 /dev/zero >>kept.cap
+run receive --state long.rcv --sdp q.sdp --window 900 --refusals kept.cap
+says 'a record of 65,535 octets, kept' 0 "delivered 1
+$frame" ''
+head -c 65553 kept.cap >cut.cap
+run receive --state none.rcv --sdp q.sdp --window 900 cut.cap
+says 'a record of 65,535 octets, cut' 1 '' 'st2110: capture 5 Truncated'
+rm -f in line refused.cap kept.cap
