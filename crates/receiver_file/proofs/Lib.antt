@@ -21,3 +21,4 @@ pub mod AtEnd
 pub mod Filled
 pub mod GroupsFound
 pub mod Found
+pub mod MarkedRows

@@ -3,3 +3,4 @@ pub mod Saved
 pub mod Numbers
 pub mod Front
 pub mod StateReading
+pub mod Marked

@@ -1,73 +1,89 @@
-//! A pixel group to a sink.
-ghost use Rattle.std.specs.Prelude.{◌≡◌, ◌<◌, ◌∷◌, ◌++◌, OnErr, OnOk};
+//! A pixel group as octets, in a room.
+ghost use Rattle.std.specs.Prelude.{◌≡◌, ◌<◌, ◌≤◌, ◌+◌, ◌∷◌, ◌++◌, length, take};
 ghost use Rattle.std.specs.Int.{w16, to_be_bytes};
-ghost use Rattle.std.specs.Io.KnownBytes.{Appends};
 ghost use Rattle.std.specs.List.{AllByRecursion};
-ghost use Rattle.st_format.specs.Device.{AppendsPrefix, CountsFaults};
-ghost use Rattle.frame_assembly.specs.Rows.{group_cells, row_groups};
-ghost use Rattle.capture_file.specs.Groups.{group_text};
-ghost use Rattle.receiver_file.specs.Known.{known_text, shape_in};
+ghost use Rattle.receiver_file.specs.Known.{known_text};
+ghost use Rattle.receiver_file.specs.Marked.{state_in};
 
 use byteorder::{BigEndian, ByteOrder};
-use frame_assembly::{Frame, GroupState};
-use st_format::{ByteSink, DeviceFault, write_whole};
-use std::alloc::Allocator;
+use frame_assembly::GroupState;
 
 /// The most octets that a group has.
 pub(crate) const MOST_OCTETS: usize = 15;
 
-/// Writes a group.
-pub(crate) fn write_group<A: Allocator, K: ByteSink>(
-    sink: &mut K,
-    frame: &Frame<A>,
-    row: u32,
-    group: u32,
-) -> Result<(), DeviceFault>
-    requires row { row < frame.now.format.height }
-    requires group { group < row_groups frame.now.format }
-    ensures ok { OnOk result (Appends (K.held sink.old) (K.held sink.new) (group_text (shape_in frame.now.format) (group_cells frame.now row group))) }
-    ensures fault { OnErr result (AppendsPrefix (K.held sink.old) (K.held sink.new) (group_text (shape_in frame.now.format) (group_cells frame.now row group))) }
-    ensures counted { CountsFaults (K.failures sink.old) (K.failures sink.new) result }
+/// The most octets that a group takes in a file: its state, its mask and its own.
+pub(crate) const MOST_TEXT: usize = 18;
+
+/// The mark word of a group each of whose samples has a value.
+const WHOLE: u16 = 0x8000;
+
+/// What a mark word says of its group.
+#[inline(always)]
+fn state_of(mark: u16) -> GroupState
+    ensures { result ≡ state_in mark }
 {
-    let mut room = [0u8; MOST_OCTETS];
-    let octets = &mut room[..frame.format().pgroup().octets];
-    let state = frame.group(row, group, octets);
-    are_octets(octets);
-    write_known(sink, octets, state)
+    if mark < WHOLE {
+        GroupState::Gone
+    } else if mark == WHOLE {
+        GroupState::Whole
+    } else {
+        GroupState::Mixed(mark - WHOLE)
+    }
 }
 
 /// What their type tells of octets.
-fn are_octets(octets: &[u8])
+pub(crate) fn are_octets(octets: &[u8])
     ensures { AllByRecursion (λ v. v < 256) octets.now }
 {
     let _octets = octets;
 }
 
-/// Writes a group of this state and these octets.
-fn write_known<K: ByteSink>(
-    sink: &mut K,
-    octets: &[u8],
-    state: GroupState,
-) -> Result<(), DeviceFault>
-    ensures ok { OnOk result (Appends (K.held sink.old) (K.held sink.new) (known_text state octets.now)) }
-    ensures fault { OnErr result (AppendsPrefix (K.held sink.old) (K.held sink.new) (known_text state octets.now)) }
-    ensures counted { CountsFaults (K.failures sink.old) (K.failures sink.new) result }
+/// What their type tells of mark words.
+pub(crate) fn are_words(marks: &[u16])
+    ensures { AllByRecursion (λ v. v < 65536) marks.now }
 {
-    match state {
-        GroupState::Gone => write_whole(sink, &[0]),
-        GroupState::Whole => write_behind(sink, &[1], octets),
-        GroupState::Mixed(mask) => write_behind(sink, &mixed_head(mask), octets),
+    let _marks = marks;
+}
+
+/// Puts a group behind the first `at` octets of a room, and answers where it ends.
+#[inline(always)]
+pub(crate) fn put_group(room: &mut [u8], at: usize, mark: u16, octets: &[u8]) -> usize
+    requires few { length octets.now ≤ MOST_OCTETS }
+    requires room { at + MOST_TEXT ≤ length room.old }
+    ensures length { length room.new ≡ length room.old }
+    ensures within { result ≤ length room.old }
+    ensures put { take result room.new ≡ take at room.old ++ known_text (state_in mark) octets.now }
+{
+    match state_of(mark) {
+        GroupState::Gone => put_octets(room, at, &[0]),
+        GroupState::Whole => put_behind(room, at, &[1], octets),
+        GroupState::Mixed(mask) => put_behind(room, at, &mixed_head(mask), octets),
     }
 }
 
-/// Writes octets behind others.
-fn write_behind<K: ByteSink>(sink: &mut K, head: &[u8], octets: &[u8]) -> Result<(), DeviceFault>
-    ensures ok { OnOk result (Appends (K.held sink.old) (K.held sink.new) (head.now ++ octets.now)) }
-    ensures fault { OnErr result (AppendsPrefix (K.held sink.old) (K.held sink.new) (head.now ++ octets.now)) }
-    ensures counted { CountsFaults (K.failures sink.old) (K.failures sink.new) result }
+/// Puts octets, and others behind them.
+#[inline(always)]
+fn put_behind(room: &mut [u8], at: usize, head: &[u8], octets: &[u8]) -> usize
+    requires { at + (length head.now + length octets.now) ≤ length room.old }
+    ensures length { length room.new ≡ length room.old }
+    ensures value { result ≡ at + (length head.now + length octets.now) }
+    ensures put { take result room.new ≡ take at room.old ++ (head.now ++ octets.now) }
 {
-    write_whole(sink, head)?;
-    write_whole(sink, octets)
+    let behind = put_octets(room, at, head);
+    put_octets(room, behind, octets)
+}
+
+/// Puts octets behind the first `at`, and answers where they end.
+#[inline(always)]
+fn put_octets(room: &mut [u8], at: usize, octets: &[u8]) -> usize
+    requires { at + length octets.now ≤ length room.old }
+    ensures length { length room.new ≡ length room.old }
+    ensures value { result ≡ at + length octets.now }
+    ensures put { take result room.new ≡ take at room.old ++ octets.now }
+{
+    let end = at + octets.len();
+    room[at..end].copy_from_slice(octets);
+    end
 }
 
 /// The state and the mask of a group some of whose samples are contested.

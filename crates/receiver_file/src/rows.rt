@@ -1,15 +1,19 @@
 //! The pixel groups of a frame, to a sink.
-ghost use Rattle.std.specs.Prelude.{◌≡◌, ◌<◌, OnErr, OnOk};
+ghost use Rattle.std.specs.Prelude.{◌≡◌, ◌<◌, ◌≤◌, ◌+◌, ◌*◌, IfOk, OnErr, OnOk, length, take};
 ghost use Rattle.std.specs.Io.KnownBytes.{Appends};
 ghost use Rattle.st_format.specs.Device.{AppendsPrefix, CountsFaults};
 ghost use Rattle.frame_assembly.specs.Rows.{row_groups};
 ghost use Rattle.capture_file.specs.Groups.{groups_text};
 ghost use Rattle.receiver_file.specs.Known.{row_cut, rows_cut, shape_in};
+ghost use Rattle.receiver_file.specs.Marked.{Passes, marked_text};
 
-use crate::groups::write_group;
+use crate::groups::{MOST_OCTETS, MOST_TEXT, are_octets, are_words, put_group};
 use frame_assembly::Frame;
-use st_format::{ByteSink, DeviceFault, Format};
+use st_format::{ByteSink, DeviceFault, Format, write_whole};
 use std::alloc::Allocator;
+
+/// How many octets are gathered before a sink is asked to take them.
+const GATHERED: usize = 4096;
 
 /// How many groups a row has.
 pub(crate) fn groups_in_row(format: &Format) -> u32
@@ -44,8 +48,56 @@ fn write_row<A: Allocator, K: ByteSink>(
     ensures fault { OnErr result (AppendsPrefix (K.held sink.old) (K.held sink.new) (groups_text (shape_in frame.now.format) (row_cut frame.now row))) }
     ensures counted { CountsFaults (K.failures sink.old) (K.failures sink.new) result }
 {
-    for group in 0..groups_in_row(&frame.format()) {
-        write_group(sink, frame, row, group)?;
+    let mut room = [0u8; GATHERED];
+    let marks = frame.marks(row);
+    let octets = frame.packed_row(row);
+    are_words(marks);
+    are_octets(octets);
+    write_marked(
+        sink,
+        frame.format().pgroup().octets,
+        marks,
+        octets,
+        &mut room,
+    )
+}
+
+/// Writes groups of so many octets each by way of a room.
+fn write_marked<K: ByteSink>(
+    sink: &mut K,
+    size: usize,
+    marks: &[u16],
+    octets: &[u8],
+    room: &mut [u8],
+) -> Result<(), DeviceFault>
+    requires few { size ≤ MOST_OCTETS }
+    requires octets { length octets.now ≡ size * length marks.now }
+    requires room { length room.old ≡ GATHERED }
+    ensures ok { OnOk result (Appends (K.held sink.old) (K.held sink.new) (marked_text size marks.now octets.now)) }
+    ensures fault { OnErr result (AppendsPrefix (K.held sink.old) (K.held sink.new) (marked_text size marks.now octets.now)) }
+    ensures counted { CountsFaults (K.failures sink.old) (K.failures sink.new) result }
+{
+    let mut filled = 0;
+    for group in 0..marks.len() {
+        let at = make_room(sink, room, filled)?;
+        let octets = &octets[size * group..size * (group + 1)];
+        filled = put_group(room, at, marks[group], octets);
     }
-    Ok(())
+    write_whole(sink, &room[..filled])
+}
+
+/// Writes what a room is filled with where a group has no place behind it, and answers how far it is then filled.
+fn make_room<K: ByteSink>(sink: &mut K, room: &[u8], filled: usize) -> Result<usize, DeviceFault>
+    requires filled { filled ≤ length room.now }
+    requires room { length room.now ≡ GATHERED }
+    ensures place { IfOk result (λ n. n + MOST_TEXT ≤ length room.now) }
+    ensures passed { IfOk result (λ n. Passes (K.held sink.old) (K.held sink.new) (take filled room.now) (take n room.now)) }
+    ensures fault { OnErr result (AppendsPrefix (K.held sink.old) (K.held sink.new) (take filled room.now)) }
+    ensures counted { CountsFaults (K.failures sink.old) (K.failures sink.new) result }
+{
+    if filled + MOST_TEXT <= room.len() {
+        return Ok(filled);
+    }
+    write_whole(sink, &room[..filled])?;
+    Ok(0)
 }

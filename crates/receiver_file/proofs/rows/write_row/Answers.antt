@@ -1,26 +1,25 @@
-use Rattle.std.proofs.Common.{◌*◌, ◌<◌, ◌≡◌, ◌∙◌, ap, refl, subst, ℕ}
-use Rattle.std.proofs.lemmas.Result.{err_from_is_err_and}
+use Rattle.std.proofs.Common.{◌≡◌, ◌∙◌, ap, sym, ℕ}
 use Rattle.st_format.specs.declared.format.Format.{Format}
-use Rattle.frame_assembly.specs.Rows.{row_groups}
-use Rattle.receiver_file.specs.Known.{shape_in}
-use Rattle.receiver_file.proofs.RowRuns.{written_more, written_none, written_stop}
+use Rattle.capture_file.specs.Groups.{groups_text}
+use Rattle.receiver_file.specs.Known.{row_cut, shape_in}
+use Rattle.receiver_file.specs.Marked.{marked_text}
+use Rattle.receiver_file.proofs.MarkedRows.{row_is}
 use Rattle.receiver_file.proofs.rows.write_row.Goals as goal
 
-pub loop-group-init : goal.loop-group-init
-loop-group-init g c = record { written = written_none _ _ _ _; failures = refl }
+pub returns-clause-ok : goal.returns-clause-ok
+returns-clause-ok g c =
+    let r = c.args.frame.now in
+    let size : c.pgroup.result.octets ≡ (shape_in r.format).octets = c.pgroup.ensures.octets ∙ ap (λ (f : Format). (shape_in f).octets) c.format.ensures.format in
+    let e : marked_text c.pgroup.result.octets c.marks-marks.result.now c.packed_row-octets.result.now ≡ groups_text (shape_in r.format) (row_cut r c.args.row) =
+    row_is r c.args.row c.pgroup.result.octets c.marks-marks.result.now c.packed_row-octets.result.now c.format.ensures.whole c.requires size c.marks-marks.ensures.long c.packed_row-octets.ensures.long c.marks-marks.ensures.marks
+    c.are_words.ensures c.are_octets.ensures c.packed_row-octets.ensures.spelled in
+    rw (← e) c.write_marked.ensures.ok
 
-pub returns-in_err-write_group-clause-fault : goal.returns-in_err-write_group-clause-fault
-returns-in_err-write_group-clause-fault g c =
-    let p = err_from_is_err_and c.from_residual.result c.from_residual.ensures.1 in
-    let f : Format = c.args.frame.now.format in
-    let n : c.groups_in_row-group-end.result ≡ row_groups f = c.groups_in_row-group-end.ensures ∙ ap (λ (x : Format). row_groups x) c.format.ensures.format in
-    let lt : c.loop-group.group < row_groups f = subst (λ (k : ℕ). c.loop-group.group < k) n c.loop-group-test.true in
-    rw (p.1) (written_stop (shape_in f) (shape_in f).samples (c.args.row * row_groups f) c.loop-group.group (row_groups f) c.args.frame.now.cells _ _ _ lt c.loop-group.invariant.written c.in_err-write_group.ensures.fault)
-
-pub loop-group-preserved : goal.loop-group-preserved
-loop-group-preserved g c =
-    let f : Format = c.args.frame.now.format in
-    record {
-      written = written_more (shape_in f) (shape_in f).samples (c.args.row * row_groups f) c.loop-group.group c.args.frame.now.cells _ _ _ c.loop-group.invariant.written c.in_ok-write_group.ensures.ok;
-      failures = c.in_ok-write_group.ensures.counted ∙ c.loop-group.invariant.failures;
-    }
+pub returns-clause-fault : goal.returns-clause-fault
+returns-clause-fault g c =
+    let r = c.args.frame.now in
+    let size : c.pgroup.result.octets ≡ (shape_in r.format).octets = c.pgroup.ensures.octets ∙ ap (λ (f : Format). (shape_in f).octets) c.format.ensures.format in
+    let e : marked_text c.pgroup.result.octets c.marks-marks.result.now c.packed_row-octets.result.now ≡ groups_text (shape_in r.format) (row_cut r c.args.row) =
+    row_is r c.args.row c.pgroup.result.octets c.marks-marks.result.now c.packed_row-octets.result.now c.format.ensures.whole c.requires size c.marks-marks.ensures.long c.packed_row-octets.ensures.long c.marks-marks.ensures.marks
+    c.are_words.ensures c.are_octets.ensures c.packed_row-octets.ensures.spelled in
+    rw (← e) c.write_marked.ensures.fault
