@@ -73,8 +73,10 @@ fn write_marked<K: ByteSink>(
     requires few { size ≤ MOST_OCTETS }
     requires octets { length octets.now ≡ size * length marks.now }
     requires room { length room.old ≡ GATHERED }
-    ensures ok { OnOk result (Appends (K.held sink.old) (K.held sink.new) (marked_text size marks.now octets.now)) }
-    ensures fault { OnErr result (AppendsPrefix (K.held sink.old) (K.held sink.new) (marked_text size marks.now octets.now)) }
+    ensures ok { OnOk result (Appends (K.held sink.old) (K.held sink.new)
+        (marked_text size marks.now octets.now)) }
+    ensures fault { OnErr result (AppendsPrefix (K.held sink.old) (K.held sink.new)
+        (marked_text size marks.now octets.now)) }
     ensures counted { CountsFaults (K.failures sink.old) (K.failures sink.new) result }
 {
     let mut filled = 0;
@@ -86,13 +88,16 @@ fn write_marked<K: ByteSink>(
     write_whole(sink, &room[..filled])
 }
 
-/// Writes what a room is filled with where a group has no place behind it, and answers how far it is then filled.
+/// Writes what a room is filled with where a group has no place behind it, and answers how far it
+/// is then filled.
 fn make_room<K: ByteSink>(sink: &mut K, room: &[u8], filled: usize) -> Result<usize, DeviceFault>
     requires filled { filled ≤ length room.now }
     requires room { length room.now ≡ GATHERED }
     ensures place { IfOk result (λ n. n + MOST_TEXT ≤ length room.now) }
-    ensures passed { IfOk result (λ n. Passes (K.held sink.old) (K.held sink.new) (take filled room.now) (take n room.now)) }
-    ensures fault { OnErr result (AppendsPrefix (K.held sink.old) (K.held sink.new) (take filled room.now)) }
+    ensures passed { IfOk result (λ n. Passes (K.held sink.old) (K.held sink.new)
+        (take filled room.now) (take n room.now)) }
+    ensures fault { OnErr result (AppendsPrefix (K.held sink.old) (K.held sink.new)
+        (take filled room.now)) }
     ensures counted { CountsFaults (K.failures sink.old) (K.failures sink.new) result }
 {
     if filled + MOST_TEXT <= room.len() {
