@@ -1,5 +1,5 @@
-//! The worked examples of docs/EXAMPLES.md, through the library and as text, and runs in which a device
-//! fails or memory is wanted. Tests, whose expected values are worked out by hand; and the one call that
+//! What no text of the program shows of the worked examples of docs/EXAMPLES.md, and runs in which a
+//! device fails or memory is wanted. Tests, with values that are worked out by hand; and the one call that
 //! gives a receiver the datagrams of a capture, with what is proved of the two together.
 #![tactic(auto)]
 
@@ -21,10 +21,6 @@ mod datagrams;
 #[cfg(test)]
 mod devices;
 #[cfg(test)]
-mod examples;
-#[cfg(test)]
-mod forms;
-#[cfg(test)]
 mod generator;
 #[cfg(test)]
 mod groups;
@@ -36,8 +32,6 @@ mod held;
 mod kernels;
 #[cfg(test)]
 mod last_samples;
-#[cfg(test)]
-mod limits;
 #[cfg(test)]
 mod number_map;
 #[cfg(test)]

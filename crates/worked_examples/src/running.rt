@@ -3,7 +3,6 @@ use st_format::memory::{MemorySink, MemorySource};
 use st2110_tool::{run_rehearse, run_sdp, run_trace};
 use std::alloc::{AllocError, Allocator, Global};
 use std::process::Abort;
-use std::test::Fail;
 
 /// At which of its calls each device fails, counted from 1; 0 means that it does not.
 #[derive(Clone, Copy, Debug)]
@@ -106,32 +105,4 @@ pub fn play_script<A: Allocator + Copy>(
 fn sink(alloc: Global, piece: usize, fails_in: u64) -> Result<MemorySink, AllocError> {
     let room = Vec::with_capacity(alloc, 4096)?;
     Ok(MemorySink::new(room, piece.max(1), fails_in))
-}
-
-/// A run of the script prints this and ends well.
-pub fn prints(
-    rt: &(impl Abort + AllocGlobal),
-    name: &str,
-    script: &str,
-    output: &str,
-) -> Result<(), Fail> {
-    let run = run(rt, rt.alloc(), script.as_bytes(), 4096, SOUND)?;
-    assert_eq!(rt; run.printed(), output.as_bytes(), "{name}");
-    assert!(rt; run.told().is_empty(), "{name}");
-    assert_eq!(rt; run.status, 0, "{name}");
-    Ok(())
-}
-
-/// A run of the script prints this, and then ends by a refusal that it tells so.
-pub fn refuses(
-    rt: &(impl Abort + AllocGlobal),
-    script: &str,
-    output: &str,
-    told: &str,
-) -> Result<(), Fail> {
-    let run = run(rt, rt.alloc(), script.as_bytes(), 4096, SOUND)?;
-    assert_eq!(rt; run.printed(), output.as_bytes(), "{script}");
-    assert_eq!(rt; run.told(), told.as_bytes(), "{script}");
-    assert_eq!(rt; run.status, 1, "{script}");
-    Ok(())
 }
