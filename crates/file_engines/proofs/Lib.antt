@@ -1,3 +1,4 @@
 pub mod ReaderFaults
 pub mod CaptureSums
 pub mod SetSums
+pub mod Merged

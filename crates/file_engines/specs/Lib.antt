@@ -4,3 +4,4 @@ pub mod Text
 pub mod Line
 pub mod Migrating
 pub mod Receiving
+pub mod Merging

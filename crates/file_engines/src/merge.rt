@@ -1,8 +1,10 @@
 //! The engine of `merge`.
-ghost use Rattle.std.specs.Prelude.{◌≡◌, ◌≢◌, ◌⊎◌, ◌∷◌, [], IfErr, OnOk};
+ghost use Rattle.std.specs.Prelude.{◌≡◌, ◌≢◌, ◌⊎◌, ◌∷◌, [], IfErr, IfOk, OnOk};
 ghost use Rattle.std.specs.Io.KnownBytes.{Appends};
 ghost use Rattle.file_engines.specs.Fault.{Accounts, IfRefused, NoneFailed, OneFailed, counts};
+ghost use Rattle.file_engines.specs.Merging.{GivesReceiver, IsAgain, Joins, Merges};
 ghost use Rattle.file_engines.specs.Receiving.{Saves};
+ghost use Rattle.path_merge.specs.Frames.{State};
 ghost use Rattle.tool_text.specs.Telling.{memory_line};
 
 use crate::fault::{Fault, Refusal, of_state};
@@ -42,6 +44,9 @@ where
     ensures device { result ≡ 3 → OneFailed (counts (L.failures left.old) (L.failures left.new) ∷ counts (R.failures right.old) (R.failures right.new) ∷ counts (K.failures state.old) (K.failures state.new) ∷ counts (O.failures output.old) (O.failures output.new) ∷ counts (F.failures faults.old) (F.failures faults.new) ∷ []) }
     ensures working { result ≢ 3 → NoneFailed (counts (L.failures left.old) (L.failures left.new) ∷ counts (R.failures right.old) (R.failures right.new) ∷ counts (K.failures state.old) (K.failures state.new) ∷ counts (O.failures output.old) (O.failures output.new) ∷ counts (F.failures faults.old) (F.failures faults.new) ∷ []) }
     ensures saved { result ≡ 0 → Saves (K.held state.old) (K.held state.new) }
+    // Where the files are those of two receivers, what is written is the file of the two merged.
+    ensures merged { result ≡ 0
+        → Merges (L.to_give left.old) (R.to_give right.old) (K.held state.old) (K.held state.new) }
     ensures refused { result ≡ 1 → state.new ≡ state.old }
     ensures silent { result ≡ 0 → faults.new ≡ faults.old }
     ensures memory { result ≡ 4 → Appends (F.held faults.old) (F.held faults.new) memory_line }
@@ -70,6 +75,8 @@ where
     K: ByteSink,
     O: ByteSink,
     ensures saved { OnOk result (Saves (K.held state.old) (K.held state.new)) }
+    ensures merged { OnOk result
+        (Merges (L.to_give left.old) (R.to_give right.old) (K.held state.old) (K.held state.new)) }
     ensures refused { IfErr result (λ f. IfRefused f (state.new ≡ state.old)) }
     ensures failures { Accounts result (counts (L.failures left.old) (L.failures left.new) ∷ counts (R.failures right.old) (R.failures right.new) ∷ counts (K.failures state.old) (K.failures state.new) ∷ counts (O.failures output.old) (O.failures output.new) ∷ []) }
 {
@@ -84,14 +91,15 @@ fn merge_both<A: Allocator + Copy, L: ByteSource, R: ByteSource>(
     left: &mut L,
     right: &mut R,
 ) -> Result<Receiver<A>, Fault>
+    ensures joined { IfOk result (λ m. Joins (L.to_give left.old) (R.to_give right.old) m) }
     ensures failures { Accounts result (counts (L.failures left.old) (L.failures left.new) ∷ counts (R.failures right.old) (R.failures right.new) ∷ []) }
 {
     let mut merged = read_receiver(alloc, left)?;
     let other = read_receiver(alloc, right)?;
-    if merged.merge(&other).is_err() {
-        return Err(Fault::Refused(Refusal::MergeUnlike));
+    match merged.merge(&other) {
+        Ok(()) => Ok(merged),
+        Err(_) => Err(Fault::Refused(Refusal::MergeUnlike)),
     }
-    Ok(merged)
 }
 
 /// Reads a receiver's file.
@@ -99,7 +107,9 @@ fn read_receiver<A: Allocator + Copy, S: ByteSource>(
     alloc: A,
     source: &mut S,
 ) -> Result<Receiver<A>, Fault>
-    ensures { Accounts result (counts (S.failures source.old) (S.failures source.new) ∷ []) }
+    ensures same { IfOk result (λ r. (s : State)
+        → GivesReceiver (S.to_give source.old) s → IsAgain s r) }
+    ensures failures { Accounts result (counts (S.failures source.old) (S.failures source.new) ∷ []) }
 {
     match load_receiver(alloc, source) {
         Ok(receiver) => Ok(receiver),

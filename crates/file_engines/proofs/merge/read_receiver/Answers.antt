@@ -1,0 +1,6 @@
+use Rattle.file_engines.proofs.merge.read_receiver.Goals as goal
+
+pub returns-in-Ok-clause-same : goal.returns-in-Ok-clause-same
+returns-in-Ok-clause-same g c = λ s gives.
+    let same = c.in-Ok.ensures.same s gives.told gives.writable in
+    record { opening = same.0; frames = same.1 }
