@@ -1,5 +1,7 @@
-//! Datagrams of one to three segments (RFC 4175, 4.1).
-use std::alloc::AllocError;
+//! Datagrams of one to three segments (RFC 4175, 4.1), and a receiver that takes some.
+use path_merge::{OpenFault, Receiver};
+use st_format::{Format, Path};
+use std::alloc::{AllocError, Global};
 
 /// Payload type 96, timestamp 900, source 1, extended number 1 (RFC 3550, 5.1).
 const HEAD: [u8; 14] = [0x80, 0xE0, 0, 1, 0, 0, 3, 0x84, 0, 0, 0, 1, 0, 0];
@@ -23,4 +25,17 @@ pub fn put_head(
     datagram.extend_from_slice(&length.to_be_bytes())?;
     datagram.extend_from_slice(&row.to_be_bytes())?;
     datagram.extend_from_slice(&(offset | flag).to_be_bytes())
+}
+
+/// A receiver of payload type 96, of any source, and of the frame of timestamp 900.
+pub fn opened(alloc: Global, format: Format) -> Result<Receiver, OpenFault> {
+    Receiver::open(alloc, format, 96, None, &[900])
+}
+
+/// Takes a datagram of hexadecimal digits by A, and tells whether it was not refused.
+pub fn takes(alloc: Global, receiver: &mut Receiver, digits: &str) -> bool {
+    match hex::decode(alloc, digits) {
+        Ok(octets) => receiver.take(Path::A, octets.as_slice()).is_ok(),
+        Err(_) => false,
+    }
 }

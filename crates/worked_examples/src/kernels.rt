@@ -1,22 +1,26 @@
 //! The kernels over lanes against their plain definitions, at every length from 0 to 130.
 use crate::generator::Generator;
 use lane_kernels::{count_marks, differs, or_marks, select};
-use std::process::Abort;
 
 /// More than eight times 16 lanes, and four times 32.
 const MOST: usize = 130;
 
+/// What stands behind the octets that a kernel writes.
+const BEHIND: u8 = 7;
+
+/// The bits of a word, and first those of an octet.
+const BITS: [u16; 16] = [
+    1, 2, 4, 8, 16, 32, 64, 128, 256, 512, 1024, 2048, 4096, 8192, 16_384, 32_768,
+];
+
+const OCTET_BITS: [u8; 8] = [1, 2, 4, 8, 16, 32, 64, 128];
+
 /// Octets of four kinds: without order, equal ones, all 0 against all 255, and all 255.
 fn pair(generator: &mut Generator, kind: u32, a: &mut [u8; MOST], b: &mut [u8; MOST]) {
+    generator.fill_octets(a);
     match kind {
-        0 => {
-            generator.fill_octets(a);
-            generator.fill_octets(b);
-        }
-        1 => {
-            generator.fill_octets(a);
-            *b = *a;
-        }
+        0 => generator.fill_octets(b),
+        1 => *b = *a,
         2 => {
             a.fill(0);
             b.fill(255);
@@ -28,92 +32,121 @@ fn pair(generator: &mut Generator, kind: u32, a: &mut [u8; MOST], b: &mut [u8; M
     }
 }
 
-fn check_differs(rt: &impl Abort, a: &[u8; MOST], b: &[u8; MOST], n: usize) {
-    let mut out = [7; MOST];
-    assert!(rt; n <= MOST);
+/// Whether `differs` of the first `n` octets is its plain definition, and nothing behind is
+/// written.
+fn differs_plainly(a: &[u8; MOST], b: &[u8; MOST], n: usize) -> bool {
+    let (mut out, mut wanted) = ([BEHIND; MOST], [BEHIND; MOST]);
+    if n > MOST {
+        return false;
+    }
     differs(&a[..n], &b[..n], &mut out[..n]);
     for i in 0..n {
-        let wanted = if a[i] == b[i] { 0 } else { 255 };
-        assert_eq!(rt; out[i], wanted, "{i} of {n}");
+        wanted[i] = if a[i] == b[i] { 0 } else { 255 };
     }
-    assert!(rt; out[n..].iter().all(|octet| *octet == 7), "behind {n}");
+    out == wanted
 }
 
-fn check_select(rt: &impl Abort, mask: &[u8; MOST], a: &[u8; MOST], b: &[u8; MOST], n: usize) {
-    let mut out = [7; MOST];
-    assert!(rt; n <= MOST);
+/// Bit by bit `a` where the mask's bit is set, else `b`.
+fn selected(mask: u8, a: u8, b: u8) -> u8 {
+    let mut octet = 0;
+    for one in OCTET_BITS {
+        octet |= one & if mask & one == one { a } else { b };
+    }
+    octet
+}
+
+fn selects_plainly(mask: &[u8; MOST], a: &[u8; MOST], b: &[u8; MOST], n: usize) -> bool {
+    let (mut out, mut wanted) = ([BEHIND; MOST], [BEHIND; MOST]);
+    if n > MOST {
+        return false;
+    }
     select(&mask[..n], &a[..n], &b[..n], &mut out[..n]);
     for i in 0..n {
-        for bit in 0..8u32 {
-            let one = 1u8 << bit;
-            let from = if mask[i] & one == one { a[i] } else { b[i] };
-            assert_eq!(rt; out[i] & one, from & one, "{i} of {n}, bit {bit}");
-        }
+        wanted[i] = selected(mask[i], a[i], b[i]);
     }
-    assert!(rt; out[n..].iter().all(|octet| *octet == 7), "behind {n}");
+    out == wanted
 }
 
-fn check_or_marks(rt: &impl Abort, into: &[u16; MOST], from: &[u16; MOST], n: usize) {
-    let mut out = *into;
-    assert!(rt; n <= MOST);
+/// Bit by bit whether it is set in one word or the other.
+fn either(a: u16, b: u16) -> u16 {
+    let mut word = 0;
+    for one in BITS {
+        if a & one == one || b & one == one {
+            word |= one;
+        }
+    }
+    word
+}
+
+fn joins_plainly(into: &[u16; MOST], from: &[u16; MOST], n: usize) -> bool {
+    let (mut out, mut wanted) = (*into, *into);
+    if n > MOST {
+        return false;
+    }
     or_marks(&mut out[..n], &from[..n]);
     for i in 0..n {
-        for bit in 0..16u32 {
-            let one = 1u16 << bit;
-            let is_set = into[i] & one == one || from[i] & one == one;
-            assert_eq!(rt; out[i] & one == one, is_set, "{i} of {n}, bit {bit}");
-        }
+        wanted[i] = either(into[i], from[i]);
     }
-    for i in n..MOST {
-        assert_eq!(rt; out[i], into[i], "behind {n}");
-    }
+    out == wanted
 }
 
-/// Counts the bits of the mask one by one.
-fn check_count_marks(rt: &impl Abort, marks: &[u16; MOST], mask: u16, n: usize) {
+/// How many bits of the mask are set in a word, one by one.
+fn ones_under(mask: u16, word: u16) -> u64 {
+    let mut ones = 0u64;
+    for one in BITS {
+        if word & mask & one == one {
+            ones = ones.wrapping_add(1);
+        }
+    }
+    ones
+}
+
+fn counts_plainly(marks: &[u16; MOST], mask: u16, n: usize) -> bool {
     let mut wanted = 0u64;
-    assert!(rt; n <= MOST);
+    if n > MOST {
+        return false;
+    }
     for i in 0..n {
-        for bit in 0..16u32 {
-            let one = 1u16 << bit;
-            if marks[i] & one == one && mask & one == one {
-                wanted = wanted.wrapping_add(1);
-            }
-        }
+        wanted = wanted.wrapping_add(ones_under(mask, marks[i]));
     }
-    assert_eq!(rt; count_marks(&marks[..n], mask), wanted, "{n} under {mask}");
+    count_marks(&marks[..n], mask) == wanted
 }
 
-#[test]
-fn octets(rt: HostRuntime) {
-    let mut generator = Generator::new(1);
+/// The kernels over octets at one length, with octets of each kind.
+fn octets_agree(generator: &mut Generator, n: usize) -> bool {
     let (mut mask, mut a, mut b) = ([0; MOST], [0; MOST], [0; MOST]);
-    for n in 0..MOST + 1 {
-        for kind in 0..4u32 {
-            pair(&mut generator, kind, &mut a, &mut b);
-            generator.fill_octets(&mut mask);
-            check_differs(&rt, &a, &b, n);
-            check_select(&rt, &mask, &a, &b, n);
-            check_select(&rt, &a, &mask, &b, n);
+    let mut agree = true;
+    for kind in 0..4u32 {
+        pair(generator, kind, &mut a, &mut b);
+        generator.fill_octets(&mut mask);
+        agree &= differs_plainly(&a, &b, n);
+        agree &= selects_plainly(&mask, &a, &b, n);
+        agree &= selects_plainly(&a, &mask, &b, n);
+    }
+    agree
+}
+
+/// The kernels over words at one length.
+fn words_agree(generator: &mut Generator, n: usize) -> bool {
+    let (mut into, mut from) = ([0; MOST], [0; MOST]);
+    let (clear, full) = ([0; MOST], [u16::MAX; MOST]);
+    generator.fill_words(&mut into);
+    generator.fill_words(&mut from);
+    let mut agree = joins_plainly(&into, &from, n) & joins_plainly(&into, &into, n);
+    agree &= joins_plainly(&clear, &full, n) & joins_plainly(&full, &clear, n);
+    for mask in [0, u16::MAX, 0x8000, 0x7FFF, 1, generator.word()] {
+        for marks in [&into, &clear, &full] {
+            agree &= counts_plainly(marks, mask, n);
         }
     }
+    agree
 }
 
 #[test]
-fn words(rt: HostRuntime) {
-    let mut generator = Generator::new(2);
-    let (mut into, mut from) = ([0; MOST], [0; MOST]);
+fn each_length(rt: HostRuntime) {
+    let (mut octets, mut words) = (Generator::new(1), Generator::new(2));
     for n in 0..MOST + 1 {
-        generator.fill_words(&mut into);
-        generator.fill_words(&mut from);
-        check_or_marks(&rt, &into, &from, n);
-        check_or_marks(&rt, &into, &into, n);
-        check_or_marks(&rt, &[0; MOST], &[u16::MAX; MOST], n);
-        check_or_marks(&rt, &[u16::MAX; MOST], &[0; MOST], n);
-        for mask in [0, u16::MAX, 0x8000, 0x7FFF, 1, generator.word()] {
-            check_count_marks(&rt, &into, mask, n);
-            check_count_marks(&rt, &[0; MOST], mask, n);
-            check_count_marks(&rt, &[u16::MAX; MOST], mask, n);
-        }
+        assert!(rt; octets_agree(&mut octets, n), "octets, {n}");
+        assert!(rt; words_agree(&mut words, n), "words, {n}");
     }
 }

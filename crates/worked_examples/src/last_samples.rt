@@ -1,30 +1,30 @@
-//! The example last-sample-differs through the library, and at each width, sampling and depth: two datagrams of a row
-//! that differ in the last sample of one pgroup alone.
-use crate::datagrams::{begin, put_head};
+//! The example last-sample-differs through the library, and at each width, sampling and depth: two
+//! datagrams of a row that differ in the last sample of one pgroup alone.
+use crate::datagrams::{begin, opened, put_head};
 use crate::generator::Generator;
+use crate::packed_marks::cell;
 use frame_assembly::{Counts, Frame};
 use path_merge::Receiver;
-use st_format::{Cell, Depth, Format, Path, Pgroup, Sampling};
+use st_format::{Cell, Depth, Format, Path, Sampling};
+use std::alloc::{AllocError, Global};
 use std::process::Abort;
 use std::test::Fail;
 
 /// The widths go up to 130.
 const MOST_WIDTH: u32 = 130;
 
-/// A row of one row's datagram.
-fn take_row(
-    rt: &(impl Abort + AllocGlobal),
+/// Takes a row of one row's datagram, and tells whether it was not refused.
+fn takes_row(
+    alloc: Global,
     receiver: &mut Receiver,
     path: Path,
     octets: &[u8],
-) -> Result<(), Fail> {
-    let mut datagram = Vec::new(rt.alloc());
+) -> Result<bool, AllocError> {
+    let mut datagram = Vec::new(alloc);
     begin(&mut datagram)?;
     put_head(&mut datagram, octets.len(), 0, 0, false)?;
     datagram.extend_from_slice(octets)?;
-    assert!(rt; datagram.len() <= 1400);
-    assert!(rt; receiver.take(path, datagram.as_slice()).is_ok());
-    Ok(())
+    Ok(datagram.len() <= 1400 && receiver.take(path, datagram.as_slice()).is_ok())
 }
 
 /// The component of a pgroup's last sample: Y, Cr or B (RFC 4175, 4.3).
@@ -35,71 +35,114 @@ fn last_component(sampling: Sampling) -> u8 {
     }
 }
 
-/// Only the last sample of a group is contested: by the counts, by its cell, and by the mark words; and all other
-/// groups have their octets.
-fn check_frame(rt: &impl Abort, frame: &Frame, octets: &[u8], group: Pgroup, place: usize) {
-    let format = frame.format();
-    let counts = frame.counts();
-    assert!(rt; place <= 1000 && group.samples <= 12 && 0 < group.samples);
-    let column = (place as u32)
-        .wrapping_add(1)
-        .wrapping_mul(group.pixels)
-        .wrapping_sub(1);
-    let component = last_component(format.sampling());
-    assert_eq!(rt; counts.contested, 1, "{format:?} {place}");
-    assert_eq!(rt; counts.missing, 0, "{format:?} {place}");
-    assert_eq!(rt; counts.present, format.sample_count() as u64 - 1);
-    assert!(rt; format.has_position(0, column, component));
-    assert_eq!(rt; frame.cell(0, column, component), Cell::Contested);
-    assert!(rt; format.height() == 1);
-    for (at, mark) in frame.marks(0).iter().enumerate() {
-        let contested = if at == place {
-            1 << (group.samples - 1)
-        } else {
-            0
-        };
-        assert_eq!(rt; *mark, 0x8000 | contested, "{format:?} {place}");
+/// The mark word of a group of so many samples of which the last one is contested.
+fn last_contested(samples: usize) -> u16 {
+    match samples {
+        3 => 0x8004,
+        4 => 0x8008,
+        6 => 0x8020,
+        _ => 0x8800,
     }
-    let row = frame.packed_row(0);
-    assert!(rt; group.octets <= 15 && group.octets * (place + 1) <= row.len());
-    assert_eq!(rt; row.len(), octets.len());
-    assert!(rt; row[..group.octets * place] == octets[..group.octets * place]);
-    assert!(rt; row[group.octets * (place + 1)..] == octets[group.octets * (place + 1)..]);
+}
+
+/// Whether the mark word of one place is this, and each other says that the group is whole.
+fn are_marks(marks: &[u16], place: usize, word: u16) -> bool {
+    let mut agree = place < marks.len();
+    for i in 0..marks.len() {
+        agree &= marks[i] == if i == place { word } else { 0x8000 };
+    }
+    agree
+}
+
+/// Whether octets are these before one place and from another one on.
+fn same_around(octets: &[u8], wanted: &[u8], from: usize, to: usize) -> bool {
+    octets.len() == wanted.len()
+        && from < to
+        && to <= octets.len()
+        && octets[..from] == wanted[..from]
+        && octets[to..] == wanted[to..]
+}
+
+/// Whether the cell of a group's last sample is contested.
+fn has_cell(frame: &Frame, place: u32) -> bool {
+    let format = frame.format();
+    let behind = place.wrapping_add(1).wrapping_mul(format.pgroup().pixels);
+    let component = last_component(format.sampling());
+    cell(frame, 0, behind.wrapping_sub(1), component) == Some(Cell::Contested)
+}
+
+/// Whether the mark words say that only the last sample of a group is contested, and all other
+/// groups have their octets.
+fn has_row(frame: &Frame, octets: &[u8], place: u32) -> bool {
+    let group = frame.format().pgroup();
+    let from = (place as usize).wrapping_mul(group.octets);
+    let to = from.wrapping_add(group.octets);
+    0 < frame.format().height()
+        && are_marks(
+            frame.marks(0),
+            place as usize,
+            last_contested(group.samples),
+        )
+        && same_around(frame.packed_row(0), octets, from, to)
+}
+
+/// Turns the last bit of a group's last octet.
+fn turn_last(octets: &mut [u8], size: usize, place: u32) {
+    let behind = (place as usize).wrapping_add(1).wrapping_mul(size);
+    let last = behind.wrapping_sub(1);
+    if last < octets.len() {
+        octets[last] ^= 1;
+    }
+}
+
+/// The counts of a frame in which only a group's last sample is contested, by its cell and the mark
+/// words; else `None`.
+fn contested_at(receiver: &Receiver, octets: &[u8], place: u32) -> Option<Counts> {
+    let frame = receiver.frame(900)?;
+    if has_cell(frame, place) && has_row(frame, octets, place) {
+        Some(frame.counts())
+    } else {
+        None
+    }
 }
 
 /// A row comes by A, and by B with the last bit of a group's last sample turned.
 fn differs_at(
-    rt: &(impl Abort + AllocGlobal),
+    alloc: Global,
     format: Format,
     octets: &mut [u8],
-    place: usize,
-) -> Result<(), Fail> {
-    let group = format.pgroup();
-    let mut receiver = Receiver::open(rt.alloc(), format, 96, None, &[900])?;
-    take_row(rt, &mut receiver, Path::A, octets)?;
-    assert!(rt; place <= 1000 && group.octets <= 15 && 0 < group.octets);
-    let last = group.octets * (place + 1) - 1;
-    assert!(rt; last < octets.len());
-    octets[last] ^= 1;
-    take_row(rt, &mut receiver, Path::B, octets)?;
-    check_frame(
-        rt,
-        receiver.frame(900).expect(rt, "a frame"),
-        octets,
-        group,
-        place,
-    );
-    Ok(())
+    place: u32,
+) -> Result<Option<Counts>, Fail> {
+    let mut receiver = opened(alloc, format)?;
+    let first = takes_row(alloc, &mut receiver, Path::A, octets)?;
+    turn_last(octets, format.pgroup().octets, place);
+    let second = takes_row(alloc, &mut receiver, Path::B, octets)?;
+    if first && second {
+        Ok(contested_at(&receiver, octets, place))
+    } else {
+        Ok(None)
+    }
 }
 
-/// Each group of a row in turn.
-fn check_width(rt: &(impl Abort + AllocGlobal), format: Format) -> Result<(), Fail> {
-    let mut octets = Vec::from_elem(rt.alloc(), 0u8, format.row_octets())?;
-    Generator::new(u64::from(format.width())).fill_octets(octets.as_mut_slice());
-    for place in 0..format.width() / format.pgroup().pixels {
-        differs_at(rt, format, octets.as_mut_slice(), place as usize)?;
+/// All samples of a format but one, which is contested.
+fn but_one(format: &Format) -> Counts {
+    Counts {
+        present: (format.sample_count() as u64).wrapping_sub(1),
+        missing: 0,
+        contested: 1,
     }
-    Ok(())
+}
+
+/// Whether it is so at each group of a row in turn.
+fn width_agrees(alloc: Global, format: Format) -> Result<bool, Fail> {
+    let mut octets = Vec::from_elem(alloc, 0u8, format.row_octets())?;
+    Generator::new(u64::from(format.width())).fill_octets(octets.as_mut_slice());
+    let wanted = Some(but_one(&format));
+    let mut agree = true;
+    for place in 0..format.width() / format.pgroup().pixels {
+        agree &= differs_at(alloc, format, octets.as_mut_slice(), place)? == wanted;
+    }
+    Ok(agree)
 }
 
 #[test]
@@ -108,7 +151,7 @@ fn each_width(rt: HostRuntime) -> Result<(), Fail> {
         for depth in [Depth::D8, Depth::D10, Depth::D12, Depth::D16] {
             for half in 1..MOST_WIDTH / 2 + 1 {
                 if let Ok(format) = Format::new(sampling, depth, 2 * half, 1, 60, 1) {
-                    check_width(&rt, format)?;
+                    assert!(rt; width_agrees(rt.alloc(), format)?, "{format:?}");
                 }
             }
         }
@@ -116,28 +159,22 @@ fn each_width(rt: HostRuntime) -> Result<(), Fail> {
     Ok(())
 }
 
+/// The counts of *last-sample-differs*.
+const COUNTS: Counts = Counts {
+    present: 67,
+    missing: 0,
+    contested: 1,
+};
+
 /// *last-sample-differs*.
 #[test]
 fn last_sample_differs(rt: HostRuntime) -> Result<(), Fail> {
     let format = Format::new(Sampling::Ycc422, Depth::D8, 34, 1, 60, 1)?;
-    let mut octets = [0; 68];
-    for i in 0..68usize {
-        octets[i] = match i % 4 {
-            0 | 2 => 0x80,
-            odd => 0x10 + (odd / 2) as u8,
-        };
+    let mut octets = [0x80; 68];
+    for i in 0..34usize {
+        octets[2 * i + 1] = 0x10;
     }
-    let mut receiver = Receiver::open(rt.alloc(), format, 96, None, &[900])?;
-    take_row(&rt, &mut receiver, Path::A, &octets)?;
-    octets[67] = 0x12;
-    take_row(&rt, &mut receiver, Path::A, &octets)?;
-    let frame = receiver.frame(900).expect(&rt, "a frame");
-    check_frame(&rt, frame, &octets, format.pgroup(), 16);
-    let counts = Counts {
-        present: 67,
-        missing: 0,
-        contested: 1,
-    };
-    assert_eq!(rt; frame.counts(), counts);
+    let counts = differs_at(rt.alloc(), format, &mut octets, 16)?;
+    assert_eq!(rt; counts, Some(COUNTS));
     Ok(())
 }

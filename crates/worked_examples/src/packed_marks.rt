@@ -1,18 +1,28 @@
 //! The example packed-marks: a pgroup of twelve samples, one of them contested.
+use crate::datagrams::{opened, takes};
 use frame_assembly::{Counts, Frame};
-use path_merge::Receiver;
-use st_format::{Cell, Depth, Format, Path, Sampling};
+use st_format::{Cell, Depth, Format, Sampling};
+use std::process::Abort;
 use std::test::Fail;
 
-const FIRST: &str = "80E0000100000384000000010000000F00000000800408020010200800408020010200";
+/// Two datagrams; in the second, Y of column 1 is 65 in place of 64.
+const DATAGRAMS: [&str; 2] = [
+    "80E0000100000384000000010000000F00000000800408020010200800408020010200",
+    "80E0000100000384000000010000000F00000000800408020010600800408020010200",
+];
 
-/// Y of column 1 is 65 in place of 64.
-const SECOND: &str = "80E0000100000384000000010000000F00000000800408020010600800408020010200";
+const ROW: [u8; 15] = [
+    0x80, 0x04, 0x08, 0x02, 0x00, 0x00, 0x20, 0x08, 0x00, 0x40, 0x80, 0x20, 0x01, 0x02, 0x00,
+];
 
-const ROW: &str = "800408020000200800408020010200";
+const COUNTS: Counts = Counts {
+    present: 11,
+    missing: 0,
+    contested: 1,
+};
 
 /// A cell, or `None` where there is no such position.
-fn cell(frame: &Frame, row: u32, column: u32, component: u8) -> Option<Cell> {
+pub fn cell(frame: &Frame, row: u32, column: u32, component: u8) -> Option<Cell> {
     if frame.format().has_position(row, column, component) {
         Some(frame.cell(row, column, component))
     } else {
@@ -20,27 +30,27 @@ fn cell(frame: &Frame, row: u32, column: u32, component: u8) -> Option<Cell> {
     }
 }
 
+/// Whether Y of column 1 is contested, and its Cr known.
+fn has_cells(frame: &Frame) -> bool {
+    cell(frame, 0, 1, 0) == Some(Cell::Contested) && cell(frame, 0, 1, 2) == Some(Cell::Value(512))
+}
+
+/// Whether the first row has the example's octets and mark word.
+fn has_row(frame: &Frame) -> bool {
+    0 < frame.format().height()
+        && frame.packed_row(0) == ROW.as_slice()
+        && frame.marks(0) == [0x8010u16].as_slice()
+}
+
 /// *packed-marks*.
 #[test]
 fn packed_marks(rt: HostRuntime) -> Result<(), Fail> {
     let format = Format::new(Sampling::Ycc444, Depth::D10, 4, 1, 60, 1)?;
-    let mut receiver = Receiver::open(rt.alloc(), format, 96, None, &[900])?;
-    for digits in [FIRST, SECOND] {
-        let octets = hex::decode(rt.alloc(), digits).expect(&rt, "digits");
-        assert!(rt; receiver.take(Path::A, octets.as_slice()).is_ok());
+    let mut receiver = opened(rt.alloc(), format)?;
+    for digits in DATAGRAMS {
+        assert!(rt; takes(rt.alloc(), &mut receiver, digits));
     }
     let frame = receiver.frame(900).expect(&rt, "a frame");
-    let counts = Counts {
-        present: 11,
-        missing: 0,
-        contested: 1,
-    };
-    assert_eq!(rt; frame.counts(), counts);
-    assert_eq!(rt; cell(frame, 0, 1, 0), Some(Cell::Contested));
-    assert_eq!(rt; cell(frame, 0, 1, 2), Some(Cell::Value(512)));
-    assert!(rt; frame.format().height() == 1);
-    let row = hex::decode(rt.alloc(), ROW).expect(&rt, "digits");
-    assert_eq!(rt; frame.packed_row(0), row.as_slice());
-    assert_eq!(rt; frame.marks(0), [0x8010u16].as_slice());
+    assert!(rt; frame.counts() == COUNTS && has_cells(frame) && has_row(frame));
     Ok(())
 }

@@ -1,136 +1,191 @@
 //! The example packed-octets, and rows of each sampling and depth with each bit in turn.
+ghost use Rattle.std.specs.Prelude.{IsTrue};
+ghost use Rattle.pgroup_pack.specs.Packing.{Agree};
+
 use pgroup_pack::{pack, sample_at, unpack};
 use st_format::{Depth, Format, Sampling};
+use std::alloc::{AllocError, Global};
 use std::process::Abort;
 use std::test::Fail;
 
-/// The samples are packed into these octets, and these are read as the samples.
-fn check_example(rt: &impl Abort, format: &Format, samples: &[u16], octets: &[u8]) {
+/// More octets, and more samples, than the rows of the tests have.
+const MOST: usize = 65_536;
+
+/// Whether so many octets and so many samples have as many bits.
+fn agree(format: &Format, octets: usize, samples: usize) -> bool
+    ensures { IsTrue result → Agree format.now octets samples }
+{
     let bits = format.depth().bits() as usize;
-    let most = format.max_value();
-    assert!(rt; octets.len() <= MOST_OCTETS && samples.len() <= MOST_SAMPLES && bits <= 16);
-    assert_eq!(rt; 8 * octets.len(), bits * samples.len());
-    assert!(rt; samples.iter().all(|v| *v <= most));
-    let mut packed = [0; MOST_OCTETS];
-    let mut back = [0; MOST_SAMPLES];
-    pack(format, samples, &mut packed[..octets.len()]);
-    unpack(format, octets, &mut back[..samples.len()]);
-    assert!(rt; &packed[..octets.len()] == octets);
-    assert!(rt; &back[..samples.len()] == samples);
+    octets <= MOST && samples <= MOST && bits <= 16 && 8 * octets == bits * samples
 }
 
-#[test]
-fn packed_octets(rt: HostRuntime) -> Result<(), Fail> {
-    let ycc422 = |depth: Depth| Format::new(Sampling::Ycc422, depth, 4, 1, 60, 1);
-    check_example(
-        &rt,
-        &ycc422(Depth::D10)?,
+/// Sample `i` of those that octets spell, or `None` where they spell fewer.
+pub fn sample(format: &Format, octets: &[u8], i: usize) -> Option<u16> {
+    let bits = format.depth().bits() as usize;
+    if octets.len() <= MOST && 0 < bits && i < 8 * octets.len() / bits {
+        Some(sample_at(format, octets, i))
+    } else {
+        None
+    }
+}
+
+/// The octets that spell values, or all 0 where the values don't fit or are not so long.
+pub fn packed(
+    alloc: Global,
+    format: &Format,
+    values: &[u16],
+    size: usize,
+) -> Result<Vec<u8>, AllocError> {
+    let mut octets = Vec::from_elem(alloc, 0u8, size)?;
+    let most = format.max_value();
+    let fit = values.iter().all(|v| *v <= most);
+    if fit && agree(format, octets.len(), values.len()) {
+        pack(format, values, octets.as_mut_slice());
+    }
+    Ok(octets)
+}
+
+/// The samples that octets spell, or all 0 where they are not so many.
+fn unpacked(
+    alloc: Global,
+    format: &Format,
+    octets: &[u8],
+    count: usize,
+) -> Result<Vec<u16>, AllocError> {
+    let mut samples = Vec::from_elem(alloc, 0u16, count)?;
+    if agree(format, octets.len(), samples.len()) {
+        unpack(format, octets, samples.as_mut_slice());
+    }
+    Ok(samples)
+}
+
+/// Whether the octets spell the samples one by one.
+fn spells(format: &Format, octets: &[u8], samples: &[u16]) -> bool {
+    let mut is_each = true;
+    for i in 0..samples.len() {
+        is_each &= sample(format, octets, i) == Some(samples[i]);
+    }
+    is_each
+}
+
+/// Whether the samples are packed into the octets, and these are read as the samples.
+fn is_packing(
+    alloc: Global,
+    format: &Format,
+    samples: &[u16],
+    octets: &[u8],
+) -> Result<bool, AllocError> {
+    let there = packed(alloc, format, samples, octets.len())?;
+    let back = unpacked(alloc, format, octets, samples.len())?;
+    Ok(there.as_slice() == octets && back.as_slice() == samples && spells(format, octets, samples))
+}
+
+/// *packed-octets*.
+const EXAMPLES: [(Sampling, Depth, &[u16], &[u8]); 4] = [
+    (
+        Sampling::Ycc422,
+        Depth::D10,
         &[512, 64, 512, 940],
         &[0x80, 0x04, 0x08, 0x03, 0xAC],
-    );
-    check_example(
-        &rt,
-        &ycc422(Depth::D12)?,
+    ),
+    (
+        Sampling::Ycc422,
+        Depth::D12,
         &[2048, 256, 2048, 3760],
         &[0x80, 0x01, 0x00, 0x80, 0x0E, 0xB0],
-    );
-    check_example(
-        &rt,
-        &ycc422(Depth::D16)?,
+    ),
+    (
+        Sampling::Ycc422,
+        Depth::D16,
         &[32768, 4096, 32768, 60160],
         &[0x80, 0x00, 0x10, 0x00, 0x80, 0x00, 0xEB, 0x00],
-    );
-    check_example(
-        &rt,
-        &Format::new(Sampling::Ycc444, Depth::D10, 4, 1, 60, 1)?,
+    ),
+    (
+        Sampling::Ycc444,
+        Depth::D10,
         &[512, 64, 512, 512, 64, 512, 512, 64, 512, 512, 64, 512],
         &[
             0x80, 0x04, 0x08, 0x02, 0x00, 0x10, 0x20, 0x08, 0x00, 0x40, 0x80, 0x20, 0x01, 0x02,
             0x00,
         ],
-    );
+    ),
+];
+
+#[test]
+fn packed_octets(rt: HostRuntime) -> Result<(), Fail> {
+    for (sampling, depth, samples, octets) in EXAMPLES {
+        let format = Format::new(sampling, depth, 4, 1, 60, 1)?;
+        let agree = is_packing(rt.alloc(), &format, samples, octets)?;
+        assert!(rt; agree, "{sampling:?} {depth:?}");
+    }
     Ok(())
 }
 
-/// Rows of up to `MOST_GROUPS` pixel groups, of 15 octets and 12 samples at most.
+/// Rows of up to `MOST_GROUPS` pixel groups.
 const MOST_GROUPS: usize = 9;
 
-const MOST_OCTETS: usize = 135;
-
-const MOST_SAMPLES: usize = 108;
-
 /// Turns bit `place` of the octets, counted from the most significant of the first.
-fn turn_bit(octets: &mut [u8], place: usize) {
+pub fn turn_bit(octets: &mut [u8], place: usize) {
     if place / 8 < octets.len() {
         octets[place / 8] ^= 0x80 >> (place % 8);
     }
 }
 
-/// The octets spell samples that are all `rest`, but that sample `place / bits` has its bit
-/// `place % bits`, counted from the most significant, turned; and packed again they are as before.
-fn check_row(
-    rt: &impl Abort,
+/// Whether octets spell so many samples of one value, but that in the sample of one number
+/// some bits are turned.
+fn row_agrees(
+    alloc: Global,
     format: &Format,
     octets: &[u8],
-    samples: usize,
-    place: usize,
-    rest: u16,
-) {
-    let bits = format.depth().bits() as usize;
-    let mut row = [0; MOST_SAMPLES];
-    let mut again = [0; MOST_OCTETS];
-    assert!(rt; samples <= MOST_SAMPLES && octets.len() <= MOST_OCTETS);
-    assert_eq!(rt; 8 * octets.len(), bits * samples);
-    assert!(rt; 8 <= bits && bits <= 16);
-    unpack(format, octets, &mut row[..samples]);
-    for i in 0..samples {
-        let turned = if i == place / bits {
-            1 << (bits - 1 - place % bits)
-        } else {
-            0
-        };
-        assert_eq!(rt; row[i], rest ^ turned);
-        assert_eq!(rt; sample_at(format, octets, i), rest ^ turned);
+    rest: (usize, u16),
+    turned: (usize, u16),
+) -> Result<bool, AllocError> {
+    let (count, value) = rest;
+    let (place, one) = turned;
+    let mut samples = Vec::from_elem(alloc, value, count)?;
+    if place < samples.len() {
+        samples[place] ^= one;
     }
-    pack(format, &row[..samples], &mut again[..octets.len()]);
-    assert!(rt; &again[..octets.len()] == octets);
+    is_packing(alloc, format, samples.as_slice(), octets)
 }
 
-/// No octets, and rows of one to nine groups, all 0 and all the greatest value, with each bit in turn turned.
-fn check_rows(rt: &impl Abort, format: &Format) {
+/// Rows of one length of one value, whole and with each bit in turn turned.
+fn rows_agree(
+    alloc: Global,
+    format: &Format,
+    groups: usize,
+    fill: u8,
+    value: u16,
+) -> Result<bool, AllocError> {
     let group = format.pgroup();
-    let bits = format.depth().bits();
-    assert!(rt; group.octets <= 15 && group.samples <= 12 && 8 <= bits && bits <= 16);
-    check_row(rt, format, &[], 0, 0, 0);
-    for count in 1..MOST_GROUPS + 1 {
-        let mut octets = [0; MOST_OCTETS];
-        let row = &mut octets[..group.octets * count];
-        for place in 0..8 * row.len() {
-            turn_bit(row, place);
-            check_row(rt, format, row, group.samples * count, place, 0);
-            turn_bit(row, place);
-        }
-        row.fill(255);
-        for place in 0..8 * row.len() {
-            turn_bit(row, place);
-            check_row(
-                rt,
-                format,
-                row,
-                group.samples * count,
-                place,
-                u16::MAX >> (16 - bits),
-            );
-            turn_bit(row, place);
+    let mut row = Vec::from_elem(alloc, fill, groups.wrapping_mul(group.octets))?;
+    let rest = (groups.wrapping_mul(group.samples), value);
+    let mut agree = row_agrees(alloc, format, row.as_slice(), rest, (rest.0, 0))?;
+    let mut place = 0usize;
+    for i in 0..rest.0 {
+        let mut one = format.max_value() / 2 + 1;
+        for _ in 0..format.depth().bits() {
+            turn_bit(row.as_mut_slice(), place);
+            agree &= row_agrees(alloc, format, row.as_slice(), rest, (i, one))?;
+            turn_bit(row.as_mut_slice(), place);
+            place = place.wrapping_add(1);
+            one /= 2;
         }
     }
+    Ok(agree)
 }
 
+/// No octets, and rows of one to nine groups, all 0 and all the greatest value.
 #[test]
 fn each_sampling_and_depth(rt: HostRuntime) -> Result<(), Fail> {
     for sampling in [Sampling::Ycc422, Sampling::Ycc444, Sampling::Rgb] {
         for depth in [Depth::D8, Depth::D10, Depth::D12, Depth::D16] {
-            check_rows(&rt, &Format::new(sampling, depth, 4, 1, 60, 1)?);
+            let format = Format::new(sampling, depth, 4, 1, 60, 1)?;
+            for groups in 0..MOST_GROUPS + 1 {
+                let mut agree = rows_agree(rt.alloc(), &format, groups, 0, 0)?;
+                agree &= rows_agree(rt.alloc(), &format, groups, 255, format.max_value())?;
+                assert!(rt; agree, "{groups} of {sampling:?} {depth:?}");
+            }
         }
     }
     Ok(())

@@ -1,19 +1,20 @@
 //! Pictures, timestamps, and frames that are copied and settled.
+use crate::datagrams::{opened, takes};
 use frame_assembly::{Base, Frame};
 use path_merge::Receiver;
 use st_format::memory::Refusing;
-use st_format::{Depth, Format, FormatFault, Path, Picture, PictureFault, Sampling};
+use st_format::{Depth, Format, FormatFault, Picture, PictureFault, Sampling};
 use std::alloc::{AllocError, Allocator, Global};
 use std::process::Abort;
 use std::test::Fail;
 
 /// F1: 4:2:2, 8 bits, 4 by 2, 60 frames a second.
-fn small() -> Result<Format, FormatFault> {
+pub fn small() -> Result<Format, FormatFault> {
     Format::new(Sampling::Ycc422, Depth::D8, 4, 2, 60, 1)
 }
 
 /// A value of a picture, or `None` where there is no such position.
-fn value<A: Allocator>(picture: &Picture<A>, row: u32, column: u32, component: u8) -> Option<u16> {
+fn value(picture: &Picture, row: u32, column: u32, component: u8) -> Option<u16> {
     if picture.format().has_position(row, column, component) {
         Some(picture.get(row, column, component))
     } else {
@@ -21,14 +22,18 @@ fn value<A: Allocator>(picture: &Picture<A>, row: u32, column: u32, component: u
     }
 }
 
+/// Whether a picture has these values: row, column, component, and `None` where there is no such
+/// position.
+pub fn has_values(picture: &Picture, values: &[(u32, u32, u8, Option<u16>)]) -> bool {
+    let mut has = true;
+    for (row, column, component, wanted) in values {
+        has &= value(picture, *row, *column, *component) == *wanted;
+    }
+    has
+}
+
 /// Sets a value of a picture, and tells whether there is such a position and the value fits.
-fn set<A: Allocator>(
-    picture: &mut Picture<A>,
-    row: u32,
-    column: u32,
-    component: u8,
-    value: u16,
-) -> bool {
+pub fn set(picture: &mut Picture, row: u32, column: u32, component: u8, value: u16) -> bool {
     let format = picture.format();
     let can_be = format.has_position(row, column, component) && value <= format.max_value();
     if can_be {
@@ -37,74 +42,93 @@ fn set<A: Allocator>(
     can_be
 }
 
-/// *timestamps-5994*, and one past 2^32.
+/// *timestamps-5994*, and one past 2^32: base, number and timestamp.
+const TIMESTAMPS: [(u32, u32, u32); 5] = [
+    (0, 0, 0),
+    (0, 1, 1501),
+    (0, 2, 3003),
+    (4_294_967_295, 1, 1500),
+    (0, 4_294_967_295, 2_147_482_146),
+];
+
 #[test]
 fn timestamps(rt: HostRuntime) -> Result<(), Fail> {
     let format = Format::new(Sampling::Ycc422, Depth::D8, 1920, 1080, 60000, 1001)?;
-    for (base, k, timestamp) in [
-        (0u32, 0u32, 0u32),
-        (0, 1, 1501),
-        (0, 2, 3003),
-        (4_294_967_295, 1, 1500),
-        (0, 4_294_967_295, 2_147_482_146),
-    ] {
+    for (base, k, timestamp) in TIMESTAMPS {
         assert_eq!(rt; format.timestamp(base, k), timestamp, "{base} {k}");
     }
     Ok(())
 }
 
+/// The greatest value of each depth.
+const MOST: [(Depth, u16); 4] = [
+    (Depth::D8, 255),
+    (Depth::D10, 1023),
+    (Depth::D12, 4095),
+    (Depth::D16, 65535),
+];
+
+/// Whether a picture of a depth is filled with its greatest value, 1 and 2.
+fn fills(alloc: Global, depth: Depth, most: u16) -> Result<bool, Fail> {
+    let format = Format::new(Sampling::Ycc422, depth, 4, 2, 60, 1)?;
+    let picture = Picture::new(alloc, format, [most, 1, 2])?;
+    let upper = [(0, 0, 2, Some(2)), (0, 1, 1, None)];
+    let lower = [(1, 3, 0, Some(most)), (1, 2, 1, Some(1))];
+    Ok(has_values(&picture, &upper) && has_values(&picture, &lower))
+}
+
+/// Why there is no picture of F1 with a fill.
+fn fault_of<A: Allocator>(alloc: A, fill: [u16; 3]) -> Result<Option<PictureFault>, FormatFault> {
+    Ok(Picture::new(alloc, small()?, fill).err())
+}
+
 /// A value has at most as many bits as a sample.
 #[test]
-fn fills(rt: HostRuntime) -> Result<(), Fail> {
-    for (depth, most) in [
-        (Depth::D8, 255u16),
-        (Depth::D10, 1023),
-        (Depth::D12, 4095),
-        (Depth::D16, 65535),
-    ] {
-        let format = Format::new(Sampling::Ycc422, depth, 4, 2, 60, 1)?;
-        let picture = Picture::new(rt.alloc(), format, [most, 1, 2])?;
-        assert_eq!(rt; value(&picture, 1, 3, 0), Some(most));
-        assert_eq!(rt; value(&picture, 1, 2, 1), Some(1));
-        assert_eq!(rt; value(&picture, 0, 0, 2), Some(2));
-        assert_eq!(rt; value(&picture, 0, 1, 1), None);
+fn greatest_values(rt: HostRuntime) -> Result<(), Fail> {
+    for (depth, most) in MOST {
+        assert!(rt; fills(rt.alloc(), depth, most)?, "{depth:?}");
     }
-    let format = small()?;
     for fill in [[256, 0, 0], [0, 256, 0], [0, 0, 256]] {
-        match Picture::new(rt.alloc(), format, fill) {
-            Ok(_) => assert!(rt; false),
-            Err(fault) => assert_eq!(rt; fault, PictureFault::ValueTooLarge),
-        }
+        let fault = fault_of(rt.alloc(), fill)?;
+        assert!(rt; fault == Some(PictureFault::ValueTooLarge), "{fill:?}");
     }
     Ok(())
 }
+
+/// Sets one value, and no other: not where there is no position, and none that is too large.
+fn sets(picture: &mut Picture) -> bool {
+    set(picture, 1, 2, 2, 7) && !set(picture, 1, 3, 2, 7) && !set(picture, 1, 2, 2, 256)
+}
+
+/// What there is then.
+const SET: [(u32, u32, u8, Option<u16>); 3] = [
+    (1, 2, 2, Some(7)),
+    (1, 2, 1, Some(128)),
+    (1, 0, 2, Some(129)),
+];
 
 /// One value changes, and no other.
 #[test]
 fn one_value(rt: HostRuntime) -> Result<(), Fail> {
     let first = Picture::new(rt.alloc(), small()?, [16, 128, 129])?;
     let mut picture = first.try_copy(rt.alloc())?;
-    assert!(rt; picture.same(&first));
-    assert!(rt; set(&mut picture, 1, 2, 2, 7));
-    assert!(rt; !set(&mut picture, 1, 3, 2, 7));
-    assert!(rt; !set(&mut picture, 1, 2, 2, 256));
-    assert_eq!(rt; value(&picture, 1, 2, 2), Some(7));
-    assert_eq!(rt; value(&picture, 1, 2, 1), Some(128));
-    assert_eq!(rt; value(&picture, 1, 0, 2), Some(129));
-    assert!(rt; !picture.same(&first));
+    let was_same = picture.same(&first);
+    let is_set = sets(&mut picture) && has_values(&picture, &SET);
+    assert!(rt; was_same && is_set && !picture.same(&first));
     Ok(())
 }
 
-/// The frame of *contested*.
-fn contested(rt: &(impl Abort + AllocGlobal)) -> Result<Receiver, Fail> {
-    let format = small()?;
-    let mut receiver = Receiver::open(rt.alloc(), format, 96, None, &[900]).expect(rt, "opened");
-    for digits in [
-        "80E00001000003840000000100000008000000008010801180128013",
-        "80E00001000003840000000100000008000000008020801180128013",
-    ] {
-        let octets = hex::decode(rt.alloc(), digits).expect(rt, "digits");
-        assert!(rt; receiver.take(Path::A, octets.as_slice()).is_ok());
+/// *contested*'s datagrams: d1, and the same with `20` for the first `10`.
+const CONTESTED: [&str; 2] = [
+    "80E00001000003840000000100000008000000008010801180128013",
+    "80E00001000003840000000100000008000000008020801180128013",
+];
+
+/// The receiver of *contested*.
+pub fn contested(alloc: Global) -> Result<Receiver, Fail> {
+    let mut receiver = opened(alloc, small()?)?;
+    for digits in CONTESTED {
+        let _ = takes(alloc, &mut receiver, digits);
     }
     Ok(receiver)
 }
@@ -117,58 +141,71 @@ fn copies(alloc: Global, frame: &Frame) -> Result<bool, AllocError> {
     Ok(is_same && !copy.same(frame) && copy.counts().missing == 16)
 }
 
-/// A frame settled with a fill, where the fill fits its depth.
-fn settled<A: Allocator, B: Allocator>(
-    alloc: A,
-    frame: &Frame<B>,
-    fill: [u16; 3],
-) -> Result<Option<Picture<A>>, AllocError> {
-    let most = frame.format().max_value();
-    if fill[0] <= most && fill[1] <= most && fill[2] <= most {
-        Ok(Some(frame.settle(alloc, Base::<Global>::Fill(fill))?))
-    } else {
-        Ok(None)
-    }
+/// A frame settled with 50, 128, 128.
+fn settled<A: Allocator>(alloc: A, frame: &Frame) -> Result<Picture<A>, AllocError> {
+    frame.settle(alloc, Base::<Global>::Fill([50, 128, 128]))
 }
+
+/// The values of *copies-and-settling*.
+const SETTLED: [(u32, u32, u8, Option<u16>); 4] = [
+    (0, 0, 0, Some(50)),
+    (0, 1, 0, Some(17)),
+    (1, 3, 0, Some(50)),
+    (1, 2, 1, Some(128)),
+];
 
 /// *copies-and-settling*.
 #[test]
 fn copies_and_settling(rt: HostRuntime) -> Result<(), Fail> {
-    let receiver = contested(&rt)?;
+    let receiver = contested(rt.alloc())?;
     let frame = receiver.frame(900).expect(&rt, "a frame");
-    assert!(rt; copies(rt.alloc(), frame)?);
-    let picture = settled(rt.alloc(), frame, [50, 128, 128])?.expect(&rt, "it fits");
-    assert_eq!(rt; value(&picture, 0, 0, 0), Some(50));
-    assert_eq!(rt; value(&picture, 0, 1, 0), Some(17));
-    assert_eq!(rt; value(&picture, 1, 3, 0), Some(50));
-    assert_eq!(rt; value(&picture, 1, 2, 1), Some(128));
-    assert!(rt; settled(rt.alloc(), frame, [50, 128, 256])?.is_none());
+    let picture = settled(rt.alloc(), frame)?;
+    assert!(rt; copies(rt.alloc(), frame)? && has_values(&picture, &SETTLED));
     Ok(())
+}
+
+/// Whether `Picture::new` answers that its growth was refused, and then has it.
+fn makes(refusing: &Refusing<Global>) -> Result<bool, FormatFault> {
+    refusing.refuse(1);
+    let refused = fault_of(refusing, [16, 128, 128])?;
+    Ok(refused == Some(PictureFault::NoMemory) && fault_of(refusing, [16, 128, 128])?.is_none())
+}
+
+/// The same of a picture's copy.
+fn copies_picture(refusing: &Refusing<Global>, picture: &Picture) -> Result<bool, PictureFault> {
+    refusing.refuse(1);
+    let refused = picture.try_copy(refusing).err();
+    let copy = picture.try_copy(refusing)?;
+    Ok(refused == Some(PictureFault::NoMemory) && copy.same(picture))
+}
+
+/// The same of a frame's copy.
+fn copies_frame(refusing: &Refusing<Global>, frame: &Frame) -> Result<bool, AllocError> {
+    refusing.refuse(1);
+    let is_refused = frame.try_copy(refusing).is_err();
+    Ok(is_refused && frame.try_copy(refusing)?.same(frame))
+}
+
+/// The same of a settled frame.
+fn settles(refusing: &Refusing<Global>, frame: &Frame) -> bool {
+    refusing.refuse(1);
+    settled(refusing, frame).is_err() && settled(refusing, frame).is_ok()
 }
 
 /// Each call that wants memory, with its one growth refused and then had.
 #[test]
 fn growths(rt: HostRuntime) -> Result<(), Fail> {
-    let format = small()?;
-    let receiver = contested(&rt)?;
+    let receiver = contested(rt.alloc())?;
     let frame = receiver.frame(900).expect(&rt, "a frame");
-    let refusing = Refusing::new(rt.alloc(), 1);
-    match Picture::new(&refusing, format, [16, 128, 128]) {
-        Ok(_) => assert!(rt; false),
-        Err(fault) => assert_eq!(rt; fault, PictureFault::NoMemory),
-    }
-    let picture = Picture::new(&refusing, format, [16, 128, 128])?;
-    refusing.refuse(1);
-    match picture.try_copy(&refusing) {
-        Ok(_) => assert!(rt; false),
-        Err(fault) => assert_eq!(rt; fault, PictureFault::NoMemory),
-    }
-    assert!(rt; picture.try_copy(&refusing)?.same(&picture));
-    refusing.refuse(1);
-    assert!(rt; frame.try_copy(&refusing).is_err());
-    assert!(rt; frame.try_copy(&refusing)?.same(frame));
-    refusing.refuse(1);
-    assert!(rt; settled(&refusing, frame, [50, 128, 128]).is_err());
-    assert!(rt; settled(&refusing, frame, [50, 128, 128])?.is_some());
+    let picture = Picture::new(rt.alloc(), small()?, [16, 128, 128])?;
+    let refusing = Refusing::new(rt.alloc(), 0);
+    assert!(rt;
+        makes(&refusing)? && copies_picture(&refusing, &picture)?,
+        "pictures"
+    );
+    assert!(rt;
+        copies_frame(&refusing, frame)? && settles(&refusing, frame),
+        "frames"
+    );
     Ok(())
 }

@@ -1,17 +1,19 @@
-//! Frames that are put together from datagrams without order, against a plain model: a list of cells, to which each
-//! value is offered one by one.
-use crate::datagrams::{begin, put_head};
+//! Frames that are put together from datagrams without order, against a plain model: a list of
+//! cells, to which each value is offered one by one.
+use crate::datagrams::{begin, opened, put_head};
 use crate::generator::Generator;
-use crate::rows::{check_rows, copy_by_groups};
+use crate::packed_marks::cell;
+use crate::packing::packed;
+use crate::rows::{copies_by_groups, part, rows_agree};
 use frame_assembly::{Counts, Frame};
 use path_merge::Receiver;
-use pgroup_pack::pack;
 use st_format::{Cell, Depth, Format, Path, Sampling};
 use std::alloc::{AllocError, Global};
 use std::process::Abort;
 use std::test::Fail;
 
-/// What one segment offers: its place, the number of its first sample, its values, and the octets that spell them.
+/// What one segment offers: its place, the number of its first sample, its values, and the octets
+/// that spell them.
 #[derive(Drop)]
 struct Offer {
     row: u16,
@@ -21,7 +23,8 @@ struct Offer {
     octets: Vec<u8>,
 }
 
-/// A receiver, the picture of which most datagrams tell, and the model.
+/// A receiver, the picture of which most datagrams tell, and the model; and whether each datagram
+/// has been drawn and taken as it should be.
 #[derive(Drop)]
 struct Play {
     format: Format,
@@ -29,6 +32,7 @@ struct Play {
     generator: Generator,
     receiver: Receiver,
     cells: Vec<Cell>,
+    is_sound: bool,
 }
 
 /// What is known of a sample to which a value is offered.
@@ -64,41 +68,51 @@ fn keep_bits(samples: &mut [u16], mask: u16) {
     }
 }
 
-/// Changes values from one place to another, each or one of some.
-fn change(generator: &mut Generator, values: &mut [u16], every: u32, most: u16) {
-    let length = u32::try_from(values.len()).unwrap_or(0);
-    if length > 0 && every > 0 {
-        let first = generator.below(length);
-        let count = 1 + generator.below(length - first);
-        let kept = generator.below(every);
-        let turned = (generator.word() & most).max(1);
-        for i in 0..values.len() {
-            let place = (i as u32).wrapping_sub(first);
-            if place < count && place % every == kept {
-                values[i] ^= turned;
-            }
+/// Turns bits of values from one place to another, of each or of one of some.
+fn turn(values: &mut [u16], first: u32, count: u32, kept: (u32, u32), bits: u16) {
+    let mut place = 0u32.wrapping_sub(first);
+    for i in 0..values.len() {
+        if place < count && place % kept.1.max(1) == kept.0 {
+            values[i] ^= bits;
         }
+        place = place.wrapping_add(1);
     }
 }
 
-/// The octets that spell values.
-fn packed(
-    rt: &(impl Abort + AllocGlobal),
-    format: &Format,
-    values: &[u16],
-) -> Result<Vec<u8>, AllocError> {
-    let bits = format.depth().bits() as usize;
-    let most = format.max_value();
-    assert!(rt; values.len() < 65_536 && 8 <= bits && bits <= 16);
-    let mut octets = Vec::from_elem(rt.alloc(), 0u8, bits * values.len() / 8)?;
-    assert_eq!(rt; 8 * octets.len(), bits * values.len());
-    assert!(rt; values.iter().all(|v| *v <= most));
-    pack(format, values, octets.as_mut_slice());
-    Ok(octets)
+/// Changes values from one place to another, each or one of some.
+fn change(generator: &mut Generator, values: &mut [u16], every: u32, most: u16) {
+    let length = u32::try_from(values.len()).unwrap_or(0).max(1);
+    let first = generator.below(length);
+    let count = 1 + generator.below(length - first);
+    let kept = generator.below(every.max(1));
+    let bits = (generator.word() & most).max(1);
+    turn(values, first, count, (kept, every), bits);
 }
 
 /// The greatest number of groups of a segment: some blocks of 64, and some more.
 const MOST_GROUPS: u32 = 200;
+
+/// Where a segment stands: its row, its first group, and how many groups it has.
+#[derive(Clone, Copy)]
+struct Place {
+    row: u32,
+    group: u32,
+    count: u32,
+}
+
+/// A place in a row of a format.
+fn draw_place(generator: &mut Generator, format: &Format) -> Place {
+    let groups = (format.width() / format.pgroup().pixels).max(1);
+    let row = generator.below(format.height().max(1));
+    let group = generator.below(groups);
+    let count = 1 + generator.below((groups - group).min(MOST_GROUPS));
+    Place { row, group, count }
+}
+
+/// How many samples some groups have.
+fn samples_in(format: &Format, groups: u32) -> usize {
+    (groups as usize).wrapping_mul(format.pgroup().samples)
+}
 
 impl Play {
     fn new(alloc: Global, format: Format, of_picture: u64, seed: u64) -> Result<Play, Fail> {
@@ -106,92 +120,123 @@ impl Play {
             format,
             picture: picture(alloc, format, of_picture)?,
             generator: Generator::new(seed),
-            receiver: Receiver::open(alloc, format, 96, None, &[900])?,
+            receiver: opened(alloc, format)?,
             cells: Vec::from_elem(alloc, Cell::Missing, format.sample_count())?,
+            is_sound: true,
         })
     }
 
-    /// Groups of a row with the picture's values, of which some are changed now and then.
-    fn draw_offer(&mut self, rt: &(impl Abort + AllocGlobal)) -> Result<Offer, AllocError> {
-        let group = self.format.pgroup();
-        let groups = (self.format.width() / group.pixels).max(1);
-        let row = self.generator.below(self.format.height().max(1));
-        let at = self.generator.below(groups);
-        let count = 1 + self.generator.below((groups - at).min(MOST_GROUPS));
-        let first = (row as usize)
-            .wrapping_mul(self.format.row_samples())
-            .wrapping_add((at as usize).wrapping_mul(group.samples));
-        let end = first.wrapping_add((count as usize).wrapping_mul(group.samples));
-        let mut values = Vec::new(rt.alloc());
-        assert!(rt; first <= end && end <= self.picture.len());
-        values.extend_from_slice(&self.picture[first..end])?;
-        for every in [1, 2, group.samples as u32, 64] {
+    /// Changes values now and then.
+    fn change_some(&mut self, values: &mut [u16]) {
+        let samples = self.format.pgroup().samples as u32;
+        for every in [1, 2, samples, 64] {
             if self.generator.below(16) == 0 {
-                change(
-                    &mut self.generator,
-                    values.as_mut_slice(),
-                    every,
-                    self.format.max_value(),
-                );
+                change(&mut self.generator, values, every, self.format.max_value());
             }
         }
-        let octets = packed(rt, &self.format, values.as_slice())?;
+    }
+
+    /// The number of the first sample of a place.
+    fn first_sample(&self, place: Place) -> usize {
+        let before = (place.row as usize).wrapping_mul(self.format.row_samples());
+        before.wrapping_add(samples_in(&self.format, place.group))
+    }
+
+    /// Groups of a row with the picture's values, of which some are changed now and then.
+    fn draw_offer(&mut self, alloc: Global) -> Result<Offer, AllocError> {
+        let place = draw_place(&mut self.generator, &self.format);
+        let group = self.format.pgroup();
+        let first = self.first_sample(place);
+        let count = samples_in(&self.format, place.count);
+        let mut values = Vec::from_slice(alloc, part(self.picture.as_slice(), first, count))?;
+        self.is_sound &= !values.is_empty();
+        self.change_some(values.as_mut_slice());
+        let size = (place.count as usize).wrapping_mul(group.octets);
+        let octets = packed(alloc, &self.format, values.as_slice(), size)?;
         Ok(Offer {
-            row: row as u16,
-            offset: at.wrapping_mul(group.pixels) as u16,
+            row: u16::try_from(place.row).unwrap_or(u16::MAX),
+            offset: u16::try_from(place.group.wrapping_mul(group.pixels)).unwrap_or(u16::MAX),
             first,
             values,
             octets,
         })
     }
 
-    fn draw_offers(&mut self, rt: &(impl Abort + AllocGlobal)) -> Result<Vec<Offer>, AllocError> {
-        let mut offers = Vec::new(rt.alloc());
+    fn draw_offers(&mut self, alloc: Global) -> Result<Vec<Offer>, AllocError> {
+        let mut offers = Vec::new(alloc);
         for _ in 0..1 + self.generator.below(3) {
-            offers.push(self.draw_offer(rt)?)?;
+            offers.push(self.draw_offer(alloc)?)?;
         }
         Ok(offers)
     }
 
     /// Takes a datagram by one path or the other.
-    fn take(&mut self, rt: &impl Abort, datagram: &[u8]) {
-        let path = if self.generator.below(2) == 0 {
-            Path::A
-        } else {
-            Path::B
+    fn take(&mut self, datagram: &[u8]) {
+        let path = match self.generator.below(2) {
+            0 => Path::A,
+            _ => Path::B,
         };
-        assert!(rt; self.receiver.take(path, datagram).is_ok());
+        self.is_sound &= self.receiver.take(path, datagram).is_ok();
     }
 
-    /// Datagrams of which one in eight is lost, one in eight comes twice, and one in eight comes again later.
-    fn run(&mut self, rt: &(impl Abort + AllocGlobal), datagrams: u32) -> Result<(), Fail> {
-        let mut late = Vec::new(rt.alloc());
+    /// A datagram, of which one in eight is lost and one in eight comes twice; what else may come
+    /// then is told by the number that is drawn.
+    fn step(&mut self, datagram: &[u8], offers: &[Offer]) -> u32 {
+        let fate = self.generator.below(8);
+        if fate > 0 {
+            self.take(datagram);
+            offer_all(self.cells.as_mut_slice(), offers);
+        }
+        if fate == 1 {
+            self.take(datagram);
+        }
+        fate
+    }
+
+    /// Datagrams of which one in eight is lost, one in eight comes twice, and one in eight comes
+    /// again later.
+    fn run(&mut self, alloc: Global, datagrams: u32) -> Result<(), AllocError> {
+        let mut late = Vec::new(alloc);
         for _ in 0..datagrams {
-            let offers = self.draw_offers(rt)?;
-            let datagram = written(rt.alloc(), offers.as_slice())?;
-            let fate = self.generator.below(8);
-            if fate > 0 {
-                self.take(rt, datagram.as_slice());
-                offer_all(self.cells.as_mut_slice(), offers.as_slice());
-            }
-            if fate == 1 {
-                self.take(rt, datagram.as_slice());
-            }
+            let offers = self.draw_offers(alloc)?;
+            let datagram = written(alloc, offers.as_slice())?;
+            let fate = self.step(datagram.as_slice(), offers.as_slice());
             if fate == 2 {
                 late.clear();
                 late.extend_from_slice(datagram.as_slice())?;
             }
             if fate == 3 && !late.is_empty() {
-                self.take(rt, late.as_slice());
+                self.take(late.as_slice());
             }
         }
         Ok(())
     }
 
-    fn check(&self, rt: &impl Abort) {
-        let frame = self.receiver.frame(900).expect(rt, "a frame");
-        check_counts(rt, frame, self.cells.as_slice());
-        check_cells(rt, frame, self.cells.as_slice());
+    /// Whether the frame is the model's.
+    fn agrees(&self) -> bool {
+        let cells = self.cells.as_slice();
+        match self.receiver.frame(900) {
+            Some(frame) => {
+                self.is_sound && frame.counts() == counted(cells) && cells_agree(frame, cells)
+            }
+            None => false,
+        }
+    }
+
+    /// Whether the frame's rows and groups are the model's, and make the frame again.
+    fn has_rows(&self, alloc: Global) -> Result<bool, AllocError> {
+        match self.receiver.frame(900) {
+            Some(frame) => {
+                Ok(rows_agree(frame, self.cells.as_slice()) && copies_by_groups(alloc, frame)?)
+            }
+            None => Ok(false),
+        }
+    }
+
+    /// Merges another receiver into this one, and its model too.
+    fn merge(&mut self, other: &Play) {
+        self.is_sound &= self.receiver.merge(&other.receiver).is_ok();
+        join_all(self.cells.as_mut_slice(), other.cells.as_slice());
     }
 }
 
@@ -252,12 +297,8 @@ fn counted(cells: &[Cell]) -> Counts {
     }
 }
 
-fn check_counts(rt: &impl Abort, frame: &Frame, cells: &[Cell]) {
-    assert_eq!(rt; frame.counts(), counted(cells));
-}
-
-/// Columns, and then the column and component of each sample among them, in the order in which samples are sent
-/// (RFC 4175, 4.3).
+/// Columns, and then the column and component of each sample among them, in the order in which
+/// samples are sent (RFC 4175, 4.3).
 fn order(sampling: Sampling) -> (u32, &'static [(u32, u8)]) {
     match sampling {
         Sampling::Ycc422 => (2, &[(0, 1), (0, 0), (0, 2), (1, 0)]),
@@ -266,68 +307,61 @@ fn order(sampling: Sampling) -> (u32, &'static [(u32, u8)]) {
     }
 }
 
-/// Each cell of the frame is that of the model.
-fn check_cells(rt: &impl Abort, frame: &Frame, cells: &[Cell]) {
+/// Whether a cell is there and is that of a number.
+fn is_at(cells: &[Cell], number: usize, cell: Option<Cell>) -> bool {
+    number < cells.len() && cell == Some(cells[number])
+}
+
+/// Whether each cell of the frame is that of the model.
+fn cells_agree(frame: &Frame, cells: &[Cell]) -> bool {
     let format = frame.format();
     let (step, places) = order(format.sampling());
     let mut number = 0usize;
-    assert!(rt; step == 1 || step == 2);
+    let mut agree = true;
     for row in 0..format.height() {
-        for run in 0..format.width() / step {
+        for run in 0..format.width() / step.max(1) {
             for (behind, component) in places {
                 let column = run.wrapping_mul(step).wrapping_add(*behind);
-                assert!(rt; format.has_position(row, column, *component));
-                assert!(rt; number < cells.len());
-                let cell = frame.cell(row, column, *component);
-                assert_eq!(rt; cell, cells[number], "{row} {column} {component}");
-                number += 1;
+                agree &= is_at(cells, number, cell(frame, row, column, *component));
+                number = number.wrapping_add(1);
             }
         }
     }
-    assert_eq!(rt; number, cells.len());
+    agree && number == cells.len()
 }
 
-/// Two receivers of one picture, and then the left one with the right one merged into it.
-fn check_merge(
-    rt: &(impl Abort + AllocGlobal),
-    format: Format,
-    seed: u64,
-    datagrams: u32,
-) -> Result<(), Fail> {
-    let mut left = Play::new(rt.alloc(), format, seed, seed.wrapping_add(1))?;
-    let mut right = Play::new(rt.alloc(), format, seed, seed.wrapping_add(2))?;
-    left.run(rt, datagrams)?;
-    right.run(rt, datagrams)?;
-    left.check(rt);
-    assert_eq!(rt; left.receiver.merge(&right.receiver), Ok(()));
-    join_all(left.cells.as_mut_slice(), right.cells.as_slice());
-    left.check(rt);
-    right.check(rt);
-    let frame = left.receiver.frame(900).expect(rt, "a frame");
-    check_rows(rt, frame, left.cells.as_slice());
-    copy_by_groups(rt, frame)
+/// Whether two receivers of one picture agree with their models, and the left one again with the
+/// right one merged into it.
+fn merges(alloc: Global, format: Format, seed: u64, datagrams: u32) -> Result<bool, Fail> {
+    let mut left = Play::new(alloc, format, seed, seed.wrapping_add(1))?;
+    let mut right = Play::new(alloc, format, seed, seed.wrapping_add(2))?;
+    left.run(alloc, datagrams)?;
+    right.run(alloc, datagrams)?;
+    let apart = left.agrees();
+    left.merge(&right);
+    Ok(apart && left.agrees() && right.agrees() && left.has_rows(alloc)?)
 }
 
 /// Small frames and frames of some blocks of groups, from few datagrams to many.
-fn check_kind(
-    rt: &(impl Abort + AllocGlobal),
-    sampling: Sampling,
-    depth: Depth,
-) -> Result<(), Fail> {
+fn kind_merges(alloc: Global, sampling: Sampling, depth: Depth) -> Result<bool, Fail> {
+    let small = Format::new(sampling, depth, 24, 4, 60, 1)?;
+    let wide = Format::new(sampling, depth, 840, 2, 60, 1)?;
+    let mut agree = true;
     for round in 0..20u32 {
-        let small = Format::new(sampling, depth, 24, 4, 60, 1)?;
-        check_merge(rt, small, u64::from(round), 1 + round)?;
-        let wide = Format::new(sampling, depth, 840, 2, 60, 1)?;
-        check_merge(rt, wide, u64::from(round), 1 + round)?;
+        agree &= merges(alloc, small, u64::from(round), 1 + round)?;
+        agree &= merges(alloc, wide, u64::from(round), 1 + round)?;
     }
-    Ok(())
+    Ok(agree)
 }
 
 #[test]
 fn each_sampling_and_depth(rt: HostRuntime) -> Result<(), Fail> {
     for sampling in [Sampling::Ycc422, Sampling::Ycc444, Sampling::Rgb] {
         for depth in [Depth::D8, Depth::D10, Depth::D12, Depth::D16] {
-            check_kind(&rt, sampling, depth)?;
+            assert!(rt;
+                kind_merges(rt.alloc(), sampling, depth)?,
+                "{sampling:?} {depth:?}"
+            );
         }
     }
     Ok(())
@@ -336,5 +370,6 @@ fn each_sampling_and_depth(rt: HostRuntime) -> Result<(), Fail> {
 #[test]
 fn full_size(rt: HostRuntime) -> Result<(), Fail> {
     let format = Format::new(Sampling::Ycc422, Depth::D10, 1920, 1080, 60, 1)?;
-    check_merge(&rt, format, 5, 4000)
+    assert!(rt; merges(rt.alloc(), format, 5, 4000)?);
+    Ok(())
 }

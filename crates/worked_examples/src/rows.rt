@@ -2,13 +2,16 @@
 ghost use Rattle.std.specs.Prelude.{ℕ, ◌≡◌, ◌≤◌, IsTrue};
 ghost use Rattle.std.specs.Int.{bit_at};
 
+use crate::packing::sample;
 use frame_assembly::{Frame, GroupState};
-use pgroup_pack::{blank, sample_at};
+use pgroup_pack::blank;
 use st_format::{Cell, Format};
-use std::process::Abort;
-use std::test::Fail;
+use std::alloc::{AllocError, Global};
 
 const MOST_OCTETS: usize = 15;
+
+/// The mark bits of the most samples that a group has.
+const BITS: [u16; 12] = [1, 2, 4, 8, 16, 32, 64, 128, 256, 512, 1024, 2048];
 
 /// The value of a cell, or 0.
 fn known(cell: Cell) -> u16 {
@@ -18,83 +21,103 @@ fn known(cell: Cell) -> u16 {
     }
 }
 
-/// The mark word of a group's cells: bit 15 says that they are present, bit `i` that cell `i` is contested.
-fn mark_of(rt: &impl Abort, cells: &[Cell]) -> u16 {
+/// The mark word of a group's cells: bit 15 says that they are present, bit `i` that cell `i` is
+/// contested. `None` where only some are missing.
+fn mark_of(cells: &[Cell]) -> Option<u16> {
     let mut mark = 0x8000u16;
     let mut missing = 0usize;
-    assert!(rt; cells.len() <= 12);
     for i in 0..cells.len() {
         match cells[i] {
             Cell::Missing => missing = missing.wrapping_add(1),
             Cell::Value(_) => {}
-            Cell::Contested => mark |= 1 << i,
+            Cell::Contested => mark |= if i < 12 { BITS[i] } else { 0 },
         }
     }
     if missing == cells.len() {
-        0
+        Some(0)
+    } else if missing == 0 {
+        Some(mark)
     } else {
-        assert_eq!(rt; missing, 0);
-        mark
+        None
     }
 }
 
-/// A row's octets spell the values of its cells, 0 where there is none.
-fn check_octets(rt: &impl Abort, format: &Format, octets: &[u8], cells: &[Cell]) {
-    let bits = format.depth().bits() as usize;
-    assert!(rt; 8 <= bits && bits <= 16 && octets.len() < 65_536 && cells.len() < 65_536);
-    assert_eq!(rt; 8 * octets.len(), bits * cells.len());
+/// Whether octets spell the values of some cells, 0 where there is none.
+fn spells(format: &Format, octets: &[u8], cells: &[Cell]) -> bool {
+    let mut agree = true;
     for i in 0..cells.len() {
-        assert_eq!(rt;
-            sample_at(format, octets, i),
-            known(cells[i]),
-            "{format:?} {i}"
-        );
+        agree &= sample(format, octets, i) == Some(known(cells[i]));
+    }
+    agree
+}
+
+/// The mark word that a group's state tells, or `None` for a mask that no state has.
+fn told(state: GroupState) -> Option<u16> {
+    match state {
+        GroupState::Gone => Some(0),
+        GroupState::Whole => Some(0x8000),
+        GroupState::Mixed(mask) if 0 < mask && mask < 0x8000 => Some(0x8000 | mask),
+        GroupState::Mixed(_) => None,
     }
 }
 
-/// A group's mark word, its state, and its octets.
-fn check_group(rt: &impl Abort, frame: &Frame, row: u32, place: u32, mark: u16, cells: &[Cell]) {
+/// Writes the octets of a group of a frame, and tells its mark word; `None` where there is no
+/// group.
+fn read(frame: &Frame, row: u32, place: u32, room: &mut [u8; MOST_OCTETS]) -> Option<u16> {
     let format = frame.format();
     let group = format.pgroup();
-    let mut room = [255; MOST_OCTETS];
-    assert!(rt; group.octets <= MOST_OCTETS && 0 < group.pixels);
-    assert!(rt; row < format.height() && place < format.width() / group.pixels);
-    let octets = &mut room[..group.octets];
-    let state = match frame.group(row, place, octets) {
-        GroupState::Gone => 0,
-        GroupState::Whole => 0x8000,
-        GroupState::Mixed(mask) => {
-            assert!(rt; 0 < mask && mask < 0x8000);
-            0x8000 | mask
-        }
-    };
-    assert_eq!(rt; mark, mark_of(rt, cells), "{format:?} {row} {place}");
-    assert_eq!(rt; state, mark, "{format:?} {row} {place}");
-    check_octets(rt, &format, octets, cells);
+    let is_place = row < format.height() && place < format.width() / group.pixels;
+    if is_place && group.octets <= MOST_OCTETS {
+        told(frame.group(row, place, &mut room[..group.octets]))
+    } else {
+        None
+    }
 }
 
-/// Each row and each group.
-pub fn check_rows(rt: &impl Abort, frame: &Frame, cells: &[Cell]) {
+/// Whether a group's mark word, its state and its octets are those of its cells.
+fn group_agrees(frame: &Frame, row: u32, place: u32, mark: u16, cells: &[Cell]) -> bool {
+    let mut room = [255; MOST_OCTETS];
+    let state = read(frame, row, place, &mut room);
+    state == Some(mark) && mark_of(cells) == state && spells(&frame.format(), &room, cells)
+}
+
+/// So many items from a place on, or none where there are not so many.
+pub fn part<T>(items: &[T], from: usize, count: usize) -> &[T] {
+    if from <= items.len() && count <= items.len() - from {
+        &items[from..from + count]
+    } else {
+        &[]
+    }
+}
+
+/// Whether a row's octets and groups are those of its cells.
+fn row_agrees(frame: &Frame, row: u32, cells: &[Cell]) -> bool {
     let format = frame.format();
     let samples = format.pgroup().samples;
-    let mut rest = cells;
-    assert!(rt; 0 < samples);
-    for row in 0..format.height() {
-        assert!(rt; format.row_samples() <= rest.len());
-        check_octets(
-            rt,
-            &format,
-            frame.packed_row(row),
-            &rest[..format.row_samples()],
-        );
-        let marks = frame.marks(row);
-        for (place, mark) in marks.iter().enumerate() {
-            assert!(rt; samples <= rest.len());
-            check_group(rt, frame, row, place as u32, *mark, &rest[..samples]);
-            rest = &rest[samples..];
-        }
+    if row >= format.height() {
+        return false;
     }
-    assert!(rt; rest.is_empty());
+    let octets = frame.packed_row(row);
+    let mut agree = spells(&format, octets, cells)
+        && sample(&format, octets, cells.len()).is_none();
+    let mut place = 0u32;
+    for mark in frame.marks(row) {
+        let its = part(cells, (place as usize).wrapping_mul(samples), samples);
+        agree &= !its.is_empty() && group_agrees(frame, row, place, *mark, its);
+        place = place.wrapping_add(1);
+    }
+    agree
+}
+
+/// Whether each row and each group is that of its cells.
+pub fn rows_agree(frame: &Frame, cells: &[Cell]) -> bool {
+    let samples = frame.format().row_samples();
+    let mut agree = true;
+    for row in 0..frame.format().height() {
+        let its = part(cells, (row as usize).wrapping_mul(samples), samples);
+        agree &= !its.is_empty() && row_agrees(frame, row, its);
+    }
+    agree
 }
 
 /// Whether a mask has no bit from a number on.
@@ -125,41 +148,42 @@ fn set(frame: &mut Frame, row: u32, place: u32, octets: &[u8], mask: u16, presen
     can_be
 }
 
-/// Gives a group of one frame to another.
-fn copy_group(rt: &impl Abort, frame: &Frame, copy: &mut Frame, row: u32, place: u32) {
-    let format = frame.format();
-    let group = format.pgroup();
+/// Gives a group of one frame to another, or makes it missing, and tells whether it could be set.
+fn give(frame: &Frame, copy: &mut Frame, row: u32, place: u32) -> bool {
+    let size = frame.format().pgroup().octets;
     let mut room = [0; MOST_OCTETS];
-    assert!(rt; group.octets <= MOST_OCTETS && 0 < group.pixels);
-    assert!(rt; row < format.height() && place < format.width() / group.pixels);
-    let octets = &mut room[..group.octets];
-    let (mask, present) = match frame.group(row, place, octets) {
-        GroupState::Gone => (0, false),
-        GroupState::Whole => (0, true),
-        GroupState::Mixed(mask) => (mask, true),
-    };
-    assert!(rt; set(copy, row, place, octets, mask, present));
+    match read(frame, row, place, &mut room) {
+        Some(mark) if size <= MOST_OCTETS => {
+            set(
+                copy,
+                row,
+                place,
+                &room[..size],
+                mark & 0x7FFF,
+                mark >= 0x8000,
+            )
+        }
+        _ => false,
+    }
 }
 
-/// A frame that is given each group of another is the same, and then each can be made missing.
-pub fn copy_by_groups(rt: &(impl Abort + AllocGlobal), frame: &Frame) -> Result<(), Fail> {
+/// Gives each group of one frame to another, and tells whether each could be set.
+fn give_all(frame: &Frame, copy: &mut Frame) -> bool {
     let format = frame.format();
-    let group = format.pgroup();
-    let blank = Frame::new(rt.alloc(), format)?;
-    let mut copy = Frame::new(rt.alloc(), format)?;
+    let mut can_be = true;
     for row in 0..format.height() {
-        for place in 0..format.width() / group.pixels {
-            copy_group(rt, frame, &mut copy, row, place);
+        for place in 0..format.width() / format.pgroup().pixels {
+            can_be &= give(frame, copy, row, place);
         }
     }
-    assert!(rt; copy.same(frame));
-    assert!(rt; group.octets <= MOST_OCTETS);
-    let zeros = [0; MOST_OCTETS];
-    for row in 0..format.height() {
-        for place in 0..format.width() / group.pixels {
-            assert!(rt; set(&mut copy, row, place, &zeros[..group.octets], 0, false));
-        }
-    }
-    assert!(rt; copy.same(&blank));
-    Ok(())
+    can_be
+}
+
+/// Whether a frame that is given each group of another is the same, and then each can be made
+/// missing.
+pub fn copies_by_groups(alloc: Global, frame: &Frame) -> Result<bool, AllocError> {
+    let blank = Frame::new(alloc, frame.format())?;
+    let mut copy = Frame::new(alloc, frame.format())?;
+    let is_copied = give_all(frame, &mut copy) && copy.same(frame);
+    Ok(is_copied && give_all(&blank, &mut copy) && copy.same(&blank))
 }

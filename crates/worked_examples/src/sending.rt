@@ -1,11 +1,12 @@
 //! Plans, and pictures that are sent and taken again.
 ghost use Rattle.std.specs.Prelude.{◌≡◌, ◌↔◌, IsTrue};
 
+use crate::pictures::{set, small};
 use frame_assembly::Base;
 use packet_plan::{Plan, PlanFault, SendFault, Stamp, send_frame};
 use path_merge::Receiver;
 use st_format::memory::{MemoryDatagrams, Refusing};
-use st_format::{Depth, Format, FormatFault, Path, Picture, Sampling};
+use st_format::{Depth, Format, Path, Picture, Sampling};
 use std::alloc::{AllocError, Allocator, Global};
 use std::process::Abort;
 use std::test::Fail;
@@ -18,33 +19,23 @@ pub const STAMP: Stamp = Stamp {
     ssrc: 1,
 };
 
-/// F1: 4:2:2, 8 bits, 4 by 2, 60 frames a second.
-fn small() -> Result<Format, FormatFault> {
-    Format::new(Sampling::Ycc422, Depth::D8, 4, 2, 60, 1)
-}
+/// Luma 16 to 23 in raster order: row, column and value.
+const LUMA: [(u32, u32, u16); 8] = [
+    (0, 0, 16),
+    (0, 1, 17),
+    (0, 2, 18),
+    (0, 3, 19),
+    (1, 0, 20),
+    (1, 1, 21),
+    (1, 2, 22),
+    (1, 3, 23),
+];
 
-/// Sets a value where there is such a position and the value fits.
-fn set(picture: &mut Picture, row: u32, column: u32, component: u8, value: u16) {
-    let format = picture.format();
-    if format.has_position(row, column, component) && value <= format.max_value() {
-        picture.set(row, column, component, value);
-    }
-}
-
-/// P0: chroma 128, and luma 16 to 23 in raster order.
-fn p0(rt: &(impl Abort + AllocGlobal)) -> Result<Picture, Fail> {
-    let mut picture = Picture::new(rt.alloc(), small()?, [0, 128, 128])?;
-    for (row, column, value) in [
-        (0u32, 0u32, 16u16),
-        (0, 1, 17),
-        (0, 2, 18),
-        (0, 3, 19),
-        (1, 0, 20),
-        (1, 1, 21),
-        (1, 2, 22),
-        (1, 3, 23),
-    ] {
-        set(&mut picture, row, column, 0, value);
+/// P0: chroma 128, and that luma.
+fn p0(alloc: Global) -> Result<Picture, Fail> {
+    let mut picture = Picture::new(alloc, small()?, [0, 128, 128])?;
+    for (row, column, value) in LUMA {
+        let _ = set(&mut picture, row, column, 0, value);
     }
     Ok(picture)
 }
@@ -83,120 +74,165 @@ pub fn sent<A: Allocator, B: Allocator>(
     }
 }
 
-/// P0 sent in packets of at most `size` octets gives these datagrams and this next number.
-fn sends(
-    rt: &(impl Abort + AllocGlobal),
-    size: u32,
-    stamp: Stamp,
-    next: u32,
-    datagrams: &[&str],
-) -> Result<(), Fail> {
-    let picture = p0(rt)?;
-    let plan = Plan::new(rt.alloc(), picture.format(), size)?;
-    let mut sink = sink(rt.alloc(), 0)?;
-    assert_eq!(rt; plan.len(), datagrams.len());
-    assert_eq!(rt; sent(&plan, &picture, stamp, &mut sink), Some(Ok(next)));
-    assert_eq!(rt; sink.taken().len(), datagrams.len());
-    for (octets, digits) in sink.taken().iter().zip(datagrams) {
-        let wanted = hex::decode(rt.alloc(), *digits).expect(rt, "digits");
-        assert_eq!(rt; octets.as_slice(), wanted.as_slice());
+/// Whether octets are those of some hexadecimal digits.
+fn are_octets(alloc: Global, octets: &[u8], digits: &str) -> bool {
+    match hex::decode(alloc, digits) {
+        Ok(wanted) => wanted.as_slice() == octets,
+        Err(_) => false,
     }
-    Ok(())
 }
 
-/// *sender-sizes* at 42 and 40, and *number-wraps*.
-#[test]
-fn sender_sizes(rt: HostRuntime) -> Result<(), Fail> {
-    sends(
-        &rt,
+/// Whether datagrams are those of some hexadecimal digits, and no more.
+fn are_datagrams(alloc: Global, taken: &[Vec<u8>], datagrams: &[&str]) -> bool {
+    let mut agree = taken.len() == datagrams.len();
+    for (octets, digits) in taken.iter().zip(datagrams) {
+        agree &= are_octets(alloc, octets.as_slice(), digits);
+    }
+    agree
+}
+
+/// Whether P0 sent in packets of at most `size` octets, from number `first` on, gives these
+/// datagrams and this next number.
+fn sends(
+    alloc: Global,
+    size: u32,
+    first: u32,
+    next: u32,
+    datagrams: &[&str],
+) -> Result<bool, Fail> {
+    let picture = p0(alloc)?;
+    let plan = Plan::new(alloc, picture.format(), size)?;
+    let mut sink = sink(alloc, 0)?;
+    let stamp = Stamp { first, ..STAMP };
+    let answer = sent(&plan, &picture, stamp, &mut sink);
+    Ok(
+        answer == Some(Ok(next))
+            && plan.len() == datagrams.len()
+            && are_datagrams(alloc, sink.taken(), datagrams),
+    )
+}
+
+/// *sender-sizes* at 42 and 40, and *number-wraps*: size, first and next number, and datagrams.
+const SENDER_SIZES: [(u32, u32, u32, &[&str]); 3] = [
+    (
         42,
-        STAMP,
+        1,
         2,
         &["80E000010000038400000001000000080000800000080001000080108011801280138014801580168017"],
-    )?;
-    sends(
-        &rt,
+    ),
+    (
         40,
-        STAMP,
+        1,
         3,
         &[
             "8060000100000384000000010000000800008000000400010000801080118012801380148015",
             "80E000020000038400000001000000040001000280168017",
         ],
-    )?;
-    let last = Stamp {
-        first: 0xFFFF_FFFF,
-        ..STAMP
-    };
-    sends(
-        &rt,
+    ),
+    (
         40,
-        last,
+        0xFFFF_FFFF,
         1,
         &[
             "8060FFFF0000038400000001FFFF000800008000000400010000801080118012801380148015",
             "80E000000000038400000001000000040001000280168017",
         ],
+    ),
+];
+
+#[test]
+fn sender_sizes(rt: HostRuntime) -> Result<(), Fail> {
+    for (size, first, next, datagrams) in SENDER_SIZES {
+        assert!(rt;
+            sends(rt.alloc(), size, first, next, datagrams)?,
+            "{size} {first}"
+        );
+    }
+    Ok(())
+}
+
+/// How many packets a plan of F1 has, or why there is none.
+fn planned<A: Allocator>(alloc: A, size: u32) -> Result<Result<usize, PlanFault>, Fail> {
+    match Plan::new(alloc, small()?, size) {
+        Ok(plan) => Ok(Ok(plan.len())),
+        Err(fault) => Ok(Err(fault)),
+    }
+}
+
+/// Sizes, and what there is of a plan at each.
+const SIZES: [(u32, Result<usize, PlanFault>); 6] = [
+    (24, Ok(4)),
+    (9000, Ok(1)),
+    (0, Err(PlanFault::BadPacketSize)),
+    (23, Err(PlanFault::BadPacketSize)),
+    (9001, Err(PlanFault::BadPacketSize)),
+    (4_294_967_295, Err(PlanFault::BadPacketSize)),
+];
+
+/// *sender-sizes* at 24, 23 and 9001.
+#[test]
+fn least_and_greatest_sizes(rt: HostRuntime) -> Result<(), Fail> {
+    for (size, wanted) in SIZES {
+        assert!(rt; planned(rt.alloc(), size)? == wanted, "{size}");
+    }
+    Ok(())
+}
+
+/// Whether a sink that fails at put `k` has the first `k - 1` datagrams.
+fn fails_at(alloc: Global, k: u32) -> Result<bool, Fail> {
+    let picture = p0(alloc)?;
+    let plan = Plan::new(alloc, picture.format(), 24)?;
+    let mut sink = sink(alloc, u64::from(k))?;
+    let sent_before = k.wrapping_sub(1);
+    let fault = SendFault { sent: sent_before };
+    let answer = sent(&plan, &picture, STAMP, &mut sink);
+    Ok(
+        answer == Some(Err(fault))
+            && sink.taken().len() == sent_before as usize
+            && sink.failures() == 1,
     )
 }
 
-/// *sender-sizes* at 24, 23 and 9001; and a picture of another format isn't sent.
-#[test]
-fn least_and_greatest_sizes(rt: HostRuntime) -> Result<(), Fail> {
-    let format = small()?;
-    assert_eq!(rt; Plan::new(rt.alloc(), format, 24)?.len(), 4);
-    assert_eq!(rt; Plan::new(rt.alloc(), format, 9000)?.len(), 1);
-    for size in [0u32, 23, 9001, 4_294_967_295] {
-        match Plan::new(rt.alloc(), format, size) {
-            Ok(_) => assert!(rt; false, "{size}"),
-            Err(fault) => assert_eq!(rt; fault, PlanFault::BadPacketSize, "{size}"),
-        }
-    }
-    Ok(())
-}
-
-/// A sink that fails at put k has the first k - 1 datagrams.
 #[test]
 fn failing_sinks(rt: HostRuntime) -> Result<(), Fail> {
-    let picture = p0(&rt)?;
-    let plan = Plan::new(rt.alloc(), picture.format(), 24)?;
     for k in 1..5u32 {
-        let mut sink = sink(rt.alloc(), u64::from(k))?;
-        let fault = SendFault { sent: k - 1 };
-        assert_eq!(rt; sent(&plan, &picture, STAMP, &mut sink), Some(Err(fault)));
-        assert_eq!(rt; sink.taken().len() as u64 + 1, u64::from(k));
-        assert_eq!(rt; sink.failures(), 1);
+        assert!(rt; fails_at(rt.alloc(), k)?, "{k}");
     }
     Ok(())
 }
 
-/// The packets of a plan have so many pgroups, segment by segment, 0 where there is none.
-fn has_packets(
-    rt: &(impl Abort + AllocGlobal),
-    format: Format,
-    size: u32,
-    packets: &[[u32; 3]],
-) -> Result<(), Fail> {
-    let plan = Plan::new(rt.alloc(), format, size)?;
-    assert_eq!(rt; plan.len(), packets.len());
-    for index in 0..plan.len() {
-        let mut groups = [0; 3];
-        for (place, run) in groups.iter_mut().zip(plan.packet(index).as_slice()) {
-            *place = run.groups;
+/// The pgroups of a packet, segment by segment, 0 where there is none.
+fn groups_of(plan: &Plan, index: usize) -> [u32; 3] {
+    let mut groups = [0; 3];
+    if index < plan.len() {
+        let runs = plan.packet(index);
+        let runs = runs.as_slice();
+        for i in 0..3usize {
+            if i < runs.len() {
+                groups[i] = runs[i].groups;
+            }
         }
-        assert_eq!(rt; Some(&groups), packets.get(index), "packet {index}");
     }
-    Ok(())
+    groups
 }
 
-/// *hd-ten-bit-plan*, and plans of wide and narrow rasters at 8 bits.
-#[test]
-fn plans(rt: HostRuntime) -> Result<(), Fail> {
-    let wide = Format::new(Sampling::Ycc422, Depth::D8, 1920, 2, 60, 1)?;
-    has_packets(
-        &rt,
-        wide,
-        1400,
+/// Whether the packets of a plan in at most 1,400 octets have so many pgroups, segment by segment.
+fn has_packets(alloc: Global, format: Format, packets: &[[u32; 3]]) -> Result<bool, Fail> {
+    let plan = Plan::new(alloc, format, 1400)?;
+    let mut agree = plan.len() == packets.len();
+    for index in 0..packets.len() {
+        agree &= groups_of(&plan, index) == packets[index];
+    }
+    Ok(agree)
+}
+
+/// *hd-ten-bit-plan*, and plans of wide and narrow rasters at 8 bits: depth, width, height and
+/// packets.
+const PLANS: [(Depth, u32, u32, &[[u32; 3]]); 3] = [
+    (
+        Depth::D8,
+        1920,
+        2,
         &[
             [345, 0, 0],
             [345, 0, 0],
@@ -205,14 +241,12 @@ fn plans(rt: HostRuntime) -> Result<(), Fail> {
             [345, 0, 0],
             [197, 0, 0],
         ],
-    )?;
-    let narrow = Format::new(Sampling::Ycc422, Depth::D8, 2, 7, 60, 1)?;
-    has_packets(&rt, narrow, 1400, &[[1, 1, 1], [1, 1, 1], [1, 0, 0]])?;
-    let ten = Format::new(Sampling::Ycc422, Depth::D10, 1920, 2, 60, 1)?;
-    has_packets(
-        &rt,
-        ten,
-        1400,
+    ),
+    (Depth::D8, 2, 7, &[[1, 1, 1], [1, 1, 1], [1, 0, 0]]),
+    (
+        Depth::D10,
+        1920,
+        2,
         &[
             [276, 0, 0],
             [276, 0, 0],
@@ -222,7 +256,36 @@ fn plans(rt: HostRuntime) -> Result<(), Fail> {
             [276, 0, 0],
             [266, 0, 0],
         ],
-    )
+    ),
+];
+
+#[test]
+fn plans(rt: HostRuntime) -> Result<(), Fail> {
+    for (depth, width, height, packets) in PLANS {
+        let format = Format::new(Sampling::Ycc422, depth, width, height, 60, 1)?;
+        assert!(rt;
+            has_packets(rt.alloc(), format, packets)?,
+            "{depth:?} {width}"
+        );
+    }
+    Ok(())
+}
+
+/// Values with one bit set.
+const BITS: [u16; 16] = [
+    1, 2, 4, 8, 16, 32, 64, 128, 256, 512, 1024, 2048, 4096, 8192, 16_384, 32_768,
+];
+
+/// 0, the greatest value, or one with one bit set, by turns.
+fn turn_value(turn: u32, most: u16) -> u16 {
+    let place = (turn % 18) as usize;
+    if place < 16 {
+        BITS[place] & most
+    } else if place == 16 {
+        most
+    } else {
+        0
+    }
 }
 
 /// A picture whose values run through 0, the greatest, and values with one bit set.
@@ -233,32 +296,33 @@ pub fn runs_through(alloc: Global, format: Format) -> Result<Picture, Fail> {
         for column in 0..format.width() {
             for component in 0..3u8 {
                 let turn = row.wrapping_mul(31).wrapping_add(column.wrapping_mul(3));
-                let value = match turn.wrapping_add(u32::from(component)) % 18 {
-                    0 => 0,
-                    1 => most,
-                    bit => (1u16 << (bit - 2)) & most,
-                };
-                set(&mut picture, row, column, component, value);
+                let value = turn_value(turn.wrapping_add(u32::from(component)), most);
+                let _ = set(&mut picture, row, column, component, value);
             }
         }
     }
     Ok(picture)
 }
 
-/// The picture that comes out of a receiver where it is sent, and nothing is missing.
-fn comes_back(rt: &(impl Abort + AllocGlobal), picture: &Picture, size: u32) -> Result<bool, Fail> {
-    let format = picture.format();
-    let plan = Plan::new(rt.alloc(), format, size)?;
-    let mut sink = sink(rt.alloc(), 0)?;
-    assert!(rt; matches!(sent(&plan, picture, STAMP, &mut sink), Some(Ok(_))));
-    let mut receiver = Receiver::open(rt.alloc(), format, 96, Some(1), &[900]).expect(rt, "opened");
-    for octets in sink.taken() {
-        assert!(rt; receiver.take(Path::B, octets.as_slice()).is_ok());
+/// Whether a picture comes out of a receiver of one source whole and without a contest.
+fn is_received(alloc: Global, taken: &[Vec<u8>], picture: &Picture) -> Result<bool, Fail> {
+    let mut receiver = Receiver::open(alloc, picture.format(), 96, Some(1), &[900])?;
+    let mut kept = true;
+    for octets in taken {
+        kept &= receiver.take(Path::B, octets.as_slice()).is_ok();
     }
-    let frame = receiver.frame(900).expect(rt, "a frame");
+    let frame = receiver.frame(900).ok_or("no frame")?;
     let counts = frame.counts();
-    let settled = frame.settle(rt.alloc(), Base::<Global>::Fill([0, 0, 0]))?;
-    Ok(counts.missing == 0 && counts.contested == 0 && settled.same(picture))
+    let settled = frame.settle(alloc, Base::<Global>::Fill([0, 0, 0]))?;
+    Ok(kept && counts.missing == 0 && counts.contested == 0 && settled.same(picture))
+}
+
+/// Whether a picture that is sent in packets of at most `size` octets comes back.
+fn comes_back(alloc: Global, picture: &Picture, size: u32) -> Result<bool, Fail> {
+    let plan = Plan::new(alloc, picture.format(), size)?;
+    let mut sink = sink(alloc, 0)?;
+    let is_sent = matches!(sent(&plan, picture, STAMP, &mut sink), Some(Ok(_)));
+    Ok(is_sent && is_received(alloc, sink.taken(), picture)?)
 }
 
 /// Each sampling and depth, in packets of the least size and of 1,400 octets.
@@ -269,30 +333,37 @@ fn pictures_come_back(rt: HostRuntime) -> Result<(), Fail> {
             let format = Format::new(sampling, depth, 8, 3, 60, 1)?;
             let picture = runs_through(rt.alloc(), format)?;
             let least = 20 + format.pgroup().octets as u32 % 100;
-            assert!(rt; comes_back(&rt, &picture, least)?, "{sampling:?} {depth:?}");
-            assert!(rt; comes_back(&rt, &picture, 1400)?, "{sampling:?} {depth:?}");
+            let by_least = comes_back(rt.alloc(), &picture, least)?;
+            let by_most = comes_back(rt.alloc(), &picture, 1400)?;
+            assert!(rt; by_least && by_most, "{sampling:?} {depth:?}");
         }
     }
     Ok(())
 }
 
+/// How many growths `Plan::new` wants, where it answers for each that it was refused; else 0.
+fn growths(alloc: Global) -> Result<u64, Fail> {
+    let refusing = Refusing::new(alloc, 0);
+    for nth in 1..1000u64 {
+        refusing.refuse(nth);
+        let answer = planned(&refusing, 24)?;
+        if !refusing.was_met() {
+            return Ok(if answer == Ok(4) {
+                nth.wrapping_sub(1)
+            } else {
+                0
+            });
+        }
+        if answer != Err(PlanFault::NoMemory) {
+            return Ok(0);
+        }
+    }
+    Ok(0)
+}
+
 /// `Plan::new` with each growth refused in turn.
 #[test]
 fn growths_of_a_plan(rt: HostRuntime) -> Result<(), Fail> {
-    let format = small()?;
-    let refusing = Refusing::new(rt.alloc(), 0);
-    for nth in 1..1000u64 {
-        refusing.refuse(nth);
-        let plan = Plan::new(&refusing, format, 24);
-        if !refusing.was_met() {
-            assert!(rt; plan.is_ok());
-            assert!(rt; nth > 1);
-            break;
-        }
-        match plan {
-            Ok(_) => assert!(rt; false, "growth {nth}"),
-            Err(fault) => assert_eq!(rt; fault, PlanFault::NoMemory, "growth {nth}"),
-        }
-    }
+    assert!(rt; growths(rt.alloc())? > 0);
     Ok(())
 }
