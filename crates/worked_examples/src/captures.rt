@@ -1,155 +1,191 @@
 //! Captures, read and written.
-ghost use Rattle.std.specs.Prelude.{◌≡◌, []};
+ghost use Rattle.std.specs.Prelude.{◌≡◌, [], IfOk};
 
+use crate::checks::met;
 use crate::receive_capture;
+use crate::small_format::{UPPER, counted, counts, small};
 use capture_file::{
-    Capture, CaptureReader, CaptureWriter, FileFault, Paths, Record, migrate_capture, read_capture,
-    write_capture,
+    Capture, CaptureReader, FileFault, Record, migrate_capture, read_capture, write_capture,
 };
-use frame_assembly::Counts;
-use path_merge::Receiver;
+use path_merge::{Received, Receiver};
 use st_format::memory::{MemorySink, MemorySource};
-use st_format::{DatagramSink, DatagramSource, Depth, Format, Path, Sampling, SourceFault, Turn};
-use std::alloc::{AllocError, Allocator, Global};
+use st_format::{DatagramSource, Path, Turn};
+use std::alloc::{AllocError, Global};
 use std::process::Abort;
 use std::test::Fail;
 
-const D1: &str = "80E00001000003840000000100000008000000008010801180128013";
+/// The captures of *first-datagram*'s datagram, of version 1 and 2.
+const OLD: &[u8] = b"S20CAP01\0\0\0\0\0\0\0\0\0\0\x1C\
+    \x80\xE0\0\x01\0\0\x03\x84\0\0\0\x01\0\0\0\x08\0\0\0\0\x80\x10\x80\x11\x80\x12\x80\x13";
 
-const OLD: &str =
-    "5332304341503031000000000000000000001C80E00001000003840000000100000008000000008010801180128013";
+const NEW: &[u8] = b"S20CAP02\0\0\0\0\0\0\0\0\0\0\0\0\x1C\
+    \x80\xE0\0\x01\0\0\x03\x84\0\0\0\x01\0\0\0\x08\0\0\0\0\x80\x10\x80\x11\x80\x12\x80\x13";
 
-const NEW: &str =
-    "53323043415030320000000000000000000000001C80E00001000003840000000100000008000000008010801180128013";
+/// The latter with the text `v=0`.
+const WITH_TEXT: &[u8] = b"S20CAP02\0\x03v=0\0\0\0\0\0\0\0\0\0\0\x1C\
+    \x80\xE0\0\x01\0\0\x03\x84\0\0\0\x01\0\0\0\x08\0\0\0\0\x80\x10\x80\x11\x80\x12\x80\x13";
 
-fn source(rt: &(impl Abort + AllocGlobal), digits: &str, cut: usize, more: &[u8]) -> MemorySource {
-    let mut octets = hex::decode(rt.alloc(), digits).expect(rt, "digits");
-    octets.truncate(octets.len() - cut.min(octets.len()));
-    octets.extend_from_slice(more).expect(rt, "memory");
-    MemorySource::new(octets, 3, 0)
+/// A file without its last octets, and others behind them.
+fn source(alloc: Global, file: &[u8], cut: usize, more: &[u8]) -> Result<MemorySource, AllocError> {
+    let mut octets = Vec::from_slice(alloc, file)?;
+    octets.truncate(file.len().saturating_sub(cut));
+    octets.extend_from_slice(more)?;
+    Ok(MemorySource::new(octets, 3, 0))
 }
 
 /// A sink that holds nothing yet.
-fn sink(rt: &(impl Abort + AllocGlobal), fails_in: u64) -> MemorySink
-    ensures { result.held ≡ [] }
+fn sink(alloc: Global) -> Result<MemorySink, AllocError>
+    ensures { IfOk result (λ s. s.held ≡ []) }
 {
-    MemorySink::new(
-        Vec::with_capacity(rt.alloc(), 4096).expect(rt, "room"),
-        7,
-        fails_in,
-    )
+    Ok(MemorySink::new(Vec::with_capacity(alloc, 4096)?, 7, 0))
 }
+
+/// Whether a capture has no text and one record: by A, of moment 0, with these octets.
+fn is_of_one(capture: &Capture, octets: &[u8]) -> bool {
+    match capture.records.as_slice() {
+        [record] => {
+            capture.text.is_empty()
+                && record.path == Path::A
+                && record.moment == 0
+                && record.octets.as_slice() == octets
+        }
+        _ => false,
+    }
+}
+
+/// Whether a file is read as a capture of one.
+fn reads_one(alloc: Global, file: &[u8]) -> Result<bool, Fail> {
+    let capture = read_capture(alloc, &mut source(alloc, file, 0, &[])?, 1)?;
+    Ok(is_of_one(&capture, UPPER))
+}
+
+/// The fault of reading a file of at most `limit` records.
+fn fault_of(
+    alloc: Global,
+    file: &[u8],
+    cut: usize,
+    more: &[u8],
+    limit: u64,
+) -> Result<Option<FileFault>, AllocError> {
+    Ok(read_capture(alloc, &mut source(alloc, file, cut, more)?, limit).err())
+}
+
+/// What is cut off version 1, what stands behind it, the greatest number of records, and the fault.
+const FAULTS: [(usize, &[u8], u64, Option<FileFault>); 4] = [
+    (1, b"", 5, Some(FileFault::Truncated)),
+    (0, b"\0", 5, Some(FileFault::Truncated)),
+    (0, b"", 0, Some(FileFault::TooManyRecords)),
+    (39, b"", 0, None),
+];
 
 #[test]
 fn capture_of_one(rt: HostRuntime) -> Result<(), Fail> {
-    for digits in [OLD, NEW] {
-        let mut old = source(&rt, digits, 0, &[]);
-        match read_capture(rt.alloc(), &mut old, 1) {
-            Ok(capture) => {
-                assert_eq!(rt; capture.text.len(), 0);
-                assert_eq!(rt; capture.records.len(), 1);
-                assert_eq!(rt; capture.records[0].path, Path::A);
-                assert_eq!(rt; capture.records[0].moment, 0);
-                assert_eq!(rt; capture.records[0].octets.len(), 28);
-            }
-            Err(fault) => assert!(rt; false, "{fault}"),
-        }
-    }
-    assert_eq!(rt; faulted(&rt, OLD, 1, &[], 5), Some(FileFault::Truncated));
-    assert_eq!(rt; faulted(&rt, OLD, 0, &[0], 5), Some(FileFault::Truncated));
-    assert_eq!(rt;
-        faulted(&rt, OLD, 0, &[], 0),
-        Some(FileFault::TooManyRecords)
-    );
-    assert_eq!(rt; faulted(&rt, OLD, 39, &[], 0), None);
-    for cut in 0..50 {
-        let wanted = match cut {
-            0 | 39 => None,
-            _ => Some(FileFault::Truncated),
-        };
-        assert_eq!(rt; faulted(&rt, NEW, cut, &[], 9), wanted, "{cut}");
+    met(&rt, reads_one(rt.alloc(), OLD)?);
+    met(&rt, reads_one(rt.alloc(), NEW)?);
+    for (cut, more, limit, fault) in &FAULTS {
+        met(
+            &rt,
+            fault_of(rt.alloc(), OLD, *cut, *more, *limit)? == *fault,
+        );
     }
     Ok(())
 }
 
-fn faulted(
-    rt: &(impl Abort + AllocGlobal),
-    digits: &str,
-    cut: usize,
-    more: &[u8],
-    limit: u64,
-) -> Option<FileFault> {
-    match read_capture(rt.alloc(), &mut source(rt, digits, cut, more), limit) {
-        Ok(_) => None,
-        Err(fault) => Some(fault),
+/// Version 2 cut at every octet: it is whole behind its head, and behind its record.
+#[test]
+fn cut_capture(rt: HostRuntime) -> Result<(), Fail> {
+    for cut in 0..50usize {
+        let is_whole = cut == 0 || cut == 39;
+        let fault = if is_whole {
+            None
+        } else {
+            Some(FileFault::Truncated)
+        };
+        met(&rt, fault_of(rt.alloc(), NEW, cut, &[], 9)? == fault);
     }
+    Ok(())
 }
 
 #[test]
 fn written(rt: HostRuntime) -> Result<(), Fail> {
-    let octets = hex::decode(rt.alloc(), D1).expect(&rt, "digits");
+    let octets = Vec::from_slice(rt.alloc(), UPPER)?;
     assert!(rt; octets.len() <= 65535);
     let records = [Record {
         path: Path::A,
         moment: 0,
         octets,
     }];
-    let mut sink = sink(&rt, 0);
-    assert!(rt; write_capture(&mut sink, &[], &records).is_ok());
-    let wanted = hex::decode(rt.alloc(), NEW).expect(&rt, "digits");
-    assert_eq!(rt; sink.held(), wanted.as_slice());
+    let mut sink = sink(rt.alloc())?;
+    write_capture(&mut sink, &[], &records)?;
+    met(&rt, sink.held() == NEW);
     Ok(())
+}
+
+/// Whether a capture gives a receiver its datagram, and ends.
+fn gives_one(
+    alloc: Global,
+    reader: &mut CaptureReader<MemorySource>,
+    receiver: &mut Receiver,
+) -> Result<bool, AllocError> {
+    let mut buf = vec![in alloc; 0u8; 65535]?;
+    let received = Received {
+        delivered: 1,
+        ended: true,
+    };
+    Ok(
+        receive_capture(reader, receiver, &mut buf, 10) == Ok(received)
+            && counts(receiver, 900) == Some(counted(8, 8, 0)),
+    )
+}
+
+/// Whether a capture stays at its end.
+fn is_at_end(alloc: Global, reader: &mut CaptureReader<MemorySource>) -> Result<bool, AllocError> {
+    let mut buf = vec![in alloc; 0u8; 65535]?;
+    Ok(reader.next(&mut buf) == Ok(Turn::End))
 }
 
 #[test]
 fn capture_receive(rt: HostRuntime) -> Result<(), Fail> {
     let mut text = vec![in rt.alloc(); 0u8; 65535]?;
-    let mut buf = vec![in rt.alloc(); 0u8; 65535]?;
-    let format = Format::new(Sampling::Ycc422, Depth::D8, 4, 2, 60, 1).expect(&rt, "format");
-    let mut receiver = Receiver::open(rt.alloc(), format, 96, None, &[900]).expect(&rt, "opened");
-    let Ok(mut reader) = CaptureReader::open(source(&rt, OLD, 0, &[]), &mut text) else {
-        assert!(rt; false);
+    let mut receiver = Receiver::open(rt.alloc(), small()?, 96, None, &[900])?;
+    let Ok(mut reader) = CaptureReader::open(source(rt.alloc(), OLD, 0, &[])?, &mut text) else {
+        met(&rt, false);
         return Ok(());
     };
-    let received = receive_capture(&mut reader, &mut receiver, &mut buf, 10).expect(
-        &rt, "received",
-    );
-    assert_eq!(rt; received.delivered, 1);
-    assert!(rt; received.ended);
-    if let Some(frame) = receiver.frame(900) {
-        assert_eq!(rt; frame.counts().present, 8);
-    }
-    assert_eq!(rt; reader.next(&mut buf), Ok(Turn::End));
+    met(&rt, gives_one(rt.alloc(), &mut reader, &mut receiver)?);
+    met(&rt, is_at_end(rt.alloc(), &mut reader)?);
     Ok(())
+}
+
+/// What comes of migrating a file with the text `v=0`, and what is written.
+fn migrate(
+    alloc: Global,
+    file: &[u8],
+    limit: u64,
+) -> Result<(Result<u64, FileFault>, MemorySink), AllocError> {
+    let mut buf = vec![in alloc; 0u8; 65535]?;
+    let mut sink = sink(alloc)?;
+    let result = migrate_capture(
+        &mut source(alloc, file, 0, &[])?,
+        &mut sink,
+        b"v=0",
+        &mut buf,
+        limit,
+    );
+    Ok((result, sink))
 }
 
 #[test]
 fn migrated(rt: HostRuntime) -> Result<(), Fail> {
-    let mut buf = vec![in rt.alloc(); 0u8; 65535]?;
-    let mut new = sink(&rt, 0);
-    assert_eq!(rt;
-        migrate_capture(&mut source(&rt, OLD, 0, &[]), &mut new, b"v=0", &mut buf, 1),
-        Ok(1)
+    let (result, new) = migrate(rt.alloc(), OLD, 1)?;
+    met(&rt, result == Ok(1) && new.held() == WITH_TEXT);
+    let (result, again) = migrate(rt.alloc(), WITH_TEXT, 1)?;
+    met(
+        &rt,
+        result == Err(FileFault::BadVersion) && again.held().is_empty(),
     );
-    let mut wanted = hex::decode(
-        rt.alloc(),
-        "53323043415030320003763D30000000000000000000001C",
-    )
-    .expect(&rt, "digits");
-    wanted.extend_from_slice(&hex::decode(rt.alloc(), D1).expect(&rt, "digits"))?;
-    assert_eq!(rt; new.held(), wanted.as_slice());
-    let mut again = sink(&rt, 0);
-    let mut written = MemorySource::new(Vec::from_slice(rt.alloc(), new.held())?, 5, 0);
-    assert_eq!(rt;
-        migrate_capture(&mut written, &mut again, b"v=0", &mut buf, 1),
-        Err(FileFault::BadVersion)
-    );
-    assert_eq!(rt; again.held().len(), 0);
-    let mut few = sink(&rt, 0);
-    assert_eq!(rt;
-        migrate_capture(&mut source(&rt, OLD, 0, &[]), &mut few, b"v=0", &mut buf, 0),
-        Err(FileFault::TooManyRecords)
-    );
-    assert_eq!(rt; few.held().len(), 13);
+    let (result, few) = migrate(rt.alloc(), OLD, 0)?;
+    let front = few.held().len() == 13 && WITH_TEXT.starts_with(few.held());
+    met(&rt, result == Err(FileFault::TooManyRecords) && front);
     Ok(())
 }

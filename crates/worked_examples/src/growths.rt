@@ -1,107 +1,143 @@
 //! Calls that take memory, with each growth refused in turn; and then the same call with memory.
+use crate::checks::met;
+use crate::picture_files::rows_read;
+use crate::receiver_files::refusals_read;
+use crate::rehearsals::handed_out;
 use crate::running::{Ran, SOUND, run};
+use crate::small_format::{counts, small};
 use frame_assembly::Frame;
 use path_merge::{OpenFault, Receiver};
 use st_format::memory::Refusing;
-use st_format::{Depth, Format, FormatFault, Sampling};
-use std::alloc::Allocator;
+use std::alloc::{Allocator, Global};
+use std::process::Abort;
 use std::test::Fail;
 
+/// A call that takes memory.
+#[derive(Clone, Copy)]
+enum Call {
+    /// A frame of F1.
+    Frame,
+    /// A receiver of F1 of a timestamp, and of two.
+    Receiver(&'static [u32]),
+    StateFile,
+    PictureFile,
+    /// *rehearsal*.
+    Schedule,
+    /// *first-datagram*, and a script that is refused.
+    Script(&'static [u8], u8, &'static [u8], &'static [u8]),
+}
+
+/// Each call, what it answers where it has memory, and the least and greatest number of growths
+/// that it takes.
+const CALLS: [(Call, usize, u64, u64); 8] = [
+    (Call::Frame, 16, 1, 999),
+    (Call::Receiver(&[900]), 16, 1, 999),
+    (Call::Receiver(&[900, 2400]), 16, 3, 999),
+    (Call::StateFile, 0, 4, 999),
+    (Call::PictureFile, 2, 1, 1),
+    (Call::Schedule, 1, 8, 999),
+    (Call::Script(SCRIPT, 0, OUTPUT, b""), 1, 4, 999),
+    (Call::Script(REFUSED, 1, b"", TOLD), 1, 0, 999),
+];
+
 /// *first-datagram*.
-const SCRIPT: &[u8] =
-    b"format YCbCr-4:2:2 8 4 2 60/1\nopen 96 any 900\nA 80E00001000003840000000100000008000000008010801180128013\n";
+const SCRIPT: &[u8] = b"format YCbCr-4:2:2 8 4 2 60/1\nopen 96 any 900\n\
+    A 80E00001000003840000000100000008000000008010801180128013\n";
 
 const OUTPUT: &[u8] = b"kept 1\nframe 900 present 8 missing 8 contested 0\n";
+
+const MEMORY: &[u8] = b"st2110: memory\n";
+
+const TOLD: &[u8] = b"st2110: script 2\n";
 
 /// A script that is refused.
 const REFUSED: &[u8] = b"format YCbCr-4:2:2 8 4 2 60/1\nbad\n";
 
-fn small() -> Result<Format, FormatFault> {
-    Format::new(Sampling::Ycc422, Depth::D8, 4, 2, 60, 1)
-}
-
-#[test]
-fn frames(rt: HostRuntime) -> Result<(), Fail> {
-    let format = small().expect(&rt, "a format");
-    let refusing = Refusing::new(rt.alloc(), 1);
-    assert!(rt; Frame::new(&refusing, format).is_err());
-    assert!(rt; refusing.was_met());
-    let frame = Frame::new(&refusing, format).expect(&rt, "memory");
-    assert_eq!(rt; frame.counts().missing, 16);
-    Ok(())
-}
-
-fn opened<A: Allocator + Copy>(alloc: A, format: Format) -> Result<u64, OpenFault> {
-    let receiver = Receiver::open(alloc, format, 96, None, &[900])?;
-    match receiver.frame(900) {
-        Some(frame) => Ok(frame.counts().missing),
-        None => Ok(0),
+/// How many samples of a frame are missing, or `None` where memory was.
+fn made<A: Allocator + Copy>(alloc: A) -> Result<Option<usize>, Fail> {
+    match Frame::new(alloc, small()?) {
+        Ok(frame) => Ok(Some(frame.counts().missing as usize)),
+        Err(_) => Ok(None),
     }
 }
 
-#[test]
-fn receivers(rt: HostRuntime) -> Result<(), Fail> {
-    let format = small().expect(&rt, "a format");
+/// The same of a receiver's frame of timestamp 900.
+fn opened<A: Allocator + Copy>(alloc: A, window: &[u32]) -> Result<Option<usize>, Fail> {
+    match Receiver::open(alloc, small()?, 96, None, window) {
+        Ok(receiver) => match counts(&receiver, 900) {
+            Some(counts) => Ok(Some(counts.missing as usize)),
+            None => Ok(Some(0)),
+        },
+        Err(OpenFault::NoMemory) => Ok(None),
+        Err(fault) => Err(Fail::from(fault)),
+    }
+}
+
+/// Whether a run ended so, or `None` where it wanted memory: it prints a first part of its output
+/// then.
+fn answered(run: &Ran, status: u8, output: &[u8], told: &[u8]) -> Option<usize> {
+    if run.status == 4 && run.told() == MEMORY && output.starts_with(run.printed()) {
+        return None;
+    }
+    let is_met = run.status == status && run.printed() == output && run.told() == told;
+    Some(usize::from(is_met))
+}
+
+impl Call {
+    /// What it answers over an allocator, or `None` where it wants memory.
+    fn answer(
+        self,
+        rt: &(impl Abort + AllocGlobal),
+        refusing: &Refusing<Global>,
+    ) -> Result<Option<usize>, Fail> {
+        match self {
+            Call::Frame => made(refusing),
+            Call::Receiver(window) => opened(refusing, window),
+            Call::StateFile => refusals_read(refusing, rt.alloc()),
+            Call::PictureFile => rows_read(refusing, rt.alloc()),
+            Call::Schedule => handed_out(refusing, rt.alloc()),
+            Call::Script(script, status, output, told) => {
+                let run = run(rt, refusing, script, 4096, SOUND)?;
+                Ok(answered(&run, status, output, told))
+            }
+        }
+    }
+}
+
+/// How many growths a call takes, where each that is refused is told, and the same call is answered
+/// then.
+fn growths(
+    rt: &(impl Abort + AllocGlobal),
+    call: Call,
+    wanted: usize,
+) -> Result<Option<u64>, Fail> {
     let refusing = Refusing::new(rt.alloc(), 0);
     for nth in 1..1000u64 {
         refusing.refuse(nth);
-        let result = opened(&refusing, format);
+        let answer = call.answer(rt, &refusing)?;
         if !refusing.was_met() {
-            assert_eq!(rt; result, Ok(16));
-            assert!(rt; nth > 1);
-            break;
+            return Ok(if answer == Some(wanted) {
+                Some(nth - 1)
+            } else {
+                None
+            });
         }
-        assert_eq!(rt; result, Err(OpenFault::NoMemory), "growth {nth}");
         refusing.refuse(0);
-        assert_eq!(rt; opened(&refusing, format), Ok(16), "growth {nth}");
+        if answer.is_some() || call.answer(rt, &refusing)? != Some(wanted) {
+            return Ok(None);
+        }
     }
-    Ok(())
-}
-
-fn is_first_datagram(run: &Ran) -> bool {
-    run.status == 0 && run.printed() == OUTPUT && run.told().is_empty()
-}
-
-/// A run that wants memory prints a first part of its output.
-fn wants_memory(run: &Ran) -> bool {
-    run.status == 4
-        && run.told() == b"st2110: memory\n".as_slice()
-        && OUTPUT.starts_with(run.printed())
+    Ok(None)
 }
 
 #[test]
-fn runs(rt: HostRuntime) -> Result<(), Fail> {
-    let refusing = Refusing::new(rt.alloc(), 0);
-    for nth in 1..1000u64 {
-        refusing.refuse(nth);
-        let result = run(&rt, &refusing, SCRIPT, 4096, SOUND)?;
-        if !refusing.was_met() {
-            assert!(rt; is_first_datagram(&result));
-            assert!(rt; nth > 4);
-            break;
-        }
-        assert!(rt; wants_memory(&result), "growth {nth}");
-        refusing.refuse(0);
-        assert!(rt;
-            is_first_datagram(&run(&rt, &refusing, SCRIPT, 4096, SOUND)?),
-            "growth {nth}"
-        );
-    }
-    Ok(())
-}
-
-#[test]
-fn refused_runs(rt: HostRuntime) -> Result<(), Fail> {
-    let refusing = Refusing::new(rt.alloc(), 0);
-    for nth in 1..1000u64 {
-        refusing.refuse(nth);
-        let result = run(&rt, &refusing, REFUSED, 4096, SOUND)?;
-        if !refusing.was_met() {
-            assert_eq!(rt; result.status, 1);
-            assert_eq!(rt; result.told(), b"st2110: script 2\n".as_slice());
-            break;
-        }
-        assert!(rt; wants_memory(&result), "growth {nth}");
+fn each_growth_refused(rt: HostRuntime) -> Result<(), Fail> {
+    for (call, wanted, least, most) in &CALLS {
+        let is_met = match growths(&rt, *call, *wanted)? {
+            Some(taken) => *least <= taken && taken <= *most,
+            None => false,
+        };
+        met(&rt, is_met);
     }
     Ok(())
 }

@@ -17,6 +17,8 @@ mod bad_events;
 #[cfg(test)]
 mod captures;
 #[cfg(test)]
+mod checks;
+#[cfg(test)]
 mod datagrams;
 #[cfg(test)]
 mod devices;
@@ -32,6 +34,8 @@ mod held;
 mod kernels;
 #[cfg(test)]
 mod last_samples;
+#[cfg(test)]
+mod lossy_paths;
 #[cfg(test)]
 mod number_map;
 #[cfg(test)]
@@ -62,6 +66,8 @@ mod sdp;
 mod sdp_runs;
 #[cfg(test)]
 mod sending;
+#[cfg(test)]
+mod small_format;
 #[cfg(test)]
 mod stay_model;
 #[cfg(test)]

@@ -1,10 +1,11 @@
 //! *rehearsal*, and what else a schedule does: through the library.
+use crate::checks::met;
+use crate::small_format::{counted, counts, small};
 use frame_assembly::Counts;
 use packet_plan::{Plan, Stamp};
-use path_merge::{Event, PlayFault, Played, play};
-use st_format::memory::Refusing;
-use st_format::{Depth, Format, FormatFault, Path, Picture, Sampling};
-use std::alloc::{Allocator, Global};
+use path_merge::{Event, PlayFault, Played, Receiver, play};
+use st_format::{Depth, Format, Path, Picture, Sampling};
+use std::alloc::{AllocError, Allocator, Global};
 use std::process::Abort;
 use std::test::Fail;
 
@@ -14,11 +15,6 @@ pub const STAMP: Stamp = Stamp {
     timestamp: 0,
     ssrc: 1,
 };
-
-/// F1: 4:2:2, 8 bits, 4 by 2, 60 frames a second.
-fn small() -> Result<Format, FormatFault> {
-    Format::new(Sampling::Ycc422, Depth::D8, 4, 2, 60, 1)
-}
 
 /// P0: luma 16 to 23, the rest 128.
 fn first_picture(alloc: Global) -> Result<Picture, Fail> {
@@ -76,21 +72,10 @@ pub fn fault_of(
     Ok(rehearse(alloc, 2, window, receivers, events)?.err())
 }
 
-pub const fn counted(present: u64, missing: u64, contested: u64) -> Counts {
-    Counts {
-        present,
-        missing,
-        contested,
-    }
-}
-
 /// Of a receiver's frame of a timestamp.
 pub fn counts_of(played: &Played, receiver: usize, timestamp: u32) -> Option<Counts> {
     match played.receivers.get(receiver) {
-        Some(receiver) => match receiver.frame(timestamp) {
-            Some(frame) => Some(frame.counts()),
-            None => None,
-        },
+        Some(receiver) => counts(receiver, timestamp),
         None => None,
     }
 }
@@ -101,6 +86,33 @@ pub fn handed_at(played: &Played, place: usize) -> Option<(u8, u32, Counts)> {
         Some(handed) => Some((handed.receiver, handed.timestamp, handed.frame.counts())),
         None => None,
     }
+}
+
+/// Whether so many receivers handed out these frames, in order, and have these: each with its
+/// receiver and timestamp, and how many of its 16 samples are present.
+fn comes_to(
+    played: &Played,
+    receivers: usize,
+    handed: &[(u8, u32, u64)],
+    lasting: &[(usize, u32, u64)],
+) -> bool {
+    for (place, (receiver, timestamp, present)) in handed.iter().enumerate() {
+        let wanted = (
+            *receiver,
+            *timestamp,
+            counted(*present, 16u64.wrapping_sub(*present), 0),
+        );
+        if handed_at(played, place) != Some(wanted) {
+            return false;
+        }
+    }
+    for (receiver, timestamp, present) in lasting {
+        let wanted = counted(*present, 16u64.wrapping_sub(*present), 0);
+        if counts_of(played, *receiver, *timestamp) != Some(wanted) {
+            return false;
+        }
+    }
+    played.handed.len() == handed.len() && played.receivers.len() == receivers
 }
 
 /// The events of *rehearsal*.
@@ -117,55 +129,57 @@ pub const SHOW: [Event; 7] = [
 #[test]
 fn rehearsal(rt: HostRuntime) -> Result<(), Fail> {
     let played = rehearse(rt.alloc(), 2, &[0], 2, &SHOW)??;
-    assert_eq!(rt; played.handed.len(), 1);
-    assert_eq!(rt; played.receivers.len(), 2);
-    assert_eq!(rt; handed_at(&played, 0), Some((0, 0, counted(16, 0, 0))));
-    assert_eq!(rt; counts_of(&played, 0, 1500), Some(counted(0, 16, 0)));
-    assert_eq!(rt; counts_of(&played, 1, 0), Some(counted(12, 4, 0)));
+    met(
+        &rt,
+        comes_to(&played, 2, &[(0, 0, 16)], &[(0, 1500, 0), (1, 0, 12)]),
+    );
     Ok(())
 }
 
-/// How each receiver was opened: with the plan's format, the stamp's payload type and its source.
+/// Whether a receiver was opened with the plan's format, the stamp's payload type and its source.
+fn is_opened(receiver: &Receiver, format: &Format, window: &[u32]) -> bool {
+    receiver.format() == *format
+        && receiver.payload_type() == 96
+        && receiver.ssrc() == Some(1)
+        && receiver.window() == window
+        && receiver.refusal_count() == 0
+}
+
 #[test]
 fn receivers_opened(rt: HostRuntime) -> Result<(), Fail> {
+    let format = small()?;
     let played = rehearse(rt.alloc(), 0, &[7, 5], 3, &[])??;
-    assert_eq!(rt; played.receivers.len(), 3);
+    met(&rt, comes_to(&played, 3, &[], &[]));
     for receiver in &played.receivers {
-        assert_eq!(rt; receiver.format(), small()?);
-        assert_eq!(rt; receiver.payload_type(), 96);
-        assert_eq!(rt; receiver.ssrc(), Some(1));
-        assert_eq!(rt; receiver.window(), [7, 5].as_slice());
-        assert_eq!(rt; receiver.refusal_count(), 0);
+        met(&rt, is_opened(receiver, &format, &[7, 5]));
     }
     Ok(())
 }
 
 /// Nothing reaches the second stay of timestamp 0.
+const TWO_STAYS: [Event; 5] = [
+    Event::Send,
+    Event::Arrive(0, Path::A, 0),
+    Event::Slide(0, 1500),
+    Event::Slide(0, 0),
+    Event::Merge(1, 0),
+];
+
 #[test]
 fn second_stay(rt: HostRuntime) -> Result<(), Fail> {
-    let events = [
-        Event::Send,
-        Event::Arrive(0, Path::A, 0),
-        Event::Slide(0, 1500),
-        Event::Slide(0, 0),
-        Event::Merge(1, 0),
-    ];
-    let played = rehearse(rt.alloc(), 2, &[0], 2, &events)??;
-    assert_eq!(rt; played.handed.len(), 2);
-    assert_eq!(rt; handed_at(&played, 0), Some((0, 0, counted(12, 4, 0))));
-    assert_eq!(rt; handed_at(&played, 1), Some((0, 1500, counted(0, 16, 0))));
-    assert_eq!(rt; counts_of(&played, 0, 0), Some(counted(0, 16, 0)));
-    assert_eq!(rt; counts_of(&played, 1, 0), Some(counted(0, 16, 0)));
+    let played = rehearse(rt.alloc(), 2, &[0], 2, &TWO_STAYS)??;
+    let handed = [(0, 0, 12), (0, 1500, 0)];
+    met(&rt, comes_to(&played, 2, &handed, &[(0, 0, 0), (1, 0, 0)]));
     Ok(())
 }
 
-/// A chain of Merges takes what arrived before them through eight receivers; one against its order takes nothing.
-#[test]
-fn eight_receivers(rt: HostRuntime) -> Result<(), Fail> {
-    let mut events = Vec::new(rt.alloc());
-    events.push(Event::Send)?;
-    events.push(Event::Send)?;
-    events.push(Event::Arrive(7, Path::B, 0))?;
+/// A chain of Merges takes what arrived before them through eight receivers; one against its order
+/// takes nothing.
+fn chains(alloc: Global) -> Result<Vec<Event>, AllocError> {
+    let mut events = Vec::from_slice(
+        alloc,
+        &[Event::Send, Event::Send, Event::Arrive(7, Path::B, 0)],
+    )?;
     for r in 0..7u8 {
         events.push(Event::Merge(6 - r, 7 - r))?;
     }
@@ -173,50 +187,69 @@ fn eight_receivers(rt: HostRuntime) -> Result<(), Fail> {
     for r in 0..7u8 {
         events.push(Event::Merge(r, r + 1))?;
     }
+    Ok(events)
+}
+
+/// How many samples each of the eight has.
+const CHAINED: [(usize, u32, u64); 8] = [
+    (0, 0, 12),
+    (1, 0, 12),
+    (2, 0, 12),
+    (3, 0, 12),
+    (4, 0, 12),
+    (5, 0, 12),
+    (6, 0, 16),
+    (7, 0, 16),
+];
+
+#[test]
+fn eight_receivers(rt: HostRuntime) -> Result<(), Fail> {
+    let events = chains(rt.alloc())?;
     let played = rehearse(rt.alloc(), 1, &[0], 8, &events)??;
-    assert_eq!(rt; played.receivers.len(), 8);
-    assert!(rt; played.handed.is_empty());
-    for r in 0..6usize {
-        assert_eq!(rt; counts_of(&played, r, 0), Some(counted(12, 4, 0)), "{r}");
-    }
-    assert_eq!(rt; counts_of(&played, 6, 0), Some(counted(16, 0, 0)));
-    assert_eq!(rt; counts_of(&played, 7, 0), Some(counted(16, 0, 0)));
+    met(&rt, comes_to(&played, 8, &[], &CHAINED));
     Ok(())
 }
 
-/// A window of 16 timestamps, which 16 Slides hand out in order, each with what reached it.
-#[test]
-fn sixteen_timestamps(rt: HostRuntime) -> Result<(), Fail> {
-    let mut window = [0u32; 16];
-    let mut events = Vec::new(rt.alloc());
+/// The timestamps of sixteen pictures.
+const TIMESTAMPS: [u32; 16] = [
+    0, 1500, 3000, 4500, 6000, 7500, 9000, 10_500, 12_000, 13_500, 15_000, 16_500, 18_000, 19_500,
+    21_000, 22_500,
+];
+
+/// Sixteen pictures, of which every other one's second datagram arrives; and sixteen Slides.
+fn sixteen(alloc: Global) -> Result<Vec<Event>, AllocError> {
+    let mut events = Vec::new(alloc);
     for k in 0..16u32 {
-        window[k as usize] = 1500 * k;
-        events.push(Event::Send)?;
-        events.push(Event::Send)?;
+        events.extend_from_slice(&[Event::Send, Event::Send])?;
         events.push(Event::Arrive(0, Path::A, 2 * k + k % 2))?;
     }
-    for k in 0..16u32 {
-        events.push(Event::Slide(0, 1500 * (k + 16)))?;
+    for k in 16..32u32 {
+        events.push(Event::Slide(0, 1500 * k))?;
     }
-    let played = rehearse(rt.alloc(), 16, &window, 1, &events)??;
-    assert_eq!(rt; played.handed.len(), 16);
+    Ok(events)
+}
+
+/// Whether picture k was handed out at its place, with what reached it, and the window moved on.
+fn is_slid(played: &Played, k: u32) -> bool {
+    let counts = if k % 2 == 0 {
+        counted(12, 4, 0)
+    } else {
+        counted(4, 12, 0)
+    };
+    let next = k.wrapping_add(16).wrapping_mul(1500);
+    handed_at(played, k as usize) == Some((0, k.wrapping_mul(1500), counts))
+        && counts_of(played, 0, next) == Some(counted(0, 16, 0))
+}
+
+/// A window of 16 timestamps, which 16 Slides hand out in order.
+#[test]
+fn sixteen_timestamps(rt: HostRuntime) -> Result<(), Fail> {
+    let events = sixteen(rt.alloc())?;
+    let played = rehearse(rt.alloc(), 16, &TIMESTAMPS, 1, &events)??;
     for k in 0..16u32 {
-        let counts = if k % 2 == 0 {
-            counted(12, 4, 0)
-        } else {
-            counted(4, 12, 0)
-        };
-        assert_eq!(rt;
-            handed_at(&played, k as usize),
-            Some((0, 1500 * k, counts)),
-            "{k}"
-        );
-        assert_eq!(rt;
-            counts_of(&played, 0, 1500 * (k + 16)),
-            Some(counted(0, 16, 0)),
-            "{k}"
-        );
+        met(&rt, is_slid(&played, k));
     }
+    met(&rt, played.handed.len() == 16);
     Ok(())
 }
 
@@ -229,73 +262,48 @@ fn narrow_pictures(alloc: Global, format: Format, count: usize) -> Result<Vec<Pi
     Ok(pictures)
 }
 
-/// The greatest number of pictures: the last one's datagram arrives, at its own timestamp. One more is refused.
+/// As many Sends as there can be datagrams of one packet a picture, and the arrival of the last.
+fn many_events(alloc: Global) -> Result<Vec<Event>, AllocError> {
+    let mut events = Vec::from_elem(alloc, Event::Send, 10_000)?;
+    events.push(Event::Arrive(0, Path::A, 9_999))?;
+    Ok(events)
+}
+
+/// The timestamp of the last of ten thousand pictures.
+const LAST: u32 = 14_998_500;
+
+/// What comes of so many pictures of one packet each: the last one's counts.
+fn last_of(alloc: Global, count: usize) -> Result<Result<Option<Counts>, PlayFault>, Fail> {
+    let format = Format::new(Sampling::Ycc422, Depth::D8, 2, 1, 60, 1)?;
+    let plan = Plan::new(alloc, format, 24)?;
+    let pictures = narrow_pictures(alloc, format, count)?;
+    let events = many_events(alloc)?;
+    match play(alloc, &plan, &pictures, STAMP, &[LAST], 1, &events) {
+        Ok(played) => Ok(Ok(counts_of(&played, 0, LAST))),
+        Err(fault) => Ok(Err(fault)),
+    }
+}
+
+/// The greatest number of pictures: the last one's datagram arrives, at its own timestamp. One more
+/// is refused.
 #[test]
 fn ten_thousand_pictures(rt: HostRuntime) -> Result<(), Fail> {
-    let format = Format::new(Sampling::Ycc422, Depth::D8, 2, 1, 60, 1)?;
-    let plan = Plan::new(rt.alloc(), format, 24)?;
-    let mut pictures = narrow_pictures(rt.alloc(), format, 10_000)?;
-    let mut events = Vec::with_capacity(rt.alloc(), 10_001)?;
-    for _ in 0..10_000u32 {
-        events.push(Event::Send)?;
-    }
-    events.push(Event::Arrive(0, Path::A, 9_999))?;
-    let last = 14_998_500u32;
-    let played = play(
-        rt.alloc(),
-        &plan,
-        pictures.as_slice(),
-        STAMP,
-        &[last],
-        1,
-        events.as_slice(),
-    )?;
-    assert_eq!(rt; counts_of(&played, 0, last), Some(counted(4, 0, 0)));
-    pictures.push(Picture::new(rt.alloc(), format, [16, 128, 128])?)?;
-    let refused = play(
-        rt.alloc(),
-        &plan,
-        pictures.as_slice(),
-        STAMP,
-        &[last],
-        1,
-        events.as_slice(),
+    let most = last_of(rt.alloc(), 10_000)?;
+    let more = last_of(rt.alloc(), 10_001)?;
+    met(
+        &rt,
+        most == Ok(Some(counted(4, 0, 0))) && more == Err(PlayFault::BadPictures),
     );
-    assert_eq!(rt; refused.err(), Some(PlayFault::BadPictures));
     Ok(())
 }
 
-/// How many frames were handed out.
-fn handed_out<A: Allocator + Copy>(
-    alloc: A,
-    plan: &Plan,
-    pictures: &[Picture],
-) -> Result<usize, PlayFault> {
-    Ok(
-        play(alloc, plan, pictures, STAMP, &[0], 2, &SHOW)?
-            .handed
-            .len(),
-    )
-}
-
-/// Each growth refused in turn is `NoMemory`, and nothing else is.
-#[test]
-fn growths(rt: HostRuntime) -> Result<(), Fail> {
-    let plan = small_plan(rt.alloc())?;
-    let pictures = pictures(rt.alloc(), 2)?;
-    let refusing = Refusing::new(rt.alloc(), 0);
-    for nth in 1..1000u64 {
-        refusing.refuse(nth);
-        let result = handed_out(&refusing, &plan, pictures.as_slice());
-        if !refusing.was_met() {
-            assert_eq!(rt; result, Ok(1));
-            assert!(rt; nth > 8);
-            break;
-        }
-        assert_eq!(rt; result, Err(PlayFault::NoMemory), "growth {nth}");
-        refusing.refuse(0);
-        let again = handed_out(&refusing, &plan, pictures.as_slice());
-        assert_eq!(rt; again, Ok(1), "growth {nth}");
+/// How many frames *rehearsal* hands out, over an allocator.
+pub fn handed_out<A: Allocator + Copy>(alloc: A, global: Global) -> Result<Option<usize>, Fail> {
+    let plan = small_plan(global)?;
+    let pictures = pictures(global, 2)?;
+    match play(alloc, &plan, &pictures, STAMP, &[0], 2, &SHOW) {
+        Ok(played) => Ok(Some(played.handed.len())),
+        Err(PlayFault::NoMemory) => Ok(None),
+        Err(fault) => Err(Fail::from(fault)),
     }
-    Ok(())
 }

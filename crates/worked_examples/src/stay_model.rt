@@ -1,7 +1,11 @@
-//! Random schedules against a plain model: stays, each with the set of the datagrams that reached it.
+//! Random schedules against a plain model: stays, each with the set of the datagrams that reached
+//! it.
 ghost use Rattle.std.specs.Prelude.{◌<◌};
 
-use crate::rehearsals::{counted, counts_of, handed_at, rehearse};
+use crate::checks::met;
+use crate::rehearsals::{counts_of, handed_at, rehearse};
+use crate::small_format::counted;
+use frame_assembly::Counts;
 use path_merge::{Event, PlayFault, Played};
 use st_format::Path;
 use std::alloc::{AllocError, Global};
@@ -10,9 +14,6 @@ use std::test::Fail;
 
 /// How many receivers there are, and how many timestamps a window has.
 const RECEIVERS: usize = 3;
-
-/// How many stays last at any time.
-const LASTING: usize = 9;
 
 /// How many datagrams three pictures have.
 const DATAGRAMS: u32 = 6;
@@ -24,14 +25,6 @@ struct ModelStay {
     reached: u32,
 }
 
-/// The stays that last, receiver by receiver, three each; those that ended, and how many datagrams were sent.
-#[derive(Drop)]
-struct Model {
-    lasting: [ModelStay; LASTING],
-    ended: Vec<(u8, ModelStay)>,
-    sent: u32,
-}
-
 /// A stay that nothing has reached.
 const fn stay(timestamp: u32) -> ModelStay {
     ModelStay {
@@ -40,21 +33,79 @@ const fn stay(timestamp: u32) -> ModelStay {
     }
 }
 
+impl ModelStay {
+    /// What is counted of its frame: 12 samples of a picture are in its first datagram, 4 in its
+    /// second.
+    fn counts(self) -> Counts {
+        let mut samples = 0u64;
+        for number in 0..DATAGRAMS {
+            if self.reached >> number & 1 == 1 {
+                let carried = if number % 2 == 0 { 12 } else { 4 };
+                samples = samples.wrapping_add(carried);
+            }
+        }
+        let present = samples.min(16);
+        counted(present, 16 - present, 0)
+    }
+}
+
+/// The stays that last at a receiver, in order.
+#[derive(Clone, Copy)]
+struct Window([ModelStay; 3]);
+
+impl Window {
+    fn has(&self, timestamp: u32) -> bool {
+        self.0.iter().any(|stay| stay.timestamp == timestamp)
+    }
+
+    /// Datagrams 2k and 2k + 1 are picture k's, at 1500 k ticks.
+    fn reach(&mut self, number: u32) {
+        for place in 0..3usize {
+            if self.0[place].timestamp == (number / 2).wrapping_mul(1500) {
+                self.0[place].reached |= 1 << (number % 32);
+            }
+        }
+    }
+
+    /// The first stay, which ends.
+    fn slide(&mut self, next: u32) -> ModelStay {
+        let [first, second, third] = self.0;
+        self.0 = [second, third, stay(next)];
+        first
+    }
+
+    /// Joins the stays of a window of the same timestamps, if it is one.
+    fn join(&mut self, other: Window) -> bool {
+        for place in 0..3usize {
+            if self.0[place].timestamp != other.0[place].timestamp {
+                return false;
+            }
+        }
+        for place in 0..3usize {
+            self.0[place].reached |= other.0[place].reached;
+        }
+        true
+    }
+}
+
+/// The stays that last and those that ended, and how many datagrams were sent.
+#[derive(Drop)]
+struct Model {
+    windows: [Window; RECEIVERS],
+    ended: Vec<(u8, ModelStay)>,
+    sent: u32,
+}
+
 impl Model {
     fn new(alloc: Global) -> Model {
-        let mut lasting = [stay(0); LASTING];
-        for k in 0..RECEIVERS {
-            lasting[3 * k + 1] = stay(1500);
-            lasting[3 * k + 2] = stay(3000);
-        }
         Model {
-            lasting,
+            windows: [Window([stay(0), stay(1500), stay(3000)]); RECEIVERS],
             ended: Vec::new(alloc),
             sent: 0,
         }
     }
 
-    /// Follows an event, and tells whether it was admitted.
+    /// Follows an event, where it is admitted; else nothing changes.
     fn follow(&mut self, event: Event) -> Result<bool, AllocError> {
         match event {
             Event::Send => Ok(self.send()),
@@ -65,40 +116,28 @@ impl Model {
     }
 
     fn send(&mut self) -> bool {
-        if self.sent >= DATAGRAMS {
-            return false;
+        let is_left = self.sent < DATAGRAMS;
+        if is_left {
+            self.sent += 1;
         }
-        self.sent += 1;
-        true
+        is_left
     }
 
-    /// Datagrams 2k and 2k + 1 are picture k's, at 1500 k ticks.
     fn arrive(&mut self, to: usize, number: u32) -> bool {
-        if to >= RECEIVERS || number >= self.sent {
-            return false;
+        let can_be = to < RECEIVERS && number < self.sent;
+        if can_be {
+            self.windows[to].reach(number);
         }
-        for k in 0..RECEIVERS {
-            if self.lasting[3 * to + k].timestamp == (number / 2).wrapping_mul(1500) {
-                self.lasting[3 * to + k].reached |= 1 << (number % 32);
-            }
-        }
-        true
+        can_be
     }
 
     fn slide(&mut self, at: u8, next: u32) -> Result<bool, AllocError> {
         let place = usize::from(at);
-        if place >= RECEIVERS {
+        if place >= RECEIVERS || self.windows[place].has(next) {
             return Ok(false);
         }
-        for k in 0..RECEIVERS {
-            if self.lasting[3 * place + k].timestamp == next {
-                return Ok(false);
-            }
-        }
-        self.ended.push((at, self.lasting[3 * place]))?;
-        self.lasting[3 * place] = self.lasting[3 * place + 1];
-        self.lasting[3 * place + 1] = self.lasting[3 * place + 2];
-        self.lasting[3 * place + 2] = stay(next);
+        let first = self.windows[place].slide(next);
+        self.ended.push((at, first))?;
         Ok(true)
     }
 
@@ -106,32 +145,32 @@ impl Model {
         if into >= RECEIVERS || from >= RECEIVERS || into == from {
             return false;
         }
-        for k in 0..RECEIVERS {
-            if self.lasting[3 * into + k].timestamp != self.lasting[3 * from + k].timestamp {
+        let other = self.windows[from];
+        self.windows[into].join(other)
+    }
+
+    /// Whether what was played was handed out as the stays ended.
+    fn handed_out(&self, played: &Played) -> bool {
+        for (place, (receiver, ended)) in self.ended.iter().enumerate() {
+            let wanted = (*receiver, ended.timestamp, ended.counts());
+            if handed_at(played, place) != Some(wanted) {
                 return false;
             }
         }
-        for k in 0..RECEIVERS {
-            let reached = self.lasting[3 * from + k].reached;
-            self.lasting[3 * into + k].reached |= reached;
+        played.handed.len() == self.ended.len()
+    }
+
+    /// Whether the receivers' frames are the stays that last.
+    fn lasts(&self, played: &Played) -> bool {
+        for (receiver, window) in self.windows.iter().enumerate() {
+            for lasting in &window.0 {
+                if counts_of(played, receiver, lasting.timestamp) != Some(lasting.counts()) {
+                    return false;
+                }
+            }
         }
         true
     }
-}
-
-/// How many samples datagrams carry: 12 of a picture are in its first, 4 in its second.
-fn samples_of(reached: u32) -> u64 {
-    let mut samples = 0u64;
-    for k in 0..3u32 {
-        let first = if reached >> (2 * k) & 1 == 1 { 12 } else { 0 };
-        let second = if reached >> (2 * k + 1) & 1 == 1 {
-            4
-        } else {
-            0
-        };
-        samples = samples.saturating_add(first + second);
-    }
-    samples
 }
 
 /// Numbers that look random: xorshift.
@@ -163,80 +202,53 @@ impl Random {
     }
 }
 
-/// What was played is what the model says.
-fn is_as_modelled(rt: &impl Abort, played: &Played, model: &Model, seed: u64) {
-    assert_eq!(rt; played.handed.len(), model.ended.len(), "{seed}");
-    for place in 0..model.ended.len() {
-        let (receiver, ended) = model.ended[place];
-        let present = samples_of(ended.reached).min(16);
-        let counts = counted(present, 16 - present, 0);
-        assert_eq!(rt;
-            handed_at(played, place),
-            Some((receiver, ended.timestamp, counts)),
-            "{seed} {place}"
-        );
-    }
-    for number in 0..LASTING {
-        let lasting = model.lasting[number];
-        let present = samples_of(lasting.reached).min(16);
-        assert_eq!(rt;
-            counts_of(played, number / RECEIVERS, lasting.timestamp),
-            Some(counted(present, 16 - present, 0)),
-            "{seed} {number}"
-        );
-    }
-}
-
-/// A schedule of so many events from a seed, all of which the model admits but perhaps the last, and the place
-/// of that.
+/// A schedule of events from a seed, all of which the model admits but perhaps the last, and the
+/// place of that.
 fn schedule(
-    alloc: Global,
     seed: u64,
-    count: usize,
     model: &mut Model,
     events: &mut Vec<Event>,
 ) -> Result<Option<usize>, AllocError> {
     let mut random = Random(seed);
-    for _ in 0..4 * count.min(1000) {
+    for _ in 0..120u32 {
         let event = random.event();
         let refused_too = random.below(64) == 0;
-        let mut trial = copy_of(alloc, model)?;
-        if trial.follow(event)? {
-            *model = trial;
+        let is_admitted = model.follow(event)?;
+        if is_admitted || refused_too {
             events.push(event)?;
-        } else if refused_too {
-            events.push(event)?;
+        }
+        if !is_admitted && refused_too {
             return Ok(Some(events.len().saturating_sub(1)));
         }
     }
     Ok(None)
 }
 
-fn copy_of(alloc: Global, model: &Model) -> Result<Model, AllocError> {
-    Ok(Model {
-        lasting: model.lasting,
-        ended: Vec::from_slice(alloc, &model.ended)?,
-        sent: model.sent,
-    })
+/// Whether a schedule is played as the model says, or refused at the place where the model admits
+/// an event no more; `None` where it isn't so.
+fn is_refused(alloc: Global, seed: u64) -> Result<Option<bool>, Fail> {
+    let mut model = Model::new(alloc);
+    let mut events = Vec::new(alloc);
+    let bad = schedule(seed, &mut model, &mut events)?;
+    let played = rehearse(alloc, 3, &[0, 1500, 3000], 3, &events)?;
+    let is_met = match (&played, bad) {
+        (Ok(played), None) => model.handed_out(played) && model.lasts(played),
+        (Err(fault), Some(place)) => *fault == PlayFault::BadEvent(place),
+        _ => false,
+    };
+    Ok(if is_met { Some(bad.is_some()) } else { None })
 }
 
-/// Each schedule is played as the model says, or refused at the place where the model admits an event no more.
 #[test]
 fn random_schedules(rt: HostRuntime) -> Result<(), Fail> {
     let mut refused = 0u32;
     for seed in 1..201u64 {
-        let mut model = Model::new(rt.alloc());
-        let mut events = Vec::new(rt.alloc());
-        let bad = schedule(rt.alloc(), seed * 7_919, 30, &mut model, &mut events)?;
-        let played = rehearse(rt.alloc(), 3, &[0, 1500, 3000], 3, &events)?;
-        let Some(place) = bad else {
-            is_as_modelled(&rt, &played?, &model, seed);
-            continue;
-        };
-        assert_eq!(rt; played.err(), Some(PlayFault::BadEvent(place)), "{seed}");
-        refused = refused.saturating_add(1);
+        let is_refused = is_refused(rt.alloc(), seed * 7_919)?;
+        met(&rt, is_refused.is_some());
+        if is_refused == Some(true) {
+            refused = refused.wrapping_add(1);
+        }
     }
-    assert!(rt; 20 < refused);
-    assert!(rt; refused < 180);
+    met(&rt, 20 < refused && refused < 180);
     Ok(())
 }

@@ -1,97 +1,102 @@
 //! Sources of datagrams, what a receiver takes from them, and frames that are joined.
 ghost use Rattle.std.specs.Prelude.{◌≡◌, IfOk};
 
+use crate::checks::{met, none_fails};
+use crate::small_format::{ANOTHER, LOWER, OTHER_VERSION, UPPER, counted, counts, small};
 use frame_assembly::{Counts, Frame};
 use path_merge::{ReceiveFault, Received, Receiver, receive};
 use payload_header::read_payload;
 use st_format::memory::{MemoryTurn, MemoryTurns, Refusing};
-use st_format::{DatagramSource, Depth, Format, FormatFault, Path, Sampling, SourceFault, Turn};
-use std::alloc::{AllocError, Allocator};
+use st_format::{DatagramSource, Format, Path, SourceFault, Turn};
+use std::alloc::{AllocError, Allocator, Global};
 use std::process::Abort;
 use std::test::Fail;
 
-/// *first-datagram*'s datagram, and the same with version 1.
-const D1: &str = "80E00001000003840000000100000008000000008010801180128013";
-
-const REFUSED: &str = "40E00001000003840000000100000008000000008010801180128013";
-
-/// Payloads of the upper row, of another one, and of the lower row.
-const UPPER: &str = "00000008000000008010801180128013";
-
-const ANOTHER: &str = "00000008000000008020801180128013";
-
-const LOWER: &str = "00000008000100008014801580168017";
-
-/// F1: 4:2:2, 8 bits, 4 by 2, 60 frames a second.
-fn small() -> Result<Format, FormatFault> {
-    Format::new(Sampling::Ycc422, Depth::D8, 4, 2, 60, 1)
-}
-
-const fn counted(present: u64, missing: u64, contested: u64) -> Counts {
-    Counts {
-        present,
-        missing,
-        contested,
-    }
-}
-
-/// A source of these turns: datagrams in hexadecimal, and `None` for a quiet turn.
+/// A source of these turns: datagrams, and `None` for a quiet turn.
 fn source(
-    rt: &(impl Abort + AllocGlobal),
-    turns: &[Option<(Path, &str)>],
+    alloc: Global,
+    turns: &[Option<(Path, &[u8])>],
     fails_in: u64,
 ) -> Result<MemoryTurns, AllocError> {
-    let mut kept = Vec::with_capacity(rt.alloc(), turns.len())?;
+    let mut kept = Vec::with_capacity(alloc, turns.len())?;
     for turn in turns {
-        match turn {
-            Some((path, digits)) => {
-                let octets = hex::decode(rt.alloc(), *digits).expect(rt, "digits");
-                kept.push(MemoryTurn::Datagram(*path, octets))?;
-            }
-            None => kept.push(MemoryTurn::Quiet)?,
-        }
+        let turn = match turn {
+            Some((path, octets)) => MemoryTurn::Datagram(*path, Vec::from_slice(alloc, *octets)?),
+            None => MemoryTurn::Quiet,
+        };
+        kept.push(turn)?;
     }
     Ok(MemoryTurns::new(kept, fails_in))
 }
 
-/// A source in memory tells its turns one after another, and then the end as often as it is asked. A call
-/// that fails takes none of them.
+/// What a call answers, the first octets of its buffer, how many turns are left then, how many
+/// datagrams were delivered, and how often it failed.
+type Call = (Result<Turn, SourceFault>, &'static [u8], usize, u64, u64);
+
+/// A source in memory tells its turns one after another, and then the end as often as it is asked.
+/// A call that fails takes none of them.
+const CALLS: [Call; 6] = [
+    (Ok(Turn::Datagram(Path::B, 2)), b"\x01\x02", 2, 1, 0),
+    (Ok(Turn::Quiet), b"", 1, 1, 0),
+    (Err(SourceFault::Device), b"", 1, 1, 1),
+    (Ok(Turn::Datagram(Path::A, 0)), b"", 0, 2, 1),
+    (Ok(Turn::End), b"", 0, 2, 1),
+    (Ok(Turn::End), b"", 0, 2, 1),
+];
+
+const TOLD: [Option<(Path, &[u8])>; 3] = [Some((Path::B, b"\x01\x02")), None, Some((Path::A, b""))];
+
+/// What the next call answers, and whether these octets stand first in its buffer then.
+fn next(
+    alloc: Global,
+    source: &mut MemoryTurns,
+    octets: &[u8],
+) -> Result<(Result<Turn, SourceFault>, bool), AllocError> {
+    let mut buf = Vec::from_elem(alloc, 9, 65_535)?;
+    let answer = source.next(buf.as_mut_slice());
+    Ok((answer, buf.as_slice().starts_with(octets)))
+}
+
+/// Whether a source stands so behind a call: the last fault is the one that it had, if it had one.
+fn stands(source: &MemoryTurns, left: usize, delivered: u64, failures: u64) -> bool {
+    let last_fault = if failures == 0 {
+        None
+    } else {
+        Some(SourceFault::Device)
+    };
+    source.turns().len() == left
+        && source.delivered() == delivered
+        && source.failures() == failures
+        && source.last_fault() == last_fault
+}
+
+/// The place of the first call that is answered otherwise.
+fn fails_at(alloc: Global, source: &mut MemoryTurns) -> Result<Option<u64>, AllocError> {
+    let mut place = 0u64;
+    for (answer, octets, left, delivered, failures) in &CALLS {
+        let is_answered = next(alloc, source, *octets)? == (*answer, true);
+        if !is_answered || !stands(source, *left, *delivered, *failures) {
+            return Ok(Some(place));
+        }
+        place = place.wrapping_add(1);
+    }
+    Ok(None)
+}
+
 #[test]
 fn turns_in_memory(rt: HostRuntime) -> Result<(), Fail> {
-    let turns = [Some((Path::B, "0102")), None, Some((Path::A, ""))];
-    let mut source = source(&rt, &turns, 3)?;
-    let mut buf = Vec::from_elem(rt.alloc(), 9, 65_535)?;
-    assert_eq!(rt;
-        source.next(buf.as_mut_slice()),
-        Ok(Turn::Datagram(Path::B, 2))
-    );
-    assert!(rt; buf.as_slice().starts_with(&[1, 2]));
-    assert_eq!(rt; source.next(buf.as_mut_slice()), Ok(Turn::Quiet));
-    assert_eq!(rt; source.last_fault(), None);
-    assert_eq!(rt; source.next(buf.as_mut_slice()), Err(SourceFault::Device));
-    assert_eq!(rt; source.last_fault(), Some(SourceFault::Device));
-    assert_eq!(rt; (source.delivered(), source.failures()), (1, 1));
-    assert_eq!(rt; source.turns().len(), 1);
-    assert_eq!(rt;
-        source.next(buf.as_mut_slice()),
-        Ok(Turn::Datagram(Path::A, 0))
-    );
-    assert_eq!(rt; source.next(buf.as_mut_slice()), Ok(Turn::End));
-    assert_eq!(rt; source.next(buf.as_mut_slice()), Ok(Turn::End));
-    assert_eq!(rt; (source.delivered(), source.failures()), (2, 1));
+    let mut source = source(rt.alloc(), &TOLD, 3)?;
+    none_fails(&rt, fails_at(rt.alloc(), &mut source)?);
     Ok(())
 }
 
 /// What a source of one datagram of so many octets tells, and how many turns are then to come.
-fn told(
-    rt: &(impl Abort + AllocGlobal),
-    octets: usize,
-) -> Result<(Result<Turn, SourceFault>, usize), AllocError> {
-    let mut turns = Vec::with_capacity(rt.alloc(), 1)?;
-    let datagram = Vec::from_elem(rt.alloc(), 7, octets)?;
+fn told(alloc: Global, octets: usize) -> Result<(Result<Turn, SourceFault>, usize), AllocError> {
+    let datagram = Vec::from_elem(alloc, 7, octets)?;
+    let mut turns = Vec::with_capacity(alloc, 1)?;
     turns.push(MemoryTurn::Datagram(Path::A, datagram))?;
     let mut source = MemoryTurns::new(turns, 0);
-    let mut buf = Vec::from_elem(rt.alloc(), 0, 65_535)?;
+    let mut buf = Vec::from_elem(alloc, 0, 65_535)?;
     let turn = source.next(buf.as_mut_slice());
     Ok((turn, source.turns().len()))
 }
@@ -99,131 +104,163 @@ fn told(
 /// A datagram of 65,535 octets comes; one of more fails, and stays.
 #[test]
 fn long_datagrams(rt: HostRuntime) -> Result<(), Fail> {
-    let longest = Ok(Turn::Datagram(Path::A, 65_535));
-    assert_eq!(rt; told(&rt, 65_535)?, (longest, 0));
-    assert_eq!(rt; told(&rt, 65_536)?, (Err(SourceFault::Device), 1));
+    let longest = told(rt.alloc(), 65_535)? == (Ok(Turn::Datagram(Path::A, 65_535)), 0);
+    let longer = told(rt.alloc(), 65_536)? == (Err(SourceFault::Device), 1);
+    met(&rt, longest && longer);
     Ok(())
 }
 
-/// A frame of one payload.
-fn holding<A: Allocator + Copy>(
-    rt: &(impl Abort + AllocGlobal),
-    alloc: A,
-    format: Format,
-    digits: &str,
-) -> Result<Frame<A>, AllocError>
+/// The payload of a datagram, behind its header of 12 octets.
+fn payload(octets: &[u8]) -> &[u8] {
+    &octets[octets.len().min(12)..]
+}
+
+/// A frame of a datagram's payload.
+fn holding<A: Allocator + Copy>(alloc: A, format: Format, octets: &[u8]) -> Result<Frame<A>, Fail>
     ensures { IfOk result (λ f. f.format ≡ format) }
 {
-    let octets = hex::decode(rt.alloc(), digits).expect(rt, "digits");
+    let view = read_payload(&format, payload(octets))?;
     let mut frame = Frame::new(alloc, format)?;
-    let view = read_payload(&format, octets.as_slice()).expect(rt, "a payload");
     frame.put(&view);
     Ok(frame)
 }
 
-/// Two halves make the whole frame; what differs is contested, and stays so. The other frame may be over
-/// another allocator.
+/// The counts of a frame that takes in others, one after another, and those of the first of them.
+fn joined(alloc: Global, format: Format) -> Result<[Counts; 5], Fail> {
+    let refusing = Refusing::new(alloc, 0);
+    let mut frame = holding(alloc, format, UPPER)?;
+    let first = frame.counts();
+    let lower = holding(&refusing, format, LOWER)?;
+    frame.absorb(&lower);
+    let second = frame.counts();
+    frame.absorb(&holding(alloc, format, ANOTHER)?);
+    let third = frame.counts();
+    frame.absorb(&holding(alloc, format, UPPER)?);
+    Ok([first, second, third, frame.counts(), lower.counts()])
+}
+
+/// Two halves make the whole frame; what differs is contested, and stays so. The other frame may be
+/// over another allocator.
 #[test]
 fn frames_joined(rt: HostRuntime) -> Result<(), Fail> {
-    let format = small()?;
-    let refusing = Refusing::new(rt.alloc(), 0);
-    let mut frame = holding(&rt, rt.alloc(), format, UPPER)?;
-    let lower = holding(&rt, &refusing, format, LOWER)?;
-    let another = holding(&rt, rt.alloc(), format, ANOTHER)?;
-    assert_eq!(rt; frame.counts(), counted(8, 8, 0));
-    frame.absorb(&lower);
-    assert_eq!(rt; frame.counts(), counted(16, 0, 0));
-    frame.absorb(&another);
-    assert_eq!(rt; frame.counts(), counted(15, 0, 1));
-    frame.absorb(&holding(&rt, rt.alloc(), format, UPPER)?);
-    assert_eq!(rt; frame.counts(), counted(15, 0, 1));
-    assert_eq!(rt; lower.counts(), counted(8, 8, 0));
+    let half = counted(8, 8, 0);
+    let contested = counted(15, 0, 1);
+    let wanted = [half, counted(16, 0, 0), contested, contested, half];
+    met(&rt, joined(rt.alloc(), small()?)? == wanted);
     Ok(())
 }
 
 /// A receiver of F1, payload type 96, any source and window [900].
-fn receiver(rt: &(impl Abort + AllocGlobal)) -> Receiver {
-    let format = small().expect(rt, "a format");
-    Receiver::open(rt.alloc(), format, 96, None, &[900]).expect(rt, "a receiver")
-}
-
-/// How many samples of the frame of timestamp 900 are present, missing and contested.
-fn counts(rt: &(impl Abort + AllocGlobal), receiver: &Receiver) -> Counts {
-    receiver.frame(900).expect(rt, "a frame").counts()
+fn receiver(alloc: Global) -> Result<Receiver, Fail> {
+    Ok(Receiver::open(alloc, small()?, 96, None, &[900])?)
 }
 
 /// At most `limit` turns of a source.
 fn taken(
-    rt: &(impl Abort + AllocGlobal),
+    alloc: Global,
     source: &mut MemoryTurns,
     receiver: &mut Receiver,
     limit: u64,
 ) -> Result<Result<Received, ReceiveFault>, AllocError> {
-    let mut buf = Vec::from_elem(rt.alloc(), 0, 65_535)?;
+    let mut buf = Vec::from_elem(alloc, 0, 65_535)?;
     Ok(receive(source, receiver, buf.as_mut_slice(), limit))
 }
 
-const fn received(delivered: u64, ended: bool) -> Result<Received, ReceiveFault> {
-    Ok(Received { delivered, ended })
+/// *first-datagram*'s datagram by A, a quiet turn, and a datagram that is refused by B.
+const THREE: [Option<(Path, &[u8])>; 3] = [
+    Some((Path::A, UPPER)),
+    None,
+    Some((Path::B, OTHER_VERSION)),
+];
+
+/// A limit, how many datagrams are delivered up to it, whether the end came, and how many samples
+/// are present.
+const LIMITS: [(u64, u64, bool, u64); 6] = [
+    (10, 2, true, 8),
+    (4, 2, true, 8),
+    (3, 2, false, 8),
+    (2, 1, false, 8),
+    (1, 1, false, 8),
+    (0, 0, false, 0),
+];
+
+/// Whether a source is received up to a limit, or to the end.
+fn is_received(alloc: Global, limit: u64, received: Received, present: u64) -> Result<bool, Fail> {
+    let mut source = source(alloc, &THREE, 0)?;
+    let mut receiver = receiver(alloc)?;
+    let result = taken(alloc, &mut source, &mut receiver, limit)?;
+    let frame = counted(present, 16u64.wrapping_sub(present), 0);
+    Ok(result == Ok(received) && counts(&receiver, 900) == Some(frame))
 }
 
-/// d1 by A, a quiet turn, and a datagram that is refused by B: up to the limit, or to the end.
 #[test]
 fn received_from_a_source(rt: HostRuntime) -> Result<(), Fail> {
-    let turns = [Some((Path::A, D1)), None, Some((Path::B, REFUSED))];
-    for (limit, result, frame) in [
-        (10u64, received(2, true), counted(8, 8, 0)),
-        (4, received(2, true), counted(8, 8, 0)),
-        (3, received(2, false), counted(8, 8, 0)),
-        (2, received(1, false), counted(8, 8, 0)),
-        (1, received(1, false), counted(8, 8, 0)),
-        (0, received(0, false), counted(0, 16, 0)),
-    ] {
-        let mut source = source(&rt, &turns, 0)?;
-        let mut receiver = receiver(&rt);
-        assert_eq!(rt;
-            taken(&rt, &mut source, &mut receiver, limit)?,
-            result,
-            "limit {limit}"
-        );
-        assert_eq!(rt; counts(&rt, &receiver), frame, "limit {limit}");
+    for (limit, delivered, ended, present) in &LIMITS {
+        let received = Received {
+            delivered: *delivered,
+            ended: *ended,
+        };
+        met(&rt, is_received(rt.alloc(), *limit, received, *present)?);
     }
     Ok(())
 }
 
-/// A source of d1 three times that fails at one call: what came before is taken, and the rest comes later.
+/// *first-datagram*'s datagram three times.
+const THRICE: [Option<(Path, &[u8])>; 3] = [
+    Some((Path::A, UPPER)),
+    Some((Path::B, UPPER)),
+    Some((Path::A, UPPER)),
+];
+
+/// Whether a source that fails at a call gives what came before: so many datagrams, and so many
+/// samples present.
+fn ends_at_fault(
+    alloc: Global,
+    source: &mut MemoryTurns,
+    receiver: &mut Receiver,
+    delivered: u64,
+    present: u64,
+) -> Result<bool, AllocError> {
+    let fault = ReceiveFault {
+        delivered,
+        fault: SourceFault::Device,
+    };
+    let result = taken(alloc, source, receiver, 10)?;
+    let frame = counted(present, 16u64.wrapping_sub(present), 0);
+    Ok(
+        result == Err(fault)
+            && counts(receiver, 900) == Some(frame)
+            && source.delivered() == delivered,
+    )
+}
+
+/// Whether the rest of it comes later.
+fn goes_on(
+    alloc: Global,
+    source: &mut MemoryTurns,
+    receiver: &mut Receiver,
+    delivered: u64,
+) -> Result<bool, AllocError> {
+    let received = Received {
+        delivered,
+        ended: true,
+    };
+    let result = taken(alloc, source, receiver, 10)?;
+    Ok(result == Ok(received) && counts(receiver, 900) == Some(counted(8, 8, 0)))
+}
+
+/// A source that fails at one call: what came before is taken, and the rest comes later.
 #[test]
 fn received_up_to_a_fault(rt: HostRuntime) -> Result<(), Fail> {
-    let turns = [
-        Some((Path::A, D1)),
-        Some((Path::B, D1)),
-        Some((Path::A, D1)),
-    ];
-    for (call, frame) in [
-        (1u64, counted(0, 16, 0)),
-        (2, counted(8, 8, 0)),
-        (3, counted(8, 8, 0)),
-    ] {
-        let mut source = source(&rt, &turns, call)?;
-        let mut receiver = receiver(&rt);
-        let fault = ReceiveFault {
-            delivered: call - 1,
-            fault: SourceFault::Device,
-        };
-        assert_eq!(rt;
-            taken(&rt, &mut source, &mut receiver, 10)?,
-            Err(fault),
-            "call {call}"
+    for before in 0..3u64 {
+        let mut source = source(rt.alloc(), &THRICE, before + 1)?;
+        let mut receiver = receiver(rt.alloc())?;
+        let present = if before == 0 { 0 } else { 8 };
+        let ends = ends_at_fault(rt.alloc(), &mut source, &mut receiver, before, present)?;
+        met(
+            &rt,
+            ends && goes_on(rt.alloc(), &mut source, &mut receiver, 3 - before)?,
         );
-        assert_eq!(rt; counts(&rt, &receiver), frame, "call {call}");
-        assert_eq!(rt; source.delivered(), call - 1, "call {call}");
-        let rest = received(4 - call, true);
-        assert_eq!(rt;
-            taken(&rt, &mut source, &mut receiver, 10)?,
-            rest,
-            "call {call}"
-        );
-        assert_eq!(rt; counts(&rt, &receiver), counted(8, 8, 0), "call {call}");
     }
     Ok(())
 }
