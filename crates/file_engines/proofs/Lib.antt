@@ -2,3 +2,5 @@ pub mod ReaderFaults
 pub mod CaptureSums
 pub mod SetSums
 pub mod Merged
+pub mod Taken
+pub mod Rotating

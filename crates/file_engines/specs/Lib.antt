@@ -5,3 +5,4 @@ pub mod Line
 pub mod Migrating
 pub mod Receiving
 pub mod Merging
+pub mod Taking

@@ -1,11 +1,13 @@
 //! The engine of `receive`.
-ghost use Rattle.std.specs.Prelude.{◌≡◌, ◌≢◌, ◌≤◌, ◌<◌, ◌⊎◌, ◌∷◌, [], IfErr, OnOk, length, vec_len, sum_by};
+ghost use Rattle.std.specs.Prelude.{◌≡◌, ◌≢◌, ◌≤◌, ◌<◌, ◌⊎◌, ◌∷◌, [], IfErr, IfOk, IfSome, OnOk, Some, length, vec_len, sum_by};
 ghost use Rattle.std.specs.Io.KnownBytes.{Appends};
 ghost use Rattle.capture_file.specs.StateFile.{state_text};
 ghost use Rattle.file_engines.specs.Fault.{Accounts, IfRefused, NoneFailed, OneFailed, counts};
 ghost use Rattle.file_engines.specs.Receiving.{Saves, failures_in};
+ghost use Rattle.file_engines.specs.Taking.{HoldsBy, IsPin, Receives, Stands, TakesFile, TakesFiles, TakesFirst};
 ghost use Rattle.receiver_file.specs.Saved.{kept_of};
 ghost use Rattle.tool_text.specs.Telling.{memory_line};
+ghost use Rattle.tool_text.specs.Timestamps.{AreTimestamps};
 
 use crate::fault::{Fault, Refusal, of_capture};
 use crate::line::Line;
@@ -71,6 +73,10 @@ where
     ensures device { result ≡ 3 → OneFailed (counts (failures_in S.failures sdp.old) (failures_in S.failures sdp.new) ∷ counts (sum_by S.failures captures.old.items) (sum_by S.failures captures.new.items) ∷ counts (K.failures state.old) (K.failures state.new) ∷ counts (O.failures output.old) (O.failures output.new) ∷ counts (F.failures faults.old) (F.failures faults.new) ∷ []) }
     ensures working { result ≢ 3 → NoneFailed (counts (failures_in S.failures sdp.old) (failures_in S.failures sdp.new) ∷ counts (sum_by S.failures captures.old.items) (sum_by S.failures captures.new.items) ∷ counts (K.failures state.old) (K.failures state.new) ∷ counts (O.failures output.old) (O.failures output.new) ∷ counts (F.failures faults.old) (F.failures faults.new) ∷ []) }
     ensures saved { result ≡ 0 → Saves (K.held state.old) (K.held state.new) }
+    // Where the captures tell their octets, what is written is the file of a receiver of the window
+    // and the source that are asked for, which holds the Frames of all their datagrams.
+    ensures taken { result ≡ 0 → Receives wanted.entry.window.now wanted.entry.ssrc.now
+        S.to_give captures.old.items (K.held state.old) (K.held state.new) }
     ensures refused { result ≡ 1 → state.new ≡ state.old }
     ensures silent { result ≡ 0 → faults.new ≡ faults.old }
     ensures memory { result ≡ 4 → Appends (F.held faults.old) (F.held faults.new) memory_line }
@@ -99,6 +105,8 @@ where
     K: ByteSink,
     O: ByteSink,
     ensures saved { OnOk result (Saves (K.held state.old) (K.held state.new)) }
+    ensures taken { OnOk result (Receives wanted.entry.window.now wanted.entry.ssrc.now
+        S.to_give captures.old.items (K.held state.old) (K.held state.new)) }
     ensures refused { IfErr result (λ f. IfRefused f (state.new ≡ state.old)) }
     ensures failures { Accounts result (counts (failures_in S.failures sdp.old) (failures_in S.failures sdp.new) ∷ counts (sum_by S.failures captures.old.items) (sum_by S.failures captures.new.items) ∷ counts (K.failures state.old) (K.failures state.new) ∷ counts (O.failures output.old) (O.failures output.new) ∷ []) }
 {
@@ -127,7 +135,9 @@ pub(crate) fn save<A: Allocator, K: ByteSink>(
 
 /// Reads the words.
 fn read_opening<A: Allocator + Copy>(alloc: A, wanted: Wanted<'_>) -> Result<Opening<A>, Fault>
-    ensures { Accounts result [] }
+    ensures window { IfOk result (λ o. AreTimestamps wanted.entry.window.now o.window.items) }
+    ensures source { IfOk result (λ o. IsPin wanted.entry.ssrc.now o.ssrc) }
+    ensures failures { Accounts result [] }
 {
     let Some(window) = read_timestamps(alloc, wanted.window)? else {
         return Err(Fault::Refused(Refusal::ReceiveWindow));
@@ -139,7 +149,9 @@ fn read_opening<A: Allocator + Copy>(alloc: A, wanted: Wanted<'_>) -> Result<Ope
 }
 
 /// A source that is pinned, or none.
-fn read_source(text: &[u8]) -> Option<Option<u32>> {
+fn read_source(text: &[u8]) -> Option<Option<u32>>
+    ensures { IfSome result (λ ssrc. IsPin text.now ssrc) }
+{
     if text == b"any".as_slice() {
         return Some(None);
     }
@@ -152,7 +164,8 @@ fn begin<A: Allocator + Copy, S: ByteSource>(
     opening: &Opening<A>,
     sdp: &mut Option<S>,
 ) -> Result<Option<Session<A>>, Fault>
-    ensures { Accounts result (counts (failures_in S.failures sdp.old) (failures_in S.failures sdp.new) ∷ []) }
+    ensures begun { IfOk result (λ begun. Stands opening.now begun []) }
+    ensures failures { Accounts result (counts (failures_in S.failures sdp.old) (failures_in S.failures sdp.new) ∷ []) }
 {
     match sdp {
         None => Ok(None),
@@ -169,7 +182,8 @@ fn open_by_sdp<A: Allocator + Copy, S: ByteSource>(
     opening: &Opening<A>,
     source: &mut S,
 ) -> Result<Session<A>, Fault>
-    ensures { Accounts result (counts (S.failures source.old) (S.failures source.new) ∷ []) }
+    ensures opened { IfOk result (λ s. HoldsBy opening.now s []) }
+    ensures failures { Accounts result (counts (S.failures source.old) (S.failures source.new) ∷ []) }
 {
     let Some(said) = read_text(alloc, source, SDP)? else {
         return Err(Fault::Refused(Refusal::ReceiveSdp));
@@ -184,7 +198,9 @@ fn take_captures<A: Allocator + Copy, S: ByteSource>(
     mut begun: Option<Session<A>>,
     captures: &mut Vec<S, A>,
 ) -> Result<Session<A>, Fault>
-    ensures { Accounts result (counts (sum_by S.failures captures.old.items) (sum_by S.failures captures.new.items) ∷ []) }
+    ensures taken { IfOk result
+        (λ s. TakesFiles opening.now S.to_give captures.old.items begun (Some s)) }
+    ensures failures { Accounts result (counts (sum_by S.failures captures.old.items) (sum_by S.failures captures.new.items) ∷ []) }
 {
     let mut buf = room(alloc)?;
     let mut said = room(alloc)?;
@@ -206,6 +222,8 @@ fn take_all<A: Allocator + Copy, S: ByteSource>(
 ) -> Result<(), Fault>
     requires text { 65535 ≤ length said.old }
     requires room { 65535 ≤ length buf.old }
+    ensures taken { OnOk result
+        (TakesFiles opening.now S.to_give captures.old.items begun.old begun.new) }
     ensures failures { Accounts result (counts (sum_by S.failures captures.old.items) (sum_by S.failures captures.new.items) ∷ []) }
 {
     let count = captures.len();
@@ -230,6 +248,8 @@ fn take_next<A: Allocator + Copy, S: ByteSource>(
     ensures text { length said.new ≡ length said.old }
     ensures room { length buf.new ≡ length buf.old }
     ensures len { vec_len captures.new ≡ vec_len captures.old }
+    ensures taken { OnOk result (TakesFirst opening.now S.to_give
+        captures.old.items captures.new.items begun.old begun.new) }
     ensures failures { Accounts result (counts (sum_by S.failures captures.old.items) (sum_by S.failures captures.new.items) ∷ []) }
 {
     let capture = captures.remove(0);
@@ -251,21 +271,23 @@ fn take_one<A: Allocator + Copy, S: ByteSource>(
     requires room { 65535 ≤ length buf.old }
     ensures text { length said.new ≡ length said.old }
     ensures room { length buf.new ≡ length buf.old }
+    ensures taken { OnOk result.1 (TakesFile opening.now (S.to_give capture) begun.old begun.new) }
     ensures failures { Accounts result.1 (counts (S.failures capture) (S.failures result.0) ∷ []) }
 {
     let reader = match CaptureReader::open(capture, said) {
         Ok(reader) => reader,
         Err((fault, capture)) => return (capture, Err(of_capture(fault))),
     };
-    if begun.is_none() {
-        match open_by_text(alloc, opening, &said[..reader.text_len()]) {
-            Ok(session) => *begun = Some(session),
-            Err(fault) => return (reader.into_inner(), Err(fault)),
-        }
+    if let Some(session) = begun {
+        return session.take_capture(reader, buf);
     }
-    match begun {
-        Some(session) => session.take_capture(reader, buf),
-        None => (reader.into_inner(), Ok(())),
+    match open_by_text(alloc, opening, &said[..reader.text_len()]) {
+        Ok(mut session) => {
+            let taken = session.take_capture(reader, buf);
+            *begun = Some(session);
+            taken
+        }
+        Err(fault) => (reader.into_inner(), Err(fault)),
     }
 }
 
@@ -275,7 +297,8 @@ fn open_by_text<A: Allocator + Copy>(
     opening: &Opening<A>,
     said: &[u8],
 ) -> Result<Session<A>, Fault>
-    ensures { Accounts result [] }
+    ensures opened { IfOk result (λ s. HoldsBy opening.now s []) }
+    ensures failures { Accounts result [] }
 {
     if said.is_empty() {
         return Err(Fault::Refused(Refusal::ReceiveNoSdp));

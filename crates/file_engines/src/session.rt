@@ -1,8 +1,11 @@
 //! Taking the datagrams of captures into one receiver.
-ghost use Rattle.std.specs.Prelude.{◌≡◌, ◌≤◌, ◌<◌, ◌∷◌, [], length, IfOk, IfSome};
+ghost use Rattle.std.specs.Prelude.{◌≡◌, ◌≤◌, ◌<◌, ◌∷◌, [], length, IfOk, IfSome, OnOk};
+ghost use Rattle.capture_file.specs.Reader.{turns_of};
 ghost use Rattle.capture_file.specs.declared.reader.Standing.TheVariants.{Reads};
 ghost use Rattle.file_engines.specs.Fault.{Accounts, counts};
 ghost use Rattle.file_engines.specs.Receiving.{told_fault};
+ghost use Rattle.file_engines.specs.Taking.{TakesAllDue, TakesRecord, TakesRecords};
+ghost use Rattle.path_merge.specs.Frames.{Holds};
 
 use crate::fault::{Fault, Refusal, of_capture};
 use crate::tally::Tally;
@@ -32,7 +35,11 @@ impl<A: Allocator + Copy> Session<A> {
         ssrc: Option<u32>,
         window: &[u32],
     ) -> Result<Session<A>, Fault>
-        ensures { Accounts result [] }
+        ensures window { IfOk result (λ s. s.receiver.opening.window ≡ window.now) }
+        ensures ssrc { IfOk result (λ s. s.receiver.opening.ssrc ≡ ssrc) }
+        ensures holds { IfOk result (λ s. Holds s.receiver []) }
+        ensures delivered { IfOk result (λ s. s.delivered ≡ 0) }
+        ensures failures { Accounts result [] }
     {
         let said = read_sdp(alloc, sdp)?;
         let receiver = Receiver::open(alloc, said.format, said.payload_type, ssrc, window)?;
@@ -57,17 +64,16 @@ impl<A: Allocator> Session<A> {
         requires room { 65535 ≤ length buf.old }
         requires reads { reader.standing ≡ Reads }
         ensures room { length buf.new ≡ length buf.old }
+        ensures taken { OnOk result.1 (TakesRecords (S.to_give reader.source) self.old self.new) }
         ensures failures { Accounts result.1 (counts (S.failures reader.source) (S.failures result.0) ∷ []) }
     {
-        let taken = take_records(&mut reader, &mut self.receiver, &mut self.tally, buf);
-        let outcome = match taken {
+        match take_records(&mut reader, &mut self.receiver, &mut self.tally, buf) {
             Ok(delivered) => {
                 self.delivered = self.delivered.saturating_add(delivered);
-                Ok(())
+                (reader.into_inner(), Ok(()))
             }
-            Err(fault) => Err(fault),
-        };
-        (reader.into_inner(), outcome)
+            Err(fault) => (reader.into_inner(), Err(fault)),
+        }
     }
 }
 
@@ -81,8 +87,12 @@ fn take_records<S: ByteSource, A: Allocator>(
     requires room { 65535 ≤ length buf.old }
     requires reads { reader.old.standing ≡ Reads }
     ensures room { length buf.new ≡ length buf.old }
+    ensures taken { IfOk result (λ n. TakesAllDue n
+        (turns_of reader.old.standing (S.to_give reader.old.source)) receiver.old receiver.new) }
     ensures failures { Accounts result (counts (S.failures reader.old.source) (S.failures reader.new.source) ∷ []) }
 {
+    // Says what a receiver always is.
+    let _ = receiver.format();
     let mut delivered = 0;
     for _ in 0..TURNS {
         let Some((path, count)) = next_record(reader, buf)? else {
@@ -104,11 +114,15 @@ fn next_record<S: ByteSource>(
     ensures room { length buf.new ≡ length buf.old }
     ensures within { IfOk result (λ r. IfSome r (λ p. p.1 < 65536)) }
     ensures reads { IfOk result (λ r. IfSome r (λ _. reader.new.standing ≡ Reads)) }
+    ensures taken { IfOk result (λ r. TakesRecord
+        (turns_of reader.old.standing (S.to_give reader.old.source))
+        (turns_of reader.new.standing (S.to_give reader.new.source)) r buf.new) }
     ensures failures { Accounts result (counts (S.failures reader.old.source) (S.failures reader.new.source) ∷ []) }
 {
     match reader.next(buf) {
         Ok(Turn::Datagram(path, count)) => Ok(Some((path, count))),
-        Ok(_) => Ok(None),
+        Ok(Turn::Quiet) => Ok(None),
+        Ok(Turn::End) => Ok(None),
         Err(fault) => Err(reader_fault(fault)),
     }
 }

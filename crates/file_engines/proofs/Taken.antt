@@ -1,0 +1,155 @@
+-- What was taken of one capture.
+use Rattle.std.proofs.Common.{◌≡◌, ℕ, ◌+◌, ◌-◌, ◌^◌, ◌<◌, min, List, [], ◌∷◌, ◌++◌, length, take, drop, get_or, Option, None, Some, Result, Ok, Err, refl, sym, ap, subst, ◌∙◌, arith, append-nil, length-append}
+use Rattle.std.specs.Option.{option_map}
+use Rattle.std.specs.Prelude.{OnOk}
+use Rattle.st_format.specs.Raster.{Raster}
+use Rattle.st_format.specs.Turns.{Due, GivesTurns, HasEnded, TakesTurn, datagrams_of}
+use Rattle.st_format.specs.declared.device.Turn.{Turn}
+use Rattle.capture_file.specs.Fields.{Gives}
+use Rattle.capture_file.specs.Fronts.{front_at}
+use Rattle.capture_file.specs.Reader.{dues_in, turns_of}
+use Rattle.capture_file.specs.declared.reader.Standing.{Standing}
+use Rattle.capture_file.specs.declared.reader.Standing.TheVariants.{Reads}
+use Rattle.path_merge.specs.Frames.{Holds, State, frames_of, joined_frames}
+use Rattle.path_merge.specs.Opening.{Opening as Opened}
+use Rattle.path_merge.specs.Took.{TakesDue}
+use Rattle.path_merge.proofs.Frames.{frames_of-append}
+use Rattle.path_merge.proofs.TurnLemmas.{SoFar}
+use Rattle.file_engines.specs.Taking.{AreAll, HoldsBy, TakesAllDue, TakesFile, TakesFirst, TakesRecords, capture_datagrams, datagrams_behind}
+use Rattle.file_engines.specs.declared.receive.Opening.{Opening}
+use Rattle.file_engines.specs.declared.session.Session.{Session}
+
+-- ---- turns
+
+all_given : (old now : Option (List Due)) (due : List Due) → GivesTurns old now due
+    → HasEnded now → AreAll old due
+all_given None now due given ended = tt
+all_given (Some a) None due given ended = absurd given
+all_given (Some a) (Some b) due given ended = given ∙ ap (λ (l : List Due). due ++ l) ended
+    ∙ append-nil due
+
+-- at the end, all turns were taken
+pub all_taken : (k n : ℕ) (old now : Option (List Due)) (s t : State) → SoFar k n old now s t
+    → HasEnded now → TakesAllDue n old s t
+all_taken k n old now s t so_far ended = record {
+  due = so_far.due;
+  all = all_given old now so_far.due so_far.given ended;
+  taken = so_far.taken;
+}
+
+-- ---- records
+
+dues_are : (stands : Standing) (to_give : Option (List ℕ)) (due : List Due) (octets : List ℕ)
+    → stands ≡ Reads → AreAll (turns_of stands to_give) due → to_give ≡ Some octets
+    → dues_in octets ≡ due
+dues_are stands to_give due octets reads all told =
+    subst (λ (o : Option (List ℕ)). AreAll (option_map dues_in o) due) told
+    (subst (λ (x : Standing). AreAll (turns_of x to_give) due) reads all)
+
+holds_more : (n : ℕ) (due : List Due) (s t : State) (octets : List ℕ) (ds : List (List ℕ))
+    → TakesDue due n s t → dues_in octets ≡ due → Holds s ds
+    → Holds t (ds ++ datagrams_of (dues_in octets))
+holds_more n due s t octets ds taken is holds =
+    let xs : List (List ℕ) = datagrams_of due in
+    taken.frames ∙ ap (λ (rs : List Raster). joined_frames rs (frames_of s.opening xs)) holds
+    ∙ sym (frames_of-append s.opening ds xs)
+    ∙ ap (λ (o : Opened). frames_of o (ds ++ xs)) (sym taken.opening)
+    ∙ ap (λ (ts : List Due). frames_of t.opening (ds ++ datagrams_of ts)) (sym is)
+
+pub records_taken : {A : Type 0} (b a : Session A) (n : ℕ) (stands : Standing)
+    (to_give : Option (List ℕ)) → stands ≡ Reads
+    → TakesAllDue n (turns_of stands to_give) b.receiver a.receiver
+    → a.delivered ≡ min (b.delivered + n) (2 ^ 64 - 1) → TakesRecords to_give b a
+records_taken b a n stands to_give reads all counted = record {
+  opening = all.taken.opening;
+  holds = λ octets ds told holds. holds_more n all.due b.receiver a.receiver octets ds all.taken
+      (dues_are stands to_give all.due octets reads all.all told) holds;
+  delivered = λ octets told.
+      let is : dues_in octets ≡ all.due = dues_are stands to_give all.due octets reads all.all told
+      in
+      counted ∙ ap (λ (m : ℕ). min (b.delivered + m) (2 ^ 64 - 1))
+      (sym (ap (λ (ts : List Due). length (datagrams_of ts)) is ∙ all.taken.count));
+}
+
+-- ---- a capture
+
+front_gives : (told left : Option (List ℕ)) (text octets : List ℕ)
+    → Gives front_at told left text → told ≡ Some octets
+    → (rest : List ℕ) × (left ≡ Some rest) × (front_at octets ≡ Ok (text, rest))
+front_gives told None text octets gives is = absurd
+    (subst (λ (t : Option (List ℕ)). Gives front_at t None text) is gives)
+front_gives told (Some rest) text octets gives is =
+    (rest, refl, subst (λ (t : Option (List ℕ)). Gives front_at t (Some rest) text) is gives)
+
+holds_by : {A : Type 0} (o : Opening A) (b a : Session A) (told left : Option (List ℕ))
+    (text octets : List ℕ) (ds : List (List ℕ)) → Gives front_at told left text
+    → TakesRecords left b a → told ≡ Some octets
+    → HoldsBy o b ds → HoldsBy o a (ds ++ capture_datagrams octets)
+holds_by o b a told left text octets ds gives taken is holds =
+    let f : (rest : List ℕ) × (left ≡ Some rest) × (front_at octets ≡ Ok (text, rest)) = front_gives
+    told left text octets gives is in
+    let more : List (List ℕ) = datagrams_of (dues_in f.0) in
+    let same : capture_datagrams octets ≡ more = ap datagrams_behind f.2 in
+    let count : a.delivered ≡ min (b.delivered + length more) (2 ^ 64 - 1) = taken.delivered f.0 f.1
+    in
+    subst (λ (xs : List (List ℕ)). HoldsBy o a (ds ++ xs)) (sym same) (record {
+      window = ap (λ (p : Opened). p.window) taken.opening ∙ holds.window;
+      ssrc = ap (λ (p : Opened). p.ssrc) taken.opening ∙ holds.ssrc;
+      holds = taken.holds f.0 ds f.1 holds.holds;
+      delivered = omega (arith, count, holds.delivered, length-append ds more);
+    })
+
+-- by a session that had begun
+pub file_taken : {A : Type 0} (o : Opening A) (b a : Session A) (told left : Option (List ℕ))
+    (text : List ℕ) → Gives front_at told left text → TakesRecords left b a
+    → TakesFile o told (Some b) (Some a)
+file_taken o b a told left text gives taken = record
+    { stands = λ octets ds is holds. holds_by o b a told left text octets ds gives taken is holds }
+
+-- by one that began with it
+pub first_taken : {A : Type 0} (o : Opening A) (b a : Session A) (told left : Option (List ℕ))
+    (text : List ℕ) → Gives front_at told left text → TakesRecords left b a → HoldsBy o b []
+    → TakesFile o told None (Some a)
+first_taken o b a told left text gives taken begun = record {
+  stands = λ octets ds is none. holds_by o b a told left text octets ds gives taken is
+      (subst (λ (xs : List (List ℕ)). HoldsBy o b xs) (sym none) begun);
+}
+
+-- the capture was taken out of a list, and its source then stands last
+pub takes_first : {S A : Type 0} (o : Opening A) (f : S → Option (List ℕ)) (xs ys : List S)
+    (x y : S) (b a : Option (Session A)) → 0 < length xs → x ≡ get_or xs 0 x
+    → ys ≡ (take 0 xs ++ drop 1 xs) ++ y ∷ [] → TakesFile o (f x) b a → TakesFirst o f xs ys b a
+takes_first o f [] ys x y b a some is new taken = absurd (omega arith)
+takes_first o f (z ∷ zs) ys x y b a some is new taken = record {
+  first = z;
+  more = zs;
+  last = y;
+  old_is = refl;
+  new_is = new;
+  taken = record {
+    stands = λ octets ds told stands. taken.stands octets ds (ap f is ∙ told) stands;
+  };
+}
+
+-- the same where it was taken at all
+pub file_taken_if : {A V E : Type 0} (o : Opening A) (begun : Option (Session A)) (b a : Session A)
+    (told left : Option (List ℕ)) (text : List ℕ) (r : Result V E) → begun ≡ Some b
+    → Gives front_at told left text → OnOk r (TakesRecords left b a)
+    → OnOk r (TakesFile o told begun (Some a))
+file_taken_if {A = A} o begun b a told left text (Ok v) is gives taken = subst
+    (λ (s : Option (Session A)). TakesFile o told s (Some a)) (sym is)
+    (file_taken o b a told left text gives taken)
+file_taken_if o begun b a told left text (Err e) is gives taken = tt
+
+pub first_taken_if : {A V E : Type 0} (o : Opening A) (begun : Option (Session A)) (b a : Session A)
+    (told left : Option (List ℕ)) (text : List ℕ) (r : Result V E) → begun ≡ None
+    → Gives front_at told left text → HoldsBy o b [] → OnOk r (TakesRecords left b a)
+    → OnOk r (TakesFile o told begun (Some a))
+first_taken_if {A = A} o begun b a told left text (Ok v) is gives opened taken = subst
+    (λ (s : Option (Session A)). TakesFile o told s (Some a)) (sym is)
+    (first_taken o b a told left text gives taken opened)
+first_taken_if o begun b a told left text (Err e) is gives opened taken = tt
+
+pub none_begun : {X : Type 0} (o : Option X) → ((x : X) → o ≡ Some x → ⊥) → o ≡ None
+none_begun None not = refl
+none_begun (Some x) not = absurd (not x refl)

@@ -1,0 +1,22 @@
+use Rattle.std.proofs.Common.{take}
+use Rattle.file_engines.proofs.Taken.{file_taken_if, first_taken_if, none_begun}
+use Rattle.file_engines.proofs.receive.take_one.Goals as goal
+
+pub returns-in-Some-clause-taken : goal.returns-in-Some-clause-taken
+returns-in-Some-clause-taken g c =
+    let to_give = g.S.ByteSource.to_give in
+    let reader = c.in-Ok.reader in
+    file_taken_if c.args.opening.now c.args.begun.now _ _ (to_give c.args.capture)
+    (to_give reader.source)
+    (take reader.text_len c.open.new.text) c.take_capture.result.1 c.in-Some.is c.in-Ok.ensures.read
+    c.take_capture.ensures.taken
+
+pub returns-in-Ok-open_by_text-clause-taken : goal.returns-in-Ok-open_by_text-clause-taken
+returns-in-Ok-open_by_text-clause-taken g c =
+    let to_give = g.S.ByteSource.to_give in
+    let reader = c.in-Ok.reader in
+    first_taken_if c.args.opening.now c.args.begun.now _ _ (to_give c.args.capture)
+    (to_give reader.source)
+    (take reader.text_len c.open.new.text) c.take_capture-taken.result.1
+    (none_begun c.args.begun.now c.in_default.not-Some) c.in-Ok.ensures.read
+    c.in-Ok-open_by_text.ensures.opened c.take_capture-taken.ensures.taken

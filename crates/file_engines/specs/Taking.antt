@@ -1,0 +1,126 @@
+-- Which datagrams `receive` takes.
+use Rattle.std.specs.Prelude.{◌≡◌, ℕ, ◌+◌, ◌-◌, ◌^◌, min, List, [], ◌∷◌, ◌++◌, length, codes, ⊤, Option, None, Some, Result, Ok, Err}
+use Rattle.std.specs.List.{flat_map}
+use Rattle.std.specs.Io.KnownBytes.{Appends}
+use Rattle.st_format.specs.Turns.{Due, HasEnded, TakesTurn, datagrams_of}
+use Rattle.st_format.specs.declared.device.Turn.TheVariants.{Datagram}
+use Rattle.st_format.specs.declared.path.Path.{Path}
+use Rattle.capture_file.specs.Fronts.{front_at}
+use Rattle.capture_file.specs.Reader.{dues_in}
+use Rattle.capture_file.specs.StateFile.{state_text}
+use Rattle.capture_file.specs.declared.fault.FileFault.{FileFault}
+use Rattle.path_merge.specs.Frames.{Holds, State}
+use Rattle.path_merge.specs.Took.{TakesDue}
+use Rattle.receiver_file.specs.Saved.{kept_of}
+use Rattle.tool_text.specs.Timestamps.{AreTimestamps, Spells}
+use Rattle.file_engines.specs.declared.receive.Opening.{Opening}
+use Rattle.file_engines.specs.declared.session.Session.{Session}
+
+-- the datagrams of a capture: those of the records behind its front, up to the first fault
+abbrev pub datagrams_behind : Result (List ℕ × List ℕ) FileFault → List (List ℕ)
+datagrams_behind (Ok x) = datagrams_of (dues_in x.1)
+datagrams_behind (Err f) = []
+
+abbrev pub capture_datagrams : List ℕ → List (List ℕ)
+capture_datagrams octets = datagrams_behind (front_at octets)
+
+-- sources are to give these octets, one each
+abbrev pub AllTell : {S : Type 0} → (S → Option (List ℕ)) → List S → List (List ℕ) → Type 0
+AllTell to_give [] [] = ⊤
+AllTell to_give [] (o ∷ os) = ⊥
+AllTell to_give (s ∷ ss) [] = ⊥
+AllTell to_give (s ∷ ss) (o ∷ os) = (to_give s ≡ Some o) × AllTell to_give ss os
+
+-- the text of a source that is pinned, or of none
+abbrev pub IsPin : List ℕ → Option ℕ → Type 0
+IsPin text None = text ≡ codes "any"
+IsPin text (Some ssrc) = Spells text ssrc
+
+-- ---- one capture
+
+-- the next turn was a datagram, or there was none
+abbrev pub TakesRecord : Option (List Due) → Option (List Due) → Option (Path × ℕ) → List ℕ → Type 0
+TakesRecord old new None buf = HasEnded old
+TakesRecord old new (Some p) buf = TakesTurn old new (Datagram p.0 p.1) buf
+
+-- these are all turns to come, where they are told
+abbrev pub AreAll : Option (List Due) → List Due → Type 0
+AreAll None due = ⊤
+AreAll (Some turns) due = turns ≡ due
+
+-- a receiver took the datagrams of all turns to come, so many
+pub record TakesAllDue (delivered : ℕ) (turns : Option (List Due)) (before after : State) : Type 0
+  where
+    pub due : List Due
+    pub all : AreAll turns due
+    pub taken : TakesDue due delivered before after
+
+-- A session took all records that a source was to give: what its receiver holds, and how many were
+-- delivered.
+pub record TakesRecords {A : Type 0} (to_give : Option (List ℕ)) (before after : Session A) : Type 0
+  where
+    pub opening : after.receiver.opening ≡ before.receiver.opening
+    pub holds : (octets : List ℕ) (datagrams : List (List ℕ)) → to_give ≡ Some octets
+        → Holds before.receiver datagrams
+        → Holds after.receiver (datagrams ++ datagrams_of (dues_in octets))
+    pub delivered : (octets : List ℕ) → to_give ≡ Some octets
+        → after.delivered ≡ min (before.delivered + length (datagrams_of (dues_in octets)))
+        (2 ^ 64 - 1)
+
+-- ---- captures, one after the other
+
+-- A session's receiver was opened with what the words said, it holds the Frames of these
+-- datagrams, and so many were
+-- delivered.
+pub record HoldsBy {A : Type 0} (o : Opening A) (s : Session A) (datagrams : List (List ℕ)) : Type 0
+  where
+    pub window : s.receiver.opening.window ≡ o.window.items
+    pub ssrc : s.receiver.opening.ssrc ≡ o.ssrc
+    pub holds : Holds s.receiver datagrams
+    pub delivered : s.delivered ≡ min (length datagrams) (2 ^ 64 - 1)
+
+-- the same of a session, or that none has begun
+abbrev pub Stands : {A : Type 0} → Opening A → Option (Session A) → List (List ℕ) → Type 0
+Stands o None datagrams = datagrams ≡ []
+Stands o (Some s) datagrams = HoldsBy o s datagrams
+
+-- a capture was taken
+pub record TakesFile {A : Type 0} (o : Opening A) (to_give : Option (List ℕ))
+    (before after : Option (Session A)) : Type 0 where
+  pub stands : (octets : List ℕ) (datagrams : List (List ℕ)) → to_give ≡ Some octets
+      → Stands o before datagrams → Stands o after (datagrams ++ capture_datagrams octets)
+
+-- the first of some captures was taken, and then stands last
+pub record TakesFirst {S A : Type 0} (o : Opening A) (to_give : S → Option (List ℕ))
+    (old new : List S) (before after : Option (Session A)) : Type 0 where
+  pub first : S
+  pub more : List S
+  pub last : S
+  pub old_is : old ≡ first ∷ more
+  pub new_is : new ≡ more ++ last ∷ []
+  pub taken : TakesFile o (to_give first) before after
+
+-- all of them were taken, in their order
+pub record TakesFiles {S A : Type 0} (o : Opening A) (to_give : S → Option (List ℕ))
+    (captures : List S) (before after : Option (Session A)) : Type 0 where
+  pub stands : (octets : List (List ℕ)) (datagrams : List (List ℕ))
+      → AllTell to_give captures octets
+      → Stands o before datagrams → Stands o after (datagrams ++ flat_map capture_datagrams octets)
+
+-- ---- the run
+
+-- A sink took the file of a receiver that was opened with this window and source, and holds the
+-- Frames of these datagrams.
+pub record SavesHolding (window source : List ℕ) (datagrams : List (List ℕ))
+    (old new : Option (List ℕ)) : Type 0 where
+  pub receiver : State
+  pub window_is : AreTimestamps window receiver.opening.window
+  pub source_is : IsPin source receiver.opening.ssrc
+  pub holds : Holds receiver datagrams
+  pub taken : Appends old new (state_text (kept_of receiver))
+
+-- so it is where captures tell their octets: the datagrams are all of theirs, in order
+pub record Receives {S : Type 0} (window source : List ℕ) (to_give : S → Option (List ℕ))
+    (captures : List S) (old new : Option (List ℕ)) : Type 0 where
+  pub saved : (octets : List (List ℕ)) → AllTell to_give captures octets
+      → SavesHolding window source (flat_map capture_datagrams octets) old new
