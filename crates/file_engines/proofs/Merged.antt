@@ -8,7 +8,7 @@ use Rattle.path_merge.specs.Frames.{Holds, State, frames_of, joined_frames}
 use Rattle.path_merge.specs.Opening.{Opening}
 use Rattle.path_merge.proofs.Frames.{frames_of-append}
 use Rattle.receiver_file.specs.Saved.{kept_of}
-use Rattle.file_engines.specs.Merging.{GivesReceiver, IsAgain, Joins, Merges, SavesMerged, merged}
+use Rattle.file_engines.specs.Merging.{IsAgain, Joins, Merges, merged}
 
 -- what follows from what holds after a success
 pub on_ok : {V E : Type 0} (r : Result V E) (P Q : Type 0) → (P → Q) → OnOk r P → OnOk r Q

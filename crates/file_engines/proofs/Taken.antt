@@ -3,8 +3,7 @@ use Rattle.std.proofs.Common.{◌≡◌, ℕ, ◌+◌, ◌-◌, ◌^◌, ◌<◌
 use Rattle.std.specs.Option.{option_map}
 use Rattle.std.specs.Prelude.{OnOk}
 use Rattle.st_format.specs.Raster.{Raster}
-use Rattle.st_format.specs.Turns.{Due, GivesTurns, HasEnded, TakesTurn, datagrams_of}
-use Rattle.st_format.specs.declared.device.Turn.{Turn}
+use Rattle.st_format.specs.Turns.{Due, GivesTurns, HasEnded, datagrams_of}
 use Rattle.capture_file.specs.Fields.{Gives}
 use Rattle.capture_file.specs.Fronts.{front_at}
 use Rattle.capture_file.specs.Reader.{dues_in, turns_of}
