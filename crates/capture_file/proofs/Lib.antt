@@ -19,3 +19,9 @@ pub mod Spelt
 pub mod Versions
 pub mod Raster
 pub mod Seen
+pub mod Failing
+pub mod KindFaults
+pub mod RecordFaults
+pub mod CaptureFaults
+pub mod BlockFaults
+pub mod PictureFaults

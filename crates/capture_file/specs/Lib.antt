@@ -13,3 +13,6 @@ pub mod StateFile
 pub mod Migrated
 pub mod Blocks
 pub mod PictureFile
+pub mod KindFaults
+pub mod CaptureFaults
+pub mod PictureFaults

@@ -1,13 +1,16 @@
 //! Laws of the definitions.
-ghost use Rattle.std.specs.Prelude.{◌*◌, ◌≡◌, ◌≤◌, ℕ, Ok, List, [], ◌++◌, length, map};
+ghost use Rattle.std.specs.Prelude.{◌*◌, ◌≡◌, ◌≤◌, ◌↔◌, ◌⊎◌, ℕ, Some, Ok, Err, List, [], ◌++◌, length, map};
 ghost use Rattle.st_format.specs.declared.cell.Cell.{Cell};
 ghost use Rattle.st_format.specs.Device.{AreOctets};
 ghost use Rattle.st_format.specs.Picture.{IsPicture, Values};
 ghost use Rattle.st_format.specs.Turns.{Due};
+ghost use Rattle.capture_file.specs.declared.fault.FileFault.{FileFault};
 ghost use Rattle.capture_file.specs.Capture.{Content, IsCapture, capture_at};
+ghost use Rattle.capture_file.specs.CaptureFaults.{CaptureFault, RecordFault};
+ghost use Rattle.capture_file.specs.PictureFaults.{PictureFault};
 ghost use Rattle.capture_file.specs.PictureFile.{picture_at, picture_text, shown_of};
 ghost use Rattle.capture_file.specs.Reader.{due_of, dues_in};
-ghost use Rattle.capture_file.specs.Reading.{entries_in};
+ghost use Rattle.capture_file.specs.Reading.{entries_in, fault_at};
 ghost use Rattle.capture_file.specs.Records.{Entry};
 ghost use Rattle.capture_file.specs.Runs.{IsRun};
 ghost use Rattle.capture_file.specs.StateFile.{IsKept, Kept, cut_cells, state_text};
@@ -37,6 +40,31 @@ pub fn one_content()
     ensures { (c d : Content) (octets : List ℕ) → IsCapture c octets → IsCapture d octets → c ≡ d }
 {}
 
+/// What is wrong at the front of octets is a record's fault exactly where the fault's condition holds.
+pub fn record_fault()
+    ensures { (f : FileFault) (octets : List ℕ)
+        → (fault_at octets ≡ Some f) ↔ RecordFault f octets }
+{}
+
+/// Octets are read as a capture with a fault exactly where the fault's condition holds.
+pub fn capture_fault()
+    ensures { (limit : ℕ) (f : FileFault) (octets : List ℕ) → AreOctets octets
+        → (capture_at limit octets ≡ Err f) ↔ CaptureFault limit f octets }
+{}
+
+/// At most one fault's condition holds of a capture.
+pub fn one_capture_fault()
+    ensures { (limit : ℕ) (f g : FileFault) (octets : List ℕ)
+        → CaptureFault limit f octets → CaptureFault limit g octets → f ≡ g }
+{}
+
+/// Octets are a capture of at most so many records, or a fault's condition holds of them.
+pub fn capture_or_fault()
+    ensures { (limit : ℕ) (octets : List ℕ) → AreOctets octets
+        → ((c : Content) × IsCapture c octets × (length c.records ≤ limit))
+        ⊎ ((f : FileFault) × CaptureFault limit f octets) }
+{}
+
 /// A receiver has one file: two that have equal files have the same format, payload type, source, timestamps and cells.
 /// That equal ones have equal files is plain, since the text is a function of these.
 pub fn one_file()
@@ -57,4 +85,16 @@ pub fn picture_read()
 /// equal files is plain, since the text is a function of these.
 pub fn one_picture()
     ensures { (p q : Values) → IsPicture p → IsPicture q → picture_text p ≡ picture_text q → shown_of p ≡ shown_of q }
+{}
+
+/// Octets are read as a picture with a fault exactly where the fault's condition holds.
+pub fn picture_fault()
+    ensures { (f : FileFault) (octets : List ℕ) → AreOctets octets
+        → (picture_at octets ≡ Err f) ↔ PictureFault f octets }
+{}
+
+/// At most one fault's condition holds of a picture's file.
+pub fn one_picture_fault()
+    ensures { (f g : FileFault) (octets : List ℕ) → AreOctets octets
+        → PictureFault f octets → PictureFault g octets → f ≡ g }
 {}

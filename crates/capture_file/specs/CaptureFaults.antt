@@ -1,0 +1,81 @@
+-- The faults of a capture (own): each a condition of its own on the octets, with no step of reading
+-- in it. Laws say that at most one holds, that one holds where the octets are no capture within the
+-- limit, and that a capture is read with a fault exactly where the fault's condition holds.
+use Rattle.std.specs.Prelude.{◌≡◌, ℕ, ◌+◌, ◌<◌, ◌≤◌, List, ◌++◌, length, take, drop, slice_index}
+use Rattle.std.specs.Int.{w16, from_be_bytes}
+use Rattle.capture_file.specs.declared.fault.FileFault.{FileFault}
+use Rattle.capture_file.specs.declared.fault.FileFault.TheVariants.{BadName, BadVersion, Truncated, BadField, TooManyRecords}
+use Rattle.capture_file.specs.declared.front.Version.TheVariants.{Two}
+use Rattle.capture_file.specs.Capture.{Content, IsCapture}
+use Rattle.capture_file.specs.Fronts.{capture_name, kind_text}
+use Rattle.capture_file.specs.KindFaults.{HasOtherName, HasOtherVersion, IsCutKind}
+
+-- RECORDS
+
+-- how many octets a record's head says: its last two octets
+abbrev pub count_in : List ℕ → ℕ
+count_in octets = from_be_bytes w16 (take 2 (drop 9 octets))
+
+-- A record begins, and the octets end within its head of eleven octets, or, where its path is one,
+-- within the octets that the head counts.
+pub data IsCutRecord (octets : List ℕ) : Type 0 where
+  Head : 0 < length octets → length octets < 11 → IsCutRecord octets
+  Octets : 11 ≤ length octets → slice_index octets 0 ≤ 1 → length octets < 11 + count_in octets
+      → IsCutRecord octets
+
+-- A whole head whose first octet is no path.
+pub record HasBadPath (octets : List ℕ) : Type 0 where
+  pub head : 11 ≤ length octets
+  pub path : 1 < slice_index octets 0
+
+-- the condition of each fault of a record at the front of octets
+abbrev pub RecordFault : FileFault → List ℕ → Type 0
+RecordFault Truncated octets = IsCutRecord octets
+RecordFault BadField octets = HasBadPath octets
+RecordFault fault octets = ⊥
+
+-- CAPTURES
+
+-- A capture stands at the front, and these octets behind it.
+pub record HasBehind (capture : Content) (behind octets : List ℕ) : Type 0 where
+  pub front : List ℕ
+  pub is : IsCapture capture front
+  pub whole : octets ≡ front ++ behind
+
+-- Version 02, and behind it the octets end within the two of the text's length, or within as many
+-- as these say. (With fewer than two behind, they are too few whatever these say.)
+pub record HasCutText (octets : List ℕ) : Type 0 where
+  pub behind : List ℕ
+  pub whole : octets ≡ kind_text capture_name Two ++ behind
+  pub short : length behind < 2 + from_be_bytes w16 (take 2 behind)
+
+-- Behind a capture of fewer records than the limit stands a record with this fault.
+pub record HasBadRecord (limit : ℕ) (fault : FileFault) (octets : List ℕ) : Type 0 where
+  pub capture : Content
+  pub behind : List ℕ
+  pub stands : HasBehind capture behind octets
+  pub few : length capture.records < limit
+  pub wrong : RecordFault fault behind
+
+-- Behind a capture of as many records as the limit allows stands an octet.
+pub record HasRecordMore (limit : ℕ) (octets : List ℕ) : Type 0 where
+  pub capture : Content
+  pub behind : List ℕ
+  pub stands : HasBehind capture behind octets
+  pub full : length capture.records ≡ limit
+  pub more : 0 < length behind
+
+-- The octets end within name or version, within the text, or within a record.
+pub data IsCutCapture (limit : ℕ) (octets : List ℕ) : Type 0 where
+  Kind : IsCutKind octets → IsCutCapture limit octets
+  Text : HasCutText octets → IsCutCapture limit octets
+  Record : HasBadRecord limit Truncated octets → IsCutCapture limit octets
+
+-- the condition of each fault of a capture of at most so many records, by itself
+abbrev pub CaptureFault : ℕ → FileFault → List ℕ → Type 0
+CaptureFault limit BadName octets = HasOtherName capture_name octets
+CaptureFault limit BadVersion octets = HasOtherVersion capture_name octets
+CaptureFault limit Truncated octets = IsCutCapture limit octets
+CaptureFault limit BadField octets = HasBadRecord limit BadField octets
+CaptureFault limit TooManyRecords octets = HasRecordMore limit octets
+CaptureFault limit fault octets = ⊥

@@ -1,0 +1,71 @@
+-- The faults of a picture's file (own): each a condition of its own on the octets, with no step of
+-- reading in it. Laws say that at most one holds, and that a picture is read with a fault exactly
+-- where the fault's condition holds.
+use Rattle.std.specs.Prelude.{◌≡◌, ◌≢◌, ℕ, ◌<◌, List, ◌++◌, codes, length, Ok}
+use Rattle.st_format.specs.Fields.{Fields, format_at}
+use Rattle.capture_file.specs.declared.fault.FileFault.{FileFault}
+use Rattle.capture_file.specs.declared.fault.FileFault.TheVariants.{BadName, BadVersion, Truncated, BadField, TrailingBytes}
+use Rattle.capture_file.specs.declared.front.Version.TheVariants.{One}
+use Rattle.capture_file.specs.Fronts.{kind_text, picture_name}
+use Rattle.capture_file.specs.KindFaults.{HasKind, HasOtherName, IsCutKind}
+use Rattle.capture_file.specs.PictureFile.{head_of, raster_octets}
+use Rattle.capture_file.specs.StateFile.{HasRoom, format_text}
+
+-- A format that there is, with its rate in lowest terms.
+pub record IsFormat (f : Fields) : Type 0 where
+  pub room : HasRoom f
+  pub is : format_at f.sampling f.depth f.width f.height f.n f.d ≡ Ok f
+
+-- this name, and two octets that are not version 01
+pub record HasOtherThanOne (name octets : List ℕ) : Type 0 where
+  pub version : List ℕ
+  pub kind : HasKind name version octets
+  pub other : version ≢ codes "01"
+
+-- behind name and version the octets end within the fourteen of the format block
+pub record HasCutBlock (octets : List ℕ) : Type 0 where
+  pub behind : List ℕ
+  pub whole : octets ≡ kind_text picture_name One ++ behind
+  pub short : length behind < 14
+
+-- A block of fourteen octets that is the text of no format.
+pub record HasNoFormat (octets : List ℕ) : Type 0 where
+  pub block : List ℕ
+  pub behind : List ℕ
+  pub whole : octets ≡ kind_text picture_name One ++ (block ++ behind)
+  pub long : length block ≡ 14
+  pub none : (f : Fields) → IsFormat f → block ≢ format_text f
+
+-- The head of a picture of some format, and these octets behind it.
+pub record HasHead (format : Fields) (behind octets : List ℕ) : Type 0 where
+  pub is : IsFormat format
+  pub whole : octets ≡ head_of format ++ behind
+
+-- fewer octets behind the head than the pixel groups take
+pub record HasCutGroups (octets : List ℕ) : Type 0 where
+  pub format : Fields
+  pub behind : List ℕ
+  pub head : HasHead format behind octets
+  pub short : length behind < raster_octets format
+
+-- more octets behind the head than the pixel groups take
+pub record HasTrailing (octets : List ℕ) : Type 0 where
+  pub format : Fields
+  pub behind : List ℕ
+  pub head : HasHead format behind octets
+  pub long : raster_octets format < length behind
+
+-- The octets end within name or version, within the format block, or within the pixel groups.
+pub data IsCutPicture (octets : List ℕ) : Type 0 where
+  Kind : IsCutKind octets → IsCutPicture octets
+  Block : HasCutBlock octets → IsCutPicture octets
+  Groups : HasCutGroups octets → IsCutPicture octets
+
+-- the condition of each fault of a picture's file, by itself
+abbrev pub PictureFault : FileFault → List ℕ → Type 0
+PictureFault BadName octets = HasOtherName picture_name octets
+PictureFault BadVersion octets = HasOtherThanOne picture_name octets
+PictureFault Truncated octets = IsCutPicture octets
+PictureFault BadField octets = HasNoFormat octets
+PictureFault TrailingBytes octets = HasTrailing octets
+PictureFault fault octets = ⊥
