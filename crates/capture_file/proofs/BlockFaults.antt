@@ -66,8 +66,8 @@ sampling_fails n e h =
           w.1) [
             | inl u ↦ absurd (not_both Sampling Ycc444 e u.1)
             | inr u ↦ elim
-                (chosen (eqb n 2) (answered Sampling Rgb) (failed Sampling BadField) (failed Sampling e)
-                u.1) [
+                (chosen (eqb n 2) (answered Sampling Rgb) (failed Sampling BadField)
+                (failed Sampling e) u.1) [
                   | inl v ↦ absurd (not_both Sampling Rgb e v.1)
                   | inr v ↦ same_fault Sampling BadField e v.1
                 ]

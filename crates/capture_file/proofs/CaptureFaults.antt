@@ -102,12 +102,12 @@ kind_again : (v : Version) (rest : List ℕ)
     → kind_at capture_name (kind_text capture_name v ++ rest) ≡ Ok (v, rest)
 kind_again v rest = kind_tells capture_name v rest refl
 
-front_cut : (octets : List ℕ) (e : FileFault) → kind_at capture_name octets ≡ Err e
+pub front_cut : (octets : List ℕ) (e : FileFault) → kind_at capture_name octets ≡ Err e
     → front_at octets ≡ Err e
 unfolding front_at
 front_cut octets e h = ap (λ (r : Result (Version × List ℕ) FileFault). r >>= read_front) h
 
-front_short : (octets : List ℕ) → HasCutText octets → front_at octets ≡ Err Truncated
+pub front_short : (octets : List ℕ) → HasCutText octets → front_at octets ≡ Err Truncated
 unfolding front_at
 front_short octets h =
     ap (λ (o : List ℕ). kind_at capture_name o >>= read_front) h.whole
@@ -125,7 +125,7 @@ text_again text rest fits =
     ∙ ap (λ (n : ℕ). field_at n (text ++ rest)) (from_be_bytes-to_be_bytes_2 (length text) fits)
     ∙ field_again (length text) text rest refl
 
-front_again : (v : Version) (text rest : List ℕ) → HasFront v text
+pub front_again : (v : Version) (text rest : List ℕ) → HasFront v text
     → front_at (front_text v text ++ rest) ≡ Ok (text, rest)
 unfolding front_at
 front_again One text rest has =

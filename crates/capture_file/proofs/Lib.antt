@@ -25,3 +25,5 @@ pub mod RecordFaults
 pub mod CaptureFaults
 pub mod BlockFaults
 pub mod PictureFaults
+pub mod CutCaptures
+pub mod CutPictures

@@ -23,6 +23,17 @@ pub data IsCutRecord (octets : List ℕ) : Type 0 where
   Octets : 11 ≤ length octets → slice_index octets 0 ≤ 1 → length octets < 11 + count_in octets
       → IsCutRecord octets
 
+-- where a capture is cut
+pub data CutPlace : Type 0 where
+  InKind : CutPlace
+  InText : CutPlace
+  InHead : CutPlace
+  InOctets : CutPlace
+
+abbrev pub record_place : {octets : List ℕ} → IsCutRecord octets → CutPlace
+record_place (Head more short) = InHead
+record_place (Octets head path short) = InOctets
+
 -- A whole head whose first octet is no path.
 pub record HasBadPath (octets : List ℕ) : Type 0 where
   pub head : 11 ≤ length octets
@@ -70,6 +81,11 @@ pub data IsCutCapture (limit : ℕ) (octets : List ℕ) : Type 0 where
   Kind : IsCutKind octets → IsCutCapture limit octets
   Text : HasCutText octets → IsCutCapture limit octets
   Record : HasBadRecord limit Truncated octets → IsCutCapture limit octets
+
+abbrev pub cut_place : {limit : ℕ} {octets : List ℕ} → IsCutCapture limit octets → CutPlace
+cut_place (Kind short) = InKind
+cut_place (Text cut) = InText
+cut_place (Record bad) = record_place bad.wrong
 
 -- the condition of each fault of a capture of at most so many records, by itself
 abbrev pub CaptureFault : ℕ → FileFault → List ℕ → Type 0

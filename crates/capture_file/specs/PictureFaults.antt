@@ -61,6 +61,17 @@ pub data IsCutPicture (octets : List ℕ) : Type 0 where
   Block : HasCutBlock octets → IsCutPicture octets
   Groups : HasCutGroups octets → IsCutPicture octets
 
+-- where a picture's file is cut
+pub data PicturePlace : Type 0 where
+  InKind : PicturePlace
+  InBlock : PicturePlace
+  InGroups : PicturePlace
+
+abbrev pub picture_place : {octets : List ℕ} → IsCutPicture octets → PicturePlace
+picture_place (Kind short) = InKind
+picture_place (Block cut) = InBlock
+picture_place (Groups cut) = InGroups
+
 -- the condition of each fault of a picture's file, by itself
 abbrev pub PictureFault : FileFault → List ℕ → Type 0
 PictureFault BadName octets = HasOtherName picture_name octets

@@ -6,8 +6,8 @@ ghost use Rattle.st_format.specs.Picture.{IsPicture, Values};
 ghost use Rattle.st_format.specs.Turns.{Due};
 ghost use Rattle.capture_file.specs.declared.fault.FileFault.{FileFault};
 ghost use Rattle.capture_file.specs.Capture.{Content, IsCapture, capture_at};
-ghost use Rattle.capture_file.specs.CaptureFaults.{CaptureFault, RecordFault};
-ghost use Rattle.capture_file.specs.PictureFaults.{PictureFault};
+ghost use Rattle.capture_file.specs.CaptureFaults.{CaptureFault, IsCutCapture, RecordFault, cut_place};
+ghost use Rattle.capture_file.specs.PictureFaults.{IsCutPicture, PictureFault, picture_place};
 ghost use Rattle.capture_file.specs.PictureFile.{picture_at, picture_text, shown_of};
 ghost use Rattle.capture_file.specs.Reader.{due_of, dues_in};
 ghost use Rattle.capture_file.specs.Reading.{entries_in, fault_at};
@@ -58,6 +58,12 @@ pub fn one_capture_fault()
         → CaptureFault limit f octets → CaptureFault limit g octets → f ≡ g }
 {}
 
+/// A capture that is cut is cut in one place.
+pub fn one_cut()
+    ensures { (limit : ℕ) (octets : List ℕ) → AreOctets octets
+        → (a b : IsCutCapture limit octets) → cut_place a ≡ cut_place b }
+{}
+
 /// Octets are a capture of at most so many records, or a fault's condition holds of them.
 pub fn capture_or_fault()
     ensures { (limit : ℕ) (octets : List ℕ) → AreOctets octets
@@ -97,4 +103,10 @@ pub fn picture_fault()
 pub fn one_picture_fault()
     ensures { (f g : FileFault) (octets : List ℕ) → AreOctets octets
         → PictureFault f octets → PictureFault g octets → f ≡ g }
+{}
+
+/// A picture's file that is cut is cut in one place.
+pub fn one_picture_cut()
+    ensures { (octets : List ℕ) (a b : IsCutPicture octets)
+        → picture_place a ≡ picture_place b }
 {}
