@@ -92,42 +92,37 @@ fn read_raster<A: Allocator, S: ByteSource>(
         Fails (raster_at (fields_of format.now)) (S.to_give source.old) f) }
     ensures counted { CountsDevice (S.failures source.old) (S.failures source.new) result }
 {
-    let mut samples = Vec::from_elem(alloc, 0u16, format.sample_count())?;
-    let mut piece = [0u8; PIECE];
-    read_samples(source, format, samples.as_mut_slice(), &mut piece)?;
+    let samples = read_samples(alloc, source, format, format.sample_count())?;
     Ok(samples)
 }
 
-/// Reads samples up to the end of `samples`, in pieces that are read into `piece`.
-fn read_samples<S: ByteSource>(
+/// Reads so many samples, a piece at a time. Each piece comes behind those before it, into memory
+/// that is taken once, for all of them, and that nothing was written to before.
+fn read_samples<A: Allocator, S: ByteSource>(
+    alloc: A,
     source: &mut S,
     format: &Format,
-    samples: &mut [u16],
-    piece: &mut [u8],
-) -> Result<(), FileFault>
-    requires room { length piece.old ≡ 3600 }
-    requires whole { bits_of format.now.depth * length samples.old % 8 ≡ 0 }
-    ensures size { length samples.new ≡ length samples.old }
-    ensures read { OnOk result (GivesSpelled (bits_of format.now.depth)
-        (S.to_give source.old) (S.to_give source.new) samples.new) }
+    count: usize,
+) -> Result<Vec<u16, A>, FileFault>
+    requires { bits_of format.now.depth * count % 8 ≡ 0 }
+    ensures size { IfOk result (λ v. length v.items ≡ count) }
+    ensures read { IfOk result (λ v. GivesSpelled (bits_of format.now.depth)
+        (S.to_give source.old) (S.to_give source.new) v.items) }
     ensures fault { IfErr result (λ f.
-        Fails (field_at (bits_of format.now.depth * length samples.old / 8)) (S.to_give source.old) f) }
-    ensures named { IfErr result IsOfField }
+        Fails (field_at (bits_of format.now.depth * count / 8)) (S.to_give source.old) f) }
     ensures counted { CountsDevice (S.failures source.old) (S.failures source.new) result }
 {
-    let mut done = 0;
-    while done < samples.len() {
-        let n = piece_samples(format, done, samples.len());
+    let mut samples = Vec::with_capacity(alloc, count)?;
+    let mut octets = [0u8; PIECE];
+    let mut piece = [0u16; PIECE];
+    while samples.len() < count {
+        let done = samples.len();
+        let n = piece_samples(format, done, count);
         let size = piece_octets(format, n);
-        read_piece(
-            source,
-            format,
-            &mut samples[done..done + n],
-            &mut piece[..size],
-        )?;
-        done += n;
+        read_piece(source, format, &mut piece[..n], &mut octets[..size])?;
+        samples.extend_from_slice(&piece[..n])?;
     }
-    Ok(())
+    Ok(samples)
 }
 
 /// Reads all samples of `samples`, for whose octets `octets` has just the room.

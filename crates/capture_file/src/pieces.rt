@@ -10,7 +10,8 @@ pub(crate) const PIECE: usize = 3600;
 
 /// How many samples of a format that many octets spell.
 fn most_samples(format: &Format) -> usize
-    ensures { bits_of format.now.depth * result ≡ 28800 }
+    ensures exact { bits_of format.now.depth * result ≡ 28800 }
+    ensures fits { result ≤ 3600 }
 {
     match format.depth() {
         Depth::D8 => 3600,
@@ -28,6 +29,7 @@ pub(crate) fn piece_samples(format: &Format, done: usize, count: usize) -> usize
     requires count { bits_of format.now.depth * count % 8 ≡ 0 }
     ensures some { 0 < result }
     ensures within { done + result ≤ count }
+    ensures fits { result ≤ 3600 }
     ensures few { bits_of format.now.depth * result ≤ 28800 }
     ensures whole { bits_of format.now.depth * result % 8 ≡ 0 }
     ensures next { bits_of format.now.depth * (done + result) % 8 ≡ 0 }

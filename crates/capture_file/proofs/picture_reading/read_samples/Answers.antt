@@ -1,63 +1,58 @@
-use Rattle.std.proofs.Common.{◌≡◌, ◌≤◌, ◌+◌, ◌-◌, ◌∙◌, ℕ, List, length, drop, refl, subst, sym, take, arith}
-use borrow.Rule.Slice.PartMut.{same_len_mid}
-use Rattle.std.proofs.lemmas.List.{length-append, length-drop, length-take-le}
+use Rattle.std.proofs.Common.{◌≡◌, ◌≤◌, ◌+◌, ◌*◌, ◌%◌, ◌++◌, ◌∙◌, ℕ, List, length, drop, refl, subst, sym, ap, take, arith}
+use Rattle.std.proofs.lemmas.List.{length-append, length-take-le, take_at}
 use Rattle.std.proofs.lemmas.Result.{err_from_is_err_and}
-use Rattle.std.proofs.lemmas.Slice.{take-put_mid}
 use Rattle.st_format.specs.Pgroup.{bits_of}
 use Rattle.capture_file.specs.Fields.{Fails, field_at}
 use Rattle.capture_file.specs.PictureFile.{GivesSpelled}
 use Rattle.capture_file.proofs.Spelt.{piece_fails, spelled_more, spelled_none}
 use Rattle.capture_file.proofs.picture_reading.read_samples.Goals as goal
 
-pub loop-done-init : goal.loop-done-init
-loop-done-init g c = record {
-  within = omega arith;
-  whole = omega arith;
-  given = spelled_none (bits_of c.args.format.now.depth) (g.S.ByteSource.to_give c.args.source.now);
-  failures = refl;
-  room = c.requires.room;
-  size = refl;
-}
+pub loop-octets-init : goal.loop-octets-init
+loop-octets-init g c =
+    let b : ℕ = bits_of c.args.format.now.depth in
+    let none = c.in_ok-samples.ensures.items in
+    let size : length c.in_ok-samples.samples.items ≡ 0 = ap length none in
+    record {
+      within = omega (arith, size);
+      whole = subst (λ (k : ℕ). b * k % 8 ≡ 0) (sym size) (omega arith);
+      given = subst (GivesSpelled b (g.S.ByteSource.to_give c.args.source.now) (g.S.ByteSource.to_give c.args.source.now)) (sym none) (spelled_none b (g.S.ByteSource.to_give c.args.source.now));
+      failures = refl;
+    }
 
-pub loop-done-preserved : goal.loop-done-preserved
-loop-done-preserved g c =
-    let i = c.loop-done.invariant in
+pub loop-octets-preserved : goal.loop-octets-preserved
+loop-octets-preserved g c =
+    let i = c.loop-octets.invariant in
     let e = c.piece_samples-n.ensures in
     let r = c.in_ok-read_piece.ensures in
-    let d : ℕ = c.loop-done.done in
+    let b : ℕ = bits_of c.args.format.now.depth in
     let n : ℕ = c.piece_samples-n.result in
-    let size : ℕ = c.piece_octets-size.result in
-    let vs : List ℕ = c.loop-done.samples in
+    let vs : List ℕ = c.loop-octets.samples.items in
     let ws : List ℕ = c.read_piece.new.samples in
-    let piece : List ℕ = c.loop-done.piece in
-    let few : size ≤ 3600 = c.piece_octets-size.ensures.few in
-    let fits : size ≤ length piece = omega (arith, i.room) in
-    let part : length (take (d + n - d) (drop d vs)) ≡ d + n - d = length-take-le (d + n - d) (drop d vs) (omega (arith, e.within, length-drop d vs)) in
-    let long : d + n ≡ d + length ws = omega (arith, r.size, part) in
+    let piece : List ℕ = c.loop-octets.piece in
+    let fits : n ≤ length piece = omega (arith, e.fits) in
+    let long : length ws ≡ n = r.size ∙ length-take-le n piece fits in
+    let items : c.extend_from_slice.new.self.items ≡ vs ++ ws = c.in_ok-extend_from_slice.ensures.items ∙ ap (λ (xs : List ℕ). vs ++ xs) (take_at ws (drop n piece) n long) in
+    let done : length vs ≡ c.len-done.result = omega arith in
+    let next : length c.extend_from_slice.new.self.items ≡ c.len-done.result + n = ap length items ∙ length-append vs ws ∙ omega (arith, long, done) in
     record {
-      within = omega (arith, e.within, i.size);
-      whole = e.next;
-      given = subst (λ (xs : List ℕ). GivesSpelled (bits_of c.args.format.now.depth) (g.S.ByteSource.to_give c.args.source.now) (g.S.ByteSource.to_give c.read_piece.new.source) xs)
-          (sym (take-put_mid d (d + n - d) vs ws (d + n) long (omega (arith, e.within))))
-          (spelled_more (bits_of c.args.format.now.depth) _ _ _ (take d vs) ws i.given r.read);
+      within = omega (arith, next, e.within);
+      whole = subst (λ (k : ℕ). b * k % 8 ≡ 0) (sym next) e.next;
+      given = subst (GivesSpelled b (g.S.ByteSource.to_give c.args.source.now) (g.S.ByteSource.to_give c.read_piece.new.source)) (sym items) (spelled_more b _ _ _ vs ws i.given r.read);
       failures = r.counted ∙ i.failures;
-      room = omega (arith, i.room, r.room, length-append c.read_piece.new.octets (drop size piece), length-drop size piece, length-take-le size piece fits);
-      size = same_len_mid d (d + n - d) vs ws r.size ∙ i.size;
     }
 
 pub returns-in_err-read_piece-clause-fault : goal.returns-in_err-read_piece-clause-fault
 returns-in_err-read_piece-clause-fault g c =
-    let p = err_from_is_err_and c.from_residual.result c.from_residual.ensures.1 in
-    let i = c.loop-done.invariant in
+    let p = err_from_is_err_and c.from_residual-in_err-read_piece.result c.from_residual-in_err-read_piece.ensures.1 in
+    let i = c.loop-octets.invariant in
     let e = c.piece_samples-n.ensures in
     let r = c.in_err-read_piece.ensures in
-    let d : ℕ = c.loop-done.done in
     let n : ℕ = c.piece_samples-n.result in
     let size : ℕ = c.piece_octets-size.result in
-    let vs : List ℕ = c.loop-done.samples in
-    let piece : List ℕ = c.loop-done.piece in
+    let vs : List ℕ = c.loop-octets.samples.items in
+    let octets : List ℕ = c.loop-octets.octets in
     let few : size ≤ 3600 = c.piece_octets-size.ensures.few in
-    let fits : size ≤ length piece = omega (arith, i.room) in
-    rw (p.1, p.2) (piece_fails (bits_of c.args.format.now.depth) d n (length c.args.samples.now) size (g.S.ByteSource.to_give c.args.source.now) (g.S.ByteSource.to_give c.loop-done.source) (take d vs) c.in_err-read_piece.field-0.0
-    r.named (omega (arith, e.within, i.size)) c.piece_octets-size.ensures.exact (length-take-le d vs (omega (arith, e.within))) i.given
-    (subst (λ (k : ℕ). Fails (field_at k) (g.S.ByteSource.to_give c.loop-done.source) c.in_err-read_piece.field-0.0) (length-take-le size piece fits) r.fault))
+    let fits : size ≤ length octets = omega arith in
+    rw (p.1, p.2) (piece_fails (bits_of c.args.format.now.depth) (length vs) n c.args.count size (g.S.ByteSource.to_give c.args.source.now) (g.S.ByteSource.to_give c.loop-octets.source) vs c.in_err-read_piece.field-0.0
+    r.named (omega (arith, e.within)) c.piece_octets-size.ensures.exact refl i.given
+    (subst (λ (k : ℕ). Fails (field_at k) (g.S.ByteSource.to_give c.loop-octets.source) c.in_err-read_piece.field-0.0) (length-take-le size octets fits) r.fault))

@@ -1,24 +1,20 @@
-use Rattle.std.proofs.Common.{◌≡◌, ◌≤◌, ◌*◌, ◌%◌, ◌-◌, length, take}
+use Rattle.std.proofs.Common.{◌≡◌, ◌≤◌, ◌*◌, ◌%◌, ◌-◌, length}
 use Rattle.st_format.specs.Pgroup.{bits_of}
 use Rattle.capture_file.specs.PictureFile.{GivesSpelled}
 use Rattle.capture_file.proofs.picture_reading.read_samples.Given as goal
 
-pub record Reading (end eighths so_far count space all : Type 0) : Type 0 where
+pub record Reading (end eighths so_far count : Type 0) : Type 0 where
   pub within : end
   pub whole : eighths
   pub given : so_far
   pub failures : count
-  pub room : space
-  pub size : all
 
-abbrev pub invariant-loop-done : goal.invariant-loop-done
-invariant-loop-done g l = Reading
-    (l.done ≤ length l.initial.samples)
-    (bits_of l.format.depth * l.done % 8 ≡ 0)
-    (GivesSpelled (bits_of l.format.depth) (g.S.ByteSource.to_give l.initial.source) (g.S.ByteSource.to_give l.source) (take l.done l.samples))
+abbrev pub invariant-loop-octets : goal.invariant-loop-octets
+invariant-loop-octets g l = Reading
+    (length l.samples.items ≤ l.count)
+    (bits_of l.format.depth * length l.samples.items % 8 ≡ 0)
+    (GivesSpelled (bits_of l.format.depth) (g.S.ByteSource.to_give l.initial.source) (g.S.ByteSource.to_give l.source) l.samples.items)
     (g.S.ByteSource.failures l.source ≡ g.S.ByteSource.failures l.initial.source)
-    (length l.piece ≡ 3600)
-    (length l.samples ≡ length l.initial.samples)
 
-abbrev pub decreases-loop-done : goal.decreases-loop-done
-decreases-loop-done g l = length l.initial.samples - l.done
+abbrev pub decreases-loop-octets : goal.decreases-loop-octets
+decreases-loop-octets g l = l.count - length l.samples.items
