@@ -23,6 +23,8 @@ mod datagrams;
 #[cfg(test)]
 mod devices;
 #[cfg(test)]
+mod engines;
+#[cfg(test)]
 mod generator;
 #[cfg(test)]
 mod groups;
