@@ -99,7 +99,7 @@ fn sink(rt: &(impl Abort + AllocGlobal)) -> MemorySink
     )
 }
 
-/// An engine's run, in which the growth `nth` is refused, counted from 1; 0 means that none is.
+/// An engine's run, in which the growth `nth` is refused, counted from 1.
 fn run_engine(
     rt: &(impl Abort + AllocGlobal),
     refusing: &Refusing<Global>,
@@ -108,58 +108,25 @@ fn run_engine(
 ) -> Result<Ran, AllocError> {
     let mut first = input(rt, engine);
     let (mut written, mut printed, mut told) = (sink(rt), sink(rt), sink(rt));
-    refusing.refuse(0);
-    let mut captures = Vec::with_capacity(refusing, 1)?;
+    refusing.refuse(nth);
+    let (source, output, faults) = (&mut first, &mut printed, &mut told);
     let status = match engine {
         Engine::Migrate => {
-            refusing.refuse(nth);
             run_migrate(
                 refusing,
                 &mut text(rt),
-                &mut first,
+                source,
                 &mut written,
-                &mut printed,
-                &mut told,
+                output,
+                faults,
             )
-        }
-        Engine::Receive => {
-            captures.push(first)?;
-            refusing.refuse(nth);
-            run_receive(
-                refusing,
-                WANTED,
-                &mut Some(text(rt)),
-                &mut captures,
-                &mut written,
-                &mut printed,
-                &mut told,
-            )
-        }
-        Engine::Send => {
-            refusing.refuse(nth);
-            let (status, sink) = run_send(
-                refusing,
-                SENDING,
-                &mut None,
-                &mut [first],
-                written,
-                &mut printed,
-                &mut told,
-            );
-            written = sink;
-            status
         }
         Engine::Merge => {
-            refusing.refuse(nth);
-            run_merge(
-                refusing,
-                &mut first,
-                &mut input(rt, engine),
-                &mut written,
-                &mut printed,
-                &mut told,
-            )
+            let mut second = input(rt, engine);
+            run_merge(refusing, source, &mut second, &mut written, output, faults)
         }
+        Engine::Receive => return run_receive_of(rt, refusing, first, nth),
+        Engine::Send => return Ok(run_send_of(rt, refusing, first)),
     };
     Ok(Ran {
         status,
@@ -167,6 +134,59 @@ fn run_engine(
         printed,
         told,
     })
+}
+
+/// A run of `receive` over one capture. The list of captures is made before a growth is refused.
+fn run_receive_of(
+    rt: &(impl Abort + AllocGlobal),
+    refusing: &Refusing<Global>,
+    capture: MemorySource,
+    nth: u64,
+) -> Result<Ran, AllocError> {
+    let (mut written, mut printed, mut told) = (sink(rt), sink(rt), sink(rt));
+    refusing.refuse(0);
+    let mut captures = Vec::with_capacity(refusing, 1)?;
+    captures.push(capture)?;
+    refusing.refuse(nth);
+    let status = run_receive(
+        refusing,
+        WANTED,
+        &mut Some(text(rt)),
+        &mut captures,
+        &mut written,
+        &mut printed,
+        &mut told,
+    );
+    Ok(Ran {
+        status,
+        written,
+        printed,
+        told,
+    })
+}
+
+/// A run of `send` of one picture.
+fn run_send_of(
+    rt: &(impl Abort + AllocGlobal),
+    refusing: &Refusing<Global>,
+    picture: MemorySource,
+) -> Ran {
+    let (written, mut printed, mut told) = (sink(rt), sink(rt), sink(rt));
+    let (status, written) = run_send(
+        refusing,
+        SENDING,
+        &mut None,
+        &mut [picture],
+        written,
+        &mut printed,
+        &mut told,
+    );
+    Ran {
+        status,
+        written,
+        printed,
+        told,
+    }
 }
 
 /// With memory it writes what it should, and tells of no fault.
