@@ -1,7 +1,8 @@
 //! The engines of files over devices in memory: with memory, and with each growth refused in turn.
 ghost use Rattle.std.specs.Prelude.{◌≡◌, []};
 
-use st_format::memory::{MemorySink, MemorySource, Refusing};
+use refusing::Refusing;
+use st_format::memory::{MemorySink, MemorySource};
 use st2110_tool::{Paths, Sending, Wanted, run_merge, run_migrate, run_receive, run_send};
 use std::alloc::{AllocError, Global};
 use std::process::Abort;

@@ -7,7 +7,7 @@ use crate::running::{Ran, SOUND, run};
 use crate::small_format::{counts, small};
 use frame_assembly::Frame;
 use path_merge::{OpenFault, Receiver};
-use st_format::memory::Refusing;
+use refusing::Refusing;
 use std::alloc::{Allocator, Global};
 use std::process::Abort;
 use std::test::Fail;

@@ -1,6 +1,6 @@
 //! *number-map*, and what else a map of packet numbers answers that no script prints.
 use path_merge::{MAX_COUNT, Noted, OpenedUnlike, SeqMap, SeqMapFault};
-use st_format::memory::Refusing;
+use refusing::Refusing;
 use std::alloc::{AllocError, Allocator};
 use std::test::Fail;
 

@@ -2,7 +2,7 @@
 use crate::datagrams::{opened, takes};
 use frame_assembly::{Base, Frame};
 use path_merge::Receiver;
-use st_format::memory::Refusing;
+use refusing::Refusing;
 use st_format::{Depth, Format, FormatFault, Picture, PictureFault, Sampling};
 use std::alloc::{AllocError, Allocator, Global};
 use std::process::Abort;

@@ -1,6 +1,6 @@
 //! *rehearsal-script* through the engine: failing devices, and each growth refused in turn.
 use crate::running::{Failing, Ran, SOUND, play_script};
-use st_format::memory::Refusing;
+use refusing::Refusing;
 use std::test::Fail;
 
 const SCRIPT: &str =

@@ -1,8 +1,8 @@
 //! The engine of `sdp` over the camera's text: failing devices, and each growth refused in turn.
 use crate::running::{Failing, Ran, SOUND, describe};
 use crate::sdp::{CAMERA, LINE, line_of};
+use refusing::Refusing;
 use sdp_format::SdpFault;
-use st_format::memory::Refusing;
 use std::test::Fail;
 
 fn is_camera(run: &Ran) -> bool {

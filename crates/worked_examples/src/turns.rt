@@ -6,7 +6,8 @@ use crate::small_format::{ANOTHER, LOWER, OTHER_VERSION, UPPER, counted, counts,
 use frame_assembly::{Counts, Frame};
 use path_merge::{ReceiveFault, Received, Receiver, receive};
 use payload_header::read_payload;
-use st_format::memory::{MemoryTurn, MemoryTurns, Refusing};
+use refusing::Refusing;
+use st_format::memory::{MemoryTurn, MemoryTurns};
 use st_format::{DatagramSource, Format, Path, SourceFault, Turn};
 use std::alloc::{AllocError, Allocator, Global};
 use std::process::Abort;

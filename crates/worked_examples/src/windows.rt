@@ -1,6 +1,6 @@
 //! A run of `trace` with slides and numbers, with each growth refused in turn.
 use crate::running::{Ran, SOUND, run};
-use st_format::memory::Refusing;
+use refusing::Refusing;
 use std::test::Fail;
 
 /// A script with a slide and numbers, and what it prints.

@@ -16,7 +16,7 @@ use denote.Steps.{nothing, only}
 use denote.Triple.Statement.{Contract}
 use denote.Triple.Spec.{triple_of}
 use Rattle.std.specs.contracts.cell.Cell as CE
-use Rattle.st_format.specs.contracts.memory.refusing.refuses as RE
+use Rattle.refusing.specs.contracts.allocator.refuses as RE
 
 abbrev Calls : RattleType
 Calls = CE.the_row u64

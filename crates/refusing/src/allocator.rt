@@ -1,3 +1,5 @@
+//! An allocator that passes each call on, and refuses one of them.
+
 use std::alloc::{AllocError, Allocator};
 use std::cell::Cell;
 
