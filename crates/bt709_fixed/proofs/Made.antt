@@ -2,8 +2,8 @@
 use Rattle.std.proofs.Common.{◌≡◌, ℕ, ◌<◌, ◌≤◌, ◌^◌, refl, List, [], ◌∷◌, suc, get_or, length, arith, sym, ap, ◌∙◌, subst}
 use Rattle.std.specs.List.{AllByRecursion}
 use Rattle.st_format.specs.declared.format.Format.{Format}
-use Rattle.st_format.specs.declared.format.Depth.{Depth}
-use Rattle.st_format.specs.declared.format.Depth.TheVariants.{D8, D10, D12, D16}
+use Rattle.st_format.specs.declared.sampling.Depth.{Depth}
+use Rattle.st_format.specs.declared.sampling.Depth.TheVariants.{D8, D10, D12, D16}
 use Rattle.st_format.specs.Pgroup.{bits_of}
 use Rattle.st_format.specs.Picture.{FitsDepth, IsPicture, Values, value_at}
 use Rattle.bt709_fixed.specs.Operations.{IsOf}

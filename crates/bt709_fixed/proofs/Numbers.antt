@@ -1,7 +1,7 @@
 -- Sample numbers where a pixel has three samples.
 use Rattle.std.proofs.Common.{◌≡◌, ℕ, ◌+◌, ◌*◌, ◌/◌, ◌%◌, ◌^◌, ◌<◌, ◌≤◌, ◌==◌, List, Bool, true, false, if◌then◌else◌, get_or, length, sym, arith, ap, subst, refl, ◌∙◌}
 use Rattle.st_format.specs.declared.format.Format.{Format}
-use Rattle.st_format.specs.declared.format.Sampling.TheVariants.{Rgb, Ycc444}
+use Rattle.st_format.specs.declared.sampling.Sampling.TheVariants.{Rgb, Ycc444}
 use Rattle.st_format.specs.Position.{Position, number_of, number_in_row, number_in_run, row_samples, run_columns, run_samples, sample_count}
 use Rattle.st_format.specs.Position.{component_in_row}
 use Rattle.st_format.specs.Pgroup.{bits_of}

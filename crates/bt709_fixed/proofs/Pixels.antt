@@ -2,7 +2,7 @@
 use Rattle.std.proofs.Common.{◌≡◌, ℕ, ◌+◌, ◌*◌, ◌/◌, ◌%◌, ◌<◌, List, get_or, take, drop, arith, ap, ◌∙◌}
 use Rattle.std.specs.Prelude.{slice_index_or}
 use Rattle.std.proofs.lemmas.List.{get_or-drop, get_or-take}
-use Rattle.st_format.specs.declared.format.Sampling.TheVariants.{Ycc444}
+use Rattle.st_format.specs.declared.sampling.Sampling.TheVariants.{Ycc444}
 use Rattle.st_format.specs.Position.{component_in_row, run}
 use Rattle.bt709_fixed.specs.Operations.{matrixed, matrixed_at}
 

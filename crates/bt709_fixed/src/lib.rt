@@ -8,7 +8,7 @@ ghost use Rattle.st_format.specs.Position.{component_in_row};
 ghost use Rattle.lane_kernels.specs.Formulas.{centre, scale};
 ghost use Rattle.bt709_fixed.specs.Operations.{IsOf, IsResampled, gain_value, gained, is_colour, kept, limit_value, limited, lowered, matrixed_at, of_component, ycc444_value};
 ghost use Rattle.bt709_fixed.specs.declared.ColourFault.TheVariants.{NoMemory, NotRgb};
-ghost use Rattle.st_format.specs.declared.format.Sampling.TheVariants.{Rgb, Ycc444};
+ghost use Rattle.st_format.specs.declared.sampling.Sampling.TheVariants.{Rgb, Ycc444};
 
 use st_format::{Depth, Format, Picture, Sampling};
 use std::alloc::{AllocError, Allocator};

@@ -3,8 +3,8 @@ use Rattle.std.specs.Prelude.{take, drop, zero, suc, ◌≡◌, ℕ, ◌*◌, �
 use Rattle.std.specs.Int.{w16, w32, to_be_bytes}
 use Rattle.std.specs.List.{AllByRecursion, flat_map}
 use Rattle.st_format.specs.declared.cell.Cell.{Cell}
-use Rattle.st_format.specs.declared.format.Sampling.{Sampling}
-use Rattle.st_format.specs.declared.format.Sampling.TheVariants.{Ycc422, Ycc444, Rgb}
+use Rattle.st_format.specs.declared.sampling.Sampling.{Sampling}
+use Rattle.st_format.specs.declared.sampling.Sampling.TheVariants.{Ycc422, Ycc444, Rgb}
 use Rattle.st_format.specs.Fields.{Fields}
 use Rattle.st_format.specs.Pgroup.{bits_of, pixel_group}
 use Rattle.capture_file.specs.declared.front.Version.TheVariants.{One}

@@ -1,5 +1,5 @@
 //! A capture as a source of datagrams.
-ghost use Rattle.std.specs.Prelude.{◌≡◌, ◌≤◌, ◌<◌, ◌+◌, ◌-◌, ◌^◌, Some, Ok, Err, length, take, min, IfErr, IfOk, IfSome, OnErr, MatchOption, MatchResult};
+ghost use Rattle.std.specs.Prelude.{◌≡◌, ◌≤◌, ◌<◌, ◌+◌, ◌-◌, ◌^◌, Some, Ok, Err, length, take, min, IfErr, IfOk, IfSome, OnErr, OnOk, MatchOption, MatchResult};
 ghost use Rattle.std.specs.Io.KnownBytes.{IsAtEnd};
 ghost use Rattle.st_format.specs.Device.{CountsFaults, CountsOne};
 ghost use Rattle.st_format.specs.Turns.{CountsTurn, IsWithin, TakesTurn};
@@ -172,6 +172,8 @@ impl<S: ByteSource> DatagramSource for CaptureReader<S> {
         ensures delivered { MatchResult result (λ t. CountsTurn t self.old.delivered self.new.delivered) (λ _. self.new.delivered ≡ self.old.delivered) }
         ensures counted { CountsFaults self.old.failures self.new.failures result }
         ensures last { IfErr result (λ e. last_fault_of self.new.standing ≡ Some e) }
+        ensures blameless { OnOk result
+            (last_fault_of self.new.standing ≡ last_fault_of self.old.standing) }
 
         // Each turn but the last is a record. The end comes only where no octet is left.
         ensures goes { IfOk result (λ t. StandsAfter t self.new.standing (S.to_give self.new.source)) }

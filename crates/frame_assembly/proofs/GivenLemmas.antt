@@ -7,11 +7,6 @@ use Rattle.std.proofs.Math.Nat.{mul-add}
 use borrow.Rule.Slice.PartMut.{put_mid}
 use Rattle.st_format.specs.declared.cell.Cell.{Cell}
 use Rattle.st_format.specs.declared.cell.Cell.TheVariants.{Missing}
-use Rattle.st_format.specs.declared.format.Sampling.{Sampling}
-use Rattle.st_format.specs.declared.format.Sampling.TheVariants.{Ycc422, Ycc444, Rgb}
-use Rattle.st_format.specs.declared.format.Depth.{Depth}
-use Rattle.st_format.specs.declared.format.Depth.TheVariants.{D8, D10, D12, D16}
-use Rattle.st_format.specs.Pgroup.{pixel_group}
 use Rattle.st_format.specs.Samples.{values_in}
 use Rattle.pgroup_pack.specs.Groups.{blanked, blanked_from}
 use Rattle.frame_assembly.specs.Packed.{IsMark, IsPacked, cells_from, known_value, marked, packed_cells}
@@ -127,17 +122,3 @@ pub missing_is : (n size samples : ℕ) (from given : List ℕ) → AreSizes n s
 missing_is n size samples from given is e long =
     ap (packed_cells n size (0 ∷ [])) e ∙ zero_cells n size samples 1 is
     ∙ ap (λ (k : ℕ). replicate {A = Cell} k Missing) ((let f : samples * 1 ≡ samples = omega arith in f) ∙ sym (one_long n size samples given is long))
-
-pub few_octets : (s : Sampling) (d : Depth) → (pixel_group s d).octets ≤ 15
-few_octets Ycc422 D8 = omega arith
-few_octets Ycc422 D10 = omega arith
-few_octets Ycc422 D12 = omega arith
-few_octets Ycc422 D16 = omega arith
-few_octets Ycc444 D8 = omega arith
-few_octets Ycc444 D10 = omega arith
-few_octets Ycc444 D12 = omega arith
-few_octets Ycc444 D16 = omega arith
-few_octets Rgb D8 = omega arith
-few_octets Rgb D10 = omega arith
-few_octets Rgb D12 = omega arith
-few_octets Rgb D16 = omega arith

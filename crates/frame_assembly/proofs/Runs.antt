@@ -8,8 +8,8 @@ use Rattle.st_format.specs.Samples.{values_in}
 use Rattle.st_format.proofs.Spelled.{values_in-spelled}
 use Rattle.frame_assembly.specs.Packed.{IsPacked, Joins, packed_cells}
 use Rattle.frame_assembly.proofs.PackedLemmas.{AreParts, AreSizes, IsPacked-parts, Joins-append, sizes}
-use Rattle.st_format.specs.declared.format.Sampling.{Sampling}
-use Rattle.st_format.specs.declared.format.Depth.{Depth}
+use Rattle.st_format.specs.declared.sampling.Sampling.{Sampling}
+use Rattle.st_format.specs.declared.sampling.Depth.{Depth}
 use Rattle.st_format.specs.Pgroup.{bits_of, pixel_group}
 
 -- ---- parts of a run

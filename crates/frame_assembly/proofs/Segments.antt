@@ -9,16 +9,17 @@ use Rattle.std.proofs.Math.Seq.{get_or-append_seam}
 use borrow.Rule.Slice.PartMut.{put_mid}
 use Rattle.st_format.specs.declared.cell.Cell.{Cell}
 use Rattle.st_format.specs.declared.cell.Cell.TheVariants.{Missing, Value}
-use Rattle.st_format.specs.declared.format.Sampling.{Sampling}
-use Rattle.st_format.specs.declared.format.Sampling.TheVariants.{Ycc422, Ycc444, Rgb}
-use Rattle.st_format.specs.declared.format.Depth.{Depth}
-use Rattle.st_format.specs.declared.format.Depth.TheVariants.{D8, D10, D12, D16}
+use Rattle.st_format.specs.declared.sampling.Sampling.{Sampling}
+use Rattle.st_format.specs.declared.sampling.Sampling.TheVariants.{Ycc422, Ycc444, Rgb}
+use Rattle.st_format.specs.declared.sampling.Depth.{Depth}
+use Rattle.st_format.specs.declared.sampling.Depth.TheVariants.{D8, D10, D12, D16}
 use Rattle.st_format.specs.declared.format.Format.{Format}
 use Rattle.st_format.specs.Cell.{join}
 use Rattle.st_format.specs.Pgroup.{bits_of, pixel_group}
-use Rattle.st_format.specs.Position.{row_samples, run_columns, run_samples, sample_count}
+use Rattle.st_format.specs.Position.{row_groups, row_samples, sample_count}
 use Rattle.st_format.specs.Raster.{Segment, first_number, joined}
 use Rattle.st_format.specs.Samples.{values_in}
+use Rattle.st_format.proofs.Columns.{row_samples_groups, samples_before}
 use Rattle.payload_header.specs.Payload.{IsInside}
 use Rattle.frame_assembly.specs.Packed.{IsMark, IsPacked, Joins, cells_from, group_count, known_value, marked, packed_cells, whole_marks}
 use Rattle.frame_assembly.specs.Written.{written_from}
@@ -163,20 +164,6 @@ put_part n size samples at count a c oa oc whole marks octets others part_marks 
 
 -- ---- the groups of a segment
 
-samples_before : (s : Sampling) (d : Depth) (x : ℕ) → x % (pixel_group s d).pixels ≡ 0 → (pixel_group s d).samples * (x / (pixel_group s d).pixels) ≡ x / run_columns s * run_samples s
-samples_before Ycc422 D8 x whole = omega arith
-samples_before Ycc422 D10 x whole = omega arith
-samples_before Ycc422 D12 x whole = omega arith
-samples_before Ycc422 D16 x whole = omega arith
-samples_before Ycc444 D8 x whole = omega arith
-samples_before Ycc444 D10 x whole = omega arith
-samples_before Ycc444 D12 x whole = omega arith
-samples_before Ycc444 D16 x whole = omega arith
-samples_before Rgb D8 x whole = omega arith
-samples_before Rgb D10 x whole = omega arith
-samples_before Rgb D12 x whole = omega arith
-samples_before Rgb D16 x whole = omega arith
-
 in_row : (s : Sampling) (d : Depth) (width offset len : ℕ) → width % (pixel_group s d).pixels ≡ 0 → offset % (pixel_group s d).pixels ≡ 0
     → offset + len / (pixel_group s d).octets * (pixel_group s d).pixels ≤ width → offset / (pixel_group s d).pixels + len / (pixel_group s d).octets ≤ width / (pixel_group s d).pixels
 in_row Ycc422 D8 width offset len even at le = omega arith
@@ -206,27 +193,21 @@ whole_octets Rgb D10 len whole = omega arith
 whole_octets Rgb D12 len whole = omega arith
 whole_octets Rgb D16 len whole = omega arith
 
--- groups of a row, the first group of a segment, and how many it has
-abbrev pub row_group_count : Format → ℕ
-row_group_count f = f.width / (pixel_group f.sampling f.depth).pixels
-
+-- the first group of a segment
 abbrev pub first_group : Format → Segment → ℕ
-first_group f s = s.row * row_group_count f + s.offset / (pixel_group f.sampling f.depth).pixels
+first_group f s = s.row * row_groups f + s.offset / (pixel_group f.sampling f.depth).pixels
 
 pub swap_first : (a b c : ℕ) → a * (b * c) ≡ b * (a * c)
 swap_first a b c = sym (mul_assoc a b c) ∙ ap (λ (x : ℕ). x * c) (mul_comm a b) ∙ mul_assoc b a c
 
-pub row_samples_groups : (f : Format) → (pixel_group f.sampling f.depth).samples * row_group_count f ≡ row_samples f
-row_samples_groups f = samples_before f.sampling f.depth f.width f.whole_width.whole_groups
-
 pub sample_count_groups : (f : Format) → (pixel_group f.sampling f.depth).samples * group_count f ≡ sample_count f
-sample_count_groups f = swap_first (pixel_group f.sampling f.depth).samples f.height (row_group_count f) ∙ ap (λ (x : ℕ). f.height * x) (row_samples_groups f)
+sample_count_groups f = swap_first (pixel_group f.sampling f.depth).samples f.height (row_groups f) ∙ ap (λ (x : ℕ). f.height * x) (row_samples_groups f)
 
 pub first_sample : (f : Format) (s : Segment) → IsInside f s → (pixel_group f.sampling f.depth).samples * first_group f s ≡ first_number f s
 first_sample f s is =
     let k : ℕ = (pixel_group f.sampling f.depth).samples in
-    mul-add k (s.row * row_group_count f) (s.offset / (pixel_group f.sampling f.depth).pixels)
-    ∙ ap (λ (x : ℕ). x + k * (s.offset / (pixel_group f.sampling f.depth).pixels)) (swap_first k s.row (row_group_count f) ∙ ap (λ (x : ℕ). s.row * x) (row_samples_groups f))
+    mul-add k (s.row * row_groups f) (s.offset / (pixel_group f.sampling f.depth).pixels)
+    ∙ ap (λ (x : ℕ). x + k * (s.offset / (pixel_group f.sampling f.depth).pixels)) (swap_first k s.row (row_groups f) ∙ ap (λ (x : ℕ). s.row * x) (row_samples_groups f))
     ∙ ap (λ (x : ℕ). s.row * row_samples f + x) (samples_before f.sampling f.depth s.offset is.at_group)
 
 pub row_ends : (row height w n : ℕ) → row < height → n ≤ w → row * w + n ≤ height * w
@@ -235,7 +216,7 @@ row_ends row height w n lt le = grind (arith)
 pub groups_end : (f : Format) (s : Segment) → IsInside f s → first_group f s + length s.octets / (pixel_group f.sampling f.depth).octets ≤ group_count f
 groups_end f s is =
     let inner = in_row f.sampling f.depth f.width s.offset (length s.octets) f.whole_width.whole_groups is.at_group is.columns in
-    omega (arith, row_ends s.row f.height (row_group_count f) (s.offset / (pixel_group f.sampling f.depth).pixels + length s.octets / (pixel_group f.sampling f.depth).octets) is.row inner)
+    omega (arith, row_ends s.row f.height (row_groups f) (s.offset / (pixel_group f.sampling f.depth).pixels + length s.octets / (pixel_group f.sampling f.depth).octets) is.row inner)
 
 pub segment_octets : (f : Format) (s : Segment) → IsInside f s → length s.octets ≡ (pixel_group f.sampling f.depth).octets * (length s.octets / (pixel_group f.sampling f.depth).octets)
 segment_octets f s is = whole_octets f.sampling f.depth (length s.octets) is.whole_groups

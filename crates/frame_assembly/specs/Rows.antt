@@ -1,27 +1,18 @@
 -- What a frame tells of its rows and pixel groups, in the words of its cells (own).
-use Rattle.std.specs.Prelude.{◌≡◌, ◌≢◌, ◌⊎◌, ℕ, ◌+◌, ◌*◌, ◌/◌, ◌<◌, ◌≤◌, ◌==◌, Bool, true, false, if◌then◌else◌, List, [], ◌∷◌, ◌++◌, length, take, drop, slice_index_or, replicate}
+use Rattle.std.specs.Prelude.{◌≡◌, ◌≢◌, ◌⊎◌, ℕ, ◌+◌, ◌*◌, ◌<◌, ◌≤◌, ◌==◌, Bool, true, false, if◌then◌else◌, List, [], ◌∷◌, ◌++◌, length, take, drop, slice_index_or, replicate}
 use Rattle.std.specs.Int.{bit_at}
 use Rattle.st_format.specs.declared.cell.Cell.{Cell}
 use Rattle.st_format.specs.declared.cell.Cell.TheVariants.{Missing, Value, Contested}
-use Rattle.st_format.specs.declared.format.Format.{Format}
 use Rattle.st_format.specs.Cell.{is_contested, is_missing, is_present}
 use Rattle.st_format.specs.Pgroup.{pixel_group}
-use Rattle.st_format.specs.Position.{row_samples}
+use Rattle.st_format.specs.Position.{group_start, row_groups, row_samples}
 use Rattle.st_format.specs.Raster.{Raster}
 use Rattle.frame_assembly.specs.declared.state.GroupState.{GroupState}
 use Rattle.frame_assembly.specs.declared.state.GroupState.TheVariants.{Gone, Whole, Mixed}
 
--- how many groups a row has
-abbrev pub row_groups : Format → ℕ
-row_groups f = f.width / (pixel_group f.sampling f.depth).pixels
-
 -- the cells of a row
 abbrev pub row_cells : Raster → ℕ → List Cell
 row_cells r row = take (row_samples r.format) (drop (row * row_samples r.format) r.cells)
-
--- the number of the first sample of a row's group
-abbrev pub group_start : Format → ℕ → ℕ → ℕ
-group_start f row group = (pixel_group f.sampling f.depth).samples * (row * row_groups f + group)
 
 -- the cells of a row's group
 abbrev pub group_cells : Raster → ℕ → ℕ → List Cell

@@ -4,7 +4,7 @@ use Rattle.std.specs.List.{AllByRecursion, range_with_len}
 use Rattle.st_format.specs.declared.cell.Cell.{Cell}
 use Rattle.st_format.specs.declared.cell.Cell.TheVariants.{Missing, Value, Contested}
 use Rattle.st_format.specs.declared.format.Format.{Format}
-use Rattle.st_format.specs.declared.format.Sampling.{Sampling}
+use Rattle.st_format.specs.declared.sampling.Sampling.{Sampling}
 use Rattle.st_format.specs.Picture.{FitsDepth, IsPicture, Values, value_at}
 use Rattle.st_format.specs.Position.{Position, component_in_row, places}
 use Rattle.st_format.specs.Raster.{Raster, cell_at}

@@ -3,7 +3,7 @@ ghost use Rattle.std.specs.Prelude.{◌≡◌, ◌<◌, ◌≤◌, ◌↔◌, �
 ghost use Rattle.std.specs.Int.{bit_at};
 ghost use Rattle.frame_assembly.specs.Kinds.{AreCounts};
 ghost use Rattle.frame_assembly.specs.Packed.{known_value};
-ghost use Rattle.frame_assembly.specs.Rows.{GroupsAreWhole, IsMarkOf, IsStateOf, given_cells, group_cells, group_start, replaced, row_cells, row_groups};
+ghost use Rattle.frame_assembly.specs.Rows.{GroupsAreWhole, IsMarkOf, IsStateOf, given_cells, group_cells, replaced, row_cells};
 ghost use Rattle.frame_assembly.specs.Settled.{IsBaseOf, settled};
 ghost use Rattle.pgroup_pack.specs.Groups.{blanked};
 ghost use Rattle.payload_header.specs.View.{segments_of};
@@ -12,7 +12,7 @@ ghost use Rattle.st_format.specs.Fit.{ValuesFit};
 ghost use Rattle.st_format.specs.Offer.{cell_of};
 ghost use Rattle.st_format.specs.Picture.{IsPicture};
 ghost use Rattle.st_format.specs.Pgroup.{bits_of, pixel_group};
-ghost use Rattle.st_format.specs.Position.{IsPosition, Position, row_octets};
+ghost use Rattle.st_format.specs.Position.{IsPosition, Position, group_start, row_groups, row_octets};
 ghost use Rattle.st_format.specs.Samples.{Spells, values_in};
 ghost use Rattle.st_format.specs.Raster.{IsWhole, blank, cell_at, cells_of, joined, joined_rasters, offers_in_all};
 
@@ -291,7 +291,7 @@ impl<A: Allocator> Frame<A> {
     pub fn same<B: Allocator>(&self, other: &Frame<B>) -> bool
         ensures { IsTrue result ↔ (self.now ≡ other.now) }
     {
-        same_format(&self.format, &other.format)
+        self.format.same(&other.format)
             && same_groups(
                 &self.format,
                 self.marks.as_slice(),
@@ -300,10 +300,4 @@ impl<A: Allocator> Frame<A> {
                 other.octets.as_slice(),
             )
     }
-}
-
-fn same_format(left: &Format, right: &Format) -> bool
-    ensures { IsTrue result ↔ (left.now ≡ right.now) }
-{
-    left == right
 }

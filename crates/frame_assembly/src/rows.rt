@@ -2,10 +2,10 @@
 ghost use Rattle.std.specs.Prelude.{◌≡◌, ◌<◌, ◌≤◌, ◌+◌, ◌*◌, ◌/◌, ◌==◌, ℕ, List, [], ◌∷◌, length, map, slice_index, take, drop};
 ghost use Rattle.std.specs.Int.{bit_at};
 ghost use Rattle.frame_assembly.specs.Packed.{ArePacked, cells_in, group_count, known_value};
-ghost use Rattle.frame_assembly.specs.Rows.{IsMarkOf, IsStateOf, given_cells, group_cells, group_start, replaced, row_cells, row_groups};
+ghost use Rattle.frame_assembly.specs.Rows.{IsMarkOf, IsStateOf, given_cells, group_cells, replaced, row_cells};
 ghost use Rattle.pgroup_pack.specs.Groups.{blanked};
 ghost use Rattle.st_format.specs.Pgroup.{bits_of, pixel_group};
-ghost use Rattle.st_format.specs.Position.{row_octets};
+ghost use Rattle.st_format.specs.Position.{group_start, row_groups, row_octets};
 ghost use Rattle.st_format.specs.Samples.{Spells, values_in};
 ghost use Rattle.st_format.specs.declared.cell.Cell.{Cell};
 

@@ -1,7 +1,7 @@
 -- JobPicture: what a job makes of its pictures, one position at a time (own; ITU-R BT.709).
 use Rattle.std.specs.Prelude.{◌≡◌, ◌≢◌, ◌<◌, ◌⊎◌, ℕ, ◌-◌, ◌*◌, List, [], ◌∷◌, length, ⊤}
 use Rattle.st_format.specs.declared.format.Format.{Format}
-use Rattle.st_format.specs.declared.format.Sampling.TheVariants.{Ycc422, Ycc444, Rgb}
+use Rattle.st_format.specs.declared.sampling.Sampling.TheVariants.{Ycc422, Ycc444, Rgb}
 use Rattle.st_format.specs.Pgroup.{bits_of}
 use Rattle.st_format.specs.Picture.{Values, value_at}
 use Rattle.st_format.specs.Position.{Position, IsPosition}

@@ -8,10 +8,10 @@ use Rattle.std.proofs.lemmas.List.{length-append, length-take-le, length-drop, m
 use Rattle.std.proofs.lemmas.List.Elements.{All-from_recursion, All-take, All-drop}
 use Rattle.std.proofs.lemmas.List.FromFn.{length-map-range_with_len}
 use Rattle.st_format.specs.declared.format.Format.{Format}
-use Rattle.st_format.specs.declared.format.Sampling.{Sampling}
-use Rattle.st_format.specs.declared.format.Sampling.TheVariants.{Ycc422, Ycc444, Rgb}
-use Rattle.st_format.specs.declared.format.Depth.{Depth}
-use Rattle.st_format.specs.declared.format.Depth.TheVariants.{D8, D10, D12, D16}
+use Rattle.st_format.specs.declared.sampling.Sampling.{Sampling}
+use Rattle.st_format.specs.declared.sampling.Sampling.TheVariants.{Ycc422, Ycc444, Rgb}
+use Rattle.st_format.specs.declared.sampling.Depth.{Depth}
+use Rattle.st_format.specs.declared.sampling.Depth.TheVariants.{D8, D10, D12, D16}
 use Rattle.st_format.specs.Pgroup.{pixel_group, bits_of}
 use Rattle.st_format.specs.Picture.{Values, IsPicture, FitsDepth}
 use Rattle.st_format.specs.Position.{run_columns, run_samples, sample_count}

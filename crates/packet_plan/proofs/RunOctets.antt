@@ -1,10 +1,10 @@
 -- Pixel groups as bits: those of a group's samples are those of its octets.
 use Rattle.std.proofs.Common.{◌≡◌, ℕ, ◌*◌, refl, ap, ◌∙◌, arith}
 use Rattle.st_format.specs.Pgroup.{pixel_group, bits_of}
-use Rattle.st_format.specs.declared.format.Sampling.{Sampling}
-use Rattle.st_format.specs.declared.format.Sampling.TheVariants.{Ycc422, Ycc444, Rgb}
-use Rattle.st_format.specs.declared.format.Depth.{Depth}
-use Rattle.st_format.specs.declared.format.Depth.TheVariants.{D8, D10, D12, D16}
+use Rattle.st_format.specs.declared.sampling.Sampling.{Sampling}
+use Rattle.st_format.specs.declared.sampling.Sampling.TheVariants.{Ycc422, Ycc444, Rgb}
+use Rattle.st_format.specs.declared.sampling.Depth.{Depth}
+use Rattle.st_format.specs.declared.sampling.Depth.TheVariants.{D8, D10, D12, D16}
 
 group_bits : (s : Sampling) (d : Depth) → bits_of d * (pixel_group s d).samples ≡ 8 * (pixel_group s d).octets
 group_bits Ycc422 D8 = refl

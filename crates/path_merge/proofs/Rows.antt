@@ -1,8 +1,8 @@
 -- Worked rows, by computation: what datagrams offer and the frames that follow.
 use Rattle.std.proofs.Common.{◌≡◌, ℕ, List, [], ◌∷◌, ◌++◌, None, refl, lit≤}
 use Rattle.st_format.specs.declared.format.Format.{Format}
-use Rattle.st_format.specs.declared.format.Sampling.TheVariants.{Ycc422}
-use Rattle.st_format.specs.declared.format.Depth.TheVariants.{D8}
+use Rattle.st_format.specs.declared.sampling.Sampling.TheVariants.{Ycc422}
+use Rattle.st_format.specs.declared.sampling.Depth.TheVariants.{D8}
 use Rattle.st_format.specs.declared.cell.Cell.{Cell}
 use Rattle.st_format.specs.declared.cell.Cell.TheVariants.{Missing, Value, Contested}
 use Rattle.st_format.specs.Rate.{greatest_up_to, IsLowest}

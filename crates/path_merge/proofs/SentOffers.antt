@@ -4,10 +4,10 @@ use Rattle.std.specs.List.{flat_map, range_with_len, AllZip}
 use Rattle.std.proofs.lemmas.List.{map-append}
 use Rattle.std.proofs.lemmas.List.Concat.{flat_map-append}
 use Rattle.st_format.specs.declared.format.Format.{Format}
-use Rattle.st_format.specs.declared.format.Sampling.{Sampling}
-use Rattle.st_format.specs.declared.format.Sampling.TheVariants.{Ycc422, Ycc444, Rgb}
-use Rattle.st_format.specs.declared.format.Depth.{Depth}
-use Rattle.st_format.specs.declared.format.Depth.TheVariants.{D8, D10, D12, D16}
+use Rattle.st_format.specs.declared.sampling.Sampling.{Sampling}
+use Rattle.st_format.specs.declared.sampling.Sampling.TheVariants.{Ycc422, Ycc444, Rgb}
+use Rattle.st_format.specs.declared.sampling.Depth.{Depth}
+use Rattle.st_format.specs.declared.sampling.Depth.TheVariants.{D8, D10, D12, D16}
 use Rattle.st_format.specs.Pgroup.{pixel_group, bits_of}
 use Rattle.st_format.specs.Picture.{Values}
 use Rattle.st_format.specs.Position.{place, places, run_columns, run_samples}

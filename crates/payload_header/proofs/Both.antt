@@ -5,7 +5,8 @@ use Rattle.st_format.specs.Raster.{Segment}
 use Rattle.payload_header.specs.declared.payload.PayloadFault.{PayloadFault}
 use Rattle.payload_header.specs.Payload.{IsPayload}
 use Rattle.payload_header.specs.Reading.{payload_at}
-use Rattle.payload_header.specs.Faults.{AreOctets, IsRefused}
+use Rattle.st_format.specs.Device.{AreOctets}
+use Rattle.payload_header.specs.Faults.{IsRefused}
 use Rattle.payload_header.proofs.Taken.{IsBytes, payload_takes}
 use Rattle.payload_header.proofs.Again.{payload_again}
 use Rattle.payload_header.proofs.Refused.{payload_refused, refused_payload}

@@ -1,6 +1,6 @@
 -- When octets are refused: one condition for each fault, over the whole list of headers (RFC 4175, 4; the
 -- order of the faults is own).
-use Rattle.std.specs.Prelude.{◌≡◌, ◌≢◌, ℕ, ◌+◌, ◌*◌, ◌/◌, ◌%◌, ◌^◌, ◌<◌, ◌≤◌, ◌⊎◌, true, List, ◌∷◌, ◌++◌, length, slice_index_or}
+use Rattle.std.specs.Prelude.{◌≡◌, ◌≢◌, ℕ, ◌+◌, ◌*◌, ◌/◌, ◌%◌, ◌^◌, ◌<◌, ◌≤◌, ◌⊎◌, true, List, ◌∷◌, ◌++◌, length}
 use Rattle.std.specs.List.{flat_map, AllByRecursion}
 use Rattle.std.specs.Int.{w16, to_be_bytes}
 use Rattle.st_format.specs.declared.format.Format.{Format}
@@ -19,10 +19,6 @@ fault_number BadOffset = 5
 fault_number RowOutside = 6
 fault_number ColumnsOutside = 7
 fault_number ShortData = 8
-
--- numbers below 256
-abbrev pub AreOctets : List ℕ → Type 0
-AreOctets octets = (k : ℕ) → slice_index_or octets k 0 < 256
 
 -- The octets are an extended number, the texts of these headers (RFC 4175, 4.2), and some more.
 pub record BeginsWith (octets : List ℕ) (headers : List Header) (more : List ℕ) : Type 0 where

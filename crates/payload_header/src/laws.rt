@@ -5,7 +5,8 @@ ghost use Rattle.st_format.specs.Raster.{Segment};
 ghost use Rattle.payload_header.specs.declared.payload.PayloadFault.{PayloadFault};
 ghost use Rattle.payload_header.specs.Payload.{IsPayload};
 ghost use Rattle.payload_header.specs.Reading.{payload_at};
-ghost use Rattle.payload_header.specs.Faults.{AreOctets, IsRefused};
+ghost use Rattle.payload_header.specs.Faults.{IsRefused};
+ghost use Rattle.st_format.specs.Device.{AreOctets};
 ghost use Rattle.payload_header.specs.declared.writing.SegmentHead.{SegmentHead};
 ghost use Rattle.payload_header.specs.Writing.{AreHeads, AreInside, IsWholePayload, data_text, front_text};
 

@@ -72,6 +72,11 @@ pub struct Segment<'a> {
 }
 
 impl<'a> Default for Segment<'a> {
+    ghost use Rattle.std.specs.Prelude.{◌≡◌, []};
+
+    ghost is_default = { λ s. (s.row ≡ 0) × (s.offset ≡ 0) × (s.octets.now ≡ []) };
+
+    /// A segment without octets at row 0 and column 0.
     fn default() -> Segment<'a> {
         Segment {
             row: 0,

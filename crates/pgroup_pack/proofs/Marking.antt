@@ -14,10 +14,10 @@ use Rattle.std.proofs.Math.Nat.{mul-add, mul-le-mul_left, mul_assoc, mul-div_can
 use borrow.Author.Tests.{lt-ltb, ltb-true}
 use borrow.Rule.Slice.PartMut.{put_mid}
 use lib.Lanes.{chunk, put_chunk, zip2, sel_l, top, mask_l}
-use Rattle.st_format.specs.declared.format.Sampling.{Sampling}
-use Rattle.st_format.specs.declared.format.Sampling.TheVariants.{Ycc422, Ycc444, Rgb}
-use Rattle.st_format.specs.declared.format.Depth.{Depth}
-use Rattle.st_format.specs.declared.format.Depth.TheVariants.{D8, D10, D12, D16}
+use Rattle.st_format.specs.declared.sampling.Sampling.{Sampling}
+use Rattle.st_format.specs.declared.sampling.Sampling.TheVariants.{Ycc422, Ycc444, Rgb}
+use Rattle.st_format.specs.declared.sampling.Depth.{Depth}
+use Rattle.st_format.specs.declared.sampling.Depth.TheVariants.{D8, D10, D12, D16}
 use Rattle.st_format.specs.Pgroup.{bits_of, pixel_group}
 use Rattle.st_format.specs.Samples.{values_in}
 use Rattle.pgroup_pack.proofs.Blocks.{rest_put}

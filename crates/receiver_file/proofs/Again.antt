@@ -7,10 +7,10 @@ use Rattle.std.proofs.lemmas.Bool.{cases_Bool, le-ltb, ne_eqb}
 use Rattle.std.proofs.lemmas.List.{length-map}
 use Rattle.std.proofs.lemmas.Nat.{from_be_bytes-to_be_bytes_2, from_be_bytes-to_be_bytes_4}
 use Rattle.st_format.specs.declared.cell.Cell.{Cell}
-use Rattle.st_format.specs.declared.format.Sampling.{Sampling}
-use Rattle.st_format.specs.declared.format.Sampling.TheVariants.{Ycc422, Ycc444, Rgb}
-use Rattle.st_format.specs.declared.format.Depth.{Depth}
-use Rattle.st_format.specs.declared.format.Depth.TheVariants.{D8, D10, D12, D16}
+use Rattle.st_format.specs.declared.sampling.Sampling.{Sampling}
+use Rattle.st_format.specs.declared.sampling.Sampling.TheVariants.{Ycc422, Ycc444, Rgb}
+use Rattle.st_format.specs.declared.sampling.Depth.{Depth}
+use Rattle.st_format.specs.declared.sampling.Depth.TheVariants.{D8, D10, D12, D16}
 use Rattle.st_format.specs.Fields.{Fields, format_at}
 use Rattle.st_format.specs.Member.{IsMember}
 use Rattle.st_format.specs.Pgroup.{bits_of}

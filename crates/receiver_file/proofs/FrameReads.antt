@@ -4,7 +4,7 @@ use Rattle.st_format.specs.declared.cell.Cell.{Cell}
 use Rattle.st_format.specs.declared.format.Format.{Format}
 use Rattle.st_format.specs.Fields.{Fields, fields_of}
 use Rattle.st_format.specs.Raster.{Raster}
-use Rattle.frame_assembly.specs.Rows.{row_groups}
+use Rattle.st_format.specs.Position.{row_groups}
 use Rattle.capture_file.specs.declared.fault.FileFault.{FileFault}
 use Rattle.capture_file.specs.Fields.{Fails, Gives}
 use Rattle.capture_file.specs.Groups.{groups_at, shape_of}

@@ -11,16 +11,17 @@ use Rattle.std.proofs.Math.Nat.{mul-add, mul_comm}
 use Rattle.st_format.specs.declared.cell.Cell.{Cell}
 use Rattle.st_format.specs.declared.format.Format.{Format}
 use Rattle.st_format.specs.Pgroup.{bits_of}
-use Rattle.st_format.specs.Position.{row_octets, row_samples}
+use Rattle.st_format.specs.Position.{row_groups, row_octets, row_samples}
 use Rattle.st_format.specs.Raster.{IsWhole, Raster}
 use Rattle.st_format.specs.Device.{AppendsPrefix}
 use Rattle.st_format.specs.Samples.{Spells, bits}
 use Rattle.st_format.proofs.Spelled.{joined_length}
 use Rattle.frame_assembly.specs.Packed.{known_value}
-use Rattle.frame_assembly.specs.Rows.{IsMarkOf, IsStateOf, group_cells, row_cells, row_groups}
+use Rattle.frame_assembly.specs.Rows.{IsMarkOf, IsStateOf, group_cells, row_cells}
 use Rattle.frame_assembly.specs.declared.state.GroupState.TheVariants.{Gone, Whole, Mixed}
 use Rattle.frame_assembly.proofs.GroupCells.{mixed_contested, mixed_others, not_missing, whole}
-use Rattle.frame_assembly.proofs.Segments.{row_samples_groups, sample_count_groups, swap_first}
+use Rattle.st_format.proofs.Columns.{row_samples_groups}
+use Rattle.frame_assembly.proofs.Segments.{sample_count_groups, swap_first}
 use Rattle.capture_file.proofs.Once.{shape_is}
 use Rattle.capture_file.specs.Groups.{IsShape, Shape, group_text, groups_text}
 use Rattle.capture_file.specs.StateFile.{cut_cells}

@@ -3,12 +3,13 @@ use Rattle.std.proofs.Common.{◌≡◌, ℕ, ◌+◌, ◌-◌, ◌*◌, ◌<◌
 use Rattle.std.specs.Io.KnownBytes.{Appends}
 use Rattle.std.proofs.lemmas.List.{length-drop, length-take-le}
 use Rattle.st_format.specs.Raster.{IsWhole, Raster}
-use Rattle.frame_assembly.specs.Rows.{group_cells, group_start, row_groups}
+use Rattle.frame_assembly.specs.Rows.{group_cells}
 use Rattle.frame_assembly.proofs.Segments.{sample_count_groups}
 use Rattle.capture_file.proofs.Once.{shape_is}
 use Rattle.receiver_file.specs.Known.{shape_in}
 use Rattle.st_format.specs.declared.cell.Cell.{Cell}
 use Rattle.st_format.specs.Device.{AppendsPrefix}
+use Rattle.st_format.specs.Position.{group_start, row_groups}
 use Rattle.capture_file.specs.Groups.{Shape, group_text, groups_text}
 use Rattle.capture_file.specs.StateFile.{cut_cells}
 use Rattle.receiver_file.proofs.CutCells.{cut_add, cut_place, cut_three}

@@ -11,7 +11,8 @@ use Rattle.st_format.specs.Fit.{CellFits}
 use Rattle.st_format.specs.Pgroup.{bits_of}
 use Rattle.st_format.specs.Raster.{Raster}
 use Rattle.st_format.proofs.Made.{format_at-fields}
-use Rattle.frame_assembly.specs.Rows.{group_cells, group_start, row_groups}
+use Rattle.st_format.specs.Position.{group_start, row_groups}
+use Rattle.frame_assembly.specs.Rows.{group_cells}
 use Rattle.path_merge.specs.Frames.{State}
 use Rattle.path_merge.specs.Opening.{IsWindow}
 use Rattle.capture_file.specs.Groups.{IsGroup, IsHad}

@@ -7,8 +7,8 @@ use Rattle.st_format.specs.declared.format.Format.{Format}
 use Rattle.st_format.specs.Raster.{Raster}
 use Rattle.frame_assembly.specs.declared.state.GroupState.{GroupState}
 use Rattle.frame_assembly.specs.declared.state.GroupState.TheVariants.{Gone, Whole, Mixed}
-use Rattle.frame_assembly.specs.Rows.{group_start, row_groups}
 use Rattle.st_format.specs.Samples.{values_in}
+use Rattle.st_format.specs.Position.{group_start, row_groups}
 use Rattle.capture_file.specs.declared.fault.FileFault.{FileFault}
 use Rattle.capture_file.specs.Fields.{◌>>=◌, field_at}
 use Rattle.capture_file.specs.Groups.{Shape, are_zeroed, cells_by, mixed_by, shape_of}

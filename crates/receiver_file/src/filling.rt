@@ -1,6 +1,6 @@
 //! The pixel groups of a frame, from a source.
 ghost use Rattle.std.specs.Prelude.{◌≡◌, ◌<◌, ◌*◌, IfErr, OnOk, take};
-ghost use Rattle.frame_assembly.specs.Rows.{group_start, row_groups};
+ghost use Rattle.st_format.specs.Position.{group_start, row_groups};
 ghost use Rattle.capture_file.specs.Faults.{CountsDevice};
 ghost use Rattle.capture_file.specs.Fields.{Fails, Gives};
 ghost use Rattle.capture_file.specs.Groups.{groups_at};

@@ -3,7 +3,8 @@ ghost use Rattle.std.specs.Prelude.{◌≡◌, ◌<◌, ◌^◌, ◌*◌, ◌==�
 ghost use Rattle.st_format.specs.Raster.{IsWhole};
 ghost use Rattle.st_format.specs.Pgroup.{bits_of, pixel_group};
 ghost use Rattle.st_format.specs.Samples.{values_in};
-ghost use Rattle.frame_assembly.specs.Rows.{group_cells, group_start, row_groups};
+ghost use Rattle.st_format.specs.Position.{group_start, row_groups};
+ghost use Rattle.frame_assembly.specs.Rows.{group_cells};
 ghost use Rattle.capture_file.specs.Faults.{CountsDevice};
 ghost use Rattle.capture_file.specs.Fields.{Fails, Gives};
 ghost use Rattle.capture_file.specs.Groups.{are_zeroed, group_at};

@@ -2,8 +2,8 @@
 use Rattle.std.proofs.Common.{◌≡◌, refl, Ok, Err, ℕ, List, [], ◌∷◌, codes}
 use Rattle.sdp_format.specs.declared.sdp.Range.TheVariants.{Narrow}
 use Rattle.sdp_format.specs.declared.fault.SdpFault.TheVariants.{NoVideo, BadMediaLine}
-use Rattle.st_format.specs.declared.format.Sampling.TheVariants.{Ycc422}
-use Rattle.st_format.specs.declared.format.Depth.TheVariants.{D10}
+use Rattle.st_format.specs.declared.sampling.Sampling.TheVariants.{Ycc422}
+use Rattle.st_format.specs.declared.sampling.Depth.TheVariants.{D10}
 use Rattle.sdp_format.specs.Sections.{Leg}
 use Rattle.sdp_format.specs.Reading.{description_at, description_of, section_at, listed_at, leg_of, said_in, format_of, media_of, is_raw90000, sampling_named, depth_named, same_leg}
 use Rattle.sdp_format.specs.Naming.{is_bad, rate, range_named, colorimetry}

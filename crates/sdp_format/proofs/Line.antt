@@ -8,10 +8,10 @@ use Rattle.std.proofs.lemmas.Grind.{common_steps}
 use Rattle.std.proofs.lemmas.Bool.Decides.{nat_tests}
 use Rattle.std.proofs.lemmas.Fmt.{digits_decimal}
 use Rattle.st_format.specs.Fields.{format_at}
-use Rattle.st_format.specs.declared.format.Sampling.{Sampling}
-use Rattle.st_format.specs.declared.format.Sampling.TheVariants.{Ycc422, Ycc444, Rgb}
-use Rattle.st_format.specs.declared.format.Depth.{Depth}
-use Rattle.st_format.specs.declared.format.Depth.TheVariants.{D8, D10, D12, D16}
+use Rattle.st_format.specs.declared.sampling.Sampling.{Sampling}
+use Rattle.st_format.specs.declared.sampling.Sampling.TheVariants.{Ycc422, Ycc444, Rgb}
+use Rattle.st_format.specs.declared.sampling.Depth.{Depth}
+use Rattle.st_format.specs.declared.sampling.Depth.TheVariants.{D8, D10, D12, D16}
 use Rattle.sdp_format.specs.declared.sdp.Range.{Range}
 use Rattle.sdp_format.specs.declared.sdp.Range.TheVariants.{Narrow, FullProtect, Full}
 use Rattle.sdp_format.specs.Bytes.{is_space, trimmed, front, behind, split, text_or}

@@ -3,8 +3,8 @@ use Rattle.std.proofs.Common.{◌≡◌, ◌≢◌, ℕ, false, ◌==◌, List, 
 use Rattle.std.proofs.lemmas.Bool.{eqb-false}
 use Rattle.std.proofs.lemmas.Option.{some_pair_parts}
 use Rattle.st_format.specs.declared.path.Path.TheVariants as path
-use Rattle.st_format.specs.declared.format.Sampling.{Sampling}
-use Rattle.st_format.specs.declared.format.Depth.{Depth}
+use Rattle.st_format.specs.declared.sampling.Sampling.{Sampling}
+use Rattle.st_format.specs.declared.sampling.Depth.{Depth}
 use Rattle.st_format.specs.Pgroup.{bits_of}
 use Rattle.st2110_tool.specs.declared.line.FormatLine.{FormatLine}
 use Rattle.st2110_tool.specs.declared.line.Place.{Place}

@@ -2,8 +2,8 @@
 use Rattle.std.proofs.Common.{◌≡◌, ℕ, ◌*◌, ◌%◌, false, refl, Ok}
 use Rattle.std.proofs.lemmas.Bool.{le-ltb, eq-eqb}
 use Rattle.std.proofs.Math.Nat.{div-one}
-use Rattle.st_format.specs.declared.format.Sampling.{Sampling}
-use Rattle.st_format.specs.declared.format.Depth.{Depth}
+use Rattle.st_format.specs.declared.sampling.Sampling.{Sampling}
+use Rattle.st_format.specs.declared.sampling.Depth.{Depth}
 use Rattle.st_format.specs.declared.format.Format.{Format}
 use Rattle.st_format.specs.Pgroup.{pixel_group}
 use Rattle.st_format.specs.Limits.{IsWidth, IsHeight, IsRate}

@@ -3,8 +3,8 @@ use Rattle.std.proofs.Common.{◌≡◌, ℕ, zero, suc, ◌+◌, ◌*◌, ◌/�
 use Rattle.std.specs.List.{range_with_len}
 use Rattle.std.proofs.lemmas.Nat.{mod_below, div_below, mul-add-lt}
 use Rattle.std.proofs.Math.Nat.{mul_comm}
-use Rattle.st_format.specs.declared.format.Sampling.{Sampling}
-use Rattle.st_format.specs.declared.format.Sampling.TheVariants.{Ycc422, Ycc444, Rgb}
+use Rattle.st_format.specs.declared.sampling.Sampling.{Sampling}
+use Rattle.st_format.specs.declared.sampling.Sampling.TheVariants.{Ycc422, Ycc444, Rgb}
 use Rattle.st_format.specs.declared.format.Format.{Format}
 use Rattle.st_format.specs.Member.{IsMember}
 use Rattle.st_format.specs.Position.{Position, HasComponent, IsPosition, run_columns, run_samples, row_samples, sample_count, place_in_row, place, places, number_of}
@@ -47,12 +47,12 @@ pub place-injective : (f : Format) (i j : ℕ) → place f i ≡ place f j → i
 place-injective f i j e = sym (number_of-place f i) ∙ ap (number_of f) e ∙ number_of-place f j
 
 -- members of a range
-member-range : (a n k : ℕ) → IsMember k (range_with_len a n) → (a ≤ k) × (k < a + n)
+pub member-range : (a n k : ℕ) → IsMember k (range_with_len a n) → (a ≤ k) × (k < a + n)
 member-range a zero k m = absurd m
 member-range a (suc n) k (inl e) = (omega arith, omega arith)
 member-range a (suc n) k (inr m) = let r = member-range (a + 1) n k m in (omega (arith, r.0), omega (arith, r.1))
 
-member_of_range : (a n k d : ℕ) → k ≡ a + d → d < n → IsMember k (range_with_len a n)
+pub member_of_range : (a n k d : ℕ) → k ≡ a + d → d < n → IsMember k (range_with_len a n)
 member_of_range a zero k d e lt = absurd (omega arith)
 member_of_range a (suc n) k zero e lt = inl (omega arith)
 member_of_range a (suc n) k (suc d) e lt = inr (member_of_range (a + 1) n k d (omega arith) (omega arith))

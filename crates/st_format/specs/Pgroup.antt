@@ -1,9 +1,9 @@
 -- Pixel groups: SMPTE ST 2110-20, 6.2 (tables of pgroups); RFC 4175, 4.3.
 use Rattle.std.specs.Prelude.{ℕ}
-use Rattle.st_format.specs.declared.format.Sampling.{Sampling}
-use Rattle.st_format.specs.declared.format.Sampling.TheVariants.{Ycc422, Ycc444, Rgb}
-use Rattle.st_format.specs.declared.format.Depth.{Depth}
-use Rattle.st_format.specs.declared.format.Depth.TheVariants.{D8, D10, D12, D16}
+use Rattle.st_format.specs.declared.sampling.Sampling.{Sampling}
+use Rattle.st_format.specs.declared.sampling.Sampling.TheVariants.{Ycc422, Ycc444, Rgb}
+use Rattle.st_format.specs.declared.sampling.Depth.{Depth}
+use Rattle.st_format.specs.declared.sampling.Depth.TheVariants.{D8, D10, D12, D16}
 
 -- Octets, pixels and samples of a pixel group, the smallest piece that a segment carries
 pub record Group : Type 0 where

@@ -147,16 +147,19 @@ pub trait DatagramSource {
     /// of a datagram stand at the front of `buf`, which has room for any datagram: 65,535 octets.
     /// What `buf` holds behind them, or after another turn, is not said.
     ///
-    /// An `Err` is one failure more, and the source's last fault. It delivers nothing, and says nothing
-    /// of what is to come.
+    /// An `Err` is one failure more, and the source's last fault, which stays until the next one. It
+    /// delivers nothing, and says nothing of what is to come.
     fn next(&mut self, buf: &mut [u8]) -> Result<Turn, SourceFault>
         requires { 65535 ≤ length buf.old }
         ensures room { length buf.new ≡ length buf.old }
         ensures within { IfOk result (λ t. IsWithin t) }
         ensures turn { IfOk result (λ t. TakesTurn (turns self.old) (turns self.new) t buf.new) }
-        ensures delivered { MatchResult result (λ t. CountsTurn t (delivered self.old) (delivered self.new)) (λ _. delivered self.new ≡ delivered self.old) }
+        ensures delivered { MatchResult result
+            (λ t. CountsTurn t (delivered self.old) (delivered self.new))
+            (λ _. delivered self.new ≡ delivered self.old) }
         ensures counted { CountsFaults (failures self.old) (failures self.new) result }
-        ensures last { IfErr result (λ e. last_fault self.new ≡ Some e) };
+        ensures last { IfErr result (λ e. last_fault self.new ≡ Some e) }
+        ensures blameless { OnOk result (last_fault self.new ≡ last_fault self.old) };
 }
 
 /// Reads until `buf` is full or the source is at its end, and answers how many octets stand at the

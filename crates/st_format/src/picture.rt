@@ -6,7 +6,7 @@ ghost use Rattle.st_format.specs.Picture.{FitsDepth, IsPicture, SetsOne, filled,
 ghost use Rattle.st_format.specs.Position.{IsPosition, component_in_row};
 ghost use Rattle.st_format.specs.declared.picture.PictureFault.TheVariants.{NoMemory};
 
-use crate::format::{Format, Sampling};
+use crate::{Format, Sampling};
 use std::alloc::{AllocError, Allocator, Global};
 use std::marker::Model;
 use thiserror::Error;
@@ -147,14 +147,8 @@ impl<A: Allocator> Picture<A> {
     pub fn same<B: Allocator>(&self, other: &Picture<B>) -> bool
         ensures { IsTrue result ↔ (self.now ≡ other.now) }
     {
-        same_format(&self.format, &other.format) && same_samples(&self.samples, &other.samples)
+        self.format.same(&other.format) && same_samples(&self.samples, &other.samples)
     }
-}
-
-fn same_format(left: &Format, right: &Format) -> bool
-    ensures { IsTrue result ↔ (left.now ≡ right.now) }
-{
-    left == right
 }
 
 fn same_samples(left: &[u16], right: &[u16]) -> bool

@@ -1,5 +1,5 @@
 use Rattle.std.proofs.Common.{◌≡◌, ℕ, ◌/◌, ◌<◌, get_or}
-use Rattle.st_format.specs.declared.format.Sampling.TheVariants.{Ycc444}
+use Rattle.st_format.specs.declared.sampling.Sampling.TheVariants.{Ycc444}
 use Rattle.st_format.specs.Position.{component_in_row}
 use Rattle.bt709_fixed.specs.Operations.{of_component}
 use Rattle.bt709_fixed.proofs.join_components.Given as goal

@@ -1,5 +1,5 @@
 use Rattle.std.proofs.Common.{◌≡◌, ◌+◌, ◌*◌, ◌/◌, length, get_or, arith, rules, ◌∙◌}
-use Rattle.st_format.specs.declared.format.Sampling.TheVariants.{Ycc444}
+use Rattle.st_format.specs.declared.sampling.Sampling.TheVariants.{Ycc444}
 use Rattle.st_format.specs.Position.{component_in_row}
 use Rattle.lane_kernels.specs.Formulas.{cb, cr, luma, video_data}
 use Rattle.bt709_fixed.specs.Operations.{of_component}

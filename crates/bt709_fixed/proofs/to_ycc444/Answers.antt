@@ -1,5 +1,5 @@
 use Rattle.std.proofs.Common.{◌%◌, length, sym, subst, ap, ◌∙◌}
-use Rattle.st_format.specs.declared.format.Sampling.TheVariants.{Ycc444}
+use Rattle.st_format.specs.declared.sampling.Sampling.TheVariants.{Ycc444}
 use Rattle.st_format.specs.Pgroup.{bits_of}
 use Rattle.bt709_fixed.specs.Operations.{IsOf, IsResampled, matrixed_at, ycc444_value}
 use Rattle.bt709_fixed.proofs.Numbers.{whole_pixels, matrixed_picture}

@@ -1,4 +1,5 @@
-ghost use Rattle.std.specs.Prelude.{◌≡◌, ◌≤◌, ◌<◌, ◌+◌, ◌-◌, ◌↔◌, ◌⊎◌, if◌then◌else◌, is_ok, Some, [], length, drop, map, vec_capacity, OnOk, OnErr, IsErr};
+ghost use Rattle.std.specs.Prelude.{◌≡◌, ◌≤◌, ◌<◌, ◌+◌, ◌-◌, ◌↔◌, ◌⊎◌, if◌then◌else◌, is_ok};
+ghost use Rattle.std.specs.Prelude.{Some, [], length, drop, map, vec_capacity, OnOk, OnErr, IsErr};
 ghost use Rattle.st_format.specs.Device.{CountsFaults, TakesOne, KeepsAll};
 ghost use Rattle.st_format.specs.Memory.{octets_of, capacity_of, HasNoRoom};
 
@@ -24,6 +25,7 @@ impl<A: Allocator> Model for MemoryDatagrams<A> {
 
     ghost view = { λ s. record {
       taken = map octets_of (take s.used s.slots.items);
+      capacities = map capacity_of s.slots.items;
       rooms = map capacity_of (drop s.used s.slots.items);
       fails_in = s.fails_in;
       failures = s.failures;
@@ -40,6 +42,7 @@ impl<A: Allocator> MemoryDatagrams<A> {
         ensures unfailed { ⟦<MemoryDatagrams<A> as DatagramSink>⟧.failures result ≡ 0 }
         ensures value { result ≡ record {
           taken = [];
+          capacities = map capacity_of slots.items;
           rooms = map capacity_of slots.items;
           fails_in = fails_in;
           failures = 0;
@@ -55,7 +58,8 @@ impl<A: Allocator> MemoryDatagrams<A> {
 
     /// The datagrams that it took, in order.
     pub fn taken(&self) -> &[Vec<u8, A>]
-        ensures tells { ⟦<MemoryDatagrams<A> as DatagramSink>⟧.taken self.now ≡ Some (map octets_of result.now) }
+        ensures tells { ⟦<MemoryDatagrams<A> as DatagramSink>⟧.taken self.now
+            ≡ Some (map octets_of result.now) }
     {
         &self.slots[..self.used]
     }
@@ -68,13 +72,16 @@ impl<A: Allocator> MemoryDatagrams<A> {
     }
 }
 
-// Puts octets into a slot in place of what it holds.
+/// Puts octets into a slot in place of what it holds.
 fn refill<A: Allocator>(slot: &mut Vec<u8, A>, octets: &[u8])
     requires { length octets.now ≤ vec_capacity slot.old }
-    ensures { octets_of slot.new ≡ octets.now }
+    ensures octets { octets_of slot.new ≡ octets.now }
+    ensures room { capacity_of slot.new ≡ capacity_of slot.old }
 {
     slot.clear();
-    slot.extend_from_slice(octets).unwrap();
+    for octet in octets {
+        slot.push_reserved(*octet);
+    }
 }
 
 impl<A: Allocator> DatagramSink for MemoryDatagrams<A> {
@@ -89,8 +96,12 @@ impl<A: Allocator> DatagramSink for MemoryDatagrams<A> {
         ensures counted { CountsFaults self.old.failures self.new.failures result }
 
         // It fails at the call named and where no room is, and takes one slot for each datagram.
-        ensures when { IsErr result ↔ ((self.old.fails_in ≡ 1) ⊎ HasNoRoom self.old.rooms (length octets.now)) }
-        ensures slot { self.new.rooms ≡ (if is_ok result then drop 1 self.old.rooms else self.old.rooms) }
+        ensures when { IsErr result
+            ↔ ((self.old.fails_in ≡ 1) ⊎ HasNoRoom self.old.rooms (length octets.now)) }
+        ensures slot { self.new.rooms
+            ≡ (if is_ok result then drop 1 self.old.rooms else self.old.rooms) }
+        // No slot grows.
+        ensures capacities { self.new.capacities ≡ self.old.capacities }
         ensures next { self.new.fails_in ≡ self.old.fails_in - 1 }
     {
         let fails = self.fails_in == 1;

@@ -1,4 +1,4 @@
-ghost use Rattle.std.specs.Prelude.{◌≡◌, ◌≤◌, ◌+◌, ◌-◌, ◌^◌, ◌↔◌, ◌⊎◌, Some, None, Err, length, map, min, IfOk, IfErr, OnErr, IsErr, MatchResult};
+ghost use Rattle.std.specs.Prelude.{◌≡◌, ◌≤◌, ◌+◌, ◌-◌, ◌^◌, ◌↔◌, ◌⊎◌, Some, None, Err, length, map, min, IfOk, IfErr, OnOk, OnErr, IsErr, MatchResult};
 ghost use Rattle.st_format.specs.Device.{CountsFaults};
 ghost use Rattle.st_format.specs.Memory.{IsTooLong, due_of};
 ghost use Rattle.st_format.specs.Turns.{CountsTurn, IsWithin, TakesTurn};
@@ -125,9 +125,12 @@ impl<A: Allocator> DatagramSource for MemoryTurns<A> {
         ensures room { length buf.new ≡ length buf.old }
         ensures within { IfOk result (λ t. IsWithin t) }
         ensures turn { IfOk result (λ t. TakesTurn (Some self.old.turns) (Some self.new.turns) t buf.new) }
-        ensures delivered { MatchResult result (λ t. CountsTurn t self.old.delivered self.new.delivered) (λ _. self.new.delivered ≡ self.old.delivered) }
+        ensures delivered { MatchResult result
+            (λ t. CountsTurn t self.old.delivered self.new.delivered)
+            (λ _. self.new.delivered ≡ self.old.delivered) }
         ensures counted { CountsFaults self.old.failures self.new.failures result }
         ensures last { IfErr result (λ e. self.new.last_fault ≡ Some e) }
+        ensures blameless { OnOk result (self.new.last_fault ≡ self.old.last_fault) }
 
         // It fails at the call named and where a datagram is too long, for the device's sake, and keeps
         // the turns then.

@@ -8,7 +8,7 @@ pub overflow_mul-result : goal.overflow_mul-result
 overflow_mul-result c =
     let are = counted _ _ _ c.pgroup-samples.result.samples c.count_marks-groups.result c.samples_mask.result c.count_marks-contested.result c.args.marks.now c.args.octets.now
     (sizes c.args.format.now.sampling c.args.format.now.depth) c.requires.packed c.pgroup-samples.ensures.samples c.count_marks-groups.ensures c.samples_mask.ensures c.count_marks-contested.ensures in
-    record { fits = omega (arith, are.few, mul-le-mul c.pgroup-samples.ensures.few are.few) }
+    record { fits = omega (arith, are.few, mul-le-mul c.pgroup-samples.ensures.most.2 are.few) }
 
 pub overflow_sub-result : goal.overflow_sub-result
 overflow_sub-result c =

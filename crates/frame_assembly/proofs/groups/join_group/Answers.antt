@@ -1,4 +1,4 @@
-use Rattle.std.proofs.Common.{ap, ℕ, [], ◌∷◌, refl, arith}
+use Rattle.std.proofs.Common.{ap, ℕ, [], ◌∷◌, refl}
 use Rattle.frame_assembly.proofs.PackedLemmas.{sizes}
 use Rattle.frame_assembly.proofs.GroupJoins.{same_joined, only, left_joined, copy_joined, group_joined}
 use Rattle.frame_assembly.proofs.groups.join_group.Goals as goal

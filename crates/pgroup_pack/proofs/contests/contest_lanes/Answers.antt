@@ -1,7 +1,7 @@
 use Rattle.std.proofs.Common.{◌≡◌, ℕ, ◌*◌, ◌≤◌, List, length, take, refl, sym, ap, ◌∙◌, subst, arith, rules}
 use Rattle.st_format.specs.Pgroup.{bits_of, pixel_group}
 use Rattle.st_format.specs.Samples.{values_in}
-use Rattle.st_format.specs.declared.format.Depth.{Depth}
+use Rattle.st_format.specs.declared.sampling.Depth.{Depth}
 use Rattle.pgroup_pack.specs.Groups.{AreContested}
 use Rattle.pgroup_pack.proofs.Marking.{few_contested, length-group_values}
 use Rattle.pgroup_pack.proofs.Values.{spelled_values}

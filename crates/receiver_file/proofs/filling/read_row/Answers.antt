@@ -2,7 +2,8 @@ use Rattle.std.proofs.Common.{◌≡◌, ◌<◌, ◌*◌, ◌∙◌, ap, refl, 
 use Rattle.std.proofs.lemmas.Result.{err_from_is_err_and}
 use Rattle.st_format.specs.declared.format.Format.{Format}
 use Rattle.st_format.specs.Raster.{Raster}
-use Rattle.frame_assembly.specs.Rows.{group_cells, group_start, row_groups}
+use Rattle.st_format.specs.Position.{group_start, row_groups}
+use Rattle.frame_assembly.specs.Rows.{group_cells}
 use Rattle.capture_file.specs.Fields.{Fails, Gives}
 use Rattle.capture_file.specs.Groups.{Shape, group_at, groups_at}
 use Rattle.capture_file.specs.StateFile.{cut_cells}

@@ -1,5 +1,5 @@
 use Rattle.std.proofs.Common.{◌≡◌, drop, take}
-use Rattle.frame_assembly.specs.Rows.{group_start}
+use Rattle.st_format.specs.Position.{group_start}
 use Rattle.capture_file.specs.Fields.{Gives}
 use Rattle.capture_file.specs.Groups.{groups_at}
 use Rattle.capture_file.specs.StateFile.{cut_cells}

@@ -2,7 +2,7 @@ use Rattle.std.proofs.Common.{◌≡◌, ◌<◌, ◌*◌, ◌∙◌, ap, refl, 
 use Rattle.std.proofs.lemmas.Result.{err_from_is_err_and}
 use Rattle.st_format.specs.declared.format.Format.{Format}
 use Rattle.st_format.specs.Raster.{Raster}
-use Rattle.frame_assembly.specs.Rows.{group_start, row_groups}
+use Rattle.st_format.specs.Position.{group_start, row_groups}
 use Rattle.capture_file.specs.Fields.{Fails, Gives}
 use Rattle.capture_file.specs.Groups.{Shape, groups_at}
 use Rattle.capture_file.specs.StateFile.{cut_cells}

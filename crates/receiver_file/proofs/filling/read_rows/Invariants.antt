@@ -1,5 +1,5 @@
 use Rattle.std.proofs.Common.{◌≡◌, ◌*◌}
-use Rattle.frame_assembly.specs.Rows.{row_groups}
+use Rattle.st_format.specs.Position.{row_groups}
 use Rattle.capture_file.specs.Fields.{Gives}
 use Rattle.capture_file.specs.Groups.{groups_at}
 use Rattle.capture_file.specs.StateFile.{cut_cells}

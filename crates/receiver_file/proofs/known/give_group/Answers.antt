@@ -5,9 +5,10 @@ use Rattle.st_format.specs.declared.format.Format.{Format}
 use Rattle.st_format.specs.Pgroup.{pixel_group}
 use Rattle.st_format.specs.Raster.{Raster}
 use Rattle.st_format.specs.Samples.{values_in}
+use Rattle.st_format.specs.Position.{group_start}
 use Rattle.pgroup_pack.specs.Groups.{blanked}
 use Rattle.pgroup_pack.proofs.Marking.{length-group_values}
-use Rattle.frame_assembly.specs.Rows.{given_cells, group_cells, group_start}
+use Rattle.frame_assembly.specs.Rows.{given_cells, group_cells}
 use Rattle.capture_file.specs.Groups.{Shape}
 use Rattle.receiver_file.specs.Known.{cells_known, is_there, shape_in}
 use Rattle.receiver_file.proofs.Knowing.{length-given_cells, replaced_at, replaced_before}

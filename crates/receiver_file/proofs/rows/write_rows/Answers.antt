@@ -1,7 +1,7 @@
 use Rattle.std.proofs.Common.{◌<◌, ◌≡◌, ◌∙◌, ap, refl, subst, ℕ}
 use Rattle.std.proofs.lemmas.Result.{err_from_is_err_and}
 use Rattle.st_format.specs.declared.format.Format.{Format}
-use Rattle.frame_assembly.specs.Rows.{row_groups}
+use Rattle.st_format.specs.Position.{row_groups}
 use Rattle.receiver_file.specs.Known.{shape_in}
 use Rattle.receiver_file.proofs.RowRuns.{rows_more, rows_none, rows_stop}
 use Rattle.receiver_file.proofs.rows.write_rows.Goals as goal

@@ -1,7 +1,7 @@
 use Rattle.std.proofs.Common.{◌≡◌, ℕ, ◌*◌, ◌/◌, ap, subst, sym}
 use Rattle.st_format.specs.Pgroup.{bits_of}
 use Rattle.st_format.specs.Position.{sample_count}
-use Rattle.st_format.specs.declared.format.Depth.TheVariants.{D10, D12}
+use Rattle.st_format.specs.declared.sampling.Depth.TheVariants.{D10, D12}
 use Rattle.st2110_tool.proofs.RehearsalLemmas.{ten_bits, twelve_bits, whole_groups}
 use Rattle.st2110_tool.proofs.picture_text.packed_octets.Goals as goal
 
