@@ -42,9 +42,3 @@ format_at s b w h n d =
 abbrev pub made : Result Format FormatFault → Result Fields FormatFault
 made (Ok f) = Ok (fields_of f)
 made (Err e) = Err e
-
--- the numbers of the refusals
-abbrev pub fault_number : FormatFault → ℕ
-fault_number BadWidth = 1
-fault_number BadHeight = 2
-fault_number BadRate = 3

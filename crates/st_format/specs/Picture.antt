@@ -2,8 +2,6 @@
 use Rattle.std.specs.Prelude.{◌≡◌, ◌≢◌, ℕ, ◌+◌, ◌*◌, ◌/◌, ◌%◌, ◌^◌, ◌<◌, List, length, map, slice_index}
 use Rattle.std.specs.List.{AllByRecursion}
 use Rattle.st_format.specs.declared.format.Format.{Format}
-use Rattle.st_format.specs.declared.picture.PictureFault.{PictureFault}
-use Rattle.st_format.specs.declared.picture.PictureFault.TheVariants.{NoMemory, ValueTooLarge}
 use Rattle.st_format.specs.Pgroup.{bits_of}
 use Rattle.st_format.specs.Position.{Position, IsPosition, places, number_of, sample_count}
 
@@ -34,11 +32,6 @@ pub record SetsOne (old new : Values) (p : Position) (value : ℕ) : Type 0 wher
   pub format : new.format ≡ old.format
   pub changed : value_at new p ≡ value
   pub others : (q : Position) → IsPosition old.format q → q ≢ p → value_at new q ≡ value_at old q
-
--- the numbers of the refusals
-abbrev pub picture_fault_number : PictureFault → ℕ
-picture_fault_number NoMemory = 4
-picture_fault_number ValueTooLarge = 5
 
 -- The timestamp of frame k of a sender whose first frame has the timestamp base: a clock of 90,000 ticks a
 -- second, modulo 2 ^ 32 (SMPTE ST 2110-20, 7.1; RFC 4175, 4.1)

@@ -12,27 +12,60 @@ ghost use Rattle.std.specs.Io.KnownBytes.{Consumes, Appends, Keeps, IsAtEnd};
 ghost use Rattle.st_format.specs.Device.{CountsFaults, ConsumesPrefix, AppendsPrefix, StaysUntold, TakesOne, KeepsAll, TellsOctets};
 
 use crate::Path;
+use std::fmt;
 use thiserror::Error;
 
 /// A source or a sink of octets failed. Why is the device's own matter.
 #[derive(Clone, Copy, Debug, PartialEq, Eq, Error)]
-#[error("DeviceFault")]
 pub struct DeviceFault;
+
+impl fmt::Display for DeviceFault {
+    ghost use Rattle.std.specs.Prelude.{Some};
+    ghost use Rattle.st_format.specs.Faults.{device_fault_name};
+
+    ghost output = { λ _. Some device_fault_name };
+
+    fn fmt<W: fmt::Write>(&self, f: &mut fmt::Formatter<W>) -> fmt::Result {
+        f.write_str("DeviceFault")
+    }
+}
 
 /// A sink of datagrams failed, and did not take the datagram.
 #[derive(Clone, Copy, Debug, PartialEq, Eq, Error)]
-#[error("SinkFault")]
 pub struct SinkFault;
+
+impl fmt::Display for SinkFault {
+    ghost use Rattle.std.specs.Prelude.{Some};
+    ghost use Rattle.st_format.specs.Faults.{sink_fault_name};
+
+    ghost output = { λ _. Some sink_fault_name };
+
+    fn fmt<W: fmt::Write>(&self, f: &mut fmt::Formatter<W>) -> fmt::Result {
+        f.write_str("SinkFault")
+    }
+}
 
 /// A source of datagrams failed.
 #[derive(Clone, Copy, Debug, PartialEq, Eq, Error)]
 pub enum SourceFault {
     /// The device failed. Why is its own matter.
-    #[error("Device")]
     Device,
     /// What the device carries is at fault, by the number that the source gives to faults of its content.
-    #[error("Content {0}")]
     Content(u8),
+}
+
+impl fmt::Display for SourceFault {
+    ghost use Rattle.std.specs.Prelude.{Some};
+    ghost use Rattle.st_format.specs.Faults.{source_fault_name};
+
+    ghost output = { λ fault. Some (source_fault_name fault) };
+
+    fn fmt<W: fmt::Write>(&self, f: &mut fmt::Formatter<W>) -> fmt::Result {
+        match self {
+            SourceFault::Device => f.write_str("Device"),
+            SourceFault::Content(number) => write!(f, "Content {number}"),
+        }
+    }
 }
 
 /// What a source of datagrams answers to one call.

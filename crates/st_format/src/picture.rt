@@ -8,6 +8,7 @@ ghost use Rattle.st_format.specs.declared.picture.PictureFault.TheVariants.{NoMe
 
 use crate::{Format, Sampling};
 use std::alloc::{AllocError, Allocator, Global};
+use std::fmt;
 use std::marker::Model;
 use thiserror::Error;
 
@@ -15,21 +16,33 @@ use thiserror::Error;
 #[derive(Clone, Copy, Debug, PartialEq, Eq, Error)]
 pub enum PictureFault {
     /// The memory was refused.
-    #[error("NoMemory")]
     NoMemory = 4,
     /// A value has more bits than a sample of the format.
-    #[error("ValueTooLarge")]
     ValueTooLarge,
 }
 
 impl PictureFault {
-    ghost use Rattle.st_format.specs.Picture.{picture_fault_number};
+    ghost use Rattle.st_format.specs.Faults.{picture_fault_number};
 
     /// Its number: 4 or 5. `ValueTooLarge` is tested first.
     pub fn number(self) -> u8
         ensures { result ≡ picture_fault_number self }
     {
         self as u8
+    }
+}
+
+impl fmt::Display for PictureFault {
+    ghost use Rattle.std.specs.Prelude.{Some};
+    ghost use Rattle.st_format.specs.Faults.{picture_fault_name};
+
+    ghost output = { λ fault. Some (picture_fault_name fault) };
+
+    fn fmt<W: fmt::Write>(&self, f: &mut fmt::Formatter<W>) -> fmt::Result {
+        match self {
+            PictureFault::NoMemory => f.write_str("NoMemory"),
+            PictureFault::ValueTooLarge => f.write_str("ValueTooLarge"),
+        }
     }
 }
 
