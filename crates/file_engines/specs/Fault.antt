@@ -46,7 +46,8 @@ IsLineOf Memory status line = (status ≡ ended.Memory) × (line ≡ memory_line
 -- a fault was told by such a line, or the sink failed
 abbrev pub TellsFault : Fault → Status → ℕ → ℕ → Option (List ℕ) → Option (List ℕ) → Type 0
 TellsFault f result old new held held' =
-    (status : Status) × (line : List ℕ) × IsLineOf f status line × Tells status line result old new held held'
+    (status : Status) × (line : List ℕ) × IsLineOf f status line
+    × Tells status line result old new held held'
 
 -- where a run ends by a refusal, this holds
 abbrev pub IfRefused : Fault → Type 0 → Type 0

@@ -3,7 +3,8 @@ use Rattle.std.specs.Prelude.{ℕ, List, ◌++◌, codes, Option, Some, None}
 use Rattle.std.specs.Fmt.{decimal}
 use Rattle.tool_text.specs.Frames.{counts_text}
 use Rattle.file_engines.specs.declared.line.Line.{Line}
-use Rattle.file_engines.specs.declared.line.Line.TheVariants.{Records, Sent, Delivered, Refused, Outside, Frame}
+use Rattle.file_engines.specs.declared.line.Line.TheVariants.{Records, Sent, Delivered, Refused}
+use Rattle.file_engines.specs.declared.line.Line.TheVariants.{Outside, Frame}
 
 -- the text of a line; that of a refusal holds a name of the crate below
 abbrev pub line_text : Line → Option (List ℕ)

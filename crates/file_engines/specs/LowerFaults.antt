@@ -1,5 +1,5 @@
--- Faults of the crates below as faults that end a run: want of memory and a device's fault are told as such, and any
--- other refusal by its subject, number and name (own).
+-- Faults of the crates below as faults that end a run: want of memory and a device's fault are told
+-- as such, and any other refusal by its subject, number and name (own).
 use Rattle.capture_file.specs.declared.fault.FileFault.{FileFault}
 use Rattle.capture_file.specs.declared.fault.FileFault.TheVariants as file
 use Rattle.packet_plan.specs.declared.plan.PlanFault.{PlanFault}
@@ -11,7 +11,8 @@ use Rattle.sdp_format.specs.declared.fault.SdpFault.TheVariants as sdp
 use Rattle.file_engines.specs.declared.fault.Fault.{Fault}
 use Rattle.file_engines.specs.declared.fault.Fault.TheVariants.{Refused, Device, Memory}
 use Rattle.file_engines.specs.declared.fault.Refusal.{Refusal}
-use Rattle.file_engines.specs.declared.fault.Refusal.TheVariants.{Sdp, Open, Plan, Capture, Picture, State}
+use Rattle.file_engines.specs.declared.fault.Refusal.TheVariants.{Sdp, Open, Plan, Capture, Picture}
+use Rattle.file_engines.specs.declared.fault.Refusal.TheVariants.{State}
 
 abbrev pub of_sdp : SdpFault → Fault
 of_sdp sdp.NoMemory = Memory

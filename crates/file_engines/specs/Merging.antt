@@ -19,8 +19,8 @@ pub record IsAgain (s r : State) : Type 0 where
 abbrev pub merged : State → State → State
 merged s t = record { opening = s.opening; frames = joined_frames s.frames t.frames; refusals = [] }
 
--- A sink took the file of two receivers merged, which are opened alike. So it is the file of one that
--- holds the datagrams of both.
+-- A sink took the file of two receivers merged, which are opened alike. So it is the file of one
+-- that holds the datagrams of both.
 pub record SavesMerged (s t : State) (old new : Option (List ℕ)) : Type 0 where
   pub alike : s.opening ≡ t.opening
   pub taken : Appends old new (state_text (kept_of (merged s t)))

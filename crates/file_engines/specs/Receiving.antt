@@ -1,4 +1,5 @@
--- Devices that may not be there, what a reader of a capture tells, and what is written of a receiver.
+-- Devices that may not be there, what a reader of a capture tells, and what is written of a
+-- receiver.
 use Rattle.std.specs.Prelude.{ℕ, ◌==◌, if◌then◌else◌, List, Option, None, Some}
 use Rattle.std.specs.Io.KnownBytes.{Appends}
 use Rattle.capture_file.specs.StateFile.{state_text}
@@ -16,8 +17,8 @@ abbrev pub failures_in : {S : Type 0} → (S → ℕ) → Option S → ℕ
 failures_in failures None = 0
 failures_in failures (Some s) = failures s
 
--- the fault of a capture that a reader of records tells by its number: 6 is BadField, and it tells no other but
--- Truncated
+-- the fault of a capture that a reader of records tells by its number: 6 is BadField, and it tells
+-- no other but Truncated
 abbrev pub told_fault : SourceFault → Fault
 told_fault SourceDevice = Device
 told_fault (Content n) = Refused (Capture (if n == 6 then BadField else Truncated))

@@ -1,6 +1,7 @@
 //! What ends a run before its end.
 ghost use Rattle.std.specs.Prelude.{◌≡◌};
-ghost use Rattle.file_engines.specs.LowerFaults.{capture_fault, file_fault, picture_fault, state_fault};
+ghost use Rattle.file_engines.specs.LowerFaults.{capture_fault, file_fault, picture_fault};
+ghost use Rattle.file_engines.specs.LowerFaults.{state_fault};
 
 use capture_file::FileFault;
 use packet_plan::PlanFault;

@@ -19,12 +19,13 @@ use tool_text::{LINE, Status, tell_memory};
 
 /// Merges two receivers that were written as files.
 ///
-/// The receivers of `left` and of `right` are read, and the right one is merged into the left. A line for the frame of
-/// each timestamp is printed to `output`, and then the merged receiver is written to `state`.
+/// The receivers of `left` and of `right` are read, and the right one is merged into the left. A
+/// line for the frame of each timestamp is printed to `output`, and then the merged receiver is
+/// written to `state`.
 ///
-/// The status is 0; or 1 where a file is refused or the two are opened unlike (`merge 1`), 3 where a device failed, and
-/// 4 where the allocator refused memory. `faults` is told of it by one line. Nothing is written to `state` where the
-/// status is 1.
+/// The status is 0; or 1 where a file is refused or the two are opened unlike (`merge 1`), 3 where
+/// a device failed, and 4 where the allocator refused memory. `faults` is told of it by one line.
+/// Nothing is written to `state` where the status is 1.
 pub fn run_merge<A, L, R, K, O, F>(
     alloc: A,
     left: &mut L,
@@ -41,8 +42,16 @@ where
     O: ByteSink,
     F: ByteSink,
     ensures range { (result ≡ 0) ⊎ (result ≡ 1) ⊎ (result ≡ 3) ⊎ (result ≡ 4) }
-    ensures device { result ≡ 3 → OneFailed (counts (L.failures left.old) (L.failures left.new) ∷ counts (R.failures right.old) (R.failures right.new) ∷ counts (K.failures state.old) (K.failures state.new) ∷ counts (O.failures output.old) (O.failures output.new) ∷ counts (F.failures faults.old) (F.failures faults.new) ∷ []) }
-    ensures working { result ≢ 3 → NoneFailed (counts (L.failures left.old) (L.failures left.new) ∷ counts (R.failures right.old) (R.failures right.new) ∷ counts (K.failures state.old) (K.failures state.new) ∷ counts (O.failures output.old) (O.failures output.new) ∷ counts (F.failures faults.old) (F.failures faults.new) ∷ []) }
+    ensures device { result ≡ 3 → OneFailed (counts (L.failures left.old) (L.failures left.new)
+        ∷ counts (R.failures right.old) (R.failures right.new)
+        ∷ counts (K.failures state.old) (K.failures state.new)
+        ∷ counts (O.failures output.old) (O.failures output.new)
+        ∷ counts (F.failures faults.old) (F.failures faults.new) ∷ []) }
+    ensures working { result ≢ 3 → NoneFailed (counts (L.failures left.old) (L.failures left.new)
+        ∷ counts (R.failures right.old) (R.failures right.new)
+        ∷ counts (K.failures state.old) (K.failures state.new)
+        ∷ counts (O.failures output.old) (O.failures output.new)
+        ∷ counts (F.failures faults.old) (F.failures faults.new) ∷ []) }
     ensures saved { result ≡ 0 → Saves (K.held state.old) (K.held state.new) }
     // Where the files are those of two receivers, what is written is the file of the two merged.
     ensures merged { result ≡ 0
@@ -78,7 +87,10 @@ where
     ensures merged { OnOk result
         (Merges (L.to_give left.old) (R.to_give right.old) (K.held state.old) (K.held state.new)) }
     ensures refused { IfErr result (λ f. IfRefused f (state.new ≡ state.old)) }
-    ensures failures { Accounts result (counts (L.failures left.old) (L.failures left.new) ∷ counts (R.failures right.old) (R.failures right.new) ∷ counts (K.failures state.old) (K.failures state.new) ∷ counts (O.failures output.old) (O.failures output.new) ∷ []) }
+    ensures failures { Accounts result (counts (L.failures left.old) (L.failures left.new)
+        ∷ counts (R.failures right.old) (R.failures right.new)
+        ∷ counts (K.failures state.old) (K.failures state.new)
+        ∷ counts (O.failures output.old) (O.failures output.new) ∷ []) }
 {
     let merged = merge_both(alloc, left, right)?;
     print_frames(&merged, output, text)?;
@@ -92,7 +104,8 @@ fn merge_both<A: Allocator + Copy, L: ByteSource, R: ByteSource>(
     right: &mut R,
 ) -> Result<Receiver<A>, Fault>
     ensures joined { IfOk result (λ m. Joins (L.to_give left.old) (R.to_give right.old) m) }
-    ensures failures { Accounts result (counts (L.failures left.old) (L.failures left.new) ∷ counts (R.failures right.old) (R.failures right.new) ∷ []) }
+    ensures failures { Accounts result (counts (L.failures left.old) (L.failures left.new)
+        ∷ counts (R.failures right.old) (R.failures right.new) ∷ []) }
 {
     let mut merged = read_receiver(alloc, left)?;
     let other = read_receiver(alloc, right)?;
@@ -109,7 +122,8 @@ fn read_receiver<A: Allocator + Copy, S: ByteSource>(
 ) -> Result<Receiver<A>, Fault>
     ensures same { IfOk result (λ r. (s : State)
         → GivesReceiver (S.to_give source.old) s → IsAgain s r) }
-    ensures failures { Accounts result (counts (S.failures source.old) (S.failures source.new) ∷ []) }
+    ensures failures { Accounts result (counts (S.failures source.old) (S.failures source.new)
+        ∷ []) }
 {
     match load_receiver(alloc, source) {
         Ok(receiver) => Ok(receiver),

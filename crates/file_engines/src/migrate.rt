@@ -19,11 +19,12 @@ use tool_text::{LINE, Status, tell_memory};
 /// The greatest number of records of a capture (own).
 const RECORDS: u64 = 16_777_216;
 
-/// Writes a capture of version 01 as one of version 02 with an SDP text, and prints `records N` to `output`.
+/// Writes a capture of version 01 as one of version 02 with an SDP text, and prints `records N` to
+/// `output`.
 ///
-/// The SDP is read first. The status is 0; or 1 where the SDP is longer than 65,535 octets (`migrate 1`) or refused,
-/// or the capture is, which has at most 16,777,216 records; 3 where a device failed, and 4 where the allocator
-/// refused memory. `faults` is told of it by one line.
+/// The SDP is read first. The status is 0; or 1 where the SDP is longer than 65,535 octets
+/// (`migrate 1`) or refused, or the capture is, which has at most 16,777,216 records; 3 where a
+/// device failed, and 4 where the allocator refused memory. `faults` is told of it by one line.
 pub fn run_migrate<A, D, S, K, O, F>(
     alloc: A,
     sdp: &mut D,
@@ -40,9 +41,18 @@ where
     O: ByteSink,
     F: ByteSink,
     ensures range { (result ≡ 0) ⊎ (result ≡ 1) ⊎ (result ≡ 3) ⊎ (result ≡ 4) }
-    ensures device { result ≡ 3 → OneFailed (counts (D.failures sdp.old) (D.failures sdp.new) ∷ counts (S.failures source.old) (S.failures source.new) ∷ counts (K.failures sink.old) (K.failures sink.new) ∷ counts (O.failures output.old) (O.failures output.new) ∷ counts (F.failures faults.old) (F.failures faults.new) ∷ []) }
-    ensures working { result ≢ 3 → NoneFailed (counts (D.failures sdp.old) (D.failures sdp.new) ∷ counts (S.failures source.old) (S.failures source.new) ∷ counts (K.failures sink.old) (K.failures sink.new) ∷ counts (O.failures output.old) (O.failures output.new) ∷ counts (F.failures faults.old) (F.failures faults.new) ∷ []) }
-    ensures migrated { result ≡ 0 → Migrates (D.to_give sdp.old) (D.to_give sdp.new) (S.to_give source.old) (S.to_give source.new) (K.held sink.old) (K.held sink.new) }
+    ensures device { result ≡ 3 → OneFailed (counts (D.failures sdp.old) (D.failures sdp.new)
+        ∷ counts (S.failures source.old) (S.failures source.new)
+        ∷ counts (K.failures sink.old) (K.failures sink.new)
+        ∷ counts (O.failures output.old) (O.failures output.new)
+        ∷ counts (F.failures faults.old) (F.failures faults.new) ∷ []) }
+    ensures working { result ≢ 3 → NoneFailed (counts (D.failures sdp.old) (D.failures sdp.new)
+        ∷ counts (S.failures source.old) (S.failures source.new)
+        ∷ counts (K.failures sink.old) (K.failures sink.new)
+        ∷ counts (O.failures output.old) (O.failures output.new)
+        ∷ counts (F.failures faults.old) (F.failures faults.new) ∷ []) }
+    ensures migrated { result ≡ 0 → Migrates (D.to_give sdp.old) (D.to_give sdp.new)
+        (S.to_give source.old) (S.to_give source.new) (K.held sink.old) (K.held sink.new) }
     ensures silent { result ≡ 0 → faults.new ≡ faults.old }
     ensures memory { result ≡ 4 → Appends (F.held faults.old) (F.held faults.new) memory_line }
 {
@@ -69,8 +79,12 @@ where
     S: ByteSource,
     K: ByteSink,
     O: ByteSink,
-    ensures migrated { OnOk result (Migrates (D.to_give sdp.old) (D.to_give sdp.new) (S.to_give source.old) (S.to_give source.new) (K.held sink.old) (K.held sink.new)) }
-    ensures failures { Accounts result (counts (D.failures sdp.old) (D.failures sdp.new) ∷ counts (S.failures source.old) (S.failures source.new) ∷ counts (K.failures sink.old) (K.failures sink.new) ∷ counts (O.failures output.old) (O.failures output.new) ∷ []) }
+    ensures migrated { OnOk result (Migrates (D.to_give sdp.old) (D.to_give sdp.new)
+        (S.to_give source.old) (S.to_give source.new) (K.held sink.old) (K.held sink.new)) }
+    ensures failures { Accounts result (counts (D.failures sdp.old) (D.failures sdp.new)
+        ∷ counts (S.failures source.old) (S.failures source.new)
+        ∷ counts (K.failures sink.old) (K.failures sink.new)
+        ∷ counts (O.failures output.old) (O.failures output.new) ∷ []) }
 {
     let said = read_checked(alloc, sdp, Refusal::MigrateSdp)?;
     let records = move_capture(alloc, source, sink, &said)?;
@@ -85,8 +99,10 @@ fn move_capture<A: Allocator, S: ByteSource, K: ByteSink>(
     said: &[u8],
 ) -> Result<u64, Fault>
     requires { length said.now ≤ 65535 }
-    ensures migrated { IfOk result (λ n. Migrated 16777216 n said.now (S.to_give source.old) (S.to_give source.new) (K.held sink.old) (K.held sink.new)) }
-    ensures failures { Accounts result (counts (S.failures source.old) (S.failures source.new) ∷ counts (K.failures sink.old) (K.failures sink.new) ∷ []) }
+    ensures migrated { IfOk result (λ n. Migrated 16777216 n said.now (S.to_give source.old)
+        (S.to_give source.new) (K.held sink.old) (K.held sink.new)) }
+    ensures failures { Accounts result (counts (S.failures source.old) (S.failures source.new)
+        ∷ counts (K.failures sink.old) (K.failures sink.new) ∷ []) }
 {
     let mut buf = room(alloc)?;
     match migrate_capture(source, sink, said, &mut buf, RECORDS) {

@@ -1,10 +1,12 @@
 //! The engine of `receive`.
-ghost use Rattle.std.specs.Prelude.{◌≡◌, ◌≢◌, ◌≤◌, ◌<◌, ◌⊎◌, ◌∷◌, [], IfErr, IfOk, IfSome, OnOk, Some, length, vec_len, sum_by};
+ghost use Rattle.std.specs.Prelude.{◌≡◌, ◌≢◌, ◌≤◌, ◌<◌, ◌⊎◌, ◌∷◌, [], IfErr, IfOk, IfSome, OnOk};
+ghost use Rattle.std.specs.Prelude.{Some, length, vec_len, sum_by};
 ghost use Rattle.std.specs.Io.KnownBytes.{Appends};
 ghost use Rattle.capture_file.specs.StateFile.{state_text};
 ghost use Rattle.file_engines.specs.Fault.{Accounts, IfRefused, NoneFailed, OneFailed, counts};
 ghost use Rattle.file_engines.specs.Receiving.{Saves, failures_in};
-ghost use Rattle.file_engines.specs.Taking.{HoldsBy, IsPin, Receives, Stands, TakesFile, TakesFiles, TakesFirst};
+ghost use Rattle.file_engines.specs.Taking.{HoldsBy, IsPin, Receives, Stands, TakesFile};
+ghost use Rattle.file_engines.specs.Taking.{TakesFiles, TakesFirst};
 ghost use Rattle.receiver_file.specs.Saved.{kept_of};
 ghost use Rattle.tool_text.specs.Telling.{memory_line};
 ghost use Rattle.tool_text.specs.Timestamps.{AreTimestamps};
@@ -46,14 +48,16 @@ struct Opening<A: Allocator> {
 
 /// Takes the datagrams of captures into one receiver.
 ///
-/// The receiver is opened by the SDP text of `sdp`, of at most 16,777,216 octets, or, where there is none, by that of
-/// the first capture. Then the captures' datagrams are taken, one capture after the other. `delivered N` is printed to
-/// `output`, then, where they are wanted, how many datagrams were refused for which reason, and then a line for the
-/// frame of each timestamp. Last the receiver is written to `state`.
+/// The receiver is opened by the SDP text of `sdp`, of at most 16,777,216 octets, or, where there
+/// is none, by that of the first capture. Then the captures' datagrams are taken, one capture after
+/// the other. `delivered N` is printed to `output`, then, where they are wanted, how many datagrams
+/// were refused for which reason, and then a line for the frame of each timestamp. Last the
+/// receiver is written to `state`.
 ///
-/// The status is 0; or 1 where a word, the SDP, the opening or a capture is refused, 3 where a device failed, and 4
-/// where the allocator refused memory, which `faults` is told by one line. Nothing is written to `state` where the
-/// status is 1. The captures' sources stay in their order where the status is 0, and else stand in some turn of it.
+/// The status is 0; or 1 where a word, the SDP, the opening or a capture is refused, 3 where a
+/// device failed, and 4 where the allocator refused memory, which `faults` is told by one line.
+/// Nothing is written to `state` where the status is 1. The captures' sources stay in their order
+/// where the status is 0, and else stand in some turn of it.
 pub fn run_receive<A, S, K, O, F>(
     alloc: A,
     wanted: Wanted<'_>,
@@ -70,8 +74,18 @@ where
     O: ByteSink,
     F: ByteSink,
     ensures range { (result ≡ 0) ⊎ (result ≡ 1) ⊎ (result ≡ 3) ⊎ (result ≡ 4) }
-    ensures device { result ≡ 3 → OneFailed (counts (failures_in S.failures sdp.old) (failures_in S.failures sdp.new) ∷ counts (sum_by S.failures captures.old.items) (sum_by S.failures captures.new.items) ∷ counts (K.failures state.old) (K.failures state.new) ∷ counts (O.failures output.old) (O.failures output.new) ∷ counts (F.failures faults.old) (F.failures faults.new) ∷ []) }
-    ensures working { result ≢ 3 → NoneFailed (counts (failures_in S.failures sdp.old) (failures_in S.failures sdp.new) ∷ counts (sum_by S.failures captures.old.items) (sum_by S.failures captures.new.items) ∷ counts (K.failures state.old) (K.failures state.new) ∷ counts (O.failures output.old) (O.failures output.new) ∷ counts (F.failures faults.old) (F.failures faults.new) ∷ []) }
+    ensures device { result ≡ 3
+        → OneFailed (counts (failures_in S.failures sdp.old) (failures_in S.failures sdp.new)
+        ∷ counts (sum_by S.failures captures.old.items) (sum_by S.failures captures.new.items)
+        ∷ counts (K.failures state.old) (K.failures state.new)
+        ∷ counts (O.failures output.old) (O.failures output.new)
+        ∷ counts (F.failures faults.old) (F.failures faults.new) ∷ []) }
+    ensures working { result ≢ 3
+        → NoneFailed (counts (failures_in S.failures sdp.old) (failures_in S.failures sdp.new)
+        ∷ counts (sum_by S.failures captures.old.items) (sum_by S.failures captures.new.items)
+        ∷ counts (K.failures state.old) (K.failures state.new)
+        ∷ counts (O.failures output.old) (O.failures output.new)
+        ∷ counts (F.failures faults.old) (F.failures faults.new) ∷ []) }
     ensures saved { result ≡ 0 → Saves (K.held state.old) (K.held state.new) }
     // Where the captures tell their octets, what is written is the file of a receiver of the window
     // and the source that are asked for, which holds the Frames of all their datagrams.
@@ -108,7 +122,11 @@ where
     ensures taken { OnOk result (Receives wanted.entry.window.now wanted.entry.ssrc.now
         S.to_give captures.old.items (K.held state.old) (K.held state.new)) }
     ensures refused { IfErr result (λ f. IfRefused f (state.new ≡ state.old)) }
-    ensures failures { Accounts result (counts (failures_in S.failures sdp.old) (failures_in S.failures sdp.new) ∷ counts (sum_by S.failures captures.old.items) (sum_by S.failures captures.new.items) ∷ counts (K.failures state.old) (K.failures state.new) ∷ counts (O.failures output.old) (O.failures output.new) ∷ []) }
+    ensures failures { Accounts result (counts (failures_in S.failures sdp.old)
+        (failures_in S.failures sdp.new) ∷ counts (sum_by S.failures captures.old.items)
+        (sum_by S.failures captures.new.items) ∷ counts (K.failures state.old)
+        (K.failures state.new) ∷ counts (O.failures output.old) (O.failures output.new)
+        ∷ []) }
 {
     let opening = read_opening(alloc, wanted)?;
     let begun = begin(alloc, &opening, sdp)?;
@@ -122,7 +140,8 @@ pub(crate) fn save<A: Allocator, K: ByteSink>(
     receiver: &Receiver<A>,
     state: &mut K,
 ) -> Result<(), Fault>
-    ensures whole { OnOk result (Appends (K.held state.old) (K.held state.new) (state_text (kept_of receiver.now))) }
+    ensures whole { OnOk result (Appends (K.held state.old) (K.held state.new)
+        (state_text (kept_of receiver.now))) }
     ensures saved { OnOk result (Saves (K.held state.old) (K.held state.new)) }
     ensures refused { IfErr result (λ f. IfRefused f (state.new ≡ state.old)) }
     ensures failures { Accounts result (counts (K.failures state.old) (K.failures state.new) ∷ []) }
@@ -165,7 +184,8 @@ fn begin<A: Allocator + Copy, S: ByteSource>(
     sdp: &mut Option<S>,
 ) -> Result<Option<Session<A>>, Fault>
     ensures begun { IfOk result (λ begun. Stands opening.now begun []) }
-    ensures failures { Accounts result (counts (failures_in S.failures sdp.old) (failures_in S.failures sdp.new) ∷ []) }
+    ensures failures { Accounts result (counts (failures_in S.failures sdp.old)
+        (failures_in S.failures sdp.new) ∷ []) }
 {
     match sdp {
         None => Ok(None),
@@ -183,7 +203,8 @@ fn open_by_sdp<A: Allocator + Copy, S: ByteSource>(
     source: &mut S,
 ) -> Result<Session<A>, Fault>
     ensures opened { IfOk result (λ s. HoldsBy opening.now s []) }
-    ensures failures { Accounts result (counts (S.failures source.old) (S.failures source.new) ∷ []) }
+    ensures failures { Accounts result (counts (S.failures source.old) (S.failures source.new)
+        ∷ []) }
 {
     let Some(said) = read_text(alloc, source, SDP)? else {
         return Err(Fault::Refused(Refusal::ReceiveSdp));
@@ -200,7 +221,8 @@ fn take_captures<A: Allocator + Copy, S: ByteSource>(
 ) -> Result<Session<A>, Fault>
     ensures taken { IfOk result
         (λ s. TakesFiles opening.now S.to_give captures.old.items begun (Some s)) }
-    ensures failures { Accounts result (counts (sum_by S.failures captures.old.items) (sum_by S.failures captures.new.items) ∷ []) }
+    ensures failures { Accounts result (counts (sum_by S.failures captures.old.items)
+        (sum_by S.failures captures.new.items) ∷ []) }
 {
     let mut buf = room(alloc)?;
     let mut said = room(alloc)?;
@@ -224,7 +246,8 @@ fn take_all<A: Allocator + Copy, S: ByteSource>(
     requires room { 65535 ≤ length buf.old }
     ensures taken { OnOk result
         (TakesFiles opening.now S.to_give captures.old.items begun.old begun.new) }
-    ensures failures { Accounts result (counts (sum_by S.failures captures.old.items) (sum_by S.failures captures.new.items) ∷ []) }
+    ensures failures { Accounts result (counts (sum_by S.failures captures.old.items)
+        (sum_by S.failures captures.new.items) ∷ []) }
 {
     let count = captures.len();
     for _ in 0..count {
@@ -250,7 +273,8 @@ fn take_next<A: Allocator + Copy, S: ByteSource>(
     ensures len { vec_len captures.new ≡ vec_len captures.old }
     ensures taken { OnOk result (TakesFirst opening.now S.to_give
         captures.old.items captures.new.items begun.old begun.new) }
-    ensures failures { Accounts result (counts (sum_by S.failures captures.old.items) (sum_by S.failures captures.new.items) ∷ []) }
+    ensures failures { Accounts result (counts (sum_by S.failures captures.old.items)
+        (sum_by S.failures captures.new.items) ∷ []) }
 {
     let capture = captures.remove(0);
     let (capture, outcome) = take_one(alloc, opening, begun, capture, said, buf);
@@ -322,7 +346,8 @@ fn print_session<A: Allocator, O: ByteSink>(
     print_frames(&session.receiver, output, text)
 }
 
-/// Prints how many datagrams were refused, for each reason that came, and how many were outside the window.
+/// Prints how many datagrams were refused, for each reason that came, and how many were outside the
+/// window.
 fn print_tally<A: Allocator, O: ByteSink>(
     tally: &Tally,
     output: &mut O,

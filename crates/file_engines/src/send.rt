@@ -1,5 +1,6 @@
 //! The engine of `send`.
-ghost use Rattle.std.specs.Prelude.{◌≡◌, ◌≢◌, ◌≤◌, ◌<◌, ◌⊎◌, ◌∷◌, [], false, IfOk, MatchResult, length, sum_by, vec_len};
+ghost use Rattle.std.specs.Prelude.{◌≡◌, ◌≢◌, ◌≤◌, ◌<◌, ◌⊎◌, ◌∷◌, [], false, IfOk, MatchResult};
+ghost use Rattle.std.specs.Prelude.{length, sum_by, vec_len};
 ghost use Rattle.std.specs.Io.KnownBytes.{Appends, IsAtEnd};
 ghost use Rattle.file_engines.specs.Fault.{Accounts, Blames, NoneFailed, OneFailed, counts};
 ghost use Rattle.file_engines.specs.Receiving.{failures_in};
@@ -20,17 +21,20 @@ use tool_text::{LINE, Status, tell_memory};
 /// The greatest number of pictures (own).
 const PICTURES: usize = 10_000;
 
-/// Sends pictures, one after the other, into a capture, and prints `sent N` to `output`, how many datagrams that are.
+/// Sends pictures, one after the other, into a capture, and prints `sent N` to `output`, how many
+/// datagrams that are.
 ///
-/// The SDP text of `sdp`, where there is one, is read first, and is the capture's text, which else is empty. Each
-/// picture is read and sent before the next. The plan is made, and then the capture begun, once the first is read. The
-/// k-th picture is the k-th frame, and the packets' numbers run on. Without pictures nothing is written.
+/// The SDP text of `sdp`, where there is one, is read first, and is the capture's text, which else
+/// is empty. Each picture is read and sent before the next. The plan is made, and then the capture
+/// begun, once the first is read. The k-th picture is the k-th frame, and the packets' numbers run
+/// on. Without pictures nothing is written.
 ///
-/// The status is 0; or 1 where there are more than 10,000 pictures (`send 2`, before anything is read), the SDP is
-/// longer than 65,535 octets (`send 3`) or refused, there is no such plan, or a picture is refused or is of another
-/// format than the first (`send 1`); 3 where a device failed, and 4 where the allocator refused memory. `faults` is
-/// told of it by one line. What was sent before a fault stands in the capture. Its sink is given back; one that tells
-/// its octets holds none before.
+/// The status is 0; or 1 where there are more than 10,000 pictures (`send 2`, before anything is
+/// read), the SDP is longer than 65,535 octets (`send 3`) or refused, there is no such plan, or a
+/// picture is refused or is of another format than the first (`send 1`); 3 where a device failed,
+/// and 4 where the allocator refused memory. `faults` is told of it by one line. What was sent
+/// before a fault stands in the capture. Its sink is given back; one that tells its octets holds
+/// none before.
 pub fn run_send<A, S, K, O, F>(
     alloc: A,
     wanted: Sending,
@@ -49,8 +53,18 @@ where
     requires payload_type { wanted.payload_type ≤ 127 }
     requires empty { IsAtEnd (K.held sink) }
     ensures range { (result.0 ≡ 0) ⊎ (result.0 ≡ 1) ⊎ (result.0 ≡ 3) ⊎ (result.0 ≡ 4) }
-    ensures device { result.0 ≡ 3 → OneFailed (counts (failures_in S.failures sdp.old) (failures_in S.failures sdp.new) ∷ counts (sum_by S.failures pictures.old) (sum_by S.failures pictures.new) ∷ counts (K.failures sink) (K.failures result.1) ∷ counts (O.failures output.old) (O.failures output.new) ∷ counts (F.failures faults.old) (F.failures faults.new) ∷ []) }
-    ensures working { result.0 ≢ 3 → NoneFailed (counts (failures_in S.failures sdp.old) (failures_in S.failures sdp.new) ∷ counts (sum_by S.failures pictures.old) (sum_by S.failures pictures.new) ∷ counts (K.failures sink) (K.failures result.1) ∷ counts (O.failures output.old) (O.failures output.new) ∷ counts (F.failures faults.old) (F.failures faults.new) ∷ []) }
+    ensures device { result.0 ≡ 3
+        → OneFailed (counts (failures_in S.failures sdp.old) (failures_in S.failures sdp.new)
+        ∷ counts (sum_by S.failures pictures.old) (sum_by S.failures pictures.new)
+        ∷ counts (K.failures sink) (K.failures result.1)
+        ∷ counts (O.failures output.old) (O.failures output.new)
+        ∷ counts (F.failures faults.old) (F.failures faults.new) ∷ []) }
+    ensures working { result.0 ≢ 3
+        → NoneFailed (counts (failures_in S.failures sdp.old) (failures_in S.failures sdp.new)
+        ∷ counts (sum_by S.failures pictures.old) (sum_by S.failures pictures.new)
+        ∷ counts (K.failures sink) (K.failures result.1)
+        ∷ counts (O.failures output.old) (O.failures output.new)
+        ∷ counts (F.failures faults.old) (F.failures faults.new) ∷ []) }
     ensures silent { result.0 ≡ 0 → faults.new ≡ faults.old }
     ensures memory { result.0 ≡ 4 → Appends (F.held faults.old) (F.held faults.new) memory_line }
 {
@@ -80,7 +94,10 @@ where
     O: ByteSink,
     requires payload_type { wanted.payload_type ≤ 127 }
     requires empty { IsAtEnd (K.held sink) }
-    ensures failures { Accounts result.0 (counts (failures_in S.failures sdp.old) (failures_in S.failures sdp.new) ∷ counts (sum_by S.failures pictures.old) (sum_by S.failures pictures.new) ∷ counts (K.failures sink) (K.failures result.1) ∷ counts (O.failures output.old) (O.failures output.new) ∷ []) }
+    ensures failures { Accounts result.0 (counts (failures_in S.failures sdp.old)
+        (failures_in S.failures sdp.new) ∷ counts (sum_by S.failures pictures.old)
+        (sum_by S.failures pictures.new) ∷ counts (K.failures sink) (K.failures result.1)
+        ∷ counts (O.failures output.old) (O.failures output.new) ∷ []) }
 {
     let said = match read_said(alloc, sdp, pictures.len()) {
         Ok(said) => said,
@@ -102,7 +119,8 @@ fn read_said<A: Allocator + Copy, S: ByteSource>(
 ) -> Result<Vec<u8, A>, Fault>
     ensures few { IfOk result (λ _. pictures ≤ 10000) }
     ensures text { IfOk result (λ said. vec_len said ≤ 65535) }
-    ensures failures { Accounts result (counts (failures_in S.failures sdp.old) (failures_in S.failures sdp.new) ∷ []) }
+    ensures failures { Accounts result (counts (failures_in S.failures sdp.old)
+        (failures_in S.failures sdp.new) ∷ []) }
 {
     if pictures > PICTURES {
         return Err(Fault::Refused(Refusal::SendPictures));
@@ -128,7 +146,8 @@ fn send_pictures<A: Allocator + Copy, S: ByteSource, K: ByteSink>(
     requires few { length pictures.old ≤ 10000 }
     requires payload_type { wanted.payload_type ≤ 127 }
     requires empty { IsAtEnd (K.held sink) }
-    ensures failures { Accounts result.0 (counts (sum_by S.failures pictures.old) (sum_by S.failures pictures.new) ∷ counts (K.failures sink) (K.failures result.1) ∷ []) }
+    ensures failures { Accounts result.0 (counts (sum_by S.failures pictures.old)
+        (sum_by S.failures pictures.new) ∷ counts (K.failures sink) (K.failures result.1) ∷ []) }
 {
     if pictures.is_empty() {
         return (Ok(0), sink);
@@ -163,8 +182,10 @@ fn begin<A: Allocator + Copy, S: ByteSource, K: ByteSink>(
     ensures room { length buf.new ≡ 65535 }
     ensures stands { IfOk result (λ s. s.writer.place.failed ≡ false) }
     ensures failures { MatchResult result
-        (λ s. NoneFailed (counts (sum_by S.failures pictures.old) (sum_by S.failures pictures.new) ∷ counts (K.failures sink) (K.failures s.writer.sink) ∷ []))
-        (λ e. Blames (counts (sum_by S.failures pictures.old) (sum_by S.failures pictures.new) ∷ counts (K.failures sink) (K.failures e.1) ∷ []) e.0) }
+        (λ s. NoneFailed (counts (sum_by S.failures pictures.old) (sum_by S.failures pictures.new)
+        ∷ counts (K.failures sink) (K.failures s.writer.sink) ∷ []))
+        (λ e. Blames (counts (sum_by S.failures pictures.old) (sum_by S.failures pictures.new)
+        ∷ counts (K.failures sink) (K.failures e.1) ∷ []) e.0) }
 {
     let (picture, plan) = match read_first(alloc, wanted.max_octets, pictures) {
         Ok(first) => first,
@@ -189,7 +210,8 @@ fn read_first<A: Allocator + Copy, S: ByteSource>(
 ) -> Result<(Picture<A>, Plan<A>), Fault>
     requires { 0 < length pictures.old }
     ensures len { length pictures.new ≡ length pictures.old }
-    ensures failures { Accounts result (counts (sum_by S.failures pictures.old) (sum_by S.failures pictures.new) ∷ []) }
+    ensures failures { Accounts result (counts (sum_by S.failures pictures.old)
+        (sum_by S.failures pictures.new) ∷ []) }
 {
     let picture = read_at(alloc, pictures, 0)?;
     let plan = Plan::new(alloc, picture.format(), max_octets)?;
@@ -206,7 +228,9 @@ fn send_rest<A: Allocator + Copy, S: ByteSource, K: ByteSink>(
     requires few { length pictures.old ≤ 10000 }
     requires room { length buf.old ≡ 65535 }
     requires stands { sender.old.writer.place.failed ≡ false }
-    ensures failures { Accounts result (counts (sum_by S.failures pictures.old) (sum_by S.failures pictures.new) ∷ counts (K.failures sender.old.writer.sink) (K.failures sender.new.writer.sink) ∷ []) }
+    ensures failures { Accounts result (counts (sum_by S.failures pictures.old)
+        (sum_by S.failures pictures.new) ∷ counts (K.failures sender.old.writer.sink)
+        (K.failures sender.new.writer.sink) ∷ []) }
 {
     for place in 1..pictures.len() {
         let picture = read_at(alloc, pictures, place)?;
@@ -223,7 +247,8 @@ fn read_at<A: Allocator, S: ByteSource>(
 ) -> Result<Picture<A>, Fault>
     requires { place < length pictures.old }
     ensures len { length pictures.new ≡ length pictures.old }
-    ensures failures { Accounts result (counts (sum_by S.failures pictures.old) (sum_by S.failures pictures.new) ∷ []) }
+    ensures failures { Accounts result (counts (sum_by S.failures pictures.old)
+        (sum_by S.failures pictures.new) ∷ []) }
 {
     read_one(alloc, &mut pictures[place])
 }

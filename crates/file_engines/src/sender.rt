@@ -64,7 +64,8 @@ impl<A: Allocator, K: ByteSink> Sender<A, K> {
         requires stands { self.old.writer.place.failed ≡ false }
         ensures room { length buf.new ≡ 65535 }
         ensures stands { OnOk result (self.new.writer.place.failed ≡ false) }
-        ensures failures { Accounts result (counts (K.failures self.old.writer.sink) (K.failures self.new.writer.sink) ∷ []) }
+        ensures failures { Accounts result (counts (K.failures self.old.writer.sink)
+            (K.failures self.new.writer.sink) ∷ []) }
     {
         let format = self.plan.format();
         if !same_format(picture.format(), format) {
@@ -111,7 +112,8 @@ fn put_all<A: Allocator, B: Allocator, K: ByteSink>(
     requires stands { writer.old.place.failed ≡ false }
     ensures room { length buf.new ≡ 65535 }
     ensures stands { OnOk result (writer.new.place.failed ≡ false) }
-    ensures failures { Accounts result (counts (K.failures writer.old.sink) (K.failures writer.new.sink) ∷ []) }
+    ensures failures { Accounts result (counts (K.failures writer.old.sink)
+        (K.failures writer.new.sink) ∷ []) }
 {
     let packets = plan.len();
     for index in 0..packets {

@@ -52,10 +52,11 @@ impl<A: Allocator + Copy> Session<A> {
 }
 
 impl<A: Allocator> Session<A> {
-    /// Takes all datagrams of a capture, from where its reader stands to its end, and gives its source back.
+    /// Takes all datagrams of a capture, from where its reader stands to its end, and gives its
+    /// source back.
     ///
-    /// A capture that has not ended after 16,777,216 turns is refused, and so is one that is at fault; what it
-    /// delivered before is taken.
+    /// A capture that has not ended after 16,777,216 turns is refused, and so is one that is at
+    /// fault; what it delivered before is taken.
     pub fn take_capture<S: ByteSource>(
         &mut self,
         mut reader: CaptureReader<S>,
@@ -65,7 +66,8 @@ impl<A: Allocator> Session<A> {
         requires reads { reader.standing ≡ Reads }
         ensures room { length buf.new ≡ length buf.old }
         ensures taken { OnOk result.1 (TakesRecords (S.to_give reader.source) self.old self.new) }
-        ensures failures { Accounts result.1 (counts (S.failures reader.source) (S.failures result.0) ∷ []) }
+        ensures failures { Accounts result.1 (counts (S.failures reader.source)
+            (S.failures result.0) ∷ []) }
     {
         match take_records(&mut reader, &mut self.receiver, &mut self.tally, buf) {
             Ok(delivered) => {
@@ -77,7 +79,8 @@ impl<A: Allocator> Session<A> {
     }
 }
 
-/// Gives a receiver the datagrams of a capture up to its end, counts its answers, and answers how many they are.
+/// Gives a receiver the datagrams of a capture up to its end, counts its answers, and answers how
+/// many they are.
 fn take_records<S: ByteSource, A: Allocator>(
     reader: &mut CaptureReader<S>,
     receiver: &mut Receiver<A>,
@@ -89,7 +92,8 @@ fn take_records<S: ByteSource, A: Allocator>(
     ensures room { length buf.new ≡ length buf.old }
     ensures taken { IfOk result (λ n. TakesAllDue n
         (turns_of reader.old.standing (S.to_give reader.old.source)) receiver.old receiver.new) }
-    ensures failures { Accounts result (counts (S.failures reader.old.source) (S.failures reader.new.source) ∷ []) }
+    ensures failures { Accounts result (counts (S.failures reader.old.source)
+        (S.failures reader.new.source) ∷ []) }
 {
     // Says what a receiver always is.
     let _ = receiver.format();
@@ -104,7 +108,8 @@ fn take_records<S: ByteSource, A: Allocator>(
     Err(of_capture(FileFault::TooManyRecords))
 }
 
-/// The path and the length of the next record's datagram, which then stands at the front of `buf`, or none at the end.
+/// The path and the length of the next record's datagram, which then stands at the front of `buf`,
+/// or none at the end.
 fn next_record<S: ByteSource>(
     reader: &mut CaptureReader<S>,
     buf: &mut [u8],
@@ -117,7 +122,8 @@ fn next_record<S: ByteSource>(
     ensures taken { IfOk result (λ r. TakesRecord
         (turns_of reader.old.standing (S.to_give reader.old.source))
         (turns_of reader.new.standing (S.to_give reader.new.source)) r buf.new) }
-    ensures failures { Accounts result (counts (S.failures reader.old.source) (S.failures reader.new.source) ∷ []) }
+    ensures failures { Accounts result (counts (S.failures reader.old.source)
+        (S.failures reader.new.source) ∷ []) }
 {
     match reader.next(buf) {
         Ok(Turn::Datagram(path, count)) => Ok(Some((path, count))),

@@ -21,7 +21,8 @@ pub(crate) const REFUSALS: [Refusal; 14] = [
     Refusal::Payload(PayloadFault::ShortData),
 ];
 
-/// How many datagrams were refused, for which reason, and how many had timestamps outside the window.
+/// How many datagrams were refused, for which reason, and how many had timestamps outside the
+/// window.
 #[derive(Clone, Copy, Debug, PartialEq, Eq)]
 pub(crate) struct Tally {
     /// The count of the refusal of number n stands at n - 1.

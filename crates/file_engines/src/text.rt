@@ -1,5 +1,6 @@
 //! Texts that are read whole, and SDP among them.
-ghost use Rattle.std.specs.Prelude.{◌≡◌, ◌≤◌, ◌<◌, ◌∷◌, [], length, vec_len, IfErr, IfOk, MatchOption};
+ghost use Rattle.std.specs.Prelude.{◌≡◌, ◌≤◌, ◌<◌, ◌∷◌, [], length, vec_len, IfErr, IfOk};
+ghost use Rattle.std.specs.Prelude.{MatchOption};
 ghost use Rattle.std.specs.Io.KnownBytes.{Consumes, IsAtEnd};
 ghost use Rattle.file_engines.specs.Fault.{Accounts, counts};
 ghost use Rattle.file_engines.specs.Text.{GivesMore, GivesText};
@@ -12,14 +13,17 @@ use std::alloc::{AllocError, Allocator};
 /// The greatest number of octets of a capture's text, and of a datagram.
 const CAPTURE_TEXT: usize = 65_535;
 
-/// Reads an SDP text for a capture, and finds that it is one. A longer text than a capture may have is refused so.
+/// Reads an SDP text for a capture, and finds that it is one. A longer text than a capture may have
+/// is refused so.
 pub(crate) fn read_checked<A: Allocator + Copy, S: ByteSource>(
     alloc: A,
     source: &mut S,
     too_long: Refusal,
 ) -> Result<Vec<u8, A>, Fault>
-    ensures read { IfOk result (λ said. GivesText 65535 (S.to_give source.old) (S.to_give source.new) said.items) }
-    ensures failures { Accounts result (counts (S.failures source.old) (S.failures source.new) ∷ []) }
+    ensures read { IfOk result (λ said. GivesText 65535 (S.to_give source.old)
+        (S.to_give source.new) said.items) }
+    ensures failures { Accounts result (counts (S.failures source.old) (S.failures source.new)
+        ∷ []) }
 {
     let Some(said) = read_text(alloc, source, CAPTURE_TEXT)? else {
         return Err(Fault::Refused(too_long));
@@ -28,7 +32,8 @@ pub(crate) fn read_checked<A: Allocator + Copy, S: ByteSource>(
     Ok(said)
 }
 
-/// Reads a source to its end, and answers what it gave, or none where that is more than so many octets.
+/// Reads a source to its end, and answers what it gave, or none where that is more than so many
+/// octets.
 pub(crate) fn read_text<A: Allocator, S: ByteSource>(
     alloc: A,
     source: &mut S,
@@ -38,7 +43,8 @@ pub(crate) fn read_text<A: Allocator, S: ByteSource>(
     ensures read { IfOk result (λ said. MatchOption said
         (GivesMore most (S.to_give source.old) (S.to_give source.new))
         (λ text. GivesText most (S.to_give source.old) (S.to_give source.new) text.items)) }
-    ensures failures { Accounts result (counts (S.failures source.old) (S.failures source.new) ∷ []) }
+    ensures failures { Accounts result (counts (S.failures source.old) (S.failures source.new)
+        ∷ []) }
 {
     let octets = read_past(alloc, source, most)?;
     if octets.len() <= most {
@@ -55,9 +61,12 @@ fn read_past<A: Allocator, S: ByteSource>(
     most: usize,
 ) -> Result<Vec<u8, A>, Fault>
     requires { most ≤ 16777216 }
-    ensures given { IfOk result (λ octets. Consumes (S.to_give source.old) (S.to_give source.new) octets.items) }
-    ensures whole { IfOk result (λ octets. length octets.items ≤ most → IsAtEnd (S.to_give source.new)) }
-    ensures failures { Accounts result (counts (S.failures source.old) (S.failures source.new) ∷ []) }
+    ensures given { IfOk result (λ octets. Consumes (S.to_give source.old)
+        (S.to_give source.new) octets.items) }
+    ensures whole { IfOk result (λ octets. length octets.items ≤ most
+        → IsAtEnd (S.to_give source.new)) }
+    ensures failures { Accounts result (counts (S.failures source.old) (S.failures source.new)
+        ∷ []) }
 {
     let mut octets = Vec::new(alloc);
     let mut piece = [0u8; 4096];

@@ -1,5 +1,7 @@
 -- The first line of a text, by where its first LF stands.
-use Rattle.std.proofs.Common.{◌≡◌, ℕ, ◌+◌, ◌<◌, ◌==◌, Bool, true, false, cond, not, nat_lt, List, [], ◌∷◌, length, take, drop, get_or, All, Option, Some, None, refl, sym, ap, ◌∙◌, arith}
+use Rattle.std.proofs.Common.{◌≡◌, ℕ, ◌+◌, ◌<◌, ◌==◌, Bool, true, false, cond, not, nat_lt, List}
+use Rattle.std.proofs.Common.{[], ◌∷◌, length, take, drop, get_or, All, Option, Some, None, refl}
+use Rattle.std.proofs.Common.{sym, ap, ◌∙◌, arith}
 use Rattle.std.specs.List.{after_first, position_or_len, slice_split}
 use Rattle.std.specs.Option.{option_map}
 use Rattle.std.specs.Str.Lines.{lines, lines_of_parts, strip_carriage_return}
@@ -20,28 +22,36 @@ not_true false e = refl
 
 -- the halves of a text, where it has any
 halves : (b : Bool) (i : ℕ) (text front back : List ℕ)
-    → ◌≡◌ {A = Option (List ℕ × List ℕ)} (option_map (λ k. (take k text, drop (k + 1) text)) (cond b (Some i) None)) (Some (front, back))
+    → ◌≡◌ {A = Option (List ℕ × List ℕ)} (option_map (λ k. (take k text, drop (k + 1) text))
+    (cond b (Some i) None)) (Some (front, back))
     → (b ≡ true) × (take i text ≡ front) × (drop (i + 1) text ≡ back)
 halves true i text front back e =
-    let parts = some_pair_parts (take i text) front (drop (i + 1) text) back e in (refl, parts.0, parts.1)
+    let parts = some_pair_parts (take i text) front (drop (i + 1) text) back e in
+    (refl, parts.0, parts.1)
 halves false i text front back e = cc
 
-parts_after : (x : List ℕ) (parts : List (List ℕ)) → 0 < length parts → lines_of_parts (x ∷ parts) ≡ strip_carriage_return x ∷ lines_of_parts parts
+parts_after : (x : List ℕ) (parts : List (List ℕ)) → 0 < length parts
+    → lines_of_parts (x ∷ parts) ≡ strip_carriage_return x ∷ lines_of_parts parts
 parts_after x [] some = absurd (omega arith)
 parts_after x (y ∷ more) some = refl
 
-pub lines_first : (text front back : List ℕ) → parted 10 text ≡ Some (front, back) → lines text ≡ strip_carriage_return front ∷ lines back
+pub lines_first : (text front back : List ℕ) → parted 10 text ≡ Some (front, back)
+    → lines text ≡ strip_carriage_return front ∷ lines back
 lines_first text front back e =
     let i = position_or_len is_newline text in
     let parts = halves (nat_lt i (length text)) i text front back e in
     let split = slice_split_first is_newline text 0 (ltb-true i (length text) parts.0) in
-    let some : 0 < length (slice_split is_newline back) = omega (arith, length-slice_split is_newline back) in
-    ap lines_of_parts (split ∙ ap (λ (x : List ℕ). x ∷ slice_split is_newline (after_first is_newline text)) parts.1 ∙ ap (λ (x : List ℕ). front ∷ slice_split is_newline x) parts.2)
+    let some : 0 < length (slice_split is_newline back) =
+    omega (arith, length-slice_split is_newline back) in
+    ap lines_of_parts (split ∙ ap (λ (x : List ℕ). x
+    ∷ slice_split is_newline (after_first is_newline text)) parts.1
+    ∙ ap (λ (x : List ℕ). front ∷ slice_split is_newline x) parts.2)
     ∙ parts_after front (slice_split is_newline back) some
 
 -- where a text has no halves, no octet of it is the separator
 no_halves : (b : Bool) (i : ℕ) (text : List ℕ)
-    → ◌≡◌ {A = Option (List ℕ × List ℕ)} (option_map (λ k. (take k text, drop (k + 1) text)) (cond b (Some i) None)) None → b ≡ false
+    → ◌≡◌ {A = Option (List ℕ × List ℕ)} (option_map (λ k. (take k text, drop (k + 1) text))
+    (cond b (Some i) None)) None → b ≡ false
 no_halves true i text e = cc
 no_halves false i text e = refl
 
@@ -55,5 +65,7 @@ lines_last text some e =
     let i = position_or_len is_newline text in
     let past = ltb-false i (length text) (no_halves (nat_lt i (length text)) i text e) in
     let none : All (λ octet. is_newline octet ≡ false) text =
-    All-from_get_or (λ x. is_newline x ≡ false) text 0 (λ k within. not_true (is_newline (get_or text k 0)) (prefix_len_passes (λ x. not (is_newline x)) text k 0 (omega (arith, past)))) in
+    All-from_get_or (λ x. is_newline x ≡ false) text 0
+    (λ k within. not_true (is_newline (get_or text k 0))
+    (prefix_len_passes (λ x. not (is_newline x)) text k 0 (omega (arith, past)))) in
     ap lines_of_parts (slice_split_none is_newline text none) ∙ last_part text some

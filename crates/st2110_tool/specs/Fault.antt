@@ -1,5 +1,6 @@
 -- Faults that end a run.
-use Rattle.std.specs.Prelude.{◌≡◌, ℕ, ◌⊎◌, List, ◌++◌, codes, Option, Some, None, Result, MatchResult, ⊤}
+use Rattle.std.specs.Prelude.{◌≡◌, ℕ, ◌⊎◌, List, ◌++◌, codes, Option, Some, None, Result}
+use Rattle.std.specs.Prelude.{MatchResult, ⊤}
 use Rattle.std.specs.Fmt.{decimal}
 use Rattle.st_format.specs.Device.{Failed}
 use Rattle.st2110_tool.specs.Script.{GivesAll, GivesScript}
@@ -9,8 +10,8 @@ use Rattle.tool_text.specs.Telling.{IsRefusalLine, Tells, device_line, memory_li
 use Rattle.tool_text.specs.declared.status.Status.{Status}
 use Rattle.tool_text.specs.declared.status.Status.TheVariants.{Device, Memory}
 
--- what a fault says of a device that had failed old times and now new times: a device's fault that it
--- failed, and any other that it did not
+-- what a fault says of a device that had failed old times and now new times: a device's fault that
+-- it failed, and any other that it did not
 abbrev pub Blames : Fault → ℕ → ℕ → Type 0
 Blames (fault.Script line) old new = new ≡ old
 Blames (fault.Format f) old new = new ≡ old
@@ -39,9 +40,11 @@ abbrev pub Accounts : {V : Type 0} → Result V Fault → ℕ → ℕ → Type 0
 Accounts result old new = MatchResult result (λ _. new ≡ old) (λ f. Blames f old new)
 
 abbrev pub AccountsBoth : {V : Type 0} → Result V Fault → ℕ → ℕ → ℕ → ℕ → Type 0
-AccountsBoth result old new old' new' = MatchResult result (λ _. (new ≡ old) × (new' ≡ old')) (λ f. BlamesEither f old new old' new')
+AccountsBoth result old new old' new' =
+    MatchResult result (λ _. (new ≡ old) × (new' ≡ old')) (λ f. BlamesEither f old new old' new')
 
--- What a run was given that ends by a fault: where it refuses a script, all of it, or more than a script may have
+-- What a run was given that ends by a fault: where it refuses a script, all of it, or more than a
+-- script may have
 abbrev pub ReadsAt : Fault → Option (List ℕ) → Option (List ℕ) → Type 0
 ReadsAt (fault.Script line) old new = GivesAll old new
 ReadsAt (fault.Format f) old new = GivesAll old new
@@ -85,4 +88,5 @@ IsLineOf fault.Memory status line = (status ≡ Memory) × (line ≡ memory_line
 -- a fault was told by such a line, or the sink failed
 abbrev pub TellsFault : Fault → Status → ℕ → ℕ → Option (List ℕ) → Option (List ℕ) → Type 0
 TellsFault f result old new held held' =
-    (status : Status) × (line : List ℕ) × IsLineOf f status line × Tells status line result old new held held'
+    (status : Status) × (line : List ℕ) × IsLineOf f status line
+    × Tells status line result old new held held'

@@ -80,7 +80,8 @@ IsSourceText text None = text ≡ codes "any"
 IsSourceText text (Some n) = Spells text n
 
 -- a payload type of 7 bits, a source and a window, parted by spaces
-pub record AreOpening (text : List ℕ) (payload_type : ℕ) (ssrc : Option ℕ) (window : List ℕ) : Type 0 where
+pub record AreOpening (text : List ℕ) (payload_type : ℕ) (ssrc : Option ℕ)
+    (window : List ℕ) : Type 0 where
   pub number : List ℕ
   pub source : List ℕ
   pub behind : List ℕ
@@ -91,7 +92,8 @@ pub record AreOpening (text : List ℕ) (payload_type : ℕ) (ssrc : Option ℕ)
   pub source_is : IsSourceText source ssrc
 
 -- a line `open PT SSRC WINDOW`, whose window is text yet (own)
-pub record IsOpenLine (text : List ℕ) (payload_type : ℕ) (ssrc : Option ℕ) (window : List ℕ) : Type 0 where
+pub record IsOpenLine (text : List ℕ) (payload_type : ℕ) (ssrc : Option ℕ)
+    (window : List ℕ) : Type 0 where
   pub rest : List ℕ
   pub text_is : text ≡ codes "open " ++ rest
   pub fields : AreOpening rest payload_type ssrc window
@@ -110,6 +112,9 @@ IsOctetsText text (b ∷ octets) = decode_of text ≡ Ok (b ∷ octets)
 abbrev pub IsTraceLine : List ℕ → TraceLine → Type 0
 IsTraceLine text (Datagram path.A digits) = text ≡ codes "A " ++ digits.now
 IsTraceLine text (Datagram path.B digits) = text ≡ codes "B " ++ digits.now
-IsTraceLine text (Slide timestamp) = (rest : List ℕ) × (text ≡ codes "slide " ++ rest) × Spells rest timestamp
-IsTraceLine text (Numbers first count) = (rest : List ℕ) × (text ≡ codes "numbers " ++ rest) × AreTwo rest first count
-IsTraceLine text (Cell place) = (rest : List ℕ) × (text ≡ codes "cell " ++ rest) × AreFour rest place
+IsTraceLine text (Slide timestamp) =
+    (rest : List ℕ) × (text ≡ codes "slide " ++ rest) × Spells rest timestamp
+IsTraceLine text (Numbers first count) =
+    (rest : List ℕ) × (text ≡ codes "numbers " ++ rest) × AreTwo rest first count
+IsTraceLine text (Cell place) =
+    (rest : List ℕ) × (text ≡ codes "cell " ++ rest) × AreFour rest place

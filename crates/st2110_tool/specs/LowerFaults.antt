@@ -1,5 +1,5 @@
--- Faults of the crates below as faults that end a run: want of memory is told as such, and any other refusal by
--- its number and name (own).
+-- Faults of the crates below as faults that end a run: want of memory is told as such, and any
+-- other refusal by its number and name (own).
 use Rattle.packet_numbers.specs.declared.seq_map.SeqMapFault.{SeqMapFault}
 use Rattle.packet_numbers.specs.declared.seq_map.SeqMapFault.TheVariants as numbers
 use Rattle.packet_plan.specs.declared.plan.PlanFault.{PlanFault}

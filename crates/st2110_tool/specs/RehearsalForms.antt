@@ -13,7 +13,8 @@ use Rattle.tool_text.specs.Fields.{parted}
 use Rattle.st2110_tool.specs.Forms.{AreTwo, IsWindowText}
 use Rattle.tool_text.specs.Timestamps.{Spells}
 
--- the fields of a stamp, parted by spaces: a payload type of 7 bits, a number, a timestamp and a source
+-- the fields of a stamp, parted by spaces: a payload type of 7 bits, a number, a timestamp and a
+-- source
 pub record AreStamp (text : List ℕ) (s : Stamp) : Type 0 where
   pub payload_type : List ℕ
   pub behind : List ℕ
@@ -80,6 +81,9 @@ pub record AreReceivers (text : List ℕ) (into from : ℕ) : Type 0 where
 -- the lines of events: a word, and behind one space what follows (own)
 abbrev pub IsEventLine : List ℕ → Event → Type 0
 IsEventLine text Send = text ≡ codes "send"
-IsEventLine text (Arrive to by number) = (rest : List ℕ) × (text ≡ codes "arrive " ++ rest) × AreArrival rest to by number
-IsEventLine text (Slide at next) = (rest : List ℕ) × (text ≡ codes "slide " ++ rest) × AreReceiverAndNumber rest at next
-IsEventLine text (Merge into from) = (rest : List ℕ) × (text ≡ codes "merge " ++ rest) × AreReceivers rest into from
+IsEventLine text (Arrive to by number) =
+    (rest : List ℕ) × (text ≡ codes "arrive " ++ rest) × AreArrival rest to by number
+IsEventLine text (Slide at next) =
+    (rest : List ℕ) × (text ≡ codes "slide " ++ rest) × AreReceiverAndNumber rest at next
+IsEventLine text (Merge into from) =
+    (rest : List ℕ) × (text ≡ codes "merge " ++ rest) × AreReceivers rest into from

@@ -1,5 +1,6 @@
 -- What the lines of a script do to a receiver and to what stands beside it.
-use Rattle.std.specs.Prelude.{◌≡◌, ℕ, false, List, [], ◌∷◌, replicate, Option, Some, None, Result, Ok, Err, count_by, slice_get}
+use Rattle.std.specs.Prelude.{◌≡◌, ℕ, false, List, [], ◌∷◌, replicate, Option, Some, None, Result}
+use Rattle.std.specs.Prelude.{Ok, Err, count_by, slice_get}
 use Rattle.frame_assembly.specs.declared.counts.Counts.{Counts}
 use Rattle.path_merge.specs.declared.answer.Refusal.{Refusal}
 use Rattle.path_merge.specs.declared.answer.Taken.{Taken}
@@ -17,7 +18,9 @@ use Rattle.st_format.specs.Member.{IsMember}
 use Rattle.st_format.specs.Position.{IsPosition, Position}
 use Rattle.st_format.specs.Raster.{Raster}
 use Rattle.st2110_tool.specs.declared.answer.Answer.{Answer}
-use Rattle.st2110_tool.specs.declared.answer.Answer.TheVariants.{Kept, Outside, Refused, Missing, Value, Contested, Nowhere, NotSlid, Out}
+use Rattle.st2110_tool.specs.declared.answer.Answer.TheVariants.{Kept, Outside, Refused, Missing}
+use Rattle.st2110_tool.specs.declared.answer.Answer.TheVariants.{Value, Contested, Nowhere, NotSlid}
+use Rattle.st2110_tool.specs.declared.answer.Answer.TheVariants.{Out}
 use Rattle.st2110_tool.specs.declared.line.Place.{Place}
 use Rattle.st2110_tool.specs.declared.line.TraceLine.{TraceLine}
 use Rattle.st2110_tool.specs.declared.line.TraceLine.TheVariants.{Datagram, Slide}
@@ -49,9 +52,10 @@ counts_of r = record {
   contested = count_by is_contested r.cells;
 }
 
--- A slide to a timestamp that the window has not: the window moves on, and the answer tells of its first
--- timestamp and of that one's frame, which is then the spare one (own).
-pub record IsSlide (old : State) (next : ℕ) (new : State) (spare : Raster) (answer : Answer) : Type 0 where
+-- A slide to a timestamp that the window has not: the window moves on, and the answer tells of its
+-- first timestamp and of that one's frame, which is then the spare one (own).
+pub record IsSlide (old : State) (next : ℕ) (new : State) (spare : Raster)
+    (answer : Answer) : Type 0 where
   pub first : ℕ
   pub first_is : slice_get old.opening.window 0 ≡ Some first
   pub moved : new ≡ slid old next
@@ -69,38 +73,55 @@ cell_answer cell.Missing = Missing
 cell_answer (cell.Value v) = Value v
 cell_answer cell.Contested = Contested
 
--- What a datagram does: its answer, its offers joined, its refusal kept, its number noted where it is kept (own)
-pub record Takes (path : Path) (octets : List ℕ) (old new : State) (before after : Option Numbers) (answer : Option Answer) : Type 0 where
+-- What a datagram does: its answer, its offers joined, its refusal kept, its number noted where it
+-- is kept (own)
+pub record Takes (path : Path) (octets : List ℕ) (old new : State) (before after : Option Numbers)
+    (answer : Option Answer) : Type 0 where
   pub answer_is : answer ≡ Some (datagram_answer (taken_at old.opening octets))
   pub opening : new.opening ≡ old.opening
   pub frames : new.frames ≡ joined_frames old.frames (frames_of old.opening (octets ∷ []))
   pub refusals : new.refusals ≡ refusals_after path (taken_at old.opening octets) old.refusals
   pub numbers : after ≡ numbers_after (taken_at old.opening octets) before
 
--- What a slide does: it is refused where the window has the timestamp, and else moves the window on (own)
-pub record Slides (next : ℕ) (old new : State) (before after : Option Numbers) (answer : Option Answer) : Type 0 where
+-- What a slide does: it is refused where the window has the timestamp, and else moves the window on
+-- (own)
+pub record Slides (next : ℕ) (old new : State) (before after : Option Numbers)
+    (answer : Option Answer) : Type 0 where
   pub refused : IsMember next old.opening.window → (answer ≡ Some (NotSlid InWindow)) × (new ≡ old)
-  pub slid : (IsMember next old.opening.window → ⊥) → (spare : Raster) × (said : Answer) × (answer ≡ Some said) × IsSlide old next new spare said
+  pub slid : (IsMember next old.opening.window → ⊥) → (spare : Raster) × (said : Answer)
+      × (answer ≡ Some said) × IsSlide old next new spare said
   pub numbers : after ≡ before
 
 -- What a line `numbers` does: from here on numbers are noted, of which none is yet (own)
-pub record BeginsNumbers (first count : ℕ) (old new : State) (before after : Option Numbers) (answer : Option Answer) : Type 0 where
+pub record BeginsNumbers (first count : ℕ) (old new : State) (before after : Option Numbers)
+    (answer : Option Answer) : Type 0 where
   pub answer_is : answer ≡ None
   pub once : before ≡ None
   pub numbers : after ≡ Some (record { first = first; noted = replicate count false })
   pub receiver : new ≡ old
 
 -- What a question for a cell does: it is answered, and nothing changes (own)
-pub record Tells (place : Place) (old new : State) (before after : Option Numbers) (answer : Option Answer) : Type 0 where
-  pub there : IsPlace old place.timestamp (record { row = place.row; column = place.column; component = place.component })
-      → answer ≡ Some (cell_answer (cell_in old place.timestamp (record { row = place.row; column = place.column; component = place.component })))
-  pub nowhere : (IsPlace old place.timestamp (record { row = place.row; column = place.column; component = place.component }) → ⊥) → answer ≡ Some Nowhere
+pub record Tells (place : Place) (old new : State) (before after : Option Numbers)
+    (answer : Option Answer) : Type 0 where
+  pub there : IsPlace old place.timestamp
+      (record { row = place.row; column = place.column; component = place.component })
+      → answer ≡ Some
+      (cell_answer (cell_in old place.timestamp
+      (record { row = place.row; column = place.column; component = place.component })))
+  pub nowhere : (IsPlace old place.timestamp
+      (record { row = place.row; column = place.column; component = place.component }) → ⊥)
+      → answer ≡ Some Nowhere
   pub receiver : new ≡ old
   pub numbers : after ≡ before
 
--- What a line of `trace` does to the receiver and to the numbers beside it, and what it answers (own)
-abbrev pub Follows : TraceLine → State → State → Option Numbers → Option Numbers → Option Answer → Type 0
-Follows (Datagram path digits) old new before after answer = (octets : List ℕ) × IsOctetsText digits.now octets × Takes path octets old new before after answer
+-- What a line of `trace` does to the receiver and to the numbers beside it, and what it answers
+-- (own)
+abbrev pub Follows : TraceLine → State → State → Option Numbers → Option Numbers → Option Answer
+    → Type 0
+Follows (Datagram path digits) old new before after answer =
+    (octets : List ℕ) × IsOctetsText digits.now octets
+    × Takes path octets old new before after answer
 Follows (Slide next) old new before after answer = Slides next old new before after answer
-Follows (line.Numbers first count) old new before after answer = BeginsNumbers first count old new before after answer
+Follows (line.Numbers first count) old new before after answer =
+    BeginsNumbers first count old new before after answer
 Follows (line.Cell place) old new before after answer = Tells place old new before after answer

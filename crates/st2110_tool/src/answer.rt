@@ -26,7 +26,8 @@ pub(crate) enum Answer {
     Out(u32, Counts),
     /// The window did not move on.
     NotSlid(SlideFault),
-    /// The receiver of this number handed out the frame of this timestamp, with so many samples of each kind.
+    /// The receiver of this number handed out the frame of this timestamp, with so many samples of
+    /// each kind.
     HandedOut(u8, u32, Counts),
     /// The frames of the receiver of this number follow.
     Receiver(usize),

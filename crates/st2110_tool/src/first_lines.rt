@@ -6,7 +6,8 @@ use crate::line::read_format_line;
 use crate::script::{Line, Lines};
 use st_format::Format;
 
-/// The next line of those that a script needs; where there is none, the line behind its last is at fault.
+/// The next line of those that a script needs; where there is none, the line behind its last is at
+/// fault.
 pub(crate) fn next_line<'a>(lines: &mut Lines<'a>) -> Result<Line<'a>, Fault>
     ensures { IfErr result (λ fault. fault ≢ Fault.Device) }
 {

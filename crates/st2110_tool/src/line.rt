@@ -1,7 +1,10 @@
 //! What a line of a script says.
-ghost use Rattle.std.specs.Prelude.{◌≡◌, ◌≢◌, ◌≤◌, ◌<◌, ℕ, List, Ok, Option, length, take, IfNone, IfOk, IfSome, IsFalse, IsTrue};
+ghost use Rattle.std.specs.Prelude.{◌≡◌, ◌≢◌, ◌≤◌, ◌<◌, ℕ, List, Ok, Option, length, take, IfNone};
+ghost use Rattle.std.specs.Prelude.{IfOk, IfSome, IsFalse, IsTrue};
 ghost use Rattle.hex.specs.Hex.{decode_of};
-ghost use Rattle.st2110_tool.specs.Forms.{AreFormat, AreFour, AreHeightAndRate, AreOpening, AreTwo, IsFormatLine, IsOctetsText, IsOpenLine, IsRate, IsWindowText, IsSourceText, IsTraceLine, sampling_text};
+ghost use Rattle.st2110_tool.specs.Forms.{AreFormat, AreFour, AreHeightAndRate, AreOpening, AreTwo};
+ghost use Rattle.st2110_tool.specs.Forms.{IsFormatLine, IsOctetsText, IsOpenLine, IsRate};
+ghost use Rattle.st2110_tool.specs.Forms.{IsWindowText, IsSourceText, IsTraceLine, sampling_text};
 ghost use Rattle.tool_text.specs.Timestamps.{Spells};
 ghost use Rattle.st_format.specs.Pgroup.{bits_of};
 
@@ -126,16 +129,20 @@ fn read_depth(text: &[u8]) -> Option<Depth>
 
 /// What a line `open` says; its window is text yet.
 pub(crate) fn read_open_line(text: &[u8]) -> Option<OpenLine<'_>>
-    ensures is { IfSome result (λ line. IsOpenLine text.now line.payload_type line.ssrc line.window.now) }
-    ensures none { IfNone result ((payload_type : ℕ) (ssrc : Option ℕ) (window : List ℕ) → IsOpenLine text.now payload_type ssrc window → ⊥) }
+    ensures is { IfSome result
+        (λ line. IsOpenLine text.now line.payload_type line.ssrc line.window.now) }
+    ensures none { IfNone result ((payload_type : ℕ) (ssrc : Option ℕ) (window : List ℕ)
+        → IsOpenLine text.now payload_type ssrc window → ⊥) }
 {
     let rest = after_word(text, b"open ")?;
     read_opening(rest)
 }
 
 fn read_opening(text: &[u8]) -> Option<OpenLine<'_>>
-    ensures is { IfSome result (λ line. AreOpening text.now line.payload_type line.ssrc line.window.now) }
-    ensures none { IfNone result ((payload_type : ℕ) (ssrc : Option ℕ) (window : List ℕ) → AreOpening text.now payload_type ssrc window → ⊥) }
+    ensures is { IfSome result
+        (λ line. AreOpening text.now line.payload_type line.ssrc line.window.now) }
+    ensures none { IfNone result ((payload_type : ℕ) (ssrc : Option ℕ) (window : List ℕ)
+        → AreOpening text.now payload_type ssrc window → ⊥) }
 {
     let (payload_type, rest) = split_once(text, b' ')?;
     let (ssrc, window) = split_once(rest, b' ')?;
@@ -177,7 +184,8 @@ pub(crate) fn read_window<A: Allocator>(
     text: &[u8],
 ) -> Result<Option<Vec<u32, A>>, AllocError>
     ensures is { IfOk result (λ window. IfSome window (λ w. IsWindowText text.now w.items)) }
-    ensures none { IfOk result (λ window. IfNone window ((said : List ℕ) → IsWindowText text.now said → ⊥)) }
+    ensures none { IfOk result (λ window. IfNone window ((said : List ℕ)
+        → IsWindowText text.now said → ⊥)) }
 {
     if text == b"-".as_slice() {
         return Ok(Some(Vec::new(alloc)));
@@ -236,7 +244,8 @@ pub(crate) fn read_octets(text: &[u8], octets: &mut [u8]) -> Option<usize>
     ensures within { IfSome result (λ n. n ≤ length octets.new) }
     ensures room { length octets.new ≡ length octets.old }
     ensures is { IfSome result (λ n. IsOctetsText text.now (take n octets.new)) }
-    ensures none { IfNone result ((said : List ℕ) → length said ≤ length octets.old → IsOctetsText text.now said → ⊥) }
+    ensures none { IfNone result ((said : List ℕ) → length said ≤ length octets.old
+        → IsOctetsText text.now said → ⊥) }
 {
     if text == b"-".as_slice() {
         return Some(0);
@@ -252,11 +261,13 @@ pub(crate) fn read_octets(text: &[u8], octets: &mut [u8]) -> Option<usize>
     }
 }
 
-/// Decodes hexadecimal digits, and tells whether they are those of just as many octets as there is room for.
+/// Decodes hexadecimal digits, and tells whether they are those of just as many octets as there is
+/// room for.
 pub(crate) fn decodes(text: &[u8], octets: &mut [u8]) -> bool
     ensures room { length octets.new ≡ length octets.old }
     ensures is { IsTrue result → decode_of text.now ≡ Ok octets.new }
-    ensures none { IsFalse result → (said : List ℕ) → length said ≡ length octets.old → decode_of text.now ≡ Ok said → ⊥ }
+    ensures none { IsFalse result → (said : List ℕ) → length said ≡ length octets.old
+        → decode_of text.now ≡ Ok said → ⊥ }
 {
     hex::decode_to_slice(text, octets).is_ok()
 }

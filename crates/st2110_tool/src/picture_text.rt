@@ -12,8 +12,8 @@ use pgroup_pack::unpack;
 use st_format::{Depth, Format, Picture};
 use std::alloc::{AllocError, Allocator};
 
-/// The picture of a format whose packed octets these digits are (RFC 4175, 4.3), and none where they aren't
-/// those of just as many octets as it has.
+/// The picture of a format whose packed octets these digits are (RFC 4175, 4.3), and none where
+/// they aren't those of just as many octets as it has.
 pub(crate) fn read_picture<A: Allocator + Copy>(
     alloc: A,
     format: Format,
@@ -21,7 +21,9 @@ pub(crate) fn read_picture<A: Allocator + Copy>(
 ) -> Result<Option<Picture<A>>, AllocError>
     ensures format { IfOk result (λ said. IfSome said (λ p. p.format ≡ format)) }
     ensures is { IfOk result (λ said. IfSome said (λ p. IsPictureText digits.now p)) }
-    ensures none { IfOk result (λ said. IfNone said ((octets : List ℕ) → Agree format (length octets) (sample_count format) → decode_of digits.now ≡ Ok octets → ⊥)) }
+    ensures none { IfOk result (λ said. IfNone said ((octets : List ℕ)
+        → Agree format (length octets) (sample_count format) → decode_of digits.now ≡ Ok octets
+        → ⊥)) }
 {
     let count = packed_octets(format);
     if digits.len() != 2 * count {

@@ -4,7 +4,9 @@ ghost use Rattle.st_format.specs.declared.path.Path.{Path as ByPath};
 ghost use Rattle.packet_plan.specs.declared.stamp.Stamp.{Stamp as AStamp};
 ghost use Rattle.path_merge.specs.declared.schedule.event.Event.{Event as AnEvent};
 ghost use Rattle.tool_text.specs.Timestamps.{Spells};
-ghost use Rattle.st2110_tool.specs.RehearsalForms.{AreArrival, AreReceiverAndNumber, AreReceivers, AreStamp, IsEventLine, IsNumberLine, IsStampLine, IsWindowLine, path_text};
+ghost use Rattle.st2110_tool.specs.RehearsalForms.{AreArrival, AreReceiverAndNumber, AreReceivers};
+ghost use Rattle.st2110_tool.specs.RehearsalForms.{AreStamp, IsEventLine, IsNumberLine};
+ghost use Rattle.st2110_tool.specs.RehearsalForms.{IsStampLine, IsWindowLine, path_text};
 
 use crate::line::{read_payload_type, read_two, read_window};
 use packet_plan::Stamp;
@@ -55,7 +57,8 @@ pub(crate) fn read_window_line<A: Allocator>(
     text: &[u8],
 ) -> Result<Option<Vec<u32, A>>, AllocError>
     ensures is { IfOk result (λ window. IfSome window (λ w. IsWindowLine text.now w.items)) }
-    ensures none { IfOk result (λ window. IfNone window ((said : List ℕ) → IsWindowLine text.now said → ⊥)) }
+    ensures none { IfOk result (λ window. IfNone window ((said : List ℕ)
+        → IsWindowLine text.now said → ⊥)) }
 {
     match after_word(text, b"window ") {
         Some(rest) => read_window(alloc, rest),
@@ -87,7 +90,8 @@ pub(crate) fn read_event(text: &[u8]) -> Option<Event>
 /// A receiver, a path and a number.
 fn read_arrival(text: &[u8]) -> Option<(u8, Path, u32)>
     ensures is { IfSome result (λ p. AreArrival text.now p.0 p.1 p.2) }
-    ensures none { IfNone result ((to : ℕ) (path : ByPath) (number : ℕ) → AreArrival text.now to path number → ⊥) }
+    ensures none { IfNone result ((to : ℕ) (path : ByPath) (number : ℕ)
+        → AreArrival text.now to path number → ⊥) }
 {
     let (to, rest) = split_once(text, b' ')?;
     let (path, number) = split_once(rest, b' ')?;

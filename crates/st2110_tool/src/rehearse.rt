@@ -20,11 +20,11 @@ use tool_text::{LINE, Status, tell_memory};
 
 /// Plays the schedule that the source gives as a script, and answers the exit status.
 ///
-/// The script is read whole; then it is planned and played, and a line is printed to `output` for each frame
-/// that was handed out, in order, and then for each receiver its number and a line for the frame of each
-/// timestamp of its window. The status is 0; or 1 where the script, its format, its plan or its schedule is
-/// refused, 3 where a device failed, and 4 where the allocator refused memory, which `faults` is told by one
-/// line.
+/// The script is read whole; then it is planned and played, and a line is printed to `output` for
+/// each frame that was handed out, in order, and then for each receiver its number and a line for
+/// the frame of each timestamp of its window. The status is 0; or 1 where the script, its format,
+/// its plan or its schedule is refused, 3 where a device failed, and 4 where the allocator refused
+/// memory, which `faults` is told by one line.
 pub fn run_rehearse<A, S, O, F>(alloc: A, source: &mut S, output: &mut O, faults: &mut F) -> u8
 where
     A: Allocator + Copy,
@@ -32,8 +32,12 @@ where
     O: ByteSink,
     F: ByteSink,
     ensures range { (result ≡ 0) ⊎ (result ≡ 1) ⊎ (result ≡ 3) ⊎ (result ≡ 4) }
-    ensures device { result ≡ 3 → Failed (S.failures source.old) (S.failures source.new) ⊎ Failed (O.failures output.old) (O.failures output.new) ⊎ Failed (F.failures faults.old) (F.failures faults.new) }
-    ensures working { result ≢ 3 → (S.failures source.new ≡ S.failures source.old) × (O.failures output.new ≡ O.failures output.old) × (F.failures faults.new ≡ F.failures faults.old) }
+    ensures device { result ≡ 3 → Failed (S.failures source.old) (S.failures source.new)
+        ⊎ Failed (O.failures output.old) (O.failures output.new)
+        ⊎ Failed (F.failures faults.old) (F.failures faults.new) }
+    ensures working { result ≢ 3 → (S.failures source.new ≡ S.failures source.old)
+        × (O.failures output.new ≡ O.failures output.old)
+        × (F.failures faults.new ≡ F.failures faults.old) }
     ensures whole { result ≡ 0 → GivesScript (S.to_give source.old) (S.to_give source.new) }
     ensures read { result ≡ 1 → GivesAll (S.to_give source.old) (S.to_give source.new) }
     ensures silent { result ≡ 0 → faults.new ≡ faults.old }
@@ -58,7 +62,8 @@ where
     A: Allocator + Copy,
     S: ByteSource,
     O: ByteSink,
-    ensures failures { AccountsBoth result (S.failures source.old) (S.failures source.new) (O.failures output.old) (O.failures output.new) }
+    ensures failures { AccountsBoth result (S.failures source.old) (S.failures source.new)
+        (O.failures output.old) (O.failures output.new) }
     ensures read { Reads result (S.to_give source.old) (S.to_give source.new) }
 {
     let script = read_script(alloc, source)?;

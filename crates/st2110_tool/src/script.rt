@@ -1,5 +1,6 @@
 //! A script: the octets that a source gives, and their lines.
-ghost use Rattle.std.specs.Prelude.{◌≡◌, ◌≤◌, ◌<◌, ◌+◌, ◌∷◌, [], length, IfErr, IfNone, IfSome, IfOk, MatchOption};
+ghost use Rattle.std.specs.Prelude.{◌≡◌, ◌≤◌, ◌<◌, ◌+◌, ◌∷◌, [], length, IfErr, IfNone, IfSome};
+ghost use Rattle.std.specs.Prelude.{IfOk, MatchOption};
 ghost use Rattle.std.specs.Io.KnownBytes.{Consumes, IsAtEnd};
 ghost use Rattle.std.specs.Str.Lines.{lines, strip_carriage_return};
 ghost use Rattle.st2110_tool.specs.Fault.{Accounts, ReadsAt};
@@ -29,8 +30,10 @@ where
     S: ByteSource,
     ensures limit { IfOk result (λ s. length s.octets.items ≤ LIMIT) }
     ensures failures { Accounts result (S.failures source.old) (S.failures source.new) }
-    ensures refused { IfErr result (λ fault. ReadsAt fault (S.to_give source.old) (S.to_give source.new)) }
-    ensures read { IfOk result (λ s. IsReadFrom (S.to_give source.old) (S.to_give source.new) s.octets.items s.is_cut) }
+    ensures refused { IfErr result (λ fault. ReadsAt fault (S.to_give source.old)
+        (S.to_give source.new)) }
+    ensures read { IfOk result (λ s. IsReadFrom (S.to_give source.old)
+        (S.to_give source.new) s.octets.items s.is_cut) }
 {
     Ok(cut_at_limit(read_past_limit(alloc, source)?))
 }
@@ -40,9 +43,12 @@ fn read_past_limit<A, S>(alloc: A, source: &mut S) -> Result<Vec<u8, A>, Fault>
 where
     A: Allocator,
     S: ByteSource,
-    ensures refused { IfErr result (λ fault. ReadsAt fault (S.to_give source.old) (S.to_give source.new)) }
-    ensures given { IfOk result (λ octets. Consumes (S.to_give source.old) (S.to_give source.new) octets.items) }
-    ensures whole { IfOk result (λ octets. length octets.items ≤ LIMIT → IsAtEnd (S.to_give source.new)) }
+    ensures refused { IfErr result (λ fault. ReadsAt fault (S.to_give source.old)
+        (S.to_give source.new)) }
+    ensures given { IfOk result (λ octets. Consumes (S.to_give source.old)
+        (S.to_give source.new) octets.items) }
+    ensures whole { IfOk result (λ octets. length octets.items ≤ LIMIT
+        → IsAtEnd (S.to_give source.new)) }
     ensures failures { Accounts result (S.failures source.old) (S.failures source.new) }
 {
     let mut octets = Vec::new(alloc);
@@ -121,9 +127,11 @@ impl<'a> Lines<'a> {
     pub fn next(&mut self) -> Option<Line<'a>>
         ensures next { MatchOption result
             (numbered_lines self.old.passed self.old.rest.now ≡ [])
-            (λ line. numbered_lines self.old.passed self.old.rest.now ≡ (line.number, line.text.now) ∷ numbered_lines self.new.passed self.new.rest.now) }
+            (λ line. numbered_lines self.old.passed self.old.rest.now ≡ (line.number, line.text.now)
+            ∷ numbered_lines self.new.passed self.new.rest.now) }
         ensures fewer { IfSome result (λ _. length self.new.rest.now < length self.old.rest.now) }
-        ensures end { IfNone result (self.new.passed ≡ self.old.passed + length (lines self.old.rest.now)) }
+        ensures end { IfNone result (self.new.passed ≡ self.old.passed + length
+            (lines self.old.rest.now)) }
     {
         while let Some((text, rest)) = split_line(self.rest) {
             self.rest = rest;
@@ -148,7 +156,8 @@ impl<'a> Lines<'a> {
 
 /// The first line of a text, without its LF and a CR before that, and the text behind it.
 fn split_line(text: &[u8]) -> Option<(&[u8], &[u8])>
-    ensures cases { MatchOption result (text.now ≡ []) (λ p. lines text.now ≡ p.0.now ∷ lines p.1.now) }
+    ensures cases { MatchOption result (text.now ≡ []) (λ p. lines text.now ≡ p.0.now
+        ∷ lines p.1.now) }
     ensures shorter { IfSome result (λ p. length p.1.now < length text.now) }
 {
     if text.is_empty() {

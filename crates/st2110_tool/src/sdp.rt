@@ -14,10 +14,12 @@ use st_format::{ByteSink, ByteSource, write_whole};
 use std::alloc::Allocator;
 use tool_text::{LINE, Status, tell_memory};
 
-/// Reads the SDP text that the source gives, and writes its canonical fmtp line (RFC 8866; SMPTE ST 2110-20, 7).
+/// Reads the SDP text that the source gives, and writes its canonical fmtp line (RFC 8866; SMPTE ST
+/// 2110-20, 7).
 ///
-/// Answers 0; 1 where the text is refused, with `st2110: sdp N NAME` told to the faults, or is longer than
-/// 16,777,216 octets, with `st2110: script 1` (own); 3 exactly where a device failed; 4 where memory was wanted.
+/// Answers 0; 1 where the text is refused, with `st2110: sdp N NAME` told to the faults, or is
+/// longer than 16,777,216 octets, with `st2110: script 1` (own); 3 exactly where a device failed; 4
+/// where memory was wanted.
 pub fn run_sdp<A, S, O, F>(alloc: A, source: &mut S, output: &mut O, faults: &mut F) -> u8
 where
     A: Allocator + Copy,
@@ -25,8 +27,12 @@ where
     O: ByteSink,
     F: ByteSink,
     ensures range { (result ≡ 0) ⊎ (result ≡ 1) ⊎ (result ≡ 3) ⊎ (result ≡ 4) }
-    ensures device { result ≡ 3 → Failed (S.failures source.old) (S.failures source.new) ⊎ Failed (O.failures output.old) (O.failures output.new) ⊎ Failed (F.failures faults.old) (F.failures faults.new) }
-    ensures working { result ≢ 3 → (S.failures source.new ≡ S.failures source.old) × (O.failures output.new ≡ O.failures output.old) × (F.failures faults.new ≡ F.failures faults.old) }
+    ensures device { result ≡ 3 → Failed (S.failures source.old) (S.failures source.new)
+        ⊎ Failed (O.failures output.old) (O.failures output.new)
+        ⊎ Failed (F.failures faults.old) (F.failures faults.new) }
+    ensures working { result ≢ 3 → (S.failures source.new ≡ S.failures source.old)
+        × (O.failures output.new ≡ O.failures output.old)
+        × (F.failures faults.new ≡ F.failures faults.old) }
     ensures whole { result ≡ 0 → GivesScript (S.to_give source.old) (S.to_give source.new) }
     ensures read { result ≡ 1 → GivesAll (S.to_give source.old) (S.to_give source.new) }
     ensures silent { result ≡ 0 → faults.new ≡ faults.old }
@@ -48,7 +54,8 @@ where
     S: ByteSource,
     O: ByteSink,
     ensures read { Reads result (S.to_give source.old) (S.to_give source.new) }
-    ensures failures { AccountsBoth result (S.failures source.old) (S.failures source.new) (O.failures output.old) (O.failures output.new) }
+    ensures failures { AccountsBoth result (S.failures source.old) (S.failures source.new)
+        (O.failures output.old) (O.failures output.new) }
 {
     let script = read_script(alloc, source)?;
     if script.is_cut {

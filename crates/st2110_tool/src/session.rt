@@ -1,10 +1,12 @@
 //! What the lines of a script are followed with.
-ghost use Rattle.std.specs.Prelude.{◌≡◌, ◌≢◌, ◌↔◌, ◌∷◌, [], IfErr, IfOk, IsErrOf, None, OnOk, Some, false, replicate};
+ghost use Rattle.std.specs.Prelude.{◌≡◌, ◌≢◌, ◌↔◌, ◌∷◌, [], IfErr, IfOk, IsErrOf, None, OnOk, Some};
+ghost use Rattle.std.specs.Prelude.{false, replicate};
 ghost use Rattle.path_merge.specs.Answers.{refusals_after, taken_at};
 ghost use Rattle.path_merge.specs.Frames.{cell_in, frames_of, joined_frames};
 ghost use Rattle.path_merge.specs.Numbers.{IsCount};
 ghost use Rattle.st_format.specs.Member.{IsMember};
-ghost use Rattle.st2110_tool.specs.Session.{IsPlace, IsSlide, cell_answer, datagram_answer, numbers_after, with_number};
+ghost use Rattle.st2110_tool.specs.Session.{IsPlace, IsSlide, cell_answer, datagram_answer};
+ghost use Rattle.st2110_tool.specs.Session.{numbers_after, with_number};
 
 use crate::answer::Answer;
 use crate::fault::Fault;
@@ -47,9 +49,12 @@ impl<A: Allocator> Session<A> {
     pub fn take(&mut self, path: Path, octets: &[u8]) -> Answer
         ensures answer { result ≡ datagram_answer (taken_at self.old.receiver.opening octets.now) }
         ensures opening { self.new.receiver.opening ≡ self.old.receiver.opening }
-        ensures frames { self.new.receiver.frames ≡ joined_frames self.old.receiver.frames (frames_of self.old.receiver.opening (octets.now ∷ [])) }
-        ensures refusals { self.new.receiver.refusals ≡ refusals_after path (taken_at self.old.receiver.opening octets.now) self.old.receiver.refusals }
-        ensures numbers { self.new.numbers ≡ numbers_after (taken_at self.old.receiver.opening octets.now) self.old.numbers }
+        ensures frames { self.new.receiver.frames ≡ joined_frames self.old.receiver.frames
+            (frames_of self.old.receiver.opening (octets.now ∷ [])) }
+        ensures refusals { self.new.receiver.refusals ≡ refusals_after path
+            (taken_at self.old.receiver.opening octets.now) self.old.receiver.refusals }
+        ensures numbers { self.new.numbers ≡ numbers_after
+            (taken_at self.old.receiver.opening octets.now) self.old.numbers }
     {
         match self.receiver.take(path, octets) {
             Ok(Taken::Kept(number)) => {
@@ -61,10 +66,14 @@ impl<A: Allocator> Session<A> {
         }
     }
 
-    /// Moves the window on to a timestamp, and tells of the frame that leaves. Frames are exchanged.
+    /// Moves the window on to a timestamp, and tells of the frame that leaves. Frames are
+    /// exchanged.
     pub fn slide(&mut self, next: u32) -> Answer
-        ensures refused { IsMember next self.old.receiver.opening.window → (result ≡ Answer.NotSlid SlideFault.InWindow) × (self.new.receiver ≡ self.old.receiver) }
-        ensures slid { (IsMember next self.old.receiver.opening.window → ⊥) → IsSlide self.old.receiver next self.new.receiver self.new.spare result }
+        ensures refused { IsMember next self.old.receiver.opening.window
+            → (result ≡ Answer.NotSlid SlideFault.InWindow)
+            × (self.new.receiver ≡ self.old.receiver) }
+        ensures slid { (IsMember next self.old.receiver.opening.window → ⊥)
+            → IsSlide self.old.receiver next self.new.receiver self.new.spare result }
         ensures numbers { self.new.numbers ≡ self.old.numbers }
     {
         // What its format tells: each of its frames has it
@@ -75,8 +84,9 @@ impl<A: Allocator> Session<A> {
         }
     }
 
-    /// Begins to note the numbers of the datagrams that are kept, which a script may do once: `line` is at
-    /// fault where it has done so before. Then a count may be refused, and last memory may be wanted.
+    /// Begins to note the numbers of the datagrams that are kept, which a script may do once:
+    /// `line` is at fault where it has done so before. Then a count may be refused, and last memory
+    /// may be wanted.
     pub fn open_numbers(
         &mut self,
         alloc: A,
@@ -85,9 +95,11 @@ impl<A: Allocator> Session<A> {
         count: u32,
     ) -> Result<(), Fault>
         ensures twice { IsErrOf result (Fault.Script line) ↔ (self.old.numbers ≢ None) }
-        ensures count { IsErrOf result (Fault.Numbers SeqMapFault.BadCount) ↔ ((self.old.numbers ≡ None) × (IsCount count → ⊥)) }
+        ensures count { IsErrOf result (Fault.Numbers SeqMapFault.BadCount)
+            ↔ ((self.old.numbers ≡ None) × (IsCount count → ⊥)) }
         ensures refused { IfErr result (λ fault. fault ≢ Fault.Device) }
-        ensures opened { OnOk result (self.new.numbers ≡ Some (record { first = first; noted = replicate count false })) }
+        ensures opened { OnOk result (self.new.numbers ≡ Some
+            (record { first = first; noted = replicate count false })) }
         ensures receiver { self.new.receiver ≡ self.old.receiver }
     {
         if self.numbers.is_some() {
@@ -99,9 +111,13 @@ impl<A: Allocator> Session<A> {
 
     /// What is known of a sample.
     pub fn cell(&self, place: Place) -> Answer
-        ensures there { IsPlace self.now.receiver place.timestamp (record { row = place.row; column = place.column; component = place.component })
-            → result ≡ cell_answer (cell_in self.now.receiver place.timestamp (record { row = place.row; column = place.column; component = place.component })) }
-        ensures nowhere { (IsPlace self.now.receiver place.timestamp (record { row = place.row; column = place.column; component = place.component }) → ⊥) → result ≡ Answer.Nowhere }
+        ensures there { IsPlace self.now.receiver place.timestamp
+            (record { row = place.row; column = place.column; component = place.component })
+            → result ≡ cell_answer (cell_in self.now.receiver place.timestamp
+            (record { row = place.row; column = place.column; component = place.component })) }
+        ensures nowhere { (IsPlace self.now.receiver place.timestamp
+            (record { row = place.row; column = place.column; component = place.component }) → ⊥)
+            → result ≡ Answer.Nowhere }
     {
         let Some(frame) = self.receiver.frame(place.timestamp) else {
             return Answer::Nowhere;

@@ -12,7 +12,8 @@ pub(crate) fn tell<A: Allocator, F: ByteSink>(
     text: &mut String<A>,
     faults: &mut F,
 ) -> Status
-    ensures { TellsFault fault result (F.failures faults.old) (F.failures faults.new) (F.held faults.old) (F.held faults.new) }
+    ensures { TellsFault fault result (F.failures faults.old) (F.failures faults.new)
+        (F.held faults.old) (F.held faults.new) }
 {
     match fault {
         Fault::Device => tell_device(faults),

@@ -26,11 +26,11 @@ const DATAGRAM: usize = 65_535;
 
 /// Runs the script that the source gives, and answers the exit status.
 ///
-/// The script is read whole; then its lines are followed one by one, and what each says is printed to
-/// `output`. At the end a line for the frame of each timestamp of the window is printed, and one for each run
-/// of numbers that did not come, where numbers are noted. The status is 0; or 1 where the script, its format,
-/// its opening or its count of numbers is refused, 3 where a device failed, and 4 where the allocator refused
-/// memory, which `faults` is told by one line.
+/// The script is read whole; then its lines are followed one by one, and what each says is printed
+/// to `output`. At the end a line for the frame of each timestamp of the window is printed, and one
+/// for each run of numbers that did not come, where numbers are noted. The status is 0; or 1 where
+/// the script, its format, its opening or its count of numbers is refused, 3 where a device failed,
+/// and 4 where the allocator refused memory, which `faults` is told by one line.
 pub fn run_trace<A, S, O, F>(alloc: A, source: &mut S, output: &mut O, faults: &mut F) -> u8
 where
     A: Allocator + Copy,
@@ -38,8 +38,12 @@ where
     O: ByteSink,
     F: ByteSink,
     ensures range { (result ≡ 0) ⊎ (result ≡ 1) ⊎ (result ≡ 3) ⊎ (result ≡ 4) }
-    ensures device { result ≡ 3 → Failed (S.failures source.old) (S.failures source.new) ⊎ Failed (O.failures output.old) (O.failures output.new) ⊎ Failed (F.failures faults.old) (F.failures faults.new) }
-    ensures working { result ≢ 3 → (S.failures source.new ≡ S.failures source.old) × (O.failures output.new ≡ O.failures output.old) × (F.failures faults.new ≡ F.failures faults.old) }
+    ensures device { result ≡ 3 → Failed (S.failures source.old) (S.failures source.new)
+        ⊎ Failed (O.failures output.old) (O.failures output.new)
+        ⊎ Failed (F.failures faults.old) (F.failures faults.new) }
+    ensures working { result ≢ 3 → (S.failures source.new ≡ S.failures source.old)
+        × (O.failures output.new ≡ O.failures output.old)
+        × (F.failures faults.new ≡ F.failures faults.old) }
     ensures whole { result ≡ 0 → GivesScript (S.to_give source.old) (S.to_give source.new) }
     ensures read { result ≡ 1 → GivesAll (S.to_give source.old) (S.to_give source.new) }
     ensures silent { result ≡ 0 → faults.new ≡ faults.old }
@@ -64,7 +68,8 @@ where
     A: Allocator + Copy,
     S: ByteSource,
     O: ByteSink,
-    ensures failures { AccountsBoth result (S.failures source.old) (S.failures source.new) (O.failures output.old) (O.failures output.new) }
+    ensures failures { AccountsBoth result (S.failures source.old) (S.failures source.new)
+        (O.failures output.old) (O.failures output.new) }
     ensures read { Reads result (S.to_give source.old) (S.to_give source.new) }
 {
     let script = read_script(alloc, source)?;
@@ -155,9 +160,12 @@ fn answer_to<A: Allocator>(
     octets: &mut [u8],
 ) -> Result<Option<Answer>, Fault>
     ensures refused { IfErr result (λ fault. fault ≢ Fault.Device) }
-    ensures follows { IfOk result (λ answer. (said : TraceLine) × IsTraceLine line.entry.text.now said
-        × Follows said session.old.receiver session.new.receiver session.old.numbers session.new.numbers answer) }
-    ensures unknown { ((said : TraceLine) → IsTraceLine line.entry.text.now said → ⊥) → result ≡ Err (Fault.Script line.entry.number) }
+    ensures follows { IfOk result (λ answer. (said : TraceLine)
+        × IsTraceLine line.entry.text.now said
+        × Follows said session.old.receiver session.new.receiver session.old.numbers
+        session.new.numbers answer) }
+    ensures unknown { ((said : TraceLine) → IsTraceLine line.entry.text.now said → ⊥)
+        → result ≡ Err (Fault.Script line.entry.number) }
 {
     let Some(said) = read_trace_line(line.text) else {
         return Err(Fault::Script(line.number));

@@ -1,7 +1,8 @@
 -- Exit statuses (own).
 use Rattle.std.specs.Prelude.{ℕ}
 use Rattle.tool_text.specs.declared.status.Status.{Status}
-use Rattle.tool_text.specs.declared.status.Status.TheVariants.{Done, Refused, CommandLine, Device, Memory}
+use Rattle.tool_text.specs.declared.status.Status.TheVariants.{Done, Refused, CommandLine, Device}
+use Rattle.tool_text.specs.declared.status.Status.TheVariants.{Memory}
 
 abbrev pub status_number : Status → ℕ
 status_number Done = 0

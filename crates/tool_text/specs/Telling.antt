@@ -8,7 +8,8 @@ use Rattle.tool_text.specs.declared.status.Status.TheVariants.{Refused, Device, 
 -- A line was told: the sink took it whole, or it failed, and then the run ends by that
 abbrev pub Tells : Status → List ℕ → Status → ℕ → ℕ → Option (List ℕ) → Option (List ℕ) → Type 0
 Tells status line result old new held held' =
-    ((result ≡ status) × (new ≡ old) × Appends held held' line) ⊎ ((result ≡ Device) × Failed old new)
+    ((result ≡ status) × (new ≡ old) × Appends held held' line)
+    ⊎ ((result ≡ Device) × Failed old new)
 
 abbrev pub device_line : List ℕ
 device_line = codes "st2110: device\n"

@@ -13,4 +13,6 @@ pub record Spells (text : List ℕ) (n : ℕ) : Type 0 where
 abbrev pub AreTimestamps : List ℕ → List ℕ → Type 0
 AreTimestamps text [] = ⊥
 AreTimestamps text (t ∷ []) = (parted 44 text ≡ None) × Spells text t
-AreTimestamps text (t ∷ u ∷ ts) = (first : List ℕ) × (rest : List ℕ) × (parted 44 text ≡ Some (first, rest)) × Spells first t × AreTimestamps rest (u ∷ ts)
+AreTimestamps text (t ∷ u ∷ ts) =
+    (first : List ℕ) × (rest : List ℕ) × (parted 44 text ≡ Some (first, rest)) × Spells first t
+    × AreTimestamps rest (u ∷ ts)

@@ -1,5 +1,6 @@
 //! Fields of a line.
-ghost use Rattle.std.specs.Prelude.{◌≡◌, ◌≢◌, ◌<◌, ◌==◌, ◌++◌, List, ℕ, IfSome, MatchOption, length, position};
+ghost use Rattle.std.specs.Prelude.{◌≡◌, ◌≢◌, ◌<◌, ◌==◌, ◌++◌, List, ℕ, IfSome, MatchOption};
+ghost use Rattle.std.specs.Prelude.{length, position};
 ghost use Rattle.std.specs.Option.{option_map};
 ghost use Rattle.tool_text.specs.Fields.{parted};
 
@@ -16,7 +17,8 @@ pub fn split_once(text: &[u8], separator: u8) -> Option<(&[u8], &[u8])>
 
 /// The text behind a word, where it begins so.
 pub fn after_word<'a>(text: &'a [u8], word: &[u8]) -> Option<&'a [u8]>
-    ensures cases { MatchOption result ((rest : List ℕ) → text.now ≢ word.now ++ rest) (λ rest. text.now ≡ word.now ++ rest.now) }
+    ensures cases { MatchOption result ((rest : List ℕ) → text.now ≢ word.now ++ rest)
+        (λ rest. text.now ≡ word.now ++ rest.now) }
 {
     text.strip_prefix(word)
 }

@@ -1,4 +1,5 @@
-//! What the engines of the program share: numbers and fields of texts, the line of a frame, and how a run ended.
+//! What the engines of the program share: numbers and fields of texts, the line of a frame, and how
+//! a run ended.
 #![tactic(auto)]
 
 mod fields;

@@ -4,8 +4,8 @@ ghost use Rattle.std.specs.Option.{SomeIff};
 ghost use Rattle.std.specs.Str.Parse.{digits_value};
 ghost use Rattle.tool_text.specs.Number.{IsNumber};
 
-/// The value of a number: one to ten decimal digits, leading zeros among them, whose value is at most
-/// 4,294,967,295. Any other text is none.
+/// The value of a number: one to ten decimal digits, leading zeros among them, whose value is at
+/// most 4,294,967,295. Any other text is none.
 pub fn read_number(text: &[u8]) -> Option<u32>
     ensures { SomeIff result (IsNumber text.now) (digits_value 10 text.now) }
 {

@@ -16,21 +16,25 @@ const MEMORY_LINE: &[u8] = b"st2110: memory\n";
 
 /// Tells that memory was wanted.
 pub fn tell_memory<F: ByteSink>(faults: &mut F) -> Status
-    ensures { Tells Memory memory_line result (F.failures faults.old) (F.failures faults.new) (F.held faults.old) (F.held faults.new) }
+    ensures { Tells Memory memory_line result (F.failures faults.old) (F.failures faults.new)
+        (F.held faults.old) (F.held faults.new) }
 {
     report(Status::Memory, MEMORY_LINE, faults)
 }
 
 /// Tells that a device failed.
 pub fn tell_device<F: ByteSink>(faults: &mut F) -> Status
-    ensures { Tells Device device_line result (F.failures faults.old) (F.failures faults.new) (F.held faults.old) (F.held faults.new) }
+    ensures { Tells Device device_line result (F.failures faults.old) (F.failures faults.new)
+        (F.held faults.old) (F.held faults.new) }
 {
     report(Status::Device, DEVICE_LINE, faults)
 }
 
-/// Writes a line to the faults, and tells how the run ends: by this status, but where the sink fails.
+/// Writes a line to the faults, and tells how the run ends: by this status, but where the sink
+/// fails.
 pub fn report<F: ByteSink>(status: Status, line: &[u8], faults: &mut F) -> Status
-    ensures { Tells status line.now result (F.failures faults.old) (F.failures faults.new) (F.held faults.old) (F.held faults.new) }
+    ensures { Tells status line.now result (F.failures faults.old) (F.failures faults.new)
+        (F.held faults.old) (F.held faults.new) }
 {
     match write_whole(faults, line) {
         Ok(()) => status,

@@ -14,7 +14,8 @@ pub fn read_timestamps<A: Allocator>(
     text: &[u8],
 ) -> Result<Option<Vec<u32, A>>, AllocError>
     ensures is { IfOk result (λ window. IfSome window (λ w. AreTimestamps text.now w.items)) }
-    ensures none { IfOk result (λ window. IfNone window ((said : List ℕ) → AreTimestamps text.now said → ⊥)) }
+    ensures none { IfOk result (λ window. IfNone window ((said : List ℕ)
+        → AreTimestamps text.now said → ⊥)) }
 {
     let mut timestamps = Vec::new(alloc);
     let mut rest = text;

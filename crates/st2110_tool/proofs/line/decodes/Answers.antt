@@ -6,4 +6,5 @@ pub returns-clause-none : goal.returns-clause-none
 returns-clause-none c = λ no said same is.
     let h = c.is_ok.ensures.value in
     let k = c.decode_to_slice.ensures.value in
-    not_decoded c.args.text.now said c.decode_to_slice.new.out (length c.args.octets.now) c.decode_to_slice.result k (sym h ∙ no) same is
+    not_decoded c.args.text.now said c.decode_to_slice.new.out
+    (length c.args.octets.now) c.decode_to_slice.result k (sym h ∙ no) same is

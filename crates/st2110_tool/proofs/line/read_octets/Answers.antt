@@ -1,6 +1,7 @@
 use Rattle.std.proofs.Common.{◌≡◌, ◌/◌, codes, length-take-le, length, refl, rules, arith}
 use Rattle.st2110_tool.proofs.OctetLemmas.{said_decoded, said_long}
-use Rattle.st2110_tool.proofs.line.read_octets.Goals.{then-n-eq0-via-then-n-eq0, then-n-eq0-via-else-n-eq0+then-n-octets}
+use Rattle.st2110_tool.proofs.line.read_octets.Goals.{then-n-eq0-via-then-n-eq0}
+use Rattle.st2110_tool.proofs.line.read_octets.Goals.{then-n-eq0-via-else-n-eq0+then-n-octets}
 use Rattle.st2110_tool.proofs.line.read_octets.Goals as goal
 
 pub returns-then-n-eq0-clause-none : goal.returns-then-n-eq0-clause-none
@@ -16,4 +17,10 @@ pub returns-else-decodes-clause-none : goal.returns-else-decodes-clause-none
 returns-else-decodes-clause-none c = λ said short is.
     let other : c.args.text.now ≡ codes "-" → ⊥ = search rules in
     let long = said_long c.args.text.now said other is in
-    c.if-decodes.ensures.none refl said (omega (arith, long.0, length-take-le (length c.args.text.now / 2) c.args.octets.now c.if-n-octets.false)) (said_decoded c.args.text.now said other is)
+    c.if-decodes.ensures.none refl said
+    (omega (
+      arith,
+      long.0,
+      length-take-le (length c.args.text.now / 2) c.args.octets.now
+          c.if-n-octets.false,
+    )) (said_decoded c.args.text.now said other is)

@@ -4,14 +4,18 @@ use Rattle.st2110_tool.proofs.line.read_opening.Goals as goal
 
 pub returns-in_err-read_payload_type-clause-none : goal.returns-in_err-read_payload_type-clause-none
 returns-in_err-read_payload_type-clause-none c =
-    if_none c.from_residual-in_err-read_payload_type.result c.from_residual-in_err-read_payload_type.ensures
-    (type_none c.args.text.now c.in_ok-payload_type.payload_type.now c.in_ok-payload_type.rest.now (sym c.in_ok-payload_type.ensures.parts) c.in_err-read_payload_type.ensures.none)
+    if_none c.from_residual-in_err-read_payload_type.result
+    c.from_residual-in_err-read_payload_type.ensures
+    (type_none c.args.text.now c.in_ok-payload_type.payload_type.now c.in_ok-payload_type.rest.now
+    (sym c.in_ok-payload_type.ensures.parts) c.in_err-read_payload_type.ensures.none)
 
 pub returns-in_err-read_source-clause-none : goal.returns-in_err-read_source-clause-none
 returns-in_err-read_source-clause-none c =
     if_none c.from_residual-in_err-read_source.result c.from_residual-in_err-read_source.ensures
-    (source_none c.args.text.now c.in_ok-payload_type.payload_type.now c.in_ok-payload_type.rest.now c.in_ok-ssrc.ssrc.now c.in_ok-ssrc.window.now
-    (sym c.in_ok-payload_type.ensures.parts) (sym c.in_ok-ssrc.ensures.parts) c.in_err-read_source.ensures.none)
+    (source_none c.args.text.now c.in_ok-payload_type.payload_type.now c.in_ok-payload_type.rest.now
+    c.in_ok-ssrc.ssrc.now c.in_ok-ssrc.window.now
+    (sym c.in_ok-payload_type.ensures.parts)
+    (sym c.in_ok-ssrc.ensures.parts) c.in_err-read_source.ensures.none)
 
 pub returns-clause-is : goal.returns-clause-is
 returns-clause-is c = record {

@@ -10,7 +10,8 @@ returns-in-D10-clause-agree c =
     let f = c.args.format in
     let ten : f.depth ≡ D10 = cc in
     let groups = whole_groups f in
-    subst (λ (n : ℕ). 8 * (n / 4 * 5) ≡ bits_of f.depth * sample_count f) (sym c.sample_count-count.ensures.value)
+    subst (λ (n : ℕ). 8 * (n / 4 * 5) ≡ bits_of f.depth * sample_count f)
+    (sym c.sample_count-count.ensures.value)
     (ten_bits (bits_of f.depth) (sample_count f) groups.0 (ap bits_of ten) groups.1)
 
 pub returns-in-D12-clause-agree : goal.returns-in-D12-clause-agree
@@ -18,5 +19,6 @@ returns-in-D12-clause-agree c =
     let f = c.args.format in
     let twelve : f.depth ≡ D12 = cc in
     let groups = whole_groups f in
-    subst (λ (n : ℕ). 8 * (n / 2 * 3) ≡ bits_of f.depth * sample_count f) (sym c.sample_count-count.ensures.value)
+    subst (λ (n : ℕ). 8 * (n / 2 * 3) ≡ bits_of f.depth * sample_count f)
+    (sym c.sample_count-count.ensures.value)
     (twelve_bits (bits_of f.depth) (sample_count f) groups.0 (ap bits_of twelve) groups.1)

@@ -6,5 +6,7 @@ use Rattle.st2110_tool.proofs.picture_text.read_picture.Goals as goal
 
 pub returns-then-digits-count-clause-none : goal.returns-then-digits-count-clause-none
 returns-then-digits-count-clause-none g c = λ octets whole is.
-    let long = digits_long c.args.digits.now octets c.packed_octets-count.result (bits_of c.args.format.depth * sample_count c.args.format) c.packed_octets-count.ensures.agree whole is in
+    let long = digits_long c.args.digits.now octets c.packed_octets-count.result
+    (bits_of c.args.format.depth * sample_count c.args.format)
+    c.packed_octets-count.ensures.agree whole is in
     omega (arith, long.0)

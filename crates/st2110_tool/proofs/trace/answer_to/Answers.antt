@@ -8,9 +8,11 @@ use Rattle.st2110_tool.proofs.trace.answer_to.Goals as goal
 pub returns-in-Slide-clause-follows : goal.returns-in-Slide-clause-follows
 returns-in-Slide-clause-follows g c = (
   Slide c.in-Slide.next,
-  subst (λ (said : TraceLine). IsTraceLine c.args.line.text.now said) c.in-Slide.is c.in-Some.ensures.is,
+  subst (λ (said : TraceLine). IsTraceLine c.args.line.text.now said) c.in-Slide.is
+      c.in-Some.ensures.is,
   record {
-    refused = λ m. let r = c.slide.ensures.refused m in (ap (λ (a : Answer). some_answer a) r.0, r.1);
+    refused =
+        λ m. let r = c.slide.ensures.refused m in (ap (λ (a : Answer). some_answer a) r.0, r.1);
     slid = λ out. (c.slide.new.self.spare, c.slide.result, refl, c.slide.ensures.slid out);
     numbers = c.slide.ensures.numbers;
   },

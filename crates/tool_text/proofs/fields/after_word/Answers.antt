@@ -4,5 +4,6 @@ use Rattle.tool_text.proofs.fields.after_word.Goals as goal
 
 pub returns : goal.returns
 returns c = record {
-  cases = strip_prefix_is Decides-eqb c.args.text.now c.args.word.now c.strip_prefix.result c.strip_prefix.ensures.cases;
+  cases = strip_prefix_is Decides-eqb c.args.text.now c.args.word.now c.strip_prefix.result
+      c.strip_prefix.ensures.cases;
 }

@@ -24,5 +24,6 @@ loop-octet-preserved c =
     let from : c.from.result ≡ octet - 48 = c.from.ensures in record {
       digits = digits_more 10 text i within c.loop-octet.invariant.digits digit;
       value = omega (arith, more, value, from, c.loop-octet.invariant.value);
-      fits = rw (add-one, pow-succ') (omega (arith, value, from, digit, c.loop-octet.invariant.fits));
+      fits = rw (add-one, pow-succ')
+          (omega (arith, value, from, digit, c.loop-octet.invariant.fits));
     }

@@ -4,14 +4,21 @@ use Rattle.tool_text.proofs.timestamps.read_timestamps.Goals as goal
 
 pub returns-in_default-read_number-clause-none : goal.returns-in_default-read_number-clause-none
 returns-in_default-read_number-clause-none g c =
-    field_none c.args.text.now c.loop-first.timestamps.items c.loop-first.rest.now c.in-Some.first.now c.in-Some.more.now c.loop-first.invariant (sym c.in-Some.ensures.parts) (λ n is. c.in_default-read_number.ensures is.is)
+    field_none c.args.text.now c.loop-first.timestamps.items c.loop-first.rest.now
+    c.in-Some.first.now c.in-Some.more.now c.loop-first.invariant (sym c.in-Some.ensures.parts)
+    (λ n is. c.in_default-read_number.ensures is.is)
 
 pub loop-first-preserved : goal.loop-first-preserved
 loop-first-preserved g c =
-    subst (λ (xs : List ℕ). SoFar c.args.text.now xs c.in-Some.more.now) (sym c.in_ok-push.ensures.items)
-    (one_more c.args.text.now c.loop-first.timestamps.items c.loop-first.rest.now c.in-Some.first.now c.in-Some.more.now c.in-Some-read_number.timestamp c.loop-first.invariant (sym c.in-Some.ensures.parts)
+    subst (λ (xs : List ℕ). SoFar c.args.text.now xs c.in-Some.more.now)
+    (sym c.in_ok-push.ensures.items)
+    (one_more c.args.text.now c.loop-first.timestamps.items c.loop-first.rest.now
+    c.in-Some.first.now c.in-Some.more.now c.in-Some-read_number.timestamp
+    c.loop-first.invariant (sym c.in-Some.ensures.parts)
     (record { is = c.in-Some-read_number.ensures.0; value = c.in-Some-read_number.ensures.1 }))
 
 pub returns-in_default-read_number-2-clause-none : goal.returns-in_default-read_number-2-clause-none
 returns-in_default-read_number-2-clause-none g c =
-    last_none c.args.text.now c.loop-first.timestamps.items c.loop-first.rest.now c.loop-first.invariant (sym c.in_default.ensures.parts) (λ n is. c.in_default-read_number-2.ensures is.is)
+    last_none c.args.text.now c.loop-first.timestamps.items c.loop-first.rest.now
+    c.loop-first.invariant (sym c.in_default.ensures.parts)
+    (λ n is. c.in_default-read_number-2.ensures is.is)
