@@ -1,20 +1,32 @@
 -- The numbers of the faults, and what a function owes that answers one.
-use Rattle.std.specs.Prelude.{◌≡◌, ℕ, ⊤, Result, Ok, Err}
+use Rattle.std.specs.Prelude.{◌≡◌, ℕ, ⊤, List, Result, Ok, Err, codes}
 use Rattle.st_format.specs.Device.{CountsOne}
 use Rattle.capture_file.specs.declared.fault.FileFault.{FileFault}
 use Rattle.capture_file.specs.declared.fault.FileFault.TheVariants.{NoMemory, Device, BadName, BadVersion, Truncated, BadField, TrailingBytes, MixedGroup, TooManyRecords}
 
 -- the numbers of the faults, in their order
-abbrev pub fault_number : FileFault → ℕ
-fault_number NoMemory = 1
-fault_number Device = 2
-fault_number BadName = 3
-fault_number BadVersion = 4
-fault_number Truncated = 5
-fault_number BadField = 6
-fault_number TrailingBytes = 7
-fault_number MixedGroup = 8
-fault_number TooManyRecords = 9
+abbrev pub file_fault_number : FileFault → ℕ
+file_fault_number NoMemory = 1
+file_fault_number Device = 2
+file_fault_number BadName = 3
+file_fault_number BadVersion = 4
+file_fault_number Truncated = 5
+file_fault_number BadField = 6
+file_fault_number TrailingBytes = 7
+file_fault_number MixedGroup = 8
+file_fault_number TooManyRecords = 9
+
+-- their names, as `Display` prints them (own)
+abbrev pub file_fault_name : FileFault → List ℕ
+file_fault_name NoMemory = codes "NoMemory"
+file_fault_name Device = codes "Device"
+file_fault_name BadName = codes "BadName"
+file_fault_name BadVersion = codes "BadVersion"
+file_fault_name Truncated = codes "Truncated"
+file_fault_name BadField = codes "BadField"
+file_fault_name TrailingBytes = codes "TrailingBytes"
+file_fault_name MixedGroup = codes "MixedGroup"
+file_fault_name TooManyRecords = codes "TooManyRecords"
 
 -- it is the device's
 abbrev pub IsDevice : FileFault → Type 0

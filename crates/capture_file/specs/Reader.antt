@@ -12,7 +12,7 @@ use Rattle.capture_file.specs.declared.fault.FileFault.{FileFault}
 use Rattle.capture_file.specs.declared.fault.FileFault.TheVariants.{Device}
 use Rattle.capture_file.specs.declared.reader.Standing.{Standing}
 use Rattle.capture_file.specs.declared.reader.Standing.TheVariants.{Reads, Ended, Failed}
-use Rattle.capture_file.specs.Faults.{CountsFault, fault_number}
+use Rattle.capture_file.specs.Faults.{CountsFault, file_fault_number}
 use Rattle.capture_file.specs.Reading.{entries_in}
 use Rattle.capture_file.specs.Records.{Entry}
 use Rattle.capture_file.specs.Source.{FailsRecord}
@@ -34,7 +34,7 @@ turns_of (Failed f) to_give = Some []
 -- a fault as a source of datagrams tells it
 abbrev pub source_fault : FileFault → SourceFault
 source_fault Device = FailedDevice
-source_fault f = Content (fault_number f)
+source_fault f = Content (file_fault_number f)
 
 abbrev pub last_fault_of : Standing → Option SourceFault
 last_fault_of Reads = None

@@ -1,10 +1,11 @@
 //! Why a file was not read or not written.
 ghost use Rattle.std.specs.Prelude.{◌≡◌};
 ghost use Rattle.capture_file.specs.declared.fault.FileFault.TheVariants.{NoMemory, Device};
-ghost use Rattle.capture_file.specs.Faults.{fault_number};
+ghost use Rattle.capture_file.specs.Faults.{file_fault_number};
 
 use st_format::DeviceFault;
 use std::alloc::{AllocError, AllocFailed};
+use std::fmt;
 use thiserror::Error;
 
 /// The first fault in the order of a file's octets, or a fault of the machine that came before it.
@@ -12,40 +13,52 @@ use thiserror::Error;
 #[derive(Clone, Copy, Debug, PartialEq, Eq, Error)]
 pub enum FileFault {
     /// A growth was refused.
-    #[error("NoMemory")]
     NoMemory = 1,
     /// The device failed.
-    #[error("Device")]
     Device = 2,
     /// The first six octets aren't the name of such a file.
-    #[error("BadName")]
     BadName = 3,
     /// The two octets behind the name are no version that is read.
-    #[error("BadVersion")]
     BadVersion = 4,
     /// The octets end within the name, a field or what a field counts.
-    #[error("Truncated")]
     Truncated = 5,
     /// A field says what no such file says.
-    #[error("BadField")]
     BadField = 6,
     /// An octet stands behind the file's last field.
-    #[error("TrailingBytes")]
     TrailingBytes = 7,
     /// A contested group of samples is not spelled as one.
-    #[error("MixedGroup")]
     MixedGroup = 8,
     /// A record more than the limit begins.
-    #[error("TooManyRecords")]
     TooManyRecords = 9,
 }
 
 impl FileFault {
     /// The fault's number, 1 to 9.
     pub fn number(self) -> u8
-        ensures { result ≡ fault_number self }
+        ensures { result ≡ file_fault_number self }
     {
         self as u8
+    }
+}
+
+impl fmt::Display for FileFault {
+    ghost use Rattle.std.specs.Prelude.{Some};
+    ghost use Rattle.capture_file.specs.Faults.{file_fault_name};
+
+    ghost output = { λ fault. Some (file_fault_name fault) };
+
+    fn fmt<W: fmt::Write>(&self, f: &mut fmt::Formatter<W>) -> fmt::Result {
+        match self {
+            FileFault::NoMemory => f.write_str("NoMemory"),
+            FileFault::Device => f.write_str("Device"),
+            FileFault::BadName => f.write_str("BadName"),
+            FileFault::BadVersion => f.write_str("BadVersion"),
+            FileFault::Truncated => f.write_str("Truncated"),
+            FileFault::BadField => f.write_str("BadField"),
+            FileFault::TrailingBytes => f.write_str("TrailingBytes"),
+            FileFault::MixedGroup => f.write_str("MixedGroup"),
+            FileFault::TooManyRecords => f.write_str("TooManyRecords"),
+        }
     }
 }
 

@@ -1,5 +1,6 @@
 -- Which packet numbers came, of a run of numbers modulo 2 ^ 32.
-use Rattle.std.specs.Prelude.{◌≡◌, ◌↔◌, ℕ, ◌+◌, ◌-◌, ◌%◌, ◌^◌, ◌<◌, ◌≤◌, Bool, true, false, nat_lt, if◌then◌else◌, List, [], ◌∷◌, ◌++◌, length, map, get_or, set}
+use Rattle.std.specs.Prelude.{◌≡◌, ◌↔◌, ℕ, ◌+◌, ◌-◌, ◌%◌, ◌^◌, ◌<◌, ◌≤◌, Bool, true, false, nat_lt}
+use Rattle.std.specs.Prelude.{if◌then◌else◌, List, [], ◌∷◌, ◌++◌, length, map, get_or, set, codes}
 use Rattle.std.specs.List.Sorted.{IsStrictlyIncreasing}
 use Rattle.st_format.specs.Member.{IsMember}
 use Rattle.packet_numbers.specs.BitList.{union_of_flags}
@@ -87,3 +88,11 @@ missing_runs_of m = map (numbered m.first) (runs_from 0 0 m.noted)
 abbrev pub seq_map_fault_number : SeqMapFault → ℕ
 seq_map_fault_number NoMemory = 1
 seq_map_fault_number BadCount = 2
+
+-- the names of the refusals, as `Display` prints them (own)
+abbrev pub seq_map_fault_name : SeqMapFault → List ℕ
+seq_map_fault_name NoMemory = codes "NoMemory"
+seq_map_fault_name BadCount = codes "BadCount"
+
+abbrev pub opened_unlike_name : List ℕ
+opened_unlike_name = codes "OpenedUnlike"

@@ -6,6 +6,7 @@ ghost use Rattle.packet_numbers.specs.declared.seq_map.SeqMapFault.TheVariants.{
 use crate::bit_list::BitList;
 use crate::unlike::OpenedUnlike;
 use std::alloc::{AllocError, Allocator, Global};
+use std::fmt;
 use std::marker::Model;
 use thiserror::Error;
 
@@ -13,10 +14,8 @@ use thiserror::Error;
 #[derive(Clone, Copy, Debug, PartialEq, Eq, Error)]
 pub enum SeqMapFault {
     /// The allocator refused the memory for the bits. Tested last.
-    #[error("NoMemory")]
     NoMemory = 1,
     /// The count is 0 or above [`MAX_COUNT`].
-    #[error("BadCount")]
     BadCount,
 }
 
@@ -28,6 +27,20 @@ impl SeqMapFault {
         ensures { result ≡ seq_map_fault_number self }
     {
         self as u8
+    }
+}
+
+impl fmt::Display for SeqMapFault {
+    ghost use Rattle.std.specs.Prelude.{Some};
+    ghost use Rattle.packet_numbers.specs.Numbers.{seq_map_fault_name};
+
+    ghost output = { λ fault. Some (seq_map_fault_name fault) };
+
+    fn fmt<W: fmt::Write>(&self, f: &mut fmt::Formatter<W>) -> fmt::Result {
+        match self {
+            SeqMapFault::NoMemory => f.write_str("NoMemory"),
+            SeqMapFault::BadCount => f.write_str("BadCount"),
+        }
     }
 }
 

@@ -1,8 +1,15 @@
--- The numbers of the refusals.
-use Rattle.std.specs.Prelude.{ℕ}
+-- The numbers of the refusals, and the names that `Display` prints (own).
+use Rattle.std.specs.Prelude.{ℕ, List, codes}
 use Rattle.packet_plan.specs.declared.plan.PlanFault.{PlanFault}
 use Rattle.packet_plan.specs.declared.plan.PlanFault.TheVariants.{NoMemory, BadPacketSize}
 
-abbrev pub fault_number : PlanFault → ℕ
-fault_number NoMemory = 1
-fault_number BadPacketSize = 2
+abbrev pub plan_fault_number : PlanFault → ℕ
+plan_fault_number NoMemory = 1
+plan_fault_number BadPacketSize = 2
+
+abbrev pub plan_fault_name : PlanFault → List ℕ
+plan_fault_name NoMemory = codes "NoMemory"
+plan_fault_name BadPacketSize = codes "BadPacketSize"
+
+abbrev pub send_fault_name : List ℕ
+send_fault_name = codes "SendFault"

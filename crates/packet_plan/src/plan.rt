@@ -15,6 +15,7 @@ use crate::writing::write_datagram;
 use arrayvec::ArrayVec;
 use st_format::{Format, Picture};
 use std::alloc::{AllocError, Allocator, Global};
+use std::fmt;
 use std::marker::Model;
 use thiserror::Error;
 
@@ -29,21 +30,33 @@ const MOST_OCTETS: u32 = 9000;
 #[derive(Clone, Copy, Debug, PartialEq, Eq, Error)]
 pub enum PlanFault {
     /// The memory was refused.
-    #[error("NoMemory")]
     NoMemory = 1,
     /// The greatest size is below 20 octets and a pgroup, or above 9000.
-    #[error("BadPacketSize")]
     BadPacketSize = 2,
 }
 
 impl PlanFault {
-    ghost use Rattle.packet_plan.specs.Faults.{fault_number};
+    ghost use Rattle.packet_plan.specs.Faults.{plan_fault_number};
 
     /// Its number: 1 or 2.
     pub fn number(self) -> u8
-        ensures { result ≡ fault_number self }
+        ensures { result ≡ plan_fault_number self }
     {
         self as u8
+    }
+}
+
+impl fmt::Display for PlanFault {
+    ghost use Rattle.std.specs.Prelude.{Some};
+    ghost use Rattle.packet_plan.specs.Faults.{plan_fault_name};
+
+    ghost output = { λ fault. Some (plan_fault_name fault) };
+
+    fn fmt<W: fmt::Write>(&self, f: &mut fmt::Formatter<W>) -> fmt::Result {
+        match self {
+            PlanFault::NoMemory => f.write_str("NoMemory"),
+            PlanFault::BadPacketSize => f.write_str("BadPacketSize"),
+        }
     }
 }
 

@@ -7,14 +7,25 @@ use crate::plan::Plan;
 use crate::stamp::Stamp;
 use st_format::{DatagramSink, Picture};
 use std::alloc::Allocator;
+use std::fmt;
 use thiserror::Error;
 
 /// The sink failed: it took the first `sent` datagrams of the picture, and no more.
 #[derive(Clone, Copy, Debug, PartialEq, Eq, Error)]
-#[error("SendFault")]
 pub struct SendFault {
     /// How many datagrams the sink took, fewer than the plan has.
     pub sent: u32,
+}
+
+impl fmt::Display for SendFault {
+    ghost use Rattle.std.specs.Prelude.{Some};
+    ghost use Rattle.packet_plan.specs.Faults.{send_fault_name};
+
+    ghost output = { λ _. Some send_fault_name };
+
+    fn fmt<W: fmt::Write>(&self, f: &mut fmt::Formatter<W>) -> fmt::Result {
+        f.write_str("SendFault")
+    }
 }
 
 /// Sends a picture by a plan, and answers the number of the packet that comes next: `stamp.first` and

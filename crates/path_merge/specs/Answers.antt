@@ -1,9 +1,12 @@
 -- What the calls of a receiver answer.
-use Rattle.std.specs.Prelude.{ℕ, ◌+◌, ◌-◌, ◌==◌, if◌then◌else◌, List, [], ◌∷◌, ◌++◌, length, drop, Result, Ok, Err}
+use Rattle.std.specs.Prelude.{ℕ, ◌+◌, ◌-◌, ◌==◌, if◌then◌else◌, List, [], ◌∷◌, ◌++◌, length, drop}
+use Rattle.std.specs.Prelude.{Result, Ok, Err, codes}
+use Rattle.std.specs.Fmt.{decimal}
 use Rattle.std.specs.List.{list_any}
+use Rattle.st_format.specs.Faults.{source_fault_name}
 use Rattle.st_format.specs.declared.path.Path.{Path}
-use Rattle.payload_header.specs.Faults.{fault_number as payload_fault_number}
-use Rattle.rtp_header.specs.Faults.{number_of as rtp_fault_number}
+use Rattle.payload_header.specs.Faults.{payload_fault_name, payload_fault_number}
+use Rattle.rtp_header.specs.Faults.{rtp_fault_name, rtp_fault_number}
 use Rattle.path_merge.specs.declared.answer.Refusal.{Refusal}
 use Rattle.path_merge.specs.declared.answer.Refusal.TheVariants.{Header, WrongPayloadType, WrongSource, Payload}
 use Rattle.path_merge.specs.declared.answer.Taken.{Taken}
@@ -12,6 +15,7 @@ use Rattle.path_merge.specs.declared.fault.OpenFault.{OpenFault}
 use Rattle.path_merge.specs.declared.fault.OpenFault.TheVariants.{NoMemory, BadWindow, DoubleTimestamp}
 use Rattle.path_merge.specs.declared.fault.SlideFault.{SlideFault}
 use Rattle.path_merge.specs.declared.fault.SlideFault.TheVariants.{InWindow, OtherFormat}
+use Rattle.path_merge.specs.declared.receiving.ReceiveFault.{ReceiveFault}
 use Rattle.path_merge.specs.Opening.{Opening}
 use Rattle.path_merge.specs.Grammar.{Datagram}
 use Rattle.path_merge.specs.Admission.{admitted_at, ◌>>=◌}
@@ -40,13 +44,36 @@ refusal_number WrongPayloadType = 5
 refusal_number WrongSource = 6
 refusal_number (Payload e) = 6 + payload_fault_number e
 
+-- their names, as `Display` prints them (own)
+abbrev pub refusal_name : Refusal → List ℕ
+refusal_name (Header e) = rtp_fault_name e
+refusal_name WrongPayloadType = codes "WrongPayloadType"
+refusal_name WrongSource = codes "WrongSource"
+refusal_name (Payload e) = payload_fault_name e
+
 -- the numbers of the faults of an opening, in their order
 abbrev pub open_fault_number : OpenFault → ℕ
 open_fault_number NoMemory = 1
 open_fault_number BadWindow = 2
 open_fault_number DoubleTimestamp = 3
 
+-- their names (own)
+abbrev pub open_fault_name : OpenFault → List ℕ
+open_fault_name NoMemory = codes "NoMemory"
+open_fault_name BadWindow = codes "BadWindow"
+open_fault_name DoubleTimestamp = codes "DoubleTimestamp"
+
 -- the numbers of the faults of a slide, in their order
 abbrev pub slide_fault_number : SlideFault → ℕ
 slide_fault_number InWindow = 1
 slide_fault_number OtherFormat = 2
+
+-- their names (own)
+abbrev pub slide_fault_name : SlideFault → List ℕ
+slide_fault_name InWindow = codes "InWindow"
+slide_fault_name OtherFormat = codes "OtherFormat"
+
+-- what is printed of a source that failed: its fault, and how many datagrams it had delivered (own)
+abbrev pub receive_fault_name : ReceiveFault → List ℕ
+receive_fault_name e =
+    source_fault_name e.fault ++ (codes " after " ++ (decimal e.delivered ++ codes " datagrams"))

@@ -1,5 +1,7 @@
--- The numbers of the reasons why a schedule is not played (own).
-use Rattle.std.specs.Prelude.{ℕ}
+-- The numbers of the reasons why a schedule is not played, and the names that `Display` prints
+-- (own).
+use Rattle.std.specs.Prelude.{ℕ, List, ◌++◌, codes}
+use Rattle.std.specs.Fmt.{decimal}
 use Rattle.path_merge.specs.declared.schedule.play_fault.PlayFault.{PlayFault}
 use Rattle.path_merge.specs.declared.schedule.play_fault.PlayFault.TheVariants.{NoMemory, BadEvent, BadWindow, DoubleTimestamp, BadPictures, BadReceivers}
 
@@ -11,3 +13,12 @@ play_fault_number BadWindow = 3
 play_fault_number DoubleTimestamp = 4
 play_fault_number BadPictures = 5
 play_fault_number BadReceivers = 6
+
+-- behind that of an event its place
+abbrev pub play_fault_name : PlayFault → List ℕ
+play_fault_name NoMemory = codes "NoMemory"
+play_fault_name (BadEvent place) = codes "BadEvent " ++ decimal place
+play_fault_name BadWindow = codes "BadWindow"
+play_fault_name DoubleTimestamp = codes "DoubleTimestamp"
+play_fault_name BadPictures = codes "BadPictures"
+play_fault_name BadReceivers = codes "BadReceivers"

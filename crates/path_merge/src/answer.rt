@@ -4,6 +4,7 @@ ghost use Rattle.path_merge.specs.declared.answer.Refusal.TheVariants.{Header, P
 
 use payload_header::PayloadFault;
 use rtp_header::RtpFault;
+use std::fmt;
 use thiserror::Error;
 
 /// What became of a datagram that was not refused.
@@ -20,16 +21,12 @@ pub enum Taken {
 #[derive(Clone, Copy, Debug, PartialEq, Eq, Error)]
 pub enum Refusal {
     /// 1 to 4: the RTP header is at fault (RFC 3550, 5.1).
-    #[error(transparent)]
     Header(RtpFault),
     /// 5: it has another payload type than the receiver.
-    #[error("WrongPayloadType")]
     WrongPayloadType,
     /// 6: a source is pinned, and it has another.
-    #[error("WrongSource")]
     WrongSource,
     /// 7 to 14: the payload is at fault (RFC 4175, 4).
-    #[error(transparent)]
     Payload(PayloadFault),
 }
 
@@ -45,6 +42,22 @@ impl Refusal {
             Refusal::WrongPayloadType => 5,
             Refusal::WrongSource => 6,
             Refusal::Payload(fault) => 6 + fault.number(),
+        }
+    }
+}
+
+impl fmt::Display for Refusal {
+    ghost use Rattle.std.specs.Prelude.{Some};
+    ghost use Rattle.path_merge.specs.Answers.{refusal_name};
+
+    ghost output = { λ fault. Some (refusal_name fault) };
+
+    fn fmt<W: fmt::Write>(&self, f: &mut fmt::Formatter<W>) -> fmt::Result {
+        match self {
+            Refusal::Header(fault) => write!(f, "{fault}"),
+            Refusal::WrongPayloadType => f.write_str("WrongPayloadType"),
+            Refusal::WrongSource => f.write_str("WrongSource"),
+            Refusal::Payload(fault) => write!(f, "{fault}"),
         }
     }
 }

@@ -3,19 +3,17 @@ ghost use Rattle.std.specs.Prelude.{◌≡◌};
 ghost use Rattle.path_merge.specs.declared.fault.OpenFault.TheVariants.{NoMemory};
 
 use std::alloc::{AllocError, AllocFailed};
+use std::fmt;
 use thiserror::Error;
 
 /// Why a receiver was not opened: the first reason, but `NoMemory` comes last.
 #[derive(Clone, Copy, Debug, PartialEq, Eq, Error)]
 pub enum OpenFault {
     /// The allocator refused the memory for the frames or for the list of refusals. Tested last.
-    #[error("NoMemory")]
     NoMemory = 1,
     /// The window has no timestamp, or more than 16.
-    #[error("BadWindow")]
     BadWindow = 2,
     /// A timestamp stands twice in the window.
-    #[error("DoubleTimestamp")]
     DoubleTimestamp = 3,
 }
 
@@ -27,6 +25,21 @@ impl OpenFault {
         ensures { result ≡ open_fault_number self }
     {
         self as u8
+    }
+}
+
+impl fmt::Display for OpenFault {
+    ghost use Rattle.std.specs.Prelude.{Some};
+    ghost use Rattle.path_merge.specs.Answers.{open_fault_name};
+
+    ghost output = { λ fault. Some (open_fault_name fault) };
+
+    fn fmt<W: fmt::Write>(&self, f: &mut fmt::Formatter<W>) -> fmt::Result {
+        match self {
+            OpenFault::NoMemory => f.write_str("NoMemory"),
+            OpenFault::BadWindow => f.write_str("BadWindow"),
+            OpenFault::DoubleTimestamp => f.write_str("DoubleTimestamp"),
+        }
     }
 }
 
@@ -50,10 +63,8 @@ impl<T: Drop> From<AllocFailed<T>> for OpenFault {
 #[derive(Clone, Copy, Debug, PartialEq, Eq, Error)]
 pub enum SlideFault {
     /// The window has the timestamp already.
-    #[error("InWindow")]
     InWindow = 1,
     /// The frame that is handed in has another format than the receiver.
-    #[error("OtherFormat")]
     OtherFormat = 2,
 }
 
@@ -65,5 +76,19 @@ impl SlideFault {
         ensures { result ≡ slide_fault_number self }
     {
         self as u8
+    }
+}
+
+impl fmt::Display for SlideFault {
+    ghost use Rattle.std.specs.Prelude.{Some};
+    ghost use Rattle.path_merge.specs.Answers.{slide_fault_name};
+
+    ghost output = { λ fault. Some (slide_fault_name fault) };
+
+    fn fmt<W: fmt::Write>(&self, f: &mut fmt::Formatter<W>) -> fmt::Result {
+        match self {
+            SlideFault::InWindow => f.write_str("InWindow"),
+            SlideFault::OtherFormat => f.write_str("OtherFormat"),
+        }
     }
 }

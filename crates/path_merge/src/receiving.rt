@@ -8,6 +8,7 @@ ghost use Rattle.st_format.specs.Turns.{Due, datagrams_of};
 use crate::receiver::Receiver;
 use st_format::{DatagramSource, SourceFault, Turn};
 use std::alloc::Allocator;
+use std::fmt;
 use thiserror::Error;
 
 /// What came of the turns that were taken.
@@ -21,12 +22,22 @@ pub struct Received {
 
 /// The source failed.
 #[derive(Clone, Copy, Debug, PartialEq, Eq, Error)]
-#[error("{fault} after {delivered} datagrams")]
 pub struct ReceiveFault {
     /// How many datagrams it had delivered in this call. They are taken.
     pub delivered: u64,
     /// Its fault.
     pub fault: SourceFault,
+}
+
+impl fmt::Display for ReceiveFault {
+    ghost use Rattle.path_merge.specs.Answers.{receive_fault_name};
+
+    ghost output = { λ fault. Some (receive_fault_name fault) };
+
+    fn fmt<W: fmt::Write>(&self, f: &mut fmt::Formatter<W>) -> fmt::Result {
+        let ReceiveFault { delivered, fault } = self;
+        write!(f, "{fault} after {delivered} datagrams")
+    }
 }
 
 /// Gives a receiver the datagrams of a source: `limit` turns, or fewer where one is the end or a fault.

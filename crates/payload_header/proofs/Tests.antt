@@ -7,7 +7,7 @@ use Rattle.payload_header.specs.declared.payload.PayloadFault.{PayloadFault}
 use Rattle.payload_header.specs.declared.payload.PayloadFault.TheVariants.{ShortPayloadHeader, TooManySegments, SecondField, BadLength, BadOffset, RowOutside, ColumnsOutside, ShortData}
 use Rattle.payload_header.specs.Payload.{group_of, Header}
 use Rattle.payload_header.specs.Reading.{first_of, header_fault, headers_fault, option_or}
-use Rattle.payload_header.specs.Faults.{fault_number, IsWrong, IsSound, HasFirst}
+use Rattle.payload_header.specs.Faults.{payload_fault_number, IsWrong, IsSound, HasFirst}
 
 -- the five tests, and what they answered
 record Tests (f : Format) (h : Header) (field length offset row columns : Bool) : Type 0 where
@@ -60,10 +60,11 @@ is_right f h a b c d e t ShortData fails wrong = wrong
 -- the first answer of five
 record IsFirst (a b c d e : Bool) (fault : PayloadFault) : Type 0 where
   holds : answer a b c d e fault ≡ true
-  earlier : (other : PayloadFault) → fault_number other < fault_number fault → answer a b c d e other ≡ false
+  earlier : (other : PayloadFault) → payload_fault_number other < payload_fault_number fault
+      → answer a b c d e other ≡ false
 
 no_earlier : (a b c d e : Bool) (n : ℕ) → (3 < n → a ≡ false) → (4 < n → b ≡ false) → (5 < n → c ≡ false) → (6 < n → d ≡ false) → (7 < n → e ≡ false)
-    → (other : PayloadFault) → fault_number other < n → answer a b c d e other ≡ false
+    → (other : PayloadFault) → payload_fault_number other < n → answer a b c d e other ≡ false
 no_earlier a b c d e n na nb nc nd ne SecondField lt = na lt
 no_earlier a b c d e n na nb nc nd ne BadLength lt = nb lt
 no_earlier a b c d e n na nb nc nd ne BadOffset lt = nc lt
@@ -111,7 +112,7 @@ none_found false false true d e h fault = absurd cc
 none_found false false false true e h fault = absurd cc
 none_found false false false false true h fault = absurd cc
 none_found false false false false false h fault = no_earlier false false false false false 9 (λ lt. refl) (λ lt. refl) (λ lt. refl) (λ lt. refl) (λ lt. refl) fault (below_nine fault) where
-  below_nine : (x : PayloadFault) → fault_number x < 9
+  below_nine : (x : PayloadFault) → payload_fault_number x < 9
   below_nine ShortPayloadHeader = omega arith
   below_nine TooManySegments = omega arith
   below_nine SecondField = omega arith

@@ -1,6 +1,7 @@
 -- When octets are refused: one condition for each fault, over the whole list of headers (RFC 4175, 4; the
 -- order of the faults is own).
-use Rattle.std.specs.Prelude.{◌≡◌, ◌≢◌, ℕ, ◌+◌, ◌*◌, ◌/◌, ◌%◌, ◌^◌, ◌<◌, ◌≤◌, ◌⊎◌, true, List, ◌∷◌, ◌++◌, length}
+use Rattle.std.specs.Prelude.{◌≡◌, ◌≢◌, ℕ, ◌+◌, ◌*◌, ◌/◌, ◌%◌, ◌^◌, ◌<◌, ◌≤◌, ◌⊎◌, true, List, ◌∷◌}
+use Rattle.std.specs.Prelude.{◌++◌, length, codes}
 use Rattle.std.specs.List.{flat_map, AllByRecursion}
 use Rattle.std.specs.Int.{w16, to_be_bytes}
 use Rattle.st_format.specs.declared.format.Format.{Format}
@@ -10,15 +11,26 @@ use Rattle.payload_header.specs.Payload.{group_of, Header, HeaderFits, header_te
 use Rattle.payload_header.specs.Reading.{octets_of}
 
 -- the faults in their order (own)
-abbrev pub fault_number : PayloadFault → ℕ
-fault_number ShortPayloadHeader = 1
-fault_number TooManySegments = 2
-fault_number SecondField = 3
-fault_number BadLength = 4
-fault_number BadOffset = 5
-fault_number RowOutside = 6
-fault_number ColumnsOutside = 7
-fault_number ShortData = 8
+abbrev pub payload_fault_number : PayloadFault → ℕ
+payload_fault_number ShortPayloadHeader = 1
+payload_fault_number TooManySegments = 2
+payload_fault_number SecondField = 3
+payload_fault_number BadLength = 4
+payload_fault_number BadOffset = 5
+payload_fault_number RowOutside = 6
+payload_fault_number ColumnsOutside = 7
+payload_fault_number ShortData = 8
+
+-- their names, as `Display` prints them (own)
+abbrev pub payload_fault_name : PayloadFault → List ℕ
+payload_fault_name ShortPayloadHeader = codes "ShortPayloadHeader"
+payload_fault_name TooManySegments = codes "TooManySegments"
+payload_fault_name SecondField = codes "SecondField"
+payload_fault_name BadLength = codes "BadLength"
+payload_fault_name BadOffset = codes "BadOffset"
+payload_fault_name RowOutside = codes "RowOutside"
+payload_fault_name ColumnsOutside = codes "ColumnsOutside"
+payload_fault_name ShortData = codes "ShortData"
 
 -- The octets are an extended number, the texts of these headers (RFC 4175, 4.2), and some more.
 pub record BeginsWith (octets : List ℕ) (headers : List Header) (more : List ℕ) : Type 0 where
@@ -74,7 +86,8 @@ IsSound f h = 0 < h.octets → (fault : PayloadFault) → IsWrong f h fault → 
 pub record HasFirst (f : Format) (h : Header) (fault : PayloadFault) : Type 0 where
   pub some : 0 < h.octets
   pub wrong : IsWrong f h fault
-  pub first : (earlier : PayloadFault) → fault_number earlier < fault_number fault → IsWrong f h earlier → ⊥
+  pub first : (earlier : PayloadFault) → payload_fault_number earlier < payload_fault_number fault
+      → IsWrong f h earlier → ⊥
 
 -- Whole headers, and of the first in turn that isn't sound this is the first that is wrong.
 pub record HasFault (f : Format) (octets : List ℕ) (fault : PayloadFault) : Type 0 where

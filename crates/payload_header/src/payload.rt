@@ -4,6 +4,7 @@ ghost use Rattle.payload_header.specs.Payload.{IsInside, seen};
 
 use arrayvec::ArrayVec;
 use st_format::Format;
+use std::fmt;
 use thiserror::Error;
 
 /// What is wrong with a payload: the first fault.
@@ -13,48 +14,60 @@ use thiserror::Error;
 #[derive(Clone, Copy, Debug, PartialEq, Eq, Error)]
 pub enum PayloadFault {
     /// There aren't two octets of extended number, or a header isn't whole (RFC 4175, 4.2).
-    #[error("ShortPayloadHeader")]
     ShortPayloadHeader = 1,
 
     /// The third header says that another follows. RFC 4175 allows more headers; SMPTE ST 2110-20, 6.1
     /// allows three, and so does this reader: a sender of plain RFC 4175 is refused here.
-    #[error("TooManySegments")]
     TooManySegments = 2,
 
     /// F is set: the segment is of the second field of an interlaced frame.
-    #[error("SecondField")]
     SecondField = 3,
 
     /// Length is no whole number of pgroups.
-    #[error("BadLength")]
     BadLength = 4,
 
     /// Offset isn't at the first pixel of a pgroup.
-    #[error("BadOffset")]
     BadOffset = 5,
 
     /// The row isn't below the height.
-    #[error("RowOutside")]
     RowOutside = 6,
 
     /// The pixels reach beyond the width.
-    #[error("ColumnsOutside")]
     ColumnsOutside = 7,
 
     /// Behind the headers there are fewer octets than the sum of their Lengths.
-    #[error("ShortData")]
     ShortData = 8,
 }
 
 impl PayloadFault {
     ghost use Rattle.std.specs.Prelude.{◌≡◌};
-    ghost use Rattle.payload_header.specs.Faults.{fault_number};
+    ghost use Rattle.payload_header.specs.Faults.{payload_fault_number};
 
     /// The number of the fault: its place in the order of tests, from 1.
     pub fn number(self) -> u8
-        ensures { result ≡ fault_number self }
+        ensures { result ≡ payload_fault_number self }
     {
         self as u8
+    }
+}
+
+impl fmt::Display for PayloadFault {
+    ghost use Rattle.std.specs.Prelude.{Some};
+    ghost use Rattle.payload_header.specs.Faults.{payload_fault_name};
+
+    ghost output = { λ fault. Some (payload_fault_name fault) };
+
+    fn fmt<W: fmt::Write>(&self, f: &mut fmt::Formatter<W>) -> fmt::Result {
+        match self {
+            PayloadFault::ShortPayloadHeader => f.write_str("ShortPayloadHeader"),
+            PayloadFault::TooManySegments => f.write_str("TooManySegments"),
+            PayloadFault::SecondField => f.write_str("SecondField"),
+            PayloadFault::BadLength => f.write_str("BadLength"),
+            PayloadFault::BadOffset => f.write_str("BadOffset"),
+            PayloadFault::RowOutside => f.write_str("RowOutside"),
+            PayloadFault::ColumnsOutside => f.write_str("ColumnsOutside"),
+            PayloadFault::ShortData => f.write_str("ShortData"),
+        }
     }
 }
 

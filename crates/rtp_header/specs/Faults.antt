@@ -1,16 +1,24 @@
 -- What stands in octets that are no RTP datagram: one condition for each fault, of which at most one
 -- holds. RFC 3550, 5.1 and 5.3.1; the order is this project's own.
-use Rattle.std.specs.Prelude.{◌≡◌, ◌≢◌, ℕ, ◌+◌, ◌-◌, ◌*◌, ◌/◌, ◌%◌, ◌<◌, ◌≤◌, ◌==◌, if◌then◌else◌, ◌⊎◌, List, length, take, drop, slice_index}
+use Rattle.std.specs.Prelude.{◌≡◌, ◌≢◌, ℕ, ◌+◌, ◌-◌, ◌*◌, ◌/◌, ◌%◌, ◌<◌, ◌≤◌, ◌==◌, if◌then◌else◌}
+use Rattle.std.specs.Prelude.{◌⊎◌, List, length, take, drop, slice_index, codes}
 use Rattle.std.specs.Int.{w16, from_be_bytes}
 use Rattle.rtp_header.specs.declared.header.RtpFault.{RtpFault}
 use Rattle.rtp_header.specs.declared.header.RtpFault.TheVariants.{ShortHeader, BadVersion, ShortExtension, BadPadding}
 
 -- the numbers of the faults, in their order
-abbrev pub number_of : RtpFault → ℕ
-number_of ShortHeader = 1
-number_of BadVersion = 2
-number_of ShortExtension = 3
-number_of BadPadding = 4
+abbrev pub rtp_fault_number : RtpFault → ℕ
+rtp_fault_number ShortHeader = 1
+rtp_fault_number BadVersion = 2
+rtp_fault_number ShortExtension = 3
+rtp_fault_number BadPadding = 4
+
+-- their names, as `Display` prints them (own)
+abbrev pub rtp_fault_name : RtpFault → List ℕ
+rtp_fault_name ShortHeader = codes "ShortHeader"
+rtp_fault_name BadVersion = codes "BadVersion"
+rtp_fault_name ShortExtension = codes "ShortExtension"
+rtp_fault_name BadPadding = codes "BadPadding"
 
 -- the version: the top two bits of the first octet
 abbrev pub version_of : List ℕ → ℕ

@@ -1,7 +1,8 @@
 //! What a header says, and what can be wrong with one.
 ghost use Rattle.std.specs.Prelude.{◌≡◌};
-ghost use Rattle.rtp_header.specs.Faults.{number_of};
+ghost use Rattle.rtp_header.specs.Faults.{rtp_fault_number};
 
+use std::fmt;
 use thiserror::Error;
 
 /// The octets of the fixed header (RFC 3550, 5.1).
@@ -14,26 +15,38 @@ pub(crate) const VERSION: u8 = 2;
 #[derive(Clone, Copy, Debug, PartialEq, Eq, Error)]
 pub enum RtpFault {
     /// There are fewer than the 12 octets of the fixed header (RFC 3550, 5.1).
-    #[error("ShortHeader")]
     ShortHeader = 1,
     /// The version is not 2 (RFC 3550, 5.1).
-    #[error("BadVersion")]
     BadVersion = 2,
     /// The list of contributing sources or the header extension isn't whole (RFC 3550, 5.1, 5.3.1).
-    #[error("ShortExtension")]
     ShortExtension = 3,
     /// P is set, and the last octet, which counts the padding, is 0 or more than the octets behind
     /// the headers (RFC 3550, 5.1).
-    #[error("BadPadding")]
     BadPadding = 4,
 }
 
 impl RtpFault {
     /// The fault's number, 1 to 4 in the order of the faults.
     pub fn number(self) -> u8
-        ensures { result ≡ number_of self }
+        ensures { result ≡ rtp_fault_number self }
     {
         self as u8
+    }
+}
+
+impl fmt::Display for RtpFault {
+    ghost use Rattle.std.specs.Prelude.{Some};
+    ghost use Rattle.rtp_header.specs.Faults.{rtp_fault_name};
+
+    ghost output = { λ fault. Some (rtp_fault_name fault) };
+
+    fn fmt<W: fmt::Write>(&self, f: &mut fmt::Formatter<W>) -> fmt::Result {
+        match self {
+            RtpFault::ShortHeader => f.write_str("ShortHeader"),
+            RtpFault::BadVersion => f.write_str("BadVersion"),
+            RtpFault::ShortExtension => f.write_str("ShortExtension"),
+            RtpFault::BadPadding => f.write_str("BadPadding"),
+        }
     }
 }
 

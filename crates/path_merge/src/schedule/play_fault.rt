@@ -3,6 +3,7 @@ ghost use Rattle.std.specs.Prelude.{◌≡◌};
 ghost use Rattle.path_merge.specs.declared.schedule.play_fault.Stop.TheVariants.{NoMemory};
 
 use std::alloc::{AllocError, AllocFailed};
+use std::fmt;
 use thiserror::Error;
 
 /// Why a schedule was not played: the first reason. The window, the pictures and the number of receivers are
@@ -10,22 +11,16 @@ use thiserror::Error;
 #[derive(Clone, Copy, Debug, PartialEq, Eq, Error)]
 pub enum PlayFault {
     /// 1: the memory was refused.
-    #[error("NoMemory")]
     NoMemory,
     /// 2: the event at this place, counted from 0, is not admitted after those before it.
-    #[error("BadEvent {0}")]
     BadEvent(usize),
     /// 3: the window has no timestamp, or more than 16.
-    #[error("BadWindow")]
     BadWindow,
     /// 4: a timestamp stands twice in the window.
-    #[error("DoubleTimestamp")]
     DoubleTimestamp,
     /// 5: there are more than 10,000 pictures, or one of another format than the plan's.
-    #[error("BadPictures")]
     BadPictures,
     /// 6: there is no receiver, or there are more than 8.
-    #[error("BadReceivers")]
     BadReceivers,
 }
 
@@ -43,6 +38,24 @@ impl PlayFault {
             PlayFault::DoubleTimestamp => 4,
             PlayFault::BadPictures => 5,
             PlayFault::BadReceivers => 6,
+        }
+    }
+}
+
+impl fmt::Display for PlayFault {
+    ghost use Rattle.std.specs.Prelude.{Some};
+    ghost use Rattle.path_merge.specs.PlayFault.{play_fault_name};
+
+    ghost output = { λ fault. Some (play_fault_name fault) };
+
+    fn fmt<W: fmt::Write>(&self, f: &mut fmt::Formatter<W>) -> fmt::Result {
+        match self {
+            PlayFault::NoMemory => f.write_str("NoMemory"),
+            PlayFault::BadEvent(place) => write!(f, "BadEvent {place}"),
+            PlayFault::BadWindow => f.write_str("BadWindow"),
+            PlayFault::DoubleTimestamp => f.write_str("DoubleTimestamp"),
+            PlayFault::BadPictures => f.write_str("BadPictures"),
+            PlayFault::BadReceivers => f.write_str("BadReceivers"),
         }
     }
 }
