@@ -14,7 +14,7 @@ use Rattle.sdp_format.specs.declared.sdp.Range.{Range}
 use Rattle.sdp_format.specs.declared.sdp.Range.TheVariants.{Narrow, FullProtect, Full}
 use Rattle.sdp_format.specs.declared.fault.SdpFault.{SdpFault}
 use Rattle.sdp_format.specs.declared.fault.SdpFault.TheVariants.{NoMemory, NoVideo, TooManyLegs, BadMediaLine, NoRtpmap, NotRaw90000, NoFmtp, BadParameter, DoubleParameter, MissingParameter, UnsupportedSampling, UnsupportedDepth, Interlaced, UnsupportedPacking, BadSsn, BadFormat, LegsDiffer}
-use Rattle.sdp_format.specs.Faults.{fault_number}
+use Rattle.sdp_format.specs.Faults.{sdp_fault_number}
 use Rattle.sdp_format.specs.Bytes.{number, begins}
 use Rattle.sdp_format.specs.Naming.{Item, is_bad, has_double, has, value_of, text_of, required, rate, range_or, range_named, colorimetry}
 use Rattle.sdp_format.specs.Sections.{Leg}
@@ -129,7 +129,7 @@ said_text is k name m =
 below_double : (is : List Item) → list_any is_bad is ≡ false → Below (Of is) 9
 below_double is good = record { none = none_of }
   where
-    none_of : (g : SdpFault) → fault_number g < 9 → ItemFault g is → ⊥
+    none_of : (g : SdpFault) → sdp_fault_number g < 9 → ItemFault g is → ⊥
     none_of NoMemory l c = c
     none_of NoVideo l c = c
     none_of TooManyLegs l c = c

@@ -6,7 +6,7 @@ use Rattle.std.specs.Str.{str_eq_ignore_ascii_case}
 use Rattle.std.proofs.lemmas.Bool.{cases_lt}
 use Rattle.sdp_format.specs.declared.fault.SdpFault.{SdpFault}
 use Rattle.sdp_format.specs.declared.fault.SdpFault.TheVariants.{NoMemory, NoVideo, TooManyLegs, BadMediaLine, NoRtpmap, NotRaw90000, NoFmtp, BadParameter, DoubleParameter, MissingParameter, UnsupportedSampling, UnsupportedDepth, Interlaced, UnsupportedPacking, BadSsn, BadFormat, LegsDiffer}
-use Rattle.sdp_format.specs.Faults.{fault_number}
+use Rattle.sdp_format.specs.Faults.{sdp_fault_number}
 use Rattle.sdp_format.specs.Bytes.{trimmed}
 use Rattle.sdp_format.specs.Naming.{Item, items, is_bad, has_double}
 use Rattle.sdp_format.specs.Sections.{Section, Leg}
@@ -44,7 +44,7 @@ items_once s p t q u is js i j =
 below_media : (s : Section) → Below (At s) 4
 below_media s = record { none = none_of }
   where
-    none_of : (g : SdpFault) → fault_number g < 4 → SectionFault g s → ⊥
+    none_of : (g : SdpFault) → sdp_fault_number g < 4 → SectionFault g s → ⊥
     none_of NoMemory l c = c.holds
     none_of NoVideo l c = c.holds
     none_of TooManyLegs l c = c.holds
@@ -126,7 +126,8 @@ up s p t is i LegsDiffer c = absurd c
 down_item : (s : Section) (p t : ℕ) (is : List Item) → HasItems s p t is → (f : SdpFault) → HasItemFault f s → ItemFault f is
 down_item s p t is i f c = subst (λ (js : List Item). ItemFault f js) (items_once s c.port c.payload_type p t c.list is c.has i) c.holds
 
-down : (s : Section) (p t : ℕ) (is : List Item) → HasItems s p t is → (f : SdpFault) → 9 ≤ fault_number f → SectionFault f s → ItemFault f is
+down : (s : Section) (p t : ℕ) (is : List Item) → HasItems s p t is → (f : SdpFault)
+    → 9 ≤ sdp_fault_number f → SectionFault f s → ItemFault f is
 down s p t is i NoMemory l c = c.holds
 down s p t is i NoVideo l c = c.holds
 down s p t is i TooManyLegs l c = c.holds
@@ -147,7 +148,7 @@ down s p t is i LegsDiffer l c = c.holds
 
 join_below : (s : Section) (p t : ℕ) (is : List Item) (n : ℕ) → HasItems s p t is → Below (At s) 9 → Below (Of is) n → Below (At s) n
 join_below s p t is n i low high = record {
-  none = λ g l c. elim (cases_lt (fault_number g) 9) [
+  none = λ g l c. elim (cases_lt (sdp_fault_number g) 9) [
     | inl h ↦ low.none g h c
     | inr h ↦ high.none g l (down s p t is i g h c)
   ];
@@ -155,7 +156,8 @@ join_below s p t is n i low high = record {
 
 raise : {X : Type 0} (s : Section) (p t : ℕ) (is : List Item) (R : X → Type 0) (r : Result X SdpFault) → HasItems s p t is → Below (At s) 9 → Told 18 (Of is) R r → Told 18 (At s) R r
 raise s p t is R (Ok x) i low told = (told.0, join_below s p t is 18 i low told.1)
-raise s p t is R (Err f) i low told = (up s p t is i f told.0, join_below s p t is (fault_number f) i low told.1)
+raise s p t is R (Err f) i low told =
+    (up s p t is i f told.0, join_below s p t is (sdp_fault_number f) i low told.1)
 
 pub section_told : (s : Section) → Told 18 (At s) (λ x. SectionSays s x.0 x.1) (section_at s)
 unfolding section_at
@@ -176,11 +178,12 @@ err_by s f (Err g) told e =
 first_by : (s : Section) (f : SdpFault) (r : Result (ℕ × Leg) SdpFault) → Told 18 (At s) (λ x. SectionSays s x.0 x.1) r → IsFirstFault f s → r ≡ Err f
 first_by s f (Ok x) told c = absurd (none_at_all (At s) told.1 f c.0)
 first_by s f (Err g) told c =
-    elim (cases_lt (fault_number g) (fault_number f)) [
+    elim (cases_lt (sdp_fault_number g) (sdp_fault_number f)) [
       | inl h ↦ absurd (c.1 g h told.0)
-      | inr h ↦ elim (cases_lt (fault_number f) (fault_number g)) [
+      | inr h ↦ elim (cases_lt (sdp_fault_number f) (sdp_fault_number g)) [
         | inl k ↦ absurd (told.1.none f k c.0)
-        | inr k ↦ let same : fault_number g ≡ fault_number f = omega arith in ap (λ (z : SdpFault). Err z) (number_same g f same)
+        | inr k ↦ let same : sdp_fault_number g ≡ sdp_fault_number f =
+            omega arith in ap (λ (z : SdpFault). Err z) (number_same g f same)
       ]
     ]
 

@@ -4,7 +4,7 @@ use Rattle.std.specs.Prelude.{◌==◌, if◌then◌else◌}
 use Rattle.std.proofs.lemmas.Bool.{cases_lt}
 use Rattle.sdp_format.specs.declared.fault.SdpFault.{SdpFault}
 use Rattle.sdp_format.specs.declared.fault.SdpFault.TheVariants.{NoMemory, NoVideo, TooManyLegs, BadMediaLine, NoRtpmap, NotRaw90000, NoFmtp, BadParameter, DoubleParameter, MissingParameter, UnsupportedSampling, UnsupportedDepth, Interlaced, UnsupportedPacking, BadSsn, BadFormat, LegsDiffer}
-use Rattle.sdp_format.specs.Faults.{fault_number}
+use Rattle.sdp_format.specs.Faults.{sdp_fault_number}
 use Rattle.sdp_format.specs.Reading.{◌>>=◌, wanted, refused}
 
 fault_at : ℕ → SdpFault
@@ -15,7 +15,7 @@ fault_at n =
     (if n == 12 then UnsupportedDepth else (if n == 13 then Interlaced else (if n == 14 then UnsupportedPacking else
     (if n == 15 then BadSsn else (if n == 16 then BadFormat else LegsDiffer)))))))))))))))
 
-numbered : (f : SdpFault) → fault_at (fault_number f) ≡ f
+numbered : (f : SdpFault) → fault_at (sdp_fault_number f) ≡ f
 unfolding fault_at
 numbered NoMemory = refl
 numbered NoVideo = refl
@@ -36,10 +36,10 @@ numbered BadFormat = refl
 numbered LegsDiffer = refl
 
 -- no two faults have one number
-pub number_same : (f g : SdpFault) → fault_number f ≡ fault_number g → f ≡ g
+pub number_same : (f g : SdpFault) → sdp_fault_number f ≡ sdp_fault_number g → f ≡ g
 number_same f g e = sym (numbered f) ∙ ap fault_at e ∙ numbered g
 
-pub number_small : (f : SdpFault) → fault_number f < 18
+pub number_small : (f : SdpFault) → sdp_fault_number f < 18
 number_small NoMemory = lit< tt
 number_small NoVideo = lit< tt
 number_small TooManyLegs = lit< tt
@@ -60,14 +60,16 @@ number_small LegsDiffer = lit< tt
 
 -- No condition with a smaller number holds
 pub record Below (C : SdpFault → Type 0) (n : ℕ) : Type 0 where
-  pub none : (g : SdpFault) → fault_number g < n → C g → ⊥
+  pub none : (g : SdpFault) → sdp_fault_number g < n → C g → ⊥
 
 -- one condition more that does not hold
-pub more : (C : SdpFault → Type 0) (f : SdpFault) (n : ℕ) → n ≡ fault_number f + 1 → Below C (fault_number f) → (C f → ⊥) → Below C n
+pub more : (C : SdpFault → Type 0) (f : SdpFault) (n : ℕ) → n ≡ sdp_fault_number f + 1
+    → Below C (sdp_fault_number f) → (C f → ⊥) → Below C n
 more C f n e b fails = record {
-  none = λ g less c. elim (cases_lt (fault_number g) (fault_number f)) [
+  none = λ g less c. elim (cases_lt (sdp_fault_number g) (sdp_fault_number f)) [
     | inl h ↦ b.none g h c
-    | inr h ↦ let same : fault_number g ≡ fault_number f = omega arith in fails (subst C (number_same g f same) c)
+    | inr h ↦ let same : sdp_fault_number g ≡ sdp_fault_number f =
+        omega arith in fails (subst C (number_same g f same) c)
   ];
 }
 
@@ -77,17 +79,25 @@ none_at_all C b g c = b.none g (number_small g) c
 -- What is read is so, and no condition below n holds; or the condition of the fault that is told holds, and none before it
 abbrev pub Told : {X : Type 0} → ℕ → (SdpFault → Type 0) → (X → Type 0) → Result X SdpFault → Type 0
 Told n C R (Ok x) = R x × Below C n
-Told n C R (Err f) = C f × Below C (fault_number f)
+Told n C R (Err f) = C f × Below C (sdp_fault_number f)
 
-pub refuse : {X : Type 0} (n : ℕ) (C : SdpFault → Type 0) (R : X → Type 0) (f : SdpFault) (t : Bool) (k : Unit {0} → Result X SdpFault) → Below C (fault_number f)
-    → (t ≡ true → C f) → (t ≡ false → C f → ⊥) → (t ≡ false → Below C (fault_number f + 1) → Told n C R (k tt)) → Told n C R (refused f t >>= k)
+pub refuse : {X : Type 0} (n : ℕ) (C : SdpFault → Type 0) (R : X → Type 0) (f : SdpFault) (t : Bool)
+    (k : Unit {0} → Result X SdpFault) → Below C (sdp_fault_number f)
+    → (t ≡ true → C f) → (t ≡ false → C f → ⊥)
+    → (t ≡ false → Below C (sdp_fault_number f + 1) → Told n C R (k tt))
+    → Told n C R (refused f t >>= k)
 refuse n C R f true k b holds fails rest = (holds refl, b)
-refuse n C R f false k b holds fails rest = rest refl (more C f (fault_number f + 1) refl b (fails refl))
+refuse n C R f false k b holds fails rest =
+    rest refl (more C f (sdp_fault_number f + 1) refl b (fails refl))
 
-pub want : {A X : Type 0} (n : ℕ) (C : SdpFault → Type 0) (R : X → Type 0) (f : SdpFault) (o : Option A) (k : A → Result X SdpFault) → Below C (fault_number f)
-    → (o ≡ None → C f) → ((x : A) → o ≡ Some x → C f → ⊥) → ((x : A) → o ≡ Some x → Below C (fault_number f + 1) → Told n C R (k x)) → Told n C R (wanted f o >>= k)
+pub want : {A X : Type 0} (n : ℕ) (C : SdpFault → Type 0) (R : X → Type 0) (f : SdpFault)
+    (o : Option A) (k : A → Result X SdpFault) → Below C (sdp_fault_number f)
+    → (o ≡ None → C f) → ((x : A) → o ≡ Some x → C f → ⊥)
+    → ((x : A) → o ≡ Some x → Below C (sdp_fault_number f + 1) → Told n C R (k x))
+    → Told n C R (wanted f o >>= k)
 want n C R f None k b holds fails rest = (holds refl, b)
-want n C R f (Some x) k b holds fails rest = rest x refl (more C f (fault_number f + 1) refl b (fails x refl))
+want n C R f (Some x) k b holds fails rest =
+    rest x refl (more C f (sdp_fault_number f + 1) refl b (fails x refl))
 
 -- a value that is there for another reason
 pub there : {A X : Type 0} (n : ℕ) (C : SdpFault → Type 0) (R : X → Type 0) (f : SdpFault) (o : Option A) (k : A → Result X SdpFault)

@@ -12,7 +12,7 @@ use Rattle.sdp_format.specs.declared.sdp.Range.{Range}
 use Rattle.sdp_format.specs.declared.sdp.Range.TheVariants.{Narrow, FullProtect, Full}
 use Rattle.sdp_format.specs.declared.fault.SdpFault.{SdpFault}
 use Rattle.sdp_format.specs.declared.fault.SdpFault.TheVariants.{NoVideo, TooManyLegs, BadMediaLine, NoRtpmap, NotRaw90000, NoFmtp, BadParameter, DoubleParameter, MissingParameter, UnsupportedSampling, UnsupportedDepth, Interlaced, UnsupportedPacking, BadSsn, BadFormat, LegsDiffer}
-use Rattle.sdp_format.specs.Faults.{fault_number}
+use Rattle.sdp_format.specs.Faults.{sdp_fault_number}
 use Rattle.sdp_format.specs.Bytes.{is_space, trimmed, number}
 use Rattle.sdp_format.specs.Naming.{Item, items, rate, colorimetry, range_named, required}
 use Rattle.sdp_format.specs.Sections.{Section, Leg, Description}
@@ -158,7 +158,8 @@ SectionFault fault s = HasItemFault fault s
 
 -- no condition of a fault before this one holds; the first fault of a section in the order of numbers; no fault at all
 abbrev pub NoneBefore : SdpFault → Section → Type 0
-NoneBefore fault s = (other : SdpFault) → fault_number other < fault_number fault → SectionFault other s → ⊥
+NoneBefore fault s =
+    (other : SdpFault) → sdp_fault_number other < sdp_fault_number fault → SectionFault other s → ⊥
 
 abbrev pub IsFirstFault : SdpFault → Section → Type 0
 IsFirstFault fault s = SectionFault fault s × NoneBefore fault s
