@@ -10,7 +10,7 @@ use Rattle.path_merge.specs.declared.answer.Taken.{Taken}
 use Rattle.path_merge.specs.declared.answer.Taken.TheVariants.{Kept, Outside}
 use Rattle.path_merge.specs.Opening.{Opening}
 use Rattle.path_merge.specs.Grammar.{Datagram, IsFor, IsKept, IsOutside}
-use Rattle.path_merge.specs.Admission.{admitted_at, ◌>>=◌}
+use Rattle.path_merge.specs.Admission.{datagram_walk, ◌>>=◌}
 use Rattle.path_merge.specs.Answers.{taken, taken_at}
 use Rattle.path_merge.proofs.Offered.{admitted_for, admitted_takes}
 
@@ -66,7 +66,7 @@ taken_for o octets d f = ap (λ (x : Result Datagram Refusal). x >>= λ q. Ok (t
 
 -- ---- kept
 
-kept_from : (o : Opening) (octets : List ℕ) (x : Result Datagram Refusal) (n : ℕ) → AreOctets octets → admitted_at o.format o.payload_type o.ssrc octets ≡ x
+kept_from : (o : Opening) (octets : List ℕ) (x : Result Datagram Refusal) (n : ℕ) → AreOctets octets → datagram_walk o.format o.payload_type o.ssrc octets ≡ x
     → (x >>= λ d. Ok (taken o.window d)) ≡ Ok (Kept n) → IsKept o octets n
 kept_from o octets (Err e) n fit read h = absurd cc
 kept_from o octets (Ok d) n fit read h =
@@ -83,11 +83,11 @@ kept_back o octets n k =
 -- Kept exactly where the octets are a datagram for the receiver of a timestamp of its window
 pub kept_iff : (o : Opening) (octets : List ℕ) (r : Result Taken Refusal) → AreOctets octets → r ≡ taken_at o octets → (n : ℕ) → (r ≡ Ok (Kept n)) ↔ IsKept o octets n
 kept_iff o octets r fit is n =
-    (λ h. kept_from o octets (admitted_at o.format o.payload_type o.ssrc octets) n fit refl (sym is ∙ h), λ k. is ∙ kept_back o octets n k)
+    (λ h. kept_from o octets (datagram_walk o.format o.payload_type o.ssrc octets) n fit refl (sym is ∙ h), λ k. is ∙ kept_back o octets n k)
 
 -- ---- outside
 
-outside_from : (o : Opening) (octets : List ℕ) (x : Result Datagram Refusal) → AreOctets octets → admitted_at o.format o.payload_type o.ssrc octets ≡ x
+outside_from : (o : Opening) (octets : List ℕ) (x : Result Datagram Refusal) → AreOctets octets → datagram_walk o.format o.payload_type o.ssrc octets ≡ x
     → (x >>= λ d. Ok (taken o.window d)) ≡ Ok Outside → IsOutside o octets
 outside_from o octets (Err e) fit read h = absurd cc
 outside_from o octets (Ok d) fit read h =
@@ -105,11 +105,11 @@ outside_back o octets k =
 -- Outside exactly where they are one of another timestamp
 pub outside_iff : (o : Opening) (octets : List ℕ) (r : Result Taken Refusal) → AreOctets octets → r ≡ taken_at o octets → (r ≡ Ok Outside) ↔ IsOutside o octets
 outside_iff o octets r fit is =
-    (λ h. outside_from o octets (admitted_at o.format o.payload_type o.ssrc octets) fit refl (sym is ∙ h), λ k. is ∙ outside_back o octets k)
+    (λ h. outside_from o octets (datagram_walk o.format o.payload_type o.ssrc octets) fit refl (sym is ∙ h), λ k. is ∙ outside_back o octets k)
 
 -- ---- refused
 
-refused_at : (o : Opening) (octets : List ℕ) (x : Result Datagram Refusal) → AreOctets octets → admitted_at o.format o.payload_type o.ssrc octets ≡ x
+refused_at : (o : Opening) (octets : List ℕ) (x : Result Datagram Refusal) → AreOctets octets → datagram_walk o.format o.payload_type o.ssrc octets ≡ x
     → ((d : Datagram) → IsFor o octets d → ⊥) → IsErr (x >>= λ d. Ok (taken o.window d))
 refused_at o octets (Err e) fit read none = refl
 refused_at o octets (Ok d) fit read none = absurd (none d (admitted_takes o octets d fit read))
@@ -124,7 +124,7 @@ not_refused d w h = cc
 pub refused_iff : (o : Opening) (octets : List ℕ) (r : Result Taken Refusal) → AreOctets octets → r ≡ taken_at o octets → IsErr r ↔ ((d : Datagram) → IsFor o octets d → ⊥)
 refused_iff o octets r fit is = (
   λ h. λ d f. not_refused d o.window (subst (λ (x : Result Taken Refusal). IsErr x) (is ∙ taken_for o octets d f) h),
-  λ none. subst (λ (x : Result Taken Refusal). IsErr x) (sym is) (refused_at o octets (admitted_at o.format o.payload_type o.ssrc octets) fit refl none),
+  λ none. subst (λ (x : Result Taken Refusal). IsErr x) (sym is) (refused_at o octets (datagram_walk o.format o.payload_type o.ssrc octets) fit refl none),
 )
 
 -- ---- what is admitted, and the window
@@ -135,8 +135,8 @@ by_window w d = Ok (taken w d)
 abbrev answered : Datagram → Bool → Result Taken Refusal
 answered d b = Ok (word b d.number)
 
-pub taken_outside : (o : Opening) (octets : List ℕ) (d : Datagram) → admitted_at o.format o.payload_type o.ssrc octets ≡ Ok d → (IsMember d.timestamp o.window → ⊥) → taken_at o octets ≡ Ok Outside
+pub taken_outside : (o : Opening) (octets : List ℕ) (d : Datagram) → datagram_walk o.format o.payload_type o.ssrc octets ≡ Ok d → (IsMember d.timestamp o.window → ⊥) → taken_at o octets ≡ Ok Outside
 taken_outside o octets d read out = ap (λ (x : Result Datagram Refusal). x >>= by_window o.window) read ∙ ap (answered d) (not_any d.timestamp o.window out)
 
-pub taken_inside : (o : Opening) (octets : List ℕ) (d : Datagram) → admitted_at o.format o.payload_type o.ssrc octets ≡ Ok d → IsMember d.timestamp o.window → taken_at o octets ≡ Ok (Kept d.number)
+pub taken_inside : (o : Opening) (octets : List ℕ) (d : Datagram) → datagram_walk o.format o.payload_type o.ssrc octets ≡ Ok d → IsMember d.timestamp o.window → taken_at o octets ≡ Ok (Kept d.number)
 taken_inside o octets d read in_it = ap (λ (x : Result Datagram Refusal). x >>= by_window o.window) read ∙ ap (answered d) (any_from_member d.timestamp o.window in_it)

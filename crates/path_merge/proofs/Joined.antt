@@ -18,7 +18,7 @@ use Rattle.st_format.proofs.Rasters.{cell_at-raster_of, cell_at-joined, joined_n
 use Rattle.path_merge.specs.declared.answer.Refusal.{Refusal}
 use Rattle.path_merge.specs.Opening.{Opening, AreDifferent, IsWindow, IsWindowSize}
 use Rattle.path_merge.specs.Grammar.{Datagram}
-use Rattle.path_merge.specs.Admission.{admitted_at}
+use Rattle.path_merge.specs.Admission.{datagram_walk}
 use Rattle.path_merge.specs.Offers.{offers, offers_of}
 use Rattle.path_merge.specs.Frames.{State, IsReceiver, Holds, AreAlike, frames_of, joined_frames, frame_at, cell_if, cell_in}
 use Rattle.path_merge.specs.Sliding.{slid}
@@ -30,10 +30,10 @@ use Rattle.path_merge.proofs.Windows.{below_get, member_get}
 alone : (o : Opening) (d : List ℕ) → flat_map (offers o) (d ∷ []) ≡ offers o d
 alone o d = append-nil (offers o d)
 
-alone_refused : (o : Opening) (d : List ℕ) (e : Refusal) → admitted_at o.format o.payload_type o.ssrc d ≡ Err e → flat_map (offers o) (d ∷ []) ≡ []
+alone_refused : (o : Opening) (d : List ℕ) (e : Refusal) → datagram_walk o.format o.payload_type o.ssrc d ≡ Err e → flat_map (offers o) (d ∷ []) ≡ []
 alone_refused o d e read = alone o d ∙ ap (offers_of o.format) read
 
-alone_admitted : (o : Opening) (d : List ℕ) (a : Datagram) → admitted_at o.format o.payload_type o.ssrc d ≡ Ok a → flat_map (offers o) (d ∷ []) ≡ offers_in_all o.format a.timestamp a.segments
+alone_admitted : (o : Opening) (d : List ℕ) (a : Datagram) → datagram_walk o.format o.payload_type o.ssrc d ≡ Ok a → flat_map (offers o) (d ∷ []) ≡ offers_in_all o.format a.timestamp a.segments
 alone_admitted o d a read = alone o d ∙ ap (offers_of o.format) read
 
 -- ---- frames that stay
@@ -69,13 +69,13 @@ frames_left s os is none =
     (recursion_from_All (λ (r : Raster). r.format ≡ s.opening.format) s.frames is.of_format) (recursion_from_All IsWhole s.frames is.whole) none
 
 -- A datagram that is refused joins nothing.
-pub frames_refused : (s : State) (d : List ℕ) (e : Refusal) → IsReceiver s → admitted_at s.opening.format s.opening.payload_type s.opening.ssrc d ≡ Err e
+pub frames_refused : (s : State) (d : List ℕ) (e : Refusal) → IsReceiver s → datagram_walk s.opening.format s.opening.payload_type s.opening.ssrc d ≡ Err e
     → s.frames ≡ joined_frames s.frames (frames_of s.opening (d ∷ []))
 frames_refused s d e is read =
     frames_left s (flat_map (offers s.opening) (d ∷ [])) is (λ ts m. ap (λ (os : List Offer). cells_of s.opening.format os ts) (alone_refused s.opening d e read))
 
 -- Nor does one of another timestamp.
-pub frames_outside : (s : State) (d : List ℕ) (a : Datagram) → IsReceiver s → admitted_at s.opening.format s.opening.payload_type s.opening.ssrc d ≡ Ok a → (IsMember a.timestamp s.opening.window → ⊥)
+pub frames_outside : (s : State) (d : List ℕ) (a : Datagram) → IsReceiver s → datagram_walk s.opening.format s.opening.payload_type s.opening.ssrc d ≡ Ok a → (IsMember a.timestamp s.opening.window → ⊥)
     → s.frames ≡ joined_frames s.frames (frames_of s.opening (d ∷ []))
 frames_outside s d a is read out =
     frames_left s (flat_map (offers s.opening) (d ∷ [])) is
@@ -104,7 +104,7 @@ put_at f os ts (suc i) (t ∷ w) (r ∷ rs) new d different at e formats whole n
     ap (λ (q : Raster). q ∷ set rs i new) first ∙ ap (λ (qs : List Raster). with_cells r (joined r.cells (cells_of f os t)) ∷ qs) rest
 
 -- One of a timestamp of the window is joined to the frame at its place.
-pub frames_kept : (s : State) (octets : List ℕ) (a : Datagram) (place : ℕ) (new old : Raster) → IsReceiver s → admitted_at s.opening.format s.opening.payload_type s.opening.ssrc octets ≡ Ok a
+pub frames_kept : (s : State) (octets : List ℕ) (a : Datagram) (place : ℕ) (new old : Raster) → IsReceiver s → datagram_walk s.opening.format s.opening.payload_type s.opening.ssrc octets ≡ Ok a
     → slice_get s.opening.window place ≡ Some a.timestamp → old ≡ get_or s.frames place old → new.format ≡ old.format
     → ((ts : ℕ) → new.cells ≡ joined old.cells (cells_of old.format (offers_in_all old.format ts a.segments) ts))
     → set s.frames place new ≡ joined_frames s.frames (frames_of s.opening (octets ∷ []))

@@ -4,19 +4,19 @@ use Rattle.std.specs.List.{AllByRecursion}
 use Rattle.std.proofs.lemmas.Bool.{eqb-true, eq-eqb}
 use Rattle.st_format.specs.Raster.{Segment, offers_in_all}
 use Rattle.payload_header.specs.declared.payload.PayloadFault.{PayloadFault}
-use Rattle.payload_header.specs.Reading.{payload_at}
+use Rattle.payload_header.specs.Reading.{payload_walk}
 use Rattle.payload_header.proofs.Taken.{IsBytes, payload_takes}
 use Rattle.payload_header.proofs.Again.{payload_again}
 use Rattle.rtp_header.specs.declared.header.RtpFault.{RtpFault}
 use Rattle.rtp_header.specs.Grammar.{AreOctets, Rtp, fixed_text, IsRtp}
-use Rattle.rtp_header.specs.Reading.{rtp_at}
+use Rattle.rtp_header.specs.Reading.{rtp_walk}
 use Rattle.rtp_header.proofs.Taken.{rtp_takes}
 use Rattle.rtp_header.proofs.Again.{rtp_again}
 use Rattle.path_merge.specs.declared.answer.Refusal.{Refusal}
 use Rattle.path_merge.specs.declared.answer.Refusal.TheVariants.{WrongPayloadType, WrongSource}
 use Rattle.path_merge.specs.Opening.{Opening, IsSource}
 use Rattle.path_merge.specs.Grammar.{Datagram, IsDatagram, IsFor, header_with}
-use Rattle.path_merge.specs.Admission.{◌>>=◌, by_header, by_payload, checked, is_other, datagram_with, admitted_at}
+use Rattle.path_merge.specs.Admission.{◌>>=◌, by_header, by_payload, checked, is_other, datagram_with, datagram_walk}
 use Rattle.path_merge.specs.Offers.{offers, offers_of}
 
 -- ---- the test of the source says what its words say
@@ -42,16 +42,16 @@ abbrev numbered : Datagram → ℕ → Datagram
 numbered d n = record { payload_type = d.payload_type; number = n; timestamp = d.timestamp; ssrc = d.ssrc; marker = d.marker; segments = d.segments }
 
 -- A datagram for a receiver is admitted, and says what the grammar reads.
-pub admitted_for : (o : Opening) (octets : List ℕ) (d : Datagram) → IsFor o octets d → admitted_at o.format o.payload_type o.ssrc octets ≡ Ok d
-unfolding admitted_at
+pub admitted_for : (o : Opening) (octets : List ℕ) (d : Datagram) → IsFor o octets d → datagram_walk o.format o.payload_type o.ssrc octets ≡ Ok d
+unfolding datagram_walk
 admitted_for o octets d f =
     let is = f.is in
     let r : Rtp = header_with d is.sequence is.payload in
     let pass : checked o.payload_type o.ssrc r ≡ Ok r =
     ap (λ (b : Bool). cond (not b) (Err WrongPayloadType) (cond (is_other o.ssrc r.ssrc) (Err WrongSource) (Ok r))) (eq-eqb d.payload_type o.payload_type f.type_is)
     ∙ ap (λ (b : Bool). cond b (Err WrongSource) (Ok r)) (source_again o.ssrc d.ssrc f.source) in
-    ap (λ (x : Result Rtp RtpFault). by_header x >>= λ q. checked o.payload_type o.ssrc q >>= λ w. by_payload (payload_at o.format w.payload) >>= by_rtp w) (rtp_again r octets is.is_header)
-    ∙ ap (λ (x : Result Rtp Refusal). x >>= λ w. by_payload (payload_at o.format w.payload) >>= by_rtp w) pass
+    ap (λ (x : Result Rtp RtpFault). by_header x >>= λ q. checked o.payload_type o.ssrc q >>= λ w. by_payload (payload_walk o.format w.payload) >>= by_rtp w) (rtp_again r octets is.is_header)
+    ∙ ap (λ (x : Result Rtp Refusal). x >>= λ w. by_payload (payload_walk o.format w.payload) >>= by_rtp w) pass
     ∙ ap (λ (x : Result (ℕ × List Segment) PayloadFault). by_payload x >>= by_rtp r) (payload_again o.format is.extended d.segments is.payload is.is_payload)
     ∙ ap (λ (n : ℕ). Ok (numbered d n)) is.number_is
 
@@ -100,7 +100,7 @@ same_ok : {X : Type 0} (x y : X) → (let r : Result X Refusal = Ok x in r ≡ O
 same_ok x y h = cc
 
 takes_payload : (o : Opening) (octets : List ℕ) (r : Rtp) (p : Result (ℕ × List Segment) PayloadFault) (d : Datagram) → IsRtp r octets → IsBytes r.payload → r.payload_type ≡ o.payload_type → is_other o.ssrc r.ssrc ≡ false
-    → payload_at o.format r.payload ≡ p → (by_payload p >>= by_rtp r) ≡ Ok d → IsFor o octets d
+    → payload_walk o.format r.payload ≡ p → (by_payload p >>= by_rtp r) ≡ Ok d → IsFor o octets d
 takes_payload o octets r (Err e) d is bytes pt source read h = absurd cc
 takes_payload o octets r (Ok p) d is bytes pt source read h =
     let one : IsDatagram o.format octets (datagram_with r p) = record {
@@ -114,31 +114,31 @@ takes_payload o octets r (Ok p) d is bytes pt source read h =
     subst (λ (x : Datagram). IsFor o octets x) (same_ok (datagram_with r p) d h) (record { is = one; type_is = pt; source = source_from o.ssrc r.ssrc source })
 
 takes_checked : (o : Opening) (octets : List ℕ) (r : Rtp) (t s : Bool) (d : Datagram) → IsRtp r octets → IsBytes r.payload → eqb r.payload_type o.payload_type ≡ t → is_other o.ssrc r.ssrc ≡ s
-    → (cond (not t) (Err WrongPayloadType) (cond s (Err WrongSource) (Ok r)) >>= λ w. by_payload (payload_at o.format w.payload) >>= by_rtp w) ≡ Ok d → IsFor o octets d
+    → (cond (not t) (Err WrongPayloadType) (cond s (Err WrongSource) (Ok r)) >>= λ w. by_payload (payload_walk o.format w.payload) >>= by_rtp w) ≡ Ok d → IsFor o octets d
 takes_checked o octets r false s d is bytes e f h = absurd cc
 takes_checked o octets r true true d is bytes e f h = absurd cc
-takes_checked o octets r true false d is bytes e f h = takes_payload o octets r (payload_at o.format r.payload) d is bytes (eqb-true r.payload_type o.payload_type e) f refl h
+takes_checked o octets r true false d is bytes e f h = takes_payload o octets r (payload_walk o.format r.payload) d is bytes (eqb-true r.payload_type o.payload_type e) f refl h
 
-takes_read : (o : Opening) (octets : List ℕ) (x : Result Rtp RtpFault) (d : Datagram) → AreOctets octets → rtp_at octets ≡ x
-    → (by_header x >>= λ q. checked o.payload_type o.ssrc q >>= λ w. by_payload (payload_at o.format w.payload) >>= by_rtp w) ≡ Ok d → IsFor o octets d
+takes_read : (o : Opening) (octets : List ℕ) (x : Result Rtp RtpFault) (d : Datagram) → AreOctets octets → rtp_walk octets ≡ x
+    → (by_header x >>= λ q. checked o.payload_type o.ssrc q >>= λ w. by_payload (payload_walk o.format w.payload) >>= by_rtp w) ≡ Ok d → IsFor o octets d
 takes_read o octets (Err e) d fit read h = absurd cc
 takes_read o octets (Ok r) d fit read h =
     let is : IsRtp r octets = rtp_takes octets r fit read in
     takes_checked o octets r (eqb r.payload_type o.payload_type) (is_other o.ssrc r.ssrc) d is (payload_octets r octets fit is) refl refl h
 
 -- What is admitted is a datagram for the receiver.
-pub admitted_takes : (o : Opening) (octets : List ℕ) (d : Datagram) → AreOctets octets → admitted_at o.format o.payload_type o.ssrc octets ≡ Ok d → IsFor o octets d
-unfolding admitted_at
-admitted_takes o octets d fit h = takes_read o octets (rtp_at octets) d fit refl h
+pub admitted_takes : (o : Opening) (octets : List ℕ) (d : Datagram) → AreOctets octets → datagram_walk o.format o.payload_type o.ssrc octets ≡ Ok d → IsFor o octets d
+unfolding datagram_walk
+admitted_takes o octets d fit h = takes_read o octets (rtp_walk octets) d fit refl h
 
 -- ---- offers
 
 pub offers-for : (o : Opening) (octets : List ℕ) (d : Datagram) → IsFor o octets d → offers o octets ≡ offers_in_all o.format d.timestamp d.segments
 offers-for o octets d f = ap (offers_of o.format) (admitted_for o octets d f)
 
-nothing_at : (o : Opening) (octets : List ℕ) (x : Result Datagram Refusal) → AreOctets octets → admitted_at o.format o.payload_type o.ssrc octets ≡ x → ((d : Datagram) → IsFor o octets d → ⊥) → offers_of o.format x ≡ []
+nothing_at : (o : Opening) (octets : List ℕ) (x : Result Datagram Refusal) → AreOctets octets → datagram_walk o.format o.payload_type o.ssrc octets ≡ x → ((d : Datagram) → IsFor o octets d → ⊥) → offers_of o.format x ≡ []
 nothing_at o octets (Err e) fit read none = refl
 nothing_at o octets (Ok d) fit read none = absurd (none d (admitted_takes o octets d fit read))
 
 pub offers-none : (o : Opening) (octets : List ℕ) → AreOctets octets → ((d : Datagram) → IsFor o octets d → ⊥) → offers o octets ≡ []
-offers-none o octets fit none = nothing_at o octets (admitted_at o.format o.payload_type o.ssrc octets) fit refl none
+offers-none o octets fit none = nothing_at o octets (datagram_walk o.format o.payload_type o.ssrc octets) fit refl none

@@ -14,7 +14,7 @@ use Rattle.st_format.proofs.Members.{member_left, member_right, member_cases}
 use Rattle.st_format.proofs.Rasters.{cells_of-append, joined_none, length-cells_of}
 use Rattle.rtp_header.specs.Grammar.{AreOctets}
 use Rattle.path_merge.specs.declared.answer.Refusal.{Refusal}
-use Rattle.path_merge.specs.Admission.{admitted_at}
+use Rattle.path_merge.specs.Admission.{datagram_walk}
 use Rattle.path_merge.specs.Grammar.{Datagram}
 use Rattle.path_merge.specs.Offers.{offers, offers_of}
 use Rattle.path_merge.specs.Opening.{Opening}
@@ -76,10 +76,10 @@ frame_kept s es e stay q none is = record {
 -- ---- a frame that takes a datagram
 
 -- whether octets are a datagram of this timestamp
-of_or_not : (o : Opening) (octets : List ℕ) (ts : ℕ) (x : Result Datagram Refusal) → AreOctets octets → admitted_at o.format o.payload_type o.ssrc octets ≡ x → IsOf o octets ts ⊎ (IsOf o octets ts → ⊥)
+of_or_not : (o : Opening) (octets : List ℕ) (ts : ℕ) (x : Result Datagram Refusal) → AreOctets octets → datagram_walk o.format o.payload_type o.ssrc octets ≡ x → IsOf o octets ts ⊎ (IsOf o octets ts → ⊥)
 of_or_not o octets ts (Err e) fit read = inr (λ is. is_ok is.datagram (admitted_for o octets is.datagram is.is_for))
   where
-    is_ok : (d : Datagram) → admitted_at o.format o.payload_type o.ssrc octets ≡ Ok d → ⊥
+    is_ok : (d : Datagram) → datagram_walk o.format o.payload_type o.ssrc octets ≡ Ok d → ⊥
     is_ok d h = cc
 of_or_not o octets ts (Ok d) fit read =
     elim (eqb_tells d.timestamp ts) [
@@ -87,14 +87,14 @@ of_or_not o octets ts (Ok d) fit read =
       | inr other ↦ inr (λ is. other.1 (ap (λ (x : Datagram). x.timestamp) (one_ok d is.datagram read (admitted_for o octets is.datagram is.is_for)) ∙ is.time))
     ]
   where
-    one_ok : (x y : Datagram) → admitted_at o.format o.payload_type o.ssrc octets ≡ Ok x → admitted_at o.format o.payload_type o.ssrc octets ≡ Ok y → x ≡ y
+    one_ok : (x y : Datagram) → datagram_walk o.format o.payload_type o.ssrc octets ≡ Ok x → datagram_walk o.format o.payload_type o.ssrc octets ≡ Ok y → x ≡ y
     one_ok x y g h = cc
 
 alone : (o : Opening) (d : List ℕ) → flat_map (offers o) (d ∷ []) ≡ offers o d
 alone o d = append-nil (offers o d)
 
 -- what is of another timestamp gives no cell
-none_at : (o : Opening) (octets : List ℕ) (ts : ℕ) (x : Result Datagram Refusal) → AreOctets octets → admitted_at o.format o.payload_type o.ssrc octets ≡ x → (IsOf o octets ts → ⊥)
+none_at : (o : Opening) (octets : List ℕ) (ts : ℕ) (x : Result Datagram Refusal) → AreOctets octets → datagram_walk o.format o.payload_type o.ssrc octets ≡ x → (IsOf o octets ts → ⊥)
     → cells_of o.format (flat_map (offers o) (octets ∷ [])) ts ≡ cells_of o.format [] ts
 none_at o octets ts (Err e) fit read none = ap (λ (os : List Offer). cells_of o.format os ts) (alone o octets ∙ ap (offers_of o.format) read)
 none_at o octets ts (Ok d) fit read none =
@@ -140,7 +140,7 @@ frame_taken s es to number path octets stay q sent fit at lasts is =
     let e : Event = Arrive to path number in
     let with_q : joined_rasters q (raster_of o.format (flat_map (offers o) (octets ∷ [])) ts) ≡ joined_rasters (raster_of o.format (flat_map (offers o) is.reached) ts) (raster_of o.format (flat_map (offers o) (octets ∷ [])) ts) =
     ap (λ (r : Raster). joined_rasters r (raster_of o.format (flat_map (offers o) (octets ∷ [])) ts)) is.frame_is in
-    elim (of_or_not o octets ts (admitted_at o.format o.payload_type o.ssrc octets) fit refl) [
+    elim (of_or_not o octets ts (datagram_walk o.format o.payload_type o.ssrc octets) fit refl) [
       | inl is_of ↦ record {
         reached = is.reached ++ octets ∷ [];
         each = λ other. (
@@ -168,7 +168,7 @@ frame_taken s es to number path octets stay q sent fit at lasts is =
             | inr new ↦ absurd (not_of (subst (λ (x : List ℕ). IsOf o x ts) (newly_arrived s es to number path octets other stay sent new) new.is_of))
           ],
         );
-        frame_is = with_q ∙ none_joined o is.reached octets ts (none_at o octets ts (admitted_at o.format o.payload_type o.ssrc octets) fit refl not_of);
+        frame_is = with_q ∙ none_joined o is.reached octets ts (none_at o octets ts (datagram_walk o.format o.payload_type o.ssrc octets) fit refl not_of);
       }
     ]
 

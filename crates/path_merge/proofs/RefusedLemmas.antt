@@ -3,11 +3,11 @@ use Rattle.std.proofs.Common.{◌≡◌, ℕ, ◌↔◌, ◌⊎◌, inl, inr, Bo
 use Rattle.std.proofs.lemmas.Bool.{eqb-true, eqb-false, eq-eqb, ne_eqb, false≢true}
 use Rattle.st_format.specs.Raster.{Segment}
 use Rattle.payload_header.specs.declared.payload.PayloadFault.{PayloadFault}
-use Rattle.payload_header.specs.Reading.{payload_at}
+use Rattle.payload_header.specs.Reading.{payload_walk}
 use Rattle.payload_header.proofs.Both.{is_fault_exactly}
 use Rattle.rtp_header.specs.declared.header.RtpFault.{RtpFault}
 use Rattle.rtp_header.specs.Grammar.{AreOctets, Rtp, IsRtp}
-use Rattle.rtp_header.specs.Reading.{rtp_at}
+use Rattle.rtp_header.specs.Reading.{rtp_walk}
 use Rattle.rtp_header.proofs.Again.{rtp_again}
 use Rattle.rtp_header.proofs.Faulted.{rtp_faulted}
 use Rattle.rtp_header.proofs.Taken.{rtp_takes}
@@ -17,7 +17,7 @@ use Rattle.path_merge.specs.declared.answer.Taken.{Taken}
 use Rattle.path_merge.specs.Opening.{Opening, IsSource}
 use Rattle.path_merge.specs.Grammar.{Datagram, IsFor}
 use Rattle.path_merge.specs.Refused.{IsRefused, HasOtherType, HasOtherSource, HasBadPayload}
-use Rattle.path_merge.specs.Admission.{◌>>=◌, by_header, by_payload, checked, is_other, admitted_at}
+use Rattle.path_merge.specs.Admission.{◌>>=◌, by_header, by_payload, checked, is_other, datagram_walk}
 use Rattle.path_merge.specs.Answers.{taken, taken_at}
 use Rattle.path_merge.proofs.Offered.{admitted_for, admitted_takes, by_rtp, payload_octets, source_again, source_from}
 
@@ -25,7 +25,7 @@ abbrev refused : Refusal → Result Datagram Refusal
 refused e = Err e
 
 abbrev read_rest : Opening → Rtp → Result Datagram Refusal
-read_rest o r = by_payload (payload_at o.format r.payload) >>= by_rtp r
+read_rest o r = by_payload (payload_walk o.format r.payload) >>= by_rtp r
 
 same_err : (d e : Refusal) → refused d ≡ refused e → d ≡ e
 same_err d e h = cc
@@ -38,7 +38,7 @@ other_from (Some p) ssrc ne = ap not (ne_eqb p ssrc ne)
 -- ---- a refusal that is told holds
 
 from_payload : (o : Opening) (octets : List ℕ) (r : Rtp) (p : Result (ℕ × List Segment) PayloadFault) (e : Refusal) → AreOctets octets → IsRtp r octets → r.payload_type ≡ o.payload_type → is_other o.ssrc r.ssrc ≡ false
-    → payload_at o.format r.payload ≡ p → (by_payload p >>= by_rtp r) ≡ Err e → IsRefused o octets e
+    → payload_walk o.format r.payload ≡ p → (by_payload p >>= by_rtp r) ≡ Err e → IsRefused o octets e
 from_payload o octets r (Ok p) e fit is pt source read h = absurd cc
 from_payload o octets r (Err d) e fit is pt source read h =
     let has : HasBadPayload o octets d = record {
@@ -64,25 +64,25 @@ from_checked o octets r true true e fit is type other h =
     } in
     subst (λ (x : Refusal). IsRefused o octets x) (same_err WrongSource e h) has
 from_checked o octets r true false e fit is type other h =
-    from_payload o octets r (payload_at o.format r.payload) e fit is (eqb-true r.payload_type o.payload_type type) other refl h
+    from_payload o octets r (payload_walk o.format r.payload) e fit is (eqb-true r.payload_type o.payload_type type) other refl h
 
-from_header : (o : Opening) (octets : List ℕ) (x : Result Rtp RtpFault) (e : Refusal) → AreOctets octets → rtp_at octets ≡ x
+from_header : (o : Opening) (octets : List ℕ) (x : Result Rtp RtpFault) (e : Refusal) → AreOctets octets → rtp_walk octets ≡ x
     → (by_header x >>= λ q. checked o.payload_type o.ssrc q >>= read_rest o) ≡ Err e → IsRefused o octets e
 from_header o octets (Err d) e fit read h = subst (λ (x : Refusal). IsRefused o octets x) (same_err (Header d) e h) ((rtp_faulted d octets).0 read)
 from_header o octets (Ok r) e fit read h =
     from_checked o octets r (eqb r.payload_type o.payload_type) (is_other o.ssrc r.ssrc) e fit (rtp_takes octets r fit read) refl refl h
 
-pub refused_from : (o : Opening) (octets : List ℕ) (e : Refusal) → AreOctets octets → admitted_at o.format o.payload_type o.ssrc octets ≡ Err e → IsRefused o octets e
-unfolding admitted_at
-refused_from o octets e fit h = from_header o octets (rtp_at octets) e fit refl h
+pub refused_from : (o : Opening) (octets : List ℕ) (e : Refusal) → AreOctets octets → datagram_walk o.format o.payload_type o.ssrc octets ≡ Err e → IsRefused o octets e
+unfolding datagram_walk
+refused_from o octets e fit h = from_header o octets (rtp_walk octets) e fit refl h
 
 -- ---- a refusal that holds is told
 
-header_read : (o : Opening) (octets : List ℕ) (x : Result Rtp RtpFault) → rtp_at octets ≡ x → admitted_at o.format o.payload_type o.ssrc octets ≡ (by_header x >>= λ q. checked o.payload_type o.ssrc q >>= read_rest o)
-unfolding admitted_at
+header_read : (o : Opening) (octets : List ℕ) (x : Result Rtp RtpFault) → rtp_walk octets ≡ x → datagram_walk o.format o.payload_type o.ssrc octets ≡ (by_header x >>= λ q. checked o.payload_type o.ssrc q >>= read_rest o)
+unfolding datagram_walk
 header_read o octets x read = ap (λ (y : Result Rtp RtpFault). by_header y >>= λ q. checked o.payload_type o.ssrc q >>= read_rest o) read
 
-pub refused_back : (o : Opening) (octets : List ℕ) (e : Refusal) → AreOctets octets → IsRefused o octets e → admitted_at o.format o.payload_type o.ssrc octets ≡ Err e
+pub refused_back : (o : Opening) (octets : List ℕ) (e : Refusal) → AreOctets octets → IsRefused o octets e → datagram_walk o.format o.payload_type o.ssrc octets ≡ Err e
 refused_back o octets (Header d) fit has = header_read o octets (Err d) ((rtp_faulted d octets).1 has)
 refused_back o octets WrongPayloadType fit has =
     let r : Rtp = has.header in
@@ -111,18 +111,18 @@ answer_err o (Err d) e h = ap refused (err_is d e h)
 
 pub refusal_iff : (o : Opening) (octets : List ℕ) (r : Result Taken Refusal) → AreOctets octets → r ≡ taken_at o octets → (e : Refusal) → (r ≡ Err e) ↔ IsRefused o octets e
 refusal_iff o octets r fit is e = (
-  λ h. refused_from o octets e fit (answer_err o (admitted_at o.format o.payload_type o.ssrc octets) e (sym is ∙ h)),
+  λ h. refused_from o octets e fit (answer_err o (datagram_walk o.format o.payload_type o.ssrc octets) e (sym is ∙ h)),
   λ has. is ∙ ap (λ (x : Result Datagram Refusal). x >>= λ d. Ok (taken o.window d)) (refused_back o octets e fit has),
 )
 
 -- ---- one or the other
 
-some_at : (o : Opening) (octets : List ℕ) (x : Result Datagram Refusal) → AreOctets octets → admitted_at o.format o.payload_type o.ssrc octets ≡ x → ((d : Datagram) × IsFor o octets d) ⊎ ((e : Refusal) × IsRefused o octets e)
+some_at : (o : Opening) (octets : List ℕ) (x : Result Datagram Refusal) → AreOctets octets → datagram_walk o.format o.payload_type o.ssrc octets ≡ x → ((d : Datagram) × IsFor o octets d) ⊎ ((e : Refusal) × IsRefused o octets e)
 some_at o octets (Ok d) fit read = inl (d, admitted_takes o octets d fit read)
 some_at o octets (Err e) fit read = inr (e, refused_from o octets e fit read)
 
 pub datagram_or_refused : (o : Opening) (octets : List ℕ) → AreOctets octets → ((d : Datagram) × IsFor o octets d) ⊎ ((e : Refusal) × IsRefused o octets e)
-datagram_or_refused o octets fit = some_at o octets (admitted_at o.format o.payload_type o.ssrc octets) fit refl
+datagram_or_refused o octets fit = some_at o octets (datagram_walk o.format o.payload_type o.ssrc octets) fit refl
 
 abbrev read_as : Datagram → Result Datagram Refusal
 read_as d = Ok d

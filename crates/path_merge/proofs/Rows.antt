@@ -8,10 +8,10 @@ use Rattle.st_format.specs.declared.cell.Cell.TheVariants.{Missing, Value, Conte
 use Rattle.st_format.specs.Rate.{greatest_up_to, IsLowest}
 use Rattle.st_format.specs.Position.{place, place_in_row}
 use Rattle.st_format.specs.Samples.{bits, number, pieces, values_in}
-use Rattle.payload_header.specs.Reading.{header_of, headers_at, payload_at}
-use Rattle.rtp_header.specs.Reading.{rtp_at}
+use Rattle.payload_header.specs.Reading.{header_of, headers_at, payload_walk}
+use Rattle.rtp_header.specs.Reading.{rtp_walk}
 use Rattle.path_merge.specs.Opening.{Opening}
-use Rattle.path_merge.specs.Admission.{admitted_at}
+use Rattle.path_merge.specs.Admission.{datagram_walk}
 use Rattle.path_merge.specs.Frames.{frames_of}
 
 -- 60 / 1 is in lowest terms
@@ -49,9 +49,9 @@ abbrev missing_row : List Cell
 missing_row = Missing ∷ Missing ∷ Missing ∷ Missing ∷ Missing ∷ Missing ∷ Missing ∷ Missing ∷ []
 
 one_datagram : frames_of opening (d1 ∷ []) ≡ record { format = f1; cells = (Value 128 ∷ Value 16 ∷ Value 128 ∷ Value 17 ∷ Value 128 ∷ Value 18 ∷ Value 128 ∷ Value 19 ∷ []) ++ missing_row } ∷ []
-unfolding place place_in_row bits number pieces values_in header_of headers_at payload_at rtp_at admitted_at
+unfolding place place_in_row bits number pieces values_in header_of headers_at payload_walk rtp_walk datagram_walk
 one_datagram = refl
 
 two_datagrams : frames_of opening (d1 ∷ d2 ∷ d1 ∷ []) ≡ record { format = f1; cells = (Value 128 ∷ Contested ∷ Value 128 ∷ Value 17 ∷ Value 128 ∷ Value 18 ∷ Value 128 ∷ Value 19 ∷ []) ++ missing_row } ∷ []
-unfolding place place_in_row bits number pieces values_in header_of headers_at payload_at rtp_at admitted_at
+unfolding place place_in_row bits number pieces values_in header_of headers_at payload_walk rtp_walk datagram_walk
 two_datagrams = refl

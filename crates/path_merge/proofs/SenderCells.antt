@@ -20,7 +20,7 @@ use Rattle.st_format.proofs.Members.{member-map, member-filter, member-flat_map,
 use Rattle.st_format.proofs.Cells.{is_cell, is_for-true}
 use Rattle.st_format.proofs.Numbering.{number_of-place}
 use Rattle.st_format.proofs.Rasters.{length-cells_of, get_or-cells_of}
-use Rattle.payload_header.specs.Reading.{payload_at}
+use Rattle.payload_header.specs.Reading.{payload_walk}
 use Rattle.rtp_header.specs.declared.header.RtpFault.{RtpFault}
 use Rattle.rtp_header.specs.Grammar.{Rtp, IsRtp}
 use Rattle.rtp_header.proofs.Again.{rtp_again}
@@ -30,7 +30,7 @@ use Rattle.packet_plan.specs.Sent.{sample, AreSent, IsSentPicture}
 use Rattle.packet_plan.specs.Sender.{Sender, stamp_of, SendsFrom, IsSenderList}
 use Rattle.path_merge.specs.declared.answer.Refusal.TheVariants.{WrongPayloadType, WrongSource}
 use Rattle.path_merge.specs.Opening.{Opening}
-use Rattle.path_merge.specs.Admission.{admitted_at, ◌>>=◌, by_header, by_payload, checked, is_other}
+use Rattle.path_merge.specs.Admission.{datagram_walk, ◌>>=◌, by_header, by_payload, checked, is_other}
 use Rattle.path_merge.specs.Offers.{offers, offers_of}
 use Rattle.path_merge.specs.Frames.{frames_of, frame_at, cell_if}
 use Rattle.path_merge.specs.Sender.{IsOpenFor, AreAmong, picture_raster, frame_cell, IsSendersValue, IsSendersCell, IsSentAmong}
@@ -69,17 +69,17 @@ timestamps-differ f base j k lj lk e =
 
 -- ---- a datagram of another type or source offers nothing
 
-nothing_read : (o : Opening) (r : Rtp) (t s : Bool) → (t && not s) ≡ false → offers_of o.format (cond (not t) (Err WrongPayloadType) (cond s (Err WrongSource) (Ok r)) >>= λ w. by_payload (payload_at o.format w.payload) >>= by_rtp w) ≡ []
+nothing_read : (o : Opening) (r : Rtp) (t s : Bool) → (t && not s) ≡ false → offers_of o.format (cond (not t) (Err WrongPayloadType) (cond s (Err WrongSource) (Ok r)) >>= λ w. by_payload (payload_walk o.format w.payload) >>= by_rtp w) ≡ []
 nothing_read o r true true e = refl
 nothing_read o r true false e = absurd cc
 nothing_read o r false s e = refl
 
 other_offers : (o : Opening) (d : List ℕ) (r : Rtp) (t s : Bool) → IsRtp r d → eqb r.payload_type o.payload_type ≡ t → is_other o.ssrc r.ssrc ≡ s → (t && not s) ≡ false → offers o d ≡ []
-unfolding admitted_at
+unfolding datagram_walk
 other_offers o d r t s is e f none =
-    ap (λ (x : Result Rtp RtpFault). offers_of o.format (by_header x >>= λ q. checked o.payload_type o.ssrc q >>= λ w. by_payload (payload_at o.format w.payload) >>= by_rtp w)) (rtp_again r d is)
-    ∙ ap (λ (b : Bool). offers_of o.format (cond (not b) (Err WrongPayloadType) (cond (is_other o.ssrc r.ssrc) (Err WrongSource) (Ok r)) >>= λ w. by_payload (payload_at o.format w.payload) >>= by_rtp w)) e
-    ∙ ap (λ (b : Bool). offers_of o.format (cond (not t) (Err WrongPayloadType) (cond b (Err WrongSource) (Ok r)) >>= λ w. by_payload (payload_at o.format w.payload) >>= by_rtp w)) f
+    ap (λ (x : Result Rtp RtpFault). offers_of o.format (by_header x >>= λ q. checked o.payload_type o.ssrc q >>= λ w. by_payload (payload_walk o.format w.payload) >>= by_rtp w)) (rtp_again r d is)
+    ∙ ap (λ (b : Bool). offers_of o.format (cond (not b) (Err WrongPayloadType) (cond (is_other o.ssrc r.ssrc) (Err WrongSource) (Ok r)) >>= λ w. by_payload (payload_walk o.format w.payload) >>= by_rtp w)) e
+    ∙ ap (λ (b : Bool). offers_of o.format (cond (not t) (Err WrongPayloadType) (cond b (Err WrongSource) (Ok r)) >>= λ w. by_payload (payload_walk o.format w.payload) >>= by_rtp w)) f
     ∙ nothing_read o r t s none
 
 -- the header of a picture's datagram

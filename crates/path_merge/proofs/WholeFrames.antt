@@ -25,7 +25,7 @@ use Rattle.rtp_header.specs.Grammar.{AreOctets}
 use Rattle.path_merge.specs.declared.answer.Refusal.{Refusal}
 use Rattle.path_merge.specs.Opening.{Opening}
 use Rattle.path_merge.specs.Grammar.{Datagram, IsFor}
-use Rattle.path_merge.specs.Admission.{admitted_at}
+use Rattle.path_merge.specs.Admission.{datagram_walk}
 use Rattle.path_merge.specs.Offers.{offers, offers_of}
 use Rattle.path_merge.specs.Frames.{frames_of, frame_at}
 use Rattle.path_merge.specs.Sender.{IsOpenFor, AreAmong, AreAmongAt, offer_at, picture_raster}
@@ -160,7 +160,7 @@ in_all_time f ts (s ∷ ss) x m = elim (member_cases x (offers_in f ts s) (offer
 ]
 
 -- What offers something at a timestamp is a datagram of it.
-among_offers : (o : Opening) (ts : ℕ) (d : List ℕ) (ds : List (List ℕ)) (r : Result Datagram Refusal) → AreOctets d → admitted_at o.format o.payload_type o.ssrc d ≡ r
+among_offers : (o : Opening) (ts : ℕ) (d : List ℕ) (ds : List (List ℕ)) (r : Result Datagram Refusal) → AreOctets d → datagram_walk o.format o.payload_type o.ssrc d ≡ r
     → ((g : Datagram) → IsFor o d g → g.timestamp ≡ ts → IsMember d ds) → (x : Offer) → IsMember x (offers_of o.format r) → x.timestamp ≡ ts → IsMember d ds
 among_offers o ts d ds (Err e) fit read at x m h = absurd m
 among_offers o ts d ds (Ok g) fit read at x m h = at g (admitted_takes o d g fit read) (sym (in_all_time o.format g.timestamp g.segments x m) ∙ h)
@@ -173,6 +173,6 @@ pub frame-grammar : (o : Opening) (p : Values) (stamp : Stamp) (size : ℕ) (qs 
 frame-grammar o p stamp size qs ds xs opened inside whole is all fit others =
     let only : (x : Offer) → IsMember x (flat_map (offers o) xs) → x.timestamp ≡ stamp.timestamp → x.value ≡ value_at p x.position = λ x m e.
     let at = member-flat_map (offers o) x xs m in
-    let mine : IsMember at.0 ds = among_offers o stamp.timestamp at.0 ds (admitted_at o.format o.payload_type o.ssrc at.0) (fit at.0 at.1) refl (λ g f h. others at.0 g at.1 f h) x at.2 e in
+    let mine : IsMember at.0 ds = among_offers o stamp.timestamp at.0 ds (datagram_walk o.format o.payload_type o.ssrc at.0) (fit at.0 at.1) refl (λ g f h. others at.0 g at.1 f h) x at.2 e in
     (sent_offers o p stamp size qs ds opened is x (member_of_flat_map (offers o) at.0 x ds mine at.2)).1 in
     frame-raster o xs stamp.timestamp inside ∙ ap Some (whole_raster o p stamp size qs ds xs opened is whole all only)

@@ -1,13 +1,14 @@
--- A datagram read from the left, with the first refusal: the order of refusals is the order of the steps.
+-- A walk over a datagram from the left, as the code walks, which tells the first refusal: the order of
+-- refusals is the order of the steps.
 use Rattle.std.specs.Prelude.{◌≡◌, ℕ, ◌+◌, ◌*◌, Bool, false, not, ◌==◌, if◌then◌else◌, List, Option, Some, None, Result, Ok, Err}
 use Rattle.st_format.specs.declared.format.Format.{Format}
 use Rattle.st_format.specs.Raster.{Segment}
 use Rattle.payload_header.specs.declared.payload.PayloadFault.{PayloadFault}
-use Rattle.payload_header.specs.Reading.{payload_at}
+use Rattle.payload_header.specs.Reading.{payload_walk}
 use Rattle.payload_header.specs.View.{segments_of}
 use Rattle.rtp_header.specs.declared.header.RtpFault.{RtpFault}
 use Rattle.rtp_header.specs.Grammar.{Rtp}
-use Rattle.rtp_header.specs.Reading.{rtp_at}
+use Rattle.rtp_header.specs.Reading.{rtp_walk}
 use Rattle.path_merge.specs.declared.answer.Refusal.{Refusal}
 use Rattle.path_merge.specs.declared.answer.Refusal.TheVariants.{Header, WrongPayloadType, WrongSource, Payload}
 use Rattle.path_merge.specs.declared.admitting.Admitted.{Admitted}
@@ -51,11 +52,11 @@ datagram_with rtp payload = record {
 }
 
 -- What octets say to a receiver of this format, payload type and pinned source, or the first refusal
-unfoldable pub admitted_at : Format → ℕ → Option ℕ → List ℕ → Result Datagram Refusal
-admitted_at format payload_type ssrc octets = do
-  read ← by_header (rtp_at octets)
+unfoldable pub datagram_walk : Format → ℕ → Option ℕ → List ℕ → Result Datagram Refusal
+datagram_walk format payload_type ssrc octets = do
+  read ← by_header (rtp_walk octets)
   rtp ← checked payload_type ssrc read
-  payload ← by_payload (payload_at format rtp.payload)
+  payload ← by_payload (payload_walk format rtp.payload)
   Ok (datagram_with rtp payload)
 
 -- what the code keeps of a datagram that it admits

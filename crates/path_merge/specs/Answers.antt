@@ -18,7 +18,7 @@ use Rattle.path_merge.specs.declared.fault.SlideFault.TheVariants.{InWindow, Oth
 use Rattle.path_merge.specs.declared.receiving.ReceiveFault.{ReceiveFault}
 use Rattle.path_merge.specs.Opening.{Opening}
 use Rattle.path_merge.specs.Grammar.{Datagram}
-use Rattle.path_merge.specs.Admission.{admitted_at, ◌>>=◌}
+use Rattle.path_merge.specs.Admission.{datagram_walk, ◌>>=◌}
 
 -- the window's word on a datagram that is for the receiver (own)
 abbrev pub taken : List ℕ → Datagram → Taken
@@ -26,7 +26,7 @@ taken window d = if list_any (λ t. t == d.timestamp) window then Kept d.number 
 
 -- what take answers: the first refusal, or the window's word
 abbrev pub taken_at : Opening → List ℕ → Result Taken Refusal
-taken_at o octets = admitted_at o.format o.payload_type o.ssrc octets >>= λ d. Ok (taken o.window d)
+taken_at o octets = datagram_walk o.format o.payload_type o.ssrc octets >>= λ d. Ok (taken o.window d)
 
 -- the last 64 of a list
 abbrev pub last_64 : {X : Type 0} → List X → List X

@@ -1,6 +1,6 @@
 //! Which datagrams are for a receiver.
 ghost use Rattle.std.specs.Prelude.{◌≡◌, IfOk};
-ghost use Rattle.path_merge.specs.Admission.{Gives, admitted_at, datagram_of};
+ghost use Rattle.path_merge.specs.Admission.{Gives, datagram_walk, datagram_of};
 
 use crate::answer::Refusal;
 use payload_header::{PayloadView, read_payload};
@@ -16,14 +16,14 @@ pub struct Admitted<'a> {
 
 /// What a datagram says to a receiver of this format, payload type and pinned source, or the first
 /// refusal.
-#[tactic(auto, unfolding(crate::specs::Admission::admitted_at))]
+#[tactic(auto, unfolding(crate::specs::Admission::datagram_walk))]
 pub fn admit<'a>(
     format: &Format,
     payload_type: u8,
     ssrc: Option<u32>,
     octets: &'a [u8],
 ) -> Result<Admitted<'a>, Refusal>
-    ensures exact { Gives datagram_of result (admitted_at format.now payload_type ssrc octets.now) }
+    ensures exact { Gives datagram_of result (datagram_walk format.now payload_type ssrc octets.now) }
     ensures format { IfOk result (λ a. a.payload.format ≡ format.now) }
 {
     let header = read_rtp(octets)?;

@@ -10,7 +10,7 @@ use Rattle.st_format.specs.Raster.{Segment}
 use Rattle.payload_header.specs.declared.payload.PayloadFault.{PayloadFault}
 use Rattle.payload_header.specs.declared.payload.PayloadFault.TheVariants.{ShortPayloadHeader, ShortData, SecondField, BadLength, BadOffset, RowOutside, ColumnsOutside}
 use Rattle.payload_header.specs.Payload.{group_of, Header, HeaderFits, header_text, IsChain, IsInside, Describes, IsPayload, most_segments}
-use Rattle.payload_header.specs.Reading.{◌>>=◌, first_of, number_at, header_of, headers_at, headers_fault, option_or, fault_or, segments_at, octets_of, data_at, payload_at, Gives}
+use Rattle.payload_header.specs.Reading.{◌>>=◌, first_of, number_at, header_of, headers_at, headers_fault, option_or, fault_or, segments_at, octets_of, data_at, payload_walk, Gives}
 use Rattle.std.specs.Prelude.{IfOk}
 use Rattle.payload_header.specs.declared.payload.PayloadView.{PayloadView}
 use Rattle.payload_header.specs.View.{said, segments_of}
@@ -162,26 +162,26 @@ number_again n rest lt =
     ∙ ap (λ (k : ℕ). number_rest k rest) (from_be_bytes-to_be_bytes_2 n lt)
 
 -- What is in the grammar is read.
-pub payload_again : (f : Format) (extended : ℕ) (segments : List Segment) (octets : List ℕ) → IsPayload f extended segments octets → payload_at f octets ≡ Ok (extended, segments)
-unfolding payload_at
+pub payload_again : (f : Format) (extended : ℕ) (segments : List Segment) (octets : List ℕ) → IsPayload f extended segments octets → payload_walk f octets ≡ Ok (extended, segments)
+unfolding payload_walk
 payload_again f extended segments octets is =
     let later : List ℕ = all_octets segments ++ is.rest in
     let behind : List ℕ = flat_map header_text is.headers ++ later in
     let enough : ltb (length later) (octets_of is.headers) ≡ false = le-ltb _ _ (omega (arith, lengths f is.headers segments is.described, length-append (all_octets segments) is.rest)) in
     let cut : data_at is.headers later ≡ Ok segments = ap (λ (b : Bool). cond b (Err ShortData) (Ok (segments_at is.headers later))) enough ∙ ap (λ (ss : List Segment). Ok ss) (segments_again f is.headers segments is.rest is.described) in
-    ap (payload_at f) is.whole
+    ap (payload_walk f) is.whole
     ∙ ap (λ (r : Result (ℕ × List ℕ) PayloadFault). r >>= λ x. headers_at most_segments x.1 >>= λ hs. fault_or (headers_fault f hs.0) (data_at hs.0 hs.1) >>= λ ss. Ok (x.0, ss)) (number_again extended behind is.extended_fits)
     ∙ ap (λ (r : Read). r >>= λ hs. fault_or (headers_fault f hs.0) (data_at hs.0 hs.1) >>= λ ss. Ok (extended, ss)) (headers_again most_segments is.headers later is.chain is.few is.headers_fit)
     ∙ ap (λ (o : Option PayloadFault). fault_or o (data_at is.headers later) >>= λ ss. Ok (extended, ss)) (no_faults f is.headers segments is.described)
     ∙ ap (λ (r : Result (List Segment) PayloadFault). r >>= λ ss. Ok (extended, ss)) cut
 
 -- The clauses of a reader that gives what reading gives
-pub is_found : (f : Format) (octets : List ℕ) (r : Result PayloadView PayloadFault) → IsBytes octets → Gives said r (payload_at f octets)
+pub is_found : (f : Format) (octets : List ℕ) (r : Result PayloadView PayloadFault) → IsBytes octets → Gives said r (payload_walk f octets)
     → IfOk r (λ v. IsPayload f v.extended (segments_of v) octets)
 is_found f octets (Ok v) bytes gives = payload_takes f octets (v.extended, segments_of v) bytes gives
 is_found f octets (Err e) bytes gives = tt
 
-pub is_only : (f : Format) (octets : List ℕ) (r : Result PayloadView PayloadFault) → Gives said r (payload_at f octets)
+pub is_only : (f : Format) (octets : List ℕ) (r : Result PayloadView PayloadFault) → Gives said r (payload_walk f octets)
     → (extended : ℕ) (segments : List Segment) → IsPayload f extended segments octets → Gives said r (Ok (extended, segments))
 is_only f octets (Ok v) gives e ss is = sym (payload_again f e ss octets is) ∙ gives
 is_only f octets (Err x) gives e ss is = sym (payload_again f e ss octets is) ∙ gives

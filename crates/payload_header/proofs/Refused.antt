@@ -11,7 +11,7 @@ use Rattle.payload_header.specs.declared.payload.PayloadFault.{PayloadFault}
 use Rattle.payload_header.specs.declared.payload.PayloadFault.TheVariants.{ShortPayloadHeader, TooManySegments, SecondField, BadLength, BadOffset, RowOutside, ColumnsOutside, ShortData}
 use Rattle.payload_header.specs.declared.payload.PayloadView.{PayloadView}
 use Rattle.payload_header.specs.Payload.{Header, HeaderFits, header_text, most_segments}
-use Rattle.payload_header.specs.Reading.{◌>>=◌, number_at, header_of, headers_at, headers_fault, fault_or, segments_at, octets_of, data_at, payload_at, Gives}
+use Rattle.payload_header.specs.Reading.{◌>>=◌, number_at, header_of, headers_at, headers_fault, fault_or, segments_at, octets_of, data_at, payload_walk, Gives}
 use Rattle.payload_header.specs.Faults.{BeginsWith, AllGoOn, LacksHeader, GoesOn, HasHeaders, HasFault, LacksData, IsRefused}
 use Rattle.payload_header.specs.View.{said}
 use Rattle.payload_header.proofs.Taken.{IsBytes, IsBytes-drop, IsText, text_at, Heads, headers_take, IsNumber, number_take}
@@ -186,8 +186,8 @@ abbrev after_number : Format → ℕ × List ℕ → Result (ℕ × List Segment
 after_number f x = headers_at most_segments x.1 >>= after_headers f x.0
 
 -- What isn't read has a fault's condition.
-pub payload_refused : (f : Format) (octets : List ℕ) (fault : PayloadFault) → IsBytes octets → payload_at f octets ≡ Err fault → IsRefused f octets fault
-unfolding payload_at
+pub payload_refused : (f : Format) (octets : List ℕ) (fault : PayloadFault) → IsBytes octets → payload_walk f octets ≡ Err fault → IsRefused f octets fault
+unfolding payload_walk
 payload_refused f octets fault bytes e =
     elim (bind_err (number_at octets) (after_number f) fault e) [
       | inl stop ↦ let s = number_err octets fault (ltb (length octets) 2) refl _ stop in subst (IsRefused f octets) (sym s.0) (inl s.1)
@@ -221,41 +221,41 @@ headers_many (suc n) (h ∷ hs) more go_on fit as_many =
 
 -- what is read of octets that begin with headers
 begun : (f : Format) (octets : List ℕ) (headers : List Header) (more : List ℕ) (b : BeginsWith octets headers more)
-    → payload_at f octets ≡ (headers_at most_segments (flat_map header_text headers ++ more) >>= after_headers f b.extended)
-unfolding payload_at
+    → payload_walk f octets ≡ (headers_at most_segments (flat_map header_text headers ++ more) >>= after_headers f b.extended)
+unfolding payload_walk
 begun f octets headers more b =
-    ap (payload_at f) b.parts ∙ ap (λ (r : Result (ℕ × List ℕ) PayloadFault). r >>= after_number f) (number_again b.extended (flat_map header_text headers ++ more) b.extended_fits)
+    ap (payload_walk f) b.parts ∙ ap (λ (r : Result (ℕ × List ℕ) PayloadFault). r >>= after_number f) (number_again b.extended (flat_map header_text headers ++ more) b.extended_fits)
 
 pub begun_whole : (f : Format) (octets : List ℕ) (headers : List Header) (more : List ℕ) (whole : HasHeaders octets headers more)
-    → payload_at f octets ≡ after_headers f whole.begins.extended (headers, more)
+    → payload_walk f octets ≡ after_headers f whole.begins.extended (headers, more)
 begun_whole f octets headers more whole =
     begun f octets headers more whole.begins ∙ ap (λ (r : Read). r >>= after_headers f whole.begins.extended) (headers_again most_segments headers more whole.chain whole.few whole.begins.headers_fit)
 
-lacks_header : (f : Format) (octets : List ℕ) → LacksHeader octets → payload_at f octets ≡ Err ShortPayloadHeader
+lacks_header : (f : Format) (octets : List ℕ) → LacksHeader octets → payload_walk f octets ≡ Err ShortPayloadHeader
 lacks_header f octets l =
     begun f octets l.headers l.more l.begins ∙ ap (λ (r : Read). r >>= after_headers f l.begins.extended) (headers_short most_segments l.headers l.more l.go_on l.begins.headers_fit l.few l.short)
 
-goes_on : (f : Format) (octets : List ℕ) → GoesOn octets → payload_at f octets ≡ Err TooManySegments
+goes_on : (f : Format) (octets : List ℕ) → GoesOn octets → payload_walk f octets ≡ Err TooManySegments
 goes_on f octets g =
     begun f octets g.headers g.more g.begins ∙ ap (λ (r : Read). r >>= after_headers f g.begins.extended) (headers_many most_segments g.headers g.more g.go_on g.begins.headers_fit g.as_many)
 
-has_fault : (f : Format) (octets : List ℕ) (fault : PayloadFault) → HasFault f octets fault → payload_at f octets ≡ Err fault
+has_fault : (f : Format) (octets : List ℕ) (fault : PayloadFault) → HasFault f octets fault → payload_walk f octets ≡ Err fault
 has_fault f octets fault h =
     let headers : List Header = h.before ++ h.header ∷ h.after in
     begun_whole f octets headers h.more h.whole
     ∙ ap (λ (o : Option PayloadFault). fault_or o (data_at headers h.more) >>= with_number h.whole.begins.extended) (fault_told f h.before h.header h.after fault h.sound h.has)
 
-lacks_data : (f : Format) (octets : List ℕ) → LacksData f octets → payload_at f octets ≡ Err ShortData
+lacks_data : (f : Format) (octets : List ℕ) → LacksData f octets → payload_walk f octets ≡ Err ShortData
 lacks_data f octets l =
     begun_whole f octets l.headers l.more l.whole
     ∙ ap (λ (o : Option PayloadFault). fault_or o (data_at l.headers l.more) >>= with_number l.whole.begins.extended) (all_quiet f l.headers l.sound)
     ∙ ap (λ (b : Bool). cond b (Err ShortData) (Ok (segments_at l.headers l.more)) >>= with_number l.whole.begins.extended) (lt-ltb (length l.more) (octets_of l.headers) l.short)
 
-no_number : (f : Format) (octets : List ℕ) → length octets < 2 → payload_at f octets ≡ Err ShortPayloadHeader
-unfolding payload_at
+no_number : (f : Format) (octets : List ℕ) → length octets < 2 → payload_walk f octets ≡ Err ShortPayloadHeader
+unfolding payload_walk
 no_number f octets lt = rw (lt-ltb (length octets) 2 lt) refl
 
-pub refused_payload : (f : Format) (octets : List ℕ) (fault : PayloadFault) → IsRefused f octets fault → payload_at f octets ≡ Err fault
+pub refused_payload : (f : Format) (octets : List ℕ) (fault : PayloadFault) → IsRefused f octets fault → payload_walk f octets ≡ Err fault
 refused_payload f octets ShortPayloadHeader (inl lt) = no_number f octets lt
 refused_payload f octets ShortPayloadHeader (inr lacks) = lacks_header f octets lacks
 refused_payload f octets TooManySegments is = goes_on f octets is
@@ -267,7 +267,7 @@ refused_payload f octets ColumnsOutside is = has_fault f octets ColumnsOutside i
 refused_payload f octets ShortData is = lacks_data f octets is
 
 -- The clause of a reader that gives what reading gives
-pub is_refused : (f : Format) (octets : List ℕ) (r : Result PayloadView PayloadFault) → IsBytes octets → Gives said r (payload_at f octets)
+pub is_refused : (f : Format) (octets : List ℕ) (r : Result PayloadView PayloadFault) → IsBytes octets → Gives said r (payload_walk f octets)
     → (fault : PayloadFault) → (r ≡ Err fault) ↔ IsRefused f octets fault
 is_refused f octets (Ok v) bytes gives fault = (λ e. absurd cc, λ is. let e = refused_payload f octets fault is in absurd cc)
 is_refused f octets (Err d) bytes gives fault = (

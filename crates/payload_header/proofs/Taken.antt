@@ -11,7 +11,7 @@ use Rattle.st_format.specs.Raster.{Segment}
 use Rattle.payload_header.specs.declared.payload.PayloadFault.{PayloadFault}
 use Rattle.payload_header.specs.declared.payload.PayloadFault.TheVariants.{ShortPayloadHeader, ShortData}
 use Rattle.payload_header.specs.Payload.{Header, HeaderFits, flagged, header_text, IsChain, IsPayload, most_segments}
-use Rattle.payload_header.specs.Reading.{◌>>=◌, number_at, header_of, headers_at, headers_fault, fault_or, segments_at, octets_of, data_at, payload_at}
+use Rattle.payload_header.specs.Reading.{◌>>=◌, number_at, header_of, headers_at, headers_fault, fault_or, segments_at, octets_of, data_at, payload_walk}
 use Rattle.payload_header.proofs.Grammar.{all_described, octets_of-cons}
 
 abbrev pub IsBytes : List ℕ → Type 0
@@ -184,8 +184,8 @@ number_take octets y bytes e =
     })
 
 -- What is read is in the grammar.
-pub payload_takes : (f : Format) (octets : List ℕ) (y : ℕ × List Segment) → IsBytes octets → payload_at f octets ≡ Ok y → IsPayload f y.0 y.1 octets
-unfolding payload_at
+pub payload_takes : (f : Format) (octets : List ℕ) (y : ℕ × List Segment) → IsBytes octets → payload_walk f octets ≡ Ok y → IsPayload f y.0 y.1 octets
+unfolding payload_walk
 payload_takes f octets y bytes e =
     let a = bind_ok (number_at octets) (λ x. headers_at most_segments x.1 >>= λ hs. fault_or (headers_fault f hs.0) (data_at hs.0 hs.1) >>= λ ss. Ok (x.0, ss)) y e in
     let b = bind_ok (headers_at most_segments a.0.1) (λ hs. fault_or (headers_fault f hs.0) (data_at hs.0 hs.1) >>= λ ss. Ok (a.0.0, ss)) y a.2 in

@@ -1,4 +1,6 @@
--- A payload read from the left, with the first fault (RFC 4175, 4.2 and 4.3; the order of the tests is own).
+-- A walk over a payload from the left, as the code walks, which tells the first fault (RFC 4175, 4.2
+-- and 4.3; the order of the tests is own). What a payload is says Payload, and which octets have a
+-- fault says Faults; laws join the three.
 use Rattle.std.specs.Prelude.{◌≡◌, ℕ, zero, suc, ◌+◌, ◌*◌, ◌/◌, ◌%◌, ◌^◌, Bool, not, nat_lt, nat_le, ◌==◌, if◌then◌else◌, List, [], ◌∷◌, length, take, drop, sum_by, Option, Some, None, Result, Ok, Err}
 use Rattle.std.specs.Int.{w16, from_be_bytes}
 use Rattle.st_format.specs.declared.format.Format.{Format}
@@ -77,9 +79,9 @@ octets_of hs = sum_by (λ h. h.octets) hs
 abbrev pub data_at : List Header → List ℕ → Result (List Segment) PayloadFault
 data_at hs octets = if nat_lt (length octets) (octets_of hs) then Err ShortData else Ok (segments_at hs octets)
 
--- the extended number and the segments, or the first fault
-unfoldable pub payload_at : Format → List ℕ → Result (ℕ × List Segment) PayloadFault
-payload_at f octets = do
+-- The walk: the extended number and the segments, or the first fault.
+unfoldable pub payload_walk : Format → List ℕ → Result (ℕ × List Segment) PayloadFault
+payload_walk f octets = do
   extended ← number_at octets
   headers ← headers_at most_segments extended.1
   segments ← fault_or (headers_fault f headers.0) (data_at headers.0 headers.1)

@@ -4,7 +4,7 @@ ghost use Rattle.st_format.specs.declared.format.Format.{Format};
 ghost use Rattle.st_format.specs.Raster.{Segment};
 ghost use Rattle.payload_header.specs.declared.payload.PayloadFault.{PayloadFault};
 ghost use Rattle.payload_header.specs.Payload.{IsPayload};
-ghost use Rattle.payload_header.specs.Reading.{payload_at};
+ghost use Rattle.payload_header.specs.Reading.{payload_walk};
 ghost use Rattle.payload_header.specs.Faults.{IsRefused};
 ghost use Rattle.st_format.specs.Device.{AreOctets};
 ghost use Rattle.payload_header.specs.declared.writing.SegmentHead.{SegmentHead};
@@ -34,7 +34,7 @@ pub fn refused_once()
 
 /// Reading from the left tells a fault exactly where its condition holds.
 pub fn fault_exactly()
-    ensures { (f : Format) (octets : List ℕ) (fault : PayloadFault) → AreOctets octets → (payload_at f octets ≡ Err fault) ↔ IsRefused f octets fault }
+    ensures { (f : Format) (octets : List ℕ) (fault : PayloadFault) → AreOctets octets → (payload_walk f octets ≡ Err fault) ↔ IsRefused f octets fault }
 {}
 
 /// The front that heads announce, with their segments' octets behind it, is a payload with these

@@ -5,7 +5,7 @@ ghost use Rattle.payload_header.specs.Faults.{IsRefused};
 ghost use Rattle.payload_header.specs.View.{said, segments_of};
 ghost use Rattle.payload_header.specs.Payload.{IsPayload, seen};
 ghost use Rattle.st_format.specs.Raster.{Segment as SegmentText};
-ghost use Rattle.payload_header.specs.Reading.{Gives, fields, header_fault, header_of, headers_at, headers_fault, octets_of, payload_at, segments_at};
+ghost use Rattle.payload_header.specs.Reading.{Gives, fields, header_fault, header_of, headers_at, headers_fault, octets_of, payload_walk, segments_at};
 
 use crate::payload::{PayloadFault, PayloadView, Segment};
 use arrayvec::ArrayVec;
@@ -132,9 +132,9 @@ fn segments_in<'a>(headers: &[Header], rest_of: &'a [u8]) -> ArrayVec<Segment<'a
 }
 
 /// What reading from the left gives.
-#[tactic(auto, unfolding(crate::specs::Reading::payload_at))]
+#[tactic(auto, unfolding(crate::specs::Reading::payload_walk))]
 fn read<'a>(format: &Format, octets: &'a [u8]) -> Result<PayloadView<'a>, PayloadFault>
-    ensures exact { Gives said result (payload_at format.now octets.now) }
+    ensures exact { Gives said result (payload_walk format.now octets.now) }
     ensures format { IfOk result (λ v. v.format ≡ format.now) }
 {
     if octets.len() < 2 {
@@ -181,8 +181,8 @@ pub fn read_payload<'a>(format: &Format, octets: &'a [u8]) -> Result<PayloadView
         → Gives said result (Ok (extended, segments)) }
     // Each fault comes exactly where its condition holds.
     ensures refused { (fault : PayloadFault) → (result ≡ Err fault) ↔ IsRefused format.now octets.now fault }
-    // The same, read from the left.
-    ensures exact { Gives said result (payload_at format.now octets.now) }
+    // The answer as a walk over the octets, for the walks that go on from it.
+    ensures exact { Gives said result (payload_walk format.now octets.now) }
     ensures format { IfOk result (λ v. v.format ≡ format.now) }
 {
     read(format, octets)

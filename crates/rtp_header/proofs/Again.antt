@@ -8,7 +8,7 @@ use Rattle.std.proofs.lemmas.Nat.{from_be_bytes-to_be_bytes_2, from_be_bytes-to_
 use Rattle.rtp_header.specs.declared.header.RtpFault.{RtpFault}
 use Rattle.rtp_header.specs.declared.header.RtpFault.TheVariants.{ShortHeader, BadVersion, ShortExtension, BadPadding}
 use Rattle.rtp_header.specs.Grammar.{AreOctets, Rtp, Flags, bit, fixed_text, IsExtensionIf, IsPaddingIf, IsRtp}
-use Rattle.rtp_header.specs.Reading.{◌>>=◌, behind, behind_extension, without_padding, fields_of, fixed_at, rtp_at, Gives}
+use Rattle.rtp_header.specs.Reading.{◌>>=◌, behind, behind_extension, without_padding, fields_of, fixed_at, rtp_walk, Gives}
 use Rattle.rtp_header.specs.Views.{seen}
 use Rattle.rtp_header.specs.declared.header.RtpView.{RtpView}
 use Rattle.rtp_header.proofs.Taken.{rtp_takes}
@@ -104,15 +104,15 @@ fixed_again g r tail few =
     ∙ ap (λ (b : Bool). cond (not b) (Err BadVersion) (ok_list tail)) version
 
 -- What is in the grammar of headers is read.
-pub rtp_again : (r : Rtp) (octets : List ℕ) → IsRtp r octets → rtp_at octets ≡ Ok r
-unfolding rtp_at
+pub rtp_again : (r : Rtp) (octets : List ℕ) → IsRtp r octets → rtp_walk octets ≡ Ok r
+unfolding rtp_walk
 rtp_again r octets is =
     let g : Flags = is.flags in
     let o : ℕ = first g.padded g.extended g.sources in
     let f = first_of g.padded g.extended g.sources is.few_sources in
     let tail : List ℕ = is.source_list ++ (is.extension ++ (r.payload ++ is.padding)) in
     let whole : List ℕ = fixed_text g r ++ tail in
-    ap rtp_at is.whole
+    ap rtp_walk is.whole
     ∙ ap (λ (a : Result (List ℕ) RtpFault). a >>= λ words. behind (4 * (o % 16)) words >>= λ x. behind_extension (eqb (o / 16 % 2) 1) x >>= λ z. without_padding (eqb (o / 32 % 2) 1) z >>= λ w. Ok (fields_of whole w)) (fixed_again g r tail is.few_sources)
     ∙ ap (λ (n : ℕ). behind (4 * n) tail >>= λ x. behind_extension (eqb (o / 16 % 2) 1) x >>= λ z. without_padding (eqb (o / 32 % 2) 1) z >>= λ w. Ok (fields_of whole w)) f.sources
     ∙ ap (λ (a : Result (List ℕ) RtpFault). a >>= λ x. behind_extension (eqb (o / 16 % 2) 1) x >>= λ z. without_padding (eqb (o / 32 % 2) 1) z >>= λ w. Ok (fields_of whole w)) (behind_again (4 * g.sources) is.source_list (is.extension ++ (r.payload ++ is.padding)) is.sources)
@@ -123,17 +123,17 @@ rtp_again r octets is =
     ∙ ap (λ (q : Rtp). Ok q) (fields_again g r tail is.payload_type is.sequence is.timestamp is.ssrc)
 
 -- The clauses of a reader that gives what reading gives
-pub is_found : (octets : List ℕ) (r : Result RtpView RtpFault) → AreOctets octets → Gives seen r (rtp_at octets) → IfOk r (λ v. IsRtp (seen v) octets)
+pub is_found : (octets : List ℕ) (r : Result RtpView RtpFault) → AreOctets octets → Gives seen r (rtp_walk octets) → IfOk r (λ v. IsRtp (seen v) octets)
 is_found octets (Ok v) bytes gives = rtp_takes octets (seen v) bytes gives
 is_found octets (Err e) bytes gives = tt
 
 ok_is : (r q : Rtp) → rtp_ok r ≡ rtp_ok q → r ≡ q
 ok_is r q e = cc
 
-pub is_only : (octets : List ℕ) (r : Result RtpView RtpFault) → Gives seen r (rtp_at octets) → (q : Rtp) → IsRtp q octets → IsOkAnd r (λ v. seen v ≡ q)
+pub is_only : (octets : List ℕ) (r : Result RtpView RtpFault) → Gives seen r (rtp_walk octets) → (q : Rtp) → IsRtp q octets → IsOkAnd r (λ v. seen v ≡ q)
 is_only octets (Ok v) gives q is = ok_is (seen v) q (sym gives ∙ rtp_again q octets is)
-is_only octets (Err e) gives q is = let again : rtp_at octets ≡ Ok q = rtp_again q octets is in absurd cc
+is_only octets (Err e) gives q is = let again : rtp_walk octets ≡ Ok q = rtp_again q octets is in absurd cc
 
-pub is_none : (octets : List ℕ) (r : Result RtpView RtpFault) → Gives seen r (rtp_at octets) → IfErr r (λ e. (q : Rtp) → IsRtp q octets → ⊥)
+pub is_none : (octets : List ℕ) (r : Result RtpView RtpFault) → Gives seen r (rtp_walk octets) → IfErr r (λ e. (q : Rtp) → IsRtp q octets → ⊥)
 is_none octets (Ok v) gives = tt
-is_none octets (Err e) gives = λ q is. let again : rtp_at octets ≡ Ok q = rtp_again q octets is in absurd cc
+is_none octets (Err e) gives = λ q is. let again : rtp_walk octets ≡ Ok q = rtp_again q octets is in absurd cc

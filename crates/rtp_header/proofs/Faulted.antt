@@ -8,7 +8,7 @@ use Rattle.rtp_header.specs.declared.header.RtpFault.{RtpFault}
 use Rattle.rtp_header.specs.declared.header.RtpFault.TheVariants.{ShortHeader, BadVersion, ShortExtension, BadPadding}
 use Rattle.rtp_header.specs.declared.header.RtpView.{RtpView}
 use Rattle.rtp_header.specs.Grammar.{Rtp}
-use Rattle.rtp_header.specs.Reading.{◌>>=◌, behind, behind_extension, without_padding, fields_of, rtp_at, Gives}
+use Rattle.rtp_header.specs.Reading.{◌>>=◌, behind, behind_extension, without_padding, fields_of, rtp_walk, Gives}
 use Rattle.rtp_header.specs.Faults.{HasFault, IsShortExtension, IsBadPadding, version_of, IsPadded, sources_end, extension_words, headers_end, last_octet}
 use Rattle.rtp_header.specs.Views.{seen}
 
@@ -183,8 +183,8 @@ fixed_stands octets false true es ev =
     sources_stand octets (ltb (length (drop 12 octets)) (4 * (get_or octets 0 0 % 16))) (eqb (get_or octets 0 0 / 16 % 2) 1) (eqb (get_or octets 0 0 / 32 % 2) 1)
     (ltb-false (length octets) 12 es) (eqb-true (get_or octets 0 0 / 64) 2 ev) refl refl refl
 
-rtp_stands : (octets : List ℕ) → Stands octets (rtp_at octets)
-unfolding rtp_at
+rtp_stands : (octets : List ℕ) → Stands octets (rtp_walk octets)
+unfolding rtp_walk
 rtp_stands octets = fixed_stands octets (ltb (length octets) 12) (eqb (get_or octets 0 0 / 64) 2) refl refl
 
 -- ---- one fault at most stands in the octets
@@ -223,8 +223,8 @@ told e octets (Ok r) stands h = absurd (not_faulted e octets stands h)
 told e octets (Err d) stands h = ap (λ (x : RtpFault). rtp_err x) (unlike d e octets stands h)
 
 -- A fault is told exactly where it stands in the octets.
-pub rtp_faulted : (e : RtpFault) (octets : List ℕ) → (rtp_at octets ≡ Err e) ↔ HasFault e octets
-rtp_faulted e octets = (λ (h : rtp_at octets ≡ Err e). subst (Stands octets) h (rtp_stands octets), told e octets (rtp_at octets) (rtp_stands octets))
+pub rtp_faulted : (e : RtpFault) (octets : List ℕ) → (rtp_walk octets ≡ Err e) ↔ HasFault e octets
+rtp_faulted e octets = (λ (h : rtp_walk octets ≡ Err e). subst (Stands octets) h (rtp_stands octets), told e octets (rtp_walk octets) (rtp_stands octets))
 
 err_is : (d e : RtpFault) → rtp_err d ≡ rtp_err e → d ≡ e
 err_is d e h = cc
@@ -232,15 +232,15 @@ err_is d e h = cc
 view_err : (d e : RtpFault) → view_of d ≡ view_of e → d ≡ e
 view_err d e h = cc
 
-from_view : (e : RtpFault) (octets : List ℕ) (r : Result RtpView RtpFault) → Gives seen r (rtp_at octets) → IsErrOf r e → rtp_at octets ≡ Err e
+from_view : (e : RtpFault) (octets : List ℕ) (r : Result RtpView RtpFault) → Gives seen r (rtp_walk octets) → IsErrOf r e → rtp_walk octets ≡ Err e
 from_view e octets (Ok v) gives is = absurd cc
 from_view e octets (Err d) gives is = gives ∙ ap rtp_err (view_err d e is)
 
-to_view : (e : RtpFault) (octets : List ℕ) (r : Result RtpView RtpFault) → Gives seen r (rtp_at octets) → rtp_at octets ≡ Err e → IsErrOf r e
+to_view : (e : RtpFault) (octets : List ℕ) (r : Result RtpView RtpFault) → Gives seen r (rtp_walk octets) → rtp_walk octets ≡ Err e → IsErrOf r e
 to_view e octets (Ok v) gives is = absurd cc
 to_view e octets (Err d) gives is = ap view_of (err_is d e (sym gives ∙ is))
 
-pub is_faulted : (e : RtpFault) (octets : List ℕ) (r : Result RtpView RtpFault) → Gives seen r (rtp_at octets) → IsErrOf r e ↔ HasFault e octets
+pub is_faulted : (e : RtpFault) (octets : List ℕ) (r : Result RtpView RtpFault) → Gives seen r (rtp_walk octets) → IsErrOf r e ↔ HasFault e octets
 is_faulted e octets r gives =
     let law = rtp_faulted e octets in
     (λ (is : IsErrOf r e). law.0 (from_view e octets r gives is), λ (h : HasFault e octets). to_view e octets r gives (law.1 h))

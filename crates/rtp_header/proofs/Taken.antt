@@ -9,7 +9,7 @@ use Rattle.rtp_header.proofs.Octets.{AreOctets-drop, AreOctets-take}
 use Rattle.rtp_header.specs.declared.header.RtpFault.{RtpFault}
 use Rattle.rtp_header.specs.declared.header.RtpFault.TheVariants.{ShortHeader, BadVersion, ShortExtension, BadPadding}
 use Rattle.rtp_header.specs.Grammar.{AreOctets, Rtp, Flags, bit, fixed_text, IsExtension, IsExtensionIf, IsPaddingIf, IsRtp}
-use Rattle.rtp_header.specs.Reading.{◌>>=◌, behind, behind_extension, without_padding, fields_of, fixed_at, rtp_at}
+use Rattle.rtp_header.specs.Reading.{◌>>=◌, behind, behind_extension, without_padding, fields_of, fixed_at, rtp_walk}
 
 bind_ok : {A B : Type 0} (r : Result A RtpFault) (f : A → Result B RtpFault) (y : B) → (r >>= f) ≡ Ok y → (x : A) × (r ≡ Ok x) × (f x ≡ Ok y)
 bind_ok (Ok x) f y e = (x, refl, e)
@@ -163,8 +163,8 @@ two_below : (bs : List ℕ) → AreOctets bs → from_be_bytes w16 bs < 2 ^ 16
 two_below bs bytes = omega (arith, bytes 0, bytes 1)
 
 -- What is read is in the grammar of headers.
-pub rtp_takes : (octets : List ℕ) (y : Rtp) → AreOctets octets → rtp_at octets ≡ Ok y → IsRtp y octets
-unfolding rtp_at
+pub rtp_takes : (octets : List ℕ) (y : Rtp) → AreOctets octets → rtp_walk octets ≡ Ok y → IsRtp y octets
+unfolding rtp_walk
 rtp_takes octets y bytes e =
     let o : ℕ = get_or octets 0 0 in
     let px : Bool = eqb (o / 16 % 2) 1 in

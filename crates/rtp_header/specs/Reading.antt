@@ -1,5 +1,6 @@
--- An RTP header read from the left, with the first fault: which fault is told. What a datagram is
--- says Grammar, and what stands in octets that have a fault says Faults; laws join the three.
+-- A walk over an RTP header from the left, as the code walks, which tells the first fault. What a
+-- datagram is says Grammar, and what stands in octets that have a fault says Faults; laws join the
+-- three, so nobody has to believe the walk.
 use Rattle.std.specs.Prelude.{◌≡◌, ℕ, ◌+◌, ◌-◌, ◌*◌, ◌/◌, ◌%◌, Bool, true, false, ◌||◌, not, nat_lt, nat_le, ◌==◌, if◌then◌else◌, List, length, take, drop, slice_index, Result, Ok, Err}
 use Rattle.std.specs.Int.{w16, w32, from_be_bytes}
 use Rattle.rtp_header.specs.declared.header.RtpFault.{RtpFault}
@@ -44,9 +45,9 @@ fixed_at octets =
     if nat_lt (length octets) 12 then Err ShortHeader else
     (if not (slice_index octets 0 / 64 == 2) then Err BadVersion else Ok (drop 12 octets))
 
--- what the octets say, or the first fault
-unfoldable pub rtp_at : List ℕ → Result Rtp RtpFault
-rtp_at octets = do
+-- The walk: what the octets say, or the first fault.
+unfoldable pub rtp_walk : List ℕ → Result Rtp RtpFault
+rtp_walk octets = do
   words ← fixed_at octets
   extension ← behind (4 * (slice_index octets 0 % 16)) words
   padded ← behind_extension (slice_index octets 0 / 16 % 2 == 1) extension

@@ -4,7 +4,7 @@ ghost use Rattle.std.specs.Prelude.{◌≡◌, ◌⊎◌, ◌↔◌, ℕ, List, 
 ghost use Rattle.rtp_header.specs.declared.header.RtpFault.{RtpFault};
 ghost use Rattle.rtp_header.specs.Faults.{HasFault, IsBadPadding, IsBadVersion, IsShortExtension, IsShortHeader};
 ghost use Rattle.rtp_header.specs.Grammar.{AreOctets, IsRtp, Rtp};
-ghost use Rattle.rtp_header.specs.Reading.{rtp_at};
+ghost use Rattle.rtp_header.specs.Reading.{rtp_walk};
 
 /// Octets say one thing at most: a datagram has one reading (RFC 3550, 5.1).
 pub fn one_reading()
@@ -14,19 +14,19 @@ pub fn one_reading()
 /// Reading from the left answers what the octets say, exactly where they are in the grammar.
 pub fn read_in_grammar()
     ensures { (octets : List ℕ) (r : Rtp) → AreOctets octets →
-        (rtp_at octets ≡ Ok r) ↔ IsRtp r octets }
+        (rtp_walk octets ≡ Ok r) ↔ IsRtp r octets }
 {}
 
 /// Reading from the left tells each fault exactly where its condition stands in the octets.
 pub fn first_fault()
     ensures short_header { (octets : List ℕ) →
-        (rtp_at octets ≡ Err RtpFault.ShortHeader) ↔ IsShortHeader octets }
+        (rtp_walk octets ≡ Err RtpFault.ShortHeader) ↔ IsShortHeader octets }
     ensures bad_version { (octets : List ℕ) →
-        (rtp_at octets ≡ Err RtpFault.BadVersion) ↔ IsBadVersion octets }
+        (rtp_walk octets ≡ Err RtpFault.BadVersion) ↔ IsBadVersion octets }
     ensures short_extension { (octets : List ℕ) →
-        (rtp_at octets ≡ Err RtpFault.ShortExtension) ↔ IsShortExtension octets }
+        (rtp_walk octets ≡ Err RtpFault.ShortExtension) ↔ IsShortExtension octets }
     ensures bad_padding { (octets : List ℕ) →
-        (rtp_at octets ≡ Err RtpFault.BadPadding) ↔ IsBadPadding octets }
+        (rtp_walk octets ≡ Err RtpFault.BadPadding) ↔ IsBadPadding octets }
 {}
 
 /// Octets are a datagram, or one fault stands in them and no other.

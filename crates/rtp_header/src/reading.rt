@@ -2,7 +2,7 @@
 ghost use Rattle.std.specs.Prelude.{◌≡◌, ◌↔◌, ◌<◌, ℕ, length, IfErr, IfOk, IsErrOf, IsOkAnd};
 ghost use Rattle.rtp_header.specs.Grammar.{IsRtp, Rtp};
 ghost use Rattle.rtp_header.specs.Faults.{IsBadPadding, IsBadVersion, IsShortExtension, IsShortHeader};
-ghost use Rattle.rtp_header.specs.Reading.{Gives, behind, behind_extension, rtp_at, without_padding};
+ghost use Rattle.rtp_header.specs.Reading.{Gives, behind, behind_extension, rtp_walk, without_padding};
 ghost use Rattle.rtp_header.specs.Views.{seen};
 
 use crate::header::{FIXED, RtpFault, RtpView, VERSION};
@@ -51,9 +51,9 @@ fn strip_padding(padded: bool, octets: &[u8]) -> Result<&[u8], RtpFault>
 }
 
 /// What reading from the left gives.
-#[tactic(auto, unfolding(crate::specs::Reading::rtp_at))]
+#[tactic(auto, unfolding(crate::specs::Reading::rtp_walk))]
 fn read(octets: &[u8]) -> Result<RtpView<'_>, RtpFault>
-    ensures exact { Gives seen result (rtp_at octets.now) }
+    ensures exact { Gives seen result (rtp_walk octets.now) }
 {
     if octets.len() < FIXED {
         return Err(RtpFault::ShortHeader);
@@ -97,8 +97,8 @@ pub fn read_rtp(octets: &[u8]) -> Result<RtpView<'_>, RtpFault>
     ensures bad_version { IsErrOf result RtpFault.BadVersion ↔ IsBadVersion octets.now }
     ensures short_extension { IsErrOf result RtpFault.ShortExtension ↔ IsShortExtension octets.now }
     ensures bad_padding { IsErrOf result RtpFault.BadPadding ↔ IsBadPadding octets.now }
-    // The answer as one function of the octets, for what is stated on top of it.
-    ensures exact { Gives seen result (rtp_at octets.now) }
+    // The answer as a walk over the octets, for the walks that go on from it.
+    ensures exact { Gives seen result (rtp_walk octets.now) }
 {
     read(octets)
 }
