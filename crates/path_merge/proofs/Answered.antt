@@ -11,7 +11,7 @@ use Rattle.path_merge.specs.declared.answer.Taken.TheVariants.{Kept, Outside}
 use Rattle.path_merge.specs.Opening.{Opening}
 use Rattle.path_merge.specs.Grammar.{Datagram, IsFor, IsKept, IsOutside}
 use Rattle.path_merge.specs.Admission.{datagram_walk, ◌>>=◌}
-use Rattle.path_merge.specs.Answers.{taken, taken_at}
+use Rattle.path_merge.specs.Answers.{kept_or_outside, taken_at}
 use Rattle.path_merge.proofs.Offered.{admitted_for, admitted_takes}
 
 -- ---- whether a window has a timestamp
@@ -61,19 +61,19 @@ same_taken : (x y : Taken) → (let r : Result Taken Refusal = Ok x in r ≡ Ok 
 same_taken x y h = cc
 
 -- What a datagram for the receiver is answered
-taken_for : (o : Opening) (octets : List ℕ) (d : Datagram) → IsFor o octets d → taken_at o octets ≡ Ok (taken o.window d)
-taken_for o octets d f = ap (λ (x : Result Datagram Refusal). x >>= λ q. Ok (taken o.window q)) (admitted_for o octets d f)
+taken_for : (o : Opening) (octets : List ℕ) (d : Datagram) → IsFor octets o d → taken_at o octets ≡ Ok (kept_or_outside o.window d)
+taken_for o octets d f = ap (λ (x : Result Datagram Refusal). x >>= λ q. Ok (kept_or_outside o.window q)) (admitted_for o octets d f)
 
 -- ---- kept
 
 kept_from : (o : Opening) (octets : List ℕ) (x : Result Datagram Refusal) (n : ℕ) → AreOctets octets → datagram_walk o.format o.payload_type o.ssrc octets ≡ x
-    → (x >>= λ d. Ok (taken o.window d)) ≡ Ok (Kept n) → IsKept o octets n
+    → (x >>= λ d. Ok (kept_or_outside o.window d)) ≡ Ok (Kept n) → IsKept octets o n
 kept_from o octets (Err e) n fit read h = absurd cc
 kept_from o octets (Ok d) n fit read h =
-    let at = kept_if (list_any (λ t. eqb t d.timestamp) o.window) d.number n (same_taken (taken o.window d) (Kept n) h) in
+    let at = kept_if (list_any (λ t. eqb t d.timestamp) o.window) d.number n (same_taken (kept_or_outside o.window d) (Kept n) h) in
     record { datagram = d; is_for = admitted_takes o octets d fit read; inside = member_from_any d.timestamp o.window at.0; number_is = at.1 }
 
-kept_back : (o : Opening) (octets : List ℕ) (n : ℕ) → IsKept o octets n → taken_at o octets ≡ Ok (Kept n)
+kept_back : (o : Opening) (octets : List ℕ) (n : ℕ) → IsKept octets o n → taken_at o octets ≡ Ok (Kept n)
 kept_back o octets n k =
     let d : Datagram = k.datagram in
     taken_for o octets d k.is_for
@@ -81,47 +81,47 @@ kept_back o octets n k =
     ∙ ap (λ (m : ℕ). Ok (Kept m)) k.number_is
 
 -- Kept exactly where the octets are a datagram for the receiver of a timestamp of its window
-pub kept_iff : (o : Opening) (octets : List ℕ) (r : Result Taken Refusal) → AreOctets octets → r ≡ taken_at o octets → (n : ℕ) → (r ≡ Ok (Kept n)) ↔ IsKept o octets n
+pub kept_iff : (o : Opening) (octets : List ℕ) (r : Result Taken Refusal) → AreOctets octets → r ≡ taken_at o octets → (n : ℕ) → (r ≡ Ok (Kept n)) ↔ IsKept octets o n
 kept_iff o octets r fit is n =
     (λ h. kept_from o octets (datagram_walk o.format o.payload_type o.ssrc octets) n fit refl (sym is ∙ h), λ k. is ∙ kept_back o octets n k)
 
 -- ---- outside
 
 outside_from : (o : Opening) (octets : List ℕ) (x : Result Datagram Refusal) → AreOctets octets → datagram_walk o.format o.payload_type o.ssrc octets ≡ x
-    → (x >>= λ d. Ok (taken o.window d)) ≡ Ok Outside → IsOutside o octets
+    → (x >>= λ d. Ok (kept_or_outside o.window d)) ≡ Ok Outside → IsOutside octets o
 outside_from o octets (Err e) fit read h = absurd cc
 outside_from o octets (Ok d) fit read h =
-    let none = outside_if (list_any (λ t. eqb t d.timestamp) o.window) d.number (same_taken (taken o.window d) Outside h) in
+    let none = outside_if (list_any (λ t. eqb t d.timestamp) o.window) d.number (same_taken (kept_or_outside o.window d) Outside h) in
     record { datagram = d; is_for = admitted_takes o octets d fit read; outside = λ m. absurd (differ (sym none ∙ any_from_member d.timestamp o.window m)) }
   where
     differ : false ≡ true → ⊥
     differ h = cc
 
-outside_back : (o : Opening) (octets : List ℕ) → IsOutside o octets → taken_at o octets ≡ Ok Outside
+outside_back : (o : Opening) (octets : List ℕ) → IsOutside octets o → taken_at o octets ≡ Ok Outside
 outside_back o octets k =
     let d : Datagram = k.datagram in
     taken_for o octets d k.is_for ∙ ap (λ (b : Bool). Ok (word b d.number)) (not_any d.timestamp o.window k.outside)
 
 -- Outside exactly where they are one of another timestamp
-pub outside_iff : (o : Opening) (octets : List ℕ) (r : Result Taken Refusal) → AreOctets octets → r ≡ taken_at o octets → (r ≡ Ok Outside) ↔ IsOutside o octets
+pub outside_iff : (o : Opening) (octets : List ℕ) (r : Result Taken Refusal) → AreOctets octets → r ≡ taken_at o octets → (r ≡ Ok Outside) ↔ IsOutside octets o
 outside_iff o octets r fit is =
     (λ h. outside_from o octets (datagram_walk o.format o.payload_type o.ssrc octets) fit refl (sym is ∙ h), λ k. is ∙ outside_back o octets k)
 
 -- ---- refused
 
 refused_at : (o : Opening) (octets : List ℕ) (x : Result Datagram Refusal) → AreOctets octets → datagram_walk o.format o.payload_type o.ssrc octets ≡ x
-    → ((d : Datagram) → IsFor o octets d → ⊥) → IsErr (x >>= λ d. Ok (taken o.window d))
+    → ((d : Datagram) → IsFor octets o d → ⊥) → IsErr (x >>= λ d. Ok (kept_or_outside o.window d))
 refused_at o octets (Err e) fit read none = refl
 refused_at o octets (Ok d) fit read none = absurd (none d (admitted_takes o octets d fit read))
 
 abbrev told : Datagram → List ℕ → Result Taken Refusal
-told d w = Ok (taken w d)
+told d w = Ok (kept_or_outside w d)
 
 not_refused : (d : Datagram) (w : List ℕ) → IsErr (told d w) → ⊥
 not_refused d w h = cc
 
 -- Refused exactly where they are no datagram for the receiver
-pub refused_iff : (o : Opening) (octets : List ℕ) (r : Result Taken Refusal) → AreOctets octets → r ≡ taken_at o octets → IsErr r ↔ ((d : Datagram) → IsFor o octets d → ⊥)
+pub refused_iff : (o : Opening) (octets : List ℕ) (r : Result Taken Refusal) → AreOctets octets → r ≡ taken_at o octets → IsErr r ↔ ((d : Datagram) → IsFor octets o d → ⊥)
 refused_iff o octets r fit is = (
   λ h. λ d f. not_refused d o.window (subst (λ (x : Result Taken Refusal). IsErr x) (is ∙ taken_for o octets d f) h),
   λ none. subst (λ (x : Result Taken Refusal). IsErr x) (sym is) (refused_at o octets (datagram_walk o.format o.payload_type o.ssrc octets) fit refl none),
@@ -130,7 +130,7 @@ refused_iff o octets r fit is = (
 -- ---- what is admitted, and the window
 
 abbrev by_window : List ℕ → Datagram → Result Taken Refusal
-by_window w d = Ok (taken w d)
+by_window w d = Ok (kept_or_outside w d)
 
 abbrev answered : Datagram → Bool → Result Taken Refusal
 answered d b = Ok (word b d.number)

@@ -8,11 +8,11 @@ use Rattle.path_merge.specs.Stays.{Stay, Lasts}
 use Rattle.path_merge.specs.Reached.{Chain, Arrived, Merged, LastStep, By_arrive, By_merge}
 use Rattle.path_merge.proofs.Places.{get_left, get_back, get_below, last_get, below_or_at}
 
-lasts_more : (w : List ℕ) (es fs : List Event) (stay : Stay) (place : ℕ) → place ≤ length es → Lasts w (take place es) stay → Lasts w (take place (es ++ fs)) stay
-lasts_more w es fs stay place le h = subst (λ (xs : List Event). Lasts w xs stay) (sym (take-append-le place es fs le)) h
+lasts_more : (w : List ℕ) (es fs : List Event) (stay : Stay) (place : ℕ) → place ≤ length es → Lasts stay w (take place es) → Lasts stay w (take place (es ++ fs))
+lasts_more w es fs stay place le h = subst (λ (xs : List Event). Lasts stay w xs) (sym (take-append-le place es fs le)) h
 
-lasts_back : (w : List ℕ) (es fs : List Event) (stay : Stay) (place : ℕ) → place ≤ length es → Lasts w (take place (es ++ fs)) stay → Lasts w (take place es) stay
-lasts_back w es fs stay place le h = subst (λ (xs : List Event). Lasts w xs stay) (take-append-le place es fs le) h
+lasts_back : (w : List ℕ) (es fs : List Event) (stay : Stay) (place : ℕ) → place ≤ length es → Lasts stay w (take place (es ++ fs)) → Lasts stay w (take place es)
+lasts_back w es fs stay place le h = subst (λ (xs : List Event). Lasts stay w xs) (take-append-le place es fs le) h
 
 at_once : (n m : ℕ) → n < m → n ≤ m
 at_once n m h = omega arith
@@ -49,10 +49,10 @@ last_is es e f place at is =
     same_some : {X : Type 0} (x y : X) → Some x ≡ Some y → x ≡ y
     same_some x y h = cc
 
-lasts_all : (w : List ℕ) (es : List Event) (e : Event) (stay : Stay) (place : ℕ) → place ≡ length es → Lasts w (take place (es ++ e ∷ [])) stay → Lasts w es stay
+lasts_all : (w : List ℕ) (es : List Event) (e : Event) (stay : Stay) (place : ℕ) → place ≡ length es → Lasts stay w (take place (es ++ e ∷ [])) → Lasts stay w es
 lasts_all w es e stay place at h =
-    let g : Lasts w (take place es) stay = lasts_back w es (e ∷ []) stay place (omega (arith, at)) h in
-    subst (λ (xs : List Event). Lasts w xs stay) (take_all place es (omega (arith, at))) g
+    let g : Lasts stay w (take place es) = lasts_back w es (e ∷ []) stay place (omega (arith, at)) h in
+    subst (λ (xs : List Event). Lasts stay w xs) (take_all place es (omega (arith, at))) g
 
 -- A chain of a list and one event more is one of the list, or has that event for its last step.
 cases_at : (w : List ℕ) (es : List Event) (e : Event) (n : ℕ) (stay : Stay) (place : ℕ) → (place < length es) ⊎ (place ≡ length es) → Chain w (es ++ e ∷ []) n stay place
@@ -69,8 +69,8 @@ chain_cases w es e n stay place chain =
     let below : place < length (es ++ e ∷ []) = chain_below w (es ++ e ∷ []) n stay place chain in
     cases_at w es e n stay place (below_or_at place (length es) (omega (arith, below, length-append es (e ∷ [])))) chain
 
-lasts_now : (w : List ℕ) (es : List Event) (e : Event) (stay : Stay) → Lasts w es stay → Lasts w (take (length es) (es ++ e ∷ [])) stay
-lasts_now w es e stay h = subst (λ (xs : List Event). Lasts w xs stay) (sym (take-append-le (length es) es (e ∷ []) (omega arith) ∙ take_all (length es) es (omega arith))) h
+lasts_now : (w : List ℕ) (es : List Event) (e : Event) (stay : Stay) → Lasts stay w es → Lasts stay w (take (length es) (es ++ e ∷ []))
+lasts_now w es e stay h = subst (λ (xs : List Event). Lasts stay w xs) (sym (take-append-le (length es) es (e ∷ []) (omega arith) ∙ take_all (length es) es (omega arith))) h
 
 -- Such a last step makes a chain.
 pub chain_last : (w : List ℕ) (es : List Event) (e : Event) (n : ℕ) (stay : Stay) → LastStep w es e n stay → Chain w (es ++ e ∷ []) n stay (length es)

@@ -20,7 +20,7 @@ use Rattle.path_merge.specs.Opening.{Opening, AreDifferent, IsWindow, IsWindowSi
 use Rattle.path_merge.specs.Grammar.{Datagram}
 use Rattle.path_merge.specs.Admission.{datagram_walk}
 use Rattle.path_merge.specs.Offers.{offers, offers_of}
-use Rattle.path_merge.specs.Frames.{State, IsReceiver, Holds, AreAlike, frames_of, joined_frames, frame_at, cell_if, cell_in}
+use Rattle.path_merge.specs.Frames.{State, IsReceiver, Holds, SameFormats, frames_of, joined_frames, frame_at, cell_if, cell_in}
 use Rattle.path_merge.specs.Sliding.{slid}
 use Rattle.path_merge.proofs.Frames.{cells_kept, frames_of-append}
 use Rattle.path_merge.proofs.Windows.{below_get, member_get}
@@ -280,13 +280,13 @@ receiver_slid s next is out =
 -- ---- the frames of two receivers
 
 -- Receivers of one opening have frames of the same formats.
-alike_by : (f : Format) (rs qs : List Raster) → length rs ≡ length qs → AllByRecursion (λ r. r.format ≡ f) rs → AllByRecursion (λ r. r.format ≡ f) qs → AreAlike rs qs
+alike_by : (f : Format) (rs qs : List Raster) → length rs ≡ length qs → AllByRecursion (λ r. r.format ≡ f) rs → AllByRecursion (λ r. r.format ≡ f) qs → SameFormats rs qs
 alike_by f [] [] e fr fq = tt
 alike_by f [] (q ∷ qs) e fr fq = absurd (omega (arith, e))
 alike_by f (r ∷ rs) [] e fr fq = absurd (omega (arith, e))
 alike_by f (r ∷ rs) (q ∷ qs) e fr fq = (fq.0 ∙ sym fr.0, alike_by f rs qs (omega (arith, e)) fr.1 fq.1)
 
-pub alike : (s t : State) → s.opening ≡ t.opening → IsReceiver s → IsReceiver t → AreAlike s.frames t.frames
+pub alike : (s t : State) → s.opening ≡ t.opening → IsReceiver s → IsReceiver t → SameFormats s.frames t.frames
 alike s t same is it =
     let f : Format = s.opening.format in
     let w : length t.frames ≡ length s.opening.window = it.one_each ∙ ap (λ (o : Opening). length o.window) (sym same) in
@@ -295,34 +295,34 @@ alike s t same is it =
     (subst (λ (o : Opening). AllByRecursion (λ (r : Raster). r.format ≡ o.format) t.frames) (sym same) (recursion_from_All (λ (r : Raster). r.format ≡ t.opening.format) t.frames it.of_format))
 
 -- Frames joined one after the other: what is done and what is left make the whole.
-frames_step : (i : ℕ) (rs qs : List Raster) (new : Raster) (d e : Raster) → AreAlike rs qs → i < length rs → new ≡ joined_rasters (get_or rs i d) (get_or qs i e)
+frames_step : (i : ℕ) (rs qs : List Raster) (new : Raster) (d e : Raster) → SameFormats rs qs → i < length rs → new ≡ joined_rasters (get_or rs i d) (get_or qs i e)
     → take i rs ++ joined_frames (drop i rs) (drop i qs) ≡ take (suc i) (set rs i new) ++ joined_frames (drop (suc i) (set rs i new)) (drop (suc i) qs)
 frames_step i [] qs new d e al lt now = absurd (omega (arith, lt))
 frames_step i (r ∷ rs) [] new d e al lt now = absurd al
 frames_step zero (r ∷ rs) (q ∷ qs) new d e al lt now = ap (λ (x : Raster). x ∷ joined_frames rs qs) (sym now)
 frames_step (suc i) (r ∷ rs) (q ∷ qs) new d e al lt now = ap (λ (xs : List Raster). r ∷ xs) (frames_step i rs qs new d e al.1 (omega (arith, lt)) now)
 
-pub frames_next : (i : ℕ) (rs qs : List Raster) (new : Raster) (d e : Raster) → AreAlike rs qs → i < length rs → new ≡ joined_rasters (get_or rs i d) (get_or qs i e)
+pub frames_next : (i : ℕ) (rs qs : List Raster) (new : Raster) (d e : Raster) → SameFormats rs qs → i < length rs → new ≡ joined_rasters (get_or rs i d) (get_or qs i e)
     → take i rs ++ joined_frames (drop i rs) (drop i qs) ≡ take (i + 1) (set rs i new) ++ joined_frames (drop (i + 1) (set rs i new)) (drop (i + 1) qs)
 frames_next i rs qs new d e al lt now =
     let one : suc i ≡ i + 1 = omega arith in
     subst (λ (j : ℕ). take i rs ++ joined_frames (drop i rs) (drop i qs) ≡ take j (set rs i new) ++ joined_frames (drop j (set rs i new)) (drop j qs)) one (frames_step i rs qs new d e al lt now)
 
 -- The joins are alike too.
-pub alike_set : (i : ℕ) (rs qs : List Raster) (new : Raster) (d : Raster) → AreAlike rs qs → new.format ≡ (get_or rs i d).format → AreAlike (set rs i new) qs
+pub alike_set : (i : ℕ) (rs qs : List Raster) (new : Raster) (d : Raster) → SameFormats rs qs → new.format ≡ (get_or rs i d).format → SameFormats (set rs i new) qs
 alike_set i [] [] new d al now = tt
 alike_set i [] (q ∷ qs) new d al now = al
 alike_set i (r ∷ rs) [] new d al now = absurd al
 alike_set zero (r ∷ rs) (q ∷ qs) new d al now = (al.0 ∙ sym now, al.1)
 alike_set (suc i) (r ∷ rs) (q ∷ qs) new d al now = (al.0, alike_set i rs qs new d al.1 now)
 
-pub alike_length : (rs qs : List Raster) → AreAlike rs qs → length rs ≡ length qs
+pub alike_length : (rs qs : List Raster) → SameFormats rs qs → length rs ≡ length qs
 alike_length [] [] al = refl
 alike_length [] (q ∷ qs) al = absurd al
 alike_length (r ∷ rs) [] al = absurd al
 alike_length (r ∷ rs) (q ∷ qs) al = ap suc (alike_length rs qs al.1)
 
-pub alike_at : (i : ℕ) (rs qs : List Raster) (d e : Raster) → AreAlike rs qs → i < length rs → (get_or qs i e).format ≡ (get_or rs i d).format
+pub alike_at : (i : ℕ) (rs qs : List Raster) (d e : Raster) → SameFormats rs qs → i < length rs → (get_or qs i e).format ≡ (get_or rs i d).format
 alike_at i [] qs d e al lt = absurd (omega (arith, lt))
 alike_at i (r ∷ rs) [] d e al lt = absurd al
 alike_at zero (r ∷ rs) (q ∷ qs) d e al lt = al.0
@@ -338,7 +338,7 @@ formats_joined f [] qs fr = tt
 formats_joined f (r ∷ rs) [] fr = tt
 formats_joined f (r ∷ rs) (q ∷ qs) fr = (fr.0, formats_joined f rs qs fr.1)
 
-wholes_joined : (rs qs : List Raster) → AreAlike rs qs → AllByRecursion IsWhole rs → AllByRecursion IsWhole qs → AllByRecursion IsWhole (joined_frames rs qs)
+wholes_joined : (rs qs : List Raster) → SameFormats rs qs → AllByRecursion IsWhole rs → AllByRecursion IsWhole qs → AllByRecursion IsWhole (joined_frames rs qs)
 wholes_joined [] qs al wr wq = tt
 wholes_joined (r ∷ rs) [] al wr wq = tt
 wholes_joined (r ∷ rs) (q ∷ qs) al wr wq =
@@ -348,7 +348,7 @@ wholes_joined (r ∷ rs) (q ∷ qs) al wr wq =
 pub receiver_joined : (s t u : State) → s.opening ≡ t.opening → IsReceiver s → IsReceiver t → u.opening ≡ s.opening → u.refusals ≡ s.refusals → u.frames ≡ joined_frames s.frames t.frames → IsReceiver u
 receiver_joined s t u same is it opening refusals frames =
     let f : Format = s.opening.format in
-    let al : AreAlike s.frames t.frames = alike s t same is it in
+    let al : SameFormats s.frames t.frames = alike s t same is it in
     let wr = recursion_from_All IsWhole s.frames is.whole in
     let wq = recursion_from_All IsWhole t.frames it.whole in
     let js : List Raster = joined_frames s.frames t.frames in

@@ -7,7 +7,7 @@ use Rattle.st_format.specs.declared.format.Format.{Format}
 use Rattle.st_format.specs.Cell.{join}
 use Rattle.st_format.specs.Raster.{Raster, joined, joined_rasters}
 use Rattle.st_format.proofs.Rasters.{joined-assoc}
-use Rattle.path_merge.specs.Frames.{AreAlike, IsReceiver, State, joined_frames}
+use Rattle.path_merge.specs.Frames.{SameFormats, IsReceiver, State, joined_frames}
 use Rattle.path_merge.proofs.Joined.{alike}
 
 pub joined_frames-assoc : (rs qs ps : List Raster) → joined_frames (joined_frames rs qs) ps ≡ joined_frames rs (joined_frames qs ps)
@@ -67,7 +67,7 @@ pub joined_frames-same : (rs : List Raster) → joined_frames rs rs ≡ rs
 joined_frames-same [] = refl
 joined_frames-same (r ∷ rs) = ap (λ (cs : List Cell). raster r.format cs ∷ joined_frames rs rs) (joined-same r.cells) ∙ ap (λ (qs : List Raster). r ∷ qs) (joined_frames-same rs)
 
-joined_frames-comm : (rs qs : List Raster) → AreAlike rs qs → joined_frames rs qs ≡ joined_frames qs rs
+joined_frames-comm : (rs qs : List Raster) → SameFormats rs qs → joined_frames rs qs ≡ joined_frames qs rs
 joined_frames-comm [] [] al = refl
 joined_frames-comm [] (q ∷ qs) al = absurd al
 joined_frames-comm (r ∷ rs) [] al = absurd al

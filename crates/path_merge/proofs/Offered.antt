@@ -16,7 +16,7 @@ use Rattle.path_merge.specs.declared.answer.Refusal.{Refusal}
 use Rattle.path_merge.specs.declared.answer.Refusal.TheVariants.{WrongPayloadType, WrongSource}
 use Rattle.path_merge.specs.Opening.{Opening, IsSource}
 use Rattle.path_merge.specs.Grammar.{Datagram, IsDatagram, IsFor, header_with}
-use Rattle.path_merge.specs.Admission.{◌>>=◌, by_header, by_payload, checked, is_other, datagram_with, datagram_walk}
+use Rattle.path_merge.specs.Admission.{◌>>=◌, by_header, by_payload, header_for, is_other, datagram_with, datagram_walk}
 use Rattle.path_merge.specs.Offers.{offers, offers_of}
 
 -- ---- the test of the source says what its words say
@@ -42,15 +42,15 @@ abbrev numbered : Datagram → ℕ → Datagram
 numbered d n = record { payload_type = d.payload_type; number = n; timestamp = d.timestamp; ssrc = d.ssrc; marker = d.marker; segments = d.segments }
 
 -- A datagram for a receiver is admitted, and says what the grammar reads.
-pub admitted_for : (o : Opening) (octets : List ℕ) (d : Datagram) → IsFor o octets d → datagram_walk o.format o.payload_type o.ssrc octets ≡ Ok d
+pub admitted_for : (o : Opening) (octets : List ℕ) (d : Datagram) → IsFor octets o d → datagram_walk o.format o.payload_type o.ssrc octets ≡ Ok d
 unfolding datagram_walk
 admitted_for o octets d f =
     let is = f.is in
     let r : Rtp = header_with d is.sequence is.payload in
-    let pass : checked o.payload_type o.ssrc r ≡ Ok r =
+    let pass : header_for o.payload_type o.ssrc r ≡ Ok r =
     ap (λ (b : Bool). cond (not b) (Err WrongPayloadType) (cond (is_other o.ssrc r.ssrc) (Err WrongSource) (Ok r))) (eq-eqb d.payload_type o.payload_type f.type_is)
     ∙ ap (λ (b : Bool). cond b (Err WrongSource) (Ok r)) (source_again o.ssrc d.ssrc f.source) in
-    ap (λ (x : Result Rtp RtpFault). by_header x >>= λ q. checked o.payload_type o.ssrc q >>= λ w. by_payload (payload_walk o.format w.payload) >>= by_rtp w) (rtp_again r octets is.is_header)
+    ap (λ (x : Result Rtp RtpFault). by_header x >>= λ q. header_for o.payload_type o.ssrc q >>= λ w. by_payload (payload_walk o.format w.payload) >>= by_rtp w) (rtp_again r octets is.is_header)
     ∙ ap (λ (x : Result Rtp Refusal). x >>= λ w. by_payload (payload_walk o.format w.payload) >>= by_rtp w) pass
     ∙ ap (λ (x : Result (ℕ × List Segment) PayloadFault). by_payload x >>= by_rtp r) (payload_again o.format is.extended d.segments is.payload is.is_payload)
     ∙ ap (λ (n : ℕ). Ok (numbered d n)) is.number_is
@@ -62,7 +62,7 @@ same_admitted : (d e : Datagram) → admitted d ≡ admitted e → d ≡ e
 same_admitted d e h = cc
 
 -- Octets say one thing at most to a receiver.
-pub reading_is_one : (o : Opening) (octets : List ℕ) (d e : Datagram) → IsFor o octets d → IsFor o octets e → d ≡ e
+pub reading_is_one : (o : Opening) (octets : List ℕ) (d e : Datagram) → IsFor octets o d → IsFor octets o e → d ≡ e
 reading_is_one o octets d e f g = same_admitted d e (sym (admitted_for o octets d f) ∙ admitted_for o octets e g)
 
 -- ---- what is admitted is in the grammar
@@ -100,10 +100,10 @@ same_ok : {X : Type 0} (x y : X) → (let r : Result X Refusal = Ok x in r ≡ O
 same_ok x y h = cc
 
 takes_payload : (o : Opening) (octets : List ℕ) (r : Rtp) (p : Result (ℕ × List Segment) PayloadFault) (d : Datagram) → IsRtp r octets → IsBytes r.payload → r.payload_type ≡ o.payload_type → is_other o.ssrc r.ssrc ≡ false
-    → payload_walk o.format r.payload ≡ p → (by_payload p >>= by_rtp r) ≡ Ok d → IsFor o octets d
+    → payload_walk o.format r.payload ≡ p → (by_payload p >>= by_rtp r) ≡ Ok d → IsFor octets o d
 takes_payload o octets r (Err e) d is bytes pt source read h = absurd cc
 takes_payload o octets r (Ok p) d is bytes pt source read h =
-    let one : IsDatagram o.format octets (datagram_with r p) = record {
+    let one : IsDatagram octets o.format (datagram_with r p) = record {
       sequence = r.sequence;
       extended = p.0;
       payload = r.payload;
@@ -111,34 +111,34 @@ takes_payload o octets r (Ok p) d is bytes pt source read h =
       is_payload = payload_takes o.format r.payload p bytes read;
       number_is = refl;
     } in
-    subst (λ (x : Datagram). IsFor o octets x) (same_ok (datagram_with r p) d h) (record { is = one; type_is = pt; source = source_from o.ssrc r.ssrc source })
+    subst (λ (x : Datagram). IsFor octets o x) (same_ok (datagram_with r p) d h) (record { is = one; type_is = pt; source = source_from o.ssrc r.ssrc source })
 
 takes_checked : (o : Opening) (octets : List ℕ) (r : Rtp) (t s : Bool) (d : Datagram) → IsRtp r octets → IsBytes r.payload → eqb r.payload_type o.payload_type ≡ t → is_other o.ssrc r.ssrc ≡ s
-    → (cond (not t) (Err WrongPayloadType) (cond s (Err WrongSource) (Ok r)) >>= λ w. by_payload (payload_walk o.format w.payload) >>= by_rtp w) ≡ Ok d → IsFor o octets d
+    → (cond (not t) (Err WrongPayloadType) (cond s (Err WrongSource) (Ok r)) >>= λ w. by_payload (payload_walk o.format w.payload) >>= by_rtp w) ≡ Ok d → IsFor octets o d
 takes_checked o octets r false s d is bytes e f h = absurd cc
 takes_checked o octets r true true d is bytes e f h = absurd cc
 takes_checked o octets r true false d is bytes e f h = takes_payload o octets r (payload_walk o.format r.payload) d is bytes (eqb-true r.payload_type o.payload_type e) f refl h
 
 takes_read : (o : Opening) (octets : List ℕ) (x : Result Rtp RtpFault) (d : Datagram) → AreOctets octets → rtp_walk octets ≡ x
-    → (by_header x >>= λ q. checked o.payload_type o.ssrc q >>= λ w. by_payload (payload_walk o.format w.payload) >>= by_rtp w) ≡ Ok d → IsFor o octets d
+    → (by_header x >>= λ q. header_for o.payload_type o.ssrc q >>= λ w. by_payload (payload_walk o.format w.payload) >>= by_rtp w) ≡ Ok d → IsFor octets o d
 takes_read o octets (Err e) d fit read h = absurd cc
 takes_read o octets (Ok r) d fit read h =
     let is : IsRtp r octets = rtp_takes octets r fit read in
     takes_checked o octets r (eqb r.payload_type o.payload_type) (is_other o.ssrc r.ssrc) d is (payload_octets r octets fit is) refl refl h
 
 -- What is admitted is a datagram for the receiver.
-pub admitted_takes : (o : Opening) (octets : List ℕ) (d : Datagram) → AreOctets octets → datagram_walk o.format o.payload_type o.ssrc octets ≡ Ok d → IsFor o octets d
+pub admitted_takes : (o : Opening) (octets : List ℕ) (d : Datagram) → AreOctets octets → datagram_walk o.format o.payload_type o.ssrc octets ≡ Ok d → IsFor octets o d
 unfolding datagram_walk
 admitted_takes o octets d fit h = takes_read o octets (rtp_walk octets) d fit refl h
 
 -- ---- offers
 
-pub offers-for : (o : Opening) (octets : List ℕ) (d : Datagram) → IsFor o octets d → offers o octets ≡ offers_in_all o.format d.timestamp d.segments
+pub offers-for : (o : Opening) (octets : List ℕ) (d : Datagram) → IsFor octets o d → offers o octets ≡ offers_in_all o.format d.timestamp d.segments
 offers-for o octets d f = ap (offers_of o.format) (admitted_for o octets d f)
 
-nothing_at : (o : Opening) (octets : List ℕ) (x : Result Datagram Refusal) → AreOctets octets → datagram_walk o.format o.payload_type o.ssrc octets ≡ x → ((d : Datagram) → IsFor o octets d → ⊥) → offers_of o.format x ≡ []
+nothing_at : (o : Opening) (octets : List ℕ) (x : Result Datagram Refusal) → AreOctets octets → datagram_walk o.format o.payload_type o.ssrc octets ≡ x → ((d : Datagram) → IsFor octets o d → ⊥) → offers_of o.format x ≡ []
 nothing_at o octets (Err e) fit read none = refl
 nothing_at o octets (Ok d) fit read none = absurd (none d (admitted_takes o octets d fit read))
 
-pub offers-none : (o : Opening) (octets : List ℕ) → AreOctets octets → ((d : Datagram) → IsFor o octets d → ⊥) → offers o octets ≡ []
+pub offers-none : (o : Opening) (octets : List ℕ) → AreOctets octets → ((d : Datagram) → IsFor octets o d → ⊥) → offers o octets ≡ []
 offers-none o octets fit none = nothing_at o octets (datagram_walk o.format o.payload_type o.ssrc octets) fit refl none

@@ -13,7 +13,7 @@ use Rattle.path_merge.specs.Opening.{Opening, AreDifferent}
 use Rattle.path_merge.specs.Sliding.{slid, with_window}
 use Rattle.path_merge.specs.declared.schedule.event.Event.{Event}
 use Rattle.path_merge.specs.declared.schedule.event.Event.TheVariants.{Send, Arrive, Slide, Merge}
-use Rattle.path_merge.specs.Admitted.{AreAdmittedTo, CanSlide, IsAdmitted, sends}
+use Rattle.path_merge.specs.Admitted.{AreAdmittedTo, CanSlide, IsAdmitted, send_count}
 use Rattle.path_merge.specs.Reached.{Scene, IsAt, Leaves}
 use Rattle.path_merge.proofs.PlayLemmas.{take_more}
 use Rattle.path_merge.proofs.StageLemmas.{sends_more}
@@ -31,14 +31,14 @@ different_moved n (t ∷ w) different out = different_snoc n w different.1 (λ m
 -- a receiver after some events, in a window without doubles
 pub record Outcome (s : Scene) (events : List Event) (r : ℕ) : Type 0 where
   pub state : State
-  pub is_at : IsAt s events r state
+  pub is_at : IsAt state r s events
   pub different : AreDifferent state.opening.window
 
 left_one : (s : Scene) (es : List Event) (e : Event) (r : ℕ) → Leaves e r → Outcome s es r → Outcome s (es ++ e ∷ []) r
 left_one s es e r leaves o = record { state = o.state; is_at = at_left s es e r o.state leaves o.is_at; different = o.different }
 
-outcome_more : (s : Scene) (es : List Event) (e : Event) (r : ℕ) → 0 < length s.opening.window → ((n : ℕ) (octets : List ℕ) → slice_get s.sent n ≡ Some octets → AreOctets octets) → sends es ≤ length s.sent
-    → IsAdmitted s es e → ((q : ℕ) → Outcome s es q) → Outcome s (es ++ e ∷ []) r
+outcome_more : (s : Scene) (es : List Event) (e : Event) (r : ℕ) → 0 < length s.opening.window → ((n : ℕ) (octets : List ℕ) → slice_get s.sent n ≡ Some octets → AreOctets octets) → send_count es ≤ length s.sent
+    → IsAdmitted e s es → ((q : ℕ) → Outcome s es q) → Outcome s (es ++ e ∷ []) r
 outcome_more s es Send r some octets most admitted all = left_one s es Send r tt (all r)
 outcome_more s es (Arrive to path n) r some octets most admitted all = elim (eqb_tells to r) [
   | inr other ↦ left_one s es (Arrive to path n) r other.1 (all r)
@@ -48,7 +48,7 @@ outcome_more s es (Arrive to path n) r some octets most admitted all = elim (eqb
       let new : State = record { opening = o.state.opening; frames = joined_frames o.state.frames (frames_of o.state.opening (get_or s.sent n [] ∷ [])); refusals = o.state.refusals } in
       record {
         state = new;
-        is_at = subst (λ (x : ℕ). IsAt s (es ++ Arrive x path n ∷ []) r new) (sym same.1) (at_taken s es r n path (get_or s.sent n []) o.state new there (octets n (get_or s.sent n []) there) o.is_at refl refl);
+        is_at = subst (λ (x : ℕ). IsAt new r s (es ++ Arrive x path n ∷ [])) (sym same.1) (at_taken s es r n path (get_or s.sent n []) o.state new there (octets n (get_or s.sent n []) there) o.is_at refl refl);
         different = o.different;
       }
 ]
@@ -58,7 +58,7 @@ outcome_more s es (Slide at next) r some octets most admitted all = elim (eqb_te
       let o = all r in
       record {
         state = slid o.state next;
-        is_at = subst (λ (x : ℕ). IsAt s (es ++ Slide x next ∷ []) r (slid o.state next)) (sym same.1) (at_slid s es r next o.state some o.is_at);
+        is_at = subst (λ (x : ℕ). IsAt (slid o.state next) r s (es ++ Slide x next ∷ [])) (sym same.1) (at_slid s es r next o.state some o.is_at);
         different = different_moved next o.state.opening.window o.different
             (λ m. CanSlide.new (subst (λ (x : ℕ). CanSlide s es x next) same.1 admitted) (subst (λ (y : Opening). IsMember next y.window) o.is_at.opening m));
       }
@@ -72,19 +72,19 @@ outcome_more s es (Merge into from) r some octets most admitted all = elim (eqb_
       let new : State = record { opening = o.state.opening; frames = joined_frames o.state.frames q.state.frames; refusals = o.state.refusals } in
       record {
         state = new;
-        is_at = subst (λ (x : ℕ). IsAt s (es ++ Merge into from ∷ []) x new) same.1 (at_merged s es into from o.state q.state new o.is_at q.is_at alike o.different refl refl);
+        is_at = subst (λ (x : ℕ). IsAt new x s (es ++ Merge into from ∷ [])) same.1 (at_merged s es into from o.state q.state new o.is_at q.is_at alike o.different refl refl);
         different = o.different;
       }
 ]
 
-sends_within : (s : Scene) (es : List Event) (e : Event) → sends es ≤ length s.sent → IsAdmitted s es e → sends (es ++ e ∷ []) ≤ length s.sent
+sends_within : (s : Scene) (es : List Event) (e : Event) → send_count es ≤ length s.sent → IsAdmitted e s es → send_count (es ++ e ∷ []) ≤ length s.sent
 sends_within s es Send most admitted = omega (arith, admitted, sends_more es Send 1 refl)
 sends_within s es (Arrive to path n) most admitted = omega (arith, most, sends_more es (Arrive to path n) 0 refl)
 sends_within s es (Slide at next) most admitted = omega (arith, most, sends_more es (Slide at next) 0 refl)
 sends_within s es (Merge into from) most admitted = omega (arith, most, sends_more es (Merge into from) 0 refl)
 
 outcomes_to : (s : Scene) (events : List Event) (k : ℕ) → 0 < length s.opening.window → AreDifferent s.opening.window → ((n : ℕ) (octets : List ℕ) → slice_get s.sent n ≡ Some octets → AreOctets octets)
-    → AreAdmittedTo s events k → k ≤ length events → ((r : ℕ) → Outcome s (take k events) r) × (sends (take k events) ≤ length s.sent)
+    → AreAdmittedTo events s k → k ≤ length events → ((r : ℕ) → Outcome s (take k events) r) × (send_count (take k events) ≤ length s.sent)
 outcomes_to s events zero some different octets admitted le =
     let start : State = record { opening = s.opening; frames = map (raster_of s.opening.format []) s.opening.window; refusals = [] } in
     ((λ r. record { state = start; is_at = at_opening s r start refl refl; different = different }), omega arith)
@@ -93,13 +93,13 @@ outcomes_to s events (suc k) some different octets admitted le =
     let e : Event = get_or events k Send in
     let there : slice_get events k ≡ Some e = slice_get-get_or events k Send (omega (arith, le)) in
     let one : take (suc k) events ≡ take k events ++ e ∷ [] = (let z : suc k ≡ k + 1 = omega arith in ap (λ (n : ℕ). take n events) z ∙ take_more events k e there) in
-    let is : IsAdmitted s (take k events) e = admitted k e (omega arith) there in (
+    let is : IsAdmitted e s (take k events) = admitted k e (omega arith) there in (
       (λ r. subst (λ (es : List Event). Outcome s es r) (sym one) (outcome_more s (take k events) e r some octets before.1 is before.0)),
-      subst (λ (es : List Event). sends es ≤ length s.sent) (sym one) (sends_within s (take k events) e before.1 is),
+      subst (λ (es : List Event). send_count es ≤ length s.sent) (sym one) (sends_within s (take k events) e before.1 is),
     )
 
 pub outcomes : (s : Scene) (events : List Event) → 0 < length s.opening.window → AreDifferent s.opening.window → ((n : ℕ) (octets : List ℕ) → slice_get s.sent n ≡ Some octets → AreOctets octets)
-    → AreAdmittedTo s events (length events) → (r : ℕ) → (state : State) × IsAt s events r state
+    → AreAdmittedTo events s (length events) → (r : ℕ) → (state : State) × IsAt state r s events
 outcomes s events some different octets admitted r =
     let o : Outcome s events r = subst (λ (es : List Event). Outcome s es r) (take_all (length events) events (omega arith)) ((outcomes_to s events (length events) some different octets admitted (omega arith)).0 r) in
     (o.state, o.is_at)

@@ -48,8 +48,8 @@ follows_next plan stamp pictures events place e old mid new there so_far one s s
     record {
       admitted = λ p event lt at. elim (below_or_at p place lt) [
         | inl below ↦ a.admitted p event below at
-        | inr same ↦ subst (λ (n : ℕ). IsAdmitted s (take n events) event) (sym same)
-            (subst (IsAdmitted s (take place events)) (same_event e event events place there (ap (slice_get events) (sym same) ∙ at)) f.admitted)
+        | inr same ↦ subst (λ (n : ℕ). IsAdmitted event s (take n events)) (sym same)
+            (subst (λ (x : Event). IsAdmitted x s (take place events)) (same_event e event events place there (ap (slice_get events) (sym same) ∙ at)) f.admitted)
       ];
       stage = subst (λ (es : List Event). IsStage plan stamp pictures s es new) (sym (take_more events place e there)) f.stage;
     }
@@ -77,7 +77,7 @@ no_receivers f (inl a) e = absurd cc
 no_receivers f (inr a) e = let h = event_or_memory f BadReceivers a.0 a.1 e in absurd cc
 
 pub played_all : {A : Type 0} (plan : RasterPlan) (stamp : Stamp) (pictures : List Values) (s : Scene) (events : List Event) (old new : Stage A) → 0 < length s.opening.window → IsStage plan stamp pictures s [] old
-    → FollowsAll plan stamp pictures events old new → IsPlayed s events (record { handed = new.handed; receivers = new.receivers })
+    → FollowsAll plan stamp pictures events old new → IsPlayed (record { handed = new.handed; receivers = new.receivers }) s events
 played_all plan stamp pictures s events old new some is all =
     let a = all s some is in
     let b : IsStage plan stamp pictures s events new = subst (λ (es : List Event). IsStage plan stamp pictures s es new) (take_all (length events) events (omega arith)) a.stage in
@@ -103,7 +103,7 @@ sends_texts s plan k first (p ∷ ps) same full low fits formats whole = record 
 }
 
 pub texts_list : (plan : RasterPlan) (stamp : Stamp) (ps : List Values) → IsFullPlan plan.format plan.max_octets plan.packets → stamp.payload_type < 128 → stamp.ssrc < 2 ^ 32
-    → ArePictures plan.format ps → All IsPicture ps → IsSenderList (sender_of plan stamp) stamp.first ps (texts_from (sender_of plan stamp) plan.packets 0 stamp.first ps)
+    → ArePictures ps plan.format → All IsPicture ps → IsSenderList (sender_of plan stamp) stamp.first ps (texts_from (sender_of plan stamp) plan.packets 0 stamp.first ps)
 texts_list plan stamp ps full low fits are whole = record {
   few = are.few;
   sent = sends_texts (sender_of plan stamp) plan 0 stamp.first ps refl full low fits (recursion_from_All (λ (p : Values). p.format ≡ plan.format) ps are.of_format) (recursion_from_All IsPicture ps whole);
@@ -122,7 +122,7 @@ sent_by s plan k first (p ∷ ps) same full low fits formats whole = record {
 
 -- each picture's datagrams are by the plan's own packets
 pub texts_by : (plan : RasterPlan) (stamp : Stamp) (ps : List Values) → IsFullPlan plan.format plan.max_octets plan.packets → stamp.payload_type < 128 → stamp.ssrc < 2 ^ 32
-    → ArePictures plan.format ps → All IsPicture ps → AreSentBy (sender_of plan stamp) plan 0 stamp.first ps (texts_from (sender_of plan stamp) plan.packets 0 stamp.first ps)
+    → ArePictures ps plan.format → All IsPicture ps → AreSentBy (sender_of plan stamp) plan 0 stamp.first ps (texts_from (sender_of plan stamp) plan.packets 0 stamp.first ps)
 texts_by plan stamp ps full low fits are whole =
     sent_by (sender_of plan stamp) plan 0 stamp.first ps refl full low fits (recursion_from_All (λ (p : Values). p.format ≡ plan.format) ps are.of_format) (recursion_from_All IsPicture ps whole)
 
@@ -131,10 +131,10 @@ same_place m n e = cc
 
 -- ---- the first that is not admitted
 
-pub none_bad : (s : Scene) (events : List Event) (p : ℕ) → AreAdmittedTo s events (length events) → IsFirstBad s events p → ⊥
+pub none_bad : (s : Scene) (events : List Event) (p : ℕ) → AreAdmittedTo events s (length events) → IsFirstBad p s events → ⊥
 none_bad s events p all bad = bad.bad (all p bad.event (get_below events p bad.event bad.there) bad.there)
 
-pub one_bad : (s : Scene) (events : List Event) (p q : ℕ) → IsFirstBad s events p → IsFirstBad s events q → p ≡ q
+pub one_bad : (s : Scene) (events : List Event) (p q : ℕ) → IsFirstBad p s events → IsFirstBad q s events → p ≡ q
 one_bad s events p q a b = elim (leb_tells q p) [
   | inr below ↦ absurd (a.bad (b.before p a.event below.1 a.there))
   | inl up ↦ elim (leb_tells p q) [

@@ -22,14 +22,14 @@ use Rattle.path_merge.proofs.Frames.{cells_kept, holds_blank}
 use Rattle.path_merge.proofs.Offered.{admitted_for, admitted_takes}
 use Rattle.path_merge.specs.declared.schedule.event.Event.{Event}
 use Rattle.path_merge.specs.declared.schedule.event.Event.TheVariants.{Send, Arrive, Slide, Merge}
-use Rattle.path_merge.specs.Stays.{Stay, Lasts, brings, brought}
+use Rattle.path_merge.specs.Stays.{Stay, Lasts, slide_timestamp, slide_timestamps}
 use Rattle.path_merge.specs.Reached.{Scene, Chain, Arrived, Merged, LastStep, By_arrive, By_merge, IsOf, Reaches, IsFrameOf}
 use Rattle.path_merge.proofs.Chains.{chain_more, chain_cases, chain_last}
 use Rattle.path_merge.proofs.Places.{get_below}
 
 -- ---- what reaches a stay
 
-pub reach_more : (s : Scene) (es fs : List Event) (octets : List ℕ) (stay : Stay) → Reaches s es octets stay → Reaches s (es ++ fs) octets stay
+pub reach_more : (s : Scene) (es fs : List Event) (octets : List ℕ) (stay : Stay) → Reaches octets stay s es → Reaches octets stay s (es ++ fs)
 reach_more s es fs octets stay r = record {
   number = r.number;
   sent = r.sent;
@@ -42,10 +42,10 @@ reach_more s es fs octets stay r = record {
 pub record Newly (s : Scene) (es : List Event) (e : Event) (octets : List ℕ) (stay : Stay) : Type 0 where
   pub number : ℕ
   pub sent : slice_get s.sent number ≡ Some octets
-  pub is_of : IsOf s.opening octets stay.timestamp
+  pub is_of : IsOf octets s.opening stay.timestamp
   pub last : LastStep s.opening.window es e number stay
 
-pub reach_newly : (s : Scene) (es : List Event) (e : Event) (octets : List ℕ) (stay : Stay) → Newly s es e octets stay → Reaches s (es ++ e ∷ []) octets stay
+pub reach_newly : (s : Scene) (es : List Event) (e : Event) (octets : List ℕ) (stay : Stay) → Newly s es e octets stay → Reaches octets stay s (es ++ e ∷ [])
 reach_newly s es e octets stay r = record {
   number = r.number;
   sent = r.sent;
@@ -54,7 +54,7 @@ reach_newly s es e octets stay r = record {
   chain = chain_last s.opening.window es e r.number stay r.last;
 }
 
-pub reach_cases : (s : Scene) (es : List Event) (e : Event) (octets : List ℕ) (stay : Stay) → Reaches s (es ++ e ∷ []) octets stay → Reaches s es octets stay ⊎ Newly s es e octets stay
+pub reach_cases : (s : Scene) (es : List Event) (e : Event) (octets : List ℕ) (stay : Stay) → Reaches octets stay s (es ++ e ∷ []) → Reaches octets stay s es ⊎ Newly s es e octets stay
 reach_cases s es e octets stay r =
     elim (chain_cases s.opening.window es e r.number stay r.place r.chain) [
       | inl chain ↦ inl (record { number = r.number; sent = r.sent; is_of = r.is_of; place = r.place; chain = chain })
@@ -63,7 +63,7 @@ reach_cases s es e octets stay r =
 
 -- ---- a frame that stays
 
-pub frame_kept : (s : Scene) (es : List Event) (e : Event) (stay : Stay) (q : Raster) → ((octets : List ℕ) → Newly s es e octets stay → ⊥) → IsFrameOf s es stay q → IsFrameOf s (es ++ e ∷ []) stay q
+pub frame_kept : (s : Scene) (es : List Event) (e : Event) (stay : Stay) (q : Raster) → ((octets : List ℕ) → Newly s es e octets stay → ⊥) → IsFrameOf q stay s es → IsFrameOf q stay s (es ++ e ∷ [])
 frame_kept s es e stay q none is = record {
   reached = is.reached;
   each = λ octets. (
@@ -76,7 +76,7 @@ frame_kept s es e stay q none is = record {
 -- ---- a frame that takes a datagram
 
 -- whether octets are a datagram of this timestamp
-of_or_not : (o : Opening) (octets : List ℕ) (ts : ℕ) (x : Result Datagram Refusal) → AreOctets octets → datagram_walk o.format o.payload_type o.ssrc octets ≡ x → IsOf o octets ts ⊎ (IsOf o octets ts → ⊥)
+of_or_not : (o : Opening) (octets : List ℕ) (ts : ℕ) (x : Result Datagram Refusal) → AreOctets octets → datagram_walk o.format o.payload_type o.ssrc octets ≡ x → IsOf octets o ts ⊎ (IsOf octets o ts → ⊥)
 of_or_not o octets ts (Err e) fit read = inr (λ is. is_ok is.datagram (admitted_for o octets is.datagram is.is_for))
   where
     is_ok : (d : Datagram) → datagram_walk o.format o.payload_type o.ssrc octets ≡ Ok d → ⊥
@@ -94,7 +94,7 @@ alone : (o : Opening) (d : List ℕ) → flat_map (offers o) (d ∷ []) ≡ offe
 alone o d = append-nil (offers o d)
 
 -- what is of another timestamp gives no cell
-none_at : (o : Opening) (octets : List ℕ) (ts : ℕ) (x : Result Datagram Refusal) → AreOctets octets → datagram_walk o.format o.payload_type o.ssrc octets ≡ x → (IsOf o octets ts → ⊥)
+none_at : (o : Opening) (octets : List ℕ) (ts : ℕ) (x : Result Datagram Refusal) → AreOctets octets → datagram_walk o.format o.payload_type o.ssrc octets ≡ x → (IsOf octets o ts → ⊥)
     → cells_of o.format (flat_map (offers o) (octets ∷ [])) ts ≡ cells_of o.format [] ts
 none_at o octets ts (Err e) fit read none = ap (λ (os : List Offer). cells_of o.format os ts) (alone o octets ∙ ap (offers_of o.format) read)
 none_at o octets ts (Ok d) fit read none =
@@ -132,8 +132,8 @@ newly_arrived s es to number path octets other stay sent new = by_last new.numbe
 
 -- A datagram that arrives while the stay lasts is joined to its frame.
 pub frame_taken : (s : Scene) (es : List Event) (to number : ℕ) (path : Path) (octets : List ℕ) (stay : Stay) (q : Raster) → slice_get s.sent number ≡ Some octets → AreOctets octets
-    → stay.receiver ≡ to → Lasts s.opening.window es stay → IsFrameOf s es stay q
-    → IsFrameOf s (es ++ Arrive to path number ∷ []) stay (joined_rasters q (raster_of s.opening.format (flat_map (offers s.opening) (octets ∷ [])) stay.timestamp))
+    → stay.receiver ≡ to → Lasts stay s.opening.window es → IsFrameOf q stay s es
+    → IsFrameOf (joined_rasters q (raster_of s.opening.format (flat_map (offers s.opening) (octets ∷ [])) stay.timestamp)) stay s (es ++ Arrive to path number ∷ [])
 frame_taken s es to number path octets stay q sent fit at lasts is =
     let o : Opening = s.opening in
     let ts : ℕ = stay.timestamp in
@@ -147,7 +147,7 @@ frame_taken s es to number path octets stay q sent fit at lasts is =
           λ m. elim (member_cases other is.reached (octets ∷ []) m) [
             | inl old ↦ reach_more s es (e ∷ []) other stay ((is.each other).0 old)
             | inr new ↦ elim new [
-              | inl same ↦ subst (λ (x : List ℕ). Reaches s (es ++ e ∷ []) x stay) (sym same)
+              | inl same ↦ subst (λ (x : List ℕ). Reaches x stay s (es ++ e ∷ [])) (sym same)
                   (reach_newly s es e octets stay (record { number = number; sent = sent; is_of = is_of; last = By_arrive path (ap (λ (x : ℕ). Arrive x path number) (sym at)) lasts }))
               | inr bad ↦ absurd bad
             ]
@@ -165,7 +165,7 @@ frame_taken s es to number path octets stay q sent fit at lasts is =
           λ m. reach_more s es (e ∷ []) other stay ((is.each other).0 m),
           λ r. elim (reach_cases s es e other stay r) [
             | inl old ↦ (is.each other).1 old
-            | inr new ↦ absurd (not_of (subst (λ (x : List ℕ). IsOf o x ts) (newly_arrived s es to number path octets other stay sent new) new.is_of))
+            | inr new ↦ absurd (not_of (subst (λ (x : List ℕ). IsOf x o ts) (newly_arrived s es to number path octets other stay sent new) new.is_of))
           ],
         );
         frame_is = with_q ∙ none_joined o is.reached octets ts (none_at o octets ts (datagram_walk o.format o.payload_type o.ssrc octets) fit refl not_of);
@@ -182,9 +182,9 @@ timestamp_of_same a b h = ap (λ (x : Stay). x.timestamp) h
 
 -- A stay's frame is joined to the one of the same timestamp that it is merged into, while both last.
 pub frame_merged : (s : Scene) (es : List Event) (into other : ℕ) (from stay : Stay) (q p : Raster) → stay.receiver ≡ into → from.receiver ≡ other
-    → Lasts s.opening.window es from → Lasts s.opening.window es stay → from.timestamp ≡ stay.timestamp
-    → ((x : Stay) → x.receiver ≡ other → Lasts s.opening.window es x → x.timestamp ≡ stay.timestamp → x ≡ from)
-    → IsFrameOf s es stay q → IsFrameOf s es from p → IsFrameOf s (es ++ Merge into other ∷ []) stay (joined_rasters q p)
+    → Lasts from s.opening.window es → Lasts stay s.opening.window es → from.timestamp ≡ stay.timestamp
+    → ((x : Stay) → x.receiver ≡ other → Lasts x s.opening.window es → x.timestamp ≡ stay.timestamp → x ≡ from)
+    → IsFrameOf q stay s es → IsFrameOf p from s es → IsFrameOf (joined_rasters q p) stay s (es ++ Merge into other ∷ [])
 frame_merged s es into other from stay q p at there from_lasts lasts same only is its =
     let o : Opening = s.opening in
     let ts : ℕ = stay.timestamp in
@@ -198,7 +198,7 @@ frame_merged s es into other from stay q p at there from_lasts lasts same only i
           | inr new ↦ let r = (its.each octets).0 new in reach_newly s es e octets stay (record {
             number = r.number;
             sent = r.sent;
-            is_of = subst (λ (t : ℕ). IsOf o octets t) same r.is_of;
+            is_of = subst (λ (t : ℕ). IsOf octets o t) same r.is_of;
             last = By_merge from r.place is_e from_lasts lasts same r.chain;
           })
         ],
@@ -212,14 +212,14 @@ frame_merged s es into other from stay q p at there from_lasts lasts same only i
           ∙ both_rasters o is.reached its.reached ts;
     }
   where
-    by_last : (octets : List ℕ) (n : ℕ) → slice_get s.sent n ≡ Some octets → IsOf s.opening octets stay.timestamp → LastStep s.opening.window es (Merge into other) n stay → Reaches s es octets from
+    by_last : (octets : List ℕ) (n : ℕ) → slice_get s.sent n ≡ Some octets → IsOf octets s.opening stay.timestamp → LastStep s.opening.window es (Merge into other) n stay → Reaches octets from s es
     by_last octets n here is_of (By_arrive path is_it lasts_it) = absurd cc
     by_last octets n here is_of (By_merge x earlier is_it x_lasts lasts_it same_it chain) =
         let one : x ≡ from = only x (sym (same_merge into stay.receiver other x.receiver is_it)) x_lasts same_it in
         record {
           number = n;
           sent = here;
-          is_of = subst (λ (t : ℕ). IsOf s.opening octets t) (sym same) is_of;
+          is_of = subst (λ (t : ℕ). IsOf octets s.opening t) (sym same) is_of;
           place = earlier;
           chain = subst (λ (y : Stay). Chain s.opening.window es n y earlier) one chain;
         }
@@ -227,22 +227,22 @@ frame_merged s es into other from stay q p at there from_lasts lasts same only i
 -- ---- a frame of a stay that begins
 
 -- a stay to which a chain leads lasts at some time
-chain_lasts : (w : List ℕ) (es : List Event) (n : ℕ) (stay : Stay) (place : ℕ) → Chain w es n stay place → Lasts w (take place es) stay
+chain_lasts : (w : List ℕ) (es : List Event) (n : ℕ) (stay : Stay) (place : ℕ) → Chain w es n stay place → Lasts stay w (take place es)
 chain_lasts w es n stay place (Arrived p path x is lasts) = lasts
 chain_lasts w es n stay place (Merged earlier p from x chain lt is from_lasts lasts same) = lasts
 
 -- no more is brought by the first events than by all
-pub brought_front : (r place : ℕ) (es : List Event) → length (brought r (take place es)) ≤ length (brought r es)
+pub brought_front : (r place : ℕ) (es : List Event) → length (slide_timestamps r (take place es)) ≤ length (slide_timestamps r es)
 brought_front r place es =
-    let split : brought r es ≡ brought r (take place es) ++ flat_map (brings r) (drop place es) =
-    ap (brought r) (sym (take-append-drop place es)) ∙ flat_map-append (brings r) (take place es) (drop place es) in
-    omega (arith, ap length split, length-append (brought r (take place es)) (flat_map (brings r) (drop place es)))
+    let split : slide_timestamps r es ≡ slide_timestamps r (take place es) ++ flat_map (slide_timestamp r) (drop place es) =
+    ap (slide_timestamps r) (sym (take-append-drop place es)) ∙ flat_map-append (slide_timestamp r) (take place es) (drop place es) in
+    omega (arith, ap length split, length-append (slide_timestamps r (take place es)) (flat_map (slide_timestamp r) (drop place es)))
 
 -- nothing came to a stay that hasn't begun
-pub not_begun : (w : List ℕ) (es : List Event) (n : ℕ) (stay : Stay) (place : ℕ) → length w + length (brought stay.receiver es) ≤ stay.number → Chain w es n stay place → ⊥
+pub not_begun : (w : List ℕ) (es : List Event) (n : ℕ) (stay : Stay) (place : ℕ) → length w + length (slide_timestamps stay.receiver es) ≤ stay.number → Chain w es n stay place → ⊥
 not_begun w es n stay place later chain =
     let lasts = chain_lasts w es n stay place chain in
-    let xs : List ℕ = brought stay.receiver (take place es) in
+    let xs : List ℕ = slide_timestamps stay.receiver (take place es) in
     let below : stay.number < length (w ++ xs) = get_below (w ++ xs) stay.number stay.timestamp lasts.begun in
     omega (arith, below, length-append w xs, brought_front stay.receiver place es)
 
@@ -252,7 +252,7 @@ blank_raster f ts = first_of_one (blank f) (raster_of f [] ts) (holds_blank f (t
     first_of_one : (q p : Raster) → q ∷ [] ≡ p ∷ [] → q ≡ p
     first_of_one q p h = cc
 
-pub frame_none : (s : Scene) (es : List Event) (stay : Stay) → ((octets : List ℕ) → Reaches s es octets stay → ⊥) → IsFrameOf s es stay (blank s.opening.format)
+pub frame_none : (s : Scene) (es : List Event) (stay : Stay) → ((octets : List ℕ) → Reaches octets stay s es → ⊥) → IsFrameOf (blank s.opening.format) stay s es
 frame_none s es stay none = record {
   reached = [];
   each = λ octets. (λ m. absurd m, λ r. absurd (none octets r));
@@ -260,8 +260,8 @@ frame_none s es stay none = record {
 }
 
 -- A stay that begins has a blank frame.
-pub frame_new : (s : Scene) (es : List Event) (at next : ℕ) (stay : Stay) → length s.opening.window + length (brought stay.receiver es) ≤ stay.number
-    → IsFrameOf s (es ++ Slide at next ∷ []) stay (blank s.opening.format)
+pub frame_new : (s : Scene) (es : List Event) (at next : ℕ) (stay : Stay) → length s.opening.window + length (slide_timestamps stay.receiver es) ≤ stay.number
+    → IsFrameOf (blank s.opening.format) stay s (es ++ Slide at next ∷ [])
 frame_new s es at next stay later =
     frame_none s (es ++ Slide at next ∷ []) stay (λ octets r. elim (reach_cases s es (Slide at next) octets stay r) [
       | inl old ↦ not_begun s.opening.window es old.number stay old.place later old.chain
@@ -301,9 +301,9 @@ none_by_other s es e stay other octets new = by_last e new.number other new.last
     by_last (Merge into from) n other (By_merge x earlier is x_lasts lasts same chain) = other (merge_into into stay.receiver from x.receiver is)
 
 -- nor is there anything for a stay that doesn't last
-pub none_when_over : (s : Scene) (es : List Event) (e : Event) (stay : Stay) → (Lasts s.opening.window es stay → ⊥) → (octets : List ℕ) → Newly s es e octets stay → ⊥
+pub none_when_over : (s : Scene) (es : List Event) (e : Event) (stay : Stay) → (Lasts stay s.opening.window es → ⊥) → (octets : List ℕ) → Newly s es e octets stay → ⊥
 none_when_over s es e stay over octets new = over (by_last new.number new.last)
   where
-    by_last : (n : ℕ) → LastStep s.opening.window es e n stay → Lasts s.opening.window es stay
+    by_last : (n : ℕ) → LastStep s.opening.window es e n stay → Lasts stay s.opening.window es
     by_last n (By_arrive path is lasts) = lasts
     by_last n (By_merge x earlier is x_lasts lasts same chain) = lasts

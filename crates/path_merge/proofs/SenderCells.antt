@@ -30,7 +30,7 @@ use Rattle.packet_plan.specs.Sent.{sample, AreSent, IsSentPicture}
 use Rattle.packet_plan.specs.Sender.{Sender, stamp_of, SendsFrom, IsSenderList}
 use Rattle.path_merge.specs.declared.answer.Refusal.TheVariants.{WrongPayloadType, WrongSource}
 use Rattle.path_merge.specs.Opening.{Opening}
-use Rattle.path_merge.specs.Admission.{datagram_walk, ◌>>=◌, by_header, by_payload, checked, is_other}
+use Rattle.path_merge.specs.Admission.{datagram_walk, ◌>>=◌, by_header, by_payload, header_for, is_other}
 use Rattle.path_merge.specs.Offers.{offers, offers_of}
 use Rattle.path_merge.specs.Frames.{frames_of, frame_at, cell_if}
 use Rattle.path_merge.specs.Sender.{IsOpenFor, AreAmong, picture_raster, frame_cell, IsSendersValue, IsSendersCell, IsSentAmong}
@@ -77,7 +77,7 @@ nothing_read o r false s e = refl
 other_offers : (o : Opening) (d : List ℕ) (r : Rtp) (t s : Bool) → IsRtp r d → eqb r.payload_type o.payload_type ≡ t → is_other o.ssrc r.ssrc ≡ s → (t && not s) ≡ false → offers o d ≡ []
 unfolding datagram_walk
 other_offers o d r t s is e f none =
-    ap (λ (x : Result Rtp RtpFault). offers_of o.format (by_header x >>= λ q. checked o.payload_type o.ssrc q >>= λ w. by_payload (payload_walk o.format w.payload) >>= by_rtp w)) (rtp_again r d is)
+    ap (λ (x : Result Rtp RtpFault). offers_of o.format (by_header x >>= λ q. header_for o.payload_type o.ssrc q >>= λ w. by_payload (payload_walk o.format w.payload) >>= by_rtp w)) (rtp_again r d is)
     ∙ ap (λ (b : Bool). offers_of o.format (cond (not b) (Err WrongPayloadType) (cond (is_other o.ssrc r.ssrc) (Err WrongSource) (Ok r)) >>= λ w. by_payload (payload_walk o.format w.payload) >>= by_rtp w)) e
     ∙ ap (λ (b : Bool). offers_of o.format (cond (not t) (Err WrongPayloadType) (cond b (Err WrongSource) (Ok r)) >>= λ w. by_payload (payload_walk o.format w.payload) >>= by_rtp w)) f
     ∙ nothing_read o r t s none
@@ -164,7 +164,7 @@ all-senders o s ps first ds xs same sends among x m =
     let d = member-flat_map (offers o) x xs m in
     source_of o s 0 ps first ds same sends d.0 (among d.0 d.1) x d.2
 
-senders_value : (s : Sender) (ps : List Values) (os : List Offer) (ts : ℕ) (at : Position) (v : ℕ) → AllSenders s ps os → IsMember v (values_for os ts at) → IsSendersValue s ps ts at v
+senders_value : (s : Sender) (ps : List Values) (os : List Offer) (ts : ℕ) (at : Position) (v : ℕ) → AllSenders s ps os → IsMember v (values_for os ts at) → IsSendersValue v s ps ts at
 senders_value s ps os ts at v all m =
     let r = member-map (λ (x : Offer). x.value) v (filter (is_for ts at) os) m in
     let q = member-filter (is_for ts at) r.0 os r.1 in
@@ -175,7 +175,7 @@ senders_value s ps os ts at v all m =
 
 -- ---- the cells
 
-cell_by : (s : Sender) (ps : List Values) (os : List Offer) (ts : ℕ) (at : Position) (c : Cell) → length ps ≤ 10000 → AllSenders s ps os → IsCellOf (values_for os ts at) c → IsSendersCell s ps ts at c
+cell_by : (s : Sender) (ps : List Values) (os : List Offer) (ts : ℕ) (at : Position) (c : Cell) → length ps ≤ 10000 → AllSenders s ps os → IsCellOf (values_for os ts at) c → IsSendersCell c s ps ts at
 cell_by s ps os ts at Missing few all is = tt
 cell_by s ps os ts at (Value v) few all is = senders_value s ps os ts at v all is.0
 cell_by s ps os ts at Contested few all is =
@@ -189,7 +189,7 @@ abbrev AllOf : Format → List Values → Type 0
 AllOf f ps = (j : ℕ) (p : Values) → slice_get ps j ≡ Some p → p.format ≡ f
 
 -- Places of one number have one value.
-same_number : (s : Sender) (ps : List Values) (ts : ℕ) (f : Format) (at : Position) (c : Cell) → AllOf f ps → IsSendersCell s ps ts (place f (number_of f at)) c → IsSendersCell s ps ts at c
+same_number : (s : Sender) (ps : List Values) (ts : ℕ) (f : Format) (at : Position) (c : Cell) → AllOf f ps → IsSendersCell c s ps ts (place f (number_of f at)) → IsSendersCell c s ps ts at
 same_number s ps ts f at Missing formats is = tt
 same_number s ps ts f at (Value v) formats is =
     let form : is.picture.format ≡ f = formats is.number is.picture is.there in
@@ -199,33 +199,33 @@ same_number s ps ts f at (Value v) formats is =
     record { number = is.number; picture = is.picture; there = is.there; time = is.time; is = ap (sample is.picture) numbers ∙ is.is }
 same_number s ps ts f at Contested formats is = is
 
-raster_cell : (s : Sender) (ps : List Values) (os : List Offer) (ts : ℕ) (f : Format) (at : Position) → length ps ≤ 10000 → AllOf f ps → AllSenders s ps os → IsSendersCell s ps ts at (cell_at (raster_of f os ts) at)
+raster_cell : (s : Sender) (ps : List Values) (os : List Offer) (ts : ℕ) (f : Format) (at : Position) → length ps ≤ 10000 → AllOf f ps → AllSenders s ps os → IsSendersCell (cell_at (raster_of f os ts) at) s ps ts at
 raster_cell s ps os ts f at few formats all =
     let n : ℕ = number_of f at in
     elim (cases_lt n (sample_count f)) [
-      | inl lt ↦ subst (λ (c : Cell). IsSendersCell s ps ts at c) (sym (get_or-cells_of f os ts n lt))
+      | inl lt ↦ subst (λ (c : Cell). IsSendersCell c s ps ts at) (sym (get_or-cells_of f os ts n lt))
           (same_number s ps ts f at (cell_of os ts (place f n)) formats (cell_by s ps os ts (place f n) (cell_of os ts (place f n)) few all (is_cell (values_for os ts (place f n)))))
-      | inr le ↦ subst (λ (c : Cell). IsSendersCell s ps ts at c) (sym (get_or_past (cells_of f os ts) n Missing (omega (arith, length-cells_of f os ts)))) tt
+      | inr le ↦ subst (λ (c : Cell). IsSendersCell c s ps ts at) (sym (get_or_past (cells_of f os ts) n Missing (omega (arith, length-cells_of f os ts)))) tt
     ]
 
-first_cell : (s : Sender) (ps : List Values) (os : List Offer) (ts : ℕ) (f : Format) (at : Position) (t : ℕ) (w : List ℕ) (b : Bool) → eqb ts t ≡ b → IsSendersCell s ps ts at (cell_at (raster_of f os ts) at)
-    → IsSendersCell s ps ts at (cell_if (frame_at w (map (raster_of f os) w) ts) at)
-    → IsSendersCell s ps ts at (cell_if (cond b (Some (raster_of f os t)) (frame_at w (map (raster_of f os) w) ts)) at)
-first_cell s ps os ts f at t w true e here rest = subst (λ (x : ℕ). IsSendersCell s ps ts at (cell_at (raster_of f os x) at)) (eqb-true ts t e) here
+first_cell : (s : Sender) (ps : List Values) (os : List Offer) (ts : ℕ) (f : Format) (at : Position) (t : ℕ) (w : List ℕ) (b : Bool) → eqb ts t ≡ b → IsSendersCell (cell_at (raster_of f os ts) at) s ps ts at
+    → IsSendersCell (cell_if (frame_at w (map (raster_of f os) w) ts) at) s ps ts at
+    → IsSendersCell (cell_if (cond b (Some (raster_of f os t)) (frame_at w (map (raster_of f os) w) ts)) at) s ps ts at
+first_cell s ps os ts f at t w true e here rest = subst (λ (x : ℕ). IsSendersCell (cell_at (raster_of f os x) at) s ps ts at) (eqb-true ts t e) here
 first_cell s ps os ts f at t w false e here rest = rest
 
-window_cell : (s : Sender) (ps : List Values) (os : List Offer) (ts : ℕ) (f : Format) (at : Position) (w : List ℕ) → IsSendersCell s ps ts at (cell_at (raster_of f os ts) at)
-    → IsSendersCell s ps ts at (cell_if (frame_at w (map (raster_of f os) w) ts) at)
+window_cell : (s : Sender) (ps : List Values) (os : List Offer) (ts : ℕ) (f : Format) (at : Position) (w : List ℕ) → IsSendersCell (cell_at (raster_of f os ts) at) s ps ts at
+    → IsSendersCell (cell_if (frame_at w (map (raster_of f os) w) ts) at) s ps ts at
 window_cell s ps os ts f at [] here = tt
 window_cell s ps os ts f at (t ∷ w) here = first_cell s ps os ts f at t w (eqb ts t) refl here (window_cell s ps os ts f at w here)
 
 -- ---- the pictures of a sender's list
 
-sent_from : (s : Sender) (k : ℕ) (ps : List Values) (first : ℕ) (ds : List (List ℕ)) (j : ℕ) (p : Values) → SendsFrom s k ps first ds → slice_get ps j ≡ Some p → IsSentAmong s (k + j) p ds
+sent_from : (s : Sender) (k : ℕ) (ps : List Values) (first : ℕ) (ds : List (List ℕ)) (j : ℕ) (p : Values) → SendsFrom s k ps first ds → slice_get ps j ≡ Some p → IsSentAmong p s (k + j) ds
 sent_from s k [] first ds j p sends at = absurd cc
 sent_from s k (q ∷ ps) first ds zero p sends at =
     let z : k ≡ k + 0 = omega arith in
-    let here : IsSentAmong s k q ds = record {
+    let here : IsSentAmong q s k ds = record {
       first = first;
       size = sends.size;
       packets = sends.packets;
@@ -234,11 +234,11 @@ sent_from s k (q ∷ ps) first ds zero p sends at =
       picture = sends.picture;
       among = λ d m. subst (λ (ys : List (List ℕ)). IsMember d ys) (sym sends.whole) (member_left d sends.mine sends.others m);
     } in
-    subst (λ (i : ℕ). IsSentAmong s i p ds) z (subst (λ (w : Values). IsSentAmong s k w ds) (same_some q p at) here)
+    subst (λ (i : ℕ). IsSentAmong p s i ds) z (subst (λ (w : Values). IsSentAmong w s k ds) (same_some q p at) here)
 sent_from s k (q ∷ ps) first ds (suc j) p sends at =
     let z : k + 1 + j ≡ k + suc j = omega arith in
     let r = sent_from s (k + 1) ps ((first + length sends.packets) % 2 ^ 32) sends.others j p sends.rest at in
-    let later : IsSentAmong s (k + 1 + j) p ds = record {
+    let later : IsSentAmong p s (k + 1 + j) ds = record {
       first = r.first;
       size = r.size;
       packets = r.packets;
@@ -247,17 +247,17 @@ sent_from s k (q ∷ ps) first ds (suc j) p sends at =
       picture = r.picture;
       among = λ d m. subst (λ (ys : List (List ℕ)). IsMember d ys) (sym sends.whole) (member_right d sends.mine sends.others (r.among d m));
     } in
-    subst (λ (i : ℕ). IsSentAmong s i p ds) z later
+    subst (λ (i : ℕ). IsSentAmong p s i ds) z later
 
 -- Each picture of a sender's list is sent by it.
-pub sent-among : (s : Sender) (first : ℕ) (ps : List Values) (ds : List (List ℕ)) (k : ℕ) (p : Values) → IsSenderList s first ps ds → slice_get ps k ≡ Some p → IsSentAmong s k p ds
-sent-among s first ps ds k p is at = let z : 0 + k ≡ k = omega arith in subst (λ (i : ℕ). IsSentAmong s i p ds) z (sent_from s 0 ps first ds k p is.sent at)
+pub sent-among : (s : Sender) (first : ℕ) (ps : List Values) (ds : List (List ℕ)) (k : ℕ) (p : Values) → IsSenderList s first ps ds → slice_get ps k ≡ Some p → IsSentAmong p s k ds
+sent-among s first ps ds k p is at = let z : 0 + k ≡ k = omega arith in subst (λ (i : ℕ). IsSentAmong p s i ds) z (sent_from s 0 ps first ds k p is.sent at)
 
 -- ---- frames
 
 -- Where every datagram is a sender's, so is each cell.
 pub cells-senders : (o : Opening) (s : Sender) (first : ℕ) (ps : List Values) (ds xs : List (List ℕ)) → IsSenderList s first ps ds → s.format ≡ o.format → AreAmong xs ds
-    → (ts : ℕ) (at : Position) → IsSendersCell s ps ts at (frame_cell o xs ts at)
+    → (ts : ℕ) (at : Position) → IsSendersCell (frame_cell o xs ts at) s ps ts at
 cells-senders o s first ps ds xs is same among ts at =
     let os : List Offer = flat_map (offers o) xs in
     window_cell s ps os ts o.format at o.window
@@ -265,13 +265,13 @@ cells-senders o s first ps ds xs is same among ts at =
 
 pub never-contested : (o : Opening) (s : Sender) (first : ℕ) (ps : List Values) (ds xs : List (List ℕ)) → IsSenderList s first ps ds → s.format ≡ o.format → AreAmong xs ds
     → (ts : ℕ) (at : Position) → frame_cell o xs ts at ≡ Contested → ⊥
-never-contested o s first ps ds xs is same among ts at e = subst (λ (c : Cell). IsSendersCell s ps ts at c) e (cells-senders o s first ps ds xs is same among ts at)
+never-contested o s first ps ds xs is same among ts at e = subst (λ (c : Cell). IsSendersCell c s ps ts at) e (cells-senders o s first ps ds xs is same among ts at)
 
 pub values-senders : (o : Opening) (s : Sender) (first : ℕ) (ps : List Values) (ds xs : List (List ℕ)) → IsSenderList s first ps ds → s.format ≡ o.format → AreAmong xs ds
     → (k : ℕ) (p : Values) (at : Position) (v : ℕ) → slice_get ps k ≡ Some p → frame_cell o xs (timestamp_of s.format s.base k) at ≡ Value v → v ≡ value_at p at
 values-senders o s first ps ds xs is same among k p at v there e =
     let ts : ℕ = timestamp_of s.format s.base k in
-    let r : IsSendersValue s ps ts at v = subst (λ (c : Cell). IsSendersCell s ps ts at c) e (cells-senders o s first ps ds xs is same among ts at) in
+    let r : IsSendersValue v s ps ts at = subst (λ (c : Cell). IsSendersCell c s ps ts at) e (cells-senders o s first ps ds xs is same among ts at) in
     sym r.is ∙ ap (λ (q : Values). value_at q at) (one_picture s ps r.number k ts r.picture p is.few r.there there r.time refl)
 
 -- Where every datagram is a sender's and all of a picture's are there, the frame is the picture.

@@ -32,7 +32,7 @@ abbrev with_cells : Format → List Cell → Raster
 with_cells f cs = record { format = f; cells = cs }
 
 -- A stay has one frame.
-pub one_frame : (s : Scene) (es : List Event) (stay : Stay) (q p : Raster) → IsFrameOf s es stay q → IsFrameOf s es stay p → q ≡ p
+pub one_frame : (s : Scene) (es : List Event) (stay : Stay) (q p : Raster) → IsFrameOf q stay s es → IsFrameOf p stay s es → q ≡ p
 one_frame s es stay q p is its =
     let o : Opening = s.opening in
     let same : SameMembers is.reached its.reached = record {
@@ -56,7 +56,7 @@ slice_member (y ∷ xs) zero x h = inl (same_some h)
     same_some e = cc
 slice_member (y ∷ xs) (suc i) x h = inr (slice_member xs i x h)
 
-reached_among : (s : Scene) (es : List Event) (stay : Stay) (q : Raster) (ds : List (List ℕ)) → AreAmong s.sent ds → (is : IsFrameOf s es stay q) → AreAmong is.reached ds
+reached_among : (s : Scene) (es : List Event) (stay : Stay) (q : Raster) (ds : List (List ℕ)) → AreAmong s.sent ds → (is : IsFrameOf q stay s es) → AreAmong is.reached ds
 reached_among s es stay q ds among is d m = let r = (is.each d).0 m in among d (slice_member s.sent r.number d r.sent)
 
 same_place_here : (p : Position) → same_place p p ≡ true
@@ -65,7 +65,7 @@ same_place_here p = rw (eq-eqb p.row p.row refl, eq-eqb p.column p.column refl, 
 for_here : (ts : ℕ) (at : Position) (v : ℕ) → is_for ts at (record { timestamp = ts; position = at; value = v }) ≡ true
 for_here ts at v = rw (eq-eqb ts ts refl, same_place_here at) refl
 
-offered_here : (o : Opening) (xs : List (List ℕ)) (ts : ℕ) (at : Position) (octets : List ℕ) (c : Carries o octets ts at) → IsMember octets xs → IsMember c.value (values_for (flat_map (offers o) xs) ts at)
+offered_here : (o : Opening) (xs : List (List ℕ)) (ts : ℕ) (at : Position) (octets : List ℕ) (c : Carries octets o ts at) → IsMember octets xs → IsMember c.value (values_for (flat_map (offers o) xs) ts at)
 offered_here o xs ts at octets c m =
     let x : Offer = record { timestamp = ts; position = at; value = c.value } in
     let os : List Offer = flat_map (offers o) xs in
@@ -74,7 +74,7 @@ offered_here o xs ts at octets c m =
 abbrev offer : ℕ → Position → ℕ → Offer
 offer t p v = record { timestamp = t; position = p; value = v }
 
-carried_by : (o : Opening) (xs : List (List ℕ)) (ts : ℕ) (at : Position) (v : ℕ) → IsMember v (values_for (flat_map (offers o) xs) ts at) → (octets : List ℕ) × IsMember octets xs × Carries o octets ts at
+carried_by : (o : Opening) (xs : List (List ℕ)) (ts : ℕ) (at : Position) (v : ℕ) → IsMember v (values_for (flat_map (offers o) xs) ts at) → (octets : List ℕ) × IsMember octets xs × Carries octets o ts at
 carried_by o xs ts at v m =
     let os : List Offer = flat_map (offers o) xs in
     let x = member-map (λ (y : Offer). y.value) v (filter (is_for ts at) os) m in
@@ -91,11 +91,11 @@ none_carried vs Missing is none = refl
 none_carried vs (Value v) is none = absurd (none v is.0)
 none_carried vs Contested is none = absurd (none is.0 is.2)
 
-missing_iff : (s : Scene) (es : List Event) (stay : Stay) (q : Raster) → IsFrameOf s es stay q → (at : Position) → IsPosition s.opening.format at
-    → (cell_at q at ≡ Missing) ↔ ((octets : List ℕ) → Reaches s es octets stay → Carries s.opening octets stay.timestamp at → ⊥)
+missing_iff : (s : Scene) (es : List Event) (stay : Stay) (q : Raster) → IsFrameOf q stay s es → (at : Position) → IsPosition s.opening.format at
+    → (cell_at q at ≡ Missing) ↔ ((octets : List ℕ) → Reaches octets stay s es → Carries octets s.opening stay.timestamp at → ⊥)
 missing_iff s es stay q is at there = (forth, back)
   where
-    forth : cell_at q at ≡ Missing → (octets : List ℕ) → Reaches s es octets stay → Carries s.opening octets stay.timestamp at → ⊥
+    forth : cell_at q at ≡ Missing → (octets : List ℕ) → Reaches octets stay s es → Carries octets s.opening stay.timestamp at → ⊥
     forth e octets r c =
         let ts : ℕ = stay.timestamp in
         let os : List Offer = flat_map (offers s.opening) is.reached in
@@ -103,7 +103,7 @@ missing_iff s es stay q is at there = (forth, back)
         subst (IsCellOf (values_for os ts at)) (sym (cell_at-raster_of s.opening.format os ts at there) ∙ ap (λ (x : Raster). cell_at x at) (sym is.frame_is) ∙ e) (is_cell (values_for os ts at)) in
         none c.value (offered_here s.opening is.reached ts at octets c ((is.each octets).1 r))
 
-    back : ((octets : List ℕ) → Reaches s es octets stay → Carries s.opening octets stay.timestamp at → ⊥) → cell_at q at ≡ Missing
+    back : ((octets : List ℕ) → Reaches octets stay s es → Carries octets s.opening stay.timestamp at → ⊥) → cell_at q at ≡ Missing
     back none =
         let ts : ℕ = stay.timestamp in
         let os : List Offer = flat_map (offers s.opening) is.reached in
@@ -113,11 +113,11 @@ missing_iff s es stay q is at there = (forth, back)
 
 -- Each cell of a stay's frame is the sender's value or missing.
 pub senders_frame : (s : Scene) (snd : Sender) (first : ℕ) (ps : List Values) (ds : List (List ℕ)) (es : List Event) (stay : Stay) (q : Raster)
-    → IsSenderList snd first ps ds → snd.format ≡ s.opening.format → AreAmong s.sent ds → IsFrameOf s es stay q → IsSendersFrame s snd ps es stay q
+    → IsSenderList snd first ps ds → snd.format ≡ s.opening.format → AreAmong s.sent ds → IsFrameOf q stay s es → IsSendersFrame q stay snd ps s es
 senders_frame s snd first ps ds es stay q list same among is = record {
   cells = λ at.
       let ts : ℕ = stay.timestamp in
-      subst (λ (c : Cell). IsSendersCell snd ps ts at c) (in_window s.opening is.reached ts at ∙ ap (λ (x : Raster). cell_at x at) (sym is.frame_is))
+      subst (λ (c : Cell). IsSendersCell c snd ps ts at) (in_window s.opening is.reached ts at ∙ ap (λ (x : Raster). cell_at x at) (sym is.frame_is))
       (cells-senders (with_window s.opening (ts ∷ [])) snd first ps ds is.reached list same (reached_among s es stay q ds among is) ts at);
   missing = missing_iff s es stay q is;
 }

@@ -96,7 +96,7 @@ pub offers-packet : (o : Opening) (p : Values) (stamp : Stamp) (i : ℕ) (l : Bo
 offers-packet o p stamp i l rs d opened sent =
     let h : Rtp = sent.header in
     let g : Datagram = record { payload_type = h.payload_type; number = 65536 * sent.extended + h.sequence; timestamp = h.timestamp; ssrc = h.ssrc; marker = h.marker; segments = sent.segments } in
-    let is : IsDatagram o.format d g = record {
+    let is : IsDatagram d o.format g = record {
       sequence = h.sequence;
       extended = sent.extended;
       payload = h.payload;

@@ -17,10 +17,10 @@ use Rattle.path_merge.specs.declared.schedule.event.Event.TheVariants.{Send, Arr
 use Rattle.path_merge.specs.declared.schedule.played.Handed.{Handed}
 use Rattle.path_merge.specs.declared.schedule.sending.Next.{Next}
 use Rattle.path_merge.specs.declared.schedule.stage.Stage.{Stage}
-use Rattle.path_merge.specs.Stays.{Stay, Lasts, HasEnded, brings, brought}
+use Rattle.path_merge.specs.Stays.{Stay, Lasts, HasEnded, slide_timestamp, slide_timestamps}
 use Rattle.path_merge.specs.Reached.{Scene, IsAt, IsFrameOf, Leaves}
-use Rattle.path_merge.specs.Admitted.{sends}
-use Rattle.path_merge.specs.Played.{IsHanded, ended, ended_by, ended_behind}
+use Rattle.path_merge.specs.Admitted.{send_count}
+use Rattle.path_merge.specs.Played.{IsHanded, ended_stays, stays_ended_by, stays_ended_behind}
 use Rattle.path_merge.specs.Stage.{Follows, HandsOut, NeverFits, Sends, octets_of}
 use Rattle.path_merge.specs.Steps.{Arrives, Merges, to_come}
 use Rattle.path_merge.proofs.Places.{get_below, get_left}
@@ -29,21 +29,21 @@ use Rattle.path_merge.proofs.StayFrames.{at_left, at_taken, at_merged, at_slid, 
 
 -- ---- what has ended
 
-ended_snoc : (w : List ℕ) (before es : List Event) (e : Event) → ended_behind w before (es ++ e ∷ []) ≡ ended_behind w before es ++ ended_by w (before ++ es) e
-ended_snoc w before [] e = append-nil (ended_by w before e) ∙ ap (λ (b : List Event). ended_by w b e) (sym (append-nil before))
+ended_snoc : (w : List ℕ) (before es : List Event) (e : Event) → stays_ended_behind w before (es ++ e ∷ []) ≡ stays_ended_behind w before es ++ stays_ended_by w (before ++ es) e
+ended_snoc w before [] e = append-nil (stays_ended_by w before e) ∙ ap (λ (b : List Event). stays_ended_by w b e) (sym (append-nil before))
 ended_snoc w before (f ∷ es) e =
-    ap (λ (xs : List Stay). ended_by w before f ++ xs) (ended_snoc w (before ++ f ∷ []) es e ∙ ap (λ (b : List Event). ended_behind w (before ++ f ∷ []) es ++ ended_by w b e) (append_assoc before (f ∷ []) es))
-    ∙ sym (append_assoc (ended_by w before f) (ended_behind w (before ++ f ∷ []) es) (ended_by w (before ++ f ∷ es) e))
+    ap (λ (xs : List Stay). stays_ended_by w before f ++ xs) (ended_snoc w (before ++ f ∷ []) es e ∙ ap (λ (b : List Event). stays_ended_behind w (before ++ f ∷ []) es ++ stays_ended_by w b e) (append_assoc before (f ∷ []) es))
+    ∙ sym (append_assoc (stays_ended_by w before f) (stays_ended_behind w (before ++ f ∷ []) es) (stays_ended_by w (before ++ f ∷ es) e))
 
-pub ended_more : (w : List ℕ) (es : List Event) (e : Event) → ended w (es ++ e ∷ []) ≡ ended w es ++ ended_by w es e
+pub ended_more : (w : List ℕ) (es : List Event) (e : Event) → ended_stays w (es ++ e ∷ []) ≡ ended_stays w es ++ stays_ended_by w es e
 ended_more w es e = ended_snoc w [] es e
 
 -- what has ended stays so
-still_over : (es : List Event) (e : Event) (stay : Stay) → HasEnded es stay → HasEnded (es ++ e ∷ []) stay
+still_over : (es : List Event) (e : Event) (stay : Stay) → HasEnded stay es → HasEnded stay (es ++ e ∷ [])
 still_over es e stay over =
-    omega (arith, over, ap length (brought_more stay.receiver es e), length-append (brought stay.receiver es) (brings stay.receiver e))
+    omega (arith, over, ap length (brought_more stay.receiver es e), length-append (slide_timestamps stay.receiver es) (slide_timestamp stay.receiver e))
 
-not_lasting : (w : List ℕ) (es : List Event) (stay : Stay) → HasEnded es stay → Lasts w es stay → ⊥
+not_lasting : (w : List ℕ) (es : List Event) (stay : Stay) → HasEnded stay es → Lasts stay w es → ⊥
 not_lasting w es stay over lasts = absurd (omega (arith, over, lasts.not_ended))
 
 handed_still : {A : Type 0} (s : Scene) (es : List Event) (e : Event) (stay : Stay) (h : Handed A) → IsHanded s es stay h → IsHanded s (es ++ e ∷ []) stay h
@@ -62,20 +62,20 @@ zip_more s es e (t ∷ stays) [] more gs all one = absurd all
 zip_more s es e (t ∷ stays) (h ∷ hs) more gs all one = (handed_still s es e t h all.0, zip_more s es e stays hs more gs all.1 one)
 
 -- one frame more was handed out, or none
-kept_handed : {A : Type 0} (s : Scene) (es : List Event) (e : Event) (hs : List (Handed A)) → ended_by s.opening.window es e ≡ [] → AllZip (IsHanded s es) (ended s.opening.window es) hs
-    → AllZip (IsHanded s (es ++ e ∷ [])) (ended s.opening.window (es ++ e ∷ [])) hs
+kept_handed : {A : Type 0} (s : Scene) (es : List Event) (e : Event) (hs : List (Handed A)) → stays_ended_by s.opening.window es e ≡ [] → AllZip (IsHanded s es) (ended_stays s.opening.window es) hs
+    → AllZip (IsHanded s (es ++ e ∷ [])) (ended_stays s.opening.window (es ++ e ∷ [])) hs
 kept_handed s es e hs none all =
     let w : List ℕ = s.opening.window in
-    let same : ended w es ++ [] ≡ ended w (es ++ e ∷ []) = ap (λ (xs : List Stay). ended w es ++ xs) (sym none) ∙ sym (ended_more w es e) in
+    let same : ended_stays w es ++ [] ≡ ended_stays w (es ++ e ∷ []) = ap (λ (xs : List Stay). ended_stays w es ++ xs) (sym none) ∙ sym (ended_more w es e) in
     subst (λ (xs : List Stay). AllZip (IsHanded s (es ++ e ∷ [])) xs hs) same
-    (subst (λ (gs : List _). AllZip (IsHanded s (es ++ e ∷ [])) (ended w es ++ []) gs) (append-nil hs) (zip_more s es e (ended w es) hs [] [] all tt))
+    (subst (λ (gs : List _). AllZip (IsHanded s (es ++ e ∷ [])) (ended_stays w es ++ []) gs) (append-nil hs) (zip_more s es e (ended_stays w es) hs [] [] all tt))
 
-more_handed : {A : Type 0} (s : Scene) (es : List Event) (e : Event) (hs : List (Handed A)) (stay : Stay) (h : Handed A) → ended_by s.opening.window es e ≡ stay ∷ [] → AllZip (IsHanded s es) (ended s.opening.window es) hs
-    → IsHanded s (es ++ e ∷ []) stay h → AllZip (IsHanded s (es ++ e ∷ [])) (ended s.opening.window (es ++ e ∷ [])) (hs ++ h ∷ [])
+more_handed : {A : Type 0} (s : Scene) (es : List Event) (e : Event) (hs : List (Handed A)) (stay : Stay) (h : Handed A) → stays_ended_by s.opening.window es e ≡ stay ∷ [] → AllZip (IsHanded s es) (ended_stays s.opening.window es) hs
+    → IsHanded s (es ++ e ∷ []) stay h → AllZip (IsHanded s (es ++ e ∷ [])) (ended_stays s.opening.window (es ++ e ∷ [])) (hs ++ h ∷ [])
 more_handed s es e hs stay h one all is =
     let w : List ℕ = s.opening.window in
-    let same : ended w es ++ stay ∷ [] ≡ ended w (es ++ e ∷ []) = ap (λ (xs : List Stay). ended w es ++ xs) (sym one) ∙ sym (ended_more w es e) in
-    subst (λ (xs : List Stay). AllZip (IsHanded s (es ++ e ∷ [])) xs (hs ++ h ∷ [])) same (zip_more s es e (ended w es) hs (stay ∷ []) (h ∷ []) all (is, tt))
+    let same : ended_stays w es ++ stay ∷ [] ≡ ended_stays w (es ++ e ∷ []) = ap (λ (xs : List Stay). ended_stays w es ++ xs) (sym one) ∙ sym (ended_more w es e) in
+    subst (λ (xs : List Stay). AllZip (IsHanded s (es ++ e ∷ [])) xs (hs ++ h ∷ [])) same (zip_more s es e (ended_stays w es) hs (stay ∷ []) (h ∷ []) all (is, tt))
 
 -- ---- one receiver is replaced
 
@@ -90,10 +90,10 @@ replaced (z ∷ xs) (suc i) (suc r) x y h = elim (replaced xs i r x y h) [
 ]
 
 each_receiver : (s : Scene) (es : List Event) (e : Event) (old : List State) (i : ℕ) (after : State) → ((r : ℕ) → i ≢ r → Leaves e r)
-    → ((r : ℕ) (state : State) → slice_get old r ≡ Some state → IsAt s es r state) → IsAt s (es ++ e ∷ []) i after
-    → (r : ℕ) (state : State) → slice_get (set old i after) r ≡ Some state → IsAt s (es ++ e ∷ []) r state
+    → ((r : ℕ) (state : State) → slice_get old r ≡ Some state → IsAt state r s es) → IsAt after i s (es ++ e ∷ [])
+    → (r : ℕ) (state : State) → slice_get (set old i after) r ≡ Some state → IsAt state r s (es ++ e ∷ [])
 each_receiver s es e old i after others all now r state there = elim (replaced old i r after state there) [
-  | inl a ↦ subst (λ (x : State). IsAt s (es ++ e ∷ []) r x) a.1 (subst (λ (n : ℕ). IsAt s (es ++ e ∷ []) n after) (sym a.0) now)
+  | inl a ↦ subst (λ (x : State). IsAt x r s (es ++ e ∷ [])) a.1 (subst (λ (n : ℕ). IsAt after n s (es ++ e ∷ [])) (sym a.0) now)
   | inr b ↦ at_left s es e r state (others r b.0) (all r state b.1)
 ]
 
@@ -102,7 +102,7 @@ length-set_state [] i x = refl
 length-set_state (z ∷ xs) zero x = refl
 length-set_state (z ∷ xs) (suc i) x = ap suc (length-set_state xs i x)
 
-pub sends_more : (es : List Event) (e : Event) (k : ℕ) → sends (e ∷ []) ≡ k → sends (es ++ e ∷ []) ≡ sends es + k
+pub sends_more : (es : List Event) (e : Event) (k : ℕ) → send_count (e ∷ []) ≡ k → send_count (es ++ e ∷ []) ≡ send_count es + k
 sends_more [] e k h = omega (arith, h)
 sends_more (Send ∷ es) e k h = let r = sends_more es e k h in omega (arith, r)
 sends_more (Arrive to path number ∷ es) e k h = sends_more es e k h
@@ -134,7 +134,7 @@ follows_send plan stamp pictures old new h s es some is = record {
   stage = record {
     count = ap length h.receivers ∙ is.count;
     receivers = λ r state there. at_left s es Send r state tt (is.receivers r state (ap (λ (xs : List State). slice_get xs r) (sym h.receivers) ∙ there));
-    handed = subst (λ (hs : List (Handed _)). AllZip (IsHanded s (es ++ Send ∷ [])) (ended s.opening.window (es ++ Send ∷ [])) hs) (sym h.handed) (kept_handed s es Send old.handed.items refl is.handed);
+    handed = subst (λ (hs : List (Handed _)). AllZip (IsHanded s (es ++ Send ∷ [])) (ended_stays s.opening.window (es ++ Send ∷ [])) hs) (sym h.handed) (kept_handed s es Send old.handed.items refl is.handed);
     sent = ap (λ (vs : List (Vec ℕ _)). map octets_of vs ++ to_come plan stamp pictures new.next) h.sent
         ∙ ap (λ (xs : List (List ℕ)). xs ++ to_come plan stamp pictures new.next) (map_snoc old.sent.items h.datagram)
         ∙ append_assoc (map octets_of old.sent.items) (h.datagram.items ∷ []) (to_come plan stamp pictures new.next)
@@ -158,17 +158,17 @@ follows_arrive plan stamp pictures to number path old new h sent handed next s e
         count = ap length h.all ∙ length-set_state old.receivers.items to h.after ∙ is.count;
         receivers = λ r state there. each_receiver s es e old.receivers.items to h.after (λ q other. other) is.receivers
             (at_taken s es to number path h.datagram.items h.before h.after datagram h.octets (is.receivers to h.before h.there) h.opening h.frames) r state (ap (λ (xs : List State). slice_get xs r) (sym h.all) ∙ there);
-        handed = subst (λ (hs : List (Handed _)). AllZip (IsHanded s (es ++ e ∷ [])) (ended s.opening.window (es ++ e ∷ [])) hs) (sym handed) (kept_handed s es e old.handed.items refl is.handed);
+        handed = subst (λ (hs : List (Handed _)). AllZip (IsHanded s (es ++ e ∷ [])) (ended_stays s.opening.window (es ++ e ∷ [])) hs) (sym handed) (kept_handed s es e old.handed.items refl is.handed);
         sent = ap (λ (vs : List (Vec ℕ _)). map octets_of vs ++ to_come plan stamp pictures new.next) sent ∙ ap (λ (n : Next). map octets_of old.sent.items ++ to_come plan stamp pictures n) next ∙ is.sent;
         sends = omega (arith, ap length sent, is.sends, sends_more es e 0 refl);
       };
     }
 
 -- the timestamp of the stay that ends
-first_timestamp : (s : Scene) (es : List Event) (at t : ℕ) (state : State) → IsAt s es at state → slice_get state.opening.window 0 ≡ Some t → get_or (s.opening.window ++ brought at es) (length (brought at es)) 0 ≡ t
+first_timestamp : (s : Scene) (es : List Event) (at t : ℕ) (state : State) → IsAt state at s es → slice_get state.opening.window 0 ≡ Some t → get_or (s.opening.window ++ slide_timestamps at es) (length (slide_timestamps at es)) 0 ≡ t
 first_timestamp s es at t state is first =
-    get_or_from_slice_get (s.opening.window ++ brought at es) (length (brought at es)) t 0
-    (drop_first (length (brought at es)) (s.opening.window ++ brought at es) t (ap (λ (o : Opening). slice_get o.window 0) (sym is.opening) ∙ first))
+    get_or_from_slice_get (s.opening.window ++ slide_timestamps at es) (length (slide_timestamps at es)) t 0
+    (drop_first (length (slide_timestamps at es)) (s.opening.window ++ slide_timestamps at es) t (ap (λ (o : Opening). slice_get o.window 0) (sym is.opening) ∙ first))
 
 pub follows_slide : {A : Type 0} (plan : RasterPlan) (stamp : Stamp) (pictures : List Values) (at next : ℕ) (old new : Stage A) → HandsOut at next old new
     → new.next ≡ old.next → Follows plan stamp pictures (Slide at next) old new
@@ -176,17 +176,17 @@ follows_slide plan stamp pictures at next old new out same s es some is =
     let e : Event = Slide at next in
     let h = out.slides in
     let w : List ℕ = s.opening.window in
-    let k : ℕ = length (brought at es) in
-    let here : IsAt s es at h.before = is.receivers at h.before h.there in
+    let k : ℕ = length (slide_timestamps at es) in
+    let here : IsAt h.before at s es = is.receivers at h.before h.there in
     let below : at < length old.receivers.items = get_below old.receivers.items at h.before h.there in
-    let time : get_or (w ++ brought at es) k 0 ≡ out.out.timestamp = first_timestamp s es at out.out.timestamp h.before here h.first in
-    let stay : Stay = stay_at at k (get_or (w ++ brought at es) k 0) in
-    let frame : IsFrameOf s es stay out.out.frame = subst (λ (t : ℕ). IsFrameOf s es (stay_at at k t) out.out.frame) (sym time) (at_first s es at out.out.timestamp h.before out.out.frame here h.first h.frame) in
-    let more : length (brought at (es ++ e ∷ [])) ≡ length (brought at es ++ brings at e) = ap length (brought_more at es e) in
+    let time : get_or (w ++ slide_timestamps at es) k 0 ≡ out.out.timestamp = first_timestamp s es at out.out.timestamp h.before here h.first in
+    let stay : Stay = stay_at at k (get_or (w ++ slide_timestamps at es) k 0) in
+    let frame : IsFrameOf out.out.frame stay s es = subst (λ (t : ℕ). IsFrameOf out.out.frame (stay_at at k t) s es) (sym time) (at_first s es at out.out.timestamp h.before out.out.frame here h.first h.frame) in
+    let more : length (slide_timestamps at (es ++ e ∷ [])) ≡ length (slide_timestamps at es ++ slide_timestamp at e) = ap length (brought_more at es e) in
     let handed : IsHanded s (es ++ e ∷ []) stay out.out = record {
       receiver = h.handed;
       timestamp = sym time;
-      over = omega (arith, more, length-append (brought at es) (brings at e), ap length (brings_here at next));
+      over = omega (arith, more, length-append (slide_timestamps at es) (slide_timestamp at e), ap length (brings_here at next));
       frame = frame_kept s es e stay out.out.frame (none_by_other s es e stay tt) frame;
     } in
     record {
@@ -195,7 +195,7 @@ follows_slide plan stamp pictures at next old new out same s es some is =
         count = ap length h.all ∙ length-set_state old.receivers.items at (slid h.before next) ∙ is.count;
         receivers = λ r state there. each_receiver s es e old.receivers.items at (slid h.before next) (λ q other. other) is.receivers
             (at_slid s es at next h.before some here) r state (ap (λ (xs : List State). slice_get xs r) (sym h.all) ∙ there);
-        handed = subst (λ (hs : List (Handed _)). AllZip (IsHanded s (es ++ e ∷ [])) (ended w (es ++ e ∷ [])) hs) (sym out.handed) (more_handed s es e old.handed.items stay out.out refl is.handed handed);
+        handed = subst (λ (hs : List (Handed _)). AllZip (IsHanded s (es ++ e ∷ [])) (ended_stays w (es ++ e ∷ [])) hs) (sym out.handed) (more_handed s es e old.handed.items stay out.out refl is.handed handed);
         sent = ap (λ (vs : List (Vec ℕ _)). map octets_of vs ++ to_come plan stamp pictures new.next) out.sent ∙ ap (λ (n : Next). map octets_of old.sent.items ++ to_come plan stamp pictures n) same ∙ is.sent;
         sends = omega (arith, ap length out.sent, is.sends, sends_more es e 0 refl);
       };
@@ -205,8 +205,8 @@ pub follows_merge : {A : Type 0} (plan : RasterPlan) (stamp : Stamp) (pictures :
     → new.sent.items ≡ old.sent.items → new.handed.items ≡ old.handed.items → new.next ≡ old.next → Follows plan stamp pictures (Merge into from) old new
 follows_merge plan stamp pictures into from old new h sent handed next s es some is =
     let e : Event = Merge into from in
-    let here : IsAt s es into h.before = is.receivers into h.before h.there in
-    let there : IsAt s es from h.other = is.receivers from h.other h.there_too in
+    let here : IsAt h.before into s es = is.receivers into h.before h.there in
+    let there : IsAt h.other from s es = is.receivers from h.other h.there_too in
     let below : into < length old.receivers.items = get_below old.receivers.items into h.before h.there in
     let below_too : from < length old.receivers.items = get_below old.receivers.items from h.other h.there_too in
     record {
@@ -220,7 +220,7 @@ follows_merge plan stamp pictures into from old new h sent handed next s es some
         count = ap length h.all ∙ length-set_state old.receivers.items into h.after ∙ is.count;
         receivers = λ r state at. each_receiver s es e old.receivers.items into h.after (λ q other. other) is.receivers
             (at_merged s es into from h.before h.other h.after here there h.alike (subst (λ (o : Opening). AreDifferent o.window) h.opening h.receiver.window.different) h.opening h.frames) r state (ap (λ (xs : List State). slice_get xs r) (sym h.all) ∙ at);
-        handed = subst (λ (hs : List (Handed _)). AllZip (IsHanded s (es ++ e ∷ [])) (ended s.opening.window (es ++ e ∷ [])) hs) (sym handed) (kept_handed s es e old.handed.items refl is.handed);
+        handed = subst (λ (hs : List (Handed _)). AllZip (IsHanded s (es ++ e ∷ [])) (ended_stays s.opening.window (es ++ e ∷ [])) hs) (sym handed) (kept_handed s es e old.handed.items refl is.handed);
         sent = ap (λ (vs : List (Vec ℕ _)). map octets_of vs ++ to_come plan stamp pictures new.next) sent ∙ ap (λ (n : Next). map octets_of old.sent.items ++ to_come plan stamp pictures n) next ∙ is.sent;
         sends = omega (arith, ap length sent, is.sends, sends_more es e 0 refl);
       };

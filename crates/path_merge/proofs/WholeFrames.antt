@@ -134,7 +134,7 @@ frame-raster o xs ts m = frame_there o.format (flat_map (offers o) xs) ts o.wind
 
 -- Where all of a picture's datagrams are there, and every other one offers nothing at its timestamp, the frame is the picture.
 pub frame-whole : (o : Opening) (p : Values) (stamp : Stamp) (size : ℕ) (qs : List (List PacketRun)) (ds xs : List (List ℕ)) → IsOpenFor o p.format stamp.payload_type stamp.ssrc → IsMember stamp.timestamp o.window
-    → length p.samples ≡ sample_count p.format → IsSentPicture p stamp size qs ds → AreAmong ds xs → AreAmongAt o stamp.timestamp xs ds
+    → length p.samples ≡ sample_count p.format → IsSentPicture p stamp size qs ds → AreAmong ds xs → AreAmongAt xs ds o stamp.timestamp
     → frame_at o.window (frames_of o xs) stamp.timestamp ≡ Some (picture_raster p)
 frame-whole o p stamp size qs ds xs opened inside whole is all others =
     let only : (x : Offer) → IsMember x (flat_map (offers o) xs) → x.timestamp ≡ stamp.timestamp → x.value ≡ value_at p x.position = λ x m e.
@@ -161,14 +161,14 @@ in_all_time f ts (s ∷ ss) x m = elim (member_cases x (offers_in f ts s) (offer
 
 -- What offers something at a timestamp is a datagram of it.
 among_offers : (o : Opening) (ts : ℕ) (d : List ℕ) (ds : List (List ℕ)) (r : Result Datagram Refusal) → AreOctets d → datagram_walk o.format o.payload_type o.ssrc d ≡ r
-    → ((g : Datagram) → IsFor o d g → g.timestamp ≡ ts → IsMember d ds) → (x : Offer) → IsMember x (offers_of o.format r) → x.timestamp ≡ ts → IsMember d ds
+    → ((g : Datagram) → IsFor d o g → g.timestamp ≡ ts → IsMember d ds) → (x : Offer) → IsMember x (offers_of o.format r) → x.timestamp ≡ ts → IsMember d ds
 among_offers o ts d ds (Err e) fit read at x m h = absurd m
 among_offers o ts d ds (Ok g) fit read at x m h = at g (admitted_takes o d g fit read) (sym (in_all_time o.format g.timestamp g.segments x m) ∙ h)
 
 -- Where every datagram of its timestamp is one of the picture's, the frame is the picture.
 pub frame-grammar : (o : Opening) (p : Values) (stamp : Stamp) (size : ℕ) (qs : List (List PacketRun)) (ds xs : List (List ℕ)) → IsOpenFor o p.format stamp.payload_type stamp.ssrc → IsMember stamp.timestamp o.window
     → length p.samples ≡ sample_count p.format → IsSentPicture p stamp size qs ds → AreAmong ds xs
-    → ((d : List ℕ) → IsMember d xs → AreOctets d) → ((d : List ℕ) (g : Datagram) → IsMember d xs → IsFor o d g → g.timestamp ≡ stamp.timestamp → IsMember d ds)
+    → ((d : List ℕ) → IsMember d xs → AreOctets d) → ((d : List ℕ) (g : Datagram) → IsMember d xs → IsFor d o g → g.timestamp ≡ stamp.timestamp → IsMember d ds)
     → frame_at o.window (frames_of o xs) stamp.timestamp ≡ Some (picture_raster p)
 frame-grammar o p stamp size qs ds xs opened inside whole is all fit others =
     let only : (x : Offer) → IsMember x (flat_map (offers o) xs) → x.timestamp ≡ stamp.timestamp → x.value ≡ value_at p x.position = λ x m e.

@@ -35,8 +35,8 @@ is_other None ssrc = false
 is_other (Some pinned) ssrc = not (pinned == ssrc)
 
 -- the payload type, and then the source
-abbrev pub checked : ℕ → Option ℕ → Rtp → Result Rtp Refusal
-checked payload_type ssrc rtp =
+abbrev pub header_for : ℕ → Option ℕ → Rtp → Result Rtp Refusal
+header_for payload_type ssrc rtp =
     if not (rtp.payload_type == payload_type) then Err WrongPayloadType else
     (if is_other ssrc rtp.ssrc then Err WrongSource else Ok rtp)
 
@@ -55,7 +55,7 @@ datagram_with rtp payload = record {
 unfoldable pub datagram_walk : Format → ℕ → Option ℕ → List ℕ → Result Datagram Refusal
 datagram_walk format payload_type ssrc octets = do
   read ← by_header (rtp_walk octets)
-  rtp ← checked payload_type ssrc read
+  rtp ← header_for payload_type ssrc read
   payload ← by_payload (payload_walk format rtp.payload)
   Ok (datagram_with rtp payload)
 

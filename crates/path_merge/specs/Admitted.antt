@@ -7,17 +7,17 @@ use Rattle.path_merge.specs.Stays.{window_after}
 use Rattle.path_merge.specs.Reached.{Scene}
 
 -- how many datagrams events make
-abbrev pub sends : List Event → ℕ
-sends [] = 0
-sends (Send ∷ events) = suc (sends events)
-sends (Arrive to path number ∷ events) = sends events
-sends (Slide at next ∷ events) = sends events
-sends (Merge into from ∷ events) = sends events
+abbrev pub send_count : List Event → ℕ
+send_count [] = 0
+send_count (Send ∷ events) = suc (send_count events)
+send_count (Arrive to path number ∷ events) = send_count events
+send_count (Slide at next ∷ events) = send_count events
+send_count (Merge into from ∷ events) = send_count events
 
 -- what an Arrive needs: a receiver, and a datagram that was sent
 pub record CanArrive (s : Scene) (before : List Event) (to number : ℕ) : Type 0 where
   pub receiver : to < s.receivers
-  pub sent : number < sends before
+  pub sent : number < send_count before
 
 -- what a Slide needs: a receiver whose window hasn't the timestamp
 pub record CanSlide (s : Scene) (before : List Event) (at next : ℕ) : Type 0 where
@@ -32,19 +32,19 @@ pub record CanMerge (s : Scene) (before : List Event) (into from : ℕ) : Type 0
   pub alike : window_after s.opening.window into before ≡ window_after s.opening.window from before
 
 -- An event is admitted after others.
-abbrev pub IsAdmitted : Scene → List Event → Event → Type 0
-IsAdmitted s before Send = sends before < length s.sent
-IsAdmitted s before (Arrive to path number) = CanArrive s before to number
-IsAdmitted s before (Slide at next) = CanSlide s before at next
-IsAdmitted s before (Merge into from) = CanMerge s before into from
+abbrev pub IsAdmitted : Event → Scene → List Event → Type 0
+IsAdmitted Send s before = send_count before < length s.sent
+IsAdmitted (Arrive to path number) s before = CanArrive s before to number
+IsAdmitted (Slide at next) s before = CanSlide s before at next
+IsAdmitted (Merge into from) s before = CanMerge s before into from
 
 -- each event of a list up to a place is admitted after those before it
-abbrev pub AreAdmittedTo : Scene → List Event → ℕ → Type 0
-AreAdmittedTo s events end = (place : ℕ) (event : Event) → place < end → slice_get events place ≡ Some event → IsAdmitted s (take place events) event
+abbrev pub AreAdmittedTo : List Event → Scene → ℕ → Type 0
+AreAdmittedTo events s end = (place : ℕ) (event : Event) → place < end → slice_get events place ≡ Some event → IsAdmitted event s (take place events)
 
 -- the first event that isn't admitted stands at this place
-pub record IsFirstBad (s : Scene) (events : List Event) (place : ℕ) : Type 0 where
+pub record IsFirstBad (place : ℕ) (s : Scene) (events : List Event) : Type 0 where
   pub event : Event
   pub there : slice_get events place ≡ Some event
-  pub bad : IsAdmitted s (take place events) event → ⊥
-  pub before : AreAdmittedTo s events place
+  pub bad : IsAdmitted event s (take place events) → ⊥
+  pub before : AreAdmittedTo events s place

@@ -21,12 +21,12 @@ use Rattle.path_merge.specs.Grammar.{Datagram}
 use Rattle.path_merge.specs.Admission.{datagram_walk, ◌>>=◌}
 
 -- the window's word on a datagram that is for the receiver (own)
-abbrev pub taken : List ℕ → Datagram → Taken
-taken window d = if list_any (λ t. t == d.timestamp) window then Kept d.number else Outside
+abbrev pub kept_or_outside : List ℕ → Datagram → Taken
+kept_or_outside window d = if list_any (λ t. t == d.timestamp) window then Kept d.number else Outside
 
 -- what take answers: the first refusal, or the window's word
 abbrev pub taken_at : Opening → List ℕ → Result Taken Refusal
-taken_at o octets = datagram_walk o.format o.payload_type o.ssrc octets >>= λ d. Ok (taken o.window d)
+taken_at o octets = datagram_walk o.format o.payload_type o.ssrc octets >>= λ d. Ok (kept_or_outside o.window d)
 
 -- the last 64 of a list
 abbrev pub last_64 : {X : Type 0} → List X → List X

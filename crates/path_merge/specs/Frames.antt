@@ -57,8 +57,8 @@ abbrev pub cell_in : State → ℕ → Position → Cell
 cell_in s ts p = cell_if (frame_at s.opening.window s.frames ts) p
 
 -- two lists of frames of the same formats, one by one (own)
-abbrev pub AreAlike : List Raster → List Raster → Type 0
-AreAlike [] [] = ⊤
-AreAlike [] (q ∷ qs) = ⊥
-AreAlike (r ∷ rs) [] = ⊥
-AreAlike (r ∷ rs) (q ∷ qs) = (q.format ≡ r.format) × AreAlike rs qs
+abbrev pub SameFormats : List Raster → List Raster → Type 0
+SameFormats [] [] = ⊤
+SameFormats [] (q ∷ qs) = ⊥
+SameFormats (r ∷ rs) [] = ⊥
+SameFormats (r ∷ rs) (q ∷ qs) = (q.format ≡ r.format) × SameFormats rs qs

@@ -30,7 +30,7 @@ header_with d sequence payload = record {
 -- Grammar: octets are a datagram of this format that says d. They are an RTP header of d's fields, and
 -- behind all headers a payload of d's segments; the packet number is 65536 times the payload's extended
 -- number plus the header's sequence number. RFC 3550, 5.1; RFC 4175, 4.1
-pub record IsDatagram (f : Format) (octets : List ℕ) (d : Datagram) : Type 0 where
+pub record IsDatagram (octets : List ℕ) (f : Format) (d : Datagram) : Type 0 where
   pub sequence : ℕ
   pub extended : ℕ
   pub payload : List ℕ
@@ -40,20 +40,20 @@ pub record IsDatagram (f : Format) (octets : List ℕ) (d : Datagram) : Type 0 w
 
 -- Such a datagram is for a receiver where it has the receiver's payload type, and its source where one
 -- is pinned. RFC 3550, 5.1
-pub record IsFor (o : Opening) (octets : List ℕ) (d : Datagram) : Type 0 where
-  pub is : IsDatagram o.format octets d
+pub record IsFor (octets : List ℕ) (o : Opening) (d : Datagram) : Type 0 where
+  pub is : IsDatagram octets o.format d
   pub type_is : d.payload_type ≡ o.payload_type
   pub source : IsSource o.ssrc d.ssrc
 
 -- Octets that a receiver keeps: a datagram for it, of a timestamp of its window and of this number (own)
-pub record IsKept (o : Opening) (octets : List ℕ) (number : ℕ) : Type 0 where
+pub record IsKept (octets : List ℕ) (o : Opening) (number : ℕ) : Type 0 where
   pub datagram : Datagram
-  pub is_for : IsFor o octets datagram
+  pub is_for : IsFor octets o datagram
   pub inside : IsMember datagram.timestamp o.window
   pub number_is : datagram.number ≡ number
 
 -- Octets that only the window keeps out: a datagram for the receiver, of another timestamp (own)
-pub record IsOutside (o : Opening) (octets : List ℕ) : Type 0 where
+pub record IsOutside (octets : List ℕ) (o : Opening) : Type 0 where
   pub datagram : Datagram
-  pub is_for : IsFor o octets datagram
+  pub is_for : IsFor octets o datagram
   pub outside : IsMember datagram.timestamp o.window → ⊥

@@ -11,7 +11,7 @@ use Rattle.path_merge.specs.Opening.{Opening}
 use Rattle.path_merge.specs.Sliding.{with_window}
 use Rattle.path_merge.specs.declared.schedule.event.Event.{Event}
 use Rattle.path_merge.specs.declared.schedule.event.Event.TheVariants.{Send, Arrive, Slide, Merge}
-use Rattle.path_merge.specs.Stays.{Stay, Lasts, brought, window_after}
+use Rattle.path_merge.specs.Stays.{Stay, Lasts, slide_timestamps, window_after}
 
 -- What a schedule starts from: what all receivers are opened with, how many there are, and the datagrams that
 -- Sends make, in order
@@ -26,35 +26,35 @@ pub record Scene : Type 0 where
 pub data Chain (window : List ℕ) (events : List Event) (number : ℕ) : Stay → ℕ → Type 0 where
   Arrived : (place : ℕ) (path : Path) (stay : Stay)
       → slice_get events place ≡ Some (Arrive stay.receiver path number)
-      → Lasts window (take place events) stay
+      → Lasts stay window (take place events)
       → Chain window events number stay place
   Merged : (earlier place : ℕ) (from stay : Stay)
       → Chain window events number from earlier
       → earlier < place
       → slice_get events place ≡ Some (Merge stay.receiver from.receiver)
-      → Lasts window (take place events) from
-      → Lasts window (take place events) stay
+      → Lasts from window (take place events)
+      → Lasts stay window (take place events)
       → from.timestamp ≡ stay.timestamp
       → Chain window events number stay place
 
 -- octets are a datagram for a receiver, of this timestamp
-pub record IsOf (o : Opening) (octets : List ℕ) (timestamp : ℕ) : Type 0 where
+pub record IsOf (octets : List ℕ) (o : Opening) (timestamp : ℕ) : Type 0 where
   pub datagram : Datagram
-  pub is_for : IsFor o octets datagram
+  pub is_for : IsFor octets o datagram
   pub time : datagram.timestamp ≡ timestamp
 
 -- Reached: a datagram reaches a stay of its timestamp where a chain of events brings it there.
-pub record Reaches (s : Scene) (events : List Event) (octets : List ℕ) (stay : Stay) : Type 0 where
+pub record Reaches (octets : List ℕ) (stay : Stay) (s : Scene) (events : List Event) : Type 0 where
   pub number : ℕ
   pub sent : slice_get s.sent number ≡ Some octets
-  pub is_of : IsOf s.opening octets stay.timestamp
+  pub is_of : IsOf octets s.opening stay.timestamp
   pub place : ℕ
   pub chain : Chain s.opening.window events number stay place
 
 -- A stay's frame has at each position the cell of the offers of all datagrams that reach it.
-pub record IsFrameOf (s : Scene) (events : List Event) (stay : Stay) (frame : Raster) : Type 0 where
+pub record IsFrameOf (frame : Raster) (stay : Stay) (s : Scene) (events : List Event) : Type 0 where
   pub reached : List (List ℕ)
-  pub each : (octets : List ℕ) → IsMember octets reached ↔ Reaches s events octets stay
+  pub each : (octets : List ℕ) → IsMember octets reached ↔ Reaches octets stay s events
   pub frame_is : frame ≡ raster_of s.opening.format (flat_map (offers s.opening) reached) stay.timestamp
 
 -- frames of the stays of a receiver from a number on, whose timestamps are these
@@ -63,23 +63,23 @@ AreFrames s events receiver number [] [] = ⊤
 AreFrames s events receiver number [] (q ∷ qs) = ⊥
 AreFrames s events receiver number (t ∷ w) [] = ⊥
 AreFrames s events receiver number (t ∷ w) (q ∷ qs) =
-    IsFrameOf s events (record { receiver = receiver; number = number; timestamp = t }) q × AreFrames s events receiver (suc number) w qs
+    IsFrameOf q (record { receiver = receiver; number = number; timestamp = t }) s events × AreFrames s events receiver (suc number) w qs
 
 -- A receiver after some events: its window has the timestamps of the stays that last, and its frames are theirs.
-pub record IsAt (s : Scene) (events : List Event) (receiver : ℕ) (state : State) : Type 0 where
+pub record IsAt (state : State) (receiver : ℕ) (s : Scene) (events : List Event) : Type 0 where
   pub opening : state.opening ≡ with_window s.opening (window_after s.opening.window receiver events)
-  pub frames : AreFrames s events receiver (length (brought receiver events)) (window_after s.opening.window receiver events) state.frames
+  pub frames : AreFrames s events receiver (length (slide_timestamps receiver events)) (window_after s.opening.window receiver events) state.frames
 
 -- One event more: a chain whose last step is that event.
 pub data LastStep (window : List ℕ) (before : List Event) (event : Event) (number : ℕ) (stay : Stay) : Type 0 where
   By_arrive : (path : Path)
       → event ≡ Arrive stay.receiver path number
-      → Lasts window before stay
+      → Lasts stay window before
       → LastStep window before event number stay
   By_merge : (from : Stay) (earlier : ℕ)
       → event ≡ Merge stay.receiver from.receiver
-      → Lasts window before from
-      → Lasts window before stay
+      → Lasts from window before
+      → Lasts stay window before
       → from.timestamp ≡ stay.timestamp
       → Chain window before number from earlier
       → LastStep window before event number stay

@@ -9,20 +9,20 @@ use Rattle.path_merge.specs.declared.answer.Refusal.TheVariants.{Header, WrongPa
 use Rattle.path_merge.specs.Opening.{Opening, IsSource}
 
 -- The octets are an RTP datagram of another payload type. RFC 3550, 5.1
-pub record HasOtherType (o : Opening) (octets : List ℕ) : Type 0 where
+pub record HasOtherType (octets : List ℕ) (o : Opening) : Type 0 where
   pub header : Rtp
   pub is_header : IsRtp header octets
   pub other : header.payload_type ≢ o.payload_type
 
 -- They are one of the receiver's payload type, but not of the source that is pinned. RFC 3550, 5.1
-pub record HasOtherSource (o : Opening) (octets : List ℕ) : Type 0 where
+pub record HasOtherSource (octets : List ℕ) (o : Opening) : Type 0 where
   pub header : Rtp
   pub is_header : IsRtp header octets
   pub type_is : header.payload_type ≡ o.payload_type
   pub other : IsSource o.ssrc header.ssrc → ⊥
 
 -- They are one of the receiver's payload type and source, whose payload has this fault. RFC 4175, 4
-pub record HasBadPayload (o : Opening) (octets : List ℕ) (fault : PayloadFault) : Type 0 where
+pub record HasBadPayload (octets : List ℕ) (o : Opening) (fault : PayloadFault) : Type 0 where
   pub header : Rtp
   pub is_header : IsRtp header octets
   pub type_is : header.payload_type ≡ o.payload_type
@@ -30,8 +30,8 @@ pub record HasBadPayload (o : Opening) (octets : List ℕ) (fault : PayloadFault
   pub is_refused : IsPayloadRefused o.format header.payload fault
 
 -- Why octets are refused. Each condition says that no earlier one holds.
-abbrev pub IsRefused : Opening → List ℕ → Refusal → Type 0
-IsRefused o octets (Header fault) = HasFault fault octets
-IsRefused o octets WrongPayloadType = HasOtherType o octets
-IsRefused o octets WrongSource = HasOtherSource o octets
-IsRefused o octets (Payload fault) = HasBadPayload o octets fault
+abbrev pub IsRefusedDatagram : List ℕ → Opening → Refusal → Type 0
+IsRefusedDatagram octets o (Header fault) = HasFault fault octets
+IsRefusedDatagram octets o WrongPayloadType = HasOtherType octets o
+IsRefusedDatagram octets o WrongSource = HasOtherSource octets o
+IsRefusedDatagram octets o (Payload fault) = HasBadPayload octets o fault

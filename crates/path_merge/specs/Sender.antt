@@ -45,12 +45,12 @@ abbrev pub AreAmong : List (List ℕ) → List (List ℕ) → Type 0
 AreAmong xs ys = (octets : List ℕ) → IsMember octets xs → IsMember octets ys
 
 -- A datagram offers nothing at a timestamp.
-abbrev pub OffersNothingAt : Opening → ℕ → List ℕ → Type 0
-OffersNothingAt o timestamp octets = (x : Offer) → IsMember x (offers o octets) → x.timestamp ≢ timestamp
+abbrev pub OffersNothingAt : List ℕ → Opening → ℕ → Type 0
+OffersNothingAt octets o timestamp = (x : Offer) → IsMember x (offers o octets) → x.timestamp ≢ timestamp
 
 -- Each datagram that a receiver took is one of these, or offers nothing at this timestamp.
-abbrev pub AreAmongAt : Opening → ℕ → List (List ℕ) → List (List ℕ) → Type 0
-AreAmongAt o timestamp xs ys = (octets : List ℕ) → IsMember octets xs → IsMember octets ys ⊎ OffersNothingAt o timestamp octets
+abbrev pub AreAmongAt : List (List ℕ) → List (List ℕ) → Opening → ℕ → Type 0
+AreAmongAt xs ys o timestamp = (octets : List ℕ) → IsMember octets xs → IsMember octets ys ⊎ OffersNothingAt octets o timestamp
 
 -- the raster of a picture, with nothing missing
 abbrev pub picture_raster : Values → Raster
@@ -62,7 +62,7 @@ frame_cell o datagrams timestamp at = cell_if (frame_at o.window (frames_of o da
 
 -- A value is a sender's at a timestamp and a position: a picture of the sender has that timestamp, and has it
 -- there.
-pub record IsSendersValue (s : Sender) (pictures : List Values) (timestamp : ℕ) (at : Position) (v : ℕ) : Type 0 where
+pub record IsSendersValue (v : ℕ) (s : Sender) (pictures : List Values) (timestamp : ℕ) (at : Position) : Type 0 where
   pub number : ℕ
   pub picture : Values
   pub there : slice_get pictures number ≡ Some picture
@@ -70,14 +70,14 @@ pub record IsSendersValue (s : Sender) (pictures : List Values) (timestamp : ℕ
   pub is : value_at picture at ≡ v
 
 -- A cell is a sender's: nothing is known, or the sender's value.
-abbrev pub IsSendersCell : Sender → List Values → ℕ → Position → Cell → Type 0
-IsSendersCell s pictures timestamp at Missing = ⊤
-IsSendersCell s pictures timestamp at (Value v) = IsSendersValue s pictures timestamp at v
-IsSendersCell s pictures timestamp at Contested = ⊥
+abbrev pub IsSendersCell : Cell → Sender → List Values → ℕ → Position → Type 0
+IsSendersCell Missing s pictures timestamp at = ⊤
+IsSendersCell (Value v) s pictures timestamp at = IsSendersValue v s pictures timestamp at
+IsSendersCell Contested s pictures timestamp at = ⊥
 
 -- A picture of a sender is sent by a list: some of its datagrams are the picture's by some raster plan, from
 -- some packet number on.
-pub record IsSentAmong (s : Sender) (k : ℕ) (p : Values) (datagrams : List (List ℕ)) : Type 0 where
+pub record IsSentAmong (p : Values) (s : Sender) (k : ℕ) (datagrams : List (List ℕ)) : Type 0 where
   pub first : ℕ
   pub size : ℕ
   pub packets : List (List PacketRun)

@@ -51,13 +51,13 @@ scene_of plan pictures stamp window receivers = record {
 }
 
 -- A datagram carries a position at a timestamp: it offers a value for it.
-pub record Carries (o : Opening) (octets : List ℕ) (timestamp : ℕ) (at : Position) : Type 0 where
+pub record Carries (octets : List ℕ) (o : Opening) (timestamp : ℕ) (at : Position) : Type 0 where
   pub value : ℕ
   pub offered : IsMember (record { timestamp = timestamp; position = at; value = value }) (offers o octets)
 
 -- A stay's frame has at each position the sender's value or nothing, and nothing exactly where no datagram that
 -- reached the stay carries the position.
-pub record IsSendersFrame (s : Scene) (sender : Sender) (pictures : List Values) (events : List Event) (stay : Stay) (frame : Raster) : Type 0 where
-  pub cells : (at : Position) → IsSendersCell sender pictures stay.timestamp at (cell_at frame at)
+pub record IsSendersFrame (frame : Raster) (stay : Stay) (sender : Sender) (pictures : List Values) (s : Scene) (events : List Event) : Type 0 where
+  pub cells : (at : Position) → IsSendersCell (cell_at frame at) sender pictures stay.timestamp at
   pub missing : (at : Position) → IsPosition s.opening.format at
-      → (cell_at frame at ≡ Missing) ↔ ((octets : List ℕ) → Reaches s events octets stay → Carries s.opening octets stay.timestamp at → ⊥)
+      → (cell_at frame at ≡ Missing) ↔ ((octets : List ℕ) → Reaches octets stay s events → Carries octets s.opening stay.timestamp at → ⊥)

@@ -10,8 +10,8 @@ use Rattle.path_merge.specs.Opening.{Opening}
 use Rattle.path_merge.specs.declared.schedule.event.Event.{Event}
 use Rattle.path_merge.specs.declared.schedule.stage.Stage.{Stage}
 use Rattle.path_merge.specs.Reached.{Scene, IsAt}
-use Rattle.path_merge.specs.Admitted.{AreAdmittedTo, IsAdmitted, IsFirstBad, sends}
-use Rattle.path_merge.specs.Played.{IsHanded, ended}
+use Rattle.path_merge.specs.Admitted.{AreAdmittedTo, IsAdmitted, IsFirstBad, send_count}
+use Rattle.path_merge.specs.Played.{IsHanded, ended_stays}
 use Rattle.path_merge.specs.Steps.{Slides, to_come}
 use Rattle.path_merge.specs.declared.schedule.played.Handed.{Handed}
 
@@ -22,10 +22,10 @@ octets_of v = v.items
 -- what was sent and what is to come make the whole.
 pub record IsStage {A : Type 0} (plan : RasterPlan) (stamp : Stamp) (pictures : List Values) (s : Scene) (events : List Event) (stage : Stage A) : Type 0 where
   pub count : length stage.receivers.items ≡ s.receivers
-  pub receivers : (r : ℕ) (state : State) → slice_get stage.receivers.items r ≡ Some state → IsAt s events r state
-  pub handed : AllZip (IsHanded s events) (ended s.opening.window events) stage.handed.items
+  pub receivers : (r : ℕ) (state : State) → slice_get stage.receivers.items r ≡ Some state → IsAt state r s events
+  pub handed : AllZip (IsHanded s events) (ended_stays s.opening.window events) stage.handed.items
   pub sent : map octets_of stage.sent.items ++ to_come plan stamp pictures stage.next ≡ s.sent
-  pub sends : length stage.sent.items ≡ sends events
+  pub sends : length stage.sent.items ≡ send_count events
 
 -- what the sender needs
 pub record IsReady {A : Type 0} (plan : RasterPlan) (stage : Stage A) : Type 0 where
@@ -49,7 +49,7 @@ pub record HandsOut {A : Type 0} (at next : ℕ) (old new : Stage A) : Type 0 wh
 
 -- an event was admitted and followed
 pub record IsFollowed {A : Type 0} (plan : RasterPlan) (stamp : Stamp) (pictures : List Values) (s : Scene) (before : List Event) (event : Event) (new : Stage A) : Type 0 where
-  pub admitted : IsAdmitted s before event
+  pub admitted : IsAdmitted event s before
   pub stage : IsStage plan stamp pictures s (before ++ event ∷ []) new
 
 -- so it is whatever the events before were
@@ -59,7 +59,7 @@ Follows plan stamp pictures event old new =
 
 -- an event is not admitted, whatever the events before were
 abbrev pub NeverFits : {A : Type 0} → RasterPlan → Stamp → List Values → Event → Stage A → Type 0
-NeverFits plan stamp pictures event old = (s : Scene) (before : List Event) → IsStage plan stamp pictures s before old → IsAdmitted s before event → ⊥
+NeverFits plan stamp pictures event old = (s : Scene) (before : List Event) → IsStage plan stamp pictures s before old → IsAdmitted event s before → ⊥
 
 -- a receiver that was just opened
 pub record IsOpened (o : Opening) (state : State) : Type 0 where
@@ -68,7 +68,7 @@ pub record IsOpened (o : Opening) (state : State) : Type 0 where
 
 -- events were all admitted and followed, from the first on
 pub record AllFollowed {A : Type 0} (plan : RasterPlan) (stamp : Stamp) (pictures : List Values) (s : Scene) (events : List Event) (count : ℕ) (new : Stage A) : Type 0 where
-  pub admitted : AreAdmittedTo s events count
+  pub admitted : AreAdmittedTo events s count
   pub stage : IsStage plan stamp pictures s (take count events) new
 
 abbrev pub FollowsTo : {A : Type 0} → RasterPlan → Stamp → List Values → List Event → ℕ → Stage A → Stage A → Type 0
@@ -79,4 +79,4 @@ FollowsAll plan stamp pictures events old new = FollowsTo plan stamp pictures ev
 
 -- the first that is not admitted stands at this place
 abbrev pub FailsAt : {A : Type 0} → RasterPlan → Stamp → List Values → List Event → ℕ → Stage A → Type 0
-FailsAt plan stamp pictures events place old = (s : Scene) → 0 < length s.opening.window → IsStage plan stamp pictures s [] old → IsFirstBad s events place
+FailsAt plan stamp pictures events place old = (s : Scene) → 0 < length s.opening.window → IsStage plan stamp pictures s [] old → IsFirstBad place s events

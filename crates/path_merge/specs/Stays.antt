@@ -5,15 +5,15 @@ use Rattle.path_merge.specs.declared.schedule.event.Event.{Event}
 use Rattle.path_merge.specs.declared.schedule.event.Event.TheVariants.{Send, Arrive, Slide, Merge}
 
 -- the timestamp that an event brings into a receiver's window
-abbrev pub brings : ℕ → Event → List ℕ
-brings receiver Send = []
-brings receiver (Arrive to path number) = []
-brings receiver (Slide at next) = if at == receiver then next ∷ [] else []
-brings receiver (Merge into from) = []
+abbrev pub slide_timestamp : ℕ → Event → List ℕ
+slide_timestamp receiver Send = []
+slide_timestamp receiver (Arrive to path number) = []
+slide_timestamp receiver (Slide at next) = if at == receiver then next ∷ [] else []
+slide_timestamp receiver (Merge into from) = []
 
 -- the timestamps that events bring into it, in order
-abbrev pub brought : ℕ → List Event → List ℕ
-brought receiver events = flat_map (brings receiver) events
+abbrev pub slide_timestamps : ℕ → List Event → List ℕ
+slide_timestamps receiver events = flat_map (slide_timestamp receiver) events
 
 -- A stay of a timestamp at a receiver. The stays at a receiver are numbered as they begin: those of the window
 -- that it was opened with, and then one for each of its Slides.
@@ -23,14 +23,14 @@ pub record Stay : Type 0 where
   pub timestamp : ℕ
 
 -- A stay lasts after some events: it has begun, and each Slide at its receiver ended one stay before it.
-pub record Lasts (window : List ℕ) (events : List Event) (stay : Stay) : Type 0 where
-  pub begun : slice_get (window ++ brought stay.receiver events) stay.number ≡ Some stay.timestamp
-  pub not_ended : length (brought stay.receiver events) ≤ stay.number
+pub record Lasts (stay : Stay) (window : List ℕ) (events : List Event) : Type 0 where
+  pub begun : slice_get (window ++ slide_timestamps stay.receiver events) stay.number ≡ Some stay.timestamp
+  pub not_ended : length (slide_timestamps stay.receiver events) ≤ stay.number
 
 -- the window of a receiver after some events: the timestamps of the stays that last
 abbrev pub window_after : List ℕ → ℕ → List Event → List ℕ
-window_after window receiver events = drop (length (brought receiver events)) (window ++ brought receiver events)
+window_after window receiver events = drop (length (slide_timestamps receiver events)) (window ++ slide_timestamps receiver events)
 
 -- a stay has ended: a Slide at its receiver ended it
-abbrev pub HasEnded : List Event → Stay → Type 0
-HasEnded events stay = stay.number < length (brought stay.receiver events)
+abbrev pub HasEnded : Stay → List Event → Type 0
+HasEnded stay events = stay.number < length (slide_timestamps stay.receiver events)

@@ -1,7 +1,7 @@
 //! The frames of a receiver, one for each timestamp of its window.
 ghost use Rattle.std.specs.Prelude.{◌≡◌, IfOk, OnErr, Err, replicate};
 ghost use Rattle.st_format.specs.Raster.{blank};
-ghost use Rattle.path_merge.specs.Frames.{AreAlike, joined_frames};
+ghost use Rattle.path_merge.specs.Frames.{SameFormats, joined_frames};
 
 use crate::fault::OpenFault;
 use frame_assembly::Frame;
@@ -26,7 +26,7 @@ pub fn blank_frames<A: Allocator + Copy>(
 
 /// Joins frames to frames of the same formats, one by one.
 pub fn join_frames<A: Allocator, B: Allocator>(frames: &mut [Frame<A>], others: &[Frame<B>])
-    requires { AreAlike frames.old others.now }
+    requires { SameFormats frames.old others.now }
     ensures { frames.new ≡ joined_frames frames.old others.now }
 {
     for i in 0..frames.len() {

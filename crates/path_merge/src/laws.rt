@@ -16,7 +16,7 @@ ghost use Rattle.path_merge.specs.Frames.{IsReceiver, State, frame_at, frames_of
 ghost use Rattle.path_merge.specs.Grammar.{Datagram, IsFor};
 ghost use Rattle.path_merge.specs.Offers.{offers};
 ghost use Rattle.path_merge.specs.Opening.{Opening};
-ghost use Rattle.path_merge.specs.Refused.{IsRefused};
+ghost use Rattle.path_merge.specs.Refused.{IsRefusedDatagram};
 ghost use Rattle.path_merge.specs.Sender.{AreAmong, AreAmongAt, IsOpenFor, IsSendersCell, IsSentAmong, frame_cell, offer_at, picture_raster, run_offers};
 ghost use Rattle.path_merge.specs.declared.answer.Refusal.{Refusal};
 
@@ -45,28 +45,28 @@ pub fn any_tree()
 
 /// What a datagram for a receiver offers is what its segments spell, at its timestamp (RFC 4175, 4.3).
 pub fn offered_by_grammar()
-    ensures { (o : Opening) (octets : List ℕ) (d : Datagram) → IsFor o octets d → offers o octets ≡ offers_in_all o.format d.timestamp d.segments }
+    ensures { (o : Opening) (octets : List ℕ) (d : Datagram) → IsFor octets o d → offers o octets ≡ offers_in_all o.format d.timestamp d.segments }
 {}
 
 /// Octets that are no datagram for a receiver offer nothing.
 pub fn nothing_else_offered()
-    ensures { (o : Opening) (octets : List ℕ) → AreOctets octets → ((d : Datagram) → IsFor o octets d → ⊥) → offers o octets ≡ [] }
+    ensures { (o : Opening) (octets : List ℕ) → AreOctets octets → ((d : Datagram) → IsFor octets o d → ⊥) → offers o octets ≡ [] }
 {}
 
 /// Octets say one thing at most to a receiver.
 pub fn one_reading()
-    ensures { (o : Opening) (octets : List ℕ) (d e : Datagram) → IsFor o octets d → IsFor o octets e → d ≡ e }
+    ensures { (o : Opening) (octets : List ℕ) (d e : Datagram) → IsFor octets o d → IsFor octets o e → d ≡ e }
 {}
 
 /// Octets are a datagram for a receiver, or refused; and never both.
 pub fn datagram_or_refusal()
-    ensures some { (o : Opening) (octets : List ℕ) → AreOctets octets → ((d : Datagram) × IsFor o octets d) ⊎ ((e : Refusal) × IsRefused o octets e) }
-    ensures apart { (o : Opening) (octets : List ℕ) (d : Datagram) (e : Refusal) → AreOctets octets → IsFor o octets d → IsRefused o octets e → ⊥ }
+    ensures some { (o : Opening) (octets : List ℕ) → AreOctets octets → ((d : Datagram) × IsFor octets o d) ⊎ ((e : Refusal) × IsRefusedDatagram octets o e) }
+    ensures apart { (o : Opening) (octets : List ℕ) (d : Datagram) (e : Refusal) → AreOctets octets → IsFor octets o d → IsRefusedDatagram octets o e → ⊥ }
 {}
 
 /// Octets are refused for one reason at most.
 pub fn refused_once()
-    ensures { (o : Opening) (octets : List ℕ) (d e : Refusal) → AreOctets octets → IsRefused o octets d → IsRefused o octets e → d ≡ e }
+    ensures { (o : Opening) (octets : List ℕ) (d e : Refusal) → AreOctets octets → IsRefusedDatagram octets o d → IsRefusedDatagram octets o e → d ≡ e }
 {}
 
 /// What a sender's datagrams offer to a receiver that is opened for them: each one, for each of its runs in
@@ -89,13 +89,13 @@ pub fn whole_frame()
     ensures others { (o : Opening) (p : Values) (stamp : Stamp) (size : ℕ) (packets : List (List PacketRun)) (datagrams taken : List (List ℕ))
         → IsOpenFor o p.format stamp.payload_type stamp.ssrc → IsMember stamp.timestamp o.window
         → length p.samples ≡ sample_count p.format → IsSentPicture p stamp size packets datagrams
-        → AreAmong datagrams taken → AreAmongAt o stamp.timestamp taken datagrams
+        → AreAmong datagrams taken → AreAmongAt taken datagrams o stamp.timestamp
         → frame_at o.window (frames_of o taken) stamp.timestamp ≡ Some (picture_raster p) }
     ensures grammar { (o : Opening) (p : Values) (stamp : Stamp) (size : ℕ) (packets : List (List PacketRun)) (datagrams taken : List (List ℕ))
         → IsOpenFor o p.format stamp.payload_type stamp.ssrc → IsMember stamp.timestamp o.window
         → length p.samples ≡ sample_count p.format → IsSentPicture p stamp size packets datagrams
         → AreAmong datagrams taken → ((octets : List ℕ) → IsMember octets taken → AreOctets octets)
-        → ((octets : List ℕ) (d : Datagram) → IsMember octets taken → IsFor o octets d → d.timestamp ≡ stamp.timestamp → IsMember octets datagrams)
+        → ((octets : List ℕ) (d : Datagram) → IsMember octets taken → IsFor octets o d → d.timestamp ≡ stamp.timestamp → IsMember octets datagrams)
         → frame_at o.window (frames_of o taken) stamp.timestamp ≡ Some (picture_raster p) }
 {}
 
@@ -109,7 +109,7 @@ pub fn timestamps_differ()
 /// Each picture of a sender's list is sent by it: its datagrams by some raster plan are among the list's.
 pub fn pictures_sent()
     ensures { (s : Sender) (first : ℕ) (pictures : List Values) (datagrams : List (List ℕ)) (k : ℕ) (p : Values)
-        → IsSenderList s first pictures datagrams → slice_get pictures k ≡ Some p → IsSentAmong s k p datagrams }
+        → IsSenderList s first pictures datagrams → slice_get pictures k ≡ Some p → IsSentAmong p s k datagrams }
 {}
 
 /// Where every datagram that a receiver took is of one sender's list, whose format is the receiver's, each
@@ -119,7 +119,7 @@ pub fn pictures_sent()
 pub fn sender_cells()
     ensures cells { (o : Opening) (s : Sender) (first : ℕ) (pictures : List Values) (datagrams taken : List (List ℕ))
         → IsSenderList s first pictures datagrams → s.format ≡ o.format → AreAmong taken datagrams
-        → (timestamp : ℕ) (at : Position) → IsSendersCell s pictures timestamp at (frame_cell o taken timestamp at) }
+        → (timestamp : ℕ) (at : Position) → IsSendersCell (frame_cell o taken timestamp at) s pictures timestamp at }
     ensures none_contested { (o : Opening) (s : Sender) (first : ℕ) (pictures : List Values) (datagrams taken : List (List ℕ))
         → IsSenderList s first pictures datagrams → s.format ≡ o.format → AreAmong taken datagrams
         → (timestamp : ℕ) (at : Position) → frame_cell o taken timestamp at ≢ Contested }

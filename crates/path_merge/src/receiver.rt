@@ -10,7 +10,7 @@ ghost use Rattle.path_merge.specs.Frames.{Holds, IsReceiver, cell_in, frame_at, 
 ghost use Rattle.path_merge.specs.Grammar.{Datagram, IsFor, IsKept, IsOutside};
 ghost use Rattle.path_merge.specs.Offers.{offers};
 ghost use Rattle.path_merge.specs.Opening.{AreDifferent, IsWindowSize};
-ghost use Rattle.path_merge.specs.Refused.{IsRefused};
+ghost use Rattle.path_merge.specs.Refused.{IsRefusedDatagram};
 ghost use Rattle.path_merge.specs.Sliding.{slid, with_frame};
 ghost use Rattle.path_merge.specs.declared.answer.Refusal.{Refusal};
 
@@ -113,10 +113,10 @@ impl<A: Allocator> Receiver<A> {
 
         // The same in the words of the grammar: kept, outside and each refusal exactly where its condition
         // holds, and refused exactly where the octets are no datagram for this receiver.
-        ensures kept { (number : ℕ) → (result ≡ Ok (Taken.Kept number)) ↔ IsKept self.old.opening octets.now number }
-        ensures outside { (result ≡ Ok Taken.Outside) ↔ IsOutside self.old.opening octets.now }
-        ensures refusal { (refusal : Refusal) → (result ≡ Err refusal) ↔ IsRefused self.old.opening octets.now refusal }
-        ensures others { IsErr result ↔ ((d : Datagram) → IsFor self.old.opening octets.now d → ⊥) }
+        ensures kept { (number : ℕ) → (result ≡ Ok (Taken.Kept number)) ↔ IsKept octets.now self.old.opening number }
+        ensures outside { (result ≡ Ok Taken.Outside) ↔ IsOutside octets.now self.old.opening }
+        ensures refusal { (refusal : Refusal) → (result ≡ Err refusal) ↔ IsRefusedDatagram octets.now self.old.opening refusal }
+        ensures others { IsErr result ↔ ((d : Datagram) → IsFor octets.now self.old.opening d → ⊥) }
 
         // What stays, and the refusals.
         ensures opening { self.new.opening ≡ self.old.opening }

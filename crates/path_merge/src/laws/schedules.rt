@@ -22,26 +22,26 @@ ghost use Rattle.path_merge.specs.Stays.{Lasts, Stay};
 pub fn one_event_more()
     ensures chains { (window : List ℕ) (events : List AnEvent) (event : AnEvent) (number : ℕ) (stay : Stay) (place : ℕ)
         → Chain window (events ++ event ∷ []) number stay place ↔ (Chain window events number stay place ⊎ ((place ≡ length events) × LastStep window events event number stay)) }
-    ensures opening { (s : Scene) (r : ℕ) (state : State) → state.opening ≡ s.opening → Holds state [] → IsAt s [] r state }
+    ensures opening { (s : Scene) (r : ℕ) (state : State) → state.opening ≡ s.opening → Holds state [] → IsAt state r s [] }
     ensures others { (s : Scene) (events : List AnEvent) (event : AnEvent) (r : ℕ) (state : State)
-        → Leaves event r → IsAt s events r state → IsAt s (events ++ event ∷ []) r state }
+        → Leaves event r → IsAt state r s events → IsAt state r s (events ++ event ∷ []) }
     ensures take { (s : Scene) (events : List AnEvent) (r number : ℕ) (path : ByPath) (octets : List ℕ) (state new : State)
-        → slice_get s.sent number ≡ Some octets → AreOctets octets → IsAt s events r state
+        → slice_get s.sent number ≡ Some octets → AreOctets octets → IsAt state r s events
         → new.opening ≡ state.opening → new.frames ≡ joined_frames state.frames (frames_of state.opening (octets ∷ []))
-        → IsAt s (events ++ Arrive r path number ∷ []) r new }
+        → IsAt new r s (events ++ Arrive r path number ∷ []) }
     ensures slide { (s : Scene) (events : List AnEvent) (r next : ℕ) (state : State)
-        → 0 < length s.opening.window → IsAt s events r state → IsAt s (events ++ Slide r next ∷ []) r (slid state next) }
+        → 0 < length s.opening.window → IsAt state r s events → IsAt (slid state next) r s (events ++ Slide r next ∷ []) }
     ensures merge { (s : Scene) (events : List AnEvent) (r q : ℕ) (state other new : State)
-        → IsAt s events r state → IsAt s events q other → state.opening ≡ other.opening → IsReceiver state
+        → IsAt state r s events → IsAt other q s events → state.opening ≡ other.opening → IsReceiver state
         → new.opening ≡ state.opening → new.frames ≡ joined_frames state.frames other.frames
-        → IsAt s (events ++ Merge r q ∷ []) r new }
+        → IsAt new r s (events ++ Merge r q ∷ []) }
     ensures over { (s : Scene) (events : List AnEvent) (event : AnEvent) (stay : Stay) (frame : Raster)
-        → (Lasts s.opening.window events stay → ⊥) → IsFrameOf s events stay frame → IsFrameOf s (events ++ event ∷ []) stay frame }
+        → (Lasts stay s.opening.window events → ⊥) → IsFrameOf frame stay s events → IsFrameOf frame stay s (events ++ event ∷ []) }
 {}
 
 /// A stay has one frame.
 pub fn one_frame()
-    ensures { (s : Scene) (events : List AnEvent) (stay : Stay) (q p : Raster) → IsFrameOf s events stay q → IsFrameOf s events stay p → q ≡ p }
+    ensures { (s : Scene) (events : List AnEvent) (stay : Stay) (q p : Raster) → IsFrameOf q stay s events → IsFrameOf p stay s events → q ≡ p }
 {}
 
 /// Where all that was sent is of one sender's list, each cell of a stay's frame is missing or the value there of
@@ -50,18 +50,18 @@ pub fn one_frame()
 pub fn senders_frames()
     ensures { (s : Scene) (sender : Sender) (first : ℕ) (pictures : List Values) (datagrams : List (List ℕ)) (events : List AnEvent) (stay : Stay) (frame : Raster)
         → IsSenderList sender first pictures datagrams → sender.format ≡ s.opening.format → AreAmong s.sent datagrams
-        → IsFrameOf s events stay frame → IsSendersFrame s sender pictures events stay frame }
+        → IsFrameOf frame stay s events → IsSendersFrame frame stay sender pictures s events }
 {}
 
 /// At most one event is the first that is not admitted, and none is where all are.
 pub fn first_bad()
-    ensures one { (s : Scene) (events : List AnEvent) (p q : ℕ) → IsFirstBad s events p → IsFirstBad s events q → p ≡ q }
-    ensures none { (s : Scene) (events : List AnEvent) (p : ℕ) → AreAdmittedTo s events (length events) → IsFirstBad s events p → ⊥ }
+    ensures one { (s : Scene) (events : List AnEvent) (p q : ℕ) → IsFirstBad p s events → IsFirstBad q s events → p ≡ q }
+    ensures none { (s : Scene) (events : List AnEvent) (p : ℕ) → AreAdmittedTo events s (length events) → IsFirstBad p s events → ⊥ }
 {}
 
 /// Whatever events are admitted, each receiver has a state after them, so each stay that lasts has a frame: the
 /// definitions leave none out. A stay that has ended lasted before, and keeps its frame.
 pub fn every_schedule()
     ensures { (s : Scene) (events : List AnEvent) → IsWindow s.opening.window → ((n : ℕ) (octets : List ℕ) → slice_get s.sent n ≡ Some octets → AreOctets octets)
-        → AreAdmittedTo s events (length events) → (r : ℕ) → (state : State) × IsAt s events r state }
+        → AreAdmittedTo events s (length events) → (r : ℕ) → (state : State) × IsAt state r s events }
 {}

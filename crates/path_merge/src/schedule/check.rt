@@ -25,9 +25,9 @@ pub fn check<C: Allocator>(
 ) -> Result<(), PlayFault>
     ensures window { IsErrOf result PlayFault.BadWindow ↔ (IsWindowSize (length window.now) → ⊥) }
     ensures double { IsErrOf result PlayFault.DoubleTimestamp ↔ (IsWindowSize (length window.now) × (AreDifferent window.now → ⊥)) }
-    ensures pictures { IsErrOf result PlayFault.BadPictures ↔ (IsWindow window.now × (ArePictures format pictures.now → ⊥)) }
-    ensures receivers { IsErrOf result PlayFault.BadReceivers ↔ (IsWindow window.now × ArePictures format pictures.now × (IsReceiverCount receivers → ⊥)) }
-    ensures fine { OnOk result (IsWindow window.now × ArePictures format pictures.now × IsReceiverCount receivers) }
+    ensures pictures { IsErrOf result PlayFault.BadPictures ↔ (IsWindow window.now × (ArePictures pictures.now format → ⊥)) }
+    ensures receivers { IsErrOf result PlayFault.BadReceivers ↔ (IsWindow window.now × ArePictures pictures.now format × (IsReceiverCount receivers → ⊥)) }
+    ensures fine { OnOk result (IsWindow window.now × ArePictures pictures.now format × IsReceiverCount receivers) }
     ensures whole { OnOk result (All IsPicture pictures.now) }
     ensures memory { result ≢ Err PlayFault.NoMemory }
     ensures event { (place : ℕ) → result ≢ Err (PlayFault.BadEvent place) }
@@ -45,9 +45,9 @@ fn check_rest<C: Allocator>(
     pictures: &[Picture<C>],
     receivers: u8,
 ) -> Result<(), PlayFault>
-    ensures pictures { IsErrOf result PlayFault.BadPictures ↔ (ArePictures format pictures.now → ⊥) }
-    ensures receivers { IsErrOf result PlayFault.BadReceivers ↔ (ArePictures format pictures.now × (IsReceiverCount receivers → ⊥)) }
-    ensures fine { OnOk result (ArePictures format pictures.now × IsReceiverCount receivers) }
+    ensures pictures { IsErrOf result PlayFault.BadPictures ↔ (ArePictures pictures.now format → ⊥) }
+    ensures receivers { IsErrOf result PlayFault.BadReceivers ↔ (ArePictures pictures.now format × (IsReceiverCount receivers → ⊥)) }
+    ensures fine { OnOk result (ArePictures pictures.now format × IsReceiverCount receivers) }
     ensures whole { OnOk result (All IsPicture pictures.now) }
     ensures others { OnErr result (result ≢ Err PlayFault.BadPictures → result ≡ Err PlayFault.BadReceivers) }
 {

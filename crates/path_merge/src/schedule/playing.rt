@@ -44,21 +44,21 @@ pub fn play<A: Allocator + Copy, B: Allocator, C: Allocator>(
     // What is tested before the first event.
     ensures window { IsErrOf result PlayFault.BadWindow ↔ (IsWindowSize (length window.now) → ⊥) }
     ensures double { IsErrOf result PlayFault.DoubleTimestamp ↔ (IsWindowSize (length window.now) × (AreDifferent window.now → ⊥)) }
-    ensures pictures { IsErrOf result PlayFault.BadPictures ↔ (IsWindow window.now × (ArePictures plan.now.format pictures.now → ⊥)) }
-    ensures receivers { IsErrOf result PlayFault.BadReceivers ↔ (IsWindow window.now × ArePictures plan.now.format pictures.now × (IsReceiverCount receivers → ⊥)) }
-    ensures fine { OnOk result (IsWindow window.now × ArePictures plan.now.format pictures.now × IsReceiverCount receivers) }
+    ensures pictures { IsErrOf result PlayFault.BadPictures ↔ (IsWindow window.now × (ArePictures pictures.now plan.now.format → ⊥)) }
+    ensures receivers { IsErrOf result PlayFault.BadReceivers ↔ (IsWindow window.now × ArePictures pictures.now plan.now.format × (IsReceiverCount receivers → ⊥)) }
+    ensures fine { OnOk result (IsWindow window.now × ArePictures pictures.now plan.now.format × IsReceiverCount receivers) }
 
     // The first event that is not admitted; where there is an answer, all are.
-    ensures event { (place : ℕ) → IsErrOf result (PlayFault.BadEvent place) → IsFirstBad (scene_of plan.now pictures.now stamp window.now receivers) events.now place }
+    ensures event { (place : ℕ) → IsErrOf result (PlayFault.BadEvent place) → IsFirstBad place (scene_of plan.now pictures.now stamp window.now receivers) events.now }
 
     // What is handed out, and what the receivers have.
-    ensures played { IfOk result (λ played. IsPlayed (scene_of plan.now pictures.now stamp window.now receivers) events.now played) }
+    ensures played { IfOk result (λ played. IsPlayed played (scene_of plan.now pictures.now stamp window.now receivers) events.now) }
 
     // The datagrams are those of one sender's list, by the plan's own packets, and each frame is the sender's.
     ensures list { OnOk result (IsSenderList (sender_of plan.now stamp) stamp.first pictures.now (scene_of plan.now pictures.now stamp window.now receivers).sent) }
     ensures packets { OnOk result (AreSentBy (sender_of plan.now stamp) plan.now 0 stamp.first pictures.now (scene_of plan.now pictures.now stamp window.now receivers).sent) }
-    ensures senders { OnOk result ((stay : Stay) (frame : Raster) → IsFrameOf (scene_of plan.now pictures.now stamp window.now receivers) events.now stay frame
-        → IsSendersFrame (scene_of plan.now pictures.now stamp window.now receivers) (sender_of plan.now stamp) pictures.now events.now stay frame) }
+    ensures senders { OnOk result ((stay : Stay) (frame : Raster) → IsFrameOf frame stay (scene_of plan.now pictures.now stamp window.now receivers) events.now
+        → IsSendersFrame frame stay (sender_of plan.now stamp) pictures.now (scene_of plan.now pictures.now stamp window.now receivers) events.now) }
 {
     check(plan.format(), pictures, window, receivers)?;
     // Say what a plan is, and that a source has 32 bits
@@ -86,7 +86,7 @@ fn follow_all<A: Allocator + Copy, B: Allocator, C: Allocator>(
     events: &[Event],
 ) -> Result<(), PlayFault>
     requires payload_type { stamp.payload_type ≤ 127 }
-    requires pictures { ArePictures plan.now.format pictures.now }
+    requires pictures { ArePictures pictures.now plan.now.format }
     requires ready { IsReady plan.now stage.old }
     ensures followed { OnOk result (FollowsAll plan.now stamp pictures.now events.now stage.old stage.new) }
     ensures bad { IfErr result (λ fault. (place : ℕ) → fault ≡ PlayFault.BadEvent place → FailsAt plan.now stamp pictures.now events.now place stage.old) }

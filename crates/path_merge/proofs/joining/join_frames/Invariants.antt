@@ -1,5 +1,5 @@
 use Rattle.std.proofs.Common.{◌≡◌, ◌++◌, take, drop}
-use Rattle.path_merge.specs.Frames.{AreAlike, joined_frames}
+use Rattle.path_merge.specs.Frames.{SameFormats, joined_frames}
 use Rattle.path_merge.proofs.joining.join_frames.Given as goal
 
 pub record Joins (alike : Type 0) (rest : Type 0) : Type 0 where
@@ -8,4 +8,4 @@ pub record Joins (alike : Type 0) (rest : Type 0) : Type 0 where
 
 -- what is joined already and what is left make the whole
 abbrev pub invariant-loop-i : goal.invariant-loop-i
-invariant-loop-i g l = Joins (AreAlike l.frames l.others) (take l.i l.frames ++ joined_frames (drop l.i l.frames) (drop l.i l.others) ≡ joined_frames l.initial.frames l.others)
+invariant-loop-i g l = Joins (SameFormats l.frames l.others) (take l.i l.frames ++ joined_frames (drop l.i l.frames) (drop l.i l.others) ≡ joined_frames l.initial.frames l.others)

@@ -1,14 +1,14 @@
 use Rattle.std.proofs.Common.{List, drop, length, ap, sym, ◌∙◌, subst, refl, arith, take_at}
 use Rattle.st_format.specs.Raster.{Raster}
-use Rattle.path_merge.specs.Frames.{State, AreAlike, joined_frames}
+use Rattle.path_merge.specs.Frames.{State, SameFormats, joined_frames}
 use Rattle.path_merge.proofs.Joined.{alike, receiver_joined}
 use Rattle.path_merge.proofs.receiver.Receiver.join_all.Goals as goal
 
 pub join_frames-requires : goal.join_frames-requires
 join_frames-requires g c =
     let same = ap (λ (q : State). q.opening) c.self.view_is ∙ c.requires ∙ sym (ap (λ (q : State). q.opening) c.other.view_is) in
-    subst (λ (xs : List Raster). AreAlike xs c.as_slice.result.now) (sym c.as_mut_slice.ensures.value)
-    (subst (λ (xs : List Raster). AreAlike c.self.inside.frames.items xs) (sym c.as_slice.ensures.value)
+    subst (λ (xs : List Raster). SameFormats xs c.as_slice.result.now) (sym c.as_mut_slice.ensures.value)
+    (subst (λ (xs : List Raster). SameFormats c.self.inside.frames.items xs) (sym c.as_slice.ensures.value)
     (alike _ _ same c.self.invariant.0 c.other.invariant.0))
 
 pub invariant_of-self : goal.invariant_of-self

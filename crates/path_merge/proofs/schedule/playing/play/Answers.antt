@@ -9,7 +9,7 @@ use Rattle.path_merge.proofs.schedule.playing.play.Goals as goal
 
 pub returns-in-Err-clause-pictures : goal.returns-in-Err-clause-pictures
 returns-in-Err-clause-pictures g c =
-    (λ e. absurd (no_pictures c.in-Err.fault c.in-Err.ensures.others (fault_is _ c.in-Err.fault BadPictures refl e)), λ h. absurd (h.1 (subst (λ (f : Format). ArePictures f c.args.pictures.now) c.format.ensures c.in_ok-check.ensures.fine.1)))
+    (λ e. absurd (no_pictures c.in-Err.fault c.in-Err.ensures.others (fault_is _ c.in-Err.fault BadPictures refl e)), λ h. absurd (h.1 (subst (λ (f : Format). ArePictures c.args.pictures.now f) c.format.ensures c.in_ok-check.ensures.fine.1)))
 
 pub returns-in-Err-clause-receivers : goal.returns-in-Err-clause-receivers
 returns-in-Err-clause-receivers g c = (λ e. absurd (no_receivers c.in-Err.fault c.in-Err.ensures.others (fault_is _ c.in-Err.fault BadReceivers refl e)), λ h. absurd (h.2 c.in_ok-check.ensures.fine.2))
@@ -20,7 +20,7 @@ returns-in-Err-clause-event g c place e =
     c.in_ok-check.ensures.fine.0.size.some (c.in_ok-stage.ensures.stage c.args.pictures.now)
 
 pub returns-clause-pictures : goal.returns-clause-pictures
-returns-clause-pictures g c = (λ e. absurd cc, λ h. absurd (h.1 (subst (λ (f : Format). ArePictures f c.args.pictures.now) c.format.ensures c.in_ok-check.ensures.fine.1)))
+returns-clause-pictures g c = (λ e. absurd cc, λ h. absurd (h.1 (subst (λ (f : Format). ArePictures c.args.pictures.now f) c.format.ensures c.in_ok-check.ensures.fine.1)))
 
 pub returns-clause-receivers : goal.returns-clause-receivers
 returns-clause-receivers g c = (λ e. absurd cc, λ h. absurd (h.2 c.in_ok-check.ensures.fine.2))
@@ -30,12 +30,12 @@ returns-clause-played g c = played_all c.args.plan.now c.args.stamp c.args.pictu
     c.in_ok-check.ensures.fine.0.size.some (c.in_ok-stage.ensures.stage c.args.pictures.now) c.in_default.ensures.followed
 
 pub returns-clause-list : goal.returns-clause-list
-returns-clause-list g c = texts_list c.args.plan.now c.args.stamp c.args.pictures.now c.len.ensures.full (omega (arith, c.requires)) c.source_of.ensures.fits (subst (λ (f : Format). ArePictures f c.args.pictures.now) c.format.ensures c.in_ok-check.ensures.fine.1) c.in_ok-check.ensures.whole
+returns-clause-list g c = texts_list c.args.plan.now c.args.stamp c.args.pictures.now c.len.ensures.full (omega (arith, c.requires)) c.source_of.ensures.fits (subst (λ (f : Format). ArePictures c.args.pictures.now f) c.format.ensures c.in_ok-check.ensures.fine.1) c.in_ok-check.ensures.whole
 
 pub returns-clause-packets : goal.returns-clause-packets
-returns-clause-packets g c = texts_by c.args.plan.now c.args.stamp c.args.pictures.now c.len.ensures.full (omega (arith, c.requires)) c.source_of.ensures.fits (subst (λ (f : Format). ArePictures f c.args.pictures.now) c.format.ensures c.in_ok-check.ensures.fine.1) c.in_ok-check.ensures.whole
+returns-clause-packets g c = texts_by c.args.plan.now c.args.stamp c.args.pictures.now c.len.ensures.full (omega (arith, c.requires)) c.source_of.ensures.fits (subst (λ (f : Format). ArePictures c.args.pictures.now f) c.format.ensures c.in_ok-check.ensures.fine.1) c.in_ok-check.ensures.whole
 
 pub returns-clause-senders : goal.returns-clause-senders
 returns-clause-senders g c stay frame is =
     senders_frame (scene_of c.args.plan.now c.args.pictures.now c.args.stamp c.args.window.now c.args.receivers) (sender_of c.args.plan.now c.args.stamp) c.args.stamp.first c.args.pictures.now _ c.args.events.now stay frame
-    (texts_list c.args.plan.now c.args.stamp c.args.pictures.now c.len.ensures.full (omega (arith, c.requires)) c.source_of.ensures.fits (subst (λ (f : Format). ArePictures f c.args.pictures.now) c.format.ensures c.in_ok-check.ensures.fine.1) c.in_ok-check.ensures.whole) refl (λ octets m. m) is
+    (texts_list c.args.plan.now c.args.stamp c.args.pictures.now c.len.ensures.full (omega (arith, c.requires)) c.source_of.ensures.fits (subst (λ (f : Format). ArePictures c.args.pictures.now f) c.format.ensures c.in_ok-check.ensures.fine.1) c.in_ok-check.ensures.whole) refl (λ octets m. m) is
