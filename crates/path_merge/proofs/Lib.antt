@@ -15,6 +15,7 @@ pub mod Chains
 pub mod Reaching
 pub mod StayFrames
 pub mod SenderStays
+pub mod Held
 pub mod StepLemmas
 pub mod SendLemmas
 pub mod StageLemmas

@@ -1,7 +1,8 @@
 -- What is admitted and offered, by the grammar.
-use Rattle.std.proofs.Common.{◌≡◌, ℕ, zero, suc, ◌<◌, Bool, true, false, cond, not, eqb, List, [], ◌∷◌, ◌++◌, Option, Some, None, Result, Ok, Err, refl, sym, ap, ◌∙◌, subst, arith}
+use Rattle.std.proofs.Common.{◌≡◌, ◌↔◌, ℕ, zero, suc, ◌<◌, Bool, true, false, cond, not, eqb, List, [], ◌∷◌, ◌++◌, Option, Some, None, Result, Ok, Err, refl, sym, ap, ◌∙◌, subst, arith}
 use Rattle.std.specs.List.{AllByRecursion}
 use Rattle.std.proofs.lemmas.Bool.{eqb-true, eq-eqb}
+use Rattle.st_format.specs.Offer.{Offer}
 use Rattle.st_format.specs.Raster.{Segment, offers_in_all}
 use Rattle.payload_header.specs.declared.payload.PayloadFault.{PayloadFault}
 use Rattle.payload_header.specs.Reading.{payload_walk}
@@ -17,7 +18,7 @@ use Rattle.path_merge.specs.declared.answer.Refusal.TheVariants.{WrongPayloadTyp
 use Rattle.path_merge.specs.Opening.{Opening, IsSource}
 use Rattle.path_merge.specs.Grammar.{Datagram, IsDatagram, IsFor, header_with}
 use Rattle.path_merge.specs.Admission.{◌>>=◌, by_header, by_payload, header_for, is_other, datagram_with, datagram_walk}
-use Rattle.path_merge.specs.Offers.{offers, offers_of}
+use Rattle.path_merge.specs.Offers.{AreOffersOf, offers, offers_of}
 
 -- ---- the test of the source says what its words say
 
@@ -142,3 +143,26 @@ nothing_at o octets (Ok d) fit read none = absurd (none d (admitted_takes o octe
 
 pub offers-none : (o : Opening) (octets : List ℕ) → AreOctets octets → ((d : Datagram) → IsFor octets o d → ⊥) → offers o octets ≡ []
 offers-none o octets fit none = nothing_at o octets (datagram_walk o.format o.payload_type o.ssrc octets) fit refl none
+
+-- ---- the relation
+
+ok_not_err : (d : Datagram) (e : Refusal) → admitted d ≡ Err e → ⊥
+ok_not_err d e h = cc
+
+exact_at : (o : Opening) (octets : List ℕ) (x : Result Datagram Refusal) (offered : List Offer)
+    → AreOctets octets → datagram_walk o.format o.payload_type o.ssrc octets ≡ x
+    → AreOffersOf offered octets o → offered ≡ offers_of o.format x
+exact_at o octets (Ok d) offered fit read are = are.datagram d (admitted_takes o octets d fit read)
+exact_at o octets (Err e) offered fit read are =
+    are.nothing (λ d f. ok_not_err d e (sym (admitted_for o octets d f) ∙ read))
+
+-- What octets offer is the one list that the grammar says.
+pub offers-exact : (o : Opening) (octets : List ℕ) (offered : List Offer) → AreOctets octets
+    → (offered ≡ offers o octets) ↔ AreOffersOf offered octets o
+offers-exact o octets offered fit = (
+  λ same. record {
+    datagram = λ d f. same ∙ offers-for o octets d f;
+    nothing = λ none. same ∙ offers-none o octets fit none;
+  },
+  λ are. exact_at o octets (datagram_walk o.format o.payload_type o.ssrc octets) offered fit refl are,
+)

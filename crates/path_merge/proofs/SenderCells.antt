@@ -33,7 +33,7 @@ use Rattle.path_merge.specs.Opening.{Opening}
 use Rattle.path_merge.specs.Admission.{datagram_walk, ◌>>=◌, by_header, by_payload, header_for, is_other}
 use Rattle.path_merge.specs.Offers.{offers, offers_of}
 use Rattle.path_merge.specs.Frames.{frames_of, frame_at, cell_if}
-use Rattle.path_merge.specs.Sender.{IsOpenFor, AreAmong, picture_raster, frame_cell, IsSendersValue, IsSendersCell, IsSentAmong}
+use Rattle.path_merge.specs.Sender.{IsOpenFor, AreAmong, picture_raster, IsSendersValue, IsSendersCell, IsSentAmong}
 use Rattle.path_merge.proofs.Offered.{by_rtp, source_from}
 use Rattle.path_merge.proofs.WholeFrames.{sent_offers, whole_raster, frame-raster}
 
@@ -254,6 +254,11 @@ pub sent-among : (s : Sender) (first : ℕ) (ps : List Values) (ds : List (List 
 sent-among s first ps ds k p is at = let z : 0 + k ≡ k = omega arith in subst (λ (i : ℕ). IsSentAmong p s i ds) z (sent_from s 0 ps first ds k p is.sent at)
 
 -- ---- frames
+
+-- the cell of Frames at a timestamp and a position
+abbrev pub frame_cell : Opening → List (List ℕ) → ℕ → Position → Cell
+frame_cell o datagrams timestamp at =
+    cell_if (frame_at o.window (frames_of o datagrams) timestamp) at
 
 -- Where every datagram is a sender's, so is each cell.
 pub cells-senders : (o : Opening) (s : Sender) (first : ℕ) (ps : List Values) (ds xs : List (List ℕ)) → IsSenderList s first ps ds → s.format ≡ o.format → AreAmong xs ds

@@ -14,17 +14,17 @@ use Rattle.st_format.specs.Raster.{Raster, raster_of, cell_at}
 use Rattle.st_format.proofs.Cells.{is_cell, is_for-true}
 use Rattle.st_format.proofs.Members.{member-map, member_of_map, member-filter, member_of_filter, member-flat_map, member_of_flat_map, SameMembers-flat_map}
 use Rattle.st_format.proofs.Rasters.{cell_at-raster_of, cells_of-same}
-use Rattle.packet_plan.specs.Sender.{Sender, IsSenderList}
+use Rattle.packet_plan.specs.Sender.{Sender}
 use Rattle.path_merge.specs.Frames.{cell_if}
-use Rattle.path_merge.specs.Offers.{offers}
+use Rattle.path_merge.specs.Offers.{offers, Carries}
 use Rattle.path_merge.specs.Opening.{Opening}
-use Rattle.path_merge.specs.Sender.{AreAmong, IsSendersCell, frame_cell}
+use Rattle.path_merge.specs.Sender.{AreAmong, IsSendersCell}
 use Rattle.path_merge.specs.Sliding.{with_window}
-use Rattle.path_merge.proofs.SenderCells.{cells-senders}
+use Rattle.path_merge.proofs.SenderCells.{cells-senders, frame_cell}
 use Rattle.path_merge.specs.declared.schedule.event.Event.{Event}
 use Rattle.path_merge.specs.Stays.{Stay}
 use Rattle.path_merge.specs.Reached.{Scene, Reaches, IsFrameOf}
-use Rattle.path_merge.specs.Sent.{Carries, IsSendersFrame}
+use Rattle.path_merge.specs.Sent.{IsOfSender, IsSendersFrame}
 
 -- ---- one frame
 
@@ -65,7 +65,7 @@ same_place_here p = rw (eq-eqb p.row p.row refl, eq-eqb p.column p.column refl, 
 for_here : (ts : ℕ) (at : Position) (v : ℕ) → is_for ts at (record { timestamp = ts; position = at; value = v }) ≡ true
 for_here ts at v = rw (eq-eqb ts ts refl, same_place_here at) refl
 
-offered_here : (o : Opening) (xs : List (List ℕ)) (ts : ℕ) (at : Position) (octets : List ℕ) (c : Carries octets o ts at) → IsMember octets xs → IsMember c.value (values_for (flat_map (offers o) xs) ts at)
+pub offered_here : (o : Opening) (xs : List (List ℕ)) (ts : ℕ) (at : Position) (octets : List ℕ) (c : Carries octets o ts at) → IsMember octets xs → IsMember c.value (values_for (flat_map (offers o) xs) ts at)
 offered_here o xs ts at octets c m =
     let x : Offer = record { timestamp = ts; position = at; value = c.value } in
     let os : List Offer = flat_map (offers o) xs in
@@ -74,7 +74,7 @@ offered_here o xs ts at octets c m =
 abbrev offer : ℕ → Position → ℕ → Offer
 offer t p v = record { timestamp = t; position = p; value = v }
 
-carried_by : (o : Opening) (xs : List (List ℕ)) (ts : ℕ) (at : Position) (v : ℕ) → IsMember v (values_for (flat_map (offers o) xs) ts at) → (octets : List ℕ) × IsMember octets xs × Carries octets o ts at
+pub carried_by : (o : Opening) (xs : List (List ℕ)) (ts : ℕ) (at : Position) (v : ℕ) → IsMember v (values_for (flat_map (offers o) xs) ts at) → (octets : List ℕ) × IsMember octets xs × Carries octets o ts at
 carried_by o xs ts at v m =
     let os : List Offer = flat_map (offers o) xs in
     let x = member-map (λ (y : Offer). y.value) v (filter (is_for ts at) os) m in
@@ -86,7 +86,7 @@ carried_by o xs ts at v m =
     rebuilt : (x : Offer) → x.timestamp ≡ ts → x.position ≡ at → x ≡ record { timestamp = ts; position = at; value = x.value }
     rebuilt x e f = ap (λ (t : ℕ). offer t x.position x.value) e ∙ ap (λ (p : Position). offer ts p x.value) f
 
-none_carried : (vs : List ℕ) (c : Cell) → IsCellOf vs c → ((v : ℕ) → IsMember v vs → ⊥) → c ≡ Missing
+pub none_carried : (vs : List ℕ) (c : Cell) → IsCellOf vs c → ((v : ℕ) → IsMember v vs → ⊥) → c ≡ Missing
 none_carried vs Missing is none = refl
 none_carried vs (Value v) is none = absurd (none v is.0)
 none_carried vs Contested is none = absurd (none is.0 is.2)
@@ -112,12 +112,16 @@ missing_iff s es stay q is at there = (forth, back)
         (λ v m. let d = carried_by s.opening is.reached ts at v m in none d.0 ((is.each d.0).0 d.1) d.2)
 
 -- Each cell of a stay's frame is the sender's value or missing.
-pub senders_frame : (s : Scene) (snd : Sender) (first : ℕ) (ps : List Values) (ds : List (List ℕ)) (es : List Event) (stay : Stay) (q : Raster)
-    → IsSenderList snd first ps ds → snd.format ≡ s.opening.format → AreAmong s.sent ds → IsFrameOf q stay s es → IsSendersFrame q stay snd ps s es
-senders_frame s snd first ps ds es stay q list same among is = record {
+pub senders_frame : (s : Scene) (snd : Sender) (ps : List Values) (es : List Event) (stay : Stay)
+    (q : Raster) → IsOfSender s snd ps → IsFrameOf q stay s es → IsSendersFrame q stay snd ps s es
+senders_frame s snd ps es stay q of is = record {
   cells = λ at.
       let ts : ℕ = stay.timestamp in
-      subst (λ (c : Cell). IsSendersCell c snd ps ts at) (in_window s.opening is.reached ts at ∙ ap (λ (x : Raster). cell_at x at) (sym is.frame_is))
-      (cells-senders (with_window s.opening (ts ∷ [])) snd first ps ds is.reached list same (reached_among s es stay q ds among is) ts at);
+      let o : Opening = with_window s.opening (ts ∷ []) in
+      let at_cell : frame_cell o is.reached ts at ≡ cell_at q at =
+      in_window s.opening is.reached ts at ∙ ap (λ (x : Raster). cell_at x at) (sym is.frame_is) in
+      subst (λ (c : Cell). IsSendersCell c snd ps ts at) at_cell
+      (cells-senders o snd of.first ps of.datagrams is.reached of.list of.format
+      (reached_among s es stay q of.datagrams of.among is) ts at);
   missing = missing_iff s es stay q is;
 }

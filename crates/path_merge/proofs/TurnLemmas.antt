@@ -1,7 +1,10 @@
 -- What a receiver has of the turns of a source.
-use Rattle.std.proofs.Common.{◌≡◌, ℕ, zero, suc, ◌+◌, ◌-◌, ◌^◌, ◌≤◌, min, List, [], ◌∷◌, ◌++◌, length, map, take, drop, Option, Some, None, Result, Ok, Err, MatchResult, refl, sym, ap, ◌∙◌, subst, arith}
+use Rattle.std.proofs.Common.{◌≡◌, ℕ, zero, suc, ◌+◌, ◌-◌, ◌^◌, ◌≤◌, min, List, [], ◌∷◌, ◌++◌}
+use Rattle.std.proofs.Common.{length, map, take, drop, Option, Some, None, Result, Ok, Err}
+use Rattle.std.proofs.Common.{MatchResult, refl, sym, ap, ◌∙◌, subst, arith}
 use Rattle.std.specs.List.{AllByRecursion, flat_map}
-use Rattle.std.proofs.lemmas.List.{append-nil, append_assoc, length-append, length-drop, take_at, drop-append-le, drop-drop}
+use Rattle.std.proofs.lemmas.List.{append-nil, append_assoc, length-append, length-drop, take_at}
+use Rattle.std.proofs.lemmas.List.{drop-append-le, drop-drop}
 use Rattle.std.proofs.lemmas.List.Concat.{flat_map-append}
 use Rattle.std.proofs.lemmas.List.Elements.{recursion_from_All}
 use Rattle.st_format.specs.declared.cell.Cell.{Cell}
@@ -9,6 +12,7 @@ use Rattle.st_format.specs.declared.device.Turn.TheVariants.{Datagram, Quiet}
 use Rattle.st_format.specs.declared.format.Format.{Format}
 use Rattle.st_format.specs.declared.path.Path.{Path}
 use Rattle.st_format.specs.Device.{CountsOne}
+use Rattle.st_format.specs.Member.{SameDatagrams}
 use Rattle.st_format.specs.Position.{sample_count}
 use Rattle.st_format.specs.Raster.{Raster, IsWhole, cells_of, joined, raster_of}
 use Rattle.st_format.specs.Turns.{Due, Comes, Nothing, GivesTurns, TakesTurn, datagrams_of}
@@ -20,8 +24,9 @@ use Rattle.path_merge.specs.declared.receiving.Received.{Received}
 use Rattle.path_merge.specs.Frames.{State, Holds, IsReceiver, frames_of, joined_frames}
 use Rattle.path_merge.specs.Answers.{last_64, refusals_after, taken_at}
 use Rattle.path_merge.specs.Opening.{Opening}
-use Rattle.path_merge.specs.Took.{CountsAll, TakesDue, Took, TookUpTo, delivered_in, refused_by, refusal_of}
-use Rattle.path_merge.proofs.Frames.{frames_of-append}
+use Rattle.path_merge.specs.Took.{CountsAll, TakesDue, Took, TookUpTo, delivered_in, refused_by}
+use Rattle.path_merge.specs.Took.{refusal_of}
+use Rattle.path_merge.proofs.Frames.{frames_of-append, frames_of-same}
 use Rattle.path_merge.proofs.MergeLemmas.{joined_frames-assoc}
 
 -- ---- joins of frames
@@ -190,9 +195,17 @@ holds_due old rest due turns n s t ds given taken told holds =
     ∙ ap (λ (o : Opening). frames_of o (ds ++ xs)) (sym taken.opening)
     ∙ ap (λ (ys : List (List ℕ)). frames_of t.opening (ds ++ ys)) (sym first)
 
--- Where a receiver held the Frames of some datagrams, it then holds those of them and of what was delivered.
+-- Where a receiver held the Frames of some datagrams, it then holds those of them and of what was
+-- delivered.
 pub holds_delivered : (limit : ℕ) (r : Result Received ReceiveFault) (old new : Option (List Due)) (s t : State)
     → MatchResult r (λ x. Took limit x old new s t) (λ e. TookUpTo limit e.delivered old s t)
     → (ds : List (List ℕ)) (turns : List Due) → old ≡ Some turns → Holds s ds → Holds t (ds ++ take (delivered_in r) (datagrams_of turns))
 holds_delivered limit (Ok x) old new s t took ds turns told holds = holds_due old new took.due turns x.delivered s t ds took.given took.taken told holds
 holds_delivered limit (Err e) old new s t took ds turns told holds = holds_due old took.rest took.due turns e.delivered s t ds took.given took.taken told holds
+
+-- From the Frames of nothing, it then holds those of every list with the same datagrams.
+pub holds_any : (s t : State) (n : ℕ) (due : List Due)
+    → ((ds : List (List ℕ)) → Holds s ds → Holds t (ds ++ take n (datagrams_of due)))
+    → (ds : List (List ℕ)) → Holds s [] → SameDatagrams (take n (datagrams_of due)) ds → Holds t ds
+holds_any s t n due holds ds none same =
+    holds [] none ∙ frames_of-same t.opening (take n (datagrams_of due)) ds same

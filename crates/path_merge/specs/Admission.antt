@@ -1,6 +1,8 @@
--- A walk over a datagram from the left, as the code walks, which tells the first refusal: the order of
--- refusals is the order of the steps.
-use Rattle.std.specs.Prelude.{◌≡◌, ℕ, ◌+◌, ◌*◌, Bool, false, not, ◌==◌, if◌then◌else◌, List, Option, Some, None, Result, Ok, Err}
+-- A walk over a datagram from the left, as the code walks, which tells the first refusal: the order
+-- of refusals is the order of the steps. What a datagram is says Grammar, and which octets are
+-- refused says Refused; laws join the three, so nobody has to believe the walk.
+use Rattle.std.specs.Prelude.{◌≡◌, ℕ, ◌+◌, ◌*◌, Bool, false, not, ◌==◌, if◌then◌else◌, List, Option}
+use Rattle.std.specs.Prelude.{Some, None, Result, Ok, Err}
 use Rattle.st_format.specs.declared.format.Format.{Format}
 use Rattle.st_format.specs.Raster.{Segment}
 use Rattle.payload_header.specs.declared.payload.PayloadFault.{PayloadFault}
@@ -10,7 +12,8 @@ use Rattle.rtp_header.specs.declared.header.RtpFault.{RtpFault}
 use Rattle.rtp_header.specs.Grammar.{Rtp}
 use Rattle.rtp_header.specs.Reading.{rtp_walk}
 use Rattle.path_merge.specs.declared.answer.Refusal.{Refusal}
-use Rattle.path_merge.specs.declared.answer.Refusal.TheVariants.{Header, WrongPayloadType, WrongSource, Payload}
+use Rattle.path_merge.specs.declared.answer.Refusal.TheVariants.{Header, WrongPayloadType}
+use Rattle.path_merge.specs.declared.answer.Refusal.TheVariants.{WrongSource, Payload}
 use Rattle.path_merge.specs.declared.admitting.Admitted.{Admitted}
 use Rattle.path_merge.specs.Grammar.{Datagram}
 
@@ -34,7 +37,7 @@ abbrev pub is_other : Option ℕ → ℕ → Bool
 is_other None ssrc = false
 is_other (Some pinned) ssrc = not (pinned == ssrc)
 
--- the payload type, and then the source
+-- the header where it has the payload type, and then the source
 abbrev pub header_for : ℕ → Option ℕ → Rtp → Result Rtp Refusal
 header_for payload_type ssrc rtp =
     if not (rtp.payload_type == payload_type) then Err WrongPayloadType else
@@ -51,7 +54,8 @@ datagram_with rtp payload = record {
   segments = payload.1;
 }
 
--- What octets say to a receiver of this format, payload type and pinned source, or the first refusal
+-- The walk: what octets say to a receiver of this format, payload type and pinned source, or the
+-- first refusal.
 unfoldable pub datagram_walk : Format → ℕ → Option ℕ → List ℕ → Result Datagram Refusal
 datagram_walk format payload_type ssrc octets = do
   read ← by_header (rtp_walk octets)

@@ -3,6 +3,8 @@ use Rattle.std.specs.Prelude.{◌≡◌, ◌≢◌, ℕ, ◌<◌, suc, List, [],
 use Rattle.st_format.specs.Member.{IsMember}
 use Rattle.path_merge.specs.declared.schedule.event.Event.{Event}
 use Rattle.path_merge.specs.declared.schedule.event.Event.TheVariants.{Send, Arrive, Slide, Merge}
+use Rattle.rtp_header.specs.Grammar.{AreOctets}
+use Rattle.path_merge.specs.Opening.{IsWindow}
 use Rattle.path_merge.specs.Stays.{window_after}
 use Rattle.path_merge.specs.Reached.{Scene}
 
@@ -40,7 +42,8 @@ IsAdmitted (Merge into from) s before = CanMerge s before into from
 
 -- each event of a list up to a place is admitted after those before it
 abbrev pub AreAdmittedTo : List Event → Scene → ℕ → Type 0
-AreAdmittedTo events s end = (place : ℕ) (event : Event) → place < end → slice_get events place ≡ Some event → IsAdmitted event s (take place events)
+AreAdmittedTo events s end = (place : ℕ) (event : Event) →
+    place < end → slice_get events place ≡ Some event → IsAdmitted event s (take place events)
 
 -- the first event that isn't admitted stands at this place
 pub record IsFirstBad (place : ℕ) (s : Scene) (events : List Event) : Type 0 where
@@ -48,3 +51,10 @@ pub record IsFirstBad (place : ℕ) (s : Scene) (events : List Event) : Type 0 w
   pub there : slice_get events place ≡ Some event
   pub bad : IsAdmitted event s (take place events) → ⊥
   pub before : AreAdmittedTo events s place
+
+-- A schedule that can be played: its receivers have a window, what it sends are octets, and each of
+-- its events is admitted.
+pub record IsSchedule (events : List Event) (s : Scene) : Type 0 where
+  pub window : IsWindow s.opening.window
+  pub octets : (n : ℕ) (octets : List ℕ) → slice_get s.sent n ≡ Some octets → AreOctets octets
+  pub admitted : AreAdmittedTo events s (length events)

@@ -8,11 +8,13 @@ use Rattle.st_format.specs.declared.path.Path.{Path}
 use Rattle.payload_header.specs.Faults.{payload_fault_name, payload_fault_number}
 use Rattle.rtp_header.specs.Faults.{rtp_fault_name, rtp_fault_number}
 use Rattle.path_merge.specs.declared.answer.Refusal.{Refusal}
-use Rattle.path_merge.specs.declared.answer.Refusal.TheVariants.{Header, WrongPayloadType, WrongSource, Payload}
+use Rattle.path_merge.specs.declared.answer.Refusal.TheVariants.{Header, WrongPayloadType}
+use Rattle.path_merge.specs.declared.answer.Refusal.TheVariants.{WrongSource, Payload}
 use Rattle.path_merge.specs.declared.answer.Taken.{Taken}
 use Rattle.path_merge.specs.declared.answer.Taken.TheVariants.{Kept, Outside}
 use Rattle.path_merge.specs.declared.fault.OpenFault.{OpenFault}
-use Rattle.path_merge.specs.declared.fault.OpenFault.TheVariants.{NoMemory, BadWindow, DoubleTimestamp}
+use Rattle.path_merge.specs.declared.fault.OpenFault.TheVariants.{NoMemory, BadWindow}
+use Rattle.path_merge.specs.declared.fault.OpenFault.TheVariants.{DoubleTimestamp}
 use Rattle.path_merge.specs.declared.fault.SlideFault.{SlideFault}
 use Rattle.path_merge.specs.declared.fault.SlideFault.TheVariants.{InWindow, OtherFormat}
 use Rattle.path_merge.specs.declared.receiving.ReceiveFault.{ReceiveFault}
@@ -22,18 +24,22 @@ use Rattle.path_merge.specs.Admission.{datagram_walk, ◌>>=◌}
 
 -- the window's word on a datagram that is for the receiver (own)
 abbrev pub kept_or_outside : List ℕ → Datagram → Taken
-kept_or_outside window d = if list_any (λ t. t == d.timestamp) window then Kept d.number else Outside
+kept_or_outside window d =
+    if list_any (λ t. t == d.timestamp) window then Kept d.number else Outside
 
 -- what take answers: the first refusal, or the window's word
 abbrev pub taken_at : Opening → List ℕ → Result Taken Refusal
-taken_at o octets = datagram_walk o.format o.payload_type o.ssrc octets >>= λ d. Ok (kept_or_outside o.window d)
+taken_at o octets =
+    datagram_walk o.format o.payload_type o.ssrc octets >>= λ d. Ok (kept_or_outside o.window d)
 
 -- the last 64 of a list
 abbrev pub last_64 : {X : Type 0} → List X → List X
 last_64 xs = drop (length xs - 64) xs
 
--- the refusals after a datagram by a path: where it was refused there is one more, and the last 64 stay (own)
-abbrev pub refusals_after : Path → Result Taken Refusal → List (Path × Refusal) → List (Path × Refusal)
+-- the refusals after a datagram by a path: where it was refused there is one more, and the last 64
+-- stay (own)
+abbrev pub refusals_after : Path → Result Taken Refusal
+    → List (Path × Refusal) → List (Path × Refusal)
 refusals_after path (Ok t) refusals = refusals
 refusals_after path (Err e) refusals = last_64 (refusals ++ (path, e) ∷ [])
 

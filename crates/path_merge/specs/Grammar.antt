@@ -27,9 +27,9 @@ header_with d sequence payload = record {
   payload = payload;
 }
 
--- Grammar: octets are a datagram of this format that says d. They are an RTP header of d's fields, and
--- behind all headers a payload of d's segments; the packet number is 65536 times the payload's extended
--- number plus the header's sequence number. RFC 3550, 5.1; RFC 4175, 4.1
+-- Grammar: octets are a datagram of this format that says d. They are an RTP header of d's fields,
+-- and behind all headers a payload of d's segments; the packet number is 65536 times the payload's
+-- extended number plus the header's sequence number. RFC 3550, 5.1; RFC 4175, 4.1
 pub record IsDatagram (octets : List ℕ) (f : Format) (d : Datagram) : Type 0 where
   pub sequence : ℕ
   pub extended : ℕ
@@ -38,14 +38,15 @@ pub record IsDatagram (octets : List ℕ) (f : Format) (d : Datagram) : Type 0 w
   pub is_payload : IsPayload f extended d.segments payload
   pub number_is : 65536 * extended + sequence ≡ d.number
 
--- Such a datagram is for a receiver where it has the receiver's payload type, and its source where one
--- is pinned. RFC 3550, 5.1
+-- Such a datagram is for a receiver where it has the receiver's payload type, and its source where
+-- one is pinned. RFC 3550, 5.1
 pub record IsFor (octets : List ℕ) (o : Opening) (d : Datagram) : Type 0 where
   pub is : IsDatagram octets o.format d
   pub type_is : d.payload_type ≡ o.payload_type
   pub source : IsSource o.ssrc d.ssrc
 
--- Octets that a receiver keeps: a datagram for it, of a timestamp of its window and of this number (own)
+-- Octets that a receiver keeps: a datagram for it, of a timestamp of its window and of this number
+-- (own)
 pub record IsKept (octets : List ℕ) (o : Opening) (number : ℕ) : Type 0 where
   pub datagram : Datagram
   pub is_for : IsFor octets o datagram

@@ -7,6 +7,7 @@ pub mod Frames
 pub mod Answers
 pub mod Sliding
 pub mod Sender
+pub mod TookSent
 pub mod Took
 pub mod Stays
 pub mod Reached

@@ -3,7 +3,11 @@
 use Rattle.std.specs.Prelude.{ℕ, List, ◌++◌, codes}
 use Rattle.std.specs.Fmt.{decimal}
 use Rattle.path_merge.specs.declared.schedule.play_fault.PlayFault.{PlayFault}
-use Rattle.path_merge.specs.declared.schedule.play_fault.PlayFault.TheVariants.{NoMemory, BadEvent, BadWindow, DoubleTimestamp, BadPictures, BadReceivers}
+use Rattle.path_merge.specs.declared.schedule.play_fault.PlayFault.TheVariants.{NoMemory, BadEvent}
+use Rattle.path_merge.specs.declared.schedule.play_fault.PlayFault.TheVariants.{BadWindow}
+use Rattle.path_merge.specs.declared.schedule.play_fault.PlayFault.TheVariants.{DoubleTimestamp}
+use Rattle.path_merge.specs.declared.schedule.play_fault.PlayFault.TheVariants.{BadPictures}
+use Rattle.path_merge.specs.declared.schedule.play_fault.PlayFault.TheVariants.{BadReceivers}
 
 -- the number of a fault
 abbrev pub play_fault_number : PlayFault → ℕ

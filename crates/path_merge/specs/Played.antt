@@ -1,5 +1,6 @@
 -- What a schedule hands out, and what its receivers have in the end (own).
-use Rattle.std.specs.Prelude.{◌≡◌, ℕ, ◌<◌, ◌≤◌, List, [], ◌∷◌, ◌++◌, length, All, Some, slice_get, slice_index}
+use Rattle.std.specs.Prelude.{◌≡◌, ℕ, ◌<◌, ◌≤◌, List, [], ◌∷◌, ◌++◌, length, All, Some, slice_get}
+use Rattle.std.specs.Prelude.{slice_index}
 use Rattle.std.specs.List.{AllZip}
 use Rattle.st_format.specs.declared.format.Format.{Format}
 use Rattle.st_format.specs.Picture.{Values}
@@ -27,27 +28,34 @@ abbrev pub stays_ended_by : List ℕ → List Event → Event → List Stay
 stays_ended_by window before Send = []
 stays_ended_by window before (Arrive to path number) = []
 stays_ended_by window before (Slide at next) =
-    record { receiver = at; number = length (slide_timestamps at before); timestamp = slice_index (window ++ slide_timestamps at before) (length (slide_timestamps at before)) } ∷ []
+    let number : ℕ = length (slide_timestamps at before) in
+    let timestamp : ℕ = slice_index (window ++ slide_timestamps at before) number in
+    record { receiver = at; number = number; timestamp = timestamp } ∷ []
 stays_ended_by window before (Merge into from) = []
 
 -- the stays that events end, in order, behind others that were before
 abbrev pub stays_ended_behind : List ℕ → List Event → List Event → List Stay
 stays_ended_behind window before [] = []
-stays_ended_behind window before (event ∷ events) = stays_ended_by window before event ++ stays_ended_behind window (before ++ event ∷ []) events
+stays_ended_behind window before (event ∷ events) =
+    stays_ended_by window before event ++ stays_ended_behind window (before ++ event ∷ []) events
 
 abbrev pub ended_stays : List ℕ → List Event → List Stay
 ended_stays window events = stays_ended_behind window [] events
 
 -- A stay that has ended was handed out with its frame.
-pub record IsHanded {A : Type 0} (s : Scene) (events : List Event) (stay : Stay) (h : Handed A) : Type 0 where
+pub record IsHanded {A : Type 0} (s : Scene) (events : List Event) (stay : Stay)
+    (h : Handed A) : Type 0 where
   pub receiver : h.receiver ≡ stay.receiver
   pub timestamp : h.timestamp ≡ stay.timestamp
   pub over : HasEnded stay events
   pub frame : IsFrameOf h.frame stay s events
 
--- The frames handed out are those of the stays that ended, in order; the receivers have the others'.
-pub record IsPlayed {A : Type 0} (played : Played A) (s : Scene) (events : List Event) : Type 0 where
+-- The frames handed out are those of the stays that ended, in order; the receivers have the
+-- others'.
+pub record IsPlayed {A : Type 0} (played : Played A) (s : Scene)
+    (events : List Event) : Type 0 where
   pub admitted : AreAdmittedTo events s (length events)
   pub handed : AllZip (IsHanded s events) (ended_stays s.opening.window events) played.handed.items
   pub count : length played.receivers.items ≡ s.receivers
-  pub receivers : (r : ℕ) (state : State) → slice_get played.receivers.items r ≡ Some state → IsAt state r s events
+  pub receivers : (r : ℕ) (state : State) → slice_get played.receivers.items r ≡ Some state →
+      IsAt state r s events

@@ -5,7 +5,8 @@ use Rattle.payload_header.specs.Faults.{IsRefused as IsPayloadRefused}
 use Rattle.rtp_header.specs.Faults.{HasFault}
 use Rattle.rtp_header.specs.Grammar.{Rtp, IsRtp}
 use Rattle.path_merge.specs.declared.answer.Refusal.{Refusal}
-use Rattle.path_merge.specs.declared.answer.Refusal.TheVariants.{Header, WrongPayloadType, WrongSource, Payload}
+use Rattle.path_merge.specs.declared.answer.Refusal.TheVariants.{Header, WrongPayloadType}
+use Rattle.path_merge.specs.declared.answer.Refusal.TheVariants.{WrongSource, Payload}
 use Rattle.path_merge.specs.Opening.{Opening, IsSource}
 
 -- The octets are an RTP datagram of another payload type. RFC 3550, 5.1

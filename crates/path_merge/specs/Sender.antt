@@ -15,17 +15,16 @@ use Rattle.packet_plan.specs.Sent.{group_samples, IsSentPicture}
 use Rattle.packet_plan.specs.Sender.{Sender, stamp_of}
 use Rattle.path_merge.specs.Opening.{Opening, IsSource}
 use Rattle.path_merge.specs.Offers.{offers}
-use Rattle.path_merge.specs.Frames.{frames_of, frame_at, cell_if}
 
--- A receiver is opened for datagrams of this format, payload type and source: the source is the one that is
--- pinned, where one is (RFC 3550, 5.1).
+-- A receiver is opened for datagrams of this format, payload type and source: the source is the one
+-- that is pinned, where one is (RFC 3550, 5.1).
 pub record IsOpenFor (o : Opening) (f : Format) (payload_type ssrc : ℕ) : Type 0 where
   pub format : f ≡ o.format
   pub type_is : payload_type ≡ o.payload_type
   pub source : IsSource o.ssrc ssrc
 
--- the positions of a pixel group, by its number, and of a run of them, in the order in which they are sent
--- (RFC 4175, 4.3)
+-- the positions of a pixel group, by its number, and of a run of them, in the order in which they
+-- are sent (RFC 4175, 4.3)
 abbrev pub group_places : Format → ℕ → List Position
 group_places f g = map (place f) (range_with_len (g * group_samples f) (group_samples f))
 
@@ -46,23 +45,22 @@ AreAmong xs ys = (octets : List ℕ) → IsMember octets xs → IsMember octets 
 
 -- A datagram offers nothing at a timestamp.
 abbrev pub OffersNothingAt : List ℕ → Opening → ℕ → Type 0
-OffersNothingAt octets o timestamp = (x : Offer) → IsMember x (offers o octets) → x.timestamp ≢ timestamp
+OffersNothingAt octets o timestamp =
+    (x : Offer) → IsMember x (offers o octets) → x.timestamp ≢ timestamp
 
 -- Each datagram that a receiver took is one of these, or offers nothing at this timestamp.
 abbrev pub AreAmongAt : List (List ℕ) → List (List ℕ) → Opening → ℕ → Type 0
-AreAmongAt xs ys o timestamp = (octets : List ℕ) → IsMember octets xs → IsMember octets ys ⊎ OffersNothingAt octets o timestamp
+AreAmongAt xs ys o timestamp = (octets : List ℕ) → IsMember octets xs
+    → IsMember octets ys ⊎ OffersNothingAt octets o timestamp
 
 -- the raster of a picture, with nothing missing
 abbrev pub picture_raster : Values → Raster
 picture_raster p = record { format = p.format; cells = map (λ v. Value v) p.samples }
 
--- the cell of Frames at a timestamp and a position
-abbrev pub frame_cell : Opening → List (List ℕ) → ℕ → Position → Cell
-frame_cell o datagrams timestamp at = cell_if (frame_at o.window (frames_of o datagrams) timestamp) at
-
--- A value is a sender's at a timestamp and a position: a picture of the sender has that timestamp, and has it
--- there.
-pub record IsSendersValue (v : ℕ) (s : Sender) (pictures : List Values) (timestamp : ℕ) (at : Position) : Type 0 where
+-- A value is a sender's at a timestamp and a position: a picture of the sender has that timestamp,
+-- and has it there.
+pub record IsSendersValue (v : ℕ) (s : Sender) (pictures : List Values) (timestamp : ℕ)
+    (at : Position) : Type 0 where
   pub number : ℕ
   pub picture : Values
   pub there : slice_get pictures number ≡ Some picture
@@ -75,8 +73,8 @@ IsSendersCell Missing s pictures timestamp at = ⊤
 IsSendersCell (Value v) s pictures timestamp at = IsSendersValue v s pictures timestamp at
 IsSendersCell Contested s pictures timestamp at = ⊥
 
--- A picture of a sender is sent by a list: some of its datagrams are the picture's by some raster plan, from
--- some packet number on.
+-- A picture of a sender is sent by a list: some of its datagrams are the picture's by some raster
+-- plan, from some packet number on.
 pub record IsSentAmong (p : Values) (s : Sender) (k : ℕ) (datagrams : List (List ℕ)) : Type 0 where
   pub first : ℕ
   pub size : ℕ

@@ -8,56 +8,76 @@ use Rattle.st_format.specs.Raster.{Raster, cell_at}
 use Rattle.packet_plan.specs.declared.run.PacketRun.{PacketRun}
 use Rattle.packet_plan.specs.declared.stamp.Stamp.{Stamp}
 use Rattle.packet_plan.specs.Plan.{RasterPlan}
-use Rattle.packet_plan.specs.Sender.{Sender, stamp_of}
+use Rattle.packet_plan.specs.Sender.{IsSenderList, Sender, stamp_of}
 use Rattle.packet_plan.specs.Sent.{IsSentPicture}
 use Rattle.packet_plan.specs.Text.{datagram_texts}
-use Rattle.path_merge.specs.Offers.{offers}
+use Rattle.path_merge.specs.Offers.{Carries}
 use Rattle.path_merge.specs.Opening.{Opening}
-use Rattle.path_merge.specs.Sender.{IsSendersCell}
+use Rattle.path_merge.specs.Sender.{AreAmong, IsSendersCell}
 use Rattle.path_merge.specs.declared.schedule.event.Event.{Event}
 use Rattle.path_merge.specs.Stays.{Stay}
 use Rattle.path_merge.specs.Reached.{Scene, Reaches}
 
 -- the sender of pictures by a plan, the first picture's stamp given
 abbrev pub sender_of : RasterPlan → Stamp → Sender
-sender_of plan stamp = record { format = plan.format; base = stamp.timestamp; payload_type = stamp.payload_type; ssrc = stamp.ssrc }
+sender_of plan stamp = record {
+  format = plan.format;
+  base = stamp.timestamp;
+  payload_type = stamp.payload_type;
+  ssrc = stamp.ssrc;
+}
 
 -- the datagrams of pictures from the k-th on, by packets, the first packet's number given
 abbrev pub texts_from : Sender → List (List PacketRun) → ℕ → ℕ → List Values → List (List ℕ)
 texts_from s packets k first [] = []
-texts_from s packets k first (p ∷ ps) = datagram_texts p (stamp_of s k first) 0 packets ++ texts_from s packets (k + 1) ((first + length packets) % 2 ^ 32) ps
+texts_from s packets k first (p ∷ ps) =
+    datagram_texts p (stamp_of s k first) 0 packets
+    ++ texts_from s packets (k + 1) ((first + length packets) % 2 ^ 32) ps
 
 -- The datagrams of picture k by the very packets of a plan, and then others
-pub record IsNextBy (s : Sender) (plan : RasterPlan) (k first : ℕ) (p : Values) (later : List (List ℕ) → Type 0) (datagrams : List (List ℕ)) : Type 0 where
+pub record IsNextBy (s : Sender) (plan : RasterPlan) (k first : ℕ) (p : Values)
+    (later : List (List ℕ) → Type 0) (datagrams : List (List ℕ)) : Type 0 where
   pub mine : List (List ℕ)
   pub others : List (List ℕ)
   pub picture : IsSentPicture p (stamp_of s k first) plan.max_octets plan.packets mine
   pub rest : later others
   pub whole : datagrams ≡ mine ++ others
 
--- Datagrams are those of pictures from the k-th on, each picture's by the very packets of one plan, numbers running
--- on from the first (SMPTE ST 2110-20, 6 and 7.1)
+-- Datagrams are those of pictures from the k-th on, each picture's by the very packets of one plan,
+-- numbers running on from the first (SMPTE ST 2110-20, 6 and 7.1)
 abbrev pub AreSentBy : Sender → RasterPlan → ℕ → ℕ → List Values → List (List ℕ) → Type 0
 AreSentBy s plan k first [] datagrams = datagrams ≡ []
 AreSentBy s plan k first (p ∷ ps) datagrams =
-    IsNextBy s plan k first p (AreSentBy s plan (k + 1) ((first + length plan.packets) % 2 ^ 32) ps) datagrams
+    IsNextBy s plan k first p
+    (AreSentBy s plan (k + 1) ((first + length plan.packets) % 2 ^ 32) ps) datagrams
 
 -- the receivers take the sender's datagrams alone: its format, payload type and source are pinned
 abbrev pub scene_of : RasterPlan → List Values → Stamp → List ℕ → ℕ → Scene
 scene_of plan pictures stamp window receivers = record {
-  opening = record { format = plan.format; payload_type = stamp.payload_type; ssrc = Some stamp.ssrc; window = window };
+  opening = record {
+    format = plan.format;
+    payload_type = stamp.payload_type;
+    ssrc = Some stamp.ssrc;
+    window = window;
+  };
   receivers = receivers;
   sent = texts_from (sender_of plan stamp) plan.packets 0 stamp.first pictures;
 }
 
--- A datagram carries a position at a timestamp: it offers a value for it.
-pub record Carries (octets : List ℕ) (o : Opening) (timestamp : ℕ) (at : Position) : Type 0 where
-  pub value : ℕ
-  pub offered : IsMember (record { timestamp = timestamp; position = at; value = value }) (offers o octets)
+-- All that a schedule sends is of one sender's list, whose format its receivers have.
+pub record IsOfSender (s : Scene) (sender : Sender) (pictures : List Values) : Type 0 where
+  pub first : ℕ
+  pub datagrams : List (List ℕ)
+  pub list : IsSenderList sender first pictures datagrams
+  pub format : sender.format ≡ s.opening.format
+  pub among : AreAmong s.sent datagrams
 
--- A stay's frame has at each position the sender's value or nothing, and nothing exactly where no datagram that
--- reached the stay carries the position.
-pub record IsSendersFrame (frame : Raster) (stay : Stay) (sender : Sender) (pictures : List Values) (s : Scene) (events : List Event) : Type 0 where
+-- A stay's frame has at each position the sender's value or nothing, and nothing exactly where no
+-- datagram that reached the stay carries the position.
+pub record IsSendersFrame (frame : Raster) (stay : Stay) (sender : Sender) (pictures : List Values)
+    (s : Scene) (events : List Event) : Type 0 where
   pub cells : (at : Position) → IsSendersCell (cell_at frame at) sender pictures stay.timestamp at
   pub missing : (at : Position) → IsPosition s.opening.format at
-      → (cell_at frame at ≡ Missing) ↔ ((octets : List ℕ) → Reaches octets stay s events → Carries octets s.opening stay.timestamp at → ⊥)
+      → (cell_at frame at ≡ Missing)
+      ↔ ((octets : List ℕ) → Reaches octets stay s events
+      → Carries octets s.opening stay.timestamp at → ⊥)

@@ -6,10 +6,15 @@ use Rattle.path_merge.specs.Frames.{State}
 
 -- an opening with another window
 abbrev pub with_window : Opening → List ℕ → Opening
-with_window o window = record { format = o.format; payload_type = o.payload_type; ssrc = o.ssrc; window = window }
+with_window o window = record {
+  format = o.format;
+  payload_type = o.payload_type;
+  ssrc = o.ssrc;
+  window = window;
+}
 
--- After a slide: the window's first timestamp is gone and the next stands last, its frame blank; the other
--- frames are as they were (own)
+-- After a slide: the window's first timestamp is gone and the next stands last, its frame blank;
+-- the other frames are as they were (own)
 abbrev pub slid : State → ℕ → State
 slid s next = record {
   opening = with_window s.opening (drop 1 s.opening.window ++ next ∷ []);
@@ -19,4 +24,8 @@ slid s next = record {
 
 -- one frame replaced (own)
 abbrev pub with_frame : State → ℕ → Raster → State
-with_frame s place frame = record { opening = s.opening; frames = slice_set s.frames place frame; refusals = s.refusals }
+with_frame s place frame = record {
+  opening = s.opening;
+  frames = slice_set s.frames place frame;
+  refusals = s.refusals;
+}

@@ -1,5 +1,6 @@
 -- What each event does to the receivers (own).
-use Rattle.std.specs.Prelude.{◌≡◌, ◌≢◌, ◌==◌, if◌then◌else◌, ℕ, ◌+◌, ◌%◌, ◌^◌, List, [], ◌∷◌, ◌++◌, length, drop, Some, slice_get, slice_set, Vec}
+use Rattle.std.specs.Prelude.{◌≡◌, ◌≢◌, ◌==◌, if◌then◌else◌, ℕ, ◌+◌, ◌%◌, ◌^◌, List, [], ◌∷◌, ◌++◌}
+use Rattle.std.specs.Prelude.{length, drop, Some, slice_get, slice_set, Vec}
 use Rattle.st_format.specs.Member.{IsMember}
 use Rattle.st_format.specs.Picture.{Values}
 use Rattle.rtp_header.specs.Grammar.{AreOctets}
@@ -14,7 +15,8 @@ use Rattle.path_merge.specs.declared.schedule.sending.Next.{Next}
 use Rattle.path_merge.specs.Sent.{sender_of, texts_from}
 
 -- a datagram of those sent arrived at a receiver
-pub record Arrives {A : Type 0} (to number : ℕ) (sent : List (Vec ℕ A)) (old new : List State) : Type 0 where
+pub record Arrives {A : Type 0} (to number : ℕ) (sent : List (Vec ℕ A))
+    (old new : List State) : Type 0 where
   pub datagram : Vec ℕ A
   pub sent_is : slice_get sent number ≡ Some datagram
   pub octets : AreOctets datagram.items
@@ -22,7 +24,8 @@ pub record Arrives {A : Type 0} (to number : ℕ) (sent : List (Vec ℕ A)) (old
   pub there : slice_get old to ≡ Some before
   pub after : State
   pub opening : after.opening ≡ before.opening
-  pub frames : after.frames ≡ joined_frames before.frames (frames_of before.opening (datagram.items ∷ []))
+  pub frames : after.frames
+      ≡ joined_frames before.frames (frames_of before.opening (datagram.items ∷ []))
   pub receiver : IsReceiver after
   pub all : new ≡ slice_set old to after
 
@@ -51,15 +54,18 @@ pub record Merges (into from : ℕ) (old new : List State) : Type 0 where
   pub receiver : IsReceiver after
   pub all : new ≡ slice_set old into after
 
--- the datagrams of pictures from the k-th on that are still to be sent, of the first of them from a packet on
+-- the datagrams of pictures from the k-th on that are still to be sent, of the first of them from a
+-- packet on
 abbrev pub texts_behind : RasterPlan → Stamp → ℕ → ℕ → ℕ → List Values → List (List ℕ)
 texts_behind plan stamp k index first [] = []
 texts_behind plan stamp k index first (p ∷ ps) =
     datagram_texts p (stamp_of (sender_of plan stamp) k first) index (drop index plan.packets)
-    ++ texts_from (sender_of plan stamp) plan.packets (k + 1) ((first + length plan.packets) % 2 ^ 32) ps
+    ++ texts_from (sender_of plan stamp) plan.packets (k + 1)
+    ((first + length plan.packets) % 2 ^ 32) ps
 
 abbrev pub to_come : RasterPlan → Stamp → List Values → Next → List (List ℕ)
-to_come plan stamp pictures next = texts_behind plan stamp next.picture next.index next.first (drop next.picture pictures)
+to_come plan stamp pictures next =
+    texts_behind plan stamp next.picture next.index next.first (drop next.picture pictures)
 
 -- what comes next after a packet, where each picture has so many
 abbrev pub after_packet : ℕ → Next → Next
@@ -70,4 +76,5 @@ after_packet count next =
 
 -- the datagram of a packet of a plan
 unfoldable pub text_at : RasterPlan → Values → Stamp → ℕ → List ℕ
-text_at plan picture stamp index = datagram_text picture stamp index (index + 1 == length plan.packets) (packet_at plan index)
+text_at plan picture stamp index =
+    datagram_text picture stamp index (index + 1 == length plan.packets) (packet_at plan index)

@@ -1,5 +1,6 @@
 -- What `receive` does with the turns of a source (own).
-use Rattle.std.specs.Prelude.{◌≡◌, ℕ, ◌+◌, ◌-◌, ◌^◌, ◌<◌, ◌++◌, min, Bool, true, false, List, [], ◌∷◌, length, Option, Result, Ok, Err}
+use Rattle.std.specs.Prelude.{◌≡◌, ℕ, ◌+◌, ◌-◌, ◌^◌, ◌<◌, ◌++◌, min, Bool, true, false, List, []}
+use Rattle.std.specs.Prelude.{◌∷◌, length, Option, Result, Ok, Err}
 use Rattle.std.specs.List.{flat_map}
 use Rattle.st_format.specs.declared.path.Path.{Path}
 use Rattle.st_format.specs.Turns.{Due, Comes, Nothing, GivesTurns, HasEnded, datagrams_of}
@@ -21,31 +22,35 @@ abbrev pub refusal_of : Opening → Due → List (Path × Refusal)
 refusal_of o (Comes path octets) = refused_by path (taken_at o octets)
 refusal_of o Nothing = []
 
--- A receiver took the datagrams among turns, so many, one after the other: their frames are joined to its own,
--- and of its refusals and theirs the last 64 stay.
+-- A receiver took the datagrams among turns, so many, one after the other: their frames are joined
+-- to its own, and of its refusals and theirs the last 64 stay.
 pub record TakesDue (due : List Due) (delivered : ℕ) (before after : State) : Type 0 where
   pub count : length (datagrams_of due) ≡ delivered
   pub opening : after.opening ≡ before.opening
-  pub frames : after.frames ≡ joined_frames before.frames (frames_of before.opening (datagrams_of due))
-  pub refusals : after.refusals ≡ last_64 (before.refusals ++ flat_map (refusal_of before.opening) due)
+  pub frames : after.frames
+      ≡ joined_frames before.frames (frames_of before.opening (datagrams_of due))
+  pub refusals : after.refusals
+      ≡ last_64 (before.refusals ++ flat_map (refusal_of before.opening) due)
 
 -- As many turns as the limit were taken, or fewer where the next was the end.
 abbrev pub AreTurns : ℕ → Bool → List Due → Type 0
 AreTurns limit false due = length due ≡ limit
 AreTurns limit true due = length due < limit
 
--- The turns of a source were taken up to the limit or the end. A source that doesn't tell its turns still
--- gave some.
-pub record Took (limit : ℕ) (r : Received) (old new : Option (List Due)) (before after : State) : Type 0 where
+-- The turns of a source were taken up to the limit or the end. A source that doesn't tell its turns
+-- still gave some.
+pub record Took (limit : ℕ) (r : Received) (old new : Option (List Due))
+    (before after : State) : Type 0 where
   pub due : List Due
   pub given : GivesTurns old new due
   pub turns : AreTurns limit r.ended due
   pub ended : r.ended ≡ true → HasEnded new
   pub taken : TakesDue due r.delivered before after
 
--- The turns of a source were taken up to a fault: fewer than the limit. What it then has to tell is not
--- said; `rest` were the turns to come before it failed.
-pub record TookUpTo (limit delivered : ℕ) (old : Option (List Due)) (before after : State) : Type 0 where
+-- The turns of a source were taken up to a fault: fewer than the limit. What it then has to tell is
+-- not said; `rest` were the turns to come before it failed.
+pub record TookUpTo (limit delivered : ℕ) (old : Option (List Due))
+    (before after : State) : Type 0 where
   pub due : List Due
   pub rest : Option (List Due)
   pub given : GivesTurns old rest due

@@ -23,7 +23,8 @@ pub fn admit<'a>(
     ssrc: Option<u32>,
     octets: &'a [u8],
 ) -> Result<Admitted<'a>, Refusal>
-    ensures exact { Gives datagram_of result (datagram_walk format.now payload_type ssrc octets.now) }
+    ensures exact { Gives datagram_of result
+        (datagram_walk format.now payload_type ssrc octets.now) }
     ensures format { IfOk result (λ a. a.payload.format ≡ format.now) }
 {
     let header = read_rtp(octets)?;

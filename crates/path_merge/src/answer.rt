@@ -10,8 +10,9 @@ use thiserror::Error;
 /// What became of a datagram that was not refused.
 #[derive(Clone, Copy, Debug, PartialEq, Eq)]
 pub enum Taken {
-    /// Its samples were joined to the frame of its timestamp. This is its packet number: 65536 times the
-    /// extended number of its payload plus the sequence number of its header (RFC 4175, 4.1).
+    /// Its samples were joined to the frame of its timestamp. This is its packet number: 65536
+    /// times the extended number of its payload plus the sequence number of its header (RFC 4175,
+    /// 4.1).
     Kept(u32),
     /// Its timestamp isn't in the window, and nothing changed.
     Outside,

@@ -1,14 +1,18 @@
 //! A receiver: a frame for each timestamp of a window.
-ghost use Rattle.std.specs.Prelude.{◌≡◌, ◌≢◌, ◌↔◌, ◌≤◌, ◌<◌, ◌+◌, ◌*◌, IfOk, IsErr, IsErrOf, IsSome, IsTrue, List, OnErr, OnOk, Err, Ok, Some, [], length, ◌++◌, ◌∷◌, ℕ, slice_get};
+ghost use Rattle.std.specs.Prelude.{◌≡◌, ◌≢◌, ◌↔◌, ◌≤◌, ◌<◌, ◌+◌, ◌*◌, ◌++◌, ◌∷◌, ℕ, List, []};
+ghost use Rattle.std.specs.Prelude.{length};
+ghost use Rattle.std.specs.Prelude.{IfOk, IsErr, IsErrOf, IsSome, IsTrue, OnErr, OnOk, Err, Ok};
+ghost use Rattle.std.specs.Prelude.{Some, slice_get};
 ghost use Rattle.std.specs.Option.{option_copied};
 ghost use Rattle.st_format.specs.Cell.{join};
 ghost use Rattle.st_format.specs.Member.{IsMember};
 ghost use Rattle.st_format.specs.Offer.{cell_of};
 ghost use Rattle.st_format.specs.Position.{IsPosition, Position};
 ghost use Rattle.path_merge.specs.Answers.{refusals_after, taken_at};
-ghost use Rattle.path_merge.specs.Frames.{Holds, IsReceiver, cell_in, frame_at, frames_of, joined_frames};
+ghost use Rattle.path_merge.specs.Frames.{Holds, IsReceiver, cell_in, frame_at, frames_of};
+ghost use Rattle.path_merge.specs.Frames.{joined_frames};
 ghost use Rattle.path_merge.specs.Grammar.{Datagram, IsFor, IsKept, IsOutside};
-ghost use Rattle.path_merge.specs.Offers.{offers};
+ghost use Rattle.path_merge.specs.Offers.{AreOffersOf, offers};
 ghost use Rattle.path_merge.specs.Opening.{AreDifferent, IsWindowSize};
 ghost use Rattle.path_merge.specs.Refused.{IsRefusedDatagram};
 ghost use Rattle.path_merge.specs.Sliding.{slid, with_frame};
@@ -33,8 +37,8 @@ const MOST_REFUSALS: usize = 64;
 
 /// A receiver of datagrams by two paths: a frame for each timestamp of its window.
 ///
-/// It takes the datagrams of one payload type, and of one source where it is pinned. What it holds is
-/// the cells of all offers that it took, whatever their order, their paths and their repeats
+/// It takes the datagrams of one payload type, and of one source where it is pinned. What it holds
+/// is the cells of all offers that it took, whatever their order, their paths and their repeats
 /// (SMPTE ST 2022-7). It keeps the last 64 refusals.
 #[derive(Drop)]
 pub struct Receiver<A: Allocator = Global> {
@@ -55,13 +59,23 @@ impl<A: Allocator> Model for Receiver<A> {
     ghost Value = { State };
 
     ghost view = { λ a. record {
-      opening = record { format = a.format; payload_type = a.payload_type; ssrc = a.ssrc; window = a.window.items };
+      opening = record {
+        format = a.format;
+        payload_type = a.payload_type;
+        ssrc = a.ssrc;
+        window = a.window.items;
+      };
       frames = a.frames.items;
       refusals = a.refusals.items;
     } };
 
     ghost invariant = { λ a. IsReceiver (record {
-      opening = record { format = a.format; payload_type = a.payload_type; ssrc = a.ssrc; window = a.window.items };
+      opening = record {
+        format = a.format;
+        payload_type = a.payload_type;
+        ssrc = a.ssrc;
+        window = a.window.items;
+      };
       frames = a.frames.items;
       refusals = a.refusals.items;
     }) × (a.refusals.capacity ≡ 64) };
@@ -70,9 +84,9 @@ impl<A: Allocator> Model for Receiver<A> {
 impl<A: Allocator + Copy> Receiver<A> {
     /// A receiver that has taken nothing.
     ///
-    /// `BadWindow` comes where the window has no timestamp or more than 16, `DoubleTimestamp` where one
-    /// stands twice in it, and then `NoMemory` only where the allocator refused the memory for the frames or
-    /// for the refusals. The payload type has 7 bits (RFC 3550, 5.1).
+    /// `BadWindow` comes where the window has no timestamp or more than 16, `DoubleTimestamp` where
+    /// one stands twice in it, and then `NoMemory` only where the allocator refused the memory for
+    /// the frames or for the refusals. The payload type has 7 bits (RFC 3550, 5.1).
     pub fn open(
         alloc: A,
         format: Format,
@@ -81,12 +95,18 @@ impl<A: Allocator + Copy> Receiver<A> {
         window: &[u32],
     ) -> Result<Receiver<A>, OpenFault>
         requires { payload_type ≤ 127 }
-        ensures opening { IfOk result (λ r. r.opening ≡ record { format = format; payload_type = payload_type; ssrc = ssrc; window = window.now }) }
+        ensures opening { IfOk result (λ r. r.opening ≡ record {
+          format = format;
+          payload_type = payload_type;
+          ssrc = ssrc;
+          window = window.now;
+        }) }
         ensures holds { IfOk result (λ r. Holds r []) }
         ensures refusals { IfOk result (λ r. r.refusals ≡ []) }
         ensures receiver { IfOk result (λ r. IsReceiver r) }
         ensures size { IsErrOf result OpenFault.BadWindow ↔ (IsWindowSize (length window.now) → ⊥) }
-        ensures double { IsErrOf result OpenFault.DoubleTimestamp ↔ (IsWindowSize (length window.now) × (AreDifferent window.now → ⊥)) }
+        ensures double { IsErrOf result OpenFault.DoubleTimestamp
+            ↔ (IsWindowSize (length window.now) × (AreDifferent window.now → ⊥)) }
     {
         check_window(window)?;
         let frames = blank_frames(alloc, format, window.len())?;
@@ -105,18 +125,21 @@ impl<A: Allocator + Copy> Receiver<A> {
 impl<A: Allocator> Receiver<A> {
     /// Takes a datagram that came by a path: joins what it offers to the frame of its timestamp.
     ///
-    /// The first refusal is answered, in the order of their numbers. A refused datagram changes no frame; it
-    /// is kept as one of the last 64 refusals, with its path. No memory is taken.
+    /// The first refusal is answered, in the order of their numbers. A refused datagram changes no
+    /// frame; it is kept as one of the last 64 refusals, with its path. No memory is taken.
     pub fn take(&mut self, path: Path, octets: &[u8]) -> Result<Taken, Refusal>
-        // Which answer, and which refusal is the first.
-        ensures answer { result ≡ taken_at self.old.opening octets.now }
-
-        // The same in the words of the grammar: kept, outside and each refusal exactly where its condition
+        // In the words of the grammar: kept, outside and each refusal exactly where its condition
         // holds, and refused exactly where the octets are no datagram for this receiver.
-        ensures kept { (number : ℕ) → (result ≡ Ok (Taken.Kept number)) ↔ IsKept octets.now self.old.opening number }
+        ensures kept { (number : ℕ) →
+            (result ≡ Ok (Taken.Kept number)) ↔ IsKept octets.now self.old.opening number }
         ensures outside { (result ≡ Ok Taken.Outside) ↔ IsOutside octets.now self.old.opening }
-        ensures refusal { (refusal : Refusal) → (result ≡ Err refusal) ↔ IsRefusedDatagram octets.now self.old.opening refusal }
-        ensures others { IsErr result ↔ ((d : Datagram) → IsFor octets.now self.old.opening d → ⊥) }
+        ensures refusal { (refusal : Refusal) →
+            (result ≡ Err refusal) ↔ IsRefusedDatagram octets.now self.old.opening refusal }
+        ensures others { IsErr result
+            ↔ ((d : Datagram) → IsFor octets.now self.old.opening d → ⊥) }
+
+        // The same as a walk, which tells the first refusal.
+        ensures answer { result ≡ taken_at self.old.opening octets.now }
 
         // What stays, and the refusals.
         ensures opening { self.new.opening ≡ self.old.opening }
@@ -124,14 +147,21 @@ impl<A: Allocator> Receiver<A> {
         ensures refusals { self.new.refusals ≡ refusals_after path result self.old.refusals }
         ensures receiver { IsReceiver self.new }
 
-        // Each cell afterwards is Join of the old one and Cell of the datagram's offers, in lists and
-        // cell by cell, for kept, outside and refused datagrams alike.
-        ensures frames { self.new.frames ≡ joined_frames self.old.frames (frames_of self.old.opening (octets.now ∷ [])) }
-        ensures cells { (ts : ℕ) (p : Position) → IsMember ts self.old.opening.window → IsPosition self.old.opening.format p
-            → cell_in self.new ts p ≡ join (cell_in self.old ts p) (cell_of (offers self.old.opening octets.now) ts p) }
+        // What the octets offer, by the grammar. Each cell afterwards is Join of the old one and
+        // Cell of these offers, in lists and cell by cell, for kept, outside and refused datagrams
+        // alike.
+        ensures offered { AreOffersOf (offers self.old.opening octets.now)
+            octets.now self.old.opening }
+        ensures frames { self.new.frames
+            ≡ joined_frames self.old.frames (frames_of self.old.opening (octets.now ∷ [])) }
+        ensures cells { (ts : ℕ) (p : Position) →
+            IsMember ts self.old.opening.window → IsPosition self.old.opening.format p →
+            cell_in self.new ts p
+            ≡ join (cell_in self.old ts p) (cell_of (offers self.old.opening octets.now) ts p) }
 
         // Where it holds the Frames of some datagrams, it then holds those of them and this one.
-        ensures holds { (datagrams : List (List ℕ)) → Holds self.old datagrams → Holds self.new (datagrams ++ octets.now ∷ []) }
+        ensures holds { (datagrams : List (List ℕ)) →
+            Holds self.old datagrams → Holds self.new (datagrams ++ octets.now ∷ []) }
     {
         let taken = self.join(octets);
         self.keep_refusal(path, taken);
@@ -146,7 +176,8 @@ impl<A: Allocator> Receiver<A> {
         ensures refused { OnErr result (self.new ≡ self.old) }
         ensures refusals { self.new.refusals ≡ self.old.refusals }
         ensures old { IsReceiver self.old }
-        ensures frames { self.new.frames ≡ joined_frames self.old.frames (frames_of self.old.opening (octets.now ∷ [])) }
+        ensures frames { self.new.frames
+            ≡ joined_frames self.old.frames (frames_of self.old.opening (octets.now ∷ [])) }
     {
         let datagram = admit(&self.format, self.payload_type, self.ssrc, octets)?;
         match place_of(self.window.as_slice(), datagram.header.timestamp) {
@@ -173,8 +204,8 @@ impl<A: Allocator> Receiver<A> {
 
     /// Takes what another receiver holds: each cell is then Join of its own and the other's.
     ///
-    /// `OpenedUnlike` comes where the two differ in format, payload type, pinned source or window. The
-    /// refusals stay, and the other receiver is as it was. No memory is taken.
+    /// `OpenedUnlike` comes where the two differ in format, payload type, pinned source or window.
+    /// The refusals stay, and the other receiver is as it was. No memory is taken.
     pub fn merge<B: Allocator>(&mut self, other: &Receiver<B>) -> Result<(), OpenedUnlike>
         ensures unlike { IsErr result ↔ (self.old.opening ≢ other.now.opening) }
         ensures alike { OnOk result (self.old.opening ≡ other.now.opening) }
@@ -182,12 +213,15 @@ impl<A: Allocator> Receiver<A> {
         ensures opening { self.new.opening ≡ self.old.opening }
         ensures refusals { self.new.refusals ≡ self.old.refusals }
         ensures receiver { IsReceiver self.new }
-        ensures frames { OnOk result (self.new.frames ≡ joined_frames self.old.frames other.now.frames) }
-        ensures cells { OnOk result ((ts : ℕ) (p : Position) → IsMember ts self.old.opening.window → IsPosition self.old.opening.format p
-            → cell_in self.new ts p ≡ join (cell_in self.old ts p) (cell_in other.now ts p)) }
+        ensures frames { OnOk result (self.new.frames
+            ≡ joined_frames self.old.frames other.now.frames) }
+        ensures cells { OnOk result ((ts : ℕ) (p : Position) →
+            IsMember ts self.old.opening.window → IsPosition self.old.opening.format p →
+            cell_in self.new ts p ≡ join (cell_in self.old ts p) (cell_in other.now ts p)) }
 
         // Where the two hold the Frames of some datagrams, it then holds those of all of them.
-        ensures holds { OnOk result ((xs ys : List (List ℕ)) → Holds self.old xs → Holds other.now ys → Holds self.new (xs ++ ys)) }
+        ensures holds { OnOk result ((xs ys : List (List ℕ)) →
+            Holds self.old xs → Holds other.now ys → Holds self.new (xs ++ ys)) }
     {
         if !self.is_opened_like(other) {
             return Err(OpenedUnlike);
@@ -220,15 +254,18 @@ impl<A: Allocator> Receiver<A> {
         join_frames(self.frames.as_mut_slice(), other.frames.as_slice());
     }
 
-    /// Moves the window on: its first timestamp leaves and is answered, its frame is then in `out`, and
-    /// `next` stands last with every cell missing. What `out` held is lost.
+    /// Moves the window on: its first timestamp leaves and is answered, its frame is then in `out`,
+    /// and `next` stands last with every cell missing. What `out` held is lost.
     ///
-    /// `InWindow` comes where the window has `next` already, then `OtherFormat` where `out` has another
-    /// format than the receiver; the two are then as they were. Frames are exchanged: none is copied, and no
-    /// memory is taken.
+    /// `InWindow` comes where the window has `next` already, then `OtherFormat` where `out` has
+    /// another format than the receiver; the two are then as they were. Frames are exchanged: none
+    /// is copied, and no memory is taken.
     pub fn slide(&mut self, next: u32, out: &mut Frame<A>) -> Result<u32, SlideFault>
-        ensures in_window { IsErrOf result SlideFault.InWindow ↔ IsMember next self.old.opening.window }
-        ensures other_format { IsErrOf result SlideFault.OtherFormat ↔ ((IsMember next self.old.opening.window → ⊥) × (out.old.format ≢ self.old.opening.format)) }
+        ensures in_window { IsErrOf result SlideFault.InWindow
+            ↔ IsMember next self.old.opening.window }
+        ensures other_format { IsErrOf result SlideFault.OtherFormat
+            ↔ ((IsMember next self.old.opening.window → ⊥)
+            × (out.old.format ≢ self.old.opening.format)) }
         ensures refused { OnErr result ((self.new ≡ self.old) × (out.new ≡ out.old)) }
         ensures first { IfOk result (λ first. slice_get self.old.opening.window 0 ≡ Some first) }
         ensures out { OnOk result (slice_get self.old.frames 0 ≡ Some out.new) }
@@ -261,7 +298,8 @@ impl<A: Allocator> Receiver<A> {
         first
     }
 
-    /// Exchanges the frame at a place of the window, counted from 0, for another of the receiver's format.
+    /// Exchanges the frame at a place of the window, counted from 0, for another of the receiver's
+    /// format.
     pub fn set_frame(&mut self, place: usize, frame: &mut Frame<A>)
         requires place { place < length self.old.opening.window }
         requires format { frame.old.format ≡ self.old.opening.format }
@@ -276,7 +314,8 @@ impl<A: Allocator> Receiver<A> {
 
     /// The frame of a timestamp, where the window has it.
     pub fn frame(&self, timestamp: u32) -> Option<&Frame<A>>
-        ensures frame { option_copied result ≡ frame_at self.now.opening.window self.now.frames timestamp }
+        ensures frame { option_copied result
+            ≡ frame_at self.now.opening.window self.now.frames timestamp }
         ensures within { IsSome result ↔ IsMember timestamp self.now.opening.window }
         ensures receiver { IsReceiver self.now }
     {
@@ -320,7 +359,8 @@ impl<A: Allocator> Receiver<A> {
         self.payload_type
     }
 
-    /// The source that is pinned: datagrams of another are refused. Where there is none, any is taken.
+    /// The source that is pinned: datagrams of another are refused. Where there is none, any is
+    /// taken.
     pub fn ssrc(&self) -> Option<u32>
         ensures ssrc { result ≡ self.now.opening.ssrc }
         ensures receiver { IsReceiver self.now }
@@ -337,7 +377,8 @@ impl<A: Allocator> Receiver<A> {
     }
 }
 
-/// A packet number: the extended number is its high half, the sequence number its low half (RFC 4175, 4.1).
+/// A packet number: the extended number is its high half, the sequence number its low half (RFC
+/// 4175, 4.1).
 fn packet_number(extended: u16, sequence: u16) -> u32
     ensures { result ≡ 65536 * extended + sequence }
 {

@@ -1,8 +1,10 @@
 //! Taking what a source of datagrams gives.
-ghost use Rattle.std.specs.Prelude.{◌≡◌, ◌≤◌, ℕ, List, Some, ◌++◌, length, take, IfErr, MatchResult};
+ghost use Rattle.std.specs.Prelude.{◌≡◌, ◌≤◌, ℕ, List, [], Some, ◌++◌, length, take, IfErr};
+ghost use Rattle.std.specs.Prelude.{MatchResult};
 ghost use Rattle.path_merge.specs.Frames.{Holds, IsReceiver};
 ghost use Rattle.path_merge.specs.Took.{CountsAll, Took, TookUpTo, delivered_in};
 ghost use Rattle.st_format.specs.Device.{CountsFaults};
+ghost use Rattle.st_format.specs.Member.{SameDatagrams};
 ghost use Rattle.st_format.specs.Turns.{Due, datagrams_of};
 
 use crate::receiver::Receiver;
@@ -40,10 +42,11 @@ impl fmt::Display for ReceiveFault {
     }
 }
 
-/// Gives a receiver the datagrams of a source: `limit` turns, or fewer where one is the end or a fault.
+/// Gives a receiver the datagrams of a source: `limit` turns, or fewer where one is the end or a
+/// fault.
 ///
-/// A datagram that the receiver refuses, or that is outside its window, counts as delivered and stops
-/// nothing. `buf` has room for any datagram: 65,535 octets. No memory is taken.
+/// A datagram that the receiver refuses, or that is outside its window, counts as delivered and
+/// stops nothing. `buf` has room for any datagram: 65,535 octets. No memory is taken.
 ///
 /// An `Err` is the source's one failure in this call. What it delivered before is taken.
 pub fn receive<S: DatagramSource, A: Allocator>(
@@ -59,14 +62,23 @@ pub fn receive<S: DatagramSource, A: Allocator>(
         (λ r. Took limit r (S.turns source.old) (S.turns source.new) receiver.old receiver.new)
         (λ e. TookUpTo limit e.delivered (S.turns source.old) receiver.old receiver.new) }
 
-    // Where it held the Frames of some datagrams and the source tells its turns, it then holds those of
-    // them and the first datagrams that were to come: as many as were delivered.
-    ensures holds { (datagrams : List (List ℕ)) (due : List Due) → S.turns source.old ≡ Some due → Holds receiver.old datagrams
-        → Holds receiver.new (datagrams ++ take (delivered_in result) (datagrams_of due)) }
+    // Where it held the Frames of some datagrams and the source tells its turns, it then holds
+    // those of them and the first datagrams that were to come: as many as were delivered.
+    ensures holds { (datagrams : List (List ℕ)) (due : List Due) →
+        S.turns source.old ≡ Some due → Holds receiver.old datagrams →
+        Holds receiver.new (datagrams ++ take (delivered_in result) (datagrams_of due)) }
+
+    // So one that held the Frames of nothing then holds those of every list that has the same
+    // datagrams as those delivered.
+    ensures any_list { (datagrams : List (List ℕ)) (due : List Due) →
+        S.turns source.old ≡ Some due → Holds receiver.old [] →
+        SameDatagrams (take (delivered_in result) (datagrams_of due)) datagrams →
+        Holds receiver.new datagrams }
 
     // What the source counts, and its fault.
     ensures few { delivered_in result ≤ limit }
-    ensures delivered { CountsAll (delivered_in result) (S.delivered source.old) (S.delivered source.new) }
+    ensures delivered { CountsAll (delivered_in result)
+        (S.delivered source.old) (S.delivered source.new) }
     ensures counted { CountsFaults (S.failures source.old) (S.failures source.new) result }
     ensures fault { IfErr result (λ e. S.last_fault source.new ≡ Some e.fault) }
 
@@ -92,7 +104,8 @@ fn take_turns<S: DatagramSource, A: Allocator>(
     ensures took { MatchResult result
         (λ r. Took limit r (S.turns source.old) (S.turns source.new) receiver.old receiver.new)
         (λ e. TookUpTo limit e.delivered (S.turns source.old) receiver.old receiver.new) }
-    ensures delivered { CountsAll (delivered_in result) (S.delivered source.old) (S.delivered source.new) }
+    ensures delivered { CountsAll (delivered_in result)
+        (S.delivered source.old) (S.delivered source.new) }
     ensures counted { CountsFaults (S.failures source.old) (S.failures source.new) result }
     ensures fault { IfErr result (λ e. S.last_fault source.new ≡ Some e.fault) }
     ensures receiver { IsReceiver receiver.new }

@@ -1,5 +1,6 @@
 //! The timestamps of a window.
-ghost use Rattle.std.specs.Prelude.{◌≡◌, ◌≢◌, ◌↔◌, All, IfSome, IfNone, IsErrOf, IsOk, IsTrue, IsFalse, Some, length, slice_get};
+ghost use Rattle.std.specs.Prelude.{◌≡◌, ◌≢◌, ◌↔◌, All, IfSome, IfNone, IsErrOf, IsOk, IsTrue};
+ghost use Rattle.std.specs.Prelude.{IsFalse, Some, length, slice_get};
 ghost use Rattle.st_format.specs.Member.{IsMember};
 ghost use Rattle.path_merge.specs.Opening.{AreDifferent, IsWindow, IsWindowSize};
 
@@ -11,7 +12,8 @@ pub const MOST_TIMESTAMPS: usize = 16;
 /// Whether a window has 1 to 16 timestamps, all different: the first fault, in their order.
 pub fn check_window(window: &[u32]) -> Result<(), OpenFault>
     ensures size { IsErrOf result OpenFault.BadWindow ↔ (IsWindowSize (length window.now) → ⊥) }
-    ensures double { IsErrOf result OpenFault.DoubleTimestamp ↔ (IsWindowSize (length window.now) × (AreDifferent window.now → ⊥)) }
+    ensures double { IsErrOf result OpenFault.DoubleTimestamp
+        ↔ (IsWindowSize (length window.now) × (AreDifferent window.now → ⊥)) }
     ensures memory { IsErrOf result OpenFault.NoMemory → ⊥ }
     ensures window { IsOk result → IsWindow window.now }
 {

@@ -25,7 +25,9 @@ pub fn open<A: Allocator + Copy, B: Allocator>(
     requires payload_type { stamp.payload_type ≤ 127 }
     requires window { IsWindow window.now }
     ensures ready { IfOk result (λ stage. IsReady plan.now stage) }
-    ensures stage { IfOk result (λ stage. (pictures : List Values) → IsStage plan.now stamp pictures (scene_of plan.now pictures stamp window.now receivers) [] stage) }
+    ensures stage { IfOk result (λ stage. (pictures : List Values) →
+        IsStage plan.now stamp pictures
+        (scene_of plan.now pictures stamp window.now receivers) [] stage) }
     ensures memory { OnErr result (result ≡ Err PlayFault.NoMemory) }
 {
     let format = plan.format();
@@ -55,7 +57,12 @@ fn open_receivers<A: Allocator + Copy>(
     requires payload_type { stamp.payload_type ≤ 127 }
     requires window { IsWindow window.now }
     ensures count { IfOk result (λ receivers. length receivers.items ≡ count) }
-    ensures opened { IfOk result (λ receivers. All (λ r. IsOpened (record { format = format; payload_type = stamp.payload_type; ssrc = Some stamp.ssrc; window = window.now }) r) receivers.items) }
+    ensures opened { IfOk result (λ receivers. All (λ r. IsOpened (record {
+      format = format;
+      payload_type = stamp.payload_type;
+      ssrc = Some stamp.ssrc;
+      window = window.now;
+    }) r) receivers.items) }
     ensures memory { OnErr result (result ≡ Err PlayFault.NoMemory) }
 {
     let Ok(mut receivers) = Vec::with_capacity(alloc, usize::from(count)) else {

@@ -6,8 +6,9 @@ use std::alloc::{AllocError, AllocFailed};
 use std::fmt;
 use thiserror::Error;
 
-/// Why a schedule was not played: the first reason. The window, the pictures and the number of receivers are
-/// tested first, then the events one by one; `NoMemory` may stand in place of what an event would say.
+/// Why a schedule was not played: the first reason. The window, the pictures and the number of
+/// receivers are tested first, then the events one by one; `NoMemory` may stand in place of what an
+/// event would say.
 #[derive(Clone, Copy, Debug, PartialEq, Eq, Error)]
 pub enum PlayFault {
     /// 1: the memory was refused.

@@ -1,5 +1,6 @@
 //! The sender of a schedule: one datagram after another.
-ghost use Rattle.std.specs.Prelude.{◌≡◌, ◌<◌, ◌≤◌, ◌*◌, ◌+◌, ◌==◌, ℕ, ◌∷◌, [], All, IfOk, OnErr, Err, length};
+ghost use Rattle.std.specs.Prelude.{◌≡◌, ◌<◌, ◌≤◌, ◌*◌, ◌+◌, ◌==◌, ℕ, ◌∷◌, [], All, IfOk, OnErr};
+ghost use Rattle.std.specs.Prelude.{Err, length};
 ghost use Rattle.packet_plan.specs.Sending.{EachHasRoom};
 ghost use Rattle.path_merge.specs.Steps.{after_packet, text_at, to_come};
 
@@ -8,8 +9,8 @@ use packet_plan::{Plan, Stamp};
 use st_format::Picture;
 use std::alloc::Allocator;
 
-/// Which datagram comes next: its picture, its place in the picture's plan, and the number of the picture's
-/// first packet.
+/// Which datagram comes next: its picture, its place in the picture's plan, and the number of the
+/// picture's first packet.
 #[derive(Clone, Copy, Debug, PartialEq, Eq)]
 pub struct Next {
     pub picture: usize,
@@ -31,7 +32,8 @@ pub fn next_datagram<A: Allocator, B: Allocator, C: Allocator>(
     requires few { length pictures.now ≤ 10000 }
     requires room { EachHasRoom plan.now (length buf.old) }
     requires index { next.old.index < length plan.now.packets }
-    ensures sent { IfOk result (λ v. to_come plan.now stamp pictures.now next.old ≡ v.items ∷ to_come plan.now stamp pictures.now next.new) }
+    ensures sent { IfOk result (λ v. to_come plan.now stamp pictures.now next.old
+        ≡ v.items ∷ to_come plan.now stamp pictures.now next.new) }
     ensures none { result ≡ Err Stop.Unfit → to_come plan.now stamp pictures.now next.old ≡ [] }
     ensures room { length buf.new ≡ length buf.old }
     ensures index { next.new.index < length plan.now.packets }

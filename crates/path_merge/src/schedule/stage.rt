@@ -1,5 +1,6 @@
 //! What is kept while a schedule is played.
-ghost use Rattle.std.specs.Prelude.{◌≡◌, ◌<◌, ◌≤◌, ◌++◌, ◌∷◌, [], All, Err, List, OnOk, Some, length, slice_get};
+ghost use Rattle.std.specs.Prelude.{◌≡◌, ◌<◌, ◌≤◌, ◌++◌, ◌∷◌, [], All, Err, List, OnOk, Some};
+ghost use Rattle.std.specs.Prelude.{length, slice_get};
 ghost use Rattle.path_merge.specs.Stage.{Follows, HandsOut, IsReady, NeverFits, Sends};
 ghost use Rattle.path_merge.specs.Steps.{to_come};
 ghost use Rattle.path_merge.specs.Frames.{State};
@@ -43,7 +44,8 @@ pub fn follow<A: Allocator + Copy, B: Allocator, C: Allocator>(
     requires ready { IsReady plan.now stage.old }
     ensures ready { IsReady plan.now stage.new }
     ensures followed { OnOk result (Follows plan.now stamp pictures.now event stage.old stage.new) }
-    ensures unfit { result ≡ Err Stop.Unfit → NeverFits plan.now stamp pictures.now event stage.old }
+    ensures unfit { result ≡ Err Stop.Unfit →
+        NeverFits plan.now stamp pictures.now event stage.old }
 {
     match event {
         Event::Send => send(alloc, plan, pictures, stamp, stage),
@@ -73,7 +75,8 @@ fn send<A: Allocator, B: Allocator, C: Allocator>(
     requires ready { IsReady plan.now stage.old }
     ensures ready { IsReady plan.now stage.new }
     ensures sent { OnOk result (Sends plan.now stamp pictures.now stage.old stage.new) }
-    ensures none { result ≡ Err Stop.Unfit → to_come plan.now stamp pictures.now stage.old.next ≡ [] }
+    ensures none { result ≡ Err Stop.Unfit →
+        to_come plan.now stamp pictures.now stage.old.next ≡ [] }
 {
     let octets = next_datagram(
         alloc,
@@ -96,7 +99,8 @@ fn hand_out<A: Allocator + Copy>(
 ) -> Result<(), Stop>
     ensures handed { OnOk result (HandsOut at next stage.old stage.new) }
     ensures rest { (stage.new.next ≡ stage.old.next) × (stage.new.buf.items ≡ stage.old.buf.items) }
-    ensures unfit { result ≡ Err Stop.Unfit → (state : State) → slice_get stage.old.receivers.items at ≡ Some state → IsMember next state.opening.window }
+    ensures unfit { result ≡ Err Stop.Unfit → (state : State) →
+        slice_get stage.old.receivers.items at ≡ Some state → IsMember next state.opening.window }
 {
     let handed = slide(alloc, stage.receivers.as_mut_slice(), at, next)?;
     stage.handed.push(handed)?;

@@ -1,5 +1,6 @@
 //! What each event does to the receivers.
-ghost use Rattle.std.specs.Prelude.{◌≡◌, ◌≢◌, ◌<◌, ℕ, ◌∷◌, [], IfOk, OnOk, OnErr, Err, Some, length, slice_get};
+ghost use Rattle.std.specs.Prelude.{◌≡◌, ◌≢◌, ◌<◌, ℕ, ◌∷◌, [], IfOk, OnOk, OnErr, Err, Some};
+ghost use Rattle.std.specs.Prelude.{length, slice_get};
 ghost use Rattle.rtp_header.specs.Grammar.{AreOctets};
 ghost use Rattle.st_format.specs.Member.{IsMember};
 ghost use Rattle.path_merge.specs.Frames.{IsReceiver, State, frames_of, joined_frames};
@@ -38,7 +39,8 @@ pub fn arrive<A: Allocator>(
 fn take<A: Allocator>(receiver: &mut Receiver<A>, path: Path, octets: &[u8])
     ensures octets { AreOctets octets.now }
     ensures opening { receiver.new.opening ≡ receiver.old.opening }
-    ensures frames { receiver.new.frames ≡ joined_frames receiver.old.frames (frames_of receiver.old.opening (octets.now ∷ [])) }
+    ensures frames { receiver.new.frames
+        ≡ joined_frames receiver.old.frames (frames_of receiver.old.opening (octets.now ∷ [])) }
     ensures receiver { IsReceiver receiver.new }
 {
     let _ = receiver.take(path, octets);
@@ -52,7 +54,8 @@ pub fn slide<A: Allocator + Copy>(
     next: u32,
 ) -> Result<Handed<A>, Stop>
     ensures handed { IfOk result (λ h. Slides at next receivers.old receivers.new h) }
-    ensures unfit { result ≡ Err Stop.Unfit → (state : State) → slice_get receivers.old at ≡ Some state → IsMember next state.opening.window }
+    ensures unfit { result ≡ Err Stop.Unfit → (state : State) →
+        slice_get receivers.old at ≡ Some state → IsMember next state.opening.window }
 {
     if usize::from(at) >= receivers.len() {
         return Err(Stop::Unfit);
@@ -72,7 +75,9 @@ pub fn slide<A: Allocator + Copy>(
 /// A receiver is merged into another.
 pub fn merge<A: Allocator>(receivers: &mut [Receiver<A>], into: u8, from: u8) -> Result<(), Stop>
     ensures merged { OnOk result (Merges into from receivers.old receivers.new) }
-    ensures unfit { OnErr result ((state other : State) → slice_get receivers.old into ≡ Some state → slice_get receivers.old from ≡ Some other → into ≢ from → state.opening ≢ other.opening) }
+    ensures unfit { OnErr result ((state other : State) →
+        slice_get receivers.old into ≡ Some state → slice_get receivers.old from ≡ Some other →
+        into ≢ from → state.opening ≢ other.opening) }
 {
     let (into, from) = (usize::from(into), usize::from(from));
     if into >= receivers.len() || from >= receivers.len() || into == from {
@@ -91,7 +96,9 @@ fn merge_two<A: Allocator>(
     requires from { from < length receivers.old }
     requires two { into ≢ from }
     ensures merged { OnOk result (Merges into from receivers.old receivers.new) }
-    ensures unfit { OnErr result ((state other : State) → slice_get receivers.old into ≡ Some state → slice_get receivers.old from ≡ Some other → into ≢ from → state.opening ≢ other.opening) }
+    ensures unfit { OnErr result ((state other : State) →
+        slice_get receivers.old into ≡ Some state → slice_get receivers.old from ≡ Some other →
+        into ≢ from → state.opening ≢ other.opening) }
 {
     let merged = if into < from {
         let (front, back) = receivers.split_at_mut(from);

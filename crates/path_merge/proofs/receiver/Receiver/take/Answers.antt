@@ -1,6 +1,8 @@
-use Rattle.std.proofs.Common.{arith, ◌∙◌}
+use Rattle.std.proofs.Common.{arith, refl, ◌∙◌}
 use Rattle.path_merge.proofs.Answered.{kept_iff, outside_iff, refused_iff}
 use Rattle.path_merge.proofs.RefusedLemmas.{refusal_iff}
+use Rattle.path_merge.specs.Offers.{offers}
+use Rattle.path_merge.proofs.Offered.{offers-exact}
 use Rattle.path_merge.proofs.Joined.{cells_more, holds_more}
 use Rattle.path_merge.proofs.receiver.Receiver.take.Goals as goal
 
@@ -19,6 +21,11 @@ returns-clause-others g c =
 pub returns-clause-refusal : goal.returns-clause-refusal
 returns-clause-refusal g c =
     refusal_iff c.args.self.now.opening c.args.octets.now c.join-taken.result (λ k. omega (arith, c.type_inv.octets k)) c.join-taken.ensures.answer
+
+pub returns-clause-offered : goal.returns-clause-offered
+returns-clause-offered g c =
+    let o = c.args.self.now.opening in
+    (offers-exact o c.args.octets.now (offers o c.args.octets.now) (λ k. omega (arith, c.type_inv.octets k))).0 refl
 
 pub returns-clause-cells : goal.returns-clause-cells
 returns-clause-cells g c =

@@ -37,5 +37,12 @@ returns-clause-packets g c = texts_by c.args.plan.now c.args.stamp c.args.pictur
 
 pub returns-clause-senders : goal.returns-clause-senders
 returns-clause-senders g c stay frame is =
-    senders_frame (scene_of c.args.plan.now c.args.pictures.now c.args.stamp c.args.window.now c.args.receivers) (sender_of c.args.plan.now c.args.stamp) c.args.stamp.first c.args.pictures.now _ c.args.events.now stay frame
-    (texts_list c.args.plan.now c.args.stamp c.args.pictures.now c.len.ensures.full (omega (arith, c.requires)) c.source_of.ensures.fits (subst (λ (f : Format). ArePictures c.args.pictures.now f) c.format.ensures c.in_ok-check.ensures.fine.1) c.in_ok-check.ensures.whole) refl (λ octets m. m) is
+    let scene = scene_of c.args.plan.now c.args.pictures.now c.args.stamp c.args.window.now c.args.receivers in
+    senders_frame scene (sender_of c.args.plan.now c.args.stamp) c.args.pictures.now c.args.events.now stay frame
+    (record {
+      first = c.args.stamp.first;
+      datagrams = scene.sent;
+      list = texts_list c.args.plan.now c.args.stamp c.args.pictures.now c.len.ensures.full (omega (arith, c.requires)) c.source_of.ensures.fits (subst (λ (f : Format). ArePictures c.args.pictures.now f) c.format.ensures c.in_ok-check.ensures.fine.1) c.in_ok-check.ensures.whole;
+      format = refl;
+      among = λ octets m. m;
+    }) is
