@@ -1,12 +1,12 @@
 -- What is so of a receiver that holds the Frames of some list, however it came to it.
-use Rattle.std.proofs.Common.{◌≡◌, ◌↔◌, ℕ, List, Option, Some, refl, sym, ap, ◌∙◌, subst}
+use Rattle.std.proofs.Common.{◌≡◌, ◌↔◌, ℕ, List, Option, Some, sym, ap, ◌∙◌, subst}
 use Rattle.std.specs.Prelude.{slice_get}
 use Rattle.std.specs.List.{flat_map}
 use Rattle.st_format.specs.declared.cell.Cell.{Cell}
 use Rattle.st_format.specs.declared.cell.Cell.TheVariants.{Missing, Value, Contested}
 use Rattle.st_format.specs.Cell.{IsCellOf}
-use Rattle.st_format.specs.Member.{IsMember, SameDatagrams}
-use Rattle.st_format.specs.Offer.{Offer, cell_of, values_for}
+use Rattle.st_format.specs.Member.{SameDatagrams}
+use Rattle.st_format.specs.Offer.{cell_of, values_for}
 use Rattle.st_format.specs.Picture.{Values, timestamp_of, value_at}
 use Rattle.st_format.specs.Position.{Position}
 use Rattle.st_format.specs.Raster.{Raster}
@@ -15,7 +15,7 @@ use Rattle.st_format.proofs.Rasters.{cell_at-raster_of}
 use Rattle.packet_plan.specs.declared.stamp.Stamp.{Stamp}
 use Rattle.packet_plan.specs.Sender.{Sender}
 use Rattle.path_merge.specs.Opening.{Opening}
-use Rattle.path_merge.specs.Offers.{offers, Carries, NoneCarries}
+use Rattle.path_merge.specs.Offers.{offers, NoneCarries}
 use Rattle.path_merge.specs.Frames.{State, Holds, HoldTheSame, IsPlaceOf, Misses, MissTheSame}
 use Rattle.path_merge.specs.Frames.{frames_of, frame_at, cell_if, cell_in}
 use Rattle.path_merge.specs.Sender.{AreAmong, AreAmongAt, IsSendersCell, IsSentAmong}

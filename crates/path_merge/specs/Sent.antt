@@ -1,7 +1,6 @@
 -- What the sender of a schedule sends, and what its frames have of it (own).
 use Rattle.std.specs.Prelude.{◌≡◌, ◌↔◌, ℕ, ◌+◌, ◌%◌, ◌^◌, List, [], ◌∷◌, ◌++◌, length, Some}
 use Rattle.st_format.specs.declared.cell.Cell.TheVariants.{Missing}
-use Rattle.st_format.specs.Member.{IsMember}
 use Rattle.st_format.specs.Picture.{Values}
 use Rattle.st_format.specs.Position.{Position, IsPosition}
 use Rattle.st_format.specs.Raster.{Raster, cell_at}
@@ -12,7 +11,6 @@ use Rattle.packet_plan.specs.Sender.{IsSenderList, Sender, stamp_of}
 use Rattle.packet_plan.specs.Sent.{IsSentPicture}
 use Rattle.packet_plan.specs.Text.{datagram_texts}
 use Rattle.path_merge.specs.Offers.{Carries}
-use Rattle.path_merge.specs.Opening.{Opening}
 use Rattle.path_merge.specs.Sender.{AreAmong, IsSendersCell}
 use Rattle.path_merge.specs.declared.schedule.event.Event.{Event}
 use Rattle.path_merge.specs.Stays.{Stay}
