@@ -32,10 +32,15 @@ pub fn opened(alloc: Global, format: Format) -> Result<Receiver, OpenFault> {
     Receiver::open(alloc, format, 96, None, &[900])
 }
 
+/// Takes a datagram by A, and tells whether it was not refused.
+pub fn takes_octets(receiver: &mut Receiver, octets: &[u8]) -> bool {
+    receiver.take(Path::A, octets).is_ok()
+}
+
 /// Takes a datagram of hexadecimal digits by A, and tells whether it was not refused.
 pub fn takes(alloc: Global, receiver: &mut Receiver, digits: &str) -> bool {
     match hex::decode(alloc, digits) {
-        Ok(octets) => receiver.take(Path::A, octets.as_slice()).is_ok(),
+        Ok(octets) => takes_octets(receiver, octets.as_slice()),
         Err(_) => false,
     }
 }

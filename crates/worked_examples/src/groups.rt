@@ -1,9 +1,10 @@
 //! Pgroups that are compared and blanked, against their samples one by one.
+use crate::checks::met;
 use crate::generator::Generator;
 use crate::packing::{sample, turn_bit};
+use crate::small_format::KINDS;
 use pgroup_pack::{blank, differing};
-use st_format::{Depth, Format, Sampling};
-use std::process::Abort;
+use st_format::Format;
 use std::test::Fail;
 
 const MOST_OCTETS: usize = 15;
@@ -82,18 +83,21 @@ fn masks_agree(format: &Format, generator: &mut Generator) -> bool {
     agree
 }
 
+/// Sixteen pairs, and the masks.
+fn groups_agree(format: &Format, generator: &mut Generator) -> bool {
+    let mut agree = masks_agree(format, generator);
+    for _ in 0..16u32 {
+        agree &= pairs_agree(format, generator);
+    }
+    agree
+}
+
 #[test]
 fn each_sampling_and_depth(rt: HostRuntime) -> Result<(), Fail> {
     let mut generator = Generator::new(3);
-    for sampling in [Sampling::Ycc422, Sampling::Ycc444, Sampling::Rgb] {
-        for depth in [Depth::D8, Depth::D10, Depth::D12, Depth::D16] {
-            let format = Format::new(sampling, depth, 4, 1, 60, 1)?;
-            let mut agree = masks_agree(&format, &mut generator);
-            for _ in 0..16u32 {
-                agree &= pairs_agree(&format, &mut generator);
-            }
-            assert!(rt; agree, "{sampling:?} {depth:?}");
-        }
+    for (sampling, depth) in KINDS {
+        let format = Format::new(sampling, depth, 4, 1, 60, 1)?;
+        met(&rt, groups_agree(&format, &mut generator));
     }
     Ok(())
 }

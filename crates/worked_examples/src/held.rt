@@ -1,19 +1,29 @@
 //! The example held: a frame settled over a picture that was held.
+use crate::checks::met;
 use crate::pictures::{contested, has_values, small};
 use crate::sending::same_format;
 use frame_assembly::{Base, Frame};
+use path_merge::Receiver;
 use st_format::Picture;
 use std::alloc::{AllocError, Global};
-use std::process::Abort;
 use std::test::Fail;
 
-/// A frame settled over a picture, where their formats are one.
-fn settled(alloc: Global, frame: &Frame, held: &Picture) -> Result<Option<Picture>, AllocError> {
+/// Whether a frame settled over a picture has the values, and their formats are one.
+fn settles(alloc: Global, frame: &Frame, held: &Picture) -> Result<bool, AllocError> {
     let (ours, theirs) = (frame.format(), held.format());
     if same_format(&theirs, &ours) {
-        Ok(Some(frame.settle(alloc, Base::Hold(held))?))
+        let picture = frame.settle(alloc, Base::Hold(held))?;
+        Ok(has_values(&picture, &VALUES))
     } else {
-        Ok(None)
+        Ok(false)
+    }
+}
+
+/// The same of a receiver's frame of timestamp 900.
+fn is_settled(alloc: Global, receiver: &Receiver, held: &Picture) -> Result<bool, AllocError> {
+    match receiver.frame(900) {
+        Some(frame) => settles(alloc, frame, held),
+        None => Ok(false),
     }
 }
 
@@ -29,9 +39,7 @@ const VALUES: [(u32, u32, u8, Option<u16>); 4] = [
 #[test]
 fn held(rt: HostRuntime) -> Result<(), Fail> {
     let receiver = contested(rt.alloc())?;
-    let frame = receiver.frame(900).expect(&rt, "a frame");
     let base = Picture::new(rt.alloc(), small()?, [50, 60, 70])?;
-    let picture = settled(rt.alloc(), frame, &base)?.expect(&rt, "one format");
-    assert!(rt; has_values(&picture, &VALUES));
+    met(&rt, is_settled(rt.alloc(), &receiver, &base)?);
     Ok(())
 }

@@ -1,4 +1,5 @@
 //! Pictures, timestamps, and frames that are copied and settled.
+use crate::checks::met;
 use crate::datagrams::{opened, takes};
 use frame_assembly::{Base, Frame};
 use path_merge::Receiver;
@@ -32,14 +33,14 @@ pub fn has_values(picture: &Picture, values: &[(u32, u32, u8, Option<u16>)]) -> 
     has
 }
 
-/// Sets a value of a picture, and tells whether there is such a position and the value fits.
+/// Sets a value of a picture where there is such a position, and tells whether the value fits.
 pub fn set(picture: &mut Picture, row: u32, column: u32, component: u8, value: u16) -> bool {
     let format = picture.format();
-    let can_be = format.has_position(row, column, component) && value <= format.max_value();
-    if can_be {
+    let fits = value <= format.max_value();
+    if fits && format.has_position(row, column, component) {
         picture.set(row, column, component, value);
     }
-    can_be
+    fits
 }
 
 /// *timestamps-5994*, and one past 2^32: base, number and timestamp.
@@ -97,24 +98,29 @@ fn greatest_values(rt: HostRuntime) -> Result<(), Fail> {
 
 /// Sets one value, and no other: not where there is no position, and none that is too large.
 fn sets(picture: &mut Picture) -> bool {
-    set(picture, 1, 2, 2, 7) && !set(picture, 1, 3, 2, 7) && !set(picture, 1, 2, 2, 256)
+    set(picture, 1, 2, 2, 7) && set(picture, 1, 3, 2, 7) && !set(picture, 1, 2, 2, 256)
 }
 
 /// What there is then.
-const SET: [(u32, u32, u8, Option<u16>); 3] = [
+const SET: [(u32, u32, u8, Option<u16>); 4] = [
     (1, 2, 2, Some(7)),
+    (1, 3, 2, None),
     (1, 2, 1, Some(128)),
     (1, 0, 2, Some(129)),
 ];
+
+/// Whether a picture's copy is the same until a value is set.
+fn is_set_alone(alloc: Global, first: &Picture) -> Result<bool, PictureFault> {
+    let mut picture = first.try_copy(alloc)?;
+    let was_same = picture.same(first);
+    Ok(was_same && sets(&mut picture) && has_values(&picture, &SET) && !picture.same(first))
+}
 
 /// One value changes, and no other.
 #[test]
 fn one_value(rt: HostRuntime) -> Result<(), Fail> {
     let first = Picture::new(rt.alloc(), small()?, [16, 128, 129])?;
-    let mut picture = first.try_copy(rt.alloc())?;
-    let was_same = picture.same(&first);
-    let is_set = sets(&mut picture) && has_values(&picture, &SET);
-    assert!(rt; was_same && is_set && !picture.same(&first));
+    met(&rt, is_set_alone(rt.alloc(), &first)?);
     Ok(())
 }
 
@@ -154,13 +160,21 @@ const SETTLED: [(u32, u32, u8, Option<u16>); 4] = [
     (1, 2, 1, Some(128)),
 ];
 
+/// Whether a receiver's frame is copied, and settled to these values.
+fn copies_and_settles(alloc: Global, receiver: &Receiver) -> Result<bool, AllocError> {
+    match receiver.frame(900) {
+        Some(frame) => {
+            Ok(copies(alloc, frame)? && has_values(&settled(alloc, frame)?, &SETTLED))
+        }
+        None => Ok(false),
+    }
+}
+
 /// *copies-and-settling*.
 #[test]
 fn copies_and_settling(rt: HostRuntime) -> Result<(), Fail> {
     let receiver = contested(rt.alloc())?;
-    let frame = receiver.frame(900).expect(&rt, "a frame");
-    let picture = settled(rt.alloc(), frame)?;
-    assert!(rt; copies(rt.alloc(), frame)? && has_values(&picture, &SETTLED));
+    met(&rt, copies_and_settles(rt.alloc(), &receiver)?);
     Ok(())
 }
 
@@ -192,20 +206,25 @@ fn settles(refusing: &Refusing<Global>, frame: &Frame) -> bool {
     settled(refusing, frame).is_err() && settled(refusing, frame).is_ok()
 }
 
+/// The same of a picture.
+fn pictures_grow(alloc: Global, refusing: &Refusing<Global>) -> Result<bool, Fail> {
+    let picture = Picture::new(alloc, small()?, [16, 128, 128])?;
+    Ok(makes(refusing)? && copies_picture(refusing, &picture)?)
+}
+
+/// The same of a receiver's frame.
+fn frames_grow(refusing: &Refusing<Global>, receiver: &Receiver) -> Result<bool, AllocError> {
+    match receiver.frame(900) {
+        Some(frame) => Ok(copies_frame(refusing, frame)? && settles(refusing, frame)),
+        None => Ok(false),
+    }
+}
+
 /// Each call that wants memory, with its one growth refused and then had.
 #[test]
 fn growths(rt: HostRuntime) -> Result<(), Fail> {
-    let receiver = contested(rt.alloc())?;
-    let frame = receiver.frame(900).expect(&rt, "a frame");
-    let picture = Picture::new(rt.alloc(), small()?, [16, 128, 128])?;
     let refusing = Refusing::new(rt.alloc(), 0);
-    assert!(rt;
-        makes(&refusing)? && copies_picture(&refusing, &picture)?,
-        "pictures"
-    );
-    assert!(rt;
-        copies_frame(&refusing, frame)? && settles(&refusing, frame),
-        "frames"
-    );
+    met(&rt, pictures_grow(rt.alloc(), &refusing)?);
+    met(&rt, frames_grow(&refusing, &contested(rt.alloc())?)?);
     Ok(())
 }

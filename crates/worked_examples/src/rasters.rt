@@ -1,15 +1,16 @@
 //! Frames that are put together from datagrams without order, against a plain model: a list of
 //! cells, to which each value is offered one by one.
+use crate::checks::met;
 use crate::datagrams::{begin, opened, put_head};
 use crate::generator::Generator;
 use crate::packed_marks::cell;
 use crate::packing::packed;
 use crate::rows::{copies_by_groups, part, rows_agree};
+use crate::small_format::KINDS;
 use frame_assembly::{Counts, Frame};
 use path_merge::Receiver;
 use st_format::{Cell, Depth, Format, Path, Sampling};
 use std::alloc::{AllocError, Global};
-use std::process::Abort;
 use std::test::Fail;
 
 /// What one segment offers: its place, the number of its first sample, its values, and the octets
@@ -330,16 +331,32 @@ fn cells_agree(frame: &Frame, cells: &[Cell]) -> bool {
     agree && number == cells.len()
 }
 
-/// Whether two receivers of one picture agree with their models, and the left one again with the
-/// right one merged into it.
+/// A receiver of a picture that has taken so many datagrams, drawn from a seed.
+fn played(
+    alloc: Global,
+    format: Format,
+    of_picture: u64,
+    seed: u64,
+    datagrams: u32,
+) -> Result<Play, Fail> {
+    let mut play = Play::new(alloc, format, of_picture, seed)?;
+    play.run(alloc, datagrams)?;
+    Ok(play)
+}
+
+/// Whether two receivers agree with their models, and the left one again with the right one merged
+/// into it.
+fn agree(alloc: Global, left: &mut Play, right: &Play) -> Result<bool, AllocError> {
+    let apart = left.agrees() && right.agrees();
+    left.merge(right);
+    Ok(apart && left.agrees() && left.has_rows(alloc)?)
+}
+
+/// Whether two receivers of one picture agree so.
 fn merges(alloc: Global, format: Format, seed: u64, datagrams: u32) -> Result<bool, Fail> {
-    let mut left = Play::new(alloc, format, seed, seed.wrapping_add(1))?;
-    let mut right = Play::new(alloc, format, seed, seed.wrapping_add(2))?;
-    left.run(alloc, datagrams)?;
-    right.run(alloc, datagrams)?;
-    let apart = left.agrees();
-    left.merge(&right);
-    Ok(apart && left.agrees() && right.agrees() && left.has_rows(alloc)?)
+    let mut left = played(alloc, format, seed, seed.wrapping_add(1), datagrams)?;
+    let right = played(alloc, format, seed, seed.wrapping_add(2), datagrams)?;
+    Ok(agree(alloc, &mut left, &right)?)
 }
 
 /// Small frames and frames of some blocks of groups, from few datagrams to many.
@@ -356,13 +373,8 @@ fn kind_merges(alloc: Global, sampling: Sampling, depth: Depth) -> Result<bool, 
 
 #[test]
 fn each_sampling_and_depth(rt: HostRuntime) -> Result<(), Fail> {
-    for sampling in [Sampling::Ycc422, Sampling::Ycc444, Sampling::Rgb] {
-        for depth in [Depth::D8, Depth::D10, Depth::D12, Depth::D16] {
-            assert!(rt;
-                kind_merges(rt.alloc(), sampling, depth)?,
-                "{sampling:?} {depth:?}"
-            );
-        }
+    for (sampling, depth) in KINDS {
+        met(&rt, kind_merges(rt.alloc(), sampling, depth)?);
     }
     Ok(())
 }
@@ -370,6 +382,6 @@ fn each_sampling_and_depth(rt: HostRuntime) -> Result<(), Fail> {
 #[test]
 fn full_size(rt: HostRuntime) -> Result<(), Fail> {
     let format = Format::new(Sampling::Ycc422, Depth::D10, 1920, 1080, 60, 1)?;
-    assert!(rt; merges(rt.alloc(), format, 5, 4000)?);
+    met(&rt, merges(rt.alloc(), format, 5, 4000)?);
     Ok(())
 }

@@ -1,11 +1,12 @@
 //! Receivers' files, written and read: sound ones, and each kind that is refused.
 use crate::checks::met;
+use crate::datagrams::{opened, takes_octets};
 use crate::small_format::{ANOTHER, UPPER, counted, counts, small};
 use capture_file::FileFault;
 use path_merge::Receiver;
 use receiver_file::{load_receiver, save_receiver};
 use st_format::memory::{MemorySink, MemorySource};
-use st_format::{Depth, Format, Path, Sampling};
+use st_format::{Depth, Format, Sampling};
 use std::alloc::{AllocError, Allocator, Global};
 use std::process::Abort;
 use std::test::Fail;
@@ -19,10 +20,12 @@ const OCTETS: usize = 47;
 
 /// A receiver of F1, payload type 96, any source and window [900], that took two datagrams.
 fn received(alloc: Global, first: &[u8], second: &[u8]) -> Result<Receiver, Fail> {
-    let mut receiver = Receiver::open(alloc, small()?, 96, None, &[900])?;
-    receiver.take(Path::A, first)?;
-    receiver.take(Path::A, second)?;
-    Ok(receiver)
+    let mut receiver = opened(alloc, small()?)?;
+    if takes_octets(&mut receiver, first) && takes_octets(&mut receiver, second) {
+        Ok(receiver)
+    } else {
+        Err(Fail::from("refused"))
+    }
 }
 
 /// A sink that moves so many octets a call and fails at a call, or never at 0.

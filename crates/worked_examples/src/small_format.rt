@@ -20,6 +20,22 @@ pub const LOWER: &[u8] =
 pub const OTHER_VERSION: &[u8] =
     b"\x40\xE0\0\x01\0\0\x03\x84\0\0\0\x01\0\0\0\x08\0\0\0\0\x80\x10\x80\x11\x80\x12\x80\x13";
 
+/// Each sampling with each depth.
+pub const KINDS: [(Sampling, Depth); 12] = [
+    (Sampling::Ycc422, Depth::D8),
+    (Sampling::Ycc422, Depth::D10),
+    (Sampling::Ycc422, Depth::D12),
+    (Sampling::Ycc422, Depth::D16),
+    (Sampling::Ycc444, Depth::D8),
+    (Sampling::Ycc444, Depth::D10),
+    (Sampling::Ycc444, Depth::D12),
+    (Sampling::Ycc444, Depth::D16),
+    (Sampling::Rgb, Depth::D8),
+    (Sampling::Rgb, Depth::D10),
+    (Sampling::Rgb, Depth::D12),
+    (Sampling::Rgb, Depth::D16),
+];
+
 /// F1: 4:2:2, 8 bits, 4 by 2, 60 frames a second.
 pub fn small() -> Result<Format, FormatFault> {
     Format::new(Sampling::Ycc422, Depth::D8, 4, 2, 60, 1)

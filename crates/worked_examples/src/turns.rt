@@ -5,7 +5,7 @@ use crate::checks::{met, none_fails};
 use crate::small_format::{ANOTHER, LOWER, OTHER_VERSION, UPPER, counted, counts, small};
 use frame_assembly::{Counts, Frame};
 use path_merge::{ReceiveFault, Received, Receiver, receive};
-use payload_header::read_payload;
+use payload_header::{PayloadFault, read_payload};
 use refusing::Refusing;
 use st_format::memory::{MemoryTurn, MemoryTurns};
 use st_format::{DatagramSource, Format, Path, SourceFault, Turn};
@@ -116,13 +116,22 @@ fn payload(octets: &[u8]) -> &[u8] {
     &octets[octets.len().min(12)..]
 }
 
+/// Puts a datagram's payload into a frame.
+fn put<A: Allocator>(frame: &mut Frame<A>, octets: &[u8]) -> Result<(), PayloadFault>
+    ensures { frame.new.format ≡ frame.old.format }
+{
+    let format = frame.format();
+    let view = read_payload(&format, payload(octets))?;
+    frame.put(&view);
+    Ok(())
+}
+
 /// A frame of a datagram's payload.
 fn holding<A: Allocator + Copy>(alloc: A, format: Format, octets: &[u8]) -> Result<Frame<A>, Fail>
     ensures { IfOk result (λ f. f.format ≡ format) }
 {
-    let view = read_payload(&format, payload(octets))?;
     let mut frame = Frame::new(alloc, format)?;
-    frame.put(&view);
+    put(&mut frame, octets)?;
     Ok(frame)
 }
 

@@ -135,6 +135,10 @@ impl<A: Allocator> Pair<A> {
         }
     }
 
+    fn follows_all(&mut self, steps: &[Step]) -> bool {
+        self.fails_at(steps).is_none()
+    }
+
     /// The place of the first step that isn't followed.
     fn fails_at(&mut self, steps: &[Step]) -> Option<u64> {
         let mut place = 0u64;
@@ -306,20 +310,23 @@ const KEEPS: [Step; 3] = [
     Step::Has(900, Some(HALF)),
 ];
 
+/// Refuses one datagram more, and tells whether so many refusals are kept then.
+fn keeps(pair: &mut Pair, count: usize) -> bool {
+    pair.follows_all(&REFUSES_MORE) && pair.near.refusal_count() == count
+}
+
+/// Refuses 64 datagrams more, of which the last is the first that is kept in place of another.
+fn keeps_each(pair: &mut Pair) -> bool {
+    let mut is_kept = true;
+    for before in 1..65usize {
+        is_kept &= keeps(pair, (before + 1).min(64));
+    }
+    is_kept
+}
+
 /// The last 64 refusals stay, each with its path.
 fn keeps_refusals(pair: &mut Pair) -> bool {
-    if pair.fails_at(&REFUSES).is_some() {
-        return false;
-    }
-    for before in 1..65usize {
-        if pair.fails_at(&REFUSES_MORE).is_some() {
-            return false;
-        }
-        if pair.near.refusal_count() != (before + 1).min(64) {
-            return false;
-        }
-    }
-    pair.fails_at(&KEEPS).is_none()
+    pair.follows_all(&REFUSES) && keeps_each(pair) && pair.follows_all(&KEEPS)
 }
 
 #[test]
