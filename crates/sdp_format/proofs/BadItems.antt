@@ -9,7 +9,7 @@ use Rattle.sdp_format.specs.Naming.{Item, is_bad, rate, colorimetry, range_named
 use Rattle.sdp_format.specs.Grammar.{Says, IsBadItem}
 use Rattle.sdp_format.specs.Grammar.IsBadItem.{NoName, NoWidth, NoHeight, NoRate, NoColorimetry, NoRange}
 use Rattle.sdp_format.proofs.Members.{not_both, any_member, member_any}
-use Rattle.sdp_format.proofs.Said.{bytes_same}
+use Rattle.sdp_format.proofs.Doubles.{bytes_same}
 
 pub cond_true : (t a b : Bool) → cond t a b ≡ true → ((t ≡ true) × (a ≡ true)) ⊎ ((t ≡ false) × (b ≡ true))
 cond_true true a b e = inl (refl, e)

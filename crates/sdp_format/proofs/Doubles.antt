@@ -1,36 +1,42 @@
--- Items put into a map one after another.
+-- Items put into a list one after another, while their names stand in an ordered set.
 use Rattle.std.proofs.Common.{◌≡◌, ℕ, List, [], ◌∷◌, ◌++◌, Bool, true, false, cond, ◌||◌, Option, Some, None, refl, ap, ◌∙◌, sym, Bor}
-use Rattle.std.specs.Option.{option_copied}
 use Rattle.std.specs.List.{list_any}
 use Rattle.std.specs.Str.{bytes_eq}
-use Rattle.std.specs.Map.{lookup}
-use Rattle.std.specs.Prelude.{is_some}
+use Rattle.std.specs.Prelude.{is_some, not}
+use Rattle.std.specs.Ordering.{nat_cmp}
+use Rattle.std.specs.declared.cmp.Ordering.{Ordering}
+use Rattle.std.specs.Cmp.Lexicographic.{slice_cmp}
+use Rattle.std.specs.BTreeSet.{BTreeSet, contains, Updates}
+use Rattle.std.proofs.lemmas.List.{map-append}
+use Rattle.std.proofs.lemmas.Map.Text.{is_eq-slice_cmp}
+use Rattle.std.proofs.lemmas.Slice.Eq.{bytes_eq-Decides}
 use mathlib.Core.List.{append_assoc}
-use Rattle.indexmap.specs.IndexMap.{insert_entry}
 use Rattle.sdp_format.specs.Naming.{Item, has_double, value_of}
-use Rattle.sdp_format.specs.Views.{pairs}
+use Rattle.sdp_format.specs.Views.{item_of, items_in}
+use Rattle.sdp_format.specs.declared.items.Parameter.{Parameter}
 
 abbrev pub Slice : Type 0
 Slice = Bor (List ℕ)
 
-abbrev pub slice_is : Slice → Slice → Bool
-slice_is x y = bytes_eq x.now y.now
+abbrev pub slice_order : Slice → Slice → Ordering
+slice_order x y = slice_cmp nat_cmp x.now y.now
 
-pub lookup_pairs : (name : List ℕ) (es : List (Slice × Slice)) → option_copied (lookup (λ q. bytes_eq name q.now) es) ≡ value_of name (pairs es)
-lookup_pairs name [] = refl
-lookup_pairs name (e ∷ es) =
-    elim (bytes_eq name e.0.now) as (λ t. option_copied (cond t (Some e.1) (lookup (λ q. bytes_eq name q.now) es)) ≡ cond t (Some e.1.now) (value_of name (pairs es)))
-    [ true ↦ refl | false ↦ lookup_pairs name es ]
+pub bytes_same : (xs ys : List ℕ) → bytes_eq xs ys ≡ true → xs ≡ ys
+bytes_same xs ys e = (bytes_eq-Decides xs ys).0 e
 
-insert_by : (e : Slice × Slice) (es : List (Slice × Slice)) (k v : Slice) (t : Bool) → cond t (Some e.1) (lookup (slice_is k) es) ≡ None
-    → (lookup (slice_is k) es ≡ None → pairs (insert_entry slice_is es k v) ≡ pairs es ++ (k.now, v.now) ∷ [])
-    → pairs (cond t ((e.0, v) ∷ es) (e ∷ insert_entry slice_is es k v)) ≡ (e.0.now, e.1.now) ∷ pairs es ++ (k.now, v.now) ∷ []
-insert_by e es k v true n h = cc
-insert_by e es k v false n h = ap (λ xs. (e.0.now, e.1.now) ∷ xs) (h n)
+pub same_bytes : (xs ys : List ℕ) → xs ≡ ys → bytes_eq xs ys ≡ true
+same_bytes xs ys e = (bytes_eq-Decides xs ys).1 e
 
-pub insert_pairs : (es : List (Slice × Slice)) (k v : Slice) → lookup (slice_is k) es ≡ None → pairs (insert_entry slice_is es k v) ≡ pairs es ++ (k.now, v.now) ∷ []
-insert_pairs [] k v n = refl
-insert_pairs (e ∷ es) k v n = insert_by e es k v (slice_is k e.0) n (insert_pairs es k v)
+flipped_by : (a b : List ℕ) (s t : Bool) → bytes_eq a b ≡ s → bytes_eq b a ≡ t → s ≡ t
+flipped_by a b true true e f = refl
+flipped_by a b false false e f = refl
+flipped_by a b true false e f =
+    let h : bytes_eq b a ≡ true = same_bytes b a (sym (bytes_same a b e)) in sym h ∙ f
+flipped_by a b false true e f =
+    let h : bytes_eq a b ≡ true = same_bytes a b (sym (bytes_same b a f)) in sym e ∙ h
+
+flipped : (a b : List ℕ) → bytes_eq a b ≡ bytes_eq b a
+flipped a b = flipped_by a b (bytes_eq a b) (bytes_eq b a) refl refl
 
 pub any_here : (p : Item → Bool) (xs ys : List Item) (y : Item) → p y ≡ true → list_any p (xs ++ y ∷ ys) ≡ true
 any_here p [] ys y e = rw e refl
@@ -68,31 +74,70 @@ pub double_met : (xs ys : List Item) (y : Item) (v : List ℕ) → value_of y.0 
 double_met [] ys y v old = cc
 double_met (x ∷ xs) ys y v old = met_by x xs ys y v (bytes_eq y.0 x.0) refl old (double_met xs ys y v)
 
-none_from : (r old : Option Slice) → old ≡ r → is_some old ≡ false → r ≡ None
-none_from None old e f = refl
-none_from (Some x) old e f = let h : is_some (Some x) ≡ false = rw e at f in cc
+known_by : (s t : Bool) (v : List ℕ) (whole part : Option (List ℕ))
+    → is_some whole ≡ cond s true (is_some part)
+    → is_some (cond t (Some v) whole) ≡ cond s true (is_some (cond t (Some v) part))
+known_by true true v whole part h = refl
+known_by false true v whole part h = refl
+known_by s false v whole part h = h
 
-some_from : (r old : Option Slice) → old ≡ r → is_some old ≡ true → (x : Slice) × (r ≡ Some x)
-some_from None old e f = let h : false ≡ true = rw e at f in cc
-some_from (Some x) old e f = (x, refl)
+-- a name is known behind one more item where it is the item's, or was known
+known_push : (xs : List Item) (y : Item) (name : List ℕ)
+    → is_some (value_of name (xs ++ y ∷ [])) ≡ cond (bytes_eq y.0 name) true (is_some (value_of name xs))
+known_push [] y name =
+    rw (flipped y.0 name)
+    (elim (bytes_eq name y.0) as (λ t. is_some (cond t (Some y.1) None) ≡ cond t true false)
+    [ true ↦ refl | false ↦ refl ])
+known_push (x ∷ xs) y name =
+    known_by (bytes_eq y.0 name) (bytes_eq name x.0) x.1
+    (value_of name (xs ++ y ∷ [])) (value_of name xs) (known_push xs y name)
+
+none_from : (r : Option (List ℕ)) → is_some r ≡ false → r ≡ None
+none_from None e = refl
+none_from (Some x) e = cc
+
+some_from : (r : Option (List ℕ)) → is_some r ≡ true → (x : List ℕ) × (r ≡ Some x)
+some_from None e = cc
+some_from (Some x) e = (x, refl)
+
+not_from : (a : Bool) → true ≡ not a → a ≡ false
+not_from true e = cc
+not_from false e = refl
+
+true_from : (a : Bool) → false ≡ not a → a ≡ true
+true_from true e = refl
+true_from false e = cc
 
 -- What the loop over the items keeps
-pub record Kept (es : List (Slice × Slice)) (left all : List Item) : Type 0 where
-  pub whole : pairs es ++ left ≡ all
-  pub single : has_double (pairs es) ≡ false
+pub record Kept (ps : List Parameter) (names : BTreeSet Slice) (left all : List Item) : Type 0 where
+  pub whole : items_in ps ++ left ≡ all
+  pub single : has_double (items_in ps) ≡ false
+  pub known : (q : Slice) → contains slice_order names q ≡ is_some (value_of q.now (items_in ps))
 
-pub insert_kept : (es new : List (Slice × Slice)) (left rest all : List Item) (k v : Slice) (old : Option Slice) → Kept es left all → left ≡ (k.now, v.now) ∷ rest
-    → old ≡ lookup (slice_is k) es → is_some old ≡ false → new ≡ insert_entry slice_is es k v → Kept new rest all
-insert_kept es new left rest all k v old kept e o none n =
-    let absent : lookup (slice_is k) es ≡ None = none_from (lookup (slice_is k) es) old o none in
-    let made : pairs new ≡ pairs es ++ (k.now, v.now) ∷ [] = ap pairs n ∙ insert_pairs es k v absent in
+pub put_kept : (ps qs : List Parameter) (names new : BTreeSet Slice) (left rest all : List Item)
+    (p : Parameter) → Kept ps names left all → left ≡ item_of p ∷ rest
+    → true ≡ not (contains slice_order names p.name) → Updates slice_order names new p.name true
+    → qs ≡ ps ++ p ∷ [] → Kept qs new rest all
+put_kept ps qs names new left rest all p kept e is_new updates put =
+    let made : items_in qs ≡ items_in ps ++ item_of p ∷ [] =
+    ap items_in put ∙ map-append item_of ps (p ∷ []) in
+    let absent : value_of p.name.now (items_in ps) ≡ None =
+    none_from (value_of p.name.now (items_in ps))
+    (sym (kept.known p.name) ∙ not_from (contains slice_order names p.name) is_new) in
     record {
-      whole = rw (made, append_assoc) (ap (λ xs. pairs es ++ xs) (sym e) ∙ kept.whole);
-      single = rw made (double_push (pairs es) (k.now, v.now) kept.single (sym (lookup_pairs k.now es) ∙ ap option_copied absent));
+      whole = rw (made, append_assoc) (ap (λ xs. items_in ps ++ xs) (sym e) ∙ kept.whole);
+      single = rw made (double_push (items_in ps) (item_of p) kept.single absent);
+      known = λ q. updates.0 q
+          ∙ (rw (is_eq-slice_cmp p.name.now q.now, kept.known q, made)
+          (sym (known_push (items_in ps) (item_of p) q.now)));
     }
 
-pub insert_double : (es : List (Slice × Slice)) (left rest all : List Item) (k v : Slice) (old : Option Slice) → Kept es left all → left ≡ (k.now, v.now) ∷ rest
-    → old ≡ lookup (slice_is k) es → is_some old ≡ true → has_double all ≡ true
-insert_double es left rest all k v old kept e o some =
-    let there : (x : Slice) × (lookup (slice_is k) es ≡ Some x) = some_from (lookup (slice_is k) es) old o some in
-    ap has_double (sym (ap (λ xs. pairs es ++ xs) (sym e) ∙ kept.whole)) ∙ double_met (pairs es) rest (k.now, v.now) there.0.now (sym (lookup_pairs k.now es) ∙ ap option_copied there.1)
+pub met_double : (ps : List Parameter) (names : BTreeSet Slice) (left rest all : List Item) (p : Parameter)
+    → Kept ps names left all → left ≡ item_of p ∷ rest → false ≡ not (contains slice_order names p.name)
+    → has_double all ≡ true
+met_double ps names left rest all p kept e is_new =
+    let there : (x : List ℕ) × (value_of p.name.now (items_in ps) ≡ Some x) =
+    some_from (value_of p.name.now (items_in ps))
+    (sym (kept.known p.name) ∙ true_from (contains slice_order names p.name) is_new) in
+    ap has_double (sym (ap (λ xs. items_in ps ++ xs) (sym e) ∙ kept.whole))
+    ∙ double_met (items_in ps) rest (item_of p) there.0 there.1

@@ -22,7 +22,8 @@ use Rattle.sdp_format.specs.Canonical.{sampling_text, depth_text}
 use Rattle.sdp_format.specs.Reading.{sampling_named, depth_named, is_missing, is_interlaced, or_fault, format_of, said_in, leg_of}
 use Rattle.sdp_format.specs.Grammar.{Says, Has, Lacks, IsGiven, ItemFault, SaysRange, IsSaid}
 use Rattle.sdp_format.proofs.Members.{not_both, or_cases, or_left, or_right, all_member, not_all_member}
-use Rattle.sdp_format.proofs.Said.{bytes_same, same_bytes, found_says, says_found, none_lacks, lacks_none, some_text, has_says, says_has, lacks_has, text_known, double_says, says_double, not_none}
+use Rattle.sdp_format.proofs.Doubles.{bytes_same, same_bytes}
+use Rattle.sdp_format.proofs.Said.{found_says, says_found, none_lacks, lacks_none, some_text, has_says, says_has, lacks_has, text_known, double_says, says_double, not_none}
 use Rattle.sdp_format.proofs.BadItems.{bad_any, said_width, said_height, said_rate, said_colorimetry, said_range}
 use Rattle.sdp_format.proofs.Again.{not_true}
 use Rattle.sdp_format.proofs.Line.{sampling_again, depth_again}

@@ -14,7 +14,8 @@ use Rattle.sdp_format.specs.Bytes.{is_space, trim_end, unless_spaces, number, is
 use Rattle.sdp_format.specs.Reading.{media_of, media_of_parts, both, first_attribute}
 use Rattle.sdp_format.specs.Grammar.{IsMediaLine, IsAttribute, HasNone, IsFirst}
 use Rattle.sdp_format.proofs.Members.{not_both}
-use Rattle.sdp_format.proofs.Said.{bytes_same, not_none}
+use Rattle.sdp_format.proofs.Doubles.{bytes_same}
+use Rattle.sdp_format.proofs.Said.{not_none}
 use Rattle.sdp_format.proofs.Parts.{front_here, front_later, behind_here, behind_later, next_part}
 use Rattle.sdp_format.proofs.Again.{is_word, trim_end_word, cut_at, and_parts, not_true}
 use Rattle.sdp_format.proofs.Line.{digit_word, digit_space, all_so}

@@ -3,18 +3,11 @@ use Rattle.std.proofs.Common.{◌≡◌, ℕ, Bool, true, false, cond, List, [],
 use Rattle.std.specs.Prelude.{is_some}
 use Rattle.std.specs.List.{list_any}
 use Rattle.std.specs.Str.{bytes_eq}
-use Rattle.std.proofs.lemmas.Slice.Eq.{bytes_eq-Decides}
 use Rattle.sdp_format.specs.Bytes.{text_or}
 use Rattle.sdp_format.specs.Naming.{Item, value_of, text_of, has, has_double}
 use Rattle.sdp_format.specs.Grammar.{Says, Has, Lacks, HasDouble}
 use Rattle.sdp_format.proofs.Members.{member_later, member_cases, no_member, not_both, or_cases, or_right, any_member, member_any, member_split}
-use Rattle.sdp_format.proofs.Doubles.{any_here, or_false, cond_none}
-
-pub bytes_same : (xs ys : List ℕ) → bytes_eq xs ys ≡ true → xs ≡ ys
-bytes_same xs ys e = (bytes_eq-Decides xs ys).0 e
-
-pub same_bytes : (xs ys : List ℕ) → xs ≡ ys → bytes_eq xs ys ≡ true
-same_bytes xs ys e = (bytes_eq-Decides xs ys).1 e
+use Rattle.sdp_format.proofs.Doubles.{bytes_same, same_bytes, any_here, or_false, cond_none}
 
 pub false_from : (a : Bool) → (a ≡ true → ⊥) → a ≡ false
 false_from true h = absurd (h refl)

@@ -17,7 +17,8 @@ use Rattle.sdp_format.specs.Sections.{Section, Leg, Description, video_sections}
 use Rattle.sdp_format.specs.Reading.{◌>>=◌, refused, Gives, section_at, same_sampling, same_depth, same_range, same_format, same_leg, description_of, description_at}
 use Rattle.sdp_format.specs.Grammar.{IsFirstFault, IsFaultless, SectionSays, Differ, TwoDiffer, IsTextFault, OneSays, BothSay, IsDescribed}
 use Rattle.sdp_format.proofs.Members.{not_both}
-use Rattle.sdp_format.proofs.Said.{bytes_same, same_bytes, false_from}
+use Rattle.sdp_format.proofs.Doubles.{bytes_same, same_bytes}
+use Rattle.sdp_format.proofs.Said.{false_from}
 use Rattle.sdp_format.proofs.Again.{and_parts}
 use Rattle.sdp_format.proofs.SectionFaults.{section_fault, section_read, section_said}
 

@@ -1,16 +1,15 @@
 //! What one section says.
 ghost use Rattle.std.specs.Prelude.{◌≡◌, ◌≤◌};
-ghost use Rattle.sdp_format.specs.Views.{pairs};
+ghost use Rattle.sdp_format.specs.Views.{items_in};
 ghost use Rattle.sdp_format.specs.Reading.{seen, Gives, format_of, sampling_named, depth_named};
 ghost use Rattle.st_format.specs.Fields.{fields_of};
 
 use crate::fault::SdpFault;
-use crate::items::rate;
+use crate::items::{Parameter, rate};
 use crate::lines::{begins, is_word};
-use crate::parameters::{Parameters, is_interlaced, text_of};
+use crate::parameters::{is_interlaced, text_of};
 use crate::text::number;
 use st_format::{Depth, Format, Sampling};
-use std::alloc::Allocator;
 
 #[tactic(auto, unfolding(crate::specs::Reading::sampling_named))]
 fn sampling_named(text: &[u8]) -> Option<Sampling>
@@ -46,25 +45,23 @@ fn depth_named(text: &[u8]) -> Option<Depth>
 
 /// The format that the items give.
 #[tactic(auto, unfolding(crate::specs::Reading::format_of))]
-pub(crate) fn format_of<'a, A: Allocator + Copy>(
-    map: &Parameters<'a, A>,
-) -> Result<Format, SdpFault>
-    ensures { seen fields_of result ≡ format_of (pairs map.now.entries) }
+pub(crate) fn format_of(list: &[Parameter<'_>]) -> Result<Format, SdpFault>
+    ensures { seen fields_of result ≡ format_of (items_in list.now) }
 {
-    let sampling = sampling_named(text_of(map, b"sampling")).ok_or(SdpFault::UnsupportedSampling)?;
-    let depth = depth_named(text_of(map, b"depth")).ok_or(SdpFault::UnsupportedDepth)?;
-    if is_interlaced(map) {
+    let sampling = sampling_named(text_of(list, b"sampling")).ok_or(SdpFault::UnsupportedSampling)?;
+    let depth = depth_named(text_of(list, b"depth")).ok_or(SdpFault::UnsupportedDepth)?;
+    if is_interlaced(list) {
         return Err(SdpFault::Interlaced);
     }
-    if !is_word(text_of(map, b"PM"), b"2110GPM") {
+    if !is_word(text_of(list, b"PM"), b"2110GPM") {
         return Err(SdpFault::UnsupportedPacking);
     }
-    if !begins(b"ST2110-20:", text_of(map, b"SSN")) {
+    if !begins(b"ST2110-20:", text_of(list, b"SSN")) {
         return Err(SdpFault::BadSsn);
     }
-    let width = number(text_of(map, b"width")).ok_or(SdpFault::BadParameter)?;
-    let height = number(text_of(map, b"height")).ok_or(SdpFault::BadParameter)?;
-    let (n, d) = rate(text_of(map, b"exactframerate")).ok_or(SdpFault::BadParameter)?;
+    let width = number(text_of(list, b"width")).ok_or(SdpFault::BadParameter)?;
+    let height = number(text_of(list, b"height")).ok_or(SdpFault::BadParameter)?;
+    let (n, d) = rate(text_of(list, b"exactframerate")).ok_or(SdpFault::BadParameter)?;
     match Format::new(sampling, depth, width, height, n, d) {
         Ok(format) => Ok(format),
         Err(_) => Err(SdpFault::BadFormat),

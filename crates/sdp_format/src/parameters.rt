@@ -1,78 +1,82 @@
-//! The items of an fmtp line by their names.
+//! The items of an fmtp line as a list, and what they say by their names.
 ghost use Rattle.std.specs.Prelude.{◌≡◌, ◌∷◌, [], None, Some, IfOk, Err, Ok, if◌then◌else◌};
 ghost use Rattle.std.specs.Option.{option_copied};
 ghost use Rattle.sdp_format.specs.Naming.{items, has_double, value_of, has, text_of, required};
 ghost use Rattle.sdp_format.specs.Reading.{Gives, is_missing, is_interlaced};
-ghost use Rattle.sdp_format.specs.Views.{pairs};
+ghost use Rattle.sdp_format.specs.Views.{items_in};
 ghost use Rattle.sdp_format.specs.declared.fault.SdpFault.TheVariants.{DoubleParameter};
 
 use crate::fault::SdpFault;
-use crate::items::next_item;
-use indexmap::IndexMap;
+use crate::items::{Parameter, next_item};
+use crate::lines::is_word;
 use std::alloc::Allocator;
-use std::hash::{BuildHasherDefault, FoldHasher};
+use std::collections::BTreeSet;
 
-pub(crate) type Parameters<'a, A> = IndexMap<&'a [u8], &'a [u8], BuildHasherDefault<FoldHasher>, A>;
-
-/// The items by their names, unless two have one name.
+/// The items in their order, unless two have one name. The names met so far stand in an ordered
+/// set, whose cost no choice of names can raise: a text comes from outside.
 pub(crate) fn parameters_of<'a, A: Allocator + Copy>(
     alloc: A,
     text: &'a [u8],
-) -> Result<Parameters<'a, A>, SdpFault>
-    ensures { Gives (λ m. pairs m.entries) result (if has_double (items text.now) then Err DoubleParameter else Ok (items text.now)) }
+) -> Result<Vec<Parameter<'a>, A>, SdpFault>
+    ensures { Gives (λ v. items_in v.items) result
+        (if has_double (items text.now) then Err DoubleParameter else Ok (items text.now)) }
 {
-    let mut map = IndexMap::new(alloc);
+    let mut list = Vec::new(alloc);
+    let mut names = BTreeSet::new(alloc);
     let mut rest = Some(text);
     while let Some((item, more)) = next_item(rest) {
-        let old = map.insert(item.name, item.value)?;
-        if old.is_some() {
+        let is_new = names.insert(item.name)?;
+        if !is_new {
             return Err(SdpFault::DoubleParameter);
         }
+        list.push(item)?;
         rest = more;
     }
-    Ok(map)
+    Ok(list)
 }
 
-pub(crate) fn value_of<'a, A: Allocator + Copy>(
-    map: &Parameters<'a, A>,
-    name: &[u8],
-) -> Option<&'a [u8]>
-    ensures { option_copied result ≡ value_of name.now (pairs map.now.entries) }
+pub(crate) fn value_of<'a>(list: &[Parameter<'a>], name: &[u8]) -> Option<&'a [u8]>
+    ensures { option_copied result ≡ value_of name.now (items_in list.now) }
 {
-    map.get(name).copied()
+    for item in list {
+        if is_word(name, item.name) {
+            return Some(item.value);
+        }
+    }
+    None
 }
 
-pub(crate) fn has<'a, A: Allocator + Copy>(map: &Parameters<'a, A>, name: &[u8]) -> bool
-    ensures { result ≡ has (pairs map.now.entries) name.now }
+pub(crate) fn has(list: &[Parameter<'_>], name: &[u8]) -> bool
+    ensures { result ≡ has (items_in list.now) name.now }
 {
-    value_of(map, name).is_some()
+    value_of(list, name).is_some()
 }
 
 /// The value of a name, or nothing.
-pub(crate) fn text_of<'a, A: Allocator + Copy>(map: &Parameters<'a, A>, name: &[u8]) -> &'a [u8]
-    ensures { result.now ≡ text_of name.now (pairs map.now.entries) }
+pub(crate) fn text_of<'a>(list: &[Parameter<'a>], name: &[u8]) -> &'a [u8]
+    ensures { result.now ≡ text_of name.now (items_in list.now) }
 {
-    match value_of(map, name) {
+    match value_of(list, name) {
         Some(value) => value,
         None => b"",
     }
 }
 
-pub(crate) fn is_missing<'a, A: Allocator + Copy>(map: &Parameters<'a, A>) -> bool
-    ensures { result ≡ is_missing (pairs map.now.entries) }
+pub(crate) fn is_missing(list: &[Parameter<'_>]) -> bool
+    ensures { result ≡ is_missing (items_in list.now) }
 {
-    !(has(map, b"sampling")
-        && has(map, b"width")
-        && has(map, b"height")
-        && has(map, b"exactframerate")
-        && has(map, b"depth")
-        && has(map, b"colorimetry")
-        && has(map, b"PM")
-        && has(map, b"SSN"))
+    !(has(list, b"sampling")
+        && has(list, b"width")
+        && has(list, b"height")
+        && has(list, b"exactframerate")
+        && has(list, b"depth")
+        && has(list, b"colorimetry")
+        && has(list, b"PM")
+        && has(list, b"SSN"))
 }
 
-pub(crate) fn is_interlaced<'a, A: Allocator + Copy>(map: &Parameters<'a, A>) -> bool
-    ensures { result ≡ is_interlaced (pairs map.now.entries) }
+pub(crate) fn is_interlaced(list: &[Parameter<'_>]) -> bool
+    ensures { result ≡ is_interlaced (items_in list.now) }
 {
-    has(map, b"interlace") || has(map, b"segmented")
+    has(list, b"interlace") || has(list, b"segmented")
 }

@@ -2,7 +2,7 @@
 ghost use Rattle.std.specs.Prelude.{◌≡◌, ◌≢◌, ◌≤◌, ◌<◌, ◌∷◌, [], None, Some, length, ◌⊎◌, IfOk, IfErr, IsErrOf, IsOk};
 ghost use Rattle.std.specs.Option.{option_copied};
 ghost use Rattle.sdp_format.specs.Bytes.{lines};
-ghost use Rattle.sdp_format.specs.Views.{pairs, description};
+ghost use Rattle.sdp_format.specs.Views.{items_in, description};
 ghost use Rattle.sdp_format.specs.declared.fault.SdpFault.TheVariants.{NoMemory};
 ghost use Rattle.sdp_format.specs.Sections.{video_sections};
 ghost use Rattle.sdp_format.specs.Reading.{Gives, seen, leg_of, said_in, listed_at, WantsMemory, same_leg, same_sampling, same_depth, same_range, same_format, section_at, description_at, description_of};
@@ -12,10 +12,10 @@ ghost use Rattle.sdp_format.specs.Naming.{items, range_or};
 ghost use Rattle.sdp_format.specs.ReadLeg.{leg_seen, listed_seen, section_of};
 
 use crate::fault::SdpFault;
-use crate::items::{colorimetry, has_bad, range_named};
+use crate::items::{Parameter, colorimetry, has_bad, range_named};
 use crate::leg::format_of;
 use crate::lines::{first_attribute, is_raw90000, is_word, media_of, next_video};
-use crate::parameters::{Parameters, is_missing, parameters_of, text_of, value_of};
+use crate::parameters::{is_missing, parameters_of, text_of, value_of};
 use crate::sdp::{Leg, Listed, Range, Sdp};
 use arrayvec::ArrayVec;
 use st_format::{Depth, Format, Sampling};
@@ -32,19 +32,16 @@ fn range_or(text: Option<&[u8]>) -> Option<Range>
 
 /// What items of different names say.
 #[tactic(auto, unfolding(crate::specs::Reading::said_in))]
-fn said_in<'a, A: Allocator + Copy>(
-    payload_type: u8,
-    map: &Parameters<'a, A>,
-) -> Result<Leg, SdpFault>
+fn said_in(payload_type: u8, list: &[Parameter<'_>]) -> Result<Leg, SdpFault>
     requires { payload_type ≤ 127 }
-    ensures { seen leg_seen result ≡ said_in payload_type (pairs map.now.entries) }
+    ensures { seen leg_seen result ≡ said_in payload_type (items_in list.now) }
 {
-    if is_missing(map) {
+    if is_missing(list) {
         return Err(SdpFault::MissingParameter);
     }
-    let format = format_of(map)?;
-    let range = range_or(value_of(map, b"RANGE")).ok_or(SdpFault::BadParameter)?;
-    let colorimetry = colorimetry(text_of(map, b"colorimetry")).ok_or(SdpFault::BadParameter)?;
+    let format = format_of(list)?;
+    let range = range_or(value_of(list, b"RANGE")).ok_or(SdpFault::BadParameter)?;
+    let colorimetry = colorimetry(text_of(list, b"colorimetry")).ok_or(SdpFault::BadParameter)?;
     Ok(Leg {
         payload_type,
         format,
@@ -59,8 +56,8 @@ fn leg_of<A: Allocator + Copy>(alloc: A, payload_type: u8, text: &[u8]) -> Resul
     requires { payload_type ≤ 127 }
     ensures { Gives leg_seen result (leg_of payload_type (items text.now)) }
 {
-    let map = parameters_of(alloc, text)?;
-    said_in(payload_type, &map)
+    let list = parameters_of(alloc, text)?;
+    said_in(payload_type, &list)
 }
 
 /// The port and the payload type of a section, and the text of its items, none of them bad.
