@@ -8,14 +8,14 @@ use Rattle.sdp_format.specs.declared.fault.SdpFault.TheVariants.{NoMemory}
 use Rattle.sdp_format.specs.declared.sdp.Sdp.{Sdp}
 use Rattle.sdp_format.specs.Bytes.{lines}
 use Rattle.sdp_format.specs.Sections.{Section, Leg, video_sections}
-use Rattle.sdp_format.specs.Reading.{listed_at, section_at, media_of, first_attribute, is_raw90000, description_of, description_at}
+use Rattle.sdp_format.specs.Reading.{listing_walk, section_walk, media_of, first_attribute, is_raw90000, sections_walk, text_walk}
 use Rattle.sdp_format.specs.Grammar.{IsFirst}
 use Rattle.sdp_format.specs.Canonical.{canonical}
 use Rattle.sdp_format.specs.Views.{description}
 use Rattle.sdp_format.specs.Back.{IsLeg, HasLine, ReadsBack}
 use Rattle.sdp_format.proofs.LineForms.{says_media, attribute_says, says_first}
 use Rattle.sdp_format.proofs.Law.{line_again, tail_of}
-use Rattle.sdp_format.proofs.TextFaults.{one_read, two_read}
+use Rattle.sdp_format.proofs.TextFaults.{one_read, two_read, text_said}
 
 -- what each Sdp says is the leg of a section
 pub leg_of_sdp : (s : Sdp) → IsLeg (description s).leg
@@ -34,8 +34,8 @@ leg_of_sdp s =
       is_colorimetry = s.named;
     }
 
-pub section_back : (l : Leg) (s : Section) (port : ℕ) → IsLeg l → HasLine (canonical l) l.payload_type s port → section_at s ≡ Ok (port, l)
-unfolding section_at listed_at is_raw90000
+pub section_back : (l : Leg) (s : Section) (port : ℕ) → IsLeg l → HasLine (canonical l) l.payload_type s port → section_walk s ≡ Ok (port, l)
+unfolding section_walk listing_walk is_raw90000
 section_back l s port k h =
     let e = line_again l k in
     let first : IsFirst (codes "a=fmtp:") l.payload_type s.lines (tail_of l) =
@@ -46,7 +46,7 @@ section_back l s port k h =
     rw (media, rtpmap, h.raw, fmtp, e.2, e.1) refl
 
 sections_back : (l : Leg) → IsLeg l → (ss : List Section) (ports : List ℕ) → AllZip (HasLine (canonical l) l.payload_type) ss ports → 0 < length ports → length ports ≤ 2
-    → description_of ss ≡ Ok (record { ports = ports; leg = l })
+    → sections_walk ss ≡ Ok (record { ports = ports; leg = l })
 sections_back l k [] [] z some few = absurd (omega arith)
 sections_back l k [] (p ∷ ps) z some few = absurd z
 sections_back l k (s ∷ ss) [] z some few = absurd z
@@ -59,8 +59,10 @@ sections_back l k (s ∷ t ∷ u ∷ ss) (p ∷ q ∷ []) z some few = absurd z.
 sections_back l k (s ∷ t ∷ u ∷ ss) (p ∷ q ∷ r ∷ ps) z some few = absurd (omega arith)
 
 pub reads_back : (l : Leg) → IsLeg l → ReadsBack (canonical l) l
-unfolding description_at
-reads_back l k = λ text ports z some few. sections_back l k (video_sections (lines text)) ports z some few
+unfolding text_walk
+reads_back l k = λ text ports z some few.
+    (text_said text (record { ports = ports; leg = l })).0
+    (sections_back l k (video_sections (lines text)) ports z some few)
 
 pub line_back : {X : Type 0} (r : Result X SdpFault) (view : X → List ℕ) (l : Leg) → IsLeg l → MatchResult r (λ v. view v ≡ canonical l) (λ e. e ≡ NoMemory)
     → IfOk r (λ v. ReadsBack (view v) l)

@@ -1,5 +1,6 @@
 -- Members of lists, and what tests over lists say of them.
 use Rattle.std.proofs.Common.{◌≡◌, suc, zero, ◌<◌, Bool, true, false, ◌||◌, ◌&&◌, List, [], ◌∷◌, ◌++◌, length, refl, ap, ◌∙◌, sym, arith, ◌⊎◌, inl, inr}
+use Rattle.std.specs.Prelude.{◌↔◌}
 use Rattle.std.specs.Prelude.{Contains}
 use Rattle.std.specs.List.{list_any, list_all}
 
@@ -79,3 +80,7 @@ member_split (y ∷ xs) x m =
       | inl h ↦ ([], (xs, ap (λ z. z ∷ xs) h))
       | inr h ↦ let r = member_split xs x h in (y ∷ r.0, (r.1.0, ap (λ zs. y ∷ zs) r.1.1))
     ]
+
+-- an equivalence, read the other way
+pub turned : {A B : Type 0} → A ↔ B → B ↔ A
+turned e = (e.1, e.0)

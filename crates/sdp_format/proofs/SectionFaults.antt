@@ -10,7 +10,7 @@ use Rattle.sdp_format.specs.Faults.{sdp_fault_number}
 use Rattle.sdp_format.specs.Bytes.{trimmed}
 use Rattle.sdp_format.specs.Naming.{Item, items, is_bad, has_double}
 use Rattle.sdp_format.specs.Sections.{Section, Leg}
-use Rattle.sdp_format.specs.Reading.{media_of, first_attribute, is_raw90000, Listed, listed_at, leg_of, section_at}
+use Rattle.sdp_format.specs.Reading.{media_of, first_attribute, is_raw90000, Listed, listing_walk, leg_of, section_walk}
 use Rattle.sdp_format.specs.Grammar.{IsMediaLine, IsFirst, ItemFault, IsSaid, HasItems, LacksLine, HasOtherMap, HasItemFault, SectionFault, IsFirstFault, IsFaultless, SectionSays}
 use Rattle.sdp_format.proofs.Members.{not_both}
 use Rattle.sdp_format.proofs.Said.{not_none, double_says, false_from}
@@ -76,8 +76,8 @@ other_once s m map em e r c =
     let same : c.map ≡ map = attribute_once (codes "a=rtpmap:") c.payload_type m.1 s.lines c.map map (type_once s.media c.port c.payload_type m c.media em) c.rtpmap e in
     not_both (is_raw90000 map) r (ap is_raw90000 (sym same) ∙ raw_is c.map ∙ c.other)
 
-pub listed_told : (s : Section) → Told 9 (At s) (IsListed s) (listed_at s)
-unfolding listed_at
+pub listed_told : (s : Section) → Told 9 (At s) (IsListed s) (listing_walk s)
+unfolding listing_walk
 listed_told s =
     want 9 (At s) (IsListed s) BadMediaLine (media_of s.media) _ (below_media s)
     (λ e. λ p t i. not_none (p, t) (sym (says_media s.media p t i) ∙ e)) (λ m e c. c m.0 m.1 (media_says s.media m e))
@@ -159,10 +159,10 @@ raise s p t is R (Ok x) i low told = (told.0, join_below s p t is 18 i low told.
 raise s p t is R (Err f) i low told =
     (up s p t is i f told.0, join_below s p t is (sdp_fault_number f) i low told.1)
 
-pub section_told : (s : Section) → Told 18 (At s) (λ x. SectionSays s x.0 x.1) (section_at s)
-unfolding section_at
+pub section_told : (s : Section) → Told 18 (At s) (λ x. SectionSays s x.0 x.1) (section_walk s)
+unfolding section_walk
 section_told s =
-    follow 9 18 (At s) (IsListed s) (λ x. SectionSays s x.0 x.1) (listed_at s) _ (listed_told s) (λ x k b.
+    follow 9 18 (At s) (IsListed s) (λ x. SectionSays s x.0 x.1) (listing_walk s) _ (listed_told s) (λ x k b.
     follow 18 18 (At s) (λ l. IsSaid x.list l × (l.payload_type ≡ x.payload_type)) (λ z. SectionSays s z.0 z.1) (leg_of x.payload_type x.list) _
     (raise s x.port x.payload_type x.list (λ l. IsSaid x.list l × (l.payload_type ≡ x.payload_type)) (leg_of x.payload_type x.list) k.has b (leg_told x.payload_type x.list k.good)) (λ l q b.
     (record { list = x.list; has = subst (λ (t : ℕ). HasItems s x.port t x.list) (sym q.1) k.has; said = q.0 }, b)))
@@ -187,8 +187,8 @@ first_by s f (Err g) told c =
       ]
     ]
 
-pub section_fault : (s : Section) (f : SdpFault) → (section_at s ≡ Err f) ↔ IsFirstFault f s
-section_fault s f = (err_by s f (section_at s) (section_told s), first_by s f (section_at s) (section_told s))
+pub section_fault : (s : Section) (f : SdpFault) → (section_walk s ≡ Err f) ↔ IsFirstFault f s
+section_fault s f = (err_by s f (section_walk s) (section_told s), first_by s f (section_walk s) (section_told s))
 
 read_by : (s : Section) (x : ℕ × Leg) (r : Result (ℕ × Leg) SdpFault) → Told 18 (At s) (λ x. SectionSays s x.0 x.1) r → r ≡ Ok x → IsFaultless s × SectionSays s x.0 x.1
 read_by s x (Ok y) told e =
@@ -196,8 +196,8 @@ read_by s x (Ok y) told e =
     (none_at_all (At s) told.1, subst (λ (z : ℕ × Leg). SectionSays s z.0 z.1) same told.0)
 read_by s x (Err g) told e = absurd (let h : ⊥ = cc in h)
 
-pub section_read : (s : Section) (x : ℕ × Leg) → section_at s ≡ Ok x → IsFaultless s × SectionSays s x.0 x.1
-section_read s x e = read_by s x (section_at s) (section_told s) e
+pub section_read : (s : Section) (x : ℕ × Leg) → section_walk s ≡ Ok x → IsFaultless s × SectionSays s x.0 x.1
+section_read s x e = read_by s x (section_walk s) (section_told s) e
 
 one_by : (s : Section) (port : ℕ) (l : Leg) (r : Result (ℕ × Leg) SdpFault) → Told 18 (At s) (λ x. SectionSays s x.0 x.1) r → IsFaultless s → SectionSays s port l → r ≡ Ok (port, l)
 one_by s port l (Err g) told clean says = absurd (clean g told.0)
@@ -210,5 +210,5 @@ one_by s port l (Ok x) told clean says =
     let leg : x.1 ≡ l = said_once there.list x.1 l single media.1 there.said (subst (λ (js : List Item). IsSaid js l) list says.said) in
     ap (λ (p : ℕ). Ok (p, x.1)) media.0 ∙ ap (λ (m : Leg). Ok (port, m)) leg
 
-pub section_said : (s : Section) (port : ℕ) (l : Leg) → IsFaultless s → SectionSays s port l → section_at s ≡ Ok (port, l)
-section_said s port l clean says = one_by s port l (section_at s) (section_told s) clean says
+pub section_said : (s : Section) (port : ℕ) (l : Leg) → IsFaultless s → SectionSays s port l → section_walk s ≡ Ok (port, l)
+section_said s port l clean says = one_by s port l (section_walk s) (section_told s) clean says

@@ -14,7 +14,7 @@ use Rattle.sdp_format.specs.declared.fault.SdpFault.{SdpFault}
 use Rattle.sdp_format.specs.declared.fault.SdpFault.TheVariants.{NoMemory, NoVideo, TooManyLegs, LegsDiffer}
 use Rattle.sdp_format.specs.Bytes.{lines}
 use Rattle.sdp_format.specs.Sections.{Section, Leg, Description, video_sections}
-use Rattle.sdp_format.specs.Reading.{◌>>=◌, refused, Gives, section_at, same_sampling, same_depth, same_range, same_format, same_leg, description_of, description_at}
+use Rattle.sdp_format.specs.Reading.{◌>>=◌, refused, Gives, section_walk, same_sampling, same_depth, same_range, same_format, same_leg, sections_walk, text_walk}
 use Rattle.sdp_format.specs.Grammar.{IsFirstFault, IsFaultless, SectionSays, Differ, TwoDiffer, IsTextFault, OneSays, BothSay, IsDescribed}
 use Rattle.sdp_format.proofs.Members.{not_both}
 use Rattle.sdp_format.proofs.Doubles.{bytes_same, same_bytes}
@@ -134,20 +134,20 @@ one_of r = r >>= one
 abbrev two_of : Result Read SdpFault → Result Read SdpFault → Answer
 two_of r q = r >>= λ x. q >>= λ y. both x y
 
-as_one : (s : Section) → description_of (s ∷ []) ≡ one_of (section_at s)
-unfolding description_of
+as_one : (s : Section) → sections_walk (s ∷ []) ≡ one_of (section_walk s)
+unfolding sections_walk
 as_one s = refl
 
-as_two : (s t : Section) → description_of (s ∷ t ∷ []) ≡ two_of (section_at s) (section_at t)
-unfolding description_of
+as_two : (s t : Section) → sections_walk (s ∷ t ∷ []) ≡ two_of (section_walk s) (section_walk t)
+unfolding sections_walk
 as_two s t = refl
 
-as_none : description_of [] ≡ Err NoVideo
-unfolding description_of
+as_none : sections_walk [] ≡ Err NoVideo
+unfolding sections_walk
 as_none = refl
 
-as_many : (s t u : Section) (rest : List Section) → description_of (s ∷ t ∷ u ∷ rest) ≡ Err TooManyLegs
-unfolding description_of
+as_many : (s t u : Section) (rest : List Section) → sections_walk (s ∷ t ∷ u ∷ rest) ≡ Err TooManyLegs
+unfolding sections_walk
 as_many s t u rest = refl
 
 err_same : (a b : SdpFault) (r : Answer) → r ≡ Err a → r ≡ Err b → a ≡ b
@@ -211,15 +211,15 @@ two_ok (Ok x) (Ok y) d e =
 
 -- SECTIONS OF A TEXT
 
-one_fault : (s : Section) (f : SdpFault) → (description_of (s ∷ []) ≡ Err f) ↔ IsFirstFault f s
+one_fault : (s : Section) (f : SdpFault) → (sections_walk (s ∷ []) ≡ Err f) ↔ IsFirstFault f s
 one_fault s f = (
-  λ e. (section_fault s f).0 (one_err (section_at s) f (sym (as_one s) ∙ e)),
+  λ e. (section_fault s f).0 (one_err (section_walk s) f (sym (as_one s) ∙ e)),
   λ h. as_one s ∙ ap one_of ((section_fault s f).1 h),
 )
 
-two_fault_from : (s t : Section) (f : SdpFault) → description_of (s ∷ t ∷ []) ≡ Err f → IsTextFault f (s ∷ t ∷ [])
+two_fault_from : (s t : Section) (f : SdpFault) → sections_walk (s ∷ t ∷ []) ≡ Err f → IsTextFault f (s ∷ t ∷ [])
 two_fault_from s t f e =
-    elim (two_err (section_at s) (section_at t) f (sym (as_two s t) ∙ e)) [
+    elim (two_err (section_walk s) (section_walk t) f (sym (as_two s t) ∙ e)) [
       | inl h ↦ inl ((section_fault s f).0 h)
       | inr k ↦ elim k [
         | inl h ↦ inr (inl ((section_read s h.0 h.1).0, (section_fault t f).0 h.2))
@@ -243,30 +243,30 @@ two_fault_from s t f e =
       ]
     ]
 
-second_fault : (s t : Section) (f : SdpFault) → IsFaultless s → IsFirstFault f t → (r : Result Read SdpFault) → section_at s ≡ r → two_of r (section_at t) ≡ Err f
+second_fault : (s t : Section) (f : SdpFault) → IsFaultless s → IsFirstFault f t → (r : Result Read SdpFault) → section_walk s ≡ r → two_of r (section_walk t) ≡ Err f
 second_fault s t f clean h (Ok x) e = ap (λ q. q >>= λ y. both x y) ((section_fault t f).1 h)
 second_fault s t f clean h (Err g) e = absurd (clean g ((section_fault s g).0 e).0)
 
-two_fault_to : (s t : Section) (f : SdpFault) → IsTextFault f (s ∷ t ∷ []) → description_of (s ∷ t ∷ []) ≡ Err f
-two_fault_to s t f (inl h) = as_two s t ∙ ap (λ r. two_of r (section_at t)) ((section_fault s f).1 h)
-two_fault_to s t f (inr (inl h)) = as_two s t ∙ second_fault s t f h.0 h.1 (section_at s) refl
+two_fault_to : (s t : Section) (f : SdpFault) → IsTextFault f (s ∷ t ∷ []) → sections_walk (s ∷ t ∷ []) ≡ Err f
+two_fault_to s t f (inl h) = as_two s t ∙ ap (λ r. two_of r (section_walk t)) ((section_fault s f).1 h)
+two_fault_to s t f (inr (inl h)) = as_two s t ∙ second_fault s t f h.0 h.1 (section_walk s) refl
 two_fault_to s t f (inr (inr h)) =
     let d : Differ s t = h.2 in
-    let a : section_at s ≡ Ok (d.port, d.leg) = section_said s d.port d.leg h.0 d.says in
-    let b : section_at t ≡ Ok (d.second_port, d.second_leg) = section_said t d.second_port d.second_leg h.1 d.second_says in
+    let a : section_walk s ≡ Ok (d.port, d.leg) = section_said s d.port d.leg h.0 d.says in
+    let b : section_walk t ≡ Ok (d.second_port, d.second_leg) = section_said t d.second_port d.second_leg h.1 d.second_says in
     let u : same_leg d.leg d.second_leg ≡ false = false_from (same_leg d.leg d.second_leg) (λ same. d.unlike (leg_is d.leg d.second_leg same)) in
-    as_two s t ∙ ap (λ r. two_of r (section_at t)) a ∙ ap (λ q. q >>= λ y. both (d.port, d.leg) y) b
+    as_two s t ∙ ap (λ r. two_of r (section_walk t)) a ∙ ap (λ q. q >>= λ y. both (d.port, d.leg) y) b
     ∙ ap (λ (x : Bool). refused LegsDiffer (not x) >>= λ t. Ok (described (d.port ∷ d.second_port ∷ []) d.leg)) u ∙ ap (λ (z : SdpFault). Err z) (sym h.3)
 
-pub sections_fault : (ss : List Section) (f : SdpFault) → (description_of ss ≡ Err f) ↔ IsTextFault f ss
-sections_fault [] f = (λ e. err_same f NoVideo (description_of []) e as_none, λ h. as_none ∙ ap (λ (z : SdpFault). Err z) (sym h))
+pub sections_fault : (ss : List Section) (f : SdpFault) → (sections_walk ss ≡ Err f) ↔ IsTextFault f ss
+sections_fault [] f = (λ e. err_same f NoVideo (sections_walk []) e as_none, λ h. as_none ∙ ap (λ (z : SdpFault). Err z) (sym h))
 sections_fault (s ∷ []) f = one_fault s f
 sections_fault (s ∷ t ∷ []) f = (two_fault_from s t f, two_fault_to s t f)
-sections_fault (s ∷ t ∷ u ∷ rest) f = (λ e. err_same f TooManyLegs (description_of (s ∷ t ∷ u ∷ rest)) e (as_many s t u rest), λ h. as_many s t u rest ∙ ap (λ (z : SdpFault). Err z) (sym h))
+sections_fault (s ∷ t ∷ u ∷ rest) f = (λ e. err_same f TooManyLegs (sections_walk (s ∷ t ∷ u ∷ rest)) e (as_many s t u rest), λ h. as_many s t u rest ∙ ap (λ (z : SdpFault). Err z) (sym h))
 
-one_said_from : (s : Section) (d : Description) → description_of (s ∷ []) ≡ Ok d → OneSays s d
+one_said_from : (s : Section) (d : Description) → sections_walk (s ∷ []) ≡ Ok d → OneSays s d
 one_said_from s d e =
-    let x = one_ok (section_at s) d (sym (as_one s) ∙ e) in
+    let x = one_ok (section_walk s) d (sym (as_one s) ∙ e) in
     let r = section_read s x.0 x.1 in
     record {
       faultless = r.0;
@@ -275,13 +275,13 @@ one_said_from s d e =
       ports = sym (ap (λ (z : Description). z.ports) x.2);
     }
 
-one_said_to : (s : Section) (d : Description) → OneSays s d → description_of (s ∷ []) ≡ Ok d
+one_said_to : (s : Section) (d : Description) → OneSays s d → sections_walk (s ∷ []) ≡ Ok d
 one_said_to s d h =
     as_one s ∙ ap one_of (section_said s h.port d.leg h.faultless h.says) ∙ ap (λ (ps : List ℕ). Ok (described ps d.leg)) (sym h.ports)
 
-both_said_from : (s t : Section) (d : Description) → description_of (s ∷ t ∷ []) ≡ Ok d → BothSay s t d
+both_said_from : (s t : Section) (d : Description) → sections_walk (s ∷ t ∷ []) ≡ Ok d → BothSay s t d
 both_said_from s t d e =
-    let x = two_ok (section_at s) (section_at t) d (sym (as_two s t) ∙ e) in
+    let x = two_ok (section_walk s) (section_walk t) d (sym (as_two s t) ∙ e) in
     let a = section_read s x.first x.read in
     let b = section_read t x.second x.second_read in
     let first : x.first.1 ≡ d.leg = ap (λ (z : Description). z.leg) x.said in
@@ -296,37 +296,37 @@ both_said_from s t d e =
       ports = sym (ap (λ (z : Description). z.ports) x.said);
     }
 
-pub two_read : (s t : Section) (p q : ℕ) (l : Leg) → section_at s ≡ Ok (p, l) → section_at t ≡ Ok (q, l) → description_of (s ∷ t ∷ []) ≡ Ok (described (p ∷ q ∷ []) l)
+pub two_read : (s t : Section) (p q : ℕ) (l : Leg) → section_walk s ≡ Ok (p, l) → section_walk t ≡ Ok (q, l) → sections_walk (s ∷ t ∷ []) ≡ Ok (described (p ∷ q ∷ []) l)
 two_read s t p q l a b =
-    as_two s t ∙ ap (λ r. two_of r (section_at t)) a ∙ ap (λ r. r >>= λ y. both (p, l) y) b
+    as_two s t ∙ ap (λ r. two_of r (section_walk t)) a ∙ ap (λ r. r >>= λ y. both (p, l) y) b
     ∙ ap (λ (x : Bool). refused LegsDiffer (not x) >>= λ t. Ok (described (p ∷ q ∷ []) l)) (leg_self l)
 
-pub one_read : (s : Section) (p : ℕ) (l : Leg) → section_at s ≡ Ok (p, l) → description_of (s ∷ []) ≡ Ok (described (p ∷ []) l)
+pub one_read : (s : Section) (p : ℕ) (l : Leg) → section_walk s ≡ Ok (p, l) → sections_walk (s ∷ []) ≡ Ok (described (p ∷ []) l)
 one_read s p l a = as_one s ∙ ap one_of a
 
-both_said_to : (s t : Section) (d : Description) → BothSay s t d → description_of (s ∷ t ∷ []) ≡ Ok d
+both_said_to : (s t : Section) (d : Description) → BothSay s t d → sections_walk (s ∷ t ∷ []) ≡ Ok d
 both_said_to s t d h =
     two_read s t h.port h.second_port d.leg (section_said s h.port d.leg h.faultless h.says) (section_said t h.second_port d.leg h.second_faultless h.second_says)
     ∙ ap (λ (ps : List ℕ). Ok (described ps d.leg)) (sym h.ports)
 
-pub sections_said : (ss : List Section) (d : Description) → (description_of ss ≡ Ok d) ↔ IsDescribed d ss
-sections_said [] d = (λ e. no_answer d NoVideo (description_of []) e as_none, λ h. absurd h)
+pub sections_said : (ss : List Section) (d : Description) → (sections_walk ss ≡ Ok d) ↔ IsDescribed d ss
+sections_said [] d = (λ e. no_answer d NoVideo (sections_walk []) e as_none, λ h. absurd h)
 sections_said (s ∷ []) d = (one_said_from s d, one_said_to s d)
 sections_said (s ∷ t ∷ []) d = (both_said_from s t d, both_said_to s t d)
-sections_said (s ∷ t ∷ u ∷ rest) d = (λ e. no_answer d TooManyLegs (description_of (s ∷ t ∷ u ∷ rest)) e (as_many s t u rest), λ h. absurd h)
+sections_said (s ∷ t ∷ u ∷ rest) d = (λ e. no_answer d TooManyLegs (sections_walk (s ∷ t ∷ u ∷ rest)) e (as_many s t u rest), λ h. absurd h)
 
 -- TEXTS
 
-pub text_fault : (text : List ℕ) (f : SdpFault) → (description_at text ≡ Err f) ↔ IsTextFault f (video_sections (lines text))
-unfolding description_at
+pub text_fault : (text : List ℕ) (f : SdpFault) → (text_walk text ≡ Err f) ↔ IsTextFault f (video_sections (lines text))
+unfolding text_walk
 text_fault text f = sections_fault (video_sections (lines text)) f
 
-pub text_said : (text : List ℕ) (d : Description) → (description_at text ≡ Ok d) ↔ IsDescribed d (video_sections (lines text))
-unfolding description_at
+pub text_said : (text : List ℕ) (d : Description) → (text_walk text ≡ Ok d) ↔ IsDescribed d (video_sections (lines text))
+unfolding text_walk
 text_said text d = sections_said (video_sections (lines text)) d
 
 -- no text without a video section has another fault, and no text of more than two
-pub no_video : (text : List ℕ) → (description_at text ≡ Err NoVideo) ↔ (video_sections (lines text) ≡ [])
+pub no_video : (text : List ℕ) → (text_walk text ≡ Err NoVideo) ↔ (video_sections (lines text) ≡ [])
 no_video text = (λ e. none_from (video_sections (lines text)) ((text_fault text NoVideo).0 e), λ e. (text_fault text NoVideo).1 (subst (λ (ss : List Section). IsTextFault NoVideo ss) (sym e) refl))
   where
     none_from : (ss : List Section) → IsTextFault NoVideo ss → ss ≡ []
@@ -337,7 +337,7 @@ no_video text = (λ e. none_from (video_sections (lines text)) ((text_fault text
     none_from (s ∷ t ∷ []) (inr (inr h)) = absurd (let k : NoVideo ≡ LegsDiffer = h.3 in let z : ⊥ = cc in z)
     none_from (s ∷ t ∷ u ∷ rest) h = absurd (let k : NoVideo ≡ TooManyLegs = h in let z : ⊥ = cc in z)
 
-pub too_many_legs : (text : List ℕ) → (description_at text ≡ Err TooManyLegs) ↔ (2 < length (video_sections (lines text)))
+pub too_many_legs : (text : List ℕ) → (text_walk text ≡ Err TooManyLegs) ↔ (2 < length (video_sections (lines text)))
 too_many_legs text = (λ e. many_from (video_sections (lines text)) ((text_fault text TooManyLegs).0 e), λ h. (text_fault text TooManyLegs).1 (many_to (video_sections (lines text)) h))
   where
     many_from : (ss : List Section) → IsTextFault TooManyLegs ss → 2 < length ss
@@ -354,7 +354,7 @@ too_many_legs text = (λ e. many_from (video_sections (lines text)) ((text_fault
     many_to (s ∷ t ∷ []) h = absurd (omega arith)
     many_to (s ∷ t ∷ u ∷ rest) h = refl
 
-pub legs_differ : (text : List ℕ) → (description_at text ≡ Err LegsDiffer) ↔ TwoDiffer (video_sections (lines text))
+pub legs_differ : (text : List ℕ) → (text_walk text ≡ Err LegsDiffer) ↔ TwoDiffer (video_sections (lines text))
 legs_differ text = (λ e. differ_from (video_sections (lines text)) ((text_fault text LegsDiffer).0 e), λ h. (text_fault text LegsDiffer).1 (differ_to (video_sections (lines text)) h))
   where
     differ_from : (ss : List Section) → IsTextFault LegsDiffer ss → TwoDiffer ss
@@ -373,12 +373,12 @@ legs_differ text = (λ e. differ_from (video_sections (lines text)) ((text_fault
 
 -- WHAT A READER RETURNS
 
-pub said_from : {X : Type 0} (r : Result X SdpFault) (view : X → Description) (text : List ℕ) → Gives view r (description_at text)
+pub said_from : {X : Type 0} (r : Result X SdpFault) (view : X → Description) (text : List ℕ) → Gives view r (text_walk text)
     → IfOk r (λ x. IsDescribed (view x) (video_sections (lines text)))
 said_from (Ok x) view text h = (text_said text (view x)).0 h
 said_from (Err e) view text h = tt
 
-pub fault_from : {X : Type 0} (r : Result X SdpFault) (view : X → Description) (text : List ℕ) → Gives view r (description_at text)
+pub fault_from : {X : Type 0} (r : Result X SdpFault) (view : X → Description) (text : List ℕ) → Gives view r (text_walk text)
     → IfErr r (λ f. (f ≡ NoMemory) ⊎ IsTextFault f (video_sections (lines text)))
 fault_from (Ok x) view text h = tt
 fault_from (Err e) view text (inl h) = inl h

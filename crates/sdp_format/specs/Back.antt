@@ -7,17 +7,18 @@ use Rattle.st_format.specs.Fields.{format_at}
 use Rattle.sdp_format.specs.Bytes.{trimmed, lines}
 use Rattle.sdp_format.specs.Naming.{colorimetry}
 use Rattle.sdp_format.specs.Sections.{Section, Leg, video_sections}
-use Rattle.sdp_format.specs.Reading.{description_at}
-use Rattle.sdp_format.specs.Grammar.{IsMediaLine, HasNone, IsFirst}
+use Rattle.sdp_format.specs.Grammar.{IsMediaLine, HasNone, IsFirst, IsDescribed}
 
--- What a section can say: numbers of 32 bits, a payload type, a format that its own fields give, a colorimetry
+-- What a section can say: numbers of 32 bits, a payload type, a format that its own fields give, a
+-- colorimetry
 pub record IsLeg (l : Leg) : Type 0 where
   pub small_type : l.payload_type ≤ 127
   pub width : l.format.width < 2 ^ 32
   pub height : l.format.height < 2 ^ 32
   pub n : l.format.n < 2 ^ 32
   pub d : l.format.d < 2 ^ 32
-  pub is_format : format_at l.format.sampling l.format.depth l.format.width l.format.height l.format.n l.format.d ≡ Ok l.format
+  pub is_format : format_at l.format.sampling l.format.depth l.format.width l.format.height
+      l.format.n l.format.d ≡ Ok l.format
   pub is_colorimetry : colorimetry l.colorimetry ≡ Some l.colorimetry
 
 -- A section of this port and payload type, with raw/90000 and with this line as its first fmtp line
@@ -34,5 +35,7 @@ pub record HasLine (line : List ℕ) (payload_type : ℕ) (s : Section) (port : 
 -- each text of one or two video sections that have this line says the leg, whatever its ports are
 abbrev pub ReadsBack : List ℕ → Leg → Type 0
 ReadsBack line l =
-    (text ports : List ℕ) → AllZip (HasLine line l.payload_type) (video_sections (lines text)) ports → 0 < length ports → length ports ≤ 2
-    → description_at text ≡ Ok (record { ports = ports; leg = l })
+    (text ports : List ℕ)
+    → AllZip (HasLine line l.payload_type) (video_sections (lines text)) ports
+    → 0 < length ports → length ports ≤ 2
+    → IsDescribed (record { ports = ports; leg = l }) (video_sections (lines text))

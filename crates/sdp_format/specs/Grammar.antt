@@ -1,7 +1,9 @@
--- The grammar of SDP texts (SdpGrammar): for each fault a condition of its own, on the whole list of lines, of video
--- sections or of items, and what a text without a fault says. RFC 8866, 5 and 6; SMPTE ST 2110-20, 7. The order of
--- the faults, which line counts and the accepted spellings are own.
-use Rattle.std.specs.Prelude.{◌≡◌, ◌≢◌, ◌⊎◌, ◌<◌, ◌≤◌, ◌++◌, ℕ, true, false, List, [], ◌∷◌, All, Contains, Some, None, Ok, IsErr}
+-- The grammar of SDP texts (SdpGrammar): for each fault a condition of its own, on the whole list
+-- of lines, of video sections or of items, and what a text without a fault says. RFC 8866, 5 and 6;
+-- SMPTE ST 2110-20, 7. The order of the faults, which line counts and the accepted spellings are
+-- own.
+use Rattle.std.specs.Prelude.{◌≡◌, ◌≢◌, ◌⊎◌, ◌<◌, ◌≤◌, ◌++◌, ℕ, true, false, List, [], ◌∷◌, All}
+use Rattle.std.specs.Prelude.{Contains, Some, None, Ok, IsErr}
 use Rattle.std.specs.List.{list_all}
 use Rattle.std.specs.Str.{str_eq_ignore_ascii_case}
 use Rattle.std.proofs.Common.{codes}
@@ -11,7 +13,14 @@ use Rattle.st_format.specs.Fields.{Fields, format_at}
 use Rattle.sdp_format.specs.declared.sdp.Range.{Range}
 use Rattle.sdp_format.specs.declared.sdp.Range.TheVariants.{Narrow, FullProtect, Full}
 use Rattle.sdp_format.specs.declared.fault.SdpFault.{SdpFault}
-use Rattle.sdp_format.specs.declared.fault.SdpFault.TheVariants.{NoVideo, TooManyLegs, BadMediaLine, NoRtpmap, NotRaw90000, NoFmtp, BadParameter, DoubleParameter, MissingParameter, UnsupportedSampling, UnsupportedDepth, Interlaced, UnsupportedPacking, BadSsn, BadFormat, LegsDiffer}
+use Rattle.sdp_format.specs.declared.fault.SdpFault.TheVariants.{NoVideo, TooManyLegs, BadMediaLine}
+use Rattle.sdp_format.specs.declared.fault.SdpFault.TheVariants.{NoRtpmap, NotRaw90000, NoFmtp}
+use Rattle.sdp_format.specs.declared.fault.SdpFault.TheVariants.{BadParameter, DoubleParameter}
+use Rattle.sdp_format.specs.declared.fault.SdpFault.TheVariants.{MissingParameter}
+use Rattle.sdp_format.specs.declared.fault.SdpFault.TheVariants.{UnsupportedSampling}
+use Rattle.sdp_format.specs.declared.fault.SdpFault.TheVariants.{UnsupportedDepth, Interlaced}
+use Rattle.sdp_format.specs.declared.fault.SdpFault.TheVariants.{UnsupportedPacking, BadSsn}
+use Rattle.sdp_format.specs.declared.fault.SdpFault.TheVariants.{BadFormat, LegsDiffer}
 use Rattle.sdp_format.specs.Faults.{sdp_fault_number}
 use Rattle.sdp_format.specs.Bytes.{is_space, trimmed, number}
 use Rattle.sdp_format.specs.Naming.{Item, items, rate, colorimetry, range_named, required}
@@ -20,8 +29,8 @@ use Rattle.sdp_format.specs.Canonical.{sampling_text, depth_text}
 
 -- LINES
 
--- The first line of a video section: one port and one payload type, single spaces between the words, spaces and tabs
--- at the end (RFC 8866, 5.14)
+-- The first line of a video section: one port and one payload type, single spaces between the
+-- words, spaces and tabs at the end (RFC 8866, 5.14)
 pub record IsMediaLine (line : List ℕ) (port payload_type : ℕ) : Type 0 where
   pub port_text : List ℕ
   pub type_text : List ℕ
@@ -33,17 +42,20 @@ pub record IsMediaLine (line : List ℕ) (port payload_type : ℕ) : Type 0 wher
   pub most_type : payload_type ≤ 127
   pub blank : list_all is_space spaces ≡ true
 
--- An attribute of a payload type: the word, a number equal to the type, a space, and the rest (RFC 8866, 6.6, 6.15)
+-- An attribute of a payload type: the word, a number equal to the type, a space, and the rest (RFC
+-- 8866, 6.6, 6.15)
 pub record IsAttribute (word : List ℕ) (payload_type : ℕ) (line rest : List ℕ) : Type 0 where
   pub digits : List ℕ
   pub whole : line ≡ word ++ digits ++ 32 ∷ rest
   pub is_type : number digits ≡ Some payload_type
 
 abbrev pub HasNone : List ℕ → ℕ → List (List ℕ) → Type 0
-HasNone word payload_type lines = All (λ line. (rest : List ℕ) → IsAttribute word payload_type line rest → ⊥) lines
+HasNone word payload_type lines =
+    All (λ line. (rest : List ℕ) → IsAttribute word payload_type line rest → ⊥) lines
 
 -- The first such line counts
-pub record IsFirst (word : List ℕ) (payload_type : ℕ) (lines : List (List ℕ)) (rest : List ℕ) : Type 0 where
+pub record IsFirst (word : List ℕ) (payload_type : ℕ) (lines : List (List ℕ)) (rest : List ℕ)
+    : Type 0 where
   pub before : List (List ℕ)
   pub line : List ℕ
   pub after : List (List ℕ)
@@ -88,19 +100,27 @@ pub record IsGiven (is : List Item) (given : Fields) : Type 0 where
   pub depth : Says is (codes "depth") (depth_text given.depth)
   pub width : (text : List ℕ) × Says is (codes "width") text × (number text ≡ Some given.width)
   pub height : (text : List ℕ) × Says is (codes "height") text × (number text ≡ Some given.height)
-  pub rate_given : (text : List ℕ) × Says is (codes "exactframerate") text × (rate text ≡ Some (given.n, given.d))
+  pub rate_given : (text : List ℕ) × Says is (codes "exactframerate") text
+      × (rate text ≡ Some (given.n, given.d))
 
 -- The condition of each fault of items, by itself
 abbrev pub ItemFault : SdpFault → List Item → Type 0
 ItemFault BadParameter is = (i : Item) × Contains is i × IsBadItem i
 ItemFault DoubleParameter is = HasDouble is
 ItemFault MissingParameter is = (name : List ℕ) × Contains required name × Lacks is name
-ItemFault UnsupportedSampling is = (text : List ℕ) × Says is (codes "sampling") text × ((s : Sampling) → text ≢ sampling_text s)
-ItemFault UnsupportedDepth is = (text : List ℕ) × Says is (codes "depth") text × ((b : Depth) → text ≢ depth_text b)
+ItemFault UnsupportedSampling is =
+    (text : List ℕ) × Says is (codes "sampling") text × ((s : Sampling) → text ≢ sampling_text s)
+ItemFault UnsupportedDepth is =
+    (text : List ℕ) × Says is (codes "depth") text × ((b : Depth) → text ≢ depth_text b)
 ItemFault Interlaced is = Has is (codes "interlace") ⊎ Has is (codes "segmented")
-ItemFault UnsupportedPacking is = (text : List ℕ) × Says is (codes "PM") text × (text ≢ codes "2110GPM")
-ItemFault BadSsn is = (text : List ℕ) × Says is (codes "SSN") text × ((rest : List ℕ) → text ≢ codes "ST2110-20:" ++ rest)
-ItemFault BadFormat is = (given : Fields) × IsGiven is given × IsErr (format_at given.sampling given.depth given.width given.height given.n given.d)
+ItemFault UnsupportedPacking is =
+    (text : List ℕ) × Says is (codes "PM") text × (text ≢ codes "2110GPM")
+ItemFault BadSsn is =
+    (text : List ℕ) × Says is (codes "SSN") text
+    × ((rest : List ℕ) → text ≢ codes "ST2110-20:" ++ rest)
+ItemFault BadFormat is =
+    (given : Fields) × IsGiven is given
+    × IsErr (format_at given.sampling given.depth given.width given.height given.n given.d)
 ItemFault fault is = ⊥
 
 -- what the items say of the range: narrow where they say nothing
@@ -113,7 +133,8 @@ SaysRange is Full = Says is (codes "RANGE") (codes "FULL")
 pub record IsSaid (is : List Item) (l : Leg) : Type 0 where
   pub given : Fields
   pub is_given : IsGiven is given
-  pub format : format_at given.sampling given.depth given.width given.height given.n given.d ≡ Ok l.format
+  pub format : format_at given.sampling given.depth given.width given.height given.n given.d
+      ≡ Ok l.format
   pub range : SaysRange is l.range
   pub colorimetry : Says is (codes "colorimetry") l.colorimetry
 
@@ -126,7 +147,8 @@ pub record HasItems (s : Section) (port payload_type : ℕ) (is : List Item) : T
   pub fmtp : IsFirst (codes "a=fmtp:") payload_type s.lines text
   pub list : is ≡ items text
 
--- no line with the word for the payload type; another first rtpmap line than raw/90000; items with a fault
+-- no line with the word for the payload type; another first rtpmap line than raw/90000; items with
+-- a fault
 pub record LacksLine (word : List ℕ) (s : Section) : Type 0 where
   pub port : ℕ
   pub payload_type : ℕ
@@ -156,7 +178,8 @@ SectionFault NotRaw90000 s = HasOtherMap s
 SectionFault NoFmtp s = LacksLine (codes "a=fmtp:") s
 SectionFault fault s = HasItemFault fault s
 
--- no condition of a fault before this one holds; the first fault of a section in the order of numbers; no fault at all
+-- no condition of a fault before this one holds; the first fault of a section in the order of
+-- numbers; no fault at all
 abbrev pub NoneBefore : SdpFault → Section → Type 0
 NoneBefore fault s =
     (other : SdpFault) → sdp_fault_number other < sdp_fault_number fault → SectionFault other s → ⊥
@@ -191,7 +214,8 @@ TwoDiffer (s ∷ []) = ⊥
 TwoDiffer (s ∷ t ∷ []) = IsFaultless s × IsFaultless t × Differ s t
 TwoDiffer (s ∷ t ∷ u ∷ rest) = ⊥
 
--- The fault of the video sections of a text: that of the first section, then that of the second, then that they differ
+-- The fault of the video sections of a text: that of the first section, then that of the second,
+-- then that they differ
 abbrev pub IsTextFault : SdpFault → List Section → Type 0
 IsTextFault fault [] = fault ≡ NoVideo
 IsTextFault fault (s ∷ []) = IsFirstFault fault s

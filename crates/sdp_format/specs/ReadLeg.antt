@@ -9,7 +9,12 @@ use Rattle.sdp_format.specs.declared.sdp.Leg.{Leg as Read}
 use Rattle.sdp_format.specs.declared.sdp.Listed.{Listed as ReadList}
 
 abbrev pub leg_seen : Read → Leg
-leg_seen l = record { payload_type = l.payload_type; format = fields_of l.format; range = l.range; colorimetry = l.colorimetry.items }
+leg_seen l = record {
+  payload_type = l.payload_type;
+  format = fields_of l.format;
+  range = l.range;
+  colorimetry = l.colorimetry.items;
+}
 
 abbrev pub listed_seen : ReadList → Listed
 listed_seen l = record { port = l.port; payload_type = l.payload_type; list = items l.text.now }

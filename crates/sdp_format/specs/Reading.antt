@@ -1,5 +1,9 @@
--- How a text is read: each fault in its order, or what the text says. Grammar.antt has what the faults and the values mean.
-use Rattle.std.specs.Prelude.{◌≡◌, ◌⊎◌, ℕ, Bool, true, false, not, ◌&&◌, ◌||◌, ◌==◌, if◌then◌else◌, is_some, List, [], ◌∷◌, map, Option, Some, None, Result, Ok, Err, IsOk}
+-- Walks over a text, as the code walks, which tell the first fault or what the text says. What a
+-- fault and a value mean says Grammar.antt, by relations over whole lists of lines, sections and
+-- items; laws join the two both ways, so nobody has to believe a walk.
+use Rattle.std.specs.Prelude.{◌≡◌, ◌⊎◌, ℕ, Bool, true, false, not, ◌&&◌, ◌||◌, ◌==◌, if◌then◌else◌}
+use Rattle.std.specs.Prelude.{is_some, List, [], ◌∷◌, map, Option, Some, None, Result, Ok, Err}
+use Rattle.std.specs.Prelude.{IsOk}
 use Rattle.std.specs.List.{list_all, list_any}
 use Rattle.std.specs.Str.{bytes_eq, str_eq_ignore_ascii_case}
 use Rattle.std.proofs.Common.{codes}
@@ -11,10 +15,19 @@ use Rattle.st_format.specs.Fields.{Fields, format_at}
 use Rattle.sdp_format.specs.declared.sdp.Range.{Range}
 use Rattle.sdp_format.specs.declared.sdp.Range.TheVariants.{Narrow, FullProtect, Full}
 use Rattle.sdp_format.specs.declared.fault.SdpFault.{SdpFault}
-use Rattle.sdp_format.specs.declared.fault.SdpFault.TheVariants.{NoMemory, NoVideo, TooManyLegs, BadMediaLine, NoRtpmap, NotRaw90000, NoFmtp, BadParameter, DoubleParameter, MissingParameter, UnsupportedSampling, UnsupportedDepth, Interlaced, UnsupportedPacking, BadSsn, BadFormat, LegsDiffer}
-use Rattle.sdp_format.specs.Bytes.{trimmed, trim_end, number, at_most, split, lines, begins, attribute}
+use Rattle.sdp_format.specs.declared.fault.SdpFault.TheVariants.{NoMemory, NoVideo, TooManyLegs}
+use Rattle.sdp_format.specs.declared.fault.SdpFault.TheVariants.{BadMediaLine, NoRtpmap}
+use Rattle.sdp_format.specs.declared.fault.SdpFault.TheVariants.{NotRaw90000, NoFmtp, BadParameter}
+use Rattle.sdp_format.specs.declared.fault.SdpFault.TheVariants.{DoubleParameter, MissingParameter}
+use Rattle.sdp_format.specs.declared.fault.SdpFault.TheVariants.{UnsupportedSampling}
+use Rattle.sdp_format.specs.declared.fault.SdpFault.TheVariants.{UnsupportedDepth, Interlaced}
+use Rattle.sdp_format.specs.declared.fault.SdpFault.TheVariants.{UnsupportedPacking, BadSsn}
+use Rattle.sdp_format.specs.declared.fault.SdpFault.TheVariants.{BadFormat, LegsDiffer}
+use Rattle.sdp_format.specs.Bytes.{trimmed, trim_end, number, at_most, split, lines, begins}
+use Rattle.sdp_format.specs.Bytes.{attribute}
 use Rattle.sdp_format.specs.Sections.{Section, Leg, Description, video_sections}
-use Rattle.sdp_format.specs.Naming.{Item, items, is_bad, has_double, has, value_of, required, rate, range_or, colorimetry, text_of}
+use Rattle.sdp_format.specs.Naming.{Item, items, is_bad, has_double, has, value_of, required, rate}
+use Rattle.sdp_format.specs.Naming.{range_or, colorimetry, text_of}
 
 infixl 10 ◌>>=◌
 abbrev pub ◌>>=◌ : {A B : Type 0} → Result A SdpFault → (A → Result B SdpFault) → Result B SdpFault
@@ -41,7 +54,8 @@ media_of_parts (a ∷ []) = None
 media_of_parts (a ∷ b ∷ []) = None
 media_of_parts (a ∷ b ∷ c ∷ []) = None
 media_of_parts (a ∷ port ∷ profile ∷ type ∷ []) =
-    if bytes_eq a (codes "m=video") && bytes_eq profile (codes "RTP/AVP") then both (at_most 65535 (number port)) (at_most 127 (number type)) else None
+    if bytes_eq a (codes "m=video") && bytes_eq profile (codes "RTP/AVP")
+    then both (at_most 65535 (number port)) (at_most 127 (number type)) else None
 media_of_parts (a ∷ b ∷ c ∷ d ∷ e ∷ es) = None
 
 unfoldable pub media_of : List ℕ → Option (ℕ × ℕ)
@@ -50,7 +64,8 @@ media_of line = media_of_parts (split 32 (trim_end line))
 -- what follows in the first line that has the word and the number
 abbrev pub first_attribute : List ℕ → ℕ → List (List ℕ) → Option (List ℕ)
 first_attribute word n [] = None
-first_attribute word n (l ∷ ls) = if is_some (attribute word n l) then attribute word n l else first_attribute word n ls
+first_attribute word n (l ∷ ls) =
+    if is_some (attribute word n l) then attribute word n l else first_attribute word n ls
 
 unfoldable pub is_raw90000 : List ℕ → Bool
 is_raw90000 text = str_eq_ignore_ascii_case (trimmed text) (codes "raw/90000")
@@ -107,7 +122,12 @@ said_in payload_type is = do
   format ← format_of is
   range ← wanted BadParameter (range_or (value_of (codes "RANGE") is))
   colorimetry ← wanted BadParameter (colorimetry (text_of (codes "colorimetry") is))
-  Ok (record { payload_type = payload_type; format = format; range = range; colorimetry = colorimetry })
+  Ok (record {
+    payload_type = payload_type;
+    format = format;
+    range = range;
+    colorimetry = colorimetry;
+  })
 
 -- the same, of items that may have one name twice
 unfoldable pub leg_of : ℕ → List Item → Result Leg SdpFault
@@ -121,8 +141,9 @@ pub record Listed : Type 0 where
   pub payload_type : ℕ
   pub list : List Item
 
-unfoldable pub listed_at : Section → Result Listed SdpFault
-listed_at s = do
+-- The part of the walk over a section that wants no memory: up to its items, none of them bad
+unfoldable pub listing_walk : Section → Result Listed SdpFault
+listing_walk s = do
   media ← wanted BadMediaLine (media_of s.media)
   map ← wanted NoRtpmap (first_attribute (codes "a=rtpmap:") media.1 s.lines)
   tt ← refused NotRaw90000 (not (is_raw90000 map))
@@ -130,18 +151,18 @@ listed_at s = do
   tt ← refused BadParameter (list_any is_bad (items text))
   Ok (record { port = media.0; payload_type = media.1; list = items text })
 
--- the port of a section, and what it says
-unfoldable pub section_at : Section → Result (ℕ × Leg) SdpFault
-section_at s = do
-  listed ← listed_at s
+-- The walk over a section: its port and what it says, or its first fault
+unfoldable pub section_walk : Section → Result (ℕ × Leg) SdpFault
+section_walk s = do
+  listed ← listing_walk s
   leg ← leg_of listed.payload_type listed.list
   Ok (listed.port, leg)
 
 -- Memory is first wanted for the items of a first section, where there are one or two sections
 abbrev pub WantsMemory : List Section → Type 0
 WantsMemory [] = ⊥
-WantsMemory (s ∷ []) = IsOk (listed_at s)
-WantsMemory (s ∷ t ∷ []) = IsOk (listed_at s)
+WantsMemory (s ∷ []) = IsOk (listing_walk s)
+WantsMemory (s ∷ t ∷ []) = IsOk (listing_walk s)
 WantsMemory (s ∷ t ∷ u ∷ rest) = ⊥
 
 -- whether two sections say the same
@@ -165,22 +186,27 @@ same_range Full Full = true
 same_range a b = false
 
 abbrev pub same_format : Fields → Fields → Bool
-same_format f g = same_sampling f.sampling g.sampling && same_depth f.depth g.depth && f.width == g.width && f.height == g.height && f.n == g.n && f.d == g.d
+same_format f g =
+    same_sampling f.sampling g.sampling && same_depth f.depth g.depth && f.width == g.width
+    && f.height == g.height && f.n == g.n && f.d == g.d
 
 unfoldable pub same_leg : Leg → Leg → Bool
-same_leg l m = l.payload_type == m.payload_type && same_format l.format m.format && same_range l.range m.range && bytes_eq l.colorimetry m.colorimetry
+same_leg l m =
+    l.payload_type == m.payload_type && same_format l.format m.format
+    && same_range l.range m.range && bytes_eq l.colorimetry m.colorimetry
 
-unfoldable pub description_of : List Section → Result Description SdpFault
-description_of [] = Err NoVideo
-description_of (s ∷ []) = do
-  first ← section_at s
+-- The walk over the video sections of a text, and the walk over the text
+unfoldable pub sections_walk : List Section → Result Description SdpFault
+sections_walk [] = Err NoVideo
+sections_walk (s ∷ []) = do
+  first ← section_walk s
   Ok (record { ports = first.0 ∷ []; leg = first.1 })
-description_of (s ∷ t ∷ []) = do
-  first ← section_at s
-  second ← section_at t
+sections_walk (s ∷ t ∷ []) = do
+  first ← section_walk s
+  second ← section_walk t
   tt ← refused LegsDiffer (not (same_leg first.1 second.1))
   Ok (record { ports = first.0 ∷ second.0 ∷ []; leg = first.1 })
-description_of (s ∷ t ∷ u ∷ rest) = Err TooManyLegs
+sections_walk (s ∷ t ∷ u ∷ rest) = Err TooManyLegs
 
-unfoldable pub description_at : List ℕ → Result Description SdpFault
-description_at text = description_of (video_sections (lines text))
+unfoldable pub text_walk : List ℕ → Result Description SdpFault
+text_walk text = sections_walk (video_sections (lines text))

@@ -17,7 +17,10 @@ section_lines (l ∷ ls) = if begins (codes "m=") l then [] else l ∷ section_l
 -- the sections whose first line begins m=video and a space, in the order of the text
 abbrev pub video_sections : List (List ℕ) → List Section
 video_sections [] = []
-video_sections (l ∷ ls) = if begins (codes "m=video ") l then record { media = l; lines = section_lines ls } ∷ video_sections ls else video_sections ls
+video_sections (l ∷ ls) =
+    if begins (codes "m=video ") l
+    then record { media = l; lines = section_lines ls } ∷ video_sections ls
+    else video_sections ls
 
 -- What a section says: all of it that a second section has to say too
 pub record Leg : Type 0 where

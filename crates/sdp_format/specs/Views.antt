@@ -14,7 +14,15 @@ abbrev pub items_in : List Parameter → List Item
 items_in ps = map item_of ps
 
 abbrev pub description : Sdp → Description
-description s = record { ports = s.ports.items; leg = record { payload_type = s.payload_type; format = fields_of s.format; range = s.range; colorimetry = s.colorimetry.items } }
+description s = record {
+  ports = s.ports.items;
+  leg = record {
+    payload_type = s.payload_type;
+    format = fields_of s.format;
+    range = s.range;
+    colorimetry = s.colorimetry.items;
+  };
+}
 
 abbrev pub colours : Option (ArrayVec ℕ) → Option (List ℕ)
 colours None = None

@@ -1,7 +1,8 @@
 //! The one fmtp line of what a text says.
 ghost use Rattle.std.specs.Prelude.{◌≡◌, ◌++◌, MatchResult, IfOk, decimal};
 ghost use Rattle.sdp_format.specs.declared.fault.SdpFault.TheVariants.{NoMemory};
-ghost use Rattle.sdp_format.specs.Canonical.{canonical, divisor_text, sampling_text, depth_text, range_text};
+ghost use Rattle.sdp_format.specs.Canonical.{canonical, divisor_text, sampling_text, depth_text};
+ghost use Rattle.sdp_format.specs.Canonical.{range_text};
 ghost use Rattle.sdp_format.specs.Views.{description};
 ghost use Rattle.sdp_format.specs.Back.{ReadsBack};
 
@@ -42,7 +43,8 @@ fn range_text(range: Range) -> &'static [u8]
 }
 
 fn add<A: Allocator + Copy>(text: &mut Vec<u8, A>, piece: &[u8]) -> Result<(), SdpFault>
-    ensures { MatchResult result (λ _. text.new.items ≡ text.old.items ++ piece.now) (λ e. e ≡ NoMemory) }
+    ensures { MatchResult result (λ _. text.new.items ≡ text.old.items ++ piece.now)
+        (λ e. e ≡ NoMemory) }
 {
     text.extend_from_slice(piece)?;
     Ok(())
@@ -53,7 +55,8 @@ fn add_number<A: Allocator + Copy>(
     text: &mut Vec<u8, A>,
     number: u32,
 ) -> Result<(), SdpFault>
-    ensures { MatchResult result (λ _. text.new.items ≡ text.old.items ++ decimal number) (λ e. e ≡ NoMemory) }
+    ensures { MatchResult result (λ _. text.new.items ≡ text.old.items ++ decimal number)
+        (λ e. e ≡ NoMemory) }
 {
     let digits = format!(in alloc; "{number}")?;
     add(text, digits.as_bytes())
@@ -64,7 +67,8 @@ fn add_divisor<A: Allocator + Copy>(
     text: &mut Vec<u8, A>,
     number: u32,
 ) -> Result<(), SdpFault>
-    ensures { MatchResult result (λ _. text.new.items ≡ text.old.items ++ divisor_text number) (λ e. e ≡ NoMemory) }
+    ensures { MatchResult result (λ _. text.new.items ≡ text.old.items ++ divisor_text number)
+        (λ e. e ≡ NoMemory) }
 {
     if number == 1 {
         return Ok(());
@@ -75,7 +79,8 @@ fn add_divisor<A: Allocator + Copy>(
 
 #[tactic(auto, unfolding(crate::specs::Canonical::canonical))]
 fn written<A: Allocator + Copy>(alloc: A, sdp: &Sdp) -> Result<Vec<u8, A>, SdpFault>
-    ensures { MatchResult result (λ v. v.items ≡ canonical (description sdp.now).leg) (λ e. e ≡ NoMemory) }
+    ensures { MatchResult result (λ v. v.items ≡ canonical (description sdp.now).leg)
+        (λ e. e ≡ NoMemory) }
 {
     let mut text = Vec::new(alloc);
     add(&mut text, b"a=fmtp:")?;
@@ -98,12 +103,14 @@ fn written<A: Allocator + Copy>(alloc: A, sdp: &Sdp) -> Result<Vec<u8, A>, SdpFa
     Ok(text)
 }
 
-/// The canonical fmtp line of what a text says, without a line end (SMPTE ST 2110-20, 7). A text of one or two video
-/// sections that have it as their fmtp line reads back as the same payload type, format, range and colorimetry.
+/// The canonical fmtp line of what a text says, without a line end (SMPTE ST 2110-20, 7). A text of
+/// one or two video sections that have it as their fmtp line reads back as the same payload type,
+/// format, range and colorimetry.
 ///
 /// The only error is `NoMemory`, where a growth was refused.
 pub fn fmtp_text<A: Allocator + Copy>(alloc: A, sdp: &Sdp) -> Result<Vec<u8, A>, SdpFault>
-    ensures line { MatchResult result (λ v. v.items ≡ canonical (description sdp.now).leg) (λ e. e ≡ NoMemory) }
+    ensures line { MatchResult result (λ v. v.items ≡ canonical (description sdp.now).leg)
+        (λ e. e ≡ NoMemory) }
     ensures back { IfOk result (λ v. ReadsBack v.items (description sdp.now).leg) }
 {
     written(alloc, sdp)

@@ -2,39 +2,89 @@
 ghost use Rattle.std.specs.Prelude.{◌≡◌, ◌↔◌, ◌<◌, ℕ, List, [], length, Ok, Err, codes};
 ghost use Rattle.sdp_format.specs.declared.sdp.Sdp.{Sdp};
 ghost use Rattle.sdp_format.specs.declared.fault.SdpFault.{SdpFault};
-ghost use Rattle.sdp_format.specs.declared.fault.SdpFault.TheVariants.{NoVideo, TooManyLegs, BadMediaLine, NoRtpmap, NotRaw90000, NoFmtp, BadParameter, DoubleParameter, MissingParameter, UnsupportedSampling, UnsupportedDepth, Interlaced, UnsupportedPacking, BadSsn, BadFormat, LegsDiffer};
+ghost use Rattle.sdp_format.specs.declared.fault.SdpFault.TheVariants.{NoVideo, TooManyLegs};
+ghost use Rattle.sdp_format.specs.declared.fault.SdpFault.TheVariants.{BadMediaLine, NoRtpmap};
+ghost use Rattle.sdp_format.specs.declared.fault.SdpFault.TheVariants.{NotRaw90000, NoFmtp};
+ghost use Rattle.sdp_format.specs.declared.fault.SdpFault.TheVariants.{BadParameter};
+ghost use Rattle.sdp_format.specs.declared.fault.SdpFault.TheVariants.{DoubleParameter};
+ghost use Rattle.sdp_format.specs.declared.fault.SdpFault.TheVariants.{MissingParameter};
+ghost use Rattle.sdp_format.specs.declared.fault.SdpFault.TheVariants.{UnsupportedSampling};
+ghost use Rattle.sdp_format.specs.declared.fault.SdpFault.TheVariants.{UnsupportedDepth};
+ghost use Rattle.sdp_format.specs.declared.fault.SdpFault.TheVariants.{Interlaced};
+ghost use Rattle.sdp_format.specs.declared.fault.SdpFault.TheVariants.{UnsupportedPacking, BadSsn};
+ghost use Rattle.sdp_format.specs.declared.fault.SdpFault.TheVariants.{BadFormat, LegsDiffer};
 ghost use Rattle.sdp_format.specs.Bytes.{lines};
 ghost use Rattle.sdp_format.specs.Sections.{Section, Description, video_sections};
-ghost use Rattle.sdp_format.specs.Reading.{section_at, description_at};
-ghost use Rattle.sdp_format.specs.Grammar.{IsMediaLine, LacksLine, HasOtherMap, HasItemFault, NoneBefore, TwoDiffer, IsTextFault, IsDescribed};
+ghost use Rattle.sdp_format.specs.Reading.{section_walk, text_walk};
+ghost use Rattle.sdp_format.specs.Grammar.{IsMediaLine, LacksLine, HasOtherMap, HasItemFault};
+ghost use Rattle.sdp_format.specs.Grammar.{NoneBefore, TwoDiffer, IsTextFault, IsDescribed};
 ghost use Rattle.sdp_format.specs.Canonical.{canonical};
 ghost use Rattle.sdp_format.specs.Views.{description};
 ghost use Rattle.sdp_format.specs.Back.{ReadsBack};
 
-/// When a text has which fault, and what it says where it has none.
+/// What a text says, and when it has which fault, by conditions over its video sections. The walk,
+/// which tells the first fault, answers just that.
 pub fn text_faults()
-    ensures no_video { (text : List ℕ) → ((description_at text ≡ Err NoVideo) ↔ (video_sections (lines text) ≡ [])) }
-    ensures too_many_legs { (text : List ℕ) → ((description_at text ≡ Err TooManyLegs) ↔ (2 < length (video_sections (lines text)))) }
-    ensures legs_differ { (text : List ℕ) → ((description_at text ≡ Err LegsDiffer) ↔ TwoDiffer (video_sections (lines text))) }
-    ensures first_fault { (text : List ℕ) (fault : SdpFault) → ((description_at text ≡ Err fault) ↔ IsTextFault fault (video_sections (lines text))) }
-    ensures said { (text : List ℕ) (d : Description) → ((description_at text ≡ Ok d) ↔ IsDescribed d (video_sections (lines text))) }
+    ensures said { (text : List ℕ) (d : Description) →
+        (IsDescribed d (video_sections (lines text))
+        ↔ (text_walk text ≡ Ok d)) }
+    ensures first_fault { (text : List ℕ) (fault : SdpFault) →
+        (IsTextFault fault (video_sections (lines text))
+        ↔ (text_walk text ≡ Err fault)) }
+    ensures no_video { (text : List ℕ) →
+        ((video_sections (lines text) ≡ [])
+        ↔ (text_walk text ≡ Err NoVideo)) }
+    ensures too_many_legs { (text : List ℕ) →
+        ((2 < length (video_sections (lines text)))
+        ↔ (text_walk text ≡ Err TooManyLegs)) }
+    ensures legs_differ { (text : List ℕ) →
+        (TwoDiffer (video_sections (lines text))
+        ↔ (text_walk text ≡ Err LegsDiffer)) }
 {}
 
-/// When a section has which fault: its condition holds, and that of no earlier fault does.
+/// When a section has which fault: its condition holds, and that of no earlier fault does. The walk
+/// answers just that.
 pub fn section_faults()
-    ensures bad_media_line { (s : Section) → ((section_at s ≡ Err BadMediaLine) ↔ (((port payload_type : ℕ) → IsMediaLine s.media port payload_type → ⊥) × NoneBefore BadMediaLine s)) }
-    ensures no_rtpmap { (s : Section) → ((section_at s ≡ Err NoRtpmap) ↔ ((LacksLine (codes "a=rtpmap:") s) × NoneBefore NoRtpmap s)) }
-    ensures not_raw90000 { (s : Section) → ((section_at s ≡ Err NotRaw90000) ↔ ((HasOtherMap s) × NoneBefore NotRaw90000 s)) }
-    ensures no_fmtp { (s : Section) → ((section_at s ≡ Err NoFmtp) ↔ ((LacksLine (codes "a=fmtp:") s) × NoneBefore NoFmtp s)) }
-    ensures bad_parameter { (s : Section) → ((section_at s ≡ Err BadParameter) ↔ ((HasItemFault BadParameter s) × NoneBefore BadParameter s)) }
-    ensures double_parameter { (s : Section) → ((section_at s ≡ Err DoubleParameter) ↔ ((HasItemFault DoubleParameter s) × NoneBefore DoubleParameter s)) }
-    ensures missing_parameter { (s : Section) → ((section_at s ≡ Err MissingParameter) ↔ ((HasItemFault MissingParameter s) × NoneBefore MissingParameter s)) }
-    ensures unsupported_sampling { (s : Section) → ((section_at s ≡ Err UnsupportedSampling) ↔ ((HasItemFault UnsupportedSampling s) × NoneBefore UnsupportedSampling s)) }
-    ensures unsupported_depth { (s : Section) → ((section_at s ≡ Err UnsupportedDepth) ↔ ((HasItemFault UnsupportedDepth s) × NoneBefore UnsupportedDepth s)) }
-    ensures interlaced { (s : Section) → ((section_at s ≡ Err Interlaced) ↔ ((HasItemFault Interlaced s) × NoneBefore Interlaced s)) }
-    ensures unsupported_packing { (s : Section) → ((section_at s ≡ Err UnsupportedPacking) ↔ ((HasItemFault UnsupportedPacking s) × NoneBefore UnsupportedPacking s)) }
-    ensures bad_ssn { (s : Section) → ((section_at s ≡ Err BadSsn) ↔ ((HasItemFault BadSsn s) × NoneBefore BadSsn s)) }
-    ensures bad_format { (s : Section) → ((section_at s ≡ Err BadFormat) ↔ ((HasItemFault BadFormat s) × NoneBefore BadFormat s)) }
+    ensures bad_media_line { (s : Section) →
+        ((((port payload_type : ℕ) → IsMediaLine s.media port payload_type → ⊥)
+        × NoneBefore BadMediaLine s)
+        ↔ (section_walk s ≡ Err BadMediaLine)) }
+    ensures no_rtpmap { (s : Section) →
+        ((LacksLine (codes "a=rtpmap:") s × NoneBefore NoRtpmap s)
+        ↔ (section_walk s ≡ Err NoRtpmap)) }
+    ensures not_raw90000 { (s : Section) →
+        ((HasOtherMap s × NoneBefore NotRaw90000 s)
+        ↔ (section_walk s ≡ Err NotRaw90000)) }
+    ensures no_fmtp { (s : Section) →
+        ((LacksLine (codes "a=fmtp:") s × NoneBefore NoFmtp s)
+        ↔ (section_walk s ≡ Err NoFmtp)) }
+    ensures bad_parameter { (s : Section) →
+        ((HasItemFault BadParameter s × NoneBefore BadParameter s)
+        ↔ (section_walk s ≡ Err BadParameter)) }
+    ensures double_parameter { (s : Section) →
+        ((HasItemFault DoubleParameter s × NoneBefore DoubleParameter s)
+        ↔ (section_walk s ≡ Err DoubleParameter)) }
+    ensures missing_parameter { (s : Section) →
+        ((HasItemFault MissingParameter s × NoneBefore MissingParameter s)
+        ↔ (section_walk s ≡ Err MissingParameter)) }
+    ensures unsupported_sampling { (s : Section) →
+        ((HasItemFault UnsupportedSampling s × NoneBefore UnsupportedSampling s)
+        ↔ (section_walk s ≡ Err UnsupportedSampling)) }
+    ensures unsupported_depth { (s : Section) →
+        ((HasItemFault UnsupportedDepth s × NoneBefore UnsupportedDepth s)
+        ↔ (section_walk s ≡ Err UnsupportedDepth)) }
+    ensures interlaced { (s : Section) →
+        ((HasItemFault Interlaced s × NoneBefore Interlaced s)
+        ↔ (section_walk s ≡ Err Interlaced)) }
+    ensures unsupported_packing { (s : Section) →
+        ((HasItemFault UnsupportedPacking s × NoneBefore UnsupportedPacking s)
+        ↔ (section_walk s ≡ Err UnsupportedPacking)) }
+    ensures bad_ssn { (s : Section) →
+        ((HasItemFault BadSsn s × NoneBefore BadSsn s)
+        ↔ (section_walk s ≡ Err BadSsn)) }
+    ensures bad_format { (s : Section) →
+        ((HasItemFault BadFormat s × NoneBefore BadFormat s)
+        ↔ (section_walk s ≡ Err BadFormat)) }
 {}
 
 /// The canonical line of each `Sdp` reads back.

@@ -43,7 +43,10 @@ pub(crate) fn next_line(text: &[u8]) -> (&[u8], Option<&[u8]>)
 
 /// The first line of the next video section, and what is left behind it.
 pub(crate) fn next_video<'a>(left: Option<&'a [u8]>) -> Option<(&'a [u8], Option<&'a [u8]>)>
-    ensures { MatchOption result (video_sections (lines_left (option_copied left.entry)) ≡ []) (λ v. video_sections (lines_left (option_copied left.entry)) ≡ section_of v.0.now (option_copied v.1) ∷ video_sections (lines_left (option_copied v.1))) }
+    ensures { let sections = video_sections (lines_left (option_copied left.entry)) in
+        MatchOption result (sections ≡ []) (λ v. sections
+        ≡ section_of v.0.now (option_copied v.1)
+        ∷ video_sections (lines_left (option_copied v.1))) }
 {
     let mut rest = left;
     while let Some(text) = rest {
@@ -77,7 +80,8 @@ pub(crate) fn first_attribute<'a>(
     wanted: u8,
     left: Option<&'a [u8]>,
 ) -> Option<&'a [u8]>
-    ensures { option_copied result ≡ first_attribute word.now wanted (section_lines (lines_left (option_copied left.entry))) }
+    ensures { option_copied result
+        ≡ first_attribute word.now wanted (section_lines (lines_left (option_copied left.entry))) }
 {
     let mut rest = left;
     while let Some(text) = rest {

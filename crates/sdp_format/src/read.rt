@@ -1,11 +1,14 @@
 //! The reader of whole texts.
-ghost use Rattle.std.specs.Prelude.{◌≡◌, ◌≢◌, ◌≤◌, ◌<◌, ◌∷◌, [], None, Some, length, ◌⊎◌, IfOk, IfErr, IsErrOf, IsOk};
+ghost use Rattle.std.specs.Prelude.{◌≡◌, ◌≢◌, ◌≤◌, ◌<◌, ◌∷◌, [], None, Some, length, ◌⊎◌, IfOk};
+ghost use Rattle.std.specs.Prelude.{IfErr, IsErrOf, IsOk};
 ghost use Rattle.std.specs.Option.{option_copied};
 ghost use Rattle.sdp_format.specs.Bytes.{lines};
 ghost use Rattle.sdp_format.specs.Views.{items_in, description};
 ghost use Rattle.sdp_format.specs.declared.fault.SdpFault.TheVariants.{NoMemory};
 ghost use Rattle.sdp_format.specs.Sections.{video_sections};
-ghost use Rattle.sdp_format.specs.Reading.{Gives, seen, leg_of, said_in, listed_at, WantsMemory, same_leg, same_sampling, same_depth, same_range, same_format, section_at, description_at, description_of};
+ghost use Rattle.sdp_format.specs.Reading.{Gives, seen, leg_of, said_in, listing_walk, WantsMemory};
+ghost use Rattle.sdp_format.specs.Reading.{same_leg, same_sampling, same_depth, same_range};
+ghost use Rattle.sdp_format.specs.Reading.{same_format, section_walk, text_walk, sections_walk};
 ghost use Rattle.sdp_format.specs.Grammar.{IsDescribed, IsTextFault};
 ghost use Rattle.st_format.specs.Fields.{fields_of};
 ghost use Rattle.sdp_format.specs.Naming.{items, range_or};
@@ -61,9 +64,10 @@ fn leg_of<A: Allocator + Copy>(alloc: A, payload_type: u8, text: &[u8]) -> Resul
 }
 
 /// The port and the payload type of a section, and the text of its items, none of them bad.
-#[tactic(auto, unfolding(crate::specs::Reading::listed_at))]
+#[tactic(auto, unfolding(crate::specs::Reading::listing_walk))]
 fn listed<'a>(media: &[u8], left: Option<&'a [u8]>) -> Result<Listed<'a>, SdpFault>
-    ensures exact { seen listed_seen result ≡ listed_at (section_of media.now (option_copied left.entry)) }
+    ensures exact { seen listed_seen result
+        ≡ listing_walk (section_of media.now (option_copied left.entry)) }
     ensures no_memory { IfErr result (λ e. e ≢ NoMemory) }
 {
     let (port, payload_type) = media_of(media).ok_or(SdpFault::BadMediaLine)?;
@@ -83,15 +87,18 @@ fn listed<'a>(media: &[u8], left: Option<&'a [u8]>) -> Result<Listed<'a>, SdpFau
 }
 
 /// The port of a section, and what the section says.
-#[tactic(auto, unfolding(crate::specs::Reading::section_at))]
+#[tactic(auto, unfolding(crate::specs::Reading::section_walk))]
 fn section<A: Allocator + Copy>(
     alloc: A,
     media: &[u8],
     left: Option<&[u8]>,
 ) -> Result<(u16, Leg), SdpFault>
-    ensures exact { Gives (λ x. (x.0, leg_seen x.1)) result (section_at (section_of media.now (option_copied left.entry))) }
-    ensures found { IsOk result → IsOk (listed_at (section_of media.now (option_copied left.entry))) }
-    ensures memory { IsErrOf result NoMemory → IsOk (listed_at (section_of media.now (option_copied left.entry))) }
+    ensures exact { Gives (λ x. (x.0, leg_seen x.1)) result
+        (section_walk (section_of media.now (option_copied left.entry))) }
+    ensures found { IsOk result
+        → IsOk (listing_walk (section_of media.now (option_copied left.entry))) }
+    ensures memory { IsErrOf result NoMemory
+        → IsOk (listing_walk (section_of media.now (option_copied left.entry))) }
 {
     let listed = listed(media, left)?;
     let leg = leg_of(alloc, listed.payload_type, listed.text)?;
@@ -172,10 +179,12 @@ fn described(ports: ArrayVec<u16, 2>, leg: Leg) -> Sdp
     }
 }
 
-#[tactic(auto, unfolding(crate::specs::Reading::description_of))]
+#[tactic(auto, unfolding(crate::specs::Reading::sections_walk))]
 fn one<A: Allocator + Copy>(alloc: A, media: &[u8], left: Option<&[u8]>) -> Result<Sdp, SdpFault>
-    ensures exact { Gives description result (description_of (section_of media.now (option_copied left.entry) ∷ [])) }
-    ensures memory { IsErrOf result NoMemory → IsOk (listed_at (section_of media.now (option_copied left.entry))) }
+    ensures exact { Gives description result
+        (sections_walk (section_of media.now (option_copied left.entry) ∷ [])) }
+    ensures memory { IsErrOf result NoMemory
+        → IsOk (listing_walk (section_of media.now (option_copied left.entry))) }
 {
     let (port, leg) = section(alloc, media, left)?;
     let mut ports = ArrayVec::new();
@@ -183,7 +192,7 @@ fn one<A: Allocator + Copy>(alloc: A, media: &[u8], left: Option<&[u8]>) -> Resu
     Ok(described(ports, leg))
 }
 
-#[tactic(auto, unfolding(crate::specs::Reading::description_of))]
+#[tactic(auto, unfolding(crate::specs::Reading::sections_walk))]
 fn two<A: Allocator + Copy>(
     alloc: A,
     media: &[u8],
@@ -191,8 +200,11 @@ fn two<A: Allocator + Copy>(
     second_media: &[u8],
     second_left: Option<&[u8]>,
 ) -> Result<Sdp, SdpFault>
-    ensures exact { Gives description result (description_of (section_of media.now (option_copied left.entry) ∷ section_of second_media.now (option_copied second_left.entry) ∷ [])) }
-    ensures memory { IsErrOf result NoMemory → IsOk (listed_at (section_of media.now (option_copied left.entry))) }
+    ensures exact { Gives description result
+        (sections_walk (section_of media.now (option_copied left.entry)
+        ∷ section_of second_media.now (option_copied second_left.entry) ∷ [])) }
+    ensures memory { IsErrOf result NoMemory
+        → IsOk (listing_walk (section_of media.now (option_copied left.entry))) }
 {
     let (port, leg) = section(alloc, media, left)?;
     let (second_port, second) = section(alloc, second_media, second_left)?;
@@ -205,9 +217,9 @@ fn two<A: Allocator + Copy>(
     Ok(described(ports, leg))
 }
 
-#[tactic(auto, unfolding(crate::specs::Reading::description_at, crate::specs::Reading::description_of))]
+#[tactic(auto, unfolding(crate::specs::Reading::text_walk, crate::specs::Reading::sections_walk))]
 fn read_text<A: Allocator + Copy>(alloc: A, text: &[u8]) -> Result<Sdp, SdpFault>
-    ensures exact { Gives description result (description_at text.now) }
+    ensures exact { Gives description result (text_walk text.now) }
     ensures memory { IsErrOf result NoMemory → WantsMemory (video_sections (lines text.now)) }
 {
     let Some((media, left)) = next_video(Some(text)) else {
@@ -222,17 +234,23 @@ fn read_text<A: Allocator + Copy>(alloc: A, text: &[u8]) -> Result<Sdp, SdpFault
     two(alloc, media, left, second_media, second_left)
 }
 
-/// Reads what an SDP text says of the studio video that it announces (RFC 8866, 5 and 6; SMPTE ST 2110-20, 7).
+/// Reads what an SDP text says of the studio video that it announces (RFC 8866, 5 and 6; SMPTE ST
+/// 2110-20, 7).
 ///
-/// A text has one or two video sections; two are the legs of one video and say the same but for their ports. The
-/// error is the first fault of the text: `NoVideo`, `TooManyLegs`, then the faults 4 to 16 of the first section, those
-/// of the second, and `LegsDiffer`. `NoMemory` comes where a growth was refused, in place of an answer that would come
-/// later than the tests that take no memory: those up to `BadParameter` of the first section.
+/// A text has one or two video sections; two are the legs of one video and say the same but for
+/// their ports. The error is the first fault of the text: `NoVideo`, `TooManyLegs`, then the faults
+/// 4 to 16 of the first section, those of the second, and `LegsDiffer`. `NoMemory` comes where a
+/// growth was refused, in place of an answer that would come later than the tests that take no
+/// memory: those up to `BadParameter` of the first section.
 pub fn read_sdp<A: Allocator + Copy>(alloc: A, text: &[u8]) -> Result<Sdp, SdpFault>
-    ensures exact { Gives description result (description_at text.now) }
-    ensures said { IfOk result (λ sdp. IsDescribed (description sdp) (video_sections (lines text.now))) }
-    ensures fault { IfErr result (λ f. (f ≡ NoMemory) ⊎ IsTextFault f (video_sections (lines text.now))) }
+    ensures said { IfOk result
+        (λ sdp. IsDescribed (description sdp) (video_sections (lines text.now))) }
+    ensures fault { IfErr result
+        (λ f. (f ≡ NoMemory) ⊎ IsTextFault f (video_sections (lines text.now))) }
     ensures memory { IsErrOf result NoMemory → WantsMemory (video_sections (lines text.now)) }
+
+    // The same by the walk, which tells one answer for each text.
+    ensures exact { Gives description result (text_walk text.now) }
 {
     read_text(alloc, text)
 }
