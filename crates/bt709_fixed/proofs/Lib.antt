@@ -4,3 +4,4 @@ pub mod Numbers
 pub mod Part
 pub mod Pixels
 pub mod Ranges
+pub mod Thinned

@@ -1,12 +1,39 @@
--- What range, gain and matrix make of a picture, one position at a time (ITU-R BT.709; gain and 4:2:2 own).
-use Rattle.std.specs.Prelude.{◌≡◌, ℕ, ◌+◌, ◌*◌, ◌/◌, min, Bool, true, false, not, ◌==◌, if◌then◌else◌, pos, List, slice_index}
+-- What range, gain and matrix make of a picture, one position at a time (ITU-R BT.709; gain and
+-- 4:2:2 own).
+use Rattle.std.specs.Prelude.{
+  ◌≡◌,
+  ℕ,
+  ◌+◌,
+  ◌*◌,
+  ◌/◌,
+  min,
+  Bool,
+  true,
+  false,
+  not,
+  ◌==◌,
+  if◌then◌else◌,
+  pos,
+  List,
+  slice_index,
+}
 use Rattle.st_format.specs.declared.format.Format.{Format}
 use Rattle.st_format.specs.declared.sampling.Sampling.{Sampling}
 use Rattle.st_format.specs.declared.sampling.Sampling.TheVariants.{Ycc422, Ycc444, Rgb}
 use Rattle.st_format.specs.Pgroup.{bits_of}
 use Rattle.st_format.specs.Picture.{Values, value_at}
 use Rattle.st_format.specs.Position.{Position, IsPosition, component_in_row}
-use Rattle.lane_kernels.specs.Formulas.{cb, centre, cr, gain, luma, nominal, nominal_colour, scale, video_data}
+use Rattle.lane_kernels.specs.Formulas.{
+  cb,
+  centre,
+  cr,
+  gain,
+  luma,
+  nominal,
+  nominal_colour,
+  scale,
+  video_data,
+}
 use Rattle.bt709_fixed.specs.declared.RangeKind.{RangeKind}
 use Rattle.bt709_fixed.specs.declared.RangeKind.TheVariants.{Nominal, VideoData}
 
@@ -45,26 +72,36 @@ of_component component y cb cr = if component == 0 then y else (if component == 
 
 -- Y, Cb or Cr of n bits
 abbrev pub matrixed : ℕ → ℕ → ℕ → ℕ → ℕ → ℕ
-matrixed n component r g b = of_component component (video_data n (luma r g b)) (video_data n (cb n r g b)) (video_data n (cr n r g b))
+matrixed n component r g b =
+    of_component component (video_data n (luma r g b)) (video_data n (cb n r g b))
+    (video_data n (cr n r g b))
 
 -- the same of the pixel of sample number k, in a list of R, G and B
 abbrev pub matrixed_at : ℕ → List ℕ → ℕ → ℕ
-matrixed_at n rgb k = matrixed n (component_in_row Ycc444 k) (slice_index rgb (3 * (k / 3) + 0)) (slice_index rgb (3 * (k / 3) + 1)) (slice_index rgb (3 * (k / 3) + 2))
+matrixed_at n rgb k =
+    matrixed n (component_in_row Ycc444 k) (slice_index rgb (3 * (k / 3) + 0))
+    (slice_index rgb (3 * (k / 3) + 1)) (slice_index rgb (3 * (k / 3) + 2))
 
 -- the value of another component at the same row and column
 abbrev pub component_at : Values → Position → ℕ → ℕ
-component_at v at component = value_at v (record { row = at.row; column = at.column; component = component })
+component_at v at component =
+    value_at v (record { row = at.row; column = at.column; component = component })
 
 -- ---- the four operations: the value at each position
 
 abbrev pub limit_value : RangeKind → Values → Position → ℕ
-limit_value range v at = limited range (bits_of v.format.depth) (is_colour v.format.sampling at.component) (value_at v at)
+limit_value range v at =
+    limited range (bits_of v.format.depth) (is_colour v.format.sampling at.component)
+    (value_at v at)
 
 abbrev pub gain_value : ℕ → Values → Position → ℕ
-gain_value g v at = gained g (bits_of v.format.depth) (is_colour v.format.sampling at.component) (value_at v at)
+gain_value g v at =
+    gained g (bits_of v.format.depth) (is_colour v.format.sampling at.component) (value_at v at)
 
 abbrev pub ycc444_value : Values → Position → ℕ
-ycc444_value v at = matrixed (bits_of v.format.depth) at.component (component_at v at 0) (component_at v at 1) (component_at v at 2)
+ycc444_value v at =
+    matrixed (bits_of v.format.depth) at.component (component_at v at 0) (component_at v at 1)
+    (component_at v at 2)
 
 -- Cb and Cr of the even columns, where alone 4:2:2 has a position for them
 abbrev pub ycc422_value : Values → Position → ℕ

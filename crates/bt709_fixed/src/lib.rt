@@ -1,14 +1,47 @@
 //! Range and gain of a picture, and the matrix of ITU-R BT.709 in fixed point.
 #![tactic(auto)]
 
-ghost use Rattle.std.specs.Prelude.{◌≡◌, if◌then◌else◌, ◌+◌, ◌≤◌, ◌<◌, ◌*◌, ◌/◌, ◌%◌, ◌-◌, ◌^◌, EachIndex, length, slice_index, IfOk, Err, ◌↔◌, ◌≢◌};
+ghost use Rattle.std.specs.Prelude.{
+  ◌≡◌,
+  if◌then◌else◌,
+  ◌+◌,
+  ◌≤◌,
+  ◌<◌,
+  ◌*◌,
+  ◌/◌,
+  ◌%◌,
+  ◌-◌,
+  ◌^◌,
+  EachIndex,
+  length,
+  slice_index,
+  IfOk,
+  Err,
+  ◌↔◌,
+  ◌≢◌,
+};
 ghost use Rattle.st_format.specs.Pgroup.{bits_of};
 ghost use Rattle.st_format.specs.Picture.{FitsDepth, IsPicture};
 ghost use Rattle.st_format.specs.Position.{component_in_row};
 ghost use Rattle.lane_kernels.specs.Formulas.{centre, scale};
-ghost use Rattle.bt709_fixed.specs.Operations.{IsOf, IsResampled, gain_value, gained, is_colour, kept, limit_value, limited, lowered, matrixed_at, of_component, ycc444_value};
-ghost use Rattle.bt709_fixed.specs.declared.ColourFault.TheVariants.{NoMemory, NotRgb};
-ghost use Rattle.st_format.specs.declared.sampling.Sampling.TheVariants.{Rgb, Ycc444};
+ghost use Rattle.bt709_fixed.specs.Operations.{
+  IsOf,
+  IsResampled,
+  gain_value,
+  gained,
+  is_colour,
+  kept,
+  limit_value,
+  limited,
+  lowered,
+  matrixed_at,
+  of_component,
+  ycc422_value,
+  ycc444_value,
+};
+ghost use Rattle.bt709_fixed.specs.Thinned.{thinned_number};
+ghost use Rattle.bt709_fixed.specs.declared.ColourFault.TheVariants.{NoMemory, NotRgb, NotYcc444};
+ghost use Rattle.st_format.specs.declared.sampling.Sampling.TheVariants.{Rgb, Ycc422, Ycc444};
 
 use st_format::{Depth, Format, Picture, Sampling};
 use std::alloc::{AllocError, Allocator};
@@ -23,7 +56,7 @@ pub enum RangeKind {
 }
 
 /// The scale of a depth against 8 bits.
-fn scale_of(depth: Depth) -> u16
+pub fn scale_of(depth: Depth) -> u16
     ensures value { result ≡ scale (bits_of depth) }
     ensures least { 1 ≤ result }
     ensures most { result ≤ 256 }
@@ -56,7 +89,9 @@ pub fn limit<A: Allocator>(picture: Picture<A>, range: RangeKind) -> Picture<A>
 fn limit_samples(sampling: Sampling, depth: Depth, range: RangeKind, samples: &mut [u16])
     ensures long { length samples.new ≡ length samples.old }
     ensures each { EachIndex samples.new (λ k.
-        slice_index samples.new k ≡ limited range (bits_of depth) (is_colour sampling (component_in_row sampling k)) (slice_index samples.old k)) }
+        slice_index samples.new k
+        ≡ limited range (bits_of depth) (is_colour sampling (component_in_row sampling k))
+        (slice_index samples.old k)) }
 {
     let s = scale_of(depth);
     match range {
@@ -84,7 +119,8 @@ fn lower_luma(sampling: Sampling, most: u16, samples: &mut [u16])
     }
 }
 
-/// Brings each value `g / 4096` as far from black, or from the centre for Cb and Cr, and to video data.
+/// Brings each value `g / 4096` as far from black, or from the centre for Cb and Cr, and to video
+/// data.
 pub fn gain<A: Allocator>(picture: Picture<A>, g: u32) -> Picture<A>
     requires { g ≤ 16384 }
     ensures value { IsOf picture.format (gain_value g picture) result }
@@ -101,7 +137,9 @@ fn gain_samples(sampling: Sampling, depth: Depth, g: u32, samples: &mut [u16])
     requires { g ≤ 16384 }
     ensures long { length samples.new ≡ length samples.old }
     ensures each { EachIndex samples.new (λ k.
-        slice_index samples.new k ≡ gained g (bits_of depth) (is_colour sampling (component_in_row sampling k)) (slice_index samples.old k)) }
+        slice_index samples.new k
+        ≡ gained g (bits_of depth) (is_colour sampling (component_in_row sampling k))
+        (slice_index samples.old k)) }
 {
     let mut at = 0;
     while samples.len() - at >= BLOCK {
@@ -114,15 +152,17 @@ fn gain_samples(sampling: Sampling, depth: Depth, g: u32, samples: &mut [u16])
 /// How many samples are worked on at a time.
 const BLOCK: usize = 64;
 
-/// The same for some samples, the first of which has the number `first`. They are taken both as luma
-/// and as colour, and the one that they are is kept.
+/// The same for some samples, the first of which has the number `first`. They are taken both as
+/// luma and as colour, and the one that they are is kept.
 fn gain_block(sampling: Sampling, depth: Depth, g: u32, first: usize, samples: &mut [u16])
     requires of_g { g ≤ 16384 }
     requires block { length samples.old ≤ 64 }
     requires room { first + length samples.old < 2 ^ 63 }
     ensures long { length samples.new ≡ length samples.old }
     ensures each { EachIndex samples.new (λ k.
-        slice_index samples.new k ≡ gained g (bits_of depth) (is_colour sampling (component_in_row sampling (first + k))) (slice_index samples.old k)) }
+        slice_index samples.new k
+        ≡ gained g (bits_of depth) (is_colour sampling (component_in_row sampling (first + k)))
+        (slice_index samples.old k)) }
 {
     let s = scale_of(depth);
     let high = 255 * s - 1;
@@ -140,7 +180,9 @@ fn choose_colour(sampling: Sampling, first: usize, colour: &[u16], samples: &mut
     requires room { first + length samples.old < 2 ^ 63 }
     ensures long { length samples.new ≡ length samples.old }
     ensures each { EachIndex samples.new (λ k.
-        slice_index samples.new k ≡ (if is_colour sampling (component_in_row sampling (first + k)) then slice_index colour.now k else slice_index samples.old k)) }
+        slice_index samples.new k
+        ≡ (if is_colour sampling (component_in_row sampling (first + k))
+        then slice_index colour.now k else slice_index samples.old k)) }
 {
     for (k, sample) in samples.iter_mut().enumerate() {
         if sampling != Sampling::Rgb && sampling.component_in_row(first + k) != 0 {
@@ -155,7 +197,8 @@ fn matrix_samples(depth: Depth, rgb: &[u16], out: &mut [u16])
     requires whole { length out.old % 3 ≡ 0 }
     requires fit { EachIndex rgb.now (λ k. slice_index rgb.now k < 2 ^ bits_of depth) }
     ensures long { length out.new ≡ length out.old }
-    ensures each { EachIndex out.new (λ k. slice_index out.new k ≡ matrixed_at (bits_of depth) rgb.now k) }
+    ensures each { EachIndex out.new
+        (λ k. slice_index out.new k ≡ matrixed_at (bits_of depth) rgb.now k) }
 {
     let mut at = 0;
     while out.len() - at >= 192 {
@@ -172,7 +215,8 @@ fn matrix_block(depth: Depth, rgb: &[u16], out: &mut [u16])
     requires block { length out.old ≤ 192 }
     requires fit { EachIndex rgb.now (λ k. slice_index rgb.now k < 2 ^ bits_of depth) }
     ensures long { length out.new ≡ length out.old }
-    ensures each { EachIndex out.new (λ k. slice_index out.new k ≡ matrixed_at (bits_of depth) rgb.now k) }
+    ensures each { EachIndex out.new
+        (λ k. slice_index out.new k ≡ matrixed_at (bits_of depth) rgb.now k) }
 {
     let pixels = out.len() / 3;
     let mut reds = [0u16; BLOCK];
@@ -200,7 +244,8 @@ fn take_component(rgb: &[u16], component: usize, out: &mut [u16])
     requires component { component < 3 }
     requires lengths { length rgb.now ≡ 3 * length out.old }
     ensures long { length out.new ≡ length out.old }
-    ensures each { EachIndex out.new (λ i. slice_index out.new i ≡ slice_index rgb.now (3 * i + component)) }
+    ensures each { EachIndex out.new
+        (λ i. slice_index out.new i ≡ slice_index rgb.now (3 * i + component)) }
 {
     for (i, sample) in out.iter_mut().enumerate() {
         *sample = rgb[3 * i + component];
@@ -214,7 +259,8 @@ fn join_components(y: &[u16], cb: &[u16], cr: &[u16], out: &mut [u16])
     requires of_cr { length out.old ≡ 3 * length cr.now }
     ensures long { length out.new ≡ length out.old }
     ensures each { EachIndex out.new (λ k. slice_index out.new k
-        ≡ of_component (component_in_row Ycc444 k) (slice_index y.now (k / 3)) (slice_index cb.now (k / 3)) (slice_index cr.now (k / 3))) }
+        ≡ of_component (component_in_row Ycc444 k) (slice_index y.now (k / 3))
+        (slice_index cb.now (k / 3)) (slice_index cr.now (k / 3))) }
 {
     for (k, sample) in out.iter_mut().enumerate() {
         *sample = match Sampling::Ycc444.component_in_row(k) {
@@ -259,8 +305,8 @@ impl From<AllocError> for ColourFault {
     }
 }
 
-/// The picture in Y, Cb and Cr. `NotRgb` where it isn't of R, G and B; else `NoMemory` where the memory
-/// was refused.
+/// The picture in Y, Cb and Cr. `NotRgb` where it isn't of R, G and B; else `NoMemory` where the
+/// memory was refused.
 pub fn to_ycc444<A: Allocator, B: Allocator>(
     alloc: B,
     picture: &Picture<A>,
@@ -269,6 +315,7 @@ pub fn to_ycc444<A: Allocator, B: Allocator>(
     ensures format { IfOk result (λ p. IsResampled Ycc444 picture.now.format p.format) }
     ensures whole { IfOk result (λ p. IsPicture p) }
     ensures rgb { (result ≡ Err NotRgb) ↔ (picture.now.format.sampling ≢ Rgb) }
+    ensures only { result ≢ Err NotYcc444 }
 {
     let format = picture.format();
     let Sampling::Rgb = format.sampling() else {
@@ -288,9 +335,73 @@ fn matrixed_samples<B: Allocator>(
     requires whole { length rgb.now % 3 ≡ 0 }
     requires fit { EachIndex rgb.now (λ k. slice_index rgb.now k < 2 ^ bits_of depth) }
     ensures long { IfOk result (λ v. length v.items ≡ length rgb.now) }
-    ensures each { IfOk result (λ v. EachIndex v.items (λ k. slice_index v.items k ≡ matrixed_at (bits_of depth) rgb.now k)) }
+    ensures each { IfOk result
+        (λ v. EachIndex v.items
+        (λ k. slice_index v.items k ≡ matrixed_at (bits_of depth) rgb.now k)) }
 {
     let mut samples = Vec::from_elem(alloc, 0, rgb.len())?;
     matrix_samples(depth, rgb, samples.as_mut_slice());
     Ok(samples)
+}
+
+/// The raster with Cb and Cr at the even columns alone.
+fn as_ycc422(format: Format) -> Format
+    requires { format.sampling ≡ Ycc444 }
+    ensures { IsResampled Ycc422 format result }
+{
+    Format {
+        sampling: Sampling::Ycc422,
+        depth: format.depth,
+        width: format.width,
+        height: format.height,
+        n: format.n,
+        d: format.d,
+    }
+}
+
+/// The picture with the Cb and Cr of the even columns alone. `NotYcc444` where it hasn't Y, Cb and
+/// Cr at each column; else `NoMemory` where the memory was refused.
+pub fn to_ycc422<A: Allocator, B: Allocator>(
+    alloc: B,
+    picture: &Picture<A>,
+) -> Result<Picture<B>, ColourFault>
+    ensures made { IfOk result (λ p. IsOf p.format (ycc422_value picture.now) p) }
+    ensures format { IfOk result (λ p. IsResampled Ycc422 picture.now.format p.format) }
+    ensures whole { IfOk result (λ p. IsPicture p) }
+    ensures ycc444 { (result ≡ Err NotYcc444) ↔ (picture.now.format.sampling ≢ Ycc444) }
+    ensures only { result ≢ Err NotRgb }
+{
+    let format = picture.format();
+    let Sampling::Ycc444 = format.sampling() else {
+        return Err(ColourFault::NotYcc444);
+    };
+    let full = picture.samples();
+    let samples = thinned_samples(alloc, full)?;
+    Ok(Picture::from_samples(as_ycc422(format), samples))
+}
+
+/// The samples of pairs of pixels that 4:2:2 keeps of 4:4:4.
+fn thinned_samples<B: Allocator>(alloc: B, full: &[u16]) -> Result<Vec<u16, B>, AllocError>
+    ensures long { IfOk result (λ v. length v.items ≡ 4 * (length full.now / 6)) }
+    ensures each { IfOk result (λ v. EachIndex v.items (λ k.
+        slice_index v.items k ≡ slice_index full.now (thinned_number k))) }
+{
+    let mut samples = Vec::from_elem(alloc, 0, 4 * (full.len() / 6))?;
+    thin_samples(full, samples.as_mut_slice());
+    Ok(samples)
+}
+
+/// Of each two pixels of 4:4:4 takes Cb, Y and Cr of the first, and Y of the second.
+fn thin_samples(full: &[u16], out: &mut [u16])
+    requires lengths { length out.old ≡ 4 * (length full.now / 6) }
+    ensures long { length out.new ≡ length out.old }
+    ensures each { EachIndex out.new (λ k.
+        slice_index out.new k ≡ slice_index full.now (thinned_number k)) }
+{
+    for pair in 0..out.len() / 4 {
+        out[4 * pair] = full[6 * pair];
+        out[4 * pair + 1] = full[6 * pair + 1];
+        out[4 * pair + 2] = full[6 * pair + 2];
+        out[4 * pair + 3] = full[6 * pair + 4];
+    }
 }
