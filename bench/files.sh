@@ -2,7 +2,7 @@
 # Measures `receive` and `send` on real files, as ratios to `cat` of the same capture into a null device, and the
 # memory of `receive` at two lengths of a capture. Wants about 1.3 GB below TMPDIR (/tmp), best a folder in memory, as
 # TMPDIR=/dev/shm. Words: how many rounds (5); the best one counts.
-root=$(cd "$(dirname "$0")/.." && pwd) || exit 1
+root=$(CDPATH='' cd -- "$(dirname -- "$0")/.." && pwd) || exit 1
 rounds=${1:-5}
 folder=$(mktemp -d "${TMPDIR:-/tmp}/st2110-bench.XXXXXX") || exit 1
 trap 'rm -rf "$folder"' EXIT

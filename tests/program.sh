@@ -1,7 +1,7 @@
 #!/bin/sh
 # Starts the built program, ./st2110 at the root or the one that is named, and compares status, output, faults and
 # written files with what they must be. Prints a line for each test, and last 'N passed, M failed'.
-root=$(cd "$(dirname "$0")/.." && pwd) || exit 125
+root=$(CDPATH='' cd -- "$(dirname -- "$0")/.." && pwd) || exit 125
 program=${1:-$root/st2110}
 case $program in
     /*) ;;
@@ -149,7 +149,7 @@ END
 octets "$old_head $d1" >old.cap
 
 for part in text examples forms windows rehearsals descriptions limits \
-    migrate receive send merge; do
+    migrate receive send merge launcher; do
     if [ -f "$root/tests/program/$part.sh" ]; then
         . "$root/tests/program/$part.sh"
     fi

@@ -20,3 +20,17 @@ sed '4s/^A /B /' "$root/examples/last-sample-differs.trace" >in
 "$program" trace <in >out 2>err
 status=$?
 says 'last-sample-differs.trace, by both paths' 0 "$(cat "$root/examples/last-sample-differs.out")" ''
+
+# No file of examples/ goes stale: each is a text with its answer, or that answer, or has a test.
+for file in "$root"/examples/*; do
+    name=${file##*/}
+    if [ "${file%.out}" = "$file" ] && [ -e "${file%.*}.out" ]; then
+        pass "$name has its answer"
+    elif grep -q -F -e "/examples/$name" -e "\$files/$name" "$root"/tests/program/*.sh; then
+        pass "$name is in a test"
+    elif [ "${file%.out}" != "$file" ] && ls "${file%.out}".[!o]* >/dev/null 2>&1; then
+        pass "$name is an answer"
+    else
+        fail "$name" 'no test runs it'
+    fi
+done

@@ -16,6 +16,17 @@ says 'an empty SDP' 1 '' 'st2110: sdp 2 NoVideo'
 status=$?
 : >out
 says 'an output that is full' 3 '' 'st2110: device'
+# A datagram's octets as tshark prints them, with colons or without, become a line of a script.
+for parted in 's/../&:/g; s/:$//' ''; do
+    {
+        printf '%b\n' 'format YCbCr-4:2:2 8 4 2 60/1\nopen 96 any 900'
+        echo "$d1" | tr A-F a-f | sed "$parted" | sed 's/://g; s/^/A /'
+    } >in
+    "$program" trace <in >out 2>err
+    status=$?
+    says "digits of a recording '$parted'" 0 "kept 1
+$frame" ''
+done
 run frobnicate
 if [ "$status" = 2 ] && [ -s err ] && [ ! -s out ]; then
     pass 'a word that is no command'
