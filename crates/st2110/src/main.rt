@@ -10,10 +10,20 @@ mod words;
 use crate::runs::{merge, migrate, receive, rehearse, sdp, send, trace};
 use crate::words::{Words, WordsFault, given_words, read_words};
 use st2110_tool::Status;
+use std::fs::File;
 use std::process::ExitCode;
 
 fn main(rt: HostRuntime) -> ExitCode {
+    let _held = (hold_stream(&rt), hold_stream(&rt), hold_stream(&rt));
     ExitCode::from(run(&rt))
+}
+
+/// Opens a device that gives and takes nothing. It takes the place of standard input, output or
+/// error where that is closed; else the next file that is opened would, and get what is printed.
+fn hold_stream(rt: &HostRuntime) -> Option<File> {
+    let mut options = File::options();
+    options.write(true);
+    options.open(rt, "/dev/full").ok()
 }
 
 /// Does what the command line asks for, and answers the exit status.

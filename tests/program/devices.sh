@@ -1,0 +1,112 @@
+# Standard input, output and error of each command on the files of examples/: empty, closed, a
+# folder, full.
+files=$root/examples
+cp "$files/path-a.cap" one.cap
+run receive --window 900 --state one.rcv one.cap
+traced=$(cat "$files/first-datagram.out")
+camera_line=$(cat "$files/camera.out")
+played=$(cat "$files/rehearsal.out")
+
+# on COMMAND: its words, the file that it reads from standard input, what it prints, and the file
+# that it writes.
+on() {
+    input=/dev/null
+    written=
+    case $1 in
+        trace) set -- trace; input=$files/first-datagram.trace shown=$traced ;;
+        sdp) set -- sdp; input=$files/camera.sdp shown=$camera_line ;;
+        rehearse) set -- rehearse; input=$files/rehearsal.rehearse shown=$played ;;
+        migrate)
+            written=dev.cap shown='records 1'
+            set -- migrate --sdp "$files/four-by-two.sdp" --out dev.cap \
+                "$files/one-record-01.cap" ;;
+        send)
+            written=dev.cap shown='sent 2'
+            set -- send --sdp "$files/four-by-two.sdp" --base 900 --max 40 --out dev.cap \
+                "$files/four-by-two.pic" ;;
+        receive)
+            written=dev.rcv shown='delivered 1
+frame 900 present 12 missing 4 contested 0'
+            set -- receive --window 900 --state dev.rcv "$files/path-a.cap" ;;
+        merge)
+            written=dev.rcv shown='frame 900 present 12 missing 4 contested 0'
+            set -- merge --state dev.rcv one.rcv one.rcv ;;
+    esac
+    words=$*
+}
+# ends NAME STATUS: how the last run ended, where its output or its faults went elsewhere.
+ends() {
+    if [ "$status" = "$2" ]; then
+        pass "$1"
+    else
+        fail "$1" "status $status in place of $2"
+    fi
+}
+
+# shellcheck disable=SC2086
+for command in trace sdp rehearse migrate send receive merge; do
+    on $command
+    rm -f dev.cap dev.rcv
+    "$program" $words <"$input" >out 2>err
+    status=$?
+    says "$command, on the files of examples" 0 "$shown" ''
+    [ -z "$written" ] || cp "$written" whole.file
+    "$program" $words <"$input" >/dev/full 2>err
+    status=$?
+    : >out
+    says "$command, standard output is full" 3 '' 'st2110: device'
+    "$program" $words <"$input" >&- 2>err
+    status=$?
+    says "$command, standard output is closed" 3 '' 'st2110: device'
+    if [ -n "$written" ]; then
+        # What is printed goes into no file that the program opens itself.
+        rm -f "$written"
+        "$program" $words >&- 2>err
+        if [ ! -e "$written" ] || cmp -s "$written" whole.file || [ ! -s "$written" ]; then
+            pass "$command, standard output is closed, and the file is not mixed with it"
+        else
+            fail "$command, standard output is closed, and the file is not mixed with it" \
+                "$(od -An -v -tx1 "$written" | tr -d ' \n' | head -c 300)"
+        fi
+        "$program" $words <&- >out 2>err
+        status=$?
+        says "$command, standard input is closed" 0 "$shown" ''
+        "$program" $words <. >out 2>err
+        status=$?
+        says "$command, standard input is a folder" 0 "$shown" ''
+    fi
+    "$program" $words <"$input" >out 2>&-
+    status=$?
+    : >err
+    says "$command, standard error is closed, and nothing is told" 0 "$shown" ''
+done
+
+# The commands that read standard input.
+for command in trace sdp rehearse; do
+    case $command in
+        sdp) fault='sdp 2 NoVideo' ;;
+        *) fault='script 1' ;;
+    esac
+    "$program" $command </dev/null >out 2>err
+    status=$?
+    says "$command, standard input is empty" 1 '' "st2110: $fault"
+    "$program" $command <. >out 2>err
+    status=$?
+    says "$command, standard input is a folder" 3 '' 'st2110: device'
+    "$program" $command <&- >out 2>err
+    status=$?
+    says "$command, standard input is closed" 3 '' 'st2110: device'
+    "$program" $command </dev/null >out 2>/dev/full
+    status=$?
+    ends "$command, standard error is full" 3
+    "$program" $command </dev/null >out 2>&-
+    status=$?
+    ends "$command, standard error is closed" 3
+done
+for command in 'send --out dev.cap no-such-file' \
+    'receive --window - --state dev.rcv no-such-file'; do
+    # shellcheck disable=SC2086
+    "$program" $command </dev/null >out 2>/dev/full
+    status=$?
+    ends "$command, standard error is full" 3
+done
