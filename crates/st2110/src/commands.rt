@@ -8,7 +8,12 @@ pub fn program<'a>(alloc: Global) -> Result<Command<'a>, AllocError> {
     let named = Command::new(alloc, "st2110")
         .version("0.1")
         .about("Uncompressed studio video over redundant paths")
-        .bin_name("st2110")?;
+        .bin_name("st2110")?
+        .arg(
+            flag(alloc, "verbose").short('v').global(true).help(
+                "Behind the line of a fault, also say where it is and what was wanted there",
+            ),
+        )?;
     let named = with_command(named, trace_command(alloc))?;
     let named = with_command(named, sdp_command(alloc))?;
     let named = with_command(named, rehearse_command(alloc))?;
@@ -30,13 +35,15 @@ fn trace_command<'a>(alloc: Global) -> Command<'a> {
 
 fn sdp_command<'a>(alloc: Global) -> Command<'a> {
     Command::new(alloc, "sdp").about(
-        "Reads an SDP text on standard input, and prints its canonical fmtp line or the first fault",
+        "Reads an SDP text on standard input, and prints its canonical fmtp line or the first \
+         fault",
     )
 }
 
 fn rehearse_command<'a>(alloc: Global) -> Command<'a> {
     Command::new(alloc, "rehearse").about(
-        "Plays a schedule of sends, arrivals, slides and merges on standard input, and prints what each receiver has",
+        "Plays a schedule of sends, arrivals, slides and merges on standard input, and prints what \
+         each receiver has",
     )
 }
 
@@ -103,7 +110,8 @@ fn with_stamp<'a>(alloc: Global, command: Command<'a>) -> Result<Command<'a>, Al
 fn receive_command<'a>(alloc: Global) -> Result<Command<'a>, AllocError> {
     Command::new(alloc, "receive")
         .about(
-            "Takes the datagrams of captures into one receiver, prints how many came and a line for each frame, and writes what is known of each sample",
+            "Takes the datagrams of captures into one receiver, prints how many came and a line \
+             for each frame, and writes what is known of each sample",
         )
         .arg(optional(alloc, "sdp", "FILE").help(
             "SDP text that says format and payload type; without it, the text of the first capture",
@@ -118,7 +126,8 @@ fn receive_command<'a>(alloc: Global) -> Result<Command<'a>, AllocError> {
         )?
         .arg(required(alloc, "state", "FILE").help("Where the receiver is written"))?
         .arg(flag(alloc, "refusals").help(
-            "Also print how many datagrams were refused for which reason, and how many had other timestamps",
+            "Also print how many datagrams were refused for which reason, and how many had other \
+             timestamps",
         ))?
         .arg(files(alloc, "captures", "CAPTURE").help("Captures, taken one after the other"))
 }
@@ -126,7 +135,8 @@ fn receive_command<'a>(alloc: Global) -> Result<Command<'a>, AllocError> {
 fn merge_command<'a>(alloc: Global) -> Result<Command<'a>, AllocError> {
     Command::new(alloc, "merge")
         .about(
-            "Merges two receivers that were opened alike, prints a line for each frame, and writes what both know of each sample",
+            "Merges two receivers that were opened alike, prints a line for each frame, and writes \
+             what both know of each sample",
         )
         .arg(required(alloc, "state", "FILE").help("Where the merged receiver is written"))?
         .arg(one_file(alloc, "left", "LEFT").help("Receiver's file, as receive writes it"))?
@@ -136,7 +146,8 @@ fn merge_command<'a>(alloc: Global) -> Result<Command<'a>, AllocError> {
 fn migrate_command<'a>(alloc: Global) -> Result<Command<'a>, AllocError> {
     Command::new(alloc, "migrate")
         .about(
-            "Writes a capture of version 01 as one of version 02, with an SDP text, and prints how many records it has",
+            "Writes a capture of version 01 as one of version 02, with an SDP text, and prints how \
+             many records it has",
         )
         .arg(required(alloc, "sdp", "FILE").help("SDP text that the new capture has"))?
         .arg(required(alloc, "out", "FILE").help("Where the new capture is written"))?

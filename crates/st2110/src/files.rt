@@ -1,9 +1,11 @@
 //! Files as devices. They tell no octets.
 //!
-//! A file is opened where its first octets are wanted and closed at its end, so that a long list of files has one
-//! open at a time, and one that is refused before it is read, or written, is not touched.
+//! A file is opened where its first octets are wanted and closed at its end, so that a long list of
+//! files has one open at a time, and one that is refused before it is read, or written, is not
+//! touched.
 ghost use Rattle.std.specs.Prelude.{◌≡◌, ◌≤◌, length, None, IfOk};
 
+use crate::places::{Reading, Writing};
 use st_format::{ByteSink, ByteSource, DeviceFault};
 use std::fs::{self, File};
 use std::io::{self, BufReader, BufWriter, Read, Write};
@@ -18,6 +20,14 @@ pub struct FileSource<'a> {
     name: &'a str,
     place: Place,
     failures: u64,
+    /// Its place among the files of a list.
+    index: usize,
+    /// Whether its reading began.
+    is_begun: bool,
+    /// How many octets were read.
+    octet: u64,
+    /// Why it failed last.
+    fault: Option<io::Error>,
 }
 
 /// Where the reading of a file stands.
@@ -36,11 +46,40 @@ impl<'a> FileSource<'a> {
     pub fn new(rt: &'a HostRuntime, name: &'a str) -> Self
         ensures { ⟦<FileSource<'a> as ByteSource>⟧.failures result ≡ 0 }
     {
+        FileSource::at(rt, 0, name)
+    }
+
+    /// The file of this name, which stands in a list there and isn't looked at yet.
+    pub fn at(rt: &'a HostRuntime, index: usize, name: &'a str) -> Self
+        ensures { ⟦<FileSource<'a> as ByteSource>⟧.failures result ≡ 0 }
+    {
         FileSource {
             rt,
             name,
             place: Place::Front,
             failures: 0,
+            index,
+            is_begun: false,
+            octet: 0,
+            fault: None,
+        }
+    }
+
+    /// Whether its reading began, and its place among the files of a list.
+    pub fn begun(&self) -> Option<usize> {
+        if self.is_begun {
+            Some(self.index)
+        } else {
+            None
+        }
+    }
+
+    /// Where the reading stands.
+    pub fn reading(&self) -> Reading<'a> {
+        Reading {
+            name: self.name,
+            octet: self.octet,
+            fault: self.fault,
         }
     }
 
@@ -49,6 +88,7 @@ impl<'a> FileSource<'a> {
         ensures within { IfOk result (λ n. n ≤ length buf.new) }
         ensures failures { self.new.failures ≡ self.old.failures }
     {
+        self.is_begun = true;
         if let Place::Front = self.place {
             let file = fs::open(self.rt, self.name)?;
             let reader = BufReader::with_capacity(self.rt.alloc(), BUFFER, file)?;
@@ -58,6 +98,7 @@ impl<'a> FileSource<'a> {
             return Ok(0);
         };
         let n = file.read(buf)?;
+        self.octet = self.octet.saturating_add(n as u64);
         if n == 0 && !buf.is_empty() {
             self.place = Place::Past;
         }
@@ -74,7 +115,8 @@ impl<'a> ByteSource for FileSource<'a> {
     fn read(&mut self, buf: &mut [u8]) -> Result<usize, DeviceFault> {
         match self.read_file(buf) {
             Ok(n) => Ok(n),
-            Err(_) => {
+            Err(fault) => {
+                self.fault = Some(fault);
                 self.failures = self.failures.saturating_add(1);
                 Err(DeviceFault)
             }
@@ -89,6 +131,10 @@ pub struct FileSink<'a> {
     name: &'a str,
     file: Option<BufWriter<File>>,
     failures: u64,
+    /// Whether writing out what was buffered failed.
+    is_cut: bool,
+    /// Why it failed last, where the system said so.
+    fault: Option<io::Error>,
 }
 
 impl<'a> FileSink<'a> {
@@ -101,14 +147,33 @@ impl<'a> FileSink<'a> {
             name,
             file: None,
             failures: 0,
+            is_cut: false,
+            fault: None,
         }
     }
 
-    /// Writes out what was buffered, and tells whether that succeeded. Nothing is flushed where nothing was written.
-    pub fn finish(mut self) -> bool {
-        match &mut self.file {
-            Some(file) => file.flush().is_ok(),
-            None => true,
+    /// Writes out what was buffered, and tells whether that succeeded. Nothing is flushed where
+    /// nothing was written.
+    pub fn finish(&mut self) -> bool {
+        let Some(file) = &mut self.file else {
+            return true;
+        };
+        match file.flush() {
+            Ok(()) => true,
+            Err(fault) => {
+                self.is_cut = true;
+                self.fault = Some(fault);
+                false
+            }
+        }
+    }
+
+    /// How the writing went.
+    pub fn writing(&self) -> Writing<'a> {
+        Writing {
+            name: self.name,
+            has_failed: self.failures > 0 || self.is_cut,
+            fault: self.fault,
         }
     }
 
@@ -132,12 +197,13 @@ impl<'a> ByteSink for FileSink<'a> {
 
     ghost failures = { λ s. s.failures };
 
-    /// A write of no octets of some is a failure, and so are a file that can't be made and a buffer for which there
-    /// is no memory.
+    /// A write of no octets of some is a failure, and so are a file that can't be made and a buffer
+    /// for which there is no memory.
     fn write(&mut self, octets: &[u8]) -> Result<usize, DeviceFault> {
         match self.write_file(octets) {
             Ok(n) if n > 0 || octets.is_empty() => Ok(n),
-            _ => {
+            outcome => {
+                self.fault = outcome.err();
                 self.failures = self.failures.saturating_add(1);
                 Err(DeviceFault)
             }

@@ -3,12 +3,16 @@
 
 mod commands;
 mod files;
+mod places;
 mod runs;
+mod script;
 mod streams;
+mod told;
+mod wanted;
 mod words;
 
 use crate::runs::{merge, migrate, receive, rehearse, sdp, send, trace};
-use crate::words::{Words, WordsFault, given_words, read_words};
+use crate::words::{Given, Words, WordsFault, given_words, read_words};
 use st2110_tool::Status;
 use std::fs::File;
 use std::process::ExitCode;
@@ -33,18 +37,27 @@ fn run(rt: &HostRuntime) -> u8 {
         Err(fault) => return refuse(rt, &fault).number(),
     };
     match read_words(rt.alloc(), words.as_slice()) {
-        Ok(Words::Trace) => trace(rt),
-        Ok(Words::Sdp) => sdp(rt),
-        Ok(Words::Rehearse) => rehearse(rt),
-        Ok(Words::Migrate(words)) => migrate(rt, words),
-        Ok(Words::Send(words)) => send(rt, &words),
-        Ok(Words::Receive(words)) => receive(rt, &words),
-        Ok(Words::Merge(words)) => merge(rt, words),
+        Ok(given) => follow(rt, &given),
         Err(fault) => refuse(rt, &fault).number(),
     }
 }
 
-/// Prints why the words are not followed: help and version to standard output, all else to standard error.
+/// Runs the command.
+fn follow(rt: &HostRuntime, given: &Given<'_>) -> u8 {
+    let is_verbose = given.is_verbose;
+    match &given.words {
+        Words::Trace => trace(rt, is_verbose),
+        Words::Sdp => sdp(rt, is_verbose),
+        Words::Rehearse => rehearse(rt, is_verbose),
+        Words::Migrate(words) => migrate(rt, words, is_verbose),
+        Words::Send(words) => send(rt, words, is_verbose),
+        Words::Receive(words) => receive(rt, words, is_verbose),
+        Words::Merge(words) => merge(rt, words, is_verbose),
+    }
+}
+
+/// Prints why the words are not followed: help and version to standard output, all else to standard
+/// error.
 fn refuse<R: Print + Eprint>(rt: &R, fault: &WordsFault) -> Status {
     let (printed, status) = match fault {
         WordsFault::NoMemory => (eprintln!(rt; "st2110: memory"), Status::Memory),

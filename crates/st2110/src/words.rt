@@ -11,6 +11,14 @@ use std::{env, io};
 
 /// What the command line asks for.
 #[derive(Drop)]
+pub struct Given<'a> {
+    pub words: Words<'a>,
+    /// Whether a fault's place is told behind its line.
+    pub is_verbose: bool,
+}
+
+/// A command, and what it is asked for.
+#[derive(Drop)]
 pub enum Words<'a> {
     /// Run the script on standard input.
     Trace,
@@ -116,8 +124,16 @@ pub fn given_words<R: Env + AllocGlobal>(rt: &R) -> Result<Vec<String>, WordsFau
 }
 
 /// Reads the words; without any behind the program's name the command is `trace`.
-pub fn read_words(alloc: Global, words: &[String]) -> Result<Words<'_>, WordsFault> {
+pub fn read_words(alloc: Global, words: &[String]) -> Result<Given<'_>, WordsFault> {
     let matches = program(alloc)?.try_get_matches_from(words)?;
+    Ok(Given {
+        words: command(alloc, &matches)?,
+        is_verbose: matches.get_flag("verbose"),
+    })
+}
+
+/// Reads the command.
+fn command<'a>(alloc: Global, matches: &ArgMatches<'a>) -> Result<Words<'a>, AllocError> {
     Ok(match matches.subcommand() {
         Some(("sdp", _)) => Words::Sdp,
         Some(("rehearse", _)) => Words::Rehearse,

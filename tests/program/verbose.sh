@@ -1,0 +1,174 @@
+# --verbose: behind the line of a fault one more says where it is, and what was wanted there.
+
+# adds NAME STATUS OUTPUT FAULT PLACE: whether the last run ended so, with a line for the place behind the fault's.
+adds() {
+    says "verbose: $1" "$2" "$3" "st2110: $4
+  at $5"
+}
+here='standard input, line'
+
+# Scripts: FAULT|LINE AND ITS TEXT|WANTED|SCRIPT, without output before the fault.
+places() {
+    while IFS='|' read -r fault place wanted script; do
+        printf '%b' "$script" >in
+        "$program" "$1" --verbose <in >out 2>err
+        status=$?
+        adds "$1: $script" 1 '' "$fault" "$here $place; wanted $wanted"
+    done
+}
+head_form='format S B W H N/D'
+datagram_form='A HEX or B HEX, two digits for each of at most 65535 octets, or -'
+line_forms='A HEX, B HEX, slide TS, cell TS ROW COL COMP or numbers FIRST COUNT'
+places trace <<END
+script 1|1, ''|$head_form|
+script 3|3, ''|$head_form|\n\r\n
+script 1|1, 'formats'|$head_form|formats
+script 2|2, ''|open PT SSRC WINDOW|$format\n
+script 4|4, 'A -'|open PT SSRC WINDOW|\n$format\n\nA -\n
+script 3|3, 'A 8G'|$datagram_form|$open\nA 8G
+script 3|3, 'B'|$datagram_form|$open\nB\n
+script 3|3, 'slide x'|slide TS|$open\nslide x\n
+script 3|3, 'cell 900 0 0'|cell TS ROW COL COMP|$open\ncell 900 0 0\n
+script 4|4, 'numbers 1 2'|numbers FIRST COUNT, once|$open\nnumbers 1 2\nnumbers 1 2\n
+script 3|3, 'send'|$line_forms|$open\nsend\n
+script 3|3, 'A\t8\'\xff'|$line_forms|$open\nA\t8'\0377\n
+script 3|3, 'A 000000000000000000000000000000000000000000000000000000000 '|$datagram_form|$open\nA 000000000000000000000000000000000000000000000000000000000 \n
+script 3|3, 'A 0000000000000000000000000000000000000000000000000000000000..'|$datagram_form|$open\nA 00000000000000000000000000000000000000000000000000000000000\n
+format 1 BadWidth|2, 'format RGB 8 3 2 60/1'|an even width from 2 to 8192, of whole pgroups|\nformat RGB 8 3 2 60/1\n$format\n
+format 2 BadHeight|1, 'format RGB 8 4 0 60/1'|a height from 1 to 8192|format RGB 8 4 0 60/1\n
+format 3 BadRate|1, 'format RGB 8 4 2 0/1'|N and D from 1 to 1000000, and N/D from 1 to 300|format RGB 8 4 2 0/1
+open 2 BadWindow|3, 'open 96 any -'|1 to 16 timestamps|$format\n\nopen 96 any -\nA -\n
+open 3 DoubleTimestamp|2, 'open 96 any 9,9'|each timestamp once|$format\nopen 96 any 9,9\n
+numbers 2 BadCount|3, 'numbers 5 0'|a COUNT from 1 to 1048576|$open\nnumbers 5 0\nnumbers 5 0\n
+END
+event_forms='send, arrive R A I, arrive R B I, slide R TS or merge R S'
+begun="$format\nstamp 96 0 0 1\nmax 40\nwindow 0\nreceivers 2\n"
+shown="picture $u$l"
+places rehearse <<END
+script 2|2, 'max 40'|stamp PT FIRST TIMESTAMP SSRC|$format\nmax 40\n
+script 3|3, 'max'|max OCTETS|$format\nstamp 96 0 0 1\nmax\n
+script 4|4, 'window'|window WINDOW|$format\nstamp 96 0 0 1\nmax 40\nwindow
+script 5|5, 'receivers 256'|receivers N|$format\nstamp 96 0 0 1\nmax 40\nwindow 0\nreceivers 256\n
+script 6|6, 'picture 80'|picture HEX, two digits for each of its octets|${begun}picture 80\n
+script 6|6, 'A -'|picture HEX, $event_forms|${begun}A -\n
+script 7|7, 'picture 80'|$event_forms|${begun}send\npicture 80\n
+script 7|7, 'arrive 0 C 0'|arrive R A I or arrive R B I|${begun}send\narrive 0 C 0\n
+script 6|6, 'slide 0'|slide R TS|${begun}slide 0\n
+script 6|6, 'merge 0'|merge R S|${begun}merge 0\n
+format 2 BadHeight|1, 'format RGB 8 4 0 60/1'|a height from 1 to 8192|format RGB 8 4 0 60/1\n
+plan 2 BadPacketSize|3, 'max 23'|20 octets and a pgroup at least, and at most 9000|$format\nstamp 96 0 0 1\nmax 23\nwindow 0\nreceivers 2\n$shown
+play 2 BadEvent 1|10, 'send'|an event that can happen after those before it|$format\nstamp 96 0 0 1\nmax 42\nwindow 0\nreceivers 2\n\n$shown\nsend\n\nsend\nsend\n
+play 3 BadWindow|4, 'window -'|1 to 16 timestamps|$format\nstamp 96 0 0 1\nmax 40\nwindow -\nreceivers 2\n
+play 4 DoubleTimestamp|4, 'window 7,7'|each timestamp once|$format\nstamp 96 0 0 1\nmax 40\nwindow 7,7\nreceivers 2\n
+play 6 BadReceivers|5, 'receivers 9'|1 to 8 receivers|$format\nstamp 96 0 0 1\nmax 40\nwindow 0\nreceivers 9\n
+END
+pictures 10001 >in
+"$program" rehearse -v <in >out 2>err
+status=$?
+adds 'ten thousand pictures and one' 1 '' 'play 5 BadPictures' \
+    "$here 10006, 'picture 80108011'; wanted at most 10000 pictures"
+{ printf '%b\n' "$open\ncell 900 0 0 0"; printf 'A '; zeros 16777216; } >in
+"$program" trace -v <in >out 2>err
+status=$?
+adds 'a script that is too long' 1 missing 'script 4' \
+    "$here 4, 'A 0000000000000000000000000000000000000000000000000000000000..'; wanted a script of at most 16777216 octets"
+zeros 16777217 >in
+"$program" sdp -v <in >out 2>err
+status=$?
+adds 'an SDP text that is too long' 1 '' 'script 1' \
+    'standard input, octet 16777217; wanted at most 16777216 octets'
+printf '%b\n' "$open\nA $d1\nA 8" >in
+"$program" -v <in >out 2>err
+status=$?
+adds 'without a command' 1 'kept 1' 'script 4' "$here 4, 'A 8'; wanted $datagram_form"
+printf '%b\n' "$open\nA $d1" >in
+"$program" --verbose trace <in >out 2>err
+status=$?
+says 'verbose: without a fault nothing is told' 0 "kept 1
+$frame" ''
+
+# SDP texts: the octets that were read, and what was wanted.
+sdp_places() {
+    while IFS='|' read -r fault old new wanted; do
+        turn "$camera" "$old" "$new"
+        printf '%b' "$turned" >in
+        "$program" sdp -v <in >out 2>err
+        status=$?
+        adds "sdp: $fault" 1 '' "sdp $fault" "standard input, octet $(($(wc -c <in))); wanted $wanted"
+    done
+}
+sdp_places <<'END'
+2 NoVideo|m=video|m=audio|a line that begins m=video and a space
+4 BadMediaLine|5004 RTP|65536 RTP|m=video PORT RTP/AVP PT, PORT to 65535 and PT to 127
+5 NoRtpmap|a=rtpmap:112|a=rtpmap:113|a=rtpmap:PT for the payload type of the line m=video
+6 NotRaw90000|raw/90000|raw/48000|raw/90000 in a=rtpmap:PT
+7 NoFmtp|a=fmtp:112|a=fmtp:113|a=fmtp:PT for the payload type of the line m=video
+8 BadParameter|width=1920|width=|in a=fmtp:PT items NAME=VALUE, each value of its form
+9 DoubleParameter|TCS=SDR|TP=SDR|in a=fmtp:PT each name once
+10 MissingParameter|PM=2110GPM; ||sampling, width, height, exactframerate, depth, colorimetry, PM and SSN in a=fmtp:PT
+11 UnsupportedSampling|sampling=YCbCr-4:2:2|sampling=KEY|sampling=YCbCr-4:2:2, YCbCr-4:4:4 or RGB
+12 UnsupportedDepth|depth=10|depth=9|depth=8, 10, 12 or 16
+13 Interlaced|TCS=SDR|interlace|neither interlace nor segmented
+14 UnsupportedPacking|PM=2110GPM|PM=2110BPM|PM=2110GPM
+15 BadSsn|SSN=ST2110-20:2017|SSN=1|SSN=ST2110-20: and a year
+16 BadFormat|width=1920|width=1921|width, height and exactframerate of a format
+END
+turn "$second" width=1920 width=1280
+printf '%b' "$session$first$turned" >in
+"$program" -v sdp <in >out 2>err
+status=$?
+adds 'sdp: two sections' 1 '' 'sdp 17 LegsDiffer' "standard input, octet $(($(wc -c <in))); \
+wanted two sections with one payload type, format, range and colorimetry"
+
+# Files: COMMAND|STATUS|FAULT|PLACE. What is said of a file is how many of its octets were read.
+octets "5332305043503031" >x.pic
+head -c 37 p.pic >cut.pic
+head -c 40 both.cap >cut.cap
+octets "$opened 00 00000000 01 00000384 01 80108011" >cut.rcv
+while IFS='|' read -r words status_wanted fault place; do
+    # shellcheck disable=SC2086
+    run $words --verbose
+    adds "$words" "$status_wanted" '' "$fault" "$place"
+done <<END
+send --out v.cap no-such-file|3|device|no-such-file, octet 0; wanted to read there: No such file or directory (os error 2)
+send --out v.cap .|3|device|., octet 0; wanted to read there: Is a directory (os error 21)
+send --out v.cap --sdp no-such-file p.pic|3|device|no-such-file, octet 0; wanted to read there: No such file or directory (os error 2)
+send --out no-folder/v.cap p.pic|3|device|no-folder/v.cap; wanted to write there: No such file or directory (os error 2)
+send --out v.cap cut.pic|1|picture 5 Truncated|cut.pic, octet 37; wanted more octets: the file ends before it is whole
+send --out v.cap x.pic|1|picture 3 BadName|x.pic, octet 8; wanted a picture, which begins S20PIC
+send --out v.cap p.pic row.pic p.pic|1|send 1 FormatsDiffer|row.pic, octet 30; wanted a picture of the first one's format
+send --out v.cap --max 23 p.pic|1|plan 2 BadPacketSize|--max; wanted 20 octets and a pgroup at least, and at most 9000
+send --out v.cap --sdp empty p.pic|1|sdp 2 NoVideo|empty, octet 0; wanted a line that begins m=video and a space
+receive --state v.rcv --window - old.cap|1|receive 1 BadWindowText|--window; wanted timestamps with commas between
+receive --state v.rcv --window 9 --ssrc x old.cap|1|receive 2 BadSource|--ssrc; wanted a number or any
+receive --state v.rcv --window 9 old.cap|1|receive 4 NoSdp|old.cap, octet 8; wanted an SDP in the capture, or --sdp
+receive --state v.rcv --window 9,9 --sdp q.sdp old.cap|1|open 3 DoubleTimestamp|--window; wanted each timestamp once
+receive --state v.rcv --window 9 --sdp q.sdp old.cap cut.cap old.cap|1|capture 5 Truncated|cut.cap, octet 40; wanted more octets: the file ends before it is whole
+receive --state v.rcv --window 9 --sdp q.sdp old.cap path.cap|1|capture 6 BadField|path.cap, octet 19; wanted a path of 0 or 1
+receive --state v.rcv --window 9 --sdp q.sdp name.cap|1|capture 3 BadName|name.cap, octet 8; wanted a capture, which begins S20CAP
+receive --state v.rcv --window 9 --sdp q.sdp old.cap no-such-file|3|device|no-such-file, octet 0; wanted to read there: No such file or directory (os error 2)
+merge --state v.rcv g.rcv other.rcv|1|merge 1 OpenedUnlike|other.rcv, octet 45; wanted a receiver that was opened as the left one
+merge --state v.rcv cut.rcv g.rcv|1|state 5 Truncated|cut.rcv, octet 38; wanted more octets: the file ends before it is whole
+merge --state v.rcv g.rcv name.cap|1|state 3 BadName|name.cap, octet 8; wanted a receiver, which begins S20RCV
+merge --state v.rcv g.rcv no-such-file|3|device|no-such-file, octet 0; wanted to read there: No such file or directory (os error 2)
+migrate --sdp q.sdp --out v.cap new.cap|1|capture 4 BadVersion|new.cap, octet 8; wanted version 01, or for receive 01 or 02
+migrate --sdp no-such-file --out v.cap old.cap|3|device|no-such-file, octet 0; wanted to read there: No such file or directory (os error 2)
+migrate --sdp q.sdp --out no-folder/v.cap old.cap|3|device|no-folder/v.cap; wanted to write there: No such file or directory (os error 2)
+END
+# shellcheck disable=SC2046
+run -v send --out v.cap $(words 10001)
+adds 'ten thousand pictures and one, sent' 1 '' 'send 2 TooManyPictures' 'the pictures; wanted at most 10000 pictures'
+head -c 65536 /dev/zero >long.sdp
+run migrate -v --sdp long.sdp --out v.cap old.cap
+adds 'a long SDP' 1 '' 'migrate 1 SdpTooLong' 'long.sdp, octet 65536; wanted at most 65535 octets'
+run send -v --sdp long.sdp --out v.cap p.pic
+adds 'a long SDP, sent' 1 '' 'send 3 SdpTooLong' 'long.sdp, octet 65536; wanted at most 65535 octets'
+run merge -v --state /dev/full g.rcv g.rcv
+adds 'a full file' 3 "$frame" device '/dev/full; wanted to write there: No space left on device (os error 28)'
+"$program" sdp -v <q.sdp >/dev/full 2>err
+status=$?
+: >out
+adds 'a full output' 3 '' device 'standard output; wanted to write there: No space left on device (os error 28)'
+"$program" trace -v <. >out 2>err
+status=$?
+adds 'a folder as input' 3 '' device 'standard input, octet 0; wanted to read there: Is a directory (os error 21)'
