@@ -132,7 +132,7 @@ unfolding one_at
 two_again rest
     = ap (λ (r : Result Kinded FileFault). r >>= read_one) (kind_tells picture_name Two rest refl)
 
-neither : (version : List ℕ) → (version ≡ codes "01" → ⊥) → (version ≡ codes "02" → ⊥)
+pub neither : (version : List ℕ) → (version ≡ codes "01" → ⊥) → (version ≡ codes "02" → ⊥)
     → (v : Version) → version ≡ version_text v → ⊥
 neither version one two One p = one p
 neither version one two Two p = two p
@@ -185,11 +185,11 @@ block_fault octets rest e whole h =
       ]
     ]
 
-record Stands (octets : List ℕ) (x : Formed) : Type 0 where
-  format : IsFormat x.0
-  text : octets ≡ format_text x.0 ++ x.1
+pub record Stands (octets : List ℕ) (x : Formed) : Type 0 where
+  pub format : IsFormat x.0
+  pub text : octets ≡ format_text x.0 ++ x.1
 
-block_stands : (rest : List ℕ) (x : Formed) → AreOctets rest → block_at rest ≡ Ok x → Stands rest x
+pub block_stands : (rest : List ℕ) (x : Formed) → AreOctets rest → block_at rest ≡ Ok x → Stands rest x
 unfolding block_at
 block_stands rest x bytes h =
     let t = split_then (field_at 14 rest) read_block x h in
@@ -207,7 +207,7 @@ block_stands rest x bytes h =
     } in
     subst (Stands rest) same made
 
-block_tells : (f : Fields) (behind : List ℕ) → IsFormat f
+pub block_tells : (f : Fields) (behind : List ℕ) → IsFormat f
     → block_at (format_text f ++ behind) ≡ Ok (f, behind)
 unfolding block_at
 block_tells f behind is =
@@ -215,7 +215,7 @@ block_tells f behind is =
     (field_again 14 (format_text f) behind refl)
     ∙ ap (λ (r : Result Fields FileFault). with_rest r behind) (block_again f is)
 
-block_short : (behind : List ℕ) → length behind < 14 → block_at behind ≡ Err Truncated
+pub block_short : (behind : List ℕ) → length behind < 14 → block_at behind ≡ Err Truncated
 unfolding block_at
 block_short behind lt
     = ap (λ (r : Result Part FileFault). r >>= read_block) (field_short 14 behind lt)
@@ -227,7 +227,7 @@ refused block (Ok f) bytes len none is = let b = block_read block f bytes len is
     absurd (none f b.format b.text)
 refused block (Err e) bytes len none is = ap (failed Fields) (sym (block_fails block e len is))
 
-block_refused : (block behind : List ℕ) → AreOctets (block ++ behind) → length block ≡ 14
+pub block_refused : (block behind : List ℕ) → AreOctets (block ++ behind) → length block ≡ 14
     → ((f : Fields) → IsFormat f → block ≡ format_text f → ⊥)
     → block_at (block ++ behind) ≡ Err BadField
 unfolding block_at
@@ -241,12 +241,12 @@ block_refused block behind bytes len none =
 
 -- ---- the pixel groups, and the end
 
-nothing_fails : (octets : List ℕ) (e : FileFault) → nothing_at octets ≡ Err e
+pub nothing_fails : (octets : List ℕ) (e : FileFault) → nothing_at octets ≡ Err e
     → (TrailingBytes ≡ e) × (0 < length octets)
 nothing_fails [] e h = absurd (not_both (⊤ × List ℕ) (tt, []) e h)
 nothing_fails (octet ∷ octets) e h = (same_fault (⊤ × List ℕ) TrailingBytes e h, omega arith)
 
-nothing_tells : (octets : List ℕ) → 0 < length octets → nothing_at octets ≡ Err TrailingBytes
+pub nothing_tells : (octets : List ℕ) → 0 < length octets → nothing_at octets ≡ Err TrailingBytes
 nothing_tells [] more = absurd (omega arith)
 nothing_tells (octet ∷ octets) more = refl
 

@@ -5,36 +5,34 @@ use Rattle.std.specs.Int.{w32, from_be_bytes, to_be_bytes}
 use Rattle.std.specs.List.{AllByRecursion, flat_map, list_any}
 use Rattle.std.proofs.lemmas.Bool.{cases_Bool, le-ltb, ne_eqb}
 use Rattle.std.proofs.lemmas.List.{length-map}
-use Rattle.std.proofs.lemmas.Nat.{from_be_bytes-to_be_bytes_2, from_be_bytes-to_be_bytes_4}
+use Rattle.std.proofs.lemmas.Nat.{from_be_bytes-to_be_bytes_4}
 use Rattle.st_format.specs.declared.cell.Cell.{Cell}
-use Rattle.st_format.specs.declared.sampling.Sampling.{Sampling}
-use Rattle.st_format.specs.declared.sampling.Sampling.TheVariants.{Ycc422, Ycc444, Rgb}
-use Rattle.st_format.specs.declared.sampling.Depth.{Depth}
-use Rattle.st_format.specs.declared.sampling.Depth.TheVariants.{D8, D10, D12, D16}
-use Rattle.st_format.specs.Fields.{Fields, format_at}
+use Rattle.st_format.specs.Fields.{Fields}
 use Rattle.st_format.specs.Member.{IsMember}
-use Rattle.st_format.specs.Pgroup.{bits_of}
 use Rattle.path_merge.specs.Frames.{State}
 use Rattle.path_merge.specs.Opening.{AreDifferent}
 use Rattle.path_merge.proofs.Answered.{member_from_any}
 use Rattle.capture_file.specs.declared.fault.FileFault.{FileFault}
 use Rattle.capture_file.specs.declared.fault.FileFault.TheVariants.{NoMemory, Device, BadName, BadVersion, Truncated, BadField, TrailingBytes, MixedGroup, TooManyRecords}
 use Rattle.capture_file.specs.declared.front.Version.TheVariants.{One}
-use Rattle.capture_file.specs.Blocks.{block_at, block_of, depth_of, sampling_of}
+use Rattle.capture_file.specs.Blocks.{block_at}
 use Rattle.capture_file.specs.Faults.{IfContent, IsMachine}
 use Rattle.capture_file.specs.Fields.{◌>>=◌, Fails, Gives, Leaves}
 use Rattle.capture_file.specs.Fronts.{kind_at, kind_of, kind_text, receiver_name, with_rest}
 use Rattle.capture_file.specs.Groups.{Shape, groups_at, groups_text, shape_of}
-use Rattle.capture_file.specs.StateFile.{HasRoom, Held, IsHeld, Kept, SsrcFits, format_text, group_count, held_text, opening_text, sampling_code, ssrc_text, state_text}
-use Rattle.capture_file.proofs.Blocked.{block_parts, lowest_good}
+use Rattle.capture_file.specs.PictureFaults.{IsFormat}
+use Rattle.capture_file.specs.StateFile.{Held, IsHeld, Kept, SsrcFits, format_text, group_count, held_text, opening_text, ssrc_text, state_text}
 use Rattle.capture_file.proofs.Grouped.{groups_again}
 use Rattle.capture_file.proofs.Once.{shape_is}
+use Rattle.capture_file.proofs.PictureFaults.{block_tells}
 use Rattle.capture_file.proofs.Splits.{field_again}
 use Rattle.receiver_file.specs.declared.front.Head.{Head}
 use Rattle.receiver_file.specs.Front.{count_at, count_of, flag_at, flag_of, head_at, name_at, only_one, payload_type_at, payload_type_of, ssrc_at, ssrc_of}
 use Rattle.receiver_file.specs.Numbers.{number_at}
 use Rattle.receiver_file.specs.Saved.{IsSaved, kept_of, timestamp_in}
+use Rattle.receiver_file.specs.StateFaults.{IsHead, block_front, frames_front, head_text}
 use Rattle.receiver_file.specs.StateReading.{all_held_at, end_at, held_at, new_of, state_at, timestamp_at}
+use Rattle.receiver_file.proofs.Found.{behind_block, behind_frames, behind_head, with_head, with_kept}
 use Rattle.receiver_file.proofs.KnownReads.{octet_is}
 
 abbrev Field : Type 0
@@ -52,48 +50,30 @@ unfolding name_at kind_at
 name_again rest =
     ap (λ (r : Field). (r >>= λ x. with_rest (kind_of receiver_name x.0) x.1) >>= λ x. with_rest (only_one x.0) x.1) (field_again 8 (kind_text receiver_name One) rest refl)
 
--- a format block
-sampling_again : (s : Sampling) → Ok s ≡ sampling_of (sampling_code s)
-sampling_again Ycc422 = refl
-sampling_again Ycc444 = refl
-sampling_again Rgb = refl
-
-depth_again : (b : Depth) → Ok b ≡ depth_of (bits_of b)
-depth_again D8 = refl
-depth_again D10 = refl
-depth_again D12 = refl
-depth_again D16 = refl
-
-format_again : (f : Fields) (rest : List ℕ) → HasRoom f → format_at f.sampling f.depth f.width f.height f.n f.d ≡ Ok f → block_at (format_text f ++ rest) ≡ Ok (f, rest)
-unfolding block_at
-format_again f rest room is =
-    let block : List ℕ = format_text f in
-    let whole : Ok f ≡ block_of block =
-    block_parts block (Ok f) f.sampling f.depth f.width f.height f.n f.d (sampling_again f.sampling) (depth_again f.depth) (sym (from_be_bytes-to_be_bytes_2 f.width room.width)) (sym (from_be_bytes-to_be_bytes_2 f.height room.height))
-    (sym (from_be_bytes-to_be_bytes_4 f.n room.n)) (sym (from_be_bytes-to_be_bytes_4 f.d room.d)) (lowest_good f (format_at f.sampling f.depth f.width f.height f.n f.d) f.n f.d (sym is) refl refl) in
-    ap (λ (r : Field). r >>= λ x. with_rest (block_of x.0) x.1) (field_again 14 block rest refl) ∙ ap (λ (r : Result Fields FileFault). with_rest r rest) (sym whole)
-
 -- the fields behind it
-number_again : (n : ℕ) (rest : List ℕ) → n < 2 ^ 32 → number_at (to_be_bytes w32 n ++ rest) ≡ Ok (n, rest)
+pub number_again : (n : ℕ) (rest : List ℕ) → n < 2 ^ 32
+    → number_at (to_be_bytes w32 n ++ rest) ≡ Ok (n, rest)
 unfolding number_at
 number_again n rest lt =
     ap (λ (r : Field). r >>= λ x. read_number (from_be_bytes w32 x.0) x.1) (field_again 4 (to_be_bytes w32 n) rest refl) ∙ ap (λ (m : ℕ). read_number m rest) (from_be_bytes-to_be_bytes_4 n lt)
 
-type_again : (n : ℕ) (rest : List ℕ) → n < 128 → payload_type_at (n ∷ rest) ≡ Ok (n, rest)
+pub type_again : (n : ℕ) (rest : List ℕ) → n < 128
+    → payload_type_at (n ∷ rest) ≡ Ok (n, rest)
 unfolding payload_type_at
 type_again n rest lt =
     ap (λ (r : Number). r >>= λ x. with_rest (payload_type_of x.0) x.1) (octet_is n rest)
     ∙ ap (λ (b : Bool). let r : Result ℕ FileFault = cond b (Err BadField) (Ok n) in with_rest r rest) (le-ltb 127 n (omega arith))
 
-flag_off : (rest : List ℕ) → flag_at (0 ∷ rest) ≡ Ok (false, rest)
+pub flag_off : (rest : List ℕ) → flag_at (0 ∷ rest) ≡ Ok (false, rest)
 unfolding flag_at
 flag_off rest = ap (λ (r : Number). r >>= λ x. with_rest (flag_of x.0) x.1) (octet_is 0 rest)
 
-flag_on : (rest : List ℕ) → flag_at (1 ∷ rest) ≡ Ok (true, rest)
+pub flag_on : (rest : List ℕ) → flag_at (1 ∷ rest) ≡ Ok (true, rest)
 unfolding flag_at
 flag_on rest = ap (λ (r : Number). r >>= λ x. with_rest (flag_of x.0) x.1) (octet_is 1 rest)
 
-ssrc_again : (s : Option ℕ) (rest : List ℕ) → SsrcFits s → ssrc_at (ssrc_text s ++ rest) ≡ Ok (s, rest)
+pub ssrc_again : (s : Option ℕ) (rest : List ℕ) → SsrcFits s
+    → ssrc_at (ssrc_text s ++ rest) ≡ Ok (s, rest)
 unfolding ssrc_at
 ssrc_again None rest fits =
     ap (λ (r : Result (Bool × List ℕ) FileFault). r >>= λ x. number_at x.1 >>= λ n. with_rest (ssrc_of x.0 n.0) n.1) (flag_off (to_be_bytes w32 0 ++ rest))
@@ -109,21 +89,25 @@ count_again n rest some few =
     ∙ ap (λ (b : Bool). let r : Result ℕ FileFault = cond (b || ltb 16 n) (Err BadField) (Ok n) in with_rest r rest) (ne_eqb n 0 (λ (e : n ≡ 0). omega arith))
     ∙ ap (λ (b : Bool). let r : Result ℕ FileFault = cond b (Err BadField) (Ok n) in with_rest r rest) (le-ltb 16 n few)
 
-abbrev head_made : ℕ → Option ℕ → ℕ → List ℕ → Result (Head × List ℕ) FileFault
-head_made p s n rest = Ok (record { payload_type = p; ssrc = s; count = n }, rest)
-
-head_again : (k : Kept) (rest : List ℕ) → k.payload_type < 128 → SsrcFits k.ssrc → 0 < length k.frames → length k.frames ≤ 16 → head_at (opening_text k ++ rest) ≡ head_made k.payload_type k.ssrc (length k.frames) rest
+pub head_again : (h : Head) (rest : List ℕ) → IsHead h
+    → head_at (head_text h ++ rest) ≡ with_head h.payload_type h.ssrc h.count rest
 unfolding head_at
-head_again k rest seven fits some few =
-    ap (λ (t : List ℕ). head_at (k.payload_type ∷ t)) (append_assoc (ssrc_text k.ssrc) (length k.frames ∷ []) rest)
-    ∙ ap (λ (r : Number). r >>= λ p. ssrc_at p.1 >>= λ s. count_at s.1 >>= λ n. head_made p.0 s.0 n.0 n.1) (type_again k.payload_type (ssrc_text k.ssrc ++ length k.frames ∷ rest) seven)
-    ∙ ap (λ (r : Result (Option ℕ × List ℕ) FileFault). r >>= λ s. count_at s.1 >>= λ n. head_made k.payload_type s.0 n.0 n.1) (ssrc_again k.ssrc (length k.frames ∷ rest) fits)
-    ∙ ap (λ (r : Number). r >>= λ n. head_made k.payload_type k.ssrc n.0 n.1) (count_again (length k.frames) rest some few)
+head_again h rest is =
+    ap (λ (t : List ℕ). head_at (h.payload_type ∷ t))
+    (append_assoc (ssrc_text h.ssrc) (h.count ∷ []) rest)
+    ∙ ap (λ (r : Number). r >>= λ p. ssrc_at p.1 >>= λ s. count_at s.1 >>= λ n.
+    with_head p.0 s.0 n.0 n.1)
+    (type_again h.payload_type (ssrc_text h.ssrc ++ h.count ∷ rest) is.payload_type)
+    ∙ ap (λ (r : Result (Option ℕ × List ℕ) FileFault). r >>= λ s. count_at s.1 >>= λ n.
+    with_head h.payload_type s.0 n.0 n.1)
+    (ssrc_again h.ssrc (h.count ∷ rest) is.ssrc)
+    ∙ ap (λ (r : Number). r >>= λ n. with_head h.payload_type h.ssrc n.0 n.1)
+    (count_again h.count rest is.count.some is.count.most)
 
 -- ---- the frames
 
 -- timestamps that none of those before is
-abbrev AreNew : List ℕ → List Held → Type 0
+abbrev pub AreNew : List ℕ → List Held → Type 0
 AreNew before [] = ⊤
 AreNew before (h ∷ hs) = (IsMember h.timestamp before → ⊥) × AreNew (before ++ h.timestamp ∷ []) hs
 
@@ -136,25 +120,28 @@ different_out [] w t d m = m
 different_out (x ∷ before) w t d (inl e) = d.0 (member_mid x t before w (sym e))
 different_out (x ∷ before) w t d (inr m) = different_out before w t d.1 m
 
-new_all : (before : List ℕ) (hs : List Held) → AreDifferent (before ++ map timestamp_in hs) → AreNew before hs
+pub new_all : (before : List ℕ) (hs : List Held) → AreDifferent (before ++ map timestamp_in hs)
+    → AreNew before hs
 new_all before [] d = tt
 new_all before (h ∷ hs) d =
     (different_out before (map timestamp_in hs) h.timestamp d, new_all (before ++ h.timestamp ∷ []) hs (subst AreDifferent (sym (append_assoc before (h.timestamp ∷ []) (map timestamp_in hs))) d))
 
-stamp_again : (before : List ℕ) (t : ℕ) (rest : List ℕ) → t < 2 ^ 32 → (IsMember t before → ⊥) → timestamp_at before (to_be_bytes w32 t ++ rest) ≡ Ok (t, rest)
+pub stamp_again : (before : List ℕ) (t : ℕ) (rest : List ℕ) → t < 2 ^ 32
+    → (IsMember t before → ⊥) → timestamp_at before (to_be_bytes w32 t ++ rest) ≡ Ok (t, rest)
 unfolding timestamp_at
 stamp_again before t rest lt out =
     let none : list_any (λ u. eqb u t) before ≡ false =
     elim (cases_Bool (list_any (λ u. eqb u t) before)) [ inl there ↦ absurd (out (member_from_any t before there)) | inr not_there ↦ not_there ] in
     ap (λ (r : Number). r >>= λ x. with_rest (new_of before x.0) x.1) (number_again t rest lt) ∙ ap (λ (b : Bool). let r : Result ℕ FileFault = cond b (Err BadField) (Ok t) in with_rest r rest) none
 
-abbrev One_frame : Type 0
+abbrev pub One_frame : Type 0
 One_frame = Result (Held × List ℕ) FileFault
 
 abbrev held_made : ℕ → List (List Cell) → List ℕ → One_frame
 held_made t gs rest = Ok (record { timestamp = t; groups = gs }, rest)
 
-held_again : (f : Fields) (before : List ℕ) (h : Held) (rest : List ℕ) → IsHeld f h → (IsMember h.timestamp before → ⊥) → held_at f before (held_text f h ++ rest) ≡ Ok (h, rest)
+pub held_again : (f : Fields) (before : List ℕ) (h : Held) (rest : List ℕ) → IsHeld f h
+    → (IsMember h.timestamp before → ⊥) → held_at f before (held_text f h ++ rest) ≡ Ok (h, rest)
 unfolding held_at
 held_again f before h rest is out =
     let s : Shape = shape_of f.sampling f.depth in
@@ -163,13 +150,15 @@ held_again f before h rest is out =
     ∙ ap (λ (r : Result (List (List Cell) × List ℕ) FileFault). r >>= λ g. held_made h.timestamp g.0 g.1)
     (ap (λ (n : ℕ). groups_at s n (groups_text s h.groups ++ rest)) (sym is.count) ∙ groups_again s h.groups rest (shape_is f.sampling f.depth) is.groups)
 
-abbrev Frames_read : Type 0
+abbrev pub Frames_read : Type 0
 Frames_read = Result (List Held × List ℕ) FileFault
 
 abbrev ok_frames : List Held → List ℕ → Frames_read
 ok_frames hs rest = Ok (hs, rest)
 
-all_again : (f : Fields) (before : List ℕ) (hs : List Held) (rest : List ℕ) → AllByRecursion (IsHeld f) hs → AreNew before hs → all_held_at f (length hs) before (flat_map (held_text f) hs ++ rest) ≡ Ok (hs, rest)
+all_again : (f : Fields) (before : List ℕ) (hs : List Held) (rest : List ℕ)
+    → AllByRecursion (IsHeld f) hs → AreNew before hs
+    → all_held_at f (length hs) before (flat_map (held_text f) hs ++ rest) ≡ Ok (hs, rest)
 unfolding all_held_at
 all_again f before [] rest all new = refl
 all_again f before (h ∷ hs) rest all new =
@@ -179,24 +168,61 @@ all_again f before (h ∷ hs) rest all new =
 
 -- ---- the file
 
-abbrev kept_made : Fields → Head → List Held → List ℕ → Result (Kept × List ℕ) FileFault
-kept_made f p hs rest = Ok (record { format = f; payload_type = p.payload_type; ssrc = p.ssrc; frames = hs }, rest)
+abbrev Named : Type 0
+Named = Result (Unit {0} × List ℕ) FileFault
+
+pub state_named : (rest : List ℕ)
+    → state_at (kind_text receiver_name One ++ rest) ≡ (block_at rest >>= behind_block)
+unfolding state_at
+state_named rest = ap (λ (r : Named). r >>= λ a. block_at a.1 >>= behind_block) (name_again rest)
+
+pub state_formed : (f : Fields) (rest : List ℕ) → IsFormat f
+    → state_at (block_front f ++ rest) ≡ (head_at rest >>= behind_head f)
+state_formed f rest is =
+    ap state_at (append_assoc (kind_text receiver_name One) (format_text f) rest)
+    ∙ state_named (format_text f ++ rest)
+    ∙ ap (λ (r : Result (Fields × List ℕ) FileFault). r >>= behind_block) (block_tells f rest is)
+
+pub state_headed : (f : Fields) (h : Head) (rest : List ℕ) → IsFormat f → IsHead h
+    → state_at ((block_front f ++ head_text h) ++ rest)
+    ≡ (all_held_at f h.count [] rest >>= behind_frames f h)
+state_headed f h rest is head =
+    ap state_at (append_assoc (block_front f) (head_text h) rest)
+    ∙ state_formed f (head_text h ++ rest) is
+    ∙ ap (λ (r : Result (Head × List ℕ) FileFault). r >>= behind_head f) (head_again h rest head)
+
+abbrev pub head_of : Kept → Head
+head_of k = record { payload_type = k.payload_type; ssrc = k.ssrc; count = length k.frames }
+
+pub state_parts : (k : Kept) → frames_front k.format (head_of k) k.frames ≡ state_text k
+state_parts k =
+    let texts : List ℕ = flat_map (held_text k.format) k.frames in
+    append_assoc (block_front k.format) (opening_text k) texts
+    ∙ append_assoc (kind_text receiver_name One) (format_text k.format) (opening_text k ++ texts)
+
+-- a whole file, and what stands behind it
+pub state_whole : (k : Kept) (rest : List ℕ) → IsSaved k
+    → state_at (state_text k ++ rest) ≡ (end_at rest >>= λ z. with_kept k z.1)
+state_whole k rest is =
+    let texts : List ℕ = flat_map (held_text k.format) k.frames in
+    let some : 0 < length k.frames
+    = omega (arith, length-map k.frames timestamp_in, is.window.size.some) in
+    let few : length k.frames ≤ 16
+    = omega (arith, length-map k.frames timestamp_in, is.window.size.most) in
+    let head : IsHead (head_of k) = record {
+      payload_type = is.payload_type;
+      ssrc = is.kept.ssrc;
+      count = record { some = some; most = few };
+    } in
+    ap (λ (t : List ℕ). state_at (t ++ rest)) (sym (state_parts k))
+    ∙ ap state_at (append_assoc (block_front k.format ++ opening_text k) texts rest)
+    ∙ state_headed k.format (head_of k) (texts ++ rest)
+    (record { room = is.kept.room; is = is.format }) head
+    ∙ ap (λ (r : Frames_read). r >>= behind_frames k.format (head_of k))
+    (all_again k.format [] k.frames rest is.kept.frames (new_all [] k.frames is.window.different))
 
 pub state_again : (k : Kept) → IsSaved k → state_at (state_text k) ≡ Ok (k, [])
-unfolding state_at
-state_again k is =
-    let texts : List ℕ = flat_map (held_text k.format) k.frames in
-    let head : Head = record { payload_type = k.payload_type; ssrc = k.ssrc; count = length k.frames } in
-    let some : 0 < length k.frames = omega (arith, length-map k.frames timestamp_in, is.window.size.some) in
-    let few : length k.frames ≤ 16 = omega (arith, length-map k.frames timestamp_in, is.window.size.most) in
-    ap (λ (r : Result (Unit {0} × List ℕ) FileFault). r >>= λ a. block_at a.1 >>= λ f. head_at f.1 >>= λ p. all_held_at f.0 p.0.count [] p.1 >>= λ h. end_at h.1 >>= λ z. kept_made f.0 p.0 h.0 z.1)
-    (name_again (format_text k.format ++ (opening_text k ++ texts)))
-    ∙ ap (λ (r : Result (Fields × List ℕ) FileFault). r >>= λ f. head_at f.1 >>= λ p. all_held_at f.0 p.0.count [] p.1 >>= λ h. end_at h.1 >>= λ z. kept_made f.0 p.0 h.0 z.1)
-    (format_again k.format (opening_text k ++ texts) is.kept.room is.format)
-    ∙ ap (λ (r : Result (Head × List ℕ) FileFault). r >>= λ p. all_held_at k.format p.0.count [] p.1 >>= λ h. end_at h.1 >>= λ z. kept_made k.format p.0 h.0 z.1)
-    (head_again k texts is.payload_type is.kept.ssrc some few)
-    ∙ ap (λ (r : Frames_read). r >>= λ h. end_at h.1 >>= λ z. kept_made k.format head h.0 z.1)
-    (ap (all_held_at k.format (length k.frames) []) (sym (append-nil texts)) ∙ all_again k.format [] k.frames [] is.kept.frames (new_all [] k.frames is.window.different))
+state_again k is = ap state_at (sym (append-nil (state_text k))) ∙ state_whole k [] is
 
 -- ---- what a reader of receivers' files owes
 

@@ -1,6 +1,6 @@
 -- What is read as a receiver's file is its text.
 use Rattle.std.proofs.Common.{◌≡◌, ℕ, zero, suc, Bool, true, false, cond, ◌||◌, eqb, ltb, List, [], ◌∷◌, ◌++◌, length, get_or, Option, None, Some, Result, Ok, Err, append_assoc, append-nil, refl, sym, ap, ◌∙◌, subst, inl, inr, arith}
-use Rattle.std.specs.Prelude.{IfOk, OnOk}
+use Rattle.std.specs.Prelude.{IfOk}
 use Rattle.std.specs.Int.{w32, from_be_bytes, to_be_bytes}
 use Rattle.std.specs.List.{flat_map, list_any}
 use Rattle.std.proofs.lemmas.Bool.{eqb-true}
@@ -26,6 +26,7 @@ use Rattle.receiver_file.specs.declared.front.Head.{Head}
 use Rattle.receiver_file.specs.Front.{count_at, flag_at, flag_of, head_at, name_at, only_one, payload_type_at, ssrc_at, ssrc_of}
 use Rattle.receiver_file.specs.Numbers.{number_at, octet_at}
 use Rattle.receiver_file.specs.Saved.{IsSaved, IsWritable, kept_of}
+use Rattle.receiver_file.specs.StateFaults.{flag_octet, head_text}
 use Rattle.receiver_file.specs.StateReading.{all_held_at, end_at, held_at, state_at, timestamp_at}
 use Rattle.receiver_file.proofs.GroupsFound.{behind, cut_takes, groups_take}
 use Rattle.receiver_file.proofs.Savable.{writable_saved}
@@ -35,7 +36,7 @@ use Rattle.receiver_file.proofs.Savable.{writable_saved}
 abbrev Number : Type 0
 Number = Result (ℕ × List ℕ) FileFault
 
-abbrev with_number : ℕ → List ℕ → Number
+abbrev pub with_number : ℕ → List ℕ → Number
 with_number n rest = Ok (n, rest)
 
 one_octet : (o : List ℕ) → length o ≡ 1 → o ≡ get_or o 0 0 ∷ []
@@ -43,7 +44,7 @@ one_octet [] e = absurd (omega (arith, e))
 one_octet (x ∷ []) e = refl
 one_octet (x ∷ y ∷ o) e = absurd (omega (arith, e))
 
-octet_takes : (octets : List ℕ) (x : ℕ × List ℕ) → AreOctets octets → octet_at octets ≡ Ok x
+pub octet_takes : (octets : List ℕ) (x : ℕ × List ℕ) → AreOctets octets → octet_at octets ≡ Ok x
     → octets ≡ x.0 ∷ x.1
 unfolding octet_at
 octet_takes octets x bytes e =
@@ -53,7 +54,7 @@ octet_takes octets x bytes e =
     c.text ∙ ap (λ (t : List ℕ). t ++ a.first.1) (one_octet a.first.0 c.size)
     ∙ ap (λ (p : ℕ × List ℕ). p.0 ∷ p.1) same
 
-number_takes : (octets : List ℕ) (x : ℕ × List ℕ) → AreOctets octets → number_at octets ≡ Ok x
+pub number_takes : (octets : List ℕ) (x : ℕ × List ℕ) → AreOctets octets → number_at octets ≡ Ok x
     → octets ≡ to_be_bytes w32 x.0 ++ x.1
 unfolding number_at
 number_takes octets x bytes e =
@@ -70,7 +71,7 @@ passes true n m e = let wrong : failed ℕ BadField ≡ Ok m = e in absurd cc
 passes false n m e = ap (λ (r : Result ℕ FileFault). given r m) e
 
 -- a number that is read and passes a test
-read_passes : (r : Number) (test : ℕ → Bool) (x : ℕ × List ℕ)
+pub read_passes : (r : Number) (test : ℕ → Bool) (x : ℕ × List ℕ)
     → (r >>= λ y. with_rest (cond (test y.0) (failed ℕ BadField) (Ok y.0)) y.1) ≡ Ok x → r ≡ Ok x
 read_passes r test x e =
     let a = split_then r (λ y. with_rest (cond (test y.0) (failed ℕ BadField) (Ok y.0)) y.1) x e in
@@ -88,10 +89,10 @@ only_is : (octets rest : List ℕ) (v : Version) (u : Unit {0})
 only_is octets rest One u p e = p
 only_is octets rest Two u p e = let bad : failed (Unit {0}) BadVersion ≡ Ok u = e in absurd cc
 
-abbrev with_unit : Unit {0} → List ℕ → Result (Unit {0} × List ℕ) FileFault
+abbrev pub with_unit : Unit {0} → List ℕ → Result (Unit {0} × List ℕ) FileFault
 with_unit u rest = Ok (u, rest)
 
-name_takes : (octets : List ℕ) (x : Unit {0} × List ℕ) → name_at octets ≡ Ok x
+pub name_takes : (octets : List ℕ) (x : Unit {0} × List ℕ) → name_at octets ≡ Ok x
     → octets ≡ kind_text receiver_name One ++ x.1
 unfolding name_at
 name_takes octets x e =
@@ -102,13 +103,13 @@ name_takes octets x e =
     only_is octets a.first.1 a.first.0 b.first (kind_takes receiver_name octets a.first a.is) b.is
     ∙ ap (λ (p : Unit {0} × List ℕ). kind_text receiver_name One ++ p.1) same
 
-type_takes : (octets : List ℕ) (x : ℕ × List ℕ) → AreOctets octets → payload_type_at octets ≡ Ok x
+pub type_takes : (octets : List ℕ) (x : ℕ × List ℕ) → AreOctets octets → payload_type_at octets ≡ Ok x
     → octets ≡ x.0 ∷ x.1
 unfolding payload_type_at
 type_takes octets x bytes e =
     octet_takes octets x bytes (read_passes (octet_at octets) (λ n. ltb 127 n) x e)
 
-count_takes : (octets : List ℕ) (x : ℕ × List ℕ) → AreOctets octets → count_at octets ≡ Ok x
+pub count_takes : (octets : List ℕ) (x : ℕ × List ℕ) → AreOctets octets → count_at octets ≡ Ok x
     → octets ≡ x.0 ∷ x.1
 unfolding count_at
 count_takes octets x bytes e =
@@ -117,28 +118,23 @@ count_takes octets x bytes e =
 abbrev ok_flag : Bool → Result Bool FileFault
 ok_flag b = Ok b
 
-abbrev with_flag : Bool → List ℕ → Result (Bool × List ℕ) FileFault
+abbrev pub with_flag : Bool → List ℕ → Result (Bool × List ℕ) FileFault
 with_flag b rest = Ok (b, rest)
 
--- the octet of a flag
-abbrev flag_code : Bool → ℕ
-flag_code false = 0
-flag_code true = 1
-
-flag_is : (n : ℕ) (b : Bool) → flag_of n ≡ Ok b → n ≡ flag_code b
+flag_is : (n : ℕ) (b : Bool) → flag_of n ≡ Ok b → n ≡ flag_octet b
 flag_is n b e =
     let other : Result Bool FileFault = cond (eqb n 1) (ok_flag true) (failed Bool BadField) in
     elim (chosen (eqb n 0) (ok_flag false) other (Ok b) e) [
-      | inl w ↦ eqb-true n 0 w.0 ∙ ap flag_code (ap (λ (r : Result Bool FileFault). given r b) w.1)
+      | inl w ↦ eqb-true n 0 w.0 ∙ ap flag_octet (ap (λ (r : Result Bool FileFault). given r b) w.1)
       | inr w ↦ elim (chosen (eqb n 1) (ok_flag true) (failed Bool BadField) (Ok b) w.1) [
         | inl u ↦
-            eqb-true n 1 u.0 ∙ ap flag_code (ap (λ (r : Result Bool FileFault). given r b) u.1)
+            eqb-true n 1 u.0 ∙ ap flag_octet (ap (λ (r : Result Bool FileFault). given r b) u.1)
         | inr u ↦ let bad : failed Bool BadField ≡ Ok b = u.1 in absurd cc
       ]
     ]
 
-flag_takes : (octets : List ℕ) (x : Bool × List ℕ) → AreOctets octets → flag_at octets ≡ Ok x
-    → octets ≡ flag_code x.0 ∷ x.1
+pub flag_takes : (octets : List ℕ) (x : Bool × List ℕ) → AreOctets octets → flag_at octets ≡ Ok x
+    → octets ≡ flag_octet x.0 ∷ x.1
 unfolding flag_at
 flag_takes octets x bytes e =
     let a = split_then (octet_at octets) (λ y. with_rest (flag_of y.0) y.1) x e in
@@ -147,7 +143,7 @@ flag_takes octets x bytes e =
     = ap (λ (r : Result (Bool × List ℕ) FileFault). given r x) b.next in
     octet_takes octets a.first bytes a.is
     ∙ ap (λ (n : ℕ). n ∷ a.first.1) (flag_is a.first.0 b.first b.is)
-    ∙ ap (λ (p : Bool × List ℕ). flag_code p.0 ∷ p.1) same
+    ∙ ap (λ (p : Bool × List ℕ). flag_octet p.0 ∷ p.1) same
 
 abbrev Source : Type 0
 Source = Result (Option ℕ) FileFault
@@ -155,11 +151,11 @@ Source = Result (Option ℕ) FileFault
 abbrev no_source : Source
 no_source = Ok None
 
-abbrev with_source : Option ℕ → List ℕ → Result (Option ℕ × List ℕ) FileFault
+abbrev pub with_source : Option ℕ → List ℕ → Result (Option ℕ × List ℕ) FileFault
 with_source s rest = Ok (s, rest)
 
 ssrc_is : (pinned : Bool) (n : ℕ) (s : Option ℕ) → ssrc_of pinned n ≡ Ok s
-    → flag_code pinned ∷ to_be_bytes w32 n ≡ ssrc_text s
+    → flag_octet pinned ∷ to_be_bytes w32 n ≡ ssrc_text s
 ssrc_is true n s e = ap (λ (r : Source). ssrc_text (given r s)) e
 ssrc_is false n s e =
     elim (chosen (eqb n 0) no_source (failed (Option ℕ) BadField) (Ok s) e) [
@@ -169,7 +165,7 @@ ssrc_is false n s e =
       | inr w ↦ let bad : failed (Option ℕ) BadField ≡ Ok s = w.1 in absurd cc
     ]
 
-ssrc_takes : (octets : List ℕ) (x : Option ℕ × List ℕ) → AreOctets octets → ssrc_at octets ≡ Ok x
+pub ssrc_takes : (octets : List ℕ) (x : Option ℕ × List ℕ) → AreOctets octets → ssrc_at octets ≡ Ok x
     → octets ≡ ssrc_text x.0 ++ x.1
 unfolding ssrc_at
 ssrc_takes octets x bytes e =
@@ -181,22 +177,18 @@ ssrc_takes octets x bytes e =
     let c = split_then (ssrc_of a.first.0 b.first.0) (λ s. with_source s b.first.1) x b.next in
     let same : (c.first, b.first.1) ≡ x
     = ap (λ (r : Result (Option ℕ × List ℕ) FileFault). given r x) c.next in
-    let flag : octets ≡ flag_code a.first.0 ∷ a.first.1 = flag_takes octets a.first bytes a.is in
+    let flag : octets ≡ flag_octet a.first.0 ∷ a.first.1 = flag_takes octets a.first bytes a.is in
     let second : AreOctets a.first.1
-    = behind (flag_code a.first.0 ∷ []) octets a.first.1 bytes flag in
+    = behind (flag_octet a.first.0 ∷ []) octets a.first.1 bytes flag in
     flag
-    ∙ ap (λ (t : List ℕ). flag_code a.first.0 ∷ t) (number_takes a.first.1 b.first second b.is)
+    ∙ ap (λ (t : List ℕ). flag_octet a.first.0 ∷ t) (number_takes a.first.1 b.first second b.is)
     ∙ ap (λ (t : List ℕ). t ++ b.first.1) (ssrc_is a.first.0 b.first.0 c.first c.is)
     ∙ ap (λ (p : Option ℕ × List ℕ). ssrc_text p.0 ++ p.1) same
 
--- the text of the fields behind the format block
-abbrev head_text : Head → List ℕ
-head_text h = h.payload_type ∷ (ssrc_text h.ssrc ++ h.count ∷ [])
-
-abbrev with_head : ℕ → Option ℕ → ℕ → List ℕ → Result (Head × List ℕ) FileFault
+abbrev pub with_head : ℕ → Option ℕ → ℕ → List ℕ → Result (Head × List ℕ) FileFault
 with_head p s n rest = Ok (record { payload_type = p; ssrc = s; count = n }, rest)
 
-head_takes : (octets : List ℕ) (x : Head × List ℕ) → AreOctets octets → head_at octets ≡ Ok x
+pub head_takes : (octets : List ℕ) (x : Head × List ℕ) → AreOctets octets → head_at octets ≡ Ok x
     → octets ≡ head_text x.0 ++ x.1
 unfolding head_at
 head_takes octets x bytes e =
@@ -226,7 +218,7 @@ head_takes octets x bytes e =
 
 -- ---- the frames
 
-stamp_takes : (before octets : List ℕ) (x : ℕ × List ℕ) → AreOctets octets
+pub stamp_takes : (before octets : List ℕ) (x : ℕ × List ℕ) → AreOctets octets
     → timestamp_at before octets ≡ Ok x → octets ≡ to_be_bytes w32 x.0 ++ x.1
 unfolding timestamp_at
 stamp_takes before octets x bytes e =
@@ -236,10 +228,10 @@ stamp_takes before octets x bytes e =
 abbrev Groups : Type 0
 Groups = List (List Cell)
 
-abbrev with_held : ℕ → Groups → List ℕ → Result (Held × List ℕ) FileFault
+abbrev pub with_held : ℕ → Groups → List ℕ → Result (Held × List ℕ) FileFault
 with_held t gs rest = Ok (record { timestamp = t; groups = gs }, rest)
 
-held_takes : (f : Fields) (before octets : List ℕ) (x : Held × List ℕ) → AreOctets octets
+pub held_takes : (f : Fields) (before octets : List ℕ) (x : Held × List ℕ) → AreOctets octets
     → held_at f before octets ≡ Ok x → octets ≡ held_text f x.0 ++ x.1
 unfolding held_at
 held_takes f before octets x bytes e =
@@ -264,22 +256,22 @@ held_takes f before octets x bytes e =
 abbrev Frames : Type 0
 Frames = Result (List Held × List ℕ) FileFault
 
-abbrev with_frames : List Held → List ℕ → Frames
+abbrev pub with_frames : List Held → List ℕ → Frames
 with_frames hs rest = Ok (hs, rest)
 
 abbrev frames_text : Fields → List Held × List ℕ → List ℕ
 frames_text f p = flat_map (held_text f) p.0 ++ p.1
 
 -- the frames behind one
-abbrev behind_one : Fields → ℕ → List ℕ → Held × List ℕ → Frames
+abbrev pub behind_one : Fields → ℕ → List ℕ → Held × List ℕ → Frames
 behind_one f n before h =
     all_held_at f n (before ++ h.0.timestamp ∷ []) h.1 >>= λ y. with_frames (h.0 ∷ y.0) y.1
 
-record TakesFrames (f : Fields) (n : ℕ) (octets : List ℕ) (x : List Held × List ℕ) : Type 0 where
-  count : length x.0 ≡ n
-  text : octets ≡ frames_text f x
+pub record TakesFrames (f : Fields) (n : ℕ) (octets : List ℕ) (x : List Held × List ℕ) : Type 0 where
+  pub count : length x.0 ≡ n
+  pub text : octets ≡ frames_text f x
 
-all_take : (f : Fields) (n : ℕ) (before octets : List ℕ) (x : List Held × List ℕ) → AreOctets octets
+pub all_take : (f : Fields) (n : ℕ) (before octets : List ℕ) (x : List Held × List ℕ) → AreOctets octets
     → all_held_at f n before octets ≡ Ok x → TakesFrames f n octets x
 unfolding all_held_at
 all_take f zero before octets x bytes e =
@@ -308,23 +300,23 @@ all_take f (suc n) before octets x bytes e =
 
 -- ---- the file
 
-end_is : (octets : List ℕ) (x : Unit {0} × List ℕ) → end_at octets ≡ Ok x → octets ≡ []
+pub end_is : (octets : List ℕ) (x : Unit {0} × List ℕ) → end_at octets ≡ Ok x → octets ≡ []
 end_is [] x e = refl
 end_is (y ∷ octets) x e = let bad : failed (Unit {0} × List ℕ) TrailingBytes ≡ Ok x = e in absurd cc
 
-abbrev kept_made : Fields → Head → List Held → Kept
+abbrev pub kept_made : Fields → Head → List Held → Kept
 kept_made f p hs = record { format = f; payload_type = p.payload_type; ssrc = p.ssrc; frames = hs }
 
-abbrev with_kept : Kept → List ℕ → Result (Kept × List ℕ) FileFault
+abbrev pub with_kept : Kept → List ℕ → Result (Kept × List ℕ) FileFault
 with_kept k rest = Ok (k, rest)
 
-abbrev behind_frames : Fields → Head → List Held × List ℕ → Result (Kept × List ℕ) FileFault
+abbrev pub behind_frames : Fields → Head → List Held × List ℕ → Result (Kept × List ℕ) FileFault
 behind_frames f p h = end_at h.1 >>= λ z. with_kept (kept_made f p h.0) z.1
 
-abbrev behind_head : Fields → Head × List ℕ → Result (Kept × List ℕ) FileFault
+abbrev pub behind_head : Fields → Head × List ℕ → Result (Kept × List ℕ) FileFault
 behind_head f p = all_held_at f p.0.count [] p.1 >>= λ h. behind_frames f p.0 h
 
-abbrev behind_block : Fields × List ℕ → Result (Kept × List ℕ) FileFault
+abbrev pub behind_block : Fields × List ℕ → Result (Kept × List ℕ) FileFault
 behind_block f = head_at f.1 >>= λ p. behind_head f.0 p
 
 pub state_takes : (octets : List ℕ) (x : Kept × List ℕ) → AreOctets octets → state_at octets ≡ Ok x
@@ -381,7 +373,7 @@ text_told k old new bytes p octets told =
     (subst (λ (o : Option (List ℕ)). Gives state_at o new k) told p)
 
 pub found_state : (old new : Option (List ℕ)) (r : Result State FileFault)
-    → IfOk r (λ s. Gives state_at old new (kept_of s)) → OnOk r (TellsOctets old)
+    → IfOk r (λ s. Gives state_at old new (kept_of s)) → TellsOctets old
     → IfOk r IsWritable
     → IfOk r (λ s. (octets : List ℕ) → old ≡ Some octets
     → (octets ≡ state_text (kept_of s)) × IsSaved (kept_of s))

@@ -50,7 +50,7 @@ behind front octets rest bytes e = AreOctets-back front rest (subst AreOctets e 
 
 -- ---- the values of a group's octets
 
-values_long : (s : Shape) (o : List ℕ) → IsShape s → length o ≡ s.octets
+pub values_long : (s : Shape) (o : List ℕ) → IsShape s → length o ≡ s.octets
     → length (values_in s.bits o) ≡ s.samples
 values_long s o is size =
     length-values_in s.bits o ∙ ap (λ (n : ℕ). n / s.bits)
@@ -195,27 +195,27 @@ mixed_text s m two o is len pair told size bytes mixed =
 
 -- ---- groups that are read
 
-abbrev Cells : Type 0
+abbrev pub Cells : Type 0
 Cells = Result (List Cell × List ℕ) FileFault
 
-abbrev ok_cells : List Cell → List ℕ → Cells
+abbrev pub ok_cells : List Cell → List ℕ → Cells
 ok_cells cells rest = Ok (cells, rest)
 
-abbrev no_cells : FileFault → Cells
+abbrev pub no_cells : FileFault → Cells
 no_cells f = Err f
 
 abbrev text_of : Shape → List Cell × List ℕ → List ℕ
 text_of s x = group_text s x.0 ++ x.1
 
-abbrev plain_at : Shape → List ℕ → Cells
+abbrev pub plain_at : Shape → List ℕ → Cells
 plain_at s octets =
     field_at s.octets octets >>= λ y. ok_cells (map Value (values_in s.bits y.0)) y.1
 
-abbrev mixed_behind : Shape → List ℕ → List ℕ → Cells
+abbrev pub mixed_behind : Shape → List ℕ → List ℕ → Cells
 mixed_behind s two octets =
     field_at s.octets octets >>= λ y. mixed_by s (from_be_bytes w16 two) (values_in s.bits y.0) y.1
 
-abbrev mixed_octets_at : Shape → List ℕ → Cells
+abbrev pub mixed_octets_at : Shape → List ℕ → Cells
 mixed_octets_at s octets = field_at 2 octets >>= λ y. mixed_behind s y.0 y.1
 
 gone_takes : (s : Shape) (octets : List ℕ) (x : List Cell × List ℕ)
@@ -293,10 +293,10 @@ mixed_takes s octets x is bytes e =
     ∙ ap (text_of s) t.same
 
 -- what is read behind a state that isn't 0, or isn't 0 or 1
-abbrev from_2 : Shape → ℕ → List ℕ → Cells
+abbrev pub from_2 : Shape → ℕ → List ℕ → Cells
 from_2 s n octets = cond (eqb n 2) (mixed_octets_at s octets) (no_cells BadField)
 
-abbrev from_1 : Shape → ℕ → List ℕ → Cells
+abbrev pub from_1 : Shape → ℕ → List ℕ → Cells
 from_1 s n octets = cond (eqb n 1) (plain_at s octets) (from_2 s n octets)
 
 pub group_takes : (s : Shape) (octets : List ℕ) (x : List Cell × List ℕ) → IsShape s
@@ -322,10 +322,10 @@ group_takes s (n ∷ octets) x is bytes e =
           ]
     ]
 
-abbrev Many : Type 0
+abbrev pub Many : Type 0
 Many = Result (List (List Cell) × List ℕ) FileFault
 
-abbrev ok_many : List (List Cell) → List ℕ → Many
+abbrev pub ok_many : List (List Cell) → List ℕ → Many
 ok_many gs rest = Ok (gs, rest)
 
 pub groups_take : (s : Shape) (n : ℕ) (octets : List ℕ) (x : List (List Cell) × List ℕ) → IsShape s

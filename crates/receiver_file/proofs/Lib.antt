@@ -22,3 +22,8 @@ pub mod Filled
 pub mod GroupsFound
 pub mod Found
 pub mod MarkedRows
+pub mod GroupFaults
+pub mod FrameFaults
+pub mod FieldFaults
+pub mod PlaceFaults
+pub mod StateFaults

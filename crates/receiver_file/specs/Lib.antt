@@ -4,3 +4,4 @@ pub mod Numbers
 pub mod Front
 pub mod StateReading
 pub mod Marked
+pub mod StateFaults

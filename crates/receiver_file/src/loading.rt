@@ -4,10 +4,11 @@ ghost use Rattle.std.specs.Io.KnownBytes.{IsAtEnd};
 ghost use Rattle.st_format.specs.Device.{TellsOctets};
 ghost use Rattle.path_merge.specs.Frames.{Holds, IsReceiver, State};
 ghost use Rattle.path_merge.specs.Opening.{AreDifferent};
-ghost use Rattle.capture_file.specs.Faults.{CountsDevice, IsMachine};
+ghost use Rattle.capture_file.specs.Faults.{CountsDevice, IfContent, IsMachine};
 ghost use Rattle.capture_file.specs.Fields.{Fails, Gives};
 ghost use Rattle.capture_file.specs.StateFile.{Kept, state_text};
 ghost use Rattle.receiver_file.specs.Saved.{IsSaved, IsWritable, kept_of};
+ghost use Rattle.receiver_file.specs.StateFaults.{StateFault};
 ghost use Rattle.receiver_file.specs.StateReading.{end_at, state_at};
 
 use crate::frames::{Frames, read_frames};
@@ -44,6 +45,9 @@ pub fn load_receiver<A: Allocator + Copy, S: ByteSource>(
     // What is read is the file of the receiver that is answered, all of it, and one that can be.
     ensures found { IfOk result (λ r. (octets : List ℕ) → S.to_give source.old ≡ Some octets
         → (octets ≡ state_text (kept_of r)) × IsSaved (kept_of r)) }
+    // A fault of the content is one whose condition holds of the octets.
+    ensures wrong { IfErr result (λ f. (octets : List ℕ) → S.to_give source.old ≡ Some octets
+        → IfContent f (StateFault f octets)) }
     // What is a receiver's file is read as what it says, unless the memory or the device fails.
     ensures only { (k : Kept) → S.to_give source.old ≡ Some (state_text k) → IsSaved k
         → MatchResult result (λ r. kept_of r ≡ k) IsMachine }
@@ -65,7 +69,7 @@ fn read_receiver<A: Allocator + Copy, S: ByteSource>(
     ensures read { IfOk result (λ r. Gives state_at (S.to_give source.old) (S.to_give source.new) (kept_of r)) }
     ensures fault { IfErr result (λ f. Fails state_at (S.to_give source.old) f) }
     ensures counted { CountsDevice (S.failures source.old) (S.failures source.new) result }
-    ensures octets { OnOk result (TellsOctets (S.to_give source.old)) }
+    ensures octets { TellsOctets (S.to_give source.old) }
     ensures receiver { IfOk result (λ r. IsReceiver r) }
     ensures refusals { IfOk result (λ r. r.refusals ≡ []) }
     ensures writable { IfOk result (λ r. IsWritable r) }

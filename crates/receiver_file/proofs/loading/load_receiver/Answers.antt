@@ -3,6 +3,7 @@ use Rattle.receiver_file.proofs.Found.{found_state}
 use Rattle.receiver_file.proofs.SameKept.{loaded_holds, loaded_same}
 use Rattle.receiver_file.proofs.AtEnd.{loaded_end}
 use Rattle.receiver_file.proofs.Savable.{writable_saved}
+use Rattle.receiver_file.proofs.StateFaults.{wrong_state}
 use Rattle.receiver_file.proofs.loading.load_receiver.Goals as goal
 
 pub returns-clause-end : goal.returns-clause-end
@@ -11,6 +12,11 @@ returns-clause-end g c = loaded_end _ _ c.read_receiver.result c.read_receiver.e
 pub returns-clause-found : goal.returns-clause-found
 returns-clause-found g c =
     found_state _ _ c.read_receiver.result c.read_receiver.ensures.read c.read_receiver.ensures.octets c.read_receiver.ensures.writable
+
+pub returns-clause-wrong : goal.returns-clause-wrong
+returns-clause-wrong g c =
+    wrong_state _ c.read_receiver.result c.read_receiver.ensures.octets
+    c.read_receiver.ensures.fault
 
 pub returns-clause-only : goal.returns-clause-only
 returns-clause-only g c = λ k told is. only_state _ _ c.read_receiver.result c.read_receiver.ensures.read c.read_receiver.ensures.fault k told is

@@ -1,0 +1,212 @@
+-- The faults of a receiver's file (own): each a condition of its own on the octets, with no step
+-- of reading in it. Laws say that at most one holds, that octets are a receiver's file or have a
+-- fault, and that they are read with a fault exactly where the fault's condition holds.
+use Rattle.std.specs.Prelude.{◌≡◌, ◌≢◌, ℕ, ◌+◌, ◌%◌, ◌/◌, ◌^◌, ◌<◌, ◌≤◌, Bool, true, false, List, [], ◌∷◌, ◌++◌, ◌⊎◌, length, map, ⊤, Option}
+use Rattle.std.specs.Int.{w16, w32, to_be_bytes}
+use Rattle.std.specs.List.{AllByRecursion, flat_map}
+use Rattle.st_format.specs.declared.cell.Cell.{Cell}
+use Rattle.st_format.specs.Fields.{Fields}
+use Rattle.st_format.specs.Member.{IsMember}
+use Rattle.st_format.specs.Samples.{values_in}
+use Rattle.path_merge.specs.Opening.{AreDifferent, IsWindowSize}
+use Rattle.capture_file.specs.declared.fault.FileFault.{FileFault}
+use Rattle.capture_file.specs.declared.fault.FileFault.TheVariants.{BadName, BadVersion, Truncated, BadField, TrailingBytes, MixedGroup}
+use Rattle.capture_file.specs.declared.front.Version.TheVariants.{One}
+use Rattle.capture_file.specs.Fronts.{kind_text, receiver_name}
+use Rattle.capture_file.specs.Groups.{IsGroup, Shape, groups_text, shape_of}
+use Rattle.capture_file.specs.KindFaults.{HasOtherName, IsCutKind}
+use Rattle.capture_file.specs.PictureFaults.{HasOtherThanOne, IsFormat}
+use Rattle.capture_file.specs.StateFile.{Held, IsHeld, Kept, SsrcFits, format_text, group_count, held_text, ssrc_text, state_text}
+use Rattle.receiver_file.specs.declared.front.Head.{Head}
+use Rattle.receiver_file.specs.Saved.{IsSaved, timestamp_in}
+
+-- WHAT A FILE SAYS UP TO A PLACE
+
+-- the fields behind the format block
+abbrev pub head_text : Head → List ℕ
+head_text h = h.payload_type ∷ (ssrc_text h.ssrc ++ h.count ∷ [])
+
+pub record IsHead (h : Head) : Type 0 where
+  pub payload_type : h.payload_type < 128
+  pub ssrc : SsrcFits h.ssrc
+  pub count : IsWindowSize h.count
+
+-- A place in a file where a field begins, by what stands before it: name and version; the format;
+-- the payload type; whether a source is pinned; the source; all before the frames, and whole
+-- frames; and of the next frame its timestamp, and whole groups.
+pub data Place : Type 0 where
+  AtBlock : Place
+  AtPayloadType : Fields → Place
+  AtFlag : Fields → ℕ → Place
+  AtSource : Fields → ℕ → Bool → Place
+  AtCount : Fields → ℕ → Option ℕ → Place
+  AtTimestamp : Fields → Head → List Held → Place
+  AtGroup : Fields → Head → List Held → ℕ → List (List Cell) → Place
+
+-- whether a source is pinned
+abbrev pub flag_octet : Bool → ℕ
+flag_octet false = 0
+flag_octet true = 1
+
+abbrev pub block_front : Fields → List ℕ
+block_front f = kind_text receiver_name One ++ format_text f
+
+abbrev pub frames_front : Fields → Head → List Held → List ℕ
+frames_front f h frames = (block_front f ++ head_text h) ++ flat_map (held_text f) frames
+
+abbrev pub shape_by : Fields → Shape
+shape_by f = shape_of f.sampling f.depth
+
+-- the octets before a place
+abbrev pub text_before : Place → List ℕ
+text_before AtBlock = kind_text receiver_name One
+text_before (AtPayloadType f) = block_front f
+text_before (AtFlag f type) = block_front f ++ type ∷ []
+text_before (AtSource f type pinned) = block_front f ++ type ∷ flag_octet pinned ∷ []
+text_before (AtCount f type ssrc) = block_front f ++ type ∷ ssrc_text ssrc
+text_before (AtTimestamp f h frames) = frames_front f h frames
+text_before (AtGroup f h frames timestamp groups) =
+    frames_front f h frames ++ (to_be_bytes w32 timestamp ++ groups_text (shape_by f) groups)
+
+-- frames of different timestamps, fewer than the head counts
+pub record AreFewer (f : Fields) (h : Head) (frames : List Held) : Type 0 where
+  pub format : IsFormat f
+  pub head : IsHead h
+  pub held : AllByRecursion (IsHeld f) frames
+  pub different : AreDifferent (map timestamp_in frames)
+  pub fewer : length frames < h.count
+
+-- a timestamp that isn't one of those before, and fewer groups than a frame has
+pub record IsBegun (f : Fields) (before : List Held) (timestamp : ℕ) (gs : List (List Cell))
+    : Type 0 where
+  pub fits : timestamp < 2 ^ 32
+  pub new : IsMember timestamp (map timestamp_in before) → ⊥
+  pub groups : AllByRecursion (IsGroup (shape_by f)) gs
+  pub fewer : length gs < group_count f
+
+-- What stands before a place is what a file can say.
+abbrev pub IsSaid : Place → Type 0
+IsSaid AtBlock = ⊤
+IsSaid (AtPayloadType f) = IsFormat f
+IsSaid (AtFlag f type) = IsFormat f × (type < 128)
+IsSaid (AtSource f type pinned) = IsFormat f × (type < 128)
+IsSaid (AtCount f type ssrc) = (IsFormat f × (type < 128)) × SsrcFits ssrc
+IsSaid (AtTimestamp f h frames) = AreFewer f h frames
+IsSaid (AtGroup f h frames timestamp groups) =
+    AreFewer f h frames × IsBegun f frames timestamp groups
+
+-- WHAT IS WRONG AT A PLACE
+
+-- the octets begin with one of which this holds
+pub record HasOctet (Is : ℕ → Type 0) (octets : List ℕ) : Type 0 where
+  pub first : ℕ
+  pub behind : List ℕ
+  pub whole : octets ≡ first ∷ behind
+  pub is : Is first
+
+-- the octets begin with a number of four octets of which this holds
+pub record HasNumber (Is : ℕ → Type 0) (octets : List ℕ) : Type 0 where
+  pub number : ℕ
+  pub behind : List ℕ
+  pub fits : number < 2 ^ 32
+  pub whole : octets ≡ to_be_bytes w32 number ++ behind
+  pub is : Is number
+
+-- the octets begin with a block of fourteen that is the text of no format
+pub record HasNoBlock (octets : List ℕ) : Type 0 where
+  pub block : List ℕ
+  pub behind : List ℕ
+  pub whole : octets ≡ block ++ behind
+  pub long : length block ≡ 14
+  pub none : (f : Fields) → IsFormat f → block ≢ format_text f
+
+-- The octets end before the state of a group, or before the end of the octets or of mask and octets
+-- that go with it.
+abbrev pub IsCutGroup : Shape → List ℕ → Type 0
+IsCutGroup s [] = ⊤
+IsCutGroup s (state ∷ octets) =
+    ((state ≡ 1) × (length octets < s.octets)) ⊎ ((state ≡ 2) × (length octets < 2 + s.octets))
+
+-- A sample that the mask names, counted from its least significant bit, isn't 0.
+abbrev pub HasContestedValue : ℕ → List ℕ → Type 0
+HasContestedValue mask [] = ⊥
+HasContestedValue mask (v ∷ vs) =
+    ((mask % 2 ≡ 1) × (v ≢ 0)) ⊎ HasContestedValue (mask / 2) vs
+
+-- a mask that names no sample, or one that the group hasn't, or one that has a value
+pub data IsWrongMask (s : Shape) (mask : ℕ) (values : List ℕ) : Type 0 where
+  NamesNone : mask ≡ 0 → IsWrongMask s mask values
+  NamesMore : 2 ^ s.samples ≤ mask → IsWrongMask s mask values
+  NamesValue : HasContestedValue mask values → IsWrongMask s mask values
+
+-- a contested group, whole, whose mask is wrong
+pub record HasWrongMask (s : Shape) (octets : List ℕ) : Type 0 where
+  pub mask : ℕ
+  pub packed : List ℕ
+  pub behind : List ℕ
+  pub fits : mask < 2 ^ 16
+  pub long : length packed ≡ s.octets
+  pub whole : octets ≡ 2 ∷ (to_be_bytes w16 mask ++ (packed ++ behind))
+  pub wrong : IsWrongMask s mask (values_in s.bits packed)
+
+-- The octets end within the field at a place.
+abbrev pub IsCutAt : Place → List ℕ → Type 0
+IsCutAt AtBlock octets = length octets < 14
+IsCutAt (AtPayloadType f) octets = octets ≡ []
+IsCutAt (AtFlag f type) octets = octets ≡ []
+IsCutAt (AtSource f type pinned) octets = length octets < 4
+IsCutAt (AtCount f type ssrc) octets = octets ≡ []
+IsCutAt (AtTimestamp f h frames) octets = length octets < 4
+IsCutAt (AtGroup f h frames timestamp groups) octets = IsCutGroup (shape_by f) octets
+
+-- The field at a place says what no such file says: a block of no format, a payload type above 127,
+-- a flag above 1, a source where none is pinned, 0 or more than 16 timestamps, a timestamp that
+-- stood before, a state above 2.
+abbrev pub IsBadAt : Place → List ℕ → Type 0
+IsBadAt AtBlock octets = HasNoBlock octets
+IsBadAt (AtPayloadType f) octets = HasOctet (λ type. 127 < type) octets
+IsBadAt (AtFlag f type) octets = HasOctet (λ flag. 1 < flag) octets
+IsBadAt (AtSource f type true) octets = ⊥
+IsBadAt (AtSource f type false) octets = HasNumber (λ ssrc. 0 < ssrc) octets
+IsBadAt (AtCount f type ssrc) octets = HasOctet (λ count. (count ≡ 0) ⊎ (16 < count)) octets
+IsBadAt (AtTimestamp f h frames) octets =
+    HasNumber (λ t. IsMember t (map timestamp_in frames)) octets
+IsBadAt (AtGroup f h frames timestamp groups) octets = HasOctet (λ state. 2 < state) octets
+
+-- The group at a place has a wrong mask.
+abbrev pub IsMixedAt : Place → List ℕ → Type 0
+IsMixedAt (AtGroup f h frames timestamp groups) octets = HasWrongMask (shape_by f) octets
+IsMixedAt place octets = ⊥
+
+-- THE FAULTS
+
+-- Behind what a file can say up to some place, this is so of the octets.
+pub record HasPlace (IsWrong : Place → List ℕ → Type 0) (octets : List ℕ) : Type 0 where
+  pub place : Place
+  pub behind : List ℕ
+  pub said : IsSaid place
+  pub whole : octets ≡ text_before place ++ behind
+  pub wrong : IsWrong place behind
+
+-- The octets end within name or version, or within a field behind them.
+pub data IsCutState (octets : List ℕ) : Type 0 where
+  Kind : IsCutKind octets → IsCutState octets
+  Field : HasPlace IsCutAt octets → IsCutState octets
+
+-- a whole receiver's file, and an octet behind it
+pub record HasMore (octets : List ℕ) : Type 0 where
+  pub kept : Kept
+  pub behind : List ℕ
+  pub is : IsSaved kept
+  pub whole : octets ≡ state_text kept ++ behind
+  pub more : 0 < length behind
+
+-- the condition of each fault of a receiver's file, by itself
+abbrev pub StateFault : FileFault → List ℕ → Type 0
+StateFault BadName octets = HasOtherName receiver_name octets
+StateFault BadVersion octets = HasOtherThanOne receiver_name octets
+StateFault Truncated octets = IsCutState octets
+StateFault BadField octets = HasPlace IsBadAt octets
+StateFault MixedGroup octets = HasPlace IsMixedAt octets
+StateFault TrailingBytes octets = HasMore octets
+StateFault fault octets = ⊥
