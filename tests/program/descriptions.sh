@@ -122,27 +122,41 @@ unread 'two faults: the second section alone' "$first$bad_width" '16 BadFormat'
 unread 'two faults: the first section before the second' "$bad_width$bad_media" '16 BadFormat'
 unread 'two faults: a bad media line and sections that differ' "$bad_media$turned" '4 BadMediaLine'
 
-# Canonical lines of each sampling, depth and range, which read back as themselves.
+# Canonical lines of each sampling, depth and range, letter for letter: they are said by a text that says more, and read
+# back as themselves.
 read_back() {
-    turn "$first" YCbCr-4:2:2 "$1"
-    turn "$turned" depth=10 "depth=$2"
-    turn "$turned" TCS=SDR "$3"
-    said=$turned
-    turn "$line" YCbCr-4:2:2 "$1"
-    turn "$turned$4" depth=10 "depth=$2"
-    canonical=$turned
-    reads "$1, $2 bits, $3" "$said" "$canonical"
+    turn "$said" TCS=SDR "$1"
+    reads "$sampling, $depth bits, $1" "$turned" "$canonical$2"
     again="m=video 1 RTP/AVP 112\na=rtpmap:112 raw/90000\n$(cat out)"
-    reads "$1, $2 bits, $3, read back" "$again" "$canonical"
+    reads "$sampling, $depth bits, $1, read back" "$again" "$canonical$2"
 }
-for sampling in YCbCr-4:2:2 YCbCr-4:4:4 RGB; do
-    for depth in 8 10 12 16; do
-        read_back $sampling $depth TCS=SDR ''
-        read_back $sampling $depth RANGE=NARROW ''
-        read_back $sampling $depth RANGE=FULLPROTECT '; RANGE=FULLPROTECT'
-        read_back $sampling $depth RANGE=FULL '; RANGE=FULL'
-    done
-done
+end='; colorimetry=BT709; PM=2110GPM; SSN=ST2110-20:2017'
+while read -r front; do
+    canonical=$front$end
+    sampling=${front#*sampling=}
+    sampling=${sampling%%;*}
+    depth=${front##*depth=}
+    turn "$first" YCbCr-4:2:2 "$sampling"
+    turn "$turned" depth=10 "depth=$depth"
+    said=$turned
+    read_back TCS=SDR ''
+    read_back RANGE=NARROW ''
+    read_back RANGE=FULLPROTECT '; RANGE=FULLPROTECT'
+    read_back RANGE=FULL '; RANGE=FULL'
+done <<'END'
+a=fmtp:112 sampling=YCbCr-4:2:2; width=1920; height=1080; exactframerate=60000/1001; depth=8
+a=fmtp:112 sampling=YCbCr-4:2:2; width=1920; height=1080; exactframerate=60000/1001; depth=10
+a=fmtp:112 sampling=YCbCr-4:2:2; width=1920; height=1080; exactframerate=60000/1001; depth=12
+a=fmtp:112 sampling=YCbCr-4:2:2; width=1920; height=1080; exactframerate=60000/1001; depth=16
+a=fmtp:112 sampling=YCbCr-4:4:4; width=1920; height=1080; exactframerate=60000/1001; depth=8
+a=fmtp:112 sampling=YCbCr-4:4:4; width=1920; height=1080; exactframerate=60000/1001; depth=10
+a=fmtp:112 sampling=YCbCr-4:4:4; width=1920; height=1080; exactframerate=60000/1001; depth=12
+a=fmtp:112 sampling=YCbCr-4:4:4; width=1920; height=1080; exactframerate=60000/1001; depth=16
+a=fmtp:112 sampling=RGB; width=1920; height=1080; exactframerate=60000/1001; depth=8
+a=fmtp:112 sampling=RGB; width=1920; height=1080; exactframerate=60000/1001; depth=10
+a=fmtp:112 sampling=RGB; width=1920; height=1080; exactframerate=60000/1001; depth=12
+a=fmtp:112 sampling=RGB; width=1920; height=1080; exactframerate=60000/1001; depth=16
+END
 
 # The camera's text cut at each octet: the number of octets from which on, up to the next row, it is told so.
 printf '%b' "$camera" >camera.sdp
