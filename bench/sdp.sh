@@ -1,10 +1,11 @@
 #!/bin/sh
-# Measures `sdp` on texts of very many items: names made to collide, and plain names of the same size. The hasher of the
-# kit's maps has a fixed seed. Each of the six pairs below leaves the hasher in one state, whichever of the two follows
-# the pairs before; and behind them all endings give hashes of one tag and one first group in a table of up to 4096
-# groups. So 64 * 256 names are sought one behind the other by a reader that keeps them by that hash, and it takes the
-# square of their number. Prints both times, and how many times the plain one the other takes, for each number of items.
-# Words: how many rounds (3); the best counts.
+# Measures `sdp` on texts of very many items: names made to collide, and plain names of the same
+# size. The hasher of the kit's maps has a fixed seed. Each of the six pairs below leaves the hasher
+# in one state, whichever of the two follows the pairs before; and behind them all endings give
+# hashes of one tag and one first group in a table of up to 4096 groups. So 64 * 256 names are
+# sought one behind the other by a reader that keeps them by that hash, and it takes the square of
+# their number. Prints both times, and how many times the plain one the other takes, for each number
+# of items. Words: how many rounds (3); the best counts.
 root=$(cd "$(dirname "$0")/.." && pwd) || exit 1
 rounds=${1:-3}
 folder=$(mktemp -d "${TMPDIR:-/tmp}/st2110-bench.XXXXXX") || exit 1

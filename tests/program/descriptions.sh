@@ -122,8 +122,8 @@ unread 'two faults: the second section alone' "$first$bad_width" '16 BadFormat'
 unread 'two faults: the first section before the second' "$bad_width$bad_media" '16 BadFormat'
 unread 'two faults: a bad media line and sections that differ' "$bad_media$turned" '4 BadMediaLine'
 
-# Canonical lines of each sampling, depth and range, letter for letter: they are said by a text that says more, and read
-# back as themselves.
+# Canonical lines of each sampling, depth and range, letter for letter: they are said by a text that
+# says more, and read back as themselves.
 read_back() {
     turn "$said" TCS=SDR "$1"
     reads "$sampling, $depth bits, $1" "$turned" "$canonical$2"
