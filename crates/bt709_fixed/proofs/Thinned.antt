@@ -1,5 +1,31 @@
 -- What 4:2:2 keeps of 4:4:4, from sample numbers to positions.
-use Rattle.std.proofs.Common.{◌≡◌, ℕ, zero, suc, ◌+◌, ◌*◌, ◌/◌, ◌%◌, ◌^◌, ◌<◌, ◌==◌, List, [], ◌∷◌, if◌then◌else◌, inl, inr, get_or, length, sym, arith, ap, subst, refl, ◌∙◌}
+use Rattle.std.proofs.Common.{
+  ◌≡◌,
+  ℕ,
+  zero,
+  suc,
+  ◌+◌,
+  ◌*◌,
+  ◌/◌,
+  ◌%◌,
+  ◌^◌,
+  ◌<◌,
+  ◌==◌,
+  List,
+  [],
+  ◌∷◌,
+  if◌then◌else◌,
+  inl,
+  inr,
+  get_or,
+  length,
+  sym,
+  arith,
+  ap,
+  subst,
+  refl,
+  ◌∙◌,
+}
 use Rattle.std.specs.List.{AllByRecursion}
 use Rattle.st_format.specs.declared.format.Format.{Format}
 use Rattle.st_format.specs.declared.sampling.Depth.{Depth}
@@ -7,7 +33,18 @@ use Rattle.st_format.specs.declared.sampling.Depth.TheVariants.{D8, D10, D12, D1
 use Rattle.st_format.specs.declared.sampling.Sampling.TheVariants.{Ycc422, Ycc444}
 use Rattle.st_format.specs.Pgroup.{bits_of}
 use Rattle.st_format.specs.Picture.{FitsDepth, IsPicture, Values}
-use Rattle.st_format.specs.Position.{Position, HasComponent, IsPosition, number_of, number_in_row, number_in_run, row_samples, run_columns, run_samples, sample_count}
+use Rattle.st_format.specs.Position.{
+  Position,
+  HasComponent,
+  IsPosition,
+  number_of,
+  number_in_row,
+  number_in_run,
+  row_samples,
+  run_columns,
+  run_samples,
+  sample_count,
+}
 use Rattle.st_format.proofs.Numbering.{number_of-below}
 use Rattle.bt709_fixed.specs.Operations.{IsOf, IsResampled, ycc422_value}
 use Rattle.bt709_fixed.specs.Thinned.{thinned_number}
@@ -33,13 +70,15 @@ in_pixel : ℕ → ℕ
 in_pixel k = if k == 0 then 1 else (if k == 1 then 0 else 2)
 
 thinned_in : (r h c k : ℕ) → HasComponent Ycc422 c k
-    → thinned_number (r * (h * 4) + (c / 2 * 4 + in_pair (c % 2) k)) ≡ r * (2 * h * 3) + (c * 3 + in_pixel k)
+    → thinned_number (r * (h * 4) + (c / 2 * 4 + in_pair (c % 2) k))
+    ≡ r * (2 * h * 3) + (c * 3 + in_pixel k)
 unfolding in_pair in_pixel
 thinned_in r h c zero is =
     let q : ℕ = r * h + c / 2 in
     let i : ℕ = 1 + 2 * (c % 2) in
     let number : r * (h * 4) + (c / 2 * 4 + (1 + 2 * (c % 2))) ≡ 4 * q + i = omega arith in
-    ap thinned_number number ∙ thinned_pair q i (omega arith) ∙ ap (λ x. q * 6 + x) (luma_kept (c % 2) (omega arith)) ∙ omega arith
+    ap thinned_number number ∙ thinned_pair q i (omega arith)
+    ∙ ap (λ x. q * 6 + x) (luma_kept (c % 2) (omega arith)) ∙ omega arith
 thinned_in r h c (suc zero) is =
     let q : ℕ = r * h + c / 2 in
     let even : c % 2 ≡ 0 = elim is.1 [ inl e ↦ absurd (omega (arith, e)) | inr e ↦ e ] in
@@ -61,7 +100,8 @@ row_of_pixels : (f : Format) → f.sampling ≡ Ycc444 → row_samples f ≡ f.w
 row_of_pixels f s = (λ i. f.width / run_columns (s i) * run_samples (s i)) ∙ omega arith
 
 number_thin : (f : Format) (p : Position) → f.sampling ≡ Ycc422
-    → number_of f p ≡ p.row * (f.width / 2 * 4) + (p.column / 2 * 4 + in_pair (p.column % 2) p.component)
+    → number_of f p
+    ≡ p.row * (f.width / 2 * 4) + (p.column / 2 * 4 + in_pair (p.column % 2) p.component)
 unfolding number_of number_in_row number_in_run in_pair
 number_thin f p s = λ i. p.row * row_of_pairs f s i + number_in_row (s i) p.column p.component
 
@@ -72,7 +112,8 @@ number_full f p s =
     (λ i. p.row * row_of_pixels f s i + number_in_row (s i) p.column p.component)
     ∙ omega arith
 
-pub thinned_at : (f g : Format) (p : Position) → f.sampling ≡ Ycc444 → IsResampled Ycc422 f g → IsPosition g p
+pub thinned_at : (f g : Format) (p : Position) → f.sampling ≡ Ycc444 → IsResampled Ycc422 f g
+    → IsPosition g p
     → thinned_number (number_of g p) ≡ number_of f p
 thinned_at f g p s r at =
     let width : 2 * (g.width / 2) ≡ f.width = omega (arith, g.whole_width.even, r.width) in
@@ -82,11 +123,13 @@ thinned_at f g p s r at =
     ∙ ap (λ w. p.row * (w * 3) + (p.column * 3 + in_pixel p.component)) width
     ∙ sym (number_full f p s)
 
-pub count_thinned : (f g : Format) → f.sampling ≡ Ycc444 → IsResampled Ycc422 f g → 4 * (sample_count f / 6) ≡ sample_count g
+pub count_thinned : (f g : Format) → f.sampling ≡ Ycc444 → IsResampled Ycc422 f g
+    → 4 * (sample_count f / 6) ≡ sample_count g
 count_thinned f g s r =
     let half : ℕ = g.width / 2 in
     let width : f.width ≡ 2 * half = omega (arith, g.whole_width.even, r.width) in
-    let full : sample_count f ≡ f.height * (2 * half * 3) = (λ i. f.height * row_of_pixels f s i) ∙ ap (λ w. f.height * (w * 3)) width in
+    let full : sample_count f ≡ f.height * (2 * half * 3) =
+    (λ i. f.height * row_of_pixels f s i) ∙ ap (λ w. f.height * (w * 3)) width in
     ap (λ n. 4 * (n / 6)) full
     ∙ omega arith
     ∙ (λ i. sym r.height i * sym (row_of_pairs g r.sampling) i)
@@ -99,30 +142,40 @@ some_values D10 = omega arith
 some_values D12 = omega arith
 some_values D16 = omega arith
 
--- each element of a list that fits is below the bound, and so is what stands for one that isn't there
-pub fits_at : (m : ℕ) (xs : List ℕ) (k : ℕ) → 0 < m → AllByRecursion (λ x. x < m) xs → get_or xs k 0 < m
+-- each element of a list that fits is below the bound, and so is what stands for one that isn't
+-- there
+pub fits_at : (m : ℕ) (xs : List ℕ) (k : ℕ) → 0 < m → AllByRecursion (λ x. x < m) xs
+    → get_or xs k 0 < m
 fits_at m [] k some all = some
 fits_at m (x ∷ xs) zero some all = all.0
 fits_at m (x ∷ xs) (suc k) some all = fits_at m xs k some all.1
 
-pub value_fits : (v : Values) (k : ℕ) → IsPicture v → get_or v.samples k 0 < 2 ^ bits_of v.format.depth
-value_fits v k is = fits_at (2 ^ bits_of v.format.depth) v.samples k (some_values v.format.depth) is.fit
+pub value_fits : (v : Values) (k : ℕ) → IsPicture v
+    → get_or v.samples k 0 < 2 ^ bits_of v.format.depth
+value_fits v k is =
+    fits_at (2 ^ bits_of v.format.depth) v.samples k (some_values v.format.depth) is.fit
 
-pub thinned_picture : (v : Values) (f : Format) (new : List ℕ) → v.format.sampling ≡ Ycc444 → IsResampled Ycc422 v.format f → IsPicture v
-    → length new ≡ 4 * (length v.samples / 6) → ((k : ℕ) → k < length new → get_or new k 0 ≡ get_or v.samples (thinned_number k) 0)
-    → IsPicture (record { format = f; samples = new }) × IsOf f (ycc422_value v) (record { format = f; samples = new })
+pub thinned_picture : (v : Values) (f : Format) (new : List ℕ) → v.format.sampling ≡ Ycc444
+    → IsResampled Ycc422 v.format f → IsPicture v
+    → length new ≡ 4 * (length v.samples / 6)
+    → ((k : ℕ) → k < length new → get_or new k 0 ≡ get_or v.samples (thinned_number k) 0)
+    → IsPicture (record { format = f; samples = new })
+    × IsOf f (ycc422_value v) (record { format = f; samples = new })
 thinned_picture v f new s r w long each =
-    let whole : length new ≡ sample_count f = long ∙ ap (λ n. 4 * (n / 6)) w.whole ∙ count_thinned v.format f s r in (
+    let whole : length new ≡ sample_count f =
+    long ∙ ap (λ n. 4 * (n / 6)) w.whole ∙ count_thinned v.format f s r in (
       record {
         whole = whole;
         fit = all_from_each (FitsDepth f) new (λ k h.
             subst (λ d. get_or new k 0 < 2 ^ bits_of d) (sym r.depth)
-            (subst (λ x. x < 2 ^ bits_of v.format.depth) (sym (each k h)) (value_fits v (thinned_number k) w)));
+            (subst (λ x. x < 2 ^ bits_of v.format.depth) (sym (each k h))
+            (value_fits v (thinned_number k) w)));
       },
       record {
         format = refl;
         each = λ at h.
             let below = number_of-below f at h in
-            each (number_of f at) (omega (arith, below, whole)) ∙ ap (λ k. get_or v.samples k 0) (thinned_at v.format f at s r h);
+            each (number_of f at) (omega (arith, below, whole))
+            ∙ ap (λ k. get_or v.samples k 0) (thinned_at v.format f at s r h);
       },
     )
