@@ -1,0 +1,4 @@
+pub mod InRow
+pub mod Mixed
+pub mod Parts
+pub mod Pictures

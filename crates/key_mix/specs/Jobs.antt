@@ -1,19 +1,36 @@
 -- JobPicture: what a job makes of its pictures, one position at a time (own; ITU-R BT.709).
-use Rattle.std.specs.Prelude.{◌≡◌, ◌≢◌, ◌<◌, ◌⊎◌, ℕ, ◌-◌, ◌*◌, List, [], ◌∷◌, length, ⊤}
+use Rattle.std.specs.Prelude.{◌≡◌, ◌≢◌, ◌<◌, ◌⊎◌, ℕ, List, [], ◌∷◌, length}
 use Rattle.st_format.specs.declared.format.Format.{Format}
 use Rattle.st_format.specs.declared.sampling.Sampling.TheVariants.{Ycc422, Ycc444, Rgb}
 use Rattle.st_format.specs.Pgroup.{bits_of}
 use Rattle.st_format.specs.Picture.{Values, value_at}
-use Rattle.st_format.specs.Position.{Position, IsPosition}
+use Rattle.st_format.specs.Position.{Position}
 use Rattle.lane_kernels.specs.Formulas.{full_key, key, key_of, weight, wipe}
-use Rattle.bt709_fixed.specs.Operations.{IsOf, IsResampled, component_at, gain_value, limit_value, ycc422_value, ycc444_value}
+use Rattle.bt709_fixed.specs.Operations.{
+  IsOf,
+  IsResampled,
+  component_at,
+  gain_value,
+  limit_value,
+  ycc422_value,
+  ycc444_value,
+}
 use Rattle.key_mix.specs.declared.Axis.{Axis}
 use Rattle.key_mix.specs.declared.Axis.TheVariants.{Columns, Rows}
 use Rattle.key_mix.specs.declared.WipeShape.{WipeShape}
 use Rattle.key_mix.specs.declared.Job.{Job}
 use Rattle.key_mix.specs.declared.Job.TheVariants.{Limit, Gain, ToYcc444, ToYcc422, Wipe, Key}
 use Rattle.key_mix.specs.declared.JobFault.{JobFault}
-use Rattle.key_mix.specs.declared.JobFault.TheVariants.{NoMemory, FormatsDiffer, KeyNotYcc, BadWipe, NotRgb, NotYcc444, WrongInputCount, BadGain}
+use Rattle.key_mix.specs.declared.JobFault.TheVariants.{
+  NoMemory,
+  FormatsDiffer,
+  KeyNotYcc,
+  BadWipe,
+  NotRgb,
+  NotYcc444,
+  WrongInputCount,
+  BadGain,
+}
 
 -- the column or row that a wipe counts, and how many there are
 abbrev pub along : Axis → Position → ℕ
@@ -25,18 +42,23 @@ extent Columns f = f.width
 extent Rows f = f.height
 
 abbrev pub wipe_value : WipeShape → Values → Values → Position → ℕ
-wipe_value w a b at = wipe (value_at a at) (value_at b at) (weight (along w.axis at) w.position w.soft)
+wipe_value w a b at =
+    wipe (value_at a at) (value_at b at) (weight (along w.axis at) w.position w.soft)
 
 -- each sample has the key luma of its own column, which at Cb and Cr of 4:2:2 is the even one
 abbrev pub key_value : Values → Values → Values → Position → ℕ
-key_value a b k at = key (full_key (bits_of a.format.depth)) (value_at a at) (value_at b at) (key_of (bits_of a.format.depth) (component_at k at 0))
+key_value a b k at =
+    key (full_key (bits_of a.format.depth)) (value_at a at) (value_at b at)
+    (key_of (bits_of a.format.depth) (component_at k at 0))
 
 -- JobPicture
 abbrev pub IsJobPicture : Job → List Values → Values → Type 0
 IsJobPicture (Limit range) (v ∷ []) p = IsOf v.format (limit_value range v) p
 IsJobPicture (Gain g) (v ∷ []) p = IsOf v.format (gain_value g v) p
-IsJobPicture ToYcc444 (v ∷ []) p = IsResampled Ycc444 v.format p.format × IsOf p.format (ycc444_value v) p
-IsJobPicture ToYcc422 (v ∷ []) p = IsResampled Ycc422 v.format p.format × IsOf p.format (ycc422_value v) p
+IsJobPicture ToYcc444 (v ∷ []) p =
+    IsResampled Ycc444 v.format p.format × IsOf p.format (ycc444_value v) p
+IsJobPicture ToYcc422 (v ∷ []) p =
+    IsResampled Ycc422 v.format p.format × IsOf p.format (ycc422_value v) p
 IsJobPicture (Wipe w) (a ∷ b ∷ []) p = IsOf a.format (wipe_value w a b) p
 IsJobPicture Key (a ∷ b ∷ k ∷ []) p = IsOf a.format (key_value a b k) p
 IsJobPicture j vs p = ⊥
@@ -65,7 +87,8 @@ Against BadGain (Gain g) vs = 16384 < g
 Against FormatsDiffer (Wipe w) (a ∷ b ∷ []) = a.format ≢ b.format
 Against FormatsDiffer Key (a ∷ b ∷ k ∷ []) = (a.format ≢ b.format) ⊎ (IsAlike a.format k.format → ⊥)
 Against KeyNotYcc Key (a ∷ b ∷ k ∷ []) = k.format.sampling ≡ Rgb
-Against BadWipe (Wipe w) (a ∷ b ∷ []) = (extent w.axis a.format < w.position) ⊎ (extent w.axis a.format < w.soft)
+Against BadWipe (Wipe w) (a ∷ b ∷ []) =
+    (extent w.axis a.format < w.position) ⊎ (extent w.axis a.format < w.soft)
 Against NotRgb ToYcc444 (v ∷ []) = v.format.sampling ≢ Rgb
 Against NotYcc444 ToYcc422 (v ∷ []) = v.format.sampling ≢ Ycc444
 Against e j vs = ⊥

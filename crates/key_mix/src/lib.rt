@@ -1,7 +1,16 @@
 //! Wipe, key and the jobs of the processor.
 #![tactic(auto)]
 
+ghost use Rattle.std.specs.Prelude.{◌≡◌};
+
+mod keys;
+mod rows;
+mod wipes;
+
 use bt709_fixed::RangeKind;
+pub use keys::key;
+use std::alloc::AllocError;
+pub use wipes::wipe;
 
 /// What a wipe runs along.
 #[derive(Clone, Copy, Debug, PartialEq, Eq)]
@@ -12,8 +21,8 @@ pub enum Axis {
     Rows,
 }
 
-/// Where a wipe stands: all before `position` is the first picture, all from `soft` places after it on
-/// the second.
+/// Where a wipe stands: all before `position` is the first picture, all from `soft` places after it
+/// on the second.
 #[derive(Clone, Copy, Debug, PartialEq, Eq)]
 pub struct WipeShape {
     pub axis: Axis,
@@ -43,6 +52,16 @@ pub enum JobFault {
     NotYcc444,
     WrongInputCount,
     BadGain,
+}
+
+impl From<AllocError> for JobFault {
+    ghost use Rattle.key_mix.specs.declared.JobFault.TheVariants.{NoMemory};
+
+    ghost from_gives = { λ _ e. e ≡ NoMemory };
+
+    fn from(_error: AllocError) -> JobFault {
+        JobFault::NoMemory
+    }
 }
 
 /// Why a job's picture wasn't sent.

@@ -1,0 +1,149 @@
+-- Rows of samples, and the numbers and columns in them.
+use Rattle.std.proofs.Common.{
+  ◌≡◌,
+  ℕ,
+  zero,
+  suc,
+  ◌+◌,
+  ◌*◌,
+  ◌/◌,
+  ◌%◌,
+  ◌<◌,
+  ◌≤◌,
+  inl,
+  refl,
+  arith,
+  sym,
+  ap,
+  ◌∙◌,
+}
+use Rattle.std.proofs.lemmas.Nat.{
+  div-mul-add,
+  mod-mul-add,
+  mul-add-lt,
+  mul-le,
+  mod_below,
+  div_below,
+}
+use Rattle.std.proofs.Math.Nat.{mul_comm}
+use Rattle.st_format.specs.declared.format.Format.{Format}
+use Rattle.st_format.specs.declared.format.Sampling.{Sampling}
+use Rattle.st_format.specs.declared.format.Sampling.TheVariants.{Ycc422, Ycc444, Rgb}
+use Rattle.st_format.specs.Position.{
+  HasComponent,
+  number_in_row,
+  number_in_run,
+  place,
+  place_in_row,
+  row_samples,
+  run_columns,
+  run_samples,
+}
+use Rattle.st_format.proofs.Numbering.{
+  InRun,
+  in_run,
+  number_in_row-below,
+  sample_of,
+  some_samples,
+  whole_runs,
+}
+use Rattle.key_mix.specs.Rows.{in_row}
+
+-- the position of the j-th sample of a row
+pub place-in_row : (f : Format) (row j : ℕ) → j < row_samples f
+    → place f (row * row_samples f + j) ≡ in_row f.sampling row j
+unfolding place
+place-in_row f row j h =
+    rw (div-mul-add row (row_samples f) j h, mod-mul-add row (row_samples f) j h) refl
+
+-- a row of n ends within so many rows
+row_ends : (row n height : ℕ) → row < height → row * n + n ≤ height * n
+row_ends row n height h =
+    let most : suc row * n ≤ height * n = mul-le (suc row) n height n (omega arith) (omega arith) in
+    let is : suc row * n ≡ row * n + n = omega arith in
+    omega (arith, most, is)
+
+pub row_within : (row at n m height long : ℕ) → at ≡ row * m → n ≡ m → long ≡ height * m
+    → row < height → at + n ≤ long
+row_within row at n m height long begins of_n of_long h =
+    omega (arith, row_ends row m height h, begins, of_n, of_long)
+
+pub all_rows : (row at m height long : ℕ) → at ≡ row * m → long ≡ height * m → height ≤ row
+    → long ≤ at
+all_rows row at m height long begins of_long h =
+    omega (arith, mul-le height m row m h (omega arith), begins, of_long)
+
+pub column-below : (f : Format) (j : ℕ) → j < row_samples f
+    → (place_in_row f.sampling j).0 < f.width
+unfolding place_in_row
+column-below f j h =
+    let s : Sampling = f.sampling in
+    let m : ℕ = run_columns s in
+    let i : ℕ = j % run_samples s in
+    let r : InRun s i = in_run s i (mod_below j (run_samples s) (some_samples s)) in
+    let q : j / run_samples s < f.width / m =
+    div_below j (run_samples s) (f.width / m) (some_samples s) h in
+    let below : j / run_samples s * m + (sample_of s i).0 < m * (f.width / m) =
+    mul-add-lt (j / run_samples s) m (sample_of s i).0 (f.width / m) q r.column in
+    let whole : m * (f.width / m) ≡ f.width =
+    mul_comm m (f.width / m) ∙ whole_runs s f.width f.whole_width.even in
+    rw (sym whole) below
+
+has_luma : (s : Sampling) (column : ℕ) → HasComponent s column 0
+has_luma Ycc422 column = (omega arith, inl refl)
+has_luma Ycc444 column = omega arith
+has_luma Rgb column = omega arith
+
+-- a row has the luma of each of its columns
+pub luma-below : (f : Format) (column : ℕ) → column < f.width
+    → number_in_row f.sampling column 0 < row_samples f
+luma-below f column h = number_in_row-below f column 0 h (has_luma f.sampling column)
+
+-- ---- the columns and lumas of each sampling
+
+second_luma : (i : ℕ) → i < 4 → i / 3 ≡ (sample_of Ycc422 i).0
+second_luma zero h = refl
+second_luma (suc zero) h = refl
+second_luma (suc (suc zero)) h = refl
+second_luma (suc (suc (suc zero))) h = refl
+second_luma (suc (suc (suc (suc i)))) h = absurd (omega arith)
+
+one_column : (i : ℕ) → i < 3 → 0 ≡ (sample_of Ycc444 i).0
+one_column zero h = refl
+one_column (suc zero) h = refl
+one_column (suc (suc zero)) h = refl
+one_column (suc (suc (suc i))) h = absurd (omega arith)
+
+one_column_rgb : (i : ℕ) → i < 3 → 0 ≡ (sample_of Rgb i).0
+one_column_rgb zero h = refl
+one_column_rgb (suc zero) h = refl
+one_column_rgb (suc (suc zero)) h = refl
+one_column_rgb (suc (suc (suc i))) h = absurd (omega arith)
+
+pub column_pairs : (j : ℕ) → j / 4 * 2 + j % 4 / 3 ≡ (place_in_row Ycc422 j).0
+unfolding place_in_row
+column_pairs j = ap (λ c. j / 4 * 2 + c) (second_luma (j % 4) (omega arith))
+
+pub column_pixels : (j : ℕ) → j / 3 ≡ (place_in_row Ycc444 j).0
+unfolding place_in_row
+column_pixels j =
+    let one : j / 3 ≡ j / 3 * 1 + 0 = omega arith in
+    one ∙ ap (λ c. j / 3 * 1 + c) (one_column (j % 3) (omega arith))
+
+pub column_rgb : (j : ℕ) → j / 3 ≡ (place_in_row Rgb j).0
+unfolding place_in_row
+column_rgb j =
+    let one : j / 3 ≡ j / 3 * 1 + 0 = omega arith in
+    one ∙ ap (λ c. j / 3 * 1 + c) (one_column_rgb (j % 3) (omega arith))
+
+pub luma_pairs : (c : ℕ) → 2 * c + 1 ≡ number_in_row Ycc422 c 0
+unfolding number_in_row number_in_run
+luma_pairs c = omega arith
+
+pub luma_pixels : (c : ℕ) → 3 * c + 1 ≡ number_in_row Ycc444 c 0
+unfolding number_in_row number_in_run
+luma_pixels c = omega arith
+
+pub luma_rgb : (c : ℕ) → 3 * c ≡ number_in_row Rgb c 0
+unfolding number_in_row number_in_run
+luma_rgb c = omega arith

@@ -1,0 +1,41 @@
+//! Where samples stand in a row.
+ghost use Rattle.std.specs.Prelude.{◌≡◌, ◌≤◌, ◌<◌, ◌^◌, ◌↔◌, IsTrue};
+ghost use Rattle.st_format.specs.Position.{number_in_row, place_in_row};
+
+use st_format::{Format, Sampling};
+
+/// Whether two formats are one.
+pub(crate) fn same_format(left: Format, right: Format) -> bool
+    ensures { IsTrue result ↔ (left ≡ right) }
+{
+    left == right
+}
+
+/// The column of the j-th sample of a row.
+#[tactic(auto, using(crate::proofs::InRow::column_pairs, crate::proofs::InRow::column_pixels, crate::proofs::InRow::column_rgb))]
+#[inline(always)]
+pub(crate) fn column_in_row(sampling: Sampling, j: usize) -> usize
+    requires { j < 2 ^ 32 }
+    ensures value { result ≡ (place_in_row sampling j).0 }
+    ensures most { result ≤ j }
+{
+    match sampling {
+        Sampling::Ycc422 => j / 4 * 2 + j % 4 / 3,
+        Sampling::Ycc444 => j / 3,
+        Sampling::Rgb => j / 3,
+    }
+}
+
+/// The number in its row of the luma at a column.
+#[tactic(auto, using(crate::proofs::InRow::luma_pairs, crate::proofs::InRow::luma_pixels, crate::proofs::InRow::luma_rgb))]
+#[inline(always)]
+pub(crate) fn luma_in_row(sampling: Sampling, column: usize) -> usize
+    requires { column < 2 ^ 32 }
+    ensures { result ≡ number_in_row sampling column 0 }
+{
+    match sampling {
+        Sampling::Ycc422 => 2 * column + 1,
+        Sampling::Ycc444 => 3 * column + 1,
+        Sampling::Rgb => 3 * column,
+    }
+}
