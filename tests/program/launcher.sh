@@ -9,7 +9,12 @@ cat >bin/rt <<END
 echo "\$*" >>"$room/built"
 echo 'rt: chose --jobs 2 for st2110'
 echo 'checked st2110::run, 1 of 1'
-sleep 1
+# While there is a file \`awaited\`, until another launcher says that it waits, 20 s at most.
+turns=0
+while [ -e "$room/awaited" ] && [ \$turns -lt 200 ] && ! grep -q waits "$room/said"; do
+    sleep 0.1
+    turns=\$((turns + 1))
+done
 [ -e "$room/refused" ] && exit 1
 mkdir -p out && cp "$program" out/st2110
 END
@@ -51,10 +56,15 @@ says 'launcher: a build that fails' 125 '' ''
 rm -f refused
 # Two first runs at once: one builds, and the other waits for it.
 : >built
+: >said
+: >awaited
 clone/st2110 --version >first 2>&1 &
-sleep 0.3
+until [ -s first ]; do
+    sleep 0.1
+done
 launch elsewhere/link trace
 wait $!
+rm -f awaited
 says 'launcher: two first runs at once' 0 "kept 1
 $frame" ''
 if [ "$(wc -l <built)" -eq 1 ] && [ "$(tail -n 1 first)" = 'st2110 0.1' ]; then
