@@ -1,10 +1,11 @@
 -- Faults that end a run, and what they say of devices.
-use Rattle.std.specs.Prelude.{◌≡◌, ℕ, ◌⊎◌, List, [], ◌∷◌, Option, None, Result, MatchResult, ⊤}
+use Rattle.std.specs.Prelude.{◌≡◌, ℕ, ◌⊎◌, List, [], ◌∷◌, Option, Result, MatchResult, ⊤}
 use Rattle.st_format.specs.Device.{Failed}
-use Rattle.tool_text.specs.Telling.{IsRefusalLine, Tells, device_line, memory_line}
+use Rattle.tool_text.specs.Telling.{IsRefusalLine, TellsLine, device_line, memory_line}
 use Rattle.tool_text.specs.declared.status.Status.{Status}
 use Rattle.tool_text.specs.declared.status.Status.TheVariants as ended
 use Rattle.file_engines.specs.declared.fault.Fault.{Fault}
+use Rattle.file_engines.specs.RefusalText.{refusal_text}
 use Rattle.file_engines.specs.declared.fault.Fault.TheVariants.{Refused, Device, Memory}
 
 -- how often a device had failed before, and how often then
@@ -37,9 +38,9 @@ Blames devices Memory = NoneFailed devices
 abbrev pub Accounts : {V : Type 0} → Result V Fault → List Failures → Type 0
 Accounts result devices = MatchResult result (λ _. NoneFailed devices) (Blames devices)
 
--- the line of a fault, and the status; the line of a refusal holds names of the crates below
+-- the line of a fault, and the status
 abbrev pub IsLineOf : Fault → Status → List ℕ → Type 0
-IsLineOf (Refused r) status line = IsRefusalLine None status line
+IsLineOf (Refused r) status line = IsRefusalLine (refusal_text r) status line
 IsLineOf Device status line = (status ≡ ended.Device) × (line ≡ device_line)
 IsLineOf Memory status line = (status ≡ ended.Memory) × (line ≡ memory_line)
 
@@ -47,7 +48,7 @@ IsLineOf Memory status line = (status ≡ ended.Memory) × (line ≡ memory_line
 abbrev pub TellsFault : Fault → Status → ℕ → ℕ → Option (List ℕ) → Option (List ℕ) → Type 0
 TellsFault f result old new held held' =
     (status : Status) × (line : List ℕ) × IsLineOf f status line
-    × Tells status line result old new held held'
+    × TellsLine status line result old new held held'
 
 -- where a run ends by a refusal, this holds
 abbrev pub IfRefused : Fault → Type 0 → Type 0

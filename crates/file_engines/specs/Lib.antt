@@ -1,3 +1,4 @@
+pub mod RefusalText
 pub mod Fault
 pub mod LowerFaults
 pub mod Text

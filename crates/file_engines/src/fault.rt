@@ -154,6 +154,11 @@ fn of_file(fault: FileFault, refusal: Refusal) -> Fault
 }
 
 impl fmt::Display for Refusal {
+    ghost use Rattle.std.specs.Prelude.{Some};
+    ghost use Rattle.file_engines.specs.RefusalText.{refusal_text};
+
+    ghost output = { λ refusal. Some (refusal_text refusal) };
+
     fn fmt<W: fmt::Write>(&self, f: &mut fmt::Formatter<W>) -> fmt::Result {
         match self {
             Refusal::MigrateSdp => f.write_str("migrate 1 SdpTooLong"),

@@ -21,9 +21,10 @@ pub(crate) enum Line {
 }
 
 impl fmt::Display for Line {
+    ghost use Rattle.std.specs.Prelude.{Some};
     ghost use Rattle.file_engines.specs.Line.{line_text};
 
-    ghost output = { line_text };
+    ghost output = { λ line. Some (line_text line) };
 
     fn fmt<W: fmt::Write>(&self, f: &mut fmt::Formatter<W>) -> fmt::Result {
         match self {

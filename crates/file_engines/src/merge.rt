@@ -69,6 +69,7 @@ where
     }
 }
 
+/// Reads the two receivers, merges them, prints their frames and writes the one.
 fn merge<A, L, R, K, O>(
     alloc: A,
     left: &mut L,

@@ -65,6 +65,7 @@ where
     }
 }
 
+/// Reads the text, writes the capture with it, and prints how many records there are.
 fn migrate<A, D, S, K, O>(
     alloc: A,
     sdp: &mut D,

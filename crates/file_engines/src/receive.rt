@@ -104,6 +104,7 @@ where
     }
 }
 
+/// Opens the receiver, takes the captures, prints what came, and writes the receiver.
 fn receive<A, S, K, O>(
     alloc: A,
     wanted: Wanted<'_>,
@@ -124,9 +125,9 @@ where
     ensures refused { IfErr result (λ f. IfRefused f (state.new ≡ state.old)) }
     ensures failures { Accounts result (counts (failures_in S.failures sdp.old)
         (failures_in S.failures sdp.new) ∷ counts (sum_by S.failures captures.old.items)
-        (sum_by S.failures captures.new.items) ∷ counts (K.failures state.old)
-        (K.failures state.new) ∷ counts (O.failures output.old) (O.failures output.new)
-        ∷ []) }
+        (sum_by S.failures captures.new.items)
+        ∷ counts (K.failures state.old) (K.failures state.new)
+        ∷ counts (O.failures output.old) (O.failures output.new) ∷ []) }
 {
     let opening = read_opening(alloc, wanted)?;
     let begun = begin(alloc, &opening, sdp)?;

@@ -78,6 +78,7 @@ where
     }
 }
 
+/// Reads the text, sends the pictures, and prints how many datagrams they were.
 fn send<A, S, K, O>(
     alloc: A,
     wanted: Sending,

@@ -48,6 +48,7 @@ impl Tally {
         }
     }
 
+    /// Counts a datagram that was refused.
     fn note_refusal(&mut self, refusal: Refusal) {
         let place = usize::from(refusal.number()) - 1;
         self.refused[place] = self.refused[place].saturating_add(1);

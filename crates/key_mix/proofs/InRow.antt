@@ -27,8 +27,8 @@ use Rattle.std.proofs.lemmas.Nat.{
 }
 use Rattle.std.proofs.Math.Nat.{mul_comm}
 use Rattle.st_format.specs.declared.format.Format.{Format}
-use Rattle.st_format.specs.declared.format.Sampling.{Sampling}
-use Rattle.st_format.specs.declared.format.Sampling.TheVariants.{Ycc422, Ycc444, Rgb}
+use Rattle.st_format.specs.declared.sampling.Sampling.{Sampling}
+use Rattle.st_format.specs.declared.sampling.Sampling.TheVariants.{Ycc422, Ycc444, Rgb}
 use Rattle.st_format.specs.Position.{
   HasComponent,
   number_in_row,

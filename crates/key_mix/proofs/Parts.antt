@@ -18,7 +18,7 @@ use Rattle.std.proofs.Common.{
 }
 use Rattle.std.proofs.lemmas.List.{get_or-drop, get_or-take}
 use Rattle.st_format.specs.declared.format.Format.{Format}
-use Rattle.st_format.specs.declared.format.Sampling.{Sampling}
+use Rattle.st_format.specs.declared.sampling.Sampling.{Sampling}
 use Rattle.st_format.specs.Pgroup.{bits_of}
 use Rattle.st_format.specs.Position.{number_in_row, number_of, place, place_in_row, row_samples}
 use Rattle.lane_kernels.specs.Formulas.{key, scale, weight, wipe}

@@ -1,7 +1,7 @@
 -- What wipe and key take for each sample of a row, and make of each sample number (own).
 use Rattle.std.specs.Prelude.{ℕ, List, slice_index}
 use Rattle.st_format.specs.declared.format.Format.{Format}
-use Rattle.st_format.specs.declared.format.Sampling.{Sampling}
+use Rattle.st_format.specs.declared.sampling.Sampling.{Sampling}
 use Rattle.st_format.specs.Pgroup.{bits_of}
 use Rattle.st_format.specs.Position.{Position, number_of, place, place_in_row}
 use Rattle.lane_kernels.specs.Formulas.{full_key, key, key_of, weight, wipe}

@@ -17,7 +17,7 @@ ghost use Rattle.std.specs.Prelude.{
   Err,
 };
 ghost use Rattle.std.specs.Result.{IfErr};
-ghost use Rattle.st_format.specs.declared.format.Sampling.TheVariants.{Rgb};
+ghost use Rattle.st_format.specs.declared.sampling.Sampling.TheVariants.{Rgb};
 ghost use Rattle.st_format.specs.Pgroup.{bits_of};
 ghost use Rattle.st_format.specs.Picture.{IsPicture};
 ghost use Rattle.st_format.specs.Position.{number_in_row, place_in_row, row_samples, sample_count};

@@ -1,12 +1,18 @@
 -- Faults that end a run.
-use Rattle.std.specs.Prelude.{◌≡◌, ℕ, ◌⊎◌, List, ◌++◌, codes, Option, Some, None, Result}
-use Rattle.std.specs.Prelude.{MatchResult, ⊤}
+use Rattle.std.specs.Prelude.{◌≡◌, ℕ, ◌⊎◌, List, ◌++◌, codes, Option, Result, MatchResult, ⊤}
 use Rattle.std.specs.Fmt.{decimal}
 use Rattle.st_format.specs.Device.{Failed}
+use Rattle.packet_numbers.specs.Numbers.{seq_map_fault_name, seq_map_fault_number}
+use Rattle.packet_plan.specs.Faults.{plan_fault_name, plan_fault_number}
+use Rattle.path_merge.specs.Answers.{open_fault_name, open_fault_number}
+use Rattle.path_merge.specs.PlayFault.{play_fault_name, play_fault_number}
+use Rattle.sdp_format.specs.Faults.{sdp_fault_name, sdp_fault_number}
+use Rattle.st_format.specs.Faults.{format_fault_name, format_fault_number}
 use Rattle.st2110_tool.specs.Script.{GivesAll, GivesScript}
 use Rattle.st2110_tool.specs.declared.fault.Fault.{Fault}
 use Rattle.st2110_tool.specs.declared.fault.Fault.TheVariants as fault
-use Rattle.tool_text.specs.Telling.{IsRefusalLine, Tells, device_line, memory_line}
+use Rattle.tool_text.specs.Telling.{IsRefusalLine, TellsLine, device_line, memory_line}
+use Rattle.tool_text.specs.Telling.{numbered_name}
 use Rattle.tool_text.specs.declared.status.Status.{Status}
 use Rattle.tool_text.specs.declared.status.Status.TheVariants.{Device, Memory}
 
@@ -60,33 +66,28 @@ ReadsAt fault.Memory old new = ⊤
 abbrev pub Reads : {V : Type 0} → Result V Fault → Option (List ℕ) → Option (List ℕ) → Type 0
 Reads result old new = MatchResult result (λ _. GivesScript old new) (λ f. ReadsAt f old new)
 
--- the text of a fault; that of a format, an opening, a map of numbers, an SDP, a plan or a schedule
--- holds a name of the crate below
-abbrev pub fault_text : Fault → Option (List ℕ)
-fault_text (fault.Script line) = Some (codes "script " ++ decimal line)
-fault_text (fault.Format f) = None
-fault_text (fault.Open f) = None
-fault_text (fault.Numbers f) = None
-fault_text (fault.Sdp f) = None
-fault_text (fault.Plan f) = None
-fault_text (fault.Play f) = None
-fault_text fault.Device = Some (codes "device")
-fault_text fault.Memory = Some (codes "memory")
+-- the text of a fault (own)
+abbrev pub fault_text : Fault → List ℕ
+fault_text (fault.Script line) = codes "script " ++ decimal line
+fault_text (fault.Format f) =
+    numbered_name (codes "format ") (format_fault_number f) (format_fault_name f)
+fault_text (fault.Open f) = numbered_name (codes "open ") (open_fault_number f) (open_fault_name f)
+fault_text (fault.Numbers f) =
+    numbered_name (codes "numbers ") (seq_map_fault_number f) (seq_map_fault_name f)
+fault_text (fault.Sdp f) = numbered_name (codes "sdp ") (sdp_fault_number f) (sdp_fault_name f)
+fault_text (fault.Plan f) = numbered_name (codes "plan ") (plan_fault_number f) (plan_fault_name f)
+fault_text (fault.Play f) = numbered_name (codes "play ") (play_fault_number f) (play_fault_name f)
+fault_text fault.Device = codes "device"
+fault_text fault.Memory = codes "memory"
 
 -- the line of a fault, and the status
 abbrev pub IsLineOf : Fault → Status → List ℕ → Type 0
-IsLineOf (fault.Script n) status line = IsRefusalLine (fault_text (fault.Script n)) status line
-IsLineOf (fault.Format f) status line = IsRefusalLine (fault_text (fault.Format f)) status line
-IsLineOf (fault.Open f) status line = IsRefusalLine (fault_text (fault.Open f)) status line
-IsLineOf (fault.Numbers f) status line = IsRefusalLine (fault_text (fault.Numbers f)) status line
-IsLineOf (fault.Sdp f) status line = IsRefusalLine (fault_text (fault.Sdp f)) status line
-IsLineOf (fault.Plan f) status line = IsRefusalLine (fault_text (fault.Plan f)) status line
-IsLineOf (fault.Play f) status line = IsRefusalLine (fault_text (fault.Play f)) status line
 IsLineOf fault.Device status line = (status ≡ Device) × (line ≡ device_line)
 IsLineOf fault.Memory status line = (status ≡ Memory) × (line ≡ memory_line)
+IsLineOf refusal status line = IsRefusalLine (fault_text refusal) status line
 
 -- a fault was told by such a line, or the sink failed
 abbrev pub TellsFault : Fault → Status → ℕ → ℕ → Option (List ℕ) → Option (List ℕ) → Type 0
 TellsFault f result old new held held' =
     (status : Status) × (line : List ℕ) × IsLineOf f status line
-    × Tells status line result old new held held'
+    × TellsLine status line result old new held held'

@@ -63,6 +63,7 @@ pub(crate) fn read_format_line(text: &[u8]) -> Option<FormatLine>
     read_format_fields(rest)
 }
 
+/// The six fields behind the word `format`.
 fn read_format_fields(text: &[u8]) -> Option<FormatLine>
     ensures is { IfSome result (λ line. AreFormat text.now line) }
     ensures none { IfNone result ((line : FormatLine) → AreFormat text.now line → ⊥) }
@@ -81,6 +82,7 @@ fn read_format_fields(text: &[u8]) -> Option<FormatLine>
     })
 }
 
+/// A height and a rate, parted by a space.
 fn read_height_and_rate(text: &[u8]) -> Option<(u32, u32, u32)>
     ensures is { IfSome result (λ p. AreHeightAndRate text.now p.0 p.1 p.2) }
     ensures none { IfNone result ((height n d : ℕ) → AreHeightAndRate text.now height n d → ⊥) }
@@ -90,6 +92,7 @@ fn read_height_and_rate(text: &[u8]) -> Option<(u32, u32, u32)>
     Some((read_number(height)?, n, d))
 }
 
+/// Two numbers, parted by a stroke.
 fn read_rate(text: &[u8]) -> Option<(u32, u32)>
     ensures is { IfSome result (λ p. IsRate text.now p.0 p.1) }
     ensures none { IfNone result ((n d : ℕ) → IsRate text.now n d → ⊥) }
@@ -129,8 +132,8 @@ fn read_depth(text: &[u8]) -> Option<Depth>
 
 /// What a line `open` says; its window is text yet.
 pub(crate) fn read_open_line(text: &[u8]) -> Option<OpenLine<'_>>
-    ensures is { IfSome result
-        (λ line. IsOpenLine text.now line.payload_type line.ssrc line.window.now) }
+    ensures is { IfSome result (λ line.
+        IsOpenLine text.now line.payload_type line.ssrc line.window.now) }
     ensures none { IfNone result ((payload_type : ℕ) (ssrc : Option ℕ) (window : List ℕ)
         → IsOpenLine text.now payload_type ssrc window → ⊥) }
 {
@@ -138,9 +141,10 @@ pub(crate) fn read_open_line(text: &[u8]) -> Option<OpenLine<'_>>
     read_opening(rest)
 }
 
+/// The three fields behind the word `open`.
 fn read_opening(text: &[u8]) -> Option<OpenLine<'_>>
-    ensures is { IfSome result
-        (λ line. AreOpening text.now line.payload_type line.ssrc line.window.now) }
+    ensures is { IfSome result (λ line.
+        AreOpening text.now line.payload_type line.ssrc line.window.now) }
     ensures none { IfNone result ((payload_type : ℕ) (ssrc : Option ℕ) (window : List ℕ)
         → AreOpening text.now payload_type ssrc window → ⊥) }
 {
@@ -224,6 +228,7 @@ pub(crate) fn read_two(text: &[u8]) -> Option<(u32, u32)>
     Some((read_number(first)?, read_number(second)?))
 }
 
+/// The four numbers behind the word `cell`.
 fn read_place(text: &[u8]) -> Option<Place>
     ensures is { IfSome result (λ place. AreFour text.now place) }
     ensures none { IfNone result ((place : Place) → AreFour text.now place → ⊥) }

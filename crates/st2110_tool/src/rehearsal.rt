@@ -53,6 +53,7 @@ pub(crate) fn read_rehearsal<A: Allocator + Copy>(
     Ok(rehearsal)
 }
 
+/// Reads the first five lines.
 fn read_head<A: Allocator + Copy>(alloc: A, lines: &mut Lines<'_>) -> Result<Head<A>, Fault>
     ensures refused { IfErr result (λ fault. fault ≢ Fault.Device) }
     ensures range { IfOk result (λ head. head.stamp.payload_type ≤ 127) }
@@ -66,6 +67,7 @@ fn read_head<A: Allocator + Copy>(alloc: A, lines: &mut Lines<'_>) -> Result<Hea
     })
 }
 
+/// The stamp that the next line says.
 fn read_stamp(lines: &mut Lines<'_>) -> Result<Stamp, Fault>
     ensures refused { IfErr result (λ fault. fault ≢ Fault.Device) }
     ensures range { IfOk result (λ stamp. stamp.payload_type ≤ 127) }
@@ -77,6 +79,7 @@ fn read_stamp(lines: &mut Lines<'_>) -> Result<Stamp, Fault>
     }
 }
 
+/// The greatest size of a packet, in octets, that the next line says.
 fn read_max(lines: &mut Lines<'_>) -> Result<u32, Fault>
     ensures { IfErr result (λ fault. fault ≢ Fault.Device) }
 {
@@ -87,6 +90,7 @@ fn read_max(lines: &mut Lines<'_>) -> Result<u32, Fault>
     }
 }
 
+/// The window that the next line says.
 fn read_window<A: Allocator + Copy>(alloc: A, lines: &mut Lines<'_>) -> Result<Vec<u32, A>, Fault>
     ensures { IfErr result (λ fault. fault ≢ Fault.Device) }
 {
@@ -97,6 +101,7 @@ fn read_window<A: Allocator + Copy>(alloc: A, lines: &mut Lines<'_>) -> Result<V
     }
 }
 
+/// How many receivers the next line says.
 fn read_receiver_count(lines: &mut Lines<'_>) -> Result<u8, Fault>
     ensures { IfErr result (λ fault. fault ≢ Fault.Device) }
 {
@@ -122,6 +127,7 @@ fn read_body<A: Allocator + Copy>(
     Ok(())
 }
 
+/// Reads a line of a picture, which stands before all events, or of an event.
 fn read_body_line<A: Allocator + Copy>(
     alloc: A,
     line: Line<'_>,

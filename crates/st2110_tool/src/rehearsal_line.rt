@@ -25,6 +25,7 @@ pub(crate) fn read_stamp_line(text: &[u8]) -> Option<Stamp>
     read_stamp(rest)
 }
 
+/// The four numbers behind the word `stamp`.
 fn read_stamp(text: &[u8]) -> Option<Stamp>
     ensures range { IfSome result (λ stamp. stamp.payload_type ≤ 127) }
     ensures is { IfSome result (λ stamp. AreStamp text.now stamp) }

@@ -52,6 +52,7 @@ where
     }
 }
 
+/// Reads the script, plays it and prints what came of it.
 fn rehearse<A, S, O>(
     alloc: A,
     source: &mut S,
@@ -70,6 +71,7 @@ where
     rehearse_script(alloc, &script, output, text)
 }
 
+/// Plays the lines of a script, and prints what came of it.
 fn rehearse_script<A: Allocator + Copy, O: ByteSink>(
     alloc: A,
     script: &Script<A>,

@@ -30,10 +30,10 @@ where
     S: ByteSource,
     ensures limit { IfOk result (λ s. length s.octets.items ≤ LIMIT) }
     ensures failures { Accounts result (S.failures source.old) (S.failures source.new) }
-    ensures refused { IfErr result (λ fault. ReadsAt fault (S.to_give source.old)
-        (S.to_give source.new)) }
-    ensures read { IfOk result (λ s. IsReadFrom (S.to_give source.old)
-        (S.to_give source.new) s.octets.items s.is_cut) }
+    ensures refused { IfErr result (λ fault.
+        ReadsAt fault (S.to_give source.old) (S.to_give source.new)) }
+    ensures read { IfOk result (λ s.
+        IsReadFrom (S.to_give source.old) (S.to_give source.new) s.octets.items s.is_cut) }
 {
     Ok(cut_at_limit(read_past_limit(alloc, source)?))
 }
@@ -43,10 +43,10 @@ fn read_past_limit<A, S>(alloc: A, source: &mut S) -> Result<Vec<u8, A>, Fault>
 where
     A: Allocator,
     S: ByteSource,
-    ensures refused { IfErr result (λ fault. ReadsAt fault (S.to_give source.old)
-        (S.to_give source.new)) }
-    ensures given { IfOk result (λ octets. Consumes (S.to_give source.old)
-        (S.to_give source.new) octets.items) }
+    ensures refused { IfErr result (λ fault.
+        ReadsAt fault (S.to_give source.old) (S.to_give source.new)) }
+    ensures given { IfOk result (λ octets.
+        Consumes (S.to_give source.old) (S.to_give source.new) octets.items) }
     ensures whole { IfOk result (λ octets. length octets.items ≤ LIMIT
         → IsAtEnd (S.to_give source.new)) }
     ensures failures { Accounts result (S.failures source.old) (S.failures source.new) }
@@ -127,11 +127,12 @@ impl<'a> Lines<'a> {
     pub fn next(&mut self) -> Option<Line<'a>>
         ensures next { MatchOption result
             (numbered_lines self.old.passed self.old.rest.now ≡ [])
-            (λ line. numbered_lines self.old.passed self.old.rest.now ≡ (line.number, line.text.now)
+            (λ line. numbered_lines self.old.passed self.old.rest.now
+            ≡ (line.number, line.text.now)
             ∷ numbered_lines self.new.passed self.new.rest.now) }
         ensures fewer { IfSome result (λ _. length self.new.rest.now < length self.old.rest.now) }
-        ensures end { IfNone result (self.new.passed ≡ self.old.passed + length
-            (lines self.old.rest.now)) }
+        ensures end { IfNone result
+            (self.new.passed ≡ self.old.passed + length (lines self.old.rest.now)) }
     {
         while let Some((text, rest)) = split_line(self.rest) {
             self.rest = rest;
@@ -156,8 +157,8 @@ impl<'a> Lines<'a> {
 
 /// The first line of a text, without its LF and a CR before that, and the text behind it.
 fn split_line(text: &[u8]) -> Option<(&[u8], &[u8])>
-    ensures cases { MatchOption result (text.now ≡ []) (λ p. lines text.now ≡ p.0.now
-        ∷ lines p.1.now) }
+    ensures cases { MatchOption result (text.now ≡ []) (λ p.
+        lines text.now ≡ p.0.now ∷ lines p.1.now) }
     ensures shorter { IfSome result (λ p. length p.1.now < length text.now) }
 {
     if text.is_empty() {

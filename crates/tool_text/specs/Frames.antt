@@ -7,5 +7,5 @@ use Rattle.frame_assembly.specs.declared.counts.Counts.{Counts}
 abbrev pub counts_text : List ℕ → ℕ → Counts → List ℕ
 counts_text word timestamp counts =
     word ++ (decimal timestamp ++ (codes " present " ++ (decimal counts.present
-    ++ (codes " missing " ++ (decimal counts.missing
-    ++ (codes " contested " ++ decimal counts.contested))))))
+    ++ (codes " missing " ++ (decimal counts.missing ++ (codes " contested "
+    ++ decimal counts.contested))))))

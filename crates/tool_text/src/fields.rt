@@ -17,8 +17,8 @@ pub fn split_once(text: &[u8], separator: u8) -> Option<(&[u8], &[u8])>
 
 /// The text behind a word, where it begins so.
 pub fn after_word<'a>(text: &'a [u8], word: &[u8]) -> Option<&'a [u8]>
-    ensures cases { MatchOption result ((rest : List ℕ) → text.now ≢ word.now ++ rest)
-        (λ rest. text.now ≡ word.now ++ rest.now) }
+    ensures cases { MatchOption result ((rest : List ℕ) → text.now ≢ word.now ++ rest) (λ rest.
+        text.now ≡ word.now ++ rest.now) }
 {
     text.strip_prefix(word)
 }

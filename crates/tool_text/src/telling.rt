@@ -1,5 +1,5 @@
 //! Telling how a run ends: a line to the faults, and a status.
-ghost use Rattle.tool_text.specs.Telling.{Tells, device_line, memory_line};
+ghost use Rattle.tool_text.specs.Telling.{TellsLine, device_line, memory_line};
 ghost use Rattle.tool_text.specs.declared.status.Status.TheVariants.{Device, Memory};
 
 use crate::status::Status;
@@ -16,16 +16,16 @@ const MEMORY_LINE: &[u8] = b"st2110: memory\n";
 
 /// Tells that memory was wanted.
 pub fn tell_memory<F: ByteSink>(faults: &mut F) -> Status
-    ensures { Tells Memory memory_line result (F.failures faults.old) (F.failures faults.new)
-        (F.held faults.old) (F.held faults.new) }
+    ensures { TellsLine Memory memory_line result
+        (F.failures faults.old) (F.failures faults.new) (F.held faults.old) (F.held faults.new) }
 {
     report(Status::Memory, MEMORY_LINE, faults)
 }
 
 /// Tells that a device failed.
 pub fn tell_device<F: ByteSink>(faults: &mut F) -> Status
-    ensures { Tells Device device_line result (F.failures faults.old) (F.failures faults.new)
-        (F.held faults.old) (F.held faults.new) }
+    ensures { TellsLine Device device_line result
+        (F.failures faults.old) (F.failures faults.new) (F.held faults.old) (F.held faults.new) }
 {
     report(Status::Device, DEVICE_LINE, faults)
 }
@@ -33,8 +33,8 @@ pub fn tell_device<F: ByteSink>(faults: &mut F) -> Status
 /// Writes a line to the faults, and tells how the run ends: by this status, but where the sink
 /// fails.
 pub fn report<F: ByteSink>(status: Status, line: &[u8], faults: &mut F) -> Status
-    ensures { Tells status line.now result (F.failures faults.old) (F.failures faults.new)
-        (F.held faults.old) (F.held faults.new) }
+    ensures { TellsLine status line.now result
+        (F.failures faults.old) (F.failures faults.new) (F.held faults.old) (F.held faults.new) }
 {
     match write_whole(faults, line) {
         Ok(()) => status,

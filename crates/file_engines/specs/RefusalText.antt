@@ -1,0 +1,32 @@
+-- What is printed of a refusal: its subject, its number and its name (own).
+use Rattle.std.specs.Prelude.{ℕ, List, ◌++◌, codes}
+use Rattle.std.specs.Fmt.{decimal}
+use Rattle.capture_file.specs.Faults.{file_fault_name, file_fault_number}
+use Rattle.packet_plan.specs.Faults.{plan_fault_name, plan_fault_number}
+use Rattle.path_merge.specs.Answers.{open_fault_name, open_fault_number}
+use Rattle.sdp_format.specs.Faults.{sdp_fault_name, sdp_fault_number}
+use Rattle.tool_text.specs.Telling.{numbered_name}
+use Rattle.file_engines.specs.declared.fault.Refusal.{Refusal}
+use Rattle.file_engines.specs.declared.fault.Refusal.TheVariants as refusal
+
+abbrev pub refusal_text : Refusal → List ℕ
+refusal_text refusal.MigrateSdp = codes "migrate 1 SdpTooLong"
+refusal_text refusal.ReceiveWindow = codes "receive 1 BadWindowText"
+refusal_text refusal.ReceiveSource = codes "receive 2 BadSource"
+refusal_text refusal.ReceiveSdp = codes "receive 3 SdpTooLong"
+refusal_text refusal.ReceiveNoSdp = codes "receive 4 NoSdp"
+refusal_text refusal.SendFormats = codes "send 1 FormatsDiffer"
+refusal_text refusal.SendPictures = codes "send 2 TooManyPictures"
+refusal_text refusal.SendSdp = codes "send 3 SdpTooLong"
+refusal_text refusal.MergeUnlike = codes "merge 1 OpenedUnlike"
+refusal_text (refusal.Sdp f) = numbered_name (codes "sdp ") (sdp_fault_number f) (sdp_fault_name f)
+refusal_text (refusal.Open f) =
+    numbered_name (codes "open ") (open_fault_number f) (open_fault_name f)
+refusal_text (refusal.Plan f) =
+    numbered_name (codes "plan ") (plan_fault_number f) (plan_fault_name f)
+refusal_text (refusal.Capture f) =
+    numbered_name (codes "capture ") (file_fault_number f) (file_fault_name f)
+refusal_text (refusal.Picture f) =
+    numbered_name (codes "picture ") (file_fault_number f) (file_fault_name f)
+refusal_text (refusal.State f) =
+    numbered_name (codes "state ") (file_fault_number f) (file_fault_name f)
