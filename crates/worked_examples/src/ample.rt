@@ -1,5 +1,6 @@
 //! Calls that want memory, of many sizes, where there is enough of it.
 use crate::checks::met;
+use crate::small_format::KINDS;
 use frame_assembly::{Base, Frame};
 use packet_plan::Plan;
 use path_merge::Receiver;
@@ -43,10 +44,8 @@ fn sizes_have_memory(alloc: Global, sampling: Sampling, depth: Depth) -> Result<
 
 #[test]
 fn ample_memory(rt: HostRuntime) -> Result<(), Fail> {
-    for sampling in [Sampling::Ycc422, Sampling::Ycc444, Sampling::Rgb] {
-        for depth in [Depth::D8, Depth::D10, Depth::D12, Depth::D16] {
-            met(&rt, sizes_have_memory(rt.alloc(), sampling, depth)?);
-        }
+    for (sampling, depth) in KINDS {
+        met(&rt, sizes_have_memory(rt.alloc(), sampling, depth)?);
     }
     Ok(())
 }

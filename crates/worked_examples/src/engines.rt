@@ -206,8 +206,8 @@ fn wants_memory(run: &Ran) -> bool {
         && run.written.held().is_empty()
 }
 
-/// How many growths of an engine are refused in turn before one comes to its end, and none where a run isn't as it
-/// should be.
+/// How many growths of an engine are refused in turn before one comes to its end, and none where a
+/// run isn't as it should be.
 fn growths(rt: &(impl Abort + AllocGlobal), engine: Engine) -> Result<Option<u64>, AllocError> {
     let refusing = Refusing::new(rt.alloc(), 0);
     for nth in 1..1000u64 {

@@ -1,9 +1,13 @@
 //! Calls that take memory, with each growth refused in turn; and then the same call with memory.
 use crate::checks::met;
+use crate::number_map::runs_missed;
 use crate::picture_files::rows_read;
 use crate::receiver_files::refusals_read;
+use crate::rehearsal_scripts::rehearsed;
 use crate::rehearsals::handed_out;
 use crate::running::{Ran, SOUND, run};
+use crate::sdp_runs::{described, line_written};
+use crate::sending::packets_planned;
 use crate::small_format::{counts, small};
 use frame_assembly::Frame;
 use path_merge::{OpenFault, Receiver};
@@ -21,22 +25,38 @@ enum Call {
     Receiver(&'static [u32]),
     StateFile,
     PictureFile,
+    /// F1's plan.
+    Plan,
+    /// The missing runs of a map of packet numbers.
+    MissingRuns,
+    /// The canonical line of *camera-sdp*.
+    Line,
     /// *rehearsal*.
     Schedule,
-    /// *first-datagram*, and a script that is refused.
+    /// *camera-sdp* through the engine.
+    Description,
+    /// *rehearsal-script*.
+    Rehearsal,
+    /// A script of `trace`: its status, what it prints, and what it tells of a fault.
     Script(&'static [u8], u8, &'static [u8], &'static [u8]),
 }
 
 /// Each call, what it answers where it has memory, and the least and greatest number of growths
 /// that it takes.
-const CALLS: [(Call, usize, u64, u64); 8] = [
+const CALLS: [(Call, usize, u64, u64); 14] = [
     (Call::Frame, 16, 1, 999),
     (Call::Receiver(&[900]), 16, 1, 999),
     (Call::Receiver(&[900, 2400]), 16, 3, 999),
     (Call::StateFile, 0, 4, 999),
     (Call::PictureFile, 2, 1, 1),
+    (Call::Plan, 4, 1, 999),
+    (Call::MissingRuns, 6, 1, 999),
+    (Call::Line, 1, 2, 999),
     (Call::Schedule, 1, 8, 999),
+    (Call::Description, 1, 3, 999),
+    (Call::Rehearsal, 1, 12, 999),
     (Call::Script(SCRIPT, 0, OUTPUT, b""), 1, 4, 999),
+    (Call::Script(SLIDES, 0, SLID, b""), 1, 9, 999),
     (Call::Script(REFUSED, 1, b"", TOLD), 1, 0, 999),
 ];
 
@@ -45,6 +65,21 @@ const SCRIPT: &[u8] = b"format YCbCr-4:2:2 8 4 2 60/1\nopen 96 any 900\n\
     A 80E00001000003840000000100000008000000008010801180128013\n";
 
 const OUTPUT: &[u8] = b"kept 1\nframe 900 present 8 missing 8 contested 0\n";
+
+/// A script with slides and numbers, and what it prints.
+const SLIDES: &[u8] = b"format YCbCr-4:2:2 8 4 2 60/1\nopen 96 any 900,2400\nnumbers 1 4\n\
+    A 80E00001000003840000000100000008000000008010801180128013\n\
+    B 80E00002000009600000000100000008000000008010801180128013\n\
+    A 80E00002000009600000000100000008000100008014801580168017\n\
+    slide 2400\nslide 3900\n\
+    A 80E00003000003840000000100000008000000008010801180128013\n\
+    B 80E0000400000F3C0000000100000008000000008010801180128013\n\
+    cell 900 0 0 0\ncell 2400 1 3 0\ncell 3900 1 3 0\n";
+
+const SLID: &[u8] = b"kept 1\nkept 2\nkept 2\nrefused slide 1 InWindow\n\
+    out 900 present 8 missing 8 contested 0\noutside\nkept 4\nnone\nvalue 23\nmissing\n\
+    frame 2400 present 16 missing 0 contested 0\nframe 3900 present 8 missing 8 contested 0\n\
+    absent 3 1\n";
 
 const MEMORY: &[u8] = b"st2110: memory\n";
 
@@ -91,15 +126,28 @@ impl Call {
         refusing: &Refusing<Global>,
     ) -> Result<Option<usize>, Fail> {
         match self {
-            Call::Frame => made(refusing),
-            Call::Receiver(window) => opened(refusing, window),
-            Call::StateFile => refusals_read(refusing, rt.alloc()),
-            Call::PictureFile => rows_read(refusing, rt.alloc()),
-            Call::Schedule => handed_out(refusing, rt.alloc()),
             Call::Script(script, status, output, told) => {
                 let run = run(rt, refusing, script, 4096, SOUND)?;
                 Ok(answered(&run, status, output, told))
             }
+            Call::Description => described(rt, refusing),
+            Call::Rehearsal => rehearsed(rt, refusing),
+            _ => self.value(rt.alloc(), refusing),
+        }
+    }
+
+    /// The same of a call of the library.
+    fn value(self, alloc: Global, refusing: &Refusing<Global>) -> Result<Option<usize>, Fail> {
+        match self {
+            Call::Frame => made(refusing),
+            Call::Receiver(window) => opened(refusing, window),
+            Call::StateFile => refusals_read(refusing, alloc),
+            Call::PictureFile => rows_read(refusing, alloc),
+            Call::Plan => packets_planned(refusing),
+            Call::MissingRuns => runs_missed(refusing, alloc),
+            Call::Line => Ok(line_written(refusing)),
+            Call::Schedule => handed_out(refusing, alloc),
+            _ => Ok(Some(0)),
         }
     }
 }

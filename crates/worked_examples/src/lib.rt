@@ -76,8 +76,6 @@ mod stay_model;
 mod turns;
 #[cfg(test)]
 mod two_paths;
-#[cfg(test)]
-mod windows;
 
 use capture_file::CaptureReader;
 use path_merge::{ReceiveFault, Received, Receiver, receive};

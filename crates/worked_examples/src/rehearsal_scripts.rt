@@ -1,6 +1,7 @@
-//! *rehearsal-script* through the engine: failing devices, and each growth refused in turn.
+//! *rehearsal-script* through the engine: failing devices, and wants of memory.
 use crate::running::{Failing, Ran, SOUND, play_script};
-use refusing::Refusing;
+use std::alloc::Allocator;
+use std::process::Abort;
 use std::test::Fail;
 
 const SCRIPT: &str =
@@ -20,24 +21,17 @@ fn is_rehearsal(run: &Ran) -> bool {
     run.status == 0 && run.printed() == OUTPUT.as_bytes() && run.told().is_empty()
 }
 
-/// Each growth refused in turn; and then the same run with memory.
-#[test]
-fn growths(rt: HostRuntime) -> Result<(), Fail> {
-    let refusing = Refusing::new(rt.alloc(), 0);
-    for nth in 1..1000u64 {
-        refusing.refuse(nth);
-        let result = play_script(&rt, &refusing, SCRIPT.as_bytes(), 4096, SOUND)?;
-        if !refusing.was_met() {
-            assert!(rt; is_rehearsal(&result));
-            assert!(rt; nth > 12);
-            break;
-        }
-        assert!(rt; wants_memory(&result), "growth {nth}");
-        refusing.refuse(0);
-        let again = play_script(&rt, &refusing, SCRIPT.as_bytes(), 4096, SOUND)?;
-        assert!(rt; is_rehearsal(&again), "growth {nth}");
-    }
-    Ok(())
+/// Whether the engine plays the script over an allocator, as 1.
+pub fn rehearsed<A: Allocator + Copy>(
+    rt: &(impl Abort + AllocGlobal),
+    alloc: A,
+) -> Result<Option<usize>, Fail> {
+    let run = play_script(rt, alloc, SCRIPT.as_bytes(), 4096, SOUND)?;
+    Ok(if wants_memory(&run) {
+        None
+    } else {
+        Some(usize::from(is_rehearsal(&run)))
+    })
 }
 
 const fn failing(source: u64, output: u64) -> Failing {

@@ -1,8 +1,9 @@
-//! The engine of `sdp` over the camera's text: failing devices, and each growth refused in turn.
+//! The engine of `sdp` over the camera's text: failing devices, and wants of memory.
 use crate::running::{Failing, Ran, SOUND, describe};
 use crate::sdp::{CAMERA, LINE, line_of};
-use refusing::Refusing;
 use sdp_format::SdpFault;
+use std::alloc::Allocator;
+use std::process::Abort;
 use std::test::Fail;
 
 fn is_camera(run: &Ran) -> bool {
@@ -43,38 +44,24 @@ fn wants_memory(run: &Ran) -> bool {
     run.status == 4 && run.told() == b"st2110: memory\n".as_slice() && run.printed().is_empty()
 }
 
-#[test]
-fn growths_of_a_description(rt: HostRuntime) -> Result<(), Fail> {
-    let refusing = Refusing::new(rt.alloc(), 0);
-    for nth in 1..1000u64 {
-        refusing.refuse(nth);
-        let run = describe(&rt, &refusing, CAMERA.as_bytes(), 4096, SOUND)?;
-        if !refusing.was_met() {
-            assert!(rt; is_camera(&run));
-            assert!(rt; nth > 3);
-            break;
-        }
-        assert!(rt; wants_memory(&run), "growth {nth}");
-    }
-    Ok(())
+/// Whether the engine describes the camera over an allocator, as 1.
+pub fn described<A: Allocator + Copy>(
+    rt: &(impl Abort + AllocGlobal),
+    alloc: A,
+) -> Result<Option<usize>, Fail> {
+    let run = describe(rt, alloc, CAMERA.as_bytes(), 4096, SOUND)?;
+    Ok(if wants_memory(&run) {
+        None
+    } else {
+        Some(usize::from(is_camera(&run)))
+    })
 }
 
-/// `read_sdp` and `fmtp_text` over the library, with each growth refused in turn.
-#[test]
-fn growths_of_a_line(rt: HostRuntime) -> Result<(), Fail> {
-    let refusing = Refusing::new(rt.alloc(), 0);
-    for nth in 1..1000u64 {
-        refusing.refuse(nth);
-        let line = line_of(&refusing, CAMERA.as_bytes());
-        if !refusing.was_met() {
-            assert!(rt; line.is_ok());
-            assert!(rt; nth > 2);
-            break;
-        }
-        match line {
-            Ok(_) => assert!(rt; false, "growth {nth}"),
-            Err(fault) => assert_eq!(rt; fault, SdpFault::NoMemory, "growth {nth}"),
-        }
+/// Whether `read_sdp` and `fmtp_text` give the camera's line over an allocator, as 1.
+pub fn line_written<A: Allocator + Copy>(alloc: A) -> Option<usize> {
+    match line_of(alloc, CAMERA.as_bytes()) {
+        Ok(line) => Some(usize::from(line.as_slice() == LINE.as_bytes())),
+        Err(SdpFault::NoMemory) => None,
+        Err(_) => Some(0),
     }
-    Ok(())
 }

@@ -1,15 +1,15 @@
 //! Plans, and pictures that are sent and taken again.
 ghost use Rattle.std.specs.Prelude.{◌≡◌, ◌↔◌, IsTrue};
 
+use crate::checks::met;
 use crate::pictures::{set, small};
+use crate::small_format::KINDS;
 use frame_assembly::Base;
 use packet_plan::{Plan, PlanFault, SendFault, Stamp, send_frame};
 use path_merge::Receiver;
-use refusing::Refusing;
 use st_format::memory::MemoryDatagrams;
 use st_format::{Depth, Format, Path, Picture, Sampling};
 use std::alloc::{AllocError, Allocator, Global};
-use std::process::Abort;
 use std::test::Fail;
 
 /// *sender-sizes*' stamp.
@@ -35,10 +35,20 @@ const LUMA: [(u32, u32, u16); 8] = [
 /// P0: chroma 128, and that luma.
 fn p0(alloc: Global) -> Result<Picture, Fail> {
     let mut picture = Picture::new(alloc, small()?, [0, 128, 128])?;
+    let mut fit = true;
     for (row, column, value) in LUMA {
-        let _ = set(&mut picture, row, column, 0, value);
+        fit &= set(&mut picture, row, column, 0, value);
     }
-    Ok(picture)
+    fitting(picture, fit)
+}
+
+/// A picture, where all values that were set fit.
+fn fitting(picture: Picture, fit: bool) -> Result<Picture, Fail> {
+    if fit {
+        Ok(picture)
+    } else {
+        Err(Fail::from("too large a value"))
+    }
 }
 
 /// A sink of 64 slots of 1,400 octets, that fails at one call; 0 at none.
@@ -93,28 +103,60 @@ fn are_datagrams(alloc: Global, taken: &[Vec<u8>], datagrams: &[&str]) -> bool {
 }
 
 /// Whether P0 sent in packets of at most `size` octets, from number `first` on, gives these
-/// datagrams and this next number.
+/// datagrams, and then either this next number or a fault of the sink.
 fn sends(
+    alloc: Global,
+    size: u32,
+    first: u32,
+    fails_in: u64,
+    answer: Result<u32, SendFault>,
+    datagrams: &[&str],
+) -> Result<bool, Fail> {
+    let picture = p0(alloc)?;
+    let plan = Plan::new(alloc, picture.format(), size)?;
+    let mut sink = sink(alloc, fails_in)?;
+    let stamp = Stamp { first, ..STAMP };
+    let is_answered = sent(&plan, &picture, stamp, &mut sink) == Some(answer);
+    Ok(is_answered && has_taken(alloc, &sink, fails_in, datagrams))
+}
+
+/// Whether a sink has taken these datagrams, and has failed once where it was to fail.
+fn has_taken(alloc: Global, sink: &MemoryDatagrams, fails_in: u64, datagrams: &[&str]) -> bool {
+    sink.failures() == fails_in.min(1) && are_datagrams(alloc, sink.taken(), datagrams)
+}
+
+/// Whether a sink that fails at a call has the datagrams before it, as the fault tells.
+fn fails_at(
+    alloc: Global,
+    size: u32,
+    first: u32,
+    call: usize,
+    datagrams: &[&str],
+) -> Result<bool, Fail> {
+    let before = call.saturating_sub(1).min(datagrams.len());
+    let sent = u32::try_from(before).unwrap_or(u32::MAX);
+    let fault = Err(SendFault { sent });
+    sends(alloc, size, first, call as u64, fault, &datagrams[..before])
+}
+
+/// The same with a sink that fails at none of its calls, and then at each in turn.
+fn sends_each(
     alloc: Global,
     size: u32,
     first: u32,
     next: u32,
     datagrams: &[&str],
 ) -> Result<bool, Fail> {
-    let picture = p0(alloc)?;
-    let plan = Plan::new(alloc, picture.format(), size)?;
-    let mut sink = sink(alloc, 0)?;
-    let stamp = Stamp { first, ..STAMP };
-    let answer = sent(&plan, &picture, stamp, &mut sink);
-    Ok(
-        answer == Some(Ok(next))
-            && plan.len() == datagrams.len()
-            && are_datagrams(alloc, sink.taken(), datagrams),
-    )
+    let mut agree = sends(alloc, size, first, 0, Ok(next), datagrams)?;
+    for call in 1..datagrams.len() + 1 {
+        agree &= fails_at(alloc, size, first, call, datagrams)?;
+    }
+    Ok(agree)
 }
 
-/// *sender-sizes* at 42 and 40, and *number-wraps*: size, first and next number, and datagrams.
-const SENDER_SIZES: [(u32, u32, u32, &[&str]); 3] = [
+/// *sender-sizes* at 42, 40 and 24, and *number-wraps-and-failing-sink*: size, first and next
+/// number, and datagrams.
+const SENDER_SIZES: [(u32, u32, u32, &[&str]); 4] = [
     (
         42,
         1,
@@ -139,15 +181,23 @@ const SENDER_SIZES: [(u32, u32, u32, &[&str]); 3] = [
             "80E000000000038400000001000000040001000280168017",
         ],
     ),
+    (
+        24,
+        1,
+        5,
+        &[
+            "806000010000038400000001000000040000000080108011",
+            "806000020000038400000001000000040000000280128013",
+            "806000030000038400000001000000040001000080148015",
+            "80E000040000038400000001000000040001000280168017",
+        ],
+    ),
 ];
 
 #[test]
 fn sender_sizes(rt: HostRuntime) -> Result<(), Fail> {
     for (size, first, next, datagrams) in SENDER_SIZES {
-        assert!(rt;
-            sends(rt.alloc(), size, first, next, datagrams)?,
-            "{size} {first}"
-        );
+        met(&rt, sends_each(rt.alloc(), size, first, next, datagrams)?);
     }
     Ok(())
 }
@@ -170,34 +220,11 @@ const SIZES: [(u32, Result<usize, PlanFault>); 6] = [
     (4_294_967_295, Err(PlanFault::BadPacketSize)),
 ];
 
-/// *sender-sizes* at 24, 23 and 9001.
+/// How many packets there are at 24, and *sender-sizes* at 23 and 9001.
 #[test]
 fn least_and_greatest_sizes(rt: HostRuntime) -> Result<(), Fail> {
     for (size, wanted) in SIZES {
-        assert!(rt; planned(rt.alloc(), size)? == wanted, "{size}");
-    }
-    Ok(())
-}
-
-/// Whether a sink that fails at put `k` has the first `k - 1` datagrams.
-fn fails_at(alloc: Global, k: u32) -> Result<bool, Fail> {
-    let picture = p0(alloc)?;
-    let plan = Plan::new(alloc, picture.format(), 24)?;
-    let mut sink = sink(alloc, u64::from(k))?;
-    let sent_before = k.wrapping_sub(1);
-    let fault = SendFault { sent: sent_before };
-    let answer = sent(&plan, &picture, STAMP, &mut sink);
-    Ok(
-        answer == Some(Err(fault))
-            && sink.taken().len() == sent_before as usize
-            && sink.failures() == 1,
-    )
-}
-
-#[test]
-fn failing_sinks(rt: HostRuntime) -> Result<(), Fail> {
-    for k in 1..5u32 {
-        assert!(rt; fails_at(rt.alloc(), k)?, "{k}");
+        met(&rt, planned(rt.alloc(), size)? == wanted);
     }
     Ok(())
 }
@@ -264,10 +291,7 @@ const PLANS: [(Depth, u32, u32, &[[u32; 3]]); 3] = [
 fn plans(rt: HostRuntime) -> Result<(), Fail> {
     for (depth, width, height, packets) in PLANS {
         let format = Format::new(Sampling::Ycc422, depth, width, height, 60, 1)?;
-        assert!(rt;
-            has_packets(rt.alloc(), format, packets)?,
-            "{depth:?} {width}"
-        );
+        met(&rt, has_packets(rt.alloc(), format, packets)?);
     }
     Ok(())
 }
@@ -292,17 +316,18 @@ fn turn_value(turn: u32, most: u16) -> u16 {
 /// A picture whose values run through 0, the greatest, and values with one bit set.
 pub fn runs_through(alloc: Global, format: Format) -> Result<Picture, Fail> {
     let mut picture = Picture::new(alloc, format, [0, 0, 0])?;
+    let mut fit = true;
     let most = format.max_value();
     for row in 0..format.height() {
         for column in 0..format.width() {
             for component in 0..3u8 {
                 let turn = row.wrapping_mul(31).wrapping_add(column.wrapping_mul(3));
                 let value = turn_value(turn.wrapping_add(u32::from(component)), most);
-                let _ = set(&mut picture, row, column, component, value);
+                fit &= set(&mut picture, row, column, component, value);
             }
         }
     }
-    Ok(picture)
+    fitting(picture, fit)
 }
 
 /// Whether a picture comes out of a receiver of one source whole and without a contest.
@@ -326,45 +351,28 @@ fn comes_back(alloc: Global, picture: &Picture, size: u32) -> Result<bool, Fail>
     Ok(is_sent && is_received(alloc, sink.taken(), picture)?)
 }
 
-/// Each sampling and depth, in packets of the least size and of 1,400 octets.
+/// The same of a format, in packets of the least size and of 1,400 octets.
+fn sizes_come_back(alloc: Global, format: Format) -> Result<bool, Fail> {
+    let picture = runs_through(alloc, format)?;
+    let least = 20 + format.pgroup().octets as u32 % 100;
+    Ok(comes_back(alloc, &picture, least)? && comes_back(alloc, &picture, 1400)?)
+}
+
+/// Each sampling and depth.
 #[test]
 fn pictures_come_back(rt: HostRuntime) -> Result<(), Fail> {
-    for sampling in [Sampling::Ycc422, Sampling::Ycc444, Sampling::Rgb] {
-        for depth in [Depth::D8, Depth::D10, Depth::D12, Depth::D16] {
-            let format = Format::new(sampling, depth, 8, 3, 60, 1)?;
-            let picture = runs_through(rt.alloc(), format)?;
-            let least = 20 + format.pgroup().octets as u32 % 100;
-            let by_least = comes_back(rt.alloc(), &picture, least)?;
-            let by_most = comes_back(rt.alloc(), &picture, 1400)?;
-            assert!(rt; by_least && by_most, "{sampling:?} {depth:?}");
-        }
+    for (sampling, depth) in KINDS {
+        let format = Format::new(sampling, depth, 8, 3, 60, 1)?;
+        met(&rt, sizes_come_back(rt.alloc(), format)?);
     }
     Ok(())
 }
 
-/// How many growths `Plan::new` wants, where it answers for each that it was refused; else 0.
-fn growths(alloc: Global) -> Result<u64, Fail> {
-    let refusing = Refusing::new(alloc, 0);
-    for nth in 1..1000u64 {
-        refusing.refuse(nth);
-        let answer = planned(&refusing, 24)?;
-        if !refusing.was_met() {
-            return Ok(if answer == Ok(4) {
-                nth.wrapping_sub(1)
-            } else {
-                0
-            });
-        }
-        if answer != Err(PlanFault::NoMemory) {
-            return Ok(0);
-        }
+/// How many packets F1's plan at 24 octets has, over an allocator.
+pub fn packets_planned<A: Allocator>(alloc: A) -> Result<Option<usize>, Fail> {
+    match planned(alloc, 24)? {
+        Ok(packets) => Ok(Some(packets)),
+        Err(PlanFault::NoMemory) => Ok(None),
+        Err(fault) => Err(Fail::from(fault)),
     }
-    Ok(0)
-}
-
-/// `Plan::new` with each growth refused in turn.
-#[test]
-fn growths_of_a_plan(rt: HostRuntime) -> Result<(), Fail> {
-    assert!(rt; growths(rt.alloc())? > 0);
-    Ok(())
 }
