@@ -36,10 +36,9 @@ pub(crate) enum Answer {
 }
 
 impl fmt::Display for Answer {
-    ghost use Rattle.std.specs.Prelude.{Some};
     ghost use Rattle.st2110_tool.specs.Answer.{answer_text};
 
-    ghost output = { λ answer. Some (answer_text answer) };
+    ghost output = { answer_text };
 
     fn fmt<W: fmt::Write>(&self, f: &mut fmt::Formatter<W>) -> fmt::Result {
         match self {
