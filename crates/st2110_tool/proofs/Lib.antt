@@ -4,3 +4,4 @@ mod FormLemmas
 pub mod OctetLemmas
 pub mod WindowLemmas
 mod RehearsalLemmas
+mod FaultLemmas

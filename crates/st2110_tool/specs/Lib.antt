@@ -5,3 +5,4 @@ pub mod Answer
 pub mod Session
 pub mod Forms
 pub mod RehearsalForms
+pub mod FirstLines

@@ -1,6 +1,6 @@
 -- What the lines of a script do to a receiver and to what stands beside it.
-use Rattle.std.specs.Prelude.{◌≡◌, ℕ, false, List, [], ◌∷◌, replicate, Option, Some, None, Result}
-use Rattle.std.specs.Prelude.{Ok, Err, count_by, slice_get}
+use Rattle.std.specs.Prelude.{◌≡◌, ◌≢◌, ◌≤◌, ◌⊎◌, ℕ, false, length, List, [], ◌∷◌, replicate}
+use Rattle.std.specs.Prelude.{Option, Some, None, Result, Ok, Err, count_by, slice_get}
 use Rattle.frame_assembly.specs.declared.counts.Counts.{Counts}
 use Rattle.path_merge.specs.declared.answer.Refusal.{Refusal}
 use Rattle.path_merge.specs.declared.answer.Taken.{Taken}
@@ -25,7 +25,7 @@ use Rattle.st2110_tool.specs.declared.line.Place.{Place}
 use Rattle.st2110_tool.specs.declared.line.TraceLine.{TraceLine}
 use Rattle.st2110_tool.specs.declared.line.TraceLine.TheVariants.{Datagram, Slide}
 use Rattle.st2110_tool.specs.declared.line.TraceLine.TheVariants as line
-use Rattle.st2110_tool.specs.Forms.{IsOctetsText}
+use Rattle.st2110_tool.specs.Forms.{IsOctetsText, IsTraceLine}
 
 -- the answer to a datagram, by what the receiver says of it
 abbrev pub datagram_answer : Result Taken Refusal → Answer
@@ -62,6 +62,14 @@ pub record IsSlide (old : State) (next : ℕ) (new : State) (spare : Raster)
   pub frame_is : slice_get old.frames 0 ≡ Some spare
   pub answer_is : answer ≡ Out first (counts_of spare)
 
+-- where in a frame a sample is that a line asks for
+abbrev pub position_of : Place → Position
+position_of p = record { row = p.row; column = p.column; component = p.component }
+
+-- numbers from a first one on, so many, of which none is noted
+abbrev pub no_numbers : ℕ → ℕ → Numbers
+no_numbers first count = record { first = first; noted = replicate count false }
+
 -- a sample of a frame of the window
 pub record IsPlace (s : State) (timestamp : ℕ) (p : Position) : Type 0 where
   pub inside : IsMember timestamp s.opening.window
@@ -83,8 +91,7 @@ pub record Takes (path : Path) (octets : List ℕ) (old new : State) (before aft
   pub refusals : new.refusals ≡ refusals_after path (taken_at old.opening octets) old.refusals
   pub numbers : after ≡ numbers_after (taken_at old.opening octets) before
 
--- What a slide does: it is refused where the window has the timestamp, and else moves the window on
--- (own)
+-- What a slide does: refused where the window has the timestamp, and else it moves the window on (own)
 pub record Slides (next : ℕ) (old new : State) (before after : Option Numbers)
     (answer : Option Answer) : Type 0 where
   pub refused : IsMember next old.opening.window → (answer ≡ Some (NotSlid InWindow)) × (new ≡ old)
@@ -97,25 +104,19 @@ pub record BeginsNumbers (first count : ℕ) (old new : State) (before after : O
     (answer : Option Answer) : Type 0 where
   pub answer_is : answer ≡ None
   pub once : before ≡ None
-  pub numbers : after ≡ Some (record { first = first; noted = replicate count false })
+  pub numbers : after ≡ Some (no_numbers first count)
   pub receiver : new ≡ old
 
 -- What a question for a cell does: it is answered, and nothing changes (own)
-pub record Tells (place : Place) (old new : State) (before after : Option Numbers)
+pub record TellsCell (place : Place) (old new : State) (before after : Option Numbers)
     (answer : Option Answer) : Type 0 where
-  pub there : IsPlace old place.timestamp
-      (record { row = place.row; column = place.column; component = place.component })
-      → answer ≡ Some
-      (cell_answer (cell_in old place.timestamp
-      (record { row = place.row; column = place.column; component = place.component })))
-  pub nowhere : (IsPlace old place.timestamp
-      (record { row = place.row; column = place.column; component = place.component }) → ⊥)
-      → answer ≡ Some Nowhere
+  pub there : IsPlace old place.timestamp (position_of place)
+      → answer ≡ Some (cell_answer (cell_in old place.timestamp (position_of place)))
+  pub nowhere : (IsPlace old place.timestamp (position_of place) → ⊥) → answer ≡ Some Nowhere
   pub receiver : new ≡ old
   pub numbers : after ≡ before
 
--- What a line of `trace` does to the receiver and to the numbers beside it, and what it answers
--- (own)
+-- What a line of `trace` does to the receiver and the numbers beside it, and what it answers (own)
 abbrev pub Follows : TraceLine → State → State → Option Numbers → Option Numbers → Option Answer
     → Type 0
 Follows (Datagram path digits) old new before after answer =
@@ -124,4 +125,19 @@ Follows (Datagram path digits) old new before after answer =
 Follows (Slide next) old new before after answer = Slides next old new before after answer
 Follows (line.Numbers first count) old new before after answer =
     BeginsNumbers first count old new before after answer
-Follows (line.Cell place) old new before after answer = Tells place old new before after answer
+Follows (line.Cell place) old new before after answer = TellsCell place old new before after answer
+
+-- Lines that are of a form and may not stand where they do: a datagram whose digits are those of no
+-- octets for which there is room, and `numbers` where numbers are noted already (own)
+abbrev pub IsUnfit : TraceLine → ℕ → Option Numbers → Type 0
+IsUnfit (Datagram path digits) room numbers =
+    (octets : List ℕ) → length octets ≤ room → IsOctetsText digits.now octets → ⊥
+IsUnfit (Slide next) room numbers = ⊥
+IsUnfit (line.Numbers first count) room numbers = numbers ≢ None
+IsUnfit (line.Cell place) room numbers = ⊥
+
+-- a line that is of no form, or an unfit one (own)
+abbrev pub IsAtFault : List ℕ → ℕ → Option Numbers → Type 0
+IsAtFault text room numbers =
+    ((said : TraceLine) → IsTraceLine text said → ⊥)
+    ⊎ ((said : TraceLine) × IsTraceLine text said × IsUnfit said room numbers)

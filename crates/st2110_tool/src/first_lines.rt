@@ -1,5 +1,8 @@
 //! The lines that a script begins with.
-ghost use Rattle.std.specs.Prelude.{◌≢◌, IfErr};
+ghost use Rattle.std.specs.Prelude.{◌≡◌, ◌≢◌, ◌∷◌, ◌+◌, Err, IfErr, IfOk, Ok};
+ghost use Rattle.st_format.specs.declared.format.FormatFault.{FormatFault};
+ghost use Rattle.st_format.specs.Fields.{fields_of};
+ghost use Rattle.st2110_tool.specs.FirstLines.{ReadsFormat, lines_left};
 
 use crate::fault::Fault;
 use crate::line::read_format_line;
@@ -9,7 +12,10 @@ use st_format::Format;
 /// The next line of those that a script needs; where there is none, the line behind its last is at
 /// fault.
 pub(crate) fn next_line<'a>(lines: &mut Lines<'a>) -> Result<Line<'a>, Fault>
-    ensures { IfErr result (λ fault. fault ≢ Fault.Device) }
+    ensures next { IfOk result (λ line.
+        lines_left lines.old ≡ (line.number, line.text.now) ∷ lines_left lines.new) }
+    ensures none { IfErr result (λ fault. fault ≡ Fault.Script (lines.new.passed + 1)) }
+    ensures refused { IfErr result (λ fault. fault ≢ Fault.Device) }
 {
     match lines.next() {
         Some(line) => Ok(line),
@@ -17,9 +23,13 @@ pub(crate) fn next_line<'a>(lines: &mut Lines<'a>) -> Result<Line<'a>, Fault>
     }
 }
 
-/// The format that the next line says.
+/// The format that the next line says: just that one.
 pub(crate) fn read_format(lines: &mut Lines<'_>) -> Result<Format, Fault>
-    ensures { IfErr result (λ fault. fault ≢ Fault.Device) }
+    ensures format { IfOk result (λ format.
+        ReadsFormat (lines_left lines.old) (lines_left lines.new) (Ok (fields_of format))) }
+    ensures none { (why : FormatFault) → result ≡ Err (Fault.Format why)
+        → ReadsFormat (lines_left lines.old) (lines_left lines.new) (Err why) }
+    ensures refused { IfErr result (λ fault. fault ≢ Fault.Device) }
 {
     let line = next_line(lines)?;
     let Some(said) = read_format_line(line.text) else {

@@ -1,12 +1,12 @@
 //! What the lines of a script are followed with.
-ghost use Rattle.std.specs.Prelude.{◌≡◌, ◌≢◌, ◌↔◌, ◌∷◌, [], IfErr, IfOk, IsErrOf, None, OnOk, Some};
-ghost use Rattle.std.specs.Prelude.{false, replicate};
+ghost use Rattle.std.specs.Prelude.{◌≡◌, ◌≢◌, ◌↔◌, ◌∷◌, [], ℕ, IfErr, IfOk, IsErrOf, None, OnOk};
+ghost use Rattle.std.specs.Prelude.{Some};
 ghost use Rattle.path_merge.specs.Answers.{refusals_after, taken_at};
 ghost use Rattle.path_merge.specs.Frames.{cell_in, frames_of, joined_frames};
 ghost use Rattle.path_merge.specs.Numbers.{IsCount};
 ghost use Rattle.st_format.specs.Member.{IsMember};
 ghost use Rattle.st2110_tool.specs.Session.{IsPlace, IsSlide, cell_answer, datagram_answer};
-ghost use Rattle.st2110_tool.specs.Session.{numbers_after, with_number};
+ghost use Rattle.st2110_tool.specs.Session.{no_numbers, numbers_after, position_of, with_number};
 
 use crate::answer::Answer;
 use crate::fault::Fault;
@@ -66,8 +66,7 @@ impl<A: Allocator> Session<A> {
         }
     }
 
-    /// Moves the window on to a timestamp, and tells of the frame that leaves. Frames are
-    /// exchanged.
+    /// Moves the window on to a timestamp, and tells of the frame that leaves: frames are exchanged.
     pub fn slide(&mut self, next: u32) -> Answer
         ensures refused { IsMember next self.old.receiver.opening.window
             → (result ≡ Answer.NotSlid SlideFault.InWindow)
@@ -95,11 +94,11 @@ impl<A: Allocator> Session<A> {
         count: u32,
     ) -> Result<(), Fault>
         ensures twice { IsErrOf result (Fault.Script line) ↔ (self.old.numbers ≢ None) }
+        ensures line { (number : ℕ) → IsErrOf result (Fault.Script number) → number ≡ line }
         ensures count { IsErrOf result (Fault.Numbers SeqMapFault.BadCount)
             ↔ ((self.old.numbers ≡ None) × (IsCount count → ⊥)) }
         ensures refused { IfErr result (λ fault. fault ≢ Fault.Device) }
-        ensures opened { OnOk result (self.new.numbers ≡ Some
-            (record { first = first; noted = replicate count false })) }
+        ensures opened { OnOk result (self.new.numbers ≡ Some (no_numbers first count)) }
         ensures receiver { self.new.receiver ≡ self.old.receiver }
     {
         if self.numbers.is_some() {
@@ -111,12 +110,10 @@ impl<A: Allocator> Session<A> {
 
     /// What is known of a sample.
     pub fn cell(&self, place: Place) -> Answer
-        ensures there { IsPlace self.now.receiver place.timestamp
-            (record { row = place.row; column = place.column; component = place.component })
-            → result ≡ cell_answer (cell_in self.now.receiver place.timestamp
-            (record { row = place.row; column = place.column; component = place.component })) }
-        ensures nowhere { (IsPlace self.now.receiver place.timestamp
-            (record { row = place.row; column = place.column; component = place.component }) → ⊥)
+        ensures there { IsPlace self.now.receiver place.timestamp (position_of place)
+            → result ≡ cell_answer
+            (cell_in self.now.receiver place.timestamp (position_of place)) }
+        ensures nowhere { (IsPlace self.now.receiver place.timestamp (position_of place) → ⊥)
             → result ≡ Answer.Nowhere }
     {
         let Some(frame) = self.receiver.frame(place.timestamp) else {

@@ -1,12 +1,15 @@
 //! The engine of `trace`.
-ghost use Rattle.std.specs.Prelude.{◌≡◌, ◌≢◌, ◌≤◌, ◌<◌, ◌⊎◌, false, length, Err, IfErr, IfOk, OnOk};
+ghost use Rattle.std.specs.Prelude.{◌≡◌, ◌≢◌, ◌≤◌, ◌<◌, ◌⊎◌, ◌↔◌, [], ℕ};
+ghost use Rattle.std.specs.Prelude.{false, length, Err, IfErr, IfOk, OnOk};
 ghost use Rattle.std.specs.Io.KnownBytes.{Appends};
+ghost use Rattle.path_merge.specs.Frames.{Holds};
 ghost use Rattle.st_format.specs.Device.{Failed};
+ghost use Rattle.st2110_tool.specs.FirstLines.{ReadsOpening, lines_left};
 ghost use Rattle.st2110_tool.specs.Fault.{Accounts, AccountsBoth, Reads};
 ghost use Rattle.tool_text.specs.Telling.{memory_line};
 ghost use Rattle.st2110_tool.specs.Forms.{IsTraceLine};
 ghost use Rattle.st2110_tool.specs.Script.{GivesAll, GivesScript};
-ghost use Rattle.st2110_tool.specs.Session.{Follows};
+ghost use Rattle.st2110_tool.specs.Session.{Follows, IsAtFault};
 
 use crate::answer::Answer;
 use crate::fault::Fault;
@@ -58,6 +61,7 @@ where
     }
 }
 
+/// Reads the script, follows it and prints what its lines say.
 fn trace<A, S, O>(
     alloc: A,
     source: &mut S,
@@ -76,6 +80,7 @@ where
     play(alloc, &script, output, text)
 }
 
+/// Opens a receiver, follows the lines behind, and prints what is known at the end.
 fn play<A: Allocator + Copy, O: ByteSink>(
     alloc: A,
     script: &Script<A>,
@@ -98,12 +103,17 @@ fn play<A: Allocator + Copy, O: ByteSink>(
     print_absent(alloc, &session.numbers, output, text)
 }
 
+/// Opens a receiver of a format as the next line says: for just its payload type, source and
+/// window.
 fn open_receiver<A: Allocator + Copy>(
     alloc: A,
     format: Format,
     lines: &mut Lines<'_>,
 ) -> Result<Receiver<A>, Fault>
-    ensures { IfErr result (λ fault. fault ≢ Fault.Device) }
+    ensures opening { IfOk result (λ receiver.
+        ReadsOpening (lines_left lines.old) (lines_left lines.new) format receiver.opening) }
+    ensures holds { IfOk result (λ receiver. Holds receiver []) }
+    ensures refused { IfErr result (λ fault. fault ≢ Fault.Device) }
 {
     let line = next_line(lines)?;
     let Some(said) = read_open_line(line.text) else {
@@ -119,6 +129,7 @@ fn open_receiver<A: Allocator + Copy>(
     }
 }
 
+/// Follows the lines to the last, each of which prints what it says.
 fn play_lines<A: Allocator + Copy, O: ByteSink>(
     alloc: A,
     lines: &mut Lines<'_>,
@@ -162,10 +173,11 @@ fn answer_to<A: Allocator>(
     ensures refused { IfErr result (λ fault. fault ≢ Fault.Device) }
     ensures follows { IfOk result (λ answer. (said : TraceLine)
         × IsTraceLine line.entry.text.now said
-        × Follows said session.old.receiver session.new.receiver session.old.numbers
-        session.new.numbers answer) }
-    ensures unknown { ((said : TraceLine) → IsTraceLine line.entry.text.now said → ⊥)
-        → result ≡ Err (Fault.Script line.entry.number) }
+        × Follows said session.old.receiver session.new.receiver
+        session.old.numbers session.new.numbers answer) }
+    ensures script { (number : ℕ) → (result ≡ Err (Fault.Script number))
+        ↔ ((number ≡ line.entry.number)
+        × IsAtFault line.entry.text.now (length octets.old) session.old.numbers) }
 {
     let Some(said) = read_trace_line(line.text) else {
         return Err(Fault::Script(line.number));
@@ -177,8 +189,10 @@ fn answer_to<A: Allocator>(
         },
         TraceLine::Slide(next) => Some(session.slide(next)),
         TraceLine::Numbers(first, count) => {
-            session.open_numbers(alloc, line.number, first, count)?;
-            None
+            match session.open_numbers(alloc, line.number, first, count) {
+                Ok(()) => None,
+                Err(fault) => return Err(fault),
+            }
         }
         TraceLine::Cell(place) => Some(session.cell(place)),
     })

@@ -1,8 +1,10 @@
-use Rattle.std.proofs.Common.{Option, Some, ap, refl, subst}
+use Rattle.std.proofs.Common.{Option, Some, ap, inl, inr, length, refl, subst}
 use Rattle.st2110_tool.specs.declared.answer.Answer.{Answer}
 use Rattle.st2110_tool.specs.declared.line.TraceLine.{TraceLine}
-use Rattle.st2110_tool.specs.declared.line.TraceLine.TheVariants.{Slide}
+use Rattle.st2110_tool.specs.declared.line.TraceLine.TheVariants.{Cell, Datagram, Numbers, Slide}
 use Rattle.st2110_tool.specs.Forms.{IsTraceLine}
+use Rattle.st2110_tool.specs.Session.{IsAtFault}
+use Rattle.st2110_tool.proofs.FaultLemmas.{never, nothing_read, some_fit, told, told_by}
 use Rattle.st2110_tool.proofs.trace.answer_to.Goals as goal
 
 pub returns-in-Slide-clause-follows : goal.returns-in-Slide-clause-follows
@@ -11,8 +13,8 @@ returns-in-Slide-clause-follows g c = (
   subst (λ (said : TraceLine). IsTraceLine c.args.line.text.now said) c.in-Slide.is
       c.in-Some.ensures.is,
   record {
-    refused =
-        λ m. let r = c.slide.ensures.refused m in (ap (λ (a : Answer). some_answer a) r.0, r.1);
+    refused = λ m.
+        let r = c.slide.ensures.refused m in (ap (λ (a : Answer). some_answer a) r.0, r.1);
     slid = λ out. (c.slide.new.self.spare, c.slide.result, refl, c.slide.ensures.slid out);
     numbers = c.slide.ensures.numbers;
   },
@@ -20,3 +22,63 @@ returns-in-Slide-clause-follows g c = (
   where
     some_answer : Answer → Option Answer
     some_answer a = Some a
+
+pub returns-in_default-clause-script : goal.returns-in_default-clause-script
+returns-in_default-clause-script g c =
+    told
+    {P = IsAtFault c.args.line.text.now (length c.args.octets.now) c.args.session.now.numbers}
+    c.args.line.number (inl (nothing_read c.read_trace_line.result c.in_default.not-Some
+    c.read_trace_line.ensures.none))
+
+pub returns-in-None-clause-script : goal.returns-in-None-clause-script
+returns-in-None-clause-script g c =
+    told
+    {P = IsAtFault c.args.line.text.now (length c.args.octets.now) c.args.session.now.numbers}
+    c.args.line.number (inr (
+      Datagram c.in-Datagram.path c.in-Datagram.digits,
+      subst (λ (said : TraceLine). IsTraceLine c.args.line.text.now said) c.in-Datagram.is
+          c.in-Some.ensures.is,
+      c.in-None.ensures.none,
+    ))
+
+pub returns-in-Some-read_octets-clause-script : goal.returns-in-Some-read_octets-clause-script
+returns-in-Some-read_octets-clause-script g c =
+    never c.args.line.text.now c.args.line.number (length c.args.octets.now)
+    c.args.session.now.numbers (Datagram c.in-Datagram.path c.in-Datagram.digits) _
+    (subst (λ (said : TraceLine). IsTraceLine c.args.line.text.now said) c.in-Datagram.is
+    c.in-Some.ensures.is)
+    (some_fit c.in-Datagram.digits.now c.read_octets.new.octets c.in-Some-read_octets.n
+    (length c.args.octets.now) c.in-Some-read_octets.ensures.within
+    c.in-Some-read_octets.ensures.room c.in-Some-read_octets.ensures.is)
+
+pub returns-in-Slide-clause-script : goal.returns-in-Slide-clause-script
+returns-in-Slide-clause-script g c =
+    never c.args.line.text.now c.args.line.number (length c.args.octets.now)
+    c.args.session.now.numbers (Slide c.in-Slide.next) _
+    (subst (λ (said : TraceLine). IsTraceLine c.args.line.text.now said) c.in-Slide.is
+    c.in-Some.ensures.is)
+    (λ unfit. unfit)
+
+pub returns-in-Ok-clause-script : goal.returns-in-Ok-clause-script
+returns-in-Ok-clause-script g c =
+    never c.args.line.text.now c.args.line.number (length c.args.octets.now)
+    c.args.session.now.numbers (Numbers c.in-Numbers.first c.in-Numbers.count) _
+    (subst (λ (said : TraceLine). IsTraceLine c.args.line.text.now said) c.in-Numbers.is
+    c.in-Some.ensures.is)
+    (λ unfit. let twice = c.in-Ok.ensures.twice.1 unfit in absurd cc)
+
+pub returns-in-Err-clause-script : goal.returns-in-Err-clause-script
+returns-in-Err-clause-script g c =
+    told_by c.args.line.text.now c.args.line.number (length c.args.octets.now)
+    c.args.session.now.numbers (Numbers c.in-Numbers.first c.in-Numbers.count) c.in-Err.fault
+    (subst (λ (said : TraceLine). IsTraceLine c.args.line.text.now said) c.in-Numbers.is
+    c.in-Some.ensures.is)
+    c.in-Err.ensures.twice c.in-Err.ensures.line
+
+pub returns-in-Cell-clause-script : goal.returns-in-Cell-clause-script
+returns-in-Cell-clause-script g c =
+    never c.args.line.text.now c.args.line.number (length c.args.octets.now)
+    c.args.session.now.numbers (Cell c.in-Cell.place) _
+    (subst (λ (said : TraceLine). IsTraceLine c.args.line.text.now said) c.in-Cell.is
+    c.in-Some.ensures.is)
+    (λ unfit. unfit)
