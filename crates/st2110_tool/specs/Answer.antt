@@ -21,7 +21,8 @@ answer_text answer.Nowhere = Some (codes "none")
 answer_text (answer.Frame timestamp counts) = Some (counts_text (codes "frame ") timestamp counts)
 answer_text (answer.Out timestamp counts) = Some (counts_text (codes "out ") timestamp counts)
 answer_text (answer.NotSlid fault) =
-    Some (numbered_name (codes "refused slide ") (slide_fault_number fault) (slide_fault_name fault))
+    Some (numbered_name (codes "refused slide ") (slide_fault_number fault)
+    (slide_fault_name fault))
 answer_text (answer.HandedOut receiver timestamp counts) =
     Some (codes "out " ++ (decimal receiver ++ counts_text (codes " ") timestamp counts))
 answer_text (answer.Receiver number) = Some (codes "receiver " ++ decimal number)

@@ -91,7 +91,7 @@ pub record Takes (path : Path) (octets : List ℕ) (old new : State) (before aft
   pub refusals : new.refusals ≡ refusals_after path (taken_at old.opening octets) old.refusals
   pub numbers : after ≡ numbers_after (taken_at old.opening octets) before
 
--- What a slide does: refused where the window has the timestamp, and else it moves the window on (own)
+-- What a slide does: it moves the window on, or is refused where the window has the timestamp (own)
 pub record Slides (next : ℕ) (old new : State) (before after : Option Numbers)
     (answer : Option Answer) : Type 0 where
   pub refused : IsMember next old.opening.window → (answer ≡ Some (NotSlid InWindow)) × (new ≡ old)
