@@ -18,10 +18,8 @@ ghost use Rattle.std.specs.Prelude.{
 };
 ghost use Rattle.std.specs.Result.{IfErr};
 ghost use Rattle.st_format.specs.declared.sampling.Sampling.TheVariants.{Rgb};
-ghost use Rattle.st_format.specs.Pgroup.{bits_of};
 ghost use Rattle.st_format.specs.Picture.{IsPicture};
 ghost use Rattle.st_format.specs.Position.{number_in_row, place_in_row, row_samples, sample_count};
-ghost use Rattle.lane_kernels.specs.Formulas.{key_of};
 ghost use Rattle.bt709_fixed.specs.Operations.{IsOf};
 ghost use Rattle.key_mix.specs.Jobs.{IsAlike, key_value};
 ghost use Rattle.key_mix.specs.Rows.{keyed_at};

@@ -15,7 +15,7 @@ ghost use Rattle.std.specs.Prelude.{
 };
 ghost use Rattle.std.specs.Result.{IfErr};
 ghost use Rattle.st_format.specs.Picture.{IsPicture};
-ghost use Rattle.st_format.specs.Position.{place_in_row, row_samples, sample_count};
+ghost use Rattle.st_format.specs.Position.{row_samples, sample_count};
 ghost use Rattle.lane_kernels.specs.Formulas.{weight};
 ghost use Rattle.bt709_fixed.specs.Operations.{IsOf};
 ghost use Rattle.key_mix.specs.Jobs.{extent, wipe_value};
