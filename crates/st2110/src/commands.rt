@@ -61,12 +61,9 @@ fn send_command<'a>(alloc: Global) -> Result<Command<'a>, AllocError> {
         ))?;
     let command = with_stamp(alloc, command)?;
     command
-        .arg(
-            optional(alloc, "max", "OCTETS")
-                .value_parser(clap::value_parser!(u32))
-                .default_value("1400")
-                .help("The most octets of a packet, up to 9000"),
-        )?
+        .arg(number(alloc, "max", "OCTETS", "1400").help(
+            "The most octets of a packet, up to 9000",
+        ))?
         .arg(
             optional(alloc, "paths", "PATHS")
                 .value_parser(ValueParser::Names(PATHS))
@@ -81,30 +78,21 @@ fn send_command<'a>(alloc: Global) -> Result<Command<'a>, AllocError> {
 /// What the packets of a stream have in common, and where its numbers and timestamps begin.
 fn with_stamp<'a>(alloc: Global, command: Command<'a>) -> Result<Command<'a>, AllocError> {
     command
-        .arg(
-            optional(alloc, "pt", "N")
-                .value_parser(clap::value_parser!(u8).range(..128))
-                .default_value("96")
-                .help("The payload type, up to 127"),
-        )?
-        .arg(
-            optional(alloc, "first", "N")
-                .value_parser(clap::value_parser!(u32))
-                .default_value("0")
-                .help("The number of the first packet; numbers run on"),
-        )?
-        .arg(
-            optional(alloc, "base", "TS")
-                .value_parser(clap::value_parser!(u32))
-                .default_value("0")
-                .help("The timestamp of the first picture, in ticks of 90 kHz"),
-        )?
-        .arg(
-            optional(alloc, "ssrc", "N")
-                .value_parser(clap::value_parser!(u32))
-                .default_value("1")
-                .help("The synchronization source"),
-        )
+        .arg(payload_type(alloc))?
+        .arg(number(alloc, "first", "N", "0").help(
+            "The number of the first packet; numbers run on",
+        ))?
+        .arg(number(alloc, "base", "TS", "0").help(
+            "The timestamp of the first picture, in ticks of 90 kHz",
+        ))?
+        .arg(number(alloc, "ssrc", "N", "1").help("The synchronization source"))
+}
+
+fn payload_type<'a>(alloc: Global) -> Arg<'a> {
+    optional(alloc, "pt", "N")
+        .value_parser(clap::value_parser!(u8).range(..128))
+        .default_value("96")
+        .help("The payload type, up to 127")
 }
 
 fn receive_command<'a>(alloc: Global) -> Result<Command<'a>, AllocError> {
@@ -157,6 +145,13 @@ fn migrate_command<'a>(alloc: Global) -> Result<Command<'a>, AllocError> {
 /// An option with a value.
 fn optional<'a>(alloc: Global, name: &'a str, value: &'a str) -> Arg<'a> {
     Arg::new(alloc, name).long(name).value_name(value)
+}
+
+/// An option whose value is a number of 32 bits.
+fn number<'a>(alloc: Global, name: &'a str, value: &'a str, default: &'a str) -> Arg<'a> {
+    optional(alloc, name, value)
+        .value_parser(clap::value_parser!(u32))
+        .default_value(default)
 }
 
 /// An option with a value that has to be given.
