@@ -79,8 +79,8 @@ impl<A: Allocator, K: ByteSink> Sender<A, K> {
         };
         put_all(&self.plan, picture, stamp, buf, &mut self.writer)?;
         let count = self.plan.len();
-        self.next = self.next.wrapping_add(count as u32);
-        self.sent = self.sent.saturating_add(count as u64);
+        self.next = self.next.wrapping_add(count);
+        self.sent = self.sent.saturating_add(u64::from(count));
         Ok(())
     }
 
@@ -95,7 +95,7 @@ impl<A: Allocator, K: ByteSink> Sender<A, K> {
 fn same_format(left: Format, right: Format) -> bool
     ensures { IsTrue result → left ≡ right }
 {
-    left == right
+    left.same(&right)
 }
 
 /// Writes all datagrams of a picture, each over the first octets of `buf`.

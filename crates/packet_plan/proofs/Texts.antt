@@ -178,6 +178,9 @@ length-heads (h ∷ k ∷ hs) =
     let more = length-heads (k ∷ hs) in
     omega (arith, length-append (header_text (header_of_head true h)) (flat_map header_text (headers_of_heads (k ∷ hs))))
 
+pub length-front : (extended : ℕ) (heads : List SegmentHead) → length (front_text extended heads) ≡ 2 + 6 * length heads
+length-front extended heads = omega (arith, length-heads heads)
+
 -- the RTP header, then the front of the payload
 pub front_at : (r : Rtp) (xs ys behind post : List ℕ) (extended n : ℕ) (hs ks : List SegmentHead) → IsPlainRtp r (take 12 xs ++ []) → r.payload ≡ [] → ys ≡ front_text extended hs ++ behind → hs ≡ ks
     → n ≡ 2 + 6 * length hs → 12 ≤ length xs → take (12 + n) (take 12 xs ++ (ys ++ post)) ≡ fixed_text plain r ++ front_text extended ks

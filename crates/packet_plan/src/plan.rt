@@ -1,5 +1,6 @@
 //! A plan: which pgroups each packet of a picture carries.
-ghost use Rattle.std.specs.Prelude.{◌≡◌, ◌<◌, ◌≤◌, ◌+◌, ◌*◌, ◌↔◌, ◌⊎◌, ◌==◌, ℕ, List, length, take, IfOk, Err};
+ghost use Rattle.std.specs.Prelude.{◌≡◌, ◌<◌, ◌≤◌, ◌+◌, ◌*◌, ◌↔◌, ◌⊎◌, ◌==◌};
+ghost use Rattle.std.specs.Prelude.{ℕ, List, length, take, drop, IfOk, Err};
 ghost use Rattle.std.specs.List.{AllByRecursion};
 ghost use Rattle.packet_plan.specs.Plan.{IsFullPlan, IsRasterPlan, NoneHasRoom, RowsDiffer, group_octets, packet_at, packet_octets};
 ghost use Rattle.packet_plan.specs.Sending.{EachHasRoom};
@@ -95,7 +96,8 @@ impl<A: Allocator> Model for Plan<A> {
       packets = map (packet_from p.format p.max_octets) p.starts.items;
     } };
 
-    ghost invariant = { λ p. IsSize p.format p.max_octets × IsWalk p.format p.max_octets 0 p.starts.items (group_count p.format) };
+    ghost invariant = { λ p. IsSize p.format p.max_octets
+        × IsWalk p.format p.max_octets 0 p.starts.items (group_count p.format) };
 }
 
 impl<A: Allocator> Plan<A> {
@@ -110,14 +112,16 @@ impl<A: Allocator> Plan<A> {
     /// `BadPacketSize` where `max_octets` is below 20 and the octets of a pgroup, or above 9000; else
     /// `NoMemory` where the memory was refused.
     pub fn new(alloc: A, format: Format, max_octets: u32) -> Result<Plan<A>, PlanFault>
-        ensures size { (result ≡ Err PlanFault.BadPacketSize) ↔ ((max_octets < 20 + group_octets format) ⊎ (9000 < max_octets)) }
+        ensures size { (result ≡ Err PlanFault.BadPacketSize)
+            ↔ ((max_octets < 20 + group_octets format) ⊎ (9000 < max_octets)) }
         ensures made { IfOk result (λ p. (p.format ≡ format) × (p.max_octets ≡ max_octets)) }
         // The packets are a raster plan, and as full as can be.
         ensures plan { IfOk result (λ p. IsRasterPlan format max_octets p.packets) }
         ensures rows { IfOk result (λ p. AllByRecursion RowsDiffer p.packets) }
         ensures room { IfOk result (λ p. NoneHasRoom format max_octets p.packets) }
         // No raster plan has fewer packets.
-        ensures fewest { IfOk result (λ p. (others : List (List Run)) → IsRasterPlan format max_octets others → length p.packets ≤ length others) }
+        ensures fewest { IfOk result (λ p. (others : List (List Run))
+            → IsRasterPlan format max_octets others → length p.packets ≤ length others) }
     {
         if max_octets < ONE_SEGMENT + group_octets_of(&format) || max_octets > MOST_OCTETS {
             return Err(PlanFault::BadPacketSize);
@@ -131,25 +135,26 @@ impl<A: Allocator> Plan<A> {
     }
 
     /// How many packets there are.
-    pub fn len(&self) -> usize
+    pub fn len(&self) -> u32
         ensures value { result ≡ length self.now.packets }
         ensures some { 0 < length self.now.packets }
         ensures most { length self.now.packets ≤ 8192 * 8192 }
         // What `new` ensures holds of every plan.
         ensures full { IsFullPlan self.now.format self.now.max_octets self.now.packets }
     {
-        self.starts.len()
+        self.starts.len() as u32
     }
 
     /// The runs of a packet, one for each of its segments.
-    pub fn packet(&self, index: usize) -> ArrayVec<PacketRun, 3>
+    pub fn packet(&self, index: u32) -> ArrayVec<PacketRun, 3>
         requires { index < length self.now.packets }
         ensures { result.items ≡ packet_at self.now index }
     {
-        runs_from(&self.format, self.max_octets, self.starts[index])
+        runs_from(&self.format, self.max_octets, self.starts[index as usize])
     }
 
     /// Writes the datagram of a packet over the first octets of `buf`, and answers how long it is.
+    /// The octets behind it stay.
     ///
     /// The packet `index`, from 0, has the number `stamp.first + index` modulo 2^32, and the marker
     /// where it is the last. It is a plain RTP header (RFC 3550, 5.1) and a payload (RFC 4175, 4) whose
@@ -159,7 +164,7 @@ impl<A: Allocator> Plan<A> {
     /// datagram, for which [`max_octets`](Plan::max_octets) octets are enough.
     pub fn datagram<B: Allocator>(
         &self,
-        index: usize,
+        index: u32,
         picture: &Picture<B>,
         stamp: Stamp,
         buf: &mut [u8],
@@ -170,9 +175,13 @@ impl<A: Allocator> Plan<A> {
         requires payload_type { stamp.payload_type ≤ 127 }
         ensures length { length buf.new ≡ length buf.old }
         ensures value { result ≡ packet_octets self.now.format (packet_at self.now index) }
-        ensures sent { IsSentPacket picture.now stamp index (index + 1 == length self.now.packets) (packet_at self.now index) (take result buf.new) }
+        ensures sent { IsSentPacket picture.now stamp index (index + 1 == length self.now.packets)
+            (packet_at self.now index) (take result buf.new) }
         // These very octets, and no others, are such a datagram.
-        ensures text { take result buf.new ≡ datagram_text picture.now stamp index (index + 1 == length self.now.packets) (packet_at self.now index) }
+        ensures text { take result buf.new ≡ datagram_text picture.now stamp index
+            (index + 1 == length self.now.packets) (packet_at self.now index) }
+        // The octets behind it stay.
+        ensures behind { drop result buf.new ≡ drop result buf.old }
     {
         self.write_packet(index, picture, stamp, buf)
     }
@@ -180,7 +189,7 @@ impl<A: Allocator> Plan<A> {
     /// The same, by the very octets, and what else is known of them.
     pub(crate) fn write_packet<B: Allocator>(
         &self,
-        index: usize,
+        index: u32,
         picture: &Picture<B>,
         stamp: Stamp,
         buf: &mut [u8],
@@ -191,7 +200,9 @@ impl<A: Allocator> Plan<A> {
         requires payload_type { stamp.payload_type ≤ 127 }
         ensures length { length buf.new ≡ length buf.old }
         ensures value { result ≡ packet_octets self.now.format (packet_at self.now index) }
-        ensures text { take result buf.new ≡ datagram_text picture.now stamp index (index + 1 == length self.now.packets) (packet_at self.now index) }
+        ensures text { take result buf.new ≡ datagram_text picture.now stamp index
+            (index + 1 == length self.now.packets) (packet_at self.now index) }
+        ensures behind { drop result buf.new ≡ drop result buf.old }
         ensures runs { AreRuns self.now.format (packet_at self.now index) }
         ensures stamp { IsStamp stamp }
         ensures picture { IsPicture picture.now }
@@ -203,7 +214,7 @@ impl<A: Allocator> Plan<A> {
             picture,
             runs.as_slice(),
             stamp,
-            index as u32,
+            index,
             index + 1 == count,
         )
     }

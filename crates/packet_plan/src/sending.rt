@@ -33,7 +33,7 @@ impl fmt::Display for SendFault {
 ///
 /// Each datagram is written over the first octets of `buf`, as [`Plan::datagram`] does, and put into
 /// the sink. The picture has the plan's format, the payload type is at most 127, and `buf` has room for
-/// each datagram, for which [`Plan::max_octets`] octets are enough.
+/// each datagram, for which [`Plan::max_octets`] octets are enough; what it holds may be anything.
 ///
 /// # Errors
 ///
@@ -49,9 +49,11 @@ pub fn send_frame<A: Allocator, B: Allocator, S: DatagramSink>(
     requires room { EachHasRoom plan.now (length buf.old) }
     requires payload_type { stamp.payload_type ≤ 127 }
     ensures length { length buf.new ≡ length buf.old }
-    ensures sent { OnOk result (SendsPicture picture.now stamp plan.now (S.taken sink.old) (S.taken sink.new)) }
+    ensures sent { OnOk result
+        (SendsPicture picture.now stamp plan.now (S.taken sink.old) (S.taken sink.new)) }
     ensures next { IfOk result (λ next. next ≡ (stamp.first + length plan.now.packets) % 2 ^ 32) }
-    ensures fault { IfErr result (λ e. SendsPart picture.now stamp plan.now e.sent (S.taken sink.old) (S.taken sink.new)) }
+    ensures fault { IfErr result
+        (λ e. SendsPart picture.now stamp plan.now e.sent (S.taken sink.old) (S.taken sink.new)) }
     // The sink fails once where there is a fault, and not at all where there is none.
     ensures counted { CountsFaults (S.failures sink.old) (S.failures sink.new) result }
 {
@@ -59,8 +61,8 @@ pub fn send_frame<A: Allocator, B: Allocator, S: DatagramSink>(
     for index in 0..count {
         let length = plan.write_packet(index, picture, stamp, buf);
         let Ok(()) = sink.put(&buf[..length]) else {
-            return Err(SendFault { sent: index as u32 });
+            return Err(SendFault { sent: index });
         };
     }
-    Ok(stamp.first.wrapping_add(count as u32))
+    Ok(stamp.first.wrapping_add(count))
 }

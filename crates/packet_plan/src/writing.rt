@@ -1,5 +1,6 @@
 //! Writing the datagram of a packet.
-ghost use Rattle.std.specs.Prelude.{◌≡◌, ◌<◌, ◌≤◌, ◌+◌, ◌*◌, ◌/◌, ◌%◌, ◌^◌, ◌++◌, [], length, map, take, All};
+ghost use Rattle.std.specs.Prelude.{◌≡◌, ◌<◌, ◌≤◌, ◌+◌, ◌*◌, ◌/◌, ◌%◌, ◌^◌, ◌++◌, []};
+ghost use Rattle.std.specs.Prelude.{length, map, take, drop, All};
 ghost use Rattle.std.specs.List.{AllByRecursion, flat_map};
 ghost use Rattle.st_format.specs.Pgroup.{bits_of};
 ghost use Rattle.st_format.specs.Picture.{IsPicture};
@@ -9,7 +10,8 @@ ghost use Rattle.rtp_header.specs.Grammar.{fixed_text, plain};
 ghost use Rattle.payload_header.specs.Writing.{front_text};
 ghost use Rattle.packet_plan.specs.Plan.{group_octets, packet_octets};
 ghost use Rattle.packet_plan.specs.Sent.{run_values};
-ghost use Rattle.packet_plan.specs.Text.{AreRuns, HasHead, IsStamp, datagram_text, head_of as head_at, header_of, run_octets};
+ghost use Rattle.packet_plan.specs.Text.{AreRuns, HasHead, IsStamp, datagram_text};
+ghost use Rattle.packet_plan.specs.Text.{head_of as head_at, header_of, run_octets};
 
 use crate::greedy::{group_octets_of, row_groups_of};
 use crate::run::PacketRun;
@@ -70,7 +72,9 @@ fn write_front(
     ensures length { length buf.new ≡ length buf.old }
     ensures value { result ≡ 14 + 6 * length runs.now }
     ensures stamp { IsStamp stamp }
-    ensures text { take result buf.new ≡ fixed_text plain (header_of stamp number is_last []) ++ front_text (number / 65536) (map (head_at format.now) runs.now) }
+    ensures text { take result buf.new ≡ fixed_text plain (header_of stamp number is_last [])
+        ++ front_text (number / 65536) (map (head_at format.now) runs.now) }
+    ensures behind { drop result buf.new ≡ drop result buf.old }
 {
     let head = RtpHead {
         marker: is_last,
@@ -116,6 +120,7 @@ fn write_run<A: Allocator>(buf: &mut [u8], at: usize, picture: &Picture<A>, run:
     ensures length { length buf.new ≡ length buf.old }
     ensures value { result ≡ at + length (run_octets picture.now run) }
     ensures written { take result buf.new ≡ take at buf.old ++ run_octets picture.now run }
+    ensures behind { drop result buf.new ≡ drop result buf.old }
 {
     let format = picture.format();
     let values = run_samples(picture, run);
@@ -135,7 +140,9 @@ fn write_runs<A: Allocator>(
     requires heads { AllByRecursion (HasHead picture.now.format) runs.now }
     ensures length { length buf.new ≡ length buf.old }
     ensures value { result ≡ at + length (flat_map (run_octets picture.now) runs.now) }
-    ensures written { take result buf.new ≡ take at buf.old ++ flat_map (run_octets picture.now) runs.now }
+    ensures written { take result buf.new
+        ≡ take at buf.old ++ flat_map (run_octets picture.now) runs.now }
+    ensures behind { drop result buf.new ≡ drop result buf.old }
 {
     let mut end = at;
     let mut rest = runs;
@@ -163,6 +170,7 @@ pub(crate) fn write_datagram<A: Allocator>(
     ensures stamp { IsStamp stamp }
     ensures picture { IsPicture picture.now }
     ensures text { take result buf.new ≡ datagram_text picture.now stamp index is_last runs.now }
+    ensures behind { drop result buf.new ≡ drop result buf.old }
 {
     let number = stamp.first.wrapping_add(index);
     let at = write_front(buf, &picture.format(), runs, stamp, number, is_last);

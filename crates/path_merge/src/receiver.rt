@@ -235,7 +235,7 @@ impl<A: Allocator> Receiver<A> {
         ensures alike { IsTrue result ↔ (self.now.opening ≡ other.now.opening) }
         ensures receiver { IsReceiver self.now }
     {
-        same_format(&self.format, &other.format)
+        self.format.same(&other.format)
             && self.payload_type == other.payload_type
             && same_source(self.ssrc, other.ssrc)
             && same_window(self.window.as_slice(), other.window.as_slice())
@@ -275,7 +275,7 @@ impl<A: Allocator> Receiver<A> {
         if has_timestamp(self.window.as_slice(), next) {
             return Err(SlideFault::InWindow);
         }
-        if !same_format(&self.format, &out.format()) {
+        if !self.format.same(&out.format()) {
             return Err(SlideFault::OtherFormat);
         }
         Ok(self.move_on(next, out))
@@ -393,12 +393,6 @@ fn timestamps(window: &[u32]) -> ArrayVec<u32, MOST_TIMESTAMPS>
     let mut timestamps = ArrayVec::new();
     timestamps.try_extend_from_slice(window).unwrap();
     timestamps
-}
-
-fn same_format(left: &Format, right: &Format) -> bool
-    ensures { IsTrue result ↔ (left.now ≡ right.now) }
-{
-    left == right
 }
 
 fn same_source(left: Option<u32>, right: Option<u32>) -> bool

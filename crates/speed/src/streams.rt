@@ -1,5 +1,5 @@
 //! Pictures whose values have no order, and their datagrams.
-ghost use Rattle.std.specs.Prelude.{◌≡◌, ◌↔◌, IsTrue, None};
+ghost use Rattle.std.specs.Prelude.{None};
 
 use crate::fault::Fault;
 use packet_plan::{Plan, Stamp, send_frame};
@@ -35,7 +35,7 @@ impl Stream {
     pub fn new(alloc: Global, format: Format, size: u32, change: Change) -> Result<Stream, Fault> {
         let picture = picture(alloc, format, change)?;
         let plan = Plan::new(alloc, format, size).ok().ok_or(Fault)?;
-        let mut slots = Vec::with_capacity(alloc, plan.len())?;
+        let mut slots = Vec::with_capacity(alloc, plan.len() as usize)?;
         for _ in 0..plan.len() {
             if slots
                 .push(Vec::with_capacity(alloc, size as usize)?)
@@ -97,13 +97,6 @@ fn set(picture: &mut Picture, place: (u32, u32, u8), value: u16, change: Change)
     }
 }
 
-/// Whether two formats are one.
-fn same_format(left: &Format, right: &Format) -> bool
-    ensures { IsTrue result ↔ (left.now ≡ right.now) }
-{
-    left == right
-}
-
 /// Sends a picture by a plan into a sink.
 pub fn send_all<K: DatagramSink>(
     plan: &Plan,
@@ -118,7 +111,7 @@ pub fn send_all<K: DatagramSink>(
     };
     let mut buf = [0; 9000];
     let has_room = plan.max_octets() as usize <= buf.len();
-    if !has_room || !same_format(&picture.format(), &plan.format()) {
+    if !has_room || !picture.format().same(&plan.format()) {
         return Err(Fault);
     }
     send_frame(plan, picture, stamp, &mut buf, sink)

@@ -20,7 +20,7 @@ fn settles(alloc: Global, format: Format) -> Result<bool, Fail> {
 /// Whether each call that wants memory for a frame, a picture, a plan or a receiver of a format has
 /// it: any refusal is an Err.
 fn has_memory(alloc: Global, format: Format) -> Result<bool, Fail> {
-    let least = 20 + format.pgroup().octets as u32 % 100;
+    let least = 20 + format.pgroup().octets as u32;
     let mut are_planned = true;
     for size in [least, 1400, 9000] {
         are_planned = are_planned && Plan::new(alloc, format, size)?.len() > 0;

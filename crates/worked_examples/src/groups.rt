@@ -24,13 +24,11 @@ fn differs_by_samples(format: &Format, a: &[u8], b: &[u8]) -> bool {
     a.len() == size && b.len() == size && differing(format, a, b) == wanted
 }
 
-/// A group whose samples of the mask are made 0, or as it is where its length is another.
+/// A group whose samples of the mask are made 0.
 fn blanked(format: &Format, octets: &[u8; MOST_OCTETS], mask: u16) -> [u8; MOST_OCTETS] {
     let mut new = *octets;
     let size = format.pgroup().octets;
-    if size <= MOST_OCTETS {
-        blank(format, &mut new[..size], mask);
-    }
+    blank(format, &mut new[..size], mask);
     new
 }
 
@@ -54,9 +52,6 @@ fn blanks_by_samples(format: &Format, octets: &[u8; MOST_OCTETS], mask: u16) -> 
 fn pairs_agree(format: &Format, generator: &mut Generator) -> bool {
     let (mut a, mut b) = ([0; MOST_OCTETS], [0; MOST_OCTETS]);
     let size = format.pgroup().octets;
-    if size > MOST_OCTETS {
-        return false;
-    }
     generator.fill_octets(&mut a);
     generator.fill_octets(&mut b);
     let mut agree = differs_by_samples(format, &a[..size], &b[..size]);

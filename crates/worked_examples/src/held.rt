@@ -1,7 +1,6 @@
 //! The example held: a frame settled over a picture that was held.
 use crate::checks::met;
 use crate::pictures::{contested, has_values, small};
-use crate::sending::same_format;
 use frame_assembly::{Base, Frame};
 use path_merge::Receiver;
 use st_format::Picture;
@@ -11,7 +10,7 @@ use std::test::Fail;
 /// Whether a frame settled over a picture has the values, and their formats are one.
 fn settles(alloc: Global, frame: &Frame, held: &Picture) -> Result<bool, AllocError> {
     let (ours, theirs) = (frame.format(), held.format());
-    if same_format(&theirs, &ours) {
+    if theirs.same(&ours) {
         let picture = frame.settle(alloc, Base::Hold(held))?;
         Ok(has_values(&picture, &VALUES))
     } else {

@@ -67,7 +67,7 @@ fn read(frame: &Frame, row: u32, place: u32, room: &mut [u8; MOST_OCTETS]) -> Op
     let format = frame.format();
     let group = format.pgroup();
     let is_place = row < format.height() && place < format.width() / group.pixels;
-    if is_place && group.octets <= MOST_OCTETS {
+    if is_place {
         told(frame.group(row, place, &mut room[..group.octets]))
     } else {
         None
@@ -132,7 +132,7 @@ fn set(frame: &mut Frame, row: u32, place: u32, octets: &[u8], mask: u16, presen
     let format = frame.format();
     let group = format.pgroup();
     let mut room = [0; MOST_OCTETS];
-    if octets.len() != group.octets || octets.len() > MOST_OCTETS {
+    if octets.len() != group.octets {
         return false;
     }
     let blanked = &mut room[..octets.len()];
@@ -153,7 +153,7 @@ fn give(frame: &Frame, copy: &mut Frame, row: u32, place: u32) -> bool {
     let size = frame.format().pgroup().octets;
     let mut room = [0; MOST_OCTETS];
     match read(frame, row, place, &mut room) {
-        Some(mark) if size <= MOST_OCTETS => {
+        Some(mark) => {
             set(
                 copy,
                 row,

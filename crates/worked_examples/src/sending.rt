@@ -1,5 +1,4 @@
 //! Plans, and pictures that are sent and taken again.
-ghost use Rattle.std.specs.Prelude.{◌≡◌, ◌↔◌, IsTrue};
 
 use crate::checks::met;
 use crate::pictures::{set, small};
@@ -60,13 +59,6 @@ fn sink(alloc: Global, fails_in: u64) -> Result<MemoryDatagrams, AllocError> {
     Ok(MemoryDatagrams::new(slots, fails_in))
 }
 
-/// Whether two formats are one.
-pub fn same_format(left: &Format, right: &Format) -> bool
-    ensures { IsTrue result ↔ (left.now ≡ right.now) }
-{
-    left == right
-}
-
 /// Sends a picture by a plan, where their formats are one and the buffer is large enough.
 pub fn sent<A: Allocator, B: Allocator>(
     plan: &Plan<A>,
@@ -78,7 +70,7 @@ pub fn sent<A: Allocator, B: Allocator>(
     let is_large = plan.max_octets() as usize <= buf.len();
     let ours = picture.format();
     let theirs = plan.format();
-    if is_large && same_format(&ours, &theirs) && stamp.payload_type <= 127 {
+    if is_large && ours.same(&theirs) && stamp.payload_type <= 127 {
         Some(send_frame(plan, picture, stamp, &mut buf, sink))
     } else {
         None
@@ -203,7 +195,7 @@ fn sender_sizes(rt: HostRuntime) -> Result<(), Fail> {
 }
 
 /// How many packets a plan of F1 has, or why there is none.
-fn planned<A: Allocator>(alloc: A, size: u32) -> Result<Result<usize, PlanFault>, Fail> {
+fn planned<A: Allocator>(alloc: A, size: u32) -> Result<Result<u32, PlanFault>, Fail> {
     match Plan::new(alloc, small()?, size) {
         Ok(plan) => Ok(Ok(plan.len())),
         Err(fault) => Ok(Err(fault)),
@@ -211,7 +203,7 @@ fn planned<A: Allocator>(alloc: A, size: u32) -> Result<Result<usize, PlanFault>
 }
 
 /// Sizes, and what there is of a plan at each.
-const SIZES: [(u32, Result<usize, PlanFault>); 6] = [
+const SIZES: [(u32, Result<u32, PlanFault>); 6] = [
     (24, Ok(4)),
     (9000, Ok(1)),
     (0, Err(PlanFault::BadPacketSize)),
@@ -230,7 +222,7 @@ fn least_and_greatest_sizes(rt: HostRuntime) -> Result<(), Fail> {
 }
 
 /// The pgroups of a packet, segment by segment, 0 where there is none.
-fn groups_of(plan: &Plan, index: usize) -> [u32; 3] {
+fn groups_of(plan: &Plan, index: u32) -> [u32; 3] {
     let mut groups = [0; 3];
     if index < plan.len() {
         let runs = plan.packet(index);
@@ -247,9 +239,11 @@ fn groups_of(plan: &Plan, index: usize) -> [u32; 3] {
 /// Whether the packets of a plan in at most 1,400 octets have so many pgroups, segment by segment.
 fn has_packets(alloc: Global, format: Format, packets: &[[u32; 3]]) -> Result<bool, Fail> {
     let plan = Plan::new(alloc, format, 1400)?;
-    let mut agree = plan.len() == packets.len();
-    for index in 0..packets.len() {
-        agree &= groups_of(&plan, index) == packets[index];
+    let mut agree = plan.len() as usize == packets.len();
+    let mut index = 0u32;
+    for wanted in packets {
+        agree &= groups_of(&plan, index) == *wanted;
+        index = index.wrapping_add(1);
     }
     Ok(agree)
 }
@@ -354,7 +348,7 @@ fn comes_back(alloc: Global, picture: &Picture, size: u32) -> Result<bool, Fail>
 /// The same of a format, in packets of the least size and of 1,400 octets.
 fn sizes_come_back(alloc: Global, format: Format) -> Result<bool, Fail> {
     let picture = runs_through(alloc, format)?;
-    let least = 20 + format.pgroup().octets as u32 % 100;
+    let least = 20 + format.pgroup().octets as u32;
     Ok(comes_back(alloc, &picture, least)? && comes_back(alloc, &picture, 1400)?)
 }
 

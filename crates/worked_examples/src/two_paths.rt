@@ -3,7 +3,6 @@
 ghost use Rattle.std.specs.Prelude.{◌≡◌, ◌↔◌, IsTrue};
 
 use crate::checks::{met, none_fails};
-use crate::sending::same_format;
 use crate::small_format::{ANOTHER, LOWER, OTHER_VERSION, UPPER, counts, small};
 use frame_assembly::{Counts, Frame};
 use path_merge::{OpenFault, OpenedUnlike, Receiver, Refusal, SlideFault, Taken};
@@ -155,7 +154,7 @@ impl<A: Allocator> Pair<A> {
 /// Exchanges a frame of a receiver, where there is such a place and the formats are one.
 fn exchanged<A: Allocator>(receiver: &mut Receiver<A>, place: usize, frame: &mut Frame<A>) -> bool {
     let can_be = place < receiver.window().len()
-        && same_format(&receiver.format(), &frame.format());
+        && receiver.format().same(&frame.format());
     if can_be {
         receiver.set_frame(place, frame);
     }

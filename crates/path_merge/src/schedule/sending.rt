@@ -14,7 +14,7 @@ use std::alloc::Allocator;
 #[derive(Clone, Copy, Debug, PartialEq, Eq)]
 pub struct Next {
     pub picture: usize,
-    pub index: usize,
+    pub index: u32,
     pub first: u32,
 }
 
@@ -59,7 +59,7 @@ pub fn next_datagram<A: Allocator, B: Allocator, C: Allocator>(
 fn datagram_of<A: Allocator, B: Allocator, C: Allocator>(
     alloc: A,
     plan: &Plan<B>,
-    index: usize,
+    index: u32,
     picture: &Picture<C>,
     stamp: Stamp,
     buf: &mut [u8],
@@ -77,7 +77,7 @@ fn datagram_of<A: Allocator, B: Allocator, C: Allocator>(
 }
 
 /// Moves on by one packet, of so many in each picture.
-fn move_on(next: &mut Next, count: usize)
+fn move_on(next: &mut Next, count: u32)
     requires index { next.old.index < count }
     requires picture { next.old.picture < 10000 }
     requires count { count ≤ 8192 * 8192 }
@@ -87,6 +87,6 @@ fn move_on(next: &mut Next, count: usize)
     if next.index == count {
         next.index = 0;
         next.picture += 1;
-        next.first = next.first.wrapping_add(count as u32);
+        next.first = next.first.wrapping_add(count);
     }
 }

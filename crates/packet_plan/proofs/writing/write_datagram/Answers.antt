@@ -1,4 +1,5 @@
-use Rattle.std.proofs.Common.{arith}
+use Rattle.std.proofs.Common.{◌∙◌, arith}
+use Rattle.packet_plan.proofs.Behind.{stays_later}
 use Rattle.packet_plan.proofs.Texts.{octets_at}
 use Rattle.packet_plan.proofs.writing.write_datagram.Goals as goal
 
@@ -7,3 +8,8 @@ write_runs-requires-clause-room g c = omega (arith, octets_at c.args.picture.now
 
 pub returns-clause-value : goal.returns-clause-value
 returns-clause-value g c = omega (arith, octets_at c.args.picture.now c.args.runs.now)
+
+pub returns-clause-behind : goal.returns-clause-behind
+returns-clause-behind g c =
+    c.write_runs.ensures.behind
+    ∙ stays_later c.write_front-at.result c.write_runs.result c.args.buf.now c.write_front-at.new.buf (omega (arith, c.write_runs.ensures.value)) c.write_front-at.ensures.behind

@@ -25,3 +25,12 @@ returns-clause-some g c =
     let inside = c.self.inside in
     subst (λ (p : RasterPlan). 0 < length p.packets) c.self.view_is
     (omega (arith, length-map (packet_from inside.format inside.max_octets) inside.starts.items, walk_some inside.format inside.max_octets inside.starts.items c.self.invariant.1))
+
+pub overflow_cast-result : goal.overflow_cast-result
+overflow_cast-result g c =
+    let inside = c.self.inside in
+    omega (
+      arith,
+      walk_count inside.format inside.max_octets 0 inside.starts.items c.self.invariant.0 (omega arith) c.self.invariant.1,
+      group_count_most inside.format,
+    )
