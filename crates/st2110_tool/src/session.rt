@@ -66,7 +66,7 @@ impl<A: Allocator> Session<A> {
         }
     }
 
-    /// Moves the window on to a timestamp, and tells of the frame that leaves. Frames change places.
+    /// Moves the window on to a timestamp, and tells of the frame that leaves. Frames swap places.
     pub fn slide(&mut self, next: u32) -> Answer
         ensures refused { IsMember next self.old.receiver.opening.window
             → (result ≡ Answer.NotSlid SlideFault.InWindow)
