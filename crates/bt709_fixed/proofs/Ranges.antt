@@ -9,11 +9,30 @@ use Rattle.bt709_fixed.specs.declared.RangeKind.TheVariants.{Nominal, VideoData}
 use Rattle.bt709_fixed.specs.Operations.{limited, gained, kept}
 
 pub video_data_fits : (n : ℕ) (z : ℤ) → 8 ≤ n → video_data n z < 2 ^ n
-video_data_fits n z h = omega (arith, clip_most (scale n) (255 * scale n - 1) z (omega (arith, scale_least n)), scale_least n, whole_is n h)
+video_data_fits n z h =
+    omega (
+      arith,
+      clip_most (scale n) (255 * scale n - 1) z (omega (arith, scale_least n)),
+      scale_least n,
+      whole_is n h,
+    )
 
-pub limited_fits : (r : RangeKind) (n : ℕ) (colour : Bool) (v : ℕ) → 8 ≤ n → limited r n colour v < 2 ^ n
-limited_fits Nominal n true v h = omega (arith, clip_most (16 * scale n) (240 * scale n) (pos v) (omega arith), scale_least n, whole_is n h)
-limited_fits Nominal n false v h = omega (arith, clip_most (16 * scale n) (235 * scale n) (pos v) (omega arith), scale_least n, whole_is n h)
+pub limited_fits : (r : RangeKind) (n : ℕ) (colour : Bool) (v : ℕ) → 8 ≤ n
+    → limited r n colour v < 2 ^ n
+limited_fits Nominal n true v h =
+    omega (
+      arith,
+      clip_most (16 * scale n) (240 * scale n) (pos v) (omega arith),
+      scale_least n,
+      whole_is n h,
+    )
+limited_fits Nominal n false v h =
+    omega (
+      arith,
+      clip_most (16 * scale n) (235 * scale n) (pos v) (omega arith),
+      scale_least n,
+      whole_is n h,
+    )
 limited_fits VideoData n colour v h = video_data_fits n (pos v) h
 
 pub gained_fits : (g n : ℕ) (colour : Bool) (v : ℕ) → 8 ≤ n → gained g n colour v < 2 ^ n

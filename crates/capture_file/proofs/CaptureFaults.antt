@@ -1,5 +1,7 @@
 -- Captures: each fault is read exactly where its condition holds, and at most one holds.
-use Rattle.std.proofs.Common.{◌≡◌, ℕ, ◌+◌, ◌^◌, ◌<◌, ◌≤◌, List, [], ◌++◌, length, take, drop, Result, Ok, Err, append_assoc, refl, sym, ap, ◌∙◌, subst, inl, inr, arith}
+use Rattle.std.proofs.Common.{◌≡◌, ℕ, ◌+◌, ◌^◌, ◌<◌, ◌≤◌, List, [], ◌++◌, length, take, drop}
+use Rattle.std.proofs.Common.{Result, Ok, Err, append_assoc, refl, sym, ap, ◌∙◌, subst, inl, inr}
+use Rattle.std.proofs.Common.{arith}
 use Rattle.std.specs.Prelude.{◌⊎◌}
 use Rattle.std.specs.Int.{w16, from_be_bytes, to_be_bytes}
 use Rattle.std.proofs.lemmas.Bool.{cases_lt}
@@ -7,18 +9,25 @@ use Rattle.std.proofs.lemmas.List.{length-drop, length-take-le, take-append-drop
 use Rattle.std.proofs.lemmas.Nat.{be_bytes_2, from_be_bytes-to_be_bytes_2}
 use Rattle.st_format.specs.Device.{AreOctets}
 use Rattle.capture_file.specs.declared.fault.FileFault.{FileFault}
-use Rattle.capture_file.specs.declared.fault.FileFault.TheVariants.{NoMemory, Device, BadName, BadVersion, Truncated, BadField, TrailingBytes, MixedGroup, TooManyRecords}
+use Rattle.capture_file.specs.declared.fault.FileFault.TheVariants.{NoMemory, Device, BadName}
+use Rattle.capture_file.specs.declared.fault.FileFault.TheVariants.{BadVersion, Truncated, BadField}
+use Rattle.capture_file.specs.declared.fault.FileFault.TheVariants.{TrailingBytes, MixedGroup}
+use Rattle.capture_file.specs.declared.fault.FileFault.TheVariants.{TooManyRecords}
 use Rattle.capture_file.specs.declared.front.Version.{Version}
 use Rattle.capture_file.specs.declared.front.Version.TheVariants.{One, Two}
 use Rattle.capture_file.specs.Capture.{Content, IsCapture, capture_at, records_at}
-use Rattle.capture_file.specs.CaptureFaults.{CaptureFault, HasBadRecord, HasBehind, HasCutText, HasRecordMore, IsCutCapture, RecordFault}
+use Rattle.capture_file.specs.CaptureFaults.{CaptureFault, HasBadRecord, HasBehind, HasCutText}
+use Rattle.capture_file.specs.CaptureFaults.{HasRecordMore, IsCutCapture, RecordFault}
 use Rattle.capture_file.specs.CaptureFaults.IsCutCapture.{Kind, Text, Record}
 use Rattle.capture_file.specs.Fields.{◌>>=◌, field_at}
-use Rattle.capture_file.specs.Fronts.{HasFront, capture_name, counted_text, front_at, front_text, kind_at, kind_text, text_at, text_by}
+use Rattle.capture_file.specs.Fronts.{HasFront, capture_name, counted_text, front_at, front_text}
+use Rattle.capture_file.specs.Fronts.{kind_at, kind_text, text_at, text_by}
 use Rattle.capture_file.specs.Records.{Entry, records_text}
-use Rattle.capture_file.proofs.Failing.{Short, answered, field_fails, field_short, field_whole, less, not_both, same_fault, short_with, split_fails}
+use Rattle.capture_file.proofs.Failing.{Short, answered, field_fails, field_short, field_whole}
+use Rattle.capture_file.proofs.Failing.{less, not_both, same_fault, short_with, split_fails}
 use Rattle.capture_file.proofs.Found.{capture_found, field_takes, given, kind_takes, split_then}
-use Rattle.capture_file.proofs.KindFaults.{KindFails, kind_cut, kind_fails, kind_tells, name_tells, version_tells}
+use Rattle.capture_file.proofs.KindFaults.{KindFails, kind_cut, kind_fails, kind_tells, name_tells}
+use Rattle.capture_file.proofs.KindFaults.{version_tells}
 use Rattle.capture_file.proofs.KindFaults.KindFails.{Cut, Name, Digits}
 use Rattle.capture_file.proofs.RecordFaults.{IsStop, Stops, full_tells, records_fail, wrong_tells}
 use Rattle.capture_file.proofs.RecordFaults.IsStop.{Full, Wrong}

@@ -1,6 +1,9 @@
 -- What is said of a fault only where it is the content's.
 use Rattle.capture_file.specs.declared.fault.FileFault.{FileFault}
-use Rattle.capture_file.specs.declared.fault.FileFault.TheVariants.{NoMemory, Device, BadName, BadVersion, Truncated, BadField, TrailingBytes, MixedGroup, TooManyRecords}
+use Rattle.capture_file.specs.declared.fault.FileFault.TheVariants.{NoMemory, Device, BadName}
+use Rattle.capture_file.specs.declared.fault.FileFault.TheVariants.{BadVersion, Truncated, BadField}
+use Rattle.capture_file.specs.declared.fault.FileFault.TheVariants.{TrailingBytes, MixedGroup}
+use Rattle.capture_file.specs.declared.fault.FileFault.TheVariants.{TooManyRecords}
 use Rattle.capture_file.specs.Faults.{IfContent}
 
 pub if_content : (f : FileFault) (P : Type 0) → P → IfContent f P

@@ -1,11 +1,13 @@
 -- A capture that is cut is cut in one place.
-use Rattle.std.proofs.Common.{◌≡◌, ℕ, ◌+◌, ◌<◌, List, ◌++◌, length, drop, Result, Ok, Err, append_assoc, refl, sym, ap, ◌∙◌, subst, arith}
+use Rattle.std.proofs.Common.{◌≡◌, ℕ, ◌+◌, ◌<◌, List, ◌++◌, length, drop, Result, Ok, Err}
+use Rattle.std.proofs.Common.{append_assoc, refl, sym, ap, ◌∙◌, subst, arith}
 use Rattle.std.proofs.lemmas.List.{drop_at, length-append}
 use Rattle.st_format.specs.Device.{AreOctets}
 use Rattle.capture_file.specs.declared.fault.FileFault.{FileFault}
 use Rattle.capture_file.specs.declared.fault.FileFault.TheVariants.{Truncated}
 use Rattle.capture_file.specs.declared.front.Version.TheVariants.{Two}
-use Rattle.capture_file.specs.CaptureFaults.{HasBadRecord, HasCutText, IsCutCapture, IsCutRecord, cut_place, record_place}
+use Rattle.capture_file.specs.CaptureFaults.{HasBadRecord, HasCutText, IsCutCapture, IsCutRecord}
+use Rattle.capture_file.specs.CaptureFaults.{cut_place, record_place}
 use Rattle.capture_file.specs.CaptureFaults.IsCutCapture.{Kind, Text, Record}
 use Rattle.capture_file.specs.CaptureFaults.IsCutRecord.{Head, Octets}
 use Rattle.capture_file.specs.Fronts.{capture_name, front_at, front_text, kind_text}

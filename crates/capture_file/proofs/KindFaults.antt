@@ -1,7 +1,10 @@
 -- Name and version: each fault is read exactly where its condition holds.
-use Rattle.std.proofs.Common.{◌≡◌, ℕ, Bool, false, cond, codes, List, ◌++◌, length, take, drop, Result, Ok, Err, append_assoc, refl, sym, ap, ◌∙◌, subst, inl, inr, arith}
+use Rattle.std.proofs.Common.{◌≡◌, ℕ, Bool, false, cond, codes, List, ◌++◌, length, take, drop}
+use Rattle.std.proofs.Common.{Result, Ok, Err, append_assoc, refl, sym, ap, ◌∙◌, subst, inl, inr}
+use Rattle.std.proofs.Common.{arith}
 use Rattle.std.specs.Str.{bytes_eq}
-use Rattle.std.proofs.lemmas.List.{length-append, length-drop, length-take-le, take-append-drop, take_at, drop_at}
+use Rattle.std.proofs.lemmas.List.{length-append, length-drop, length-take-le, take-append-drop}
+use Rattle.std.proofs.lemmas.List.{take_at, drop_at}
 use Rattle.std.proofs.lemmas.Slice.Eq.{bytes_eq-Decides}
 use Rattle.capture_file.specs.declared.fault.FileFault.{FileFault}
 use Rattle.capture_file.specs.declared.fault.FileFault.TheVariants.{BadName, BadVersion, Truncated}
@@ -11,7 +14,8 @@ use Rattle.capture_file.specs.Fields.{◌>>=◌, field_at}
 use Rattle.capture_file.specs.Fronts.{kind_at, kind_of, version_of, version_text, with_rest}
 use Rattle.capture_file.specs.KindFaults.{HasKind, HasOtherName, HasOtherVersion, IsCutKind}
 use Rattle.capture_file.proofs.Entries.{chosen}
-use Rattle.capture_file.proofs.Failing.{answered, apart, differ, field_fails, field_short, itself, not_both, same_fault, split_fails}
+use Rattle.capture_file.proofs.Failing.{answered, apart, differ, field_fails, field_short, itself}
+use Rattle.capture_file.proofs.Failing.{not_both, same_fault, split_fails}
 use Rattle.capture_file.proofs.Found.{failed, field_takes}
 use Rattle.capture_file.proofs.Splits.{field_again}
 

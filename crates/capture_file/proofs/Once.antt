@@ -1,5 +1,7 @@
 -- A receiver has one file.
-use Rattle.std.proofs.Common.{◌*◌, zero, suc, ◌≡◌, ℕ, ◌^◌, ◌<◌, List, [], ◌∷◌, ◌++◌, length, take, drop, Option, None, Some, Result, Ok, Err, append_assoc, refl, sym, ap, ◌∙◌, subst, arith}
+use Rattle.std.proofs.Common.{◌*◌, zero, suc, ◌≡◌, ℕ, ◌^◌, ◌<◌, List, [], ◌∷◌, ◌++◌, length, take}
+use Rattle.std.proofs.Common.{drop, Option, None, Some, Result, Ok, Err, append_assoc, refl, sym}
+use Rattle.std.proofs.Common.{ap, ◌∙◌, subst, arith}
 use Rattle.std.specs.Int.{w16, w32, from_be_bytes, to_be_bytes}
 use Rattle.std.specs.List.{AllByRecursion, flat_map}
 use Rattle.std.proofs.lemmas.List.{length-append, length-drop, take-append-drop, take_at, drop_at}
@@ -15,7 +17,9 @@ use Rattle.capture_file.specs.declared.fault.FileFault.{FileFault}
 use Rattle.capture_file.specs.declared.front.Version.TheVariants.{One}
 use Rattle.capture_file.specs.Fronts.{kind_text, receiver_name}
 use Rattle.capture_file.specs.Groups.{IsGroup, IsShape, Shape, groups_at, groups_text, shape_of}
-use Rattle.capture_file.specs.StateFile.{cut_cells, joined_groups, HasRoom, Held, IsHeld, IsKept, Kept, SsrcFits, format_text, held_text, opening_text, sampling_code, ssrc_text, state_text}
+use Rattle.capture_file.specs.StateFile.{cut_cells, joined_groups, HasRoom, Held, IsHeld, IsKept}
+use Rattle.capture_file.specs.StateFile.{Kept, SsrcFits, format_text, held_text, opening_text}
+use Rattle.capture_file.specs.StateFile.{sampling_code, ssrc_text, state_text}
 use Rattle.capture_file.proofs.Grouped.{groups_again}
 
 pub record Both (xs ys a b : List ℕ) : Type 0 where
@@ -23,32 +27,49 @@ pub record Both (xs ys a b : List ℕ) : Type 0 where
   pub rest : a ≡ b
 
 -- two lists that are cut at one place
-pub cut_both : (n : ℕ) (xs ys a b : List ℕ) → length xs ≡ n → length ys ≡ n → xs ++ a ≡ ys ++ b → Both xs ys a b
+pub cut_both : (n : ℕ) (xs ys a b : List ℕ) → length xs ≡ n → length ys ≡ n → xs ++ a ≡ ys ++ b
+    → Both xs ys a b
 cut_both n xs ys a b p q e = record {
   front = sym (take_at xs a n p) ∙ ap (take n) e ∙ take_at ys b n q;
   rest = sym (drop_at xs a n p) ∙ ap (drop n) e ∙ drop_at ys b n q;
 }
 
 pub once_16 : (m n : ℕ) → m < 2 ^ 16 → n < 2 ^ 16 → to_be_bytes w16 m ≡ to_be_bytes w16 n → m ≡ n
-once_16 m n p q e = sym (from_be_bytes-to_be_bytes_2 m p) ∙ ap (from_be_bytes w16) e ∙ from_be_bytes-to_be_bytes_2 n q
+once_16 m n p q e =
+    sym (from_be_bytes-to_be_bytes_2 m p) ∙ ap (from_be_bytes w16) e
+    ∙ from_be_bytes-to_be_bytes_2 n q
 
 pub once_32 : (m n : ℕ) → m < 2 ^ 32 → n < 2 ^ 32 → to_be_bytes w32 m ≡ to_be_bytes w32 n → m ≡ n
-once_32 m n p q e = sym (from_be_bytes-to_be_bytes_4 m p) ∙ ap (from_be_bytes w32) e ∙ from_be_bytes-to_be_bytes_4 n q
+once_32 m n p q e =
+    sym (from_be_bytes-to_be_bytes_4 m p) ∙ ap (from_be_bytes w32) e
+    ∙ from_be_bytes-to_be_bytes_4 n q
 
 -- the pixel groups of each format
 pub shape_is : (s : Sampling) (b : Depth) → IsShape (shape_of s b)
-shape_is Ycc422 D8 = record { some = omega arith; few = omega arith; some_bits = omega arith; octets = refl }
-shape_is Ycc422 D10 = record { some = omega arith; few = omega arith; some_bits = omega arith; octets = refl }
-shape_is Ycc422 D12 = record { some = omega arith; few = omega arith; some_bits = omega arith; octets = refl }
-shape_is Ycc422 D16 = record { some = omega arith; few = omega arith; some_bits = omega arith; octets = refl }
-shape_is Ycc444 D8 = record { some = omega arith; few = omega arith; some_bits = omega arith; octets = refl }
-shape_is Ycc444 D10 = record { some = omega arith; few = omega arith; some_bits = omega arith; octets = refl }
-shape_is Ycc444 D12 = record { some = omega arith; few = omega arith; some_bits = omega arith; octets = refl }
-shape_is Ycc444 D16 = record { some = omega arith; few = omega arith; some_bits = omega arith; octets = refl }
-shape_is Rgb D8 = record { some = omega arith; few = omega arith; some_bits = omega arith; octets = refl }
-shape_is Rgb D10 = record { some = omega arith; few = omega arith; some_bits = omega arith; octets = refl }
-shape_is Rgb D12 = record { some = omega arith; few = omega arith; some_bits = omega arith; octets = refl }
-shape_is Rgb D16 = record { some = omega arith; few = omega arith; some_bits = omega arith; octets = refl }
+shape_is Ycc422 D8 =
+    record { some = omega arith; few = omega arith; some_bits = omega arith; octets = refl }
+shape_is Ycc422 D10 =
+    record { some = omega arith; few = omega arith; some_bits = omega arith; octets = refl }
+shape_is Ycc422 D12 =
+    record { some = omega arith; few = omega arith; some_bits = omega arith; octets = refl }
+shape_is Ycc422 D16 =
+    record { some = omega arith; few = omega arith; some_bits = omega arith; octets = refl }
+shape_is Ycc444 D8 =
+    record { some = omega arith; few = omega arith; some_bits = omega arith; octets = refl }
+shape_is Ycc444 D10 =
+    record { some = omega arith; few = omega arith; some_bits = omega arith; octets = refl }
+shape_is Ycc444 D12 =
+    record { some = omega arith; few = omega arith; some_bits = omega arith; octets = refl }
+shape_is Ycc444 D16 =
+    record { some = omega arith; few = omega arith; some_bits = omega arith; octets = refl }
+shape_is Rgb D8 =
+    record { some = omega arith; few = omega arith; some_bits = omega arith; octets = refl }
+shape_is Rgb D10 =
+    record { some = omega arith; few = omega arith; some_bits = omega arith; octets = refl }
+shape_is Rgb D12 =
+    record { some = omega arith; few = omega arith; some_bits = omega arith; octets = refl }
+shape_is Rgb D16 =
+    record { some = omega arith; few = omega arith; some_bits = omega arith; octets = refl }
 
 -- codes
 code_once : (s t : Sampling) → sampling_code s ≡ sampling_code t → s ≡ t
@@ -95,10 +116,16 @@ rest_in (Err f) = []
 abbrev read : List (List Cell) → List ℕ → Result (List (List Cell) × List ℕ) FileFault
 read gs rest = Ok (gs, rest)
 
-groups_once : (s : Shape) (gs qs : List (List Cell)) (a b : List ℕ) → IsShape s → AllByRecursion (IsGroup s) gs → AllByRecursion (IsGroup s) qs → length gs ≡ length qs → groups_text s gs ++ a ≡ groups_text s qs ++ b → read gs a ≡ read qs b
-groups_once s gs qs a b is p q len e = sym (groups_again s gs a is p) ∙ ap (groups_at s (length gs)) e ∙ ap (λ (n : ℕ). groups_at s n (groups_text s qs ++ b)) len ∙ groups_again s qs b is q
+groups_once : (s : Shape) (gs qs : List (List Cell)) (a b : List ℕ) → IsShape s
+    → AllByRecursion (IsGroup s) gs → AllByRecursion (IsGroup s) qs → length gs ≡ length qs
+    → groups_text s gs ++ a ≡ groups_text s qs ++ b → read gs a ≡ read qs b
+groups_once s gs qs a b is p q len e =
+    sym (groups_again s gs a is p) ∙ ap (groups_at s (length gs)) e
+    ∙ ap (λ (n : ℕ). groups_at s n (groups_text s qs ++ b)) len ∙ groups_again s qs b is q
 
-frames_once : (f : Fields) (hs js : List Held) → AllByRecursion (IsHeld f) hs → AllByRecursion (IsHeld f) js → length hs ≡ length js → flat_map (held_text f) hs ≡ flat_map (held_text f) js → hs ≡ js
+frames_once : (f : Fields) (hs js : List Held) → AllByRecursion (IsHeld f) hs
+    → AllByRecursion (IsHeld f) js → length hs ≡ length js
+    → flat_map (held_text f) hs ≡ flat_map (held_text f) js → hs ≡ js
 frames_once f [] [] p q len e = refl
 frames_once f [] (j ∷ js) p q len e = absurd (omega (arith, len))
 frames_once f (h ∷ hs) [] p q len e = absurd (omega (arith, len))
@@ -106,15 +133,23 @@ frames_once f (h ∷ hs) (j ∷ js) p q len e =
     let s : Shape = shape_of f.sampling f.depth in
     let a : List ℕ = flat_map (held_text f) hs in
     let b : List ℕ = flat_map (held_text f) js in
-    let first = cut_both 4 (to_be_bytes w32 h.timestamp) (to_be_bytes w32 j.timestamp) (groups_text s h.groups ++ a) (groups_text s j.groups ++ b) refl refl
-    (sym (append_assoc (to_be_bytes w32 h.timestamp) (groups_text s h.groups) a) ∙ e ∙ append_assoc (to_be_bytes w32 j.timestamp) (groups_text s j.groups) b) in
-    let ts : h.timestamp ≡ j.timestamp = once_32 h.timestamp j.timestamp p.0.timestamp q.0.timestamp first.front in
-    let both : read h.groups a ≡ read j.groups b = groups_once s h.groups j.groups a b (shape_is f.sampling f.depth) p.0.groups q.0.groups (p.0.count ∙ sym q.0.count) first.rest in
+    let first =
+    cut_both 4 (to_be_bytes w32 h.timestamp) (to_be_bytes w32 j.timestamp)
+    (groups_text s h.groups ++ a) (groups_text s j.groups ++ b) refl refl
+    (sym (append_assoc (to_be_bytes w32 h.timestamp) (groups_text s h.groups) a) ∙ e
+    ∙ append_assoc (to_be_bytes w32 j.timestamp) (groups_text s j.groups) b) in
+    let ts : h.timestamp ≡ j.timestamp =
+    once_32 h.timestamp j.timestamp p.0.timestamp q.0.timestamp first.front in
+    let both : read h.groups a ≡ read j.groups b =
+    groups_once s h.groups j.groups a b (shape_is f.sampling f.depth) p.0.groups q.0.groups
+    (p.0.count ∙ sym q.0.count) first.rest in
     let gs : h.groups ≡ j.groups = ap groups_in both in
     let rest : a ≡ b = ap rest_in both in
     let more : hs ≡ js = frames_once f hs js p.1 q.1 (omega (arith, len)) rest in
     ap (λ (t : ℕ). let x : Held = record { timestamp = t; groups = h.groups } in x ∷ hs) ts
-    ∙ ap (λ (g : List (List Cell)). let x : Held = record { timestamp = j.timestamp; groups = g } in x ∷ hs) gs
+    ∙ ap
+    (λ (g : List (List Cell)). let x : Held =
+    record { timestamp = j.timestamp; groups = g } in x ∷ hs) gs
     ∙ ap (λ (xs : List Held). j ∷ xs) more
 
 abbrev head_in : List ℕ → ℕ
@@ -128,14 +163,20 @@ fields s b w h n d = record { sampling = s; depth = b; width = w; height = h; n 
 format_once : (f g : Fields) → HasRoom f → HasRoom g → format_text f ≡ format_text g → f ≡ g
 format_once f g p q e =
     let s : f.sampling ≡ g.sampling = code_once f.sampling g.sampling (ap head_in e) in
-    let b : f.depth ≡ g.depth = bits_once f.depth g.depth (ap (λ (xs : List ℕ). head_in (drop 1 xs)) e) in
-    let w : f.width ≡ g.width = once_16 f.width g.width p.width q.width (ap (λ (xs : List ℕ). take 2 (drop 2 xs)) e) in
-    let h : f.height ≡ g.height = once_16 f.height g.height p.height q.height (ap (λ (xs : List ℕ). take 2 (drop 4 xs)) e) in
+    let b : f.depth ≡ g.depth =
+    bits_once f.depth g.depth (ap (λ (xs : List ℕ). head_in (drop 1 xs)) e) in
+    let w : f.width ≡ g.width =
+    once_16 f.width g.width p.width q.width (ap (λ (xs : List ℕ). take 2 (drop 2 xs)) e) in
+    let h : f.height ≡ g.height =
+    once_16 f.height g.height p.height q.height (ap (λ (xs : List ℕ). take 2 (drop 4 xs)) e) in
     let n : f.n ≡ g.n = once_32 f.n g.n p.n q.n (ap (λ (xs : List ℕ). take 4 (drop 6 xs)) e) in
     let d : f.d ≡ g.d = once_32 f.d g.d p.d q.d (ap (λ (xs : List ℕ). take 4 (drop 10 xs)) e) in
-    ap (λ (x : Sampling). fields x f.depth f.width f.height f.n f.d) s ∙ ap (λ (x : Depth). fields g.sampling x f.width f.height f.n f.d) b
-    ∙ ap (λ (x : ℕ). fields g.sampling g.depth x f.height f.n f.d) w ∙ ap (λ (x : ℕ). fields g.sampling g.depth g.width x f.n f.d) h
-    ∙ ap (λ (x : ℕ). fields g.sampling g.depth g.width g.height x f.d) n ∙ ap (fields g.sampling g.depth g.width g.height g.n) d
+    ap (λ (x : Sampling). fields x f.depth f.width f.height f.n f.d) s
+    ∙ ap (λ (x : Depth). fields g.sampling x f.width f.height f.n f.d) b
+    ∙ ap (λ (x : ℕ). fields g.sampling g.depth x f.height f.n f.d) w
+    ∙ ap (λ (x : ℕ). fields g.sampling g.depth g.width x f.n f.d) h
+    ∙ ap (λ (x : ℕ). fields g.sampling g.depth g.width g.height x f.d) n
+    ∙ ap (fields g.sampling g.depth g.width g.height g.n) d
 
 abbrev pinned : ℕ → Option ℕ
 pinned n = Some n
@@ -151,7 +192,8 @@ ssrc_length None = refl
 ssrc_length (Some n) = refl
 
 opening_length : (k : Kept) → length (opening_text k) ≡ 7
-opening_length k = omega (arith, length-append (ssrc_text k.ssrc) (length k.frames ∷ []), ssrc_length k.ssrc)
+opening_length k =
+    omega (arith, length-append (ssrc_text k.ssrc) (length k.frames ∷ []), ssrc_length k.ssrc)
 
 abbrev kept : Fields → ℕ → Option ℕ → List Held → Kept
 kept f pt ssrc frames = record { format = f; payload_type = pt; ssrc = ssrc; frames = frames }
@@ -161,28 +203,47 @@ pub state_once : (k l : Kept) → IsKept k → IsKept l → state_text k ≡ sta
 state_once k l p q e =
     let ka : List ℕ = flat_map (held_text k.format) k.frames in
     let la : List ℕ = flat_map (held_text l.format) l.frames in
-    let a = cut_both 8 (kind_text receiver_name One) (kind_text receiver_name One) (format_text k.format ++ (opening_text k ++ ka)) (format_text l.format ++ (opening_text l ++ la)) refl refl e in
-    let b = cut_both 14 (format_text k.format) (format_text l.format) (opening_text k ++ ka) (opening_text l ++ la) refl refl a.rest in
-    let c = cut_both 7 (opening_text k) (opening_text l) ka la (opening_length k) (opening_length l) b.rest in
+    let a =
+    cut_both 8 (kind_text receiver_name One) (kind_text receiver_name One)
+    (format_text k.format ++ (opening_text k ++ ka))
+    (format_text l.format ++ (opening_text l ++ la)) refl refl e in
+    let b =
+    cut_both 14 (format_text k.format) (format_text l.format) (opening_text k ++ ka)
+    (opening_text l ++ la) refl refl a.rest in
+    let c =
+    cut_both 7 (opening_text k) (opening_text l) ka la (opening_length k)
+    (opening_length l) b.rest in
     let f : k.format ≡ l.format = format_once k.format l.format p.room q.room b.front in
     let pt : k.payload_type ≡ l.payload_type = ap head_in c.front in
-    let d = cut_both 5 (ssrc_text k.ssrc) (ssrc_text l.ssrc) (length k.frames ∷ []) (length l.frames ∷ []) (ssrc_length k.ssrc) (ssrc_length l.ssrc) (ap (drop 1) c.front) in
+    let d =
+    cut_both 5 (ssrc_text k.ssrc) (ssrc_text l.ssrc) (length k.frames ∷ [])
+    (length l.frames ∷ []) (ssrc_length k.ssrc) (ssrc_length l.ssrc) (ap (drop 1) c.front) in
     let ssrc : k.ssrc ≡ l.ssrc = ssrc_once k.ssrc l.ssrc p.ssrc q.ssrc d.front in
     let count : length k.frames ≡ length l.frames = ap head_in d.rest in
-    let same : la ≡ flat_map (held_text k.format) l.frames = ap (λ (x : Fields). flat_map (held_text x) l.frames) (sym f) in
-    let lf : AllByRecursion (IsHeld k.format) l.frames = subst (λ (x : Fields). AllByRecursion (IsHeld x) l.frames) (sym f) q.frames in
-    let frames : k.frames ≡ l.frames = frames_once k.format k.frames l.frames p.frames lf count (c.rest ∙ same) in
-    ap (λ (x : Fields). kept x k.payload_type k.ssrc k.frames) f ∙ ap (λ (x : ℕ). kept l.format x k.ssrc k.frames) pt
-    ∙ ap (λ (x : Option ℕ). kept l.format l.payload_type x k.frames) ssrc ∙ ap (kept l.format l.payload_type l.ssrc) frames
+    let same : la ≡ flat_map (held_text k.format) l.frames =
+    ap (λ (x : Fields). flat_map (held_text x) l.frames) (sym f) in
+    let lf : AllByRecursion (IsHeld k.format) l.frames =
+    subst (λ (x : Fields). AllByRecursion (IsHeld x) l.frames) (sym f) q.frames in
+    let frames : k.frames ≡ l.frames =
+    frames_once k.format k.frames l.frames p.frames lf count (c.rest ∙ same) in
+    ap (λ (x : Fields). kept x k.payload_type k.ssrc k.frames) f
+    ∙ ap (λ (x : ℕ). kept l.format x k.ssrc k.frames) pt
+    ∙ ap (λ (x : Option ℕ). kept l.format l.payload_type x k.frames) ssrc
+    ∙ ap (kept l.format l.payload_type l.ssrc) frames
 
 -- cells are those of their groups
-pub cut_joined : (size n : ℕ) (cells : List Cell) → length cells ≡ n * size → joined_groups (cut_cells size n cells) ≡ cells
+pub cut_joined : (size n : ℕ) (cells : List Cell) → length cells ≡ n * size
+    → joined_groups (cut_cells size n cells) ≡ cells
 unfolding cut_cells
 cut_joined size zero [] e = refl
 cut_joined size zero (c ∷ cells) e = absurd (omega (arith, e))
 cut_joined size (suc n) cells e =
-    ap (λ (t : List Cell). take size cells ++ t) (cut_joined size n (drop size cells) (omega (arith, e, length-drop size cells))) ∙ take-append-drop size cells
+    ap (λ (t : List Cell). take size cells ++ t)
+    (cut_joined size n (drop size cells) (omega (arith, e, length-drop size cells)))
+    ∙ take-append-drop size cells
 
 -- so cells with equal groups are equal
-pub cells_once : (size n : ℕ) (a b : List Cell) → length a ≡ n * size → length b ≡ n * size → cut_cells size n a ≡ cut_cells size n b → a ≡ b
-cells_once size n a b p q e = sym (cut_joined size n a p) ∙ ap joined_groups e ∙ cut_joined size n b q
+pub cells_once : (size n : ℕ) (a b : List Cell) → length a ≡ n * size → length b ≡ n * size
+    → cut_cells size n a ≡ cut_cells size n b → a ≡ b
+cells_once size n a b p q e =
+    sym (cut_joined size n a p) ∙ ap joined_groups e ∙ cut_joined size n b q

@@ -1,5 +1,7 @@
 -- Pictures: each fault is read exactly where its condition holds, and at most one holds.
-use Rattle.std.proofs.Common.{◌≡◌, ℕ, ◌-◌, ◌<◌, Bool, true, false, codes, List, [], ◌∷◌, ◌++◌, length, take, drop, Result, Ok, Err, append_assoc, refl, sym, ap, ◌∙◌, subst, inl, inr, arith}
+use Rattle.std.proofs.Common.{◌≡◌, ℕ, ◌-◌, ◌<◌, Bool, true, false, codes, List, [], ◌∷◌, ◌++◌}
+use Rattle.std.proofs.Common.{length, take, drop, Result, Ok, Err, append_assoc, refl, sym, ap, ◌∙◌}
+use Rattle.std.proofs.Common.{subst, inl, inr, arith}
 use Rattle.std.specs.Prelude.{⊤}
 use Rattle.std.specs.Str.{bytes_eq}
 use Rattle.std.proofs.lemmas.List.{length-drop, length-take-le, take-append-drop, take_at}
@@ -9,20 +11,27 @@ use Rattle.st_format.specs.Fields.{Fields}
 use Rattle.st_format.specs.Pgroup.{bits_of}
 use Rattle.st_format.specs.Samples.{values_in}
 use Rattle.capture_file.specs.declared.fault.FileFault.{FileFault}
-use Rattle.capture_file.specs.declared.fault.FileFault.TheVariants.{NoMemory, Device, BadName, BadVersion, Truncated, BadField, TrailingBytes, MixedGroup, TooManyRecords}
+use Rattle.capture_file.specs.declared.fault.FileFault.TheVariants.{NoMemory, Device, BadName}
+use Rattle.capture_file.specs.declared.fault.FileFault.TheVariants.{BadVersion, Truncated, BadField}
+use Rattle.capture_file.specs.declared.fault.FileFault.TheVariants.{TrailingBytes, MixedGroup}
+use Rattle.capture_file.specs.declared.fault.FileFault.TheVariants.{TooManyRecords}
 use Rattle.capture_file.specs.declared.front.Version.{Version}
 use Rattle.capture_file.specs.declared.front.Version.TheVariants.{One, Two}
 use Rattle.capture_file.specs.Blocks.{block_at, block_of}
 use Rattle.capture_file.specs.Fields.{◌>>=◌, field_at}
 use Rattle.capture_file.specs.Fronts.{kind_at, kind_text, picture_name, version_text, with_rest}
-use Rattle.capture_file.specs.PictureFaults.{HasCutGroups, HasHead, HasNoFormat, HasOtherThanOne, HasTrailing, IsCutPicture, IsFormat, PictureFault}
+use Rattle.capture_file.specs.PictureFaults.{HasCutGroups, HasHead, HasNoFormat, HasOtherThanOne}
+use Rattle.capture_file.specs.PictureFaults.{HasTrailing, IsCutPicture, IsFormat, PictureFault}
 use Rattle.capture_file.specs.PictureFaults.IsCutPicture.{Kind, Block, Groups}
-use Rattle.capture_file.specs.PictureFile.{Shown, nothing_at, one_at, one_by, picture_at, raster_at, raster_octets, shows}
+use Rattle.capture_file.specs.PictureFile.{Shown, nothing_at, one_at, one_by, picture_at, raster_at}
+use Rattle.capture_file.specs.PictureFile.{raster_octets, shows}
 use Rattle.capture_file.specs.StateFile.{format_text}
 use Rattle.capture_file.proofs.BlockFaults.{block_again, block_fails, block_read}
-use Rattle.capture_file.proofs.Failing.{differ, field_fails, field_short, field_whole, not_both, same_fault, split_fails}
+use Rattle.capture_file.proofs.Failing.{differ, field_fails, field_short, field_whole, not_both}
+use Rattle.capture_file.proofs.Failing.{same_fault, split_fails}
 use Rattle.capture_file.proofs.Found.{failed, field_takes, given, kind_takes, split_then}
-use Rattle.capture_file.proofs.KindFaults.{KindFails, kind_cut, kind_fails, kind_tells, name_tells, version_tells}
+use Rattle.capture_file.proofs.KindFaults.{KindFails, kind_cut, kind_fails, kind_tells, name_tells}
+use Rattle.capture_file.proofs.KindFaults.{version_tells}
 use Rattle.capture_file.proofs.KindFaults.KindFails.{Cut, Name, Digits}
 use Rattle.capture_file.proofs.Splits.{AreOctets-back, AreOctets-take, field_again}
 
@@ -189,7 +198,8 @@ pub record Stands (octets : List ℕ) (x : Formed) : Type 0 where
   pub format : IsFormat x.0
   pub text : octets ≡ format_text x.0 ++ x.1
 
-pub block_stands : (rest : List ℕ) (x : Formed) → AreOctets rest → block_at rest ≡ Ok x → Stands rest x
+pub block_stands : (rest : List ℕ) (x : Formed) → AreOctets rest → block_at rest ≡ Ok x
+    → Stands rest x
 unfolding block_at
 block_stands rest x bytes h =
     let t = split_then (field_at 14 rest) read_block x h in

@@ -1,5 +1,7 @@
 -- Records: each fault is read exactly where its condition holds.
-use Rattle.std.proofs.Common.{◌≡◌, ℕ, zero, suc, ◌+◌, ◌-◌, ◌<◌, ◌≤◌, Bool, cond, eqb, ltb, List, [], ◌∷◌, ◌++◌, length, take, drop, Option, None, Some, Result, Ok, Err, append_assoc, refl, sym, ap, ◌∙◌, subst, inl, inr, arith}
+use Rattle.std.proofs.Common.{◌≡◌, ℕ, zero, suc, ◌+◌, ◌-◌, ◌<◌, ◌≤◌, Bool, cond, eqb, ltb, List, []}
+use Rattle.std.proofs.Common.{◌∷◌, ◌++◌, length, take, drop, Option, None, Some, Result, Ok, Err}
+use Rattle.std.proofs.Common.{append_assoc, refl, sym, ap, ◌∙◌, subst, inl, inr, arith}
 use Rattle.std.specs.Int.{w16, w64, from_be_bytes}
 use Rattle.std.proofs.lemmas.Bool.{cases_lt, lt-ltb, le-ltb, ltb-true, ltb-false, ne_eqb}
 use Rattle.std.proofs.lemmas.List.{drop-take, length-drop, take-take}
@@ -7,14 +9,19 @@ use Rattle.st_format.specs.Device.{AreOctets}
 use Rattle.st_format.specs.declared.path.Path.{Path}
 use Rattle.st_format.specs.declared.path.Path.TheVariants.{A, B}
 use Rattle.capture_file.specs.declared.fault.FileFault.{FileFault}
-use Rattle.capture_file.specs.declared.fault.FileFault.TheVariants.{NoMemory, Device, BadName, BadVersion, Truncated, BadField, TrailingBytes, MixedGroup, TooManyRecords}
+use Rattle.capture_file.specs.declared.fault.FileFault.TheVariants.{NoMemory, Device, BadName}
+use Rattle.capture_file.specs.declared.fault.FileFault.TheVariants.{BadVersion, Truncated, BadField}
+use Rattle.capture_file.specs.declared.fault.FileFault.TheVariants.{TrailingBytes, MixedGroup}
+use Rattle.capture_file.specs.declared.fault.FileFault.TheVariants.{TooManyRecords}
 use Rattle.capture_file.specs.declared.record.RecordHead.{RecordHead}
 use Rattle.capture_file.specs.Capture.{records_at}
 use Rattle.capture_file.specs.CaptureFaults.{HasBadPath, IsCutRecord, RecordFault, count_in}
 use Rattle.capture_file.specs.CaptureFaults.IsCutRecord.{Head, Octets}
 use Rattle.capture_file.specs.Fields.{◌>>=◌}
-use Rattle.capture_file.specs.Reading.{fault_at, fault_by, head_at, head_by, octets_at, path_of, rest_at}
-use Rattle.capture_file.specs.Records.{AllFit, Entry, Fits, entry_of, path_octet, record_text, records_text, rest_text}
+use Rattle.capture_file.specs.Reading.{fault_at, fault_by, head_at, head_by, octets_at, path_of}
+use Rattle.capture_file.specs.Reading.{rest_at}
+use Rattle.capture_file.specs.Records.{AllFit, Entry, Fits, entry_of, path_octet, record_text}
+use Rattle.capture_file.specs.Records.{records_text, rest_text}
 use Rattle.capture_file.proofs.Entries.{chosen, rest_again}
 use Rattle.capture_file.proofs.Failing.{answered, not_both, same_fault, split_fails}
 use Rattle.capture_file.proofs.Found.{failed}

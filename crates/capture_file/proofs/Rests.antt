@@ -1,5 +1,7 @@
 -- The rest of a record, read from a source.
-use Rattle.std.proofs.Common.{◌≡◌, ℕ, ◌<◌, ◌≤◌, Bool, true, false, cond, ltb, List, [], ◌∷◌, ◌++◌, length, take, drop, Option, None, Some, Result, Ok, Err, append-nil, sym, ap, ◌∙◌, subst, arith}
+use Rattle.std.proofs.Common.{◌≡◌, ℕ, ◌<◌, ◌≤◌, Bool, true, false, cond, ltb, List, [], ◌∷◌, ◌++◌}
+use Rattle.std.proofs.Common.{length, take, drop, Option, None, Some, Result, Ok, Err, append-nil}
+use Rattle.std.proofs.Common.{sym, ap, ◌∙◌, subst, arith}
 use Rattle.std.specs.Prelude.{⊤}
 use Rattle.std.specs.Io.KnownBytes.{Consumes, IsAtEnd}
 use Rattle.std.proofs.lemmas.Bool.{lt-ltb, le-ltb}
@@ -21,57 +23,88 @@ all_given : (o rest given : List ℕ) → o ≡ given ++ rest → rest ≡ [] �
 all_given o rest given p e = p ∙ ap (λ (xs : List ℕ). given ++ xs) e ∙ append-nil given
 
 -- fewer than ten octets are no head
-pub cut_head : (first : ℕ) (old new : Option (List ℕ)) (given : List ℕ) → Consumes old new given → IsAtEnd new → length given < 10 → FailsRest Truncated first old
+pub cut_head : (first : ℕ) (old new : Option (List ℕ)) (given : List ℕ) → Consumes old new given
+    → IsAtEnd new → length given < 10 → FailsRest Truncated first old
 unfolding rest_at
 cut_head first None new given p e lt = record { named = tt; content = tt }
 cut_head first (Some o) None given p e lt = absurd p
 cut_head first (Some o) (Some rest) given p e lt =
     let all : o ≡ given = all_given o rest given p e in
     let short : ltb (length o) 10 ≡ true = lt-ltb (length o) 10 (omega (arith, ap length all)) in
-    record { named = tt; content = ap (λ (b : Bool). cond b truncated (octets_at (head_at first (take 10 o)) (drop 10 o))) short }
+    record {
+      named = tt;
+      content =
+          ap (λ (b : Bool). cond b truncated
+          (octets_at (head_at first (take 10 o)) (drop 10 o))) short;
+    }
 
 -- a source gave all of a list
-pub gave_all : (old new : Option (List ℕ)) (n : ℕ) (given : List ℕ) → Consumes old new (take n given) → length given ≤ n → Consumes old new given
+pub gave_all : (old new : Option (List ℕ)) (n : ℕ) (given : List ℕ)
+    → Consumes old new (take n given) → length given ≤ n → Consumes old new given
 gave_all old new n given p le = subst (Consumes old new) (take_all n given le) p
 
 -- ten octets are a head, and what follows them has its octets
-pub behind_head : (first : ℕ) (head rest : List ℕ) → length head ≡ 10 → rest_at first (head ++ rest) ≡ octets_at (head_at first head) rest
+pub behind_head : (first : ℕ) (head rest : List ℕ) → length head ≡ 10
+    → rest_at first (head ++ rest) ≡ octets_at (head_at first head) rest
 unfolding rest_at
 behind_head first head rest ten =
-    let long : ltb (length (head ++ rest)) 10 ≡ false = le-ltb (length (head ++ rest)) 10 (omega (arith, length-append head rest)) in
-    ap (λ (b : Bool). cond b truncated (octets_at (head_at first (take 10 (head ++ rest))) (drop 10 (head ++ rest)))) long
-    ∙ ap (λ (xs : List ℕ). octets_at (head_at first xs) (drop 10 (head ++ rest))) (take_at head rest 10 ten)
+    let long : ltb (length (head ++ rest)) 10 ≡ false =
+    le-ltb (length (head ++ rest)) 10 (omega (arith, length-append head rest)) in
+    ap (λ (b : Bool). cond b truncated
+    (octets_at (head_at first (take 10 (head ++ rest))) (drop 10 (head ++ rest)))) long
+    ∙ ap (λ (xs : List ℕ). octets_at (head_at first xs) (drop 10 (head ++ rest)))
+    (take_at head rest 10 ten)
     ∙ ap (λ (xs : List ℕ). octets_at (head_at first head) xs) (drop_at head rest 10 ten)
 
 -- a head that is none
-pub bad_head : (f : FileFault) (first : ℕ) (old new : Option (List ℕ)) (head : List ℕ) → Consumes old new head → length head ≡ 10 → head_at first head ≡ Err f → f ≡ BadField → FailsRest f first old
-bad_head f first None new head p ten bad is = record { named = subst IsOfRecord (sym is) tt; content = subst (λ (e : FileFault). IfContent e ⊤) (sym is) tt }
+pub bad_head : (f : FileFault) (first : ℕ) (old new : Option (List ℕ)) (head : List ℕ)
+    → Consumes old new head → length head ≡ 10 → head_at first head ≡ Err f → f ≡ BadField
+    → FailsRest f first old
+bad_head f first None new head p ten bad is =
+    record {
+      named = subst IsOfRecord (sym is) tt;
+      content =
+          subst (λ (e : FileFault). IfContent e ⊤) (sym is) tt;
+    }
 bad_head f first (Some o) None head p ten bad is = absurd p
 bad_head f first (Some o) (Some rest) head p ten bad is =
-    let at : rest_at first o ≡ Err f = ap (rest_at first) p ∙ behind_head first head rest ten ∙ ap (λ (r : Result RecordHead FileFault). octets_at r rest) bad in
-    record { named = subst IsOfRecord (sym is) tt; content = if_content f (rest_at first o ≡ Err f) at }
+    let at : rest_at first o ≡ Err f =
+    ap (rest_at first) p ∙ behind_head first head rest ten
+    ∙ ap (λ (r : Result RecordHead FileFault). octets_at r rest) bad in
+    record {
+      named = subst IsOfRecord (sym is) tt;
+      content =
+          if_content f (rest_at first o ≡ Err f) at;
+    }
 
 -- fewer octets than the head says
-pub cut_octets : (first : ℕ) (old mid new : Option (List ℕ)) (head given : List ℕ) (h : RecordHead) → Consumes old mid head → length head ≡ 10 → head_at first head ≡ Ok h
+pub cut_octets : (first : ℕ) (old mid new : Option (List ℕ)) (head given : List ℕ) (h : RecordHead)
+    → Consumes old mid head → length head ≡ 10 → head_at first head ≡ Ok h
     → Consumes mid new given → IsAtEnd new → length given < h.length → FailsRest Truncated first old
 cut_octets first None mid new head given h p ten is q e lt = record { named = tt; content = tt }
 cut_octets first (Some o) None new head given h p ten is q e lt = absurd p
 cut_octets first (Some o) (Some m) None head given h p ten is q e lt = absurd q
 cut_octets first (Some o) (Some m) (Some rest) head given h p ten is q e lt =
     let all : m ≡ given = all_given m rest given q e in
-    let short : ltb (length m) h.length ≡ true = lt-ltb (length m) h.length (omega (arith, ap length all)) in
+    let short : ltb (length m) h.length ≡ true =
+    lt-ltb (length m) h.length (omega (arith, ap length all)) in
     record {
       named = tt;
-      content = ap (rest_at first) p ∙ behind_head first head m ten ∙ ap (λ (r : Result RecordHead FileFault). octets_at r m) is
+      content =
+          ap (rest_at first) p ∙ behind_head first head m ten
+          ∙ ap (λ (r : Result RecordHead FileFault). octets_at r m) is
           ∙ ap (λ (b : Bool). cond b truncated (Ok (entry_of h m, drop h.length m))) short;
     }
 
 -- what is wrong behind an octet is wrong at the front of it and them
-pub fails_from : (f : FileFault) (first : ℕ) (old mid : Option (List ℕ)) → Consumes old mid (first ∷ []) → FailsRest f first mid → FailsRecord f old
+pub fails_from : (f : FileFault) (first : ℕ) (old mid : Option (List ℕ))
+    → Consumes old mid (first ∷ []) → FailsRest f first mid → FailsRecord f old
 unfolding fault_at
 fails_from f first None mid p is = record { named = is.named; content = if_content f ⊤ tt }
 fails_from f first (Some o) None p is = absurd p
 fails_from f first (Some o) (Some m) p is = record {
   named = is.named;
-  content = if_content_weaker f (rest_at first m ≡ Err f) (fault_at o ≡ Some f) (λ e. ap fault_at p ∙ ap fault_by e) is.content;
+  content =
+      if_content_weaker f (rest_at first m ≡ Err f) (fault_at o ≡ Some f)
+      (λ e. ap fault_at p ∙ ap fault_by e) is.content;
 }

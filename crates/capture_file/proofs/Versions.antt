@@ -9,7 +9,8 @@ use Rattle.capture_file.specs.Fronts.{kind_at}
 use Rattle.capture_file.specs.PictureFile.{one_at, one_by}
 use Rattle.capture_file.proofs.Parsing.{fails_first, fails_then, gives_then}
 
-pub one_cut : (name : List ℕ) (old : Option (List ℕ)) (f : FileFault) → Fails (kind_at name) old f → Fails (one_at name) old f
+pub one_cut : (name : List ℕ) (old : Option (List ℕ)) (f : FileFault) → Fails (kind_at name) old f
+    → Fails (one_at name) old f
 unfolding one_at
 one_cut name old f p = fails_first (kind_at name) one_by old f p
 
@@ -21,10 +22,16 @@ two_fails : (known : Option (List ℕ)) → Fails (one_by Two) known BadVersion
 two_fails None = tt
 two_fails (Some o) = refl
 
-pub one_gives : (name : List ℕ) (old new : Option (List ℕ)) (v : Version) → v ≡ One → Gives (kind_at name) old new v → Gives (one_at name) old new One
+pub one_gives : (name : List ℕ) (old new : Option (List ℕ)) (v : Version) → v ≡ One
+    → Gives (kind_at name) old new v → Gives (one_at name) old new One
 unfolding one_at
-one_gives name old new v e p = gives_then (kind_at name) one_by old new new One One (subst (Gives (kind_at name) old new) e p) (one_given new)
+one_gives name old new v e p =
+    gives_then (kind_at name) one_by old new new One One (subst (Gives (kind_at name) old new) e p)
+    (one_given new)
 
-pub one_fails : (name : List ℕ) (old new : Option (List ℕ)) (v : Version) → v ≡ Two → Gives (kind_at name) old new v → Fails (one_at name) old BadVersion
+pub one_fails : (name : List ℕ) (old new : Option (List ℕ)) (v : Version) → v ≡ Two
+    → Gives (kind_at name) old new v → Fails (one_at name) old BadVersion
 unfolding one_at
-one_fails name old new v e p = fails_then (kind_at name) one_by old new Two BadVersion (subst (Gives (kind_at name) old new) e p) (two_fails new)
+one_fails name old new v e p =
+    fails_then (kind_at name) one_by old new Two BadVersion
+    (subst (Gives (kind_at name) old new) e p) (two_fails new)

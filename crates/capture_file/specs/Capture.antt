@@ -1,4 +1,5 @@
--- A capture as a file (own): its text as a function of what it holds, and how octets are read as one.
+-- A capture as a file (own): its text as a function of what it holds, and how octets are read as
+-- one.
 use Rattle.std.specs.Prelude.{◌≡◌, ℕ, zero, suc, List, [], ◌∷◌, ◌++◌, map, Result, Ok, Err}
 use Rattle.capture_file.specs.declared.capture.Capture.{Capture}
 use Rattle.capture_file.specs.declared.fault.FileFault.{FileFault}
@@ -43,8 +44,11 @@ unfoldable pub records_at : ℕ → List ℕ → Result (List Entry × List ℕ)
 records_at zero [] = Ok ([], [])
 records_at zero (first ∷ octets) = Err TooManyRecords
 records_at (suc n) [] = Ok ([], [])
-records_at (suc n) (first ∷ octets) = rest_at first octets >>= λ x. records_at n x.1 >>= λ y. Ok (x.0 ∷ y.0, y.1)
+records_at (suc n) (first ∷ octets) =
+    rest_at first octets >>= λ x. records_at n x.1 >>= λ y. Ok (x.0 ∷ y.0, y.1)
 
 -- a capture, of at most so many records
 unfoldable pub capture_at : ℕ → List ℕ → Result (Content × List ℕ) FileFault
-capture_at limit octets = front_at octets >>= λ x. records_at limit x.1 >>= λ y. Ok (record { text = x.0; records = y.0 }, y.1)
+capture_at limit octets =
+    front_at octets >>= λ x. records_at limit x.1 >>=
+    λ y. Ok (record { text = x.0; records = y.0 }, y.1)

@@ -4,7 +4,8 @@
 use Rattle.std.specs.Prelude.{◌≡◌, ℕ, ◌+◌, ◌<◌, ◌≤◌, List, ◌++◌, length, take, drop, slice_index}
 use Rattle.std.specs.Int.{w16, from_be_bytes}
 use Rattle.capture_file.specs.declared.fault.FileFault.{FileFault}
-use Rattle.capture_file.specs.declared.fault.FileFault.TheVariants.{BadName, BadVersion, Truncated, BadField, TooManyRecords}
+use Rattle.capture_file.specs.declared.fault.FileFault.TheVariants.{BadName, BadVersion, Truncated}
+use Rattle.capture_file.specs.declared.fault.FileFault.TheVariants.{BadField, TooManyRecords}
 use Rattle.capture_file.specs.declared.front.Version.TheVariants.{Two}
 use Rattle.capture_file.specs.Capture.{Content, IsCapture}
 use Rattle.capture_file.specs.Fronts.{capture_name, kind_text}

@@ -2,7 +2,10 @@
 use Rattle.std.specs.Prelude.{◌≡◌, ℕ, ⊤, List, Result, Ok, Err, codes}
 use Rattle.st_format.specs.Device.{CountsOne}
 use Rattle.capture_file.specs.declared.fault.FileFault.{FileFault}
-use Rattle.capture_file.specs.declared.fault.FileFault.TheVariants.{NoMemory, Device, BadName, BadVersion, Truncated, BadField, TrailingBytes, MixedGroup, TooManyRecords}
+use Rattle.capture_file.specs.declared.fault.FileFault.TheVariants.{NoMemory, Device, BadName}
+use Rattle.capture_file.specs.declared.fault.FileFault.TheVariants.{BadVersion, Truncated, BadField}
+use Rattle.capture_file.specs.declared.fault.FileFault.TheVariants.{TrailingBytes, MixedGroup}
+use Rattle.capture_file.specs.declared.fault.FileFault.TheVariants.{TooManyRecords}
 
 -- the numbers of the faults, in their order
 abbrev pub file_fault_number : FileFault → ℕ
@@ -33,7 +36,8 @@ abbrev pub IsDevice : FileFault → Type 0
 IsDevice Device = ⊤
 IsDevice _ = ⊥
 
--- The fault is the content's: then this holds. One of memory or of the device says nothing of the content.
+-- The fault is the content's: then this holds. One of memory or of the device says nothing of the
+-- content.
 abbrev pub IfContent : FileFault → Type 0 → Type 0
 IfContent NoMemory P = ⊤
 IfContent Device P = ⊤

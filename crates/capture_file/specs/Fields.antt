@@ -1,18 +1,22 @@
--- A file read from the left: a reading answers a value and the octets behind it, or the first fault. What a function
--- does to a source is what a reading does to the octets that the source was to give.
-use Rattle.std.specs.Prelude.{◌≡◌, ℕ, nat_lt, if◌then◌else◌, List, length, take, drop, ⊤, Option, None, Some, Result, Ok, Err}
+-- A file read from the left: a reading answers a value and the octets behind it, or the first
+-- fault. What a function does to a source is what a reading does to the octets that the source was
+-- to give.
+use Rattle.std.specs.Prelude.{◌≡◌, ℕ, nat_lt, if◌then◌else◌, List, length, take, drop, ⊤, Option}
+use Rattle.std.specs.Prelude.{None, Some, Result, Ok, Err}
 use Rattle.capture_file.specs.declared.fault.FileFault.{FileFault}
 use Rattle.capture_file.specs.declared.fault.FileFault.TheVariants.{Truncated}
 use Rattle.capture_file.specs.Faults.{IfContent}
 
 infixl 10 ◌>>=◌
-abbrev pub ◌>>=◌ : {A B : Type 0} → Result A FileFault → (A → Result B FileFault) → Result B FileFault
+abbrev pub ◌>>=◌ : {A B : Type 0} → Result A FileFault → (A → Result B FileFault)
+    → Result B FileFault
 (Ok x) >>= f = f x
 (Err e) >>= f = Err e
 
 -- so many octets
 unfoldable pub field_at : ℕ → List ℕ → Result (List ℕ × List ℕ) FileFault
-field_at n octets = if nat_lt (length octets) n then Err Truncated else Ok (take n octets, drop n octets)
+field_at n octets =
+    if nat_lt (length octets) n then Err Truncated else Ok (take n octets, drop n octets)
 
 -- a source that was to give octets is left with those behind the value
 abbrev pub Leaves : {X : Type 0} → Result (X × List ℕ) FileFault → X → Option (List ℕ) → Type 0
@@ -20,12 +24,14 @@ Leaves read x None = ⊥
 Leaves read x (Some rest) = read ≡ Ok (x, rest)
 
 -- A source gave what the reading makes this value of, where it told its octets.
-abbrev pub Gives : {X : Type 0} → (List ℕ → Result (X × List ℕ) FileFault) → Option (List ℕ) → Option (List ℕ) → X → Type 0
+abbrev pub Gives : {X : Type 0} → (List ℕ → Result (X × List ℕ) FileFault) → Option (List ℕ)
+    → Option (List ℕ) → X → Type 0
 Gives reading None new x = ⊤
 Gives reading (Some octets) new x = Leaves (reading octets) x new
 
--- A fault that is neither the memory's nor the device's is the first that the reading finds in the octets that a
--- source was to give, where it told them.
-abbrev pub Fails : {X : Type 0} → (List ℕ → Result (X × List ℕ) FileFault) → Option (List ℕ) → FileFault → Type 0
+-- A fault that is neither the memory's nor the device's is the first that the reading finds in the
+-- octets that a source was to give, where it told them.
+abbrev pub Fails : {X : Type 0} → (List ℕ → Result (X × List ℕ) FileFault) → Option (List ℕ)
+    → FileFault → Type 0
 Fails reading None f = ⊤
 Fails reading (Some octets) f = IfContent f (reading octets ≡ Err f)

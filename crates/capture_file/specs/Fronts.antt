@@ -1,6 +1,7 @@
--- What stands at the front of a file: six octets of name and two of version; and behind them, in a capture of
--- version 02, a text (own).
-use Rattle.std.specs.Prelude.{◌≡◌, ℕ, ◌^◌, ◌<◌, if◌then◌else◌, List, [], ◌++◌, length, take, drop, codes, Result, Ok, Err}
+-- What stands at the front of a file: six octets of name and two of version; and behind them, in a
+-- capture of version 02, a text (own).
+use Rattle.std.specs.Prelude.{◌≡◌, ℕ, ◌^◌, ◌<◌, if◌then◌else◌, List, [], ◌++◌, length, take, drop}
+use Rattle.std.specs.Prelude.{codes, Result, Ok, Err}
 use Rattle.std.specs.Int.{w16, from_be_bytes, to_be_bytes}
 use Rattle.std.specs.Str.{bytes_eq}
 use Rattle.capture_file.specs.declared.fault.FileFault.{FileFault}
@@ -48,11 +49,14 @@ HasFront Two text = length text < 2 ^ 16
 
 -- the version that two octets are
 abbrev pub version_of : List ℕ → Result Version FileFault
-version_of octets = if bytes_eq octets (codes "01") then Ok One else (if bytes_eq octets (codes "02") then Ok Two else Err BadVersion)
+version_of octets =
+    if bytes_eq octets (codes "01") then Ok One
+    else (if bytes_eq octets (codes "02") then Ok Two else Err BadVersion)
 
 -- the version of a file of this name that begins with these eight octets
 abbrev pub kind_of : List ℕ → List ℕ → Result Version FileFault
-kind_of name octets = if bytes_eq (take 6 octets) name then version_of (drop 6 octets) else Err BadName
+kind_of name octets =
+    if bytes_eq (take 6 octets) name then version_of (drop 6 octets) else Err BadName
 
 -- with what is behind
 abbrev pub with_rest : {X : Type 0} → Result X FileFault → List ℕ → Result (X × List ℕ) FileFault

@@ -26,7 +26,8 @@ pub record BeginsWith (text octets : List ℕ) : Type 0 where
   pub parts : octets ≡ text ++ rest
 
 -- Records up to the end were written.
-pub record MovesAll (limit count : ℕ) (source_old source_new held_old held_new : Option (List ℕ)) : Type 0 where
+pub record MovesAll (limit count : ℕ)
+    (source_old source_new held_old held_new : Option (List ℕ)) : Type 0 where
   pub entries : List Entry
   pub read : Gives (records_at limit) source_old source_new entries
   pub counted : length entries ≡ count
@@ -36,10 +37,12 @@ pub record MovesAll (limit count : ℕ) (source_old source_new held_old held_new
 pub record MovesSome (source_old held_old held_new : Option (List ℕ)) : Type 0 where
   pub entries : List Entry
   pub first : IfTold source_old (BeginsWith (records_text entries))
-  pub written : Appends held_old held_new (records_text entries) ⊎ AppendsPrefix held_old held_new (records_text entries)
+  pub written : Appends held_old held_new (records_text entries)
+      ⊎ AppendsPrefix held_old held_new (records_text entries)
 
 -- all records were written
-pub record Migrated (limit count : ℕ) (text : List ℕ) (source_old source_new held_old held_new : Option (List ℕ)) : Type 0 where
+pub record Migrated (limit count : ℕ) (text : List ℕ)
+    (source_old source_new held_old held_new : Option (List ℕ)) : Type 0 where
   pub entries : List Entry
   pub read : Gives (old_at limit) source_old source_new entries
   pub counted : length entries ≡ count
@@ -49,7 +52,8 @@ pub record Migrated (limit count : ℕ) (text : List ℕ) (source_old source_new
 pub record Stopped (text : List ℕ) (source_old held_old held_new : Option (List ℕ)) : Type 0 where
   pub entries : List Entry
   pub first : IfTold source_old (BeginsWith (kind_text capture_name One ++ records_text entries))
-  pub written : Appends held_old held_new (capture_text text entries) ⊎ AppendsPrefix held_old held_new (capture_text text entries)
+  pub written : Appends held_old held_new (capture_text text entries)
+      ⊎ AppendsPrefix held_old held_new (capture_text text entries)
 
 -- one of two devices failed once where the fault is a device's, and else none
 abbrev pub CountsEither : FileFault → ℕ → ℕ → ℕ → ℕ → Type 0

@@ -4,7 +4,8 @@
 use Rattle.std.specs.Prelude.{◌≡◌, ◌≢◌, ℕ, ◌<◌, List, ◌++◌, codes, length, Ok}
 use Rattle.st_format.specs.Fields.{Fields, format_at}
 use Rattle.capture_file.specs.declared.fault.FileFault.{FileFault}
-use Rattle.capture_file.specs.declared.fault.FileFault.TheVariants.{BadName, BadVersion, Truncated, BadField, TrailingBytes}
+use Rattle.capture_file.specs.declared.fault.FileFault.TheVariants.{BadName, BadVersion, Truncated}
+use Rattle.capture_file.specs.declared.fault.FileFault.TheVariants.{BadField, TrailingBytes}
 use Rattle.capture_file.specs.declared.front.Version.TheVariants.{One}
 use Rattle.capture_file.specs.Fronts.{kind_text, picture_name}
 use Rattle.capture_file.specs.KindFaults.{HasKind, HasOtherName, IsCutKind}

@@ -1,4 +1,5 @@
--- A picture as a file (own): its text as a function of what it holds, and how octets are read as one.
+-- A picture as a file (own): its text as a function of what it holds, and how octets are read as
+-- one.
 use Rattle.std.specs.Prelude.{ℕ, ◌*◌, ◌/◌, List, [], ◌∷◌, ◌++◌, ⊤, Option, Result, Ok, Err}
 use Rattle.std.specs.Io.KnownBytes.{Consumes}
 use Rattle.st_format.specs.Fields.{Fields, fields_of}
@@ -32,7 +33,9 @@ picture_text p = head_of (fields_of p.format) ++ octets_in (bits_of p.format.dep
 
 -- how many octets the pixel groups of a raster take
 abbrev pub raster_octets : Fields → ℕ
-raster_octets f = f.height * (f.width / (pixel_group f.sampling f.depth).pixels * (pixel_group f.sampling f.depth).octets)
+raster_octets f =
+    f.height *
+    (f.width / (pixel_group f.sampling f.depth).pixels * (pixel_group f.sampling f.depth).octets)
 
 -- version 01 alone
 abbrev pub one_by : Version → List ℕ → Result (Version × List ℕ) FileFault
@@ -44,7 +47,8 @@ one_at name octets = kind_at name octets >>= λ x. one_by x.0 x.1
 
 -- the samples of a raster
 unfoldable pub raster_at : Fields → List ℕ → Result (List ℕ × List ℕ) FileFault
-raster_at f octets = field_at (raster_octets f) octets >>= λ x. Ok (values_in (bits_of f.depth) x.0, x.1)
+raster_at f octets =
+    field_at (raster_octets f) octets >>= λ x. Ok (values_in (bits_of f.depth) x.0, x.1)
 
 -- nothing stands behind what was read
 abbrev pub nothing_at : List ℕ → Result (⊤ × List ℕ) FileFault
@@ -56,7 +60,9 @@ abbrev pub shows : Fields → List ℕ → Shown
 shows f samples = record { format = f; samples = samples }
 
 unfoldable pub picture_at : List ℕ → Result (Shown × List ℕ) FileFault
-picture_at octets = one_at picture_name octets >>= λ v. block_at v.1 >>= λ f. raster_at f.0 f.1 >>= λ s. nothing_at s.1 >>= λ e. Ok (shows f.0 s.0, e.1)
+picture_at octets =
+    one_at picture_name octets >>= λ v. block_at v.1 >>= λ f. raster_at f.0 f.1 >>=
+    λ s. nothing_at s.1 >>= λ e. Ok (shows f.0 s.0, e.1)
 
 -- A source gave octets that spell these values of so many bits.
 pub record GivesSpelled (bits : ℕ) (old new : Option (List ℕ)) (values : List ℕ) : Type 0 where

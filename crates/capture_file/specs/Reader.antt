@@ -55,8 +55,8 @@ pub record Reader (S : Type 0) : Type 0 where
   pub delivered : ℕ
   pub failures : ℕ
 
--- Where a reader stands after a turn: it reads on after a datagram, and no octet is left at the end. No turn is
--- without a datagram.
+-- Where a reader stands after a turn: it reads on after a datagram, and no octet is left at the
+-- end. No turn is without a datagram.
 abbrev pub StandsAfter : Turn → Standing → Option (List ℕ) → Type 0
 StandsAfter (Datagram path count) stands to_give = stands ≡ Reads
 StandsAfter Quiet stands to_give = ⊥

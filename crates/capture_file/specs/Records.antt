@@ -26,7 +26,8 @@ abbrev pub path_octet : Path → ℕ
 path_octet A = 0
 path_octet B = 1
 
--- a record but for its first octet: the moment in eight octets, the number of its octets in two, and the octets
+-- a record but for its first octet: the moment in eight octets, the number of its octets in two,
+-- and the octets
 abbrev pub rest_text : Entry → List ℕ
 rest_text e = to_be_bytes w64 e.moment ++ (to_be_bytes w16 (length e.octets) ++ e.octets)
 

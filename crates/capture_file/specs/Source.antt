@@ -25,7 +25,8 @@ IsOfRecord Truncated = ⊤
 IsOfRecord BadField = ⊤
 IsOfRecord _ = ⊥
 
--- A fault of a record that an octet begins: if it isn't the device's, it is the first in the octets to come.
+-- A fault of a record that an octet begins: if it isn't the device's, it is the first in the octets
+-- to come.
 pub record FailsRest (f : FileFault) (first : ℕ) (old : Option (List ℕ)) : Type 0 where
   pub named : IsOfRecord f
   pub content : IfContent f (IfTold old (λ octets. rest_at first octets ≡ Err f))
@@ -40,7 +41,8 @@ pub record ReadsEnd (old new : Option (List ℕ)) : Type 0 where
   pub before : IsAtEnd old
   pub after : IsAtEnd new
 
--- A fault in the place of a record: if it isn't the device's, it is what is wrong at the front of the octets to come.
+-- A fault in the place of a record: if it isn't the device's, it is what is wrong at the front of
+-- the octets to come.
 pub record FailsRecord (f : FileFault) (old : Option (List ℕ)) : Type 0 where
   pub named : IsOfRecord f
   pub content : IfContent f (IfTold old (λ octets. fault_at octets ≡ Some f))

@@ -1,5 +1,7 @@
--- A receiver as a file (own): its text as a function of what it was opened with and of its frames' cells.
-use Rattle.std.specs.Prelude.{take, drop, zero, suc, ◌≡◌, ℕ, ◌*◌, ◌/◌, ◌^◌, ◌<◌, List, [], ◌∷◌, ◌++◌, length, ⊤, Option, None, Some}
+-- A receiver as a file (own): its text as a function of what it was opened with and of its frames'
+-- cells.
+use Rattle.std.specs.Prelude.{take, drop, zero, suc, ◌≡◌, ℕ, ◌*◌, ◌/◌, ◌^◌, ◌<◌, List, [], ◌∷◌}
+use Rattle.std.specs.Prelude.{◌++◌, length, ⊤, Option, None, Some}
 use Rattle.std.specs.Int.{w16, w32, to_be_bytes}
 use Rattle.std.specs.List.{AllByRecursion, flat_map}
 use Rattle.st_format.specs.declared.cell.Cell.{Cell}
@@ -19,7 +21,10 @@ sampling_code Rgb = 2
 
 -- A format block: sampling, depth, width, height, and the rate's two numbers.
 abbrev pub format_text : Fields → List ℕ
-format_text f = sampling_code f.sampling ∷ bits_of f.depth ∷ (to_be_bytes w16 f.width ++ (to_be_bytes w16 f.height ++ (to_be_bytes w32 f.n ++ to_be_bytes w32 f.d)))
+format_text f =
+    sampling_code f.sampling ∷ bits_of f.depth ∷
+    (to_be_bytes w16 f.width ++
+    (to_be_bytes w16 f.height ++ (to_be_bytes w32 f.n ++ to_be_bytes w32 f.d)))
 
 -- a source that is pinned, or none: a flag and four octets
 abbrev pub ssrc_text : Option ℕ → List ℕ
@@ -47,7 +52,9 @@ opening_text k = k.payload_type ∷ (ssrc_text k.ssrc ++ (length k.frames ∷ []
 
 -- StateFile
 abbrev pub state_text : Kept → List ℕ
-state_text k = kind_text receiver_name One ++ (format_text k.format ++ (opening_text k ++ flat_map (held_text k.format) k.frames))
+state_text k =
+    kind_text receiver_name One ++
+    (format_text k.format ++ (opening_text k ++ flat_map (held_text k.format) k.frames))
 
 -- how many groups a raster has
 abbrev pub group_count : Fields → ℕ
@@ -86,4 +93,9 @@ joined_groups (g ∷ gs) = g ++ joined_groups gs
 
 -- what is kept of a raster's cells
 abbrev pub held_of : Fields → ℕ → List Cell → Held
-held_of f timestamp cells = record { timestamp = timestamp; groups = cut_cells (pixel_group f.sampling f.depth).samples (group_count f) cells }
+held_of f timestamp cells =
+    record {
+      timestamp = timestamp;
+      groups =
+          cut_cells (pixel_group f.sampling f.depth).samples (group_count f) cells;
+    }

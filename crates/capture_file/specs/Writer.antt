@@ -1,5 +1,6 @@
 -- What a writer of a capture writes (own).
-use Rattle.std.specs.Prelude.{◌≡◌, ℕ, ◌+◌, ◌%◌, ◌^◌, ◌<◌, Bool, true, false, List, [], ◌∷◌, ◌++◌, length, drop, map, ⊤, Option, None, Some}
+use Rattle.std.specs.Prelude.{◌≡◌, ℕ, ◌+◌, ◌%◌, ◌^◌, ◌<◌, Bool, true, false, List, [], ◌∷◌, ◌++◌}
+use Rattle.std.specs.Prelude.{length, drop, map, ⊤, Option, None, Some}
 use Rattle.std.specs.List.{AllByRecursion}
 use Rattle.st_format.specs.declared.path.Path.{Path}
 use Rattle.st_format.specs.declared.path.Path.TheVariants.{A, B}
@@ -32,7 +33,8 @@ moment_behind paths moment = (moment + width paths) % 2 ^ 64
 -- The records of datagrams, the first of this moment: a record's moment is its index modulo 2^64.
 abbrev pub entries_from : Paths → ℕ → List (List ℕ) → List Entry
 entries_from paths moment [] = []
-entries_from paths moment (d ∷ ds) = entries_of paths moment d ++ entries_from paths (moment_behind paths moment) ds
+entries_from paths moment (d ∷ ds) =
+    entries_of paths moment d ++ entries_from paths (moment_behind paths moment) ds
 
 -- the moment behind datagrams
 abbrev pub moment_after : Paths → ℕ → List (List ℕ) → ℕ
@@ -55,7 +57,8 @@ datagrams_by OnlyA entries = map (λ e. e.octets) entries
 datagrams_by OnlyB entries = map (λ e. e.octets) entries
 datagrams_by Both entries = first_of_two entries
 
--- The datagrams that a sink holds behind the front of a capture: those all of whose records are whole.
+-- The datagrams that a sink holds behind the front of a capture: those all of whose records are
+-- whole.
 abbrev pub datagrams_in : Paths → ℕ → List ℕ → List (List ℕ)
 datagrams_in paths text_len held = datagrams_by paths (entries_in (drop (10 + text_len) held))
 
@@ -68,7 +71,14 @@ pub record Place : Type 0 where
 
 -- behind a datagram, and after a fault
 abbrev pub place_behind : Place → Place
-place_behind p = record { paths = p.paths; text_len = p.text_len; moment = moment_behind p.paths p.moment; failed = p.failed }
+place_behind p =
+    record {
+      paths = p.paths;
+      text_len = p.text_len;
+      moment =
+          moment_behind p.paths p.moment;
+      failed = p.failed;
+    }
 
 abbrev pub place_failed : Place → Place
 place_failed p = record { paths = p.paths; text_len = p.text_len; moment = p.moment; failed = true }
@@ -93,13 +103,14 @@ pub record IsWritten (paths : Paths) (text_len moment : ℕ) (held : List ℕ) :
   pub moment_is : moment_after paths 0 datagrams ≡ moment
   pub whole : held ≡ written paths text datagrams
 
--- What a writer's sink holds, where it tells it: until a fault, the capture of a text and datagrams.
+-- What a writer's sink holds, where it tells it: until a fault, the capture of a text and
+-- datagrams.
 abbrev pub StandsWritten : Place → Option (List ℕ) → Type 0
 StandsWritten p None = ⊤
 StandsWritten p (Some held) = p.failed ≡ false → IsWritten p.paths p.text_len p.moment held
 
--- The datagrams that a writer took: those whose records its sink holds. Where the sink doesn't tell what it holds,
--- they are not told.
+-- The datagrams that a writer took: those whose records its sink holds. Where the sink doesn't tell
+-- what it holds, they are not told.
 abbrev pub taken_of : Place → Option (List ℕ) → Option (List (List ℕ))
 taken_of p None = None
 taken_of p (Some held) = Some (datagrams_in p.paths p.text_len held)

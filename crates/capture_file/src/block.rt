@@ -59,10 +59,11 @@ fn format_in(block: &[u8; BLOCK]) -> Result<Format, FileFault>
 ///
 /// # Errors
 ///
-/// `Truncated` where there are fewer, `BadField` where they are those of no format or the rate isn't in lowest terms,
-/// and `Device`.
+/// `Truncated` where there are fewer, `BadField` where they are those of no format or the rate
+/// isn't in lowest terms, and `Device`.
 pub fn read_format<S: ByteSource>(source: &mut S) -> Result<Format, FileFault>
-    ensures read { IfOk result (λ f. Gives block_at (S.to_give source.old) (S.to_give source.new) (fields_of f)) }
+    ensures read { IfOk result
+        (λ f. Gives block_at (S.to_give source.old) (S.to_give source.new) (fields_of f)) }
     ensures fault { IfErr result (λ f. Fails block_at (S.to_give source.old) f) }
     ensures counted { CountsDevice (S.failures source.old) (S.failures source.new) result }
 {

@@ -1,7 +1,9 @@
 //! A capture as one value.
-ghost use Rattle.std.specs.Prelude.{◌≡◌, ◌≤◌, ℕ, List, Some, length, map, vec_len, IfErr, IfOk, OnOk, MatchResult};
+ghost use Rattle.std.specs.Prelude.{◌≡◌, ◌≤◌, ℕ, List, Some, length, map, vec_len, IfErr, IfOk};
+ghost use Rattle.std.specs.Prelude.{OnOk, MatchResult};
 ghost use Rattle.std.specs.List.{All};
-ghost use Rattle.capture_file.specs.Capture.{Content, IsCapture, capture_at, capture_seen, entry_seen, records_at};
+ghost use Rattle.capture_file.specs.Capture.{Content, IsCapture, capture_at, capture_seen};
+ghost use Rattle.capture_file.specs.Capture.{entry_seen, records_at};
 ghost use Rattle.capture_file.specs.Faults.{CountsDevice, IsMachine};
 ghost use Rattle.capture_file.specs.Fields.{Fails, Gives};
 ghost use Rattle.st_format.specs.Device.{TellsOctets};
@@ -25,26 +27,31 @@ pub struct Capture<A: Allocator = Global> {
     pub records: Vec<Record<A>, A>,
 }
 
-/// Reads a capture of at most `limit` records, of version 01 or 02; one of version 01 has an empty text.
+/// Reads a capture of at most `limit` records, of version 01 or 02; one of version 01 has an empty
+/// text.
 ///
 /// # Errors
 ///
-/// The first fault in the order of the octets, or one of the memory or the device before it: `NoMemory`, `Device`,
-/// `BadName`, `BadVersion`, `Truncated`, `BadField`, or `TooManyRecords` where one octet was read behind the last
-/// record that the limit allows.
+/// The first fault in the order of the octets, or one of the memory or the device before it:
+/// `NoMemory`, `Device`, `BadName`, `BadVersion`, `Truncated`, `BadField`, or `TooManyRecords`
+/// where one octet was read behind the last record that the limit allows.
 pub fn read_capture<A: Allocator + Copy, S: ByteSource>(
     alloc: A,
     source: &mut S,
     limit: u64,
 ) -> Result<Capture<A>, FileFault>
-    ensures read { IfOk result (λ c. Gives (capture_at limit) (S.to_give source.old) (S.to_give source.new) (capture_seen c)) }
+    ensures read { IfOk result
+        (λ c. Gives (capture_at limit) (S.to_give source.old) (S.to_give source.new)
+        (capture_seen c)) }
     ensures fault { IfErr result (λ f. Fails (capture_at limit) (S.to_give source.old) f) }
     ensures counted { CountsDevice (S.failures source.old) (S.failures source.new) result }
     // What is read is a capture, all of it, of at most so many records.
     ensures found { IfOk result (λ v. (octets : List ℕ) → S.to_give source.old ≡ Some octets
-        → IsCapture (capture_seen v) octets × (length v.records.items ≤ limit) × IsAtEnd (S.to_give source.new)) }
+        → IsCapture (capture_seen v) octets × (length v.records.items ≤ limit)
+        × IsAtEnd (S.to_give source.new)) }
     // What is a capture is read as what it says, unless the memory or the device fails.
-    ensures only { (c : Content) (octets : List ℕ) → S.to_give source.old ≡ Some octets → IsCapture c octets → length c.records ≤ limit
+    ensures only { (c : Content) (octets : List ℕ) → S.to_give source.old ≡ Some octets
+        → IsCapture c octets → length c.records ≤ limit
         → MatchResult result (λ v. capture_seen v ≡ c) IsMachine }
 {
     read_whole_capture(alloc, source, limit)
@@ -55,7 +62,9 @@ fn read_whole_capture<A: Allocator + Copy, S: ByteSource>(
     source: &mut S,
     limit: u64,
 ) -> Result<Capture<A>, FileFault>
-    ensures read { IfOk result (λ c. Gives (capture_at limit) (S.to_give source.old) (S.to_give source.new) (capture_seen c)) }
+    ensures read { IfOk result
+        (λ c. Gives (capture_at limit) (S.to_give source.old) (S.to_give source.new)
+        (capture_seen c)) }
     ensures fault { IfErr result (λ f. Fails (capture_at limit) (S.to_give source.old) f) }
     ensures octets { OnOk result (TellsOctets (S.to_give source.old)) }
     ensures counted { CountsDevice (S.failures source.old) (S.failures source.new) result }
@@ -83,7 +92,9 @@ fn read_records<A: Allocator + Copy, S: ByteSource>(
     buf: &mut [u8],
 ) -> Result<Vec<Record<A>, A>, FileFault>
     requires { 65535 ≤ length buf.old }
-    ensures read { IfOk result (λ v. Gives (records_at limit) (S.to_give source.old) (S.to_give source.new) (map entry_seen v.items)) }
+    ensures read { IfOk result
+        (λ v. Gives (records_at limit) (S.to_give source.old) (S.to_give source.new)
+        (map entry_seen v.items)) }
     ensures fault { IfErr result (λ f. Fails (records_at limit) (S.to_give source.old) f) }
     ensures counted { CountsDevice (S.failures source.old) (S.failures source.new) result }
 {

@@ -31,7 +31,8 @@ pub enum Version {
 pub fn read_field<S: ByteSource>(source: &mut S, buf: &mut [u8]) -> Result<(), FileFault>
     ensures room { length buf.new ≡ length buf.old }
     ensures named { IfErr result IsOfField }
-    ensures read { OnOk result (Gives (field_at (length buf.old)) (S.to_give source.old) (S.to_give source.new) buf.new) }
+    ensures read { OnOk result
+        (Gives (field_at (length buf.old)) (S.to_give source.old) (S.to_give source.new) buf.new) }
     ensures fault { IfErr result (λ f. Fails (field_at (length buf.old)) (S.to_give source.old) f) }
     ensures octets { 0 < length buf.old → TellsOctets (S.to_give source.old) }
     ensures counted { CountsDevice (S.failures source.old) (S.failures source.new) result }
@@ -64,11 +65,12 @@ fn version_in(name: &[u8], octets: &[u8; 8]) -> Result<Version, FileFault>
 ///
 /// # Errors
 ///
-/// `Truncated` where there are fewer than eight octets, `BadName` where the first six are another name, `BadVersion`
-/// where the others are no version, and `Device`.
+/// `Truncated` where there are fewer than eight octets, `BadName` where the first six are another
+/// name, `BadVersion` where the others are no version, and `Device`.
 pub fn read_kind<S: ByteSource>(source: &mut S, name: &[u8]) -> Result<Version, FileFault>
     ensures named { IfErr result IsOfFront }
-    ensures read { IfOk result (λ v. Gives (kind_at name.now) (S.to_give source.old) (S.to_give source.new) v) }
+    ensures read { IfOk result
+        (λ v. Gives (kind_at name.now) (S.to_give source.old) (S.to_give source.new) v) }
     ensures fault { IfErr result (λ f. Fails (kind_at name.now) (S.to_give source.old) f) }
     ensures octets { TellsOctets (S.to_give source.old) }
     ensures counted { CountsDevice (S.failures source.old) (S.failures source.new) result }
@@ -78,14 +80,15 @@ pub fn read_kind<S: ByteSource>(source: &mut S, name: &[u8]) -> Result<Version, 
     version_in(name, &octets)
 }
 
-/// Reads what stands before the records of a capture. Its text then stands at the front of `text`, which has room
-/// for any; answers how many octets it has.
+/// Reads what stands before the records of a capture. Its text then stands at the front of `text`,
+/// which has room for any; answers how many octets it has.
 pub(crate) fn read_front<S: ByteSource>(source: &mut S, text: &mut [u8]) -> Result<usize, FileFault>
     requires { 65535 ≤ length text.old }
     ensures room { length text.new ≡ length text.old }
     ensures within { IfOk result (λ n. n < 65536) }
     ensures named { IfErr result IsOfFront }
-    ensures read { IfOk result (λ n. Gives front_at (S.to_give source.old) (S.to_give source.new) (take n text.new)) }
+    ensures read { IfOk result
+        (λ n. Gives front_at (S.to_give source.old) (S.to_give source.new) (take n text.new)) }
     ensures fault { IfErr result (λ f. Fails front_at (S.to_give source.old) f) }
     ensures octets { TellsOctets (S.to_give source.old) }
     ensures counted { CountsDevice (S.failures source.old) (S.failures source.new) result }
@@ -102,7 +105,8 @@ fn read_text<S: ByteSource>(source: &mut S, text: &mut [u8]) -> Result<usize, Fi
     ensures room { length text.new ≡ length text.old }
     ensures within { IfOk result (λ n. n < 65536) }
     ensures named { IfErr result IsOfField }
-    ensures read { IfOk result (λ n. Gives text_at (S.to_give source.old) (S.to_give source.new) (take n text.new)) }
+    ensures read { IfOk result
+        (λ n. Gives text_at (S.to_give source.old) (S.to_give source.new) (take n text.new)) }
     ensures fault { IfErr result (λ f. Fails text_at (S.to_give source.old) f) }
     ensures counted { CountsDevice (S.failures source.old) (S.failures source.new) result }
 {

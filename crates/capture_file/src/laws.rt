@@ -1,12 +1,14 @@
 //! Laws of the definitions.
-ghost use Rattle.std.specs.Prelude.{◌*◌, ◌≡◌, ◌≤◌, ◌↔◌, ◌⊎◌, ℕ, Some, Ok, Err, List, [], ◌++◌, length, map};
+ghost use Rattle.std.specs.Prelude.{◌*◌, ◌≡◌, ◌≤◌, ◌↔◌, ◌⊎◌, ℕ, Some, Ok, Err, List, [], ◌++◌};
+ghost use Rattle.std.specs.Prelude.{length, map};
 ghost use Rattle.st_format.specs.declared.cell.Cell.{Cell};
 ghost use Rattle.st_format.specs.Device.{AreOctets};
 ghost use Rattle.st_format.specs.Picture.{IsPicture, Values};
 ghost use Rattle.st_format.specs.Turns.{Due};
 ghost use Rattle.capture_file.specs.declared.fault.FileFault.{FileFault};
 ghost use Rattle.capture_file.specs.Capture.{Content, IsCapture, capture_at};
-ghost use Rattle.capture_file.specs.CaptureFaults.{CaptureFault, IsCutCapture, RecordFault, cut_place};
+ghost use Rattle.capture_file.specs.CaptureFaults.{CaptureFault, IsCutCapture, RecordFault};
+ghost use Rattle.capture_file.specs.CaptureFaults.{cut_place};
 ghost use Rattle.capture_file.specs.PictureFaults.{IsCutPicture, PictureFault, picture_place};
 ghost use Rattle.capture_file.specs.PictureFile.{picture_at, picture_text, shown_of};
 ghost use Rattle.capture_file.specs.Reader.{due_of, dues_in};
@@ -17,22 +19,26 @@ ghost use Rattle.capture_file.specs.StateFile.{IsKept, Kept, cut_cells, state_te
 
 /// The records that are read of octets are those that they spell up to their first fault.
 pub fn records_read()
-    ensures { (octets : List ℕ) → AreOctets octets → (rest : List ℕ) × IsRun (entries_in octets) rest octets }
+    ensures { (octets : List ℕ) → AreOctets octets
+        → (rest : List ℕ) × IsRun (entries_in octets) rest octets }
 {}
 
 /// Octets spell one list of records up to their first fault: those that are read of them.
 pub fn one_run()
-    ensures { (octets rest : List ℕ) (entries : List Entry) → AreOctets octets → IsRun entries rest octets → entries ≡ entries_in octets }
+    ensures { (octets rest : List ℕ) (entries : List Entry) → AreOctets octets
+        → IsRun entries rest octets → entries ≡ entries_in octets }
 {}
 
 /// The turns of octets are the datagrams of the records that they spell up to their first fault.
 pub fn turns_of_run()
-    ensures { (octets rest : List ℕ) (entries : List Entry) → AreOctets octets → IsRun entries rest octets → dues_in octets ≡ map due_of entries }
+    ensures { (octets rest : List ℕ) (entries : List Entry) → AreOctets octets
+        → IsRun entries rest octets → dues_in octets ≡ map due_of entries }
 {}
 
 /// What is a capture is read as what it says.
 pub fn capture_read()
-    ensures { (c : Content) (octets : List ℕ) (limit : ℕ) → IsCapture c octets → length c.records ≤ limit → capture_at limit octets ≡ Ok (c, []) }
+    ensures { (c : Content) (octets : List ℕ) (limit : ℕ) → IsCapture c octets
+        → length c.records ≤ limit → capture_at limit octets ≡ Ok (c, []) }
 {}
 
 /// Octets are a capture of one content.
@@ -40,7 +46,8 @@ pub fn one_content()
     ensures { (c d : Content) (octets : List ℕ) → IsCapture c octets → IsCapture d octets → c ≡ d }
 {}
 
-/// What is wrong at the front of octets is a record's fault exactly where the fault's condition holds.
+/// What is wrong at the front of octets is a record's fault exactly where the fault's condition
+/// holds.
 pub fn record_fault()
     ensures { (f : FileFault) (octets : List ℕ)
         → (fault_at octets ≡ Some f) ↔ RecordFault f octets }
@@ -71,15 +78,17 @@ pub fn capture_or_fault()
         ⊎ ((f : FileFault) × CaptureFault limit f octets) }
 {}
 
-/// A receiver has one file: two that have equal files have the same format, payload type, source, timestamps and cells.
-/// That equal ones have equal files is plain, since the text is a function of these.
+/// A receiver has one file: two that have equal files have the same format, payload type, source,
+/// timestamps and cells. That equal ones have equal files is plain, since the text is a function of
+/// these.
 pub fn one_file()
     ensures { (k l : Kept) → IsKept k → IsKept l → state_text k ≡ state_text l → k ≡ l }
 {}
 
 /// Cells with equal groups are equal: so with [`one_file`] equal files are of equal frames.
 pub fn one_raster()
-    ensures { (size n : ℕ) (a b : List Cell) → length a ≡ n * size → length b ≡ n * size → cut_cells size n a ≡ cut_cells size n b → a ≡ b }
+    ensures { (size n : ℕ) (a b : List Cell) → length a ≡ n * size → length b ≡ n * size
+        → cut_cells size n a ≡ cut_cells size n b → a ≡ b }
 {}
 
 /// A picture's file is read as that picture.
@@ -87,10 +96,11 @@ pub fn picture_read()
     ensures { (p : Values) → IsPicture p → picture_at (picture_text p) ≡ Ok (shown_of p, []) }
 {}
 
-/// A picture has one file: two that have equal files have the same format and the same samples. That equal ones have
-/// equal files is plain, since the text is a function of these.
+/// A picture has one file: two that have equal files have the same format and the same samples.
+/// That equal ones have equal files is plain, since the text is a function of these.
 pub fn one_picture()
-    ensures { (p q : Values) → IsPicture p → IsPicture q → picture_text p ≡ picture_text q → shown_of p ≡ shown_of q }
+    ensures { (p q : Values) → IsPicture p → IsPicture q → picture_text p ≡ picture_text q
+        → shown_of p ≡ shown_of q }
 {}
 
 /// Octets are read as a picture with a fault exactly where the fault's condition holds.

@@ -1,5 +1,6 @@
 //! Reading a picture's file.
-ghost use Rattle.std.specs.Prelude.{◌≡◌, ◌*◌, ◌/◌, ◌%◌, ℕ, List, Some, length, IfErr, IfOk, MatchResult, OnOk};
+ghost use Rattle.std.specs.Prelude.{◌≡◌, ◌*◌, ◌/◌, ◌%◌, ℕ, List, Some, length, IfErr, IfOk};
+ghost use Rattle.std.specs.Prelude.{MatchResult, OnOk};
 ghost use Rattle.std.specs.Io.KnownBytes.{IsAtEnd};
 ghost use Rattle.pgroup_pack.specs.Packing.{Agree};
 ghost use Rattle.st_format.specs.Device.{TellsOctets};
@@ -10,7 +11,8 @@ ghost use Rattle.capture_file.specs.declared.front.Version.TheVariants.{One};
 ghost use Rattle.capture_file.specs.Faults.{CountsDevice, IsMachine, IsOfField};
 ghost use Rattle.capture_file.specs.Fields.{Fails, Gives, field_at};
 ghost use Rattle.capture_file.specs.Fronts.{picture_name};
-ghost use Rattle.capture_file.specs.PictureFile.{GivesSpelled, nothing_at, one_at, picture_at, picture_text, raster_at, shown_of};
+ghost use Rattle.capture_file.specs.PictureFile.{GivesSpelled, nothing_at, one_at, picture_at};
+ghost use Rattle.capture_file.specs.PictureFile.{picture_text, raster_at, shown_of};
 
 use crate::block::read_format;
 use crate::fault::FileFault;
@@ -137,7 +139,8 @@ fn read_piece<S: ByteSource>(
     ensures size { length samples.new ≡ length samples.old }
     ensures read { OnOk result (GivesSpelled (bits_of format.now.depth)
         (S.to_give source.old) (S.to_give source.new) samples.new) }
-    ensures fault { IfErr result (λ f. Fails (field_at (length octets.old)) (S.to_give source.old) f) }
+    ensures fault { IfErr result
+        (λ f. Fails (field_at (length octets.old)) (S.to_give source.old) f) }
     ensures named { IfErr result IsOfField }
     ensures counted { CountsDevice (S.failures source.old) (S.failures source.new) result }
 {

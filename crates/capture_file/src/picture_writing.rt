@@ -24,7 +24,8 @@ const BLOCK: usize = 14;
 ///
 /// # Errors
 ///
-/// `Device` where the sink failed: it then has a first part of the file more than before, and not all.
+/// `Device` where the sink failed: it then has a first part of the file more than before, and not
+/// all.
 pub fn write_picture<A: Allocator, K: ByteSink>(
     sink: &mut K,
     picture: &Picture<A>,

@@ -21,8 +21,8 @@ fn most_samples(format: &Format) -> usize
     }
 }
 
-/// How many samples the next piece has, behind `done` of `count`: as many as a piece's octets spell,
-/// or those that are left. All of them and those that are done take whole octets.
+/// How many samples the next piece has, behind `done` of `count`: as many as a piece's octets
+/// spell, or those that are left. All of them and those that are done take whole octets.
 pub(crate) fn piece_samples(format: &Format, done: usize, count: usize) -> usize
     requires left { done < count }
     requires done { bits_of format.now.depth * done % 8 ≡ 0 }

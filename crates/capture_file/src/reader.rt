@@ -1,12 +1,14 @@
 //! A capture as a source of datagrams.
-ghost use Rattle.std.specs.Prelude.{◌≡◌, ◌≤◌, ◌<◌, ◌+◌, ◌-◌, ◌^◌, Some, Ok, Err, length, take, min, IfErr, IfOk, IfSome, OnErr, OnOk, MatchOption, MatchResult};
+ghost use Rattle.std.specs.Prelude.{◌≡◌, ◌≤◌, ◌<◌, ◌+◌, ◌-◌, ◌^◌, Some, Ok, Err, length, take, min};
+ghost use Rattle.std.specs.Prelude.{IfErr, IfOk, IfSome, OnErr, OnOk, MatchOption, MatchResult};
 ghost use Rattle.std.specs.Io.KnownBytes.{IsAtEnd};
 ghost use Rattle.st_format.specs.Device.{CountsFaults, CountsOne};
 ghost use Rattle.st_format.specs.Turns.{CountsTurn, IsWithin, TakesTurn};
 ghost use Rattle.capture_file.specs.Faults.{CountsDevice, CountsFault, IsOfFront};
 ghost use Rattle.capture_file.specs.Fields.{Fails, Gives};
 ghost use Rattle.capture_file.specs.Fronts.{front_at};
-ghost use Rattle.capture_file.specs.Reader.{CountsDeviceAt, IsNewReader, StandsAfter, StandsAtFault, last_fault_of, source_fault, turns_of};
+ghost use Rattle.capture_file.specs.Reader.{CountsDeviceAt, IsNewReader, StandsAfter};
+ghost use Rattle.capture_file.specs.Reader.{StandsAtFault, last_fault_of, source_fault, turns_of};
 ghost use Rattle.capture_file.specs.Records.{entry_of};
 ghost use Rattle.capture_file.specs.Source.{FailsRecord, ReadsEnd, ReadsRecord};
 ghost use Rattle.capture_file.specs.declared.fault.FileFault.{FileFault};
@@ -30,9 +32,11 @@ pub enum Standing {
     Failed(FileFault),
 }
 
-/// Gives the datagrams of a capture, one record after the other, from a source of octets, which it owns.
+/// Gives the datagrams of a capture, one record after the other, from a source of octets, which it
+/// owns.
 ///
-/// After the end it answers the end, and after a fault that fault: it then asks the source for nothing more.
+/// After the end it answers the end, and after a fault that fault: it then asks the source for
+/// nothing more.
 #[derive(Drop)]
 pub struct CaptureReader<S: ByteSource> {
     source: S,
@@ -81,8 +85,9 @@ fn read_record<S: ByteSource>(
 }
 
 impl<S: ByteSource> CaptureReader<S> {
-    /// Begins to read a capture. Its text then stands at the front of `text`, which has room for any, 65,535
-    /// octets; `text_len` tells its length. What `text` holds behind it, or after a fault, is not said.
+    /// Begins to read a capture. Its text then stands at the front of `text`, which has room for
+    /// any, 65,535 octets; `text_len` tells its length. What `text` holds behind it, or after a
+    /// fault, is not said.
     ///
     /// # Errors
     ///
@@ -97,11 +102,14 @@ impl<S: ByteSource> CaptureReader<S> {
         ensures room { length text.new ≡ length text.old }
         ensures reader { IfOk result (λ r. IsNewReader r) }
         ensures text_len { IfOk result (λ r. r.text_len < 65536) }
-        // The text, and what the source is left with, are those of the octets that it was to give, and a fault is
-        // their first.
-        ensures read { IfOk result (λ r. Gives front_at (S.to_give source) (S.to_give r.source) (take r.text_len text.new)) }
+        // The text, and what the source is left with, are those of the octets that it was to give,
+        // and a fault is their first.
+        ensures read { IfOk result
+            (λ r. Gives front_at (S.to_give source) (S.to_give r.source)
+            (take r.text_len text.new)) }
         ensures fault { IfErr result (λ e. IsOfFront e.0 × Fails front_at (S.to_give source) e.0) }
-        ensures counted { MatchResult result (λ r. S.failures r.source ≡ S.failures source) (λ e. CountsFault e.0 (S.failures source) (S.failures e.1)) }
+        ensures counted { MatchResult result (λ r. S.failures r.source ≡ S.failures source)
+            (λ e. CountsFault e.0 (S.failures source) (S.failures e.1)) }
     {
         match read_front(&mut source, text) {
             Ok(text_len) => Ok(CaptureReader {
@@ -168,22 +176,34 @@ impl<S: ByteSource> DatagramSource for CaptureReader<S> {
         requires { 65535 ≤ length buf.old }
         ensures room { length buf.new ≡ length buf.old }
         ensures within { IfOk result (λ t. IsWithin t) }
-        ensures turn { IfOk result (λ t. TakesTurn (turns_of self.old.standing (S.to_give self.old.source)) (turns_of self.new.standing (S.to_give self.new.source)) t buf.new) }
-        ensures delivered { MatchResult result (λ t. CountsTurn t self.old.delivered self.new.delivered) (λ _. self.new.delivered ≡ self.old.delivered) }
+        ensures turn { IfOk result
+            (λ t. TakesTurn (turns_of self.old.standing (S.to_give self.old.source))
+            (turns_of self.new.standing (S.to_give self.new.source)) t buf.new) }
+        ensures delivered { MatchResult result
+            (λ t. CountsTurn t self.old.delivered self.new.delivered)
+            (λ _. self.new.delivered ≡ self.old.delivered) }
         ensures counted { CountsFaults self.old.failures self.new.failures result }
         ensures last { IfErr result (λ e. last_fault_of self.new.standing ≡ Some e) }
         ensures blameless { OnOk result
             (last_fault_of self.new.standing ≡ last_fault_of self.old.standing) }
 
         // Each turn but the last is a record. The end comes only where no octet is left.
-        ensures goes { IfOk result (λ t. StandsAfter t self.new.standing (S.to_give self.new.source)) }
-        // A fault of the content is what is wrong at the front of the octets to come: all records before it are
-        // delivered. One of the device comes only where the source failed in this call.
-        ensures fault { self.old.standing ≡ Reads → OnErr result (StandsAtFault self.new.standing (S.to_give self.old.source)) }
-        ensures device { self.old.standing ≡ Reads → CountsDeviceAt self.new.standing (S.failures self.old.source) (S.failures self.new.source) }
-        // After the end comes the end, and after a fault the same fault. The source is asked for nothing.
+        ensures goes { IfOk result
+            (λ t. StandsAfter t self.new.standing (S.to_give self.new.source)) }
+        // A fault of the content is what is wrong at the front of the octets to come: all records
+        // before it are delivered. One of the device comes only where the source failed in this
+        // call.
+        ensures fault { self.old.standing ≡ Reads
+            → OnErr result (StandsAtFault self.new.standing (S.to_give self.old.source)) }
+        ensures device { self.old.standing ≡ Reads
+            → CountsDeviceAt self.new.standing (S.failures self.old.source)
+            (S.failures self.new.source) }
+        // After the end comes the end, and after a fault the same fault. The source is asked for
+        // nothing.
         ensures ended { self.old.standing ≡ Ended → (result ≡ Ok Turn.End) × (self.new ≡ self.old) }
-        ensures failed { (f : FileFault) → self.old.standing ≡ Failed f → (result ≡ Err (source_fault f)) × (self.new.standing ≡ Failed f) × (self.new.source ≡ self.old.source) }
+        ensures failed { (f : FileFault) → self.old.standing ≡ Failed f
+            → (result ≡ Err (source_fault f)) × (self.new.standing ≡ Failed f)
+            × (self.new.source ≡ self.old.source) }
         ensures text_len { self.new.text_len ≡ self.old.text_len }
     {
         match self.standing {

@@ -19,9 +19,11 @@ const REST: usize = 10;
 ///
 /// `Device` where the source failed. It then has what it had.
 pub fn record_begins<S: ByteSource>(source: &mut S) -> Result<Option<u8>, FileFault>
-    ensures given { IfOk result (λ first. Consumes (S.to_give source.old) (S.to_give source.new) (option_to_list first)) }
+    ensures given { IfOk result
+        (λ first. Consumes (S.to_give source.old) (S.to_give source.new) (option_to_list first)) }
     ensures end { IfOk result (λ first. first ≡ None → IsAtEnd (S.to_give source.new)) }
-    ensures fault { IfErr result (λ f. IsDevice f × Keeps (S.to_give source.old) (S.to_give source.new)) }
+    ensures fault { IfErr result
+        (λ f. IsDevice f × Keeps (S.to_give source.old) (S.to_give source.new)) }
     ensures counted { CountsDevice (S.failures source.old) (S.failures source.new) result }
 {
     let mut first = [0u8; 1];
@@ -54,13 +56,15 @@ fn head_of(first: u8, rest: &[u8; REST]) -> Result<RecordHead, FileFault>
     })
 }
 
-/// Reads the rest of the record that an octet begins: its octets stand at the front of `buf`, which has
-/// room for any record, 65,535 octets. What `buf` holds behind them, or after a fault, is not said.
+/// Reads the rest of the record that an octet begins: its octets stand at the front of `buf`, which
+/// has room for any record, 65,535 octets. What `buf` holds behind them, or after a fault, is not
+/// said.
 ///
 /// # Errors
 ///
 /// - `Device`: the source failed.
-/// - `Truncated`: the head isn't whole, or it is and is no `BadField`, and the record's octets aren't.
+/// - `Truncated`: the head isn't whole, or it is and is no `BadField`, and the record's octets
+///   aren't.
 /// - `BadField`: the head is whole, and `first` is no path.
 pub fn record_rest<S: ByteSource>(
     source: &mut S,
@@ -70,7 +74,8 @@ pub fn record_rest<S: ByteSource>(
     requires { 65535 ≤ length buf.old }
     ensures room { length buf.new ≡ length buf.old }
     ensures within { IfOk result (λ r. r.length < 65536) }
-    ensures read { IfOk result (λ r. ReadsRest first (S.to_give source.old) (S.to_give source.new) (entry_of r buf.new)) }
+    ensures read { IfOk result
+        (λ r. ReadsRest first (S.to_give source.old) (S.to_give source.new) (entry_of r buf.new)) }
     ensures fault { IfErr result (λ f. FailsRest f first (S.to_give source.old)) }
     ensures counted { CountsDevice (S.failures source.old) (S.failures source.new) result }
 {

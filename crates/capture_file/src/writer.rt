@@ -1,7 +1,9 @@
 //! A capture as a sink of datagrams.
-ghost use Rattle.std.specs.Prelude.{◌≡◌, ◌≤◌, ◌<◌, ◌+◌, ◌%◌, ◌^◌, [], Some, length, IfErr, IfOk, IsErr, OnErr, OnOk, MatchResult, true, false};
+ghost use Rattle.std.specs.Prelude.{◌≡◌, ◌≤◌, ◌<◌, ◌+◌, ◌%◌, ◌^◌, [], Some, length, IfErr, IfOk};
+ghost use Rattle.std.specs.Prelude.{IsErr, OnErr, OnOk, MatchResult, true, false};
 ghost use Rattle.std.specs.Io.KnownBytes.{Appends, IsAtEnd, Keeps};
-ghost use Rattle.st_format.specs.Device.{AppendsPrefix, CountsFaults, CountsOne, KeepsAll, StaysUntold, TakesOne};
+ghost use Rattle.st_format.specs.Device.{AppendsPrefix, CountsFaults, CountsOne, KeepsAll};
+ghost use Rattle.st_format.specs.Device.{StaysUntold, TakesOne};
 ghost use Rattle.capture_file.specs.Faults.{CountsFault, IsDevice};
 ghost use Rattle.capture_file.specs.Fronts.{front_text};
 ghost use Rattle.capture_file.specs.Records.{records_text};
@@ -15,8 +17,8 @@ use crate::writing::{write_front, write_record};
 use st_format::{ByteSink, DatagramSink, DeviceFault, Path, SinkFault};
 use std::marker::Model;
 
-/// Writes a capture of the datagrams that it takes into a sink of octets, which it owns: for each datagram a
-/// record by each of its paths, whose moment is the record's index from 0, modulo 2^64.
+/// Writes a capture of the datagrams that it takes into a sink of octets, which it owns: for each
+/// datagram a record by each of its paths, whose moment is the record's index from 0, modulo 2^64.
 ///
 /// After a fault it takes nothing more, and the sink is asked for nothing.
 #[derive(Drop)]
@@ -37,12 +39,15 @@ impl<K: ByteSink> Model for CaptureWriter<K> {
 
     ghost view = { λ w. record {
       sink = w.sink;
-      place = record { paths = w.paths; text_len = w.text_len; moment = w.moment; failed = w.failed };
+      place =
+          record { paths = w.paths; text_len = w.text_len; moment = w.moment; failed = w.failed };
       failures = w.failures;
     } };
 
     ghost invariant = { λ w. (w.moment < 2 ^ 64)
-        × StandsWritten (record { paths = w.paths; text_len = w.text_len; moment = w.moment; failed = w.failed }) (K.held w.sink) };
+        × StandsWritten
+        (record { paths = w.paths; text_len = w.text_len; moment = w.moment; failed = w.failed })
+        (K.held w.sink) };
 }
 
 /// Writes the records of a datagram, the first of this moment.
@@ -53,8 +58,12 @@ fn write_datagram<K: ByteSink>(
     octets: &[u8],
 ) -> Result<(), DeviceFault>
     requires { length octets.now ≤ 65535 }
-    ensures ok { OnOk result (Appends (K.held sink.old) (K.held sink.new) (records_text (entries_of paths moment octets.now))) }
-    ensures fault { OnErr result (AppendsPrefix (K.held sink.old) (K.held sink.new) (records_text (entries_of paths moment octets.now))) }
+    ensures ok { OnOk result
+        (Appends (K.held sink.old) (K.held sink.new)
+        (records_text (entries_of paths moment octets.now))) }
+    ensures fault { OnErr result
+        (AppendsPrefix (K.held sink.old) (K.held sink.new)
+        (records_text (entries_of paths moment octets.now))) }
     ensures untold { StaysUntold (K.held sink.old) (K.held sink.new) }
     ensures counted { CountsFaults (K.failures sink.old) (K.failures sink.new) result }
 {
@@ -69,20 +78,30 @@ fn write_datagram<K: ByteSink>(
 }
 
 impl<K: ByteSink> CaptureWriter<K> {
-    /// Begins to write a capture with this text, of at most 65,535 octets, into a sink that holds nothing.
+    /// Begins to write a capture with this text, of at most 65,535 octets, into a sink that holds
+    /// nothing.
     ///
     /// # Errors
     ///
-    /// `Device` where the sink failed, and the sink as it then is: it holds some first part of the front.
+    /// `Device` where the sink failed, and the sink as it then is: it holds some first part of the
+    /// front.
     pub fn open(mut sink: K, paths: Paths, text: &[u8]) -> Result<CaptureWriter<K>, (FileFault, K)>
         requires text { length text.now ≤ 65535 }
         requires empty { IsAtEnd (K.held sink) }
-        ensures ok { IfOk result (λ w. Appends (K.held sink) (K.held w.sink) (front_text Two text.now)) }
-        ensures place { IfOk result (λ w. w.place ≡ record { paths = paths; text_len = length text.now; moment = 0; failed = false }) }
-        ensures tells { IfOk result (λ w. IfTold (K.held sink) (λ _. ⟦<CaptureWriter<K> as DatagramSink>⟧.taken w ≡ Some [])) }
+        ensures ok { IfOk result
+            (λ w. Appends (K.held sink) (K.held w.sink) (front_text Two text.now)) }
+        ensures place { IfOk result
+            (λ w. w.place
+            ≡ record { paths = paths; text_len = length text.now; moment = 0; failed = false }) }
+        ensures tells { IfOk result
+            (λ w. IfTold (K.held sink)
+            (λ _. ⟦<CaptureWriter<K> as DatagramSink>⟧.taken w ≡ Some [])) }
         ensures failures { IfOk result (λ w. w.failures ≡ 0) }
-        ensures fault { IfErr result (λ e. IsDevice e.0 × AppendsPrefix (K.held sink) (K.held e.1) (front_text Two text.now)) }
-        ensures counted { MatchResult result (λ w. K.failures w.sink ≡ K.failures sink) (λ e. CountsFault e.0 (K.failures sink) (K.failures e.1)) }
+        ensures fault { IfErr result
+            (λ e. IsDevice e.0
+            × AppendsPrefix (K.held sink) (K.held e.1) (front_text Two text.now)) }
+        ensures counted { MatchResult result (λ w. K.failures w.sink ≡ K.failures sink)
+            (λ e. CountsFault e.0 (K.failures sink) (K.failures e.1)) }
     {
         match write_front(&mut sink, text) {
             Ok(()) => Ok(CaptureWriter {
@@ -97,8 +116,8 @@ impl<K: ByteSink> CaptureWriter<K> {
         }
     }
 
-    /// Gives the sink back, as it then is. After no fault it holds the capture of a text and of the datagrams that the
-    /// writer took, if it tells what it holds.
+    /// Gives the sink back, as it then is. After no fault it holds the capture of a text and of the
+    /// datagrams that the writer took, if it tells what it holds.
     pub fn into_inner(self) -> K
         ensures sink { result ≡ self.sink }
         ensures whole { StandsWritten self.place (K.held result) }
@@ -126,20 +145,35 @@ impl<K: ByteSink> DatagramSink for CaptureWriter<K> {
     /// Writes the datagram's records.
     fn put(&mut self, octets: &[u8]) -> Result<(), SinkFault>
         requires { length octets.now ≤ 65535 }
-        ensures taken { OnOk result (TakesOne (taken_of self.old.place (K.held self.old.sink)) (taken_of self.new.place (K.held self.new.sink)) octets.now) }
-        ensures fault { OnErr result (KeepsAll (taken_of self.old.place (K.held self.old.sink)) (taken_of self.new.place (K.held self.new.sink))) }
+        ensures taken { OnOk result
+            (TakesOne (taken_of self.old.place (K.held self.old.sink))
+            (taken_of self.new.place (K.held self.new.sink)) octets.now) }
+        ensures fault { OnErr result
+            (KeepsAll (taken_of self.old.place (K.held self.old.sink))
+            (taken_of self.new.place (K.held self.new.sink))) }
         ensures counted { CountsFaults self.old.failures self.new.failures result }
 
-        // What is written: all records of the datagram, or after a fault a first part of them. A fault comes only
-        // where the sink failed in this call, or the writer had failed before.
-        ensures written { OnOk result ((self.old.place.failed ≡ false) × Appends (K.held self.old.sink) (K.held self.new.sink) (records_text (entries_of self.old.place.paths self.old.place.moment octets.now))) }
-        ensures cut { self.old.place.failed ≡ false → OnErr result (AppendsPrefix (K.held self.old.sink) (K.held self.new.sink) (records_text (entries_of self.old.place.paths self.old.place.moment octets.now))) }
-        ensures device { self.old.place.failed ≡ false → CountsFaults (K.failures self.old.sink) (K.failures self.new.sink) result }
-        ensures moment { OnOk result (self.new.place.moment ≡ moment_behind self.old.place.paths self.old.place.moment) }
-        ensures stands { MatchResult result (λ _. self.new.place.failed ≡ false) (λ _. self.new.place.failed ≡ true) }
+        // What is written: all records of the datagram, or after a fault a first part of them. A
+        // fault comes only where the sink failed in this call, or the writer had failed before.
+        ensures written { OnOk result
+            ((self.old.place.failed ≡ false)
+            × Appends (K.held self.old.sink) (K.held self.new.sink)
+            (records_text (entries_of self.old.place.paths self.old.place.moment octets.now))) }
+        ensures cut { self.old.place.failed ≡ false
+            → OnErr result
+            (AppendsPrefix (K.held self.old.sink) (K.held self.new.sink)
+            (records_text (entries_of self.old.place.paths self.old.place.moment octets.now))) }
+        ensures device { self.old.place.failed ≡ false
+            → CountsFaults (K.failures self.old.sink) (K.failures self.new.sink) result }
+        ensures moment { OnOk result
+            (self.new.place.moment ≡ moment_behind self.old.place.paths self.old.place.moment) }
+        ensures stands { MatchResult result (λ _. self.new.place.failed ≡ false)
+            (λ _. self.new.place.failed ≡ true) }
         // After a fault nothing is written.
-        ensures failed { self.old.place.failed ≡ true → IsErr result × (self.new.sink ≡ self.old.sink) }
-        ensures front { (self.new.place.paths ≡ self.old.place.paths) × (self.new.place.text_len ≡ self.old.place.text_len) }
+        ensures failed { self.old.place.failed ≡ true
+            → IsErr result × (self.new.sink ≡ self.old.sink) }
+        ensures front { (self.new.place.paths ≡ self.old.place.paths)
+            × (self.new.place.text_len ≡ self.old.place.text_len) }
     {
         if self.failed {
             return self.fail();

@@ -29,8 +29,12 @@ pub(crate) fn write_record<K: ByteSink>(
     octets: &[u8],
 ) -> Result<(), DeviceFault>
     requires { length octets.now ≤ 65535 }
-    ensures ok { OnOk result (Appends (K.held sink.old) (K.held sink.new) (record_text (record { path = path; moment = moment; octets = octets.now }))) }
-    ensures fault { OnErr result (AppendsPrefix (K.held sink.old) (K.held sink.new) (record_text (record { path = path; moment = moment; octets = octets.now }))) }
+    ensures ok { OnOk result
+        (Appends (K.held sink.old) (K.held sink.new)
+        (record_text (record { path = path; moment = moment; octets = octets.now }))) }
+    ensures fault { OnErr result
+        (AppendsPrefix (K.held sink.old) (K.held sink.new)
+        (record_text (record { path = path; moment = moment; octets = octets.now }))) }
     ensures untold { StaysUntold (K.held sink.old) (K.held sink.new) }
     ensures counted { CountsFaults (K.failures sink.old) (K.failures sink.new) result }
 {
@@ -56,8 +60,10 @@ fn head_of(path: Path, moment: u64, length: u16) -> [u8; HEAD]
 /// Writes what stands before the records.
 pub(crate) fn write_front<K: ByteSink>(sink: &mut K, text: &[u8]) -> Result<(), DeviceFault>
     requires { length text.now ≤ 65535 }
-    ensures ok { OnOk result (Appends (K.held sink.old) (K.held sink.new) (front_text Two text.now)) }
-    ensures fault { OnErr result (AppendsPrefix (K.held sink.old) (K.held sink.new) (front_text Two text.now)) }
+    ensures ok { OnOk result
+        (Appends (K.held sink.old) (K.held sink.new) (front_text Two text.now)) }
+    ensures fault { OnErr result
+        (AppendsPrefix (K.held sink.old) (K.held sink.new) (front_text Two text.now)) }
     ensures untold { StaysUntold (K.held sink.old) (K.held sink.new) }
     ensures counted { CountsFaults (K.failures sink.old) (K.failures sink.new) result }
 {
@@ -75,11 +81,13 @@ fn front_of(length: u16) -> [u8; FRONT]
     front
 }
 
-/// Writes a capture of version 02 with this text, of at most 65,535 octets, and these records, each of at most 65,535.
+/// Writes a capture of version 02 with this text, of at most 65,535 octets, and these records, each
+/// of at most 65,535.
 ///
 /// # Errors
 ///
-/// `Device` where the sink failed: it then has a first part of the capture more than before, and not all.
+/// `Device` where the sink failed: it then has a first part of the capture more than before, and
+/// not all.
 pub fn write_capture<A: Allocator, K: ByteSink>(
     sink: &mut K,
     text: &[u8],
@@ -87,8 +95,13 @@ pub fn write_capture<A: Allocator, K: ByteSink>(
 ) -> Result<(), FileFault>
     requires text { length text.now ≤ 65535 }
     requires records { All (λ r. length r.octets.items ≤ 65535) records.now }
-    ensures ok { OnOk result (Appends (K.held sink.old) (K.held sink.new) (capture_text text.now (map entry_seen records.now))) }
-    ensures fault { IfErr result (λ f. IsDevice f × AppendsPrefix (K.held sink.old) (K.held sink.new) (capture_text text.now (map entry_seen records.now))) }
+    ensures ok { OnOk result
+        (Appends (K.held sink.old) (K.held sink.new)
+        (capture_text text.now (map entry_seen records.now))) }
+    ensures fault { IfErr result
+        (λ f. IsDevice f
+        × AppendsPrefix (K.held sink.old) (K.held sink.new)
+        (capture_text text.now (map entry_seen records.now))) }
     ensures counted { CountsDevice (K.failures sink.old) (K.failures sink.new) result }
 {
     write_front(sink, text)?;
@@ -102,8 +115,11 @@ fn write_records<A: Allocator, K: ByteSink>(
     records: &[Record<A>],
 ) -> Result<(), DeviceFault>
     requires { All (λ r. length r.octets.items ≤ 65535) records.now }
-    ensures ok { OnOk result (Appends (K.held sink.old) (K.held sink.new) (records_text (map entry_seen records.now))) }
-    ensures fault { OnErr result (AppendsPrefix (K.held sink.old) (K.held sink.new) (records_text (map entry_seen records.now))) }
+    ensures ok { OnOk result
+        (Appends (K.held sink.old) (K.held sink.new) (records_text (map entry_seen records.now))) }
+    ensures fault { OnErr result
+        (AppendsPrefix (K.held sink.old) (K.held sink.new)
+        (records_text (map entry_seen records.now))) }
     ensures counted { CountsFaults (K.failures sink.old) (K.failures sink.new) result }
 {
     for record in records {

@@ -37,7 +37,8 @@ same_kept s r again =
     ap (λ (o : Opening). kept_of (receiver o r.frames)) again.opening
     ∙ ap (λ (rs : List Raster). kept_of (receiver s.opening rs)) again.frames
 
-holds_both : (s t : State) → s.opening ≡ t.opening → (xs ys : List (List ℕ)) → Holds s xs → Holds t ys
+holds_both : (s t : State) → s.opening ≡ t.opening → (xs ys : List (List ℕ)) → Holds s xs
+    → Holds t ys
     → Holds (merged s t) (xs ++ ys)
 holds_both s t alike xs ys holds_xs holds_ys =
     ap (λ (rs : List Raster). joined_frames rs t.frames) holds_xs

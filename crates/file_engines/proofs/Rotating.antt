@@ -1,12 +1,14 @@
 -- Captures that are taken one after the other, each the first of a list, in which its source then
 -- stands last.
-use Rattle.std.proofs.Common.{◌≡◌, ℕ, ◌+◌, ◌<◌, List, [], ◌∷◌, ◌++◌, length, Option, Some, refl, sym, ap, subst, ◌∙◌, arith, append_assoc, append-nil}
+use Rattle.std.proofs.Common.{◌≡◌, ℕ, ◌+◌, ◌<◌, List, [], ◌∷◌, ◌++◌, length, Option, Some, refl}
+use Rattle.std.proofs.Common.{sym, ap, subst, ◌∙◌, arith, append_assoc, append-nil}
 use Rattle.std.specs.List.{flat_map}
 use Rattle.std.specs.Io.KnownBytes.{Appends}
 use Rattle.capture_file.specs.StateFile.{state_text}
 use Rattle.receiver_file.specs.Saved.{kept_of}
 use Rattle.tool_text.specs.Timestamps.{AreTimestamps}
-use Rattle.file_engines.specs.Taking.{AllTell, HoldsBy, IsPin, Receives, Stands, TakesFile, TakesFiles, TakesFirst, capture_datagrams}
+use Rattle.file_engines.specs.Taking.{AllTell, HoldsBy, IsPin, Receives, Stands, TakesFile}
+use Rattle.file_engines.specs.Taking.{TakesFiles, TakesFirst, capture_datagrams}
 use Rattle.file_engines.specs.declared.receive.Opening.{Opening}
 use Rattle.file_engines.specs.declared.session.Session.{Session}
 
@@ -127,15 +129,16 @@ pub receives : {S A : Type 0} (o : Opening A) (window source : List ℕ) (f : S 
     → AreTimestamps window o.window.items → IsPin source o.ssrc → Stands o begun []
     → TakesFiles o f captures begun (Some s) → Appends old new (state_text (kept_of s.receiver))
     → Receives window source f captures old new
-receives o window source f captures begun s old new is_window is_source stands files taken = record {
-  saved = λ octets tell.
-      let holds : HoldsBy o s (flat_map capture_datagrams octets) = files.stands octets [] tell
-      stands in
-      record {
-        receiver = s.receiver;
-        window_is = subst (λ (w : List ℕ). AreTimestamps window w) (sym holds.window) is_window;
-        source_is = subst (λ (p : Option ℕ). IsPin source p) (sym holds.ssrc) is_source;
-        holds = holds.holds;
-        taken = taken;
-      };
-}
+receives o window source f captures begun s old new is_window is_source stands files taken =
+    record {
+      saved = λ octets tell.
+          let holds : HoldsBy o s (flat_map capture_datagrams octets) = files.stands octets [] tell
+          stands in
+          record {
+            receiver = s.receiver;
+            window_is = subst (λ (w : List ℕ). AreTimestamps window w) (sym holds.window) is_window;
+            source_is = subst (λ (p : Option ℕ). IsPin source p) (sym holds.ssrc) is_source;
+            holds = holds.holds;
+            taken = taken;
+          };
+    }

@@ -1,5 +1,6 @@
 -- The failures of sources in a list, one of which is used where it stands.
-use Rattle.std.proofs.Common.{ℕ, ◌<◌, inl, inr, List, [], ◌∷◌, length, set, get_or, Result, Ok, Err, arith}
+use Rattle.std.proofs.Common.{ℕ, ◌<◌, inl, inr, List, [], ◌∷◌, length, set, get_or, Result, Ok, Err}
+use Rattle.std.proofs.Common.{arith}
 use Rattle.std.specs.List.{sum_by}
 use Rattle.std.proofs.lemmas.List.Sums.{get_or-le-sum_by, sum_by-set}
 use Rattle.file_engines.specs.declared.fault.Fault.{Fault}
@@ -7,10 +8,14 @@ use Rattle.file_engines.specs.declared.fault.Fault.TheVariants.{Refused, Device,
 use Rattle.file_engines.specs.Fault.{Accounts, counts}
 
 -- what one source says of its failures the whole list says
-pub set_counted : {S V : Type 0} (f : S → ℕ) (xs : List S) (i : ℕ) (d y : S) (r : Result V Fault) → i < length xs
-    → Accounts r (counts (f (get_or xs i d)) (f y) ∷ []) → Accounts r (counts (sum_by f xs) (sum_by f (set xs i y)) ∷ [])
+pub set_counted : {S V : Type 0} (f : S → ℕ) (xs : List S) (i : ℕ) (d y : S) (r : Result V Fault)
+    → i < length xs
+    → Accounts r (counts (f (get_or xs i d)) (f y) ∷ [])
+    → Accounts r (counts (sum_by f xs) (sum_by f (set xs i y)) ∷ [])
 set_counted f xs i d y (Ok v) lt is = omega (arith, sum_by-set f xs i y d lt, is)
 set_counted f xs i d y (Err (Refused e)) lt is = omega (arith, sum_by-set f xs i y d lt, is)
 set_counted f xs i d y (Err Memory) lt is = omega (arith, sum_by-set f xs i y d lt, is)
-set_counted f xs i d y (Err Device) lt (inl more) = inl (omega (arith, sum_by-set f xs i y d lt, more))
-set_counted f xs i d y (Err Device) lt (inr most) = inr (omega (arith, get_or-le-sum_by f xs i d lt, most))
+set_counted f xs i d y (Err Device) lt (inl more) =
+    inl (omega (arith, sum_by-set f xs i y d lt, more))
+set_counted f xs i d y (Err Device) lt (inr most) =
+    inr (omega (arith, get_or-le-sum_by f xs i d lt, most))

@@ -1,5 +1,7 @@
 -- What was taken of one capture.
-use Rattle.std.proofs.Common.{◌≡◌, ℕ, ◌+◌, ◌-◌, ◌^◌, ◌<◌, min, List, [], ◌∷◌, ◌++◌, length, take, drop, get_or, Option, None, Some, Result, Ok, Err, refl, sym, ap, subst, ◌∙◌, arith, append-nil, length-append}
+use Rattle.std.proofs.Common.{◌≡◌, ℕ, ◌+◌, ◌-◌, ◌^◌, ◌<◌, min, List, [], ◌∷◌, ◌++◌, length, take}
+use Rattle.std.proofs.Common.{drop, get_or, Option, None, Some, Result, Ok, Err, refl, sym, ap}
+use Rattle.std.proofs.Common.{subst, ◌∙◌, arith, append-nil, length-append}
 use Rattle.std.specs.Option.{option_map}
 use Rattle.std.specs.Prelude.{OnOk}
 use Rattle.st_format.specs.Raster.{Raster}
@@ -14,7 +16,8 @@ use Rattle.path_merge.specs.Opening.{Opening as Opened}
 use Rattle.path_merge.specs.Took.{TakesDue}
 use Rattle.path_merge.proofs.Frames.{frames_of-append}
 use Rattle.path_merge.proofs.TurnLemmas.{SoFar}
-use Rattle.file_engines.specs.Taking.{AreAll, HoldsBy, TakesAllDue, TakesFile, TakesFirst, TakesRecords, capture_datagrams, datagrams_behind}
+use Rattle.file_engines.specs.Taking.{AreAll, HoldsBy, TakesAllDue, TakesFile, TakesFirst}
+use Rattle.file_engines.specs.Taking.{TakesRecords, capture_datagrams, datagrams_behind}
 use Rattle.file_engines.specs.declared.receive.Opening.{Opening}
 use Rattle.file_engines.specs.declared.session.Session.{Session}
 

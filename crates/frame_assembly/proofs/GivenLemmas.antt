@@ -1,5 +1,7 @@
 -- One group that is replaced.
-use Rattle.std.proofs.Common.{◌≡◌, ℕ, zero, suc, ◌+◌, ◌-◌, ◌*◌, ◌<◌, ◌≤◌, max, ◌==◌, if◌then◌else◌, List, [], ◌∷◌, ◌++◌, length, set, take, drop, map, replicate, bit_or, refl, sym, ap, ◌∙◌, subst, inr, arith}
+use Rattle.std.proofs.Common.{◌≡◌, ℕ, zero, suc, ◌+◌, ◌-◌, ◌*◌, ◌<◌, ◌≤◌, max, ◌==◌, if◌then◌else◌}
+use Rattle.std.proofs.Common.{List, [], ◌∷◌, ◌++◌, length, set, take, drop, map, replicate, bit_or}
+use Rattle.std.proofs.Common.{refl, sym, ap, ◌∙◌, subst, inr, arith}
 use Rattle.std.specs.Int.{bit_at}
 use Rattle.std.proofs.lemmas.List.{drop_at, take_at}
 use Rattle.std.proofs.lemmas.Nat.Bits.{bit_at-lt, bit_at-pow_other, bit_at_or}
@@ -9,50 +11,84 @@ use Rattle.st_format.specs.declared.cell.Cell.{Cell}
 use Rattle.st_format.specs.declared.cell.Cell.TheVariants.{Missing}
 use Rattle.st_format.specs.Samples.{values_in}
 use Rattle.pgroup_pack.specs.Groups.{blanked, blanked_from}
-use Rattle.frame_assembly.specs.Packed.{IsMark, IsPacked, cells_from, known_value, marked, packed_cells}
+use Rattle.frame_assembly.specs.Packed.{IsMark, IsPacked, cells_from, known_value, marked}
+use Rattle.frame_assembly.specs.Packed.{packed_cells}
 use Rattle.frame_assembly.specs.Rows.{given_from, replaced}
-use Rattle.frame_assembly.proofs.PackedLemmas.{AreSizes, IsPacked-append, length-packed_cells, one_long, packed_cells-append}
+use Rattle.frame_assembly.proofs.PackedLemmas.{AreSizes, IsPacked-append, length-packed_cells}
+use Rattle.frame_assembly.proofs.PackedLemmas.{one_long, packed_cells-append}
 use Rattle.frame_assembly.proofs.GroupJoins.{known_blanked, marked_seen, one_cells, seen}
 use Rattle.frame_assembly.proofs.GroupCells.{split_cells}
 use Rattle.frame_assembly.proofs.Kept.{zero_cells, zero_packed}
 use Rattle.frame_assembly.proofs.Runs.{set_split}
 
 -- what one group's replacement leaves
-pub record IsReplaced (n size samples at mark : ℕ) (from marks octets new_marks new_octets : List ℕ) : Type 0 where
+pub record IsReplaced (n size samples at mark : ℕ)
+    (from marks octets new_marks new_octets : List ℕ) : Type 0 where
   pub packed : IsPacked n size samples new_marks new_octets
-  pub cells : packed_cells n size new_marks new_octets ≡ replaced (samples * at) (packed_cells n size (mark ∷ []) from) (packed_cells n size marks octets)
+  pub cells : packed_cells n size new_marks new_octets
+      ≡ replaced (samples * at) (packed_cells n size (mark ∷ []) from)
+      (packed_cells n size marks octets)
 
-replaced_here : (xs new bs cs cells : List Cell) (k : ℕ) → cells ≡ xs ++ (bs ++ cs) → length xs ≡ k → length bs ≡ length new → xs ++ (new ++ cs) ≡ replaced k new cells
+replaced_here : (xs new bs cs cells : List Cell) (k : ℕ) → cells ≡ xs ++ (bs ++ cs) → length xs ≡ k
+    → length bs ≡ length new → xs ++ (new ++ cs) ≡ replaced k new cells
 replaced_here xs new bs cs cells k split long alike =
     let front : take k cells ≡ xs = ap (take k) split ∙ take_at xs (bs ++ cs) k long in
     let back : drop (length new) (drop k cells) ≡ cs =
-    ap (λ (zs : List Cell). drop (length new) (drop k zs)) split ∙ ap (drop (length new)) (drop_at xs (bs ++ cs) k long) ∙ drop_at bs cs (length new) alike in
-    sym (ap (λ (zs : List Cell). zs ++ (new ++ drop (length new) (drop k cells))) front ∙ ap (λ (zs : List Cell). xs ++ (new ++ zs)) back)
+    ap (λ (zs : List Cell). drop (length new) (drop k zs)) split
+    ∙ ap (drop (length new)) (drop_at xs (bs ++ cs) k long)
+    ∙ drop_at bs cs (length new) alike in
+    sym (ap (λ (zs : List Cell). zs ++ (new ++ drop (length new) (drop k cells))) front
+    ∙ ap (λ (zs : List Cell). xs ++ (new ++ zs)) back)
 
-pub group_replaced : (n size samples at mark z : ℕ) (from marks octets part : List ℕ) → AreSizes n size samples → at < length marks → IsPacked n size samples marks octets → IsPacked n size samples (mark ∷ []) from
+pub group_replaced : (n size samples at mark z : ℕ) (from marks octets part : List ℕ)
+    → AreSizes n size samples → at < length marks → IsPacked n size samples marks octets
+    → IsPacked n size samples (mark ∷ []) from
     → z ≡ size → part ≡ from
-    → IsReplaced n size samples at mark from marks octets (set marks at mark) (put_mid (z * at) (z * (at + 1) - z * at) octets part)
+    → IsReplaced n size samples at mark from marks octets (set marks at mark)
+    (put_mid (z * at) (z * (at + 1) - z * at) octets part)
 group_replaced n size samples at mark z from marks octets part is lt packed one same is_from =
     let are = split_cells n size samples at 1 marks octets is (omega arith) packed in
     let xs : List Cell = packed_cells n size (take at marks) (take (size * at) octets) in
-    let bs : List Cell = packed_cells n size (take 1 (drop at marks)) (take (size * 1) (drop (size * at) octets)) in
-    let cs : List Cell = packed_cells n size (drop 1 (drop at marks)) (drop (size * 1) (drop (size * at) octets)) in
+    let bs : List Cell =
+    packed_cells n size (take 1 (drop at marks)) (take (size * 1) (drop (size * at) octets)) in
+    let cs : List Cell =
+    packed_cells n size (drop 1 (drop at marks)) (drop (size * 1) (drop (size * at) octets)) in
     let new : List Cell = packed_cells n size (mark ∷ []) from in
     let count : size * (at + 1) - size * at ≡ size * 1 = omega (arith, mul-add size at 1) in
-    let new_long : length new ≡ samples * 1 = length-packed_cells n size samples (mark ∷ []) from is one.long in
-    let tail : IsPacked n size samples (mark ∷ drop 1 (drop at marks)) (from ++ drop (size * 1) (drop (size * at) octets)) =
-    IsPacked-append n size samples (mark ∷ []) from (drop 1 (drop at marks)) (drop (size * 1) (drop (size * at) octets)) is one are.behind_packed in
-    let here : IsReplaced n size samples at mark from marks octets (take at marks ++ mark ∷ drop 1 (drop at marks)) (take (size * at) octets ++ (from ++ drop (size * 1) (drop (size * at) octets))) = record {
-      packed = IsPacked-append n size samples (take at marks) (take (size * at) octets) (mark ∷ drop 1 (drop at marks)) (from ++ drop (size * 1) (drop (size * at) octets)) is are.before_packed tail;
+    let new_long : length new ≡ samples * 1 =
+    length-packed_cells n size samples (mark ∷ []) from is one.long in
+    let tail : IsPacked n size samples (mark ∷ drop 1 (drop at marks))
+    (from ++ drop (size * 1) (drop (size * at) octets)) =
+    IsPacked-append n size samples (mark ∷ []) from (drop 1 (drop at marks))
+    (drop (size * 1) (drop (size * at) octets)) is one are.behind_packed in
+    let here : IsReplaced n size samples at mark from marks octets
+    (take at marks ++ mark ∷ drop 1 (drop at marks))
+    (take (size * at) octets ++ (from ++ drop (size * 1) (drop (size * at) octets))) = record {
+      packed =
+          IsPacked-append n size samples (take at marks) (take (size * at) octets)
+          (mark ∷ drop 1 (drop at marks))
+          (from ++ drop (size * 1) (drop (size * at) octets)) is are.before_packed tail;
       cells =
-          packed_cells-append n size (take at marks) (take (size * at) octets) (mark ∷ drop 1 (drop at marks)) (from ++ drop (size * 1) (drop (size * at) octets)) are.before_packed.long
-          ∙ ap (λ (zs : List Cell). xs ++ zs) (packed_cells-append n size (mark ∷ []) from (drop 1 (drop at marks)) (drop (size * 1) (drop (size * at) octets)) one.long)
-          ∙ replaced_here xs new bs cs (packed_cells n size marks octets) (samples * at) are.split are.before (are.here ∙ sym new_long);
+          packed_cells-append n size (take at marks) (take (size * at) octets)
+          (mark ∷ drop 1 (drop at marks))
+          (from ++ drop (size * 1) (drop (size * at) octets)) are.before_packed.long
+          ∙ ap (λ (zs : List Cell). xs ++ zs)
+          (packed_cells-append n size (mark ∷ []) from (drop 1 (drop at marks))
+          (drop (size * 1) (drop (size * at) octets)) one.long)
+          ∙ replaced_here xs new bs cs (packed_cells n size marks octets)
+          (samples * at) are.split are.before (are.here ∙ sym new_long);
     } in
-    subst (λ (ms : List ℕ). IsReplaced n size samples at mark from marks octets ms (put_mid (z * at) (z * (at + 1) - z * at) octets part)) (set_split at marks mark lt)
-    (subst (λ (y : ℕ). IsReplaced n size samples at mark from marks octets (take at marks ++ mark ∷ drop 1 (drop at marks)) (put_mid (y * at) (y * (at + 1) - y * at) octets part)) (sym same)
-    (subst (λ (k : ℕ). IsReplaced n size samples at mark from marks octets (take at marks ++ mark ∷ drop 1 (drop at marks)) (put_mid (size * at) k octets part)) (sym count)
-    (subst (λ (os : List ℕ). IsReplaced n size samples at mark from marks octets (take at marks ++ mark ∷ drop 1 (drop at marks)) (put_mid (size * at) (size * 1) octets os)) (sym is_from) here)))
+    subst (λ (ms : List ℕ). IsReplaced n size samples at mark from marks octets ms
+    (put_mid (z * at) (z * (at + 1) - z * at) octets part)) (set_split at marks mark lt)
+    (subst (λ (y : ℕ). IsReplaced n size samples at mark from marks octets
+    (take at marks ++ mark ∷ drop 1 (drop at marks))
+    (put_mid (y * at) (y * (at + 1) - y * at) octets part)) (sym same)
+    (subst (λ (k : ℕ). IsReplaced n size samples at mark from marks octets
+    (take at marks ++ mark ∷ drop 1 (drop at marks)) (put_mid (size * at) k octets part))
+    (sym count)
+    (subst (λ (os : List ℕ). IsReplaced n size samples at mark from marks octets
+    (take at marks ++ mark ∷ drop 1 (drop at marks))
+    (put_mid (size * at) (size * 1) octets os)) (sym is_from) here)))
 
 -- ---- a group of given values
 
@@ -64,27 +100,38 @@ high k =
 low : (k i : ℕ) → i < 15 → bit_at (bit_or 32768 k) i ≡ bit_at k i
 low k i lt =
     let ne : i ≡ 15 → ⊥ = λ e. absurd (omega arith) in
-    bit_at_or 32768 k i ∙ ap (λ (b : ℕ). max b (bit_at k i)) (bit_at-pow_other 15 i ne) ∙ (let f : max 0 (bit_at k i) ≡ bit_at k i = omega arith in f)
+    bit_at_or 32768 k i ∙ ap (λ (b : ℕ). max b (bit_at k i)) (bit_at-pow_other 15 i ne)
+    ∙ (let f : max 0 (bit_at k i) ≡ bit_at k i = omega arith in f)
 
-given_seen : (k i : ℕ) (vs : List ℕ) → i + length vs ≤ 15 → cells_from (bit_or 32768 k) i vs ≡ given_from k i vs
+given_seen : (k i : ℕ) (vs : List ℕ) → i + length vs ≤ 15
+    → cells_from (bit_or 32768 k) i vs ≡ given_from k i vs
 unfolding cells_from given_from
 given_seen k i [] le = refl
 given_seen k i (v ∷ vs) le =
-    let here : marked (bit_or 32768 k) i v ≡ seen (bit_at k i) v = marked_seen (bit_or 32768 k) i v (high k) ∙ ap (λ (b : ℕ). seen b v) (low k i (omega arith)) in
-    let rest : cells_from (bit_or 32768 k) (i + 1) vs ≡ given_from k (i + 1) vs = given_seen k (i + 1) vs (omega arith) in
+    let here : marked (bit_or 32768 k) i v ≡ seen (bit_at k i) v =
+    marked_seen (bit_or 32768 k) i v (high k)
+    ∙ ap (λ (b : ℕ). seen b v) (low k i (omega arith)) in
+    let rest : cells_from (bit_or 32768 k) (i + 1) vs ≡ given_from k (i + 1) vs =
+    given_seen k (i + 1) vs (omega arith) in
     rw (here, rest) refl
 
-blanked_low : (k i : ℕ) (vs : List ℕ) → i + length vs ≤ 15 → blanked_from (bit_or 32768 k) i vs ≡ blanked_from k i vs
+blanked_low : (k i : ℕ) (vs : List ℕ) → i + length vs ≤ 15
+    → blanked_from (bit_or 32768 k) i vs ≡ blanked_from k i vs
 blanked_low k i [] le = refl
 blanked_low k i (v ∷ vs) le =
-    ap (λ (b : ℕ). (if b == 1 then 0 else v) ∷ blanked_from (bit_or 32768 k) (i + 1) vs) (low k i (omega arith))
-    ∙ ap (λ (xs : List ℕ). (if bit_at k i == 1 then 0 else v) ∷ xs) (blanked_low k (i + 1) vs (omega arith))
+    ap (λ (b : ℕ). (if b == 1 then 0 else v) ∷ blanked_from (bit_or 32768 k) (i + 1) vs)
+    (low k i (omega arith))
+    ∙ ap (λ (xs : List ℕ). (if bit_at k i == 1 then 0 else v) ∷ xs)
+    (blanked_low k (i + 1) vs (omega arith))
 
-given_mark : (samples k : ℕ) → ((i : ℕ) → samples ≤ i → bit_at k i ≡ 0) → IsMark samples (bit_or 32768 k)
+given_mark : (samples k : ℕ) → ((i : ℕ) → samples ≤ i → bit_at k i ≡ 0)
+    → IsMark samples (bit_or 32768 k)
 unfolding IsMark
 given_mark samples k none = inr (high k, λ i le lt. low k i lt ∙ none i le)
 
-pub given_packed : (n size samples k : ℕ) (from : List ℕ) → AreSizes n size samples → length from ≡ size → ((i : ℕ) → samples ≤ i → bit_at k i ≡ 0) → values_in n from ≡ blanked k (values_in n from)
+pub given_packed : (n size samples k : ℕ) (from : List ℕ) → AreSizes n size samples
+    → length from ≡ size → ((i : ℕ) → samples ≤ i → bit_at k i ≡ 0)
+    → values_in n from ≡ blanked k (values_in n from)
     → IsPacked n size samples (bit_or 32768 k ∷ []) from
 given_packed n size samples k from is long none blank =
     let m : ℕ = bit_or 32768 k in
@@ -95,10 +142,15 @@ given_packed n size samples k from is long none blank =
     record {
       long = long ∙ (let e : size ≡ size * 1 = omega arith in e);
       words = (given_mark samples k none, tt);
-      known = same ∙ known_blanked m 0 vs (high k) ∙ ap (λ (xs : List ℕ). map known_value (cells_from m 0 xs)) (sym same) ∙ ap (map known_value) (sym (one_cells n size m from long));
+      known =
+          same ∙ known_blanked m 0 vs (high k)
+          ∙ ap (λ (xs : List ℕ). map known_value (cells_from m 0 xs)) (sym same)
+          ∙ ap (map known_value) (sym (one_cells n size m from long));
     }
 
-pub given_is : (n size samples k : ℕ) (from : List ℕ) → AreSizes n size samples → length from ≡ size → packed_cells n size (bit_or 32768 k ∷ []) from ≡ given_from k 0 (values_in n from)
+pub given_is : (n size samples k : ℕ) (from : List ℕ) → AreSizes n size samples
+    → length from ≡ size
+    → packed_cells n size (bit_or 32768 k ∷ []) from ≡ given_from k 0 (values_in n from)
 given_is n size samples k from is long =
     let vs_long : length (values_in n from) ≡ samples = one_long n size samples from is long in
     let few = is.few in
@@ -111,14 +163,22 @@ take_zeros zero k le = refl
 take_zeros (suc c) zero le = absurd (omega arith)
 take_zeros (suc c) (suc k) le = ap (λ (xs : List ℕ). 0 ∷ xs) (take_zeros c k (omega arith))
 
-pub none_from : (z size : ℕ) → z ≡ size → size ≤ 15 → take {A = ℕ} z (replicate 15 0) ≡ replicate (size * 1) 0
-none_from z size same le = let e : z ≡ size * 1 = omega arith in ap (λ (k : ℕ). take {A = ℕ} k (replicate 15 0)) e ∙ take_zeros (size * 1) 15 (omega arith)
+pub none_from : (z size : ℕ) → z ≡ size → size ≤ 15
+    → take {A = ℕ} z (replicate 15 0) ≡ replicate (size * 1) 0
+none_from z size same le = let e : z ≡ size * 1 =
+    omega arith in ap (λ (k : ℕ). take {A = ℕ} k (replicate 15 0)) e
+    ∙ take_zeros (size * 1) 15 (omega arith)
 
-pub missing_packed : (n size samples : ℕ) (from : List ℕ) → AreSizes n size samples → from ≡ replicate (size * 1) 0 → IsPacked n size samples (0 ∷ []) from
-missing_packed n size samples from is e = subst (IsPacked n size samples (0 ∷ [])) (sym e) (zero_packed n size samples 1 is)
+pub missing_packed : (n size samples : ℕ) (from : List ℕ) → AreSizes n size samples
+    → from ≡ replicate (size * 1) 0 → IsPacked n size samples (0 ∷ []) from
+missing_packed n size samples from is e =
+    subst (IsPacked n size samples (0 ∷ [])) (sym e) (zero_packed n size samples 1 is)
 
-pub missing_is : (n size samples : ℕ) (from given : List ℕ) → AreSizes n size samples → from ≡ replicate (size * 1) 0 → length given ≡ size
+pub missing_is : (n size samples : ℕ) (from given : List ℕ) → AreSizes n size samples
+    → from ≡ replicate (size * 1) 0 → length given ≡ size
     → packed_cells n size (0 ∷ []) from ≡ replicate (length (values_in n given)) Missing
 missing_is n size samples from given is e long =
     ap (packed_cells n size (0 ∷ [])) e ∙ zero_cells n size samples 1 is
-    ∙ ap (λ (k : ℕ). replicate {A = Cell} k Missing) ((let f : samples * 1 ≡ samples = omega arith in f) ∙ sym (one_long n size samples given is long))
+    ∙ ap (λ (k : ℕ). replicate {A = Cell} k Missing)
+    ((let f : samples * 1 ≡ samples = omega arith in f)
+    ∙ sym (one_long n size samples given is long))

@@ -17,68 +17,99 @@ use Rattle.st_format.proofs.Rasters.{map-map, map_same}
 use Rattle.frame_assembly.specs.declared.base.Base.{Base}
 use Rattle.frame_assembly.specs.declared.base.Base.TheVariants.{Fill, Hold}
 use Rattle.frame_assembly.specs.Packed.{group_count}
-use Rattle.frame_assembly.specs.Settled.{HoldsPicture, IsBaseOf, base_number, base_value, settled, settled_cell, settled_numbers}
+use Rattle.frame_assembly.specs.Settled.{HoldsPicture, IsBaseOf, base_number, base_value, settled}
+use Rattle.frame_assembly.specs.Settled.{settled_cell, settled_numbers}
 use Rattle.frame_assembly.proofs.Kept.{frame_view}
 use Rattle.frame_assembly.proofs.Segments.{sample_count_groups}
 
 -- ---- by number
 
-base_place : {A : Type 0} (f : Format) (base : Base A) (k : ℕ) → IsBaseOf f base → base_value base (place f k) ≡ base_number f.sampling base k
+base_place : {A : Type 0} (f : Format) (base : Base A) (k : ℕ) → IsBaseOf f base
+    → base_value base (place f k) ≡ base_number f.sampling base k
 base_place f (Fill fill) k is = ap (λ (c : ℕ). get_or fill c 0) (component-place f k)
 base_place f (Hold picture) k is =
-    ap (λ (g : Format). get_or picture.now.samples (number_of g (place f k)) 0) is ∙ ap (λ (n : ℕ). get_or picture.now.samples n 0) (number_of-place f k)
+    ap (λ (g : Format). get_or picture.now.samples (number_of g (place f k)) 0) is
+    ∙ ap (λ (n : ℕ). get_or picture.now.samples n 0) (number_of-place f k)
 
 -- the value at a position, by its number
 at_number : {A : Type 0} (r : Raster) (base : Base A) (k : ℕ) → IsBaseOf r.format base
-    → settled_cell (cell_at r (place r.format k)) (base_value base (place r.format k)) ≡ settled_cell (get_or r.cells k Missing) (base_number r.format.sampling base k)
+    → settled_cell (cell_at r (place r.format k)) (base_value base (place r.format k))
+    ≡ settled_cell (get_or r.cells k Missing) (base_number r.format.sampling base k)
 at_number r base k is =
-    ap (λ (n : ℕ). settled_cell (get_or r.cells n Missing) (base_value base (place r.format k))) (number_of-place r.format k)
+    ap (λ (n : ℕ). settled_cell (get_or r.cells n Missing) (base_value base (place r.format k)))
+    (number_of-place r.format k)
     ∙ ap (settled_cell (get_or r.cells k Missing)) (base_place r.format base k is)
 
 by_count : {A : Type 0} (r : Raster) (base : Base A) → IsBaseOf r.format base
-    → (settled r base).samples ≡ map (λ k. settled_cell (get_or r.cells k Missing) (base_number r.format.sampling base k)) (range_with_len 0 (sample_count r.format))
+    → (settled r base).samples
+    ≡ map (λ k. settled_cell (get_or r.cells k Missing) (base_number r.format.sampling base k))
+    (range_with_len 0 (sample_count r.format))
 by_count r base is =
-    map-map (λ (p : Position). settled_cell (cell_at r p) (base_value base p)) (place r.format) (range_with_len 0 (sample_count r.format))
-    ∙ map_same (λ (k : ℕ). settled_cell (cell_at r (place r.format k)) (base_value base (place r.format k)))
-    (λ k. settled_cell (get_or r.cells k Missing) (base_number r.format.sampling base k)) (range_with_len 0 (sample_count r.format)) (λ k. at_number r base k is)
+    map-map (λ (p : Position). settled_cell (cell_at r p) (base_value base p)) (place r.format)
+    (range_with_len 0 (sample_count r.format))
+    ∙ map_same
+    (λ (k : ℕ). settled_cell (cell_at r (place r.format k))
+    (base_value base (place r.format k)))
+    (λ k. settled_cell (get_or r.cells k Missing) (base_number r.format.sampling base k))
+    (range_with_len 0 (sample_count r.format)) (λ k. at_number r base k is)
 
-pub settled-samples : {A : Type 0} (r : Raster) (base : Base A) → IsBaseOf r.format base → length r.cells ≡ sample_count r.format
+pub settled-samples : {A : Type 0} (r : Raster) (base : Base A) → IsBaseOf r.format base
+    → length r.cells ≡ sample_count r.format
     → settled_numbers r.cells (base_number r.format.sampling base) ≡ (settled r base).samples
 settled-samples r base is whole =
-    ap (λ (n : ℕ). map (λ k. settled_cell (get_or r.cells k Missing) (base_number r.format.sampling base k)) (range_with_len 0 n)) whole
+    ap (λ (n : ℕ). map
+    (λ k. settled_cell (get_or r.cells k Missing) (base_number r.format.sampling base k))
+    (range_with_len 0 n)) whole
     ∙ sym (by_count r base is)
 
 -- ---- the values fit
 
-value_fits : (f : Format) (c : Cell) (v : ℕ) → CellFits f c → FitsDepth f v → FitsDepth f (settled_cell c v)
+value_fits : (f : Format) (c : Cell) (v : ℕ) → CellFits f c → FitsDepth f v
+    → FitsDepth f (settled_cell c v)
 value_fits f Missing v a b = b
 value_fits f (Value w) v a b = a
 value_fits f Contested v a b = b
 
-base_fits : {A : Type 0} (f : Format) (base : Base A) (p : Position) → IsBaseOf f base → HoldsPicture base → FitsDepth f (base_value base p)
+base_fits : {A : Type 0} (f : Format) (base : Base A) (p : Position) → IsBaseOf f base
+    → HoldsPicture base → FitsDepth f (base_value base p)
 base_fits f (Fill fill) p is held = value_number-fits f fill p.component is
 base_fits f (Hold picture) p is held =
-    subst (λ (g : Format). FitsDepth g (get_or picture.now.samples (number_of picture.now.format p) 0)) is
-    (value_number-fits picture.now.format picture.now.samples (number_of picture.now.format p) held.fit)
+    subst (λ (g : Format). FitsDepth g
+    (get_or picture.now.samples (number_of picture.now.format p) 0)) is
+    (value_number-fits picture.now.format picture.now.samples
+    (number_of picture.now.format p) held.fit)
 
-pub settled-is_picture : {A : Type 0} (r : Raster) (base : Base A) → IsFrame r → IsBaseOf r.format base → HoldsPicture base → IsPicture (settled r base)
+pub settled-is_picture : {A : Type 0} (r : Raster) (base : Base A) → IsFrame r
+    → IsBaseOf r.format base → HoldsPicture base → IsPicture (settled r base)
 settled-is_picture r base frame is held =
     record {
-      whole = ap length (by_count r base is) ∙ length-map-range_with_len (λ k. settled_cell (get_or r.cells k Missing) (base_number r.format.sampling base k)) 0 (sample_count r.format);
-      fit = each_fits (FitsDepth r.format) (λ (p : Position). settled_cell (cell_at r p) (base_value base p)) (places r.format)
+      whole =
+          ap length (by_count r base is)
+          ∙ length-map-range_with_len
+          (λ k. settled_cell (get_or r.cells k Missing) (base_number r.format.sampling base k)) 0
+          (sample_count r.format);
+      fit =
+          each_fits (FitsDepth r.format)
+          (λ (p : Position). settled_cell (cell_at r p) (base_value base p)) (places r.format)
           (λ p. value_fits r.format (cell_at r p) (base_value base p)
-          (cell_number-fits r.format r.cells (number_of r.format p) frame.fit) (base_fits r.format base p is held));
+          (cell_number-fits r.format r.cells (number_of r.format p) frame.fit)
+          (base_fits r.format base p is held));
     }
 
 -- how many values are held for groups
-pub held_long : (f : Format) (v : Values) (z groups : ℕ) (xs : List ℕ) → v.format ≡ f → IsPicture v → xs ≡ v.samples → z ≡ (pixel_group f.sampling f.depth).samples → groups ≡ group_count f
+pub held_long : (f : Format) (v : Values) (z groups : ℕ) (xs : List ℕ) → v.format ≡ f → IsPicture v
+    → xs ≡ v.samples → z ≡ (pixel_group f.sampling f.depth).samples → groups ≡ group_count f
     → length xs ≡ z * groups
 held_long f v z groups xs same is are of_group many =
     ap length are ∙ is.whole ∙ ap sample_count same ∙ sym (sample_count_groups f)
-    ∙ ap (λ (k : ℕ). (pixel_group f.sampling f.depth).samples * k) (sym many) ∙ ap (λ (k : ℕ). k * groups) (sym of_group)
+    ∙ ap (λ (k : ℕ). (pixel_group f.sampling f.depth).samples * k) (sym many)
+    ∙ ap (λ (k : ℕ). k * groups) (sym of_group)
 
 -- What settling the cells of a frame gives, over plain variables
-pub settled_as : {A : Type 0} (f : Format) (items cells : List Cell) (xs : List ℕ) (base : Base A) → IsBaseOf f base → length items ≡ sample_count f → cells ≡ items
-    → xs ≡ settled_numbers cells (base_number f.sampling base) → xs ≡ (settled (frame_view f items) base).samples
+pub settled_as : {A : Type 0} (f : Format) (items cells : List Cell) (xs : List ℕ) (base : Base A)
+    → IsBaseOf f base → length items ≡ sample_count f → cells ≡ items
+    → xs ≡ settled_numbers cells (base_number f.sampling base)
+    → xs ≡ (settled (frame_view f items) base).samples
 settled_as f items cells xs base is_base whole same is =
-    is ∙ ap (λ (cs : List Cell). settled_numbers cs (base_number f.sampling base)) same ∙ settled-samples (frame_view f items) base is_base whole
+    is ∙ ap (λ (cs : List Cell). settled_numbers cs (base_number f.sampling base)) same
+    ∙ settled-samples (frame_view f items) base is_base whole

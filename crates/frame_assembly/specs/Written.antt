@@ -8,4 +8,5 @@ use Rattle.st_format.specs.Cell.{join}
 -- writes of the code. Clauses of public calls say Join of rasters in its place.
 unfoldable pub written_from : ℕ → List ℕ → List Cell → List Cell
 written_from k [] cells = cells
-written_from k (v ∷ vs) cells = written_from (k + 1) vs (slice_set cells k (join (slice_index_or cells k Missing) (Value v)))
+written_from k (v ∷ vs) cells =
+    written_from (k + 1) vs (slice_set cells k (join (slice_index_or cells k Missing) (Value v)))

@@ -11,7 +11,8 @@ use st_format::{Cell, Format};
 /// The cell of the sample of this number.
 pub fn cell_in(format: &Format, marks: &[u16], octets: &[u8], number: usize) -> Cell
     requires packed { ArePacked format.now marks.now octets.now }
-    requires below { number < (pixel_group format.now.sampling format.now.depth).samples * length marks.now }
+    requires below { number
+        < (pixel_group format.now.sampling format.now.depth).samples * length marks.now }
     ensures { result ≡ slice_index_or (cells_in format.now marks.now octets.now) number Missing }
 {
     let samples = format.pgroup().samples;

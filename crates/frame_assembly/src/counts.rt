@@ -22,9 +22,12 @@ pub struct Counts {
 pub fn count_cells(format: &Format, marks: &[u16], octets: &[u8]) -> Counts
     requires packed { ArePacked format.now marks.now octets.now }
     requires few { length marks.now ≤ 8192 * 8192 }
-    ensures present { result.present ≡ count_by is_present (cells_in format.now marks.now octets.now) }
-    ensures missing { result.missing ≡ count_by is_missing (cells_in format.now marks.now octets.now) }
-    ensures contested { result.contested ≡ count_by is_contested (cells_in format.now marks.now octets.now) }
+    ensures present { result.present
+        ≡ count_by is_present (cells_in format.now marks.now octets.now) }
+    ensures missing { result.missing
+        ≡ count_by is_missing (cells_in format.now marks.now octets.now) }
+    ensures contested { result.contested
+        ≡ count_by is_contested (cells_in format.now marks.now octets.now) }
 {
     let samples = format.pgroup().samples;
     let groups = count_marks(marks, PRESENT);

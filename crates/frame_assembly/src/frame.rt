@@ -1,9 +1,11 @@
 //! A frame: what is known of each sample of a raster.
-ghost use Rattle.std.specs.Prelude.{◌≡◌, ◌<◌, ◌≤◌, ◌↔◌, ℕ, IfOk, IsTrue, count_by, length, map, slice_index};
+ghost use Rattle.std.specs.Prelude.{◌≡◌, ◌<◌, ◌≤◌, ◌↔◌, ℕ, IfOk, IsTrue, count_by, length, map};
+ghost use Rattle.std.specs.Prelude.{slice_index};
 ghost use Rattle.std.specs.Int.{bit_at};
 ghost use Rattle.frame_assembly.specs.Kinds.{AreCounts};
 ghost use Rattle.frame_assembly.specs.Packed.{known_value};
-ghost use Rattle.frame_assembly.specs.Rows.{GroupsAreWhole, IsMarkOf, IsStateOf, given_cells, group_cells, replaced, row_cells};
+ghost use Rattle.frame_assembly.specs.Rows.{GroupsAreWhole, IsMarkOf, IsStateOf, given_cells};
+ghost use Rattle.frame_assembly.specs.Rows.{group_cells, replaced, row_cells};
 ghost use Rattle.frame_assembly.specs.Settled.{IsBaseOf, settled};
 ghost use Rattle.pgroup_pack.specs.Groups.{blanked};
 ghost use Rattle.payload_header.specs.View.{segments_of};
@@ -12,9 +14,11 @@ ghost use Rattle.st_format.specs.Fit.{ValuesFit};
 ghost use Rattle.st_format.specs.Offer.{cell_of};
 ghost use Rattle.st_format.specs.Picture.{IsPicture};
 ghost use Rattle.st_format.specs.Pgroup.{bits_of, pixel_group};
-ghost use Rattle.st_format.specs.Position.{IsPosition, Position, group_start, row_groups, row_octets};
+ghost use Rattle.st_format.specs.Position.{IsPosition, Position, group_start, row_groups};
+ghost use Rattle.st_format.specs.Position.{row_octets};
 ghost use Rattle.st_format.specs.Samples.{Spells, values_in};
-ghost use Rattle.st_format.specs.Raster.{IsWhole, blank, cell_at, cells_of, joined, joined_rasters, offers_in_all};
+ghost use Rattle.st_format.specs.Raster.{IsWhole, blank, cell_at, cells_of, joined, joined_rasters};
+ghost use Rattle.st_format.specs.Raster.{offers_in_all};
 
 use crate::base::Base;
 use crate::cells::cell_in;
@@ -31,8 +35,8 @@ use std::marker::Model;
 
 /// What is known of each sample of a raster: one cell for each position of the format.
 ///
-/// Datagrams are joined to it in any order and with any repeats (SMPTE ST 2022-7); the frame depends on
-/// which values were offered for each sample, and on nothing else.
+/// Datagrams are joined to it in any order and with any repeats (SMPTE ST 2022-7); the frame
+/// depends on which values were offered for each sample, and on nothing else.
 #[derive(Drop)]
 pub struct Frame<A: Allocator = Global> {
     format: Format,
@@ -47,7 +51,11 @@ impl<A: Allocator> Model for Frame<A> {
     // The format, and the cells in raster order
     ghost Value = { Raster };
 
-    ghost view = { λ a. record { format = a.format; cells = cells_in a.format a.marks.items a.octets.items } };
+    ghost view = { λ a. record {
+      format = a.format;
+      cells =
+          cells_in a.format a.marks.items a.octets.items;
+    } };
 
     ghost invariant = { λ a. IsKept a.format a.marks.items a.octets.items };
 }
@@ -84,13 +92,16 @@ impl<A: Allocator> Frame<A> {
         self.format
     }
 
-    /// What is known of the sample at a row, a column and a component: 0, 1, 2 are Y, Cb, Cr or R, G, B.
+    /// What is known of the sample at a row, a column and a component: 0, 1, 2 are Y, Cb, Cr or R,
+    /// G, B.
     ///
     /// The three are a position of the format: in 4:2:2 Cb and Cr stand at the even columns alone
     /// (RFC 4175, 4.3).
     pub fn cell(&self, row: u32, column: u32, component: u8) -> Cell
-        requires { IsPosition self.now.format (record { row = row; column = column; component = component }) }
-        ensures cell { result ≡ cell_at self.now (record { row = row; column = column; component = component }) }
+        requires { IsPosition self.now.format
+            (record { row = row; column = column; component = component }) }
+        ensures cell { result
+            ≡ cell_at self.now (record { row = row; column = column; component = component }) }
         ensures whole { IsWhole self.now }
     {
         let number = self.format.sample_number(row, column, component);
@@ -102,14 +113,19 @@ impl<A: Allocator> Frame<A> {
         )
     }
 
-    /// Joins what a payload offers: for each sample of its segments the value that their octets spell.
+    /// Joins what a payload offers: for each sample of its segments the value that their octets
+    /// spell.
     ///
     /// The payload was read for the frame's format. No memory is taken.
     pub fn put(&mut self, view: &PayloadView<'_>)
         requires { view.now.format ≡ self.old.format }
         ensures format { self.new.format ≡ self.old.format }
         // A payload has no timestamp: its offers join alike at whichever it is given.
-        ensures cells { (ts : ℕ) → self.new.cells ≡ joined self.old.cells (cells_of self.old.format (offers_in_all self.old.format ts (segments_of view.now)) ts) }
+        ensures cells { (ts : ℕ)
+            → self.new.cells
+            ≡ joined self.old.cells
+            (cells_of self.old.format
+            (offers_in_all self.old.format ts (segments_of view.now)) ts) }
         ensures each { (ts : ℕ) (p : Position) → IsPosition self.old.format p
             → cell_at self.new p ≡ join (cell_at self.old p)
             (cell_of (offers_in_all self.old.format ts (segments_of view.now)) ts p) }
@@ -126,14 +142,15 @@ impl<A: Allocator> Frame<A> {
         );
     }
 
-    /// Joins another frame of the same format, which may be over another allocator: each cell becomes the
-    /// join of the two. No memory is taken.
+    /// Joins another frame of the same format, which may be over another allocator: each cell
+    /// becomes the join of the two. No memory is taken.
     pub fn absorb<B: Allocator>(&mut self, other: &Frame<B>)
         requires { other.now.format ≡ self.old.format }
         ensures format { self.new.format ≡ self.old.format }
         ensures rasters { self.new ≡ joined_rasters self.old other.now }
         ensures cells { self.new.cells ≡ joined self.old.cells other.now.cells }
-        ensures each { (p : Position) → IsPosition self.old.format p → cell_at self.new p ≡ join (cell_at self.old p) (cell_at other.now p) }
+        ensures each { (p : Position) → IsPosition self.old.format p
+            → cell_at self.new p ≡ join (cell_at self.old p) (cell_at other.now p) }
         ensures whole { IsWhole self.new }
         ensures fit { ValuesFit self.new }
         ensures groups { GroupsAreWhole self.new }
@@ -169,11 +186,11 @@ impl<A: Allocator> Frame<A> {
         self.octets.fill(0);
     }
 
-    /// A picture of the frame: the value of each sample that has one, and the base's value for a missing or a
-    /// contested sample.
+    /// A picture of the frame: the value of each sample that has one, and the base's value for a
+    /// missing or a contested sample.
     ///
-    /// A fill fits the depth, and a held picture has the frame's format; it may be over another allocator.
-    /// `AllocError` comes only where the allocator refused the memory for the values.
+    /// A fill fits the depth, and a held picture has the frame's format; it may be over another
+    /// allocator. `AllocError` comes only where the allocator refused the memory for the values.
     pub fn settle<B: Allocator, C: Allocator>(
         &self,
         alloc: B,
@@ -215,7 +232,8 @@ impl<A: Allocator> Frame<A> {
     pub fn packed_row(&self, row: u32) -> &[u8]
         requires { row < self.now.format.height }
         ensures long { length result.now ≡ row_octets self.now.format }
-        ensures spelled { Spells (bits_of self.now.format.depth) result.now (map known_value (row_cells self.now row)) }
+        ensures spelled { Spells (bits_of self.now.format.depth) result.now
+            (map known_value (row_cells self.now row)) }
     {
         octets_of_row(
             &self.format,
@@ -225,12 +243,13 @@ impl<A: Allocator> Frame<A> {
         )
     }
 
-    /// A mark word for each pgroup of a row: bit 15 is set where it has no missing sample, bit `i` where its
-    /// sample `i` is contested; the word of a missing pgroup is 0.
+    /// A mark word for each pgroup of a row: bit 15 is set where it has no missing sample, bit `i`
+    /// where its sample `i` is contested; the word of a missing pgroup is 0.
     pub fn marks(&self, row: u32) -> &[u16]
         requires { row < self.now.format.height }
         ensures long { length result.now ≡ row_groups self.now.format }
-        ensures marks { (group : ℕ) → group < row_groups self.now.format → IsMarkOf (slice_index result.now group) (group_cells self.now row group) }
+        ensures marks { (group : ℕ) → group < row_groups self.now.format
+            → IsMarkOf (slice_index result.now group) (group_cells self.now row group) }
     {
         marks_of_row(
             &self.format,
@@ -240,13 +259,15 @@ impl<A: Allocator> Frame<A> {
         )
     }
 
-    /// Copies the octets of a pgroup, with 0 for each sample that is missing or contested, and tells what is
-    /// known of its samples.
+    /// Copies the octets of a pgroup, with 0 for each sample that is missing or contested, and
+    /// tells what is known of its samples.
     pub fn group(&self, row: u32, group: u32, out: &mut [u8]) -> GroupState
         requires row { row < self.now.format.height }
         requires group { group < row_groups self.now.format }
-        requires room { length out.old ≡ (pixel_group self.now.format.sampling self.now.format.depth).octets }
-        ensures spelled { Spells (bits_of self.now.format.depth) out.new (map known_value (group_cells self.now row group)) }
+        requires room { length out.old
+            ≡ (pixel_group self.now.format.sampling self.now.format.depth).octets }
+        ensures spelled { Spells (bits_of self.now.format.depth) out.new
+            (map known_value (group_cells self.now row group)) }
         ensures state { IsStateOf result (group_cells self.now row group) }
     {
         group_of(
@@ -259,18 +280,25 @@ impl<A: Allocator> Frame<A> {
         )
     }
 
-    /// Makes a pgroup's samples those that the octets spell, contested where the bit of the mask is set; or
-    /// missing, if it isn't present. No other sample changes.
+    /// Makes a pgroup's samples those that the octets spell, contested where the bit of the mask is
+    /// set; or missing, if it isn't present. No other sample changes.
     ///
     /// The mask has no bit beyond the pgroup's samples, and contested samples are 0.
     pub fn set_group(&mut self, row: u32, group: u32, octets: &[u8], contested: u16, present: bool)
         requires row { row < self.old.format.height }
         requires group { group < row_groups self.old.format }
-        requires octets { length octets.now ≡ (pixel_group self.old.format.sampling self.old.format.depth).octets }
-        requires bits { (i : ℕ) → (pixel_group self.old.format.sampling self.old.format.depth).samples ≤ i → bit_at contested i ≡ 0 }
-        requires zero { values_in (bits_of self.old.format.depth) octets.now ≡ blanked contested (values_in (bits_of self.old.format.depth) octets.now) }
+        requires octets { length octets.now
+            ≡ (pixel_group self.old.format.sampling self.old.format.depth).octets }
+        requires bits { (i : ℕ)
+            → (pixel_group self.old.format.sampling self.old.format.depth).samples ≤ i
+            → bit_at contested i ≡ 0 }
+        requires zero { values_in (bits_of self.old.format.depth) octets.now
+            ≡ blanked contested (values_in (bits_of self.old.format.depth) octets.now) }
         ensures format { self.new.format ≡ self.old.format }
-        ensures cells { self.new.cells ≡ replaced (group_start self.old.format row group) (given_cells present contested (values_in (bits_of self.old.format.depth) octets.now)) self.old.cells }
+        ensures cells { self.new.cells
+            ≡ replaced (group_start self.old.format row group)
+            (given_cells present contested
+            (values_in (bits_of self.old.format.depth) octets.now)) self.old.cells }
         ensures whole { IsWhole self.new }
         ensures fit { ValuesFit self.new }
         ensures groups { GroupsAreWhole self.new }

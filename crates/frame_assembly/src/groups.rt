@@ -1,5 +1,6 @@
 //! Joining pixel groups as a frame keeps them: packed octets, and a mark word for each group.
-ghost use Rattle.std.specs.Prelude.{◌≡◌, ◌<◌, ◌≤◌, ◌*◌, ◌↔◌, ℕ, [], ◌∷◌, IsTrue, length, slice_index};
+ghost use Rattle.std.specs.Prelude.{◌≡◌, ◌<◌, ◌≤◌, ◌*◌, ◌↔◌, ℕ, [], ◌∷◌, IsTrue, length};
+ghost use Rattle.std.specs.Prelude.{slice_index};
 ghost use Rattle.frame_assembly.specs.Packed.{AreJoined, ArePacked, cells_in, marked};
 ghost use Rattle.st_format.specs.Pgroup.{pixel_group};
 
@@ -27,7 +28,8 @@ pub fn join_run(
     requires packed { ArePacked format.now marks.old octets.old }
     requires other { ArePacked format.now other_marks.now others.now }
     requires alike { length other_marks.now ≡ length marks.old }
-    ensures { AreJoined format.now marks.old octets.old other_marks.now others.now marks.new octets.new }
+    ensures { AreJoined format.now marks.old octets.old other_marks.now others.now marks.new
+        octets.new }
 {
     let size = format.pgroup().octets;
     let blocks = marks.len() / BLOCK;
@@ -49,7 +51,8 @@ pub fn join_run(
     );
 }
 
-/// Joins other groups: at once where they are the same or all of these are missing, else a few at a time.
+/// Joins other groups: at once where they are the same or all of these are missing, else a few at a
+/// time.
 pub fn join_block(
     format: &Format,
     marks: &mut [u16],
@@ -60,7 +63,8 @@ pub fn join_block(
     requires packed { ArePacked format.now marks.old octets.old }
     requires other { ArePacked format.now other_marks.now others.now }
     requires alike { length other_marks.now ≡ length marks.old }
-    ensures { AreJoined format.now marks.old octets.old other_marks.now others.now marks.new octets.new }
+    ensures { AreJoined format.now marks.old octets.old other_marks.now others.now marks.new
+        octets.new }
 {
     if same_words(marks, other_marks) && same_octets(octets, others) {
         return;
@@ -92,7 +96,8 @@ fn join_chunks(
     requires packed { ArePacked format.now marks.old octets.old }
     requires other { ArePacked format.now other_marks.now others.now }
     requires alike { length other_marks.now ≡ length marks.old }
-    ensures { AreJoined format.now marks.old octets.old other_marks.now others.now marks.new octets.new }
+    ensures { AreJoined format.now marks.old octets.old other_marks.now others.now marks.new
+        octets.new }
 {
     let chunks = marks.len() / CHUNK;
     for i in 0..chunks {
@@ -113,7 +118,8 @@ fn join_chunks(
     );
 }
 
-/// Joins a few other groups: at once where they are the same, all of one side are missing, or none is missing.
+/// Joins a few other groups: at once where they are the same, all of one side are missing, or none
+/// is missing.
 #[inline(always)]
 fn join_chunk(
     format: &Format,
@@ -126,7 +132,8 @@ fn join_chunk(
     requires packed { ArePacked format.now marks.old octets.old }
     requires other { ArePacked format.now other_marks.now others.now }
     requires alike { length other_marks.now ≡ length marks.old }
-    ensures { AreJoined format.now marks.old octets.old other_marks.now others.now marks.new octets.new }
+    ensures { AreJoined format.now marks.old octets.old other_marks.now others.now marks.new
+        octets.new }
 {
     if equal_words(marks, other_marks) && equal_octets(octets, others) {
         return;
@@ -147,7 +154,8 @@ fn join_unlike(
     requires packed { ArePacked format.now marks.old octets.old }
     requires other { ArePacked format.now other_marks.now others.now }
     requires alike { length other_marks.now ≡ length marks.old }
-    ensures { AreJoined format.now marks.old octets.old other_marks.now others.now marks.new octets.new }
+    ensures { AreJoined format.now marks.old octets.old other_marks.now others.now marks.new
+        octets.new }
 {
     if are_present(marks) && are_present(other_marks) {
         join_present(format, marks, octets, other_marks, others);
@@ -178,8 +186,10 @@ fn join_present(
     requires other { ArePacked format.now other_marks.now others.now }
     requires alike { length other_marks.now ≡ length marks.old }
     requires present { (k : ℕ) → k < length marks.old → 32768 ≤ slice_index marks.old k }
-    requires other_present { (k : ℕ) → k < length marks.old → 32768 ≤ slice_index other_marks.now k }
-    ensures { AreJoined format.now marks.old octets.old other_marks.now others.now marks.new octets.new }
+    requires other_present { (k : ℕ) → k < length marks.old
+        → 32768 ≤ slice_index other_marks.now k }
+    ensures { AreJoined format.now marks.old octets.old other_marks.now others.now marks.new
+        octets.new }
 {
     or_marks(marks, other_marks);
     contest(format, octets, others, marks);
@@ -196,7 +206,8 @@ fn join_groups(
     requires packed { ArePacked format.now marks.old octets.old }
     requires other { ArePacked format.now other_marks.now others.now }
     requires alike { length other_marks.now ≡ length marks.old }
-    ensures { AreJoined format.now marks.old octets.old other_marks.now others.now marks.new octets.new }
+    ensures { AreJoined format.now marks.old octets.old other_marks.now others.now marks.new
+        octets.new }
 {
     let size = format.pgroup().octets;
     for i in 0..marks.len() {
@@ -214,7 +225,8 @@ fn join_groups(
 fn join_group(format: &Format, mark: u16, octets: &mut [u8], other_mark: u16, others: &[u8]) -> u16
     requires packed { ArePacked format.now (mark ∷ []) octets.old }
     requires other { ArePacked format.now (other_mark ∷ []) others.now }
-    ensures { AreJoined format.now (mark ∷ []) octets.old (other_mark ∷ []) others.now (result ∷ []) octets.new }
+    ensures { AreJoined format.now (mark ∷ []) octets.old (other_mark ∷ []) others.now
+        (result ∷ []) octets.new }
 {
     if mark == other_mark && same_octets(octets, others) {
         return mark;
@@ -291,7 +303,9 @@ pub fn same_groups(
     requires packed { ArePacked format.now marks.now octets.now }
     requires other { ArePacked format.now other_marks.now others.now }
     requires alike { length marks.now ≡ length other_marks.now }
-    ensures { IsTrue result ↔ (cells_in format.now marks.now octets.now ≡ cells_in format.now other_marks.now others.now) }
+    ensures { IsTrue result
+        ↔ (cells_in format.now marks.now octets.now
+        ≡ cells_in format.now other_marks.now others.now) }
 {
     same_words(marks, other_marks) && same_octets(octets, others)
 }

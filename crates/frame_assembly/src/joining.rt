@@ -1,6 +1,7 @@
 //! Joining what segments offer to the groups of a frame.
 ghost use Rattle.std.specs.Prelude.{◌≡◌, ◌<◌, ◌≤◌, ◌+◌, ◌*◌, ◌/◌, ℕ, length, All, map};
-ghost use Rattle.frame_assembly.specs.Packed.{AreJoined, ArePacked, cells_in, group_count, whole_marks};
+ghost use Rattle.frame_assembly.specs.Packed.{AreJoined, ArePacked, cells_in, group_count};
+ghost use Rattle.frame_assembly.specs.Packed.{whole_marks};
 ghost use Rattle.payload_header.specs.Payload.{IsInside, seen};
 ghost use Rattle.st_format.specs.Pgroup.{pixel_group};
 ghost use Rattle.st_format.specs.Raster.{cells_of, joined, offers_in, offers_in_all};
@@ -11,7 +12,8 @@ use st_format::Format;
 
 /// How many groups a row has.
 pub fn row_groups(format: &Format) -> usize
-    ensures value { result ≡ format.now.width / (pixel_group format.now.sampling format.now.depth).pixels }
+    ensures value { result
+        ≡ format.now.width / (pixel_group format.now.sampling format.now.depth).pixels }
     ensures limit { result ≤ 8192 }
 {
     (format.width() / format.pgroup().pixels) as usize
@@ -29,7 +31,10 @@ pub fn group_total(format: &Format) -> usize
 fn groups_before(format: &Format, row: u32, column: u32) -> usize
     requires row { row < format.now.height }
     requires column { column < format.now.width }
-    ensures value { result ≡ row * (format.now.width / (pixel_group format.now.sampling format.now.depth).pixels) + column / (pixel_group format.now.sampling format.now.depth).pixels }
+    ensures value { result
+        ≡ row *
+        (format.now.width / (pixel_group format.now.sampling format.now.depth).pixels) + column /
+        (pixel_group format.now.sampling format.now.depth).pixels }
     ensures limit { result ≤ 8192 * 8192 + 8192 }
 {
     row as usize * row_groups(format) + (column / format.pgroup().pixels) as usize
@@ -44,9 +49,13 @@ pub fn join_segments(
 )
     requires whole { length marks.old ≡ group_count format.now }
     requires packed { ArePacked format.now marks.old octets.old }
-    requires inside { All (λ s. 0 < length s.octets.now → IsInside format.now (seen s)) segments.now }
+    requires inside { All
+        (λ s. 0 < length s.octets.now → IsInside format.now (seen s)) segments.now }
     ensures packed { ArePacked format.now marks.new octets.new }
-    ensures cells { (ts : ℕ) → cells_in format.now marks.new octets.new ≡ joined (cells_in format.now marks.old octets.old) (cells_of format.now (offers_in_all format.now ts (map seen segments.now)) ts) }
+    ensures cells { (ts : ℕ)
+        → cells_in format.now marks.new octets.new
+        ≡ joined (cells_in format.now marks.old octets.old)
+        (cells_of format.now (offers_in_all format.now ts (map seen segments.now)) ts) }
 {
     for segment in segments {
         join_segment(format, marks, octets, segment);
@@ -59,7 +68,10 @@ fn join_segment(format: &Format, marks: &mut [u16], octets: &mut [u8], segment: 
     requires packed { ArePacked format.now marks.old octets.old }
     requires inside { 0 < length segment.now.octets.now → IsInside format.now (seen segment.now) }
     ensures packed { ArePacked format.now marks.new octets.new }
-    ensures cells { (ts : ℕ) → cells_in format.now marks.new octets.new ≡ joined (cells_in format.now marks.old octets.old) (cells_of format.now (offers_in format.now ts (seen segment.now)) ts) }
+    ensures cells { (ts : ℕ)
+        → cells_in format.now marks.new octets.new
+        ≡ joined (cells_in format.now marks.old octets.old)
+        (cells_of format.now (offers_in format.now ts (seen segment.now)) ts) }
 {
     if segment.octets.is_empty() {
         return;
@@ -79,17 +91,20 @@ fn join_segment(format: &Format, marks: &mut [u16], octets: &mut [u8], segment: 
 fn join_whole(format: &Format, marks: &mut [u16], octets: &mut [u8], others: &[u8])
     requires packed { ArePacked format.now marks.old octets.old }
     requires alike { length others.now ≡ length octets.old }
-    ensures { AreJoined format.now marks.old octets.old (whole_marks (length marks.old)) others.now marks.new octets.new }
+    ensures { AreJoined format.now marks.old octets.old
+        (whole_marks (length marks.old)) others.now marks.new octets.new }
 {
     join_blocks(format, marks, octets, &[PRESENT; BLOCK], others);
 }
 
-/// Joins groups of which each sample is offered, a block after the other; `whole` are the marks of a block.
+/// Joins groups of which each sample is offered, a block after the other; `whole` are the marks of
+/// a block.
 fn join_blocks(format: &Format, marks: &mut [u16], octets: &mut [u8], whole: &[u16], others: &[u8])
     requires packed { ArePacked format.now marks.old octets.old }
     requires whole { whole.now ≡ whole_marks BLOCK }
     requires alike { length others.now ≡ length octets.old }
-    ensures { AreJoined format.now marks.old octets.old (whole_marks (length marks.old)) others.now marks.new octets.new }
+    ensures { AreJoined format.now marks.old octets.old
+        (whole_marks (length marks.old)) others.now marks.new octets.new }
 {
     let size = format.pgroup().octets;
     let blocks = marks.len() / BLOCK;

@@ -1,8 +1,10 @@
 //! The octets and mark words of a row and of a group.
-ghost use Rattle.std.specs.Prelude.{◌≡◌, ◌<◌, ◌≤◌, ◌+◌, ◌*◌, ◌/◌, ◌==◌, ℕ, List, [], ◌∷◌, length, map, slice_index, take, drop};
+ghost use Rattle.std.specs.Prelude.{◌≡◌, ◌<◌, ◌≤◌, ◌+◌, ◌*◌, ◌/◌, ◌==◌, ℕ, List, [], ◌∷◌, length};
+ghost use Rattle.std.specs.Prelude.{map, slice_index, take, drop};
 ghost use Rattle.std.specs.Int.{bit_at};
 ghost use Rattle.frame_assembly.specs.Packed.{ArePacked, cells_in, group_count, known_value};
-ghost use Rattle.frame_assembly.specs.Rows.{IsMarkOf, IsStateOf, given_cells, group_cells, replaced, row_cells};
+ghost use Rattle.frame_assembly.specs.Rows.{IsMarkOf, IsStateOf, given_cells, group_cells};
+ghost use Rattle.frame_assembly.specs.Rows.{replaced, row_cells};
 ghost use Rattle.pgroup_pack.specs.Groups.{blanked};
 ghost use Rattle.st_format.specs.Pgroup.{bits_of, pixel_group};
 ghost use Rattle.st_format.specs.Position.{group_start, row_groups, row_octets};
@@ -20,7 +22,13 @@ pub fn octets_of_row<'a>(format: &Format, marks: &[u16], octets: &'a [u8], row: 
     requires packed { ArePacked format.now marks.now octets.now }
     requires row { row < format.now.height }
     ensures long { length result.now ≡ row_octets format.now }
-    ensures spelled { Spells (bits_of format.now.depth) result.now (map known_value (row_cells (record { format = format.now; cells = cells_in format.now marks.now octets.now }) row)) }
+    ensures spelled { Spells (bits_of format.now.depth) result.now
+        (map known_value
+        (row_cells (record {
+          format = format.now;
+          cells =
+              cells_in format.now marks.now octets.now;
+        }) row)) }
 {
     let size = format.pgroup().octets;
     let count = row_groups(format);
@@ -34,7 +42,13 @@ pub fn marks_of_row<'a>(format: &Format, marks: &'a [u16], octets: &[u8], row: u
     requires packed { ArePacked format.now marks.now octets.now }
     requires row { row < format.now.height }
     ensures long { length result.now ≡ row_groups format.now }
-    ensures marks { (group : ℕ) → group < row_groups format.now → IsMarkOf (slice_index result.now group) (group_cells (record { format = format.now; cells = cells_in format.now marks.now octets.now }) row group) }
+    ensures marks { (group : ℕ) → group < row_groups format.now
+        → IsMarkOf (slice_index result.now group)
+        (group_cells (record {
+          format = format.now;
+          cells =
+              cells_in format.now marks.now octets.now;
+        }) row group) }
 {
     let count = row_groups(format);
     let first = row as usize * count;
@@ -65,8 +79,19 @@ pub fn group_of(
     requires row { row < format.now.height }
     requires group { group < row_groups format.now }
     requires room { length out.old ≡ (pixel_group format.now.sampling format.now.depth).octets }
-    ensures spelled { Spells (bits_of format.now.depth) out.new (map known_value (group_cells (record { format = format.now; cells = cells_in format.now marks.now octets.now }) row group)) }
-    ensures state { IsStateOf result (group_cells (record { format = format.now; cells = cells_in format.now marks.now octets.now }) row group) }
+    ensures spelled { Spells (bits_of format.now.depth) out.new
+        (map known_value
+        (group_cells (record {
+          format = format.now;
+          cells =
+              cells_in format.now marks.now octets.now;
+        }) row group)) }
+    ensures state { IsStateOf result
+        (group_cells (record {
+          format = format.now;
+          cells =
+              cells_in format.now marks.now octets.now;
+        }) row group) }
 {
     let size = format.pgroup().octets;
     let at = place_of(format, row, group);
@@ -76,7 +101,8 @@ pub fn group_of(
 
 /// What a mark word says of its group's cells.
 fn state_of(mark: u16) -> GroupState
-    ensures { (cells : List Cell) → length cells ≤ 12 → IsMarkOf mark cells → IsStateOf result cells }
+    ensures { (cells : List Cell) → length cells ≤ 12 → IsMarkOf mark cells
+        → IsStateOf result cells }
 {
     if mark < PRESENT {
         GroupState::Gone
@@ -103,10 +129,15 @@ pub fn set_group_of(
     requires row { row < format.now.height }
     requires group { group < row_groups format.now }
     requires octets { length from.now ≡ (pixel_group format.now.sampling format.now.depth).octets }
-    requires bits { (i : ℕ) → (pixel_group format.now.sampling format.now.depth).samples ≤ i → bit_at contested i ≡ 0 }
-    requires zero { values_in (bits_of format.now.depth) from.now ≡ blanked contested (values_in (bits_of format.now.depth) from.now) }
+    requires bits { (i : ℕ) → (pixel_group format.now.sampling format.now.depth).samples ≤ i
+        → bit_at contested i ≡ 0 }
+    requires zero { values_in (bits_of format.now.depth) from.now
+        ≡ blanked contested (values_in (bits_of format.now.depth) from.now) }
     ensures packed { ArePacked format.now marks.new octets.new }
-    ensures cells { cells_in format.now marks.new octets.new ≡ replaced (group_start format.now row group) (given_cells present contested (values_in (bits_of format.now.depth) from.now)) (cells_in format.now marks.old octets.old) }
+    ensures cells { cells_in format.now marks.new octets.new
+        ≡ replaced (group_start format.now row group)
+        (given_cells present contested (values_in (bits_of format.now.depth) from.now))
+        (cells_in format.now marks.old octets.old) }
 {
     let at = place_of(format, row, group);
     if present {
@@ -140,7 +171,9 @@ fn put_group(
     requires inside { at < length marks.old }
     requires group { ArePacked format.now (mark ∷ []) from.now }
     ensures packed { ArePacked format.now marks.new octets.new }
-    ensures cells { cells_in format.now marks.new octets.new ≡ replaced ((pixel_group format.now.sampling format.now.depth).samples * at) (cells_in format.now (mark ∷ []) from.now) (cells_in format.now marks.old octets.old) }
+    ensures cells { cells_in format.now marks.new octets.new
+        ≡ replaced ((pixel_group format.now.sampling format.now.depth).samples * at)
+        (cells_in format.now (mark ∷ []) from.now) (cells_in format.now marks.old octets.old) }
 {
     let size = format.pgroup().octets;
     marks[at] = mark;

@@ -1,8 +1,10 @@
 //! Settling cells: a value for each sample.
-ghost use Rattle.std.specs.Prelude.{◌≡◌, ◌<◌, ◌≤◌, ◌*◌, ◌%◌, ◌↔◌, ℕ, IfOk, IsTrue, length, map, slice_index};
+ghost use Rattle.std.specs.Prelude.{◌≡◌, ◌<◌, ◌≤◌, ◌*◌, ◌%◌, ◌↔◌, ℕ, IfOk, IsTrue, length, map};
+ghost use Rattle.std.specs.Prelude.{slice_index};
 ghost use Rattle.std.specs.List.{range_with_len};
 ghost use Rattle.frame_assembly.specs.Packed.{ArePacked, cells_in, group_count, marked};
-ghost use Rattle.frame_assembly.specs.Settled.{HoldsPicture, IsBaseOf, IsSettledTo, base_number, settled_cell, settled_numbers};
+ghost use Rattle.frame_assembly.specs.Settled.{HoldsPicture, IsBaseOf, IsSettledTo, base_number};
+ghost use Rattle.frame_assembly.specs.Settled.{settled_cell, settled_numbers};
 ghost use Rattle.st_format.specs.Pgroup.{pixel_group};
 ghost use Rattle.st_format.specs.Position.{component_in_row};
 
@@ -27,7 +29,10 @@ pub fn settled_samples<B: Allocator, C: Allocator>(
     requires few { length marks.now ≤ 8192 * 8192 }
     requires groups { length marks.now ≡ group_count format.now }
     requires base { IsBaseOf format.now base }
-    ensures settled { IfOk result (λ v. v.items ≡ settled_numbers (cells_in format.now marks.now octets.now) (base_number format.now.sampling base.entry)) }
+    ensures settled { IfOk result
+        (λ v. v.items
+        ≡ settled_numbers (cells_in format.now marks.now octets.now)
+        (base_number format.now.sampling base.entry)) }
     ensures held { IfOk result (λ v. HoldsPicture base.entry) }
 {
     let count = format.pgroup().samples * marks.len();
@@ -47,8 +52,11 @@ fn read_settled<C: Allocator>(
     requires packed { ArePacked format.now marks.now octets.now }
     requires groups { length marks.now ≡ group_count format.now }
     requires base { IsBaseOf format.now base }
-    requires samples { length samples.old ≡ (pixel_group format.now.sampling format.now.depth).samples * length marks.now }
-    ensures settled { samples.new ≡ settled_numbers (cells_in format.now marks.now octets.now) (base_number format.now.sampling base.entry) }
+    requires samples { length samples.old
+        ≡ (pixel_group format.now.sampling format.now.depth).samples * length marks.now }
+    ensures settled { samples.new
+        ≡ settled_numbers (cells_in format.now marks.now octets.now)
+        (base_number format.now.sampling base.entry) }
     ensures held { HoldsPicture base.entry }
 {
     unpack(format, octets, samples);
@@ -59,8 +67,11 @@ fn read_settled<C: Allocator>(
 fn settle_over<C: Allocator>(format: &Format, marks: &[u16], base: Base<'_, C>, samples: &mut [u16])
     requires groups { length marks.now ≡ group_count format.now }
     requires base { IsBaseOf format.now base }
-    requires samples { length samples.old ≡ (pixel_group format.now.sampling format.now.depth).samples * length marks.now }
-    ensures settled { IsSettledTo (pixel_group format.now.sampling format.now.depth).samples (length marks.now) marks.now (base_number format.now.sampling base.entry) samples.old samples.new }
+    requires samples { length samples.old
+        ≡ (pixel_group format.now.sampling format.now.depth).samples * length marks.now }
+    ensures settled { IsSettledTo (pixel_group format.now.sampling format.now.depth).samples
+        (length marks.now) marks.now
+        (base_number format.now.sampling base.entry) samples.old samples.new }
     ensures held { HoldsPicture base.entry }
 {
     let of_group = format.pgroup().samples;
@@ -78,7 +89,9 @@ fn settle_over<C: Allocator>(format: &Format, marks: &[u16], base: Base<'_, C>, 
 
 /// Gives each sample the value of its component.
 fn fill_samples(sampling: Sampling, fill: [u16; 3], samples: &mut [u16])
-    ensures { samples.new ≡ map (λ k. slice_index fill (component_in_row sampling k)) (range_with_len 0 (length samples.old)) }
+    ensures { samples.new
+        ≡ map (λ k. slice_index fill (component_in_row sampling k))
+        (range_with_len 0 (length samples.old)) }
 {
     for (number, sample) in samples.iter_mut().enumerate() {
         *sample = fill[sampling.component_in_row(number)];
@@ -90,7 +103,8 @@ fn settle_over_pattern(of_group: usize, marks: &[u16], pattern: &[u16], samples:
     requires few { of_group ≤ 12 }
     requires pattern { length pattern.now ≡ 768 }
     requires samples { length samples.old ≡ of_group * length marks.now }
-    ensures { IsSettledTo of_group (length marks.now) marks.now (λ k. slice_index pattern.now (k % (of_group * 64))) samples.old samples.new }
+    ensures { IsSettledTo of_group (length marks.now) marks.now
+        (λ k. slice_index pattern.now (k % (of_group * 64))) samples.old samples.new }
 {
     let blocks = marks.len() / BLOCK;
     for i in 0..blocks {
@@ -114,7 +128,8 @@ fn settle_over_held(of_group: usize, marks: &[u16], held: &[u16], samples: &mut 
     requires few { of_group ≤ 12 }
     requires held { length held.now ≡ of_group * length marks.now }
     requires samples { length samples.old ≡ of_group * length marks.now }
-    ensures { IsSettledTo of_group (length marks.now) marks.now (λ k. slice_index held.now k) samples.old samples.new }
+    ensures { IsSettledTo of_group (length marks.now) marks.now
+        (λ k. slice_index held.now k) samples.old samples.new }
 {
     let blocks = marks.len() / BLOCK;
     for i in 0..blocks {
@@ -133,13 +148,14 @@ fn settle_over_held(of_group: usize, marks: &[u16], held: &[u16], samples: &mut 
     );
 }
 
-/// Settles a block over its values of the base: where each cell has a value, the samples stay as they were read,
-/// and where none has, they are the base's.
+/// Settles a block over its values of the base: where each cell has a value, the samples stay as
+/// they were read, and where none has, they are the base's.
 fn settle_block(of_group: usize, marks: &[u16], base: &[u16], samples: &mut [u16])
     requires few { of_group ≤ 12 }
     requires base { of_group * length marks.now ≤ length base.now }
     requires samples { length samples.old ≡ of_group * length marks.now }
-    ensures { IsSettledTo of_group (length marks.now) marks.now (λ k. slice_index base.now k) samples.old samples.new }
+    ensures { IsSettledTo of_group (length marks.now) marks.now
+        (λ k. slice_index base.now k) samples.old samples.new }
 {
     if are_whole(marks) {
         return;
@@ -170,7 +186,8 @@ fn settle_groups(of_group: usize, marks: &[u16], base: &[u16], samples: &mut [u1
     requires few { of_group ≤ 12 }
     requires base { of_group * length marks.now ≤ length base.now }
     requires samples { length samples.old ≡ of_group * length marks.now }
-    ensures { IsSettledTo of_group (length marks.now) marks.now (λ k. slice_index base.now k) samples.old samples.new }
+    ensures { IsSettledTo of_group (length marks.now) marks.now
+        (λ k. slice_index base.now k) samples.old samples.new }
 {
     for i in 0..marks.len() {
         settle_group(
@@ -185,7 +202,9 @@ fn settle_groups(of_group: usize, marks: &[u16], base: &[u16], samples: &mut [u1
 fn settle_group(mark: u16, base: &[u16], samples: &mut [u16])
     requires few { length samples.old ≤ 12 }
     requires base { length base.now ≡ length samples.old }
-    ensures { (i : ℕ) → i < length samples.old → slice_index samples.new i ≡ settled_cell (marked mark i (slice_index samples.old i)) (slice_index base.now i) }
+    ensures { (i : ℕ) → i < length samples.old
+        → slice_index samples.new i
+        ≡ settled_cell (marked mark i (slice_index samples.old i)) (slice_index base.now i) }
 {
     if mark == PRESENT {
         return;

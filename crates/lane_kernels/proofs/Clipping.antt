@@ -1,5 +1,6 @@
 -- A number brought to a range.
-use Rattle.std.proofs.Common.{◌≡◌, ℕ, ◌+◌, ◌-◌, ◌*◌, ◌%◌, ◌<◌, ◌≤◌, min, max, cond, ltb, arith, ap, ◌∙◌}
+use Rattle.std.proofs.Common.{◌≡◌, ℕ, ◌+◌, ◌-◌, ◌*◌, ◌%◌, ◌<◌, ◌≤◌, min, max, cond, ltb, arith, ap}
+use Rattle.std.proofs.Common.{◌∙◌}
 use Rattle.std.specs.Prelude.{ℤ, pos, negsuc, ◌+ℤ◌}
 use Rattle.std.proofs.lemmas.Bool.Decides.{nat_tests}
 use Rattle.std.proofs.lemmas.Int.{ints}
@@ -7,7 +8,8 @@ use Rattle.std.proofs.lemmas.Nat.{mod-mul-add}
 use Rattle.lane_kernels.specs.Formulas.{clip}
 
 -- as `simd_max` and `simd_min` choose
-pub chosen : (x low high : ℕ) → cond (ltb (cond (ltb x low) low x) high) (cond (ltb x low) low x) high ≡ min high (max low x)
+pub chosen : (x low high : ℕ)
+    → cond (ltb (cond (ltb x low) low x) high) (cond (ltb x low) low x) high ≡ min high (max low x)
 chosen x low high = grind (arith, nat_tests)
 
 -- clipped, a number lies in the range
@@ -16,15 +18,19 @@ clip_most low high (pos v) h = omega arith
 clip_most low high (negsuc v) h = h
 
 -- q is z raised by k, and so are the range's ends
-pub clip_raised : (low high k q : ℕ) (z : ℤ) → low ≤ high → z +ℤ pos k ≡ pos q → min (high + k) (max (low + k) q) - k ≡ clip low high z
+pub clip_raised : (low high k q : ℕ) (z : ℤ) → low ≤ high → z +ℤ pos k ≡ pos q
+    → min (high + k) (max (low + k) q) - k ≡ clip low high z
 clip_raised low high k q (pos v) h e = let is : v + k ≡ q = omega (arith, ints) in omega arith
-clip_raised low high k q (negsuc v) h e = let is : q + v + 1 ≡ k = omega (arith, ints) in omega arith
+clip_raised low high k q (negsuc v) h e = let is : q + v + 1 ≡ k =
+    omega (arith, ints) in omega arith
 
 -- the same by lanes, whose subtraction wraps at t
 abbrev pub lanes_clipped : ℕ → ℕ → ℕ → ℕ → ℕ → ℕ
-lanes_clipped t low high k q = (cond (ltb (cond (ltb q low) low q) high) (cond (ltb q low) low q) high + (t - k)) % t
+lanes_clipped t low high k q =
+    (cond (ltb (cond (ltb q low) low q) high) (cond (ltb q low) low q) high + (t - k)) % t
 
-pub clip_lanes : (t low high k q m : ℕ) (z : ℤ) → low ≤ high → high + k < t → q ≡ m → z +ℤ pos k ≡ pos m
+pub clip_lanes : (t low high k q m : ℕ) (z : ℤ) → low ≤ high → high + k < t → q ≡ m
+    → z +ℤ pos k ≡ pos m
     → lanes_clipped t (low + k) (high + k) k q ≡ clip low high z
 clip_lanes t low high k q m z h room same e =
     let x = min (high + k) (max (low + k) m) in

@@ -1,5 +1,7 @@
--- Division that rounds downwards, and the natural division that it is once a multiple of the divisor is added.
-use Rattle.std.proofs.Common.{◌≡◌, ℕ, suc, ◌+◌, ◌-◌, ◌*◌, ◌/◌, ◌%◌, ◌<◌, sym, ap, ◌∙◌, arith, inl, inr}
+-- Division that rounds downwards, and the natural division that it is once a multiple of the
+-- divisor is added.
+use Rattle.std.proofs.Common.{◌≡◌, ℕ, suc, ◌+◌, ◌-◌, ◌*◌, ◌/◌, ◌%◌, ◌<◌, sym, ap, ◌∙◌, arith, inl}
+use Rattle.std.proofs.Common.{inr}
 use Rattle.std.specs.Prelude.{ℤ, pos, negsuc, ◌+ℤ◌, ◌*ℤ◌}
 use Rattle.std.proofs.lemmas.Bool.{cases_lt}
 use Rattle.std.proofs.lemmas.Int.{ints}
@@ -14,11 +16,13 @@ times_sum : (a b d : ℕ) → (a + b) * d ≡ a * d + b * d
 times_sum a b d = omega arith
 
 -- z plus k divisors is the natural m
-pub floor_biased : (z : ℤ) (d k m : ℕ) → 0 < d → z +ℤ pos (k * d) ≡ pos m → floor z d +ℤ pos k ≡ pos (m / d)
+pub floor_biased : (z : ℤ) (d k m : ℕ) → 0 < d → z +ℤ pos (k * d) ≡ pos m
+    → floor z d +ℤ pos k ≡ pos (m / d)
 unfolding floor
 floor_biased (pos a) d k m some e =
     let r = a % d in
-    let is : m ≡ (a / d + k) * d + a % d = omega (arith, ints, div-add-mod' a d, times_sum (a / d) k d) in
+    let is : m ≡ (a / d + k) * d + a % d =
+    omega (arith, ints, div-add-mod' a d, times_sum (a / d) k d) in
     ap pos (sym (quotient_is m d (a / d + k) r (mod_below a d some) is))
 floor_biased (negsuc a) d k m some e =
     let e : m + suc a ≡ k * d = omega (arith, ints) in
@@ -30,7 +34,8 @@ floor_biased (negsuc a) d k m some e =
     ] in
     let j = k - suc (a / d) in
     let sum : k ≡ suc (a / d) + j = omega arith in
-    let is : m ≡ j * d + (d - 1 - a % d) = omega (arith, ap (λ x. x * d) sum, times_sum (suc (a / d)) j d, times_sum (a / d) 1 d) in
+    let is : m ≡ j * d + (d - 1 - a % d) =
+    omega (arith, ap (λ x. x * d) sum, times_sum (suc (a / d)) j d, times_sum (a / d) 1 d) in
     let q = quotient_is m d j (d - 1 - a % d) (omega arith) is in
     omega (arith, ints)
 
@@ -40,13 +45,16 @@ half m d some =
     let q = (m + d / 2) / d in
     let r = (m + d / 2) % d in
     let small = mod_below (m + d / 2) d some in
-    let is : 2 * m + d ≡ q * (2 * d) + (2 * r + d % 2) = omega (arith, div-add-mod' (m + d / 2) d, div-add-mod' d 2, times_twice q d) in
-    quotient_is (2 * m + d) (2 * d) q (2 * r + d % 2) (omega (arith, mod_below d 2 (omega arith))) is
+    let is : 2 * m + d ≡ q * (2 * d) + (2 * r + d % 2) =
+    omega (arith, div-add-mod' (m + d / 2) d, div-add-mod' d 2, times_twice q d) in
+    quotient_is (2 * m + d) (2 * d) q (2 * r + d % 2)
+    (omega (arith, mod_below d 2 (omega arith))) is
   where
     times_twice : (a b : ℕ) → a * (2 * b) ≡ 2 * (a * b)
     times_twice a b = omega arith
 
-pub nearest_biased : (z : ℤ) (d k m : ℕ) → 0 < d → z +ℤ pos (k * d) ≡ pos m → nearest z d +ℤ pos k ≡ pos ((m + d / 2) / d)
+pub nearest_biased : (z : ℤ) (d k m : ℕ) → 0 < d → z +ℤ pos (k * d) ≡ pos m
+    → nearest z d +ℤ pos k ≡ pos ((m + d / 2) / d)
 nearest_biased z d k m some e =
     let wide : k * (2 * d) ≡ 2 * (k * d) = omega arith in
     floor_biased (pos 2 *ℤ z +ℤ pos d) (2 * d) k (2 * m + d) (omega arith) (omega (arith, ints))
@@ -54,7 +62,8 @@ nearest_biased z d k m some e =
 
 -- where there is nothing below 0, no bias
 pub nearest_natural : (m d : ℕ) → 0 < d → nearest (pos m) d ≡ pos ((m + d / 2) / d)
-nearest_natural m d some = let e = nearest_biased (pos m) d 0 m some (omega (arith, ints)) in omega (arith, ints)
+nearest_natural m d some = let e =
+    nearest_biased (pos m) d 0 m some (omega (arith, ints)) in omega (arith, ints)
 
 -- a floor in words of a product
 pub floor_is : (z : ℤ) (d : ℕ) → 0 < d → IsFloor z d (floor z d)

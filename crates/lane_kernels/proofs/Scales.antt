@@ -5,7 +5,8 @@ use Rattle.std.proofs.Math.Nat.{pow-le-pow_right}
 use Rattle.lane_kernels.specs.Formulas.{centre, scale}
 
 pub centre_is : (n : ℕ) → 8 ≤ n → centre n ≡ 128 * scale n
-centre_is n h = let is : n - 1 ≡ 7 + (n - 8) = omega arith in ap (λ k. 2 ^ k) is ∙ pow-add 2 7 (n - 8)
+centre_is n h = let is : n - 1 ≡ 7 + (n - 8) =
+    omega arith in ap (λ k. 2 ^ k) is ∙ pow-add 2 7 (n - 8)
 
 pub whole_is : (n : ℕ) → 8 ≤ n → 2 ^ n ≡ 256 * scale n
 whole_is n h = let is : n ≡ 8 + (n - 8) = omega arith in ap (λ k. 2 ^ k) is ∙ pow-add 2 8 (n - 8)

@@ -1,6 +1,8 @@
--- The formulas of the processor over whole numbers, n bits to a sample (ITU-R BT.709, and own forms).
--- A fraction that is rounded stands as its numerator, a whole number of either sign, and its divisor.
-use Rattle.std.specs.Prelude.{◌≡◌, ◌<◌, ℕ, ◌+◌, ◌-◌, ◌*◌, ◌/◌, ◌^◌, min, max, if◌then◌else◌, nat_lt, nat_le, ℤ, pos, negsuc, ◌+ℤ◌, ◌-ℤ◌, ◌*ℤ◌}
+-- The formulas of the processor over whole numbers, n bits to a sample (ITU-R BT.709, and own
+-- forms). A fraction that is rounded stands as its numerator, a whole number of either sign, and
+-- its divisor.
+use Rattle.std.specs.Prelude.{◌≡◌, ◌<◌, ℕ, ◌+◌, ◌-◌, ◌*◌, ◌/◌, ◌^◌, min, max, if◌then◌else◌, nat_lt}
+use Rattle.std.specs.Prelude.{nat_le, ℤ, pos, negsuc, ◌+ℤ◌, ◌-ℤ◌, ◌*ℤ◌}
 
 -- ---- rounding
 
@@ -49,10 +51,12 @@ abbrev pub luma : ℕ → ℕ → ℕ → ℤ
 luma r g b = nearest (pos (1063 * r + 3576 * g + 361 * b)) 5000
 
 abbrev pub cb : ℕ → ℕ → ℕ → ℕ → ℤ
-cb n r g b = nearest (pos 112 *ℤ (pos (4639 * b) -ℤ pos (1063 * r + 3576 * g))) 1015941 +ℤ pos (centre n)
+cb n r g b =
+    nearest (pos 112 *ℤ (pos (4639 * b) -ℤ pos (1063 * r + 3576 * g))) 1015941 +ℤ pos (centre n)
 
 abbrev pub cr : ℕ → ℕ → ℕ → ℕ → ℤ
-cr n r g b = nearest (pos 112 *ℤ (pos (3937 * r) -ℤ pos (3576 * g + 361 * b))) 862203 +ℤ pos (centre n)
+cr n r g b =
+    nearest (pos 112 *ℤ (pos (3937 * r) -ℤ pos (3576 * g + 361 * b))) 862203 +ℤ pos (centre n)
 
 -- ---- gain, wipe and key
 

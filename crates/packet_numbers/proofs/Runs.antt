@@ -1,11 +1,16 @@
 -- The maximal runs of places that were not noted.
-use Rattle.std.proofs.Common.{◌≡◌, ℕ, zero, suc, ◌+◌, ◌-◌, ◌%◌, ◌^◌, ◌<◌, ◌≤◌, Bool, true, false, List, [], ◌∷◌, ◌++◌, length, map, get_or, drop, refl, sym, ap, ◌∙◌, subst, inl, inr, arith}
+use Rattle.std.proofs.Common.{◌≡◌, ℕ, zero, suc, ◌+◌, ◌-◌, ◌%◌, ◌^◌, ◌<◌, ◌≤◌, Bool, true, false}
+use Rattle.std.proofs.Common.{List, [], ◌∷◌, ◌++◌, length, map, get_or, drop, refl, sym, ap, ◌∙◌}
+use Rattle.std.proofs.Common.{subst, inl, inr, arith}
 use Rattle.std.proofs.lemmas.Bool.{lt-ltb, le-ltb, cases_lt, cases_eq, false≢true}
 use Rattle.std.proofs.lemmas.List.{drop_more, drop_all, length-drop, append-nil}
 use Rattle.std.specs.List.Sorted.{IsStrictlyIncreasing}
 use Rattle.st_format.specs.Member.{IsMember}
-use Rattle.st_format.proofs.Members.{member_left, member_right, member_cases, member-map, member_of_map}
-use Rattle.packet_numbers.specs.Numbers.{Numbers, count_of, IsNumbers, place_of, IsNoted, IsMissingRun, AreMissingRuns, closed, runs_from, numbered, missing_runs_of}
+use Rattle.st_format.proofs.Members.{member_left, member_right, member_cases, member-map}
+use Rattle.st_format.proofs.Members.{member_of_map}
+use Rattle.packet_numbers.specs.Numbers.{Numbers, count_of, IsNumbers, place_of, IsNoted}
+use Rattle.packet_numbers.specs.Numbers.{IsMissingRun, AreMissingRuns, closed, runs_from, numbered}
+use Rattle.packet_numbers.specs.Numbers.{missing_runs_of}
 
 -- ---- the walk
 
@@ -15,15 +20,24 @@ closed_some start end lt = rw (lt-ltb start end lt) refl
 pub closed_none : (start end : ℕ) → end ≤ start → closed start end ≡ []
 closed_none start end le = rw (le-ltb start end le) refl
 
-pub runs_closed : (flags : List Bool) (start place : ℕ) → place < length flags → get_or flags place false ≡ true
-    → runs_from start place (drop place flags) ≡ closed start place ++ runs_from (place + 1) (place + 1) (drop (place + 1) flags)
-runs_closed flags start place lt e = ap (runs_from start place) (drop_more flags place false lt) ∙ ap (λ (b : Bool). runs_from start place (b ∷ drop (place + 1) flags)) e
+pub runs_closed : (flags : List Bool) (start place : ℕ) → place < length flags
+    → get_or flags place false ≡ true
+    → runs_from start place (drop place flags)
+    ≡ closed start place ++ runs_from (place + 1) (place + 1) (drop (place + 1) flags)
+runs_closed flags start place lt e =
+    ap (runs_from start place) (drop_more flags place false lt)
+    ∙ ap (λ (b : Bool). runs_from start place (b ∷ drop (place + 1) flags)) e
 
-pub runs_on : (flags : List Bool) (start place : ℕ) → place < length flags → get_or flags place false ≡ false
-    → runs_from start place (drop place flags) ≡ runs_from start (place + 1) (drop (place + 1) flags)
-runs_on flags start place lt e = ap (runs_from start place) (drop_more flags place false lt) ∙ ap (λ (b : Bool). runs_from start place (b ∷ drop (place + 1) flags)) e
+pub runs_on : (flags : List Bool) (start place : ℕ) → place < length flags
+    → get_or flags place false ≡ false
+    → runs_from start place (drop place flags)
+    ≡ runs_from start (place + 1) (drop (place + 1) flags)
+runs_on flags start place lt e =
+    ap (runs_from start place) (drop_more flags place false lt)
+    ∙ ap (λ (b : Bool). runs_from start place (b ∷ drop (place + 1) flags)) e
 
-pub runs_end : (flags : List Bool) (start place : ℕ) → length flags ≤ place → runs_from start place (drop place flags) ≡ closed start place
+pub runs_end : (flags : List Bool) (start place : ℕ) → length flags ≤ place
+    → runs_from start place (drop place flags) ≡ closed start place
 runs_end flags start place le = ap (runs_from start place) (drop_all place flags le)
 
 -- ---- which runs it tells
@@ -39,7 +53,8 @@ pub record IsOpen (m : Numbers) (start place : ℕ) : Type 0 where
 abbrev IsOver : Numbers → ℕ → Type 0
 IsOver m place = place < count_of m → IsNoted m place
 
-closed_run : (m : Numbers) (start place : ℕ) → IsOpen m start place → IsOver m place → start < place → IsMissingRun m start (place - start)
+closed_run : (m : Numbers) (start place : ℕ) → IsOpen m start place → IsOver m place
+    → start < place → IsMissingRun m start (place - start)
 closed_run m start place o over lt =
     let e : start + (place - start) ≡ place = omega arith in
     let within : place ≤ count_of m = o.within in
@@ -51,19 +66,26 @@ closed_run m start place o over lt =
       behind = λ more. rw e (over (omega arith));
     }
 
-pub closed_found : (m : Numbers) (start place : ℕ) → IsOpen m start place → IsOver m place → (s len : ℕ) → IsMember (s, len) (closed start place) → IsMissingRun m s len × (start ≤ s)
+pub closed_found : (m : Numbers) (start place : ℕ) → IsOpen m start place → IsOver m place
+    → (s len : ℕ) → IsMember (s, len) (closed start place) → IsMissingRun m s len × (start ≤ s)
 closed_found m start place o over s len h = elim (cases_lt start place) [
   | inl lt ↦
       elim (subst (λ (xs : List (ℕ × ℕ)). IsMember (s, len) xs) (closed_some start place lt) h) [
-        | inl e ↦
-            (subst (λ (r : ℕ × ℕ). IsMissingRun m r.0 r.1) (sym e) (closed_run m start place o over lt), subst (λ (r : ℕ × ℕ). start ≤ r.0) (sym e) (omega arith))
+        | inl e ↦ (
+          subst (λ (r : ℕ × ℕ). IsMissingRun m r.0 r.1) (sym e)
+              (closed_run m start place o over lt),
+          subst (λ (r : ℕ × ℕ). start ≤ r.0) (sym e) (omega arith),
+        )
         | inr none ↦ absurd none
       ]
-  | inr le ↦ absurd (subst (λ (xs : List (ℕ × ℕ)). IsMember (s, len) xs) (closed_none start place le) h)
+  | inr le ↦ absurd
+      (subst (λ (xs : List (ℕ × ℕ)). IsMember (s, len) xs) (closed_none start place le) h)
 ]
 
 -- a run from start on whose first place is below place is the one that is closed there
-pub closed_all : (m : Numbers) (start place : ℕ) → IsOpen m start place → IsOver m place → (s len : ℕ) → IsMissingRun m s len → start ≤ s → s < place → IsMember (s, len) (closed start place)
+pub closed_all : (m : Numbers) (start place : ℕ) → IsOpen m start place → IsOver m place
+    → (s len : ℕ) → IsMissingRun m s len → start ≤ s → s < place
+    → IsMember (s, len) (closed start place)
 closed_all m start place o over s len run from below =
     let w1 : s + len ≤ count_of m = run.within in
     let w2 : 0 < len = run.some in
@@ -91,17 +113,21 @@ record IsHead (all : List Bool) (place : ℕ) (b : Bool) (flags : List Bool) : T
   is : get_or all place false ≡ b
   rest : flags ≡ drop (place + 1) all
 
-head_of : (all : List Bool) (place : ℕ) (b : Bool) (flags : List Bool) → (b ∷ flags) ≡ drop place all → IsHead all place b flags
+head_of : (all : List Bool) (place : ℕ) (b : Bool) (flags : List Bool)
+    → (b ∷ flags) ≡ drop place all → IsHead all place b flags
 head_of all place b flags e =
     let n : suc (length flags) ≡ length all - place = ap length e ∙ length-drop place all in
     let lt : place < length all = omega arith in
-    let both : (b ∷ flags) ≡ get_or all place false ∷ drop (place + 1) all = e ∙ drop_more all place false lt in
+    let both : (b ∷ flags) ≡ get_or all place false ∷ drop (place + 1) all =
+    e ∙ drop_more all place false lt in
     record { within = lt; is = cc; rest = cc }
 
 none_left : (all : List Bool) (place : ℕ) → [] ≡ drop place all → length all ≤ place
-none_left all place e = let n : 0 ≡ length all - place = ap length e ∙ length-drop place all in omega arith
+none_left all place e = let n : 0 ≡ length all - place =
+    ap length e ∙ length-drop place all in omega arith
 
-open_on : (m : Numbers) (start place : ℕ) → IsOpen m start place → place < count_of m → get_or m.noted place false ≡ false → IsOpen m start (place + 1)
+open_on : (m : Numbers) (start place : ℕ) → IsOpen m start place → place < count_of m
+    → get_or m.noted place false ≡ false → IsOpen m start (place + 1)
 open_on m start place o lt clear =
     let le : start ≤ place = o.order in
     record {
@@ -114,7 +140,8 @@ open_on m start place o lt clear =
       before = o.before;
     }
 
-open_anew : (m : Numbers) (place : ℕ) → place < count_of m → IsNoted m place → IsOpen m (place + 1) (place + 1)
+open_anew : (m : Numbers) (place : ℕ) → place < count_of m → IsNoted m place
+    → IsOpen m (place + 1) (place + 1)
 open_anew m place lt came = record {
   order = omega arith;
   within = omega arith;
@@ -122,8 +149,10 @@ open_anew m place lt came = record {
   before = λ some. (let e : place + 1 - 1 ≡ place = omega arith in rw e came);
 }
 
-pub runs_found : (m : Numbers) (start place : ℕ) (flags : List Bool) → flags ≡ drop place m.noted → IsOpen m start place
-    → (s len : ℕ) → IsMember (s, len) (runs_from start place flags) → IsMissingRun m s len × (start ≤ s)
+pub runs_found : (m : Numbers) (start place : ℕ) (flags : List Bool) → flags ≡ drop place m.noted
+    → IsOpen m start place
+    → (s len : ℕ) → IsMember (s, len) (runs_from start place flags)
+    → IsMissingRun m s len × (start ≤ s)
 runs_found m start place [] e o s len h =
     let end : count_of m ≤ place = none_left m.noted place e in
     closed_found m start place o (λ lt. absurd (omega arith)) s len h
@@ -132,14 +161,18 @@ runs_found m start place (true ∷ flags) e o s len h =
     let le : start ≤ place = o.order in
     elim (member_cases (s, len) (closed start place) (runs_from (place + 1) (place + 1) flags) h) [
       | inl a ↦ closed_found m start place o (λ lt. hd.is) s len a
-      | inr b ↦ let r : IsMissingRun m s len × (place + 1 ≤ s) = runs_found m (place + 1) (place + 1) flags hd.rest (open_anew m place hd.within hd.is) s len b in (r.0, omega (arith, r.1))
+      | inr b ↦ let r : IsMissingRun m s len × (place + 1 ≤ s) =
+          runs_found m (place + 1) (place + 1) flags hd.rest
+          (open_anew m place hd.within hd.is) s len b in (r.0, omega (arith, r.1))
     ]
 runs_found m start place (false ∷ flags) e o s len h =
     let hd = head_of m.noted place false flags e in
     runs_found m start (place + 1) flags hd.rest (open_on m start place o hd.within hd.is) s len h
 
-pub runs_all : (m : Numbers) (start place : ℕ) (flags : List Bool) → flags ≡ drop place m.noted → IsOpen m start place
-    → (s len : ℕ) → IsMissingRun m s len → start ≤ s → IsMember (s, len) (runs_from start place flags)
+pub runs_all : (m : Numbers) (start place : ℕ) (flags : List Bool) → flags ≡ drop place m.noted
+    → IsOpen m start place
+    → (s len : ℕ) → IsMissingRun m s len → start ≤ s
+    → IsMember (s, len) (runs_from start place flags)
 runs_all m start place [] e o s len run from =
     let end : count_of m ≤ place = none_left m.noted place e in
     let w1 : s + len ≤ count_of m = run.within in
@@ -149,16 +182,21 @@ runs_all m start place (true ∷ flags) e o s len run from =
     let hd = head_of m.noted place true flags e in
     let w2 : 0 < len = run.some in
     elim (cases_lt s place) [
-      | inl lt ↦ member_left (s, len) (closed start place) (runs_from (place + 1) (place + 1) flags) (closed_all m start place o (λ lt. hd.is) s len run from lt)
+      | inl lt ↦ member_left (s, len) (closed start place)
+          (runs_from (place + 1) (place + 1) flags)
+          (closed_all m start place o (λ lt. hd.is) s len run from lt)
       | inr ge ↦ elim (cases_eq s place) [
         | inl here ↦ absurd (run.missing place (omega arith) (omega arith) hd.is)
-        | inr there ↦ member_right (s, len) (closed start place) (runs_from (place + 1) (place + 1) flags)
-            (runs_all m (place + 1) (place + 1) flags hd.rest (open_anew m place hd.within hd.is) s len run (omega arith))
+        | inr there ↦ member_right (s, len) (closed start place)
+            (runs_from (place + 1) (place + 1) flags)
+            (runs_all m (place + 1) (place + 1) flags hd.rest
+            (open_anew m place hd.within hd.is) s len run (omega arith))
       ]
     ]
 runs_all m start place (false ∷ flags) e o s len run from =
     let hd = head_of m.noted place false flags e in
-    runs_all m start (place + 1) flags hd.rest (open_on m start place o hd.within hd.is) s len run from
+    runs_all m start (place + 1) flags hd.rest
+    (open_on m start place o hd.within hd.is) s len run from
 
 -- ---- in rising order
 
@@ -171,9 +209,11 @@ rises_from : (n p : ℕ) (xs : List ℕ) → p ≤ n → Rises n xs → Rises p 
 rises_from n p [] le h = tt
 rises_from n p (x ∷ xs) le h = (omega (arith, h.0), h.1)
 
-rising_step : (x y : ℕ) (xs : List ℕ) → x < y → IsStrictlyIncreasing (y ∷ xs) → IsStrictlyIncreasing (x ∷ y ∷ xs)
+rising_step : (x y : ℕ) (xs : List ℕ) → x < y → IsStrictlyIncreasing (y ∷ xs)
+    → IsStrictlyIncreasing (x ∷ y ∷ xs)
 rising_step x y xs lt rest zero below = lt
-rising_step x y xs lt rest (suc k) below = let e : suc k + 1 ≡ suc (k + 1) = omega arith in rw e (rest k (omega arith))
+rising_step x y xs lt rest (suc k) below = let e : suc k + 1 ≡ suc (k + 1) =
+    omega arith in rw e (rest k (omega arith))
 
 rising : (n : ℕ) (xs : List ℕ) → Rises n xs → IsStrictlyIncreasing xs
 rising n [] h = λ k lt. absurd (omega arith)
@@ -183,59 +223,104 @@ rising n (x ∷ y ∷ xs) h = rising_step x y xs (omega (arith, h.1.0)) (rising 
 abbrev firsts : List (ℕ × ℕ) → List ℕ
 firsts rs = map (λ (r : ℕ × ℕ). r.0) rs
 
-closed_rises : (start place : ℕ) (rs : List (ℕ × ℕ)) → start ≤ place → Rises place (firsts rs) → Rises start (firsts (closed start place ++ rs))
+closed_rises : (start place : ℕ) (rs : List (ℕ × ℕ)) → start ≤ place → Rises place (firsts rs)
+    → Rises start (firsts (closed start place ++ rs))
 closed_rises start place rs le h = elim (cases_lt start place) [
-  | inl lt ↦ rw (closed_some start place lt) (omega arith, rises_from place (start + 1) (firsts rs) (omega arith) h)
+  | inl lt ↦ rw (closed_some start place lt)
+      (omega arith, rises_from place (start + 1) (firsts rs) (omega arith) h)
   | inr ge ↦ rw (closed_none start place ge) (rises_from place start (firsts rs) le h)
 ]
 
-starts_rise : (start place : ℕ) (flags : List Bool) → start ≤ place → Rises start (firsts (runs_from start place flags))
-starts_rise start place [] le = subst (λ (rs : List (ℕ × ℕ)). Rises start (firsts rs)) (append-nil (closed start place)) (closed_rises start place [] le tt)
-starts_rise start place (true ∷ flags) le = closed_rises start place (runs_from (place + 1) (place + 1) flags) le (rises_from (place + 1) place (firsts (runs_from (place + 1) (place + 1) flags)) (omega arith) (starts_rise (place + 1) (place + 1) flags (omega arith)))
+starts_rise : (start place : ℕ) (flags : List Bool) → start ≤ place
+    → Rises start (firsts (runs_from start place flags))
+starts_rise start place [] le =
+    subst (λ (rs : List (ℕ × ℕ)). Rises start (firsts rs)) (append-nil (closed start place))
+    (closed_rises start place [] le tt)
+starts_rise start place (true ∷ flags) le =
+    closed_rises start place (runs_from (place + 1) (place + 1) flags) le
+    (rises_from (place + 1) place (firsts (runs_from (place + 1) (place + 1) flags)) (omega arith)
+    (starts_rise (place + 1) (place + 1) flags (omega arith)))
 starts_rise start place (false ∷ flags) le = starts_rise start (place + 1) flags (omega arith)
 
 -- ---- by packet numbers
 
-place_of_numbered : (m : Numbers) (r : ℕ × ℕ) → m.first < 2 ^ 32 → r.0 < 2 ^ 32 → place_of m (numbered m.first r).0 ≡ r.0
+place_of_numbered : (m : Numbers) (r : ℕ × ℕ) → m.first < 2 ^ 32 → r.0 < 2 ^ 32
+    → place_of m (numbered m.first r).0 ≡ r.0
 place_of_numbered m r small below = omega arith
 
-number_of_place : (m : Numbers) (number : ℕ) → m.first < 2 ^ 32 → number < 2 ^ 32 → (m.first + place_of m number) % 2 ^ 32 ≡ number
+number_of_place : (m : Numbers) (number : ℕ) → m.first < 2 ^ 32 → number < 2 ^ 32
+    → (m.first + place_of m number) % 2 ^ 32 ≡ number
 number_of_place m number small below = omega arith
 
-places_again : (m : Numbers) (rs : List (ℕ × ℕ)) → m.first < 2 ^ 32 → ((s len : ℕ) → IsMember (s, len) rs → s < 2 ^ 32)
+places_again : (m : Numbers) (rs : List (ℕ × ℕ)) → m.first < 2 ^ 32
+    → ((s len : ℕ) → IsMember (s, len) rs → s < 2 ^ 32)
     → map (λ (run : ℕ × ℕ). place_of m run.0) (map (numbered m.first) rs) ≡ firsts rs
 places_again m [] small each = refl
 places_again m ((s, len) ∷ rs) small each =
-    ap (λ (x : ℕ). x ∷ map (λ (run : ℕ × ℕ). place_of m run.0) (map (numbered m.first) rs)) (place_of_numbered m (s, len) small (each s len (inl refl)))
+    ap (λ (x : ℕ). x ∷ map (λ (run : ℕ × ℕ). place_of m run.0) (map (numbered m.first) rs))
+    (place_of_numbered m (s, len) small (each s len (inl refl)))
     ∙ ap (λ (xs : List ℕ). s ∷ xs) (places_again m rs small (λ t n h. each t n (inr h)))
 
-numbered_found : (m : Numbers) (rs : List (ℕ × ℕ)) → m.first < 2 ^ 32 → ((s len : ℕ) → IsMember (s, len) rs → IsMissingRun m s len) → ((s len : ℕ) → IsMember (s, len) rs → s < 2 ^ 32)
-    → (number len : ℕ) → IsMember (number, len) (map (numbered m.first) rs) → (number < 2 ^ 32) × IsMissingRun m (place_of m number) len
+numbered_found : (m : Numbers) (rs : List (ℕ × ℕ)) → m.first < 2 ^ 32
+    → ((s len : ℕ) → IsMember (s, len) rs → IsMissingRun m s len)
+    → ((s len : ℕ) → IsMember (s, len) rs → s < 2 ^ 32)
+    → (number len : ℕ) → IsMember (number, len) (map (numbered m.first) rs)
+    → (number < 2 ^ 32) × IsMissingRun m (place_of m number) len
 numbered_found m rs small found below number len h =
-    let r : (x : ℕ × ℕ) × IsMember x rs × ((number, len) ≡ numbered m.first x) = member-map (numbered m.first) (number, len) rs h in
+    let r : (x : ℕ × ℕ) × IsMember x rs × ((number, len) ≡ numbered m.first x) =
+    member-map (numbered m.first) (number, len) rs h in
     let s : ℕ = r.0.0 in
     let is_number : number ≡ (m.first + s) % 2 ^ 32 = ap (λ (x : ℕ × ℕ). x.0) r.2 in
     let is_len : len ≡ r.0.1 = ap (λ (x : ℕ × ℕ). x.1) r.2 in
-    let place : place_of m number ≡ s = ap (place_of m) is_number ∙ place_of_numbered m r.0 small (below s r.0.1 r.1) in
-    (omega arith, subst (λ (x : ℕ). IsMissingRun m x len) (sym place) (subst (λ (x : ℕ). IsMissingRun m s x) (sym is_len) (found s r.0.1 r.1)))
+    let place : place_of m number ≡ s =
+    ap (place_of m) is_number ∙ place_of_numbered m r.0 small (below s r.0.1 r.1) in (
+      omega arith,
+      subst (λ (x : ℕ). IsMissingRun m x len) (sym place)
+          (subst (λ (x : ℕ). IsMissingRun m s x) (sym is_len) (found s r.0.1 r.1)),
+    )
 
-numbered_all : (m : Numbers) (rs : List (ℕ × ℕ)) → m.first < 2 ^ 32 → (number len : ℕ) → number < 2 ^ 32 → IsMember (place_of m number, len) rs → IsMember (number, len) (map (numbered m.first) rs)
+numbered_all : (m : Numbers) (rs : List (ℕ × ℕ)) → m.first < 2 ^ 32 → (number len : ℕ)
+    → number < 2 ^ 32 → IsMember (place_of m number, len) rs
+    → IsMember (number, len) (map (numbered m.first) rs)
 numbered_all m rs small number len below h =
-    subst (λ (x : ℕ). IsMember (x, len) (map (numbered m.first) rs)) (number_of_place m number small below) (member_of_map (numbered m.first) (place_of m number, len) rs h)
+    subst (λ (x : ℕ). IsMember (x, len) (map (numbered m.first) rs))
+    (number_of_place m number small below)
+    (member_of_map (numbered m.first) (place_of m number, len) rs h)
 
 pub are_missing_runs : (m : Numbers) → IsNumbers m → AreMissingRuns m (missing_runs_of m)
 are_missing_runs m is =
     let rs : List (ℕ × ℕ) = runs_from 0 0 m.noted in
-    let o : IsOpen m 0 0 = record { order = omega arith; within = omega arith; missing = λ k from to noted. omega arith; before = λ some. absurd (omega arith) } in
+    let o : IsOpen m 0 0 =
+    record {
+      order = omega arith;
+      within = omega arith;
+      missing =
+          λ k from to noted. omega arith;
+      before = λ some. absurd (omega arith);
+    } in
     let small : m.first < 2 ^ 32 = is.first in
     let count : count_of m ≤ 1048576 = is.count.most in
-    let found : (s len : ℕ) → IsMember (s, len) rs → IsMissingRun m s len = λ s len h. (runs_found m 0 0 m.noted refl o s len h).0 in
-    let below : (s len : ℕ) → IsMember (s, len) rs → s < 2 ^ 32 = λ s len h. (let w = (found s len h).within in let x = (found s len h).some in omega (arith, w, x, count)) in
+    let found : (s len : ℕ) → IsMember (s, len) rs
+    → IsMissingRun m s len = λ s len h. (runs_found m 0 0 m.noted refl o s len h).0 in
+    let below : (s len : ℕ) → IsMember (s, len) rs
+    → s < 2 ^ 32 =
+    λ s len h.
+    (let w = (found s len h).within in let x =
+    (found s len h).some in omega (arith, w, x, count)) in
     record {
-      each = λ number len. (numbered_found m rs small found below number len, λ h. numbered_all m rs small number len h.0 (runs_all m 0 0 m.noted refl o (place_of m number) len h.1 (omega arith)));
-      order = subst IsStrictlyIncreasing (sym (places_again m rs small below)) (rising 0 (firsts rs) (starts_rise 0 0 m.noted (omega arith)));
+      each =
+          λ number len. (
+            numbered_found m rs small found below number len,
+            λ h. numbered_all m rs small number len h.0
+                (runs_all m 0 0 m.noted refl o (place_of m number) len h.1 (omega arith)),
+          );
+      order =
+          subst IsStrictlyIncreasing (sym (places_again m rs small below))
+          (rising 0 (firsts rs) (starts_rise 0 0 m.noted (omega arith)));
     }
 
-pub are_runs : (m view : Numbers) (runs : List (ℕ × ℕ)) → m ≡ view → IsNumbers m → runs ≡ missing_runs_of m → AreMissingRuns view runs
+pub are_runs : (m view : Numbers) (runs : List (ℕ × ℕ)) → m ≡ view → IsNumbers m
+    → runs ≡ missing_runs_of m → AreMissingRuns view runs
 are_runs m view runs is_view is e =
-    subst (λ (n : Numbers). AreMissingRuns n runs) is_view (subst (λ (rs : List (ℕ × ℕ)). AreMissingRuns m rs) (sym e) (are_missing_runs m is))
+    subst (λ (n : Numbers). AreMissingRuns n runs) is_view
+    (subst (λ (rs : List (ℕ × ℕ)). AreMissingRuns m rs) (sym e) (are_missing_runs m is))

@@ -52,8 +52,8 @@ pub record AreAlike (m n : Numbers) : Type 0 where
 abbrev pub union : Numbers → Numbers → Numbers
 union m n = record { first = m.first; noted = union_of_flags m.noted n.noted }
 
--- A maximal run of places that were not noted: none of its places was, and those before and behind it
--- were, where there are such places.
+-- A maximal run of places that were not noted: none of its places was, and those before and behind
+-- it were, where there are such places.
 pub record IsMissingRun (m : Numbers) (start len : ℕ) : Type 0 where
   pub some : 0 < len
   pub within : start + len ≤ count_of m
@@ -61,14 +61,15 @@ pub record IsMissingRun (m : Numbers) (start len : ℕ) : Type 0 where
   pub before : 0 < start → IsNoted m (start - 1)
   pub behind : start + len < count_of m → IsNoted m (start + len)
 
--- The runs, each by its first packet number and its length, are the maximal runs, no other and each once,
--- from the first number on.
+-- The runs, each by its first packet number and its length, are the maximal runs, no other and each
+-- once, from the first number on.
 pub record AreMissingRuns (m : Numbers) (runs : List (ℕ × ℕ)) : Type 0 where
-  pub each : (number len : ℕ) → IsMember (number, len) runs ↔ ((number < 2 ^ 32) × IsMissingRun m (place_of m number) len)
+  pub each : (number len : ℕ)
+      → IsMember (number, len) runs ↔ ((number < 2 ^ 32) × IsMissingRun m (place_of m number) len)
   pub order : IsStrictlyIncreasing (map (λ run. place_of m run.0) runs)
 
--- The same list place by place, of flags from a place on: no place from start up to there was noted. Runs are
--- told by their first place.
+-- The same list place by place, of flags from a place on: no place from start up to there was
+-- noted. Runs are told by their first place.
 abbrev pub closed : ℕ → ℕ → List (ℕ × ℕ)
 closed start end = if nat_lt start end then (start, end - start) ∷ [] else []
 

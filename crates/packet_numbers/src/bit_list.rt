@@ -1,5 +1,6 @@
 //! A list of flags, kept as bits.
-ghost use Rattle.std.specs.Prelude.{◌≡◌, ◌<◌, ◌≤◌, ◌+◌, ◌*◌, ◌/◌, ◌==◌, ◌||◌, ℕ, IfOk, true, false, length, get_or, replicate, set};
+ghost use Rattle.std.specs.Prelude.{◌≡◌, ◌<◌, ◌≤◌, ◌+◌, ◌*◌, ◌/◌, ◌==◌, ◌||◌, ℕ, IfOk, true, false};
+ghost use Rattle.std.specs.Prelude.{length, get_or, replicate, set};
 ghost use Rattle.packet_numbers.specs.BitList.{flag_at, union_of_flags};
 
 use std::alloc::{AllocError, Allocator, Global};
@@ -86,7 +87,8 @@ fn set_flag(words: &mut [u64], place: usize)
 /// Sets each flag that is set in the other words, a word at a time.
 fn or_words(words: &mut [u64], others: &[u64])
     requires { length words.old ≡ length others.now }
-    ensures { (k : ℕ) → k < 64 * length words.old → flag_at words.new k ≡ (flag_at words.old k || flag_at others.now k) }
+    ensures { (k : ℕ) → k < 64 * length words.old
+        → flag_at words.new k ≡ (flag_at words.old k || flag_at others.now k) }
 {
     for (i, other) in others.iter().enumerate() {
         words[i] |= *other;

@@ -1,5 +1,5 @@
-//! Which packet numbers came, of a run of numbers modulo 2^32 (RFC 4175, 4.1): a map with a bit for each,
-//! and its maximal missing runs.
+//! Which packet numbers came, of a run of numbers modulo 2^32 (RFC 4175, 4.1): a map with a bit for
+//! each, and its maximal missing runs.
 #![tactic(auto)]
 
 mod bit_list;

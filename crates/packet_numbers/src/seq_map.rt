@@ -1,6 +1,9 @@
 //! Which packet numbers came.
-ghost use Rattle.std.specs.Prelude.{◌≡◌, ◌↔◌, ◌⊎◌, ◌<◌, ◌≤◌, ◌^◌, ◌++◌, ℕ, IfOk, IsErr, IsErrOf, OnErr, OnOk, length, map, replicate, false};
-ghost use Rattle.packet_numbers.specs.Numbers.{AreAlike, AreMissingRuns, IsCount, IsNoted, IsNumbers, closed, count_of, missing_runs_of, numbered, place_of, runs_from, union, with_place};
+ghost use Rattle.std.specs.Prelude.{◌≡◌, ◌↔◌, ◌⊎◌, ◌<◌, ◌≤◌, ◌^◌, ◌++◌, ℕ, IfOk, IsErr, IsErrOf};
+ghost use Rattle.std.specs.Prelude.{OnErr, OnOk, length, map, replicate, false};
+ghost use Rattle.packet_numbers.specs.Numbers.{AreAlike, AreMissingRuns, IsCount, IsNoted};
+ghost use Rattle.packet_numbers.specs.Numbers.{IsNumbers, closed, count_of, missing_runs_of};
+ghost use Rattle.packet_numbers.specs.Numbers.{numbered, place_of, runs_from, union, with_place};
 ghost use Rattle.packet_numbers.specs.declared.seq_map.SeqMapFault.TheVariants.{NoMemory};
 
 use crate::bit_list::BitList;
@@ -86,11 +89,12 @@ impl<A: Allocator> Model for SeqMap<A> {
 impl<A: Allocator> SeqMap<A> {
     /// A map of `count` packet numbers from `first` on, none of which is noted.
     ///
-    /// `BadCount` comes where the count is 0 or above [`MAX_COUNT`], and else `NoMemory` only where the
-    /// allocator refused the memory.
+    /// `BadCount` comes where the count is 0 or above [`MAX_COUNT`], and else `NoMemory` only where
+    /// the allocator refused the memory.
     pub fn open(alloc: A, first: u32, count: u32) -> Result<SeqMap<A>, SeqMapFault>
         ensures count { IsErrOf result SeqMapFault.BadCount ↔ (IsCount count → ⊥) }
-        ensures opened { IfOk result (λ m. m ≡ record { first = first; noted = replicate count false }) }
+        ensures opened { IfOk result
+            (λ m. m ≡ record { first = first; noted = replicate count false }) }
         ensures numbers { IfOk result (λ m. IsNumbers m) }
     {
         if count == 0 || count > MAX_COUNT {
@@ -121,11 +125,16 @@ impl<A: Allocator> SeqMap<A> {
         // Which answer.
         ensures beyond { (result ≡ Noted.Beyond) ↔ (count_of self.old ≤ place_of self.old number) }
         ensures again { (result ≡ Noted.Again) ↔ IsNoted self.old (place_of self.old number) }
-        ensures fresh { (result ≡ Noted.New) ↔ ((place_of self.old number < count_of self.old) × (IsNoted self.old (place_of self.old number) → ⊥)) }
+        ensures fresh { (result ≡ Noted.New)
+            ↔ ((place_of self.old number < count_of self.old)
+            × (IsNoted self.old (place_of self.old number) → ⊥)) }
 
         // What is noted afterwards: its place too, where that is below the count.
         ensures value { self.new ≡ with_place self.old (place_of self.old number) }
-        ensures places { (place : ℕ) → IsNoted self.new place ↔ (IsNoted self.old place ⊎ ((place ≡ place_of self.old number) × (place < count_of self.old))) }
+        ensures places { (place : ℕ)
+            → IsNoted self.new place
+            ↔ (IsNoted self.old place
+            ⊎ ((place ≡ place_of self.old number) × (place < count_of self.old))) }
         ensures unchanged { result ≡ Noted.Beyond → self.new ≡ self.old }
         ensures numbers { IsNumbers self.new }
     {
@@ -147,7 +156,9 @@ impl<A: Allocator> SeqMap<A> {
         ensures unlike { IsErr result ↔ (AreAlike self.old other.now → ⊥) }
         ensures unchanged { OnErr result (self.new ≡ self.old) }
         ensures value { OnOk result (self.new ≡ union self.old other.now) }
-        ensures places { OnOk result ((place : ℕ) → IsNoted self.new place ↔ (IsNoted self.old place ⊎ IsNoted other.now place)) }
+        ensures places { OnOk result
+            ((place : ℕ)
+            → IsNoted self.new place ↔ (IsNoted self.old place ⊎ IsNoted other.now place)) }
         ensures numbers { IsNumbers self.new }
     {
         if self.first != other.first || self.noted.len() != other.noted.len() {
@@ -157,8 +168,8 @@ impl<A: Allocator> SeqMap<A> {
         Ok(())
     }
 
-    /// The maximal runs of packet numbers that were not noted, from the first number on: the first number of
-    /// each, and how many there are.
+    /// The maximal runs of packet numbers that were not noted, from the first number on: the first
+    /// number of each, and how many there are.
     ///
     /// An `Err` comes only where the allocator refused the memory for the runs.
     pub fn missing_runs<B: Allocator>(&self, alloc: B) -> Result<Vec<(u32, u32), B>, AllocError>
@@ -198,7 +209,8 @@ fn push_run<A: Allocator>(
     end: usize,
 ) -> Result<(), AllocError>
     requires { end < 2 ^ 32 }
-    ensures { OnOk result (runs.new.items ≡ runs.old.items ++ map (numbered first) (closed start end)) }
+    ensures { OnOk result
+        (runs.new.items ≡ runs.old.items ++ map (numbered first) (closed start end)) }
 {
     if start < end {
         let number = first.wrapping_add(start as u32);

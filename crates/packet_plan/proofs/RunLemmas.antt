@@ -1,5 +1,7 @@
 -- Runs of the raster: their rows, their samples and their octets.
-use Rattle.std.proofs.Common.{◌≡◌, ℕ, zero, suc, ◌+◌, ◌-◌, ◌*◌, ◌/◌, ◌%◌, ◌<◌, ◌≤◌, inl, inr, List, [], ◌∷◌, ◌++◌, length, map, get_or, take, drop, drop-cons, refl, sym, ap, ◌∙◌, subst, arith}
+use Rattle.std.proofs.Common.{◌≡◌, ℕ, zero, suc, ◌+◌, ◌-◌, ◌*◌, ◌/◌, ◌%◌, ◌<◌, ◌≤◌, inl, inr, List}
+use Rattle.std.proofs.Common.{[], ◌∷◌, ◌++◌, length, map, get_or, take, drop, drop-cons, refl, sym}
+use Rattle.std.proofs.Common.{ap, ◌∙◌, subst, arith}
 use Rattle.std.specs.List.{All, flat_map, range_with_len, AllByRecursion}
 use Rattle.std.proofs.lemmas.Bool.{cases_lt}
 use Rattle.std.proofs.lemmas.Nat.{mul-le}
@@ -28,10 +30,16 @@ use Rattle.packet_plan.proofs.Packets.{range-append, split}
 -- ---- rows
 
 before_end : (r h w : ℕ) → r * w < h * w → r < h
-before_end r h w lt = elim (cases_lt r h) [ inl a ↦ a | inr a ↦ absurd (omega (arith, mul-le h w r w a (omega arith))) ]
+before_end r h w lt =
+    elim (cases_lt r h) [
+      | inl a ↦ a
+      | inr a ↦ absurd
+          (omega (arith, mul-le h w r w a (omega arith)))
+    ]
 
 -- Runs that join to groups of the raster are of its rows.
-pub rows_below : (f : Format) (rs : List PacketRun) (a n : ℕ) → AllByRecursion (IsRun f) rs → flat_map (numbers f) rs ≡ range_with_len a n → a + n ≤ group_count f
+pub rows_below : (f : Format) (rs : List PacketRun) (a n : ℕ) → AllByRecursion (IsRun f) rs
+    → flat_map (numbers f) rs ≡ range_with_len a n → a + n ≤ group_count f
     → AllByRecursion (λ r. r.row < f.height) rs
 rows_below f [] a n runs whole le = tt
 rows_below f (r ∷ rs) a n runs whole le =
@@ -39,43 +47,67 @@ rows_below f (r ∷ rs) a n runs whole le =
     let s = split r.groups a n (r.row * w + r.first) (flat_map (numbers f) rs) runs.0.some whole in
     let some = runs.0.some in
     let start = s.start in
-    let sum = s.sum in
-    (before_end r.row f.height w (omega arith), rows_below f rs (a + r.groups) s.left runs.1 s.rest (omega arith))
+    let sum = s.sum in (
+      before_end r.row f.height w (omega arith),
+      rows_below f rs (a + r.groups) s.left runs.1 s.rest (omega arith),
+    )
 
 -- ---- heads
 
-columns_of : (s : Sampling) (d : Depth) (w : ℕ) → w / (pixel_group s d).pixels * (pixel_group s d).pixels ≤ w
+columns_of : (s : Sampling) (d : Depth) (w : ℕ)
+    → w / (pixel_group s d).pixels * (pixel_group s d).pixels ≤ w
 columns_of s d w = div-mul-le_self w (pixel_group s d).pixels
 
 -- a run lies in the columns
-pub columns : (f : Format) (r : PacketRun) → IsRun f r → (r.first + r.groups) * (group_of f).pixels ≤ f.width
+pub columns : (f : Format) (r : PacketRun) → IsRun f r
+    → (r.first + r.groups) * (group_of f).pixels ≤ f.width
 unfolding row_groups
 columns f r is =
-    let more = mul-le (r.first + r.groups) (group_of f).pixels (row_groups f) (group_of f).pixels is.inside (omega arith) in
+    let more =
+    mul-le (r.first + r.groups) (group_of f).pixels (row_groups f)
+    (group_of f).pixels is.inside (omega arith) in
     omega (arith, columns_of f.sampling f.depth f.width)
 
-pub have_heads : (f : Format) (size : ℕ) (rs : List PacketRun) → size ≤ 9000 → group_octets f * groups_in rs ≤ size → AllByRecursion (IsRun f) rs → AllByRecursion (λ r. r.row < f.height) rs
+pub have_heads : (f : Format) (size : ℕ) (rs : List PacketRun) → size ≤ 9000
+    → group_octets f * groups_in rs ≤ size → AllByRecursion (IsRun f) rs
+    → AllByRecursion (λ r. r.row < f.height) rs
     → AllByRecursion (HasHead f) rs
 have_heads f size [] most le runs rows = tt
 have_heads f size (r ∷ rs) most le runs rows =
     let o : ℕ = group_octets f in
     let up : o * (r.groups + groups_in rs) ≡ r.groups * o + o * groups_in rs = omega arith in
     let inside : (r.first + r.groups) * (group_of f).pixels ≤ f.width = columns f r runs.0 in
-    let parts : (r.first + r.groups) * (group_of f).pixels ≡ r.first * (group_of f).pixels + r.groups * (group_of f).pixels = omega arith in
-    (record { run = runs.0; row = rows.0; small = omega arith; column = omega (arith, f.whole_width.most) }, have_heads f size rs most (omega arith) runs.1 rows.1)
+    let parts : (r.first + r.groups) * (group_of f).pixels
+    ≡ r.first * (group_of f).pixels + r.groups * (group_of f).pixels = omega arith in (
+      record {
+        run = runs.0;
+        row = rows.0;
+        small = omega arith;
+        column =
+            omega (arith, f.whole_width.most);
+      },
+      have_heads f size rs most (omega arith) runs.1 rows.1,
+    )
 
 -- ---- samples
 
-map-range-append : {X : Type 0} (h : ℕ → X) (a m n b t : ℕ) → a + m ≡ b → m + n ≡ t → map h (range_with_len a m) ++ map h (range_with_len b n) ≡ map h (range_with_len a t)
-map-range-append h a m n b t e f = sym (map-append h (range_with_len a m) (range_with_len b n)) ∙ ap (map h) (range-append a m n b t e f)
+map-range-append : {X : Type 0} (h : ℕ → X) (a m n b t : ℕ) → a + m ≡ b → m + n ≡ t
+    → map h (range_with_len a m) ++ map h (range_with_len b n) ≡ map h (range_with_len a t)
+map-range-append h a m n b t e f =
+    sym (map-append h (range_with_len a m) (range_with_len b n))
+    ∙ ap (map h) (range-append a m n b t e f)
 
-pub groups_joined : {X : Type 0} (h : ℕ → X) (s g n : ℕ) → flat_map (λ i. map h (range_with_len (i * s) s)) (range_with_len g n) ≡ map h (range_with_len (g * s) (n * s))
-groups_joined h s g zero = let z : zero * s ≡ 0 = omega arith in sym (ap (λ (k : ℕ). map h (range_with_len (g * s) k)) z)
+pub groups_joined : {X : Type 0} (h : ℕ → X) (s g n : ℕ)
+    → flat_map (λ i. map h (range_with_len (i * s) s)) (range_with_len g n)
+    ≡ map h (range_with_len (g * s) (n * s))
+groups_joined h s g zero = let z : zero * s ≡ 0 =
+    omega arith in sym (ap (λ (k : ℕ). map h (range_with_len (g * s) k)) z)
 groups_joined h s g (suc n) =
     ap (λ (xs : List _). map h (range_with_len (g * s) s) ++ xs) (groups_joined h s (g + 1) n)
     ∙ map-range-append h (g * s) s (n * s) ((g + 1) * s) (suc n * s) (omega arith) (omega arith)
 
-pub row_by : (s : Sampling) (d : Depth) (w : ℕ) → w % (pixel_group s d).pixels ≡ 0 → w / (pixel_group s d).pixels * (pixel_group s d).samples ≡ w / run_columns s * run_samples s
+pub row_by : (s : Sampling) (d : Depth) (w : ℕ) → w % (pixel_group s d).pixels ≡ 0
+    → w / (pixel_group s d).pixels * (pixel_group s d).samples ≡ w / run_columns s * run_samples s
 row_by Ycc422 D8 w e = omega arith
 row_by Ycc422 D10 w e = omega arith
 row_by Ycc422 D12 w e = omega arith
@@ -96,96 +128,144 @@ count_is f =
     mul_assoc f.height (f.width / (group_of f).pixels) (group_samples f)
     ∙ ap (λ (k : ℕ). f.height * k) (row_by f.sampling f.depth f.width f.whole_width.whole_groups)
 
-slice_map : (xs : List ℕ) (a n : ℕ) → a + n ≤ length xs → map (λ k. get_or xs k 0) (range_with_len a n) ≡ take n (drop a xs)
+slice_map : (xs : List ℕ) (a n : ℕ) → a + n ≤ length xs
+    → map (λ k. get_or xs k 0) (range_with_len a n) ≡ take n (drop a xs)
 slice_map xs a zero le = refl
 slice_map xs a (suc n) le =
     let up : a + 1 ≡ suc a = omega arith in
-    ap (λ (ys : List ℕ). get_or xs a 0 ∷ ys) (slice_map xs (a + 1) n (omega arith) ∙ ap (λ (k : ℕ). take n (drop k xs)) up)
+    ap (λ (ys : List ℕ). get_or xs a 0 ∷ ys)
+    (slice_map xs (a + 1) n (omega arith) ∙ ap (λ (k : ℕ). take n (drop k xs)) up)
     ∙ ap (take (suc n)) (sym (drop-cons xs a 0 (omega arith)))
 
-group_below : (f : Format) (r : PacketRun) → IsRun f r → r.row < f.height → r.row * row_groups f + r.first + r.groups ≤ group_count f
+group_below : (f : Format) (r : PacketRun) → IsRun f r → r.row < f.height
+    → r.row * row_groups f + r.first + r.groups ≤ group_count f
 group_below f r is lt =
     let up : (r.row + 1) * row_groups f ≡ r.row * row_groups f + row_groups f = omega arith in
-    omega (arith, is.inside, mul-le (r.row + 1) (row_groups f) f.height (row_groups f) (omega arith) (omega arith))
+    omega (
+      arith,
+      is.inside,
+      mul-le (r.row + 1) (row_groups f) f.height (row_groups f) (omega arith) (omega arith),
+    )
 
 -- A run's samples are of the raster.
 pub run_within : (f : Format) (r : PacketRun) → IsRun f r → r.row < f.height
-    → (r.row * row_groups f + r.first) * group_samples f + r.groups * group_samples f ≤ sample_count f
+    → (r.row * row_groups f + r.first) * group_samples f + r.groups * group_samples f
+    ≤ sample_count f
 run_within f r is lt =
     let s : ℕ = group_samples f in
     let g : ℕ = r.row * row_groups f + r.first in
     let up : (g + r.groups) * s ≡ g * s + r.groups * s = omega arith in
-    omega (arith, mul-le (g + r.groups) s (group_count f) s (group_below f r is lt) (omega arith), count_is f)
+    omega (
+      arith,
+      mul-le (g + r.groups) s (group_count f) s (group_below f r is lt) (omega arith),
+      count_is f,
+    )
 
 -- A run's values are a slice of the picture's.
-pub run_slice : (p : Values) (r : PacketRun) → length p.samples ≡ sample_count p.format → IsRun p.format r → r.row < p.format.height
-    → run_values p r ≡ take (r.groups * group_samples p.format) (drop ((r.row * row_groups p.format + r.first) * group_samples p.format) p.samples)
+pub run_slice : (p : Values) (r : PacketRun) → length p.samples ≡ sample_count p.format
+    → IsRun p.format r → r.row < p.format.height
+    → run_values p r
+    ≡ take (r.groups * group_samples p.format)
+    (drop ((r.row * row_groups p.format + r.first) * group_samples p.format) p.samples)
 run_slice p r whole is lt =
     let s : ℕ = group_samples p.format in
     groups_joined (sample p) s (r.row * row_groups p.format + r.first) r.groups
-    ∙ slice_map p.samples ((r.row * row_groups p.format + r.first) * s) (r.groups * s) (omega (arith, run_within p.format r is lt))
+    ∙ slice_map p.samples ((r.row * row_groups p.format + r.first) * s) (r.groups * s)
+    (omega (arith, run_within p.format r is lt))
 
 -- A run's values fit the depth.
-pub run_fits : (p : Values) (r : PacketRun) → IsPicture p → HasHead p.format r → All (FitsDepth p.format) (run_values p r)
+pub run_fits : (p : Values) (r : PacketRun) → IsPicture p → HasHead p.format r
+    → All (FitsDepth p.format) (run_values p r)
 run_fits p r is head =
     let s : ℕ = group_samples p.format in
     let a : ℕ = (r.row * row_groups p.format + r.first) * s in
     subst (All (FitsDepth p.format)) (sym (run_slice p r is.whole head.run head.row))
-    (All-take (FitsDepth p.format) (r.groups * s) (drop a p.samples) (All-drop (FitsDepth p.format) a p.samples (All-from_recursion (FitsDepth p.format) p.samples is.fit)))
+    (All-take (FitsDepth p.format) (r.groups * s) (drop a p.samples)
+    (All-drop (FitsDepth p.format) a p.samples
+    (All-from_recursion (FitsDepth p.format) p.samples is.fit)))
 
 -- in the code's numbers
-pub run_inside : (p : Values) (r : PacketRun) (w s n : ℕ) → IsPicture p → HasHead p.format r → w ≡ row_groups p.format → s ≡ group_samples p.format → n ≡ length p.samples
+pub run_inside : (p : Values) (r : PacketRun) (w s n : ℕ) → IsPicture p → HasHead p.format r
+    → w ≡ row_groups p.format → s ≡ group_samples p.format → n ≡ length p.samples
     → (r.row * w + r.first) * s + r.groups * s ≤ n
-run_inside p r w s n is head ew es en = rw (ew, es, en, is.whole) (run_within p.format r head.run head.row)
+run_inside p r w s n is head ew es en =
+    rw (ew, es, en, is.whole) (run_within p.format r head.run head.row)
 
-pub run_is : (p : Values) (r : PacketRun) (w s : ℕ) (xs mid out : List ℕ) → IsPicture p → HasHead p.format r
-    → w ≡ row_groups p.format → s ≡ group_samples p.format → xs ≡ p.samples → mid ≡ drop ((r.row * w + r.first) * s) xs → out ≡ take (r.groups * s) mid → out ≡ run_values p r
+pub run_is : (p : Values) (r : PacketRun) (w s : ℕ) (xs mid out : List ℕ) → IsPicture p
+    → HasHead p.format r
+    → w ≡ row_groups p.format → s ≡ group_samples p.format → xs ≡ p.samples
+    → mid ≡ drop ((r.row * w + r.first) * s) xs → out ≡ take (r.groups * s) mid
+    → out ≡ run_values p r
 run_is p r w s xs mid out is head ew es ex em eo =
     eo ∙ ap (take (r.groups * s)) em
     ∙ ap (λ (k : ℕ). take (r.groups * s) (drop ((r.row * k + r.first) * s) xs)) ew
     ∙ ap (λ (k : ℕ). take (r.groups * k) (drop ((r.row * row_groups p.format + r.first) * k) xs)) es
-    ∙ ap (λ (ys : List ℕ). take (r.groups * group_samples p.format) (drop ((r.row * row_groups p.format + r.first) * group_samples p.format) ys)) ex
+    ∙ ap
+    (λ (ys : List ℕ). take (r.groups * group_samples p.format)
+    (drop ((r.row * row_groups p.format + r.first) * group_samples p.format) ys)) ex
     ∙ sym (run_slice p r is.whole head.run head.row)
 
 -- ---- octets
 
-length-groups : (p : Values) (g n : ℕ) → length (flat_map (group_values p) (range_with_len g n)) ≡ n * group_samples p.format
+length-groups : (p : Values) (g n : ℕ)
+    → length (flat_map (group_values p) (range_with_len g n)) ≡ n * group_samples p.format
 length-groups p g zero = omega arith
 length-groups p g (suc n) =
     let s : ℕ = group_samples p.format in
     let one : length (group_values p g) ≡ s = length-map-range_with_len (sample p) (g * s) s in
     let more = length-groups p (g + 1) n in
     let up : suc n * s ≡ n * s + s = omega arith in
-    omega (arith, length-append (group_values p g) (flat_map (group_values p) (range_with_len (g + 1) n)))
+    omega (
+      arith,
+      length-append (group_values p g) (flat_map (group_values p) (range_with_len (g + 1) n)),
+    )
 
 -- as many bits as its octets have
-pub run_bits : (p : Values) (r : PacketRun) → bits_of p.format.depth * length (run_values p r) ≡ 8 * (r.groups * group_octets p.format)
+pub run_bits : (p : Values) (r : PacketRun)
+    → bits_of p.format.depth * length (run_values p r) ≡ 8 * (r.groups * group_octets p.format)
 unfolding group_octets
 run_bits p r =
-    ap (λ (k : ℕ). bits_of p.format.depth * k) (length-groups p (r.row * row_groups p.format + r.first) r.groups)
+    ap (λ (k : ℕ). bits_of p.format.depth * k)
+    (length-groups p (r.row * row_groups p.format + r.first) r.groups)
     ∙ groups_bits p.format.sampling p.format.depth r.groups
 
-pub length-run : (p : Values) (r : PacketRun) → length (run_octets p r) ≡ r.groups * group_octets p.format
-length-run p r = length-octets_in (bits_of p.format.depth) (run_values p r) (r.groups * group_octets p.format) (run_bits p r)
+pub length-run : (p : Values) (r : PacketRun)
+    → length (run_octets p r) ≡ r.groups * group_octets p.format
+length-run p r =
+    length-octets_in (bits_of p.format.depth) (run_values p r) (r.groups * group_octets p.format)
+    (run_bits p r)
 
 -- in the code's numbers
-pub octets_are : (p : Values) (r : PacketRun) (f : Format) (o : ℕ) → f ≡ p.format → o ≡ group_octets f → r.groups * o ≡ length (run_octets p r)
-octets_are p r f o ef eo = ap (λ (k : ℕ). r.groups * k) (eo ∙ ap group_octets ef) ∙ sym (length-run p r)
+pub octets_are : (p : Values) (r : PacketRun) (f : Format) (o : ℕ) → f ≡ p.format
+    → o ≡ group_octets f → r.groups * o ≡ length (run_octets p r)
+octets_are p r f o ef eo =
+    ap (λ (k : ℕ). r.groups * k) (eo ∙ ap group_octets ef) ∙ sym (length-run p r)
 
-pub run_agrees : (p : Values) (r : PacketRun) (f : Format) (o at : ℕ) (buf vs : List ℕ) → f ≡ p.format → o ≡ group_octets f → vs ≡ run_values p r → at + length (run_octets p r) ≤ length buf
+pub run_agrees : (p : Values) (r : PacketRun) (f : Format) (o at : ℕ) (buf vs : List ℕ)
+    → f ≡ p.format → o ≡ group_octets f → vs ≡ run_values p r
+    → at + length (run_octets p r) ≤ length buf
     → Agree f (length (take (at + r.groups * o - at) (drop at buf))) (length vs)
 run_agrees p r f o at buf vs ef eo ev room =
     let n : ℕ = r.groups * o in
     let count : at + n - at ≡ n = omega arith in
-    let long : length (take n (drop at buf)) ≡ n = length-take-le n (drop at buf) (omega (arith, room, octets_are p r f o ef eo, length-drop at buf)) in
+    let long : length (take n (drop at buf)) ≡ n =
+    length-take-le n (drop at buf)
+    (omega (arith, room, octets_are p r f o ef eo, length-drop at buf)) in
     ap (λ (k : ℕ). 8 * length (take k (drop at buf))) count
     ∙ ap (λ (k : ℕ). 8 * k) (long ∙ ap (λ (k : ℕ). r.groups * k) (eo ∙ ap group_octets ef))
     ∙ sym (run_bits p r)
     ∙ ap (λ (g : Format). bits_of g.depth * length (run_values p r)) (sym ef)
     ∙ ap (λ (xs : List ℕ). bits_of f.depth * length xs) (sym ev)
 
-pub length-runs : (p : Values) (rs : List PacketRun) → length (flat_map (run_octets p) rs) ≡ group_octets p.format * groups_in rs
+pub length-runs : (p : Values) (rs : List PacketRun)
+    → length (flat_map (run_octets p) rs) ≡ group_octets p.format * groups_in rs
 length-runs p [] = omega arith
 length-runs p (r ∷ rs) =
-    let up : group_octets p.format * (r.groups + groups_in rs) ≡ r.groups * group_octets p.format + group_octets p.format * groups_in rs = omega arith in
-    omega (arith, length-append (run_octets p r) (flat_map (run_octets p) rs), length-run p r, length-runs p rs)
+    let up : group_octets p.format * (r.groups + groups_in rs)
+    ≡ r.groups * group_octets p.format + group_octets p.format * groups_in rs = omega arith in
+    omega (
+      arith,
+      length-append (run_octets p r) (flat_map (run_octets p) rs),
+      length-run p r,
+      length-runs p rs,
+    )

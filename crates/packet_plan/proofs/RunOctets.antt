@@ -6,7 +6,8 @@ use Rattle.st_format.specs.declared.sampling.Sampling.TheVariants.{Ycc422, Ycc44
 use Rattle.st_format.specs.declared.sampling.Depth.{Depth}
 use Rattle.st_format.specs.declared.sampling.Depth.TheVariants.{D8, D10, D12, D16}
 
-group_bits : (s : Sampling) (d : Depth) → bits_of d * (pixel_group s d).samples ≡ 8 * (pixel_group s d).octets
+group_bits : (s : Sampling) (d : Depth)
+    → bits_of d * (pixel_group s d).samples ≡ 8 * (pixel_group s d).octets
 group_bits Ycc422 D8 = refl
 group_bits Ycc422 D10 = refl
 group_bits Ycc422 D12 = refl
@@ -27,5 +28,7 @@ regroup b g s o e =
     front ∙ ap (λ (k : ℕ). g * k) e ∙ back
 
 -- the bits of some groups
-pub groups_bits : (s : Sampling) (d : Depth) (g : ℕ) → bits_of d * (g * (pixel_group s d).samples) ≡ 8 * (g * (pixel_group s d).octets)
-groups_bits s d g = regroup (bits_of d) g (pixel_group s d).samples (pixel_group s d).octets (group_bits s d)
+pub groups_bits : (s : Sampling) (d : Depth) (g : ℕ)
+    → bits_of d * (g * (pixel_group s d).samples) ≡ 8 * (g * (pixel_group s d).octets)
+groups_bits s d g =
+    regroup (bits_of d) g (pixel_group s d).samples (pixel_group s d).octets (group_bits s d)

@@ -1,6 +1,7 @@
 -- Raster plans: which pixel groups each packet of a picture carries (SMPTE ST 2110-20, 6.3, general
 -- packing mode; RFC 4175, 4.3).
-use Rattle.std.specs.Prelude.{◌≡◌, ℕ, ◌+◌, ◌*◌, ◌/◌, ◌<◌, ◌≤◌, ◌==◌, if◌then◌else◌, List, [], ◌∷◌, length, slice_index_or}
+use Rattle.std.specs.Prelude.{◌≡◌, ℕ, ◌+◌, ◌*◌, ◌/◌, ◌<◌, ◌≤◌, ◌==◌, if◌then◌else◌, List, [], ◌∷◌}
+use Rattle.std.specs.Prelude.{length, slice_index_or}
 use Rattle.std.specs.List.{flat_map, range_with_len, AllByRecursion}
 use Rattle.st_format.specs.declared.format.Format.{Format}
 use Rattle.payload_header.specs.Payload.{group_of, most_segments}
@@ -31,8 +32,8 @@ abbrev pub groups_in : List PacketRun → ℕ
 groups_in [] = 0
 groups_in (r ∷ rs) = r.groups + groups_in rs
 
--- how long a packet is: the RTP header of 12 octets, the extended number of two, a header of six for
--- each run, and the pixel groups (RFC 3550, 5.1; RFC 4175, 4)
+-- how long a packet is: the RTP header of 12 octets, the extended number of two, a header of six
+-- for each run, and the pixel groups (RFC 3550, 5.1; RFC 4175, 4)
 abbrev pub packet_octets : Format → List PacketRun → ℕ
 packet_octets f p = 14 + 6 * length p + group_octets f * groups_in p
 
@@ -43,8 +44,8 @@ pub record IsPacket (f : Format) (size : ℕ) (p : List PacketRun) : Type 0 wher
   pub runs : AllByRecursion (IsRun f) p
   pub fits : packet_octets f p ≤ size
 
--- The runs of all packets, joined, are all pixel groups in raster order, each once (SMPTE ST 2110-20,
--- 6.3, general packing mode).
+-- The runs of all packets, joined, are all pixel groups in raster order, each once (SMPTE ST
+-- 2110-20, 6.3, general packing mode).
 pub record IsRasterPlan (f : Format) (size : ℕ) (packets : List (List PacketRun)) : Type 0 where
   pub each : AllByRecursion (IsPacket f size) packets
   pub whole : flat_map (flat_map (numbers f)) packets ≡ range_with_len 0 (group_count f)
@@ -54,8 +55,8 @@ abbrev pub RowsDiffer : List PacketRun → Type 0
 RowsDiffer [] = Unit {0}
 RowsDiffer (r ∷ rs) = AllByRecursion (λ s. r.row < s.row) rs × RowsDiffer rs
 
--- a packet with one pixel group more, the next of the raster: in its last run, or in a new run where a
--- row begins (own)
+-- a packet with one pixel group more, the next of the raster: in its last run, or in a new run
+-- where a row begins (own)
 unfoldable pub one_more : Format → List PacketRun → List PacketRun
 one_more f [] = []
 one_more f (r ∷ []) =
@@ -88,7 +89,8 @@ pub record IsFullPlan (f : Format) (size : ℕ) (packets : List (List PacketRun)
   pub plan : IsRasterPlan f size packets
   pub rows : AllByRecursion RowsDiffer packets
   pub room : NoneHasRoom f size packets
-  pub fewest : (others : List (List PacketRun)) → IsRasterPlan f size others → length packets ≤ length others
+  pub fewest : (others : List (List PacketRun)) → IsRasterPlan f size others
+      → length packets ≤ length others
 
 -- A plan as callers see it
 pub record RasterPlan : Type 0 where

@@ -15,10 +15,18 @@ pub record Sender : Type 0 where
 
 -- the stamp of picture k, whose first packet has this number
 abbrev pub stamp_of : Sender → ℕ → ℕ → Stamp
-stamp_of s k first = record { payload_type = s.payload_type; first = first; timestamp = timestamp_of s.format s.base k; ssrc = s.ssrc }
+stamp_of s k first =
+    record {
+      payload_type = s.payload_type;
+      first = first;
+      timestamp =
+          timestamp_of s.format s.base k;
+      ssrc = s.ssrc;
+    }
 
 -- The datagrams of picture k by some raster plan, and then others, whose numbers run on
-pub record IsNext (s : Sender) (k first : ℕ) (p : Values) (later : ℕ → List (List ℕ) → Type 0) (datagrams : List (List ℕ)) : Type 0 where
+pub record IsNext (s : Sender) (k first : ℕ) (p : Values) (later : ℕ → List (List ℕ) → Type 0)
+    (datagrams : List (List ℕ)) : Type 0 where
   pub size : ℕ
   pub packets : List (List PacketRun)
   pub mine : List (List ℕ)
@@ -34,6 +42,7 @@ SendsFrom s k [] first datagrams = datagrams ≡ []
 SendsFrom s k (p ∷ ps) first datagrams = IsNext s k first p (SendsFrom s (k + 1) ps) datagrams
 
 -- A sender's list: at most 10,000 pictures (own), one after another
-pub record IsSenderList (s : Sender) (first : ℕ) (pictures : List Values) (datagrams : List (List ℕ)) : Type 0 where
+pub record IsSenderList (s : Sender) (first : ℕ) (pictures : List Values)
+    (datagrams : List (List ℕ)) : Type 0 where
   pub few : length pictures ≤ 10000
   pub sent : SendsFrom s 0 pictures first datagrams

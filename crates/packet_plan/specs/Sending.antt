@@ -9,16 +9,19 @@ use Rattle.packet_plan.specs.Sent.{IsSentPicture}
 
 -- each datagram of a plan has room in so many octets
 abbrev pub EachHasRoom : RasterPlan → ℕ → Type 0
-EachHasRoom plan octets = AllByRecursion (λ packet. packet_octets plan.format packet ≤ octets) plan.packets
+EachHasRoom plan octets =
+    AllByRecursion (λ packet. packet_octets plan.format packet ≤ octets) plan.packets
 
 -- A sink took the datagrams of a picture by a plan, all of them and in order.
-pub record SendsPicture (p : Values) (stamp : Stamp) (plan : RasterPlan) (old new : Option (List (List ℕ))) : Type 0 where
+pub record SendsPicture (p : Values) (stamp : Stamp) (plan : RasterPlan)
+    (old new : Option (List (List ℕ))) : Type 0 where
   pub datagrams : List (List ℕ)
   pub sent : IsSentPicture p stamp plan.max_octets plan.packets datagrams
   pub taken : TakesAll old new datagrams
 
 -- A sink took so many of them, from the first on, and not all.
-pub record SendsPart (p : Values) (stamp : Stamp) (plan : RasterPlan) (count : ℕ) (old new : Option (List (List ℕ))) : Type 0 where
+pub record SendsPart (p : Values) (stamp : Stamp) (plan : RasterPlan) (count : ℕ)
+    (old new : Option (List (List ℕ))) : Type 0 where
   pub datagrams : List (List ℕ)
   pub sent : IsSentPicture p stamp plan.max_octets plan.packets datagrams
   pub short : count < length datagrams

@@ -1,5 +1,6 @@
 -- What a sender sends of one picture (RFC 3550, 5.1; RFC 4175, 4; SMPTE ST 2110-20, 6).
-use Rattle.std.specs.Prelude.{◌≡◌, ℕ, ◌+◌, ◌*◌, ◌%◌, ◌^◌, Bool, true, false, List, [], ◌∷◌, map, slice_index}
+use Rattle.std.specs.Prelude.{◌≡◌, ℕ, ◌+◌, ◌*◌, ◌%◌, ◌^◌, Bool, true, false, List, [], ◌∷◌, map}
+use Rattle.std.specs.Prelude.{slice_index}
 use Rattle.std.specs.List.{flat_map, range_with_len, AllZip}
 use Rattle.st_format.specs.declared.format.Format.{Format}
 use Rattle.st_format.specs.Pgroup.{bits_of}
@@ -23,7 +24,8 @@ group_samples f = (group_of f).samples
 
 -- the values of a pixel group, by its number, in the order in which they are sent (RFC 4175, 4.3)
 abbrev pub group_values : Values → ℕ → List ℕ
-group_values p g = map (sample p) (range_with_len (g * group_samples p.format) (group_samples p.format))
+group_values p g =
+    map (sample p) (range_with_len (g * group_samples p.format) (group_samples p.format))
 
 -- the values of a run's pixel groups
 abbrev pub run_values : Values → PacketRun → List ℕ
@@ -36,10 +38,11 @@ pub record Carries (p : Values) (r : PacketRun) (s : Segment) : Type 0 where
   pub offset : s.offset ≡ r.first * (group_of p.format).pixels
   pub spells : Spells (bits_of p.format.depth) s.octets (run_values p r)
 
--- Octets are the i-th datagram of a picture, which carries these runs: an RTP header with P, X and CC
--- zero (RFC 3550, 5.1), then a payload with nothing behind its segments (RFC 4175, 4). The high half of
--- the packet's number is the extended number. The marker is set on the last datagram alone.
-pub record IsSentPacket (p : Values) (stamp : Stamp) (i : ℕ) (is_last : Bool) (runs : List PacketRun) (octets : List ℕ) : Type 0 where
+-- Octets are the i-th datagram of a picture, which carries these runs: an RTP header with P, X and
+-- CC zero (RFC 3550, 5.1), then a payload with nothing behind its segments (RFC 4175, 4). The high
+-- half of the packet's number is the extended number. The marker is set on the last datagram alone.
+pub record IsSentPacket (p : Values) (stamp : Stamp) (i : ℕ) (is_last : Bool)
+    (runs : List PacketRun) (octets : List ℕ) : Type 0 where
   pub header : Rtp
   pub extended : ℕ
   pub segments : List Segment
@@ -61,9 +64,11 @@ abbrev pub AreSent : Values → Stamp → ℕ → List (List PacketRun) → List
 AreSent p stamp i [] [] = Unit {0}
 AreSent p stamp i [] (d ∷ ds) = ⊥
 AreSent p stamp i (q ∷ qs) [] = ⊥
-AreSent p stamp i (q ∷ qs) (d ∷ ds) = IsSentPacket p stamp i (is_empty qs) q d × AreSent p stamp (i + 1) qs ds
+AreSent p stamp i (q ∷ qs) (d ∷ ds) =
+    IsSentPacket p stamp i (is_empty qs) q d × AreSent p stamp (i + 1) qs ds
 
 -- The datagrams of a picture, by a raster plan
-pub record IsSentPicture (p : Values) (stamp : Stamp) (size : ℕ) (packets : List (List PacketRun)) (datagrams : List (List ℕ)) : Type 0 where
+pub record IsSentPicture (p : Values) (stamp : Stamp) (size : ℕ) (packets : List (List PacketRun))
+    (datagrams : List (List ℕ)) : Type 0 where
   pub plan : IsRasterPlan p.format size packets
   pub sent : AreSent p stamp 0 packets datagrams

@@ -1,5 +1,6 @@
 -- The octets of a datagram, written from the left (RFC 3550, 5.1; RFC 4175, 4).
-use Rattle.std.specs.Prelude.{ℕ, ◌+◌, ◌*◌, ◌/◌, ◌%◌, ◌^◌, ◌<◌, ◌≤◌, Bool, List, [], ◌∷◌, ◌++◌, map, length}
+use Rattle.std.specs.Prelude.{ℕ, ◌+◌, ◌*◌, ◌/◌, ◌%◌, ◌^◌, ◌<◌, ◌≤◌, Bool, List, [], ◌∷◌, ◌++◌, map}
+use Rattle.std.specs.Prelude.{length}
 use Rattle.std.specs.List.{flat_map, AllByRecursion}
 use Rattle.st_format.specs.declared.format.Format.{Format}
 use Rattle.st_format.specs.Pgroup.{bits_of}
@@ -16,7 +17,13 @@ use Rattle.packet_plan.specs.Sent.{is_empty, run_values}
 
 -- the head of the segment that carries a run
 abbrev pub head_of : Format → PacketRun → SegmentHead
-head_of f r = record { row = r.row; offset = r.first * (group_of f).pixels; octets = r.groups * group_octets f }
+head_of f r =
+    record {
+      row = r.row;
+      offset = r.first * (group_of f).pixels;
+      octets =
+          r.groups * group_octets f;
+    }
 
 -- the octets of a run, which its values spell (RFC 4175, 4.3)
 abbrev pub run_octets : Values → PacketRun → List ℕ
@@ -24,7 +31,8 @@ run_octets p r = octets_in (bits_of p.format.depth) (run_values p r)
 
 -- the payload of a packet of this number
 abbrev pub payload_text : Values → ℕ → List PacketRun → List ℕ
-payload_text p number runs = front_text (number / 65536) (map (head_of p.format) runs) ++ flat_map (run_octets p) runs
+payload_text p number runs =
+    front_text (number / 65536) (map (head_of p.format) runs) ++ flat_map (run_octets p) runs
 
 -- what the RTP header says in front of a payload
 abbrev pub header_of : Stamp → ℕ → Bool → List ℕ → Rtp
@@ -50,7 +58,8 @@ datagram_text p stamp i is_last runs =
 -- the datagrams of packets, from the i-th on
 abbrev pub datagram_texts : Values → Stamp → ℕ → List (List PacketRun) → List (List ℕ)
 datagram_texts p stamp i [] = []
-datagram_texts p stamp i (q ∷ qs) = datagram_text p stamp i (is_empty qs) q ∷ datagram_texts p stamp (i + 1) qs
+datagram_texts p stamp i (q ∷ qs) =
+    datagram_text p stamp i (is_empty qs) q ∷ datagram_texts p stamp (i + 1) qs
 
 -- The fields of a stamp have room in the headers (RFC 3550, 5.1).
 pub record IsStamp (s : Stamp) : Type 0 where

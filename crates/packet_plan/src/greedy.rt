@@ -1,5 +1,5 @@
-//! Packets filled one after another. A packet is known by its first pgroup, and pgroups are numbered in
-//! raster order.
+//! Packets filled one after another. A packet is known by its first pgroup, and pgroups are
+//! numbered in raster order.
 ghost use Rattle.std.specs.Prelude.{◌≡◌, ◌<◌, ◌≤◌, ◌+◌, ◌*◌, IfOk};
 ghost use Rattle.packet_plan.specs.Plan.{IsSize, group_count, group_octets, row_groups};
 ghost use Rattle.packet_plan.specs.Greedy.{IsWalk, next, packet_from, room};
@@ -94,7 +94,8 @@ pub(crate) fn starts_of<A: Allocator>(
     max_octets: u32,
 ) -> Result<Vec<u32, A>, AllocError>
     requires { IsSize format.now max_octets }
-    ensures { IfOk result (λ starts. IsWalk format.now max_octets 0 starts.items (group_count format.now)) }
+    ensures { IfOk result
+        (λ starts. IsWalk format.now max_octets 0 starts.items (group_count format.now)) }
 {
     let count = group_count_of(format);
     let mut starts = Vec::new(alloc);

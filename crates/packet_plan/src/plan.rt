@@ -2,7 +2,8 @@
 ghost use Rattle.std.specs.Prelude.{◌≡◌, ◌<◌, ◌≤◌, ◌+◌, ◌*◌, ◌↔◌, ◌⊎◌, ◌==◌};
 ghost use Rattle.std.specs.Prelude.{ℕ, List, length, take, drop, IfOk, Err};
 ghost use Rattle.std.specs.List.{AllByRecursion};
-ghost use Rattle.packet_plan.specs.Plan.{IsFullPlan, IsRasterPlan, NoneHasRoom, RowsDiffer, group_octets, packet_at, packet_octets};
+ghost use Rattle.packet_plan.specs.Plan.{IsFullPlan, IsRasterPlan, NoneHasRoom, RowsDiffer};
+ghost use Rattle.packet_plan.specs.Plan.{group_octets, packet_at, packet_octets};
 ghost use Rattle.packet_plan.specs.Sending.{EachHasRoom};
 ghost use Rattle.packet_plan.specs.Sent.{IsSentPacket};
 ghost use Rattle.packet_plan.specs.Text.{AreRuns, IsStamp, datagram_text};
@@ -20,8 +21,8 @@ use std::fmt;
 use std::marker::Model;
 use thiserror::Error;
 
-/// Octets before the pgroups of a packet of one segment: the RTP header of 12, the extended number of
-/// two, and a header of six (RFC 3550, 5.1; RFC 4175, 4).
+/// Octets before the pgroups of a packet of one segment: the RTP header of 12, the extended number
+/// of two, and a header of six (RFC 3550, 5.1; RFC 4175, 4).
 const ONE_SEGMENT: u32 = 20;
 
 /// The greatest size of a packet, in octets.
@@ -71,8 +72,8 @@ impl From<AllocError> for PlanFault {
     }
 }
 
-/// Which pgroups each packet of a picture carries. It keeps the number of each packet's first pgroup,
-/// four octets a packet.
+/// Which pgroups each packet of a picture carries. It keeps the number of each packet's first
+/// pgroup, four octets a packet.
 ///
 /// Contracts see it as its format, its greatest size and a list of packets, each a list of runs.
 #[derive(Drop)]
@@ -109,8 +110,8 @@ impl<A: Allocator> Plan<A> {
     ///
     /// # Errors
     ///
-    /// `BadPacketSize` where `max_octets` is below 20 and the octets of a pgroup, or above 9000; else
-    /// `NoMemory` where the memory was refused.
+    /// `BadPacketSize` where `max_octets` is below 20 and the octets of a pgroup, or above 9000;
+    /// else `NoMemory` where the memory was refused.
     pub fn new(alloc: A, format: Format, max_octets: u32) -> Result<Plan<A>, PlanFault>
         ensures size { (result ≡ Err PlanFault.BadPacketSize)
             ↔ ((max_octets < 20 + group_octets format) ⊎ (9000 < max_octets)) }
@@ -157,11 +158,11 @@ impl<A: Allocator> Plan<A> {
     /// The octets behind it stay.
     ///
     /// The packet `index`, from 0, has the number `stamp.first + index` modulo 2^32, and the marker
-    /// where it is the last. It is a plain RTP header (RFC 3550, 5.1) and a payload (RFC 4175, 4) whose
-    /// segments are the packet's runs and spell the picture there.
+    /// where it is the last. It is a plain RTP header (RFC 3550, 5.1) and a payload (RFC 4175, 4)
+    /// whose segments are the packet's runs and spell the picture there.
     ///
-    /// The picture has the plan's format, the payload type is at most 127, and `buf` has room for the
-    /// datagram, for which [`max_octets`](Plan::max_octets) octets are enough.
+    /// The picture has the plan's format, the payload type is at most 127, and `buf` has room for
+    /// the datagram, for which [`max_octets`](Plan::max_octets) octets are enough.
     pub fn datagram<B: Allocator>(
         &self,
         index: u32,

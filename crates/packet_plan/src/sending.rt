@@ -28,12 +28,13 @@ impl fmt::Display for SendFault {
     }
 }
 
-/// Sends a picture by a plan, and answers the number of the packet that comes next: `stamp.first` and
-/// the number of packets, modulo 2^32.
+/// Sends a picture by a plan, and answers the number of the packet that comes next: `stamp.first`
+/// and the number of packets, modulo 2^32.
 ///
-/// Each datagram is written over the first octets of `buf`, as [`Plan::datagram`] does, and put into
-/// the sink. The picture has the plan's format, the payload type is at most 127, and `buf` has room for
-/// each datagram, for which [`Plan::max_octets`] octets are enough; what it holds may be anything.
+/// Each datagram is written over the first octets of `buf`, as [`Plan::datagram`] does, and put
+/// into the sink. The picture has the plan's format, the payload type is at most 127, and `buf` has
+/// room for each datagram, for which [`Plan::max_octets`] octets are enough; what it holds may be
+/// anything.
 ///
 /// # Errors
 ///

@@ -1,5 +1,7 @@
 -- What is admitted and offered, by the grammar.
-use Rattle.std.proofs.Common.{◌≡◌, ◌↔◌, ℕ, zero, suc, ◌<◌, Bool, true, false, cond, not, eqb, List, [], ◌∷◌, ◌++◌, Option, Some, None, Result, Ok, Err, refl, sym, ap, ◌∙◌, subst, arith}
+use Rattle.std.proofs.Common.{◌≡◌, ◌↔◌, ℕ, zero, suc, ◌<◌, Bool, true, false, cond, not, eqb, List}
+use Rattle.std.proofs.Common.{[], ◌∷◌, ◌++◌, Option, Some, None, Result, Ok, Err, refl, sym, ap}
+use Rattle.std.proofs.Common.{◌∙◌, subst, arith}
 use Rattle.std.specs.List.{AllByRecursion}
 use Rattle.std.proofs.lemmas.Bool.{eqb-true, eq-eqb}
 use Rattle.st_format.specs.Offer.{Offer}
@@ -17,12 +19,14 @@ use Rattle.path_merge.specs.declared.answer.Refusal.{Refusal}
 use Rattle.path_merge.specs.declared.answer.Refusal.TheVariants.{WrongPayloadType, WrongSource}
 use Rattle.path_merge.specs.Opening.{Opening, IsSource}
 use Rattle.path_merge.specs.Grammar.{Datagram, IsDatagram, IsFor, header_with}
-use Rattle.path_merge.specs.Admission.{◌>>=◌, by_header, by_payload, header_for, is_other, datagram_with, datagram_walk}
+use Rattle.path_merge.specs.Admission.{◌>>=◌, by_header, by_payload, header_for, is_other}
+use Rattle.path_merge.specs.Admission.{datagram_with, datagram_walk}
 use Rattle.path_merge.specs.Offers.{AreOffersOf, offers, offers_of}
 
 -- ---- the test of the source says what its words say
 
-pub source_from : (pinned : Option ℕ) (ssrc : ℕ) → is_other pinned ssrc ≡ false → IsSource pinned ssrc
+pub source_from : (pinned : Option ℕ) (ssrc : ℕ) → is_other pinned ssrc ≡ false
+    → IsSource pinned ssrc
 source_from None ssrc h = tt
 source_from (Some p) ssrc h = pinned_from p ssrc (eqb p ssrc) refl h
   where
@@ -30,7 +34,8 @@ source_from (Some p) ssrc h = pinned_from p ssrc (eqb p ssrc) refl h
     pinned_from p ssrc true e h = eqb-true p ssrc e
     pinned_from p ssrc false e h = absurd cc
 
-pub source_again : (pinned : Option ℕ) (ssrc : ℕ) → IsSource pinned ssrc → is_other pinned ssrc ≡ false
+pub source_again : (pinned : Option ℕ) (ssrc : ℕ) → IsSource pinned ssrc
+    → is_other pinned ssrc ≡ false
 source_again None ssrc h = refl
 source_again (Some p) ssrc h = ap not (eq-eqb p ssrc h)
 
@@ -40,20 +45,37 @@ abbrev pub by_rtp : Rtp → ℕ × List Segment → Result Datagram Refusal
 by_rtp r p = Ok (datagram_with r p)
 
 abbrev numbered : Datagram → ℕ → Datagram
-numbered d n = record { payload_type = d.payload_type; number = n; timestamp = d.timestamp; ssrc = d.ssrc; marker = d.marker; segments = d.segments }
+numbered d n =
+    record {
+      payload_type = d.payload_type;
+      number = n;
+      timestamp = d.timestamp;
+      ssrc =
+          d.ssrc;
+      marker = d.marker;
+      segments = d.segments;
+    }
 
 -- A datagram for a receiver is admitted, and says what the grammar reads.
-pub admitted_for : (o : Opening) (octets : List ℕ) (d : Datagram) → IsFor octets o d → datagram_walk o.format o.payload_type o.ssrc octets ≡ Ok d
+pub admitted_for : (o : Opening) (octets : List ℕ) (d : Datagram) → IsFor octets o d
+    → datagram_walk o.format o.payload_type o.ssrc octets ≡ Ok d
 unfolding datagram_walk
 admitted_for o octets d f =
     let is = f.is in
     let r : Rtp = header_with d is.sequence is.payload in
     let pass : header_for o.payload_type o.ssrc r ≡ Ok r =
-    ap (λ (b : Bool). cond (not b) (Err WrongPayloadType) (cond (is_other o.ssrc r.ssrc) (Err WrongSource) (Ok r))) (eq-eqb d.payload_type o.payload_type f.type_is)
+    ap (λ (b : Bool). cond (not b) (Err WrongPayloadType)
+    (cond (is_other o.ssrc r.ssrc) (Err WrongSource) (Ok r)))
+    (eq-eqb d.payload_type o.payload_type f.type_is)
     ∙ ap (λ (b : Bool). cond b (Err WrongSource) (Ok r)) (source_again o.ssrc d.ssrc f.source) in
-    ap (λ (x : Result Rtp RtpFault). by_header x >>= λ q. header_for o.payload_type o.ssrc q >>= λ w. by_payload (payload_walk o.format w.payload) >>= by_rtp w) (rtp_again r octets is.is_header)
-    ∙ ap (λ (x : Result Rtp Refusal). x >>= λ w. by_payload (payload_walk o.format w.payload) >>= by_rtp w) pass
-    ∙ ap (λ (x : Result (ℕ × List Segment) PayloadFault). by_payload x >>= by_rtp r) (payload_again o.format is.extended d.segments is.payload is.is_payload)
+    ap (λ (x : Result Rtp RtpFault). by_header x >>= λ q. header_for o.payload_type o.ssrc q >>=
+    λ w. by_payload (payload_walk o.format w.payload) >>= by_rtp w)
+    (rtp_again r octets is.is_header)
+    ∙ ap
+    (λ (x : Result Rtp Refusal). x >>=
+    λ w. by_payload (payload_walk o.format w.payload) >>= by_rtp w) pass
+    ∙ ap (λ (x : Result (ℕ × List Segment) PayloadFault). by_payload x >>= by_rtp r)
+    (payload_again o.format is.extended d.segments is.payload is.is_payload)
     ∙ ap (λ (n : ℕ). Ok (numbered d n)) is.number_is
 
 abbrev admitted : Datagram → Result Datagram Refusal
@@ -63,8 +85,10 @@ same_admitted : (d e : Datagram) → admitted d ≡ admitted e → d ≡ e
 same_admitted d e h = cc
 
 -- Octets say one thing at most to a receiver.
-pub reading_is_one : (o : Opening) (octets : List ℕ) (d e : Datagram) → IsFor octets o d → IsFor octets o e → d ≡ e
-reading_is_one o octets d e f g = same_admitted d e (sym (admitted_for o octets d f) ∙ admitted_for o octets e g)
+pub reading_is_one : (o : Opening) (octets : List ℕ) (d e : Datagram) → IsFor octets o d
+    → IsFor octets o e → d ≡ e
+reading_is_one o octets d e f g =
+    same_admitted d e (sym (admitted_for o octets d f) ∙ admitted_for o octets e g)
 
 -- ---- what is admitted is in the grammar
 
@@ -89,10 +113,13 @@ all_right [] ys h = h
 all_right (x ∷ xs) ys h = all_right xs ys h.1
 
 -- the payload's are octets too
-pub payload_octets : (r : Rtp) (octets : List ℕ) → AreOctets octets → IsRtp r octets → AreOctets r.payload
+pub payload_octets : (r : Rtp) (octets : List ℕ) → AreOctets octets → IsRtp r octets
+    → AreOctets r.payload
 payload_octets r octets fit is =
     let whole = subst (λ (x : List ℕ). AllByRecursion Fits x) is.whole (bytes_from octets fit) in
-    let a = all_right (fixed_text is.flags r) (is.source_list ++ (is.extension ++ (r.payload ++ is.padding))) whole in
+    let a =
+    all_right (fixed_text is.flags r)
+    (is.source_list ++ (is.extension ++ (r.payload ++ is.padding))) whole in
     let b = all_right is.source_list (is.extension ++ (r.payload ++ is.padding)) a in
     let c = all_right is.extension (r.payload ++ is.padding) b in
     bytes_of r.payload (all_left r.payload is.padding c)
@@ -100,7 +127,9 @@ payload_octets r octets fit is =
 same_ok : {X : Type 0} (x y : X) → (let r : Result X Refusal = Ok x in r ≡ Ok y) → x ≡ y
 same_ok x y h = cc
 
-takes_payload : (o : Opening) (octets : List ℕ) (r : Rtp) (p : Result (ℕ × List Segment) PayloadFault) (d : Datagram) → IsRtp r octets → IsBytes r.payload → r.payload_type ≡ o.payload_type → is_other o.ssrc r.ssrc ≡ false
+takes_payload : (o : Opening) (octets : List ℕ) (r : Rtp)
+    (p : Result (ℕ × List Segment) PayloadFault) (d : Datagram) → IsRtp r octets
+    → IsBytes r.payload → r.payload_type ≡ o.payload_type → is_other o.ssrc r.ssrc ≡ false
     → payload_walk o.format r.payload ≡ p → (by_payload p >>= by_rtp r) ≡ Ok d → IsFor octets o d
 takes_payload o octets r (Err e) d is bytes pt source read h = absurd cc
 takes_payload o octets r (Ok p) d is bytes pt source read h =
@@ -112,37 +141,52 @@ takes_payload o octets r (Ok p) d is bytes pt source read h =
       is_payload = payload_takes o.format r.payload p bytes read;
       number_is = refl;
     } in
-    subst (λ (x : Datagram). IsFor octets o x) (same_ok (datagram_with r p) d h) (record { is = one; type_is = pt; source = source_from o.ssrc r.ssrc source })
+    subst (λ (x : Datagram). IsFor octets o x) (same_ok (datagram_with r p) d h)
+    (record { is = one; type_is = pt; source = source_from o.ssrc r.ssrc source })
 
-takes_checked : (o : Opening) (octets : List ℕ) (r : Rtp) (t s : Bool) (d : Datagram) → IsRtp r octets → IsBytes r.payload → eqb r.payload_type o.payload_type ≡ t → is_other o.ssrc r.ssrc ≡ s
-    → (cond (not t) (Err WrongPayloadType) (cond s (Err WrongSource) (Ok r)) >>= λ w. by_payload (payload_walk o.format w.payload) >>= by_rtp w) ≡ Ok d → IsFor octets o d
+takes_checked : (o : Opening) (octets : List ℕ) (r : Rtp) (t s : Bool) (d : Datagram)
+    → IsRtp r octets → IsBytes r.payload → eqb r.payload_type o.payload_type ≡ t
+    → is_other o.ssrc r.ssrc ≡ s
+    → (cond (not t) (Err WrongPayloadType) (cond s (Err WrongSource) (Ok r)) >>=
+    λ w. by_payload (payload_walk o.format w.payload) >>= by_rtp w) ≡ Ok d → IsFor octets o d
 takes_checked o octets r false s d is bytes e f h = absurd cc
 takes_checked o octets r true true d is bytes e f h = absurd cc
-takes_checked o octets r true false d is bytes e f h = takes_payload o octets r (payload_walk o.format r.payload) d is bytes (eqb-true r.payload_type o.payload_type e) f refl h
+takes_checked o octets r true false d is bytes e f h =
+    takes_payload o octets r (payload_walk o.format r.payload) d is bytes
+    (eqb-true r.payload_type o.payload_type e) f refl h
 
-takes_read : (o : Opening) (octets : List ℕ) (x : Result Rtp RtpFault) (d : Datagram) → AreOctets octets → rtp_walk octets ≡ x
-    → (by_header x >>= λ q. header_for o.payload_type o.ssrc q >>= λ w. by_payload (payload_walk o.format w.payload) >>= by_rtp w) ≡ Ok d → IsFor octets o d
+takes_read : (o : Opening) (octets : List ℕ) (x : Result Rtp RtpFault) (d : Datagram)
+    → AreOctets octets → rtp_walk octets ≡ x
+    → (by_header x >>= λ q. header_for o.payload_type o.ssrc q >>=
+    λ w. by_payload (payload_walk o.format w.payload) >>= by_rtp w) ≡ Ok d → IsFor octets o d
 takes_read o octets (Err e) d fit read h = absurd cc
 takes_read o octets (Ok r) d fit read h =
     let is : IsRtp r octets = rtp_takes octets r fit read in
-    takes_checked o octets r (eqb r.payload_type o.payload_type) (is_other o.ssrc r.ssrc) d is (payload_octets r octets fit is) refl refl h
+    takes_checked o octets r (eqb r.payload_type o.payload_type) (is_other o.ssrc r.ssrc) d is
+    (payload_octets r octets fit is) refl refl h
 
 -- What is admitted is a datagram for the receiver.
-pub admitted_takes : (o : Opening) (octets : List ℕ) (d : Datagram) → AreOctets octets → datagram_walk o.format o.payload_type o.ssrc octets ≡ Ok d → IsFor octets o d
+pub admitted_takes : (o : Opening) (octets : List ℕ) (d : Datagram) → AreOctets octets
+    → datagram_walk o.format o.payload_type o.ssrc octets ≡ Ok d → IsFor octets o d
 unfolding datagram_walk
 admitted_takes o octets d fit h = takes_read o octets (rtp_walk octets) d fit refl h
 
 -- ---- offers
 
-pub offers-for : (o : Opening) (octets : List ℕ) (d : Datagram) → IsFor octets o d → offers o octets ≡ offers_in_all o.format d.timestamp d.segments
+pub offers-for : (o : Opening) (octets : List ℕ) (d : Datagram) → IsFor octets o d
+    → offers o octets ≡ offers_in_all o.format d.timestamp d.segments
 offers-for o octets d f = ap (offers_of o.format) (admitted_for o octets d f)
 
-nothing_at : (o : Opening) (octets : List ℕ) (x : Result Datagram Refusal) → AreOctets octets → datagram_walk o.format o.payload_type o.ssrc octets ≡ x → ((d : Datagram) → IsFor octets o d → ⊥) → offers_of o.format x ≡ []
+nothing_at : (o : Opening) (octets : List ℕ) (x : Result Datagram Refusal) → AreOctets octets
+    → datagram_walk o.format o.payload_type o.ssrc octets ≡ x
+    → ((d : Datagram) → IsFor octets o d → ⊥) → offers_of o.format x ≡ []
 nothing_at o octets (Err e) fit read none = refl
 nothing_at o octets (Ok d) fit read none = absurd (none d (admitted_takes o octets d fit read))
 
-pub offers-none : (o : Opening) (octets : List ℕ) → AreOctets octets → ((d : Datagram) → IsFor octets o d → ⊥) → offers o octets ≡ []
-offers-none o octets fit none = nothing_at o octets (datagram_walk o.format o.payload_type o.ssrc octets) fit refl none
+pub offers-none : (o : Opening) (octets : List ℕ) → AreOctets octets
+    → ((d : Datagram) → IsFor octets o d → ⊥) → offers o octets ≡ []
+offers-none o octets fit none =
+    nothing_at o octets (datagram_walk o.format o.payload_type o.ssrc octets) fit refl none
 
 -- ---- the relation
 
@@ -164,5 +208,6 @@ offers-exact o octets offered fit = (
     datagram = λ d f. same ∙ offers-for o octets d f;
     nothing = λ none. same ∙ offers-none o octets fit none;
   },
-  λ are. exact_at o octets (datagram_walk o.format o.payload_type o.ssrc octets) offered fit refl are,
+  λ are. exact_at o octets
+      (datagram_walk o.format o.payload_type o.ssrc octets) offered fit refl are,
 )

@@ -29,7 +29,16 @@ f1 = record {
   d = 1;
   whole_width = record { least = lit≤ tt; most = lit≤ tt; even = refl; whole_groups = refl };
   whole_height = record { least = lit≤ tt; most = lit≤ tt };
-  sane_rate = record { some_n = lit≤ tt; most_n = lit≤ tt; some_d = lit≤ tt; most_d = lit≤ tt; at_least_one = lit≤ tt; at_most_300 = lit≤ tt };
+  sane_rate =
+      record {
+        some_n = lit≤ tt;
+        most_n = lit≤ tt;
+        some_d = lit≤ tt;
+        most_d =
+            lit≤ tt;
+        at_least_one = lit≤ tt;
+        at_most_300 = lit≤ tt;
+      };
   lowest_rate = sixty;
 }
 
@@ -48,10 +57,24 @@ d2 = head ++ (0 ∷ 8 ∷ 0 ∷ 0 ∷ 0 ∷ 0 ∷ 0x80 ∷ 0x20 ∷ 0x80 ∷ 0x1
 abbrev missing_row : List Cell
 missing_row = Missing ∷ Missing ∷ Missing ∷ Missing ∷ Missing ∷ Missing ∷ Missing ∷ Missing ∷ []
 
-one_datagram : frames_of opening (d1 ∷ []) ≡ record { format = f1; cells = (Value 128 ∷ Value 16 ∷ Value 128 ∷ Value 17 ∷ Value 128 ∷ Value 18 ∷ Value 128 ∷ Value 19 ∷ []) ++ missing_row } ∷ []
-unfolding place place_in_row bits number pieces values_in header_of headers_at payload_walk rtp_walk datagram_walk
+one_datagram : frames_of opening (d1 ∷ [])
+    ≡ record {
+      format = f1;
+      cells =
+          (Value 128 ∷ Value 16 ∷ Value 128 ∷ Value 17 ∷ Value 128 ∷ Value 18 ∷ Value 128 ∷ Value 19
+          ∷ []) ++ missing_row;
+    } ∷ []
+unfolding place place_in_row bits number pieces values_in header_of headers_at payload_walk
+    rtp_walk datagram_walk
 one_datagram = refl
 
-two_datagrams : frames_of opening (d1 ∷ d2 ∷ d1 ∷ []) ≡ record { format = f1; cells = (Value 128 ∷ Contested ∷ Value 128 ∷ Value 17 ∷ Value 128 ∷ Value 18 ∷ Value 128 ∷ Value 19 ∷ []) ++ missing_row } ∷ []
-unfolding place place_in_row bits number pieces values_in header_of headers_at payload_walk rtp_walk datagram_walk
+two_datagrams : frames_of opening (d1 ∷ d2 ∷ d1 ∷ [])
+    ≡ record {
+      format = f1;
+      cells =
+          (Value 128 ∷ Contested ∷ Value 128 ∷ Value 17 ∷ Value 128 ∷ Value 18 ∷ Value 128 ∷ Value 19
+          ∷ []) ++ missing_row;
+    } ∷ []
+unfolding place place_in_row bits number pieces values_in header_of headers_at payload_walk
+    rtp_walk datagram_walk
 two_datagrams = refl

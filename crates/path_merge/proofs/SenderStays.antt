@@ -1,5 +1,6 @@
 -- The frames of stays, where every datagram is a sender's.
-use Rattle.std.proofs.Common.{◌≡◌, ◌↔◌, ℕ, zero, suc, inl, inr, Bool, true, cond, List, [], ◌∷◌, Some, None, refl, sym, ap, ◌∙◌, subst, eq-eqb}
+use Rattle.std.proofs.Common.{◌≡◌, ◌↔◌, ℕ, zero, suc, inl, inr, Bool, true, cond, List, [], ◌∷◌}
+use Rattle.std.proofs.Common.{Some, None, refl, sym, ap, ◌∙◌, subst, eq-eqb}
 use Rattle.std.specs.Prelude.{slice_get}
 use Rattle.std.specs.List.{flat_map, filter}
 use Rattle.st_format.specs.declared.cell.Cell.{Cell}
@@ -12,7 +13,8 @@ use Rattle.st_format.specs.Picture.{Values}
 use Rattle.st_format.specs.Position.{Position, IsPosition, same_place}
 use Rattle.st_format.specs.Raster.{Raster, raster_of, cell_at}
 use Rattle.st_format.proofs.Cells.{is_cell, is_for-true}
-use Rattle.st_format.proofs.Members.{member-map, member_of_map, member-filter, member_of_filter, member-flat_map, member_of_flat_map, SameMembers-flat_map}
+use Rattle.st_format.proofs.Members.{member-map, member_of_map, member-filter, member_of_filter}
+use Rattle.st_format.proofs.Members.{member-flat_map, member_of_flat_map, SameMembers-flat_map}
 use Rattle.st_format.proofs.Rasters.{cell_at-raster_of, cells_of-same}
 use Rattle.packet_plan.specs.Sender.{Sender}
 use Rattle.path_merge.specs.Frames.{cell_if}
@@ -32,7 +34,8 @@ abbrev with_cells : Format → List Cell → Raster
 with_cells f cs = record { format = f; cells = cs }
 
 -- A stay has one frame.
-pub one_frame : (s : Scene) (es : List Event) (stay : Stay) (q p : Raster) → IsFrameOf q stay s es → IsFrameOf p stay s es → q ≡ p
+pub one_frame : (s : Scene) (es : List Event) (stay : Stay) (q p : Raster) → IsFrameOf q stay s es
+    → IsFrameOf p stay s es → q ≡ p
 one_frame s es stay q p is its =
     let o : Opening = s.opening in
     let same : SameMembers is.reached its.reached = record {
@@ -40,13 +43,20 @@ one_frame s es stay q p is its =
       back = λ d m. (is.each d).1 ((its.each d).0 m);
     } in
     is.frame_is
-    ∙ ap (λ (cs : List Cell). with_cells o.format cs) (cells_of-same o.format (flat_map (offers o) is.reached) (flat_map (offers o) its.reached) stay.timestamp (SameMembers-flat_map (offers o) is.reached its.reached same))
+    ∙ ap (λ (cs : List Cell). with_cells o.format cs)
+    (cells_of-same o.format (flat_map (offers o) is.reached)
+    (flat_map (offers o) its.reached) stay.timestamp
+    (SameMembers-flat_map (offers o) is.reached its.reached same))
     ∙ sym its.frame_is
 
 -- ---- a sender's
 
-in_window : (o : Opening) (xs : List (List ℕ)) (ts : ℕ) (at : Position) → frame_cell (with_window o (ts ∷ [])) xs ts at ≡ cell_at (raster_of o.format (flat_map (offers o) xs) ts) at
-in_window o xs ts at = ap (λ (b : Bool). cell_if (cond b (Some (raster_of o.format (flat_map (offers o) xs) ts)) None) at) (eq-eqb ts ts refl)
+in_window : (o : Opening) (xs : List (List ℕ)) (ts : ℕ) (at : Position)
+    → frame_cell (with_window o (ts ∷ [])) xs ts at
+    ≡ cell_at (raster_of o.format (flat_map (offers o) xs) ts) at
+in_window o xs ts at =
+    ap (λ (b : Bool). cell_if
+    (cond b (Some (raster_of o.format (flat_map (offers o) xs) ts)) None) at) (eq-eqb ts ts refl)
 
 slice_member : {X : Type 0} (xs : List X) (i : ℕ) (x : X) → slice_get xs i ≡ Some x → IsMember x xs
 slice_member [] i x h = absurd cc
@@ -56,60 +66,95 @@ slice_member (y ∷ xs) zero x h = inl (same_some h)
     same_some e = cc
 slice_member (y ∷ xs) (suc i) x h = inr (slice_member xs i x h)
 
-reached_among : (s : Scene) (es : List Event) (stay : Stay) (q : Raster) (ds : List (List ℕ)) → AreAmong s.sent ds → (is : IsFrameOf q stay s es) → AreAmong is.reached ds
-reached_among s es stay q ds among is d m = let r = (is.each d).0 m in among d (slice_member s.sent r.number d r.sent)
+reached_among : (s : Scene) (es : List Event) (stay : Stay) (q : Raster) (ds : List (List ℕ))
+    → AreAmong s.sent ds → (is : IsFrameOf q stay s es) → AreAmong is.reached ds
+reached_among s es stay q ds among is d m = let r =
+    (is.each d).0 m in among d (slice_member s.sent r.number d r.sent)
 
 same_place_here : (p : Position) → same_place p p ≡ true
-same_place_here p = rw (eq-eqb p.row p.row refl, eq-eqb p.column p.column refl, eq-eqb p.component p.component refl) refl
+same_place_here p =
+    rw (
+      eq-eqb p.row p.row refl,
+      eq-eqb p.column p.column refl,
+      eq-eqb p.component p.component refl,
+    ) refl
 
-for_here : (ts : ℕ) (at : Position) (v : ℕ) → is_for ts at (record { timestamp = ts; position = at; value = v }) ≡ true
+for_here : (ts : ℕ) (at : Position) (v : ℕ)
+    → is_for ts at (record { timestamp = ts; position = at; value = v }) ≡ true
 for_here ts at v = rw (eq-eqb ts ts refl, same_place_here at) refl
 
-pub offered_here : (o : Opening) (xs : List (List ℕ)) (ts : ℕ) (at : Position) (octets : List ℕ) (c : Carries octets o ts at) → IsMember octets xs → IsMember c.value (values_for (flat_map (offers o) xs) ts at)
+pub offered_here : (o : Opening) (xs : List (List ℕ)) (ts : ℕ) (at : Position) (octets : List ℕ)
+    (c : Carries octets o ts at) → IsMember octets xs
+    → IsMember c.value (values_for (flat_map (offers o) xs) ts at)
 offered_here o xs ts at octets c m =
     let x : Offer = record { timestamp = ts; position = at; value = c.value } in
     let os : List Offer = flat_map (offers o) xs in
-    member_of_map (λ (y : Offer). y.value) x (filter (is_for ts at) os) (member_of_filter (is_for ts at) x os (for_here ts at c.value) (member_of_flat_map (offers o) octets x xs m c.offered))
+    member_of_map (λ (y : Offer). y.value) x (filter (is_for ts at) os)
+    (member_of_filter (is_for ts at) x os (for_here ts at c.value)
+    (member_of_flat_map (offers o) octets x xs m c.offered))
 
 abbrev offer : ℕ → Position → ℕ → Offer
 offer t p v = record { timestamp = t; position = p; value = v }
 
-pub carried_by : (o : Opening) (xs : List (List ℕ)) (ts : ℕ) (at : Position) (v : ℕ) → IsMember v (values_for (flat_map (offers o) xs) ts at) → (octets : List ℕ) × IsMember octets xs × Carries octets o ts at
+pub carried_by : (o : Opening) (xs : List (List ℕ)) (ts : ℕ) (at : Position) (v : ℕ)
+    → IsMember v (values_for (flat_map (offers o) xs) ts at)
+    → (octets : List ℕ) × IsMember octets xs × Carries octets o ts at
 carried_by o xs ts at v m =
     let os : List Offer = flat_map (offers o) xs in
     let x = member-map (λ (y : Offer). y.value) v (filter (is_for ts at) os) m in
     let f = member-filter (is_for ts at) x.0 os x.1 in
     let d = member-flat_map (offers o) x.0 xs f.0 in
-    let is = is_for-true ts at x.0 f.1 in
-    (d.0, d.1, record { value = x.0.value; offered = subst (λ (y : Offer). IsMember y (offers o d.0)) (rebuilt x.0 is.0 is.1) d.2 })
+    let is = is_for-true ts at x.0 f.1 in (
+      d.0,
+      d.1,
+      record {
+        value = x.0.value;
+        offered =
+            subst (λ (y : Offer). IsMember y (offers o d.0)) (rebuilt x.0 is.0 is.1) d.2;
+      },
+    )
   where
-    rebuilt : (x : Offer) → x.timestamp ≡ ts → x.position ≡ at → x ≡ record { timestamp = ts; position = at; value = x.value }
-    rebuilt x e f = ap (λ (t : ℕ). offer t x.position x.value) e ∙ ap (λ (p : Position). offer ts p x.value) f
+    rebuilt : (x : Offer) → x.timestamp ≡ ts → x.position ≡ at
+        → x ≡ record { timestamp = ts; position = at; value = x.value }
+    rebuilt x e f =
+        ap (λ (t : ℕ). offer t x.position x.value) e ∙ ap (λ (p : Position). offer ts p x.value) f
 
-pub none_carried : (vs : List ℕ) (c : Cell) → IsCellOf vs c → ((v : ℕ) → IsMember v vs → ⊥) → c ≡ Missing
+pub none_carried : (vs : List ℕ) (c : Cell) → IsCellOf vs c → ((v : ℕ) → IsMember v vs → ⊥)
+    → c ≡ Missing
 none_carried vs Missing is none = refl
 none_carried vs (Value v) is none = absurd (none v is.0)
 none_carried vs Contested is none = absurd (none is.0 is.2)
 
-missing_iff : (s : Scene) (es : List Event) (stay : Stay) (q : Raster) → IsFrameOf q stay s es → (at : Position) → IsPosition s.opening.format at
-    → (cell_at q at ≡ Missing) ↔ ((octets : List ℕ) → Reaches octets stay s es → Carries octets s.opening stay.timestamp at → ⊥)
+missing_iff : (s : Scene) (es : List Event) (stay : Stay) (q : Raster) → IsFrameOf q stay s es
+    → (at : Position) → IsPosition s.opening.format at
+    → (cell_at q at ≡ Missing)
+    ↔ ((octets : List ℕ) → Reaches octets stay s es → Carries octets s.opening stay.timestamp at
+    → ⊥)
 missing_iff s es stay q is at there = (forth, back)
   where
-    forth : cell_at q at ≡ Missing → (octets : List ℕ) → Reaches octets stay s es → Carries octets s.opening stay.timestamp at → ⊥
+    forth : cell_at q at ≡ Missing → (octets : List ℕ) → Reaches octets stay s es
+        → Carries octets s.opening stay.timestamp at → ⊥
     forth e octets r c =
         let ts : ℕ = stay.timestamp in
         let os : List Offer = flat_map (offers s.opening) is.reached in
         let none : IsCellOf (values_for os ts at) Missing =
-        subst (IsCellOf (values_for os ts at)) (sym (cell_at-raster_of s.opening.format os ts at there) ∙ ap (λ (x : Raster). cell_at x at) (sym is.frame_is) ∙ e) (is_cell (values_for os ts at)) in
+        subst (IsCellOf (values_for os ts at))
+        (sym (cell_at-raster_of s.opening.format os ts at there)
+        ∙ ap (λ (x : Raster). cell_at x at) (sym is.frame_is) ∙ e)
+        (is_cell (values_for os ts at)) in
         none c.value (offered_here s.opening is.reached ts at octets c ((is.each octets).1 r))
 
-    back : ((octets : List ℕ) → Reaches octets stay s es → Carries octets s.opening stay.timestamp at → ⊥) → cell_at q at ≡ Missing
+    back :
+        ((octets : List ℕ) → Reaches octets stay s es → Carries octets s.opening stay.timestamp at
+        → ⊥) → cell_at q at ≡ Missing
     back none =
         let ts : ℕ = stay.timestamp in
         let os : List Offer = flat_map (offers s.opening) is.reached in
-        ap (λ (x : Raster). cell_at x at) is.frame_is ∙ cell_at-raster_of s.opening.format os ts at there
+        ap (λ (x : Raster). cell_at x at) is.frame_is
+        ∙ cell_at-raster_of s.opening.format os ts at there
         ∙ none_carried (values_for os ts at) (cell_of os ts at) (is_cell (values_for os ts at))
-        (λ v m. let d = carried_by s.opening is.reached ts at v m in none d.0 ((is.each d.0).0 d.1) d.2)
+        (λ v m. let d =
+        carried_by s.opening is.reached ts at v m in none d.0 ((is.each d.0).0 d.1) d.2)
 
 -- Each cell of a stay's frame is the sender's value or missing.
 pub senders_frame : (s : Scene) (snd : Sender) (ps : List Values) (es : List Event) (stay : Stay)

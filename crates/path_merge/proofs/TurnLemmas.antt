@@ -34,25 +34,33 @@ use Rattle.path_merge.proofs.MergeLemmas.{joined_frames-assoc}
 abbrev with_cells : Raster → List Cell → Raster
 with_cells r cells = record { format = r.format; cells = cells }
 
-frames_stay : (f : Format) (w : List ℕ) (rs : List Raster) → length rs ≡ length w → AllByRecursion (λ r. r.format ≡ f) rs → AllByRecursion IsWhole rs
+frames_stay : (f : Format) (w : List ℕ) (rs : List Raster) → length rs ≡ length w
+    → AllByRecursion (λ r. r.format ≡ f) rs → AllByRecursion IsWhole rs
     → rs ≡ joined_frames rs (map (raster_of f []) w)
 frames_stay f [] [] e formats whole = refl
 frames_stay f [] (r ∷ rs) e formats whole = absurd (omega arith)
 frames_stay f (t ∷ w) [] e formats whole = absurd (omega arith)
 frames_stay f (t ∷ w) (r ∷ rs) e formats whole =
-    let first : r ≡ with_cells r (joined r.cells (cells_of f [] t)) = ap (with_cells r) (sym (joined_none f t r.cells (whole.0 ∙ ap sample_count formats.0))) in
-    let rest : rs ≡ joined_frames rs (map (raster_of f []) w) = frames_stay f w rs (omega arith) formats.1 whole.1 in
-    ap (λ (q : Raster). q ∷ rs) first ∙ ap (λ (qs : List Raster). with_cells r (joined r.cells (cells_of f [] t)) ∷ qs) rest
+    let first : r ≡ with_cells r (joined r.cells (cells_of f [] t)) =
+    ap (with_cells r) (sym (joined_none f t r.cells (whole.0 ∙ ap sample_count formats.0))) in
+    let rest : rs ≡ joined_frames rs (map (raster_of f []) w) =
+    frames_stay f w rs (omega arith) formats.1 whole.1 in
+    ap (λ (q : Raster). q ∷ rs) first
+    ∙ ap (λ (qs : List Raster). with_cells r (joined r.cells (cells_of f [] t)) ∷ qs) rest
 
 -- no datagram leaves the frames
-no_datagram : (s : State) → IsReceiver s → s.frames ≡ joined_frames s.frames (frames_of s.opening [])
+no_datagram : (s : State) → IsReceiver s
+    → s.frames ≡ joined_frames s.frames (frames_of s.opening [])
 no_datagram s is =
     frames_stay s.opening.format s.opening.window s.frames is.one_each
-    (recursion_from_All (λ (r : Raster). r.format ≡ s.opening.format) s.frames is.of_format) (recursion_from_All IsWhole s.frames is.whole)
+    (recursion_from_All (λ (r : Raster). r.format ≡ s.opening.format) s.frames is.of_format)
+    (recursion_from_All IsWhole s.frames is.whole)
 
 -- some datagrams, and one more
-one_more : (s t u : State) (ds : List (List ℕ)) (d : List ℕ) → t.opening ≡ s.opening → t.frames ≡ joined_frames s.frames (frames_of s.opening ds)
-    → u.frames ≡ joined_frames t.frames (frames_of t.opening (d ∷ [])) → u.frames ≡ joined_frames s.frames (frames_of s.opening (ds ++ d ∷ []))
+one_more : (s t u : State) (ds : List (List ℕ)) (d : List ℕ) → t.opening ≡ s.opening
+    → t.frames ≡ joined_frames s.frames (frames_of s.opening ds)
+    → u.frames ≡ joined_frames t.frames (frames_of t.opening (d ∷ []))
+    → u.frames ≡ joined_frames s.frames (frames_of s.opening (ds ++ d ∷ []))
 one_more s t u ds d opening before now =
     now ∙ ap (λ (o : Opening). joined_frames t.frames (frames_of o (d ∷ []))) opening
     ∙ ap (λ (rs : List Raster). joined_frames rs (frames_of s.opening (d ∷ []))) before
@@ -61,61 +69,79 @@ one_more s t u ds d opening before now =
 
 -- ---- turns
 
-datagrams_of-append : (xs ys : List Due) → datagrams_of (xs ++ ys) ≡ datagrams_of xs ++ datagrams_of ys
+datagrams_of-append : (xs ys : List Due)
+    → datagrams_of (xs ++ ys) ≡ datagrams_of xs ++ datagrams_of ys
 datagrams_of-append [] ys = refl
-datagrams_of-append (Comes path octets ∷ xs) ys = ap (λ (ds : List (List ℕ)). octets ∷ ds) (datagrams_of-append xs ys)
+datagrams_of-append (Comes path octets ∷ xs) ys =
+    ap (λ (ds : List (List ℕ)). octets ∷ ds) (datagrams_of-append xs ys)
 datagrams_of-append (Nothing ∷ xs) ys = datagrams_of-append xs ys
 
 gives_none : (old : Option (List Due)) → GivesTurns old old []
 gives_none None = tt
 gives_none (Some due) = refl
 
-gives_more : (xs ys : List Due) (old mid new : Option (List Due)) → GivesTurns old mid xs → GivesTurns mid new ys → GivesTurns old new (xs ++ ys)
+gives_more : (xs ys : List Due) (old mid new : Option (List Due)) → GivesTurns old mid xs
+    → GivesTurns mid new ys → GivesTurns old new (xs ++ ys)
 gives_more xs ys None mid new first next = tt
 gives_more xs ys (Some a) None new first next = absurd first
 gives_more xs ys (Some a) (Some b) None first next = absurd next
-gives_more xs ys (Some a) (Some b) (Some c) first next = first ∙ ap (λ (l : List Due). xs ++ l) next ∙ sym (append_assoc xs ys c)
+gives_more xs ys (Some a) (Some b) (Some c) first next =
+    first ∙ ap (λ (l : List Due). xs ++ l) next ∙ sym (append_assoc xs ys c)
 
 -- ---- refusals
 
 pub last_64_few : {X : Type 0} → (xs : List X) → length xs ≤ 64 → last_64 xs ≡ xs
-last_64_few xs few = let none : length xs - 64 ≡ 0 = omega (arith, few) in ap (λ (n : ℕ). drop n xs) none
+last_64_few xs few = let none : length xs - 64 ≡ 0 =
+    omega (arith, few) in ap (λ (n : ℕ). drop n xs) none
 
 -- the last of the last and more are the last of all
-pub last_64_again : {X : Type 0} → (xs ys : List X) → last_64 (last_64 xs ++ ys) ≡ last_64 (xs ++ ys)
+pub last_64_again : {X : Type 0} → (xs ys : List X)
+    → last_64 (last_64 xs ++ ys) ≡ last_64 (xs ++ ys)
 last_64_again xs ys =
     let n : ℕ = length xs - 64 in
     let le : n ≤ length xs = omega arith in
     let front : drop n xs ++ ys ≡ drop n (xs ++ ys) = sym (drop-append-le n xs ys le) in
-    let many : n + (length (drop n xs ++ ys) - 64) ≡ length (xs ++ ys) - 64 = omega (arith, length-append (drop n xs) ys, length-append xs ys, length-drop n xs) in
+    let many : n + (length (drop n xs ++ ys) - 64) ≡ length (xs ++ ys) - 64 =
+    omega (arith, length-append (drop n xs) ys, length-append xs ys, length-drop n xs) in
     ap (drop (length (drop n xs ++ ys) - 64)) front
     ∙ drop-drop (length (drop n xs ++ ys) - 64) n (xs ++ ys)
     ∙ ap (λ (m : ℕ). drop m (xs ++ ys)) many
 
 -- what is kept after an answer
-kept_after : (path : Path) (r : Result Taken Refusal) (xs : List (Path × Refusal)) → length xs ≤ 64 → refusals_after path r xs ≡ last_64 (xs ++ refused_by path r)
-kept_after path (Ok t) xs few = sym (ap (λ (ys : List (Path × Refusal)). last_64 ys) (append-nil xs) ∙ last_64_few xs few)
+kept_after : (path : Path) (r : Result Taken Refusal) (xs : List (Path × Refusal)) → length xs ≤ 64
+    → refusals_after path r xs ≡ last_64 (xs ++ refused_by path r)
+kept_after path (Ok t) xs few =
+    sym (ap (λ (ys : List (Path × Refusal)). last_64 ys) (append-nil xs) ∙ last_64_few xs few)
 kept_after path (Err e) xs few = refl
 
 -- what is kept after one turn more
-refused_more : (s t u : State) (due more : List Due) (path : Path) (d : List ℕ) (r : Result Taken Refusal) → more ≡ Comes path d ∷ [] → IsReceiver t → t.opening ≡ s.opening
-    → t.refusals ≡ last_64 (s.refusals ++ flat_map (refusal_of s.opening) due) → r ≡ taken_at t.opening d → u.refusals ≡ refusals_after path r t.refusals
+refused_more : (s t u : State) (due more : List Due) (path : Path) (d : List ℕ)
+    (r : Result Taken Refusal) → more ≡ Comes path d ∷ [] → IsReceiver t → t.opening ≡ s.opening
+    → t.refusals ≡ last_64 (s.refusals ++ flat_map (refusal_of s.opening) due)
+    → r ≡ taken_at t.opening d → u.refusals ≡ refusals_after path r t.refusals
     → u.refusals ≡ last_64 (s.refusals ++ flat_map (refusal_of s.opening) (due ++ more))
 refused_more s t u due more path d r is_more is opening before answer now =
     let before_all : List (Path × Refusal) = s.refusals ++ flat_map (refusal_of s.opening) due in
     let one : List (Path × Refusal) = refused_by path r in
     let said : one ≡ flat_map (refusal_of s.opening) more =
-    ap (refused_by path) (answer ∙ ap (λ (o : Opening). taken_at o d) opening) ∙ sym (append-nil (refusal_of s.opening (Comes path d))) ∙ ap (flat_map (refusal_of s.opening)) (sym is_more) in
+    ap (refused_by path) (answer ∙ ap (λ (o : Opening). taken_at o d) opening)
+    ∙ sym (append-nil (refusal_of s.opening (Comes path d)))
+    ∙ ap (flat_map (refusal_of s.opening)) (sym is_more) in
     now ∙ kept_after path r t.refusals is.few_refusals
     ∙ ap (λ (xs : List (Path × Refusal)). last_64 (xs ++ one)) before
     ∙ last_64_again before_all one
     ∙ ap (λ (xs : List (Path × Refusal)). last_64 (before_all ++ xs)) said
-    ∙ ap (λ (xs : List (Path × Refusal)). last_64 xs) (append_assoc s.refusals (flat_map (refusal_of s.opening) due) (flat_map (refusal_of s.opening) more) ∙ ap (λ (xs : List (Path × Refusal)). s.refusals ++ xs) (sym (flat_map-append (refusal_of s.opening) due more)))
+    ∙ ap (λ (xs : List (Path × Refusal)). last_64 xs)
+    (append_assoc s.refusals (flat_map (refusal_of s.opening) due)
+    (flat_map (refusal_of s.opening) more)
+    ∙ ap (λ (xs : List (Path × Refusal)). s.refusals ++ xs)
+    (sym (flat_map-append (refusal_of s.opening) due more)))
 
 -- ---- what was taken
 
 -- what was taken in k turns
-pub record SoFar (k delivered : ℕ) (old now : Option (List Due)) (before after : State) : Type 0 where
+pub record SoFar (k delivered : ℕ) (old now : Option (List Due))
+    (before after : State) : Type 0 where
   pub due : List Due
   pub given : GivesTurns old now due
   pub turns : length due ≡ k
@@ -126,34 +152,55 @@ nothing_taken old s is = record {
   due = [];
   given = gives_none old;
   turns = refl;
-  taken = record { count = refl; opening = refl; frames = no_datagram s is; refusals = sym (ap (λ (xs : List (Path × Refusal)). last_64 xs) (append-nil s.refusals) ∙ last_64_few s.refusals is.few_refusals) };
+  taken =
+      record {
+        count = refl;
+        opening = refl;
+        frames = no_datagram s is;
+        refusals =
+            sym (ap (λ (xs : List (Path × Refusal)). last_64 xs) (append-nil s.refusals)
+            ∙ last_64_few s.refusals is.few_refusals);
+      };
 }
 
-pub datagram_taken : (k n count : ℕ) (path : Path) (buf : List ℕ) (r : Result Taken Refusal) (old mid new : Option (List Due)) (s t u : State) → SoFar k n old mid s t → IsReceiver t
-    → TakesTurn mid new (Datagram path count) buf → u.opening ≡ t.opening → u.frames ≡ joined_frames t.frames (frames_of t.opening (take count buf ∷ []))
+pub datagram_taken : (k n count : ℕ) (path : Path) (buf : List ℕ) (r : Result Taken Refusal)
+    (old mid new : Option (List Due)) (s t u : State) → SoFar k n old mid s t → IsReceiver t
+    → TakesTurn mid new (Datagram path count) buf → u.opening ≡ t.opening
+    → u.frames ≡ joined_frames t.frames (frames_of t.opening (take count buf ∷ []))
     → r ≡ taken_at t.opening (take count buf) → u.refusals ≡ refusals_after path r t.refusals
     → SoFar (k + 1) (n + 1) old new s u
-datagram_taken k n count path buf r old mid new s t u so_far is turn opening frames answer refusals =
+datagram_taken k n count path buf r old mid new s t u so_far is turn opening frames answer
+    refusals =
     let d : List ℕ = take count buf in
     let more : List Due = Comes path d ∷ [] in
-    let all : datagrams_of (so_far.due ++ more) ≡ datagrams_of so_far.due ++ d ∷ [] = datagrams_of-append so_far.due more in
+    let all : datagrams_of (so_far.due ++ more) ≡ datagrams_of so_far.due ++ d ∷ [] =
+    datagrams_of-append so_far.due more in
     record {
       due = so_far.due ++ more;
       given = gives_more so_far.due more old mid new so_far.given turn;
       turns = omega (arith, length-append so_far.due more, so_far.turns);
       taken = record {
-        count = ap length all ∙ omega (arith, length-append (datagrams_of so_far.due) (d ∷ []), so_far.taken.count);
+        count =
+            ap length all
+            ∙ omega (arith, length-append (datagrams_of so_far.due) (d ∷ []), so_far.taken.count);
         opening = opening ∙ so_far.taken.opening;
-        frames = one_more s t u (datagrams_of so_far.due) d so_far.taken.opening so_far.taken.frames frames
-            ∙ ap (λ (ds : List (List ℕ)). joined_frames s.frames (frames_of s.opening ds)) (sym all);
-        refusals = refused_more s t u so_far.due more path d r refl is so_far.taken.opening so_far.taken.refusals answer refusals;
+        frames =
+            one_more s t u
+            (datagrams_of so_far.due) d so_far.taken.opening so_far.taken.frames frames
+            ∙ ap (λ (ds : List (List ℕ)). joined_frames s.frames (frames_of s.opening ds))
+            (sym all);
+        refusals =
+            refused_more s t u so_far.due more path d r refl is so_far.taken.opening
+            so_far.taken.refusals answer refusals;
       };
     }
 
-pub quiet_taken : (k n : ℕ) (buf : List ℕ) (old mid new : Option (List Due)) (s t : State) → SoFar k n old mid s t → TakesTurn mid new Quiet buf → SoFar (k + 1) n old new s t
+pub quiet_taken : (k n : ℕ) (buf : List ℕ) (old mid new : Option (List Due)) (s t : State)
+    → SoFar k n old mid s t → TakesTurn mid new Quiet buf → SoFar (k + 1) n old new s t
 quiet_taken k n buf old mid new s t so_far turn =
     let more : List Due = Nothing ∷ [] in
-    let all : datagrams_of (so_far.due ++ more) ≡ datagrams_of so_far.due = datagrams_of-append so_far.due more ∙ append-nil (datagrams_of so_far.due) in
+    let all : datagrams_of (so_far.due ++ more) ≡ datagrams_of so_far.due =
+    datagrams_of-append so_far.due more ∙ append-nil (datagrams_of so_far.due) in
     record {
       due = so_far.due ++ more;
       given = gives_more so_far.due more old mid new so_far.given turn;
@@ -161,8 +208,15 @@ quiet_taken k n buf old mid new s t so_far turn =
       taken = record {
         count = ap length all ∙ so_far.taken.count;
         opening = so_far.taken.opening;
-        frames = so_far.taken.frames ∙ ap (λ (ds : List (List ℕ)). joined_frames s.frames (frames_of s.opening ds)) (sym all);
-        refusals = so_far.taken.refusals ∙ ap (λ (xs : List (Path × Refusal)). last_64 (s.refusals ++ xs)) (sym (flat_map-append (refusal_of s.opening) so_far.due more ∙ append-nil (flat_map (refusal_of s.opening) so_far.due)));
+        frames =
+            so_far.taken.frames
+            ∙ ap (λ (ds : List (List ℕ)). joined_frames s.frames (frames_of s.opening ds))
+            (sym all);
+        refusals =
+            so_far.taken.refusals
+            ∙ ap (λ (xs : List (Path × Refusal)). last_64 (s.refusals ++ xs))
+            (sym (flat_map-append (refusal_of s.opening) so_far.due more
+            ∙ append-nil (flat_map (refusal_of s.opening) so_far.due)));
       };
     }
 
@@ -171,25 +225,38 @@ quiet_taken k n buf old mid new s t so_far turn =
 pub counts_none : (old : ℕ) → CountsAll 0 old old
 counts_none old = record { none = λ _. refl; some = λ lt. absurd (omega arith) }
 
-one_counted : (n old mid new : ℕ) → CountsAll n old mid → CountsOne mid new → new ≡ min (old + (n + 1)) (2 ^ 64 - 1)
-one_counted zero old mid new before one = let same : mid ≡ old = before.none refl in omega (arith, one, same)
-one_counted (suc n) old mid new before one = let is : mid ≡ min (old + suc n) (2 ^ 64 - 1) = before.some (omega arith) in omega (arith, one, is)
+one_counted : (n old mid new : ℕ) → CountsAll n old mid → CountsOne mid new
+    → new ≡ min (old + (n + 1)) (2 ^ 64 - 1)
+one_counted zero old mid new before one = let same : mid ≡ old =
+    before.none refl in omega (arith, one, same)
+one_counted (suc n) old mid new before one = let is : mid ≡ min (old + suc n) (2 ^ 64 - 1) =
+    before.some (omega arith) in omega (arith, one, is)
 
-pub counts_more : (n old mid new : ℕ) → CountsAll n old mid → CountsOne mid new → CountsAll (n + 1) old new
-counts_more n old mid new before one = record { none = λ e. absurd (omega arith); some = λ _. one_counted n old mid new before one }
+pub counts_more : (n old mid new : ℕ) → CountsAll n old mid → CountsOne mid new
+    → CountsAll (n + 1) old new
+counts_more n old mid new before one =
+    record { none = λ e. absurd (omega arith); some = λ _. one_counted n old mid new before one }
 
 -- ---- what it holds
 
-gave_first : (old : List Due) (rest : Option (List Due)) (due : List Due) (n : ℕ) → GivesTurns (Some old) rest due → length (datagrams_of due) ≡ n → take n (datagrams_of old) ≡ datagrams_of due
+gave_first : (old : List Due) (rest : Option (List Due)) (due : List Due) (n : ℕ)
+    → GivesTurns (Some old) rest due → length (datagrams_of due) ≡ n
+    → take n (datagrams_of old) ≡ datagrams_of due
 gave_first old None due n given count = absurd given
 gave_first old (Some rest) due n given count =
-    ap (λ (ts : List Due). take n (datagrams_of ts)) given ∙ ap (take n) (datagrams_of-append due rest) ∙ take_at (datagrams_of due) (datagrams_of rest) n count
+    ap (λ (ts : List Due). take n (datagrams_of ts)) given
+    ∙ ap (take n) (datagrams_of-append due rest)
+    ∙ take_at (datagrams_of due) (datagrams_of rest) n count
 
-holds_due : (old rest : Option (List Due)) (due turns : List Due) (n : ℕ) (s t : State) (ds : List (List ℕ)) → GivesTurns old rest due → TakesDue due n s t → old ≡ Some turns → Holds s ds
+holds_due : (old rest : Option (List Due)) (due turns : List Due) (n : ℕ) (s t : State)
+    (ds : List (List ℕ)) → GivesTurns old rest due → TakesDue due n s t → old ≡ Some turns
+    → Holds s ds
     → Holds t (ds ++ take n (datagrams_of turns))
 holds_due old rest due turns n s t ds given taken told holds =
     let xs : List (List ℕ) = datagrams_of due in
-    let first : take n (datagrams_of turns) ≡ xs = gave_first turns rest due n (subst (λ (o : Option (List Due)). GivesTurns o rest due) told given) taken.count in
+    let first : take n (datagrams_of turns) ≡ xs =
+    gave_first turns rest due n
+    (subst (λ (o : Option (List Due)). GivesTurns o rest due) told given) taken.count in
     taken.frames ∙ ap (λ (rs : List Raster). joined_frames rs (frames_of s.opening xs)) holds
     ∙ sym (frames_of-append s.opening ds xs)
     ∙ ap (λ (o : Opening). frames_of o (ds ++ xs)) (sym taken.opening)
@@ -197,11 +264,15 @@ holds_due old rest due turns n s t ds given taken told holds =
 
 -- Where a receiver held the Frames of some datagrams, it then holds those of them and of what was
 -- delivered.
-pub holds_delivered : (limit : ℕ) (r : Result Received ReceiveFault) (old new : Option (List Due)) (s t : State)
+pub holds_delivered : (limit : ℕ) (r : Result Received ReceiveFault) (old new : Option (List Due))
+    (s t : State)
     → MatchResult r (λ x. Took limit x old new s t) (λ e. TookUpTo limit e.delivered old s t)
-    → (ds : List (List ℕ)) (turns : List Due) → old ≡ Some turns → Holds s ds → Holds t (ds ++ take (delivered_in r) (datagrams_of turns))
-holds_delivered limit (Ok x) old new s t took ds turns told holds = holds_due old new took.due turns x.delivered s t ds took.given took.taken told holds
-holds_delivered limit (Err e) old new s t took ds turns told holds = holds_due old took.rest took.due turns e.delivered s t ds took.given took.taken told holds
+    → (ds : List (List ℕ)) (turns : List Due) → old ≡ Some turns → Holds s ds
+    → Holds t (ds ++ take (delivered_in r) (datagrams_of turns))
+holds_delivered limit (Ok x) old new s t took ds turns told holds =
+    holds_due old new took.due turns x.delivered s t ds took.given took.taken told holds
+holds_delivered limit (Err e) old new s t took ds turns told holds =
+    holds_due old took.rest took.due turns e.delivered s t ds took.given took.taken told holds
 
 -- From the Frames of nothing, it then holds those of every list with the same datagrams.
 pub holds_any : (s t : State) (n : ℕ) (due : List Due)

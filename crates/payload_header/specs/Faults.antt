@@ -1,13 +1,19 @@
--- When octets are refused: one condition for each fault, over the whole list of headers (RFC 4175, 4; the
--- order of the faults is own).
+-- When octets are refused: one condition for each fault, over the whole list of headers (RFC 4175,
+-- 4; the order of the faults is own).
 use Rattle.std.specs.Prelude.{◌≡◌, ◌≢◌, ℕ, ◌+◌, ◌*◌, ◌/◌, ◌%◌, ◌^◌, ◌<◌, ◌≤◌, ◌⊎◌, true, List, ◌∷◌}
 use Rattle.std.specs.Prelude.{◌++◌, length, codes}
 use Rattle.std.specs.List.{flat_map, AllByRecursion}
 use Rattle.std.specs.Int.{w16, to_be_bytes}
 use Rattle.st_format.specs.declared.format.Format.{Format}
 use Rattle.payload_header.specs.declared.payload.PayloadFault.{PayloadFault}
-use Rattle.payload_header.specs.declared.payload.PayloadFault.TheVariants.{ShortPayloadHeader, TooManySegments, SecondField, BadLength, BadOffset, RowOutside, ColumnsOutside, ShortData}
-use Rattle.payload_header.specs.Payload.{group_of, Header, HeaderFits, header_text, IsChain, most_segments}
+use Rattle.payload_header.specs.declared.payload.PayloadFault.TheVariants.{ShortPayloadHeader}
+use Rattle.payload_header.specs.declared.payload.PayloadFault.TheVariants.{TooManySegments}
+use Rattle.payload_header.specs.declared.payload.PayloadFault.TheVariants.{SecondField, BadLength}
+use Rattle.payload_header.specs.declared.payload.PayloadFault.TheVariants.{BadOffset, RowOutside}
+use Rattle.payload_header.specs.declared.payload.PayloadFault.TheVariants.{ColumnsOutside}
+use Rattle.payload_header.specs.declared.payload.PayloadFault.TheVariants.{ShortData}
+use Rattle.payload_header.specs.Payload.{group_of, Header, HeaderFits, header_text, IsChain}
+use Rattle.payload_header.specs.Payload.{most_segments}
 use Rattle.payload_header.specs.Reading.{octets_of}
 
 -- the faults in their order (own)
@@ -43,8 +49,8 @@ pub record BeginsWith (octets : List ℕ) (headers : List Header) (more : List �
 abbrev pub AllGoOn : List Header → Type 0
 AllGoOn headers = AllByRecursion (λ h. h.more ≡ true) headers
 
--- A header is missing, or cut: fewer than three headers, all of which say that another follows, and behind them
--- less than a header.
+-- A header is missing, or cut: fewer than three headers, all of which say that another follows, and
+-- behind them less than a header.
 pub record LacksHeader (octets : List ℕ) : Type 0 where
   pub headers : List Header
   pub more : List ℕ
@@ -61,7 +67,8 @@ pub record GoesOn (octets : List ℕ) : Type 0 where
   pub go_on : AllGoOn headers
   pub as_many : length headers ≡ most_segments
 
--- Whole headers: one to three, of which all but the last say that another follows, and the data behind them
+-- Whole headers: one to three, of which all but the last say that another follows, and the data
+-- behind them
 pub record HasHeaders (octets : List ℕ) (headers : List Header) (more : List ℕ) : Type 0 where
   pub begins : BeginsWith octets headers more
   pub chain : IsChain headers
@@ -73,7 +80,8 @@ IsWrong f h SecondField = h.second_field ≡ true
 IsWrong f h BadLength = h.octets % (group_of f).octets ≢ 0
 IsWrong f h BadOffset = h.offset % (group_of f).pixels ≢ 0
 IsWrong f h RowOutside = f.height ≤ h.row
-IsWrong f h ColumnsOutside = f.width < h.offset + h.octets / (group_of f).octets * (group_of f).pixels
+IsWrong f h ColumnsOutside =
+    f.width < h.offset + h.octets / (group_of f).octets * (group_of f).pixels
 IsWrong f h ShortPayloadHeader = ⊥
 IsWrong f h TooManySegments = ⊥
 IsWrong f h ShortData = ⊥

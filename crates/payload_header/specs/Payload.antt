@@ -1,6 +1,7 @@
--- The grammar of a payload: what octets are a payload with these segments (RFC 4175, 4.2 and 4.3; SMPTE
--- ST 2110-20, 6.1 and 6.2).
-use Rattle.std.specs.Prelude.{◌≡◌, ℕ, ◌+◌, ◌*◌, ◌/◌, ◌%◌, ◌^◌, ◌<◌, ◌≤◌, Bool, true, false, if◌then◌else◌, List, [], ◌∷◌, ◌++◌, length}
+-- The grammar of a payload: what octets are a payload with these segments (RFC 4175, 4.2 and 4.3;
+-- SMPTE ST 2110-20, 6.1 and 6.2).
+use Rattle.std.specs.Prelude.{◌≡◌, ℕ, ◌+◌, ◌*◌, ◌/◌, ◌%◌, ◌^◌, ◌<◌, ◌≤◌, Bool, true, false}
+use Rattle.std.specs.Prelude.{if◌then◌else◌, List, [], ◌∷◌, ◌++◌, length}
 use Rattle.std.specs.List.{flat_map, AllByRecursion, AllZip}
 use Rattle.std.specs.Int.{w16, to_be_bytes}
 use Rattle.st_format.specs.declared.format.Format.{Format}
@@ -12,8 +13,8 @@ use Rattle.payload_header.specs.declared.payload.Segment.{Segment as SegmentView
 abbrev pub group_of : Format → Group
 group_of f = pixel_group f.sampling f.depth
 
--- A segment with octets has whole pixel groups, begins at one, and lies in the raster (RFC 4175, 4.2 and
--- 4.3; SMPTE ST 2110-20, 6.2).
+-- A segment with octets has whole pixel groups, begins at one, and lies in the raster (RFC 4175,
+-- 4.2 and 4.3; SMPTE ST 2110-20, 6.2).
 pub record IsInside (f : Format) (s : Segment) : Type 0 where
   pub whole_groups : length s.octets % (group_of f).octets ≡ 0
   pub at_group : s.offset % (group_of f).pixels ≡ 0
@@ -48,8 +49,8 @@ IsChain [] = ⊥
 IsChain (h ∷ []) = h.more ≡ false
 IsChain (h ∷ k ∷ hs) = (h.more ≡ true) × IsChain (k ∷ hs)
 
--- A header describes a segment of the first field. One without octets is free in its field, row and offset
--- (own).
+-- A header describes a segment of the first field. One without octets is free in its field, row and
+-- offset (own).
 pub record Describes (f : Format) (h : Header) (s : Segment) : Type 0 where
   pub octets : h.octets ≡ length s.octets
   pub row : h.row ≡ s.row
@@ -61,9 +62,10 @@ pub record Describes (f : Format) (h : Header) (s : Segment) : Type 0 where
 abbrev pub most_segments : ℕ
 most_segments = 3
 
--- The extended number, the headers, the segments' octets in the order of the headers (RFC 4175, 4.2 and 4.3),
--- and any rest (own)
-pub record IsPayload (f : Format) (extended : ℕ) (segments : List Segment) (payload : List ℕ) : Type 0 where
+-- The extended number, the headers, the segments' octets in the order of the headers (RFC 4175, 4.2
+-- and 4.3), and any rest (own)
+pub record IsPayload (f : Format) (extended : ℕ) (segments : List Segment)
+    (payload : List ℕ) : Type 0 where
   pub headers : List Header
   pub rest : List ℕ
   pub extended_fits : extended < 2 ^ 16
@@ -71,7 +73,9 @@ pub record IsPayload (f : Format) (extended : ℕ) (segments : List Segment) (pa
   pub few : length headers ≤ most_segments
   pub chain : IsChain headers
   pub described : AllZip (Describes f) headers segments
-  pub whole : payload ≡ to_be_bytes w16 extended ++ (flat_map header_text headers ++ (flat_map (λ s. s.octets) segments ++ rest))
+  pub whole : payload
+      ≡ to_be_bytes w16 extended ++
+      (flat_map header_text headers ++ (flat_map (λ s. s.octets) segments ++ rest))
 
 -- a segment without where its octets lie in memory
 abbrev pub seen : SegmentView → Segment

@@ -1,23 +1,33 @@
--- A walk over a payload from the left, as the code walks, which tells the first fault (RFC 4175, 4.2
--- and 4.3; the order of the tests is own). What a payload is says Payload, and which octets have a
--- fault says Faults; laws join the three.
-use Rattle.std.specs.Prelude.{◌≡◌, ℕ, zero, suc, ◌+◌, ◌*◌, ◌/◌, ◌%◌, ◌^◌, Bool, not, nat_lt, nat_le, ◌==◌, if◌then◌else◌, List, [], ◌∷◌, length, take, drop, sum_by, Option, Some, None, Result, Ok, Err}
+-- A walk over a payload from the left, as the code walks, which tells the first fault (RFC 4175,
+-- 4.2 and 4.3; the order of the tests is own). What a payload is says Payload, and which octets
+-- have a fault says Faults; laws join the three.
+use Rattle.std.specs.Prelude.{◌≡◌, ℕ, zero, suc, ◌+◌, ◌*◌, ◌/◌, ◌%◌, ◌^◌, Bool, not, nat_lt, nat_le}
+use Rattle.std.specs.Prelude.{◌==◌, if◌then◌else◌, List, [], ◌∷◌, length, take, drop, sum_by}
+use Rattle.std.specs.Prelude.{Option, Some, None, Result, Ok, Err}
 use Rattle.std.specs.Int.{w16, from_be_bytes}
 use Rattle.st_format.specs.declared.format.Format.{Format}
 use Rattle.st_format.specs.Raster.{Segment}
 use Rattle.payload_header.specs.declared.reading.Header.{Header as HeaderCode}
 use Rattle.payload_header.specs.declared.payload.PayloadFault.{PayloadFault}
-use Rattle.payload_header.specs.declared.payload.PayloadFault.TheVariants.{ShortPayloadHeader, TooManySegments, SecondField, BadLength, BadOffset, RowOutside, ColumnsOutside, ShortData}
+use Rattle.payload_header.specs.declared.payload.PayloadFault.TheVariants.{ShortPayloadHeader}
+use Rattle.payload_header.specs.declared.payload.PayloadFault.TheVariants.{TooManySegments}
+use Rattle.payload_header.specs.declared.payload.PayloadFault.TheVariants.{SecondField, BadLength}
+use Rattle.payload_header.specs.declared.payload.PayloadFault.TheVariants.{BadOffset, RowOutside}
+use Rattle.payload_header.specs.declared.payload.PayloadFault.TheVariants.{ColumnsOutside}
+use Rattle.payload_header.specs.declared.payload.PayloadFault.TheVariants.{ShortData}
 use Rattle.payload_header.specs.Payload.{group_of, Header, most_segments}
 
 infixl 10 ◌>>=◌
-abbrev pub ◌>>=◌ : {A B : Type 0} → Result A PayloadFault → (A → Result B PayloadFault) → Result B PayloadFault
+abbrev pub ◌>>=◌ : {A B : Type 0} → Result A PayloadFault → (A → Result B PayloadFault)
+    → Result B PayloadFault
 (Ok x) >>= f = f x
 (Err e) >>= f = Err e
 
 -- the number in two octets, and what follows
 abbrev pub number_at : List ℕ → Result (ℕ × List ℕ) PayloadFault
-number_at octets = if nat_lt (length octets) 2 then Err ShortPayloadHeader else Ok (from_be_bytes w16 (take 2 octets), drop 2 octets)
+number_at octets =
+    if nat_lt (length octets) 2 then Err ShortPayloadHeader
+    else Ok (from_be_bytes w16 (take 2 octets), drop 2 octets)
 
 -- a header of six octets
 unfoldable pub header_of : List ℕ → Header
@@ -38,7 +48,8 @@ headers_at zero octets = Err TooManySegments
 headers_at (suc n) octets =
     if nat_lt (length octets) 6 then Err ShortPayloadHeader else (
     let h : Header = header_of (take 6 octets) in
-    if h.more then (headers_at n (drop 6 octets) >>= λ r. Ok (h ∷ r.0, r.1)) else Ok (h ∷ [], drop 6 octets))
+    if h.more then (headers_at n (drop 6 octets) >>= λ r. Ok (h ∷ r.0, r.1))
+    else Ok (h ∷ [], drop 6 octets))
 
 -- the fault of the first test that holds
 abbrev pub first_of : List (Bool × PayloadFault) → Option PayloadFault
@@ -52,7 +63,10 @@ header_fault f h = if h.octets == 0 then None else first_of (
     ∷ (not (h.octets % (group_of f).octets == 0), BadLength)
     ∷ (not (h.offset % (group_of f).pixels == 0), BadOffset)
     ∷ (nat_le f.height h.row, RowOutside)
-    ∷ (nat_lt f.width (h.offset + h.octets / (group_of f).octets * (group_of f).pixels), ColumnsOutside)
+    ∷ (
+      nat_lt f.width (h.offset + h.octets / (group_of f).octets * (group_of f).pixels),
+      ColumnsOutside,
+    )
     ∷ [])
 
 abbrev pub option_or : Option PayloadFault → Option PayloadFault → Option PayloadFault
@@ -64,20 +78,24 @@ abbrev pub headers_fault : Format → List Header → Option PayloadFault
 headers_fault f [] = None
 headers_fault f (h ∷ hs) = option_or (header_fault f h) (headers_fault f hs)
 
-abbrev pub fault_or : {A : Type 0} → Option PayloadFault → Result A PayloadFault → Result A PayloadFault
+abbrev pub fault_or : {A : Type 0} → Option PayloadFault → Result A PayloadFault
+    → Result A PayloadFault
 fault_or None later = later
 fault_or (Some e) later = Err e
 
 -- each header's octets, taken from the data in order
 abbrev pub segments_at : List Header → List ℕ → List Segment
 segments_at [] octets = []
-segments_at (h ∷ hs) octets = record { row = h.row; offset = h.offset; octets = take h.octets octets } ∷ segments_at hs (drop h.octets octets)
+segments_at (h ∷ hs) octets =
+    record { row = h.row; offset = h.offset; octets = take h.octets octets } ∷ segments_at hs
+    (drop h.octets octets)
 
 abbrev pub octets_of : List Header → ℕ
 octets_of hs = sum_by (λ h. h.octets) hs
 
 abbrev pub data_at : List Header → List ℕ → Result (List Segment) PayloadFault
-data_at hs octets = if nat_lt (length octets) (octets_of hs) then Err ShortData else Ok (segments_at hs octets)
+data_at hs octets =
+    if nat_lt (length octets) (octets_of hs) then Err ShortData else Ok (segments_at hs octets)
 
 -- The walk: the extended number and the segments, or the first fault.
 unfoldable pub payload_walk : Format → List ℕ → Result (ℕ × List Segment) PayloadFault
@@ -94,4 +112,12 @@ Gives view (Err e) read = read ≡ Err e
 
 -- the fields that the code keeps
 abbrev pub fields : HeaderCode → Header
-fields h = record { octets = h.octets; second_field = h.second_field; row = h.row; more = h.more; offset = h.offset }
+fields h =
+    record {
+      octets = h.octets;
+      second_field = h.second_field;
+      row = h.row;
+      more = h.more;
+      offset =
+          h.offset;
+    }

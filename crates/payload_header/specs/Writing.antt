@@ -7,7 +7,8 @@ use Rattle.st_format.specs.Raster.{Segment}
 use Rattle.payload_header.specs.declared.writing.SegmentHead.{SegmentHead}
 use Rattle.payload_header.specs.Payload.{Header, header_text, IsInside, IsPayload, most_segments}
 
--- A head whose numbers fit the fields of a header: Length has 16 bits, row and Offset 15 (RFC 4175, 4.2)
+-- A head whose numbers fit the fields of a header: Length has 16 bits, row and Offset 15 (RFC 4175,
+-- 4.2)
 pub record HeadFits (h : SegmentHead) : Type 0 where
   pub octets : h.octets < 2 ^ 16
   pub row : h.row < 2 ^ 15
@@ -15,7 +16,8 @@ pub record HeadFits (h : SegmentHead) : Type 0 where
 
 -- The header of a head: F is clear, and C set where another header follows.
 abbrev pub header_of_head : Bool → SegmentHead → Header
-header_of_head more h = record { octets = h.octets; second_field = false; row = h.row; more = more; offset = h.offset }
+header_of_head more h =
+    record { octets = h.octets; second_field = false; row = h.row; more = more; offset = h.offset }
 
 -- C is set on all but the last
 abbrev pub headers_of_heads : List SegmentHead → List Header
@@ -25,7 +27,8 @@ headers_of_heads (h ∷ k ∷ hs) = header_of_head true h ∷ headers_of_heads (
 
 -- the extended number and the headers
 abbrev pub front_text : ℕ → List SegmentHead → List ℕ
-front_text extended heads = to_be_bytes w16 extended ++ flat_map header_text (headers_of_heads heads)
+front_text extended heads =
+    to_be_bytes w16 extended ++ flat_map header_text (headers_of_heads heads)
 
 -- a head has a segment's place and number of octets
 pub record Announces (h : SegmentHead) (s : Segment) : Type 0 where
@@ -34,7 +37,8 @@ pub record Announces (h : SegmentHead) (s : Segment) : Type 0 where
   pub offset : h.offset ≡ s.offset
 
 -- one to three heads that can be written, and the segments that they announce
-pub record AreHeads (extended : ℕ) (heads : List SegmentHead) (segments : List Segment) : Type 0 where
+pub record AreHeads (extended : ℕ) (heads : List SegmentHead)
+    (segments : List Segment) : Type 0 where
   pub extended_fits : extended < 2 ^ 16
   pub some : 0 < length heads
   pub few : length heads ≤ most_segments
@@ -50,6 +54,7 @@ abbrev pub AreInside : Format → List Segment → Type 0
 AreInside f segments = AllByRecursion (λ s. 0 < length s.octets → IsInside f s) segments
 
 -- a payload with nothing behind its segments
-pub record IsWholePayload (f : Format) (extended : ℕ) (segments : List Segment) (payload : List ℕ) : Type 0 where
+pub record IsWholePayload (f : Format) (extended : ℕ) (segments : List Segment)
+    (payload : List ℕ) : Type 0 where
   pub is_payload : IsPayload f extended segments payload
   pub no_rest : is_payload.rest ≡ []

@@ -8,44 +8,54 @@ ghost use Rattle.payload_header.specs.Reading.{payload_walk};
 ghost use Rattle.payload_header.specs.Faults.{IsRefused};
 ghost use Rattle.st_format.specs.Device.{AreOctets};
 ghost use Rattle.payload_header.specs.declared.writing.SegmentHead.{SegmentHead};
-ghost use Rattle.payload_header.specs.Writing.{AreHeads, AreInside, IsWholePayload, data_text, front_text};
+ghost use Rattle.payload_header.specs.Writing.{AreHeads, AreInside, IsWholePayload, data_text};
+ghost use Rattle.payload_header.specs.Writing.{front_text};
 
 /// Octets are a payload of a format in one way at most.
 pub fn one_reading()
-    ensures { (f : Format) (octets : List ℕ) (d e : ℕ) (ss ts : List Segment) → IsPayload f d ss octets → IsPayload f e ts octets → (d ≡ e) × (ss ≡ ts) }
+    ensures { (f : Format) (octets : List ℕ) (d e : ℕ) (ss ts : List Segment)
+        → IsPayload f d ss octets → IsPayload f e ts octets → (d ≡ e) × (ss ≡ ts) }
 {}
 
 /// Octets are a payload, or are refused.
 pub fn read_or_refused()
     ensures { (f : Format) (octets : List ℕ) → AreOctets octets
-        → ((extended : ℕ) × (segments : List Segment) × IsPayload f extended segments octets) ⊎ ((fault : PayloadFault) × IsRefused f octets fault) }
+        → ((extended : ℕ) × (segments : List Segment) × IsPayload f extended segments octets)
+        ⊎ ((fault : PayloadFault) × IsRefused f octets fault) }
 {}
 
 /// A payload isn't refused.
 pub fn payload_not_refused()
-    ensures { (f : Format) (octets : List ℕ) (extended : ℕ) (segments : List Segment) (fault : PayloadFault)
+    ensures { (f : Format) (octets : List ℕ) (extended : ℕ) (segments : List Segment)
+        (fault : PayloadFault)
         → IsPayload f extended segments octets → IsRefused f octets fault → ⊥ }
 {}
 
 /// Octets are refused for one fault at most.
 pub fn refused_once()
-    ensures { (f : Format) (octets : List ℕ) (a b : PayloadFault) → IsRefused f octets a → IsRefused f octets b → a ≡ b }
+    ensures { (f : Format) (octets : List ℕ) (a b : PayloadFault) → IsRefused f octets a
+        → IsRefused f octets b → a ≡ b }
 {}
 
 /// Reading from the left tells a fault exactly where its condition holds.
 pub fn fault_exactly()
-    ensures { (f : Format) (octets : List ℕ) (fault : PayloadFault) → AreOctets octets → (payload_walk f octets ≡ Err fault) ↔ IsRefused f octets fault }
+    ensures { (f : Format) (octets : List ℕ) (fault : PayloadFault) → AreOctets octets
+        → (payload_walk f octets ≡ Err fault) ↔ IsRefused f octets fault }
 {}
 
 /// The front that heads announce, with their segments' octets behind it, is a payload with these
 /// segments, just where the segments are whole pgroups, begin at one and lie in the raster.
 pub fn written_payload()
-    ensures { (f : Format) (extended : ℕ) (heads : List SegmentHead) (segments : List Segment) → AreHeads extended heads segments
-        → AreInside f segments ↔ IsWholePayload f extended segments (front_text extended heads ++ data_text segments) }
+    ensures { (f : Format) (extended : ℕ) (heads : List SegmentHead) (segments : List Segment)
+        → AreHeads extended heads segments
+        → AreInside f segments
+        ↔ IsWholePayload f extended segments (front_text extended heads ++ data_text segments) }
 {}
 
 /// Whatever stands behind them, it is a payload of no other number and no other segments.
 pub fn written_fields()
-    ensures { (f : Format) (extended d : ℕ) (heads : List SegmentHead) (segments ss : List Segment) (rest : List ℕ) → AreHeads extended heads segments
-        → IsPayload f d ss (front_text extended heads ++ (data_text segments ++ rest)) → (d ≡ extended) × (ss ≡ segments) }
+    ensures { (f : Format) (extended d : ℕ) (heads : List SegmentHead) (segments ss : List Segment)
+        (rest : List ℕ) → AreHeads extended heads segments
+        → IsPayload f d ss (front_text extended heads ++ (data_text segments ++ rest))
+        → (d ≡ extended) × (ss ≡ segments) }
 {}

@@ -9,15 +9,16 @@ use thiserror::Error;
 
 /// What is wrong with a payload: the first fault.
 ///
-/// The headers are read first, one after another. Then each header in turn is tested, in the order of
-/// the faults below; a header of Length 0 passes. Last comes the data (this order is the project's own).
+/// The headers are read first, one after another. Then each header in turn is tested, in the order
+/// of the faults below; a header of Length 0 passes. Last comes the data (this order is the
+/// project's own).
 #[derive(Clone, Copy, Debug, PartialEq, Eq, Error)]
 pub enum PayloadFault {
     /// There aren't two octets of extended number, or a header isn't whole (RFC 4175, 4.2).
     ShortPayloadHeader = 1,
 
-    /// The third header says that another follows. RFC 4175 allows more headers; SMPTE ST 2110-20, 6.1
-    /// allows three, and so does this reader: a sender of plain RFC 4175 is refused here.
+    /// The third header says that another follows. RFC 4175 allows more headers; SMPTE ST 2110-20,
+    /// 6.1 allows three, and so does this reader: a sender of plain RFC 4175 is refused here.
     TooManySegments = 2,
 
     /// F is set: the segment is of the second field of an interlaced frame.
@@ -108,5 +109,6 @@ pub struct PayloadView<'a> {
     pub extended: u16,
     /// One to three segments, in the order of their headers.
     pub segments: ArrayVec<Segment<'a>, 3>,
-    pub ghost inside: { All (λ s. 0 < length s.octets.now → IsInside format (seen s)) segments.items },
+    pub ghost inside: { All
+        (λ s. 0 < length s.octets.now → IsInside format (seen s)) segments.items },
 }

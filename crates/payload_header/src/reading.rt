@@ -5,7 +5,8 @@ ghost use Rattle.payload_header.specs.Faults.{IsRefused};
 ghost use Rattle.payload_header.specs.View.{said, segments_of};
 ghost use Rattle.payload_header.specs.Payload.{IsPayload, seen};
 ghost use Rattle.st_format.specs.Raster.{Segment as SegmentText};
-ghost use Rattle.payload_header.specs.Reading.{Gives, fields, header_fault, header_of, headers_at, headers_fault, octets_of, payload_walk, segments_at};
+ghost use Rattle.payload_header.specs.Reading.{Gives, fields, header_fault, header_of, headers_at};
+ghost use Rattle.payload_header.specs.Reading.{headers_fault, octets_of, payload_walk, segments_at};
 
 use crate::payload::{PayloadFault, PayloadView, Segment};
 use arrayvec::ArrayVec;
@@ -157,30 +158,33 @@ fn read<'a>(format: &Format, octets: &'a [u8]) -> Result<PayloadView<'a>, Payloa
     })
 }
 
-/// Reads the payload of an RTP packet as video of a format: `octets` are all that stands behind the RTP
-/// header, without padding.
+/// Reads the payload of an RTP packet as video of a format: `octets` are all that stands behind the
+/// RTP header, without padding.
 ///
-/// The view has the extended number and one to three segments, each with its octets where they lie in
-/// `octets`. A segment of Length 0 stands in the view with no octets, whatever its header says beside,
-/// and octets behind the last segment are ignored (both are the project's own).
+/// The view has the extended number and one to three segments, each with its octets where they lie
+/// in `octets`. A segment of Length 0 stands in the view with no octets, whatever its header says
+/// beside, and octets behind the last segment are ignored (both are the project's own).
 ///
 /// # Errors
 ///
 /// The first fault, in this order. While the headers are read one after another:
 /// `ShortPayloadHeader` where the two octets of extended number or a header aren't whole,
-/// `TooManySegments` where the third header says that another follows; a sender of plain RFC 4175, which
-/// knows no such limit, is refused so. Then for each header in turn that has octets: `SecondField` where
-/// F is set, `BadLength` where Length is no whole number of pgroups, `BadOffset` where Offset isn't at a
-/// pgroup, `RowOutside` where the row isn't below the height, `ColumnsOutside` where the pixels reach
-/// beyond the width. Last `ShortData`, where there are fewer octets than the sum of the Lengths.
+/// `TooManySegments` where the third header says that another follows; a sender of plain RFC 4175,
+/// which knows no such limit, is refused so. Then for each header in turn that has octets:
+/// `SecondField` where F is set, `BadLength` where Length is no whole number of pgroups,
+/// `BadOffset` where Offset isn't at a pgroup, `RowOutside` where the row isn't below the height,
+/// `ColumnsOutside` where the pixels reach beyond the width. Last `ShortData`, where there are
+/// fewer octets than the sum of the Lengths.
 pub fn read_payload<'a>(format: &Format, octets: &'a [u8]) -> Result<PayloadView<'a>, PayloadFault>
     // What is read is in the grammar.
     ensures found { IfOk result (λ v. IsPayload format.now v.extended (segments_of v) octets.now) }
     // What is in the grammar is read, in its one reading.
-    ensures only { (extended : ℕ) (segments : List SegmentText) → IsPayload format.now extended segments octets.now
+    ensures only { (extended : ℕ) (segments : List SegmentText)
+        → IsPayload format.now extended segments octets.now
         → Gives said result (Ok (extended, segments)) }
     // Each fault comes exactly where its condition holds.
-    ensures refused { (fault : PayloadFault) → (result ≡ Err fault) ↔ IsRefused format.now octets.now fault }
+    ensures refused { (fault : PayloadFault)
+        → (result ≡ Err fault) ↔ IsRefused format.now octets.now fault }
     // The answer as a walk over the octets, for the walks that go on from it.
     ensures exact { Gives said result (payload_walk format.now octets.now) }
     ensures format { IfOk result (λ v. v.format ≡ format.now) }

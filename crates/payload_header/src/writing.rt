@@ -1,10 +1,13 @@
 //! Writing the front of a payload: its extended number and headers (RFC 4175, 4.2).
-ghost use Rattle.std.specs.Prelude.{◌≡◌, ◌<◌, ◌≤◌, ◌+◌, ◌*◌, ◌^◌, ◌++◌, ◌↔◌, List, length, take, drop};
+ghost use Rattle.std.specs.Prelude.{◌≡◌, ◌<◌, ◌≤◌, ◌+◌, ◌*◌, ◌^◌, ◌++◌, ◌↔◌, List, length, take};
+ghost use Rattle.std.specs.Prelude.{drop};
 ghost use Rattle.std.specs.List.{flat_map, AllByRecursion, AllZip};
 ghost use Rattle.st_format.specs.declared.format.Format.{Format};
 ghost use Rattle.st_format.specs.Raster.{Segment};
 ghost use Rattle.payload_header.specs.Payload.{header_text, most_segments};
-ghost use Rattle.payload_header.specs.Writing.{Announces, AreInside, HeadFits, IsWholePayload, data_text, front_text, header_of_head, headers_of_heads};
+ghost use Rattle.payload_header.specs.Writing.{Announces, AreInside, HeadFits, IsWholePayload};
+ghost use Rattle.payload_header.specs.Writing.{data_text, front_text, header_of_head};
+ghost use Rattle.payload_header.specs.Writing.{headers_of_heads};
 
 use byteorder::{BigEndian, ByteOrder};
 
@@ -40,7 +43,8 @@ fn write_header_at(buf: &mut [u8], at: usize, head: &SegmentHead, more: bool) ->
     requires fields { HeadFits head.now }
     ensures length { length buf.new ≡ length buf.old }
     ensures value { result ≡ at + 6 }
-    ensures written { take (at + 6) buf.new ≡ take at buf.old ++ header_text (header_of_head more head.now) }
+    ensures written { take (at + 6) buf.new
+        ≡ take at buf.old ++ header_text (header_of_head more head.now) }
 {
     write_header(&mut buf[at..], head, more);
     at + 6
@@ -65,14 +69,16 @@ fn write_front(buf: &mut [u8], extended: u16, heads: &[SegmentHead])
     requires room { 2 + 6 * length heads.now ≤ length buf.old }
     requires fields { AllByRecursion HeadFits heads.now }
     ensures length { length buf.new ≡ length buf.old }
-    ensures written { buf.new ≡ front_text extended heads.now ++ drop (2 + 6 * length heads.now) buf.old }
+    ensures written { buf.new
+        ≡ front_text extended heads.now ++ drop (2 + 6 * length heads.now) buf.old }
 {
     BigEndian::write_u16(buf, extended);
     write_headers(&mut buf[2..2 + 6 * heads.len()], heads);
 }
 
-/// Writes the front of a payload, the extended number and a header for each of one to three segments,
-/// and answers how many octets that are: `2 + 6 * heads`. What follows them in `buf` stays.
+/// Writes the front of a payload, the extended number and a header for each of one to three
+/// segments, and answers how many octets that are: `2 + 6 * heads`. What follows them in `buf`
+/// stays.
 ///
 /// The segments' octets then belong behind the front, in the order of the heads. That each is whole
 /// pgroups, begins at one and lies in the raster is the caller's to see to.
@@ -83,11 +89,13 @@ pub fn write_payload_header(buf: &mut [u8], extended: u16, heads: &[SegmentHead]
     requires fields { AllByRecursion HeadFits heads.now }
     ensures length { length buf.new ≡ length buf.old }
     ensures value { result ≡ 2 + 6 * length heads.now }
-    ensures written { buf.new ≡ front_text extended heads.now ++ drop (2 + 6 * length heads.now) buf.old }
-    // With the segments' octets behind it this is a payload with their fields, just where they lie in
-    // the format's raster as the grammar asks.
+    ensures written { buf.new
+        ≡ front_text extended heads.now ++ drop (2 + 6 * length heads.now) buf.old }
+    // With the segments' octets behind it this is a payload with their fields, just where they lie
+    // in the format's raster as the grammar asks.
     ensures payload { (f : Format) (segments : List Segment) → AllZip Announces heads.now segments
-        → AreInside f segments ↔ IsWholePayload f extended segments (take result buf.new ++ data_text segments) }
+        → AreInside f segments
+        ↔ IsWholePayload f extended segments (take result buf.new ++ data_text segments) }
 {
     write_front(buf, extended, heads);
     2 + 6 * heads.len()

@@ -1,5 +1,6 @@
 -- One pixel group: which of its samples differ from another's, and samples that are blanked (own).
-use Rattle.std.specs.Prelude.{◌≡◌, ◌<◌, ℕ, ◌+◌, ◌*◌, ◌==◌, if◌then◌else◌, List, [], ◌∷◌, length, take, drop, max, slice_index}
+use Rattle.std.specs.Prelude.{◌≡◌, ◌<◌, ℕ, ◌+◌, ◌*◌, ◌==◌, if◌then◌else◌, List, [], ◌∷◌, length}
+use Rattle.std.specs.Prelude.{take, drop, max, slice_index}
 use Rattle.std.specs.Int.{bit_at}
 
 -- 1 where the samples of number i differ, else 0. Behind the last sample of both, none differs.
@@ -18,9 +19,13 @@ blanked mask vs = blanked_from mask 0 vs
 abbrev pub samples_of : ℕ → ℕ → List ℕ → List ℕ
 samples_of samples group vs = take samples (drop (samples * group) vs)
 
--- Groups' samples, others' samples, and the groups' mark words: each word has the bit more of each sample that differs,
--- and each sample whose bit is then set is 0.
+-- Groups' samples, others' samples, and the groups' mark words: each word has the bit more of each
+-- sample that differs, and each sample whose bit is then set is 0.
 pub record AreContested (samples : ℕ) (vs ws marks new_marks new : List ℕ) : Type 0 where
   pub bits : (group : ℕ) → group < length marks → (i : ℕ)
-      → bit_at (slice_index new_marks group) i ≡ max (bit_at (slice_index marks group) i) (differs_at (samples_of samples group vs) (samples_of samples group ws) i)
-  pub blank : (group : ℕ) → group < length marks → samples_of samples group new ≡ blanked (slice_index new_marks group) (samples_of samples group vs)
+      → bit_at (slice_index new_marks group) i
+      ≡ max (bit_at (slice_index marks group) i)
+      (differs_at (samples_of samples group vs) (samples_of samples group ws) i)
+  pub blank : (group : ℕ) → group < length marks
+      → samples_of samples group new
+      ≡ blanked (slice_index new_marks group) (samples_of samples group vs)

@@ -1,5 +1,6 @@
 //! Several pixel groups at once: which of their samples differ from others', and blanking these.
-ghost use Rattle.std.specs.Prelude.{◌≡◌, ◌<◌, ◌≤◌, ◌+◌, ◌*◌, ◌==◌, if◌then◌else◌, ℕ, length, max, nat_lt, slice_index};
+ghost use Rattle.std.specs.Prelude.{◌≡◌, ◌<◌, ◌≤◌, ◌+◌, ◌*◌, ◌==◌, if◌then◌else◌, ℕ, length, max};
+ghost use Rattle.std.specs.Prelude.{nat_lt, slice_index};
 ghost use Rattle.std.specs.Int.{bit_at};
 ghost use Rattle.pgroup_pack.specs.Groups.{AreContested, differs_at};
 ghost use Rattle.st_format.specs.Pgroup.{bits_of, pixel_group};
@@ -15,15 +16,19 @@ const LANES: usize = 48;
 /// How many pgroups of any format have no more samples than that.
 const FEW: usize = 4;
 
-/// Compares up to eight pgroups with others: in each one's mark word the bit of each sample that differs is
-/// set, and each sample whose bit is then set becomes 0.
+/// Compares up to eight pgroups with others: in each one's mark word the bit of each sample that
+/// differs is set, and each sample whose bit is then set becomes 0.
 ///
 /// The octets are whole pgroups, one for each mark word.
 pub fn contest(format: &Format, octets: &mut [u8], others: &[u8], marks: &mut [u16])
     requires few { length marks.old ≤ 8 }
-    requires octets { length octets.old ≡ (pixel_group format.now.sampling format.now.depth).octets * length marks.old }
+    requires octets { length octets.old
+        ≡ (pixel_group format.now.sampling format.now.depth).octets * length marks.old }
     requires others { length others.now ≡ length octets.old }
-    ensures { AreContested (pixel_group format.now.sampling format.now.depth).samples (values_in (bits_of format.now.depth) octets.old) (values_in (bits_of format.now.depth) others.now) marks.old marks.new (values_in (bits_of format.now.depth) octets.new) }
+    ensures { AreContested (pixel_group format.now.sampling format.now.depth).samples
+        (values_in (bits_of format.now.depth) octets.old)
+        (values_in (bits_of format.now.depth) others.now) marks.old marks.new
+        (values_in (bits_of format.now.depth) octets.new) }
 {
     if format.pgroup().samples * marks.len() <= LANES {
         contest_few(format, octets, others, marks);
@@ -46,14 +51,20 @@ pub fn contest(format: &Format, octets: &mut [u8], others: &[u8], marks: &mut [u
 
 /// The same of pgroups that have no more samples than are compared at once.
 fn contest_few(format: &Format, octets: &mut [u8], others: &[u8], marks: &mut [u16])
-    requires few { (pixel_group format.now.sampling format.now.depth).samples * length marks.old ≤ LANES }
-    requires octets { length octets.old ≡ (pixel_group format.now.sampling format.now.depth).octets * length marks.old }
+    requires few { (pixel_group format.now.sampling format.now.depth).samples * length marks.old
+        ≤ LANES }
+    requires octets { length octets.old
+        ≡ (pixel_group format.now.sampling format.now.depth).octets * length marks.old }
     requires others { length others.now ≡ length octets.old }
-    ensures { AreContested (pixel_group format.now.sampling format.now.depth).samples (values_in (bits_of format.now.depth) octets.old) (values_in (bits_of format.now.depth) others.now) marks.old marks.new (values_in (bits_of format.now.depth) octets.new) }
+    ensures { AreContested (pixel_group format.now.sampling format.now.depth).samples
+        (values_in (bits_of format.now.depth) octets.old)
+        (values_in (bits_of format.now.depth) others.now) marks.old marks.new
+        (values_in (bits_of format.now.depth) octets.new) }
 {
     let samples = format.pgroup().samples;
     let are_eight = samples == 4 && marks.len() == 8 && octets.len() == others.len();
-    // Eight pgroups of 4:2:2 at 8 and 10 bits as literals: the compiler then unrolls all that is done.
+    // Eight pgroups of 4:2:2 at 8 and 10 bits as literals: the compiler then unrolls all that is
+    // done.
     match format.depth {
         Depth::D8 if are_eight && octets.len() == 32 => {
             contest_lanes(format, Depth::D8, 4, octets, others, marks)
@@ -77,10 +88,15 @@ fn contest_lanes(
 )
     requires depth { depth ≡ format.now.depth }
     requires samples { samples ≡ (pixel_group format.now.sampling format.now.depth).samples }
-    requires few { (pixel_group format.now.sampling format.now.depth).samples * length marks.old ≤ LANES }
-    requires octets { length octets.old ≡ (pixel_group format.now.sampling format.now.depth).octets * length marks.old }
+    requires few { (pixel_group format.now.sampling format.now.depth).samples * length marks.old
+        ≤ LANES }
+    requires octets { length octets.old
+        ≡ (pixel_group format.now.sampling format.now.depth).octets * length marks.old }
     requires others { length others.now ≡ length octets.old }
-    ensures { AreContested (pixel_group format.now.sampling format.now.depth).samples (values_in (bits_of format.now.depth) octets.old) (values_in (bits_of format.now.depth) others.now) marks.old marks.new (values_in (bits_of format.now.depth) octets.new) }
+    ensures { AreContested (pixel_group format.now.sampling format.now.depth).samples
+        (values_in (bits_of format.now.depth) octets.old)
+        (values_in (bits_of format.now.depth) others.now) marks.old marks.new
+        (values_in (bits_of format.now.depth) octets.new) }
 {
     let count = samples * marks.len();
     let mut left = [0; LANES];
@@ -126,8 +142,12 @@ fn mark_differing(samples: usize, differ: u64, marks: &mut [u16]) -> u64
     requires some { 0 < samples }
     requires most { samples ≤ 12 }
     requires few { samples * length marks.old ≤ LANES }
-    ensures marks { (group : ℕ) → group < length marks.old → (i : ℕ) → bit_at (slice_index marks.new group) i ≡ max (bit_at (slice_index marks.old group) i) (if nat_lt i samples then bit_at differ (samples * group + i) else 0) }
-    ensures bits { (group : ℕ) → group < length marks.old → (i : ℕ) → i < samples → bit_at result (samples * group + i) ≡ bit_at (slice_index marks.new group) i }
+    ensures marks { (group : ℕ) → group < length marks.old → (i : ℕ)
+        → bit_at (slice_index marks.new group) i
+        ≡ max (bit_at (slice_index marks.old group) i)
+        (if nat_lt i samples then bit_at differ (samples * group + i) else 0) }
+    ensures bits { (group : ℕ) → group < length marks.old → (i : ℕ) → i < samples
+        → bit_at result (samples * group + i) ≡ bit_at (slice_index marks.new group) i }
 {
     let all = (1 << samples) - 1;
     let mut bits = 0;
@@ -143,7 +163,9 @@ fn mark_differing(samples: usize, differ: u64, marks: &mut [u16]) -> u64
 #[inline(always)]
 fn blank_bits(samples: &mut [u16], bits: u64)
     requires { length samples.old ≡ LANES }
-    ensures { (k : ℕ) → k < LANES → slice_index samples.new k ≡ (if bit_at bits k == 1 then 0 else slice_index samples.old k) }
+    ensures { (k : ℕ) → k < LANES
+        → slice_index samples.new k
+        ≡ (if bit_at bits k == 1 then 0 else slice_index samples.old k) }
 {
     blank_lanes(samples, 0, (bits % 65536) as u16);
     blank_lanes(samples, 16, (bits / 65536 % 65536) as u16);
@@ -154,7 +176,9 @@ fn blank_bits(samples: &mut [u16], bits: u64)
 #[inline(always)]
 fn blank_lanes(samples: &mut [u16], at: usize, bits: u16)
     requires { at + 16 ≤ length samples.old }
-    ensures inside { (k : ℕ) → k < 16 → slice_index samples.new (at + k) ≡ (if bit_at bits k == 1 then 0 else slice_index samples.old (at + k)) }
+    ensures inside { (k : ℕ) → k < 16
+        → slice_index samples.new (at + k)
+        ≡ (if bit_at bits k == 1 then 0 else slice_index samples.old (at + k)) }
     ensures before { (k : ℕ) → k < at → slice_index samples.new k ≡ slice_index samples.old k }
     ensures behind { (k : ℕ) → at + 16 ≤ k → slice_index samples.new k ≡ slice_index samples.old k }
 {

@@ -18,7 +18,10 @@ const MOST: usize = 12;
 pub fn differing(format: &Format, a: &[u8], b: &[u8]) -> u16
     requires first { length a.now ≡ (pixel_group format.now.sampling format.now.depth).octets }
     requires second { length b.now ≡ (pixel_group format.now.sampling format.now.depth).octets }
-    ensures { (i : ℕ) → bit_at result i ≡ differs_at (values_in (bits_of format.now.depth) a.now) (values_in (bits_of format.now.depth) b.now) i }
+    ensures { (i : ℕ)
+        → bit_at result i
+        ≡ differs_at (values_in (bits_of format.now.depth) a.now)
+        (values_in (bits_of format.now.depth) b.now) i }
 {
     let count = format.pgroup().samples;
     let mut left = [0; MOST];
@@ -31,7 +34,8 @@ pub fn differing(format: &Format, a: &[u8], b: &[u8]) -> u16
 /// Makes each sample of a pgroup 0 whose bit of the mask is set.
 pub fn blank(format: &Format, octets: &mut [u8], mask: u16)
     requires { length octets.old ≡ (pixel_group format.now.sampling format.now.depth).octets }
-    ensures { values_in (bits_of format.now.depth) octets.new ≡ blanked mask (values_in (bits_of format.now.depth) octets.old) }
+    ensures { values_in (bits_of format.now.depth) octets.new
+        ≡ blanked mask (values_in (bits_of format.now.depth) octets.old) }
 {
     let count = format.pgroup().samples;
     let mut room = [0; MOST];

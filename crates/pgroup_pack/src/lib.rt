@@ -1,8 +1,8 @@
 //! Samples in octets, and back: the pixel groups of RFC 4175, 4.3, and SMPTE ST 2110-20, 6.2.5.
 //!
 //! The samples of a pixel group follow one another without gaps, each with its most significant bit
-//! first. So octets spell samples where the bits of the octets are the bits of the samples, joined in
-//! order. Octets are passed by whole pixel groups, as a row, a segment or one group of it.
+//! first. So octets spell samples where the bits of the octets are the bits of the samples, joined
+//! in order. Octets are passed by whole pixel groups, as a row, a segment or one group of it.
 #![tactic(auto)]
 
 mod contests;
@@ -23,8 +23,8 @@ use st_format::{Depth, Format};
 
 /// Reads the samples that octets spell, in the order in which they are sent.
 ///
-/// The octets are whole pixel groups, none too, and the slices agree: the octets have as many bits as
-/// the samples.
+/// The octets are whole pixel groups, none too, and the slices agree: the octets have as many bits
+/// as the samples.
 pub fn unpack(format: &Format, octets: &[u8], samples: &mut [u16])
     requires { Agree format.now (length octets.now) (length samples.old) }
     ensures spelled { Spells (bits_of format.now.depth) octets.now samples.new }
@@ -35,8 +35,8 @@ pub fn unpack(format: &Format, octets: &[u8], samples: &mut [u16])
 
 /// Writes the octets that spell samples, which stand in the order in which they are sent.
 ///
-/// The samples are those of whole pixel groups, none too, each fits the depth, and the slices agree:
-/// the octets have as many bits as the samples.
+/// The samples are those of whole pixel groups, none too, each fits the depth, and the slices
+/// agree: the octets have as many bits as the samples.
 pub fn pack(format: &Format, samples: &[u16], octets: &mut [u8])
     requires lengths { Agree format.now (length octets.old) (length samples.now) }
     requires fit { Fit (bits_of format.now.depth) samples.now }

@@ -1,5 +1,7 @@
 -- What is written of a receiver is read as it.
-use Rattle.std.proofs.Common.{◌≡◌, ℕ, suc, ◌^◌, ◌<◌, ◌≤◌, Bool, true, false, cond, eqb, ltb, ◌||◌, List, [], ◌∷◌, ◌++◌, length, map, Option, None, Some, Result, Ok, Err, append_assoc, append-nil, refl, sym, ap, ◌∙◌, subst, inl, inr, arith}
+use Rattle.std.proofs.Common.{◌≡◌, ℕ, suc, ◌^◌, ◌<◌, ◌≤◌, Bool, true, false, cond, eqb, ltb, ◌||◌}
+use Rattle.std.proofs.Common.{List, [], ◌∷◌, ◌++◌, length, map, Option, None, Some, Result, Ok, Err}
+use Rattle.std.proofs.Common.{append_assoc, append-nil, refl, sym, ap, ◌∙◌, subst, inl, inr, arith}
 use Rattle.std.specs.Prelude.{IfErr, IfOk, MatchResult, ⊤}
 use Rattle.std.specs.Int.{w32, from_be_bytes, to_be_bytes}
 use Rattle.std.specs.List.{AllByRecursion, flat_map, list_any}
@@ -13,7 +15,10 @@ use Rattle.path_merge.specs.Frames.{State}
 use Rattle.path_merge.specs.Opening.{AreDifferent}
 use Rattle.path_merge.proofs.Answered.{member_from_any}
 use Rattle.capture_file.specs.declared.fault.FileFault.{FileFault}
-use Rattle.capture_file.specs.declared.fault.FileFault.TheVariants.{NoMemory, Device, BadName, BadVersion, Truncated, BadField, TrailingBytes, MixedGroup, TooManyRecords}
+use Rattle.capture_file.specs.declared.fault.FileFault.TheVariants.{NoMemory, Device, BadName}
+use Rattle.capture_file.specs.declared.fault.FileFault.TheVariants.{BadVersion, Truncated, BadField}
+use Rattle.capture_file.specs.declared.fault.FileFault.TheVariants.{TrailingBytes, MixedGroup}
+use Rattle.capture_file.specs.declared.fault.FileFault.TheVariants.{TooManyRecords}
 use Rattle.capture_file.specs.declared.front.Version.TheVariants.{One}
 use Rattle.capture_file.specs.Blocks.{block_at}
 use Rattle.capture_file.specs.Faults.{IfContent, IsMachine}
@@ -21,18 +26,22 @@ use Rattle.capture_file.specs.Fields.{◌>>=◌, Fails, Gives, Leaves}
 use Rattle.capture_file.specs.Fronts.{kind_at, kind_of, kind_text, receiver_name, with_rest}
 use Rattle.capture_file.specs.Groups.{Shape, groups_at, groups_text, shape_of}
 use Rattle.capture_file.specs.PictureFaults.{IsFormat}
-use Rattle.capture_file.specs.StateFile.{Held, IsHeld, Kept, SsrcFits, format_text, group_count, held_text, opening_text, ssrc_text, state_text}
+use Rattle.capture_file.specs.StateFile.{Held, IsHeld, Kept, SsrcFits, format_text, group_count}
+use Rattle.capture_file.specs.StateFile.{held_text, opening_text, ssrc_text, state_text}
 use Rattle.capture_file.proofs.Grouped.{groups_again}
 use Rattle.capture_file.proofs.Once.{shape_is}
 use Rattle.capture_file.proofs.PictureFaults.{block_tells}
 use Rattle.capture_file.proofs.Splits.{field_again}
 use Rattle.receiver_file.specs.declared.front.Head.{Head}
-use Rattle.receiver_file.specs.Front.{count_at, count_of, flag_at, flag_of, head_at, name_at, only_one, payload_type_at, payload_type_of, ssrc_at, ssrc_of}
+use Rattle.receiver_file.specs.Front.{count_at, count_of, flag_at, flag_of, head_at, name_at}
+use Rattle.receiver_file.specs.Front.{only_one, payload_type_at, payload_type_of, ssrc_at, ssrc_of}
 use Rattle.receiver_file.specs.Numbers.{number_at}
 use Rattle.receiver_file.specs.Saved.{IsSaved, kept_of, timestamp_in}
 use Rattle.receiver_file.specs.StateFaults.{IsHead, block_front, frames_front, head_text}
-use Rattle.receiver_file.specs.StateReading.{all_held_at, end_at, held_at, new_of, state_at, timestamp_at}
-use Rattle.receiver_file.proofs.Found.{behind_block, behind_frames, behind_head, with_head, with_kept}
+use Rattle.receiver_file.specs.StateReading.{all_held_at, end_at, held_at, new_of, state_at}
+use Rattle.receiver_file.specs.StateReading.{timestamp_at}
+use Rattle.receiver_file.proofs.Found.{behind_block, behind_frames, behind_head, with_head}
+use Rattle.receiver_file.proofs.Found.{with_kept}
 use Rattle.receiver_file.proofs.KnownReads.{octet_is}
 
 abbrev Field : Type 0
@@ -48,21 +57,26 @@ read_number n rest = Ok (n, rest)
 name_again : (rest : List ℕ) → name_at (kind_text receiver_name One ++ rest) ≡ Ok (tt, rest)
 unfolding name_at kind_at
 name_again rest =
-    ap (λ (r : Field). (r >>= λ x. with_rest (kind_of receiver_name x.0) x.1) >>= λ x. with_rest (only_one x.0) x.1) (field_again 8 (kind_text receiver_name One) rest refl)
+    ap (λ (r : Field). (r >>= λ x. with_rest (kind_of receiver_name x.0) x.1) >>=
+    λ x. with_rest (only_one x.0) x.1) (field_again 8 (kind_text receiver_name One) rest refl)
 
 -- the fields behind it
 pub number_again : (n : ℕ) (rest : List ℕ) → n < 2 ^ 32
     → number_at (to_be_bytes w32 n ++ rest) ≡ Ok (n, rest)
 unfolding number_at
 number_again n rest lt =
-    ap (λ (r : Field). r >>= λ x. read_number (from_be_bytes w32 x.0) x.1) (field_again 4 (to_be_bytes w32 n) rest refl) ∙ ap (λ (m : ℕ). read_number m rest) (from_be_bytes-to_be_bytes_4 n lt)
+    ap (λ (r : Field). r >>= λ x. read_number (from_be_bytes w32 x.0) x.1)
+    (field_again 4 (to_be_bytes w32 n) rest refl)
+    ∙ ap (λ (m : ℕ). read_number m rest) (from_be_bytes-to_be_bytes_4 n lt)
 
 pub type_again : (n : ℕ) (rest : List ℕ) → n < 128
     → payload_type_at (n ∷ rest) ≡ Ok (n, rest)
 unfolding payload_type_at
 type_again n rest lt =
     ap (λ (r : Number). r >>= λ x. with_rest (payload_type_of x.0) x.1) (octet_is n rest)
-    ∙ ap (λ (b : Bool). let r : Result ℕ FileFault = cond b (Err BadField) (Ok n) in with_rest r rest) (le-ltb 127 n (omega arith))
+    ∙ ap
+    (λ (b : Bool). let r : Result ℕ FileFault =
+    cond b (Err BadField) (Ok n) in with_rest r rest) (le-ltb 127 n (omega arith))
 
 pub flag_off : (rest : List ℕ) → flag_at (0 ∷ rest) ≡ Ok (false, rest)
 unfolding flag_at
@@ -76,18 +90,26 @@ pub ssrc_again : (s : Option ℕ) (rest : List ℕ) → SsrcFits s
     → ssrc_at (ssrc_text s ++ rest) ≡ Ok (s, rest)
 unfolding ssrc_at
 ssrc_again None rest fits =
-    ap (λ (r : Result (Bool × List ℕ) FileFault). r >>= λ x. number_at x.1 >>= λ n. with_rest (ssrc_of x.0 n.0) n.1) (flag_off (to_be_bytes w32 0 ++ rest))
-    ∙ ap (λ (r : Number). r >>= λ n. with_rest (ssrc_of false n.0) n.1) (number_again 0 rest (omega arith))
+    ap (λ (r : Result (Bool × List ℕ) FileFault). r >>= λ x. number_at x.1 >>=
+    λ n. with_rest (ssrc_of x.0 n.0) n.1) (flag_off (to_be_bytes w32 0 ++ rest))
+    ∙ ap (λ (r : Number). r >>= λ n. with_rest (ssrc_of false n.0) n.1)
+    (number_again 0 rest (omega arith))
 ssrc_again (Some n) rest fits =
-    ap (λ (r : Result (Bool × List ℕ) FileFault). r >>= λ x. number_at x.1 >>= λ n. with_rest (ssrc_of x.0 n.0) n.1) (flag_on (to_be_bytes w32 n ++ rest))
+    ap (λ (r : Result (Bool × List ℕ) FileFault). r >>= λ x. number_at x.1 >>=
+    λ n. with_rest (ssrc_of x.0 n.0) n.1) (flag_on (to_be_bytes w32 n ++ rest))
     ∙ ap (λ (r : Number). r >>= λ n. with_rest (ssrc_of true n.0) n.1) (number_again n rest fits)
 
 count_again : (n : ℕ) (rest : List ℕ) → 0 < n → n ≤ 16 → count_at (n ∷ rest) ≡ Ok (n, rest)
 unfolding count_at
 count_again n rest some few =
     ap (λ (r : Number). r >>= λ x. with_rest (count_of x.0) x.1) (octet_is n rest)
-    ∙ ap (λ (b : Bool). let r : Result ℕ FileFault = cond (b || ltb 16 n) (Err BadField) (Ok n) in with_rest r rest) (ne_eqb n 0 (λ (e : n ≡ 0). omega arith))
-    ∙ ap (λ (b : Bool). let r : Result ℕ FileFault = cond b (Err BadField) (Ok n) in with_rest r rest) (le-ltb 16 n few)
+    ∙ ap
+    (λ (b : Bool). let r : Result ℕ FileFault =
+    cond (b || ltb 16 n) (Err BadField) (Ok n) in with_rest r rest)
+    (ne_eqb n 0 (λ (e : n ≡ 0). omega arith))
+    ∙ ap
+    (λ (b : Bool). let r : Result ℕ FileFault =
+    cond b (Err BadField) (Ok n) in with_rest r rest) (le-ltb 16 n few)
 
 pub head_again : (h : Head) (rest : List ℕ) → IsHead h
     → head_at (head_text h ++ rest) ≡ with_head h.payload_type h.ssrc h.count rest
@@ -123,16 +145,26 @@ different_out (x ∷ before) w t d (inr m) = different_out before w t d.1 m
 pub new_all : (before : List ℕ) (hs : List Held) → AreDifferent (before ++ map timestamp_in hs)
     → AreNew before hs
 new_all before [] d = tt
-new_all before (h ∷ hs) d =
-    (different_out before (map timestamp_in hs) h.timestamp d, new_all (before ++ h.timestamp ∷ []) hs (subst AreDifferent (sym (append_assoc before (h.timestamp ∷ []) (map timestamp_in hs))) d))
+new_all before (h ∷ hs) d = (
+  different_out before (map timestamp_in hs) h.timestamp d,
+  new_all (before ++ h.timestamp ∷ []) hs
+      (subst AreDifferent (sym (append_assoc before (h.timestamp ∷ []) (map timestamp_in hs))) d),
+)
 
 pub stamp_again : (before : List ℕ) (t : ℕ) (rest : List ℕ) → t < 2 ^ 32
     → (IsMember t before → ⊥) → timestamp_at before (to_be_bytes w32 t ++ rest) ≡ Ok (t, rest)
 unfolding timestamp_at
 stamp_again before t rest lt out =
     let none : list_any (λ u. eqb u t) before ≡ false =
-    elim (cases_Bool (list_any (λ u. eqb u t) before)) [ inl there ↦ absurd (out (member_from_any t before there)) | inr not_there ↦ not_there ] in
-    ap (λ (r : Number). r >>= λ x. with_rest (new_of before x.0) x.1) (number_again t rest lt) ∙ ap (λ (b : Bool). let r : Result ℕ FileFault = cond b (Err BadField) (Ok t) in with_rest r rest) none
+    elim (cases_Bool (list_any (λ u. eqb u t) before)) [
+      | inl there ↦ absurd
+          (out (member_from_any t before there))
+      | inr not_there ↦ not_there
+    ] in
+    ap (λ (r : Number). r >>= λ x. with_rest (new_of before x.0) x.1) (number_again t rest lt)
+    ∙ ap
+    (λ (b : Bool). let r : Result ℕ FileFault =
+    cond b (Err BadField) (Ok t) in with_rest r rest) none
 
 abbrev pub One_frame : Type 0
 One_frame = Result (Held × List ℕ) FileFault
@@ -146,9 +178,14 @@ unfolding held_at
 held_again f before h rest is out =
     let s : Shape = shape_of f.sampling f.depth in
     ap (held_at f before) (append_assoc (to_be_bytes w32 h.timestamp) (groups_text s h.groups) rest)
-    ∙ ap (λ (r : Number). r >>= λ t. groups_at s (group_count f) t.1 >>= λ g. held_made t.0 g.0 g.1) (stamp_again before h.timestamp (groups_text s h.groups ++ rest) is.timestamp out)
-    ∙ ap (λ (r : Result (List (List Cell) × List ℕ) FileFault). r >>= λ g. held_made h.timestamp g.0 g.1)
-    (ap (λ (n : ℕ). groups_at s n (groups_text s h.groups ++ rest)) (sym is.count) ∙ groups_again s h.groups rest (shape_is f.sampling f.depth) is.groups)
+    ∙ ap
+    (λ (r : Number). r >>= λ t. groups_at s (group_count f) t.1 >>= λ g. held_made t.0 g.0 g.1)
+    (stamp_again before h.timestamp (groups_text s h.groups ++ rest) is.timestamp out)
+    ∙ ap
+    (λ (r : Result (List (List Cell) × List ℕ) FileFault). r >>=
+    λ g. held_made h.timestamp g.0 g.1)
+    (ap (λ (n : ℕ). groups_at s n (groups_text s h.groups ++ rest)) (sym is.count)
+    ∙ groups_again s h.groups rest (shape_is f.sampling f.depth) is.groups)
 
 abbrev pub Frames_read : Type 0
 Frames_read = Result (List Held × List ℕ) FileFault
@@ -162,9 +199,15 @@ all_again : (f : Fields) (before : List ℕ) (hs : List Held) (rest : List ℕ)
 unfolding all_held_at
 all_again f before [] rest all new = refl
 all_again f before (h ∷ hs) rest all new =
-    ap (all_held_at f (suc (length hs)) before) (append_assoc (held_text f h) (flat_map (held_text f) hs) rest)
-    ∙ ap (λ (r : One_frame). r >>= λ x. all_held_at f (length hs) (before ++ x.0.timestamp ∷ []) x.1 >>= λ y. ok_frames (x.0 ∷ y.0) y.1) (held_again f before h (flat_map (held_text f) hs ++ rest) all.0 new.0)
-    ∙ ap (λ (r : Frames_read). r >>= λ y. ok_frames (h ∷ y.0) y.1) (all_again f (before ++ h.timestamp ∷ []) hs rest all.1 new.1)
+    ap (all_held_at f (suc (length hs)) before)
+    (append_assoc (held_text f h) (flat_map (held_text f) hs) rest)
+    ∙ ap
+    (λ (r : One_frame). r >>=
+    λ x. all_held_at f (length hs) (before ++ x.0.timestamp ∷ []) x.1 >>=
+    λ y. ok_frames (x.0 ∷ y.0) y.1)
+    (held_again f before h (flat_map (held_text f) hs ++ rest) all.0 new.0)
+    ∙ ap (λ (r : Frames_read). r >>= λ y. ok_frames (h ∷ y.0) y.1)
+    (all_again f (before ++ h.timestamp ∷ []) hs rest all.1 new.1)
 
 -- ---- the file
 
@@ -236,14 +279,17 @@ ok_kept k rest = Ok (k, rest)
 abbrev failed : FileFault → Result (Kept × List ℕ) FileFault
 failed f = Err f
 
-only_ok : (k l : Kept) (octets : List ℕ) (new : Option (List ℕ)) → state_at octets ≡ Ok (k, []) → Leaves (state_at octets) l new → l ≡ k
+only_ok : (k l : Kept) (octets : List ℕ) (new : Option (List ℕ)) → state_at octets ≡ Ok (k, [])
+    → Leaves (state_at octets) l new → l ≡ k
 only_ok k l octets None e p = absurd p
 only_ok k l octets (Some rest) e p = ap (kept_in l) (sym p ∙ e)
 
-clash : (k : Kept) (octets : List ℕ) (f : FileFault) → state_at octets ≡ Ok (k, []) → state_at octets ≡ Err f → ⊥
+clash : (k : Kept) (octets : List ℕ) (f : FileFault) → state_at octets ≡ Ok (k, [])
+    → state_at octets ≡ Err f → ⊥
 clash k octets f e p = let bad : ok_kept k [] ≡ failed f = sym e ∙ p in absurd cc
 
-only_err : (k : Kept) (octets : List ℕ) (f : FileFault) → state_at octets ≡ Ok (k, []) → IfContent f (state_at octets ≡ Err f) → IsMachine f
+only_err : (k : Kept) (octets : List ℕ) (f : FileFault) → state_at octets ≡ Ok (k, [])
+    → IfContent f (state_at octets ≡ Err f) → IsMachine f
 only_err k octets NoMemory e p = tt
 only_err k octets Device e p = tt
 only_err k octets BadName e p = clash k octets BadName e p
@@ -254,7 +300,13 @@ only_err k octets TrailingBytes e p = clash k octets TrailingBytes e p
 only_err k octets MixedGroup e p = clash k octets MixedGroup e p
 only_err k octets TooManyRecords e p = clash k octets TooManyRecords e p
 
-pub only_state : (old new : Option (List ℕ)) (r : Result State FileFault) → IfOk r (λ s. Gives state_at old new (kept_of s)) → IfErr r (λ f. Fails state_at old f) → (k : Kept) → old ≡ Some (state_text k) → IsSaved k
+pub only_state : (old new : Option (List ℕ)) (r : Result State FileFault)
+    → IfOk r (λ s. Gives state_at old new (kept_of s)) → IfErr r (λ f. Fails state_at old f)
+    → (k : Kept) → old ≡ Some (state_text k) → IsSaved k
     → MatchResult r (λ s. kept_of s ≡ k) IsMachine
-only_state old new (Ok s) p q k told is = only_ok k (kept_of s) (state_text k) new (state_again k is) (subst (λ (o : Option (List ℕ)). Gives state_at o new (kept_of s)) told p)
-only_state old new (Err f) p q k told is = only_err k (state_text k) f (state_again k is) (subst (λ (o : Option (List ℕ)). Fails state_at o f) told q)
+only_state old new (Ok s) p q k told is =
+    only_ok k (kept_of s) (state_text k) new (state_again k is)
+    (subst (λ (o : Option (List ℕ)). Gives state_at o new (kept_of s)) told p)
+only_state old new (Err f) p q k told is =
+    only_err k (state_text k) f (state_again k is)
+    (subst (λ (o : Option (List ℕ)). Fails state_at o f) told q)

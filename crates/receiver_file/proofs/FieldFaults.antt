@@ -1,7 +1,10 @@
 -- The fields before the frames: each fault is read exactly where its condition holds.
-use Rattle.std.proofs.Common.{◌≡◌, ℕ, zero, suc, ◌^◌, ◌<◌, ◌≤◌, Bool, true, false, cond, ◌||◌, eqb, ltb, List, [], ◌∷◌, length, get_or, Option, None, Some, Result, Ok, Err, refl, sym, ap, ◌∙◌, subst, inl, inr, arith}
+use Rattle.std.proofs.Common.{◌≡◌, ℕ, zero, suc, ◌^◌, ◌<◌, ◌≤◌, Bool, true, false, cond, ◌||◌, eqb}
+use Rattle.std.proofs.Common.{ltb, List, [], ◌∷◌, length, get_or, Option, None, Some, Result, Ok}
+use Rattle.std.proofs.Common.{Err, refl, sym, ap, ◌∙◌, subst, inl, inr, arith}
 use Rattle.std.specs.Prelude.{◌⊎◌}
-use Rattle.std.proofs.lemmas.Bool.{eq-eqb, eqb-true, eqb-false, lt-ltb, ltb-false, ltb-true, ne_eqb, or_parts}
+use Rattle.std.proofs.lemmas.Bool.{eq-eqb, eqb-true, eqb-false, lt-ltb, ltb-false, ltb-true, ne_eqb}
+use Rattle.std.proofs.lemmas.Bool.{or_parts}
 use Rattle.st_format.specs.Device.{AreOctets}
 use Rattle.st_format.specs.Fields.{Fields}
 use Rattle.path_merge.specs.Opening.{IsWindowSize}
@@ -17,11 +20,14 @@ use Rattle.capture_file.proofs.Failing.{answered, field_fails, not_both, same_fa
 use Rattle.capture_file.proofs.Found.{failed, given, split_then}
 use Rattle.capture_file.proofs.PictureFaults.{block_refused}
 use Rattle.receiver_file.specs.declared.front.Head.{Head}
-use Rattle.receiver_file.specs.Front.{count_at, flag_at, flag_of, head_at, payload_type_at, ssrc_at, ssrc_of}
+use Rattle.receiver_file.specs.Front.{count_at, flag_at, flag_of, head_at, payload_type_at, ssrc_at}
+use Rattle.receiver_file.specs.Front.{ssrc_of}
 use Rattle.receiver_file.specs.Numbers.{number_at, octet_at}
 use Rattle.receiver_file.specs.StateFaults.{HasNoBlock, HasNumber, HasOctet, IsHead, flag_octet}
-use Rattle.receiver_file.proofs.Found.{flag_takes, number_takes, octet_takes, type_takes, with_flag, with_head, with_number, with_source}
-use Rattle.receiver_file.proofs.FrameFaults.{FieldFails, number_begins, number_fails, number_read, number_short, tested_clear, tested_fails, tested_finds}
+use Rattle.receiver_file.proofs.Found.{flag_takes, number_takes, octet_takes, type_takes, with_flag}
+use Rattle.receiver_file.proofs.Found.{with_head, with_number, with_source}
+use Rattle.receiver_file.proofs.FrameFaults.{FieldFails, number_begins, number_fails, number_read}
+use Rattle.receiver_file.proofs.FrameFaults.{number_short, tested_clear, tested_fails, tested_finds}
 use Rattle.receiver_file.proofs.FrameFaults.FieldFails.{Ends, Says}
 use Rattle.receiver_file.proofs.GroupsFound.{behind, cut_takes}
 use Rattle.receiver_file.proofs.KnownReads.{octet_is}

@@ -1,5 +1,7 @@
 -- What is read as a receiver's file is its text.
-use Rattle.std.proofs.Common.{◌≡◌, ℕ, zero, suc, Bool, true, false, cond, ◌||◌, eqb, ltb, List, [], ◌∷◌, ◌++◌, length, get_or, Option, None, Some, Result, Ok, Err, append_assoc, append-nil, refl, sym, ap, ◌∙◌, subst, inl, inr, arith}
+use Rattle.std.proofs.Common.{◌≡◌, ℕ, zero, suc, Bool, true, false, cond, ◌||◌, eqb, ltb, List, []}
+use Rattle.std.proofs.Common.{◌∷◌, ◌++◌, length, get_or, Option, None, Some, Result, Ok, Err}
+use Rattle.std.proofs.Common.{append_assoc, append-nil, refl, sym, ap, ◌∙◌, subst, inl, inr, arith}
 use Rattle.std.specs.Prelude.{IfOk}
 use Rattle.std.specs.Int.{w32, from_be_bytes, to_be_bytes}
 use Rattle.std.specs.List.{flat_map, list_any}
@@ -10,20 +12,23 @@ use Rattle.st_format.specs.Device.{AreOctets, TellsOctets}
 use Rattle.st_format.specs.Fields.{Fields}
 use Rattle.path_merge.specs.Frames.{State}
 use Rattle.capture_file.specs.declared.fault.FileFault.{FileFault}
-use Rattle.capture_file.specs.declared.fault.FileFault.TheVariants.{BadField, BadVersion, TrailingBytes}
+use Rattle.capture_file.specs.declared.fault.FileFault.TheVariants.{BadField, BadVersion}
+use Rattle.capture_file.specs.declared.fault.FileFault.TheVariants.{TrailingBytes}
 use Rattle.capture_file.specs.declared.front.Version.{Version}
 use Rattle.capture_file.specs.declared.front.Version.TheVariants.{One, Two}
 use Rattle.capture_file.specs.Blocks.{block_at}
 use Rattle.capture_file.specs.Fields.{◌>>=◌, Gives, Leaves, field_at}
 use Rattle.capture_file.specs.Fronts.{kind_at, kind_text, receiver_name, with_rest}
 use Rattle.capture_file.specs.Groups.{Shape, groups_at, groups_text, shape_of}
-use Rattle.capture_file.specs.StateFile.{Held, Kept, format_text, group_count, held_text, opening_text, ssrc_text, state_text}
+use Rattle.capture_file.specs.StateFile.{Held, Kept, format_text, group_count, held_text}
+use Rattle.capture_file.specs.StateFile.{opening_text, ssrc_text, state_text}
 use Rattle.capture_file.proofs.Entries.{chosen}
 use Rattle.capture_file.proofs.Found.{failed, given, kind_takes, split_then}
 use Rattle.capture_file.proofs.Once.{shape_is}
 use Rattle.capture_file.proofs.Seen.{block_takes}
 use Rattle.receiver_file.specs.declared.front.Head.{Head}
-use Rattle.receiver_file.specs.Front.{count_at, flag_at, flag_of, head_at, name_at, only_one, payload_type_at, ssrc_at, ssrc_of}
+use Rattle.receiver_file.specs.Front.{count_at, flag_at, flag_of, head_at, name_at, only_one}
+use Rattle.receiver_file.specs.Front.{payload_type_at, ssrc_at, ssrc_of}
 use Rattle.receiver_file.specs.Numbers.{number_at, octet_at}
 use Rattle.receiver_file.specs.Saved.{IsSaved, IsWritable, kept_of}
 use Rattle.receiver_file.specs.StateFaults.{flag_octet, head_text}
@@ -103,7 +108,8 @@ name_takes octets x e =
     only_is octets a.first.1 a.first.0 b.first (kind_takes receiver_name octets a.first a.is) b.is
     ∙ ap (λ (p : Unit {0} × List ℕ). kind_text receiver_name One ++ p.1) same
 
-pub type_takes : (octets : List ℕ) (x : ℕ × List ℕ) → AreOctets octets → payload_type_at octets ≡ Ok x
+pub type_takes : (octets : List ℕ) (x : ℕ × List ℕ) → AreOctets octets
+    → payload_type_at octets ≡ Ok x
     → octets ≡ x.0 ∷ x.1
 unfolding payload_type_at
 type_takes octets x bytes e =
@@ -165,7 +171,8 @@ ssrc_is false n s e =
       | inr w ↦ let bad : failed (Option ℕ) BadField ≡ Ok s = w.1 in absurd cc
     ]
 
-pub ssrc_takes : (octets : List ℕ) (x : Option ℕ × List ℕ) → AreOctets octets → ssrc_at octets ≡ Ok x
+pub ssrc_takes : (octets : List ℕ) (x : Option ℕ × List ℕ) → AreOctets octets
+    → ssrc_at octets ≡ Ok x
     → octets ≡ ssrc_text x.0 ++ x.1
 unfolding ssrc_at
 ssrc_takes octets x bytes e =
@@ -267,11 +274,13 @@ abbrev pub behind_one : Fields → ℕ → List ℕ → Held × List ℕ → Fra
 behind_one f n before h =
     all_held_at f n (before ++ h.0.timestamp ∷ []) h.1 >>= λ y. with_frames (h.0 ∷ y.0) y.1
 
-pub record TakesFrames (f : Fields) (n : ℕ) (octets : List ℕ) (x : List Held × List ℕ) : Type 0 where
+pub record TakesFrames (f : Fields) (n : ℕ) (octets : List ℕ)
+    (x : List Held × List ℕ) : Type 0 where
   pub count : length x.0 ≡ n
   pub text : octets ≡ frames_text f x
 
-pub all_take : (f : Fields) (n : ℕ) (before octets : List ℕ) (x : List Held × List ℕ) → AreOctets octets
+pub all_take : (f : Fields) (n : ℕ) (before octets : List ℕ) (x : List Held × List ℕ)
+    → AreOctets octets
     → all_held_at f n before octets ≡ Ok x → TakesFrames f n octets x
 unfolding all_held_at
 all_take f zero before octets x bytes e =

@@ -1,5 +1,7 @@
 -- Timestamps and frames: where a reading of them fails; what is read is what a file can say.
-use Rattle.std.proofs.Common.{◌≡◌, ℕ, zero, suc, ◌^◌, ◌<◌, Bool, true, false, cond, eqb, List, [], ◌∷◌, ◌++◌, length, map, Result, Ok, Err, append_assoc, append-nil, refl, sym, ap, ◌∙◌, subst, inl, inr, arith}
+use Rattle.std.proofs.Common.{◌≡◌, ℕ, zero, suc, ◌^◌, ◌<◌, Bool, true, false, cond, eqb, List, []}
+use Rattle.std.proofs.Common.{◌∷◌, ◌++◌, length, map, Result, Ok, Err, append_assoc, append-nil}
+use Rattle.std.proofs.Common.{refl, sym, ap, ◌∙◌, subst, inl, inr, arith}
 use Rattle.std.specs.Prelude.{◌⊎◌}
 use Rattle.std.specs.Int.{w32, from_be_bytes, to_be_bytes}
 use Rattle.std.specs.List.{AllByRecursion, flat_map, list_any}
@@ -16,15 +18,18 @@ use Rattle.capture_file.specs.Fronts.{with_rest}
 use Rattle.capture_file.specs.Groups.{IsGroup, Shape, group_at, groups_at, groups_text}
 use Rattle.capture_file.specs.StateFile.{Held, IsHeld, group_count, held_text}
 use Rattle.capture_file.proofs.Entries.{chosen}
-use Rattle.capture_file.proofs.Failing.{answered, field_fails, field_short, not_both, same_fault, split_fails}
+use Rattle.capture_file.proofs.Failing.{answered, field_fails, field_short, not_both, same_fault}
+use Rattle.capture_file.proofs.Failing.{split_fails}
 use Rattle.capture_file.proofs.Found.{failed, given, split_then}
 use Rattle.capture_file.proofs.Once.{shape_is}
 use Rattle.receiver_file.specs.Numbers.{number_at}
 use Rattle.receiver_file.specs.Saved.{timestamp_in}
 use Rattle.receiver_file.specs.StateFaults.{HasNumber, shape_by}
 use Rattle.receiver_file.specs.StateReading.{all_held_at, held_at, timestamp_at}
-use Rattle.receiver_file.proofs.Again.{AreNew, Frames_read, One_frame, held_again, number_again, stamp_again}
-use Rattle.receiver_file.proofs.Found.{behind_one, held_takes, number_takes, read_passes, stamp_takes, with_frames, with_held, with_number}
+use Rattle.receiver_file.proofs.Again.{AreNew, Frames_read, One_frame, held_again, number_again}
+use Rattle.receiver_file.proofs.Again.{stamp_again}
+use Rattle.receiver_file.proofs.Found.{behind_one, held_takes, number_takes, read_passes}
+use Rattle.receiver_file.proofs.Found.{stamp_takes, with_frames, with_held, with_number}
 use Rattle.receiver_file.proofs.GroupFaults.{groups_fail, groups_read, groups_stop}
 use Rattle.receiver_file.proofs.GroupsFound.{Many, behind, cut_takes}
 

@@ -1,5 +1,6 @@
 -- The fields before the frames, read from a source.
-use Rattle.std.proofs.Common.{◌≡◌, ℕ, ◌<◌, ◌≤◌, Bool, cond, ltb, ◌||◌, List, Option, Result, Ok, Err, refl, sym, ap, ◌∙◌, arith}
+use Rattle.std.proofs.Common.{◌≡◌, ℕ, ◌<◌, ◌≤◌, Bool, cond, ltb, ◌||◌, List, Option, Result, Ok}
+use Rattle.std.proofs.Common.{Err, refl, sym, ap, ◌∙◌, arith}
 use Rattle.std.specs.Prelude.{IfErr, IfOk}
 use Rattle.std.proofs.lemmas.Bool.{eq-eqb, le-ltb, lt-ltb, ne_eqb}
 use Rattle.capture_file.specs.declared.fault.FileFault.{FileFault}
@@ -10,9 +11,11 @@ use Rattle.capture_file.specs.Fields.{Fails, Gives}
 use Rattle.capture_file.specs.Fronts.{kind_at, receiver_name}
 use Rattle.capture_file.proofs.Parsing.{fails_first, fails_then, gives_then, then_reads}
 use Rattle.receiver_file.specs.declared.front.Head.{Head}
-use Rattle.receiver_file.specs.Front.{count_at, count_of, flag_at, flag_of, head_at, name_at, only_one, payload_type_at, payload_type_of, ssrc_at, ssrc_of}
+use Rattle.receiver_file.specs.Front.{count_at, count_of, flag_at, flag_of, head_at, name_at}
+use Rattle.receiver_file.specs.Front.{only_one, payload_type_at, payload_type_of, ssrc_at, ssrc_of}
 use Rattle.receiver_file.specs.Numbers.{number_at, octet_at}
-use Rattle.receiver_file.proofs.Valued.{call_fails, call_gives, value_cut, value_fails, value_gives, valued}
+use Rattle.receiver_file.proofs.Valued.{call_fails, call_gives, value_cut, value_fails, value_gives}
+use Rattle.receiver_file.proofs.Valued.{valued}
 
 abbrev ok : ℕ → Result ℕ FileFault
 ok n = Ok n
@@ -20,63 +23,84 @@ ok n = Ok n
 abbrev bad : Result ℕ FileFault
 bad = Err BadField
 
-pub payload_type_cut : (old : Option (List ℕ)) (f : FileFault) → Fails octet_at old f → Fails payload_type_at old f
+pub payload_type_cut : (old : Option (List ℕ)) (f : FileFault) → Fails octet_at old f
+    → Fails payload_type_at old f
 unfolding payload_type_at
 payload_type_cut old f p = value_cut octet_at payload_type_of old f p
 
-pub payload_type_gives : (old mid : Option (List ℕ)) (n : ℕ) → n ≤ 127 → Gives octet_at old mid n → Gives payload_type_at old mid n
+pub payload_type_gives : (old mid : Option (List ℕ)) (n : ℕ) → n ≤ 127 → Gives octet_at old mid n
+    → Gives payload_type_at old mid n
 unfolding payload_type_at
-payload_type_gives old mid n le p = value_gives octet_at payload_type_of old mid n n p (ap (λ (b : Bool). cond b bad (ok n)) (le-ltb 127 n le))
+payload_type_gives old mid n le p =
+    value_gives octet_at payload_type_of old mid n n p
+    (ap (λ (b : Bool). cond b bad (ok n)) (le-ltb 127 n le))
 
-pub payload_type_high : (old mid : Option (List ℕ)) (n : ℕ) → 127 < n → Gives octet_at old mid n → Fails payload_type_at old BadField
+pub payload_type_high : (old mid : Option (List ℕ)) (n : ℕ) → 127 < n → Gives octet_at old mid n
+    → Fails payload_type_at old BadField
 unfolding payload_type_at
-payload_type_high old mid n lt p = value_fails octet_at payload_type_of old mid n BadField p (ap (λ (b : Bool). cond b bad (ok n)) (lt-ltb 127 n lt))
+payload_type_high old mid n lt p =
+    value_fails octet_at payload_type_of old mid n BadField p
+    (ap (λ (b : Bool). cond b bad (ok n)) (lt-ltb 127 n lt))
 
 pub flag_cut : (old : Option (List ℕ)) (f : FileFault) → Fails octet_at old f → Fails flag_at old f
 unfolding flag_at
 flag_cut old f p = value_cut octet_at flag_of old f p
 
-pub flag_gives : (old mid : Option (List ℕ)) (n : ℕ) (r : Result Bool FileFault) → Gives octet_at old mid n → r ≡ flag_of n → IfOk r (λ b. Gives flag_at old mid b)
+pub flag_gives : (old mid : Option (List ℕ)) (n : ℕ) (r : Result Bool FileFault)
+    → Gives octet_at old mid n → r ≡ flag_of n → IfOk r (λ b. Gives flag_at old mid b)
 unfolding flag_at
 flag_gives old mid n r p e = call_gives octet_at flag_of old mid n r p e
 
-pub flag_fails : (old mid : Option (List ℕ)) (n : ℕ) (r : Result Bool FileFault) → Gives octet_at old mid n → r ≡ flag_of n → IfErr r (λ f. Fails flag_at old f)
+pub flag_fails : (old mid : Option (List ℕ)) (n : ℕ) (r : Result Bool FileFault)
+    → Gives octet_at old mid n → r ≡ flag_of n → IfErr r (λ f. Fails flag_at old f)
 unfolding flag_at
 flag_fails old mid n r p e = call_fails octet_at flag_of old mid n r p e
 
-pub count_cut : (old : Option (List ℕ)) (f : FileFault) → Fails octet_at old f → Fails count_at old f
+pub count_cut : (old : Option (List ℕ)) (f : FileFault) → Fails octet_at old f
+    → Fails count_at old f
 unfolding count_at
 count_cut old f p = value_cut octet_at count_of old f p
 
-pub count_gives : (old mid : Option (List ℕ)) (n : ℕ) → (n ≡ 0 → ⊥) → n ≤ 16 → Gives octet_at old mid n → Gives count_at old mid n
+pub count_gives : (old mid : Option (List ℕ)) (n : ℕ) → (n ≡ 0 → ⊥) → n ≤ 16
+    → Gives octet_at old mid n → Gives count_at old mid n
 unfolding count_at
 count_gives old mid n some few p =
     value_gives octet_at count_of old mid n n p
-    (ap (λ (b : Bool). cond (b || ltb 16 n) bad (ok n)) (ne_eqb n 0 some) ∙ ap (λ (b : Bool). cond b bad (ok n)) (le-ltb 16 n few))
+    (ap (λ (b : Bool). cond (b || ltb 16 n) bad (ok n)) (ne_eqb n 0 some)
+    ∙ ap (λ (b : Bool). cond b bad (ok n)) (le-ltb 16 n few))
 
-pub count_none : (old mid : Option (List ℕ)) (n : ℕ) → n ≡ 0 → Gives octet_at old mid n → Fails count_at old BadField
+pub count_none : (old mid : Option (List ℕ)) (n : ℕ) → n ≡ 0 → Gives octet_at old mid n
+    → Fails count_at old BadField
 unfolding count_at
-count_none old mid n none p = value_fails octet_at count_of old mid n BadField p (ap (λ (b : Bool). cond (b || ltb 16 n) bad (ok n)) (eq-eqb n 0 none))
+count_none old mid n none p =
+    value_fails octet_at count_of old mid n BadField p
+    (ap (λ (b : Bool). cond (b || ltb 16 n) bad (ok n)) (eq-eqb n 0 none))
 
-pub count_many : (old mid : Option (List ℕ)) (n : ℕ) → 16 < n → Gives octet_at old mid n → Fails count_at old BadField
+pub count_many : (old mid : Option (List ℕ)) (n : ℕ) → 16 < n → Gives octet_at old mid n
+    → Fails count_at old BadField
 unfolding count_at
 count_many old mid n many p =
     value_fails octet_at count_of old mid n BadField p
-    (ap (λ (b : Bool). cond (b || ltb 16 n) bad (ok n)) (ne_eqb n 0 (λ (e : n ≡ 0). omega arith)) ∙ ap (λ (b : Bool). cond b bad (ok n)) (lt-ltb 16 n many))
+    (ap (λ (b : Bool). cond (b || ltb 16 n) bad (ok n)) (ne_eqb n 0 (λ (e : n ≡ 0). omega arith))
+    ∙ ap (λ (b : Bool). cond b bad (ok n)) (lt-ltb 16 n many))
 
 -- ---- name and version
 
-pub name_cut : (old : Option (List ℕ)) (f : FileFault) → Fails (kind_at receiver_name) old f → Fails name_at old f
+pub name_cut : (old : Option (List ℕ)) (f : FileFault) → Fails (kind_at receiver_name) old f
+    → Fails name_at old f
 unfolding name_at
 name_cut old f p = value_cut (kind_at receiver_name) only_one old f p
 
-pub name_one : (old mid : Option (List ℕ)) (v : Version) → v ≡ One → Gives (kind_at receiver_name) old mid v → Gives name_at old mid tt
+pub name_one : (old mid : Option (List ℕ)) (v : Version) → v ≡ One
+    → Gives (kind_at receiver_name) old mid v → Gives name_at old mid tt
 unfolding name_at
 name_one old mid v e p = value_gives (kind_at receiver_name) only_one old mid v tt p (ap only_one e)
 
-pub name_two : (old mid : Option (List ℕ)) (v : Version) → v ≡ Two → Gives (kind_at receiver_name) old mid v → Fails name_at old BadVersion
+pub name_two : (old mid : Option (List ℕ)) (v : Version) → v ≡ Two
+    → Gives (kind_at receiver_name) old mid v → Fails name_at old BadVersion
 unfolding name_at
-name_two old mid v e p = value_fails (kind_at receiver_name) only_one old mid v BadVersion p (ap only_one e)
+name_two old mid v e p =
+    value_fails (kind_at receiver_name) only_one old mid v BadVersion p (ap only_one e)
 
 -- ---- the source that is pinned
 
@@ -87,19 +111,29 @@ pub ssrc_cut : (old : Option (List ℕ)) (f : FileFault) → Fails flag_at old f
 unfolding ssrc_at
 ssrc_cut old f p = fails_first flag_at behind_flag old f p
 
-pub ssrc_short : (old mid : Option (List ℕ)) (b : Bool) (f : FileFault) → Gives flag_at old mid b → Fails number_at mid f → Fails ssrc_at old f
+pub ssrc_short : (old mid : Option (List ℕ)) (b : Bool) (f : FileFault) → Gives flag_at old mid b
+    → Fails number_at mid f → Fails ssrc_at old f
 unfolding ssrc_at
-ssrc_short old mid b f p q = fails_then flag_at behind_flag old mid b f p (value_cut number_at (ssrc_of b) mid f q)
+ssrc_short old mid b f p q =
+    fails_then flag_at behind_flag old mid b f p (value_cut number_at (ssrc_of b) mid f q)
 
-pub ssrc_gives : (old mid new : Option (List ℕ)) (b : Bool) (n : ℕ) (r : Result (Option ℕ) FileFault) → Gives flag_at old mid b → Gives number_at mid new n → r ≡ ssrc_of b n → IfOk r (λ s. Gives ssrc_at old new s)
+pub ssrc_gives : (old mid new : Option (List ℕ)) (b : Bool) (n : ℕ)
+    (r : Result (Option ℕ) FileFault) → Gives flag_at old mid b → Gives number_at mid new n
+    → r ≡ ssrc_of b n → IfOk r (λ s. Gives ssrc_at old new s)
 unfolding ssrc_at
-ssrc_gives old mid new b n (Ok s) p q e = gives_then flag_at behind_flag old mid new b s p (value_gives number_at (ssrc_of b) mid new n s q (sym e))
+ssrc_gives old mid new b n (Ok s) p q e =
+    gives_then flag_at behind_flag old mid new b s p
+    (value_gives number_at (ssrc_of b) mid new n s q (sym e))
 ssrc_gives old mid new b n (Err f) p q e = tt
 
-pub ssrc_fails : (old mid new : Option (List ℕ)) (b : Bool) (n : ℕ) (r : Result (Option ℕ) FileFault) → Gives flag_at old mid b → Gives number_at mid new n → r ≡ ssrc_of b n → IfErr r (λ f. Fails ssrc_at old f)
+pub ssrc_fails : (old mid new : Option (List ℕ)) (b : Bool) (n : ℕ)
+    (r : Result (Option ℕ) FileFault) → Gives flag_at old mid b → Gives number_at mid new n
+    → r ≡ ssrc_of b n → IfErr r (λ f. Fails ssrc_at old f)
 unfolding ssrc_at
 ssrc_fails old mid new b n (Ok s) p q e = tt
-ssrc_fails old mid new b n (Err f) p q e = fails_then flag_at behind_flag old mid b f p (value_fails number_at (ssrc_of b) mid new n f q (sym e))
+ssrc_fails old mid new b n (Err f) p q e =
+    fails_then flag_at behind_flag old mid b f p
+    (value_fails number_at (ssrc_of b) mid new n f q (sym e))
 
 -- ---- all of them
 
@@ -112,22 +146,35 @@ behind_ssrc p s octets = valued count_at (head_made p s) octets
 abbrev behind_type : ℕ → List ℕ → Result (Head × List ℕ) FileFault
 behind_type p octets = then_reads ssrc_at (behind_ssrc p) octets
 
-pub head_first : (old : Option (List ℕ)) (f : FileFault) → Fails payload_type_at old f → Fails head_at old f
+pub head_first : (old : Option (List ℕ)) (f : FileFault) → Fails payload_type_at old f
+    → Fails head_at old f
 unfolding head_at
 head_first old f p = fails_first payload_type_at behind_type old f p
 
-pub head_second : (old mid : Option (List ℕ)) (n : ℕ) (f : FileFault) → Gives payload_type_at old mid n → Fails ssrc_at mid f → Fails head_at old f
+pub head_second : (old mid : Option (List ℕ)) (n : ℕ) (f : FileFault)
+    → Gives payload_type_at old mid n → Fails ssrc_at mid f → Fails head_at old f
 unfolding head_at
-head_second old mid n f p q = fails_then payload_type_at behind_type old mid n f p (fails_first ssrc_at (behind_ssrc n) mid f q)
+head_second old mid n f p q =
+    fails_then payload_type_at behind_type old mid n f p
+    (fails_first ssrc_at (behind_ssrc n) mid f q)
 
-pub head_third : (old mid next : Option (List ℕ)) (n : ℕ) (s : Option ℕ) (f : FileFault) → Gives payload_type_at old mid n → Gives ssrc_at mid next s → Fails count_at next f → Fails head_at old f
+pub head_third : (old mid next : Option (List ℕ)) (n : ℕ) (s : Option ℕ) (f : FileFault)
+    → Gives payload_type_at old mid n → Gives ssrc_at mid next s → Fails count_at next f
+    → Fails head_at old f
 unfolding head_at
 head_third old mid next n s f p q r =
-    fails_then payload_type_at behind_type old mid n f p (fails_then ssrc_at (behind_ssrc n) mid next s f q (value_cut count_at (head_made n s) next f r))
+    fails_then payload_type_at behind_type old mid n f p
+    (fails_then ssrc_at (behind_ssrc n) mid next s f q
+    (value_cut count_at (head_made n s) next f r))
 
-pub head_gives : (old mid next new : Option (List ℕ)) (n : ℕ) (s : Option ℕ) (count : ℕ) → Gives payload_type_at old mid n → Gives ssrc_at mid next s → Gives count_at next new count → Gives head_at old new (record { payload_type = n; ssrc = s; count = count })
+pub head_gives : (old mid next new : Option (List ℕ)) (n : ℕ) (s : Option ℕ) (count : ℕ)
+    → Gives payload_type_at old mid n → Gives ssrc_at mid next s → Gives count_at next new count
+    → Gives head_at old new (record { payload_type = n; ssrc = s; count = count })
 unfolding head_at
 head_gives old mid next new n s count p q r =
-    gives_then payload_type_at behind_type old mid new n (record { payload_type = n; ssrc = s; count = count }) p
-    (gives_then ssrc_at (behind_ssrc n) mid next new s (record { payload_type = n; ssrc = s; count = count }) q
-    (value_gives count_at (head_made n s) next new count (record { payload_type = n; ssrc = s; count = count }) r refl))
+    gives_then payload_type_at behind_type old mid new n
+    (record { payload_type = n; ssrc = s; count = count }) p
+    (gives_then ssrc_at (behind_ssrc n) mid next new s
+    (record { payload_type = n; ssrc = s; count = count }) q
+    (value_gives count_at (head_made n s) next new count
+    (record { payload_type = n; ssrc = s; count = count }) r refl))

@@ -1,5 +1,8 @@
 -- Pixel groups: each fault is read exactly where its condition holds, and what is read is a group.
-use Rattle.std.proofs.Common.{◌≡◌, ℕ, zero, suc, ◌+◌, ◌-◌, ◌/◌, ◌%◌, ◌^◌, ◌<◌, Bool, true, false, cond, not, ◌&&◌, ◌||◌, eqb, ltb, List, [], ◌∷◌, ◌++◌, length, map, replicate, take, drop, Result, Ok, Err, append_assoc, refl, sym, ap, ◌∙◌, subst, inl, inr, arith}
+use Rattle.std.proofs.Common.{◌≡◌, ℕ, zero, suc, ◌+◌, ◌-◌, ◌/◌, ◌%◌, ◌^◌, ◌<◌, Bool, true, false}
+use Rattle.std.proofs.Common.{cond, not, ◌&&◌, ◌||◌, eqb, ltb, List, [], ◌∷◌, ◌++◌, length, map}
+use Rattle.std.proofs.Common.{replicate, take, drop, Result, Ok, Err, append_assoc, refl, sym, ap}
+use Rattle.std.proofs.Common.{◌∙◌, subst, inl, inr, arith}
 use Rattle.std.specs.Int.{w16, from_be_bytes, to_be_bytes}
 use Rattle.std.specs.List.{AllByRecursion}
 use Rattle.std.proofs.lemmas.Bool.{cases_lt, eq-eqb, eqb-true, eqb-false, le-ltb, ltb-false, ne_eqb}
@@ -13,15 +16,20 @@ use Rattle.st_format.proofs.WholeOctets.{values_in-fit}
 use Rattle.capture_file.specs.declared.fault.FileFault.{FileFault}
 use Rattle.capture_file.specs.declared.fault.FileFault.TheVariants.{BadField, MixedGroup, Truncated}
 use Rattle.capture_file.specs.Fields.{◌>>=◌, field_at}
-use Rattle.capture_file.specs.Groups.{IsGroup, IsHad, IsShape, Shape, are_zeroed, cells_by, group_at, group_text, groups_at, groups_text, mixed_by}
+use Rattle.capture_file.specs.Groups.{IsGroup, IsHad, IsShape, Shape, are_zeroed, cells_by}
+use Rattle.capture_file.specs.Groups.{group_at, group_text, groups_at, groups_text, mixed_by}
 use Rattle.capture_file.proofs.Entries.{chosen}
-use Rattle.capture_file.proofs.Failing.{field_fails, field_short, field_whole, not_both, same_fault, split_fails}
+use Rattle.capture_file.proofs.Failing.{field_fails, field_short, field_whole, not_both, same_fault}
+use Rattle.capture_file.proofs.Failing.{split_fails}
 use Rattle.capture_file.proofs.Found.{given, split_then}
 use Rattle.capture_file.proofs.Grouped.{group_again}
 use Rattle.capture_file.proofs.Splits.{AreOctets-tail, below_16, field_again}
-use Rattle.receiver_file.specs.StateFaults.{HasContestedValue, HasOctet, HasWrongMask, IsCutGroup, IsWrongMask}
+use Rattle.receiver_file.specs.StateFaults.{HasContestedValue, HasOctet, HasWrongMask, IsCutGroup}
+use Rattle.receiver_file.specs.StateFaults.{IsWrongMask}
 use Rattle.receiver_file.specs.StateFaults.IsWrongMask.{NamesNone, NamesMore, NamesValue}
-use Rattle.receiver_file.proofs.GroupsFound.{Cells, Many, behind, cut_takes, from_1, from_2, group_takes, mixed_behind, mixed_octets_at, no_cells, ok_cells, ok_many, plain_at, values_long}
+use Rattle.receiver_file.proofs.GroupsFound.{Cells, Many, behind, cut_takes, from_1, from_2}
+use Rattle.receiver_file.proofs.GroupsFound.{group_takes, mixed_behind, mixed_octets_at, no_cells}
+use Rattle.receiver_file.proofs.GroupsFound.{ok_cells, ok_many, plain_at, values_long}
 
 abbrev Read : Type 0
 Read = List Cell × List ℕ

@@ -1,5 +1,8 @@
 -- What is read as a pixel group is its text.
-use Rattle.std.proofs.Common.{◌≡◌, ℕ, zero, suc, ◌+◌, ◌*◌, ◌/◌, ◌%◌, ◌^◌, ◌<◌, Bool, true, false, cond, not, ◌&&◌, ◌||◌, eqb, ltb, List, [], ◌∷◌, ◌++◌, length, map, replicate, drop, Result, Ok, Err, append_assoc, refl, sym, ap, ◌∙◌, subst, inl, inr, arith}
+use Rattle.std.proofs.Common.{◌≡◌, ℕ, zero, suc, ◌+◌, ◌*◌, ◌/◌, ◌%◌, ◌^◌, ◌<◌, Bool, true, false}
+use Rattle.std.proofs.Common.{cond, not, ◌&&◌, ◌||◌, eqb, ltb, List, [], ◌∷◌, ◌++◌, length, map}
+use Rattle.std.proofs.Common.{replicate, drop, Result, Ok, Err, append_assoc, refl, sym, ap, ◌∙◌}
+use Rattle.std.proofs.Common.{subst, inl, inr, arith}
 use Rattle.std.specs.Prelude.{◌⊎◌}
 use Rattle.std.specs.Int.{w16, from_be_bytes, to_be_bytes}
 use Rattle.std.specs.List.{list_all}
@@ -18,11 +21,14 @@ use Rattle.pgroup_pack.proofs.Values.{length-values_in}
 use Rattle.capture_file.specs.declared.fault.FileFault.{FileFault}
 use Rattle.capture_file.specs.declared.fault.FileFault.TheVariants.{BadField, MixedGroup, Truncated}
 use Rattle.capture_file.specs.Fields.{◌>>=◌, field_at}
-use Rattle.capture_file.specs.Groups.{IsShape, Shape, are_zeroed, cells_by, contested_bit, group_at, group_text, groups_at, groups_text, mask_of, mixed_by, samples_text, value_or_0}
+use Rattle.capture_file.specs.Groups.{IsShape, Shape, are_zeroed, cells_by, contested_bit, group_at}
+use Rattle.capture_file.specs.Groups.{group_text, groups_at, groups_text, mask_of, mixed_by}
+use Rattle.capture_file.specs.Groups.{samples_text, value_or_0}
 use Rattle.capture_file.proofs.Entries.{chosen}
 use Rattle.capture_file.proofs.Found.{field_takes, given, split_then}
 use Rattle.capture_file.proofs.Seen.{all_octets}
-use Rattle.capture_file.proofs.Splits.{AreOctets-back, AreOctets-drop, AreOctets-take, AreOctets-tail}
+use Rattle.capture_file.proofs.Splits.{AreOctets-back, AreOctets-drop, AreOctets-take}
+use Rattle.capture_file.proofs.Splits.{AreOctets-tail}
 
 -- ---- octets that are cut off
 

@@ -1,12 +1,17 @@
 -- Groups of mark words and packed octets are those of a row's cells.
-use Rattle.std.proofs.Common.{◌≡◌, ℕ, zero, suc, ◌+◌, ◌-◌, ◌*◌, ◌^◌, ◌<◌, ◌≤◌, Bool, true, false, cond, eqb, ltb, List, [], ◌∷◌, ◌++◌, length, get_or, take, drop, map, Option, None, Some, append_assoc, append-nil, drop-drop, refl, sym, ap, ◌∙◌, subst, arith}
+use Rattle.std.proofs.Common.{◌≡◌, ℕ, zero, suc, ◌+◌, ◌-◌, ◌*◌, ◌^◌, ◌<◌, ◌≤◌, Bool, true, false}
+use Rattle.std.proofs.Common.{cond, eqb, ltb, List, [], ◌∷◌, ◌++◌, length, get_or, take, drop, map}
+use Rattle.std.proofs.Common.{Option, None, Some, append_assoc, append-nil, drop-drop, refl, sym}
+use Rattle.std.proofs.Common.{ap, ◌∙◌, subst, arith}
 use Rattle.std.specs.List.{AllByRecursion, flat_map}
 use Rattle.std.specs.Io.KnownBytes.{Appends}
 use Rattle.std.proofs.KnownBytes.{Appends-trans}
 use Rattle.std.proofs.lemmas.Grind.{flat_map-append}
 use Rattle.std.proofs.lemmas.Bool.{eqb-false, eqb-true, ltb-false, ltb-true}
 use Rattle.std.proofs.lemmas.Nat.Bits.{bit_at_above}
-use Rattle.std.proofs.lemmas.List.{drop-map, drop-take, drop_at, length-drop, length-map, length-take-le, take-append-drop, take-map, take-take, take_all, take_at}
+use Rattle.std.proofs.lemmas.List.{drop-map, drop-take, drop_at, length-drop, length-map}
+use Rattle.std.proofs.lemmas.List.{length-take-le, take-append-drop, take-map, take-take, take_all}
+use Rattle.std.proofs.lemmas.List.{take_at}
 use Rattle.std.proofs.Math.Nat.{mul-add, mul_comm}
 use Rattle.st_format.specs.declared.cell.Cell.{Cell}
 use Rattle.st_format.specs.declared.format.Format.{Format}
@@ -41,108 +46,161 @@ pub passes_kept : (known : Option (List ℕ)) (xs : List ℕ) → Passes known k
 passes_kept None xs = record { first = []; taken = tt; whole = refl }
 passes_kept (Some o) xs = record { first = []; taken = sym (append-nil o); whole = refl }
 
-pub passes_taken : (old new : Option (List ℕ)) (xs : List ℕ) → Appends old new xs → Passes old new xs []
+pub passes_taken : (old new : Option (List ℕ)) (xs : List ℕ) → Appends old new xs
+    → Passes old new xs []
 passes_taken old new xs p = record { first = xs; taken = p; whole = sym (append-nil xs) }
 
-pub passes_then : (old mid new : Option (List ℕ)) (xs ys zs : List ℕ) → Passes old mid xs ys → Passes mid new ys zs → Passes old new xs zs
+pub passes_then : (old mid new : Option (List ℕ)) (xs ys zs : List ℕ) → Passes old mid xs ys
+    → Passes mid new ys zs → Passes old new xs zs
 passes_then old mid new xs ys zs p q = record {
   first = p.first ++ q.first;
   taken = Appends-trans old mid new p.first q.first p.taken q.taken;
-  whole = p.whole ∙ ap (λ (t : List ℕ). p.first ++ t) q.whole ∙ sym (append_assoc p.first q.first zs);
+  whole =
+      p.whole ∙ ap (λ (t : List ℕ). p.first ++ t) q.whole ∙ sym (append_assoc p.first q.first zs);
 }
 
-pub passes_more : (old new : Option (List ℕ)) (xs ys ts us vs : List ℕ) → Passes old new xs ys → us ≡ xs ++ ts → vs ≡ ys ++ ts → Passes old new us vs
+pub passes_more : (old new : Option (List ℕ)) (xs ys ts us vs : List ℕ) → Passes old new xs ys
+    → us ≡ xs ++ ts → vs ≡ ys ++ ts → Passes old new us vs
 passes_more old new xs ys ts us vs p e f = record {
   first = p.first;
   taken = p.taken;
-  whole = e ∙ ap (λ (t : List ℕ). t ++ ts) p.whole ∙ append_assoc p.first ys ts ∙ ap (λ (t : List ℕ). p.first ++ t) (sym f);
+  whole =
+      e ∙ ap (λ (t : List ℕ). t ++ ts) p.whole ∙ append_assoc p.first ys ts
+      ∙ ap (λ (t : List ℕ). p.first ++ t) (sym f);
 }
 
-pub passes_all : (old mid new : Option (List ℕ)) (xs ys : List ℕ) → Passes old mid xs ys → Appends mid new ys → Appends old new xs
-passes_all old mid new xs ys p q = subst (Appends old new) (sym p.whole) (Appends-trans old mid new p.first ys p.taken q)
+pub passes_all : (old mid new : Option (List ℕ)) (xs ys : List ℕ) → Passes old mid xs ys
+    → Appends mid new ys → Appends old new xs
+passes_all old mid new xs ys p q =
+    subst (Appends old new) (sym p.whole) (Appends-trans old mid new p.first ys p.taken q)
 
-pub passes_cut : (old mid new : Option (List ℕ)) (xs ys : List ℕ) → Passes old mid xs ys → AppendsPrefix mid new ys → AppendsPrefix old new xs
-passes_cut old mid new xs ys p q = subst (AppendsPrefix old new) (sym p.whole) (prefix_then old mid new p.first ys p.taken q)
+pub passes_cut : (old mid new : Option (List ℕ)) (xs ys : List ℕ) → Passes old mid xs ys
+    → AppendsPrefix mid new ys → AppendsPrefix old new xs
+passes_cut old mid new xs ys p q =
+    subst (AppendsPrefix old new) (sym p.whole) (prefix_then old mid new p.first ys p.taken q)
 
 -- ---- one group more
 
 pub marked_next : (size g : ℕ) (marks octets : List ℕ) → g < length marks
-    → marked_text size (take (g + 1) marks) octets ≡ marked_text size (take g marks) octets ++ known_text (state_in (get_or marks g 0)) (take size (drop (size * g) octets))
+    → marked_text size (take (g + 1) marks) octets
+    ≡ marked_text size (take g marks) octets ++ known_text (state_in (get_or marks g 0))
+    (take size (drop (size * g) octets))
 unfolding marked_text
 marked_next size g [] octets lt = absurd (omega (arith, lt))
 marked_next size zero (m ∷ marks) octets lt =
     let z : 0 ≡ size * 0 = omega arith in
-    append-nil (known_text (state_in m) (take size octets)) ∙ ap (λ (n : ℕ). known_text (state_in m) (take size (drop n octets))) z
+    append-nil (known_text (state_in m) (take size octets))
+    ∙ ap (λ (n : ℕ). known_text (state_in m) (take size (drop n octets))) z
 marked_next size (suc g) (m ∷ marks) octets lt =
     let z : size + size * g ≡ size * suc g = omega arith in
     let e : suc g + 1 ≡ suc (g + 1) = omega arith in
     ap (λ (k : ℕ). marked_text size (take k (m ∷ marks)) octets) e
-    ∙ ap (λ (t : List ℕ). known_text (state_in m) (take size octets) ++ t) (marked_next size g marks (drop size octets) (omega (arith, lt)))
-    ∙ sym (append_assoc (known_text (state_in m) (take size octets)) (marked_text size (take g marks) (drop size octets)) (known_text (state_in (get_or marks g 0)) (take size (drop (size * g) (drop size octets)))))
-    ∙ ap (λ (t : List ℕ). (known_text (state_in m) (take size octets) ++ marked_text size (take g marks) (drop size octets)) ++ known_text (state_in (get_or marks g 0)) (take size t))
+    ∙ ap (λ (t : List ℕ). known_text (state_in m) (take size octets) ++ t)
+    (marked_next size g marks (drop size octets) (omega (arith, lt)))
+    ∙ sym
+    (append_assoc (known_text (state_in m) (take size octets))
+    (marked_text size (take g marks) (drop size octets))
+    (known_text (state_in (get_or marks g 0)) (take size (drop (size * g) (drop size octets)))))
+    ∙ ap
+    (λ (t : List ℕ).
+    (known_text (state_in m) (take size octets) ++ marked_text size (take g marks)
+    (drop size octets)) ++ known_text (state_in (get_or marks g 0)) (take size t))
     (drop-drop (size * g) size octets ∙ ap (λ (n : ℕ). drop n octets) z)
 
 -- the first groups, and the others
-marked_split : (size g : ℕ) (marks octets : List ℕ) → marked_text size marks octets ≡ marked_text size (take g marks) octets ++ marked_text size (drop g marks) (drop (size * g) octets)
+marked_split : (size g : ℕ) (marks octets : List ℕ)
+    → marked_text size marks octets
+    ≡ marked_text size (take g marks) octets ++ marked_text size (drop g marks)
+    (drop (size * g) octets)
 unfolding marked_text
-marked_split size zero marks octets = let z : 0 ≡ size * 0 = omega arith in ap (λ (n : ℕ). marked_text size marks (drop n octets)) z
+marked_split size zero marks octets = let z : 0 ≡ size * 0 =
+    omega arith in ap (λ (n : ℕ). marked_text size marks (drop n octets)) z
 marked_split size (suc g) [] octets = refl
 marked_split size (suc g) (m ∷ marks) octets =
     let z : size + size * g ≡ size * suc g = omega arith in
-    ap (λ (t : List ℕ). known_text (state_in m) (take size octets) ++ t) (marked_split size g marks (drop size octets))
-    ∙ sym (append_assoc (known_text (state_in m) (take size octets)) (marked_text size (take g marks) (drop size octets)) (marked_text size (drop g marks) (drop (size * g) (drop size octets))))
-    ∙ ap (λ (t : List ℕ). (known_text (state_in m) (take size octets) ++ marked_text size (take g marks) (drop size octets)) ++ marked_text size (drop g marks) t)
+    ap (λ (t : List ℕ). known_text (state_in m) (take size octets) ++ t)
+    (marked_split size g marks (drop size octets))
+    ∙ sym
+    (append_assoc (known_text (state_in m) (take size octets))
+    (marked_text size (take g marks) (drop size octets))
+    (marked_text size (drop g marks) (drop (size * g) (drop size octets))))
+    ∙ ap
+    (λ (t : List ℕ).
+    (known_text (state_in m) (take size octets) ++ marked_text size (take g marks)
+    (drop size octets)) ++ marked_text size (drop g marks) t)
     (drop-drop (size * g) size octets ∙ ap (λ (n : ℕ). drop n octets) z)
 
-pub marked_cut : (size g : ℕ) (marks octets : List ℕ) (old new : Option (List ℕ)) → AppendsPrefix old new (marked_text size (take g marks) octets) → AppendsPrefix old new (marked_text size marks octets)
+pub marked_cut : (size g : ℕ) (marks octets : List ℕ) (old new : Option (List ℕ))
+    → AppendsPrefix old new (marked_text size (take g marks) octets)
+    → AppendsPrefix old new (marked_text size marks octets)
 marked_cut size g marks octets old new p =
-    subst (AppendsPrefix old new) (sym (marked_split size g marks octets)) (prefix_first old new (marked_text size (take g marks) octets) (marked_text size (drop g marks) (drop (size * g) octets)) p)
+    subst (AppendsPrefix old new) (sym (marked_split size g marks octets))
+    (prefix_first old new (marked_text size (take g marks) octets)
+    (marked_text size (drop g marks) (drop (size * g) octets)) p)
 
 -- ---- parts of a spelling
 
-bits_first : (n a : ℕ) (xs : List ℕ) → a ≤ length xs → take (n * a) (flat_map (bits n) xs) ≡ flat_map (bits n) (take a xs)
+bits_first : (n a : ℕ) (xs : List ℕ) → a ≤ length xs
+    → take (n * a) (flat_map (bits n) xs) ≡ flat_map (bits n) (take a xs)
 bits_first n a xs le =
     ap (λ (t : List ℕ). take (n * a) (flat_map (bits n) t)) (sym (take-append-drop a xs))
     ∙ ap (take (n * a)) (flat_map-append (bits n) (take a xs) (drop a xs))
-    ∙ take_at (flat_map (bits n) (take a xs)) (flat_map (bits n) (drop a xs)) (n * a) (joined_length n (take a xs) ∙ ap (λ (k : ℕ). n * k) (length-take-le a xs le))
+    ∙ take_at (flat_map (bits n) (take a xs)) (flat_map (bits n) (drop a xs)) (n * a)
+    (joined_length n (take a xs) ∙ ap (λ (k : ℕ). n * k) (length-take-le a xs le))
 
-bits_rest : (n a : ℕ) (xs : List ℕ) → a ≤ length xs → drop (n * a) (flat_map (bits n) xs) ≡ flat_map (bits n) (drop a xs)
+bits_rest : (n a : ℕ) (xs : List ℕ) → a ≤ length xs
+    → drop (n * a) (flat_map (bits n) xs) ≡ flat_map (bits n) (drop a xs)
 bits_rest n a xs le =
     ap (λ (t : List ℕ). drop (n * a) (flat_map (bits n) t)) (sym (take-append-drop a xs))
     ∙ ap (drop (n * a)) (flat_map-append (bits n) (take a xs) (drop a xs))
-    ∙ drop_at (flat_map (bits n) (take a xs)) (flat_map (bits n) (drop a xs)) (n * a) (joined_length n (take a xs) ∙ ap (λ (k : ℕ). n * k) (length-take-le a xs le))
+    ∙ drop_at (flat_map (bits n) (take a xs)) (flat_map (bits n) (drop a xs)) (n * a)
+    (joined_length n (take a xs) ∙ ap (λ (k : ℕ). n * k) (length-take-le a xs le))
 
-all_first : (P : ℕ → Type 0) (a : ℕ) (xs : List ℕ) → AllByRecursion P xs → AllByRecursion P (take a xs)
+all_first : (P : ℕ → Type 0) (a : ℕ) (xs : List ℕ) → AllByRecursion P xs
+    → AllByRecursion P (take a xs)
 all_first P zero xs all = tt
 all_first P (suc a) [] all = tt
 all_first P (suc a) (x ∷ xs) all = (all.0, all_first P a xs all.1)
 
-all_rest : (P : ℕ → Type 0) (a : ℕ) (xs : List ℕ) → AllByRecursion P xs → AllByRecursion P (drop a xs)
+all_rest : (P : ℕ → Type 0) (a : ℕ) (xs : List ℕ) → AllByRecursion P xs
+    → AllByRecursion P (drop a xs)
 all_rest P zero xs all = all
 all_rest P (suc a) [] all = tt
 all_rest P (suc a) (x ∷ xs) all = all_rest P a xs all.1
 
-spelled_first : (n a b : ℕ) (os vs : List ℕ) → n * b ≡ 8 * a → a ≤ length os → b ≤ length vs → Spells n os vs → Spells n (take a os) (take b vs)
+spelled_first : (n a b : ℕ) (os vs : List ℕ) → n * b ≡ 8 * a → a ≤ length os → b ≤ length vs
+    → Spells n os vs → Spells n (take a os) (take b vs)
 spelled_first n a b os vs e ale ble s = record {
   fit = all_first (λ (v : ℕ). v < 2 ^ n) b vs s.fit;
-  same_bits = sym (bits_first 8 a os ale) ∙ ap (take (8 * a)) s.same_bits ∙ ap (λ (k : ℕ). take k (flat_map (bits n) vs)) (sym e) ∙ bits_first n b vs ble;
+  same_bits =
+      sym (bits_first 8 a os ale) ∙ ap (take (8 * a)) s.same_bits
+      ∙ ap (λ (k : ℕ). take k (flat_map (bits n) vs)) (sym e) ∙ bits_first n b vs ble;
 }
 
-spelled_rest : (n a b : ℕ) (os vs : List ℕ) → n * b ≡ 8 * a → a ≤ length os → b ≤ length vs → Spells n os vs → Spells n (drop a os) (drop b vs)
+spelled_rest : (n a b : ℕ) (os vs : List ℕ) → n * b ≡ 8 * a → a ≤ length os → b ≤ length vs
+    → Spells n os vs → Spells n (drop a os) (drop b vs)
 spelled_rest n a b os vs e ale ble s = record {
   fit = all_rest (λ (v : ℕ). v < 2 ^ n) b vs s.fit;
-  same_bits = sym (bits_rest 8 a os ale) ∙ ap (drop (8 * a)) s.same_bits ∙ ap (λ (k : ℕ). drop k (flat_map (bits n) vs)) (sym e) ∙ bits_rest n b vs ble;
+  same_bits =
+      sym (bits_rest 8 a os ale) ∙ ap (drop (8 * a)) s.same_bits
+      ∙ ap (λ (k : ℕ). drop k (flat_map (bits n) vs)) (sym e) ∙ bits_rest n b vs ble;
 }
 
 -- ---- the groups of cells
 
-gone_state : (mark : ℕ) (cells : List Cell) → mark < 32768 → IsMarkOf mark cells → IsStateOf Gone cells
-gone_state mark cells lt is = λ i within. is.missing i within ∙ ap (λ (b : ℕ). eqb b 0) (bit_at_above mark 15 15 (omega (arith, lt)) (omega arith))
+gone_state : (mark : ℕ) (cells : List Cell) → mark < 32768 → IsMarkOf mark cells
+    → IsStateOf Gone cells
+gone_state mark cells lt is =
+    λ i within. is.missing i within
+    ∙ ap (λ (b : ℕ). eqb b 0) (bit_at_above mark 15 15 (omega (arith, lt)) (omega arith))
 
-state_by : (mark : ℕ) (cells : List Cell) (gone even : Bool) → length cells ≤ 12 → mark < 65536 → IsMarkOf mark cells → ltb mark 32768 ≡ gone → eqb mark 32768 ≡ even
+state_by : (mark : ℕ) (cells : List Cell) (gone even : Bool) → length cells ≤ 12 → mark < 65536
+    → IsMarkOf mark cells → ltb mark 32768 ≡ gone → eqb mark 32768 ≡ even
     → IsStateOf (cond gone Gone (cond even Whole (Mixed (mark - 32768)))) cells
-state_by mark cells true even few small is low same = gone_state mark cells (ltb-true mark 32768 low) is
-state_by mark cells false true few small is low same = whole mark cells (eqb-true mark 32768 same) few is
+state_by mark cells true even few small is low same =
+    gone_state mark cells (ltb-true mark 32768 low) is
+state_by mark cells false true few small is low same =
+    whole mark cells (eqb-true mark 32768 same) few is
 state_by mark cells false false few small is low same =
     let high : 32768 ≤ mark = ltb-false mark 32768 low in
     let other : mark ≡ 32768 → ⊥ = eqb-false mark 32768 same in (
@@ -152,12 +210,16 @@ state_by mark cells false false few small is low same =
       mixed_others mark cells high small few is,
     )
 
-state_is : (mark : ℕ) (cells : List Cell) → length cells ≤ 12 → mark < 65536 → IsMarkOf mark cells → IsStateOf (state_in mark) cells
-state_is mark cells few small is = state_by mark cells (ltb mark 32768) (eqb mark 32768) few small is refl refl
+state_is : (mark : ℕ) (cells : List Cell) → length cells ≤ 12 → mark < 65536 → IsMarkOf mark cells
+    → IsStateOf (state_in mark) cells
+state_is mark cells few small is =
+    state_by mark cells (ltb mark 32768) (eqb mark 32768) few small is refl refl
 
 pub row_text : (s : Shape) (marks octets : List ℕ) (cells : List Cell) → IsShape s
-    → ((i : ℕ) → i < length marks → IsMarkOf (get_or marks i 0) (take s.samples (drop (s.samples * i) cells)))
-    → s.samples * length marks ≤ length cells → length octets ≡ s.octets * length marks → AllByRecursion (λ (v : ℕ). v < 65536) marks → AllByRecursion (λ (v : ℕ). v < 256) octets
+    → ((i : ℕ) → i < length marks
+    → IsMarkOf (get_or marks i 0) (take s.samples (drop (s.samples * i) cells)))
+    → s.samples * length marks ≤ length cells → length octets ≡ s.octets * length marks
+    → AllByRecursion (λ (v : ℕ). v < 65536) marks → AllByRecursion (λ (v : ℕ). v < 256) octets
     → Spells s.bits octets (map known_value (take (s.samples * length marks) cells))
     → marked_text s.octets marks octets ≡ groups_text s (cut_cells s.samples (length marks) cells)
 unfolding marked_text cut_cells
@@ -171,59 +233,97 @@ row_text s (m ∷ marks) octets cells is each long size words small spelled =
     let sizes : z * suc k ≡ z + z * k = omega arith in
     let inside : n ≤ length cells = omega (arith, long, more) in
     let some_octets : z ≤ length octets = omega (arith, size, sizes) in
-    let all_long : length (map known_value all) ≡ n * suc k = length-map all known_value ∙ length-take-le (n * suc k) cells long in
+    let all_long : length (map known_value all) ≡ n * suc k =
+    length-map all known_value ∙ length-take-le (n * suc k) cells long in
     let some_cells : n ≤ length (map known_value all) = omega (arith, all_long, more) in
     let none : 0 ≡ n * 0 = omega arith in
-    let first_cells : take n (map known_value all) ≡ map known_value (take n cells) = take-map known_value n all ∙ ap (map known_value) (take-take n (n * suc k) cells (omega (arith, more))) in
+    let first_cells : take n (map known_value all) ≡ map known_value (take n cells) =
+    take-map known_value n all
+    ∙ ap (map known_value) (take-take n (n * suc k) cells (omega (arith, more))) in
     let rest_cells : drop n (map known_value all) ≡ map known_value (take (n * k) (drop n cells)) =
-    drop-map known_value n all ∙ ap (λ (j : ℕ). map known_value (drop n (take j cells))) more ∙ ap (map known_value) (drop-take n (n * k) cells) in
+    drop-map known_value n all ∙ ap (λ (j : ℕ). map known_value (drop n (take j cells))) more
+    ∙ ap (map known_value) (drop-take n (n * k) cells) in
     let first_spelled : Spells s.bits (take z octets) (map known_value (take n cells)) =
-    subst (Spells s.bits (take z octets)) first_cells (spelled_first s.bits z n octets (map known_value all) is.octets some_octets some_cells spelled) in
-    let rest_spelled : Spells s.bits (drop z octets) (map known_value (take (n * k) (drop n cells))) =
-    subst (Spells s.bits (drop z octets)) rest_cells (spelled_rest s.bits z n octets (map known_value all) is.octets some_octets some_cells spelled) in
+    subst (Spells s.bits (take z octets)) first_cells
+    (spelled_first s.bits z n octets
+    (map known_value all) is.octets some_octets some_cells spelled) in
+    let rest_spelled : Spells s.bits (drop z octets)
+    (map known_value (take (n * k) (drop n cells))) =
+    subst (Spells s.bits (drop z octets)) rest_cells
+    (spelled_rest s.bits z n octets
+    (map known_value all) is.octets some_octets some_cells spelled) in
     let long_first : length (take n cells) ≡ n = length-take-le n cells inside in
-    let mark : IsMarkOf m (take n cells) = subst (λ (j : ℕ). IsMarkOf m (take n (drop j cells))) (sym none) (each 0 (omega arith)) in
-    let state : IsStateOf (state_in m) (take n cells) = state_is m (take n cells) (omega (arith, long_first, is.few)) words.0 mark in
-    let next : (i : ℕ) → i < k → IsMarkOf (get_or marks i 0) (take n (drop (n * i) (drop n cells))) =
+    let mark : IsMarkOf m (take n cells) =
+    subst (λ (j : ℕ). IsMarkOf m (take n (drop j cells))) (sym none) (each 0 (omega arith)) in
+    let state : IsStateOf (state_in m) (take n cells) =
+    state_is m (take n cells) (omega (arith, long_first, is.few)) words.0 mark in
+    let next : (i : ℕ) → i < k
+    → IsMarkOf (get_or marks i 0) (take n (drop (n * i) (drop n cells))) =
     λ i lt. let e : n * suc i ≡ n + n * i = omega arith in
-    subst (λ (t : List Cell). IsMarkOf (get_or marks i 0) (take n t)) (ap (λ (j : ℕ). drop j cells) e ∙ sym (drop-drop (n * i) n cells)) (each (suc i) (omega (arith, lt))) in
-    ap (λ (t : List ℕ). t ++ marked_text z marks (drop z octets)) (known_is s (take n cells) (take z octets) (state_in m) (omega (arith, long_first, is.some)) (all_first (λ (v : ℕ). v < 256) z octets small) first_spelled state)
+    subst (λ (t : List Cell). IsMarkOf (get_or marks i 0) (take n t))
+    (ap (λ (j : ℕ). drop j cells) e ∙ sym (drop-drop (n * i) n cells))
+    (each (suc i) (omega (arith, lt))) in
+    ap (λ (t : List ℕ). t ++ marked_text z marks (drop z octets))
+    (known_is s (take n cells) (take z octets) (state_in m)
+    (omega (arith, long_first, is.some))
+    (all_first (λ (v : ℕ). v < 256) z octets small) first_spelled state)
     ∙ ap (λ (t : List ℕ). group_text s (take n cells) ++ t)
-    (row_text s marks (drop z octets) (drop n cells) is next (omega (arith, length-drop n cells, long, more)) (omega (arith, length-drop z octets, size, sizes)) words.1 (all_rest (λ (v : ℕ). v < 256) z octets small) rest_spelled)
+    (row_text s marks (drop z octets) (drop n cells) is next
+    (omega (arith, length-drop n cells, long, more))
+    (omega (arith, length-drop z octets, size, sizes)) words.1
+    (all_rest (λ (v : ℕ). v < 256) z octets small) rest_spelled)
 
 -- ---- a loop over groups
 
-pub passes_start : (size : ℕ) (octets : List ℕ) (known : Option (List ℕ)) → Passes known known (marked_text size [] octets) []
+pub passes_start : (size : ℕ) (octets : List ℕ) (known : Option (List ℕ))
+    → Passes known known (marked_text size [] octets) []
 unfolding marked_text
 passes_start size octets known = passes_none known
 
-pub passes_done : (size g : ℕ) (marks octets kept : List ℕ) (old mid new : Option (List ℕ)) → length marks ≤ g
-    → Passes old mid (marked_text size (take g marks) octets) kept → Appends mid new kept → Appends old new (marked_text size marks octets)
+pub passes_done : (size g : ℕ) (marks octets kept : List ℕ) (old mid new : Option (List ℕ))
+    → length marks ≤ g
+    → Passes old mid (marked_text size (take g marks) octets) kept → Appends mid new kept
+    → Appends old new (marked_text size marks octets)
 passes_done size g marks octets kept old mid new le p q =
-    subst (λ (ms : List ℕ). Appends old new (marked_text size ms octets)) (take_all g marks le) (passes_all old mid new (marked_text size (take g marks) octets) kept p q)
+    subst (λ (ms : List ℕ). Appends old new (marked_text size ms octets)) (take_all g marks le)
+    (passes_all old mid new (marked_text size (take g marks) octets) kept p q)
 
 pub passes_stop : (size g : ℕ) (marks octets kept : List ℕ) (old mid new : Option (List ℕ))
-    → Passes old mid (marked_text size (take g marks) octets) kept → AppendsPrefix mid new kept → AppendsPrefix old new (marked_text size marks octets)
-passes_stop size g marks octets kept old mid new p q = marked_cut size g marks octets old new (passes_cut old mid new (marked_text size (take g marks) octets) kept p q)
+    → Passes old mid (marked_text size (take g marks) octets) kept → AppendsPrefix mid new kept
+    → AppendsPrefix old new (marked_text size marks octets)
+passes_stop size g marks octets kept old mid new p q =
+    marked_cut size g marks octets old new
+    (passes_cut old mid new (marked_text size (take g marks) octets) kept p q)
 
 -- one group more, which is cut out of all octets
-pub passes_group : (size g : ℕ) (marks octets kept room : List ℕ) (at end : ℕ) (old mid new : Option (List ℕ)) → g < length marks
+pub passes_group : (size g : ℕ) (marks octets kept room : List ℕ) (at end : ℕ)
+    (old mid new : Option (List ℕ)) → g < length marks
     → Passes old mid (marked_text size (take g marks) octets) kept
     → Passes mid new kept (take at room)
-    → (later : List ℕ) → take end later ≡ take at room ++ known_text (state_in (get_or marks g 0)) (take (size * (g + 1) - size * g) (drop (size * g) octets))
+    → (later : List ℕ)
+    → take end later
+    ≡ take at room ++ known_text (state_in (get_or marks g 0))
+    (take (size * (g + 1) - size * g) (drop (size * g) octets))
     → Passes old new (marked_text size (take (g + 1) marks) octets) (take end later)
 passes_group size g marks octets kept room at end old mid new lt p q later put =
     let e : size * (g + 1) - size * g ≡ size = omega (arith, mul-add size g 1) in
-    let t : List ℕ = known_text (state_in (get_or marks g 0)) (take size (drop (size * g) octets)) in
-    passes_more old new (marked_text size (take g marks) octets) (take at room) t (marked_text size (take (g + 1) marks) octets) (take end later)
-    (passes_then old mid new (marked_text size (take g marks) octets) kept (take at room) p q) (marked_next size g marks octets lt)
-    (put ∙ ap (λ (k : ℕ). take at room ++ known_text (state_in (get_or marks g 0)) (take k (drop (size * g) octets))) e)
+    let t : List ℕ =
+    known_text (state_in (get_or marks g 0)) (take size (drop (size * g) octets)) in
+    passes_more old new (marked_text size (take g marks) octets) (take at room) t
+    (marked_text size (take (g + 1) marks) octets) (take end later)
+    (passes_then old mid new (marked_text size (take g marks) octets) kept (take at room) p q)
+    (marked_next size g marks octets lt)
+    (put ∙ ap
+    (λ (k : ℕ). take at room ++ known_text (state_in (get_or marks g 0))
+    (take k (drop (size * g) octets))) e)
 
 -- ---- the groups of a frame's row
 
-pub row_is : (r : Raster) (row size : ℕ) (marks octets : List ℕ) → IsWhole r → row < r.format.height → size ≡ (shape_in r.format).octets
+pub row_is : (r : Raster) (row size : ℕ) (marks octets : List ℕ) → IsWhole r
+    → row < r.format.height → size ≡ (shape_in r.format).octets
     → length marks ≡ row_groups r.format → length octets ≡ row_octets r.format
-    → ((group : ℕ) → group < row_groups r.format → IsMarkOf (get_or marks group 0) (group_cells r row group))
+    → ((group : ℕ) → group < row_groups r.format
+    → IsMarkOf (get_or marks group 0) (group_cells r row group))
     → AllByRecursion (λ (v : ℕ). v < 65536) marks → AllByRecursion (λ (v : ℕ). v < 256) octets
     → Spells (bits_of r.format.depth) octets (map known_value (row_cells r row))
     → marked_text size marks octets ≡ groups_text (shape_in r.format) (row_cut r row)
@@ -233,20 +333,36 @@ row_is r row size marks octets whole lt same many long each words small spelled 
     let per : ℕ = row_groups f in
     let cells : List Cell = drop (n * (row * per + 0)) r.cells in
     let d : ℕ = f.height - (row + 1) in
-    let rows : (row * per + per) + d * per ≡ f.height * per = sum_rows per row f.height d (omega arith) in
-    let split : n * ((row * per + per) + d * per) ≡ n * (row * per + 0) + (n * per + n * (d * per)) = omega arith in
-    let total : length r.cells ≡ n * (row * per + 0) + (n * per + n * (d * per)) = whole ∙ sym (sample_count_groups f) ∙ ap (λ (k : ℕ). n * k) (sym rows) ∙ split in
-    let inside : n * per ≤ length cells = omega (arith, length-drop (n * (row * per + 0)) r.cells, total) in
+    let rows : (row * per + per) + d * per ≡ f.height * per =
+    sum_rows per row f.height d (omega arith) in
+    let split : n * ((row * per + per) + d * per)
+    ≡ n * (row * per + 0) + (n * per + n * (d * per)) = omega arith in
+    let total : length r.cells ≡ n * (row * per + 0) + (n * per + n * (d * per)) =
+    whole ∙ sym (sample_count_groups f) ∙ ap (λ (k : ℕ). n * k) (sym rows) ∙ split in
+    let inside : n * per ≤ length cells =
+    omega (arith, length-drop (n * (row * per + 0)) r.cells, total) in
     let at : (i : ℕ) → i < per → IsMarkOf (get_or marks i 0) (take n (drop (n * i) cells)) =
     λ i below. let e : n * (row * per + i) ≡ n * (row * per + 0) + n * i = omega arith in
-    subst (λ (t : List Cell). IsMarkOf (get_or marks i 0) (take n t)) (ap (λ (k : ℕ). drop k r.cells) e ∙ sym (drop-drop (n * i) (n * (row * per + 0)) r.cells)) (each i below) in
-    let first : row * row_samples f ≡ n * (row * per + 0) = let e : n * (row * per) ≡ n * (row * per + 0) = omega arith in sym (swap_first n row per ∙ ap (λ (k : ℕ). row * k) (row_samples_groups f)) ∙ e in
+    subst (λ (t : List Cell). IsMarkOf (get_or marks i 0) (take n t))
+    (ap (λ (k : ℕ). drop k r.cells) e ∙ sym (drop-drop (n * i) (n * (row * per + 0)) r.cells))
+    (each i below) in
+    let first : row * row_samples f ≡ n * (row * per + 0) =
+    let e : n * (row * per) ≡ n * (row * per + 0) =
+    omega arith in sym (swap_first n row per ∙ ap (λ (k : ℕ). row * k) (row_samples_groups f))
+    ∙ e in
     let here : Spells (bits_of f.depth) octets (map known_value (take (n * per) cells)) =
-    subst (λ (k : ℕ). Spells (bits_of f.depth) octets (map known_value (take (n * per) (drop k r.cells)))) first
-    (subst (λ (k : ℕ). Spells (bits_of f.depth) octets (map known_value (take k (drop (row * row_samples f) r.cells)))) (sym (row_samples_groups f)) spelled) in
-    let size_here : length octets ≡ (shape_in f).octets * length marks = long ∙ mul_comm (row_groups f) (shape_in f).octets ∙ ap (λ (k : ℕ). (shape_in f).octets * k) (sym many) in
+    subst (λ (k : ℕ). Spells (bits_of f.depth) octets
+    (map known_value (take (n * per) (drop k r.cells)))) first
+    (subst (λ (k : ℕ). Spells (bits_of f.depth) octets
+    (map known_value (take k (drop (row * row_samples f) r.cells))))
+    (sym (row_samples_groups f)) spelled) in
+    let size_here : length octets ≡ (shape_in f).octets * length marks =
+    long ∙ mul_comm (row_groups f) (shape_in f).octets
+    ∙ ap (λ (k : ℕ). (shape_in f).octets * k) (sym many) in
     ap (λ (k : ℕ). marked_text k marks octets) same
-    ∙ row_text (shape_in f) marks octets cells (shape_is f.sampling f.depth) (λ i below. at i (subst (λ (k : ℕ). i < k) many below))
+    ∙ row_text (shape_in f) marks octets cells (shape_is f.sampling f.depth)
+    (λ i below. at i (subst (λ (k : ℕ). i < k) many below))
     (subst (λ (k : ℕ). n * k ≤ length cells) (sym many) inside) size_here words small
-    (subst (λ (k : ℕ). Spells (bits_of f.depth) octets (map known_value (take (n * k) cells))) (sym many) here)
+    (subst (λ (k : ℕ). Spells (bits_of f.depth) octets (map known_value (take (n * k) cells)))
+    (sym many) here)
     ∙ ap (λ (k : ℕ). groups_text (shape_in f) (cut_cells n k cells)) many

@@ -1,5 +1,6 @@
 -- A group some of whose samples are contested, read from a source.
-use Rattle.std.proofs.Common.{◌≡◌, ℕ, ◌^◌, Bool, true, false, cond, not, ◌||◌, eqb, ltb, List, Option, None, Some, Result, Ok, Err, refl, sym, ap, ◌∙◌}
+use Rattle.std.proofs.Common.{◌≡◌, ℕ, ◌^◌, Bool, true, false, cond, not, ◌||◌, eqb, ltb, List}
+use Rattle.std.proofs.Common.{Option, None, Some, Result, Ok, Err, refl, sym, ap, ◌∙◌}
 use Rattle.std.specs.Int.{w16, from_be_bytes}
 use Rattle.st_format.specs.declared.cell.Cell.{Cell}
 use Rattle.st_format.specs.Samples.{values_in}
@@ -15,41 +16,65 @@ Cells = Result (List Cell × List ℕ) FileFault
 
 -- what is read behind a mask
 abbrev behind : Shape → List ℕ → List ℕ → Cells
-behind s m octets = then_reads (field_at s.octets) (λ x rest. mixed_by s (from_be_bytes w16 m) (values_in s.bits x) rest) octets
+behind s m octets =
+    then_reads (field_at s.octets)
+    (λ x rest. mixed_by s (from_be_bytes w16 m) (values_in s.bits x) rest) octets
 
 -- whether a mask and values aren't those of such a group
 abbrev pub is_other : Shape → ℕ → List ℕ → Bool
-is_other s mask values = eqb mask 0 || not (ltb mask (2 ^ s.samples)) || not (are_zeroed mask values)
+is_other s mask values =
+    eqb mask 0 || not (ltb mask (2 ^ s.samples)) || not (are_zeroed mask values)
 
-pub mixed_cut : (s : Shape) (old : Option (List ℕ)) (f : FileFault) → Fails (field_at 2) old f → Fails (mixed_at s) old f
+pub mixed_cut : (s : Shape) (old : Option (List ℕ)) (f : FileFault) → Fails (field_at 2) old f
+    → Fails (mixed_at s) old f
 unfolding mixed_at
 mixed_cut s old f p = fails_first (field_at 2) (behind s) old f p
 
-pub mixed_short : (s : Shape) (old mid : Option (List ℕ)) (m : List ℕ) (f : FileFault) → Gives (field_at 2) old mid m → Fails (field_at s.octets) mid f → Fails (mixed_at s) old f
+pub mixed_short : (s : Shape) (old mid : Option (List ℕ)) (m : List ℕ) (f : FileFault)
+    → Gives (field_at 2) old mid m → Fails (field_at s.octets) mid f → Fails (mixed_at s) old f
 unfolding mixed_at
 mixed_short s old mid m f p q =
-    fails_then (field_at 2) (behind s) old mid m f p (fails_first (field_at s.octets) (λ x rest. mixed_by s (from_be_bytes w16 m) (values_in s.bits x) rest) mid f q)
+    fails_then (field_at 2) (behind s) old mid m f p
+    (fails_first (field_at s.octets)
+    (λ x rest. mixed_by s (from_be_bytes w16 m) (values_in s.bits x) rest) mid f q)
 
-other_fails : (s : Shape) (mask : ℕ) (values : List ℕ) (known : Option (List ℕ)) → is_other s mask values ≡ true → Fails (mixed_by s mask values) known MixedGroup
+other_fails : (s : Shape) (mask : ℕ) (values : List ℕ) (known : Option (List ℕ))
+    → is_other s mask values ≡ true → Fails (mixed_by s mask values) known MixedGroup
 other_fails s mask values None e = tt
-other_fails s mask values (Some o) e = ap (λ (b : Bool). let r : Cells = cond b (Err MixedGroup) (Ok (cells_by mask values, o)) in r) e
+other_fails s mask values (Some o) e =
+    ap (λ (b : Bool). let r : Cells = cond b (Err MixedGroup) (Ok (cells_by mask values, o)) in r) e
 
-one_gives : (s : Shape) (mask : ℕ) (values : List ℕ) (known : Option (List ℕ)) → is_other s mask values ≡ false → Gives (mixed_by s mask values) known known (cells_by mask values)
+one_gives : (s : Shape) (mask : ℕ) (values : List ℕ) (known : Option (List ℕ))
+    → is_other s mask values ≡ false
+    → Gives (mixed_by s mask values) known known (cells_by mask values)
 one_gives s mask values None e = tt
-one_gives s mask values (Some o) e = ap (λ (b : Bool). let r : Cells = cond b (Err MixedGroup) (Ok (cells_by mask values, o)) in r) e
+one_gives s mask values (Some o) e =
+    ap (λ (b : Bool). let r : Cells = cond b (Err MixedGroup) (Ok (cells_by mask values, o)) in r) e
 
-pub mixed_other : (s : Shape) (old mid new : Option (List ℕ)) (m octets : List ℕ) → Gives (field_at 2) old mid m → Gives (field_at s.octets) mid new octets → is_other s (from_be_bytes w16 m) (values_in s.bits octets) ≡ true → Fails (mixed_at s) old MixedGroup
+pub mixed_other : (s : Shape) (old mid new : Option (List ℕ)) (m octets : List ℕ)
+    → Gives (field_at 2) old mid m → Gives (field_at s.octets) mid new octets
+    → is_other s (from_be_bytes w16 m) (values_in s.bits octets) ≡ true
+    → Fails (mixed_at s) old MixedGroup
 unfolding mixed_at
 mixed_other s old mid new m octets p q e =
     fails_then (field_at 2) (behind s) old mid m MixedGroup p
-    (fails_then (field_at s.octets) (λ x rest. mixed_by s (from_be_bytes w16 m) (values_in s.bits x) rest) mid new octets MixedGroup q (other_fails s (from_be_bytes w16 m) (values_in s.bits octets) new e))
+    (fails_then (field_at s.octets)
+    (λ x rest. mixed_by s (from_be_bytes w16 m)
+    (values_in s.bits x) rest) mid new octets MixedGroup q
+    (other_fails s (from_be_bytes w16 m) (values_in s.bits octets) new e))
 
-pub mixed_gives : (s : Shape) (old mid new : Option (List ℕ)) (m octets : List ℕ) → Gives (field_at 2) old mid m → Gives (field_at s.octets) mid new octets → is_other s (from_be_bytes w16 m) (values_in s.bits octets) ≡ false
+pub mixed_gives : (s : Shape) (old mid new : Option (List ℕ)) (m octets : List ℕ)
+    → Gives (field_at 2) old mid m → Gives (field_at s.octets) mid new octets
+    → is_other s (from_be_bytes w16 m) (values_in s.bits octets) ≡ false
     → Gives (mixed_at s) old new (cells_by (from_be_bytes w16 m) (values_in s.bits octets))
 unfolding mixed_at
 mixed_gives s old mid new m octets p q e =
-    gives_then (field_at 2) (behind s) old mid new m (cells_by (from_be_bytes w16 m) (values_in s.bits octets)) p
-    (gives_then (field_at s.octets) (λ x rest. mixed_by s (from_be_bytes w16 m) (values_in s.bits x) rest) mid new new octets (cells_by (from_be_bytes w16 m) (values_in s.bits octets)) q (one_gives s (from_be_bytes w16 m) (values_in s.bits octets) new e))
+    gives_then (field_at 2) (behind s) old mid new m
+    (cells_by (from_be_bytes w16 m) (values_in s.bits octets)) p
+    (gives_then (field_at s.octets)
+    (λ x rest. mixed_by s (from_be_bytes w16 m) (values_in s.bits x) rest) mid new new octets
+    (cells_by (from_be_bytes w16 m) (values_in s.bits octets)) q
+    (one_gives s (from_be_bytes w16 m) (values_in s.bits octets) new e))
 
 -- a test whose negation was made
 pub not_flipped : (b v r : Bool) → r ≡ not b → r ≡ not v → b ≡ v

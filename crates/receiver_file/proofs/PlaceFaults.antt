@@ -1,6 +1,7 @@
 -- What is wrong at a place of a receiver's file: a reading that comes there fails, and so does that
 -- of the file; and each reading that fails does so at some place.
-use Rattle.std.proofs.Common.{◌≡◌, ℕ, ◌<◌, Bool, true, false, List, [], ◌∷◌, ◌++◌, map, Option, Result, Err, append_assoc, sym, ap, ◌∙◌, inl, inr}
+use Rattle.std.proofs.Common.{◌≡◌, ℕ, ◌<◌, Bool, true, false, List, [], ◌∷◌, ◌++◌, map, Option}
+use Rattle.std.proofs.Common.{Result, Err, append_assoc, sym, ap, ◌∙◌, inl, inr}
 use Rattle.std.specs.Int.{w32, to_be_bytes}
 use Rattle.std.specs.List.{flat_map}
 use Rattle.st_format.specs.declared.cell.Cell.{Cell}
@@ -18,16 +19,28 @@ use Rattle.capture_file.proofs.PictureFaults.{block_short}
 use Rattle.receiver_file.specs.declared.front.Head.{Head}
 use Rattle.receiver_file.specs.Front.{count_at, flag_at, head_at, payload_type_at, ssrc_at}
 use Rattle.receiver_file.specs.Saved.{timestamp_in}
-use Rattle.receiver_file.specs.StateFaults.{AreFewer, IsBadAt, IsCutAt, IsHead, IsMixedAt, IsSaid, Place, block_front, flag_octet, frames_front, head_text, shape_by, text_before}
-use Rattle.receiver_file.specs.StateFaults.Place.{AtBlock, AtPayloadType, AtFlag, AtSource, AtCount, AtTimestamp, AtGroup}
+use Rattle.receiver_file.specs.StateFaults.{AreFewer, IsBadAt, IsCutAt, IsHead, IsMixedAt, IsSaid}
+use Rattle.receiver_file.specs.StateFaults.{Place, block_front, flag_octet, frames_front, head_text}
+use Rattle.receiver_file.specs.StateFaults.{shape_by, text_before}
+use Rattle.receiver_file.specs.StateFaults.Place.{AtBlock, AtPayloadType, AtFlag, AtSource, AtCount}
+use Rattle.receiver_file.specs.StateFaults.Place.{AtTimestamp, AtGroup}
 use Rattle.receiver_file.specs.StateReading.{all_held_at, held_at, state_at, timestamp_at}
-use Rattle.receiver_file.proofs.Again.{Frames_read, flag_off, flag_on, new_all, ssrc_again, state_formed, state_headed, state_named, type_again}
-use Rattle.receiver_file.proofs.FieldFaults.{block_fault, block_none, count_fails, count_gone, count_other, flag_fails, flag_gone, flag_other, source_at, source_fails, source_other, source_short, ssrc_read, type_above, type_fails, type_gone, type_read}
-use Rattle.receiver_file.proofs.Found.{behind_block, behind_frames, behind_head, flag_takes, ssrc_takes, type_takes, with_head}
-use Rattle.receiver_file.proofs.FrameFaults.{FieldFails, HeldFails, different_all, frames_fail, frames_stop, held_fails, held_groups, held_stamp, stamp_fails, stamp_short, stamp_twice}
+use Rattle.receiver_file.proofs.Again.{Frames_read, flag_off, flag_on, new_all, ssrc_again}
+use Rattle.receiver_file.proofs.Again.{state_formed, state_headed, state_named, type_again}
+use Rattle.receiver_file.proofs.FieldFaults.{block_fault, block_none, count_fails, count_gone}
+use Rattle.receiver_file.proofs.FieldFaults.{count_other, flag_fails, flag_gone, flag_other}
+use Rattle.receiver_file.proofs.FieldFaults.{source_at, source_fails, source_other, source_short}
+use Rattle.receiver_file.proofs.FieldFaults.{ssrc_read, type_above, type_fails, type_gone}
+use Rattle.receiver_file.proofs.FieldFaults.{type_read}
+use Rattle.receiver_file.proofs.Found.{behind_block, behind_frames, behind_head, flag_takes}
+use Rattle.receiver_file.proofs.Found.{ssrc_takes, type_takes, with_head}
+use Rattle.receiver_file.proofs.FrameFaults.{FieldFails, HeldFails, different_all, frames_fail}
+use Rattle.receiver_file.proofs.FrameFaults.{frames_stop, held_fails, held_groups, held_stamp}
+use Rattle.receiver_file.proofs.FrameFaults.{stamp_fails, stamp_short, stamp_twice}
 use Rattle.receiver_file.proofs.FrameFaults.FieldFails.{Ends, Says}
 use Rattle.receiver_file.proofs.FrameFaults.HeldFails.{InStamp, InGroups}
-use Rattle.receiver_file.proofs.GroupFaults.{GroupFails, group_cut, group_fails, group_mask, group_state}
+use Rattle.receiver_file.proofs.GroupFaults.{GroupFails, group_cut, group_fails, group_mask}
+use Rattle.receiver_file.proofs.GroupFaults.{group_state}
 use Rattle.receiver_file.proofs.GroupFaults.GroupFails.{Cut, State, Mask}
 use Rattle.receiver_file.proofs.GroupsFound.{behind}
 

@@ -1,5 +1,6 @@
 -- The groups of a row, and the rows of a frame, one after the other.
-use Rattle.std.proofs.Common.{◌≡◌, ℕ, ◌+◌, ◌-◌, ◌*◌, ◌<◌, ◌≤◌, List, [], ◌∷◌, ◌++◌, length, take, drop, Option, None, Some, append-nil, sym, ap, ◌∙◌, subst, arith}
+use Rattle.std.proofs.Common.{◌≡◌, ℕ, ◌+◌, ◌-◌, ◌*◌, ◌<◌, ◌≤◌, List, [], ◌∷◌, ◌++◌, length, take}
+use Rattle.std.proofs.Common.{drop, Option, None, Some, append-nil, sym, ap, ◌∙◌, subst, arith}
 use Rattle.std.specs.Io.KnownBytes.{Appends}
 use Rattle.std.proofs.lemmas.List.{length-drop, length-take-le}
 use Rattle.st_format.specs.Raster.{IsWhole, Raster}
@@ -22,74 +23,120 @@ row_from size a cells = drop (size * (a + 0)) cells
 abbrev pub group_from : ℕ → ℕ → ℕ → List Cell → List Cell
 group_from size a g cells = take size (drop (size * (a + g)) cells)
 
-pub cut_next : (size a g : ℕ) (cells : List Cell) → cut_cells size (g + 1) (row_from size a cells) ≡ cut_cells size g (row_from size a cells) ++ group_from size a g cells ∷ []
+pub cut_next : (size a g : ℕ) (cells : List Cell)
+    → cut_cells size (g + 1) (row_from size a cells)
+    ≡ cut_cells size g (row_from size a cells) ++ group_from size a g cells ∷ []
 cut_next size a g cells =
-    cut_add size g 1 (row_from size a cells) ∙ ap (λ (t : List (List Cell)). cut_cells size g (row_from size a cells) ++ t) (cut_place size a g cells)
+    cut_add size g 1 (row_from size a cells)
+    ∙ ap (λ (t : List (List Cell)). cut_cells size g (row_from size a cells) ++ t)
+    (cut_place size a g cells)
 
 row_rest : ℕ → ℕ → ℕ → ℕ → List Cell → List (List Cell)
-row_rest size a g n cells = cut_cells size (n - (g + 1)) (drop (size * (g + 1)) (row_from size a cells))
+row_rest size a g n cells =
+    cut_cells size (n - (g + 1)) (drop (size * (g + 1)) (row_from size a cells))
 
-cut_row : (size a g n : ℕ) (cells : List Cell) → g < n → cut_cells size n (row_from size a cells) ≡ (cut_cells size g (row_from size a cells) ++ group_from size a g cells ∷ []) ++ row_rest size a g n cells
+cut_row : (size a g n : ℕ) (cells : List Cell) → g < n
+    → cut_cells size n (row_from size a cells)
+    ≡ (cut_cells size g (row_from size a cells) ++ group_from size a g cells ∷ [])
+    ++ row_rest size a g n cells
 unfolding row_rest
 cut_row size a g n cells lt =
     cut_three size g 1 (n - (g + 1)) n (row_from size a cells) (omega arith)
-    ∙ ap (λ (t : List (List Cell)). (cut_cells size g (row_from size a cells) ++ t) ++ cut_cells size (n - (g + 1)) (drop (size * (g + 1)) (row_from size a cells))) (cut_place size a g cells)
+    ∙ ap
+    (λ (t : List (List Cell)).
+    (cut_cells size g (row_from size a cells) ++ t) ++ cut_cells size (n - (g + 1))
+    (drop (size * (g + 1)) (row_from size a cells))) (cut_place size a g cells)
 
 -- ---- written
 
-pub written_none : (s : Shape) (size : ℕ) (cells : List Cell) (known : Option (List ℕ)) → Appends known known (groups_text s (cut_cells size 0 cells))
+pub written_none : (s : Shape) (size : ℕ) (cells : List Cell) (known : Option (List ℕ))
+    → Appends known known (groups_text s (cut_cells size 0 cells))
 unfolding cut_cells
 written_none s size cells None = tt
 written_none s size cells (Some o) = sym (append-nil o)
 
-pub written_more : (s : Shape) (size a g : ℕ) (cells : List Cell) (old mid new : Option (List ℕ)) → Appends old mid (groups_text s (cut_cells size g (row_from size a cells))) → Appends mid new (group_text s (group_from size a g cells))
+pub written_more : (s : Shape) (size a g : ℕ) (cells : List Cell) (old mid new : Option (List ℕ))
+    → Appends old mid (groups_text s (cut_cells size g (row_from size a cells)))
+    → Appends mid new (group_text s (group_from size a g cells))
     → Appends old new (groups_text s (cut_cells size (g + 1) (row_from size a cells)))
 written_more s size a g cells old mid new p q =
-    texts_more s (cut_cells size g (row_from size a cells)) (group_from size a g cells ∷ []) (cut_cells size (g + 1) (row_from size a cells)) old mid new (cut_next size a g cells) p
+    texts_more s (cut_cells size g (row_from size a cells)) (group_from size a g cells ∷ [])
+    (cut_cells size (g + 1) (row_from size a cells)) old mid new (cut_next size a g cells) p
     (subst (Appends mid new) (text_one s (group_from size a g cells)) q)
 
-pub written_stop : (s : Shape) (size a g n : ℕ) (cells : List Cell) (old mid new : Option (List ℕ)) → g < n → Appends old mid (groups_text s (cut_cells size g (row_from size a cells))) → AppendsPrefix mid new (group_text s (group_from size a g cells))
+pub written_stop : (s : Shape) (size a g n : ℕ) (cells : List Cell) (old mid new : Option (List ℕ))
+    → g < n → Appends old mid (groups_text s (cut_cells size g (row_from size a cells)))
+    → AppendsPrefix mid new (group_text s (group_from size a g cells))
     → AppendsPrefix old new (groups_text s (cut_cells size n (row_from size a cells)))
 written_stop s size a g n cells old mid new lt p q =
-    texts_cut s (cut_cells size g (row_from size a cells)) (group_from size a g cells ∷ []) (row_rest size a g n cells) (cut_cells size n (row_from size a cells)) old mid new (cut_row size a g n cells lt) p
+    texts_cut s (cut_cells size g (row_from size a cells)) (group_from size a g cells ∷ [])
+    (row_rest size a g n cells) (cut_cells size n (row_from size a cells)) old mid new
+    (cut_row size a g n cells lt) p
     (subst (AppendsPrefix mid new) (text_one s (group_from size a g cells)) q)
 
 -- rows
-pub rows_next : (size per row : ℕ) (cells : List Cell) → cut_cells size ((row + 1) * per) cells ≡ cut_cells size (row * per) cells ++ cut_cells size per (row_from size (row * per) cells)
+pub rows_next : (size per row : ℕ) (cells : List Cell)
+    → cut_cells size ((row + 1) * per) cells
+    ≡ cut_cells size (row * per) cells ++ cut_cells size per (row_from size (row * per) cells)
 rows_next size per row cells =
     let e : (row + 1) * per ≡ row * per + per = omega arith in
     let z : size * (row * per) ≡ size * (row * per + 0) = omega arith in
-    ap (λ (n : ℕ). cut_cells size n cells) e ∙ cut_add size (row * per) per cells ∙ ap (λ (n : ℕ). cut_cells size (row * per) cells ++ cut_cells size per (drop n cells)) z
+    ap (λ (n : ℕ). cut_cells size n cells) e ∙ cut_add size (row * per) per cells
+    ∙ ap (λ (n : ℕ). cut_cells size (row * per) cells ++ cut_cells size per (drop n cells)) z
 
 rows_rest : ℕ → ℕ → ℕ → ℕ → List Cell → List (List Cell)
-rows_rest size per row h cells = cut_cells size ((h - (row + 1)) * per) (drop (size * (row * per + per)) cells)
+rows_rest size per row h cells =
+    cut_cells size ((h - (row + 1)) * per) (drop (size * (row * per + per)) cells)
 
 pub sum_rows : (per row h k : ℕ) → h ≡ (row + 1) + k → (row * per + per) + k * per ≡ h * per
-sum_rows per row h k e = let m : ((row + 1) + k) * per ≡ h * per = ap (λ (n : ℕ). n * per) (sym e) in let l : (row * per + per) + k * per ≡ ((row + 1) + k) * per = omega arith in l ∙ m
+sum_rows per row h k e = let m : ((row + 1) + k) * per ≡ h * per =
+    ap (λ (n : ℕ). n * per) (sym e) in let l : (row * per + per) + k * per
+    ≡ ((row + 1) + k) * per = omega arith in l ∙ m
 
-cut_rows : (size per row h : ℕ) (cells : List Cell) → row < h → cut_cells size (h * per) cells ≡ (cut_cells size (row * per) cells ++ cut_cells size per (row_from size (row * per) cells)) ++ rows_rest size per row h cells
+cut_rows : (size per row h : ℕ) (cells : List Cell) → row < h
+    → cut_cells size (h * per) cells
+    ≡ (cut_cells size (row * per) cells ++ cut_cells size per (row_from size (row * per) cells))
+    ++ rows_rest size per row h cells
 unfolding rows_rest
 cut_rows size per row h cells lt =
     let k : ℕ = h - (row + 1) in
     let z : size * (row * per) ≡ size * (row * per + 0) = omega arith in
     cut_three size (row * per) per (k * per) (h * per) cells (sum_rows per row h k (omega arith))
-    ∙ ap (λ (n : ℕ). (cut_cells size (row * per) cells ++ cut_cells size per (drop n cells)) ++ cut_cells size (k * per) (drop (size * (row * per + per)) cells)) z
+    ∙ ap
+    (λ (n : ℕ).
+    (cut_cells size (row * per) cells ++ cut_cells size per (drop n cells)) ++ cut_cells size
+    (k * per) (drop (size * (row * per + per)) cells)) z
 
-pub rows_none : (s : Shape) (size per : ℕ) (cells : List Cell) (known : Option (List ℕ)) → Appends known known (groups_text s (cut_cells size (0 * per) cells))
-rows_none s size per cells known = let e : 0 ≡ 0 * per = omega arith in subst (λ (n : ℕ). Appends known known (groups_text s (cut_cells size n cells))) e (written_none s size cells known)
+pub rows_none : (s : Shape) (size per : ℕ) (cells : List Cell) (known : Option (List ℕ))
+    → Appends known known (groups_text s (cut_cells size (0 * per) cells))
+rows_none s size per cells known = let e : 0 ≡ 0 * per =
+    omega arith in subst
+    (λ (n : ℕ). Appends known known (groups_text s (cut_cells size n cells))) e
+    (written_none s size cells known)
 
-pub rows_more : (s : Shape) (size per row : ℕ) (cells : List Cell) (old mid new : Option (List ℕ)) → Appends old mid (groups_text s (cut_cells size (row * per) cells)) → Appends mid new (groups_text s (cut_cells size per (row_from size (row * per) cells)))
+pub rows_more : (s : Shape) (size per row : ℕ) (cells : List Cell) (old mid new : Option (List ℕ))
+    → Appends old mid (groups_text s (cut_cells size (row * per) cells))
+    → Appends mid new (groups_text s (cut_cells size per (row_from size (row * per) cells)))
     → Appends old new (groups_text s (cut_cells size ((row + 1) * per) cells))
-rows_more s size per row cells old mid new p q = texts_more s (cut_cells size (row * per) cells) (cut_cells size per (row_from size (row * per) cells)) (cut_cells size ((row + 1) * per) cells) old mid new (rows_next size per row cells) p q
+rows_more s size per row cells old mid new p q =
+    texts_more s (cut_cells size (row * per) cells)
+    (cut_cells size per (row_from size (row * per) cells))
+    (cut_cells size ((row + 1) * per) cells) old mid new (rows_next size per row cells) p q
 
-pub rows_stop : (s : Shape) (size per row h : ℕ) (cells : List Cell) (old mid new : Option (List ℕ)) → row < h → Appends old mid (groups_text s (cut_cells size (row * per) cells)) → AppendsPrefix mid new (groups_text s (cut_cells size per (row_from size (row * per) cells)))
+pub rows_stop : (s : Shape) (size per row h : ℕ) (cells : List Cell)
+    (old mid new : Option (List ℕ)) → row < h
+    → Appends old mid (groups_text s (cut_cells size (row * per) cells))
+    → AppendsPrefix mid new (groups_text s (cut_cells size per (row_from size (row * per) cells)))
     → AppendsPrefix old new (groups_text s (cut_cells size (h * per) cells))
 rows_stop s size per row h cells old mid new lt p q =
-    texts_cut s (cut_cells size (row * per) cells) (cut_cells size per (row_from size (row * per) cells)) (rows_rest size per row h cells) (cut_cells size (h * per) cells) old mid new (cut_rows size per row h cells lt) p q
+    texts_cut s (cut_cells size (row * per) cells)
+    (cut_cells size per (row_from size (row * per) cells)) (rows_rest size per row h cells)
+    (cut_cells size (h * per) cells) old mid new (cut_rows size per row h cells lt) p q
 
 -- ---- how long a group is
 
-pub group_long : (r : Raster) (row group : ℕ) → IsWhole r → row < r.format.height → group < row_groups r.format → length (group_cells r row group) ≡ (shape_in r.format).samples
+pub group_long : (r : Raster) (row group : ℕ) → IsWhole r → row < r.format.height
+    → group < row_groups r.format → length (group_cells r row group) ≡ (shape_in r.format).samples
 group_long r row group whole lt below =
     let h : ℕ = r.format.height in
     let size : ℕ = (shape_in r.format).samples in
@@ -98,12 +145,16 @@ group_long r row group whole lt below =
     let e : ℕ = (per - (group + 1)) + d * per in
     let rows : (row * per + per) + d * per ≡ h * per = sum_rows per row h d (omega arith) in
     let all : h * per ≡ (row * per + group) + (1 + e) = omega (arith, rows, below) in
-    let split : size * ((row * per + group) + (1 + e)) ≡ size * (row * per + group) + (size + size * e) = omega arith in
-    let total : length r.cells ≡ size * (row * per + group) + (size + size * e) = whole ∙ sym (sample_count_groups r.format) ∙ ap (λ (n : ℕ). size * n) all ∙ split in
-    length-take-le size (drop (group_start r.format row group) r.cells) (omega (arith, length-drop (group_start r.format row group) r.cells, total))
+    let split : size * ((row * per + group) + (1 + e))
+    ≡ size * (row * per + group) + (size + size * e) = omega arith in
+    let total : length r.cells ≡ size * (row * per + group) + (size + size * e) =
+    whole ∙ sym (sample_count_groups r.format) ∙ ap (λ (n : ℕ). size * n) all ∙ split in
+    length-take-le size (drop (group_start r.format row group) r.cells)
+    (omega (arith, length-drop (group_start r.format row group) r.cells, total))
 
 -- a group begins within the cells
-pub start_within : (r : Raster) (row group : ℕ) → IsWhole r → row < r.format.height → group < row_groups r.format → group_start r.format row group ≤ length r.cells
+pub start_within : (r : Raster) (row group : ℕ) → IsWhole r → row < r.format.height
+    → group < row_groups r.format → group_start r.format row group ≤ length r.cells
 start_within r row group whole lt below =
     let h : ℕ = r.format.height in
     let size : ℕ = (shape_in r.format).samples in
@@ -112,9 +163,17 @@ start_within r row group whole lt below =
     let e : ℕ = (per - group) + d * per in
     let rows : (row * per + per) + d * per ≡ h * per = sum_rows per row h d (omega arith) in
     let all : h * per ≡ (row * per + group) + e = omega (arith, rows, below) in
-    let split : size * ((row * per + group) + e) ≡ size * (row * per + group) + size * e = omega arith in
-    let total : length r.cells ≡ size * (row * per + group) + size * e = whole ∙ sym (sample_count_groups r.format) ∙ ap (λ (n : ℕ). size * n) all ∙ split in
+    let split : size * ((row * per + group) + e) ≡ size * (row * per + group) + size * e =
+    omega arith in
+    let total : length r.cells ≡ size * (row * per + group) + size * e =
+    whole ∙ sym (sample_count_groups r.format) ∙ ap (λ (n : ℕ). size * n) all ∙ split in
     omega (arith, total)
 
-pub group_some : (r : Raster) (row group : ℕ) → IsWhole r → row < r.format.height → group < row_groups r.format → 0 < length (group_cells r row group)
-group_some r row group whole lt below = omega (arith, group_long r row group whole lt below, (shape_is r.format.sampling r.format.depth).some)
+pub group_some : (r : Raster) (row group : ℕ) → IsWhole r → row < r.format.height
+    → group < row_groups r.format → 0 < length (group_cells r row group)
+group_some r row group whole lt below =
+    omega (
+      arith,
+      group_long r row group whole lt below,
+      (shape_is r.format.sampling r.format.depth).some,
+    )

@@ -1,5 +1,7 @@
 -- A receiver's file: each fault is read exactly where its condition holds, and at most one holds.
-use Rattle.std.proofs.Common.{◌≡◌, ℕ, ◌<◌, Bool, true, false, codes, List, [], ◌∷◌, ◌++◌, length, Option, Some, Result, Ok, Err, append_assoc, refl, sym, ap, ◌∙◌, subst, inl, inr, arith}
+use Rattle.std.proofs.Common.{◌≡◌, ℕ, ◌<◌, Bool, true, false, codes, List, [], ◌∷◌, ◌++◌, length}
+use Rattle.std.proofs.Common.{Option, Some, Result, Ok, Err, append_assoc, refl, sym, ap, ◌∙◌}
+use Rattle.std.proofs.Common.{subst, inl, inr, arith}
 use Rattle.std.specs.Prelude.{◌⊎◌, IfErr}
 use Rattle.std.specs.Str.{bytes_eq}
 use Rattle.std.proofs.lemmas.List.{length-map}
@@ -8,7 +10,10 @@ use Rattle.st_format.specs.Device.{AreOctets, TellsOctets}
 use Rattle.st_format.specs.Fields.{Fields}
 use Rattle.path_merge.specs.Frames.{State}
 use Rattle.capture_file.specs.declared.fault.FileFault.{FileFault}
-use Rattle.capture_file.specs.declared.fault.FileFault.TheVariants.{NoMemory, Device, BadName, BadVersion, Truncated, BadField, TrailingBytes, MixedGroup, TooManyRecords}
+use Rattle.capture_file.specs.declared.fault.FileFault.TheVariants.{NoMemory, Device, BadName}
+use Rattle.capture_file.specs.declared.fault.FileFault.TheVariants.{BadVersion, Truncated, BadField}
+use Rattle.capture_file.specs.declared.fault.FileFault.TheVariants.{TrailingBytes, MixedGroup}
+use Rattle.capture_file.specs.declared.fault.FileFault.TheVariants.{TooManyRecords}
 use Rattle.capture_file.specs.declared.front.Version.{Version}
 use Rattle.capture_file.specs.declared.front.Version.TheVariants.{One, Two}
 use Rattle.capture_file.specs.Blocks.{block_at}
@@ -20,22 +25,28 @@ use Rattle.capture_file.specs.StateFile.{Held, Kept, format_text, state_text}
 use Rattle.capture_file.proofs.Content.{if_content_weaker}
 use Rattle.capture_file.proofs.Failing.{differ, not_both, same_fault, split_fails}
 use Rattle.capture_file.proofs.Found.{given, kind_takes, split_then}
-use Rattle.capture_file.proofs.KindFaults.{KindFails, kind_cut, kind_fails, kind_tells, name_tells, version_tells}
+use Rattle.capture_file.proofs.KindFaults.{KindFails, kind_cut, kind_fails, kind_tells, name_tells}
+use Rattle.capture_file.proofs.KindFaults.{version_tells}
 use Rattle.capture_file.proofs.KindFaults.KindFails.{Cut, Name, Digits}
 use Rattle.capture_file.proofs.PictureFaults.{block_stands, neither}
 use Rattle.receiver_file.specs.declared.front.Head.{Head}
 use Rattle.receiver_file.specs.Front.{head_at, name_at, only_one}
 use Rattle.receiver_file.specs.Saved.{IsSaved, frames_text, timestamp_in}
-use Rattle.receiver_file.specs.StateFaults.{HasMore, HasPlace, IsBadAt, IsCutAt, IsCutState, IsHead, IsMixedAt, IsSaid, Place, StateFault, block_front, head_text, text_before}
+use Rattle.receiver_file.specs.StateFaults.{HasMore, HasPlace, IsBadAt, IsCutAt, IsCutState, IsHead}
+use Rattle.receiver_file.specs.StateFaults.{IsMixedAt, IsSaid, Place, StateFault, block_front}
+use Rattle.receiver_file.specs.StateFaults.{head_text, text_before}
 use Rattle.receiver_file.specs.StateFaults.IsCutState.{Kind, Field}
 use Rattle.receiver_file.specs.StateFaults.Place.{AtBlock}
 use Rattle.receiver_file.specs.StateReading.{all_held_at, end_at, state_at}
 use Rattle.receiver_file.proofs.Again.{head_of, state_parts, state_whole}
 use Rattle.receiver_file.proofs.FieldFaults.{head_read}
-use Rattle.receiver_file.proofs.Found.{behind_block, behind_frames, behind_head, head_takes, kept_made, name_takes, state_takes, with_kept, all_take}
+use Rattle.receiver_file.proofs.Found.{behind_block, behind_frames, behind_head, head_takes}
+use Rattle.receiver_file.proofs.Found.{kept_made, name_takes, state_takes, with_kept, all_take}
 use Rattle.receiver_file.proofs.FrameFaults.{AreFrames, different_all, frames_read}
 use Rattle.receiver_file.proofs.GroupsFound.{behind}
-use Rattle.receiver_file.proofs.PlaceFaults.{PlaceFails, Reached, bad_at, cut_at, frames_reach, head_reach, mixed_at_place, place_fails, place_faults, reached}
+use Rattle.receiver_file.proofs.PlaceFaults.{PlaceFails, Reached, bad_at, cut_at, frames_reach}
+use Rattle.receiver_file.proofs.PlaceFaults.{head_reach, mixed_at_place, place_fails, place_faults}
+use Rattle.receiver_file.proofs.PlaceFaults.{reached}
 use Rattle.receiver_file.proofs.PlaceFaults.PlaceFails.{IsCut, IsBad, IsMixed}
 
 abbrev Named : Type 0

@@ -1,5 +1,6 @@
 -- A receiver's file, read part by part.
-use Rattle.std.proofs.Common.{◌≡◌, ℕ, ◌<◌, List, [], ◌∷◌, length, Option, None, Some, Result, Ok, Err, refl, sym, ap, ◌∙◌, subst, arith}
+use Rattle.std.proofs.Common.{◌≡◌, ℕ, ◌<◌, List, [], ◌∷◌, length, Option, None, Some, Result, Ok}
+use Rattle.std.proofs.Common.{Err, refl, sym, ap, ◌∙◌, subst, arith}
 use Rattle.std.specs.Io.KnownBytes.{Consumes, IsAtEnd}
 use Rattle.std.specs.Prelude.{IfErr, IfOk}
 use Rattle.st_format.specs.declared.format.Format.{Format}
@@ -21,15 +22,19 @@ use Rattle.receiver_file.proofs.Valued.{memory_fails, value_cut, value_gives, va
 
 -- ---- the end
 
-pub end_gives : (old new : Option (List ℕ)) (given : List ℕ) → length given ≡ 0 → Consumes old new given → IsAtEnd new → Gives end_at old new tt
+pub end_gives : (old new : Option (List ℕ)) (given : List ℕ) → length given ≡ 0
+    → Consumes old new given → IsAtEnd new → Gives end_at old new tt
 end_gives None new given none p q = tt
 end_gives (Some o) None given none p q = absurd p
 end_gives (Some o) (Some rest) (x ∷ given) none p q = absurd (omega (arith, none))
 end_gives (Some o) (Some rest) [] none p q =
     let empty : o ≡ [] = p ∙ q in
-    ap end_at empty ∙ ap (λ (t : List ℕ). let r : Result (Unit {0} × List ℕ) FileFault = Ok (tt, t) in r) (sym q)
+    ap end_at empty
+    ∙ ap (λ (t : List ℕ). let r : Result (Unit {0} × List ℕ) FileFault = Ok (tt, t) in r)
+    (sym q)
 
-pub end_fails : (old new : Option (List ℕ)) (given : List ℕ) → 0 < length given → Consumes old new given → Fails end_at old TrailingBytes
+pub end_fails : (old new : Option (List ℕ)) (given : List ℕ) → 0 < length given
+    → Consumes old new given → Fails end_at old TrailingBytes
 end_fails None new given some p = tt
 end_fails (Some o) None given some p = absurd p
 end_fails (Some o) (Some rest) [] some p = absurd (omega (arith, some))
@@ -38,7 +43,8 @@ end_fails (Some o) (Some rest) (x ∷ given) some p = ap end_at p
 -- ---- the parts
 
 abbrev kept : Fields → Head → List Held → Unit {0} → Result Kept FileFault
-kept f h hs end = Ok (record { format = f; payload_type = h.payload_type; ssrc = h.ssrc; frames = hs })
+kept f h hs end =
+    Ok (record { format = f; payload_type = h.payload_type; ssrc = h.ssrc; frames = hs })
 
 abbrev behind_frames : Fields → Head → List Held → List ℕ → Result (Kept × List ℕ) FileFault
 behind_frames f h hs octets = valued end_at (kept f h hs) octets
@@ -52,53 +58,95 @@ behind_format f octets = then_reads head_at (behind_head f) octets
 abbrev behind_name : Unit {0} → List ℕ → Result (Kept × List ℕ) FileFault
 behind_name u octets = then_reads block_at behind_format octets
 
-pub state_name : (old : Option (List ℕ)) (e : FileFault) → Fails name_at old e → Fails state_at old e
+pub state_name : (old : Option (List ℕ)) (e : FileFault) → Fails name_at old e
+    → Fails state_at old e
 unfolding state_at
 state_name old e p = fails_first name_at behind_name old e p
 
-pub state_format : (old a : Option (List ℕ)) (e : FileFault) → Gives name_at old a tt → Fails block_at a e → Fails state_at old e
+pub state_format : (old a : Option (List ℕ)) (e : FileFault) → Gives name_at old a tt
+    → Fails block_at a e → Fails state_at old e
 unfolding state_at
-state_format old a e n p = fails_then name_at behind_name old a tt e n (fails_first block_at behind_format a e p)
+state_format old a e n p =
+    fails_then name_at behind_name old a tt e n (fails_first block_at behind_format a e p)
 
-pub state_head : (old a b : Option (List ℕ)) (f : Fields) (e : FileFault) → Gives name_at old a tt → Gives block_at a b f → Fails head_at b e → Fails state_at old e
+pub state_head : (old a b : Option (List ℕ)) (f : Fields) (e : FileFault) → Gives name_at old a tt
+    → Gives block_at a b f → Fails head_at b e → Fails state_at old e
 unfolding state_at
-state_head old a b f e n m p = fails_then name_at behind_name old a tt e n (fails_then block_at behind_format a b f e m (fails_first head_at (behind_head f) b e p))
+state_head old a b f e n m p =
+    fails_then name_at behind_name old a tt e n
+    (fails_then block_at behind_format a b f e m (fails_first head_at (behind_head f) b e p))
 
-pub state_frames : (old a b c : Option (List ℕ)) (f : Fields) (h : Head) (e : FileFault) → Gives name_at old a tt → Gives block_at a b f → Gives head_at b c h → Fails (all_held_at f h.count []) c e → Fails state_at old e
+pub state_frames : (old a b c : Option (List ℕ)) (f : Fields) (h : Head) (e : FileFault)
+    → Gives name_at old a tt → Gives block_at a b f → Gives head_at b c h
+    → Fails (all_held_at f h.count []) c e → Fails state_at old e
 unfolding state_at
 state_frames old a b c f h e n m k p =
     fails_then name_at behind_name old a tt e n
-    (fails_then block_at behind_format a b f e m (fails_then head_at (behind_head f) b c h e k (fails_first (all_held_at f h.count []) (behind_frames f h) c e p)))
+    (fails_then block_at behind_format a b f e m
+    (fails_then head_at (behind_head f) b c h e k
+    (fails_first (all_held_at f h.count []) (behind_frames f h) c e p)))
 
-pub state_end : (old a b c d : Option (List ℕ)) (f : Fields) (h : Head) (hs : List Held) (e : FileFault) → Gives name_at old a tt → Gives block_at a b f → Gives head_at b c h → Gives (all_held_at f h.count []) c d hs → Fails end_at d e → Fails state_at old e
+pub state_end : (old a b c d : Option (List ℕ)) (f : Fields) (h : Head) (hs : List Held)
+    (e : FileFault) → Gives name_at old a tt → Gives block_at a b f → Gives head_at b c h
+    → Gives (all_held_at f h.count []) c d hs → Fails end_at d e → Fails state_at old e
 unfolding state_at
 state_end old a b c d f h hs e n m k l p =
     fails_then name_at behind_name old a tt e n
     (fails_then block_at behind_format a b f e m
-    (fails_then head_at (behind_head f) b c h e k (fails_then (all_held_at f h.count []) (behind_frames f h) c d hs e l (value_cut end_at (kept f h hs) d e p))))
+    (fails_then head_at (behind_head f) b c h e k
+    (fails_then (all_held_at f h.count []) (behind_frames f h) c d hs e l
+    (value_cut end_at (kept f h hs) d e p))))
 
-pub state_gives : (old a b c d new : Option (List ℕ)) (f : Fields) (h : Head) (hs : List Held) → Gives name_at old a tt → Gives block_at a b f → Gives head_at b c h → Gives (all_held_at f h.count []) c d hs → Gives end_at d new tt
-    → Gives state_at old new (record { format = f; payload_type = h.payload_type; ssrc = h.ssrc; frames = hs })
+pub state_gives : (old a b c d new : Option (List ℕ)) (f : Fields) (h : Head) (hs : List Held)
+    → Gives name_at old a tt → Gives block_at a b f → Gives head_at b c h
+    → Gives (all_held_at f h.count []) c d hs → Gives end_at d new tt
+    → Gives state_at old new
+    (record { format = f; payload_type = h.payload_type; ssrc = h.ssrc; frames = hs })
 unfolding state_at
 state_gives old a b c d new f h hs n m k l p =
-    let all : Kept = record { format = f; payload_type = h.payload_type; ssrc = h.ssrc; frames = hs } in
+    let all : Kept =
+    record { format = f; payload_type = h.payload_type; ssrc = h.ssrc; frames = hs } in
     gives_then name_at behind_name old a new tt all n
     (gives_then block_at behind_format a b new f all m
-    (gives_then head_at (behind_head f) b c new h all k (gives_then (all_held_at f h.count []) (behind_frames f h) c d new hs all l (value_gives end_at (kept f h hs) d new tt all p refl))))
+    (gives_then head_at (behind_head f) b c new h all k
+    (gives_then (all_held_at f h.count []) (behind_frames f h) c d new hs all l
+    (value_gives end_at (kept f h hs) d new tt all p refl))))
 
 -- ---- the receiver that is made
 
 abbrev kept_by : Opening → List Raster → Kept
-kept_by o rs = record { format = fields_of o.format; payload_type = o.payload_type; ssrc = o.ssrc; frames = kept_frames (fields_of o.format) o.window rs }
+kept_by o rs =
+    record {
+      format = fields_of o.format;
+      payload_type = o.payload_type;
+      ssrc = o.ssrc;
+      frames =
+          kept_frames (fields_of o.format) o.window rs;
+    }
 
-pub state_made : (old new : Option (List ℕ)) (f : Format) (h : Head) (w : List ℕ) (rs : List Raster) (r : Result State FileFault)
-    → Gives state_at old new (record { format = fields_of f; payload_type = h.payload_type; ssrc = h.ssrc; frames = kept_frames (fields_of f) w rs })
-    → IfOk r (λ s. s.opening ≡ record { format = f; payload_type = h.payload_type; ssrc = h.ssrc; window = w }) → IfOk r (λ s. s.frames ≡ rs) → IfOk r (λ s. Gives state_at old new (kept_of s))
+pub state_made : (old new : Option (List ℕ)) (f : Format) (h : Head) (w : List ℕ)
+    (rs : List Raster) (r : Result State FileFault)
+    → Gives state_at old new
+    (record {
+      format = fields_of f;
+      payload_type = h.payload_type;
+      ssrc = h.ssrc;
+      frames =
+          kept_frames (fields_of f) w rs;
+    })
+    → IfOk r
+    (λ s. s.opening
+    ≡ record { format = f; payload_type = h.payload_type; ssrc = h.ssrc; window = w })
+    → IfOk r (λ s. s.frames ≡ rs) → IfOk r (λ s. Gives state_at old new (kept_of s))
 state_made old new f h w rs (Err e) p opening frames = tt
 state_made old new f h w rs (Ok s) p opening frames =
-    let o : Opening = record { format = f; payload_type = h.payload_type; ssrc = h.ssrc; window = w } in
-    subst (λ (x : Opening). Gives state_at old new (kept_by x s.frames)) (sym opening) (subst (λ (x : List Raster). Gives state_at old new (kept_by o x)) (sym frames) p)
+    let o : Opening =
+    record { format = f; payload_type = h.payload_type; ssrc = h.ssrc; window = w } in
+    subst (λ (x : Opening). Gives state_at old new (kept_by x s.frames)) (sym opening)
+    (subst (λ (x : List Raster). Gives state_at old new (kept_by o x)) (sym frames) p)
 
-pub state_memory : (old : Option (List ℕ)) (r : Result State FileFault) → IfErr r (λ f. f ≡ NoMemory) → IfErr r (λ f. Fails state_at old f)
+pub state_memory : (old : Option (List ℕ)) (r : Result State FileFault)
+    → IfErr r (λ f. f ≡ NoMemory) → IfErr r (λ f. Fails state_at old f)
 state_memory old (Ok s) e = tt
-state_memory old (Err f) e = subst (λ (x : FileFault). Fails state_at old x) (sym e) (memory_fails state_at old)
+state_memory old (Err f) e =
+    subst (λ (x : FileFault). Fails state_at old x) (sym e) (memory_fails state_at old)

@@ -1,5 +1,6 @@
 -- What stands in a receiver's file before its frames (own).
-use Rattle.std.specs.Prelude.{ℕ, nat_lt, ◌==◌, ◌||◌, Bool, true, false, if◌then◌else◌, List, Option, None, Some, Result, Ok, Err}
+use Rattle.std.specs.Prelude.{ℕ, nat_lt, ◌==◌, ◌||◌, Bool, true, false, if◌then◌else◌, List, Option}
+use Rattle.std.specs.Prelude.{None, Some, Result, Ok, Err}
 use Rattle.capture_file.specs.declared.fault.FileFault.{FileFault}
 use Rattle.capture_file.specs.declared.fault.FileFault.TheVariants.{BadField, BadVersion}
 use Rattle.capture_file.specs.declared.front.Version.{Version}
@@ -47,4 +48,6 @@ count_at octets = octet_at octets >>= λ x. with_rest (count_of x.0) x.1
 
 -- the fields behind the format block
 unfoldable pub head_at : List ℕ → Result (Head × List ℕ) FileFault
-head_at octets = payload_type_at octets >>= λ p. ssrc_at p.1 >>= λ s. count_at s.1 >>= λ n. Ok (record { payload_type = p.0; ssrc = s.0; count = n.0 }, n.1)
+head_at octets =
+    payload_type_at octets >>= λ p. ssrc_at p.1 >>= λ s. count_at s.1 >>=
+    λ n. Ok (record { payload_type = p.0; ssrc = s.0; count = n.0 }, n.1)

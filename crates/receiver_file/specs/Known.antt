@@ -1,5 +1,6 @@
 -- The pixel groups of a format, and those of a frame's rows (own).
-use Rattle.std.specs.Prelude.{◌≡◌, ℕ, ◌*◌, ◌^◌, ◌<◌, Bool, true, false, List, [], ◌∷◌, ◌++◌, map, replicate, drop, ⊤, Result}
+use Rattle.std.specs.Prelude.{◌≡◌, ℕ, ◌*◌, ◌^◌, ◌<◌, Bool, true, false, List, [], ◌∷◌, ◌++◌, map}
+use Rattle.std.specs.Prelude.{replicate, drop, ⊤, Result}
 use Rattle.std.specs.Int.{w16, from_be_bytes, to_be_bytes}
 use Rattle.st_format.specs.declared.cell.Cell.{Cell}
 use Rattle.st_format.specs.declared.cell.Cell.TheVariants.{Missing, Value}
@@ -20,7 +21,9 @@ shape_in f = shape_of f.sampling f.depth
 
 -- the groups of a row, and those of the rows before it
 abbrev pub row_cut : Raster → ℕ → List (List Cell)
-row_cut r row = cut_cells (shape_in r.format).samples (row_groups r.format) (drop (group_start r.format row 0) r.cells)
+row_cut r row =
+    cut_cells (shape_in r.format).samples (row_groups r.format)
+    (drop (group_start r.format row 0) r.cells)
 
 abbrev pub rows_cut : Raster → ℕ → List (List Cell)
 rows_cut r rows = cut_cells (shape_in r.format).samples (rows * row_groups r.format) r.cells
@@ -52,8 +55,11 @@ is_there (Mixed mask) = true
 abbrev pub IsKnown : Shape → GroupState → List ℕ → Type 0
 IsKnown s Gone octets = ⊤
 IsKnown s Whole octets = ⊤
-IsKnown s (Mixed mask) octets = (mask < 2 ^ s.samples) × (are_zeroed mask (values_in s.bits octets) ≡ true)
+IsKnown s (Mixed mask) octets =
+    (mask < 2 ^ s.samples) × (are_zeroed mask (values_in s.bits octets) ≡ true)
 
 -- the mask and the octets of a group some of whose samples are contested
 unfoldable pub mixed_at : Shape → List ℕ → Result (List Cell × List ℕ) FileFault
-mixed_at s octets = field_at 2 octets >>= λ m. field_at s.octets m.1 >>= λ x. mixed_by s (from_be_bytes w16 m.0) (values_in s.bits x.0) x.1
+mixed_at s octets =
+    field_at 2 octets >>= λ m. field_at s.octets m.1 >>=
+    λ x. mixed_by s (from_be_bytes w16 m.0) (values_in s.bits x.0) x.1

@@ -11,7 +11,8 @@ use Rattle.path_merge.specs.Frames.{IsReceiver, State}
 use Rattle.path_merge.specs.Opening.{IsWindow}
 use Rattle.capture_file.specs.declared.front.Version.TheVariants.{One}
 use Rattle.capture_file.specs.Fronts.{kind_text, receiver_name}
-use Rattle.capture_file.specs.StateFile.{Held, IsKept, Kept, SsrcFits, cut_cells, format_text, group_count, held_of, held_text, opening_text}
+use Rattle.capture_file.specs.StateFile.{Held, IsKept, Kept, SsrcFits, cut_cells, format_text}
+use Rattle.capture_file.specs.StateFile.{group_count, held_of, held_text, opening_text}
 
 -- what is kept of frames, one for each timestamp
 abbrev pub kept_frames : Fields → List ℕ → List Raster → List Held
@@ -31,16 +32,17 @@ kept_of s = record {
 abbrev pub timestamp_in : Held → ℕ
 timestamp_in h = h.timestamp
 
--- What a file can say: a format there is, with its rate in lowest terms, a payload type of seven bits, and a window of
--- 1 to 16 timestamps, all different
+-- What a file can say: a format there is, with its rate in lowest terms, a payload type of seven
+-- bits, and a window of 1 to 16 timestamps, all different
 pub record IsSaved (k : Kept) : Type 0 where
   pub kept : IsKept k
-  pub format : format_at k.format.sampling k.format.depth k.format.width k.format.height k.format.n k.format.d ≡ Ok k.format
+  pub format : format_at k.format.sampling k.format.depth k.format.width k.format.height k.format.n
+      k.format.d ≡ Ok k.format
   pub payload_type : k.payload_type < 128
   pub window : IsWindow (map timestamp_in k.frames)
 
--- What each call on a frame tells of it: a cell for each position, values that fit, and groups that are missing as a
--- whole or have no missing sample
+-- What each call on a frame tells of it: a cell for each position, values that fit, and groups that
+-- are missing as a whole or have no missing sample
 pub record IsFilled (r : Raster) : Type 0 where
   pub whole : IsWhole r
   pub fit : ValuesFit r
@@ -62,7 +64,8 @@ frames_text k = flat_map (held_text k.format) k.frames
 
 -- a timestamp and its frame
 abbrev pub frame_text : ℕ → Raster → List ℕ
-frame_text timestamp r = held_text (fields_of r.format) (held_of (fields_of r.format) timestamp r.cells)
+frame_text timestamp r =
+    held_text (fields_of r.format) (held_of (fields_of r.format) timestamp r.cells)
 
 -- the groups of a frame's cells
 abbrev pub groups_in : Fields → List Cell → List (List Cell)

@@ -1,7 +1,8 @@
 -- The faults of a receiver's file (own): each a condition of its own on the octets, with no step
 -- of reading in it. Laws say that at most one holds, that octets are a receiver's file or have a
 -- fault, and that they are read with a fault exactly where the fault's condition holds.
-use Rattle.std.specs.Prelude.{◌≡◌, ◌≢◌, ℕ, ◌+◌, ◌%◌, ◌/◌, ◌^◌, ◌<◌, ◌≤◌, Bool, true, false, List, [], ◌∷◌, ◌++◌, ◌⊎◌, length, map, ⊤, Option}
+use Rattle.std.specs.Prelude.{◌≡◌, ◌≢◌, ℕ, ◌+◌, ◌%◌, ◌/◌, ◌^◌, ◌<◌, ◌≤◌, Bool, true, false, List}
+use Rattle.std.specs.Prelude.{[], ◌∷◌, ◌++◌, ◌⊎◌, length, map, ⊤, Option}
 use Rattle.std.specs.Int.{w16, w32, to_be_bytes}
 use Rattle.std.specs.List.{AllByRecursion, flat_map}
 use Rattle.st_format.specs.declared.cell.Cell.{Cell}
@@ -10,13 +11,16 @@ use Rattle.st_format.specs.Member.{IsMember}
 use Rattle.st_format.specs.Samples.{values_in}
 use Rattle.path_merge.specs.Opening.{AreDifferent, IsWindowSize}
 use Rattle.capture_file.specs.declared.fault.FileFault.{FileFault}
-use Rattle.capture_file.specs.declared.fault.FileFault.TheVariants.{BadName, BadVersion, Truncated, BadField, TrailingBytes, MixedGroup}
+use Rattle.capture_file.specs.declared.fault.FileFault.TheVariants.{BadName, BadVersion, Truncated}
+use Rattle.capture_file.specs.declared.fault.FileFault.TheVariants.{BadField, TrailingBytes}
+use Rattle.capture_file.specs.declared.fault.FileFault.TheVariants.{MixedGroup}
 use Rattle.capture_file.specs.declared.front.Version.TheVariants.{One}
 use Rattle.capture_file.specs.Fronts.{kind_text, receiver_name}
 use Rattle.capture_file.specs.Groups.{IsGroup, Shape, groups_text, shape_of}
 use Rattle.capture_file.specs.KindFaults.{HasOtherName, IsCutKind}
 use Rattle.capture_file.specs.PictureFaults.{HasOtherThanOne, IsFormat}
-use Rattle.capture_file.specs.StateFile.{Held, IsHeld, Kept, SsrcFits, format_text, group_count, held_text, ssrc_text, state_text}
+use Rattle.capture_file.specs.StateFile.{Held, IsHeld, Kept, SsrcFits, format_text, group_count}
+use Rattle.capture_file.specs.StateFile.{held_text, ssrc_text, state_text}
 use Rattle.receiver_file.specs.declared.front.Head.{Head}
 use Rattle.receiver_file.specs.Saved.{IsSaved, timestamp_in}
 

@@ -1,5 +1,6 @@
 -- A receiver's file, read from the left (own).
-use Rattle.std.specs.Prelude.{ℕ, zero, suc, ◌==◌, if◌then◌else◌, List, [], ◌∷◌, ◌++◌, Result, Ok, Err}
+use Rattle.std.specs.Prelude.{ℕ, zero, suc, ◌==◌, if◌then◌else◌, List, [], ◌∷◌, ◌++◌, Result, Ok}
+use Rattle.std.specs.Prelude.{Err}
 use Rattle.std.specs.List.{list_any}
 use Rattle.st_format.specs.Fields.{Fields}
 use Rattle.capture_file.specs.declared.fault.FileFault.{FileFault}
@@ -22,12 +23,16 @@ timestamp_at before octets = number_at octets >>= λ x. with_rest (new_of before
 -- a timestamp and the groups of its frame
 unfoldable pub held_at : Fields → List ℕ → List ℕ → Result (Held × List ℕ) FileFault
 held_at f before octets =
-    timestamp_at before octets >>= λ t. groups_at (shape_of f.sampling f.depth) (group_count f) t.1 >>= λ g. Ok (record { timestamp = t.0; groups = g.0 }, g.1)
+    timestamp_at before octets >>=
+    λ t. groups_at (shape_of f.sampling f.depth) (group_count f) t.1 >>=
+    λ g. Ok (record { timestamp = t.0; groups = g.0 }, g.1)
 
 -- so many of them, behind those of these timestamps
 unfoldable pub all_held_at : Fields → ℕ → List ℕ → List ℕ → Result (List Held × List ℕ) FileFault
 all_held_at f zero before octets = Ok ([], octets)
-all_held_at f (suc n) before octets = held_at f before octets >>= λ h. all_held_at f n (before ++ h.0.timestamp ∷ []) h.1 >>= λ y. Ok (h.0 ∷ y.0, y.1)
+all_held_at f (suc n) before octets =
+    held_at f before octets >>= λ h. all_held_at f n (before ++ h.0.timestamp ∷ []) h.1 >>=
+    λ y. Ok (h.0 ∷ y.0, y.1)
 
 -- nothing
 abbrev pub end_at : List ℕ → Result (Unit {0} × List ℕ) FileFault
@@ -37,5 +42,9 @@ end_at (x ∷ octets) = Err TrailingBytes
 -- a receiver's file
 unfoldable pub state_at : List ℕ → Result (Kept × List ℕ) FileFault
 state_at octets =
-    name_at octets >>= λ a. block_at a.1 >>= λ f. head_at f.1 >>= λ p. all_held_at f.0 p.0.count [] p.1 >>= λ h. end_at h.1 >>= λ z.
-    Ok (record { format = f.0; payload_type = p.0.payload_type; ssrc = p.0.ssrc; frames = h.0 }, z.1)
+    name_at octets >>= λ a. block_at a.1 >>= λ f. head_at f.1 >>=
+    λ p. all_held_at f.0 p.0.count [] p.1 >>= λ h. end_at h.1 >>= λ z.
+    Ok (
+      record { format = f.0; payload_type = p.0.payload_type; ssrc = p.0.ssrc; frames = h.0 },
+      z.1,
+    )

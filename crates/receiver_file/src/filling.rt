@@ -19,8 +19,14 @@ pub(crate) fn read_rows<A: Allocator, S: ByteSource>(
     frame: &mut Frame<A>,
 ) -> Result<(), FileFault>
     ensures format { frame.new.format ≡ frame.old.format }
-    ensures read { OnOk result (Gives (groups_at (shape_in frame.old.format) (frame.old.format.height * row_groups frame.old.format)) (S.to_give source.old) (S.to_give source.new) (rows_cut frame.new frame.old.format.height)) }
-    ensures fault { IfErr result (λ f. Fails (groups_at (shape_in frame.old.format) (frame.old.format.height * row_groups frame.old.format)) (S.to_give source.old) f) }
+    ensures read { OnOk result
+        (Gives (groups_at (shape_in frame.old.format)
+        (frame.old.format.height * row_groups frame.old.format)) (S.to_give source.old)
+        (S.to_give source.new) (rows_cut frame.new frame.old.format.height)) }
+    ensures fault { IfErr result
+        (λ f. Fails
+        (groups_at (shape_in frame.old.format)
+        (frame.old.format.height * row_groups frame.old.format)) (S.to_give source.old) f) }
     ensures counted { CountsDevice (S.failures source.old) (S.failures source.new) result }
 {
     for row in 0..frame.format().height() {
@@ -37,9 +43,14 @@ fn read_row<A: Allocator, S: ByteSource>(
 ) -> Result<(), FileFault>
     requires { row < frame.old.format.height }
     ensures format { frame.new.format ≡ frame.old.format }
-    ensures before { take (group_start frame.old.format row 0) frame.new.cells ≡ take (group_start frame.old.format row 0) frame.old.cells }
-    ensures read { OnOk result (Gives (groups_at (shape_in frame.old.format) (row_groups frame.old.format)) (S.to_give source.old) (S.to_give source.new) (row_cut frame.new row)) }
-    ensures fault { IfErr result (λ f. Fails (groups_at (shape_in frame.old.format) (row_groups frame.old.format)) (S.to_give source.old) f) }
+    ensures before { take (group_start frame.old.format row 0) frame.new.cells
+        ≡ take (group_start frame.old.format row 0) frame.old.cells }
+    ensures read { OnOk result
+        (Gives (groups_at (shape_in frame.old.format) (row_groups frame.old.format))
+        (S.to_give source.old) (S.to_give source.new) (row_cut frame.new row)) }
+    ensures fault { IfErr result
+        (λ f. Fails (groups_at (shape_in frame.old.format) (row_groups frame.old.format))
+        (S.to_give source.old) f) }
     ensures counted { CountsDevice (S.failures source.old) (S.failures source.new) result }
 {
     for group in 0..groups_in_row(&frame.format()) {

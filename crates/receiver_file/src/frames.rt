@@ -41,8 +41,11 @@ pub(crate) fn read_frames<A: Allocator + Copy, S: ByteSource>(
     ensures different { IfOk result (λ it. AreDifferent it.window.items) }
     ensures one_each { IfOk result (λ it. length it.frames.items ≡ count) }
     ensures of_format { IfOk result (λ it. All (λ r. r.format ≡ format) it.frames.items) }
-    ensures read { IfOk result (λ it. Gives (all_held_at (fields_of format) count []) (S.to_give source.old) (S.to_give source.new) (kept_frames (fields_of format) it.window.items it.frames.items)) }
-    ensures fault { IfErr result (λ f. Fails (all_held_at (fields_of format) count []) (S.to_give source.old) f) }
+    ensures read { IfOk result
+        (λ it. Gives (all_held_at (fields_of format) count []) (S.to_give source.old)
+        (S.to_give source.new) (kept_frames (fields_of format) it.window.items it.frames.items)) }
+    ensures fault { IfErr result
+        (λ f. Fails (all_held_at (fields_of format) count []) (S.to_give source.old) f) }
     ensures counted { CountsDevice (S.failures source.old) (S.failures source.new) result }
 {
     let mut window = ArrayVec::new();
@@ -59,7 +62,8 @@ pub(crate) fn read_frames<A: Allocator + Copy, S: ByteSource>(
 /// Reads a timestamp that isn't one of those before.
 fn read_timestamp<S: ByteSource>(source: &mut S, before: &[u32]) -> Result<u32, FileFault>
     ensures new { IfOk result (λ t. IsMember t before.now → ⊥) }
-    ensures read { IfOk result (λ t. Gives (timestamp_at before.now) (S.to_give source.old) (S.to_give source.new) t) }
+    ensures read { IfOk result
+        (λ t. Gives (timestamp_at before.now) (S.to_give source.old) (S.to_give source.new) t) }
     ensures fault { IfErr result (λ f. Fails (timestamp_at before.now) (S.to_give source.old) f) }
     ensures counted { CountsDevice (S.failures source.old) (S.failures source.new) result }
 {
@@ -84,8 +88,12 @@ fn read_frame<A: Allocator + Copy, S: ByteSource>(
     format: Format,
 ) -> Result<Frame<A>, FileFault>
     ensures format { IfOk result (λ r. r.format ≡ format) }
-    ensures read { IfOk result (λ r. Gives (groups_at (shape_in format) (group_count (fields_of format))) (S.to_give source.old) (S.to_give source.new) (groups_in (fields_of format) r.cells)) }
-    ensures fault { IfErr result (λ f. Fails (groups_at (shape_in format) (group_count (fields_of format))) (S.to_give source.old) f) }
+    ensures read { IfOk result
+        (λ r. Gives (groups_at (shape_in format) (group_count (fields_of format)))
+        (S.to_give source.old) (S.to_give source.new) (groups_in (fields_of format) r.cells)) }
+    ensures fault { IfErr result
+        (λ f. Fails (groups_at (shape_in format) (group_count (fields_of format)))
+        (S.to_give source.old) f) }
     ensures counted { CountsDevice (S.failures source.old) (S.failures source.new) result }
 {
     let mut frame = Frame::new(alloc, format)?;

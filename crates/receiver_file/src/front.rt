@@ -1,9 +1,11 @@
-//! What stands before the frames: name and version, and what a receiver is opened with but its format and window.
+//! What stands before the frames: name and version, and what a receiver is opened with but its
+//! format and window.
 ghost use Rattle.std.specs.Prelude.{◌≡◌, ◌<◌, ◌≤◌, IfErr, IfOk, OnOk};
 ghost use Rattle.st_format.specs.Device.{TellsOctets};
 ghost use Rattle.capture_file.specs.Faults.{CountsDevice};
 ghost use Rattle.capture_file.specs.Fields.{Fails, Gives};
-ghost use Rattle.receiver_file.specs.Front.{count_at, count_of, flag_at, flag_of, head_at, name_at, payload_type_at, payload_type_of, ssrc_at, ssrc_of};
+ghost use Rattle.receiver_file.specs.Front.{count_at, count_of, flag_at, flag_of, head_at, name_at};
+ghost use Rattle.receiver_file.specs.Front.{payload_type_at, payload_type_of, ssrc_at, ssrc_of};
 
 use crate::octets::{read_number, read_octet};
 use capture_file::{FileFault, Version, read_kind};
@@ -41,7 +43,8 @@ pub(crate) fn read_head<S: ByteSource>(source: &mut S) -> Result<Head, FileFault
     ensures payload_type { IfOk result (λ h. h.payload_type ≤ 127) }
     ensures some { IfOk result (λ h. 0 < h.count) }
     ensures few { IfOk result (λ h. h.count ≤ 16) }
-    ensures read { IfOk result (λ h. Gives head_at (S.to_give source.old) (S.to_give source.new) h) }
+    ensures read { IfOk result
+        (λ h. Gives head_at (S.to_give source.old) (S.to_give source.new) h) }
     ensures fault { IfErr result (λ f. Fails head_at (S.to_give source.old) f) }
     ensures counted { CountsDevice (S.failures source.old) (S.failures source.new) result }
 {
@@ -58,7 +61,8 @@ pub(crate) fn read_head<S: ByteSource>(source: &mut S) -> Result<Head, FileFault
 /// Reads the payload type.
 fn read_payload_type<S: ByteSource>(source: &mut S) -> Result<u8, FileFault>
     ensures most { IfOk result (λ n. n ≤ 127) }
-    ensures read { IfOk result (λ n. Gives payload_type_at (S.to_give source.old) (S.to_give source.new) n) }
+    ensures read { IfOk result
+        (λ n. Gives payload_type_at (S.to_give source.old) (S.to_give source.new) n) }
     ensures fault { IfErr result (λ f. Fails payload_type_at (S.to_give source.old) f) }
     ensures counted { CountsDevice (S.failures source.old) (S.failures source.new) result }
 {
@@ -71,7 +75,8 @@ fn read_payload_type<S: ByteSource>(source: &mut S) -> Result<u8, FileFault>
 
 /// Reads whether a source is pinned, and which.
 fn read_ssrc<S: ByteSource>(source: &mut S) -> Result<Option<u32>, FileFault>
-    ensures read { IfOk result (λ s. Gives ssrc_at (S.to_give source.old) (S.to_give source.new) s) }
+    ensures read { IfOk result
+        (λ s. Gives ssrc_at (S.to_give source.old) (S.to_give source.new) s) }
     ensures fault { IfErr result (λ f. Fails ssrc_at (S.to_give source.old) f) }
     ensures counted { CountsDevice (S.failures source.old) (S.failures source.new) result }
 {
@@ -82,7 +87,8 @@ fn read_ssrc<S: ByteSource>(source: &mut S) -> Result<Option<u32>, FileFault>
 
 /// Reads whether a source is pinned.
 fn read_flag<S: ByteSource>(source: &mut S) -> Result<bool, FileFault>
-    ensures read { IfOk result (λ b. Gives flag_at (S.to_give source.old) (S.to_give source.new) b) }
+    ensures read { IfOk result
+        (λ b. Gives flag_at (S.to_give source.old) (S.to_give source.new) b) }
     ensures fault { IfErr result (λ f. Fails flag_at (S.to_give source.old) f) }
     ensures counted { CountsDevice (S.failures source.old) (S.failures source.new) result }
 {
@@ -116,7 +122,8 @@ fn ssrc_in(pinned: bool, ssrc: u32) -> Result<Option<u32>, FileFault>
 fn read_count<S: ByteSource>(source: &mut S) -> Result<u8, FileFault>
     ensures some { IfOk result (λ n. 0 < n) }
     ensures few { IfOk result (λ n. n ≤ 16) }
-    ensures read { IfOk result (λ n. Gives count_at (S.to_give source.old) (S.to_give source.new) n) }
+    ensures read { IfOk result
+        (λ n. Gives count_at (S.to_give source.old) (S.to_give source.new) n) }
     ensures fault { IfErr result (λ f. Fails count_at (S.to_give source.old) f) }
     ensures counted { CountsDevice (S.failures source.old) (S.failures source.new) result }
 {

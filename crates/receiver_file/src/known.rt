@@ -1,5 +1,6 @@
 //! What is known of a pixel group, from a source into a frame.
-ghost use Rattle.std.specs.Prelude.{◌≡◌, ◌<◌, ◌^◌, ◌*◌, ◌==◌, ◌||◌, IfErr, IfOk, OnOk, length, nat_lt, not, take};
+ghost use Rattle.std.specs.Prelude.{◌≡◌, ◌<◌, ◌^◌, ◌*◌, ◌==◌, ◌||◌, IfErr, IfOk, OnOk, length};
+ghost use Rattle.std.specs.Prelude.{nat_lt, not, take};
 ghost use Rattle.st_format.specs.Raster.{IsWhole};
 ghost use Rattle.st_format.specs.Pgroup.{bits_of, pixel_group};
 ghost use Rattle.st_format.specs.Samples.{values_in};
@@ -8,7 +9,8 @@ ghost use Rattle.frame_assembly.specs.Rows.{group_cells};
 ghost use Rattle.capture_file.specs.Faults.{CountsDevice};
 ghost use Rattle.capture_file.specs.Fields.{Fails, Gives};
 ghost use Rattle.capture_file.specs.Groups.{are_zeroed, group_at};
-ghost use Rattle.receiver_file.specs.Known.{IsKnown, cells_known, is_there, mask_in, mixed_at, shape_in};
+ghost use Rattle.receiver_file.specs.Known.{IsKnown, cells_known, is_there, mask_in, mixed_at};
+ghost use Rattle.receiver_file.specs.Known.{shape_in};
 
 use crate::groups::MOST_OCTETS;
 use crate::octets::read_octet;
@@ -28,9 +30,13 @@ pub(crate) fn read_group<A: Allocator, S: ByteSource>(
     requires row { row < frame.old.format.height }
     requires group { group < row_groups frame.old.format }
     ensures format { frame.new.format ≡ frame.old.format }
-    ensures before { take (group_start frame.old.format row group) frame.new.cells ≡ take (group_start frame.old.format row group) frame.old.cells }
-    ensures read { OnOk result (Gives (group_at (shape_in frame.old.format)) (S.to_give source.old) (S.to_give source.new) (group_cells frame.new row group)) }
-    ensures fault { IfErr result (λ f. Fails (group_at (shape_in frame.old.format)) (S.to_give source.old) f) }
+    ensures before { take (group_start frame.old.format row group) frame.new.cells
+        ≡ take (group_start frame.old.format row group) frame.old.cells }
+    ensures read { OnOk result
+        (Gives (group_at (shape_in frame.old.format)) (S.to_give source.old) (S.to_give source.new)
+        (group_cells frame.new row group)) }
+    ensures fault { IfErr result
+        (λ f. Fails (group_at (shape_in frame.old.format)) (S.to_give source.old) f) }
     ensures counted { CountsDevice (S.failures source.old) (S.failures source.new) result }
 {
     let format = frame.format();
@@ -52,11 +58,14 @@ fn give_group<A: Allocator>(
     requires row { row < frame.old.format.height }
     requires group { group < row_groups frame.old.format }
     requires whole { IsWhole frame.old }
-    requires octets { length octets.now ≡ (pixel_group frame.old.format.sampling frame.old.format.depth).octets }
+    requires octets { length octets.now
+        ≡ (pixel_group frame.old.format.sampling frame.old.format.depth).octets }
     requires known { IsKnown (shape_in frame.old.format) state octets.now }
     ensures format { frame.new.format ≡ frame.old.format }
-    ensures before { take (group_start frame.old.format row group) frame.new.cells ≡ take (group_start frame.old.format row group) frame.old.cells }
-    ensures cells { group_cells frame.new row group ≡ cells_known (shape_in frame.old.format) state octets.now }
+    ensures before { take (group_start frame.old.format row group) frame.new.cells
+        ≡ take (group_start frame.old.format row group) frame.old.cells }
+    ensures cells { group_cells frame.new row group
+        ≡ cells_known (shape_in frame.old.format) state octets.now }
 {
     frame.set_group(row, group, octets, mask_of(state), is_present(state));
 }
@@ -87,8 +96,11 @@ fn read_known<S: ByteSource>(
     requires { length octets.old ≡ (pixel_group format.now.sampling format.now.depth).octets }
     ensures room { length octets.new ≡ length octets.old }
     ensures known { IfOk result (λ state. IsKnown (shape_in format.now) state octets.new) }
-    ensures read { IfOk result (λ state. Gives (group_at (shape_in format.now)) (S.to_give source.old) (S.to_give source.new) (cells_known (shape_in format.now) state octets.new)) }
-    ensures fault { IfErr result (λ f. Fails (group_at (shape_in format.now)) (S.to_give source.old) f) }
+    ensures read { IfOk result
+        (λ state. Gives (group_at (shape_in format.now)) (S.to_give source.old)
+        (S.to_give source.new) (cells_known (shape_in format.now) state octets.new)) }
+    ensures fault { IfErr result
+        (λ f. Fails (group_at (shape_in format.now)) (S.to_give source.old) f) }
     ensures counted { CountsDevice (S.failures source.old) (S.failures source.new) result }
 {
     match read_octet(source)? {
@@ -111,8 +123,11 @@ fn read_mixed<S: ByteSource>(
     requires { length octets.old ≡ (pixel_group format.now.sampling format.now.depth).octets }
     ensures room { length octets.new ≡ length octets.old }
     ensures known { IfOk result (λ state. IsKnown (shape_in format.now) state octets.new) }
-    ensures read { IfOk result (λ state. Gives (mixed_at (shape_in format.now)) (S.to_give source.old) (S.to_give source.new) (cells_known (shape_in format.now) state octets.new)) }
-    ensures fault { IfErr result (λ f. Fails (mixed_at (shape_in format.now)) (S.to_give source.old) f) }
+    ensures read { IfOk result
+        (λ state. Gives (mixed_at (shape_in format.now)) (S.to_give source.old)
+        (S.to_give source.new) (cells_known (shape_in format.now) state octets.new)) }
+    ensures fault { IfErr result
+        (λ f. Fails (mixed_at (shape_in format.now)) (S.to_give source.old) f) }
     ensures counted { CountsDevice (S.failures source.old) (S.failures source.new) result }
 {
     let mut mask = [0u8; 2];
@@ -128,7 +143,10 @@ fn read_mixed<S: ByteSource>(
 /// Whether a mask names some of a group's samples and no others, and those are 0.
 fn is_mixed(format: &Format, octets: &[u8], mask: u16) -> bool
     requires { length octets.now ≡ (pixel_group format.now.sampling format.now.depth).octets }
-    ensures { result ≡ not (mask == 0 || not (nat_lt mask (2 ^ (shape_in format.now).samples)) || not (are_zeroed mask (values_in (bits_of format.now.depth) octets.now))) }
+    ensures { result
+        ≡ not
+        (mask == 0 || not (nat_lt mask (2 ^ (shape_in format.now).samples))
+        || not (are_zeroed mask (values_in (bits_of format.now.depth) octets.now))) }
 {
     mask != 0 && mask >> format.pgroup().samples == 0 && is_blanked(format, octets, mask)
 }

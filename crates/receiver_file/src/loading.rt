@@ -1,5 +1,6 @@
 //! A receiver from a source.
-ghost use Rattle.std.specs.Prelude.{◌≡◌, ℕ, ◌≤◌, ◌<◌, All, List, [], Some, length, IfErr, IfOk, OnOk, MatchResult};
+ghost use Rattle.std.specs.Prelude.{◌≡◌, ℕ, ◌≤◌, ◌<◌, All, List, [], Some, length, IfErr, IfOk};
+ghost use Rattle.std.specs.Prelude.{OnOk, MatchResult};
 ghost use Rattle.std.specs.Io.KnownBytes.{IsAtEnd};
 ghost use Rattle.st_format.specs.Device.{TellsOctets};
 ghost use Rattle.path_merge.specs.Frames.{Holds, IsReceiver, State};
@@ -24,16 +25,18 @@ use std::alloc::Allocator;
 ///
 /// # Errors
 ///
-/// The first fault in the order of the octets, or one of the memory or the device before it: `NoMemory`, `Device`,
-/// `BadName`, `BadVersion`, `Truncated`, `BadField` (a format block that is none, a payload type above 127, a flag
-/// above 1, a source other than 0 where none is pinned, 0 or more than 16 timestamps, one that stood before, or a state
-/// of a group above 2), `MixedGroup` (a mask of 0, a bit beyond the group's samples, or a contested sample that isn't 0),
-/// or `TrailingBytes` where an octet stands behind the last group.
+/// The first fault in the order of the octets, or one of the memory or the device before it:
+/// `NoMemory`, `Device`, `BadName`, `BadVersion`, `Truncated`, `BadField` (a format block that is
+/// none, a payload type above 127, a flag above 1, a source other than 0 where none is pinned, 0 or
+/// more than 16 timestamps, one that stood before, or a state of a group above 2), `MixedGroup` (a
+/// mask of 0, a bit beyond the group's samples, or a contested sample that isn't 0), or
+/// `TrailingBytes` where an octet stands behind the last group.
 pub fn load_receiver<A: Allocator + Copy, S: ByteSource>(
     alloc: A,
     source: &mut S,
 ) -> Result<Receiver<A>, FileFault>
-    ensures read { IfOk result (λ r. Gives state_at (S.to_give source.old) (S.to_give source.new) (kept_of r)) }
+    ensures read { IfOk result
+        (λ r. Gives state_at (S.to_give source.old) (S.to_give source.new) (kept_of r)) }
     ensures fault { IfErr result (λ f. Fails state_at (S.to_give source.old) f) }
     ensures counted { CountsDevice (S.failures source.old) (S.failures source.new) result }
     ensures receiver { IfOk result (λ r. IsReceiver r) }
@@ -41,7 +44,9 @@ pub fn load_receiver<A: Allocator + Copy, S: ByteSource>(
     // It can be written again.
     ensures writable { IfOk result (λ r. IsWritable r) }
     // A source that told its octets is at its end.
-    ensures end { IfOk result (λ r. (octets : List ℕ) → S.to_give source.old ≡ Some octets → IsAtEnd (S.to_give source.new)) }
+    ensures end { IfOk result
+        (λ r. (octets : List ℕ) → S.to_give source.old ≡ Some octets
+        → IsAtEnd (S.to_give source.new)) }
     // What is read is the file of the receiver that is answered, all of it, and one that can be.
     ensures found { IfOk result (λ r. (octets : List ℕ) → S.to_give source.old ≡ Some octets
         → (octets ≡ state_text (kept_of r)) × IsSaved (kept_of r)) }
@@ -55,7 +60,8 @@ pub fn load_receiver<A: Allocator + Copy, S: ByteSource>(
     ensures same { (s : State) → S.to_give source.old ≡ Some (state_text (kept_of s)) → IsWritable s
         → IfOk result (λ r. (r.opening ≡ s.opening) × (r.frames ≡ s.frames)) }
     // and so it holds the frames of the datagrams that that one held.
-    ensures holds { (s : State) (datagrams : List (List ℕ)) → S.to_give source.old ≡ Some (state_text (kept_of s)) → IsWritable s
+    ensures holds { (s : State) (datagrams : List (List ℕ))
+        → S.to_give source.old ≡ Some (state_text (kept_of s)) → IsWritable s
         → Holds s datagrams → IfOk result (λ r. Holds r datagrams) }
 {
     read_receiver(alloc, source)
@@ -66,7 +72,8 @@ fn read_receiver<A: Allocator + Copy, S: ByteSource>(
     alloc: A,
     source: &mut S,
 ) -> Result<Receiver<A>, FileFault>
-    ensures read { IfOk result (λ r. Gives state_at (S.to_give source.old) (S.to_give source.new) (kept_of r)) }
+    ensures read { IfOk result
+        (λ r. Gives state_at (S.to_give source.old) (S.to_give source.new) (kept_of r)) }
     ensures fault { IfErr result (λ f. Fails state_at (S.to_give source.old) f) }
     ensures counted { CountsDevice (S.failures source.old) (S.failures source.new) result }
     ensures octets { TellsOctets (S.to_give source.old) }
@@ -110,7 +117,15 @@ fn open_again<A: Allocator + Copy>(
     requires of_format { All (λ r. r.format ≡ format) frames.frames.items }
     ensures memory { IfErr result (λ f. f ≡ FileFault.NoMemory) }
     ensures receiver { IfOk result (λ r. IsReceiver r) }
-    ensures opening { IfOk result (λ r. r.opening ≡ record { format = format; payload_type = head.payload_type; ssrc = head.ssrc; window = frames.window.items }) }
+    ensures opening { IfOk result
+        (λ r. r.opening
+        ≡ record {
+          format = format;
+          payload_type = head.payload_type;
+          ssrc = head.ssrc;
+          window =
+              frames.window.items;
+        }) }
     ensures frames { IfOk result (λ r. r.frames ≡ frames.frames.items) }
     ensures refusals { IfOk result (λ r. r.refusals ≡ []) }
     ensures writable { IfOk result (λ r. IsWritable r) }

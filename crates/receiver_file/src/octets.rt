@@ -9,7 +9,8 @@ use st_format::ByteSource;
 
 /// Reads one octet.
 pub(crate) fn read_octet<S: ByteSource>(source: &mut S) -> Result<u8, FileFault>
-    ensures read { IfOk result (λ n. Gives octet_at (S.to_give source.old) (S.to_give source.new) n) }
+    ensures read { IfOk result
+        (λ n. Gives octet_at (S.to_give source.old) (S.to_give source.new) n) }
     ensures fault { IfErr result (λ f. Fails octet_at (S.to_give source.old) f) }
     ensures counted { CountsDevice (S.failures source.old) (S.failures source.new) result }
 {
@@ -20,7 +21,8 @@ pub(crate) fn read_octet<S: ByteSource>(source: &mut S) -> Result<u8, FileFault>
 
 /// Reads a number of four octets.
 pub(crate) fn read_number<S: ByteSource>(source: &mut S) -> Result<u32, FileFault>
-    ensures read { IfOk result (λ n. Gives number_at (S.to_give source.old) (S.to_give source.new) n) }
+    ensures read { IfOk result
+        (λ n. Gives number_at (S.to_give source.old) (S.to_give source.new) n) }
     ensures fault { IfErr result (λ f. Fails number_at (S.to_give source.old) f) }
     ensures counted { CountsDevice (S.failures source.old) (S.failures source.new) result }
 {

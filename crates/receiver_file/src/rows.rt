@@ -27,8 +27,12 @@ pub(crate) fn write_rows<A: Allocator, K: ByteSink>(
     sink: &mut K,
     frame: &Frame<A>,
 ) -> Result<(), DeviceFault>
-    ensures ok { OnOk result (Appends (K.held sink.old) (K.held sink.new) (groups_text (shape_in frame.now.format) (rows_cut frame.now frame.now.format.height))) }
-    ensures fault { OnErr result (AppendsPrefix (K.held sink.old) (K.held sink.new) (groups_text (shape_in frame.now.format) (rows_cut frame.now frame.now.format.height))) }
+    ensures ok { OnOk result
+        (Appends (K.held sink.old) (K.held sink.new)
+        (groups_text (shape_in frame.now.format) (rows_cut frame.now frame.now.format.height))) }
+    ensures fault { OnErr result
+        (AppendsPrefix (K.held sink.old) (K.held sink.new)
+        (groups_text (shape_in frame.now.format) (rows_cut frame.now frame.now.format.height))) }
     ensures counted { CountsFaults (K.failures sink.old) (K.failures sink.new) result }
 {
     for row in 0..frame.format().height() {
@@ -44,8 +48,12 @@ fn write_row<A: Allocator, K: ByteSink>(
     row: u32,
 ) -> Result<(), DeviceFault>
     requires { row < frame.now.format.height }
-    ensures ok { OnOk result (Appends (K.held sink.old) (K.held sink.new) (groups_text (shape_in frame.now.format) (row_cut frame.now row))) }
-    ensures fault { OnErr result (AppendsPrefix (K.held sink.old) (K.held sink.new) (groups_text (shape_in frame.now.format) (row_cut frame.now row))) }
+    ensures ok { OnOk result
+        (Appends (K.held sink.old) (K.held sink.new)
+        (groups_text (shape_in frame.now.format) (row_cut frame.now row))) }
+    ensures fault { OnErr result
+        (AppendsPrefix (K.held sink.old) (K.held sink.new)
+        (groups_text (shape_in frame.now.format) (row_cut frame.now row))) }
     ensures counted { CountsFaults (K.failures sink.old) (K.failures sink.new) result }
 {
     let mut room = [0u8; GATHERED];

@@ -23,18 +23,23 @@ use std::alloc::Allocator;
 /// Name and version.
 const RECEIVER_ONE: &[u8] = b"S20RCV01";
 
-/// Writes a receiver as a file: what it was opened with, and for each timestamp of its window, in window order, what is
-/// known of each sample of its frame. The refusals are not written. No memory is taken.
+/// Writes a receiver as a file: what it was opened with, and for each timestamp of its window, in
+/// window order, what is known of each sample of its frame. The refusals are not written. No memory
+/// is taken.
 ///
 /// # Errors
 ///
-/// `Device` where the sink failed: it then has a first part of the file more than before, and not all.
+/// `Device` where the sink failed: it then has a first part of the file more than before, and not
+/// all.
 pub fn save_receiver<A: Allocator, K: ByteSink>(
     sink: &mut K,
     receiver: &Receiver<A>,
 ) -> Result<(), FileFault>
-    ensures ok { OnOk result (Appends (K.held sink.old) (K.held sink.new) (state_text (kept_of receiver.now))) }
-    ensures fault { IfErr result (λ f. IsDevice f × AppendsPrefix (K.held sink.old) (K.held sink.new) (state_text (kept_of receiver.now))) }
+    ensures ok { OnOk result
+        (Appends (K.held sink.old) (K.held sink.new) (state_text (kept_of receiver.now))) }
+    ensures fault { IfErr result
+        (λ f. IsDevice f
+        × AppendsPrefix (K.held sink.old) (K.held sink.new) (state_text (kept_of receiver.now))) }
     ensures counted { CountsDevice (K.failures sink.old) (K.failures sink.new) result }
     // Each receiver can be written: its file is read, to its end, as what is kept of it,
     ensures writable { IsWritable receiver.now }
@@ -55,8 +60,10 @@ fn write_front<A: Allocator, K: ByteSink>(
     sink: &mut K,
     receiver: &Receiver<A>,
 ) -> Result<(), DeviceFault>
-    ensures ok { OnOk result (Appends (K.held sink.old) (K.held sink.new) (front_text (kept_of receiver.now))) }
-    ensures fault { OnErr result (AppendsPrefix (K.held sink.old) (K.held sink.new) (front_text (kept_of receiver.now))) }
+    ensures ok { OnOk result
+        (Appends (K.held sink.old) (K.held sink.new) (front_text (kept_of receiver.now))) }
+    ensures fault { OnErr result
+        (AppendsPrefix (K.held sink.old) (K.held sink.new) (front_text (kept_of receiver.now))) }
     ensures counted { CountsFaults (K.failures sink.old) (K.failures sink.new) result }
 {
     write_whole(sink, RECEIVER_ONE)?;
@@ -109,8 +116,10 @@ fn write_frames<A: Allocator, K: ByteSink>(
     sink: &mut K,
     receiver: &Receiver<A>,
 ) -> Result<(), DeviceFault>
-    ensures ok { OnOk result (Appends (K.held sink.old) (K.held sink.new) (frames_text (kept_of receiver.now))) }
-    ensures fault { OnErr result (AppendsPrefix (K.held sink.old) (K.held sink.new) (frames_text (kept_of receiver.now))) }
+    ensures ok { OnOk result
+        (Appends (K.held sink.old) (K.held sink.new) (frames_text (kept_of receiver.now))) }
+    ensures fault { OnErr result
+        (AppendsPrefix (K.held sink.old) (K.held sink.new) (frames_text (kept_of receiver.now))) }
     ensures counted { CountsFaults (K.failures sink.old) (K.failures sink.new) result }
 {
     for timestamp in receiver.window() {
@@ -125,8 +134,10 @@ fn write_frame<A: Allocator, K: ByteSink>(
     timestamp: u32,
     frame: &Frame<A>,
 ) -> Result<(), DeviceFault>
-    ensures ok { OnOk result (Appends (K.held sink.old) (K.held sink.new) (frame_text timestamp frame.now)) }
-    ensures fault { OnErr result (AppendsPrefix (K.held sink.old) (K.held sink.new) (frame_text timestamp frame.now)) }
+    ensures ok { OnOk result
+        (Appends (K.held sink.old) (K.held sink.new) (frame_text timestamp frame.now)) }
+    ensures fault { OnErr result
+        (AppendsPrefix (K.held sink.old) (K.held sink.new) (frame_text timestamp frame.now)) }
     ensures counted { CountsFaults (K.failures sink.old) (K.failures sink.new) result }
 {
     write_whole(sink, &timestamp.to_be_bytes())?;

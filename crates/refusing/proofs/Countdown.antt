@@ -1,4 +1,5 @@
--- `refuses` at a call: what it is handed, and what a caller has of it, an answer of which nothing is known. Assumes `Logic`.
+-- `refuses` at a call: what it is handed, and what a caller has of it, an answer of which nothing
+-- is known. Assumes `Logic`.
 use Rattle.std.proofs.Common.{◌≡◌, ℕ, Bool, List, [], ◌∷◌, refl, ap}
 use seplogic.Ra.Ura.{Ura}
 use mir.Val.{Val, vbool, vptr}
@@ -8,7 +9,8 @@ use prog.Memory.{Memory}
 use prog.Routine.{Routine}
 use types.Logic.{Logic, sem}
 use contract.Monad.{Fun}
-use types.Kit.{‵, ◌⊛◌, some, later, ◌$◌, ◌∵◌, !, qed, move, keep, use1, split, join, pick, fjoin, feq_i, feq_l, check, await, updating, now as at_once, show, done}
+use types.Kit.{‵, ◌⊛◌, some, later, ◌$◌, ◌∵◌, !, qed, move, keep, use1, split, join, pick, fjoin}
+use types.Kit.{feq_i, feq_l, check, await, updating, now as at_once, show, done}
 use denote.RattleType.{RattleType}
 use denote.Memory.{hidden_shr}
 use denote.Builtin.{u64, bool}
@@ -21,24 +23,48 @@ use Rattle.refusing.specs.contracts.allocator.refuses as RE
 abbrev Calls : RattleType
 Calls = CE.the_row u64
 
-module _ {M : Type 1} {𝓤 : Ura M} (𝓛 : Logic 𝓤) (at_mem : Memory → SProp 𝓤) (run : Routine → Fun 𝓤) where
+module _ {M : Type 1} {𝓤 : Ura M} (𝓛 : Logic 𝓤) (at_mem : Memory → SProp 𝓤)
+    (run : Routine → Fun 𝓤) where
   abbrev pub Counted : Contract 𝓤
   Counted = triple_of 𝓛 RE.signature (RE.spec 𝓛 at_mem run)
 
   abbrev pub at_counted : Lft → Share → ℕ × ℕ → Counted.Ghost
-  at_counted κ q c = (((κ, tt), (q, tt), tt, (record { ref_ptr = c; now = record { value = tt } }, tt), (vptr c.0 c.1 ∷ [], tt)), tt)
+  at_counted κ q c = (
+    (
+      (κ, tt),
+      (q, tt),
+      tt,
+      (record { ref_ptr = c; now = record { value = tt } }, tt),
+      (vptr c.0 c.1 ∷ [], tt),
+    ),
+    tt,
+  )
 
-module _ {M : Type 1} {𝓤 : Ura M} (𝓛 : Logic 𝓤) (at_mem : Memory → SProp 𝓤) (run : Routine → Fun 𝓤) (κ : Lft) (q : Share) (c : ℕ × ℕ) where
+module _ {M : Type 1} {𝓤 : Ura M} (𝓛 : Logic 𝓤) (at_mem : Memory → SProp 𝓤) (run : Routine → Fun 𝓤)
+    (κ : Lft) (q : Share) (c : ℕ × ℕ) where
   open 𝓛 use {H, A}
 
-  pub Counted-goes : ent 𝓤 (sep 𝓤 (sem 𝓛 (hidden_shr Calls κ (record { value = tt }) c.0 c.1)) (A.lft κ q)) ((Counted 𝓛 at_mem run).pre (at_counted 𝓛 at_mem run κ q c))
+  pub Counted-goes : ent 𝓤
+      (sep 𝓤 (sem 𝓛 (hidden_shr Calls κ (record { value = tt }) c.0 c.1)) (A.lft κ q))
+      ((Counted 𝓛 at_mem run).pre (at_counted 𝓛 at_mem run κ q c))
   Counted-goes =
-      qed 𝓛 (‵ (hidden_shr Calls κ (record { value = tt }) c.0 c.1) ∷ ‵ (flft κ q) ∷ []) ∵ feq_i ! (List Val) (vptr c.0 c.1 ∷ []) (vptr c.0 c.1 ∷ []) refl $ fjoin ! $
-      nothing ! $ move ! (1 ∷ []) $ fjoin ! $ nothing ! $ move ! (2 ∷ []) $ join ! $ join ! $ nothing ! $ move ! (1 ∷ []) $ done !
+      qed 𝓛 (‵ (hidden_shr Calls κ (record { value = tt }) c.0 c.1) ∷ ‵ (flft κ q) ∷ []) ∵ feq_i !
+      (List Val) (vptr c.0 c.1 ∷ []) (vptr c.0 c.1 ∷ []) refl $ fjoin ! $
+      nothing ! $ move ! (1 ∷ []) $ fjoin ! $ nothing ! $ move ! (2 ∷ []) $ join ! $ join !
+      $ nothing ! $ move ! (1 ∷ []) $ done !
 
-  pub Counted-gives : (v : Val) → ent 𝓤 ((Counted 𝓛 at_mem run).post (at_counted 𝓛 at_mem run κ q c) v) (H.⇛ (ex 𝓤 (λ (refused : Bool). guard 𝓤 (v ≡ vbool refused) (A.lft κ q))))
+  pub Counted-gives : (v : Val)
+      → ent 𝓤 ((Counted 𝓛 at_mem run).post (at_counted 𝓛 at_mem run κ q c) v)
+      (H.⇛ (ex 𝓤 (λ (refused : Bool). guard 𝓤 (v ≡ vbool refused) (A.lft κ q))))
   Counted-gives v =
-      qed 𝓛 (types.Kit.raw ((Counted 𝓛 at_mem run).post (at_counted 𝓛 at_mem run κ q c) v) ∷ []) ∵ updating ! $
-      use1 𝓛 (later (some (λ (r : Bool). ((‵ (flft κ q) ⊛ ‵ ftrue) ⊛ ‵ (bool.own_val r (v ∷ []))) ⊛ some (λ (ws : Unit {0} × Unit {0}). ‵ (fsep ftrue ftrue) ⊛ ‵ ftrue)))) (id⊢ 𝓤 _) $ await ! tt $ pick ! (λ r.
+      qed 𝓛
+      (types.Kit.raw ((Counted 𝓛 at_mem run).post (at_counted 𝓛 at_mem run κ q c) v)
+      ∷ []) ∵ updating ! $
+      use1 𝓛
+      (later (some
+      (λ (r : Bool). ((‵ (flft κ q) ⊛ ‵ ftrue) ⊛ ‵ (bool.own_val r (v ∷ []))) ⊛ some
+      (λ (ws : Unit {0} × Unit {0}). ‵ (fsep ftrue ftrue) ⊛ ‵ ftrue)))) (id⊢ 𝓤 _) $ await ! tt
+      $ pick ! (λ r.
       split ! $ split ! $ move ! (1 ∷ []) $ feq_l ! (λ e. split ! $ at_once ! $
-      show ! (λ (refused : Bool). guard 𝓤 (v ≡ vbool refused) (A.lft κ q)) r $ check ! (ap only e) $ keep ! (0 ∷ []) $ done !))
+      show ! (λ (refused : Bool). guard 𝓤 (v ≡ vbool refused) (A.lft κ q)) r $ check ! (ap only e)
+      $ keep ! (0 ∷ []) $ done !))

@@ -1,5 +1,6 @@
 -- A fixed header's text, and any payload behind it, are in the grammar.
-use Rattle.std.proofs.Common.{◌≡◌, ℕ, ◌^◌, ◌<◌, ◌≤◌, List, [], ◌++◌, take, refl, sym, ap, ◌∙◌, arith}
+use Rattle.std.proofs.Common.{◌≡◌, ℕ, ◌^◌, ◌<◌, ◌≤◌, List, [], ◌++◌, take, refl, sym, ap, ◌∙◌}
+use Rattle.std.proofs.Common.{arith}
 use Rattle.std.proofs.lemmas.List.{append-nil, take_at}
 use Rattle.rtp_header.specs.Grammar.{Rtp, IsRtp, IsPlainRtp, fixed_text, plain}
 
@@ -10,7 +11,8 @@ pub record Fits (r : Rtp) : Type 0 where
   pub timestamp : r.timestamp < 2 ^ 32
   pub ssrc : r.ssrc < 2 ^ 32
 
-pub plain_rtp : (r : Rtp) (octets : List ℕ) → Fits r → octets ≡ fixed_text plain r ++ r.payload → IsPlainRtp r octets
+pub plain_rtp : (r : Rtp) (octets : List ℕ) → Fits r → octets ≡ fixed_text plain r ++ r.payload
+    → IsPlainRtp r octets
 plain_rtp r octets fits parts =
     let is : IsRtp r octets = record {
       flags = plain;
@@ -30,7 +32,9 @@ plain_rtp r octets fits parts =
     record { is = is; flags = refl; no_sources = refl; no_extension = refl; no_padding = refl }
 
 -- written over the first octets of others
-pub plain_written : (r : Rtp) (written others : List ℕ) → Fits r → written ≡ fixed_text plain r ++ others → IsPlainRtp r (take 12 written ++ r.payload)
+pub plain_written : (r : Rtp) (written others : List ℕ) → Fits r
+    → written ≡ fixed_text plain r ++ others → IsPlainRtp r (take 12 written ++ r.payload)
 plain_written r written others fits is =
     plain_rtp r (take 12 written ++ r.payload) fits
-    (ap (λ (x : List ℕ). take 12 x ++ r.payload) is ∙ ap (λ (x : List ℕ). x ++ r.payload) (take_at (fixed_text plain r) others 12 refl))
+    (ap (λ (x : List ℕ). take 12 x ++ r.payload) is
+    ∙ ap (λ (x : List ℕ). x ++ r.payload) (take_at (fixed_text plain r) others 12 refl))

@@ -1,10 +1,11 @@
--- What stands in octets that are no RTP datagram: one condition for each fault, of which at most one
--- holds. RFC 3550, 5.1 and 5.3.1; the order is this project's own.
+-- What stands in octets that are no RTP datagram: one condition for each fault, of which at most
+-- one holds. RFC 3550, 5.1 and 5.3.1; the order is this project's own.
 use Rattle.std.specs.Prelude.{◌≡◌, ◌≢◌, ℕ, ◌+◌, ◌-◌, ◌*◌, ◌/◌, ◌%◌, ◌<◌, ◌≤◌, ◌==◌, if◌then◌else◌}
 use Rattle.std.specs.Prelude.{◌⊎◌, List, length, take, drop, slice_index, codes}
 use Rattle.std.specs.Int.{w16, from_be_bytes}
 use Rattle.rtp_header.specs.declared.header.RtpFault.{RtpFault}
-use Rattle.rtp_header.specs.declared.header.RtpFault.TheVariants.{ShortHeader, BadVersion, ShortExtension, BadPadding}
+use Rattle.rtp_header.specs.declared.header.RtpFault.TheVariants.{ShortHeader, BadVersion}
+use Rattle.rtp_header.specs.declared.header.RtpFault.TheVariants.{ShortExtension, BadPadding}
 
 -- the numbers of the faults, in their order
 abbrev pub rtp_fault_number : RtpFault → ℕ

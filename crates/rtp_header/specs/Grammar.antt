@@ -1,5 +1,6 @@
 -- The grammar of RTP headers: parts joined to a whole datagram. RFC 3550, 5.1 and 5.3.1.
-use Rattle.std.specs.Prelude.{◌≡◌, ℕ, ◌+◌, ◌-◌, ◌*◌, ◌/◌, ◌%◌, ◌^◌, ◌<◌, Bool, true, false, if◌then◌else◌, List, [], ◌∷◌, ◌++◌, length, slice_index}
+use Rattle.std.specs.Prelude.{◌≡◌, ℕ, ◌+◌, ◌-◌, ◌*◌, ◌/◌, ◌%◌, ◌^◌, ◌<◌, Bool, true, false}
+use Rattle.std.specs.Prelude.{if◌then◌else◌, List, [], ◌∷◌, ◌++◌, length, slice_index}
 use Rattle.std.specs.Int.{w16, w32, to_be_bytes}
 
 -- A list of octets: numbers below 256.
@@ -35,7 +36,8 @@ bit flag worth = if flag then worth else 0
 -- sequence number, the timestamp and the SSRC, most significant octet first. RFC 3550, 5.1
 abbrev pub fixed_text : Flags → Rtp → List ℕ
 fixed_text g r =
-    (2 * 64 + bit g.padded 32 + bit g.extended 16 + g.sources) ∷ (bit r.marker 128 + r.payload_type) ∷
+    (2 * 64 + bit g.padded 32 + bit g.extended 16 + g.sources) ∷
+    (bit r.marker 128 + r.payload_type) ∷
     (to_be_bytes w16 r.sequence ++ to_be_bytes w32 r.timestamp ++ to_be_bytes w32 r.ssrc)
 
 -- A header extension: two octets that a profile may use, the number of its 32-bit words in two

@@ -1,10 +1,13 @@
 -- A walk over an RTP header from the left, as the code walks, which tells the first fault. What a
 -- datagram is says Grammar, and what stands in octets that have a fault says Faults; laws join the
 -- three, so nobody has to believe the walk.
-use Rattle.std.specs.Prelude.{◌≡◌, ℕ, ◌+◌, ◌-◌, ◌*◌, ◌/◌, ◌%◌, Bool, true, false, ◌||◌, not, nat_lt, nat_le, ◌==◌, if◌then◌else◌, List, length, take, drop, slice_index, Result, Ok, Err}
+use Rattle.std.specs.Prelude.{◌≡◌, ℕ, ◌+◌, ◌-◌, ◌*◌, ◌/◌, ◌%◌, Bool, true, false, ◌||◌, not, nat_lt}
+use Rattle.std.specs.Prelude.{nat_le, ◌==◌, if◌then◌else◌, List, length, take, drop, slice_index}
+use Rattle.std.specs.Prelude.{Result, Ok, Err}
 use Rattle.std.specs.Int.{w16, w32, from_be_bytes}
 use Rattle.rtp_header.specs.declared.header.RtpFault.{RtpFault}
-use Rattle.rtp_header.specs.declared.header.RtpFault.TheVariants.{ShortHeader, BadVersion, ShortExtension, BadPadding}
+use Rattle.rtp_header.specs.declared.header.RtpFault.TheVariants.{ShortHeader, BadVersion}
+use Rattle.rtp_header.specs.declared.header.RtpFault.TheVariants.{ShortExtension, BadPadding}
 use Rattle.rtp_header.specs.Grammar.{Rtp}
 
 infixl 10 ◌>>=◌
@@ -19,14 +22,17 @@ behind n octets = if nat_lt (length octets) n then Err ShortExtension else Ok (d
 -- behind the extension, where there is one: two octets, the number of words, the words
 abbrev pub behind_extension : Bool → List ℕ → Result (List ℕ) RtpFault
 behind_extension false octets = Ok octets
-behind_extension true octets = if nat_lt (length octets) 4 then Err ShortExtension else behind (4 + 4 * from_be_bytes w16 (take 2 (drop 2 octets))) octets
+behind_extension true octets =
+    if nat_lt (length octets) 4 then Err ShortExtension
+    else behind (4 + 4 * from_be_bytes w16 (take 2 (drop 2 octets))) octets
 
 -- without the padding, where there is one: its last octet is its length
 abbrev pub without_padding : Bool → List ℕ → Result (List ℕ) RtpFault
 without_padding false octets = Ok octets
 without_padding true octets =
     let n : ℕ = slice_index octets (length octets - 1) in
-    if n == 0 || nat_lt (length octets) n then Err BadPadding else Ok (take (length octets - n) octets)
+    if n == 0
+    || nat_lt (length octets) n then Err BadPadding else Ok (take (length octets - n) octets)
 
 -- the fixed header's fields, and a payload
 abbrev pub fields_of : List ℕ → List ℕ → Rtp

@@ -6,8 +6,26 @@ use Rattle.rtp_header.specs.Grammar.{Rtp}
 
 -- a view, without where its payload lies in memory
 abbrev pub seen : RtpView → Rtp
-seen v = record { marker = v.marker; payload_type = v.payload_type; sequence = v.sequence; timestamp = v.timestamp; ssrc = v.ssrc; payload = v.payload.now }
+seen v =
+    record {
+      marker = v.marker;
+      payload_type = v.payload_type;
+      sequence = v.sequence;
+      timestamp =
+          v.timestamp;
+      ssrc = v.ssrc;
+      payload = v.payload.now;
+    }
 
 -- a head to be written, with a payload behind it
 abbrev pub headed : RtpHead → List ℕ → Rtp
-headed h payload = record { marker = h.marker; payload_type = h.payload_type; sequence = h.sequence; timestamp = h.timestamp; ssrc = h.ssrc; payload = payload }
+headed h payload =
+    record {
+      marker = h.marker;
+      payload_type = h.payload_type;
+      sequence = h.sequence;
+      timestamp =
+          h.timestamp;
+      ssrc = h.ssrc;
+      payload = payload;
+    }

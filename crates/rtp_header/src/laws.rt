@@ -2,7 +2,8 @@
 //! nothing.
 ghost use Rattle.std.specs.Prelude.{◌≡◌, ◌⊎◌, ◌↔◌, ℕ, List, Ok, Err};
 ghost use Rattle.rtp_header.specs.declared.header.RtpFault.{RtpFault};
-ghost use Rattle.rtp_header.specs.Faults.{HasFault, IsBadPadding, IsBadVersion, IsShortExtension, IsShortHeader};
+ghost use Rattle.rtp_header.specs.Faults.{HasFault, IsBadPadding, IsBadVersion, IsShortExtension};
+ghost use Rattle.rtp_header.specs.Faults.{IsShortHeader};
 ghost use Rattle.rtp_header.specs.Grammar.{AreOctets, IsRtp, Rtp};
 ghost use Rattle.rtp_header.specs.Reading.{rtp_walk};
 

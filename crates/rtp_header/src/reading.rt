@@ -1,8 +1,10 @@
 //! Reading a header.
 ghost use Rattle.std.specs.Prelude.{◌≡◌, ◌↔◌, ◌<◌, ℕ, length, IfErr, IfOk, IsErrOf, IsOkAnd};
 ghost use Rattle.rtp_header.specs.Grammar.{IsRtp, Rtp};
-ghost use Rattle.rtp_header.specs.Faults.{IsBadPadding, IsBadVersion, IsShortExtension, IsShortHeader};
-ghost use Rattle.rtp_header.specs.Reading.{Gives, behind, behind_extension, rtp_walk, without_padding};
+ghost use Rattle.rtp_header.specs.Faults.{IsBadPadding, IsBadVersion, IsShortExtension};
+ghost use Rattle.rtp_header.specs.Faults.{IsShortHeader};
+ghost use Rattle.rtp_header.specs.Reading.{Gives, behind, behind_extension, rtp_walk};
+ghost use Rattle.rtp_header.specs.Reading.{without_padding};
 ghost use Rattle.rtp_header.specs.Views.{seen};
 
 use crate::header::{FIXED, RtpFault, RtpView, VERSION};

@@ -1,5 +1,6 @@
 -- Which items are wrong by themselves.
-use Rattle.std.proofs.Common.{◌≡◌, ℕ, Bool, true, false, cond, List, [], ◌∷◌, length, Option, Some, None, refl, ap, ◌∙◌, arith, ◌⊎◌, inl, inr, codes}
+use Rattle.std.proofs.Common.{◌≡◌, ℕ, Bool, true, false, cond, List, [], ◌∷◌, length, Option, Some}
+use Rattle.std.proofs.Common.{None, refl, ap, ◌∙◌, arith, ◌⊎◌, inl, inr, codes}
 use Rattle.std.specs.Prelude.{Contains, ◌==◌, is_none}
 use Rattle.std.specs.List.{list_any}
 use Rattle.std.specs.Str.{bytes_eq}
@@ -7,11 +8,13 @@ use Rattle.std.proofs.lemmas.Bool.Decides.{nat_tests}
 use Rattle.sdp_format.specs.Bytes.{number}
 use Rattle.sdp_format.specs.Naming.{Item, is_bad, rate, colorimetry, range_named}
 use Rattle.sdp_format.specs.Grammar.{Says, IsBadItem}
-use Rattle.sdp_format.specs.Grammar.IsBadItem.{NoName, NoWidth, NoHeight, NoRate, NoColorimetry, NoRange}
+use Rattle.sdp_format.specs.Grammar.IsBadItem.{NoName, NoWidth, NoHeight, NoRate, NoColorimetry}
+use Rattle.sdp_format.specs.Grammar.IsBadItem.{NoRange}
 use Rattle.sdp_format.proofs.Members.{not_both, any_member, member_any}
 use Rattle.sdp_format.proofs.Doubles.{bytes_same}
 
-pub cond_true : (t a b : Bool) → cond t a b ≡ true → ((t ≡ true) × (a ≡ true)) ⊎ ((t ≡ false) × (b ≡ true))
+pub cond_true : (t a b : Bool) → cond t a b ≡ true
+    → ((t ≡ true) × (a ≡ true)) ⊎ ((t ≡ false) × (b ≡ true))
 cond_true true a b e = inl (refl, e)
 cond_true false a b e = inr (refl, e)
 
@@ -35,14 +38,19 @@ bad_says i e =
                 elim (cond_true (bytes_eq i.0 (codes "height")) (is_none (number i.1)) _ b.1) [
                   | inl h ↦ NoHeight (bytes_same i.0 _ h.0) (none_is (number i.1) h.1)
                   | inr c ↦
-                      elim (cond_true (bytes_eq i.0 (codes "exactframerate")) (is_none (rate i.1)) _ c.1) [
+                      elim (cond_true (bytes_eq i.0 (codes "exactframerate"))
+                      (is_none (rate i.1)) _ c.1) [
                         | inl h ↦ NoRate (bytes_same i.0 _ h.0) (none_is (rate i.1) h.1)
                         | inr d ↦
-                            elim (cond_true (bytes_eq i.0 (codes "colorimetry")) (is_none (colorimetry i.1)) _ d.1) [
-                              | inl h ↦ NoColorimetry (bytes_same i.0 _ h.0) (none_is (colorimetry i.1) h.1)
+                            elim (cond_true (bytes_eq i.0 (codes "colorimetry"))
+                            (is_none (colorimetry i.1)) _ d.1) [
+                              | inl h ↦ NoColorimetry (bytes_same i.0 _ h.0)
+                                  (none_is (colorimetry i.1) h.1)
                               | inr f ↦
-                                  elim (cond_true (bytes_eq i.0 (codes "RANGE")) (is_none (range_named i.1)) false f.1) [
-                                    | inl h ↦ NoRange (bytes_same i.0 _ h.0) (none_is (range_named i.1) h.1)
+                                  elim (cond_true (bytes_eq i.0 (codes "RANGE"))
+                                  (is_none (range_named i.1)) false f.1) [
+                                    | inl h ↦ NoRange (bytes_same i.0 _ h.0)
+                                        (none_is (range_named i.1) h.1)
                                     | inr g ↦ absurd (not_both false g.1 refl)
                                   ]
                             ]
@@ -63,27 +71,35 @@ says_bad i (NoRate e f) = named i (codes "exactframerate") e ∙ ap is_none f
 says_bad i (NoColorimetry e f) = named i (codes "colorimetry") e ∙ ap is_none f
 says_bad i (NoRange e f) = named i (codes "RANGE") e ∙ ap is_none f
 
-pub any_bad : (is : List Item) → list_any is_bad is ≡ true → (i : Item) × Contains is i × IsBadItem i
+pub any_bad : (is : List Item) → list_any is_bad is ≡ true
+    → (i : Item) × Contains is i × IsBadItem i
 any_bad is e = let r = any_member is_bad is e in (r.0, r.1, bad_says r.0 r.2)
 
-pub bad_any : (is : List Item) → (i : Item) × Contains is i × IsBadItem i → list_any is_bad is ≡ true
+pub bad_any : (is : List Item) → (i : Item) × Contains is i × IsBadItem i
+    → list_any is_bad is ≡ true
 bad_any is h = member_any is_bad is h.0 h.1 (says_bad h.0 h.2)
 
 -- where no item is wrong by itself, what is said has its form
-no_bad : (is : List Item) (name value : List ℕ) → list_any is_bad is ≡ false → Says is name value → IsBadItem (name, value) → ⊥
+no_bad : (is : List Item) (name value : List ℕ) → list_any is_bad is ≡ false → Says is name value
+    → IsBadItem (name, value) → ⊥
 no_bad is name value e m b = not_both _ (bad_any is ((name, value), m, b)) e
 
-pub said_width : (is : List Item) (value : List ℕ) → list_any is_bad is ≡ false → Says is (codes "width") value → number value ≡ None → ⊥
+pub said_width : (is : List Item) (value : List ℕ) → list_any is_bad is ≡ false
+    → Says is (codes "width") value → number value ≡ None → ⊥
 said_width is value e m n = no_bad is (codes "width") value e m (NoWidth refl n)
 
-pub said_height : (is : List Item) (value : List ℕ) → list_any is_bad is ≡ false → Says is (codes "height") value → number value ≡ None → ⊥
+pub said_height : (is : List Item) (value : List ℕ) → list_any is_bad is ≡ false
+    → Says is (codes "height") value → number value ≡ None → ⊥
 said_height is value e m n = no_bad is (codes "height") value e m (NoHeight refl n)
 
-pub said_rate : (is : List Item) (value : List ℕ) → list_any is_bad is ≡ false → Says is (codes "exactframerate") value → rate value ≡ None → ⊥
+pub said_rate : (is : List Item) (value : List ℕ) → list_any is_bad is ≡ false
+    → Says is (codes "exactframerate") value → rate value ≡ None → ⊥
 said_rate is value e m n = no_bad is (codes "exactframerate") value e m (NoRate refl n)
 
-pub said_colorimetry : (is : List Item) (value : List ℕ) → list_any is_bad is ≡ false → Says is (codes "colorimetry") value → colorimetry value ≡ None → ⊥
+pub said_colorimetry : (is : List Item) (value : List ℕ) → list_any is_bad is ≡ false
+    → Says is (codes "colorimetry") value → colorimetry value ≡ None → ⊥
 said_colorimetry is value e m n = no_bad is (codes "colorimetry") value e m (NoColorimetry refl n)
 
-pub said_range : (is : List Item) (value : List ℕ) → list_any is_bad is ≡ false → Says is (codes "RANGE") value → range_named value ≡ None → ⊥
+pub said_range : (is : List Item) (value : List ℕ) → list_any is_bad is ≡ false
+    → Says is (codes "RANGE") value → range_named value ≡ None → ⊥
 said_range is value e m n = no_bad is (codes "RANGE") value e m (NoRange refl n)

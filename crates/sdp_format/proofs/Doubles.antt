@@ -1,5 +1,6 @@
 -- Items put into a list one after another, while their names stand in an ordered set.
-use Rattle.std.proofs.Common.{◌≡◌, ℕ, List, [], ◌∷◌, ◌++◌, Bool, true, false, cond, ◌||◌, Option, Some, None, refl, ap, ◌∙◌, sym, Bor}
+use Rattle.std.proofs.Common.{◌≡◌, ℕ, List, [], ◌∷◌, ◌++◌, Bool, true, false, cond, ◌||◌, Option}
+use Rattle.std.proofs.Common.{Some, None, refl, ap, ◌∙◌, sym, Bor}
 use Rattle.std.specs.List.{list_any}
 use Rattle.std.specs.Str.{bytes_eq}
 use Rattle.std.specs.Prelude.{is_some, not}
@@ -38,9 +39,12 @@ flipped_by a b false true e f =
 flipped : (a b : List ℕ) → bytes_eq a b ≡ bytes_eq b a
 flipped a b = flipped_by a b (bytes_eq a b) (bytes_eq b a) refl refl
 
-pub any_here : (p : Item → Bool) (xs ys : List Item) (y : Item) → p y ≡ true → list_any p (xs ++ y ∷ ys) ≡ true
+pub any_here : (p : Item → Bool) (xs ys : List Item) (y : Item) → p y ≡ true
+    → list_any p (xs ++ y ∷ ys) ≡ true
 any_here p [] ys y e = rw e refl
-any_here p (x ∷ xs) ys y e = rw (any_here p xs ys y e) (elim (p x) as (λ t. (t || true) ≡ true) [ true ↦ refl | false ↦ refl ])
+any_here p (x ∷ xs) ys y e =
+    rw (any_here p xs ys y e)
+    (elim (p x) as (λ t. (t || true) ≡ true) [ true ↦ refl | false ↦ refl ])
 
 pub or_false : (a b : Bool) → (a || b) ≡ false → (a ≡ false) × (b ≡ false)
 or_false true b e = (cc, cc)
@@ -50,29 +54,40 @@ pub or_true : (a : Bool) → (a || true) ≡ true
 or_true true = refl
 or_true false = refl
 
-pub cond_none : (t : Bool) (x : List ℕ) (r : Option (List ℕ)) → cond t (Some x) r ≡ None → (t ≡ false) × (r ≡ None)
+pub cond_none : (t : Bool) (x : List ℕ) (r : Option (List ℕ)) → cond t (Some x) r ≡ None
+    → (t ≡ false) × (r ≡ None)
 cond_none true x r e = (cc, cc)
 cond_none false x r e = (refl, e)
 
-any_push : (p : Item → Bool) (xs : List Item) (y : Item) → list_any p xs ≡ false → p y ≡ false → list_any p (xs ++ y ∷ []) ≡ false
+any_push : (p : Item → Bool) (xs : List Item) (y : Item) → list_any p xs ≡ false → p y ≡ false
+    → list_any p (xs ++ y ∷ []) ≡ false
 any_push p [] y a e = rw e refl
-any_push p (x ∷ xs) y a e = let h : (p x ≡ false) × (list_any p xs ≡ false) = or_false (p x) (list_any p xs) a in rw (h.0, any_push p xs y h.1 e) refl
+any_push p (x ∷ xs) y a e = let h : (p x ≡ false) × (list_any p xs ≡ false) =
+    or_false (p x) (list_any p xs) a in rw (h.0, any_push p xs y h.1 e) refl
 
-pub double_push : (xs : List Item) (y : Item) → has_double xs ≡ false → value_of y.0 xs ≡ None → has_double (xs ++ y ∷ []) ≡ false
+pub double_push : (xs : List Item) (y : Item) → has_double xs ≡ false → value_of y.0 xs ≡ None
+    → has_double (xs ++ y ∷ []) ≡ false
 double_push [] y single new = refl
 double_push (x ∷ xs) y single new =
-    let h : (list_any (λ j. bytes_eq j.0 x.0) xs ≡ false) × (has_double xs ≡ false) = or_false (list_any (λ j. bytes_eq j.0 x.0) xs) (has_double xs) single in
-    let n : (bytes_eq y.0 x.0 ≡ false) × (value_of y.0 xs ≡ None) = cond_none (bytes_eq y.0 x.0) x.1 (value_of y.0 xs) new in
+    let h : (list_any (λ j. bytes_eq j.0 x.0) xs ≡ false) × (has_double xs ≡ false) =
+    or_false (list_any (λ j. bytes_eq j.0 x.0) xs) (has_double xs) single in
+    let n : (bytes_eq y.0 x.0 ≡ false) × (value_of y.0 xs ≡ None) =
+    cond_none (bytes_eq y.0 x.0) x.1 (value_of y.0 xs) new in
     rw (any_push (λ j. bytes_eq j.0 x.0) xs y h.0 n.0, double_push xs y h.1 n.1) refl
 
-met_by : (x : Item) (xs ys : List Item) (y : Item) (v : List ℕ) (t : Bool) → bytes_eq y.0 x.0 ≡ t → cond t (Some x.1) (value_of y.0 xs) ≡ Some v
-    → (value_of y.0 xs ≡ Some v → has_double (xs ++ y ∷ ys) ≡ true) → has_double (x ∷ xs ++ y ∷ ys) ≡ true
+met_by : (x : Item) (xs ys : List Item) (y : Item) (v : List ℕ) (t : Bool) → bytes_eq y.0 x.0 ≡ t
+    → cond t (Some x.1) (value_of y.0 xs) ≡ Some v
+    → (value_of y.0 xs ≡ Some v → has_double (xs ++ y ∷ ys) ≡ true)
+    → has_double (x ∷ xs ++ y ∷ ys) ≡ true
 met_by x xs ys y v true e o h = rw (any_here (λ j. bytes_eq j.0 x.0) xs ys y e) refl
-met_by x xs ys y v false e o h = rw (h o) (or_true (list_any (λ j. bytes_eq j.0 x.0) (xs ++ y ∷ ys)))
+met_by x xs ys y v false e o h =
+    rw (h o) (or_true (list_any (λ j. bytes_eq j.0 x.0) (xs ++ y ∷ ys)))
 
-pub double_met : (xs ys : List Item) (y : Item) (v : List ℕ) → value_of y.0 xs ≡ Some v → has_double (xs ++ y ∷ ys) ≡ true
+pub double_met : (xs ys : List Item) (y : Item) (v : List ℕ) → value_of y.0 xs ≡ Some v
+    → has_double (xs ++ y ∷ ys) ≡ true
 double_met [] ys y v old = cc
-double_met (x ∷ xs) ys y v old = met_by x xs ys y v (bytes_eq y.0 x.0) refl old (double_met xs ys y v)
+double_met (x ∷ xs) ys y v old =
+    met_by x xs ys y v (bytes_eq y.0 x.0) refl old (double_met xs ys y v)
 
 known_by : (s t : Bool) (v : List ℕ) (whole part : Option (List ℕ))
     → is_some whole ≡ cond s true (is_some part)
@@ -83,7 +98,8 @@ known_by s false v whole part h = h
 
 -- a name is known behind one more item where it is the item's, or was known
 known_push : (xs : List Item) (y : Item) (name : List ℕ)
-    → is_some (value_of name (xs ++ y ∷ [])) ≡ cond (bytes_eq y.0 name) true (is_some (value_of name xs))
+    → is_some (value_of name (xs ++ y ∷ []))
+    ≡ cond (bytes_eq y.0 name) true (is_some (value_of name xs))
 known_push [] y name =
     rw (flipped y.0 name)
     (elim (bytes_eq name y.0) as (λ t. is_some (cond t (Some y.1) None) ≡ cond t true false)
@@ -132,8 +148,10 @@ put_kept ps qs names new left rest all p kept e is_new updates put =
           (sym (known_push (items_in ps) (item_of p) q.now)));
     }
 
-pub met_double : (ps : List Parameter) (names : BTreeSet Slice) (left rest all : List Item) (p : Parameter)
-    → Kept ps names left all → left ≡ item_of p ∷ rest → false ≡ not (contains slice_order names p.name)
+pub met_double : (ps : List Parameter) (names : BTreeSet Slice) (left rest all : List Item)
+    (p : Parameter)
+    → Kept ps names left all → left ≡ item_of p ∷ rest
+    → false ≡ not (contains slice_order names p.name)
     → has_double all ≡ true
 met_double ps names left rest all p kept e is_new =
     let there : (x : List ℕ) × (value_of p.name.now (items_in ps) ≡ Some x) =

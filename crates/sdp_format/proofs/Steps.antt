@@ -1,18 +1,32 @@
 -- A chain of tests tells the first fault in the order of numbers.
-use Rattle.std.proofs.Common.{◌≡◌, ℕ, ◌+◌, ◌<◌, Bool, true, false, Option, Some, None, Result, Ok, Err, refl, ap, subst, ◌∙◌, sym, arith, lit<, inl, inr}
+use Rattle.std.proofs.Common.{◌≡◌, ℕ, ◌+◌, ◌<◌, Bool, true, false, Option, Some, None, Result, Ok}
+use Rattle.std.proofs.Common.{Err, refl, ap, subst, ◌∙◌, sym, arith, lit<, inl, inr}
 use Rattle.std.specs.Prelude.{◌==◌, if◌then◌else◌}
 use Rattle.std.proofs.lemmas.Bool.{cases_lt}
 use Rattle.sdp_format.specs.declared.fault.SdpFault.{SdpFault}
-use Rattle.sdp_format.specs.declared.fault.SdpFault.TheVariants.{NoMemory, NoVideo, TooManyLegs, BadMediaLine, NoRtpmap, NotRaw90000, NoFmtp, BadParameter, DoubleParameter, MissingParameter, UnsupportedSampling, UnsupportedDepth, Interlaced, UnsupportedPacking, BadSsn, BadFormat, LegsDiffer}
+use Rattle.sdp_format.specs.declared.fault.SdpFault.TheVariants.{NoMemory, NoVideo, TooManyLegs}
+use Rattle.sdp_format.specs.declared.fault.SdpFault.TheVariants.{BadMediaLine, NoRtpmap}
+use Rattle.sdp_format.specs.declared.fault.SdpFault.TheVariants.{NotRaw90000, NoFmtp, BadParameter}
+use Rattle.sdp_format.specs.declared.fault.SdpFault.TheVariants.{DoubleParameter, MissingParameter}
+use Rattle.sdp_format.specs.declared.fault.SdpFault.TheVariants.{UnsupportedSampling}
+use Rattle.sdp_format.specs.declared.fault.SdpFault.TheVariants.{UnsupportedDepth, Interlaced}
+use Rattle.sdp_format.specs.declared.fault.SdpFault.TheVariants.{UnsupportedPacking, BadSsn}
+use Rattle.sdp_format.specs.declared.fault.SdpFault.TheVariants.{BadFormat, LegsDiffer}
 use Rattle.sdp_format.specs.Faults.{sdp_fault_number}
 use Rattle.sdp_format.specs.Reading.{◌>>=◌, wanted, refused}
 
 fault_at : ℕ → SdpFault
 fault_at n =
-    if n == 1 then NoMemory else (if n == 2 then NoVideo else (if n == 3 then TooManyLegs else (if n == 4 then BadMediaLine else
-    (if n == 5 then NoRtpmap else (if n == 6 then NotRaw90000 else (if n == 7 then NoFmtp else (if n == 8 then BadParameter else
-    (if n == 9 then DoubleParameter else (if n == 10 then MissingParameter else (if n == 11 then UnsupportedSampling else
-    (if n == 12 then UnsupportedDepth else (if n == 13 then Interlaced else (if n == 14 then UnsupportedPacking else
+    if n == 1 then NoMemory
+    else (if n == 2 then NoVideo
+    else (if n == 3 then TooManyLegs else (if n == 4 then BadMediaLine else
+    (if n == 5 then NoRtpmap
+    else (if n == 6 then NotRaw90000
+    else (if n == 7 then NoFmtp else (if n == 8 then BadParameter else
+    (if n == 9 then DoubleParameter
+    else (if n == 10 then MissingParameter else (if n == 11 then UnsupportedSampling else
+    (if n == 12 then UnsupportedDepth
+    else (if n == 13 then Interlaced else (if n == 14 then UnsupportedPacking else
     (if n == 15 then BadSsn else (if n == 16 then BadFormat else LegsDiffer)))))))))))))))
 
 numbered : (f : SdpFault) → fault_at (sdp_fault_number f) ≡ f
@@ -76,7 +90,8 @@ more C f n e b fails = record {
 pub none_at_all : (C : SdpFault → Type 0) → Below C 18 → (g : SdpFault) → C g → ⊥
 none_at_all C b g c = b.none g (number_small g) c
 
--- What is read is so, and no condition below n holds; or the condition of the fault that is told holds, and none before it
+-- What is read is so, and no condition below n holds; or the condition of the fault that is told
+-- holds, and none before it
 abbrev pub Told : {X : Type 0} → ℕ → (SdpFault → Type 0) → (X → Type 0) → Result X SdpFault → Type 0
 Told n C R (Ok x) = R x × Below C n
 Told n C R (Err f) = C f × Below C (sdp_fault_number f)
@@ -100,12 +115,14 @@ want n C R f (Some x) k b holds fails rest =
     rest x refl (more C f (sdp_fault_number f + 1) refl b (fails x refl))
 
 -- a value that is there for another reason
-pub there : {A X : Type 0} (n : ℕ) (C : SdpFault → Type 0) (R : X → Type 0) (f : SdpFault) (o : Option A) (k : A → Result X SdpFault)
+pub there : {A X : Type 0} (n : ℕ) (C : SdpFault → Type 0) (R : X → Type 0) (f : SdpFault)
+    (o : Option A) (k : A → Result X SdpFault)
     → (o ≡ None → ⊥) → ((x : A) → o ≡ Some x → Told n C R (k x)) → Told n C R (wanted f o >>= k)
 there n C R f None k some rest = absurd (some refl)
 there n C R f (Some x) k some rest = rest x refl
 
-pub follow : {X Y : Type 0} (m n : ℕ) (C : SdpFault → Type 0) (Q : X → Type 0) (R : Y → Type 0) (r : Result X SdpFault) (k : X → Result Y SdpFault)
+pub follow : {X Y : Type 0} (m n : ℕ) (C : SdpFault → Type 0) (Q : X → Type 0) (R : Y → Type 0)
+    (r : Result X SdpFault) (k : X → Result Y SdpFault)
     → Told m C Q r → ((x : X) → Q x → Below C m → Told n C R (k x)) → Told n C R (r >>= k)
 follow m n C Q R (Ok x) k told rest = rest x told.0 told.1
 follow m n C Q R (Err f) k told rest = told

@@ -1,5 +1,6 @@
 -- Texts of several sections: which fault is told, or what they say.
-use Rattle.std.proofs.Common.{◌≡◌, ℕ, ◌<◌, Bool, true, false, not, ◌&&◌, List, [], ◌∷◌, length, Ok, Err, Result, refl, ap, subst, ◌∙◌, sym, arith, ◌⊎◌, inl, inr}
+use Rattle.std.proofs.Common.{◌≡◌, ℕ, ◌<◌, Bool, true, false, not, ◌&&◌, List, [], ◌∷◌, length, Ok}
+use Rattle.std.proofs.Common.{Err, Result, refl, ap, subst, ◌∙◌, sym, arith, ◌⊎◌, inl, inr}
 use Rattle.std.specs.Prelude.{◌↔◌, ◌==◌, IfOk, IfErr}
 use Rattle.std.specs.Str.{bytes_eq}
 use Rattle.std.proofs.lemmas.Bool.Decides.{Decides-eqb}
@@ -11,11 +12,14 @@ use Rattle.st_format.specs.Fields.{Fields}
 use Rattle.sdp_format.specs.declared.sdp.Range.{Range}
 use Rattle.sdp_format.specs.declared.sdp.Range.TheVariants.{Narrow, FullProtect, Full}
 use Rattle.sdp_format.specs.declared.fault.SdpFault.{SdpFault}
-use Rattle.sdp_format.specs.declared.fault.SdpFault.TheVariants.{NoMemory, NoVideo, TooManyLegs, LegsDiffer}
+use Rattle.sdp_format.specs.declared.fault.SdpFault.TheVariants.{NoMemory, NoVideo, TooManyLegs}
+use Rattle.sdp_format.specs.declared.fault.SdpFault.TheVariants.{LegsDiffer}
 use Rattle.sdp_format.specs.Bytes.{lines}
 use Rattle.sdp_format.specs.Sections.{Section, Leg, Description, video_sections}
-use Rattle.sdp_format.specs.Reading.{◌>>=◌, refused, Gives, section_walk, same_sampling, same_depth, same_range, same_format, same_leg, sections_walk, text_walk}
-use Rattle.sdp_format.specs.Grammar.{IsFirstFault, IsFaultless, SectionSays, Differ, TwoDiffer, IsTextFault, OneSays, BothSay, IsDescribed}
+use Rattle.sdp_format.specs.Reading.{◌>>=◌, refused, Gives, section_walk, same_sampling, same_depth}
+use Rattle.sdp_format.specs.Reading.{same_range, same_format, same_leg, sections_walk, text_walk}
+use Rattle.sdp_format.specs.Grammar.{IsFirstFault, IsFaultless, SectionSays, Differ, TwoDiffer}
+use Rattle.sdp_format.specs.Grammar.{IsTextFault, OneSays, BothSay, IsDescribed}
 use Rattle.sdp_format.proofs.Members.{not_both}
 use Rattle.sdp_format.proofs.Doubles.{bytes_same, same_bytes}
 use Rattle.sdp_format.proofs.Said.{false_from}
@@ -73,20 +77,38 @@ fields s b w h n d = record { sampling = s; depth = b; width = w; height = h; n 
 
 format_is : (f g : Fields) → same_format f g ≡ true → f ≡ g
 format_is f g e =
-    let a = and_parts (same_sampling f.sampling g.sampling && same_depth f.depth g.depth && f.width == g.width && f.height == g.height && f.n == g.n) (f.d == g.d) e in
-    let b = and_parts (same_sampling f.sampling g.sampling && same_depth f.depth g.depth && f.width == g.width && f.height == g.height) (f.n == g.n) a.0 in
-    let c = and_parts (same_sampling f.sampling g.sampling && same_depth f.depth g.depth && f.width == g.width) (f.height == g.height) b.0 in
-    let d = and_parts (same_sampling f.sampling g.sampling && same_depth f.depth g.depth) (f.width == g.width) c.0 in
+    let a =
+    and_parts (same_sampling f.sampling g.sampling && same_depth f.depth g.depth
+    && f.width == g.width && f.height == g.height && f.n == g.n) (f.d == g.d) e in
+    let b =
+    and_parts (same_sampling f.sampling g.sampling && same_depth f.depth g.depth
+    && f.width == g.width && f.height == g.height) (f.n == g.n) a.0 in
+    let c =
+    and_parts (same_sampling f.sampling g.sampling && same_depth f.depth g.depth
+    && f.width == g.width) (f.height == g.height) b.0 in
+    let d =
+    and_parts (same_sampling f.sampling g.sampling && same_depth f.depth g.depth)
+    (f.width == g.width) c.0 in
     let s = and_parts (same_sampling f.sampling g.sampling) (same_depth f.depth g.depth) d.0 in
-    ap (λ (z : Sampling). fields z f.depth f.width f.height f.n f.d) (sampling_is f.sampling g.sampling s.0)
-    ∙ ap (λ (z : Depth). fields g.sampling z f.width f.height f.n f.d) (depth_is f.depth g.depth s.1)
+    ap (λ (z : Sampling). fields z f.depth f.width f.height f.n f.d)
+    (sampling_is f.sampling g.sampling s.0)
+    ∙ ap (λ (z : Depth). fields g.sampling z f.width f.height f.n f.d)
+    (depth_is f.depth g.depth s.1)
     ∙ ap (λ (z : ℕ). fields g.sampling g.depth z f.height f.n f.d) (number_is f.width g.width d.1)
     ∙ ap (λ (z : ℕ). fields g.sampling g.depth g.width z f.n f.d) (number_is f.height g.height c.1)
     ∙ ap (λ (z : ℕ). fields g.sampling g.depth g.width g.height z f.d) (number_is f.n g.n b.1)
     ∙ ap (λ (z : ℕ). fields g.sampling g.depth g.width g.height g.n z) (number_is f.d g.d a.1)
 
 format_self : (f : Fields) → same_format f f ≡ true
-format_self f = rw (sampling_self f.sampling, depth_self f.depth, number_self f.width, number_self f.height, number_self f.n, number_self f.d) refl
+format_self f =
+    rw (
+      sampling_self f.sampling,
+      depth_self f.depth,
+      number_self f.width,
+      number_self f.height,
+      number_self f.n,
+      number_self f.d,
+    ) refl
 
 abbrev leg : ℕ → Fields → Range → List ℕ → Leg
 leg p f r c = record { payload_type = p; format = f; range = r; colorimetry = c }
@@ -94,20 +116,30 @@ leg p f r c = record { payload_type = p; format = f; range = r; colorimetry = c 
 leg_is : (l m : Leg) → same_leg l m ≡ true → l ≡ m
 unfolding same_leg
 leg_is l m e =
-    let a = and_parts (l.payload_type == m.payload_type && same_format l.format m.format && same_range l.range m.range) (bytes_eq l.colorimetry m.colorimetry) e in
-    let b = and_parts (l.payload_type == m.payload_type && same_format l.format m.format) (same_range l.range m.range) a.0 in
+    let a =
+    and_parts (l.payload_type == m.payload_type && same_format l.format m.format
+    && same_range l.range m.range) (bytes_eq l.colorimetry m.colorimetry) e in
+    let b =
+    and_parts (l.payload_type == m.payload_type && same_format l.format m.format)
+    (same_range l.range m.range) a.0 in
     let c = and_parts (l.payload_type == m.payload_type) (same_format l.format m.format) b.0 in
-    ap (λ (z : ℕ). leg z l.format l.range l.colorimetry) (number_is l.payload_type m.payload_type c.0)
-    ∙ ap (λ (z : Fields). leg m.payload_type z l.range l.colorimetry) (format_is l.format m.format c.1)
+    ap (λ (z : ℕ). leg z l.format l.range l.colorimetry)
+    (number_is l.payload_type m.payload_type c.0)
+    ∙ ap (λ (z : Fields). leg m.payload_type z l.range l.colorimetry)
+    (format_is l.format m.format c.1)
     ∙ ap (λ (z : Range). leg m.payload_type m.format z l.colorimetry) (range_is l.range m.range b.1)
-    ∙ ap (λ (z : List ℕ). leg m.payload_type m.format m.range z) (bytes_same l.colorimetry m.colorimetry a.1)
+    ∙ ap (λ (z : List ℕ). leg m.payload_type m.format m.range z)
+    (bytes_same l.colorimetry m.colorimetry a.1)
 
 pub leg_self : (l : Leg) → same_leg l l ≡ true
 unfolding same_leg
 leg_self l =
-    and_all (l.payload_type == l.payload_type && same_format l.format l.format && same_range l.range l.range) (bytes_eq l.colorimetry l.colorimetry)
-    (and_all (l.payload_type == l.payload_type && same_format l.format l.format) (same_range l.range l.range)
-    (and_all (l.payload_type == l.payload_type) (same_format l.format l.format) (number_self l.payload_type) (format_self l.format))
+    and_all (l.payload_type == l.payload_type && same_format l.format l.format
+    && same_range l.range l.range) (bytes_eq l.colorimetry l.colorimetry)
+    (and_all (l.payload_type == l.payload_type && same_format l.format l.format)
+    (same_range l.range l.range)
+    (and_all (l.payload_type == l.payload_type) (same_format l.format l.format)
+    (number_self l.payload_type) (format_self l.format))
     (range_self l.range))
     (same_bytes l.colorimetry l.colorimetry refl)
 
@@ -146,7 +178,8 @@ as_none : sections_walk [] ≡ Err NoVideo
 unfolding sections_walk
 as_none = refl
 
-as_many : (s t u : Section) (rest : List Section) → sections_walk (s ∷ t ∷ u ∷ rest) ≡ Err TooManyLegs
+as_many : (s t u : Section) (rest : List Section)
+    → sections_walk (s ∷ t ∷ u ∷ rest) ≡ Err TooManyLegs
 unfolding sections_walk
 as_many s t u rest = refl
 
@@ -164,7 +197,8 @@ one_err : (r : Result Read SdpFault) (f : SdpFault) → one_of r ≡ Err f → r
 one_err (Ok x) f e = no_answer (described (x.0 ∷ []) x.1) f (one x) refl e
 one_err (Err g) f e = ap (λ (z : SdpFault). Err z) (err_same g f (Err g) refl e)
 
-one_ok : (r : Result Read SdpFault) (d : Description) → one_of r ≡ Ok d → (x : Read) × (r ≡ Ok x) × (described (x.0 ∷ []) x.1 ≡ d)
+one_ok : (r : Result Read SdpFault) (d : Description) → one_of r ≡ Ok d
+    → (x : Read) × (r ≡ Ok x) × (described (x.0 ∷ []) x.1 ≡ d)
 one_ok (Ok x) d e = (x, refl, ok_same (described (x.0 ∷ []) x.1) d (one x) refl e)
 one_ok (Err g) d e = no_answer d g (Err g) e refl
 
@@ -185,22 +219,37 @@ record Alike (r q : Result Read SdpFault) (d : Description) : Type 0 where
   alike : same_leg first.1 second.1 ≡ true
   said : described (first.0 ∷ second.0 ∷ []) first.1 ≡ d
 
-both_err : (x y : Read) (t : Bool) (f : SdpFault) → same_leg x.1 y.1 ≡ t → (refused LegsDiffer (not t) >>= λ u. Ok (described (x.0 ∷ y.0 ∷ []) x.1)) ≡ Err f
+both_err : (x y : Read) (t : Bool) (f : SdpFault) → same_leg x.1 y.1 ≡ t
+    → (refused LegsDiffer (not t) >>= λ u. Ok (described (x.0 ∷ y.0 ∷ []) x.1)) ≡ Err f
     → (same_leg x.1 y.1 ≡ false) × (f ≡ LegsDiffer)
-both_err x y true f h e = no_answer (described (x.0 ∷ y.0 ∷ []) x.1) f (Ok (described (x.0 ∷ y.0 ∷ []) x.1)) refl e
+both_err x y true f h e =
+    no_answer (described (x.0 ∷ y.0 ∷ []) x.1) f (Ok (described (x.0 ∷ y.0 ∷ []) x.1)) refl e
 both_err x y false f h e = (h, sym (err_same LegsDiffer f (Err LegsDiffer) refl e))
 
-both_ok : (x y : Read) (t : Bool) (d : Description) → same_leg x.1 y.1 ≡ t → (refused LegsDiffer (not t) >>= λ u. Ok (described (x.0 ∷ y.0 ∷ []) x.1)) ≡ Ok d
+both_ok : (x y : Read) (t : Bool) (d : Description) → same_leg x.1 y.1 ≡ t
+    → (refused LegsDiffer (not t) >>= λ u. Ok (described (x.0 ∷ y.0 ∷ []) x.1)) ≡ Ok d
     → (same_leg x.1 y.1 ≡ true) × (described (x.0 ∷ y.0 ∷ []) x.1 ≡ d)
-both_ok x y true d h e = (h, ok_same (described (x.0 ∷ y.0 ∷ []) x.1) d (Ok (described (x.0 ∷ y.0 ∷ []) x.1)) refl e)
+both_ok x y true d h e =
+    (h, ok_same (described (x.0 ∷ y.0 ∷ []) x.1) d (Ok (described (x.0 ∷ y.0 ∷ []) x.1)) refl e)
 both_ok x y false d h e = no_answer d LegsDiffer (Err LegsDiffer) e refl
 
-two_err : (r q : Result Read SdpFault) (f : SdpFault) → two_of r q ≡ Err f → (r ≡ Err f) ⊎ (((x : Read) × (r ≡ Ok x) × (q ≡ Err f)) ⊎ Unlike r q f)
+two_err : (r q : Result Read SdpFault) (f : SdpFault) → two_of r q ≡ Err f
+    → (r ≡ Err f) ⊎ (((x : Read) × (r ≡ Ok x) × (q ≡ Err f)) ⊎ Unlike r q f)
 two_err (Err g) q f e = inl (ap (λ (z : SdpFault). Err z) (err_same g f (Err g) refl e))
-two_err (Ok x) (Err g) f e = inr (inl (x, refl, ap (λ (z : SdpFault). Err z) (err_same g f (Err g) refl e)))
+two_err (Ok x) (Err g) f e =
+    inr (inl (x, refl, ap (λ (z : SdpFault). Err z) (err_same g f (Err g) refl e)))
 two_err (Ok x) (Ok y) f e =
     let h = both_err x y (same_leg x.1 y.1) f refl e in
-    inr (inr (record { first = x; second = y; read = refl; second_read = refl; unlike = h.0; fault = h.1 }))
+    inr (inr
+    (record {
+      first = x;
+      second = y;
+      read = refl;
+      second_read = refl;
+      unlike = h.0;
+      fault =
+          h.1;
+    }))
 
 two_ok : (r q : Result Read SdpFault) (d : Description) → two_of r q ≡ Ok d → Alike r q d
 two_ok (Err g) q d e = no_answer d g (Err g) e refl
@@ -217,7 +266,8 @@ one_fault s f = (
   λ h. as_one s ∙ ap one_of ((section_fault s f).1 h),
 )
 
-two_fault_from : (s t : Section) (f : SdpFault) → sections_walk (s ∷ t ∷ []) ≡ Err f → IsTextFault f (s ∷ t ∷ [])
+two_fault_from : (s t : Section) (f : SdpFault) → sections_walk (s ∷ t ∷ []) ≡ Err f
+    → IsTextFault f (s ∷ t ∷ [])
 two_fault_from s t f e =
     elim (two_err (section_walk s) (section_walk t) f (sym (as_two s t) ∙ e)) [
       | inl h ↦ inl ((section_fault s f).0 h)
@@ -236,33 +286,53 @@ two_fault_from s t f e =
                 second_leg = u.second.1;
                 says = a.1;
                 second_says = b.1;
-                unlike = λ same. not_both (same_leg u.first.1 u.second.1) (ap (same_leg u.first.1) (sym same) ∙ leg_self u.first.1) u.unlike;
+                unlike =
+                    λ same. not_both (same_leg u.first.1 u.second.1)
+                    (ap (same_leg u.first.1) (sym same) ∙ leg_self u.first.1) u.unlike;
               },
               u.fault,
             ))
       ]
     ]
 
-second_fault : (s t : Section) (f : SdpFault) → IsFaultless s → IsFirstFault f t → (r : Result Read SdpFault) → section_walk s ≡ r → two_of r (section_walk t) ≡ Err f
+second_fault : (s t : Section) (f : SdpFault) → IsFaultless s → IsFirstFault f t
+    → (r : Result Read SdpFault) → section_walk s ≡ r → two_of r (section_walk t) ≡ Err f
 second_fault s t f clean h (Ok x) e = ap (λ q. q >>= λ y. both x y) ((section_fault t f).1 h)
 second_fault s t f clean h (Err g) e = absurd (clean g ((section_fault s g).0 e).0)
 
-two_fault_to : (s t : Section) (f : SdpFault) → IsTextFault f (s ∷ t ∷ []) → sections_walk (s ∷ t ∷ []) ≡ Err f
-two_fault_to s t f (inl h) = as_two s t ∙ ap (λ r. two_of r (section_walk t)) ((section_fault s f).1 h)
+two_fault_to : (s t : Section) (f : SdpFault) → IsTextFault f (s ∷ t ∷ [])
+    → sections_walk (s ∷ t ∷ []) ≡ Err f
+two_fault_to s t f (inl h) =
+    as_two s t ∙ ap (λ r. two_of r (section_walk t)) ((section_fault s f).1 h)
 two_fault_to s t f (inr (inl h)) = as_two s t ∙ second_fault s t f h.0 h.1 (section_walk s) refl
 two_fault_to s t f (inr (inr h)) =
     let d : Differ s t = h.2 in
     let a : section_walk s ≡ Ok (d.port, d.leg) = section_said s d.port d.leg h.0 d.says in
-    let b : section_walk t ≡ Ok (d.second_port, d.second_leg) = section_said t d.second_port d.second_leg h.1 d.second_says in
-    let u : same_leg d.leg d.second_leg ≡ false = false_from (same_leg d.leg d.second_leg) (λ same. d.unlike (leg_is d.leg d.second_leg same)) in
-    as_two s t ∙ ap (λ r. two_of r (section_walk t)) a ∙ ap (λ q. q >>= λ y. both (d.port, d.leg) y) b
-    ∙ ap (λ (x : Bool). refused LegsDiffer (not x) >>= λ t. Ok (described (d.port ∷ d.second_port ∷ []) d.leg)) u ∙ ap (λ (z : SdpFault). Err z) (sym h.3)
+    let b : section_walk t ≡ Ok (d.second_port, d.second_leg) =
+    section_said t d.second_port d.second_leg h.1 d.second_says in
+    let u : same_leg d.leg d.second_leg ≡ false =
+    false_from (same_leg d.leg d.second_leg)
+    (λ same. d.unlike (leg_is d.leg d.second_leg same)) in
+    as_two s t ∙ ap (λ r. two_of r (section_walk t)) a
+    ∙ ap (λ q. q >>= λ y. both (d.port, d.leg) y) b
+    ∙ ap
+    (λ (x : Bool). refused LegsDiffer (not x) >>=
+    λ t. Ok (described (d.port ∷ d.second_port ∷ []) d.leg)) u
+    ∙ ap (λ (z : SdpFault). Err z) (sym h.3)
 
-pub sections_fault : (ss : List Section) (f : SdpFault) → (sections_walk ss ≡ Err f) ↔ IsTextFault f ss
-sections_fault [] f = (λ e. err_same f NoVideo (sections_walk []) e as_none, λ h. as_none ∙ ap (λ (z : SdpFault). Err z) (sym h))
+pub sections_fault : (ss : List Section) (f : SdpFault)
+    → (sections_walk ss ≡ Err f) ↔ IsTextFault f ss
+sections_fault [] f = (
+  λ e. err_same f NoVideo (sections_walk []) e as_none,
+  λ h. as_none
+      ∙ ap (λ (z : SdpFault). Err z) (sym h),
+)
 sections_fault (s ∷ []) f = one_fault s f
 sections_fault (s ∷ t ∷ []) f = (two_fault_from s t f, two_fault_to s t f)
-sections_fault (s ∷ t ∷ u ∷ rest) f = (λ e. err_same f TooManyLegs (sections_walk (s ∷ t ∷ u ∷ rest)) e (as_many s t u rest), λ h. as_many s t u rest ∙ ap (λ (z : SdpFault). Err z) (sym h))
+sections_fault (s ∷ t ∷ u ∷ rest) f = (
+  λ e. err_same f TooManyLegs (sections_walk (s ∷ t ∷ u ∷ rest)) e (as_many s t u rest),
+  λ h. as_many s t u rest ∙ ap (λ (z : SdpFault). Err z) (sym h),
+)
 
 one_said_from : (s : Section) (d : Description) → sections_walk (s ∷ []) ≡ Ok d → OneSays s d
 one_said_from s d e =
@@ -277,9 +347,11 @@ one_said_from s d e =
 
 one_said_to : (s : Section) (d : Description) → OneSays s d → sections_walk (s ∷ []) ≡ Ok d
 one_said_to s d h =
-    as_one s ∙ ap one_of (section_said s h.port d.leg h.faultless h.says) ∙ ap (λ (ps : List ℕ). Ok (described ps d.leg)) (sym h.ports)
+    as_one s ∙ ap one_of (section_said s h.port d.leg h.faultless h.says)
+    ∙ ap (λ (ps : List ℕ). Ok (described ps d.leg)) (sym h.ports)
 
-both_said_from : (s t : Section) (d : Description) → sections_walk (s ∷ t ∷ []) ≡ Ok d → BothSay s t d
+both_said_from : (s t : Section) (d : Description) → sections_walk (s ∷ t ∷ []) ≡ Ok d
+    → BothSay s t d
 both_said_from s t d e =
     let x = two_ok (section_walk s) (section_walk t) d (sym (as_two s t) ∙ e) in
     let a = section_read s x.first x.read in
@@ -296,56 +368,77 @@ both_said_from s t d e =
       ports = sym (ap (λ (z : Description). z.ports) x.said);
     }
 
-pub two_read : (s t : Section) (p q : ℕ) (l : Leg) → section_walk s ≡ Ok (p, l) → section_walk t ≡ Ok (q, l) → sections_walk (s ∷ t ∷ []) ≡ Ok (described (p ∷ q ∷ []) l)
+pub two_read : (s t : Section) (p q : ℕ) (l : Leg) → section_walk s ≡ Ok (p, l)
+    → section_walk t ≡ Ok (q, l) → sections_walk (s ∷ t ∷ []) ≡ Ok (described (p ∷ q ∷ []) l)
 two_read s t p q l a b =
     as_two s t ∙ ap (λ r. two_of r (section_walk t)) a ∙ ap (λ r. r >>= λ y. both (p, l) y) b
-    ∙ ap (λ (x : Bool). refused LegsDiffer (not x) >>= λ t. Ok (described (p ∷ q ∷ []) l)) (leg_self l)
+    ∙ ap (λ (x : Bool). refused LegsDiffer (not x) >>= λ t. Ok (described (p ∷ q ∷ []) l))
+    (leg_self l)
 
-pub one_read : (s : Section) (p : ℕ) (l : Leg) → section_walk s ≡ Ok (p, l) → sections_walk (s ∷ []) ≡ Ok (described (p ∷ []) l)
+pub one_read : (s : Section) (p : ℕ) (l : Leg) → section_walk s ≡ Ok (p, l)
+    → sections_walk (s ∷ []) ≡ Ok (described (p ∷ []) l)
 one_read s p l a = as_one s ∙ ap one_of a
 
 both_said_to : (s t : Section) (d : Description) → BothSay s t d → sections_walk (s ∷ t ∷ []) ≡ Ok d
 both_said_to s t d h =
-    two_read s t h.port h.second_port d.leg (section_said s h.port d.leg h.faultless h.says) (section_said t h.second_port d.leg h.second_faultless h.second_says)
+    two_read s t h.port h.second_port d.leg (section_said s h.port d.leg h.faultless h.says)
+    (section_said t h.second_port d.leg h.second_faultless h.second_says)
     ∙ ap (λ (ps : List ℕ). Ok (described ps d.leg)) (sym h.ports)
 
-pub sections_said : (ss : List Section) (d : Description) → (sections_walk ss ≡ Ok d) ↔ IsDescribed d ss
+pub sections_said : (ss : List Section) (d : Description)
+    → (sections_walk ss ≡ Ok d) ↔ IsDescribed d ss
 sections_said [] d = (λ e. no_answer d NoVideo (sections_walk []) e as_none, λ h. absurd h)
 sections_said (s ∷ []) d = (one_said_from s d, one_said_to s d)
 sections_said (s ∷ t ∷ []) d = (both_said_from s t d, both_said_to s t d)
-sections_said (s ∷ t ∷ u ∷ rest) d = (λ e. no_answer d TooManyLegs (sections_walk (s ∷ t ∷ u ∷ rest)) e (as_many s t u rest), λ h. absurd h)
+sections_said (s ∷ t ∷ u ∷ rest) d = (
+  λ e. no_answer d TooManyLegs (sections_walk (s ∷ t ∷ u ∷ rest)) e (as_many s t u rest),
+  λ h. absurd h,
+)
 
 -- TEXTS
 
-pub text_fault : (text : List ℕ) (f : SdpFault) → (text_walk text ≡ Err f) ↔ IsTextFault f (video_sections (lines text))
+pub text_fault : (text : List ℕ) (f : SdpFault)
+    → (text_walk text ≡ Err f) ↔ IsTextFault f (video_sections (lines text))
 unfolding text_walk
 text_fault text f = sections_fault (video_sections (lines text)) f
 
-pub text_said : (text : List ℕ) (d : Description) → (text_walk text ≡ Ok d) ↔ IsDescribed d (video_sections (lines text))
+pub text_said : (text : List ℕ) (d : Description)
+    → (text_walk text ≡ Ok d) ↔ IsDescribed d (video_sections (lines text))
 unfolding text_walk
 text_said text d = sections_said (video_sections (lines text)) d
 
 -- no text without a video section has another fault, and no text of more than two
 pub no_video : (text : List ℕ) → (text_walk text ≡ Err NoVideo) ↔ (video_sections (lines text) ≡ [])
-no_video text = (λ e. none_from (video_sections (lines text)) ((text_fault text NoVideo).0 e), λ e. (text_fault text NoVideo).1 (subst (λ (ss : List Section). IsTextFault NoVideo ss) (sym e) refl))
+no_video text = (
+  λ e. none_from (video_sections (lines text)) ((text_fault text NoVideo).0 e),
+  λ e. (text_fault text NoVideo).1
+      (subst (λ (ss : List Section). IsTextFault NoVideo ss) (sym e) refl),
+)
   where
     none_from : (ss : List Section) → IsTextFault NoVideo ss → ss ≡ []
     none_from [] h = refl
     none_from (s ∷ []) h = absurd h.0.holds
     none_from (s ∷ t ∷ []) (inl h) = absurd h.0.holds
     none_from (s ∷ t ∷ []) (inr (inl h)) = absurd h.1.0.holds
-    none_from (s ∷ t ∷ []) (inr (inr h)) = absurd (let k : NoVideo ≡ LegsDiffer = h.3 in let z : ⊥ = cc in z)
-    none_from (s ∷ t ∷ u ∷ rest) h = absurd (let k : NoVideo ≡ TooManyLegs = h in let z : ⊥ = cc in z)
+    none_from (s ∷ t ∷ []) (inr (inr h)) =
+        absurd (let k : NoVideo ≡ LegsDiffer = h.3 in let z : ⊥ = cc in z)
+    none_from (s ∷ t ∷ u ∷ rest) h =
+        absurd (let k : NoVideo ≡ TooManyLegs = h in let z : ⊥ = cc in z)
 
-pub too_many_legs : (text : List ℕ) → (text_walk text ≡ Err TooManyLegs) ↔ (2 < length (video_sections (lines text)))
-too_many_legs text = (λ e. many_from (video_sections (lines text)) ((text_fault text TooManyLegs).0 e), λ h. (text_fault text TooManyLegs).1 (many_to (video_sections (lines text)) h))
+pub too_many_legs : (text : List ℕ)
+    → (text_walk text ≡ Err TooManyLegs) ↔ (2 < length (video_sections (lines text)))
+too_many_legs text = (
+  λ e. many_from (video_sections (lines text)) ((text_fault text TooManyLegs).0 e),
+  λ h. (text_fault text TooManyLegs).1 (many_to (video_sections (lines text)) h),
+)
   where
     many_from : (ss : List Section) → IsTextFault TooManyLegs ss → 2 < length ss
     many_from [] h = absurd (let k : TooManyLegs ≡ NoVideo = h in let z : ⊥ = cc in z)
     many_from (s ∷ []) h = absurd h.0.holds
     many_from (s ∷ t ∷ []) (inl h) = absurd h.0.holds
     many_from (s ∷ t ∷ []) (inr (inl h)) = absurd h.1.0.holds
-    many_from (s ∷ t ∷ []) (inr (inr h)) = absurd (let k : TooManyLegs ≡ LegsDiffer = h.3 in let z : ⊥ = cc in z)
+    many_from (s ∷ t ∷ []) (inr (inr h)) =
+        absurd (let k : TooManyLegs ≡ LegsDiffer = h.3 in let z : ⊥ = cc in z)
     many_from (s ∷ t ∷ u ∷ rest) h = omega arith
 
     many_to : (ss : List Section) → 2 < length ss → IsTextFault TooManyLegs ss
@@ -354,8 +447,12 @@ too_many_legs text = (λ e. many_from (video_sections (lines text)) ((text_fault
     many_to (s ∷ t ∷ []) h = absurd (omega arith)
     many_to (s ∷ t ∷ u ∷ rest) h = refl
 
-pub legs_differ : (text : List ℕ) → (text_walk text ≡ Err LegsDiffer) ↔ TwoDiffer (video_sections (lines text))
-legs_differ text = (λ e. differ_from (video_sections (lines text)) ((text_fault text LegsDiffer).0 e), λ h. (text_fault text LegsDiffer).1 (differ_to (video_sections (lines text)) h))
+pub legs_differ : (text : List ℕ)
+    → (text_walk text ≡ Err LegsDiffer) ↔ TwoDiffer (video_sections (lines text))
+legs_differ text = (
+  λ e. differ_from (video_sections (lines text)) ((text_fault text LegsDiffer).0 e),
+  λ h. (text_fault text LegsDiffer).1 (differ_to (video_sections (lines text)) h),
+)
   where
     differ_from : (ss : List Section) → IsTextFault LegsDiffer ss → TwoDiffer ss
     differ_from [] h = absurd (let k : LegsDiffer ≡ NoVideo = h in let z : ⊥ = cc in z)
@@ -363,7 +460,8 @@ legs_differ text = (λ e. differ_from (video_sections (lines text)) ((text_fault
     differ_from (s ∷ t ∷ []) (inl h) = absurd h.0.holds
     differ_from (s ∷ t ∷ []) (inr (inl h)) = absurd h.1.0.holds
     differ_from (s ∷ t ∷ []) (inr (inr h)) = (h.0, h.1, h.2)
-    differ_from (s ∷ t ∷ u ∷ rest) h = absurd (let k : LegsDiffer ≡ TooManyLegs = h in let z : ⊥ = cc in z)
+    differ_from (s ∷ t ∷ u ∷ rest) h =
+        absurd (let k : LegsDiffer ≡ TooManyLegs = h in let z : ⊥ = cc in z)
 
     differ_to : (ss : List Section) → TwoDiffer ss → IsTextFault LegsDiffer ss
     differ_to [] h = absurd h
@@ -373,12 +471,14 @@ legs_differ text = (λ e. differ_from (video_sections (lines text)) ((text_fault
 
 -- WHAT A READER RETURNS
 
-pub said_from : {X : Type 0} (r : Result X SdpFault) (view : X → Description) (text : List ℕ) → Gives view r (text_walk text)
+pub said_from : {X : Type 0} (r : Result X SdpFault) (view : X → Description) (text : List ℕ)
+    → Gives view r (text_walk text)
     → IfOk r (λ x. IsDescribed (view x) (video_sections (lines text)))
 said_from (Ok x) view text h = (text_said text (view x)).0 h
 said_from (Err e) view text h = tt
 
-pub fault_from : {X : Type 0} (r : Result X SdpFault) (view : X → Description) (text : List ℕ) → Gives view r (text_walk text)
+pub fault_from : {X : Type 0} (r : Result X SdpFault) (view : X → Description) (text : List ℕ)
+    → Gives view r (text_walk text)
     → IfErr r (λ f. (f ≡ NoMemory) ⊎ IsTextFault f (video_sections (lines text)))
 fault_from (Ok x) view text h = tt
 fault_from (Err e) view text (inl h) = inl h

@@ -20,7 +20,8 @@ pub enum Call {
     TakeSecond,
     /// By B, where each hundredth datagram didn't come by A.
     TakeLost,
-    /// Another picture by B: each so manyth sample differs, in such a part of the rows and of each row.
+    /// Another picture by B: each so manyth sample differs, in such a part of the rows and of each
+    /// row.
     Differ(usize, usize),
     /// Of a whole picture, into a frame of which nothing is known.
     MergeBlank,
@@ -31,7 +32,8 @@ pub enum Call {
     TryCopy,
 }
 
-/// What a call makes in memory that the allocator gives, and what is let go once the clock was read.
+/// What a call makes in memory that the allocator gives, and what is let go once the clock was
+/// read.
 #[derive(Drop)]
 pub enum Made {
     Nothing,
@@ -39,7 +41,8 @@ pub enum Made {
     Frame(Frame),
 }
 
-/// What the calls work on, made once. The spare frame is exchanged for the receiver's where its window slides.
+/// What the calls work on, made once. The spare frame is exchanged for the receiver's where its
+/// window slides.
 #[derive(Drop)]
 pub struct Room {
     pub octets: Vec<u8>,

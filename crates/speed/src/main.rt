@@ -1,7 +1,7 @@
 //! Measures the calls of the hot path as ratios to a copy of the same octets, all in one run.
 //!
-//! Without words it makes one round of a small picture and prints nothing. Its words are `measure`, or `measure large`
-//! for a picture of 8192 by 8192, which takes about 2 GB.
+//! Without words it makes one round of a small picture and prints nothing. Its words are `measure`,
+//! or `measure large` for a picture of 8192 by 8192, which takes about 2 GB.
 #![tactic(auto)]
 
 mod calls;
@@ -15,7 +15,8 @@ use st_format::{Depth, Format, Sampling};
 use std::env;
 use std::process::ExitCode;
 
-/// A depth, columns and rows of 4:2:2, the most octets of a packet, and how many of the calls are measured.
+/// A depth, columns and rows of 4:2:2, the most octets of a packet, and how many of the calls are
+/// measured.
 type Case = (Depth, u32, u32, u32, usize);
 
 const CASES: [Case; 5] = [
@@ -114,8 +115,8 @@ fn spend(
     room.best(rt, call, (first, &other), rounds)
 }
 
-/// Prints a call's line: the microseconds of its best round, its ratio to the copy of so many octets (the copy's time
-/// divided by its own) and its nanoseconds for 1000 octets.
+/// Prints a call's line: the microseconds of its best round, its ratio to the copy of so many
+/// octets (the copy's time divided by its own) and its nanoseconds for 1000 octets.
 fn print(
     rt: &HostRuntime,
     name: &str,

@@ -7,7 +7,8 @@ use st_format::memory::MemoryDatagrams;
 use st_format::{DatagramSink, Format, Picture, SinkFault};
 use std::alloc::Global;
 
-/// Which samples of a picture are changed: each so manyth (none at 0), in such a part of the rows and of each row.
+/// Which samples of a picture are changed: each so manyth (none at 0), in such a part of the rows
+/// and of each row.
 #[derive(Clone, Copy)]
 pub struct Change(pub usize, pub usize);
 
@@ -64,8 +65,8 @@ impl Stream {
     }
 }
 
-/// A picture of values without order, the upper bits of a linear congruential generator; the last bit of those that
-/// are changed is turned.
+/// A picture of values without order, the upper bits of a linear congruential generator; the last
+/// bit of those that are changed is turned.
 fn picture(alloc: Global, format: Format, change: Change) -> Result<Picture, Fault> {
     let mut picture = Picture::new(alloc, format, [0, 0, 0]).ok().ok_or(Fault)?;
     let mut state = 1u64;

@@ -1,9 +1,11 @@
 -- The greatest common divisor, and fractions in lowest terms.
-use Rattle.std.proofs.Common.{◌≡◌, ℕ, zero, suc, ◌*◌, ◌/◌, ◌%◌, ◌<◌, ◌≤◌, Bool, true, false, cond, eqb, ◌&&◌, refl, sym, ◌∙◌, subst, arith}
+use Rattle.std.proofs.Common.{◌≡◌, ℕ, zero, suc, ◌*◌, ◌/◌, ◌%◌, ◌<◌, ◌≤◌, Bool, true, false, cond}
+use Rattle.std.proofs.Common.{eqb, ◌&&◌, refl, sym, ◌∙◌, subst, arith}
 use Rattle.std.specs.Int.{IsGcd}
 use Rattle.std.proofs.lemmas.Bool.{eqb-true, eq-eqb}
 use Prim.Native.Nat.{◌∣◌}
-use Rattle.std.proofs.Math.Nat.{pos_of_dvd_of_pos, one-dvd, mul-div_cancel', mul-dvd-mul_left, le_of_mul-le-mul_left, div-le_self}
+use Rattle.std.proofs.Math.Nat.{pos_of_dvd_of_pos, one-dvd, mul-div_cancel', mul-dvd-mul_left}
+use Rattle.std.proofs.Math.Nat.{le_of_mul-le-mul_left, div-le_self}
 use Rattle.std.proofs.lemmas.Nat.Gcd.{dvd_of_mod-eq-zero, mod-eq-zero_of_dvd, le_of_dvd}
 use Rattle.st_format.specs.Rate.{greatest_up_to, common_divisor}
 use Rattle.st_format.specs.Limits.{IsRate}
@@ -28,9 +30,12 @@ greatest_at limit n d g true pos le is test rest =
     omega arith
 greatest_at limit n d g false pos le is test rest =
     let other : suc limit ≡ g → ⊥ = λ e.
-    let in_n : n % suc limit ≡ 0 = mod-eq-zero_of_dvd (suc limit) (subst (λ (k : ℕ). k ∣ n) (sym e) is.0) in
-    let in_d : d % suc limit ≡ 0 = mod-eq-zero_of_dvd (suc limit) (subst (λ (k : ℕ). k ∣ d) (sym e) is.1) in
-    let t : (eqb (n % suc limit) 0 && eqb (d % suc limit) 0) ≡ true = rw (eq-eqb (n % suc limit) 0 in_n, eq-eqb (d % suc limit) 0 in_d) refl in
+    let in_n : n % suc limit ≡ 0 =
+    mod-eq-zero_of_dvd (suc limit) (subst (λ (k : ℕ). k ∣ n) (sym e) is.0) in
+    let in_d : d % suc limit ≡ 0 =
+    mod-eq-zero_of_dvd (suc limit) (subst (λ (k : ℕ). k ∣ d) (sym e) is.1) in
+    let t : (eqb (n % suc limit) 0 && eqb (d % suc limit) 0) ≡ true =
+    rw (eq-eqb (n % suc limit) 0 in_n, eq-eqb (d % suc limit) 0 in_d) refl in
     let no : false ≡ true = sym test ∙ t in cc in
     rest (omega (arith, other))
 
@@ -38,7 +43,8 @@ greatest_is : (limit n d g : ℕ) → 0 < d → g ≤ limit → IsGcd n d g → 
 unfolding greatest_up_to
 greatest_is zero n d g pos le is = let some : 0 < g = gcd_pos n d g pos is in absurd (omega arith)
 greatest_is (suc limit) n d g pos le is =
-    greatest_at limit n d g (eqb (n % suc limit) 0 && eqb (d % suc limit) 0) pos le is refl (λ less. greatest_is limit n d g pos less is)
+    greatest_at limit n d g (eqb (n % suc limit) 0 && eqb (d % suc limit) 0) pos le is refl
+    (λ less. greatest_is limit n d g pos less is)
 
 -- The greatest common divisor is what the definition finds.
 pub common_divisor-is : (n d g : ℕ) → 0 < d → IsGcd n d g → g ≡ common_divisor n d
@@ -81,6 +87,8 @@ rate_rest n d g rate is =
       most_n = omega (arith, div-le_self n g, rate.most_n);
       some_d = pos_factor g (d / g) d whole_d rate.some_d;
       most_d = omega (arith, div-le_self d g, rate.most_d);
-      at_least_one = le_of_mul-le-mul_left {k = g} (omega (arith, whole_n, whole_d, rate.at_least_one)) some;
-      at_most_300 = le_of_mul-le-mul_left {k = g} (omega (arith, whole_n, whole_d, rate.at_most_300)) some;
+      at_least_one =
+          le_of_mul-le-mul_left {k = g} (omega (arith, whole_n, whole_d, rate.at_least_one)) some;
+      at_most_300 =
+          le_of_mul-le-mul_left {k = g} (omega (arith, whole_n, whole_d, rate.at_most_300)) some;
     }

@@ -1,9 +1,11 @@
 -- Whole octets spell values, and only these.
-use Rattle.std.proofs.Common.{◌≡◌, ℕ, zero, suc, ◌+◌, ◌*◌, ◌/◌, ◌%◌, ◌^◌, ◌<◌, ◌≤◌, List, [], ◌∷◌, ◌++◌, length, map, take, drop, refl, sym, ap, ◌∙◌, subst, arith}
+use Rattle.std.proofs.Common.{◌≡◌, ℕ, zero, suc, ◌+◌, ◌*◌, ◌/◌, ◌%◌, ◌^◌, ◌<◌, ◌≤◌, List, [], ◌∷◌}
+use Rattle.std.proofs.Common.{◌++◌, length, map, take, drop, refl, sym, ap, ◌∙◌, subst, arith}
 use Rattle.std.specs.List.{flat_map, AllByRecursion}
 use Rattle.std.proofs.lemmas.List.{length-append, length-take-le, length-drop, take-append-drop}
 use Rattle.std.proofs.lemmas.Nat.{div-add-mod', pow_pos, pow-add, div-mul-add, mul-add-lt}
-use Rattle.std.proofs.Math.Nat.{mod-eq_of_lt, mul-div_right, pow-succ', mul-add-div_right, mul_assoc, mul_comm}
+use Rattle.std.proofs.Math.Nat.{mod-eq_of_lt, mul-div_right, pow-succ', mul-add-div_right}
+use Rattle.std.proofs.Math.Nat.{mul_assoc, mul_comm}
 use Rattle.st_format.specs.Samples.{bits, number, pieces, values_in, Spells}
 use Rattle.st_format.proofs.Spelled.{length-bits, values_in-spelled, values_in_octets}
 
@@ -23,7 +25,8 @@ bits-low (suc n) a b =
     let tail : bits n (a * 2 ^ suc n + b) ≡ bits n b = rw (doubled n a) (bits-low n (a * 2) b) in
     rw (low_head n a b, tail) refl
 
-pub AllByRecursion-append : (P : ℕ → Type 0) (xs ys : List ℕ) → AllByRecursion P xs → AllByRecursion P ys → AllByRecursion P (xs ++ ys)
+pub AllByRecursion-append : (P : ℕ → Type 0) (xs ys : List ℕ) → AllByRecursion P xs
+    → AllByRecursion P ys → AllByRecursion P (xs ++ ys)
 AllByRecursion-append P [] ys a b = b
 AllByRecursion-append P (x ∷ xs) ys a b = (a.0, AllByRecursion-append P xs ys a.1 b)
 
@@ -37,14 +40,17 @@ bits_of_bits (suc n) v = (omega arith, bits_of_bits n v)
 
 pub all_bits : (n : ℕ) (vs : List ℕ) → Bits (flat_map (bits n) vs)
 all_bits n [] = tt
-all_bits n (v ∷ vs) = AllByRecursion-append (λ b. b < 2) (bits n v) (flat_map (bits n) vs) (bits_of_bits n v) (all_bits n vs)
+all_bits n (v ∷ vs) =
+    AllByRecursion-append (λ b. b < 2) (bits n v) (flat_map (bits n) vs) (bits_of_bits n v)
+    (all_bits n vs)
 
 number-lt : (bs : List ℕ) → Bits bs → number bs < 2 ^ length bs
 unfolding number
 number-lt [] ok = omega arith
 number-lt (b ∷ bs) ok =
     let e : suc (length bs) ≡ length bs + 1 = omega arith in
-    rw (e, pow-add 2 (length bs) 1) (mul-add-lt b (2 ^ length bs) (number bs) 2 ok.0 (number-lt bs ok.1))
+    rw (e, pow-add 2 (length bs) 1)
+    (mul-add-lt b (2 ^ length bs) (number bs) 2 ok.0 (number-lt bs ok.1))
 
 -- a number made of bits has these bits
 bits-number : (bs : List ℕ) → Bits bs → bits (length bs) (number bs) ≡ bs
@@ -52,11 +58,22 @@ unfolding bits number
 bits-number [] ok = refl
 bits-number (b ∷ bs) ok =
     let e : b % 2 ≡ b = mod-eq_of_lt ok.0 in
-    rw (div-mul-add b (2 ^ length bs) (number bs) (number-lt bs ok.1), e, bits-low (length bs) b (number bs), bits-number bs ok.1) refl
+    rw (
+      div-mul-add b (2 ^ length bs) (number bs) (number-lt bs ok.1),
+      e,
+      bits-low (length bs) b (number bs),
+      bits-number bs ok.1,
+    ) refl
 
 pub length-all_bits : (n : ℕ) (vs : List ℕ) → length (flat_map (bits n) vs) ≡ n * length vs
 length-all_bits n [] = omega arith
-length-all_bits n (v ∷ vs) = omega (arith, length-append (bits n v) (flat_map (bits n) vs), length-bits n v, length-all_bits n vs)
+length-all_bits n (v ∷ vs) =
+    omega (
+      arith,
+      length-append (bits n v) (flat_map (bits n) vs),
+      length-bits n v,
+      length-all_bits n vs,
+    )
 
 front : (n : ℕ) (bs : List ℕ) → Bits bs → Bits (take n bs)
 front zero bs ok = tt
@@ -73,14 +90,20 @@ piece n bs le ok =
     let e : length (take n bs) ≡ n = length-take-le n bs le in
     subst (λ k. bits k (number (take n bs)) ≡ take n bs) e (bits-number (take n bs) (front n bs ok))
 
-pub same_pieces : (n count : ℕ) (bs : List ℕ) → length bs ≡ n * count → Bits bs → flat_map (bits n) (map number (pieces n count bs)) ≡ bs
+pub same_pieces : (n count : ℕ) (bs : List ℕ) → length bs ≡ n * count → Bits bs
+    → flat_map (bits n) (map number (pieces n count bs)) ≡ bs
 unfolding pieces
 same_pieces n zero [] long ok = refl
 same_pieces n zero (b ∷ bs) long ok = absurd (omega arith)
 same_pieces n (suc count) bs long ok =
-    rw (piece n bs (omega arith) ok, same_pieces n count (drop n bs) (omega (arith, length-drop n bs)) (rest n bs ok)) (take-append-drop n bs)
+    rw (
+      piece n bs (omega arith) ok,
+      same_pieces n count (drop n bs) (omega (arith, length-drop n bs)) (rest n bs ok),
+    )
+    (take-append-drop n bs)
 
-fit_pieces : (n count : ℕ) (bs : List ℕ) → n * count ≤ length bs → Bits bs → AllByRecursion (λ v. v < 2 ^ n) (map number (pieces n count bs))
+fit_pieces : (n count : ℕ) (bs : List ℕ) → n * count ≤ length bs → Bits bs
+    → AllByRecursion (λ v. v < 2 ^ n) (map number (pieces n count bs))
 unfolding pieces
 fit_pieces n zero bs long ok = tt
 fit_pieces n (suc count) bs long ok =
@@ -95,23 +118,39 @@ unfolding values_in
 values_in-fit n octets =
     let bs : List ℕ = flat_map (bits 8) octets in
     let count : ℕ = 8 * length octets / n in
-    fit_pieces n count bs (omega (arith, div-add-mod' (8 * length octets) n, length-all_bits 8 octets, mul_comm n count)) (all_bits 8 octets)
+    fit_pieces n count bs
+    (omega (
+      arith,
+      div-add-mod' (8 * length octets) n,
+      length-all_bits 8 octets,
+      mul_comm n count,
+    )) (all_bits 8 octets)
 
 -- octets of whole values spell the values that are read from them
-pub Spells-values_in : (n : ℕ) (octets : List ℕ) (count : ℕ) → 0 < n → 8 * length octets ≡ n * count → Spells n octets (values_in n octets)
+pub Spells-values_in : (n : ℕ) (octets : List ℕ) (count : ℕ) → 0 < n
+    → 8 * length octets ≡ n * count → Spells n octets (values_in n octets)
 unfolding values_in
 Spells-values_in n octets count pos whole =
     let bs : List ℕ = flat_map (bits 8) octets in
     let e : 8 * length octets / n ≡ count = ap (λ (k : ℕ). k / n) whole ∙ mul-div_right count pos in
     let long : length bs ≡ n * count = length-all_bits 8 octets ∙ whole in
-    rw e (record { fit = fit_pieces n count bs (omega arith) (all_bits 8 octets); same_bits = sym (same_pieces n count bs long (all_bits 8 octets)) })
+    rw e
+    (record {
+      fit = fit_pieces n count bs (omega arith) (all_bits 8 octets);
+      same_bits =
+          sym (same_pieces n count bs long (all_bits 8 octets));
+    })
 
 -- Octets spell one list of values.
-pub one_list : (n : ℕ) (octets vs ws : List ℕ) → 0 < n → Spells n octets vs → Spells n octets ws → vs ≡ ws
-one_list n octets vs ws pos a b = sym (values_in-spelled n octets vs pos a) ∙ values_in-spelled n octets ws pos b
+pub one_list : (n : ℕ) (octets vs ws : List ℕ) → 0 < n → Spells n octets vs → Spells n octets ws
+    → vs ≡ ws
+one_list n octets vs ws pos a b =
+    sym (values_in-spelled n octets vs pos a) ∙ values_in-spelled n octets ws pos b
 
 -- Values are spelt by one list of octets.
-pub one_spelling : (n : ℕ) (os ps vs : List ℕ) → AllByRecursion (λ v. v < 256) os → AllByRecursion (λ v. v < 256) ps → Spells n os vs → Spells n ps vs → os ≡ ps
+pub one_spelling : (n : ℕ) (os ps vs : List ℕ) → AllByRecursion (λ v. v < 256) os
+    → AllByRecursion (λ v. v < 256) ps → Spells n os vs → Spells n ps vs → os ≡ ps
 one_spelling n os ps vs small few a b =
     sym (values_in_octets os small)
-    ∙ values_in-spelled 8 os ps (omega arith) (record { fit = few; same_bits = a.same_bits ∙ sym b.same_bits })
+    ∙ values_in-spelled 8 os ps (omega arith)
+    (record { fit = few; same_bits = a.same_bits ∙ sym b.same_bits })

@@ -1,5 +1,6 @@
 -- What a device tells of itself from one call to the next. A list that is `None` is not told.
-use Rattle.std.specs.Prelude.{◌≡◌, ℕ, ◌+◌, ◌-◌, ◌^◌, ◌<◌, ◌≤◌, ◌⊎◌, min, List, [], ◌∷◌, ◌++◌, length, slice_index, take, ⊤, Option, None, Some, Result, MatchResult}
+use Rattle.std.specs.Prelude.{◌≡◌, ℕ, ◌+◌, ◌-◌, ◌^◌, ◌<◌, ◌≤◌, ◌⊎◌, min, List, [], ◌∷◌, ◌++◌}
+use Rattle.std.specs.Prelude.{length, slice_index, take, ⊤, Option, None, Some, Result, MatchResult}
 use Rattle.std.specs.Io.KnownBytes.{Consumes, Appends}
 
 -- one more, but at most 2^64 - 1 (own)

@@ -1,5 +1,6 @@
 -- What a format says, and which formats there are.
-use Rattle.std.specs.Prelude.{ℕ, ◌*◌, ◌/◌, ◌%◌, Bool, ◌||◌, nat_lt, not, ◌==◌, if◌then◌else◌, Result, Ok, Err}
+use Rattle.std.specs.Prelude.{ℕ, ◌*◌, ◌/◌, ◌%◌, Bool, ◌||◌, nat_lt, not, ◌==◌, if◌then◌else◌}
+use Rattle.std.specs.Prelude.{Result, Ok, Err}
 use Rattle.st_format.specs.declared.sampling.Sampling.{Sampling}
 use Rattle.st_format.specs.declared.sampling.Depth.{Depth}
 use Rattle.st_format.specs.declared.format.Format.{Format}
@@ -18,17 +19,29 @@ pub record Fields : Type 0 where
   pub d : ℕ
 
 abbrev pub fields_of : Format → Fields
-fields_of f = record { sampling = f.sampling; depth = f.depth; width = f.width; height = f.height; n = f.n; d = f.d }
+fields_of f =
+    record {
+      sampling = f.sampling;
+      depth = f.depth;
+      width = f.width;
+      height = f.height;
+      n =
+          f.n;
+      d = f.d;
+    }
 
 -- tests of the limits
 abbrev pub is_bad_width : Sampling → Depth → ℕ → Bool
-is_bad_width s b w = nat_lt w 2 || nat_lt 8192 w || not (w % 2 == 0) || not (w % (pixel_group s b).pixels == 0)
+is_bad_width s b w =
+    nat_lt w 2 || nat_lt 8192 w || not (w % 2 == 0) || not (w % (pixel_group s b).pixels == 0)
 
 abbrev pub is_bad_height : ℕ → Bool
 is_bad_height h = nat_lt h 1 || nat_lt 8192 h
 
 abbrev pub is_bad_rate : ℕ → ℕ → Bool
-is_bad_rate n d = nat_lt n 1 || nat_lt 1000000 n || nat_lt d 1 || nat_lt 1000000 d || nat_lt n d || nat_lt (300 * d) n
+is_bad_rate n d =
+    nat_lt n 1 || nat_lt 1000000 n || nat_lt d 1 || nat_lt 1000000 d || nat_lt n d
+    || nat_lt (300 * d) n
 
 -- the format of these, its rate in lowest terms, or the first refusal
 abbrev pub format_at : Sampling → Depth → ℕ → ℕ → ℕ → ℕ → Result Fields FormatFault
@@ -36,7 +49,15 @@ format_at s b w h n d =
     if is_bad_width s b w then Err BadWidth else
     (if is_bad_height h then Err BadHeight else
     (if is_bad_rate n d then Err BadRate else
-    Ok (record { sampling = s; depth = b; width = w; height = h; n = n / common_divisor n d; d = d / common_divisor n d })))
+    Ok (record {
+      sampling = s;
+      depth = b;
+      width = w;
+      height = h;
+      n = n / common_divisor n d;
+      d =
+          d / common_divisor n d;
+    })))
 
 -- what a call made, by its fields
 abbrev pub made : Result Format FormatFault → Result Fields FormatFault

@@ -17,7 +17,8 @@ CellFits f Contested = ⊤
 abbrev pub ValuesFit : Raster → Type 0
 ValuesFit r = AllByRecursion (CellFits r.format) r.cells
 
--- What the raster of a frame always is: each position has its cell, and each value fits the depth (own)
+-- What the raster of a frame always is: each position has its cell, and each value fits the depth
+-- (own)
 pub record IsFrame (r : Raster) : Type 0 where
   pub whole : IsWhole r
   pub fit : ValuesFit r

@@ -22,8 +22,8 @@ pub record Sink : Type 0 where
   pub fails_in : ℕ
   pub failures : ℕ
 
--- a sink of datagrams in memory: `capacities` has the octets that each of its slots has room for, and
--- `rooms` those of the slots that are still free
+-- a sink of datagrams in memory: `capacities` has the octets that each of its slots has room for,
+-- and `rooms` those of the slots that are still free
 pub record Datagrams : Type 0 where
   pub taken : List (List ℕ)
   pub capacities : List ℕ

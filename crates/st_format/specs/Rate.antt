@@ -4,7 +4,8 @@ use Rattle.std.specs.Prelude.{◌≡◌, ℕ, zero, suc, ◌%◌, ◌&&◌, ◌=
 -- the greatest number up to this limit that divides both
 unfoldable pub greatest_up_to : ℕ → ℕ → ℕ → ℕ
 greatest_up_to zero n d = 1
-greatest_up_to (suc limit) n d = if n % suc limit == 0 && d % suc limit == 0 then suc limit else greatest_up_to limit n d
+greatest_up_to (suc limit) n d =
+    if n % suc limit == 0 && d % suc limit == 0 then suc limit else greatest_up_to limit n d
 
 -- the greatest number that divides both
 abbrev pub common_divisor : ℕ → ℕ → ℕ

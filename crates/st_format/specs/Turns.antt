@@ -5,7 +5,8 @@ use Rattle.st_format.specs.declared.path.Path.{Path}
 use Rattle.st_format.specs.declared.device.Turn.{Turn}
 use Rattle.st_format.specs.declared.device.Turn.TheVariants.{Datagram, Quiet, End}
 
--- A turn that is to come: a datagram of these octets by a path, or none. After the last there is only the end.
+-- A turn that is to come: a datagram of these octets by a path, or none. After the last there is
+-- only the end.
 pub data Due : Type 0 where
   Comes : Path → List ℕ → Due
   Nothing : Due

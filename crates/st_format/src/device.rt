@@ -7,9 +7,11 @@
 //! hold of it.
 //!
 //! A count of failures or of datagrams stays at 2^64 - 1 once it is there.
-ghost use Rattle.std.specs.Prelude.{◌≡◌, ◌≤◌, ◌<◌, ℕ, List, Option, length, take, IfOk, OnOk, IfErr, OnErr, MatchResult};
+ghost use Rattle.std.specs.Prelude.{◌≡◌, ◌≤◌, ◌<◌, ℕ, List, Option, length, take, IfOk, OnOk};
+ghost use Rattle.std.specs.Prelude.{IfErr, OnErr, MatchResult};
 ghost use Rattle.std.specs.Io.KnownBytes.{Consumes, Appends, Keeps, IsAtEnd};
-ghost use Rattle.st_format.specs.Device.{CountsFaults, ConsumesPrefix, AppendsPrefix, StaysUntold, TakesOne, KeepsAll, TellsOctets};
+ghost use Rattle.st_format.specs.Device.{CountsFaults, ConsumesPrefix, AppendsPrefix, StaysUntold};
+ghost use Rattle.st_format.specs.Device.{TakesOne, KeepsAll, TellsOctets};
 
 use crate::Path;
 use std::fmt;
@@ -50,7 +52,8 @@ impl fmt::Display for SinkFault {
 pub enum SourceFault {
     /// The device failed. Why is its own matter.
     Device,
-    /// What the device carries is at fault, by the number that the source gives to faults of its content.
+    /// What the device carries is at fault, by the number that the source gives to faults of its
+    /// content.
     Content(u8),
 }
 
@@ -103,7 +106,8 @@ pub trait ByteSource {
     fn read(&mut self, buf: &mut [u8]) -> Result<usize, DeviceFault>
         ensures room { length buf.new ≡ length buf.old }
         ensures within { IfOk result (λ n. n ≤ length buf.new) }
-        ensures given { IfOk result (λ n. Consumes (to_give self.old) (to_give self.new) (take n buf.new)) }
+        ensures given { IfOk result
+            (λ n. Consumes (to_give self.old) (to_give self.new) (take n buf.new)) }
         ensures end { IfOk result (λ n. n ≡ 0 → 0 < length buf.old → IsAtEnd (to_give self.new)) }
         ensures fault { OnErr result (Keeps (to_give self.old) (to_give self.new)) }
         ensures octets { TellsOctets (to_give self.old) }
@@ -132,7 +136,8 @@ pub trait ByteSink {
     fn write(&mut self, octets: &[u8]) -> Result<usize, DeviceFault>
         ensures within { IfOk result (λ n. n ≤ length octets.now) }
         ensures some { IfOk result (λ n. 0 < length octets.now → 0 < n) }
-        ensures taken { IfOk result (λ n. Appends (held self.old) (held self.new) (take n octets.now)) }
+        ensures taken { IfOk result
+            (λ n. Appends (held self.old) (held self.new) (take n octets.now)) }
         ensures fault { OnErr result (Keeps (held self.old) (held self.new)) }
         ensures untold { StaysUntold (held self.old) (held self.new) }
         ensures counted { CountsFaults (failures self.old) (failures self.new) result };
@@ -176,12 +181,12 @@ pub trait DatagramSource {
     /// Its last fault, if it has failed.
     ghost last_fault: { Self → Option Fault };
 
-    /// Tells the first of the turns to come, which is then past, or `End` where none is left. The octets
-    /// of a datagram stand at the front of `buf`, which has room for any datagram: 65,535 octets.
-    /// What `buf` holds behind them, or after another turn, is not said.
+    /// Tells the first of the turns to come, which is then past, or `End` where none is left. The
+    /// octets of a datagram stand at the front of `buf`, which has room for any datagram: 65,535
+    /// octets. What `buf` holds behind them, or after another turn, is not said.
     ///
-    /// An `Err` is one failure more, and the source's last fault, which stays until the next one. It
-    /// delivers nothing, and says nothing of what is to come.
+    /// An `Err` is one failure more, and the source's last fault, which stays until the next one.
+    /// It delivers nothing, and says nothing of what is to come.
     fn next(&mut self, buf: &mut [u8]) -> Result<Turn, SourceFault>
         requires { 65535 ≤ length buf.old }
         ensures room { length buf.new ≡ length buf.old }
@@ -203,9 +208,11 @@ pub trait DatagramSource {
 pub fn read_whole<S: ByteSource>(source: &mut S, buf: &mut [u8]) -> Result<usize, DeviceFault>
     ensures room { length buf.new ≡ length buf.old }
     ensures within { IfOk result (λ n. n ≤ length buf.new) }
-    ensures given { IfOk result (λ n. Consumes (S.to_give source.old) (S.to_give source.new) (take n buf.new)) }
+    ensures given { IfOk result
+        (λ n. Consumes (S.to_give source.old) (S.to_give source.new) (take n buf.new)) }
     ensures short { IfOk result (λ n. n < length buf.new → IsAtEnd (S.to_give source.new)) }
-    ensures fault { OnErr result (ConsumesPrefix (S.to_give source.old) (S.to_give source.new) buf.new) }
+    ensures fault { OnErr result
+        (ConsumesPrefix (S.to_give source.old) (S.to_give source.new) buf.new) }
     ensures octets { 0 < length buf.old → TellsOctets (S.to_give source.old) }
     ensures counted { CountsFaults (S.failures source.old) (S.failures source.new) result }
 {

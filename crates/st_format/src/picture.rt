@@ -1,5 +1,6 @@
 //! Pictures: a value for each sample of a raster.
-ghost use Rattle.std.specs.Prelude.{◌≡◌, ◌≤◌, ◌<◌, ◌^◌, ◌↔◌, IfOk, IsTrue, Err, map, length, slice_index};
+ghost use Rattle.std.specs.Prelude.{◌≡◌, ◌≤◌, ◌<◌, ◌^◌, ◌↔◌, IfOk, IsTrue, Err, map, length};
+ghost use Rattle.std.specs.Prelude.{slice_index};
 ghost use Rattle.std.specs.List.{AllByRecursion, range_with_len};
 ghost use Rattle.st_format.specs.Pgroup.{bits_of};
 ghost use Rattle.st_format.specs.Picture.{FitsDepth, IsPicture, SetsOne, filled, value_at};
@@ -74,10 +75,11 @@ impl<A: Allocator> Model for Picture<A> {
 impl<A: Allocator> Picture<A> {
     /// A picture of one colour: `fill` has a value for each component (Y, Cb, Cr or R, G, B).
     ///
-    /// `ValueTooLarge` where one of the three has more bits than a sample; else `NoMemory` where the memory was
-    /// refused.
+    /// `ValueTooLarge` where one of the three has more bits than a sample; else `NoMemory` where
+    /// the memory was refused.
     pub fn new(alloc: A, format: Format, fill: [u16; 3]) -> Result<Picture<A>, PictureFault>
-        ensures large { (result ≡ Err PictureFault.ValueTooLarge) ↔ (AllByRecursion (FitsDepth format) fill → ⊥) }
+        ensures large { (result ≡ Err PictureFault.ValueTooLarge)
+            ↔ (AllByRecursion (FitsDepth format) fill → ⊥) }
         ensures made { IfOk result (λ p. p ≡ filled format fill) }
         ensures whole { IfOk result (λ p. IsPicture p) }
     {
@@ -89,8 +91,8 @@ impl<A: Allocator> Picture<A> {
         Ok(Picture { format, samples })
     }
 
-    /// The picture of these values, which are in raster order: one for each position of the format, and
-    /// each fits the depth. No memory is taken.
+    /// The picture of these values, which are in raster order: one for each position of the format,
+    /// and each fits the depth. No memory is taken.
     pub fn from_samples(format: Format, samples: Vec<u16, A>) -> Picture<A>
         requires { IsPicture (record { format = format; samples = samples.items }) }
         ensures value { result ≡ record { format = format; samples = samples.items } }
@@ -109,8 +111,10 @@ impl<A: Allocator> Picture<A> {
 
     /// The value at a row, a column and a component.
     pub fn get(&self, row: u32, column: u32, component: u8) -> u16
-        requires { IsPosition self.now.format (record { row = row; column = column; component = component }) }
-        ensures value { result ≡ value_at self.now (record { row = row; column = column; component = component }) }
+        requires { IsPosition self.now.format
+            (record { row = row; column = column; component = component }) }
+        ensures value { result
+            ≡ value_at self.now (record { row = row; column = column; component = component }) }
         ensures fits { FitsDepth self.now.format result }
     {
         self.samples[self.format.sample_number(row, column, component)]
@@ -118,9 +122,11 @@ impl<A: Allocator> Picture<A> {
 
     /// Sets the value at a row, a column and a component.
     pub fn set(&mut self, row: u32, column: u32, component: u8, value: u16)
-        requires place { IsPosition self.old.format (record { row = row; column = column; component = component }) }
+        requires place { IsPosition self.old.format
+            (record { row = row; column = column; component = component }) }
         requires fits { FitsDepth self.old.format value }
-        ensures one { SetsOne self.old self.new (record { row = row; column = column; component = component }) value }
+        ensures one { SetsOne self.old self.new
+            (record { row = row; column = column; component = component }) value }
         ensures whole { IsPicture self.new }
     {
         let number = self.format.sample_number(row, column, component);
@@ -185,7 +191,9 @@ fn filled_samples<A: Allocator>(
 
 /// Gives each sample the value of its component.
 fn fill_samples(sampling: Sampling, fill: [u16; 3], samples: &mut [u16])
-    ensures { samples.new ≡ map (λ k. slice_index fill (component_in_row sampling k)) (range_with_len 0 (length samples.old)) }
+    ensures { samples.new
+        ≡ map (λ k. slice_index fill (component_in_row sampling k))
+        (range_with_len 0 (length samples.old)) }
 {
     for (number, sample) in samples.iter_mut().enumerate() {
         *sample = fill[sampling.component_in_row(number)];

@@ -1,6 +1,6 @@
-//! What no text of the program shows of the worked examples of docs/EXAMPLES.md, and runs in which a
-//! device fails or memory is wanted. Tests, with values that are worked out by hand; and the one call that
-//! gives a receiver the datagrams of a capture, with what is proved of the two together.
+//! What no text of the program shows of the worked examples of docs/EXAMPLES.md, and runs in which
+//! a device fails or memory is wanted. Tests, with values that are worked out by hand; and the one
+//! call that gives a receiver the datagrams of a capture, with what is proved of the two together.
 #![tactic(auto)]
 
 ghost use Rattle.std.specs.Prelude.{◌≡◌, ◌≤◌, ℕ, List, Some, ◌++◌, length, take};
@@ -90,8 +90,10 @@ pub fn receive_capture<S: ByteSource, A: Allocator>(
     limit: u64,
 ) -> Result<Received, ReceiveFault>
     requires { 65535 ≤ length buf.old }
-    ensures holds { (datagrams : List (List ℕ)) (octets : List ℕ) → reader.old.standing ≡ Reads → S.to_give reader.old.source ≡ Some octets → Holds receiver.old datagrams
-        → Holds receiver.new (datagrams ++ take (delivered_in result) (datagrams_of (dues_in octets))) }
+    ensures holds { (datagrams : List (List ℕ)) (octets : List ℕ) → reader.old.standing ≡ Reads
+        → S.to_give reader.old.source ≡ Some octets → Holds receiver.old datagrams
+        → Holds receiver.new
+        (datagrams ++ take (delivered_in result) (datagrams_of (dues_in octets))) }
 {
     receive(reader, receiver, buf, limit)
 }

@@ -153,8 +153,7 @@ impl<A: Allocator> Pair<A> {
 
 /// Exchanges a frame of a receiver, where there is such a place and the formats are one.
 fn exchanged<A: Allocator>(receiver: &mut Receiver<A>, place: usize, frame: &mut Frame<A>) -> bool {
-    let can_be = place < receiver.window().len()
-        && receiver.format().same(&frame.format());
+    let can_be = place < receiver.window().len() && receiver.format().same(&frame.format());
     if can_be {
         receiver.set_frame(place, frame);
     }

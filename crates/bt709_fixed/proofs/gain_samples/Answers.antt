@@ -13,9 +13,13 @@ loop-samples-preserved c =
     let a = c.loop-samples.at in
     let m = a + 64 - a in
     let inv = c.loop-samples.invariant in
-    let h = λ (k v : ℕ). gained c.args.g (bits_of c.args.depth) (is_colour c.args.sampling (component_in_row c.args.sampling k)) v in
+    let h =
+    λ (k v : ℕ). gained c.args.g (bits_of c.args.depth)
+    (is_colour c.args.sampling (component_in_row c.args.sampling k)) v in
     let long = c.gain_block.ensures.long in
-    let done = part_made h c.args.samples.now xs ys a m (omega arith) inv.kept long inv.done c.gain_block.ensures.each in
+    let done =
+    part_made h c.args.samples.now xs ys a m
+    (omega arith) inv.kept long inv.done c.gain_block.ensures.each in
     let kept = part_kept h c.args.samples.now xs ys a m (omega arith) inv.kept long in
     record {
       long = same_len_mid a m xs ys long ∙ inv.long;
@@ -31,8 +35,12 @@ returns-clause-each c =
     let a = c.loop-samples.at in
     let m = length xs - a in
     let inv = c.loop-samples.invariant in
-    let h = λ (k v : ℕ). gained c.args.g (bits_of c.args.depth) (is_colour c.args.sampling (component_in_row c.args.sampling k)) v in
+    let h =
+    λ (k v : ℕ). gained c.args.g (bits_of c.args.depth)
+    (is_colour c.args.sampling (component_in_row c.args.sampling k)) v in
     let long = c.gain_block-2.ensures.long in
     let whole = same_len_mid a m xs ys long in
-    let done = part_made h c.args.samples.now xs ys a m (omega arith) inv.kept long inv.done c.gain_block-2.ensures.each in
+    let done =
+    part_made h c.args.samples.now xs ys a m
+    (omega arith) inv.kept long inv.done c.gain_block-2.ensures.each in
     λ k b. done k (omega (arith, whole))

@@ -16,12 +16,22 @@ from_samples-requires g c =
     let old = c.as_mut_slice.ensures.value ∙ c.into_samples-samples.ensures.value in
     let s = c.sampling.ensures ∙ ap (λ f. f.sampling) form in
     let d = c.depth.ensures ∙ ap (λ f. f.depth) form in
-    let is = made v c.format-format.result new (λ k x. limited c.args.range (bits_of v.format.depth) (is_colour v.format.sampling k) x) form c.format-format.ensures.whole
+    let is =
+    made v c.format-format.result new
+    (λ k x. limited c.args.range (bits_of v.format.depth)
+    (is_colour v.format.sampling k) x) form c.format-format.ensures.whole
     (c.limit_samples.ensures.long ∙ ap length old)
-    (λ k h. c.limit_samples.ensures.each k h ∙ (λ j. limited c.args.range (bits_of (d j)) (is_colour (s j) (component_in_row (s j) k)) (get_or (old j) k 0)))
-    (λ k x. limited_fits c.args.range (bits_of v.format.depth) (is_colour v.format.sampling k) x (some_bits v.format.depth)) in
-    let long : length new ≡ c.into_samples-samples.result.len = c.limit_samples.ensures.long ∙ c.as_mut_slice.ensures.len in
-    subst (λ xs. IsPicture (record { format = c.format-format.result; samples = xs })) (sym (take_at new (drop (length new) c.into_samples-samples.result.items) c.into_samples-samples.result.len long)) is.0
+    (λ k h. c.limit_samples.ensures.each k h
+    ∙ (λ j. limited c.args.range (bits_of (d j)) (is_colour (s j) (component_in_row (s j) k))
+    (get_or (old j) k 0)))
+    (λ k x. limited_fits c.args.range (bits_of v.format.depth) (is_colour v.format.sampling k) x
+    (some_bits v.format.depth)) in
+    let long : length new ≡ c.into_samples-samples.result.len =
+    c.limit_samples.ensures.long ∙ c.as_mut_slice.ensures.len in
+    subst (λ xs. IsPicture (record { format = c.format-format.result; samples = xs }))
+    (sym (take_at new
+    (drop (length new) c.into_samples-samples.result.items) c.into_samples-samples.result.len
+    long)) is.0
 
 pub returns-clause-value : goal.returns-clause-value
 returns-clause-value g c =
@@ -31,10 +41,22 @@ returns-clause-value g c =
     let old = c.as_mut_slice.ensures.value ∙ c.into_samples-samples.ensures.value in
     let s = c.sampling.ensures ∙ ap (λ f. f.sampling) form in
     let d = c.depth.ensures ∙ ap (λ f. f.depth) form in
-    let is = made v c.format-format.result new (λ k x. limited c.args.range (bits_of v.format.depth) (is_colour v.format.sampling k) x) form c.format-format.ensures.whole
+    let is =
+    made v c.format-format.result new
+    (λ k x. limited c.args.range (bits_of v.format.depth)
+    (is_colour v.format.sampling k) x) form c.format-format.ensures.whole
     (c.limit_samples.ensures.long ∙ ap length old)
-    (λ k h. c.limit_samples.ensures.each k h ∙ (λ j. limited c.args.range (bits_of (d j)) (is_colour (s j) (component_in_row (s j) k)) (get_or (old j) k 0)))
-    (λ k x. limited_fits c.args.range (bits_of v.format.depth) (is_colour v.format.sampling k) x (some_bits v.format.depth)) in
-    let long : length new ≡ c.into_samples-samples.result.len = c.limit_samples.ensures.long ∙ c.as_mut_slice.ensures.len in
-    let same = take_at new (drop (length new) c.into_samples-samples.result.items) c.into_samples-samples.result.len long in
-    subst (IsOf v.format (limit_value c.args.range v)) (sym (c.from_samples.ensures.value ∙ ap (λ xs. record { format = c.format-format.result; samples = xs }) same)) is.1
+    (λ k h. c.limit_samples.ensures.each k h
+    ∙ (λ j. limited c.args.range (bits_of (d j)) (is_colour (s j) (component_in_row (s j) k))
+    (get_or (old j) k 0)))
+    (λ k x. limited_fits c.args.range (bits_of v.format.depth) (is_colour v.format.sampling k) x
+    (some_bits v.format.depth)) in
+    let long : length new ≡ c.into_samples-samples.result.len =
+    c.limit_samples.ensures.long ∙ c.as_mut_slice.ensures.len in
+    let same =
+    take_at new
+    (drop (length new) c.into_samples-samples.result.items) c.into_samples-samples.result.len
+    long in
+    subst (IsOf v.format (limit_value c.args.range v))
+    (sym (c.from_samples.ensures.value
+    ∙ ap (λ xs. record { format = c.format-format.result; samples = xs }) same)) is.1

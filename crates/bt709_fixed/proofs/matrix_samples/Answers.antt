@@ -17,7 +17,10 @@ loop-out-preserved c =
     let n = bits_of c.args.depth in
     let h = λ (k v : ℕ). matrixed_at n rgb k in
     let long = c.matrix_block.ensures.long in
-    let each : (i : ℕ) → i < length ys → get_or ys i 0 ≡ matrixed_at n rgb (a + i) = λ i b. c.matrix_block.ensures.each i b ∙ matrixed_part rgb a m i inv.pixels (omega arith) (omega (arith, b, long)) n in
+    let each : (i : ℕ) → i < length ys
+    → get_or ys i 0 ≡ matrixed_at n rgb (a + i) =
+    λ i b. c.matrix_block.ensures.each i b
+    ∙ matrixed_part rgb a m i inv.pixels (omega arith) (omega (arith, b, long)) n in
     let done = part_made h c.args.out.now xs ys a m (omega arith) inv.kept long inv.done each in
     let kept = part_kept h c.args.out.now xs ys a m (omega arith) inv.kept long in
     record {
@@ -40,6 +43,10 @@ returns-clause-each c =
     let h = λ (k v : ℕ). matrixed_at n rgb k in
     let long = c.matrix_block-2.ensures.long in
     let whole = same_len_mid a m xs ys long in
-    let each : (i : ℕ) → i < length ys → get_or ys i 0 ≡ matrixed_at n rgb (a + i) = λ i b. c.matrix_block-2.ensures.each i b ∙ matrixed_part rgb a (length rgb - a) i inv.pixels (omega arith) (omega (arith, b, long)) n in
+    let each : (i : ℕ) → i < length ys
+    → get_or ys i 0 ≡ matrixed_at n rgb (a + i) =
+    λ i b. c.matrix_block-2.ensures.each i b
+    ∙ matrixed_part rgb a (length rgb - a) i inv.pixels (omega arith)
+    (omega (arith, b, long)) n in
     let done = part_made h c.args.out.now xs ys a m (omega arith) inv.kept long inv.done each in
     λ k b. done k (omega (arith, whole))

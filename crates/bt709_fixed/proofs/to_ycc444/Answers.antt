@@ -8,8 +8,11 @@ use Rattle.bt709_fixed.proofs.to_ycc444.Goals as goal
 pub matrixed_samples-requires-clause-whole : goal.matrixed_samples-requires-clause-whole
 matrixed_samples-requires-clause-whole g c =
     let v = c.args.picture.now in
-    let s = sym (ap (λ f. f.sampling) c.format-format.ensures.value) ∙ sym c.sampling.ensures ∙ c.in-Rgb.is in
-    ap (λ xs. length xs % 3) c.samples-rgb.ensures.value ∙ ap (λ k. k % 3) c.samples-rgb.ensures.whole.whole ∙ whole_pixels v.format s
+    let s =
+    sym (ap (λ f. f.sampling) c.format-format.ensures.value) ∙ sym c.sampling.ensures
+    ∙ c.in-Rgb.is in
+    ap (λ xs. length xs % 3) c.samples-rgb.ensures.value
+    ∙ ap (λ k. k % 3) c.samples-rgb.ensures.whole.whole ∙ whole_pixels v.format s
 
 pub from_samples-requires : goal.from_samples-requires
 from_samples-requires g c =
@@ -19,7 +22,8 @@ from_samples-requires g c =
     let d = c.depth.ensures ∙ ap (λ f. f.depth) form in
     let rgb = c.samples-rgb.ensures.value in
     let is = matrixed_picture v c.as_ycc444.result c.in_ok-samples.samples.items s
-    (subst (λ f. IsResampled Ycc444 f c.as_ycc444.result) form c.as_ycc444.ensures) c.samples-rgb.ensures.whole
+    (subst (λ f. IsResampled Ycc444 f c.as_ycc444.result) form c.as_ycc444.ensures)
+    c.samples-rgb.ensures.whole
     (c.in_ok-samples.ensures.long ∙ ap length rgb)
     (λ k h. c.in_ok-samples.ensures.each k h ∙ (λ j. matrixed_at (bits_of (d j)) (rgb j) k)) in
     is.0
@@ -32,7 +36,8 @@ returns-clause-made g c =
     let d = c.depth.ensures ∙ ap (λ f. f.depth) form in
     let rgb = c.samples-rgb.ensures.value in
     let is = matrixed_picture v c.as_ycc444.result c.in_ok-samples.samples.items s
-    (subst (λ f. IsResampled Ycc444 f c.as_ycc444.result) form c.as_ycc444.ensures) c.samples-rgb.ensures.whole
+    (subst (λ f. IsResampled Ycc444 f c.as_ycc444.result) form c.as_ycc444.ensures)
+    c.samples-rgb.ensures.whole
     (c.in_ok-samples.ensures.long ∙ ap length rgb)
     (λ k h. c.in_ok-samples.ensures.each k h ∙ (λ j. matrixed_at (bits_of (d j)) (rgb j) k)) in
     subst (λ p. IsOf p.format (ycc444_value v) p) (sym c.from_samples.ensures.value) is.1

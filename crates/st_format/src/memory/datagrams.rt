@@ -91,7 +91,8 @@ impl<A: Allocator> DatagramSink for MemoryDatagrams<A> {
 
     /// Takes the datagram into the next slot. One that fails leaves the slot for the next.
     fn put(&mut self, octets: &[u8]) -> Result<(), SinkFault>
-        ensures taken { OnOk result (TakesOne (Some self.old.taken) (Some self.new.taken) octets.now) }
+        ensures taken { OnOk result
+            (TakesOne (Some self.old.taken) (Some self.new.taken) octets.now) }
         ensures fault { OnErr result (KeepsAll (Some self.old.taken) (Some self.new.taken)) }
         ensures counted { CountsFaults self.old.failures self.new.failures result }
 

@@ -1,4 +1,5 @@
-ghost use Rattle.std.specs.Prelude.{◌≡◌, ◌≤◌, ◌<◌, ◌+◌, ◌-◌, ◌↔◌, ◌⊎◌, Some, length, take, min, vec_len, vec_capacity, IfOk, OnErr, IsErr};
+ghost use Rattle.std.specs.Prelude.{◌≡◌, ◌≤◌, ◌<◌, ◌+◌, ◌-◌, ◌↔◌, ◌⊎◌, Some, length, take, min};
+ghost use Rattle.std.specs.Prelude.{vec_len, vec_capacity, IfOk, OnErr, IsErr};
 ghost use Rattle.std.specs.Io.KnownBytes.{Appends, Keeps};
 ghost use Rattle.st_format.specs.Device.{CountsFaults, StaysUntold};
 
@@ -6,8 +7,8 @@ use crate::{ByteSink, DeviceFault};
 use std::alloc::{Allocator, Global};
 use std::marker::Model;
 
-/// Takes octets behind those of a vector, as far as it has room, in pieces, and fails at one call if
-/// it is told to. The vector never grows: a full sink fails.
+/// Takes octets behind those of a vector, as far as it has room, in pieces, and fails at one call
+/// if it is told to. The vector never grows: a full sink fails.
 #[derive(Drop)]
 pub struct MemorySink<A: Allocator = Global> {
     octets: Vec<u8, A>,
@@ -83,16 +84,20 @@ impl<A: Allocator> ByteSink for MemorySink<A> {
     fn write(&mut self, octets: &[u8]) -> Result<usize, DeviceFault>
         ensures within { IfOk result (λ n. n ≤ length octets.now) }
         ensures some { IfOk result (λ n. 0 < length octets.now → 0 < n) }
-        ensures taken { IfOk result (λ n. Appends (Some self.old.held) (Some self.new.held) (take n octets.now)) }
+        ensures taken { IfOk result
+            (λ n. Appends (Some self.old.held) (Some self.new.held) (take n octets.now)) }
         ensures fault { OnErr result (Keeps (Some self.old.held) (Some self.new.held)) }
         ensures untold { StaysUntold (Some self.old.held) (Some self.new.held) }
         ensures counted { CountsFaults self.old.failures self.new.failures result }
 
         // It fails at the call named and where it is full, and takes no less than it can.
-        ensures when { IsErr result ↔ ((self.old.fails_in ≡ 1) ⊎ ((self.old.room ≡ 0) × (0 < length octets.now))) }
-        ensures most { IfOk result (λ n. n ≡ min (length octets.now) (min self.old.piece self.old.room)) }
+        ensures when { IsErr result
+            ↔ ((self.old.fails_in ≡ 1) ⊎ ((self.old.room ≡ 0) × (0 < length octets.now))) }
+        ensures most { IfOk result
+            (λ n. n ≡ min (length octets.now) (min self.old.piece self.old.room)) }
         ensures left { self.old.room + length self.old.held ≡ self.new.room + length self.new.held }
-        ensures next { (self.new.fails_in ≡ self.old.fails_in - 1) × (self.new.piece ≡ self.old.piece) }
+        ensures next { (self.new.fails_in ≡ self.old.fails_in - 1)
+            × (self.new.piece ≡ self.old.piece) }
     {
         let fails = self.fails_in == 1;
         self.fails_in = self.fails_in.saturating_sub(1);

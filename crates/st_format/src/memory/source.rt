@@ -1,4 +1,5 @@
-ghost use Rattle.std.specs.Prelude.{◌≡◌, ◌≤◌, ◌<◌, ◌+◌, ◌-◌, ◌↔◌, Some, length, take, drop, min, vec_len, IfOk, OnErr, IsErr};
+ghost use Rattle.std.specs.Prelude.{◌≡◌, ◌≤◌, ◌<◌, ◌+◌, ◌-◌, ◌↔◌, Some, length, take, drop, min};
+ghost use Rattle.std.specs.Prelude.{vec_len, IfOk, OnErr, IsErr};
 ghost use Rattle.std.specs.Io.KnownBytes.{Consumes, Keeps, IsAtEnd};
 ghost use Rattle.st_format.specs.Device.{AreOctets, CountsFaults, TellsOctets};
 
@@ -84,16 +85,20 @@ impl<A: Allocator> ByteSource for MemorySource<A> {
     fn read(&mut self, buf: &mut [u8]) -> Result<usize, DeviceFault>
         ensures room { length buf.new ≡ length buf.old }
         ensures within { IfOk result (λ n. n ≤ length buf.new) }
-        ensures given { IfOk result (λ n. Consumes (Some self.old.to_give) (Some self.new.to_give) (take n buf.new)) }
-        ensures end { IfOk result (λ n. n ≡ 0 → 0 < length buf.old → IsAtEnd (Some self.new.to_give)) }
+        ensures given { IfOk result
+            (λ n. Consumes (Some self.old.to_give) (Some self.new.to_give) (take n buf.new)) }
+        ensures end { IfOk result
+            (λ n. n ≡ 0 → 0 < length buf.old → IsAtEnd (Some self.new.to_give)) }
         ensures fault { OnErr result (Keeps (Some self.old.to_give) (Some self.new.to_give)) }
         ensures octets { TellsOctets (Some self.old.to_give) }
         ensures counted { CountsFaults self.old.failures self.new.failures result }
 
         // It fails at the call named and at no other, and gives no less than it can.
         ensures when { IsErr result ↔ (self.old.fails_in ≡ 1) }
-        ensures most { IfOk result (λ n. n ≡ min (length buf.old) (min self.old.piece (length self.old.to_give))) }
-        ensures next { (self.new.fails_in ≡ self.old.fails_in - 1) × (self.new.piece ≡ self.old.piece) }
+        ensures most { IfOk result
+            (λ n. n ≡ min (length buf.old) (min self.old.piece (length self.old.to_give))) }
+        ensures next { (self.new.fails_in ≡ self.old.fails_in - 1)
+            × (self.new.piece ≡ self.old.piece) }
     {
         are_octets(&self.octets);
         let fails = self.fails_in == 1;

@@ -1,4 +1,5 @@
-ghost use Rattle.std.specs.Prelude.{◌≡◌, ◌≤◌, ◌+◌, ◌-◌, ◌^◌, ◌↔◌, ◌⊎◌, Some, None, Err, length, map, min, IfOk, IfErr, OnOk, OnErr, IsErr, MatchResult};
+ghost use Rattle.std.specs.Prelude.{◌≡◌, ◌≤◌, ◌+◌, ◌-◌, ◌^◌, ◌↔◌, ◌⊎◌, Some, None, Err, length};
+ghost use Rattle.std.specs.Prelude.{map, min, IfOk, IfErr, OnOk, OnErr, IsErr, MatchResult};
 ghost use Rattle.st_format.specs.Device.{CountsFaults};
 ghost use Rattle.st_format.specs.Memory.{IsTooLong, due_of};
 ghost use Rattle.st_format.specs.Turns.{CountsTurn, IsWithin, TakesTurn};
@@ -14,8 +15,8 @@ pub enum MemoryTurn<A: Allocator = Global> {
     Quiet,
 }
 
-/// Gives the turns of a vector, and fails at one call if it is told to. A datagram of more than 65,535
-/// octets fails too, and stays the next.
+/// Gives the turns of a vector, and fails at one call if it is told to. A datagram of more than
+/// 65,535 octets fails too, and stays the next.
 #[derive(Drop)]
 pub struct MemoryTurns<A: Allocator = Global> {
     turns: Vec<MemoryTurn<A>, A>,
@@ -46,7 +47,8 @@ impl<A: Allocator> Model for MemoryTurns<A> {
 impl<A: Allocator> MemoryTurns<A> {
     /// A source of these turns. The call `fails_in` fails, counted from 1; 0 means that none does.
     pub fn new(turns: Vec<MemoryTurn<A>, A>, fails_in: u64) -> Self
-        ensures tells { ⟦<MemoryTurns<A> as DatagramSource>⟧.turns result ≡ Some (map due_of turns.items) }
+        ensures tells { ⟦<MemoryTurns<A> as DatagramSource>⟧.turns result
+            ≡ Some (map due_of turns.items) }
         ensures undelivered { ⟦<MemoryTurns<A> as DatagramSource>⟧.delivered result ≡ 0 }
         ensures unfailed { ⟦<MemoryTurns<A> as DatagramSource>⟧.failures result ≡ 0 }
         ensures value { result ≡ record {
@@ -69,7 +71,8 @@ impl<A: Allocator> MemoryTurns<A> {
 
     /// The turns to come.
     pub fn turns(&self) -> &[MemoryTurn<A>]
-        ensures tells { ⟦<MemoryTurns<A> as DatagramSource>⟧.turns self.now ≡ Some (map due_of result.now) }
+        ensures tells { ⟦<MemoryTurns<A> as DatagramSource>⟧.turns self.now
+            ≡ Some (map due_of result.now) }
     {
         &self.turns[self.at..]
     }
@@ -124,7 +127,8 @@ impl<A: Allocator> DatagramSource for MemoryTurns<A> {
         requires { 65535 ≤ length buf.old }
         ensures room { length buf.new ≡ length buf.old }
         ensures within { IfOk result (λ t. IsWithin t) }
-        ensures turn { IfOk result (λ t. TakesTurn (Some self.old.turns) (Some self.new.turns) t buf.new) }
+        ensures turn { IfOk result
+            (λ t. TakesTurn (Some self.old.turns) (Some self.new.turns) t buf.new) }
         ensures delivered { MatchResult result
             (λ t. CountsTurn t self.old.delivered self.new.delivered)
             (λ _. self.new.delivered ≡ self.old.delivered) }
@@ -132,8 +136,8 @@ impl<A: Allocator> DatagramSource for MemoryTurns<A> {
         ensures last { IfErr result (λ e. self.new.last_fault ≡ Some e) }
         ensures blameless { OnOk result (self.new.last_fault ≡ self.old.last_fault) }
 
-        // It fails at the call named and where a datagram is too long, for the device's sake, and keeps
-        // the turns then.
+        // It fails at the call named and where a datagram is too long, for the device's sake, and
+        // keeps the turns then.
         ensures when { IsErr result ↔ ((self.old.fails_in ≡ 1) ⊎ IsTooLong self.old.turns) }
         ensures device { IfErr result (λ e. e ≡ SourceFault.Device) }
         ensures fault { OnErr result (self.new.turns ≡ self.old.turns) }

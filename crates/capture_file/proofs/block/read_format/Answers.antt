@@ -8,7 +8,11 @@ returns-in_err-read_field-clause-fault g c =
     rw (p.1, p.2) (block_cut _ c.in_err-read_field.field-0.0 c.in_err-read_field.ensures.fault)
 
 pub returns-clause-read : goal.returns-clause-read
-returns-clause-read g c = block_gives _ _ c.read_field.new.buf c.format_in.result c.in_ok-read_field.ensures.read c.format_in.ensures.exact
+returns-clause-read g c =
+    block_gives _ _ c.read_field.new.buf c.format_in.result c.in_ok-read_field.ensures.read
+    c.format_in.ensures.exact
 
 pub returns-clause-fault : goal.returns-clause-fault
-returns-clause-fault g c = block_fails _ _ c.read_field.new.buf c.format_in.result c.in_ok-read_field.ensures.read c.format_in.ensures.exact
+returns-clause-fault g c =
+    block_fails _ _ c.read_field.new.buf c.format_in.result c.in_ok-read_field.ensures.read
+    c.format_in.ensures.exact

@@ -3,36 +3,56 @@ use Rattle.std.proofs.Common.{ℕ, ◌-◌, ◌≡◌, ◌∙◌, ap, sym, subst
 use Rattle.std.proofs.lemmas.Result.{err_from_is_err_and}
 use Rattle.capture_file.specs.Capture.{entry_seen}
 use Rattle.capture_file.specs.Records.{Entry, entry_of}
-use Rattle.capture_file.proofs.Loops.{GoesOn, goes_on_end, goes_on_fault, goes_on_many, goes_on_more, none_left, one_less}
+use Rattle.capture_file.proofs.Loops.{GoesOn, goes_on_end, goes_on_fault, goes_on_many}
+use Rattle.capture_file.proofs.Loops.{goes_on_more, none_left, one_less}
 use Rattle.capture_file.proofs.capture.read_records.Goals as goal
 
 pub returns-then-left-eq0-clause-fault : goal.returns-then-left-eq0-clause-fault
 returns-then-left-eq0-clause-fault g c =
     let l = c.loop-records in
-    goes_on_many c.args.limit _ _ _ (map entry_seen l.records.items) c.in-Some.first (rw c.if-left-eq0.true at l.invariant.goes) (rw c.in-Some.is at c.in_ok-first.ensures.given)
+    goes_on_many c.args.limit _ _ _ (map entry_seen l.records.items) c.in-Some.first
+    (rw c.if-left-eq0.true at l.invariant.goes) (rw c.in-Some.is at c.in_ok-first.ensures.given)
 
 pub returns-in_err-head-clause-fault : goal.returns-in_err-head-clause-fault
 returns-in_err-head-clause-fault g c =
     let l = c.loop-records in
-    let p = err_from_is_err_and c.from_residual-in_err-head.result c.from_residual-in_err-head.ensures.1 in
-    rw (p.1, p.2) (goes_on_fault c.args.limit _ _ _ _ (map entry_seen l.records.items) c.in-Some.first c.in_err-head.field-0.0
-    (one_less c.args.limit _ _ _ _ c.if-left-eq0.false l.invariant.goes) (rw c.in-Some.is at c.in_ok-first.ensures.given) c.in_err-head.ensures.fault)
+    let p =
+    err_from_is_err_and c.from_residual-in_err-head.result
+    c.from_residual-in_err-head.ensures.1 in
+    rw (p.1, p.2)
+    (goes_on_fault c.args.limit _ _ _ _
+    (map entry_seen l.records.items) c.in-Some.first c.in_err-head.field-0.0
+    (one_less c.args.limit _ _ _ _ c.if-left-eq0.false l.invariant.goes)
+    (rw c.in-Some.is at c.in_ok-first.ensures.given) c.in_err-head.ensures.fault)
 
 pub loop-records-preserved : goal.loop-records-preserved
 loop-records-preserved g c =
     let e : Entry = entry_of c.in_ok-head.head c.record_rest.new.buf in
     let first : List Entry = map entry_seen c.loop-records.records.items in
     let pushed : map entry_seen c.push.new.self.items ≡ first ++ e ∷ [] =
-    ap (map entry_seen) c.in_ok-push.ensures.items ∙ map-append entry_seen c.loop-records.records.items _
-    ∙ ap (λ (xs : List ℕ). let r : Entry = record { path = e.path; moment = e.moment; octets = xs } in first ++ r ∷ []) c.in_ok-octets.ensures.items in
+    ap (map entry_seen) c.in_ok-push.ensures.items
+    ∙ map-append entry_seen c.loop-records.records.items _
+    ∙ ap
+    (λ (xs : List ℕ). let r : Entry =
+    record { path = e.path; moment = e.moment; octets = xs } in first ++ r
+    ∷ []) c.in_ok-octets.ensures.items in
     record {
-      goes = subst (λ (es : List Entry). GoesOn c.args.limit (g.S.ByteSource.to_give c.args.source.now) (c.loop-records.left - 1) es (g.S.ByteSource.to_give c.record_rest.new.source)) (sym pushed)
-          (goes_on_more c.args.limit _ _ _ _ _ first c.in-Some.first e (one_less c.args.limit _ _ _ _ c.if-left-eq0.false c.loop-records.invariant.goes) (rw c.in-Some.is at c.in_ok-first.ensures.given) c.in_ok-head.ensures.read);
-      failures = c.in_ok-head.ensures.counted ∙ c.in_ok-first.ensures.counted ∙ c.loop-records.invariant.failures;
+      goes =
+          subst (λ (es : List Entry). GoesOn c.args.limit
+          (g.S.ByteSource.to_give c.args.source.now) (c.loop-records.left - 1) es
+          (g.S.ByteSource.to_give c.record_rest.new.source)) (sym pushed)
+          (goes_on_more c.args.limit _ _ _ _ _ first c.in-Some.first e
+          (one_less c.args.limit _ _ _ _ c.if-left-eq0.false c.loop-records.invariant.goes)
+          (rw c.in-Some.is at c.in_ok-first.ensures.given) c.in_ok-head.ensures.read);
+      failures =
+          c.in_ok-head.ensures.counted ∙ c.in_ok-first.ensures.counted
+          ∙ c.loop-records.invariant.failures;
       room = omega (arith, c.in_ok-head.ensures.room, c.loop-records.invariant.room);
     }
 
 pub returns-clause-read : goal.returns-clause-read
 returns-clause-read g c =
     let none = none_left c.in_ok-first.field-0 c.in_default.not-Some in
-    goes_on_end c.args.limit _ _ _ _ (map entry_seen c.loop-records.records.items) c.loop-records.invariant.goes (rw none at c.in_ok-first.ensures.given) (c.in_ok-first.ensures.end none)
+    goes_on_end c.args.limit _ _ _ _
+    (map entry_seen c.loop-records.records.items) c.loop-records.invariant.goes
+    (rw none at c.in_ok-first.ensures.given) (c.in_ok-first.ensures.end none)

@@ -13,6 +13,7 @@ pub record Reading (so_far count size : Type 0) : Type 0 where
 
 abbrev pub invariant-loop-records : goal.invariant-loop-records
 invariant-loop-records g l = Reading
-    (GoesOn l.limit (g.S.ByteSource.to_give l.initial.source) l.left (map entry_seen l.records.items) (g.S.ByteSource.to_give l.source))
+    (GoesOn l.limit (g.S.ByteSource.to_give l.initial.source) l.left
+    (map entry_seen l.records.items) (g.S.ByteSource.to_give l.source))
     (g.S.ByteSource.failures l.source ≡ g.S.ByteSource.failures l.initial.source)
     (65535 ≤ length l.buf)

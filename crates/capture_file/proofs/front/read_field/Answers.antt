@@ -9,7 +9,9 @@ returns-then-branch-buf-clause-fault g c =
     let n = c.in_ok-read_whole.field-0 in
     let e = c.in_ok-read_whole.ensures in
     let lt : n < length c.args.buf.now = omega (arith, e.room) in
-    fails_field _ _ _ (take n c.read_whole.new.buf) (omega (arith, length-take n c.read_whole.new.buf)) e.given (e.short (omega (arith, e.room)))
+    fails_field _ _ _ (take n c.read_whole.new.buf)
+    (omega (arith, length-take n c.read_whole.new.buf)) e.given
+    (e.short (omega (arith, e.room)))
 
 pub returns-clause-read : goal.returns-clause-read
 returns-clause-read g c =

@@ -5,10 +5,15 @@ use Rattle.capture_file.proofs.front.read_kind.Goals as goal
 pub returns-in_err-read_field-clause-fault : goal.returns-in_err-read_field-clause-fault
 returns-in_err-read_field-clause-fault g c =
     let p = err_from_is_err_and c.from_residual.result c.from_residual.ensures.1 in
-    rw (p.1, p.2) (kind_cut c.args.name.now _ c.in_err-read_field.field-0.0 c.in_err-read_field.ensures.fault)
+    rw (p.1, p.2)
+    (kind_cut c.args.name.now _ c.in_err-read_field.field-0.0 c.in_err-read_field.ensures.fault)
 
 pub returns-clause-read : goal.returns-clause-read
-returns-clause-read g c = kind_gives c.args.name.now _ _ c.read_field.new.buf c.version_in.result c.in_ok-read_field.ensures.read c.version_in.ensures.exact
+returns-clause-read g c =
+    kind_gives c.args.name.now _ _ c.read_field.new.buf c.version_in.result
+    c.in_ok-read_field.ensures.read c.version_in.ensures.exact
 
 pub returns-clause-fault : goal.returns-clause-fault
-returns-clause-fault g c = kind_fails c.args.name.now _ _ c.read_field.new.buf c.version_in.result c.in_ok-read_field.ensures.read c.version_in.ensures.exact
+returns-clause-fault g c =
+    kind_fails c.args.name.now _ _ c.read_field.new.buf c.version_in.result
+    c.in_ok-read_field.ensures.read c.version_in.ensures.exact

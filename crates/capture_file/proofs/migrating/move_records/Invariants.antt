@@ -13,7 +13,9 @@ pub record Moving (so_far count counts size : Type 0) : Type 0 where
 
 abbrev pub invariant-loop-first : goal.invariant-loop-first
 invariant-loop-first g l = Moving
-    (MovesSoFar l.limit l.left (g.S.ByteSource.to_give l.initial.source) (g.S.ByteSource.to_give l.source) (g.K.ByteSink.held l.initial.sink) (g.K.ByteSink.held l.sink))
+    (MovesSoFar l.limit l.left (g.S.ByteSource.to_give l.initial.source)
+    (g.S.ByteSource.to_give l.source) (g.K.ByteSink.held l.initial.sink)
+    (g.K.ByteSink.held l.sink))
     (g.S.ByteSource.failures l.source ≡ g.S.ByteSource.failures l.initial.source)
     (g.K.ByteSink.failures l.sink ≡ g.K.ByteSink.failures l.initial.sink)
     (65535 ≤ length l.buf)

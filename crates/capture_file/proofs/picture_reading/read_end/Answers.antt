@@ -8,11 +8,15 @@ pub returns-then-branch-gt0-clause-fault : goal.returns-then-branch-gt0-clause-f
 returns-then-branch-gt0-clause-fault g c =
     let n = c.in_ok-read.field-0 in
     let e = c.in_ok-read.ensures in
-    not_end _ _ (take n c.read.new.buf) (omega (arith, length-take-le n c.read.new.buf e.within)) e.given
+    not_end _ _ (take n c.read.new.buf)
+    (omega (arith, length-take-le n c.read.new.buf e.within)) e.given
 
 pub returns-clause-read : goal.returns-clause-read
 returns-clause-read g c =
     let n = c.in_ok-read.field-0 in
     let e = c.in_ok-read.ensures in
     let none : n ≡ 0 = omega arith in
-    at_end _ _ (subst (λ (k : ℕ). Consumes (g.S.ByteSource.to_give c.args.source.now) (g.S.ByteSource.to_give c.read.new.self) (take k c.read.new.buf)) none e.given) (e.end none (omega arith))
+    at_end _ _
+    (subst (λ (k : ℕ). Consumes (g.S.ByteSource.to_give c.args.source.now)
+    (g.S.ByteSource.to_give c.read.new.self) (take k c.read.new.buf)) none e.given)
+    (e.end none (omega arith))

@@ -2,8 +2,11 @@ use Rattle.capture_file.proofs.Seen.{found_picture, only_picture}
 use Rattle.capture_file.proofs.picture_reading.read_picture.Goals as goal
 
 pub returns-clause-found : goal.returns-clause-found
-returns-clause-found g c = found_picture _ _ c.read_whole_picture.result c.read_whole_picture.ensures.read c.read_whole_picture.ensures.octets
+returns-clause-found g c =
+    found_picture _ _ c.read_whole_picture.result c.read_whole_picture.ensures.read
+    c.read_whole_picture.ensures.octets
 
 pub returns-clause-only : goal.returns-clause-only
 returns-clause-only g c p octets told is text =
-    only_picture _ _ c.read_whole_picture.result c.read_whole_picture.ensures.read c.read_whole_picture.ensures.fault p octets told is text
+    only_picture _ _ c.read_whole_picture.result c.read_whole_picture.ensures.read
+    c.read_whole_picture.ensures.fault p octets told is text

@@ -1,4 +1,5 @@
-use Rattle.std.proofs.Common.{◌≡◌, ◌≤◌, ◌+◌, ◌*◌, ◌%◌, ◌++◌, ◌∙◌, ℕ, List, length, drop, refl, subst, sym, ap, take, arith}
+use Rattle.std.proofs.Common.{◌≡◌, ◌≤◌, ◌+◌, ◌*◌, ◌%◌, ◌++◌, ◌∙◌, ℕ, List, length, drop, refl}
+use Rattle.std.proofs.Common.{subst, sym, ap, take, arith}
 use Rattle.std.proofs.lemmas.List.{length-append, length-take-le, take_at}
 use Rattle.std.proofs.lemmas.Result.{err_from_is_err_and}
 use Rattle.st_format.specs.Pgroup.{bits_of}
@@ -15,7 +16,10 @@ loop-octets-init g c =
     record {
       within = omega (arith, size);
       whole = subst (λ (k : ℕ). b * k % 8 ≡ 0) (sym size) (omega arith);
-      given = subst (GivesSpelled b (g.S.ByteSource.to_give c.args.source.now) (g.S.ByteSource.to_give c.args.source.now)) (sym none) (spelled_none b (g.S.ByteSource.to_give c.args.source.now));
+      given =
+          subst (GivesSpelled b (g.S.ByteSource.to_give c.args.source.now)
+          (g.S.ByteSource.to_give c.args.source.now)) (sym none)
+          (spelled_none b (g.S.ByteSource.to_give c.args.source.now));
       failures = refl;
     }
 
@@ -31,19 +35,27 @@ loop-octets-preserved g c =
     let piece : List ℕ = c.loop-octets.piece in
     let fits : n ≤ length piece = omega (arith, e.fits) in
     let long : length ws ≡ n = r.size ∙ length-take-le n piece fits in
-    let items : c.extend_from_slice.new.self.items ≡ vs ++ ws = c.in_ok-extend_from_slice.ensures.items ∙ ap (λ (xs : List ℕ). vs ++ xs) (take_at ws (drop n piece) n long) in
+    let items : c.extend_from_slice.new.self.items ≡ vs ++ ws =
+    c.in_ok-extend_from_slice.ensures.items
+    ∙ ap (λ (xs : List ℕ). vs ++ xs) (take_at ws (drop n piece) n long) in
     let done : length vs ≡ c.len-done.result = omega arith in
-    let next : length c.extend_from_slice.new.self.items ≡ c.len-done.result + n = ap length items ∙ length-append vs ws ∙ omega (arith, long, done) in
+    let next : length c.extend_from_slice.new.self.items ≡ c.len-done.result + n =
+    ap length items ∙ length-append vs ws ∙ omega (arith, long, done) in
     record {
       within = omega (arith, next, e.within);
       whole = subst (λ (k : ℕ). b * k % 8 ≡ 0) (sym next) e.next;
-      given = subst (GivesSpelled b (g.S.ByteSource.to_give c.args.source.now) (g.S.ByteSource.to_give c.read_piece.new.source)) (sym items) (spelled_more b _ _ _ vs ws i.given r.read);
+      given =
+          subst (GivesSpelled b (g.S.ByteSource.to_give c.args.source.now)
+          (g.S.ByteSource.to_give c.read_piece.new.source)) (sym items)
+          (spelled_more b _ _ _ vs ws i.given r.read);
       failures = r.counted ∙ i.failures;
     }
 
 pub returns-in_err-read_piece-clause-fault : goal.returns-in_err-read_piece-clause-fault
 returns-in_err-read_piece-clause-fault g c =
-    let p = err_from_is_err_and c.from_residual-in_err-read_piece.result c.from_residual-in_err-read_piece.ensures.1 in
+    let p =
+    err_from_is_err_and c.from_residual-in_err-read_piece.result
+    c.from_residual-in_err-read_piece.ensures.1 in
     let i = c.loop-octets.invariant in
     let e = c.piece_samples-n.ensures in
     let r = c.in_err-read_piece.ensures in
@@ -53,6 +65,11 @@ returns-in_err-read_piece-clause-fault g c =
     let octets : List ℕ = c.loop-octets.octets in
     let few : size ≤ 3600 = c.piece_octets-size.ensures.few in
     let fits : size ≤ length octets = omega arith in
-    rw (p.1, p.2) (piece_fails (bits_of c.args.format.now.depth) (length vs) n c.args.count size (g.S.ByteSource.to_give c.args.source.now) (g.S.ByteSource.to_give c.loop-octets.source) vs c.in_err-read_piece.field-0.0
+    rw (p.1, p.2)
+    (piece_fails (bits_of c.args.format.now.depth) (length vs) n c.args.count size
+    (g.S.ByteSource.to_give c.args.source.now)
+    (g.S.ByteSource.to_give c.loop-octets.source) vs c.in_err-read_piece.field-0.0
     r.named (omega (arith, e.within)) c.piece_octets-size.ensures.exact refl i.given
-    (subst (λ (k : ℕ). Fails (field_at k) (g.S.ByteSource.to_give c.loop-octets.source) c.in_err-read_piece.field-0.0) (length-take-le size octets fits) r.fault))
+    (subst (λ (k : ℕ). Fails (field_at k)
+    (g.S.ByteSource.to_give c.loop-octets.source) c.in_err-read_piece.field-0.0)
+    (length-take-le size octets fits) r.fault))

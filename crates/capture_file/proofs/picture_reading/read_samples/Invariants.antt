@@ -13,7 +13,8 @@ abbrev pub invariant-loop-octets : goal.invariant-loop-octets
 invariant-loop-octets g l = Reading
     (length l.samples.items ≤ l.count)
     (bits_of l.format.depth * length l.samples.items % 8 ≡ 0)
-    (GivesSpelled (bits_of l.format.depth) (g.S.ByteSource.to_give l.initial.source) (g.S.ByteSource.to_give l.source) l.samples.items)
+    (GivesSpelled (bits_of l.format.depth) (g.S.ByteSource.to_give l.initial.source)
+    (g.S.ByteSource.to_give l.source) l.samples.items)
     (g.S.ByteSource.failures l.source ≡ g.S.ByteSource.failures l.initial.source)
 
 abbrev pub decreases-loop-octets : goal.decreases-loop-octets

@@ -26,9 +26,19 @@ loop-done-preserved g c =
     record {
       within = e.within;
       whole = e.next;
-      written = piece_whole (bits_of c.args.format.now.depth) c.loop-done.done c.piece_samples-n.result c.args.samples.now _ _ _ e.within i.whole e.whole i.written r.ok;
+      written =
+          piece_whole (bits_of c.args.format.now.depth) c.loop-done.done c.piece_samples-n.result
+          c.args.samples.now _ _ _ e.within i.whole e.whole i.written r.ok;
       failures = r.counted ∙ i.failures;
-      room = omega (arith, i.room, r.room, length-append c.write_piece.new.octets (drop size piece), length-drop size piece, length-take-le size piece fits);
+      room =
+          omega (
+            arith,
+            i.room,
+            r.room,
+            length-append c.write_piece.new.octets (drop size piece),
+            length-drop size piece,
+            length-take-le size piece fits,
+          );
     }
 
 pub returns-in_err-write_piece-clause-fault : goal.returns-in_err-write_piece-clause-fault
@@ -36,4 +46,7 @@ returns-in_err-write_piece-clause-fault g c =
     let p = err_from_is_err_and c.from_residual.result c.from_residual.ensures.1 in
     let i = c.loop-done.invariant in
     let e = c.piece_samples-n.ensures in
-    rw (p.1) (piece_cut (bits_of c.args.format.now.depth) c.loop-done.done c.piece_samples-n.result c.args.samples.now _ _ _ e.within i.whole e.whole e.next c.requires.whole i.written c.in_err-write_piece.ensures.fault)
+    rw (p.1)
+    (piece_cut (bits_of c.args.format.now.depth) c.loop-done.done c.piece_samples-n.result
+    c.args.samples.now _ _ _ e.within i.whole e.whole e.next c.requires.whole i.written
+    c.in_err-write_piece.ensures.fault)

@@ -15,7 +15,8 @@ abbrev pub invariant-loop-done : goal.invariant-loop-done
 invariant-loop-done g l = Writing
     (l.done ≤ length l.samples)
     (bits_of l.format.depth * l.done % 8 ≡ 0)
-    (Appends (g.K.ByteSink.held l.initial.sink) (g.K.ByteSink.held l.sink) (octets_in (bits_of l.format.depth) (take l.done l.samples)))
+    (Appends (g.K.ByteSink.held l.initial.sink) (g.K.ByteSink.held l.sink)
+    (octets_in (bits_of l.format.depth) (take l.done l.samples)))
     (g.K.ByteSink.failures l.sink ≡ g.K.ByteSink.failures l.initial.sink)
     (length l.piece ≡ 3600)
 

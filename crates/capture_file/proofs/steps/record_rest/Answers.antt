@@ -9,14 +9,20 @@ returns-then-branch-lt-REST-clause-fault g c =
     let n = c.in_ok-read_whole.field-0 in
     let e = c.in_ok-read_whole.ensures in
     let lt : n < 10 = omega arith in
-    cut_head c.args.first _ _ (take n c.read_whole.new.buf) e.given (e.short (omega (arith, e.room))) (omega (arith, length-take n c.read_whole.new.buf))
+    cut_head c.args.first _ _ (take n c.read_whole.new.buf) e.given
+    (e.short (omega (arith, e.room))) (omega (arith, length-take n c.read_whole.new.buf))
 
 pub returns-in_err-head-clause-fault : goal.returns-in_err-head-clause-fault
 returns-in_err-head-clause-fault g c =
-    let p = err_from_is_err_and c.from_residual-in_err-head.result c.from_residual-in_err-head.ensures.1 in
+    let p =
+    err_from_is_err_and c.from_residual-in_err-head.result
+    c.from_residual-in_err-head.ensures.1 in
     let e = c.in_ok-read_whole.ensures in
     let ten : length c.read_whole.new.buf ≤ c.in_ok-read_whole.field-0 = omega (arith, e.room) in
-    rw (p.1, p.2) (bad_head c.in_err-head.field-0.0 c.args.first _ _ c.read_whole.new.buf (gave_all _ _ _ _ e.given ten) e.room (sym c.in_err-head.ensures.exact) c.in_err-head.ensures.fault)
+    rw (p.1, p.2)
+    (bad_head c.in_err-head.field-0.0 c.args.first _ _ c.read_whole.new.buf
+    (gave_all _ _ _ _ e.given ten) e.room
+    (sym c.in_err-head.ensures.exact) c.in_err-head.ensures.fault)
 
 pub returns-then-branch-head-clause-fault : goal.returns-then-branch-head-clause-fault
 returns-then-branch-head-clause-fault g c =
@@ -25,5 +31,10 @@ returns-then-branch-head-clause-fault g c =
     let k = c.in_ok-read_whole-2.field-0 in
     let e2 = c.in_ok-read_whole-2.ensures in
     let lt : k < c.in_ok-head.head.length = omega arith in
-    let room : length c.read_whole-2.new.buf ≡ c.in_ok-head.head.length = e2.room ∙ length-take-le c.in_ok-head.head.length c.args.buf.now (omega (arith, c.in_ok-head.ensures.spelled.length_fits)) in
-    cut_octets c.args.first _ _ _ c.read_whole.new.buf (take k c.read_whole-2.new.buf) c.in_ok-head.head (gave_all _ _ _ _ e.given ten) e.room (sym c.in_ok-head.ensures.exact) e2.given (e2.short (omega arith)) (omega (arith, length-take k c.read_whole-2.new.buf))
+    let room : length c.read_whole-2.new.buf ≡ c.in_ok-head.head.length =
+    e2.room ∙ length-take-le c.in_ok-head.head.length c.args.buf.now
+    (omega (arith, c.in_ok-head.ensures.spelled.length_fits)) in
+    cut_octets c.args.first _ _ _ c.read_whole.new.buf
+    (take k c.read_whole-2.new.buf) c.in_ok-head.head (gave_all _ _ _ _ e.given ten) e.room
+    (sym c.in_ok-head.ensures.exact) e2.given (e2.short (omega arith))
+    (omega (arith, length-take k c.read_whole-2.new.buf))

@@ -10,9 +10,20 @@ use Rattle.capture_file.proofs.writing.write_capture.Goals as goal
 pub returns-in_err-write_front-clause-fault : goal.returns-in_err-write_front-clause-fault
 returns-in_err-write_front-clause-fault g c =
     let p = err_from_is_err_and c.from_residual.result c.from_residual.ensures.1 in
-    rw (p.1, p.2) (tt, prefix_first _ _ (front_text Two c.args.text.now) (records_text (map entry_seen c.args.records.now)) c.in_err-write_front.ensures.fault)
+    rw (p.1, p.2) (
+      tt,
+      prefix_first _ _ (front_text Two c.args.text.now)
+          (records_text (map entry_seen c.args.records.now)) c.in_err-write_front.ensures.fault,
+    )
 
 pub returns-in_err-write_records-clause-fault : goal.returns-in_err-write_records-clause-fault
 returns-in_err-write_records-clause-fault g c =
-    let p = err_from_is_err_and c.from_residual-in_err-write_records.result c.from_residual-in_err-write_records.ensures.1 in
-    rw (p.1, p.2) (tt, prefix_then _ _ _ (front_text Two c.args.text.now) (records_text (map entry_seen c.args.records.now)) c.in_ok-write_front.ensures.ok c.in_err-write_records.ensures.fault)
+    let p =
+    err_from_is_err_and c.from_residual-in_err-write_records.result
+    c.from_residual-in_err-write_records.ensures.1 in
+    rw (p.1, p.2) (
+      tt,
+      prefix_then _ _ _ (front_text Two c.args.text.now)
+          (records_text (map entry_seen c.args.records.now)) c.in_ok-write_front.ensures.ok
+          c.in_err-write_records.ensures.fault,
+    )

@@ -10,5 +10,6 @@ pub record Writing (so_far count : Type 0) : Type 0 where
 
 abbrev pub invariant-loop-record : goal.invariant-loop-record
 invariant-loop-record g l = Writing
-    (Appends (g.K.ByteSink.held l.initial.sink) (g.K.ByteSink.held l.sink) (records_text (map entry_seen (take l.record-index l.records))))
+    (Appends (g.K.ByteSink.held l.initial.sink) (g.K.ByteSink.held l.sink)
+    (records_text (map entry_seen (take l.record-index l.records))))
     (g.K.ByteSink.failures l.sink ≡ g.K.ByteSink.failures l.initial.sink)

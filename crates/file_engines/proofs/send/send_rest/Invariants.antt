@@ -7,6 +7,8 @@ invariant-loop-place g l = record {
   len : length l.pictures ≡ length l.initial.pictures;
   room : length l.buf ≡ 65535;
   stands : l.sender.writer.place.failed ≡ false;
-  pictures : sum_by g.S.ByteSource.failures l.pictures ≡ sum_by g.S.ByteSource.failures l.initial.pictures;
-  sink : g.K.ByteSink.failures l.sender.writer.sink ≡ g.K.ByteSink.failures l.initial.sender.writer.sink;
+  pictures : sum_by g.S.ByteSource.failures l.pictures
+      ≡ sum_by g.S.ByteSource.failures l.initial.pictures;
+  sink : g.K.ByteSink.failures l.sender.writer.sink
+      ≡ g.K.ByteSink.failures l.initial.sender.writer.sink;
 }

@@ -4,5 +4,7 @@ use Rattle.file_engines.proofs.sender.put_all.Goals as goal
 
 pub datagram-count-requires-clause-room : goal.datagram-count-requires-clause-room
 datagram-count-requires-clause-room g c =
-    let fits = packet_fits c.args.plan.now c.loop-index.index c.len-packets.ensures.full (omega (arith, c.len-packets.ensures.value, c.loop-index-test.true)) in
+    let fits =
+    packet_fits c.args.plan.now c.loop-index.index c.len-packets.ensures.full
+    (omega (arith, c.len-packets.ensures.value, c.loop-index-test.true)) in
     omega (arith, fits, c.loop-index.invariant.room)

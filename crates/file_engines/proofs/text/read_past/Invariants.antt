@@ -7,6 +7,7 @@ decreases-loop-piece g l = 16777217 - length l.octets.items
 
 abbrev pub invariant-loop-piece : goal.invariant-loop-piece
 invariant-loop-piece g l = record {
-  given : Consumes (g.S.ByteSource.to_give l.initial.source) (g.S.ByteSource.to_give l.source) l.octets.items;
+  given : Consumes (g.S.ByteSource.to_give l.initial.source)
+      (g.S.ByteSource.to_give l.source) l.octets.items;
   failures : g.S.ByteSource.failures l.source ≡ g.S.ByteSource.failures l.initial.source;
 }

@@ -5,9 +5,13 @@ use Rattle.frame_assembly.proofs.groups.join_block.Goals as goal
 
 pub returns-then-same_octets : goal.returns-then-same_octets
 returns-then-same_octets c =
-    same_joined _ _ _ c.args.marks.now c.args.octets.now c.args.other_marks.now c.args.others.now c.requires.packed (c.if-same_words.ensures.0 refl) (c.if-same_octets.ensures.0 refl)
+    same_joined _ _ _ c.args.marks.now c.args.octets.now c.args.other_marks.now c.args.others.now
+    c.requires.packed (c.if-same_words.ensures.0 refl) (c.if-same_octets.ensures.0 refl)
 
 pub returns-then-are_missing : goal.returns-then-are_missing
 returns-then-are_missing c =
-    copy_joined _ _ _ _ _ _ _ _ _ (sizes c.args.format.now.sampling c.args.format.now.depth) c.requires.packed c.requires.other c.requires.alike
-    (c.if-are_missing.ensures refl) c.copy_from_slice.ensures.after c.copy_from_slice-then-are_missing.ensures.after
+    copy_joined _ _ _ _ _ _ _ _ _
+    (sizes c.args.format.now.sampling c.args.format.now.depth) c.requires.packed
+    c.requires.other c.requires.alike
+    (c.if-are_missing.ensures refl) c.copy_from_slice.ensures.after
+    c.copy_from_slice-then-are_missing.ensures.after

@@ -1,16 +1,21 @@
 use Rattle.std.proofs.Common.{ℕ, ◌+◌, ◌-◌, ◌*◌, ◌/◌, length, refl, arith}
 use Rattle.frame_assembly.proofs.PackedLemmas.{sizes}
-use Rattle.frame_assembly.proofs.Runs.{are_alike, none_joined_to, part_between, part_behind, part_packed, left_packed, left_long, part_joined, joined_all}
+use Rattle.frame_assembly.proofs.Runs.{are_alike, none_joined_to, part_between, part_behind}
+use Rattle.frame_assembly.proofs.Runs.{part_packed, left_packed, left_long, part_joined, joined_all}
 use Rattle.frame_assembly.proofs.groups.join_chunks.Goals as goal
 
 pub loop-i-init : goal.loop-i-init
-loop-i-init c = none_joined_to _ _ _ _ _ _ _ (sizes c.args.format.now.sampling c.args.format.now.depth)
+loop-i-init c =
+    none_joined_to _ _ _ _ _ _ _ (sizes c.args.format.now.sampling c.args.format.now.depth)
 
 pub join_chunk-requires-clause-packed : goal.join_chunk-requires-clause-packed
 join_chunk-requires-clause-packed c =
-    left_packed _ _ _ (8 * c.loop-i.i) 8 _ _ _ _ c.args.marks.now c.args.octets.now c.args.other_marks.now c.args.others.now c.loop-i.marks c.loop-i.octets
+    left_packed _ _ _
+    (8 * c.loop-i.i) 8 _ _ _ _ c.args.marks.now c.args.octets.now c.args.other_marks.now
+    c.args.others.now c.loop-i.marks c.loop-i.octets
     (part_between _ _ (8 * c.loop-i.i) 8 (8 * (c.loop-i.i + 1)) c.requires.size (omega arith))
-    (are_alike c.args.format.now.sampling c.args.format.now.depth _ _ _ _ c.requires.packed c.requires.other c.requires.alike)
+    (are_alike c.args.format.now.sampling c.args.format.now.depth _ _ _ _ c.requires.packed
+    c.requires.other c.requires.alike)
     (omega arith) c.loop-i.invariant
 
 pub join_chunk-requires-clause-other : goal.join_chunk-requires-clause-other
@@ -21,39 +26,58 @@ join_chunk-requires-clause-other c =
 
 pub loop-i-preserved : goal.loop-i-preserved
 loop-i-preserved c =
-    part_joined _ _ _ (8 * c.loop-i.i) 8 (8 * (c.loop-i.i + 1)) _ _ _ _ _ _ _ _ c.args.marks.now c.args.octets.now c.args.other_marks.now c.args.others.now c.loop-i.marks c.loop-i.octets
+    part_joined _ _ _ (8 * c.loop-i.i) 8
+    (8 *
+    (c.loop-i.i + 1)) _ _ _ _ _ _ _ _ c.args.marks.now c.args.octets.now c.args.other_marks.now
+    c.args.others.now c.loop-i.marks c.loop-i.octets
     c.join_chunk.new.marks c.join_chunk.new.octets
     (part_between _ _ (8 * c.loop-i.i) 8 (8 * (c.loop-i.i + 1)) c.requires.size (omega arith))
     (part_between _ _ (8 * c.loop-i.i) 8 (8 * (c.loop-i.i + 1)) c.requires.size (omega arith))
-    (are_alike c.args.format.now.sampling c.args.format.now.depth _ _ _ _ c.requires.packed c.requires.other c.requires.alike)
+    (are_alike c.args.format.now.sampling c.args.format.now.depth _ _ _ _ c.requires.packed
+    c.requires.other c.requires.alike)
     (omega arith) (omega arith) c.loop-i.invariant c.join_chunk.ensures
 
 pub join_chunk-requires-2-clause-packed : goal.join_chunk-requires-2-clause-packed
 join_chunk-requires-2-clause-packed c =
-    let are = are_alike c.args.format.now.sampling c.args.format.now.depth _ _ _ _ c.requires.packed c.requires.other c.requires.alike in
+    let are =
+    are_alike c.args.format.now.sampling c.args.format.now.depth _ _ _ _ c.requires.packed
+    c.requires.other c.requires.alike in
     let rest : ℕ = length c.args.marks.now - 8 * (length c.args.marks.now / 8) in
-    left_packed _ _ _ (8 * c.loop-i.i) rest _ _ _ _ c.args.marks.now c.args.octets.now c.args.other_marks.now c.args.others.now c.loop-i.marks c.loop-i.octets
-    (part_behind _ _ (8 * c.loop-i.i) (8 * (length c.args.marks.now / 8)) rest (length c.loop-i.marks) (length c.loop-i.octets) c.requires.size (omega arith)
-    (omega (arith, c.loop-i.invariant.marks_long)) (left_long _ _ _ _ _ _ _ _ _ _ are c.loop-i.invariant))
+    left_packed _ _ _
+    (8 * c.loop-i.i) rest _ _ _ _ c.args.marks.now c.args.octets.now c.args.other_marks.now
+    c.args.others.now c.loop-i.marks c.loop-i.octets
+    (part_behind _ _ (8 * c.loop-i.i) (8 * (length c.args.marks.now / 8)) rest
+    (length c.loop-i.marks) (length c.loop-i.octets) c.requires.size (omega arith)
+    (omega (arith, c.loop-i.invariant.marks_long))
+    (left_long _ _ _ _ _ _ _ _ _ _ are c.loop-i.invariant))
     are (omega arith) c.loop-i.invariant
 
 pub join_chunk-requires-2-clause-other : goal.join_chunk-requires-2-clause-other
 join_chunk-requires-2-clause-other c =
     let rest : ℕ = length c.args.marks.now - 8 * (length c.args.marks.now / 8) in
     part_packed _ _ _ (8 * c.loop-i.i) rest _ _ _ _ c.args.other_marks.now c.args.others.now
-    (part_behind _ _ (8 * c.loop-i.i) (8 * (length c.args.marks.now / 8)) rest (length c.args.other_marks.now) (length c.args.others.now) c.requires.size (omega arith)
+    (part_behind _ _ (8 * c.loop-i.i) (8 * (length c.args.marks.now / 8)) rest
+    (length c.args.other_marks.now) (length c.args.others.now) c.requires.size (omega arith)
     (omega (arith, c.requires.alike)) c.requires.other.long)
-    (sizes c.args.format.now.sampling c.args.format.now.depth) (omega (arith, c.requires.alike)) c.requires.other
+    (sizes c.args.format.now.sampling c.args.format.now.depth)
+    (omega (arith, c.requires.alike)) c.requires.other
 
 pub returns : goal.returns
 returns c =
-    let are = are_alike c.args.format.now.sampling c.args.format.now.depth _ _ _ _ c.requires.packed c.requires.other c.requires.alike in
+    let are =
+    are_alike c.args.format.now.sampling c.args.format.now.depth _ _ _ _ c.requires.packed
+    c.requires.other c.requires.alike in
     let rest : ℕ = length c.args.marks.now - 8 * (length c.args.marks.now / 8) in
     joined_all _ _ _ (length c.args.marks.now) _ _ _ _ _ _ are refl
-    (part_joined _ _ _ (8 * c.loop-i.i) rest (length c.args.marks.now) _ _ _ _ _ _ _ _ c.args.marks.now c.args.octets.now c.args.other_marks.now c.args.others.now c.loop-i.marks c.loop-i.octets
+    (part_joined _ _ _ (8 * c.loop-i.i) rest
+    (length c.args.marks.now) _ _ _ _ _ _ _ _ c.args.marks.now c.args.octets.now
+    c.args.other_marks.now c.args.others.now c.loop-i.marks c.loop-i.octets
     c.join_chunk-2.new.marks c.join_chunk-2.new.octets
-    (part_behind _ _ (8 * c.loop-i.i) (8 * (length c.args.marks.now / 8)) rest (length c.loop-i.marks) (length c.loop-i.octets) c.requires.size (omega arith)
-    (omega (arith, c.loop-i.invariant.marks_long)) (left_long _ _ _ _ _ _ _ _ _ _ are c.loop-i.invariant))
-    (part_behind _ _ (8 * c.loop-i.i) (8 * (length c.args.marks.now / 8)) rest (length c.args.other_marks.now) (length c.args.others.now) c.requires.size (omega arith)
+    (part_behind _ _ (8 * c.loop-i.i) (8 * (length c.args.marks.now / 8)) rest
+    (length c.loop-i.marks) (length c.loop-i.octets) c.requires.size (omega arith)
+    (omega (arith, c.loop-i.invariant.marks_long))
+    (left_long _ _ _ _ _ _ _ _ _ _ are c.loop-i.invariant))
+    (part_behind _ _ (8 * c.loop-i.i) (8 * (length c.args.marks.now / 8)) rest
+    (length c.args.other_marks.now) (length c.args.others.now) c.requires.size (omega arith)
     (omega (arith, c.requires.alike)) c.requires.other.long)
     are (omega arith) (omega arith) c.loop-i.invariant c.join_chunk-2.ensures)

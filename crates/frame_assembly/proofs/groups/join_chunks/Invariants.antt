@@ -6,5 +6,6 @@ use Rattle.frame_assembly.proofs.groups.join_chunks.Given as goal
 -- the chunks so far are joined, and the others are as they were
 abbrev pub invariant-loop-i : goal.invariant-loop-i
 invariant-loop-i l =
-    JoinedTo (bits_of l.format.depth) (pixel_group l.format.sampling l.format.depth).octets (pixel_group l.format.sampling l.format.depth).samples (8 * l.i)
+    JoinedTo (bits_of l.format.depth) (pixel_group l.format.sampling l.format.depth).octets
+    (pixel_group l.format.sampling l.format.depth).samples (8 * l.i)
     l.initial.marks l.initial.octets l.other_marks l.others l.marks l.octets

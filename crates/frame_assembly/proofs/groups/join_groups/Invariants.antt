@@ -5,5 +5,6 @@ use Rattle.frame_assembly.proofs.groups.join_groups.Given as goal
 -- the groups so far are joined, and the others are as they were
 abbrev pub invariant-loop-i : goal.invariant-loop-i
 invariant-loop-i l =
-    JoinedTo (bits_of l.format.depth) (pixel_group l.format.sampling l.format.depth).octets (pixel_group l.format.sampling l.format.depth).samples l.i
+    JoinedTo (bits_of l.format.depth) (pixel_group l.format.sampling l.format.depth).octets
+    (pixel_group l.format.sampling l.format.depth).samples l.i
     l.initial.marks l.initial.octets l.other_marks l.others l.marks l.octets

@@ -5,7 +5,8 @@ use Rattle.frame_assembly.proofs.groups.join_present.Goals as goal
 
 pub returns : goal.returns
 returns c =
-    contested_joined _ _ _ c.args.marks.now c.args.other_marks.now c.or_marks.new.into c.contest.new.marks c.args.octets.now c.args.others.now c.contest.new.octets
+    contested_joined _ _ _ c.args.marks.now c.args.other_marks.now c.or_marks.new.into
+    c.contest.new.marks c.args.octets.now c.args.others.now c.contest.new.octets
     (sizes c.args.format.now.sampling c.args.format.now.depth) (record {
       packed = c.requires.packed;
       other = c.requires.other;

@@ -1,22 +1,31 @@
-use Rattle.std.proofs.Common.{ℕ, ◌+◌, ◌-◌, ◌*◌, ◌/◌, List, length, take, drop, refl, ◌∙◌, sym, subst, arith}
+use Rattle.std.proofs.Common.{ℕ, ◌+◌, ◌-◌, ◌*◌, ◌/◌, List, length, take, drop, refl, ◌∙◌, sym}
+use Rattle.std.proofs.Common.{subst, arith}
 use Rattle.std.proofs.lemmas.List.{length-replicate}
 use Rattle.st_format.specs.Pgroup.{bits_of, pixel_group}
 use Rattle.frame_assembly.specs.Packed.{IsPacked, whole_marks}
 use Rattle.frame_assembly.proofs.PackedLemmas.{sizes}
-use Rattle.frame_assembly.proofs.Runs.{are_alike, none_joined_to, part_between, part_behind, part_marks, part_packed, left_packed, left_long, part_joined, joined_all, marks_same}
+use Rattle.frame_assembly.proofs.Runs.{are_alike, none_joined_to, part_between, part_behind}
+use Rattle.frame_assembly.proofs.Runs.{part_marks, part_packed, left_packed, left_long, part_joined}
+use Rattle.frame_assembly.proofs.Runs.{joined_all, marks_same}
 use Rattle.frame_assembly.proofs.Segments.{other_marks_same, whole_packed, whole_part, whole_rest}
 use Rattle.frame_assembly.proofs.joining.join_blocks.Goals as goal
 
 pub loop-i-init : goal.loop-i-init
-loop-i-init c = none_joined_to _ _ _ _ _ _ _ (sizes c.args.format.now.sampling c.args.format.now.depth)
+loop-i-init c =
+    none_joined_to _ _ _ _ _ _ _ (sizes c.args.format.now.sampling c.args.format.now.depth)
 
 pub join_block-requires-clause-packed : goal.join_block-requires-clause-packed
 join_block-requires-clause-packed c =
     let is = sizes c.args.format.now.sampling c.args.format.now.depth in
-    let other = whole_packed _ _ _ (length c.args.marks.now) c.args.others.now is (c.requires.alike ∙ c.requires.packed.long) in
-    left_packed _ _ _ (64 * c.loop-i.i) 64 _ _ _ _ c.args.marks.now c.args.octets.now (whole_marks (length c.args.marks.now)) c.args.others.now c.loop-i.marks c.loop-i.octets
-    (part_between _ _ (64 * c.loop-i.i) 64 (64 * (c.loop-i.i + 1)) c.pgroup-size.ensures.octets (omega arith))
-    (are_alike c.args.format.now.sampling c.args.format.now.depth _ _ _ _ c.requires.packed other (length-replicate (length c.args.marks.now) 32768))
+    let other =
+    whole_packed _ _ _ (length c.args.marks.now) c.args.others.now is
+    (c.requires.alike ∙ c.requires.packed.long) in
+    left_packed _ _ _ (64 * c.loop-i.i) 64 _ _ _ _ c.args.marks.now c.args.octets.now
+    (whole_marks (length c.args.marks.now)) c.args.others.now c.loop-i.marks c.loop-i.octets
+    (part_between _ _ (64 * c.loop-i.i) 64 (64 * (c.loop-i.i + 1)) c.pgroup-size.ensures.octets
+    (omega arith))
+    (are_alike c.args.format.now.sampling c.args.format.now.depth _ _ _ _ c.requires.packed other
+    (length-replicate (length c.args.marks.now) 32768))
     (omega arith) c.loop-i.invariant
 
 pub join_block-requires-clause-other : goal.join_block-requires-clause-other
@@ -24,35 +33,55 @@ join_block-requires-clause-other c =
     let is = sizes c.args.format.now.sampling c.args.format.now.depth in
     let many : ℕ = length c.args.marks.now in
     let at : ℕ = 64 * c.loop-i.i in
-    let other = whole_packed _ _ _ many c.args.others.now is (c.requires.alike ∙ c.requires.packed.long) in
-    let here = part_between _ _ at 64 (64 * (c.loop-i.i + 1)) c.pgroup-size.ensures.octets (omega arith) in
-    subst (λ (ms : List ℕ). IsPacked (bits_of c.args.format.now.depth) (pixel_group c.args.format.now.sampling c.args.format.now.depth).octets (pixel_group c.args.format.now.sampling c.args.format.now.depth).samples
-    ms (take (c.pgroup-size.result.octets * (64 * (c.loop-i.i + 1)) - c.pgroup-size.result.octets * (64 * c.loop-i.i)) (drop (c.pgroup-size.result.octets * (64 * c.loop-i.i)) c.args.others.now)))
+    let other =
+    whole_packed _ _ _ many c.args.others.now is (c.requires.alike ∙ c.requires.packed.long) in
+    let here =
+    part_between _ _ at 64 (64 * (c.loop-i.i + 1)) c.pgroup-size.ensures.octets (omega arith) in
+    subst (λ (ms : List ℕ). IsPacked (bits_of c.args.format.now.depth)
+    (pixel_group c.args.format.now.sampling c.args.format.now.depth).octets
+    (pixel_group c.args.format.now.sampling c.args.format.now.depth).samples
+    ms (take
+    (c.pgroup-size.result.octets * (64 * (c.loop-i.i + 1)) - c.pgroup-size.result.octets *
+    (64 * c.loop-i.i))
+    (drop (c.pgroup-size.result.octets * (64 * c.loop-i.i)) c.args.others.now)))
     (whole_part at 64 many (omega arith) ∙ sym c.requires.whole)
-    (part_packed _ _ _ at 64 _ _ _ _ (whole_marks many) c.args.others.now (part_marks here) is (omega (arith, length-replicate {A = ℕ} many 32768)) other)
+    (part_packed _ _ _ at 64 _ _ _ _ (whole_marks many) c.args.others.now (part_marks here) is
+    (omega (arith, length-replicate {A = ℕ} many 32768)) other)
 
 pub loop-i-preserved : goal.loop-i-preserved
 loop-i-preserved c =
     let is = sizes c.args.format.now.sampling c.args.format.now.depth in
     let many : ℕ = length c.args.marks.now in
     let at : ℕ = 64 * c.loop-i.i in
-    let other = whole_packed _ _ _ many c.args.others.now is (c.requires.alike ∙ c.requires.packed.long) in
-    let here = part_between _ _ at 64 (64 * (c.loop-i.i + 1)) c.pgroup-size.ensures.octets (omega arith) in
-    part_joined _ _ _ at 64 (64 * (c.loop-i.i + 1)) _ _ _ _ _ _ _ _ c.args.marks.now c.args.octets.now (whole_marks many) c.args.others.now c.loop-i.marks c.loop-i.octets
+    let other =
+    whole_packed _ _ _ many c.args.others.now is (c.requires.alike ∙ c.requires.packed.long) in
+    let here =
+    part_between _ _ at 64 (64 * (c.loop-i.i + 1)) c.pgroup-size.ensures.octets (omega arith) in
+    part_joined _ _ _ at 64
+    (64 * (c.loop-i.i + 1)) _ _ _ _ _ _ _ _ c.args.marks.now c.args.octets.now
+    (whole_marks many) c.args.others.now c.loop-i.marks c.loop-i.octets
     c.join_block.new.marks c.join_block.new.octets here (part_marks here)
-    (are_alike c.args.format.now.sampling c.args.format.now.depth _ _ _ _ c.requires.packed other (length-replicate {A = ℕ} many 32768))
+    (are_alike c.args.format.now.sampling c.args.format.now.depth _ _ _ _ c.requires.packed other
+    (length-replicate {A = ℕ} many 32768))
     (omega arith) (omega arith) c.loop-i.invariant
-    (marks_same _ _ _ _ _ _ _ _ _ _ (c.requires.whole ∙ sym (whole_part at 64 many (omega arith))) c.join_block.ensures)
+    (marks_same _ _ _ _ _ _ _ _ _ _
+    (c.requires.whole ∙ sym (whole_part at 64 many (omega arith))) c.join_block.ensures)
 
 pub join_block-requires-2-clause-packed : goal.join_block-requires-2-clause-packed
 join_block-requires-2-clause-packed c =
     let is = sizes c.args.format.now.sampling c.args.format.now.depth in
     let many : ℕ = length c.args.marks.now in
-    let other = whole_packed _ _ _ many c.args.others.now is (c.requires.alike ∙ c.requires.packed.long) in
-    let are = are_alike c.args.format.now.sampling c.args.format.now.depth _ _ _ _ c.requires.packed other (length-replicate {A = ℕ} many 32768) in
+    let other =
+    whole_packed _ _ _ many c.args.others.now is (c.requires.alike ∙ c.requires.packed.long) in
+    let are =
+    are_alike c.args.format.now.sampling c.args.format.now.depth _ _ _ _ c.requires.packed
+    other (length-replicate {A = ℕ} many 32768) in
     let so_far = c.loop-i.invariant in
-    left_packed _ _ _ (64 * c.loop-i.i) (many - 64 * (many / 64)) _ _ _ _ c.args.marks.now c.args.octets.now (whole_marks many) c.args.others.now c.loop-i.marks c.loop-i.octets
-    (part_behind _ _ (64 * c.loop-i.i) (64 * (many / 64)) (many - 64 * (many / 64)) (length c.loop-i.marks) (length c.loop-i.octets) c.pgroup-size.ensures.octets (omega arith)
+    left_packed _ _ _ (64 * c.loop-i.i)
+    (many - 64 * (many / 64)) _ _ _ _ c.args.marks.now c.args.octets.now
+    (whole_marks many) c.args.others.now c.loop-i.marks c.loop-i.octets
+    (part_behind _ _ (64 * c.loop-i.i) (64 * (many / 64)) (many - 64 * (many / 64))
+    (length c.loop-i.marks) (length c.loop-i.octets) c.pgroup-size.ensures.octets (omega arith)
     (omega (arith, so_far.marks_long)) (left_long _ _ _ _ _ _ _ _ _ _ are so_far))
     are (omega arith) so_far
 
@@ -62,10 +91,20 @@ join_block-requires-2-clause-other c =
     let many : ℕ = length c.args.marks.now in
     let at : ℕ = 64 * c.loop-i.i in
     let rest : ℕ = many - 64 * (many / 64) in
-    let other = whole_packed _ _ _ many c.args.others.now is (c.requires.alike ∙ c.requires.packed.long) in
-    let here = part_behind _ _ at (64 * (many / 64)) rest many (length c.args.others.now) c.pgroup-size.ensures.octets (omega arith) (omega arith) (c.requires.alike ∙ c.requires.packed.long) in
-    other_marks_same _ _ _ _ _ _ (whole_part at rest many (omega arith) ∙ sym (whole_rest many (length c.loop-i.marks) (64 * (many / 64)) c.args.whole.now c.requires.whole c.loop-i.invariant.marks_long (omega arith)))
-    (part_packed _ _ _ at rest _ _ _ _ (whole_marks many) c.args.others.now (part_marks here) is (omega (arith, length-replicate {A = ℕ} many 32768)) other)
+    let other =
+    whole_packed _ _ _ many c.args.others.now is (c.requires.alike ∙ c.requires.packed.long) in
+    let here =
+    part_behind _ _ at (64 * (many / 64)) rest many
+    (length c.args.others.now) c.pgroup-size.ensures.octets (omega arith) (omega arith)
+    (c.requires.alike ∙ c.requires.packed.long) in
+    other_marks_same _ _ _ _ _ _
+    (whole_part at rest many (omega arith)
+    ∙ sym
+    (whole_rest many (length c.loop-i.marks)
+    (64 * (many / 64)) c.args.whole.now c.requires.whole c.loop-i.invariant.marks_long
+    (omega arith)))
+    (part_packed _ _ _ at rest _ _ _ _ (whole_marks many) c.args.others.now (part_marks here) is
+    (omega (arith, length-replicate {A = ℕ} many 32768)) other)
 
 pub returns : goal.returns
 returns c =
@@ -73,15 +112,26 @@ returns c =
     let many : ℕ = length c.args.marks.now in
     let at : ℕ = 64 * c.loop-i.i in
     let rest : ℕ = many - 64 * (many / 64) in
-    let other = whole_packed _ _ _ many c.args.others.now is (c.requires.alike ∙ c.requires.packed.long) in
-    let are = are_alike c.args.format.now.sampling c.args.format.now.depth _ _ _ _ c.requires.packed other (length-replicate {A = ℕ} many 32768) in
-    let there = part_behind _ _ at (64 * (many / 64)) rest many (length c.args.others.now) c.pgroup-size.ensures.octets (omega arith) (omega arith) (c.requires.alike ∙ c.requires.packed.long) in
+    let other =
+    whole_packed _ _ _ many c.args.others.now is (c.requires.alike ∙ c.requires.packed.long) in
+    let are =
+    are_alike c.args.format.now.sampling c.args.format.now.depth _ _ _ _ c.requires.packed
+    other (length-replicate {A = ℕ} many 32768) in
+    let there =
+    part_behind _ _ at (64 * (many / 64)) rest many
+    (length c.args.others.now) c.pgroup-size.ensures.octets (omega arith) (omega arith)
+    (c.requires.alike ∙ c.requires.packed.long) in
     joined_all _ _ _ many _ _ _ _ _ _ are refl
-    (part_joined _ _ _ at rest many _ _ _ _ _ _ _ _ c.args.marks.now c.args.octets.now (whole_marks many) c.args.others.now c.loop-i.marks c.loop-i.octets
+    (part_joined _ _ _ at rest many _ _ _ _ _ _ _ _ c.args.marks.now c.args.octets.now
+    (whole_marks many) c.args.others.now c.loop-i.marks c.loop-i.octets
     c.join_block-2.new.marks c.join_block-2.new.octets
-    (part_behind _ _ at (64 * (many / 64)) rest (length c.loop-i.marks) (length c.loop-i.octets) c.pgroup-size.ensures.octets (omega arith)
-    (omega (arith, c.loop-i.invariant.marks_long)) (left_long _ _ _ _ _ _ _ _ _ _ are c.loop-i.invariant))
+    (part_behind _ _ at (64 * (many / 64)) rest (length c.loop-i.marks)
+    (length c.loop-i.octets) c.pgroup-size.ensures.octets (omega arith)
+    (omega (arith, c.loop-i.invariant.marks_long))
+    (left_long _ _ _ _ _ _ _ _ _ _ are c.loop-i.invariant))
     (part_marks there) are (omega arith) (omega arith) c.loop-i.invariant
     (marks_same _ _ _ _ _ _ _ _ _ _
-    (whole_rest many (length c.loop-i.marks) (64 * (many / 64)) c.args.whole.now c.requires.whole c.loop-i.invariant.marks_long (omega arith) ∙ sym (whole_part at rest many (omega arith)))
+    (whole_rest many (length c.loop-i.marks)
+    (64 * (many / 64)) c.args.whole.now c.requires.whole c.loop-i.invariant.marks_long
+    (omega arith) ∙ sym (whole_part at rest many (omega arith)))
     c.join_block-2.ensures))

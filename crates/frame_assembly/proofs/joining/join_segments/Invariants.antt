@@ -11,6 +11,11 @@ pub record Joins (whole packed rest : Type 0) : Type 0 where
 
 -- what is joined already and what is left make the whole
 abbrev pub invariant-loop-segment : goal.invariant-loop-segment
-invariant-loop-segment l = Joins (length l.marks ≡ group_count l.format) (ArePacked l.format l.marks l.octets)
-    ((ts : ℕ) → joined (cells_in l.format l.marks l.octets) (cells_of l.format (offers_in_all l.format ts (map seen (drop l.segment-index l.segments))) ts)
-    ≡ joined (cells_in l.format l.initial.marks l.initial.octets) (cells_of l.format (offers_in_all l.format ts (map seen l.segments)) ts))
+invariant-loop-segment l =
+    Joins (length l.marks ≡ group_count l.format) (ArePacked l.format l.marks l.octets)
+    ((ts : ℕ)
+    → joined (cells_in l.format l.marks l.octets)
+    (cells_of l.format
+    (offers_in_all l.format ts (map seen (drop l.segment-index l.segments))) ts)
+    ≡ joined (cells_in l.format l.initial.marks l.initial.octets)
+    (cells_of l.format (offers_in_all l.format ts (map seen l.segments)) ts))

@@ -7,11 +7,20 @@ slice_bounds-result-end c =
     let k : ℕ = c.args.row in
     let same = c.row_groups-count.ensures.value in
     let at : k * c.row_groups-count.result ≡ _ = ap (λ (j : ℕ). k * j) same in
-    let le = octets_inside c.args.format.now c.args.marks.now c.args.octets.now (c.args.row * c.row_groups-count.result) c.row_groups-count.result c.pgroup-size.result.octets c.requires.packed
-    (omega (arith, row_inside c.args.format.now c.args.marks.now c.args.row c.requires.whole c.requires.row)) c.pgroup-size.ensures.octets in
+    let le =
+    octets_inside c.args.format.now c.args.marks.now c.args.octets.now
+    (c.args.row * c.row_groups-count.result) c.row_groups-count.result
+    c.pgroup-size.result.octets c.requires.packed
+    (omega (
+      arith,
+      row_inside c.args.format.now c.args.marks.now c.args.row c.requires.whole c.requires.row,
+    ))
+    c.pgroup-size.ensures.octets in
     omega arith
 
 pub returns-clause-spelled : goal.returns-clause-spelled
 returns-clause-spelled c =
-    row_spelled c.args.format.now c.args.marks.now c.args.octets.now c.args.row c.pgroup-size.result.octets c.row_groups-count.result c.pgroup-size.ensures.octets c.row_groups-count.ensures.value
+    row_spelled c.args.format.now c.args.marks.now c.args.octets.now c.args.row
+    c.pgroup-size.result.octets c.row_groups-count.result c.pgroup-size.ensures.octets
+    c.row_groups-count.ensures.value
     c.requires.whole c.requires.packed c.requires.row

@@ -19,11 +19,13 @@ loop-mark-preserved c = record {
         omega arith
   ];
   least_whole = λ whole.
-      let before : c.loop-mark.least ≡ 32768 = c.loop-mark.invariant.least_whole (λ k lt. whole k (omega arith)) in
+      let before : c.loop-mark.least ≡ 32768 =
+      c.loop-mark.invariant.least_whole (λ k lt. whole k (omega arith)) in
       let here = whole c.loop-mark.mark-index (omega arith) in
       omega arith;
   most_whole = λ whole.
-      let before : c.loop-mark.most ≡ 32768 = c.loop-mark.invariant.most_whole (λ k lt. whole k (omega arith)) in
+      let before : c.loop-mark.most ≡ 32768 =
+      c.loop-mark.invariant.most_whole (λ k lt. whole k (omega arith)) in
       let here = whole c.loop-mark.mark-index (omega arith) in
       omega arith;
 }

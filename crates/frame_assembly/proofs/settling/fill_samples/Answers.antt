@@ -5,5 +5,6 @@ use Rattle.frame_assembly.proofs.settling.fill_samples.Goals as goal
 
 pub returns : goal.returns
 returns c =
-    all_set (λ k. get_or c.args.fill (component_in_row c.args.sampling k) 0) c.loop-number.samples (length c.args.samples.now) (omega arith)
+    all_set (λ k. get_or c.args.fill (component_in_row c.args.sampling k) 0) c.loop-number.samples
+    (length c.args.samples.now) (omega arith)
     (λ i below. c.loop-number.invariant i (omega arith))

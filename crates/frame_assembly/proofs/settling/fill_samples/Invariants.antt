@@ -4,4 +4,5 @@ use Rattle.frame_assembly.proofs.settling.fill_samples.Given as goal
 
 -- the samples so far have their components' values
 abbrev pub invariant-loop-number : goal.invariant-loop-number
-invariant-loop-number l = (i : ℕ) → i < l.number → get_or l.samples i 0 ≡ get_or l.fill (component_in_row l.sampling i) 0
+invariant-loop-number l = (i : ℕ) → i < l.number
+    → get_or l.samples i 0 ≡ get_or l.fill (component_in_row l.sampling i) 0

@@ -7,5 +7,8 @@ use Rattle.frame_assembly.proofs.settling.settle_group.Goals as goal
 
 pub returns-then-mark-eq-PRESENT : goal.returns-then-mark-eq-PRESENT
 returns-then-mark-eq-PRESENT c i lt =
-    sym (ap (λ (m : ℕ). settled_cell (marked m i (get_or c.args.samples.now i 0)) (get_or c.args.base.now i 0)) c.if-mark-eq-PRESENT.true
-    ∙ ap (λ (d : Cell). settled_cell d (get_or c.args.base.now i 0)) (marked_whole i (get_or c.args.samples.now i 0) (omega arith)))
+    sym (ap
+    (λ (m : ℕ). settled_cell (marked m i (get_or c.args.samples.now i 0))
+    (get_or c.args.base.now i 0)) c.if-mark-eq-PRESENT.true
+    ∙ ap (λ (d : Cell). settled_cell d (get_or c.args.base.now i 0))
+    (marked_whole i (get_or c.args.samples.now i 0) (omega arith)))

@@ -4,4 +4,5 @@ use Rattle.frame_assembly.proofs.settling.settle_groups.Given as goal
 
 -- the groups so far are settled
 abbrev pub invariant-loop-i : goal.invariant-loop-i
-invariant-loop-i l = IsSettledTo l.of_group l.i l.marks (λ k. get_or l.base k 0) l.initial.samples l.samples
+invariant-loop-i l =
+    IsSettledTo l.of_group l.i l.marks (λ k. get_or l.base k 0) l.initial.samples l.samples

@@ -1,4 +1,5 @@
-use Rattle.std.proofs.Common.{◌≡◌, ℕ, ◌+◌, ◌-◌, ◌*◌, ◌<◌, ◌≤◌, get_or, length, take, drop, min, refl, arith, rules, sym, ap, subst, ◌∙◌}
+use Rattle.std.proofs.Common.{◌≡◌, ℕ, ◌+◌, ◌-◌, ◌*◌, ◌<◌, ◌≤◌, get_or, length, take, drop, min}
+use Rattle.std.proofs.Common.{refl, arith, rules, sym, ap, subst, ◌∙◌}
 use Rattle.std.proofs.lemmas.List.{length-take, length-drop}
 use borrow.Rule.Slice.PartMut.{same_len_mid}
 use Rattle.st_format.specs.Pgroup.{bits_of}
@@ -20,7 +21,8 @@ slice_bounds-row_keys-end c =
     omega (
       arith,
       row_within l.row l.from c.row_samples-m.result (row_samples g) g.height
-          (length c.args.by.now) l.invariant.lumas c.row_samples-m.ensures.value c.requires.of_by lt,
+          (length c.args.by.now) l.invariant.lumas c.row_samples-m.ensures.value c.requires.of_by
+          lt,
     )
 
 pub slice_bounds-key_mix-end : goal.slice_bounds-key_mix-end

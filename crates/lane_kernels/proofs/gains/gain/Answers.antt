@@ -10,7 +10,10 @@ loop-values-preserved c =
     let values = c.loop-values.values in
     let kept = c.loop-values.invariant.kept in
     let x = HasLanes-kept _ i 8 values (omega arith) kept in
-    let lanes = HasLanes-same 8 c.narrowed-changed.ensures (λ k h. c.gain_lanes.ensures.each k h ∙ (λ j. clip c.args.low c.args.high (gain c.args.zero c.args.g (x.each k h j)))) in
+    let lanes =
+    HasLanes-same 8 c.narrowed-changed.ensures
+    (λ k h. c.gain_lanes.ensures.each k h
+    ∙ (λ j. clip c.args.low c.args.high (gain c.args.zero c.args.g (x.each k h j)))) in
     record {
       long = length-put_chunk i values _ ∙ c.loop-values.invariant.long;
       within = omega arith;

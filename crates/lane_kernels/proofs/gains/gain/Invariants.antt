@@ -7,7 +7,8 @@ abbrev pub invariant-loop-values : goal.invariant-loop-values
 invariant-loop-values l = record {
   long : length l.values ≡ length l.initial.values;
   within : l.at ≤ length l.initial.values;
-  done : Below (λ k. clip l.low l.high (gain l.zero l.g (get_or l.initial.values k 0))) l.at l.values;
+  done : Below
+      (λ k. clip l.low l.high (gain l.zero l.g (get_or l.initial.values k 0))) l.at l.values;
   kept : Kept l.initial.values l.at l.values;
 }
 

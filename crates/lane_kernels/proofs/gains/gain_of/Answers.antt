@@ -9,5 +9,6 @@ returns c =
       arith,
       c.max.ensures,
       c.min.ensures,
-      clip_raised c.args.low c.args.high (3 * c.args.zero) _ _ c.requires.range (gain_natural c.args.zero c.args.g c.args.x c.requires.of_g),
+      clip_raised c.args.low c.args.high (3 * c.args.zero) _ _ c.requires.range
+          (gain_natural c.args.zero c.args.g c.args.x c.requires.of_g),
     )

@@ -8,7 +8,13 @@ overflow_cast-result c = masked_ones_fit 16 c.args.mask c.ranges.mask.fits _
 
 pub overflow_add-result : goal.overflow_add-result
 overflow_add-result c =
-    sum_fits w16 0 _ (omega (arith, sum_masked 16 c.args.mask c.args.v c.fits-v.0, ones_under-le c.args.mask c.ranges.mask.fits c.args.v, c.fits-v.0))
+    sum_fits w16 0 _
+    (omega (
+      arith,
+      sum_masked 16 c.args.mask c.args.v c.fits-v.0,
+      ones_under-le c.args.mask c.ranges.mask.fits c.args.v,
+      c.fits-v.0,
+    ))
 
 pub returns-clause-value : goal.returns-clause-value
 returns-clause-value c = fold_masked 16 c.args.mask c.args.v c.fits-v.0
@@ -16,4 +22,5 @@ returns-clause-value c = fold_masked 16 c.args.mask c.args.v c.fits-v.0
 pub returns-clause-most : goal.returns-clause-most
 returns-clause-most c =
     let le = ones_under-le c.args.mask c.ranges.mask.fits c.args.v in
-    subst (λ r. r ≤ 256) (sym (fold_masked 16 c.args.mask c.args.v c.fits-v.0)) (omega (arith, le, c.fits-v.0))
+    subst (λ r. r ≤ 256) (sym (fold_masked 16 c.args.mask c.args.v c.fits-v.0))
+    (omega (arith, le, c.fits-v.0))

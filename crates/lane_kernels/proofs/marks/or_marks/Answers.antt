@@ -1,6 +1,7 @@
 use Rattle.std.proofs.Common.{bit_or, ◌∙◌, arith}
 use Rattle.std.proofs.lemmas.Simd.{length-put_chunk}
-use Rattle.lane_kernels.proofs.Stored.{Below-store, Kept-store, HasLanes-load, HasLanes-kept, HasLanes-zip2}
+use Rattle.lane_kernels.proofs.Stored.{Below-store, Kept-store, HasLanes-load, HasLanes-kept}
+use Rattle.lane_kernels.proofs.Stored.{HasLanes-zip2}
 use Rattle.lane_kernels.proofs.marks.or_marks.Goals as goal
 
 pub loop-into-preserved : goal.loop-into-preserved

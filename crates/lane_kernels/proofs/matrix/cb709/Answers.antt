@@ -5,13 +5,16 @@ use Rattle.lane_kernels.proofs.Stored.{Below-store, HasLanes-load, HasLanes-same
 use Rattle.lane_kernels.proofs.matrix.cb709.Goals as goal
 
 pub cb_block-colour-requires-clause-of_red : goal.cb_block-colour-requires-clause-of_red
-cb_block-colour-requires-clause-of_red c = lanes_below 8 c.loop-out.at c.args.r.now _ (omega arith) c.requires.fit_r
+cb_block-colour-requires-clause-of_red c =
+    lanes_below 8 c.loop-out.at c.args.r.now _ (omega arith) c.requires.fit_r
 
 pub cb_block-colour-requires-clause-of_green : goal.cb_block-colour-requires-clause-of_green
-cb_block-colour-requires-clause-of_green c = lanes_below 8 c.loop-out.at c.args.g.now _ (omega arith) c.requires.fit_g
+cb_block-colour-requires-clause-of_green c =
+    lanes_below 8 c.loop-out.at c.args.g.now _ (omega arith) c.requires.fit_g
 
 pub cb_block-colour-requires-clause-of_blue : goal.cb_block-colour-requires-clause-of_blue
-cb_block-colour-requires-clause-of_blue c = lanes_below 8 c.loop-out.at c.args.b.now _ (omega arith) c.requires.fit_b
+cb_block-colour-requires-clause-of_blue c =
+    lanes_below 8 c.loop-out.at c.args.b.now _ (omega arith) c.requires.fit_b
 
 pub loop-out-preserved : goal.loop-out-preserved
 loop-out-preserved c =
@@ -24,5 +27,8 @@ loop-out-preserved c =
       long = length-put_chunk i out _ ∙ c.loop-out.invariant.long;
       within = omega arith;
       done = Below-store _ i 8 out (omega arith) c.loop-out.invariant.done
-          (HasLanes-same 8 c.cb_block-colour.ensures (λ k h. λ j. video_data c.args.bits (cb c.args.bits (red.each k h j) (green.each k h j) (blue.each k h j))));
+          (HasLanes-same 8 c.cb_block-colour.ensures
+          (λ k h.
+          λ j. video_data c.args.bits
+          (cb c.args.bits (red.each k h j) (green.each k h j) (blue.each k h j))));
     }

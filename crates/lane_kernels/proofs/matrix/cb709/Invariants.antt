@@ -7,7 +7,9 @@ abbrev pub invariant-loop-out : goal.invariant-loop-out
 invariant-loop-out l = record {
   long : length l.out ≡ length l.r;
   within : l.at ≤ length l.r;
-  done : Below (λ k. video_data l.bits (cb l.bits (get_or l.r k 0) (get_or l.g k 0) (get_or l.b k 0))) l.at l.out;
+  done : Below
+      (λ k. video_data l.bits
+      (cb l.bits (get_or l.r k 0) (get_or l.g k 0) (get_or l.b k 0))) l.at l.out;
 }
 
 abbrev pub decreases-loop-out : goal.decreases-loop-out
@@ -16,5 +18,7 @@ decreases-loop-out l = length l.out - l.at
 abbrev pub invariant-loop-i : goal.invariant-loop-i
 invariant-loop-i l = record {
   long : length l.out ≡ length l.r;
-  done : Below (λ k. video_data l.bits (cb l.bits (get_or l.r k 0) (get_or l.g k 0) (get_or l.b k 0))) l.i l.out;
+  done : Below
+      (λ k. video_data l.bits
+      (cb l.bits (get_or l.r k 0) (get_or l.g k 0) (get_or l.b k 0))) l.i l.out;
 }

@@ -4,7 +4,8 @@ use Rattle.lane_kernels.proofs.Scales.{whole_is}
 use Rattle.lane_kernels.proofs.matrix.cb_of.Goals as goal
 
 pub overflow_sub-raised : goal.overflow_sub-raised
-overflow_sub-raised c = omega (arith, whole_is c.args.bits c.requires.depth.0, c.scale-s.ensures.value)
+overflow_sub-raised c =
+    omega (arith, whole_is c.args.bits c.requires.depth.0, c.scale-s.ensures.value)
 
 pub returns : goal.returns
 returns c =
@@ -13,5 +14,7 @@ returns c =
       arith,
       c.max.ensures,
       c.min.ensures,
-      cb_one c.args.bits s c.args.red c.args.green c.args.blue c.requires.depth.0 c.requires.depth.1 c.scale-s.ensures.value c.requires.of_red c.requires.of_green c.requires.of_blue,
+      cb_one c.args.bits s c.args.red c.args.green c.args.blue c.requires.depth.0
+          c.requires.depth.1 c.scale-s.ensures.value c.requires.of_red c.requires.of_green
+          c.requires.of_blue,
     )

@@ -14,5 +14,10 @@ loop-out-preserved c =
     record {
       long = length-put_chunk i out _ ∙ c.loop-out.invariant.long;
       within = omega arith;
-      done = Below-store _ i 8 out (omega arith) c.loop-out.invariant.done (HasLanes-same 8 c.narrowed-luma.ensures (λ k h. c.luma_lanes.ensures.each k h ∙ (λ j. clip (c.scale-low.ensures.value j) (255 * c.scale-low.ensures.value j - 1) (luma (red.each k h j) (green.each k h j) (blue.each k h j)))));
+      done =
+          Below-store _ i 8 out (omega arith) c.loop-out.invariant.done
+          (HasLanes-same 8 c.narrowed-luma.ensures
+          (λ k h. c.luma_lanes.ensures.each k h
+          ∙ (λ j. clip (c.scale-low.ensures.value j) (255 * c.scale-low.ensures.value j - 1)
+          (luma (red.each k h j) (green.each k h j) (blue.each k h j)))));
     }

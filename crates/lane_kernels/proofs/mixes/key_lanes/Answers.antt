@@ -1,11 +1,13 @@
 use Rattle.std.proofs.Common.{ℕ, ◌<◌, get_or, ◌+◌, ◌-◌, ◌*◌, ◌/◌, ◌%◌, ◌^◌, arith, rules}
 use Rattle.std.proofs.lemmas.Simd.{Each1-all, Each2-splat}
 use Rattle.lane_kernels.proofs.Mixing.{key_fits, key_most}
-use Rattle.lane_kernels.proofs.Stored.{HasLanes-given, HasLanes-map, HasLanes-splat, HasLanes-zip2, HasLanes-same, lane_below}
+use Rattle.lane_kernels.proofs.Stored.{HasLanes-given, HasLanes-map, HasLanes-splat, HasLanes-zip2}
+use Rattle.lane_kernels.proofs.Stored.{HasLanes-same, lane_below}
 use Rattle.lane_kernels.proofs.mixes.key_lanes.Goals as goal
 
 pub nonzero_div-result-2 : goal.nonzero_div-result-2
-nonzero_div-result-2 c = Each2-splat _ _ 8 c.args.p (Each1-all _ (λ x. search (rules, c.requires.some)) _)
+nonzero_div-result-2 c =
+    Each2-splat _ _ 8 c.args.p (Each1-all _ (λ x. search (rules, c.requires.some)) _)
 
 pub returns-clause-value : goal.returns-clause-value
 returns-clause-value c =
@@ -15,12 +17,22 @@ returns-clause-value c =
     let times = λ (x y : ℕ). x * y % 2 ^ 32 in
     let plus = λ (x y : ℕ). (x + y) % 2 ^ 32 in
     let minus = λ (x y : ℕ). (x + (2 ^ 32 - y)) % 2 ^ 32 in
-    let sum = HasLanes-zip2 plus 8 (HasLanes-zip2 times 8 x (HasLanes-zip2 minus 8 (HasLanes-splat 8 c.args.p) w)) (HasLanes-zip2 times 8 y w) in
-    let mixed = HasLanes-zip2 (λ x y. x / y) 8 (HasLanes-zip2 plus 8 sum (HasLanes-splat 8 (c.args.p / 2))) (HasLanes-splat 8 c.args.p) in
+    let sum =
+    HasLanes-zip2 plus 8
+    (HasLanes-zip2 times 8 x (HasLanes-zip2 minus 8 (HasLanes-splat 8 c.args.p) w))
+    (HasLanes-zip2 times 8 y w) in
+    let mixed =
+    HasLanes-zip2 (λ x y. x / y) 8 (HasLanes-zip2 plus 8 sum (HasLanes-splat 8 (c.args.p / 2)))
+    (HasLanes-splat 8 c.args.p) in
     HasLanes-same 8 mixed (λ k h.
-    key_fits c.args.p (get_or c.args.x k 0) (get_or c.args.y k 0) (get_or c.args.k k 0) c.requires.some c.requires.most (c.requires.of_k k (omega (arith, c.fits-k.0))) (lane_below 8 c.args.x c.fits-x k h) (lane_below 8 c.args.y c.fits-y k h))
+    key_fits c.args.p (get_or c.args.x k 0) (get_or c.args.y k 0)
+    (get_or c.args.k k 0) c.requires.some c.requires.most
+    (c.requires.of_k k (omega (arith, c.fits-k.0))) (lane_below 8 c.args.x c.fits-x k h)
+    (lane_below 8 c.args.y c.fits-y k h))
 
 pub returns-clause-fit : goal.returns-clause-fit
 returns-clause-fit c = λ k h.
     let at : k < 8 = omega (arith, c.fits-x.0) in
-    key_most c.args.p (get_or c.args.x k 0) (get_or c.args.y k 0) (get_or c.args.k k 0) c.requires.some (c.requires.of_k k (omega (arith, c.fits-k.0, at))) (lane_below 8 c.args.x c.fits-x k at) (lane_below 8 c.args.y c.fits-y k at)
+    key_most c.args.p (get_or c.args.x k 0) (get_or c.args.y k 0)
+    (get_or c.args.k k 0) c.requires.some (c.requires.of_k k (omega (arith, c.fits-k.0, at)))
+    (lane_below 8 c.args.x c.fits-x k at) (lane_below 8 c.args.y c.fits-y k at)

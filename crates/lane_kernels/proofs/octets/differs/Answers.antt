@@ -11,5 +11,7 @@ loop-out-preserved c =
       long = length-put_chunk i out _ ∙ c.loop-out.invariant.long;
       within = omega arith;
       done = Below-store _ i 32 out (omega arith) c.loop-out.invariant.done
-          (HasLanes-select w8 eqb 32 (HasLanes-load i 32 c.args.a.now (omega arith)) (HasLanes-load i 32 c.args.b.now (omega arith)) (HasLanes-splat 32 0) (HasLanes-splat 32 255));
+          (HasLanes-select w8 eqb 32 (HasLanes-load i 32 c.args.a.now (omega arith))
+          (HasLanes-load i 32 c.args.b.now (omega arith)) (HasLanes-splat 32 0)
+          (HasLanes-splat 32 255));
     }

@@ -22,4 +22,5 @@ loop-out-preserved c =
 pub returns : goal.returns
 returns c = λ k lt i.
     ap (λ octet. bit_at octet i) (c.loop-i.invariant.done k (omega arith))
-    ∙ xor_selected (get_or c.args.mask.now k 0) (get_or c.args.a.now k 0) (get_or c.args.b.now k 0) i
+    ∙ xor_selected (get_or c.args.mask.now k 0) (get_or c.args.a.now k 0)
+    (get_or c.args.b.now k 0) i

@@ -1,7 +1,8 @@
 use Rattle.std.proofs.Common.{ltb, w16, ◌∙◌, arith}
 use Rattle.std.proofs.lemmas.Bool.Decides.{nat_tests}
 use Rattle.std.proofs.lemmas.Simd.{length-put_chunk}
-use Rattle.lane_kernels.proofs.Stored.{Below-store, Kept-store, HasLanes-splat, HasLanes-kept, HasLanes-select, HasLanes-same}
+use Rattle.lane_kernels.proofs.Stored.{Below-store, Kept-store, HasLanes-splat, HasLanes-kept}
+use Rattle.lane_kernels.proofs.Stored.{HasLanes-select, HasLanes-same}
 use Rattle.lane_kernels.proofs.range.clip.Goals as goal
 
 pub loop-values-preserved : goal.loop-values-preserved
@@ -17,6 +18,8 @@ loop-values-preserved c =
     record {
       long = length-put_chunk i values _ ∙ c.loop-values.invariant.long;
       within = omega arith;
-      done = Below-store _ i 16 values (omega arith) c.loop-values.invariant.done (HasLanes-same 16 clipped (λ k h. grind (arith, nat_tests)));
+      done =
+          Below-store _ i 16 values (omega arith) c.loop-values.invariant.done
+          (HasLanes-same 16 clipped (λ k h. grind (arith, nat_tests)));
       kept = Kept-store _ i 16 values kept clipped;
     }

@@ -8,7 +8,8 @@ pub record Walked (so_far within : Type 0) : Type 0 where
   pub end : within
 
 abbrev pub invariant-loop-group : goal.invariant-loop-group
-invariant-loop-group g l = Walked (IsWalk l.format l.max_octets 0 l.starts.items l.group) (l.group ≤ group_count l.format)
+invariant-loop-group g l =
+    Walked (IsWalk l.format l.max_octets 0 l.starts.items l.group) (l.group ≤ group_count l.format)
 
 abbrev pub decreases-loop-group : goal.decreases-loop-group
 decreases-loop-group g l = l.count - l.group

@@ -12,4 +12,6 @@ returns-clause-value g c = omega (arith, octets_at c.args.picture.now c.args.run
 pub returns-clause-behind : goal.returns-clause-behind
 returns-clause-behind g c =
     c.write_runs.ensures.behind
-    ∙ stays_later c.write_front-at.result c.write_runs.result c.args.buf.now c.write_front-at.new.buf (omega (arith, c.write_runs.ensures.value)) c.write_front-at.ensures.behind
+    ∙ stays_later c.write_front-at.result c.write_runs.result c.args.buf.now
+    c.write_front-at.new.buf
+    (omega (arith, c.write_runs.ensures.value)) c.write_front-at.ensures.behind

@@ -9,13 +9,16 @@ slice_bounds-write_values-end g c =
     omega (
       arith,
       c.requires.room,
-      octets_are c.args.picture.now c.args.run c.format-format.result c.group_octets_of.result c.format-format.ensures.value c.group_octets_of.ensures.value,
+      octets_are c.args.picture.now c.args.run c.format-format.result c.group_octets_of.result
+          c.format-format.ensures.value c.group_octets_of.ensures.value,
     )
 
 pub write_values-requires-clause-lengths : goal.write_values-requires-clause-lengths
 write_values-requires-clause-lengths g c =
-    run_agrees c.args.picture.now c.args.run c.format-format.result c.group_octets_of.result c.args.at c.args.buf.now c.run_samples-values.result.now
-    c.format-format.ensures.value c.group_octets_of.ensures.value c.run_samples-values.ensures.value c.requires.room
+    run_agrees c.args.picture.now c.args.run c.format-format.result c.group_octets_of.result
+    c.args.at c.args.buf.now c.run_samples-values.result.now
+    c.format-format.ensures.value c.group_octets_of.ensures.value
+    c.run_samples-values.ensures.value c.requires.room
 
 pub returns-clause-behind : goal.returns-clause-behind
 returns-clause-behind g c =
@@ -27,8 +30,13 @@ returns-clause-behind g c =
     omega (
       arith,
       c.requires.room,
-      octets_are c.args.picture.now c.args.run c.format-format.result c.group_octets_of.result c.format-format.ensures.value c.group_octets_of.ensures.value,
+      octets_are c.args.picture.now c.args.run c.format-format.result c.group_octets_of.result
+          c.format-format.ensures.value c.group_octets_of.ensures.value,
     ) in
     let long : length octets ≡ end - at =
-    omega (arith, c.write_values.auto.octets, length-take-le (end - at) (drop at buf) (omega (arith, inside, length-drop at buf))) in
+    omega (
+      arith,
+      c.write_values.auto.octets,
+      length-take-le (end - at) (drop at buf) (omega (arith, inside, length-drop at buf)),
+    ) in
     drop-put_mid at (end - at) buf octets end (omega arith) (omega arith) long

@@ -9,5 +9,8 @@ use Rattle.packet_plan.proofs.writing.write_values.Goals as goal
 pub returns : goal.returns
 returns c =
     let octets = c.pack.new.octets in
-    let small : AllByRecursion (λ v. v < 256) octets = recursion_from_All (λ v. v < 256) octets (λ k d lt. rw (get_or_default octets k d 0 lt) (omega (arith, c.type_inv.octets k))) in
-    sym (octets_in-spelled (bits_of c.args.format.now.depth) octets c.args.values.now small c.pack.ensures.spelled)
+    let small : AllByRecursion (λ v. v < 256) octets =
+    recursion_from_All (λ v. v < 256) octets
+    (λ k d lt. rw (get_or_default octets k d 0 lt) (omega (arith, c.type_inv.octets k))) in
+    sym (octets_in-spelled
+    (bits_of c.args.format.now.depth) octets c.args.values.now small c.pack.ensures.spelled)

@@ -1,4 +1,5 @@
-use Rattle.path_merge.proofs.MergeLemmas.{joined_frames-assoc, joined_frames-same, merged_either_way}
+use Rattle.path_merge.proofs.MergeLemmas.{joined_frames-assoc, joined_frames-same}
+use Rattle.path_merge.proofs.MergeLemmas.{merged_either_way}
 use Rattle.path_merge.proofs.laws.any_tree.Goals as goal
 
 pub returns-clause-commutative : goal.returns-clause-commutative

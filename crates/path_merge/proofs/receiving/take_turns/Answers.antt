@@ -2,7 +2,8 @@ use Rattle.std.proofs.Common.{ℕ, ◌∙◌, arith, refl, subst, sym}
 use Rattle.st_format.specs.Turns.{CountsTurn, TakesTurn}
 use Rattle.st_format.specs.declared.device.Turn.{Turn}
 use Rattle.path_merge.specs.Took.{CountsAll}
-use Rattle.path_merge.proofs.TurnLemmas.{counts_none, counts_more, nothing_taken, datagram_taken, quiet_taken}
+use Rattle.path_merge.proofs.TurnLemmas.{counts_none, counts_more, nothing_taken, datagram_taken}
+use Rattle.path_merge.proofs.TurnLemmas.{quiet_taken}
 use Rattle.path_merge.proofs.receiving.take_turns.Goals as goal
 
 pub loop-init : goal.loop-init
@@ -10,7 +11,9 @@ loop-init g c = record {
   few = omega arith;
   room = refl;
   receiver = c.requires.receiver;
-  so_far = nothing_taken (g.S.DatagramSource.turns c.args.source.now) c.args.receiver.now c.requires.receiver;
+  so_far =
+      nothing_taken (g.S.DatagramSource.turns c.args.source.now) c.args.receiver.now
+      c.requires.receiver;
   delivered = counts_none (g.S.DatagramSource.delivered c.args.source.now);
   failures = refl;
 }
@@ -21,15 +24,25 @@ loop-preserved-in-Ok-Datagram g c =
     let before = c.loop.invariant in
     let turns = g.S.DatagramSource.turns in
     let counted = g.S.DatagramSource.delivered in
-    let turn = subst (λ (t : Turn). TakesTurn (turns c.loop.source) (turns c.next.new.self) t c.next.new.buf) w.field-0-is w.ensures.turn in
-    let one = subst (λ (t : Turn). CountsTurn t (counted c.loop.source) (counted c.next.new.self)) w.field-0-is w.ensures.delivered in
+    let turn =
+    subst (λ (t : Turn). TakesTurn (turns c.loop.source)
+    (turns c.next.new.self) t c.next.new.buf) w.field-0-is w.ensures.turn in
+    let one =
+    subst (λ (t : Turn). CountsTurn t (counted c.loop.source)
+    (counted c.next.new.self)) w.field-0-is w.ensures.delivered in
     record {
       few = omega (arith, before.few);
       room = w.ensures.room ∙ before.room;
       receiver = c.take.ensures.receiver;
-      so_far = datagram_taken c.loop.counter c.loop.delivered w.count w.path c.next.new.buf c.take.result (turns c.args.source.now) (turns c.loop.source) (turns c.next.new.self)
-          c.args.receiver.now c.loop.receiver c.take.new.self before.so_far before.receiver turn c.take.ensures.opening c.take.ensures.frames c.take.ensures.answer c.take.ensures.refusals;
-      delivered = counts_more c.loop.delivered (counted c.args.source.now) (counted c.loop.source) (counted c.next.new.self) before.delivered one;
+      so_far =
+          datagram_taken c.loop.counter c.loop.delivered w.count w.path c.next.new.buf
+          c.take.result (turns c.args.source.now) (turns c.loop.source) (turns c.next.new.self)
+          c.args.receiver.now c.loop.receiver c.take.new.self before.so_far before.receiver turn
+          c.take.ensures.opening c.take.ensures.frames c.take.ensures.answer
+          c.take.ensures.refusals;
+      delivered =
+          counts_more c.loop.delivered (counted c.args.source.now) (counted c.loop.source)
+          (counted c.next.new.self) before.delivered one;
       failures = w.ensures.counted ∙ before.failures;
     }
 
@@ -39,14 +52,22 @@ loop-preserved g c =
     let before = c.loop.invariant in
     let turns = g.S.DatagramSource.turns in
     let counted = g.S.DatagramSource.delivered in
-    let turn = subst (λ (t : Turn). TakesTurn (turns c.loop.source) (turns c.next.new.self) t c.next.new.buf) w.field-0-is w.ensures.turn in
-    let none = subst (λ (t : Turn). CountsTurn t (counted c.loop.source) (counted c.next.new.self)) w.field-0-is w.ensures.delivered in
+    let turn =
+    subst (λ (t : Turn). TakesTurn (turns c.loop.source)
+    (turns c.next.new.self) t c.next.new.buf) w.field-0-is w.ensures.turn in
+    let none =
+    subst (λ (t : Turn). CountsTurn t (counted c.loop.source)
+    (counted c.next.new.self)) w.field-0-is w.ensures.delivered in
     record {
       few = omega (arith, before.few);
       room = w.ensures.room ∙ before.room;
       receiver = before.receiver;
-      so_far = quiet_taken c.loop.counter c.loop.delivered c.next.new.buf (turns c.args.source.now) (turns c.loop.source) (turns c.next.new.self)
+      so_far =
+          quiet_taken c.loop.counter c.loop.delivered c.next.new.buf (turns c.args.source.now)
+          (turns c.loop.source) (turns c.next.new.self)
           c.args.receiver.now c.loop.receiver before.so_far turn;
-      delivered = subst (λ (n : ℕ). CountsAll c.loop.delivered (counted c.args.source.now) n) (sym none) before.delivered;
+      delivered =
+          subst (λ (n : ℕ). CountsAll c.loop.delivered (counted c.args.source.now) n)
+          (sym none) before.delivered;
       failures = w.ensures.counted ∙ before.failures;
     }

@@ -10,7 +10,9 @@ invariant-loop g l = record {
   few : l.delivered ≤ l.counter;
   room : length l.buf ≡ length l.initial.buf;
   receiver : IsReceiver l.receiver;
-  so_far : SoFar l.counter l.delivered (g.S.DatagramSource.turns l.initial.source) (g.S.DatagramSource.turns l.source) l.initial.receiver l.receiver;
-  delivered : CountsAll l.delivered (g.S.DatagramSource.delivered l.initial.source) (g.S.DatagramSource.delivered l.source);
+  so_far : SoFar l.counter l.delivered (g.S.DatagramSource.turns l.initial.source)
+      (g.S.DatagramSource.turns l.source) l.initial.receiver l.receiver;
+  delivered : CountsAll l.delivered (g.S.DatagramSource.delivered l.initial.source)
+      (g.S.DatagramSource.delivered l.source);
   failures : g.S.DatagramSource.failures l.source ≡ g.S.DatagramSource.failures l.initial.source;
 }

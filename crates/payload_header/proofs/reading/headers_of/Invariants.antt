@@ -9,4 +9,6 @@ pub record Front (so_far count : Type 0) : Type 0 where
   pub as_many : count
 
 abbrev pub invariant-loop : goal.invariant-loop
-invariant-loop l = Front (with_front (map fields l.headers.items) (headers_at (3 - l.counter) l.rest) ≡ headers_at 3 l.octets) (array_vec_len l.headers ≡ l.counter)
+invariant-loop l =
+    Front (with_front (map fields l.headers.items) (headers_at (3 - l.counter) l.rest)
+    ≡ headers_at 3 l.octets) (array_vec_len l.headers ≡ l.counter)

@@ -5,5 +5,9 @@ use Rattle.payload_header.proofs.reading.read.Goals as goal
 
 pub invariant_of-result : goal.invariant_of-result
 invariant_of-result c = record {
-  inside = view_inside c.args.format.now (map fields c.as_slice-list.result.now) c.in_ok-headers.data.now c.segments_in-segments.result.items c.segments_in-segments.ensures (sym c.in_default.ensures) (omega (arith, c.total.ensures));
+  inside =
+      view_inside c.args.format.now
+      (map fields c.as_slice-list.result.now) c.in_ok-headers.data.now
+      c.segments_in-segments.result.items c.segments_in-segments.ensures (sym c.in_default.ensures)
+      (omega (arith, c.total.ensures));
 }

@@ -10,6 +10,9 @@ pub record Front (so_far whole count : Type 0) : Type 0 where
   pub as_many : count
 
 abbrev pub invariant-loop-header : goal.invariant-loop-header
-invariant-loop-header l = Front (map seen l.segments.items ++ segments_at (map fields (drop l.header-index l.headers)) l.rest ≡ segments_at (map fields l.headers) l.rest_of)
+invariant-loop-header l =
+    Front (map seen l.segments.items ++ segments_at
+    (map fields (drop l.header-index l.headers)) l.rest
+    ≡ segments_at (map fields l.headers) l.rest_of)
     (octets_of (map fields (drop l.header-index l.headers)) ≤ length l.rest)
     (array_vec_len l.segments ≡ l.header-index)

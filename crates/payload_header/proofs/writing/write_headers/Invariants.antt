@@ -11,7 +11,9 @@ pub record Front (so_far place size all : Type 0) : Type 0 where
   pub fields : all
 
 abbrev pub invariant-loop-rest : goal.invariant-loop-rest
-invariant-loop-rest l = Front (take l.at l.buf ++ flat_map header_text (headers_of_heads l.rest) ≡ flat_map header_text (headers_of_heads l.heads))
+invariant-loop-rest l =
+    Front (take l.at l.buf ++ flat_map header_text (headers_of_heads l.rest)
+    ≡ flat_map header_text (headers_of_heads l.heads))
     (l.at + 6 * length l.rest ≡ 6 * length l.heads)
     (length l.buf ≡ length l.initial.buf)
     (AllByRecursion HeadFits l.rest)

@@ -1,4 +1,5 @@
-use Rattle.std.proofs.Common.{◌≡◌, ℕ, ◌*◌, ◌≤◌, List, length, take, refl, sym, ap, ◌∙◌, subst, arith, rules}
+use Rattle.std.proofs.Common.{◌≡◌, ℕ, ◌*◌, ◌≤◌, List, length, take, refl, sym, ap, ◌∙◌, subst}
+use Rattle.std.proofs.Common.{arith, rules}
 use Rattle.st_format.specs.Pgroup.{bits_of, pixel_group}
 use Rattle.st_format.specs.Samples.{values_in}
 use Rattle.st_format.specs.declared.sampling.Depth.{Depth}
@@ -17,20 +18,41 @@ returns c =
     let octets : List ℕ = c.args.octets.now in
     let others : List ℕ = c.args.others.now in
     let new : List ℕ = values_in n c.pack_at.new.octets in
-    let same : s * length marks ≡ (pixel_group c.args.format.now.sampling depth).samples * length marks = ap (λ (k : ℕ). k * length marks) c.requires.samples in
-    let left_is : c.unpack_at.new.samples ≡ values_in n octets = spelled_values c.args.depth c.unpack_at.ensures ∙ ap (λ (d : Depth). values_in (bits_of d) octets) c.requires.depth in
-    let right_is : c.unpack_at-2.new.samples ≡ values_in n others = spelled_values c.args.depth c.unpack_at-2.ensures ∙ ap (λ (d : Depth). values_in (bits_of d) others) c.requires.depth in
-    let new_is : take (s * length marks) c.blank_bits.new.samples ≡ new = spelled_values c.args.depth c.pack_at.ensures ∙ ap (λ (d : Depth). values_in (bits_of d) c.pack_at.new.octets) c.requires.depth in
+    let same : s * length marks
+    ≡ (pixel_group c.args.format.now.sampling depth).samples * length marks =
+    ap (λ (k : ℕ). k * length marks) c.requires.samples in
+    let left_is : c.unpack_at.new.samples ≡ values_in n octets =
+    spelled_values c.args.depth c.unpack_at.ensures
+    ∙ ap (λ (d : Depth). values_in (bits_of d) octets) c.requires.depth in
+    let right_is : c.unpack_at-2.new.samples ≡ values_in n others =
+    spelled_values c.args.depth c.unpack_at-2.ensures
+    ∙ ap (λ (d : Depth). values_in (bits_of d) others) c.requires.depth in
+    let new_is : take (s * length marks) c.blank_bits.new.samples ≡ new =
+    spelled_values c.args.depth c.pack_at.ensures
+    ∙ ap (λ (d : Depth). values_in (bits_of d) c.pack_at.new.octets) c.requires.depth in
     let long : length c.unpack_at.new.samples ≡ s * length marks =
-    ap length left_is ∙ length-group_values c.args.format.now.sampling depth octets (length marks) c.requires.octets ∙ sym same in
+    ap length left_is
+    ∙ length-group_values c.args.format.now.sampling depth octets
+    (length marks) c.requires.octets ∙ sym same in
     let long1 : length c.unpack_at-2.new.samples ≡ s * length marks =
-    ap length right_is ∙ length-group_values c.args.format.now.sampling depth others (length marks) (c.requires.others ∙ c.requires.octets) ∙ sym same in
+    ap length right_is
+    ∙ length-group_values c.args.format.now.sampling depth others (length marks)
+    (c.requires.others ∙ c.requires.octets) ∙ sym same in
     let all : AreContested s c.unpack_at.new.samples c.unpack_at-2.new.samples marks new_marks new =
-    few_contested s (s * length marks) c.unpack_at.new.samples c.unpack_at-2.new.samples _ _ marks new_marks c.blank_bits.new.samples new c.differing_bits-differ.result c.mark_differing-contested.result
-    refl (omega (arith, same)) long long1 (search rules) c.differing_bits-differ.ensures c.mark_differing-contested.ensures.marks c.mark_differing-contested.ensures.bits c.blank_bits.ensures
+    few_contested s
+    (s * length marks) c.unpack_at.new.samples c.unpack_at-2.new.samples _ _ marks new_marks
+    c.blank_bits.new.samples new c.differing_bits-differ.result
+    c.mark_differing-contested.result
+    refl (omega (arith, same)) long long1
+    (search rules) c.differing_bits-differ.ensures c.mark_differing-contested.ensures.marks
+    c.mark_differing-contested.ensures.bits c.blank_bits.ensures
     new_is in
     let left : AreContested s (values_in n octets) c.unpack_at-2.new.samples marks new_marks new =
-    subst (λ (xs : List ℕ). AreContested s xs c.unpack_at-2.new.samples marks new_marks new) left_is all in
+    subst (λ
+    (xs : List ℕ). AreContested s xs c.unpack_at-2.new.samples marks new_marks new) left_is
+    all in
     let right : AreContested s (values_in n octets) (values_in n others) marks new_marks new =
-    subst (λ (xs : List ℕ). AreContested s (values_in n octets) xs marks new_marks new) right_is left in
-    subst (λ (k : ℕ). AreContested k (values_in n octets) (values_in n others) marks new_marks new) c.requires.samples right
+    subst (λ (xs : List ℕ). AreContested s
+    (values_in n octets) xs marks new_marks new) right_is left in
+    subst (λ (k : ℕ). AreContested k (values_in n octets)
+    (values_in n others) marks new_marks new) c.requires.samples right

@@ -8,5 +8,7 @@ use Rattle.pgroup_pack.proofs.eight_bits.sample_at.Goals as goal
 pub returns : goal.returns
 returns c =
     let octets = c.args.octets.now in
-    let fit : AllByRecursion (λ v. v < 256) octets = recursion_from_All (λ v. v < 256) octets (λ k d lt. rw (get_or_default octets k d 0 lt) (omega (arith, c.type_inv.octets k))) in
+    let fit : AllByRecursion (λ v. v < 256) octets =
+    recursion_from_All (λ v. v < 256) octets
+    (λ k d lt. rw (get_or_default octets k d 0 lt) (omega (arith, c.type_inv.octets k))) in
     ap (λ (os : List ℕ). get_or os c.args.i 0) (sym (values_in_octets octets fit))

@@ -6,7 +6,9 @@ use Rattle.pgroup_pack.proofs.ten_bits.samples_of.Goals as goal
 pub returns-clause-spelled : goal.returns-clause-spelled
 returns-clause-spelled c =
     let octets = c.args.octets in
-    let small : (k : ℕ) → k < 16 → get_or octets k 0 < 256 = octet_lanes octets c.fits-octets.0 c.fits-octets.1 in
+    let small : (k : ℕ) → k < 16
+    → get_or octets k 0 < 256 = octet_lanes octets c.fits-octets.0 c.fits-octets.1 in
     let all =
-    Spells-append 10 _ _ _ _ (lanes_10 octets 0 small (lit< tt)) (lanes_10 octets 5 small (lit< tt)) in
+    Spells-append 10 _ _ _ _ (lanes_10 octets 0 small (lit< tt))
+    (lanes_10 octets 5 small (lit< tt)) in
     rw (lanes_of 16 octets c.fits-octets.0) all

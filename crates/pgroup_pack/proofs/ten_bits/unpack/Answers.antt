@@ -9,8 +9,10 @@ pub loop-i-preserved : goal.loop-i-preserved
 loop-i-preserved c =
     let i = c.loop-i.i in
     let long = c.samples_of.ensures.long in
-    Spells-more 10 (loaded c.args.octets.now (10 * i) 10 16 (10 * (i + 1)) (omega arith) (omega arith))
-    (take_more_put_chunk (8 * i) c.loop-i.samples c.samples_of.result (8 * (i + 1)) (omega (arith, long)) (omega arith)) c.loop-i.invariant
+    Spells-more 10
+    (loaded c.args.octets.now (10 * i) 10 16 (10 * (i + 1)) (omega arith) (omega arith))
+    (take_more_put_chunk (8 * i) c.loop-i.samples c.samples_of.result (8 * (i + 1))
+    (omega (arith, long)) (omega arith)) c.loop-i.invariant
     c.samples_of.ensures.spelled
 
 pub returns : goal.returns
@@ -18,6 +20,10 @@ returns c =
     let blocks : ℕ = c.saturating_sub-blocks.result / 10 in
     let end : c.loop-i.i ≡ blocks = omega arith in
     let done : Spells 10 (take (10 * blocks) c.args.octets.now) (take (8 * blocks) c.loop-i.samples)
-    = subst (λ (k : ℕ). Spells 10 (take (10 * k) c.args.octets.now) (take (8 * k) c.loop-i.samples)) end c.loop-i.invariant in
+    = subst
+    (λ (k : ℕ). Spells 10 (take (10 * k) c.args.octets.now)
+    (take (8 * k) c.loop-i.samples)) end c.loop-i.invariant in
     Spells-more 10 (in_two (10 * blocks) c.args.octets.now)
-    (rest_put (8 * blocks) (length c.loop-i.samples - 8 * blocks) c.loop-i.samples c.unpack_rest.new.samples (omega arith)) done c.unpack_rest.ensures
+    (rest_put (8 * blocks)
+    (length c.loop-i.samples - 8 * blocks) c.loop-i.samples c.unpack_rest.new.samples
+    (omega arith)) done c.unpack_rest.ensures

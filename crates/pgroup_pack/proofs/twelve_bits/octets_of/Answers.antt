@@ -14,7 +14,10 @@ returns-clause-spelled c =
     let b6 : get_or c.args.samples 6 0 < 4096 = c.requires 6 0 (omega (arith, c.fits-samples.0)) in
     let b7 : get_or c.args.samples 7 0 < 4096 = c.requires 7 0 (omega (arith, c.fits-samples.0)) in
     rw (lanes_of 8 c.args.samples c.fits-samples.0)
-    (four_12 _ _ _ _ _ _ _ _ _ _ _ _ _ _ _ _ _ _ _ _ (omega arith) (omega arith) (omega arith) (omega arith) (omega arith) (omega arith) (omega arith) (omega arith) (omega arith) (omega arith) (omega arith) (omega arith) b0 b1 b2 b3 b4 b5 b6 b7 (omega arith) (omega arith) (omega arith) (omega arith))
+    (four_12 _ _ _ _ _ _ _ _ _ _ _ _ _ _ _ _ _ _ _ _ (omega arith) (omega arith) (omega arith)
+    (omega arith) (omega arith) (omega arith) (omega arith) (omega arith) (omega arith)
+    (omega arith) (omega arith) (omega arith) b0 b1 b2 b3 b4 b5 b6 b7 (omega arith)
+    (omega arith) (omega arith) (omega arith))
 
 pub nonzero_div-high : goal.nonzero_div-high
 nonzero_div-high c = Each2-splat _ _ 8 256 (Each1-all _ (λ x. search rules) _)
@@ -23,7 +26,45 @@ pub nonzero_rem-low : goal.nonzero_rem-low
 nonzero_rem-low c = Each2-splat _ _ 8 256 (Each1-all _ (λ x. search rules) _)
 
 pub overflow_cast-high : goal.overflow_cast-high
-overflow_cast-high c = rw (lanes_of 8 c.args.samples c.fits-samples.0) (record { fits = omega arith }, (record { fits = omega arith }, (record { fits = omega arith }, (record { fits = omega arith }, (record { fits = omega arith }, (record { fits = omega arith }, (record { fits = omega arith }, (record { fits = omega arith }, tt))))))))
+overflow_cast-high c =
+    rw (lanes_of 8 c.args.samples c.fits-samples.0) (
+      record { fits = omega arith },
+      (
+        record { fits = omega arith },
+        (
+          record { fits = omega arith },
+          (
+            record { fits = omega arith },
+            (
+              record { fits = omega arith },
+              (
+                record { fits = omega arith },
+                (record { fits = omega arith }, (record { fits = omega arith }, tt)),
+              ),
+            ),
+          ),
+        ),
+      ),
+    )
 
 pub overflow_cast-low : goal.overflow_cast-low
-overflow_cast-low c = rw (lanes_of 8 c.args.samples c.fits-samples.0) (record { fits = omega arith }, (record { fits = omega arith }, (record { fits = omega arith }, (record { fits = omega arith }, (record { fits = omega arith }, (record { fits = omega arith }, (record { fits = omega arith }, (record { fits = omega arith }, tt))))))))
+overflow_cast-low c =
+    rw (lanes_of 8 c.args.samples c.fits-samples.0) (
+      record { fits = omega arith },
+      (
+        record { fits = omega arith },
+        (
+          record { fits = omega arith },
+          (
+            record { fits = omega arith },
+            (
+              record { fits = omega arith },
+              (
+                record { fits = omega arith },
+                (record { fits = omega arith }, (record { fits = omega arith }, tt)),
+              ),
+            ),
+          ),
+        ),
+      ),
+    )

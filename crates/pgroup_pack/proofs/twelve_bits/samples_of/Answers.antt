@@ -6,7 +6,11 @@ use Rattle.pgroup_pack.proofs.twelve_bits.samples_of.Goals as goal
 pub returns-clause-spelled : goal.returns-clause-spelled
 returns-clause-spelled c =
     let octets = c.args.octets in
-    let small : (k : ℕ) → k < 16 → get_or octets k 0 < 256 = octet_lanes octets c.fits-octets.0 c.fits-octets.1 in
+    let small : (k : ℕ) → k < 16
+    → get_or octets k 0 < 256 = octet_lanes octets c.fits-octets.0 c.fits-octets.1 in
     let all =
-    Spells-append 12 _ _ _ _ (lanes_12 octets 0 small (lit< tt)) (Spells-append 12 _ _ _ _ (lanes_12 octets 3 small (lit< tt)) (Spells-append 12 _ _ _ _ (lanes_12 octets 6 small (lit< tt)) (lanes_12 octets 9 small (lit< tt)))) in
+    Spells-append 12 _ _ _ _ (lanes_12 octets 0 small (lit< tt))
+    (Spells-append 12 _ _ _ _ (lanes_12 octets 3 small (lit< tt))
+    (Spells-append 12 _ _ _ _ (lanes_12 octets 6 small (lit< tt))
+    (lanes_12 octets 9 small (lit< tt)))) in
     rw (lanes_of 16 octets c.fits-octets.0) all

@@ -7,5 +7,8 @@ pub loop-i-preserved : goal.loop-i-preserved
 loop-i-preserved c =
     let i = c.loop-i.i in
     Spells-more 12 (taken_3 c.args.octets.now (3 * i) (3 * (i + 1)) (omega arith) (omega arith))
-    (stored_2 c.loop-i.samples (2 * i) (2 * (i + 1)) _ _ (omega arith) (omega arith)) c.loop-i.invariant
-    (unpacked_12 _ _ _ (omega (arith, c.type_inv.octets (3 * i))) (omega (arith, c.type_inv.octets (3 * i + 1))) (omega (arith, c.type_inv.octets (3 * i + 2))))
+    (stored_2 c.loop-i.samples (2 * i) (2 * (i + 1)) _ _ (omega arith)
+    (omega arith)) c.loop-i.invariant
+    (unpacked_12 _ _ _ (omega (arith, c.type_inv.octets (3 * i)))
+    (omega (arith, c.type_inv.octets (3 * i + 1)))
+    (omega (arith, c.type_inv.octets (3 * i + 2))))

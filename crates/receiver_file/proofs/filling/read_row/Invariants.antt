@@ -15,6 +15,10 @@ pub record Reading (same front so_far count : Type 0) : Type 0 where
 abbrev pub invariant-loop-group : goal.invariant-loop-group
 invariant-loop-group g l = Reading
     (l.frame.format ≡ l.initial.frame.format)
-    (take (group_start l.initial.frame.format l.row 0) l.frame.cells ≡ take (group_start l.initial.frame.format l.row 0) l.initial.frame.cells)
-    (Gives (groups_at (shape_in l.initial.frame.format) l.group) (g.S.ByteSource.to_give l.initial.source) (g.S.ByteSource.to_give l.source) (cut_cells (shape_in l.initial.frame.format).samples l.group (drop (group_start l.initial.frame.format l.row 0) l.frame.cells)))
+    (take (group_start l.initial.frame.format l.row 0) l.frame.cells
+    ≡ take (group_start l.initial.frame.format l.row 0) l.initial.frame.cells)
+    (Gives (groups_at (shape_in l.initial.frame.format) l.group)
+    (g.S.ByteSource.to_give l.initial.source) (g.S.ByteSource.to_give l.source)
+    (cut_cells (shape_in l.initial.frame.format).samples l.group
+    (drop (group_start l.initial.frame.format l.row 0) l.frame.cells)))
     (g.S.ByteSource.failures l.source ≡ g.S.ByteSource.failures l.initial.source)

@@ -1,4 +1,5 @@
-use Rattle.std.proofs.Common.{◌≡◌, ◌<◌, ◌*◌, ◌∙◌, ap, refl, sym, subst, take, ℕ, List, Option, arith}
+use Rattle.std.proofs.Common.{◌≡◌, ◌<◌, ◌*◌, ◌∙◌, ap, refl, sym, subst, take, ℕ, List, Option}
+use Rattle.std.proofs.Common.{arith}
 use Rattle.std.proofs.lemmas.Result.{err_from_is_err_and}
 use Rattle.st_format.specs.declared.format.Format.{Format}
 use Rattle.st_format.specs.Raster.{Raster}
@@ -13,37 +14,74 @@ use Rattle.receiver_file.proofs.filling.read_rows.Goals as goal
 pub loop-row-init : goal.loop-row-init
 loop-row-init g c =
     let f : Format = c.args.frame.now.format in
-    record { format = refl; goes = rows_start (shape_in f) (shape_in f).samples (row_groups f) c.args.frame.now.cells _; failures = refl }
+    record {
+      format = refl;
+      goes =
+          rows_start (shape_in f) (shape_in f).samples (row_groups f) c.args.frame.now.cells _;
+      failures = refl;
+    }
 
 pub read_row-requires : goal.read_row-requires
 read_row-requires g c =
     let f : Format = c.args.frame.now.format in
-    let n : c.height-row-end.result ≡ f.height = c.height-row-end.ensures ∙ ap (λ (x : Format). x.height) c.format.ensures.format in
-    let lt : c.loop-row.row < f.height = subst (λ (k : ℕ). c.loop-row.row < k) n c.loop-row-test.true in
+    let n : c.height-row-end.result ≡ f.height =
+    c.height-row-end.ensures ∙ ap (λ (x : Format). x.height) c.format.ensures.format in
+    let lt : c.loop-row.row < f.height =
+    subst (λ (k : ℕ). c.loop-row.row < k) n c.loop-row-test.true in
     subst (λ (h : Format). c.loop-row.row < h.height) (sym c.loop-row.invariant.format) lt
 
 pub returns-in_err-read_row-clause-fault : goal.returns-in_err-read_row-clause-fault
 returns-in_err-read_row-clause-fault g c =
     let p = err_from_is_err_and c.from_residual.result c.from_residual.ensures.1 in
     let f : Format = c.args.frame.now.format in
-    let n : c.height-row-end.result ≡ f.height = c.height-row-end.ensures ∙ ap (λ (x : Format). x.height) c.format.ensures.format in
-    let lt : c.loop-row.row < f.height = subst (λ (k : ℕ). c.loop-row.row < k) n c.loop-row-test.true in
-    rw (p.1, p.2) (rows_fail (shape_in f) (row_groups f) c.loop-row.row f.height _ _ _ c.in_err-read_row.field-0.0 lt c.loop-row.invariant.goes
-    (subst (λ (h : Format). Fails (groups_at (shape_in h) (row_groups h)) (g.S.ByteSource.to_give c.loop-row.source) c.in_err-read_row.field-0.0) c.loop-row.invariant.format c.in_err-read_row.ensures.fault))
+    let n : c.height-row-end.result ≡ f.height =
+    c.height-row-end.ensures ∙ ap (λ (x : Format). x.height) c.format.ensures.format in
+    let lt : c.loop-row.row < f.height =
+    subst (λ (k : ℕ). c.loop-row.row < k) n c.loop-row-test.true in
+    rw (p.1, p.2)
+    (rows_fail (shape_in f)
+    (row_groups f) c.loop-row.row f.height _ _ _ c.in_err-read_row.field-0.0 lt
+    c.loop-row.invariant.goes
+    (subst (λ (h : Format). Fails (groups_at (shape_in h) (row_groups h))
+    (g.S.ByteSource.to_give c.loop-row.source) c.in_err-read_row.field-0.0)
+    c.loop-row.invariant.format c.in_err-read_row.ensures.fault))
 
 pub loop-row-preserved : goal.loop-row-preserved
 loop-row-preserved g c =
     let f : Format = c.args.frame.now.format in
     let s : Shape = shape_in f in
     let now : Raster = c.read_row.new.frame in
-    let stays : take (group_start f c.loop-row.row 0) now.cells ≡ take (group_start f c.loop-row.row 0) c.loop-row.frame.cells =
-    subst (λ (h : Format). take (group_start h c.loop-row.row 0) now.cells ≡ take (group_start h c.loop-row.row 0) c.loop-row.frame.cells) c.loop-row.invariant.format c.in_ok-read_row.ensures.before in
-    let given : Gives (groups_at s (row_groups f)) (g.S.ByteSource.to_give c.loop-row.source) (g.S.ByteSource.to_give c.read_row.new.source) (row_cut (record { format = f; cells = now.cells }) c.loop-row.row) =
-    subst (λ (h : Format). Gives (groups_at (shape_in h) (row_groups h)) (g.S.ByteSource.to_give c.loop-row.source) (g.S.ByteSource.to_give c.read_row.new.source) (row_cut (record { format = h; cells = now.cells }) c.loop-row.row)) c.loop-row.invariant.format
-    (subst (λ (h : Format). Gives (groups_at (shape_in c.loop-row.frame.format) (row_groups c.loop-row.frame.format)) (g.S.ByteSource.to_give c.loop-row.source) (g.S.ByteSource.to_give c.read_row.new.source) (row_cut (record { format = h; cells = now.cells }) c.loop-row.row)) c.in_ok-read_row.ensures.format c.in_ok-read_row.ensures.read) in
+    let stays : take (group_start f c.loop-row.row 0) now.cells
+    ≡ take (group_start f c.loop-row.row 0) c.loop-row.frame.cells =
+    subst (λ (h : Format). take (group_start h c.loop-row.row 0) now.cells
+    ≡ take
+    (group_start h c.loop-row.row 0) c.loop-row.frame.cells) c.loop-row.invariant.format
+    c.in_ok-read_row.ensures.before in
+    let given : Gives (groups_at s (row_groups f)) (g.S.ByteSource.to_give c.loop-row.source)
+    (g.S.ByteSource.to_give c.read_row.new.source)
+    (row_cut (record { format = f; cells = now.cells }) c.loop-row.row) =
+    subst (λ (h : Format). Gives (groups_at (shape_in h) (row_groups h))
+    (g.S.ByteSource.to_give c.loop-row.source) (g.S.ByteSource.to_give c.read_row.new.source)
+    (row_cut (record {
+      format = h;
+      cells =
+          now.cells;
+    }) c.loop-row.row)) c.loop-row.invariant.format
+    (subst (λ (h : Format). Gives
+    (groups_at (shape_in c.loop-row.frame.format) (row_groups c.loop-row.frame.format))
+    (g.S.ByteSource.to_give c.loop-row.source) (g.S.ByteSource.to_give c.read_row.new.source)
+    (row_cut (record {
+      format = h;
+      cells =
+          now.cells;
+    }) c.loop-row.row)) c.in_ok-read_row.ensures.format
+    c.in_ok-read_row.ensures.read) in
     record {
       format = c.in_ok-read_row.ensures.format ∙ c.loop-row.invariant.format;
-      goes = rows_read s s.samples (row_groups f) c.loop-row.row c.loop-row.frame.cells now.cells _ _ _ stays c.loop-row.invariant.goes given;
+      goes =
+          rows_read s s.samples
+          (row_groups f) c.loop-row.row c.loop-row.frame.cells now.cells _ _ _ stays
+          c.loop-row.invariant.goes given;
       failures = c.in_ok-read_row.ensures.counted ∙ c.loop-row.invariant.failures;
     }
 
@@ -53,7 +91,12 @@ returns-clause-read g c =
     let s : Shape = shape_in f in
     let old : Option (List ℕ) = g.S.ByteSource.to_give c.args.source.now in
     let new : Option (List ℕ) = g.S.ByteSource.to_give c.loop-row.source in
-    let n : c.height-row-end.result ≡ f.height = c.height-row-end.ensures ∙ ap (λ (x : Format). x.height) c.format.ensures.format in
+    let n : c.height-row-end.result ≡ f.height =
+    c.height-row-end.ensures ∙ ap (λ (x : Format). x.height) c.format.ensures.format in
     let same : c.loop-row.row ≡ c.height-row-end.result = omega arith in
-    subst (λ (h : Format). Gives (groups_at s (f.height * row_groups f)) old new (rows_cut (record { format = h; cells = c.loop-row.frame.cells }) f.height)) (sym c.loop-row.invariant.format)
-    (subst (λ (k : ℕ). Gives (groups_at s (k * row_groups f)) old new (cut_cells s.samples (k * row_groups f) c.loop-row.frame.cells)) (same ∙ n) c.loop-row.invariant.goes)
+    subst (λ (h : Format). Gives (groups_at s (f.height * row_groups f)) old new
+    (rows_cut (record { format = h; cells = c.loop-row.frame.cells }) f.height))
+    (sym c.loop-row.invariant.format)
+    (subst (λ (k : ℕ). Gives (groups_at s (k * row_groups f)) old new
+    (cut_cells s.samples (k * row_groups f) c.loop-row.frame.cells))
+    (same ∙ n) c.loop-row.invariant.goes)

@@ -14,5 +14,9 @@ pub record Reading (same so_far count : Type 0) : Type 0 where
 abbrev pub invariant-loop-row : goal.invariant-loop-row
 invariant-loop-row g l = Reading
     (l.frame.format ≡ l.initial.frame.format)
-    (Gives (groups_at (shape_in l.initial.frame.format) (l.row * row_groups l.initial.frame.format)) (g.S.ByteSource.to_give l.initial.source) (g.S.ByteSource.to_give l.source) (cut_cells (shape_in l.initial.frame.format).samples (l.row * row_groups l.initial.frame.format) l.frame.cells))
+    (Gives (groups_at (shape_in l.initial.frame.format)
+    (l.row * row_groups l.initial.frame.format)) (g.S.ByteSource.to_give l.initial.source)
+    (g.S.ByteSource.to_give l.source)
+    (cut_cells (shape_in l.initial.frame.format).samples
+    (l.row * row_groups l.initial.frame.format) l.frame.cells))
     (g.S.ByteSource.failures l.source ≡ g.S.ByteSource.failures l.initial.source)

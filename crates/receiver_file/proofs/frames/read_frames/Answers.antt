@@ -1,4 +1,5 @@
-use Rattle.std.proofs.Common.{◌≡◌, ℕ, ◌+◌, ◌∙◌, List, [], ◌∷◌, ◌++◌, length, length-append, ap, refl, sym, subst}
+use Rattle.std.proofs.Common.{◌≡◌, ℕ, ◌+◌, ◌∙◌, List, [], ◌∷◌, ◌++◌, length, length-append, ap}
+use Rattle.std.proofs.Common.{refl, sym, subst}
 use Rattle.std.proofs.lemmas.Result.{err_from_is_err_and}
 use Rattle.st_format.specs.Fields.{fields_of}
 use Rattle.st_format.specs.Raster.{Raster}
@@ -11,24 +12,36 @@ pub loop-init : goal.loop-init
 loop-init g c =
     record {
       stamps = ap (λ (w : List ℕ). length w) c.new-window.ensures;
-      one_each = ap (λ (rs : List Raster). length rs) c.new-frames.ensures.items ∙ sym (ap (λ (w : List ℕ). length w) c.new-window.ensures);
+      one_each =
+          ap (λ (rs : List Raster). length rs) c.new-frames.ensures.items
+          ∙ sym (ap (λ (w : List ℕ). length w) c.new-window.ensures);
       of_format = all_none _ c.new-frames.result.items c.new-frames.ensures.items;
       different = subst (λ (w : List ℕ). AreDifferent w) (sym c.new-window.ensures) tt;
-      goes = frames_start _ c.new-window.result.items c.new-frames.result.items _ c.new-window.ensures;
+      goes =
+          frames_start _ c.new-window.result.items c.new-frames.result.items _ c.new-window.ensures;
       failures = refl;
     }
 
 pub returns-in_err-timestamp-clause-fault : goal.returns-in_err-timestamp-clause-fault
 returns-in_err-timestamp-clause-fault g c =
     let p = err_from_is_err_and c.from_residual.result c.from_residual.ensures.1 in
-    rw (p.1, p.2) (stamp_stop (fields_of c.args.format) c.loop.counter c.args.count c.loop.window.items c.as_slice.result.now c.loop.frames.items _ _ c.in_err-timestamp.field-0.0 c.as_slice.ensures.value c.loop-test.true
+    rw (p.1, p.2)
+    (stamp_stop (fields_of c.args.format) c.loop.counter c.args.count c.loop.window.items
+    c.as_slice.result.now c.loop.frames.items _ _ c.in_err-timestamp.field-0.0
+    c.as_slice.ensures.value c.loop-test.true
     c.loop.invariant.one_each c.loop.invariant.goes c.in_err-timestamp.ensures.fault)
 
 pub returns-in_err-frame-clause-fault : goal.returns-in_err-frame-clause-fault
 returns-in_err-frame-clause-fault g c =
-    let p = err_from_is_err_and c.from_residual-in_err-frame.result c.from_residual-in_err-frame.ensures.1 in
-    rw (p.1, p.2) (groups_stop (fields_of c.args.format) c.loop.counter c.args.count c.loop.window.items c.as_slice.result.now c.loop.frames.items c.in_ok-timestamp.timestamp _ _ _ c.in_err-frame.field-0.0 c.as_slice.ensures.value c.loop-test.true
-    c.loop.invariant.one_each c.loop.invariant.goes c.in_ok-timestamp.ensures.read c.in_err-frame.ensures.fault)
+    let p =
+    err_from_is_err_and c.from_residual-in_err-frame.result
+    c.from_residual-in_err-frame.ensures.1 in
+    rw (p.1, p.2)
+    (groups_stop (fields_of c.args.format) c.loop.counter c.args.count c.loop.window.items
+    c.as_slice.result.now c.loop.frames.items c.in_ok-timestamp.timestamp _ _ _
+    c.in_err-frame.field-0.0 c.as_slice.ensures.value c.loop-test.true
+    c.loop.invariant.one_each c.loop.invariant.goes c.in_ok-timestamp.ensures.read
+    c.in_err-frame.ensures.fault)
 
 pub loop-preserved : goal.loop-preserved
 loop-preserved g c =
@@ -38,13 +51,25 @@ loop-preserved g c =
     let r : Raster = c.in_ok-frame.frame in
     let ws : c.push.new.self.items ≡ w ++ t ∷ [] = c.push.ensures.items in
     let xs : c.push-in-loop.new.self.items ≡ rs ++ r ∷ [] = c.in_ok-push.ensures.items in
-    let long : length c.push.new.self.items ≡ length w + 1 = ap (λ (x : List ℕ). length x) ws ∙ length-append w (t ∷ []) in
+    let long : length c.push.new.self.items ≡ length w + 1 =
+    ap (λ (x : List ℕ). length x) ws ∙ length-append w (t ∷ []) in
     record {
       stamps = long ∙ ap (λ (n : ℕ). n + 1) c.loop.invariant.stamps;
-      one_each = ap (λ (x : List Raster). length x) xs ∙ length-append rs (r ∷ []) ∙ ap (λ (n : ℕ). n + 1) c.loop.invariant.one_each ∙ sym long;
-      of_format = all_next _ rs c.push-in-loop.new.self.items r xs c.loop.invariant.of_format c.in_ok-frame.ensures.format;
-      different = different_next w c.push.new.self.items c.as_slice.result.now t ws c.as_slice.ensures.value c.loop.invariant.different c.in_ok-timestamp.ensures.new;
-      goes = frames_push (fields_of c.args.format) c.loop.counter w c.push.new.self.items c.as_slice.result.now rs c.push-in-loop.new.self.items t r _ _ _ _ ws xs c.as_slice.ensures.value c.loop.invariant.one_each c.loop.invariant.goes
+      one_each =
+          ap (λ (x : List Raster). length x) xs ∙ length-append rs (r ∷ [])
+          ∙ ap (λ (n : ℕ). n + 1) c.loop.invariant.one_each ∙ sym long;
+      of_format =
+          all_next _ rs c.push-in-loop.new.self.items r xs c.loop.invariant.of_format
+          c.in_ok-frame.ensures.format;
+      different =
+          different_next w c.push.new.self.items c.as_slice.result.now t ws
+          c.as_slice.ensures.value c.loop.invariant.different c.in_ok-timestamp.ensures.new;
+      goes =
+          frames_push (fields_of c.args.format) c.loop.counter w c.push.new.self.items
+          c.as_slice.result.now rs c.push-in-loop.new.self.items t r _ _ _ _ ws xs
+          c.as_slice.ensures.value c.loop.invariant.one_each c.loop.invariant.goes
           c.in_ok-timestamp.ensures.read c.in_ok-frame.ensures.read;
-      failures = c.in_ok-frame.ensures.counted ∙ c.in_ok-timestamp.ensures.counted ∙ c.loop.invariant.failures;
+      failures =
+          c.in_ok-frame.ensures.counted ∙ c.in_ok-timestamp.ensures.counted
+          ∙ c.loop.invariant.failures;
     }

@@ -21,5 +21,7 @@ invariant-loop g l = Reading
     (length l.frames.items ≡ length l.window.items)
     (All (λ (r : Raster). r.format ≡ l.format) l.frames.items)
     (AreDifferent l.window.items)
-    (Gives (all_held_at (fields_of l.format) l.counter []) (g.S.ByteSource.to_give l.initial.source) (g.S.ByteSource.to_give l.source) (kept_frames (fields_of l.format) l.window.items l.frames.items))
+    (Gives (all_held_at (fields_of l.format) l.counter [])
+    (g.S.ByteSource.to_give l.initial.source) (g.S.ByteSource.to_give l.source)
+    (kept_frames (fields_of l.format) l.window.items l.frames.items))
     (g.S.ByteSource.failures l.source ≡ g.S.ByteSource.failures l.initial.source)

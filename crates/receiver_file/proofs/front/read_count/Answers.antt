@@ -1,6 +1,7 @@
 use Rattle.std.proofs.lemmas.Result.{err_from_is_err_and}
 use Rattle.receiver_file.proofs.Fronting.{count_cut, count_gives, count_many, count_none}
-use Rattle.receiver_file.proofs.front.read_count.Goals.{then-count-eq0-via-then-count-eq0, then-count-eq0-via-else-count-eq0+then-count-gt16}
+use Rattle.receiver_file.proofs.front.read_count.Goals.{then-count-eq0-via-then-count-eq0}
+use Rattle.receiver_file.proofs.front.read_count.Goals.{then-count-eq0-via-else-count-eq0+then-count-gt16}
 use Rattle.receiver_file.proofs.front.read_count.Goals as goal
 
 pub returns-in_err-count-clause-fault : goal.returns-in_err-count-clause-fault
@@ -11,9 +12,12 @@ returns-in_err-count-clause-fault g c =
 pub returns-then-count-eq0-clause-fault : goal.returns-then-count-eq0-clause-fault
 returns-then-count-eq0-clause-fault g c =
     elim c.then-count-eq0.branch [
-      | then-count-eq0-via-then-count-eq0 w ↦ count_none _ _ _ w.if-count-eq0.true c.in_ok-count.ensures.read
-      | then-count-eq0-via-else-count-eq0+then-count-gt16 w ↦ count_many _ _ _ w.if-count-gt16.true c.in_ok-count.ensures.read
+      | then-count-eq0-via-then-count-eq0 w ↦ count_none _ _ _ w.if-count-eq0.true
+          c.in_ok-count.ensures.read
+      | then-count-eq0-via-else-count-eq0+then-count-gt16 w ↦ count_many _ _ _ w.if-count-gt16.true
+          c.in_ok-count.ensures.read
     ]
 
 pub returns-clause-read : goal.returns-clause-read
-returns-clause-read g c = count_gives _ _ _ c.if-count-eq0.false c.if-count-gt16.false c.in_ok-count.ensures.read
+returns-clause-read g c =
+    count_gives _ _ _ c.if-count-eq0.false c.if-count-gt16.false c.in_ok-count.ensures.read

@@ -8,7 +8,9 @@ returns-in_err-code-clause-fault g c =
     rw (p.1, p.2) (flag_cut _ c.in_err-code.field-0.0 c.in_err-code.ensures.fault)
 
 pub returns-clause-read : goal.returns-clause-read
-returns-clause-read g c = flag_gives _ _ _ c.flag_in.result c.in_ok-code.ensures.read c.flag_in.ensures
+returns-clause-read g c =
+    flag_gives _ _ _ c.flag_in.result c.in_ok-code.ensures.read c.flag_in.ensures
 
 pub returns-clause-fault : goal.returns-clause-fault
-returns-clause-fault g c = flag_fails _ _ _ c.flag_in.result c.in_ok-code.ensures.read c.flag_in.ensures
+returns-clause-fault g c =
+    flag_fails _ _ _ c.flag_in.result c.in_ok-code.ensures.read c.flag_in.ensures

@@ -9,13 +9,23 @@ returns-in_err-payload_type-clause-fault g c =
 
 pub returns-in_err-ssrc-clause-fault : goal.returns-in_err-ssrc-clause-fault
 returns-in_err-ssrc-clause-fault g c =
-    let p = err_from_is_err_and c.from_residual-in_err-ssrc.result c.from_residual-in_err-ssrc.ensures.1 in
-    rw (p.1, p.2) (head_second _ _ _ c.in_err-ssrc.field-0.0 c.in_ok-payload_type.ensures.read c.in_err-ssrc.ensures.fault)
+    let p =
+    err_from_is_err_and c.from_residual-in_err-ssrc.result
+    c.from_residual-in_err-ssrc.ensures.1 in
+    rw (p.1, p.2)
+    (head_second _ _ _ c.in_err-ssrc.field-0.0 c.in_ok-payload_type.ensures.read
+    c.in_err-ssrc.ensures.fault)
 
 pub returns-in_err-count-clause-fault : goal.returns-in_err-count-clause-fault
 returns-in_err-count-clause-fault g c =
-    let p = err_from_is_err_and c.from_residual-in_err-count.result c.from_residual-in_err-count.ensures.1 in
-    rw (p.1, p.2) (head_third _ _ _ _ _ c.in_err-count.field-0.0 c.in_ok-payload_type.ensures.read c.in_ok-ssrc.ensures.read c.in_err-count.ensures.fault)
+    let p =
+    err_from_is_err_and c.from_residual-in_err-count.result
+    c.from_residual-in_err-count.ensures.1 in
+    rw (p.1, p.2)
+    (head_third _ _ _ _ _ c.in_err-count.field-0.0 c.in_ok-payload_type.ensures.read
+    c.in_ok-ssrc.ensures.read c.in_err-count.ensures.fault)
 
 pub returns-clause-read : goal.returns-clause-read
-returns-clause-read g c = head_gives _ _ _ _ _ _ _ c.in_ok-payload_type.ensures.read c.in_ok-ssrc.ensures.read c.in_ok-count.ensures.read
+returns-clause-read g c =
+    head_gives _ _ _ _ _ _ _ c.in_ok-payload_type.ensures.read c.in_ok-ssrc.ensures.read
+    c.in_ok-count.ensures.read

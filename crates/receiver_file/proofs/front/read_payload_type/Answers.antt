@@ -5,10 +5,13 @@ use Rattle.receiver_file.proofs.front.read_payload_type.Goals as goal
 pub returns-in_err-payload_type-clause-fault : goal.returns-in_err-payload_type-clause-fault
 returns-in_err-payload_type-clause-fault g c =
     let p = err_from_is_err_and c.from_residual.result c.from_residual.ensures.1 in
-    rw (p.1, p.2) (payload_type_cut _ c.in_err-payload_type.field-0.0 c.in_err-payload_type.ensures.fault)
+    rw (p.1, p.2)
+    (payload_type_cut _ c.in_err-payload_type.field-0.0 c.in_err-payload_type.ensures.fault)
 
 pub returns-then-payload_type-gt127-clause-fault : goal.returns-then-payload_type-gt127-clause-fault
-returns-then-payload_type-gt127-clause-fault g c = payload_type_high _ _ _ c.if-payload_type-gt127.true c.in_ok-payload_type.ensures.read
+returns-then-payload_type-gt127-clause-fault g c =
+    payload_type_high _ _ _ c.if-payload_type-gt127.true c.in_ok-payload_type.ensures.read
 
 pub returns-clause-read : goal.returns-clause-read
-returns-clause-read g c = payload_type_gives _ _ _ c.if-payload_type-gt127.false c.in_ok-payload_type.ensures.read
+returns-clause-read g c =
+    payload_type_gives _ _ _ c.if-payload_type-gt127.false c.in_ok-payload_type.ensures.read

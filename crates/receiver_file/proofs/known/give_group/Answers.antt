@@ -1,4 +1,5 @@
-use Rattle.std.proofs.Common.{◌≡◌, ◌*◌, ◌∙◌, Bool, ℕ, List, length, take, drop, ap, subst, sym, arith}
+use Rattle.std.proofs.Common.{◌≡◌, ◌*◌, ◌∙◌, Bool, ℕ, List, length, take, drop, ap, subst, sym}
+use Rattle.std.proofs.Common.{arith}
 use Rattle.std.specs.Int.{bit_at}
 use Rattle.st_format.specs.declared.cell.Cell.{Cell}
 use Rattle.st_format.specs.declared.format.Format.{Format}
@@ -17,18 +18,26 @@ use Rattle.receiver_file.proofs.RowRuns.{start_within}
 use Rattle.receiver_file.proofs.known.give_group.Goals as goal
 
 pub set_group-requires-clause-bits : goal.set_group-requires-clause-bits
-set_group-requires-clause-bits g c = λ i le. ap (λ (m : ℕ). bit_at m i) c.mask_of.ensures ∙ known_bits (shape_in c.args.frame.now.format) c.args.state c.args.octets.now c.requires.known i le
+set_group-requires-clause-bits g c =
+    λ i le. ap (λ (m : ℕ). bit_at m i) c.mask_of.ensures
+    ∙ known_bits
+    (shape_in c.args.frame.now.format) c.args.state c.args.octets.now c.requires.known i le
 
 pub set_group-requires-clause-zero : goal.set_group-requires-clause-zero
 set_group-requires-clause-zero g c =
     let s : Shape = shape_in c.args.frame.now.format in
-    subst (λ (m : ℕ). values_in s.bits c.args.octets.now ≡ blanked m (values_in s.bits c.args.octets.now)) (sym c.mask_of.ensures) (known_zero s c.args.state c.args.octets.now c.requires.known)
+    subst (λ (m : ℕ). values_in s.bits c.args.octets.now
+    ≡ blanked m (values_in s.bits c.args.octets.now)) (sym c.mask_of.ensures)
+    (known_zero s c.args.state c.args.octets.now c.requires.known)
 
 pub returns-clause-before : goal.returns-clause-before
 returns-clause-before g c =
     let f : Format = c.args.frame.now.format in
     let k : ℕ = group_start f c.args.row c.args.group in
-    ap (take k) c.set_group.ensures.cells ∙ replaced_before k _ c.args.frame.now.cells (start_within c.args.frame.now c.args.row c.args.group c.requires.whole c.requires.row c.requires.group)
+    ap (take k) c.set_group.ensures.cells
+    ∙ replaced_before k _ c.args.frame.now.cells
+    (start_within c.args.frame.now c.args.row c.args.group c.requires.whole c.requires.row
+    c.requires.group)
 
 pub returns-clause-cells : goal.returns-clause-cells
 returns-clause-cells g c =
@@ -37,14 +46,24 @@ returns-clause-cells g c =
     let s : Shape = shape_in f in
     let k : ℕ = group_start f c.args.row c.args.group in
     let vs : List ℕ = values_in s.bits c.args.octets.now in
-    let one : (pixel_group f.sampling f.depth).octets ≡ (pixel_group f.sampling f.depth).octets * 1 = omega arith in
+    let one : (pixel_group f.sampling f.depth).octets
+    ≡ (pixel_group f.sampling f.depth).octets * 1 = omega arith in
     let none_more : s.samples * 1 ≡ s.samples = omega arith in
-    let long : length vs ≡ s.samples = length-group_values f.sampling f.depth c.args.octets.now 1 (c.requires.octets ∙ one) ∙ none_more in
-    let made : given_cells c.is_present.result c.mask_of.result vs ≡ cells_known s c.args.state c.args.octets.now =
-    ap (λ (b : Bool). given_cells b c.mask_of.result vs) c.is_present.ensures ∙ ap (λ (m : ℕ). given_cells (is_there c.args.state) m vs) c.mask_of.ensures ∙ known_given s c.args.state c.args.octets.now long in
-    let same : group_cells c.set_group.new.self c.args.row c.args.group ≡ take s.samples (drop k c.set_group.new.self.cells) =
-    ap (λ (h : Format). take (pixel_group h.sampling h.depth).samples (drop (group_start h c.args.row c.args.group) c.set_group.new.self.cells)) c.set_group.ensures.format in
+    let long : length vs ≡ s.samples =
+    length-group_values f.sampling f.depth c.args.octets.now 1 (c.requires.octets ∙ one)
+    ∙ none_more in
+    let made : given_cells c.is_present.result c.mask_of.result vs
+    ≡ cells_known s c.args.state c.args.octets.now =
+    ap (λ (b : Bool). given_cells b c.mask_of.result vs) c.is_present.ensures
+    ∙ ap (λ (m : ℕ). given_cells (is_there c.args.state) m vs) c.mask_of.ensures
+    ∙ known_given s c.args.state c.args.octets.now long in
+    let same : group_cells c.set_group.new.self c.args.row c.args.group
+    ≡ take s.samples (drop k c.set_group.new.self.cells) =
+    ap (λ (h : Format). take (pixel_group h.sampling h.depth).samples
+    (drop (group_start h c.args.row c.args.group) c.set_group.new.self.cells))
+    c.set_group.ensures.format in
     same ∙ ap (λ (cells : List Cell). take s.samples (drop k cells)) c.set_group.ensures.cells
-    ∙ replaced_at k s.samples (given_cells c.is_present.result c.mask_of.result vs) r.cells (start_within r c.args.row c.args.group c.requires.whole c.requires.row c.requires.group)
+    ∙ replaced_at k s.samples (given_cells c.is_present.result c.mask_of.result vs) r.cells
+    (start_within r c.args.row c.args.group c.requires.whole c.requires.row c.requires.group)
     (length-given_cells c.is_present.result c.mask_of.result vs ∙ long)
     ∙ made

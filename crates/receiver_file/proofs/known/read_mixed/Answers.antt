@@ -4,36 +4,58 @@ use Rattle.st_format.specs.Samples.{values_in}
 use Rattle.capture_file.specs.Fields.{Fails, Gives, field_at}
 use Rattle.capture_file.specs.Groups.{Shape, cells_by}
 use Rattle.receiver_file.specs.Known.{mixed_at, shape_in}
-use Rattle.receiver_file.proofs.MixedReads.{is_other, mixed_cut, mixed_gives, mixed_other, mixed_short, not_flipped}
+use Rattle.receiver_file.proofs.MixedReads.{is_other, mixed_cut, mixed_gives, mixed_other}
+use Rattle.receiver_file.proofs.MixedReads.{mixed_short, not_flipped}
 use Rattle.receiver_file.proofs.known.read_mixed.Goals as goal
 
 pub returns-in_err-read_field-clause-fault : goal.returns-in_err-read_field-clause-fault
 returns-in_err-read_field-clause-fault g c =
     let p = err_from_is_err_and c.from_residual.result c.from_residual.ensures.1 in
-    rw (p.1, p.2) (mixed_cut (shape_in c.args.format.now) _ c.in_err-read_field.field-0.0 c.in_err-read_field.ensures.fault)
+    rw (p.1, p.2)
+    (mixed_cut (shape_in c.args.format.now) _ c.in_err-read_field.field-0.0
+    c.in_err-read_field.ensures.fault)
 
 pub returns-in_err-read_field-2-clause-fault : goal.returns-in_err-read_field-2-clause-fault
 returns-in_err-read_field-2-clause-fault g c =
-    let p = err_from_is_err_and c.from_residual-in_err-read_field-2.result c.from_residual-in_err-read_field-2.ensures.1 in
+    let p =
+    err_from_is_err_and c.from_residual-in_err-read_field-2.result
+    c.from_residual-in_err-read_field-2.ensures.1 in
     let s : Shape = shape_in c.args.format.now in
-    rw (p.1, p.2) (mixed_short s _ _ _ c.in_err-read_field-2.field-0.0 c.in_ok-read_field.ensures.read
-    (subst (λ (n : ℕ). Fails (field_at n) (g.S.ByteSource.to_give c.read_field.new.source) c.in_err-read_field-2.field-0.0) c.requires c.in_err-read_field-2.ensures.fault))
+    rw (p.1, p.2)
+    (mixed_short s _ _ _ c.in_err-read_field-2.field-0.0 c.in_ok-read_field.ensures.read
+    (subst (λ (n : ℕ). Fails (field_at n)
+    (g.S.ByteSource.to_give c.read_field.new.source) c.in_err-read_field-2.field-0.0)
+    c.requires c.in_err-read_field-2.ensures.fault))
 
 pub returns-then-not-is_mixed-clause-fault : goal.returns-then-not-is_mixed-clause-fault
 returns-then-not-is_mixed-clause-fault g c =
     let s : Shape = shape_in c.args.format.now in
     let vs : List ℕ = values_in s.bits c.read_field-2.new.buf in
-    let whole : Gives (field_at s.octets) (g.S.ByteSource.to_give c.read_field.new.source) (g.S.ByteSource.to_give c.read_field-2.new.source) c.read_field-2.new.buf =
-    subst (λ (n : ℕ). Gives (field_at n) (g.S.ByteSource.to_give c.read_field.new.source) (g.S.ByteSource.to_give c.read_field-2.new.source) c.read_field-2.new.buf) c.requires c.in_ok-read_field-2.ensures.read in
-    let other : is_other s c.from_be_bytes-mask.result vs ≡ true = not_flipped (is_other s c.from_be_bytes-mask.result vs) true _ c.is_mixed.ensures c.if-not-is_mixed.true in
-    mixed_other s _ _ _ _ _ c.in_ok-read_field.ensures.read whole (ap (λ (m : ℕ). is_other s m vs) (sym c.from_be_bytes-mask.ensures) ∙ other)
+    let whole : Gives (field_at s.octets) (g.S.ByteSource.to_give c.read_field.new.source)
+    (g.S.ByteSource.to_give c.read_field-2.new.source) c.read_field-2.new.buf =
+    subst (λ (n : ℕ). Gives (field_at n) (g.S.ByteSource.to_give c.read_field.new.source)
+    (g.S.ByteSource.to_give c.read_field-2.new.source) c.read_field-2.new.buf) c.requires
+    c.in_ok-read_field-2.ensures.read in
+    let other : is_other s c.from_be_bytes-mask.result vs ≡ true =
+    not_flipped (is_other s c.from_be_bytes-mask.result vs) true _ c.is_mixed.ensures
+    c.if-not-is_mixed.true in
+    mixed_other s _ _ _ _ _ c.in_ok-read_field.ensures.read whole
+    (ap (λ (m : ℕ). is_other s m vs) (sym c.from_be_bytes-mask.ensures) ∙ other)
 
 pub returns-clause-read : goal.returns-clause-read
 returns-clause-read g c =
     let s : Shape = shape_in c.args.format.now in
     let vs : List ℕ = values_in s.bits c.read_field-2.new.buf in
-    let whole : Gives (field_at s.octets) (g.S.ByteSource.to_give c.read_field.new.source) (g.S.ByteSource.to_give c.read_field-2.new.source) c.read_field-2.new.buf =
-    subst (λ (n : ℕ). Gives (field_at n) (g.S.ByteSource.to_give c.read_field.new.source) (g.S.ByteSource.to_give c.read_field-2.new.source) c.read_field-2.new.buf) c.requires c.in_ok-read_field-2.ensures.read in
-    let one : is_other s c.from_be_bytes-mask.result vs ≡ false = not_flipped (is_other s c.from_be_bytes-mask.result vs) false _ c.is_mixed.ensures c.if-not-is_mixed.false in
-    subst (λ (m : ℕ). Gives (mixed_at s) (g.S.ByteSource.to_give c.args.source.now) (g.S.ByteSource.to_give c.read_field-2.new.source) (cells_by m vs)) (sym c.from_be_bytes-mask.ensures)
-    (mixed_gives s _ _ _ _ _ c.in_ok-read_field.ensures.read whole (ap (λ (m : ℕ). is_other s m vs) (sym c.from_be_bytes-mask.ensures) ∙ one))
+    let whole : Gives (field_at s.octets) (g.S.ByteSource.to_give c.read_field.new.source)
+    (g.S.ByteSource.to_give c.read_field-2.new.source) c.read_field-2.new.buf =
+    subst (λ (n : ℕ). Gives (field_at n) (g.S.ByteSource.to_give c.read_field.new.source)
+    (g.S.ByteSource.to_give c.read_field-2.new.source) c.read_field-2.new.buf) c.requires
+    c.in_ok-read_field-2.ensures.read in
+    let one : is_other s c.from_be_bytes-mask.result vs ≡ false =
+    not_flipped (is_other s c.from_be_bytes-mask.result vs) false _ c.is_mixed.ensures
+    c.if-not-is_mixed.false in
+    subst (λ (m : ℕ). Gives (mixed_at s) (g.S.ByteSource.to_give c.args.source.now)
+    (g.S.ByteSource.to_give c.read_field-2.new.source) (cells_by m vs))
+    (sym c.from_be_bytes-mask.ensures)
+    (mixed_gives s _ _ _ _ _ c.in_ok-read_field.ensures.read whole
+    (ap (λ (m : ℕ). is_other s m vs) (sym c.from_be_bytes-mask.ensures) ∙ one))

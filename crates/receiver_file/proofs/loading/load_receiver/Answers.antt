@@ -11,7 +11,8 @@ returns-clause-end g c = loaded_end _ _ c.read_receiver.result c.read_receiver.e
 
 pub returns-clause-found : goal.returns-clause-found
 returns-clause-found g c =
-    found_state _ _ c.read_receiver.result c.read_receiver.ensures.read c.read_receiver.ensures.octets c.read_receiver.ensures.writable
+    found_state _ _ c.read_receiver.result c.read_receiver.ensures.read
+    c.read_receiver.ensures.octets c.read_receiver.ensures.writable
 
 pub returns-clause-wrong : goal.returns-clause-wrong
 returns-clause-wrong g c =
@@ -19,13 +20,19 @@ returns-clause-wrong g c =
     c.read_receiver.ensures.fault
 
 pub returns-clause-only : goal.returns-clause-only
-returns-clause-only g c = λ k told is. only_state _ _ c.read_receiver.result c.read_receiver.ensures.read c.read_receiver.ensures.fault k told is
+returns-clause-only g c =
+    λ k told is. only_state _ _ c.read_receiver.result c.read_receiver.ensures.read
+    c.read_receiver.ensures.fault k told is
 
 pub returns-clause-same : goal.returns-clause-same
 returns-clause-same g c =
-    λ s told is. loaded_same _ _ c.read_receiver.result c.read_receiver.ensures.read c.read_receiver.ensures.fault c.read_receiver.ensures.receiver s told is.receiver (writable_saved s is)
+    λ s told is. loaded_same _ _ c.read_receiver.result c.read_receiver.ensures.read
+    c.read_receiver.ensures.fault c.read_receiver.ensures.receiver s told is.receiver
+    (writable_saved s is)
 
 pub returns-clause-holds : goal.returns-clause-holds
 returns-clause-holds g c =
     λ s datagrams told is h. loaded_holds c.read_receiver.result s datagrams h
-    (loaded_same _ _ c.read_receiver.result c.read_receiver.ensures.read c.read_receiver.ensures.fault c.read_receiver.ensures.receiver s told is.receiver (writable_saved s is))
+    (loaded_same _ _ c.read_receiver.result c.read_receiver.ensures.read
+    c.read_receiver.ensures.fault c.read_receiver.ensures.receiver s told is.receiver
+    (writable_saved s is))

@@ -8,4 +8,5 @@ returns-in_err-read_field-clause-fault g c =
     rw (p.1, p.2) (number_cut _ c.in_err-read_field.field-0.0 c.in_err-read_field.ensures.fault)
 
 pub returns-clause-read : goal.returns-clause-read
-returns-clause-read g c = number_gives _ _ c.read_field.new.buf _ c.from_be_bytes.ensures c.in_ok-read_field.ensures.read
+returns-clause-read g c =
+    number_gives _ _ c.read_field.new.buf _ c.from_be_bytes.ensures c.in_ok-read_field.ensures.read

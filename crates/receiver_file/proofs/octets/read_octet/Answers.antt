@@ -9,4 +9,5 @@ returns-in_err-read_field-clause-fault g c =
     rw (p.1, p.2) (octet_cut _ c.in_err-read_field.field-0.0 c.in_err-read_field.ensures.fault)
 
 pub returns-clause-read : goal.returns-clause-read
-returns-clause-read g c = octet_gives _ _ c.read_field.new.buf _ refl c.in_ok-read_field.ensures.read
+returns-clause-read g c =
+    octet_gives _ _ c.read_field.new.buf _ refl c.in_ok-read_field.ensures.read

@@ -9,11 +9,16 @@ loop-group-init g c = record { passed = passes_start _ _ _; filled = omega arith
 pub returns-in_err-at-clause-fault : goal.returns-in_err-at-clause-fault
 returns-in_err-at-clause-fault g c =
     let p = err_from_is_err_and c.from_residual.result c.from_residual.ensures.1 in
-    rw (p.1) (passes_stop c.args.size c.loop-group.group c.args.marks.now c.args.octets.now _ _ _ _ c.loop-group.invariant.passed c.in_err-at.ensures.fault)
+    rw (p.1)
+    (passes_stop c.args.size c.loop-group.group c.args.marks.now c.args.octets.now _ _ _ _
+    c.loop-group.invariant.passed c.in_err-at.ensures.fault)
 
 pub loop-group-preserved : goal.loop-group-preserved
 loop-group-preserved g c = record {
-  passed = passes_group c.args.size c.loop-group.group c.args.marks.now c.args.octets.now _ c.loop-group.room c.in_ok-at.at c.put_group-filled.result _ _ _ (omega arith) c.loop-group.invariant.passed c.in_ok-at.ensures.passed
+  passed =
+      passes_group c.args.size c.loop-group.group c.args.marks.now c.args.octets.now _
+      c.loop-group.room c.in_ok-at.at c.put_group-filled.result _ _ _
+      (omega arith) c.loop-group.invariant.passed c.in_ok-at.ensures.passed
       c.put_group-filled.new.room c.put_group-filled.ensures.put;
   filled = omega (arith, c.put_group-filled.ensures.within, c.put_group-filled.ensures.length);
   failures = search rules;
@@ -21,8 +26,12 @@ loop-group-preserved g c = record {
 
 pub returns-clause-ok : goal.returns-clause-ok
 returns-clause-ok g c =
-    on_ok_weaker c.write_whole.result (λ q. passes_done c.args.size c.loop-group.group c.args.marks.now c.args.octets.now _ _ _ _ (omega arith) c.loop-group.invariant.passed q) c.write_whole.ensures.ok
+    on_ok_weaker c.write_whole.result
+    (λ q. passes_done c.args.size c.loop-group.group c.args.marks.now c.args.octets.now _ _ _ _
+    (omega arith) c.loop-group.invariant.passed q) c.write_whole.ensures.ok
 
 pub returns-clause-fault : goal.returns-clause-fault
 returns-clause-fault g c =
-    on_err_weaker c.write_whole.result (λ q. passes_stop c.args.size c.loop-group.group c.args.marks.now c.args.octets.now _ _ _ _ c.loop-group.invariant.passed q) c.write_whole.ensures.fault
+    on_err_weaker c.write_whole.result
+    (λ q. passes_stop c.args.size c.loop-group.group c.args.marks.now c.args.octets.now _ _ _ _
+    c.loop-group.invariant.passed q) c.write_whole.ensures.fault

@@ -9,6 +9,7 @@ pub record Gathering (so_far inside count : Type 0) : Type 0 where
 
 abbrev pub invariant-loop-group : goal.invariant-loop-group
 invariant-loop-group g l = Gathering
-    (Passes (g.K.ByteSink.held l.initial.sink) (g.K.ByteSink.held l.sink) (marked_text l.size (take l.group l.marks) l.octets) (take l.filled l.room))
+    (Passes (g.K.ByteSink.held l.initial.sink) (g.K.ByteSink.held l.sink)
+    (marked_text l.size (take l.group l.marks) l.octets) (take l.filled l.room))
     (l.filled ≤ length l.room)
     (g.K.ByteSink.failures l.sink ≡ g.K.ByteSink.failures l.initial.sink)

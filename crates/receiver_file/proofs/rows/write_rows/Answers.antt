@@ -9,20 +9,32 @@ use Rattle.receiver_file.proofs.rows.write_rows.Goals as goal
 pub loop-row-init : goal.loop-row-init
 loop-row-init g c =
     let f : Format = c.args.frame.now.format in
-    record { written = rows_none (shape_in f) (shape_in f).samples (row_groups f) c.args.frame.now.cells _; failures = refl }
+    record {
+      written =
+          rows_none (shape_in f) (shape_in f).samples (row_groups f) c.args.frame.now.cells _;
+      failures = refl;
+    }
 
 pub returns-in_err-write_row-clause-fault : goal.returns-in_err-write_row-clause-fault
 returns-in_err-write_row-clause-fault g c =
     let p = err_from_is_err_and c.from_residual.result c.from_residual.ensures.1 in
     let f : Format = c.args.frame.now.format in
-    let n : c.height-row-end.result ≡ f.height = c.height-row-end.ensures ∙ ap (λ (x : Format). x.height) c.format.ensures.format in
-    let lt : c.loop-row.row < f.height = subst (λ (k : ℕ). c.loop-row.row < k) n c.loop-row-test.true in
-    rw (p.1) (rows_stop (shape_in f) (shape_in f).samples (row_groups f) c.loop-row.row f.height c.args.frame.now.cells _ _ _ lt c.loop-row.invariant.written c.in_err-write_row.ensures.fault)
+    let n : c.height-row-end.result ≡ f.height =
+    c.height-row-end.ensures ∙ ap (λ (x : Format). x.height) c.format.ensures.format in
+    let lt : c.loop-row.row < f.height =
+    subst (λ (k : ℕ). c.loop-row.row < k) n c.loop-row-test.true in
+    rw (p.1)
+    (rows_stop (shape_in f) (shape_in f).samples
+    (row_groups f) c.loop-row.row f.height c.args.frame.now.cells _ _ _ lt
+    c.loop-row.invariant.written c.in_err-write_row.ensures.fault)
 
 pub loop-row-preserved : goal.loop-row-preserved
 loop-row-preserved g c =
     let f : Format = c.args.frame.now.format in
     record {
-      written = rows_more (shape_in f) (shape_in f).samples (row_groups f) c.loop-row.row c.args.frame.now.cells _ _ _ c.loop-row.invariant.written c.in_ok-write_row.ensures.ok;
+      written =
+          rows_more (shape_in f) (shape_in f).samples
+          (row_groups f) c.loop-row.row c.args.frame.now.cells _ _ _ c.loop-row.invariant.written
+          c.in_ok-write_row.ensures.ok;
       failures = c.in_ok-write_row.ensures.counted ∙ c.loop-row.invariant.failures;
     }

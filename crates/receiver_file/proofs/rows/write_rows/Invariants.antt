@@ -10,5 +10,6 @@ pub record Writing (so_far count : Type 0) : Type 0 where
 
 abbrev pub invariant-loop-row : goal.invariant-loop-row
 invariant-loop-row g l = Writing
-    (Appends (g.K.ByteSink.held l.initial.sink) (g.K.ByteSink.held l.sink) (groups_text (shape_in l.frame.format) (rows_cut l.frame l.row)))
+    (Appends (g.K.ByteSink.held l.initial.sink) (g.K.ByteSink.held l.sink)
+    (groups_text (shape_in l.frame.format) (rows_cut l.frame l.row)))
     (g.K.ByteSink.failures l.sink ≡ g.K.ByteSink.failures l.initial.sink)

@@ -5,4 +5,6 @@ use Rattle.receiver_file.proofs.saving.head_of.Goals as goal
 pub returns : goal.returns
 returns g c =
     c.opening_of.ensures
-    ∙ opening_same c.args.receiver.now _ _ _ c.window.ensures.receiver c.payload_type.ensures.payload_type c.ssrc.ensures.ssrc (ap (λ (w : List ℕ). length w) c.window.ensures.window)
+    ∙ opening_same c.args.receiver.now _ _ _ c.window.ensures.receiver
+    c.payload_type.ensures.payload_type c.ssrc.ensures.ssrc
+    (ap (λ (w : List ℕ). length w) c.window.ensures.window)

@@ -13,15 +13,21 @@ returns-in_err-write_front-clause-fault g c =
     let k : Kept = kept_of c.args.receiver.now in
     rw (p.1, p.2) (
       tt,
-      subst (λ (t : List ℕ). AppendsPrefix (g.K.ByteSink.held c.args.sink.now) (g.K.ByteSink.held c.write_front.new.sink) t) (state_parts k) (prefix_first _ _ (front_text k) (frames_text k) c.in_err-write_front.ensures.fault),
+      subst (λ (t : List ℕ). AppendsPrefix (g.K.ByteSink.held c.args.sink.now)
+          (g.K.ByteSink.held c.write_front.new.sink) t) (state_parts k)
+          (prefix_first _ _ (front_text k) (frames_text k) c.in_err-write_front.ensures.fault),
     )
 
 pub returns-in_err-write_frames-clause-fault : goal.returns-in_err-write_frames-clause-fault
 returns-in_err-write_frames-clause-fault g c =
-    let p = err_from_is_err_and c.from_residual-in_err-write_frames.result c.from_residual-in_err-write_frames.ensures.1 in
+    let p =
+    err_from_is_err_and c.from_residual-in_err-write_frames.result
+    c.from_residual-in_err-write_frames.ensures.1 in
     let k : Kept = kept_of c.args.receiver.now in
     rw (p.1, p.2) (
       tt,
-      subst (λ (t : List ℕ). AppendsPrefix (g.K.ByteSink.held c.args.sink.now) (g.K.ByteSink.held c.write_frames.new.sink) t) (state_parts k)
-          (prefix_then _ _ _ (front_text k) (frames_text k) c.in_ok-write_front.ensures.ok c.in_err-write_frames.ensures.fault),
+      subst (λ (t : List ℕ). AppendsPrefix (g.K.ByteSink.held c.args.sink.now)
+          (g.K.ByteSink.held c.write_frames.new.sink) t) (state_parts k)
+          (prefix_then _ _ _ (front_text k)
+          (frames_text k) c.in_ok-write_front.ensures.ok c.in_err-write_frames.ensures.fault),
     )

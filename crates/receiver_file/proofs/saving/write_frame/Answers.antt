@@ -10,9 +10,15 @@ pub returns-in_err-write_whole-clause-fault : goal.returns-in_err-write_whole-cl
 returns-in_err-write_whole-clause-fault g c =
     let p = err_from_is_err_and c.from_residual.result c.from_residual.ensures.1 in
     let f : Format = c.args.frame.now.format in
-    rw (p.1) (prefix_first _ _ (to_be_bytes w32 c.args.timestamp) (groups_text (shape_in f) (rows_cut c.args.frame.now f.height)) (rw c.to_be_bytes.ensures at c.in_err-write_whole.ensures.fault))
+    rw (p.1)
+    (prefix_first _ _ (to_be_bytes w32 c.args.timestamp)
+    (groups_text (shape_in f) (rows_cut c.args.frame.now f.height))
+    (rw c.to_be_bytes.ensures at c.in_err-write_whole.ensures.fault))
 
 pub returns-clause-fault : goal.returns-clause-fault
 returns-clause-fault g c =
     let f : Format = c.args.frame.now.format in
-    on_err_weaker c.write_rows.result (λ q. prefix_then _ _ _ (to_be_bytes w32 c.args.timestamp) (groups_text (shape_in f) (rows_cut c.args.frame.now f.height)) (rw c.to_be_bytes.ensures at c.in_ok-write_whole.ensures.ok) q) c.write_rows.ensures.fault
+    on_err_weaker c.write_rows.result
+    (λ q. prefix_then _ _ _ (to_be_bytes w32 c.args.timestamp)
+    (groups_text (shape_in f) (rows_cut c.args.frame.now f.height))
+    (rw c.to_be_bytes.ensures at c.in_ok-write_whole.ensures.ok) q) c.write_rows.ensures.fault

@@ -9,5 +9,6 @@ pub record Writing (so_far count : Type 0) : Type 0 where
 
 abbrev pub invariant-loop-timestamp : goal.invariant-loop-timestamp
 invariant-loop-timestamp g l = Writing
-    (Appends (g.K.ByteSink.held l.initial.sink) (g.K.ByteSink.held l.sink) (texts_before l.receiver l.timestamp-index))
+    (Appends (g.K.ByteSink.held l.initial.sink) (g.K.ByteSink.held l.sink)
+    (texts_before l.receiver l.timestamp-index))
     (g.K.ByteSink.failures l.sink ≡ g.K.ByteSink.failures l.initial.sink)

@@ -17,30 +17,47 @@ pub returns-in_err-write_whole-clause-fault : goal.returns-in_err-write_whole-cl
 returns-in_err-write_whole-clause-fault g c =
     let p = err_from_is_err_and c.from_residual.result c.from_residual.ensures.1 in
     let k : Kept = kept_of c.args.receiver.now in
-    rw (p.1) (prefix_first _ _ name (format_text k.format ++ opening_text k) c.in_err-write_whole.ensures.fault)
+    rw (p.1)
+    (prefix_first _ _ name
+    (format_text k.format ++ opening_text k) c.in_err-write_whole.ensures.fault)
 
 pub returns-in_err-write_whole-2-clause-fault : goal.returns-in_err-write_whole-2-clause-fault
 returns-in_err-write_whole-2-clause-fault g c =
-    let p = err_from_is_err_and c.from_residual-in_err-write_whole-2.result c.from_residual-in_err-write_whole-2.ensures.1 in
+    let p =
+    err_from_is_err_and c.from_residual-in_err-write_whole-2.result
+    c.from_residual-in_err-write_whole-2.ensures.1 in
     let k : Kept = kept_of c.args.receiver.now in
-    let block : c.block_of.result ≡ format_text k.format = c.block_of.ensures ∙ ap (λ (f : Format). format_text (fields_of f)) c.format.ensures.format in
-    rw (p.1) (prefix_then _ _ _ name (format_text k.format ++ opening_text k) c.in_ok-write_whole.ensures.ok
-    (prefix_first _ _ (format_text k.format) (opening_text k) (rw block at c.in_err-write_whole-2.ensures.fault)))
+    let block : c.block_of.result ≡ format_text k.format =
+    c.block_of.ensures ∙ ap
+    (λ (f : Format). format_text (fields_of f)) c.format.ensures.format in
+    rw (p.1)
+    (prefix_then _ _ _ name
+    (format_text k.format ++ opening_text k) c.in_ok-write_whole.ensures.ok
+    (prefix_first _ _ (format_text k.format) (opening_text k)
+    (rw block at c.in_err-write_whole-2.ensures.fault)))
 
 pub returns-clause-ok : goal.returns-clause-ok
 returns-clause-ok g c =
     let k : Kept = kept_of c.args.receiver.now in
-    let block : c.block_of.result ≡ format_text k.format = c.block_of.ensures ∙ ap (λ (f : Format). format_text (fields_of f)) c.format.ensures.format in
+    let block : c.block_of.result ≡ format_text k.format =
+    c.block_of.ensures ∙ ap
+    (λ (f : Format). format_text (fields_of f)) c.format.ensures.format in
     on_ok_weaker c.write_whole-3.result
-    (λ q. Appends-trans _ _ _ name (format_text k.format ++ opening_text k) c.in_ok-write_whole.ensures.ok
-    (Appends-trans _ _ _ (format_text k.format) (opening_text k) (rw block at c.in_ok-write_whole-2.ensures.ok) (rw c.head_of.ensures at q)))
+    (λ q. Appends-trans _ _ _ name
+    (format_text k.format ++ opening_text k) c.in_ok-write_whole.ensures.ok
+    (Appends-trans _ _ _ (format_text k.format) (opening_text k)
+    (rw block at c.in_ok-write_whole-2.ensures.ok) (rw c.head_of.ensures at q)))
     c.write_whole-3.ensures.ok
 
 pub returns-clause-fault : goal.returns-clause-fault
 returns-clause-fault g c =
     let k : Kept = kept_of c.args.receiver.now in
-    let block : c.block_of.result ≡ format_text k.format = c.block_of.ensures ∙ ap (λ (f : Format). format_text (fields_of f)) c.format.ensures.format in
+    let block : c.block_of.result ≡ format_text k.format =
+    c.block_of.ensures ∙ ap
+    (λ (f : Format). format_text (fields_of f)) c.format.ensures.format in
     on_err_weaker c.write_whole-3.result
-    (λ q. prefix_then _ _ _ name (format_text k.format ++ opening_text k) c.in_ok-write_whole.ensures.ok
-    (prefix_then _ _ _ (format_text k.format) (opening_text k) (rw block at c.in_ok-write_whole-2.ensures.ok) (rw c.head_of.ensures at q)))
+    (λ q. prefix_then _ _ _ name
+    (format_text k.format ++ opening_text k) c.in_ok-write_whole.ensures.ok
+    (prefix_then _ _ _ (format_text k.format) (opening_text k)
+    (rw block at c.in_ok-write_whole-2.ensures.ok) (rw c.head_of.ensures at q)))
     c.write_whole-3.ensures.fault

@@ -1,4 +1,5 @@
-use Rattle.rtp_header.specs.declared.header.RtpFault.TheVariants.{ShortHeader, BadVersion, ShortExtension, BadPadding}
+use Rattle.rtp_header.specs.declared.header.RtpFault.TheVariants.{ShortHeader, BadVersion}
+use Rattle.rtp_header.specs.declared.header.RtpFault.TheVariants.{ShortExtension, BadPadding}
 use Rattle.rtp_header.proofs.Faulted.{rtp_faulted}
 use Rattle.rtp_header.proofs.laws.first_fault.Goals as goal
 

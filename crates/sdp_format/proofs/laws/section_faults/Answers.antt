@@ -1,4 +1,10 @@
-use Rattle.sdp_format.specs.declared.fault.SdpFault.TheVariants.{BadMediaLine, NoRtpmap, NotRaw90000, NoFmtp, BadParameter, DoubleParameter, MissingParameter, UnsupportedSampling, UnsupportedDepth, Interlaced, UnsupportedPacking, BadSsn, BadFormat}
+use Rattle.sdp_format.specs.declared.fault.SdpFault.TheVariants.{BadMediaLine, NoRtpmap}
+use Rattle.sdp_format.specs.declared.fault.SdpFault.TheVariants.{NotRaw90000, NoFmtp, BadParameter}
+use Rattle.sdp_format.specs.declared.fault.SdpFault.TheVariants.{DoubleParameter, MissingParameter}
+use Rattle.sdp_format.specs.declared.fault.SdpFault.TheVariants.{UnsupportedSampling}
+use Rattle.sdp_format.specs.declared.fault.SdpFault.TheVariants.{UnsupportedDepth, Interlaced}
+use Rattle.sdp_format.specs.declared.fault.SdpFault.TheVariants.{UnsupportedPacking, BadSsn}
+use Rattle.sdp_format.specs.declared.fault.SdpFault.TheVariants.{BadFormat}
 use Rattle.sdp_format.proofs.SectionFaults.{section_fault}
 use Rattle.sdp_format.proofs.Members.{turned}
 use Rattle.sdp_format.proofs.laws.section_faults.Goals as goal

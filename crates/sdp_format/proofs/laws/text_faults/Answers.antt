@@ -1,4 +1,5 @@
-use Rattle.sdp_format.proofs.TextFaults.{no_video, too_many_legs, legs_differ, text_fault, text_said}
+use Rattle.sdp_format.proofs.TextFaults.{no_video, too_many_legs, legs_differ, text_fault}
+use Rattle.sdp_format.proofs.TextFaults.{text_said}
 use Rattle.sdp_format.proofs.Members.{turned}
 use Rattle.sdp_format.proofs.laws.text_faults.Goals as goal
 

@@ -6,7 +6,9 @@ use Rattle.sdp_format.specs.Reading.{first_attribute}
 use Rattle.sdp_format.proofs.lines.first_attribute.Given as goal
 
 abbrev pub invariant-loop-rest : goal.invariant-loop-rest
-invariant-loop-rest l = first_attribute l.word l.wanted (section_lines (lines_left (option_copied l.rest))) ≡ first_attribute l.word l.wanted (section_lines (lines_left (option_copied l.fn.left)))
+invariant-loop-rest l =
+    first_attribute l.word l.wanted (section_lines (lines_left (option_copied l.rest)))
+    ≡ first_attribute l.word l.wanted (section_lines (lines_left (option_copied l.fn.left)))
 
 abbrev pub decreases-loop-rest : goal.decreases-loop-rest
 decreases-loop-rest l = length (lines_left (option_copied l.rest))

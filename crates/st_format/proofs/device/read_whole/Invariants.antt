@@ -9,6 +9,7 @@ decreases-loop-filled g l = length l.initial.buf - l.filled
 abbrev pub invariant-loop-filled : goal.invariant-loop-filled
 invariant-loop-filled g l =
     (l.filled ≤ length l.buf)
-    × Consumes (g.S.ByteSource.to_give l.initial.source) (g.S.ByteSource.to_give l.source) (take l.filled l.buf)
+    × Consumes (g.S.ByteSource.to_give l.initial.source) (g.S.ByteSource.to_give l.source)
+    (take l.filled l.buf)
     × (g.S.ByteSource.failures l.source ≡ g.S.ByteSource.failures l.initial.source)
     × (0 < l.filled → TellsOctets (g.S.ByteSource.to_give l.initial.source))

@@ -12,7 +12,9 @@ loop-done-preserved g c =
     let now = c.in_ok-done.ensures in
     let fits : l.done + n ≤ length xs = search rules in (
       fits,
-      writes_more l.done n xs _ _ _ l.invariant.1 (subst (λ (ys : List ℕ). Appends (g.K.ByteSink.held l.sink) (g.K.ByteSink.held c.write.new.self) (take n ys)) (take_rest xs l.done) now.taken),
+      writes_more l.done n xs _ _ _ l.invariant.1
+          (subst (λ (ys : List ℕ). Appends (g.K.ByteSink.held l.sink)
+          (g.K.ByteSink.held c.write.new.self) (take n ys)) (take_rest xs l.done) now.taken),
       now.counted ∙ l.invariant.2,
       stays_untold _ _ _ l.invariant.3 now.untold,
     )

@@ -6,4 +6,5 @@ pub returns-clause-is : goal.returns-clause-is
 returns-clause-is c xs ts p = is_cell (values_for xs ts p)
 
 pub returns-clause-only : goal.returns-clause-only
-returns-clause-only c xs ts p d is = one_cell (values_for xs ts p) d (cell_of xs ts p) is (is_cell (values_for xs ts p))
+returns-clause-only c xs ts p d is =
+    one_cell (values_for xs ts p) d (cell_of xs ts p) is (is_cell (values_for xs ts p))

@@ -15,6 +15,7 @@ pub returns-clause-group : goal.returns-clause-group
 returns-clause-group c = λ f row group p inside below. (
   λ m. let r = stands_in f row group p inside below m in (r.is, r.in_row, r.in_group),
   λ r. subst (λ (x : ℕ). IsMember p (group_positions f row x)) r.2
-      (subst (λ (x : ℕ). IsMember p (group_positions f x (p.column / (pixel_group f.sampling f.depth).pixels))) r.1
+      (subst (λ (x : ℕ). IsMember p
+      (group_positions f x (p.column / (pixel_group f.sampling f.depth).pixels))) r.1
       (member-group_positions f p r.0)),
 )

@@ -7,5 +7,7 @@ pub cell_in-requires-clause-below : goal.cell_in-requires-clause-below
 cell_in-requires-clause-below g c =
     let f = c.self.inside.format in
     let k : ℕ = (pixel_group c.self.inside.format.sampling c.self.inside.format.depth).samples in
-    let e = ap (λ (j : ℕ). k * j) (ap length c.as_slice.ensures.value ∙ c.self.invariant.groups) ∙ sample_count_groups c.self.inside.format in
+    let e =
+    ap (λ (j : ℕ). k * j) (ap length c.as_slice.ensures.value ∙ c.self.invariant.groups)
+    ∙ sample_count_groups c.self.inside.format in
     omega (arith, e, c.sample_number-number.ensures.below)

@@ -4,4 +4,5 @@ use Rattle.frame_assembly.proofs.WholeGroups.{whole_groups}
 use Rattle.frame_assembly.proofs.frame.Frame.format.Goals as goal
 
 pub returns-clause-groups : goal.returns-clause-groups
-returns-clause-groups g c = subst GroupsAreWhole c.self.view_is (whole_groups _ _ _ c.self.invariant)
+returns-clause-groups g c =
+    subst GroupsAreWhole c.self.view_is (whole_groups _ _ _ c.self.invariant)

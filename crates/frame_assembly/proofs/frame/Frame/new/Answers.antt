@@ -5,16 +5,22 @@ use Rattle.frame_assembly.proofs.frame.Frame.new.Goals as goal
 
 pub invariant_of-result : goal.invariant_of-result
 invariant_of-result g c =
-    blank_kept c.args.format c.in_ok-marks.marks.items c.in_ok-octets.octets.items c.group_total-groups.result c.group_total-groups.ensures.value
+    blank_kept c.args.format c.in_ok-marks.marks.items c.in_ok-octets.octets.items
+    c.group_total-groups.result c.group_total-groups.ensures.value
     (c.in_ok-marks.ensures.items_if_clones_equal (λ y e. e))
-    (c.in_ok-octets.ensures.items_if_clones_equal (λ y e. e) ∙ ap (λ (k : ℕ). replicate {A = ℕ} (k * c.group_total-groups.result) 0) c.pgroup.ensures.octets)
+    (c.in_ok-octets.ensures.items_if_clones_equal (λ y e. e)
+    ∙ ap
+    (λ (k : ℕ). replicate {A = ℕ} (k * c.group_total-groups.result) 0) c.pgroup.ensures.octets)
 
 pub returns-clause-blank : goal.returns-clause-blank
 returns-clause-blank g c =
     ap (frame_view c.args.format)
-    (blank_cells c.args.format c.in_ok-marks.marks.items c.in_ok-octets.octets.items c.group_total-groups.result c.group_total-groups.ensures.value
+    (blank_cells c.args.format c.in_ok-marks.marks.items c.in_ok-octets.octets.items
+    c.group_total-groups.result c.group_total-groups.ensures.value
     (c.in_ok-marks.ensures.items_if_clones_equal (λ y e. e))
-    (c.in_ok-octets.ensures.items_if_clones_equal (λ y e. e) ∙ ap (λ (k : ℕ). replicate {A = ℕ} (k * c.group_total-groups.result) 0) c.pgroup.ensures.octets))
+    (c.in_ok-octets.ensures.items_if_clones_equal (λ y e. e)
+    ∙ ap
+    (λ (k : ℕ). replicate {A = ℕ} (k * c.group_total-groups.result) 0) c.pgroup.ensures.octets))
 
 pub returns-clause-whole : goal.returns-clause-whole
 returns-clause-whole g c = (invariant_of-result g c).frame.whole

@@ -11,21 +11,38 @@ use Rattle.frame_assembly.proofs.frame.Frame.settle.Goals as goal
 
 pub from_samples-requires : goal.from_samples-requires
 from_samples-requires g c =
-    let items : List Cell = cells_in c.self.inside.format c.self.inside.marks.items c.self.inside.octets.items in
-    let lent : List Cell = cells_in c.self.inside.format c.as_slice.result.now c.as_slice-2.result.now in
-    let same : lent ≡ items = ap (λ (ms : List ℕ). cells_in c.self.inside.format ms c.as_slice-2.result.now) c.as_slice.ensures.value ∙ ap (cells_in c.self.inside.format c.self.inside.marks.items) c.as_slice-2.ensures.value in
+    let items : List Cell =
+    cells_in c.self.inside.format c.self.inside.marks.items c.self.inside.octets.items in
+    let lent : List Cell =
+    cells_in c.self.inside.format c.as_slice.result.now c.as_slice-2.result.now in
+    let same : lent ≡ items =
+    ap (λ
+    (ms : List ℕ). cells_in c.self.inside.format ms c.as_slice-2.result.now)
+    c.as_slice.ensures.value
+    ∙ ap (cells_in c.self.inside.format c.self.inside.marks.items) c.as_slice-2.ensures.value in
     let r : Raster = frame_view c.self.inside.format items in
-    let is_base : IsBaseOf c.self.inside.format c.args.base = subst (λ (q : Raster). IsBaseOf q.format c.args.base) (sym c.self.view_is) c.requires in
+    let is_base : IsBaseOf c.self.inside.format c.args.base =
+    subst (λ (q : Raster). IsBaseOf q.format c.args.base) (sym c.self.view_is) c.requires in
     subst (λ (xs : List ℕ). IsPicture (values c.self.inside.format xs))
-    (sym (settled_as c.self.inside.format items lent c.in_ok-samples.samples.items c.args.base is_base c.self.invariant.frame.whole same c.in_ok-samples.ensures.settled))
+    (sym (settled_as c.self.inside.format items lent c.in_ok-samples.samples.items c.args.base
+    is_base c.self.invariant.frame.whole same c.in_ok-samples.ensures.settled))
     (settled-is_picture r c.args.base c.self.invariant.frame is_base c.in_ok-samples.ensures.held)
 
 pub returns-clause-settled : goal.returns-clause-settled
 returns-clause-settled g c =
-    let items : List Cell = cells_in c.self.inside.format c.self.inside.marks.items c.self.inside.octets.items in
-    let lent : List Cell = cells_in c.self.inside.format c.as_slice.result.now c.as_slice-2.result.now in
-    let same : lent ≡ items = ap (λ (ms : List ℕ). cells_in c.self.inside.format ms c.as_slice-2.result.now) c.as_slice.ensures.value ∙ ap (cells_in c.self.inside.format c.self.inside.marks.items) c.as_slice-2.ensures.value in
-    let is_base : IsBaseOf c.self.inside.format c.args.base = subst (λ (q : Raster). IsBaseOf q.format c.args.base) (sym c.self.view_is) c.requires in
+    let items : List Cell =
+    cells_in c.self.inside.format c.self.inside.marks.items c.self.inside.octets.items in
+    let lent : List Cell =
+    cells_in c.self.inside.format c.as_slice.result.now c.as_slice-2.result.now in
+    let same : lent ≡ items =
+    ap (λ
+    (ms : List ℕ). cells_in c.self.inside.format ms c.as_slice-2.result.now)
+    c.as_slice.ensures.value
+    ∙ ap (cells_in c.self.inside.format c.self.inside.marks.items) c.as_slice-2.ensures.value in
+    let is_base : IsBaseOf c.self.inside.format c.args.base =
+    subst (λ (q : Raster). IsBaseOf q.format c.args.base) (sym c.self.view_is) c.requires in
     c.from_samples.ensures.value
-    ∙ ap (values c.self.inside.format) (settled_as c.self.inside.format items lent c.in_ok-samples.samples.items c.args.base is_base c.self.invariant.frame.whole same c.in_ok-samples.ensures.settled)
+    ∙ ap (values c.self.inside.format)
+    (settled_as c.self.inside.format items lent c.in_ok-samples.samples.items c.args.base
+    is_base c.self.invariant.frame.whole same c.in_ok-samples.ensures.settled)
     ∙ ap (λ (q : Raster). settled q c.args.base) c.self.view_is

@@ -18,4 +18,5 @@ returns-clause-places g c =
     let m : Numbers = record { first = c.self.inside.first; noted = c.self.inside.noted } in
     let n : Numbers = record { first = c.other.inside.first; noted = c.other.inside.noted } in
     let alike : AreAlike m n = record { first = omega arith; count = omega arith } in
-    absorbed_places m n c.args.self.now c.args.other.now c.absorb.new.self c.absorb.ensures alike c.self.view_is c.other.view_is
+    absorbed_places m n c.args.self.now c.args.other.now c.absorb.new.self c.absorb.ensures alike
+    c.self.view_is c.other.view_is

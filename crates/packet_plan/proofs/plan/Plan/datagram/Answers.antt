@@ -8,6 +8,8 @@ pub returns-clause-sent : goal.returns-clause-sent
 returns-clause-sent g c =
     let rs = packet_at c.args.self.now c.args.index in
     let last = eqb (c.args.index + 1) (length c.args.self.now.packets) in
-    subst (λ (xs : List ℕ). IsSentPacket c.args.picture.now c.args.stamp c.args.index last rs xs) (sym c.write_packet.ensures.text)
+    subst (λ (xs : List ℕ). IsSentPacket c.args.picture.now c.args.stamp c.args.index last rs xs)
+    (sym c.write_packet.ensures.text)
     (sent_text c.args.picture.now c.args.stamp c.args.index last rs
-    (runs_at c.args.self.now.format c.args.picture.now.format rs rs c.requires.format refl c.write_packet.ensures.runs) c.write_packet.ensures.picture c.write_packet.ensures.stamp)
+    (runs_at c.args.self.now.format c.args.picture.now.format rs rs c.requires.format refl
+    c.write_packet.ensures.runs) c.write_packet.ensures.picture c.write_packet.ensures.stamp)

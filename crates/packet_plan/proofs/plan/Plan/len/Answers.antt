@@ -7,7 +7,8 @@ use Rattle.packet_plan.proofs.plan.Plan.len.Goals as goal
 pub returns-clause-full : goal.returns-clause-full
 returns-clause-full g c =
     subst (λ (p : RasterPlan). IsFullPlan p.format p.max_octets p.packets) c.self.view_is
-    (promised c.self.inside.format c.self.inside.max_octets c.self.inside.starts.items c.self.invariant)
+    (promised c.self.inside.format c.self.inside.max_octets c.self.inside.starts.items
+    c.self.invariant)
 
 pub returns-clause-most : goal.returns-clause-most
 returns-clause-most g c =
@@ -16,7 +17,8 @@ returns-clause-most g c =
     (omega (
       arith,
       length-map (packet_from inside.format inside.max_octets) inside.starts.items,
-      walk_count inside.format inside.max_octets 0 inside.starts.items c.self.invariant.0 (omega arith) c.self.invariant.1,
+      walk_count inside.format inside.max_octets 0 inside.starts.items c.self.invariant.0
+          (omega arith) c.self.invariant.1,
       group_count_most inside.format,
     ))
 
@@ -24,13 +26,18 @@ pub returns-clause-some : goal.returns-clause-some
 returns-clause-some g c =
     let inside = c.self.inside in
     subst (λ (p : RasterPlan). 0 < length p.packets) c.self.view_is
-    (omega (arith, length-map (packet_from inside.format inside.max_octets) inside.starts.items, walk_some inside.format inside.max_octets inside.starts.items c.self.invariant.1))
+    (omega (
+      arith,
+      length-map (packet_from inside.format inside.max_octets) inside.starts.items,
+      walk_some inside.format inside.max_octets inside.starts.items c.self.invariant.1,
+    ))
 
 pub overflow_cast-result : goal.overflow_cast-result
 overflow_cast-result g c =
     let inside = c.self.inside in
     omega (
       arith,
-      walk_count inside.format inside.max_octets 0 inside.starts.items c.self.invariant.0 (omega arith) c.self.invariant.1,
+      walk_count inside.format inside.max_octets 0 inside.starts.items c.self.invariant.0
+          (omega arith) c.self.invariant.1,
       group_count_most inside.format,
     )

@@ -19,7 +19,9 @@ pub returns-clause-slide : goal.returns-clause-slide
 returns-clause-slide c = at_slid
 
 pub returns-clause-merge : goal.returns-clause-merge
-returns-clause-merge c s es r q state other new is its same receiver = at_merged s es r q state other new is its same receiver.window.different
+returns-clause-merge c s es r q state other new is its same receiver =
+    at_merged s es r q state other new is its same receiver.window.different
 
 pub returns-clause-over : goal.returns-clause-over
-returns-clause-over c s es e stay frame over = frame_kept s es e stay frame (none_when_over s es e stay over)
+returns-clause-over c s es e stay frame over =
+    frame_kept s es e stay frame (none_when_over s es e stay over)

@@ -5,7 +5,14 @@ use Rattle.path_merge.proofs.schedule.check.are_of_format.Goals as goal
 
 pub loop-picture-preserved : goal.loop-picture-preserved
 loop-picture-preserved g c =
-    below_more (λ (k : ℕ). (d : Values) → ((get_or c.args.pictures.now k d).format ≡ c.args.format) × IsPicture (get_or c.args.pictures.now k d)) _ c.loop-picture.invariant
+    below_more (λ (k : ℕ). (d : Values)
+    → ((get_or c.args.pictures.now k d).format ≡ c.args.format)
+    × IsPicture (get_or c.args.pictures.now k d)) _ c.loop-picture.invariant
     (λ d.
-    let e = of_item c.args.pictures.now c.loop-picture.picture-index d c.picture-item.result (omega (arith, c.loop-picture-test.true)) c.picture-item.is in
-    (ap (λ (p : Values). p.format) e ∙ sym c.format.ensures.value ∙ c.if-not-same_format.ensures.same refl, subst IsPicture (sym e) c.format.ensures.whole))
+    let e =
+    of_item c.args.pictures.now c.loop-picture.picture-index d c.picture-item.result
+    (omega (arith, c.loop-picture-test.true)) c.picture-item.is in (
+      ap (λ (p : Values). p.format) e ∙ sym c.format.ensures.value
+          ∙ c.if-not-same_format.ensures.same refl,
+      subst IsPicture (sym e) c.format.ensures.whole,
+    ))

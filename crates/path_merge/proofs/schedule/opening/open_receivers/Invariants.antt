@@ -9,4 +9,13 @@ pub record Opened (long all : Type 0) : Type 0 where
 
 -- the receivers so far
 abbrev pub invariant-loop : goal.invariant-loop
-invariant-loop g l = Opened (length l.receivers.items ≡ l.counter) (All (IsOpened (record { format = l.format; payload_type = l.stamp.payload_type; ssrc = Some l.stamp.ssrc; window = l.window })) l.receivers.items)
+invariant-loop g l =
+    Opened (length l.receivers.items ≡ l.counter)
+    (All (IsOpened
+    (record {
+      format = l.format;
+      payload_type = l.stamp.payload_type;
+      ssrc =
+          Some l.stamp.ssrc;
+      window = l.window;
+    })) l.receivers.items)

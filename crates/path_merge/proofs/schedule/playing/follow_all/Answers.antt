@@ -9,12 +9,25 @@ use Rattle.path_merge.proofs.schedule.playing.follow_all.Goals as goal
 pub loop-place-preserved : goal.loop-place-preserved
 loop-place-preserved g c = record {
   ready = c.in-Ok.ensures.ready;
-  followed = follows_next c.args.plan.now c.args.stamp c.args.pictures.now c.args.events.now c.loop-place.place (slice_index_or c.args.events.now c.loop-place.place Send) c.args.stage.now c.loop-place.stage c.follow.new.stage
-      (slice_get-get_or c.args.events.now c.loop-place.place Send (omega (arith, c.loop-place-test.true))) c.loop-place.invariant.followed c.in-Ok.ensures.followed;
+  followed =
+      follows_next c.args.plan.now c.args.stamp c.args.pictures.now c.args.events.now
+      c.loop-place.place (slice_index_or c.args.events.now c.loop-place.place Send)
+      c.args.stage.now c.loop-place.stage c.follow.new.stage
+      (slice_get-get_or c.args.events.now c.loop-place.place Send
+      (omega (
+        arith,
+        c.loop-place-test.true,
+      ))) c.loop-place.invariant.followed c.in-Ok.ensures.followed;
 }
 
 pub returns-in-Err-Unfit-clause-bad : goal.returns-in-Err-Unfit-clause-bad
 returns-in-Err-Unfit-clause-bad g c place e =
-    subst (λ (n : ℕ). FailsAt c.args.plan.now c.args.stamp c.args.pictures.now c.args.events.now n c.args.stage.now) (same_place c.loop-place.place place e)
-    (fails_here c.args.plan.now c.args.stamp c.args.pictures.now c.args.events.now c.loop-place.place (slice_index_or c.args.events.now c.loop-place.place Send) c.args.stage.now c.loop-place.stage
-    (slice_get-get_or c.args.events.now c.loop-place.place Send (omega (arith, c.loop-place-test.true))) c.loop-place.invariant.followed (c.in-Err-Unfit.ensures.unfit (ap (λ (x : Stop). Err x) c.in-Err-Unfit.field-0-is)))
+    subst (λ
+    (n : ℕ). FailsAt c.args.plan.now c.args.stamp c.args.pictures.now c.args.events.now n
+    c.args.stage.now) (same_place c.loop-place.place place e)
+    (fails_here c.args.plan.now c.args.stamp c.args.pictures.now c.args.events.now
+    c.loop-place.place (slice_index_or c.args.events.now c.loop-place.place Send)
+    c.args.stage.now c.loop-place.stage
+    (slice_get-get_or c.args.events.now c.loop-place.place Send
+    (omega (arith, c.loop-place-test.true))) c.loop-place.invariant.followed
+    (c.in-Err-Unfit.ensures.unfit (ap (λ (x : Stop). Err x) c.in-Err-Unfit.field-0-is)))

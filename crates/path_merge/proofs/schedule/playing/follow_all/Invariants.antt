@@ -7,4 +7,6 @@ pub record SoFar (is_ready follows : Type 0) : Type 0 where
 
 -- the events so far were followed
 abbrev pub invariant-loop-place : goal.invariant-loop-place
-invariant-loop-place g l = SoFar (IsReady l.plan l.stage) (FollowsTo l.plan l.stamp l.pictures l.events l.place l.initial.stage l.stage)
+invariant-loop-place g l =
+    SoFar (IsReady l.plan l.stage)
+    (FollowsTo l.plan l.stamp l.pictures l.events l.place l.initial.stage l.stage)

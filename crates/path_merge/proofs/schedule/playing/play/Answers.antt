@@ -2,47 +2,92 @@ use Rattle.std.proofs.Common.{arith, refl, subst}
 use Rattle.st_format.specs.declared.format.Format.{Format}
 use Rattle.path_merge.specs.Played.{ArePictures}
 use Rattle.path_merge.specs.Sent.{scene_of, sender_of}
-use Rattle.path_merge.specs.declared.schedule.play_fault.PlayFault.TheVariants.{BadEvent, BadPictures, BadReceivers}
-use Rattle.path_merge.proofs.PlayLemmas.{fault_is, no_pictures, no_receivers, played_all, texts_by, texts_list}
+use Rattle.path_merge.specs.declared.schedule.play_fault.PlayFault.TheVariants.{BadEvent}
+use Rattle.path_merge.specs.declared.schedule.play_fault.PlayFault.TheVariants.{BadPictures}
+use Rattle.path_merge.specs.declared.schedule.play_fault.PlayFault.TheVariants.{BadReceivers}
+use Rattle.path_merge.proofs.PlayLemmas.{fault_is, no_pictures, no_receivers, played_all, texts_by}
+use Rattle.path_merge.proofs.PlayLemmas.{texts_list}
 use Rattle.path_merge.proofs.SenderStays.{senders_frame}
 use Rattle.path_merge.proofs.schedule.playing.play.Goals as goal
 
 pub returns-in-Err-clause-pictures : goal.returns-in-Err-clause-pictures
-returns-in-Err-clause-pictures g c =
-    (λ e. absurd (no_pictures c.in-Err.fault c.in-Err.ensures.others (fault_is _ c.in-Err.fault BadPictures refl e)), λ h. absurd (h.1 (subst (λ (f : Format). ArePictures c.args.pictures.now f) c.format.ensures c.in_ok-check.ensures.fine.1)))
+returns-in-Err-clause-pictures g c = (
+  λ e. absurd
+      (no_pictures c.in-Err.fault c.in-Err.ensures.others
+      (fault_is _ c.in-Err.fault BadPictures refl e)),
+  λ h. absurd
+      (h.1 (subst
+      (λ (f : Format). ArePictures c.args.pictures.now f) c.format.ensures
+      c.in_ok-check.ensures.fine.1)),
+)
 
 pub returns-in-Err-clause-receivers : goal.returns-in-Err-clause-receivers
-returns-in-Err-clause-receivers g c = (λ e. absurd (no_receivers c.in-Err.fault c.in-Err.ensures.others (fault_is _ c.in-Err.fault BadReceivers refl e)), λ h. absurd (h.2 c.in_ok-check.ensures.fine.2))
+returns-in-Err-clause-receivers g c = (
+  λ e. absurd
+      (no_receivers c.in-Err.fault c.in-Err.ensures.others
+      (fault_is _ c.in-Err.fault BadReceivers refl e)),
+  λ h. absurd (h.2 c.in_ok-check.ensures.fine.2),
+)
 
 pub returns-in-Err-clause-event : goal.returns-in-Err-clause-event
 returns-in-Err-clause-event g c place e =
-    c.in-Err.ensures.bad place (fault_is _ c.in-Err.fault (BadEvent place) refl e) (scene_of c.args.plan.now c.args.pictures.now c.args.stamp c.args.window.now c.args.receivers)
+    c.in-Err.ensures.bad place (fault_is _ c.in-Err.fault (BadEvent place) refl e)
+    (scene_of c.args.plan.now c.args.pictures.now c.args.stamp c.args.window.now
+    c.args.receivers)
     c.in_ok-check.ensures.fine.0.size.some (c.in_ok-stage.ensures.stage c.args.pictures.now)
 
 pub returns-clause-pictures : goal.returns-clause-pictures
-returns-clause-pictures g c = (λ e. absurd cc, λ h. absurd (h.1 (subst (λ (f : Format). ArePictures c.args.pictures.now f) c.format.ensures c.in_ok-check.ensures.fine.1)))
+returns-clause-pictures g c = (
+  λ e. absurd cc,
+  λ h. absurd
+      (h.1 (subst
+      (λ (f : Format). ArePictures c.args.pictures.now f) c.format.ensures
+      c.in_ok-check.ensures.fine.1)),
+)
 
 pub returns-clause-receivers : goal.returns-clause-receivers
 returns-clause-receivers g c = (λ e. absurd cc, λ h. absurd (h.2 c.in_ok-check.ensures.fine.2))
 
 pub returns-clause-played : goal.returns-clause-played
-returns-clause-played g c = played_all c.args.plan.now c.args.stamp c.args.pictures.now (scene_of c.args.plan.now c.args.pictures.now c.args.stamp c.args.window.now c.args.receivers) c.args.events.now c.in_ok-stage.stage c.follow_all.new.stage
-    c.in_ok-check.ensures.fine.0.size.some (c.in_ok-stage.ensures.stage c.args.pictures.now) c.in_default.ensures.followed
+returns-clause-played g c =
+    played_all c.args.plan.now c.args.stamp c.args.pictures.now
+    (scene_of c.args.plan.now c.args.pictures.now c.args.stamp c.args.window.now c.args.receivers)
+    c.args.events.now c.in_ok-stage.stage c.follow_all.new.stage
+    c.in_ok-check.ensures.fine.0.size.some
+    (c.in_ok-stage.ensures.stage c.args.pictures.now) c.in_default.ensures.followed
 
 pub returns-clause-list : goal.returns-clause-list
-returns-clause-list g c = texts_list c.args.plan.now c.args.stamp c.args.pictures.now c.len.ensures.full (omega (arith, c.requires)) c.source_of.ensures.fits (subst (λ (f : Format). ArePictures c.args.pictures.now f) c.format.ensures c.in_ok-check.ensures.fine.1) c.in_ok-check.ensures.whole
+returns-clause-list g c =
+    texts_list c.args.plan.now c.args.stamp c.args.pictures.now c.len.ensures.full
+    (omega (arith, c.requires)) c.source_of.ensures.fits
+    (subst (λ
+    (f : Format). ArePictures c.args.pictures.now f) c.format.ensures c.in_ok-check.ensures.fine.1)
+    c.in_ok-check.ensures.whole
 
 pub returns-clause-packets : goal.returns-clause-packets
-returns-clause-packets g c = texts_by c.args.plan.now c.args.stamp c.args.pictures.now c.len.ensures.full (omega (arith, c.requires)) c.source_of.ensures.fits (subst (λ (f : Format). ArePictures c.args.pictures.now f) c.format.ensures c.in_ok-check.ensures.fine.1) c.in_ok-check.ensures.whole
+returns-clause-packets g c =
+    texts_by c.args.plan.now c.args.stamp c.args.pictures.now c.len.ensures.full
+    (omega (arith, c.requires)) c.source_of.ensures.fits
+    (subst (λ
+    (f : Format). ArePictures c.args.pictures.now f) c.format.ensures c.in_ok-check.ensures.fine.1)
+    c.in_ok-check.ensures.whole
 
 pub returns-clause-senders : goal.returns-clause-senders
 returns-clause-senders g c stay frame is =
-    let scene = scene_of c.args.plan.now c.args.pictures.now c.args.stamp c.args.window.now c.args.receivers in
-    senders_frame scene (sender_of c.args.plan.now c.args.stamp) c.args.pictures.now c.args.events.now stay frame
+    let scene =
+    scene_of c.args.plan.now c.args.pictures.now c.args.stamp c.args.window.now
+    c.args.receivers in
+    senders_frame scene
+    (sender_of c.args.plan.now c.args.stamp) c.args.pictures.now c.args.events.now stay frame
     (record {
       first = c.args.stamp.first;
       datagrams = scene.sent;
-      list = texts_list c.args.plan.now c.args.stamp c.args.pictures.now c.len.ensures.full (omega (arith, c.requires)) c.source_of.ensures.fits (subst (λ (f : Format). ArePictures c.args.pictures.now f) c.format.ensures c.in_ok-check.ensures.fine.1) c.in_ok-check.ensures.whole;
+      list =
+          texts_list c.args.plan.now c.args.stamp c.args.pictures.now c.len.ensures.full
+          (omega (arith, c.requires)) c.source_of.ensures.fits
+          (subst (λ
+          (f : Format). ArePictures c.args.pictures.now f) c.format.ensures
+          c.in_ok-check.ensures.fine.1) c.in_ok-check.ensures.whole;
       format = refl;
       among = λ octets m. m;
     }) is

@@ -12,7 +12,9 @@ invariant_of-result g c =
     let some : 0 < 2 ^ bits_of f.depth = pow_pos (bits_of f.depth) in
     let most = c.max_value-most.ensures in
     let long : length fill ≡ 3 = omega arith in
-    let is : IsPicture (filled f fill) = filled-is_picture f fill long some (omega (arith, some, most)) (omega (arith, some, most)) (omega (arith, some, most)) in
+    let is : IsPicture (filled f fill) =
+    filled-is_picture f fill long some (omega (arith, some, most)) (omega (arith, some, most))
+    (omega (arith, some, most)) in
     subst (λ (xs : List ℕ). IsPicture (values f xs)) (sym c.in_ok-samples.ensures) is
 
 pub returns-clause-whole : goal.returns-clause-whole

@@ -7,10 +7,14 @@ use Rattle.st_format.proofs.picture.Picture.set.Goals as goal
 
 pub returns-clause-one : goal.returns-clause-one
 returns-clause-one g c =
-    let q : Position = record { row = c.args.row; column = c.args.column; component = c.args.component } in
+    let q : Position =
+    record { row = c.args.row; column = c.args.column; component = c.args.component } in
     let f = c.self.inside.format in
     let old : Values = values f c.self.inside.samples.items in
     let v = c.args.value in
-    let at : IsPosition f q = subst (λ (p : Values). IsPosition p.format q) (sym c.self.view_is) c.requires.place in
-    subst (λ (p : Values). SetsOne p (values f (set old.samples c.sample_number-number.result v)) q v) c.self.view_is
-    (subst (λ (k : ℕ). SetsOne old (values f (set old.samples k v)) q v) (sym c.sample_number-number.ensures.value) (sets_one old q v c.self.invariant at))
+    let at : IsPosition f q =
+    subst (λ (p : Values). IsPosition p.format q) (sym c.self.view_is) c.requires.place in
+    subst (λ (p : Values). SetsOne p
+    (values f (set old.samples c.sample_number-number.result v)) q v) c.self.view_is
+    (subst (λ (k : ℕ). SetsOne old (values f (set old.samples k v)) q v)
+    (sym c.sample_number-number.ensures.value) (sets_one old q v c.self.invariant at))

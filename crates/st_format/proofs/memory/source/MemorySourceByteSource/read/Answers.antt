@@ -1,4 +1,5 @@
-use Rattle.std.proofs.Common.{rules, arith, ◌≡◌, ◌+◌, ◌++◌, List, ℕ, length, drop, ap, sym, subst, ◌∙◌}
+use Rattle.std.proofs.Common.{rules, arith, ◌≡◌, ◌+◌, ◌++◌, List, ℕ, length, drop, ap, sym, subst}
+use Rattle.std.proofs.Common.{◌∙◌}
 use Rattle.std.specs.List.{slice_range}
 use Rattle.std.proofs.lemmas.List.{take_at}
 use Rattle.std.proofs.lemmas.List.Folds.{drop_split}
@@ -16,12 +17,15 @@ returns-clause-given g c =
     let long : length c.copy_from_slice.new.self ≡ n = search rules in
     sym (ap (λ (s : Source). s.to_give) c.self.view_is)
     ∙ drop_split items at (at + n) (omega arith)
-    ∙ ap (λ (xs : List ℕ). xs ++ drop (at + n) items) (sym copied ∙ sym (take_at c.copy_from_slice.new.self (drop n c.args.buf.now) n long))
+    ∙ ap (λ (xs : List ℕ). xs ++ drop (at + n) items)
+    (sym copied ∙ sym (take_at c.copy_from_slice.new.self (drop n c.args.buf.now) n long))
 
 pub returns-then-fails-clause-octets : goal.returns-then-fails-clause-octets
 returns-then-fails-clause-octets g c =
-    subst (λ (s : Source). AreOctets s.to_give) c.self.view_is (AreOctets-drop c.self.inside.at _ (rw c.deref.ensures.value at c.are_octets.ensures))
+    subst (λ (s : Source). AreOctets s.to_give) c.self.view_is
+    (AreOctets-drop c.self.inside.at _ (rw c.deref.ensures.value at c.are_octets.ensures))
 
 pub returns-clause-octets : goal.returns-clause-octets
 returns-clause-octets g c =
-    subst (λ (s : Source). AreOctets s.to_give) c.self.view_is (AreOctets-drop c.self.inside.at _ (rw c.deref.ensures.value at c.are_octets.ensures))
+    subst (λ (s : Source). AreOctets s.to_give) c.self.view_is
+    (AreOctets-drop c.self.inside.at _ (rw c.deref.ensures.value at c.are_octets.ensures))
