@@ -365,7 +365,7 @@ fn pictures_come_back(rt: HostRuntime) -> Result<(), Fail> {
 /// How many packets F1's plan at 24 octets has, over an allocator.
 pub fn packets_planned<A: Allocator>(alloc: A) -> Result<Option<usize>, Fail> {
     match planned(alloc, 24)? {
-        Ok(packets) => Ok(Some(packets)),
+        Ok(packets) => Ok(Some(packets as usize)),
         Err(PlanFault::NoMemory) => Ok(None),
         Err(fault) => Err(Fail::from(fault)),
     }
