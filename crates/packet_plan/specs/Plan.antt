@@ -1,4 +1,4 @@
--- Raster plans: which pixel groups each packet of a picture carries (SMPTE ST 2110-20, 6.3, general
+-- Raster plans: which pixel groups each packet of a picture carries (SMPTE ST 2110-20, general
 -- packing mode; RFC 4175, 4.3).
 use Rattle.std.specs.Prelude.{◌≡◌, ℕ, ◌+◌, ◌*◌, ◌/◌, ◌<◌, ◌≤◌, ◌==◌, if◌then◌else◌, List, [], ◌∷◌}
 use Rattle.std.specs.Prelude.{length, slice_index_or}
@@ -37,7 +37,7 @@ groups_in (r ∷ rs) = r.groups + groups_in rs
 abbrev pub packet_octets : Format → List PacketRun → ℕ
 packet_octets f p = 14 + 6 * length p + group_octets f * groups_in p
 
--- A packet is one to three runs that fit a greatest size (SMPTE ST 2110-20, 6.2).
+-- A packet is one to three runs that fit a greatest size (SMPTE ST 2110-20, pixel groups).
 pub record IsPacket (f : Format) (size : ℕ) (p : List PacketRun) : Type 0 where
   pub some : 1 ≤ length p
   pub few : length p ≤ most_segments

@@ -1,4 +1,4 @@
--- What a sender sends of many pictures (SMPTE ST 2110-20, 6 and 7.1).
+-- What a sender sends of many pictures (SMPTE ST 2110-20, packets; ST 2110-10, RTP timestamps).
 use Rattle.std.specs.Prelude.{◌≡◌, ℕ, ◌+◌, ◌%◌, ◌^◌, ◌≤◌, List, [], ◌∷◌, ◌++◌, length}
 use Rattle.st_format.specs.declared.format.Format.{Format}
 use Rattle.st_format.specs.Picture.{Values, timestamp_of}

@@ -1,4 +1,4 @@
--- What a sender sends of one picture (RFC 3550, 5.1; RFC 4175, 4; SMPTE ST 2110-20, 6).
+-- What a sender sends of one picture (RFC 3550, 5.1; RFC 4175, 4; SMPTE ST 2110-20, packets).
 use Rattle.std.specs.Prelude.{◌≡◌, ℕ, ◌+◌, ◌*◌, ◌%◌, ◌^◌, Bool, true, false, List, [], ◌∷◌, map}
 use Rattle.std.specs.Prelude.{slice_index}
 use Rattle.std.specs.List.{flat_map, range_with_len, AllZip}

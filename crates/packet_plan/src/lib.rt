@@ -1,4 +1,4 @@
-//! Plans that cut a picture into packets, and the sender (SMPTE ST 2110-20, 6; RFC 4175, 4).
+//! Plans that cut a picture into packets, and the sender (SMPTE ST 2110-20, packets; RFC 4175, 4).
 #![tactic(auto)]
 
 mod greedy;

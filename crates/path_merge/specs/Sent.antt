@@ -42,7 +42,7 @@ pub record IsNextBy (s : Sender) (plan : RasterPlan) (k first : ℕ) (p : Values
   pub whole : datagrams ≡ mine ++ others
 
 -- Datagrams are those of pictures from the k-th on, each picture's by the very packets of one plan,
--- numbers running on from the first (SMPTE ST 2110-20, 6 and 7.1)
+-- numbers running on from the first (SMPTE ST 2110-20, packets; ST 2110-10, RTP timestamps)
 abbrev pub AreSentBy : Sender → RasterPlan → ℕ → ℕ → List Values → List (List ℕ) → Type 0
 AreSentBy s plan k first [] datagrams = datagrams ≡ []
 AreSentBy s plan k first (p ∷ ps) datagrams =

@@ -125,7 +125,7 @@ pub fn refused_once()
 /// What a sender's datagrams offer to a receiver that is opened for them: each one, for each of its
 /// runs in turn, the picture's values at the run's positions, at the stamp's timestamp; and all of
 /// a picture's, by any raster plan, its value at each position, in raster order, once (RFC 4175,
-/// 4.3; SMPTE ST 2110-20, 6).
+/// 4.3; SMPTE ST 2110-20, packets).
 pub fn offered_by_sent()
     ensures datagram { (o : Opening) (p : Values) (stamp : Stamp) (i : ℕ) (is_last : Bool)
         (runs : List PacketRun) (octets : List ℕ) →

@@ -59,7 +59,7 @@ pub record LacksHeader (octets : List ℕ) : Type 0 where
   pub few : length headers < most_segments
   pub short : length more < 6
 
--- three headers, all of which say that another follows (SMPTE ST 2110-20, 6.1)
+-- three headers, all of which say that another follows (SMPTE ST 2110-20, packets)
 pub record GoesOn (octets : List ℕ) : Type 0 where
   pub headers : List Header
   pub more : List ℕ
@@ -74,7 +74,7 @@ pub record HasHeaders (octets : List ℕ) (headers : List Header) (more : List �
   pub chain : IsChain headers
   pub few : length headers ≤ most_segments
 
--- what can be wrong with the fields of a header (RFC 4175, 4.2; SMPTE ST 2110-20, 6.2)
+-- what can be wrong with the fields of a header (RFC 4175, 4.2; SMPTE ST 2110-20, pixel groups)
 abbrev pub IsWrong : Format → Header → PayloadFault → Type 0
 IsWrong f h SecondField = h.second_field ≡ true
 IsWrong f h BadLength = h.octets % (group_of f).octets ≢ 0

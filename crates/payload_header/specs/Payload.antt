@@ -1,5 +1,5 @@
 -- The grammar of a payload: what octets are a payload with these segments (RFC 4175, 4.2 and 4.3;
--- SMPTE ST 2110-20, 6.1 and 6.2).
+-- SMPTE ST 2110-20, packets and pixel groups).
 use Rattle.std.specs.Prelude.{◌≡◌, ℕ, ◌+◌, ◌*◌, ◌/◌, ◌%◌, ◌^◌, ◌<◌, ◌≤◌, Bool, true, false}
 use Rattle.std.specs.Prelude.{if◌then◌else◌, List, [], ◌∷◌, ◌++◌, length}
 use Rattle.std.specs.List.{flat_map, AllByRecursion, AllZip}
@@ -9,12 +9,12 @@ use Rattle.st_format.specs.Pgroup.{Group, pixel_group}
 use Rattle.st_format.specs.Raster.{Segment}
 use Rattle.payload_header.specs.declared.payload.Segment.{Segment as SegmentView}
 
--- the pixel group of a format (SMPTE ST 2110-20, 6.2)
+-- the pixel group of a format (SMPTE ST 2110-20, pixel groups)
 abbrev pub group_of : Format → Group
 group_of f = pixel_group f.sampling f.depth
 
 -- A segment with octets has whole pixel groups, begins at one, and lies in the raster (RFC 4175,
--- 4.2 and 4.3; SMPTE ST 2110-20, 6.2).
+-- 4.2 and 4.3; SMPTE ST 2110-20, pixel groups).
 pub record IsInside (f : Format) (s : Segment) : Type 0 where
   pub whole_groups : length s.octets % (group_of f).octets ≡ 0
   pub at_group : s.offset % (group_of f).pixels ≡ 0
@@ -58,7 +58,7 @@ pub record Describes (f : Format) (h : Header) (s : Segment) : Type 0 where
   pub first_field : 0 < length s.octets → h.second_field ≡ false
   pub inside : 0 < length s.octets → IsInside f s
 
--- up to this many segments (SMPTE ST 2110-20, 6.1)
+-- up to this many segments (SMPTE ST 2110-20, packets)
 abbrev pub most_segments : ℕ
 most_segments = 3
 

@@ -1,8 +1,8 @@
 //! The payload header of uncompressed video over RTP, and the segments behind it.
 //!
-//! Sources: RFC 4175, 4.2 and 4.3, and SMPTE ST 2110-20, 6.1 and 6.2. A payload is two octets of
-//! extended number, one to three headers of six octets, the segments' octets in the order of the
-//! headers, and any rest.
+//! Sources: RFC 4175, 4.2 and 4.3, and SMPTE ST 2110-20, packets and pixel groups. A payload is two
+//! octets of extended number, one to three headers of six octets, the segments' octets in the order
+//! of the headers, and any rest.
 #![tactic(auto)]
 
 pub mod laws;

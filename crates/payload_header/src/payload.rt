@@ -72,7 +72,7 @@ impl fmt::Display for PayloadFault {
     }
 }
 
-/// Whole pgroups of a row, from a column on (SMPTE ST 2110-20, 6.2).
+/// Whole pgroups of a row, from a column on (SMPTE ST 2110-20, pixel groups).
 ///
 /// A segment of Length 0 has no octets, and its row and offset may be any.
 #[derive(Clone, Copy)]

@@ -1,4 +1,5 @@
-//! Samples in octets, and back: the pixel groups of RFC 4175, 4.3, and SMPTE ST 2110-20, 6.2.5.
+//! Samples in octets, and back: the pixel groups of RFC 4175, 4.3, and SMPTE ST 2110-20, pixel
+//! groups.
 //!
 //! The samples of a pixel group follow one another without gaps, each with its most significant bit
 //! first. So octets spell samples where the bits of the octets are the bits of the samples, joined

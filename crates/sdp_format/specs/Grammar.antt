@@ -1,6 +1,6 @@
 -- The grammar of SDP texts (SdpGrammar): for each fault a condition of its own, on the whole list
 -- of lines, of video sections or of items, and what a text without a fault says. RFC 8866, 5 and 6;
--- SMPTE ST 2110-20, 7. The order of the faults, which line counts and the accepted spellings are
+-- SMPTE ST 2110-20, SDP. The order of the faults, which line counts and the accepted spellings are
 -- own.
 use Rattle.std.specs.Prelude.{◌≡◌, ◌≢◌, ◌⊎◌, ◌<◌, ◌≤◌, ◌++◌, ℕ, true, false, List, [], ◌∷◌, All}
 use Rattle.std.specs.Prelude.{Contains, Some, None, Ok, IsErr}
@@ -94,7 +94,7 @@ pub record HasDouble (is : List Item) : Type 0 where
   pub whole : is ≡ before ++ first ∷ (between ++ second ∷ after)
   pub same : second.0 ≡ first.0
 
--- What the items say of a format, the rate as it is given (SMPTE ST 2110-20, 7)
+-- What the items say of a format, the rate as it is given (SMPTE ST 2110-20, SDP)
 pub record IsGiven (is : List Item) (given : Fields) : Type 0 where
   pub sampling : Says is (codes "sampling") (sampling_text given.sampling)
   pub depth : Says is (codes "depth") (depth_text given.depth)

@@ -103,9 +103,9 @@ fn written<A: Allocator + Copy>(alloc: A, sdp: &Sdp) -> Result<Vec<u8, A>, SdpFa
     Ok(text)
 }
 
-/// The canonical fmtp line of what a text says, without a line end (SMPTE ST 2110-20, 7). A text of
-/// one or two video sections that have it as their fmtp line reads back as the same payload type,
-/// format, range and colorimetry.
+/// The canonical fmtp line of what a text says, without a line end (SMPTE ST 2110-20, SDP). A text
+/// of one or two video sections that have it as their fmtp line reads back as the same payload
+/// type, format, range and colorimetry.
 ///
 /// The only error is `NoMemory`, where a growth was refused.
 pub fn fmtp_text<A: Allocator + Copy>(alloc: A, sdp: &Sdp) -> Result<Vec<u8, A>, SdpFault>

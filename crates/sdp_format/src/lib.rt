@@ -1,4 +1,4 @@
-//! SDP of studio video (RFC 8866; SMPTE ST 2110-20, 7): what a text announces is read exactly, or
+//! SDP of studio video (RFC 8866; SMPTE ST 2110-20, SDP): what a text announces is read exactly, or
 //! refused by the first of its faults, and written as one canonical fmtp line.
 #![tactic(auto)]
 

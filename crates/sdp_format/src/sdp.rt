@@ -5,7 +5,7 @@ ghost use Rattle.sdp_format.specs.Naming.{colorimetry as colours_in};
 use arrayvec::ArrayVec;
 use st_format::Format;
 
-/// The range of the samples' values (SMPTE ST 2110-20, 7, RANGE).
+/// The range of the samples' values (SMPTE ST 2110-20, SDP, RANGE).
 #[derive(Clone, Copy, Debug, PartialEq, Eq)]
 pub enum Range {
     /// The nominal range; also where a text says nothing.

@@ -1,4 +1,4 @@
--- Cells whose values fit the depth (SMPTE ST 2110-20, 7.4.2).
+-- Cells whose values fit the depth (SMPTE ST 2110-20, depth).
 use Rattle.std.specs.Prelude.{⊤}
 use Rattle.std.specs.List.{AllByRecursion}
 use Rattle.st_format.specs.declared.cell.Cell.{Cell}

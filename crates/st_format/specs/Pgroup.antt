@@ -1,4 +1,4 @@
--- Pixel groups: SMPTE ST 2110-20, 6.2 (tables of pgroups); RFC 4175, 4.3.
+-- Pixel groups: SMPTE ST 2110-20, tables of pgroups; RFC 4175, 4.3.
 use Rattle.std.specs.Prelude.{ℕ}
 use Rattle.st_format.specs.declared.sampling.Sampling.{Sampling}
 use Rattle.st_format.specs.declared.sampling.Sampling.TheVariants.{Ycc422, Ycc444, Rgb}

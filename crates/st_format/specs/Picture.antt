@@ -1,4 +1,4 @@
--- Pictures: a value for each position (SMPTE ST 2110-20, 6.2; RFC 4175, 4.3).
+-- Pictures: a value for each position (SMPTE ST 2110-20, pixel groups; RFC 4175, 4.3).
 use Rattle.std.specs.Prelude.{◌≡◌, ◌≢◌, ℕ, ◌+◌, ◌*◌, ◌/◌, ◌%◌, ◌^◌, ◌<◌, List, length, map}
 use Rattle.std.specs.Prelude.{slice_index}
 use Rattle.std.specs.List.{AllByRecursion}
@@ -35,6 +35,6 @@ pub record SetsOne (old new : Values) (p : Position) (value : ℕ) : Type 0 wher
   pub others : (q : Position) → IsPosition old.format q → q ≢ p → value_at new q ≡ value_at old q
 
 -- The timestamp of frame k of a sender whose first frame has the timestamp base: a clock of 90,000
--- ticks a second, modulo 2 ^ 32 (SMPTE ST 2110-20, 7.1; RFC 4175, 4.1)
+-- ticks a second, modulo 2 ^ 32 (SMPTE ST 2110-10, RTP timestamps; RFC 4175, 4.1)
 abbrev pub timestamp_of : Format → ℕ → ℕ → ℕ
 timestamp_of f base k = (base + k * 90000 * f.d / f.n) % 2 ^ 32

@@ -2,7 +2,7 @@
 ghost use Rattle.std.specs.Prelude.{◌≡◌, ◌<◌, ◌≤◌, ◌↔◌, IsTrue};
 ghost use Rattle.st_format.specs.Pgroup.{pixel_group, bits_of};
 
-/// Which components a pixel has, and at which columns (SMPTE ST 2110-20, 7.4.1).
+/// Which components a pixel has, and at which columns (SMPTE ST 2110-20, sampling).
 #[derive(Clone, Copy, Debug, PartialEq, Eq)]
 pub enum Sampling {
     /// YCbCr 4:2:2: Y at each column, Cb and Cr at the even ones.
@@ -13,7 +13,7 @@ pub enum Sampling {
     Rgb,
 }
 
-/// How many bits a sample has (SMPTE ST 2110-20, 7.4.2).
+/// How many bits a sample has (SMPTE ST 2110-20, depth).
 #[derive(Clone, Copy, Debug, PartialEq, Eq)]
 pub enum Depth {
     /// 8 bits.
@@ -27,7 +27,7 @@ pub enum Depth {
 }
 
 /// A pixel group (pgroup): the smallest piece of a row that a packet carries
-/// (RFC 4175, 4.3; SMPTE ST 2110-20, 6.2).
+/// (RFC 4175, 4.3; SMPTE ST 2110-20, pixel groups).
 #[derive(Clone, Copy, Debug, PartialEq, Eq)]
 pub struct Pgroup {
     /// How many octets it takes.
