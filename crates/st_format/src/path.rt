@@ -1,3 +1,5 @@
+//! The two redundant paths.
+
 /// One of the two paths over which the same RTP packets are sent (SMPTE ST 2022-7).
 ///
 /// A receiver takes both alike: a datagram means the same by either path.

@@ -1,3 +1,4 @@
+//! A sink of datagrams over vectors that never grow.
 ghost use Rattle.std.specs.Prelude.{◌≡◌, ◌≤◌, ◌<◌, ◌+◌, ◌-◌, ◌↔◌, ◌⊎◌, if◌then◌else◌, is_ok};
 ghost use Rattle.std.specs.Prelude.{Some, [], length, drop, map, vec_capacity, OnOk, OnErr, IsErr};
 ghost use Rattle.st_format.specs.Device.{CountsFaults, TakesOne, KeepsAll};

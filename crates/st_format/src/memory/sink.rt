@@ -1,3 +1,4 @@
+//! A sink of octets over a vector that never grows.
 ghost use Rattle.std.specs.Prelude.{◌≡◌, ◌≤◌, ◌<◌, ◌+◌, ◌-◌, ◌↔◌, ◌⊎◌, Some, length, take, min};
 ghost use Rattle.std.specs.Prelude.{vec_len, vec_capacity, IfOk, OnErr, IsErr};
 ghost use Rattle.std.specs.Io.KnownBytes.{Appends, Keeps};

@@ -1,3 +1,4 @@
+//! A source of datagrams over a vector of turns.
 ghost use Rattle.std.specs.Prelude.{◌≡◌, ◌≤◌, ◌+◌, ◌-◌, ◌^◌, ◌↔◌, ◌⊎◌, Some, None, Err, length};
 ghost use Rattle.std.specs.Prelude.{map, min, IfOk, IfErr, OnOk, OnErr, IsErr, MatchResult};
 ghost use Rattle.st_format.specs.Device.{CountsFaults};
