@@ -12,6 +12,7 @@ use st_format::{ByteSource, Depth, Format, Sampling};
 /// The octets of a format block.
 const BLOCK: usize = 14;
 
+/// The sampling of a code of the format block.
 fn sampling_in(code: u8) -> Result<Sampling, FileFault>
     ensures { result ≡ sampling_of code }
 {
@@ -23,6 +24,7 @@ fn sampling_in(code: u8) -> Result<Sampling, FileFault>
     }
 }
 
+/// The depth of a number of bits of the format block.
 fn depth_in(code: u8) -> Result<Depth, FileFault>
     ensures { result ≡ depth_of code }
 {

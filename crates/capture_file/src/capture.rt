@@ -57,6 +57,7 @@ pub fn read_capture<A: Allocator + Copy, S: ByteSource>(
     read_whole_capture(alloc, source, limit)
 }
 
+/// Reads the front, and then records to the end, of which there may be so many.
 fn read_whole_capture<A: Allocator + Copy, S: ByteSource>(
     alloc: A,
     source: &mut S,

@@ -48,6 +48,7 @@ pub fn read_picture<A: Allocator, S: ByteSource>(
     read_whole_picture(alloc, source)
 }
 
+/// Reads the front, the samples, and that nothing is behind them.
 fn read_whole_picture<A: Allocator, S: ByteSource>(
     alloc: A,
     source: &mut S,

@@ -92,6 +92,7 @@ pub fn receive<S: DatagramSource, A: Allocator>(
     take_turns(source, receiver, buf, limit)
 }
 
+/// Takes so many turns, or fewer where one is the end or a fault.
 fn take_turns<S: DatagramSource, A: Allocator>(
     source: &mut S,
     receiver: &mut Receiver<A>,

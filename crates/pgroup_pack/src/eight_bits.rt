@@ -3,6 +3,7 @@ ghost use Rattle.std.specs.Prelude.{◌≡◌, ◌<◌, ◌*◌, ◌/◌, length
 ghost use Rattle.pgroup_pack.specs.Packing.{Fit};
 ghost use Rattle.st_format.specs.Samples.{Spells, values_in};
 
+/// A sample is an octet.
 #[inline(always)]
 pub(crate) fn unpack(octets: &[u8], samples: &mut [u16])
     requires { 8 * length octets.now ≡ 8 * length samples.old }
@@ -13,6 +14,7 @@ pub(crate) fn unpack(octets: &[u8], samples: &mut [u16])
     }
 }
 
+/// An octet is a sample.
 #[inline(always)]
 pub(crate) fn pack(samples: &[u16], octets: &mut [u8])
     requires lengths { 8 * length octets.old ≡ 8 * length samples.now }
@@ -24,6 +26,7 @@ pub(crate) fn pack(samples: &[u16], octets: &mut [u8])
     }
 }
 
+/// The sample of a number.
 pub(crate) fn sample_at(octets: &[u8], i: usize) -> u16
     requires { i < 8 * length octets.now / 8 }
     ensures { result ≡ slice_index (values_in 8 octets.now) i }

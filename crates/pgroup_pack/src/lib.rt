@@ -62,6 +62,7 @@ pub fn sample_at(format: &Format, octets: &[u8], i: usize) -> u16
     }
 }
 
+/// The same by the depth.
 #[inline(always)]
 fn unpack_at(depth: Depth, octets: &[u8], samples: &mut [u16])
     requires { 8 * length octets.now ≡ bits_of depth * length samples.old }
@@ -75,6 +76,7 @@ fn unpack_at(depth: Depth, octets: &[u8], samples: &mut [u16])
     }
 }
 
+/// The same by the depth.
 #[inline(always)]
 fn pack_at(depth: Depth, samples: &[u16], octets: &mut [u8])
     requires lengths { 8 * length octets.old ≡ bits_of depth * length samples.now }

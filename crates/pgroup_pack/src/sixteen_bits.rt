@@ -18,6 +18,7 @@ pub(crate) fn unpack(octets: &[u8], samples: &mut [u16])
     unpack_twos(&octets[16 * blocks..], &mut samples[8 * blocks..]);
 }
 
+/// Two octets for each sample, the high one first.
 pub(crate) fn pack(samples: &[u16], octets: &mut [u8])
     requires lengths { 8 * length octets.old ≡ 16 * length samples.now }
     requires fit { Fit 16 samples.now }
@@ -29,6 +30,7 @@ pub(crate) fn pack(samples: &[u16], octets: &mut [u8])
     }
 }
 
+/// The sample of a number.
 pub(crate) fn sample_at(octets: &[u8], i: usize) -> u16
     requires { i < 8 * length octets.now / 16 }
     ensures { result ≡ slice_index (values_in 16 octets.now) i }
@@ -47,6 +49,7 @@ fn samples_of(octets: u8x16) -> u16x8
     high * u16x8::splat(256) + low
 }
 
+/// A sample of each two octets.
 fn unpack_twos(octets: &[u8], samples: &mut [u16])
     requires { 8 * length octets.now ≡ 16 * length samples.old }
     ensures { Spells 16 octets.now samples.new }

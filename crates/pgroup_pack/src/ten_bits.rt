@@ -128,6 +128,7 @@ fn octets_of(samples: u16x8) -> u8x16
     first + second
 }
 
+/// Four samples of each five octets.
 #[inline(always)]
 fn unpack_fives(octets: &[u8], samples: &mut [u16])
     requires { 8 * length octets.now ≡ 10 * length samples.old }
@@ -146,6 +147,7 @@ fn unpack_fives(octets: &[u8], samples: &mut [u16])
     }
 }
 
+/// Five octets of each four samples.
 #[inline(always)]
 fn pack_fours(samples: &[u16], octets: &mut [u8])
     requires lengths { 8 * length octets.old ≡ 10 * length samples.now }

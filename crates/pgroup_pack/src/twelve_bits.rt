@@ -74,6 +74,7 @@ fn octets_of(samples: u16x8) -> u8x16
     first + second
 }
 
+/// Two samples of each three octets.
 fn unpack_threes(octets: &[u8], samples: &mut [u16])
     requires { 8 * length octets.now ≡ 12 * length samples.old }
     ensures { Spells 12 octets.now samples.new }
@@ -87,6 +88,7 @@ fn unpack_threes(octets: &[u8], samples: &mut [u16])
     }
 }
 
+/// Three octets of each two samples.
 fn pack_twos(samples: &[u16], octets: &mut [u8])
     requires lengths { 8 * length octets.old ≡ 12 * length samples.now }
     requires fit { Fit 12 samples.now }

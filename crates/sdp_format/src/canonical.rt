@@ -42,6 +42,7 @@ fn range_text(range: Range) -> &'static [u8]
     }
 }
 
+/// Puts a piece behind a text.
 fn add<A: Allocator + Copy>(text: &mut Vec<u8, A>, piece: &[u8]) -> Result<(), SdpFault>
     ensures { MatchResult result (λ _. text.new.items ≡ text.old.items ++ piece.now)
         (λ e. e ≡ NoMemory) }
@@ -50,6 +51,7 @@ fn add<A: Allocator + Copy>(text: &mut Vec<u8, A>, piece: &[u8]) -> Result<(), S
     Ok(())
 }
 
+/// Puts a number in decimal digits behind a text.
 fn add_number<A: Allocator + Copy>(
     alloc: A,
     text: &mut Vec<u8, A>,
@@ -62,6 +64,7 @@ fn add_number<A: Allocator + Copy>(
     add(text, digits.as_bytes())
 }
 
+/// Puts `/D` behind a rate whose divisor is not 1.
 fn add_divisor<A: Allocator + Copy>(
     alloc: A,
     text: &mut Vec<u8, A>,
@@ -77,6 +80,7 @@ fn add_divisor<A: Allocator + Copy>(
     add(text, digits.as_bytes())
 }
 
+/// The whole line, item by item in one order.
 #[tactic(auto, unfolding(crate::specs::Canonical::canonical))]
 fn written<A: Allocator + Copy>(alloc: A, sdp: &Sdp) -> Result<Vec<u8, A>, SdpFault>
     ensures { MatchResult result (λ v. v.items ≡ canonical (description sdp.now).leg)

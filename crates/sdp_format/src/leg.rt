@@ -11,6 +11,7 @@ use crate::parameters::{is_interlaced, text_of};
 use crate::text::number;
 use st_format::{Depth, Format, Sampling};
 
+/// The sampling of a word.
 #[tactic(auto, unfolding(crate::specs::Reading::sampling_named))]
 fn sampling_named(text: &[u8]) -> Option<Sampling>
     ensures { result ≡ sampling_named text.now }
@@ -26,6 +27,7 @@ fn sampling_named(text: &[u8]) -> Option<Sampling>
     }
 }
 
+/// The depth of a word.
 #[tactic(auto, unfolding(crate::specs::Reading::depth_named))]
 fn depth_named(text: &[u8]) -> Option<Depth>
     ensures { result ≡ depth_named text.now }

@@ -10,18 +10,21 @@ ghost use Rattle.sdp_format.specs.ReadLeg.{section_of};
 
 use crate::text::{cut, number, trim, trim_end};
 
+/// Whether a text is a word, its case as it is.
 pub(crate) fn is_word(text: &[u8], word: &[u8]) -> bool
     ensures { result ≡ bytes_eq text.now word.now }
 {
     text == word
 }
 
+/// Whether a text begins with a word.
 pub(crate) fn begins(word: &[u8], text: &[u8]) -> bool
     ensures { result ≡ begins word.now text.now }
 {
     text.starts_with(word)
 }
 
+/// A line without one CR at its end.
 fn without_return(line: &[u8]) -> &[u8]
     ensures { result.now ≡ strip_carriage_return line.now }
 {
@@ -98,6 +101,7 @@ pub(crate) fn first_attribute<'a>(
     None
 }
 
+/// A decimal number up to a limit.
 fn small_number(text: &[u8], limit: u32) -> Option<u32>
     ensures value { result ≡ at_most limit (number text.now) }
     ensures limit { IfSome result (λ v. v ≤ limit) }
@@ -108,6 +112,7 @@ fn small_number(text: &[u8], limit: u32) -> Option<u32>
     }
 }
 
+/// Whether an rtpmap says raw video at 90 kHz, in any case.
 #[tactic(auto, unfolding(crate::specs::Reading::is_raw90000))]
 pub(crate) fn is_raw90000(text: &[u8]) -> bool
     ensures { result ≡ is_raw90000 text.now }

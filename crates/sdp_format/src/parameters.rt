@@ -35,6 +35,7 @@ pub(crate) fn parameters_of<'a, A: Allocator + Copy>(
     Ok(list)
 }
 
+/// The value of the item of a name.
 pub(crate) fn value_of<'a>(list: &[Parameter<'a>], name: &[u8]) -> Option<&'a [u8]>
     ensures { option_copied result ≡ value_of name.now (items_in list.now) }
 {
@@ -46,6 +47,7 @@ pub(crate) fn value_of<'a>(list: &[Parameter<'a>], name: &[u8]) -> Option<&'a [u
     None
 }
 
+/// Whether there is an item of a name.
 pub(crate) fn has(list: &[Parameter<'_>], name: &[u8]) -> bool
     ensures { result ≡ has (items_in list.now) name.now }
 {
@@ -62,6 +64,7 @@ pub(crate) fn text_of<'a>(list: &[Parameter<'a>], name: &[u8]) -> &'a [u8]
     }
 }
 
+/// Whether one of the eight required names is missing.
 pub(crate) fn is_missing(list: &[Parameter<'_>]) -> bool
     ensures { result ≡ is_missing (items_in list.now) }
 {
@@ -75,6 +78,7 @@ pub(crate) fn is_missing(list: &[Parameter<'_>]) -> bool
         && has(list, b"SSN"))
 }
 
+/// Whether an item says that the video is not progressive.
 pub(crate) fn is_interlaced(list: &[Parameter<'_>]) -> bool
     ensures { result ≡ is_interlaced (items_in list.now) }
 {

@@ -24,6 +24,7 @@ use arrayvec::ArrayVec;
 use st_format::{Depth, Format, Sampling};
 use std::alloc::Allocator;
 
+/// The range of a word, and NARROW where there is none.
 fn range_or(text: Option<&[u8]>) -> Option<Range>
     ensures { result ≡ range_or (option_copied text.entry) }
 {
@@ -150,6 +151,7 @@ fn same_format(a: &Format, b: &Format) -> bool
         && a.d == b.d
 }
 
+/// Whether two sections say the same.
 #[tactic(auto, unfolding(crate::specs::Reading::same_leg))]
 fn same_leg(a: &Leg, b: &Leg) -> bool
     ensures { result ≡ same_leg (leg_seen a.now) (leg_seen b.now) }
@@ -160,6 +162,7 @@ fn same_leg(a: &Leg, b: &Leg) -> bool
         && is_word(a.colorimetry.as_slice(), b.colorimetry.as_slice())
 }
 
+/// What a text of these ports says.
 fn described(ports: ArrayVec<u16, 2>, leg: Leg) -> Sdp
     requires { 0 < length ports.items }
     ensures { description result ≡ record { ports = ports.items; leg = leg_seen leg } }
@@ -179,6 +182,7 @@ fn described(ports: ArrayVec<u16, 2>, leg: Leg) -> Sdp
     }
 }
 
+/// A text of one section: its port, and what it says.
 #[tactic(auto, unfolding(crate::specs::Reading::sections_walk))]
 fn one<A: Allocator + Copy>(alloc: A, media: &[u8], left: Option<&[u8]>) -> Result<Sdp, SdpFault>
     ensures exact { Gives description result
@@ -192,6 +196,7 @@ fn one<A: Allocator + Copy>(alloc: A, media: &[u8], left: Option<&[u8]>) -> Resu
     Ok(described(ports, leg))
 }
 
+/// A text of two sections, which have to say the same.
 #[tactic(auto, unfolding(crate::specs::Reading::sections_walk))]
 fn two<A: Allocator + Copy>(
     alloc: A,
@@ -217,6 +222,7 @@ fn two<A: Allocator + Copy>(
     Ok(described(ports, leg))
 }
 
+/// A text, from its first line on.
 #[tactic(auto, unfolding(crate::specs::Reading::text_walk, crate::specs::Reading::sections_walk))]
 fn read_text<A: Allocator + Copy>(alloc: A, text: &[u8]) -> Result<Sdp, SdpFault>
     ensures exact { Gives description result (text_walk text.now) }

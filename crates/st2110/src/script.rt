@@ -81,6 +81,7 @@ impl<'a> Lines<'a> {
     }
 }
 
+/// A line without one CR at its end.
 fn without_carriage_return(text: &[u8]) -> &[u8] {
     match text {
         [front @ .., b'\r'] => front,

@@ -15,6 +15,7 @@ pub fn wanted(told: &Told<'_>) -> &'static str {
     }
 }
 
+/// What was wanted where an SDP has the fault of a number.
 fn of_sdp(number: usize) -> &'static str {
     match number {
         2 => "a line that begins m=video and a space",
@@ -38,6 +39,7 @@ fn of_sdp(number: usize) -> &'static str {
     }
 }
 
+/// What was wanted of a format.
 fn of_format(number: usize) -> &'static str {
     match number {
         1 => "an even width from 2 to 8192, of whole pgroups",
@@ -46,6 +48,7 @@ fn of_format(number: usize) -> &'static str {
     }
 }
 
+/// What was wanted of an opening.
 fn of_open(number: usize) -> &'static str {
     match number {
         2 => "1 to 16 timestamps",
@@ -53,6 +56,7 @@ fn of_open(number: usize) -> &'static str {
     }
 }
 
+/// What was wanted of a schedule.
 fn of_play(number: usize) -> &'static str {
     match number {
         2 => "an event that can happen after those before it",
@@ -63,6 +67,7 @@ fn of_play(number: usize) -> &'static str {
     }
 }
 
+/// What was wanted of a file.
 fn of_file(told: &Told<'_>) -> &'static str {
     match (told.subject, told.number) {
         ("capture", 3) => "a capture, which begins S20CAP",
@@ -79,6 +84,7 @@ fn of_file(told: &Told<'_>) -> &'static str {
     }
 }
 
+/// What was wanted of the words of a command.
 fn of_words(told: &Told<'_>) -> &'static str {
     match (told.subject, told.number) {
         ("send", 1) => "a picture of the first one's format",

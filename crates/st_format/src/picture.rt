@@ -170,6 +170,7 @@ impl<A: Allocator> Picture<A> {
     }
 }
 
+/// Whether two lists of samples are equal.
 fn same_samples(left: &[u16], right: &[u16]) -> bool
     ensures { IsTrue result ↔ (left.now ≡ right.now) }
 {
