@@ -271,8 +271,8 @@ fn join_components(y: &[u16], cb: &[u16], cr: &[u16], out: &mut [u16])
     }
 }
 
-/// The raster with Y, Cb and Cr in place of R, G and B.
-fn as_ycc444(format: Format) -> Format
+/// The format with Y, Cb and Cr in place of R, G and B: that of what [`to_ycc444`] gives.
+pub fn as_ycc444(format: Format) -> Format
     requires { format.sampling ≡ Rgb }
     ensures { IsResampled Ycc444 format result }
 {
@@ -344,8 +344,8 @@ fn matrixed_samples<B: Allocator>(
     Ok(samples)
 }
 
-/// The raster with Cb and Cr at the even columns alone.
-fn as_ycc422(format: Format) -> Format
+/// The format with Cb and Cr at the even columns alone: that of what [`to_ycc422`] gives.
+pub fn as_ycc422(format: Format) -> Format
     requires { format.sampling ≡ Ycc444 }
     ensures { IsResampled Ycc422 format result }
 {

@@ -1,5 +1,5 @@
 -- JobPicture: what a job makes of its pictures, one position at a time (own; ITU-R BT.709).
-use Rattle.std.specs.Prelude.{◌≡◌, ◌≢◌, ◌<◌, ◌⊎◌, ℕ, List, [], ◌∷◌, length}
+use Rattle.std.specs.Prelude.{◌≡◌, ◌≢◌, ◌<◌, ◌⊎◌, ℕ, List, [], ◌∷◌, length, map}
 use Rattle.st_format.specs.declared.format.Format.{Format}
 use Rattle.st_format.specs.declared.sampling.Sampling.TheVariants.{Ycc422, Ycc444, Rgb}
 use Rattle.st_format.specs.Pgroup.{bits_of}
@@ -20,8 +20,8 @@ use Rattle.key_mix.specs.declared.Axis.TheVariants.{Columns, Rows}
 use Rattle.key_mix.specs.declared.WipeShape.{WipeShape}
 use Rattle.key_mix.specs.declared.Job.{Job}
 use Rattle.key_mix.specs.declared.Job.TheVariants.{Limit, Gain, ToYcc444, ToYcc422, Wipe, Key}
-use Rattle.key_mix.specs.declared.JobFault.{JobFault}
-use Rattle.key_mix.specs.declared.JobFault.TheVariants.{
+use Rattle.key_mix.specs.declared.faults.JobFault.{JobFault}
+use Rattle.key_mix.specs.declared.faults.JobFault.TheVariants.{
   NoMemory,
   FormatsDiffer,
   KeyNotYcc,
@@ -80,20 +80,33 @@ pub record IsAlike (f g : Format) : Type 0 where
   pub n : f.n ≡ g.n
   pub d : f.d ≡ g.d
 
--- what speaks against a job
-abbrev pub Against : JobFault → Job → List Values → Type 0
-Against WrongInputCount j vs = length vs ≢ inputs_of j
-Against BadGain (Gain g) vs = 16384 < g
-Against FormatsDiffer (Wipe w) (a ∷ b ∷ []) = a.format ≢ b.format
-Against FormatsDiffer Key (a ∷ b ∷ k ∷ []) = (a.format ≢ b.format) ⊎ (IsAlike a.format k.format → ⊥)
-Against KeyNotYcc Key (a ∷ b ∷ k ∷ []) = k.format.sampling ≡ Rgb
-Against BadWipe (Wipe w) (a ∷ b ∷ []) =
-    (extent w.axis a.format < w.position) ⊎ (extent w.axis a.format < w.soft)
-Against NotRgb ToYcc444 (v ∷ []) = v.format.sampling ≢ Rgb
-Against NotYcc444 ToYcc422 (v ∷ []) = v.format.sampling ≢ Ycc444
-Against e j vs = ⊥
+-- the formats of pictures
+abbrev pub formats_of : List Values → List Format
+formats_of vs = map (λ v. v.format) vs
 
--- the order of the refusals: 7, 8, then 2 to 6; memory comes last, and is told by no picture
+-- The format of a job's picture is that of the first input, but for the sampling.
+abbrev pub IsJobFormat : Job → List Format → Format → Type 0
+IsJobFormat j [] f = ⊥
+IsJobFormat (Limit range) (g ∷ gs) f = f ≡ g
+IsJobFormat (Gain gain) (g ∷ gs) f = f ≡ g
+IsJobFormat ToYcc444 (g ∷ gs) f = IsResampled Ycc444 g f
+IsJobFormat ToYcc422 (g ∷ gs) f = IsResampled Ycc422 g f
+IsJobFormat (Wipe w) (g ∷ gs) f = f ≡ g
+IsJobFormat Key (g ∷ gs) f = f ≡ g
+
+-- what speaks against a job of pictures of these formats
+abbrev pub Against : JobFault → Job → List Format → Type 0
+Against WrongInputCount j fs = length fs ≢ inputs_of j
+Against BadGain (Gain g) fs = 16384 < g
+Against FormatsDiffer (Wipe w) (a ∷ b ∷ []) = a ≢ b
+Against FormatsDiffer Key (a ∷ b ∷ k ∷ []) = (a ≢ b) ⊎ (IsAlike a k → ⊥)
+Against KeyNotYcc Key (a ∷ b ∷ k ∷ []) = k.sampling ≡ Rgb
+Against BadWipe (Wipe w) (a ∷ b ∷ []) = (extent w.axis a < w.position) ⊎ (extent w.axis a < w.soft)
+Against NotRgb ToYcc444 (a ∷ []) = a.sampling ≢ Rgb
+Against NotYcc444 ToYcc422 (a ∷ []) = a.sampling ≢ Ycc444
+Against e j fs = ⊥
+
+-- the order of the refusals: 7, 8, then 2 to 6; memory comes last, and no format tells it
 abbrev pub turn_of : JobFault → ℕ
 turn_of WrongInputCount = 0
 turn_of BadGain = 1
@@ -105,10 +118,14 @@ turn_of NotYcc444 = 6
 turn_of NoMemory = 7
 
 -- nothing speaks against a job
-abbrev pub IsSound : Job → List Values → Type 0
-IsSound j vs = (e : JobFault) → Against e j vs → ⊥
+abbrev pub IsSound : Job → List Format → Type 0
+IsSound j fs = (e : JobFault) → Against e j fs → ⊥
 
 -- the first refusal
-pub record IsRefusal (e : JobFault) (j : Job) (vs : List Values) : Type 0 where
-  pub is : Against e j vs
-  pub first : (other : JobFault) → turn_of other < turn_of e → Against other j vs → ⊥
+pub record IsRefusal (e : JobFault) (j : Job) (fs : List Format) : Type 0 where
+  pub is : Against e j fs
+  pub first : (other : JobFault) → turn_of other < turn_of e → Against other j fs → ⊥
+
+-- When each fault comes: the first refusal, and memory where there is none
+abbrev pub IsFault : JobFault → Job → List Format → Type 0
+IsFault e j fs = ((e ≡ NoMemory) × IsSound j fs) ⊎ IsRefusal e j fs

@@ -1,4 +1,4 @@
--- What `send_job` owes its caller (own).
+-- What `send_job` owes its caller (own; SMPTE ST 2110-20, packets).
 use Rattle.std.specs.Prelude.{
   ◌≡◌,
   ◌⊎◌,
@@ -10,62 +10,84 @@ use Rattle.std.specs.Prelude.{
   List,
   Option,
   length,
+  map,
   take,
   Result,
   Ok,
   Err,
 }
-use Rattle.std.specs.List.{AllZip}
-use Rattle.st_format.specs.Device.{TakesAll}
+use Rattle.st_format.specs.declared.format.Format.{Format}
+use Rattle.st_format.specs.Device.{CountsOne, TakesAll}
 use Rattle.st_format.specs.Picture.{Values}
-use Rattle.st_format.specs.Position.{Position}
-use Rattle.st_format.specs.Raster.{Raster, cell_at}
-use Rattle.frame_assembly.specs.Settled.{settled_cell}
+use Rattle.frame_assembly.specs.Settled.{IsBaseOf, settled}
 use Rattle.packet_plan.specs.declared.run.PacketRun.{PacketRun}
 use Rattle.packet_plan.specs.declared.stamp.Stamp.{Stamp}
-use Rattle.packet_plan.specs.Plan.{IsRasterPlan, IsSize}
+use Rattle.packet_plan.specs.Plan.{IsSize}
 use Rattle.packet_plan.specs.Sent.{IsSentPicture}
-use Rattle.bt709_fixed.specs.Operations.{IsOf}
-use Rattle.key_mix.specs.Jobs.{IsJobPicture, IsRefusal, IsSound}
+use Rattle.key_mix.specs.Jobs.{IsJobFormat, IsJobPicture, IsRefusal, IsSound}
 use Rattle.key_mix.specs.declared.Job.{Job}
-use Rattle.key_mix.specs.declared.JobFault.TheVariants.{NoMemory}
-use Rattle.key_mix.specs.declared.SendJobFault.{SendJobFault}
-use Rattle.key_mix.specs.declared.SendJobFault.TheVariants as fault
+use Rattle.key_mix.specs.declared.faults.JobFault.TheVariants.{NoMemory}
+use Rattle.key_mix.specs.declared.faults.SendJobFault.{SendJobFault}
+use Rattle.key_mix.specs.declared.faults.SendJobFault.TheVariants as fault
+use Rattle.key_mix.specs.declared.sending.JobInput.{JobInput}
 
--- a frame, and the value that stands for a cell with none: the fill's of its component, or a held
--- picture's
-pub record Input : Type 0 where
-  pub frame : Raster
-  pub base : Position → ℕ
+-- the formats of the inputs' frames
+abbrev pub input_formats : {A : Type 0} → List (JobInput A) → List Format
+input_formats inputs = map (λ i. i.frame.now.format) inputs
 
--- Settled
-abbrev pub IsSettled : Input → Values → Type 0
-IsSettled i v = IsOf i.frame.format (λ at. settled_cell (cell_at i.frame at) (i.base at)) v
+-- the base of an input is one for its frame's format
+abbrev pub HasBase : {A : Type 0} → JobInput A → Type 0
+HasBase i = IsBaseOf i.frame.now.format i.base
 
--- The job's picture over settled inputs, with the datagrams that spell it by a raster plan
-pub record JobSent (j : Job) (inputs : List Input) (size : ℕ) (stamp : Stamp)
+-- Settled, of each input
+abbrev pub settled_inputs : {A : Type 0} → List (JobInput A) → List Values
+settled_inputs inputs = map (λ i. settled i.frame.now i.base) inputs
+
+-- Datagrams are those of the job's picture, by a raster plan.
+pub record IsSentJob (j : Job) (pictures : List Values) (size : ℕ) (stamp : Stamp)
     (datagrams : List (List ℕ)) : Type 0 where
-  pub settled : List Values
-  pub are : AllZip IsSettled inputs settled
   pub picture : Values
-  pub made : IsJobPicture j settled picture
+  pub made : IsJobPicture j pictures picture
   pub plan : List (List PacketRun)
-  pub whole : IsRasterPlan picture.format size plan
   pub sent : IsSentPicture picture stamp size plan datagrams
 
--- What stands in the sink after an answer
-abbrev pub Sends : Job → List Input → ℕ → Stamp → Option (List (List ℕ)) → Option (List (List ℕ))
+-- What a sink has taken after an answer: the datagrams of the job's picture; where it failed, the
+-- first of them; and else nothing
+abbrev pub Sends : Job → List Values → ℕ → Stamp → Option (List (List ℕ)) → Option (List (List ℕ))
     → Result ℕ SendJobFault → Type 0
-Sends j inputs size stamp old new (Ok next) =
-    (datagrams : List (List ℕ)) × JobSent j inputs size stamp datagrams
+Sends j pictures size stamp old new (Ok next) =
+    (datagrams : List (List ℕ)) × IsSentJob j pictures size stamp datagrams
     × TakesAll old new datagrams × (next ≡ (stamp.first + length datagrams) % 2 ^ 32)
-Sends j inputs size stamp old new (Err (fault.Sink sent)) =
-    (datagrams : List (List ℕ)) × JobSent j inputs size stamp datagrams × (sent < length datagrams)
-    × TakesAll old new (take sent datagrams)
-Sends j inputs size stamp old new (Err (fault.Job e)) =
-    (new ≡ old)
-    × ((e ≡ NoMemory)
-    ⊎ ((settled : List Values) × AllZip IsSettled inputs settled × IsRefusal e j settled))
-Sends j inputs size stamp old new (Err fault.BadPacketSize) =
-    (new ≡ old) × ((settled : List Values) × AllZip IsSettled inputs settled × IsSound j settled
-    × ((picture : Values) → IsJobPicture j settled picture → IsSize picture.format size → ⊥))
+Sends j pictures size stamp old new (Err (fault.Sink sent)) =
+    (datagrams : List (List ℕ)) × IsSentJob j pictures size stamp datagrams
+    × (sent < length datagrams) × TakesAll old new (take sent datagrams)
+Sends j pictures size stamp old new (Err (fault.Job e)) = new ≡ old
+Sends j pictures size stamp old new (Err fault.BadPacketSize) = new ≡ old
+
+-- A sink failed once where it is the fault, and else not at all.
+abbrev pub CountsSink : ℕ → ℕ → Result ℕ SendJobFault → Type 0
+CountsSink old new (Ok next) = new ≡ old
+CountsSink old new (Err (fault.Sink sent)) = CountsOne old new
+CountsSink old new (Err (fault.Job e)) = new ≡ old
+CountsSink old new (Err fault.BadPacketSize) = new ≡ old
+
+-- Nothing speaks against the job, and the size is one for the format of its picture.
+pub record IsSendable (j : Job) (formats : List Format) (size : ℕ) : Type 0 where
+  pub sound : IsSound j formats
+  pub format : Format
+  pub is : IsJobFormat j formats format
+  pub fits : IsSize format size
+
+-- Nothing speaks against the job, and the size is none for the format of its picture.
+pub record IsBadSize (j : Job) (formats : List Format) (size : ℕ) : Type 0 where
+  pub sound : IsSound j formats
+  pub format : Format
+  pub is : IsJobFormat j formats format
+  pub none : IsSize format size → ⊥
+
+-- When each fault comes: the first refusal of the job; then the size; then memory, and the sink
+abbrev pub IsSendFault : SendJobFault → Job → List Format → ℕ → Type 0
+IsSendFault (fault.Job e) j formats size =
+    ((e ≡ NoMemory) × IsSendable j formats size) ⊎ IsRefusal e j formats
+IsSendFault fault.BadPacketSize j formats size = IsBadSize j formats size
+IsSendFault (fault.Sink sent) j formats size = IsSendable j formats size

@@ -23,10 +23,11 @@ ghost use Rattle.st_format.specs.Position.{number_in_row, place_in_row, row_samp
 ghost use Rattle.bt709_fixed.specs.Operations.{IsOf};
 ghost use Rattle.key_mix.specs.Jobs.{IsAlike, key_value};
 ghost use Rattle.key_mix.specs.Rows.{keyed_at};
-ghost use Rattle.key_mix.specs.declared.JobFault.TheVariants.{NoMemory, FormatsDiffer, KeyNotYcc};
+ghost use Rattle.key_mix.specs.declared.faults.JobFault.TheVariants.{NoMemory, FormatsDiffer, KeyNotYcc};
 
 use crate::JobFault;
-use crate::rows::{column_in_row, luma_in_row, same_format};
+use crate::formats::test_key;
+use crate::rows::{column_in_row, luma_in_row};
 use bt709_fixed::scale_of;
 use st_format::{Depth, Format, Picture, Sampling};
 use std::alloc::{AllocError, Allocator};
@@ -51,12 +52,7 @@ pub fn key<A: Allocator, B: Allocator, K: Allocator, C: Allocator + Copy>(
 {
     let format = a.format();
     let of_key = by.format();
-    if !same_format(format, b.format()) || !are_alike(format, of_key) {
-        return Err(JobFault::FormatsDiffer);
-    }
-    if of_key.sampling() == Sampling::Rgb {
-        return Err(JobFault::KeyNotYcc);
-    }
+    test_key(format, b.format(), of_key)?;
     let samples = keyed_samples(
         alloc,
         format,
@@ -66,17 +62,6 @@ pub fn key<A: Allocator, B: Allocator, K: Allocator, C: Allocator + Copy>(
         by.samples(),
     )?;
     Ok(Picture::from_samples(format, samples))
-}
-
-/// Whether two formats have one size, depth and rate.
-fn are_alike(left: Format, right: Format) -> bool
-    ensures { IsTrue result ↔ IsAlike left right }
-{
-    left.depth() == right.depth()
-        && left.width() == right.width()
-        && left.height() == right.height()
-        && left.n() == right.n()
-        && left.d() == right.d()
 }
 
 /// The samples of two lists of one format, keyed by the lumas of a third.

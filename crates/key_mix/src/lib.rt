@@ -1,15 +1,19 @@
 //! Wipe, key and the jobs of the processor.
 #![tactic(auto)]
 
-ghost use Rattle.std.specs.Prelude.{◌≡◌};
-
+mod faults;
+mod formats;
+mod jobs;
 mod keys;
 mod rows;
+mod sending;
 mod wipes;
 
 use bt709_fixed::RangeKind;
+pub use faults::{JobFault, SendJobFault};
+pub use jobs::run_job;
 pub use keys::key;
-use std::alloc::AllocError;
+pub use sending::{JobInput, send_job};
 pub use wipes::wipe;
 
 /// What a wipe runs along.
@@ -39,35 +43,4 @@ pub enum Job {
     ToYcc422,
     Wipe(WipeShape),
     Key,
-}
-
-/// Why there is no picture.
-#[derive(Clone, Copy, Debug, PartialEq, Eq)]
-pub enum JobFault {
-    NoMemory,
-    FormatsDiffer,
-    KeyNotYcc,
-    BadWipe,
-    NotRgb,
-    NotYcc444,
-    WrongInputCount,
-    BadGain,
-}
-
-impl From<AllocError> for JobFault {
-    ghost use Rattle.key_mix.specs.declared.JobFault.TheVariants.{NoMemory};
-
-    ghost from_gives = { λ _ e. e ≡ NoMemory };
-
-    fn from(_error: AllocError) -> JobFault {
-        JobFault::NoMemory
-    }
-}
-
-/// Why a job's picture wasn't sent.
-#[derive(Clone, Copy, Debug, PartialEq, Eq)]
-pub enum SendJobFault {
-    Job(JobFault),
-    BadPacketSize,
-    Sink { sent: u32 },
 }

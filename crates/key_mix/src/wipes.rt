@@ -20,9 +20,10 @@ ghost use Rattle.lane_kernels.specs.Formulas.{weight};
 ghost use Rattle.bt709_fixed.specs.Operations.{IsOf};
 ghost use Rattle.key_mix.specs.Jobs.{extent, wipe_value};
 ghost use Rattle.key_mix.specs.Rows.{next_weight, row_weight, wiped_at};
-ghost use Rattle.key_mix.specs.declared.JobFault.TheVariants.{NoMemory, FormatsDiffer, BadWipe};
+ghost use Rattle.key_mix.specs.declared.faults.JobFault.TheVariants.{NoMemory, FormatsDiffer, BadWipe};
 
-use crate::rows::{column_in_row, same_format};
+use crate::formats::test_wipe;
+use crate::rows::column_in_row;
 use crate::{Axis, JobFault, WipeShape};
 use st_format::{Format, Picture, Sampling};
 use std::alloc::{AllocError, Allocator};
@@ -46,25 +47,9 @@ pub fn wipe<A: Allocator, B: Allocator, C: Allocator + Copy>(
     ensures only { IfErr result (λ e. (e ≡ NoMemory) ⊎ (e ≡ FormatsDiffer) ⊎ (e ≡ BadWipe)) }
 {
     let format = a.format();
-    if !same_format(format, b.format()) {
-        return Err(JobFault::FormatsDiffer);
-    }
-    let most = extent_of(shape.axis, format);
-    if most < shape.position || most < shape.soft {
-        return Err(JobFault::BadWipe);
-    }
+    test_wipe(format, b.format(), shape)?;
     let samples = wiped_samples(alloc, format, shape, a.samples(), b.samples())?;
     Ok(Picture::from_samples(format, samples))
-}
-
-/// How many columns or rows there are.
-fn extent_of(axis: Axis, format: Format) -> u32
-    ensures { result ≡ extent axis format }
-{
-    match axis {
-        Axis::Columns => format.width(),
-        Axis::Rows => format.height(),
-    }
 }
 
 /// The weight at a column or row.

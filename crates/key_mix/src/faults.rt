@@ -1,0 +1,157 @@
+//! Why there is no picture, and why it wasn't sent.
+ghost use Rattle.std.specs.Prelude.{◌≡◌};
+
+use bt709_fixed::ColourFault;
+use packet_plan::{PlanFault, SendFault};
+use st_format::PictureFault;
+use std::alloc::AllocError;
+use std::fmt;
+use thiserror::Error;
+
+/// Why there is no picture. `Display` is the fault's name.
+#[derive(Clone, Copy, Debug, PartialEq, Eq, Error)]
+pub enum JobFault {
+    /// The memory was refused.
+    NoMemory = 1,
+    /// The first two pictures have different formats, or the key has another size, depth or rate.
+    FormatsDiffer,
+    /// The key is of R, G and B, and so has no luma.
+    KeyNotYcc,
+    /// A wipe's position or softness is above the width or height that its axis names.
+    BadWipe,
+    /// The picture isn't of R, G and B.
+    NotRgb,
+    /// The picture isn't of Y, Cb and Cr at each column.
+    NotYcc444,
+    /// There are more or fewer pictures than the job takes.
+    WrongInputCount,
+    /// The gain is above 16384.
+    BadGain,
+}
+
+impl JobFault {
+    ghost use Rattle.key_mix.specs.Faults.{job_fault_number};
+
+    /// Its number: 1 to 8.
+    pub fn number(self) -> u8
+        ensures { result ≡ job_fault_number self }
+    {
+        self as u8
+    }
+}
+
+impl fmt::Display for JobFault {
+    ghost use Rattle.std.specs.Prelude.{Some};
+    ghost use Rattle.key_mix.specs.Faults.{job_fault_name};
+
+    ghost output = { λ fault. Some (job_fault_name fault) };
+
+    fn fmt<W: fmt::Write>(&self, f: &mut fmt::Formatter<W>) -> fmt::Result {
+        f.write_str(match self {
+            JobFault::NoMemory => "NoMemory",
+            JobFault::FormatsDiffer => "FormatsDiffer",
+            JobFault::KeyNotYcc => "KeyNotYcc",
+            JobFault::BadWipe => "BadWipe",
+            JobFault::NotRgb => "NotRgb",
+            JobFault::NotYcc444 => "NotYcc444",
+            JobFault::WrongInputCount => "WrongInputCount",
+            JobFault::BadGain => "BadGain",
+        })
+    }
+}
+
+impl From<AllocError> for JobFault {
+    ghost use Rattle.key_mix.specs.declared.faults.JobFault.TheVariants.{NoMemory};
+
+    ghost from_gives = { λ _ e. e ≡ NoMemory };
+
+    fn from(_error: AllocError) -> JobFault {
+        JobFault::NoMemory
+    }
+}
+
+impl From<ColourFault> for JobFault {
+    ghost use Rattle.key_mix.specs.Faults.{colour_job_fault};
+
+    ghost from_gives = { λ fault e. e ≡ colour_job_fault fault };
+
+    fn from(fault: ColourFault) -> JobFault {
+        match fault {
+            ColourFault::NoMemory => JobFault::NoMemory,
+            ColourFault::NotRgb => JobFault::NotRgb,
+            ColourFault::NotYcc444 => JobFault::NotYcc444,
+        }
+    }
+}
+
+/// Why a job's picture wasn't sent. `Display` is the fault's name, and behind that of the job or
+/// the sink what it says.
+#[derive(Clone, Copy, Debug, PartialEq, Eq, Error)]
+pub enum SendJobFault {
+    /// There is no picture.
+    Job(JobFault),
+    /// The greatest size of a packet is below 20 octets and a pgroup of the job's picture, or above
+    /// 9000.
+    BadPacketSize,
+    /// The sink failed: it took the first `sent` datagrams of the picture, and no more.
+    Sink { sent: u32 },
+}
+
+impl fmt::Display for SendJobFault {
+    ghost use Rattle.std.specs.Prelude.{Some};
+    ghost use Rattle.key_mix.specs.Faults.{send_job_fault_name};
+
+    ghost output = { λ fault. Some (send_job_fault_name fault) };
+
+    fn fmt<W: fmt::Write>(&self, f: &mut fmt::Formatter<W>) -> fmt::Result {
+        match self {
+            SendJobFault::Job(fault) => write!(f, "Job {fault}"),
+            SendJobFault::BadPacketSize => f.write_str("BadPacketSize"),
+            SendJobFault::Sink { sent } => write!(f, "Sink {sent}"),
+        }
+    }
+}
+
+impl From<AllocError> for SendJobFault {
+    ghost use Rattle.key_mix.specs.declared.faults.JobFault.TheVariants.{NoMemory};
+    ghost use Rattle.key_mix.specs.declared.faults.SendJobFault.TheVariants.{Job};
+
+    ghost from_gives = { λ _ e. e ≡ Job NoMemory };
+
+    fn from(_error: AllocError) -> SendJobFault {
+        SendJobFault::Job(JobFault::NoMemory)
+    }
+}
+
+impl From<JobFault> for SendJobFault {
+    ghost use Rattle.key_mix.specs.declared.faults.SendJobFault.TheVariants.{Job};
+
+    ghost from_gives = { λ fault e. e ≡ Job fault };
+
+    fn from(fault: JobFault) -> SendJobFault {
+        SendJobFault::Job(fault)
+    }
+}
+
+impl From<PlanFault> for SendJobFault {
+    ghost use Rattle.key_mix.specs.Faults.{plan_job_fault};
+
+    ghost from_gives = { λ fault e. e ≡ plan_job_fault fault };
+
+    fn from(fault: PlanFault) -> SendJobFault {
+        match fault {
+            PlanFault::NoMemory => SendJobFault::Job(JobFault::NoMemory),
+            PlanFault::BadPacketSize => SendJobFault::BadPacketSize,
+        }
+    }
+}
+
+impl From<SendFault> for SendJobFault {
+    ghost use Rattle.key_mix.specs.declared.faults.SendJobFault.TheVariants.{Sink};
+
+    ghost from_gives = { λ fault e. e ≡ Sink fault.sent };
+
+    fn from(fault: SendFault) -> SendJobFault {
+        SendJobFault::Sink { sent: fault.sent }
+    }
+}

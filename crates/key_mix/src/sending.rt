@@ -1,0 +1,98 @@
+//! Settling frames, running a job on them, and sending its picture.
+ghost use Rattle.std.specs.Prelude.{◌≡◌, ◌≤◌, IfErr, IfOk, OnOk};
+ghost use Rattle.std.specs.List.{AllByRecursion};
+ghost use Rattle.key_mix.specs.Jobs.{IsJobFormat, IsRefusal, IsSound};
+ghost use Rattle.key_mix.specs.Sending.{
+  CountsSink,
+  HasBase,
+  IsSendFault,
+  IsSendable,
+  Sends,
+  input_formats,
+  settled_inputs,
+};
+
+use crate::formats::{format_of_one, format_of_three, format_of_two};
+use crate::{Job, JobFault, SendJobFault, run_job};
+use frame_assembly::{Base, Frame};
+use packet_plan::{Plan, Stamp, send_frame};
+use st_format::{DatagramSink, Format, Picture};
+use std::alloc::{AllocError, Allocator, Global};
+
+/// A frame, and what a sample without a value gets: what a job takes for a picture.
+#[derive_where(Clone, Copy)]
+pub struct JobInput<'a, A: Allocator = Global> {
+    pub frame: &'a Frame<A>,
+    pub base: Base<'a, A>,
+}
+
+/// Settles each input, runs a job on the pictures, and sends the job's picture in packets of at
+/// most `max_octets` octets. Answers the number of the packet that comes next: `stamp.first` and
+/// the number of packets, modulo 2^32.
+///
+/// Each input's base is a fill that fits the depth or a picture of the frame's format, and the
+/// payload type is at most 127.
+///
+/// # Errors
+///
+/// The first of these: `Job` with what [`run_job`] refuses, want of memory aside; `BadPacketSize`
+/// where `max_octets` is below 20 and the octets of a pgroup of the job's picture, or above 9000;
+/// `Job(NoMemory)` where the memory was refused; `Sink` where the sink failed, which was its one
+/// failure in this call. Before `Sink` nothing was sent.
+pub fn send_job<A: Allocator, C: Allocator + Copy, S: DatagramSink>(
+    alloc: C,
+    job: &Job,
+    inputs: &[JobInput<'_, A>],
+    max_octets: u32,
+    stamp: Stamp,
+    sink: &mut S,
+) -> Result<u32, SendJobFault>
+    requires bases { AllByRecursion HasBase inputs.now }
+    requires payload_type { stamp.payload_type ≤ 127 }
+    ensures sent { Sends job.now (settled_inputs inputs.now) max_octets stamp
+        (S.taken sink.old) (S.taken sink.new) result }
+    ensures sendable { OnOk result
+        (IsSendable job.now (input_formats inputs.now) max_octets) }
+    ensures fault { IfErr result
+        (λ e. IsSendFault e job.now (input_formats inputs.now) max_octets) }
+    // The sink fails once where it is the fault, and not at all where it isn't.
+    ensures counted { CountsSink (S.failures sink.old) (S.failures sink.new) result }
+{
+    let format = job_format(job, inputs)?;
+    let plan = Plan::new(alloc, format, max_octets)?;
+    let pictures = settle_inputs(alloc, inputs)?;
+    let picture = run_job(alloc, job, pictures.as_slice())?;
+    let mut buf = Vec::from_elem(alloc, 0, max_octets as usize)?;
+    Ok(send_frame(&plan, &picture, stamp, buf.as_mut_slice(), sink)?)
+}
+
+/// The format of a job's picture of inputs, or the first refusal.
+fn job_format<A: Allocator>(job: &Job, inputs: &[JobInput<'_, A>]) -> Result<Format, JobFault>
+    ensures format { IfOk result (λ f. IsJobFormat job.now (input_formats inputs.now) f) }
+    ensures sound { OnOk result (IsSound job.now (input_formats inputs.now)) }
+    ensures refusal { IfErr result (λ e. IsRefusal e job.now (input_formats inputs.now)) }
+{
+    match inputs {
+        [a] => format_of_one(job, a.frame.format()),
+        [a, b] => format_of_two(job, a.frame.format(), b.frame.format()),
+        [a, b, by] => {
+            format_of_three(job, a.frame.format(), b.frame.format(), by.frame.format())
+        }
+        _ => Err(JobFault::WrongInputCount),
+    }
+}
+
+/// The picture of each input.
+fn settle_inputs<A: Allocator, C: Allocator + Copy>(
+    alloc: C,
+    inputs: &[JobInput<'_, A>],
+) -> Result<Vec<Picture<C>, C>, AllocError>
+    requires { AllByRecursion HasBase inputs.now }
+    ensures { IfOk result (λ v. v.items ≡ settled_inputs inputs.now) }
+{
+    let mut pictures = Vec::new(alloc);
+    for input in inputs {
+        pictures.push(input.frame.settle(alloc, input.base)?)?;
+    }
+    Ok(pictures)
+}
