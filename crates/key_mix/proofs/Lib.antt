@@ -2,3 +2,6 @@ pub mod InRow
 pub mod Mixed
 pub mod Parts
 pub mod Pictures
+pub mod Resampled
+pub mod Sent
+pub mod Refused

@@ -51,18 +51,18 @@ pub record IsSentJob (j : Job) (pictures : List Values) (size : ℕ) (stamp : St
   pub plan : List (List PacketRun)
   pub sent : IsSentPicture picture stamp size plan datagrams
 
--- What a sink has taken after an answer: the datagrams of the job's picture; where it failed, the
--- first of them; and else nothing
-abbrev pub Sends : Job → List Values → ℕ → Stamp → Option (List (List ℕ)) → Option (List (List ℕ))
+-- What a sink has taken after an answer: such datagrams, all of them; where it failed, the first of
+-- them; and else nothing. The first packet has the number `first`.
+abbrev pub Sends : (List (List ℕ) → Type 0) → ℕ → Option (List (List ℕ)) → Option (List (List ℕ))
     → Result ℕ SendJobFault → Type 0
-Sends j pictures size stamp old new (Ok next) =
-    (datagrams : List (List ℕ)) × IsSentJob j pictures size stamp datagrams
-    × TakesAll old new datagrams × (next ≡ (stamp.first + length datagrams) % 2 ^ 32)
-Sends j pictures size stamp old new (Err (fault.Sink sent)) =
-    (datagrams : List (List ℕ)) × IsSentJob j pictures size stamp datagrams
-    × (sent < length datagrams) × TakesAll old new (take sent datagrams)
-Sends j pictures size stamp old new (Err (fault.Job e)) = new ≡ old
-Sends j pictures size stamp old new (Err fault.BadPacketSize) = new ≡ old
+Sends Are first old new (Ok next) =
+    (datagrams : List (List ℕ)) × Are datagrams × TakesAll old new datagrams
+    × (next ≡ (first + length datagrams) % 2 ^ 32)
+Sends Are first old new (Err (fault.Sink sent)) =
+    (datagrams : List (List ℕ)) × Are datagrams × (sent < length datagrams)
+    × TakesAll old new (take sent datagrams)
+Sends Are first old new (Err (fault.Job e)) = new ≡ old
+Sends Are first old new (Err fault.BadPacketSize) = new ≡ old
 
 -- A sink failed once where it is the fault, and else not at all.
 abbrev pub CountsSink : ℕ → ℕ → Result ℕ SendJobFault → Type 0
@@ -91,3 +91,14 @@ IsSendFault (fault.Job e) j formats size =
     ((e ≡ NoMemory) × IsSendable j formats size) ⊎ IsRefusal e j formats
 IsSendFault fault.BadPacketSize j formats size = IsBadSize j formats size
 IsSendFault (fault.Sink sent) j formats size = IsSendable j formats size
+
+-- the faults that come before a picture is sent, and those that come after its plan was made
+abbrev pub IsEarly : SendJobFault → Type 0
+IsEarly (fault.Job e) = Unit {0}
+IsEarly fault.BadPacketSize = Unit {0}
+IsEarly (fault.Sink sent) = ⊥
+
+abbrev pub IsLate : SendJobFault → Type 0
+IsLate (fault.Job e) = e ≡ NoMemory
+IsLate fault.BadPacketSize = ⊥
+IsLate (fault.Sink sent) = Unit {0}

@@ -7,6 +7,7 @@ ghost use Rattle.std.specs.Prelude.{
   ◌∷◌,
   ◌↔◌,
   [],
+  Err,
   IfErr,
   IfOk,
   IsTrue,
@@ -15,6 +16,11 @@ ghost use Rattle.std.specs.Prelude.{
 ghost use Rattle.st_format.specs.declared.sampling.Sampling.TheVariants.{Rgb};
 ghost use Rattle.key_mix.specs.Jobs.{IsAlike, IsJobFormat, IsRefusal, IsSound, extent};
 ghost use Rattle.key_mix.specs.declared.Job.TheVariants.{Key, Wipe};
+ghost use Rattle.key_mix.specs.declared.faults.JobFault.TheVariants.{
+  FormatsDiffer,
+  KeyNotYcc,
+  BadWipe,
+};
 
 use crate::rows::same_format;
 use crate::{Axis, Job, JobFault, WipeShape};
@@ -83,6 +89,11 @@ pub(crate) fn format_of_three(
 
 /// Whether pictures of these formats can be wiped, or the first refusal.
 pub(crate) fn test_wipe(a: Format, b: Format, shape: WipeShape) -> Result<(), JobFault>
+    ensures same { OnOk result (a ≡ b) }
+    ensures formats { (result ≡ Err FormatsDiffer) ↔ (a ≢ b) }
+    ensures shape { (result ≡ Err BadWipe)
+        ↔ ((a ≡ b) × ((extent shape.axis a < shape.position) ⊎ (extent shape.axis a < shape.soft))) }
+    ensures only { IfErr result (λ e. (e ≡ FormatsDiffer) ⊎ (e ≡ BadWipe)) }
     ensures sound { OnOk result (IsSound (Wipe shape) (a ∷ b ∷ [])) }
     ensures refusal { IfErr result (λ e. IsRefusal e (Wipe shape) (a ∷ b ∷ [])) }
 {
@@ -98,6 +109,11 @@ pub(crate) fn test_wipe(a: Format, b: Format, shape: WipeShape) -> Result<(), Jo
 
 /// Whether pictures of these formats can be keyed, or the first refusal.
 pub(crate) fn test_key(a: Format, b: Format, by: Format) -> Result<(), JobFault>
+    ensures same { OnOk result ((a ≡ b) × IsAlike a by) }
+    ensures formats { (result ≡ Err FormatsDiffer) ↔ ((a ≢ b) ⊎ (IsAlike a by → ⊥)) }
+    ensures ycc { (result ≡ Err KeyNotYcc)
+        ↔ ((a ≡ b) × IsAlike a by × (by.sampling ≡ Rgb)) }
+    ensures only { IfErr result (λ e. (e ≡ FormatsDiffer) ⊎ (e ≡ KeyNotYcc)) }
     ensures sound { OnOk result (IsSound Key (a ∷ b ∷ by ∷ [])) }
     ensures refusal { IfErr result (λ e. IsRefusal e Key (a ∷ b ∷ by ∷ [])) }
 {

@@ -8,12 +8,15 @@ ghost use Rattle.std.specs.Prelude.{
   ◌*◌,
   ◌⊎◌,
   ◌↔◌,
+  ◌∷◌,
+  [],
   min,
   EachIndex,
   IsTrue,
   length,
   slice_index,
   IfOk,
+  OnOk,
   Err,
 };
 ghost use Rattle.std.specs.Result.{IfErr};
@@ -21,9 +24,10 @@ ghost use Rattle.st_format.specs.declared.sampling.Sampling.TheVariants.{Rgb};
 ghost use Rattle.st_format.specs.Picture.{IsPicture};
 ghost use Rattle.st_format.specs.Position.{number_in_row, place_in_row, row_samples, sample_count};
 ghost use Rattle.bt709_fixed.specs.Operations.{IsOf};
-ghost use Rattle.key_mix.specs.Jobs.{IsAlike, key_value};
+ghost use Rattle.key_mix.specs.Jobs.{IsAlike, IsFault, IsSound, key_value};
 ghost use Rattle.key_mix.specs.Rows.{keyed_at};
-ghost use Rattle.key_mix.specs.declared.faults.JobFault.TheVariants.{NoMemory, FormatsDiffer, KeyNotYcc};
+ghost use Rattle.key_mix.specs.declared.Job.TheVariants.{Key};
+ghost use Rattle.key_mix.specs.declared.faults.JobFault.TheVariants.{FormatsDiffer, KeyNotYcc};
 
 use crate::JobFault;
 use crate::formats::test_key;
@@ -48,7 +52,10 @@ pub fn key<A: Allocator, B: Allocator, K: Allocator, C: Allocator + Copy>(
     ensures ycc { (result ≡ Err KeyNotYcc)
         ↔ ((a.now.format ≡ b.now.format) × IsAlike a.now.format by.now.format
         × (by.now.format.sampling ≡ Rgb)) }
-    ensures only { IfErr result (λ e. (e ≡ NoMemory) ⊎ (e ≡ FormatsDiffer) ⊎ (e ≡ KeyNotYcc)) }
+    ensures sound { OnOk result
+        (IsSound Key (a.now.format ∷ b.now.format ∷ by.now.format ∷ [])) }
+    ensures fault { IfErr result (λ e.
+        IsFault e Key (a.now.format ∷ b.now.format ∷ by.now.format ∷ [])) }
 {
     let format = a.format();
     let of_key = by.format();

@@ -1,16 +1,21 @@
 //! Settling frames, running a job on them, and sending its picture.
 ghost use Rattle.std.specs.Prelude.{◌≡◌, ◌≤◌, IfErr, IfOk, OnOk};
 ghost use Rattle.std.specs.List.{AllByRecursion};
-ghost use Rattle.key_mix.specs.Jobs.{IsJobFormat, IsRefusal, IsSound};
+ghost use Rattle.packet_plan.specs.Sent.{IsSentPicture};
+ghost use Rattle.key_mix.specs.Jobs.{IsJobFormat, IsJobPicture, IsRefusal, IsSound};
 ghost use Rattle.key_mix.specs.Sending.{
   CountsSink,
   HasBase,
+  IsEarly,
+  IsLate,
   IsSendFault,
   IsSendable,
+  IsSentJob,
   Sends,
   input_formats,
   settled_inputs,
 };
+ghost use Rattle.key_mix.specs.declared.faults.JobFault.TheVariants.{NoMemory};
 
 use crate::formats::{format_of_one, format_of_three, format_of_two};
 use crate::{Job, JobFault, SendJobFault, run_job};
@@ -49,8 +54,8 @@ pub fn send_job<A: Allocator, C: Allocator + Copy, S: DatagramSink>(
 ) -> Result<u32, SendJobFault>
     requires bases { AllByRecursion HasBase inputs.now }
     requires payload_type { stamp.payload_type ≤ 127 }
-    ensures sent { Sends job.now (settled_inputs inputs.now) max_octets stamp
-        (S.taken sink.old) (S.taken sink.new) result }
+    ensures sent { Sends (IsSentJob job.now (settled_inputs inputs.now) max_octets stamp)
+        stamp.first (S.taken sink.old) (S.taken sink.new) result }
     ensures sendable { OnOk result
         (IsSendable job.now (input_formats inputs.now) max_octets) }
     ensures fault { IfErr result
@@ -58,12 +63,63 @@ pub fn send_job<A: Allocator, C: Allocator + Copy, S: DatagramSink>(
     // The sink fails once where it is the fault, and not at all where it isn't.
     ensures counted { CountsSink (S.failures sink.old) (S.failures sink.new) result }
 {
+    let plan = job_plan(alloc, job, inputs, max_octets)?;
+    let picture = job_picture(alloc, job, inputs)?;
+    send_picture(alloc, &plan, &picture, stamp, sink)
+}
+
+/// A plan for the job's picture.
+fn job_plan<A: Allocator, C: Allocator + Copy>(
+    alloc: C,
+    job: &Job,
+    inputs: &[JobInput<'_, A>],
+    max_octets: u32,
+) -> Result<Plan<C>, SendJobFault>
+    ensures format { IfOk result (λ p. IsJobFormat job.now (input_formats inputs.now) p.format) }
+    ensures octets { IfOk result (λ p. p.max_octets ≡ max_octets) }
+    ensures sendable { OnOk result
+        (IsSendable job.now (input_formats inputs.now) max_octets) }
+    ensures fault { IfErr result
+        (λ e. IsSendFault e job.now (input_formats inputs.now) max_octets) }
+    ensures early { IfErr result IsEarly }
+{
     let format = job_format(job, inputs)?;
-    let plan = Plan::new(alloc, format, max_octets)?;
+    Ok(Plan::new(alloc, format, max_octets)?)
+}
+
+/// The job's picture of settled inputs, against which nothing speaks.
+fn job_picture<A: Allocator, C: Allocator + Copy>(
+    alloc: C,
+    job: &Job,
+    inputs: &[JobInput<'_, A>],
+) -> Result<Picture<C>, JobFault>
+    requires bases { AllByRecursion HasBase inputs.now }
+    requires sound { IsSound job.now (input_formats inputs.now) }
+    ensures made { IfOk result (λ p. IsJobPicture job.now (settled_inputs inputs.now) p) }
+    ensures only { IfErr result (λ e. e ≡ NoMemory) }
+{
     let pictures = settle_inputs(alloc, inputs)?;
-    let picture = run_job(alloc, job, pictures.as_slice())?;
-    let mut buf = Vec::from_elem(alloc, 0, max_octets as usize)?;
-    Ok(send_frame(&plan, &picture, stamp, buf.as_mut_slice(), sink)?)
+    run_job(alloc, job, pictures.as_slice())
+}
+
+/// Sends a picture by a plan.
+fn send_picture<A: Allocator, B: Allocator, C: Allocator, S: DatagramSink>(
+    alloc: C,
+    plan: &Plan<A>,
+    picture: &Picture<B>,
+    stamp: Stamp,
+    sink: &mut S,
+) -> Result<u32, SendJobFault>
+    requires format { picture.now.format ≡ plan.now.format }
+    requires payload_type { stamp.payload_type ≤ 127 }
+    ensures sent { Sends
+        (IsSentPicture picture.now stamp plan.now.max_octets plan.now.packets)
+        stamp.first (S.taken sink.old) (S.taken sink.new) result }
+    ensures late { IfErr result IsLate }
+    ensures counted { CountsSink (S.failures sink.old) (S.failures sink.new) result }
+{
+    let mut buf = Vec::from_elem(alloc, 0, plan.max_octets() as usize)?;
+    Ok(send_frame(plan, picture, stamp, buf.as_mut_slice(), sink)?)
 }
 
 /// The format of a job's picture of inputs, or the first refusal.

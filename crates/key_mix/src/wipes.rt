@@ -7,10 +7,13 @@ ghost use Rattle.std.specs.Prelude.{
   ◌^◌,
   ◌⊎◌,
   ◌↔◌,
+  ◌∷◌,
+  [],
   EachIndex,
   length,
   slice_index,
   IfOk,
+  OnOk,
   Err,
 };
 ghost use Rattle.std.specs.Result.{IfErr};
@@ -18,9 +21,10 @@ ghost use Rattle.st_format.specs.Picture.{IsPicture};
 ghost use Rattle.st_format.specs.Position.{row_samples, sample_count};
 ghost use Rattle.lane_kernels.specs.Formulas.{weight};
 ghost use Rattle.bt709_fixed.specs.Operations.{IsOf};
-ghost use Rattle.key_mix.specs.Jobs.{extent, wipe_value};
+ghost use Rattle.key_mix.specs.Jobs.{IsFault, IsSound, extent, wipe_value};
 ghost use Rattle.key_mix.specs.Rows.{next_weight, row_weight, wiped_at};
-ghost use Rattle.key_mix.specs.declared.faults.JobFault.TheVariants.{NoMemory, FormatsDiffer, BadWipe};
+ghost use Rattle.key_mix.specs.declared.Job.TheVariants.{Wipe};
+ghost use Rattle.key_mix.specs.declared.faults.JobFault.TheVariants.{FormatsDiffer, BadWipe};
 
 use crate::formats::test_wipe;
 use crate::rows::column_in_row;
@@ -44,7 +48,9 @@ pub fn wipe<A: Allocator, B: Allocator, C: Allocator + Copy>(
         ↔ ((a.now.format ≡ b.now.format)
         × ((extent shape.axis a.now.format < shape.position)
         ⊎ (extent shape.axis a.now.format < shape.soft))) }
-    ensures only { IfErr result (λ e. (e ≡ NoMemory) ⊎ (e ≡ FormatsDiffer) ⊎ (e ≡ BadWipe)) }
+    ensures sound { OnOk result (IsSound (Wipe shape) (a.now.format ∷ b.now.format ∷ [])) }
+    ensures fault { IfErr result (λ e.
+        IsFault e (Wipe shape) (a.now.format ∷ b.now.format ∷ [])) }
 {
     let format = a.format();
     test_wipe(format, b.format(), shape)?;

@@ -1,4 +1,4 @@
-use Rattle.std.proofs.Common.{◌≡◌, refl, sym, subst, ap, ◌∙◌}
+use Rattle.std.proofs.Common.{◌≡◌, sym, subst, ap, ◌∙◌}
 use Rattle.st_format.specs.Picture.{IsPicture}
 use Rattle.st_format.specs.Position.{sample_count}
 use Rattle.bt709_fixed.specs.Operations.{IsOf}
@@ -14,7 +14,7 @@ from_samples-requires g c =
     let new = c.in_ok-samples.samples.items in
     let form = c.format-format.ensures.value in
     let same : a.format ≡ b.format =
-    sym form ∙ (c.if-not-same_format.ensures.0 refl ∙ c.format.ensures.value) in
+    sym form ∙ (c.in_ok-test_wipe.ensures.same ∙ c.format.ensures.value) in
     let is =
     wiped_picture c.args.shape a b new same c.format-format.ensures.whole c.format.ensures.whole
     (c.in_ok-samples.ensures.long ∙ ap sample_count form)
@@ -30,7 +30,7 @@ returns-clause-made g c =
     let new = c.in_ok-samples.samples.items in
     let form = c.format-format.ensures.value in
     let same : a.format ≡ b.format =
-    sym form ∙ (c.if-not-same_format.ensures.0 refl ∙ c.format.ensures.value) in
+    sym form ∙ (c.in_ok-test_wipe.ensures.same ∙ c.format.ensures.value) in
     let is =
     wiped_picture c.args.shape a b new same c.format-format.ensures.whole c.format.ensures.whole
     (c.in_ok-samples.ensures.long ∙ ap sample_count form)
