@@ -4,3 +4,5 @@ pub mod Values
 pub mod Blocks
 pub mod GroupLemmas
 pub mod Marking
+pub mod Rasters
+pub mod Parts

@@ -9,6 +9,7 @@
 mod contests;
 mod eight_bits;
 mod groups;
+mod packed_picture;
 mod sixteen_bits;
 mod ten_bits;
 mod twelve_bits;
@@ -20,6 +21,7 @@ ghost use Rattle.st_format.specs.Samples.{Spells, values_in};
 
 pub use contests::contest;
 pub use groups::{blank, differing};
+pub use packed_picture::PackedPicture;
 use st_format::{Depth, Format};
 
 /// Reads the samples that octets spell, in the order in which they are sent.
