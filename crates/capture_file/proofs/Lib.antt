@@ -18,6 +18,7 @@ pub mod Found
 pub mod Spelt
 pub mod Versions
 pub mod Raster
+pub mod PackedRaster
 pub mod Seen
 pub mod Failing
 pub mod KindFaults

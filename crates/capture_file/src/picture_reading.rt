@@ -68,7 +68,7 @@ fn read_whole_picture<A: Allocator, S: ByteSource>(
 }
 
 /// Reads name and version of a file whose one version is 01.
-fn read_version_one<S: ByteSource>(source: &mut S, name: &[u8]) -> Result<(), FileFault>
+pub(crate) fn read_version_one<S: ByteSource>(source: &mut S, name: &[u8]) -> Result<(), FileFault>
     ensures read { OnOk result (Gives (one_at name.now)
         (S.to_give source.old) (S.to_give source.new) One) }
     ensures fault { IfErr result (λ f. Fails (one_at name.now) (S.to_give source.old) f) }
@@ -151,7 +151,7 @@ fn read_piece<S: ByteSource>(
 }
 
 /// Finds that nothing stands behind what was read.
-fn read_end<S: ByteSource>(source: &mut S) -> Result<(), FileFault>
+pub(crate) fn read_end<S: ByteSource>(source: &mut S) -> Result<(), FileFault>
     ensures read { OnOk result
         (Gives nothing_at (S.to_give source.old) (S.to_give source.new) tt) }
     ensures fault { IfErr result (λ f. Fails nothing_at (S.to_give source.old) f) }
