@@ -2,6 +2,7 @@ pub mod Packets
 pub mod Walks
 pub mod RunOctets
 pub mod RunLemmas
+pub mod PackedRuns
 pub mod Behind
 pub mod Texts
 pub mod Taken

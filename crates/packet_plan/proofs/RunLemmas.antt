@@ -137,7 +137,7 @@ slice_map xs a (suc n) le =
     (slice_map xs (a + 1) n (omega arith) ∙ ap (λ (k : ℕ). take n (drop k xs)) up)
     ∙ ap (take (suc n)) (sym (drop-cons xs a 0 (omega arith)))
 
-group_below : (f : Format) (r : PacketRun) → IsRun f r → r.row < f.height
+pub group_below : (f : Format) (r : PacketRun) → IsRun f r → r.row < f.height
     → r.row * row_groups f + r.first + r.groups ≤ group_count f
 group_below f r is lt =
     let up : (r.row + 1) * row_groups f ≡ r.row * row_groups f + row_groups f = omega arith in

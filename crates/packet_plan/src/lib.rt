@@ -4,6 +4,7 @@
 mod greedy;
 pub mod laws;
 mod plan;
+mod raster;
 mod run;
 mod sending;
 mod stamp;

@@ -11,10 +11,12 @@ ghost use Rattle.st_format.specs.Picture.{IsPicture};
 ghost use Rattle.packet_plan.specs.declared.run.PacketRun.{PacketRun as Run};
 
 use crate::greedy::{group_octets_of, runs_from, starts_of};
+use crate::raster::Raster;
 use crate::run::PacketRun;
 use crate::stamp::Stamp;
 use crate::writing::write_datagram;
 use arrayvec::ArrayVec;
+use pgroup_pack::PackedPicture;
 use st_format::{Format, Picture};
 use std::alloc::{AllocError, Allocator, Global};
 use std::fmt;
@@ -187,26 +189,52 @@ impl<A: Allocator> Plan<A> {
         self.write_packet(index, picture, stamp, buf)
     }
 
-    /// The same, by the very octets, and what else is known of them.
-    pub(crate) fn write_packet<B: Allocator>(
+    /// Writes the datagram of a packet of a picture whose pixel groups are packed, which are copied
+    /// as they are: as [`datagram`](Plan::datagram) does otherwise.
+    pub fn packed_datagram<B: Allocator>(
         &self,
         index: u32,
-        picture: &Picture<B>,
+        packed: &PackedPicture<B>,
         stamp: Stamp,
         buf: &mut [u8],
     ) -> usize
         requires index { index < length self.now.packets }
-        requires format { picture.now.format ≡ self.now.format }
+        requires format { packed.now.format ≡ self.now.format }
         requires room { packet_octets self.now.format (packet_at self.now index) ≤ length buf.old }
         requires payload_type { stamp.payload_type ≤ 127 }
         ensures length { length buf.new ≡ length buf.old }
         ensures value { result ≡ packet_octets self.now.format (packet_at self.now index) }
-        ensures text { take result buf.new ≡ datagram_text picture.now stamp index
+        ensures sent { IsSentPacket packed.now stamp index (index + 1 == length self.now.packets)
+            (packet_at self.now index) (take result buf.new) }
+        // These very octets, and no others, are such a datagram.
+        ensures text { take result buf.new ≡ datagram_text packed.now stamp index
+            (index + 1 == length self.now.packets) (packet_at self.now index) }
+        // The octets behind it stay.
+        ensures behind { drop result buf.new ≡ drop result buf.old }
+    {
+        self.write_packet(index, packed, stamp, buf)
+    }
+
+    /// The same, by the very octets, and what else is known of them.
+    pub(crate) fn write_packet<P: Raster>(
+        &self,
+        index: u32,
+        picture: &P,
+        stamp: Stamp,
+        buf: &mut [u8],
+    ) -> usize
+        requires index { index < length self.now.packets }
+        requires format { (P.values picture.now).format ≡ self.now.format }
+        requires room { packet_octets self.now.format (packet_at self.now index) ≤ length buf.old }
+        requires payload_type { stamp.payload_type ≤ 127 }
+        ensures length { length buf.new ≡ length buf.old }
+        ensures value { result ≡ packet_octets self.now.format (packet_at self.now index) }
+        ensures text { take result buf.new ≡ datagram_text (P.values picture.now) stamp index
             (index + 1 == length self.now.packets) (packet_at self.now index) }
         ensures behind { drop result buf.new ≡ drop result buf.old }
         ensures runs { AreRuns self.now.format (packet_at self.now index) }
         ensures stamp { IsStamp stamp }
-        ensures picture { IsPicture picture.now }
+        ensures picture { IsPicture (P.values picture.now) }
     {
         let count = self.len();
         let runs = self.packet(index);

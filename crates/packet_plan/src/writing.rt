@@ -14,9 +14,11 @@ ghost use Rattle.packet_plan.specs.Text.{AreRuns, HasHead, IsStamp, datagram_tex
 ghost use Rattle.packet_plan.specs.Text.{head_of as head_at, header_of, run_octets};
 
 use crate::greedy::{group_octets_of, row_groups_of};
+use crate::raster::Raster;
 use crate::run::PacketRun;
 use crate::stamp::Stamp;
 use payload_header::{SegmentHead, write_payload_header};
+use pgroup_pack::PackedPicture;
 use rtp_header::{RtpHead, write_rtp};
 use st_format::{Format, Picture};
 use std::alloc::Allocator;
@@ -114,7 +116,12 @@ fn write_values(format: &Format, values: &[u16], octets: &mut [u8])
 }
 
 /// Writes the octets of a run behind the first `at`, and answers where they end.
-fn write_run<A: Allocator>(buf: &mut [u8], at: usize, picture: &Picture<A>, run: PacketRun) -> usize
+pub(crate) fn write_run<A: Allocator>(
+    buf: &mut [u8],
+    at: usize,
+    picture: &Picture<A>,
+    run: PacketRun,
+) -> usize
     requires room { at + length (run_octets picture.now run) ≤ length buf.old }
     requires head { HasHead picture.now.format run }
     ensures length { length buf.new ≡ length buf.old }
@@ -129,47 +136,86 @@ fn write_run<A: Allocator>(buf: &mut [u8], at: usize, picture: &Picture<A>, run:
     end
 }
 
-/// Writes the octets of runs behind the first `at`, and answers where they end.
-fn write_runs<A: Allocator>(
+/// The octets of a run, where they lie in the picture.
+fn packed_run<A: Allocator>(picture: &PackedPicture<A>, run: PacketRun) -> &[u8]
+    requires { HasHead picture.now.format run }
+    ensures { result.now ≡ run_octets picture.now run }
+{
+    let format = picture.format();
+    let size = group_octets_of(&format) as usize;
+    let start = (run.row * row_groups_of(&format) + run.first) as usize * size;
+    let octets = picture.octets();
+    are_octets(octets);
+    let (_, from) = octets.split_at(start);
+    let (of_run, _) = from.split_at(run.groups as usize * size);
+    of_run
+}
+
+/// What their type tells of octets.
+fn are_octets(octets: &[u8])
+    ensures { AllByRecursion (λ v. v < 256) octets.now }
+{
+    let _octets = octets;
+}
+
+/// Writes the octets of a run behind the first `at`, and answers where they end. They are copied.
+pub(crate) fn copy_run<A: Allocator>(
     buf: &mut [u8],
     at: usize,
-    picture: &Picture<A>,
-    runs: &[PacketRun],
+    picture: &PackedPicture<A>,
+    run: PacketRun,
 ) -> usize
-    requires room { at + length (flat_map (run_octets picture.now) runs.now) ≤ length buf.old }
-    requires heads { AllByRecursion (HasHead picture.now.format) runs.now }
+    requires room { at + length (run_octets picture.now run) ≤ length buf.old }
+    requires head { HasHead picture.now.format run }
     ensures length { length buf.new ≡ length buf.old }
-    ensures value { result ≡ at + length (flat_map (run_octets picture.now) runs.now) }
+    ensures value { result ≡ at + length (run_octets picture.now run) }
+    ensures written { take result buf.new ≡ take at buf.old ++ run_octets picture.now run }
+    ensures behind { drop result buf.new ≡ drop result buf.old }
+{
+    let octets = packed_run(picture, run);
+    let end = at + octets.len();
+    buf[at..end].copy_from_slice(octets);
+    end
+}
+
+/// Writes the octets of runs behind the first `at`, and answers where they end.
+fn write_runs<P: Raster>(buf: &mut [u8], at: usize, picture: &P, runs: &[PacketRun]) -> usize
+    requires room { at + length (flat_map (run_octets (P.values picture.now)) runs.now)
+        ≤ length buf.old }
+    requires heads { AllByRecursion (HasHead (P.values picture.now).format) runs.now }
+    ensures length { length buf.new ≡ length buf.old }
+    ensures value { result ≡ at + length (flat_map (run_octets (P.values picture.now)) runs.now) }
     ensures written { take result buf.new
-        ≡ take at buf.old ++ flat_map (run_octets picture.now) runs.now }
+        ≡ take at buf.old ++ flat_map (run_octets (P.values picture.now)) runs.now }
     ensures behind { drop result buf.new ≡ drop result buf.old }
 {
     let mut end = at;
     let mut rest = runs;
     while let [run, more @ ..] = rest {
-        end = write_run(buf, end, picture, *run);
+        end = picture.write_run(*run, buf, end);
         rest = more;
     }
     end
 }
 
 /// Writes the datagram of a packet, and answers how long it is.
-pub(crate) fn write_datagram<A: Allocator>(
+pub(crate) fn write_datagram<P: Raster>(
     buf: &mut [u8],
-    picture: &Picture<A>,
+    picture: &P,
     runs: &[PacketRun],
     stamp: Stamp,
     index: u32,
     is_last: bool,
 ) -> usize
-    requires room { packet_octets picture.now.format runs.now ≤ length buf.old }
-    requires runs { AreRuns picture.now.format runs.now }
+    requires room { packet_octets (P.values picture.now).format runs.now ≤ length buf.old }
+    requires runs { AreRuns (P.values picture.now).format runs.now }
     requires payload_type { stamp.payload_type ≤ 127 }
     ensures length { length buf.new ≡ length buf.old }
-    ensures value { result ≡ packet_octets picture.now.format runs.now }
+    ensures value { result ≡ packet_octets (P.values picture.now).format runs.now }
     ensures stamp { IsStamp stamp }
-    ensures picture { IsPicture picture.now }
-    ensures text { take result buf.new ≡ datagram_text picture.now stamp index is_last runs.now }
+    ensures picture { IsPicture (P.values picture.now) }
+    ensures text { take result buf.new
+        ≡ datagram_text (P.values picture.now) stamp index is_last runs.now }
     ensures behind { drop result buf.new ≡ drop result buf.old }
 {
     let number = stamp.first.wrapping_add(index);

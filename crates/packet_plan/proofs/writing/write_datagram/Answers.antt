@@ -4,10 +4,12 @@ use Rattle.packet_plan.proofs.Texts.{octets_at}
 use Rattle.packet_plan.proofs.writing.write_datagram.Goals as goal
 
 pub write_runs-requires-clause-room : goal.write_runs-requires-clause-room
-write_runs-requires-clause-room g c = omega (arith, octets_at c.args.picture.now c.args.runs.now)
+write_runs-requires-clause-room g c =
+    omega (arith, octets_at (g.P.Raster.values c.args.picture.now) c.args.runs.now)
 
 pub returns-clause-value : goal.returns-clause-value
-returns-clause-value g c = omega (arith, octets_at c.args.picture.now c.args.runs.now)
+returns-clause-value g c =
+    omega (arith, octets_at (g.P.Raster.values c.args.picture.now) c.args.runs.now)
 
 pub returns-clause-behind : goal.returns-clause-behind
 returns-clause-behind g c =

@@ -12,13 +12,13 @@ pub record Written (so_far kept place size all : Type 0) : Type 0 where
 
 abbrev pub invariant-loop-rest : goal.invariant-loop-rest
 invariant-loop-rest g l = Written
-    (take l.end l.buf ++ flat_map (run_octets l.picture) l.rest
-    ≡ take l.at l.initial.buf ++ flat_map (run_octets l.picture) l.runs)
+    (take l.end l.buf ++ flat_map (run_octets (g.P.Raster.values l.picture)) l.rest
+    ≡ take l.at l.initial.buf ++ flat_map (run_octets (g.P.Raster.values l.picture)) l.runs)
     (drop l.end l.buf ≡ drop l.end l.initial.buf)
-    (l.end + length (flat_map (run_octets l.picture) l.rest)
-    ≡ l.at + length (flat_map (run_octets l.picture) l.runs))
+    (l.end + length (flat_map (run_octets (g.P.Raster.values l.picture)) l.rest)
+    ≡ l.at + length (flat_map (run_octets (g.P.Raster.values l.picture)) l.runs))
     (length l.buf ≡ length l.initial.buf)
-    (AllByRecursion (HasHead l.picture.format) l.rest)
+    (AllByRecursion (HasHead (g.P.Raster.values l.picture).format) l.rest)
 
 abbrev pub decreases-loop-rest : goal.decreases-loop-rest
 decreases-loop-rest g l = length l.rest
