@@ -12,9 +12,10 @@ use crate::printing::print;
 use crate::sender::{Sender, Sending};
 use crate::telling::tell;
 use crate::text::{read_checked, room};
-use capture_file::{CaptureWriter, read_picture};
+use capture_file::{CaptureWriter, read_packed_picture};
 use packet_plan::Plan;
-use st_format::{ByteSink, ByteSource, Picture};
+use pgroup_pack::PackedPicture;
+use st_format::{ByteSink, ByteSource};
 use std::alloc::Allocator;
 use tool_text::{LINE, Status, tell_memory};
 
@@ -157,15 +158,16 @@ fn send_pictures<A: Allocator + Copy, S: ByteSource, K: ByteSink>(
         Ok(buf) => buf,
         Err(_) => return (Err(Fault::Memory), sink),
     };
-    let mut sender = match begin(alloc, wanted, said, pictures, sink, &mut buf) {
-        Ok(sender) => sender,
+    let (mut sender, room) = match begin(alloc, wanted, said, pictures, sink, &mut buf) {
+        Ok(begun) => begun,
         Err((fault, sink)) => return (Err(fault), sink),
     };
-    let sent = send_rest(alloc, &mut sender, pictures, &mut buf);
+    let sent = send_rest(&mut sender, pictures, room, &mut buf);
     (sent, sender.into_sink())
 }
 
-/// Reads the first picture, makes the plan, begins the capture and sends that picture.
+/// Reads the first picture, makes the plan, begins the capture and sends that picture. The memory
+/// of that picture is answered too.
 fn begin<A: Allocator + Copy, S: ByteSource, K: ByteSink>(
     alloc: A,
     wanted: Sending,
@@ -173,7 +175,7 @@ fn begin<A: Allocator + Copy, S: ByteSource, K: ByteSink>(
     pictures: &mut [S],
     sink: K,
     buf: &mut [u8],
-) -> Result<Sender<A, K>, (Fault, K)>
+) -> Result<(Sender<A, K>, Vec<u8, A>), (Fault, K)>
     requires text { length said.now ≤ 65535 }
     requires some { 0 < length pictures.old }
     requires payload_type { wanted.payload_type ≤ 127 }
@@ -181,10 +183,10 @@ fn begin<A: Allocator + Copy, S: ByteSource, K: ByteSink>(
     requires room { length buf.old ≡ 65535 }
     ensures len { length pictures.new ≡ length pictures.old }
     ensures room { length buf.new ≡ 65535 }
-    ensures stands { IfOk result (λ s. s.writer.place.failed ≡ false) }
+    ensures stands { IfOk result (λ s. s.0.writer.place.failed ≡ false) }
     ensures failures { MatchResult result
         (λ s. NoneFailed (counts (sum_by S.failures pictures.old) (sum_by S.failures pictures.new)
-        ∷ counts (K.failures sink) (K.failures s.writer.sink) ∷ []))
+        ∷ counts (K.failures sink) (K.failures s.0.writer.sink) ∷ []))
         (λ e. Blames (counts (sum_by S.failures pictures.old) (sum_by S.failures pictures.new)
         ∷ counts (K.failures sink) (K.failures e.1) ∷ []) e.0) }
 {
@@ -198,7 +200,7 @@ fn begin<A: Allocator + Copy, S: ByteSource, K: ByteSink>(
     };
     let mut sender = Sender::new(plan, writer, wanted);
     match sender.send(&picture, 0, buf) {
-        Ok(()) => Ok(sender),
+        Ok(()) => Ok((sender, picture.into_octets())),
         Err(fault) => Err((fault, sender.into_sink())),
     }
 }
@@ -208,22 +210,23 @@ fn read_first<A: Allocator + Copy, S: ByteSource>(
     alloc: A,
     max_octets: u32,
     pictures: &mut [S],
-) -> Result<(Picture<A>, Plan<A>), Fault>
+) -> Result<(PackedPicture<A>, Plan<A>), Fault>
     requires { 0 < length pictures.old }
     ensures len { length pictures.new ≡ length pictures.old }
     ensures failures { Accounts result (counts (sum_by S.failures pictures.old)
         (sum_by S.failures pictures.new) ∷ []) }
 {
-    let picture = read_at(alloc, pictures, 0)?;
+    let picture = read_at(pictures, 0, Vec::new(alloc))?;
     let plan = Plan::new(alloc, picture.format(), max_octets)?;
     Ok((picture, plan))
 }
 
-/// Reads and sends the pictures behind the first, and answers how many datagrams were sent.
-fn send_rest<A: Allocator + Copy, S: ByteSource, K: ByteSink>(
-    alloc: A,
+/// Reads and sends the pictures behind the first, each in the memory of the one before it, and
+/// answers how many datagrams were sent.
+fn send_rest<A: Allocator, S: ByteSource, K: ByteSink>(
     sender: &mut Sender<A, K>,
     pictures: &mut [S],
+    mut room: Vec<u8, A>,
     buf: &mut [u8],
 ) -> Result<u64, Fault>
     requires few { length pictures.old ≤ 10000 }
@@ -234,31 +237,35 @@ fn send_rest<A: Allocator + Copy, S: ByteSource, K: ByteSink>(
         (K.failures sender.new.writer.sink) ∷ []) }
 {
     for place in 1..pictures.len() {
-        let picture = read_at(alloc, pictures, place)?;
+        let picture = read_at(pictures, place, room)?;
         sender.send(&picture, place as u32, buf)?;
+        room = picture.into_octets();
     }
     Ok(sender.sent)
 }
 
-/// Reads the picture of a place.
+/// Reads the picture of a place into this memory.
 fn read_at<A: Allocator, S: ByteSource>(
-    alloc: A,
     pictures: &mut [S],
     place: usize,
-) -> Result<Picture<A>, Fault>
+    room: Vec<u8, A>,
+) -> Result<PackedPicture<A>, Fault>
     requires { place < length pictures.old }
     ensures len { length pictures.new ≡ length pictures.old }
     ensures failures { Accounts result (counts (sum_by S.failures pictures.old)
         (sum_by S.failures pictures.new) ∷ []) }
 {
-    read_one(alloc, &mut pictures[place])
+    read_one(&mut pictures[place], room)
 }
 
-/// Reads a picture.
-fn read_one<A: Allocator, S: ByteSource>(alloc: A, source: &mut S) -> Result<Picture<A>, Fault>
+/// Reads a picture into this memory.
+fn read_one<A: Allocator, S: ByteSource>(
+    source: &mut S,
+    room: Vec<u8, A>,
+) -> Result<PackedPicture<A>, Fault>
     ensures { Accounts result (counts (S.failures source.old) (S.failures source.new) ∷ []) }
 {
-    match read_picture(alloc, source) {
+    match read_packed_picture(source, room) {
         Ok(picture) => Ok(picture),
         Err(fault) => Err(of_picture(fault)),
     }

@@ -5,7 +5,8 @@ ghost use Rattle.file_engines.specs.Fault.{Accounts, counts};
 use crate::fault::{Fault, Refusal};
 use capture_file::{CaptureWriter, Paths};
 use packet_plan::{Plan, Stamp};
-use st_format::{ByteSink, DatagramSink, Format, Picture};
+use pgroup_pack::PackedPicture;
+use st_format::{ByteSink, DatagramSink, Format};
 use std::alloc::Allocator;
 
 /// What `send` is asked for, beside its files.
@@ -56,7 +57,7 @@ impl<A: Allocator, K: ByteSink> Sender<A, K> {
     /// Sends the picture of this place. One of another format is refused.
     pub fn send<B: Allocator>(
         &mut self,
-        picture: &Picture<B>,
+        picture: &PackedPicture<B>,
         place: u32,
         buf: &mut [u8],
     ) -> Result<(), Fault>
@@ -101,7 +102,7 @@ fn same_format(left: Format, right: Format) -> bool
 /// Writes all datagrams of a picture, each over the first octets of `buf`.
 fn put_all<A: Allocator, B: Allocator, K: ByteSink>(
     plan: &Plan<A>,
-    picture: &Picture<B>,
+    picture: &PackedPicture<B>,
     stamp: Stamp,
     buf: &mut [u8],
     writer: &mut CaptureWriter<K>,
@@ -117,7 +118,7 @@ fn put_all<A: Allocator, B: Allocator, K: ByteSink>(
 {
     let packets = plan.len();
     for index in 0..packets {
-        let count = plan.datagram(index, picture, stamp, buf);
+        let count = plan.packed_datagram(index, picture, stamp, buf);
         let Ok(()) = writer.put(&buf[..count]) else {
             return Err(Fault::Device);
         };
