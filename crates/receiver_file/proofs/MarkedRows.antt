@@ -21,6 +21,7 @@ use Rattle.st_format.specs.Raster.{IsWhole, Raster}
 use Rattle.st_format.specs.Device.{AppendsPrefix}
 use Rattle.st_format.specs.Samples.{Spells, bits}
 use Rattle.st_format.proofs.Spelled.{joined_length}
+use Rattle.pgroup_pack.proofs.Parts.{all_first, all_rest, spelled_first, spelled_rest}
 use Rattle.frame_assembly.specs.Packed.{known_value}
 use Rattle.frame_assembly.specs.Rows.{IsMarkOf, IsStateOf, group_cells, row_cells}
 use Rattle.frame_assembly.specs.declared.state.GroupState.TheVariants.{Gone, Whole, Mixed}
@@ -137,54 +138,6 @@ marked_cut size g marks octets old new p =
     subst (AppendsPrefix old new) (sym (marked_split size g marks octets))
     (prefix_first old new (marked_text size (take g marks) octets)
     (marked_text size (drop g marks) (drop (size * g) octets)) p)
-
--- ---- parts of a spelling
-
-bits_first : (n a : ℕ) (xs : List ℕ) → a ≤ length xs
-    → take (n * a) (flat_map (bits n) xs) ≡ flat_map (bits n) (take a xs)
-bits_first n a xs le =
-    ap (λ (t : List ℕ). take (n * a) (flat_map (bits n) t)) (sym (take-append-drop a xs))
-    ∙ ap (take (n * a)) (flat_map-append (bits n) (take a xs) (drop a xs))
-    ∙ take_at (flat_map (bits n) (take a xs)) (flat_map (bits n) (drop a xs)) (n * a)
-    (joined_length n (take a xs) ∙ ap (λ (k : ℕ). n * k) (length-take-le a xs le))
-
-bits_rest : (n a : ℕ) (xs : List ℕ) → a ≤ length xs
-    → drop (n * a) (flat_map (bits n) xs) ≡ flat_map (bits n) (drop a xs)
-bits_rest n a xs le =
-    ap (λ (t : List ℕ). drop (n * a) (flat_map (bits n) t)) (sym (take-append-drop a xs))
-    ∙ ap (drop (n * a)) (flat_map-append (bits n) (take a xs) (drop a xs))
-    ∙ drop_at (flat_map (bits n) (take a xs)) (flat_map (bits n) (drop a xs)) (n * a)
-    (joined_length n (take a xs) ∙ ap (λ (k : ℕ). n * k) (length-take-le a xs le))
-
-all_first : (P : ℕ → Type 0) (a : ℕ) (xs : List ℕ) → AllByRecursion P xs
-    → AllByRecursion P (take a xs)
-all_first P zero xs all = tt
-all_first P (suc a) [] all = tt
-all_first P (suc a) (x ∷ xs) all = (all.0, all_first P a xs all.1)
-
-all_rest : (P : ℕ → Type 0) (a : ℕ) (xs : List ℕ) → AllByRecursion P xs
-    → AllByRecursion P (drop a xs)
-all_rest P zero xs all = all
-all_rest P (suc a) [] all = tt
-all_rest P (suc a) (x ∷ xs) all = all_rest P a xs all.1
-
-spelled_first : (n a b : ℕ) (os vs : List ℕ) → n * b ≡ 8 * a → a ≤ length os → b ≤ length vs
-    → Spells n os vs → Spells n (take a os) (take b vs)
-spelled_first n a b os vs e ale ble s = record {
-  fit = all_first (λ (v : ℕ). v < 2 ^ n) b vs s.fit;
-  same_bits =
-      sym (bits_first 8 a os ale) ∙ ap (take (8 * a)) s.same_bits
-      ∙ ap (λ (k : ℕ). take k (flat_map (bits n) vs)) (sym e) ∙ bits_first n b vs ble;
-}
-
-spelled_rest : (n a b : ℕ) (os vs : List ℕ) → n * b ≡ 8 * a → a ≤ length os → b ≤ length vs
-    → Spells n os vs → Spells n (drop a os) (drop b vs)
-spelled_rest n a b os vs e ale ble s = record {
-  fit = all_rest (λ (v : ℕ). v < 2 ^ n) b vs s.fit;
-  same_bits =
-      sym (bits_rest 8 a os ale) ∙ ap (drop (8 * a)) s.same_bits
-      ∙ ap (λ (k : ℕ). drop k (flat_map (bits n) vs)) (sym e) ∙ bits_rest n b vs ble;
-}
 
 -- ---- the groups of cells
 
