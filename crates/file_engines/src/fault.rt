@@ -13,7 +13,7 @@ use std::fmt;
 
 /// What ends a run before its end.
 #[derive(Clone, Copy, Debug, PartialEq, Eq)]
-pub(crate) enum Fault {
+pub enum Fault {
     /// The words or the files are refused.
     Refused(Refusal),
     /// A device failed.
@@ -24,7 +24,7 @@ pub(crate) enum Fault {
 
 /// Why words or files are refused.
 #[derive(Clone, Copy, Debug, PartialEq, Eq)]
-pub(crate) enum Refusal {
+pub enum Refusal {
     /// The text for a capture is longer than a capture's text may be.
     MigrateSdp,
     /// The window is no text of timestamps.
@@ -129,7 +129,7 @@ pub(crate) fn of_capture(fault: FileFault) -> Fault
 }
 
 /// A fault of a picture's file.
-pub(crate) fn of_picture(fault: FileFault) -> Fault
+pub fn of_picture(fault: FileFault) -> Fault
     ensures { result ≡ picture_fault fault }
 {
     of_file(fault, Refusal::Picture(fault))

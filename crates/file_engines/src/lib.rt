@@ -15,8 +15,13 @@ mod telling;
 mod text;
 
 pub use capture_file::Paths;
-pub use merge::run_merge;
+pub use fault::{Fault, Refusal, of_picture};
+pub use line::Line;
+pub use merge::{read_receiver, run_merge};
 pub use migrate::run_migrate;
+pub use printing::print;
 pub use receive::{Wanted, run_receive};
 pub use send::run_send;
 pub use sender::Sending;
+pub use telling::tell;
+pub use text::room;

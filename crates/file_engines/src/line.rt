@@ -5,7 +5,7 @@ use tool_text::FrameLine;
 
 /// What a run says.
 #[derive(Clone, Copy, Debug, PartialEq, Eq)]
-pub(crate) enum Line {
+pub enum Line {
     /// How many records were written.
     Records(u64),
     /// How many datagrams were sent.

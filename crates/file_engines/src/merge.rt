@@ -117,7 +117,7 @@ fn merge_both<A: Allocator + Copy, L: ByteSource, R: ByteSource>(
 }
 
 /// Reads a receiver's file.
-fn read_receiver<A: Allocator + Copy, S: ByteSource>(
+pub fn read_receiver<A: Allocator + Copy, S: ByteSource>(
     alloc: A,
     source: &mut S,
 ) -> Result<Receiver<A>, Fault>

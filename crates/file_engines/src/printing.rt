@@ -1,6 +1,8 @@
 //! Printing what a run says.
-ghost use Rattle.std.specs.Prelude.{◌∷◌, []};
+ghost use Rattle.std.specs.Prelude.{◌++◌, ◌∷◌, [], OnOk};
+ghost use Rattle.std.specs.Io.KnownBytes.{Appends};
 ghost use Rattle.file_engines.specs.Fault.{Accounts, counts};
+ghost use Rattle.file_engines.specs.Line.{line_text};
 
 use crate::fault::Fault;
 use crate::line::Line;
@@ -29,13 +31,16 @@ pub(crate) fn print_frames<A: Allocator, O: ByteSink>(
     Ok(())
 }
 
-/// Prints a line.
-pub(crate) fn print<A: Allocator, O: ByteSink>(
+/// Prints a line, and an end of line behind it.
+pub fn print<A: Allocator, O: ByteSink>(
     line: Line,
     output: &mut O,
     text: &mut String<A>,
 ) -> Result<(), Fault>
-    ensures { Accounts result (counts (O.failures output.old) (O.failures output.new) ∷ []) }
+    ensures printed { OnOk result
+        (Appends (O.held output.old) (O.held output.new) (line_text line ++ 10 ∷ [])) }
+    ensures failures { Accounts result (counts (O.failures output.old) (O.failures output.new)
+        ∷ []) }
 {
     text.clear();
     writeln!(text, "{line}")?;

@@ -7,7 +7,7 @@ use std::alloc::Allocator;
 use tool_text::{Status, report, tell_device, tell_memory};
 
 /// Prints a fault, and tells how the run ends.
-pub(crate) fn tell<A: Allocator, F: ByteSink>(
+pub fn tell<A: Allocator, F: ByteSink>(
     fault: Fault,
     text: &mut String<A>,
     faults: &mut F,

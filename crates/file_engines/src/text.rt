@@ -81,7 +81,7 @@ fn read_past<A: Allocator, S: ByteSource>(
 }
 
 /// Room for the octets of any datagram, and of a capture's text.
-pub(crate) fn room<A: Allocator>(alloc: A) -> Result<Vec<u8, A>, AllocError>
+pub fn room<A: Allocator>(alloc: A) -> Result<Vec<u8, A>, AllocError>
     ensures { IfOk result (λ room. vec_len room ≡ 65535) }
 {
     vec![in alloc; 0u8; CAPTURE_TEXT]
