@@ -1,0 +1,55 @@
+-- What a receiver has of the turns of a link, one after the other.
+use Rattle.std.proofs.Common.{◌≡◌, ℕ, ◌+◌, ◌≤◌, Bool, true, false, List, [], ◌∷◌, ◌++◌, length, Option}
+use Rattle.std.proofs.Common.{refl, sym, ap, ◌∙◌, arith}
+use Rattle.std.proofs.lemmas.List.{length-append}
+use Rattle.st_format.specs.Raster.{Raster}
+use Rattle.st_format.specs.Turns.{Due, Comes, Nothing, datagrams_of}
+use Rattle.path_merge.specs.declared.receiving.Received.{Received}
+use Rattle.path_merge.specs.Frames.{Holds, State, frames_of, joined_frames}
+use Rattle.path_merge.specs.Opening.{Opening}
+use Rattle.path_merge.specs.Took.{AreTurns, Took}
+use Rattle.path_merge.proofs.Frames.{frames_of-append}
+use Rattle.report_engines.specs.Looping.{Came}
+
+datagrams_of-append : (xs ys : List Due)
+    → datagrams_of (xs ++ ys) ≡ datagrams_of xs ++ datagrams_of ys
+datagrams_of-append [] ys = refl
+datagrams_of-append (Comes path octets ∷ xs) ys =
+    ap (λ (ds : List (List ℕ)). octets ∷ ds) (datagrams_of-append xs ys)
+datagrams_of-append (Nothing ∷ xs) ys = datagrams_of-append xs ys
+
+at_most_one : (ended : Bool) (due : List Due) → AreTurns 1 ended due → length due ≤ 1
+at_most_one true due turns = omega (arith, turns)
+at_most_one false due turns = omega (arith, turns)
+
+-- what came before the first turn
+pub none_came : (s : State) → Holds s [] → Came 0 0 s
+none_came s holds = record { due = []; few = omega arith; count = refl; holds = holds }
+
+-- what came in one turn more
+pub more_came : (turns before : ℕ) (r : Received) (old new : Option (List Due)) (s t : State)
+    → Took 1 r old new s t → Came turns before s → Came (turns + 1) (before + r.delivered) t
+more_came turns before r old new s t took came =
+    let ds : List (List ℕ) = datagrams_of came.due in
+    let xs : List (List ℕ) = datagrams_of took.due in
+    let all : datagrams_of (came.due ++ took.due) ≡ ds ++ xs =
+    datagrams_of-append came.due took.due in
+    record {
+      due = came.due ++ took.due;
+      few =
+          omega (
+            arith,
+            length-append came.due took.due,
+            came.few,
+            at_most_one r.ended took.due took.turns,
+          );
+      count =
+          ap length all
+          ∙ omega (arith, length-append ds xs, came.count, took.taken.count);
+      holds =
+          took.taken.frames
+          ∙ ap (λ (rs : List Raster). joined_frames rs (frames_of s.opening xs)) came.holds
+          ∙ sym (frames_of-append s.opening ds xs)
+          ∙ ap (λ (o : Opening). frames_of o (ds ++ xs)) (sym took.taken.opening)
+          ∙ ap (frames_of t.opening) (sym all);
+    }

@@ -1,0 +1,12 @@
+use Rattle.std.proofs.Common.{◌≡◌, ◌≤◌, length}
+use Rattle.report_engines.specs.Looping.{Came}
+use Rattle.report_engines.proofs.looping.pass.Given as goal
+
+abbrev pub invariant-loop-index : goal.invariant-loop-index
+invariant-loop-index g l = record {
+  room : length l.buf ≡ 65535;
+  few : l.delivered ≤ l.index;
+  came : Came l.index l.delivered l.receiver;
+  opening : l.receiver.opening ≡ l.initial.receiver.opening;
+  failures : g.L.DatagramSink.failures l.link ≡ g.L.DatagramSink.failures l.initial.link;
+}

@@ -1,0 +1,52 @@
+use Rattle.std.proofs.Common.{ℕ, ◌∙◌, subst}
+use Rattle.file_engines.proofs.Merged.{on_ok}
+use Rattle.file_engines.specs.Fault.{counts}
+use Rattle.packet_plan.specs.Plan.{IsFullPlan}
+use Rattle.path_merge.specs.Frames.{State}
+use Rattle.st_format.specs.declared.format.Format.{Format}
+use Rattle.report_engines.specs.Looping.{Came, Loops, Prints}
+use Rattle.report_engines.proofs.Accounting.{accounts_last}
+use Rattle.report_engines.proofs.looping.send_and_look.Goals as goal
+
+pub returns-clause-looped : goal.returns-clause-looped
+returns-clause-looped g c =
+    let given = g.S.ByteSource.to_give c.args.source.now in
+    let old = g.O.ByteSink.held c.args.output.now in
+    let new = g.O.ByteSink.held c.print_passed.new.output in
+    let passed = c.in_ok-passed.passed in
+    let plan = c.in_ok-plan.plan in
+    let receiver : State = c.pass.new.receiver in
+    let max = c.args.wanted.max_octets in
+    let sent = c.in_ok-passed.ensures.sent in
+    on_ok c.print_passed.result (Prints passed.sent passed.delivered receiver old new)
+    (Loops max c.args.wanted.limit given old new)
+    (λ printed. record {
+      picture = c.in_ok-picture.picture;
+      packets = plan.packets;
+      delivered = passed.delivered;
+      receiver = receiver;
+      read = c.in_ok-picture.ensures.found;
+      plan =
+          subst (λ (m : ℕ). IsFullPlan c.in_ok-picture.picture.format m plan.packets)
+          c.in_ok-plan.ensures.made.1
+          (subst (λ (f : Format). IsFullPlan f plan.max_octets plan.packets)
+          (c.in_ok-plan.ensures.made.0 ∙ c.format.ensures.value) c.in_ok-passed.ensures.plan);
+      opening = c.in_ok-passed.ensures.opening ∙ c.in_ok-receiver.ensures.opening;
+      came =
+          subst (λ (n : ℕ). Came n passed.delivered receiver) sent c.in_ok-passed.ensures.came;
+      printed =
+          subst (λ (n : ℕ). Prints n passed.delivered receiver old new) sent printed;
+    })
+    c.print_passed.ensures.printed
+
+pub returns-clause-failures : goal.returns-clause-failures
+returns-clause-failures g c =
+    accounts_last c.print_passed.result
+    (counts (g.S.ByteSource.failures c.args.source.now)
+    (g.S.ByteSource.failures c.read_shown.new.source))
+    (counts (g.L.DatagramSink.failures c.args.link.now)
+    (g.L.DatagramSink.failures c.pass.new.link))
+    (counts (g.O.ByteSink.failures c.args.output.now)
+    (g.O.ByteSink.failures c.print_passed.new.output))
+    c.in_ok-picture.ensures.failures c.in_ok-passed.ensures.failures
+    c.print_passed.ensures.failures

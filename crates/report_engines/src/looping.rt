@@ -1,0 +1,237 @@
+//! The engine of `loop`.
+ghost use Rattle.std.specs.Prelude.{◌≡◌, ◌≢◌, ◌≤◌, ◌<◌, ◌+◌, ◌⊎◌, ◌∷◌, ℕ, List, [], min, length};
+ghost use Rattle.std.specs.Prelude.{IfOk, OnOk, Some};
+ghost use Rattle.std.specs.Io.KnownBytes.{Appends};
+ghost use Rattle.capture_file.specs.PictureFile.{picture_text};
+ghost use Rattle.file_engines.specs.Fault.{Accounts, NoneFailed, OneFailed, counts};
+ghost use Rattle.packet_plan.specs.Plan.{IsFullPlan};
+ghost use Rattle.path_merge.specs.Frames.{Holds};
+ghost use Rattle.tool_text.specs.Telling.{memory_line};
+ghost use Rattle.report_engines.specs.Looping.{Came, Loops, Prints, loop_opening};
+
+use crate::link::DatagramLink;
+use capture_file::read_picture;
+use file_engines::{Fault, Line, of_picture, print, room, tell};
+use packet_plan::{Plan, Stamp};
+use path_merge::{Receiver, receive};
+use st_format::{ByteSink, ByteSource, Picture};
+use std::alloc::Allocator;
+use tool_text::{FrameLine, LINE, Status, tell_memory};
+
+/// What the datagrams of the picture have in common (own).
+const STAMP: Stamp = Stamp {
+    payload_type: 96,
+    first: 0,
+    timestamp: 0,
+    ssrc: 1,
+};
+
+/// What `loop` is asked for, beside its picture.
+#[derive(Clone, Copy, Debug, PartialEq, Eq)]
+pub struct Looping {
+    /// The most octets of a packet.
+    pub max_octets: u32,
+    /// The most turns that are taken from the link.
+    pub limit: u64,
+}
+
+/// How many datagrams were put into a link, and how many came out of it.
+#[derive(Clone, Copy, Debug, PartialEq, Eq)]
+struct Passed {
+    sent: u32,
+    delivered: u64,
+}
+
+/// Sends a picture over a link, and takes what comes out of it into a receiver.
+///
+/// The picture's datagrams are put into the link, one after the other, with payload type 96, number
+/// 0, timestamp 0 and source 1. After each of them one turn of the link is taken; a quiet one
+/// changes nothing. The run ends once all are sent and looked for, or at the limit of turns.
+/// `sent N` and `delivered N` are printed to `output`, and then a line for the frame.
+///
+/// The status is 0; or 1 where the picture is refused or there is no such plan, 3 where a device
+/// failed, and 4 where the allocator refused memory. `faults` is told of it by one line. Then
+/// nothing was printed to `output`, but where `output` failed.
+pub fn run_loop<A, S, L, O, F>(
+    alloc: A,
+    wanted: Looping,
+    picture: &mut S,
+    link: &mut L,
+    output: &mut O,
+    faults: &mut F,
+) -> u8
+where
+    A: Allocator + Copy,
+    S: ByteSource,
+    L: DatagramLink,
+    O: ByteSink,
+    F: ByteSink,
+    ensures range { (result ≡ 0) ⊎ (result ≡ 1) ⊎ (result ≡ 3) ⊎ (result ≡ 4) }
+    ensures device { result ≡ 3
+        → OneFailed (counts (S.failures picture.old) (S.failures picture.new)
+        ∷ counts (L.DatagramSink.failures link.old) (L.DatagramSink.failures link.new)
+        ∷ counts (O.failures output.old) (O.failures output.new)
+        ∷ counts (F.failures faults.old) (F.failures faults.new) ∷ []) }
+    ensures working { result ≢ 3
+        → NoneFailed (counts (S.failures picture.old) (S.failures picture.new)
+        ∷ counts (L.DatagramSink.failures link.old) (L.DatagramSink.failures link.new)
+        ∷ counts (O.failures output.old) (O.failures output.new)
+        ∷ counts (F.failures faults.old) (F.failures faults.new) ∷ []) }
+    // What is printed is that of a receiver which holds the Frames of the datagrams that came in so
+    // many turns as datagrams were sent, of which there are no more than the limit.
+    ensures looped { result ≡ 0 → Loops wanted.max_octets wanted.limit (S.to_give picture.old)
+        (O.held output.old) (O.held output.new) }
+    ensures silent { result ≡ 0 → faults.new ≡ faults.old }
+    ensures memory { result ≡ 4 → Appends (F.held faults.old) (F.held faults.new) memory_line }
+{
+    let Ok(mut text) = String::with_capacity(alloc, LINE) else {
+        return tell_memory(faults).number();
+    };
+    match send_and_look(alloc, wanted, picture, link, output, &mut text) {
+        Ok(()) => Status::Done.number(),
+        Err(fault) => tell(fault, &mut text, faults).number(),
+    }
+}
+
+/// Reads the picture, sends it over the link, takes what comes, and prints it.
+fn send_and_look<A, S, L, O>(
+    alloc: A,
+    wanted: Looping,
+    source: &mut S,
+    link: &mut L,
+    output: &mut O,
+    text: &mut String<A>,
+) -> Result<(), Fault>
+where
+    A: Allocator + Copy,
+    S: ByteSource,
+    L: DatagramLink,
+    O: ByteSink,
+    ensures looped { OnOk result (Loops wanted.max_octets wanted.limit (S.to_give source.old)
+        (O.held output.old) (O.held output.new)) }
+    ensures failures { Accounts result (counts (S.failures source.old) (S.failures source.new)
+        ∷ counts (L.DatagramSink.failures link.old) (L.DatagramSink.failures link.new)
+        ∷ counts (O.failures output.old) (O.failures output.new) ∷ []) }
+{
+    let picture = read_shown(alloc, source)?;
+    let plan = Plan::new(alloc, picture.format(), wanted.max_octets)?;
+    let mut receiver = open(alloc, &picture)?;
+    let mut buf = room(alloc)?;
+    let passed = pass(&plan, &picture, &mut receiver, link, &mut buf, wanted.limit)?;
+    print_passed(passed, &receiver, output, text)
+}
+
+/// Reads a picture.
+fn read_shown<A: Allocator, S: ByteSource>(alloc: A, source: &mut S) -> Result<Picture<A>, Fault>
+    ensures found { IfOk result (λ p. (octets : List ℕ) → S.to_give source.old ≡ Some octets
+        → octets ≡ picture_text p) }
+    ensures failures { Accounts result (counts (S.failures source.old) (S.failures source.new)
+        ∷ []) }
+{
+    match read_picture(alloc, source) {
+        Ok(picture) => Ok(picture),
+        Err(fault) => Err(of_picture(fault)),
+    }
+}
+
+/// A receiver of the datagrams of a picture.
+fn open<A: Allocator + Copy>(alloc: A, picture: &Picture<A>) -> Result<Receiver<A>, Fault>
+    ensures opening { IfOk result (λ r. r.opening ≡ loop_opening picture.now.format) }
+    ensures holds { IfOk result (λ r. Holds r []) }
+    ensures failures { Accounts result [] }
+{
+    let format = picture.format();
+    let window = [STAMP.timestamp];
+    let receiver = Receiver::open(alloc, format, STAMP.payload_type, Some(STAMP.ssrc), &window)?;
+    Ok(receiver)
+}
+
+/// Puts the datagrams of a picture into a link, up to a limit, and takes a turn after each.
+fn pass<A: Allocator, L: DatagramLink>(
+    plan: &Plan<A>,
+    picture: &Picture<A>,
+    receiver: &mut Receiver<A>,
+    link: &mut L,
+    buf: &mut [u8],
+    limit: u64,
+) -> Result<Passed, Fault>
+    requires format { picture.now.format ≡ plan.now.format }
+    requires room { length buf.old ≡ 65535 }
+    requires holds { Holds receiver.old [] }
+    ensures sent { IfOk result (λ p. p.sent ≡ min limit (length plan.now.packets)) }
+    ensures came { IfOk result (λ p. Came p.sent p.delivered receiver.new) }
+    ensures plan { IsFullPlan plan.now.format plan.now.max_octets plan.now.packets }
+    ensures opening { receiver.new.opening ≡ receiver.old.opening }
+    ensures failures { Accounts result
+        (counts (L.DatagramSink.failures link.old) (L.DatagramSink.failures link.new) ∷ []) }
+{
+    let sent = turns_of(plan.len(), limit);
+    let mut delivered = 0;
+    for index in 0..sent {
+        delivered += pass_one(plan, picture, receiver, link, buf, index)?;
+    }
+    Ok(Passed { sent, delivered })
+}
+
+/// How many turns are taken: one for each packet, but at most the limit.
+fn turns_of(packets: u32, limit: u64) -> u32
+    ensures { result ≡ min limit packets }
+{
+    u64::from(packets).min(limit) as u32
+}
+
+/// Puts one datagram into a link and takes a turn, and answers how many datagrams came.
+fn pass_one<A: Allocator, L: DatagramLink>(
+    plan: &Plan<A>,
+    picture: &Picture<A>,
+    receiver: &mut Receiver<A>,
+    link: &mut L,
+    buf: &mut [u8],
+    index: u32,
+) -> Result<u64, Fault>
+    requires plan { IsFullPlan plan.now.format plan.now.max_octets plan.now.packets }
+    requires index { index < length plan.now.packets }
+    requires format { picture.now.format ≡ plan.now.format }
+    requires room { length buf.old ≡ 65535 }
+    ensures room { length buf.new ≡ 65535 }
+    ensures few { IfOk result (λ n. n ≤ 1) }
+    ensures came { IfOk result (λ n. (turns before : ℕ) → Came turns before receiver.old
+        → Came (turns + 1) (before + n) receiver.new) }
+    ensures opening { receiver.new.opening ≡ receiver.old.opening }
+    ensures failures { Accounts result
+        (counts (L.DatagramSink.failures link.old) (L.DatagramSink.failures link.new) ∷ []) }
+{
+    let count = plan.datagram(index, picture, STAMP, buf);
+    let Ok(()) = link.put(&buf[..count]) else {
+        return Err(Fault::Device);
+    };
+    match receive(link, receiver, buf, 1) {
+        Ok(received) => Ok(received.delivered),
+        Err(_) => Err(Fault::Device),
+    }
+}
+
+/// Prints how many datagrams were sent and delivered, and what is then known of the frame.
+fn print_passed<A: Allocator, O: ByteSink>(
+    passed: Passed,
+    receiver: &Receiver<A>,
+    output: &mut O,
+    text: &mut String<A>,
+) -> Result<(), Fault>
+    requires { receiver.now.opening.window ≡ STAMP.timestamp ∷ [] }
+    ensures printed { OnOk result (Prints passed.sent passed.delivered receiver.now
+        (O.held output.old) (O.held output.new)) }
+    ensures failures { Accounts result (counts (O.failures output.old) (O.failures output.new)
+        ∷ []) }
+{
+    print(Line::Sent(u64::from(passed.sent)), output, text)?;
+    print(Line::Delivered(passed.delivered), output, text)?;
+    let Some(frame) = receiver.frame(STAMP.timestamp) else {
+        return Ok(());
+    };
+    let line = FrameLine {
+        timestamp: STAMP.timestamp,
+        counts: frame.counts(),
+    };
+    print(Line::Frame(line), output, text)
+}

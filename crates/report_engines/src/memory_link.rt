@@ -1,0 +1,133 @@
+//! A link over vectors that never grow.
+ghost use Rattle.std.specs.Prelude.{◌≡◌, ◌+◌, ◌-◌, ◌^◌, ◌≤◌, [], length, min, None, Some, Err};
+
+use crate::link::DatagramLink;
+use st_format::memory::MemoryDatagrams;
+use st_format::{DatagramSink, DatagramSource, Path, SinkFault, SourceFault, Turn};
+use std::alloc::{Allocator, Global};
+
+/// Takes each datagram into the next one of some slots, and gives in each turn the one that is to
+/// come then, by path A: so it repeats, reorders and loses as it is told to. It fails at one call
+/// if it is told to, and where there is no slot or no room in it.
+#[derive(Drop)]
+pub struct MemoryLink<A: Allocator = Global> {
+    puts: MemoryDatagrams<A>,
+    comes: Vec<Option<usize>, A>,
+    turns: usize,
+    fails_in: u64,
+    delivered: u64,
+    failures: u64,
+    last_fault: Option<SourceFault>,
+}
+
+impl<A: Allocator> MemoryLink<A> {
+    /// A link with these slots, of which each takes a datagram of up to its capacity.
+    ///
+    /// `comes` says of each turn which datagram comes then, by its place among those that were put
+    /// into the link. A turn is quiet where it says none, where there is no such datagram yet, and
+    /// behind the last. The call `fails_in` fails, counted from 1; 0 means that none does.
+    pub fn new(slots: Vec<Vec<u8, A>, A>, comes: Vec<Option<usize>, A>, fails_in: u64) -> Self
+        ensures tells { ⟦<MemoryLink<A> as DatagramSink>⟧.taken result ≡ Some [] }
+        ensures undelivered { ⟦<MemoryLink<A> as DatagramSource>⟧.delivered result ≡ 0 }
+        ensures unfailed { ⟦<MemoryLink<A> as DatagramSource>⟧.failures result ≡ 0 }
+    {
+        MemoryLink {
+            puts: MemoryDatagrams::new(slots, 0),
+            comes,
+            turns: 0,
+            fails_in,
+            delivered: 0,
+            failures: 0,
+            last_fault: None,
+        }
+    }
+
+    /// How many turns it was asked for.
+    pub fn turns(&self) -> usize {
+        self.turns
+    }
+
+    /// How often it has failed.
+    pub fn failures(&self) -> u64
+        ensures tells { result ≡ ⟦<MemoryLink<A> as DatagramSource>⟧.failures self.now }
+    {
+        self.failures
+    }
+
+    /// Whether this call is the one that fails.
+    fn fails_now(&mut self) -> bool
+        ensures puts { self.new.puts ≡ self.old.puts }
+        ensures failures { self.new.failures ≡ self.old.failures }
+        ensures delivered { self.new.delivered ≡ self.old.delivered }
+        ensures last { self.new.last_fault ≡ self.old.last_fault }
+    {
+        let fails = self.fails_in == 1;
+        self.fails_in = self.fails_in.saturating_sub(1);
+        fails
+    }
+
+    /// The datagram that comes in this turn, where one comes.
+    fn due(&self) -> Option<&[u8]> {
+        if self.turns >= self.comes.len() {
+            return None;
+        }
+        let place = self.comes[self.turns]?;
+        let taken = self.puts.taken();
+        if place < taken.len() {
+            Some(&taken[place])
+        } else {
+            None
+        }
+    }
+}
+
+impl<A: Allocator> DatagramSink for MemoryLink<A> {
+    ghost taken = { λ l. Some l.puts.taken };
+
+    ghost failures = { λ l. l.failures };
+
+    fn put(&mut self, octets: &[u8]) -> Result<(), SinkFault> {
+        if !self.fails_now() && self.puts.put(octets).is_ok() {
+            return Ok(());
+        }
+        self.failures = self.failures.saturating_add(1);
+        Err(SinkFault)
+    }
+}
+
+impl<A: Allocator> DatagramSource for MemoryLink<A> {
+    ghost turns = { λ _. None };
+
+    ghost delivered = { λ l. l.delivered };
+
+    ghost failures = { λ l. l.failures };
+
+    ghost last_fault = { λ l. l.last_fault };
+
+    /// What comes isn't told before, since it may still be put in. A datagram of more than 65,535
+    /// octets is none.
+    fn next(&mut self, buf: &mut [u8]) -> Result<Turn, SourceFault> {
+        if self.fails_now() {
+            self.failures = self.failures.saturating_add(1);
+            self.last_fault = Some(SourceFault::Device);
+            return Err(SourceFault::Device);
+        }
+        let turn = match self.due() {
+            Some(octets) if octets.len() <= 65535 => {
+                let count = octets.len();
+                buf[..count].copy_from_slice(octets);
+                self.delivered = self.delivered.saturating_add(1);
+                Turn::Datagram(Path::A, count)
+            }
+            _ => Turn::Quiet,
+        };
+        self.turns = self.turns.saturating_add(1);
+        Ok(turn)
+    }
+}
+
+impl<A: Allocator> DatagramLink for MemoryLink<A> {
+    ghost use Rattle.std.specs.Prelude.{refl};
+
+    ghost one_count = { λ _. refl };
+}
