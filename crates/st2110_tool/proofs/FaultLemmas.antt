@@ -1,12 +1,12 @@
 -- Lines of `trace` at which a script is at fault: a text is a line in one way, as far as it may be
 -- unfit.
-use Rattle.std.proofs.Common.{◌≡◌, ◌↔◌, ◌⊎◌, inl, inr, ℕ, List, ◌++◌, codes, length, ◌≤◌, Option}
+use Rattle.std.proofs.Common.{◌≡◌, ◌↔◌, inl, inr, ℕ, List, ◌++◌, codes, length, ◌≤◌, Option}
 use Rattle.std.proofs.Common.{Some, None, IfNone, Result, Ok, Err, OnOk, refl, ap, subst, sym, ◌∙◌}
 use Rattle.std.proofs.Common.{arith, take, length-take-le}
 use Rattle.path_merge.specs.Numbers.{Numbers}
 use Rattle.st_format.specs.declared.path.Path.TheVariants as path
 use Rattle.st2110_tool.specs.declared.fault.Fault.{Fault}
-use Rattle.st2110_tool.specs.declared.fault.Fault.TheVariants.{Script}
+use Rattle.st2110_tool.specs.declared.fault.Fault.TheVariants.{Memory, Script}
 use Rattle.st2110_tool.specs.declared.line.TraceLine.{TraceLine}
 use Rattle.st2110_tool.specs.declared.line.TraceLine.TheVariants.{Datagram, Slide, Cell}
 use Rattle.st2110_tool.specs.declared.line.TraceLine.TheVariants as line
@@ -82,6 +82,14 @@ pub never : {V : Type 0} (text : List ℕ) (number room : ℕ) (noted : Option N
     → (◌≡◌ {A = Result V Fault} (Ok v) (Err (Script n)))
     ↔ ((n ≡ number) × IsAtFault text room noted)
 never text number room noted b v is fit n =
+    (λ e. absurd cc, λ u. absurd (fit (unfit_of text room noted b is u.1)))
+
+-- nor is one at which memory is wanted
+pub wanted : {V : Type 0} (text : List ℕ) (number room : ℕ) (noted : Option Numbers) (b : TraceLine)
+    (r : Result V Fault) (f : Fault) → IsTraceLine text b → (IsUnfit b room noted → ⊥)
+    → r ≡ Err f → f ≡ Memory → (n : ℕ)
+    → (r ≡ Err (Script n)) ↔ ((n ≡ number) × IsAtFault text room noted)
+wanted text number room noted b r f is fit err memory n =
     (λ e. absurd cc, λ u. absurd (fit (unfit_of text room noted b is u.1)))
 
 -- the fault of a run that ended by one

@@ -1,10 +1,12 @@
 //! What the lines of a script are followed with.
-ghost use Rattle.std.specs.Prelude.{◌≡◌, ◌≢◌, ◌↔◌, ◌∷◌, [], ℕ, IfErr, IfOk, IsErrOf, None, OnOk};
-ghost use Rattle.std.specs.Prelude.{Some};
+ghost use Rattle.std.specs.Prelude.{◌≡◌, ◌≢◌, ◌↔◌, ◌∷◌, [], ℕ, IfErr, IfOk, IfSome, IsErr, IsErrOf};
+ghost use Rattle.std.specs.Prelude.{None, Ok, OnOk, Some};
+ghost use Rattle.std.proofs.Props.{props};
 ghost use Rattle.path_merge.specs.Answers.{refusals_after, taken_at};
 ghost use Rattle.path_merge.specs.Frames.{cell_in, frames_of, joined_frames};
 ghost use Rattle.path_merge.specs.Numbers.{IsCount};
 ghost use Rattle.st_format.specs.Member.{IsMember};
+ghost use Rattle.st_format.specs.Raster.{Raster};
 ghost use Rattle.st2110_tool.specs.Session.{IsPlace, IsSlide, cell_answer, datagram_answer};
 ghost use Rattle.st2110_tool.specs.Session.{no_numbers, numbers_after, position_of, with_number};
 
@@ -20,31 +22,26 @@ use std::alloc::{AllocError, Allocator};
 #[derive(Drop)]
 pub(crate) struct Session<A: Allocator> {
     pub receiver: Receiver<A>,
-    /// The frame that a slide exchanges for the one that leaves.
-    spare: Frame<A>,
+    /// The frame that a slide exchanges for the one that leaves: made at the first slide.
+    spare: Option<Frame<A>>,
     /// The numbers of the datagrams that were kept since the line `numbers`.
     pub numbers: Option<SeqMap<A>>,
-    ghost alike: { spare.format ≡ receiver.opening.format },
-}
-
-impl<A: Allocator + Copy> Session<A> {
-    /// A receiver with a spare frame of its format, and no numbers.
-    ///
-    /// `AllocError` comes only where the allocator refused the memory for the frame.
-    pub fn new(alloc: A, receiver: Receiver<A>) -> Result<Session<A>, AllocError>
-        ensures receiver { IfOk result (λ s. s.receiver ≡ receiver) }
-        ensures numbers { IfOk result (λ s. s.numbers ≡ None) }
-    {
-        let spare = Frame::new(alloc, receiver.format())?;
-        Ok(Session {
-            receiver,
-            spare,
-            numbers: None,
-        })
-    }
+    ghost alike: { IfSome spare (λ frame. frame.format ≡ receiver.opening.format) } by { Prim.hlevel props },
 }
 
 impl<A: Allocator> Session<A> {
+    /// A receiver, with no spare frame and no numbers yet.
+    pub fn new(receiver: Receiver<A>) -> Session<A>
+        ensures receiver { result.receiver ≡ receiver }
+        ensures numbers { result.numbers ≡ None }
+    {
+        Session {
+            receiver,
+            spare: None,
+            numbers: None,
+        }
+    }
+
     /// Takes a datagram, and notes its number where it is kept.
     pub fn take(&mut self, path: Path, octets: &[u8]) -> Answer
         ensures answer { result ≡ datagram_answer (taken_at self.old.receiver.opening octets.now) }
@@ -63,23 +60,6 @@ impl<A: Allocator> Session<A> {
             }
             Ok(Taken::Outside) => Answer::Outside,
             Err(refusal) => Answer::Refused(refusal),
-        }
-    }
-
-    /// Moves the window on to a timestamp, and tells of the frame that leaves. Frames swap places.
-    pub fn slide(&mut self, next: u32) -> Answer
-        ensures refused { IsMember next self.old.receiver.opening.window
-            → (result ≡ Answer.NotSlid SlideFault.InWindow)
-            × (self.new.receiver ≡ self.old.receiver) }
-        ensures slid { (IsMember next self.old.receiver.opening.window → ⊥)
-            → IsSlide self.old.receiver next self.new.receiver self.new.spare result }
-        ensures numbers { self.new.numbers ≡ self.old.numbers }
-    {
-        // What its format tells: each of its frames has it
-        self.receiver.format();
-        match self.receiver.slide(next, &mut self.spare) {
-            Ok(first) => Answer::Out(first, self.spare.counts()),
-            Err(fault) => Answer::NotSlid(fault),
         }
     }
 
@@ -130,6 +110,52 @@ impl<A: Allocator> Session<A> {
             Cell::Missing => Answer::Missing,
             Cell::Value(value) => Answer::Value(value),
             Cell::Contested => Answer::Contested,
+        }
+    }
+}
+
+impl<A: Allocator + Copy> Session<A> {
+    /// Moves the window on to a timestamp, and tells of the frame that leaves. Frames swap places:
+    /// the first slide makes the one that comes in, and each later one has that of the slide before.
+    ///
+    /// `AllocError` comes only where the allocator refused the memory for the first slide's frame,
+    /// and nothing has changed then.
+    pub fn slide(&mut self, alloc: A, next: u32) -> Result<Answer, AllocError>
+        ensures refused { IsMember next self.old.receiver.opening.window
+            → (result ≡ Ok (Answer.NotSlid SlideFault.InWindow))
+            × (self.new.receiver ≡ self.old.receiver) }
+        ensures slid { (IsMember next self.old.receiver.opening.window → ⊥)
+            → IfOk result (λ answer. (spare : Raster) × (self.new.spare ≡ Some spare)
+            × IsSlide self.old.receiver next self.new.receiver spare answer) }
+        ensures memory { IfErr result (λ _. (self.old.spare ≡ None)
+            × (self.new.spare ≡ None) × (self.new.receiver ≡ self.old.receiver)) }
+        ensures numbers { self.new.numbers ≡ self.old.numbers }
+    {
+        if self.receiver.frame(next).is_some() {
+            return Ok(Answer::NotSlid(SlideFault::InWindow));
+        }
+        let mut spare = self.spare_frame(alloc)?;
+        let slid = self.receiver.slide(next, &mut spare);
+        let counts = spare.counts();
+        self.spare = Some(spare);
+        Ok(match slid {
+            Ok(first) => Answer::Out(first, counts),
+            Err(fault) => Answer::NotSlid(fault),
+        })
+    }
+
+    /// The frame that the slide before brought out, or, where there was none, a new one.
+    fn spare_frame(&mut self, alloc: A) -> Result<Frame<A>, AllocError>
+        ensures format { IfOk result
+            (λ frame. frame.format ≡ self.old.receiver.opening.format) }
+        ensures memory { IsErr result → self.old.spare ≡ None }
+        ensures spare { self.new.spare ≡ None }
+        ensures receiver { self.new.receiver ≡ self.old.receiver }
+        ensures numbers { self.new.numbers ≡ self.old.numbers }
+    {
+        match self.spare.take() {
+            Some(frame) => Ok(frame),
+            None => Frame::new(alloc, self.receiver.format()),
         }
     }
 }

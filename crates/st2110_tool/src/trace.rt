@@ -94,7 +94,7 @@ fn play<A: Allocator + Copy, O: ByteSink>(
     let mut lines = Lines::new(&script.octets);
     let format = read_format(&mut lines)?;
     let receiver = open_receiver(alloc, format, &mut lines)?;
-    let mut session = Session::new(alloc, receiver)?;
+    let mut session = Session::new(receiver);
     play_lines(alloc, &mut lines, &mut session, output, text)?;
     if script.is_cut {
         return Err(Fault::Script(lines.following()));
@@ -164,7 +164,7 @@ fn play_line<A: Allocator + Copy, O: ByteSink>(
 }
 
 /// Follows a line, and tells what is to be printed, if anything.
-fn answer_to<A: Allocator>(
+fn answer_to<A: Allocator + Copy>(
     alloc: A,
     line: Line<'_>,
     session: &mut Session<A>,
@@ -187,7 +187,7 @@ fn answer_to<A: Allocator>(
             Some(n) => Some(session.take(path, &octets[..n])),
             None => return Err(Fault::Script(line.number)),
         },
-        TraceLine::Slide(next) => Some(session.slide(next)),
+        TraceLine::Slide(next) => Some(session.slide(alloc, next)?),
         TraceLine::Numbers(first, count) => {
             match session.open_numbers(alloc, line.number, first, count) {
                 Ok(()) => None,

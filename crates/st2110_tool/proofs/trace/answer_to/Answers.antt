@@ -1,27 +1,43 @@
-use Rattle.std.proofs.Common.{Option, Some, ap, inl, inr, length, refl, subst}
+use Rattle.std.proofs.Common.{◌≡◌, Option, Some, Result, Ok, inl, inr, length, refl, subst}
+use Rattle.std.proofs.lemmas.Result.{err_from_is_err_and}
 use Rattle.st2110_tool.specs.declared.answer.Answer.{Answer}
 use Rattle.st2110_tool.specs.declared.line.TraceLine.{TraceLine}
 use Rattle.st2110_tool.specs.declared.line.TraceLine.TheVariants.{Cell, Datagram, Numbers, Slide}
 use Rattle.st2110_tool.specs.Forms.{IsTraceLine}
 use Rattle.st2110_tool.specs.Session.{IsAtFault}
 use Rattle.st2110_tool.proofs.FaultLemmas.{never, nothing_read, some_fit, told, told_by}
+use Rattle.st2110_tool.proofs.FaultLemmas.{wanted}
 use Rattle.st2110_tool.proofs.trace.answer_to.Goals as goal
 
-pub returns-in-Slide-clause-follows : goal.returns-in-Slide-clause-follows
-returns-in-Slide-clause-follows g c = (
+-- answers that a call gives are told alike
+same_answer : {E : Type 0} (a b : Answer) → ◌≡◌ {A = Result Answer E} (Ok a) (Ok b)
+    → ◌≡◌ {A = Option Answer} (Some a) (Some b)
+same_answer a b e = cc
+
+pub returns-in_ok-slide-in-Slide-clause-follows : goal.returns-in_ok-slide-in-Slide-clause-follows
+returns-in_ok-slide-in-Slide-clause-follows g c = (
   Slide c.in-Slide.next,
   subst (λ (said : TraceLine). IsTraceLine c.args.line.text.now said) c.in-Slide.is
       c.in-Some.ensures.is,
   record {
     refused = λ m.
-        let r = c.slide.ensures.refused m in (ap (λ (a : Answer). some_answer a) r.0, r.1);
-    slid = λ out. (c.slide.new.self.spare, c.slide.result, refl, c.slide.ensures.slid out);
+        let r = c.in_ok-slide-in-Slide.ensures.refused m in
+        (same_answer c.in_ok-slide-in-Slide.field-0 _ r.0, r.1);
+    slid = λ out.
+        let r = c.in_ok-slide-in-Slide.ensures.slid out in
+        (r.0, c.in_ok-slide-in-Slide.field-0, refl, r.2);
     numbers = c.slide.ensures.numbers;
   },
 )
-  where
-    some_answer : Answer → Option Answer
-    some_answer a = Some a
+
+pub returns-in_err-slide-in-Slide-clause-script : goal.returns-in_err-slide-in-Slide-clause-script
+returns-in_err-slide-in-Slide-clause-script g c =
+    let p = err_from_is_err_and c.from_residual.result c.from_residual.ensures.1 in
+    wanted c.args.line.text.now c.args.line.number (length c.args.octets.now)
+    c.args.session.now.numbers (Slide c.in-Slide.next) c.from_residual.result p.0
+    (subst (λ (said : TraceLine). IsTraceLine c.args.line.text.now said) c.in-Slide.is
+    c.in-Some.ensures.is)
+    (λ unfit. unfit) p.1 p.2
 
 pub returns-in_default-clause-script : goal.returns-in_default-clause-script
 returns-in_default-clause-script g c =
@@ -51,8 +67,8 @@ returns-in-Some-read_octets-clause-script g c =
     (length c.args.octets.now) c.in-Some-read_octets.ensures.within
     c.in-Some-read_octets.ensures.room c.in-Some-read_octets.ensures.is)
 
-pub returns-in-Slide-clause-script : goal.returns-in-Slide-clause-script
-returns-in-Slide-clause-script g c =
+pub returns-in_ok-slide-in-Slide-clause-script : goal.returns-in_ok-slide-in-Slide-clause-script
+returns-in_ok-slide-in-Slide-clause-script g c =
     never c.args.line.text.now c.args.line.number (length c.args.octets.now)
     c.args.session.now.numbers (Slide c.in-Slide.next) _
     (subst (λ (said : TraceLine). IsTraceLine c.args.line.text.now said) c.in-Slide.is
