@@ -2,44 +2,71 @@
 use crate::checks::met;
 use crate::small_format::KINDS;
 use frame_assembly::{Base, Frame};
-use packet_plan::Plan;
-use path_merge::Receiver;
-use st_format::{Depth, Format, Picture, Sampling};
-use std::alloc::Global;
+use packet_plan::{Plan, PlanFault};
+use path_merge::{OpenFault, Receiver};
+use st_format::{Depth, Format, Picture, PictureFault, Sampling};
+use std::alloc::{AllocError, Global};
 use std::process::Abort;
 use std::test::Fail;
 
-/// Whether a frame of nothing settles to the picture of zeros, each over memory of its own.
-fn settles(alloc: Global, format: Format) -> Result<bool, Fail> {
+/// The picture of zeros, copied over memory of its own.
+fn zeros(alloc: Global, format: Format) -> Result<Picture, PictureFault> {
+    Picture::new(alloc, format, [0, 0, 0])?.try_copy(alloc)
+}
+
+/// Whether a frame of nothing settles to a picture.
+fn settles(alloc: Global, format: Format, picture: &Picture) -> Result<bool, AllocError> {
     let copy = Frame::new(alloc, format)?.try_copy(alloc)?;
     let settled = copy.settle(alloc, Base::<Global>::Fill([0, 0, 0]))?;
-    let picture = Picture::new(alloc, format, [0, 0, 0])?.try_copy(alloc)?;
-    Ok(settled.same(&picture))
+    Ok(settled.same(picture))
+}
+
+/// Whether there are packets of at most so many octets.
+fn are_planned(alloc: Global, format: Format, size: u32) -> Result<bool, PlanFault> {
+    Ok(Plan::new(alloc, format, size)?.len() > 0)
+}
+
+/// The same of the least size and of greater ones.
+fn sizes_are_planned(alloc: Global, format: Format) -> Result<bool, PlanFault> {
+    let least = are_planned(alloc, format, 20 + format.pgroup().octets as u32)?;
+    Ok(least && are_planned(alloc, format, 1400)? && are_planned(alloc, format, 9000)?)
+}
+
+/// Whether a receiver of a frame is opened.
+fn is_opened(alloc: Global, format: Format) -> Result<bool, OpenFault> {
+    let receiver = Receiver::open(alloc, format, 96, None, &[900])?;
+    Ok(receiver.frame(900).is_some())
 }
 
 /// Whether each call that wants memory for a frame, a picture, a plan or a receiver of a format has
 /// it: any refusal is an Err.
 fn has_memory(alloc: Global, format: Format) -> Result<bool, Fail> {
-    let least = 20 + format.pgroup().octets as u32;
-    let mut are_planned = true;
-    for size in [least, 1400, 9000] {
-        are_planned = are_planned && Plan::new(alloc, format, size)?.len() > 0;
-    }
-    let receiver = Receiver::open(alloc, format, 96, None, &[900])?;
-    Ok(are_planned && receiver.frame(900).is_some() && settles(alloc, format)?)
+    let is_settled = settles(alloc, format, &zeros(alloc, format)?)?;
+    Ok(is_settled && sizes_are_planned(alloc, format)? && is_opened(alloc, format)?)
 }
 
-/// Widths of 4 to 64, which are whole pgroups of each sampling and depth, and heights of 1 to 3.
-fn sizes_have_memory(alloc: Global, sampling: Sampling, depth: Depth) -> Result<bool, Fail> {
-    for quarter in 1..17u32 {
-        for height in 1..4u32 {
-            let format = Format::new(sampling, depth, quarter * 4, height, 60, 1)?;
-            if !has_memory(alloc, format)? {
-                return Ok(false);
-            }
-        }
+/// The same of a width, and heights of 1 to 3.
+fn heights_have_memory(
+    alloc: Global,
+    sampling: Sampling,
+    depth: Depth,
+    width: u32,
+) -> Result<bool, Fail> {
+    let mut have = true;
+    for height in 1..4u32 {
+        let format = Format::new(sampling, depth, width, height, 60, 1)?;
+        have &= has_memory(alloc, format)?;
     }
-    Ok(true)
+    Ok(have)
+}
+
+/// The same of widths of 4 to 64, which are whole pgroups of each sampling and depth.
+fn sizes_have_memory(alloc: Global, sampling: Sampling, depth: Depth) -> Result<bool, Fail> {
+    let mut have = true;
+    for quarter in 1..17u32 {
+        have &= heights_have_memory(alloc, sampling, depth, quarter * 4)?;
+    }
+    Ok(have)
 }
 
 #[test]

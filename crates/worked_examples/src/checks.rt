@@ -1,6 +1,9 @@
 //! What a test asserts: an assertion is proved with all that is known where it stands, so that here
 //! are the few.
+use std::alloc::Global;
+use std::fmt::Display;
 use std::process::Abort;
+use std::test::Fail;
 
 /// The test is met.
 pub fn met(rt: &impl Abort, is_met: bool) {
@@ -10,4 +13,9 @@ pub fn met(rt: &impl Abort, is_met: bool) {
 /// No case of the test fails; else this is the place of the first that does.
 pub fn none_fails(rt: &impl Abort, failing: Option<u64>) {
     assert_eq!(rt; failing, None);
+}
+
+/// Whether a fault is printed as its name.
+pub fn is_named<F: Display>(alloc: Global, fault: &F, name: &str) -> Result<bool, Fail> {
+    Ok(format!(in alloc; "{fault}")?.as_str() == name)
 }

@@ -1,6 +1,7 @@
 //! Runs over devices that move one octet a call, and that fail at each of their calls in turn.
 use crate::checks::met;
 use crate::running::{Failing, Ran, SOUND, run};
+use std::alloc::AllocError;
 use std::process::Abort;
 use std::test::Fail;
 
@@ -40,24 +41,50 @@ fn first(octets: &[u8], count: u64) -> &[u8] {
     &octets[..(count as usize).min(octets.len())]
 }
 
+/// Whether a run ends as it should whose source fails at a call, or is done before that.
+fn ends_at_source(
+    rt: &(impl Abort + AllocGlobal),
+    call: u64,
+    is_done: bool,
+) -> Result<bool, AllocError> {
+    let failing = Failing {
+        source: call,
+        ..SOUND
+    };
+    let run = run(rt, rt.alloc(), SCRIPT, 1, failing)?;
+    Ok(if is_done {
+        run.status == 0
+    } else {
+        ended(&run, 3, b"", DEVICE)
+    })
+}
+
 /// A source of n octets, one a call, is called n + 1 times, the last time for its end.
 #[test]
 fn a_source_that_fails(rt: HostRuntime) -> Result<(), Fail> {
     let calls = SCRIPT.len() as u64 + 1;
     for call in 1..calls + 2 {
-        let failing = Failing {
-            source: call,
-            ..SOUND
-        };
-        let run = run(&rt, rt.alloc(), SCRIPT, 1, failing)?;
-        let is_met = if call > calls {
-            run.status == 0
-        } else {
-            ended(&run, 3, b"", DEVICE)
-        };
-        met(&rt, is_met);
+        met(&rt, ends_at_source(&rt, call, call > calls)?);
     }
     Ok(())
+}
+
+/// The same of a run whose output fails.
+fn ends_at_output(
+    rt: &(impl Abort + AllocGlobal),
+    call: u64,
+    is_done: bool,
+) -> Result<bool, AllocError> {
+    let failing = Failing {
+        output: call,
+        ..SOUND
+    };
+    let run = run(rt, rt.alloc(), SCRIPT, 1, failing)?;
+    Ok(if is_done {
+        run.status == 0
+    } else {
+        ended(&run, 3, first(OUTPUT, call.saturating_sub(1)), DEVICE)
+    })
 }
 
 /// An output that takes one octet a call holds what it took before the call that fails.
@@ -65,17 +92,7 @@ fn a_source_that_fails(rt: HostRuntime) -> Result<(), Fail> {
 fn an_output_that_fails(rt: HostRuntime) -> Result<(), Fail> {
     let calls = OUTPUT.len() as u64;
     for call in 1..calls + 2 {
-        let failing = Failing {
-            output: call,
-            ..SOUND
-        };
-        let run = run(&rt, rt.alloc(), SCRIPT, 1, failing)?;
-        let is_met = if call > calls {
-            run.status == 0
-        } else {
-            ended(&run, 3, first(OUTPUT, call - 1), DEVICE)
-        };
-        met(&rt, is_met);
+        met(&rt, ends_at_output(&rt, call, call > calls)?);
     }
     Ok(())
 }

@@ -107,34 +107,61 @@ fn run_engine(
     engine: Engine,
     nth: u64,
 ) -> Result<Ran, AllocError> {
-    let mut first = input(rt, engine);
-    let (mut written, mut printed, mut told) = (sink(rt), sink(rt), sink(rt));
+    let first = input(rt, engine);
     refusing.refuse(nth);
-    let (source, output, faults) = (&mut first, &mut printed, &mut told);
-    let status = match engine {
-        Engine::Migrate => {
-            run_migrate(
-                refusing,
-                &mut text(rt),
-                source,
-                &mut written,
-                output,
-                faults,
-            )
-        }
-        Engine::Merge => {
-            let mut second = input(rt, engine);
-            run_merge(refusing, source, &mut second, &mut written, output, faults)
-        }
-        Engine::Receive => return run_receive_of(rt, refusing, first, nth),
-        Engine::Send => return Ok(run_send_of(rt, refusing, first)),
-    };
-    Ok(Ran {
+    match engine {
+        Engine::Migrate => Ok(run_migrate_of(rt, refusing, first)),
+        Engine::Merge => Ok(run_merge_of(rt, refusing, first)),
+        Engine::Receive => run_receive_of(rt, refusing, first, nth),
+        Engine::Send => Ok(run_send_of(rt, refusing, first)),
+    }
+}
+
+/// A run of `migrate`.
+fn run_migrate_of(
+    rt: &(impl Abort + AllocGlobal),
+    refusing: &Refusing<Global>,
+    mut capture: MemorySource,
+) -> Ran {
+    let (mut written, mut printed, mut told) = (sink(rt), sink(rt), sink(rt));
+    let status = run_migrate(
+        refusing,
+        &mut text(rt),
+        &mut capture,
+        &mut written,
+        &mut printed,
+        &mut told,
+    );
+    Ran {
         status,
         written,
         printed,
         told,
-    })
+    }
+}
+
+/// A run of `merge` of a receiver and the same again.
+fn run_merge_of(
+    rt: &(impl Abort + AllocGlobal),
+    refusing: &Refusing<Global>,
+    mut left: MemorySource,
+) -> Ran {
+    let mut right = input(rt, Engine::Merge);
+    let (mut written, mut printed, mut told) = (sink(rt), sink(rt), sink(rt));
+    let status = run_merge(
+        refusing,
+        &mut left,
+        &mut right,
+        &mut written,
+        &mut printed,
+        &mut told,
+    );
+    Ran {
+        status,
+        written,
+        printed,
+        told,
+    }
 }
 
 /// A run of `receive` over one capture. The list of captures is made before a growth is refused.

@@ -1,6 +1,7 @@
 //! *rehearsal-script* through the engine: failing devices, and wants of memory.
+use crate::checks::met;
 use crate::running::{Failing, Ran, SOUND, play_script};
-use std::alloc::Allocator;
+use std::alloc::{AllocError, Allocator};
 use std::process::Abort;
 use std::test::Fail;
 
@@ -49,20 +50,31 @@ fn ends_by_a_device(run: &Ran) -> bool {
         && OUTPUT.as_bytes().starts_with(run.printed())
 }
 
+/// The script's run over devices that move one octet a call.
+fn slow(rt: &(impl Abort + AllocGlobal), failing: Failing) -> Result<Ran, AllocError> {
+    play_script(rt, rt.alloc(), SCRIPT.as_bytes(), 1, failing)
+}
+
+/// Whether the source's fault at a call ends the run.
+fn ends_at_source(rt: &(impl Abort + AllocGlobal), call: u64) -> Result<bool, AllocError> {
+    Ok(ends_by_a_device(&slow(rt, failing(call, 0))?))
+}
+
+/// Whether the output's fault at a call ends the run, and all before it is printed.
+fn ends_at_output(rt: &(impl Abort + AllocGlobal), call: u64) -> Result<bool, AllocError> {
+    let run = slow(rt, failing(0, call))?;
+    Ok(ends_by_a_device(&run) && run.printed().len() as u64 == call.saturating_sub(1))
+}
+
 /// Devices that move one octet a call, and fail at each call in turn.
 #[test]
 fn devices(rt: HostRuntime) -> Result<(), Fail> {
-    let calls = SCRIPT.len() as u64 + 1;
-    for call in 1..calls.saturating_add(1) {
-        let run = play_script(&rt, rt.alloc(), SCRIPT.as_bytes(), 1, failing(call, 0))?;
-        assert!(rt; ends_by_a_device(&run), "source {call}");
+    for call in 1..SCRIPT.len() as u64 + 2 {
+        met(&rt, ends_at_source(&rt, call)?);
     }
     for call in 1..OUTPUT.len() as u64 {
-        let run = play_script(&rt, rt.alloc(), SCRIPT.as_bytes(), 1, failing(0, call))?;
-        assert!(rt; ends_by_a_device(&run), "output {call}");
-        assert_eq!(rt; run.printed().len() as u64, call.saturating_sub(1));
+        met(&rt, ends_at_output(&rt, call)?);
     }
-    let sound = play_script(&rt, rt.alloc(), SCRIPT.as_bytes(), 1, SOUND)?;
-    assert!(rt; is_rehearsal(&sound));
+    met(&rt, is_rehearsal(&slow(&rt, SOUND)?));
     Ok(())
 }

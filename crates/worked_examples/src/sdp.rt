@@ -1,7 +1,9 @@
 //! *camera-sdp*: the fields that `sdp` does not print. Its texts are among the program's tests.
+use crate::checks::{is_named, met};
 use sdp_format::{Range, Sdp, SdpFault, fmtp_text, read_sdp};
 use st_format::{Depth, Sampling};
-use std::alloc::Allocator;
+use std::alloc::{Allocator, Global};
+use std::process::Abort;
 use std::test::Fail;
 
 pub const CAMERA: &str =
@@ -33,19 +35,18 @@ fn is_camera(sdp: &Sdp) -> bool {
         && sdp.colorimetry.as_slice() == b"BT709".as_slice()
 }
 
+/// Whether the camera's text is read as its fields, and they are written as its line.
+fn is_read(alloc: Global) -> Result<bool, SdpFault> {
+    let sdp = read_sdp(alloc, CAMERA.as_bytes())?;
+    let line = fmtp_text(alloc, &sdp)?;
+    Ok(is_camera(&sdp) && line.as_slice() == LINE.as_bytes())
+}
+
 /// The fields of the camera; and the one fault that no text has.
 #[test]
 fn the_camera(rt: HostRuntime) -> Result<(), Fail> {
-    match read_sdp(rt.alloc(), CAMERA.as_bytes()) {
-        Err(fault) => assert!(rt; false, "{fault}"),
-        Ok(sdp) => assert!(rt; is_camera(&sdp)),
-    }
-    let line = line_of(rt.alloc(), CAMERA.as_bytes())?;
-    assert_eq!(rt; line.as_slice(), LINE.as_bytes());
-    assert_eq!(rt; SdpFault::NoMemory.number(), 1);
-    assert_eq!(rt;
-        format!(in rt.alloc(); "{}", SdpFault::NoMemory)?.as_str(),
-        "NoMemory"
-    );
+    met(&rt, is_read(rt.alloc())?);
+    met(&rt, SdpFault::NoMemory.number() == 1);
+    met(&rt, is_named(rt.alloc(), &SdpFault::NoMemory, "NoMemory")?);
     Ok(())
 }

@@ -1,8 +1,9 @@
 //! The engine of `sdp` over the camera's text: failing devices, and wants of memory.
+use crate::checks::met;
 use crate::running::{Failing, Ran, SOUND, describe};
 use crate::sdp::{CAMERA, LINE, line_of};
 use sdp_format::SdpFault;
-use std::alloc::Allocator;
+use std::alloc::{AllocError, Allocator};
 use std::process::Abort;
 use std::test::Fail;
 
@@ -22,20 +23,28 @@ fn ends_by_a_device(run: &Ran) -> bool {
         && LINE.as_bytes().starts_with(run.printed())
 }
 
+/// The calls at which the source and the output fail, or 0.
+const FAILING: [(u64, u64); 4] = [(1, 0), (2, 0), (0, 1), (0, 9)];
+
+/// Whether a device's fault ends the run.
+fn ends(rt: &(impl Abort + AllocGlobal), source: u64, output: u64) -> Result<bool, AllocError> {
+    let failing = Failing {
+        source,
+        output,
+        faults: 0,
+    };
+    let run = describe(rt, rt.alloc(), CAMERA.as_bytes(), 16, failing)?;
+    Ok(ends_by_a_device(&run))
+}
+
 /// Devices that fail, and ones that move one octet a call.
 #[test]
 fn devices_of_a_description(rt: HostRuntime) -> Result<(), Fail> {
-    for (source, output) in [(1u64, 0u64), (2, 0), (0, 1), (0, 9)] {
-        let failing = Failing {
-            source,
-            output,
-            faults: 0,
-        };
-        let run = describe(&rt, rt.alloc(), CAMERA.as_bytes(), 16, failing)?;
-        assert!(rt; ends_by_a_device(&run), "{source} {output}");
+    for (source, output) in FAILING {
+        met(&rt, ends(&rt, source, output)?);
     }
     let sound = describe(&rt, rt.alloc(), CAMERA.as_bytes(), 1, SOUND)?;
-    assert!(rt; is_camera(&sound));
+    met(&rt, is_camera(&sound));
     Ok(())
 }
 
