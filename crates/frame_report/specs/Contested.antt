@@ -1,0 +1,57 @@
+-- The lines of the contested samples of a frame (own).
+use Rattle.std.specs.Prelude.{ℕ, Bool, if◌then◌else◌, List, [], ◌∷◌, ◌++◌, codes, slice_index_or}
+use Rattle.std.specs.List.{flat_map, range_with_len}
+use Rattle.st_format.specs.declared.sampling.Sampling.{Sampling}
+use Rattle.st_format.specs.declared.sampling.Sampling.TheVariants.{Ycc422, Ycc444, Rgb}
+use Rattle.st_format.specs.Cell.{is_contested}
+use Rattle.st_format.specs.Position.{Position, group_positions, place_in_row, row_groups}
+use Rattle.st_format.specs.Raster.{Raster, cell_at}
+use Rattle.frame_report.specs.Gathers.{numbered}
+
+-- the names of components 0, 1 and 2 (SMPTE ST 2110-20, sampling)
+abbrev pub component_names : Sampling → List (List ℕ)
+component_names Ycc422 = codes "Y" ∷ codes "Cb" ∷ codes "Cr" ∷ []
+component_names Ycc444 = codes "Y" ∷ codes "Cb" ∷ codes "Cr" ∷ []
+component_names Rgb = codes "R" ∷ codes "G" ∷ codes "B" ∷ []
+
+-- `contested row R column K NAME`
+abbrev pub sample_text : ℕ → ℕ → List ℕ → List ℕ
+sample_text row column name =
+    numbered (codes "contested row ") row ++ (numbered (codes " column ") column
+    ++ (codes " " ++ (name ++ codes "\n")))
+
+-- of a position
+abbrev pub contested_line : Sampling → Position → List ℕ
+contested_line s p =
+    sample_text p.row p.column (slice_index_or (component_names s) p.component [])
+
+-- the line of a position, where its sample is contested
+abbrev pub contested_at : Raster → Position → List ℕ
+contested_at r p =
+    if is_contested (cell_at r p) then contested_line r.format.sampling p else []
+
+-- those of a pixel group, in the order in which its samples are sent
+abbrev pub contested_in_group : Raster → ℕ → ℕ → List ℕ
+contested_in_group r row group =
+    flat_map (contested_at r) (group_positions r.format row group)
+
+-- those of a row, pixel group by pixel group from the left
+abbrev pub contested_in_row : Raster → ℕ → List ℕ
+contested_in_row r row =
+    flat_map (contested_in_group r row) (range_with_len 0 (row_groups r.format))
+
+-- the lines of all rows, from the top
+abbrev pub contested_lines : Raster → List ℕ
+contested_lines r = flat_map (contested_in_row r) (range_with_len 0 r.format.height)
+
+-- The same of a row's sample, counted from the row's first, for the code's own clauses: its
+-- position, and its line where it is contested
+abbrev pub spot : Sampling → ℕ → ℕ → Position
+spot s row sample = record {
+  row = row;
+  column = (place_in_row s sample).0;
+  component = (place_in_row s sample).1;
+}
+
+abbrev pub line_where : Bool → Sampling → ℕ → ℕ → List ℕ
+line_where is s row sample = if is then contested_line s (spot s row sample) else []

@@ -1,0 +1,10 @@
+-- The number and the name of the fault (own).
+use Rattle.std.specs.Prelude.{ℕ, List, codes}
+use Rattle.frame_report.specs.declared.fault.ReportFault.{ReportFault}
+use Rattle.frame_report.specs.declared.fault.ReportFault.TheVariants.{Device}
+
+abbrev pub report_fault_number : ReportFault → ℕ
+report_fault_number Device = 1
+
+abbrev pub report_fault_name : ReportFault → List ℕ
+report_fault_name Device = codes "Device"

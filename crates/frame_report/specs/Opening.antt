@@ -1,0 +1,33 @@
+-- The first line of a report: what a receiver was opened with (own).
+use Rattle.std.specs.Prelude.{ℕ, List, ◌++◌, codes, Option, Some, None}
+use Rattle.std.specs.Fmt.{decimal}
+use Rattle.st_format.specs.declared.format.Format.{Format}
+use Rattle.st_format.specs.declared.sampling.Sampling.{Sampling}
+use Rattle.st_format.specs.declared.sampling.Sampling.TheVariants.{Ycc422, Ycc444, Rgb}
+use Rattle.st_format.specs.Pgroup.{bits_of}
+use Rattle.path_merge.specs.Opening.{Opening}
+use Rattle.frame_report.specs.Gathers.{numbered}
+
+-- a sampling as SDP spells it (SMPTE ST 2110-20, sampling)
+abbrev pub sampling_text : Sampling → List ℕ
+sampling_text Ycc422 = codes "YCbCr-4:2:2"
+sampling_text Ycc444 = codes "YCbCr-4:4:4"
+sampling_text Rgb = codes "RGB"
+
+-- sampling, depth, width, height and rate
+abbrev pub raster_text : Format → List ℕ
+raster_text f =
+    sampling_text f.sampling ++ (numbered (codes " ") (bits_of f.depth)
+    ++ (numbered (codes " ") f.width ++ (numbered (codes " ") f.height
+    ++ (numbered (codes " ") f.n ++ numbered (codes "/") f.d))))
+
+-- the source that is pinned, or any
+abbrev pub source_text : Option ℕ → List ℕ
+source_text None = codes "any"
+source_text (Some ssrc) = decimal ssrc
+
+-- `receiver S B W H N/D pt PT ssrc X`
+abbrev pub opening_line : Opening → List ℕ
+opening_line o =
+    codes "receiver " ++ (raster_text o.format ++ (numbered (codes " pt ") o.payload_type
+    ++ (codes " ssrc " ++ (source_text o.ssrc ++ codes "\n"))))

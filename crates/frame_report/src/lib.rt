@@ -1,0 +1,15 @@
+//! What a receiver lacks, as text (own): the counts of each frame, its missing runs of pixel groups
+//! and its contested samples.
+//!
+//! What a report says is told by `report_text`.
+#![tactic(auto)]
+
+mod contested;
+mod fault;
+mod missing;
+mod opening;
+mod page;
+mod report;
+
+pub use fault::ReportFault;
+pub use report::write_report;

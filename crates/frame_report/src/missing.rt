@@ -1,0 +1,155 @@
+//! The lines of missing pixel groups.
+ghost use Rattle.std.specs.Prelude.{◌≡◌, ◌==◌, ◌≤◌, ◌<◌, ◌+◌, ◌++◌, OnErr, OnOk};
+ghost use Rattle.std.specs.Prelude.{count_by, length};
+ghost use Rattle.std.specs.Int.{bit_at};
+ghost use Rattle.std.specs.List.{flat_map};
+ghost use Rattle.st_format.specs.Cell.{is_missing};
+ghost use Rattle.st_format.specs.Device.{AppendsPrefix, CountsFaults};
+ghost use Rattle.packet_numbers.specs.Numbers.{closed, runs_from};
+ghost use Rattle.frame_report.specs.Gathers.{Gathers};
+ghost use Rattle.frame_report.specs.Missing.{flags_in, missing_in_row, missing_line, missing_lines, run_text};
+
+use crate::page::{GATHERED, LINE, Page};
+use frame_assembly::Frame;
+use st_format::{ByteSink, DeviceFault};
+use std::alloc::Allocator;
+
+/// Puts a line for each maximal run of missing groups of a frame, rows from the top. Where no
+/// sample is missing, there is nothing to look for.
+pub(crate) fn put_missing<A: Allocator, K: ByteSink>(
+    page: &mut Page,
+    sink: &mut K,
+    frame: &Frame<A>,
+    missing: u64,
+) -> Result<(), DeviceFault>
+    requires { missing ≡ count_by is_missing frame.now.cells }
+    ensures ok { OnOk result
+        (Gathers (K.held sink.old) (K.held sink.new) page.old page.new
+        (missing_lines frame.now)) }
+    ensures fault { OnErr result
+        (AppendsPrefix (K.held sink.old) (K.held sink.new)
+        (page.old ++ missing_lines frame.now)) }
+    ensures counted { CountsFaults (K.failures sink.old) (K.failures sink.new) result }
+{
+    if missing == 0 {
+        // What its format tells: it has a cell for each position
+        frame.format();
+        return Ok(());
+    }
+    put_rows(page, sink, frame)
+}
+
+/// Puts the lines of all rows.
+fn put_rows<A: Allocator, K: ByteSink>(
+    page: &mut Page,
+    sink: &mut K,
+    frame: &Frame<A>,
+) -> Result<(), DeviceFault>
+    ensures ok { OnOk result
+        (Gathers (K.held sink.old) (K.held sink.new) page.old page.new
+        (missing_lines frame.now)) }
+    ensures fault { OnErr result
+        (AppendsPrefix (K.held sink.old) (K.held sink.new)
+        (page.old ++ missing_lines frame.now)) }
+    ensures counted { CountsFaults (K.failures sink.old) (K.failures sink.new) result }
+{
+    for row in 0..frame.format().height() {
+        put_row(page, sink, frame, row)?;
+    }
+    Ok(())
+}
+
+/// Puts the lines of a row.
+fn put_row<A: Allocator, K: ByteSink>(
+    page: &mut Page,
+    sink: &mut K,
+    frame: &Frame<A>,
+    row: u32,
+) -> Result<(), DeviceFault>
+    requires { row < frame.now.format.height }
+    ensures ok { OnOk result
+        (Gathers (K.held sink.old) (K.held sink.new) page.old page.new
+        (missing_in_row frame.now row)) }
+    ensures fault { OnErr result
+        (AppendsPrefix (K.held sink.old) (K.held sink.new)
+        (page.old ++ missing_in_row frame.now row)) }
+    ensures counted { CountsFaults (K.failures sink.old) (K.failures sink.new) result }
+{
+    let columns = u64::from(frame.format().pgroup().pixels);
+    put_runs(page, sink, frame.marks(row), columns, row)
+}
+
+/// Puts the lines of a row's mark words, of so many columns a group.
+fn put_runs<K: ByteSink>(
+    page: &mut Page,
+    sink: &mut K,
+    marks: &[u16],
+    columns: u64,
+    row: u32,
+) -> Result<(), DeviceFault>
+    requires columns { (0 < columns) × (columns ≤ 4) }
+    requires groups { length marks.now ≤ 8192 }
+    ensures ok { OnOk result
+        (Gathers (K.held sink.old) (K.held sink.new) page.old page.new
+        (flat_map (missing_line columns row) (runs_from 0 0 (flags_in marks.now)))) }
+    ensures fault { OnErr result
+        (AppendsPrefix (K.held sink.old) (K.held sink.new)
+        (page.old ++ flat_map (missing_line columns row) (runs_from 0 0 (flags_in marks.now)))) }
+    ensures counted { CountsFaults (K.failures sink.old) (K.failures sink.new) result }
+{
+    let mut start = 0;
+    for group in 0..marks.len() {
+        if !is_known(marks[group]) {
+            continue;
+        }
+        put_run(page, sink, columns, row, start, group)?;
+        start = group + 1;
+    }
+    put_run(page, sink, columns, row, start, marks.len())
+}
+
+/// Puts the line of the groups from `start` up to `end`, unless there are none.
+fn put_run<K: ByteSink>(
+    page: &mut Page,
+    sink: &mut K,
+    columns: u64,
+    row: u32,
+    start: usize,
+    end: usize,
+) -> Result<(), DeviceFault>
+    requires columns { (0 < columns) × (columns ≤ 4) }
+    requires groups { end ≤ 8192 }
+    ensures ok { OnOk result
+        (Gathers (K.held sink.old) (K.held sink.new) page.old page.new
+        (flat_map (missing_line columns row) (closed start end))) }
+    ensures fault { OnErr result
+        (AppendsPrefix (K.held sink.old) (K.held sink.new)
+        (page.old ++ flat_map (missing_line columns row) (closed start end))) }
+    ensures counted { CountsFaults (K.failures sink.old) (K.failures sink.new) result }
+{
+    if start >= end {
+        return Ok(());
+    }
+    page.make_room(sink)?;
+    add_line(page, row, columns * start as u64, columns * end as u64 - 1);
+    Ok(())
+}
+
+/// Whether something is known of the group of a mark word.
+#[inline(always)]
+fn is_known(mark: u16) -> bool
+    ensures { result ≡ (bit_at mark 15 == 1) }
+{
+    mark >> 15 & 1 == 1
+}
+
+/// Adds the line of a row's columns.
+fn add_line(page: &mut Page, row: u32, first: u64, last: u64)
+    requires { length page.old + LINE ≤ GATHERED }
+    ensures { page.new ≡ page.old ++ run_text row first last }
+{
+    page.add_number(b"missing row ", u64::from(row));
+    page.add_number(b" columns ", first);
+    page.add_number(b" to ", last);
+    page.add(b"\n");
+}
