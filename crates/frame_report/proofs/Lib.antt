@@ -3,3 +3,4 @@ pub mod Ranges
 pub mod ContestedTexts
 pub mod MissingTexts
 pub mod FrameTexts
+pub mod Maximal

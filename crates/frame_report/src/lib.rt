@@ -6,6 +6,7 @@
 
 mod contested;
 mod fault;
+pub mod laws;
 mod missing;
 mod opening;
 mod page;
