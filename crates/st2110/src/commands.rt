@@ -20,6 +20,7 @@ pub fn program<'a>(alloc: Global) -> Result<Command<'a>, AllocError> {
     let named = with_command(named, send_command(alloc)?)?;
     let named = with_command(named, receive_command(alloc)?)?;
     let named = with_command(named, merge_command(alloc)?)?;
+    let named = with_command(named, loop_command(alloc)?)?;
     with_command(named, migrate_command(alloc)?)
 }
 
@@ -61,9 +62,7 @@ fn send_command<'a>(alloc: Global) -> Result<Command<'a>, AllocError> {
         ))?;
     let command = with_stamp(alloc, command)?;
     command
-        .arg(number(alloc, "max", "OCTETS", "1400").help(
-            "The most octets of a packet, up to 9000",
-        ))?
+        .arg(packet_size(alloc))?
         .arg(
             optional(alloc, "paths", "PATHS")
                 .value_parser(ValueParser::Names(PATHS))
@@ -73,6 +72,10 @@ fn send_command<'a>(alloc: Global) -> Result<Command<'a>, AllocError> {
         .arg(files(alloc, "pictures", "PICTURE").help(
             "Pictures, sent one after the other: the k-th is the k-th frame",
         ))
+}
+
+fn packet_size<'a>(alloc: Global) -> Arg<'a> {
+    number(alloc, "max", "OCTETS", "1400").help("The most octets of a packet, up to 9000")
 }
 
 /// What the packets of a stream have in common, and where its numbers and timestamps begin.
@@ -129,6 +132,24 @@ fn merge_command<'a>(alloc: Global) -> Result<Command<'a>, AllocError> {
         .arg(required(alloc, "state", "FILE").help("Where the merged receiver is written"))?
         .arg(one_file(alloc, "left", "LEFT").help("Receiver's file, as receive writes it"))?
         .arg(one_file(alloc, "right", "RIGHT").help("The receiver's file that is merged into it"))
+}
+
+fn loop_command<'a>(alloc: Global) -> Result<Command<'a>, AllocError> {
+    Command::new(alloc, "loop")
+        .about(
+            "Sends a picture from one socket of this machine to another, and prints how many \
+             datagrams were sent, how many came, and a line for the frame",
+        )
+        .arg(packet_size(alloc))?
+        .arg(turns(alloc))?
+        .arg(one_file(alloc, "picture", "PICTURE").help("The picture that is sent"))
+}
+
+fn turns<'a>(alloc: Global) -> Arg<'a> {
+    optional(alloc, "limit", "TURNS")
+        .value_parser(clap::value_parser!(u64))
+        .default_value("100000")
+        .help("The most turns: in each a datagram is sent and one looked for, for a second")
 }
 
 fn migrate_command<'a>(alloc: Global) -> Result<Command<'a>, AllocError> {

@@ -1,12 +1,14 @@
 //! The commands, each with the real devices that its engine works on.
 use crate::files::{FileSink, FileSource};
+use crate::link::{UdpLink, unbound};
 use crate::places::{Devices, Reading, tell_place};
 use crate::script::{Kind, tell_line};
 use crate::streams::{InputSource, OutputSink};
 use crate::told::FaultSink;
-use crate::words::{MergeWords, MigrateWords, ReceiveWords, SendWords};
+use crate::words::{LoopWords, MergeWords, MigrateWords, ReceiveWords, SendWords};
 use st2110_tool::{
-    Status, Wanted, run_merge, run_migrate, run_receive, run_rehearse, run_sdp, run_send, run_trace,
+    Status, Wanted, run_loop, run_merge, run_migrate, run_receive, run_rehearse, run_sdp, run_send,
+    run_trace,
 };
 use std::alloc::AllocError;
 use std::io::{Read, Write};
@@ -161,6 +163,35 @@ pub fn merge(rt: &HostRuntime, words: &MergeWords<'_>, is_verbose: bool) -> u8 {
         sdp: None,
         read: begun(&right).or(begun(&left)),
         written: Some(state.writing()),
+        output: output.writing(),
+    };
+    explain(rt, is_verbose, &devices, &faults);
+    status
+}
+
+/// Sends a picture from one socket of this machine to another, and takes what comes.
+pub fn loop_back(rt: &HostRuntime, words: &LoopWords<'_>, is_verbose: bool) -> u8 {
+    let mut picture = FileSource::new(rt, words.picture);
+    let mut output = OutputSink::new(rt.stdout());
+    let mut faults = FaultSink::new(rt.alloc(), rt.stderr());
+    let (status, sockets) = match UdpLink::open(rt) {
+        Ok(mut link) => {
+            let status = run_loop(
+                rt.alloc(),
+                words.looping,
+                &mut picture,
+                &mut link,
+                &mut output,
+                &mut faults,
+            );
+            (status, link.writing())
+        }
+        Err(fault) => (tell_device(&mut faults).number(), unbound(fault)),
+    };
+    let devices = Devices {
+        sdp: None,
+        read: begun(&picture),
+        written: Some(sockets),
         output: output.writing(),
     };
     explain(rt, is_verbose, &devices, &faults);

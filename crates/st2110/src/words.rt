@@ -4,7 +4,7 @@ ghost use Rattle.std.specs.Prelude.{◌≤◌};
 use crate::commands::program;
 use clap::error::ErrorKind;
 use clap::{ArgMatches, Error};
-use st2110_tool::{Paths, Sending};
+use st2110_tool::{Looping, Paths, Sending};
 use std::alloc::{AllocError, Global};
 use std::rt::Env;
 use std::{env, io};
@@ -34,6 +34,8 @@ pub enum Words<'a> {
     Receive(ReceiveWords<'a>),
     /// Merge two receivers.
     Merge(MergeWords<'a>),
+    /// Send a picture over a link, and take what comes.
+    Loop(LoopWords<'a>),
 }
 
 /// The words behind `migrate`: names of files.
@@ -78,6 +80,14 @@ pub struct MergeWords<'a> {
     pub state: &'a str,
     pub left: &'a str,
     pub right: &'a str,
+}
+
+/// The words behind `loop`.
+#[derive(Clone, Copy)]
+pub struct LoopWords<'a> {
+    /// The picture's file.
+    pub picture: &'a str,
+    pub looping: Looping,
 }
 
 /// Why the words are not followed.
@@ -141,6 +151,7 @@ fn command<'a>(alloc: Global, matches: &ArgMatches<'a>) -> Result<Words<'a>, All
         Some(("send", given)) => Words::Send(send_words(alloc, given)?),
         Some(("receive", given)) => Words::Receive(receive_words(alloc, given)?),
         Some(("merge", given)) => Words::Merge(merge_words(given)),
+        Some(("loop", given)) => Words::Loop(loop_words(given)),
         // clap lets `trace` and no words through, and nothing else.
         _ => Words::Trace,
     })
@@ -209,6 +220,16 @@ fn merge_words<'a>(given: &ArgMatches<'a>) -> MergeWords<'a> {
         state: word(given, "state"),
         left: word(given, "left"),
         right: word(given, "right"),
+    }
+}
+
+fn loop_words<'a>(given: &ArgMatches<'a>) -> LoopWords<'a> {
+    LoopWords {
+        picture: word(given, "picture"),
+        looping: Looping {
+            max_octets: number(given, "max"),
+            limit: given.get_one::<u64>("limit").unwrap_or(0),
+        },
     }
 }
 

@@ -18,6 +18,7 @@ mod trace;
 
 pub use file_engines::{Paths, Sending, Wanted, run_merge, run_migrate, run_receive, run_send};
 pub use rehearse::run_rehearse;
+pub use report_engines::{DatagramLink, Looping, MemoryLink, run_loop};
 pub use sdp::run_sdp;
 pub use tool_text::Status;
 pub use trace::run_trace;

@@ -1,0 +1,125 @@
+//! Two sockets of this machine as a link. They tell no datagrams.
+ghost use Rattle.std.specs.Prelude.{◌≡◌, None};
+
+use crate::places::Writing;
+use st_format::{DatagramSink, DatagramSource, Path, SinkFault, SourceFault, Turn};
+use st2110_tool::DatagramLink;
+use std::io::{self, ErrorKind};
+use std::net::{Net, SocketAddr, UdpSocket};
+use std::time::Duration;
+
+/// Where sockets are bound: on this machine alone, at a port that is free.
+const LOOPBACK: &str = "127.0.0.1:0";
+
+/// What the sockets are called.
+const SOCKETS: &str = "the sockets on 127.0.0.1";
+
+/// How long a datagram is waited for, in seconds.
+const PATIENCE: u64 = 1;
+
+/// The most octets of a datagram.
+const DATAGRAM: usize = 65_535;
+
+/// Two UDP sockets: what is sent by the one comes to the other.
+#[derive(Drop)]
+pub struct UdpLink {
+    from: UdpSocket,
+    to: UdpSocket,
+    address: SocketAddr,
+    delivered: u64,
+    failures: u64,
+    last_fault: Option<SourceFault>,
+    /// Why it failed last, where the system said so.
+    fault: Option<io::Error>,
+}
+
+impl UdpLink {
+    /// Binds two sockets on 127.0.0.1.
+    pub fn open<N: Net>(net: &N) -> io::Result<UdpLink> {
+        let from = UdpSocket::bind(net, LOOPBACK)?;
+        let to = UdpSocket::bind(net, LOOPBACK)?;
+        to.set_read_timeout(Some(Duration::from_secs(PATIENCE)))?;
+        let address = to.local_addr()?;
+        Ok(UdpLink {
+            from,
+            to,
+            address,
+            delivered: 0,
+            failures: 0,
+            last_fault: None,
+            fault: None,
+        })
+    }
+
+    /// How sending and receiving went.
+    pub fn writing(&self) -> Writing<'static> {
+        Writing {
+            name: SOCKETS,
+            has_failed: self.failures > 0,
+            fault: self.fault,
+        }
+    }
+}
+
+/// How it went where the sockets could not be bound.
+pub fn unbound(fault: io::Error) -> Writing<'static> {
+    Writing {
+        name: SOCKETS,
+        has_failed: true,
+        fault: Some(fault),
+    }
+}
+
+impl DatagramSink for UdpLink {
+    ghost taken = { λ _. None };
+
+    ghost failures = { λ l. l.failures };
+
+    /// A datagram that is sent in part is a failure too.
+    fn put(&mut self, octets: &[u8]) -> Result<(), SinkFault> {
+        match self.from.send_to(octets, self.address) {
+            Ok(n) if n == octets.len() => Ok(()),
+            outcome => {
+                self.fault = outcome.err();
+                self.failures = self.failures.saturating_add(1);
+                Err(SinkFault)
+            }
+        }
+    }
+}
+
+impl DatagramSource for UdpLink {
+    ghost turns = { λ _. None };
+
+    ghost delivered = { λ l. l.delivered };
+
+    ghost failures = { λ l. l.failures };
+
+    ghost last_fault = { λ l. l.last_fault };
+
+    /// A turn in which none comes within a second is quiet.
+    fn next(&mut self, buf: &mut [u8]) -> Result<Turn, SourceFault> {
+        let error = match self.to.recv_from(&mut buf[..DATAGRAM]) {
+            Ok((n, _)) => {
+                self.delivered = self.delivered.saturating_add(1);
+                return Ok(Turn::Datagram(Path::A, n));
+            }
+            Err(error) => error,
+        };
+        match error.kind() {
+            ErrorKind::WouldBlock | ErrorKind::TimedOut => Ok(Turn::Quiet),
+            _ => {
+                self.fault = Some(error);
+                self.failures = self.failures.saturating_add(1);
+                self.last_fault = Some(SourceFault::Device);
+                Err(SourceFault::Device)
+            }
+        }
+    }
+}
+
+impl DatagramLink for UdpLink {
+    ghost use Rattle.std.specs.Prelude.{refl};
+
+    ghost one_count = { λ _. refl };
+}
