@@ -22,7 +22,7 @@ for asked in --version -V; do
 done
 for asked in --help -h help; do
     run $asked
-    holds_words "$asked" 'Usage: st2110' trace sdp rehearse migrate send receive merge \
+    holds_words "$asked" 'Usage: st2110' trace sdp rehearse migrate send receive merge loop \
         --verbose --help --version
 done
 
@@ -42,6 +42,7 @@ migrate --sdp --out FILE <CAPTURE>
 send --out --pt --first --base --ssrc --max --paths --sdp 96 1400 <PICTURE>...
 receive --sdp --window --ssrc --state --refusals any <CAPTURE>...
 merge --state <LEFT> <RIGHT>
+loop --max --limit 1400 100000 <PICTURE>
 END
 
 # Words that are refused: status 2, nothing on standard output, and nothing is written.
@@ -100,6 +101,12 @@ merge --state no-words.rcv
 merge --state no-words.rcv g.rcv
 merge --state no-words.rcv g.rcv g.rcv g.rcv
 merge g.rcv g.rcv
+loop
+loop p.pic p.pic
+loop --max 4294967296 p.pic
+loop --limit x p.pic
+loop --limit 18446744073709551616 p.pic
+loop --out no-words.cap p.pic
 END
 none 'refused words write no capture' no-words.cap
 none 'refused words write no receiver' no-words.rcv
