@@ -37,6 +37,8 @@ mod kernels;
 #[cfg(test)]
 mod last_samples;
 #[cfg(test)]
+mod looping;
+#[cfg(test)]
 mod lossy_paths;
 #[cfg(test)]
 mod number_map;
