@@ -26,7 +26,7 @@ pub(crate) struct Session<A: Allocator> {
     spare: Option<Frame<A>>,
     /// The numbers of the datagrams that were kept since the line `numbers`.
     pub numbers: Option<SeqMap<A>>,
-    ghost alike: { IfSome spare (λ frame. frame.format ≡ receiver.opening.format) } by { Prim.hlevel props },
+    ghost fits: { IfSome spare (λ r. r.format ≡ receiver.opening.format) } by { Prim.hlevel props },
 }
 
 impl<A: Allocator> Session<A> {
@@ -116,7 +116,7 @@ impl<A: Allocator> Session<A> {
 
 impl<A: Allocator + Copy> Session<A> {
     /// Moves the window on to a timestamp, and tells of the frame that leaves. Frames swap places:
-    /// the first slide makes the one that comes in, and each later one has that of the slide before.
+    /// the first slide makes the one that comes in, and each later one has that of the one before.
     ///
     /// `AllocError` comes only where the allocator refused the memory for the first slide's frame,
     /// and nothing has changed then.
