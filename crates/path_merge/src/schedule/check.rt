@@ -77,16 +77,9 @@ fn are_of_format<C: Allocator>(format: Format, pictures: &[Picture<C>]) -> bool
     ensures whole { IsTrue result → All IsPicture pictures.now }
 {
     for picture in pictures {
-        if !same_format(picture.format(), format) {
+        if !picture.format().same(&format) {
             return false;
         }
     }
     true
-}
-
-fn same_format(left: Format, right: Format) -> bool
-    ensures same { IsTrue result → left ≡ right }
-    ensures other { IsFalse result → left ≢ right }
-{
-    left == right
 }
