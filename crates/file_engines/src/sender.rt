@@ -1,12 +1,12 @@
 //! Sending pictures into a capture.
-ghost use Rattle.std.specs.Prelude.{◌≡◌, ◌≤◌, ◌∷◌, [], false, length, IsTrue, OnOk};
+ghost use Rattle.std.specs.Prelude.{◌≡◌, ◌≤◌, ◌∷◌, [], false, length, OnOk};
 ghost use Rattle.file_engines.specs.Fault.{Accounts, counts};
 
 use crate::fault::{Fault, Refusal};
 use capture_file::{CaptureWriter, Paths};
 use packet_plan::{Plan, Stamp};
 use pgroup_pack::PackedPicture;
-use st_format::{ByteSink, DatagramSink, Format};
+use st_format::{ByteSink, DatagramSink};
 use std::alloc::Allocator;
 
 /// What `send` is asked for, beside its files.
@@ -69,7 +69,7 @@ impl<A: Allocator, K: ByteSink> Sender<A, K> {
             (K.failures self.new.writer.sink) ∷ []) }
     {
         let format = self.plan.format();
-        if !same_format(picture.format(), format) {
+        if !picture.format().same(&format) {
             return Err(Fault::Refused(Refusal::SendFormats));
         }
         let stamp = Stamp {
@@ -91,12 +91,6 @@ impl<A: Allocator, K: ByteSink> Sender<A, K> {
     {
         self.writer.into_inner()
     }
-}
-
-fn same_format(left: Format, right: Format) -> bool
-    ensures { IsTrue result → left ≡ right }
-{
-    left.same(&right)
 }
 
 /// Writes all datagrams of a picture, each over the first octets of `buf`.
