@@ -82,8 +82,22 @@ fn put_octets(room: &mut [u8], at: usize, octets: &[u8]) -> usize
     ensures put { take result room.new ≡ take at room.old ++ octets.now }
 {
     let end = at + octets.len();
-    room[at..end].copy_from_slice(octets);
+    copy_few(&mut room[at..end], octets);
     end
+}
+
+/// Copies the octets of a group. The usual five (4:2:2, 10 bits) are copied by a length that is
+/// known here, without a call.
+#[inline(always)]
+fn copy_few(to: &mut [u8], octets: &[u8])
+    requires { length to.old ≡ length octets.now }
+    ensures { to.new ≡ octets.now }
+{
+    if octets.len() == 5 {
+        to[..5].copy_from_slice(&octets[..5]);
+    } else {
+        to.copy_from_slice(octets);
+    }
 }
 
 /// The state and the mask of a group some of whose samples are contested.
