@@ -191,17 +191,29 @@ fn migrate(
     Ok((result, sink))
 }
 
+/// Whether version 1 is written as version 2 with the text.
+fn is_migrated(alloc: Global) -> Result<bool, AllocError> {
+    let (result, new) = migrate(alloc, OLD, 1)?;
+    Ok(result == Ok(1) && new.held() == WITH_TEXT)
+}
+
+/// Whether version 2 is refused, and nothing written.
+fn is_refused(alloc: Global) -> Result<bool, AllocError> {
+    let (result, again) = migrate(alloc, WITH_TEXT, 1)?;
+    Ok(result == Err(FileFault::BadVersion) && again.held().is_empty())
+}
+
+/// Whether the front alone is written where no record is allowed.
+fn has_front_alone(alloc: Global) -> Result<bool, AllocError> {
+    let (result, few) = migrate(alloc, OLD, 0)?;
+    let is_front = few.held().len() == 13 && WITH_TEXT.starts_with(few.held());
+    Ok(result == Err(FileFault::TooManyRecords) && is_front)
+}
+
 #[test]
 fn migrated(rt: HostRuntime) -> Result<(), Fail> {
-    let (result, new) = migrate(rt.alloc(), OLD, 1)?;
-    met(&rt, result == Ok(1) && new.held() == WITH_TEXT);
-    let (result, again) = migrate(rt.alloc(), WITH_TEXT, 1)?;
-    met(
-        &rt,
-        result == Err(FileFault::BadVersion) && again.held().is_empty(),
-    );
-    let (result, few) = migrate(rt.alloc(), OLD, 0)?;
-    let front = few.held().len() == 13 && WITH_TEXT.starts_with(few.held());
-    met(&rt, result == Err(FileFault::TooManyRecords) && front);
+    met(&rt, is_migrated(rt.alloc())?);
+    met(&rt, is_refused(rt.alloc())?);
+    met(&rt, has_front_alone(rt.alloc())?);
     Ok(())
 }

@@ -171,10 +171,10 @@ fn run_receive_of(
     capture: MemorySource,
     nth: u64,
 ) -> Result<Ran, AllocError> {
-    let (mut written, mut printed, mut told) = (sink(rt), sink(rt), sink(rt));
     refusing.refuse(0);
     let mut captures = Vec::with_capacity(refusing, 1)?;
     captures.push(capture)?;
+    let (mut written, mut printed, mut told) = (sink(rt), sink(rt), sink(rt));
     refusing.refuse(nth);
     let status = run_receive(
         refusing,

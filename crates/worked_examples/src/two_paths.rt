@@ -277,14 +277,20 @@ const WITHOUT_MEMORY: [Step; 17] = [
     Step::Refusals(1),
 ];
 
+/// The first of those steps that isn't followed, and whether one asked for memory.
+fn followed_without_memory(refusing: &Refusing<Global>) -> Result<(Option<u64>, bool), Fail> {
+    let mut pair = Pair::open(refusing, &[900])?;
+    refusing.refuse(1);
+    Ok((pair.fails_at(&WITHOUT_MEMORY), refusing.was_met()))
+}
+
 /// With two receivers and frames made, `take`, `merge` and `slide` ask for no memory.
 #[test]
 fn no_growth(rt: HostRuntime) -> Result<(), Fail> {
     let refusing = Refusing::new(rt.alloc(), 0);
-    let mut pair = Pair::open(&refusing, &[900])?;
-    refusing.refuse(1);
-    none_fails(&rt, pair.fails_at(&WITHOUT_MEMORY));
-    met(&rt, !refusing.was_met());
+    let (failing, was_met) = followed_without_memory(&refusing)?;
+    none_fails(&rt, failing);
+    met(&rt, !was_met);
     Ok(())
 }
 
