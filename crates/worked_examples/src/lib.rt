@@ -25,6 +25,8 @@ mod devices;
 #[cfg(test)]
 mod engines;
 #[cfg(test)]
+mod formulas;
+#[cfg(test)]
 mod generator;
 #[cfg(test)]
 mod groups;
@@ -51,6 +53,8 @@ mod picture_files;
 #[cfg(test)]
 mod pictures;
 #[cfg(test)]
+mod processing;
+#[cfg(test)]
 mod rasters;
 #[cfg(test)]
 mod receiver_files;
@@ -64,6 +68,8 @@ mod rehearsals;
 mod rows;
 #[cfg(test)]
 mod running;
+#[cfg(test)]
+mod sample_kernels;
 #[cfg(test)]
 mod sdp;
 #[cfg(test)]

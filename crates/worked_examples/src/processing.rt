@@ -1,0 +1,315 @@
+//! Range, gain, matrix, key and wipe: the examples matrix, key-rounds, wipe-weights and
+//! gain-and-limit.
+use crate::checks::met;
+use crate::pictures::has_values;
+use bt709_fixed::{ColourFault, RangeKind, gain, limit, to_ycc422, to_ycc444};
+use key_mix::{Axis, JobFault, WipeShape, key, wipe};
+use st_format::{Depth, Format, FormatFault, Picture, Sampling};
+use std::alloc::Global;
+use std::test::Fail;
+
+/// 8 by 2, 60 frames a second.
+fn wide(sampling: Sampling, depth: Depth) -> Result<Format, FormatFault> {
+    Format::new(sampling, depth, 8, 2, 60, 1)
+}
+
+/// A picture of 8 by 2 of one colour.
+fn plain(alloc: Global, sampling: Sampling, depth: Depth, fill: [u16; 3]) -> Result<Picture, Fail> {
+    Ok(Picture::new(alloc, wide(sampling, depth)?, fill)?)
+}
+
+/// Whether all of a picture of 8 by 2 is of one format and colour.
+fn is_plain(
+    alloc: Global,
+    picture: &Picture,
+    sampling: Sampling,
+    depth: Depth,
+    fill: [u16; 3],
+) -> Result<bool, Fail> {
+    Ok(picture.same(&plain(alloc, sampling, depth, fill)?))
+}
+
+/// *matrix*: a depth, R, G and B, and then Y, Cb and Cr.
+const MATRIX: [(Depth, [u16; 3], [u16; 3]); 4] = [
+    (Depth::D10, [940, 64, 64], [250, 409, 960]),
+    (Depth::D8, [235, 235, 235], [235, 128, 128]),
+    (Depth::D12, [0, 0, 4095], [296, 4079, 1856]),
+    (Depth::D16, [0, 0, 65535], [4732, 65279, 29695]),
+];
+
+/// Whether a picture of one colour has this colour by the matrix.
+fn is_matrixed(alloc: Global, depth: Depth, rgb: [u16; 3], ycc: [u16; 3]) -> Result<bool, Fail> {
+    let picture = plain(alloc, Sampling::Rgb, depth, rgb)?;
+    match to_ycc444(alloc, &picture) {
+        Ok(made) => is_plain(alloc, &made, Sampling::Ycc444, depth, ycc),
+        Err(_) => Ok(false),
+    }
+}
+
+/// Whether only RGB has a matrix, and only 4:4:4 is made 4:2:2.
+fn refuses_colours(alloc: Global, sampling: Sampling) -> Result<bool, Fail> {
+    let picture = plain(alloc, sampling, Depth::D8, [16, 128, 128])?;
+    let (matrixed, thinned) = (to_ycc444(alloc, &picture), to_ycc422(alloc, &picture));
+    let refused = (
+        matrixed.err() == Some(ColourFault::NotRgb),
+        thinned.err() == Some(ColourFault::NotYcc444),
+    );
+    Ok(refused == (sampling != Sampling::Rgb, sampling != Sampling::Ycc444))
+}
+
+/// Whether 4:2:2 of a picture of 4:4:4 is of its colour.
+fn is_thinned(alloc: Global) -> Result<bool, Fail> {
+    let picture = plain(alloc, Sampling::Ycc444, Depth::D8, [235, 128, 128])?;
+    match to_ycc422(alloc, &picture) {
+        Ok(made) => is_plain(alloc, &made, Sampling::Ycc422, Depth::D8, [235, 128, 128]),
+        Err(_) => Ok(false),
+    }
+}
+
+/// *matrix*.
+#[test]
+fn matrix(rt: HostRuntime) -> Result<(), Fail> {
+    for (depth, rgb, ycc) in MATRIX {
+        met(&rt, is_matrixed(rt.alloc(), depth, rgb, ycc)?);
+    }
+    for sampling in [Sampling::Ycc422, Sampling::Ycc444, Sampling::Rgb] {
+        met(&rt, refuses_colours(rt.alloc(), sampling)?);
+    }
+    met(&rt, is_thinned(rt.alloc())?);
+    Ok(())
+}
+
+/// *key-rounds*: a depth, the lumas of a and b, the key's luma, and the luma of their mix.
+const KEYS: [(Depth, u16, u16, u16, u16); 4] = [
+    (Depth::D8, 16, 17, 125, 16),
+    (Depth::D8, 16, 17, 126, 17),
+    (Depth::D10, 64, 940, 502, 502),
+    (Depth::D16, 4096, 60160, 32128, 32128),
+];
+
+/// Whether two pictures of one colour have this luma between them, and a key of each sampling that
+/// has lumas gives it.
+fn is_keyed(
+    alloc: Global,
+    sampling: Sampling,
+    case: (Depth, u16, u16, u16, u16),
+) -> Result<bool, Fail> {
+    let (depth, of_a, of_b, of_key, wanted) = case;
+    let a = plain(alloc, Sampling::Ycc422, depth, [of_a, 1, of_a])?;
+    let b = plain(alloc, Sampling::Ycc422, depth, [of_b, 1, of_b])?;
+    let by = plain(alloc, sampling, depth, [of_key, 0, 0])?;
+    match key(alloc, &a, &b, &by) {
+        Ok(made) => is_plain(alloc, &made, Sampling::Ycc422, depth, [wanted, 1, wanted]),
+        Err(_) => Ok(false),
+    }
+}
+
+/// The fault of a key of RGB, and of one of another depth.
+fn key_fault(alloc: Global, depth: Depth) -> Result<Option<JobFault>, Fail> {
+    let a = plain(alloc, Sampling::Rgb, Depth::D8, [16, 16, 16])?;
+    let by = plain(alloc, Sampling::Rgb, depth, [16, 16, 16])?;
+    Ok(key(alloc, &a, &a, &by).err())
+}
+
+/// *key-rounds*.
+#[test]
+fn key_rounds(rt: HostRuntime) -> Result<(), Fail> {
+    for case in KEYS {
+        met(&rt, is_keyed(rt.alloc(), Sampling::Ycc422, case)?);
+        met(&rt, is_keyed(rt.alloc(), Sampling::Ycc444, case)?);
+    }
+    let of_rgb = key_fault(rt.alloc(), Depth::D8)?;
+    let of_ten = key_fault(rt.alloc(), Depth::D10)?;
+    met(&rt, of_rgb == Some(JobFault::KeyNotYcc));
+    met(&rt, of_ten == Some(JobFault::FormatsDiffer));
+    Ok(())
+}
+
+/// *wipe-weights*: position, softness, and the lumas of each row.
+const WIPES: [(u32, u32, [u16; 8]); 4] = [
+    (2, 4, [16, 16, 16, 71, 126, 180, 235, 235]),
+    (2, 0, [16, 16, 235, 235, 235, 235, 235, 235]),
+    (8, 8, [16, 16, 16, 16, 16, 16, 16, 16]),
+    (0, 0, [235, 235, 235, 235, 235, 235, 235, 235]),
+];
+
+/// The wipe from luma 16 to luma 235 of one sampling.
+fn wiped(
+    alloc: Global,
+    sampling: Sampling,
+    shape: WipeShape,
+) -> Result<Result<Picture, JobFault>, Fail> {
+    let a = plain(alloc, sampling, Depth::D8, [16, 128, 16])?;
+    let b = plain(alloc, sampling, Depth::D8, [235, 128, 235])?;
+    Ok(wipe(alloc, &a, &b, shape))
+}
+
+/// Whether both rows of a picture have these lumas, and the even columns these values of Cr.
+fn has_lumas(picture: &Picture, lumas: &[u16; 8]) -> bool {
+    let mut has = true;
+    for row in 0..2u32 {
+        for column in 0..8usize {
+            let luma = Some(lumas[column]);
+            has &= has_values(picture, &[(row, column as u32, 0, luma)]);
+            if column % 2 == 0 {
+                has &= has_values(picture, &[(row, column as u32, 2, luma)]);
+            }
+        }
+    }
+    has
+}
+
+/// Whether a wipe by columns has these lumas.
+fn is_wiped(alloc: Global, sampling: Sampling, case: (u32, u32, [u16; 8])) -> Result<bool, Fail> {
+    let (position, soft, lumas) = case;
+    let axis = Axis::Columns;
+    let shape = WipeShape {
+        axis,
+        position,
+        soft,
+    };
+    match wiped(alloc, sampling, shape)? {
+        Ok(made) => Ok(has_lumas(&made, &lumas)),
+        Err(_) => Ok(false),
+    }
+}
+
+/// Whether a wipe by rows stands between the two rows.
+fn is_wiped_by_rows(alloc: Global) -> Result<bool, Fail> {
+    let shape = WipeShape {
+        axis: Axis::Rows,
+        position: 1,
+        soft: 0,
+    };
+    let values = [
+        (0, 7, 0, Some(16)),
+        (0, 6, 2, Some(16)),
+        (1, 0, 0, Some(235)),
+        (1, 0, 2, Some(235)),
+    ];
+    match wiped(alloc, Sampling::Ycc422, shape)? {
+        Ok(made) => Ok(has_values(&made, &values)),
+        Err(_) => Ok(false),
+    }
+}
+
+/// Wipes that stand outside of 8 by 2.
+const OUTSIDE: [WipeShape; 4] = [
+    WipeShape {
+        axis: Axis::Columns,
+        position: 9,
+        soft: 0,
+    },
+    WipeShape {
+        axis: Axis::Columns,
+        position: 0,
+        soft: 9,
+    },
+    WipeShape {
+        axis: Axis::Rows,
+        position: 3,
+        soft: 0,
+    },
+    WipeShape {
+        axis: Axis::Rows,
+        position: 0,
+        soft: 3,
+    },
+];
+
+/// *wipe-weights*.
+#[test]
+fn wipe_weights(rt: HostRuntime) -> Result<(), Fail> {
+    for case in WIPES {
+        met(&rt, is_wiped(rt.alloc(), Sampling::Ycc422, case)?);
+        met(&rt, is_wiped(rt.alloc(), Sampling::Ycc444, case)?);
+    }
+    met(&rt, is_wiped_by_rows(rt.alloc())?);
+    for shape in OUTSIDE {
+        let fault = wiped(rt.alloc(), Sampling::Ycc422, shape)?.err();
+        met(&rt, fault == Some(JobFault::BadWipe));
+    }
+    Ok(())
+}
+
+/// *gain-and-limit*: a depth, a fill, the gain, and the fill then. The second fill's Cb is at the
+/// centre, where it stays, and Cr is raised above video data.
+const GAINS: [(Depth, [u16; 3], u32, [u16; 3]); 5] = [
+    (Depth::D8, [100, 128, 255], 8192, [184, 128, 254]),
+    (Depth::D8, [235, 100, 0], 8192, [254, 72, 1]),
+    (Depth::D8, [10, 100, 128], 2048, [13, 114, 128]),
+    (Depth::D16, [25600, 32768, 0], 8192, [47104, 32768, 256]),
+    (Depth::D12, [256, 2048, 4079], 0, [256, 2048, 2048]),
+];
+
+/// Whether a picture of one colour has another by a gain.
+fn is_gained(alloc: Global, case: (Depth, [u16; 3], u32, [u16; 3])) -> Result<bool, Fail> {
+    let (depth, fill, g, wanted) = case;
+    let picture = plain(alloc, Sampling::Ycc422, depth, fill)?;
+    if g > 16384 {
+        return Ok(false);
+    }
+    is_plain(alloc, &gain(picture, g), Sampling::Ycc422, depth, wanted)
+}
+
+/// *gain-and-limit*: a sampling, the range, a fill of 10 bits, and the fill then.
+const LIMITS: [(Sampling, RangeKind, [u16; 3], [u16; 3]); 6] = [
+    (
+        Sampling::Ycc444,
+        RangeKind::Nominal,
+        [0, 1023, 0],
+        [64, 960, 64],
+    ),
+    (
+        Sampling::Ycc444,
+        RangeKind::VideoData,
+        [0, 1023, 0],
+        [4, 1019, 4],
+    ),
+    (
+        Sampling::Ycc422,
+        RangeKind::Nominal,
+        [1023, 64, 960],
+        [940, 64, 960],
+    ),
+    (
+        Sampling::Ycc422,
+        RangeKind::VideoData,
+        [1023, 3, 500],
+        [1019, 4, 500],
+    ),
+    (
+        Sampling::Rgb,
+        RangeKind::Nominal,
+        [0, 1023, 941],
+        [64, 940, 940],
+    ),
+    (
+        Sampling::Rgb,
+        RangeKind::VideoData,
+        [0, 1023, 941],
+        [4, 1019, 941],
+    ),
+];
+
+/// Whether a picture of one colour has another within a range.
+fn is_limited(
+    alloc: Global,
+    case: (Sampling, RangeKind, [u16; 3], [u16; 3]),
+) -> Result<bool, Fail> {
+    let (sampling, range, fill, wanted) = case;
+    let picture = plain(alloc, sampling, Depth::D10, fill)?;
+    is_plain(alloc, &limit(picture, range), sampling, Depth::D10, wanted)
+}
+
+/// *gain-and-limit*.
+#[test]
+fn gain_and_limit(rt: HostRuntime) -> Result<(), Fail> {
+    for case in GAINS {
+        met(&rt, is_gained(rt.alloc(), case)?);
+    }
+    for case in LIMITS {
+        met(&rt, is_limited(rt.alloc(), case)?);
+    }
+    Ok(())
+}
