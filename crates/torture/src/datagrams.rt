@@ -1,0 +1,172 @@
+//! Hostile datagrams given to a receiver, and what it is to answer and to hold by a second reading.
+use crate::cells::Cells;
+use crate::fault::Fault;
+use crate::generator::Generator;
+use crate::hostile;
+use crate::reading::{Opening, Wanted, offer, read};
+use path_merge::{Receiver, Refusal, Taken};
+use st_format::{Depth, Format, Path, Sampling};
+use std::alloc::Global;
+
+/// How many datagrams a receiver is given.
+pub const ROUND: u64 = 64;
+
+/// How often each answer came: refusals 1 to 14 by their numbers, kept at 0 and outside at 15.
+pub type Totals = [u64; 16];
+
+/// Timestamps of windows, of which a receiver has the first ones.
+const WINDOW: [u32; 4] = [900, 0, u32::MAX, 0x8000_0000];
+
+/// A receiver, and what it is to hold.
+#[derive(Drop)]
+struct Round {
+    opening: Opening,
+    receiver: Receiver,
+    cells: Vec<Cells>,
+    timestamps: usize,
+    refused: Vec<(Path, u8)>,
+}
+
+/// A small format of any sampling and depth.
+fn any_format(generator: &mut Generator) -> Result<Format, Fault> {
+    let sampling = match generator.below(3) {
+        0 => Sampling::Ycc422,
+        1 => Sampling::Ycc444,
+        _ => Sampling::Rgb,
+    };
+    let depth = match generator.below(4) {
+        0 => Depth::D8,
+        1 => Depth::D10,
+        2 => Depth::D12,
+        _ => Depth::D16,
+    };
+    let width = 4 + 4 * generator.below(5);
+    let height = 1 + generator.below(3);
+    Format::new(sampling, depth, width, height, 60, 1)
+        .ok()
+        .ok_or(Fault)
+}
+
+impl Round {
+    fn open(alloc: Global, generator: &mut Generator) -> Result<Round, Fault> {
+        let format = any_format(generator)?;
+        let payload_type = generator.below(128) as u8;
+        let ssrc = if generator.one_in(2) {
+            Some(generator.number(1, u32::MAX))
+        } else {
+            None
+        };
+        let timestamps = generator.size(4).wrapping_add(1);
+        let window = WINDOW.get(..timestamps).ok_or(Fault)?;
+        let opened = Receiver::open(alloc, format, payload_type, ssrc, window);
+        let mut cells = Vec::new(alloc);
+        for timestamp in window {
+            cells.push(Cells::new(alloc, format, *timestamp)?)?;
+        }
+        Ok(Round {
+            opening: Opening {
+                format,
+                payload_type,
+                ssrc,
+            },
+            receiver: opened.ok().ok_or(Fault)?,
+            cells,
+            timestamps,
+            refused: Vec::new(alloc),
+        })
+    }
+
+    /// What is to be answered, once the values of a datagram that is kept are offered.
+    fn wanted(&mut self, octets: &[u8]) -> Wanted {
+        let good = match read(octets, &self.opening) {
+            Ok(good) => good,
+            Err(number) => return Wanted::Refused(number),
+        };
+        for cells in self.cells.iter_mut() {
+            if cells.timestamp() == good.timestamp {
+                offer(&good, &self.opening.format, cells);
+                return Wanted::Kept(good.number);
+            }
+        }
+        Wanted::Outside
+    }
+
+    /// Whether the receiver answers a datagram as it is to.
+    fn takes(&mut self, path: Path, octets: &[u8], totals: &mut Totals) -> Result<bool, Fault> {
+        let wanted = self.wanted(octets);
+        let found = answer(self.receiver.take(path, octets));
+        if let Wanted::Refused(number) = wanted {
+            self.refused.push((path, number))?;
+        }
+        if let Some(total) = totals.get_mut(place_of(found)) {
+            *total = total.wrapping_add(1);
+        }
+        Ok(found == wanted)
+    }
+
+    /// Whether the receiver holds the cells that it is to, and the refusals.
+    fn holds(&self) -> bool {
+        let mut holds = self.receiver.refusal_count() == self.refused.len();
+        for cells in &self.cells {
+            holds &= cells.are_in(&self.receiver);
+        }
+        for (place, refused) in self.refused.iter().enumerate() {
+            holds &= refusal(&self.receiver, place) == Some(*refused);
+        }
+        holds
+    }
+}
+
+/// The refusal at a place, and its path.
+fn refusal(receiver: &Receiver, place: usize) -> Option<(Path, u8)> {
+    if place < receiver.refusal_count() {
+        let (path, refusal) = receiver.refusal_at(place);
+        Some((path, refusal.number()))
+    } else {
+        None
+    }
+}
+
+/// An answer by its number.
+fn answer(taken: Result<Taken, Refusal>) -> Wanted {
+    match taken {
+        Ok(Taken::Kept(number)) => Wanted::Kept(number),
+        Ok(Taken::Outside) => Wanted::Outside,
+        Err(refusal) => Wanted::Refused(refusal.number()),
+    }
+}
+
+/// The place of an answer in the totals.
+fn place_of(answer: Wanted) -> usize {
+    match answer {
+        Wanted::Kept(_) => 0,
+        Wanted::Refused(number) => usize::from(number),
+        Wanted::Outside => 15,
+    }
+}
+
+/// Gives a receiver so many datagrams. Answers whether it is as it is to be; else the octets are
+/// those of the first datagram that it answered otherwise, or of the last where only what it holds
+/// differs.
+pub fn run(
+    alloc: Global,
+    generator: &mut Generator,
+    count: u64,
+    octets: &mut Vec<u8>,
+    totals: &mut Totals,
+) -> Result<bool, Fault> {
+    let mut round = Round::open(alloc, generator)?;
+    for _ in 0..count.min(ROUND) {
+        let window = WINDOW.get(..round.timestamps).ok_or(Fault)?;
+        hostile::write(generator, &round.opening, window, octets)?;
+        let path = if generator.one_in(2) {
+            Path::A
+        } else {
+            Path::B
+        };
+        if !round.takes(path, octets.as_slice(), totals)? {
+            return Ok(false);
+        }
+    }
+    Ok(round.holds())
+}

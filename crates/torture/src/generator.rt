@@ -1,0 +1,52 @@
+//! Numbers without order, the same for each seed.
+ghost use Rattle.std.specs.Prelude.{◌<◌};
+
+/// A linear congruential generator of 64 bits, of which the upper 31 are drawn.
+#[derive(Drop)]
+pub struct Generator {
+    state: u64,
+}
+
+impl Generator {
+    pub fn new(seed: u64) -> Generator {
+        Generator { state: seed }
+    }
+
+    /// A number below a limit; 0 where the limit is 0.
+    pub fn below(&mut self, limit: u32) -> u32
+        ensures { 0 < limit → result < limit }
+    {
+        self.state = self
+            .state
+            .wrapping_mul(6_364_136_223_846_793_005)
+            .wrapping_add(1_442_695_040_888_963_407);
+        ((self.state >> 33) % u64::from(limit.max(1))) as u32
+    }
+
+    /// The same of a size.
+    pub fn size(&mut self, limit: usize) -> usize {
+        self.below(u32::try_from(limit).unwrap_or(u32::MAX)) as usize
+    }
+
+    /// Whether one of so many draws is the first.
+    pub fn one_in(&mut self, draws: u32) -> bool {
+        self.below(draws) == 0
+    }
+
+    pub fn octet(&mut self) -> u8 {
+        self.below(256) as u8
+    }
+
+    /// A number that is mostly `sound`, and else at a bound, beside it, or any up to `most`.
+    pub fn number(&mut self, sound: u32, most: u32) -> u32 {
+        match self.below(24) {
+            0 => 0,
+            1 => most,
+            2 => most / 2 + 1,
+            3 => sound.wrapping_add(1).min(most),
+            4 => sound.saturating_sub(1),
+            5 => self.below(most.saturating_add(1)),
+            _ => sound,
+        }
+    }
+}
