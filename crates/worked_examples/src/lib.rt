@@ -35,6 +35,10 @@ mod growths;
 #[cfg(test)]
 mod held;
 #[cfg(test)]
+mod job_pictures;
+#[cfg(test)]
+mod job_sending;
+#[cfg(test)]
 mod kernels;
 #[cfg(test)]
 mod last_samples;
@@ -54,6 +58,8 @@ mod picture_files;
 mod pictures;
 #[cfg(test)]
 mod processing;
+#[cfg(test)]
+mod processor_growths;
 #[cfg(test)]
 mod rasters;
 #[cfg(test)]

@@ -15,7 +15,7 @@ pub fn small() -> Result<Format, FormatFault> {
 }
 
 /// A value of a picture, or `None` where there is no such position.
-fn value(picture: &Picture, row: u32, column: u32, component: u8) -> Option<u16> {
+pub fn value(picture: &Picture, row: u32, column: u32, component: u8) -> Option<u16> {
     if picture.format().has_position(row, column, component) {
         Some(picture.get(row, column, component))
     } else {

@@ -32,7 +32,7 @@ const LUMA: [(u32, u32, u16); 8] = [
 ];
 
 /// P0: chroma 128, and that luma.
-fn p0(alloc: Global) -> Result<Picture, Fail> {
+pub fn p0(alloc: Global) -> Result<Picture, Fail> {
     let mut picture = Picture::new(alloc, small()?, [0, 128, 128])?;
     let mut fit = true;
     for (row, column, value) in LUMA {
@@ -51,7 +51,7 @@ fn fitting(picture: Picture, fit: bool) -> Result<Picture, Fail> {
 }
 
 /// A sink of 64 slots of 1,400 octets, that fails at one call; 0 at none.
-fn sink(alloc: Global, fails_in: u64) -> Result<MemoryDatagrams, AllocError> {
+pub fn sink(alloc: Global, fails_in: u64) -> Result<MemoryDatagrams, AllocError> {
     let mut slots = Vec::with_capacity(alloc, 64)?;
     for _ in 0..64u32 {
         slots.push(Vec::with_capacity(alloc, 1400)?)?;
@@ -113,7 +113,7 @@ fn sends(
 }
 
 /// Whether a sink has taken these datagrams, and has failed once where it was to fail.
-fn has_taken(alloc: Global, sink: &MemoryDatagrams, fails_in: u64, datagrams: &[&str]) -> bool {
+pub fn has_taken(alloc: Global, sink: &MemoryDatagrams, fails_in: u64, datagrams: &[&str]) -> bool {
     sink.failures() == fails_in.min(1) && are_datagrams(alloc, sink.taken(), datagrams)
 }
 
