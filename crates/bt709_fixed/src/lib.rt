@@ -45,6 +45,8 @@ ghost use Rattle.st_format.specs.declared.sampling.Sampling.TheVariants.{Rgb, Yc
 
 use st_format::{Depth, Format, Picture, Sampling};
 use std::alloc::{AllocError, Allocator};
+use std::fmt;
+use thiserror::Error;
 
 /// A range of values.
 #[derive(Clone, Copy, Debug, PartialEq, Eq)]
@@ -286,8 +288,8 @@ pub fn as_ycc444(format: Format) -> Format
     }
 }
 
-/// Why there is no picture of other components.
-#[derive(Clone, Copy, Debug, PartialEq, Eq)]
+/// Why there is no picture of other components. `Display` is the fault's name.
+#[derive(Clone, Copy, Debug, PartialEq, Eq, Error)]
 pub enum ColourFault {
     /// The memory was refused.
     NoMemory = 1,
@@ -295,6 +297,32 @@ pub enum ColourFault {
     NotRgb,
     /// The picture isn't of Y, Cb and Cr at each column.
     NotYcc444,
+}
+
+impl ColourFault {
+    ghost use Rattle.bt709_fixed.specs.Faults.{colour_fault_number};
+
+    /// Its number: 1 to 3.
+    pub fn number(self) -> u8
+        ensures { result ≡ colour_fault_number self }
+    {
+        self as u8
+    }
+}
+
+impl fmt::Display for ColourFault {
+    ghost use Rattle.std.specs.Prelude.{Some};
+    ghost use Rattle.bt709_fixed.specs.Faults.{colour_fault_name};
+
+    ghost output = { λ fault. Some (colour_fault_name fault) };
+
+    fn fmt<W: fmt::Write>(&self, f: &mut fmt::Formatter<W>) -> fmt::Result {
+        f.write_str(match self {
+            ColourFault::NoMemory => "NoMemory",
+            ColourFault::NotRgb => "NotRgb",
+            ColourFault::NotYcc444 => "NotYcc444",
+        })
+    }
 }
 
 impl From<AllocError> for ColourFault {

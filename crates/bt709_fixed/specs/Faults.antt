@@ -1,0 +1,14 @@
+-- The numbers of the refusals, and the names that `Display` prints (own).
+use Rattle.std.specs.Prelude.{ℕ, List, codes}
+use Rattle.bt709_fixed.specs.declared.ColourFault.{ColourFault}
+use Rattle.bt709_fixed.specs.declared.ColourFault.TheVariants.{NoMemory, NotRgb, NotYcc444}
+
+abbrev pub colour_fault_number : ColourFault → ℕ
+colour_fault_number NoMemory = 1
+colour_fault_number NotRgb = 2
+colour_fault_number NotYcc444 = 3
+
+abbrev pub colour_fault_name : ColourFault → List ℕ
+colour_fault_name NoMemory = codes "NoMemory"
+colour_fault_name NotRgb = codes "NotRgb"
+colour_fault_name NotYcc444 = codes "NotYcc444"
