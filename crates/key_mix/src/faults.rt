@@ -94,7 +94,10 @@ pub enum SendJobFault {
     /// 9000.
     BadPacketSize,
     /// The sink failed: it took the first `sent` datagrams of the picture, and no more.
-    Sink { sent: u32 },
+    Sink {
+        /// How many datagrams the sink took, fewer than the picture has.
+        sent: u32,
+    },
 }
 
 impl fmt::Display for SendJobFault {

@@ -29,18 +29,29 @@ pub enum Axis {
 /// on the second.
 #[derive(Clone, Copy, Debug, PartialEq, Eq)]
 pub struct WipeShape {
+    /// Columns or rows.
     pub axis: Axis,
+    /// How many columns or rows stand before it, all of the first picture: at most as many as there
+    /// are.
     pub position: u32,
+    /// Over how many columns or rows the one goes into the other, at most as many as there are.
     pub soft: u32,
 }
 
 /// What is made of pictures.
 #[derive(Clone, Copy, Debug, PartialEq, Eq)]
 pub enum Job {
+    /// A picture brought to a range.
     Limit(RangeKind),
+    /// A picture with each value so many 4096ths as far from black, or from the centre for Cb and
+    /// Cr: at most 16384.
     Gain(u32),
+    /// A picture of R, G and B in Y, Cb and Cr (ITU-R BT.709).
     ToYcc444,
+    /// A picture with the Cb and Cr of the even columns alone.
     ToYcc422,
+    /// A wipe from a first picture to a second.
     Wipe(WipeShape),
+    /// A first picture and a second, mixed by the luma of a third.
     Key,
 }

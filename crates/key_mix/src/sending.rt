@@ -27,7 +27,9 @@ use std::alloc::{AllocError, Allocator, Global};
 /// A frame, and what a sample without a value gets: what a job takes for a picture.
 #[derive_where(Clone, Copy)]
 pub struct JobInput<'a, A: Allocator = Global> {
+    /// The frame.
     pub frame: &'a Frame<A>,
+    /// A fill that fits the frame's depth, or a picture of its format.
     pub base: Base<'a, A>,
 }
 
