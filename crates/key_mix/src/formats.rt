@@ -92,7 +92,8 @@ pub(crate) fn test_wipe(a: Format, b: Format, shape: WipeShape) -> Result<(), Jo
     ensures same { OnOk result (a ≡ b) }
     ensures formats { (result ≡ Err FormatsDiffer) ↔ (a ≢ b) }
     ensures shape { (result ≡ Err BadWipe)
-        ↔ ((a ≡ b) × ((extent shape.axis a < shape.position) ⊎ (extent shape.axis a < shape.soft))) }
+        ↔ ((a ≡ b)
+        × ((extent shape.axis a < shape.position) ⊎ (extent shape.axis a < shape.soft))) }
     ensures only { IfErr result (λ e. (e ≡ FormatsDiffer) ⊎ (e ≡ BadWipe)) }
     ensures sound { OnOk result (IsSound (Wipe shape) (a ∷ b ∷ [])) }
     ensures refusal { IfErr result (λ e. IsRefusal e (Wipe shape) (a ∷ b ∷ [])) }

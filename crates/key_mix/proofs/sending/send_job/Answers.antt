@@ -30,5 +30,6 @@ returns-clause-sent g c =
       picture = p;
       made = c.in_ok-picture.ensures.made;
       plan = plan.packets;
-      sent = subst (λ size. IsSentPicture p stamp size plan.packets ds) c.in_ok-plan.ensures.octets h;
+      sent = subst (λ size. IsSentPicture p stamp size plan.packets ds)
+          c.in_ok-plan.ensures.octets h;
     }) c.send_picture.ensures.sent
