@@ -2,6 +2,8 @@
 -- as such, and any other refusal by its subject, number and name (own).
 use Rattle.capture_file.specs.declared.fault.FileFault.{FileFault}
 use Rattle.capture_file.specs.declared.fault.FileFault.TheVariants as file
+use Rattle.key_mix.specs.declared.faults.JobFault.{JobFault}
+use Rattle.key_mix.specs.declared.faults.JobFault.TheVariants as job
 use Rattle.packet_plan.specs.declared.plan.PlanFault.{PlanFault}
 use Rattle.packet_plan.specs.declared.plan.PlanFault.TheVariants as plan
 use Rattle.path_merge.specs.declared.fault.OpenFault.{OpenFault}
@@ -12,7 +14,7 @@ use Rattle.file_engines.specs.declared.fault.Fault.{Fault}
 use Rattle.file_engines.specs.declared.fault.Fault.TheVariants.{Refused, Device, Memory}
 use Rattle.file_engines.specs.declared.fault.Refusal.{Refusal}
 use Rattle.file_engines.specs.declared.fault.Refusal.TheVariants.{Sdp, Open, Plan, Capture, Picture}
-use Rattle.file_engines.specs.declared.fault.Refusal.TheVariants.{State}
+use Rattle.file_engines.specs.declared.fault.Refusal.TheVariants.{State, Job}
 
 abbrev pub of_sdp : SdpFault → Fault
 of_sdp sdp.NoMemory = Memory
@@ -25,6 +27,10 @@ of_open refusal = Refused (Open refusal)
 abbrev pub of_plan : PlanFault → Fault
 of_plan plan.NoMemory = Memory
 of_plan refusal = Refused (Plan refusal)
+
+abbrev pub of_job : JobFault → Fault
+of_job job.NoMemory = Memory
+of_job refusal = Refused (Job refusal)
 
 abbrev pub file_fault : FileFault → Refusal → Fault
 file_fault file.Device refusal = Device

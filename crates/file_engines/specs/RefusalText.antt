@@ -2,6 +2,7 @@
 use Rattle.std.specs.Prelude.{ℕ, List, ◌++◌, codes}
 use Rattle.std.specs.Fmt.{decimal}
 use Rattle.capture_file.specs.Faults.{file_fault_name, file_fault_number}
+use Rattle.key_mix.specs.Faults.{job_fault_name, job_fault_number}
 use Rattle.packet_plan.specs.Faults.{plan_fault_name, plan_fault_number}
 use Rattle.path_merge.specs.Answers.{open_fault_name, open_fault_number}
 use Rattle.sdp_format.specs.Faults.{sdp_fault_name, sdp_fault_number}
@@ -19,11 +20,16 @@ refusal_text refusal.SendFormats = codes "send 1 FormatsDiffer"
 refusal_text refusal.SendPictures = codes "send 2 TooManyPictures"
 refusal_text refusal.SendSdp = codes "send 3 SdpTooLong"
 refusal_text refusal.MergeUnlike = codes "merge 1 OpenedUnlike"
+refusal_text refusal.ProcessJob = codes "process 1 BadJob"
+refusal_text refusal.ProcessFrame = codes "process 2 NoFrame"
+refusal_text refusal.ProcessFill = codes "process 3 BadFill"
+refusal_text refusal.ProcessHold = codes "process 4 HoldDiffers"
 refusal_text (refusal.Sdp f) = numbered_name (codes "sdp ") (sdp_fault_number f) (sdp_fault_name f)
 refusal_text (refusal.Open f) =
     numbered_name (codes "open ") (open_fault_number f) (open_fault_name f)
 refusal_text (refusal.Plan f) =
     numbered_name (codes "plan ") (plan_fault_number f) (plan_fault_name f)
+refusal_text (refusal.Job f) = numbered_name (codes "job ") (job_fault_number f) (job_fault_name f)
 refusal_text (refusal.Capture f) =
     numbered_name (codes "capture ") (file_fault_number f) (file_fault_name f)
 refusal_text (refusal.Picture f) =

@@ -4,6 +4,7 @@ ghost use Rattle.file_engines.specs.LowerFaults.{capture_fault, file_fault, pict
 ghost use Rattle.file_engines.specs.LowerFaults.{state_fault};
 
 use capture_file::FileFault;
+use key_mix::JobFault;
 use packet_plan::PlanFault;
 use path_merge::OpenFault;
 use sdp_format::SdpFault;
@@ -43,12 +44,22 @@ pub enum Refusal {
     SendSdp,
     /// The two receivers are opened unlike.
     MergeUnlike,
+    /// The text is that of no job.
+    ProcessJob,
+    /// A receiver's window hasn't the timestamp.
+    ProcessFrame,
+    /// The fill's text is that of no values, or one is above the greatest of a frame's depth.
+    ProcessFill,
+    /// The held picture's format is not that of the first frame.
+    ProcessHold,
     /// The SDP is refused.
     Sdp(SdpFault),
     /// There is no such receiver.
     Open(OpenFault),
     /// There is no such plan.
     Plan(PlanFault),
+    /// The job is refused.
+    Job(JobFault),
     /// A capture is refused.
     Capture(FileFault),
     /// A picture's file is refused.
@@ -121,6 +132,20 @@ impl From<PlanFault> for Fault {
     }
 }
 
+impl From<JobFault> for Fault {
+    ghost use Rattle.std.specs.Prelude.{◌≡◌};
+    ghost use Rattle.file_engines.specs.LowerFaults.{of_job};
+
+    ghost from_gives = { λ refusal fault. fault ≡ of_job refusal };
+
+    fn from(refusal: JobFault) -> Fault {
+        match refusal {
+            JobFault::NoMemory => Fault::Memory,
+            refusal => Fault::Refused(Refusal::Job(refusal)),
+        }
+    }
+}
+
 /// A fault of a capture.
 pub(crate) fn of_capture(fault: FileFault) -> Fault
     ensures { result ≡ capture_fault fault }
@@ -170,6 +195,10 @@ impl fmt::Display for Refusal {
             Refusal::SendPictures => f.write_str("send 2 TooManyPictures"),
             Refusal::SendSdp => f.write_str("send 3 SdpTooLong"),
             Refusal::MergeUnlike => f.write_str("merge 1 OpenedUnlike"),
+            Refusal::ProcessJob => f.write_str("process 1 BadJob"),
+            Refusal::ProcessFrame => f.write_str("process 2 NoFrame"),
+            Refusal::ProcessFill => f.write_str("process 3 BadFill"),
+            Refusal::ProcessHold => f.write_str("process 4 HoldDiffers"),
             Refusal::Sdp(fault) => {
                 let number = fault.number();
                 write!(f, "sdp {number} {fault}")
@@ -181,6 +210,10 @@ impl fmt::Display for Refusal {
             Refusal::Plan(fault) => {
                 let number = fault.number();
                 write!(f, "plan {number} {fault}")
+            }
+            Refusal::Job(fault) => {
+                let number = fault.number();
+                write!(f, "job {number} {fault}")
             }
             Refusal::Capture(fault) => {
                 let number = fault.number();

@@ -1,10 +1,12 @@
 //! The engine of `merge`.
-ghost use Rattle.std.specs.Prelude.{◌≡◌, ◌≢◌, ◌⊎◌, ◌∷◌, [], IfErr, IfOk, OnOk};
+ghost use Rattle.std.specs.Prelude.{◌≡◌, ◌≢◌, ◌⊎◌, ◌∷◌, [], ℕ, IfErr, IfOk, List, OnOk, Some};
 ghost use Rattle.std.specs.Io.KnownBytes.{Appends};
 ghost use Rattle.file_engines.specs.Fault.{Accounts, IfRefused, NoneFailed, OneFailed, counts};
 ghost use Rattle.file_engines.specs.Merging.{GivesReceiver, IsAgain, Joins, Merges};
 ghost use Rattle.file_engines.specs.Receiving.{Saves};
 ghost use Rattle.path_merge.specs.Frames.{State};
+ghost use Rattle.capture_file.specs.StateFile.{state_text};
+ghost use Rattle.receiver_file.specs.Saved.{kept_of};
 ghost use Rattle.tool_text.specs.Telling.{memory_line};
 
 use crate::fault::{Fault, Refusal, of_state};
@@ -116,11 +118,15 @@ fn merge_both<A: Allocator + Copy, L: ByteSource, R: ByteSource>(
     }
 }
 
-/// Reads a receiver's file.
+/// Reads a receiver's file. What a source that tells its octets was to give is just that file.
+///
+/// Refused where the file is (`state`), with its first fault.
 pub fn read_receiver<A: Allocator + Copy, S: ByteSource>(
     alloc: A,
     source: &mut S,
 ) -> Result<Receiver<A>, Fault>
+    ensures found { IfOk result (λ r. (octets : List ℕ) → S.to_give source.old ≡ Some octets
+        → octets ≡ state_text (kept_of r)) }
     ensures same { IfOk result (λ r. (s : State)
         → GivesReceiver (S.to_give source.old) s → IsAgain s r) }
     ensures failures { Accounts result (counts (S.failures source.old) (S.failures source.new)

@@ -1,7 +1,7 @@
 //! Printing what a run says.
-ghost use Rattle.std.specs.Prelude.{◌++◌, ◌∷◌, [], OnOk};
+ghost use Rattle.std.specs.Prelude.{◌++◌, ◌∷◌, [], IfErr, OnOk};
 ghost use Rattle.std.specs.Io.KnownBytes.{Appends};
-ghost use Rattle.file_engines.specs.Fault.{Accounts, counts};
+ghost use Rattle.file_engines.specs.Fault.{Accounts, IfRefused, counts};
 ghost use Rattle.file_engines.specs.Line.{line_text};
 
 use crate::fault::Fault;
@@ -39,6 +39,7 @@ pub fn print<A: Allocator, O: ByteSink>(
 ) -> Result<(), Fault>
     ensures printed { OnOk result
         (Appends (O.held output.old) (O.held output.new) (line_text line ++ 10 ∷ [])) }
+    ensures unrefused { IfErr result (λ f. IfRefused f ⊥) }
     ensures failures { Accounts result (counts (O.failures output.old) (O.failures output.new)
         ∷ []) }
 {

@@ -7,11 +7,7 @@ use std::alloc::Allocator;
 use tool_text::{Status, report, tell_device, tell_memory};
 
 /// Prints a fault, and tells how the run ends.
-pub fn tell<A: Allocator, F: ByteSink>(
-    fault: Fault,
-    text: &mut String<A>,
-    faults: &mut F,
-) -> Status
+pub fn tell<A: Allocator, F: ByteSink>(fault: Fault, text: &mut String<A>, faults: &mut F) -> Status
     ensures { TellsFault fault result (F.failures faults.old) (F.failures faults.new)
         (F.held faults.old) (F.held faults.new) }
 {

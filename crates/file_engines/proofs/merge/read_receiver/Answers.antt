@@ -1,5 +1,8 @@
 use Rattle.file_engines.proofs.merge.read_receiver.Goals as goal
 
+pub returns-in-Ok-clause-found : goal.returns-in-Ok-clause-found
+returns-in-Ok-clause-found g c = λ octets told. (c.in-Ok.ensures.found octets told).0
+
 pub returns-in-Ok-clause-same : goal.returns-in-Ok-clause-same
 returns-in-Ok-clause-same g c = λ s gives.
     let same = c.in-Ok.ensures.same s gives.told gives.writable in
