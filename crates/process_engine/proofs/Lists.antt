@@ -1,0 +1,22 @@
+-- Lists that a loop makes, one item more each time.
+use Rattle.std.proofs.Common.{◌≡◌, ℕ, ◌+◌, ◌<◌, zero, suc, List, [], ◌∷◌, ◌++◌, length, take, get_or}
+use Rattle.std.proofs.Common.{arith, subst}
+use Rattle.std.specs.List.{AllZip}
+
+zip_suc : {X Y : Type 0} (R : X → Y → Type 0) (xs : List X) (ys : List Y) (i : ℕ) (y : Y)
+    → i < length xs → AllZip R (take i xs) ys → ((d : X) → R (get_or xs i d) y)
+    → AllZip R (take (suc i) xs) (ys ++ y ∷ [])
+zip_suc R [] ys i y some all r = absurd (omega (arith, some))
+zip_suc R (x ∷ xs) [] zero y some all r = (r x, tt)
+zip_suc R (x ∷ xs) (z ∷ ys) zero y some all r = absurd all
+zip_suc R (x ∷ xs) [] (suc i) y some all r = absurd all
+zip_suc R (x ∷ xs) (z ∷ ys) (suc i) y some all r =
+    (all.0, zip_suc R xs ys i y (omega (arith, some)) all.1 r)
+
+-- one item more of a list for each of another's
+pub zip_next : {X Y : Type 0} (R : X → Y → Type 0) (xs : List X) (ys : List Y) (i : ℕ) (y : Y)
+    → i < length xs → AllZip R (take i xs) ys → ((d : X) → R (get_or xs i d) y)
+    → AllZip R (take (i + 1) xs) (ys ++ y ∷ [])
+zip_next R xs ys i y some all r =
+    let same : suc i ≡ i + 1 = omega arith in
+    subst (λ n. AllZip R (take n xs) (ys ++ y ∷ [])) same (zip_suc R xs ys i y some all r)

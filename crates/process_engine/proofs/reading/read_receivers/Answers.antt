@@ -1,0 +1,25 @@
+use Rattle.std.proofs.Common.{◌≡◌, ◌+◌, [], ◌∷◌, ◌++◌, take, arith, ◌∙◌, rules, subst, sym}
+use Rattle.process_engine.specs.Reading.{SayReceivers, SaysReceiver}
+use Rattle.process_engine.proofs.Lists.{zip_next}
+use Rattle.process_engine.proofs.reading.read_receivers.Goals as goal
+
+pub loop-place-preserved : goal.loop-place-preserved
+loop-place-preserved g c =
+    let before = c.loop-place.invariant in
+    let to_give = g.S.ByteSource.to_give in
+    let receiver = c.in_ok-receiver.receiver in
+    let pushed : c.push.new.self.items ≡ c.loop-place.receivers.items ++ receiver ∷ [] =
+    search rules in
+    record {
+      len = omega (arith, before.len, c.in_ok-receiver.ensures.len);
+      failures = omega (arith, before.failures, c.in_ok-receiver.ensures.failures);
+      others = λ k s past. c.in_ok-receiver.ensures.others k s (omega (arith, past))
+          ∙ before.others k s (omega (arith, past));
+      say = subst (λ l. SayReceivers to_give (take (c.loop-place.place + 1) c.args.states.now) l)
+          (sym pushed) (zip_next (λ s r. SaysReceiver (to_give s) r) c.args.states.now
+          c.loop-place.receivers.items c.loop-place.place receiver
+          (omega (arith, before.len, c.loop-place-test.true)) before.say
+          (λ d. subst (λ s. SaysReceiver (to_give s) receiver)
+          (before.others c.loop-place.place d (omega arith))
+          (c.in_ok-receiver.ensures.says d)));
+    }

@@ -1,0 +1,5 @@
+pub mod JobText
+pub mod FillText
+pub mod Inputs
+pub mod Reading
+pub mod Processing

@@ -1,0 +1,44 @@
+-- What `process` sends (own).
+use Rattle.std.specs.Prelude.{◌≡◌, ℕ, ◌^◌, ◌%◌, List, [], ◌∷◌, ◌++◌, Option, length}
+use Rattle.std.specs.Io.KnownBytes.{Appends}
+use Rattle.file_engines.specs.Line.{line_text}
+use Rattle.file_engines.specs.declared.line.Line.TheVariants.{Sent}
+use Rattle.file_engines.specs.LowerFaults.{of_job, of_plan}
+use Rattle.file_engines.specs.declared.fault.Fault.{Fault}
+use Rattle.file_engines.specs.declared.fault.Fault.TheVariants.{Device}
+use Rattle.key_mix.specs.declared.faults.SendJobFault.{SendJobFault}
+use Rattle.key_mix.specs.declared.faults.SendJobFault.TheVariants as sending
+use Rattle.packet_plan.specs.declared.plan.PlanFault.TheVariants as plan
+use Rattle.key_mix.specs.Sending.{IsSentJob}
+use Rattle.key_mix.specs.declared.Job.{Job}
+use Rattle.packet_plan.specs.declared.stamp.Stamp.{Stamp}
+use Rattle.path_merge.specs.Frames.{State}
+use Rattle.st_format.specs.Device.{TakesAll}
+use Rattle.st_format.specs.Picture.{Values}
+use Rattle.st_format.specs.Raster.{Raster}
+use Rattle.process_engine.specs.Inputs.{AreFramesAt, IsFill, IsHeldFor, settled_frames}
+
+-- A sink took the datagrams of a job's picture of pictures; so many modulo 2^32.
+pub record TakesJob (job : Job) (pictures : List Values) (size : ℕ) (stamp : Stamp)
+    (old new : Option (List (List ℕ))) (count : ℕ) : Type 0 where
+  pub datagrams : List (List ℕ)
+  pub spell : IsSentJob job pictures size stamp datagrams
+  pub taken : TakesAll old new datagrams
+  pub count_is : count ≡ length datagrams % 2 ^ 32
+
+-- A sink took those of receivers' frames of a timestamp, each settled.
+pub record SendsJob (job : Job) (ts : ℕ) (fill_text : List ℕ) (size : ℕ) (stamp : Stamp)
+    (rs : List State) (held : Option Values) (old new : Option (List (List ℕ))) (count : ℕ) :
+    Type 0 where
+  pub frames : List Raster
+  pub are : AreFramesAt ts rs frames
+  pub fill : List ℕ
+  pub fill_is : IsFill fill_text fill frames
+  pub held_is : IsHeldFor held frames
+  pub takes : TakesJob job (settled_frames held fill frames) size stamp old new count
+
+-- a fault of a sending
+abbrev pub of_send_job : SendJobFault → Fault
+of_send_job (sending.Job e) = of_job e
+of_send_job sending.BadPacketSize = of_plan plan.BadPacketSize
+of_send_job (sending.Sink sent) = Device

@@ -1,0 +1,27 @@
+-- What the files say that are processed (own).
+use Rattle.std.specs.Prelude.{◌≡◌, ℕ, List, Option, None, Some, ⊤}
+use Rattle.std.specs.List.{AllZip}
+use Rattle.capture_file.specs.PictureFile.{picture_text}
+use Rattle.capture_file.specs.StateFile.{state_text}
+use Rattle.path_merge.specs.Frames.{State}
+use Rattle.receiver_file.specs.Saved.{kept_of}
+use Rattle.st_format.specs.Picture.{Values}
+
+-- a source was to give the file of a receiver, if it tells what it is to give
+abbrev pub SaysReceiver : Option (List ℕ) → State → Type 0
+SaysReceiver told r = (octets : List ℕ) → told ≡ Some octets → octets ≡ state_text (kept_of r)
+
+-- sources were to give those of receivers, one each
+abbrev pub SayReceivers : {S : Type 0} → (S → Option (List ℕ)) → List S → List State → Type 0
+SayReceivers to_give ss rs = AllZip (λ s r. SaysReceiver (to_give s) r) ss rs
+
+-- a source was to give the file of a picture
+abbrev pub SaysPicture : Option (List ℕ) → Values → Type 0
+SaysPicture told p = (octets : List ℕ) → told ≡ Some octets → octets ≡ picture_text p
+
+-- there is a picture where there is a source, which was to give its file
+abbrev pub SaysHeld : {S : Type 0} → (S → Option (List ℕ)) → Option S → Option Values → Type 0
+SaysHeld to_give None None = ⊤
+SaysHeld to_give None (Some p) = ⊥
+SaysHeld to_give (Some s) None = ⊥
+SaysHeld to_give (Some s) (Some p) = SaysPicture (to_give s) p

@@ -1,0 +1,200 @@
+//! The engine of `process`.
+ghost use Rattle.std.specs.Prelude.{◌≡◌, ◌≢◌, ◌≤◌, ◌⊎◌, ◌∷◌, [], ◌-◌, ◌+◌, ◌^◌, ◌%◌};
+ghost use Rattle.std.specs.Prelude.{IfErr, IfOk, length};
+ghost use Rattle.std.specs.Prelude.{sum_by, List, ℕ};
+ghost use Rattle.std.specs.List.{AllByRecursion};
+ghost use Rattle.std.specs.Io.KnownBytes.{Appends};
+ghost use Rattle.file_engines.specs.Fault.{Accounts, IfRefused, NoneFailed, OneFailed, counts};
+ghost use Rattle.file_engines.specs.Receiving.{failures_in};
+ghost use Rattle.key_mix.specs.Sending.{HasBase, IsSentJob, settled_inputs};
+ghost use Rattle.process_engine.specs.Processing.{SendsJob, TakesJob, of_send_job};
+ghost use Rattle.st_format.specs.Device.{TakesAll};
+ghost use Rattle.tool_text.specs.Telling.{memory_line};
+
+use crate::inputs::{check_held, fill_for, frames_at, inputs_of};
+use crate::job_text::read_job;
+use crate::reading::{read_held, read_receivers};
+use file_engines::{Fault, Line, Refusal, print, tell};
+use key_mix::{Job, JobInput, SendJobFault, send_job};
+use packet_plan::{PlanFault, Stamp};
+use path_merge::Receiver;
+use st_format::{ByteSink, ByteSource, DatagramSink, Picture};
+use std::alloc::Allocator;
+use tool_text::{LINE, Status, tell_memory};
+
+/// What `process` is asked for, beside its files.
+#[derive(Clone, Copy, Debug, PartialEq, Eq)]
+pub struct Processing<'a> {
+    /// The job, as `limit:nominal`, `limit:video`, `gain:G`, `ycc444`, `ycc422`,
+    /// `wipe:columns:P:S`, `wipe:rows:P:S` or `key`.
+    pub job: &'a [u8],
+    /// The timestamp of the frames, in ticks of a 90 kHz clock.
+    pub timestamp: u32,
+    /// The value of each component, with commas between, for a sample that has none.
+    pub fill: &'a [u8],
+    /// What the packets have in common; the payload type is at most 127.
+    pub stamp: Stamp,
+    /// The most octets of a packet.
+    pub max_octets: u32,
+}
+
+/// Runs a job on the frames of a timestamp, one of each receiver, sends the job's picture into
+/// `sink`, and prints `sent N` to `output`, how many datagrams that are.
+///
+/// The receivers' files are read in their order, and then the picture of `hold`, where there is
+/// one. The first frame takes the held picture's values where it has none, and each other the
+/// fill's.
+///
+/// The status is 0; or 1 where the job's text is none (`process 1`, before any file is read), a
+/// file is refused, a receiver's window hasn't the timestamp (`process 2`), the fill's text is none
+/// or has a value above the greatest of a frame's depth (`process 3`), the held picture has another
+/// format than the first frame (`process 4`), or, in this order, the job is refused (`job`) or there
+/// is no such plan (`plan`); 3 where a device failed, and 4 where the allocator refused memory.
+/// `faults` is told of it by one line. Nothing is sent where the status is 1.
+pub fn run_process<A, S, K, O, F>(
+    alloc: A,
+    wanted: Processing<'_>,
+    states: &mut [S],
+    hold: &mut Option<S>,
+    sink: &mut K,
+    output: &mut O,
+    faults: &mut F,
+) -> u8
+where
+    A: Allocator + Copy,
+    S: ByteSource,
+    K: DatagramSink,
+    O: ByteSink,
+    F: ByteSink,
+    requires payload_type { wanted.stamp.payload_type ≤ 127 }
+    ensures range { (result ≡ 0) ⊎ (result ≡ 1) ⊎ (result ≡ 3) ⊎ (result ≡ 4) }
+    ensures device { result ≡ 3
+        → OneFailed (counts (sum_by S.failures states.old) (sum_by S.failures states.new)
+        ∷ counts (failures_in S.failures hold.old) (failures_in S.failures hold.new)
+        ∷ counts (K.failures sink.old) (K.failures sink.new)
+        ∷ counts (O.failures output.old) (O.failures output.new)
+        ∷ counts (F.failures faults.old) (F.failures faults.new) ∷ []) }
+    ensures working { result ≢ 3
+        → NoneFailed (counts (sum_by S.failures states.old) (sum_by S.failures states.new)
+        ∷ counts (failures_in S.failures hold.old) (failures_in S.failures hold.new)
+        ∷ counts (K.failures sink.old) (K.failures sink.new)
+        ∷ counts (O.failures output.old) (O.failures output.new)
+        ∷ counts (F.failures faults.old) (F.failures faults.new) ∷ []) }
+    ensures refused { result ≡ 1 → K.taken sink.new ≡ K.taken sink.old }
+    ensures silent { result ≡ 0 → faults.new ≡ faults.old }
+    ensures memory { result ≡ 4 → Appends (F.held faults.old) (F.held faults.new) memory_line }
+{
+    let Ok(mut text) = String::with_capacity(alloc, LINE) else {
+        return tell_memory(faults).number();
+    };
+    match process(alloc, wanted, states, hold, sink, output, &mut text) {
+        Ok(()) => Status::Done.number(),
+        Err(fault) => tell(fault, &mut text, faults).number(),
+    }
+}
+
+/// Reads the job and the files, sends the job's picture, and prints how many datagrams it was.
+fn process<A, S, K, O>(
+    alloc: A,
+    wanted: Processing<'_>,
+    states: &mut [S],
+    hold: &mut Option<S>,
+    sink: &mut K,
+    output: &mut O,
+    text: &mut String<A>,
+) -> Result<(), Fault>
+where
+    A: Allocator + Copy,
+    S: ByteSource,
+    K: DatagramSink,
+    O: ByteSink,
+    requires payload_type { wanted.stamp.payload_type ≤ 127 }
+    ensures refused { IfErr result (λ f. IfRefused f (K.taken sink.new ≡ K.taken sink.old)) }
+    ensures failures { Accounts result
+        (counts (sum_by S.failures states.old) (sum_by S.failures states.new)
+        ∷ counts (failures_in S.failures hold.old) (failures_in S.failures hold.new)
+        ∷ counts (K.failures sink.old) (K.failures sink.new)
+        ∷ counts (O.failures output.old) (O.failures output.new) ∷ []) }
+{
+    let sent = process_files(alloc, wanted, states, hold, sink)?;
+    print(Line::Sent(u64::from(sent)), output, text)
+}
+
+/// Reads the job and the files, sends the job's picture, and answers how many datagrams that is.
+fn process_files<A: Allocator + Copy, S: ByteSource, K: DatagramSink>(
+    alloc: A,
+    wanted: Processing<'_>,
+    states: &mut [S],
+    hold: &mut Option<S>,
+    sink: &mut K,
+) -> Result<u32, Fault>
+    requires payload_type { wanted.stamp.payload_type ≤ 127 }
+    ensures refused { IfErr result (λ f. IfRefused f (K.taken sink.new ≡ K.taken sink.old)) }
+    ensures failures { Accounts result
+        (counts (sum_by S.failures states.old) (sum_by S.failures states.new)
+        ∷ counts (failures_in S.failures hold.old) (failures_in S.failures hold.new)
+        ∷ counts (K.failures sink.old) (K.failures sink.new) ∷ []) }
+{
+    let Some(job) = read_job(wanted.job) else {
+        return Err(Fault::Refused(Refusal::ProcessJob));
+    };
+    let receivers = read_receivers(alloc, states)?;
+    let held = read_held(alloc, hold)?;
+    send_frames(alloc, &job, wanted, &receivers, &held, sink)
+}
+
+/// Sends the job's picture of the receivers' frames, and answers how many datagrams that is.
+fn send_frames<A: Allocator + Copy, K: DatagramSink>(
+    alloc: A,
+    job: &Job,
+    wanted: Processing<'_>,
+    receivers: &[Receiver<A>],
+    held: &Option<Picture<A>>,
+    sink: &mut K,
+) -> Result<u32, Fault>
+    requires payload_type { wanted.stamp.payload_type ≤ 127 }
+    ensures refused { IfErr result (λ f. IfRefused f (K.taken sink.new ≡ K.taken sink.old)) }
+    ensures sent { IfOk result (λ n. SendsJob job.now wanted.entry.timestamp wanted.entry.fill.now
+        wanted.entry.max_octets wanted.entry.stamp receivers.now held.now
+        (K.taken sink.old) (K.taken sink.new) n) }
+    ensures failures { Accounts result (counts (K.failures sink.old) (K.failures sink.new) ∷ []) }
+{
+    let frames = frames_at(alloc, receivers, wanted.timestamp)?;
+    let fill = fill_for(wanted.fill, &frames)?;
+    check_held(held, &frames)?;
+    let inputs = inputs_of(alloc, &frames, fill, held)?;
+    send(alloc, job, &inputs, wanted, sink)
+}
+
+/// Sends the job's picture, and answers how many datagrams that is.
+fn send<A: Allocator + Copy, K: DatagramSink>(
+    alloc: A,
+    job: &Job,
+    inputs: &[JobInput<'_, A>],
+    wanted: Processing<'_>,
+    sink: &mut K,
+) -> Result<u32, Fault>
+    requires bases { AllByRecursion HasBase inputs.now }
+    requires payload_type { wanted.stamp.payload_type ≤ 127 }
+    ensures refused { IfErr result (λ f. IfRefused f (K.taken sink.new ≡ K.taken sink.old)) }
+    ensures sent { IfOk result (λ n. TakesJob job.now (settled_inputs inputs.now)
+        wanted.entry.max_octets wanted.entry.stamp (K.taken sink.old) (K.taken sink.new) n) }
+    ensures failures { Accounts result (counts (K.failures sink.old) (K.failures sink.new) ∷ []) }
+{
+    let stamp = wanted.stamp;
+    match send_job(alloc, job, inputs, wanted.max_octets, stamp, sink) {
+        Ok(next) => Ok(next.wrapping_sub(stamp.first)),
+        Err(fault) => Err(send_job_fault(fault)),
+    }
+}
+
+/// A fault of the sending as one that ends a run.
+fn send_job_fault(fault: SendJobFault) -> Fault
+    ensures { result ≡ of_send_job fault }
+{
+    match fault {
+        SendJobFault::Job(fault) => Fault::from(fault),
+        SendJobFault::BadPacketSize => Fault::from(PlanFault::BadPacketSize),
+        SendJobFault::Sink { .. } => Fault::Device,
+    }
+}
