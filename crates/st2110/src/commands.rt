@@ -20,6 +20,7 @@ pub fn program<'a>(alloc: Global) -> Result<Command<'a>, AllocError> {
     let named = with_command(named, send_command(alloc)?)?;
     let named = with_command(named, receive_command(alloc)?)?;
     let named = with_command(named, merge_command(alloc)?)?;
+    let named = with_command(named, report_command(alloc)?)?;
     let named = with_command(named, loop_command(alloc)?)?;
     with_command(named, migrate_command(alloc)?)
 }
@@ -132,6 +133,15 @@ fn merge_command<'a>(alloc: Global) -> Result<Command<'a>, AllocError> {
         .arg(required(alloc, "state", "FILE").help("Where the merged receiver is written"))?
         .arg(one_file(alloc, "left", "LEFT").help("Receiver's file, as receive writes it"))?
         .arg(one_file(alloc, "right", "RIGHT").help("The receiver's file that is merged into it"))
+}
+
+fn report_command<'a>(alloc: Global) -> Result<Command<'a>, AllocError> {
+    Command::new(alloc, "report")
+        .about(
+            "Prints what a receiver was opened with, and of each frame its counts, its missing \
+             pixel groups and its contested samples",
+        )
+        .arg(one_file(alloc, "state", "STATE").help("Receiver's file, as receive writes it"))
 }
 
 fn loop_command<'a>(alloc: Global) -> Result<Command<'a>, AllocError> {

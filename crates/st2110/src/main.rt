@@ -12,7 +12,7 @@ mod told;
 mod wanted;
 mod words;
 
-use crate::runs::{loop_back, merge, migrate, receive, rehearse, sdp, send, trace};
+use crate::runs::{loop_back, merge, migrate, receive, rehearse, report, sdp, send, trace};
 use crate::words::{Given, Words, WordsFault, given_words, read_words};
 use st2110_tool::Status;
 use std::fs::File;
@@ -54,6 +54,7 @@ fn follow(rt: &HostRuntime, given: &Given<'_>) -> u8 {
         Words::Send(words) => send(rt, words, is_verbose),
         Words::Receive(words) => receive(rt, words, is_verbose),
         Words::Merge(words) => merge(rt, words, is_verbose),
+        Words::Report(state) => report(rt, state, is_verbose),
         Words::Loop(words) => loop_back(rt, words, is_verbose),
     }
 }

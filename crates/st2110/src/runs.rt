@@ -7,8 +7,8 @@ use crate::streams::{InputSource, OutputSink};
 use crate::told::FaultSink;
 use crate::words::{LoopWords, MergeWords, MigrateWords, ReceiveWords, SendWords};
 use st2110_tool::{
-    Status, Wanted, run_loop, run_merge, run_migrate, run_receive, run_rehearse, run_sdp, run_send,
-    run_trace,
+    Status, Wanted, run_loop, run_merge, run_migrate, run_receive, run_rehearse, run_report,
+    run_sdp, run_send, run_trace,
 };
 use std::alloc::AllocError;
 use std::io::{Read, Write};
@@ -163,6 +163,22 @@ pub fn merge(rt: &HostRuntime, words: &MergeWords<'_>, is_verbose: bool) -> u8 {
         sdp: None,
         read: begun(&right).or(begun(&left)),
         written: Some(state.writing()),
+        output: output.writing(),
+    };
+    explain(rt, is_verbose, &devices, &faults);
+    status
+}
+
+/// Prints what a receiver lacks that was written as a file.
+pub fn report(rt: &HostRuntime, name: &str, is_verbose: bool) -> u8 {
+    let mut state = FileSource::new(rt, name);
+    let mut output = OutputSink::new(rt.stdout());
+    let mut faults = FaultSink::new(rt.alloc(), rt.stderr());
+    let status = run_report(rt.alloc(), &mut state, &mut output, &mut faults);
+    let devices = Devices {
+        sdp: None,
+        read: begun(&state),
+        written: None,
         output: output.writing(),
     };
     explain(rt, is_verbose, &devices, &faults);

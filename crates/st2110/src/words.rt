@@ -34,6 +34,8 @@ pub enum Words<'a> {
     Receive(ReceiveWords<'a>),
     /// Merge two receivers.
     Merge(MergeWords<'a>),
+    /// Report what a receiver's file lacks, by its name.
+    Report(&'a str),
     /// Send a picture over a link, and take what comes.
     Loop(LoopWords<'a>),
 }
@@ -151,6 +153,7 @@ fn command<'a>(alloc: Global, matches: &ArgMatches<'a>) -> Result<Words<'a>, All
         Some(("send", given)) => Words::Send(send_words(alloc, given)?),
         Some(("receive", given)) => Words::Receive(receive_words(alloc, given)?),
         Some(("merge", given)) => Words::Merge(merge_words(given)),
+        Some(("report", given)) => Words::Report(word(given, "state")),
         Some(("loop", given)) => Words::Loop(loop_words(given)),
         // clap lets `trace` and no words through, and nothing else.
         _ => Words::Trace,
