@@ -149,7 +149,7 @@ END
 octets "$old_head $d1" >old.cap
 
 for part in text examples forms windows rehearsals descriptions limits \
-    migrate receive send merge report loop words devices verbose launcher; do
+    migrate receive send merge process report loop words devices verbose launcher; do
     if [ -f "$root/tests/program/$part.sh" ]; then
         . "$root/tests/program/$part.sh"
     fi

@@ -22,7 +22,7 @@ for asked in --version -V; do
 done
 for asked in --help -h help; do
     run $asked
-    holds_words "$asked" 'Usage: st2110' trace sdp rehearse migrate send receive merge report loop \
+    holds_words "$asked" 'Usage: st2110' trace sdp rehearse migrate send receive merge process report loop \
         --verbose --help --version
 done
 
@@ -42,6 +42,7 @@ migrate --sdp --out FILE <CAPTURE>
 send --out --pt --first --base --ssrc --max --paths --sdp 96 1400 <PICTURE>...
 receive --sdp --window --ssrc --state --refusals any <CAPTURE>...
 merge --state <LEFT> <RIGHT>
+process --job --ts --fill --hold --out --pt --first --base --ssrc --max 96 1400 <STATE>...
 report <STATE>
 loop --max --limit 1400 100000 <PICTURE>
 END

@@ -20,6 +20,7 @@ pub fn program<'a>(alloc: Global) -> Result<Command<'a>, AllocError> {
     let named = with_command(named, send_command(alloc)?)?;
     let named = with_command(named, receive_command(alloc)?)?;
     let named = with_command(named, merge_command(alloc)?)?;
+    let named = with_command(named, process_command(alloc)?)?;
     let named = with_command(named, report_command(alloc)?)?;
     let named = with_command(named, loop_command(alloc)?)?;
     with_command(named, migrate_command(alloc)?)
@@ -62,8 +63,8 @@ fn send_command<'a>(alloc: Global) -> Result<Command<'a>, AllocError> {
             "SDP text that the capture has; without it, its text is empty",
         ))?;
     let command = with_stamp(alloc, command)?;
+    let command = with_max(alloc, command)?;
     command
-        .arg(packet_size(alloc))?
         .arg(
             optional(alloc, "paths", "PATHS")
                 .value_parser(ValueParser::Names(PATHS))
@@ -75,8 +76,10 @@ fn send_command<'a>(alloc: Global) -> Result<Command<'a>, AllocError> {
         ))
 }
 
-fn packet_size<'a>(alloc: Global) -> Arg<'a> {
-    number(alloc, "max", "OCTETS", "1400").help("The most octets of a packet, up to 9000")
+fn with_max<'a>(alloc: Global, command: Command<'a>) -> Result<Command<'a>, AllocError> {
+    command.arg(number(alloc, "max", "OCTETS", "1400").help(
+        "The most octets of a packet, up to 9000",
+    ))
 }
 
 /// What the packets of a stream have in common, and where its numbers and timestamps begin.
@@ -135,6 +138,37 @@ fn merge_command<'a>(alloc: Global) -> Result<Command<'a>, AllocError> {
         .arg(one_file(alloc, "right", "RIGHT").help("The receiver's file that is merged into it"))
 }
 
+fn process_command<'a>(alloc: Global) -> Result<Command<'a>, AllocError> {
+    let command = Command::new(alloc, "process")
+        .about(
+            "Runs a job on the frames of one timestamp, sends its picture into a capture, and \
+             prints how many datagrams that are",
+        )
+        .arg(required(alloc, "job", "JOB").help(
+            "limit:nominal, limit:video, gain:G (4096 is unity), ycc444, ycc422, \
+             wipe:columns:P:S, wipe:rows:P:S (position and softness) or key",
+        ))?
+        .arg(ticks(alloc, "ts").help("The timestamp of the frames, in ticks of 90 kHz"))?
+        .arg(required(alloc, "fill", "A,B,C").help(
+            "For a sample that is missing or contested, a value of each component",
+        ))?;
+    let command = with_processed(alloc, command)?;
+    let command = with_stamp(alloc, command)?;
+    with_max(alloc, command)
+}
+
+/// The files of `process`.
+fn with_processed<'a>(alloc: Global, command: Command<'a>) -> Result<Command<'a>, AllocError> {
+    command
+        .arg(optional(alloc, "hold", "FILE").help(
+            "Picture whose values the first frame takes in place of the fill's",
+        ))?
+        .arg(required(alloc, "out", "FILE").help("Where the capture is written"))?
+        .arg(files(alloc, "states", "STATE").help(
+            "Receivers' files, one for each picture that the job takes",
+        ))
+}
+
 fn report_command<'a>(alloc: Global) -> Result<Command<'a>, AllocError> {
     Command::new(alloc, "report")
         .about(
@@ -145,14 +179,14 @@ fn report_command<'a>(alloc: Global) -> Result<Command<'a>, AllocError> {
 }
 
 fn loop_command<'a>(alloc: Global) -> Result<Command<'a>, AllocError> {
-    Command::new(alloc, "loop")
+    let command = Command::new(alloc, "loop")
         .about(
             "Sends a picture from one socket of this machine to another, and prints how many \
              datagrams were sent, how many came, and a line for the frame",
         )
-        .arg(packet_size(alloc))?
         .arg(turns(alloc))?
-        .arg(one_file(alloc, "picture", "PICTURE").help("The picture that is sent"))
+        .arg(one_file(alloc, "picture", "PICTURE").help("The picture that is sent"))?;
+    with_max(alloc, command)
 }
 
 fn turns<'a>(alloc: Global) -> Arg<'a> {
@@ -183,6 +217,11 @@ fn number<'a>(alloc: Global, name: &'a str, value: &'a str, default: &'a str) ->
     optional(alloc, name, value)
         .value_parser(clap::value_parser!(u32))
         .default_value(default)
+}
+
+/// An option whose value is a timestamp, which has to be given.
+fn ticks<'a>(alloc: Global, name: &'a str) -> Arg<'a> {
+    required(alloc, name, "TS").value_parser(clap::value_parser!(u32))
 }
 
 /// An option with a value that has to be given.

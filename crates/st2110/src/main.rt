@@ -1,6 +1,7 @@
 //! The program `st2110`: words in, a status out.
 #![tactic(auto)]
 
+mod captures;
 mod commands;
 mod files;
 mod link;
@@ -12,7 +13,9 @@ mod told;
 mod wanted;
 mod words;
 
-use crate::runs::{loop_back, merge, migrate, receive, rehearse, report, sdp, send, trace};
+use crate::runs::{
+    loop_back, merge, migrate, process, receive, rehearse, report, sdp, send, trace,
+};
 use crate::words::{Given, Words, WordsFault, given_words, read_words};
 use st2110_tool::Status;
 use std::fs::File;
@@ -54,6 +57,7 @@ fn follow(rt: &HostRuntime, given: &Given<'_>) -> u8 {
         Words::Send(words) => send(rt, words, is_verbose),
         Words::Receive(words) => receive(rt, words, is_verbose),
         Words::Merge(words) => merge(rt, words, is_verbose),
+        Words::Process(words) => process(rt, words, is_verbose),
         Words::Report(state) => report(rt, state, is_verbose),
         Words::Loop(words) => loop_back(rt, words, is_verbose),
     }

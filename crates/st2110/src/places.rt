@@ -107,6 +107,9 @@ pub fn tell_place(rt: &HostRuntime, told: &Told<'_>, devices: &Devices<'_>) {
         ("open", _) | ("receive", 1) => tell_name(rt, "--window", wanted(told)),
         ("receive", 2) => tell_name(rt, "--ssrc", wanted(told)),
         ("send", 2) => tell_name(rt, "the pictures", wanted(told)),
+        ("job", _) | ("process", 1) => tell_name(rt, "--job", wanted(told)),
+        ("process", 2) => tell_name(rt, "--ts", wanted(told)),
+        ("process", 3) => tell_name(rt, "--fill", wanted(told)),
         // An SDP without a file of its own is that of the first capture
         ("sdp", _) | ("send", 3) | ("migrate", _) | ("receive", 3) => {
             tell_reading(rt, devices.sdp.or(devices.read), wanted(told));

@@ -1,14 +1,15 @@
 //! The commands, each with the real devices that its engine works on.
+use crate::captures::CaptureSink;
 use crate::files::{FileSink, FileSource};
 use crate::link::{UdpLink, unbound};
 use crate::places::{Devices, Reading, tell_place};
 use crate::script::{Kind, tell_line};
 use crate::streams::{InputSource, OutputSink};
 use crate::told::FaultSink;
-use crate::words::{LoopWords, MergeWords, MigrateWords, ReceiveWords, SendWords};
+use crate::words::{LoopWords, MergeWords, MigrateWords, ProcessWords, ReceiveWords, SendWords};
 use st2110_tool::{
-    Status, Wanted, run_loop, run_merge, run_migrate, run_receive, run_rehearse, run_report,
-    run_sdp, run_send, run_trace,
+    Processing, Status, Wanted, run_loop, run_merge, run_migrate, run_process, run_receive,
+    run_rehearse, run_report, run_sdp, run_send, run_trace,
 };
 use std::alloc::AllocError;
 use std::io::{Read, Write};
@@ -167,6 +168,59 @@ pub fn merge(rt: &HostRuntime, words: &MergeWords<'_>, is_verbose: bool) -> u8 {
     };
     explain(rt, is_verbose, &devices, &faults);
     status
+}
+
+/// Runs a job on frames of receivers, and sends its picture into a capture.
+pub fn process<'a>(rt: &'a HostRuntime, words: &ProcessWords<'a>, is_verbose: bool) -> u8 {
+    let mut output = OutputSink::new(rt.stdout());
+    let mut faults = FaultSink::new(rt.alloc(), rt.stderr());
+    let Ok(mut states) = sources(rt, words.states.as_slice()) else {
+        return without_memory(rt);
+    };
+    let mut hold = source(rt, words.hold);
+    let mut sink = CaptureSink::new(FileSink::new(rt, words.out));
+    let status = run_process(
+        rt.alloc(),
+        processing(words),
+        states.as_mut_slice(),
+        &mut hold,
+        &mut sink,
+        &mut output,
+        &mut faults,
+    );
+    let Some(mut out) = sink.into_file() else {
+        return status;
+    };
+    let status = finish(status, &mut out, &mut faults);
+    let devices = Devices {
+        sdp: None,
+        read: reading_begun(&hold).or(last_begun(&states)),
+        written: Some(out.writing()),
+        output: output.writing(),
+    };
+    explain(rt, is_verbose, &devices, &faults);
+    status
+}
+
+/// What `process` is asked for, beside its files.
+fn processing<'a>(words: &ProcessWords<'a>) -> Processing<'a>
+    ensures { result.stamp.payload_type ≤ 127 }
+{
+    Processing {
+        job: words.job.as_bytes(),
+        timestamp: words.timestamp,
+        fill: words.fill.as_bytes(),
+        stamp: words.stamp,
+        max_octets: words.max_octets,
+    }
+}
+
+/// Where the reading of a file stands, where one is named and it began.
+fn reading_begun<'a>(source: &Option<FileSource<'a>>) -> Option<Reading<'a>> {
+    match source {
+        Some(source) => begun(source),
+        None => None,
+    }
 }
 
 /// Prints what a receiver lacks that was written as a file.

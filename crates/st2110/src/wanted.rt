@@ -11,6 +11,8 @@ pub fn wanted(told: &Told<'_>) -> &'static str {
         "numbers" => "a COUNT from 1 to 1048576",
         "plan" => "20 octets and a pgroup at least, and at most 9000",
         "capture" | "picture" | "state" => of_file(told),
+        "job" => of_job(told.number),
+        "process" => of_process(told.number),
         _ => of_words(told),
     }
 }
@@ -81,6 +83,32 @@ fn of_file(told: &Told<'_>) -> &'static str {
         (_, 7) => "the end",
         (_, 8) => "a mask of some of the pgroup's samples, each of them 0",
         _ => "the end, after at most 16777216 records",
+    }
+}
+
+/// What was wanted of a job.
+fn of_job(number: usize) -> &'static str {
+    match number {
+        2 => "frames of one format, and a key of their size, depth and rate",
+        3 => "a key of Y, Cb and Cr",
+        4 => "P and S of at most the width, or for rows the height",
+        5 => "a frame of R, G and B",
+        6 => "a frame of Y, Cb and Cr at each column",
+        7 => "one receiver, for a wipe two and for key three",
+        _ => "a gain of at most 16384",
+    }
+}
+
+/// What was wanted of the words of `process`, and of the picture that it holds.
+fn of_process(number: usize) -> &'static str {
+    match number {
+        1 => {
+            "limit:nominal, limit:video, gain:G, ycc444, ycc422, wipe:columns:P:S, wipe:rows:P:S \
+             or key"
+        }
+        2 => "a timestamp of each receiver's window",
+        3 => "three numbers with commas between, none above the greatest value of a frame",
+        _ => "a picture of the first frame's format",
     }
 }
 

@@ -4,7 +4,7 @@ ghost use Rattle.std.specs.Prelude.{◌≤◌};
 use crate::commands::program;
 use clap::error::ErrorKind;
 use clap::{ArgMatches, Error};
-use st2110_tool::{Looping, Paths, Sending};
+use st2110_tool::{Looping, Paths, Sending, Stamp};
 use std::alloc::{AllocError, Global};
 use std::rt::Env;
 use std::{env, io};
@@ -34,6 +34,8 @@ pub enum Words<'a> {
     Receive(ReceiveWords<'a>),
     /// Merge two receivers.
     Merge(MergeWords<'a>),
+    /// Run a job on frames of receivers, and send its picture.
+    Process(ProcessWords<'a>),
     /// Report what a receiver's file lacks, by its name.
     Report(&'a str),
     /// Send a picture over a link, and take what comes.
@@ -82,6 +84,24 @@ pub struct MergeWords<'a> {
     pub state: &'a str,
     pub left: &'a str,
     pub right: &'a str,
+}
+
+/// The words behind `process`.
+#[derive(Drop)]
+pub struct ProcessWords<'a> {
+    pub job: &'a str,
+    /// The timestamp of the frames.
+    pub timestamp: u32,
+    pub fill: &'a str,
+    /// The held picture's file, where one is named.
+    pub hold: Option<&'a str>,
+    /// The capture's file.
+    pub out: &'a str,
+    pub stamp: Stamp,
+    pub max_octets: u32,
+    /// The receivers' files.
+    pub states: Vec<&'a str>,
+    ghost payload_type: { stamp.payload_type ≤ 127 },
 }
 
 /// The words behind `loop`.
@@ -153,6 +173,7 @@ fn command<'a>(alloc: Global, matches: &ArgMatches<'a>) -> Result<Words<'a>, All
         Some(("send", given)) => Words::Send(send_words(alloc, given)?),
         Some(("receive", given)) => Words::Receive(receive_words(alloc, given)?),
         Some(("merge", given)) => Words::Merge(merge_words(given)),
+        Some(("process", given)) => Words::Process(process_words(alloc, given)?),
         Some(("report", given)) => Words::Report(word(given, "state")),
         Some(("loop", given)) => Words::Loop(loop_words(given)),
         // clap lets `trace` and no words through, and nothing else.
@@ -224,6 +245,28 @@ fn merge_words<'a>(given: &ArgMatches<'a>) -> MergeWords<'a> {
         left: word(given, "left"),
         right: word(given, "right"),
     }
+}
+
+fn process_words<'a>(
+    alloc: Global,
+    given: &ArgMatches<'a>,
+) -> Result<ProcessWords<'a>, AllocError> {
+    let stamp = Stamp {
+        payload_type: payload_type(given),
+        first: number(given, "first"),
+        timestamp: number(given, "base"),
+        ssrc: number(given, "ssrc"),
+    };
+    Ok(ProcessWords {
+        job: word(given, "job"),
+        timestamp: number(given, "ts"),
+        fill: word(given, "fill"),
+        hold: given.get_str("hold"),
+        out: word(given, "out"),
+        stamp,
+        max_octets: number(given, "max"),
+        states: list(alloc, given, "states")?,
+    })
 }
 
 fn loop_words<'a>(given: &ArgMatches<'a>) -> LoopWords<'a> {

@@ -17,6 +17,8 @@ mod telling;
 mod trace;
 
 pub use file_engines::{Paths, Sending, Wanted, run_merge, run_migrate, run_receive, run_send};
+pub use packet_plan::Stamp;
+pub use process_engine::{Processing, run_process};
 pub use rehearse::run_rehearse;
 pub use report_engines::{DatagramLink, Looping, MemoryLink, run_loop};
 pub use sdp::run_sdp;
