@@ -20,7 +20,7 @@ pub use file_engines::{Paths, Sending, Wanted, run_merge, run_migrate, run_recei
 pub use packet_plan::Stamp;
 pub use process_engine::{Processing, run_process};
 pub use rehearse::run_rehearse;
-pub use report_engines::{DatagramLink, Looping, MemoryLink, run_loop};
+pub use report_engines::{DatagramLink, Looping, MemoryLink, run_loop, run_report};
 pub use sdp::run_sdp;
 pub use tool_text::Status;
 pub use trace::run_trace;
