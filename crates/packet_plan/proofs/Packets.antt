@@ -17,7 +17,7 @@ use Rattle.st_format.specs.declared.sampling.Depth.TheVariants.{D8, D10, D12, D1
 use Rattle.st_format.specs.Pgroup.{pixel_group}
 use Rattle.packet_plan.specs.Greedy.{room, reach, next, cut, packet_from}
 use Rattle.packet_plan.specs.declared.run.PacketRun.{PacketRun}
-use Rattle.packet_plan.specs.Plan.{IsSize, RowsDiffer, one_more, HasRoom, IsRun, IsPacket}
+use Rattle.packet_plan.specs.Plan.{IsSize, RowsRise, one_more, HasRoom, IsRun, IsPacket}
 use Rattle.packet_plan.specs.Plan.{row_groups, group_count, group_octets, numbers, groups_in}
 
 -- ---- ranges
@@ -274,7 +274,7 @@ cut-below w (suc c) row first zero j lt = tt
 cut-below w (suc c) row first (suc n) j lt =
     (lt, cut-below w c (row + 1) 0 (suc n - min (suc n) (w - first)) j (omega arith))
 
-pub cut-differ : (w c row first n : ℕ) → RowsDiffer (cut w c row first n)
+pub cut-differ : (w c row first n : ℕ) → RowsRise (cut w c row first n)
 unfolding cut
 cut-differ w zero row first n = tt
 cut-differ w (suc c) row first zero = tt
@@ -354,7 +354,7 @@ from_packet f size k fits lt =
           (omega arith);
     }
 
-pub from_differ : (f : Format) (size k : ℕ) → RowsDiffer (packet_from f size k)
+pub from_differ : (f : Format) (size k : ℕ) → RowsRise (packet_from f size k)
 unfolding packet_from
 from_differ f size k =
     cut-differ (row_groups f) 3 (k / row_groups f) (k % row_groups f) (next f size k - k)

@@ -229,7 +229,7 @@ runs_at f g rs qs e h are =
 -- ---- what the code writes, put together
 
 -- a plain datagram's octets
-pub plain_octets : (r : Rtp) (octets : List ℕ) → IsPlainRtp r octets
+pub plain_octets : (r : Rtp) (octets : List ℕ) → IsPlainRtp octets r
     → octets ≡ fixed_text plain r ++ r.payload
 plain_octets r octets is =
     let tail : is.is.source_list ++ (is.is.extension ++ (r.payload ++ is.is.padding)) ≡ r.payload =
@@ -254,7 +254,7 @@ length-front extended heads = omega (arith, length-heads heads)
 
 -- the RTP header, then the front of the payload
 pub front_at : (r : Rtp) (xs ys behind post : List ℕ) (extended n : ℕ) (hs ks : List SegmentHead)
-    → IsPlainRtp r (take 12 xs ++ []) → r.payload ≡ [] → ys ≡ front_text extended hs ++ behind
+    → IsPlainRtp (take 12 xs ++ []) r → r.payload ≡ [] → ys ≡ front_text extended hs ++ behind
     → hs ≡ ks
     → n ≡ 2 + 6 * length hs → 12 ≤ length xs
     → take (12 + n) (take 12 xs ++ (ys ++ post)) ≡ fixed_text plain r ++ front_text extended ks

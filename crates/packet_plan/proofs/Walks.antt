@@ -5,7 +5,7 @@ use Rattle.std.specs.List.{flat_map, range_with_len, AllByRecursion}
 use Rattle.st_format.specs.declared.format.Format.{Format}
 use Rattle.packet_plan.specs.declared.run.PacketRun.{PacketRun}
 use Rattle.packet_plan.specs.Plan.{IsSize, IsFullPlan, IsPacket, IsRasterPlan, NoneHasRoom}
-use Rattle.packet_plan.specs.Plan.{RowsDiffer, row_groups, group_count, numbers, packet_octets}
+use Rattle.packet_plan.specs.Plan.{RowsRise, row_groups, group_count, numbers, packet_octets}
 use Rattle.packet_plan.specs.Greedy.{next, packet_from, IsWalk}
 use Rattle.packet_plan.proofs.Packets.{range-append, from_numbers, from_packet, from_differ}
 use Rattle.packet_plan.proofs.Packets.{next_room, next_below, no_room, ahead, some_groups}
@@ -26,7 +26,7 @@ walk_packets f size k (s ∷ ss) e fits h =
     (rw h.0 (from_packet f size k fits h.1), walk_packets f size (next f size k) ss e fits h.2)
 
 pub walk_differ : (f : Format) (size : ℕ) (ss : List ℕ)
-    → AllByRecursion RowsDiffer (map (packet_from f size) ss)
+    → AllByRecursion RowsRise (map (packet_from f size) ss)
 walk_differ f size [] = tt
 walk_differ f size (s ∷ ss) = (from_differ f size s, walk_differ f size ss)
 

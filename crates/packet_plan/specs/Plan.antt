@@ -51,9 +51,9 @@ pub record IsRasterPlan (f : Format) (size : ℕ) (packets : List (List PacketRu
   pub whole : flat_map (flat_map (numbers f)) packets ≡ range_with_len 0 (group_count f)
 
 -- Each run is of a later row than those before it (own).
-abbrev pub RowsDiffer : List PacketRun → Type 0
-RowsDiffer [] = Unit {0}
-RowsDiffer (r ∷ rs) = AllByRecursion (λ s. r.row < s.row) rs × RowsDiffer rs
+abbrev pub RowsRise : List PacketRun → Type 0
+RowsRise [] = Unit {0}
+RowsRise (r ∷ rs) = AllByRecursion (λ s. r.row < s.row) rs × RowsRise rs
 
 -- a packet with one pixel group more, the next of the raster: in its last run, or in a new run
 -- where a row begins (own)
@@ -87,7 +87,7 @@ pub record IsSize (f : Format) (size : ℕ) : Type 0 where
 pub record IsFullPlan (f : Format) (size : ℕ) (packets : List (List PacketRun)) : Type 0 where
   pub limits : IsSize f size
   pub plan : IsRasterPlan f size packets
-  pub rows : AllByRecursion RowsDiffer packets
+  pub rows : AllByRecursion RowsRise packets
   pub room : NoneHasRoom f size packets
   pub fewest : (others : List (List PacketRun)) → IsRasterPlan f size others
       → length packets ≤ length others

@@ -46,7 +46,7 @@ pub record IsSentPacket (p : Values) (stamp : Stamp) (i : ℕ) (is_last : Bool)
   pub header : Rtp
   pub extended : ℕ
   pub segments : List Segment
-  pub is_header : IsPlainRtp header octets
+  pub is_header : IsPlainRtp octets header
   pub is_payload : IsWholePayload p.format extended segments header.payload
   pub payload_type : header.payload_type ≡ stamp.payload_type
   pub timestamp : header.timestamp ≡ stamp.timestamp

@@ -2,7 +2,7 @@
 ghost use Rattle.std.specs.Prelude.{◌≡◌, ◌<◌, ◌≤◌, ◌+◌, ◌*◌, ◌↔◌, ◌⊎◌, ◌==◌};
 ghost use Rattle.std.specs.Prelude.{ℕ, List, length, take, drop, IfOk, Err};
 ghost use Rattle.std.specs.List.{AllByRecursion};
-ghost use Rattle.packet_plan.specs.Plan.{IsFullPlan, IsRasterPlan, NoneHasRoom, RowsDiffer};
+ghost use Rattle.packet_plan.specs.Plan.{IsFullPlan, IsRasterPlan, NoneHasRoom, RowsRise};
 ghost use Rattle.packet_plan.specs.Plan.{group_octets, packet_at, packet_octets};
 ghost use Rattle.packet_plan.specs.Sending.{EachHasRoom};
 ghost use Rattle.packet_plan.specs.Sent.{IsSentPacket};
@@ -120,7 +120,7 @@ impl<A: Allocator> Plan<A> {
         ensures made { IfOk result (λ p. (p.format ≡ format) × (p.max_octets ≡ max_octets)) }
         // The packets are a raster plan, and as full as can be.
         ensures plan { IfOk result (λ p. IsRasterPlan format max_octets p.packets) }
-        ensures rows { IfOk result (λ p. AllByRecursion RowsDiffer p.packets) }
+        ensures rows { IfOk result (λ p. AllByRecursion RowsRise p.packets) }
         ensures room { IfOk result (λ p. NoneHasRoom format max_octets p.packets) }
         // No raster plan has fewer packets.
         ensures fewest { IfOk result (λ p. (others : List (List Run))

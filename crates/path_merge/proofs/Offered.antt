@@ -113,7 +113,7 @@ all_right [] ys h = h
 all_right (x ∷ xs) ys h = all_right xs ys h.1
 
 -- the payload's are octets too
-pub payload_octets : (r : Rtp) (octets : List ℕ) → AreOctets octets → IsRtp r octets
+pub payload_octets : (r : Rtp) (octets : List ℕ) → AreOctets octets → IsRtp octets r
     → AreOctets r.payload
 payload_octets r octets fit is =
     let whole = subst (λ (x : List ℕ). AllByRecursion Fits x) is.whole (bytes_from octets fit) in
@@ -128,7 +128,7 @@ same_ok : {X : Type 0} (x y : X) → (let r : Result X Refusal = Ok x in r ≡ O
 same_ok x y h = cc
 
 takes_payload : (o : Opening) (octets : List ℕ) (r : Rtp)
-    (p : Result (ℕ × List Segment) PayloadFault) (d : Datagram) → IsRtp r octets
+    (p : Result (ℕ × List Segment) PayloadFault) (d : Datagram) → IsRtp octets r
     → IsBytes r.payload → r.payload_type ≡ o.payload_type → is_other o.ssrc r.ssrc ≡ false
     → payload_walk o.format r.payload ≡ p → (by_payload p >>= by_rtp r) ≡ Ok d → IsFor octets o d
 takes_payload o octets r (Err e) d is bytes pt source read h = absurd cc
@@ -145,7 +145,7 @@ takes_payload o octets r (Ok p) d is bytes pt source read h =
     (record { is = one; type_is = pt; source = source_from o.ssrc r.ssrc source })
 
 takes_checked : (o : Opening) (octets : List ℕ) (r : Rtp) (t s : Bool) (d : Datagram)
-    → IsRtp r octets → IsBytes r.payload → eqb r.payload_type o.payload_type ≡ t
+    → IsRtp octets r → IsBytes r.payload → eqb r.payload_type o.payload_type ≡ t
     → is_other o.ssrc r.ssrc ≡ s
     → (cond (not t) (Err WrongPayloadType) (cond s (Err WrongSource) (Ok r)) >>=
     λ w. by_payload (payload_walk o.format w.payload) >>= by_rtp w) ≡ Ok d → IsFor octets o d
@@ -161,7 +161,7 @@ takes_read : (o : Opening) (octets : List ℕ) (x : Result Rtp RtpFault) (d : Da
     λ w. by_payload (payload_walk o.format w.payload) >>= by_rtp w) ≡ Ok d → IsFor octets o d
 takes_read o octets (Err e) d fit read h = absurd cc
 takes_read o octets (Ok r) d fit read h =
-    let is : IsRtp r octets = rtp_takes octets r fit read in
+    let is : IsRtp octets r = rtp_takes octets r fit read in
     takes_checked o octets r (eqb r.payload_type o.payload_type) (is_other o.ssrc r.ssrc) d is
     (payload_octets r octets fit is) refl refl h
 

@@ -43,7 +43,7 @@ other_from (Some p) ssrc ne = ap not (ne_eqb p ssrc ne)
 -- ---- a refusal that is told holds
 
 from_payload : (o : Opening) (octets : List ℕ) (r : Rtp)
-    (p : Result (ℕ × List Segment) PayloadFault) (e : Refusal) → AreOctets octets → IsRtp r octets
+    (p : Result (ℕ × List Segment) PayloadFault) (e : Refusal) → AreOctets octets → IsRtp octets r
     → r.payload_type ≡ o.payload_type → is_other o.ssrc r.ssrc ≡ false
     → payload_walk o.format r.payload ≡ p → (by_payload p >>= by_rtp r) ≡ Err e
     → IsRefusedDatagram octets o e
@@ -59,7 +59,7 @@ from_payload o octets r (Err d) e fit is pt source read h =
     subst (λ (x : Refusal). IsRefusedDatagram octets o x) (same_err (Payload d) e h) has
 
 from_checked : (o : Opening) (octets : List ℕ) (r : Rtp) (t s : Bool) (e : Refusal)
-    → AreOctets octets → IsRtp r octets → eqb r.payload_type o.payload_type ≡ t
+    → AreOctets octets → IsRtp octets r → eqb r.payload_type o.payload_type ≡ t
     → is_other o.ssrc r.ssrc ≡ s
     → (cond (not t) (Err WrongPayloadType) (cond s (Err WrongSource) (Ok r)) >>= read_rest o)
     ≡ Err e → IsRefusedDatagram octets o e

@@ -93,7 +93,7 @@ nothing_read o r true true e = refl
 nothing_read o r true false e = absurd cc
 nothing_read o r false s e = refl
 
-other_offers : (o : Opening) (d : List ℕ) (r : Rtp) (t s : Bool) → IsRtp r d
+other_offers : (o : Opening) (d : List ℕ) (r : Rtp) (t s : Bool) → IsRtp d r
     → eqb r.payload_type o.payload_type ≡ t → is_other o.ssrc r.ssrc ≡ s → (t && not s) ≡ false
     → offers o d ≡ []
 unfolding datagram_walk
@@ -115,7 +115,7 @@ other_offers o d r t s is e f none =
 -- the header of a picture's datagram
 record HasHeader (stamp : Stamp) (d : List ℕ) : Type 0 where
   header : Rtp
-  is_header : IsRtp header d
+  is_header : IsRtp d header
   payload_type : header.payload_type ≡ stamp.payload_type
   ssrc : header.ssrc ≡ stamp.ssrc
 
@@ -126,7 +126,7 @@ header_of_sent p stamp i [] (e ∷ ds) d sent m = absurd sent
 header_of_sent p stamp i (q ∷ qs) [] d sent m = absurd m
 header_of_sent p stamp i (q ∷ qs) (e ∷ ds) d sent (inl same) = record {
   header = sent.0.header;
-  is_header = subst (λ (x : List ℕ). IsRtp sent.0.header x) (sym same) sent.0.is_header.is;
+  is_header = subst (λ (x : List ℕ). IsRtp x sent.0.header) (sym same) sent.0.is_header.is;
   payload_type = sent.0.payload_type;
   ssrc = sent.0.ssrc;
 }

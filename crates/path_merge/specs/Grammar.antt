@@ -34,7 +34,7 @@ pub record IsDatagram (octets : List ℕ) (f : Format) (d : Datagram) : Type 0 w
   pub sequence : ℕ
   pub extended : ℕ
   pub payload : List ℕ
-  pub is_header : IsRtp (header_with d sequence payload) octets
+  pub is_header : IsRtp octets (header_with d sequence payload)
   pub is_payload : IsPayload f extended d.segments payload
   pub number_is : 65536 * extended + sequence ≡ d.number
 

@@ -12,20 +12,20 @@ use Rattle.path_merge.specs.Opening.{Opening, IsSource}
 -- The octets are an RTP datagram of another payload type. RFC 3550, 5.1
 pub record HasOtherType (octets : List ℕ) (o : Opening) : Type 0 where
   pub header : Rtp
-  pub is_header : IsRtp header octets
+  pub is_header : IsRtp octets header
   pub other : header.payload_type ≢ o.payload_type
 
 -- They are one of the receiver's payload type, but not of the source that is pinned. RFC 3550, 5.1
 pub record HasOtherSource (octets : List ℕ) (o : Opening) : Type 0 where
   pub header : Rtp
-  pub is_header : IsRtp header octets
+  pub is_header : IsRtp octets header
   pub type_is : header.payload_type ≡ o.payload_type
   pub other : IsSource o.ssrc header.ssrc → ⊥
 
 -- They are one of the receiver's payload type and source, whose payload has this fault. RFC 4175, 4
 pub record HasBadPayload (octets : List ℕ) (o : Opening) (fault : PayloadFault) : Type 0 where
   pub header : Rtp
-  pub is_header : IsRtp header octets
+  pub is_header : IsRtp octets header
   pub type_is : header.payload_type ≡ o.payload_type
   pub source : IsSource o.ssrc header.ssrc
   pub is_refused : IsPayloadRefused o.format header.payload fault

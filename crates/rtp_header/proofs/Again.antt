@@ -195,7 +195,7 @@ fixed_again g r tail few =
     ∙ ap (λ (b : Bool). cond (not b) (Err BadVersion) (ok_list tail)) version
 
 -- What is in the grammar of headers is read.
-pub rtp_again : (r : Rtp) (octets : List ℕ) → IsRtp r octets → rtp_walk octets ≡ Ok r
+pub rtp_again : (r : Rtp) (octets : List ℕ) → IsRtp octets r → rtp_walk octets ≡ Ok r
 unfolding rtp_walk
 rtp_again r octets is =
     let g : Flags = is.flags in
@@ -234,7 +234,7 @@ rtp_again r octets is =
 
 -- The clauses of a reader that gives what reading gives
 pub is_found : (octets : List ℕ) (r : Result RtpView RtpFault) → AreOctets octets
-    → Gives seen r (rtp_walk octets) → IfOk r (λ v. IsRtp (seen v) octets)
+    → Gives seen r (rtp_walk octets) → IfOk r (λ v. IsRtp octets (seen v))
 is_found octets (Ok v) bytes gives = rtp_takes octets (seen v) bytes gives
 is_found octets (Err e) bytes gives = tt
 
@@ -242,13 +242,13 @@ ok_is : (r q : Rtp) → rtp_ok r ≡ rtp_ok q → r ≡ q
 ok_is r q e = cc
 
 pub is_only : (octets : List ℕ) (r : Result RtpView RtpFault) → Gives seen r (rtp_walk octets)
-    → (q : Rtp) → IsRtp q octets → IsOkAnd r (λ v. seen v ≡ q)
+    → (q : Rtp) → IsRtp octets q → IsOkAnd r (λ v. seen v ≡ q)
 is_only octets (Ok v) gives q is = ok_is (seen v) q (sym gives ∙ rtp_again q octets is)
 is_only octets (Err e) gives q is = let again : rtp_walk octets ≡ Ok q =
     rtp_again q octets is in absurd cc
 
 pub is_none : (octets : List ℕ) (r : Result RtpView RtpFault) → Gives seen r (rtp_walk octets)
-    → IfErr r (λ e. (q : Rtp) → IsRtp q octets → ⊥)
+    → IfErr r (λ e. (q : Rtp) → IsRtp octets q → ⊥)
 is_none octets (Ok v) gives = tt
 is_none octets (Err e) gives = λ q is. let again : rtp_walk octets ≡ Ok q =
     rtp_again q octets is in absurd cc

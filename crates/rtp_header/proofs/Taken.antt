@@ -243,7 +243,7 @@ two_below bs bytes = omega (arith, bytes 0, bytes 1)
 
 -- What is read is in the grammar of headers.
 pub rtp_takes : (octets : List ℕ) (y : Rtp) → AreOctets octets → rtp_walk octets ≡ Ok y
-    → IsRtp y octets
+    → IsRtp octets y
 unfolding rtp_walk
 rtp_takes octets y bytes e =
     let o : ℕ = get_or octets 0 0 in
@@ -270,7 +270,7 @@ rtp_takes octets y bytes e =
     let sources = behind_ok (4 * (o % 16)) a.0 b.0 bytes_a b.1 in
     let extension = extension_ok px b.0 c.0 sources.bytes c.1 in
     let padded = padding_ok pp c.0 d.0 d.1 in
-    let made : IsRtp (fields_of octets d.0) octets = record {
+    let made : IsRtp octets (fields_of octets d.0) = record {
       flags = flags_of octets;
       source_list = take (4 * (o % 16)) a.0;
       extension = extension.front;
@@ -297,4 +297,4 @@ rtp_takes octets y bytes e =
           ∙ ap (λ (x : List ℕ). take (4 * (o % 16)) a.0 ++ x)
           (extension.parts ∙ ap (λ (x : List ℕ). extension.front ++ x) padded.parts));
     } in
-    subst (λ (r : Rtp). IsRtp r octets) (done (fields_of octets d.0) y d.2) made
+    subst (λ (r : Rtp). IsRtp octets r) (done (fields_of octets d.0) y d.2) made

@@ -12,9 +12,9 @@ pub record Fits (r : Rtp) : Type 0 where
   pub ssrc : r.ssrc < 2 ^ 32
 
 pub plain_rtp : (r : Rtp) (octets : List ℕ) → Fits r → octets ≡ fixed_text plain r ++ r.payload
-    → IsPlainRtp r octets
+    → IsPlainRtp octets r
 plain_rtp r octets fits parts =
-    let is : IsRtp r octets = record {
+    let is : IsRtp octets r = record {
       flags = plain;
       source_list = [];
       extension = [];
@@ -33,7 +33,7 @@ plain_rtp r octets fits parts =
 
 -- written over the first octets of others
 pub plain_written : (r : Rtp) (written others : List ℕ) → Fits r
-    → written ≡ fixed_text plain r ++ others → IsPlainRtp r (take 12 written ++ r.payload)
+    → written ≡ fixed_text plain r ++ others → IsPlainRtp (take 12 written ++ r.payload) r
 plain_written r written others fits is =
     plain_rtp r (take 12 written ++ r.payload) fits
     (ap (λ (x : List ℕ). take 12 x ++ r.payload) is

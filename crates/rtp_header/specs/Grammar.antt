@@ -67,7 +67,7 @@ IsPaddingIf false octets = octets ≡ []
 
 -- The octets are a datagram that says this: the fixed header, CC words of four octets, the
 -- extension, the payload and the padding, one after the other. RFC 3550, 5.1
-pub record IsRtp (r : Rtp) (octets : List ℕ) : Type 0 where
+pub record IsRtp (octets : List ℕ) (r : Rtp) : Type 0 where
   pub flags : Flags
   pub source_list : List ℕ
   pub extension : List ℕ
@@ -84,8 +84,8 @@ pub record IsRtp (r : Rtp) (octets : List ℕ) : Type 0 where
 
 -- The octets are a datagram that says this by a fixed header and a payload alone: P, X and CC are
 -- zero, and there are no sources, no extension and no padding. RFC 3550, 5.1
-pub record IsPlainRtp (r : Rtp) (octets : List ℕ) : Type 0 where
-  pub is : IsRtp r octets
+pub record IsPlainRtp (octets : List ℕ) (r : Rtp) : Type 0 where
+  pub is : IsRtp octets r
   pub flags : is.flags ≡ plain
   pub no_sources : is.source_list ≡ []
   pub no_extension : is.extension ≡ []

@@ -9,13 +9,13 @@ ghost use Rattle.rtp_header.specs.Reading.{rtp_walk};
 
 /// Octets say one thing at most: a datagram has one reading (RFC 3550, 5.1).
 pub fn one_reading()
-    ensures { (octets : List ℕ) (r s : Rtp) → IsRtp r octets → IsRtp s octets → r ≡ s }
+    ensures { (octets : List ℕ) (r s : Rtp) → IsRtp octets r → IsRtp octets s → r ≡ s }
 {}
 
 /// Reading from the left answers what the octets say, exactly where they are in the grammar.
 pub fn read_in_grammar()
     ensures { (octets : List ℕ) (r : Rtp) → AreOctets octets →
-        (rtp_walk octets ≡ Ok r) ↔ IsRtp r octets }
+        (rtp_walk octets ≡ Ok r) ↔ IsRtp octets r }
 {}
 
 /// Reading from the left tells each fault exactly where its condition stands in the octets.
@@ -33,9 +33,9 @@ pub fn first_fault()
 /// Octets are a datagram, or one fault stands in them and no other.
 pub fn datagram_or_fault()
     ensures some { (octets : List ℕ) → AreOctets octets →
-        ((r : Rtp) × IsRtp r octets) ⊎ ((e : RtpFault) × HasFault e octets) }
+        ((r : Rtp) × IsRtp octets r) ⊎ ((e : RtpFault) × HasFault e octets) }
     ensures apart { (octets : List ℕ) (r : Rtp) (e : RtpFault) →
-        IsRtp r octets → HasFault e octets → ⊥ }
+        IsRtp octets r → HasFault e octets → ⊥ }
     ensures one { (octets : List ℕ) (e d : RtpFault) →
         HasFault e octets → HasFault d octets → e ≡ d }
 {}

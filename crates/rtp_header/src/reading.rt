@@ -89,11 +89,11 @@ fn read(octets: &[u8]) -> Result<RtpView<'_>, RtpFault>
 /// - `BadPadding`: P is set, and the last octet is 0 or more than the octets behind the headers.
 pub fn read_rtp(octets: &[u8]) -> Result<RtpView<'_>, RtpFault>
     // What is read is in the grammar.
-    ensures found { IfOk result (λ v. IsRtp (seen v) octets.now) }
+    ensures found { IfOk result (λ v. IsRtp octets.now (seen v)) }
     // What is in the grammar is read so: it has one reading.
-    ensures only { (r : Rtp) → IsRtp r octets.now → IsOkAnd result (λ v. seen v ≡ r) }
+    ensures only { (r : Rtp) → IsRtp octets.now r → IsOkAnd result (λ v. seen v ≡ r) }
     // A fault comes only where nothing in the grammar fits.
-    ensures none { IfErr result (λ _. (r : Rtp) → IsRtp r octets.now → ⊥) }
+    ensures none { IfErr result (λ _. (r : Rtp) → IsRtp octets.now r → ⊥) }
     // Each fault comes exactly where this stands in the octets.
     ensures short_header { IsErrOf result RtpFault.ShortHeader ↔ IsShortHeader octets.now }
     ensures bad_version { IsErrOf result RtpFault.BadVersion ↔ IsBadVersion octets.now }

@@ -33,7 +33,7 @@ pub fn write_rtp(buffer: &mut [u8], head: &RtpHead)
     requires payload_type { head.now.payload_type ≤ 127 }
     // Whatever payload follows them, the 12 octets and it are a datagram that says this.
     ensures header { (payload : List ℕ) →
-        IsPlainRtp (headed head.now payload) (take 12 buffer.new ++ payload) }
+        IsPlainRtp (take 12 buffer.new ++ payload) (headed head.now payload) }
     // The octets behind them stay.
     ensures kept { drop 12 buffer.new ≡ drop 12 buffer.old }
     ensures length { length buffer.new ≡ length buffer.old }

@@ -1,4 +1,6 @@
 //! The commands, each with the real devices that its engine works on.
+ghost use Rattle.std.specs.Prelude.{◌≤◌};
+
 use crate::captures::CaptureSink;
 use crate::files::{FileSink, FileSource};
 use crate::link::{UdpLink, unbound};

@@ -10,7 +10,7 @@ use Rattle.rtp_header.proofs.laws.datagram_or_fault.Goals as goal
 
 -- what is read is a datagram, and a fault that is told stands there
 told : (octets : List ℕ) (r : Result Rtp RtpFault) → AreOctets octets → rtp_walk octets ≡ r
-    → ((x : Rtp) × IsRtp x octets) ⊎ ((x : RtpFault) × HasFault x octets)
+    → ((x : Rtp) × IsRtp octets x) ⊎ ((x : RtpFault) × HasFault x octets)
 told octets (Ok x) fit e = inl (x, rtp_takes octets x fit e)
 told octets (Err d) fit e = inr (d, (rtp_faulted d octets).0 e)
 
