@@ -82,7 +82,7 @@ pub record IsSize (f : Format) (size : ℕ) : Type 0 where
   pub least : 20 + group_octets f ≤ size
   pub most : size ≤ 9000
 
--- A raster plan with all that is said of the plans that are made: runs of a packet are of different
+-- A raster plan with all that is said of the plans that are made: runs of a packet are of rising
 -- rows, no packet but the last has room, and no raster plan has fewer packets (own).
 pub record IsFullPlan (f : Format) (size : ℕ) (packets : List (List PacketRun)) : Type 0 where
   pub limits : IsSize f size
