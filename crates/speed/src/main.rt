@@ -1,15 +1,19 @@
 //! Measures the calls of the hot path as ratios to a copy of the same octets, all in one run.
 //!
 //! Without words it makes one round of a small picture and prints nothing. Its words are `measure`,
-//! or `measure large` for a picture of 8192 by 8192, which takes about 2 GB.
+//! `measure large` for a picture of 8192 by 8192, which takes about 2 GB, or `measure jobs` for the
+//! jobs of the processor.
 #![tactic(auto)]
 
 mod calls;
 mod fault;
+mod jobs;
+mod plain;
 mod streams;
 
 use crate::calls::{Call, Room};
 use crate::fault::Fault;
+use crate::jobs::{Inputs, JOBS, Way};
 use crate::streams::{Change, Stream};
 use st_format::{Depth, Format, Sampling};
 use std::env;
@@ -57,7 +61,8 @@ fn run(rt: &HostRuntime) -> Result<(), Fault> {
     let mut words = env::args(rt)?;
     words.next();
     let Some(word) = words.next() else {
-        return measure(rt, (Depth::D10, 48, 4, 1400, 12), 1, false);
+        measure(rt, (Depth::D10, 48, 4, 1400, 12), 1, false)?;
+        return measure_jobs(rt, Depth::D10, (48, 4), 1, false);
     };
     match (word.as_str(), words.next()) {
         ("measure", None) => {
@@ -68,6 +73,10 @@ fn run(rt: &HostRuntime) -> Result<(), Fault> {
         }
         ("measure", Some(size)) if size.as_str() == "large" => {
             measure(rt, (Depth::D10, 8192, 8192, 1400, 5), 5, true)
+        }
+        ("measure", Some(what)) if what.as_str() == "jobs" => {
+            measure_jobs(rt, Depth::D10, (1920, 1080), 25, true)?;
+            measure_jobs(rt, Depth::D16, (1920, 1080), 25, true)
         }
         _ => Err(Fault),
     }
@@ -128,5 +137,33 @@ fn print(
     let cost = u128::from(nanoseconds) * 1000 / (octets as u128).max(1);
     let (whole, part, micros) = (ratio / 1000, ratio % 1000, nanoseconds / 1000);
     println!(rt; "  {name}: {micros} us, {whole}.{part:03}, {cost} ns per 1000 octets")?;
+    Ok(())
+}
+
+/// Measures each job at a depth, and the same as a plain loop.
+fn measure_jobs(
+    rt: &HostRuntime,
+    depth: Depth,
+    size: (u32, u32),
+    rounds: u32,
+    prints: bool,
+) -> Result<(), Fault> {
+    for (name, job, sampling, count) in JOBS {
+        let Ok(format) = Format::new(sampling, depth, size.0, size.1, 60, 1) else {
+            return Err(Fault);
+        };
+        let mut inputs = Inputs::new(rt.alloc(), format)?;
+        let copied = inputs.best(rt, &job, count, Way::Copy, rounds)?;
+        let called = inputs.best(rt, &job, count, Way::Call, rounds)?;
+        let looped = inputs.best(rt, &job, count, Way::Plain, rounds)?;
+        let octets = format.sample_count().wrapping_mul(2).wrapping_mul(count);
+        if prints {
+            let bits = depth.bits();
+            println!(rt; "{name}, {bits} bits, {count} of {octets} octets in all")?;
+            print(rt, "copy of the samples", copied, copied, octets)?;
+            print(rt, "the job", called, copied, octets)?;
+            print(rt, "a plain loop", looped, copied, octets)?;
+        }
+    }
     Ok(())
 }

@@ -67,7 +67,7 @@ impl Stream {
 
 /// A picture of values without order, the upper bits of a linear congruential generator; the last
 /// bit of those that are changed is turned.
-fn picture(alloc: Global, format: Format, change: Change) -> Result<Picture, Fault> {
+pub fn picture(alloc: Global, format: Format, change: Change) -> Result<Picture, Fault> {
     let mut picture = Picture::new(alloc, format, [0, 0, 0]).ok().ok_or(Fault)?;
     let mut state = 1u64;
     for row in 0..format.height() {

@@ -26,12 +26,12 @@ pub fn write(
 }
 
 /// Puts the last 16 bits of a number behind the octets.
-fn put_word(octets: &mut Vec<u8>, number: u32) -> Result<(), Fault> {
+pub fn put_word(octets: &mut Vec<u8>, number: u32) -> Result<(), Fault> {
     octets.extend_from_slice(&((number % 65536) as u16).to_be_bytes())?;
     Ok(())
 }
 
-fn put_long(octets: &mut Vec<u8>, number: u32) -> Result<(), Fault> {
+pub fn put_long(octets: &mut Vec<u8>, number: u32) -> Result<(), Fault> {
     octets.extend_from_slice(&number.to_be_bytes())?;
     Ok(())
 }
@@ -154,7 +154,7 @@ fn pad(generator: &mut Generator, octets: &mut Vec<u8>) -> Result<(), Fault> {
 }
 
 /// Turns a bit, cuts octets off, puts one in or takes one out.
-fn spoil(generator: &mut Generator, octets: &mut Vec<u8>) -> Result<(), Fault> {
+pub fn spoil(generator: &mut Generator, octets: &mut Vec<u8>) -> Result<(), Fault> {
     let place = generator.size(octets.len());
     match generator.below(8) {
         0 | 1 => octets.truncate(place),

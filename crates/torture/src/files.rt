@@ -1,0 +1,115 @@
+//! Hostile files given to their readers: the fault that is to be answered by a second reading, and what
+//! is read without one is written again as the same octets.
+use crate::fault::Fault;
+use crate::file_reading;
+use crate::generator::Generator;
+use crate::hostile_files::{Kind, write};
+use capture_file::{FileFault, read_capture, read_picture, write_picture};
+use receiver_file::{load_receiver, save_receiver};
+use st_format::memory::{MemorySink, MemorySource};
+use std::alloc::Global;
+
+/// How often each answer came: faults 3 to 9 by their numbers, and 0 where there was none.
+pub type Totals = [u64; 10];
+
+/// The most records that are read of a capture.
+const LIMIT: u64 = 2;
+
+/// A source of octets, in pieces.
+fn source(alloc: Global, octets: &[u8]) -> Result<MemorySource, Fault> {
+    Ok(MemorySource::new(Vec::from_slice(alloc, octets)?, 7, 0))
+}
+
+/// Room for as many octets.
+fn sink(alloc: Global, octets: &[u8]) -> Result<MemorySink, Fault> {
+    Ok(MemorySink::new(Vec::with_capacity(alloc, octets.len())?, 64, 0))
+}
+
+/// The octets of a capture's records and how many there are, or its fault.
+fn capture(alloc: Global, octets: &[u8]) -> Result<Result<(u64, u64), u8>, Fault> {
+    let capture = match read_capture(alloc, &mut source(alloc, octets)?, LIMIT) {
+        Ok(capture) => capture,
+        Err(fault) => return Ok(Err(fault.number())),
+    };
+    let mut sum = 0u64;
+    for record in &capture.records {
+        sum = sum.wrapping_add(record.octets.len() as u64);
+    }
+    Ok(Ok((capture.records.len() as u64, sum)))
+}
+
+/// Nothing where octets are a picture's file, and the picture's file is those octets; else the fault, 0
+/// where it is another file.
+fn picture(alloc: Global, octets: &[u8]) -> Result<Result<(), u8>, Fault> {
+    let picture = match read_picture(alloc, &mut source(alloc, octets)?) {
+        Ok(picture) => picture,
+        Err(fault) => return Ok(Err(fault.number())),
+    };
+    let mut sink = sink(alloc, octets)?;
+    let written = write_picture(&mut sink, &picture);
+    Ok(again(written, &sink, octets))
+}
+
+/// The same of a receiver's file.
+fn receiver(alloc: Global, octets: &[u8]) -> Result<Result<(), u8>, Fault> {
+    let receiver = match load_receiver(alloc, &mut source(alloc, octets)?) {
+        Ok(receiver) => receiver,
+        Err(fault) => return Ok(Err(fault.number())),
+    };
+    let mut sink = sink(alloc, octets)?;
+    let written = save_receiver(&mut sink, &receiver);
+    Ok(again(written, &sink, octets))
+}
+
+/// Nothing where the same octets were written, else the fault 0.
+fn again(written: Result<(), FileFault>, sink: &MemorySink, octets: &[u8]) -> Result<(), u8> {
+    if written.is_ok() && sink.held() == octets {
+        Ok(())
+    } else {
+        Err(0)
+    }
+}
+
+/// The fault's place in the totals.
+fn place_of<T: Copy>(read: Result<T, u8>) -> usize {
+    match read {
+        Ok(_) => 0,
+        Err(number) => usize::from(number),
+    }
+}
+
+/// Makes a file of any kind. Answers whether its reader answers as it is to; the octets are the file.
+pub fn run(
+    alloc: Global,
+    generator: &mut Generator,
+    octets: &mut Vec<u8>,
+    totals: &mut Totals,
+) -> Result<bool, Fault> {
+    let kind = match generator.below(3) {
+        0 => Kind::Capture,
+        1 => Kind::Picture,
+        _ => Kind::Receiver,
+    };
+    write(generator, kind, octets)?;
+    let (found, wanted) = match kind {
+        Kind::Capture => {
+            let found = capture(alloc, octets)?;
+            return Ok(note(found, file_reading::capture(octets, LIMIT), totals));
+        }
+        Kind::Picture => (picture(alloc, octets)?, file_reading::picture(octets)),
+        Kind::Receiver => (receiver(alloc, octets)?, file_reading::state(octets)),
+    };
+    Ok(note(found, wanted, totals))
+}
+
+/// Notes an answer in the totals, and tells whether it is the one that is wanted.
+fn note<T: Copy + PartialEq>(
+    found: Result<T, u8>,
+    wanted: Result<T, u8>,
+    totals: &mut Totals,
+) -> bool {
+    if let Some(total) = totals.get_mut(place_of(found)) {
+        *total = total.wrapping_add(1);
+    }
+    found == wanted
+}
