@@ -67,6 +67,8 @@ mod receiver_files;
 #[cfg(test)]
 mod receivers;
 #[cfg(test)]
+mod report;
+#[cfg(test)]
 mod rehearsal_scripts;
 #[cfg(test)]
 mod rehearsals;
