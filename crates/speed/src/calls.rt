@@ -2,6 +2,7 @@
 use crate::fault::Fault;
 use crate::streams::{Discard, Stream, send_all};
 use frame_assembly::{Base, Frame};
+use frame_report::write_report;
 use path_merge::Receiver;
 use st_format::{Format, Path, Picture};
 use std::alloc::Global;
@@ -30,6 +31,8 @@ pub enum Call {
     Counts,
     Settle,
     TryCopy,
+    /// The report of a frame of which each second datagram came, into a sink that keeps nothing.
+    Report,
 }
 
 /// What a call makes in memory that the allocator gives, and what is let go once the clock was
@@ -56,7 +59,7 @@ impl Room {
     pub fn new(alloc: Global, stream: &Stream) -> Result<Room, Fault> {
         let octets = stream.octets(alloc)?;
         let mut whole = open(alloc, stream.format)?;
-        take(&mut whole, Path::A, stream, false)?;
+        take(&mut whole, Path::A, stream, 0)?;
         Ok(Room {
             copy: Vec::from_elem(alloc, 255u8, octets.len())?,
             octets,
@@ -95,9 +98,10 @@ impl Room {
         }
         match call {
             Call::TakeSecond | Call::Differ(_, _) => {
-                take(&mut self.receiver, Path::A, stream, false)
+                take(&mut self.receiver, Path::A, stream, 0)
             }
-            Call::TakeLost => take(&mut self.receiver, Path::A, stream, true),
+            Call::TakeLost => take(&mut self.receiver, Path::A, stream, 100),
+            Call::Report => take(&mut self.receiver, Path::A, stream, 2),
             Call::MergeEqual => self.merge(),
             _ => Ok(()),
         }
@@ -115,11 +119,14 @@ impl Room {
                 self.copy.extend_from_slice(&self.octets)?;
             }
             Call::Send => send_all(&streams.0.plan, &streams.0.picture, &mut Discard)?,
-            Call::TakeFirst => take(&mut self.receiver, Path::A, streams.0, false)?,
+            Call::TakeFirst => take(&mut self.receiver, Path::A, streams.0, 0)?,
             Call::TakeSecond | Call::TakeLost | Call::Differ(_, _) => {
-                take(&mut self.receiver, Path::B, streams.1, false)?
+                take(&mut self.receiver, Path::B, streams.1, 0)?
             }
             Call::MergeBlank | Call::MergeEqual => self.merge()?,
+            Call::Report => write_report(&self.receiver, &mut Discard)
+                .ok()
+                .ok_or(Fault)?,
             _ => return look(alloc, call, self.whole.frame(900).ok_or(Fault)?),
         }
         Ok(Made::Nothing)
@@ -149,10 +156,10 @@ fn open(alloc: Global, format: Format) -> Result<Receiver, Fault> {
         .ok_or(Fault)
 }
 
-/// Takes all datagrams by a path, or all but each hundredth.
-fn take(receiver: &mut Receiver, path: Path, stream: &Stream, loses: bool) -> Result<(), Fault> {
+/// Takes all datagrams by a path, or all but each so manyth (none is lost at 0).
+fn take(receiver: &mut Receiver, path: Path, stream: &Stream, step: usize) -> Result<(), Fault> {
     for (place, datagram) in stream.datagrams.taken().iter().enumerate() {
-        let is_lost = loses && place % 100 == 50;
+        let is_lost = step > 0 && place % step == step / 2;
         if !is_lost && receiver.take(path, datagram.as_slice()).is_err() {
             return Err(Fault);
         }

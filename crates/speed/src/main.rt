@@ -24,15 +24,15 @@ use std::process::ExitCode;
 type Case = (Depth, u32, u32, u32, usize);
 
 const CASES: [Case; 5] = [
-    (Depth::D8, 1920, 1080, 1400, 12),
-    (Depth::D8, 1920, 1080, 9000, 12),
-    (Depth::D10, 1920, 1080, 1400, 12),
-    (Depth::D10, 1920, 1080, 9000, 12),
+    (Depth::D8, 1920, 1080, 1400, 13),
+    (Depth::D8, 1920, 1080, 9000, 13),
+    (Depth::D10, 1920, 1080, 1400, 13),
+    (Depth::D10, 1920, 1080, 9000, 13),
     (Depth::D10, 1280, 720, 1400, 5),
 ];
 
 /// The calls, first those on the way of each datagram, without loss and where nothing is contested.
-const CALLS: [(&str, Call); 12] = [
+const CALLS: [(&str, Call); 13] = [
     ("send_frame", Call::Send),
     ("take, into missing cells", Call::TakeFirst),
     ("take, second path", Call::TakeSecond),
@@ -48,6 +48,7 @@ const CALLS: [(&str, Call); 12] = [
     ("counts", Call::Counts),
     ("settle", Call::Settle),
     ("try_copy", Call::TryCopy),
+    ("write_report, each second datagram lost", Call::Report),
 ];
 
 fn main(rt: HostRuntime) -> ExitCode {
@@ -61,7 +62,7 @@ fn run(rt: &HostRuntime) -> Result<(), Fault> {
     let mut words = env::args(rt)?;
     words.next();
     let Some(word) = words.next() else {
-        measure(rt, (Depth::D10, 48, 4, 1400, 12), 1, false)?;
+        measure(rt, (Depth::D10, 48, 4, 1400, 13), 1, false)?;
         return measure_jobs(rt, Depth::D10, (48, 4), 1, false);
     };
     match (word.as_str(), words.next()) {

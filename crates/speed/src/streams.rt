@@ -4,7 +4,7 @@ ghost use Rattle.std.specs.Prelude.{None};
 use crate::fault::Fault;
 use packet_plan::{Plan, Stamp, send_frame};
 use st_format::memory::MemoryDatagrams;
-use st_format::{DatagramSink, Format, Picture, SinkFault};
+use st_format::{ByteSink, DatagramSink, DeviceFault, Format, Picture, SinkFault};
 use std::alloc::Global;
 
 /// Which samples of a picture are changed: each so manyth (none at 0), in such a part of the rows
@@ -121,7 +121,7 @@ pub fn send_all<K: DatagramSink>(
     Ok(())
 }
 
-/// A sink that takes each datagram and forgets it.
+/// A sink that takes each datagram, or all octets, and forgets them.
 #[derive(Drop)]
 pub struct Discard;
 
@@ -132,5 +132,15 @@ impl DatagramSink for Discard {
 
     fn put(&mut self, _octets: &[u8]) -> Result<(), SinkFault> {
         Ok(())
+    }
+}
+
+impl ByteSink for Discard {
+    ghost held = { λ _. None };
+
+    ghost failures = { λ _. 0 };
+
+    fn write(&mut self, octets: &[u8]) -> Result<usize, DeviceFault> {
+        Ok(octets.len())
     }
 }
