@@ -5,7 +5,8 @@ use crate::picture_files::rows_read;
 use crate::receiver_files::refusals_read;
 use crate::rehearsal_scripts::rehearsed;
 use crate::rehearsals::handed_out;
-use crate::running::{Ran, SOUND, run};
+use crate::report::{FILE, REPORT};
+use crate::running::{Ran, SOUND, report, run};
 use crate::sdp_runs::{described, line_written};
 use crate::sending::packets_planned;
 use crate::small_format::{counts, small};
@@ -37,13 +38,15 @@ enum Call {
     Description,
     /// *rehearsal-script*.
     Rehearsal,
+    /// The report of *contested*'s file.
+    Report,
     /// A script of `trace`: its status, what it prints, and what it tells of a fault.
     Script(&'static [u8], u8, &'static [u8], &'static [u8]),
 }
 
 /// Each call, what it answers where it has memory, and the least and greatest number of growths
 /// that it takes.
-const CALLS: [(Call, usize, u64, u64); 14] = [
+const CALLS: [(Call, usize, u64, u64); 15] = [
     (Call::Frame, 16, 1, 999),
     (Call::Receiver(&[900]), 16, 1, 999),
     (Call::Receiver(&[900, 2400]), 16, 3, 999),
@@ -55,6 +58,7 @@ const CALLS: [(Call, usize, u64, u64); 14] = [
     (Call::Schedule, 1, 8, 999),
     (Call::Description, 1, 3, 999),
     (Call::Rehearsal, 1, 12, 999),
+    (Call::Report, 1, 4, 999),
     (Call::Script(SCRIPT, 0, OUTPUT, b""), 1, 4, 999),
     (Call::Script(SLIDES, 0, SLID, b""), 1, 9, 999),
     (Call::Script(REFUSED, 1, b"", TOLD), 1, 0, 999),
@@ -129,6 +133,10 @@ impl Call {
             Call::Script(script, status, output, told) => {
                 let run = run(rt, refusing, script, 4096, SOUND)?;
                 Ok(answered(&run, status, output, told))
+            }
+            Call::Report => {
+                let run = report(rt, refusing, FILE, 4096, SOUND)?;
+                Ok(answered(&run, 0, REPORT, b""))
             }
             Call::Description => described(rt, refusing),
             Call::Rehearsal => rehearsed(rt, refusing),

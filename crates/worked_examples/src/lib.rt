@@ -67,11 +67,11 @@ mod receiver_files;
 #[cfg(test)]
 mod receivers;
 #[cfg(test)]
-mod report;
-#[cfg(test)]
 mod rehearsal_scripts;
 #[cfg(test)]
 mod rehearsals;
+#[cfg(test)]
+mod report;
 #[cfg(test)]
 mod rows;
 #[cfg(test)]

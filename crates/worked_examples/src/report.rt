@@ -1,9 +1,9 @@
-//! Reports: of *contested*, of each sampling and depth, and over sinks that move one octet a call
-//! and fail at each of their calls in turn.
+//! Reports: of *contested*, of each sampling and depth, of a row with each second pixel group,
+//! over sinks that fail at each of their calls, and through the engine.
 use crate::checks::met;
-use crate::datagrams::{opened, takes_octets};
-use crate::small_format::{ANOTHER, KINDS, UPPER, small};
-use frame_assembly::Frame;
+use crate::datagrams::{begin, opened, put_head, takes_octets};
+use crate::running::{Ran, SOUND, report};
+use crate::small_format::{ANOTHER, UPPER, small};
 use frame_report::write_report;
 use path_merge::Receiver;
 use st_format::memory::MemorySink;
@@ -13,10 +13,43 @@ use std::process::Abort;
 use std::test::Fail;
 
 /// The report of *contested*.
-const REPORT: &[u8] = b"receiver YCbCr-4:2:2 8 4 2 60/1 pt 96 ssrc any\n\
+pub const REPORT: &[u8] = b"receiver YCbCr-4:2:2 8 4 2 60/1 pt 96 ssrc any\n\
     frame 900 present 7 missing 8 contested 1\n\
     missing row 1 columns 0 to 3\n\
     contested row 0 column 0 Y\n\
+    end\n";
+
+/// *contested*'s receiver as a file.
+pub const FILE: &[u8] = b"S20RCV01\0\x08\0\x04\0\x02\0\0\0\x3C\0\0\0\x01\x60\0\0\0\0\0\x01\
+    \0\0\x03\x84\x02\0\x02\x80\0\x80\x11\x01\x80\x12\x80\x13\0\0";
+
+/// A sampling, a depth, and how many columns, octets and samples a pixel group of theirs has
+/// (SMPTE ST 2110-20, the tables of pgroups).
+type Kind = (Sampling, Depth, u8, u8, u8);
+
+const GROUPS: [Kind; 12] = [
+    (Sampling::Ycc422, Depth::D8, 2, 4, 4),
+    (Sampling::Ycc422, Depth::D10, 2, 5, 4),
+    (Sampling::Ycc422, Depth::D12, 2, 6, 4),
+    (Sampling::Ycc422, Depth::D16, 2, 8, 4),
+    (Sampling::Ycc444, Depth::D8, 1, 3, 3),
+    (Sampling::Ycc444, Depth::D10, 4, 15, 12),
+    (Sampling::Ycc444, Depth::D12, 2, 9, 6),
+    (Sampling::Ycc444, Depth::D16, 1, 6, 3),
+    (Sampling::Rgb, Depth::D8, 1, 3, 3),
+    (Sampling::Rgb, Depth::D10, 4, 15, 12),
+    (Sampling::Rgb, Depth::D12, 2, 9, 6),
+    (Sampling::Rgb, Depth::D16, 1, 6, 3),
+];
+
+/// How the report of a row of 8192 columns begins and ends, of which each second one came.
+const WIDE_HEAD: &[u8] = b"receiver YCbCr-4:4:4 8 8192 1 60/1 pt 96 ssrc any\n\
+    frame 900 present 12288 missing 12288 contested 0\n\
+    missing row 0 columns 1 to 1\n\
+    missing row 0 columns 3 to 3\n";
+
+const WIDE_TAIL: &[u8] = b"\nmissing row 0 columns 8189 to 8189\n\
+    missing row 0 columns 8191 to 8191\n\
     end\n";
 
 /// A sink that moves so many octets a call and fails at a call, or never at 0.
@@ -48,19 +81,159 @@ fn contested_report(rt: HostRuntime) -> Result<(), Fail> {
     Ok(())
 }
 
-/// Whether a sink of one octet a call that fails at this call has a first part of the report.
-fn fails_in(alloc: Global, receiver: &Receiver, call: u64) -> Result<bool, Fail> {
-    let mut sink = sink(alloc, 1, call)?;
+/// Whether a sink of one octet a call that fails behind so many has a first part of the report.
+fn fails_behind(alloc: Global, receiver: &Receiver, taken: usize) -> Result<bool, Fail> {
+    let mut sink = sink(alloc, 1, (taken as u64).saturating_add(1))?;
     let is_refused = write_report(receiver, &mut sink).is_err();
-    let taken = (call as usize - 1).min(REPORT.len());
-    Ok(is_refused == (taken < REPORT.len()) && sink.held() == &REPORT[..taken])
+    let told = taken.min(REPORT.len());
+    Ok(is_refused == (told < REPORT.len()) && sink.held() == &REPORT[..told])
 }
 
 #[test]
 fn a_sink_that_fails(rt: HostRuntime) -> Result<(), Fail> {
     let receiver = contested(rt.alloc())?;
-    for call in 1..REPORT.len() as u64 + 3 {
-        met(&rt, fails_in(rt.alloc(), &receiver, call)?);
+    for taken in 0..REPORT.len() + 2 {
+        met(&rt, fails_behind(rt.alloc(), &receiver, taken)?);
     }
+    Ok(())
+}
+
+/// A datagram of the pixel group at a column of a row, all zeros but for its first and last octet.
+fn group(
+    alloc: Global,
+    place: (u16, u16),
+    octets: u8,
+    ends: (u8, u8),
+) -> Result<Vec<u8>, AllocError> {
+    let mut datagram = Vec::with_capacity(alloc, 64)?;
+    begin(&mut datagram)?;
+    put_head(&mut datagram, usize::from(octets), place.0, place.1, false)?;
+    datagram.push(ends.0)?;
+    for _ in 2..octets {
+        datagram.push(0)?;
+    }
+    datagram.push(ends.1)?;
+    Ok(datagram)
+}
+
+/// The sampling's word, and the names of the first and of the last sample of a pixel group.
+fn names(sampling: Sampling) -> (&'static str, &'static str, &'static str) {
+    match sampling {
+        Sampling::Ycc422 => ("YCbCr-4:2:2", "Cb", "Y"),
+        Sampling::Ycc444 => ("YCbCr-4:4:4", "Cb", "Cr"),
+        Sampling::Rgb => ("RGB", "R", "B"),
+    }
+}
+
+/// A receiver of two rows of four pixel groups, of which only the second of the lower row came,
+/// twice: its first and its last sample are contested.
+fn received(alloc: Global, kind: Kind) -> Result<Receiver, Fail> {
+    let (sampling, depth, columns, octets, _) = kind;
+    let format = Format::new(sampling, depth, u32::from(columns) * 4, 2, 60, 1)?;
+    let mut receiver = opened(alloc, format)?;
+    let place = (1, u16::from(columns));
+    let first = group(alloc, place, octets, (0, 0))?;
+    let second = group(alloc, place, octets, (0x80, 1))?;
+    if takes_octets(&mut receiver, &first) && takes_octets(&mut receiver, &second) {
+        Ok(receiver)
+    } else {
+        Err(Fail::from("refused"))
+    }
+}
+
+/// The first two lines of its report.
+fn counts_text(alloc: Global, kind: Kind) -> Result<String, AllocError> {
+    let (sampling, depth, columns, _, samples) = kind;
+    let (word, _, _) = names(sampling);
+    let (bits, width) = (depth.bits(), u32::from(columns) * 4);
+    let present = u32::from(samples).saturating_sub(2);
+    let missing = u32::from(samples) * 7;
+    format!(in alloc;
+        "receiver {word} {bits} {width} 2 60/1 pt 96 ssrc any\n\
+        frame 900 present {present} missing {missing} contested 2\n"
+    )
+}
+
+/// Its lines of missing pixel groups.
+fn missing_text(alloc: Global, kind: Kind) -> Result<String, AllocError> {
+    let columns = u32::from(kind.2);
+    let before = columns.saturating_sub(1);
+    let (after, end) = (columns * 2, columns * 3 + before);
+    format!(in alloc;
+        "missing row 0 columns 0 to {end}\n\
+        missing row 1 columns 0 to {before}\n\
+        missing row 1 columns {after} to {end}\n"
+    )
+}
+
+/// Its lines of contested samples, and its last line.
+fn contested_text(alloc: Global, kind: Kind) -> Result<String, AllocError> {
+    let (_, first, last) = names(kind.0);
+    let columns = u32::from(kind.2);
+    let end = (columns * 2).saturating_sub(1);
+    format!(in alloc;
+        "contested row 1 column {columns} {first}\n\
+        contested row 1 column {end} {last}\n\
+        end\n"
+    )
+}
+
+/// Whether the report of this kind's receiver is as its lines say.
+fn is_told(alloc: Global, kind: Kind) -> Result<bool, Fail> {
+    let receiver = received(alloc, kind)?;
+    let mut text = counts_text(alloc, kind)?;
+    text.push_str(missing_text(alloc, kind)?.as_str())?;
+    text.push_str(contested_text(alloc, kind)?.as_str())?;
+    tells(alloc, &receiver, text.as_bytes())
+}
+
+#[test]
+fn each_kind(rt: HostRuntime) -> Result<(), Fail> {
+    for kind in &GROUPS {
+        met(&rt, is_told(rt.alloc(), *kind)?);
+    }
+    Ok(())
+}
+
+/// A receiver of a row of 8192 pixel groups, of which each second one came.
+fn each_second(alloc: Global) -> Result<Receiver, Fail> {
+    let format = Format::new(Sampling::Ycc444, Depth::D8, 8192, 1, 60, 1)?;
+    let mut receiver = opened(alloc, format)?;
+    for pair in 0..4096u16 {
+        let datagram = group(alloc, (0, pair * 2), 3, (1, 1))?;
+        if !takes_octets(&mut receiver, &datagram) {
+            return Err(Fail::from("refused"));
+        }
+    }
+    Ok(receiver)
+}
+
+/// How many lines a text has.
+fn lines(text: &[u8]) -> usize {
+    text.iter().filter(|octet| **octet == b'\n').count()
+}
+
+#[test]
+fn each_second_group(rt: HostRuntime) -> Result<(), Fail> {
+    let receiver = each_second(rt.alloc())?;
+    let mut sink = sink(rt.alloc(), 4096, 0)?;
+    write_report(&receiver, &mut sink)?;
+    let text = sink.held();
+    let has_ends = text.starts_with(WIDE_HEAD) && text.ends_with(WIDE_TAIL);
+    met(&rt, has_ends && lines(text) == 4099);
+    Ok(())
+}
+
+/// Whether a run ended so.
+fn ended(run: &Ran, status: u8, printed: &[u8], told: &[u8]) -> bool {
+    run.status == status && run.printed() == printed && run.told() == told
+}
+
+#[test]
+fn report_of_a_file(rt: HostRuntime) -> Result<(), Fail> {
+    let whole = report(&rt, rt.alloc(), FILE, 5, SOUND)?;
+    met(&rt, ended(&whole, 0, REPORT, b""));
+    let cut = report(&rt, rt.alloc(), &FILE[..20], 5, SOUND)?;
+    met(&rt, ended(&cut, 1, b"", b"st2110: state 5 Truncated\n"));
     Ok(())
 }

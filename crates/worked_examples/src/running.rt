@@ -1,6 +1,6 @@
 //! A run of the engine over devices in memory.
 use st_format::memory::{MemorySink, MemorySource};
-use st2110_tool::{run_rehearse, run_sdp, run_trace};
+use st2110_tool::{run_rehearse, run_report, run_sdp, run_trace};
 use std::alloc::{AllocError, Allocator, Global};
 use std::process::Abort;
 
@@ -95,6 +95,27 @@ pub fn play_script<A: Allocator + Copy>(
     let mut output = sink(rt.alloc(), piece, failing.output)?;
     let mut faults = sink(rt.alloc(), piece, failing.faults)?;
     let status = run_rehearse(alloc, &mut source, &mut output, &mut faults);
+    Ok(Ran {
+        status,
+        output,
+        faults,
+    })
+}
+
+/// Reports of a receiver's file over devices that move at most `piece` octets a call.
+pub fn report<A: Allocator + Copy>(
+    rt: &(impl Abort + AllocGlobal),
+    alloc: A,
+    file: &[u8],
+    piece: usize,
+    failing: Failing,
+) -> Result<Ran, AllocError> {
+    let piece = piece.max(1);
+    let octets = Vec::from_slice(rt.alloc(), file)?;
+    let mut source = MemorySource::new(octets, piece, failing.source);
+    let mut output = sink(rt.alloc(), piece, failing.output)?;
+    let mut faults = sink(rt.alloc(), piece, failing.faults)?;
+    let status = run_report(alloc, &mut source, &mut output, &mut faults);
     Ok(Ran {
         status,
         output,
