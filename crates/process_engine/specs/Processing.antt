@@ -17,6 +17,8 @@ use Rattle.st_format.specs.Device.{TakesAll}
 use Rattle.st_format.specs.Picture.{Values}
 use Rattle.st_format.specs.Raster.{Raster}
 use Rattle.process_engine.specs.Inputs.{AreFramesAt, IsFill, IsHeldFor, settled_frames}
+use Rattle.process_engine.specs.JobText.{IsJobText}
+use Rattle.process_engine.specs.Reading.{SayReceivers, SaysHeld}
 
 -- A sink took the datagrams of a job's picture of pictures; so many modulo 2^32.
 pub record TakesJob (job : Job) (pictures : List Values) (size : ℕ) (stamp : Stamp)
@@ -36,6 +38,23 @@ pub record SendsJob (job : Job) (ts : ℕ) (fill_text : List ℕ) (size : ℕ) (
   pub fill_is : IsFill fill_text fill frames
   pub held_is : IsHeldFor held frames
   pub takes : TakesJob job (settled_frames held fill frames) size stamp old new count
+
+-- A sink took those of the job that a text says, of the receivers and the held picture whose files
+-- sources were to give.
+pub record SendsFiles {S : Type 0} (to_give : S → Option (List ℕ)) (states : List S)
+    (hold : Option S) (job_text : List ℕ) (ts : ℕ) (fill_text : List ℕ) (size : ℕ) (stamp : Stamp)
+    (old new : Option (List (List ℕ))) (count : ℕ) : Type 0 where
+  pub job : Job
+  pub job_is : IsJobText job_text job
+  pub receivers : List State
+  pub receivers_are : SayReceivers to_give states receivers
+  pub held : Option Values
+  pub held_is : SaysHeld to_give hold held
+  pub sends : SendsJob job ts fill_text size stamp receivers held old new count
+
+-- How many datagrams were sent is printed.
+abbrev pub PrintsSent : ℕ → Option (List ℕ) → Option (List ℕ) → Type 0
+PrintsSent count old new = Appends old new (line_text (Sent count) ++ 10 ∷ [])
 
 -- a fault of a sending
 abbrev pub of_send_job : SendJobFault → Fault

@@ -1,13 +1,14 @@
 //! The engine of `process`.
 ghost use Rattle.std.specs.Prelude.{◌≡◌, ◌≢◌, ◌≤◌, ◌⊎◌, ◌∷◌, [], ◌-◌, ◌+◌, ◌^◌, ◌%◌};
-ghost use Rattle.std.specs.Prelude.{IfErr, IfOk, length};
+ghost use Rattle.std.specs.Prelude.{IfErr, IfOk, OnOk, length};
 ghost use Rattle.std.specs.Prelude.{sum_by, List, ℕ};
 ghost use Rattle.std.specs.List.{AllByRecursion};
 ghost use Rattle.std.specs.Io.KnownBytes.{Appends};
 ghost use Rattle.file_engines.specs.Fault.{Accounts, IfRefused, NoneFailed, OneFailed, counts};
 ghost use Rattle.file_engines.specs.Receiving.{failures_in};
 ghost use Rattle.key_mix.specs.Sending.{HasBase, IsSentJob, settled_inputs};
-ghost use Rattle.process_engine.specs.Processing.{SendsJob, TakesJob, of_send_job};
+ghost use Rattle.process_engine.specs.Processing.{PrintsSent, SendsFiles, SendsJob, TakesJob};
+ghost use Rattle.process_engine.specs.Processing.{of_send_job};
 ghost use Rattle.st_format.specs.Device.{TakesAll};
 ghost use Rattle.tool_text.specs.Telling.{memory_line};
 
@@ -80,6 +81,12 @@ where
         ∷ counts (K.failures sink.old) (K.failures sink.new)
         ∷ counts (O.failures output.old) (O.failures output.new)
         ∷ counts (F.failures faults.old) (F.failures faults.new) ∷ []) }
+    // What is sent are the datagrams of the job's picture, made of the receivers and the held picture
+    // whose files were read; how many is printed.
+    ensures sent { result ≡ 0 → (count : ℕ) × SendsFiles S.to_give states.old hold.old
+        wanted.entry.job.now wanted.entry.timestamp wanted.entry.fill.now wanted.entry.max_octets
+        wanted.entry.stamp (K.taken sink.old) (K.taken sink.new) count
+        × PrintsSent count (O.held output.old) (O.held output.new) }
     ensures refused { result ≡ 1 → K.taken sink.new ≡ K.taken sink.old }
     ensures silent { result ≡ 0 → faults.new ≡ faults.old }
     ensures memory { result ≡ 4 → Appends (F.held faults.old) (F.held faults.new) memory_line }
@@ -109,6 +116,10 @@ where
     K: DatagramSink,
     O: ByteSink,
     requires payload_type { wanted.stamp.payload_type ≤ 127 }
+    ensures sent { OnOk result ((count : ℕ) × SendsFiles S.to_give states.old hold.old
+        wanted.entry.job.now wanted.entry.timestamp wanted.entry.fill.now wanted.entry.max_octets
+        wanted.entry.stamp (K.taken sink.old) (K.taken sink.new) count
+        × PrintsSent count (O.held output.old) (O.held output.new)) }
     ensures refused { IfErr result (λ f. IfRefused f (K.taken sink.new ≡ K.taken sink.old)) }
     ensures failures { Accounts result
         (counts (sum_by S.failures states.old) (sum_by S.failures states.new)
@@ -129,6 +140,9 @@ fn process_files<A: Allocator + Copy, S: ByteSource, K: DatagramSink>(
     sink: &mut K,
 ) -> Result<u32, Fault>
     requires payload_type { wanted.stamp.payload_type ≤ 127 }
+    ensures sent { IfOk result (λ n. SendsFiles S.to_give states.old hold.old
+        wanted.entry.job.now wanted.entry.timestamp wanted.entry.fill.now wanted.entry.max_octets
+        wanted.entry.stamp (K.taken sink.old) (K.taken sink.new) n) }
     ensures refused { IfErr result (λ f. IfRefused f (K.taken sink.new ≡ K.taken sink.old)) }
     ensures failures { Accounts result
         (counts (sum_by S.failures states.old) (sum_by S.failures states.new)

@@ -1,0 +1,20 @@
+use Rattle.std.proofs.Common.{◌≡◌, rules, subst, sym}
+use Rattle.process_engine.specs.Reading.{SayReceivers}
+use Rattle.process_engine.proofs.Settling.{if_ok_map}
+use Rattle.process_engine.proofs.process.process_files.Goals as goal
+
+pub returns-clause-sent : goal.returns-clause-sent
+returns-clause-sent g c =
+    let rs = c.in_ok-receivers.receivers.items in
+    let lent : c.deref.result.now ≡ rs = search rules in
+    if_ok_map c.send_frames.result (λ n sends. record {
+      job = c.in-Some.job;
+      job_is = c.in-Some.ensures.is;
+      receivers = c.deref.result.now;
+      receivers_are =
+          subst (SayReceivers g.S.ByteSource.to_give c.args.states.now) (sym lent)
+          c.in_ok-receivers.ensures.say;
+      held = c.in_ok-held.held;
+      held_is = c.in_ok-held.ensures.says;
+      sends = sends;
+    }) c.send_frames.ensures.sent
