@@ -1,10 +1,24 @@
 //! Links: sinks of datagrams that are their sources too.
-ghost use Rattle.std.specs.Prelude.{◌≡◌};
+ghost use Rattle.std.specs.Prelude.{◌≡◌, ◌≤◌, OnErr, OnOk, length};
+ghost use Rattle.st_format.specs.Device.{CountsFaults, KeepsAll, TakesOne};
 
-use st_format::{DatagramSink, DatagramSource};
+use st_format::{DatagramSink, DatagramSource, SinkFault};
 
 /// A link. What is put into it may come out of it or not, in any order and any number of times.
 pub trait DatagramLink: DatagramSink + DatagramSource {
+    /// Puts one datagram into the link, as [`DatagramSink::put`] does. That delivers none: what comes
+    /// out comes in a turn.
+    fn send(&mut self, octets: &[u8]) -> Result<(), SinkFault>
+        requires { length octets.now ≤ 65535 }
+        ensures taken { OnOk result (TakesOne (Self.DatagramSink.taken self.old)
+            (Self.DatagramSink.taken self.new) octets.now) }
+        ensures fault { OnErr result (KeepsAll (Self.DatagramSink.taken self.old)
+            (Self.DatagramSink.taken self.new)) }
+        ensures counted { CountsFaults (Self.DatagramSink.failures self.old)
+            (Self.DatagramSink.failures self.new) result }
+        ensures delivered { Self.DatagramSource.delivered self.new
+            ≡ Self.DatagramSource.delivered self.old };
+
     /// It counts each failure once, as a sink and as a source.
     ghost one_count: { (link : Self)
         → Self.DatagramSink.failures link ≡ Self.DatagramSource.failures link };

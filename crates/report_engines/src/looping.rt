@@ -77,6 +77,9 @@ where
         ∷ counts (L.DatagramSink.failures link.old) (L.DatagramSink.failures link.new)
         ∷ counts (O.failures output.old) (O.failures output.new)
         ∷ counts (F.failures faults.old) (F.failures faults.new) ∷ []) }
+    // However it ends, no more turns are taken than the limit: the link delivers no more datagrams.
+    ensures turns { L.DatagramSource.delivered link.new
+        ≤ L.DatagramSource.delivered link.old + wanted.limit }
     // What is printed is that of a receiver which holds the Frames of the datagrams that came in so
     // many turns as datagrams were sent, of which there are no more than the limit.
     ensures looped { result ≡ 0 → Loops wanted.max_octets wanted.limit (S.to_give picture.old)
@@ -107,6 +110,8 @@ where
     S: ByteSource,
     L: DatagramLink,
     O: ByteSink,
+    ensures turns { L.DatagramSource.delivered link.new
+        ≤ L.DatagramSource.delivered link.old + wanted.limit }
     ensures looped { OnOk result (Loops wanted.max_octets wanted.limit (S.to_give source.old)
         (O.held output.old) (O.held output.new)) }
     ensures failures { Accounts result (counts (S.failures source.old) (S.failures source.new)
@@ -161,6 +166,8 @@ fn pass<A: Allocator, L: DatagramLink>(
     ensures sent { IfOk result (λ p. p.sent ≡ min limit (length plan.now.packets)) }
     ensures came { IfOk result (λ p. Came p.sent p.delivered receiver.new) }
     ensures plan { IsFullPlan plan.now.format plan.now.max_octets plan.now.packets }
+    ensures turns { L.DatagramSource.delivered link.new
+        ≤ L.DatagramSource.delivered link.old + limit }
     ensures opening { receiver.new.opening ≡ receiver.old.opening }
     ensures failures { Accounts result
         (counts (L.DatagramSink.failures link.old) (L.DatagramSink.failures link.new) ∷ []) }
@@ -197,12 +204,14 @@ fn pass_one<A: Allocator, L: DatagramLink>(
     ensures few { IfOk result (λ n. n ≤ 1) }
     ensures came { IfOk result (λ n. (turns before : ℕ) → Came turns before receiver.old
         → Came (turns + 1) (before + n) receiver.new) }
+    ensures turns { L.DatagramSource.delivered link.new
+        ≤ L.DatagramSource.delivered link.old + 1 }
     ensures opening { receiver.new.opening ≡ receiver.old.opening }
     ensures failures { Accounts result
         (counts (L.DatagramSink.failures link.old) (L.DatagramSink.failures link.new) ∷ []) }
 {
     let count = plan.datagram(index, picture, STAMP, buf);
-    let Ok(()) = link.put(&buf[..count]) else {
+    let Ok(()) = link.send(&buf[..count]) else {
         return Err(Fault::Device);
     };
     match receive(link, receiver, buf, 1) {

@@ -87,11 +87,7 @@ impl<A: Allocator> DatagramSink for MemoryLink<A> {
     ghost failures = { λ l. l.failures };
 
     fn put(&mut self, octets: &[u8]) -> Result<(), SinkFault> {
-        if !self.fails_now() && self.puts.put(octets).is_ok() {
-            return Ok(());
-        }
-        self.failures = self.failures.saturating_add(1);
-        Err(SinkFault)
+        self.send(octets)
     }
 }
 
@@ -130,4 +126,12 @@ impl<A: Allocator> DatagramLink for MemoryLink<A> {
     ghost use Rattle.std.specs.Prelude.{refl};
 
     ghost one_count = { λ _. refl };
+
+    fn send(&mut self, octets: &[u8]) -> Result<(), SinkFault> {
+        if !self.fails_now() && self.puts.put(octets).is_ok() {
+            return Ok(());
+        }
+        self.failures = self.failures.saturating_add(1);
+        Err(SinkFault)
+    }
 }

@@ -75,16 +75,8 @@ impl DatagramSink for UdpLink {
 
     ghost failures = { λ l. l.failures };
 
-    /// A datagram that is sent in part is a failure too.
     fn put(&mut self, octets: &[u8]) -> Result<(), SinkFault> {
-        match self.from.send_to(octets, self.address) {
-            Ok(n) if n == octets.len() => Ok(()),
-            outcome => {
-                self.fault = outcome.err();
-                self.failures = self.failures.saturating_add(1);
-                Err(SinkFault)
-            }
-        }
+        self.send(octets)
     }
 }
 
@@ -122,4 +114,16 @@ impl DatagramLink for UdpLink {
     ghost use Rattle.std.specs.Prelude.{refl};
 
     ghost one_count = { λ _. refl };
+
+    /// A datagram that is sent in part is a failure too.
+    fn send(&mut self, octets: &[u8]) -> Result<(), SinkFault> {
+        match self.from.send_to(octets, self.address) {
+            Ok(n) if n == octets.len() => Ok(()),
+            outcome => {
+                self.fault = outcome.err();
+                self.failures = self.failures.saturating_add(1);
+                Err(SinkFault)
+            }
+        }
+    }
 }

@@ -15,6 +15,9 @@ returns-clause-sent g c =
     wanted.job.now wanted.timestamp wanted.fill.now wanted.max_octets wanted.stamp
     (g.K.DatagramSink.taken c.args.sink.now) (g.K.DatagramSink.taken c.process_files.new.sink)
     count × PrintsSent count old new)
-    (λ printed. (sent, c.in_ok-sent.ensures.sent,
-    subst (λ n. PrintsSent n old new) widened printed))
+    (λ printed. (
+      sent,
+      c.in_ok-sent.ensures.sent,
+      subst (λ n. PrintsSent n old new) widened printed,
+    ))
     c.print.ensures.printed

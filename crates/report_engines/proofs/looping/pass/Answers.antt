@@ -8,6 +8,7 @@ loop-index-init g c = record {
   few = omega arith;
   came = none_came c.args.receiver.now c.requires.holds;
   opening = refl;
+  turns = omega arith;
   failures = refl;
 }
 
@@ -19,5 +20,6 @@ loop-index-preserved g c =
       few = omega (arith, before.few, c.in_ok-delivered.ensures.few);
       came = c.in_ok-delivered.ensures.came c.loop-index.index c.loop-index.delivered before.came;
       opening = c.in_ok-delivered.ensures.opening ∙ before.opening;
+      turns = omega (arith, before.turns, c.in_ok-delivered.ensures.turns);
       failures = omega (arith, before.failures, c.in_ok-delivered.ensures.failures);
     }

@@ -1,4 +1,4 @@
-use Rattle.std.proofs.Common.{◌≡◌, ◌≤◌, length}
+use Rattle.std.proofs.Common.{◌≡◌, ◌≤◌, ◌+◌, length}
 use Rattle.report_engines.specs.Looping.{Came}
 use Rattle.report_engines.proofs.looping.pass.Given as goal
 
@@ -8,5 +8,8 @@ invariant-loop-index g l = record {
   few : l.delivered ≤ l.index;
   came : Came l.index l.delivered l.receiver;
   opening : l.receiver.opening ≡ l.initial.receiver.opening;
+  turns :
+      g.L.DatagramSource.delivered l.link
+      ≤ g.L.DatagramSource.delivered l.initial.link + l.index;
   failures : g.L.DatagramSink.failures l.link ≡ g.L.DatagramSink.failures l.initial.link;
 }
