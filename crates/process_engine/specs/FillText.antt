@@ -1,5 +1,5 @@
 -- The text of a fill (own).
-use Rattle.std.specs.Prelude.{◌≡◌, ℕ, List, [], ◌∷◌, Some}
+use Rattle.std.specs.Prelude.{◌≡◌, ℕ, List, Some}
 use Rattle.tool_text.specs.Fields.{parted}
 use Rattle.tool_text.specs.Timestamps.{Spells}
 

@@ -1,4 +1,4 @@
-use Rattle.std.proofs.Common.{◌≡◌, ◌<◌, length, rules, subst, sym}
+use Rattle.std.proofs.Common.{◌<◌, length, rules, subst, sym}
 use Rattle.std.specs.List.{AllByRecursion}
 use Rattle.key_mix.specs.Sending.{HasBase}
 use Rattle.process_engine.proofs.Settling.{filled_bases, held_bases, settled_held, settled_unheld}

@@ -1,4 +1,4 @@
-use Rattle.std.proofs.Common.{◌≡◌, ℕ, Option, List, rules, subst}
+use Rattle.std.proofs.Common.{◌≡◌, ℕ, rules, subst}
 use Rattle.file_engines.proofs.Merged.{on_ok}
 use Rattle.process_engine.specs.Processing.{PrintsSent, SendsFiles}
 use Rattle.process_engine.proofs.process.process.Goals as goal
