@@ -1,3 +1,4 @@
+pub mod Firsts
 pub mod Gained
 pub mod Made
 pub mod Numbers

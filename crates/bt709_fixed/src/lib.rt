@@ -19,6 +19,7 @@ ghost use Rattle.std.specs.Prelude.{
   Err,
   ◌↔◌,
   ◌≢◌,
+  IsTrue,
 };
 ghost use Rattle.st_format.specs.Pgroup.{bits_of};
 ghost use Rattle.st_format.specs.Picture.{FitsDepth, IsPicture};
@@ -108,6 +109,20 @@ fn limit_samples(sampling: Sampling, depth: Depth, range: RangeKind, samples: &m
     }
 }
 
+/// Whether the sample of this number, counted from the start of a row or of a raster, is Y or R. By
+/// a divisor that is known, so that a loop over samples asks it in lanes.
+#[tactic(auto, using(crate::proofs::Firsts::first_pairs, crate::proofs::Firsts::first_pixels, crate::proofs::Firsts::first_rgb))]
+#[inline(always)]
+fn is_first(sampling: Sampling, number: usize) -> bool
+    ensures { IsTrue result ↔ (component_in_row sampling number ≡ 0) }
+{
+    match sampling {
+        Sampling::Ycc422 => number % 2 == 1,
+        Sampling::Ycc444 => number % 3 == 1,
+        Sampling::Rgb => number % 3 == 0,
+    }
+}
+
 /// Brings each luma sample above `most` to it.
 fn lower_luma(sampling: Sampling, most: u16, samples: &mut [u16])
     ensures long { length samples.new ≡ length samples.old }
@@ -115,9 +130,11 @@ fn lower_luma(sampling: Sampling, most: u16, samples: &mut [u16])
         slice_index samples.new k ≡ lowered sampling most k (slice_index samples.old k)) }
 {
     for (number, sample) in samples.iter_mut().enumerate() {
-        if sampling.component_in_row(number) == 0 && *sample > most {
-            *sample = most;
-        }
+        *sample = if is_first(sampling, number) {
+            most.min(*sample)
+        } else {
+            *sample
+        };
     }
 }
 
@@ -187,9 +204,11 @@ fn choose_colour(sampling: Sampling, first: usize, colour: &[u16], samples: &mut
         then slice_index colour.now k else slice_index samples.old k)) }
 {
     for (k, sample) in samples.iter_mut().enumerate() {
-        if sampling != Sampling::Rgb && sampling.component_in_row(first + k) != 0 {
-            *sample = colour[k];
-        }
+        *sample = if sampling != Sampling::Rgb && !is_first(sampling, first + k) {
+            colour[k]
+        } else {
+            *sample
+        };
     }
 }
 
