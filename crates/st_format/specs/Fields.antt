@@ -1,8 +1,10 @@
 -- What a format says, and which formats there are.
-use Rattle.std.specs.Prelude.{ℕ, ◌*◌, ◌/◌, ◌%◌, Bool, ◌||◌, nat_lt, not, ◌==◌, if◌then◌else◌}
-use Rattle.std.specs.Prelude.{Result, Ok, Err}
+use Rattle.std.specs.Prelude.{ℕ, ◌*◌, ◌/◌, ◌%◌, Bool, true, false, ◌&&◌, ◌||◌, nat_lt, not, ◌==◌}
+use Rattle.std.specs.Prelude.{if◌then◌else◌, Result, Ok, Err}
 use Rattle.st_format.specs.declared.sampling.Sampling.{Sampling}
+use Rattle.st_format.specs.declared.sampling.Sampling.TheVariants.{Ycc422, Ycc444, Rgb}
 use Rattle.st_format.specs.declared.sampling.Depth.{Depth}
+use Rattle.st_format.specs.declared.sampling.Depth.TheVariants.{D8, D10, D12, D16}
 use Rattle.st_format.specs.declared.format.Format.{Format}
 use Rattle.st_format.specs.declared.format.FormatFault.{FormatFault}
 use Rattle.st_format.specs.declared.format.FormatFault.TheVariants.{BadWidth, BadHeight, BadRate}
@@ -63,3 +65,22 @@ format_at s b w h n d =
 abbrev pub made : Result Format FormatFault → Result Fields FormatFault
 made (Ok f) = Ok (fields_of f)
 made (Err e) = Err e
+
+-- whether two say the same, as a test
+abbrev pub same_sampling : Sampling → Sampling → Bool
+same_sampling Ycc422 Ycc422 = true
+same_sampling Ycc444 Ycc444 = true
+same_sampling Rgb Rgb = true
+same_sampling a b = false
+
+abbrev pub same_depth : Depth → Depth → Bool
+same_depth D8 D8 = true
+same_depth D10 D10 = true
+same_depth D12 D12 = true
+same_depth D16 D16 = true
+same_depth a b = false
+
+abbrev pub same_fields : Fields → Fields → Bool
+same_fields f g =
+    same_sampling f.sampling g.sampling && same_depth f.depth g.depth && f.width == g.width
+    && f.height == g.height && f.n == g.n && f.d == g.d

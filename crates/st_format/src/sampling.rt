@@ -1,5 +1,5 @@
 //! Which samples a pixel has, of how many bits, and the groups in which they are sent.
-ghost use Rattle.std.specs.Prelude.{◌≡◌, ◌<◌, ◌≤◌, ◌↔◌, IsTrue};
+ghost use Rattle.std.specs.Prelude.{◌≡◌, ◌≢◌, ◌<◌, ◌≤◌, ◌↔◌, IsTrue, IfNone, IfSome, length};
 ghost use Rattle.st_format.specs.Pgroup.{pixel_group, bits_of};
 
 /// Which components a pixel has, and at which columns (SMPTE ST 2110-20, sampling).
@@ -55,6 +55,38 @@ impl Depth {
 impl Sampling {
     ghost use Rattle.st_format.specs.Position.{HasComponent, component_in_row, number_in_run};
     ghost use Rattle.st_format.specs.Position.{run_columns, run_samples};
+    ghost use Rattle.st_format.specs.Words.{sampling_named, sampling_text};
+
+    /// Its word (SMPTE ST 2110-20, sampling): `YCbCr-4:2:2`, `YCbCr-4:4:4` or `RGB`.
+    pub fn word(self) -> &'static [u8]
+        ensures text { result.now ≡ sampling_text self }
+        ensures short { length result.now ≤ 11 }
+    {
+        match self {
+            Sampling::Ycc422 => b"YCbCr-4:2:2",
+            Sampling::Ycc444 => b"YCbCr-4:4:4",
+            Sampling::Rgb => b"RGB",
+        }
+    }
+
+    /// The sampling whose word a text is. Any other text is none.
+    #[tactic(auto, unfolding(crate::specs::Words::sampling_named))]
+    pub fn of_word(text: &[u8]) -> Option<Sampling>
+        ensures is { IfSome result (λ s. text.now ≡ sampling_text s) }
+        ensures none { IfNone result ((s : Sampling) → text.now ≢ sampling_text s) }
+        // The same by comparisons, for the walks that go on from it.
+        ensures exact { result ≡ sampling_named text.now }
+    {
+        if text == b"YCbCr-4:2:2".as_slice() {
+            Some(Sampling::Ycc422)
+        } else if text == b"YCbCr-4:4:4".as_slice() {
+            Some(Sampling::Ycc444)
+        } else if text == b"RGB".as_slice() {
+            Some(Sampling::Rgb)
+        } else {
+            None
+        }
+    }
 
     /// The pgroup of this sampling at a depth: at most 15 octets, 4 pixels and 12 samples.
     pub fn pgroup(self, depth: Depth) -> Pgroup
