@@ -1,4 +1,3 @@
-pub mod Octets
 pub mod Taken
 pub mod Again
 pub mod Faulted

@@ -9,34 +9,23 @@ use Rattle.std.proofs.lemmas.List.{take-append-drop, length-take, length-drop, g
 use Rattle.std.proofs.lemmas.List.{append-nil}
 use Rattle.std.proofs.Math.Seq.{take-add}
 use Rattle.std.proofs.lemmas.Nat.{be_bytes_2, be_bytes_4}
-use Rattle.rtp_header.proofs.Octets.{AreOctets-drop, AreOctets-take}
+use Rattle.st_format.proofs.Octets.{AreOctets-drop, AreOctets-take}
+use Rattle.st_format.proofs.Readings.{bind_ok, guard_ok, not_eqb_at, three, two_below}
 use Rattle.rtp_header.specs.declared.header.RtpFault.{RtpFault}
 use Rattle.rtp_header.specs.declared.header.RtpFault.TheVariants.{ShortHeader, BadVersion}
 use Rattle.rtp_header.specs.declared.header.RtpFault.TheVariants.{ShortExtension, BadPadding}
-use Rattle.rtp_header.specs.Grammar.{AreOctets, Rtp, Flags, bit, fixed_text, IsExtension}
+use Rattle.rtp_header.specs.Grammar.{Rtp, Flags, bit, fixed_text, IsExtension}
 use Rattle.rtp_header.specs.Grammar.{IsExtensionIf, IsPaddingIf, IsRtp}
-use Rattle.rtp_header.specs.Reading.{◌>>=◌, behind, behind_extension, without_padding, fields_of}
+use Rattle.st_format.specs.Device.{AreOctets}
+use Rattle.st_format.specs.Reading.{◌>>=◌}
+use Rattle.rtp_header.specs.Reading.{behind, behind_extension, without_padding, fields_of}
 use Rattle.rtp_header.specs.Reading.{fixed_at, rtp_walk}
-
-bind_ok : {A B : Type 0} (r : Result A RtpFault) (f : A → Result B RtpFault) (y : B)
-    → (r >>= f) ≡ Ok y → (x : A) × (r ≡ Ok x) × (f x ≡ Ok y)
-bind_ok (Ok x) f y e = (x, refl, e)
-bind_ok (Err d) f y e = absurd cc
-
-guard_ok : {A : Type 0} (b : Bool) (d : RtpFault) (x y : A) → cond b (Err d) (Ok x) ≡ Ok y
-    → (b ≡ false) × (x ≡ y)
-guard_ok true d x y e = absurd cc
-guard_ok false d x y e = (refl, cc)
 
 guards_ok : {A : Type 0} (b c : Bool) (d e : RtpFault) (x y : A)
     → cond b (Err d) (cond c (Err e) (Ok x)) ≡ Ok y → (b ≡ false) × (c ≡ false) × (x ≡ y)
 guards_ok true c d e x y h = absurd cc
 guards_ok false true d e x y h = absurd cc
 guards_ok false false d e x y h = (refl, refl, cc)
-
-not_eqb_at : (a b : ℕ) (t : Bool) → eqb a b ≡ t → not t ≡ false → a ≡ b
-not_eqb_at a b true e h = eqb-true a b e
-not_eqb_at a b false e h = absurd cc
 
 -- what stands before n octets, and what stands behind
 record Splits (octets front rest : List ℕ) (n : ℕ) : Type 0 where
@@ -194,9 +183,6 @@ flags_of octets =
       sources = get_or octets 0 0 % 16;
     }
 
-three : {a r o x y z : List ℕ} → x ≡ a → y ≡ r → z ≡ o → (x ++ y) ++ z ≡ (a ++ r) ++ o
-three p q s = cc
-
 two_heads : (a b c d : ℕ) (t u : List ℕ) → a ≡ c → b ≡ d → t ≡ u → a ∷ b ∷ t ≡ c ∷ d ∷ u
 two_heads a b c d t u p q r = cc
 
@@ -237,9 +223,6 @@ done x y e = cc
 
 four_below : (bs : List ℕ) → AreOctets bs → from_be_bytes w32 bs < 2 ^ 32
 four_below bs bytes = omega (arith, bytes 0, bytes 1, bytes 2, bytes 3)
-
-two_below : (bs : List ℕ) → AreOctets bs → from_be_bytes w16 bs < 2 ^ 16
-two_below bs bytes = omega (arith, bytes 0, bytes 1)
 
 -- What is read is in the grammar of headers.
 pub rtp_takes : (octets : List ℕ) (y : Rtp) → AreOctets octets → rtp_walk octets ≡ Ok y

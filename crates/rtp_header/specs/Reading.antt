@@ -1,7 +1,7 @@
 -- A walk over an RTP header from the left, as the code walks, which tells the first fault. What a
 -- datagram is says Grammar, and what stands in octets that have a fault says Faults; laws join the
 -- three, so nobody has to believe the walk.
-use Rattle.std.specs.Prelude.{◌≡◌, ℕ, ◌+◌, ◌-◌, ◌*◌, ◌/◌, ◌%◌, Bool, true, false, ◌||◌, not, nat_lt}
+use Rattle.std.specs.Prelude.{ℕ, ◌+◌, ◌-◌, ◌*◌, ◌/◌, ◌%◌, Bool, true, false, ◌||◌, not, nat_lt}
 use Rattle.std.specs.Prelude.{nat_le, ◌==◌, if◌then◌else◌, List, length, take, drop, slice_index}
 use Rattle.std.specs.Prelude.{Result, Ok, Err}
 use Rattle.std.specs.Int.{w16, w32, from_be_bytes}
@@ -9,11 +9,7 @@ use Rattle.rtp_header.specs.declared.header.RtpFault.{RtpFault}
 use Rattle.rtp_header.specs.declared.header.RtpFault.TheVariants.{ShortHeader, BadVersion}
 use Rattle.rtp_header.specs.declared.header.RtpFault.TheVariants.{ShortExtension, BadPadding}
 use Rattle.rtp_header.specs.Grammar.{Rtp}
-
-infixl 10 ◌>>=◌
-abbrev pub ◌>>=◌ : {A B : Type 0} → Result A RtpFault → (A → Result B RtpFault) → Result B RtpFault
-(Ok x) >>= f = f x
-(Err e) >>= f = Err e
+use Rattle.st_format.specs.Reading.{◌>>=◌}
 
 -- what stands behind n octets
 abbrev pub behind : ℕ → List ℕ → Result (List ℕ) RtpFault
@@ -59,8 +55,3 @@ rtp_walk octets = do
   padded ← behind_extension (slice_index octets 0 / 16 % 2 == 1) extension
   payload ← without_padding (slice_index octets 0 / 32 % 2 == 1) padded
   Ok (fields_of octets payload)
-
--- What a function answered, seen by view, is what reading gives.
-abbrev pub Gives : {X Y : Type 0} → (X → Y) → Result X RtpFault → Result Y RtpFault → Type 0
-Gives view (Ok x) read = read ≡ Ok (view x)
-Gives view (Err e) read = read ≡ Err e

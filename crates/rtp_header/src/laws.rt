@@ -4,8 +4,9 @@ ghost use Rattle.std.specs.Prelude.{◌≡◌, ◌⊎◌, ◌↔◌, ℕ, List, 
 ghost use Rattle.rtp_header.specs.declared.header.RtpFault.{RtpFault};
 ghost use Rattle.rtp_header.specs.Faults.{HasFault, IsBadPadding, IsBadVersion, IsShortExtension};
 ghost use Rattle.rtp_header.specs.Faults.{IsShortHeader};
-ghost use Rattle.rtp_header.specs.Grammar.{AreOctets, IsRtp, Rtp};
+ghost use Rattle.rtp_header.specs.Grammar.{IsRtp, Rtp};
 ghost use Rattle.rtp_header.specs.Reading.{rtp_walk};
+ghost use Rattle.st_format.specs.Device.{AreOctets};
 
 /// Octets say one thing at most: a datagram has one reading (RFC 3550, 5.1).
 pub fn one_reading()
@@ -33,9 +34,9 @@ pub fn first_fault()
 /// Octets are a datagram, or one fault stands in them and no other.
 pub fn datagram_or_fault()
     ensures some { (octets : List ℕ) → AreOctets octets →
-        ((r : Rtp) × IsRtp octets r) ⊎ ((e : RtpFault) × HasFault e octets) }
+        ((r : Rtp) × IsRtp octets r) ⊎ ((e : RtpFault) × HasFault octets e) }
     ensures apart { (octets : List ℕ) (r : Rtp) (e : RtpFault) →
-        IsRtp octets r → HasFault e octets → ⊥ }
+        IsRtp octets r → HasFault octets e → ⊥ }
     ensures one { (octets : List ℕ) (e d : RtpFault) →
-        HasFault e octets → HasFault d octets → e ≡ d }
+        HasFault octets e → HasFault octets d → e ≡ d }
 {}
