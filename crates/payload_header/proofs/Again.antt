@@ -18,13 +18,16 @@ use Rattle.payload_header.specs.declared.payload.PayloadFault.TheVariants.{RowOu
 use Rattle.payload_header.specs.declared.payload.PayloadFault.TheVariants.{ColumnsOutside}
 use Rattle.payload_header.specs.Payload.{group_of, Header, HeaderFits, header_text, IsChain}
 use Rattle.payload_header.specs.Payload.{IsInside, Describes, IsPayload, most_segments}
-use Rattle.payload_header.specs.Reading.{◌>>=◌, first_of, number_at, header_of, headers_at}
+use Rattle.payload_header.specs.Reading.{first_of, number_at, header_of, headers_at}
+use Rattle.st_format.specs.Reading.{◌>>=◌}
 use Rattle.payload_header.specs.Reading.{headers_fault, option_or, fault_or, segments_at, octets_of}
-use Rattle.payload_header.specs.Reading.{data_at, payload_walk, Gives}
+use Rattle.payload_header.specs.Reading.{data_at, payload_walk}
+use Rattle.st_format.specs.Reading.{Gives}
 use Rattle.std.specs.Prelude.{IfOk}
 use Rattle.payload_header.specs.declared.payload.PayloadView.{PayloadView}
 use Rattle.payload_header.specs.View.{said, segments_of}
-use Rattle.payload_header.proofs.Taken.{IsBytes, payload_takes}
+use Rattle.payload_header.proofs.Taken.{payload_takes}
+use Rattle.st_format.specs.Device.{AreOctets}
 use Rattle.payload_header.proofs.Grammar.{octets_of-cons}
 
 -- a flag and fifteen bits, as one number
@@ -155,7 +158,7 @@ no_test b1 b2 b3 b4 b5 e1 e2 e3 e4 e5 = rw (e1, e2, e3, e4, e5) refl
 zero_test : (n : ℕ) → n ≡ 0 → not (eqb n 0) ≡ false
 zero_test n e = ap not (eq-eqb n 0 e)
 
-fault_free : (f : Format) (h : Header) (s : Segment) (b : Bool) → Describes f h s
+fault_free : (f : Format) (h : Header) (s : Segment) (b : Bool) → Describes h f s
     → eqb h.octets 0 ≡ b
     → cond b None
     (first_of ((h.second_field, SecondField) ∷
@@ -169,7 +172,7 @@ fault_free f h s true d e = refl
 fault_free f h s false d e =
     let ne : h.octets ≡ 0 → ⊥ = eqb-false h.octets 0 e in
     let some : 0 < length s.octets = omega (arith, d.octets) in
-    let is : IsInside f s = d.inside some in
+    let is : IsInside s f = d.inside some in
     no_test h.second_field (not (eqb (h.octets % (group_of f).octets) 0))
     (not (eqb (h.offset % (group_of f).pixels) 0)) (leb f.height h.row)
     (ltb f.width (h.offset + h.octets / (group_of f).octets * (group_of f).pixels))
@@ -185,7 +188,8 @@ fault_free f h s false d e =
     (subst (λ (n : ℕ). s.offset + n / (group_of f).octets * (group_of f).pixels ≤ f.width)
     (sym d.octets) is.columns)))
 
-no_faults : (f : Format) (hs : List Header) (ss : List Segment) → AllZip (Describes f) hs ss
+no_faults : (f : Format) (hs : List Header) (ss : List Segment)
+    → AllZip (λ h s. Describes h f s) hs ss
     → headers_fault f hs ≡ None
 no_faults f [] ss d = refl
 no_faults f (h ∷ hs) [] d = absurd d
@@ -198,7 +202,8 @@ no_faults f (h ∷ hs) (s ∷ ss) d =
 abbrev all_octets : List Segment → List ℕ
 all_octets ss = flat_map (λ (s : Segment). s.octets) ss
 
-lengths : (f : Format) (hs : List Header) (ss : List Segment) → AllZip (Describes f) hs ss
+lengths : (f : Format) (hs : List Header) (ss : List Segment)
+    → AllZip (λ h s. Describes h f s) hs ss
     → octets_of hs ≡ length (all_octets ss)
 lengths f [] [] d = refl
 lengths f [] (s ∷ ss) d = absurd d
@@ -216,7 +221,7 @@ abbrev segment : ℕ → ℕ → List ℕ → Segment
 segment row offset octets = record { row = row; offset = offset; octets = octets }
 
 segments_again : (f : Format) (hs : List Header) (ss : List Segment) (rest : List ℕ)
-    → AllZip (Describes f) hs ss → segments_at hs (all_octets ss ++ rest) ≡ ss
+    → AllZip (λ h s. Describes h f s) hs ss → segments_at hs (all_octets ss ++ rest) ≡ ss
 segments_again f [] [] rest d = refl
 segments_again f [] (s ∷ ss) rest d = absurd d
 segments_again f (h ∷ hs) [] rest d = absurd d
@@ -252,7 +257,7 @@ number_again n rest lt =
 
 -- What is in the grammar is read.
 pub payload_again : (f : Format) (extended : ℕ) (segments : List Segment) (octets : List ℕ)
-    → IsPayload f extended segments octets → payload_walk f octets ≡ Ok (extended, segments)
+    → IsPayload octets f extended segments → payload_walk f octets ≡ Ok (extended, segments)
 unfolding payload_walk
 payload_again f extended segments octets is =
     let later : List ℕ = all_octets segments ++ is.rest in
@@ -284,15 +289,15 @@ payload_again f extended segments octets is =
 
 -- The clauses of a reader that gives what reading gives
 pub is_found : (f : Format) (octets : List ℕ) (r : Result PayloadView PayloadFault)
-    → IsBytes octets → Gives said r (payload_walk f octets)
-    → IfOk r (λ v. IsPayload f v.extended (segments_of v) octets)
+    → AreOctets octets → Gives said r (payload_walk f octets)
+    → IfOk r (λ v. IsPayload octets f v.extended (segments_of v))
 is_found f octets (Ok v) bytes gives =
     payload_takes f octets (v.extended, segments_of v) bytes gives
 is_found f octets (Err e) bytes gives = tt
 
 pub is_only : (f : Format) (octets : List ℕ) (r : Result PayloadView PayloadFault)
     → Gives said r (payload_walk f octets)
-    → (extended : ℕ) (segments : List Segment) → IsPayload f extended segments octets
+    → (extended : ℕ) (segments : List Segment) → IsPayload octets f extended segments
     → Gives said r (Ok (extended, segments))
 is_only f octets (Ok v) gives e ss is = sym (payload_again f e ss octets is) ∙ gives
 is_only f octets (Err x) gives e ss is = sym (payload_again f e ss octets is) ∙ gives

@@ -9,6 +9,7 @@ use Rattle.std.proofs.lemmas.List.Elements.{All-from_recursion}
 use Rattle.std.proofs.lemmas.List.Sums.{sum_by-cons}
 use Rattle.st_format.specs.declared.format.Format.{Format}
 use Rattle.st_format.specs.Raster.{Segment}
+use Rattle.st_format.proofs.Readings.{not_eqb_at}
 use Rattle.payload_header.specs.declared.payload.PayloadFault.{PayloadFault}
 use Rattle.payload_header.specs.declared.payload.PayloadFault.TheVariants.{SecondField, BadLength}
 use Rattle.payload_header.specs.declared.payload.PayloadFault.TheVariants.{BadOffset, RowOutside}
@@ -31,10 +32,6 @@ none_holds f false false false true b5 h = absurd cc
 none_holds f false false false false true h = absurd cc
 none_holds f false false false false false h = (refl, refl, refl, refl, refl)
 
-not_eqb_at : (a b : ℕ) (t : Bool) → eqb a b ≡ t → not t ≡ false → a ≡ b
-not_eqb_at a b true e h = eqb-true a b e
-not_eqb_at a b false e h = absurd cc
-
 not_eqb : (a b : ℕ) → not (eqb a b) ≡ false → a ≡ b
 not_eqb a b h = not_eqb_at a b (eqb a b) refl h
 
@@ -49,7 +46,7 @@ header_ok : (f : Format) (h : Header) (b : Bool) → eqb h.octets 0 ≡ b
       ColumnsOutside,
     ) ∷ [])) ≡ None
     → (s : Segment) → h.octets ≡ length s.octets → h.row ≡ s.row → h.offset ≡ s.offset
-    → Describes f h s
+    → Describes h f s
 header_ok f h true e none s o r p =
     let empty : h.octets ≡ 0 = eqb-true h.octets 0 e in
     record {
@@ -97,7 +94,7 @@ option_none None b h = (refl, h)
 option_none (Some e) b h = absurd cc
 
 pub all_described : (f : Format) (hs : List Header) (octets : List ℕ) → headers_fault f hs ≡ None
-    → octets_of hs ≤ length octets → AllZip (Describes f) hs (segments_at hs octets)
+    → octets_of hs ≤ length octets → AllZip (λ h s. Describes h f s) hs (segments_at hs octets)
 all_described f [] octets none enough = tt
 all_described f (h ∷ hs) octets none enough =
     let two = option_none (header_fault f h) (headers_fault f hs) none in
@@ -109,25 +106,26 @@ all_described f (h ∷ hs) octets none enough =
     )
 
 -- what the segments of a view owe
-pub all_inside : (f : Format) (hs : List Header) (ss : List Segment) → AllZip (Describes f) hs ss
-    → AllByRecursion (λ s. 0 < length s.octets → IsInside f s) ss
+pub all_inside : (f : Format) (hs : List Header) (ss : List Segment)
+    → AllZip (λ h s. Describes h f s) hs ss
+    → AllByRecursion (λ s. 0 < length s.octets → IsInside s f) ss
 all_inside f [] [] d = tt
 all_inside f [] (s ∷ ss) d = absurd d
 all_inside f (h ∷ hs) [] d = absurd d
 all_inside f (h ∷ hs) (s ∷ ss) d = (d.0.inside, all_inside f hs ss d.1)
 
 seen_inside : (f : Format) (ss : List SegmentView)
-    → AllByRecursion (λ s. 0 < length s.octets → IsInside f s) (map seen ss)
-    → AllByRecursion (λ s. 0 < length s.octets.now → IsInside f (seen s)) ss
+    → AllByRecursion (λ s. 0 < length s.octets → IsInside s f) (map seen ss)
+    → AllByRecursion (λ s. 0 < length s.octets.now → IsInside (seen s) f) ss
 seen_inside f [] h = tt
 seen_inside f (s ∷ ss) h = (h.0, seen_inside f ss h.1)
 
 pub view_inside : (f : Format) (hs : List Header) (octets : List ℕ) (ss : List SegmentView)
     → map seen ss ≡ segments_at hs octets → headers_fault f hs ≡ None → octets_of hs ≤ length octets
-    → All (λ s. 0 < length s.octets.now → IsInside f (seen s)) ss
+    → All (λ s. 0 < length s.octets.now → IsInside (seen s) f) ss
 view_inside f hs octets ss is none enough =
-    All-from_recursion (λ s. 0 < length s.octets.now → IsInside f (seen s)) ss
+    All-from_recursion (λ s. 0 < length s.octets.now → IsInside (seen s) f) ss
     (seen_inside f ss
     (all_inside f hs (map seen ss)
-    (subst (λ (xs : List Segment). AllZip (Describes f) hs xs) (sym is)
+    (subst (λ (xs : List Segment). AllZip (λ h s. Describes h f s) hs xs) (sym is)
     (all_described f hs octets none enough))))

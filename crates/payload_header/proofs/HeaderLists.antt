@@ -7,7 +7,8 @@ use Rattle.payload_header.specs.declared.payload.PayloadFault.TheVariants.{Short
 use Rattle.payload_header.specs.declared.payload.PayloadFault.TheVariants.{TooManySegments}
 use Rattle.std.proofs.lemmas.Bool.{lt-ltb, le-ltb}
 use Rattle.payload_header.specs.Payload.{Header}
-use Rattle.payload_header.specs.Reading.{◌>>=◌, header_of, headers_at, fields}
+use Rattle.payload_header.specs.Reading.{header_of, headers_at, fields}
+use Rattle.st_format.specs.Reading.{◌>>=◌}
 use Rattle.payload_header.specs.declared.reading.Header.{Header as HeaderCode}
 use Rattle.std.proofs.lemmas.List.{map-append}
 

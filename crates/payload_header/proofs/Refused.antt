@@ -18,13 +18,16 @@ use Rattle.payload_header.specs.declared.payload.PayloadFault.TheVariants.{Colum
 use Rattle.payload_header.specs.declared.payload.PayloadFault.TheVariants.{ShortData}
 use Rattle.payload_header.specs.declared.payload.PayloadView.{PayloadView}
 use Rattle.payload_header.specs.Payload.{Header, HeaderFits, header_text, most_segments}
-use Rattle.payload_header.specs.Reading.{◌>>=◌, number_at, header_of, headers_at, headers_fault}
+use Rattle.payload_header.specs.Reading.{number_at, header_of, headers_at, headers_fault}
+use Rattle.st_format.specs.Reading.{◌>>=◌}
 use Rattle.payload_header.specs.Reading.{fault_or, segments_at, octets_of, data_at, payload_walk}
-use Rattle.payload_header.specs.Reading.{Gives}
+use Rattle.st_format.specs.Reading.{Gives}
 use Rattle.payload_header.specs.Faults.{BeginsWith, AllGoOn, LacksHeader, GoesOn, HasHeaders}
 use Rattle.payload_header.specs.Faults.{HasFault, LacksData, IsRefused}
 use Rattle.payload_header.specs.View.{said}
-use Rattle.payload_header.proofs.Taken.{IsBytes, IsBytes-drop, IsText, text_at, Heads, headers_take}
+use Rattle.payload_header.proofs.Taken.{IsText, text_at, Heads, headers_take}
+use Rattle.st_format.proofs.Octets.{AreOctets-drop}
+use Rattle.st_format.specs.Device.{AreOctets}
 use Rattle.payload_header.proofs.Taken.{IsNumber, number_take}
 use Rattle.payload_header.proofs.Again.{one_again, headers_again, number_again}
 use Rattle.payload_header.proofs.Tests.{Unsound, unsound, fault_told, all_sound, all_quiet}
@@ -112,7 +115,7 @@ stop_at n octets h later fault false true s m is rest e =
     stops_later n octets h fault (is refl) m (rest (front_err h later fault e))
 stop_at n octets h later fault false false s m is rest e = absurd cc
 
-stop_of : (n : ℕ) (octets : List ℕ) (fault : PayloadFault) (short : Bool) → IsBytes octets
+stop_of : (n : ℕ) (octets : List ℕ) (fault : PayloadFault) (short : Bool) → AreOctets octets
     → ltb (length octets) 6 ≡ short
     → (headers_at n (drop 6 octets) ≡ Err fault → Stops n (drop 6 octets) fault)
     → cond short (Err ShortPayloadHeader)
@@ -124,7 +127,7 @@ stop_of n octets fault short bytes s rest e =
     stop_at n octets (header_of (take 6 octets)) (headers_at n (drop 6 octets)) fault short
     (header_of (take 6 octets)).more s refl (text_at octets bytes short s) rest e
 
-headers_stop : (n : ℕ) (octets : List ℕ) (fault : PayloadFault) → IsBytes octets
+headers_stop : (n : ℕ) (octets : List ℕ) (fault : PayloadFault) → AreOctets octets
     → headers_at n octets ≡ Err fault → Stops n octets fault
 unfolding headers_at
 headers_stop zero octets fault bytes e = record {
@@ -137,7 +140,7 @@ headers_stop zero octets fault bytes e = record {
 }
 headers_stop (suc n) octets fault bytes e =
     stop_of n octets fault (ltb (length octets) 6) bytes refl
-    (headers_stop n (drop 6 octets) fault (IsBytes-drop 6 octets bytes)) e
+    (headers_stop n (drop 6 octets) fault (AreOctets-drop 6 octets bytes)) e
 
 -- where a chain of readings failed
 bind_err : {A B : Type 0} (r : Result A PayloadFault) (k : A → Result B PayloadFault)
@@ -161,9 +164,9 @@ begins octets n rest headers more number parts fit = record {
 refused_stop : (f : Format) (octets : List ℕ) (n : ℕ) (rest : List ℕ) (fault : PayloadFault)
     (headers : List Header) (more : List ℕ) → BeginsWith octets headers more → AllGoOn headers
     → ((fault ≡ ShortPayloadHeader) × (length headers < most_segments) × (length more < 6))
-    ⊎ ((fault ≡ TooManySegments) × (length headers ≡ most_segments)) → IsRefused f octets fault
+    ⊎ ((fault ≡ TooManySegments) × (length headers ≡ most_segments)) → IsRefused octets f fault
 refused_stop f octets n rest fault headers more begin go_on (inl w) =
-    subst (IsRefused f octets) (sym w.0)
+    subst (IsRefused octets f) (sym w.0)
     (inr (record {
       headers = headers;
       more = more;
@@ -174,12 +177,12 @@ refused_stop f octets n rest fault headers more begin go_on (inl w) =
       short = w.2;
     }))
 refused_stop f octets n rest fault headers more begin go_on (inr w) =
-    subst (IsRefused f octets) (sym w.0)
+    subst (IsRefused octets f) (sym w.0)
     (record { headers = headers; more = more; begins = begin; go_on = go_on; as_many = w.1 })
 
 -- only the five tests of a header are told of a header
-refused_header : (f : Format) (octets : List ℕ) (fault : PayloadFault) → HasFault f octets fault
-    → IsRefused f octets fault
+refused_header : (f : Format) (octets : List ℕ) (fault : PayloadFault) → HasFault octets f fault
+    → IsRefused octets f fault
 refused_header f octets ShortPayloadHeader has = absurd has.has.wrong
 refused_header f octets TooManySegments has = absurd has.has.wrong
 refused_header f octets SecondField has = has
@@ -194,9 +197,9 @@ refused_data_at : (f : Format) (octets : List ℕ) (headers : List Header) (more
     → headers_fault f headers ≡ None
     → ltb (length more) (octets_of headers) ≡ short
     → cond short (Err ShortData) (Ok (segments_at headers more)) ≡ Err fault
-    → IsRefused f octets fault
+    → IsRefused octets f fault
 refused_data_at f octets headers more fault true whole none s e =
-    subst (IsRefused f octets) (err_is (List Segment) ShortData fault e)
+    subst (IsRefused octets f) (err_is (List Segment) ShortData fault e)
     (record {
       headers = headers;
       more = more;
@@ -210,7 +213,7 @@ refused_data_at f octets headers more fault false whole none s e = absurd cc
 refused_tests : (f : Format) (octets : List ℕ) (headers : List Header) (more : List ℕ)
     (fault : PayloadFault) (o : Option PayloadFault) → HasHeaders octets headers more
     → headers_fault f headers ≡ o
-    → fault_or o (data_at headers more) ≡ Err fault → IsRefused f octets fault
+    → fault_or o (data_at headers more) ≡ Err fault → IsRefused octets f fault
 refused_tests f octets headers more fault None whole is e =
     refused_data_at f octets headers more fault
     (ltb (length more) (octets_of headers)) whole is refl e
@@ -239,7 +242,7 @@ after_headers f n hs = fault_or (headers_fault f hs.0) (data_at hs.0 hs.1) >>= w
 
 refused_after : (f : Format) (octets : List ℕ) (n : ℕ) (rest : List ℕ) (hs : List Header × List ℕ)
     (fault : PayloadFault) → IsNumber octets n rest → Heads most_segments rest hs.0 hs.1
-    → after_headers f n hs ≡ Err fault → IsRefused f octets fault
+    → after_headers f n hs ≡ Err fault → IsRefused octets f fault
 refused_after f octets n rest hs fault number heads e =
     refused_tests f octets hs.0 hs.1 fault (headers_fault f hs.0)
     (record {
@@ -252,7 +255,7 @@ refused_after f octets n rest hs fault number heads e =
 
 refused_number : (f : Format) (octets : List ℕ) (n : ℕ) (rest : List ℕ) (fault : PayloadFault)
     → IsNumber octets n rest
-    → (headers_at most_segments rest >>= after_headers f n) ≡ Err fault → IsRefused f octets fault
+    → (headers_at most_segments rest >>= after_headers f n) ≡ Err fault → IsRefused octets f fault
 refused_number f octets n rest fault number e =
     elim (bind_err (headers_at most_segments rest) (after_headers f n) fault e) [
       | inl stop ↦ let s : Stops most_segments rest fault =
@@ -275,13 +278,13 @@ abbrev after_number : Format → ℕ × List ℕ → Result (ℕ × List Segment
 after_number f x = headers_at most_segments x.1 >>= after_headers f x.0
 
 -- What isn't read has a fault's condition.
-pub payload_refused : (f : Format) (octets : List ℕ) (fault : PayloadFault) → IsBytes octets
-    → payload_walk f octets ≡ Err fault → IsRefused f octets fault
+pub payload_refused : (f : Format) (octets : List ℕ) (fault : PayloadFault) → AreOctets octets
+    → payload_walk f octets ≡ Err fault → IsRefused octets f fault
 unfolding payload_walk
 payload_refused f octets fault bytes e =
     elim (bind_err (number_at octets) (after_number f) fault e) [
       | inl stop ↦ let s =
-          number_err octets fault (ltb (length octets) 2) refl _ stop in subst (IsRefused f octets)
+          number_err octets fault (ltb (length octets) 2) refl _ stop in subst (IsRefused octets f)
           (sym s.0) (inl s.1)
       | inr x ↦ refused_number f octets x.0.0 x.0.1 fault (number_take octets x.0 bytes x.1) x.2
     ]
@@ -352,7 +355,7 @@ goes_on f octets g =
     ∙ ap (λ (r : Read). r >>= after_headers f g.begins.extended)
     (headers_many most_segments g.headers g.more g.go_on g.begins.headers_fit g.as_many)
 
-has_fault : (f : Format) (octets : List ℕ) (fault : PayloadFault) → HasFault f octets fault
+has_fault : (f : Format) (octets : List ℕ) (fault : PayloadFault) → HasFault octets f fault
     → payload_walk f octets ≡ Err fault
 has_fault f octets fault h =
     let headers : List Header = h.before ++ h.header ∷ h.after in
@@ -362,7 +365,7 @@ has_fault f octets fault h =
     (data_at headers h.more) >>= with_number h.whole.begins.extended)
     (fault_told f h.before h.header h.after fault h.sound h.has)
 
-lacks_data : (f : Format) (octets : List ℕ) → LacksData f octets
+lacks_data : (f : Format) (octets : List ℕ) → LacksData octets f
     → payload_walk f octets ≡ Err ShortData
 lacks_data f octets l =
     begun_whole f octets l.headers l.more l.whole
@@ -381,7 +384,7 @@ unfolding payload_walk
 no_number f octets lt = rw (lt-ltb (length octets) 2 lt) refl
 
 pub refused_payload : (f : Format) (octets : List ℕ) (fault : PayloadFault)
-    → IsRefused f octets fault → payload_walk f octets ≡ Err fault
+    → IsRefused octets f fault → payload_walk f octets ≡ Err fault
 refused_payload f octets ShortPayloadHeader (inl lt) = no_number f octets lt
 refused_payload f octets ShortPayloadHeader (inr lacks) = lacks_header f octets lacks
 refused_payload f octets TooManySegments is = goes_on f octets is
@@ -394,8 +397,8 @@ refused_payload f octets ShortData is = lacks_data f octets is
 
 -- The clause of a reader that gives what reading gives
 pub is_refused : (f : Format) (octets : List ℕ) (r : Result PayloadView PayloadFault)
-    → IsBytes octets → Gives said r (payload_walk f octets)
-    → (fault : PayloadFault) → (r ≡ Err fault) ↔ IsRefused f octets fault
+    → AreOctets octets → Gives said r (payload_walk f octets)
+    → (fault : PayloadFault) → (r ≡ Err fault) ↔ IsRefused octets f fault
 is_refused f octets (Ok v) bytes gives fault =
     (λ e. absurd cc, λ is. let e = refused_payload f octets fault is in absurd cc)
 is_refused f octets (Err d) bytes gives fault = (

@@ -1,13 +1,13 @@
 -- What is read is in the grammar.
-use Rattle.std.proofs.Common.{◌≡◌, ℕ, zero, suc, ◌+◌, ◌%◌, ◌^◌, ◌<◌, ◌≤◌, inl, inr, Bool, true}
-use Rattle.std.proofs.Common.{false, cond, ltb, leb, List, [], ◌∷◌, ◌++◌, length, get_or, take}
+use Rattle.std.proofs.Common.{◌≡◌, ℕ, zero, suc, ◌+◌, ◌%◌, ◌^◌, ◌<◌, ◌≤◌, Bool, true}
+use Rattle.std.proofs.Common.{false, cond, ltb, leb, List, [], ◌∷◌, ◌++◌, length, take}
 use Rattle.std.proofs.Common.{drop, Option, Some, None, Result, Ok, Err, append_assoc, drop-drop}
 use Rattle.std.proofs.Common.{refl, sym, ap, ◌∙◌, subst, arith}
 use Rattle.std.specs.List.{AllByRecursion, flat_map}
 use Rattle.std.specs.Int.{w16, from_be_bytes, to_be_bytes}
-use Rattle.std.proofs.lemmas.Bool.{cases_lt, ltb-false, leb-true, leb-false}
-use Rattle.std.proofs.lemmas.List.{take-append-drop, length-take, length-drop, get_or-drop}
-use Rattle.std.proofs.lemmas.List.{get_or-take, get_or_past, append-nil}
+use Rattle.std.proofs.lemmas.Bool.{ltb-false, leb-true, leb-false}
+use Rattle.std.proofs.lemmas.List.{take-append-drop, length-take, length-drop}
+use Rattle.std.proofs.lemmas.List.{append-nil}
 use Rattle.std.proofs.lemmas.Nat.{be_bytes_2}
 use Rattle.std.proofs.lemmas.List.Concat.{flat_map-cons}
 use Rattle.st_format.specs.declared.format.Format.{Format}
@@ -17,41 +17,18 @@ use Rattle.payload_header.specs.declared.payload.PayloadFault.TheVariants.{Short
 use Rattle.payload_header.specs.declared.payload.PayloadFault.TheVariants.{ShortData}
 use Rattle.payload_header.specs.Payload.{Header, HeaderFits, flagged, header_text, IsChain}
 use Rattle.payload_header.specs.Payload.{IsPayload, most_segments}
-use Rattle.payload_header.specs.Reading.{◌>>=◌, number_at, header_of, headers_at, headers_fault}
+use Rattle.payload_header.specs.Reading.{number_at, header_of, headers_at, headers_fault}
+use Rattle.st_format.specs.Device.{AreOctets}
+use Rattle.st_format.specs.Reading.{◌>>=◌}
 use Rattle.payload_header.specs.Reading.{fault_or, segments_at, octets_of, data_at, payload_walk}
+use Rattle.st_format.proofs.Octets.{AreOctets-drop, AreOctets-take}
+use Rattle.st_format.proofs.Readings.{bind_ok, guard_ok, three, two_below}
 use Rattle.payload_header.proofs.Grammar.{all_described, octets_of-cons}
 
-abbrev pub IsBytes : List ℕ → Type 0
-IsBytes bytes = (i : ℕ) → get_or bytes i 0 < 256
-
-pub IsBytes-drop : (n : ℕ) (bytes : List ℕ) → IsBytes bytes → IsBytes (drop n bytes)
-IsBytes-drop n bytes h i = rw get_or-drop (h (n + i))
-
-pub IsBytes-take : (n : ℕ) (bytes : List ℕ) → IsBytes bytes → IsBytes (take n bytes)
-IsBytes-take n bytes h i =
-    elim (cases_lt i n) [
-      | inl lt ↦ rw (get_or-take n bytes i 0 lt) (h i)
-      | inr le ↦ rw (get_or_past (take n bytes) i 0 (omega (arith, length-take n bytes)))
-          (omega arith)
-    ]
-
-pub bind_ok : {A B : Type 0} (r : Result A PayloadFault) (f : A → Result B PayloadFault) (y : B)
-    → (r >>= f) ≡ Ok y → (x : A) × (r ≡ Ok x) × (f x ≡ Ok y)
-bind_ok (Ok x) f y e = (x, refl, e)
-bind_ok (Err d) f y e = absurd cc
-
-pub guard_ok : {A : Type 0} (b : Bool) (d : PayloadFault) (x y : A) → cond b (Err d) (Ok x) ≡ Ok y
-    → (b ≡ false) × (x ≡ y)
-guard_ok true d x y e = absurd cc
-guard_ok false d x y e = (refl, cc)
-
 -- a number of two octets
-two_back : (two : List ℕ) → length two ≡ 2 → IsBytes two
+two_back : (two : List ℕ) → length two ≡ 2 → AreOctets two
     → to_be_bytes w16 (from_be_bytes w16 two) ≡ two
 two_back two len bytes = be_bytes_2 two (from_be_bytes w16 two) len bytes refl
-
-two_below : (two : List ℕ) → IsBytes two → from_be_bytes w16 two < 2 ^ 16
-two_below two bytes = omega (arith, bytes 0, bytes 1)
 
 -- fifteen bits behind a flag
 flag_back_at : (n : ℕ) (b : Bool) → n < 2 ^ 16 → leb (2 ^ 15) n ≡ b
@@ -63,9 +40,6 @@ flag_back_at n false lt e = let less : n < 2 ^ 15 =
 
 flag_back : (n : ℕ) → n < 2 ^ 16 → flagged (leb (2 ^ 15) n) (n % 2 ^ 15) ≡ to_be_bytes w16 n
 flag_back n lt = flag_back_at n (leb (2 ^ 15) n) lt refl
-
-three : {a r o x y z : List ℕ} → x ≡ a → y ≡ r → z ≡ o → (x ++ y) ++ z ≡ (a ++ r) ++ o
-three p q s = cc
 
 pieces : (six : List ℕ) → (take 2 six ++ take 2 (drop 2 six)) ++ drop 4 six ≡ six
 pieces six =
@@ -80,16 +54,16 @@ pub record IsText (h : Header) (six : List ℕ) : Type 0 where
   pub fits : HeaderFits h
 
 -- a header is the text of its fields
-header_back : (six : List ℕ) → length six ≡ 6 → IsBytes six → IsText (header_of six) six
+header_back : (six : List ℕ) → length six ≡ 6 → AreOctets six → IsText (header_of six) six
 unfolding header_of
 header_back six len bytes =
     let a : List ℕ = take 2 six in
     let r : List ℕ = take 2 (drop 2 six) in
     let o : List ℕ = drop 4 six in
-    let bytes_r : IsBytes r = IsBytes-take 2 (drop 2 six) (IsBytes-drop 2 six bytes) in
-    let bytes_o : IsBytes o = IsBytes-drop 4 six bytes in
+    let bytes_r : AreOctets r = AreOctets-take 2 (drop 2 six) (AreOctets-drop 2 six bytes) in
+    let bytes_o : AreOctets o = AreOctets-drop 4 six bytes in
     let ta : to_be_bytes w16 (from_be_bytes w16 a) ≡ a =
-    two_back a (omega (arith, length-take 2 six)) (IsBytes-take 2 six bytes) in
+    two_back a (omega (arith, length-take 2 six)) (AreOctets-take 2 six bytes) in
     let tr : flagged (leb (2 ^ 15) (from_be_bytes w16 r)) (from_be_bytes w16 r % 2 ^ 15) ≡ r =
     flag_back (from_be_bytes w16 r) (two_below r bytes_r)
     ∙ two_back r (omega (arith, length-take 2 (drop 2 six), length-drop 2 six)) bytes_r in
@@ -100,7 +74,7 @@ header_back six len bytes =
       text = three ta tr to ∙ pieces six;
       fits =
           record {
-            octets = two_below a (IsBytes-take 2 six bytes);
+            octets = two_below a (AreOctets-take 2 six bytes);
             row = omega arith;
             offset =
                 omega arith;
@@ -113,7 +87,7 @@ pub record Heads (n : ℕ) (octets : List ℕ) (hs : List Header) (rest : List �
   pub fit : AllByRecursion HeaderFits hs
   pub chain : IsChain hs
   pub few : length hs ≤ n
-  pub bytes : IsBytes rest
+  pub bytes : AreOctets rest
 
 chain_more : (h : Header) (hs : List Header) → h.more ≡ true → IsChain hs → IsChain (h ∷ hs)
 chain_more h [] more c = absurd c
@@ -141,7 +115,7 @@ heads_more n octets h hs rest long is more later = record {
   bytes = later.bytes;
 }
 
-heads_last : (n : ℕ) (octets : List ℕ) (h : Header) → IsBytes octets → 6 ≤ length octets
+heads_last : (n : ℕ) (octets : List ℕ) (h : Header) → AreOctets octets → 6 ≤ length octets
     → IsText h (take 6 octets) → h.more ≡ false → Heads (suc n) octets (h ∷ []) (drop 6 octets)
 heads_last n octets h bytes long is last = record {
   parts =
@@ -150,14 +124,14 @@ heads_last n octets h bytes long is last = record {
   fit = (is.fits, tt);
   chain = last;
   few = omega arith;
-  bytes = IsBytes-drop 6 octets bytes;
+  bytes = AreOctets-drop 6 octets bytes;
 }
 
 abbrev Read : Type 0
 Read = Result (List Header × List ℕ) PayloadFault
 
 heads_at : (n : ℕ) (octets : List ℕ) (y : List Header × List ℕ) (h : Header) (later : Read)
-    (short more : Bool) → IsBytes octets → ltb (length octets) 6 ≡ short → h.more ≡ more
+    (short more : Bool) → AreOctets octets → ltb (length octets) 6 ≡ short → h.more ≡ more
     → IsText h (take 6 octets)
     → ((z : List Header × List ℕ) → later ≡ Ok z → Heads n (drop 6 octets) z.0 z.1)
     → cond short (Err ShortPayloadHeader)
@@ -174,14 +148,14 @@ heads_at n octets y h later false false bytes s m is rest e =
     subst (λ (z : List Header × List ℕ). Heads (suc n) octets z.0 z.1)
     (done (h ∷ [], drop 6 octets) y e) (heads_last n octets h bytes long is m)
 
-pub text_at : (octets : List ℕ) → IsBytes octets → (b : Bool) → ltb (length octets) 6 ≡ b
+pub text_at : (octets : List ℕ) → AreOctets octets → (b : Bool) → ltb (length octets) 6 ≡ b
     → (b ≡ false → IsText (header_of (take 6 octets)) (take 6 octets))
 text_at octets bytes b e =
     λ no. header_back (take 6 octets)
     (omega (arith, length-take 6 octets, ltb-false (length octets) 6 (e ∙ no)))
-    (IsBytes-take 6 octets bytes)
+    (AreOctets-take 6 octets bytes)
 
-heads_of : (n : ℕ) (octets : List ℕ) (y : List Header × List ℕ) (short : Bool) → IsBytes octets
+heads_of : (n : ℕ) (octets : List ℕ) (y : List Header × List ℕ) (short : Bool) → AreOctets octets
     → ltb (length octets) 6 ≡ short
     → ((z : List Header × List ℕ) → headers_at n (drop 6 octets) ≡ Ok z
     → Heads n (drop 6 octets) z.0 z.1)
@@ -196,13 +170,13 @@ heads_of n octets y false bytes s rest e =
     (header_of (take 6 octets)).more bytes s refl (text_at octets bytes false s refl) rest e
 
 -- Headers that are read are headers of the grammar.
-pub headers_take : (n : ℕ) (octets : List ℕ) (y : List Header × List ℕ) → IsBytes octets
+pub headers_take : (n : ℕ) (octets : List ℕ) (y : List Header × List ℕ) → AreOctets octets
     → headers_at n octets ≡ Ok y → Heads n octets y.0 y.1
 unfolding headers_at
 headers_take zero octets y bytes e = absurd cc
 headers_take (suc n) octets y bytes e =
     heads_of n octets y (ltb (length octets) 6) bytes refl
-    (λ z h. headers_take n (drop 6 octets) z (IsBytes-drop 6 octets bytes) h) e
+    (λ z h. headers_take n (drop 6 octets) z (AreOctets-drop 6 octets bytes) h) e
 
 -- The segments' octets stand at the front of the data.
 pub data_parts : (hs : List Header) (octets : List ℕ)
@@ -234,9 +208,9 @@ fault_none (Some d) later ss e = absurd cc
 pub record IsNumber (octets : List ℕ) (n : ℕ) (rest : List ℕ) : Type 0 where
   pub parts : octets ≡ to_be_bytes w16 n ++ rest
   pub below : n < 2 ^ 16
-  pub bytes : IsBytes rest
+  pub bytes : AreOctets rest
 
-pub number_take : (octets : List ℕ) (y : ℕ × List ℕ) → IsBytes octets → number_at octets ≡ Ok y
+pub number_take : (octets : List ℕ) (y : ℕ × List ℕ) → AreOctets octets → number_at octets ≡ Ok y
     → IsNumber octets y.0 y.1
 number_take octets y bytes e =
     let g =
@@ -248,14 +222,14 @@ number_take octets y bytes e =
           sym (take-append-drop 2 octets)
           ∙ ap (λ (x : List ℕ). x ++ drop 2 octets)
           (sym (two_back (take 2 octets) (omega (arith, length-take 2 octets))
-          (IsBytes-take 2 octets bytes)));
-      below = two_below (take 2 octets) (IsBytes-take 2 octets bytes);
-      bytes = IsBytes-drop 2 octets bytes;
+          (AreOctets-take 2 octets bytes)));
+      below = two_below (take 2 octets) (AreOctets-take 2 octets bytes);
+      bytes = AreOctets-drop 2 octets bytes;
     })
 
 -- What is read is in the grammar.
-pub payload_takes : (f : Format) (octets : List ℕ) (y : ℕ × List Segment) → IsBytes octets
-    → payload_walk f octets ≡ Ok y → IsPayload f y.0 y.1 octets
+pub payload_takes : (f : Format) (octets : List ℕ) (y : ℕ × List Segment) → AreOctets octets
+    → payload_walk f octets ≡ Ok y → IsPayload octets f y.0 y.1
 unfolding payload_walk
 payload_takes f octets y bytes e =
     let a =
@@ -276,7 +250,7 @@ payload_takes f octets y bytes e =
     guard_ok (ltb (length b.0.1) (octets_of b.0.0)) ShortData
     (segments_at b.0.0 b.0.1) c.0 none.1 in
     let enough : octets_of b.0.0 ≤ length b.0.1 = ltb-false (length b.0.1) (octets_of b.0.0) g.0 in
-    let made : IsPayload f a.0.0 (segments_at b.0.0 b.0.1) octets = record {
+    let made : IsPayload octets f a.0.0 (segments_at b.0.0 b.0.1) = record {
       headers = b.0.0;
       rest = drop (octets_of b.0.0) b.0.1;
       extended_fits = number.below;
@@ -289,5 +263,5 @@ payload_takes f octets y bytes e =
           (heads.parts ∙ ap (λ (x : List ℕ). flat_map header_text b.0.0 ++ x)
           (data_parts b.0.0 b.0.1));
     } in
-    subst (λ (z : ℕ × List Segment). IsPayload f z.0 z.1 octets)
+    subst (λ (z : ℕ × List Segment). IsPayload octets f z.0 z.1)
     (ap (λ (ss : List Segment). (a.0.0, ss)) g.1 ∙ done (a.0.0, c.0) y c.2) made

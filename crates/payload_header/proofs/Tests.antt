@@ -49,7 +49,7 @@ is_zero n b e f ne = both_ways b f (sym e ∙ ap not (ne_eqb n 0 ne))
 
 -- what was answered is so
 is_wrong : (f : Format) (h : Header) (a b c d e : Bool) → Tests f h a b c d e
-    → (fault : PayloadFault) → answer a b c d e fault ≡ true → IsWrong f h fault
+    → (fault : PayloadFault) → answer a b c d e fault ≡ true → IsWrong h f fault
 is_wrong f h a b c d e t SecondField holds = t.is_field ∙ holds
 is_wrong f h a b c d e t BadLength holds =
     not_zero (h.octets % (group_of f).octets) b t.is_length holds
@@ -64,7 +64,7 @@ is_wrong f h a b c d e t TooManySegments holds = absurd cc
 is_wrong f h a b c d e t ShortData holds = absurd cc
 
 is_right : (f : Format) (h : Header) (a b c d e : Bool) → Tests f h a b c d e
-    → (fault : PayloadFault) → answer a b c d e fault ≡ false → IsWrong f h fault → ⊥
+    → (fault : PayloadFault) → answer a b c d e fault ≡ false → IsWrong h f fault → ⊥
 is_right f h a b c d e t SecondField fails wrong = both_ways a fails (sym t.is_field ∙ wrong)
 is_right f h a b c d e t BadLength fails wrong =
     is_zero (h.octets % (group_of f).octets) b t.is_length fails wrong
@@ -230,19 +230,19 @@ tests_of f h =
     record { is_field = refl; is_length = refl; is_offset = refl; is_row = refl; is_columns = refl }
 
 wrong_of : (f : Format) (h : Header) (fault : PayloadFault) → its_answer f h fault ≡ true
-    → IsWrong f h fault
+    → IsWrong h f fault
 wrong_of f h fault holds =
     is_wrong f h h.second_field (length_test f h) (offset_test f h) (row_test f h)
     (columns_test f h) (tests_of f h) fault holds
 
 right_of : (f : Format) (h : Header) (fault : PayloadFault) → its_answer f h fault ≡ false
-    → IsWrong f h fault → ⊥
+    → IsWrong h f fault → ⊥
 right_of f h fault fails =
     is_right f h h.second_field (length_test f h) (offset_test f h) (row_test f h)
     (columns_test f h) (tests_of f h) fault fails
 
 has_first_at : (f : Format) (h : Header) (fault : PayloadFault) (b : Bool) → eqb h.octets 0 ≡ b
-    → cond b None (tested f h) ≡ Some fault → HasFirst f h fault
+    → cond b None (tested f h) ≡ Some fault → HasFirst h f fault
 has_first_at f h fault true e is = absurd cc
 has_first_at f h fault false e is =
     let ne : h.octets ≡ 0 → ⊥ = eqb-false h.octets 0 e in
@@ -257,10 +257,10 @@ has_first_at f h fault false e is =
     }
 
 pub has_first : (f : Format) (h : Header) (fault : PayloadFault) → header_fault f h ≡ Some fault
-    → HasFirst f h fault
+    → HasFirst h f fault
 has_first f h fault is = has_first_at f h fault (eqb h.octets 0) refl is
 
-pub first_told : (f : Format) (h : Header) (fault : PayloadFault) → HasFirst f h fault
+pub first_told : (f : Format) (h : Header) (fault : PayloadFault) → HasFirst h f fault
     → header_fault f h ≡ Some fault
 first_told f h fault has =
     let test : eqb h.octets 0 ≡ false = ne_eqb h.octets 0 (λ z. omega (arith, has.some, z)) in
@@ -275,7 +275,7 @@ first_told f h fault has =
     })
 
 sound_at : (f : Format) (h : Header) (b : Bool) → eqb h.octets 0 ≡ b
-    → cond b None (tested f h) ≡ None → IsSound f h
+    → cond b None (tested f h) ≡ None → IsSound h f
 sound_at f h true e is = let z : h.octets ≡ 0 =
     eqb-true h.octets 0 e in λ some fault wrong. omega (arith, some, z)
 sound_at f h false e is =
@@ -283,10 +283,10 @@ sound_at f h false e is =
     (none_found h.second_field (length_test f h) (offset_test f h) (row_test f h)
     (columns_test f h) is fault)
 
-is_sound : (f : Format) (h : Header) → header_fault f h ≡ None → IsSound f h
+is_sound : (f : Format) (h : Header) → header_fault f h ≡ None → IsSound h f
 is_sound f h is = sound_at f h (eqb h.octets 0) refl is
 
-quiet_at : (f : Format) (h : Header) (b : Bool) → eqb h.octets 0 ≡ b → IsSound f h
+quiet_at : (f : Format) (h : Header) (b : Bool) → eqb h.octets 0 ≡ b → IsSound h f
     → cond b None (tested f h) ≡ None
 quiet_at f h true e sound = refl
 quiet_at f h false e sound =
@@ -297,7 +297,7 @@ quiet_at f h false e sound =
     (λ fault. false_from_ne_true (its_answer f h fault)
     (λ holds. sound some fault (wrong_of f h fault holds)))
 
-sound_quiet : (f : Format) (h : Header) → IsSound f h → header_fault f h ≡ None
+sound_quiet : (f : Format) (h : Header) → IsSound h f → header_fault f h ≡ None
 sound_quiet f h sound = quiet_at f h (eqb h.octets 0) refl sound
 
 -- ---- headers in turn
@@ -308,8 +308,8 @@ pub record Unsound (f : Format) (hs : List Header) (fault : PayloadFault) : Type
   pub header : Header
   pub after : List Header
   pub parts : hs ≡ before ++ header ∷ after
-  pub sound : AllByRecursion (IsSound f) before
-  pub has : HasFirst f header fault
+  pub sound : AllByRecursion (λ h. IsSound h f) before
+  pub has : HasFirst header f fault
 
 unsound_at : (f : Format) (h : Header) (hs : List Header) (fault : PayloadFault)
     (o : Option PayloadFault) → header_fault f h ≡ o
@@ -344,7 +344,7 @@ unsound f (h ∷ hs) fault is =
     unsound_at f h hs fault (header_fault f h) refl (unsound f hs fault) is
 
 pub fault_told : (f : Format) (before : List Header) (h : Header) (after : List Header)
-    (fault : PayloadFault) → AllByRecursion (IsSound f) before → HasFirst f h fault
+    (fault : PayloadFault) → AllByRecursion (λ h. IsSound h f) before → HasFirst h f fault
     → headers_fault f (before ++ h ∷ after) ≡ Some fault
 fault_told f [] h after fault sound has =
     ap (λ (o : Option PayloadFault). option_or o (headers_fault f after)) (first_told f h fault has)
@@ -353,17 +353,17 @@ fault_told f (b ∷ before) h after fault sound has =
     (sound_quiet f b sound.0) ∙ fault_told f before h after fault sound.1 has
 
 all_sound_at : (f : Format) (h : Header) (hs : List Header) (o : Option PayloadFault)
-    → header_fault f h ≡ o → (headers_fault f hs ≡ None → AllByRecursion (IsSound f) hs)
-    → option_or o (headers_fault f hs) ≡ None → AllByRecursion (IsSound f) (h ∷ hs)
+    → header_fault f h ≡ o → (headers_fault f hs ≡ None → AllByRecursion (λ h. IsSound h f) hs)
+    → option_or o (headers_fault f hs) ≡ None → AllByRecursion (λ h. IsSound h f) (h ∷ hs)
 all_sound_at f h hs None e later is = (is_sound f h e, later is)
 all_sound_at f h hs (Some d) e later is = absurd cc
 
 pub all_sound : (f : Format) (hs : List Header) → headers_fault f hs ≡ None
-    → AllByRecursion (IsSound f) hs
+    → AllByRecursion (λ h. IsSound h f) hs
 all_sound f [] is = tt
 all_sound f (h ∷ hs) is = all_sound_at f h hs (header_fault f h) refl (all_sound f hs) is
 
-pub all_quiet : (f : Format) (hs : List Header) → AllByRecursion (IsSound f) hs
+pub all_quiet : (f : Format) (hs : List Header) → AllByRecursion (λ h. IsSound h f) hs
     → headers_fault f hs ≡ None
 all_quiet f [] sound = refl
 all_quiet f (h ∷ hs) sound =

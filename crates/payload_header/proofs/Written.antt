@@ -14,7 +14,8 @@ use Rattle.payload_header.specs.declared.payload.PayloadFault.TheVariants.{Short
 use Rattle.payload_header.specs.declared.writing.SegmentHead.{SegmentHead}
 use Rattle.payload_header.specs.Payload.{Header, HeaderFits, header_text, IsChain, IsInside}
 use Rattle.payload_header.specs.Payload.{Describes, IsPayload, most_segments}
-use Rattle.payload_header.specs.Reading.{◌>>=◌, headers_fault, fault_or, segments_at, octets_of}
+use Rattle.payload_header.specs.Reading.{headers_fault, fault_or, segments_at, octets_of}
+use Rattle.st_format.specs.Reading.{◌>>=◌}
 use Rattle.payload_header.specs.Reading.{data_at}
 use Rattle.payload_header.specs.Faults.{HasHeaders}
 use Rattle.payload_header.specs.Writing.{HeadFits, header_of_head, headers_of_heads, front_text}
@@ -90,7 +91,7 @@ all_front (h ∷ k ∷ hs) [] a = absurd a
 all_front (h ∷ k ∷ hs) (s ∷ ss) a = (front_of true h s a.0, all_front (k ∷ hs) ss a.1)
 
 describes : (f : Format) (h : Header) (s : Segment) → Fronts h s
-    → (0 < length s.octets → IsInside f s) → Describes f h s
+    → (0 < length s.octets → IsInside s f) → Describes h f s
 describes f h s a inside =
     record {
       octets = a.octets;
@@ -102,7 +103,7 @@ describes f h s a inside =
     }
 
 all_describe : (f : Format) (hs : List Header) (segments : List Segment)
-    → AllZip Fronts hs segments → AreInside f segments → AllZip (Describes f) hs segments
+    → AllZip Fronts hs segments → AreInside segments f → AllZip (λ h s. Describes h f s) hs segments
 all_describe f [] [] a inside = tt
 all_describe f [] (s ∷ ss) a inside = absurd a
 all_describe f (h ∷ hs) [] a inside = absurd a
@@ -152,10 +153,10 @@ segments_back (h ∷ hs) (s ∷ ss) rest a =
 -- ---- the laws
 
 written_whole : (f : Format) (extended : ℕ) (heads : List SegmentHead) (segments : List Segment)
-    → AreHeads extended heads segments → AreInside f segments
-    → IsWholePayload f extended segments (front_text extended heads ++ data_text segments)
+    → AreHeads extended heads segments → AreInside segments f
+    → IsWholePayload (front_text extended heads ++ data_text segments) f extended segments
 written_whole f extended heads segments are inside =
-    let made : IsPayload f extended segments (front_text extended heads ++ data_text segments) =
+    let made : IsPayload (front_text extended heads ++ data_text segments) f extended segments =
     record {
       headers = headers_of_heads heads;
       rest = [];
@@ -178,8 +179,8 @@ written_whole f extended heads segments are inside =
 
 pub is_written_payload : (f : Format) (extended : ℕ) (heads : List SegmentHead)
     (segments : List Segment) → AreHeads extended heads segments
-    → AreInside f segments
-    ↔ IsWholePayload f extended segments (front_text extended heads ++ data_text segments)
+    → AreInside segments f
+    ↔ IsWholePayload (front_text extended heads ++ data_text segments) f extended segments
 is_written_payload f extended heads segments are = (
   λ inside. written_whole f extended heads segments are inside,
   λ is. all_inside f is.is_payload.headers segments is.is_payload.described,
@@ -205,7 +206,7 @@ told (Some d) n ss x e = absurd cc
 
 pub written_has : (f : Format) (extended d : ℕ) (heads : List SegmentHead)
     (segments ts : List Segment) (rest : List ℕ) → AreHeads extended heads segments
-    → IsPayload f d ts (front_text extended heads ++ (data_text segments ++ rest))
+    → IsPayload (front_text extended heads ++ (data_text segments ++ rest)) f d ts
     → (d ≡ extended) × (ts ≡ segments)
 written_has f extended d heads segments ts rest are is =
     let hs : List Header = headers_of_heads heads in
@@ -247,15 +248,15 @@ pub is_written : (extended : ℕ) (heads : List SegmentHead) (new behind : List 
     → AllByRecursion HeadFits heads
     → new ≡ front_text extended heads ++ behind → (f : Format) (segments : List Segment)
     → AllZip Announces heads segments
-    → AreInside f segments
-    ↔ IsWholePayload f extended segments (take (2 + 6 * length heads) new ++ data_text segments)
+    → AreInside segments f
+    ↔ IsWholePayload (take (2 + 6 * length heads) new ++ data_text segments) f extended segments
 is_written extended heads new behind small some few fields written f segments announce =
     let front : take (2 + 6 * length heads) new ≡ front_text extended heads =
     ap (take (2 + 6 * length heads)) written
     ∙ take_at (front_text extended heads) behind (2 + 6 * length heads)
     (length-front extended heads) in
-    subst (λ (x : List ℕ). AreInside f segments
-    ↔ IsWholePayload f extended segments (x ++ data_text segments)) (sym front)
+    subst (λ (x : List ℕ). AreInside segments f
+    ↔ IsWholePayload (x ++ data_text segments) f extended segments) (sym front)
     (is_written_payload f extended heads segments
     (record {
       extended_fits = small;

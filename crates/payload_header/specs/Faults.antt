@@ -75,53 +75,53 @@ pub record HasHeaders (octets : List ℕ) (headers : List Header) (more : List �
   pub few : length headers ≤ most_segments
 
 -- what can be wrong with the fields of a header (RFC 4175, 4.2; SMPTE ST 2110-20, pixel groups)
-abbrev pub IsWrong : Format → Header → PayloadFault → Type 0
-IsWrong f h SecondField = h.second_field ≡ true
-IsWrong f h BadLength = h.octets % (group_of f).octets ≢ 0
-IsWrong f h BadOffset = h.offset % (group_of f).pixels ≢ 0
-IsWrong f h RowOutside = f.height ≤ h.row
-IsWrong f h ColumnsOutside =
+abbrev pub IsWrong : Header → Format → PayloadFault → Type 0
+IsWrong h f SecondField = h.second_field ≡ true
+IsWrong h f BadLength = h.octets % (group_of f).octets ≢ 0
+IsWrong h f BadOffset = h.offset % (group_of f).pixels ≢ 0
+IsWrong h f RowOutside = f.height ≤ h.row
+IsWrong h f ColumnsOutside =
     f.width < h.offset + h.octets / (group_of f).octets * (group_of f).pixels
-IsWrong f h ShortPayloadHeader = ⊥
-IsWrong f h TooManySegments = ⊥
-IsWrong f h ShortData = ⊥
+IsWrong h f ShortPayloadHeader = ⊥
+IsWrong h f TooManySegments = ⊥
+IsWrong h f ShortData = ⊥
 
 -- A header with octets has nothing wrong; one without octets may have anything (own).
-abbrev pub IsSound : Format → Header → Type 0
-IsSound f h = 0 < h.octets → (fault : PayloadFault) → IsWrong f h fault → ⊥
+abbrev pub IsSound : Header → Format → Type 0
+IsSound h f = 0 < h.octets → (fault : PayloadFault) → IsWrong h f fault → ⊥
 
 -- A header has octets, and this is the first that is wrong with it.
-pub record HasFirst (f : Format) (h : Header) (fault : PayloadFault) : Type 0 where
+pub record HasFirst (h : Header) (f : Format) (fault : PayloadFault) : Type 0 where
   pub some : 0 < h.octets
-  pub wrong : IsWrong f h fault
+  pub wrong : IsWrong h f fault
   pub first : (earlier : PayloadFault) → payload_fault_number earlier < payload_fault_number fault
-      → IsWrong f h earlier → ⊥
+      → IsWrong h f earlier → ⊥
 
 -- Whole headers, and of the first in turn that isn't sound this is the first that is wrong.
-pub record HasFault (f : Format) (octets : List ℕ) (fault : PayloadFault) : Type 0 where
+pub record HasFault (octets : List ℕ) (f : Format) (fault : PayloadFault) : Type 0 where
   pub before : List Header
   pub header : Header
   pub after : List Header
   pub more : List ℕ
   pub whole : HasHeaders octets (before ++ header ∷ after) more
-  pub sound : AllByRecursion (IsSound f) before
-  pub has : HasFirst f header fault
+  pub sound : AllByRecursion (λ h. IsSound h f) before
+  pub has : HasFirst header f fault
 
 -- Whole headers, all sound, and fewer octets behind them than the sum of their Lengths
-pub record LacksData (f : Format) (octets : List ℕ) : Type 0 where
+pub record LacksData (octets : List ℕ) (f : Format) : Type 0 where
   pub headers : List Header
   pub more : List ℕ
   pub whole : HasHeaders octets headers more
-  pub sound : AllByRecursion (IsSound f) headers
+  pub sound : AllByRecursion (λ h. IsSound h f) headers
   pub short : length more < octets_of headers
 
 -- Why octets are refused. ShortPayloadHeader also stands for less than an extended number.
-abbrev pub IsRefused : Format → List ℕ → PayloadFault → Type 0
-IsRefused f octets ShortPayloadHeader = (length octets < 2) ⊎ LacksHeader octets
-IsRefused f octets TooManySegments = GoesOn octets
-IsRefused f octets SecondField = HasFault f octets SecondField
-IsRefused f octets BadLength = HasFault f octets BadLength
-IsRefused f octets BadOffset = HasFault f octets BadOffset
-IsRefused f octets RowOutside = HasFault f octets RowOutside
-IsRefused f octets ColumnsOutside = HasFault f octets ColumnsOutside
-IsRefused f octets ShortData = LacksData f octets
+abbrev pub IsRefused : List ℕ → Format → PayloadFault → Type 0
+IsRefused octets f ShortPayloadHeader = (length octets < 2) ⊎ LacksHeader octets
+IsRefused octets f TooManySegments = GoesOn octets
+IsRefused octets f SecondField = HasFault octets f SecondField
+IsRefused octets f BadLength = HasFault octets f BadLength
+IsRefused octets f BadOffset = HasFault octets f BadOffset
+IsRefused octets f RowOutside = HasFault octets f RowOutside
+IsRefused octets f ColumnsOutside = HasFault octets f ColumnsOutside
+IsRefused octets f ShortData = LacksData octets f

@@ -15,7 +15,7 @@ group_of f = pixel_group f.sampling f.depth
 
 -- A segment with octets has whole pixel groups, begins at one, and lies in the raster (RFC 4175,
 -- 4.2 and 4.3; SMPTE ST 2110-20, pixel groups).
-pub record IsInside (f : Format) (s : Segment) : Type 0 where
+pub record IsInside (s : Segment) (f : Format) : Type 0 where
   pub whole_groups : length s.octets % (group_of f).octets ≡ 0
   pub at_group : s.offset % (group_of f).pixels ≡ 0
   pub row : s.row < f.height
@@ -51,12 +51,12 @@ IsChain (h ∷ k ∷ hs) = (h.more ≡ true) × IsChain (k ∷ hs)
 
 -- A header describes a segment of the first field. One without octets is free in its field, row and
 -- offset (own).
-pub record Describes (f : Format) (h : Header) (s : Segment) : Type 0 where
+pub record Describes (h : Header) (f : Format) (s : Segment) : Type 0 where
   pub octets : h.octets ≡ length s.octets
   pub row : h.row ≡ s.row
   pub offset : h.offset ≡ s.offset
   pub first_field : 0 < length s.octets → h.second_field ≡ false
-  pub inside : 0 < length s.octets → IsInside f s
+  pub inside : 0 < length s.octets → IsInside s f
 
 -- up to this many segments (SMPTE ST 2110-20, packets)
 abbrev pub most_segments : ℕ
@@ -64,15 +64,15 @@ most_segments = 3
 
 -- The extended number, the headers, the segments' octets in the order of the headers (RFC 4175, 4.2
 -- and 4.3), and any rest (own)
-pub record IsPayload (f : Format) (extended : ℕ) (segments : List Segment)
-    (payload : List ℕ) : Type 0 where
+pub record IsPayload (payload : List ℕ) (f : Format) (extended : ℕ)
+    (segments : List Segment) : Type 0 where
   pub headers : List Header
   pub rest : List ℕ
   pub extended_fits : extended < 2 ^ 16
   pub headers_fit : AllByRecursion HeaderFits headers
   pub few : length headers ≤ most_segments
   pub chain : IsChain headers
-  pub described : AllZip (Describes f) headers segments
+  pub described : AllZip (λ h s. Describes h f s) headers segments
   pub whole : payload
       ≡ to_be_bytes w16 extended ++
       (flat_map header_text headers ++ (flat_map (λ s. s.octets) segments ++ rest))

@@ -1,12 +1,13 @@
 -- A walk over a payload from the left, as the code walks, which tells the first fault (RFC 4175,
 -- 4.2 and 4.3; the order of the tests is own). What a payload is says Payload, and which octets
 -- have a fault says Faults; laws join the three.
-use Rattle.std.specs.Prelude.{◌≡◌, ℕ, zero, suc, ◌+◌, ◌*◌, ◌/◌, ◌%◌, ◌^◌, Bool, not, nat_lt, nat_le}
+use Rattle.std.specs.Prelude.{ℕ, zero, suc, ◌+◌, ◌*◌, ◌/◌, ◌%◌, ◌^◌, Bool, not, nat_lt, nat_le}
 use Rattle.std.specs.Prelude.{◌==◌, if◌then◌else◌, List, [], ◌∷◌, length, take, drop, sum_by}
 use Rattle.std.specs.Prelude.{Option, Some, None, Result, Ok, Err}
 use Rattle.std.specs.Int.{w16, from_be_bytes}
 use Rattle.st_format.specs.declared.format.Format.{Format}
 use Rattle.st_format.specs.Raster.{Segment}
+use Rattle.st_format.specs.Reading.{◌>>=◌}
 use Rattle.payload_header.specs.declared.reading.Header.{Header as HeaderCode}
 use Rattle.payload_header.specs.declared.payload.PayloadFault.{PayloadFault}
 use Rattle.payload_header.specs.declared.payload.PayloadFault.TheVariants.{ShortPayloadHeader}
@@ -16,12 +17,6 @@ use Rattle.payload_header.specs.declared.payload.PayloadFault.TheVariants.{BadOf
 use Rattle.payload_header.specs.declared.payload.PayloadFault.TheVariants.{ColumnsOutside}
 use Rattle.payload_header.specs.declared.payload.PayloadFault.TheVariants.{ShortData}
 use Rattle.payload_header.specs.Payload.{group_of, Header, most_segments}
-
-infixl 10 ◌>>=◌
-abbrev pub ◌>>=◌ : {A B : Type 0} → Result A PayloadFault → (A → Result B PayloadFault)
-    → Result B PayloadFault
-(Ok x) >>= f = f x
-(Err e) >>= f = Err e
 
 -- the number in two octets, and what follows
 abbrev pub number_at : List ℕ → Result (ℕ × List ℕ) PayloadFault
@@ -104,11 +99,6 @@ payload_walk f octets = do
   headers ← headers_at most_segments extended.1
   segments ← fault_or (headers_fault f headers.0) (data_at headers.0 headers.1)
   Ok (extended.0, segments)
-
--- What a call gave, seen by view, is what reading gives
-abbrev pub Gives : {X Y : Type 0} → (X → Y) → Result X PayloadFault → Result Y PayloadFault → Type 0
-Gives view (Ok x) read = read ≡ Ok (view x)
-Gives view (Err e) read = read ≡ Err e
 
 -- the fields that the code keeps
 abbrev pub fields : HeaderCode → Header

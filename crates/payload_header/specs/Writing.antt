@@ -50,11 +50,11 @@ abbrev pub data_text : List Segment → List ℕ
 data_text segments = flat_map (λ s. s.octets) segments
 
 -- what the grammar asks of segments beside: whole pixel groups, at one, inside the raster
-abbrev pub AreInside : Format → List Segment → Type 0
-AreInside f segments = AllByRecursion (λ s. 0 < length s.octets → IsInside f s) segments
+abbrev pub AreInside : List Segment → Format → Type 0
+AreInside segments f = AllByRecursion (λ s. 0 < length s.octets → IsInside s f) segments
 
 -- a payload with nothing behind its segments
-pub record IsWholePayload (f : Format) (extended : ℕ) (segments : List Segment)
-    (payload : List ℕ) : Type 0 where
-  pub is_payload : IsPayload f extended segments payload
+pub record IsWholePayload (payload : List ℕ) (f : Format) (extended : ℕ)
+    (segments : List Segment) : Type 0 where
+  pub is_payload : IsPayload payload f extended segments
   pub no_rest : is_payload.rest ≡ []

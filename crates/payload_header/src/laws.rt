@@ -14,33 +14,33 @@ ghost use Rattle.payload_header.specs.Writing.{front_text};
 /// Octets are a payload of a format in one way at most.
 pub fn one_reading()
     ensures { (f : Format) (octets : List ℕ) (d e : ℕ) (ss ts : List Segment)
-        → IsPayload f d ss octets → IsPayload f e ts octets → (d ≡ e) × (ss ≡ ts) }
+        → IsPayload octets f d ss → IsPayload octets f e ts → (d ≡ e) × (ss ≡ ts) }
 {}
 
 /// Octets are a payload, or are refused.
 pub fn read_or_refused()
     ensures { (f : Format) (octets : List ℕ) → AreOctets octets
-        → ((extended : ℕ) × (segments : List Segment) × IsPayload f extended segments octets)
-        ⊎ ((fault : PayloadFault) × IsRefused f octets fault) }
+        → ((extended : ℕ) × (segments : List Segment) × IsPayload octets f extended segments)
+        ⊎ ((fault : PayloadFault) × IsRefused octets f fault) }
 {}
 
 /// A payload isn't refused.
 pub fn payload_not_refused()
     ensures { (f : Format) (octets : List ℕ) (extended : ℕ) (segments : List Segment)
         (fault : PayloadFault)
-        → IsPayload f extended segments octets → IsRefused f octets fault → ⊥ }
+        → IsPayload octets f extended segments → IsRefused octets f fault → ⊥ }
 {}
 
 /// Octets are refused for one fault at most.
 pub fn refused_once()
-    ensures { (f : Format) (octets : List ℕ) (a b : PayloadFault) → IsRefused f octets a
-        → IsRefused f octets b → a ≡ b }
+    ensures { (f : Format) (octets : List ℕ) (a b : PayloadFault) → IsRefused octets f a
+        → IsRefused octets f b → a ≡ b }
 {}
 
 /// Reading from the left tells a fault exactly where its condition holds.
 pub fn fault_exactly()
     ensures { (f : Format) (octets : List ℕ) (fault : PayloadFault) → AreOctets octets
-        → (payload_walk f octets ≡ Err fault) ↔ IsRefused f octets fault }
+        → (payload_walk f octets ≡ Err fault) ↔ IsRefused octets f fault }
 {}
 
 /// The front that heads announce, with their segments' octets behind it, is a payload with these
@@ -48,14 +48,14 @@ pub fn fault_exactly()
 pub fn written_payload()
     ensures { (f : Format) (extended : ℕ) (heads : List SegmentHead) (segments : List Segment)
         → AreHeads extended heads segments
-        → AreInside f segments
-        ↔ IsWholePayload f extended segments (front_text extended heads ++ data_text segments) }
+        → AreInside segments f
+        ↔ IsWholePayload (front_text extended heads ++ data_text segments) f extended segments }
 {}
 
 /// Whatever stands behind them, it is a payload of no other number and no other segments.
 pub fn written_fields()
     ensures { (f : Format) (extended d : ℕ) (heads : List SegmentHead) (segments ss : List Segment)
         (rest : List ℕ) → AreHeads extended heads segments
-        → IsPayload f d ss (front_text extended heads ++ (data_text segments ++ rest))
+        → IsPayload (front_text extended heads ++ (data_text segments ++ rest)) f d ss
         → (d ≡ extended) × (ss ≡ segments) }
 {}

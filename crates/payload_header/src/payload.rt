@@ -110,5 +110,5 @@ pub struct PayloadView<'a> {
     /// One to three segments, in the order of their headers.
     pub segments: ArrayVec<Segment<'a>, 3>,
     pub ghost inside: { All
-        (λ s. 0 < length s.octets.now → IsInside format (seen s)) segments.items },
+        (λ s. 0 < length s.octets.now → IsInside (seen s) format) segments.items },
 }

@@ -6,7 +6,8 @@ ghost use Rattle.payload_header.specs.Faults.{IsRefused};
 ghost use Rattle.payload_header.specs.View.{said, segments_of};
 ghost use Rattle.payload_header.specs.Payload.{IsPayload, seen};
 ghost use Rattle.st_format.specs.Raster.{Segment as SegmentText};
-ghost use Rattle.payload_header.specs.Reading.{Gives, fields, header_fault, header_of, headers_at};
+ghost use Rattle.payload_header.specs.Reading.{fields, header_fault, header_of, headers_at};
+ghost use Rattle.st_format.specs.Reading.{Gives};
 ghost use Rattle.payload_header.specs.Reading.{headers_fault, octets_of, payload_walk, segments_at};
 
 use crate::payload::{PayloadFault, PayloadView, Segment};
@@ -178,14 +179,14 @@ fn read<'a>(format: &Format, octets: &'a [u8]) -> Result<PayloadView<'a>, Payloa
 /// fewer octets than the sum of the Lengths.
 pub fn read_payload<'a>(format: &Format, octets: &'a [u8]) -> Result<PayloadView<'a>, PayloadFault>
     // What is read is in the grammar.
-    ensures found { IfOk result (λ v. IsPayload format.now v.extended (segments_of v) octets.now) }
+    ensures found { IfOk result (λ v. IsPayload octets.now format.now v.extended (segments_of v)) }
     // What is in the grammar is read, in its one reading.
     ensures only { (extended : ℕ) (segments : List SegmentText)
-        → IsPayload format.now extended segments octets.now
+        → IsPayload octets.now format.now extended segments
         → Gives said result (Ok (extended, segments)) }
     // Each fault comes exactly where its condition holds.
     ensures refused { (fault : PayloadFault)
-        → (result ≡ Err fault) ↔ IsRefused format.now octets.now fault }
+        → (result ≡ Err fault) ↔ IsRefused octets.now format.now fault }
     // The answer as a walk over the octets, for the walks that go on from it.
     ensures exact { Gives said result (payload_walk format.now octets.now) }
     ensures format { IfOk result (λ v. v.format ≡ format.now) }

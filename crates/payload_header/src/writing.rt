@@ -94,8 +94,8 @@ pub fn write_payload_header(buf: &mut [u8], extended: u16, heads: &[SegmentHead]
     // With the segments' octets behind it this is a payload with their fields, just where they lie
     // in the format's raster as the grammar asks.
     ensures payload { (f : Format) (segments : List Segment) → AllZip Announces heads.now segments
-        → AreInside f segments
-        ↔ IsWholePayload f extended segments (take result buf.new ++ data_text segments) }
+        → AreInside segments f
+        ↔ IsWholePayload (take result buf.new ++ data_text segments) f extended segments }
 {
     write_front(buf, extended, heads);
     2 + 6 * heads.len()
