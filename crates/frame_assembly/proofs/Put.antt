@@ -57,7 +57,7 @@ begins_in_row Rgb D10 width offset len some whole le = omega arith
 begins_in_row Rgb D12 width offset len some whole le = omega arith
 begins_in_row Rgb D16 width offset len some whole le = omega arith
 
-pub offset_below : (f : Format) (s : Segment) → 0 < length s.octets → IsInside f s
+pub offset_below : (f : Format) (s : Segment) → 0 < length s.octets → IsInside s f
     → s.offset < f.width
 offset_below f s some is =
     begins_in_row f.sampling f.depth f.width s.offset
@@ -67,7 +67,7 @@ offset_below f s some is =
 row_ends : (row height w n : ℕ) → row < height → n ≤ w → row * w + n ≤ height * w
 row_ends row height w n lt le = grind (arith)
 
-pub segment_ends : (f : Format) (s : Segment) → IsInside f s
+pub segment_ends : (f : Format) (s : Segment) → IsInside s f
     → first_number f s + 8 * length s.octets / bits_of f.depth ≤ sample_count f
 segment_ends f s is =
     let inner =
@@ -99,7 +99,7 @@ no_octets f ts cells s whole none =
 
 -- Writing a segment's samples joins its offers.
 pub segment_written : (f : Format) (ts : ℕ) (cells : List Cell) (s : Segment)
-    → length cells ≡ sample_count f → IsInside f s
+    → length cells ≡ sample_count f → IsInside s f
     → written_from (first_number f s) (values_in (bits_of f.depth) s.octets) cells
     ≡ joined cells (cells_of f (offers_in f ts s) ts)
 segment_written f ts cells s whole is =

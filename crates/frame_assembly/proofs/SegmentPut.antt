@@ -24,7 +24,7 @@ pub record IsSegmentPut (f : Format) (s : Segment)
       ≡ joined (cells_in f marks octets) (cells_of f (offers_in f ts s) ts)
 
 pub segment_put : (f : Format) (s : Segment) (first z : ℕ)
-    (marks octets part_marks part_octets : List ℕ) → IsInside f s → length marks ≡ group_count f
+    (marks octets part_marks part_octets : List ℕ) → IsInside s f → length marks ≡ group_count f
     → ArePacked f marks octets
     → first ≡ first_group f s → z ≡ (pixel_group f.sampling f.depth).octets
     → AreJoined f (take (first + length s.octets / z - first) (drop first marks))

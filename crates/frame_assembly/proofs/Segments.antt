@@ -266,7 +266,7 @@ sample_count_groups f =
     swap_first (pixel_group f.sampling f.depth).samples f.height (row_groups f)
     ∙ ap (λ (x : ℕ). f.height * x) (row_samples_groups f)
 
-pub first_sample : (f : Format) (s : Segment) → IsInside f s
+pub first_sample : (f : Format) (s : Segment) → IsInside s f
     → (pixel_group f.sampling f.depth).samples * first_group f s ≡ first_number f s
 first_sample f s is =
     let k : ℕ = (pixel_group f.sampling f.depth).samples in
@@ -279,7 +279,7 @@ first_sample f s is =
 pub row_ends : (row height w n : ℕ) → row < height → n ≤ w → row * w + n ≤ height * w
 row_ends row height w n lt le = grind (arith)
 
-pub groups_end : (f : Format) (s : Segment) → IsInside f s
+pub groups_end : (f : Format) (s : Segment) → IsInside s f
     → first_group f s + length s.octets / (pixel_group f.sampling f.depth).octets ≤ group_count f
 groups_end f s is =
     let inner =
@@ -292,7 +292,7 @@ groups_end f s is =
           (pixel_group f.sampling f.depth).octets) is.row inner,
     )
 
-pub segment_octets : (f : Format) (s : Segment) → IsInside f s
+pub segment_octets : (f : Format) (s : Segment) → IsInside s f
     → length s.octets
     ≡ (pixel_group f.sampling f.depth).octets *
     (length s.octets / (pixel_group f.sampling f.depth).octets)

@@ -24,7 +24,8 @@ impl<A: Allocator> Model for BitList<A> {
 
     ghost view = { λ b. flags_of b.words.items b.count };
 
-    ghost invariant = { λ b. (b.count ≤ 64 * length b.words.items) × (64 * length b.words.items < b.count + 64) };
+    ghost invariant = { λ b. (b.count ≤ 64 * length b.words.items)
+        × (64 * length b.words.items < b.count + 64) };
 }
 
 impl<A: Allocator> BitList<A> {

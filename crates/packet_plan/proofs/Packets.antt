@@ -169,6 +169,9 @@ pub next_below : (f : Format) (size k : ℕ) → next f size k ≤ group_count f
 unfolding next
 next_below f size k = omega arith
 
+-- where the next packet begins
+pub ruleset next_bounds = (next_room, next_below)
+
 next_least : (f : Format) (size k x c : ℕ) → 1 ≤ c → c ≤ 3 → x ≤ reach f size k c
     → x ≤ group_count f → x ≤ next f size k
 unfolding next

@@ -58,7 +58,7 @@ announced p [] = tt
 announced p (r ∷ rs) =
     (record { octets = sym (length-run p r); row = refl; offset = refl }, announced p rs)
 
-is_inside : (p : Values) (r : PacketRun) → HasHead p.format r → IsInside p.format (segment_of p r)
+is_inside : (p : Values) (r : PacketRun) → HasHead p.format r → IsInside (segment_of p r) p.format
 unfolding group_octets
 is_inside p r head =
     let f : Format = p.format in
@@ -80,7 +80,7 @@ is_inside p r head =
     }
 
 are_inside : (p : Values) (rs : List PacketRun) → AllByRecursion (HasHead p.format) rs
-    → AreInside p.format (map (segment_of p) rs)
+    → AreInside (map (segment_of p) rs) p.format
 are_inside p [] heads = tt
 are_inside p (r ∷ rs) heads = (λ some. is_inside p r heads.0, are_inside p rs heads.1)
 
@@ -90,7 +90,7 @@ data_is p [] = refl
 data_is p (r ∷ rs) = ap (λ (xs : List ℕ). run_octets p r ++ xs) (data_is p rs)
 
 is_payload : (p : Values) (number : ℕ) (rs : List PacketRun) → number < 2 ^ 32 → AreRuns p.format rs
-    → IsWholePayload p.format (number / 65536) (map (segment_of p) rs) (payload_text p number rs)
+    → IsWholePayload (payload_text p number rs) p.format (number / 65536) (map (segment_of p) rs)
 is_payload p number rs small are =
     let f : Format = p.format in
     let segments : List Segment = map (segment_of p) rs in
@@ -101,8 +101,8 @@ is_payload p number rs small are =
       fields = heads_fit f rs are.heads;
       announce = announced p rs;
     } in
-    subst (λ (xs : List ℕ). IsWholePayload f (number / 65536) segments
-    (front_text (number / 65536) (map (head_of f) rs) ++ xs)) (data_is p rs)
+    subst (λ (xs : List ℕ). IsWholePayload (front_text (number / 65536) (map (head_of f) rs) ++ xs)
+    f (number / 65536) segments) (data_is p rs)
     ((is_written_payload f (number / 65536) (map (head_of f) rs) segments heads).0
     (are_inside p rs are.heads))
 
@@ -116,8 +116,8 @@ carried p (r ∷ rs) is heads = (
     row = refl;
     offset = refl;
     spells =
-        Spells-octets_in (bits_of p.format.depth) (run_values p r) (r.groups * group_octets p.format)
-        (run_bits p r)
+        Spells-octets_in (bits_of p.format.depth) (run_values p r)
+        (r.groups * group_octets p.format) (run_bits p r)
         (recursion_from_All (FitsDepth p.format) (run_values p r) (run_fits p r is heads.0));
   },
   carried p rs is heads.1,

@@ -47,7 +47,7 @@ pub record IsSentPacket (p : Values) (stamp : Stamp) (i : ℕ) (is_last : Bool)
   pub extended : ℕ
   pub segments : List Segment
   pub is_header : IsPlainRtp octets header
-  pub is_payload : IsWholePayload p.format extended segments header.payload
+  pub is_payload : IsWholePayload header.payload p.format extended segments
   pub payload_type : header.payload_type ≡ stamp.payload_type
   pub timestamp : header.timestamp ≡ stamp.timestamp
   pub ssrc : header.ssrc ≡ stamp.ssrc

@@ -49,7 +49,7 @@ fn room_for(format: &Format, max_octets: u32, count: u32) -> u32
 }
 
 /// The first pgroup behind the packet that begins with this one.
-#[tactic(auto, using(crate::proofs::Packets::next_room, crate::proofs::Packets::next_below), unfolding(crate::specs::Greedy::next))]
+#[tactic(auto, using(crate::proofs::Packets::next_bounds), unfolding(crate::specs::Greedy::next))]
 fn next_of(format: &Format, max_octets: u32, group: u32) -> u32
     requires size { IsSize format.now max_octets }
     requires group { group < group_count format.now }

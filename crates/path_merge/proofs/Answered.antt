@@ -5,13 +5,14 @@ use Rattle.std.specs.Prelude.{IsErr, IsTrue}
 use Rattle.std.specs.List.{list_any}
 use Rattle.std.proofs.lemmas.Bool.{eqb-true, eqb-false}
 use Rattle.st_format.specs.Member.{IsMember}
-use Rattle.rtp_header.specs.Grammar.{AreOctets}
+use Rattle.st_format.specs.Device.{AreOctets}
 use Rattle.path_merge.specs.declared.answer.Refusal.{Refusal}
 use Rattle.path_merge.specs.declared.answer.Taken.{Taken}
 use Rattle.path_merge.specs.declared.answer.Taken.TheVariants.{Kept, Outside}
 use Rattle.path_merge.specs.Opening.{Opening}
 use Rattle.path_merge.specs.Grammar.{Datagram, IsFor, IsKept, IsOutside}
-use Rattle.path_merge.specs.Admission.{datagram_walk, ◌>>=◌}
+use Rattle.path_merge.specs.Admission.{datagram_walk}
+use Rattle.st_format.specs.Reading.{◌>>=◌}
 use Rattle.path_merge.specs.Answers.{kept_or_outside, taken_at}
 use Rattle.path_merge.proofs.Offered.{admitted_for, admitted_takes}
 

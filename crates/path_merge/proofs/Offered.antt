@@ -8,10 +8,11 @@ use Rattle.st_format.specs.Offer.{Offer}
 use Rattle.st_format.specs.Raster.{Segment, offers_in_all}
 use Rattle.payload_header.specs.declared.payload.PayloadFault.{PayloadFault}
 use Rattle.payload_header.specs.Reading.{payload_walk}
-use Rattle.payload_header.proofs.Taken.{IsBytes, payload_takes}
+use Rattle.payload_header.proofs.Taken.{payload_takes}
+use Rattle.st_format.specs.Device.{AreOctets}
 use Rattle.payload_header.proofs.Again.{payload_again}
 use Rattle.rtp_header.specs.declared.header.RtpFault.{RtpFault}
-use Rattle.rtp_header.specs.Grammar.{AreOctets, Rtp, fixed_text, IsRtp}
+use Rattle.rtp_header.specs.Grammar.{Rtp, fixed_text, IsRtp}
 use Rattle.rtp_header.specs.Reading.{rtp_walk}
 use Rattle.rtp_header.proofs.Taken.{rtp_takes}
 use Rattle.rtp_header.proofs.Again.{rtp_again}
@@ -19,7 +20,8 @@ use Rattle.path_merge.specs.declared.answer.Refusal.{Refusal}
 use Rattle.path_merge.specs.declared.answer.Refusal.TheVariants.{WrongPayloadType, WrongSource}
 use Rattle.path_merge.specs.Opening.{Opening, IsSource}
 use Rattle.path_merge.specs.Grammar.{Datagram, IsDatagram, IsFor, header_with}
-use Rattle.path_merge.specs.Admission.{◌>>=◌, by_header, by_payload, header_for, is_other}
+use Rattle.path_merge.specs.Admission.{by_header, by_payload, header_for, is_other}
+use Rattle.st_format.specs.Reading.{◌>>=◌}
 use Rattle.path_merge.specs.Admission.{datagram_with, datagram_walk}
 use Rattle.path_merge.specs.Offers.{AreOffersOf, offers, offers_of}
 
@@ -92,7 +94,7 @@ reading_is_one o octets d e f g =
 
 -- ---- what is admitted is in the grammar
 
-bytes_of : (bs : List ℕ) → AllByRecursion (λ v. v < 256) bs → IsBytes bs
+bytes_of : (bs : List ℕ) → AllByRecursion (λ v. v < 256) bs → AreOctets bs
 bytes_of [] h i = omega arith
 bytes_of (b ∷ bs) h zero = h.0
 bytes_of (b ∷ bs) h (suc i) = bytes_of bs h.1 i
@@ -129,7 +131,7 @@ same_ok x y h = cc
 
 takes_payload : (o : Opening) (octets : List ℕ) (r : Rtp)
     (p : Result (ℕ × List Segment) PayloadFault) (d : Datagram) → IsRtp octets r
-    → IsBytes r.payload → r.payload_type ≡ o.payload_type → is_other o.ssrc r.ssrc ≡ false
+    → AreOctets r.payload → r.payload_type ≡ o.payload_type → is_other o.ssrc r.ssrc ≡ false
     → payload_walk o.format r.payload ≡ p → (by_payload p >>= by_rtp r) ≡ Ok d → IsFor octets o d
 takes_payload o octets r (Err e) d is bytes pt source read h = absurd cc
 takes_payload o octets r (Ok p) d is bytes pt source read h =
@@ -145,7 +147,7 @@ takes_payload o octets r (Ok p) d is bytes pt source read h =
     (record { is = one; type_is = pt; source = source_from o.ssrc r.ssrc source })
 
 takes_checked : (o : Opening) (octets : List ℕ) (r : Rtp) (t s : Bool) (d : Datagram)
-    → IsRtp octets r → IsBytes r.payload → eqb r.payload_type o.payload_type ≡ t
+    → IsRtp octets r → AreOctets r.payload → eqb r.payload_type o.payload_type ≡ t
     → is_other o.ssrc r.ssrc ≡ s
     → (cond (not t) (Err WrongPayloadType) (cond s (Err WrongSource) (Ok r)) >>=
     λ w. by_payload (payload_walk o.format w.payload) >>= by_rtp w) ≡ Ok d → IsFor octets o d

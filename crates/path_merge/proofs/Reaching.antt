@@ -14,7 +14,7 @@ use Rattle.st_format.specs.Offer.{Offer}
 use Rattle.st_format.specs.Raster.{Raster, blank, raster_of, cells_of, joined, joined_rasters}
 use Rattle.st_format.proofs.Members.{member_left, member_right, member_cases}
 use Rattle.st_format.proofs.Rasters.{cells_of-append, joined_none, length-cells_of}
-use Rattle.rtp_header.specs.Grammar.{AreOctets}
+use Rattle.st_format.specs.Device.{AreOctets}
 use Rattle.path_merge.specs.declared.answer.Refusal.{Refusal}
 use Rattle.path_merge.specs.Admission.{datagram_walk}
 use Rattle.path_merge.specs.Grammar.{Datagram}

@@ -7,7 +7,8 @@ use Rattle.payload_header.specs.declared.payload.PayloadFault.{PayloadFault}
 use Rattle.payload_header.specs.Reading.{payload_walk}
 use Rattle.payload_header.proofs.Both.{is_fault_exactly}
 use Rattle.rtp_header.specs.declared.header.RtpFault.{RtpFault}
-use Rattle.rtp_header.specs.Grammar.{AreOctets, Rtp, IsRtp}
+use Rattle.rtp_header.specs.Grammar.{Rtp, IsRtp}
+use Rattle.st_format.specs.Device.{AreOctets}
 use Rattle.rtp_header.specs.Reading.{rtp_walk}
 use Rattle.rtp_header.proofs.Again.{rtp_again}
 use Rattle.rtp_header.proofs.Faulted.{rtp_faulted}
@@ -19,7 +20,8 @@ use Rattle.path_merge.specs.declared.answer.Taken.{Taken}
 use Rattle.path_merge.specs.Opening.{Opening, IsSource}
 use Rattle.path_merge.specs.Grammar.{Datagram, IsFor}
 use Rattle.path_merge.specs.Refused.{IsRefusedDatagram, HasOtherType, HasOtherSource, HasBadPayload}
-use Rattle.path_merge.specs.Admission.{◌>>=◌, by_header, by_payload, header_for, is_other}
+use Rattle.path_merge.specs.Admission.{by_header, by_payload, header_for, is_other}
+use Rattle.st_format.specs.Reading.{◌>>=◌}
 use Rattle.path_merge.specs.Admission.{datagram_walk}
 use Rattle.path_merge.specs.Answers.{kept_or_outside, taken_at}
 use Rattle.path_merge.proofs.Offered.{admitted_for, admitted_takes, by_rtp, payload_octets}

@@ -33,7 +33,8 @@ use Rattle.packet_plan.specs.Sent.{sample, AreSent, IsSentPicture}
 use Rattle.packet_plan.specs.Sender.{Sender, stamp_of, SendsFrom, IsSenderList}
 use Rattle.path_merge.specs.declared.answer.Refusal.TheVariants.{WrongPayloadType, WrongSource}
 use Rattle.path_merge.specs.Opening.{Opening}
-use Rattle.path_merge.specs.Admission.{datagram_walk, ◌>>=◌, by_header, by_payload, header_for}
+use Rattle.path_merge.specs.Admission.{datagram_walk, by_header, by_payload, header_for}
+use Rattle.st_format.specs.Reading.{◌>>=◌}
 use Rattle.path_merge.specs.Admission.{is_other}
 use Rattle.path_merge.specs.Offers.{offers, offers_of}
 use Rattle.path_merge.specs.Frames.{frames_of, frame_at, cell_if}

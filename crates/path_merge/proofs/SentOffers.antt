@@ -135,7 +135,7 @@ offers-packet o p stamp i l rs d opened sent =
       is_header = sent.is_header.is;
       is_payload =
           subst (λ
-          (f : Format). IsPayload f sent.extended sent.segments h.payload) opened.format
+          (f : Format). IsPayload h.payload f sent.extended sent.segments) opened.format
           sent.is_payload.is_payload;
       number_is = refl;
     } in

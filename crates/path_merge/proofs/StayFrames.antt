@@ -10,7 +10,7 @@ use Rattle.std.proofs.lemmas.List.Concat.{flat_map-append}
 use Rattle.st_format.specs.declared.path.Path.{Path}
 use Rattle.st_format.specs.Member.{IsMember}
 use Rattle.st_format.specs.Raster.{Raster, blank, raster_of}
-use Rattle.rtp_header.specs.Grammar.{AreOctets}
+use Rattle.st_format.specs.Device.{AreOctets}
 use Rattle.path_merge.specs.Frames.{State, Holds, frames_of, joined_frames}
 use Rattle.path_merge.specs.Offers.{offers}
 use Rattle.path_merge.specs.Opening.{Opening, AreDifferent}

@@ -6,7 +6,7 @@ use Rattle.std.proofs.lemmas.Option.{slice_get_read, slice_get-get_or}
 use Rattle.st_format.specs.declared.format.Format.{Format}
 use Rattle.st_format.specs.Member.{IsMember}
 use Rattle.st_format.specs.Raster.{Raster}
-use Rattle.rtp_header.specs.Grammar.{AreOctets}
+use Rattle.st_format.specs.Device.{AreOctets}
 use Rattle.path_merge.specs.declared.fault.SlideFault.{SlideFault}
 use Rattle.path_merge.specs.declared.fault.SlideFault.TheVariants.{InWindow, OtherFormat}
 use Rattle.path_merge.specs.Frames.{State, IsReceiver, frames_of, joined_frames}

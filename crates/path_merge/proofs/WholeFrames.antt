@@ -25,7 +25,7 @@ use Rattle.st_format.proofs.Rasters.{length-cells_of, get_or-cells_of}
 use Rattle.packet_plan.specs.declared.run.PacketRun.{PacketRun}
 use Rattle.packet_plan.specs.declared.stamp.Stamp.{Stamp}
 use Rattle.packet_plan.specs.Sent.{sample, IsSentPicture}
-use Rattle.rtp_header.specs.Grammar.{AreOctets}
+use Rattle.st_format.specs.Device.{AreOctets}
 use Rattle.path_merge.specs.declared.answer.Refusal.{Refusal}
 use Rattle.path_merge.specs.Opening.{Opening}
 use Rattle.path_merge.specs.Grammar.{Datagram, IsFor}

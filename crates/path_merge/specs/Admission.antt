@@ -1,10 +1,11 @@
 -- A walk over a datagram from the left, as the code walks, which tells the first refusal: the order
 -- of refusals is the order of the steps. What a datagram is says Grammar, and which octets are
 -- refused says Refused; laws join the three, so nobody has to believe the walk.
-use Rattle.std.specs.Prelude.{◌≡◌, ℕ, ◌+◌, ◌*◌, Bool, false, not, ◌==◌, if◌then◌else◌, List, Option}
+use Rattle.std.specs.Prelude.{ℕ, ◌+◌, ◌*◌, Bool, false, not, ◌==◌, if◌then◌else◌, List, Option}
 use Rattle.std.specs.Prelude.{Some, None, Result, Ok, Err}
 use Rattle.st_format.specs.declared.format.Format.{Format}
 use Rattle.st_format.specs.Raster.{Segment}
+use Rattle.st_format.specs.Reading.{◌>>=◌}
 use Rattle.payload_header.specs.declared.payload.PayloadFault.{PayloadFault}
 use Rattle.payload_header.specs.Reading.{payload_walk}
 use Rattle.payload_header.specs.View.{segments_of}
@@ -16,11 +17,6 @@ use Rattle.path_merge.specs.declared.answer.Refusal.TheVariants.{Header, WrongPa
 use Rattle.path_merge.specs.declared.answer.Refusal.TheVariants.{WrongSource, Payload}
 use Rattle.path_merge.specs.declared.admitting.Admitted.{Admitted}
 use Rattle.path_merge.specs.Grammar.{Datagram}
-
-infixl 10 ◌>>=◌
-abbrev pub ◌>>=◌ : {A B : Type 0} → Result A Refusal → (A → Result B Refusal) → Result B Refusal
-(Ok x) >>= f = f x
-(Err e) >>= f = Err e
 
 -- a fault of the header is refusal 1 to 4
 abbrev pub by_header : {A : Type 0} → Result A RtpFault → Result A Refusal
@@ -73,8 +69,3 @@ datagram_of a = record {
   marker = a.header.marker;
   segments = segments_of a.payload;
 }
-
--- what a call gave, seen by view, is what reading gives
-abbrev pub Gives : {X Y : Type 0} → (X → Y) → Result X Refusal → Result Y Refusal → Type 0
-Gives view (Ok x) read = read ≡ Ok (view x)
-Gives view (Err e) read = read ≡ Err e

@@ -20,7 +20,8 @@ use Rattle.path_merge.specs.declared.fault.SlideFault.TheVariants.{InWindow, Oth
 use Rattle.path_merge.specs.declared.receiving.ReceiveFault.{ReceiveFault}
 use Rattle.path_merge.specs.Opening.{Opening}
 use Rattle.path_merge.specs.Grammar.{Datagram}
-use Rattle.path_merge.specs.Admission.{datagram_walk, ◌>>=◌}
+use Rattle.path_merge.specs.Admission.{datagram_walk}
+use Rattle.st_format.specs.Reading.{◌>>=◌}
 
 -- the window's word on a datagram that is for the receiver (own)
 abbrev pub kept_or_outside : List ℕ → Datagram → Taken

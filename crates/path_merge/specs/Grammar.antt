@@ -35,7 +35,7 @@ pub record IsDatagram (octets : List ℕ) (f : Format) (d : Datagram) : Type 0 w
   pub extended : ℕ
   pub payload : List ℕ
   pub is_header : IsRtp octets (header_with d sequence payload)
-  pub is_payload : IsPayload f extended d.segments payload
+  pub is_payload : IsPayload payload f extended d.segments
   pub number_is : 65536 * extended + sequence ≡ d.number
 
 -- Such a datagram is for a receiver where it has the receiver's payload type, and its source where

@@ -28,11 +28,11 @@ pub record HasBadPayload (octets : List ℕ) (o : Opening) (fault : PayloadFault
   pub is_header : IsRtp octets header
   pub type_is : header.payload_type ≡ o.payload_type
   pub source : IsSource o.ssrc header.ssrc
-  pub is_refused : IsPayloadRefused o.format header.payload fault
+  pub is_refused : IsPayloadRefused header.payload o.format fault
 
 -- Why octets are refused. Each condition says that no earlier one holds.
 abbrev pub IsRefusedDatagram : List ℕ → Opening → Refusal → Type 0
-IsRefusedDatagram octets o (Header fault) = HasFault fault octets
+IsRefusedDatagram octets o (Header fault) = HasFault octets fault
 IsRefusedDatagram octets o WrongPayloadType = HasOtherType octets o
 IsRefusedDatagram octets o WrongSource = HasOtherSource octets o
 IsRefusedDatagram octets o (Payload fault) = HasBadPayload octets o fault

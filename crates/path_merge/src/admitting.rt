@@ -1,6 +1,7 @@
 //! Which datagrams are for a receiver.
 ghost use Rattle.std.specs.Prelude.{◌≡◌, IfOk};
-ghost use Rattle.path_merge.specs.Admission.{Gives, datagram_walk, datagram_of};
+ghost use Rattle.path_merge.specs.Admission.{datagram_walk, datagram_of};
+ghost use Rattle.st_format.specs.Reading.{Gives};
 
 use crate::answer::Refusal;
 use payload_header::{PayloadView, read_payload};

@@ -17,7 +17,7 @@ ghost use Rattle.st_format.specs.Offer.{Offer, values_for};
 ghost use Rattle.st_format.specs.Picture.{Values, timestamp_of, value_at};
 ghost use Rattle.st_format.specs.Position.{Position, places};
 ghost use Rattle.st_format.specs.Raster.{offers_in_all};
-ghost use Rattle.rtp_header.specs.Grammar.{AreOctets};
+ghost use Rattle.st_format.specs.Device.{AreOctets};
 ghost use Rattle.packet_plan.specs.declared.run.PacketRun.{PacketRun};
 ghost use Rattle.packet_plan.specs.declared.stamp.Stamp.{Stamp};
 ghost use Rattle.packet_plan.specs.Sender.{IsSenderList, Sender};

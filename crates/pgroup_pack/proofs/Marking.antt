@@ -312,7 +312,8 @@ three_words f first second third small small1 a b c k lt = elim (cases_lt k 16) 
         | inl low ↦ let e : 16 + (k - 16) ≡ k = omega arith in
             bit_at_cat_low third 16 second (k - 16) low ∙ b (k - 16) low ∙ ap f e
         | inr ge1 ↦ let e : 32 + (k - 16 - 16) ≡ k = omega arith in
-            bit_at_cat_high third 16 second (k - 16) small1 ge1 ∙ c (k - 16 - 16) (omega arith) ∙ ap f e
+            bit_at_cat_high third 16 second (k - 16) small1 ge1 ∙ c (k - 16 - 16) (omega arith)
+            ∙ ap f e
       ]
 ]
 

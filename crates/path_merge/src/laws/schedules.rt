@@ -5,7 +5,7 @@ ghost use Rattle.std.specs.Prelude.{slice_get};
 ghost use Rattle.st_format.specs.declared.path.Path.{Path as ByPath};
 ghost use Rattle.st_format.specs.Picture.{Values};
 ghost use Rattle.st_format.specs.Raster.{Raster};
-ghost use Rattle.rtp_header.specs.Grammar.{AreOctets};
+ghost use Rattle.st_format.specs.Device.{AreOctets};
 ghost use Rattle.packet_plan.specs.Sender.{Sender};
 ghost use Rattle.path_merge.specs.Admitted.{AreAdmittedTo, IsFirstBad, IsSchedule};
 ghost use Rattle.path_merge.specs.Frames.{Holds, IsReceiver, State, frames_of, joined_frames};

@@ -1,7 +1,7 @@
 //! What each event does to the receivers.
 ghost use Rattle.std.specs.Prelude.{◌≡◌, ◌≢◌, ◌<◌, ℕ, ◌∷◌, [], IfOk, OnOk, OnErr, Err, Some};
 ghost use Rattle.std.specs.Prelude.{length, slice_get};
-ghost use Rattle.rtp_header.specs.Grammar.{AreOctets};
+ghost use Rattle.st_format.specs.Device.{AreOctets};
 ghost use Rattle.st_format.specs.Member.{IsMember};
 ghost use Rattle.path_merge.specs.Frames.{IsReceiver, State, frames_of, joined_frames};
 ghost use Rattle.path_merge.specs.Steps.{Arrives, Merges, Slides};

@@ -13,6 +13,6 @@ loop-picture-preserved g c =
     of_item c.args.pictures.now c.loop-picture.picture-index d c.picture-item.result
     (omega (arith, c.loop-picture-test.true)) c.picture-item.is in (
       ap (λ (p : Values). p.format) e ∙ sym c.format.ensures.value
-          ∙ c.if-not-same.ensures.0 refl,
+          ∙ c.if-not-same.ensures.value.0 refl,
       subst IsPicture (sym e) c.format.ensures.whole,
     ))
