@@ -2,9 +2,9 @@
 ghost use Rattle.std.specs.Prelude.{◌≡◌, ◌≤◌, ◌<◌, ◌+◌, ◌-◌, ◌↔◌, Some, length, take, drop, min};
 ghost use Rattle.std.specs.Prelude.{vec_len, IfOk, OnErr, IsErr};
 ghost use Rattle.std.specs.Io.KnownBytes.{Consumes, Keeps, IsAtEnd};
-ghost use Rattle.st_format.specs.Device.{AreOctets, CountsFaults, TellsOctets};
+ghost use Rattle.st_format.specs.Device.{CountsFaults, TellsOctets};
 
-use crate::{ByteSource, DeviceFault};
+use crate::{ByteSource, DeviceFault, are_octets};
 use std::alloc::{Allocator, Global};
 use std::marker::Model;
 
@@ -71,11 +71,6 @@ impl<A: Allocator> MemorySource<A> {
         self.failures
     }
 }
-
-/// What a slice of octets holds is numbers below 256: a fact for proofs, which costs nothing.
-fn are_octets(octets: &[u8])
-    ensures { AreOctets octets.now }
-{}
 
 impl<A: Allocator> ByteSource for MemorySource<A> {
     ghost to_give = { λ s. Some s.to_give };

@@ -23,9 +23,9 @@ returns-clause-given g c =
 pub returns-then-fails-clause-octets : goal.returns-then-fails-clause-octets
 returns-then-fails-clause-octets g c =
     subst (λ (s : Source). AreOctets s.to_give) c.self.view_is
-    (AreOctets-drop c.self.inside.at _ (rw c.deref.ensures.value at c.are_octets.ensures))
+    (AreOctets-drop c.self.inside.at _ (rw c.deref.ensures.value at c.are_octets.ensures.each))
 
 pub returns-clause-octets : goal.returns-clause-octets
 returns-clause-octets g c =
     subst (λ (s : Source). AreOctets s.to_give) c.self.view_is
-    (AreOctets-drop c.self.inside.at _ (rw c.deref.ensures.value at c.are_octets.ensures))
+    (AreOctets-drop c.self.inside.at _ (rw c.deref.ensures.value at c.are_octets.ensures.each))
