@@ -10,8 +10,10 @@ use Rattle.std.proofs.lemmas.Bool.Decides.{nat_tests}
 use Rattle.std.proofs.lemmas.Str.Parse.{IsNumeralModel, numerals_by_value}
 use Rattle.std.proofs.lemmas.Fmt.{digits_decimal, digits_value-decimal, decimal_nonempty}
 use Rattle.std.proofs.lemmas.Fmt.{length-decimal-le}
-use Rattle.sdp_format.specs.Bytes.{is_space, trim_front, trim_end, unless_spaces, trimmed, number}
-use Rattle.sdp_format.specs.Bytes.{is_number, front, behind, split}
+use Rattle.sdp_format.specs.Bytes.{is_space, trim_front, trim_end, unless_spaces, trimmed}
+use Rattle.st_format.specs.Words.{number}
+use Rattle.sdp_format.specs.Bytes.{front, behind, split}
+use Rattle.st_format.specs.Words.{is_number}
 use Rattle.sdp_format.proofs.Parts.{front_here, front_later, behind_here, behind_later}
 
 pub own : IsNumeralModel (λ ds. list_all is_ascii_digit ds ≡ true) (digits_value 10)

@@ -37,11 +37,11 @@ leg_of_sdp s =
     }
 
 pub section_back : (l : Leg) (s : Section) (port : ℕ) → IsLeg l
-    → HasLine (canonical l) l.payload_type s port → section_walk s ≡ Ok (port, l)
+    → HasLine s (canonical l) l.payload_type port → section_walk s ≡ Ok (port, l)
 unfolding section_walk listing_walk is_raw90000
 section_back l s port k h =
     let e = line_again l k in
-    let first : IsFirst (codes "a=fmtp:") l.payload_type s.lines (tail_of l) =
+    let first : IsFirst s.lines (codes "a=fmtp:") l.payload_type (tail_of l) =
     record {
       before = h.before;
       line = canonical l;
@@ -61,7 +61,8 @@ section_back l s port k h =
     rw (media, rtpmap, h.raw, fmtp, e.2, e.1) refl
 
 sections_back : (l : Leg) → IsLeg l → (ss : List Section) (ports : List ℕ)
-    → AllZip (HasLine (canonical l) l.payload_type) ss ports → 0 < length ports → length ports ≤ 2
+    → AllZip (λ s port. HasLine s (canonical l) l.payload_type port) ss ports → 0 < length ports
+    → length ports ≤ 2
     → sections_walk ss ≡ Ok (record { ports = ports; leg = l })
 sections_back l k [] [] z some few = absurd (omega arith)
 sections_back l k [] (p ∷ ps) z some few = absurd z

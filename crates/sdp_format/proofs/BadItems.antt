@@ -5,7 +5,7 @@ use Rattle.std.specs.Prelude.{Contains, ◌==◌, is_none}
 use Rattle.std.specs.List.{list_any}
 use Rattle.std.specs.Str.{bytes_eq}
 use Rattle.std.proofs.lemmas.Bool.Decides.{nat_tests}
-use Rattle.sdp_format.specs.Bytes.{number}
+use Rattle.st_format.specs.Words.{number}
 use Rattle.sdp_format.specs.Naming.{Item, is_bad, rate, colorimetry, range_named}
 use Rattle.sdp_format.specs.Grammar.{Says, IsBadItem}
 use Rattle.sdp_format.specs.Grammar.IsBadItem.{NoName, NoWidth, NoHeight, NoRate, NoColorimetry}

@@ -6,10 +6,12 @@ use Rattle.st_format.specs.declared.sampling.Sampling.TheVariants.{Ycc422}
 use Rattle.st_format.specs.declared.sampling.Depth.TheVariants.{D10}
 use Rattle.sdp_format.specs.Sections.{Leg}
 use Rattle.sdp_format.specs.Reading.{text_walk, sections_walk, section_walk, listing_walk, leg_of}
-use Rattle.sdp_format.specs.Reading.{said_in, format_of, media_of, is_raw90000, sampling_named}
+use Rattle.sdp_format.specs.Reading.{said_in, format_of, media_of, is_raw90000}
+use Rattle.st_format.specs.Words.{sampling_named}
 use Rattle.sdp_format.specs.Reading.{depth_named, same_leg}
 use Rattle.sdp_format.specs.Naming.{is_bad, rate, range_named, colorimetry}
-use Rattle.sdp_format.specs.Bytes.{number, trimmed, attribute}
+use Rattle.sdp_format.specs.Bytes.{trimmed, attribute}
+use Rattle.st_format.specs.Words.{number}
 use Rattle.sdp_format.specs.Canonical.{canonical}
 use Rattle.std.specs.Fmt.{digits}
 use Rattle.st_format.specs.Rate.{greatest_up_to}
@@ -32,7 +34,14 @@ said =
     record {
       payload_type = 112;
       format =
-          record { sampling = Ycc422; depth = D10; width = 1920; height = 1080; n = 60000; d = 1001 };
+          record {
+            sampling = Ycc422;
+            depth = D10;
+            width = 1920;
+            height = 1080;
+            n = 60000;
+            d = 1001;
+          };
       range = Narrow;
       colorimetry = codes "BT709";
     }

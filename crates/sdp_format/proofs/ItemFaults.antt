@@ -24,12 +24,15 @@ use Rattle.sdp_format.specs.declared.fault.SdpFault.TheVariants.{UnsupportedDept
 use Rattle.sdp_format.specs.declared.fault.SdpFault.TheVariants.{UnsupportedPacking, BadSsn}
 use Rattle.sdp_format.specs.declared.fault.SdpFault.TheVariants.{BadFormat, LegsDiffer}
 use Rattle.sdp_format.specs.Faults.{sdp_fault_number}
-use Rattle.sdp_format.specs.Bytes.{number, begins}
+use Rattle.sdp_format.specs.Bytes.{begins}
+use Rattle.st_format.specs.Words.{number}
 use Rattle.sdp_format.specs.Naming.{Item, is_bad, has_double, has, value_of, text_of, required}
 use Rattle.sdp_format.specs.Naming.{rate, range_or, range_named, colorimetry}
 use Rattle.sdp_format.specs.Sections.{Leg}
-use Rattle.sdp_format.specs.Canonical.{sampling_text, depth_text}
-use Rattle.sdp_format.specs.Reading.{sampling_named, depth_named, is_missing, is_interlaced}
+use Rattle.sdp_format.specs.Canonical.{depth_text}
+use Rattle.st_format.specs.Words.{sampling_text}
+use Rattle.sdp_format.specs.Reading.{depth_named, is_missing, is_interlaced}
+use Rattle.st_format.specs.Words.{sampling_named}
 use Rattle.sdp_format.specs.Reading.{or_fault, format_of, said_in, leg_of}
 use Rattle.sdp_format.specs.Grammar.{Says, Has, Lacks, IsGiven, ItemFault, SaysRange, IsSaid}
 use Rattle.sdp_format.proofs.Members.{not_both, or_cases, or_left, or_right, all_member}
@@ -45,7 +48,7 @@ use Rattle.sdp_format.proofs.Line.{sampling_again, depth_again}
 use Rattle.sdp_format.proofs.Steps.{Below, Told, more, refuse, want, there, follow}
 
 abbrev pub Of : List Item → SdpFault → Type 0
-Of is f = ItemFault f is
+Of is f = ItemFault is f
 
 pub not_false : (a : Bool) → not a ≡ false → a ≡ true
 not_false true e = refl
@@ -180,7 +183,7 @@ said_text is k name m =
 below_double : (is : List Item) → list_any is_bad is ≡ false → Below (Of is) 9
 below_double is good = record { none = none_of }
   where
-    none_of : (g : SdpFault) → sdp_fault_number g < 9 → ItemFault g is → ⊥
+    none_of : (g : SdpFault) → sdp_fault_number g < 9 → ItemFault is g → ⊥
     none_of NoMemory l c = c
     none_of NoVideo l c = c
     none_of TooManyLegs l c = c

@@ -12,12 +12,14 @@ use Rattle.st_format.specs.declared.sampling.Depth.{Depth}
 use Rattle.st_format.specs.declared.sampling.Depth.TheVariants.{D8, D10, D12, D16}
 use Rattle.sdp_format.specs.declared.sdp.Range.{Range}
 use Rattle.sdp_format.specs.declared.sdp.Range.TheVariants.{Narrow, FullProtect, Full}
-use Rattle.sdp_format.specs.Bytes.{trimmed, number, front, behind, split_left, attribute, is_equal}
+use Rattle.sdp_format.specs.Bytes.{trimmed, front, behind, split_left, attribute, is_equal}
+use Rattle.st_format.specs.Words.{number}
 use Rattle.sdp_format.specs.Naming.{item, items, items_of, is_filled, colorimetry, is_name_byte}
 use Rattle.sdp_format.specs.Naming.{is_bad}
 use Rattle.sdp_format.specs.Sections.{Leg}
 use Rattle.sdp_format.specs.Reading.{leg_of}
-use Rattle.sdp_format.specs.Canonical.{canonical, sampling_text, depth_text, divisor_text}
+use Rattle.sdp_format.specs.Canonical.{canonical, depth_text, divisor_text}
+use Rattle.st_format.specs.Words.{sampling_text}
 use Rattle.sdp_format.specs.Canonical.{range_text}
 use Rattle.sdp_format.proofs.SpelledItems.{spelled, said_items, range_items}
 use Rattle.sdp_format.specs.Back.{IsLeg}

@@ -1,5 +1,4 @@
 pub mod Trims
-pub mod Numbers
 pub mod Parts
 pub mod Doubles
 pub mod Examples

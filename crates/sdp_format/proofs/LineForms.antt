@@ -11,7 +11,8 @@ use Rattle.std.proofs.lemmas.List.Elements.{All-nil, All-cons, All-head, All-tai
 use Rattle.std.proofs.lemmas.List.Splits.{join_with_byte-slice_split}
 use Rattle.std.proofs.lemmas.Bool.Decides.{Decides-eqb, nat_tests}
 use Rattle.std.proofs.Math.Seq.{drop-append_seam}
-use Rattle.sdp_format.specs.Bytes.{is_space, trim_end, unless_spaces, number, is_number, at_most}
+use Rattle.sdp_format.specs.Bytes.{is_space, trim_end, unless_spaces, at_most}
+use Rattle.st_format.specs.Words.{number, is_number}
 use Rattle.sdp_format.specs.Bytes.{front, behind, split, split_left, begins, attribute}
 use Rattle.sdp_format.specs.Bytes.{behind_number, is_equal}
 use Rattle.sdp_format.specs.Reading.{media_of, media_of_parts, both, first_attribute}
@@ -278,7 +279,7 @@ equal_self : (n : ℕ) → is_equal (Some n) n ≡ true
 equal_self n = (Decides-eqb n n).1 refl
 
 pub attribute_says : (word : List ℕ) (n : ℕ) (line rest : List ℕ)
-    → attribute word n line ≡ Some rest → IsAttribute word n line rest
+    → attribute word n line ≡ Some rest → IsAttribute line word n rest
 unfolding attribute
 attribute_says word n line rest e =
     let text : List ℕ = drop (length word) line in
@@ -295,7 +296,7 @@ attribute_says word n line rest e =
       is_type = equal_is (number (front 32 (drop (length word) line))) n b.0;
     }
 
-pub says_attribute : (word : List ℕ) (n : ℕ) (line rest : List ℕ) → IsAttribute word n line rest
+pub says_attribute : (word : List ℕ) (n : ℕ) (line rest : List ℕ) → IsAttribute line word n rest
     → attribute word n line ≡ Some rest
 unfolding attribute
 says_attribute word n line rest i =
@@ -316,27 +317,27 @@ says_attribute word n line rest i =
 
 -- a line that is no such attribute
 abbrev Free : List ℕ → ℕ → List ℕ → Type 0
-Free word n line = (rest : List ℕ) → IsAttribute word n line rest → ⊥
+Free word n line = (rest : List ℕ) → IsAttribute line word n rest → ⊥
 
 no_attribute : (word : List ℕ) (n : ℕ) (line : List ℕ) → attribute word n line ≡ None
-    → (rest : List ℕ) → IsAttribute word n line rest → ⊥
+    → (rest : List ℕ) → IsAttribute line word n rest → ⊥
 no_attribute word n line e rest i = not_none rest (sym (says_attribute word n line rest i) ∙ e)
 
 none_by : (word : List ℕ) (n : ℕ) (line : List ℕ) (o : Option (List ℕ)) → attribute word n line ≡ o
-    → ((rest : List ℕ) → IsAttribute word n line rest → ⊥) → o ≡ None
+    → ((rest : List ℕ) → IsAttribute line word n rest → ⊥) → o ≡ None
 none_by word n line None e h = refl
 none_by word n line (Some x) e h = absurd (h x (attribute_says word n line x e))
 
 attribute_none : (word : List ℕ) (n : ℕ) (line : List ℕ)
-    → ((rest : List ℕ) → IsAttribute word n line rest → ⊥) → attribute word n line ≡ None
+    → ((rest : List ℕ) → IsAttribute line word n rest → ⊥) → attribute word n line ≡ None
 attribute_none word n line h = none_by word n line (attribute word n line) refl h
 
 -- THE FIRST OF THEM
 
 first_by : (word : List ℕ) (n : ℕ) (l : List ℕ) (ls : List (List ℕ)) (rest : List ℕ)
     (o : Option (List ℕ)) → attribute word n l ≡ o
-    → (first_attribute word n ls ≡ Some rest → IsFirst word n ls rest)
-    → cond (is_some o) o (first_attribute word n ls) ≡ Some rest → IsFirst word n (l ∷ ls) rest
+    → (first_attribute word n ls ≡ Some rest → IsFirst ls word n rest)
+    → cond (is_some o) o (first_attribute word n ls) ≡ Some rest → IsFirst (l ∷ ls) word n rest
 first_by word n l ls rest None e h f =
     let r = h f in
     record {
@@ -361,25 +362,25 @@ first_by word n l ls rest (Some x) e h f =
     }
 
 pub first_says : (word : List ℕ) (n : ℕ) (lines : List (List ℕ)) (rest : List ℕ)
-    → first_attribute word n lines ≡ Some rest → IsFirst word n lines rest
+    → first_attribute word n lines ≡ Some rest → IsFirst lines word n rest
 first_says word n [] rest e = absurd (not_none rest (sym e))
 first_says word n (l ∷ ls) rest e =
     first_by word n l ls rest (attribute word n l) refl (first_says word n ls rest) e
 
 lacking_by : (word : List ℕ) (n : ℕ) (l : List ℕ) (ls : List (List ℕ)) (o : Option (List ℕ))
     → attribute word n l ≡ o
-    → (first_attribute word n ls ≡ None → HasNone word n ls)
-    → cond (is_some o) o (first_attribute word n ls) ≡ None → HasNone word n (l ∷ ls)
+    → (first_attribute word n ls ≡ None → HasNone ls word n)
+    → cond (is_some o) o (first_attribute word n ls) ≡ None → HasNone (l ∷ ls) word n
 lacking_by word n l ls None e h f = All-cons (Free word n) l ls (no_attribute word n l e) (h f)
 lacking_by word n l ls (Some x) e h f = absurd (not_none x f)
 
 pub none_says : (word : List ℕ) (n : ℕ) (lines : List (List ℕ))
-    → first_attribute word n lines ≡ None → HasNone word n lines
+    → first_attribute word n lines ≡ None → HasNone lines word n
 none_says word n [] e = All-nil (Free word n)
 none_says word n (l ∷ ls) e =
     lacking_by word n l ls (attribute word n l) refl (none_says word n ls) e
 
-pub says_none : (word : List ℕ) (n : ℕ) (lines : List (List ℕ)) → HasNone word n lines
+pub says_none : (word : List ℕ) (n : ℕ) (lines : List (List ℕ)) → HasNone lines word n
     → first_attribute word n lines ≡ None
 says_none word n [] h = refl
 says_none word n (l ∷ ls) h =
@@ -388,7 +389,7 @@ says_none word n (l ∷ ls) h =
     ∙ says_none word n ls (All-tail (Free word n) l ls h)
 
 first_at : (word : List ℕ) (n : ℕ) (before : List (List ℕ)) (line : List ℕ) (after : List (List ℕ))
-    (rest : List ℕ) → HasNone word n before → attribute word n line ≡ Some rest
+    (rest : List ℕ) → HasNone before word n → attribute word n line ≡ Some rest
     → first_attribute word n (before ++ line ∷ after) ≡ Some rest
 first_at word n [] line after rest h e =
     ap (λ o. cond (is_some o) o (first_attribute word n after)) e
@@ -398,7 +399,7 @@ first_at word n (l ∷ ls) line after rest h e =
     ∙ first_at word n ls line after rest (All-tail (Free word n) l ls h) e
 
 pub says_first : (word : List ℕ) (n : ℕ) (lines : List (List ℕ)) (rest : List ℕ)
-    → IsFirst word n lines rest → first_attribute word n lines ≡ Some rest
+    → IsFirst lines word n rest → first_attribute word n lines ≡ Some rest
 says_first word n lines rest i =
     ap (first_attribute word n) i.whole
     ∙ first_at word n i.before i.line i.after rest i.none

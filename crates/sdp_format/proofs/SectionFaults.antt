@@ -33,7 +33,7 @@ use Rattle.sdp_format.proofs.LineForms.{same_some, media_says, says_media, media
 use Rattle.sdp_format.proofs.LineForms.{says_first, none_says, says_none}
 
 abbrev pub At : Section → SdpFault → Type 0
-At s f = SectionFault f s
+At s f = SectionFault s f
 
 -- What is known of a section whose items are listed
 pub record IsListed (s : Section) (x : Listed) : Type 0 where
@@ -42,7 +42,7 @@ pub record IsListed (s : Section) (x : Listed) : Type 0 where
 
 -- the first line with the word is one
 attribute_once : (word : List ℕ) (m n : ℕ) (lines : List (List ℕ)) (a b : List ℕ) → m ≡ n
-    → IsFirst word m lines a → first_attribute word n lines ≡ Some b → a ≡ b
+    → IsFirst lines word m a → first_attribute word n lines ≡ Some b → a ≡ b
 attribute_once word m n lines a b e i f =
     same_some a b
     (sym (says_first word m lines a i) ∙ ap (λ (k : ℕ). first_attribute word k lines) e ∙ f)
@@ -64,7 +64,7 @@ items_once s p t q u is js i j =
 below_media : (s : Section) → Below (At s) 4
 below_media s = record { none = none_of }
   where
-    none_of : (g : SdpFault) → sdp_fault_number g < 4 → SectionFault g s → ⊥
+    none_of : (g : SdpFault) → sdp_fault_number g < 4 → SectionFault s g → ⊥
     none_of NoMemory l c = c.holds
     none_of NoVideo l c = c.holds
     none_of TooManyLegs l c = c.holds
@@ -84,7 +84,7 @@ below_media s = record { none = none_of }
     none_of LegsDiffer l c = c.holds
 
 lacks_once : (word : List ℕ) (s : Section) (m : ℕ × ℕ) (text : List ℕ) → media_of s.media ≡ Some m
-    → first_attribute word m.1 s.lines ≡ Some text → LacksLine word s → ⊥
+    → first_attribute word m.1 s.lines ≡ Some text → LacksLine s word → ⊥
 lacks_once word s m text em e c =
     not_none text
     (sym e
@@ -167,15 +167,15 @@ listed_told s =
     (λ e c. not_both (list_any is_bad (items text)) (bad_any (items text) (found_in c has)) e)
     (λ eb b. (record { has = has; good = eb }, b))))))
   where
-    found_in : {p t : ℕ} {js : List Item} → HasItemFault BadParameter s → HasItems s p t js
-        → ItemFault BadParameter js
+    found_in : {p t : ℕ} {js : List Item} → HasItemFault s BadParameter → HasItems s p t js
+        → ItemFault js BadParameter
     found_in {p = p} {t = t} {js = js} c i =
-        subst (λ (is : List Item). ItemFault BadParameter is)
+        subst (λ (is : List Item). ItemFault is BadParameter)
         (items_once s c.port c.payload_type p t c.list js c.has i) c.holds
 
 -- faults of items are faults of their section, and the other way round
-up : (s : Section) (p t : ℕ) (is : List Item) → HasItems s p t is → (f : SdpFault) → ItemFault f is
-    → SectionFault f s
+up : (s : Section) (p t : ℕ) (is : List Item) → HasItems s p t is → (f : SdpFault) → ItemFault is f
+    → SectionFault s f
 up s p t is i NoMemory c = absurd c
 up s p t is i NoVideo c = absurd c
 up s p t is i TooManyLegs c = absurd c
@@ -200,13 +200,13 @@ up s p t is i BadFormat c = record { port = p; payload_type = t; list = is; has 
 up s p t is i LegsDiffer c = absurd c
 
 down_item : (s : Section) (p t : ℕ) (is : List Item) → HasItems s p t is → (f : SdpFault)
-    → HasItemFault f s → ItemFault f is
+    → HasItemFault s f → ItemFault is f
 down_item s p t is i f c =
-    subst (λ (js : List Item). ItemFault f js)
+    subst (λ (js : List Item). ItemFault js f)
     (items_once s c.port c.payload_type p t c.list is c.has i) c.holds
 
 down : (s : Section) (p t : ℕ) (is : List Item) → HasItems s p t is → (f : SdpFault)
-    → 9 ≤ sdp_fault_number f → SectionFault f s → ItemFault f is
+    → 9 ≤ sdp_fault_number f → SectionFault s f → ItemFault is f
 down s p t is i NoMemory l c = c.holds
 down s p t is i NoVideo l c = c.holds
 down s p t is i TooManyLegs l c = c.holds
@@ -263,14 +263,14 @@ section_told s =
 -- THE LAWS OF A SECTION
 
 err_by : (s : Section) (f : SdpFault) (r : Result (ℕ × Leg) SdpFault)
-    → Told 18 (At s) (λ x. SectionSays s x.0 x.1) r → r ≡ Err f → IsFirstFault f s
+    → Told 18 (At s) (λ x. SectionSays s x.0 x.1) r → r ≡ Err f → IsFirstFault s f
 err_by s f (Ok x) told e = absurd (let h : ⊥ = cc in h)
 err_by s f (Err g) told e =
     let same : g ≡ f = cc in
-    subst (λ (k : SdpFault). IsFirstFault k s) same (told.0, λ other l c. told.1.none other l c)
+    subst (λ (k : SdpFault). IsFirstFault s k) same (told.0, λ other l c. told.1.none other l c)
 
 first_by : (s : Section) (f : SdpFault) (r : Result (ℕ × Leg) SdpFault)
-    → Told 18 (At s) (λ x. SectionSays s x.0 x.1) r → IsFirstFault f s → r ≡ Err f
+    → Told 18 (At s) (λ x. SectionSays s x.0 x.1) r → IsFirstFault s f → r ≡ Err f
 first_by s f (Ok x) told c = absurd (none_at_all (At s) told.1 f c.0)
 first_by s f (Err g) told c =
     elim (cases_lt (sdp_fault_number g) (sdp_fault_number f)) [
@@ -282,7 +282,7 @@ first_by s f (Err g) told c =
       ]
     ]
 
-pub section_fault : (s : Section) (f : SdpFault) → (section_walk s ≡ Err f) ↔ IsFirstFault f s
+pub section_fault : (s : Section) (f : SdpFault) → (section_walk s ≡ Err f) ↔ IsFirstFault s f
 section_fault s f =
     (err_by s f (section_walk s) (section_told s), first_by s f (section_walk s) (section_told s))
 

@@ -5,7 +5,8 @@ use Rattle.sdp_format.specs.declared.sdp.Range.{Range}
 use Rattle.sdp_format.specs.declared.sdp.Range.TheVariants.{Narrow, FullProtect, Full}
 use Rattle.sdp_format.specs.Naming.{Item}
 use Rattle.sdp_format.specs.Sections.{Leg}
-use Rattle.sdp_format.specs.Canonical.{sampling_text, depth_text, divisor_text}
+use Rattle.sdp_format.specs.Canonical.{depth_text, divisor_text}
+use Rattle.st_format.specs.Words.{sampling_text}
 
 abbrev pub range_items : Range → List Item
 range_items Narrow = []

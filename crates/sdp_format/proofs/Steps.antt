@@ -13,7 +13,8 @@ use Rattle.sdp_format.specs.declared.fault.SdpFault.TheVariants.{UnsupportedDept
 use Rattle.sdp_format.specs.declared.fault.SdpFault.TheVariants.{UnsupportedPacking, BadSsn}
 use Rattle.sdp_format.specs.declared.fault.SdpFault.TheVariants.{BadFormat, LegsDiffer}
 use Rattle.sdp_format.specs.Faults.{sdp_fault_number}
-use Rattle.sdp_format.specs.Reading.{◌>>=◌, wanted, refused}
+use Rattle.sdp_format.specs.Reading.{wanted, refused}
+use Rattle.st_format.specs.Reading.{◌>>=◌}
 
 fault_at : ℕ → SdpFault
 fault_at n =

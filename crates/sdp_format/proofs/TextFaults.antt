@@ -4,11 +4,7 @@ use Rattle.std.proofs.Common.{Err, Result, refl, ap, subst, ◌∙◌, sym, arit
 use Rattle.std.specs.Prelude.{◌↔◌, ◌==◌, IfOk, IfErr}
 use Rattle.std.specs.Str.{bytes_eq}
 use Rattle.std.proofs.lemmas.Bool.Decides.{Decides-eqb}
-use Rattle.st_format.specs.declared.sampling.Sampling.{Sampling}
-use Rattle.st_format.specs.declared.sampling.Sampling.TheVariants.{Ycc422, Ycc444, Rgb}
-use Rattle.st_format.specs.declared.sampling.Depth.{Depth}
-use Rattle.st_format.specs.declared.sampling.Depth.TheVariants.{D8, D10, D12, D16}
-use Rattle.st_format.specs.Fields.{Fields}
+use Rattle.st_format.specs.Fields.{Fields, same_fields}
 use Rattle.sdp_format.specs.declared.sdp.Range.{Range}
 use Rattle.sdp_format.specs.declared.sdp.Range.TheVariants.{Narrow, FullProtect, Full}
 use Rattle.sdp_format.specs.declared.fault.SdpFault.{SdpFault}
@@ -16,8 +12,10 @@ use Rattle.sdp_format.specs.declared.fault.SdpFault.TheVariants.{NoMemory, NoVid
 use Rattle.sdp_format.specs.declared.fault.SdpFault.TheVariants.{LegsDiffer}
 use Rattle.sdp_format.specs.Bytes.{lines}
 use Rattle.sdp_format.specs.Sections.{Section, Leg, Description, video_sections}
-use Rattle.sdp_format.specs.Reading.{◌>>=◌, refused, Gives, section_walk, same_sampling, same_depth}
-use Rattle.sdp_format.specs.Reading.{same_range, same_format, same_leg, sections_walk, text_walk}
+use Rattle.st_format.specs.Reading.{◌>>=◌}
+use Rattle.st_format.proofs.SameFields.{fields_are, fields_self}
+use Rattle.sdp_format.specs.Reading.{refused, GivesUnlessMemory, section_walk, same_range, same_leg}
+use Rattle.sdp_format.specs.Reading.{sections_walk, text_walk}
 use Rattle.sdp_format.specs.Grammar.{IsFirstFault, IsFaultless, SectionSays, Differ, TwoDiffer}
 use Rattle.sdp_format.specs.Grammar.{IsTextFault, OneSays, BothSay, IsDescribed}
 use Rattle.sdp_format.proofs.Members.{not_both}
@@ -27,30 +25,6 @@ use Rattle.sdp_format.proofs.Again.{and_parts}
 use Rattle.sdp_format.proofs.SectionFaults.{section_fault, section_read, section_said}
 
 -- WHETHER TWO SECTIONS SAY THE SAME
-
-sampling_is : (a b : Sampling) → same_sampling a b ≡ true → a ≡ b
-sampling_is Ycc422 Ycc422 e = refl
-sampling_is Ycc444 Ycc444 e = refl
-sampling_is Rgb Rgb e = refl
-sampling_is a b e = absurd (not_both false e refl)
-
-sampling_self : (a : Sampling) → same_sampling a a ≡ true
-sampling_self Ycc422 = refl
-sampling_self Ycc444 = refl
-sampling_self Rgb = refl
-
-depth_is : (a b : Depth) → same_depth a b ≡ true → a ≡ b
-depth_is D8 D8 e = refl
-depth_is D10 D10 e = refl
-depth_is D12 D12 e = refl
-depth_is D16 D16 e = refl
-depth_is a b e = absurd (not_both false e refl)
-
-depth_self : (a : Depth) → same_depth a a ≡ true
-depth_self D8 = refl
-depth_self D10 = refl
-depth_self D12 = refl
-depth_self D16 = refl
 
 range_is : (a b : Range) → same_range a b ≡ true → a ≡ b
 range_is Narrow Narrow e = refl
@@ -72,44 +46,6 @@ number_self a = (Decides-eqb a a).1 refl
 and_all : (a b : Bool) → a ≡ true → b ≡ true → (a && b) ≡ true
 and_all a b e f = rw (e, f) refl
 
-abbrev fields : Sampling → Depth → ℕ → ℕ → ℕ → ℕ → Fields
-fields s b w h n d = record { sampling = s; depth = b; width = w; height = h; n = n; d = d }
-
-format_is : (f g : Fields) → same_format f g ≡ true → f ≡ g
-format_is f g e =
-    let a =
-    and_parts (same_sampling f.sampling g.sampling && same_depth f.depth g.depth
-    && f.width == g.width && f.height == g.height && f.n == g.n) (f.d == g.d) e in
-    let b =
-    and_parts (same_sampling f.sampling g.sampling && same_depth f.depth g.depth
-    && f.width == g.width && f.height == g.height) (f.n == g.n) a.0 in
-    let c =
-    and_parts (same_sampling f.sampling g.sampling && same_depth f.depth g.depth
-    && f.width == g.width) (f.height == g.height) b.0 in
-    let d =
-    and_parts (same_sampling f.sampling g.sampling && same_depth f.depth g.depth)
-    (f.width == g.width) c.0 in
-    let s = and_parts (same_sampling f.sampling g.sampling) (same_depth f.depth g.depth) d.0 in
-    ap (λ (z : Sampling). fields z f.depth f.width f.height f.n f.d)
-    (sampling_is f.sampling g.sampling s.0)
-    ∙ ap (λ (z : Depth). fields g.sampling z f.width f.height f.n f.d)
-    (depth_is f.depth g.depth s.1)
-    ∙ ap (λ (z : ℕ). fields g.sampling g.depth z f.height f.n f.d) (number_is f.width g.width d.1)
-    ∙ ap (λ (z : ℕ). fields g.sampling g.depth g.width z f.n f.d) (number_is f.height g.height c.1)
-    ∙ ap (λ (z : ℕ). fields g.sampling g.depth g.width g.height z f.d) (number_is f.n g.n b.1)
-    ∙ ap (λ (z : ℕ). fields g.sampling g.depth g.width g.height g.n z) (number_is f.d g.d a.1)
-
-format_self : (f : Fields) → same_format f f ≡ true
-format_self f =
-    rw (
-      sampling_self f.sampling,
-      depth_self f.depth,
-      number_self f.width,
-      number_self f.height,
-      number_self f.n,
-      number_self f.d,
-    ) refl
-
 abbrev leg : ℕ → Fields → Range → List ℕ → Leg
 leg p f r c = record { payload_type = p; format = f; range = r; colorimetry = c }
 
@@ -117,16 +53,16 @@ leg_is : (l m : Leg) → same_leg l m ≡ true → l ≡ m
 unfolding same_leg
 leg_is l m e =
     let a =
-    and_parts (l.payload_type == m.payload_type && same_format l.format m.format
+    and_parts (l.payload_type == m.payload_type && same_fields l.format m.format
     && same_range l.range m.range) (bytes_eq l.colorimetry m.colorimetry) e in
     let b =
-    and_parts (l.payload_type == m.payload_type && same_format l.format m.format)
+    and_parts (l.payload_type == m.payload_type && same_fields l.format m.format)
     (same_range l.range m.range) a.0 in
-    let c = and_parts (l.payload_type == m.payload_type) (same_format l.format m.format) b.0 in
+    let c = and_parts (l.payload_type == m.payload_type) (same_fields l.format m.format) b.0 in
     ap (λ (z : ℕ). leg z l.format l.range l.colorimetry)
     (number_is l.payload_type m.payload_type c.0)
     ∙ ap (λ (z : Fields). leg m.payload_type z l.range l.colorimetry)
-    (format_is l.format m.format c.1)
+    (fields_are l.format m.format c.1)
     ∙ ap (λ (z : Range). leg m.payload_type m.format z l.colorimetry) (range_is l.range m.range b.1)
     ∙ ap (λ (z : List ℕ). leg m.payload_type m.format m.range z)
     (bytes_same l.colorimetry m.colorimetry a.1)
@@ -134,12 +70,12 @@ leg_is l m e =
 pub leg_self : (l : Leg) → same_leg l l ≡ true
 unfolding same_leg
 leg_self l =
-    and_all (l.payload_type == l.payload_type && same_format l.format l.format
+    and_all (l.payload_type == l.payload_type && same_fields l.format l.format
     && same_range l.range l.range) (bytes_eq l.colorimetry l.colorimetry)
-    (and_all (l.payload_type == l.payload_type && same_format l.format l.format)
+    (and_all (l.payload_type == l.payload_type && same_fields l.format l.format)
     (same_range l.range l.range)
-    (and_all (l.payload_type == l.payload_type) (same_format l.format l.format)
-    (number_self l.payload_type) (format_self l.format))
+    (and_all (l.payload_type == l.payload_type) (same_fields l.format l.format)
+    (number_self l.payload_type) (fields_self l.format))
     (range_self l.range))
     (same_bytes l.colorimetry l.colorimetry refl)
 
@@ -260,14 +196,14 @@ two_ok (Ok x) (Ok y) d e =
 
 -- SECTIONS OF A TEXT
 
-one_fault : (s : Section) (f : SdpFault) → (sections_walk (s ∷ []) ≡ Err f) ↔ IsFirstFault f s
+one_fault : (s : Section) (f : SdpFault) → (sections_walk (s ∷ []) ≡ Err f) ↔ IsFirstFault s f
 one_fault s f = (
   λ e. (section_fault s f).0 (one_err (section_walk s) f (sym (as_one s) ∙ e)),
   λ h. as_one s ∙ ap one_of ((section_fault s f).1 h),
 )
 
 two_fault_from : (s t : Section) (f : SdpFault) → sections_walk (s ∷ t ∷ []) ≡ Err f
-    → IsTextFault f (s ∷ t ∷ [])
+    → IsTextFault (s ∷ t ∷ []) f
 two_fault_from s t f e =
     elim (two_err (section_walk s) (section_walk t) f (sym (as_two s t) ∙ e)) [
       | inl h ↦ inl ((section_fault s f).0 h)
@@ -295,12 +231,12 @@ two_fault_from s t f e =
       ]
     ]
 
-second_fault : (s t : Section) (f : SdpFault) → IsFaultless s → IsFirstFault f t
+second_fault : (s t : Section) (f : SdpFault) → IsFaultless s → IsFirstFault t f
     → (r : Result Read SdpFault) → section_walk s ≡ r → two_of r (section_walk t) ≡ Err f
 second_fault s t f clean h (Ok x) e = ap (λ q. q >>= λ y. both x y) ((section_fault t f).1 h)
 second_fault s t f clean h (Err g) e = absurd (clean g ((section_fault s g).0 e).0)
 
-two_fault_to : (s t : Section) (f : SdpFault) → IsTextFault f (s ∷ t ∷ [])
+two_fault_to : (s t : Section) (f : SdpFault) → IsTextFault (s ∷ t ∷ []) f
     → sections_walk (s ∷ t ∷ []) ≡ Err f
 two_fault_to s t f (inl h) =
     as_two s t ∙ ap (λ r. two_of r (section_walk t)) ((section_fault s f).1 h)
@@ -321,7 +257,7 @@ two_fault_to s t f (inr (inr h)) =
     ∙ ap (λ (z : SdpFault). Err z) (sym h.3)
 
 pub sections_fault : (ss : List Section) (f : SdpFault)
-    → (sections_walk ss ≡ Err f) ↔ IsTextFault f ss
+    → (sections_walk ss ≡ Err f) ↔ IsTextFault ss f
 sections_fault [] f = (
   λ e. err_same f NoVideo (sections_walk []) e as_none,
   λ h. as_none
@@ -386,7 +322,7 @@ both_said_to s t d h =
     ∙ ap (λ (ps : List ℕ). Ok (described ps d.leg)) (sym h.ports)
 
 pub sections_said : (ss : List Section) (d : Description)
-    → (sections_walk ss ≡ Ok d) ↔ IsDescribed d ss
+    → (sections_walk ss ≡ Ok d) ↔ IsDescribed ss d
 sections_said [] d = (λ e. no_answer d NoVideo (sections_walk []) e as_none, λ h. absurd h)
 sections_said (s ∷ []) d = (one_said_from s d, one_said_to s d)
 sections_said (s ∷ t ∷ []) d = (both_said_from s t d, both_said_to s t d)
@@ -398,12 +334,12 @@ sections_said (s ∷ t ∷ u ∷ rest) d = (
 -- TEXTS
 
 pub text_fault : (text : List ℕ) (f : SdpFault)
-    → (text_walk text ≡ Err f) ↔ IsTextFault f (video_sections (lines text))
+    → (text_walk text ≡ Err f) ↔ IsTextFault (video_sections (lines text)) f
 unfolding text_walk
 text_fault text f = sections_fault (video_sections (lines text)) f
 
 pub text_said : (text : List ℕ) (d : Description)
-    → (text_walk text ≡ Ok d) ↔ IsDescribed d (video_sections (lines text))
+    → (text_walk text ≡ Ok d) ↔ IsDescribed (video_sections (lines text)) d
 unfolding text_walk
 text_said text d = sections_said (video_sections (lines text)) d
 
@@ -412,10 +348,10 @@ pub no_video : (text : List ℕ) → (text_walk text ≡ Err NoVideo) ↔ (video
 no_video text = (
   λ e. none_from (video_sections (lines text)) ((text_fault text NoVideo).0 e),
   λ e. (text_fault text NoVideo).1
-      (subst (λ (ss : List Section). IsTextFault NoVideo ss) (sym e) refl),
+      (subst (λ (ss : List Section). IsTextFault ss NoVideo) (sym e) refl),
 )
   where
-    none_from : (ss : List Section) → IsTextFault NoVideo ss → ss ≡ []
+    none_from : (ss : List Section) → IsTextFault ss NoVideo → ss ≡ []
     none_from [] h = refl
     none_from (s ∷ []) h = absurd h.0.holds
     none_from (s ∷ t ∷ []) (inl h) = absurd h.0.holds
@@ -432,7 +368,7 @@ too_many_legs text = (
   λ h. (text_fault text TooManyLegs).1 (many_to (video_sections (lines text)) h),
 )
   where
-    many_from : (ss : List Section) → IsTextFault TooManyLegs ss → 2 < length ss
+    many_from : (ss : List Section) → IsTextFault ss TooManyLegs → 2 < length ss
     many_from [] h = absurd (let k : TooManyLegs ≡ NoVideo = h in let z : ⊥ = cc in z)
     many_from (s ∷ []) h = absurd h.0.holds
     many_from (s ∷ t ∷ []) (inl h) = absurd h.0.holds
@@ -441,7 +377,7 @@ too_many_legs text = (
         absurd (let k : TooManyLegs ≡ LegsDiffer = h.3 in let z : ⊥ = cc in z)
     many_from (s ∷ t ∷ u ∷ rest) h = omega arith
 
-    many_to : (ss : List Section) → 2 < length ss → IsTextFault TooManyLegs ss
+    many_to : (ss : List Section) → 2 < length ss → IsTextFault ss TooManyLegs
     many_to [] h = absurd (omega arith)
     many_to (s ∷ []) h = absurd (omega arith)
     many_to (s ∷ t ∷ []) h = absurd (omega arith)
@@ -454,7 +390,7 @@ legs_differ text = (
   λ h. (text_fault text LegsDiffer).1 (differ_to (video_sections (lines text)) h),
 )
   where
-    differ_from : (ss : List Section) → IsTextFault LegsDiffer ss → TwoDiffer ss
+    differ_from : (ss : List Section) → IsTextFault ss LegsDiffer → TwoDiffer ss
     differ_from [] h = absurd (let k : LegsDiffer ≡ NoVideo = h in let z : ⊥ = cc in z)
     differ_from (s ∷ []) h = absurd h.0.holds
     differ_from (s ∷ t ∷ []) (inl h) = absurd h.0.holds
@@ -463,7 +399,7 @@ legs_differ text = (
     differ_from (s ∷ t ∷ u ∷ rest) h =
         absurd (let k : LegsDiffer ≡ TooManyLegs = h in let z : ⊥ = cc in z)
 
-    differ_to : (ss : List Section) → TwoDiffer ss → IsTextFault LegsDiffer ss
+    differ_to : (ss : List Section) → TwoDiffer ss → IsTextFault ss LegsDiffer
     differ_to [] h = absurd h
     differ_to (s ∷ []) h = absurd h
     differ_to (s ∷ t ∷ []) h = inr (inr (h.0, h.1, h.2, refl))
@@ -472,14 +408,14 @@ legs_differ text = (
 -- WHAT A READER RETURNS
 
 pub said_from : {X : Type 0} (r : Result X SdpFault) (view : X → Description) (text : List ℕ)
-    → Gives view r (text_walk text)
-    → IfOk r (λ x. IsDescribed (view x) (video_sections (lines text)))
+    → GivesUnlessMemory view r (text_walk text)
+    → IfOk r (λ x. IsDescribed (video_sections (lines text)) (view x))
 said_from (Ok x) view text h = (text_said text (view x)).0 h
 said_from (Err e) view text h = tt
 
 pub fault_from : {X : Type 0} (r : Result X SdpFault) (view : X → Description) (text : List ℕ)
-    → Gives view r (text_walk text)
-    → IfErr r (λ f. (f ≡ NoMemory) ⊎ IsTextFault f (video_sections (lines text)))
+    → GivesUnlessMemory view r (text_walk text)
+    → IfErr r (λ f. (f ≡ NoMemory) ⊎ IsTextFault (video_sections (lines text)) f)
 fault_from (Ok x) view text h = tt
 fault_from (Err e) view text (inl h) = inl h
 fault_from (Err e) view text (inr h) = inr ((text_fault text e).0 h)

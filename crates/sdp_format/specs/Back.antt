@@ -22,20 +22,20 @@ pub record IsLeg (l : Leg) : Type 0 where
   pub is_colorimetry : colorimetry l.colorimetry ≡ Some l.colorimetry
 
 -- A section of this port and payload type, with raw/90000 and with this line as its first fmtp line
-pub record HasLine (line : List ℕ) (payload_type : ℕ) (s : Section) (port : ℕ) : Type 0 where
+pub record HasLine (s : Section) (line : List ℕ) (payload_type port : ℕ) : Type 0 where
   pub media : IsMediaLine s.media port payload_type
   pub map : List ℕ
-  pub rtpmap : IsFirst (codes "a=rtpmap:") payload_type s.lines map
+  pub rtpmap : IsFirst s.lines (codes "a=rtpmap:") payload_type map
   pub raw : str_eq_ignore_ascii_case (trimmed map) (codes "raw/90000") ≡ true
   pub before : List (List ℕ)
   pub after : List (List ℕ)
   pub whole : s.lines ≡ before ++ line ∷ after
-  pub none : HasNone (codes "a=fmtp:") payload_type before
+  pub none : HasNone before (codes "a=fmtp:") payload_type
 
 -- each text of one or two video sections that have this line says the leg, whatever its ports are
 abbrev pub ReadsBack : List ℕ → Leg → Type 0
 ReadsBack line l =
     (text ports : List ℕ)
-    → AllZip (HasLine line l.payload_type) (video_sections (lines text)) ports
+    → AllZip (λ s port. HasLine s line l.payload_type port) (video_sections (lines text)) ports
     → 0 < length ports → length ports ≤ 2
-    → IsDescribed (record { ports = ports; leg = l }) (video_sections (lines text))
+    → IsDescribed (video_sections (lines text)) (record { ports = ports; leg = l })

@@ -2,18 +2,12 @@
 use Rattle.std.specs.Prelude.{ℕ, ◌==◌, if◌then◌else◌, List, [], ◌++◌}
 use Rattle.std.specs.Fmt.{decimal}
 use Rattle.std.proofs.Common.{codes}
-use Rattle.st_format.specs.declared.sampling.Sampling.{Sampling}
-use Rattle.st_format.specs.declared.sampling.Sampling.TheVariants.{Ycc422, Ycc444, Rgb}
 use Rattle.st_format.specs.declared.sampling.Depth.{Depth}
 use Rattle.st_format.specs.declared.sampling.Depth.TheVariants.{D8, D10, D12, D16}
+use Rattle.st_format.specs.Words.{sampling_text}
 use Rattle.sdp_format.specs.declared.sdp.Range.{Range}
 use Rattle.sdp_format.specs.declared.sdp.Range.TheVariants.{Narrow, FullProtect, Full}
 use Rattle.sdp_format.specs.Sections.{Leg}
-
-abbrev pub sampling_text : Sampling → List ℕ
-sampling_text Ycc422 = codes "YCbCr-4:2:2"
-sampling_text Ycc444 = codes "YCbCr-4:4:4"
-sampling_text Rgb = codes "RGB"
 
 abbrev pub depth_text : Depth → List ℕ
 depth_text D8 = codes "8"

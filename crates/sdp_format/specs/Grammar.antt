@@ -22,10 +22,12 @@ use Rattle.sdp_format.specs.declared.fault.SdpFault.TheVariants.{UnsupportedDept
 use Rattle.sdp_format.specs.declared.fault.SdpFault.TheVariants.{UnsupportedPacking, BadSsn}
 use Rattle.sdp_format.specs.declared.fault.SdpFault.TheVariants.{BadFormat, LegsDiffer}
 use Rattle.sdp_format.specs.Faults.{sdp_fault_number}
-use Rattle.sdp_format.specs.Bytes.{is_space, trimmed, number}
+use Rattle.sdp_format.specs.Bytes.{is_space, trimmed}
+use Rattle.st_format.specs.Words.{number}
 use Rattle.sdp_format.specs.Naming.{Item, items, rate, colorimetry, range_named, required}
 use Rattle.sdp_format.specs.Sections.{Section, Leg, Description}
-use Rattle.sdp_format.specs.Canonical.{sampling_text, depth_text}
+use Rattle.sdp_format.specs.Canonical.{depth_text}
+use Rattle.st_format.specs.Words.{sampling_text}
 
 -- LINES
 
@@ -44,24 +46,24 @@ pub record IsMediaLine (line : List ℕ) (port payload_type : ℕ) : Type 0 wher
 
 -- An attribute of a payload type: the word, a number equal to the type, a space, and the rest (RFC
 -- 8866, 6.6, 6.15)
-pub record IsAttribute (word : List ℕ) (payload_type : ℕ) (line rest : List ℕ) : Type 0 where
+pub record IsAttribute (line word : List ℕ) (payload_type : ℕ) (rest : List ℕ) : Type 0 where
   pub digits : List ℕ
   pub whole : line ≡ word ++ digits ++ 32 ∷ rest
   pub is_type : number digits ≡ Some payload_type
 
-abbrev pub HasNone : List ℕ → ℕ → List (List ℕ) → Type 0
-HasNone word payload_type lines =
-    All (λ line. (rest : List ℕ) → IsAttribute word payload_type line rest → ⊥) lines
+abbrev pub HasNone : List (List ℕ) → List ℕ → ℕ → Type 0
+HasNone lines word payload_type =
+    All (λ line. (rest : List ℕ) → IsAttribute line word payload_type rest → ⊥) lines
 
 -- The first such line counts
-pub record IsFirst (word : List ℕ) (payload_type : ℕ) (lines : List (List ℕ)) (rest : List ℕ)
+pub record IsFirst (lines : List (List ℕ)) (word : List ℕ) (payload_type : ℕ) (rest : List ℕ)
     : Type 0 where
   pub before : List (List ℕ)
   pub line : List ℕ
   pub after : List (List ℕ)
   pub whole : lines ≡ before ++ line ∷ after
-  pub none : HasNone word payload_type before
-  pub first : IsAttribute word payload_type line rest
+  pub none : HasNone before word payload_type
+  pub first : IsAttribute line word payload_type rest
 
 -- ITEMS
 
@@ -104,24 +106,24 @@ pub record IsGiven (is : List Item) (given : Fields) : Type 0 where
       × (rate text ≡ Some (given.n, given.d))
 
 -- The condition of each fault of items, by itself
-abbrev pub ItemFault : SdpFault → List Item → Type 0
-ItemFault BadParameter is = (i : Item) × Contains is i × IsBadItem i
-ItemFault DoubleParameter is = HasDouble is
-ItemFault MissingParameter is = (name : List ℕ) × Contains required name × Lacks is name
-ItemFault UnsupportedSampling is =
+abbrev pub ItemFault : List Item → SdpFault → Type 0
+ItemFault is BadParameter = (i : Item) × Contains is i × IsBadItem i
+ItemFault is DoubleParameter = HasDouble is
+ItemFault is MissingParameter = (name : List ℕ) × Contains required name × Lacks is name
+ItemFault is UnsupportedSampling =
     (text : List ℕ) × Says is (codes "sampling") text × ((s : Sampling) → text ≢ sampling_text s)
-ItemFault UnsupportedDepth is =
+ItemFault is UnsupportedDepth =
     (text : List ℕ) × Says is (codes "depth") text × ((b : Depth) → text ≢ depth_text b)
-ItemFault Interlaced is = Has is (codes "interlace") ⊎ Has is (codes "segmented")
-ItemFault UnsupportedPacking is =
+ItemFault is Interlaced = Has is (codes "interlace") ⊎ Has is (codes "segmented")
+ItemFault is UnsupportedPacking =
     (text : List ℕ) × Says is (codes "PM") text × (text ≢ codes "2110GPM")
-ItemFault BadSsn is =
+ItemFault is BadSsn =
     (text : List ℕ) × Says is (codes "SSN") text
     × ((rest : List ℕ) → text ≢ codes "ST2110-20:" ++ rest)
-ItemFault BadFormat is =
+ItemFault is BadFormat =
     (given : Fields) × IsGiven is given
     × IsErr (format_at given.sampling given.depth given.width given.height given.n given.d)
-ItemFault fault is = ⊥
+ItemFault is fault = ⊥
 
 -- what the items say of the range: narrow where they say nothing
 abbrev pub SaysRange : List Item → Range → Type 0
@@ -144,51 +146,51 @@ pub record IsSaid (is : List Item) (l : Leg) : Type 0 where
 pub record HasItems (s : Section) (port payload_type : ℕ) (is : List Item) : Type 0 where
   pub media : IsMediaLine s.media port payload_type
   pub text : List ℕ
-  pub fmtp : IsFirst (codes "a=fmtp:") payload_type s.lines text
+  pub fmtp : IsFirst s.lines (codes "a=fmtp:") payload_type text
   pub list : is ≡ items text
 
 -- no line with the word for the payload type; another first rtpmap line than raw/90000; items with
 -- a fault
-pub record LacksLine (word : List ℕ) (s : Section) : Type 0 where
+pub record LacksLine (s : Section) (word : List ℕ) : Type 0 where
   pub port : ℕ
   pub payload_type : ℕ
   pub media : IsMediaLine s.media port payload_type
-  pub none : HasNone word payload_type s.lines
+  pub none : HasNone s.lines word payload_type
 
 pub record HasOtherMap (s : Section) : Type 0 where
   pub port : ℕ
   pub payload_type : ℕ
   pub map : List ℕ
   pub media : IsMediaLine s.media port payload_type
-  pub rtpmap : IsFirst (codes "a=rtpmap:") payload_type s.lines map
+  pub rtpmap : IsFirst s.lines (codes "a=rtpmap:") payload_type map
   pub other : str_eq_ignore_ascii_case (trimmed map) (codes "raw/90000") ≡ false
 
-pub record HasItemFault (fault : SdpFault) (s : Section) : Type 0 where
+pub record HasItemFault (s : Section) (fault : SdpFault) : Type 0 where
   pub port : ℕ
   pub payload_type : ℕ
   pub list : List Item
   pub has : HasItems s port payload_type list
-  pub holds : ItemFault fault list
+  pub holds : ItemFault list fault
 
 -- The condition of each fault of a section, by itself
-abbrev pub SectionFault : SdpFault → Section → Type 0
-SectionFault BadMediaLine s = (port payload_type : ℕ) → IsMediaLine s.media port payload_type → ⊥
-SectionFault NoRtpmap s = LacksLine (codes "a=rtpmap:") s
-SectionFault NotRaw90000 s = HasOtherMap s
-SectionFault NoFmtp s = LacksLine (codes "a=fmtp:") s
-SectionFault fault s = HasItemFault fault s
+abbrev pub SectionFault : Section → SdpFault → Type 0
+SectionFault s BadMediaLine = (port payload_type : ℕ) → IsMediaLine s.media port payload_type → ⊥
+SectionFault s NoRtpmap = LacksLine s (codes "a=rtpmap:")
+SectionFault s NotRaw90000 = HasOtherMap s
+SectionFault s NoFmtp = LacksLine s (codes "a=fmtp:")
+SectionFault s fault = HasItemFault s fault
 
 -- no condition of a fault before this one holds; the first fault of a section in the order of
 -- numbers; no fault at all
-abbrev pub NoneBefore : SdpFault → Section → Type 0
-NoneBefore fault s =
-    (other : SdpFault) → sdp_fault_number other < sdp_fault_number fault → SectionFault other s → ⊥
+abbrev pub NoneBefore : Section → SdpFault → Type 0
+NoneBefore s fault =
+    (other : SdpFault) → sdp_fault_number other < sdp_fault_number fault → SectionFault s other → ⊥
 
-abbrev pub IsFirstFault : SdpFault → Section → Type 0
-IsFirstFault fault s = SectionFault fault s × NoneBefore fault s
+abbrev pub IsFirstFault : Section → SdpFault → Type 0
+IsFirstFault s fault = SectionFault s fault × NoneBefore s fault
 
 abbrev pub IsFaultless : Section → Type 0
-IsFaultless s = (fault : SdpFault) → SectionFault fault s → ⊥
+IsFaultless s = (fault : SdpFault) → SectionFault s fault → ⊥
 
 -- What a section without a fault says
 pub record SectionSays (s : Section) (port : ℕ) (l : Leg) : Type 0 where
@@ -216,14 +218,14 @@ TwoDiffer (s ∷ t ∷ u ∷ rest) = ⊥
 
 -- The fault of the video sections of a text: that of the first section, then that of the second,
 -- then that they differ
-abbrev pub IsTextFault : SdpFault → List Section → Type 0
-IsTextFault fault [] = fault ≡ NoVideo
-IsTextFault fault (s ∷ []) = IsFirstFault fault s
-IsTextFault fault (s ∷ t ∷ []) =
-    IsFirstFault fault s
-    ⊎ ((IsFaultless s × IsFirstFault fault t)
+abbrev pub IsTextFault : List Section → SdpFault → Type 0
+IsTextFault [] fault = fault ≡ NoVideo
+IsTextFault (s ∷ []) fault = IsFirstFault s fault
+IsTextFault (s ∷ t ∷ []) fault =
+    IsFirstFault s fault
+    ⊎ ((IsFaultless s × IsFirstFault t fault)
     ⊎ (IsFaultless s × IsFaultless t × Differ s t × (fault ≡ LegsDiffer)))
-IsTextFault fault (s ∷ t ∷ u ∷ rest) = fault ≡ TooManyLegs
+IsTextFault (s ∷ t ∷ u ∷ rest) fault = fault ≡ TooManyLegs
 
 -- What one or two video sections without a fault say
 pub record BothSay (s t : Section) (d : Description) : Type 0 where
@@ -241,8 +243,8 @@ pub record OneSays (s : Section) (d : Description) : Type 0 where
   pub says : SectionSays s port d.leg
   pub ports : d.ports ≡ port ∷ []
 
-abbrev pub IsDescribed : Description → List Section → Type 0
-IsDescribed d [] = ⊥
-IsDescribed d (s ∷ []) = OneSays s d
-IsDescribed d (s ∷ t ∷ []) = BothSay s t d
-IsDescribed d (s ∷ t ∷ u ∷ rest) = ⊥
+abbrev pub IsDescribed : List Section → Description → Type 0
+IsDescribed [] d = ⊥
+IsDescribed (s ∷ []) d = OneSays s d
+IsDescribed (s ∷ t ∷ []) d = BothSay s t d
+IsDescribed (s ∷ t ∷ u ∷ rest) d = ⊥

@@ -7,11 +7,11 @@ use Rattle.std.specs.Prelude.{IsOk}
 use Rattle.std.specs.List.{list_all, list_any}
 use Rattle.std.specs.Str.{bytes_eq, str_eq_ignore_ascii_case}
 use Rattle.std.proofs.Common.{codes}
-use Rattle.st_format.specs.declared.sampling.Sampling.{Sampling}
-use Rattle.st_format.specs.declared.sampling.Sampling.TheVariants.{Ycc422, Ycc444, Rgb}
 use Rattle.st_format.specs.declared.sampling.Depth.{Depth}
 use Rattle.st_format.specs.declared.sampling.Depth.TheVariants.{D8, D10, D12, D16}
-use Rattle.st_format.specs.Fields.{Fields, format_at}
+use Rattle.st_format.specs.Fields.{Fields, format_at, same_fields}
+use Rattle.st_format.specs.Reading.{◌>>=◌}
+use Rattle.st_format.specs.Words.{number, sampling_named}
 use Rattle.sdp_format.specs.declared.sdp.Range.{Range}
 use Rattle.sdp_format.specs.declared.sdp.Range.TheVariants.{Narrow, FullProtect, Full}
 use Rattle.sdp_format.specs.declared.fault.SdpFault.{SdpFault}
@@ -23,16 +23,11 @@ use Rattle.sdp_format.specs.declared.fault.SdpFault.TheVariants.{UnsupportedSamp
 use Rattle.sdp_format.specs.declared.fault.SdpFault.TheVariants.{UnsupportedDepth, Interlaced}
 use Rattle.sdp_format.specs.declared.fault.SdpFault.TheVariants.{UnsupportedPacking, BadSsn}
 use Rattle.sdp_format.specs.declared.fault.SdpFault.TheVariants.{BadFormat, LegsDiffer}
-use Rattle.sdp_format.specs.Bytes.{trimmed, trim_end, number, at_most, split, lines, begins}
+use Rattle.sdp_format.specs.Bytes.{trimmed, trim_end, at_most, split, lines, begins}
 use Rattle.sdp_format.specs.Bytes.{attribute}
 use Rattle.sdp_format.specs.Sections.{Section, Leg, Description, video_sections}
 use Rattle.sdp_format.specs.Naming.{Item, items, is_bad, has_double, has, value_of, required, rate}
 use Rattle.sdp_format.specs.Naming.{range_or, colorimetry, text_of}
-
-infixl 10 ◌>>=◌
-abbrev pub ◌>>=◌ : {A B : Type 0} → Result A SdpFault → (A → Result B SdpFault) → Result B SdpFault
-(Ok x) >>= f = f x
-(Err e) >>= f = Err e
 
 -- a value that has to be there, and a condition that has not to hold
 abbrev pub wanted : {A : Type 0} → SdpFault → Option A → Result A SdpFault
@@ -70,12 +65,6 @@ first_attribute word n (l ∷ ls) =
 unfoldable pub is_raw90000 : List ℕ → Bool
 is_raw90000 text = str_eq_ignore_ascii_case (trimmed text) (codes "raw/90000")
 
-unfoldable pub sampling_named : List ℕ → Option Sampling
-sampling_named text =
-    if bytes_eq text (codes "YCbCr-4:2:2") then Some Ycc422 else
-    (if bytes_eq text (codes "YCbCr-4:4:4") then Some Ycc444 else
-    (if bytes_eq text (codes "RGB") then Some Rgb else None))
-
 unfoldable pub depth_named : List ℕ → Option Depth
 depth_named text =
     if bytes_eq text (codes "8") then Some D8 else
@@ -94,9 +83,10 @@ seen view (Ok x) = Ok (view x)
 seen view (Err e) = Err e
 
 -- What a function returned, seen by view, is what reading gives, unless memory ran out
-abbrev pub Gives : {X Y : Type 0} → (X → Y) → Result X SdpFault → Result Y SdpFault → Type 0
-Gives view (Ok x) read = read ≡ Ok (view x)
-Gives view (Err e) read = (e ≡ NoMemory) ⊎ (read ≡ Err e)
+abbrev pub GivesUnlessMemory : {X Y : Type 0} → (X → Y) → Result X SdpFault → Result Y SdpFault
+    → Type 0
+GivesUnlessMemory view (Ok x) read = read ≡ Ok (view x)
+GivesUnlessMemory view (Err e) read = (e ≡ NoMemory) ⊎ (read ≡ Err e)
 
 abbrev pub or_fault : {E : Type 0} → Result Fields E → Result Fields SdpFault
 or_fault (Ok f) = Ok f
@@ -166,33 +156,15 @@ WantsMemory (s ∷ t ∷ []) = IsOk (listing_walk s)
 WantsMemory (s ∷ t ∷ u ∷ rest) = ⊥
 
 -- whether two sections say the same
-abbrev pub same_sampling : Sampling → Sampling → Bool
-same_sampling Ycc422 Ycc422 = true
-same_sampling Ycc444 Ycc444 = true
-same_sampling Rgb Rgb = true
-same_sampling a b = false
-
-abbrev pub same_depth : Depth → Depth → Bool
-same_depth D8 D8 = true
-same_depth D10 D10 = true
-same_depth D12 D12 = true
-same_depth D16 D16 = true
-same_depth a b = false
-
 abbrev pub same_range : Range → Range → Bool
 same_range Narrow Narrow = true
 same_range FullProtect FullProtect = true
 same_range Full Full = true
 same_range a b = false
 
-abbrev pub same_format : Fields → Fields → Bool
-same_format f g =
-    same_sampling f.sampling g.sampling && same_depth f.depth g.depth && f.width == g.width
-    && f.height == g.height && f.n == g.n && f.d == g.d
-
 unfoldable pub same_leg : Leg → Leg → Bool
 same_leg l m =
-    l.payload_type == m.payload_type && same_format l.format m.format
+    l.payload_type == m.payload_type && same_fields l.format m.format
     && same_range l.range m.range && bytes_eq l.colorimetry m.colorimetry
 
 -- The walk over the video sections of a text, and the walk over the text

@@ -1,25 +1,15 @@
 //! The one fmtp line of what a text says.
 ghost use Rattle.std.specs.Prelude.{◌≡◌, ◌++◌, MatchResult, IfOk, decimal};
 ghost use Rattle.sdp_format.specs.declared.fault.SdpFault.TheVariants.{NoMemory};
-ghost use Rattle.sdp_format.specs.Canonical.{canonical, divisor_text, sampling_text, depth_text};
+ghost use Rattle.sdp_format.specs.Canonical.{canonical, divisor_text, depth_text};
 ghost use Rattle.sdp_format.specs.Canonical.{range_text};
 ghost use Rattle.sdp_format.specs.Views.{description};
 ghost use Rattle.sdp_format.specs.Back.{ReadsBack};
 
 use crate::fault::SdpFault;
 use crate::sdp::{Range, Sdp};
-use st_format::{Depth, Sampling};
+use st_format::Depth;
 use std::alloc::Allocator;
-
-fn sampling_text(sampling: Sampling) -> &'static [u8]
-    ensures { result.now ≡ sampling_text sampling }
-{
-    match sampling {
-        Sampling::Ycc422 => b"YCbCr-4:2:2",
-        Sampling::Ycc444 => b"YCbCr-4:4:4",
-        Sampling::Rgb => b"RGB",
-    }
-}
 
 fn depth_text(depth: Depth) -> &'static [u8]
     ensures { result.now ≡ depth_text depth }
@@ -90,7 +80,7 @@ fn written<A: Allocator + Copy>(alloc: A, sdp: &Sdp) -> Result<Vec<u8, A>, SdpFa
     add(&mut text, b"a=fmtp:")?;
     add_number(alloc, &mut text, sdp.payload_type as u32)?;
     add(&mut text, b" sampling=")?;
-    add(&mut text, sampling_text(sdp.format.sampling))?;
+    add(&mut text, sdp.format.sampling.word())?;
     add(&mut text, b"; width=")?;
     add_number(alloc, &mut text, sdp.format.width)?;
     add(&mut text, b"; height=")?;

@@ -26,10 +26,10 @@ ghost use Rattle.sdp_format.specs.Back.{ReadsBack};
 /// which tells the first fault, answers just that.
 pub fn text_faults()
     ensures said { (text : List ℕ) (d : Description) →
-        (IsDescribed d (video_sections (lines text))
+        (IsDescribed (video_sections (lines text)) d
         ↔ (text_walk text ≡ Ok d)) }
     ensures first_fault { (text : List ℕ) (fault : SdpFault) →
-        (IsTextFault fault (video_sections (lines text))
+        (IsTextFault (video_sections (lines text)) fault
         ↔ (text_walk text ≡ Err fault)) }
     ensures no_video { (text : List ℕ) →
         ((video_sections (lines text) ≡ [])
@@ -47,43 +47,43 @@ pub fn text_faults()
 pub fn section_faults()
     ensures bad_media_line { (s : Section) →
         ((((port payload_type : ℕ) → IsMediaLine s.media port payload_type → ⊥)
-        × NoneBefore BadMediaLine s)
+        × NoneBefore s BadMediaLine)
         ↔ (section_walk s ≡ Err BadMediaLine)) }
     ensures no_rtpmap { (s : Section) →
-        ((LacksLine (codes "a=rtpmap:") s × NoneBefore NoRtpmap s)
+        ((LacksLine s (codes "a=rtpmap:") × NoneBefore s NoRtpmap)
         ↔ (section_walk s ≡ Err NoRtpmap)) }
     ensures not_raw90000 { (s : Section) →
-        ((HasOtherMap s × NoneBefore NotRaw90000 s)
+        ((HasOtherMap s × NoneBefore s NotRaw90000)
         ↔ (section_walk s ≡ Err NotRaw90000)) }
     ensures no_fmtp { (s : Section) →
-        ((LacksLine (codes "a=fmtp:") s × NoneBefore NoFmtp s)
+        ((LacksLine s (codes "a=fmtp:") × NoneBefore s NoFmtp)
         ↔ (section_walk s ≡ Err NoFmtp)) }
     ensures bad_parameter { (s : Section) →
-        ((HasItemFault BadParameter s × NoneBefore BadParameter s)
+        ((HasItemFault s BadParameter × NoneBefore s BadParameter)
         ↔ (section_walk s ≡ Err BadParameter)) }
     ensures double_parameter { (s : Section) →
-        ((HasItemFault DoubleParameter s × NoneBefore DoubleParameter s)
+        ((HasItemFault s DoubleParameter × NoneBefore s DoubleParameter)
         ↔ (section_walk s ≡ Err DoubleParameter)) }
     ensures missing_parameter { (s : Section) →
-        ((HasItemFault MissingParameter s × NoneBefore MissingParameter s)
+        ((HasItemFault s MissingParameter × NoneBefore s MissingParameter)
         ↔ (section_walk s ≡ Err MissingParameter)) }
     ensures unsupported_sampling { (s : Section) →
-        ((HasItemFault UnsupportedSampling s × NoneBefore UnsupportedSampling s)
+        ((HasItemFault s UnsupportedSampling × NoneBefore s UnsupportedSampling)
         ↔ (section_walk s ≡ Err UnsupportedSampling)) }
     ensures unsupported_depth { (s : Section) →
-        ((HasItemFault UnsupportedDepth s × NoneBefore UnsupportedDepth s)
+        ((HasItemFault s UnsupportedDepth × NoneBefore s UnsupportedDepth)
         ↔ (section_walk s ≡ Err UnsupportedDepth)) }
     ensures interlaced { (s : Section) →
-        ((HasItemFault Interlaced s × NoneBefore Interlaced s)
+        ((HasItemFault s Interlaced × NoneBefore s Interlaced)
         ↔ (section_walk s ≡ Err Interlaced)) }
     ensures unsupported_packing { (s : Section) →
-        ((HasItemFault UnsupportedPacking s × NoneBefore UnsupportedPacking s)
+        ((HasItemFault s UnsupportedPacking × NoneBefore s UnsupportedPacking)
         ↔ (section_walk s ≡ Err UnsupportedPacking)) }
     ensures bad_ssn { (s : Section) →
-        ((HasItemFault BadSsn s × NoneBefore BadSsn s)
+        ((HasItemFault s BadSsn × NoneBefore s BadSsn)
         ↔ (section_walk s ≡ Err BadSsn)) }
     ensures bad_format { (s : Section) →
-        ((HasItemFault BadFormat s × NoneBefore BadFormat s)
+        ((HasItemFault s BadFormat × NoneBefore s BadFormat)
         ↔ (section_walk s ≡ Err BadFormat)) }
 {}
 

@@ -1,31 +1,14 @@
 //! What one section says.
 ghost use Rattle.std.specs.Prelude.{◌≡◌, ◌≤◌};
 ghost use Rattle.sdp_format.specs.Views.{items_in};
-ghost use Rattle.sdp_format.specs.Reading.{seen, Gives, format_of, sampling_named, depth_named};
+ghost use Rattle.sdp_format.specs.Reading.{seen, format_of, depth_named};
 ghost use Rattle.st_format.specs.Fields.{fields_of};
 
 use crate::fault::SdpFault;
 use crate::items::{Parameter, rate};
 use crate::lines::{begins, is_word};
 use crate::parameters::{is_interlaced, text_of};
-use crate::text::number;
-use st_format::{Depth, Format, Sampling};
-
-/// The sampling of a word.
-#[tactic(auto, unfolding(crate::specs::Reading::sampling_named))]
-fn sampling_named(text: &[u8]) -> Option<Sampling>
-    ensures { result ≡ sampling_named text.now }
-{
-    if is_word(text, b"YCbCr-4:2:2") {
-        Some(Sampling::Ycc422)
-    } else if is_word(text, b"YCbCr-4:4:4") {
-        Some(Sampling::Ycc444)
-    } else if is_word(text, b"RGB") {
-        Some(Sampling::Rgb)
-    } else {
-        None
-    }
-}
+use st_format::{Depth, Format, Sampling, read_number};
 
 /// The depth of a word.
 #[tactic(auto, unfolding(crate::specs::Reading::depth_named))]
@@ -50,7 +33,9 @@ fn depth_named(text: &[u8]) -> Option<Depth>
 pub(crate) fn format_of(list: &[Parameter<'_>]) -> Result<Format, SdpFault>
     ensures { seen fields_of result ≡ format_of (items_in list.now) }
 {
-    let sampling = sampling_named(text_of(list, b"sampling")).ok_or(SdpFault::UnsupportedSampling)?;
+    let sampling = Sampling::of_word(text_of(list, b"sampling")).ok_or(
+        SdpFault::UnsupportedSampling,
+    )?;
     let depth = depth_named(text_of(list, b"depth")).ok_or(SdpFault::UnsupportedDepth)?;
     if is_interlaced(list) {
         return Err(SdpFault::Interlaced);
@@ -61,8 +46,8 @@ pub(crate) fn format_of(list: &[Parameter<'_>]) -> Result<Format, SdpFault>
     if !begins(b"ST2110-20:", text_of(list, b"SSN")) {
         return Err(SdpFault::BadSsn);
     }
-    let width = number(text_of(list, b"width")).ok_or(SdpFault::BadParameter)?;
-    let height = number(text_of(list, b"height")).ok_or(SdpFault::BadParameter)?;
+    let width = read_number(text_of(list, b"width")).ok_or(SdpFault::BadParameter)?;
+    let height = read_number(text_of(list, b"height")).ok_or(SdpFault::BadParameter)?;
     let (n, d) = rate(text_of(list, b"exactframerate")).ok_or(SdpFault::BadParameter)?;
     match Format::new(sampling, depth, width, height, n, d) {
         Ok(format) => Ok(format),

@@ -3,12 +3,14 @@ ghost use Rattle.std.specs.Prelude.{◌≡◌, ◌∷◌, [], None, Some, MatchO
 ghost use Rattle.std.specs.Option.{option_copied};
 ghost use Rattle.std.specs.Str.{bytes_eq};
 ghost use Rattle.std.specs.Str.Lines.{strip_carriage_return};
-ghost use Rattle.sdp_format.specs.Bytes.{begins, lines, lines_left, attribute, at_most, number};
+ghost use Rattle.sdp_format.specs.Bytes.{begins, lines, lines_left, attribute, at_most};
+ghost use Rattle.st_format.specs.Words.{number};
 ghost use Rattle.sdp_format.specs.Sections.{video_sections, section_lines};
 ghost use Rattle.sdp_format.specs.Reading.{media_of, first_attribute, is_raw90000};
 ghost use Rattle.sdp_format.specs.ReadLeg.{section_of};
 
-use crate::text::{cut, number, trim, trim_end};
+use crate::text::{cut, trim, trim_end};
+use st_format::read_number;
 
 /// Whether a text is a word, its case as it is.
 pub(crate) fn is_word(text: &[u8], word: &[u8]) -> bool
@@ -71,7 +73,7 @@ fn attribute<'a>(word: &[u8], wanted: u8, line: &'a [u8]) -> Option<&'a [u8]>
         return None;
     }
     let (digits, rest) = cut(&line[word.len()..], b' ');
-    match number(digits) {
+    match read_number(digits) {
         Some(found) if found == wanted as u32 => rest,
         _ => None,
     }
@@ -106,7 +108,7 @@ fn small_number(text: &[u8], limit: u32) -> Option<u32>
     ensures value { result ≡ at_most limit (number text.now) }
     ensures limit { IfSome result (λ v. v ≤ limit) }
 {
-    match number(text) {
+    match read_number(text) {
         Some(value) if value <= limit => Some(value),
         _ => None,
     }

@@ -2,7 +2,7 @@
 ghost use Rattle.std.specs.Prelude.{◌≡◌, ◌∷◌, [], None, Some, IfOk, Err, Ok, if◌then◌else◌};
 ghost use Rattle.std.specs.Option.{option_copied};
 ghost use Rattle.sdp_format.specs.Naming.{items, has_double, value_of, has, text_of, required};
-ghost use Rattle.sdp_format.specs.Reading.{Gives, is_missing, is_interlaced};
+ghost use Rattle.sdp_format.specs.Reading.{GivesUnlessMemory, is_missing, is_interlaced};
 ghost use Rattle.sdp_format.specs.Views.{items_in};
 ghost use Rattle.sdp_format.specs.declared.fault.SdpFault.TheVariants.{DoubleParameter};
 
@@ -18,7 +18,7 @@ pub(crate) fn parameters_of<'a, A: Allocator + Copy>(
     alloc: A,
     text: &'a [u8],
 ) -> Result<Vec<Parameter<'a>, A>, SdpFault>
-    ensures { Gives (λ v. items_in v.items) result
+    ensures { GivesUnlessMemory (λ v. items_in v.items) result
         (if has_double (items text.now) then Err DoubleParameter else Ok (items text.now)) }
 {
     let mut list = Vec::new(alloc);

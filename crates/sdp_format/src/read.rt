@@ -6,11 +6,10 @@ ghost use Rattle.sdp_format.specs.Bytes.{lines};
 ghost use Rattle.sdp_format.specs.Views.{items_in, description};
 ghost use Rattle.sdp_format.specs.declared.fault.SdpFault.TheVariants.{NoMemory};
 ghost use Rattle.sdp_format.specs.Sections.{video_sections};
-ghost use Rattle.sdp_format.specs.Reading.{Gives, seen, leg_of, said_in, listing_walk, WantsMemory};
-ghost use Rattle.sdp_format.specs.Reading.{same_leg, same_sampling, same_depth, same_range};
-ghost use Rattle.sdp_format.specs.Reading.{same_format, section_walk, text_walk, sections_walk};
+ghost use Rattle.sdp_format.specs.Reading.{GivesUnlessMemory, WantsMemory, leg_of, listing_walk};
+ghost use Rattle.sdp_format.specs.Reading.{said_in, same_leg, same_range, section_walk};
+ghost use Rattle.sdp_format.specs.Reading.{sections_walk, seen, text_walk};
 ghost use Rattle.sdp_format.specs.Grammar.{IsDescribed, IsTextFault};
-ghost use Rattle.st_format.specs.Fields.{fields_of};
 ghost use Rattle.sdp_format.specs.Naming.{items, range_or};
 ghost use Rattle.sdp_format.specs.ReadLeg.{leg_seen, listed_seen, section_of};
 
@@ -21,7 +20,6 @@ use crate::lines::{first_attribute, is_raw90000, is_word, media_of, next_video};
 use crate::parameters::{is_missing, parameters_of, text_of, value_of};
 use crate::sdp::{Leg, Listed, Range, Sdp};
 use arrayvec::ArrayVec;
-use st_format::{Depth, Format, Sampling};
 use std::alloc::Allocator;
 
 /// The range of a word, and NARROW where there is none.
@@ -58,7 +56,7 @@ fn said_in(payload_type: u8, list: &[Parameter<'_>]) -> Result<Leg, SdpFault>
 #[tactic(auto, unfolding(crate::specs::Reading::leg_of))]
 fn leg_of<A: Allocator + Copy>(alloc: A, payload_type: u8, text: &[u8]) -> Result<Leg, SdpFault>
     requires { payload_type ≤ 127 }
-    ensures { Gives leg_seen result (leg_of payload_type (items text.now)) }
+    ensures { GivesUnlessMemory leg_seen result (leg_of payload_type (items text.now)) }
 {
     let list = parameters_of(alloc, text)?;
     said_in(payload_type, &list)
@@ -94,7 +92,7 @@ fn section<A: Allocator + Copy>(
     media: &[u8],
     left: Option<&[u8]>,
 ) -> Result<(u16, Leg), SdpFault>
-    ensures exact { Gives (λ x. (x.0, leg_seen x.1)) result
+    ensures exact { GivesUnlessMemory (λ x. (x.0, leg_seen x.1)) result
         (section_walk (section_of media.now (option_copied left.entry))) }
     ensures found { IsOk result
         → IsOk (listing_walk (section_of media.now (option_copied left.entry))) }
@@ -104,29 +102,6 @@ fn section<A: Allocator + Copy>(
     let listed = listed(media, left)?;
     let leg = leg_of(alloc, listed.payload_type, listed.text)?;
     Ok((listed.port, leg))
-}
-
-fn same_sampling(a: Sampling, b: Sampling) -> bool
-    ensures { result ≡ same_sampling a b }
-{
-    match (a, b) {
-        (Sampling::Ycc422, Sampling::Ycc422) => true,
-        (Sampling::Ycc444, Sampling::Ycc444) => true,
-        (Sampling::Rgb, Sampling::Rgb) => true,
-        _ => false,
-    }
-}
-
-fn same_depth(a: Depth, b: Depth) -> bool
-    ensures { result ≡ same_depth a b }
-{
-    match (a, b) {
-        (Depth::D8, Depth::D8) => true,
-        (Depth::D10, Depth::D10) => true,
-        (Depth::D12, Depth::D12) => true,
-        (Depth::D16, Depth::D16) => true,
-        _ => false,
-    }
 }
 
 fn same_range(a: Range, b: Range) -> bool
@@ -140,24 +115,13 @@ fn same_range(a: Range, b: Range) -> bool
     }
 }
 
-fn same_format(a: &Format, b: &Format) -> bool
-    ensures { result ≡ same_format (fields_of a.now) (fields_of b.now) }
-{
-    same_sampling(a.sampling, b.sampling)
-        && same_depth(a.depth, b.depth)
-        && a.width == b.width
-        && a.height == b.height
-        && a.n == b.n
-        && a.d == b.d
-}
-
 /// Whether two sections say the same.
 #[tactic(auto, unfolding(crate::specs::Reading::same_leg))]
 fn same_leg(a: &Leg, b: &Leg) -> bool
     ensures { result ≡ same_leg (leg_seen a.now) (leg_seen b.now) }
 {
     a.payload_type == b.payload_type
-        && same_format(&a.format, &b.format)
+        && a.format.same(&b.format)
         && same_range(a.range, b.range)
         && is_word(a.colorimetry.as_slice(), b.colorimetry.as_slice())
 }
@@ -185,7 +149,7 @@ fn described(ports: ArrayVec<u16, 2>, leg: Leg) -> Sdp
 /// A text of one section: its port, and what it says.
 #[tactic(auto, unfolding(crate::specs::Reading::sections_walk))]
 fn one<A: Allocator + Copy>(alloc: A, media: &[u8], left: Option<&[u8]>) -> Result<Sdp, SdpFault>
-    ensures exact { Gives description result
+    ensures exact { GivesUnlessMemory description result
         (sections_walk (section_of media.now (option_copied left.entry) ∷ [])) }
     ensures memory { IsErrOf result NoMemory
         → IsOk (listing_walk (section_of media.now (option_copied left.entry))) }
@@ -205,7 +169,7 @@ fn two<A: Allocator + Copy>(
     second_media: &[u8],
     second_left: Option<&[u8]>,
 ) -> Result<Sdp, SdpFault>
-    ensures exact { Gives description result
+    ensures exact { GivesUnlessMemory description result
         (sections_walk (section_of media.now (option_copied left.entry)
         ∷ section_of second_media.now (option_copied second_left.entry) ∷ [])) }
     ensures memory { IsErrOf result NoMemory
@@ -225,7 +189,7 @@ fn two<A: Allocator + Copy>(
 /// A text, from its first line on.
 #[tactic(auto, unfolding(crate::specs::Reading::text_walk, crate::specs::Reading::sections_walk))]
 fn read_text<A: Allocator + Copy>(alloc: A, text: &[u8]) -> Result<Sdp, SdpFault>
-    ensures exact { Gives description result (text_walk text.now) }
+    ensures exact { GivesUnlessMemory description result (text_walk text.now) }
     ensures memory { IsErrOf result NoMemory → WantsMemory (video_sections (lines text.now)) }
 {
     let Some((media, left)) = next_video(Some(text)) else {
@@ -250,13 +214,13 @@ fn read_text<A: Allocator + Copy>(alloc: A, text: &[u8]) -> Result<Sdp, SdpFault
 /// memory: those up to `BadParameter` of the first section.
 pub fn read_sdp<A: Allocator + Copy>(alloc: A, text: &[u8]) -> Result<Sdp, SdpFault>
     ensures said { IfOk result
-        (λ sdp. IsDescribed (description sdp) (video_sections (lines text.now))) }
+        (λ sdp. IsDescribed (video_sections (lines text.now)) (description sdp)) }
     ensures fault { IfErr result
-        (λ f. (f ≡ NoMemory) ⊎ IsTextFault f (video_sections (lines text.now))) }
+        (λ f. (f ≡ NoMemory) ⊎ IsTextFault (video_sections (lines text.now)) f) }
     ensures memory { IsErrOf result NoMemory → WantsMemory (video_sections (lines text.now)) }
 
     // The same by the walk, which tells one answer for each text.
-    ensures exact { Gives description result (text_walk text.now) }
+    ensures exact { GivesUnlessMemory description result (text_walk text.now) }
 {
     read_text(alloc, text)
 }
