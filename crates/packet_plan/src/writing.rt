@@ -20,7 +20,7 @@ use crate::stamp::Stamp;
 use payload_header::{SegmentHead, write_payload_header};
 use pgroup_pack::PackedPicture;
 use rtp_header::{RtpHead, write_rtp};
-use st_format::{Format, Picture};
+use st_format::{Format, Picture, are_octets};
 use std::alloc::Allocator;
 
 /// The octets of an RTP header without sources and extension (RFC 3550, 5.1).
@@ -149,13 +149,6 @@ fn packed_run<A: Allocator>(picture: &PackedPicture<A>, run: PacketRun) -> &[u8]
     let (_, from) = octets.split_at(start);
     let (of_run, _) = from.split_at(run.groups as usize * size);
     of_run
-}
-
-/// What their type tells of octets.
-fn are_octets(octets: &[u8])
-    ensures { AllByRecursion (λ v. v < 256) octets.now }
-{
-    let _octets = octets;
 }
 
 /// Writes the octets of a run behind the first `at`, and answers where they end. They are copied.

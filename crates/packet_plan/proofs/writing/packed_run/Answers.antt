@@ -36,5 +36,5 @@ returns g c =
     c.requires
     (c.row_groups_of.ensures.value ∙ ap row_groups c.format-format.ensures.value)
     (c.group_octets_of-size.ensures.value ∙ ap group_octets c.format-format.ensures.value)
-    c.octets-octets.ensures.spelled c.are_octets.ensures c.split_at.ensures.back
+    c.octets-octets.ensures.spelled c.are_octets.ensures.all c.split_at.ensures.back
     c.split_at-2.ensures.front
