@@ -15,7 +15,7 @@ pub(crate) const CAPTURE: &[u8] = b"S20CAP";
 pub(crate) const PICTURE: &[u8] = b"S20PIC";
 
 /// The versions of files, which are two digits behind a file's name.
-#[derive(Clone, Copy, Debug, PartialEq, Eq)]
+#[derive(Clone, Copy)]
 pub enum Version {
     /// `01`
     One,

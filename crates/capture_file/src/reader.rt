@@ -22,7 +22,7 @@ use st_format::{ByteSource, DatagramSource, SourceFault, Turn};
 use std::marker::Model;
 
 /// Where a reader stands.
-#[derive(Clone, Copy, Debug, PartialEq, Eq)]
+#[derive(Clone, Copy)]
 pub enum Standing {
     /// At the front of a record or at the end, which one isn't known.
     Reads,

@@ -3,7 +3,7 @@ use st_format::Path;
 use std::alloc::{Allocator, Global};
 
 /// What a record says before its octets.
-#[derive(Clone, Copy, Debug, PartialEq, Eq)]
+#[derive(Clone, Copy)]
 pub struct RecordHead {
     pub path: Path,
     /// What the writer handed in; it has no meaning to a reader.
