@@ -15,7 +15,7 @@ use st_format::ByteSource;
 const RECEIVER: &[u8] = b"S20RCV";
 
 /// The fields behind the format block.
-#[derive(Clone, Copy, Debug, PartialEq, Eq)]
+#[derive(Clone, Copy)]
 pub(crate) struct Head {
     /// Up to 127.
     pub payload_type: u8,
