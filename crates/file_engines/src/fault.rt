@@ -13,7 +13,7 @@ use std::alloc::AllocError;
 use std::fmt;
 
 /// What ends a run before its end.
-#[derive(Clone, Copy, Debug, PartialEq, Eq)]
+#[derive(Clone, Copy)]
 pub enum Fault {
     /// The words or the files are refused.
     Refused(Refusal),
@@ -24,7 +24,7 @@ pub enum Fault {
 }
 
 /// Why words or files are refused.
-#[derive(Clone, Copy, Debug, PartialEq, Eq)]
+#[derive(Clone, Copy)]
 pub enum Refusal {
     /// The text for a capture is longer than a capture's text may be.
     MigrateSdp,

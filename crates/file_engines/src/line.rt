@@ -4,7 +4,7 @@ use std::fmt;
 use tool_text::FrameLine;
 
 /// What a run says.
-#[derive(Clone, Copy, Debug, PartialEq, Eq)]
+#[derive(Clone, Copy)]
 pub enum Line {
     /// How many records were written.
     Records(u64),

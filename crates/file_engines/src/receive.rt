@@ -29,7 +29,7 @@ use tool_text::{LINE, Status, read_number, read_timestamps, tell_memory};
 const SDP: usize = 16_777_216;
 
 /// What `receive` is asked for, beside its files.
-#[derive(Clone, Copy, Debug, PartialEq, Eq)]
+#[derive(Clone, Copy)]
 pub struct Wanted<'a> {
     /// Timestamps with commas between.
     pub window: &'a [u8],

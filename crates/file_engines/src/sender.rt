@@ -10,7 +10,7 @@ use st_format::{ByteSink, DatagramSink};
 use std::alloc::Allocator;
 
 /// What `send` is asked for, beside its files.
-#[derive(Clone, Copy, Debug, PartialEq, Eq)]
+#[derive(Clone, Copy)]
 pub struct Sending {
     /// The payload type, at most 127.
     pub payload_type: u8,
