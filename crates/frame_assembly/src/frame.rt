@@ -92,6 +92,17 @@ impl<A: Allocator> Frame<A> {
         self.format
     }
 
+    /// What is so of every frame: it has a cell for each position, values that fit the depth, and
+    /// pgroups that are missing as wholes. A caller's proof learns it from here; nothing is done.
+    #[inline(always)]
+    pub fn facts(&self)
+        ensures whole { IsWhole self.now }
+        ensures fit { ValuesFit self.now }
+        ensures groups { GroupsAreWhole self.now }
+    {
+        let _format = &self.format;
+    }
+
     /// What is known of the sample at a row, a column and a component: 0, 1, 2 are Y, Cb, Cr or R,
     /// G, B.
     ///

@@ -173,6 +173,12 @@ pub walk_some : (f : Format) (size : ℕ) (ss : List ℕ) → IsWalk f size 0 ss
 walk_some f size [] h = absurd (omega (arith, some_count f))
 walk_some f size (s ∷ ss) h = omega arith
 
+-- the same of the packets themselves
+pub some_packets : (f : Format) (size : ℕ) (ss : List ℕ) → IsWalk f size 0 ss (group_count f)
+    → 0 < length (map (packet_from f size) ss)
+some_packets f size ss h =
+    omega (arith, length-map (packet_from f size) ss, walk_some f size ss h)
+
 -- each packet fits where the greatest size does
 pub size_room : (f : Format) (size n : ℕ) (qs : List (List PacketRun)) → size ≤ n
     → AllByRecursion (IsPacket f size) qs → AllByRecursion (λ packet. packet_octets f packet ≤ n) qs

@@ -148,6 +148,16 @@ impl<A: Allocator> Plan<A> {
         self.starts.len() as u32
     }
 
+    /// What is so of every plan: it has a packet, and what [`new`](Plan::new) says of its packets. A
+    /// caller's proof learns it from here; nothing is done.
+    #[inline(always)]
+    pub fn facts(&self)
+        ensures some { 0 < length self.now.packets }
+        ensures full { IsFullPlan self.now.format self.now.max_octets self.now.packets }
+    {
+        let _format = &self.format;
+    }
+
     /// The runs of a packet, one for each of its segments.
     pub fn packet(&self, index: u32) -> ArrayVec<PacketRun, 3>
         requires { index < length self.now.packets }

@@ -1,7 +1,8 @@
 use Rattle.std.proofs.Common.{◌<◌, ◌≤◌, ◌*◌, length, subst, arith}
 use Rattle.packet_plan.specs.Plan.{RasterPlan, IsFullPlan}
 use Rattle.packet_plan.specs.Greedy.{packet_from}
-use Rattle.packet_plan.proofs.Walks.{promised, length-map, walk_count, walk_some, group_count_most}
+use Rattle.packet_plan.proofs.Walks.{promised, length-map, some_packets, walk_count}
+use Rattle.packet_plan.proofs.Walks.{group_count_most}
 use Rattle.packet_plan.proofs.plan.Plan.len.Goals as goal
 
 pub returns-clause-full : goal.returns-clause-full
@@ -26,11 +27,7 @@ pub returns-clause-some : goal.returns-clause-some
 returns-clause-some g c =
     let inside = c.self.inside in
     subst (λ (p : RasterPlan). 0 < length p.packets) c.self.view_is
-    (omega (
-      arith,
-      length-map (packet_from inside.format inside.max_octets) inside.starts.items,
-      walk_some inside.format inside.max_octets inside.starts.items c.self.invariant.1,
-    ))
+    (some_packets inside.format inside.max_octets inside.starts.items c.self.invariant.1)
 
 pub overflow_cast-result : goal.overflow_cast-result
 overflow_cast-result g c =
