@@ -108,6 +108,8 @@ frames_outside s d a is read out =
     ∙ cells_kept s.opening.format [] ts a.timestamp a.segments
     (λ e. out (subst (λ (x : ℕ). IsMember x s.opening.window) (sym e) m)))
 
+pub ruleset frames_left_alone = (frames_refused, frames_outside)
+
 -- Offers at the timestamp of one place are joined to its frame.
 put_at : (f : Format) (os : List Offer) (ts i : ℕ) (w : List ℕ) (rs : List Raster) (new d : Raster)
     → AreDifferent w → slice_get w i ≡ Some ts → length rs ≡ length w

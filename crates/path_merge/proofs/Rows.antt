@@ -72,8 +72,8 @@ two_datagrams : frames_of opening (d1 ∷ d2 ∷ d1 ∷ [])
     ≡ record {
       format = f1;
       cells =
-          (Value 128 ∷ Contested ∷ Value 128 ∷ Value 17 ∷ Value 128 ∷ Value 18 ∷ Value 128 ∷ Value 19
-          ∷ []) ++ missing_row;
+          (Value 128 ∷ Contested ∷ Value 128 ∷ Value 17 ∷ Value 128 ∷ Value 18 ∷ Value 128
+          ∷ Value 19 ∷ []) ++ missing_row;
     } ∷ []
 unfolding place place_in_row bits number pieces values_in header_of headers_at payload_walk
     rtp_walk datagram_walk

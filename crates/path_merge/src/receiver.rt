@@ -123,6 +123,16 @@ impl<A: Allocator + Copy> Receiver<A> {
 }
 
 impl<A: Allocator> Receiver<A> {
+    /// What is so of every receiver: a payload type of 7 bits, a window of 1 to 16 timestamps that
+    /// differ, a frame of its format for each, and at most 64 refusals. A caller's proof learns it
+    /// from here; nothing is done.
+    #[inline(always)]
+    pub fn facts(&self)
+        ensures { IsReceiver self.now }
+    {
+        let _format = &self.format;
+    }
+
     /// Takes a datagram that came by a path: joins what it offers to the frame of its timestamp.
     ///
     /// The first refusal is answered, in the order of their numbers. A refused datagram changes no
@@ -169,7 +179,7 @@ impl<A: Allocator> Receiver<A> {
     }
 
     /// Joins what a datagram offers.
-    #[tactic(auto, using(crate::proofs::Joined::frames_refused, crate::proofs::Joined::frames_outside))]
+    #[tactic(auto, using(crate::proofs::Joined::frames_left_alone))]
     fn join(&mut self, octets: &[u8]) -> Result<Taken, Refusal>
         ensures answer { result ≡ taken_at self.old.opening octets.now }
         ensures opening { self.new.opening ≡ self.old.opening }
@@ -307,8 +317,7 @@ impl<A: Allocator> Receiver<A> {
         ensures frame { slice_get self.old.frames place ≡ Some frame.new }
         ensures receiver { IsReceiver self.new }
     {
-        // What its format tells: it has a cell for each position
-        frame.format();
+        frame.facts();
         mem::swap(&mut self.frames[place], frame);
     }
 

@@ -87,8 +87,8 @@ pub fn receive<S: DatagramSource, A: Allocator>(
     ensures receiver { IsReceiver receiver.new }
     ensures room { length buf.new ≡ length buf.old }
 {
-    // Says what a receiver always is, where not one turn is taken too.
-    let _ = receiver.format();
+    // It is one where not one turn is taken too.
+    receiver.facts();
     take_turns(source, receiver, buf, limit)
 }
 

@@ -33,6 +33,7 @@ pub fn open<A: Allocator + Copy, B: Allocator>(
     let format = plan.format();
     let opened = open_receivers(alloc, format, stamp, window, receivers)?;
     let buf = room(alloc, plan)?;
+    plan.facts();
     Ok(Stage {
         receivers: opened,
         handed: Vec::new(alloc),
@@ -88,11 +89,8 @@ fn open_receivers<A: Allocator + Copy>(
 /// Room for each datagram of a plan.
 fn room<A: Allocator, B: Allocator>(alloc: A, plan: &Plan<B>) -> Result<Vec<u8, A>, PlayFault>
     ensures room { IfOk result (λ buf. EachHasRoom plan.now (length buf.items)) }
-    ensures some { IfOk result (λ _. 0 < length plan.now.packets) }
     ensures memory { OnErr result (result ≡ Err PlayFault.NoMemory) }
 {
-    // Says that there is a packet
-    let _ = plan.len();
     let octets = plan.max_octets() as usize;
     match Vec::from_elem(alloc, 0, octets) {
         Ok(buf) => Ok(buf),

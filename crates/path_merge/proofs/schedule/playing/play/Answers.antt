@@ -58,16 +58,16 @@ returns-clause-played g c =
 
 pub returns-clause-list : goal.returns-clause-list
 returns-clause-list g c =
-    texts_list c.args.plan.now c.args.stamp c.args.pictures.now c.len.ensures.full
-    (omega (arith, c.requires)) c.source_of.ensures.fits
+    texts_list c.args.plan.now c.args.stamp c.args.pictures.now c.facts.ensures.full
+    (omega (arith, c.requires)) c.stamp_facts.ensures
     (subst (λ
     (f : Format). ArePictures c.args.pictures.now f) c.format.ensures c.in_ok-check.ensures.fine.1)
     c.in_ok-check.ensures.whole
 
 pub returns-clause-packets : goal.returns-clause-packets
 returns-clause-packets g c =
-    texts_by c.args.plan.now c.args.stamp c.args.pictures.now c.len.ensures.full
-    (omega (arith, c.requires)) c.source_of.ensures.fits
+    texts_by c.args.plan.now c.args.stamp c.args.pictures.now c.facts.ensures.full
+    (omega (arith, c.requires)) c.stamp_facts.ensures
     (subst (λ
     (f : Format). ArePictures c.args.pictures.now f) c.format.ensures c.in_ok-check.ensures.fine.1)
     c.in_ok-check.ensures.whole
@@ -83,8 +83,8 @@ returns-clause-senders g c stay frame is =
       first = c.args.stamp.first;
       datagrams = scene.sent;
       list =
-          texts_list c.args.plan.now c.args.stamp c.args.pictures.now c.len.ensures.full
-          (omega (arith, c.requires)) c.source_of.ensures.fits
+          texts_list c.args.plan.now c.args.stamp c.args.pictures.now c.facts.ensures.full
+          (omega (arith, c.requires)) c.stamp_facts.ensures
           (subst (λ
           (f : Format). ArePictures c.args.pictures.now f) c.format.ensures
           c.in_ok-check.ensures.fine.1) c.in_ok-check.ensures.whole;
