@@ -26,8 +26,8 @@ use Rattle.st_format.proofs.Numbering.{number_of-place}
 use Rattle.frame_assembly.specs.Rows.{IsMarkOf, group_cells}
 use Rattle.frame_assembly.proofs.Segments.{sample_count_groups}
 use Rattle.frame_report.specs.Contested.{contested_at, contested_in_group, contested_line}
-use Rattle.frame_report.specs.Contested.{component_names, contested_in_row, contested_lines, line_where}
-use Rattle.frame_report.specs.Contested.{sample_text, spot}
+use Rattle.frame_report.specs.Contested.{component_names, contested_in_row, contested_lines}
+use Rattle.frame_report.specs.Contested.{line_where, sample_text, spot}
 use Rattle.frame_report.proofs.Ranges.{texts_empty, texts_mapped, texts_none}
 
 -- ---- how long a group is

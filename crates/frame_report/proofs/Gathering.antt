@@ -120,8 +120,8 @@ put_none known page whole rest e =
     record { text = []; gathered = gathers_none known page; all = e }
 
 pub put_more : (old mid new : Option (List ℕ)) (page page' page'' here first rest whole : List ℕ)
-    → IsPut old mid page page' here whole → here ≡ first ++ rest → Gathers mid new page' page'' first
-    → IsPut old new page page'' rest whole
+    → IsPut old mid page page' here whole → here ≡ first ++ rest
+    → Gathers mid new page' page'' first → IsPut old new page page'' rest whole
 put_more old mid new page page' page'' here first rest whole p e q = record {
   text = p.text ++ first;
   gathered = gathers_then old mid new page page' page'' p.text first p.gathered q;

@@ -63,7 +63,8 @@ flag_is marks group lt =
 
 -- ---- runs that are told by numbers from 0 on
 
-closed_same : (start end : ℕ) → end < 2 ^ 32 → map (numbered 0) (closed start end) ≡ closed start end
+closed_same : (start end : ℕ) → end < 2 ^ 32
+    → map (numbered 0) (closed start end) ≡ closed start end
 closed_same start end small =
     elim (cases_lt start end) [
       | inl lt ↦
@@ -143,7 +144,8 @@ row_is r row columns marks long few each some e =
     ap (λ (c : ℕ). flat_map (missing_line c row) (runs_from 0 0 (flags_in marks))) e
     ∙ ap (flat_map (missing_line (pixel_group r.format.sampling r.format.depth).pixels row))
     (sym (runs_same 0 0 (flags_in marks) small)
-    ∙ ap (λ (fs : List Bool). map (numbered 0) (runs_from 0 0 fs)) (flags_are r row marks long each some))
+    ∙ ap (λ (fs : List Bool). map (numbered 0) (runs_from 0 0 fs))
+    (flags_are r row marks long each some))
 
 -- the line of one run
 pub run_line : (columns row start end first last : ℕ) → start < end → first ≡ columns * start

@@ -1,6 +1,6 @@
 //! The lines of contested samples.
-ghost use Rattle.std.specs.Prelude.{◌≡◌, ◌==◌, ◌≤◌, ◌<◌, ◌+◌, ◌++◌, [], OnErr, OnOk, count_by, length};
-ghost use Rattle.std.specs.Prelude.{slice_index_or};
+ghost use Rattle.std.specs.Prelude.{◌≡◌, ◌==◌, ◌≤◌, ◌<◌, ◌+◌, ◌++◌, [], OnErr, OnOk, count_by};
+ghost use Rattle.std.specs.Prelude.{length, slice_index_or};
 ghost use Rattle.std.specs.Int.{bit_at};
 ghost use Rattle.st_format.specs.Cell.{is_contested};
 ghost use Rattle.st_format.specs.Device.{AppendsPrefix, CountsFaults};
@@ -13,6 +13,7 @@ ghost use Rattle.frame_report.specs.Contested.{sample_text, spot};
 ghost use Rattle.frame_report.specs.Contested.{contested_in_row, contested_line, contested_lines};
 
 use crate::page::{GATHERED, LINE, Page};
+use crate::rows::{RowLines, put_rows};
 use frame_assembly::Frame;
 use st_format::{ByteSink, DeviceFault, Sampling};
 use std::alloc::Allocator;
@@ -40,50 +41,27 @@ pub(crate) fn put_contested<A: Allocator, K: ByteSink>(
     if contested == 0 {
         return Ok(());
     }
-    put_rows(page, sink, frame)
+    put_rows::<ContestedSamples, A, K>(page, sink, frame)
 }
 
-/// Puts the lines of all rows.
-fn put_rows<A: Allocator, K: ByteSink>(
-    page: &mut Page,
-    sink: &mut K,
-    frame: &Frame<A>,
-) -> Result<(), DeviceFault>
-    ensures ok { OnOk result
-        (Gathers (K.held sink.old) (K.held sink.new) page.old page.new
-        (contested_lines frame.now)) }
-    ensures fault { OnErr result
-        (AppendsPrefix (K.held sink.old) (K.held sink.new)
-        (page.old ++ contested_lines frame.now)) }
-    ensures counted { CountsFaults (K.failures sink.old) (K.failures sink.new) result }
-{
-    for row in 0..frame.format().height() {
-        put_row(page, sink, frame, row)?;
-    }
-    Ok(())
-}
+/// The lines of the contested samples, pixel group by pixel group.
+struct ContestedSamples;
 
-/// Puts the lines of a row, pixel group by pixel group.
-fn put_row<A: Allocator, K: ByteSink>(
-    page: &mut Page,
-    sink: &mut K,
-    frame: &Frame<A>,
-    row: u32,
-) -> Result<(), DeviceFault>
-    requires { row < frame.now.format.height }
-    ensures ok { OnOk result
-        (Gathers (K.held sink.old) (K.held sink.new) page.old page.new
-        (contested_in_row frame.now row)) }
-    ensures fault { OnErr result
-        (AppendsPrefix (K.held sink.old) (K.held sink.new)
-        (page.old ++ contested_in_row frame.now row)) }
-    ensures counted { CountsFaults (K.failures sink.old) (K.failures sink.new) result }
-{
-    let marks = frame.marks(row);
-    for group in 0..marks.len() {
-        put_group(page, sink, frame, row, group, marks[group])?;
+impl RowLines for ContestedSamples {
+    ghost lines = { contested_in_row };
+
+    fn put_row<A: Allocator, K: ByteSink>(
+        page: &mut Page,
+        sink: &mut K,
+        frame: &Frame<A>,
+        row: u32,
+    ) -> Result<(), DeviceFault> {
+        let marks = frame.marks(row);
+        for group in 0..marks.len() {
+            put_group(page, sink, frame, row, group, marks[group])?;
+        }
+        Ok(())
     }
-    Ok(())
 }
 
 /// Puts the lines of a group of this mark word.
@@ -108,8 +86,7 @@ fn put_group<A: Allocator, K: ByteSink>(
     ensures counted { CountsFaults (K.failures sink.old) (K.failures sink.new) result }
 {
     if mark <= WHOLE {
-        // What its format tells: it has a cell for each position
-        frame.format().pgroup();
+        frame.facts();
         return Ok(());
     }
     put_samples(page, sink, frame, row, group, mark)

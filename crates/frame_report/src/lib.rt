@@ -11,6 +11,7 @@ mod missing;
 mod opening;
 mod page;
 mod report;
+mod rows;
 
 pub use fault::ReportFault;
 pub use report::write_report;

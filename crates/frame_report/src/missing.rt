@@ -7,9 +7,11 @@ ghost use Rattle.st_format.specs.Cell.{is_missing};
 ghost use Rattle.st_format.specs.Device.{AppendsPrefix, CountsFaults};
 ghost use Rattle.packet_numbers.specs.Numbers.{closed, runs_from};
 ghost use Rattle.frame_report.specs.Gathers.{Gathers};
-ghost use Rattle.frame_report.specs.Missing.{flags_in, missing_in_row, missing_line, missing_lines, run_text};
+ghost use Rattle.frame_report.specs.Missing.{flags_in, missing_in_row, missing_line, missing_lines};
+ghost use Rattle.frame_report.specs.Missing.{run_text};
 
 use crate::page::{GATHERED, LINE, Page};
+use crate::rows::{RowLines, put_rows};
 use frame_assembly::Frame;
 use st_format::{ByteSink, DeviceFault};
 use std::alloc::Allocator;
@@ -32,51 +34,27 @@ pub(crate) fn put_missing<A: Allocator, K: ByteSink>(
     ensures counted { CountsFaults (K.failures sink.old) (K.failures sink.new) result }
 {
     if missing == 0 {
-        // What its format tells: it has a cell for each position
-        frame.format();
+        frame.facts();
         return Ok(());
     }
-    put_rows(page, sink, frame)
+    put_rows::<MissingGroups, A, K>(page, sink, frame)
 }
 
-/// Puts the lines of all rows.
-fn put_rows<A: Allocator, K: ByteSink>(
-    page: &mut Page,
-    sink: &mut K,
-    frame: &Frame<A>,
-) -> Result<(), DeviceFault>
-    ensures ok { OnOk result
-        (Gathers (K.held sink.old) (K.held sink.new) page.old page.new
-        (missing_lines frame.now)) }
-    ensures fault { OnErr result
-        (AppendsPrefix (K.held sink.old) (K.held sink.new)
-        (page.old ++ missing_lines frame.now)) }
-    ensures counted { CountsFaults (K.failures sink.old) (K.failures sink.new) result }
-{
-    for row in 0..frame.format().height() {
-        put_row(page, sink, frame, row)?;
+/// The lines of the missing groups.
+struct MissingGroups;
+
+impl RowLines for MissingGroups {
+    ghost lines = { missing_in_row };
+
+    fn put_row<A: Allocator, K: ByteSink>(
+        page: &mut Page,
+        sink: &mut K,
+        frame: &Frame<A>,
+        row: u32,
+    ) -> Result<(), DeviceFault> {
+        let columns = u64::from(frame.format().pgroup().pixels);
+        put_runs(page, sink, frame.marks(row), columns, row)
     }
-    Ok(())
-}
-
-/// Puts the lines of a row.
-fn put_row<A: Allocator, K: ByteSink>(
-    page: &mut Page,
-    sink: &mut K,
-    frame: &Frame<A>,
-    row: u32,
-) -> Result<(), DeviceFault>
-    requires { row < frame.now.format.height }
-    ensures ok { OnOk result
-        (Gathers (K.held sink.old) (K.held sink.new) page.old page.new
-        (missing_in_row frame.now row)) }
-    ensures fault { OnErr result
-        (AppendsPrefix (K.held sink.old) (K.held sink.new)
-        (page.old ++ missing_in_row frame.now row)) }
-    ensures counted { CountsFaults (K.failures sink.old) (K.failures sink.new) result }
-{
-    let columns = u64::from(frame.format().pgroup().pixels);
-    put_runs(page, sink, frame.marks(row), columns, row)
 }
 
 /// Puts the lines of a row's mark words, of so many columns a group.

@@ -29,7 +29,8 @@ returns-in_err-put_sample-clause-fault g c =
     let n : ℕ = (pixel_group r.format.sampling r.format.depth).samples in
     let count : c.pgroup-samples.result.samples ≡ n =
     c.pgroup-samples.ensures.samples
-    ∙ ap (λ (f : Format). (pixel_group f.sampling f.depth).samples) c.format-format.ensures.format in
+    ∙ ap (λ (f : Format). (pixel_group f.sampling f.depth).samples)
+    c.format-format.ensures.format in
     let lt : i < n = subst (λ (k : ℕ). i < k) count c.loop-i-test.true in
     let rest : List ℕ = texts_from (line_by r c.args.row c.args.group c.args.mark) (i + 1) n in
     let here : List ℕ =
@@ -52,7 +53,8 @@ loop-i-preserved g c =
     let n : ℕ = (pixel_group r.format.sampling r.format.depth).samples in
     let count : c.pgroup-samples.result.samples ≡ n =
     c.pgroup-samples.ensures.samples
-    ∙ ap (λ (f : Format). (pixel_group f.sampling f.depth).samples) c.format-format.ensures.format in
+    ∙ ap (λ (f : Format). (pixel_group f.sampling f.depth).samples)
+    c.format-format.ensures.format in
     let lt : i < n = subst (λ (k : ℕ). i < k) count c.loop-i-test.true in
     let rest : List ℕ = texts_from (line_by r c.args.row c.args.group c.args.mark) (i + 1) n in
     let here : List ℕ =
@@ -78,7 +80,8 @@ returns-clause-ok g c =
     let n : ℕ = (pixel_group r.format.sampling r.format.depth).samples in
     let count : c.pgroup-samples.result.samples ≡ n =
     c.pgroup-samples.ensures.samples
-    ∙ ap (λ (f : Format). (pixel_group f.sampling f.depth).samples) c.format-format.ensures.format in
+    ∙ ap (λ (f : Format). (pixel_group f.sampling f.depth).samples)
+    c.format-format.ensures.format in
     let le : n ≤ i = subst (λ (k : ℕ). k ≤ i) count c.loop-i-test.false in
     put_all _ _ _ _ _ _ c.loop-i.invariant.put
     (texts_end (line_by r c.args.row c.args.group c.args.mark) i n le)

@@ -7,6 +7,6 @@ use Rattle.frame_report.proofs.missing.put_missing.Goals as goal
 pub returns-then-missing-eq0-clause-ok : goal.returns-then-missing-eq0-clause-ok
 returns-then-missing-eq0-clause-ok g c =
     put_all _ _ _ _ _ _ (put_none _ _ _ _ refl)
-    (rows_none c.args.frame.now c.format.ensures.whole
+    (rows_none c.args.frame.now c.facts.ensures.whole
     (some_samples c.args.frame.now.format.sampling c.args.frame.now.format.depth)
     (omega (arith, c.requires, c.if-missing-eq0.true)))

@@ -6,7 +6,7 @@ use Rattle.packet_numbers.specs.Numbers.{runs_from}
 use Rattle.frame_report.specs.Missing.{flags_in, missing_in_row, missing_line}
 use Rattle.frame_report.proofs.ContestedTexts.{group_some}
 use Rattle.frame_report.proofs.MissingTexts.{row_is}
-use Rattle.frame_report.proofs.missing.put_row.Goals as goal
+use Rattle.frame_report.proofs.missing.MissingGroupsRowLines.put_row.Goals as goal
 
 pub returns-clause-ok : goal.returns-clause-ok
 returns-clause-ok g c =

@@ -1,16 +1,15 @@
 use Rattle.std.proofs.Common.{◌<◌, ◌≤◌, ◌≡◌, ◌+◌, ◌∙◌, ap, refl, subst, ℕ}
 use Rattle.std.proofs.lemmas.Result.{err_from_is_err_and}
 use Rattle.st_format.specs.declared.format.Format.{Format}
-use Rattle.frame_report.specs.Missing.{missing_in_row}
 use Rattle.frame_report.proofs.Gathering.{put_all, put_cut, put_more, put_none}
 use Rattle.frame_report.proofs.Ranges.{texts_all, texts_end, texts_from, texts_here}
-use Rattle.frame_report.proofs.missing.put_rows.Goals as goal
+use Rattle.frame_report.proofs.rows.put_rows.Goals as goal
 
 pub loop-row-init : goal.loop-row-init
 loop-row-init g c = record {
   put =
       put_none _ _ _ _
-      (texts_all (missing_in_row c.args.frame.now) c.args.frame.now.format.height);
+      (texts_all (g.L.RowLines.lines c.args.frame.now) c.args.frame.now.format.height);
   failures = refl;
 }
 
@@ -24,9 +23,9 @@ returns-in_err-put_row-clause-fault g c =
     subst (λ (k : ℕ). c.loop-row.row < k) n c.loop-row-test.true in
     rw (p.1)
     (put_cut _ _ _ _ _ _ _
-    (texts_from (missing_in_row c.args.frame.now) (c.loop-row.row + 1) f.height) _
+    (texts_from (g.L.RowLines.lines c.args.frame.now) (c.loop-row.row + 1) f.height) _
     c.loop-row.invariant.put
-    (texts_here (missing_in_row c.args.frame.now) c.loop-row.row f.height lt)
+    (texts_here (g.L.RowLines.lines c.args.frame.now) c.loop-row.row f.height lt)
     c.in_err-put_row.ensures.fault)
 
 pub loop-row-preserved : goal.loop-row-preserved
@@ -39,9 +38,9 @@ loop-row-preserved g c =
     record {
       put =
           put_more _ _ _ _ _ _ _ _
-          (texts_from (missing_in_row c.args.frame.now) (c.loop-row.row + 1) f.height) _
+          (texts_from (g.L.RowLines.lines c.args.frame.now) (c.loop-row.row + 1) f.height) _
           c.loop-row.invariant.put
-          (texts_here (missing_in_row c.args.frame.now) c.loop-row.row f.height lt)
+          (texts_here (g.L.RowLines.lines c.args.frame.now) c.loop-row.row f.height lt)
           c.in_ok-put_row.ensures.ok;
       failures = c.in_ok-put_row.ensures.counted ∙ c.loop-row.invariant.failures;
     }
@@ -54,4 +53,4 @@ returns-clause-ok g c =
     let le : f.height ≤ c.loop-row.row =
     subst (λ (k : ℕ). k ≤ c.loop-row.row) n c.loop-row-test.false in
     put_all _ _ _ _ _ _ c.loop-row.invariant.put
-    (texts_end (missing_in_row c.args.frame.now) c.loop-row.row f.height le)
+    (texts_end (g.L.RowLines.lines c.args.frame.now) c.loop-row.row f.height le)

@@ -3,7 +3,7 @@ use Rattle.st_format.specs.Position.{row_groups}
 use Rattle.frame_report.specs.Contested.{contested_in_group, contested_in_row}
 use Rattle.frame_report.proofs.Gathering.{IsPut}
 use Rattle.frame_report.proofs.Ranges.{texts_from}
-use Rattle.frame_report.proofs.contested.put_row.Given as goal
+use Rattle.frame_report.proofs.contested.ContestedSamplesRowLines.put_row.Given as goal
 
 pub record Putting (so_far count : Type 0) : Type 0 where
   pub put : so_far

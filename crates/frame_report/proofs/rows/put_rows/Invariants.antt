@@ -1,8 +1,8 @@
 use Rattle.std.proofs.Common.{◌≡◌}
-use Rattle.frame_report.specs.Missing.{missing_in_row, missing_lines}
+use Rattle.std.specs.List.{flat_map, range_with_len}
 use Rattle.frame_report.proofs.Gathering.{IsPut}
 use Rattle.frame_report.proofs.Ranges.{texts_from}
-use Rattle.frame_report.proofs.missing.put_rows.Given as goal
+use Rattle.frame_report.proofs.rows.put_rows.Given as goal
 
 pub record Putting (so_far count : Type 0) : Type 0 where
   pub put : so_far
@@ -11,5 +11,6 @@ pub record Putting (so_far count : Type 0) : Type 0 where
 abbrev pub invariant-loop-row : goal.invariant-loop-row
 invariant-loop-row g l = Putting
     (IsPut (g.K.ByteSink.held l.initial.sink) (g.K.ByteSink.held l.sink) l.initial.page l.page
-    (texts_from (missing_in_row l.frame) l.row l.frame.format.height) (missing_lines l.frame))
+    (texts_from (g.L.RowLines.lines l.frame) l.row l.frame.format.height)
+    (flat_map (g.L.RowLines.lines l.frame) (range_with_len 0 l.frame.format.height)))
     (g.K.ByteSink.failures l.sink ≡ g.K.ByteSink.failures l.initial.sink)
