@@ -50,5 +50,5 @@ fn tell_timestamps(timestamps: &[u32])
 fn tell_frame<A: Allocator>(frame: &Frame<A>)
     ensures { IsFilled frame.now }
 {
-    frame.format();
+    frame.facts();
 }

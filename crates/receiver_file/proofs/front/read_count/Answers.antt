@@ -1,7 +1,9 @@
 use Rattle.std.proofs.lemmas.Result.{err_from_is_err_and}
 use Rattle.receiver_file.proofs.Fronting.{count_cut, count_gives, count_many, count_none}
-use Rattle.receiver_file.proofs.front.read_count.Goals.{then-count-eq0-via-then-count-eq0}
-use Rattle.receiver_file.proofs.front.read_count.Goals.{then-count-eq0-via-else-count-eq0+then-count-gt16}
+use Rattle.receiver_file.proofs.front.read_count.Goals.{
+  then-count-eq0-via-then-count-eq0,
+  then-count-eq0-via-else-count-eq0+then-count-gt16,
+}
 use Rattle.receiver_file.proofs.front.read_count.Goals as goal
 
 pub returns-in_err-count-clause-fault : goal.returns-in_err-count-clause-fault
