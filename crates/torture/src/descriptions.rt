@@ -1,6 +1,6 @@
-//! Hostile SDP texts: sections that go wrong in chosen places, so that the first fault is known from how
-//! the text was made; and such texts with octets turned, cut off and put in, of which what is read has a
-//! canonical line that reads back.
+//! Hostile SDP texts: sections that go wrong in chosen places, so that the first fault is known
+//! from how the text was made; and such texts with octets turned, cut off and put in, of which what
+//! is read has a canonical line that reads back.
 use crate::fault::Fault;
 use crate::generator::Generator;
 use crate::hostile::spoil;
@@ -10,7 +10,8 @@ use std::alloc::Global;
 /// How often each answer came: faults 2 to 17 by their numbers, and 0 where there was none.
 pub type Totals = [u64; 18];
 
-/// What a section says in the place of each fault from 4 to 15: soundly, and so that it is at fault.
+/// What a section says in the place of each fault from 4 to 15: soundly, and so that it is at
+/// fault.
 const PARTS: [(&[u8], &[u8]); 12] = [
     (b"m=video 5004 RTP/AVP 112\n", b"m=video 5004 RTP/AVP 128\n"),
     (b"a=rtpmap:0112 ", b"a=rtpmap:113 "),

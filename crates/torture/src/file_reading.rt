@@ -1,5 +1,6 @@
-//! A second reading of files, written apart from the libraries: the number of the first fault in the
-//! order of the octets (docs/FORMATS.md, "Files").
+//! A second reading of files, written apart from the libraries: what a capture says, and the number
+//! of the first fault in the order of the octets (docs/FORMATS.md, "Captures", "Picture files" and
+//! "A receiver's file").
 
 /// Faults of files by their numbers.
 const BAD_NAME: u8 = 3;
@@ -101,10 +102,20 @@ fn are_coprime(n: u32, d: u32) -> bool {
     false
 }
 
-/// Whether a rate is one, in lowest terms.
-fn is_rate(n: u32, d: u32) -> bool {
-    let least = d <= n && n / 300 <= d && (n / 300 < d || n % 300 == 0);
-    1 <= d && n <= 1_000_000 && d <= 1_000_000 && least && are_coprime(n, d)
+/// Whether a rate is one, in any terms: from 1 to 300 (own).
+pub fn is_rate(n: u32, d: u32) -> bool {
+    let is_within = d <= n && n / 300 <= d && (n / 300 < d || n % 300 == 0);
+    1 <= d && n <= 1_000_000 && d <= 1_000_000 && is_within
+}
+
+/// Whether a width is one of pixel groups of so many pixels (own).
+pub fn is_width(width: u32, pixels: u32) -> bool {
+    2 <= width && width <= 8192 && width % 2 == 0 && width % pixels.max(1) == 0
+}
+
+/// Whether a height is one (own).
+pub fn is_height(height: u32) -> bool {
+    1 <= height && height <= 8192
 }
 
 /// The groups of a format block.
@@ -118,8 +129,8 @@ fn block(octets: &mut Octets<'_>) -> Result<Groups, u8> {
     let Some((size, pixels, samples)) = group_of(sampling, depth) else {
         return Err(BAD_FIELD);
     };
-    let is_wide = 2 <= width && width <= 8192 && width % 2 == 0 && width % pixels.max(1) == 0;
-    if !is_wide || height < 1 || height > 8192 || !is_rate(n, d) {
+    let is_rate = is_rate(n, d) && are_coprime(n, d);
+    if !is_width(width, pixels) || !is_height(height) || !is_rate {
         return Err(BAD_FIELD);
     }
     Ok(Groups {
@@ -130,39 +141,62 @@ fn block(octets: &mut Octets<'_>) -> Result<Groups, u8> {
     })
 }
 
-/// The octets of the records of a capture and how many there are, or its fault.
-pub fn capture(octets: &[u8], limit: u64) -> Result<(u64, u64), u8> {
-    let mut octets = Octets { left: octets };
-    if octets.front(b"S20CAP")? == 2 {
-        let length = octets.number(2)?;
-        octets.next(length as usize)?;
-    }
-    let (mut count, mut sum) = (0u64, 0u64);
-    for _ in 0..octets.left.len() {
-        if octets.left.is_empty() {
-            break;
-        }
-        if count == limit {
-            return Err(TOO_MANY);
-        }
-        sum = sum.wrapping_add(record(&mut octets)?);
-        count = count.wrapping_add(1);
-    }
-    Ok((count, sum))
+/// The most records that are read of a capture.
+pub const LIMIT: usize = 2;
+
+/// A record of a capture: its path (0 is A, 1 is B), its moment and its octets.
+#[derive(Clone, Copy)]
+pub struct Entry<'a> {
+    pub path: u32,
+    pub moment: u64,
+    pub octets: &'a [u8],
 }
 
-/// The octets of a record, or its fault.
-fn record(octets: &mut Octets<'_>) -> Result<u64, u8> {
+/// A capture: its text, and its records at the front of the places.
+#[derive(Clone, Copy)]
+pub struct Content<'a> {
+    pub text: &'a [u8],
+    pub entries: [Option<Entry<'a>>; LIMIT],
+}
+
+/// What a capture says, or its fault.
+pub fn capture(octets: &[u8]) -> Result<Content<'_>, u8> {
+    let mut octets = Octets { left: octets };
+    let mut text: &[u8] = &[];
+    if octets.front(b"S20CAP")? == 2 {
+        let length = octets.number(2)?;
+        text = octets.next(length as usize)?;
+    }
+    let mut entries = [None; LIMIT];
+    for place in 0..LIMIT {
+        if octets.left.is_empty() {
+            return Ok(Content { text, entries });
+        }
+        entries[place] = Some(next_entry(&mut octets)?);
+    }
+    if octets.left.is_empty() {
+        Ok(Content { text, entries })
+    } else {
+        Err(TOO_MANY)
+    }
+}
+
+/// A record, or its fault.
+fn next_entry<'a>(octets: &mut Octets<'a>) -> Result<Entry<'a>, u8> {
     let mut head = Octets {
         left: octets.next(11)?,
     };
-    if head.number(1)? > 1 {
+    let path = head.number(1)?;
+    if path > 1 {
         return Err(BAD_FIELD);
     }
-    head.next(8)?;
+    let (high, low) = (head.number(4)?, head.number(4)?);
     let length = head.number(2)?;
-    octets.next(length as usize)?;
-    Ok(u64::from(length))
+    Ok(Entry {
+        path,
+        moment: u64::from(high) << 32 | u64::from(low),
+        octets: octets.next(length as usize)?,
+    })
 }
 
 /// Whether octets are a picture's file, or its fault.

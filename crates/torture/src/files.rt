@@ -1,19 +1,17 @@
-//! Hostile files given to their readers: the fault that is to be answered by a second reading, and what
-//! is read without one is written again as the same octets.
+//! Hostile files given to their readers: the fault that is to be answered by a second reading; a
+//! capture says what it says by that reading, and other files are written again as the same octets.
 use crate::fault::Fault;
-use crate::file_reading;
+use crate::file_reading::{self, Content, Entry, LIMIT};
 use crate::generator::Generator;
 use crate::hostile_files::{Kind, write};
-use capture_file::{FileFault, read_capture, read_picture, write_picture};
+use capture_file::{Capture, FileFault, Record, read_capture, read_picture, write_picture};
 use receiver_file::{load_receiver, save_receiver};
+use st_format::Path;
 use st_format::memory::{MemorySink, MemorySource};
 use std::alloc::Global;
 
 /// How often each answer came: faults 3 to 9 by their numbers, and 0 where there was none.
 pub type Totals = [u64; 10];
-
-/// The most records that are read of a capture.
-const LIMIT: u64 = 2;
 
 /// A source of octets, in pieces.
 fn source(alloc: Global, octets: &[u8]) -> Result<MemorySource, Fault> {
@@ -25,21 +23,47 @@ fn sink(alloc: Global, octets: &[u8]) -> Result<MemorySink, Fault> {
     Ok(MemorySink::new(Vec::with_capacity(alloc, octets.len())?, 64, 0))
 }
 
-/// The octets of a capture's records and how many there are, or its fault.
-fn capture(alloc: Global, octets: &[u8]) -> Result<Result<(u64, u64), u8>, Fault> {
-    let capture = match read_capture(alloc, &mut source(alloc, octets)?, LIMIT) {
+/// Whether a record is the one that is read.
+fn is_entry(record: &Record, entry: &Entry<'_>) -> bool {
+    let path = match record.path {
+        Path::A => 0,
+        Path::B => 1,
+    };
+    path == entry.path && record.moment == entry.moment && record.octets.as_slice() == entry.octets
+}
+
+/// Whether a capture says what is read: the same text, and the same records in the same order.
+fn says(capture: &Capture, content: &Content<'_>) -> bool {
+    let mut says = capture.text.as_slice() == content.text;
+    for (place, entry) in content.entries.iter().enumerate() {
+        says &= match (capture.records.get(place), entry) {
+            (Some(record), Some(entry)) => is_entry(record, entry),
+            (None, None) => true,
+            _ => false,
+        };
+    }
+    says && capture.records.len() <= LIMIT
+}
+
+/// Nothing where octets are a capture that says what it is to say; else the fault, 0 where it says
+/// otherwise.
+fn capture(
+    alloc: Global,
+    octets: &[u8],
+    wanted: &Result<Content<'_>, u8>,
+) -> Result<Result<(), u8>, Fault> {
+    let capture = match read_capture(alloc, &mut source(alloc, octets)?, LIMIT as u64) {
         Ok(capture) => capture,
         Err(fault) => return Ok(Err(fault.number())),
     };
-    let mut sum = 0u64;
-    for record in &capture.records {
-        sum = sum.wrapping_add(record.octets.len() as u64);
+    match wanted {
+        Ok(content) if !says(&capture, content) => Ok(Err(0)),
+        _ => Ok(Ok(())),
     }
-    Ok(Ok((capture.records.len() as u64, sum)))
 }
 
-/// Nothing where octets are a picture's file, and the picture's file is those octets; else the fault, 0
-/// where it is another file.
+/// Nothing where octets are a picture's file, and the picture's file is those octets; else the
+/// fault, 0 where it is another file.
 fn picture(alloc: Global, octets: &[u8]) -> Result<Result<(), u8>, Fault> {
     let picture = match read_picture(alloc, &mut source(alloc, octets)?) {
         Ok(picture) => picture,
@@ -71,14 +95,15 @@ fn again(written: Result<(), FileFault>, sink: &MemorySink, octets: &[u8]) -> Re
 }
 
 /// The fault's place in the totals.
-fn place_of<T: Copy>(read: Result<T, u8>) -> usize {
+fn place_of(read: Result<(), u8>) -> usize {
     match read {
         Ok(_) => 0,
         Err(number) => usize::from(number),
     }
 }
 
-/// Makes a file of any kind. Answers whether its reader answers as it is to; the octets are the file.
+/// Makes a file of any kind. Answers whether its reader answers as it is to; the octets are the
+/// file.
 pub fn run(
     alloc: Global,
     generator: &mut Generator,
@@ -93,8 +118,8 @@ pub fn run(
     write(generator, kind, octets)?;
     let (found, wanted) = match kind {
         Kind::Capture => {
-            let found = capture(alloc, octets)?;
-            return Ok(note(found, file_reading::capture(octets, LIMIT), totals));
+            let wanted = file_reading::capture(octets);
+            (capture(alloc, octets, &wanted)?, wanted.map(|_| ()))
         }
         Kind::Picture => (picture(alloc, octets)?, file_reading::picture(octets)),
         Kind::Receiver => (receiver(alloc, octets)?, file_reading::state(octets)),
@@ -103,11 +128,7 @@ pub fn run(
 }
 
 /// Notes an answer in the totals, and tells whether it is the one that is wanted.
-fn note<T: Copy + PartialEq>(
-    found: Result<T, u8>,
-    wanted: Result<T, u8>,
-    totals: &mut Totals,
-) -> bool {
+fn note(found: Result<(), u8>, wanted: Result<(), u8>, totals: &mut Totals) -> bool {
     if let Some(total) = totals.get_mut(place_of(found)) {
         *total = total.wrapping_add(1);
     }

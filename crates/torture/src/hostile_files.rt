@@ -1,5 +1,5 @@
-//! Hostile files: mostly sound, but fields now and then at a bound or beside it, and octets turned, cut
-//! off and put in.
+//! Hostile files: mostly sound, but fields now and then at a bound or beside it, and octets turned,
+//! cut off and put in.
 use crate::fault::Fault;
 use crate::file_reading::group_of;
 use crate::generator::Generator;
