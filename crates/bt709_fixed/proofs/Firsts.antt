@@ -34,3 +34,6 @@ first_pixels j = in_pixels (j % 3) (omega arith)
 
 pub first_rgb : (j : ℕ) → (j % 3 ≡ 0) ↔ (component_in_row Rgb j ≡ 0)
 first_rgb j = in_rgb (j % 3) (omega arith)
+
+-- which samples are Y or R
+pub ruleset firsts = (first_pairs, first_pixels, first_rgb)

@@ -111,7 +111,7 @@ fn limit_samples(sampling: Sampling, depth: Depth, range: RangeKind, samples: &m
 
 /// Whether the sample of this number, counted from the start of a row or of a raster, is Y or R. By
 /// a divisor that is known, so that a loop over samples asks it in lanes.
-#[tactic(auto, using(crate::proofs::Firsts::first_pairs, crate::proofs::Firsts::first_pixels, crate::proofs::Firsts::first_rgb))]
+#[tactic(auto, using(crate::proofs::Firsts::firsts))]
 #[inline(always)]
 fn is_first(sampling: Sampling, number: usize) -> bool
     ensures { IsTrue result ↔ (component_in_row sampling number ≡ 0) }

@@ -136,6 +136,9 @@ column_rgb j =
     let one : j / 3 ≡ j / 3 * 1 + 0 = omega arith in
     one ∙ ap (λ c. j / 3 * 1 + c) (one_column_rgb (j % 3) (omega arith))
 
+-- which column each sample of a row has
+pub ruleset columns = (column_pairs, column_pixels, column_rgb)
+
 pub luma_pairs : (c : ℕ) → 2 * c + 1 ≡ number_in_row Ycc422 c 0
 unfolding number_in_row number_in_run
 luma_pairs c = omega arith
@@ -147,3 +150,21 @@ luma_pixels c = omega arith
 pub luma_rgb : (c : ℕ) → 3 * c ≡ number_in_row Rgb c 0
 unfolding number_in_row number_in_run
 luma_rgb c = omega arith
+
+-- which number each luma of a row has
+pub ruleset lumas = (luma_pairs, luma_pixels, luma_rgb)
+
+-- three samples of a pair of columns are at its first, and one at its second
+pub first_of_pair : (q j : ℕ) → 4 * q ≤ j → j < 4 * q + 3 → (place_in_row Ycc422 j).0 ≡ 2 * q
+first_of_pair q j from below = sym (column_pairs j) ∙ omega arith
+
+pub second_of_pair : (q : ℕ) → (place_in_row Ycc422 (4 * q + 3)).0 ≡ 2 * q + 1
+second_of_pair q = sym (column_pairs (4 * q + 3)) ∙ omega arith
+
+-- a row is whole runs
+pub whole_row : (f : Format) → row_samples f % run_samples f.sampling ≡ 0
+whole_row f =
+    let runs : ℕ = f.width / run_columns f.sampling in
+    let n : ℕ = run_samples f.sampling in
+    let is : runs * n ≡ runs * n + 0 = omega arith in
+    ap (λ m. m % n) is ∙ mod-mul-add runs n 0 (some_samples f.sampling)

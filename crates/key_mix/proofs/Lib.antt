@@ -5,3 +5,4 @@ pub mod Pictures
 pub mod Resampled
 pub mod Sent
 pub mod Refused
+pub mod Steps

@@ -54,6 +54,9 @@ weight_between x p q h k =
     λ i. if le-ltb x p h i then 0
     else (if lt-leb (p + q) x inside i then 256 else ((x - p) * 256 / q))
 
+-- the weight before the soft places, in them and behind them
+pub ruleset weights = (past_most, weight_before, weight_behind, weight_between)
+
 -- shares of two values up to m
 sum_most : (m a b u w : ℕ) → a ≤ m → b ≤ m → a * u + b * w ≤ m * (u + w)
 sum_most m a b u w h k =

@@ -1,9 +1,15 @@
 -- What wipe and key take for each sample of a row, and make of each sample number (own).
-use Rattle.std.specs.Prelude.{ℕ, List, slice_index}
+use Rattle.std.specs.Prelude.{ℕ, ◌-◌, ◌*◌, List, min, slice_index}
 use Rattle.st_format.specs.declared.format.Format.{Format}
 use Rattle.st_format.specs.declared.sampling.Sampling.{Sampling}
 use Rattle.st_format.specs.Pgroup.{bits_of}
-use Rattle.st_format.specs.Position.{Position, number_of, place, place_in_row}
+use Rattle.st_format.specs.Position.{
+  Position,
+  number_in_row,
+  number_of,
+  place,
+  place_in_row,
+}
 use Rattle.lane_kernels.specs.Formulas.{full_key, key, key_of, weight, wipe}
 use Rattle.key_mix.specs.Jobs.{along}
 use Rattle.key_mix.specs.declared.Axis.{Axis}
@@ -32,6 +38,11 @@ wiped_at w f a b k =
 -- the number of the luma at the row and column of a position
 abbrev pub luma_number : Format → Position → ℕ
 luma_number f at = number_of f (record { row = at.row; column = at.column; component = 0 })
+
+-- the key at a column of a row of the sampling s: its luma above black, up to white
+abbrev pub column_key : Sampling → ℕ → List ℕ → ℕ → ℕ
+column_key s scale row column =
+    min (219 * scale) (slice_index row (number_in_row s column 0) - 16 * scale)
 
 -- sample number k of two pictures of the format f, keyed by the lumas of one of the format g
 abbrev pub keyed_at : Format → Format → List ℕ → List ℕ → List ℕ → ℕ → ℕ

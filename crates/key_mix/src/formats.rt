@@ -22,7 +22,6 @@ ghost use Rattle.key_mix.specs.declared.faults.JobFault.TheVariants.{
   BadWipe,
 };
 
-use crate::rows::same_format;
 use crate::{Axis, Job, JobFault, WipeShape};
 use bt709_fixed::{as_ycc422, as_ycc444};
 use st_format::{Format, Sampling};
@@ -98,7 +97,7 @@ pub(crate) fn test_wipe(a: Format, b: Format, shape: WipeShape) -> Result<(), Jo
     ensures sound { OnOk result (IsSound (Wipe shape) (a ∷ b ∷ [])) }
     ensures refusal { IfErr result (λ e. IsRefusal e (Wipe shape) (a ∷ b ∷ [])) }
 {
-    if !same_format(a, b) {
+    if !a.same(&b) {
         return Err(JobFault::FormatsDiffer);
     }
     let most = extent_of(shape.axis, a);
@@ -118,7 +117,7 @@ pub(crate) fn test_key(a: Format, b: Format, by: Format) -> Result<(), JobFault>
     ensures sound { OnOk result (IsSound Key (a ∷ b ∷ by ∷ [])) }
     ensures refusal { IfErr result (λ e. IsRefusal e Key (a ∷ b ∷ by ∷ [])) }
 {
-    if !same_format(a, b) || !are_alike(a, by) {
+    if !a.same(&b) || !are_alike(a, by) {
         return Err(JobFault::FormatsDiffer);
     }
     if by.sampling() == Sampling::Rgb {

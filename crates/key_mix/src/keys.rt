@@ -4,13 +4,13 @@ ghost use Rattle.std.specs.Prelude.{
   ◌≢◌,
   ◌≤◌,
   ◌<◌,
-  ◌-◌,
-  ◌*◌,
+  ◌/◌,
+  ◌%◌,
+  ◌^◌,
   ◌⊎◌,
   ◌↔◌,
   ◌∷◌,
   [],
-  min,
   EachIndex,
   IsTrue,
   length,
@@ -20,18 +20,24 @@ ghost use Rattle.std.specs.Prelude.{
   Err,
 };
 ghost use Rattle.std.specs.Result.{IfErr};
-ghost use Rattle.st_format.specs.declared.sampling.Sampling.TheVariants.{Rgb};
+ghost use Rattle.st_format.specs.declared.sampling.Sampling.TheVariants.{Rgb, Ycc422};
 ghost use Rattle.st_format.specs.Picture.{IsPicture};
-ghost use Rattle.st_format.specs.Position.{number_in_row, place_in_row, row_samples, sample_count};
+ghost use Rattle.st_format.specs.Position.{
+  number_in_row,
+  place_in_row,
+  row_samples,
+  run_samples,
+  sample_count,
+};
 ghost use Rattle.bt709_fixed.specs.Operations.{IsOf};
 ghost use Rattle.key_mix.specs.Jobs.{IsAlike, IsFault, IsSound, key_value};
-ghost use Rattle.key_mix.specs.Rows.{keyed_at};
+ghost use Rattle.key_mix.specs.Rows.{column_key, keyed_at};
 ghost use Rattle.key_mix.specs.declared.Job.TheVariants.{Key};
 ghost use Rattle.key_mix.specs.declared.faults.JobFault.TheVariants.{FormatsDiffer, KeyNotYcc};
 
 use crate::JobFault;
 use crate::formats::test_key;
-use crate::rows::{column_in_row, luma_in_row};
+use crate::rows::luma_in_row;
 use bt709_fixed::scale_of;
 use st_format::{Depth, Format, Picture, Sampling};
 use std::alloc::{AllocError, Allocator};
@@ -146,21 +152,92 @@ fn key_rows(
     }
 }
 
-/// The keys of the samples of a row: each is the luma of its column in `row`, above black.
+/// The keys of the samples of a row: each is that of its column in `row`.
 fn row_keys(sampling: Sampling, of_key: Sampling, scale: u16, row: &[u16], keys: &mut [u16])
     requires few { length keys.old ≤ 32768 }
+    requires whole { length keys.old % run_samples sampling ≡ 0 }
     requires most { scale ≤ 256 }
     requires lumas { EachIndex keys.old (λ j.
         number_in_row of_key (place_in_row sampling j).0 0 < length row.now) }
     ensures long { length keys.new ≡ length keys.old }
     ensures each { EachIndex keys.new (λ j. slice_index keys.new j
-        ≡ min (219 * scale)
-        (slice_index row.now (number_in_row of_key (place_in_row sampling j).0 0) - 16 * scale)) }
+        ≡ column_key of_key scale row.now (place_in_row sampling j).0) }
 {
-    let black = 16 * scale;
-    let white = 219 * scale;
-    for (j, key) in keys.iter_mut().enumerate() {
-        let luma = row[luma_in_row(of_key, column_in_row(sampling, j))];
-        *key = white.min(luma.saturating_sub(black));
+    match of_key {
+        Sampling::Ycc422 => keys_from(sampling, Sampling::Ycc422, scale, row, keys),
+        Sampling::Ycc444 => keys_from(sampling, Sampling::Ycc444, scale, row, keys),
+        Sampling::Rgb => keys_from(sampling, Sampling::Rgb, scale, row, keys),
     }
+}
+
+/// The same. Inlined at a literal `of_key`, it reads `row` by a known step.
+#[inline(always)]
+fn keys_from(sampling: Sampling, of_key: Sampling, scale: u16, row: &[u16], keys: &mut [u16])
+    requires few { length keys.old ≤ 32768 }
+    requires whole { length keys.old % run_samples sampling ≡ 0 }
+    requires most { scale ≤ 256 }
+    requires lumas { EachIndex keys.old (λ j.
+        number_in_row of_key (place_in_row sampling j).0 0 < length row.now) }
+    ensures long { length keys.new ≡ length keys.old }
+    ensures each { EachIndex keys.new (λ j. slice_index keys.new j
+        ≡ column_key of_key scale row.now (place_in_row sampling j).0) }
+{
+    match sampling {
+        Sampling::Ycc422 => pair_keys(of_key, scale, row, keys),
+        Sampling::Ycc444 => pixel_keys(of_key, scale, row, keys),
+        Sampling::Rgb => pixel_keys(of_key, scale, row, keys),
+    }
+}
+
+/// The keys of pairs of columns: of Cb, Y, Cr and Y three are at the first column.
+#[inline(always)]
+fn pair_keys(of_key: Sampling, scale: u16, row: &[u16], keys: &mut [u16])
+    requires few { length keys.old ≤ 32768 }
+    requires whole { length keys.old % 4 ≡ 0 }
+    requires most { scale ≤ 256 }
+    requires lumas { EachIndex keys.old (λ j.
+        number_in_row of_key (place_in_row Ycc422 j).0 0 < length row.now) }
+    ensures long { length keys.new ≡ length keys.old }
+    ensures each { EachIndex keys.new (λ j. slice_index keys.new j
+        ≡ column_key of_key scale row.now (place_in_row Ycc422 j).0) }
+{
+    for pair in 0..keys.len() / 4 {
+        let first = key_at(of_key, scale, row, 2 * pair);
+        let second = key_at(of_key, scale, row, 2 * pair + 1);
+        keys[4 * pair] = first;
+        keys[4 * pair + 1] = first;
+        keys[4 * pair + 2] = first;
+        keys[4 * pair + 3] = second;
+    }
+}
+
+/// The keys of pixels of three samples, all at one column.
+#[inline(always)]
+fn pixel_keys(of_key: Sampling, scale: u16, row: &[u16], keys: &mut [u16])
+    requires few { length keys.old ≤ 32768 }
+    requires whole { length keys.old % 3 ≡ 0 }
+    requires most { scale ≤ 256 }
+    requires lumas { EachIndex keys.old (λ j. number_in_row of_key (j / 3) 0 < length row.now) }
+    ensures long { length keys.new ≡ length keys.old }
+    ensures each { EachIndex keys.new (λ j. slice_index keys.new j
+        ≡ column_key of_key scale row.now (j / 3)) }
+{
+    for pixel in 0..keys.len() / 3 {
+        let key = key_at(of_key, scale, row, pixel);
+        keys[3 * pixel] = key;
+        keys[3 * pixel + 1] = key;
+        keys[3 * pixel + 2] = key;
+    }
+}
+
+/// The key of a column: its luma in `row` above black, up to white.
+#[inline(always)]
+fn key_at(of_key: Sampling, scale: u16, row: &[u16], column: usize) -> u16
+    requires few { column < 2 ^ 32 }
+    requires most { scale ≤ 256 }
+    requires luma { number_in_row of_key column 0 < length row.now }
+    ensures { result ≡ column_key of_key scale row.now column }
+{
+    let luma = row[luma_in_row(of_key, column)];
+    (219 * scale).min(luma.saturating_sub(16 * scale))
 }

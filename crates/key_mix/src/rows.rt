@@ -1,18 +1,11 @@
 //! Where samples stand in a row.
-ghost use Rattle.std.specs.Prelude.{◌≡◌, ◌≤◌, ◌<◌, ◌^◌, ◌↔◌, IsTrue};
+ghost use Rattle.std.specs.Prelude.{◌≡◌, ◌≤◌, ◌<◌, ◌^◌};
 ghost use Rattle.st_format.specs.Position.{number_in_row, place_in_row};
 
-use st_format::{Format, Sampling};
-
-/// Whether two formats are one.
-pub(crate) fn same_format(left: Format, right: Format) -> bool
-    ensures { IsTrue result ↔ (left ≡ right) }
-{
-    left == right
-}
+use st_format::Sampling;
 
 /// The column of the j-th sample of a row.
-#[tactic(auto, using(crate::proofs::InRow::column_pairs, crate::proofs::InRow::column_pixels, crate::proofs::InRow::column_rgb))]
+#[tactic(auto, using(crate::proofs::InRow::columns))]
 #[inline(always)]
 pub(crate) fn column_in_row(sampling: Sampling, j: usize) -> usize
     requires { j < 2 ^ 32 }
@@ -27,7 +20,7 @@ pub(crate) fn column_in_row(sampling: Sampling, j: usize) -> usize
 }
 
 /// The number in its row of the luma at a column.
-#[tactic(auto, using(crate::proofs::InRow::luma_pairs, crate::proofs::InRow::luma_pixels, crate::proofs::InRow::luma_rgb))]
+#[tactic(auto, using(crate::proofs::InRow::lumas))]
 #[inline(always)]
 pub(crate) fn luma_in_row(sampling: Sampling, column: usize) -> usize
     requires { column < 2 ^ 32 }

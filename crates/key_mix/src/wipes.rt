@@ -59,7 +59,7 @@ pub fn wipe<A: Allocator, B: Allocator, C: Allocator + Copy>(
 }
 
 /// The weight at a column or row.
-#[tactic(auto, using(crate::proofs::Mixed::past_most, crate::proofs::Mixed::weight_before, crate::proofs::Mixed::weight_behind, crate::proofs::Mixed::weight_between))]
+#[tactic(auto, using(crate::proofs::Mixed::weights))]
 fn weight_at(shape: WipeShape, place: usize) -> u16
     requires { place < 2 ^ 32 }
     ensures { result ≡ weight place shape.position shape.soft }

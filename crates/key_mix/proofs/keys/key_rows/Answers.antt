@@ -1,13 +1,13 @@
-use Rattle.std.proofs.Common.{◌≡◌, ℕ, ◌+◌, ◌-◌, ◌*◌, ◌<◌, ◌≤◌, get_or, length, take, drop, min}
+use Rattle.std.proofs.Common.{◌≡◌, ℕ, ◌+◌, ◌-◌, ◌*◌, ◌%◌, ◌<◌, ◌≤◌, get_or, length, take, drop, min}
 use Rattle.std.proofs.Common.{refl, arith, rules, sym, ap, subst, ◌∙◌}
 use Rattle.std.proofs.lemmas.List.{length-take, length-drop}
 use borrow.Rule.Slice.PartMut.{same_len_mid}
 use Rattle.st_format.specs.Pgroup.{bits_of}
-use Rattle.st_format.specs.Position.{number_in_row, place_in_row, row_samples}
+use Rattle.st_format.specs.Position.{number_in_row, place_in_row, row_samples, run_samples}
 use Rattle.lane_kernels.specs.Formulas.{scale}
 use Rattle.bt709_fixed.proofs.Part.{part_made}
 use Rattle.key_mix.specs.Rows.{keyed_at}
-use Rattle.key_mix.proofs.InRow.{all_rows, column-below, luma-below, row_within}
+use Rattle.key_mix.proofs.InRow.{all_rows, column-below, luma-below, row_within, whole_row}
 use Rattle.key_mix.proofs.Parts.{keyed_row}
 use Rattle.key_mix.proofs.Pictures.{key_most}
 use Rattle.key_mix.proofs.keys.key_rows.Goals as goal
@@ -61,6 +61,11 @@ row_keys-requires-clause-lumas c = λ j h.
     ≡ number_in_row g.sampling (place_in_row f.sampling j).0 0
     = λ i. number_in_row (t_s i) (place_in_row (s i) j).0 0 in
     omega (arith, same, below, long)
+
+pub row_keys-requires-clause-whole : goal.row_keys-requires-clause-whole
+row_keys-requires-clause-whole c =
+    (λ j. c.loop-row.invariant.room j % run_samples (c.sampling-sampling.ensures j))
+    ∙ whole_row c.args.format
 
 pub key_mix-requires-clause-keys : goal.key_mix-requires-clause-keys
 key_mix-requires-clause-keys c = λ i b.
