@@ -18,7 +18,8 @@ use Rattle.st_format.specs.Rate.{common_divisor}
 use Rattle.capture_file.specs.declared.fault.FileFault.{FileFault}
 use Rattle.capture_file.specs.declared.fault.FileFault.TheVariants.{BadField}
 use Rattle.capture_file.specs.Blocks.{block_at, block_of, depth_of, lowest, sampling_of}
-use Rattle.capture_file.specs.Fields.{◌>>=◌, field_at}
+use Rattle.capture_file.specs.Fields.{field_at}
+use Rattle.st_format.specs.Reading.{◌>>=◌}
 use Rattle.capture_file.specs.Fronts.{with_rest}
 use Rattle.capture_file.specs.PictureFaults.{IsFormat}
 use Rattle.capture_file.specs.StateFile.{format_text, sampling_code}

@@ -13,7 +13,8 @@ use Rattle.capture_file.specs.declared.fault.FileFault.{FileFault}
 use Rattle.capture_file.specs.declared.fault.FileFault.TheVariants.{BadField}
 use Rattle.capture_file.specs.Blocks.{block_at, block_of, depth_of, fields_made, lowest}
 use Rattle.capture_file.specs.Blocks.{sampling_of}
-use Rattle.capture_file.specs.Fields.{◌>>=◌, Fails, Gives, field_at}
+use Rattle.capture_file.specs.Fields.{Fails, Takes, field_at}
+use Rattle.st_format.specs.Reading.{◌>>=◌}
 use Rattle.capture_file.specs.Fronts.{with_rest}
 use Rattle.capture_file.proofs.Parsing.{fails_first, fails_pure, fails_then, gives_pure, gives_then}
 
@@ -88,8 +89,8 @@ block_parts block r s b w h n d es eb ew eh en ed e = e ∙ parts block s b w h 
 
 -- from a source
 pub block_gives : (old mid : Option (List ℕ)) (block : List ℕ) (r : Result Format FileFault)
-    → Gives (field_at 14) old mid block → fields_made r ≡ block_of block
-    → IfOk r (λ f. Gives block_at old mid (fields_of f))
+    → Takes (field_at 14) old mid block → fields_made r ≡ block_of block
+    → IfOk r (λ f. Takes block_at old mid (fields_of f))
 unfolding block_at
 block_gives old mid block (Ok f) p e =
     gives_then (field_at 14) (λ x rest. with_rest (block_of x) rest) old mid mid block
@@ -97,7 +98,7 @@ block_gives old mid block (Ok f) p e =
 block_gives old mid block (Err f) p e = tt
 
 pub block_fails : (old mid : Option (List ℕ)) (block : List ℕ) (r : Result Format FileFault)
-    → Gives (field_at 14) old mid block → fields_made r ≡ block_of block
+    → Takes (field_at 14) old mid block → fields_made r ≡ block_of block
     → IfErr r (λ f. Fails block_at old f)
 unfolding block_at
 block_fails old mid block (Ok f) p e = tt

@@ -19,7 +19,8 @@ use Rattle.capture_file.specs.Capture.{Content, IsCapture, capture_at, records_a
 use Rattle.capture_file.specs.CaptureFaults.{CaptureFault, HasBadRecord, HasBehind, HasCutText}
 use Rattle.capture_file.specs.CaptureFaults.{HasRecordMore, IsCutCapture, RecordFault}
 use Rattle.capture_file.specs.CaptureFaults.IsCutCapture.{Kind, Text, Record}
-use Rattle.capture_file.specs.Fields.{◌>>=◌, field_at}
+use Rattle.capture_file.specs.Fields.{field_at}
+use Rattle.st_format.specs.Reading.{◌>>=◌}
 use Rattle.capture_file.specs.Fronts.{HasFront, capture_name, counted_text, front_at, front_text}
 use Rattle.capture_file.specs.Fronts.{kind_at, kind_text, text_at, text_by}
 use Rattle.capture_file.specs.Records.{Entry, records_text}
@@ -31,7 +32,8 @@ use Rattle.capture_file.proofs.KindFaults.{version_tells}
 use Rattle.capture_file.proofs.KindFaults.KindFails.{Cut, Name, Digits}
 use Rattle.capture_file.proofs.RecordFaults.{IsStop, Stops, full_tells, records_fail, wrong_tells}
 use Rattle.capture_file.proofs.RecordFaults.IsStop.{Full, Wrong}
-use Rattle.capture_file.proofs.Splits.{AreOctets-back, AreOctets-take, below_16, field_again}
+use Rattle.capture_file.proofs.Splits.{AreOctets-back, below_16, field_again}
+use Rattle.st_format.proofs.Octets.{AreOctets-take}
 
 abbrev Part : Type 0
 Part = List ℕ × List ℕ

@@ -8,7 +8,8 @@ use Rattle.std.proofs.lemmas.Bool.{lt-ltb, le-ltb, ltb-true}
 use Rattle.std.proofs.lemmas.Slice.Eq.{bytes_eq-Decides}
 use Rattle.capture_file.specs.declared.fault.FileFault.{FileFault}
 use Rattle.capture_file.specs.declared.fault.FileFault.TheVariants.{Truncated}
-use Rattle.capture_file.specs.Fields.{◌>>=◌, field_at}
+use Rattle.capture_file.specs.Fields.{field_at}
+use Rattle.st_format.specs.Reading.{◌>>=◌}
 use Rattle.capture_file.proofs.Entries.{chosen}
 use Rattle.capture_file.proofs.Found.{failed}
 

@@ -19,7 +19,8 @@ use Rattle.std.specs.Io.KnownBytes.{IsAtEnd}
 use Rattle.capture_file.specs.declared.capture.Capture.{Capture}
 use Rattle.capture_file.specs.Capture.{Content, IsCapture, capture_at, capture_seen, entry_seen}
 use Rattle.capture_file.specs.Capture.{records_at}
-use Rattle.capture_file.specs.Fields.{◌>>=◌, Gives, Leaves, field_at}
+use Rattle.capture_file.specs.Fields.{Takes, Leaves, field_at}
+use Rattle.st_format.specs.Reading.{◌>>=◌}
 use Rattle.capture_file.specs.Fronts.{HasFront, capture_name, counted_text, front_at, front_text}
 use Rattle.capture_file.specs.Fronts.{kind_at, kind_of, kind_text, text_at, text_by, version_of}
 use Rattle.capture_file.specs.Fronts.{with_rest}
@@ -27,7 +28,8 @@ use Rattle.capture_file.specs.Reading.{rest_at}
 use Rattle.capture_file.specs.Records.{AllFit, Entry, path_octet, records_text, rest_text}
 use Rattle.st_format.specs.Device.{AreOctets, TellsOctets}
 use Rattle.capture_file.proofs.Entries.{chosen}
-use Rattle.capture_file.proofs.Splits.{AreOctets-back, AreOctets-tail, AreOctets-take, below_16}
+use Rattle.capture_file.proofs.Splits.{AreOctets-back, AreOctets-tail, below_16}
+use Rattle.st_format.proofs.Octets.{AreOctets-take}
 use Rattle.capture_file.proofs.Splits.{rest_takes}
 
 abbrev pub failed : (B : Type 0) → FileFault → Result B FileFault
@@ -274,11 +276,11 @@ found_by limit octets (Some rest) v bytes p =
 
 pub found_read : {A : Type 0} (limit : ℕ) (old new : Option (List ℕ))
     (r : Result (Capture A) FileFault)
-    → IfOk r (λ v. Gives (capture_at limit) old new (capture_seen v)) → OnOk r (TellsOctets old)
+    → IfOk r (λ v. Takes (capture_at limit) old new (capture_seen v)) → OnOk r (TellsOctets old)
     → IfOk r
     (λ v. (octets : List ℕ) → old ≡ Some octets
     → IsCapture (capture_seen v) octets × (length v.records.items ≤ limit) × IsAtEnd new)
 found_read limit old new (Ok v) p bytes =
     λ octets told. found_by limit octets new v (subst TellsOctets told bytes)
-    (subst (λ (k : Option (List ℕ)). Gives (capture_at limit) k new (capture_seen v)) told p)
+    (subst (λ (k : Option (List ℕ)). Takes (capture_at limit) k new (capture_seen v)) told p)
 found_read limit old new (Err f) p bytes = tt

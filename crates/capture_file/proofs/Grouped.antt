@@ -20,7 +20,8 @@ use Rattle.st_format.proofs.Spelled.{values_in-spelled}
 use Rattle.st_format.proofs.SpelledOctets.{Spells-octets_in, length-octets_in}
 use Rattle.capture_file.specs.declared.fault.FileFault.{FileFault}
 use Rattle.capture_file.specs.declared.fault.FileFault.TheVariants.{BadField, MixedGroup}
-use Rattle.capture_file.specs.Fields.{◌>>=◌, field_at}
+use Rattle.capture_file.specs.Fields.{field_at}
+use Rattle.st_format.specs.Reading.{◌>>=◌}
 use Rattle.capture_file.specs.Groups.{IsGroup, IsHad, IsShape, Shape, are_zeroed, cells_by}
 use Rattle.capture_file.specs.Groups.{group_at, group_text, groups_at, groups_text, mask_of}
 use Rattle.capture_file.specs.Groups.{mixed_by, samples_text, value_or_0}

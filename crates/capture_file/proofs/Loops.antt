@@ -8,7 +8,8 @@ use Rattle.capture_file.specs.declared.fault.FileFault.{FileFault}
 use Rattle.capture_file.specs.declared.fault.FileFault.TheVariants.{NoMemory, Device}
 use Rattle.capture_file.specs.declared.fault.FileFault.TheVariants.{TooManyRecords}
 use Rattle.capture_file.specs.Capture.{Content, capture_at, records_at}
-use Rattle.capture_file.specs.Fields.{◌>>=◌, Gives, Fails}
+use Rattle.capture_file.specs.Fields.{Takes, Fails}
+use Rattle.st_format.specs.Reading.{◌>>=◌}
 use Rattle.capture_file.specs.Fronts.{front_at}
 use Rattle.capture_file.specs.Reading.{rest_at}
 use Rattle.capture_file.specs.Records.{Entry, Fits, path_octet, rest_text}
@@ -91,7 +92,7 @@ records_none (suc left) = refl
 -- the end
 pub goes_on_end : (limit left : ℕ) (old now new : Option (List ℕ)) (so_far : List Entry)
     → GoesOn limit old left so_far now → Consumes now new [] → IsAtEnd new
-    → Gives (records_at limit) old new so_far
+    → Takes (records_at limit) old new so_far
 goes_on_end limit left None now new so_far p q e = tt
 goes_on_end limit left (Some o) None new so_far p q e = absurd p
 goes_on_end limit left (Some o) (Some n) None so_far p q e = absurd q
@@ -149,8 +150,8 @@ records_of limit text octets =
     records_at limit octets >>= λ y. Ok (record { text = text; records = y.0 }, y.1)
 
 records_gives : (limit : ℕ) (text : List ℕ) (mid new : Option (List ℕ)) (es : List Entry)
-    → Gives (records_at limit) mid new es
-    → Gives (records_of limit text) mid new (record { text = text; records = es })
+    → Takes (records_at limit) mid new es
+    → Takes (records_of limit text) mid new (record { text = text; records = es })
 records_gives limit text None new es p = tt
 records_gives limit text (Some m) None es p = absurd p
 records_gives limit text (Some m) (Some rest) es p =
@@ -168,15 +169,15 @@ records_fails limit text (Some m) f p =
 
 -- a capture is its front and its records
 pub capture_gives : (limit : ℕ) (old mid new : Option (List ℕ)) (text : List ℕ) (es : List Entry)
-    → Gives front_at old mid text → Gives (records_at limit) mid new es
-    → Gives (capture_at limit) old new (record { text = text; records = es })
+    → Takes front_at old mid text → Takes (records_at limit) mid new es
+    → Takes (capture_at limit) old new (record { text = text; records = es })
 unfolding capture_at
 capture_gives limit old mid new text es p q =
     gives_then front_at (records_of limit) old mid new text
     (record { text = text; records = es }) p (records_gives limit text mid new es q)
 
 pub capture_fails : (limit : ℕ) (old mid : Option (List ℕ)) (text : List ℕ) (f : FileFault)
-    → Gives front_at old mid text → Fails (records_at limit) mid f → Fails (capture_at limit) old f
+    → Takes front_at old mid text → Fails (records_at limit) mid f → Fails (capture_at limit) old f
 unfolding capture_at
 capture_fails limit old mid text f p q =
     fails_then front_at (records_of limit) old mid text f p (records_fails limit text mid f q)

@@ -15,7 +15,8 @@ use Rattle.capture_file.specs.declared.front.Version.{Version}
 use Rattle.capture_file.specs.declared.fault.FileFault.{FileFault}
 use Rattle.capture_file.specs.declared.fault.FileFault.TheVariants.{BadName, BadVersion, Truncated}
 use Rattle.capture_file.specs.declared.front.Version.TheVariants.{One, Two}
-use Rattle.capture_file.specs.Fields.{◌>>=◌, Fails, Gives, field_at}
+use Rattle.capture_file.specs.Fields.{Fails, Takes, field_at}
+use Rattle.st_format.specs.Reading.{◌>>=◌}
 use Rattle.capture_file.specs.Fronts.{capture_name, front_text, kind_at, kind_of, kind_text}
 use Rattle.capture_file.specs.Fronts.{version_of, with_rest}
 use Rattle.capture_file.specs.Migrated.{BeginsWith, Migrated, MovesAll, MovesSome, Stopped, old_at}
@@ -131,21 +132,21 @@ moves_part limit left source_old now mid new held_old held_now held_new first e 
 
 -- version 01
 pub old_fails : (limit : ℕ) (old mid : Option (List ℕ)) (f : FileFault)
-    → Gives (kind_at capture_name) old mid One → Fails (records_at limit) mid f
+    → Takes (kind_at capture_name) old mid One → Fails (records_at limit) mid f
     → Fails (old_at limit) old f
 unfolding old_at
 old_fails limit old mid f p q =
     fails_then (kind_at capture_name) (λ v. old_by v limit) old mid One f p q
 
 pub old_fails_all : (limit : ℕ) (old mid : Option (List ℕ)) (r : Result ℕ FileFault)
-    → Gives (kind_at capture_name) old mid One → IfErr r (λ f. Fails (records_at limit) mid f)
+    → Takes (kind_at capture_name) old mid One → IfErr r (λ f. Fails (records_at limit) mid f)
     → IfErr r (λ f. Fails (old_at limit) old f)
 old_fails_all limit old mid (Ok n) p q = tt
 old_fails_all limit old mid (Err f) p q = old_fails limit old mid f p q
 
 pub old_gives : (limit : ℕ) (old mid new : Option (List ℕ)) (es : List Entry)
-    → Gives (kind_at capture_name) old mid One → Gives (records_at limit) mid new es
-    → Gives (old_at limit) old new es
+    → Takes (kind_at capture_name) old mid One → Takes (records_at limit) mid new es
+    → Takes (old_at limit) old new es
 unfolding old_at
 old_gives limit old mid new es p q =
     gives_then (kind_at capture_name) (λ v. old_by v limit) old mid new One es p q
@@ -159,7 +160,7 @@ newer : (limit : ℕ) (mid : Option (List ℕ)) → Fails (old_by Two limit) mid
 newer limit None = tt
 newer limit (Some m) = refl
 
-pub old_newer : (limit : ℕ) (old mid : Option (List ℕ)) → Gives (kind_at capture_name) old mid Two
+pub old_newer : (limit : ℕ) (old mid : Option (List ℕ)) → Takes (kind_at capture_name) old mid Two
     → Fails (old_at limit) old BadVersion
 unfolding old_at
 old_newer limit old mid p =
@@ -249,7 +250,7 @@ kind_spelled o rest e =
     ]
 
 front_first : (old mid : Option (List ℕ)) (text : List ℕ)
-    → Gives (kind_at capture_name) old mid One → IfTold mid (BeginsWith text)
+    → Takes (kind_at capture_name) old mid One → IfTold mid (BeginsWith text)
     → IfTold old (BeginsWith (kind_text capture_name One ++ text))
 front_first None mid text p q = tt
 front_first (Some o) None text p q = absurd p
@@ -261,7 +262,7 @@ front_first (Some o) (Some m) text p q = record {
 }
 
 pub stops_front : (text : List ℕ) (old mid held_old held_new : Option (List ℕ))
-    → Gives (kind_at capture_name) old mid One
+    → Takes (kind_at capture_name) old mid One
     → AppendsPrefix held_old held_new (front_text Two text) → Stopped text old held_old held_new
 stops_front text old mid held_old held_new p w = record {
   entries = [];
@@ -280,7 +281,7 @@ written_by front held_old held_mid held_new text p (inr a) =
     inr (prefix_then held_old held_mid held_new front text p a)
 
 pub stops : (text : List ℕ) (old mid held_old held_mid held_new : Option (List ℕ))
-    → Gives (kind_at capture_name) old mid One → Appends held_old held_mid (front_text Two text)
+    → Takes (kind_at capture_name) old mid One → Appends held_old held_mid (front_text Two text)
     → MovesSome mid held_mid held_new → Stopped text old held_old held_new
 stops text old mid held_old held_mid held_new p a m = record {
   entries = m.entries;
@@ -292,7 +293,7 @@ stops text old mid held_old held_mid held_new p a m = record {
 
 pub migrates : (limit n : ℕ) (text : List ℕ)
     (old mid new held_old held_mid held_new : Option (List ℕ))
-    → Gives (kind_at capture_name) old mid One → Appends held_old held_mid (front_text Two text)
+    → Takes (kind_at capture_name) old mid One → Appends held_old held_mid (front_text Two text)
     → MovesAll limit n mid new held_mid held_new
     → Migrated limit n text old new held_old held_new
 migrates limit n text old mid new held_old held_mid held_new p a m = record {

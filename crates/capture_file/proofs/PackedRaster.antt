@@ -8,7 +8,7 @@ use Rattle.st_format.specs.Position.{sample_count}
 use Rattle.st_format.specs.Samples.{values_in}
 use Rattle.pgroup_pack.specs.Packing.{Agree}
 use Rattle.capture_file.specs.declared.fault.FileFault.{FileFault}
-use Rattle.capture_file.specs.Fields.{Fails, Gives, field_at}
+use Rattle.capture_file.specs.Fields.{Fails, Takes, field_at}
 use Rattle.capture_file.specs.Fronts.{with_rest}
 use Rattle.capture_file.specs.PictureFile.{raster_at, raster_octets}
 use Rattle.capture_file.proofs.Parsing.{fails_first, gives_pure, gives_then}
@@ -27,15 +27,15 @@ size_is f n agree =
     (raster_bits f)
 
 pub groups_give : (f : Format) (old new : Option (List ℕ)) (n : ℕ) (octets : List ℕ)
-    → Agree f n (sample_count f) → Gives (field_at n) old new octets
-    → Gives (raster_at (fields_of f)) old new (values_in (bits_of f.depth) octets)
+    → Agree f n (sample_count f) → Takes (field_at n) old new octets
+    → Takes (raster_at (fields_of f)) old new (values_in (bits_of f.depth) octets)
 unfolding raster_at
 groups_give f old new n octets agree p =
     let b : ℕ = bits_of f.depth in
     let k : ℕ = raster_octets (fields_of f) in
     gives_then (field_at k) (λ x rest. with_rest (values b x) rest) old new new octets
     (values_in b octets)
-    (subst (λ (m : ℕ). Gives (field_at m) old new octets) (size_is f n agree) p)
+    (subst (λ (m : ℕ). Takes (field_at m) old new octets) (size_is f n agree) p)
     (gives_pure (values b octets) new (values_in b octets) refl)
 
 pub groups_fail : (f : Format) (old : Option (List ℕ)) (n : ℕ) (e : FileFault)

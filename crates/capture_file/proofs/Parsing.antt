@@ -7,7 +7,8 @@ use Rattle.std.proofs.lemmas.Bool.{lt-ltb, le-ltb}
 use Rattle.std.proofs.lemmas.List.{length-append, take_at, drop_at}
 use Rattle.capture_file.specs.declared.fault.FileFault.{FileFault}
 use Rattle.capture_file.specs.declared.fault.FileFault.TheVariants.{Truncated}
-use Rattle.capture_file.specs.Fields.{◌>>=◌, field_at, Leaves, Gives, Fails}
+use Rattle.capture_file.specs.Fields.{field_at, Leaves, Takes, Fails}
+use Rattle.st_format.specs.Reading.{◌>>=◌}
 use Rattle.capture_file.specs.Fronts.{with_rest}
 use Rattle.capture_file.proofs.Content.{if_content, if_content_weaker}
 
@@ -18,8 +19,8 @@ abbrev pub then_reads : {A B : Type 0} → Reading A → (A → Reading B) → R
 then_reads first next octets = first octets >>= λ x. next x.0 x.1
 
 pub gives_then : {A B : Type 0} (first : Reading A) (next : A → Reading B)
-    (old mid new : Option (List ℕ)) (x : A) (y : B) → Gives first old mid x
-    → Gives (next x) mid new y → Gives (then_reads first next) old new y
+    (old mid new : Option (List ℕ)) (x : A) (y : B) → Takes first old mid x
+    → Takes (next x) mid new y → Takes (then_reads first next) old new y
 gives_then first next None mid new x y p q = tt
 gives_then first next (Some o) None new x y p q = absurd p
 gives_then {A} {B} first next (Some o) (Some m) new x y p q =
@@ -33,7 +34,7 @@ fails_first {A} {B} first next (Some o) f p =
     (λ e. ap (λ (r : Result (A × List ℕ) FileFault). r >>= λ z. next z.0 z.1) e) p
 
 pub fails_then : {A B : Type 0} (first : Reading A) (next : A → Reading B)
-    (old mid : Option (List ℕ)) (x : A) (f : FileFault) → Gives first old mid x
+    (old mid : Option (List ℕ)) (x : A) (f : FileFault) → Takes first old mid x
     → Fails (next x) mid f → Fails (then_reads first next) old f
 fails_then first next None mid x f p q = tt
 fails_then first next (Some o) None x f p q = absurd p
@@ -43,7 +44,7 @@ fails_then {A} {B} first next (Some o) (Some m) x f p q =
 
 -- what is made of values that were read takes no octet
 pub gives_pure : {A : Type 0} (r : Result A FileFault) (known : Option (List ℕ)) (x : A) → r ≡ Ok x
-    → Gives (with_rest r) known known x
+    → Takes (with_rest r) known known x
 gives_pure r None x e = tt
 gives_pure {A} r (Some o) x e = ap (λ (q : Result A FileFault). with_rest q o) e
 
@@ -58,7 +59,7 @@ cut = Err Truncated
 
 -- a field that a source gave whole
 pub gives_field : (n : ℕ) (old new : Option (List ℕ)) (given : List ℕ) → length given ≡ n
-    → Consumes old new given → Gives (field_at n) old new given
+    → Consumes old new given → Takes (field_at n) old new given
 unfolding field_at
 gives_field n None new given len p = tt
 gives_field n (Some o) None given len p = absurd p

@@ -18,7 +18,8 @@ use Rattle.capture_file.specs.declared.fault.FileFault.TheVariants.{TooManyRecor
 use Rattle.capture_file.specs.declared.front.Version.{Version}
 use Rattle.capture_file.specs.declared.front.Version.TheVariants.{One, Two}
 use Rattle.capture_file.specs.Blocks.{block_at, block_of}
-use Rattle.capture_file.specs.Fields.{◌>>=◌, field_at}
+use Rattle.capture_file.specs.Fields.{field_at}
+use Rattle.st_format.specs.Reading.{◌>>=◌}
 use Rattle.capture_file.specs.Fronts.{kind_at, kind_text, picture_name, version_text, with_rest}
 use Rattle.capture_file.specs.PictureFaults.{HasCutGroups, HasHead, HasNoFormat, HasOtherThanOne}
 use Rattle.capture_file.specs.PictureFaults.{HasTrailing, IsCutPicture, IsFormat, PictureFault}
@@ -33,7 +34,8 @@ use Rattle.capture_file.proofs.Found.{failed, field_takes, given, kind_takes, sp
 use Rattle.capture_file.proofs.KindFaults.{KindFails, kind_cut, kind_fails, kind_tells, name_tells}
 use Rattle.capture_file.proofs.KindFaults.{version_tells}
 use Rattle.capture_file.proofs.KindFaults.KindFails.{Cut, Name, Digits}
-use Rattle.capture_file.proofs.Splits.{AreOctets-back, AreOctets-take, field_again}
+use Rattle.capture_file.proofs.Splits.{AreOctets-back, field_again}
+use Rattle.st_format.proofs.Octets.{AreOctets-take}
 
 abbrev Part : Type 0
 Part = List ℕ × List ℕ

@@ -24,7 +24,7 @@ use Rattle.capture_file.specs.declared.fault.FileFault.TheVariants.{TrailingByte
 use Rattle.capture_file.specs.declared.front.Version.{Version}
 use Rattle.capture_file.specs.declared.front.Version.TheVariants.{One}
 use Rattle.capture_file.specs.Blocks.{block_at}
-use Rattle.capture_file.specs.Fields.{Fails, Gives, field_at}
+use Rattle.capture_file.specs.Fields.{Fails, Takes, field_at}
 use Rattle.capture_file.specs.Fronts.{picture_name, with_rest}
 use Rattle.capture_file.specs.PictureFile.{GivesSpelled, Shown, head_of, nothing_at, one_at}
 use Rattle.capture_file.specs.PictureFile.{picture_at, picture_text, raster_at, raster_octets}
@@ -129,7 +129,7 @@ read_values n octets = Ok (values_in n octets)
 
 pub raster_gives : (f : Format) (old new : Option (List ℕ)) (vs : List ℕ)
     → length vs ≡ sample_count f → GivesSpelled (bits_of f.depth) old new vs
-    → Gives (raster_at (fields_of f)) old new vs
+    → Takes (raster_at (fields_of f)) old new vs
 unfolding raster_at
 raster_gives f old new vs size p =
     let b : ℕ = bits_of f.depth in
@@ -164,7 +164,7 @@ not_end (Some o) (Some r) [] some p = absurd (omega (arith, some))
 not_end (Some o) (Some r) (x ∷ xs) some p = ap nothing_at p
 
 pub at_end : (old new : Option (List ℕ)) → Consumes old new [] → IsAtEnd new
-    → Gives nothing_at old new tt
+    → Takes nothing_at old new tt
 at_end None new p e = tt
 at_end (Some o) None p e = absurd p
 at_end (Some o) (Some r) p e =
@@ -189,7 +189,7 @@ pub version_fails : (old : Option (List ℕ)) (e : FileFault) → Fails (one_at 
 unfolding picture_at
 version_fails old e p = fails_first (one_at picture_name) behind_version old e p
 
-pub block_fails : (old a : Option (List ℕ)) (e : FileFault) → Gives (one_at picture_name) old a One
+pub block_fails : (old a : Option (List ℕ)) (e : FileFault) → Takes (one_at picture_name) old a One
     → Fails block_at a e → Fails picture_at old e
 unfolding picture_at
 block_fails old a e p q =
@@ -197,7 +197,7 @@ block_fails old a e p q =
     (fails_first block_at behind_block a e q)
 
 pub body_fails : (old a b : Option (List ℕ)) (f : Fields) (e : FileFault)
-    → Gives (one_at picture_name) old a One → Gives block_at a b f → Fails (raster_at f) b e
+    → Takes (one_at picture_name) old a One → Takes block_at a b f → Fails (raster_at f) b e
     → Fails picture_at old e
 unfolding picture_at
 body_fails old a b f e p q r =
@@ -205,7 +205,7 @@ body_fails old a b f e p q r =
     (fails_then block_at behind_block a b f e q (fails_first (raster_at f) (behind_raster f) b e r))
 
 pub end_fails : (old a b c : Option (List ℕ)) (f : Fields) (vs : List ℕ) (e : FileFault)
-    → Gives (one_at picture_name) old a One → Gives block_at a b f → Gives (raster_at f) b c vs
+    → Takes (one_at picture_name) old a One → Takes block_at a b f → Takes (raster_at f) b c vs
     → Fails nothing_at c e → Fails picture_at old e
 unfolding picture_at
 end_fails old a b c f vs e p q r s =
@@ -215,8 +215,8 @@ end_fails old a b c f vs e p q r s =
     (fails_first nothing_at (λ _ rest. with_rest (shown f vs) rest) c e s)))
 
 pub picture_gives : (old a b c new : Option (List ℕ)) (f : Fields) (vs : List ℕ)
-    → Gives (one_at picture_name) old a One → Gives block_at a b f → Gives (raster_at f) b c vs
-    → Gives nothing_at c new tt → Gives picture_at old new (shows f vs)
+    → Takes (one_at picture_name) old a One → Takes block_at a b f → Takes (raster_at f) b c vs
+    → Takes nothing_at c new tt → Takes picture_at old new (shows f vs)
 unfolding picture_at
 picture_gives old a b c new f vs p q r s =
     gives_then (one_at picture_name) behind_version old a new One (shows f vs) p

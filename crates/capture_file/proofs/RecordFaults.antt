@@ -17,7 +17,7 @@ use Rattle.capture_file.specs.declared.record.RecordHead.{RecordHead}
 use Rattle.capture_file.specs.Capture.{records_at}
 use Rattle.capture_file.specs.CaptureFaults.{HasBadPath, IsCutRecord, RecordFault, count_in}
 use Rattle.capture_file.specs.CaptureFaults.IsCutRecord.{Head, Octets}
-use Rattle.capture_file.specs.Fields.{◌>>=◌}
+use Rattle.st_format.specs.Reading.{◌>>=◌}
 use Rattle.capture_file.specs.Reading.{fault_at, fault_by, head_at, head_by, octets_at, path_of}
 use Rattle.capture_file.specs.Reading.{rest_at}
 use Rattle.capture_file.specs.Records.{AllFit, Entry, Fits, entry_of, path_octet, record_text}

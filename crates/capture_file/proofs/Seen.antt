@@ -38,7 +38,8 @@ use Rattle.capture_file.specs.declared.front.Version.{Version}
 use Rattle.capture_file.specs.declared.front.Version.TheVariants.{One, Two}
 use Rattle.capture_file.specs.Blocks.{block_at, block_of, depth_of, lowest, sampling_of}
 use Rattle.capture_file.specs.Faults.{IfContent, IsMachine}
-use Rattle.capture_file.specs.Fields.{◌>>=◌, Fails, Gives, Leaves, field_at}
+use Rattle.capture_file.specs.Fields.{Fails, Takes, Leaves, field_at}
+use Rattle.st_format.specs.Reading.{◌>>=◌}
 use Rattle.capture_file.specs.Fronts.{kind_at, kind_of, kind_text, picture_name, with_rest}
 use Rattle.capture_file.specs.PictureFile.{Shown, nothing_at, one_at, one_by, picture_at}
 use Rattle.capture_file.specs.PictureFile.{picture_text, raster_at, raster_octets, shown_of, shows}
@@ -48,8 +49,10 @@ use Rattle.capture_file.proofs.Blocked.{block_parts, lowest_good}
 use Rattle.capture_file.proofs.Entries.{chosen}
 use Rattle.capture_file.proofs.Found.{failed, field_takes, given, kind_takes, split_then}
 use Rattle.capture_file.proofs.Raster.{raster_bits}
-use Rattle.capture_file.proofs.Splits.{AreOctets-back, AreOctets-drop, AreOctets-tail}
-use Rattle.capture_file.proofs.Splits.{AreOctets-take, field_again}
+use Rattle.capture_file.proofs.Splits.{AreOctets-back, AreOctets-tail}
+use Rattle.st_format.proofs.Octets.{AreOctets-drop}
+use Rattle.capture_file.proofs.Splits.{field_again}
+use Rattle.st_format.proofs.Octets.{AreOctets-take}
 
 -- ---- name and version
 
@@ -426,14 +429,14 @@ found_by p octets (Some rest) bytes q = let f =
     picture_found p octets rest bytes q in (f.text, f.all)
 
 found_told : (p : Values) (old new : Option (List ℕ)) → TellsOctets old
-    → Gives picture_at old new (shown_of p) → (octets : List ℕ) → old ≡ Some octets
+    → Takes picture_at old new (shown_of p) → (octets : List ℕ) → old ≡ Some octets
     → (octets ≡ picture_text p) × IsAtEnd new
 found_told p old new bytes g octets told =
     found_by p octets new (subst TellsOctets told bytes)
-    (subst (λ (k : Option (List ℕ)). Gives picture_at k new (shown_of p)) told g)
+    (subst (λ (k : Option (List ℕ)). Takes picture_at k new (shown_of p)) told g)
 
 pub found_picture : (old new : Option (List ℕ)) (r : Result Values FileFault)
-    → IfOk r (λ p. Gives picture_at old new (shown_of p)) → OnOk r (TellsOctets old)
+    → IfOk r (λ p. Takes picture_at old new (shown_of p)) → OnOk r (TellsOctets old)
     → IfOk r (λ p. (octets : List ℕ) → old ≡ Some octets → (octets ≡ picture_text p) × IsAtEnd new)
 found_picture old new (Ok p) g bytes = found_told p old new bytes g
 found_picture old new (Err f) g bytes = tt
@@ -503,12 +506,12 @@ clash s octets f e p = let bad : with_shown s [] ≡ failed (Shown × List ℕ) 
     sym e ∙ p in absurd cc
 
 pub only_picture : (old new : Option (List ℕ)) (r : Result Values FileFault)
-    → IfOk r (λ q. Gives picture_at old new (shown_of q)) → IfErr r (λ f. Fails picture_at old f)
+    → IfOk r (λ q. Takes picture_at old new (shown_of q)) → IfErr r (λ f. Fails picture_at old f)
     → (p : Values) (octets : List ℕ) → old ≡ Some octets → IsPicture p → octets ≡ picture_text p
     → MatchResult r (λ q. shown_of q ≡ shown_of p) IsMachine
 only_picture old new (Ok q) a b p octets told is text =
     only_ok p q octets new (ap picture_at text ∙ picture_again p is)
-    (subst (λ (k : Option (List ℕ)). Gives picture_at k new (shown_of q)) told a)
+    (subst (λ (k : Option (List ℕ)). Takes picture_at k new (shown_of q)) told a)
 only_picture old new (Err f) a b p octets told is text =
     machine_left f (picture_at octets ≡ Err f)
     (clash (shown_of p) octets f (ap picture_at text ∙ picture_again p is))

@@ -21,7 +21,7 @@ use Rattle.capture_file.specs.declared.fault.FileFault.TheVariants.{BadVersion, 
 use Rattle.capture_file.specs.declared.fault.FileFault.TheVariants.{TrailingBytes, MixedGroup}
 use Rattle.capture_file.specs.declared.fault.FileFault.TheVariants.{TooManyRecords}
 use Rattle.capture_file.specs.Faults.{IsOfField}
-use Rattle.capture_file.specs.Fields.{Fails, Gives, field_at}
+use Rattle.capture_file.specs.Fields.{Fails, Takes, field_at}
 use Rattle.capture_file.specs.PictureFile.{GivesSpelled}
 use Rattle.capture_file.proofs.Entries.{chosen}
 use Rattle.capture_file.proofs.Written.{prefix_first, prefix_then}
@@ -45,7 +45,7 @@ rest_in (Err f) = []
 
 -- a source that gave a field gave its octets
 pub field_given : (n : ℕ) (old new : Option (List ℕ)) (buf : List ℕ)
-    → Gives (field_at n) old new buf → Consumes old new buf
+    → Takes (field_at n) old new buf → Consumes old new buf
 unfolding field_at
 field_given n None new buf p = tt
 field_given n (Some o) None buf p = absurd p

@@ -4,9 +4,9 @@ use Rattle.std.proofs.Common.{List, [], ◌∷◌, ◌++◌, length, take, drop,
 use Rattle.std.proofs.Common.{Ok, Err, append_assoc, append-nil, refl, sym, ap, ◌∙◌, subst, inl}
 use Rattle.std.proofs.Common.{inr, arith}
 use Rattle.std.specs.Int.{w16, w64, from_be_bytes, to_be_bytes}
-use Rattle.std.proofs.lemmas.Bool.{cases_lt, eqb-true, le-ltb}
-use Rattle.std.proofs.lemmas.List.{length-append, length-drop, length-take, length-take-le}
-use Rattle.std.proofs.lemmas.List.{take-append-drop, get_or-take, get_or-drop, get_or_past, take_at}
+use Rattle.std.proofs.lemmas.Bool.{eqb-true, le-ltb}
+use Rattle.std.proofs.lemmas.List.{length-append, length-drop, length-take-le}
+use Rattle.std.proofs.lemmas.List.{take-append-drop, take_at}
 use Rattle.std.proofs.lemmas.List.{drop_at, take_all}
 use Rattle.std.proofs.lemmas.Nat.{be_bytes_2, be_bytes_8, from_be_bytes-to_be_bytes_2}
 use Rattle.st_format.specs.declared.path.Path.{Path}
@@ -20,7 +20,8 @@ use Rattle.capture_file.specs.declared.front.Version.{Version}
 use Rattle.capture_file.specs.declared.front.Version.TheVariants.{One, Two}
 use Rattle.capture_file.specs.declared.record.RecordHead.{RecordHead}
 use Rattle.capture_file.specs.Capture.{Content, IsCapture, capture_at, capture_seen, records_at}
-use Rattle.capture_file.specs.Fields.{◌>>=◌, Fails, Gives, Leaves, field_at}
+use Rattle.capture_file.specs.Fields.{Fails, Takes, Leaves, field_at}
+use Rattle.st_format.specs.Reading.{◌>>=◌}
 use Rattle.capture_file.specs.Faults.{IfContent, IsMachine}
 use Rattle.capture_file.specs.declared.capture.Capture.{Capture}
 use Rattle.std.specs.Prelude.{IfOk, IfErr, MatchResult}
@@ -31,19 +32,9 @@ use Rattle.capture_file.specs.Records.{AllFit, Entry, Fits, entry_of, path_octet
 use Rattle.capture_file.specs.Records.{records_text, rest_text}
 use Rattle.capture_file.specs.Runs.{HasNoRecord, IsRun}
 use Rattle.st_format.specs.Device.{AreOctets}
+use Rattle.st_format.proofs.Octets.{AreOctets-drop, AreOctets-take}
 use Rattle.capture_file.proofs.Cuts.{entries_front}
 use Rattle.capture_file.proofs.Entries.{chosen, head_read, rest_again, rest_read, rest_shrinks}
-
-pub AreOctets-drop : (n : ℕ) (bytes : List ℕ) → AreOctets bytes → AreOctets (drop n bytes)
-AreOctets-drop n bytes h i = rw get_or-drop (h (n + i))
-
-pub AreOctets-take : (n : ℕ) (bytes : List ℕ) → AreOctets bytes → AreOctets (take n bytes)
-AreOctets-take n bytes h i =
-    elim (cases_lt i n) [
-      | inl lt ↦ rw (get_or-take n bytes i 0 lt) (h i)
-      | inr le ↦ rw (get_or_past (take n bytes) i 0 (omega (arith, length-take n bytes)))
-          (omega arith)
-    ]
 
 abbrev ok_path : Path → Result Path FileFault
 ok_path p = Ok p
@@ -65,7 +56,7 @@ path_read first p e =
     ]
 
 -- what is read is spelled so
-pub record Takes (first : ℕ) (octets : List ℕ) (x : Entry × List ℕ) : Type 0 where
+pub record TakesEntry (first : ℕ) (octets : List ℕ) (x : Entry × List ℕ) : Type 0 where
   pub fits : Fits x.0
   pub first_is : first ≡ path_octet x.0.path
   pub text : octets ≡ rest_text x.0 ++ x.1
@@ -93,7 +84,7 @@ below_64 : (bs : List ℕ) → AreOctets bs → from_be_bytes w64 bs < 2 ^ 64
 below_64 bs h = omega (arith, h 0, h 1, h 2, h 3, h 4, h 5, h 6, h 7)
 
 pub rest_takes : (first : ℕ) (octets : List ℕ) (x : Entry × List ℕ) → AreOctets octets
-    → rest_at first octets ≡ Ok x → Takes first octets x
+    → rest_at first octets ≡ Ok x → TakesEntry first octets x
 rest_takes first octets x bytes e =
     let r = rest_read first octets x e in
     let h : RecordHead = r.parts.head in
@@ -113,7 +104,7 @@ rest_takes first octets x bytes e =
     let m64 : h.moment < 2 ^ 64 =
     subst (λ (k : ℕ). k < 2 ^ 64) (sym q.moment)
     (below_64 (take 8 head) (AreOctets-take 8 head hb)) in
-    let made : Takes first octets (entry_of h d, drop n d) = record {
+    let made : TakesEntry first octets (entry_of h d, drop n d) = record {
       fits = record { moment = m64; octets = subst (λ (k : ℕ). k < 2 ^ 16) (sym len) n16 };
       first_is = path_read first h.path q.path;
       text = sym (take-append-drop 10 octets) ∙ ap (λ (t : List ℕ). t ++ d) is
@@ -123,7 +114,7 @@ rest_takes first octets x bytes e =
           (λ (k : ℕ). (to_be_bytes w64 h.moment ++ to_be_bytes w16 k) ++
           (take n d ++ drop n d)) (sym len);
     } in
-    subst (Takes first octets) r.parts.made made
+    subst (TakesEntry first octets) r.parts.made made
 
 abbrev bad_read : FileFault → Result (Entry × List ℕ) FileFault
 bad_read f = Err f
@@ -351,13 +342,13 @@ only_err c limit octets TooManyRecords e p = clash c limit octets TooManyRecords
 
 pub only_read : {A : Type 0} (limit : ℕ) (old new : Option (List ℕ))
     (r : Result (Capture A) FileFault)
-    → IfOk r (λ v. Gives (capture_at limit) old new (capture_seen v))
+    → IfOk r (λ v. Takes (capture_at limit) old new (capture_seen v))
     → IfErr r (λ f. Fails (capture_at limit) old f)
     → (c : Content) (octets : List ℕ) → old ≡ Some octets → IsCapture c octets
     → length c.records ≤ limit → MatchResult r (λ v. capture_seen v ≡ c) IsMachine
 only_read limit old new (Ok v) p q c octets told is le =
     only_ok c (capture_seen v) limit octets new (capture_again c octets limit is le)
-    (subst (λ (k : Option (List ℕ)). Gives (capture_at limit) k new (capture_seen v)) told p)
+    (subst (λ (k : Option (List ℕ)). Takes (capture_at limit) k new (capture_seen v)) told p)
 only_read limit old new (Err f) p q c octets told is le =
     only_err c limit octets f (capture_again c octets limit is le)
     (subst (λ (k : Option (List ℕ)). Fails (capture_at limit) k f) told q)

@@ -4,7 +4,7 @@ use Rattle.capture_file.specs.declared.fault.FileFault.{FileFault}
 use Rattle.capture_file.specs.declared.fault.FileFault.TheVariants.{BadVersion}
 use Rattle.capture_file.specs.declared.front.Version.{Version}
 use Rattle.capture_file.specs.declared.front.Version.TheVariants.{One, Two}
-use Rattle.capture_file.specs.Fields.{Fails, Gives}
+use Rattle.capture_file.specs.Fields.{Fails, Takes}
 use Rattle.capture_file.specs.Fronts.{kind_at}
 use Rattle.capture_file.specs.PictureFile.{one_at, one_by}
 use Rattle.capture_file.proofs.Parsing.{fails_first, fails_then, gives_then}
@@ -14,7 +14,7 @@ pub one_cut : (name : List ℕ) (old : Option (List ℕ)) (f : FileFault) → Fa
 unfolding one_at
 one_cut name old f p = fails_first (kind_at name) one_by old f p
 
-one_given : (known : Option (List ℕ)) → Gives (one_by One) known known One
+one_given : (known : Option (List ℕ)) → Takes (one_by One) known known One
 one_given None = tt
 one_given (Some o) = refl
 
@@ -23,15 +23,15 @@ two_fails None = tt
 two_fails (Some o) = refl
 
 pub one_gives : (name : List ℕ) (old new : Option (List ℕ)) (v : Version) → v ≡ One
-    → Gives (kind_at name) old new v → Gives (one_at name) old new One
+    → Takes (kind_at name) old new v → Takes (one_at name) old new One
 unfolding one_at
 one_gives name old new v e p =
-    gives_then (kind_at name) one_by old new new One One (subst (Gives (kind_at name) old new) e p)
+    gives_then (kind_at name) one_by old new new One One (subst (Takes (kind_at name) old new) e p)
     (one_given new)
 
 pub one_fails : (name : List ℕ) (old new : Option (List ℕ)) (v : Version) → v ≡ Two
-    → Gives (kind_at name) old new v → Fails (one_at name) old BadVersion
+    → Takes (kind_at name) old new v → Fails (one_at name) old BadVersion
 unfolding one_at
 one_fails name old new v e p =
     fails_then (kind_at name) one_by old new Two BadVersion
-    (subst (Gives (kind_at name) old new) e p) (two_fails new)
+    (subst (Takes (kind_at name) old new) e p) (two_fails new)

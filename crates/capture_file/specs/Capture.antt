@@ -7,7 +7,7 @@ use Rattle.capture_file.specs.declared.fault.FileFault.TheVariants.{TooManyRecor
 use Rattle.capture_file.specs.declared.front.Version.{Version}
 use Rattle.capture_file.specs.declared.front.Version.TheVariants.{Two}
 use Rattle.capture_file.specs.declared.record.Record.{Record}
-use Rattle.capture_file.specs.Fields.{◌>>=◌}
+use Rattle.st_format.specs.Reading.{◌>>=◌}
 use Rattle.capture_file.specs.Fronts.{HasFront, front_at, front_text}
 use Rattle.capture_file.specs.Reading.{rest_at}
 use Rattle.capture_file.specs.Records.{AllFit, Entry, records_text}

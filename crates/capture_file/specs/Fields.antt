@@ -7,12 +7,6 @@ use Rattle.capture_file.specs.declared.fault.FileFault.{FileFault}
 use Rattle.capture_file.specs.declared.fault.FileFault.TheVariants.{Truncated}
 use Rattle.capture_file.specs.Faults.{IfContent}
 
-infixl 10 ◌>>=◌
-abbrev pub ◌>>=◌ : {A B : Type 0} → Result A FileFault → (A → Result B FileFault)
-    → Result B FileFault
-(Ok x) >>= f = f x
-(Err e) >>= f = Err e
-
 -- so many octets
 unfoldable pub field_at : ℕ → List ℕ → Result (List ℕ × List ℕ) FileFault
 field_at n octets =
@@ -24,10 +18,10 @@ Leaves read x None = ⊥
 Leaves read x (Some rest) = read ≡ Ok (x, rest)
 
 -- A source gave what the reading makes this value of, where it told its octets.
-abbrev pub Gives : {X : Type 0} → (List ℕ → Result (X × List ℕ) FileFault) → Option (List ℕ)
+abbrev pub Takes : {X : Type 0} → (List ℕ → Result (X × List ℕ) FileFault) → Option (List ℕ)
     → Option (List ℕ) → X → Type 0
-Gives reading None new x = ⊤
-Gives reading (Some octets) new x = Leaves (reading octets) x new
+Takes reading None new x = ⊤
+Takes reading (Some octets) new x = Leaves (reading octets) x new
 
 -- A fault that is neither the memory's nor the device's is the first that the reading finds in the
 -- octets that a source was to give, where it told them.

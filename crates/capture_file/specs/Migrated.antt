@@ -7,7 +7,8 @@ use Rattle.capture_file.specs.declared.fault.FileFault.TheVariants.{BadVersion, 
 use Rattle.capture_file.specs.declared.front.Version.{Version}
 use Rattle.capture_file.specs.declared.front.Version.TheVariants.{One, Two}
 use Rattle.capture_file.specs.Capture.{capture_text, records_at}
-use Rattle.capture_file.specs.Fields.{◌>>=◌, Gives}
+use Rattle.capture_file.specs.Fields.{Takes}
+use Rattle.st_format.specs.Reading.{◌>>=◌}
 use Rattle.capture_file.specs.Fronts.{capture_name, kind_at, kind_text}
 use Rattle.capture_file.specs.Records.{Entry, records_text}
 use Rattle.capture_file.specs.Source.{IfTold}
@@ -29,7 +30,7 @@ pub record BeginsWith (text octets : List ℕ) : Type 0 where
 pub record MovesAll (limit count : ℕ)
     (source_old source_new held_old held_new : Option (List ℕ)) : Type 0 where
   pub entries : List Entry
-  pub read : Gives (records_at limit) source_old source_new entries
+  pub read : Takes (records_at limit) source_old source_new entries
   pub counted : length entries ≡ count
   pub written : Appends held_old held_new (records_text entries)
 
@@ -44,7 +45,7 @@ pub record MovesSome (source_old held_old held_new : Option (List ℕ)) : Type 0
 pub record Migrated (limit count : ℕ) (text : List ℕ)
     (source_old source_new held_old held_new : Option (List ℕ)) : Type 0 where
   pub entries : List Entry
-  pub read : Gives (old_at limit) source_old source_new entries
+  pub read : Takes (old_at limit) source_old source_new entries
   pub counted : length entries ≡ count
   pub written : Appends held_old held_new (capture_text text entries)
 

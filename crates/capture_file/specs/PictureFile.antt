@@ -11,7 +11,8 @@ use Rattle.capture_file.specs.declared.fault.FileFault.TheVariants.{BadVersion, 
 use Rattle.capture_file.specs.declared.front.Version.{Version}
 use Rattle.capture_file.specs.declared.front.Version.TheVariants.{One, Two}
 use Rattle.capture_file.specs.Blocks.{block_at}
-use Rattle.capture_file.specs.Fields.{◌>>=◌, field_at}
+use Rattle.capture_file.specs.Fields.{field_at}
+use Rattle.st_format.specs.Reading.{◌>>=◌}
 use Rattle.capture_file.specs.Fronts.{kind_at, kind_text, picture_name}
 use Rattle.capture_file.specs.StateFile.{format_text}
 

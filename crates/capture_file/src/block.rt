@@ -2,7 +2,7 @@
 ghost use Rattle.std.specs.Prelude.{◌≡◌, length, IfErr, IfOk};
 ghost use Rattle.capture_file.specs.Blocks.{block_at, block_of, depth_of, fields_made, sampling_of};
 ghost use Rattle.capture_file.specs.Faults.{CountsDevice};
-ghost use Rattle.capture_file.specs.Fields.{Fails, Gives};
+ghost use Rattle.capture_file.specs.Fields.{Fails, Takes};
 ghost use Rattle.st_format.specs.Fields.{fields_of};
 
 use crate::fault::FileFault;
@@ -65,7 +65,7 @@ fn format_in(block: &[u8; BLOCK]) -> Result<Format, FileFault>
 /// isn't in lowest terms, and `Device`.
 pub fn read_format<S: ByteSource>(source: &mut S) -> Result<Format, FileFault>
     ensures read { IfOk result
-        (λ f. Gives block_at (S.to_give source.old) (S.to_give source.new) (fields_of f)) }
+        (λ f. Takes block_at (S.to_give source.old) (S.to_give source.new) (fields_of f)) }
     ensures fault { IfErr result (λ f. Fails block_at (S.to_give source.old) f) }
     ensures counted { CountsDevice (S.failures source.old) (S.failures source.new) result }
 {

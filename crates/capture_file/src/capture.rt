@@ -5,7 +5,7 @@ ghost use Rattle.std.specs.List.{All};
 ghost use Rattle.capture_file.specs.Capture.{Content, IsCapture, capture_at, capture_seen};
 ghost use Rattle.capture_file.specs.Capture.{entry_seen, records_at};
 ghost use Rattle.capture_file.specs.Faults.{CountsDevice, IsMachine};
-ghost use Rattle.capture_file.specs.Fields.{Fails, Gives};
+ghost use Rattle.capture_file.specs.Fields.{Fails, Takes};
 ghost use Rattle.st_format.specs.Device.{TellsOctets};
 ghost use Rattle.std.specs.Io.KnownBytes.{IsAtEnd};
 
@@ -41,7 +41,7 @@ pub fn read_capture<A: Allocator + Copy, S: ByteSource>(
     limit: u64,
 ) -> Result<Capture<A>, FileFault>
     ensures read { IfOk result
-        (λ c. Gives (capture_at limit) (S.to_give source.old) (S.to_give source.new)
+        (λ c. Takes (capture_at limit) (S.to_give source.old) (S.to_give source.new)
         (capture_seen c)) }
     ensures fault { IfErr result (λ f. Fails (capture_at limit) (S.to_give source.old) f) }
     ensures counted { CountsDevice (S.failures source.old) (S.failures source.new) result }
@@ -64,7 +64,7 @@ fn read_whole_capture<A: Allocator + Copy, S: ByteSource>(
     limit: u64,
 ) -> Result<Capture<A>, FileFault>
     ensures read { IfOk result
-        (λ c. Gives (capture_at limit) (S.to_give source.old) (S.to_give source.new)
+        (λ c. Takes (capture_at limit) (S.to_give source.old) (S.to_give source.new)
         (capture_seen c)) }
     ensures fault { IfErr result (λ f. Fails (capture_at limit) (S.to_give source.old) f) }
     ensures octets { OnOk result (TellsOctets (S.to_give source.old)) }
@@ -94,7 +94,7 @@ fn read_records<A: Allocator + Copy, S: ByteSource>(
 ) -> Result<Vec<Record<A>, A>, FileFault>
     requires { 65535 ≤ length buf.old }
     ensures read { IfOk result
-        (λ v. Gives (records_at limit) (S.to_give source.old) (S.to_give source.new)
+        (λ v. Takes (records_at limit) (S.to_give source.old) (S.to_give source.new)
         (map entry_seen v.items)) }
     ensures fault { IfErr result (λ f. Fails (records_at limit) (S.to_give source.old) f) }
     ensures counted { CountsDevice (S.failures source.old) (S.failures source.new) result }

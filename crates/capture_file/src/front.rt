@@ -1,7 +1,7 @@
 //! What stands at the front of a file.
 ghost use Rattle.std.specs.Prelude.{◌≡◌, ◌≤◌, ◌<◌, codes, length, take, IfErr, IfOk, OnOk};
 ghost use Rattle.capture_file.specs.Faults.{CountsDevice, IsOfField, IsOfFront};
-ghost use Rattle.capture_file.specs.Fields.{Fails, Gives, field_at};
+ghost use Rattle.capture_file.specs.Fields.{Fails, Takes, field_at};
 ghost use Rattle.capture_file.specs.Fronts.{front_at, kind_at, kind_of, text_at};
 ghost use Rattle.st_format.specs.Device.{TellsOctets};
 
@@ -32,7 +32,7 @@ pub fn read_field<S: ByteSource>(source: &mut S, buf: &mut [u8]) -> Result<(), F
     ensures room { length buf.new ≡ length buf.old }
     ensures named { IfErr result IsOfField }
     ensures read { OnOk result
-        (Gives (field_at (length buf.old)) (S.to_give source.old) (S.to_give source.new) buf.new) }
+        (Takes (field_at (length buf.old)) (S.to_give source.old) (S.to_give source.new) buf.new) }
     ensures fault { IfErr result (λ f. Fails (field_at (length buf.old)) (S.to_give source.old) f) }
     ensures octets { 0 < length buf.old → TellsOctets (S.to_give source.old) }
     ensures counted { CountsDevice (S.failures source.old) (S.failures source.new) result }
@@ -70,7 +70,7 @@ fn version_in(name: &[u8], octets: &[u8; 8]) -> Result<Version, FileFault>
 pub fn read_kind<S: ByteSource>(source: &mut S, name: &[u8]) -> Result<Version, FileFault>
     ensures named { IfErr result IsOfFront }
     ensures read { IfOk result
-        (λ v. Gives (kind_at name.now) (S.to_give source.old) (S.to_give source.new) v) }
+        (λ v. Takes (kind_at name.now) (S.to_give source.old) (S.to_give source.new) v) }
     ensures fault { IfErr result (λ f. Fails (kind_at name.now) (S.to_give source.old) f) }
     ensures octets { TellsOctets (S.to_give source.old) }
     ensures counted { CountsDevice (S.failures source.old) (S.failures source.new) result }
@@ -88,7 +88,7 @@ pub(crate) fn read_front<S: ByteSource>(source: &mut S, text: &mut [u8]) -> Resu
     ensures within { IfOk result (λ n. n < 65536) }
     ensures named { IfErr result IsOfFront }
     ensures read { IfOk result
-        (λ n. Gives front_at (S.to_give source.old) (S.to_give source.new) (take n text.new)) }
+        (λ n. Takes front_at (S.to_give source.old) (S.to_give source.new) (take n text.new)) }
     ensures fault { IfErr result (λ f. Fails front_at (S.to_give source.old) f) }
     ensures octets { TellsOctets (S.to_give source.old) }
     ensures counted { CountsDevice (S.failures source.old) (S.failures source.new) result }
@@ -106,7 +106,7 @@ fn read_text<S: ByteSource>(source: &mut S, text: &mut [u8]) -> Result<usize, Fi
     ensures within { IfOk result (λ n. n < 65536) }
     ensures named { IfErr result IsOfField }
     ensures read { IfOk result
-        (λ n. Gives text_at (S.to_give source.old) (S.to_give source.new) (take n text.new)) }
+        (λ n. Takes text_at (S.to_give source.old) (S.to_give source.new) (take n text.new)) }
     ensures fault { IfErr result (λ f. Fails text_at (S.to_give source.old) f) }
     ensures counted { CountsDevice (S.failures source.old) (S.failures source.new) result }
 {

@@ -9,7 +9,7 @@ ghost use Rattle.st_format.specs.Picture.{IsPicture, Values};
 ghost use Rattle.st_format.specs.Position.{sample_count};
 ghost use Rattle.st_format.specs.Samples.{values_in};
 ghost use Rattle.capture_file.specs.Faults.{CountsDevice, IsMachine};
-ghost use Rattle.capture_file.specs.Fields.{Fails, Gives};
+ghost use Rattle.capture_file.specs.Fields.{Fails, Takes};
 ghost use Rattle.capture_file.specs.PictureFile.{picture_at, picture_text, raster_at, shown_of};
 
 use crate::block::read_format;
@@ -33,7 +33,7 @@ pub fn read_packed_picture<A: Allocator, S: ByteSource>(
     room: Vec<u8, A>,
 ) -> Result<PackedPicture<A>, FileFault>
     ensures whole { IfOk result (λ p. IsPicture p) }
-    ensures read { IfOk result (λ p. Gives picture_at
+    ensures read { IfOk result (λ p. Takes picture_at
         (S.to_give source.old) (S.to_give source.new) (shown_of p)) }
     ensures fault { IfErr result (λ f. Fails picture_at (S.to_give source.old) f) }
     ensures counted { CountsDevice (S.failures source.old) (S.failures source.new) result }
@@ -54,7 +54,7 @@ fn read_all<A: Allocator, S: ByteSource>(
     room: Vec<u8, A>,
 ) -> Result<PackedPicture<A>, FileFault>
     ensures whole { IfOk result (λ p. IsPicture p) }
-    ensures read { IfOk result (λ p. Gives picture_at
+    ensures read { IfOk result (λ p. Takes picture_at
         (S.to_give source.old) (S.to_give source.new) (shown_of p)) }
     ensures fault { IfErr result (λ f. Fails picture_at (S.to_give source.old) f) }
     ensures octets { OnOk result (TellsOctets (S.to_give source.old)) }
@@ -75,7 +75,7 @@ fn read_groups<A: Allocator, S: ByteSource>(
 ) -> Result<Vec<u8, A>, FileFault>
     ensures size { IfOk result (λ v.
         Agree format.now (length v.items) (sample_count format.now)) }
-    ensures read { IfOk result (λ v. Gives (raster_at (fields_of format.now))
+    ensures read { IfOk result (λ v. Takes (raster_at (fields_of format.now))
         (S.to_give source.old) (S.to_give source.new)
         (values_in (bits_of format.now.depth) v.items)) }
     ensures fault { IfErr result (λ f.

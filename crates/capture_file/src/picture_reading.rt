@@ -9,7 +9,7 @@ ghost use Rattle.st_format.specs.Pgroup.{bits_of};
 ghost use Rattle.st_format.specs.Picture.{IsPicture, Values};
 ghost use Rattle.capture_file.specs.declared.front.Version.TheVariants.{One};
 ghost use Rattle.capture_file.specs.Faults.{CountsDevice, IsMachine, IsOfField};
-ghost use Rattle.capture_file.specs.Fields.{Fails, Gives, field_at};
+ghost use Rattle.capture_file.specs.Fields.{Fails, Takes, field_at};
 ghost use Rattle.capture_file.specs.Fronts.{picture_name};
 ghost use Rattle.capture_file.specs.PictureFile.{GivesSpelled, nothing_at, one_at, picture_at};
 ghost use Rattle.capture_file.specs.PictureFile.{picture_text, raster_at, shown_of};
@@ -33,7 +33,7 @@ pub fn read_picture<A: Allocator, S: ByteSource>(
     source: &mut S,
 ) -> Result<Picture<A>, FileFault>
     ensures whole { IfOk result (λ p. IsPicture p) }
-    ensures read { IfOk result (λ p. Gives picture_at
+    ensures read { IfOk result (λ p. Takes picture_at
         (S.to_give source.old) (S.to_give source.new) (shown_of p)) }
     ensures fault { IfErr result (λ f. Fails picture_at (S.to_give source.old) f) }
     ensures counted { CountsDevice (S.failures source.old) (S.failures source.new) result }
@@ -54,7 +54,7 @@ fn read_whole_picture<A: Allocator, S: ByteSource>(
     source: &mut S,
 ) -> Result<Picture<A>, FileFault>
     ensures whole { IfOk result (λ p. IsPicture p) }
-    ensures read { IfOk result (λ p. Gives picture_at
+    ensures read { IfOk result (λ p. Takes picture_at
         (S.to_give source.old) (S.to_give source.new) (shown_of p)) }
     ensures fault { IfErr result (λ f. Fails picture_at (S.to_give source.old) f) }
     ensures octets { OnOk result (TellsOctets (S.to_give source.old)) }
@@ -69,7 +69,7 @@ fn read_whole_picture<A: Allocator, S: ByteSource>(
 
 /// Reads name and version of a file whose one version is 01.
 pub(crate) fn read_version_one<S: ByteSource>(source: &mut S, name: &[u8]) -> Result<(), FileFault>
-    ensures read { OnOk result (Gives (one_at name.now)
+    ensures read { OnOk result (Takes (one_at name.now)
         (S.to_give source.old) (S.to_give source.new) One) }
     ensures fault { IfErr result (λ f. Fails (one_at name.now) (S.to_give source.old) f) }
     ensures octets { TellsOctets (S.to_give source.old) }
@@ -89,7 +89,7 @@ fn read_raster<A: Allocator, S: ByteSource>(
 ) -> Result<Vec<u16, A>, FileFault>
     ensures whole { IfOk result (λ v.
         IsPicture (record { format = format.now; samples = v.items })) }
-    ensures read { IfOk result (λ v. Gives (raster_at (fields_of format.now))
+    ensures read { IfOk result (λ v. Takes (raster_at (fields_of format.now))
         (S.to_give source.old) (S.to_give source.new) v.items) }
     ensures fault { IfErr result (λ f.
         Fails (raster_at (fields_of format.now)) (S.to_give source.old) f) }
@@ -153,7 +153,7 @@ fn read_piece<S: ByteSource>(
 /// Finds that nothing stands behind what was read.
 pub(crate) fn read_end<S: ByteSource>(source: &mut S) -> Result<(), FileFault>
     ensures read { OnOk result
-        (Gives nothing_at (S.to_give source.old) (S.to_give source.new) tt) }
+        (Takes nothing_at (S.to_give source.old) (S.to_give source.new) tt) }
     ensures fault { IfErr result (λ f. Fails nothing_at (S.to_give source.old) f) }
     ensures counted { CountsDevice (S.failures source.old) (S.failures source.new) result }
 {

@@ -5,7 +5,7 @@ ghost use Rattle.std.specs.Io.KnownBytes.{IsAtEnd};
 ghost use Rattle.st_format.specs.Device.{CountsFaults, CountsOne};
 ghost use Rattle.st_format.specs.Turns.{CountsTurn, IsWithin, TakesTurn};
 ghost use Rattle.capture_file.specs.Faults.{CountsDevice, CountsFault, IsOfFront};
-ghost use Rattle.capture_file.specs.Fields.{Fails, Gives};
+ghost use Rattle.capture_file.specs.Fields.{Fails, Takes};
 ghost use Rattle.capture_file.specs.Fronts.{front_at};
 ghost use Rattle.capture_file.specs.Reader.{CountsDeviceAt, IsNewReader, StandsAfter};
 ghost use Rattle.capture_file.specs.Reader.{StandsAtFault, last_fault_of, source_fault, turns_of};
@@ -47,7 +47,7 @@ pub struct CaptureReader<S: ByteSource> {
 }
 
 impl<S: ByteSource> Model for CaptureReader<S> {
-    ghost use Rattle.capture_file.specs.Fields.{Fails, Gives};
+    ghost use Rattle.capture_file.specs.Fields.{Fails, Takes};
     ghost use Rattle.capture_file.specs.Fronts.{front_at};
     ghost use Rattle.capture_file.specs.Reader.{Reader, StandsRight};
 
@@ -105,7 +105,7 @@ impl<S: ByteSource> CaptureReader<S> {
         // The text, and what the source is left with, are those of the octets that it was to give,
         // and a fault is their first.
         ensures read { IfOk result
-            (λ r. Gives front_at (S.to_give source) (S.to_give r.source)
+            (λ r. Takes front_at (S.to_give source) (S.to_give r.source)
             (take r.text_len text.new)) }
         ensures fault { IfErr result (λ e. IsOfFront e.0 × Fails front_at (S.to_give source) e.0) }
         ensures counted { MatchResult result (λ r. S.failures r.source ≡ S.failures source)

@@ -6,7 +6,7 @@ use Rattle.std.specs.Option.{option_map}
 use Rattle.std.specs.Prelude.{OnOk}
 use Rattle.st_format.specs.Raster.{Raster}
 use Rattle.st_format.specs.Turns.{Due, GivesTurns, HasEnded, datagrams_of}
-use Rattle.capture_file.specs.Fields.{Gives}
+use Rattle.capture_file.specs.Fields.{Takes}
 use Rattle.capture_file.specs.Fronts.{front_at}
 use Rattle.capture_file.specs.Reader.{dues_in, turns_of}
 use Rattle.capture_file.specs.declared.reader.Standing.{Standing}
@@ -76,15 +76,15 @@ records_taken b a n stands to_give reads all counted = record {
 -- ---- a capture
 
 front_gives : (told left : Option (List ℕ)) (text octets : List ℕ)
-    → Gives front_at told left text → told ≡ Some octets
+    → Takes front_at told left text → told ≡ Some octets
     → (rest : List ℕ) × (left ≡ Some rest) × (front_at octets ≡ Ok (text, rest))
 front_gives told None text octets gives is = absurd
-    (subst (λ (t : Option (List ℕ)). Gives front_at t None text) is gives)
+    (subst (λ (t : Option (List ℕ)). Takes front_at t None text) is gives)
 front_gives told (Some rest) text octets gives is =
-    (rest, refl, subst (λ (t : Option (List ℕ)). Gives front_at t (Some rest) text) is gives)
+    (rest, refl, subst (λ (t : Option (List ℕ)). Takes front_at t (Some rest) text) is gives)
 
 holds_by : {A : Type 0} (o : Opening A) (b a : Session A) (told left : Option (List ℕ))
-    (text octets : List ℕ) (ds : List (List ℕ)) → Gives front_at told left text
+    (text octets : List ℕ) (ds : List (List ℕ)) → Takes front_at told left text
     → TakesRecords left b a → told ≡ Some octets
     → HoldsBy o b ds → HoldsBy o a (ds ++ capture_datagrams octets)
 holds_by o b a told left text octets ds gives taken is holds =
@@ -103,14 +103,14 @@ holds_by o b a told left text octets ds gives taken is holds =
 
 -- by a session that had begun
 pub file_taken : {A : Type 0} (o : Opening A) (b a : Session A) (told left : Option (List ℕ))
-    (text : List ℕ) → Gives front_at told left text → TakesRecords left b a
+    (text : List ℕ) → Takes front_at told left text → TakesRecords left b a
     → TakesFile o told (Some b) (Some a)
 file_taken o b a told left text gives taken = record
     { stands = λ octets ds is holds. holds_by o b a told left text octets ds gives taken is holds }
 
 -- by one that began with it
 pub first_taken : {A : Type 0} (o : Opening A) (b a : Session A) (told left : Option (List ℕ))
-    (text : List ℕ) → Gives front_at told left text → TakesRecords left b a → HoldsBy o b []
+    (text : List ℕ) → Takes front_at told left text → TakesRecords left b a → HoldsBy o b []
     → TakesFile o told None (Some a)
 first_taken o b a told left text gives taken begun = record {
   stands = λ octets ds is none. holds_by o b a told left text octets ds gives taken is
@@ -136,7 +136,7 @@ takes_first o f (z ∷ zs) ys x y b a some is new taken = record {
 -- the same where it was taken at all
 pub file_taken_if : {A V E : Type 0} (o : Opening A) (begun : Option (Session A)) (b a : Session A)
     (told left : Option (List ℕ)) (text : List ℕ) (r : Result V E) → begun ≡ Some b
-    → Gives front_at told left text → OnOk r (TakesRecords left b a)
+    → Takes front_at told left text → OnOk r (TakesRecords left b a)
     → OnOk r (TakesFile o told begun (Some a))
 file_taken_if {A = A} o begun b a told left text (Ok v) is gives taken = subst
     (λ (s : Option (Session A)). TakesFile o told s (Some a)) (sym is)
@@ -145,7 +145,7 @@ file_taken_if o begun b a told left text (Err e) is gives taken = tt
 
 pub first_taken_if : {A V E : Type 0} (o : Opening A) (begun : Option (Session A)) (b a : Session A)
     (told left : Option (List ℕ)) (text : List ℕ) (r : Result V E) → begun ≡ None
-    → Gives front_at told left text → HoldsBy o b [] → OnOk r (TakesRecords left b a)
+    → Takes front_at told left text → HoldsBy o b [] → OnOk r (TakesRecords left b a)
     → OnOk r (TakesFile o told begun (Some a))
 first_taken_if {A = A} o begun b a told left text (Ok v) is gives opened taken = subst
     (λ (s : Option (Session A)). TakesFile o told s (Some a)) (sym is)

@@ -22,7 +22,8 @@ use Rattle.capture_file.specs.declared.fault.FileFault.TheVariants.{TooManyRecor
 use Rattle.capture_file.specs.declared.front.Version.TheVariants.{One}
 use Rattle.capture_file.specs.Blocks.{block_at}
 use Rattle.capture_file.specs.Faults.{IfContent, IsMachine}
-use Rattle.capture_file.specs.Fields.{◌>>=◌, Fails, Gives, Leaves}
+use Rattle.capture_file.specs.Fields.{Fails, Takes, Leaves}
+use Rattle.st_format.specs.Reading.{◌>>=◌}
 use Rattle.capture_file.specs.Fronts.{kind_at, kind_of, kind_text, receiver_name, with_rest}
 use Rattle.capture_file.specs.Groups.{Shape, groups_at, groups_text, shape_of}
 use Rattle.capture_file.specs.PictureFaults.{IsFormat}
@@ -301,12 +302,12 @@ only_err k octets MixedGroup e p = clash k octets MixedGroup e p
 only_err k octets TooManyRecords e p = clash k octets TooManyRecords e p
 
 pub only_state : (old new : Option (List ℕ)) (r : Result State FileFault)
-    → IfOk r (λ s. Gives state_at old new (kept_of s)) → IfErr r (λ f. Fails state_at old f)
+    → IfOk r (λ s. Takes state_at old new (kept_of s)) → IfErr r (λ f. Fails state_at old f)
     → (k : Kept) → old ≡ Some (state_text k) → IsSaved k
     → MatchResult r (λ s. kept_of s ≡ k) IsMachine
 only_state old new (Ok s) p q k told is =
     only_ok k (kept_of s) (state_text k) new (state_again k is)
-    (subst (λ (o : Option (List ℕ)). Gives state_at o new (kept_of s)) told p)
+    (subst (λ (o : Option (List ℕ)). Takes state_at o new (kept_of s)) told p)
 only_state old new (Err f) p q k told is =
     only_err k (state_text k) f (state_again k is)
     (subst (λ (o : Option (List ℕ)). Fails state_at o f) told q)

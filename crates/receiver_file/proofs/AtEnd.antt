@@ -7,7 +7,8 @@ use Rattle.std.proofs.lemmas.Result.{IfOk-weaker}
 use Rattle.path_merge.specs.Frames.{State}
 use Rattle.capture_file.specs.declared.fault.FileFault.{FileFault}
 use Rattle.capture_file.specs.Blocks.{block_at}
-use Rattle.capture_file.specs.Fields.{◌>>=◌, Gives}
+use Rattle.capture_file.specs.Fields.{Takes}
+use Rattle.st_format.specs.Reading.{◌>>=◌}
 use Rattle.capture_file.specs.StateFile.{Kept}
 use Rattle.receiver_file.specs.Front.{head_at, name_at}
 use Rattle.receiver_file.specs.Saved.{kept_of}
@@ -85,16 +86,16 @@ state_rest octets =
           h.0;
     })))))
 
-gives_end : (old new : Option (List ℕ)) (k : Kept) → Gives state_at old new k → (octets : List ℕ)
+gives_end : (old new : Option (List ℕ)) (k : Kept) → Takes state_at old new k → (octets : List ℕ)
     → old ≡ Some octets → IsAtEnd new
 gives_end None new k p octets e = absurd cc
 gives_end (Some o) None k p octets e = absurd p
 gives_end (Some o) (Some rest) k p octets e = sym (ap rest_of p) ∙ state_rest o
 
 pub loaded_end : (old new : Option (List ℕ)) (r : Result State FileFault)
-    → IfOk r (λ s. Gives state_at old new (kept_of s))
+    → IfOk r (λ s. Takes state_at old new (kept_of s))
     → IfOk r (λ s. (octets : List ℕ) → old ≡ Some octets → IsAtEnd new)
 loaded_end old new r p =
-    IfOk-weaker r (λ s. Gives state_at old new (kept_of s))
+    IfOk-weaker r (λ s. Takes state_at old new (kept_of s))
     (λ s. (octets : List ℕ) → old ≡ Some octets → IsAtEnd new)
     (λ s. gives_end old new (kept_of s)) p

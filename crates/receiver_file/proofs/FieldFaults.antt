@@ -11,7 +11,8 @@ use Rattle.path_merge.specs.Opening.{IsWindowSize}
 use Rattle.capture_file.specs.declared.fault.FileFault.{FileFault}
 use Rattle.capture_file.specs.declared.fault.FileFault.TheVariants.{BadField, Truncated}
 use Rattle.capture_file.specs.Blocks.{block_at, block_of}
-use Rattle.capture_file.specs.Fields.{◌>>=◌, field_at}
+use Rattle.capture_file.specs.Fields.{field_at}
+use Rattle.st_format.specs.Reading.{◌>>=◌}
 use Rattle.capture_file.specs.Fronts.{with_rest}
 use Rattle.capture_file.specs.StateFile.{SsrcFits}
 use Rattle.capture_file.proofs.BlockFaults.{block_again, block_fails}

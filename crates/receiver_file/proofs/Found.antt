@@ -17,7 +17,8 @@ use Rattle.capture_file.specs.declared.fault.FileFault.TheVariants.{TrailingByte
 use Rattle.capture_file.specs.declared.front.Version.{Version}
 use Rattle.capture_file.specs.declared.front.Version.TheVariants.{One, Two}
 use Rattle.capture_file.specs.Blocks.{block_at}
-use Rattle.capture_file.specs.Fields.{◌>>=◌, Gives, Leaves, field_at}
+use Rattle.capture_file.specs.Fields.{Takes, Leaves, field_at}
+use Rattle.st_format.specs.Reading.{◌>>=◌}
 use Rattle.capture_file.specs.Fronts.{kind_at, kind_text, receiver_name, with_rest}
 use Rattle.capture_file.specs.Groups.{Shape, groups_at, groups_text, shape_of}
 use Rattle.capture_file.specs.StateFile.{Held, Kept, format_text, group_count, held_text}
@@ -375,14 +376,14 @@ text_by : (k : Kept) (octets : List ℕ) (new : Option (List ℕ)) → AreOctets
 text_by k octets None bytes p = absurd p
 text_by k octets (Some rest) bytes p = state_takes octets (k, rest) bytes p
 
-text_told : (k : Kept) (old new : Option (List ℕ)) → TellsOctets old → Gives state_at old new k
+text_told : (k : Kept) (old new : Option (List ℕ)) → TellsOctets old → Takes state_at old new k
     → (octets : List ℕ) → old ≡ Some octets → octets ≡ state_text k
 text_told k old new bytes p octets told =
     text_by k octets new (subst TellsOctets told bytes)
-    (subst (λ (o : Option (List ℕ)). Gives state_at o new k) told p)
+    (subst (λ (o : Option (List ℕ)). Takes state_at o new k) told p)
 
 pub found_state : (old new : Option (List ℕ)) (r : Result State FileFault)
-    → IfOk r (λ s. Gives state_at old new (kept_of s)) → TellsOctets old
+    → IfOk r (λ s. Takes state_at old new (kept_of s)) → TellsOctets old
     → IfOk r IsWritable
     → IfOk r (λ s. (octets : List ℕ) → old ≡ Some octets
     → (octets ≡ state_text (kept_of s)) × IsSaved (kept_of s))

@@ -13,7 +13,8 @@ use Rattle.path_merge.specs.Opening.{AreDifferent}
 use Rattle.path_merge.proofs.Answered.{any_from_member, member_from_any}
 use Rattle.capture_file.specs.declared.fault.FileFault.{FileFault}
 use Rattle.capture_file.specs.declared.fault.FileFault.TheVariants.{BadField, Truncated}
-use Rattle.capture_file.specs.Fields.{◌>>=◌, field_at}
+use Rattle.capture_file.specs.Fields.{field_at}
+use Rattle.st_format.specs.Reading.{◌>>=◌}
 use Rattle.capture_file.specs.Fronts.{with_rest}
 use Rattle.capture_file.specs.Groups.{IsGroup, Shape, group_at, groups_at, groups_text}
 use Rattle.capture_file.specs.StateFile.{Held, IsHeld, group_count, held_text}

@@ -7,7 +7,7 @@ use Rattle.st_format.specs.Fields.{Fields, fields_of}
 use Rattle.st_format.specs.Raster.{Raster}
 use Rattle.st_format.specs.Position.{row_groups}
 use Rattle.capture_file.specs.declared.fault.FileFault.{FileFault}
-use Rattle.capture_file.specs.Fields.{Fails, Gives}
+use Rattle.capture_file.specs.Fields.{Fails, Takes}
 use Rattle.capture_file.specs.Groups.{groups_at, shape_of}
 use Rattle.capture_file.specs.StateFile.{Held, group_count, held_of}
 use Rattle.receiver_file.specs.Known.{rows_cut, shape_in}
@@ -19,14 +19,14 @@ use Rattle.receiver_file.proofs.Stamped.{kept_more, kept_stamps}
 
 -- the groups of a frame, in the words of its format's fields
 pub frame_read : (f o h : Format) (cells : List Cell) (old new : Option (List ℕ)) → o ≡ f → h ≡ o
-    → Gives (groups_at (shape_in o) (o.height * row_groups o)) old new
+    → Takes (groups_at (shape_in o) (o.height * row_groups o)) old new
     (rows_cut (record { format = h; cells = cells }) o.height)
-    → Gives (groups_at (shape_in f) (group_count (fields_of f))) old new
+    → Takes (groups_at (shape_in f) (group_count (fields_of f))) old new
     (groups_in (fields_of f) cells)
 frame_read f o h cells old new e k p =
-    subst (λ (x : Format). Gives (groups_at (shape_in x) (x.height * row_groups x)) old new
+    subst (λ (x : Format). Takes (groups_at (shape_in x) (x.height * row_groups x)) old new
     (rows_cut (record { format = x; cells = cells }) x.height)) e
-    (subst (λ (x : Format). Gives (groups_at (shape_in o) (o.height * row_groups o)) old new
+    (subst (λ (x : Format). Takes (groups_at (shape_in o) (o.height * row_groups o)) old new
     (rows_cut (record { format = x; cells = cells }) o.height)) k p)
 
 pub frame_fails : (f o : Format) (old : Option (List ℕ)) (e : FileFault) → o ≡ f
@@ -36,20 +36,20 @@ frame_fails f o old e k p =
     subst (λ (x : Format). Fails (groups_at (shape_in x) (x.height * row_groups x)) old e) k p
 
 behind_window : (f : Fields) (w : List ℕ) (rs : List Raster) (old mid : Option (List ℕ)) (t : ℕ)
-    → length rs ≡ length w → Gives (timestamp_at w) old mid t
-    → Gives (timestamp_at (map timestamp_in (kept_frames f w rs))) old mid t
+    → length rs ≡ length w → Takes (timestamp_at w) old mid t
+    → Takes (timestamp_at (map timestamp_in (kept_frames f w rs))) old mid t
 behind_window f w rs old mid t e p =
-    subst (λ (b : List ℕ). Gives (timestamp_at b) old mid t) (sym (kept_stamps f w rs e)) p
+    subst (λ (b : List ℕ). Takes (timestamp_at b) old mid t) (sym (kept_stamps f w rs e)) p
 
 -- one frame more
 pub frames_next : (f : Fields) (i : ℕ) (w : List ℕ) (rs : List Raster) (t : ℕ) (r : Raster)
     (old mid next new : Option (List ℕ)) → length rs ≡ length w
-    → Gives (all_held_at f i []) old mid (kept_frames f w rs) → Gives (timestamp_at w) mid next t
-    → Gives (groups_at (shape_of f.sampling f.depth) (group_count f)) next new
+    → Takes (all_held_at f i []) old mid (kept_frames f w rs) → Takes (timestamp_at w) mid next t
+    → Takes (groups_at (shape_of f.sampling f.depth) (group_count f)) next new
     (groups_in f r.cells)
-    → Gives (all_held_at f (i + 1) []) old new (kept_frames f (w ++ t ∷ []) (rs ++ r ∷ []))
+    → Takes (all_held_at f (i + 1) []) old new (kept_frames f (w ++ t ∷ []) (rs ++ r ∷ []))
 frames_next f i w rs t r old mid next new e p q s =
-    subst (λ (hs : List Held). Gives (all_held_at f (i + 1) []) old new hs)
+    subst (λ (hs : List Held). Takes (all_held_at f (i + 1) []) old new hs)
     (sym (kept_more f w rs t r e))
     (frames_more f i old mid new (kept_frames f w rs) (held_of f t r.cells) p
     (held_gives f (map timestamp_in (kept_frames f w rs)) mid next new t (groups_in f r.cells)
@@ -58,7 +58,7 @@ frames_next f i w rs t r old mid next new e p q s =
 -- faults of the next one
 pub frames_stamp : (f : Fields) (i n : ℕ) (w : List ℕ) (rs : List Raster)
     (old mid : Option (List ℕ)) (x : FileFault) → i < n → length rs ≡ length w
-    → Gives (all_held_at f i []) old mid (kept_frames f w rs) → Fails (timestamp_at w) mid x
+    → Takes (all_held_at f i []) old mid (kept_frames f w rs) → Fails (timestamp_at w) mid x
     → Fails (all_held_at f n []) old x
 frames_stamp f i n w rs old mid x lt e p q =
     frames_stop f i (n - (i + 1)) n old mid (kept_frames f w rs) x (omega arith) p
@@ -67,7 +67,7 @@ frames_stamp f i n w rs old mid x lt e p q =
 
 pub frames_groups : (f : Fields) (i n : ℕ) (w : List ℕ) (rs : List Raster) (t : ℕ)
     (old mid next : Option (List ℕ)) (x : FileFault) → i < n → length rs ≡ length w
-    → Gives (all_held_at f i []) old mid (kept_frames f w rs) → Gives (timestamp_at w) mid next t
+    → Takes (all_held_at f i []) old mid (kept_frames f w rs) → Takes (timestamp_at w) mid next t
     → Fails (groups_at (shape_of f.sampling f.depth) (group_count f)) next x
     → Fails (all_held_at f n []) old x
 frames_groups f i n w rs t old mid next x lt e p q s =
@@ -78,28 +78,28 @@ frames_groups f i n w rs t old mid next x lt e p q s =
 -- ---- with what a loop has so far
 
 pub frames_start : (f : Fields) (w : List ℕ) (rs : List Raster) (known : Option (List ℕ)) → w ≡ []
-    → Gives (all_held_at f 0 []) known known (kept_frames f w rs)
+    → Takes (all_held_at f 0 []) known known (kept_frames f w rs)
 frames_start f w rs known e =
-    subst (λ (x : List ℕ). Gives (all_held_at f 0 []) known known (kept_frames f x rs)) (sym e)
+    subst (λ (x : List ℕ). Takes (all_held_at f 0 []) known known (kept_frames f x rs)) (sym e)
     (frames_none f known)
 
 pub frames_push : (f : Fields) (i : ℕ) (w ws before : List ℕ) (rs xs : List Raster) (t : ℕ)
     (r : Raster) (old mid next new : Option (List ℕ)) → ws ≡ w ++ t ∷ [] → xs ≡ rs ++ r ∷ []
     → before ≡ w → length rs ≡ length w
-    → Gives (all_held_at f i []) old mid (kept_frames f w rs)
-    → Gives (timestamp_at before) mid next t
-    → Gives (groups_at (shape_of f.sampling f.depth) (group_count f)) next new
-    (groups_in f r.cells) → Gives (all_held_at f (i + 1) []) old new (kept_frames f ws xs)
+    → Takes (all_held_at f i []) old mid (kept_frames f w rs)
+    → Takes (timestamp_at before) mid next t
+    → Takes (groups_at (shape_of f.sampling f.depth) (group_count f)) next new
+    (groups_in f r.cells) → Takes (all_held_at f (i + 1) []) old new (kept_frames f ws xs)
 frames_push f i w ws before rs xs t r old mid next new a b at e p q s =
-    subst (λ (x : List ℕ). Gives (all_held_at f (i + 1) []) old new (kept_frames f x xs)) (sym a)
-    (subst (λ (x : List Raster). Gives (all_held_at f (i + 1) []) old new
+    subst (λ (x : List ℕ). Takes (all_held_at f (i + 1) []) old new (kept_frames f x xs)) (sym a)
+    (subst (λ (x : List Raster). Takes (all_held_at f (i + 1) []) old new
     (kept_frames f (w ++ t ∷ []) x)) (sym b)
     (frames_next f i w rs t r old mid next new e p
-    (subst (λ (x : List ℕ). Gives (timestamp_at x) mid next t) at q) s))
+    (subst (λ (x : List ℕ). Takes (timestamp_at x) mid next t) at q) s))
 
 pub stamp_stop : (f : Fields) (i n : ℕ) (w before : List ℕ) (rs : List Raster)
     (old mid : Option (List ℕ)) (x : FileFault) → before ≡ w → i < n → length rs ≡ length w
-    → Gives (all_held_at f i []) old mid (kept_frames f w rs) → Fails (timestamp_at before) mid x
+    → Takes (all_held_at f i []) old mid (kept_frames f w rs) → Fails (timestamp_at before) mid x
     → Fails (all_held_at f n []) old x
 stamp_stop f i n w before rs old mid x at lt e p q =
     frames_stamp f i n w rs old mid x lt e p
@@ -107,10 +107,10 @@ stamp_stop f i n w before rs old mid x at lt e p q =
 
 pub groups_stop : (f : Fields) (i n : ℕ) (w before : List ℕ) (rs : List Raster) (t : ℕ)
     (old mid next : Option (List ℕ)) (x : FileFault) → before ≡ w → i < n → length rs ≡ length w
-    → Gives (all_held_at f i []) old mid (kept_frames f w rs)
-    → Gives (timestamp_at before) mid next t
+    → Takes (all_held_at f i []) old mid (kept_frames f w rs)
+    → Takes (timestamp_at before) mid next t
     → Fails (groups_at (shape_of f.sampling f.depth) (group_count f)) next x
     → Fails (all_held_at f n []) old x
 groups_stop f i n w before rs t old mid next x at lt e p q s =
     frames_groups f i n w rs t old mid next x lt e p
-    (subst (λ (b : List ℕ). Gives (timestamp_at b) mid next t) at q) s
+    (subst (λ (b : List ℕ). Takes (timestamp_at b) mid next t) at q) s

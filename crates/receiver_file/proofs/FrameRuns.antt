@@ -5,7 +5,8 @@ use Rattle.std.proofs.Common.{arith}
 use Rattle.st_format.specs.declared.cell.Cell.{Cell}
 use Rattle.st_format.specs.Fields.{Fields}
 use Rattle.capture_file.specs.declared.fault.FileFault.{FileFault}
-use Rattle.capture_file.specs.Fields.{◌>>=◌, Fails, Gives}
+use Rattle.capture_file.specs.Fields.{Fails, Takes}
+use Rattle.st_format.specs.Reading.{◌>>=◌}
 use Rattle.capture_file.specs.Fronts.{with_rest}
 use Rattle.capture_file.specs.Groups.{groups_at, shape_of}
 use Rattle.capture_file.specs.StateFile.{Held, group_count}
@@ -75,15 +76,15 @@ one_held : (f : Fields) (before octets : List ℕ)
 unfolding all_held_at
 one_held f before octets = refl
 
-pub frames_none : (f : Fields) (known : Option (List ℕ)) → Gives (all_held_at f 0 []) known known []
+pub frames_none : (f : Fields) (known : Option (List ℕ)) → Takes (all_held_at f 0 []) known known []
 unfolding all_held_at
 frames_none f None = tt
 frames_none f (Some o) = refl
 
 -- one frame more
 pub frames_more : (f : Fields) (a : ℕ) (old mid new : Option (List ℕ)) (hs : List Held) (h : Held)
-    → Gives (all_held_at f a []) old mid hs → Gives (held_at f (map timestamp_in hs)) mid new h
-    → Gives (all_held_at f (a + 1) []) old new (hs ++ h ∷ [])
+    → Takes (all_held_at f a []) old mid hs → Takes (held_at f (map timestamp_in hs)) mid new h
+    → Takes (all_held_at f (a + 1) []) old new (hs ++ h ∷ [])
 frames_more f a None mid new hs h p q = tt
 frames_more f a (Some o) None new hs h p q = absurd p
 frames_more f a (Some o) (Some m) None hs h p q = absurd q
@@ -94,7 +95,7 @@ frames_more f a (Some o) (Some m) (Some rest) hs h p q =
     ∙ ap (λ (r : Result (Held × List ℕ) FileFault). r >>= λ x. ok_many (x.0 ∷ []) x.1) q)
 
 frames_fault : (f : Fields) (a : ℕ) (old mid : Option (List ℕ)) (hs : List Held) (e : FileFault)
-    → Gives (all_held_at f a []) old mid hs → Fails (held_at f (map timestamp_in hs)) mid e
+    → Takes (all_held_at f a []) old mid hs → Fails (held_at f (map timestamp_in hs)) mid e
     → Fails (all_held_at f (a + 1) []) old e
 frames_fault f a None mid hs e p q = tt
 frames_fault f a (Some o) None hs e p q = absurd p
@@ -115,7 +116,7 @@ frames_cut f a b (Some o) e p =
 
 -- a fault of a frame, before some that weren't read
 pub frames_stop : (f : Fields) (a c n : ℕ) (old mid : Option (List ℕ)) (hs : List Held)
-    (e : FileFault) → (a + 1) + c ≡ n → Gives (all_held_at f a []) old mid hs
+    (e : FileFault) → (a + 1) + c ≡ n → Takes (all_held_at f a []) old mid hs
     → Fails (held_at f (map timestamp_in hs)) mid e → Fails (all_held_at f n []) old e
 frames_stop f a c n old mid hs e sum p q =
     subst (λ (k : ℕ). Fails (all_held_at f k []) old e) sum
@@ -132,9 +133,9 @@ with_groups f t octets =
     (λ g rest. with_rest (Ok (made t g)) rest) octets
 
 pub held_gives : (f : Fields) (before : List ℕ) (old mid new : Option (List ℕ)) (t : ℕ)
-    (gs : List (List Cell)) → Gives (timestamp_at before) old mid t
-    → Gives (groups_at (shape_of f.sampling f.depth) (group_count f)) mid new gs
-    → Gives (held_at f before) old new (made t gs)
+    (gs : List (List Cell)) → Takes (timestamp_at before) old mid t
+    → Takes (groups_at (shape_of f.sampling f.depth) (group_count f)) mid new gs
+    → Takes (held_at f before) old new (made t gs)
 unfolding held_at
 held_gives f before old mid new t gs p q =
     gives_then (timestamp_at before) (with_groups f) old mid new t (made t gs) p
@@ -148,7 +149,7 @@ unfolding held_at
 held_cut f before old e p = fails_first (timestamp_at before) (with_groups f) old e p
 
 pub held_fails : (f : Fields) (before : List ℕ) (old mid : Option (List ℕ)) (t : ℕ) (e : FileFault)
-    → Gives (timestamp_at before) old mid t
+    → Takes (timestamp_at before) old mid t
     → Fails (groups_at (shape_of f.sampling f.depth) (group_count f)) mid e
     → Fails (held_at f before) old e
 unfolding held_at

@@ -7,7 +7,7 @@ use Rattle.capture_file.specs.declared.fault.FileFault.{FileFault}
 use Rattle.capture_file.specs.declared.fault.FileFault.TheVariants.{BadField, BadVersion}
 use Rattle.capture_file.specs.declared.front.Version.{Version}
 use Rattle.capture_file.specs.declared.front.Version.TheVariants.{One, Two}
-use Rattle.capture_file.specs.Fields.{Fails, Gives}
+use Rattle.capture_file.specs.Fields.{Fails, Takes}
 use Rattle.capture_file.specs.Fronts.{kind_at, receiver_name}
 use Rattle.capture_file.proofs.Parsing.{fails_first, fails_then, gives_then, then_reads}
 use Rattle.receiver_file.specs.declared.front.Head.{Head}
@@ -28,14 +28,14 @@ pub payload_type_cut : (old : Option (List ℕ)) (f : FileFault) → Fails octet
 unfolding payload_type_at
 payload_type_cut old f p = value_cut octet_at payload_type_of old f p
 
-pub payload_type_gives : (old mid : Option (List ℕ)) (n : ℕ) → n ≤ 127 → Gives octet_at old mid n
-    → Gives payload_type_at old mid n
+pub payload_type_gives : (old mid : Option (List ℕ)) (n : ℕ) → n ≤ 127 → Takes octet_at old mid n
+    → Takes payload_type_at old mid n
 unfolding payload_type_at
 payload_type_gives old mid n le p =
     value_gives octet_at payload_type_of old mid n n p
     (ap (λ (b : Bool). cond b bad (ok n)) (le-ltb 127 n le))
 
-pub payload_type_high : (old mid : Option (List ℕ)) (n : ℕ) → 127 < n → Gives octet_at old mid n
+pub payload_type_high : (old mid : Option (List ℕ)) (n : ℕ) → 127 < n → Takes octet_at old mid n
     → Fails payload_type_at old BadField
 unfolding payload_type_at
 payload_type_high old mid n lt p =
@@ -47,12 +47,12 @@ unfolding flag_at
 flag_cut old f p = value_cut octet_at flag_of old f p
 
 pub flag_gives : (old mid : Option (List ℕ)) (n : ℕ) (r : Result Bool FileFault)
-    → Gives octet_at old mid n → r ≡ flag_of n → IfOk r (λ b. Gives flag_at old mid b)
+    → Takes octet_at old mid n → r ≡ flag_of n → IfOk r (λ b. Takes flag_at old mid b)
 unfolding flag_at
 flag_gives old mid n r p e = call_gives octet_at flag_of old mid n r p e
 
 pub flag_fails : (old mid : Option (List ℕ)) (n : ℕ) (r : Result Bool FileFault)
-    → Gives octet_at old mid n → r ≡ flag_of n → IfErr r (λ f. Fails flag_at old f)
+    → Takes octet_at old mid n → r ≡ flag_of n → IfErr r (λ f. Fails flag_at old f)
 unfolding flag_at
 flag_fails old mid n r p e = call_fails octet_at flag_of old mid n r p e
 
@@ -62,21 +62,21 @@ unfolding count_at
 count_cut old f p = value_cut octet_at count_of old f p
 
 pub count_gives : (old mid : Option (List ℕ)) (n : ℕ) → (n ≡ 0 → ⊥) → n ≤ 16
-    → Gives octet_at old mid n → Gives count_at old mid n
+    → Takes octet_at old mid n → Takes count_at old mid n
 unfolding count_at
 count_gives old mid n some few p =
     value_gives octet_at count_of old mid n n p
     (ap (λ (b : Bool). cond (b || ltb 16 n) bad (ok n)) (ne_eqb n 0 some)
     ∙ ap (λ (b : Bool). cond b bad (ok n)) (le-ltb 16 n few))
 
-pub count_none : (old mid : Option (List ℕ)) (n : ℕ) → n ≡ 0 → Gives octet_at old mid n
+pub count_none : (old mid : Option (List ℕ)) (n : ℕ) → n ≡ 0 → Takes octet_at old mid n
     → Fails count_at old BadField
 unfolding count_at
 count_none old mid n none p =
     value_fails octet_at count_of old mid n BadField p
     (ap (λ (b : Bool). cond (b || ltb 16 n) bad (ok n)) (eq-eqb n 0 none))
 
-pub count_many : (old mid : Option (List ℕ)) (n : ℕ) → 16 < n → Gives octet_at old mid n
+pub count_many : (old mid : Option (List ℕ)) (n : ℕ) → 16 < n → Takes octet_at old mid n
     → Fails count_at old BadField
 unfolding count_at
 count_many old mid n many p =
@@ -92,12 +92,12 @@ unfolding name_at
 name_cut old f p = value_cut (kind_at receiver_name) only_one old f p
 
 pub name_one : (old mid : Option (List ℕ)) (v : Version) → v ≡ One
-    → Gives (kind_at receiver_name) old mid v → Gives name_at old mid tt
+    → Takes (kind_at receiver_name) old mid v → Takes name_at old mid tt
 unfolding name_at
 name_one old mid v e p = value_gives (kind_at receiver_name) only_one old mid v tt p (ap only_one e)
 
 pub name_two : (old mid : Option (List ℕ)) (v : Version) → v ≡ Two
-    → Gives (kind_at receiver_name) old mid v → Fails name_at old BadVersion
+    → Takes (kind_at receiver_name) old mid v → Fails name_at old BadVersion
 unfolding name_at
 name_two old mid v e p =
     value_fails (kind_at receiver_name) only_one old mid v BadVersion p (ap only_one e)
@@ -111,15 +111,15 @@ pub ssrc_cut : (old : Option (List ℕ)) (f : FileFault) → Fails flag_at old f
 unfolding ssrc_at
 ssrc_cut old f p = fails_first flag_at behind_flag old f p
 
-pub ssrc_short : (old mid : Option (List ℕ)) (b : Bool) (f : FileFault) → Gives flag_at old mid b
+pub ssrc_short : (old mid : Option (List ℕ)) (b : Bool) (f : FileFault) → Takes flag_at old mid b
     → Fails number_at mid f → Fails ssrc_at old f
 unfolding ssrc_at
 ssrc_short old mid b f p q =
     fails_then flag_at behind_flag old mid b f p (value_cut number_at (ssrc_of b) mid f q)
 
 pub ssrc_gives : (old mid new : Option (List ℕ)) (b : Bool) (n : ℕ)
-    (r : Result (Option ℕ) FileFault) → Gives flag_at old mid b → Gives number_at mid new n
-    → r ≡ ssrc_of b n → IfOk r (λ s. Gives ssrc_at old new s)
+    (r : Result (Option ℕ) FileFault) → Takes flag_at old mid b → Takes number_at mid new n
+    → r ≡ ssrc_of b n → IfOk r (λ s. Takes ssrc_at old new s)
 unfolding ssrc_at
 ssrc_gives old mid new b n (Ok s) p q e =
     gives_then flag_at behind_flag old mid new b s p
@@ -127,7 +127,7 @@ ssrc_gives old mid new b n (Ok s) p q e =
 ssrc_gives old mid new b n (Err f) p q e = tt
 
 pub ssrc_fails : (old mid new : Option (List ℕ)) (b : Bool) (n : ℕ)
-    (r : Result (Option ℕ) FileFault) → Gives flag_at old mid b → Gives number_at mid new n
+    (r : Result (Option ℕ) FileFault) → Takes flag_at old mid b → Takes number_at mid new n
     → r ≡ ssrc_of b n → IfErr r (λ f. Fails ssrc_at old f)
 unfolding ssrc_at
 ssrc_fails old mid new b n (Ok s) p q e = tt
@@ -152,14 +152,14 @@ unfolding head_at
 head_first old f p = fails_first payload_type_at behind_type old f p
 
 pub head_second : (old mid : Option (List ℕ)) (n : ℕ) (f : FileFault)
-    → Gives payload_type_at old mid n → Fails ssrc_at mid f → Fails head_at old f
+    → Takes payload_type_at old mid n → Fails ssrc_at mid f → Fails head_at old f
 unfolding head_at
 head_second old mid n f p q =
     fails_then payload_type_at behind_type old mid n f p
     (fails_first ssrc_at (behind_ssrc n) mid f q)
 
 pub head_third : (old mid next : Option (List ℕ)) (n : ℕ) (s : Option ℕ) (f : FileFault)
-    → Gives payload_type_at old mid n → Gives ssrc_at mid next s → Fails count_at next f
+    → Takes payload_type_at old mid n → Takes ssrc_at mid next s → Fails count_at next f
     → Fails head_at old f
 unfolding head_at
 head_third old mid next n s f p q r =
@@ -168,8 +168,8 @@ head_third old mid next n s f p q r =
     (value_cut count_at (head_made n s) next f r))
 
 pub head_gives : (old mid next new : Option (List ℕ)) (n : ℕ) (s : Option ℕ) (count : ℕ)
-    → Gives payload_type_at old mid n → Gives ssrc_at mid next s → Gives count_at next new count
-    → Gives head_at old new (record { payload_type = n; ssrc = s; count = count })
+    → Takes payload_type_at old mid n → Takes ssrc_at mid next s → Takes count_at next new count
+    → Takes head_at old new (record { payload_type = n; ssrc = s; count = count })
 unfolding head_at
 head_gives old mid next new n s count p q r =
     gives_then payload_type_at behind_type old mid new n

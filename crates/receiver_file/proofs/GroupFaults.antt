@@ -15,7 +15,8 @@ use Rattle.st_format.specs.Samples.{values_in}
 use Rattle.st_format.proofs.WholeOctets.{values_in-fit}
 use Rattle.capture_file.specs.declared.fault.FileFault.{FileFault}
 use Rattle.capture_file.specs.declared.fault.FileFault.TheVariants.{BadField, MixedGroup, Truncated}
-use Rattle.capture_file.specs.Fields.{◌>>=◌, field_at}
+use Rattle.capture_file.specs.Fields.{field_at}
+use Rattle.st_format.specs.Reading.{◌>>=◌}
 use Rattle.capture_file.specs.Groups.{IsGroup, IsHad, IsShape, Shape, are_zeroed, cells_by}
 use Rattle.capture_file.specs.Groups.{group_at, group_text, groups_at, groups_text, mixed_by}
 use Rattle.capture_file.proofs.Entries.{chosen}

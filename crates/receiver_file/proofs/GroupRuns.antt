@@ -7,7 +7,8 @@ use Rattle.std.proofs.lemmas.Grind.{flat_map-append}
 use Rattle.st_format.specs.declared.cell.Cell.{Cell}
 use Rattle.st_format.specs.Device.{AppendsPrefix}
 use Rattle.capture_file.specs.declared.fault.FileFault.{FileFault}
-use Rattle.capture_file.specs.Fields.{◌>>=◌, Fails, Gives}
+use Rattle.capture_file.specs.Fields.{Fails, Takes}
+use Rattle.st_format.specs.Reading.{◌>>=◌}
 use Rattle.capture_file.specs.Groups.{Shape, group_at, group_text, groups_at, groups_text}
 use Rattle.capture_file.proofs.Content.{if_content_weaker}
 use Rattle.capture_file.proofs.Written.{prefix_first, prefix_then}
@@ -57,8 +58,8 @@ groups_add s (suc a) b octets =
     ap (λ (n : ℕ). groups_at s n octets) e ∙ first_both s a b (group_at s octets) (groups_add s a b)
 
 pub groups_more : (s : Shape) (a b : ℕ) (old mid new : Option (List ℕ)) (gs hs : List (List Cell))
-    → Gives (groups_at s a) old mid gs → Gives (groups_at s b) mid new hs
-    → Gives (groups_at s (a + b)) old new (gs ++ hs)
+    → Takes (groups_at s a) old mid gs → Takes (groups_at s b) mid new hs
+    → Takes (groups_at s (a + b)) old new (gs ++ hs)
 groups_more s a b None mid new gs hs p q = tt
 groups_more s a b (Some o) None new gs hs p q = absurd p
 groups_more s a b (Some o) (Some m) None gs hs p q = absurd q
@@ -66,7 +67,7 @@ groups_more s a b (Some o) (Some m) (Some rest) gs hs p q =
     groups_add s a b o ∙ ap (both s b) p ∙ ap (λ (r : Many). r >>= λ y. ok_many (gs ++ y.0) y.1) q
 
 groups_fault : (s : Shape) (a b : ℕ) (old mid : Option (List ℕ)) (gs : List (List Cell))
-    (f : FileFault) → Gives (groups_at s a) old mid gs → Fails (groups_at s b) mid f
+    (f : FileFault) → Takes (groups_at s a) old mid gs → Fails (groups_at s b) mid f
     → Fails (groups_at s (a + b)) old f
 groups_fault s a b None mid gs f p q = tt
 groups_fault s a b (Some o) None gs f p q = absurd p
@@ -84,20 +85,20 @@ groups_cut s a b (Some o) f p =
 
 -- a fault behind groups that were read, before some that weren't
 pub groups_stop : (s : Shape) (a b c n : ℕ) (old mid : Option (List ℕ)) (gs : List (List Cell))
-    (f : FileFault) → (a + b) + c ≡ n → Gives (groups_at s a) old mid gs
+    (f : FileFault) → (a + b) + c ≡ n → Takes (groups_at s a) old mid gs
     → Fails (groups_at s b) mid f → Fails (groups_at s n) old f
 groups_stop s a b c n old mid gs f e p q =
     subst (λ (k : ℕ). Fails (groups_at s k) old f) e
     (groups_cut s (a + b) c old f (groups_fault s a b old mid gs f p q))
 
 -- no group, and one
-pub groups_none : (s : Shape) (known : Option (List ℕ)) → Gives (groups_at s 0) known known []
+pub groups_none : (s : Shape) (known : Option (List ℕ)) → Takes (groups_at s 0) known known []
 unfolding groups_at
 groups_none s None = tt
 groups_none s (Some o) = refl
 
 pub groups_one : (s : Shape) (old new : Option (List ℕ)) (g : List Cell)
-    → Gives (group_at s) old new g → Gives (groups_at s 1) old new (g ∷ [])
+    → Takes (group_at s) old new g → Takes (groups_at s 1) old new (g ∷ [])
 unfolding groups_at
 groups_one s None new g p = tt
 groups_one s (Some o) None g p = absurd p

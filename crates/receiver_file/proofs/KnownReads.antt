@@ -16,7 +16,8 @@ use Rattle.frame_assembly.specs.Rows.{given_cells}
 use Rattle.pgroup_pack.specs.Groups.{blanked}
 use Rattle.capture_file.specs.declared.fault.FileFault.{FileFault}
 use Rattle.capture_file.specs.declared.fault.FileFault.TheVariants.{BadField, Truncated}
-use Rattle.capture_file.specs.Fields.{◌>>=◌, Fails, Gives, field_at}
+use Rattle.capture_file.specs.Fields.{Fails, Takes, field_at}
+use Rattle.st_format.specs.Reading.{◌>>=◌}
 use Rattle.capture_file.specs.Fronts.{with_rest}
 use Rattle.capture_file.specs.Groups.{Shape, group_at}
 use Rattle.capture_file.proofs.Content.{if_content_weaker}
@@ -73,8 +74,8 @@ group_is s (x ∷ xs) =
     (sym (octet_is x xs))
 
 gives_alike : {A : Type 0} (r q : List ℕ → Result (A × List ℕ) FileFault)
-    → ((o : List ℕ) → q o ≡ r o) → (old new : Option (List ℕ)) (x : A) → Gives r old new x
-    → Gives q old new x
+    → ((o : List ℕ) → q o ≡ r o) → (old new : Option (List ℕ)) (x : A) → Takes r old new x
+    → Takes q old new x
 gives_alike r q e None new x p = tt
 gives_alike r q e (Some o) None x p = absurd p
 gives_alike r q e (Some o) (Some rest) x p = e o ∙ p
@@ -88,19 +89,19 @@ fails_alike {A} r q e (Some o) f p =
 
 -- a state, and what is behind it
 group_gives : (s : Shape) (old mid new : Option (List ℕ)) (n m : ℕ) (cells : List Cell) → n ≡ m
-    → Gives octet_at old mid n → Gives (group_by s m) mid new cells
-    → Gives (group_at s) old new cells
+    → Takes octet_at old mid n → Takes (group_by s m) mid new cells
+    → Takes (group_at s) old new cells
 group_gives s old mid new n m cells e p q =
     gives_alike (then_reads octet_at (group_by s)) (group_at s) (group_is s) old new cells
     (gives_then octet_at (group_by s) old mid new m cells
-    (subst (λ (k : ℕ). Gives octet_at old mid k) e p) q)
+    (subst (λ (k : ℕ). Takes octet_at old mid k) e p) q)
 
 group_fails : (s : Shape) (old mid : Option (List ℕ)) (n m : ℕ) (f : FileFault) → n ≡ m
-    → Gives octet_at old mid n → Fails (group_by s m) mid f → Fails (group_at s) old f
+    → Takes octet_at old mid n → Fails (group_by s m) mid f → Fails (group_at s) old f
 group_fails s old mid n m f e p q =
     fails_alike (then_reads octet_at (group_by s)) (group_at s) (group_is s) old f
     (fails_then octet_at (group_by s) old mid m f
-    (subst (λ (k : ℕ). Gives octet_at old mid k) e p) q)
+    (subst (λ (k : ℕ). Takes octet_at old mid k) e p) q)
 
 pub group_cut : (s : Shape) (old : Option (List ℕ)) (f : FileFault) → Fails octet_at old f
     → Fails (group_at s) old f
@@ -108,43 +109,43 @@ group_cut s old f p =
     fails_alike (then_reads octet_at (group_by s)) (group_at s) (group_is s) old f
     (fails_first octet_at (group_by s) old f p)
 
-pub gone_gives : (s : Shape) (old mid : Option (List ℕ)) (n : ℕ) → n ≡ 0 → Gives octet_at old mid n
-    → Gives (group_at s) old mid (replicate s.samples Missing)
+pub gone_gives : (s : Shape) (old mid : Option (List ℕ)) (n : ℕ) → n ≡ 0 → Takes octet_at old mid n
+    → Takes (group_at s) old mid (replicate s.samples Missing)
 gone_gives s old mid n e p =
     group_gives s old mid mid n 0 (replicate s.samples Missing) e p
     (gives_pure (ok_cells (replicate s.samples Missing)) mid (replicate s.samples Missing) refl)
 
 pub whole_gives : (s : Shape) (old mid new : Option (List ℕ)) (n : ℕ) (octets : List ℕ) → n ≡ 1
-    → Gives octet_at old mid n → Gives (field_at s.octets) mid new octets
-    → Gives (group_at s) old new (map Value (values_in s.bits octets))
+    → Takes octet_at old mid n → Takes (field_at s.octets) mid new octets
+    → Takes (group_at s) old new (map Value (values_in s.bits octets))
 whole_gives s old mid new n octets e p q =
     group_gives s old mid new n 1 (map Value (values_in s.bits octets)) e p
     (value_gives (field_at s.octets) (whole_by s) mid new octets
     (map Value (values_in s.bits octets)) q refl)
 
 pub whole_short : (s : Shape) (old mid : Option (List ℕ)) (n : ℕ) (f : FileFault) → n ≡ 1
-    → Gives octet_at old mid n → Fails (field_at s.octets) mid f → Fails (group_at s) old f
+    → Takes octet_at old mid n → Fails (field_at s.octets) mid f → Fails (group_at s) old f
 whole_short s old mid n f e p q =
     group_fails s old mid n 1 f e p (value_cut (field_at s.octets) (whole_by s) mid f q)
 
 pub mixed_then : (s : Shape) (old mid new : Option (List ℕ)) (n : ℕ) (octets : List ℕ)
-    (r : Result GroupState FileFault) → n ≡ 2 → Gives octet_at old mid n
-    → IfOk r (λ state. Gives (mixed_at s) mid new (cells_known s state octets))
-    → IfOk r (λ state. Gives (group_at s) old new (cells_known s state octets))
+    (r : Result GroupState FileFault) → n ≡ 2 → Takes octet_at old mid n
+    → IfOk r (λ state. Takes (mixed_at s) mid new (cells_known s state octets))
+    → IfOk r (λ state. Takes (group_at s) old new (cells_known s state octets))
 mixed_then s old mid new n octets r e p q =
-    IfOk-weaker r (λ state. Gives (mixed_at s) mid new (cells_known s state octets))
-    (λ state. Gives (group_at s) old new (cells_known s state octets))
+    IfOk-weaker r (λ state. Takes (mixed_at s) mid new (cells_known s state octets))
+    (λ state. Takes (group_at s) old new (cells_known s state octets))
     (λ state known. group_gives s old mid new n 2 (cells_known s state octets) e p known) q
 
 pub mixed_fault : (s : Shape) (old mid : Option (List ℕ)) (n : ℕ) (r : Result GroupState FileFault)
-    → n ≡ 2 → Gives octet_at old mid n → IfErr r (λ f. Fails (mixed_at s) mid f)
+    → n ≡ 2 → Takes octet_at old mid n → IfErr r (λ f. Fails (mixed_at s) mid f)
     → IfErr r (λ f. Fails (group_at s) old f)
 mixed_fault s old mid n r e p q =
     IfErr-weaker r (λ f. Fails (mixed_at s) mid f) (λ f. Fails (group_at s) old f)
     (λ f known. group_fails s old mid n 2 f e p known) q
 
 pub state_bad : (s : Shape) (old mid : Option (List ℕ)) (n : ℕ) → (n ≡ 0 → ⊥) → (n ≡ 1 → ⊥)
-    → (n ≡ 2 → ⊥) → Gives octet_at old mid n → Fails (group_at s) old BadField
+    → (n ≡ 2 → ⊥) → Takes octet_at old mid n → Fails (group_at s) old BadField
 state_bad s old mid n none one two p = group_fails s old mid n n BadField refl p (other mid)
   where
     other : (known : Option (List ℕ)) → Fails (group_by s n) known BadField

@@ -6,7 +6,7 @@ use Rattle.st_format.specs.declared.cell.Cell.{Cell}
 use Rattle.st_format.specs.Samples.{values_in}
 use Rattle.capture_file.specs.declared.fault.FileFault.{FileFault}
 use Rattle.capture_file.specs.declared.fault.FileFault.TheVariants.{MixedGroup}
-use Rattle.capture_file.specs.Fields.{Fails, Gives, field_at}
+use Rattle.capture_file.specs.Fields.{Fails, Takes, field_at}
 use Rattle.capture_file.specs.Groups.{Shape, are_zeroed, cells_by, mixed_by}
 use Rattle.capture_file.proofs.Parsing.{fails_first, fails_then, gives_then, then_reads}
 use Rattle.receiver_file.specs.Known.{mixed_at}
@@ -31,7 +31,7 @@ unfolding mixed_at
 mixed_cut s old f p = fails_first (field_at 2) (behind s) old f p
 
 pub mixed_short : (s : Shape) (old mid : Option (List ℕ)) (m : List ℕ) (f : FileFault)
-    → Gives (field_at 2) old mid m → Fails (field_at s.octets) mid f → Fails (mixed_at s) old f
+    → Takes (field_at 2) old mid m → Fails (field_at s.octets) mid f → Fails (mixed_at s) old f
 unfolding mixed_at
 mixed_short s old mid m f p q =
     fails_then (field_at 2) (behind s) old mid m f p
@@ -46,13 +46,13 @@ other_fails s mask values (Some o) e =
 
 one_gives : (s : Shape) (mask : ℕ) (values : List ℕ) (known : Option (List ℕ))
     → is_other s mask values ≡ false
-    → Gives (mixed_by s mask values) known known (cells_by mask values)
+    → Takes (mixed_by s mask values) known known (cells_by mask values)
 one_gives s mask values None e = tt
 one_gives s mask values (Some o) e =
     ap (λ (b : Bool). let r : Cells = cond b (Err MixedGroup) (Ok (cells_by mask values, o)) in r) e
 
 pub mixed_other : (s : Shape) (old mid new : Option (List ℕ)) (m octets : List ℕ)
-    → Gives (field_at 2) old mid m → Gives (field_at s.octets) mid new octets
+    → Takes (field_at 2) old mid m → Takes (field_at s.octets) mid new octets
     → is_other s (from_be_bytes w16 m) (values_in s.bits octets) ≡ true
     → Fails (mixed_at s) old MixedGroup
 unfolding mixed_at
@@ -64,9 +64,9 @@ mixed_other s old mid new m octets p q e =
     (other_fails s (from_be_bytes w16 m) (values_in s.bits octets) new e))
 
 pub mixed_gives : (s : Shape) (old mid new : Option (List ℕ)) (m octets : List ℕ)
-    → Gives (field_at 2) old mid m → Gives (field_at s.octets) mid new octets
+    → Takes (field_at 2) old mid m → Takes (field_at s.octets) mid new octets
     → is_other s (from_be_bytes w16 m) (values_in s.bits octets) ≡ false
-    → Gives (mixed_at s) old new (cells_by (from_be_bytes w16 m) (values_in s.bits octets))
+    → Takes (mixed_at s) old new (cells_by (from_be_bytes w16 m) (values_in s.bits octets))
 unfolding mixed_at
 mixed_gives s old mid new m octets p q e =
     gives_then (field_at 2) (behind s) old mid new m

@@ -10,7 +10,7 @@ use Rattle.st_format.specs.Fields.{Fields}
 use Rattle.capture_file.specs.declared.fault.FileFault.{FileFault}
 use Rattle.capture_file.specs.declared.fault.FileFault.TheVariants.{BadField, MixedGroup, Truncated}
 use Rattle.capture_file.specs.Blocks.{block_at}
-use Rattle.capture_file.specs.Fields.{◌>>=◌}
+use Rattle.st_format.specs.Reading.{◌>>=◌}
 use Rattle.capture_file.specs.Groups.{group_at, groups_text}
 use Rattle.capture_file.specs.PictureFaults.{IsFormat}
 use Rattle.capture_file.specs.StateFile.{Held, SsrcFits, held_text, ssrc_text}

@@ -2,19 +2,16 @@
 use Rattle.std.proofs.Common.{◌≡◌, ℕ, suc, ◌*◌, List, [], ◌∷◌, length, map, All, Option, Some}
 use Rattle.std.proofs.Common.{Result, Ok, Err, refl, sym, ap, ◌∙◌, subst, arith}
 use Rattle.std.specs.Prelude.{IfErr, IfOk}
-use native.Mathlib.Nat.{ℕ_set}
-use native.Mathlib.Bridge.{le_prop}
 use Rattle.st_format.specs.declared.cell.Cell.{Cell}
 use Rattle.st_format.specs.declared.format.Format.{Format}
-use Rattle.st_format.specs.Fields.{Fields, fields_of}
-use Rattle.st_format.specs.Limits.{IsHeight, IsRate, IsWidth}
-use Rattle.st_format.specs.Rate.{IsLowest}
+use Rattle.st_format.specs.Fields.{fields_of}
+use Rattle.st_format.proofs.SameFields.{same_format}
 use Rattle.st_format.specs.Raster.{IsWhole, Raster}
 use Rattle.frame_assembly.proofs.Segments.{sample_count_groups}
 use Rattle.path_merge.specs.Frames.{Holds, IsReceiver, State, frames_of}
 use Rattle.path_merge.specs.Opening.{Opening}
 use Rattle.capture_file.specs.declared.fault.FileFault.{FileFault}
-use Rattle.capture_file.specs.Fields.{Fails, Gives}
+use Rattle.capture_file.specs.Fields.{Fails, Takes}
 use Rattle.capture_file.specs.StateFile.{Held, Kept, group_count, state_text}
 use Rattle.capture_file.proofs.Once.{cells_once}
 use Rattle.receiver_file.specs.Known.{shape_in}
@@ -23,38 +20,6 @@ use Rattle.receiver_file.specs.StateReading.{state_at}
 use Rattle.receiver_file.proofs.Again.{kept_in, only_state, state_again}
 use Rattle.receiver_file.proofs.Savable.{writable_saved}
 use Rattle.receiver_file.proofs.Stamped.{kept_stamps}
-
--- ---- formats of the same fields
-
-abbrev Facts : Fields → Type 0
-Facts x = IsWidth x.sampling x.depth x.width × IsHeight x.height × IsRate x.n x.d × IsLowest x.n x.d
-
-abbrev format_by : (x : Fields) → Facts x → Format
-format_by x p =
-    record {
-      sampling = x.sampling;
-      depth = x.depth;
-      width = x.width;
-      height = x.height;
-      n =
-          x.n;
-      d = x.d;
-      whole_width = p.0;
-      whole_height = p.1;
-      sane_rate = p.2;
-      lowest_rate = p.3;
-    }
-
-one_fact : (x : Fields) → IsProp (Facts x)
-one_fact x = hlevel (le_prop, ℕ_set)
-
-pub same_format : (f g : Format) → fields_of f ≡ fields_of g → f ≡ g
-same_format f g e =
-    let P : Fields → Type 0 = λ x. (p : Facts x) → format_by x p ≡ g in
-    let here : P (fields_of g) =
-    λ p. ap (format_by (fields_of g))
-    (one_fact (fields_of g) p (g.whole_width, g.whole_height, g.sane_rate, g.lowest_rate)) in
-    subst P (sym e) here (f.whole_width, f.whole_height, f.sane_rate, f.lowest_rate)
 
 -- ---- frames of the same groups
 
@@ -156,7 +121,7 @@ same_read s r is b e =
 -- ---- what is answered of a receiver's file
 
 pub loaded_same : (old new : Option (List ℕ)) (r : Result State FileFault)
-    → IfOk r (λ x. Gives state_at old new (kept_of x)) → IfErr r (λ f. Fails state_at old f)
+    → IfOk r (λ x. Takes state_at old new (kept_of x)) → IfErr r (λ f. Fails state_at old f)
     → IfOk r IsReceiver → (s : State) → old ≡ Some (state_text (kept_of s)) → IsReceiver s
     → IsSaved (kept_of s) → IfOk r (λ x. (x.opening ≡ s.opening) × (x.frames ≡ s.frames))
 loaded_same old new (Err f) p q a s told b is = tt

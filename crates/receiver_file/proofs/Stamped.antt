@@ -14,7 +14,7 @@ use Rattle.path_merge.specs.Opening.{AreDifferent}
 use Rattle.path_merge.proofs.Answered.{any_from_member}
 use Rattle.capture_file.specs.declared.fault.FileFault.{FileFault}
 use Rattle.capture_file.specs.declared.fault.FileFault.TheVariants.{BadField}
-use Rattle.capture_file.specs.Fields.{Fails, Gives}
+use Rattle.capture_file.specs.Fields.{Fails, Takes}
 use Rattle.capture_file.specs.StateFile.{Held, held_of}
 use Rattle.receiver_file.specs.Saved.{kept_frames, timestamp_in}
 use Rattle.receiver_file.specs.Numbers.{number_at}
@@ -84,13 +84,13 @@ unfolding timestamp_at
 stamp_cut before old f p = value_cut number_at (new_of before) old f p
 
 pub stamp_gives : (before : List ℕ) (old mid : Option (List ℕ)) (n : ℕ) (r : Result ℕ FileFault)
-    → Gives number_at old mid n → r ≡ new_of before n
-    → IfOk r (λ t. Gives (timestamp_at before) old mid t)
+    → Takes number_at old mid n → r ≡ new_of before n
+    → IfOk r (λ t. Takes (timestamp_at before) old mid t)
 unfolding timestamp_at
 stamp_gives before old mid n r p e = call_gives number_at (new_of before) old mid n r p e
 
 pub stamp_fails : (before : List ℕ) (old mid : Option (List ℕ)) (n : ℕ) (r : Result ℕ FileFault)
-    → Gives number_at old mid n → r ≡ new_of before n
+    → Takes number_at old mid n → r ≡ new_of before n
     → IfErr r (λ f. Fails (timestamp_at before) old f)
 unfolding timestamp_at
 stamp_fails before old mid n r p e = call_fails number_at (new_of before) old mid n r p e

@@ -18,7 +18,8 @@ use Rattle.capture_file.specs.declared.front.Version.{Version}
 use Rattle.capture_file.specs.declared.front.Version.TheVariants.{One, Two}
 use Rattle.capture_file.specs.Blocks.{block_at}
 use Rattle.capture_file.specs.Faults.{IfContent}
-use Rattle.capture_file.specs.Fields.{◌>>=◌, Fails}
+use Rattle.capture_file.specs.Fields.{Fails}
+use Rattle.st_format.specs.Reading.{◌>>=◌}
 use Rattle.capture_file.specs.Fronts.{kind_at, kind_text, receiver_name, with_rest}
 use Rattle.capture_file.specs.PictureFaults.{HasOtherThanOne, IsFormat}
 use Rattle.capture_file.specs.StateFile.{Held, Kept, format_text, state_text}

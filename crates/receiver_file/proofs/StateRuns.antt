@@ -11,7 +11,7 @@ use Rattle.path_merge.specs.Opening.{Opening}
 use Rattle.capture_file.specs.declared.fault.FileFault.{FileFault}
 use Rattle.capture_file.specs.declared.fault.FileFault.TheVariants.{NoMemory, TrailingBytes}
 use Rattle.capture_file.specs.Blocks.{block_at}
-use Rattle.capture_file.specs.Fields.{Fails, Gives}
+use Rattle.capture_file.specs.Fields.{Fails, Takes}
 use Rattle.capture_file.specs.StateFile.{Held, Kept}
 use Rattle.capture_file.proofs.Parsing.{fails_first, fails_then, gives_then, then_reads}
 use Rattle.receiver_file.specs.declared.front.Head.{Head}
@@ -23,7 +23,7 @@ use Rattle.receiver_file.proofs.Valued.{memory_fails, value_cut, value_gives, va
 -- ---- the end
 
 pub end_gives : (old new : Option (List ℕ)) (given : List ℕ) → length given ≡ 0
-    → Consumes old new given → IsAtEnd new → Gives end_at old new tt
+    → Consumes old new given → IsAtEnd new → Takes end_at old new tt
 end_gives None new given none p q = tt
 end_gives (Some o) None given none p q = absurd p
 end_gives (Some o) (Some rest) (x ∷ given) none p q = absurd (omega (arith, none))
@@ -63,21 +63,21 @@ pub state_name : (old : Option (List ℕ)) (e : FileFault) → Fails name_at old
 unfolding state_at
 state_name old e p = fails_first name_at behind_name old e p
 
-pub state_format : (old a : Option (List ℕ)) (e : FileFault) → Gives name_at old a tt
+pub state_format : (old a : Option (List ℕ)) (e : FileFault) → Takes name_at old a tt
     → Fails block_at a e → Fails state_at old e
 unfolding state_at
 state_format old a e n p =
     fails_then name_at behind_name old a tt e n (fails_first block_at behind_format a e p)
 
-pub state_head : (old a b : Option (List ℕ)) (f : Fields) (e : FileFault) → Gives name_at old a tt
-    → Gives block_at a b f → Fails head_at b e → Fails state_at old e
+pub state_head : (old a b : Option (List ℕ)) (f : Fields) (e : FileFault) → Takes name_at old a tt
+    → Takes block_at a b f → Fails head_at b e → Fails state_at old e
 unfolding state_at
 state_head old a b f e n m p =
     fails_then name_at behind_name old a tt e n
     (fails_then block_at behind_format a b f e m (fails_first head_at (behind_head f) b e p))
 
 pub state_frames : (old a b c : Option (List ℕ)) (f : Fields) (h : Head) (e : FileFault)
-    → Gives name_at old a tt → Gives block_at a b f → Gives head_at b c h
+    → Takes name_at old a tt → Takes block_at a b f → Takes head_at b c h
     → Fails (all_held_at f h.count []) c e → Fails state_at old e
 unfolding state_at
 state_frames old a b c f h e n m k p =
@@ -87,8 +87,8 @@ state_frames old a b c f h e n m k p =
     (fails_first (all_held_at f h.count []) (behind_frames f h) c e p)))
 
 pub state_end : (old a b c d : Option (List ℕ)) (f : Fields) (h : Head) (hs : List Held)
-    (e : FileFault) → Gives name_at old a tt → Gives block_at a b f → Gives head_at b c h
-    → Gives (all_held_at f h.count []) c d hs → Fails end_at d e → Fails state_at old e
+    (e : FileFault) → Takes name_at old a tt → Takes block_at a b f → Takes head_at b c h
+    → Takes (all_held_at f h.count []) c d hs → Fails end_at d e → Fails state_at old e
 unfolding state_at
 state_end old a b c d f h hs e n m k l p =
     fails_then name_at behind_name old a tt e n
@@ -98,9 +98,9 @@ state_end old a b c d f h hs e n m k l p =
     (value_cut end_at (kept f h hs) d e p))))
 
 pub state_gives : (old a b c d new : Option (List ℕ)) (f : Fields) (h : Head) (hs : List Held)
-    → Gives name_at old a tt → Gives block_at a b f → Gives head_at b c h
-    → Gives (all_held_at f h.count []) c d hs → Gives end_at d new tt
-    → Gives state_at old new
+    → Takes name_at old a tt → Takes block_at a b f → Takes head_at b c h
+    → Takes (all_held_at f h.count []) c d hs → Takes end_at d new tt
+    → Takes state_at old new
     (record { format = f; payload_type = h.payload_type; ssrc = h.ssrc; frames = hs })
 unfolding state_at
 state_gives old a b c d new f h hs n m k l p =
@@ -126,7 +126,7 @@ kept_by o rs =
 
 pub state_made : (old new : Option (List ℕ)) (f : Format) (h : Head) (w : List ℕ)
     (rs : List Raster) (r : Result State FileFault)
-    → Gives state_at old new
+    → Takes state_at old new
     (record {
       format = fields_of f;
       payload_type = h.payload_type;
@@ -137,13 +137,13 @@ pub state_made : (old new : Option (List ℕ)) (f : Format) (h : Head) (w : List
     → IfOk r
     (λ s. s.opening
     ≡ record { format = f; payload_type = h.payload_type; ssrc = h.ssrc; window = w })
-    → IfOk r (λ s. s.frames ≡ rs) → IfOk r (λ s. Gives state_at old new (kept_of s))
+    → IfOk r (λ s. s.frames ≡ rs) → IfOk r (λ s. Takes state_at old new (kept_of s))
 state_made old new f h w rs (Err e) p opening frames = tt
 state_made old new f h w rs (Ok s) p opening frames =
     let o : Opening =
     record { format = f; payload_type = h.payload_type; ssrc = h.ssrc; window = w } in
-    subst (λ (x : Opening). Gives state_at old new (kept_by x s.frames)) (sym opening)
-    (subst (λ (x : List Raster). Gives state_at old new (kept_by o x)) (sym frames) p)
+    subst (λ (x : Opening). Takes state_at old new (kept_by x s.frames)) (sym opening)
+    (subst (λ (x : List Raster). Takes state_at old new (kept_by o x)) (sym frames) p)
 
 pub state_memory : (old : Option (List ℕ)) (r : Result State FileFault)
     → IfErr r (λ f. f ≡ NoMemory) → IfErr r (λ f. Fails state_at old f)

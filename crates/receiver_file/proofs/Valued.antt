@@ -4,7 +4,7 @@ use Rattle.std.specs.Prelude.{IfErr, IfOk}
 use Rattle.capture_file.specs.declared.fault.FileFault.{FileFault}
 use Rattle.capture_file.specs.declared.fault.FileFault.TheVariants.{NoMemory}
 use Rattle.std.specs.Int.{w32, from_be_bytes}
-use Rattle.capture_file.specs.Fields.{Fails, Gives, field_at}
+use Rattle.capture_file.specs.Fields.{Fails, Takes, field_at}
 use Rattle.capture_file.specs.Fronts.{with_rest}
 use Rattle.capture_file.proofs.Parsing.{fails_first, fails_pure, fails_then, gives_pure, gives_then}
 use Rattle.capture_file.proofs.Parsing.{then_reads}
@@ -18,27 +18,27 @@ abbrev pub valued : {A X : Type 0} → Reading A → (A → Result X FileFault) 
 valued first make = then_reads first (λ a rest. with_rest (make a) rest)
 
 pub value_gives : {A X : Type 0} (first : Reading A) (make : A → Result X FileFault)
-    (old mid : Option (List ℕ)) (a : A) (x : X) → Gives first old mid a → make a ≡ Ok x
-    → Gives (valued first make) old mid x
+    (old mid : Option (List ℕ)) (a : A) (x : X) → Takes first old mid a → make a ≡ Ok x
+    → Takes (valued first make) old mid x
 value_gives first make old mid a x p e =
     gives_then first (λ b rest. with_rest (make b) rest) old mid mid a x p
     (gives_pure (make a) mid x e)
 
 pub value_fails : {A X : Type 0} (first : Reading A) (make : A → Result X FileFault)
-    (old mid : Option (List ℕ)) (a : A) (f : FileFault) → Gives first old mid a → make a ≡ Err f
+    (old mid : Option (List ℕ)) (a : A) (f : FileFault) → Takes first old mid a → make a ≡ Err f
     → Fails (valued first make) old f
 value_fails first make old mid a f p e =
     fails_then first (λ b rest. with_rest (make b) rest) old mid a f p (fails_pure (make a) mid f e)
 
 -- where a call made it
 pub call_gives : {A X : Type 0} (first : Reading A) (make : A → Result X FileFault)
-    (old mid : Option (List ℕ)) (a : A) (r : Result X FileFault) → Gives first old mid a
-    → r ≡ make a → IfOk r (λ x. Gives (valued first make) old mid x)
+    (old mid : Option (List ℕ)) (a : A) (r : Result X FileFault) → Takes first old mid a
+    → r ≡ make a → IfOk r (λ x. Takes (valued first make) old mid x)
 call_gives first make old mid a (Ok x) p e = value_gives first make old mid a x p (sym e)
 call_gives first make old mid a (Err f) p e = tt
 
 pub call_fails : {A X : Type 0} (first : Reading A) (make : A → Result X FileFault)
-    (old mid : Option (List ℕ)) (a : A) (r : Result X FileFault) → Gives first old mid a
+    (old mid : Option (List ℕ)) (a : A) (r : Result X FileFault) → Takes first old mid a
     → r ≡ make a → IfErr r (λ f. Fails (valued first make) old f)
 call_fails first make old mid a (Ok x) p e = tt
 call_fails first make old mid a (Err f) p e = value_fails first make old mid a f p (sym e)
@@ -60,7 +60,7 @@ abbrev ok_number : ℕ → Result ℕ FileFault
 ok_number n = Ok n
 
 pub octet_gives : (old mid : Option (List ℕ)) (octets : List ℕ) (n : ℕ) → n ≡ get_or octets 0 0
-    → Gives (field_at 1) old mid octets → Gives octet_at old mid n
+    → Takes (field_at 1) old mid octets → Takes octet_at old mid n
 unfolding octet_at
 octet_gives old mid octets n e p =
     value_gives (field_at 1) (λ os. ok_number (get_or os 0 0)) old mid octets n p
@@ -72,7 +72,7 @@ unfolding octet_at
 octet_cut old f p = value_cut (field_at 1) (λ os. ok_number (get_or os 0 0)) old f p
 
 pub number_gives : (old mid : Option (List ℕ)) (octets : List ℕ) (n : ℕ)
-    → n ≡ from_be_bytes w32 octets → Gives (field_at 4) old mid octets → Gives number_at old mid n
+    → n ≡ from_be_bytes w32 octets → Takes (field_at 4) old mid octets → Takes number_at old mid n
 unfolding number_at
 number_gives old mid octets n e p =
     value_gives (field_at 4) (λ os. ok_number (from_be_bytes w32 os)) old mid octets n p

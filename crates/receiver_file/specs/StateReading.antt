@@ -6,7 +6,7 @@ use Rattle.st_format.specs.Fields.{Fields}
 use Rattle.capture_file.specs.declared.fault.FileFault.{FileFault}
 use Rattle.capture_file.specs.declared.fault.FileFault.TheVariants.{BadField, TrailingBytes}
 use Rattle.capture_file.specs.Blocks.{block_at}
-use Rattle.capture_file.specs.Fields.{◌>>=◌}
+use Rattle.st_format.specs.Reading.{◌>>=◌}
 use Rattle.capture_file.specs.Fronts.{with_rest}
 use Rattle.capture_file.specs.Groups.{groups_at, shape_of}
 use Rattle.capture_file.specs.StateFile.{Held, Kept, group_count}

@@ -2,7 +2,7 @@
 ghost use Rattle.std.specs.Prelude.{◌≡◌, ◌<◌, ◌*◌, IfErr, OnOk, take};
 ghost use Rattle.st_format.specs.Position.{group_start, row_groups};
 ghost use Rattle.capture_file.specs.Faults.{CountsDevice};
-ghost use Rattle.capture_file.specs.Fields.{Fails, Gives};
+ghost use Rattle.capture_file.specs.Fields.{Fails, Takes};
 ghost use Rattle.capture_file.specs.Groups.{groups_at};
 ghost use Rattle.receiver_file.specs.Known.{row_cut, rows_cut, shape_in};
 
@@ -20,7 +20,7 @@ pub(crate) fn read_rows<A: Allocator, S: ByteSource>(
 ) -> Result<(), FileFault>
     ensures format { frame.new.format ≡ frame.old.format }
     ensures read { OnOk result
-        (Gives (groups_at (shape_in frame.old.format)
+        (Takes (groups_at (shape_in frame.old.format)
         (frame.old.format.height * row_groups frame.old.format)) (S.to_give source.old)
         (S.to_give source.new) (rows_cut frame.new frame.old.format.height)) }
     ensures fault { IfErr result
@@ -46,7 +46,7 @@ fn read_row<A: Allocator, S: ByteSource>(
     ensures before { take (group_start frame.old.format row 0) frame.new.cells
         ≡ take (group_start frame.old.format row 0) frame.old.cells }
     ensures read { OnOk result
-        (Gives (groups_at (shape_in frame.old.format) (row_groups frame.old.format))
+        (Takes (groups_at (shape_in frame.old.format) (row_groups frame.old.format))
         (S.to_give source.old) (S.to_give source.new) (row_cut frame.new row)) }
     ensures fault { IfErr result
         (λ f. Fails (groups_at (shape_in frame.old.format) (row_groups frame.old.format))

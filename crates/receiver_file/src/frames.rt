@@ -4,7 +4,7 @@ ghost use Rattle.st_format.specs.Fields.{fields_of};
 ghost use Rattle.path_merge.specs.Opening.{AreDifferent};
 ghost use Rattle.st_format.specs.Member.{IsMember};
 ghost use Rattle.capture_file.specs.Faults.{CountsDevice};
-ghost use Rattle.capture_file.specs.Fields.{Fails, Gives};
+ghost use Rattle.capture_file.specs.Fields.{Fails, Takes};
 ghost use Rattle.capture_file.specs.StateFile.{group_count};
 ghost use Rattle.capture_file.specs.Groups.{groups_at};
 ghost use Rattle.receiver_file.specs.Known.{shape_in};
@@ -42,7 +42,7 @@ pub(crate) fn read_frames<A: Allocator + Copy, S: ByteSource>(
     ensures one_each { IfOk result (λ it. length it.frames.items ≡ count) }
     ensures of_format { IfOk result (λ it. All (λ r. r.format ≡ format) it.frames.items) }
     ensures read { IfOk result
-        (λ it. Gives (all_held_at (fields_of format) count []) (S.to_give source.old)
+        (λ it. Takes (all_held_at (fields_of format) count []) (S.to_give source.old)
         (S.to_give source.new) (kept_frames (fields_of format) it.window.items it.frames.items)) }
     ensures fault { IfErr result
         (λ f. Fails (all_held_at (fields_of format) count []) (S.to_give source.old) f) }
@@ -63,7 +63,7 @@ pub(crate) fn read_frames<A: Allocator + Copy, S: ByteSource>(
 fn read_timestamp<S: ByteSource>(source: &mut S, before: &[u32]) -> Result<u32, FileFault>
     ensures new { IfOk result (λ t. IsMember t before.now → ⊥) }
     ensures read { IfOk result
-        (λ t. Gives (timestamp_at before.now) (S.to_give source.old) (S.to_give source.new) t) }
+        (λ t. Takes (timestamp_at before.now) (S.to_give source.old) (S.to_give source.new) t) }
     ensures fault { IfErr result (λ f. Fails (timestamp_at before.now) (S.to_give source.old) f) }
     ensures counted { CountsDevice (S.failures source.old) (S.failures source.new) result }
 {
@@ -89,7 +89,7 @@ fn read_frame<A: Allocator + Copy, S: ByteSource>(
 ) -> Result<Frame<A>, FileFault>
     ensures format { IfOk result (λ r. r.format ≡ format) }
     ensures read { IfOk result
-        (λ r. Gives (groups_at (shape_in format) (group_count (fields_of format)))
+        (λ r. Takes (groups_at (shape_in format) (group_count (fields_of format)))
         (S.to_give source.old) (S.to_give source.new) (groups_in (fields_of format) r.cells)) }
     ensures fault { IfErr result
         (λ f. Fails (groups_at (shape_in format) (group_count (fields_of format)))

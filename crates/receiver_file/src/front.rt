@@ -3,7 +3,7 @@
 ghost use Rattle.std.specs.Prelude.{◌≡◌, ◌<◌, ◌≤◌, IfErr, IfOk, OnOk};
 ghost use Rattle.st_format.specs.Device.{TellsOctets};
 ghost use Rattle.capture_file.specs.Faults.{CountsDevice};
-ghost use Rattle.capture_file.specs.Fields.{Fails, Gives};
+ghost use Rattle.capture_file.specs.Fields.{Fails, Takes};
 ghost use Rattle.receiver_file.specs.Front.{count_at, count_of, flag_at, flag_of, head_at, name_at};
 ghost use Rattle.receiver_file.specs.Front.{payload_type_at, payload_type_of, ssrc_at, ssrc_of};
 
@@ -27,7 +27,7 @@ pub(crate) struct Head {
 
 /// Reads name and version.
 pub(crate) fn read_name<S: ByteSource>(source: &mut S) -> Result<(), FileFault>
-    ensures read { OnOk result (Gives name_at (S.to_give source.old) (S.to_give source.new) tt) }
+    ensures read { OnOk result (Takes name_at (S.to_give source.old) (S.to_give source.new) tt) }
     ensures fault { IfErr result (λ f. Fails name_at (S.to_give source.old) f) }
     ensures octets { TellsOctets (S.to_give source.old) }
     ensures counted { CountsDevice (S.failures source.old) (S.failures source.new) result }
@@ -44,7 +44,7 @@ pub(crate) fn read_head<S: ByteSource>(source: &mut S) -> Result<Head, FileFault
     ensures some { IfOk result (λ h. 0 < h.count) }
     ensures few { IfOk result (λ h. h.count ≤ 16) }
     ensures read { IfOk result
-        (λ h. Gives head_at (S.to_give source.old) (S.to_give source.new) h) }
+        (λ h. Takes head_at (S.to_give source.old) (S.to_give source.new) h) }
     ensures fault { IfErr result (λ f. Fails head_at (S.to_give source.old) f) }
     ensures counted { CountsDevice (S.failures source.old) (S.failures source.new) result }
 {
@@ -62,7 +62,7 @@ pub(crate) fn read_head<S: ByteSource>(source: &mut S) -> Result<Head, FileFault
 fn read_payload_type<S: ByteSource>(source: &mut S) -> Result<u8, FileFault>
     ensures most { IfOk result (λ n. n ≤ 127) }
     ensures read { IfOk result
-        (λ n. Gives payload_type_at (S.to_give source.old) (S.to_give source.new) n) }
+        (λ n. Takes payload_type_at (S.to_give source.old) (S.to_give source.new) n) }
     ensures fault { IfErr result (λ f. Fails payload_type_at (S.to_give source.old) f) }
     ensures counted { CountsDevice (S.failures source.old) (S.failures source.new) result }
 {
@@ -76,7 +76,7 @@ fn read_payload_type<S: ByteSource>(source: &mut S) -> Result<u8, FileFault>
 /// Reads whether a source is pinned, and which.
 fn read_ssrc<S: ByteSource>(source: &mut S) -> Result<Option<u32>, FileFault>
     ensures read { IfOk result
-        (λ s. Gives ssrc_at (S.to_give source.old) (S.to_give source.new) s) }
+        (λ s. Takes ssrc_at (S.to_give source.old) (S.to_give source.new) s) }
     ensures fault { IfErr result (λ f. Fails ssrc_at (S.to_give source.old) f) }
     ensures counted { CountsDevice (S.failures source.old) (S.failures source.new) result }
 {
@@ -88,7 +88,7 @@ fn read_ssrc<S: ByteSource>(source: &mut S) -> Result<Option<u32>, FileFault>
 /// Reads whether a source is pinned.
 fn read_flag<S: ByteSource>(source: &mut S) -> Result<bool, FileFault>
     ensures read { IfOk result
-        (λ b. Gives flag_at (S.to_give source.old) (S.to_give source.new) b) }
+        (λ b. Takes flag_at (S.to_give source.old) (S.to_give source.new) b) }
     ensures fault { IfErr result (λ f. Fails flag_at (S.to_give source.old) f) }
     ensures counted { CountsDevice (S.failures source.old) (S.failures source.new) result }
 {
@@ -123,7 +123,7 @@ fn read_count<S: ByteSource>(source: &mut S) -> Result<u8, FileFault>
     ensures some { IfOk result (λ n. 0 < n) }
     ensures few { IfOk result (λ n. n ≤ 16) }
     ensures read { IfOk result
-        (λ n. Gives count_at (S.to_give source.old) (S.to_give source.new) n) }
+        (λ n. Takes count_at (S.to_give source.old) (S.to_give source.new) n) }
     ensures fault { IfErr result (λ f. Fails count_at (S.to_give source.old) f) }
     ensures counted { CountsDevice (S.failures source.old) (S.failures source.new) result }
 {

@@ -31,13 +31,6 @@ fn state_of(mark: u16) -> GroupState
     }
 }
 
-/// What their type tells of octets.
-pub(crate) fn are_octets(octets: &[u8])
-    ensures { AllByRecursion (λ v. v < 256) octets.now }
-{
-    let _octets = octets;
-}
-
 /// What their type tells of mark words.
 pub(crate) fn are_words(marks: &[u16])
     ensures { AllByRecursion (λ v. v < 65536) marks.now }

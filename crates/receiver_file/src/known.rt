@@ -7,7 +7,7 @@ ghost use Rattle.st_format.specs.Samples.{values_in};
 ghost use Rattle.st_format.specs.Position.{group_start, row_groups};
 ghost use Rattle.frame_assembly.specs.Rows.{group_cells};
 ghost use Rattle.capture_file.specs.Faults.{CountsDevice};
-ghost use Rattle.capture_file.specs.Fields.{Fails, Gives};
+ghost use Rattle.capture_file.specs.Fields.{Fails, Takes};
 ghost use Rattle.capture_file.specs.Groups.{are_zeroed, group_at};
 ghost use Rattle.receiver_file.specs.Known.{IsKnown, cells_known, is_there, mask_in, mixed_at};
 ghost use Rattle.receiver_file.specs.Known.{shape_in};
@@ -33,7 +33,7 @@ pub(crate) fn read_group<A: Allocator, S: ByteSource>(
     ensures before { take (group_start frame.old.format row group) frame.new.cells
         ≡ take (group_start frame.old.format row group) frame.old.cells }
     ensures read { OnOk result
-        (Gives (group_at (shape_in frame.old.format)) (S.to_give source.old) (S.to_give source.new)
+        (Takes (group_at (shape_in frame.old.format)) (S.to_give source.old) (S.to_give source.new)
         (group_cells frame.new row group)) }
     ensures fault { IfErr result
         (λ f. Fails (group_at (shape_in frame.old.format)) (S.to_give source.old) f) }
@@ -97,7 +97,7 @@ fn read_known<S: ByteSource>(
     ensures room { length octets.new ≡ length octets.old }
     ensures known { IfOk result (λ state. IsKnown (shape_in format.now) state octets.new) }
     ensures read { IfOk result
-        (λ state. Gives (group_at (shape_in format.now)) (S.to_give source.old)
+        (λ state. Takes (group_at (shape_in format.now)) (S.to_give source.old)
         (S.to_give source.new) (cells_known (shape_in format.now) state octets.new)) }
     ensures fault { IfErr result
         (λ f. Fails (group_at (shape_in format.now)) (S.to_give source.old) f) }
@@ -124,7 +124,7 @@ fn read_mixed<S: ByteSource>(
     ensures room { length octets.new ≡ length octets.old }
     ensures known { IfOk result (λ state. IsKnown (shape_in format.now) state octets.new) }
     ensures read { IfOk result
-        (λ state. Gives (mixed_at (shape_in format.now)) (S.to_give source.old)
+        (λ state. Takes (mixed_at (shape_in format.now)) (S.to_give source.old)
         (S.to_give source.new) (cells_known (shape_in format.now) state octets.new)) }
     ensures fault { IfErr result
         (λ f. Fails (mixed_at (shape_in format.now)) (S.to_give source.old) f) }

@@ -6,7 +6,7 @@ ghost use Rattle.st_format.specs.Device.{TellsOctets};
 ghost use Rattle.path_merge.specs.Frames.{Holds, IsReceiver, State};
 ghost use Rattle.path_merge.specs.Opening.{AreDifferent};
 ghost use Rattle.capture_file.specs.Faults.{CountsDevice, IfContent, IsMachine};
-ghost use Rattle.capture_file.specs.Fields.{Fails, Gives};
+ghost use Rattle.capture_file.specs.Fields.{Fails, Takes};
 ghost use Rattle.capture_file.specs.StateFile.{Kept, state_text};
 ghost use Rattle.receiver_file.specs.Saved.{IsSaved, IsWritable, kept_of};
 ghost use Rattle.receiver_file.specs.StateFaults.{StateFault};
@@ -36,7 +36,7 @@ pub fn load_receiver<A: Allocator + Copy, S: ByteSource>(
     source: &mut S,
 ) -> Result<Receiver<A>, FileFault>
     ensures read { IfOk result
-        (λ r. Gives state_at (S.to_give source.old) (S.to_give source.new) (kept_of r)) }
+        (λ r. Takes state_at (S.to_give source.old) (S.to_give source.new) (kept_of r)) }
     ensures fault { IfErr result (λ f. Fails state_at (S.to_give source.old) f) }
     ensures counted { CountsDevice (S.failures source.old) (S.failures source.new) result }
     ensures receiver { IfOk result (λ r. IsReceiver r) }
@@ -73,7 +73,7 @@ fn read_receiver<A: Allocator + Copy, S: ByteSource>(
     source: &mut S,
 ) -> Result<Receiver<A>, FileFault>
     ensures read { IfOk result
-        (λ r. Gives state_at (S.to_give source.old) (S.to_give source.new) (kept_of r)) }
+        (λ r. Takes state_at (S.to_give source.old) (S.to_give source.new) (kept_of r)) }
     ensures fault { IfErr result (λ f. Fails state_at (S.to_give source.old) f) }
     ensures counted { CountsDevice (S.failures source.old) (S.failures source.new) result }
     ensures octets { TellsOctets (S.to_give source.old) }
@@ -91,7 +91,7 @@ fn read_receiver<A: Allocator + Copy, S: ByteSource>(
 
 /// Finds a source at its end.
 fn read_end<S: ByteSource>(source: &mut S) -> Result<(), FileFault>
-    ensures read { OnOk result (Gives end_at (S.to_give source.old) (S.to_give source.new) tt) }
+    ensures read { OnOk result (Takes end_at (S.to_give source.old) (S.to_give source.new) tt) }
     ensures fault { IfErr result (λ f. Fails end_at (S.to_give source.old) f) }
     ensures counted { CountsDevice (S.failures source.old) (S.failures source.new) result }
 {

@@ -1,7 +1,7 @@
 //! Numbers that are read from a source.
 ghost use Rattle.std.specs.Prelude.{◌≡◌, IfErr, IfOk};
 ghost use Rattle.capture_file.specs.Faults.{CountsDevice};
-ghost use Rattle.capture_file.specs.Fields.{Fails, Gives};
+ghost use Rattle.capture_file.specs.Fields.{Fails, Takes};
 ghost use Rattle.receiver_file.specs.Numbers.{number_at, octet_at};
 
 use capture_file::{FileFault, read_field};
@@ -10,7 +10,7 @@ use st_format::ByteSource;
 /// Reads one octet.
 pub(crate) fn read_octet<S: ByteSource>(source: &mut S) -> Result<u8, FileFault>
     ensures read { IfOk result
-        (λ n. Gives octet_at (S.to_give source.old) (S.to_give source.new) n) }
+        (λ n. Takes octet_at (S.to_give source.old) (S.to_give source.new) n) }
     ensures fault { IfErr result (λ f. Fails octet_at (S.to_give source.old) f) }
     ensures counted { CountsDevice (S.failures source.old) (S.failures source.new) result }
 {
@@ -22,7 +22,7 @@ pub(crate) fn read_octet<S: ByteSource>(source: &mut S) -> Result<u8, FileFault>
 /// Reads a number of four octets.
 pub(crate) fn read_number<S: ByteSource>(source: &mut S) -> Result<u32, FileFault>
     ensures read { IfOk result
-        (λ n. Gives number_at (S.to_give source.old) (S.to_give source.new) n) }
+        (λ n. Takes number_at (S.to_give source.old) (S.to_give source.new) n) }
     ensures fault { IfErr result (λ f. Fails number_at (S.to_give source.old) f) }
     ensures counted { CountsDevice (S.failures source.old) (S.failures source.new) result }
 {

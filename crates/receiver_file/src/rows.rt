@@ -7,9 +7,9 @@ ghost use Rattle.capture_file.specs.Groups.{groups_text};
 ghost use Rattle.receiver_file.specs.Known.{row_cut, rows_cut, shape_in};
 ghost use Rattle.receiver_file.specs.Marked.{Passes, marked_text};
 
-use crate::groups::{MOST_OCTETS, MOST_TEXT, are_octets, are_words, put_group};
+use crate::groups::{MOST_OCTETS, MOST_TEXT, are_words, put_group};
 use frame_assembly::Frame;
-use st_format::{ByteSink, DeviceFault, Format, write_whole};
+use st_format::{ByteSink, DeviceFault, Format, are_octets, write_whole};
 use std::alloc::Allocator;
 
 /// How many octets are gathered before a sink is asked to take them.

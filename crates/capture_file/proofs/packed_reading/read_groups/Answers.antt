@@ -4,7 +4,7 @@ use Rattle.std.proofs.lemmas.Result.{err_from_is_err_and}
 use Rattle.st_format.specs.Fields.{fields_of}
 use Rattle.st_format.specs.Pgroup.{bits_of}
 use Rattle.st_format.specs.Samples.{values_in}
-use Rattle.capture_file.specs.Fields.{Fails, Gives, field_at}
+use Rattle.capture_file.specs.Fields.{Fails, Takes, field_at}
 use Rattle.capture_file.specs.PictureFile.{raster_at}
 use Rattle.capture_file.proofs.PackedRaster.{groups_fail, groups_give}
 use Rattle.capture_file.proofs.packed_reading.read_groups.Goals as goal
@@ -30,11 +30,11 @@ returns-clause-read g c =
     omega (arith, c.deref_mut.ensures.len, c.in_ok-resize.ensures.len) in
     let long : length buf ≡ c.resize.new.self.len =
     omega (arith, size, c.in_ok-resize.ensures.len, c.read_field.ensures.room) in
-    subst (λ (os : List ℕ). Gives (raster_at (fields_of c.args.format.now))
+    subst (λ (os : List ℕ). Takes (raster_at (fields_of c.args.format.now))
     (g.S.ByteSource.to_give c.args.source.now) (g.S.ByteSource.to_give c.read_field.new.source)
     (values_in (bits_of c.args.format.now.depth) os))
     (sym (take_at buf rest c.resize.new.self.len long))
     (groups_give c.args.format.now _ _ c.raster_octets.result buf c.raster_octets.ensures
-    (subst (λ (n : ℕ). Gives (field_at n) (g.S.ByteSource.to_give c.args.source.now)
+    (subst (λ (n : ℕ). Takes (field_at n) (g.S.ByteSource.to_give c.args.source.now)
     (g.S.ByteSource.to_give c.read_field.new.source) buf) size
     c.in_ok-read_field.ensures.read))

@@ -5,7 +5,7 @@ use Rattle.st_format.specs.declared.format.Format.{Format}
 use Rattle.st_format.specs.Raster.{Raster}
 use Rattle.st_format.specs.Position.{group_start, row_groups}
 use Rattle.frame_assembly.specs.Rows.{group_cells}
-use Rattle.capture_file.specs.Fields.{Fails, Gives}
+use Rattle.capture_file.specs.Fields.{Fails, Takes}
 use Rattle.capture_file.specs.Groups.{Shape, group_at, groups_at}
 use Rattle.capture_file.specs.StateFile.{cut_cells}
 use Rattle.receiver_file.specs.Known.{row_cut, shape_in}
@@ -66,10 +66,10 @@ loop-group-preserved g c =
     ≡ take
     (group_start h c.args.row c.loop-group.group) c.loop-group.frame.cells)
     c.loop-group.invariant.format c.in_ok-read_group.ensures.before in
-    let given : Gives (group_at s) (g.S.ByteSource.to_give c.loop-group.source)
+    let given : Takes (group_at s) (g.S.ByteSource.to_give c.loop-group.source)
     (g.S.ByteSource.to_give c.read_group.new.source)
     (group_cells (record { format = f; cells = now.cells }) c.args.row c.loop-group.group) =
-    subst (λ (h : Format). Gives (group_at (shape_in h))
+    subst (λ (h : Format). Takes (group_at (shape_in h))
     (g.S.ByteSource.to_give c.loop-group.source)
     (g.S.ByteSource.to_give c.read_group.new.source)
     (group_cells (record {
@@ -77,7 +77,7 @@ loop-group-preserved g c =
       cells =
           now.cells;
     }) c.args.row c.loop-group.group)) c.loop-group.invariant.format
-    (subst (λ (h : Format). Gives (group_at (shape_in c.loop-group.frame.format))
+    (subst (λ (h : Format). Takes (group_at (shape_in c.loop-group.frame.format))
     (g.S.ByteSource.to_give c.loop-group.source)
     (g.S.ByteSource.to_give c.read_group.new.source)
     (group_cells (record {
@@ -123,9 +123,9 @@ returns-clause-read g c =
     c.groups_in_row-group-end.ensures
     ∙ ap (λ (x : Format). row_groups x) c.format.ensures.format in
     let same : c.loop-group.group ≡ c.groups_in_row-group-end.result = omega arith in
-    subst (λ (h : Format). Gives (groups_at s (row_groups f)) old new
+    subst (λ (h : Format). Takes (groups_at s (row_groups f)) old new
     (row_cut (record { format = h; cells = c.loop-group.frame.cells }) c.args.row))
     (sym c.loop-group.invariant.format)
-    (subst (λ (k : ℕ). Gives (groups_at s k) old new
+    (subst (λ (k : ℕ). Takes (groups_at s k) old new
     (cut_cells s.samples k (drop (group_start f c.args.row 0) c.loop-group.frame.cells)))
     (same ∙ n) c.loop-group.invariant.goes)

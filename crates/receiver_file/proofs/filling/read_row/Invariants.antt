@@ -1,6 +1,6 @@
 use Rattle.std.proofs.Common.{◌≡◌, drop, take}
 use Rattle.st_format.specs.Position.{group_start}
-use Rattle.capture_file.specs.Fields.{Gives}
+use Rattle.capture_file.specs.Fields.{Takes}
 use Rattle.capture_file.specs.Groups.{groups_at}
 use Rattle.capture_file.specs.StateFile.{cut_cells}
 use Rattle.receiver_file.specs.Known.{shape_in}
@@ -17,7 +17,7 @@ invariant-loop-group g l = Reading
     (l.frame.format ≡ l.initial.frame.format)
     (take (group_start l.initial.frame.format l.row 0) l.frame.cells
     ≡ take (group_start l.initial.frame.format l.row 0) l.initial.frame.cells)
-    (Gives (groups_at (shape_in l.initial.frame.format) l.group)
+    (Takes (groups_at (shape_in l.initial.frame.format) l.group)
     (g.S.ByteSource.to_give l.initial.source) (g.S.ByteSource.to_give l.source)
     (cut_cells (shape_in l.initial.frame.format).samples l.group
     (drop (group_start l.initial.frame.format l.row 0) l.frame.cells)))

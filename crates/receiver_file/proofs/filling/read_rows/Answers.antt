@@ -4,7 +4,7 @@ use Rattle.std.proofs.lemmas.Result.{err_from_is_err_and}
 use Rattle.st_format.specs.declared.format.Format.{Format}
 use Rattle.st_format.specs.Raster.{Raster}
 use Rattle.st_format.specs.Position.{group_start, row_groups}
-use Rattle.capture_file.specs.Fields.{Fails, Gives}
+use Rattle.capture_file.specs.Fields.{Fails, Takes}
 use Rattle.capture_file.specs.Groups.{Shape, groups_at}
 use Rattle.capture_file.specs.StateFile.{cut_cells}
 use Rattle.receiver_file.specs.Known.{row_cut, rows_cut, shape_in}
@@ -57,17 +57,17 @@ loop-row-preserved g c =
     ≡ take
     (group_start h c.loop-row.row 0) c.loop-row.frame.cells) c.loop-row.invariant.format
     c.in_ok-read_row.ensures.before in
-    let given : Gives (groups_at s (row_groups f)) (g.S.ByteSource.to_give c.loop-row.source)
+    let given : Takes (groups_at s (row_groups f)) (g.S.ByteSource.to_give c.loop-row.source)
     (g.S.ByteSource.to_give c.read_row.new.source)
     (row_cut (record { format = f; cells = now.cells }) c.loop-row.row) =
-    subst (λ (h : Format). Gives (groups_at (shape_in h) (row_groups h))
+    subst (λ (h : Format). Takes (groups_at (shape_in h) (row_groups h))
     (g.S.ByteSource.to_give c.loop-row.source) (g.S.ByteSource.to_give c.read_row.new.source)
     (row_cut (record {
       format = h;
       cells =
           now.cells;
     }) c.loop-row.row)) c.loop-row.invariant.format
-    (subst (λ (h : Format). Gives
+    (subst (λ (h : Format). Takes
     (groups_at (shape_in c.loop-row.frame.format) (row_groups c.loop-row.frame.format))
     (g.S.ByteSource.to_give c.loop-row.source) (g.S.ByteSource.to_give c.read_row.new.source)
     (row_cut (record {
@@ -94,9 +94,9 @@ returns-clause-read g c =
     let n : c.height-row-end.result ≡ f.height =
     c.height-row-end.ensures ∙ ap (λ (x : Format). x.height) c.format.ensures.format in
     let same : c.loop-row.row ≡ c.height-row-end.result = omega arith in
-    subst (λ (h : Format). Gives (groups_at s (f.height * row_groups f)) old new
+    subst (λ (h : Format). Takes (groups_at s (f.height * row_groups f)) old new
     (rows_cut (record { format = h; cells = c.loop-row.frame.cells }) f.height))
     (sym c.loop-row.invariant.format)
-    (subst (λ (k : ℕ). Gives (groups_at s (k * row_groups f)) old new
+    (subst (λ (k : ℕ). Takes (groups_at s (k * row_groups f)) old new
     (cut_cells s.samples (k * row_groups f) c.loop-row.frame.cells))
     (same ∙ n) c.loop-row.invariant.goes)

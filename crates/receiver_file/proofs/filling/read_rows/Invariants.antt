@@ -1,6 +1,6 @@
 use Rattle.std.proofs.Common.{◌≡◌, ◌*◌}
 use Rattle.st_format.specs.Position.{row_groups}
-use Rattle.capture_file.specs.Fields.{Gives}
+use Rattle.capture_file.specs.Fields.{Takes}
 use Rattle.capture_file.specs.Groups.{groups_at}
 use Rattle.capture_file.specs.StateFile.{cut_cells}
 use Rattle.receiver_file.specs.Known.{shape_in}
@@ -14,7 +14,7 @@ pub record Reading (same so_far count : Type 0) : Type 0 where
 abbrev pub invariant-loop-row : goal.invariant-loop-row
 invariant-loop-row g l = Reading
     (l.frame.format ≡ l.initial.frame.format)
-    (Gives (groups_at (shape_in l.initial.frame.format)
+    (Takes (groups_at (shape_in l.initial.frame.format)
     (l.row * row_groups l.initial.frame.format)) (g.S.ByteSource.to_give l.initial.source)
     (g.S.ByteSource.to_give l.source)
     (cut_cells (shape_in l.initial.frame.format).samples

@@ -2,7 +2,7 @@ use Rattle.std.proofs.Common.{◌≡◌, [], All, length}
 use Rattle.st_format.specs.Fields.{fields_of}
 use Rattle.st_format.specs.Raster.{Raster}
 use Rattle.path_merge.specs.Opening.{AreDifferent}
-use Rattle.capture_file.specs.Fields.{Gives}
+use Rattle.capture_file.specs.Fields.{Takes}
 use Rattle.receiver_file.specs.Saved.{kept_frames}
 use Rattle.receiver_file.specs.StateReading.{all_held_at}
 use Rattle.receiver_file.proofs.frames.read_frames.Given as goal
@@ -21,7 +21,7 @@ invariant-loop g l = Reading
     (length l.frames.items ≡ length l.window.items)
     (All (λ (r : Raster). r.format ≡ l.format) l.frames.items)
     (AreDifferent l.window.items)
-    (Gives (all_held_at (fields_of l.format) l.counter [])
+    (Takes (all_held_at (fields_of l.format) l.counter [])
     (g.S.ByteSource.to_give l.initial.source) (g.S.ByteSource.to_give l.source)
     (kept_frames (fields_of l.format) l.window.items l.frames.items))
     (g.S.ByteSource.failures l.source ≡ g.S.ByteSource.failures l.initial.source)

@@ -1,6 +1,6 @@
 use Rattle.std.proofs.Common.{◌≡◌, ℕ, subst, arith}
 use Rattle.std.proofs.lemmas.Result.{err_from_is_err_and}
-use Rattle.capture_file.specs.Fields.{Fails, Gives, field_at}
+use Rattle.capture_file.specs.Fields.{Fails, Takes, field_at}
 use Rattle.receiver_file.specs.Known.{shape_in}
 use Rattle.receiver_file.proofs.KnownReads.{gone_gives, group_cut, mixed_fault, mixed_then}
 use Rattle.receiver_file.proofs.KnownReads.{state_bad, whole_gives, whole_short}
@@ -32,7 +32,7 @@ returns-in-0-clause-read g c =
 pub returns-in_ok-read_field-in-1-clause-read : goal.returns-in_ok-read_field-in-1-clause-read
 returns-in_ok-read_field-in-1-clause-read g c =
     whole_gives (shape_in c.args.format.now) _ _ _ _ _ c.in-1.is c.in_ok-read_octet.ensures.read
-    (subst (λ (n : ℕ). Gives (field_at n) (g.S.ByteSource.to_give c.read_octet.new.source)
+    (subst (λ (n : ℕ). Takes (field_at n) (g.S.ByteSource.to_give c.read_octet.new.source)
     (g.S.ByteSource.to_give c.read_field.new.source) c.read_field.new.buf) c.requires
     c.in_ok-read_field-in-1.ensures.read)
 

@@ -1,7 +1,7 @@
 use Rattle.std.proofs.Common.{◌≡◌, ℕ, ◌∙◌, true, false, List, ap, sym, subst}
 use Rattle.std.proofs.lemmas.Result.{err_from_is_err_and}
 use Rattle.st_format.specs.Samples.{values_in}
-use Rattle.capture_file.specs.Fields.{Fails, Gives, field_at}
+use Rattle.capture_file.specs.Fields.{Fails, Takes, field_at}
 use Rattle.capture_file.specs.Groups.{Shape, cells_by}
 use Rattle.receiver_file.specs.Known.{mixed_at, shape_in}
 use Rattle.receiver_file.proofs.MixedReads.{is_other, mixed_cut, mixed_gives, mixed_other}
@@ -31,9 +31,9 @@ pub returns-then-not-is_mixed-clause-fault : goal.returns-then-not-is_mixed-clau
 returns-then-not-is_mixed-clause-fault g c =
     let s : Shape = shape_in c.args.format.now in
     let vs : List ℕ = values_in s.bits c.read_field-2.new.buf in
-    let whole : Gives (field_at s.octets) (g.S.ByteSource.to_give c.read_field.new.source)
+    let whole : Takes (field_at s.octets) (g.S.ByteSource.to_give c.read_field.new.source)
     (g.S.ByteSource.to_give c.read_field-2.new.source) c.read_field-2.new.buf =
-    subst (λ (n : ℕ). Gives (field_at n) (g.S.ByteSource.to_give c.read_field.new.source)
+    subst (λ (n : ℕ). Takes (field_at n) (g.S.ByteSource.to_give c.read_field.new.source)
     (g.S.ByteSource.to_give c.read_field-2.new.source) c.read_field-2.new.buf) c.requires
     c.in_ok-read_field-2.ensures.read in
     let other : is_other s c.from_be_bytes-mask.result vs ≡ true =
@@ -46,15 +46,15 @@ pub returns-clause-read : goal.returns-clause-read
 returns-clause-read g c =
     let s : Shape = shape_in c.args.format.now in
     let vs : List ℕ = values_in s.bits c.read_field-2.new.buf in
-    let whole : Gives (field_at s.octets) (g.S.ByteSource.to_give c.read_field.new.source)
+    let whole : Takes (field_at s.octets) (g.S.ByteSource.to_give c.read_field.new.source)
     (g.S.ByteSource.to_give c.read_field-2.new.source) c.read_field-2.new.buf =
-    subst (λ (n : ℕ). Gives (field_at n) (g.S.ByteSource.to_give c.read_field.new.source)
+    subst (λ (n : ℕ). Takes (field_at n) (g.S.ByteSource.to_give c.read_field.new.source)
     (g.S.ByteSource.to_give c.read_field-2.new.source) c.read_field-2.new.buf) c.requires
     c.in_ok-read_field-2.ensures.read in
     let one : is_other s c.from_be_bytes-mask.result vs ≡ false =
     not_flipped (is_other s c.from_be_bytes-mask.result vs) false _ c.is_mixed.ensures
     c.if-not-is_mixed.false in
-    subst (λ (m : ℕ). Gives (mixed_at s) (g.S.ByteSource.to_give c.args.source.now)
+    subst (λ (m : ℕ). Takes (mixed_at s) (g.S.ByteSource.to_give c.args.source.now)
     (g.S.ByteSource.to_give c.read_field-2.new.source) (cells_by m vs))
     (sym c.from_be_bytes-mask.ensures)
     (mixed_gives s _ _ _ _ _ c.in_ok-read_field.ensures.read whole

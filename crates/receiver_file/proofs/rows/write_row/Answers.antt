@@ -17,7 +17,7 @@ returns-clause-ok g c =
     row_is r c.args.row c.pgroup.result.octets c.marks-marks.result.now
     c.packed_row-octets.result.now c.format.ensures.whole c.requires size
     c.marks-marks.ensures.long c.packed_row-octets.ensures.long c.marks-marks.ensures.marks
-    c.are_words.ensures c.are_octets.ensures c.packed_row-octets.ensures.spelled in
+    c.are_words.ensures c.are_octets.ensures.all c.packed_row-octets.ensures.spelled in
     rw (← e) c.write_marked.ensures.ok
 
 pub returns-clause-fault : goal.returns-clause-fault
@@ -31,5 +31,5 @@ returns-clause-fault g c =
     row_is r c.args.row c.pgroup.result.octets c.marks-marks.result.now
     c.packed_row-octets.result.now c.format.ensures.whole c.requires size
     c.marks-marks.ensures.long c.packed_row-octets.ensures.long c.marks-marks.ensures.marks
-    c.are_words.ensures c.are_octets.ensures c.packed_row-octets.ensures.spelled in
+    c.are_words.ensures c.are_octets.ensures.all c.packed_row-octets.ensures.spelled in
     rw (← e) c.write_marked.ensures.fault
