@@ -95,8 +95,7 @@ fn take_records<S: ByteSource, A: Allocator>(
     ensures failures { Accounts result (counts (S.failures reader.old.source)
         (S.failures reader.new.source) ∷ []) }
 {
-    // Says what a receiver always is.
-    let _ = receiver.format();
+    receiver.facts();
     let mut delivered = 0;
     for _ in 0..TURNS {
         let Some((path, count)) = next_record(reader, buf)? else {

@@ -14,8 +14,8 @@ loop-init g c =
       few = omega arith;
       reads = c.requires.reads;
       failures = refl;
-      receiver = c.format.ensures.receiver;
-      so_far = nothing_taken start c.args.receiver.now c.format.ensures.receiver;
+      receiver = c.facts.ensures;
+      so_far = nothing_taken start c.args.receiver.now c.facts.ensures;
     }
 
 pub loop-preserved : goal.loop-preserved
