@@ -92,11 +92,33 @@ fn play<A: Allocator + Copy, O: ByteSink>(
     ensures whole { OnOk result (script.now.is_cut ≡ false) }
 {
     let mut lines = Lines::new(&script.octets);
-    let format = read_format(&mut lines)?;
-    let receiver = open_receiver(alloc, format, &mut lines)?;
-    let mut session = Session::new(receiver);
-    play_lines(alloc, &mut lines, &mut session, output, text)?;
-    if script.is_cut {
+    let mut session = open_session(alloc, &mut lines)?;
+    play_to_end(alloc, script.is_cut, &mut lines, &mut session, output, text)
+}
+
+/// Opens a receiver of the format of the first line, and begins a session with it.
+fn open_session<A: Allocator + Copy>(alloc: A, lines: &mut Lines<'_>) -> Result<Session<A>, Fault>
+    ensures { IfErr result (λ fault. fault ≢ Fault.Device) }
+{
+    let format = read_format(lines)?;
+    let receiver = open_receiver(alloc, format, lines)?;
+    Ok(Session::new(receiver))
+}
+
+/// Follows the lines, of which none may be missing, and prints what is known behind the last.
+fn play_to_end<A: Allocator + Copy, O: ByteSink>(
+    alloc: A,
+    is_cut: bool,
+    lines: &mut Lines<'_>,
+    session: &mut Session<A>,
+    output: &mut O,
+    text: &mut String<A>,
+) -> Result<(), Fault>
+    ensures failures { Accounts result (O.failures output.old) (O.failures output.new) }
+    ensures whole { OnOk result (is_cut ≡ false) }
+{
+    play_lines(alloc, lines, session, output, text)?;
+    if is_cut {
         return Err(Fault::Script(lines.following()));
     }
     print_frames(&session.receiver, output, text)?;
