@@ -1,6 +1,7 @@
 -- The lines of the frames, timestamp by timestamp.
 use Rattle.std.proofs.Common.{◌≡◌, ℕ, zero, suc, ◌+◌, ◌<◌, List, [], ◌∷◌, ◌++◌, length, get_or}
-use Rattle.std.proofs.Common.{drop, Option, Some, refl, sym, ap, ◌∙◌, inl, inr, codes, count_by, arith}
+use Rattle.std.proofs.Common.{Option, Some, refl, sym, ap, ◌∙◌, inl, inr, codes, count_by}
+use Rattle.std.proofs.Common.{arith, drop}
 use Rattle.std.specs.List.{flat_map}
 use Rattle.st_format.specs.Member.{IsMember}
 use Rattle.st_format.specs.Raster.{Raster}

@@ -148,8 +148,8 @@ impl<A: Allocator> Plan<A> {
         self.starts.len() as u32
     }
 
-    /// What is so of every plan: it has a packet, and what [`new`](Plan::new) says of its packets. A
-    /// caller's proof learns it from here; nothing is done.
+    /// What is so of every plan: it has a packet, and what [`new`](Plan::new) says of its packets.
+    /// A caller's proof learns it from here; nothing is done.
     #[inline(always)]
     pub fn facts(&self)
         ensures some { 0 < length self.now.packets }
