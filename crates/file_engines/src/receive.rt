@@ -21,9 +21,9 @@ use crate::text::{read_text, room};
 use capture_file::CaptureReader;
 use path_merge::Receiver;
 use receiver_file::save_receiver;
-use st_format::{ByteSink, ByteSource};
+use st_format::{ByteSink, ByteSource, read_number};
 use std::alloc::Allocator;
-use tool_text::{LINE, Status, read_number, read_timestamps, tell_memory};
+use tool_text::{LINE, Status, read_timestamps, tell_memory};
 
 /// The greatest number of octets of an SDP's file (own).
 const SDP: usize = 16_777_216;

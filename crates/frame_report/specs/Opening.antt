@@ -2,17 +2,10 @@
 use Rattle.std.specs.Prelude.{ℕ, List, ◌++◌, codes, Option, Some, None}
 use Rattle.std.specs.Fmt.{decimal}
 use Rattle.st_format.specs.declared.format.Format.{Format}
-use Rattle.st_format.specs.declared.sampling.Sampling.{Sampling}
-use Rattle.st_format.specs.declared.sampling.Sampling.TheVariants.{Ycc422, Ycc444, Rgb}
 use Rattle.st_format.specs.Pgroup.{bits_of}
+use Rattle.st_format.specs.Words.{sampling_text}
 use Rattle.path_merge.specs.Opening.{Opening}
 use Rattle.frame_report.specs.Gathers.{numbered}
-
--- a sampling as SDP spells it (SMPTE ST 2110-20, sampling)
-abbrev pub sampling_text : Sampling → List ℕ
-sampling_text Ycc422 = codes "YCbCr-4:2:2"
-sampling_text Ycc444 = codes "YCbCr-4:4:4"
-sampling_text Rgb = codes "RGB"
 
 -- sampling, depth, width, height and rate
 abbrev pub raster_text : Format → List ℕ

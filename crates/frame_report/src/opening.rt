@@ -1,10 +1,10 @@
 //! The first line of a report.
 ghost use Rattle.std.specs.Prelude.{◌≡◌, ◌≤◌, ◌+◌, ◌++◌, length};
-ghost use Rattle.frame_report.specs.Opening.{opening_line, raster_text, sampling_text, source_text};
+ghost use Rattle.frame_report.specs.Opening.{opening_line, raster_text, source_text};
 
 use crate::page::{GATHERED, Page};
 use path_merge::Receiver;
-use st_format::{Format, Sampling};
+use st_format::Format;
 use std::alloc::Allocator;
 
 /// A page with the line of what a receiver was opened with.
@@ -27,24 +27,12 @@ fn add_raster(page: &mut Page, format: &Format)
     ensures text { page.new ≡ page.old ++ raster_text format.now }
     ensures short { length page.new ≤ length page.old + 256 }
 {
-    page.add(sampling_word(format.sampling()));
+    page.add(format.sampling().word());
     page.add_number(b" ", u64::from(format.depth().bits()));
     page.add_number(b" ", u64::from(format.width()));
     page.add_number(b" ", u64::from(format.height()));
     page.add_number(b" ", u64::from(format.n()));
     page.add_number(b"/", u64::from(format.d()));
-}
-
-/// A sampling as SDP spells it.
-fn sampling_word(sampling: Sampling) -> &'static [u8]
-    ensures text { result.now ≡ sampling_text sampling }
-    ensures short { length result.now ≤ 16 }
-{
-    match sampling {
-        Sampling::Ycc422 => b"YCbCr-4:2:2",
-        Sampling::Ycc444 => b"YCbCr-4:4:4",
-        Sampling::Rgb => b"RGB",
-    }
 }
 
 /// Adds the source that is pinned, or `any`.

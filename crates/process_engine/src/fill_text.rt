@@ -3,7 +3,8 @@ ghost use Rattle.std.specs.Prelude.{◌<◌, ℕ, slice_index, IfNone, IfSome};
 ghost use Rattle.process_engine.specs.FillText.{IsFillText};
 ghost use Rattle.tool_text.specs.Timestamps.{Spells};
 
-use tool_text::{read_number, split_once};
+use st_format::read_number;
+use tool_text::split_once;
 
 /// The values that a text says, one for each component: three numbers of 16 bits, parted by commas.
 /// Any other text is none.

@@ -14,7 +14,7 @@ use Rattle.st2110_tool.specs.declared.line.TraceLine.TheVariants.{Datagram, Slid
 use Rattle.tool_text.specs.Fields.{parted}
 use Rattle.st2110_tool.specs.Forms.{AreFormat, AreFour, AreHeightAndRate, AreOpening, AreTwo}
 use Rattle.st2110_tool.specs.Forms.{IsFormatLine, IsOpenLine, IsRate, IsSourceText, IsTraceLine}
-use Rattle.st2110_tool.specs.Forms.{sampling_text}
+use Rattle.st_format.specs.Words.{sampling_text}
 use Rattle.tool_text.specs.Timestamps.{Spells}
 
 pub if_none : {X P : Type 0} (r : Option X) → r ≡ None → P → IfNone r P

@@ -16,7 +16,7 @@ use Rattle.path_merge.specs.declared.schedule.event.Event.{Event}
 use Rattle.path_merge.specs.declared.schedule.event.Event.TheVariants.{Send, Arrive, Slide, Merge}
 use Rattle.tool_text.specs.Fields.{parted}
 use Rattle.st2110_tool.specs.Forms.{AreTwo}
-use Rattle.tool_text.specs.Number.{IsNumber}
+use Rattle.st_format.specs.Words.{IsNumber}
 use Rattle.st2110_tool.specs.RehearsalForms.{AreArrival, AreReceiverAndNumber, AreReceivers}
 use Rattle.st2110_tool.specs.RehearsalForms.{AreStamp, IsEventLine, IsNumberLine, IsStampLine}
 use Rattle.st2110_tool.proofs.FormLemmas.{differ, later, same_rest, second_same}

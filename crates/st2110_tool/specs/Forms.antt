@@ -2,9 +2,8 @@
 use Rattle.std.specs.Prelude.{◌≡◌, ◌≤◌, ℕ, List, [], ◌∷◌, ◌++◌, codes, Option, None, Some, Ok}
 use Rattle.hex.specs.Hex.{decode_of}
 use Rattle.st_format.specs.declared.path.Path.TheVariants as path
-use Rattle.st_format.specs.declared.sampling.Sampling.{Sampling}
-use Rattle.st_format.specs.declared.sampling.Sampling.TheVariants as sampling
 use Rattle.st_format.specs.Pgroup.{bits_of}
+use Rattle.st_format.specs.Words.{sampling_text}
 use Rattle.st2110_tool.specs.declared.line.FormatLine.{FormatLine}
 use Rattle.st2110_tool.specs.declared.line.Place.{Place}
 use Rattle.st2110_tool.specs.declared.line.TraceLine.{TraceLine}
@@ -31,12 +30,6 @@ pub record AreFour (text : List ℕ) (p : Place) : Type 0 where
   pub timestamp_is : Spells timestamp p.timestamp
   pub row_is : Spells row p.row
   pub last_are : AreTwo last p.column p.component
-
--- the words for a sampling
-abbrev pub sampling_text : Sampling → List ℕ
-sampling_text sampling.Ycc422 = codes "YCbCr-4:2:2"
-sampling_text sampling.Ycc444 = codes "YCbCr-4:4:4"
-sampling_text sampling.Rgb = codes "RGB"
 
 -- two numbers, parted by the first stroke
 pub record IsRate (text : List ℕ) (n d : ℕ) : Type 0 where

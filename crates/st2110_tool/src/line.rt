@@ -1,16 +1,16 @@
 //! What a line of a script says.
-ghost use Rattle.std.specs.Prelude.{◌≡◌, ◌≢◌, ◌≤◌, ◌<◌, ℕ, List, Ok, Option, length, take, IfNone};
+ghost use Rattle.std.specs.Prelude.{◌≡◌, ◌≤◌, ◌<◌, ℕ, List, Ok, Option, length, take, IfNone};
 ghost use Rattle.std.specs.Prelude.{IfOk, IfSome, IsFalse, IsTrue};
 ghost use Rattle.hex.specs.Hex.{decode_of};
 ghost use Rattle.st2110_tool.specs.Forms.{AreFormat, AreFour, AreHeightAndRate, AreOpening, AreTwo};
 ghost use Rattle.st2110_tool.specs.Forms.{IsFormatLine, IsOctetsText, IsOpenLine, IsRate};
-ghost use Rattle.st2110_tool.specs.Forms.{IsWindowText, IsSourceText, IsTraceLine, sampling_text};
+ghost use Rattle.st2110_tool.specs.Forms.{IsWindowText, IsSourceText, IsTraceLine};
 ghost use Rattle.tool_text.specs.Timestamps.{Spells};
 ghost use Rattle.st_format.specs.Pgroup.{bits_of};
 
-use st_format::{Depth, Path, Sampling};
+use st_format::{Depth, Path, Sampling, read_number};
 use std::alloc::{AllocError, Allocator};
-use tool_text::{after_word, read_number, read_timestamps, split_once};
+use tool_text::{after_word, read_timestamps, split_once};
 
 /// A line `format S B W H N/D`.
 #[derive(Clone, Copy)]
@@ -73,7 +73,7 @@ fn read_format_fields(text: &[u8]) -> Option<FormatLine>
     let (width, rest) = split_once(rest, b' ')?;
     let (height, n, d) = read_height_and_rate(rest)?;
     Some(FormatLine {
-        sampling: read_sampling(sampling)?,
+        sampling: Sampling::of_word(sampling)?,
         depth: read_depth(depth)?,
         width: read_number(width)?,
         height,
@@ -99,22 +99,6 @@ fn read_rate(text: &[u8]) -> Option<(u32, u32)>
 {
     let (n, d) = split_once(text, b'/')?;
     Some((read_number(n)?, read_number(d)?))
-}
-
-fn read_sampling(text: &[u8]) -> Option<Sampling>
-    ensures is { IfSome result (λ s. text.now ≡ sampling_text s) }
-    ensures none { IfNone result ((s : Sampling) → text.now ≢ sampling_text s) }
-{
-    if text == b"YCbCr-4:2:2".as_slice() {
-        return Some(Sampling::Ycc422);
-    }
-    if text == b"YCbCr-4:4:4".as_slice() {
-        return Some(Sampling::Ycc444);
-    }
-    if text == b"RGB".as_slice() {
-        return Some(Sampling::Rgb);
-    }
-    None
 }
 
 fn read_depth(text: &[u8]) -> Option<Depth>

@@ -1,5 +1,4 @@
 pub mod Status
-pub mod Number
 pub mod Fields
 pub mod Timestamps
 pub mod Telling

@@ -1,8 +1,8 @@
 -- Numbers as text, and timestamps parted by commas.
 use Rattle.std.specs.Prelude.{◌≡◌, ℕ, List, [], ◌∷◌, None, Some}
 use Rattle.std.specs.Str.Parse.{digits_value}
+use Rattle.st_format.specs.Words.{IsNumber}
 use Rattle.tool_text.specs.Fields.{parted}
-use Rattle.tool_text.specs.Number.{IsNumber}
 
 -- a number of this value
 pub record Spells (text : List ℕ) (n : ℕ) : Type 0 where

@@ -13,11 +13,11 @@ returns-in_err-height-clause-none c =
     (sym c.in_ok-sampling.ensures.parts) (sym c.in_ok-depth.ensures.parts)
     (sym c.in_ok-width.ensures.parts) c.in_err-height.ensures.none)
 
-pub returns-in_err-read_sampling-clause-none : goal.returns-in_err-read_sampling-clause-none
-returns-in_err-read_sampling-clause-none c =
-    if_none c.from_residual-in_err-read_sampling.result c.from_residual-in_err-read_sampling.ensures
+pub returns-in_err-of_word-clause-none : goal.returns-in_err-of_word-clause-none
+returns-in_err-of_word-clause-none c =
+    if_none c.from_residual-in_err-of_word.result c.from_residual-in_err-of_word.ensures
     (sampling_none c.args.text.now c.in_ok-sampling.sampling.now c.in_ok-sampling.rest.now
-    (sym c.in_ok-sampling.ensures.parts) c.in_err-read_sampling.ensures.none)
+    (sym c.in_ok-sampling.ensures.parts) c.in_err-of_word.ensures.none)
 
 pub returns-in_err-read_depth-clause-none : goal.returns-in_err-read_depth-clause-none
 returns-in_err-read_depth-clause-none c =
@@ -37,7 +37,7 @@ returns-clause-is c =
       more = c.in_ok-depth.rest.now;
       last = c.in_ok-width.rest.now;
       parts = subst (λ (word : List ℕ). parted 32 c.args.text.now ≡ Some
-          (word, c.in_ok-sampling.rest.now)) c.in_ok-read_sampling.ensures.is
+          (word, c.in_ok-sampling.rest.now)) c.in_ok-of_word.ensures.is
           (sym c.in_ok-sampling.ensures.parts);
       parts_behind = sym c.in_ok-depth.ensures.parts;
       parts_more = sym c.in_ok-width.ensures.parts;
