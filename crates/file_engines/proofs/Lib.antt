@@ -4,3 +4,4 @@ pub mod SetSums
 pub mod Merged
 pub mod Taken
 pub mod Rotating
+pub mod StateRefusals

@@ -7,3 +7,5 @@ pub mod Migrating
 pub mod Receiving
 pub mod Merging
 pub mod Taking
+pub mod Tallied
+pub mod Refusing

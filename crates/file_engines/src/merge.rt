@@ -4,6 +4,7 @@ ghost use Rattle.std.specs.Io.KnownBytes.{Appends};
 ghost use Rattle.file_engines.specs.Fault.{Accounts, IfRefused, NoneFailed, OneFailed, counts};
 ghost use Rattle.file_engines.specs.Merging.{GivesReceiver, IsAgain, Joins, Merges};
 ghost use Rattle.file_engines.specs.Receiving.{Saves};
+ghost use Rattle.file_engines.specs.Refusing.{IsStateRefusal, OfRefusal};
 ghost use Rattle.path_merge.specs.Frames.{State};
 ghost use Rattle.capture_file.specs.StateFile.{state_text};
 ghost use Rattle.receiver_file.specs.Saved.{kept_of};
@@ -129,6 +130,7 @@ pub fn read_receiver<A: Allocator + Copy, S: ByteSource>(
         → octets ≡ state_text (kept_of r)) }
     ensures same { IfOk result (λ r. (s : State)
         → GivesReceiver (S.to_give source.old) s → IsAgain s r) }
+    ensures refused { IfErr result (λ f. OfRefusal f (IsStateRefusal (S.to_give source.old))) }
     ensures failures { Accounts result (counts (S.failures source.old) (S.failures source.new)
         ∷ []) }
 {

@@ -1,4 +1,9 @@
 //! Counts of what a receiver answered.
+ghost use Rattle.std.specs.Prelude.{◌≡◌};
+ghost use Rattle.std.specs.List.{AllByRecursion};
+ghost use Rattle.file_engines.specs.Tallied.{counted};
+ghost use Rattle.std.specs.Prelude.{Err};
+
 use path_merge::{Refusal, Taken};
 use payload_header::PayloadFault;
 use rtp_header::RtpFault;
@@ -32,15 +37,20 @@ pub(crate) struct Tally {
 
 impl Tally {
     /// Nothing was counted.
-    pub fn new() -> Tally {
+    pub fn new() -> Tally
+        ensures refused { AllByRecursion (λ count. count ≡ 0) result.refused }
+        ensures outside { result.outside ≡ 0 }
+    {
         Tally {
             refused: [0; 14],
             outside: 0,
         }
     }
 
-    /// Counts an answer.
-    pub fn note(&mut self, answer: Result<Taken, Refusal>) {
+    /// Counts an answer: of the count that is its own one more, as long as that fits.
+    pub fn note(&mut self, answer: Result<Taken, Refusal>)
+        ensures { self.new ≡ counted answer self.old }
+    {
         match answer {
             Ok(Taken::Kept(_)) => {}
             Ok(Taken::Outside) => self.outside = self.outside.saturating_add(1),
@@ -49,7 +59,9 @@ impl Tally {
     }
 
     /// Counts a datagram that was refused.
-    fn note_refusal(&mut self, refusal: Refusal) {
+    fn note_refusal(&mut self, refusal: Refusal)
+        ensures { self.new ≡ counted (Err refusal) self.old }
+    {
         let place = usize::from(refusal.number()) - 1;
         self.refused[place] = self.refused[place].saturating_add(1);
     }

@@ -1,3 +1,4 @@
+use Rattle.file_engines.proofs.StateRefusals.{state_refused}
 use Rattle.file_engines.proofs.merge.read_receiver.Goals as goal
 
 pub returns-in-Ok-clause-found : goal.returns-in-Ok-clause-found
@@ -7,3 +8,7 @@ pub returns-in-Ok-clause-same : goal.returns-in-Ok-clause-same
 returns-in-Ok-clause-same g c = λ s gives.
     let same = c.in-Ok.ensures.same s gives.told gives.writable in
     record { opening = same.0; frames = same.1 }
+
+pub returns-in-Err-clause-refused : goal.returns-in-Err-clause-refused
+returns-in-Err-clause-refused g c =
+    state_refused (g.S.ByteSource.to_give c.args.source.now) c.in-Err.fault c.in-Err.ensures.wrong
