@@ -1,13 +1,13 @@
 -- What a receiver has of the turns of a link, one after the other.
 use Rattle.std.proofs.Common.{◌≡◌, ℕ, ◌+◌, ◌≤◌, Bool, true, false, List, [], ◌∷◌, ◌++◌, length, Option}
-use Rattle.std.proofs.Common.{refl, sym, ap, ◌∙◌, arith}
+use Rattle.std.proofs.Common.{zero, suc, refl, sym, ap, ◌∙◌, arith}
 use Rattle.std.proofs.lemmas.List.{length-append}
 use Rattle.st_format.specs.Raster.{Raster}
 use Rattle.st_format.specs.Turns.{Due, Comes, Nothing, datagrams_of}
 use Rattle.path_merge.specs.declared.receiving.Received.{Received}
 use Rattle.path_merge.specs.Frames.{Holds, State, frames_of, joined_frames}
 use Rattle.path_merge.specs.Opening.{Opening}
-use Rattle.path_merge.specs.Took.{AreTurns, Took}
+use Rattle.path_merge.specs.Took.{AreTurns, CountsAll, Took}
 use Rattle.path_merge.proofs.Frames.{frames_of-append}
 use Rattle.report_engines.specs.Looping.{Came}
 
@@ -52,4 +52,33 @@ more_came turns before r old new s t took came =
           ∙ sym (frames_of-append s.opening ds xs)
           ∙ ap (λ (o : Opening). frames_of o (ds ++ xs)) (sym took.taken.opening)
           ∙ ap (frames_of t.opening) (sym all);
+    }
+
+-- ---- what the link counts
+
+pub none_counted : (count : ℕ) → CountsAll 0 count count
+none_counted count = record { none = λ _. refl; some = λ any. absurd (omega (arith, any)) }
+
+-- what it counts in one turn more
+pub more_counted : (a b before between after : ℕ) → CountsAll a before between
+    → CountsAll b between after → CountsAll (a + b) before after
+more_counted zero b before between after first second =
+    let same : between ≡ before = first.none refl in
+    record {
+      none = λ none. second.none (omega (arith, none)) ∙ same;
+      some = λ any. let is = second.some (omega (arith, any)) in omega (arith, same, is);
+    }
+more_counted (suc a) zero before between after first second =
+    let is = first.some (omega arith) in
+    let same : after ≡ between = second.none refl in
+    record {
+      none = λ none. absurd (omega (arith, none));
+      some = λ any. omega (arith, same, is);
+    }
+more_counted (suc a) (suc b) before between after first second =
+    let one = first.some (omega arith) in
+    let two = second.some (omega arith) in
+    record {
+      none = λ none. absurd (omega (arith, none));
+      some = λ any. omega (arith, one, two);
     }

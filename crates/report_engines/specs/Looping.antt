@@ -10,6 +10,7 @@ use Rattle.packet_plan.specs.declared.run.PacketRun.{PacketRun}
 use Rattle.packet_plan.specs.Plan.{IsFullPlan}
 use Rattle.path_merge.specs.Frames.{Holds, State, frame_at}
 use Rattle.path_merge.specs.Opening.{Opening}
+use Rattle.path_merge.specs.Took.{CountsAll}
 use Rattle.st_format.specs.declared.format.Format.{Format}
 use Rattle.st_format.specs.Picture.{Values}
 use Rattle.st_format.specs.Raster.{Raster}
@@ -46,8 +47,8 @@ pub record Prints (sent delivered : ℕ) (receiver : State) (old new : Option (L
   pub printed : Appends old new (loop_text sent delivered counts)
 
 -- The picture of a file was sent by a plan, one turn of the link was taken for each datagram, up to
--- a limit, and a receiver took what came in them.
-pub record Loops (max limit : ℕ) (given old new : Option (List ℕ)) : Type 0 where
+-- a limit, and a receiver took what came in them: as many datagrams as the link then counts more.
+pub record Loops (max limit before after : ℕ) (given old new : Option (List ℕ)) : Type 0 where
   pub picture : Values
   pub packets : List (List PacketRun)
   pub delivered : ℕ
@@ -56,4 +57,5 @@ pub record Loops (max limit : ℕ) (given old new : Option (List ℕ)) : Type 0 
   pub plan : IsFullPlan picture.format max packets
   pub opening : receiver.opening ≡ loop_opening picture.format
   pub came : Came (min limit (length packets)) delivered receiver
+  pub counted : CountsAll delivered before after
   pub printed : Prints (min limit (length packets)) delivered receiver old new

@@ -6,6 +6,7 @@ ghost use Rattle.capture_file.specs.PictureFile.{picture_text};
 ghost use Rattle.file_engines.specs.Fault.{Accounts, NoneFailed, OneFailed, counts};
 ghost use Rattle.packet_plan.specs.Plan.{IsFullPlan};
 ghost use Rattle.path_merge.specs.Frames.{Holds};
+ghost use Rattle.path_merge.specs.Took.{CountsAll};
 ghost use Rattle.tool_text.specs.Telling.{memory_line};
 ghost use Rattle.report_engines.specs.Looping.{Came, Loops, Prints, loop_opening};
 
@@ -81,9 +82,11 @@ where
     ensures turns { L.DatagramSource.delivered link.new
         ≤ L.DatagramSource.delivered link.old + wanted.limit }
     // What is printed is that of a receiver which holds the Frames of the datagrams that came in so
-    // many turns as datagrams were sent, of which there are no more than the limit.
-    ensures looped { result ≡ 0 → Loops wanted.max_octets wanted.limit (S.to_give picture.old)
-        (O.held output.old) (O.held output.new) }
+    // many turns as datagrams were sent, of which there are no more than the limit; as many came as
+    // the link counts.
+    ensures looped { result ≡ 0 → Loops wanted.max_octets wanted.limit
+        (L.DatagramSource.delivered link.old) (L.DatagramSource.delivered link.new)
+        (S.to_give picture.old) (O.held output.old) (O.held output.new) }
     ensures silent { result ≡ 0 → faults.new ≡ faults.old }
     ensures memory { result ≡ 4 → Appends (F.held faults.old) (F.held faults.new) memory_line }
 {
@@ -112,8 +115,9 @@ where
     O: ByteSink,
     ensures turns { L.DatagramSource.delivered link.new
         ≤ L.DatagramSource.delivered link.old + wanted.limit }
-    ensures looped { OnOk result (Loops wanted.max_octets wanted.limit (S.to_give source.old)
-        (O.held output.old) (O.held output.new)) }
+    ensures looped { OnOk result (Loops wanted.max_octets wanted.limit
+        (L.DatagramSource.delivered link.old) (L.DatagramSource.delivered link.new)
+        (S.to_give source.old) (O.held output.old) (O.held output.new)) }
     ensures failures { Accounts result (counts (S.failures source.old) (S.failures source.new)
         ∷ counts (L.DatagramSink.failures link.old) (L.DatagramSink.failures link.new)
         ∷ counts (O.failures output.old) (O.failures output.new) ∷ []) }
@@ -165,6 +169,8 @@ fn pass<A: Allocator, L: DatagramLink>(
     requires holds { Holds receiver.old [] }
     ensures sent { IfOk result (λ p. p.sent ≡ min limit (length plan.now.packets)) }
     ensures came { IfOk result (λ p. Came p.sent p.delivered receiver.new) }
+    ensures counted { IfOk result (λ p. CountsAll p.delivered
+        (L.DatagramSource.delivered link.old) (L.DatagramSource.delivered link.new)) }
     ensures plan { IsFullPlan plan.now.format plan.now.max_octets plan.now.packets }
     ensures turns { L.DatagramSource.delivered link.new
         ≤ L.DatagramSource.delivered link.old + limit }
@@ -204,6 +210,8 @@ fn pass_one<A: Allocator, L: DatagramLink>(
     ensures few { IfOk result (λ n. n ≤ 1) }
     ensures came { IfOk result (λ n. (turns before : ℕ) → Came turns before receiver.old
         → Came (turns + 1) (before + n) receiver.new) }
+    ensures counted { IfOk result (λ n. CountsAll n
+        (L.DatagramSource.delivered link.old) (L.DatagramSource.delivered link.new)) }
     ensures turns { L.DatagramSource.delivered link.new
         ≤ L.DatagramSource.delivered link.old + 1 }
     ensures opening { receiver.new.opening ≡ receiver.old.opening }

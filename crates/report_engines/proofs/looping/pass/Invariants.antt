@@ -1,4 +1,5 @@
 use Rattle.std.proofs.Common.{◌≡◌, ◌≤◌, ◌+◌, length}
+use Rattle.path_merge.specs.Took.{CountsAll}
 use Rattle.report_engines.specs.Looping.{Came}
 use Rattle.report_engines.proofs.looping.pass.Given as goal
 
@@ -7,6 +8,8 @@ invariant-loop-index g l = record {
   room : length l.buf ≡ 65535;
   few : l.delivered ≤ l.index;
   came : Came l.index l.delivered l.receiver;
+  counted : CountsAll l.delivered (g.L.DatagramSource.delivered l.initial.link)
+      (g.L.DatagramSource.delivered l.link);
   opening : l.receiver.opening ≡ l.initial.receiver.opening;
   turns :
       g.L.DatagramSource.delivered l.link

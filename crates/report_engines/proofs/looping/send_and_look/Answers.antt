@@ -18,8 +18,10 @@ returns-clause-looped g c =
     let receiver : State = c.pass.new.receiver in
     let max = c.args.wanted.max_octets in
     let sent = c.in_ok-passed.ensures.sent in
+    let before = g.L.DatagramSource.delivered c.args.link.now in
+    let after = g.L.DatagramSource.delivered c.pass.new.link in
     on_ok c.print_passed.result (Prints passed.sent passed.delivered receiver old new)
-    (Loops max c.args.wanted.limit given old new)
+    (Loops max c.args.wanted.limit before after given old new)
     (λ printed. record {
       picture = c.in_ok-picture.picture;
       packets = plan.packets;
@@ -34,6 +36,7 @@ returns-clause-looped g c =
       opening = c.in_ok-passed.ensures.opening ∙ c.in_ok-receiver.ensures.opening;
       came =
           subst (λ (n : ℕ). Came n passed.delivered receiver) sent c.in_ok-passed.ensures.came;
+      counted = c.in_ok-passed.ensures.counted;
       printed =
           subst (λ (n : ℕ). Prints n passed.delivered receiver old new) sent printed;
     })
