@@ -87,38 +87,52 @@ status=$?
 says 'verbose: without a fault nothing is told' 0 "kept 1
 $frame" ''
 
-# SDP texts: the octets that were read, and what was wanted.
+# SDP texts: of the camera's text, or of one of its sections, the line or the item at fault, and what was wanted.
+# A text without video has no such line.
 sdp_places() {
-    while IFS='|' read -r fault old new wanted; do
-        turn "$camera" "$old" "$new"
-        printf '%b' "$turned" >in
+    while IFS='|' read -r fault old new place wanted; do
+        turn "$2" "$old" "$new"
+        printf '%b' "$1$turned" >in
         "$program" sdp -v <in >out 2>err
         status=$?
-        adds "sdp: $fault" 1 '' "sdp $fault" "standard input, octet $(($(wc -c <in))); wanted $wanted"
+        adds "sdp: $fault, $new" 1 '' "sdp $fault" "$here $place; wanted $wanted"
     done
 }
-sdp_places <<'END'
-2 NoVideo|m=video|m=audio|a line that begins m=video and a space
-4 BadMediaLine|5004 RTP|65536 RTP|m=video PORT RTP/AVP PT, PORT to 65535 and PT to 127
-5 NoRtpmap|a=rtpmap:112|a=rtpmap:113|a=rtpmap:PT for the payload type of the line m=video
-6 NotRaw90000|raw/90000|raw/48000|raw/90000 in a=rtpmap:PT
-7 NoFmtp|a=fmtp:112|a=fmtp:113|a=fmtp:PT for the payload type of the line m=video
-8 BadParameter|width=1920|width=|in a=fmtp:PT items NAME=VALUE, each value of its form
-9 DoubleParameter|TCS=SDR|TP=SDR|in a=fmtp:PT each name once
-10 MissingParameter|PM=2110GPM; ||sampling, width, height, exactframerate, depth, colorimetry, PM and SSN in a=fmtp:PT
-11 UnsupportedSampling|sampling=YCbCr-4:2:2|sampling=KEY|sampling=YCbCr-4:2:2, YCbCr-4:4:4 or RGB
-12 UnsupportedDepth|depth=10|depth=9|depth=8, 10, 12 or 16
-13 Interlaced|TCS=SDR|interlace|neither interlace nor segmented
-14 UnsupportedPacking|PM=2110GPM|PM=2110BPM|PM=2110GPM
-15 BadSsn|SSN=ST2110-20:2017|SSN=1|SSN=ST2110-20: and a year
-16 BadFormat|width=1920|width=1921|width, height and exactframerate of a format
+bad_item='in a=fmtp:PT items NAME=VALUE, each value of its form'
+fmtp_front='9, '"'"'a=fmtp:112 sampling=YCbCr-4:2:2; width='
+sdp_places '' "$camera" <<END
+4 BadMediaLine|5004 RTP|65536 RTP|6, 'm=video 65536 RTP/AVP 112'|m=video PORT RTP/AVP PT, PORT to 65535 and PT to 127
+5 NoRtpmap|a=rtpmap:112|a=rtpmap:113|6, 'm=video 5004 RTP/AVP 112'|a=rtpmap:PT for the payload type of the line m=video
+6 NotRaw90000|raw/90000|raw/48000|8, 'a=rtpmap:112 raw/48000'|raw/90000 in a=rtpmap:PT
+7 NoFmtp|a=fmtp:112|a=fmtp:113|6, 'm=video 5004 RTP/AVP 112'|a=fmtp:PT for the payload type of the line m=video
+8 BadParameter|width=1920|width=|9, 'width='|$bad_item
+8 BadParameter|width=1920|width=1920; =1|9, '=1'|$bad_item
+8 BadParameter|60000/1001|60000 / 1001|9, 'exactframerate=60000 / 1001'|$bad_item
+8 BadParameter|BT709|BT 709|9, 'colorimetry=BT 709'|$bad_item
+8 BadParameter|TCS=SDR|RANGE=full|9, 'RANGE=full'|$bad_item
+9 DoubleParameter|TCS=SDR|TP=SDR|9, 'TP=2110TPN'|in a=fmtp:PT each name once
+10 MissingParameter|PM=2110GPM; ||${fmtp_front}1920; height=1080; ex..'|sampling, width, height, exactframerate, depth, colorimetry, PM and SSN in a=fmtp:PT
+11 UnsupportedSampling|sampling=YCbCr-4:2:2|sampling=KEY|9, 'sampling=KEY'|sampling=YCbCr-4:2:2, YCbCr-4:4:4 or RGB
+12 UnsupportedDepth|depth=10|depth=9|9, 'depth=9'|depth=8, 10, 12 or 16
+13 Interlaced|TCS=SDR|interlace|9, 'interlace'|neither interlace nor segmented
+13 Interlaced|TCS=SDR|segmented=0|9, 'segmented=0'|neither interlace nor segmented
+14 UnsupportedPacking|PM=2110GPM|PM=2110BPM|9, 'PM=2110BPM'|PM=2110GPM
+15 BadSsn|SSN=ST2110-20:2017|SSN=1|9, 'SSN=1'|SSN=ST2110-20: and a year
+16 BadFormat|width=1920|width=1921|${fmtp_front}1921; height=1080; ex..'|width, height and exactframerate of a format
 END
-turn "$second" width=1920 width=1280
-printf '%b' "$session$first$turned" >in
+sdp_places "$session$first" "$second" <<'END'
+6 NotRaw90000|raw/90000|raw/48000|13, 'a=rtpmap:112 raw/48000'|raw/90000 in a=rtpmap:PT
+11 UnsupportedSampling|sampling=YCbCr-4:2:2|sampling=KEY|14, 'sampling=KEY'|sampling=YCbCr-4:2:2, YCbCr-4:4:4 or RGB
+17 LegsDiffer|width=1920|width=1280|11, 'm=video 5006 RTP/AVP 112'|two sections with one payload type, format, range and colorimetry
+END
+sdp_places "$camera" "$second" <<'END'
+3 TooManyLegs|5006|5008|16, 'm=video 5008 RTP/AVP 112'|at most two sections m=video
+END
+printf '%b' "$session" >in
 "$program" -v sdp <in >out 2>err
 status=$?
-adds 'sdp: two sections' 1 '' 'sdp 17 LegsDiffer' "standard input, octet $(($(wc -c <in))); \
-wanted two sections with one payload type, format, range and colorimetry"
+adds 'sdp: no video' 1 '' 'sdp 2 NoVideo' \
+    "standard input, octet $(($(wc -c <in))); wanted a line that begins m=video and a space"
 
 # Files: COMMAND|STATUS|FAULT|PLACE. What is said of a file is how many of its octets were read.
 octets "5332305043503031" >x.pic

@@ -3,6 +3,7 @@
 
 mod captures;
 mod commands;
+mod descriptions;
 mod files;
 mod link;
 mod places;

@@ -2,6 +2,7 @@
 ghost use Rattle.std.specs.Prelude.{◌≤◌};
 
 use crate::captures::CaptureSink;
+use crate::descriptions::tell_description;
 use crate::files::{FileSink, FileSource};
 use crate::link::{UdpLink, unbound};
 use crate::places::{Devices, Reading, tell_place};
@@ -29,7 +30,7 @@ pub fn trace(rt: &HostRuntime, is_verbose: bool) -> u8 {
 
 /// Tells the canonical line of the SDP on standard input.
 pub fn sdp(rt: &HostRuntime, is_verbose: bool) -> u8 {
-    let mut input = InputSource::new(rt.stdin(), None);
+    let mut input = InputSource::new(rt.stdin(), kept(rt, is_verbose));
     let mut output = OutputSink::new(rt.stdout());
     let mut faults = FaultSink::new(rt.alloc(), rt.stderr());
     let status = run_sdp(rt.alloc(), &mut input, &mut output, &mut faults);
@@ -318,7 +319,7 @@ fn last_begun<'a>(sources: &[FileSource<'a>]) -> Option<Reading<'a>> {
     last
 }
 
-/// Memory for what is read of a script, where a fault's place is told.
+/// Memory for what is read of a script or an SDP text, where a fault's place is told.
 fn kept(rt: &HostRuntime, is_verbose: bool) -> Option<Vec<u8>> {
     if is_verbose {
         Some(Vec::new(rt.alloc()))
@@ -377,6 +378,7 @@ fn explain_text<R: Read + Drop, O: Write + Drop, W: Write + Drop>(
     let is_of_devices = told.subject == "device" || told.subject == "memory";
     match kind {
         Some(kind) if !is_of_devices => tell_line(rt, kind, input.kept(), &told),
+        None if told.subject == "sdp" && tell_description(rt, input.kept(), &told) => {}
         _ => {
             let devices = Devices {
                 sdp: None,

@@ -16,21 +16,21 @@ pub enum Kind {
     Rehearse,
 }
 
-/// A line of a script.
+/// A line of a text.
 #[derive(Clone, Copy)]
-struct Line<'a> {
+pub struct Line<'a> {
     /// Its number, counted from 1.
-    number: usize,
-    text: &'a [u8],
+    pub number: usize,
+    pub text: &'a [u8],
     /// How many lines before it aren't empty.
-    behind: usize,
+    pub behind: usize,
     /// Whether the script's limit is passed in it.
-    is_past: bool,
+    pub is_past: bool,
 }
 
-/// The lines of a script that are still to come.
+/// The lines of a text that are still to come.
 #[derive(Drop)]
-struct Lines<'a> {
+pub struct Lines<'a> {
     rest: Option<&'a [u8]>,
     number: usize,
     behind: usize,
@@ -38,7 +38,7 @@ struct Lines<'a> {
 }
 
 impl<'a> Lines<'a> {
-    fn new(text: &'a [u8]) -> Lines<'a> {
+    pub fn new(text: &'a [u8]) -> Lines<'a> {
         Lines {
             rest: Some(text),
             number: 0,
@@ -47,8 +47,13 @@ impl<'a> Lines<'a> {
         }
     }
 
+    /// How many octets stand before the next line.
+    pub fn octets(&self) -> usize {
+        self.octets
+    }
+
     /// The next line, empty ones too. Behind an LF at the end of the text there is one more.
-    fn next(&mut self) -> Option<Line<'a>> {
+    pub fn next(&mut self) -> Option<Line<'a>> {
         let rest = self.rest?;
         let text = match split_once(rest, b'\n') {
             Some((text, behind)) => {
@@ -145,7 +150,7 @@ fn is_event_at(line: &Line<'_>, place: usize, events: Option<usize>) -> bool {
 }
 
 /// Shows a line, in part where it is long.
-fn show(rt: &HostRuntime, line: &Line<'_>, wanted: &str) {
+pub fn show(rt: &HostRuntime, line: &Line<'_>, wanted: &str) {
     let (text, dots) = match line.text.get(..SHOWN) {
         Some(front) if line.text.len() > SHOWN => (front, ".."),
         _ => (line.text, ""),
