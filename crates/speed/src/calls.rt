@@ -150,14 +150,20 @@ fn look(alloc: Global, call: Call, frame: &Frame) -> Result<Made, Fault> {
     }
 }
 
-fn open(alloc: Global, format: Format) -> Result<Receiver, Fault> {
+/// A receiver of one timestamp.
+pub fn open(alloc: Global, format: Format) -> Result<Receiver, Fault> {
     Receiver::open(alloc, format, 96, Some(1), &[900])
         .ok()
         .ok_or(Fault)
 }
 
 /// Takes all datagrams by a path, or all but each so manyth (none is lost at 0).
-fn take(receiver: &mut Receiver, path: Path, stream: &Stream, step: usize) -> Result<(), Fault> {
+pub fn take(
+    receiver: &mut Receiver,
+    path: Path,
+    stream: &Stream,
+    step: usize,
+) -> Result<(), Fault> {
     for (place, datagram) in stream.datagrams.taken().iter().enumerate() {
         let is_lost = step > 0 && place % step == step / 2;
         if !is_lost && receiver.take(path, datagram.as_slice()).is_err() {

@@ -1,4 +1,5 @@
 //! The jobs of the processor, beside a copy of their inputs' samples and the same as plain loops.
+//! A job and a plain loop both make their result in memory that they ask for.
 use crate::fault::Fault;
 use crate::plain;
 use crate::streams::{Change, picture};
@@ -33,6 +34,14 @@ pub enum Way {
     Call,
     /// The formula in a plain loop.
     Plain,
+}
+
+/// What was made, which is let go once the clock was read.
+#[derive(Drop)]
+enum Made {
+    Nothing,
+    Picture(Picture),
+    Samples(Vec<u16>),
 }
 
 /// Three pictures, and room for the samples of all.
@@ -75,32 +84,26 @@ impl Inputs {
         Ok(best)
     }
 
-    /// The job's picture, or nothing where the room is filled.
-    fn make(
-        &mut self,
-        alloc: Global,
-        job: &Job,
-        count: usize,
-        way: Way,
-    ) -> Result<Option<Picture>, Fault> {
+    fn make(&mut self, alloc: Global, job: &Job, count: usize, way: Way) -> Result<Made, Fault> {
         match way {
             Way::Call => {
                 let inputs = self.pictures.get(..count).ok_or(Fault)?;
-                return Ok(Some(run_job(alloc, job, inputs).ok().ok_or(Fault)?));
+                let picture = run_job(alloc, job, inputs).ok().ok_or(Fault)?;
+                Ok(Made::Picture(picture))
             }
             Way::Copy => {
                 self.room.clear();
                 for picture in self.pictures.iter().take(count) {
                     self.room.extend_from_slice(picture.samples())?;
                 }
+                Ok(Made::Nothing)
             }
-            Way::Plain => self.fill(job),
+            Way::Plain => Ok(Made::Samples(self.looped(alloc, job)?)),
         }
-        Ok(None)
     }
 
-    /// Fills the room by the job's formula.
-    fn fill(&mut self, job: &Job) {
+    /// What a plain loop makes by the job's formula.
+    fn looped(&self, alloc: Global, job: &Job) -> Result<Vec<u16>, Fault> {
         let [a, b, by] = &self.pictures;
         let scale = match a.format().depth() {
             Depth::D8 => 1,
@@ -108,8 +111,13 @@ impl Inputs {
             Depth::D12 => 16,
             Depth::D16 => 256,
         };
-        let count = a.samples().len().min(self.room.len());
         let inputs = [a.samples(), b.samples(), by.samples()];
-        plain::run(job, scale, inputs, &mut self.room[..count]);
+        let count = match job {
+            Job::ToYcc422 => a.samples().len() / 6 * 4,
+            _ => a.samples().len(),
+        };
+        let mut out = Vec::from_elem(alloc, 0u16, count)?;
+        plain::run(job, scale, inputs, out.as_mut_slice());
+        Ok(out)
     }
 }

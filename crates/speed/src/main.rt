@@ -9,12 +9,15 @@ mod calls;
 mod fault;
 mod jobs;
 mod plain;
+mod sending;
 mod streams;
 
 use crate::calls::{Call, Room};
 use crate::fault::Fault;
 use crate::jobs::{Inputs, JOBS, Way};
+use crate::sending::Frames;
 use crate::streams::{Change, Stream};
+use key_mix::Job;
 use st_format::{Depth, Format, Sampling};
 use std::env;
 use std::process::ExitCode;
@@ -141,7 +144,7 @@ fn print(
     Ok(())
 }
 
-/// Measures each job at a depth, and the same as a plain loop.
+/// Measures each job at a depth, the same as a plain loop, and sending what it makes.
 fn measure_jobs(
     rt: &HostRuntime,
     depth: Depth,
@@ -165,6 +168,32 @@ fn measure_jobs(
             print(rt, "the job", called, copied, octets)?;
             print(rt, "a plain loop", looped, copied, octets)?;
         }
+        measure_sending(rt, &job, format, count, rounds, prints)?;
+    }
+    Ok(())
+}
+
+/// Measures `send_job`, as a ratio to its parts.
+fn measure_sending(
+    rt: &HostRuntime,
+    job: &Job,
+    format: Format,
+    count: usize,
+    rounds: u32,
+    prints: bool,
+) -> Result<(), Fault> {
+    let frames = Frames::new(rt.alloc(), format)?;
+    let (parts, whole) = frames.best(rt, job, count, rounds)?;
+    if prints {
+        let octets = format.sample_count().wrapping_mul(2).wrapping_mul(count);
+        print(
+            rt,
+            "settle, run_job, Plan::new, send_frame",
+            parts,
+            parts,
+            octets,
+        )?;
+        print(rt, "send_job", whole, parts, octets)?;
     }
     Ok(())
 }

@@ -1,5 +1,5 @@
-//! The formulas of the jobs in plain loops over slices, a sample or a pixel after the other: what lanes
-//! are compared with. Luma stands for all, which costs the same.
+//! The formulas of the jobs in plain loops over slices, a sample or a pixel after the other: what
+//! lanes are compared with. Luma stands for all, which costs the same.
 use key_mix::Job;
 
 /// A job's formula at each sample, into `out`. `scale` is that of the depth against 8 bits.

@@ -7,6 +7,14 @@ use st_format::memory::MemoryDatagrams;
 use st_format::{ByteSink, DatagramSink, DeviceFault, Format, Picture, SinkFault};
 use std::alloc::Global;
 
+/// What each picture is sent with.
+pub const STAMP: Stamp = Stamp {
+    payload_type: 96,
+    first: 1,
+    timestamp: 900,
+    ssrc: 1,
+};
+
 /// Which samples of a picture are changed: each so manyth (none at 0), in such a part of the rows
 /// and of each row.
 #[derive(Clone, Copy)]
@@ -104,18 +112,12 @@ pub fn send_all<K: DatagramSink>(
     picture: &Picture,
     sink: &mut K,
 ) -> Result<(), Fault> {
-    let stamp = Stamp {
-        payload_type: 96,
-        first: 1,
-        timestamp: 900,
-        ssrc: 1,
-    };
     let mut buf = [0; 9000];
     let has_room = plan.max_octets() as usize <= buf.len();
     if !has_room || !picture.format().same(&plan.format()) {
         return Err(Fault);
     }
-    send_frame(plan, picture, stamp, &mut buf, sink)
+    send_frame(plan, picture, STAMP, &mut buf, sink)
         .ok()
         .ok_or(Fault)?;
     Ok(())
