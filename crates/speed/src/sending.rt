@@ -110,7 +110,8 @@ fn send_by_parts(alloc: Global, job: &Job, inputs: &[JobInput<'_>]) -> Result<()
 {
     let mut pictures = Vec::new(alloc);
     for input in inputs {
-        pictures.push(input.frame.settle(alloc, input.base)?)?;
+        let settled = input.frame.settle(alloc, input.base)?;
+        pictures.push(settled).ok().ok_or(Fault)?;
     }
     let picture = run_job(alloc, job, pictures.as_slice()).ok().ok_or(Fault)?;
     let plan = Plan::new(alloc, picture.format(), SIZE).ok().ok_or(Fault)?;

@@ -11,4 +11,5 @@ returns-in-Ok-clause-same g c = λ s gives.
 
 pub returns-in-Err-clause-refused : goal.returns-in-Err-clause-refused
 returns-in-Err-clause-refused g c =
-    state_refused (g.S.ByteSource.to_give c.args.source.now) c.in-Err.fault c.in-Err.ensures.wrong
+    let told = g.S.ByteSource.to_give c.args.source.now in
+    rw c.of_state.ensures (state_refused told c.in-Err.fault c.in-Err.ensures.wrong)
