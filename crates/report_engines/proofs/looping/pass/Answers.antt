@@ -21,7 +21,7 @@ loop-index-preserved g c =
       few = omega (arith, before.few, c.in_ok-delivered.ensures.few);
       came = c.in_ok-delivered.ensures.came c.loop-index.index c.loop-index.delivered before.came;
       counted =
-          more_counted c.loop-index.delivered c.in_ok-delivered.delivered
+          more_counted c.loop-index.delivered c.in_ok-delivered.field-0
           (g.L.DatagramSource.delivered c.args.link.now)
           (g.L.DatagramSource.delivered c.loop-index.link)
           (g.L.DatagramSource.delivered c.pass_one.new.link) before.counted
