@@ -1,4 +1,2 @@
 pub mod Lists
 pub mod Settling
-pub mod Refusals
-pub mod FileRefusals

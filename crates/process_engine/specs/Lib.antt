@@ -3,4 +3,3 @@ pub mod FillText
 pub mod Inputs
 pub mod Reading
 pub mod Processing
-pub mod Refused

@@ -1,11 +1,8 @@
 //! *loopback* and *loop-limits* over a link in memory, which also repeats, reorders and fails.
-use crate::checks::met;
-use crate::wanting::{MEMORY, Wanting, grows};
 use refusing::Refusing;
 use st_format::memory::{MemorySink, MemorySource};
 use st2110_tool::{Looping, MemoryLink, run_loop};
-use std::alloc::{AllocError, Allocator, Global};
-use std::process::Abort;
+use std::alloc::{AllocError, Allocator};
 use std::test::Fail;
 
 /// *picture-file*.
@@ -104,30 +101,29 @@ const WAYS: [(Way, usize, &[u8]); 7] = [
 ];
 
 /// A link with room for four datagrams.
-fn link(global: Global, way: Way, fails_in: u64) -> Result<MemoryLink, AllocError> {
-    let mut slots = Vec::with_capacity(global, 4)?;
+fn link(rt: &impl AllocGlobal, way: Way, fails_in: u64) -> Result<MemoryLink, AllocError> {
+    let mut slots = Vec::with_capacity(rt.alloc(), 4)?;
     for _ in 0..4 {
-        slots.push(Vec::with_capacity(global, way.max_octets as usize)?)?;
+        slots.push(Vec::with_capacity(rt.alloc(), 42)?)?;
     }
-    let comes = Vec::from_slice(global, way.comes)?;
+    let comes = Vec::from_slice(rt.alloc(), way.comes)?;
     Ok(MemoryLink::new(slots, comes, fails_in))
 }
 
-fn sink(global: Global) -> Result<MemorySink, AllocError> {
-    Ok(MemorySink::new(Vec::with_capacity(global, 128)?, 7, 0))
+fn sink(rt: &impl AllocGlobal) -> Result<MemorySink, AllocError> {
+    Ok(MemorySink::new(Vec::with_capacity(rt.alloc(), 128)?, 7, 0))
 }
 
 /// A run over a link in memory, of which a call fails, counted from 1; 0 means that none does.
 fn run<A: Allocator + Copy>(
-    global: Global,
+    rt: &impl AllocGlobal,
     alloc: A,
-    picture: &[u8],
     way: Way,
     fails_in: u64,
 ) -> Result<Ran, AllocError> {
-    let mut picture = MemorySource::new(Vec::from_slice(global, picture)?, 7, 0);
-    let mut link = link(global, way, fails_in)?;
-    let (mut printed, mut told) = (sink(global)?, sink(global)?);
+    let mut picture = MemorySource::new(Vec::from_slice(rt.alloc(), PICTURE)?, 7, 0);
+    let mut link = link(rt, way, fails_in)?;
+    let (mut printed, mut told) = (sink(rt)?, sink(rt)?);
     let looping = Looping {
         max_octets: way.max_octets,
         limit: way.limit,
@@ -148,31 +144,15 @@ fn run<A: Allocator + Copy>(
     })
 }
 
-/// A run ended well, in so many turns, and printed this.
-fn is_done(ran: &Ran, turns: usize, text: &[u8]) -> bool {
-    ran.status == 0
-        && ran.turns == turns
-        && ran.told.held().is_empty()
-        && ran.printed.held() == text
-}
-
-/// The same of a run of this way.
-fn prints(global: Global, way: Way, turns: usize, text: &[u8]) -> Result<bool, AllocError> {
-    let ran = run(global, global, PICTURE, way, 0)?;
-    Ok(is_done(&ran, turns, text))
-}
-
-/// One packet of up to 1,400 octets, which comes.
-const ONE: Way = Way {
-    max_octets: 1400,
-    limit: 1,
-    comes: &[Some(0)],
-};
-
-/// Whether a picture's file of one such packet comes back, and nothing is told of a fault.
-pub fn is_looped(global: Global, picture: &[u8]) -> Result<bool, AllocError> {
-    let ran = run(global, global, picture, ONE, 0)?;
-    Ok(ran.status == 0 && ran.turns == 1 && ran.told.held().is_empty())
+/// A run of this way ends well, in so many turns, and prints this.
+fn prints(rt: &impl AllocGlobal, way: Way, turns: usize, text: &[u8]) -> Result<bool, AllocError> {
+    let ran = run(rt, rt.alloc(), way, 0)?;
+    Ok(
+        ran.status == 0
+            && ran.turns == turns
+            && ran.told.held().is_empty()
+            && ran.printed.held() == text,
+    )
 }
 
 /// A run ended by this status and line, and printed nothing.
@@ -180,26 +160,27 @@ fn stops(ran: &Ran, status: u8, line: &[u8]) -> bool {
     ran.status == status && ran.printed.held().is_empty() && ran.told.held() == line
 }
 
-/// *loopback*.
-#[derive(Clone, Copy)]
-struct Loopback;
-
-impl Wanting for Loopback {
-    fn answer(&self, global: Global, refusing: &Refusing<Global>) -> Result<Option<bool>, Fail> {
-        let (way, turns, text) = WAYS[0];
-        let ran = run(global, refusing, PICTURE, way, 0)?;
-        Ok(if stops(&ran, 4, MEMORY) {
-            None
-        } else {
-            Some(is_done(&ran, turns, text))
-        })
+/// How many growths are refused in turn before a run comes to its end, and none where one doesn't
+/// tell that memory was wanted.
+fn growths(rt: &impl AllocGlobal) -> Result<Option<u64>, AllocError> {
+    let refusing = Refusing::new(rt.alloc(), 0);
+    for nth in 1..1000u64 {
+        refusing.refuse(nth);
+        let ran = run(rt, &refusing, WAYS[0].0, 0)?;
+        if !refusing.was_met() {
+            return Ok(if ran.status == 0 { Some(nth - 1) } else { None });
+        }
+        if !stops(&ran, 4, b"st2110: memory\n") {
+            return Ok(None);
+        }
     }
+    Ok(None)
 }
 
 #[test]
 fn links(rt: HostRuntime) -> Result<(), Fail> {
-    for (way, turns, text) in &WAYS {
-        met(&rt, prints(rt.alloc(), *way, *turns, *text)?);
+    for (place, (way, turns, text)) in WAYS.iter().enumerate() {
+        assert!(rt; prints(&rt, *way, *turns, text)?, "way {place}");
     }
     Ok(())
 }
@@ -207,14 +188,14 @@ fn links(rt: HostRuntime) -> Result<(), Fail> {
 #[test]
 fn failing_links(rt: HostRuntime) -> Result<(), Fail> {
     for fails_in in 1..5u64 {
-        let ran = run(rt.alloc(), rt.alloc(), PICTURE, WAYS[0].0, fails_in)?;
-        met(&rt, stops(&ran, 3, b"st2110: device\n"));
+        let ran = run(&rt, rt.alloc(), WAYS[0].0, fails_in)?;
+        assert!(rt; stops(&ran, 3, b"st2110: device\n"), "call {fails_in}");
     }
     Ok(())
 }
 
 #[test]
 fn each_growth_refused(rt: HostRuntime) -> Result<(), Fail> {
-    met(&rt, grows(rt.alloc(), &Loopback, 4)?);
+    assert!(rt; growths(&rt)?.is_some_and(|count| count > 3));
     Ok(())
 }
