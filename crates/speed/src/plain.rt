@@ -1,5 +1,5 @@
 //! The formulas of the jobs in plain loops over slices, a sample or a pixel after the other: what
-//! lanes are compared with. Luma stands for all, which costs the same.
+//! lanes are compared with. Range and gain ask of each sample whether it is luma, of 4:2:2.
 use key_mix::Job;
 
 /// A job's formula at each sample, into `out`. `scale` is that of the depth against 8 bits.
@@ -22,17 +22,21 @@ fn video(value: i64, scale: u32) -> u16 {
 }
 
 fn limit(scale: u32, a: &[u16], out: &mut [u16]) {
-    let (low, high) = (scale.wrapping_mul(16), scale.wrapping_mul(235));
-    for (value, x) in out.iter_mut().zip(a) {
+    let low = scale.wrapping_mul(16);
+    let (luma, colour) = (scale.wrapping_mul(235), scale.wrapping_mul(240));
+    for (i, (value, x)) in out.iter_mut().zip(a).enumerate() {
+        let high = if i % 2 == 1 { luma } else { colour };
         *value = u16::try_from(u32::from(*x).min(high).max(low)).unwrap_or(0);
     }
 }
 
 fn gain(scale: u32, g: u32, a: &[u16], out: &mut [u16]) {
     let black = i64::from(scale.wrapping_mul(16));
-    for (value, x) in out.iter_mut().zip(a) {
-        let far = i64::from(*x).wrapping_sub(black).wrapping_mul(i64::from(g));
-        *value = video((far.wrapping_add(2048) >> 12).wrapping_add(black), scale);
+    let centre = i64::from(scale.wrapping_mul(128));
+    for (i, (value, x)) in out.iter_mut().zip(a).enumerate() {
+        let from = if i % 2 == 1 { black } else { centre };
+        let far = i64::from(*x).wrapping_sub(from).wrapping_mul(i64::from(g));
+        *value = video((far.wrapping_add(2048) >> 12).wrapping_add(from), scale);
     }
 }
 
