@@ -1,2 +1,4 @@
 pub mod Lists
 pub mod Settling
+pub mod Refusals
+pub mod FileRefusals

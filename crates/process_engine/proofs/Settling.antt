@@ -3,12 +3,14 @@ use Rattle.std.proofs.Common.{◌≡◌, ℕ, ◌<◌, List, [], ◌∷◌, leng
 use Rattle.std.proofs.Common.{Some, Result, Ok, Err, IfOk, refl, ap, arith, subst, sym, ◌∙◌}
 use Rattle.std.specs.List.{AllByRecursion}
 use Rattle.std.specs.Borrow.{Bor}
-use Rattle.key_mix.specs.Sending.{HasBase, settled_inputs}
+use Rattle.key_mix.specs.Sending.{HasBase, input_formats, settled_inputs}
 use Rattle.key_mix.specs.declared.sending.JobInput.{JobInput}
+use Rattle.st_format.specs.declared.format.Format.{Format}
 use Rattle.st_format.specs.Picture.{Values, value_at}
 use Rattle.st_format.specs.Raster.{Raster}
 use Rattle.process_engine.specs.Inputs.{FitsFrames, FitsLent, IsHeldFor, filled_input, held_input}
-use Rattle.process_engine.specs.Inputs.{lent, settled_by_fill, settled_frames, settled_over}
+use Rattle.process_engine.specs.Inputs.{lent, raster_formats, settled_by_fill, settled_frames}
+use Rattle.process_engine.specs.Inputs.{settled_over}
 
 pub filled_bases : (A : Type 0) (fill : List ℕ) (fs : List (Bor Raster)) → FitsLent fill fs
     → AllByRecursion HasBase (map (filled_input {A = A} fill) fs)
@@ -84,3 +86,23 @@ held_bases A fill held p (g ∷ fs) f items new some first any fits for is set_i
     same ∙ ap (λ (h : Bor Raster). h.now.format) (sym first) in
     subst (λ (l : List (JobInput A)). AllByRecursion HasBase l) one
     (base, filled_bases A fill fs fits.1)
+
+-- ---- formats
+
+pub filled_formats : (A : Type 0) (fill : List ℕ) (fs : List (Bor Raster))
+    → input_formats (map (filled_input {A = A} fill) fs) ≡ raster_formats (lent fs)
+filled_formats A fill [] = refl
+filled_formats A fill (f ∷ fs) =
+    ap (λ (vs : List Format). f.now.format ∷ vs) (filled_formats A fill fs)
+
+pub held_formats : (A : Type 0) (fill : List ℕ) (p : Bor Values) (fs : List (Bor Raster))
+    (f : Bor Raster) (items new : List (JobInput A)) → f ≡ get_or fs 0 f → 0 < length fs
+    → items ≡ map (filled_input fill) fs → new ≡ set items 0 (held_input f p)
+    → input_formats new ≡ raster_formats (lent fs)
+held_formats A fill p [] f items new first any is set_is = absurd (omega (arith, any))
+held_formats A fill p (g ∷ fs) f items new first any is set_is =
+    let one : new ≡ held_input f p ∷ map (filled_input fill) fs =
+    set_is ∙ ap (λ (l : List (JobInput A)). set l 0 (held_input f p)) is in
+    ap input_formats one
+    ∙ ap (λ (vs : List Format). f.now.format ∷ vs) (filled_formats A fill fs)
+    ∙ ap (λ (h : Bor Raster). h.now.format ∷ raster_formats (lent fs)) first

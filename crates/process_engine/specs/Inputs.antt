@@ -1,11 +1,13 @@
 -- What a job is given: the frames of one timestamp, settled (own).
-use Rattle.std.specs.Prelude.{◌≡◌, ℕ, List, [], ◌∷◌, map, slice_index, Option, None, Some, ⊤}
+use Rattle.std.specs.Prelude.{◌≡◌, ℕ, ◌<◌, List, [], ◌∷◌, length, map, slice_index, Option, None, Some}
+use Rattle.std.specs.Prelude.{⊤}
 use Rattle.std.specs.List.{AllByRecursion}
 use Rattle.std.specs.Borrow.{Bor}
 use Rattle.frame_assembly.specs.declared.base.Base.TheVariants.{Fill, Hold}
 use Rattle.key_mix.specs.declared.sending.JobInput.{JobInput}
 use Rattle.frame_assembly.specs.Settled.{settled_cell}
 use Rattle.path_merge.specs.Frames.{State, frame_at}
+use Rattle.st_format.specs.declared.format.Format.{Format}
 use Rattle.st_format.specs.Picture.{FitsDepth, Values, value_at}
 use Rattle.st_format.specs.Position.{Position, places}
 use Rattle.st_format.specs.Raster.{Raster, cell_at}
@@ -19,9 +21,15 @@ AreFramesAt ts rs qs = map (λ r. frame_at r.opening.window r.frames ts) rs ≡ 
 abbrev pub FitsFrames : List ℕ → List Raster → Type 0
 FitsFrames fill qs = AllByRecursion (λ q. AllByRecursion (FitsDepth q.format) fill) qs
 
+-- three values of 16 bits
+pub record AreValues (fill : List ℕ) : Type 0 where
+  pub three : length fill ≡ 3
+  pub fit : AllByRecursion (λ v. v < 65536) fill
+
 -- the fill that a text says, which fits each frame
 pub record IsFill (text fill : List ℕ) (qs : List Raster) : Type 0 where
   pub is : IsFillText text (slice_index fill 0) (slice_index fill 1) (slice_index fill 2)
+  pub values : AreValues fill
   pub fits : FitsFrames fill qs
 
 -- what is held has the first frame's format
@@ -47,6 +55,10 @@ settled_frames None fill qs = map (settled_by_fill fill) qs
 settled_frames (Some p) fill [] = []
 settled_frames (Some p) fill (q ∷ qs) =
     settled_over (value_at p) q ∷ map (settled_by_fill fill) qs
+
+-- the formats of frames
+abbrev pub raster_formats : List Raster → List Format
+raster_formats qs = map (λ q. q.format) qs
 
 -- ---- the same of frames that are lent
 

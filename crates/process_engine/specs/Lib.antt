@@ -3,3 +3,4 @@ pub mod FillText
 pub mod Inputs
 pub mod Reading
 pub mod Processing
+pub mod Refused

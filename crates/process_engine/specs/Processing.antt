@@ -9,14 +9,15 @@ use Rattle.file_engines.specs.declared.fault.Fault.TheVariants.{Device}
 use Rattle.key_mix.specs.declared.faults.SendJobFault.{SendJobFault}
 use Rattle.key_mix.specs.declared.faults.SendJobFault.TheVariants as sending
 use Rattle.packet_plan.specs.declared.plan.PlanFault.TheVariants as plan
-use Rattle.key_mix.specs.Sending.{IsSentJob}
+use Rattle.key_mix.specs.Sending.{IsSendable, IsSentJob}
 use Rattle.key_mix.specs.declared.Job.{Job}
 use Rattle.packet_plan.specs.declared.stamp.Stamp.{Stamp}
 use Rattle.path_merge.specs.Frames.{State}
 use Rattle.st_format.specs.Device.{TakesAll}
 use Rattle.st_format.specs.Picture.{Values}
 use Rattle.st_format.specs.Raster.{Raster}
-use Rattle.process_engine.specs.Inputs.{AreFramesAt, IsFill, IsHeldFor, settled_frames}
+use Rattle.process_engine.specs.Inputs.{AreFramesAt, IsFill, IsHeldFor, raster_formats}
+use Rattle.process_engine.specs.Inputs.{settled_frames}
 use Rattle.process_engine.specs.JobText.{IsJobText}
 use Rattle.process_engine.specs.Reading.{SayReceivers, SaysHeld}
 
@@ -28,7 +29,8 @@ pub record TakesJob (job : Job) (pictures : List Values) (size : ℕ) (stamp : S
   pub taken : TakesAll old new datagrams
   pub count_is : count ≡ length datagrams % 2 ^ 32
 
--- A sink took those of receivers' frames of a timestamp, each settled.
+-- A sink took those of receivers' frames of a timestamp, each settled. Nothing speaks against the
+-- job, and the size is one for the format of its picture.
 pub record SendsJob (job : Job) (ts : ℕ) (fill_text : List ℕ) (size : ℕ) (stamp : Stamp)
     (rs : List State) (held : Option Values) (old new : Option (List (List ℕ))) (count : ℕ) :
     Type 0 where
@@ -37,6 +39,7 @@ pub record SendsJob (job : Job) (ts : ℕ) (fill_text : List ℕ) (size : ℕ) (
   pub fill : List ℕ
   pub fill_is : IsFill fill_text fill frames
   pub held_is : IsHeldFor held frames
+  pub sendable : IsSendable job (raster_formats frames) size
   pub takes : TakesJob job (settled_frames held fill frames) size stamp old new count
 
 -- A sink took those of the job that a text says, of the receivers and the held picture whose files

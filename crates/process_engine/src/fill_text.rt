@@ -1,6 +1,7 @@
 //! The text of a fill.
 ghost use Rattle.std.specs.Prelude.{◌<◌, ℕ, slice_index, IfNone, IfSome};
 ghost use Rattle.process_engine.specs.FillText.{IsFillText};
+ghost use Rattle.process_engine.specs.Inputs.{AreValues};
 ghost use Rattle.tool_text.specs.Timestamps.{Spells};
 
 use st_format::read_number;
@@ -11,6 +12,7 @@ use tool_text::split_once;
 pub fn read_fill(text: &[u8]) -> Option<[u16; 3]>
     ensures is { IfSome result (λ fill. IsFillText text.now (slice_index fill 0)
         (slice_index fill 1) (slice_index fill 2)) }
+    ensures values { IfSome result (λ fill. AreValues fill) }
     ensures none { IfNone result ((a b c : ℕ) → a < 65536 → b < 65536 → c < 65536
         → IsFillText text.now a b c → ⊥) }
 {

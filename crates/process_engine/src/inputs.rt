@@ -1,13 +1,16 @@
 //! What a job is given: the frames of one timestamp, each with what its samples without a value
 //! get.
 ghost use Rattle.std.specs.Prelude.{◌≡◌, ◌↔◌, ◌<◌, [], map, set, slice_index, vec_len};
-ghost use Rattle.std.specs.Prelude.{IfOk, IsTrue, OnOk};
+ghost use Rattle.std.specs.Prelude.{IfErr, IfOk, IsTrue, OnOk};
 ghost use Rattle.std.specs.List.{AllByRecursion};
-ghost use Rattle.file_engines.specs.Fault.{Accounts};
-ghost use Rattle.key_mix.specs.Sending.{HasBase, settled_inputs};
+ghost use Rattle.file_engines.specs.Fault.{Accounts, IfRefused};
+ghost use Rattle.file_engines.specs.Refusing.{OfRefusal};
+ghost use Rattle.key_mix.specs.Sending.{HasBase, input_formats, settled_inputs};
 ghost use Rattle.process_engine.specs.FillText.{IsFillText};
-ghost use Rattle.process_engine.specs.Inputs.{AreLentAt, FitsLent, IsHeldFor, filled_input, lent};
-ghost use Rattle.process_engine.specs.Inputs.{held_input, settled_frames};
+ghost use Rattle.process_engine.specs.Inputs.{AreLentAt, AreValues, FitsLent, IsHeldFor};
+ghost use Rattle.process_engine.specs.Inputs.{filled_input, held_input, lent, raster_formats};
+ghost use Rattle.process_engine.specs.Inputs.{settled_frames};
+ghost use Rattle.process_engine.specs.Refused.{HasNoFill, LacksFrame};
 ghost use Rattle.st_format.specs.Picture.{FitsDepth};
 
 use crate::fill_text::read_fill;
@@ -25,6 +28,8 @@ pub fn frames_at<'a, A: Allocator + Copy>(
     timestamp: u32,
 ) -> Result<Vec<&'a Frame<A>, A>, Fault>
     ensures are { IfOk result (λ v. AreLentAt timestamp receivers.now v.items) }
+    ensures refused { IfErr result (λ f. OfRefusal f
+        (λ r. (r ≡ Refusal.ProcessFrame) × LacksFrame timestamp receivers.now)) }
     ensures failures { Accounts result [] }
 {
     let mut frames = Vec::new(alloc);
@@ -45,7 +50,10 @@ pub fn frames_at<'a, A: Allocator + Copy>(
 pub fn fill_for<A: Allocator>(text: &[u8], frames: &[&Frame<A>]) -> Result<[u16; 3], Fault>
     ensures is { IfOk result (λ fill. IsFillText text.now (slice_index fill 0)
         (slice_index fill 1) (slice_index fill 2)) }
+    ensures values { IfOk result (λ fill. AreValues fill) }
     ensures fits { IfOk result (λ fill. FitsLent fill frames.now) }
+    ensures refused { IfErr result (λ f. (f ≡ Fault.Refused Refusal.ProcessFill)
+        × HasNoFill text.now (lent frames.now)) }
     ensures failures { Accounts result [] }
 {
     let Some(fill) = read_fill(text) else {
@@ -73,6 +81,8 @@ pub fn check_held<A: Allocator>(
     frames: &[&Frame<A>],
 ) -> Result<(), Fault>
     ensures is { OnOk result (IsHeldFor held.now (lent frames.now)) }
+    ensures refused { IfErr result (λ f. (f ≡ Fault.Refused Refusal.ProcessHold)
+        × (IsHeldFor held.now (lent frames.now) → ⊥)) }
     ensures failures { Accounts result [] }
 {
     if let (Some(picture), Some(frame)) = (held, frames.first()) {
@@ -96,6 +106,8 @@ pub fn inputs_of<'a, A: Allocator + Copy>(
     ensures settled { IfOk result (λ v. settled_inputs v.items
         ≡ settled_frames held.now fill (lent frames.now)) }
     ensures bases { IfOk result (λ v. AllByRecursion HasBase v.items) }
+    ensures formats { IfOk result (λ v. input_formats v.items ≡ raster_formats (lent frames.now)) }
+    ensures unrefused { IfErr result (λ f. IfRefused f ⊥) }
     ensures failures { Accounts result [] }
 {
     let inputs = filled_inputs(alloc, frames, fill)?;
@@ -131,6 +143,7 @@ fn filled_inputs<'a, A: Allocator + Copy>(
     fill: [u16; 3],
 ) -> Result<Vec<JobInput<'a, A>, A>, Fault>
     ensures filled { IfOk result (λ v. v.items ≡ map (filled_input fill) frames.now) }
+    ensures unrefused { IfErr result (λ f. IfRefused f ⊥) }
     ensures failures { Accounts result [] }
 {
     let mut inputs = Vec::new(alloc);

@@ -6,9 +6,12 @@ ghost use Rattle.std.specs.List.{AllByRecursion};
 ghost use Rattle.std.specs.Io.KnownBytes.{Appends};
 ghost use Rattle.file_engines.specs.Fault.{Accounts, IfRefused, NoneFailed, OneFailed, counts};
 ghost use Rattle.file_engines.specs.Receiving.{failures_in};
-ghost use Rattle.key_mix.specs.Sending.{HasBase, IsSentJob, settled_inputs};
+ghost use Rattle.file_engines.specs.Refusing.{OfRefusal, TellsRefusal};
+ghost use Rattle.key_mix.specs.Sending.{HasBase, IsSendable, IsSentJob, input_formats};
+ghost use Rattle.key_mix.specs.Sending.{settled_inputs};
 ghost use Rattle.process_engine.specs.Processing.{PrintsSent, SendsFiles, SendsJob, TakesJob};
 ghost use Rattle.process_engine.specs.Processing.{of_send_job};
+ghost use Rattle.process_engine.specs.Refused.{IsJobRefusal, IsRunRefusal, IsSendRefusal};
 ghost use Rattle.st_format.specs.Device.{TakesAll};
 ghost use Rattle.tool_text.specs.Telling.{memory_line};
 
@@ -88,6 +91,10 @@ where
         wanted.entry.stamp (K.taken sink.old) (K.taken sink.new) count
         × PrintsSent count (O.held output.old) (O.held output.new) }
     ensures refused { result ≡ 1 → K.taken sink.new ≡ K.taken sink.old }
+    // What is told is the first refusal that speaks against the words and files.
+    ensures told { result ≡ 1
+        → TellsRefusal (IsRunRefusal S.to_give states.old hold.old wanted.entry)
+        (F.held faults.old) (F.held faults.new) }
     ensures silent { result ≡ 0 → faults.new ≡ faults.old }
     ensures memory { result ≡ 4 → Appends (F.held faults.old) (F.held faults.new) memory_line }
 {
@@ -121,6 +128,8 @@ where
         wanted.entry.stamp (K.taken sink.old) (K.taken sink.new) count
         × PrintsSent count (O.held output.old) (O.held output.new)) }
     ensures refused { IfErr result (λ f. IfRefused f (K.taken sink.new ≡ K.taken sink.old)) }
+    ensures refusal { IfErr result (λ f. OfRefusal f
+        (IsRunRefusal S.to_give states.old hold.old wanted.entry)) }
     ensures failures { Accounts result
         (counts (sum_by S.failures states.old) (sum_by S.failures states.new)
         ∷ counts (failures_in S.failures hold.old) (failures_in S.failures hold.new)
@@ -144,6 +153,8 @@ fn process_files<A: Allocator + Copy, S: ByteSource, K: DatagramSink>(
         wanted.entry.job.now wanted.entry.timestamp wanted.entry.fill.now wanted.entry.max_octets
         wanted.entry.stamp (K.taken sink.old) (K.taken sink.new) n) }
     ensures refused { IfErr result (λ f. IfRefused f (K.taken sink.new ≡ K.taken sink.old)) }
+    ensures refusal { IfErr result (λ f. OfRefusal f
+        (IsRunRefusal S.to_give states.old hold.old wanted.entry)) }
     ensures failures { Accounts result
         (counts (sum_by S.failures states.old) (sum_by S.failures states.new)
         ∷ counts (failures_in S.failures hold.old) (failures_in S.failures hold.new)
@@ -171,6 +182,8 @@ fn send_frames<A: Allocator + Copy, K: DatagramSink>(
     ensures sent { IfOk result (λ n. SendsJob job.now wanted.entry.timestamp wanted.entry.fill.now
         wanted.entry.max_octets wanted.entry.stamp receivers.now held.now
         (K.taken sink.old) (K.taken sink.new) n) }
+    ensures refusal { IfErr result (λ f. OfRefusal f
+        (IsJobRefusal job.now wanted.entry receivers.now held.now)) }
     ensures failures { Accounts result (counts (K.failures sink.old) (K.failures sink.new) ∷ []) }
 {
     let frames = frames_at(alloc, receivers, wanted.timestamp)?;
@@ -193,6 +206,10 @@ fn send<A: Allocator + Copy, K: DatagramSink>(
     ensures refused { IfErr result (λ f. IfRefused f (K.taken sink.new ≡ K.taken sink.old)) }
     ensures sent { IfOk result (λ n. TakesJob job.now (settled_inputs inputs.now)
         wanted.entry.max_octets wanted.entry.stamp (K.taken sink.old) (K.taken sink.new) n) }
+    ensures sendable { OnOk result
+        (IsSendable job.now (input_formats inputs.now) wanted.entry.max_octets) }
+    ensures refusal { IfErr result (λ f. OfRefusal f (λ r.
+        IsSendRefusal job.now wanted.entry.max_octets r (input_formats inputs.now))) }
     ensures failures { Accounts result (counts (K.failures sink.old) (K.failures sink.new) ∷ []) }
 {
     let stamp = wanted.stamp;

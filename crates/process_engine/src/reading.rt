@@ -1,8 +1,11 @@
 //! Reading the files that are processed.
 ghost use Rattle.std.specs.Prelude.{◌≡◌, ◌<◌, ◌∷◌, [], ℕ, length, slice_index_or, sum_by};
-ghost use Rattle.std.specs.Prelude.{IfOk};
+ghost use Rattle.std.specs.Prelude.{IfErr, IfOk};
 ghost use Rattle.file_engines.specs.Fault.{Accounts, counts};
 ghost use Rattle.file_engines.specs.Receiving.{failures_in};
+ghost use Rattle.file_engines.specs.Refusing.{OfRefusal};
+ghost use Rattle.process_engine.specs.Refused.{IsHeldRefusal, IsPictureRefusal};
+ghost use Rattle.process_engine.specs.Refused.{IsReceiversRefusal, IsRefusedAt};
 ghost use Rattle.process_engine.specs.Reading.{SayReceivers, SaysHeld, SaysPicture, SaysReceiver};
 
 use capture_file::read_picture;
@@ -17,6 +20,7 @@ pub fn read_receivers<A: Allocator + Copy, S: ByteSource>(
     states: &mut [S],
 ) -> Result<Vec<Receiver<A>, A>, Fault>
     ensures say { IfOk result (λ v. SayReceivers S.to_give states.old v.items) }
+    ensures refused { IfErr result (λ f. OfRefusal f (IsReceiversRefusal S.to_give states.old)) }
     ensures failures { Accounts result (counts (sum_by S.failures states.old)
         (sum_by S.failures states.new) ∷ []) }
 {
@@ -43,6 +47,7 @@ fn read_at<A: Allocator + Copy, S: ByteSource>(
         → slice_index_or states.new k s ≡ slice_index_or states.old k s }
     ensures says { IfOk result (λ r. (s : S)
         → SaysReceiver (S.to_give (slice_index_or states.old place s)) r) }
+    ensures refused { IfErr result (λ f. OfRefusal f (IsRefusedAt S.to_give states.old place)) }
     ensures failures { Accounts result (counts (sum_by S.failures states.old)
         (sum_by S.failures states.new) ∷ []) }
 {
@@ -55,6 +60,7 @@ pub fn read_held<A: Allocator, S: ByteSource>(
     hold: &mut Option<S>,
 ) -> Result<Option<Picture<A>>, Fault>
     ensures says { IfOk result (λ held. SaysHeld S.to_give hold.old held) }
+    ensures refused { IfErr result (λ f. OfRefusal f (IsHeldRefusal S.to_give hold.old)) }
     ensures failures { Accounts result (counts (failures_in S.failures hold.old)
         (failures_in S.failures hold.new) ∷ []) }
 {
@@ -70,6 +76,7 @@ pub fn read_held<A: Allocator, S: ByteSource>(
 /// Reads a picture's file.
 fn read_one<A: Allocator, S: ByteSource>(alloc: A, source: &mut S) -> Result<Picture<A>, Fault>
     ensures says { IfOk result (λ p. SaysPicture (S.to_give source.old) p) }
+    ensures refused { IfErr result (λ f. OfRefusal f (IsPictureRefusal (S.to_give source.old))) }
     ensures failures { Accounts result (counts (S.failures source.old) (S.failures source.new)
         ∷ []) }
 {

@@ -9,7 +9,7 @@ use std::alloc::Global;
 pub const MISSING: u32 = 0x10000;
 
 /// A cell to which two values came.
-const CONTESTED: u32 = 0x10001;
+pub const CONTESTED: u32 = 0x10001;
 
 /// The cells of a timestamp.
 #[derive(Drop)]
@@ -37,6 +37,23 @@ impl Cells {
                 *cell = CONTESTED;
             }
         }
+    }
+
+    /// What is known of a place, or `None` where there is no such position.
+    pub fn at(&self, format: &Format, row: u32, column: u32, component: u32) -> Option<u32> {
+        if row >= format.height() || column >= format.width() || component > 2 {
+            return None;
+        }
+        let number = number_of(format, row, column, component as u8)?;
+        self.cells.get(number).copied()
+    }
+
+    /// How many cells have one value, none, and two.
+    pub fn counts(&self) -> (usize, usize, usize) {
+        let missing = self.cells.iter().filter(|cell| **cell == MISSING).count();
+        let contested = self.cells.iter().filter(|cell| **cell == CONTESTED).count();
+        let present = self.cells.len().saturating_sub(missing);
+        (present.saturating_sub(contested), missing, contested)
     }
 
     /// Whether a receiver's frame of the timestamp has these cells.

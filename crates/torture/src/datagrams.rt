@@ -1,11 +1,12 @@
 //! Hostile datagrams given to a receiver, and what it is to answer and to hold by a second reading.
-use crate::cells::Cells;
 use crate::fault::Fault;
 use crate::generator::Generator;
 use crate::hostile;
-use crate::reading::{Opening, Wanted, offer, read};
+use crate::hostile_lines::any_format;
+use crate::plain::Plain;
+use crate::reading::{Opening, Wanted};
 use path_merge::{Receiver, Refusal, Taken};
-use st_format::{Depth, Format, Path, Sampling};
+use st_format::Path;
 use std::alloc::Global;
 
 /// How many datagrams a receiver is given.
@@ -20,31 +21,10 @@ const WINDOW: [u32; 4] = [900, 0, u32::MAX, 0x8000_0000];
 /// A receiver, and what it is to hold.
 #[derive(Drop)]
 struct Round {
-    opening: Opening,
     receiver: Receiver,
-    cells: Vec<Cells>,
+    plain: Plain,
     timestamps: usize,
     refused: Vec<(Path, u8)>,
-}
-
-/// A small format of any sampling and depth.
-fn any_format(generator: &mut Generator) -> Result<Format, Fault> {
-    let sampling = match generator.below(3) {
-        0 => Sampling::Ycc422,
-        1 => Sampling::Ycc444,
-        _ => Sampling::Rgb,
-    };
-    let depth = match generator.below(4) {
-        0 => Depth::D8,
-        1 => Depth::D10,
-        2 => Depth::D12,
-        _ => Depth::D16,
-    };
-    let width = 4 + 4 * generator.below(5);
-    let height = 1 + generator.below(3);
-    Format::new(sampling, depth, width, height, 60, 1)
-        .ok()
-        .ok_or(Fault)
 }
 
 impl Round {
@@ -59,41 +39,22 @@ impl Round {
         let timestamps = generator.size(4).wrapping_add(1);
         let window = WINDOW.get(..timestamps).ok_or(Fault)?;
         let opened = Receiver::open(alloc, format, payload_type, ssrc, window);
-        let mut cells = Vec::new(alloc);
-        for timestamp in window {
-            cells.push(Cells::new(alloc, format, *timestamp)?)?;
-        }
+        let opening = Opening {
+            format,
+            payload_type,
+            ssrc,
+        };
         Ok(Round {
-            opening: Opening {
-                format,
-                payload_type,
-                ssrc,
-            },
             receiver: opened.ok().ok_or(Fault)?,
-            cells,
+            plain: Plain::open(alloc, opening, window)?,
             timestamps,
             refused: Vec::new(alloc),
         })
     }
 
-    /// What is to be answered, once the values of a datagram that is kept are offered.
-    fn wanted(&mut self, octets: &[u8]) -> Wanted {
-        let good = match read(octets, &self.opening) {
-            Ok(good) => good,
-            Err(number) => return Wanted::Refused(number),
-        };
-        for cells in self.cells.iter_mut() {
-            if cells.timestamp() == good.timestamp {
-                offer(&good, &self.opening.format, cells);
-                return Wanted::Kept(good.number);
-            }
-        }
-        Wanted::Outside
-    }
-
     /// Whether the receiver answers a datagram as it is to.
     fn takes(&mut self, path: Path, octets: &[u8], totals: &mut Totals) -> Result<bool, Fault> {
-        let wanted = self.wanted(octets);
+        let wanted = self.plain.take(octets);
         let found = answer(self.receiver.take(path, octets));
         if let Wanted::Refused(number) = wanted {
             self.refused.push((path, number))?;
@@ -107,7 +68,7 @@ impl Round {
     /// Whether the receiver holds the cells that it is to, and the refusals.
     fn holds(&self) -> bool {
         let mut holds = self.receiver.refusal_count() == self.refused.len();
-        for cells in &self.cells {
+        for cells in &self.plain.frames {
             holds &= cells.are_in(&self.receiver);
         }
         for (place, refused) in self.refused.iter().enumerate() {
@@ -158,7 +119,7 @@ pub fn run(
     let mut round = Round::open(alloc, generator)?;
     for _ in 0..count.min(ROUND) {
         let window = WINDOW.get(..round.timestamps).ok_or(Fault)?;
-        hostile::write(generator, &round.opening, window, octets)?;
+        hostile::write(generator, &round.plain.opening, window, octets)?;
         let path = if generator.one_in(2) {
             Path::A
         } else {

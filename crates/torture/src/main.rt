@@ -1,11 +1,12 @@
 //! Gives hostile input to the public calls, and compares each answer with a second reading that is
 //! written here, apart from the libraries.
 //!
-//! Its words are `datagrams`, `files` or `texts` (SDP), a seed, and how many to make; without words it makes a few of
-//! each and prints nothing. It prints how often each answer came, or the first input that is answered
-//! otherwise, with status 1.
+//! Its words are `datagrams`, `files`, `texts` (SDP) or `scripts` (of `trace` and `rehearse`), a
+//! seed, and how many to make; without words it makes a few of each and prints nothing. It prints
+//! how often each answer came, or the first input that is answered otherwise, with status 1.
 #![tactic(auto)]
 
+mod answers;
 mod cells;
 mod datagrams;
 mod descriptions;
@@ -15,69 +16,24 @@ mod files;
 mod generator;
 mod hostile;
 mod hostile_files;
+mod hostile_lines;
+mod hostile_rehearsals;
+mod hostile_scripts;
+mod plain;
 mod reading;
+mod rehearsal_reading;
+mod rehearsal_stage;
+mod script_reading;
+mod script_text;
+mod scripts;
+mod stop;
 
+use crate::answers::{OF_DATAGRAMS, OF_FILES, OF_LINES, OF_SCRIPTS, OF_TEXTS};
 use crate::datagrams::ROUND;
 use crate::fault::Fault;
 use crate::generator::Generator;
 use std::env;
 use std::process::ExitCode;
-
-/// What becomes of a datagram.
-const OF_DATAGRAMS: [&str; 16] = [
-    "kept",
-    "1 ShortHeader",
-    "2 BadVersion",
-    "3 ShortExtension",
-    "4 BadPadding",
-    "5 WrongPayloadType",
-    "6 WrongSource",
-    "7 ShortPayloadHeader",
-    "8 TooManySegments",
-    "9 SecondField",
-    "10 BadLength",
-    "11 BadOffset",
-    "12 RowOutside",
-    "13 ColumnsOutside",
-    "14 ShortData",
-    "outside",
-];
-
-/// What becomes of a file.
-const OF_FILES: [&str; 10] = [
-    "read",
-    "1 NoMemory",
-    "2 Device",
-    "3 BadName",
-    "4 BadVersion",
-    "5 Truncated",
-    "6 BadField",
-    "7 TrailingBytes",
-    "8 MixedGroup",
-    "9 TooManyRecords",
-];
-
-/// What becomes of an SDP text.
-const OF_TEXTS: [&str; 18] = [
-    "read",
-    "1 NoMemory",
-    "2 NoVideo",
-    "3 TooManyLegs",
-    "4 BadMediaLine",
-    "5 NoRtpmap",
-    "6 NotRaw90000",
-    "7 NoFmtp",
-    "8 BadParameter",
-    "9 DoubleParameter",
-    "10 MissingParameter",
-    "11 UnsupportedSampling",
-    "12 UnsupportedDepth",
-    "13 Interlaced",
-    "14 UnsupportedPacking",
-    "15 BadSsn",
-    "16 BadFormat",
-    "17 LegsDiffer",
-];
 
 fn main(rt: HostRuntime) -> ExitCode {
     match run(&rt) {
@@ -91,8 +47,7 @@ fn run(rt: &HostRuntime) -> Result<bool, Fault> {
     let mut words = env::args(rt)?;
     words.next();
     let (Some(kind), Some(seed), Some(count)) = (words.next(), words.next(), words.next()) else {
-        let few = give_datagrams(rt, 1, 640, false)? && give_files(rt, 1, 640, false)?;
-        return Ok(few && give_texts(rt, 1, 640, false)?);
+        return give_few(rt);
     };
     let seed = seed.as_str().parse::<u64>().ok().ok_or(Fault)?;
     let count = count.as_str().parse::<u64>().ok().ok_or(Fault)?;
@@ -100,8 +55,16 @@ fn run(rt: &HostRuntime) -> Result<bool, Fault> {
         "datagrams" => give_datagrams(rt, seed, count, true),
         "files" => give_files(rt, seed, count, true),
         "texts" => give_texts(rt, seed, count, true),
+        "scripts" => give_scripts(rt, seed, count, true),
         _ => Err(Fault),
     }
+}
+
+/// Makes a few of each.
+fn give_few(rt: &HostRuntime) -> Result<bool, Fault> {
+    let inputs = give_datagrams(rt, 1, 640, false)? && give_files(rt, 1, 640, false)?;
+    let texts = give_texts(rt, 1, 640, false)? && give_scripts(rt, 1, 200, false)?;
+    Ok(inputs && texts)
 }
 
 /// Makes so many datagrams from a seed.
@@ -142,6 +105,20 @@ fn give_texts(rt: &HostRuntime, seed: u64, count: u64, prints: bool) -> Result<b
         }
     }
     print(rt, &OF_TEXTS, &totals, prints)
+}
+
+/// Makes so many scripts from a seed.
+fn give_scripts(rt: &HostRuntime, seed: u64, count: u64, prints: bool) -> Result<bool, Fault> {
+    let mut generator = Generator::new(seed);
+    let mut text = Vec::new(rt.alloc());
+    let mut totals = scripts::Totals::new();
+    for _ in 0..count {
+        if !scripts::run(rt.alloc(), &mut generator, &mut text, &mut totals)? {
+            return differs(rt, seed, text.as_slice());
+        }
+    }
+    let ends = print(rt, &OF_SCRIPTS, &totals.ends, prints)?;
+    Ok(ends && print(rt, &OF_LINES, &totals.lines, prints)?)
 }
 
 /// Prints an input that is answered otherwise.

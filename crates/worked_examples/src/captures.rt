@@ -10,27 +10,24 @@ use capture_file::{
 use path_merge::{Received, Receiver};
 use st_format::memory::{MemorySink, MemorySource};
 use st_format::{DatagramSource, Path, Turn};
-use std::alloc::{AllocError, Global};
+use std::alloc::{AllocError, Allocator, Global};
 use std::process::Abort;
 use std::test::Fail;
 
 /// The captures of *first-datagram*'s datagram, of version 1 and 2.
-const OLD: &[u8] = b"S20CAP01\0\0\0\0\0\0\0\0\0\0\x1C\
+pub const OLD: &[u8] = b"S20CAP01\0\0\0\0\0\0\0\0\0\0\x1C\
     \x80\xE0\0\x01\0\0\x03\x84\0\0\0\x01\0\0\0\x08\0\0\0\0\x80\x10\x80\x11\x80\x12\x80\x13";
 
-const NEW: &[u8] = b"S20CAP02\0\0\0\0\0\0\0\0\0\0\0\0\x1C\
+pub const NEW: &[u8] = b"S20CAP02\0\0\0\0\0\0\0\0\0\0\0\0\x1C\
     \x80\xE0\0\x01\0\0\x03\x84\0\0\0\x01\0\0\0\x08\0\0\0\0\x80\x10\x80\x11\x80\x12\x80\x13";
 
 /// The latter with the text `v=0`.
-const WITH_TEXT: &[u8] = b"S20CAP02\0\x03v=0\0\0\0\0\0\0\0\0\0\0\x1C\
+pub const WITH_TEXT: &[u8] = b"S20CAP02\0\x03v=0\0\0\0\0\0\0\0\0\0\0\x1C\
     \x80\xE0\0\x01\0\0\x03\x84\0\0\0\x01\0\0\0\x08\0\0\0\0\x80\x10\x80\x11\x80\x12\x80\x13";
 
-/// A file without its last octets, and others behind them.
-fn source(alloc: Global, file: &[u8], cut: usize, more: &[u8]) -> Result<MemorySource, AllocError> {
-    let mut octets = Vec::from_slice(alloc, file)?;
-    octets.truncate(file.len().saturating_sub(cut));
-    octets.extend_from_slice(more)?;
-    Ok(MemorySource::new(octets, 3, 0))
+/// A source of a file.
+fn source(alloc: Global, file: &[u8]) -> Result<MemorySource, AllocError> {
+    Ok(MemorySource::new(Vec::from_slice(alloc, file)?, 3, 0))
 }
 
 /// A sink that holds nothing yet.
@@ -41,7 +38,7 @@ fn sink(alloc: Global) -> Result<MemorySink, AllocError>
 }
 
 /// Whether a capture has no text and one record: by A, of moment 0, with these octets.
-fn is_of_one(capture: &Capture, octets: &[u8]) -> bool {
+pub fn is_of_one<A: Allocator>(capture: &Capture<A>, octets: &[u8]) -> bool {
     match capture.records.as_slice() {
         [record] => {
             capture.text.is_empty()
@@ -55,58 +52,14 @@ fn is_of_one(capture: &Capture, octets: &[u8]) -> bool {
 
 /// Whether a file is read as a capture of one.
 fn reads_one(alloc: Global, file: &[u8]) -> Result<bool, Fail> {
-    let capture = read_capture(alloc, &mut source(alloc, file, 0, &[])?, 1)?;
+    let capture = read_capture(alloc, &mut source(alloc, file)?, 1)?;
     Ok(is_of_one(&capture, UPPER))
 }
-
-/// The fault of reading a file of at most `limit` records.
-fn fault_of(
-    alloc: Global,
-    file: &[u8],
-    cut: usize,
-    more: &[u8],
-    limit: u64,
-) -> Result<Option<FileFault>, AllocError> {
-    Ok(read_capture(alloc, &mut source(alloc, file, cut, more)?, limit).err())
-}
-
-/// What is cut off version 1, what stands behind it, the greatest number of records, and the fault.
-const FAULTS: [(usize, &[u8], u64, Option<FileFault>); 4] = [
-    (1, b"", 5, Some(FileFault::Truncated)),
-    (0, b"\0", 5, Some(FileFault::Truncated)),
-    (0, b"", 0, Some(FileFault::TooManyRecords)),
-    (39, b"", 0, None),
-];
 
 #[test]
 fn capture_of_one(rt: HostRuntime) -> Result<(), Fail> {
     met(&rt, reads_one(rt.alloc(), OLD)?);
     met(&rt, reads_one(rt.alloc(), NEW)?);
-    for (cut, more, limit, fault) in &FAULTS {
-        met(
-            &rt,
-            fault_of(rt.alloc(), OLD, *cut, *more, *limit)? == *fault,
-        );
-    }
-    Ok(())
-}
-
-/// Whether version 2 without its last octets is refused, where it isn't whole.
-fn is_cut(alloc: Global, cut: usize, is_whole: bool) -> Result<bool, AllocError> {
-    let fault = fault_of(alloc, NEW, cut, &[], 9)?;
-    Ok(if is_whole {
-        fault.is_none()
-    } else {
-        fault == Some(FileFault::Truncated)
-    })
-}
-
-/// Version 2 cut at every octet: it is whole behind its head, and behind its record.
-#[test]
-fn cut_capture(rt: HostRuntime) -> Result<(), Fail> {
-    for cut in 0..50usize {
-        met(&rt, is_cut(rt.alloc(), cut, cut == 0 || cut == 39)?);
-    }
     Ok(())
 }
 
@@ -160,7 +113,7 @@ fn gives_all(
 /// Whether a receiver gets all of the capture of version 1.
 fn is_received(alloc: Global, receiver: &mut Receiver) -> Result<bool, AllocError> {
     let mut text = vec![in alloc; 0u8; 65535]?;
-    match CaptureReader::open(source(alloc, OLD, 0, &[])?, &mut text) {
+    match CaptureReader::open(source(alloc, OLD)?, &mut text) {
         Ok(mut reader) => gives_all(alloc, &mut reader, receiver),
         Err(_) => Ok(false),
     }
@@ -182,7 +135,7 @@ fn migrate(
     let mut buf = vec![in alloc; 0u8; 65535]?;
     let mut sink = sink(alloc)?;
     let result = migrate_capture(
-        &mut source(alloc, file, 0, &[])?,
+        &mut source(alloc, file)?,
         &mut sink,
         b"v=0",
         &mut buf,

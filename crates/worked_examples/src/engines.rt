@@ -1,10 +1,13 @@
 //! The engines of files over devices in memory: with memory, and with each growth refused in turn.
-ghost use Rattle.std.specs.Prelude.{◌≡◌, []};
-
+use crate::checks::met;
+use crate::file_runs::{
+    FileRun, ProcessRun, merge_on, migrate_on, process_on, receive_on, send_on,
+};
+use crate::sending::{STAMP, WHOLE, has_taken};
+use crate::wanting::{MEMORY, Wanting, grows};
 use refusing::Refusing;
-use st_format::memory::{MemorySink, MemorySource};
-use st2110_tool::{Paths, Sending, Wanted, run_merge, run_migrate, run_receive, run_send};
-use std::alloc::{AllocError, Global};
+use st2110_tool::{Paths, Processing, Sending};
+use std::alloc::{AllocError, Allocator, Global};
 use std::process::Abort;
 use std::test::Fail;
 
@@ -56,12 +59,6 @@ const RECEIVER: &str =
 const SENT: &str =
     "53323043415030320000000000000000000000002A80E000000000000000000001000000080000800000080001000080108011801280138014801580168017";
 
-const WANTED: Wanted<'static> = Wanted {
-    window: b"900",
-    ssrc: b"any",
-    tells_refusals: false,
-};
-
 const SENDING: Sending = Sending {
     payload_type: 96,
     first: 0,
@@ -71,200 +68,111 @@ const SENDING: Sending = Sending {
     paths: Paths::OnlyA,
 };
 
-/// How a run ended, and what it wrote.
-#[derive(Drop)]
-struct Ran {
-    status: u8,
-    written: MemorySink,
-    printed: MemorySink,
-    told: MemorySink,
-}
-
-fn input(rt: &(impl Abort + AllocGlobal), engine: Engine) -> MemorySource {
-    let octets = hex::decode(rt.alloc(), INPUTS[engine as usize]).expect(rt, "digits");
-    MemorySource::new(octets, 7, 0)
-}
-
-fn text(rt: &(impl Abort + AllocGlobal)) -> MemorySource {
-    MemorySource::new(Vec::from_slice(rt.alloc(), SDP).expect(rt, "memory"), 7, 0)
-}
-
-/// A sink that holds nothing yet.
-fn sink(rt: &(impl Abort + AllocGlobal)) -> MemorySink
-    ensures { result.held ≡ [] }
-{
-    MemorySink::new(
-        Vec::with_capacity(rt.alloc(), 4096).expect(rt, "room"),
-        7,
-        0,
-    )
-}
-
-/// An engine's run, in which the growth `nth` is refused, counted from 1.
-fn run_engine(
-    rt: &(impl Abort + AllocGlobal),
-    refusing: &Refusing<Global>,
-    engine: Engine,
-    nth: u64,
-) -> Result<Ran, AllocError> {
-    let first = input(rt, engine);
-    refusing.refuse(nth);
-    match engine {
-        Engine::Migrate => Ok(run_migrate_of(rt, refusing, first)),
-        Engine::Merge => Ok(run_merge_of(rt, refusing, first)),
-        Engine::Receive => run_receive_of(rt, refusing, first, nth),
-        Engine::Send => Ok(run_send_of(rt, refusing, first)),
+impl Engine {
+    /// A run of it over an allocator.
+    fn run<A: Allocator + Copy>(
+        self,
+        global: Global,
+        alloc: A,
+        first: &[u8],
+    ) -> Result<FileRun, AllocError> {
+        match self {
+            Engine::Migrate => migrate_on(global, alloc, SDP, first),
+            Engine::Receive => receive_on(global, alloc, SDP, b"900", first),
+            Engine::Send => send_on(global, alloc, SENDING, first),
+            Engine::Merge => merge_on(global, alloc, first),
+        }
     }
 }
 
-/// A run of `migrate`.
-fn run_migrate_of(
-    rt: &(impl Abort + AllocGlobal),
-    refusing: &Refusing<Global>,
-    mut capture: MemorySource,
-) -> Ran {
-    let (mut written, mut printed, mut told) = (sink(rt), sink(rt), sink(rt));
-    let status = run_migrate(
-        refusing,
-        &mut text(rt),
-        &mut capture,
-        &mut written,
-        &mut printed,
-        &mut told,
-    );
-    Ran {
-        status,
-        written,
-        printed,
-        told,
-    }
-}
-
-/// A run of `merge` of a receiver and the same again.
-fn run_merge_of(
-    rt: &(impl Abort + AllocGlobal),
-    refusing: &Refusing<Global>,
-    mut left: MemorySource,
-) -> Ran {
-    let mut right = input(rt, Engine::Merge);
-    let (mut written, mut printed, mut told) = (sink(rt), sink(rt), sink(rt));
-    let status = run_merge(
-        refusing,
-        &mut left,
-        &mut right,
-        &mut written,
-        &mut printed,
-        &mut told,
-    );
-    Ran {
-        status,
-        written,
-        printed,
-        told,
-    }
-}
-
-/// A run of `receive` over one capture. The list of captures is made before a growth is refused.
-fn run_receive_of(
-    rt: &(impl Abort + AllocGlobal),
-    refusing: &Refusing<Global>,
-    capture: MemorySource,
-    nth: u64,
-) -> Result<Ran, AllocError> {
-    refusing.refuse(0);
-    let mut captures = Vec::with_capacity(refusing, 1)?;
-    captures.push(capture)?;
-    let (mut written, mut printed, mut told) = (sink(rt), sink(rt), sink(rt));
-    refusing.refuse(nth);
-    let status = run_receive(
-        refusing,
-        WANTED,
-        &mut Some(text(rt)),
-        &mut captures,
-        &mut written,
-        &mut printed,
-        &mut told,
-    );
-    Ok(Ran {
-        status,
-        written,
-        printed,
-        told,
-    })
-}
-
-/// A run of `send` of one picture.
-fn run_send_of(
-    rt: &(impl Abort + AllocGlobal),
-    refusing: &Refusing<Global>,
-    picture: MemorySource,
-) -> Ran {
-    let (written, mut printed, mut told) = (sink(rt), sink(rt), sink(rt));
-    let (status, written) = run_send(
-        refusing,
-        SENDING,
-        &mut None,
-        &mut [picture],
-        written,
-        &mut printed,
-        &mut told,
-    );
-    Ran {
-        status,
-        written,
-        printed,
-        told,
-    }
-}
-
-/// With memory it writes what it should, and tells of no fault.
-fn is_done(rt: &(impl Abort + AllocGlobal), engine: Engine, run: &Ran) -> bool {
-    let written = hex::decode(rt.alloc(), WRITTEN[engine as usize]).expect(rt, "digits");
-    run.status == 0
-        && run.told.held().is_empty()
-        && run.printed.held() == PRINTED[engine as usize]
-        && run.written.held() == written.as_slice()
-}
-
-/// Where memory is wanted it tells so, and nothing is written.
-fn wants_memory(run: &Ran) -> bool {
+/// Whether memory was wanted, and a first part of this was written and printed.
+fn wants_memory(run: &FileRun, written: &[u8], printed: &[u8]) -> bool {
     run.status == 4
-        && run.told.held() == b"st2110: memory\n".as_slice()
-        && run.written.held().is_empty()
+        && run.told.held() == MEMORY
+        && written.starts_with(run.written.held())
+        && printed.starts_with(run.printed.held())
 }
 
-/// How many growths of an engine are refused in turn before one comes to its end, and none where a
-/// run isn't as it should be.
-fn growths(rt: &(impl Abort + AllocGlobal), engine: Engine) -> Result<Option<u64>, AllocError> {
-    let refusing = Refusing::new(rt.alloc(), 0);
-    for nth in 1..1000u64 {
-        let run = run_engine(rt, &refusing, engine, nth)?;
-        if !refusing.was_met() {
-            return Ok(if is_done(rt, engine, &run) {
-                Some(nth - 1)
-            } else {
-                None
-            });
-        }
-        if !wants_memory(&run) {
-            return Ok(None);
+/// Whether a run wrote and printed this and told of no fault, or `None` where it wanted memory.
+fn answered(run: &FileRun, written: &[u8], printed: &[u8]) -> Option<bool> {
+    if wants_memory(run, written, printed) {
+        return None;
+    }
+    let is_silent = run.status == 0 && run.told.held().is_empty();
+    Some(is_silent && run.written.held() == written && run.printed.held() == printed)
+}
+
+impl Wanting for Engine {
+    fn answer(&self, global: Global, refusing: &Refusing<Global>) -> Result<Option<bool>, Fail> {
+        let engine = *self;
+        let first = hex::decode(global, INPUTS[engine as usize])?;
+        let written = hex::decode(global, WRITTEN[engine as usize])?;
+        match engine.run(global, refusing, &first) {
+            Ok(run) => Ok(answered(&run, &written, PRINTED[engine as usize])),
+            // The first growth of `receive` is that of the list of captures that it is given
+            Err(_) => Ok(None),
         }
     }
-    Ok(None)
 }
 
 #[test]
 fn each_growth_refused(rt: HostRuntime) -> Result<(), Fail> {
-    for engine in [
+    for engine in &[
         Engine::Migrate,
         Engine::Receive,
         Engine::Send,
         Engine::Merge,
     ] {
-        match growths(&rt, engine)? {
-            Some(count) => assert!(rt; count > 2),
-            None => assert!(rt; false, "{engine:?}"),
-        }
+        met(&rt, grows(rt.alloc(), engine, 3)?);
     }
+    Ok(())
+}
+
+/// *processed*.
+#[derive(Clone, Copy)]
+struct Processed;
+
+/// The file of *merge-two-halves*' receiver.
+const MERGED: &str = "53323052435630310008000400020000003C000000016000000000000100000384\
+    0180108011018012801301801480150180168017";
+
+const PROCESSING: Processing<'static> = Processing {
+    job: b"gain:4096",
+    timestamp: 900,
+    fill: b"16,128,128",
+    stamp: STAMP,
+    max_octets: 42,
+};
+
+const SENT_ONE: &[u8] = b"sent 1\n";
+
+/// Whether a run sent this and printed how many datagrams it is, or `None` where it wanted memory.
+fn sent_whole(global: Global, run: &ProcessRun) -> Option<bool> {
+    let (is_sent, printed) = (
+        has_taken(global, &run.sent, 0, &[WHOLE]),
+        run.printed.held(),
+    );
+    let is_empty = run.sent.taken().is_empty();
+    if run.status == 4 && run.told.held() == MEMORY {
+        return if (is_sent || is_empty) && SENT_ONE.starts_with(printed) {
+            None
+        } else {
+            Some(false)
+        };
+    }
+    Some(run.status == 0 && is_sent && printed == SENT_ONE && run.told.held().is_empty())
+}
+
+impl Wanting for Processed {
+    fn answer(&self, global: Global, refusing: &Refusing<Global>) -> Result<Option<bool>, Fail> {
+        let file = hex::decode(global, MERGED)?;
+        let run = process_on(global, refusing, PROCESSING, &file)?;
+        Ok(sent_whole(global, &run))
+    }
+}
+
+#[test]
+fn processed_with_each_growth_refused(rt: HostRuntime) -> Result<(), Fail> {
+    met(&rt, grows(rt.alloc(), &Processed, 4)?);
     Ok(())
 }

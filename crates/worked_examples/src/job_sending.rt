@@ -2,7 +2,7 @@
 //! that fails at each put, and what is refused before anything is sent.
 use crate::checks::met;
 use crate::pictures::small;
-use crate::sending::{STAMP, has_taken, p0, sink};
+use crate::sending::{GROUPS, STAMP, WHOLE, has_taken, p0, sink};
 use crate::small_format::{LOWER, UPPER};
 use frame_assembly::{Base, Frame};
 use key_mix::{Axis, Job, JobFault, JobInput, SendJobFault, WipeShape, send_job};
@@ -12,21 +12,9 @@ use st_format::{Path, Picture};
 use std::alloc::{Allocator, Global};
 use std::test::Fail;
 
-/// *sender-sizes*' datagram at 42 octets.
-const WHOLE: &str = "80E0000100000384000000010000000800008000000800010000\
-    80108011801280138014801580168017";
-
-/// The same where the lower row is black.
+/// *sender-sizes*' datagram at 42 octets, where the lower row is black.
 const UPPER_ALONE: &str = "80E0000100000384000000010000000800008000000800010000\
     80108011801280138010801080108010";
-
-/// The four packets at 24 octets.
-const GROUPS: [&str; 4] = [
-    "806000010000038400000001000000040000000080108011",
-    "806000020000038400000001000000040000000280128013",
-    "806000030000038400000001000000040001000080148015",
-    "80E000040000038400000001000000040001000280168017",
-];
 
 /// A receiver of *first-datagram*.
 fn upper(alloc: Global) -> Result<Receiver, Fail> {

@@ -13,17 +13,30 @@ ghost use Rattle.st_format.specs.Turns.{datagrams_of};
 #[cfg(test)]
 mod ample;
 #[cfg(test)]
+mod ample_engines;
+#[cfg(test)]
 mod bad_events;
 #[cfg(test)]
 mod captures;
 #[cfg(test)]
 mod checks;
 #[cfg(test)]
+mod cut_files;
+#[cfg(test)]
+mod cut_texts;
+#[cfg(test)]
 mod datagrams;
 #[cfg(test)]
 mod devices;
 #[cfg(test)]
 mod engines;
+#[cfg(test)]
+mod file_devices;
+#[cfg(test)]
+mod file_reading;
+mod file_growths;
+#[cfg(test)]
+mod file_runs;
 #[cfg(test)]
 mod formulas;
 #[cfg(test)]
@@ -92,6 +105,10 @@ mod stay_model;
 mod turns;
 #[cfg(test)]
 mod two_paths;
+#[cfg(test)]
+mod value_growths;
+#[cfg(test)]
+mod wanting;
 
 use capture_file::CaptureReader;
 use path_merge::{ReceiveFault, Received, Receiver, receive};

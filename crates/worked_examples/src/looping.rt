@@ -1,8 +1,11 @@
 //! *loopback* and *loop-limits* over a link in memory, which also repeats, reorders and fails.
+use crate::checks::met;
+use crate::wanting::{MEMORY, Wanting, grows};
 use refusing::Refusing;
 use st_format::memory::{MemorySink, MemorySource};
 use st2110_tool::{Looping, MemoryLink, run_loop};
-use std::alloc::{AllocError, Allocator};
+use std::alloc::{AllocError, Allocator, Global};
+use std::process::Abort;
 use std::test::Fail;
 
 /// *picture-file*.
@@ -101,29 +104,30 @@ const WAYS: [(Way, usize, &[u8]); 7] = [
 ];
 
 /// A link with room for four datagrams.
-fn link(rt: &impl AllocGlobal, way: Way, fails_in: u64) -> Result<MemoryLink, AllocError> {
-    let mut slots = Vec::with_capacity(rt.alloc(), 4)?;
+fn link(global: Global, way: Way, fails_in: u64) -> Result<MemoryLink, AllocError> {
+    let mut slots = Vec::with_capacity(global, 4)?;
     for _ in 0..4 {
-        slots.push(Vec::with_capacity(rt.alloc(), 42)?)?;
+        slots.push(Vec::with_capacity(global, way.max_octets as usize)?)?;
     }
-    let comes = Vec::from_slice(rt.alloc(), way.comes)?;
+    let comes = Vec::from_slice(global, way.comes)?;
     Ok(MemoryLink::new(slots, comes, fails_in))
 }
 
-fn sink(rt: &impl AllocGlobal) -> Result<MemorySink, AllocError> {
-    Ok(MemorySink::new(Vec::with_capacity(rt.alloc(), 128)?, 7, 0))
+fn sink(global: Global) -> Result<MemorySink, AllocError> {
+    Ok(MemorySink::new(Vec::with_capacity(global, 128)?, 7, 0))
 }
 
 /// A run over a link in memory, of which a call fails, counted from 1; 0 means that none does.
 fn run<A: Allocator + Copy>(
-    rt: &impl AllocGlobal,
+    global: Global,
     alloc: A,
+    picture: &[u8],
     way: Way,
     fails_in: u64,
 ) -> Result<Ran, AllocError> {
-    let mut picture = MemorySource::new(Vec::from_slice(rt.alloc(), PICTURE)?, 7, 0);
-    let mut link = link(rt, way, fails_in)?;
-    let (mut printed, mut told) = (sink(rt)?, sink(rt)?);
+    let mut picture = MemorySource::new(Vec::from_slice(global, picture)?, 7, 0);
+    let mut link = link(global, way, fails_in)?;
+    let (mut printed, mut told) = (sink(global)?, sink(global)?);
     let looping = Looping {
         max_octets: way.max_octets,
         limit: way.limit,
@@ -144,15 +148,31 @@ fn run<A: Allocator + Copy>(
     })
 }
 
-/// A run of this way ends well, in so many turns, and prints this.
-fn prints(rt: &impl AllocGlobal, way: Way, turns: usize, text: &[u8]) -> Result<bool, AllocError> {
-    let ran = run(rt, rt.alloc(), way, 0)?;
-    Ok(
-        ran.status == 0
-            && ran.turns == turns
-            && ran.told.held().is_empty()
-            && ran.printed.held() == text,
-    )
+/// A run ended well, in so many turns, and printed this.
+fn is_done(ran: &Ran, turns: usize, text: &[u8]) -> bool {
+    ran.status == 0
+        && ran.turns == turns
+        && ran.told.held().is_empty()
+        && ran.printed.held() == text
+}
+
+/// The same of a run of this way.
+fn prints(global: Global, way: Way, turns: usize, text: &[u8]) -> Result<bool, AllocError> {
+    let ran = run(global, global, PICTURE, way, 0)?;
+    Ok(is_done(&ran, turns, text))
+}
+
+/// One packet of up to 1,400 octets, which comes.
+const ONE: Way = Way {
+    max_octets: 1400,
+    limit: 1,
+    comes: &[Some(0)],
+};
+
+/// Whether a picture's file of one such packet comes back, and nothing is told of a fault.
+pub fn is_looped(global: Global, picture: &[u8]) -> Result<bool, AllocError> {
+    let ran = run(global, global, picture, ONE, 0)?;
+    Ok(ran.status == 0 && ran.turns == 1 && ran.told.held().is_empty())
 }
 
 /// A run ended by this status and line, and printed nothing.
@@ -160,27 +180,26 @@ fn stops(ran: &Ran, status: u8, line: &[u8]) -> bool {
     ran.status == status && ran.printed.held().is_empty() && ran.told.held() == line
 }
 
-/// How many growths are refused in turn before a run comes to its end, and none where one doesn't
-/// tell that memory was wanted.
-fn growths(rt: &impl AllocGlobal) -> Result<Option<u64>, AllocError> {
-    let refusing = Refusing::new(rt.alloc(), 0);
-    for nth in 1..1000u64 {
-        refusing.refuse(nth);
-        let ran = run(rt, &refusing, WAYS[0].0, 0)?;
-        if !refusing.was_met() {
-            return Ok(if ran.status == 0 { Some(nth - 1) } else { None });
-        }
-        if !stops(&ran, 4, b"st2110: memory\n") {
-            return Ok(None);
-        }
+/// *loopback*.
+#[derive(Clone, Copy)]
+struct Loopback;
+
+impl Wanting for Loopback {
+    fn answer(&self, global: Global, refusing: &Refusing<Global>) -> Result<Option<bool>, Fail> {
+        let (way, turns, text) = WAYS[0];
+        let ran = run(global, refusing, PICTURE, way, 0)?;
+        Ok(if stops(&ran, 4, MEMORY) {
+            None
+        } else {
+            Some(is_done(&ran, turns, text))
+        })
     }
-    Ok(None)
 }
 
 #[test]
 fn links(rt: HostRuntime) -> Result<(), Fail> {
-    for (place, (way, turns, text)) in WAYS.iter().enumerate() {
-        assert!(rt; prints(&rt, *way, *turns, text)?, "way {place}");
+    for (way, turns, text) in &WAYS {
+        met(&rt, prints(rt.alloc(), *way, *turns, *text)?);
     }
     Ok(())
 }
@@ -188,14 +207,14 @@ fn links(rt: HostRuntime) -> Result<(), Fail> {
 #[test]
 fn failing_links(rt: HostRuntime) -> Result<(), Fail> {
     for fails_in in 1..5u64 {
-        let ran = run(&rt, rt.alloc(), WAYS[0].0, fails_in)?;
-        assert!(rt; stops(&ran, 3, b"st2110: device\n"), "call {fails_in}");
+        let ran = run(rt.alloc(), rt.alloc(), PICTURE, WAYS[0].0, fails_in)?;
+        met(&rt, stops(&ran, 3, b"st2110: device\n"));
     }
     Ok(())
 }
 
 #[test]
 fn each_growth_refused(rt: HostRuntime) -> Result<(), Fail> {
-    assert!(rt; growths(&rt)?.is_some_and(|count| count > 3));
+    met(&rt, grows(rt.alloc(), &Loopback, 4)?);
     Ok(())
 }

@@ -33,7 +33,7 @@ const NUMBERS: [(u32, Noted); 4] = [
 ];
 
 /// Whether a map's numbers run on past 2^32.
-fn runs_on(alloc: Global) -> Result<bool, SeqMapFault> {
+fn runs_on<A: Allocator + Copy>(alloc: A) -> Result<bool, SeqMapFault> {
     let mut map = SeqMap::open(alloc, 4_294_967_294, 4)?;
     let is_noted = notes(&mut map, &NUMBERS);
     let is_opened = map.first() == 4_294_967_294 && map.count() == 4;
@@ -129,16 +129,23 @@ fn two_paths(rt: HostRuntime) -> Result<(), Fail> {
     Ok(())
 }
 
-/// How many runs a map with six gaps misses, over an allocator.
-pub fn runs_missed<A: Allocator>(alloc: A, global: Global) -> Result<Option<usize>, Fail> {
+/// Whether *number-map* is answered over an allocator, or `None` where it wants memory.
+pub fn is_mapped<A: Allocator + Copy>(alloc: A) -> Option<bool> {
+    match runs_on(alloc) {
+        Ok(runs_on) => Some(runs_on),
+        Err(SeqMapFault::NoMemory) => None,
+        Err(SeqMapFault::BadCount) => Some(false),
+    }
+}
+
+/// Whether a map with six gaps misses them, or `None` where memory is wanted for them.
+pub fn misses_six<A: Allocator>(global: Global, alloc: A) -> Result<Option<bool>, SeqMapFault> {
     let mut map = SeqMap::open(global, 0, 12)?;
-    for number in [1u32, 3, 5, 7, 9, 11] {
-        let _ = map.note(number);
-    }
-    match map.missing_runs(alloc) {
-        Ok(runs) => Ok(Some(runs.len())),
-        Err(_) => Ok(None),
-    }
+    let are_noted = notes(&mut map, &LOWER) && notes(&mut map, &UPPER);
+    Ok(match map.missing_runs(alloc) {
+        Ok(runs) => Some(are_noted && runs.as_slice() == GAPS.as_slice()),
+        Err(_) => None,
+    })
 }
 
 /// Whether a count is tested before memory is asked for.

@@ -3,7 +3,6 @@ use crate::checks::met;
 use crate::datagrams::{opened, takes};
 use frame_assembly::{Base, Frame};
 use path_merge::Receiver;
-use refusing::Refusing;
 use st_format::{Depth, Format, FormatFault, Picture, PictureFault, Sampling};
 use std::alloc::{AllocError, Allocator, Global};
 use std::process::Abort;
@@ -15,7 +14,12 @@ pub fn small() -> Result<Format, FormatFault> {
 }
 
 /// A value of a picture, or `None` where there is no such position.
-pub fn value(picture: &Picture, row: u32, column: u32, component: u8) -> Option<u16> {
+pub fn value<A: Allocator>(
+    picture: &Picture<A>,
+    row: u32,
+    column: u32,
+    component: u8,
+) -> Option<u16> {
     if picture.format().has_position(row, column, component) {
         Some(picture.get(row, column, component))
     } else {
@@ -25,7 +29,10 @@ pub fn value(picture: &Picture, row: u32, column: u32, component: u8) -> Option<
 
 /// Whether a picture has these values: row, column, component, and `None` where there is no such
 /// position.
-pub fn has_values(picture: &Picture, values: &[(u32, u32, u8, Option<u16>)]) -> bool {
+pub fn has_values<A: Allocator>(
+    picture: &Picture<A>,
+    values: &[(u32, u32, u8, Option<u16>)],
+) -> bool {
     let mut has = true;
     for (row, column, component, wanted) in values {
         has &= value(picture, *row, *column, *component) == *wanted;
@@ -34,7 +41,13 @@ pub fn has_values(picture: &Picture, values: &[(u32, u32, u8, Option<u16>)]) -> 
 }
 
 /// Sets a value of a picture where there is such a position, and tells whether the value fits.
-pub fn set(picture: &mut Picture, row: u32, column: u32, component: u8, value: u16) -> bool {
+pub fn set<A: Allocator>(
+    picture: &mut Picture<A>,
+    row: u32,
+    column: u32,
+    component: u8,
+    value: u16,
+) -> bool {
     let format = picture.format();
     let fits = value <= format.max_value();
     if fits && format.has_position(row, column, component) {
@@ -148,12 +161,12 @@ fn copies(alloc: Global, frame: &Frame) -> Result<bool, AllocError> {
 }
 
 /// A frame settled with 50, 128, 128.
-fn settled<A: Allocator>(alloc: A, frame: &Frame) -> Result<Picture<A>, AllocError> {
+pub fn settled<A: Allocator>(alloc: A, frame: &Frame) -> Result<Picture<A>, AllocError> {
     frame.settle(alloc, Base::<Global>::Fill([50, 128, 128]))
 }
 
 /// The values of *copies-and-settling*.
-const SETTLED: [(u32, u32, u8, Option<u16>); 4] = [
+pub const SETTLED: [(u32, u32, u8, Option<u16>); 4] = [
     (0, 0, 0, Some(50)),
     (0, 1, 0, Some(17)),
     (1, 3, 0, Some(50)),
@@ -175,56 +188,5 @@ fn copies_and_settles(alloc: Global, receiver: &Receiver) -> Result<bool, AllocE
 fn copies_and_settling(rt: HostRuntime) -> Result<(), Fail> {
     let receiver = contested(rt.alloc())?;
     met(&rt, copies_and_settles(rt.alloc(), &receiver)?);
-    Ok(())
-}
-
-/// Whether `Picture::new` answers that its growth was refused, and then has it.
-fn makes(refusing: &Refusing<Global>) -> Result<bool, FormatFault> {
-    refusing.refuse(1);
-    let refused = fault_of(refusing, [16, 128, 128])?;
-    Ok(refused == Some(PictureFault::NoMemory) && fault_of(refusing, [16, 128, 128])?.is_none())
-}
-
-/// The same of a picture's copy.
-fn copies_picture(refusing: &Refusing<Global>, picture: &Picture) -> Result<bool, PictureFault> {
-    refusing.refuse(1);
-    let refused = picture.try_copy(refusing).err();
-    let copy = picture.try_copy(refusing)?;
-    Ok(refused == Some(PictureFault::NoMemory) && copy.same(picture))
-}
-
-/// The same of a frame's copy.
-fn copies_frame(refusing: &Refusing<Global>, frame: &Frame) -> Result<bool, AllocError> {
-    refusing.refuse(1);
-    let is_refused = frame.try_copy(refusing).is_err();
-    Ok(is_refused && frame.try_copy(refusing)?.same(frame))
-}
-
-/// The same of a settled frame.
-fn settles(refusing: &Refusing<Global>, frame: &Frame) -> bool {
-    refusing.refuse(1);
-    settled(refusing, frame).is_err() && settled(refusing, frame).is_ok()
-}
-
-/// The same of a picture.
-fn pictures_grow(alloc: Global, refusing: &Refusing<Global>) -> Result<bool, Fail> {
-    let picture = Picture::new(alloc, small()?, [16, 128, 128])?;
-    Ok(makes(refusing)? && copies_picture(refusing, &picture)?)
-}
-
-/// The same of a receiver's frame.
-fn frames_grow(refusing: &Refusing<Global>, receiver: &Receiver) -> Result<bool, AllocError> {
-    match receiver.frame(900) {
-        Some(frame) => Ok(copies_frame(refusing, frame)? && settles(refusing, frame)),
-        None => Ok(false),
-    }
-}
-
-/// Each call that wants memory, with its one growth refused and then had.
-#[test]
-fn growths(rt: HostRuntime) -> Result<(), Fail> {
-    let refusing = Refusing::new(rt.alloc(), 0);
-    met(&rt, pictures_grow(rt.alloc(), &refusing)?);
-    met(&rt, frames_grow(&refusing, &contested(rt.alloc())?)?);
     Ok(())
 }

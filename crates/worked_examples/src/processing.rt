@@ -5,7 +5,7 @@ use crate::pictures::has_values;
 use bt709_fixed::{ColourFault, RangeKind, gain, limit, to_ycc422, to_ycc444};
 use key_mix::{Axis, JobFault, WipeShape, key, wipe};
 use st_format::{Depth, Format, FormatFault, Picture, Sampling};
-use std::alloc::Global;
+use std::alloc::{Allocator, Global};
 use std::test::Fail;
 
 /// 8 by 2, 60 frames a second.
@@ -14,14 +14,19 @@ fn wide(sampling: Sampling, depth: Depth) -> Result<Format, FormatFault> {
 }
 
 /// A picture of 8 by 2 of one colour.
-fn plain(alloc: Global, sampling: Sampling, depth: Depth, fill: [u16; 3]) -> Result<Picture, Fail> {
+pub fn plain(
+    alloc: Global,
+    sampling: Sampling,
+    depth: Depth,
+    fill: [u16; 3],
+) -> Result<Picture, Fail> {
     Ok(Picture::new(alloc, wide(sampling, depth)?, fill)?)
 }
 
 /// Whether all of a picture of 8 by 2 is of one format and colour.
-fn is_plain(
+pub fn is_plain<A: Allocator>(
     alloc: Global,
-    picture: &Picture,
+    picture: &Picture<A>,
     sampling: Sampling,
     depth: Depth,
     fill: [u16; 3],
@@ -145,7 +150,7 @@ fn wiped(
 }
 
 /// Whether both rows of a picture have these lumas, and the even columns these values of Cr.
-fn has_lumas(picture: &Picture, lumas: &[u16; 8]) -> bool {
+pub fn has_lumas<A: Allocator>(picture: &Picture<A>, lumas: &[u16; 8]) -> bool {
     let mut has = true;
     for row in 0..2u32 {
         for column in 0..8usize {

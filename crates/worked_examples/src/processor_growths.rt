@@ -1,148 +1,215 @@
 //! Calls of the processor with each growth refused in turn; and then the same call with memory.
 use crate::checks::met;
 use crate::job_sending::{has_sent, merged};
+use crate::processing::{has_lumas, is_plain, plain};
+use crate::wanting::{Wanting, grows};
 use bt709_fixed::{ColourFault, RangeKind, to_ycc422, to_ycc444};
 use key_mix::{Axis, Job, JobFault, WipeShape, key, run_job, wipe};
-use path_merge::Receiver;
 use refusing::Refusing;
-use st_format::{Depth, Format, Picture, Sampling};
+use st_format::{Depth, Picture, Sampling};
 use std::alloc::{Allocator, Global};
+use std::process::Abort;
 use std::test::Fail;
 
-/// A call that takes memory.
+/// A picture of one colour.
+type Plain = (Sampling, Depth, [u16; 3]);
+
+/// How a picture is made of one.
 #[derive(Clone, Copy)]
-enum Call {
+enum Way {
     ToYcc444,
     ToYcc422,
-    Wipe,
-    Key,
-    /// `run_job` of a job of one picture of this sampling.
-    Run(Job, Sampling),
-    /// `run_job` of a wipe and of a key.
-    RunWipe,
-    RunKey,
-    /// `send_job` at gain one.
-    Send,
+    Run(Job),
 }
 
-/// Each call, and the least number of growths that it takes.
-const CALLS: [(Call, u64); 11] = [
-    (Call::ToYcc444, 1),
-    (Call::ToYcc422, 1),
-    (Call::Wipe, 2),
-    (Call::Key, 2),
-    (Call::Run(Job::Limit(RangeKind::Nominal), Sampling::Rgb), 1),
-    (Call::Run(Job::Gain(8192), Sampling::Ycc422), 1),
-    (Call::Run(Job::ToYcc444, Sampling::Rgb), 1),
-    (Call::Run(Job::ToYcc422, Sampling::Ycc444), 1),
-    (Call::RunWipe, 2),
-    (Call::RunKey, 2),
-    (Call::Send, 4),
+/// A picture of one colour, and the one that is made of it.
+#[derive(Clone, Copy)]
+struct Single {
+    way: Way,
+    from: Plain,
+    to: Plain,
+}
+
+/// *matrix* of RGB of 10 bits.
+const OF_RGB: (Plain, Plain) = (
+    (Sampling::Rgb, Depth::D10, [940, 64, 64]),
+    (Sampling::Ycc444, Depth::D10, [250, 409, 960]),
+);
+
+/// *matrix*, and 4:2:2 of 4:4:4.
+const OF_YCC444: (Plain, Plain) = (
+    (Sampling::Ycc444, Depth::D8, [235, 128, 128]),
+    (Sampling::Ycc422, Depth::D8, [235, 128, 128]),
+);
+
+/// *gain-and-limit*: gain 8192 of 4:2:2 of 8 bits.
+const GAINED: (Plain, Plain) = (
+    (Sampling::Ycc422, Depth::D8, [100, 128, 255]),
+    (Sampling::Ycc422, Depth::D8, [184, 128, 254]),
+);
+
+/// *gain-and-limit*: the nominal range of 4:4:4 of 10 bits.
+const LIMITED: (Plain, Plain) = (
+    (Sampling::Ycc444, Depth::D10, [0, 1023, 0]),
+    (Sampling::Ycc444, Depth::D10, [64, 960, 64]),
+);
+
+const fn made_by(way: Way, colours: (Plain, Plain)) -> Single {
+    let (from, to) = colours;
+    Single { way, from, to }
+}
+
+/// Each way, by its own call and as a job.
+const SINGLES: [(Way, (Plain, Plain)); 6] = [
+    (Way::ToYcc444, OF_RGB),
+    (Way::ToYcc422, OF_YCC444),
+    (Way::Run(Job::ToYcc444), OF_RGB),
+    (Way::Run(Job::ToYcc422), OF_YCC444),
+    (Way::Run(Job::Gain(8192)), GAINED),
+    (Way::Run(Job::Limit(RangeKind::Nominal)), LIMITED),
 ];
 
-/// A wipe with its middle at the second column.
-const SHAPE: WipeShape = WipeShape {
-    axis: Axis::Columns,
-    position: 0,
-    soft: 4,
-};
-
-/// A picture of 4 by 2, 8 bits.
-fn plain(alloc: Global, sampling: Sampling) -> Result<Picture, Fail> {
-    let format = Format::new(sampling, Depth::D8, 4, 2, 60, 1)?;
-    Ok(Picture::new(alloc, format, [100, 128, 128])?)
-}
-
-/// Whether a picture was made, or `None` where memory was wanted.
-fn of_colour<A: Allocator>(made: Result<Picture<A>, ColourFault>) -> Option<bool> {
+/// Whether a picture is of one colour, or `None` where memory was wanted for it.
+fn of_colour<A: Allocator>(
+    global: Global,
+    made: Result<Picture<A>, ColourFault>,
+    to: Plain,
+) -> Result<Option<bool>, Fail> {
+    let (sampling, depth, fill) = to;
     match made {
-        Ok(_) => Some(true),
-        Err(ColourFault::NoMemory) => None,
-        Err(_) => Some(false),
+        Ok(picture) => Ok(Some(is_plain(global, &picture, sampling, depth, fill)?)),
+        Err(ColourFault::NoMemory) => Ok(None),
+        Err(fault) => Err(Fail::from(fault)),
     }
 }
 
-/// The same of a job.
-fn of_job<A: Allocator>(made: Result<Picture<A>, JobFault>) -> Option<bool> {
+/// The same of a job's picture.
+fn of_job<A: Allocator>(
+    global: Global,
+    made: Result<Picture<A>, JobFault>,
+    to: Plain,
+) -> Result<Option<bool>, Fail> {
+    let (sampling, depth, fill) = to;
     match made {
-        Ok(_) => Some(true),
+        Ok(picture) => Ok(Some(is_plain(global, &picture, sampling, depth, fill)?)),
+        Err(JobFault::NoMemory) => Ok(None),
+        Err(fault) => Err(Fail::from(fault)),
+    }
+}
+
+impl Wanting for Single {
+    fn answer(&self, global: Global, refusing: &Refusing<Global>) -> Result<Option<bool>, Fail> {
+        let (sampling, depth, fill) = self.from;
+        let inputs = [plain(global, sampling, depth, fill)?];
+        match self.way {
+            Way::ToYcc444 => of_colour(global, to_ycc444(refusing, &inputs[0]), self.to),
+            Way::ToYcc422 => of_colour(global, to_ycc422(refusing, &inputs[0]), self.to),
+            Way::Run(job) => of_job(global, run_job(refusing, &job, &inputs), self.to),
+        }
+    }
+}
+
+#[test]
+fn singles(rt: HostRuntime) -> Result<(), Fail> {
+    for (way, colours) in SINGLES {
+        met(&rt, grows(rt.alloc(), &made_by(way, colours), 1)?);
+    }
+    Ok(())
+}
+
+/// A wipe or a key.
+#[derive(Clone, Copy)]
+enum Mixed {
+    /// *wipe-weights* at position 2, softness 4; as a job too.
+    Wipe,
+    WipeJob,
+    /// *key-rounds* at key luma 126; as a job too.
+    Key,
+    KeyJob,
+}
+
+const SHAPE: WipeShape = WipeShape {
+    axis: Axis::Columns,
+    position: 2,
+    soft: 4,
+};
+
+/// The lumas of each row of the wipe.
+const LUMAS: [u16; 8] = [16, 16, 16, 71, 126, 180, 235, 235];
+
+/// Whether a picture is the wipe, or `None` where memory was wanted for it.
+fn of_wipe<A: Allocator>(made: Result<Picture<A>, JobFault>) -> Option<bool> {
+    match made {
+        Ok(picture) => Some(has_lumas(&picture, &LUMAS)),
         Err(JobFault::NoMemory) => None,
         Err(_) => Some(false),
     }
 }
 
-/// Three pictures of 4:2:2.
-fn three(alloc: Global) -> Result<[Picture; 3], Fail> {
-    Ok([
-        plain(alloc, Sampling::Ycc422)?,
-        plain(alloc, Sampling::Ycc422)?,
-        plain(alloc, Sampling::Ycc422)?,
-    ])
+/// A picture of 4:2:2, 8 bits, of one colour.
+fn of_eight_bits(global: Global, fill: [u16; 3]) -> Result<Picture, Fail> {
+    plain(global, Sampling::Ycc422, Depth::D8, fill)
 }
 
-impl Call {
-    /// Whether it is answered, or `None` where it wants memory.
-    fn answer(
-        self,
-        alloc: Global,
-        refusing: &Refusing<Global>,
-        receiver: &Receiver,
-    ) -> Result<Option<bool>, Fail> {
+/// The wipe from luma 16 to luma 235.
+fn wiped(global: Global, refusing: &Refusing<Global>, is_job: bool) -> Result<Option<bool>, Fail> {
+    let inputs = [
+        of_eight_bits(global, [16, 128, 16])?,
+        of_eight_bits(global, [235, 128, 235])?,
+    ];
+    Ok(if is_job {
+        of_wipe(run_job(refusing, &Job::Wipe(SHAPE), &inputs))
+    } else {
+        of_wipe(wipe(refusing, &inputs[0], &inputs[1], SHAPE))
+    })
+}
+
+/// The mix of luma 16 and 17 by luma 126, which is 17.
+fn keyed(global: Global, refusing: &Refusing<Global>, is_job: bool) -> Result<Option<bool>, Fail> {
+    let inputs = [
+        of_eight_bits(global, [16, 1, 16])?,
+        of_eight_bits(global, [17, 1, 17])?,
+        of_eight_bits(global, [126, 0, 0])?,
+    ];
+    let made = if is_job {
+        run_job(refusing, &Job::Key, &inputs)
+    } else {
+        key(refusing, &inputs[0], &inputs[1], &inputs[2])
+    };
+    of_job(global, made, (Sampling::Ycc422, Depth::D8, [17, 1, 17]))
+}
+
+impl Wanting for Mixed {
+    fn answer(&self, global: Global, refusing: &Refusing<Global>) -> Result<Option<bool>, Fail> {
         match self {
-            Call::ToYcc444 => Ok(of_colour(to_ycc444(refusing, &plain(alloc, Sampling::Rgb)?))),
-            Call::ToYcc422 => Ok(of_colour(to_ycc422(refusing, &plain(alloc, Sampling::Ycc444)?))),
-            Call::Run(job, sampling) => {
-                Ok(of_job(run_job(refusing, &job, &[plain(alloc, sampling)?])))
-            }
-            Call::Send => has_sent(refusing, alloc, receiver),
-            _ => self.mixed(alloc, refusing),
+            Mixed::Wipe => wiped(global, refusing, false),
+            Mixed::WipeJob => wiped(global, refusing, true),
+            Mixed::Key => keyed(global, refusing, false),
+            Mixed::KeyJob => keyed(global, refusing, true),
         }
     }
-
-    /// The same of those of two and three pictures.
-    fn mixed(self, alloc: Global, refusing: &Refusing<Global>) -> Result<Option<bool>, Fail> {
-        let inputs = three(alloc)?;
-        let [a, b, by] = &inputs;
-        Ok(of_job(match self {
-            Call::Wipe => wipe(refusing, a, b, SHAPE),
-            Call::Key => key(refusing, a, b, by),
-            Call::RunWipe => run_job(refusing, &Job::Wipe(SHAPE), &inputs[..2]),
-            _ => run_job(refusing, &Job::Key, &inputs),
-        }))
-    }
-}
-
-/// How many growths a call takes, where each that is refused is told, and the same call is answered
-/// then.
-fn growths(alloc: Global, call: Call, receiver: &Receiver) -> Result<Option<u64>, Fail> {
-    let refusing = Refusing::new(alloc, 0);
-    for nth in 1..1000u64 {
-        refusing.refuse(nth);
-        let answer = call.answer(alloc, &refusing, receiver)?;
-        if !refusing.was_met() {
-            return Ok(if answer == Some(true) {
-                Some(nth - 1)
-            } else {
-                None
-            });
-        }
-        refusing.refuse(0);
-        if answer.is_some() || call.answer(alloc, &refusing, receiver)? != Some(true) {
-            return Ok(None);
-        }
-    }
-    Ok(None)
 }
 
 #[test]
-fn each_growth_refused(rt: HostRuntime) -> Result<(), Fail> {
-    let receiver = merged(rt.alloc())?;
-    for (call, least) in CALLS {
-        let is_met = match growths(rt.alloc(), call, &receiver)? {
-            Some(taken) => least <= taken,
-            None => false,
-        };
-        met(&rt, is_met);
+fn mixes(rt: HostRuntime) -> Result<(), Fail> {
+    for call in &[Mixed::Wipe, Mixed::WipeJob, Mixed::Key, Mixed::KeyJob] {
+        met(&rt, grows(rt.alloc(), call, 2)?);
     }
+    Ok(())
+}
+
+/// *send-gain-one*.
+#[derive(Clone, Copy)]
+struct SendOne;
+
+impl Wanting for SendOne {
+    fn answer(&self, global: Global, refusing: &Refusing<Global>) -> Result<Option<bool>, Fail> {
+        has_sent(refusing, global, &merged(global)?)
+    }
+}
+
+#[test]
+fn sends(rt: HostRuntime) -> Result<(), Fail> {
+    met(&rt, grows(rt.alloc(), &SendOne, 4)?);
     Ok(())
 }

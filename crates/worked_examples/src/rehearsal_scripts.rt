@@ -1,7 +1,7 @@
 //! *rehearsal-script* through the engine: failing devices, and wants of memory.
 use crate::checks::met;
-use crate::running::{Failing, Ran, SOUND, play_script};
-use std::alloc::{AllocError, Allocator};
+use crate::running::{Failing, Ran, SOUND, play_script, play_script_on};
+use std::alloc::{AllocError, Allocator, Global};
 use std::process::Abort;
 use std::test::Fail;
 
@@ -22,16 +22,16 @@ fn is_rehearsal(run: &Ran) -> bool {
     run.status == 0 && run.printed() == OUTPUT.as_bytes() && run.told().is_empty()
 }
 
-/// Whether the engine plays the script over an allocator, as 1.
-pub fn rehearsed<A: Allocator + Copy>(
-    rt: &(impl Abort + AllocGlobal),
+/// Whether the engine plays the script over an allocator, or `None` where it wants memory.
+pub fn is_rehearsed<A: Allocator + Copy>(
+    global: Global,
     alloc: A,
-) -> Result<Option<usize>, Fail> {
-    let run = play_script(rt, alloc, SCRIPT.as_bytes(), 4096, SOUND)?;
+) -> Result<Option<bool>, AllocError> {
+    let run = play_script_on(global, alloc, SCRIPT.as_bytes(), 4096, SOUND)?;
     Ok(if wants_memory(&run) {
         None
     } else {
-        Some(usize::from(is_rehearsal(&run)))
+        Some(is_rehearsal(&run))
     })
 }
 

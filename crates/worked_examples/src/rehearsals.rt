@@ -73,7 +73,11 @@ pub fn fault_of(
 }
 
 /// Of a receiver's frame of a timestamp.
-pub fn counts_of(played: &Played, receiver: usize, timestamp: u32) -> Option<Counts> {
+pub fn counts_of<A: Allocator>(
+    played: &Played<A>,
+    receiver: usize,
+    timestamp: u32,
+) -> Option<Counts> {
     match played.receivers.get(receiver) {
         Some(receiver) => counts(receiver, timestamp),
         None => None,
@@ -81,7 +85,7 @@ pub fn counts_of(played: &Played, receiver: usize, timestamp: u32) -> Option<Cou
 }
 
 /// Of a frame that was handed out, with its receiver and timestamp.
-pub fn handed_at(played: &Played, place: usize) -> Option<(u8, u32, Counts)> {
+pub fn handed_at<A: Allocator>(played: &Played<A>, place: usize) -> Option<(u8, u32, Counts)> {
     match played.handed.get(place) {
         Some(handed) => Some((handed.receiver, handed.timestamp, handed.frame.counts())),
         None => None,
@@ -90,8 +94,8 @@ pub fn handed_at(played: &Played, place: usize) -> Option<(u8, u32, Counts)> {
 
 /// Whether so many receivers handed out these frames, in order, and have these: each with its
 /// receiver and timestamp, and how many of its 16 samples are present.
-fn comes_to(
-    played: &Played,
+fn comes_to<A: Allocator>(
+    played: &Played<A>,
     receivers: usize,
     handed: &[(u8, u32, u64)],
     lasting: &[(usize, u32, u64)],
@@ -126,13 +130,15 @@ pub const SHOW: [Event; 7] = [
     Event::Arrive(0, Path::A, 1),
 ];
 
+/// Whether *rehearsal* hands out a whole frame, and leaves none of the next and most of the first.
+fn is_rehearsal<A: Allocator>(played: &Played<A>) -> bool {
+    comes_to(played, 2, &[(0, 0, 16)], &[(0, 1500, 0), (1, 0, 12)])
+}
+
 #[test]
 fn rehearsal(rt: HostRuntime) -> Result<(), Fail> {
     let played = rehearse(rt.alloc(), 2, &[0], 2, &SHOW)??;
-    met(
-        &rt,
-        comes_to(&played, 2, &[(0, 0, 16)], &[(0, 1500, 0), (1, 0, 12)]),
-    );
+    met(&rt, is_rehearsal(&played));
     Ok(())
 }
 
@@ -297,12 +303,12 @@ fn ten_thousand_pictures(rt: HostRuntime) -> Result<(), Fail> {
     Ok(())
 }
 
-/// How many frames *rehearsal* hands out, over an allocator.
-pub fn handed_out<A: Allocator + Copy>(alloc: A, global: Global) -> Result<Option<usize>, Fail> {
+/// Whether *rehearsal* is played over an allocator, or `None` where it wants memory.
+pub fn is_played<A: Allocator + Copy>(global: Global, alloc: A) -> Result<Option<bool>, Fail> {
     let plan = small_plan(global)?;
     let pictures = pictures(global, 2)?;
     match play(alloc, &plan, &pictures, STAMP, &[0], 2, &SHOW) {
-        Ok(played) => Ok(Some(played.handed.len())),
+        Ok(played) => Ok(Some(is_rehearsal(&played))),
         Err(PlayFault::NoMemory) => Ok(None),
         Err(fault) => Err(Fail::from(fault)),
     }

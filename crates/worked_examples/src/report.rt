@@ -1,5 +1,5 @@
 //! Reports: of *contested*, of each sampling and depth, of a row with each second pixel group,
-//! over sinks that fail at each of their calls, and through the engine.
+//! and through the engine.
 use crate::checks::met;
 use crate::datagrams::{begin, opened, put_head, takes_octets};
 use crate::running::{Ran, SOUND, report};
@@ -52,10 +52,10 @@ const WIDE_TAIL: &[u8] = b"\nmissing row 0 columns 8189 to 8189\n\
     missing row 0 columns 8191 to 8191\n\
     end\n";
 
-/// A sink that moves so many octets a call and fails at a call, or never at 0.
-fn sink(alloc: Global, piece: usize, fails_in: u64) -> Result<MemorySink, AllocError> {
+/// A sink that moves so many octets a call.
+fn sink(alloc: Global, piece: usize) -> Result<MemorySink, AllocError> {
     let room = Vec::with_capacity(alloc, 262_144)?;
-    Ok(MemorySink::new(room, piece.max(1), fails_in))
+    Ok(MemorySink::new(room, piece.max(1), 0))
 }
 
 /// *contested*'s receiver.
@@ -70,7 +70,7 @@ fn contested(alloc: Global) -> Result<Receiver, Fail> {
 
 /// Whether a receiver's report is this text.
 fn tells(alloc: Global, receiver: &Receiver, text: &[u8]) -> Result<bool, Fail> {
-    let mut sink = sink(alloc, 7, 0)?;
+    let mut sink = sink(alloc, 7)?;
     write_report(receiver, &mut sink)?;
     Ok(sink.held() == text)
 }
@@ -78,23 +78,6 @@ fn tells(alloc: Global, receiver: &Receiver, text: &[u8]) -> Result<bool, Fail> 
 #[test]
 fn contested_report(rt: HostRuntime) -> Result<(), Fail> {
     met(&rt, tells(rt.alloc(), &contested(rt.alloc())?, REPORT)?);
-    Ok(())
-}
-
-/// Whether a sink of one octet a call that fails behind so many has a first part of the report.
-fn fails_behind(alloc: Global, receiver: &Receiver, taken: usize) -> Result<bool, Fail> {
-    let mut sink = sink(alloc, 1, (taken as u64).saturating_add(1))?;
-    let is_refused = write_report(receiver, &mut sink).is_err();
-    let told = taken.min(REPORT.len());
-    Ok(is_refused == (told < REPORT.len()) && sink.held() == &REPORT[..told])
-}
-
-#[test]
-fn a_sink_that_fails(rt: HostRuntime) -> Result<(), Fail> {
-    let receiver = contested(rt.alloc())?;
-    for taken in 0..REPORT.len() + 2 {
-        met(&rt, fails_behind(rt.alloc(), &receiver, taken)?);
-    }
     Ok(())
 }
 
@@ -216,7 +199,7 @@ fn lines(text: &[u8]) -> usize {
 #[test]
 fn each_second_group(rt: HostRuntime) -> Result<(), Fail> {
     let receiver = each_second(rt.alloc())?;
-    let mut sink = sink(rt.alloc(), 4096, 0)?;
+    let mut sink = sink(rt.alloc(), 4096)?;
     write_report(&receiver, &mut sink)?;
     let text = sink.held();
     let has_ends = text.starts_with(WIDE_HEAD) && text.ends_with(WIDE_TAIL);

@@ -47,11 +47,22 @@ pub fn run<A: Allocator + Copy>(
     piece: usize,
     failing: Failing,
 ) -> Result<Ran, AllocError> {
+    run_on(rt.alloc(), alloc, script, piece, failing)
+}
+
+/// The same, where the devices stand in memory of `global`.
+pub fn run_on<A: Allocator + Copy>(
+    global: Global,
+    alloc: A,
+    script: &[u8],
+    piece: usize,
+    failing: Failing,
+) -> Result<Ran, AllocError> {
     let piece = piece.max(1);
-    let octets = Vec::from_slice(rt.alloc(), script)?;
+    let octets = Vec::from_slice(global, script)?;
     let mut source = MemorySource::new(octets, piece, failing.source);
-    let mut output = sink(rt.alloc(), piece, failing.output)?;
-    let mut faults = sink(rt.alloc(), piece, failing.faults)?;
+    let mut output = sink(global, piece, failing.output)?;
+    let mut faults = sink(global, piece, failing.faults)?;
     let status = run_trace(alloc, &mut source, &mut output, &mut faults);
     Ok(Ran {
         status,
@@ -68,11 +79,22 @@ pub fn describe<A: Allocator + Copy>(
     piece: usize,
     failing: Failing,
 ) -> Result<Ran, AllocError> {
+    describe_on(rt.alloc(), alloc, text, piece, failing)
+}
+
+/// The same, where the devices stand in memory of `global`.
+pub fn describe_on<A: Allocator + Copy>(
+    global: Global,
+    alloc: A,
+    text: &[u8],
+    piece: usize,
+    failing: Failing,
+) -> Result<Ran, AllocError> {
     let piece = piece.max(1);
-    let octets = Vec::from_slice(rt.alloc(), text)?;
+    let octets = Vec::from_slice(global, text)?;
     let mut source = MemorySource::new(octets, piece, failing.source);
-    let mut output = sink(rt.alloc(), piece, failing.output)?;
-    let mut faults = sink(rt.alloc(), piece, failing.faults)?;
+    let mut output = sink(global, piece, failing.output)?;
+    let mut faults = sink(global, piece, failing.faults)?;
     let status = run_sdp(alloc, &mut source, &mut output, &mut faults);
     Ok(Ran {
         status,
@@ -89,11 +111,22 @@ pub fn play_script<A: Allocator + Copy>(
     piece: usize,
     failing: Failing,
 ) -> Result<Ran, AllocError> {
+    play_script_on(rt.alloc(), alloc, script, piece, failing)
+}
+
+/// The same, where the devices stand in memory of `global`.
+pub fn play_script_on<A: Allocator + Copy>(
+    global: Global,
+    alloc: A,
+    script: &[u8],
+    piece: usize,
+    failing: Failing,
+) -> Result<Ran, AllocError> {
     let piece = piece.max(1);
-    let octets = Vec::from_slice(rt.alloc(), script)?;
+    let octets = Vec::from_slice(global, script)?;
     let mut source = MemorySource::new(octets, piece, failing.source);
-    let mut output = sink(rt.alloc(), piece, failing.output)?;
-    let mut faults = sink(rt.alloc(), piece, failing.faults)?;
+    let mut output = sink(global, piece, failing.output)?;
+    let mut faults = sink(global, piece, failing.faults)?;
     let status = run_rehearse(alloc, &mut source, &mut output, &mut faults);
     Ok(Ran {
         status,
@@ -110,11 +143,22 @@ pub fn report<A: Allocator + Copy>(
     piece: usize,
     failing: Failing,
 ) -> Result<Ran, AllocError> {
+    report_on(rt.alloc(), alloc, file, piece, failing)
+}
+
+/// The same, where the devices stand in memory of `global`.
+pub fn report_on<A: Allocator + Copy>(
+    global: Global,
+    alloc: A,
+    file: &[u8],
+    piece: usize,
+    failing: Failing,
+) -> Result<Ran, AllocError> {
     let piece = piece.max(1);
-    let octets = Vec::from_slice(rt.alloc(), file)?;
+    let octets = Vec::from_slice(global, file)?;
     let mut source = MemorySource::new(octets, piece, failing.source);
-    let mut output = sink(rt.alloc(), piece, failing.output)?;
-    let mut faults = sink(rt.alloc(), piece, failing.faults)?;
+    let mut output = sink(global, piece, failing.output)?;
+    let mut faults = sink(global, piece, failing.faults)?;
     let status = run_report(alloc, &mut source, &mut output, &mut faults);
     Ok(Ran {
         status,

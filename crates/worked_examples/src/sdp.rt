@@ -50,3 +50,13 @@ fn the_camera(rt: HostRuntime) -> Result<(), Fail> {
     met(&rt, is_named(rt.alloc(), &SdpFault::NoMemory, "NoMemory")?);
     Ok(())
 }
+
+/// Whether `read_sdp` and `fmtp_text` give the camera's line over an allocator, or `None` where one
+/// of them wants memory.
+pub fn is_written<A: Allocator + Copy>(alloc: A) -> Option<bool> {
+    match line_of(alloc, CAMERA.as_bytes()) {
+        Ok(line) => Some(line.as_slice() == LINE.as_bytes()),
+        Err(SdpFault::NoMemory) => None,
+        Err(_) => Some(false),
+    }
+}

@@ -1,9 +1,8 @@
 //! The engine of `sdp` over the camera's text: failing devices, and wants of memory.
 use crate::checks::met;
-use crate::running::{Failing, Ran, SOUND, describe};
-use crate::sdp::{CAMERA, LINE, line_of};
-use sdp_format::SdpFault;
-use std::alloc::{AllocError, Allocator};
+use crate::running::{Failing, Ran, SOUND, describe, describe_on};
+use crate::sdp::{CAMERA, LINE};
+use std::alloc::{AllocError, Allocator, Global};
 use std::process::Abort;
 use std::test::Fail;
 
@@ -53,24 +52,15 @@ fn wants_memory(run: &Ran) -> bool {
     run.status == 4 && run.told() == b"st2110: memory\n".as_slice() && run.printed().is_empty()
 }
 
-/// Whether the engine describes the camera over an allocator, as 1.
-pub fn described<A: Allocator + Copy>(
-    rt: &(impl Abort + AllocGlobal),
+/// Whether the engine describes the camera over an allocator, or `None` where it wants memory.
+pub fn is_described<A: Allocator + Copy>(
+    global: Global,
     alloc: A,
-) -> Result<Option<usize>, Fail> {
-    let run = describe(rt, alloc, CAMERA.as_bytes(), 4096, SOUND)?;
+) -> Result<Option<bool>, AllocError> {
+    let run = describe_on(global, alloc, CAMERA.as_bytes(), 4096, SOUND)?;
     Ok(if wants_memory(&run) {
         None
     } else {
-        Some(usize::from(is_camera(&run)))
+        Some(is_camera(&run))
     })
-}
-
-/// Whether `read_sdp` and `fmtp_text` give the camera's line over an allocator, as 1.
-pub fn line_written<A: Allocator + Copy>(alloc: A) -> Option<usize> {
-    match line_of(alloc, CAMERA.as_bytes()) {
-        Ok(line) => Some(usize::from(line.as_slice() == LINE.as_bytes())),
-        Err(SdpFault::NoMemory) => None,
-        Err(_) => Some(0),
-    }
 }

@@ -7,7 +7,7 @@ use frame_assembly::Base;
 use packet_plan::{Plan, PlanFault, SendFault, Stamp, send_frame};
 use path_merge::Receiver;
 use st_format::memory::MemoryDatagrams;
-use st_format::{Depth, Format, Path, Picture, Sampling};
+use st_format::{Depth, Format, Path, Picture, PictureFault, Sampling};
 use std::alloc::{AllocError, Allocator, Global};
 use std::test::Fail;
 
@@ -31,13 +31,19 @@ const LUMA: [(u32, u32, u16); 8] = [
     (1, 3, 23),
 ];
 
+/// Sets that luma, and tells whether all of it fits.
+fn set_luma<A: Allocator>(picture: &mut Picture<A>) -> bool {
+    let mut fit = true;
+    for (row, column, value) in LUMA {
+        fit &= set(picture, row, column, 0, value);
+    }
+    fit
+}
+
 /// P0: chroma 128, and that luma.
 pub fn p0(alloc: Global) -> Result<Picture, Fail> {
     let mut picture = Picture::new(alloc, small()?, [0, 128, 128])?;
-    let mut fit = true;
-    for (row, column, value) in LUMA {
-        fit &= set(&mut picture, row, column, 0, value);
-    }
+    let fit = set_luma(&mut picture);
     fitting(picture, fit)
 }
 
@@ -112,6 +118,44 @@ fn sends(
     Ok(is_answered && has_taken(alloc, &sink, fails_in, datagrams))
 }
 
+/// Whether a picture sent by a plan gives these datagrams, and then this next number.
+fn gives<A: Allocator, B: Allocator>(
+    global: Global,
+    plan: &Plan<A>,
+    picture: &Picture<B>,
+    next: u32,
+    datagrams: &[&str],
+) -> Result<bool, AllocError> {
+    let mut sink = sink(global, 0)?;
+    let is_answered = sent(plan, picture, STAMP, &mut sink) == Some(Ok(next));
+    Ok(is_answered && has_taken(global, &sink, 0, datagrams))
+}
+
+/// Whether P0 over an allocator gives *sender-sizes*' datagram at 42 octets, or `None` where the
+/// picture wants memory.
+pub fn gives_whole<A: Allocator>(global: Global, alloc: A) -> Result<Option<bool>, Fail> {
+    let plan = Plan::new(global, small()?, 42)?;
+    match Picture::new(alloc, small()?, [0, 128, 128]) {
+        Ok(mut picture) => {
+            let fit = set_luma(&mut picture);
+            Ok(Some(fit && gives(global, &plan, &picture, 2, &[WHOLE])?))
+        }
+        Err(PictureFault::NoMemory) => Ok(None),
+        Err(fault) => Err(Fail::from(fault)),
+    }
+}
+
+/// Whether a plan over an allocator gives *sender-sizes*' datagrams at 24 octets, or `None` where
+/// it wants memory.
+pub fn gives_groups<A: Allocator>(global: Global, alloc: A) -> Result<Option<bool>, Fail> {
+    let picture = p0(global)?;
+    match Plan::new(alloc, picture.format(), 24) {
+        Ok(plan) => Ok(Some(gives(global, &plan, &picture, 5, &GROUPS)?)),
+        Err(PlanFault::NoMemory) => Ok(None),
+        Err(fault) => Err(Fail::from(fault)),
+    }
+}
+
 /// Whether a sink has taken these datagrams, and has failed once where it was to fail.
 pub fn has_taken(alloc: Global, sink: &MemoryDatagrams, fails_in: u64, datagrams: &[&str]) -> bool {
     sink.failures() == fails_in.min(1) && are_datagrams(alloc, sink.taken(), datagrams)
@@ -146,15 +190,22 @@ fn sends_each(
     Ok(agree)
 }
 
+/// *sender-sizes*' datagram at 42 octets.
+pub const WHOLE: &str = "80E0000100000384000000010000000800008000000800010000\
+    80108011801280138014801580168017";
+
+/// The four at 24 octets.
+pub const GROUPS: [&str; 4] = [
+    "806000010000038400000001000000040000000080108011",
+    "806000020000038400000001000000040000000280128013",
+    "806000030000038400000001000000040001000080148015",
+    "80E000040000038400000001000000040001000280168017",
+];
+
 /// *sender-sizes* at 42, 40 and 24, and *number-wraps-and-failing-sink*: size, first and next
 /// number, and datagrams.
 const SENDER_SIZES: [(u32, u32, u32, &[&str]); 4] = [
-    (
-        42,
-        1,
-        2,
-        &["80E000010000038400000001000000080000800000080001000080108011801280138014801580168017"],
-    ),
+    (42, 1, 2, &[WHOLE]),
     (
         40,
         1,
@@ -173,17 +224,7 @@ const SENDER_SIZES: [(u32, u32, u32, &[&str]); 4] = [
             "80E000000000038400000001000000040001000280168017",
         ],
     ),
-    (
-        24,
-        1,
-        5,
-        &[
-            "806000010000038400000001000000040000000080108011",
-            "806000020000038400000001000000040000000280128013",
-            "806000030000038400000001000000040001000080148015",
-            "80E000040000038400000001000000040001000280168017",
-        ],
-    ),
+    (24, 1, 5, &GROUPS),
 ];
 
 #[test]
@@ -360,13 +401,4 @@ fn pictures_come_back(rt: HostRuntime) -> Result<(), Fail> {
         met(&rt, sizes_come_back(rt.alloc(), format)?);
     }
     Ok(())
-}
-
-/// How many packets F1's plan at 24 octets has, over an allocator.
-pub fn packets_planned<A: Allocator>(alloc: A) -> Result<Option<usize>, Fail> {
-    match planned(alloc, 24)? {
-        Ok(packets) => Ok(Some(packets as usize)),
-        Err(PlanFault::NoMemory) => Ok(None),
-        Err(fault) => Err(Fail::from(fault)),
-    }
 }

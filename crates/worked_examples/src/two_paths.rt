@@ -22,6 +22,10 @@ const LATER: &[u8] =
 const DISAGREE: &[u8] = b"\x80\xE0\0\x01\0\0\x09\x60\0\0\0\x01\0\0\0\x04\0\0\x80\0\0\x04\0\0\0\0\
     \x80\x10\x80\x11\x80\x20\x80\x11";
 
+/// The same at timestamp 900.
+const DISAGREE_FIRST: &[u8] = b"\x80\xE0\0\x01\0\0\x03\x84\0\0\0\x01\0\0\0\x04\0\0\x80\0\0\x04\0\0\
+    \0\0\x80\x10\x80\x11\x80\x20\x80\x11";
+
 const FIRST: Result<Taken, Refusal> = Ok(Taken::Kept(1));
 
 const SECOND: Result<Taken, Refusal> = Ok(Taken::Kept(2));
@@ -92,12 +96,16 @@ struct Pair<A: Allocator = Global> {
 
 impl<A: Allocator + Copy> Pair<A> {
     fn open(alloc: A, window: &[u32]) -> Result<Pair<A>, Fail> {
-        let format = small()?;
+        let unlike = Format::new(Sampling::Rgb, Depth::D8, 4, 2, 60, 1)?;
+        Ok(Pair::of(alloc, small()?, unlike, window)?)
+    }
+
+    fn of(alloc: A, format: Format, unlike: Format, window: &[u32]) -> Result<Pair<A>, OpenFault> {
         Ok(Pair {
             near: Receiver::open(alloc, format, 96, None, window)?,
             far: Receiver::open(alloc, format, 96, None, window)?,
             out: Frame::new(alloc, format)?,
-            unlike: Frame::new(alloc, Format::new(Sampling::Rgb, Depth::D8, 4, 2, 60, 1)?)?,
+            unlike: Frame::new(alloc, unlike)?,
         })
     }
 }
@@ -217,6 +225,17 @@ fn outside_and_slide(rt: HostRuntime) -> Result<(), Fail> {
     follow(&rt, &[900], &SLIDE)
 }
 
+/// Whether receivers and frames over an allocator follow *outside-and-slide*, or `None` where memory
+/// is wanted for them.
+pub fn is_slid<A: Allocator + Copy>(alloc: A) -> Result<Option<bool>, Fail> {
+    let unlike = Format::new(Sampling::Rgb, Depth::D8, 4, 2, 60, 1)?;
+    match Pair::of(alloc, small()?, unlike, &[900]) {
+        Ok(mut pair) => Ok(Some(pair.follows_all(&SLIDE))),
+        Err(OpenFault::NoMemory) => Ok(None),
+        Err(fault) => Err(Fail::from(fault)),
+    }
+}
+
 /// *slide*: the other frames of a window stay when it slides.
 const SLIDE_OF_THREE: [Step; 8] = [
     Step::Take(Path::A, UPPER, FIRST),
@@ -277,20 +296,65 @@ const WITHOUT_MEMORY: [Step; 17] = [
     Step::Refusals(1),
 ];
 
-/// The first of those steps that isn't followed, and whether one asked for memory.
-fn followed_without_memory(refusing: &Refusing<Global>) -> Result<(Option<u64>, bool), Fail> {
+/// *both-paths-and-a-repeat*.
+const BOTH_PATHS: [Step; 4] = [
+    Step::Take(Path::A, UPPER, FIRST),
+    Step::Take(Path::B, UPPER, FIRST),
+    Step::Take(Path::A, UPPER, FIRST),
+    Step::Has(900, Some(HALF)),
+];
+
+/// *contested*: the first datagram once more changes nothing.
+const CONTESTED: [Step; 5] = [
+    Step::Take(Path::A, UPPER, FIRST),
+    Step::Take(Path::A, ANOTHER, FIRST),
+    Step::Has(900, Some(HALF_CONTESTED)),
+    Step::Take(Path::A, UPPER, FIRST),
+    Step::Has(900, Some(HALF_CONTESTED)),
+];
+
+const HALF_CONTESTED: Counts = Counts {
+    present: 7,
+    missing: 8,
+    contested: 1,
+};
+
+/// *segments-that-disagree*.
+const SEGMENTS: [Step; 2] = [
+    Step::Take(Path::A, DISAGREE_FIRST, FIRST),
+    Step::Has(
+        900,
+        Some(Counts {
+            present: 3,
+            missing: 12,
+            contested: 1,
+        }),
+    ),
+];
+
+/// Whether receivers and frames that are made follow steps, where the next growth is refused, and
+/// whether none is asked for.
+fn follows_without_growth(refusing: &Refusing<Global>, steps: &[Step]) -> Result<bool, Fail> {
+    refusing.refuse(0);
     let mut pair = Pair::open(refusing, &[900])?;
     refusing.refuse(1);
-    Ok((pair.fails_at(&WITHOUT_MEMORY), refusing.was_met()))
+    Ok(pair.follows_all(steps) && !refusing.was_met())
 }
 
 /// With two receivers and frames made, `take`, `merge` and `slide` ask for no memory.
 #[test]
 fn no_growth(rt: HostRuntime) -> Result<(), Fail> {
     let refusing = Refusing::new(rt.alloc(), 0);
-    let (failing, was_met) = followed_without_memory(&refusing)?;
-    none_fails(&rt, failing);
-    met(&rt, !was_met);
+    for steps in [
+        BOTH_PATHS.as_slice(),
+        CONTESTED.as_slice(),
+        SEGMENTS.as_slice(),
+        SLIDE.as_slice(),
+        MERGE.as_slice(),
+        WITHOUT_MEMORY.as_slice(),
+    ] {
+        met(&rt, follows_without_growth(&refusing, steps)?);
+    }
     Ok(())
 }
 

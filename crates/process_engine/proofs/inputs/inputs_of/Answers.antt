@@ -1,7 +1,8 @@
-use Rattle.std.proofs.Common.{◌<◌, length, rules, subst, sym}
+use Rattle.std.proofs.Common.{◌<◌, ap, length, rules, subst, sym, ◌∙◌}
 use Rattle.std.specs.List.{AllByRecursion}
-use Rattle.key_mix.specs.Sending.{HasBase}
-use Rattle.process_engine.proofs.Settling.{filled_bases, held_bases, settled_held, settled_unheld}
+use Rattle.key_mix.specs.Sending.{HasBase, input_formats}
+use Rattle.process_engine.proofs.Settling.{filled_bases, filled_formats, held_bases, held_formats}
+use Rattle.process_engine.proofs.Settling.{settled_held, settled_unheld}
 use Rattle.process_engine.proofs.inputs.inputs_of.Goals as goal
 
 pub returns-in_default-clause-settled : goal.returns-in_default-clause-settled
@@ -27,3 +28,15 @@ returns-clause-bases g c =
     held_bases g.row.A.Denot c.args.fill c.args.held.now _ c.args.frames.now _
     c.in_ok-inputs.inputs.items c.with_held.result.items c.in-Some.is c.index-frames-0.is any
     c.requires.fill c.requires.held c.in_ok-inputs.ensures.filled c.with_held.ensures
+
+pub returns-in_default-clause-formats : goal.returns-in_default-clause-formats
+returns-in_default-clause-formats g c =
+    ap input_formats c.in_ok-inputs.ensures.filled
+    ∙ filled_formats g.row.A.Denot c.args.fill c.args.frames.now
+
+pub returns-clause-formats : goal.returns-clause-formats
+returns-clause-formats g c =
+    let any : 0 < length c.args.frames.now = search rules in
+    held_formats g.row.A.Denot c.args.fill _ c.args.frames.now _ c.in_ok-inputs.inputs.items
+    c.with_held.result.items c.index-frames-0.is any c.in_ok-inputs.ensures.filled
+    c.with_held.ensures

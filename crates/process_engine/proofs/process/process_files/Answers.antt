@@ -1,5 +1,6 @@
 use Rattle.std.proofs.Common.{◌≡◌, rules, subst, sym}
 use Rattle.process_engine.specs.Reading.{SayReceivers}
+use Rattle.process_engine.proofs.Refusals.{if_err_map, of_refusal_map, read_refused}
 use Rattle.process_engine.proofs.Settling.{if_ok_map}
 use Rattle.process_engine.proofs.process.process_files.Goals as goal
 
@@ -18,3 +19,21 @@ returns-clause-sent g c =
       held_is = c.in_ok-held.ensures.says;
       sends = sends;
     }) c.send_frames.ensures.sent
+
+pub returns-clause-refusal : goal.returns-clause-refusal
+returns-clause-refusal g c =
+    let rs = c.in_ok-receivers.receivers.items in
+    let lent : c.deref.result.now ≡ rs = search rules in
+    let to_give = g.S.ByteSource.to_give in
+    if_err_map c.send_frames.result (λ e is. of_refusal_map e (λ r refused.
+    read_refused to_give c.args.states.now c.args.hold.now c.args.wanted r (record {
+      job = c.in-Some.job;
+      job_is = c.in-Some.ensures.is;
+      receivers = c.deref.result.now;
+      receivers_are =
+          subst (SayReceivers to_give c.args.states.now) (sym lent)
+          c.in_ok-receivers.ensures.say;
+      held = c.in_ok-held.held;
+      held_is = c.in_ok-held.ensures.says;
+      refused = refused;
+    })) is) c.send_frames.ensures.refusal

@@ -1,8 +1,10 @@
 use Rattle.std.proofs.Common.{◌≡◌, ap, rules, subst, ◌∙◌}
-use Rattle.key_mix.specs.Sending.{settled_inputs}
-use Rattle.process_engine.specs.Inputs.{FitsLent, IsHeldFor, lent, settled_frames}
+use Rattle.key_mix.specs.Sending.{IsSendable, input_formats, settled_inputs}
+use Rattle.process_engine.specs.Inputs.{FitsLent, IsHeldFor, lent, raster_formats, settled_frames}
 use Rattle.process_engine.specs.Processing.{TakesJob}
-use Rattle.process_engine.proofs.Settling.{fits_lent, if_ok_map, some_lent}
+use Rattle.process_engine.specs.Refused.{IsSendRefusal}
+use Rattle.process_engine.proofs.Refusals.{if_err_map, if_ok_both, of_refusal_map, sent_refusal}
+use Rattle.process_engine.proofs.Settling.{fits_lent, some_lent}
 use Rattle.process_engine.proofs.process.send_frames.Goals as goal
 
 pub returns-clause-sent : goal.returns-clause-sent
@@ -19,15 +21,52 @@ returns-clause-sent g c =
     let settled : settled_inputs c.deref-4.result.now ≡ settled_frames held fill (lent fs) =
     ap settled_inputs inputs ∙ c.in_ok-inputs.ensures.settled
     ∙ ap (λ l. settled_frames held fill (lent l)) third in
-    if_ok_map c.send.result (λ n takes. record {
+    let formats : input_formats c.deref-4.result.now ≡ raster_formats (lent fs) =
+    ap input_formats inputs ∙ c.in_ok-inputs.ensures.formats
+    ∙ ap (λ l. raster_formats (lent l)) third in
+    if_ok_both c.send.result (λ n takes sendable. record {
       frames = lent fs;
       are = c.in_ok-frames.ensures.are ∙ some_lent fs;
       fill = fill;
       fill_is = record {
         is = c.in_ok-fill.ensures.is;
+        values = c.in_ok-fill.ensures.values;
         fits = fits_lent fill fs (subst (λ l. FitsLent fill l) first c.in_ok-fill.ensures.fits);
       };
       held_is = subst (λ l. IsHeldFor held (lent l)) second c.in_ok-check_held.ensures.is;
+      sendable = subst (λ l. IsSendable c.args.job.now l c.args.wanted.max_octets) formats sendable;
       takes = subst (λ ps. TakesJob c.args.job.now ps c.args.wanted.max_octets c.args.wanted.stamp
           old new n) settled takes;
-    }) c.send.ensures.sent
+    }) c.send.ensures.sent c.send.ensures.sendable
+
+pub returns-clause-refusal : goal.returns-clause-refusal
+returns-clause-refusal g c =
+    let fs = c.in_ok-frames.frames.items in
+    let fill = c.in_ok-fill.fill in
+    let first : c.deref.result.now ≡ fs = search rules in
+    let second : c.deref-2.result.now ≡ fs = search rules in
+    let third : c.deref-3.result.now ≡ fs = search rules in
+    let inputs : c.deref-4.result.now ≡ c.in_ok-inputs.inputs.items = search rules in
+    let formats : input_formats c.deref-4.result.now ≡ raster_formats (lent fs) =
+    ap input_formats inputs ∙ c.in_ok-inputs.ensures.formats
+    ∙ ap (λ l. raster_formats (lent l)) third in
+    if_err_map c.send.result (λ e is. of_refusal_map e (λ r refused.
+    sent_refusal c.args.job.now c.args.wanted c.args.receivers.now c.args.held.now r (record {
+      frames = lent fs;
+      are = c.in_ok-frames.ensures.are ∙ some_lent fs;
+      holds = record {
+        fill = fill;
+        fill_is = record {
+          is = c.in_ok-fill.ensures.is;
+          values = c.in_ok-fill.ensures.values;
+          fits =
+              fits_lent fill fs (subst (λ l. FitsLent fill l) first c.in_ok-fill.ensures.fits);
+        };
+        held_is =
+            subst (λ l. IsHeldFor c.args.held.now (lent l)) second
+            c.in_ok-check_held.ensures.is;
+        holds =
+            subst (λ l. IsSendRefusal c.args.job.now c.args.wanted.max_octets r l) formats
+            refused;
+      };
+    })) is) c.send.ensures.refusal

@@ -1,4 +1,7 @@
+use Rattle.std.proofs.Common.{sym, ◌∙◌}
 use Rattle.file_engines.proofs.SetSums.{set_counted}
+use Rattle.process_engine.proofs.FileRefusals.{same_at}
+use Rattle.process_engine.proofs.Refusals.{if_err_map, of_refusal_map}
 use Rattle.process_engine.proofs.reading.read_at.Goals as goal
 
 pub returns-clause-failures : goal.returns-clause-failures
@@ -6,3 +9,13 @@ returns-clause-failures g c =
     set_counted g.S.ByteSource.failures c.args.states.now c.args.place
     c.index-states-place.result c.read_receiver.new.source c.read_receiver.result c.requires
     c.read_receiver.ensures.failures
+
+pub returns-clause-refused : goal.returns-clause-refused
+returns-clause-refused g c =
+    let source = c.index-states-place.result in
+    if_err_map c.read_receiver.result (λ e is. of_refusal_map e (λ r refused. record {
+      source = source;
+      at = λ s. same_at c.args.states.now c.args.place s source c.requires
+          ∙ sym c.index-states-place.is;
+      refused = refused;
+    }) is) c.read_receiver.ensures.refused

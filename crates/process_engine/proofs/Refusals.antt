@@ -1,0 +1,264 @@
+-- Which refusal ends a run.
+use Rattle.std.proofs.Common.{◌≡◌, ℕ, ◌<◌, zero, suc, ◌⊎◌, inl, inr, List, [], ◌∷◌, length}
+use Rattle.std.proofs.Common.{get_or, Option, None, Some, Result, Ok, Err, IfErr, IfOk}
+use Rattle.std.proofs.Common.{refl, ap, arith, subst, sym, ◌∙◌, ◌↔◌, IsSome, OnOk}
+use Rattle.std.specs.List.{AllByRecursion}
+use Rattle.std.specs.Borrow.{Bor}
+use Rattle.std.specs.Io.KnownBytes.{Appends}
+use Rattle.std.specs.Str.Parse.{digits_value}
+use Rattle.file_engines.specs.Fault.{IfRefused, TellsFault}
+use Rattle.file_engines.specs.RefusalText.{refusal_text}
+use Rattle.file_engines.specs.Refusing.{OfRefusal, TellsRefusal}
+use Rattle.file_engines.specs.declared.fault.Fault.{Fault}
+use Rattle.file_engines.specs.declared.fault.Fault.TheVariants.{Refused, Device, Memory}
+use Rattle.file_engines.specs.declared.fault.Refusal.{Refusal}
+use Rattle.file_engines.specs.declared.fault.Refusal.TheVariants as why
+use Rattle.key_mix.specs.Sending.{IsSendFault}
+use Rattle.key_mix.specs.declared.Job.{Job}
+use Rattle.key_mix.specs.declared.faults.JobFault.TheVariants as job_fault
+use Rattle.key_mix.specs.declared.faults.SendJobFault.{SendJobFault}
+use Rattle.key_mix.specs.declared.faults.SendJobFault.TheVariants as sending
+use Rattle.path_merge.specs.Frames.{State}
+use Rattle.st_format.specs.declared.format.Format.{Format}
+use Rattle.st_format.specs.Member.{IsMember}
+use Rattle.st_format.specs.Picture.{FitsDepth, Values}
+use Rattle.st_format.specs.Raster.{Raster}
+use Rattle.tool_text.specs.Fields.{parted}
+use Rattle.tool_text.specs.Status.{status_number}
+use Rattle.tool_text.specs.Telling.{IsRefusalLine, TellsLine, memory_line}
+use Rattle.tool_text.specs.declared.status.Status.{Status}
+use Rattle.tool_text.specs.declared.status.Status.TheVariants as ended
+use Rattle.process_engine.specs.declared.process.Processing.{Processing}
+use Rattle.process_engine.specs.FillText.{IsFillText}
+use Rattle.process_engine.specs.Inputs.{AreValues, FitsFrames, IsFill, lent}
+use Rattle.process_engine.specs.Processing.{of_send_job}
+use Rattle.process_engine.specs.Refused.{AreReceivers, HasNoFill, IsHeldRefusal, IsJobRefusal}
+use Rattle.process_engine.specs.Refused.{IsReceiversRefusal, IsRefusalOfRead, IsRunRefusal}
+use Rattle.process_engine.specs.Refused.{IsSendRefusal, OfFormats, OfFrames, SaysJob}
+
+-- ---- what holds of a refusal
+
+pub of_refusal_map : {P Q : Refusal → Type 0} (f : Fault) → ((r : Refusal) → P r → Q r)
+    → OfRefusal f P → OfRefusal f Q
+of_refusal_map (Refused r) then is = then r is
+of_refusal_map Device then is = tt
+of_refusal_map Memory then is = tt
+
+pub none_refused : (P : Refusal → Type 0) (f : Fault) → IfRefused f ⊥ → OfRefusal f P
+none_refused P (Refused r) none = absurd none
+none_refused P Device none = tt
+none_refused P Memory none = tt
+
+pub if_err_map : {X E : Type 0} {P Q : E → Type 0} (r : Result X E) → ((e : E) → P e → Q e)
+    → IfErr r P → IfErr r Q
+if_err_map (Ok x) f p = p
+if_err_map (Err e) f p = f e p
+
+pub if_ok_both : {X E : Type 0} {P R : X → Type 0} {Q : Type 0} (r : Result X E)
+    → ((x : X) → P x → Q → R x) → IfOk r P → OnOk r Q → IfOk r R
+if_ok_both (Ok x) f p q = f x p q
+if_ok_both (Err e) f p q = p
+
+pub member_at : {X : Type 0} (xs : List X) (k : ℕ) (d : X) → k < length xs
+    → IsMember (get_or xs k d) xs
+member_at [] k d some = absurd (omega (arith, some))
+member_at (x ∷ xs) zero d some = inl refl
+member_at (x ∷ xs) (suc k) d some = inr (member_at xs k d (omega (arith, some)))
+
+-- a window of which no frame was found hasn't the timestamp
+pub window_lacks : {X : Type 0} (found : Option X) (Has : Type 0)
+    → ((x : X) → found ≡ Some x → ⊥) → (IsSome found ↔ Has) → Has → ⊥
+window_lacks None Has none within has = let found : IsSome None = within.1 has in cc
+window_lacks (Some x) Has none within has = absurd (none x refl)
+
+-- ---- the fill
+
+value_below : (fill : List ℕ) (k : ℕ) → AllByRecursion (λ v. v < 65536) fill
+    → get_or fill k 0 < 65536
+value_below [] k fit = omega arith
+value_below (x ∷ xs) zero fit = fit.0
+value_below (x ∷ xs) (suc k) fit = value_below xs k fit.1
+
+-- a text that says no values says no fill
+pub unread_fill : (text : List ℕ) (qs : List Raster)
+    → ((a b c : ℕ) → a < 65536 → b < 65536 → c < 65536 → IsFillText text a b c → ⊥)
+    → HasNoFill text qs
+unread_fill text qs none = λ fill is.
+    none (get_or fill 0 0) (get_or fill 1 0) (get_or fill 2 0)
+    (value_below fill 0 is.values.fit) (value_below fill 1 is.values.fit)
+    (value_below fill 2 is.values.fit) is.is
+
+parts_of : Option (List ℕ × List ℕ) → List ℕ × List ℕ
+parts_of None = ([], [])
+parts_of (Some p) = p
+
+same_front : (o : Option (List ℕ × List ℕ)) (a b c d : List ℕ) → o ≡ Some (a, b)
+    → o ≡ Some (c, d) → a ≡ c
+unfolding parts_of
+same_front o a b c d one two =
+    ap (λ (p : Option (List ℕ × List ℕ)). (parts_of p).0) (sym one ∙ two)
+
+same_back : (o : Option (List ℕ × List ℕ)) (a b c d : List ℕ) → o ≡ Some (a, b)
+    → o ≡ Some (c, d) → b ≡ d
+unfolding parts_of
+same_back o a b c d one two =
+    ap (λ (p : Option (List ℕ × List ℕ)). (parts_of p).1) (sym one ∙ two)
+
+of_three : (xs : List ℕ) → length xs ≡ 3
+    → xs ≡ get_or xs 0 0 ∷ get_or xs 1 0 ∷ get_or xs 2 0 ∷ []
+of_three [] three = absurd (omega (arith, three))
+of_three (x ∷ []) three = absurd (omega (arith, three))
+of_three (x ∷ y ∷ []) three = absurd (omega (arith, three))
+of_three (x ∷ y ∷ z ∷ []) three = refl
+of_three (x ∷ y ∷ z ∷ w ∷ ws) three = absurd (omega (arith, three))
+
+-- a text says one fill
+one_fill : (text f g : List ℕ) → length f ≡ 3 → length g ≡ 3
+    → IsFillText text (get_or f 0 0) (get_or f 1 0) (get_or f 2 0)
+    → IsFillText text (get_or g 0 0) (get_or g 1 0) (get_or g 2 0) → f ≡ g
+one_fill text f g f_three g_three p q =
+    let firsts : p.first ≡ q.first =
+    same_front (parted 44 text) p.first p.rest q.first q.rest p.parts q.parts in
+    let rests : p.rest ≡ q.rest =
+    same_back (parted 44 text) p.first p.rest q.first q.rest p.parts q.parts in
+    let also : parted 44 p.rest ≡ Some (q.second, q.third) =
+    ap (parted 44) rests ∙ q.parts_rest in
+    let seconds : p.second ≡ q.second =
+    same_front (parted 44 p.rest) p.second p.third q.second q.third p.parts_rest also in
+    let thirds : p.third ≡ q.third =
+    same_back (parted 44 p.rest) p.second p.third q.second q.third p.parts_rest also in
+    let a : get_or f 0 0 ≡ get_or g 0 0 =
+    p.first_is.value ∙ ap (digits_value 10) firsts ∙ sym q.first_is.value in
+    let b : get_or f 1 0 ≡ get_or g 1 0 =
+    p.second_is.value ∙ ap (digits_value 10) seconds ∙ sym q.second_is.value in
+    let c : get_or f 2 0 ≡ get_or g 2 0 =
+    p.third_is.value ∙ ap (digits_value 10) thirds ∙ sym q.third_is.value in
+    of_three f f_three
+    ∙ ap (λ (x : ℕ). x ∷ get_or f 1 0 ∷ get_or f 2 0 ∷ []) a
+    ∙ ap (λ (x : ℕ). get_or g 0 0 ∷ x ∷ get_or f 2 0 ∷ []) b
+    ∙ ap (λ (x : ℕ). get_or g 0 0 ∷ get_or g 1 0 ∷ x ∷ []) c
+    ∙ sym (of_three g g_three)
+
+fits_at : (fill : List ℕ) (fs : List (Bor Raster)) (k : ℕ) (d : Bor Raster) → k < length fs
+    → FitsFrames fill (lent fs)
+    → AllByRecursion (FitsDepth (get_or fs k d).now.format) fill
+fits_at fill [] k d some fits = absurd (omega (arith, some))
+fits_at fill (f ∷ fs) zero d some fits = fits.0
+fits_at fill (f ∷ fs) (suc k) d some fits = fits_at fill fs k d (omega (arith, some)) fits.1
+
+-- where the fill that a text says doesn't fit one of the frames, no fill does
+pub unfit_fill : (text fill : List ℕ) (fs : List (Bor Raster)) (k : ℕ) (d : Bor Raster)
+    → k < length fs → IsFillText text (get_or fill 0 0) (get_or fill 1 0) (get_or fill 2 0)
+    → AreValues fill
+    → (AllByRecursion (FitsDepth (get_or fs k d).now.format) fill → ⊥)
+    → HasNoFill text (lent fs)
+unfit_fill text fill fs k d some is values unfit = λ other other_is.
+    unfit (subst (λ (l : List ℕ). AllByRecursion (FitsDepth (get_or fs k d).now.format) l)
+    (one_fill text other fill other_is.values.three values.three other_is.is is)
+    (fits_at other fs k d some other_is.fits))
+
+-- ---- the job
+
+either : {X Y : Type 0} → (X → ⊥) → X ⊎ Y → Y
+either none (inl x) = absurd (none x)
+either none (inr y) = y
+
+pub send_refused : (e : SendJobFault) (j : Job) (fs : List Format) (size : ℕ)
+    → IsSendFault e j fs size → OfRefusal (of_send_job e) (λ r. IsSendRefusal j size r fs)
+send_refused (sending.Job job_fault.NoMemory) j fs size is = tt
+send_refused (sending.Job job_fault.FormatsDiffer) j fs size is =
+    either (λ no. let e : job_fault.FormatsDiffer ≡ job_fault.NoMemory = no.0 in cc) is
+send_refused (sending.Job job_fault.KeyNotYcc) j fs size is =
+    either (λ no. let e : job_fault.KeyNotYcc ≡ job_fault.NoMemory = no.0 in cc) is
+send_refused (sending.Job job_fault.BadWipe) j fs size is =
+    either (λ no. let e : job_fault.BadWipe ≡ job_fault.NoMemory = no.0 in cc) is
+send_refused (sending.Job job_fault.NotRgb) j fs size is =
+    either (λ no. let e : job_fault.NotRgb ≡ job_fault.NoMemory = no.0 in cc) is
+send_refused (sending.Job job_fault.NotYcc444) j fs size is =
+    either (λ no. let e : job_fault.NotYcc444 ≡ job_fault.NoMemory = no.0 in cc) is
+send_refused (sending.Job job_fault.WrongInputCount) j fs size is =
+    either (λ no. let e : job_fault.WrongInputCount ≡ job_fault.NoMemory = no.0 in cc) is
+send_refused (sending.Job job_fault.BadGain) j fs size is =
+    either (λ no. let e : job_fault.BadGain ≡ job_fault.NoMemory = no.0 in cc) is
+send_refused sending.BadPacketSize j fs size is = is
+send_refused (sending.Sink sent) j fs size is = tt
+
+-- a refusal of the job or the size, as one of the job of receivers
+pub sent_refusal : (j : Job) (w : Processing) (rs : List State) (held : Option Values)
+    (r : Refusal) → OfFrames w rs (OfFormats w held (IsSendRefusal j w.max_octets r))
+    → IsJobRefusal j w rs held r
+sent_refusal j w rs held why.ProcessFrame has = absurd has.holds.holds
+sent_refusal j w rs held why.ProcessFill has = absurd has.holds.holds
+sent_refusal j w rs held why.ProcessHold has = absurd has.holds.holds
+sent_refusal j w rs held r has = has
+
+-- ---- the run
+
+pub receivers_refused : {S : Type 0} (to_give : S → Option (List ℕ)) (states : List S)
+    (hold : Option S) (w : Processing) (r : Refusal) → SaysJob w
+    → IsReceiversRefusal to_give states r → IsRunRefusal to_give states hold w r
+receivers_refused to_give states hold w (why.State f) says is = (says, is)
+receivers_refused to_give states hold w r says is = absurd is.refused.refused
+
+pub held_refused : {S : Type 0} (to_give : S → Option (List ℕ)) (states : List S)
+    (hold : Option S) (w : Processing) (r : Refusal) → SaysJob w → AreReceivers to_give states
+    → IsHeldRefusal to_give hold r → IsRunRefusal to_give states hold w r
+held_refused to_give states hold w (why.Picture f) says are is = (says, are, is)
+held_refused to_give states None w r says are is = absurd is
+held_refused to_give states (Some s) w r says are is = absurd is
+
+pub read_refused : {S : Type 0} (to_give : S → Option (List ℕ)) (states : List S)
+    (hold : Option S) (w : Processing) (r : Refusal)
+    → IsRefusalOfRead to_give states hold w r → IsRunRefusal to_give states hold w r
+read_refused to_give states hold w why.ProcessJob is = absurd is.refused.holds.holds
+read_refused to_give states hold w (why.State f) is = absurd is.refused.holds.holds
+read_refused to_give states hold w (why.Picture f) is = absurd is.refused.holds.holds
+read_refused to_give states hold w r is = is
+
+-- ---- what is told
+
+line_told : (status : Status) (line : List ℕ) (result : Status) (old new : ℕ)
+    (held held' : Option (List ℕ)) → TellsLine status line result old new held held'
+    → status_number result ≡ 1 → (result ≡ status) × Appends held held' line
+line_told status line result old new held held' (inl is) one = (is.0, is.2)
+line_told status line result old new held held' (inr is) one =
+    let three : status_number result ≡ 3 = ap status_number is.0 in
+    absurd (omega (arith, one, three))
+
+told_of_line : (Is : Refusal → Type 0) (r : Refusal) → Is r → (status : Status) (line : List ℕ)
+    (held held' : Option (List ℕ)) → IsRefusalLine (refusal_text r) status line
+    → status_number status ≡ 1 → Appends held held' line → TellsRefusal Is held held'
+told_of_line Is r is status line held held' (inl told) one taken = record {
+  refusal = r;
+  is = is;
+  told = subst (λ (l : List ℕ). Appends held held' l) told.1 taken;
+}
+told_of_line Is r is status line held held' (inr told) one taken =
+    let four : status_number status ≡ 4 = ap status_number told.0 in
+    absurd (omega (arith, one, four))
+
+-- where a run ends with status 1, a refusal was told
+pub refusal_told : (Is : Refusal → Type 0) (f : Fault) (result : Status) (old new : ℕ)
+    (held held' : Option (List ℕ)) → TellsFault f result old new held held'
+    → OfRefusal f Is → status_number result ≡ 1 → TellsRefusal Is held held'
+refusal_told Is (Refused r) result old new held held' tells is one =
+    let told = line_told tells.0 tells.1 result old new held held' tells.3 one in
+    told_of_line Is r is tells.0 tells.1 held held' tells.2
+    (sym (ap status_number told.0) ∙ one) told.1
+refusal_told Is Device result old new held held' tells is one =
+    let told = line_told tells.0 tells.1 result old new held held' tells.3 one in
+    let three : status_number result ≡ 3 = ap status_number (told.0 ∙ tells.2.0) in
+    absurd (omega (arith, one, three))
+refusal_told Is Memory result old new held held' tells is one =
+    let told = line_told tells.0 tells.1 result old new held held' tells.3 one in
+    let four : status_number result ≡ 4 = ap status_number (told.0 ∙ tells.2.0) in
+    absurd (omega (arith, one, four))
+
+-- where memory was wanted the status isn't 1
+pub memory_told : (Is : Refusal → Type 0) (result : Status) (old new : ℕ)
+    (held held' : Option (List ℕ)) → TellsLine ended.Memory memory_line result old new held held'
+    → status_number result ≡ 1 → TellsRefusal Is held held'
+memory_told Is result old new held held' tells one =
+    let told = line_told ended.Memory memory_line result old new held held' tells one in
+    let four : status_number result ≡ 4 = ap status_number told.0 in
+    absurd (omega (arith, one, four))

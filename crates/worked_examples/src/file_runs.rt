@@ -1,0 +1,198 @@
+//! Runs of the engines of files over devices in memory.
+ghost use Rattle.std.specs.Prelude.{◌≡◌, ◌≤◌, [], IfOk};
+
+use crate::sending::sink;
+use st_format::memory::{MemoryDatagrams, MemorySink, MemorySource};
+use st2110_tool::{
+    Processing, Sending, Wanted, run_merge, run_migrate, run_process, run_receive, run_send,
+};
+use std::alloc::{AllocError, Allocator, Global};
+
+/// How a run ended, and what it wrote.
+#[derive(Drop)]
+pub struct FileRun {
+    pub status: u8,
+    pub written: MemorySink,
+    pub printed: MemorySink,
+    pub told: MemorySink,
+}
+
+/// How a run of `process` ended, and what it sent.
+#[derive(Drop)]
+pub struct ProcessRun {
+    pub status: u8,
+    pub sent: MemoryDatagrams,
+    pub printed: MemorySink,
+    pub told: MemorySink,
+}
+
+/// A source of a file.
+pub fn source(global: Global, file: &[u8]) -> Result<MemorySource, AllocError> {
+    Ok(MemorySource::new(Vec::from_slice(global, file)?, 7, 0))
+}
+
+/// A sink that holds nothing yet.
+pub fn file_sink(global: Global) -> Result<MemorySink, AllocError>
+    ensures { IfOk result (λ s. s.held ≡ []) }
+{
+    Ok(MemorySink::new(Vec::with_capacity(global, 4096)?, 7, 0))
+}
+
+/// A run of `migrate` of a capture with a text.
+pub fn migrate_on<A: Allocator + Copy>(
+    global: Global,
+    alloc: A,
+    text: &[u8],
+    capture: &[u8],
+) -> Result<FileRun, AllocError> {
+    let (mut text, mut capture) = (source(global, text)?, source(global, capture)?);
+    let (mut written, mut printed, mut told) = (
+        file_sink(global)?,
+        file_sink(global)?,
+        file_sink(global)?,
+    );
+    let status = run_migrate(
+        alloc,
+        &mut text,
+        &mut capture,
+        &mut written,
+        &mut printed,
+        &mut told,
+    );
+    Ok(FileRun {
+        status,
+        written,
+        printed,
+        told,
+    })
+}
+
+/// A run of `merge` of a receiver's file with itself.
+pub fn merge_on<A: Allocator + Copy>(
+    global: Global,
+    alloc: A,
+    file: &[u8],
+) -> Result<FileRun, AllocError> {
+    let (mut left, mut right) = (source(global, file)?, source(global, file)?);
+    let (mut written, mut printed, mut told) = (
+        file_sink(global)?,
+        file_sink(global)?,
+        file_sink(global)?,
+    );
+    let status = run_merge(
+        alloc,
+        &mut left,
+        &mut right,
+        &mut written,
+        &mut printed,
+        &mut told,
+    );
+    Ok(FileRun {
+        status,
+        written,
+        printed,
+        told,
+    })
+}
+
+/// A run of `receive` of one capture, of any source. The list of captures stands in memory of
+/// `alloc`.
+pub fn receive_on<A: Allocator + Copy>(
+    global: Global,
+    alloc: A,
+    text: &[u8],
+    window: &[u8],
+    capture: &[u8],
+) -> Result<FileRun, AllocError> {
+    let wanted = Wanted {
+        window,
+        ssrc: b"any",
+        tells_refusals: false,
+    };
+    let mut captures = Vec::with_capacity(alloc, 1)?;
+    captures.push(source(global, capture)?)?;
+    let (mut written, mut printed, mut told) = (
+        file_sink(global)?,
+        file_sink(global)?,
+        file_sink(global)?,
+    );
+    let status = run_receive(
+        alloc,
+        wanted,
+        &mut Some(source(global, text)?),
+        &mut captures,
+        &mut written,
+        &mut printed,
+        &mut told,
+    );
+    Ok(FileRun {
+        status,
+        written,
+        printed,
+        told,
+    })
+}
+
+/// A run of `send` of one picture, without an SDP text.
+pub fn send_on<A: Allocator + Copy>(
+    global: Global,
+    alloc: A,
+    sending: Sending,
+    picture: &[u8],
+) -> Result<FileRun, AllocError>
+    requires { sending.payload_type ≤ 127 }
+{
+    let picture = source(global, picture)?;
+    let (written, mut printed, mut told) = (
+        file_sink(global)?,
+        file_sink(global)?,
+        file_sink(global)?,
+    );
+    let (status, written) = run_send(
+        alloc,
+        sending,
+        &mut None,
+        &mut [picture],
+        written,
+        &mut printed,
+        &mut told,
+    );
+    Ok(FileRun {
+        status,
+        written,
+        printed,
+        told,
+    })
+}
+
+/// A run of `process` of one receiver's file, without a picture that is held.
+pub fn process_on<A: Allocator + Copy>(
+    global: Global,
+    alloc: A,
+    wanted: Processing<'_>,
+    file: &[u8],
+) -> Result<ProcessRun, AllocError>
+    requires { wanted.stamp.payload_type ≤ 127 }
+{
+    let state = source(global, file)?;
+    let (mut sent, mut printed, mut told) = (
+        sink(global, 0)?,
+        file_sink(global)?,
+        file_sink(global)?,
+    );
+    let status = run_process(
+        alloc,
+        wanted,
+        &mut [state],
+        &mut None,
+        &mut sent,
+        &mut printed,
+        &mut told,
+    );
+    Ok(ProcessRun {
+        status,
+        sent,
+        printed,
+        told,
+    })
+}
