@@ -14,6 +14,10 @@ use Rattle.std.proofs.Common.{
   List,
   [],
   ◌∷◌,
+  ◌++◌,
+  ◌-◌,
+  take,
+  drop,
   if◌then◌else◌,
   inl,
   inr,
@@ -27,6 +31,8 @@ use Rattle.std.proofs.Common.{
   ◌∙◌,
 }
 use Rattle.std.specs.List.{AllByRecursion}
+use Rattle.std.proofs.lemmas.Bool.{cases_lt}
+use Rattle.std.proofs.lemmas.List.{get_or_append_left, get_or-append_right, get_or-drop, get_or-take}
 use Rattle.st_format.specs.declared.format.Format.{Format}
 use Rattle.st_format.specs.declared.sampling.Depth.{Depth}
 use Rattle.st_format.specs.declared.sampling.Depth.TheVariants.{D8, D10, D12, D16}
@@ -90,6 +96,48 @@ thinned_in r h c (suc (suc zero)) is =
     let number : r * (h * 4) + (c / 2 * 4 + 2) ≡ 4 * q + 2 = omega arith in
     ap thinned_number number ∙ thinned_pair q 2 (omega arith) ∙ omega (arith, even)
 thinned_in r h c (suc (suc (suc k))) is = absurd (omega (arith, is.0))
+
+-- ---- a block of pairs
+
+sum_on : (d q e : ℕ) → (d + q) * 6 + e ≡ 6 * d + (q * 6 + e)
+sum_on d q e = omega arith
+
+kept_most : (r : ℕ) → r < 4 → (if r == 3 then 4 else r) < 5
+kept_most zero h = omega arith
+kept_most (suc zero) h = omega arith
+kept_most (suc (suc zero)) h = omega arith
+kept_most (suc (suc (suc zero))) h = omega arith
+kept_most (suc (suc (suc (suc r)))) h = absurd (omega arith)
+
+thinned_on : (d i : ℕ) → thinned_number (4 * d + i) ≡ 6 * d + thinned_number i
+thinned_on d i =
+    let a : (4 * d + i) / 4 ≡ d + i / 4 = omega arith in
+    let b : (4 * d + i) % 4 ≡ i % 4 = omega arith in
+    (λ j. a j * 6 + (if b j == 3 then 4 else b j)) ∙ sum_on d (i / 4) _
+
+thinned_below : (s i : ℕ) → i < 4 * s → thinned_number i < 6 * s
+thinned_below s i h =
+    let most = kept_most (i % 4) (omega arith) in
+    omega (arith, most)
+
+-- d pairs are made, and ws is made of the s pairs behind them
+pub thinned_more : (full vs ws : List ℕ) (d s m : ℕ) → m ≡ 6 * s → length vs ≡ 4 * d
+    → length ws ≡ 4 * s
+    → ((k : ℕ) → k < 4 * d → get_or vs k 0 ≡ get_or full (thinned_number k) 0)
+    → ((i : ℕ) → i < length ws
+    → get_or ws i 0 ≡ get_or (take m (drop (6 * d) full)) (thinned_number i) 0)
+    → (k : ℕ) → k < 4 * (d + s) → get_or (vs ++ ws) k 0 ≡ get_or full (thinned_number k) 0
+thinned_more full vs ws d s m size long some made each k h = elim (cases_lt k (4 * d)) [
+  | inl l ↦ get_or_append_left vs ws 0 k (omega arith) ∙ made k l
+  | inr g ↦
+      let i : ℕ = k - 4 * d in
+      let at : 4 * d + i ≡ k = omega arith in
+      let below = thinned_below s i (omega arith) in
+      get_or-append_right vs ws (4 * d) k 0 long g ∙ each i (omega arith)
+      ∙ get_or-take m (drop (6 * d) full) (thinned_number i) 0 (omega (arith, below, size))
+      ∙ get_or-drop (6 * d) full (thinned_number i) 0
+      ∙ ap (λ j. get_or full j 0) (sym (thinned_on d i) ∙ ap thinned_number at)
+]
 
 -- ---- the number of a position
 

@@ -433,8 +433,17 @@ fn thinned_samples<B: Allocator>(alloc: B, full: &[u16]) -> Result<Vec<u16, B>, 
     ensures each { IfOk result (λ v. EachIndex v.items (λ k.
         slice_index v.items k ≡ slice_index full.now (thinned_number k))) }
 {
-    let mut samples = Vec::from_elem(alloc, 0, 4 * (full.len() / 6))?;
-    thin_samples(full, samples.as_mut_slice());
+    let pairs = full.len() / 6;
+    let mut samples = Vec::with_capacity(alloc, 4 * pairs)?;
+    let mut block = [0u16; 1024];
+    let mut done = 0;
+    while done < pairs {
+        let some = (pairs - done).min(256);
+        let thinned = &mut block[..4 * some];
+        thin_samples(&full[6 * done..6 * (done + some)], thinned);
+        samples.extend_from_slice(thinned)?;
+        done += some;
+    }
     Ok(samples)
 }
 
