@@ -32,7 +32,7 @@ use Rattle.frame_assembly.proofs.GroupJoins.{marked_absent}
 
 -- ---- elements of a part, and of a list with a part written over
 
-get_or-part : (a c j : ℕ) (xs : List ℕ) → j < c
+pub get_or-part : (a c j : ℕ) (xs : List ℕ) → j < c
     → get_or (take c (drop a xs)) j 0 ≡ get_or xs (a + j) 0
 get_or-part a c j xs lt = get_or-take c (drop a xs) j 0 lt ∙ get_or-drop a xs j 0
 
@@ -212,6 +212,15 @@ part_agrees s at count a c oa oc marks xs here le long =
     part_long s at count a c oa oc (length marks) xs here le long
     ∙ ap (λ (k : ℕ). s * k) (sym (part_count s at count a c oa oc marks here le))
 
+-- a part is within the whole
+pub within : (s from to many long : ℕ) → long ≡ s * many → from ≤ to → to ≤ many
+    → s * from + s * (to - from) ≤ long
+within s from to many long is order inside =
+    let end : from + (to - from) ≡ to = omega arith in
+    let split : s * to ≡ s * from + s * (to - from) =
+    ap (λ (x : ℕ). s * x) (sym end) ∙ mul-add s from (to - from) in
+    omega (arith, is, split, times_le s to many inside)
+
 -- as many groups by another number
 pub settled_end : (s at many : ℕ) (marks : List ℕ) (b : ℕ → ℕ) (old new : List ℕ) → at ≡ many
     → IsSettledTo s at marks b old new → IsSettledTo s many marks b old new
@@ -283,11 +292,12 @@ one_mark at mark marks is h lt =
 -- ---- a pattern that comes again with each block
 
 pub part_pattern : (s i count : ℕ) (pattern : List ℕ) → count ≤ 64 → (j : ℕ) → j < s * count
-    → get_or pattern j 0 ≡ get_or pattern ((s * (64 * i) + j) % (s * 64)) 0
+    → get_or pattern (s * 0 + j) 0 ≡ get_or pattern ((s * (64 * i) + j) % (s * 64)) 0
 part_pattern s i count pattern le j lt =
     let below : j < s * 64 = omega (arith, times_le s count 64 le) in
+    let front : s * 0 + j ≡ j = omega arith in
     ap (λ (x : ℕ). get_or pattern x 0)
-    (sym (ap (λ (x : ℕ). (x + j) % (s * 64)) (sym (mul_assoc s 64 i))
+    (front ∙ sym (ap (λ (x : ℕ). (x + j) % (s * 64)) (sym (mul_assoc s 64 i))
     ∙ mul-add-mod_self_left (s * 64) i j ∙ mod-eq_of_lt below))
 
 -- the runs of samples in a block of groups

@@ -1,6 +1,6 @@
 //! Settling cells: a value for each sample.
-ghost use Rattle.std.specs.Prelude.{◌≡◌, ◌<◌, ◌≤◌, ◌*◌, ◌%◌, ◌↔◌, ℕ, IfOk, IsTrue, length, map};
-ghost use Rattle.std.specs.Prelude.{slice_index};
+ghost use Rattle.std.specs.Prelude.{◌≡◌, ◌<◌, ◌≤◌, ◌+◌, ◌-◌, ◌*◌, ◌%◌, ◌↔◌, ℕ, List, IfOk, IsTrue};
+ghost use Rattle.std.specs.Prelude.{length, map, slice_index};
 ghost use Rattle.std.specs.List.{range_with_len};
 ghost use Rattle.frame_assembly.specs.Packed.{ArePacked, cells_in, group_count, marked};
 ghost use Rattle.frame_assembly.specs.Settled.{HoldsPicture, IsBaseOf, IsSettledTo, base_number};
@@ -108,18 +108,24 @@ fn settle_over_pattern(of_group: usize, marks: &[u16], pattern: &[u16], samples:
 {
     let blocks = marks.len() / BLOCK;
     for i in 0..blocks {
-        settle_block(
+        settle_part(
             of_group,
-            &marks[BLOCK * i..BLOCK * (i + 1)],
+            BLOCK * i,
+            BLOCK * (i + 1),
+            marks,
             pattern,
-            &mut samples[of_group * (BLOCK * i)..of_group * (BLOCK * (i + 1))],
+            0,
+            samples,
         );
     }
-    settle_block(
+    settle_part(
         of_group,
-        &marks[BLOCK * blocks..],
+        BLOCK * blocks,
+        marks.len(),
+        marks,
         pattern,
-        &mut samples[of_group * (BLOCK * blocks)..],
+        0,
+        samples,
     );
 }
 
@@ -133,18 +139,55 @@ fn settle_over_held(of_group: usize, marks: &[u16], held: &[u16], samples: &mut 
 {
     let blocks = marks.len() / BLOCK;
     for i in 0..blocks {
-        settle_block(
+        settle_part(
             of_group,
-            &marks[BLOCK * i..BLOCK * (i + 1)],
-            &held[of_group * (BLOCK * i)..of_group * (BLOCK * (i + 1))],
-            &mut samples[of_group * (BLOCK * i)..of_group * (BLOCK * (i + 1))],
+            BLOCK * i,
+            BLOCK * (i + 1),
+            marks,
+            held,
+            BLOCK * i,
+            samples,
         );
     }
+    settle_part(
+        of_group,
+        BLOCK * blocks,
+        marks.len(),
+        marks,
+        held,
+        BLOCK * blocks,
+        samples,
+    );
+}
+
+/// Settles the groups numbered `from` to `to`, over the values of the base for as many groups, from
+/// its group `base_from` on. Where those before were settled over values that the base has here,
+/// all up to `to` are.
+fn settle_part(
+    of_group: usize,
+    from: usize,
+    to: usize,
+    marks: &[u16],
+    base: &[u16],
+    base_from: usize,
+    samples: &mut [u16],
+)
+    requires few { of_group ≤ 12 }
+    requires order { from ≤ to }
+    requires inside { to ≤ length marks.now }
+    requires base { of_group * base_from + of_group * (to - from) ≤ length base.now }
+    requires samples { length samples.old ≡ of_group * length marks.now }
+    ensures { (values : ℕ → ℕ) (first : List ℕ)
+        → ((j : ℕ) → j < of_group * (to - from)
+        → slice_index base.now (of_group * base_from + j) ≡ values (of_group * from + j))
+        → IsSettledTo of_group from marks.now values first samples.old
+        → IsSettledTo of_group to marks.now values first samples.new }
+{
     settle_block(
         of_group,
-        &marks[BLOCK * blocks..],
-        &held[of_group * (BLOCK * blocks)..],
-        &mut samples[of_group * (BLOCK * blocks)..],
+        &marks[from..to],
+        &base[of_group * base_from..],
+        &mut samples[of_group * from..of_group * to],
     );
 }
 
