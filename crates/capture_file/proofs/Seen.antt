@@ -105,11 +105,12 @@ sampling_is n s e =
           (cond (eqb n 2) (ok_sampling Rgb) (failed Sampling BadField)) (Ok s) w.1) [
             | inl u ↦ eqb-true n 1 u.0
                 ∙ ap sampling_code (ap (λ (r : Result Sampling FileFault). given r s) u.1)
-            | inr u ↦ elim (chosen (eqb n 2) (ok_sampling Rgb) (failed Sampling BadField) (Ok s) u.1) [
-              | inl v ↦ eqb-true n 2 v.0
-                  ∙ ap sampling_code (ap (λ (r : Result Sampling FileFault). given r s) v.1)
-              | inr v ↦ let bad : failed Sampling BadField ≡ Ok s = v.1 in absurd cc
-            ]
+            | inr u ↦ elim
+                (chosen (eqb n 2) (ok_sampling Rgb) (failed Sampling BadField) (Ok s) u.1) [
+                  | inl v ↦ eqb-true n 2 v.0
+                      ∙ ap sampling_code (ap (λ (r : Result Sampling FileFault). given r s) v.1)
+                  | inr v ↦ let bad : failed Sampling BadField ≡ Ok s = v.1 in absurd cc
+                ]
           ]
     ]
 

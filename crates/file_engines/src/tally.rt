@@ -28,7 +28,7 @@ pub(crate) const REFUSALS: [Refusal; 14] = [
 
 /// How many datagrams were refused, for which reason, and how many had timestamps outside the
 /// window.
-#[derive(Clone, Copy, Debug, PartialEq, Eq)]
+#[derive(Drop)]
 pub(crate) struct Tally {
     /// The count of the refusal of number n stands at n - 1.
     pub refused: [u64; 14],

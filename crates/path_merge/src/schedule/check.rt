@@ -1,5 +1,5 @@
 //! What a schedule needs before its first event.
-ghost use Rattle.std.specs.Prelude.{◌≡◌, ◌≢◌, ◌↔◌, ◌≤◌, ◌<◌, ℕ, All, Err, IsErrOf, IsFalse, IsTrue};
+ghost use Rattle.std.specs.Prelude.{◌≡◌, ◌≢◌, ◌↔◌, ◌<◌, ℕ, All, Err, IsErrOf, IsFalse, IsTrue};
 ghost use Rattle.std.specs.Prelude.{OnErr, OnOk, length};
 ghost use Rattle.st_format.specs.Picture.{IsPicture};
 ghost use Rattle.path_merge.specs.Opening.{AreDifferent, IsWindow, IsWindowSize};

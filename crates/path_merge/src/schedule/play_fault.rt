@@ -62,7 +62,7 @@ impl fmt::Display for PlayFault {
 }
 
 /// Why an event was not followed.
-#[derive(Clone, Copy, Debug, PartialEq, Eq)]
+#[derive(Drop)]
 pub enum Stop {
     /// The memory was refused.
     NoMemory,

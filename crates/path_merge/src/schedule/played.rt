@@ -1,5 +1,4 @@
 //! What came of a schedule.
-ghost use Rattle.std.specs.Prelude.{◌≡◌};
 
 use crate::receiver::Receiver;
 use frame_assembly::Frame;

@@ -1,5 +1,5 @@
 //! The sender of a schedule: one datagram after another.
-ghost use Rattle.std.specs.Prelude.{◌≡◌, ◌<◌, ◌≤◌, ◌*◌, ◌+◌, ◌==◌, ℕ, ◌∷◌, [], All, IfOk, OnErr};
+ghost use Rattle.std.specs.Prelude.{◌≡◌, ◌<◌, ◌≤◌, ◌*◌, ◌+◌, ◌==◌, ◌∷◌, [], All, IfOk, OnErr};
 ghost use Rattle.std.specs.Prelude.{Err, length};
 ghost use Rattle.packet_plan.specs.Sending.{EachHasRoom};
 ghost use Rattle.path_merge.specs.Steps.{after_packet, text_at, to_come};
@@ -11,7 +11,7 @@ use std::alloc::Allocator;
 
 /// Which datagram comes next: its picture, its place in the picture's plan, and the number of the
 /// picture's first packet.
-#[derive(Clone, Copy, Debug, PartialEq, Eq)]
+#[derive(Drop)]
 pub struct Next {
     pub picture: usize,
     pub index: u32,

@@ -1,5 +1,5 @@
 //! What is kept while a schedule is played.
-ghost use Rattle.std.specs.Prelude.{◌≡◌, ◌<◌, ◌≤◌, ◌++◌, ◌∷◌, [], All, Err, List, OnOk, Some};
+ghost use Rattle.std.specs.Prelude.{◌≡◌, ◌<◌, ◌≤◌, [], All, Err, OnOk, Some};
 ghost use Rattle.std.specs.Prelude.{length, slice_get};
 ghost use Rattle.path_merge.specs.Stage.{Follows, HandsOut, IsReady, NeverFits, Sends};
 ghost use Rattle.path_merge.specs.Steps.{to_come};
