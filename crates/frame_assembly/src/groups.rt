@@ -34,20 +34,26 @@ pub fn join_run(
     let size = format.pgroup().octets;
     let blocks = marks.len() / BLOCK;
     for i in 0..blocks {
+        let from = BLOCK * i;
+        let to = BLOCK * (i + 1);
+        let start = size * from;
+        let end = size * to;
         join_block(
             format,
-            &mut marks[BLOCK * i..BLOCK * (i + 1)],
-            &mut octets[size * (BLOCK * i)..size * (BLOCK * (i + 1))],
-            &other_marks[BLOCK * i..BLOCK * (i + 1)],
-            &others[size * (BLOCK * i)..size * (BLOCK * (i + 1))],
+            &mut marks[from..to],
+            &mut octets[start..end],
+            &other_marks[from..to],
+            &others[start..end],
         );
     }
+    let from = BLOCK * blocks;
+    let start = size * from;
     join_block(
         format,
-        &mut marks[BLOCK * blocks..],
-        &mut octets[size * (BLOCK * blocks)..],
-        &other_marks[BLOCK * blocks..],
-        &others[size * (BLOCK * blocks)..],
+        &mut marks[from..],
+        &mut octets[start..],
+        &other_marks[from..],
+        &others[start..],
     );
 }
 
@@ -101,20 +107,26 @@ fn join_chunks(
 {
     let chunks = marks.len() / CHUNK;
     for i in 0..chunks {
+        let from = CHUNK * i;
+        let to = CHUNK * (i + 1);
+        let start = size * from;
+        let end = size * to;
         join_chunk(
             format,
-            &mut marks[CHUNK * i..CHUNK * (i + 1)],
-            &mut octets[size * (CHUNK * i)..size * (CHUNK * (i + 1))],
-            &other_marks[CHUNK * i..CHUNK * (i + 1)],
-            &others[size * (CHUNK * i)..size * (CHUNK * (i + 1))],
+            &mut marks[from..to],
+            &mut octets[start..end],
+            &other_marks[from..to],
+            &others[start..end],
         );
     }
+    let from = CHUNK * chunks;
+    let start = size * from;
     join_chunk(
         format,
-        &mut marks[CHUNK * chunks..],
-        &mut octets[size * (CHUNK * chunks)..],
-        &other_marks[CHUNK * chunks..],
-        &others[size * (CHUNK * chunks)..],
+        &mut marks[from..],
+        &mut octets[start..],
+        &other_marks[from..],
+        &others[start..],
     );
 }
 
@@ -211,12 +223,14 @@ fn join_groups(
 {
     let size = format.pgroup().octets;
     for i in 0..marks.len() {
+        let start = size * i;
+        let end = size * (i + 1);
         marks[i] = join_group(
             format,
             marks[i],
-            &mut octets[size * i..size * (i + 1)],
+            &mut octets[start..end],
             other_marks[i],
-            &others[size * i..size * (i + 1)],
+            &others[start..end],
         );
     }
 }

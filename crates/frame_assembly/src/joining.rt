@@ -109,20 +109,26 @@ fn join_blocks(format: &Format, marks: &mut [u16], octets: &mut [u8], whole: &[u
     let size = format.pgroup().octets;
     let blocks = marks.len() / BLOCK;
     for i in 0..blocks {
+        let from = BLOCK * i;
+        let to = BLOCK * (i + 1);
+        let start = size * from;
+        let end = size * to;
         join_block(
             format,
-            &mut marks[BLOCK * i..BLOCK * (i + 1)],
-            &mut octets[size * (BLOCK * i)..size * (BLOCK * (i + 1))],
+            &mut marks[from..to],
+            &mut octets[start..end],
             whole,
-            &others[size * (BLOCK * i)..size * (BLOCK * (i + 1))],
+            &others[start..end],
         );
     }
-    let rest = marks.len() - BLOCK * blocks;
+    let from = BLOCK * blocks;
+    let start = size * from;
+    let rest = marks.len() - from;
     join_block(
         format,
-        &mut marks[BLOCK * blocks..],
-        &mut octets[size * (BLOCK * blocks)..],
+        &mut marks[from..],
+        &mut octets[start..],
         &whole[..rest],
-        &others[size * (BLOCK * blocks)..],
+        &others[start..],
     );
 }
