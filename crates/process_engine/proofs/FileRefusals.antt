@@ -1,6 +1,6 @@
 -- Refusals of files.
-use Rattle.std.proofs.Common.{◌≡◌, ℕ, ◌<◌, zero, suc, List, [], ◌∷◌, length, get_or, Option, Some}
-use Rattle.std.proofs.Common.{refl, arith, subst}
+use Rattle.std.proofs.Common.{◌≡◌, ℕ, ◌<◌, zero, suc, List, [], ◌∷◌, length, take, get_or}
+use Rattle.std.proofs.Common.{Option, Some, refl, arith, subst, sym, ◌∙◌}
 use Rattle.capture_file.proofs.PictureFaults.{picture_fails}
 use Rattle.capture_file.specs.Fields.{Fails}
 use Rattle.capture_file.specs.PictureFile.{picture_at}
@@ -11,7 +11,11 @@ use Rattle.capture_file.specs.declared.fault.FileFault.TheVariants.{TrailingByte
 use Rattle.capture_file.specs.declared.fault.FileFault.TheVariants.{TooManyRecords}
 use Rattle.file_engines.specs.LowerFaults.{picture_fault}
 use Rattle.file_engines.specs.Refusing.{OfRefusal}
-use Rattle.process_engine.specs.Refused.{IsPictureRefusal}
+use Rattle.file_engines.specs.declared.fault.Fault.{Fault}
+use Rattle.path_merge.specs.Frames.{State}
+use Rattle.process_engine.specs.Reading.{SayReceivers}
+use Rattle.process_engine.specs.Refused.{IsPictureRefusal, IsReceiversRefusal, IsRefusedAt}
+use Rattle.process_engine.proofs.Refusals.{of_refusal_map}
 
 -- what stands at a place, whatever stands for none
 pub same_at : {X : Type 0} (xs : List X) (k : ℕ) (d e : X) → k < length xs
@@ -43,3 +47,22 @@ picture_refused told MixedGroup fails = λ octets is bytes.
     picture_fails MixedGroup octets bytes (fails_in told MixedGroup octets is fails)
 picture_refused told TooManyRecords fails = λ octets is bytes.
     picture_fails TooManyRecords octets bytes (fails_in told TooManyRecords octets is fails)
+
+-- the refusal of a file whose place no earlier reading changed, where those before it were read
+pub first_refused : {S : Type 0} (to_give : S → Option (List ℕ)) (states left : List S) (place : ℕ)
+    (receivers : List State) (f : Fault) → place < length states
+    → SayReceivers to_give (take place states) receivers
+    → ((s : S) → get_or left place s ≡ get_or states place s)
+    → OfRefusal f (IsRefusedAt to_give left place) → OfRefusal f (IsReceiversRefusal to_give states)
+first_refused to_give states left place receivers f within say same is =
+    of_refusal_map f (λ r refused. record {
+      place = place;
+      within = within;
+      receivers = receivers;
+      receivers_are = say;
+      refused = record {
+        source = refused.source;
+        at = λ s. sym (same s) ∙ refused.at s;
+        refused = refused.refused;
+      };
+    }) is

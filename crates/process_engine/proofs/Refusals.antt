@@ -2,6 +2,7 @@
 use Rattle.std.proofs.Common.{◌≡◌, ℕ, ◌<◌, zero, suc, ◌⊎◌, inl, inr, List, [], ◌∷◌, length}
 use Rattle.std.proofs.Common.{get_or, Option, None, Some, Result, Ok, Err, IfErr, IfOk}
 use Rattle.std.proofs.Common.{refl, ap, arith, subst, sym, ◌∙◌, ◌↔◌, IsSome, OnOk}
+use Rattle.std.proofs.lemmas.Bool.{false≢true}
 use Rattle.std.specs.List.{AllByRecursion}
 use Rattle.std.specs.Borrow.{Bor}
 use Rattle.std.specs.Io.KnownBytes.{Appends}
@@ -30,7 +31,8 @@ use Rattle.tool_text.specs.declared.status.Status.{Status}
 use Rattle.tool_text.specs.declared.status.Status.TheVariants as ended
 use Rattle.process_engine.specs.declared.process.Processing.{Processing}
 use Rattle.process_engine.specs.FillText.{IsFillText}
-use Rattle.process_engine.specs.Inputs.{AreValues, FitsFrames, IsFill, lent}
+use Rattle.process_engine.specs.Inputs.{AreFramesAt, AreValues, FitsFrames, IsFill, IsHeldFor}
+use Rattle.process_engine.specs.Inputs.{lent}
 use Rattle.process_engine.specs.Processing.{of_send_job}
 use Rattle.process_engine.specs.Refused.{AreReceivers, HasNoFill, IsHeldRefusal, IsJobRefusal}
 use Rattle.process_engine.specs.Refused.{IsReceiversRefusal, IsRefusalOfRead, IsRunRefusal}
@@ -68,7 +70,7 @@ member_at (x ∷ xs) (suc k) d some = inr (member_at xs k d (omega (arith, some)
 -- a window of which no frame was found hasn't the timestamp
 pub window_lacks : {X : Type 0} (found : Option X) (Has : Type 0)
     → ((x : X) → found ≡ Some x → ⊥) → (IsSome found ↔ Has) → Has → ⊥
-window_lacks None Has none within has = let found : IsSome None = within.1 has in cc
+window_lacks None Has none within has = absurd (false≢true (within.1 has))
 window_lacks (Some x) Has none within has = absurd (none x refl)
 
 -- ---- the fill
@@ -182,6 +184,27 @@ send_refused (sending.Job job_fault.BadGain) j fs size is =
     either (λ no. let e : job_fault.BadGain ≡ job_fault.NoMemory = no.0 in cc) is
 send_refused sending.BadPacketSize j fs size is = is
 send_refused (sending.Sink sent) j fs size is = tt
+
+-- where no fill fits the frames, that is the refusal
+pub fill_refused : (f : Fault) (j : Job) (w : Processing) (rs : List State) (held : Option Values)
+    (qs : List Raster) → AreFramesAt w.timestamp rs qs
+    → (f ≡ Refused why.ProcessFill) × HasNoFill w.fill.now qs
+    → OfRefusal f (IsJobRefusal j w rs held)
+fill_refused f j w rs held qs are is =
+    subst (λ (g : Fault). OfRefusal g (IsJobRefusal j w rs held)) (sym is.0)
+    (record { frames = qs; are = are; holds = is.1 })
+
+-- where what is held has another format, that is the refusal
+pub hold_refused : (f : Fault) (j : Job) (w : Processing) (rs : List State) (held : Option Values)
+    (qs : List Raster) (fill : List ℕ) → AreFramesAt w.timestamp rs qs → IsFill w.fill.now fill qs
+    → (f ≡ Refused why.ProcessHold) × (IsHeldFor held qs → ⊥)
+    → OfRefusal f (IsJobRefusal j w rs held)
+hold_refused f j w rs held qs fill are fill_is is =
+    subst (λ (g : Fault). OfRefusal g (IsJobRefusal j w rs held)) (sym is.0) (record {
+      frames = qs;
+      are = are;
+      holds = record { fill = fill; fill_is = fill_is; differs = is.1 };
+    })
 
 -- a refusal of the job or the size, as one of the job of receivers
 pub sent_refusal : (j : Job) (w : Processing) (rs : List State) (held : Option Values)

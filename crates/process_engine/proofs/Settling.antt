@@ -1,6 +1,7 @@
 -- Frames with their bases, settled.
 use Rattle.std.proofs.Common.{◌≡◌, ℕ, ◌<◌, List, [], ◌∷◌, length, map, get_or, set, Option, None}
 use Rattle.std.proofs.Common.{Some, Result, Ok, Err, IfOk, refl, ap, arith, subst, sym, ◌∙◌}
+use Rattle.std.specs.Prelude.{slice_index}
 use Rattle.std.specs.List.{AllByRecursion}
 use Rattle.std.specs.Borrow.{Bor}
 use Rattle.key_mix.specs.Sending.{HasBase, input_formats, settled_inputs}
@@ -8,9 +9,10 @@ use Rattle.key_mix.specs.declared.sending.JobInput.{JobInput}
 use Rattle.st_format.specs.declared.format.Format.{Format}
 use Rattle.st_format.specs.Picture.{Values, value_at}
 use Rattle.st_format.specs.Raster.{Raster}
-use Rattle.process_engine.specs.Inputs.{FitsFrames, FitsLent, IsHeldFor, filled_input, held_input}
-use Rattle.process_engine.specs.Inputs.{lent, raster_formats, settled_by_fill, settled_frames}
-use Rattle.process_engine.specs.Inputs.{settled_over}
+use Rattle.process_engine.specs.FillText.{IsFillText}
+use Rattle.process_engine.specs.Inputs.{AreValues, FitsFrames, FitsLent, IsFill, IsHeldFor}
+use Rattle.process_engine.specs.Inputs.{filled_input, held_input, lent, raster_formats}
+use Rattle.process_engine.specs.Inputs.{settled_by_fill, settled_frames, settled_over}
 
 pub filled_bases : (A : Type 0) (fill : List ℕ) (fs : List (Bor Raster)) → FitsLent fill fs
     → AllByRecursion HasBase (map (filled_input {A = A} fill) fs)
@@ -23,7 +25,8 @@ filled_settled A fill [] = refl
 filled_settled A fill (f ∷ fs) =
     ap (λ vs. settled_by_fill fill f.now ∷ vs) (filled_settled A fill fs)
 
-pub some_lent : (fs : List (Bor Raster)) → map (λ (f : Bor Raster). Some f.now) fs ≡ map Some (lent fs)
+pub some_lent : (fs : List (Bor Raster))
+    → map (λ (f : Bor Raster). Some f.now) fs ≡ map Some (lent fs)
 some_lent [] = refl
 some_lent (f ∷ fs) = ap (λ vs. Some f.now ∷ vs) (some_lent fs)
 
@@ -31,6 +34,16 @@ pub fits_lent : (fill : List ℕ) (fs : List (Bor Raster)) → FitsLent fill fs
     → FitsFrames fill (lent fs)
 fits_lent fill [] fits = tt
 fits_lent fill (f ∷ fs) fits = (fits.0, fits_lent fill fs fits.1)
+
+-- a fill that was read and fits frames that are lent once more
+pub fill_lent : (text fill : List ℕ) (fs again : List (Bor Raster)) → again ≡ fs
+    → IsFillText text (slice_index fill 0) (slice_index fill 1) (slice_index fill 2)
+    → AreValues fill → FitsLent fill again → IsFill text fill (lent fs)
+fill_lent text fill fs again same is values fits = record {
+  is = is;
+  values = values;
+  fits = fits_lent fill fs (subst (λ (l : List (Bor Raster)). FitsLent fill l) same fits);
+}
 
 pub if_ok_map : {X E : Type 0} {P Q : X → Type 0} (r : Result X E) → ((x : X) → P x → Q x)
     → IfOk r P → IfOk r Q
@@ -65,7 +78,8 @@ settled_held A fill held p (g ∷ fs) f items new some first any is set_is =
     set_is ∙ ap (λ (l : List (JobInput A)). set l 0 (held_input f p)) is in
     let two : settled_inputs new ≡ settled_frames (Some p.now) fill (f.now ∷ lent fs) =
     ap settled_inputs one
-    ∙ ap (λ (vs : List Values). settled_over (value_at p.now) f.now ∷ vs) (filled_settled A fill fs) in
+    ∙ ap (λ (vs : List Values). settled_over (value_at p.now) f.now ∷ vs)
+    (filled_settled A fill fs) in
     two ∙ ap (λ (h : Bor Raster). settled_frames (Some p.now) fill (h.now ∷ lent fs)) first
     ∙ ap (λ (o : Option Values). settled_frames o fill (g.now ∷ lent fs)) (sym some)
 

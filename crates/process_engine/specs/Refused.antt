@@ -1,5 +1,5 @@
--- Which refusal ends a run of `process`: the first in one order of those that speak against its words
--- and files (own). Each is said to stand only where none before it does.
+-- Which refusal ends a run of `process`: the first in one order of those that speak against its
+-- words and files (own). Each is said to stand only where none before it does.
 use Rattle.std.specs.Prelude.{◌≡◌, ℕ, ◌<◌, List, length, take, slice_index_or, Option, None, Some}
 use Rattle.capture_file.specs.PictureFaults.{PictureFault}
 use Rattle.file_engines.specs.Refusing.{IsStateRefusal}

@@ -52,9 +52,9 @@ pub struct Processing<'a> {
 /// The status is 0; or 1 where the job's text is none (`process 1`, before any file is read), a
 /// file is refused, a receiver's window hasn't the timestamp (`process 2`), the fill's text is none
 /// or has a value above the greatest of a frame's depth (`process 3`), the held picture has another
-/// format than the first frame (`process 4`), or, in this order, the job is refused (`job`) or there
-/// is no such plan (`plan`); 3 where a device failed, and 4 where the allocator refused memory.
-/// `faults` is told of it by one line. Nothing is sent where the status is 1.
+/// format than the first frame (`process 4`), or, in this order, the job is refused (`job`) or
+/// there is no such plan (`plan`); 3 where a device failed, and 4 where the allocator refused
+/// memory. `faults` is told of it by one line. Nothing is sent where the status is 1.
 pub fn run_process<A, S, K, O, F>(
     alloc: A,
     wanted: Processing<'_>,
@@ -84,8 +84,8 @@ where
         ∷ counts (K.failures sink.old) (K.failures sink.new)
         ∷ counts (O.failures output.old) (O.failures output.new)
         ∷ counts (F.failures faults.old) (F.failures faults.new) ∷ []) }
-    // What is sent are the datagrams of the job's picture, made of the receivers and the held picture
-    // whose files were read; how many is printed.
+    // What is sent are the datagrams of the job's picture, made of the receivers and the held
+    // picture whose files were read; how many is printed.
     ensures sent { result ≡ 0 → (count : ℕ) × SendsFiles S.to_give states.old hold.old
         wanted.entry.job.now wanted.entry.timestamp wanted.entry.fill.now wanted.entry.max_octets
         wanted.entry.stamp (K.taken sink.old) (K.taken sink.new) count

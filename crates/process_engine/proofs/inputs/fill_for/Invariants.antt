@@ -5,4 +5,5 @@ use Rattle.process_engine.proofs.inputs.fill_for.Given as goal
 
 abbrev pub invariant-loop-frame : goal.invariant-loop-frame
 invariant-loop-frame g l =
-    AllByRecursion (λ f. AllByRecursion (FitsDepth f.now.format) l.fill) (take l.frame-index l.frames)
+    AllByRecursion (λ f. AllByRecursion (FitsDepth f.now.format) l.fill)
+    (take l.frame-index l.frames)

@@ -1,6 +1,7 @@
 use Rattle.std.proofs.Common.{◌≡◌, rules, subst, sym}
+use Rattle.std.proofs.lemmas.Result.{err_from_is_err_and}
 use Rattle.process_engine.specs.Reading.{SayReceivers}
-use Rattle.process_engine.proofs.Refusals.{if_err_map, of_refusal_map, read_refused}
+use Rattle.process_engine.proofs.Refusals.{held_refused, if_err_map, of_refusal_map, read_refused}
 use Rattle.process_engine.proofs.Settling.{if_ok_map}
 use Rattle.process_engine.proofs.process.process_files.Goals as goal
 
@@ -37,3 +38,16 @@ returns-clause-refusal g c =
       held_is = c.in_ok-held.ensures.says;
       refused = refused;
     })) is) c.send_frames.ensures.refusal
+
+pub returns-in_err-held-clause-refusal : goal.returns-in_err-held-clause-refusal
+returns-in_err-held-clause-refusal g c =
+    let p =
+    err_from_is_err_and c.from_residual-in_err-held.result c.from_residual-in_err-held.ensures.1 in
+    rw (p.1, p.2)
+    (of_refusal_map c.in_err-held.field-0.0 (λ r refused.
+    held_refused g.S.ByteSource.to_give c.args.states.now c.args.hold.now c.args.wanted r
+    (c.in-Some.job, c.in-Some.ensures.is)
+    (record {
+      receivers = c.in_ok-receivers.receivers.items;
+      receivers_are = c.in_ok-receivers.ensures.say;
+    }) refused) c.in_err-held.ensures.refused)

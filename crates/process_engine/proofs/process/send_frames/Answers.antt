@@ -1,10 +1,12 @@
 use Rattle.std.proofs.Common.{◌≡◌, ap, rules, subst, ◌∙◌}
+use Rattle.std.proofs.lemmas.Result.{err_from_is_err_and}
 use Rattle.key_mix.specs.Sending.{IsSendable, input_formats, settled_inputs}
-use Rattle.process_engine.specs.Inputs.{FitsLent, IsHeldFor, lent, raster_formats, settled_frames}
+use Rattle.process_engine.specs.Inputs.{IsHeldFor, lent, raster_formats, settled_frames}
 use Rattle.process_engine.specs.Processing.{TakesJob}
-use Rattle.process_engine.specs.Refused.{IsSendRefusal}
-use Rattle.process_engine.proofs.Refusals.{if_err_map, if_ok_both, of_refusal_map, sent_refusal}
-use Rattle.process_engine.proofs.Settling.{fits_lent, some_lent}
+use Rattle.process_engine.specs.Refused.{HasNoFill, IsSendRefusal}
+use Rattle.process_engine.proofs.Refusals.{fill_refused, hold_refused, if_err_map, if_ok_both}
+use Rattle.process_engine.proofs.Refusals.{of_refusal_map, sent_refusal}
+use Rattle.process_engine.proofs.Settling.{fill_lent, some_lent}
 use Rattle.process_engine.proofs.process.send_frames.Goals as goal
 
 pub returns-clause-sent : goal.returns-clause-sent
@@ -28,21 +30,53 @@ returns-clause-sent g c =
       frames = lent fs;
       are = c.in_ok-frames.ensures.are ∙ some_lent fs;
       fill = fill;
-      fill_is = record {
-        is = c.in_ok-fill.ensures.is;
-        values = c.in_ok-fill.ensures.values;
-        fits = fits_lent fill fs (subst (λ l. FitsLent fill l) first c.in_ok-fill.ensures.fits);
-      };
+      fill_is =
+          fill_lent c.args.wanted.fill.now fill fs c.deref.result.now first
+          c.in_ok-fill.ensures.is c.in_ok-fill.ensures.values c.in_ok-fill.ensures.fits;
       held_is = subst (λ l. IsHeldFor held (lent l)) second c.in_ok-check_held.ensures.is;
       sendable = subst (λ l. IsSendable c.args.job.now l c.args.wanted.max_octets) formats sendable;
       takes = subst (λ ps. TakesJob c.args.job.now ps c.args.wanted.max_octets c.args.wanted.stamp
           old new n) settled takes;
     }) c.send.ensures.sent c.send.ensures.sendable
 
+pub returns-in_err-fill-clause-refusal : goal.returns-in_err-fill-clause-refusal
+returns-in_err-fill-clause-refusal g c =
+    let fs = c.in_ok-frames.frames.items in
+    let first : c.deref.result.now ≡ fs = search rules in
+    let p =
+    err_from_is_err_and c.from_residual-in_err-fill.result c.from_residual-in_err-fill.ensures.1 in
+    rw (p.1, p.2)
+    (fill_refused c.in_err-fill.field-0.0 c.args.job.now c.args.wanted c.args.receivers.now
+    c.args.held.now (lent fs) (c.in_ok-frames.ensures.are ∙ some_lent fs) (
+      c.in_err-fill.ensures.refused.0,
+      subst (λ l. HasNoFill c.args.wanted.fill.now (lent l)) first
+          c.in_err-fill.ensures.refused.1,
+    ))
+
+pub returns-in_err-check_held-clause-refusal : goal.returns-in_err-check_held-clause-refusal
+returns-in_err-check_held-clause-refusal g c =
+    let fs = c.in_ok-frames.frames.items in
+    let held = c.args.held.now in
+    let first : c.deref.result.now ≡ fs = search rules in
+    let second : c.deref-2.result.now ≡ fs = search rules in
+    let p =
+    err_from_is_err_and c.from_residual-in_err-check_held.result
+    c.from_residual-in_err-check_held.ensures.1 in
+    rw (p.1, p.2)
+    (hold_refused c.in_err-check_held.field-0.0 c.args.job.now c.args.wanted c.args.receivers.now
+    held (lent fs) c.in_ok-fill.fill (c.in_ok-frames.ensures.are ∙ some_lent fs)
+    (fill_lent c.args.wanted.fill.now c.in_ok-fill.fill fs c.deref.result.now first
+    c.in_ok-fill.ensures.is c.in_ok-fill.ensures.values c.in_ok-fill.ensures.fits) (
+      c.in_err-check_held.ensures.refused.0,
+      subst (λ l. IsHeldFor held (lent l) → ⊥) second
+          c.in_err-check_held.ensures.refused.1,
+    ))
+
 pub returns-clause-refusal : goal.returns-clause-refusal
 returns-clause-refusal g c =
     let fs = c.in_ok-frames.frames.items in
     let fill = c.in_ok-fill.fill in
+    let held = c.args.held.now in
     let first : c.deref.result.now ≡ fs = search rules in
     let second : c.deref-2.result.now ≡ fs = search rules in
     let third : c.deref-3.result.now ≡ fs = search rules in
@@ -51,20 +85,15 @@ returns-clause-refusal g c =
     ap input_formats inputs ∙ c.in_ok-inputs.ensures.formats
     ∙ ap (λ l. raster_formats (lent l)) third in
     if_err_map c.send.result (λ e is. of_refusal_map e (λ r refused.
-    sent_refusal c.args.job.now c.args.wanted c.args.receivers.now c.args.held.now r (record {
+    sent_refusal c.args.job.now c.args.wanted c.args.receivers.now held r (record {
       frames = lent fs;
       are = c.in_ok-frames.ensures.are ∙ some_lent fs;
       holds = record {
         fill = fill;
-        fill_is = record {
-          is = c.in_ok-fill.ensures.is;
-          values = c.in_ok-fill.ensures.values;
-          fits =
-              fits_lent fill fs (subst (λ l. FitsLent fill l) first c.in_ok-fill.ensures.fits);
-        };
-        held_is =
-            subst (λ l. IsHeldFor c.args.held.now (lent l)) second
-            c.in_ok-check_held.ensures.is;
+        fill_is =
+            fill_lent c.args.wanted.fill.now fill fs c.deref.result.now first
+            c.in_ok-fill.ensures.is c.in_ok-fill.ensures.values c.in_ok-fill.ensures.fits;
+        held_is = subst (λ l. IsHeldFor held (lent l)) second c.in_ok-check_held.ensures.is;
         holds =
             subst (λ l. IsSendRefusal c.args.job.now c.args.wanted.max_octets r l) formats
             refused;

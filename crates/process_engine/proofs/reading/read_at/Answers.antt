@@ -1,4 +1,4 @@
-use Rattle.std.proofs.Common.{sym, ◌∙◌}
+use Rattle.std.proofs.Common.{get_or}
 use Rattle.file_engines.proofs.SetSums.{set_counted}
 use Rattle.process_engine.proofs.FileRefusals.{same_at}
 use Rattle.process_engine.proofs.Refusals.{if_err_map, of_refusal_map}
@@ -12,10 +12,10 @@ returns-clause-failures g c =
 
 pub returns-clause-refused : goal.returns-clause-refused
 returns-clause-refused g c =
-    let source = c.index-states-place.result in
+    let states = c.args.states.now in
+    let none = c.index-states-place.result in
     if_err_map c.read_receiver.result (λ e is. of_refusal_map e (λ r refused. record {
-      source = source;
-      at = λ s. same_at c.args.states.now c.args.place s source c.requires
-          ∙ sym c.index-states-place.is;
+      source = get_or states c.args.place none;
+      at = λ s. same_at states c.args.place s none c.requires;
       refused = refused;
     }) is) c.read_receiver.ensures.refused

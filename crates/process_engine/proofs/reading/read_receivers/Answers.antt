@@ -1,5 +1,7 @@
 use Rattle.std.proofs.Common.{◌≡◌, ◌+◌, [], ◌∷◌, ◌++◌, take, arith, ◌∙◌, rules, subst, sym}
 use Rattle.process_engine.specs.Reading.{SayReceivers, SaysReceiver}
+use Rattle.std.proofs.lemmas.Result.{err_from_is_err_and}
+use Rattle.process_engine.proofs.FileRefusals.{first_refused}
 use Rattle.process_engine.proofs.Lists.{zip_next}
 use Rattle.process_engine.proofs.reading.read_receivers.Goals as goal
 
@@ -23,3 +25,14 @@ loop-place-preserved g c =
           (before.others c.loop-place.place d (omega arith))
           (c.in_ok-receiver.ensures.says d)));
     }
+
+pub returns-in_err-receiver-clause-refused : goal.returns-in_err-receiver-clause-refused
+returns-in_err-receiver-clause-refused g c =
+    let before = c.loop-place.invariant in
+    let place = c.loop-place.place in
+    let p = err_from_is_err_and c.from_residual.result c.from_residual.ensures.1 in
+    rw (p.1, p.2)
+    (first_refused g.S.ByteSource.to_give c.args.states.now c.loop-place.states place
+    c.loop-place.receivers.items c.in_err-receiver.field-0.0
+    (omega (arith, before.len, c.loop-place-test.true)) before.say
+    (λ s. before.others place s (omega arith)) c.in_err-receiver.ensures.refused)

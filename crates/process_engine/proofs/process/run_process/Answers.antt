@@ -1,0 +1,22 @@
+use Rattle.std.proofs.Common.{sym, ◌∙◌}
+use Rattle.process_engine.specs.Refused.{IsRunRefusal}
+use Rattle.process_engine.proofs.Refusals.{memory_told, refusal_told}
+use Rattle.process_engine.proofs.process.run_process.Goals as goal
+
+pub returns-in_default-clause-told : goal.returns-in_default-clause-told
+returns-in_default-clause-told g c = λ one.
+    memory_told
+    (IsRunRefusal g.S.ByteSource.to_give c.args.states.now c.args.hold.now c.args.wanted)
+    c.tell_memory.result (g.F.ByteSink.failures c.args.faults.now)
+    (g.F.ByteSink.failures c.tell_memory.new.faults) (g.F.ByteSink.held c.args.faults.now)
+    (g.F.ByteSink.held c.tell_memory.new.faults) c.tell_memory.ensures
+    (sym c.number.ensures ∙ one)
+
+pub returns-clause-told : goal.returns-clause-told
+returns-clause-told g c = λ one.
+    refusal_told
+    (IsRunRefusal g.S.ByteSource.to_give c.args.states.now c.args.hold.now c.args.wanted)
+    c.in-Err.fault c.tell.result (g.F.ByteSink.failures c.args.faults.now)
+    (g.F.ByteSink.failures c.tell.new.faults) (g.F.ByteSink.held c.args.faults.now)
+    (g.F.ByteSink.held c.tell.new.faults) c.tell.ensures c.in-Err.ensures.refusal
+    (sym c.number-in-Err.ensures ∙ one)
