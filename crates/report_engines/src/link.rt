@@ -6,8 +6,8 @@ use st_format::{DatagramSink, DatagramSource, SinkFault};
 
 /// A link. What is put into it may come out of it or not, in any order and any number of times.
 pub trait DatagramLink: DatagramSink + DatagramSource {
-    /// Puts one datagram into the link, as [`DatagramSink::put`] does. That delivers none: what comes
-    /// out comes in a turn.
+    /// Puts one datagram into the link, as [`DatagramSink::put`] does. That delivers none: what
+    /// comes out comes in a turn.
     fn send(&mut self, octets: &[u8]) -> Result<(), SinkFault>
         requires { length octets.now ≤ 65535 }
         ensures taken { OnOk result (TakesOne (Self.DatagramSink.taken self.old)

@@ -37,7 +37,7 @@ pub struct Looping {
 }
 
 /// How many datagrams were put into a link, and how many came out of it.
-#[derive(Clone, Copy, Debug, PartialEq, Eq)]
+#[derive(Drop)]
 struct Passed {
     sent: u32,
     delivered: u64,

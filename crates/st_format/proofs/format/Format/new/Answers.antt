@@ -5,6 +5,7 @@ use Rattle.st_format.proofs.format.Format.new.Goals as goal
 pub invariant_of-result : goal.invariant_of-result
 invariant_of-result c =
     let divisor = c.common_divisor_of-divisor in
+    let pixels = c.pgroup-pixels.ensures.pixels in
     record {
       whole_width =
           record {
@@ -12,7 +13,7 @@ invariant_of-result c =
             most = omega arith;
             even = omega arith;
             whole_groups =
-                subst (λ (m : ℕ). c.args.width % m ≡ 0) c.pgroup-pixels.ensures.pixels (omega arith);
+                subst (λ (m : ℕ). c.args.width % m ≡ 0) pixels (omega arith);
           };
       whole_height = record { least = omega arith; most = omega arith };
       sane_rate =
