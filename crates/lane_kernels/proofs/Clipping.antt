@@ -24,6 +24,13 @@ clip_raised low high k q (pos v) h e = let is : v + k ≡ q = omega (arith, ints
 clip_raised low high k q (negsuc v) h e = let is : q + v + 1 ≡ k =
     omega (arith, ints) in omega arith
 
+-- the same of what is left of q above k, 65535 at most
+pub clip_above : (low high k q : ℕ) (z : ℤ) → low ≤ high → high < 65536 → z +ℤ pos k ≡ pos q
+    → min high (max low (min 65535 (q - k))) ≡ clip low high z
+clip_above low high k q (pos v) h fits e = let is : v + k ≡ q = omega (arith, ints) in omega arith
+clip_above low high k q (negsuc v) h fits e = let is : q + v + 1 ≡ k =
+    omega (arith, ints) in omega arith
+
 -- the same by lanes, whose subtraction wraps at t
 abbrev pub lanes_clipped : ℕ → ℕ → ℕ → ℕ → ℕ → ℕ
 lanes_clipped t low high k q =

@@ -57,6 +57,6 @@ gain_small z g v h p q =
     )
 
 pub gain_fits : (z g v : ℕ) → g ≤ 16384 → z < 65536 → v < 65536
-    → (v * g % 2 ^ 32 + (z * (16384 - g) + 2048)) % 2 ^ 32 / 4096
+    → (v * g % 2 ^ 32 + (z * (16384 - g) % 2 ^ 32 + 2048) % 2 ^ 32) % 2 ^ 32 / 4096
     ≡ (v * g + (z * (16384 - g) + 2048)) / 4096
 gain_fits z g v h p q = omega (arith, gain_small z g v h p q)

@@ -5,6 +5,7 @@ pub mod Gaining
 pub mod Luma
 pub mod Mixing
 pub mod Ones
+pub mod Saturated
 pub mod Scales
 pub mod Selecting
 pub mod Stored

@@ -9,7 +9,7 @@ use Rattle.std.proofs.lemmas.List.{length-map, get_or-map}
 use Rattle.std.proofs.lemmas.Simd.{get_or-put_chunk_below, get_or-put_chunk_at}
 use Rattle.std.proofs.lemmas.Simd.{get_or-put_chunk_above, get_or-chunk, Each1-get_or, get_or-zip2}
 use Rattle.std.proofs.lemmas.Simd.{get_or-replicate, get_or-sel_l, length-replicate, length-zip2}
-use Rattle.std.proofs.lemmas.Simd.{length-sel_l, tops_compared, length-chunk}
+use Rattle.std.proofs.lemmas.Simd.{length-sel_l, tops_compared, length-chunk, length-put_chunk}
 use lib.Lanes.{Each1, put_chunk, chunk, zip2, sel_l, top}
 use mir.Val.{bits, hbits}
 use Rattle.lane_kernels.specs.Lanes.{HasLanes}
@@ -18,6 +18,16 @@ pub HasLanes-load : (i n : ℕ) (xs : List ℕ) → i + n ≤ length xs
     → HasLanes n (chunk i n xs) (λ k. get_or xs (i + k) 0)
 HasLanes-load i n xs room =
     record { long = length-chunk i n xs room; each = λ k h. get_or-chunk i n xs k 0 h }
+
+-- a load from a part of a list
+pub HasLanes-part : (t m n : ℕ) (xs : List ℕ) → t + m ≤ length xs → n ≤ m
+    → HasLanes n (chunk 0 n (chunk t m xs)) (λ k. get_or xs (t + k) 0)
+HasLanes-part t m n xs room fits = record {
+  long = length-chunk 0 n (chunk t m xs) (omega (arith, length-chunk t m xs room));
+  each = λ k h.
+      get_or-chunk 0 n (chunk t m xs) k 0 h ∙ get_or-chunk t m xs (0 + k) 0 (omega arith)
+      ∙ ap (λ j. get_or xs j 0) (omega arith);
+}
 
 pub HasLanes-splat : (n y : ℕ) → HasLanes n (replicate n y) (λ k. y)
 HasLanes-splat n y =
@@ -95,6 +105,26 @@ HasLanes-kept old i n out room kept =
       each =
           λ k h. get_or-chunk i n out k 0 h ∙ kept (i + k) (omega arith);
     }
+
+-- a loop that has made f of what is below i, and kept the rest of old
+pub record Made (old : List ℕ) (f : ℕ → ℕ) (i : ℕ) (out : List ℕ) : Type 0 where
+  pub long : length out ≡ length old
+  pub done : Below f i out
+  pub kept : Kept old i out
+
+pub Made-load : (old : List ℕ) (f : ℕ → ℕ) (i n : ℕ) {out : List ℕ} → i + n ≤ length old
+    → Made old f i out → HasLanes n (chunk i n out) (λ k. get_or old (i + k) 0)
+Made-load old f i n {out} room made = HasLanes-kept old i n out (omega (arith, made.long)) made.kept
+
+pub Made-store : (old : List ℕ) (f : ℕ → ℕ) (i n j : ℕ) {out v : List ℕ} → j ≡ i + n
+    → i + n ≤ length old → Made old f i out → HasLanes n v (λ k. f (i + k))
+    → Made old f j (put_chunk i out v)
+Made-store old f i n j {out} {v} at room made lanes =
+    subst (λ j. Made old f j (put_chunk i out v)) (sym at) (record {
+      long = length-put_chunk i out v ∙ made.long;
+      done = Below-store f i n out (omega (arith, made.long)) made.done lanes;
+      kept = Kept-store old i n out made.kept lanes;
+    })
 
 -- the same lanes, told in other words
 pub HasLanes-same : (n : ℕ) {v : List ℕ} {f g : ℕ → ℕ} → HasLanes n v f

@@ -11,9 +11,9 @@ mod narrowing;
 mod octets;
 mod range;
 
-pub use gains::gain;
+pub use gains::{gain, gain_about};
 pub use marks::{count_marks, or_marks};
 pub use matrix::{cb709, cr709, luma709};
 pub use mixes::{key_mix, mix256};
 pub use octets::{differs, select};
-pub use range::clip;
+pub use range::{clip, clip_below};

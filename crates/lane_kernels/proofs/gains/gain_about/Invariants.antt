@@ -1,14 +1,16 @@
-use Rattle.std.proofs.Common.{◌≡◌, ◌-◌, ◌≤◌, length, get_or}
+use Rattle.std.proofs.Common.{◌≡◌, ◌-◌, ◌%◌, ◌≤◌, length, get_or}
 use Rattle.lane_kernels.specs.Formulas.{clip, gain}
 use Rattle.lane_kernels.proofs.Stored.{Below, Kept}
-use Rattle.lane_kernels.proofs.gains.gain.Given as goal
+use Rattle.lane_kernels.proofs.gains.gain_about.Given as goal
 
 abbrev pub invariant-loop-values : goal.invariant-loop-values
 invariant-loop-values l = record {
   long : length l.values ≡ length l.initial.values;
   within : l.at ≤ length l.initial.values;
+  turns : l.at % 24 ≡ 0;
   done : Below
-      (λ k. clip l.low l.high (gain l.zero l.g (get_or l.initial.values k 0))) l.at l.values;
+      (λ k. clip l.low l.high
+      (gain (get_or l.zeros (k % 24) 0) l.g (get_or l.initial.values k 0))) l.at l.values;
   kept : Kept l.initial.values l.at l.values;
 }
 
@@ -18,6 +20,8 @@ decreases-loop-values l = length l.values - l.at
 abbrev pub invariant-loop-i : goal.invariant-loop-i
 invariant-loop-i l = record {
   long : length l.values ≡ length l.fn.values;
-  done : Below (λ k. clip l.low l.high (gain l.zero l.g (get_or l.fn.values k 0))) l.i l.values;
+  done : Below
+      (λ k. clip l.low l.high
+      (gain (get_or l.zeros (k % 24) 0) l.g (get_or l.fn.values k 0))) l.i l.values;
   kept : Kept l.fn.values l.i l.values;
 }
