@@ -1,5 +1,5 @@
 pub mod Firsts
-pub mod Gained
+pub mod InTurn
 pub mod Made
 pub mod Numbers
 pub mod Part

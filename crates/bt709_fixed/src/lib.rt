@@ -12,6 +12,7 @@ ghost use Rattle.std.specs.Prelude.{
   ◌%◌,
   ◌-◌,
   ◌^◌,
+  ℕ,
   EachIndex,
   length,
   slice_index,
@@ -34,7 +35,6 @@ ghost use Rattle.bt709_fixed.specs.Operations.{
   kept,
   limit_value,
   limited,
-  lowered,
   matrixed_at,
   of_component,
   ycc422_value,
@@ -42,6 +42,7 @@ ghost use Rattle.bt709_fixed.specs.Operations.{
 };
 ghost use Rattle.bt709_fixed.specs.Thinned.{thinned_number};
 ghost use Rattle.bt709_fixed.specs.declared.ColourFault.TheVariants.{NoMemory, NotRgb, NotYcc444};
+ghost use Rattle.bt709_fixed.specs.declared.RangeKind.TheVariants.{Nominal};
 ghost use Rattle.st_format.specs.declared.sampling.Sampling.TheVariants.{Rgb, Ycc422, Ycc444};
 
 use st_format::{Depth, Format, Picture, Sampling};
@@ -96,21 +97,29 @@ fn limit_samples(sampling: Sampling, depth: Depth, range: RangeKind, samples: &m
         ≡ limited range (bits_of depth) (is_colour sampling (component_in_row sampling k))
         (slice_index samples.old k)) }
 {
-    let s = scale_of(depth);
     match range {
-        RangeKind::VideoData => lane_kernels::clip(samples, s, 255 * s - 1),
-        RangeKind::Nominal => match sampling {
-            Sampling::Rgb => lane_kernels::clip(samples, 16 * s, 235 * s),
-            Sampling::Ycc422 | Sampling::Ycc444 => {
-                lane_kernels::clip(samples, 16 * s, 240 * s);
-                lower_luma(sampling, 235 * s, samples);
-            }
-        },
+        RangeKind::VideoData => {
+            let s = scale_of(depth);
+            lane_kernels::clip(samples, s, 255 * s - 1);
+        }
+        RangeKind::Nominal => nominal_samples(sampling, depth, samples),
     }
 }
 
-/// Whether the sample of this number, counted from the start of a row or of a raster, is Y or R. By
-/// a divisor that is known, so that a loop over samples asks it in lanes.
+/// Brings each sample to the nominal range.
+fn nominal_samples(sampling: Sampling, depth: Depth, samples: &mut [u16])
+    ensures long { length samples.new ≡ length samples.old }
+    ensures each { EachIndex samples.new (λ k.
+        slice_index samples.new k
+        ≡ limited Nominal (bits_of depth) (is_colour sampling (component_in_row sampling k))
+        (slice_index samples.old k)) }
+{
+    let s = scale_of(depth);
+    let highs = turns(sampling, 235 * s, 240 * s);
+    lane_kernels::clip_below(samples, 16 * s, &highs);
+}
+
+/// Whether the sample of this number, counted from the start of a row or of a raster, is Y or R.
 #[tactic(auto, using(crate::proofs::Firsts::firsts))]
 #[inline(always)]
 fn is_first(sampling: Sampling, number: usize) -> bool
@@ -123,19 +132,19 @@ fn is_first(sampling: Sampling, number: usize) -> bool
     }
 }
 
-/// Brings each luma sample above `most` to it.
-fn lower_luma(sampling: Sampling, most: u16, samples: &mut [u16])
-    ensures long { length samples.new ≡ length samples.old }
-    ensures each { EachIndex samples.new (λ k.
-        slice_index samples.new k ≡ lowered sampling most k (slice_index samples.old k)) }
+/// For each of the first 24 samples, after which their components are the same again: `colour` for
+/// Cb and Cr, else `luma`.
+fn turns(sampling: Sampling, luma: u16, colour: u16) -> [u16; 24]
+    ensures { (k : ℕ) → k < 24 → slice_index result k
+        ≡ (if is_colour sampling (component_in_row sampling k) then colour else luma) }
 {
-    for (number, sample) in samples.iter_mut().enumerate() {
-        *sample = if is_first(sampling, number) {
-            most.min(*sample)
-        } else {
-            *sample
-        };
+    let mut all = [luma; 24];
+    for k in 0..24 {
+        if sampling != Sampling::Rgb && !is_first(sampling, k) {
+            all[k] = colour;
+        }
     }
+    all
 }
 
 /// Brings each value `g / 4096` as far from black, or from the centre for Cb and Cr, and to video
@@ -160,57 +169,13 @@ fn gain_samples(sampling: Sampling, depth: Depth, g: u32, samples: &mut [u16])
         ≡ gained g (bits_of depth) (is_colour sampling (component_in_row sampling k))
         (slice_index samples.old k)) }
 {
-    let mut at = 0;
-    while samples.len() - at >= BLOCK {
-        gain_block(sampling, depth, g, at, &mut samples[at..at + BLOCK]);
-        at += BLOCK;
-    }
-    gain_block(sampling, depth, g, at, &mut samples[at..]);
-}
-
-/// How many samples are worked on at a time.
-const BLOCK: usize = 64;
-
-/// The same for some samples, the first of which has the number `first`. They are taken both as
-/// luma and as colour, and the one that they are is kept.
-fn gain_block(sampling: Sampling, depth: Depth, g: u32, first: usize, samples: &mut [u16])
-    requires of_g { g ≤ 16384 }
-    requires block { length samples.old ≤ 64 }
-    requires room { first + length samples.old < 2 ^ 63 }
-    ensures long { length samples.new ≡ length samples.old }
-    ensures each { EachIndex samples.new (λ k.
-        slice_index samples.new k
-        ≡ gained g (bits_of depth) (is_colour sampling (component_in_row sampling (first + k)))
-        (slice_index samples.old k)) }
-{
     let s = scale_of(depth);
-    let high = 255 * s - 1;
-    let mut colour = [0u16; BLOCK];
-    let copy = &mut colour[..samples.len()];
-    copy.copy_from_slice(samples);
-    lane_kernels::gain(copy, 128 * s, g, s, high);
-    lane_kernels::gain(samples, 16 * s, g, s, high);
-    choose_colour(sampling, first, copy, samples);
+    let zeros = turns(sampling, 16 * s, 128 * s);
+    lane_kernels::gain_about(samples, &zeros, g, s, 255 * s - 1);
 }
 
-/// Takes the samples of Cb and Cr from `colour`.
-fn choose_colour(sampling: Sampling, first: usize, colour: &[u16], samples: &mut [u16])
-    requires lengths { length colour.now ≡ length samples.old }
-    requires room { first + length samples.old < 2 ^ 63 }
-    ensures long { length samples.new ≡ length samples.old }
-    ensures each { EachIndex samples.new (λ k.
-        slice_index samples.new k
-        ≡ (if is_colour sampling (component_in_row sampling (first + k))
-        then slice_index colour.now k else slice_index samples.old k)) }
-{
-    for (k, sample) in samples.iter_mut().enumerate() {
-        *sample = if sampling != Sampling::Rgb && !is_first(sampling, first + k) {
-            colour[k]
-        } else {
-            *sample
-        };
-    }
-}
+/// How many pixels are worked on at a time.
+const BLOCK: usize = 64;
 
 /// Y, Cb and Cr of R, G and B, in the order in which 4:4:4 sends them. Each slice is whole pixels.
 fn matrix_samples(depth: Depth, rgb: &[u16], out: &mut [u16])

@@ -1,0 +1,37 @@
+-- What samples are limited to and gained about, told by their numbers in turns of 24.
+use Rattle.std.proofs.Common.{◌≡◌, ℕ, ◌-◌, ◌*◌, ◌%◌, ◌≤◌, Bool, true, false, if◌then◌else◌, sym, ap}
+use Rattle.std.proofs.Common.{arith, ◌∙◌}
+use Rattle.std.specs.Prelude.{pos, slice_index_or}
+use Rattle.st_format.specs.declared.sampling.Sampling.{Sampling}
+use Rattle.st_format.specs.declared.sampling.Sampling.TheVariants.{Ycc422, Ycc444, Rgb}
+use Rattle.st_format.specs.Position.{component_in_row, run}
+use Rattle.lane_kernels.specs.Formulas.{clip, gain, scale}
+use Rattle.lane_kernels.proofs.Scales.{centre_is}
+use Rattle.bt709_fixed.specs.Operations.{gained, is_colour, limited}
+use Rattle.bt709_fixed.specs.declared.RangeKind.TheVariants.{Nominal}
+
+component_turns : (s : Sampling) (k : ℕ) → component_in_row s (k % 24) ≡ component_in_row s k
+component_turns Ycc422 k = let turn : k % 24 % 4 ≡ k % 4 = omega arith in
+    ap (λ j. (slice_index_or (run Ycc422) j (0, 0)).1) turn
+component_turns Ycc444 k = let turn : k % 24 % 3 ≡ k % 3 = omega arith in
+    ap (λ j. (slice_index_or (run Ycc444) j (0, 0)).1) turn
+component_turns Rgb k = let turn : k % 24 % 3 ≡ k % 3 = omega arith in
+    ap (λ j. (slice_index_or (run Rgb) j (0, 0)).1) turn
+
+pub colour_turns : (s : Sampling) (k luma colour : ℕ)
+    → (if is_colour s (component_in_row s (k % 24)) then colour else luma)
+    ≡ (if is_colour s (component_in_row s k) then colour else luma)
+colour_turns s k luma colour =
+    ap (λ component. if is_colour s component then colour else luma) (component_turns s k)
+
+pub limited_turns : (n s v : ℕ) (colour : Bool) → s ≡ scale n
+    → clip (16 * s) (if colour then 240 * s else 235 * s) (pos v) ≡ limited Nominal n colour v
+limited_turns n s v true e = λ i. clip (16 * e i) (240 * e i) (pos v)
+limited_turns n s v false e = λ i. clip (16 * e i) (235 * e i) (pos v)
+
+pub gained_turns : (g n s v : ℕ) (colour : Bool) → 8 ≤ n → s ≡ scale n
+    → clip s (255 * s - 1) (gain (if colour then 128 * s else 16 * s) g v) ≡ gained g n colour v
+gained_turns g n s v true h e =
+    let c = ap (λ x. 128 * x) e ∙ sym (centre_is n h) in
+    λ i. clip (e i) (255 * e i - 1) (gain (c i) g v)
+gained_turns g n s v false h e = λ i. clip (e i) (255 * e i - 1) (gain (16 * e i) g v)
