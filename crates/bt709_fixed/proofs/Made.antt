@@ -14,7 +14,7 @@ use Rattle.st_format.proofs.Numbering.{number_of-below, place-number_of}
 use Rattle.st_format.proofs.PictureLemmas.{component-place}
 
 -- the component of a position's number
-pub component-number : (f : Format) (p : Position) → IsPosition f p
+pub component-number : (f : Format) (p : Position) → IsPosition p f
     → component_in_row f.sampling (number_of f p) ≡ p.component
 component-number f p h =
     sym (component-place f (number_of f p)) ∙ ap (λ q. q.component) (place-number_of f p h)
@@ -23,7 +23,7 @@ component-number f p h =
 pub made_at : (f : Format) (old new : List ℕ) (g : ℕ → ℕ → ℕ) → length new ≡ sample_count f
     → ((k : ℕ) → k < length new
     → get_or new k 0 ≡ g (component_in_row f.sampling k) (get_or old k 0))
-    → (p : Position) → IsPosition f p
+    → (p : Position) → IsPosition p f
     → get_or new (number_of f p) 0 ≡ g p.component (get_or old (number_of f p) 0)
 made_at f old new g long each p h =
     let below = number_of-below f p h in

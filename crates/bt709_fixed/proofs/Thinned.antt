@@ -161,7 +161,7 @@ number_full f p s =
     ∙ omega arith
 
 pub thinned_at : (f g : Format) (p : Position) → f.sampling ≡ Ycc444 → IsResampled Ycc422 f g
-    → IsPosition g p
+    → IsPosition p g
     → thinned_number (number_of g p) ≡ number_of f p
 thinned_at f g p s r at =
     let width : 2 * (g.width / 2) ≡ f.width = omega (arith, g.whole_width.even, r.width) in

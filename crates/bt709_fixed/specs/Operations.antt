@@ -40,7 +40,7 @@ use Rattle.bt709_fixed.specs.declared.RangeKind.TheVariants.{Nominal, VideoData}
 -- The picture p has the format f, and at each position the value that is given
 pub record IsOf (f : Format) (value : Position → ℕ) (p : Values) : Type 0 where
   pub format : p.format ≡ f
-  pub each : (at : Position) → IsPosition f at → value_at p at ≡ value at
+  pub each : (at : Position) → IsPosition at f → value_at p at ≡ value at
 
 -- whether a component is Cb or Cr
 abbrev pub is_colour : Sampling → ℕ → Bool

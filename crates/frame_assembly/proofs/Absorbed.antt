@@ -13,13 +13,13 @@ use Rattle.st_format.proofs.Rasters.{cell_at-joined, cell_at-raster_of, length-c
 -- At each position stands the join.
 pub each_absorbed : (r q new : Raster) → IsFrame r → IsFrame q → q.format ≡ r.format
     → new ≡ joined_rasters r q
-    → (p : Position) → IsPosition r.format p → cell_at new p ≡ join (cell_at r p) (cell_at q p)
+    → (p : Position) → IsPosition p r.format → cell_at new p ≡ join (cell_at r p) (cell_at q p)
 each_absorbed r q new is other same joins p at =
     ap (λ (x : Raster). cell_at x p) joins ∙ cell_at-joined r q p is.whole other.whole (sym same) at
 
 pub each_offered : (r new : Raster) (offers : List Offer) (ts : ℕ) → IsFrame r
     → new.format ≡ r.format → new.cells ≡ joined r.cells (cells_of r.format offers ts)
-    → (p : Position) → IsPosition r.format p
+    → (p : Position) → IsPosition p r.format
     → cell_at new p ≡ join (cell_at r p) (cell_of offers ts p)
 each_offered r new offers ts is same cells p at =
     ap (λ (f : Format). get_or new.cells (number_of f p) Missing) same

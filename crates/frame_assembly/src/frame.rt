@@ -109,8 +109,8 @@ impl<A: Allocator> Frame<A> {
     /// The three are a position of the format: in 4:2:2 Cb and Cr stand at the even columns alone
     /// (RFC 4175, 4.3).
     pub fn cell(&self, row: u32, column: u32, component: u8) -> Cell
-        requires { IsPosition self.now.format
-            (record { row = row; column = column; component = component }) }
+        requires { IsPosition (record { row = row; column = column; component = component })
+            self.now.format }
         ensures cell { result
             ≡ cell_at self.now (record { row = row; column = column; component = component }) }
         ensures whole { IsWhole self.now }
@@ -137,7 +137,7 @@ impl<A: Allocator> Frame<A> {
             ≡ joined self.old.cells
             (cells_of self.old.format
             (offers_in_all self.old.format ts (segments_of view.now)) ts) }
-        ensures each { (ts : ℕ) (p : Position) → IsPosition self.old.format p
+        ensures each { (ts : ℕ) (p : Position) → IsPosition p self.old.format
             → cell_at self.new p ≡ join (cell_at self.old p)
             (cell_of (offers_in_all self.old.format ts (segments_of view.now)) ts p) }
         ensures whole { IsWhole self.new }
@@ -160,7 +160,7 @@ impl<A: Allocator> Frame<A> {
         ensures format { self.new.format ≡ self.old.format }
         ensures rasters { self.new ≡ joined_rasters self.old other.now }
         ensures cells { self.new.cells ≡ joined self.old.cells other.now.cells }
-        ensures each { (p : Position) → IsPosition self.old.format p
+        ensures each { (p : Position) → IsPosition p self.old.format
             → cell_at self.new p ≡ join (cell_at self.old p) (cell_at other.now p) }
         ensures whole { IsWhole self.new }
         ensures fit { ValuesFit self.new }

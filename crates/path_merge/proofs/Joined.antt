@@ -189,7 +189,7 @@ abbrev chosen : Raster → Option Raster → Bool → Option Raster
 chosen r rest b = cond b (Some r) rest
 
 cells_at : (f : Format) (p : Position) (ts t : ℕ) (w : List ℕ) (r q : Raster) (rs qs : List Raster)
-    (b : Bool) → eqb ts t ≡ b → IsPosition f p → r.format ≡ f → q.format ≡ f → IsWhole r
+    (b : Bool) → eqb ts t ≡ b → IsPosition p f → r.format ≡ f → q.format ≡ f → IsWhole r
     → IsWhole q → IsMember ts (t ∷ w)
     → (IsMember ts w
     → cell_if (frame_at w (joined_frames rs qs) ts) p
@@ -197,14 +197,14 @@ cells_at : (f : Format) (p : Position) (ts t : ℕ) (w : List ℕ) (r q : Raster
     → cell_if (chosen (joined_rasters r q) (frame_at w (joined_frames rs qs) ts) b) p
     ≡ join (cell_if (chosen r (frame_at w rs ts) b) p) (cell_if (chosen q (frame_at w qs ts) b) p)
 cells_at f p ts t w r q rs qs true e is fr fq wr wq m rest =
-    cell_at-joined r q p wr wq (fr ∙ sym fq) (subst (λ (g : Format). IsPosition g p) (sym fr) is)
+    cell_at-joined r q p wr wq (fr ∙ sym fq) (subst (λ (g : Format). IsPosition p g) (sym fr) is)
 cells_at f p ts t w r q rs qs false e is fr fq wr wq (inl same) rest =
     absurd (eqb-false ts t e same)
 cells_at f p ts t w r q rs qs false e is fr fq wr wq (inr m) rest = rest m
 
 -- At each position of the window's frames joined stands the join of their cells.
 cells_both : (f : Format) (p : Position) (ts : ℕ) (w : List ℕ) (rs qs : List Raster)
-    → IsPosition f p → length rs ≡ length w → length qs ≡ length w
+    → IsPosition p f → length rs ≡ length w → length qs ≡ length w
     → AllByRecursion (λ r. r.format ≡ f) rs → AllByRecursion IsWhole rs
     → AllByRecursion (λ r. r.format ≡ f) qs → AllByRecursion IsWhole qs → IsMember ts w
     → cell_if (frame_at w (joined_frames rs qs) ts) p
@@ -230,7 +230,7 @@ wholes_of f os (t ∷ w) = (length-cells_of f os t, wholes_of f os w)
 
 -- the cell in the frames of offers
 cell_in_frames : (f : Format) (os : List Offer) (p : Position) (ts t : ℕ) (w : List ℕ) (b : Bool)
-    → eqb ts t ≡ b → IsPosition f p → IsMember ts (t ∷ w)
+    → eqb ts t ≡ b → IsPosition p f → IsMember ts (t ∷ w)
     → (IsMember ts w → cell_if (frame_at w (map (raster_of f os) w) ts) p ≡ cell_of os ts p)
     → cell_if (chosen (raster_of f os t) (frame_at w (map (raster_of f os) w) ts) b) p
     ≡ cell_of os ts p
@@ -240,7 +240,7 @@ cell_in_frames f os p ts t w false e is (inl same) rest = absurd (eqb-false ts t
 cell_in_frames f os p ts t w false e is (inr m) rest = rest m
 
 cell_of_frames : (f : Format) (os : List Offer) (p : Position) (ts : ℕ) (w : List ℕ)
-    → IsPosition f p → IsMember ts w
+    → IsPosition p f → IsMember ts w
     → cell_if (frame_at w (map (raster_of f os) w) ts) p ≡ cell_of os ts p
 cell_of_frames f os p ts [] is m = absurd m
 cell_of_frames f os p ts (t ∷ w) is m =
@@ -249,7 +249,7 @@ cell_of_frames f os p ts (t ∷ w) is m =
 -- Each cell is the join of the old one and the cell of the datagram's offers.
 pub cells_more : (s t : State) (d : List ℕ) → IsReceiver s → t.opening ≡ s.opening
     → t.frames ≡ joined_frames s.frames (frames_of s.opening (d ∷ []))
-    → (ts : ℕ) (p : Position) → IsMember ts s.opening.window → IsPosition s.opening.format p
+    → (ts : ℕ) (p : Position) → IsMember ts s.opening.window → IsPosition p s.opening.format
     → cell_in t ts p ≡ join (cell_in s ts p) (cell_of (offers s.opening d) ts p)
 cells_more s t d receiver opening frames ts p m is =
     let f : Format = s.opening.format in
@@ -502,7 +502,7 @@ receiver_joined s t u same is it opening refusals frames =
 -- The cells of receivers of one opening.
 pub cells_joined : (s t u : State) → s.opening ≡ t.opening → IsReceiver s → IsReceiver t
     → u.opening ≡ s.opening → u.frames ≡ joined_frames s.frames t.frames
-    → (ts : ℕ) (p : Position) → IsMember ts s.opening.window → IsPosition s.opening.format p
+    → (ts : ℕ) (p : Position) → IsMember ts s.opening.window → IsPosition p s.opening.format
     → cell_in u ts p ≡ join (cell_in s ts p) (cell_in t ts p)
 cells_joined s t u same is it opening frames ts p m at =
     let f : Format = s.opening.format in

@@ -126,7 +126,7 @@ none_carried vs (Value v) is none = absurd (none v is.0)
 none_carried vs Contested is none = absurd (none is.0 is.2)
 
 missing_iff : (s : Scene) (es : List Event) (stay : Stay) (q : Raster) → IsFrameOf q stay s es
-    → (at : Position) → IsPosition s.opening.format at
+    → (at : Position) → IsPosition at s.opening.format
     → (cell_at q at ≡ Missing)
     ↔ ((octets : List ℕ) → Reaches octets stay s es → Carries octets s.opening stay.timestamp at
     → ⊥)

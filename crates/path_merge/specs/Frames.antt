@@ -62,7 +62,7 @@ cell_in s ts p = cell_if (frame_at s.opening.window s.frames ts) p
 -- A place of a receiver: a timestamp of its window, and a position of its format (RFC 4175, 4.3).
 pub record IsPlaceOf (timestamp : ℕ) (at : Position) (o : Opening) : Type 0 where
   pub inside : IsMember timestamp o.window
-  pub position : IsPosition o.format at
+  pub position : IsPosition at o.format
 
 -- Missing map: the places of which a receiver knows nothing, where its cell is Missing. Of one that
 -- holds Frames, these are where Frames is Missing (SMPTE ST 2022-7: what neither path brought).

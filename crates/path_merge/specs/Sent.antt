@@ -75,7 +75,7 @@ pub record IsOfSender (s : Scene) (sender : Sender) (pictures : List Values) : T
 pub record IsSendersFrame (frame : Raster) (stay : Stay) (sender : Sender) (pictures : List Values)
     (s : Scene) (events : List Event) : Type 0 where
   pub cells : (at : Position) → IsSendersCell (cell_at frame at) sender pictures stay.timestamp at
-  pub missing : (at : Position) → IsPosition s.opening.format at
+  pub missing : (at : Position) → IsPosition at s.opening.format
       → (cell_at frame at ≡ Missing)
       ↔ ((octets : List ℕ) → Reaches octets stay s events
       → Carries octets s.opening stay.timestamp at → ⊥)

@@ -165,7 +165,7 @@ impl<A: Allocator> Receiver<A> {
         ensures frames { self.new.frames
             ≡ joined_frames self.old.frames (frames_of self.old.opening (octets.now ∷ [])) }
         ensures cells { (ts : ℕ) (p : Position) →
-            IsMember ts self.old.opening.window → IsPosition self.old.opening.format p →
+            IsMember ts self.old.opening.window → IsPosition p self.old.opening.format →
             cell_in self.new ts p
             ≡ join (cell_in self.old ts p) (cell_of (offers self.old.opening octets.now) ts p) }
 
@@ -226,7 +226,7 @@ impl<A: Allocator> Receiver<A> {
         ensures frames { OnOk result (self.new.frames
             ≡ joined_frames self.old.frames other.now.frames) }
         ensures cells { OnOk result ((ts : ℕ) (p : Position) →
-            IsMember ts self.old.opening.window → IsPosition self.old.opening.format p →
+            IsMember ts self.old.opening.window → IsPosition p self.old.opening.format →
             cell_in self.new ts p ≡ join (cell_in self.old ts p) (cell_in other.now ts p)) }
 
         // Where the two hold the Frames of some datagrams, it then holds those of all of them.

@@ -73,7 +73,7 @@ no_numbers first count = record { first = first; noted = replicate count false }
 -- a sample of a frame of the window
 pub record IsPlace (s : State) (timestamp : ℕ) (p : Position) : Type 0 where
   pub inside : IsMember timestamp s.opening.window
-  pub position : IsPosition s.opening.format p
+  pub position : IsPosition p s.opening.format
 
 -- the answer to a question for a cell
 abbrev pub cell_answer : Cell → Answer

@@ -54,7 +54,7 @@ first_place f s row column at_group =
     let starts' = starts f.sampling f.depth s.offset at_group in
     let p : Position =
     record { row = s.row; column = s.offset; component = first_component f.sampling } in
-    let is : IsPosition f p = record { row = row; column = column; component = starts'.stands } in
+    let is : IsPosition p f = record { row = row; column = column; component = starts'.stands } in
     let first : number_of f p ≡ first_number f s = omega (arith, starts'.first) in
     ap (place f) (sym first) ∙ place-number_of f p is
 
@@ -169,7 +169,7 @@ record InRow (f : Format) (p : Position) (n : ℕ) : Type 0 where
   group : n / (pixel_group f.sampling f.depth).samples
       ≡ p.column / (pixel_group f.sampling f.depth).pixels
 
-in_row : (f : Format) (p : Position) → IsPosition f p
+in_row : (f : Format) (p : Position) → IsPosition p f
     → InRow f p (number_in_row f.sampling p.column p.component)
 unfolding number_of number_in_row
 in_row f p is = record {
@@ -196,7 +196,7 @@ group_inside s w height row group k inside below lt =
 
 -- a position of a group
 pub record StandsIn (f : Format) (row group : ℕ) (p : Position) : Type 0 where
-  pub is : IsPosition f p
+  pub is : IsPosition p f
   pub in_row : p.row ≡ row
   pub in_group : p.column / (pixel_group f.sampling f.depth).pixels ≡ group
 
@@ -211,7 +211,8 @@ stands_in f row group p inside below m =
     let raster : k < sample_count f =
     subst (λ (x : ℕ). k < f.height * x) (row_samples_groups f)
     (group_inside s w f.height row group k inside below range.1) in
-    let is : IsPosition f p = subst (IsPosition f) (sym r.2) (place-is_position f k raster) in
+    let is : IsPosition p f =
+    subst (λ (q : Position). IsPosition q f) (sym r.2) (place-is_position f k raster) in
     let number : number_of f p ≡ k = ap (number_of f) r.2 ∙ number_of-place f k in
     let n : ℕ = number_in_row f.sampling p.column p.component in
     let at : InRow f p n = in_row f p is in
@@ -222,7 +223,7 @@ stands_in f row group p inside below m =
     (subst (λ (x : ℕ). x < s * (row * w + group) + s) (sym k_is) range.1) in
     record { is = is; in_row = same.0; in_group = sym at.group ∙ same.1 }
 
-pub member-group_positions : (f : Format) (p : Position) → IsPosition f p
+pub member-group_positions : (f : Format) (p : Position) → IsPosition p f
     → IsMember p (group_positions f p.row (p.column / (pixel_group f.sampling f.depth).pixels))
 member-group_positions f p is =
     let s : ℕ = (pixel_group f.sampling f.depth).samples in

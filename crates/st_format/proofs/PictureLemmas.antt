@@ -85,7 +85,7 @@ values f xs = record { format = f; samples = xs }
 abbrev pub with_sample : Values → ℕ → ℕ → Values
 with_sample p k v = record { format = p.format; samples = set p.samples k v }
 
-pub sets_one : (p : Values) (q : Position) (v : ℕ) → IsPicture p → IsPosition p.format q
+pub sets_one : (p : Values) (q : Position) (v : ℕ) → IsPicture p → IsPosition q p.format
     → SetsOne p (with_sample p (number_of p.format q) v) q v
 sets_one p q v is at =
     let k : ℕ = number_of p.format q in

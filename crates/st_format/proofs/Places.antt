@@ -29,7 +29,7 @@ row_below f k below = some (row_samples f) refl where
   some (suc n) e = omega arith
 
 -- the place of a sample number is a position
-pub place-is_position : (f : Format) (k : ℕ) → k < sample_count f → IsPosition f (place f k)
+pub place-is_position : (f : Format) (k : ℕ) → k < sample_count f → IsPosition (place f k) f
 unfolding place place_in_row
 place-is_position f k below =
     let s : Sampling = f.sampling in
@@ -72,13 +72,13 @@ member_of_range a (suc n) k (suc d) e lt =
     inr (member_of_range (a + 1) n k d (omega arith) (omega arith))
 
 -- The places are the positions.
-pub member-places : (f : Format) (p : Position) → IsMember p (places f) ↔ IsPosition f p
+pub member-places : (f : Format) (p : Position) → IsMember p (places f) ↔ IsPosition p f
 member-places f p = (
   λ m.
       let r = member-map (place f) p (range_with_len 0 (sample_count f)) m in
       let below : r.0 < sample_count f =
       omega (arith, (member-range 0 (sample_count f) r.0 r.1).1) in
-      subst (IsPosition f) (sym r.2) (place-is_position f r.0 below),
+      subst (λ (q : Position). IsPosition q f) (sym r.2) (place-is_position f r.0 below),
   λ is.
       subst (λ (q : Position). IsMember q (places f)) (place-number_of f p is)
       (member_of_map (place f) (number_of f p) (range_with_len 0 (sample_count f))

@@ -32,7 +32,7 @@ filled f fill = record { format = f; samples = map (λ p. slice_index fill p.com
 pub record SetsOne (old new : Values) (p : Position) (value : ℕ) : Type 0 where
   pub format : new.format ≡ old.format
   pub changed : value_at new p ≡ value
-  pub others : (q : Position) → IsPosition old.format q → q ≢ p → value_at new q ≡ value_at old q
+  pub others : (q : Position) → IsPosition q old.format → q ≢ p → value_at new q ≡ value_at old q
 
 -- The timestamp of frame k of a sender whose first frame has the timestamp base: a clock of 90,000
 -- ticks a second, modulo 2 ^ 32 (SMPTE ST 2110-10, RTP timestamps; RFC 4175, 4.1)

@@ -111,8 +111,8 @@ impl<A: Allocator> Picture<A> {
 
     /// The value at a row, a column and a component.
     pub fn get(&self, row: u32, column: u32, component: u8) -> u16
-        requires { IsPosition self.now.format
-            (record { row = row; column = column; component = component }) }
+        requires { IsPosition (record { row = row; column = column; component = component })
+            self.now.format }
         ensures value { result
             ≡ value_at self.now (record { row = row; column = column; component = component }) }
         ensures fits { FitsDepth self.now.format result }
@@ -122,8 +122,8 @@ impl<A: Allocator> Picture<A> {
 
     /// Sets the value at a row, a column and a component.
     pub fn set(&mut self, row: u32, column: u32, component: u8, value: u16)
-        requires place { IsPosition self.old.format
-            (record { row = row; column = column; component = component }) }
+        requires place { IsPosition (record { row = row; column = column; component = component })
+            self.old.format }
         requires fits { FitsDepth self.old.format value }
         ensures one { SetsOne self.old self.new
             (record { row = row; column = column; component = component }) value }

@@ -8,10 +8,10 @@ pub cell-requires : goal.cell-requires
 cell-requires g c =
     let like = frame_like c.args.self.now.receiver c.args.place.timestamp c.in-Some.frame.now
     c.frame.ensures.receiver (sym c.in-Some.ensures.frame) in
-    subst (λ (f : Format). IsPosition f
-    (record {
+    subst (λ (f : Format). IsPosition (record {
       row = c.args.place.row;
       column = c.args.place.column;
       component = c.in-Ok.component;
-    }))
+    })
+    f)
     (c.format-format.ensures.format ∙ sym like) (c.if-not-has_position.ensures.0 refl)

@@ -12,8 +12,8 @@ returns-clause-one g c =
     let f = c.self.inside.format in
     let old : Values = values f c.self.inside.samples.items in
     let v = c.args.value in
-    let at : IsPosition f q =
-    subst (λ (p : Values). IsPosition p.format q) (sym c.self.view_is) c.requires.place in
+    let at : IsPosition q f =
+    subst (λ (p : Values). IsPosition q p.format) (sym c.self.view_is) c.requires.place in
     subst (λ (p : Values). SetsOne p
     (values f (set old.samples c.sample_number-number.result v)) q v) c.self.view_is
     (subst (λ (k : ℕ). SetsOne old (values f (set old.samples k v)) q v)
