@@ -53,25 +53,17 @@ impl fmt::Display for Answer {
             Answer::Contested => f.write_str("contested"),
             Answer::Nowhere => f.write_str("none"),
             Answer::Frame(timestamp, counts) => {
-                let (present, missing, contested) = (
-                    counts.present,
-                    counts.missing,
-                    counts.contested,
-                );
                 write!(
                     f,
-                    "frame {timestamp} present {present} missing {missing} contested {contested}"
+                    "frame {timestamp} present {} missing {} contested {}",
+                    counts.present, counts.missing, counts.contested
                 )
             }
             Answer::Out(timestamp, counts) => {
-                let (present, missing, contested) = (
-                    counts.present,
-                    counts.missing,
-                    counts.contested,
-                );
                 write!(
                     f,
-                    "out {timestamp} present {present} missing {missing} contested {contested}"
+                    "out {timestamp} present {} missing {} contested {}",
+                    counts.present, counts.missing, counts.contested
                 )
             }
             Answer::NotSlid(fault) => {
@@ -79,14 +71,10 @@ impl fmt::Display for Answer {
                 write!(f, "refused slide {number} {fault}")
             }
             Answer::HandedOut(receiver, timestamp, counts) => {
-                let (present, missing, contested) = (
-                    counts.present,
-                    counts.missing,
-                    counts.contested,
-                );
                 write!(
                     f,
-                    "out {receiver} {timestamp} present {present} missing {missing} contested {contested}"
+                    "out {receiver} {timestamp} present {} missing {} contested {}",
+                    counts.present, counts.missing, counts.contested
                 )
             }
             Answer::Receiver(number) => write!(f, "receiver {number}"),
