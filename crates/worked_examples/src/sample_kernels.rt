@@ -69,6 +69,43 @@ fn gains(row: &Row, n: usize, zero: u16, g: u32, bounds: (u16, u16)) -> bool {
     out == wanted
 }
 
+/// 24 values from one downwards.
+fn downwards(from: u16) -> [u16; 24] {
+    let mut values = [from; 24];
+    for i in 0..24usize {
+        values[i] = from.saturating_sub(i as u16);
+    }
+    values
+}
+
+/// `clip_below` of the first `n` values, each of 24 bounds from `high` downwards in turn.
+fn clips_below(row: &Row, n: usize, low: u16, high: u16) -> bool {
+    let (mut out, mut wanted) = (*row, *row);
+    if n > MOST {
+        return false;
+    }
+    let highs = downwards(high);
+    lane_kernels::clip_below(&mut out[..n], low, &highs);
+    for i in 0..n {
+        wanted[i] = clipped(i128::from(row[i]), low, highs[i % 24]);
+    }
+    out == wanted
+}
+
+/// `gain_about` of the first `n` values, about each of 24 from `zero` downwards in turn.
+fn gains_about(row: &Row, n: usize, zero: u16, g: u32, bounds: (u16, u16)) -> bool {
+    let (mut out, mut wanted) = (*row, *row);
+    if n > MOST || g > 16384 || bounds.0 > bounds.1 {
+        return false;
+    }
+    let zeros = downwards(zero);
+    lane_kernels::gain_about(&mut out[..n], &zeros, g, bounds.0, bounds.1);
+    for i in 0..n {
+        wanted[i] = gained(row[i], zeros[i % 24], g, bounds);
+    }
+    out == wanted
+}
+
 /// `mix256` of the first `n` values.
 fn mixes(a: &Row, b: &Row, w: &Row, n: usize) -> bool {
     let (mut out, mut wanted) = ([BEHIND; MOST], [BEHIND; MOST]);
@@ -177,7 +214,7 @@ fn pixels_agree(generator: &mut Generator, n: usize) -> bool {
     agree
 }
 
-/// `clip` and `gain` at one length and depth, of values of a kind.
+/// The kernels of range and gain at one length and depth, of values of a kind.
 fn ranges_agree(generator: &mut Generator, kind: u32, bits: u32, n: usize) -> bool {
     let s = scale(bits);
     let most = s.wrapping_mul(256).wrapping_sub(1);
@@ -185,9 +222,12 @@ fn ranges_agree(generator: &mut Generator, kind: u32, bits: u32, n: usize) -> bo
     let mut row = [0; MOST];
     fill(generator, kind, most, &mut row);
     let mut agree = clips(&row, n, s, high) & clips(&row, n, 0, most) & clips(&row, n, s, s);
+    agree &= clips_below(&row, n, s, high) & clips_below(&row, n, 0, most);
     for g in [0, 1, 2048, 4095, 4096, 8192, 16384] {
         agree &= gains(&row, n, s.wrapping_mul(16), g, (s, high));
         agree &= gains(&row, n, s.wrapping_mul(128), g, (s, high));
+        agree &= gains_about(&row, n, s.wrapping_mul(128), g, (s, high));
+        agree &= gains_about(&row, n, most, g, (0, most));
     }
     agree
 }
