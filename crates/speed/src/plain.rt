@@ -1,5 +1,5 @@
 //! The formulas of the jobs in plain loops over slices, a sample or a pixel after the other: what
-//! lanes are compared with. Range and gain ask of each sample whether it is luma, of 4:2:2.
+//! lanes are compared with. Range and gain go by pairs of a colour and a luma sample, of 4:2:2.
 use key_mix::Job;
 
 /// A job's formula at each sample, into `out`. `scale` is that of the depth against 8 bits.
@@ -22,21 +22,32 @@ fn video(value: i64, scale: u32) -> u16 {
 }
 
 fn limit(scale: u32, a: &[u16], out: &mut [u16]) {
+    let scale = scale as u16;
     let low = scale.wrapping_mul(16);
     let (luma, colour) = (scale.wrapping_mul(235), scale.wrapping_mul(240));
-    for (i, (value, x)) in out.iter_mut().zip(a).enumerate() {
-        let high = if i % 2 == 1 { luma } else { colour };
-        *value = u16::try_from(u32::from(*x).min(high).max(low)).unwrap_or(0);
+    for (values, pair) in out.chunks_exact_mut(2).zip(a.chunks_exact(2)) {
+        values[0] = pair[0].max(low).min(colour);
+        values[1] = pair[1].max(low).min(luma);
     }
 }
 
+/// A number `g / 4096` as far from another, within video data. No product exceeds 32 bits.
+#[inline(always)]
+fn gained(x: u16, from: i32, g: i32, scale: i32) -> u16 {
+    let far = i32::from(x).wrapping_sub(from).wrapping_mul(g);
+    let value = (far.wrapping_add(2048) >> 12).wrapping_add(from);
+    value
+        .max(scale)
+        .min(scale.wrapping_mul(255).wrapping_sub(1)) as u16
+}
+
 fn gain(scale: u32, g: u32, a: &[u16], out: &mut [u16]) {
-    let black = i64::from(scale.wrapping_mul(16));
-    let centre = i64::from(scale.wrapping_mul(128));
-    for (i, (value, x)) in out.iter_mut().zip(a).enumerate() {
-        let from = if i % 2 == 1 { black } else { centre };
-        let far = i64::from(*x).wrapping_sub(from).wrapping_mul(i64::from(g));
-        *value = video((far.wrapping_add(2048) >> 12).wrapping_add(from), scale);
+    let (scale, g) = (scale as i32, g as i32);
+    let black = scale.wrapping_mul(16);
+    let centre = scale.wrapping_mul(128);
+    for (values, pair) in out.chunks_exact_mut(2).zip(a.chunks_exact(2)) {
+        values[0] = gained(pair[0], centre, g, scale);
+        values[1] = gained(pair[1], black, g, scale);
     }
 }
 
