@@ -40,20 +40,23 @@ impl Cells {
     }
 
     /// What is known of a place, or `None` where there is no such position.
-    pub fn at(&self, format: &Format, row: u32, column: u32, component: u32) -> Option<u32> {
-        if row >= format.height() || column >= format.width() || component > 2 {
-            return None;
+    pub fn at(&self, format: &Format, place: [u32; 3]) -> Option<u32> {
+        let [row, column, component] = place;
+        let is_inside = (row < format.height()) & (column < format.width()) & (component < 3);
+        let number = number_of(format, row, column, component)?;
+        if is_inside {
+            self.cells.get(number).copied()
+        } else {
+            None
         }
-        let number = number_of(format, row, column, component as u8)?;
-        self.cells.get(number).copied()
     }
 
     /// How many cells have one value, none, and two.
-    pub fn counts(&self) -> (usize, usize, usize) {
-        let missing = self.cells.iter().filter(|cell| **cell == MISSING).count();
-        let contested = self.cells.iter().filter(|cell| **cell == CONTESTED).count();
-        let present = self.cells.len().saturating_sub(missing);
-        (present.saturating_sub(contested), missing, contested)
+    pub fn counts(&self) -> [usize; 3] {
+        let missing = count_of(self.cells.as_slice(), MISSING);
+        let contested = count_of(self.cells.as_slice(), CONTESTED);
+        let others = missing.saturating_add(contested);
+        [self.cells.len().saturating_sub(others), missing, contested]
     }
 
     /// Whether a receiver's frame of the timestamp has these cells.
@@ -76,7 +79,7 @@ impl Cells {
         let Some(frame) = receiver.frame(self.timestamp) else {
             return false;
         };
-        let Some(number) = number_of(&format, row, column, component) else {
+        let Some(number) = number_of(&format, row, column, u32::from(component)) else {
             return true;
         };
         if !frame.format().has_position(row, column, component) {
@@ -91,9 +94,20 @@ impl Cells {
     }
 }
 
+/// How many cells are one.
+fn count_of(cells: &[u32], one: u32) -> usize {
+    let mut count = 0usize;
+    for cell in cells {
+        if *cell == one {
+            count = count.wrapping_add(1);
+        }
+    }
+    count
+}
+
 /// The number of a place's sample in the order in which samples are sent (RFC 4175, 4.3), or `None`
 /// where 4:2:2 has no such sample.
-fn number_of(format: &Format, row: u32, column: u32, component: u8) -> Option<usize> {
+fn number_of(format: &Format, row: u32, column: u32, component: u32) -> Option<usize> {
     let width = format.width();
     let before = row.wrapping_mul(width).wrapping_add(column);
     let number = match (format.sampling(), component) {
@@ -103,7 +117,7 @@ fn number_of(format: &Format, row: u32, column: u32, component: u8) -> Option<us
         (Sampling::Ycc422, _) => before.wrapping_mul(2).wrapping_add(2),
         (Sampling::Ycc444, 0) => before.wrapping_mul(3).wrapping_add(1),
         (Sampling::Ycc444, 1) => before.wrapping_mul(3),
-        _ => before.wrapping_mul(3).wrapping_add(u32::from(component)),
+        _ => before.wrapping_mul(3).wrapping_add(component),
     };
     Some(number as usize)
 }

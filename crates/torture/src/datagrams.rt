@@ -5,6 +5,7 @@ use crate::hostile;
 use crate::hostile_lines::any_format;
 use crate::plain::Plain;
 use crate::reading::{Opening, Wanted};
+use crate::text::Text;
 use path_merge::{Receiver, Refusal, Taken};
 use st_format::Path;
 use std::alloc::Global;
@@ -106,26 +107,25 @@ fn place_of(answer: Wanted) -> usize {
     }
 }
 
-/// Gives a receiver so many datagrams. Answers whether it is as it is to be; else the octets are
-/// those of the first datagram that it answered otherwise, or of the last where only what it holds
-/// differs.
+/// Gives a receiver so many datagrams. Answers whether it is as it is to be; else the text is the
+/// first datagram that it answered otherwise, or the last where only what it holds differs.
 pub fn run(
     alloc: Global,
     generator: &mut Generator,
     count: u64,
-    octets: &mut Vec<u8>,
+    text: &mut Text,
     totals: &mut Totals,
 ) -> Result<bool, Fault> {
     let mut round = Round::open(alloc, generator)?;
     for _ in 0..count.min(ROUND) {
         let window = WINDOW.get(..round.timestamps).ok_or(Fault)?;
-        hostile::write(generator, &round.plain.opening, window, octets)?;
+        hostile::write(generator, &round.plain.opening, window, text);
         let path = if generator.one_in(2) {
             Path::A
         } else {
             Path::B
         };
-        if !round.takes(path, octets.as_slice(), totals)? {
+        if !round.takes(path, text.held(), totals)? {
             return Ok(false);
         }
     }

@@ -4,6 +4,7 @@
 use crate::fault::Fault;
 use crate::generator::Generator;
 use crate::hostile::spoil;
+use crate::text::Text;
 use sdp_format::{Sdp, fmtp_text, read_sdp};
 use std::alloc::Global;
 
@@ -42,12 +43,11 @@ const WIDTH: usize = 4;
 
 const ODD: &[u8] = b"width=7; ";
 
+/// How many sections there are, each as often as it stands here.
+const COUNTS: [u32; 16] = [0, 3, 2, 2, 2, 2, 2, 2, 2, 1, 1, 1, 1, 1, 1, 1];
+
 /// Writes a section behind the text. Answers its first fault, 0 where it has none.
-fn write_section(
-    generator: &mut Generator,
-    colour: &[u8],
-    text: &mut Vec<u8>,
-) -> Result<u8, Fault> {
+fn write_section(generator: &mut Generator, colour: &[u8], text: &mut Text) -> u8 {
     let mut first = 0u8;
     let is_odd = generator.one_in(40);
     for (place, (sound, wrong)) in PARTS.iter().enumerate() {
@@ -55,55 +55,47 @@ fn write_section(
         if is_wrong && first == 0 {
             first = u8::try_from(place).unwrap_or(0).wrapping_add(4);
         }
-        text.extend_from_slice(match (is_wrong, is_odd && place == WIDTH) {
-            (true, _) => *wrong,
-            (false, true) => ODD,
-            (false, false) => *sound,
-        })?;
+        let sound = if is_odd && place == WIDTH {
+            ODD
+        } else {
+            *sound
+        };
+        text.put(if is_wrong { *wrong } else { sound });
     }
-    text.extend_from_slice(b"colorimetry=")?;
-    text.extend_from_slice(colour)?;
-    text.extend_from_slice(if generator.one_in(2) {
+    text.put(b"colorimetry=");
+    text.put(colour);
+    text.put(if generator.one_in(2) {
         b"\r\n"
     } else {
         b"\t\n"
-    })?;
-    Ok(if first == 0 && is_odd { 16 } else { first })
+    });
+    if first == 0 && is_odd { 16 } else { first }
 }
 
-/// Writes a text in place of what the vector holds. Answers its fault, 0 where it has none.
-fn write(generator: &mut Generator, text: &mut Vec<u8>) -> Result<u8, Fault> {
+/// Writes a text in place of what it holds. Answers its fault, 0 where it has none.
+fn write(generator: &mut Generator, text: &mut Text) -> u8 {
     text.clear();
-    text.extend_from_slice(b"v=0\r\ns=-\nm=audio 5000 RTP/AVP 97\na=rtpmap:97 L24/48000/2\n")?;
-    let count = match generator.below(16) {
-        0 => 0,
-        1 => 3,
-        2..=8 => 2,
-        _ => 1,
-    };
+    text.put(b"v=0\r\ns=-\nm=audio 5000 RTP/AVP 97\na=rtpmap:97 L24/48000/2\n");
+    let count = generator.pick(&COUNTS);
     let mut first = 0u8;
     let mut differs = false;
     let of_first = generator.size(2);
     for section in 0..count {
-        let colour = if section > 0 && generator.one_in(3) {
-            1 - of_first % 2
-        } else {
-            of_first
-        };
+        let turns = section > 0 && generator.one_in(3);
+        let colour = if turns { 1 - of_first % 2 } else { of_first };
         differs |= colour != of_first;
         let octets = COLOURS.get(colour).copied().unwrap_or(b"");
-        let fault = write_section(generator, octets, text)?;
+        let fault = write_section(generator, octets, text);
         if first == 0 {
             first = fault;
         }
     }
-    Ok(match count {
+    match count {
         0 => 2,
         3 => 3,
-        _ if first > 0 => first,
-        _ if differs => 17,
-        _ => 0,
-    })
+        _ if first == 0 && differs => 17,
+        _ => first,
+    }
 }
 
 /// The fault of a text by its number; 0 and the canonical line where it has none.
@@ -132,14 +124,19 @@ fn reads_back(alloc: Global, line: &[u8]) -> Result<bool, Fault> {
     let Some(end) = line.iter().position(|octet| *octet == b' ') else {
         return Ok(false);
     };
-    let kind = line.get(7..end).ok_or(Fault)?;
-    let mut text = Vec::from_slice(alloc, b"m=video 1 RTP/AVP ")?;
-    text.extend_from_slice(kind)?;
-    text.extend_from_slice(b"\na=rtpmap:")?;
-    text.extend_from_slice(kind)?;
-    text.extend_from_slice(b" raw/90000\n")?;
-    text.extend_from_slice(line)?;
-    let (fault, again) = read(alloc, text.as_slice())?;
+    let kind = line.get(7..end).unwrap_or(&[]);
+    let mut text = Text::new(alloc);
+    for part in [
+        b"m=video 1 RTP/AVP ",
+        kind,
+        b"\na=rtpmap:",
+        kind,
+        b" raw/90000\n",
+        line,
+    ] {
+        text.put(part);
+    }
+    let (fault, again) = read(alloc, text.held())?;
     Ok(fault == 0 && again.as_slice() == line)
 }
 
@@ -147,15 +144,15 @@ fn reads_back(alloc: Global, line: &[u8]) -> Result<bool, Fault> {
 pub fn run(
     alloc: Global,
     generator: &mut Generator,
-    text: &mut Vec<u8>,
+    text: &mut Text,
     totals: &mut Totals,
 ) -> Result<bool, Fault> {
-    let wanted = write(generator, text)?;
+    let wanted = write(generator, text);
     let spoils = generator.below(4);
     for _ in 0..spoils {
-        spoil(generator, text)?;
+        spoil(generator, text);
     }
-    let (found, line) = read(alloc, text.as_slice())?;
+    let (found, line) = read(alloc, text.held())?;
     if let Some(total) = totals.get_mut(usize::from(found)) {
         *total = total.wrapping_add(1);
     }

@@ -17,60 +17,73 @@ const MIXED: u8 = 8;
 
 const TOO_MANY: u8 = 9;
 
-/// Octets, of which the front is read.
+/// Octets, of which the front is read, up to the first fault; 0 where there was none.
 #[derive(Drop)]
 struct Octets<'a> {
     left: &'a [u8],
+    fault: u8,
 }
 
 impl<'a> Octets<'a> {
-    /// So many octets.
-    fn next(&mut self, count: usize) -> Result<&'a [u8], u8> {
-        let Some((front, left)) = self.left.split_at_checked(count) else {
-            return Err(TRUNCATED);
-        };
-        self.left = left;
-        Ok(front)
+    fn new(left: &'a [u8]) -> Octets<'a> {
+        Octets { left, fault: 0 }
+    }
+
+    /// Notes a fault, where there was none before. Nothing is left behind one.
+    fn refuse(&mut self, is_wrong: bool, fault: u8) {
+        if is_wrong {
+            self.left = &[];
+            if self.fault == 0 {
+                self.fault = fault;
+            }
+        }
+    }
+
+    /// So many octets; none where they are truncated.
+    fn next(&mut self, count: usize) -> &'a [u8] {
+        let left = self.left;
+        let front = left.get(..count).unwrap_or(&[]);
+        self.left = left.get(count..).unwrap_or(&[]);
+        self.refuse(count > left.len(), TRUNCATED);
+        front
     }
 
     /// A number of up to four octets.
-    fn number(&mut self, octets: usize) -> Result<u32, u8> {
+    fn number(&mut self, octets: usize) -> u32 {
         let mut number = 0u32;
-        for octet in self.next(octets)? {
+        for octet in self.next(octets) {
             number = number.wrapping_mul(256) | u32::from(*octet);
         }
-        Ok(number)
+        number
     }
 
-    /// The name, and the number of the version.
-    fn front(&mut self, name: &[u8]) -> Result<u32, u8> {
-        let front = self.next(8)?;
-        if !front.starts_with(name) {
-            return Err(BAD_NAME);
-        }
-        match (front.get(6), front.get(7)) {
-            (Some(b'0'), Some(b'1')) => Ok(1),
-            (Some(b'0'), Some(b'2')) => Ok(2),
-            _ => Err(BAD_VERSION),
-        }
+    /// The version, up to one: the octets begin with a name and it.
+    fn version(&mut self, name: &[u8], most: u32) -> u32 {
+        let front = self.next(8);
+        let version = u32::from(front.ends_with(b"01")) + 2 * u32::from(front.ends_with(b"02"));
+        self.refuse(!front.starts_with(name), BAD_NAME);
+        self.refuse(version < 1 || version > most, BAD_VERSION);
+        version
     }
 
-    /// The same of a file that has one version.
-    fn only_front(&mut self, name: &[u8]) -> Result<(), u8> {
-        if self.front(name)? == 1 {
+    /// The first fault; one where octets are left.
+    fn end(&self, trailing: u8) -> Result<(), u8> {
+        if self.fault > 0 {
+            Err(self.fault)
+        } else if self.left.is_empty() {
             Ok(())
         } else {
-            Err(BAD_VERSION)
+            Err(trailing)
         }
     }
 }
 
 /// The groups of a raster.
 #[derive(Clone, Copy)]
-pub struct Groups {
+struct Groups {
     count: usize,
-    pub octets: usize,
-    pub samples: usize,
+    octets: usize,
+    samples: usize,
     bits: usize,
 }
 
@@ -104,13 +117,13 @@ fn are_coprime(n: u32, d: u32) -> bool {
 
 /// Whether a rate is one, in any terms: from 1 to 300 (own).
 pub fn is_rate(n: u32, d: u32) -> bool {
-    let is_within = d <= n && n / 300 <= d && (n / 300 < d || n % 300 == 0);
-    1 <= d && n <= 1_000_000 && d <= 1_000_000 && is_within
+    let is_within = (d <= n) & (u64::from(n) <= u64::from(d) * 300);
+    (1 <= d) & (n <= 1_000_000) & (d <= 1_000_000) & is_within
 }
 
 /// Whether a width is one of pixel groups of so many pixels (own).
 pub fn is_width(width: u32, pixels: u32) -> bool {
-    2 <= width && width <= 8192 && width % 2 == 0 && width % pixels.max(1) == 0
+    (2 <= width) & (width <= 8192) & (width % 2 == 0) & (width % pixels.max(1) == 0)
 }
 
 /// Whether a height is one (own).
@@ -119,26 +132,22 @@ pub fn is_height(height: u32) -> bool {
 }
 
 /// The groups of a format block.
-fn block(octets: &mut Octets<'_>) -> Result<Groups, u8> {
-    let mut block = Octets {
-        left: octets.next(14)?,
-    };
-    let (sampling, depth) = (block.number(1)?, block.number(1)?);
-    let (width, height) = (block.number(2)?, block.number(2)?);
-    let (n, d) = (block.number(4)?, block.number(4)?);
-    let Some((size, pixels, samples)) = group_of(sampling, depth) else {
-        return Err(BAD_FIELD);
-    };
-    let is_rate = is_rate(n, d) && are_coprime(n, d);
-    if !is_width(width, pixels) || !is_height(height) || !is_rate {
-        return Err(BAD_FIELD);
-    }
-    Ok(Groups {
+fn block(octets: &mut Octets<'_>) -> Groups {
+    let mut block = Octets::new(octets.next(14));
+    let (sampling, depth) = (block.number(1), block.number(1));
+    let (width, height) = (block.number(2), block.number(2));
+    let (n, d) = (block.number(4), block.number(4));
+    let (size, pixels, samples) = group_of(sampling, depth).unwrap_or((0, 0, 0));
+    let is_raster = is_width(width, pixels) & is_height(height);
+    octets.refuse(size == 0, BAD_FIELD);
+    octets.refuse(!is_raster, BAD_FIELD);
+    octets.refuse(!(is_rate(n, d) & are_coprime(n, d)), BAD_FIELD);
+    Groups {
         count: (width / pixels.max(1)).wrapping_mul(height) as usize,
         octets: size as usize,
         samples: samples as usize,
         bits: depth as usize,
-    })
+    }
 }
 
 /// The most records that are read of a capture.
@@ -161,115 +170,94 @@ pub struct Content<'a> {
 
 /// What a capture says, or its fault.
 pub fn capture(octets: &[u8]) -> Result<Content<'_>, u8> {
-    let mut octets = Octets { left: octets };
-    let mut text: &[u8] = &[];
-    if octets.front(b"S20CAP")? == 2 {
-        let length = octets.number(2)?;
-        text = octets.next(length as usize)?;
-    }
+    let mut octets = Octets::new(octets);
+    let length = if octets.version(b"S20CAP", 2) == 2 {
+        octets.number(2)
+    } else {
+        0
+    };
+    let text = octets.next(length as usize);
     let mut entries = [None; LIMIT];
     for place in 0..LIMIT {
-        if octets.left.is_empty() {
-            return Ok(Content { text, entries });
+        if !octets.left.is_empty() {
+            entries[place] = Some(next_entry(&mut octets));
         }
-        entries[place] = Some(next_entry(&mut octets)?);
     }
-    if octets.left.is_empty() {
-        Ok(Content { text, entries })
-    } else {
-        Err(TOO_MANY)
-    }
+    octets.end(TOO_MANY)?;
+    Ok(Content { text, entries })
 }
 
-/// A record, or its fault.
-fn next_entry<'a>(octets: &mut Octets<'a>) -> Result<Entry<'a>, u8> {
-    let mut head = Octets {
-        left: octets.next(11)?,
-    };
-    let path = head.number(1)?;
-    if path > 1 {
-        return Err(BAD_FIELD);
-    }
-    let (high, low) = (head.number(4)?, head.number(4)?);
-    let length = head.number(2)?;
-    Ok(Entry {
+/// A record.
+fn next_entry<'a>(octets: &mut Octets<'a>) -> Entry<'a> {
+    let mut head = Octets::new(octets.next(11));
+    let path = head.number(1);
+    let (high, low) = (head.number(4), head.number(4));
+    let length = head.number(2);
+    octets.refuse(path > 1, BAD_FIELD);
+    Entry {
         path,
         moment: u64::from(high) << 32 | u64::from(low),
-        octets: octets.next(length as usize)?,
-    })
+        octets: octets.next(length as usize),
+    }
 }
 
 /// Whether octets are a picture's file, or its fault.
 pub fn picture(octets: &[u8]) -> Result<(), u8> {
-    let mut octets = Octets { left: octets };
-    octets.only_front(b"S20PIC")?;
-    let groups = block(&mut octets)?;
-    octets.next(groups.count.wrapping_mul(groups.octets))?;
-    if octets.left.is_empty() {
-        Ok(())
-    } else {
-        Err(TRAILING)
-    }
+    let mut octets = Octets::new(octets);
+    octets.version(b"S20PIC", 1);
+    let groups = block(&mut octets);
+    octets.next(groups.count.wrapping_mul(groups.octets));
+    octets.end(TRAILING)
 }
 
 /// Whether octets are a receiver's file, or its fault.
 pub fn state(octets: &[u8]) -> Result<(), u8> {
-    let mut octets = Octets { left: octets };
-    octets.only_front(b"S20RCV")?;
-    let groups = block(&mut octets)?;
-    if octets.number(1)? > 127 {
-        return Err(BAD_FIELD);
-    }
-    let flag = octets.number(1)?;
-    if flag > 1 {
-        return Err(BAD_FIELD);
-    }
-    if octets.number(4)? > 0 && flag == 0 {
-        return Err(BAD_FIELD);
-    }
-    let count = octets.number(1)?;
-    if count < 1 || count > 16 {
-        return Err(BAD_FIELD);
-    }
-    frames(&mut octets, groups, count)?;
-    if octets.left.is_empty() {
-        Ok(())
-    } else {
-        Err(TRAILING)
-    }
+    let mut octets = Octets::new(octets);
+    octets.version(b"S20RCV", 1);
+    let groups = block(&mut octets);
+    let payload_type = octets.number(1);
+    octets.refuse(payload_type > 127, BAD_FIELD);
+    let flag = octets.number(1);
+    octets.refuse(flag > 1, BAD_FIELD);
+    let ssrc = octets.number(4);
+    octets.refuse(ssrc > 0 && flag == 0, BAD_FIELD);
+    let count = octets.number(1);
+    octets.refuse(count < 1 || count > 16, BAD_FIELD);
+    frames(&mut octets, groups, count);
+    octets.end(TRAILING)
 }
 
 /// The frames of a receiver's file.
-fn frames(octets: &mut Octets<'_>, groups: Groups, count: u32) -> Result<(), u8> {
+fn frames(octets: &mut Octets<'_>, groups: Groups, count: u32) {
     let mut before = [0u32; 16];
     for place in 0..count.min(16) as usize {
-        let timestamp = octets.number(4)?;
-        if before.iter().take(place).any(|t| *t == timestamp) {
-            return Err(BAD_FIELD);
-        }
+        let timestamp = octets.number(4);
+        let seen = before.iter().take(place).any(|t| *t == timestamp);
+        octets.refuse(seen, BAD_FIELD);
         before[place] = timestamp;
-        for _ in 0..groups.count {
-            group(octets, groups)?;
-        }
+        frame(octets, groups);
     }
-    Ok(())
+}
+
+/// The groups of a frame, up to a fault.
+fn frame(octets: &mut Octets<'_>, groups: Groups) {
+    for _ in 0..groups.count {
+        if octets.fault > 0 {
+            break;
+        }
+        group(octets, groups);
+    }
 }
 
 /// A group of a receiver's file.
-fn group(octets: &mut Octets<'_>, groups: Groups) -> Result<(), u8> {
-    match octets.number(1)? {
-        0 => Ok(()),
-        1 => {
-            octets.next(groups.octets)?;
-            Ok(())
-        }
-        2 => {
-            let mask = octets.number(2)?;
-            let is_mixed = is_mixed(mask, octets.next(groups.octets)?, groups);
-            if is_mixed { Ok(()) } else { Err(MIXED) }
-        }
-        _ => Err(BAD_FIELD),
-    }
+fn group(octets: &mut Octets<'_>, groups: Groups) {
+    let state = octets.number(1);
+    octets.refuse(state > 2, BAD_FIELD);
+    let mask = if state == 2 { octets.number(2) } else { 0 };
+    let size = if state == 0 { 0 } else { groups.octets };
+    let data = octets.next(size);
+    let is_mixed = state < 2 || is_mixed(mask, data, groups);
+    octets.refuse(!is_mixed, MIXED);
 }
 
 /// Whether a mask says of some of the group's samples that they are contested, and these are 0.

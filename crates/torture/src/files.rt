@@ -3,7 +3,8 @@
 use crate::fault::Fault;
 use crate::file_reading::{self, Content, Entry, LIMIT};
 use crate::generator::Generator;
-use crate::hostile_files::{Kind, write};
+use crate::hostile_files::write;
+use crate::text::Text;
 use capture_file::{Capture, FileFault, Record, read_capture, read_picture, write_picture};
 use receiver_file::{load_receiver, save_receiver};
 use st_format::Path;
@@ -102,27 +103,23 @@ fn place_of(read: Result<(), u8>) -> usize {
     }
 }
 
-/// Makes a file of any kind. Answers whether its reader answers as it is to; the octets are the
-/// file.
+/// Makes a file of any kind. Answers whether its reader answers as it is to; the text is the file.
 pub fn run(
     alloc: Global,
     generator: &mut Generator,
-    octets: &mut Vec<u8>,
+    text: &mut Text,
     totals: &mut Totals,
 ) -> Result<bool, Fault> {
-    let kind = match generator.below(3) {
-        0 => Kind::Capture,
-        1 => Kind::Picture,
-        _ => Kind::Receiver,
-    };
-    write(generator, kind, octets)?;
+    let kind = generator.below(3);
+    write(generator, kind, text);
+    let octets = text.held();
     let (found, wanted) = match kind {
-        Kind::Capture => {
+        0 => {
             let wanted = file_reading::capture(octets);
             (capture(alloc, octets, &wanted)?, wanted.map(|_| ()))
         }
-        Kind::Picture => (picture(alloc, octets)?, file_reading::picture(octets)),
-        Kind::Receiver => (receiver(alloc, octets)?, file_reading::state(octets)),
+        1 => (picture(alloc, octets)?, file_reading::picture(octets)),
+        _ => (receiver(alloc, octets)?, file_reading::state(octets)),
     };
     Ok(note(found, wanted, totals))
 }

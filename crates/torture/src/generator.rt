@@ -33,8 +33,19 @@ impl Generator {
         self.below(draws) == 0
     }
 
-    pub fn octet(&mut self) -> u8 {
-        self.below(256) as u8
+    /// A number below a limit once in so many draws, and else `sound`.
+    pub fn one_of(&mut self, draws: u32, limit: u32, sound: u32) -> u32 {
+        if self.one_in(draws) {
+            self.below(limit)
+        } else {
+            sound
+        }
+    }
+
+    /// One of these numbers; 0 where there is none.
+    pub fn pick(&mut self, numbers: &[u32]) -> u32 {
+        let place = self.size(numbers.len());
+        numbers.get(place).copied().unwrap_or(0)
     }
 
     /// A number that is mostly `sound`, and else at a bound, beside it, or any up to `most`.
@@ -47,6 +58,15 @@ impl Generator {
             4 => sound.saturating_sub(1),
             5 => self.below(most.saturating_add(1)),
             _ => sound,
+        }
+    }
+
+    /// The same, where one in 32 isn't `sound` at once.
+    pub fn near(&mut self, sound: u32, most: u32) -> u32 {
+        if self.one_in(32) {
+            self.number(sound, most)
+        } else {
+            sound
         }
     }
 }

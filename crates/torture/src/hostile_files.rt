@@ -1,65 +1,68 @@
 //! Hostile files: mostly sound, but fields now and then at a bound or beside it, and octets turned,
 //! cut off and put in.
-use crate::fault::Fault;
 use crate::file_reading::group_of;
 use crate::generator::Generator;
-use crate::hostile::{put_long, put_word, spoil};
+use crate::hostile::spoil;
+use crate::text::Text;
 
-/// A kind of file.
-#[derive(Clone, Copy, Debug, PartialEq, Eq)]
-pub enum Kind {
-    Capture,
-    Picture,
-    Receiver,
+/// Depths, in bits.
+const DEPTHS: [u32; 4] = [8, 10, 12, 16];
+
+/// Rates, in lowest terms.
+const RATES: [(u32, u32); 4] = [(60_000, 1001), (1_000_000, 999_999), (300, 1), (25, 1)];
+
+/// Octets and samples of a pixel group, and how many groups there are.
+#[derive(Clone, Copy)]
+struct Block {
+    size: u32,
+    samples: u32,
+    groups: u32,
 }
 
-/// Writes a file of a kind in place of what the vector holds.
-pub fn write(generator: &mut Generator, kind: Kind, octets: &mut Vec<u8>) -> Result<(), Fault> {
+/// Writes a file in place of what the text holds: a capture, a picture or a receiver by the kinds
+/// 0, 1 and 2.
+pub fn write(generator: &mut Generator, kind: u32, octets: &mut Text) {
     octets.clear();
     match kind {
-        Kind::Capture => write_capture(generator, octets)?,
-        Kind::Picture => write_picture(generator, octets)?,
-        Kind::Receiver => write_receiver(generator, octets)?,
+        0 => write_capture(generator, octets),
+        1 => write_picture(generator, octets),
+        _ => write_receiver(generator, octets),
     }
     if generator.one_in(2) {
-        spoil(generator, octets)?;
+        spoil(generator, octets);
     }
-    Ok(())
 }
 
-/// Puts the last eight bits of a number behind the octets.
-fn put(octets: &mut Vec<u8>, number: u32) -> Result<(), Fault> {
-    octets.push((number % 256) as u8)?;
-    Ok(())
-}
-
-/// Puts octets of no order behind the octets.
-fn put_any(generator: &mut Generator, octets: &mut Vec<u8>, count: u32) -> Result<(), Fault> {
+/// Puts octets of no order behind.
+fn put_any(generator: &mut Generator, octets: &mut Text, count: u32) {
     for _ in 0..count {
-        octets.push(generator.octet())?;
+        octets.put_octet(generator.below(256));
     }
-    Ok(())
+}
+
+/// Puts the front of a file of a version behind.
+fn put_front(generator: &mut Generator, octets: &mut Text, name: &[u8], version: u32) {
+    octets.put(name);
+    octets.put_octet(48 + generator.number(version, 9) % 16);
 }
 
 /// A capture of version 01 or 02, of up to three records.
-fn write_capture(generator: &mut Generator, octets: &mut Vec<u8>) -> Result<(), Fault> {
-    let version = 1 + generator.below(2);
-    octets.extend_from_slice(b"S20CAP0")?;
-    put(octets, 48 + generator.number(version, 9) % 16)?;
+fn write_capture(generator: &mut Generator, octets: &mut Text) {
+    let version = generator.below(2).wrapping_add(1);
+    put_front(generator, octets, b"S20CAP0", version);
     if version == 2 {
         let text = generator.below(5);
-        put_word(octets, generator.number(text, 65535))?;
-        put_any(generator, octets, text)?;
+        octets.put_word(generator.number(text, 65535));
+        put_any(generator, octets, text);
     }
     for _ in 0..generator.below(4) {
         let length = generator.below(40);
-        put(octets, generator.number(length % 2, 255))?;
-        put_long(octets, generator.below(3))?;
-        put_long(octets, generator.below(65536))?;
-        put_word(octets, generator.number(length, 65535))?;
-        put_any(generator, octets, length)?;
+        octets.put_octet(generator.number(length % 2, 255));
+        octets.put_long(generator.below(3));
+        octets.put_long(generator.below(65536));
+        octets.put_word(generator.number(length, 65535));
+        put_any(generator, octets, length);
     }
-    Ok(())
 }
 
 /// A width or height: a large one is none, so that no file asks for much memory.
@@ -72,106 +75,79 @@ fn side(generator: &mut Generator, sound: u32) -> u32 {
     }
 }
 
-/// A format block. Answers the octets and the samples of a group, and how many groups there are.
-fn write_block(generator: &mut Generator, octets: &mut Vec<u8>) -> Result<(u32, u32, u32), Fault> {
+/// A format block.
+fn write_block(generator: &mut Generator, octets: &mut Text) -> Block {
     let sampling = generator.below(3);
-    let depth = match generator.below(4) {
-        0 => 8,
-        1 => 10,
-        2 => 12,
-        _ => 16,
-    };
-    let (width, height) = (4 + 4 * generator.below(3), 1 + generator.below(3));
-    put(octets, generator.number(sampling, 255))?;
-    put(octets, generator.number(depth, 255))?;
-    put_word(octets, side(generator, width))?;
-    put_word(octets, side(generator, height))?;
-    let (n, d) = match generator.below(4) {
-        0 => (60_000, 1001),
-        1 => (1_000_000, 999_999),
-        2 => (300, 1),
-        _ => (25, 1),
-    };
-    put_long(octets, generator.number(n, 1_000_001))?;
-    put_long(octets, generator.number(d, 1_000_001))?;
-    let (size, pixels, samples) = group_of(sampling, depth).ok_or(Fault)?;
-    let groups = (width / pixels.max(1)).wrapping_mul(height);
-    Ok((size, samples, groups))
+    let depth = generator.pick(&DEPTHS);
+    let width = generator.below(3).wrapping_mul(4).wrapping_add(4);
+    let height = generator.below(3).wrapping_add(1);
+    octets.put_octet(generator.number(sampling, 255));
+    octets.put_octet(generator.number(depth, 255));
+    octets.put_word(side(generator, width));
+    octets.put_word(side(generator, height));
+    let place = generator.size(RATES.len());
+    let (n, d) = RATES.get(place).copied().unwrap_or((1, 1));
+    octets.put_long(generator.number(n, 1_000_001));
+    octets.put_long(generator.number(d, 1_000_001));
+    let (size, pixels, samples) = group_of(sampling, depth).unwrap_or((0, 0, 0));
+    Block {
+        size,
+        samples,
+        groups: (width / pixels.max(1)).wrapping_mul(height),
+    }
 }
 
 /// A picture's file.
-fn write_picture(generator: &mut Generator, octets: &mut Vec<u8>) -> Result<(), Fault> {
-    octets.extend_from_slice(b"S20PIC0")?;
-    put(octets, 48 + generator.number(1, 9) % 16)?;
-    let (size, _, groups) = write_block(generator, octets)?;
-    put_any(generator, octets, size.wrapping_mul(groups).min(4096))
+fn write_picture(generator: &mut Generator, octets: &mut Text) {
+    put_front(generator, octets, b"S20PIC0", 1);
+    let block = write_block(generator, octets);
+    put_any(
+        generator,
+        octets,
+        block.size.wrapping_mul(block.groups).min(4096),
+    );
 }
 
 /// A receiver's file of up to three timestamps.
-fn write_receiver(generator: &mut Generator, octets: &mut Vec<u8>) -> Result<(), Fault> {
-    octets.extend_from_slice(b"S20RCV0")?;
-    put(octets, 48 + generator.number(1, 9) % 16)?;
-    let (size, samples, groups) = write_block(generator, octets)?;
-    put(octets, generator.number(96, 255))?;
+fn write_receiver(generator: &mut Generator, octets: &mut Text) {
+    put_front(generator, octets, b"S20RCV0", 1);
+    let block = write_block(generator, octets);
+    octets.put_octet(generator.number(96, 255));
     let flag = generator.below(2);
-    put(octets, generator.number(flag, 255))?;
+    octets.put_octet(generator.number(flag, 255));
     let ssrc = flag.wrapping_mul(generator.below(9));
-    put_long(octets, generator.number(ssrc, u32::MAX))?;
-    let count = 1 + generator.below(3);
-    put(octets, generator.number(count, 255))?;
+    octets.put_long(generator.number(ssrc, u32::MAX));
+    let count = generator.below(3).wrapping_add(1);
+    octets.put_octet(generator.number(count, 255));
     for place in 0..count {
-        put_long(octets, generator.number(900 + place, u32::MAX))?;
-        for _ in 0..groups.min(64) {
-            write_group(generator, octets, size, samples)?;
-        }
+        octets.put_long(generator.number(900u32.wrapping_add(place), u32::MAX));
+        write_groups(generator, octets, block);
     }
-    Ok(())
 }
 
-/// A group of a receiver's file.
-fn write_group(
-    generator: &mut Generator,
-    octets: &mut Vec<u8>,
-    size: u32,
-    samples: u32,
-) -> Result<(), Fault> {
-    let state = generator.below(3);
-    put(
-        octets,
-        if generator.one_in(256) {
-            generator.below(256)
-        } else {
-            state
-        },
-    )?;
-    match state {
-        0 => Ok(()),
-        1 => put_any(generator, octets, size.min(16)),
-        _ => write_mixed(generator, octets, size, samples),
+/// The groups of a timestamp.
+fn write_groups(generator: &mut Generator, octets: &mut Text, block: Block) {
+    for _ in 0..block.groups.min(64) {
+        let state = generator.below(3);
+        octets.put_octet(generator.one_of(256, 256, state));
+        match state {
+            0 => {}
+            1 => put_any(generator, octets, block.size),
+            _ => write_mixed(generator, octets, block),
+        }
     }
 }
 
 /// A group of which some samples are contested; the others are mostly 0 too.
-fn write_mixed(
-    generator: &mut Generator,
-    octets: &mut Vec<u8>,
-    size: u32,
-    samples: u32,
-) -> Result<(), Fault> {
-    let sample = generator.below(samples.min(12));
-    let mask = if generator.one_in(128) {
-        generator.below(65536)
-    } else {
-        1u32 << (sample % 16)
-    };
-    put_word(octets, mask)?;
-    for place in 0..size.min(16) {
-        let is_last = place + 1 == size && sample == 0;
+fn write_mixed(generator: &mut Generator, octets: &mut Text, block: Block) {
+    let sample = generator.below(block.samples);
+    octets.put_word(generator.one_of(128, 65536, 1 << (sample % 16)));
+    for place in 0..block.size {
+        let is_last = place.wrapping_add(1) == block.size && sample == 0;
         if is_last || generator.one_in(512) {
-            put(octets, generator.below(256))?;
+            octets.put_octet(generator.below(256));
         } else {
-            put(octets, 0)?;
+            octets.put_octet(0);
         }
     }
-    Ok(())
 }

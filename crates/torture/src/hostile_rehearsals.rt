@@ -3,11 +3,10 @@
 //! in.
 use crate::fault::Fault;
 use crate::generator::Generator;
-use crate::hostile_lines::{any_format, format_line, join, near, put_window, spoil_lines};
-use crate::rehearsal_stage::Raster;
+use crate::hostile_lines::{Script, any_format, put_format, put_window};
+use crate::text::Text;
 use st_format::Format;
 use std::alloc::Global;
-use std::io::Write;
 
 /// Timestamps of pictures and windows at 60 pictures a second, of which a window has the first
 /// ones.
@@ -24,157 +23,131 @@ struct Scene {
     has_slid: bool,
 }
 
-/// Writes a script in place of what the vector holds.
-pub fn write(alloc: Global, generator: &mut Generator, text: &mut Vec<u8>) -> Result<(), Fault> {
+/// Writes a script in place of what the text holds.
+pub fn write(alloc: Global, generator: &mut Generator, text: &mut Text) -> Result<(), Fault> {
     let format = any_format(generator)?;
-    let receivers = 1 + generator.below(3);
+    let receivers = generator.below(3).wrapping_add(1);
     let max = any_max(generator, &format);
-    let mut lines = Vec::new(alloc);
-    put_front(alloc, generator, &format, receivers, max, &mut lines)?;
+    let mut script = Script::new(alloc);
+    put_front(generator, &format, [receivers, max], &mut script);
     let pictures = generator.below(4);
     for _ in 0..pictures {
-        lines.push(picture_line(alloc, generator, &format)?)?;
+        put_picture(generator, &format, &mut script.text);
+        script.end_line();
     }
-    let cuts = Raster::new(&format).cuts(alloc, max)?;
     let mut scene = Scene {
         receivers,
-        count: pictures.wrapping_mul(cuts.len().saturating_sub(1).min(255) as u32),
+        count: pictures.wrapping_mul(count_of(&format, max)),
         sent: 0,
         has_slid: false,
     };
     for _ in 0..generator.below(40) {
-        lines.push(event_line(alloc, generator, &mut scene)?)?;
+        put_event(generator, &mut scene, &mut script.text);
+        script.end_line();
     }
-    spoil_lines(alloc, generator, &mut lines)?;
-    join(generator, lines.as_slice(), text)
+    script.spoil(alloc, generator);
+    script.join(generator, text);
+    Ok(())
 }
 
-/// The first five lines.
-fn put_front(
-    alloc: Global,
-    generator: &mut Generator,
-    format: &Format,
-    receivers: u32,
-    max: u32,
-    lines: &mut Vec<Vec<u8>>,
-) -> Result<(), Fault> {
-    lines.push(format_line(alloc, generator, format)?)?;
-    let kind = near(generator, 96, 129);
+/// Puts the first five lines behind, of so many receivers and packets of a size.
+fn put_front(generator: &mut Generator, format: &Format, sizes: [u32; 2], script: &mut Script) {
+    let [receivers, max] = sizes;
+    put_format(generator, format, &mut script.text);
+    script.end_line();
+    put_near(generator, b"stamp ", [96, 129], &mut script.text);
     let first = generator.number(0, u32::MAX);
-    let base = near(generator, 900, u32::MAX);
-    let mut line = Vec::new(alloc);
-    write!(line, "stamp {kind} {first} {base} 1")?;
-    lines.push(line)?;
-    let max = near(generator, max, 9001);
-    let mut line = Vec::new(alloc);
-    write!(line, "max {max}")?;
-    lines.push(line)?;
-    let window = TIMESTAMPS
-        .get(..1 + generator.below(3) as usize)
-        .ok_or(Fault)?;
-    let mut line = Vec::from_slice(alloc, b"window ")?;
-    put_window(generator, window, &mut line)?;
-    lines.push(line)?;
-    let count = near(generator, receivers, 257);
-    let mut line = Vec::new(alloc);
-    write!(line, "receivers {count}")?;
-    lines.push(line)?;
-    Ok(())
+    script.text.put_number(b" ", u64::from(first));
+    put_near(generator, b" ", [900, u32::MAX], &mut script.text);
+    script.text.put(b" 1");
+    script.end_line();
+    put_near(generator, b"max ", [max, 9001], &mut script.text);
+    script.end_line();
+    let count = generator.size(3).wrapping_add(1);
+    script.text.put(b"window ");
+    let window = TIMESTAMPS.get(..count).unwrap_or(&[]);
+    put_window(generator, window, &mut script.text);
+    script.end_line();
+    put_near(generator, b"receivers ", [receivers, 257], &mut script.text);
+    script.end_line();
+}
+
+/// Puts a number behind octets that is mostly the first one, and else any up to the second.
+fn put_near(generator: &mut Generator, before: &[u8], sound: [u32; 2], text: &mut Text) {
+    let [sound, most] = sound;
+    text.put_number(before, u64::from(generator.near(sound, most)));
 }
 
 /// A size of packets, from the room for one group on.
 fn any_max(generator: &mut Generator, format: &Format) -> u32 {
     let octets = format.pgroup().octets as u32;
-    let groups = 1 + generator.below(12);
+    let groups = generator.below(12).wrapping_add(1);
     let rest = generator.below(16);
-    groups
-        .wrapping_mul(octets)
-        .wrapping_add(20)
-        .wrapping_add(rest)
+    let size = groups.wrapping_mul(octets);
+    size.wrapping_add(20).wrapping_add(rest)
 }
 
-/// A line of a picture, which now and then lacks a digit.
-fn picture_line(
-    alloc: Global,
-    generator: &mut Generator,
-    format: &Format,
-) -> Result<Vec<u8>, Fault> {
-    let groups = (format.width() / format.pgroup().pixels.max(1)).wrapping_mul(format.height());
-    let octets = (groups as usize).wrapping_mul(format.pgroup().octets);
+/// The pixel groups of a picture.
+fn groups_of(format: &Format) -> u32 {
+    (format.width() / format.pgroup().pixels.max(1)).wrapping_mul(format.height())
+}
+
+/// About how many datagrams a picture has: their size is that of whole groups and their headers.
+fn count_of(format: &Format, max: u32) -> u32 {
+    let octets = format.pgroup().octets as u32;
+    let by_datagram = max.saturating_sub(20) / octets.max(1);
+    groups_of(format).div_ceil(by_datagram.max(1))
+}
+
+/// Puts a line of a picture behind, which now and then lacks a digit.
+fn put_picture(generator: &mut Generator, format: &Format, text: &mut Text) {
+    let octets = (groups_of(format) as usize).wrapping_mul(format.pgroup().octets);
     let less = usize::from(generator.one_in(64));
-    let mut line = Vec::from_slice(alloc, b"picture ")?;
+    text.put(b"picture ");
     for _ in less..octets.wrapping_mul(2) {
-        line.push(b'0' + generator.below(10) as u8)?;
+        text.put_octet(generator.below(10).wrapping_add(48));
     }
-    Ok(line)
 }
 
-/// A line of an event.
-fn event_line(
-    alloc: Global,
-    generator: &mut Generator,
-    scene: &mut Scene,
-) -> Result<Vec<u8>, Fault> {
+/// Puts a line of an event behind.
+fn put_event(generator: &mut Generator, scene: &mut Scene, text: &mut Text) {
     let at = generator.below(scene.receivers);
-    let receiver = near(generator, at, 256);
-    let mut line = Vec::new(alloc);
     match generator.below(16) {
-        0 => put_slide(generator, scene, receiver, &mut line)?,
-        1 | 2 if scene.receivers > 1 && (!scene.has_slid || generator.one_in(8)) => {
-            let other = near(generator, at.wrapping_add(1) % scene.receivers.max(1), 256);
-            write!(line, "merge {receiver} {other}")?;
+        0 => {
+            scene.has_slid = true;
+            let next = if generator.one_in(4) { 5400 } else { 6900 };
+            put_near(generator, b"slide ", [at, 256], text);
+            put_near(generator, b" ", [next, u32::MAX], text);
         }
-        3..=8 => put_send(generator, scene, receiver, &mut line)?,
-        _ => put_arrival(generator, scene, receiver, &mut line)?,
+        1 | 2 if scene.receivers > 1 && (!scene.has_slid || generator.one_in(8)) => {
+            let other = at.wrapping_add(1) % scene.receivers.max(1);
+            put_near(generator, b"merge ", [at, 256], text);
+            put_near(generator, b" ", [other, 256], text);
+        }
+        3..=8 => put_send(generator, scene, at, text),
+        _ => put_arrival(generator, scene, at, text),
     }
-    Ok(line)
-}
-
-/// The next timestamp of a receiver's window.
-fn put_slide(
-    generator: &mut Generator,
-    scene: &mut Scene,
-    receiver: u32,
-    line: &mut Vec<u8>,
-) -> Result<(), Fault> {
-    let place = 4usize.saturating_sub(usize::from(generator.one_in(4)));
-    let next = TIMESTAMPS.get(place).copied().unwrap_or(0);
-    let next = near(generator, next, u32::MAX);
-    scene.has_slid = true;
-    write!(line, "slide {receiver} {next}")?;
-    Ok(())
 }
 
 /// A send; mostly an arrival where all is sent.
-fn put_send(
-    generator: &mut Generator,
-    scene: &mut Scene,
-    receiver: u32,
-    line: &mut Vec<u8>,
-) -> Result<(), Fault> {
+fn put_send(generator: &mut Generator, scene: &mut Scene, at: u32, text: &mut Text) {
     if scene.sent >= scene.count && scene.sent > 0 && !generator.one_in(32) {
-        return put_arrival(generator, scene, receiver, line);
+        put_arrival(generator, scene, at, text);
+    } else {
+        scene.sent = scene.sent.wrapping_add(1);
+        text.put(b"send");
     }
-    scene.sent = scene.sent.wrapping_add(1);
-    line.extend_from_slice(b"send")?;
-    Ok(())
 }
 
 /// A datagram of those sent, at a receiver; a send where none was.
-fn put_arrival(
-    generator: &mut Generator,
-    scene: &mut Scene,
-    receiver: u32,
-    line: &mut Vec<u8>,
-) -> Result<(), Fault> {
+fn put_arrival(generator: &mut Generator, scene: &mut Scene, at: u32, text: &mut Text) {
     if scene.sent == 0 {
         scene.sent = 1;
-        line.extend_from_slice(b"send")?;
-        return Ok(());
+        text.put(b"send");
+        return;
     }
-    let path = if generator.one_in(2) { "A" } else { "B" };
+    put_near(generator, b"arrive ", [at, 256], text);
+    text.put(if generator.one_in(2) { b" A" } else { b" B" });
     let sound = generator.below(scene.sent);
-    let place = near(generator, sound, u32::MAX);
-    write!(line, "arrive {receiver} {path} {place}")?;
-    Ok(())
+    put_near(generator, b" ", [sound, u32::MAX], text);
 }

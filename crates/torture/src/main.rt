@@ -27,11 +27,13 @@ mod script_reading;
 mod script_text;
 mod scripts;
 mod stop;
+mod text;
 
 use crate::answers::{OF_DATAGRAMS, OF_FILES, OF_LINES, OF_SCRIPTS, OF_TEXTS};
 use crate::datagrams::ROUND;
 use crate::fault::Fault;
 use crate::generator::Generator;
+use crate::text::Text;
 use std::env;
 use std::process::ExitCode;
 
@@ -70,12 +72,12 @@ fn give_few(rt: &HostRuntime) -> Result<bool, Fault> {
 /// Makes so many datagrams from a seed.
 fn give_datagrams(rt: &HostRuntime, seed: u64, count: u64, prints: bool) -> Result<bool, Fault> {
     let mut generator = Generator::new(seed);
-    let mut octets = Vec::new(rt.alloc());
+    let mut text = Text::new(rt.alloc());
     let mut totals: datagrams::Totals = [0; 16];
     for round in 0..count.div_ceil(ROUND) {
         let left = count.saturating_sub(round.wrapping_mul(ROUND));
-        if !datagrams::run(rt.alloc(), &mut generator, left, &mut octets, &mut totals)? {
-            return differs(rt, seed, octets.as_slice());
+        if !datagrams::run(rt.alloc(), &mut generator, left, &mut text, &mut totals)? {
+            return differs(rt, seed, text.held());
         }
     }
     print(rt, &OF_DATAGRAMS, &totals, prints)
@@ -84,11 +86,11 @@ fn give_datagrams(rt: &HostRuntime, seed: u64, count: u64, prints: bool) -> Resu
 /// Makes so many files from a seed.
 fn give_files(rt: &HostRuntime, seed: u64, count: u64, prints: bool) -> Result<bool, Fault> {
     let mut generator = Generator::new(seed);
-    let mut octets = Vec::new(rt.alloc());
+    let mut text = Text::new(rt.alloc());
     let mut totals: files::Totals = [0; 10];
     for _ in 0..count {
-        if !files::run(rt.alloc(), &mut generator, &mut octets, &mut totals)? {
-            return differs(rt, seed, octets.as_slice());
+        if !files::run(rt.alloc(), &mut generator, &mut text, &mut totals)? {
+            return differs(rt, seed, text.held());
         }
     }
     print(rt, &OF_FILES, &totals, prints)
@@ -97,11 +99,11 @@ fn give_files(rt: &HostRuntime, seed: u64, count: u64, prints: bool) -> Result<b
 /// Makes so many SDP texts from a seed.
 fn give_texts(rt: &HostRuntime, seed: u64, count: u64, prints: bool) -> Result<bool, Fault> {
     let mut generator = Generator::new(seed);
-    let mut octets = Vec::new(rt.alloc());
+    let mut text = Text::new(rt.alloc());
     let mut totals: descriptions::Totals = [0; 18];
     for _ in 0..count {
-        if !descriptions::run(rt.alloc(), &mut generator, &mut octets, &mut totals)? {
-            return differs(rt, seed, octets.as_slice());
+        if !descriptions::run(rt.alloc(), &mut generator, &mut text, &mut totals)? {
+            return differs(rt, seed, text.held());
         }
     }
     print(rt, &OF_TEXTS, &totals, prints)
@@ -110,15 +112,16 @@ fn give_texts(rt: &HostRuntime, seed: u64, count: u64, prints: bool) -> Result<b
 /// Makes so many scripts from a seed.
 fn give_scripts(rt: &HostRuntime, seed: u64, count: u64, prints: bool) -> Result<bool, Fault> {
     let mut generator = Generator::new(seed);
-    let mut text = Vec::new(rt.alloc());
-    let mut totals = scripts::Totals::new();
+    let mut text = Text::new(rt.alloc());
+    let mut ends: scripts::Ends = [0; 15];
+    let mut kinds: scripts::Kinds = [0; 12];
     for _ in 0..count {
-        if !scripts::run(rt.alloc(), &mut generator, &mut text, &mut totals)? {
-            return differs(rt, seed, text.as_slice());
+        if !scripts::run(rt.alloc(), &mut generator, &mut text, &mut ends, &mut kinds)? {
+            return differs(rt, seed, text.held());
         }
     }
-    let ends = print(rt, &OF_SCRIPTS, &totals.ends, prints)?;
-    Ok(ends && print(rt, &OF_LINES, &totals.lines, prints)?)
+    print(rt, &OF_SCRIPTS, &ends, prints)?;
+    print(rt, &OF_LINES, &kinds, prints)
 }
 
 /// Prints an input that is answered otherwise.

@@ -12,7 +12,7 @@ pub struct Opening {
 }
 
 /// What is to be answered: the number of a refusal, nothing of the window, or a packet number.
-#[derive(Clone, Copy, Debug, PartialEq, Eq)]
+#[derive(Clone, Copy, PartialEq)]
 pub enum Wanted {
     Refused(u8),
     Outside,

@@ -1,88 +1,61 @@
 //! A second reading of scripts of `rehearse`, written apart from the libraries: what is to be
 //! printed, and why the script ends (docs/FORMATS.md, "Scripts of `rehearse`").
-use crate::fault::Fault;
-use crate::rehearsal_stage::{Event, Raster, Stage};
-use crate::script_reading::{is_small, payload_type_of, read_format, window_fault};
-use crate::script_text::{Line, Lines, number, numbers, octets, read_lines, window};
-use crate::stop::Stop;
+use crate::rehearsal_stage::{Event, Raster, SLIDE, Stage};
+use crate::script_reading::{is_small, read_format};
+use crate::script_text::{Fields, Lines, Window};
+use crate::stop::{BAD_RECEIVERS, BAD_SIZE, LARGE, MEMORY, PLAY_TWICE, PLAY_WINDOW, Stop};
+use crate::text::Text;
 use st_format::Format;
 use std::alloc::Global;
 
+/// What the lines of events begin with, by their kinds.
+const WORDS: [&[u8]; 4] = [b"send", b"slide", b"merge", b"arrive"];
+
+/// The two paths.
+const PATHS: [&[u8]; 2] = [b"A", b"B"];
+
 /// What stands before the pictures, of which the output depends.
-#[derive(Drop)]
+#[derive(Clone, Copy)]
 struct Front {
     format: Format,
     /// The timestamp of the first picture.
     base: u32,
     max: u32,
-    window: Vec<u32>,
+    window: Window,
     receivers: u32,
 }
 
-/// How many pictures there are, and the events behind.
-#[derive(Drop)]
-struct Body {
-    pictures: usize,
-    events: Vec<Event>,
-}
-
 /// Follows a script, and writes what it is to print.
-pub fn follow(alloc: Global, text: &[u8], output: &mut String) -> Result<(), Stop> {
-    let script = read_lines(alloc, text)?;
-    let front = read_front(alloc, &script)?;
-    let mut body = Body {
-        pictures: 0,
-        events: Vec::new(alloc),
-    };
+pub fn follow(alloc: Global, text: &[u8], output: &mut Text) -> Result<(), Stop> {
+    let mut lines = Lines::new(text);
+    let front = read_front(&mut lines)?;
     let raster = Raster::new(&front.format);
-    for line in script.lines.iter().skip(5) {
-        read_line(alloc, line, raster.size(), &mut body)?;
-    }
+    let count = read_pictures(&mut lines, raster.size(), &mut Text::new(alloc))?;
+    read_events(lines)?;
     if !raster.fits(front.max) {
-        return Err(Stop::Plan);
+        return Err(Stop::new(BAD_SIZE));
     }
-    if !is_small(&front.format, front.window.as_slice()) {
-        return Err(Stop::Large);
+    if !is_small(&front.format, front.window.count) {
+        return Err(Stop::new(LARGE));
     }
-    let mut printed = String::new(alloc);
-    play(alloc, &front, &body, raster, &mut printed)?;
-    output.push_str(printed.as_str())?;
-    Ok(())
-}
-
-/// The line of a place among those that aren't empty, and its fields behind a word.
-fn fields<'a>(script: &'a Lines<'a>, place: usize, word: &[u8]) -> Result<&'a [&'a [u8]], Stop> {
-    let Some(line) = script.lines.get(place) else {
-        return Err(Stop::Script(script.behind));
-    };
-    match line.fields.as_slice().split_first() {
-        Some((first, rest)) if *first == word => Ok(rest),
-        _ => Err(Stop::Script(line.number)),
+    test_play(&front)?;
+    let mut stage = stage(alloc, &front, raster, count).ok_or(Stop::new(MEMORY))?;
+    let played = play(&mut stage, lines, output);
+    if played.is_err() {
+        output.clear();
     }
-}
-
-/// The fault of the line of a place.
-fn wrong(script: &Lines<'_>, place: usize) -> Stop {
-    match script.lines.get(place) {
-        Some(line) => Stop::Script(line.number),
-        None => Stop::Script(script.behind),
-    }
+    played
 }
 
 /// The first five lines.
-fn read_front(alloc: Global, script: &Lines<'_>) -> Result<Front, Stop> {
-    let first = script.lines.first().ok_or(wrong(script, 0))?;
-    let format = read_format(alloc, first)?;
-    let base = read_stamp(fields(script, 1, b"stamp")?).ok_or(wrong(script, 1))?;
-    let [max] = numbers::<1>(fields(script, 2, b"max")?).ok_or(wrong(script, 2))?;
-    let [timestamps] = fields(script, 3, b"window")? else {
-        return Err(wrong(script, 3));
-    };
-    let window = window(alloc, timestamps)?.ok_or(wrong(script, 3))?;
-    let [receivers] = numbers::<1>(fields(script, 4, b"receivers")?).ok_or(wrong(script, 4))?;
-    if receivers > 255 {
-        return Err(wrong(script, 4));
-    }
+fn read_front(lines: &mut Lines<'_>) -> Result<Front, Stop> {
+    let format = read_format(lines)?;
+    let base = read_stamp(lines)?;
+    let max = read_number(lines, b"max", u32::MAX)?;
+    let mut fields = lines.begun(b"window");
+    let window = fields.window();
+    fields.end()?;
+    let receivers = read_number(lines, b"receivers", 255)?;
     Ok(Front {
         format,
         base,
@@ -92,112 +65,119 @@ fn read_front(alloc: Global, script: &Lines<'_>) -> Result<Front, Stop> {
     })
 }
 
-/// The timestamp of a stamp; its other fields are the receivers' too, so that nothing is refused.
-fn read_stamp(fields: &[&[u8]]) -> Option<u32> {
-    let (kind, rest) = fields.split_first()?;
-    payload_type_of(kind)?;
-    let [_, base, _] = numbers::<3>(rest)?;
-    Some(base)
+/// The number behind a word, up to one.
+fn read_number(lines: &mut Lines<'_>, word: &[u8], most: u32) -> Result<u32, Stop> {
+    let mut fields = lines.begun(word);
+    let number = fields.number(most);
+    fields.end()?;
+    Ok(number)
 }
 
-/// A line of a picture or an event.
-fn read_line(alloc: Global, line: &Line<'_>, size: usize, body: &mut Body) -> Result<(), Stop> {
-    let wrong = Stop::Script(line.number);
-    let Some((word, fields)) = line.fields.as_slice().split_first() else {
-        return Err(wrong);
-    };
-    if *word != b"picture".as_slice() {
-        body.events.push(read_event(word, fields).ok_or(wrong)?)?;
-        return Ok(());
+/// The timestamp of a stamp; its other fields are the receivers' too, so that nothing is refused.
+fn read_stamp(lines: &mut Lines<'_>) -> Result<u32, Stop> {
+    let mut fields = lines.begun(b"stamp");
+    fields.number(127);
+    fields.number(u32::MAX);
+    let base = fields.number(u32::MAX);
+    fields.number(u32::MAX);
+    fields.end()?;
+    Ok(base)
+}
+
+/// How many pictures there are; each has so many octets.
+fn read_pictures(lines: &mut Lines<'_>, size: usize, octets: &mut Text) -> Result<usize, Stop> {
+    let mut count = 0usize;
+    for _ in 0..lines.most {
+        let mut behind = *lines;
+        let mut fields = behind.begun(b"picture");
+        if fields.is_wrong {
+            break;
+        }
+        fields.octets(size, octets);
+        fields.is_wrong |= octets.held().len() != size;
+        fields.end()?;
+        *lines = behind;
+        count = count.wrapping_add(1);
     }
-    if !body.events.is_empty() || !is_picture(alloc, fields, size)? {
-        return Err(wrong);
+    Ok(count)
+}
+
+/// Tests the form of each event.
+fn read_events(front: Lines<'_>) -> Result<(), Stop> {
+    let mut lines = front;
+    for _ in 0..lines.most {
+        let Some(mut fields) = lines.next() else {
+            break;
+        };
+        read_event(&mut fields);
+        fields.end()?;
     }
-    body.pictures = body.pictures.wrapping_add(1);
     Ok(())
 }
 
-/// Whether fields are the digits of so many octets.
-fn is_picture(alloc: Global, fields: &[&[u8]], size: usize) -> Result<bool, Fault> {
-    let [digits] = fields else {
-        return Ok(false);
-    };
-    if digits.len() != size.wrapping_mul(2) {
-        return Ok(false);
-    }
-    Ok(octets(alloc, digits)?.is_some_and(|octets| octets.len() == size))
-}
-
-fn read_event(word: &[u8], fields: &[&[u8]]) -> Option<Event> {
-    match word {
-        b"send" if fields.is_empty() => Some(Event::Send),
-        b"arrive" => {
-            let [to, path, place] = fields else {
-                return None;
-            };
-            if *path != b"A".as_slice() && *path != b"B".as_slice() {
-                return None;
-            }
-            Some(Event::Arrive(receiver(to)?, number(place)? as usize))
+/// An event.
+fn read_event(fields: &mut Fields<'_>) -> Event {
+    let kind = fields.place(&WORDS);
+    let most = if kind == SLIDE { u32::MAX } else { 255 };
+    match kind {
+        0 => Event::new(kind, 0, 0),
+        1 | 2 => Event::new(kind, fields.number(255), fields.number(most)),
+        _ => {
+            let to = fields.number(255);
+            fields.place(&PATHS);
+            Event::new(kind, to, fields.number(u32::MAX))
         }
-        b"slide" => {
-            let [at, next] = fields else {
-                return None;
-            };
-            Some(Event::Slide(receiver(at)?, number(next)?))
-        }
-        b"merge" => {
-            let [into, from] = fields else {
-                return None;
-            };
-            Some(Event::Merge(receiver(into)?, receiver(from)?))
-        }
-        _ => None,
     }
 }
 
-/// A receiver's number, up to 255.
-fn receiver(text: &[u8]) -> Option<usize> {
-    let number = number(text)?;
-    if number < 256 {
-        Some(number as usize)
-    } else {
-        None
+/// Tests what is said of all events.
+fn test_play(front: &Front) -> Result<(), Stop> {
+    if !front.window.has_few() {
+        return Err(Stop::new(PLAY_WINDOW));
     }
+    if front.window.repeats() {
+        return Err(Stop::new(PLAY_TWICE));
+    }
+    if front.receivers < 1 || front.receivers > 8 {
+        return Err(Stop::new(BAD_RECEIVERS));
+    }
+    Ok(())
+}
+
+/// The receivers, with nothing taken, and the sender of so many pictures.
+fn stage(alloc: Global, front: &Front, raster: Raster, count: usize) -> Option<Stage> {
+    let mut stage = Stage::new(alloc, raster, front.window.count, front.receivers as usize)?;
+    for _ in 0..front.receivers {
+        for timestamp in front.window.timestamps() {
+            stage.windows.push(*timestamp).ok()?;
+        }
+    }
+    for k in 0..count as u64 {
+        stage.pictures.push(timestamp_of(front, k)).ok()?;
+    }
+    raster.put_cuts(front.max, &mut stage.cuts)?;
+    Some(stage)
+}
+
+/// The timestamp of a picture: 90,000 ticks a second (SMPTE ST 2110-10).
+fn timestamp_of(front: &Front, k: u64) -> u32 {
+    let (n, d) = (u64::from(front.format.n()), u64::from(front.format.d()));
+    let ticks = k.wrapping_mul(90_000).wrapping_mul(d) / n.max(1);
+    front.base.wrapping_add((ticks & 0xFFFF_FFFF) as u32)
 }
 
 /// Plays the events.
-fn play(
-    alloc: Global,
-    front: &Front,
-    body: &Body,
-    raster: Raster,
-    output: &mut String,
-) -> Result<(), Stop> {
-    let window = front.window.as_slice();
-    if let Some(fault) = window_fault(window) {
-        return Err(Stop::Play(fault.wrapping_add(1)));
+fn play(stage: &mut Stage, front: Lines<'_>, output: &mut Text) -> Result<(), Stop> {
+    let mut lines = front;
+    for place in 0..lines.most {
+        let Some(mut fields) = lines.next() else {
+            break;
+        };
+        let event = read_event(&mut fields);
+        if !stage.follow(event, output) {
+            return Err(Stop::event(place));
+        }
     }
-    if front.receivers < 1 || front.receivers > 8 {
-        return Err(Stop::Play(6));
-    }
-    let timestamps = timestamps(alloc, front, body.pictures)?;
-    let mut stage = Stage::new(alloc, raster, raster.cuts(alloc, front.max)?, timestamps);
-    stage.open(alloc, window, front.receivers)?;
-    for (place, event) in body.events.iter().enumerate() {
-        stage.follow(alloc, *event, Stop::Event(place), output)?;
-    }
-    Ok(stage.finish(output)?)
-}
-
-/// The timestamp of each picture: 90,000 ticks a second (SMPTE ST 2110-10).
-fn timestamps(alloc: Global, front: &Front, count: usize) -> Result<Vec<u32>, Fault> {
-    let (n, d) = (u64::from(front.format.n()), u64::from(front.format.d()));
-    let mut timestamps = Vec::new(alloc);
-    for k in 0..count as u64 {
-        let ticks = k.wrapping_mul(90_000).wrapping_mul(d) / n.max(1);
-        let low = (ticks & 0xFFFF_FFFF) as u32;
-        timestamps.push(front.base.wrapping_add(low))?;
-    }
-    Ok(timestamps)
+    stage.finish(output);
+    Ok(())
 }

@@ -1,7 +1,7 @@
 //! What a rehearsal's receivers are to hold, kept plainly: since all datagrams are of one sender, a
 //! frame is which pixel groups came.
-use crate::fault::Fault;
-use crate::stop::Stop;
+use crate::script_reading::put_counts;
+use crate::text::Text;
 use st_format::Format;
 use std::alloc::Global;
 
@@ -63,248 +63,246 @@ impl Raster {
         at
     }
 
-    /// The first group of each datagram of a picture, and the group behind the last.
-    pub fn cuts(&self, alloc: Global, max: u32) -> Result<Vec<usize>, Fault> {
-        let mut cuts = Vec::new(alloc);
+    /// Puts the first group of each datagram of a picture behind, and the group behind the last;
+    /// `None` where memory is refused.
+    pub fn put_cuts(&self, max: u32, cuts: &mut Vec<usize>) -> Option<()> {
         let mut at = 0usize;
         for _ in 0..self.count {
             if at >= self.count {
                 break;
             }
-            cuts.push(at)?;
+            cuts.push(at).ok()?;
             at = self.end_of(at, max);
         }
-        cuts.push(at)?;
-        Ok(cuts)
+        cuts.push(at).ok()
     }
 }
 
-/// The groups of a timestamp that came.
-#[derive(Drop)]
-struct Came {
-    timestamp: u32,
-    groups: Vec<bool>,
+/// The kinds of events.
+const SEND: usize = 0;
+
+pub const SLIDE: usize = 1;
+
+const MERGE: usize = 2;
+
+/// An event: its kind, its receiver and the number behind.
+#[derive(Clone, Copy)]
+pub struct Event {
+    kind: usize,
+    at: usize,
+    number: u32,
 }
 
-impl Came {
-    fn new(alloc: Global, timestamp: u32, raster: &Raster) -> Result<Came, Fault> {
-        Ok(Came {
-            timestamp,
-            groups: Vec::from_elem(alloc, false, raster.count)?,
-        })
-    }
-
-    /// Puts the line of the frame behind a word.
-    fn put(&self, word: &str, raster: &Raster, output: &mut String) -> Result<(), Fault> {
-        let came = self.groups.iter().filter(|group| **group).count();
-        let present = came.wrapping_mul(raster.samples);
-        let missing = raster
-            .count
-            .saturating_sub(came)
-            .wrapping_mul(raster.samples);
-        let timestamp = self.timestamp;
-        writeln!(
-            output,
-            "{word} {timestamp} present {present} missing {missing} contested 0"
-        )?;
-        Ok(())
-    }
-}
-
-/// The frames of a receiver, in the order of its window.
-#[derive(Drop)]
-struct Held {
-    frames: Vec<Came>,
-}
-
-impl Held {
-    fn new(alloc: Global, window: &[u32], raster: &Raster) -> Result<Held, Fault> {
-        let mut frames = Vec::new(alloc);
-        for timestamp in window {
-            frames.push(Came::new(alloc, *timestamp, raster)?)?;
-        }
-        Ok(Held { frames })
-    }
-
-    fn has(&self, timestamp: u32) -> bool {
-        self.frames.iter().any(|came| came.timestamp == timestamp)
-    }
-
-    /// Whether two windows are the same list.
-    fn is_like(&self, other: &Held) -> bool {
-        let mut is_like = self.frames.len() == other.frames.len();
-        for (came, also) in self.frames.iter().zip(other.frames.iter()) {
-            is_like &= came.timestamp == also.timestamp;
-        }
-        is_like
-    }
-
-    /// The groups of a datagram came.
-    fn take(&mut self, timestamp: u32, from: usize, to: usize) {
-        for came in self.frames.iter_mut() {
-            if came.timestamp == timestamp {
-                mark(&mut came.groups, from, to);
-            }
+impl Event {
+    pub fn new(kind: usize, at: u32, number: u32) -> Event {
+        Event {
+            kind,
+            at: at as usize,
+            number,
         }
     }
-
-    /// What came to another came here too.
-    fn merge(&mut self, other: &Held) {
-        for (came, also) in self.frames.iter_mut().zip(other.frames.iter()) {
-            for (group, one) in came.groups.iter_mut().zip(also.groups.iter()) {
-                *group |= *one;
-            }
-        }
-    }
-}
-
-/// Notes the groups from one up to another.
-fn mark(groups: &mut Vec<bool>, from: usize, to: usize) {
-    for (place, group) in groups.iter_mut().enumerate() {
-        if from <= place && place < to {
-            *group = true;
-        }
-    }
-}
-
-/// An event.
-#[derive(Clone, Copy, Debug, PartialEq, Eq)]
-pub enum Event {
-    Send,
-    /// To a receiver, by either path, a datagram of those sent.
-    Arrive(usize, usize),
-    /// Of a receiver, to a timestamp.
-    Slide(usize, u32),
-    /// Into a receiver, of another.
-    Merge(usize, usize),
 }
 
 /// A sender and its receivers.
 #[derive(Drop)]
 pub struct Stage {
     raster: Raster,
-    /// Where the datagrams of each picture begin and end.
-    cuts: Vec<usize>,
-    /// The timestamp of each picture.
-    timestamps: Vec<u32>,
+    /// How many timestamps a window has.
+    width: usize,
+    receivers: usize,
     sent: usize,
-    receivers: Vec<Held>,
+    /// The timestamps of the first receiver's window, then those of the next one's.
+    pub windows: Vec<u32>,
+    /// Whether each group came: frame after frame, in the order of the windows.
+    groups: Vec<bool>,
+    /// The timestamp of each picture.
+    pub pictures: Vec<u32>,
+    /// Where the datagrams of each picture begin and end.
+    pub cuts: Vec<usize>,
 }
 
 impl Stage {
-    pub fn new(alloc: Global, raster: Raster, cuts: Vec<usize>, timestamps: Vec<u32>) -> Stage {
-        Stage {
+    /// Receivers to which nothing came; windows, pictures and cuts are still to be put.
+    pub fn new(alloc: Global, raster: Raster, width: usize, receivers: usize) -> Option<Stage> {
+        let count = raster.count.wrapping_mul(width).wrapping_mul(receivers);
+        Some(Stage {
             raster,
-            cuts,
-            timestamps,
+            width,
+            receivers,
             sent: 0,
-            receivers: Vec::new(alloc),
-        }
+            windows: Vec::new(alloc),
+            groups: Vec::from_elem(alloc, false, count).ok()?,
+            pictures: Vec::new(alloc),
+            cuts: Vec::new(alloc),
+        })
     }
 
-    /// Opens so many receivers.
-    pub fn open(&mut self, alloc: Global, window: &[u32], count: u32) -> Result<(), Fault> {
-        for _ in 0..count.min(8) {
-            self.receivers
-                .push(Held::new(alloc, window, &self.raster)?)?;
-        }
-        Ok(())
-    }
-
-    /// Follows an event, which `bad` says isn't admitted; what is handed out is printed.
-    pub fn follow(
-        &mut self,
-        alloc: Global,
-        event: Event,
-        bad: Stop,
-        output: &mut String,
-    ) -> Result<(), Stop> {
-        match event {
-            Event::Send => self.send().ok_or(bad),
-            Event::Arrive(to, number) => self.arrive(to, number).ok_or(bad),
-            Event::Slide(at, next) => self.slide(alloc, at, next, bad, output),
-            Event::Merge(into, from) => self.merge(into, from).ok_or(bad),
+    /// Follows an event, and prints what is handed out. Answers whether it is admitted.
+    pub fn follow(&mut self, event: Event, output: &mut Text) -> bool {
+        match event.kind {
+            SEND => self.send(),
+            SLIDE => self.slide(event, output),
+            MERGE => self.merge(event),
+            _ => self.arrive(event).is_some(),
         }
     }
 
     /// How many datagrams a picture has.
     fn by_picture(&self) -> usize {
-        self.cuts.len().saturating_sub(1)
+        self.cuts.len().saturating_sub(1).max(1)
     }
 
-    fn send(&mut self) -> Option<()> {
-        if self.sent >= self.by_picture().wrapping_mul(self.timestamps.len()) {
-            return None;
-        }
-        self.sent = self.sent.wrapping_add(1);
-        Some(())
+    /// Where a receiver's window begins.
+    fn first_of(&self, receiver: usize) -> usize {
+        receiver.wrapping_mul(self.width)
     }
 
-    fn arrive(&mut self, to: usize, number: usize) -> Option<()> {
-        if number >= self.sent {
-            return None;
-        }
+    /// The window of a receiver; empty where there is no such receiver.
+    fn window(&self, receiver: usize) -> &[u32] {
+        let first = self.first_of(receiver);
+        let end = first.wrapping_add(self.width);
+        self.windows.get(first..end).unwrap_or(&[])
+    }
+
+    fn send(&mut self) -> bool {
+        let is_left = self.sent < self.by_picture().wrapping_mul(self.pictures.len());
+        self.sent = self.sent.wrapping_add(usize::from(is_left));
+        is_left
+    }
+
+    /// `None` where there is no such receiver or datagram.
+    fn arrive(&mut self, event: Event) -> Option<()> {
+        let number = event.number as usize;
         let count = self.by_picture().max(1);
-        let timestamp = self.timestamps.get(number / count).copied()?;
-        let place = number % count;
-        let from = self.cuts.get(place).copied()?;
-        let end = self.cuts.get(place.wrapping_add(1)).copied()?;
-        self.receivers.get_mut(to)?.take(timestamp, from, end);
+        let timestamp = *self.pictures.get(number / count)?;
+        let from = *self.cuts.get(number % count)?;
+        let end = *self.cuts.get((number % count).wrapping_add(1))?;
+        if number >= self.sent || event.at >= self.receivers {
+            return None;
+        }
+        let place = place_of(timestamp, self.window(event.at));
+        if place < self.width {
+            let frame = self.first_of(event.at).wrapping_add(place);
+            self.mark(frame, from, end);
+        }
         Some(())
     }
 
-    fn slide(
-        &mut self,
-        alloc: Global,
-        at: usize,
-        next: u32,
-        bad: Stop,
-        output: &mut String,
-    ) -> Result<(), Stop> {
-        let Some(held) = self.receivers.get_mut(at) else {
-            return Err(bad);
-        };
-        if held.has(next) || held.frames.is_empty() {
-            return Err(bad);
+    /// Notes that the groups of a frame from one up to another came.
+    fn mark(&mut self, frame: usize, from: usize, end: usize) {
+        let first = frame.wrapping_mul(self.raster.count);
+        for place in from..end {
+            self.set(first.wrapping_add(place), true);
         }
-        let first = held.frames.remove(0);
-        held.frames.push(Came::new(alloc, next, &self.raster)?)?;
-        let word = format!(in alloc; "out {at}")?;
-        Ok(first.put(word.as_str(), &self.raster, output)?)
     }
 
-    fn merge(&mut self, into: usize, from: usize) -> Option<()> {
-        if into >= self.receivers.len() || from >= self.receivers.len() || into == from {
-            return None;
+    fn slide(&mut self, event: Event, output: &mut Text) -> bool {
+        if event.at >= self.receivers
+            || place_of(event.number, self.window(event.at)) < self.width
+        {
+            return false;
         }
-        let other = self.receivers.remove(from);
-        let place = if from < into { into - 1 } else { into };
-        let merged = merge_at(&mut self.receivers, place, &other);
-        // There was room for it, so that none is asked for.
-        let back = from.min(self.receivers.len());
-        let is_back = self.receivers.insert(back, other).is_ok();
-        if merged && is_back { Some(()) } else { None }
+        let first = self.first_of(event.at);
+        output.put_number(b"out ", event.at as u64);
+        self.put(b"", first, output);
+        let last = first.wrapping_add(self.width).wrapping_sub(1);
+        for frame in first..last {
+            self.copy(frame, frame.wrapping_add(1));
+        }
+        self.clear(last, event.number);
+        true
+    }
+
+    /// A frame becomes what another one is.
+    fn copy(&mut self, frame: usize, other: usize) {
+        let timestamp = self.windows.get(other).copied().unwrap_or(0);
+        if let Some(place) = self.windows.get_mut(frame) {
+            *place = timestamp;
+        }
+        let count = self.raster.count;
+        let (to, from) = (frame.wrapping_mul(count), other.wrapping_mul(count));
+        for place in 0..count {
+            let came = self.came(from.wrapping_add(place));
+            self.set(to.wrapping_add(place), came);
+        }
+    }
+
+    /// A frame becomes that of a timestamp, to which nothing came.
+    fn clear(&mut self, frame: usize, timestamp: u32) {
+        if let Some(place) = self.windows.get_mut(frame) {
+            *place = timestamp;
+        }
+        let first = frame.wrapping_mul(self.raster.count);
+        for place in 0..self.raster.count {
+            self.set(first.wrapping_add(place), false);
+        }
+    }
+
+    /// Whether the group of a number came.
+    fn came(&self, number: usize) -> bool {
+        self.groups.get(number).copied().unwrap_or(false)
+    }
+
+    fn set(&mut self, number: usize, came: bool) {
+        if let Some(group) = self.groups.get_mut(number) {
+            *group = came;
+        }
+    }
+
+    /// What came to one receiver came to the other too.
+    fn merge(&mut self, event: Event) -> bool {
+        let (into, from) = (event.at, event.number as usize);
+        if into.max(from) >= self.receivers || into == from {
+            return false;
+        }
+        if self.window(into) != self.window(from) {
+            return false;
+        }
+        let size = self.width.wrapping_mul(self.raster.count);
+        let (to, from) = (into.wrapping_mul(size), from.wrapping_mul(size));
+        for place in 0..size {
+            let came = self.came(from.wrapping_add(place));
+            let also = self.came(to.wrapping_add(place));
+            self.set(to.wrapping_add(place), came | also);
+        }
+        true
+    }
+
+    /// Puts the line of a frame behind a word.
+    fn put(&self, word: &[u8], frame: usize, output: &mut Text) {
+        let first = frame.wrapping_mul(self.raster.count);
+        let mut came = 0usize;
+        for place in 0..self.raster.count {
+            came = came.wrapping_add(usize::from(self.came(first.wrapping_add(place))));
+        }
+        let others = self.raster.count.saturating_sub(came);
+        let samples = self.raster.samples;
+        let timestamp = self.windows.get(frame).copied().unwrap_or(0);
+        let counts = [came.wrapping_mul(samples), others.wrapping_mul(samples), 0];
+        put_counts(word, timestamp, counts, output);
     }
 
     /// The lines of each receiver.
-    pub fn finish(&self, output: &mut String) -> Result<(), Fault> {
-        for (number, held) in self.receivers.iter().enumerate() {
-            writeln!(output, "receiver {number}")?;
-            for came in &held.frames {
-                came.put("frame", &self.raster, output)?;
+    pub fn finish(&self, output: &mut Text) {
+        for receiver in 0..self.receivers {
+            output.put_number(b"receiver ", receiver as u64);
+            output.put(b"\n");
+            let first = self.first_of(receiver);
+            for frame in first..first.wrapping_add(self.width) {
+                self.put(b"frame", frame, output);
             }
         }
-        Ok(())
     }
 }
 
-/// Whether one was merged into the receiver at a place: their windows are the same.
-fn merge_at(receivers: &mut Vec<Held>, place: usize, other: &Held) -> bool {
-    match receivers.get_mut(place) {
-        Some(held) if held.is_like(other) => {
-            held.merge(other);
-            true
+/// The first place of a timestamp in a window, or behind the last where it has none.
+fn place_of(timestamp: u32, window: &[u32]) -> usize {
+    let mut place = 0usize;
+    for other in window {
+        if *other == timestamp {
+            break;
         }
-        _ => false,
+        place = place.wrapping_add(1);
     }
+    place
 }

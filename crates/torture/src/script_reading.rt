@@ -1,21 +1,34 @@
 //! A second reading of scripts of `trace`, written apart from the libraries: what is to be printed,
-//! and why the script ends (docs/FORMATS.md, "Scripts of `trace`"). The first line, and tests of
-//! windows, are those of `rehearse` too.
+//! and why the script ends (docs/FORMATS.md, "Scripts of `trace`"). The first line is that of
+//! `rehearse` too.
 use crate::answers::OF_DATAGRAMS;
-use crate::cells::{CONTESTED, Cells, MISSING};
-use crate::fault::Fault;
+use crate::cells::{CONTESTED, MISSING};
 use crate::file_reading::{group_of, is_height, is_rate, is_width};
+use crate::hostile_lines::{DEPTHS, SAMPLINGS};
 use crate::plain::Plain;
 use crate::reading::{Opening, Wanted};
-use crate::script_text::{Line, number, numbers, octets, pieces, read_lines, window};
-use crate::stop::Stop;
-use st_format::{Depth, Format, Sampling};
+use crate::script_text::{Fields, Lines};
+use crate::stop::{
+    BAD_COUNT, BAD_HEIGHT, BAD_RATE, BAD_WIDTH, LARGE, MEMORY, OPEN_TWICE, OPEN_WINDOW, Stop,
+};
+use crate::text::Text;
+use st_format::Format;
 use std::alloc::Global;
 
-/// The most pixels of a window's frames: a script of more isn't run.
-const PIXELS: u32 = 65_536;
+/// The most octets of a datagram.
+const DATAGRAM: usize = 65_535;
 
-/// The packet numbers that are noted, as places behind the first, in the order in which they came.
+/// The most pixels of a window's frames: a script of more isn't run.
+const PIXELS: usize = 65_536;
+
+/// Samplings by the numbers that files give them.
+const NAMES: [&[u8]; 3] = [b"YCbCr-4:2:2", b"YCbCr-4:4:4", b"RGB"];
+
+/// What the lines behind the first two begin with.
+const WORDS: [&[u8]; 5] = [b"A", b"B", b"slide", b"numbers", b"cell"];
+
+/// The packet numbers that are noted, as places behind the first, in the order in which they came;
+/// none of a count of 0.
 #[derive(Drop)]
 struct Noted {
     first: u32,
@@ -23,282 +36,254 @@ struct Noted {
     places: Vec<u32>,
 }
 
-/// What stands behind the first lines.
+/// What stands behind the first lines, and the octets of a datagram.
 #[derive(Drop)]
 struct Session {
     plain: Plain,
-    noted: Option<Noted>,
+    noted: Noted,
+    octets: Text,
 }
 
 /// Follows a script, and writes what it is to print.
-pub fn follow(alloc: Global, text: &[u8], output: &mut String) -> Result<(), Stop> {
-    let script = read_lines(alloc, text)?;
-    let behind = Stop::Script(script.behind);
-    let format = read_format(alloc, script.lines.first().ok_or(behind)?)?;
-    let plain = open(alloc, format, script.lines.get(1).ok_or(behind)?)?;
-    let mut session = Session { plain, noted: None };
-    for line in script.lines.iter().skip(2) {
-        session.follow(alloc, line, output)?;
+pub fn follow(alloc: Global, text: &[u8], output: &mut Text) -> Result<(), Stop> {
+    let mut lines = Lines::new(text);
+    let format = read_format(&mut lines)?;
+    let mut session = open(alloc, format, &mut lines)?;
+    for _ in 0..lines.most {
+        let Some(fields) = lines.next() else {
+            break;
+        };
+        session.follow(alloc, fields, output)?;
     }
-    session.finish(output)
-}
-
-/// The sampling of a name, and the number that files give it.
-fn sampling_of(name: &[u8]) -> Option<(Sampling, u32)> {
-    match name {
-        b"YCbCr-4:2:2" => Some((Sampling::Ycc422, 0)),
-        b"YCbCr-4:4:4" => Some((Sampling::Ycc444, 1)),
-        b"RGB" => Some((Sampling::Rgb, 2)),
-        _ => None,
-    }
-}
-
-/// The depth of so many bits.
-fn depth_of(bits: u32) -> Option<Depth> {
-    match bits {
-        8 => Some(Depth::D8),
-        10 => Some(Depth::D10),
-        12 => Some(Depth::D12),
-        16 => Some(Depth::D16),
-        _ => None,
-    }
+    session.finish(output);
+    Ok(())
 }
 
 /// The format of a line `format S B W H N/D`.
-pub fn read_format(alloc: Global, line: &Line<'_>) -> Result<Format, Stop> {
-    let wrong = Stop::Script(line.number);
-    let [word, sampling, depth, sides @ .., rate] = line.fields.as_slice() else {
-        return Err(wrong);
-    };
-    if *word != b"format".as_slice() {
-        return Err(wrong);
-    }
-    let (sampling, code) = sampling_of(sampling).ok_or(wrong)?;
-    let bits = number(depth).ok_or(wrong)?;
-    let depth = depth_of(bits).ok_or(wrong)?;
-    let [width, height] = numbers::<2>(sides).ok_or(wrong)?;
-    let parts = pieces(alloc, rate, b'/')?;
-    let [n, d] = numbers::<2>(parts.as_slice()).ok_or(wrong)?;
-    let (_, pixels, _) = group_of(code, bits).ok_or(wrong)?;
+pub fn read_format(lines: &mut Lines<'_>) -> Result<Format, Stop> {
+    let mut fields = lines.begun(b"format");
+    let code = fields.place(&NAMES);
+    let bits = fields.number(16);
+    let (width, height) = (fields.number(u32::MAX), fields.number(u32::MAX));
+    let mut rate = fields.parts(b'/');
+    let (n, d) = (rate.number(u32::MAX), rate.number(u32::MAX));
+    fields.end()?;
+    rate.end()?;
+    let (_, pixels, _) = group_of(code as u32, bits).ok_or(fields.stop())?;
     if !is_width(width, pixels) {
-        return Err(Stop::Format(1));
+        return Err(Stop::new(BAD_WIDTH));
     }
     if !is_height(height) {
-        return Err(Stop::Format(2));
+        return Err(Stop::new(BAD_HEIGHT));
     }
     if !is_rate(n, d) {
-        return Err(Stop::Format(3));
+        return Err(Stop::new(BAD_RATE));
     }
-    let format = Format::new(sampling, depth, width, height, n, d);
-    format.ok().ok_or(Stop::Format(0))
+    format_of(code, bits, [width, height, n, d]).ok_or(Stop::new(MEMORY))
 }
 
-/// A receiver as by a line `open PT SSRC WINDOW`, with nothing taken.
-fn open(alloc: Global, format: Format, line: &Line<'_>) -> Result<Plain, Stop> {
-    let wrong = Stop::Script(line.number);
-    let [word, payload_type, ssrc, timestamps] = line.fields.as_slice() else {
-        return Err(wrong);
-    };
-    if *word != b"open".as_slice() {
-        return Err(wrong);
-    }
-    let opening = Opening {
-        format,
-        payload_type: payload_type_of(payload_type).ok_or(wrong)?,
-        ssrc: source_of(ssrc).ok_or(wrong)?,
-    };
-    let window = window(alloc, timestamps)?.ok_or(wrong)?;
-    if let Some(fault) = window_fault(window.as_slice()) {
-        return Err(Stop::Open(fault));
-    }
-    if !is_small(&format, window.as_slice()) {
-        return Err(Stop::Large);
-    }
-    Ok(Plain::open(alloc, opening, window.as_slice())?)
-}
-
-/// A payload type, up to 127.
-pub fn payload_type_of(text: &[u8]) -> Option<u8> {
-    let kind = number(text)?;
-    if kind < 128 { Some(kind as u8) } else { None }
-}
-
-/// An SSRC, or `any`.
-fn source_of(text: &[u8]) -> Option<Option<u32>> {
-    if text == b"any".as_slice() {
-        return Some(None);
-    }
-    Some(Some(number(text)?))
-}
-
-/// The number of a window's fault: 2 where it has none or above 16 timestamps, 3 where two are the
-/// same.
-pub fn window_fault(window: &[u32]) -> Option<usize> {
-    if window.is_empty() || window.len() > 16 {
-        return Some(2);
-    }
-    for (place, timestamp) in window.iter().enumerate() {
-        if window.iter().take(place).any(|before| before == timestamp) {
-            return Some(3);
+/// The format of a sampling and a depth by their numbers, and width, height and rate.
+fn format_of(code: usize, bits: u32, sides: [u32; 4]) -> Option<Format> {
+    let [width, height, n, d] = sides;
+    let sampling = *SAMPLINGS.get(code)?;
+    for depth in &DEPTHS {
+        if depth.bits() == bits {
+            return Format::new(sampling, *depth, width, height, n, d).ok();
         }
     }
     None
 }
 
-/// Whether a window's frames have few pixels.
-pub fn is_small(format: &Format, window: &[u32]) -> bool {
-    let pixels = format.width().wrapping_mul(format.height());
-    pixels <= PIXELS && (pixels as usize).wrapping_mul(window.len()) <= PIXELS as usize
+/// A receiver as by a line `open PT SSRC WINDOW`, with nothing taken.
+fn open(alloc: Global, format: Format, lines: &mut Lines<'_>) -> Result<Session, Stop> {
+    let mut fields = lines.begun(b"open");
+    let payload_type = fields.number(127) as u8;
+    let ssrc = source_of(&mut fields);
+    let window = fields.window();
+    fields.end()?;
+    if !window.has_few() {
+        return Err(Stop::new(OPEN_WINDOW));
+    }
+    if window.repeats() {
+        return Err(Stop::new(OPEN_TWICE));
+    }
+    if !is_small(&format, window.count) {
+        return Err(Stop::new(LARGE));
+    }
+    let opening = Opening {
+        format,
+        payload_type,
+        ssrc,
+    };
+    Session::new(alloc, opening, window.timestamps()).ok_or(Stop::new(MEMORY))
+}
+
+/// An SSRC, or `any`.
+fn source_of(fields: &mut Fields<'_>) -> Option<u32> {
+    let mut any = *fields;
+    if any.next() == b"any".as_slice() {
+        *fields = any;
+        return None;
+    }
+    Some(fields.number(u32::MAX))
+}
+
+/// Whether so many frames have few pixels.
+pub fn is_small(format: &Format, count: usize) -> bool {
+    let pixels = format.width().wrapping_mul(format.height()) as usize;
+    pixels <= PIXELS && pixels.wrapping_mul(count) <= PIXELS
 }
 
 impl Session {
+    fn new(alloc: Global, opening: Opening, window: &[u32]) -> Option<Session> {
+        Some(Session {
+            plain: Plain::open(alloc, opening, window).ok()?,
+            noted: Noted {
+                first: 0,
+                count: 0,
+                places: Vec::new(alloc),
+            },
+            octets: Text::new(alloc),
+        })
+    }
+
     /// Follows a line behind the first two.
-    fn follow(&mut self, alloc: Global, line: &Line<'_>, output: &mut String) -> Result<(), Stop> {
-        let wrong = Stop::Script(line.number);
-        let Some((word, fields)) = line.fields.as_slice().split_first() else {
-            return Err(wrong);
-        };
-        match *word {
-            b"A" | b"B" => self.take(alloc, fields, wrong, output),
-            b"slide" => {
-                let [next] = numbers::<1>(fields).ok_or(wrong)?;
-                self.slide(alloc, next, output)
-            }
-            b"numbers" => {
-                let [first, count] = numbers::<2>(fields).ok_or(wrong)?;
-                self.note_from(alloc, first, count, wrong)
-            }
-            b"cell" => {
-                let place = numbers::<4>(fields).ok_or(wrong)?;
-                self.cell(place, output)
-            }
-            _ => Err(wrong),
+    fn follow(&mut self, alloc: Global, line: Fields<'_>, output: &mut Text) -> Result<(), Stop> {
+        let mut fields = line;
+        match fields.place(&WORDS) {
+            0 | 1 => self.take(fields, output),
+            2 => self.slide(alloc, fields, output),
+            3 => self.note_from(fields),
+            4 => self.cell(fields, output),
+            _ => Err(fields.stop()),
         }
     }
 
     /// A datagram.
-    fn take(
-        &mut self,
-        alloc: Global,
-        fields: &[&[u8]],
-        wrong: Stop,
-        output: &mut String,
-    ) -> Result<(), Stop> {
-        let [digits] = fields else {
-            return Err(wrong);
-        };
-        let octets = octets(alloc, digits)?.ok_or(wrong)?;
-        match self.plain.take(octets.as_slice()) {
+    fn take(&mut self, line: Fields<'_>, output: &mut Text) -> Result<(), Stop> {
+        let mut fields = line;
+        fields.octets(DATAGRAM, &mut self.octets);
+        fields.end()?;
+        match self.plain.take(self.octets.held()) {
             Wanted::Kept(number) => {
-                self.note(number)?;
-                writeln!(output, "kept {number}")?;
+                self.noted.note(number, output);
+                output.put_number(b"kept ", u64::from(number));
             }
-            Wanted::Outside => output.push_str("outside\n")?,
-            Wanted::Refused(number) => {
-                let name = OF_DATAGRAMS.get(usize::from(number)).copied().unwrap_or("");
-                writeln!(output, "refused {name}")?;
-            }
+            Wanted::Outside => output.put(b"outside"),
+            Wanted::Refused(number) => put_refusal(usize::from(number), output),
         }
+        output.put(b"\n");
         Ok(())
     }
 
-    fn slide(&mut self, alloc: Global, next: u32, output: &mut String) -> Result<(), Stop> {
-        match self.plain.slide(alloc, next)? {
-            Some(cells) => write_counts("out", &cells, output)?,
-            None => output.push_str("refused slide 1 InWindow\n")?,
+    fn slide(&mut self, alloc: Global, line: Fields<'_>, output: &mut Text) -> Result<(), Stop> {
+        let mut fields = line;
+        let next = fields.number(u32::MAX);
+        fields.end()?;
+        match self.plain.slide(alloc, next) {
+            Ok(Some(cells)) => put_counts(b"out", cells.timestamp(), cells.counts(), output),
+            Ok(None) => output.put(b"refused slide 1 InWindow\n"),
+            Err(_) => output.is_short = true,
         }
         Ok(())
     }
 
     /// Begins to note numbers, which a script does once.
-    fn note_from(
-        &mut self,
-        alloc: Global,
-        first: u32,
-        count: u32,
-        wrong: Stop,
-    ) -> Result<(), Stop> {
-        if self.noted.is_some() {
-            return Err(wrong);
+    fn note_from(&mut self, line: Fields<'_>) -> Result<(), Stop> {
+        let mut fields = line;
+        let (first, count) = (fields.number(u32::MAX), fields.number(u32::MAX));
+        fields.end()?;
+        if self.noted.count > 0 {
+            return Err(fields.stop());
         }
         if count < 1 || count > 1_048_576 {
-            return Err(Stop::Numbers);
+            return Err(Stop::new(BAD_COUNT));
         }
-        self.noted = Some(Noted {
-            first,
-            count,
-            places: Vec::new(alloc),
-        });
-        Ok(())
-    }
-
-    /// Notes a number, where numbers are noted and it is of theirs.
-    fn note(&mut self, number: u32) -> Result<(), Stop> {
-        if let Some(noted) = &mut self.noted {
-            let place = number.wrapping_sub(noted.first);
-            if place < noted.count {
-                noted.places.push(place)?;
-            }
-        }
+        self.noted.first = first;
+        self.noted.count = count;
         Ok(())
     }
 
     /// What is known of a timestamp, a row, a column and a component.
-    fn cell(&self, place: [u32; 4], output: &mut String) -> Result<(), Stop> {
-        let [timestamp, row, column, component] = place;
+    fn cell(&self, line: Fields<'_>, output: &mut Text) -> Result<(), Stop> {
+        let mut fields = line;
+        let timestamp = fields.number(u32::MAX);
+        let (row, column) = (fields.number(u32::MAX), fields.number(u32::MAX));
+        let component = fields.number(u32::MAX);
+        fields.end()?;
         let format = &self.plain.opening.format;
         let found = match self.plain.frame(timestamp) {
-            Some(cells) => cells.at(format, row, column, component),
+            Some(cells) => cells.at(format, [row, column, component]),
             None => None,
         };
-        match found {
-            None => output.push_str("none\n")?,
-            Some(MISSING) => output.push_str("missing\n")?,
-            Some(CONTESTED) => output.push_str("contested\n")?,
-            Some(value) => writeln!(output, "value {value}")?,
-        }
+        put_cell(found, output);
         Ok(())
     }
 
     /// The lines behind a script's last.
-    fn finish(&mut self, output: &mut String) -> Result<(), Stop> {
+    fn finish(&mut self, output: &mut Text) {
         for cells in &self.plain.frames {
-            write_counts("frame", cells, output)?;
+            put_counts(b"frame", cells.timestamp(), cells.counts(), output);
         }
-        if let Some(noted) = &mut self.noted {
-            noted.places.sort()?;
-            write_absent(noted, output)?;
-        }
-        Ok(())
+        self.noted.put_absent(output);
     }
 }
 
-/// The line of a frame.
-pub fn write_counts(word: &str, cells: &Cells, output: &mut String) -> Result<(), Fault> {
-    let timestamp = cells.timestamp();
-    let (present, missing, contested) = cells.counts();
-    writeln!(
-        output,
-        "{word} {timestamp} present {present} missing {missing} contested {contested}"
-    )?;
-    Ok(())
+/// Puts a refusal of a datagram.
+fn put_refusal(number: usize, output: &mut Text) {
+    let name = OF_DATAGRAMS.get(number).copied().unwrap_or("");
+    output.put(b"refused ");
+    output.put(name.as_bytes());
 }
 
-/// The runs between the places that came, which are in order.
-fn write_absent(noted: &Noted, output: &mut String) -> Result<(), Fault> {
-    let mut next = 0u32;
-    for place in &noted.places {
-        write_run(noted.first, next, *place, output)?;
-        next = next.max(place.wrapping_add(1));
+/// Puts what is known of a cell.
+fn put_cell(cell: Option<u32>, output: &mut Text) {
+    match cell {
+        None => output.put(b"none"),
+        Some(MISSING) => output.put(b"missing"),
+        Some(CONTESTED) => output.put(b"contested"),
+        Some(value) => output.put_number(b"value ", u64::from(value)),
     }
-    write_run(noted.first, next, noted.count, output)
+    output.put(b"\n");
 }
 
-/// The run from a place up to another, where there is one.
-fn write_run(first: u32, from: u32, to: u32, output: &mut String) -> Result<(), Fault> {
+/// Puts the line of a frame: how many samples are present, missing and contested.
+pub fn put_counts(word: &[u8], timestamp: u32, counts: [usize; 3], output: &mut Text) {
+    let [present, missing, contested] = counts;
+    output.put(word);
+    output.put_number(b" ", u64::from(timestamp));
+    output.put_number(b" present ", present as u64);
+    output.put_number(b" missing ", missing as u64);
+    output.put_number(b" contested ", contested as u64);
+    output.put(b"\n");
+}
+
+impl Noted {
+    /// Notes a number, where it is one of those that are noted.
+    fn note(&mut self, number: u32, output: &mut Text) {
+        let place = number.wrapping_sub(self.first);
+        if place < self.count {
+            output.is_short |= self.places.push(place).is_err();
+        }
+    }
+
+    /// Puts the runs between the places that came.
+    fn put_absent(&mut self, output: &mut Text) {
+        output.is_short |= self.places.sort().is_err();
+        let mut next = 0u32;
+        for place in &self.places {
+            put_run(self.first, next, *place, output);
+            next = next.max(place.wrapping_add(1));
+        }
+        put_run(self.first, next, self.count, output);
+    }
+}
+
+/// Puts the run from a place up to another, where there is one.
+fn put_run(first: u32, from: u32, to: u32, output: &mut Text) {
     if from < to {
-        let (first, count) = (first.wrapping_add(from), to - from);
-        writeln!(output, "absent {first} {count}")?;
+        output.put_number(b"absent ", u64::from(first.wrapping_add(from)));
+        output.put_number(b" ", u64::from(to - from));
+        output.put(b"\n");
     }
-    Ok(())
 }

@@ -3,115 +3,108 @@
 use crate::answers::OF_LINES;
 use crate::fault::Fault;
 use crate::generator::Generator;
-use crate::script_text::pieces;
-use crate::stop::Stop;
+use crate::script_text::Pieces;
+use crate::stop::{LARGE, MEMORY, Stop};
+use crate::text::Text;
 use crate::{hostile_rehearsals, hostile_scripts, rehearsal_reading, script_reading};
 use st_format::memory::{MemorySink, MemorySource};
 use st2110_tool::{run_rehearse, run_trace};
 use std::alloc::Global;
 
-/// How often each end came, and each kind of line of output.
-#[derive(Drop)]
-pub struct Totals {
-    pub ends: [u64; 15],
-    pub lines: [u64; 12],
-}
+/// How often each end came.
+pub type Ends = [u64; 15];
 
-impl Totals {
-    pub fn new() -> Totals {
-        Totals {
-            ends: [0; 15],
-            lines: [0; 12],
-        }
-    }
-}
+/// How often each kind of line of output came.
+pub type Kinds = [u64; 12];
 
-/// Room for more than is to be printed.
+/// Room for more than is to be printed or told.
 const ROOM: usize = 256;
 
 /// What is to be printed, told and answered.
 #[derive(Drop)]
 struct Wanted {
-    output: String,
-    told: String,
-    status: u8,
+    output: Text,
+    told: Text,
+    place: usize,
 }
 
-/// Makes a script. Answers whether it is followed as it is to be; the octets are the script.
+/// Makes a script. Answers whether it is followed as it is to be; the text is the script.
 pub fn run(
     alloc: Global,
     generator: &mut Generator,
-    text: &mut Vec<u8>,
-    totals: &mut Totals,
+    text: &mut Text,
+    ends: &mut Ends,
+    kinds: &mut Kinds,
 ) -> Result<bool, Fault> {
-    let mut output = String::new(alloc);
     let rehearses = generator.one_in(2);
-    let end = if rehearses {
+    if rehearses {
         hostile_rehearsals::write(alloc, generator, text)?;
-        rehearsal_reading::follow(alloc, text.as_slice(), &mut output)
     } else {
         hostile_scripts::write(alloc, generator, text)?;
-        script_reading::follow(alloc, text.as_slice(), &mut output)
+    }
+    let piece = generator.size(64);
+    let wanted = make_wanted(alloc, rehearses, text.held());
+    if wanted.place == MEMORY || text.is_short || wanted.output.is_short {
+        return Err(Fault);
+    }
+    count(ends, wanted.place);
+    if wanted.place == LARGE {
+        return Ok(true);
+    }
+    count_lines(wanted.output.held(), kinds);
+    follows(alloc, rehearses, text.held(), piece, &wanted)
+}
+
+/// What is to become of a script.
+fn make_wanted(alloc: Global, rehearses: bool, text: &[u8]) -> Wanted {
+    let mut output = Text::new(alloc);
+    let mut told = Text::new(alloc);
+    let end = if rehearses {
+        rehearsal_reading::follow(alloc, text, &mut output)
+    } else {
+        script_reading::follow(alloc, text, &mut output)
     };
-    count(&mut totals.ends, place_of(end));
-    let told = match end {
-        Ok(()) => String::new(alloc),
-        Err(Stop::Memory) => return Err(Fault),
-        Err(Stop::Large) => return Ok(true),
-        Err(stop) => stop.text(alloc)?,
+    let place = match end {
+        Ok(()) => 0,
+        Err(stop) => {
+            stop.tell(&mut told);
+            stop.place
+        }
     };
-    count_lines(alloc, totals, output.as_bytes())?;
-    let wanted = Wanted {
+    Wanted {
         output,
         told,
-        status: u8::from(end.is_err()),
-    };
-    let piece = 1 + generator.below(64) as usize;
-    let mut source = MemorySource::new(Vec::from_slice(alloc, text.as_slice())?, piece, 0);
-    follows(alloc, rehearses, &mut source, &wanted)
+        place,
+    }
 }
 
 /// A sink with room for a text and more.
-fn sink(alloc: Global, text: &str) -> Result<MemorySink, Fault> {
-    let room = text.len().saturating_add(ROOM);
+fn sink(alloc: Global, text: &Text) -> Result<MemorySink, Fault> {
+    let room = text.held().len().saturating_add(ROOM);
     Ok(MemorySink::new(Vec::with_capacity(alloc, room)?, 64, 0))
 }
 
-/// Whether a script is followed so.
+/// Whether a script is followed so, over a source of pieces of so many octets and one.
 fn follows(
     alloc: Global,
     rehearses: bool,
-    source: &mut MemorySource,
+    text: &[u8],
+    piece: usize,
     wanted: &Wanted,
 ) -> Result<bool, Fault> {
-    let mut output = sink(alloc, wanted.output.as_str())?;
-    let mut faults = sink(alloc, wanted.told.as_str())?;
+    let octets = Vec::from_slice(alloc, text)?;
+    let mut source = MemorySource::new(octets, piece.saturating_add(1), 0);
+    let mut output = sink(alloc, &wanted.output)?;
+    let mut faults = sink(alloc, &wanted.told)?;
     let status = if rehearses {
-        run_rehearse(alloc, source, &mut output, &mut faults)
+        run_rehearse(alloc, &mut source, &mut output, &mut faults)
     } else {
-        run_trace(alloc, source, &mut output, &mut faults)
+        run_trace(alloc, &mut source, &mut output, &mut faults)
     };
-    Ok(
-        status == wanted.status
-            && output.held() == wanted.output.as_bytes()
-            && faults.held() == wanted.told.as_bytes(),
-    )
-}
-
-/// The place of an end in the totals.
-fn place_of(end: Result<(), Stop>) -> usize {
-    match end {
-        Ok(()) => 0,
-        Err(Stop::Script(_)) => 1,
-        Err(Stop::Format(number)) => number.min(3).wrapping_add(1),
-        Err(Stop::Open(number)) => number.min(3).wrapping_add(3),
-        Err(Stop::Numbers) => 7,
-        Err(Stop::Plan) => 8,
-        Err(Stop::Event(_)) => 9,
-        Err(Stop::Play(number)) => number.min(6).wrapping_add(7),
-        Err(Stop::Large) => 14,
-        Err(Stop::Memory) => usize::MAX,
-    }
+    let is_so = status == u8::from(wanted.place > 0);
+    let prints = output.held() == wanted.output.held();
+    let tells = faults.held() == wanted.told.held();
+    Ok(is_so && prints && tells)
 }
 
 /// Adds one to the total at a place, where there is one.
@@ -122,14 +115,24 @@ fn count(totals: &mut [u64], place: usize) {
 }
 
 /// Counts the lines of output by their kinds.
-fn count_lines(alloc: Global, totals: &mut Totals, output: &[u8]) -> Result<(), Fault> {
-    for line in &pieces(alloc, output, b'\n')? {
-        for (place, kind) in OF_LINES.iter().enumerate() {
-            if line.starts_with(kind.as_bytes()) {
-                count(&mut totals.lines, place);
-                break;
-            }
-        }
+fn count_lines(output: &[u8], kinds: &mut Kinds) {
+    let mut lines = Pieces::new(output, b'\n');
+    for _ in 0..=output.len() {
+        let Some(line) = lines.next() else {
+            break;
+        };
+        count(kinds, kind_of(line));
     }
-    Ok(())
+}
+
+/// The kind of a line of output; behind the last one where it has none.
+fn kind_of(line: &[u8]) -> usize {
+    let mut place = 0usize;
+    for kind in &OF_LINES {
+        if line.starts_with(kind.as_bytes()) {
+            break;
+        }
+        place = place.wrapping_add(1);
+    }
+    place
 }

@@ -1,86 +1,74 @@
 //! How a script ends by its second reading.
-use crate::fault::Fault;
-use std::alloc::{AllocError, AllocFailed, Global};
+use crate::answers::OF_SCRIPTS;
+use crate::text::Text;
 
-/// Faults of a format by their numbers.
-const OF_FORMATS: [&str; 4] = ["", "BadWidth", "BadHeight", "BadRate"];
+/// Places among the ends of scripts: the line of a number, the event of a number, and others.
+const SCRIPT: usize = 1;
 
-/// Faults of an opening by their numbers.
-const OF_OPENINGS: [&str; 4] = ["", "NoMemory", "BadWindow", "DoubleTimestamp"];
+const EVENT: usize = 9;
 
-/// Faults of a schedule by their numbers.
-const OF_SCHEDULES: [&str; 7] = [
-    "",
-    "NoMemory",
-    "BadEvent",
-    "BadWindow",
-    "DoubleTimestamp",
-    "BadPictures",
-    "BadReceivers",
-];
+pub const BAD_WIDTH: usize = 2;
 
-/// Why a script ends before its end.
-#[derive(Clone, Copy, Debug, PartialEq, Eq)]
-pub enum Stop {
-    /// The line of this number.
-    Script(usize),
-    /// The format's fault of this number.
-    Format(usize),
-    /// The opening's fault of this number.
-    Open(usize),
-    /// The count of packet numbers.
-    Numbers,
-    /// The size of a packet.
-    Plan,
-    /// The event at this place.
-    Event(usize),
-    /// The schedule's fault of this number.
-    Play(usize),
-    /// The pictures aren't small: the script isn't run.
-    Large,
-    /// This program itself wants memory.
-    Memory,
+pub const BAD_HEIGHT: usize = 3;
+
+pub const BAD_RATE: usize = 4;
+
+pub const OPEN_WINDOW: usize = 5;
+
+pub const OPEN_TWICE: usize = 6;
+
+pub const BAD_COUNT: usize = 7;
+
+pub const BAD_SIZE: usize = 8;
+
+pub const PLAY_WINDOW: usize = 10;
+
+pub const PLAY_TWICE: usize = 11;
+
+pub const BAD_RECEIVERS: usize = 13;
+
+/// The pictures aren't small: the script isn't run.
+pub const LARGE: usize = 14;
+
+/// This program itself wants memory.
+pub const MEMORY: usize = 15;
+
+/// Why a script ends before its end: a place among the ends.
+#[derive(Clone, Copy)]
+pub struct Stop {
+    pub place: usize,
+    number: usize,
 }
 
 impl Stop {
-    /// The line that is to be told.
-    pub fn text(self, alloc: Global) -> Result<String, Fault> {
-        Ok(match self {
-            Stop::Script(line) => format!(in alloc; "st2110: script {line}\n")?,
-            Stop::Format(number) => {
-                let name = OF_FORMATS.get(number).copied().unwrap_or("");
-                format!(in alloc; "st2110: format {number} {name}\n")?
-            }
-            Stop::Open(number) => {
-                let name = OF_OPENINGS.get(number).copied().unwrap_or("");
-                format!(in alloc; "st2110: open {number} {name}\n")?
-            }
-            Stop::Numbers => String::from_str(alloc, "st2110: numbers 2 BadCount\n")?,
-            Stop::Plan => String::from_str(alloc, "st2110: plan 2 BadPacketSize\n")?,
-            Stop::Event(place) => format!(in alloc; "st2110: play 2 BadEvent {place}\n")?,
-            Stop::Play(number) => {
-                let name = OF_SCHEDULES.get(number).copied().unwrap_or("");
-                format!(in alloc; "st2110: play {number} {name}\n")?
-            }
-            Stop::Large | Stop::Memory => String::new(alloc),
-        })
+    pub fn new(place: usize) -> Stop {
+        Stop { place, number: 0 }
     }
-}
 
-impl From<Fault> for Stop {
-    fn from(_: Fault) -> Stop {
-        Stop::Memory
+    /// At the line of a number.
+    pub fn script(number: usize) -> Stop {
+        Stop {
+            place: SCRIPT,
+            number,
+        }
     }
-}
 
-impl From<AllocError> for Stop {
-    fn from(_: AllocError) -> Stop {
-        Stop::Memory
+    /// At the event of a number.
+    pub fn event(number: usize) -> Stop {
+        Stop {
+            place: EVENT,
+            number,
+        }
     }
-}
 
-impl<T: Drop> From<AllocFailed<T>> for Stop {
-    fn from(_: AllocFailed<T>) -> Stop {
-        Stop::Memory
+    /// Puts the line that is to be told.
+    pub fn tell(self, told: &mut Text) {
+        let name = OF_SCRIPTS.get(self.place).copied().unwrap_or("");
+        told.put(b"st2110: ");
+        told.put(name.as_bytes());
+        if self.place == SCRIPT || self.place == EVENT {
+            told.put_number(b" ", self.number as u64);
+        }
+        told.put(b"\n");
     }
 }
