@@ -1,6 +1,8 @@
 -- What samples are limited to and gained about, told by their numbers in turns of 24.
-use Rattle.std.proofs.Common.{◌≡◌, ℕ, ◌-◌, ◌*◌, ◌%◌, ◌≤◌, Bool, true, false, if◌then◌else◌, sym, ap}
-use Rattle.std.proofs.Common.{arith, ◌∙◌}
+use Rattle.std.proofs.Common.{◌≡◌, ℕ, ◌+◌, ◌-◌, ◌*◌, ◌%◌, ◌<◌, ◌≤◌, Bool, true, false, if◌then◌else◌}
+use Rattle.std.proofs.Common.{List, ◌++◌, get_or, length, take, drop, inl, inr, sym, ap, arith, ◌∙◌}
+use Rattle.std.proofs.lemmas.Bool.{cases_lt}
+use Rattle.std.proofs.lemmas.List.{get_or_append_left, get_or-append_right, get_or-drop, get_or-take}
 use Rattle.std.specs.Prelude.{pos, slice_index_or}
 use Rattle.st_format.specs.declared.sampling.Sampling.{Sampling}
 use Rattle.st_format.specs.declared.sampling.Sampling.TheVariants.{Ycc422, Ycc444, Rgb}
@@ -35,3 +37,28 @@ gained_turns g n s v true h e =
     let c = ap (λ x. 128 * x) e ∙ sym (centre_is n h) in
     λ i. clip (e i) (255 * e i - 1) (gain (c i) g v)
 gained_turns g n s v false h e = λ i. clip (e i) (255 * e i - 1) (gain (16 * e i) g v)
+
+component_on : (s : Sampling) (d k : ℕ) → d % 24 ≡ 0
+    → component_in_row s k ≡ component_in_row s (d + k)
+component_on s d k turns =
+    let turn : k % 24 ≡ (d + k) % 24 = omega arith in
+    sym (component_turns s k) ∙ ap (component_in_row s) turn ∙ component_turns s (d + k)
+
+-- d samples are made by their components and values, and ws is made of the n samples behind them
+pub more_turns : (made_of : ℕ → ℕ → ℕ) (s : Sampling) (full vs ws : List ℕ) (d n m : ℕ) → m ≡ n
+    → d % 24 ≡ 0 → length vs ≡ d → length ws ≡ n
+    → ((k : ℕ) → k < d → get_or vs k 0 ≡ made_of (component_in_row s k) (get_or full k 0))
+    → ((i : ℕ) → i < length ws
+    → get_or ws i 0 ≡ made_of (component_in_row s i) (get_or (take m (drop d full)) i 0))
+    → (k : ℕ) → k < d + n
+    → get_or (vs ++ ws) k 0 ≡ made_of (component_in_row s k) (get_or full k 0)
+more_turns made_of s full vs ws d n m size turns long some made each k h = elim (cases_lt k d) [
+  | inl l ↦ get_or_append_left vs ws 0 k (omega arith) ∙ made k l
+  | inr g ↦
+      let i : ℕ = k - d in
+      let at : d + i ≡ k = omega arith in
+      let was = get_or-take m (drop d full) i 0 (omega arith) ∙ get_or-drop d full i 0 in
+      get_or-append_right vs ws d k 0 long g ∙ each i (omega arith)
+      ∙ (λ j. made_of (component_on s d i turns j) (was j))
+      ∙ ap (λ j. made_of (component_in_row s j) (get_or full j 0)) at
+]

@@ -6,7 +6,6 @@ use Rattle.std.specs.Prelude.{
   ◌+◌,
   ◌*◌,
   ◌/◌,
-  min,
   Bool,
   true,
   false,
@@ -53,10 +52,6 @@ abbrev pub limited : RangeKind → ℕ → Bool → ℕ → ℕ
 limited Nominal n true v = nominal_colour n (pos v)
 limited Nominal n false v = nominal n (pos v)
 limited VideoData n colour v = video_data n (pos v)
-
--- a luma sample of number k that isn't above most; the others as they are
-abbrev pub lowered : Sampling → ℕ → ℕ → ℕ → ℕ
-lowered s most k v = if component_in_row s k == 0 then min most v else v
 
 -- the value that gain keeps: the centre for Cb and Cr, else black
 abbrev pub kept : ℕ → Bool → ℕ

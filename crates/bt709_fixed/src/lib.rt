@@ -89,6 +89,51 @@ pub fn limit<A: Allocator>(picture: Picture<A>, range: RangeKind) -> Picture<A>
     Picture::from_samples(format, samples)
 }
 
+/// A copy of a picture, in memory of `alloc`, in which each value is brought to the range named.
+/// `AllocError` where the memory was refused.
+pub fn limited_copy<A: Allocator, B: Allocator>(
+    alloc: B,
+    picture: &Picture<A>,
+    range: RangeKind,
+) -> Result<Picture<B>, AllocError>
+    ensures value { IfOk result (λ p. IsOf picture.now.format (limit_value range picture.now) p) }
+    ensures whole { IfOk result (λ p. IsPicture p) }
+{
+    let format = picture.format();
+    let (sampling, depth) = (format.sampling(), format.depth());
+    let samples = limited_samples(alloc, sampling, depth, range, picture.samples())?;
+    Ok(Picture::from_samples(format, samples))
+}
+
+/// A copy of samples brought to the range named: by blocks that stay near, each of whole turns of
+/// components.
+fn limited_samples<B: Allocator>(
+    alloc: B,
+    sampling: Sampling,
+    depth: Depth,
+    range: RangeKind,
+    samples: &[u16],
+) -> Result<Vec<u16, B>, AllocError>
+    ensures long { IfOk result (λ v. length v.items ≡ length samples.now) }
+    ensures each { IfOk result (λ v. EachIndex v.items (λ k.
+        slice_index v.items k
+        ≡ limited range (bits_of depth) (is_colour sampling (component_in_row sampling k))
+        (slice_index samples.now k))) }
+{
+    let mut copy = Vec::with_capacity(alloc, samples.len())?;
+    let mut block = [0u16; 1536];
+    let mut done = 0;
+    while done < samples.len() {
+        let some = (samples.len() - done).min(1536);
+        let part = &mut block[..some];
+        part.copy_from_slice(&samples[done..done + some]);
+        limit_samples(sampling, depth, range, part);
+        copy.extend_from_slice(part)?;
+        done += some;
+    }
+    Ok(copy)
+}
+
 /// Brings each sample to the range named.
 fn limit_samples(sampling: Sampling, depth: Depth, range: RangeKind, samples: &mut [u16])
     ensures long { length samples.new ≡ length samples.old }
