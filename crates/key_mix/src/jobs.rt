@@ -5,7 +5,7 @@ ghost use Rattle.key_mix.specs.Jobs.{IsFault, IsJobPicture, IsSound, formats_of}
 
 use crate::formats::MOST_GAIN;
 use crate::{Job, JobFault, key, wipe};
-use bt709_fixed::{gain, limit, to_ycc422, to_ycc444};
+use bt709_fixed::{gain, limited_copy, to_ycc422, to_ycc444};
 use st_format::Picture;
 use std::alloc::Allocator;
 
@@ -47,10 +47,7 @@ fn run_on_one<A: Allocator, C: Allocator + Copy>(
     ensures fault { IfErr result (λ e. IsFault e job.now (picture.now.format ∷ [])) }
 {
     match job {
-        Job::Limit(range) => match picture.try_copy(alloc) {
-            Ok(copy) => Ok(limit(copy, *range)),
-            Err(_) => Err(JobFault::NoMemory),
-        },
+        Job::Limit(range) => Ok(limited_copy(alloc, picture, *range)?),
         Job::Gain(g) if *g > MOST_GAIN => Err(JobFault::BadGain),
         Job::Gain(g) => match picture.try_copy(alloc) {
             Ok(copy) => Ok(gain(copy, *g)),
