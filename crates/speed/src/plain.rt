@@ -22,7 +22,7 @@ fn video(value: i64, scale: u32) -> u16 {
 }
 
 fn limit(scale: u32, a: &[u16], out: &mut [u16]) {
-    let scale = scale as u16;
+    let scale = (scale % 65536) as u16;
     let low = scale.wrapping_mul(16);
     let (luma, colour) = (scale.wrapping_mul(235), scale.wrapping_mul(240));
     for (values, pair) in out.chunks_exact_mut(2).zip(a.chunks_exact(2)) {
@@ -36,13 +36,12 @@ fn limit(scale: u32, a: &[u16], out: &mut [u16]) {
 fn gained(x: u16, from: i32, g: i32, scale: i32) -> u16 {
     let far = i32::from(x).wrapping_sub(from).wrapping_mul(g);
     let value = (far.wrapping_add(2048) >> 12).wrapping_add(from);
-    value
-        .max(scale)
-        .min(scale.wrapping_mul(255).wrapping_sub(1)) as u16
+    let most = scale.wrapping_mul(255).wrapping_sub(1);
+    u16::try_from(value.max(scale).min(most)).unwrap_or(0)
 }
 
 fn gain(scale: u32, g: u32, a: &[u16], out: &mut [u16]) {
-    let (scale, g) = (scale as i32, g as i32);
+    let (scale, g) = ((scale % 65536) as i32, (g % 65536) as i32);
     let black = scale.wrapping_mul(16);
     let centre = scale.wrapping_mul(128);
     for (values, pair) in out.chunks_exact_mut(2).zip(a.chunks_exact(2)) {
