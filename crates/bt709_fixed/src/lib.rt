@@ -205,6 +205,52 @@ pub fn gain<A: Allocator>(picture: Picture<A>, g: u32) -> Picture<A>
     Picture::from_samples(format, samples)
 }
 
+/// A copy of a picture, in memory of `alloc`, in which each value is brought `g / 4096` as far from
+/// what it keeps, as by [`gain`]. `AllocError` where the memory was refused.
+pub fn gained_copy<A: Allocator, B: Allocator>(
+    alloc: B,
+    picture: &Picture<A>,
+    g: u32,
+) -> Result<Picture<B>, AllocError>
+    requires { g ≤ 16384 }
+    ensures value { IfOk result (λ p. IsOf picture.now.format (gain_value g picture.now) p) }
+    ensures whole { IfOk result (λ p. IsPicture p) }
+{
+    let format = picture.format();
+    let (sampling, depth) = (format.sampling(), format.depth());
+    let samples = gained_samples(alloc, sampling, depth, g, picture.samples())?;
+    Ok(Picture::from_samples(format, samples))
+}
+
+/// A copy of samples brought `g / 4096` as far, by blocks as a limited one.
+fn gained_samples<B: Allocator>(
+    alloc: B,
+    sampling: Sampling,
+    depth: Depth,
+    g: u32,
+    samples: &[u16],
+) -> Result<Vec<u16, B>, AllocError>
+    requires { g ≤ 16384 }
+    ensures long { IfOk result (λ v. length v.items ≡ length samples.now) }
+    ensures each { IfOk result (λ v. EachIndex v.items (λ k.
+        slice_index v.items k
+        ≡ gained g (bits_of depth) (is_colour sampling (component_in_row sampling k))
+        (slice_index samples.now k))) }
+{
+    let mut copy = Vec::with_capacity(alloc, samples.len())?;
+    let mut block = [0u16; 1536];
+    let mut done = 0;
+    while done < samples.len() {
+        let some = (samples.len() - done).min(1536);
+        let part = &mut block[..some];
+        part.copy_from_slice(&samples[done..done + some]);
+        gain_samples(sampling, depth, g, part);
+        copy.extend_from_slice(part)?;
+        done += some;
+    }
+    Ok(copy)
+}
+
 /// Brings each sample `g / 4096` as far from the value that it keeps.
 fn gain_samples(sampling: Sampling, depth: Depth, g: u32, samples: &mut [u16])
     requires { g ≤ 16384 }
