@@ -5,7 +5,7 @@ ghost use Rattle.key_mix.specs.Jobs.{IsFault, IsJobPicture, IsSound, formats_of}
 
 use crate::formats::MOST_GAIN;
 use crate::{Job, JobFault, key, wipe};
-use bt709_fixed::{gain, limited_copy, to_ycc422, to_ycc444};
+use bt709_fixed::{gained_copy, limited_copy, to_ycc422, to_ycc444};
 use st_format::Picture;
 use std::alloc::Allocator;
 
@@ -49,10 +49,7 @@ fn run_on_one<A: Allocator, C: Allocator + Copy>(
     match job {
         Job::Limit(range) => Ok(limited_copy(alloc, picture, *range)?),
         Job::Gain(g) if *g > MOST_GAIN => Err(JobFault::BadGain),
-        Job::Gain(g) => match picture.try_copy(alloc) {
-            Ok(copy) => Ok(gain(copy, *g)),
-            Err(_) => Err(JobFault::NoMemory),
-        },
+        Job::Gain(g) => Ok(gained_copy(alloc, picture, *g)?),
         Job::ToYcc444 => Ok(to_ycc444(alloc, picture)?),
         Job::ToYcc422 => Ok(to_ycc422(alloc, picture)?),
         Job::Wipe(_) | Job::Key => Err(JobFault::WrongInputCount),

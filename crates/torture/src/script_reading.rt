@@ -69,7 +69,7 @@ pub fn read_format(lines: &mut Lines<'_>) -> Result<Format, Stop> {
     let (n, d) = (rate.number(u32::MAX), rate.number(u32::MAX));
     fields.end()?;
     rate.end()?;
-    let (_, pixels, _) = group_of(code as u32, bits).ok_or(fields.stop())?;
+    let (_, pixels, _) = group_of((code % 256) as u32, bits).ok_or(fields.stop())?;
     if !is_width(width, pixels) {
         return Err(Stop::new(BAD_WIDTH));
     }
@@ -97,7 +97,7 @@ fn format_of(code: usize, bits: u32, sides: [u32; 4]) -> Option<Format> {
 /// A receiver as by a line `open PT SSRC WINDOW`, with nothing taken.
 fn open(alloc: Global, format: Format, lines: &mut Lines<'_>) -> Result<Session, Stop> {
     let mut fields = lines.begun(b"open");
-    let payload_type = fields.number(127) as u8;
+    let payload_type = (fields.number(127) % 128) as u8;
     let ssrc = source_of(&mut fields);
     let window = fields.window();
     fields.end()?;

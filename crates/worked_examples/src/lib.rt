@@ -32,9 +32,9 @@ mod devices;
 mod engines;
 #[cfg(test)]
 mod file_devices;
+mod file_growths;
 #[cfg(test)]
 mod file_reading;
-mod file_growths;
 #[cfg(test)]
 mod file_runs;
 #[cfg(test)]
