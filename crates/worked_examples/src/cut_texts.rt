@@ -8,7 +8,8 @@ use std::process::Abort;
 use std::test::Fail;
 
 /// From so many octets on, up to the next row, the text's fault, or `None` where it is read: the
-/// first fault of the first section that has one. A CR at the end is dropped as one before an LF is.
+/// first fault of the first section that has one. A CR at the end is dropped as one before an LF
+/// is.
 const FAULTS: [(usize, Option<SdpFault>); 35] = [
     (0, Some(SdpFault::NoVideo)),
     (89, Some(SdpFault::BadMediaLine)),

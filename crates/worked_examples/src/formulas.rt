@@ -17,7 +17,8 @@ pub fn scale(bits: u32) -> u16 {
     }
 }
 
-/// Values of so many bits: the least and the greatest, and those at and beside the bounds of ranges.
+/// Values of so many bits: the least and the greatest, and those at and beside the bounds
+/// of ranges.
 pub fn corners(bits: u32) -> [u16; CORNERS] {
     let s = scale(bits);
     let end = s.wrapping_mul(256);

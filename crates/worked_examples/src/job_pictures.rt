@@ -1,4 +1,5 @@
-//! Pictures of each sampling and depth through each job, against the job's formula at each position.
+//! Pictures of each sampling and depth through each job, against the job's formula at each
+//! position.
 use crate::checks::met;
 use crate::formulas::{cb, clipped, cr, gained, keyed, luma, mixed, scale};
 use crate::generator::Generator;

@@ -162,7 +162,8 @@ fn refused_jobs(rt: HostRuntime) -> Result<(), Fail> {
     Ok(())
 }
 
-/// Whether *send-gain-one*'s datagram is sent, or `None` where memory is wanted and nothing is sent.
+/// Whether *send-gain-one*'s datagram is sent, or `None` where memory is wanted and nothing
+/// is sent.
 pub fn has_sent<C: Allocator + Copy>(
     alloc: C,
     global: Global,

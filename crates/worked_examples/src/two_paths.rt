@@ -225,8 +225,8 @@ fn outside_and_slide(rt: HostRuntime) -> Result<(), Fail> {
     follow(&rt, &[900], &SLIDE)
 }
 
-/// Whether receivers and frames over an allocator follow *outside-and-slide*, or `None` where memory
-/// is wanted for them.
+/// Whether receivers and frames over an allocator follow *outside-and-slide*, or `None` where
+/// memory is wanted for them.
 pub fn is_slid<A: Allocator + Copy>(alloc: A) -> Result<Option<bool>, Fail> {
     let unlike = Format::new(Sampling::Rgb, Depth::D8, 4, 2, 60, 1)?;
     match Pair::of(alloc, small()?, unlike, &[900]) {

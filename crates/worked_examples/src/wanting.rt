@@ -8,8 +8,8 @@ pub const MEMORY: &[u8] = b"st2110: memory\n";
 
 /// A call that wants memory.
 pub trait Wanting {
-    /// Whether it answers as its example says, or `None` where it wants memory. Its own memory comes
-    /// from `refusing`; what it is given stands in memory of `global`.
+    /// Whether it answers as its example says, or `None` where it wants memory. Its own memory
+    /// comes from `refusing`; what it is given stands in memory of `global`.
     fn answer(&self, global: Global, refusing: &Refusing<Global>) -> Result<Option<bool>, Fail>;
 }
 

@@ -30,6 +30,7 @@ loop-done-preserved g c =
     record {
       long = ap length items ∙ length-append vs ws ∙ omega (arith, inv.long, long);
       within = omega (arith, c.min-some.ensures);
-      turns = λ h. omega (arith, c.min-some.ensures, inv.turns (omega (arith, c.loop-done-test.true)));
+      turns = λ h.
+          omega (arith, c.min-some.ensures, inv.turns (omega (arith, c.loop-done-test.true)));
       made = λ k h. ap (λ xs. get_or xs k 0) items ∙ more k h;
     }

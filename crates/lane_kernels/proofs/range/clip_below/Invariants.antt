@@ -8,7 +8,8 @@ invariant-loop-values l = record {
   within : l.at ≤ length l.initial.values;
   turns : l.at % 24 ≡ 0;
   done : Below
-      (λ k. min (get_or l.highs (k % 24) 0) (max l.low (get_or l.initial.values k 0))) l.at l.values;
+      (λ k. min (get_or l.highs (k % 24) 0) (max l.low (get_or l.initial.values k 0)))
+      l.at l.values;
   kept : Kept l.initial.values l.at l.values;
 }
 
