@@ -32,6 +32,7 @@ mod devices;
 mod engines;
 #[cfg(test)]
 mod file_devices;
+#[cfg(test)]
 mod file_growths;
 #[cfg(test)]
 mod file_reading;
