@@ -6,11 +6,13 @@ use Rattle.std.proofs.lemmas.Bool.{cases_lt}
 use Rattle.std.proofs.lemmas.List.{get_or_append_left, get_or-append_right, get_or-drop}
 use Rattle.std.proofs.lemmas.List.{get_or-take}
 use Rattle.std.specs.Prelude.{pos, slice_index_or}
+use borrow.Rule.Slice.PartMut.{put_mid}
 use Rattle.st_format.specs.declared.sampling.Sampling.{Sampling}
 use Rattle.st_format.specs.declared.sampling.Sampling.TheVariants.{Ycc422, Ycc444, Rgb}
 use Rattle.st_format.specs.Position.{component_in_row, run}
 use Rattle.lane_kernels.specs.Formulas.{clip, gain, scale}
 use Rattle.lane_kernels.proofs.Scales.{centre_is}
+use Rattle.bt709_fixed.proofs.Part.{put_below, put_within}
 use Rattle.bt709_fixed.specs.Operations.{gained, is_colour, limited}
 use Rattle.bt709_fixed.specs.declared.RangeKind.TheVariants.{Nominal}
 
@@ -46,21 +48,33 @@ component_on s d k turns =
     let turn : k % 24 ≡ (d + k) % 24 = omega arith in
     sym (component_turns s k) ∙ ap (component_in_row s) turn ∙ component_turns s (d + k)
 
--- d samples are made by their components and values, and ws is made of the n samples behind them
-pub more_turns : (made_of : ℕ → ℕ → ℕ) (s : Sampling) (full vs ws : List ℕ) (d n m : ℕ) → m ≡ n
-    → d % 24 ≡ 0 → length vs ≡ d → length ws ≡ n
+-- d samples are made by their components and values, xs has the n behind them as they were, and ws
+-- is made of these
+pub more_turns : (made_of : ℕ → ℕ → ℕ) (s : Sampling) (full vs xs ws : List ℕ) (d n m j : ℕ)
+    → m ≡ n → j ≡ n → d % 24 ≡ 0 → length vs ≡ d → xs ≡ vs ++ take m (drop d full)
+    → length xs ≡ d + n → length ws ≡ n
     → ((k : ℕ) → k < d → get_or vs k 0 ≡ made_of (component_in_row s k) (get_or full k 0))
     → ((i : ℕ) → i < length ws
-    → get_or ws i 0 ≡ made_of (component_in_row s i) (get_or (take m (drop d full)) i 0))
+    → get_or ws i 0 ≡ made_of (component_in_row s i) (get_or (take j (drop d xs)) i 0))
     → (k : ℕ) → k < d + n
-    → get_or (vs ++ ws) k 0 ≡ made_of (component_in_row s k) (get_or full k 0)
-more_turns made_of s full vs ws d n m size turns long some made each k h = elim (cases_lt k d) [
-  | inl l ↦ get_or_append_left vs ws 0 k (omega arith) ∙ made k l
-  | inr g ↦
-      let i : ℕ = k - d in
-      let at : d + i ≡ k = omega arith in
-      let was = get_or-take m (drop d full) i 0 (omega arith) ∙ get_or-drop d full i 0 in
-      get_or-append_right vs ws d k 0 long g ∙ each i (omega arith)
-      ∙ (λ j. made_of (component_on s d i turns j) (was j))
-      ∙ ap (λ j. made_of (component_in_row s j) (get_or full j 0)) at
-]
+    → get_or (put_mid d j xs ws) k 0 ≡ made_of (component_in_row s k) (get_or full k 0)
+more_turns made_of s full vs xs ws d n m j of_m of_j turns long is whole some made each k h =
+    let us : List ℕ = take m (drop d full) in
+    elim (cases_lt k d) [
+      | inl l ↦
+          put_below d j xs ws k (omega arith) l ∙ ap (λ ys. get_or ys k 0) is
+          ∙ get_or_append_left vs us 0 k (omega arith) ∙ made k l
+      | inr g ↦
+          let i : ℕ = k - d in
+          let at : d + i ≡ k = omega arith in
+          let was : get_or (take j (drop d xs)) i 0 ≡ get_or full (d + i) 0 =
+          get_or-take j (drop d xs) i 0 (omega arith) ∙ get_or-drop d xs i 0
+          ∙ ap (λ ys. get_or ys (d + i) 0) is
+          ∙ get_or-append_right vs us d (d + i) 0 long (omega arith)
+          ∙ get_or-take m (drop d full) (d + i - d) 0 (omega arith)
+          ∙ get_or-drop d full (d + i - d) 0
+          ∙ ap (λ e. get_or full e 0) (omega arith) in
+          put_within d j xs ws k (omega arith) g (omega arith) ∙ each i (omega arith)
+          ∙ (λ e. made_of (component_on s d i turns e) (was e))
+          ∙ ap (λ e. made_of (component_in_row s e) (get_or full e 0)) at
+    ]

@@ -4,9 +4,11 @@ use Rattle.std.specs.Prelude.{ℤ, pos}
 use Rattle.lane_kernels.specs.Formulas.{gain, scale, video_data}
 use Rattle.lane_kernels.proofs.Clipping.{clip_most}
 use Rattle.lane_kernels.proofs.Scales.{scale_least, whole_is}
+use Rattle.bt709_fixed.specs.declared.Change.{Change}
+use Rattle.bt709_fixed.specs.declared.Change.TheVariants.{Gain, Limit}
 use Rattle.bt709_fixed.specs.declared.RangeKind.{RangeKind}
 use Rattle.bt709_fixed.specs.declared.RangeKind.TheVariants.{Nominal, VideoData}
-use Rattle.bt709_fixed.specs.Operations.{limited, gained, kept}
+use Rattle.bt709_fixed.specs.Operations.{changed, limited, kept}
 
 pub video_data_fits : (n : ℕ) (z : ℤ) → 8 ≤ n → video_data n z < 2 ^ n
 video_data_fits n z h =
@@ -17,7 +19,7 @@ video_data_fits n z h =
       whole_is n h,
     )
 
-pub limited_fits : (r : RangeKind) (n : ℕ) (colour : Bool) (v : ℕ) → 8 ≤ n
+limited_fits : (r : RangeKind) (n : ℕ) (colour : Bool) (v : ℕ) → 8 ≤ n
     → limited r n colour v < 2 ^ n
 limited_fits Nominal n true v h =
     omega (
@@ -35,5 +37,7 @@ limited_fits Nominal n false v h =
     )
 limited_fits VideoData n colour v h = video_data_fits n (pos v) h
 
-pub gained_fits : (g n : ℕ) (colour : Bool) (v : ℕ) → 8 ≤ n → gained g n colour v < 2 ^ n
-gained_fits g n colour v h = video_data_fits n (gain (kept n colour) g v) h
+pub changed_fits : (change : Change) (n : ℕ) (colour : Bool) (v : ℕ) → 8 ≤ n
+    → changed change n colour v < 2 ^ n
+changed_fits (Limit range) n colour v h = limited_fits range n colour v h
+changed_fits (Gain g) n colour v h = video_data_fits n (gain (kept n colour) g v) h

@@ -6,6 +6,8 @@ use Rattle.std.specs.Prelude.{
   ◌+◌,
   ◌*◌,
   ◌/◌,
+  ◌≤◌,
+  ⊤,
   Bool,
   true,
   false,
@@ -33,6 +35,8 @@ use Rattle.lane_kernels.specs.Formulas.{
   scale,
   video_data,
 }
+use Rattle.bt709_fixed.specs.declared.Change.{Change}
+use Rattle.bt709_fixed.specs.declared.Change.TheVariants.{Gain, Limit}
 use Rattle.bt709_fixed.specs.declared.RangeKind.{RangeKind}
 use Rattle.bt709_fixed.specs.declared.RangeKind.TheVariants.{Nominal, VideoData}
 
@@ -60,6 +64,20 @@ kept n false = 16 * scale n
 
 abbrev pub gained : ℕ → ℕ → Bool → ℕ → ℕ
 gained g n colour v = video_data n (gain (kept n colour) g v)
+
+-- a gain is at most 4, in 4096ths
+abbrev pub IsBounded : Change → Type 0
+IsBounded (Limit range) = ⊤
+IsBounded (Gain g) = g ≤ 16384
+
+-- what a change makes of a value
+abbrev pub changed : Change → ℕ → Bool → ℕ → ℕ
+changed (Limit range) n colour v = limited range n colour v
+changed (Gain g) n colour v = gained g n colour v
+
+-- the same of the sample of number k, in a row or a raster of n bits
+abbrev pub changed_sample : Change → Sampling → ℕ → ℕ → ℕ → ℕ
+changed_sample change s n k v = changed change n (is_colour s (component_in_row s k)) v
 
 -- the one of three values that a component has
 abbrev pub of_component : ℕ → ℕ → ℕ → ℕ → ℕ
@@ -92,6 +110,11 @@ limit_value range v at =
 abbrev pub gain_value : ℕ → Values → Position → ℕ
 gain_value g v at =
     gained g (bits_of v.format.depth) (is_colour v.format.sampling at.component) (value_at v at)
+
+abbrev pub changed_value : Change → Values → Position → ℕ
+changed_value change v at =
+    changed change (bits_of v.format.depth) (is_colour v.format.sampling at.component)
+    (value_at v at)
 
 abbrev pub ycc444_value : Values → Position → ℕ
 ycc444_value v at =

@@ -27,14 +27,14 @@ ghost use Rattle.st_format.specs.Picture.{FitsDepth, IsPicture};
 ghost use Rattle.st_format.specs.Position.{component_in_row};
 ghost use Rattle.lane_kernels.specs.Formulas.{centre, scale};
 ghost use Rattle.bt709_fixed.specs.Operations.{
+  IsBounded,
   IsOf,
   IsResampled,
+  changed_sample,
+  changed_value,
   gain_value,
-  gained,
   is_colour,
-  kept,
   limit_value,
-  limited,
   matrixed_at,
   of_component,
   ycc422_value,
@@ -42,7 +42,6 @@ ghost use Rattle.bt709_fixed.specs.Operations.{
 };
 ghost use Rattle.bt709_fixed.specs.Thinned.{thinned_number};
 ghost use Rattle.bt709_fixed.specs.declared.ColourFault.TheVariants.{NoMemory, NotRgb, NotYcc444};
-ghost use Rattle.bt709_fixed.specs.declared.RangeKind.TheVariants.{Nominal};
 ghost use Rattle.st_format.specs.declared.sampling.Sampling.TheVariants.{Rgb, Ycc422, Ycc444};
 
 use st_format::{Depth, Format, Picture, Sampling};
@@ -78,15 +77,7 @@ pub fn limit<A: Allocator>(picture: Picture<A>, range: RangeKind) -> Picture<A>
     ensures value { IsOf picture.format (limit_value range picture) result }
     ensures whole { IsPicture result }
 {
-    let format = picture.format();
-    let mut samples = picture.into_samples();
-    limit_samples(
-        format.sampling(),
-        format.depth(),
-        range,
-        samples.as_mut_slice(),
-    );
-    Picture::from_samples(format, samples)
+    changed(picture, Change::Limit(range))
 }
 
 /// A copy of a picture, in memory of `alloc`, in which each value is brought to the range named.
@@ -99,69 +90,124 @@ pub fn limited_copy<A: Allocator, B: Allocator>(
     ensures value { IfOk result (λ p. IsOf picture.now.format (limit_value range picture.now) p) }
     ensures whole { IfOk result (λ p. IsPicture p) }
 {
+    changed_copy(alloc, picture, Change::Limit(range))
+}
+
+/// Brings each value `g / 4096` as far from black, or from the centre for Cb and Cr, and to video
+/// data.
+pub fn gain<A: Allocator>(picture: Picture<A>, g: u32) -> Picture<A>
+    requires { g ≤ 16384 }
+    ensures value { IsOf picture.format (gain_value g picture) result }
+    ensures whole { IsPicture result }
+{
+    changed(picture, Change::Gain(g))
+}
+
+/// A copy of a picture, in memory of `alloc`, in which each value is brought `g / 4096` as far from
+/// what it keeps, as by [`gain`]. `AllocError` where the memory was refused.
+pub fn gained_copy<A: Allocator, B: Allocator>(
+    alloc: B,
+    picture: &Picture<A>,
+    g: u32,
+) -> Result<Picture<B>, AllocError>
+    requires { g ≤ 16384 }
+    ensures value { IfOk result (λ p. IsOf picture.now.format (gain_value g picture.now) p) }
+    ensures whole { IfOk result (λ p. IsPicture p) }
+{
+    changed_copy(alloc, picture, Change::Gain(g))
+}
+
+/// What is made of each value of a picture, from it and its component alone.
+#[derive(Clone, Copy)]
+enum Change {
+    /// It is brought to the range.
+    Limit(RangeKind),
+    /// It is brought so many 4096ths as far from what it keeps, and to video data.
+    Gain(u32),
+}
+
+/// Changes each value of a picture, in place.
+fn changed<A: Allocator>(picture: Picture<A>, change: Change) -> Picture<A>
+    requires { IsBounded change }
+    ensures value { IsOf picture.format (changed_value change picture) result }
+    ensures whole { IsPicture result }
+{
+    let format = picture.format();
+    let mut samples = picture.into_samples();
+    change_samples(
+        format.sampling(),
+        format.depth(),
+        change,
+        samples.as_mut_slice(),
+    );
+    Picture::from_samples(format, samples)
+}
+
+/// A copy of a picture with each value changed.
+fn changed_copy<A: Allocator, B: Allocator>(
+    alloc: B,
+    picture: &Picture<A>,
+    change: Change,
+) -> Result<Picture<B>, AllocError>
+    requires { IsBounded change }
+    ensures value { IfOk result
+        (λ p. IsOf picture.now.format (changed_value change picture.now) p) }
+    ensures whole { IfOk result (λ p. IsPicture p) }
+{
     let format = picture.format();
     let (sampling, depth) = (format.sampling(), format.depth());
-    let samples = limited_samples(alloc, sampling, depth, range, picture.samples())?;
+    let samples = changed_samples(alloc, sampling, depth, change, picture.samples())?;
     Ok(Picture::from_samples(format, samples))
 }
 
-/// A copy of samples brought to the range named: by blocks that stay near, each of whole turns of
-/// components.
-fn limited_samples<B: Allocator>(
+/// A copy of samples, each changed: block after block while it is near, each but the last of whole
+/// turns of components.
+fn changed_samples<B: Allocator>(
     alloc: B,
     sampling: Sampling,
     depth: Depth,
-    range: RangeKind,
+    change: Change,
     samples: &[u16],
 ) -> Result<Vec<u16, B>, AllocError>
+    requires { IsBounded change }
     ensures long { IfOk result (λ v. length v.items ≡ length samples.now) }
     ensures each { IfOk result (λ v. EachIndex v.items (λ k.
         slice_index v.items k
-        ≡ limited range (bits_of depth) (is_colour sampling (component_in_row sampling k))
-        (slice_index samples.now k))) }
+        ≡ changed_sample change sampling (bits_of depth) k (slice_index samples.now k))) }
 {
     let mut copy = Vec::with_capacity(alloc, samples.len())?;
-    let mut block = [0u16; 1536];
     let mut done = 0;
     while done < samples.len() {
-        let some = (samples.len() - done).min(1536);
-        let part = &mut block[..some];
-        part.copy_from_slice(&samples[done..done + some]);
-        limit_samples(sampling, depth, range, part);
-        copy.extend_from_slice(part)?;
+        let some = (samples.len() - done).min(6144);
+        copy.extend_from_slice(&samples[done..done + some])?;
+        change_samples(sampling, depth, change, &mut copy.as_mut_slice()[done..]);
         done += some;
     }
     Ok(copy)
 }
 
-/// Brings each sample to the range named.
-fn limit_samples(sampling: Sampling, depth: Depth, range: RangeKind, samples: &mut [u16])
+/// Changes each sample, in place.
+fn change_samples(sampling: Sampling, depth: Depth, change: Change, samples: &mut [u16])
+    requires { IsBounded change }
     ensures long { length samples.new ≡ length samples.old }
     ensures each { EachIndex samples.new (λ k.
         slice_index samples.new k
-        ≡ limited range (bits_of depth) (is_colour sampling (component_in_row sampling k))
-        (slice_index samples.old k)) }
-{
-    match range {
-        RangeKind::VideoData => {
-            let s = scale_of(depth);
-            lane_kernels::clip(samples, s, 255 * s - 1);
-        }
-        RangeKind::Nominal => nominal_samples(sampling, depth, samples),
-    }
-}
-
-/// Brings each sample to the nominal range.
-fn nominal_samples(sampling: Sampling, depth: Depth, samples: &mut [u16])
-    ensures long { length samples.new ≡ length samples.old }
-    ensures each { EachIndex samples.new (λ k.
-        slice_index samples.new k
-        ≡ limited Nominal (bits_of depth) (is_colour sampling (component_in_row sampling k))
-        (slice_index samples.old k)) }
+        ≡ changed_sample change sampling (bits_of depth) k (slice_index samples.old k)) }
 {
     let s = scale_of(depth);
-    let highs = turns(sampling, 235 * s, 240 * s);
-    lane_kernels::clip_below(samples, 16 * s, &highs);
+    match change {
+        Change::Limit(range) => match range {
+            RangeKind::VideoData => lane_kernels::clip(samples, s, 255 * s - 1),
+            RangeKind::Nominal => {
+                let highs = turns(sampling, 235 * s, 240 * s);
+                lane_kernels::clip_below(samples, 16 * s, &highs);
+            }
+        },
+        Change::Gain(g) => {
+            let zeros = turns(sampling, 16 * s, 128 * s);
+            lane_kernels::gain_about(samples, &zeros, g, s, 255 * s - 1);
+        }
+    }
 }
 
 /// Whether the sample of this number, counted from the start of a row or of a raster, is Y or R.
@@ -190,79 +236,6 @@ fn turns(sampling: Sampling, luma: u16, colour: u16) -> [u16; 24]
         }
     }
     all
-}
-
-/// Brings each value `g / 4096` as far from black, or from the centre for Cb and Cr, and to video
-/// data.
-pub fn gain<A: Allocator>(picture: Picture<A>, g: u32) -> Picture<A>
-    requires { g ≤ 16384 }
-    ensures value { IsOf picture.format (gain_value g picture) result }
-    ensures whole { IsPicture result }
-{
-    let format = picture.format();
-    let mut samples = picture.into_samples();
-    gain_samples(format.sampling(), format.depth(), g, samples.as_mut_slice());
-    Picture::from_samples(format, samples)
-}
-
-/// A copy of a picture, in memory of `alloc`, in which each value is brought `g / 4096` as far from
-/// what it keeps, as by [`gain`]. `AllocError` where the memory was refused.
-pub fn gained_copy<A: Allocator, B: Allocator>(
-    alloc: B,
-    picture: &Picture<A>,
-    g: u32,
-) -> Result<Picture<B>, AllocError>
-    requires { g ≤ 16384 }
-    ensures value { IfOk result (λ p. IsOf picture.now.format (gain_value g picture.now) p) }
-    ensures whole { IfOk result (λ p. IsPicture p) }
-{
-    let format = picture.format();
-    let (sampling, depth) = (format.sampling(), format.depth());
-    let samples = gained_samples(alloc, sampling, depth, g, picture.samples())?;
-    Ok(Picture::from_samples(format, samples))
-}
-
-/// A copy of samples brought `g / 4096` as far, by blocks as a limited one.
-fn gained_samples<B: Allocator>(
-    alloc: B,
-    sampling: Sampling,
-    depth: Depth,
-    g: u32,
-    samples: &[u16],
-) -> Result<Vec<u16, B>, AllocError>
-    requires { g ≤ 16384 }
-    ensures long { IfOk result (λ v. length v.items ≡ length samples.now) }
-    ensures each { IfOk result (λ v. EachIndex v.items (λ k.
-        slice_index v.items k
-        ≡ gained g (bits_of depth) (is_colour sampling (component_in_row sampling k))
-        (slice_index samples.now k))) }
-{
-    let mut copy = Vec::with_capacity(alloc, samples.len())?;
-    let mut block = [0u16; 1536];
-    let mut done = 0;
-    while done < samples.len() {
-        let some = (samples.len() - done).min(1536);
-        let part = &mut block[..some];
-        part.copy_from_slice(&samples[done..done + some]);
-        gain_samples(sampling, depth, g, part);
-        copy.extend_from_slice(part)?;
-        done += some;
-    }
-    Ok(copy)
-}
-
-/// Brings each sample `g / 4096` as far from the value that it keeps.
-fn gain_samples(sampling: Sampling, depth: Depth, g: u32, samples: &mut [u16])
-    requires { g ≤ 16384 }
-    ensures long { length samples.new ≡ length samples.old }
-    ensures each { EachIndex samples.new (λ k.
-        slice_index samples.new k
-        ≡ gained g (bits_of depth) (is_colour sampling (component_in_row sampling k))
-        (slice_index samples.old k)) }
-{
-    let s = scale_of(depth);
-    let zeros = turns(sampling, 16 * s, 128 * s);
-    lane_kernels::gain_about(samples, &zeros, g, s, 255 * s - 1);
 }
 
 /// How many pixels are worked on at a time.
