@@ -1,7 +1,7 @@
 -- The lines of a pixel group's mark word are those of its contested samples.
-use Rattle.std.proofs.Common.{◌≡◌, ℕ, zero, suc, ◌+◌, ◌-◌, ◌*◌, ◌^◌, ◌<◌, ◌≤◌, Bool, true, false}
-use Rattle.std.proofs.Common.{eqb, List, [], ◌∷◌, ◌++◌, length, get_or, take, drop, map, refl, sym}
-use Rattle.std.proofs.Common.{ap, ◌∙◌, inl, inr, if◌then◌else◌, cond, count_by, subst, arith}
+use Rattle.std.proofs.Common.{◌≡◌, ℕ, zero, suc, ◌+◌, ◌-◌, ◌*◌, ◌<◌, ◌≤◌, Bool, true, false}
+use Rattle.std.proofs.Common.{eqb, List, [], ◌∷◌, ◌++◌, length, get_or, drop, refl, sym}
+use Rattle.std.proofs.Common.{ap, ◌∙◌, inl, inr, if◌then◌else◌, cond, count_by, arith}
 use Rattle.std.specs.Int.{bit_at}
 use Rattle.std.specs.List.{flat_map, range_with_len}
 use Rattle.std.proofs.lemmas.Bool.{cases_lt}

@@ -1,6 +1,6 @@
 -- The lines of the frames, timestamp by timestamp.
 use Rattle.std.proofs.Common.{◌≡◌, ℕ, zero, suc, ◌+◌, ◌<◌, List, [], ◌∷◌, ◌++◌, length, get_or}
-use Rattle.std.proofs.Common.{Option, Some, refl, sym, ap, ◌∙◌, inl, inr, codes, count_by}
+use Rattle.std.proofs.Common.{Some, refl, sym, ap, ◌∙◌, inl, inr, codes, count_by}
 use Rattle.std.proofs.Common.{arith, drop}
 use Rattle.std.specs.List.{flat_map}
 use Rattle.st_format.specs.Member.{IsMember}
@@ -9,7 +9,7 @@ use Rattle.path_merge.specs.Frames.{State, frame_at}
 use Rattle.frame_assembly.specs.declared.counts.Counts.{Counts}
 use Rattle.st_format.specs.Cell.{is_contested, is_missing, is_present}
 use Rattle.frame_report.specs.Gathers.{numbered}
-use Rattle.frame_report.specs.Report.{counts_in, counts_line, frame_text, frames_text, text_at}
+use Rattle.frame_report.specs.Report.{counts_in, counts_line, frame_text, text_at}
 use Rattle.frame_report.specs.Report.{text_if}
 use Rattle.frame_report.proofs.Ranges.{items_here}
 

@@ -1,15 +1,15 @@
 -- The lines of a row's mark words are those of its missing runs.
 use Rattle.std.proofs.Common.{◌≡◌, ℕ, zero, suc, ◌+◌, ◌-◌, ◌%◌, ◌^◌, ◌<◌, ◌≤◌, Bool, true, false}
 use Rattle.std.proofs.Common.{not, eqb, List, [], ◌∷◌, ◌++◌, length, map, drop, get_or, refl, sym}
-use Rattle.std.proofs.Common.{ap, ◌∙◌, inl, inr, ◌&&◌, ◌*◌, cond, count_by, min, take, subst}
+use Rattle.std.proofs.Common.{ap, ◌∙◌, inl, inr, ◌&&◌, ◌*◌, cond, count_by, min}
 use Rattle.std.proofs.Common.{arith}
 use Rattle.std.specs.Int.{bit_at}
-use Rattle.std.specs.List.{flat_map, list_all, range_with_len}
+use Rattle.std.specs.List.{flat_map, list_all}
 use Rattle.std.proofs.lemmas.Grind.{flat_map-append}
 use Rattle.std.proofs.lemmas.List.{get_or-drop, get_or-map, get_or-take, length-map, append-nil}
 use Rattle.std.proofs.lemmas.List.{length-drop, length-take, same_lists}
 use Rattle.std.proofs.lemmas.List.FromFn.{get_or-map-range_with_len, length-map-range_with_len}
-use Rattle.std.proofs.lemmas.Bool.{cases_lt, le-ltb, lt-ltb}
+use Rattle.std.proofs.lemmas.Bool.{cases_lt}
 use Rattle.std.proofs.lemmas.List.{map-append}
 use Rattle.std.proofs.lemmas.List.Sums.{sum_by-cons}
 use Rattle.st_format.specs.declared.cell.Cell.{Cell}
@@ -19,7 +19,7 @@ use Rattle.st_format.specs.Pgroup.{pixel_group}
 use Rattle.st_format.specs.Position.{group_start, row_groups}
 use Rattle.st_format.specs.Raster.{IsWhole, Raster}
 use Rattle.frame_assembly.specs.Rows.{IsMarkOf, group_cells}
-use Rattle.packet_numbers.specs.Numbers.{closed, missing_runs_of, numbered, runs_from}
+use Rattle.packet_numbers.specs.Numbers.{closed, numbered, runs_from}
 use Rattle.packet_numbers.proofs.Runs.{closed_none, closed_some, runs_closed, runs_end, runs_on}
 use Rattle.frame_report.specs.Missing.{flags_in, known_groups, missing_in_row, missing_line}
 use Rattle.frame_report.specs.Missing.{missing_lines, run_text}

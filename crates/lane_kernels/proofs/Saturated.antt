@@ -1,7 +1,7 @@
 -- The distance of two lanes by signed lanes of 32 bits, which pack to 16 bits in one step.
 use Rattle.std.proofs.Common.{◌≡◌, ℕ, suc, inl, inr, ◌+◌, ◌-◌, ◌%◌, ◌^◌, ◌<◌, min, Bool, cond, ltb}
 use Rattle.std.proofs.Common.{to_z, w16, w32, Fits, ap, sym, subst, arith, ◌∙◌}
-use Rattle.std.specs.Prelude.{ℤ, pos, negsuc}
+use Rattle.std.specs.Prelude.{pos, negsuc}
 use Rattle.std.specs.Int.Signed.{lt_z}
 use Rattle.std.proofs.lemmas.Bool.{cases_lt}
 use Rattle.std.proofs.lemmas.Bool.Decides.{nat_tests}

@@ -19,8 +19,8 @@ use Rattle.std.proofs.lemmas.Nat.Bits.{bit_at_cat_high, and_pow}
 use Rattle.std.proofs.lemmas.Simd.{get_or-put_chunk_at, get_or-put_chunk_above}
 use Rattle.std.proofs.lemmas.Simd.{get_or-put_chunk_below, get_or-sel_l, get_or-zip2}
 use Rattle.std.proofs.lemmas.Simd.{get_or-replicate, get_or-chunk, length-chunk, length-zip2}
-use Rattle.std.proofs.lemmas.Simd.{length-replicate, length-sel_l, tops_compared, mask_l-lt}
-use Rattle.std.proofs.lemmas.Simd.{mask_l-mod, bit_mask_l, put_chunk_whole}
+use Rattle.std.proofs.lemmas.Simd.{length-sel_l, tops_compared, mask_l-lt}
+use Rattle.std.proofs.lemmas.Simd.{mask_l-mod, bit_mask_l}
 use Rattle.std.proofs.Math.ListN.{length-set}
 use Rattle.std.proofs.Math.Seq.{drop-append-add}
 use Rattle.std.proofs.Math.Nat.{mul-add, mul-le-mul_left, mul_assoc, mul-div_cancel_left, mod-lt}
@@ -35,7 +35,6 @@ use Rattle.st_format.specs.Pgroup.{bits_of, pixel_group}
 use Rattle.st_format.specs.Samples.{values_in}
 use Rattle.pgroup_pack.proofs.Blocks.{rest_put}
 use Rattle.pgroup_pack.proofs.Values.{length-values_in, values_in-append}
-use mir.Val.{hbits}
 use Rattle.pgroup_pack.specs.Groups.{differs_at, blanked, blanked_from, AreContested, samples_of}
 use Rattle.pgroup_pack.proofs.GroupLemmas.{length-blanked_from}
 

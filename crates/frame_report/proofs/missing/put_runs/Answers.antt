@@ -1,6 +1,5 @@
 use Rattle.std.proofs.Common.{◌≡◌, ◌<◌, ◌≤◌, ◌∙◌, ◌+◌, Bool, true, false, ℕ, List, arith, length}
 use Rattle.std.proofs.Common.{refl, rules, sym}
-use Rattle.std.proofs.lemmas.List.{length-map}
 use Rattle.std.proofs.lemmas.Result.{err_from_is_err_and, on_err_weaker, on_ok_weaker}
 use Rattle.frame_report.specs.Missing.{flags_in}
 use Rattle.frame_report.proofs.Gathering.{put_cut, put_last, put_last_cut, put_more, put_none}

@@ -1,4 +1,4 @@
-use Rattle.std.proofs.Common.{◌≡◌, ◌%◌, get_or, ap, arith, ◌∙◌}
+use Rattle.std.proofs.Common.{◌%◌, get_or, ap, arith, ◌∙◌}
 use Rattle.std.proofs.lemmas.Simd.{get_or-replicate}
 use Rattle.lane_kernels.specs.Formulas.{clip, gain}
 use Rattle.lane_kernels.proofs.gains.gain.Goals as goal

@@ -1,4 +1,4 @@
-use Rattle.pgroup_pack.proofs.Marking.{IsBlankedAt, three_blanked}
+use Rattle.pgroup_pack.proofs.Marking.{three_blanked}
 use Rattle.pgroup_pack.proofs.contests.blank_bits.Goals as goal
 
 pub returns : goal.returns

@@ -1,4 +1,4 @@
-use Rattle.std.proofs.Common.{◌+◌, refl, arith}
+use Rattle.std.proofs.Common.{refl, arith}
 use Rattle.pgroup_pack.proofs.Marking.{marked_more}
 use Rattle.pgroup_pack.proofs.contests.mark_differing.Goals as goal
 

@@ -1,4 +1,3 @@
-use Rattle.std.proofs.Common.{◌≡◌, ◌<◌, ◌≤◌, ◌+◌, ◌*◌, ℕ, length, get_or}
 use Rattle.pgroup_pack.proofs.Marking.{Marked}
 use Rattle.pgroup_pack.proofs.contests.mark_differing.Given as goal
 

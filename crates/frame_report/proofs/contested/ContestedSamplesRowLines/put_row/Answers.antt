@@ -1,6 +1,5 @@
-use Rattle.std.proofs.Common.{◌<◌, ◌≤◌, ◌≡◌, ◌+◌, ◌∙◌, ap, refl, subst, arith, ℕ}
+use Rattle.std.proofs.Common.{◌<◌, ◌≤◌, ◌+◌, ◌∙◌, refl, arith, ℕ}
 use Rattle.std.proofs.lemmas.Result.{err_from_is_err_and}
-use Rattle.st_format.specs.declared.format.Format.{Format}
 use Rattle.st_format.specs.Position.{row_groups}
 use Rattle.frame_report.specs.Contested.{contested_in_group}
 use Rattle.frame_report.proofs.Gathering.{put_all, put_cut, put_more, put_none}
