@@ -22,3 +22,5 @@ pub mod StageLemmas
 pub mod OpeningLemmas
 pub mod PlayLemmas
 pub mod Outcomes
+pub mod UnfitLemmas
+pub mod Blank

@@ -1,7 +1,7 @@
 -- The next datagram of those that are to come.
 use Rattle.std.proofs.Common.{◌≡◌, ℕ, zero, suc, ◌+◌, ◌%◌, ◌^◌, ◌<◌, ◌≤◌, inl, inr, Bool, true}
 use Rattle.std.proofs.Common.{false, cond, eqb, List, [], ◌∷◌, ◌++◌, length, drop, get_or, refl}
-use Rattle.std.proofs.Common.{sym, ap, ◌∙◌, arith}
+use Rattle.std.proofs.Common.{Vec, sym, subst, ap, ◌∙◌, arith}
 use Rattle.std.proofs.lemmas.Bool.{eqb-true}
 use Rattle.std.proofs.lemmas.Bool.Decides.{eqb_tells}
 use Rattle.st_format.specs.Picture.{Values}
@@ -9,6 +9,7 @@ use Rattle.packet_plan.specs.declared.run.PacketRun.{PacketRun}
 use Rattle.packet_plan.specs.declared.stamp.Stamp.{Stamp}
 use Rattle.packet_plan.specs.Plan.{RasterPlan, packet_at}
 use Rattle.packet_plan.specs.Sender.{stamp_of}
+use Rattle.packet_plan.specs.Sending.{EachHasRoom}
 use Rattle.packet_plan.specs.Sent.{is_empty}
 use Rattle.packet_plan.specs.Text.{datagram_text, datagram_texts}
 use Rattle.path_merge.specs.declared.schedule.sending.Next.{Next}
@@ -110,3 +111,11 @@ next_made plan stamp own pictures next new d octets lt below is_own text moved =
     ∙ ap (λ (ds : List (List ℕ)). octets ∷ ds)
     (left_behind plan stamp pictures next p last refl here)
     ∙ ap (λ (n : Next). octets ∷ to_come plan stamp pictures n) (sym moved)
+
+-- Room for each datagram is left where a slice of the room was written.
+pub room_kept : {A : Type 0} (plan : RasterPlan) (buf : Vec ℕ A) (lent new kept : List ℕ)
+    → lent ≡ buf.items → length new ≡ length lent → kept ≡ new
+    → EachHasRoom plan (length buf.items) → EachHasRoom plan (length kept)
+room_kept plan buf lent new kept of_buf long is room =
+    subst (λ (n : ℕ). EachHasRoom plan n)
+    (sym (ap (λ (xs : List ℕ). length xs) is ∙ long ∙ ap (λ (xs : List ℕ). length xs) of_buf)) room

@@ -1,18 +1,17 @@
 -- What one step does to the list of receivers.
 use Rattle.std.proofs.Common.{◌≡◌, ◌≢◌, ℕ, zero, suc, ◌<◌, List, [], ◌∷◌, ◌++◌, length, get_or, set}
 use Rattle.std.proofs.Common.{Result, Ok, Err, Some, Vec, refl, sym, ap, ◌∙◌, subst, arith}
-use Rattle.std.specs.Prelude.{slice_get, IsErr, OnOk, OnErr, IsErrOf}
+use Rattle.std.specs.Prelude.{slice_get, IfOk, IsErr, OnOk, OnErr, IsErrOf}
 use Rattle.std.proofs.lemmas.Option.{slice_get_read, slice_get-get_or}
 use Rattle.st_format.specs.declared.format.Format.{Format}
 use Rattle.st_format.specs.Member.{IsMember}
-use Rattle.st_format.specs.Raster.{Raster}
 use Rattle.st_format.specs.Device.{AreOctets}
 use Rattle.path_merge.specs.declared.fault.SlideFault.{SlideFault}
 use Rattle.path_merge.specs.declared.fault.SlideFault.TheVariants.{InWindow, OtherFormat}
 use Rattle.path_merge.specs.Frames.{State, IsReceiver, frames_of, joined_frames}
-use Rattle.path_merge.specs.Sliding.{slid}
+use Rattle.path_merge.specs.declared.schedule.play_fault.Stop.{Stop}
 use Rattle.path_merge.specs.declared.schedule.played.Handed.{Handed}
-use Rattle.path_merge.specs.Steps.{Arrives, Slides, Merges}
+use Rattle.path_merge.specs.Steps.{Arrives, Slides, SlidesOne, Merges}
 
 pub arrives_made : {A : Type 0} (to number r : ℕ) (sent : List (Vec ℕ A)) (old : List State)
     (before after : State) (v : Vec ℕ A) (octets : List ℕ) → r ≡ to → r < length old
@@ -42,49 +41,41 @@ arrives_made to number r sent old before after v octets same lt below is is_v is
 
 -- ---- a slide
 
-pub slides_made : {A : Type 0} (at next r t : ℕ) (old : List State) (d new : State) (out : Raster)
-    → r ≡ at → r < length old → new ≡ slid (get_or old r d) next
-    → slice_get (get_or old r d).opening.window 0 ≡ Some t
-    → slice_get (get_or old r d).frames 0 ≡ Some out
-    → (IsMember next (get_or old r d).opening.window → IsErrOf {E = SlideFault} (Ok t) InWindow)
-    → IsReceiver new
-    → Slides {A = A} at next old (set old r new)
-    (record { receiver = at; timestamp = t; frame = out })
-slides_made at next r t old d new out same lt is first frame fresh receiver = record {
+pub slides_made : {A : Type 0} (at next r : ℕ) (old : List State) (d new : State)
+    (result : Result (Handed A) Stop) → r ≡ at → r < length old
+    → IfOk result (λ h. SlidesOne at next (get_or old r d) new h)
+    → IfOk result (λ h. Slides at next old (set old r new) h)
+slides_made at next r old d new (Err e) same lt one = one
+slides_made at next r old d new (Ok h) same lt one = record {
   before = get_or old r d;
   there = ap (slice_get old) (sym same) ∙ slice_get-get_or old r d lt;
-  fresh = λ m. no_err (fresh m);
-  handed = refl;
-  first = first;
-  frame = frame;
-  receiver = subst IsReceiver is receiver;
-  all = ap (λ (i : ℕ). set old i new) same ∙ ap (set old at) is;
+  fresh = one.fresh;
+  handed = one.handed;
+  first = one.first;
+  frame = one.frame;
+  receiver = subst IsReceiver one.all one.receiver;
+  all = ap (λ (i : ℕ). set old i new) same ∙ ap (set old at) one.all;
 }
-  where
-    no_err : IsErrOf {E = SlideFault} (Ok t) InWindow → ⊥
-    no_err e = cc
 
-pub slid_refused : (at next r : ℕ) (old : List State) (d state : State) (e : SlideFault)
-    (f : Format) → r ≡ at → r < length old → slice_get old at ≡ Some state
-    → (IsErrOf {T = ℕ} (Err e) InWindow → IsMember next (get_or old r d).opening.window)
-    → (IsErrOf {T = ℕ} (Err e) OtherFormat
-    → (IsMember next (get_or old r d).opening.window → ⊥) × (f ≢ (get_or old r d).opening.format))
-    → f ≡ (get_or old r d).opening.format → IsMember next state.opening.window
-slid_refused at next r old d state e f same lt there one two format =
+pub slid_refused : (at next r : ℕ) (old : List State) (d state : State) → r ≡ at → r < length old
+    → slice_get old at ≡ Some state → IsMember next (get_or old r d).opening.window
+    → IsMember next state.opening.window
+slid_refused at next r old d state same lt there =
     subst (λ (s : State). IsMember next s.opening.window)
     (one_some (get_or old r d) state
-    (sym (slice_get-get_or old r d lt) ∙ ap (slice_get old) same ∙ there)) (by_fault e one two)
+    (sym (slice_get-get_or old r d lt) ∙ ap (slice_get old) same ∙ there))
   where
     one_some : (p q : State) → Some p ≡ Some q → p ≡ q
     one_some p q h = cc
 
-    by_fault : (e : SlideFault)
-        → (IsErrOf {T = ℕ} (Err e) InWindow → IsMember next (get_or old r d).opening.window)
-        → (IsErrOf {T = ℕ} (Err e) OtherFormat
-        → (IsMember next (get_or old r d).opening.window → ⊥)
-        × (f ≢ (get_or old r d).opening.format)) → IsMember next (get_or old r d).opening.window
-    by_fault InWindow one two = one refl
-    by_fault OtherFormat one two = absurd ((two refl).1 format)
+-- Where the frame has the receiver's format, a slide is refused only for the timestamp.
+pub only_in_window : (next : ℕ) (s : State) (e : SlideFault) (f : Format)
+    → (IsErrOf {T = ℕ} (Err e) InWindow → IsMember next s.opening.window)
+    → (IsErrOf {T = ℕ} (Err e) OtherFormat
+    → (IsMember next s.opening.window → ⊥) × (f ≢ s.opening.format))
+    → f ≡ s.opening.format → IsMember next s.opening.window
+only_in_window next s InWindow f one two format = one refl
+only_in_window next s OtherFormat f one two format = absurd ((two refl).1 format)
 
 -- ---- two parts of a list
 

@@ -19,3 +19,4 @@ pub mod Stage
 pub mod PlayFault
 pub use Rattle.packet_numbers.specs.BitList
 pub use Rattle.packet_numbers.specs.Numbers
+pub mod Unfit

@@ -40,6 +40,15 @@ pub record Slides {A : Type 0} (at next : ℕ) (old new : List State) (h : Hande
   pub receiver : IsReceiver (slid before next)
   pub all : new ≡ slice_set old at (slid before next)
 
+-- the same of the receiver alone
+pub record SlidesOne {A : Type 0} (at next : ℕ) (old new : State) (h : Handed A) : Type 0 where
+  pub fresh : IsMember next old.opening.window → ⊥
+  pub handed : h.receiver ≡ at
+  pub first : slice_get old.opening.window 0 ≡ Some h.timestamp
+  pub frame : slice_get old.frames 0 ≡ Some h.frame
+  pub receiver : IsReceiver new
+  pub all : new ≡ slid old next
+
 -- a receiver was merged into another
 pub record Merges (into from : ℕ) (old new : List State) : Type 0 where
   pub two : into ≢ from

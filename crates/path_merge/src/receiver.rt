@@ -13,7 +13,7 @@ ghost use Rattle.path_merge.specs.Frames.{Holds, IsReceiver, cell_in, frame_at, 
 ghost use Rattle.path_merge.specs.Frames.{joined_frames};
 ghost use Rattle.path_merge.specs.Grammar.{Datagram, IsFor, IsKept, IsOutside};
 ghost use Rattle.path_merge.specs.Offers.{AreOffersOf, offers};
-ghost use Rattle.path_merge.specs.Opening.{AreDifferent, IsWindowSize};
+ghost use Rattle.path_merge.specs.Opening.{AreDifferent, IsWindow, IsWindowSize};
 ghost use Rattle.path_merge.specs.Refused.{IsRefusedDatagram};
 ghost use Rattle.path_merge.specs.Sliding.{slid, with_frame};
 ghost use Rattle.path_merge.specs.declared.answer.Refusal.{Refusal};
@@ -109,6 +109,30 @@ impl<A: Allocator + Copy> Receiver<A> {
             ↔ (IsWindowSize (length window.now) × (AreDifferent window.now → ⊥)) }
     {
         check_window(window)?;
+        Receiver::of_window(alloc, format, payload_type, ssrc, window)
+    }
+
+    /// The same, where the window is one.
+    fn of_window(
+        alloc: A,
+        format: Format,
+        payload_type: u8,
+        ssrc: Option<u32>,
+        window: &[u32],
+    ) -> Result<Receiver<A>, OpenFault>
+        requires payload_type { payload_type ≤ 127 }
+        requires window { IsWindow window.now }
+        ensures opening { IfOk result (λ r. r.opening ≡ record {
+          format = format;
+          payload_type = payload_type;
+          ssrc = ssrc;
+          window = window.now;
+        }) }
+        ensures holds { IfOk result (λ r. Holds r []) }
+        ensures refusals { IfOk result (λ r. r.refusals ≡ []) }
+        ensures receiver { IfOk result (λ r. IsReceiver r) }
+        ensures memory { OnErr result (result ≡ Err OpenFault.NoMemory) }
+    {
         let frames = blank_frames(alloc, format, window.len())?;
         let refusals = HeapCircularBuffer::with_capacity(alloc, MOST_REFUSALS)?;
         Ok(Receiver {

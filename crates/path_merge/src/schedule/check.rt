@@ -1,9 +1,9 @@
 //! What a schedule needs before its first event.
-ghost use Rattle.std.specs.Prelude.{◌≡◌, ◌≢◌, ◌↔◌, ◌<◌, ℕ, All, Err, IsErrOf, IsFalse, IsTrue};
-ghost use Rattle.std.specs.Prelude.{OnErr, OnOk, length};
+ghost use Rattle.std.specs.Prelude.{◌≡◌, All, IfErr, IsFalse, IsTrue, OnOk};
 ghost use Rattle.st_format.specs.Picture.{IsPicture};
-ghost use Rattle.path_merge.specs.Opening.{AreDifferent, IsWindow, IsWindowSize};
+ghost use Rattle.path_merge.specs.Opening.{IsWindow};
 ghost use Rattle.path_merge.specs.Played.{ArePictures, IsReceiverCount};
+ghost use Rattle.path_merge.specs.Unfit.{IsUnfit, SpeaksAgainst};
 
 use crate::fault::OpenFault;
 use crate::schedule::play_fault::PlayFault;
@@ -17,27 +17,19 @@ const MOST_PICTURES: usize = 10_000;
 /// The most receivers.
 const MOST_RECEIVERS: u8 = 8;
 
-/// Whether a schedule can be played, its events aside: the first fault, in the order of these
-/// clauses.
+/// Whether a schedule can be played, its events aside, or the first fault: of its window, its
+/// pictures and its receivers, in this order.
 pub fn check<C: Allocator>(
     format: Format,
     pictures: &[Picture<C>],
     window: &[u32],
     receivers: u8,
 ) -> Result<(), PlayFault>
-    ensures window { IsErrOf result PlayFault.BadWindow ↔ (IsWindowSize (length window.now) → ⊥) }
-    ensures double { IsErrOf result PlayFault.DoubleTimestamp
-        ↔ (IsWindowSize (length window.now) × (AreDifferent window.now → ⊥)) }
-    ensures pictures { IsErrOf result PlayFault.BadPictures
-        ↔ (IsWindow window.now × (ArePictures pictures.now format → ⊥)) }
-    ensures receivers { IsErrOf result PlayFault.BadReceivers
-        ↔ (IsWindow window.now × ArePictures pictures.now format
-        × (IsReceiverCount receivers → ⊥)) }
+    ensures fault { IfErr result (λ e.
+        SpeaksAgainst e window.now pictures.now format receivers) }
     ensures fine { OnOk result (IsWindow window.now × ArePictures pictures.now format
         × IsReceiverCount receivers) }
     ensures whole { OnOk result (All IsPicture pictures.now) }
-    ensures memory { result ≢ Err PlayFault.NoMemory }
-    ensures event { (place : ℕ) → result ≢ Err (PlayFault.BadEvent place) }
 {
     match check_window(window) {
         Ok(()) => check_rest(format, pictures, receivers),
@@ -52,14 +44,9 @@ fn check_rest<C: Allocator>(
     pictures: &[Picture<C>],
     receivers: u8,
 ) -> Result<(), PlayFault>
-    ensures pictures { IsErrOf result PlayFault.BadPictures
-        ↔ (ArePictures pictures.now format → ⊥) }
-    ensures receivers { IsErrOf result PlayFault.BadReceivers
-        ↔ (ArePictures pictures.now format × (IsReceiverCount receivers → ⊥)) }
+    ensures fault { IfErr result (λ e. IsUnfit e pictures.now format receivers) }
     ensures fine { OnOk result (ArePictures pictures.now format × IsReceiverCount receivers) }
     ensures whole { OnOk result (All IsPicture pictures.now) }
-    ensures others { OnErr result (result ≢ Err PlayFault.BadPictures
-        → result ≡ Err PlayFault.BadReceivers) }
 {
     if pictures.len() > MOST_PICTURES || !are_of_format(format, pictures) {
         return Err(PlayFault::BadPictures);

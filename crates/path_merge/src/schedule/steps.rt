@@ -4,7 +4,7 @@ ghost use Rattle.std.specs.Prelude.{length, slice_get};
 ghost use Rattle.st_format.specs.Device.{AreOctets};
 ghost use Rattle.st_format.specs.Member.{IsMember};
 ghost use Rattle.path_merge.specs.Frames.{IsReceiver, State, frames_of, joined_frames};
-ghost use Rattle.path_merge.specs.Steps.{Arrives, Merges, Slides};
+ghost use Rattle.path_merge.specs.Steps.{Arrives, Merges, Slides, SlidesOne};
 
 use crate::receiver::Receiver;
 use crate::schedule::play_fault::Stop;
@@ -24,14 +24,11 @@ pub fn arrive<A: Allocator>(
     ensures taken { OnOk result (Arrives to number sent.now receivers.old receivers.new) }
     ensures unfit { OnErr result (to < length receivers.old → number < length sent.now → ⊥) }
 {
-    if usize::from(to) >= receivers.len() || number as usize >= sent.len() {
+    let (place, number) = (usize::from(to), number as usize);
+    if place >= receivers.len() || number >= sent.len() {
         return Err(Stop::Unfit);
     }
-    take(
-        &mut receivers[usize::from(to)],
-        path,
-        &sent[number as usize],
-    );
+    take(&mut receivers[place], path, &sent[number]);
     Ok(())
 }
 
@@ -57,10 +54,23 @@ pub fn slide<A: Allocator + Copy>(
     ensures unfit { result ≡ Err Stop.Unfit → (state : State) →
         slice_get receivers.old at ≡ Some state → IsMember next state.opening.window }
 {
-    if usize::from(at) >= receivers.len() {
+    let place = usize::from(at);
+    if place >= receivers.len() {
         return Err(Stop::Unfit);
     }
-    let receiver = &mut receivers[usize::from(at)];
+    slide_one(alloc, &mut receivers[place], at, next)
+}
+
+/// The same, of the receiver of this number.
+fn slide_one<A: Allocator + Copy>(
+    alloc: A,
+    receiver: &mut Receiver<A>,
+    at: u8,
+    next: u32,
+) -> Result<Handed<A>, Stop>
+    ensures handed { IfOk result (λ h. SlidesOne at next receiver.old receiver.new h) }
+    ensures unfit { result ≡ Err Stop.Unfit → IsMember next receiver.old.opening.window }
+{
     let mut frame = Frame::new(alloc, receiver.format())?;
     match receiver.slide(next, &mut frame) {
         Ok(timestamp) => Ok(Handed {

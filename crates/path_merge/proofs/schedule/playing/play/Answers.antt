@@ -1,14 +1,56 @@
-use Rattle.std.proofs.Common.{arith, refl, subst}
+use Rattle.std.proofs.Common.{◌≡◌, Err, arith, refl, rules, subst}
 use Rattle.st_format.specs.declared.format.Format.{Format}
 use Rattle.path_merge.specs.Played.{ArePictures}
 use Rattle.path_merge.specs.Sent.{scene_of, sender_of}
+use Rattle.path_merge.specs.Unfit.{SpeaksAgainst}
 use Rattle.path_merge.specs.declared.schedule.play_fault.PlayFault.TheVariants.{BadEvent}
 use Rattle.path_merge.specs.declared.schedule.play_fault.PlayFault.TheVariants.{BadPictures}
 use Rattle.path_merge.specs.declared.schedule.play_fault.PlayFault.TheVariants.{BadReceivers}
 use Rattle.path_merge.proofs.PlayLemmas.{fault_is, no_pictures, no_receivers, played_all, texts_by}
 use Rattle.path_merge.proofs.PlayLemmas.{texts_list}
 use Rattle.path_merge.proofs.SenderStays.{senders_frame}
+use Rattle.path_merge.proofs.UnfitLemmas.{bad_double, bad_pictures, bad_receivers, bad_window}
+use Rattle.path_merge.proofs.UnfitLemmas.{no_event}
 use Rattle.path_merge.proofs.schedule.playing.play.Goals as goal
+
+pub returns-in_err-check-clause-window : goal.returns-in_err-check-clause-window
+returns-in_err-check-clause-window g c =
+    let e = c.in_err-check.field-0.0 in
+    let is : c.from_residual.result ≡ Err e = search rules in
+    bad_window c.args.window.now c.args.pictures.now c.format.result c.args.receivers
+    c.from_residual.result e is c.in_err-check.ensures.fault
+
+pub returns-in_err-check-clause-double : goal.returns-in_err-check-clause-double
+returns-in_err-check-clause-double g c =
+    let e = c.in_err-check.field-0.0 in
+    let is : c.from_residual.result ≡ Err e = search rules in
+    bad_double c.args.window.now c.args.pictures.now c.format.result c.args.receivers
+    c.from_residual.result e is c.in_err-check.ensures.fault
+
+pub returns-in_err-check-clause-pictures : goal.returns-in_err-check-clause-pictures
+returns-in_err-check-clause-pictures g c =
+    let e = c.in_err-check.field-0.0 in
+    let is : c.from_residual.result ≡ Err e = search rules in
+    bad_pictures c.args.window.now c.args.pictures.now c.args.plan.now.format c.args.receivers
+    c.from_residual.result e is (subst (λ
+    (f : Format). SpeaksAgainst e c.args.window.now c.args.pictures.now f c.args.receivers)
+    c.format.ensures c.in_err-check.ensures.fault)
+
+pub returns-in_err-check-clause-receivers : goal.returns-in_err-check-clause-receivers
+returns-in_err-check-clause-receivers g c =
+    let e = c.in_err-check.field-0.0 in
+    let is : c.from_residual.result ≡ Err e = search rules in
+    bad_receivers c.args.window.now c.args.pictures.now c.args.plan.now.format c.args.receivers
+    c.from_residual.result e is (subst (λ
+    (f : Format). SpeaksAgainst e c.args.window.now c.args.pictures.now f c.args.receivers)
+    c.format.ensures c.in_err-check.ensures.fault)
+
+pub returns-in_err-check-clause-event : goal.returns-in_err-check-clause-event
+returns-in_err-check-clause-event g c place here =
+    let e = c.in_err-check.field-0.0 in
+    let is : c.from_residual.result ≡ Err e = search rules in
+    absurd (no_event c.args.window.now c.args.pictures.now c.format.result c.args.receivers
+    c.from_residual.result e is place c.in_err-check.ensures.fault here)
 
 pub returns-in-Err-clause-pictures : goal.returns-in-Err-clause-pictures
 returns-in-Err-clause-pictures g c = (
