@@ -16,3 +16,20 @@ loop-picture-preserved g c =
           ∙ c.if-not-same.ensures.value.0 refl,
       subst IsPicture (sym e) c.format.ensures.whole,
     ))
+
+pub returns-then-not-same-clause-other : goal.returns-then-not-same-clause-other
+returns-then-not-same-clause-other g c _ all =
+    let e =
+    c.if-not-same.ensures.value.1
+    (c.format.ensures.value ∙ ap (λ (p : Values). p.format) c.picture-item.is
+    ∙ all c.loop-picture.picture-index c.picture-item.result
+    (omega (arith, c.loop-picture-test.true))) in
+    absurd cc
+
+pub returns-clause-all : goal.returns-clause-all
+returns-clause-all g c _ k d below =
+    (c.loop-picture.invariant k (omega (arith, below, c.loop-picture-test.false)) d).0
+
+pub returns-clause-whole : goal.returns-clause-whole
+returns-clause-whole g c _ k d below =
+    (c.loop-picture.invariant k (omega (arith, below, c.loop-picture-test.false)) d).1

@@ -31,3 +31,6 @@ returns-in-Err-Unfit-clause-bad g c place e =
     (slice_get-get_or c.args.events.now c.loop-place.place Send
     (omega (arith, c.loop-place-test.true))) c.loop-place.invariant.followed
     (c.in-Err-Unfit.ensures.unfit (ap (λ (x : Stop). Err x) c.in-Err-Unfit.field-0-is)))
+
+pub returns-in-Err-NoMemory-clause-bad : goal.returns-in-Err-NoMemory-clause-bad
+returns-in-Err-NoMemory-clause-bad g c place e = absurd cc
