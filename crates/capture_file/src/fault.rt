@@ -48,17 +48,17 @@ impl fmt::Display for FileFault {
     ghost output = { λ fault. Some (file_fault_name fault) };
 
     fn fmt<W: fmt::Write>(&self, f: &mut fmt::Formatter<W>) -> fmt::Result {
-        match self {
-            FileFault::NoMemory => f.write_str("NoMemory"),
-            FileFault::Device => f.write_str("Device"),
-            FileFault::BadName => f.write_str("BadName"),
-            FileFault::BadVersion => f.write_str("BadVersion"),
-            FileFault::Truncated => f.write_str("Truncated"),
-            FileFault::BadField => f.write_str("BadField"),
-            FileFault::TrailingBytes => f.write_str("TrailingBytes"),
-            FileFault::MixedGroup => f.write_str("MixedGroup"),
-            FileFault::TooManyRecords => f.write_str("TooManyRecords"),
-        }
+        f.write_str(match self {
+            FileFault::NoMemory => "NoMemory",
+            FileFault::Device => "Device",
+            FileFault::BadName => "BadName",
+            FileFault::BadVersion => "BadVersion",
+            FileFault::Truncated => "Truncated",
+            FileFault::BadField => "BadField",
+            FileFault::TrailingBytes => "TrailingBytes",
+            FileFault::MixedGroup => "MixedGroup",
+            FileFault::TooManyRecords => "TooManyRecords",
+        })
     }
 }
 

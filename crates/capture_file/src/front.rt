@@ -2,7 +2,7 @@
 ghost use Rattle.std.specs.Prelude.{◌≡◌, ◌≤◌, ◌<◌, codes, length, take, IfErr, IfOk, OnOk};
 ghost use Rattle.capture_file.specs.Faults.{CountsDevice, IsOfField, IsOfFront};
 ghost use Rattle.capture_file.specs.Fields.{Fails, Takes, field_at};
-ghost use Rattle.capture_file.specs.Fronts.{front_at, kind_at, kind_of, text_at};
+ghost use Rattle.capture_file.specs.Fronts.{front_at, kind_at, kind_of, text_at, version_of};
 ghost use Rattle.st_format.specs.Device.{TellsOctets};
 
 use crate::fault::FileFault;
@@ -52,10 +52,18 @@ fn version_in(name: &[u8], octets: &[u8; 8]) -> Result<Version, FileFault>
     if front != name {
         return Err(FileFault::BadName);
     }
-    if version == b"01".as_slice() {
+    version_by(version)
+}
+
+/// The version that two digits are.
+fn version_by(digits: &[u8]) -> Result<Version, FileFault>
+    ensures exact { result ≡ version_of digits.now }
+    ensures named { IfErr result IsOfFront }
+{
+    if digits == b"01".as_slice() {
         return Ok(Version::One);
     }
-    if version == b"02".as_slice() {
+    if digits == b"02".as_slice() {
         return Ok(Version::Two);
     }
     Err(FileFault::BadVersion)

@@ -2,8 +2,8 @@
 ghost use Rattle.std.specs.Prelude.{◌≡◌, ◌≤◌, ◌<◌, length, take, option_to_list, None, IfOk, IfErr};
 ghost use Rattle.std.specs.Io.KnownBytes.{Consumes, IsAtEnd, Keeps};
 ghost use Rattle.capture_file.specs.Faults.{CountsDevice, IsDevice};
-ghost use Rattle.capture_file.specs.Reading.{head_at};
-ghost use Rattle.capture_file.specs.Records.{IsHead, entry_of};
+ghost use Rattle.capture_file.specs.Reading.{head_at, path_of};
+ghost use Rattle.capture_file.specs.Records.{IsHead, entry_of, path_octet};
 ghost use Rattle.capture_file.specs.Source.{FailsRest, ReadsRest};
 
 use crate::fault::FileFault;
@@ -34,16 +34,28 @@ pub fn record_begins<S: ByteSource>(source: &mut S) -> Result<Option<u8>, FileFa
     Ok(Some(first[0]))
 }
 
+/// The path of an octet.
+fn path_in(first: u8) -> Result<Path, FileFault>
+    ensures exact { result ≡ path_of first }
+    ensures spelled { IfOk result (λ path. first ≡ path_octet path) }
+    ensures fault { IfErr result (λ f. f ≡ FileFault.BadField) }
+{
+    match first {
+        0 => Ok(Path::A),
+        1 => Ok(Path::B),
+        _ => Err(FileFault::BadField),
+    }
+}
+
 /// The head that an octet and the ten behind it make.
 fn head_of(first: u8, rest: &[u8; REST]) -> Result<RecordHead, FileFault>
     ensures exact { result ≡ head_at first rest.now }
     ensures spelled { IfOk result (λ r. IsHead first rest.now r) }
     ensures fault { IfErr result (λ f. f ≡ FileFault.BadField) }
 {
-    let path = match first {
-        0 => Path::A,
-        1 => Path::B,
-        _ => return Err(FileFault::BadField),
+    let path = match path_in(first) {
+        Ok(path) => path,
+        Err(fault) => return Err(fault),
     };
     let moment = u64::from_be_bytes([
         rest[0], rest[1], rest[2], rest[3], rest[4], rest[5], rest[6], rest[7],
