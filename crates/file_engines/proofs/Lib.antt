@@ -5,3 +5,4 @@ pub mod Merged
 pub mod Taken
 pub mod Rotating
 pub mod StateRefusals
+pub mod Ended

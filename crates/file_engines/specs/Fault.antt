@@ -1,5 +1,5 @@
 -- Faults that end a run, and what they say of devices.
-use Rattle.std.specs.Prelude.{◌≡◌, ℕ, ◌⊎◌, List, [], ◌∷◌, Option, Result, MatchResult, ⊤}
+use Rattle.std.specs.Prelude.{◌≡◌, ℕ, ◌⊎◌, List, [], ◌∷◌, Option, Result, Ok, Err, MatchResult, ⊤}
 use Rattle.st_format.specs.Device.{Failed}
 use Rattle.tool_text.specs.Telling.{IsRefusalLine, TellsLine, device_line, memory_line}
 use Rattle.tool_text.specs.declared.status.Status.{Status}
@@ -55,3 +55,31 @@ abbrev pub IfRefused : Fault → Type 0 → Type 0
 IfRefused (Refused r) P = P
 IfRefused Device P = ⊤
 IfRefused Memory P = ⊤
+
+-- ---- what a run came to
+
+-- its end
+abbrev pub IsDone : {V : Type 0} → Result V Fault → Type 0
+IsDone (Ok v) = ⊤
+IsDone (Err f) = ⊥
+
+-- a refusal
+abbrev pub IsRefused : {V : Type 0} → Result V Fault → Type 0
+IsRefused (Ok v) = ⊥
+IsRefused (Err (Refused r)) = ⊤
+IsRefused (Err Device) = ⊥
+IsRefused (Err Memory) = ⊥
+
+-- a device's fault
+abbrev pub IsFailed : {V : Type 0} → Result V Fault → Type 0
+IsFailed (Ok v) = ⊥
+IsFailed (Err (Refused r)) = ⊥
+IsFailed (Err Device) = ⊤
+IsFailed (Err Memory) = ⊥
+
+-- anything but a device's fault
+abbrev pub HasWorked : {V : Type 0} → Result V Fault → Type 0
+HasWorked (Ok v) = ⊤
+HasWorked (Err (Refused r)) = ⊤
+HasWorked (Err Device) = ⊥
+HasWorked (Err Memory) = ⊤

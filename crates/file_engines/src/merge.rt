@@ -13,12 +13,12 @@ ghost use Rattle.tool_text.specs.Telling.{memory_line};
 use crate::fault::{Fault, Refusal, of_state};
 use crate::printing::print_frames;
 use crate::receive::save;
-use crate::telling::tell;
+use crate::telling::end;
 use path_merge::Receiver;
 use receiver_file::load_receiver;
 use st_format::{ByteSink, ByteSource};
 use std::alloc::Allocator;
-use tool_text::{LINE, Status, tell_memory};
+use tool_text::{LINE, tell_memory};
 
 /// Merges two receivers that were written as files.
 ///
@@ -66,10 +66,8 @@ where
     let Ok(mut text) = String::with_capacity(alloc, LINE) else {
         return tell_memory(faults).number();
     };
-    match merge(alloc, left, right, state, output, &mut text) {
-        Ok(()) => Status::Done.number(),
-        Err(fault) => tell(fault, &mut text, faults).number(),
-    }
+    let outcome = merge(alloc, left, right, state, output, &mut text);
+    end(outcome, &mut text, faults)
 }
 
 /// Reads the two receivers, merges them, prints their frames and writes the one.

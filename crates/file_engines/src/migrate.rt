@@ -9,12 +9,12 @@ ghost use Rattle.tool_text.specs.Telling.{memory_line};
 use crate::fault::{Fault, Refusal, of_capture};
 use crate::line::Line;
 use crate::printing::print;
-use crate::telling::tell;
+use crate::telling::end;
 use crate::text::{read_checked, room};
 use capture_file::migrate_capture;
 use st_format::{ByteSink, ByteSource};
 use std::alloc::Allocator;
-use tool_text::{LINE, Status, tell_memory};
+use tool_text::{LINE, tell_memory};
 
 /// The greatest number of records of a capture (own).
 const RECORDS: u64 = 16_777_216;
@@ -59,10 +59,8 @@ where
     let Ok(mut text) = String::with_capacity(alloc, LINE) else {
         return tell_memory(faults).number();
     };
-    match migrate(alloc, sdp, source, sink, output, &mut text) {
-        Ok(()) => Status::Done.number(),
-        Err(fault) => tell(fault, &mut text, faults).number(),
-    }
+    let outcome = migrate(alloc, sdp, source, sink, output, &mut text);
+    end(outcome, &mut text, faults)
 }
 
 /// Reads the text, writes the capture with it, and prints how many records there are.

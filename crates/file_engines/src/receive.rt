@@ -16,14 +16,14 @@ use crate::line::Line;
 use crate::printing::{print, print_frames};
 use crate::session::Session;
 use crate::tally::{REFUSALS, Tally};
-use crate::telling::tell;
+use crate::telling::end;
 use crate::text::{read_text, room};
 use capture_file::CaptureReader;
 use path_merge::Receiver;
 use receiver_file::save_receiver;
 use st_format::{ByteSink, ByteSource, read_number};
 use std::alloc::Allocator;
-use tool_text::{LINE, Status, read_timestamps, tell_memory};
+use tool_text::{LINE, read_timestamps, tell_memory};
 
 /// The greatest number of octets of an SDP's file (own).
 const SDP: usize = 16_777_216;
@@ -98,10 +98,8 @@ where
     let Ok(mut text) = String::with_capacity(alloc, LINE) else {
         return tell_memory(faults).number();
     };
-    match receive(alloc, wanted, sdp, captures, state, output, &mut text) {
-        Ok(()) => Status::Done.number(),
-        Err(fault) => tell(fault, &mut text, faults).number(),
-    }
+    let outcome = receive(alloc, wanted, sdp, captures, state, output, &mut text);
+    end(outcome, &mut text, faults)
 }
 
 /// Opens the receiver, takes the captures, prints what came, and writes the receiver.

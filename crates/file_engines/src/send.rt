@@ -10,14 +10,14 @@ use crate::fault::{Fault, Refusal, of_picture};
 use crate::line::Line;
 use crate::printing::print;
 use crate::sender::{Sender, Sending};
-use crate::telling::tell;
+use crate::telling::end;
 use crate::text::{read_checked, room};
 use capture_file::{CaptureWriter, read_packed_picture};
 use packet_plan::Plan;
 use pgroup_pack::PackedPicture;
 use st_format::{ByteSink, ByteSource};
 use std::alloc::Allocator;
-use tool_text::{LINE, Status, tell_memory};
+use tool_text::{LINE, tell_memory};
 
 /// The greatest number of pictures (own).
 const PICTURES: usize = 10_000;
@@ -73,10 +73,7 @@ where
         return (tell_memory(faults).number(), sink);
     };
     let (outcome, sink) = send(alloc, wanted, sdp, pictures, sink, output, &mut text);
-    match outcome {
-        Ok(()) => (Status::Done.number(), sink),
-        Err(fault) => (tell(fault, &mut text, faults).number(), sink),
-    }
+    (end(outcome, &mut text, faults), sink)
 }
 
 /// Reads the text, sends the pictures, and prints how many datagrams they were.

@@ -1,5 +1,9 @@
 //! Telling how a run ends.
-ghost use Rattle.file_engines.specs.Fault.{TellsFault};
+ghost use Rattle.std.specs.Prelude.{◌≡◌, ◌≢◌, ◌⊎◌};
+ghost use Rattle.std.specs.Io.KnownBytes.{Appends};
+ghost use Rattle.st_format.specs.Device.{Failed};
+ghost use Rattle.file_engines.specs.Fault.{HasWorked, IsDone, IsFailed, IsRefused, TellsFault};
+ghost use Rattle.tool_text.specs.Telling.{memory_line};
 
 use crate::fault::Fault;
 use st_format::ByteSink;
@@ -21,5 +25,27 @@ pub fn tell<A: Allocator, F: ByteSink>(fault: Fault, text: &mut String<A>, fault
                 Err(_) => tell_memory(faults),
             }
         }
+    }
+}
+
+/// Prints the fault, where a run came to one, and answers the run's status.
+pub(crate) fn end<A: Allocator, F: ByteSink>(
+    outcome: Result<(), Fault>,
+    text: &mut String<A>,
+    faults: &mut F,
+) -> u8
+    ensures range { (result ≡ 0) ⊎ (result ≡ 1) ⊎ (result ≡ 3) ⊎ (result ≡ 4) }
+    ensures done { result ≡ 0 → IsDone outcome }
+    ensures silent { result ≡ 0 → faults.new ≡ faults.old }
+    ensures refused { result ≡ 1 → IsRefused outcome }
+    ensures failed { result ≡ 3
+        → IsFailed outcome ⊎ Failed (F.failures faults.old) (F.failures faults.new) }
+    ensures worked { result ≢ 3 → HasWorked outcome }
+    ensures working { result ≢ 3 → F.failures faults.new ≡ F.failures faults.old }
+    ensures memory { result ≡ 4 → Appends (F.held faults.old) (F.held faults.new) memory_line }
+{
+    match outcome {
+        Ok(()) => Status::Done.number(),
+        Err(fault) => tell(fault, text, faults).number(),
     }
 }
