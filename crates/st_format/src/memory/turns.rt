@@ -1,6 +1,6 @@
 //! A source of datagrams over a vector of turns.
 ghost use Rattle.std.specs.Prelude.{◌≡◌, ◌≤◌, ◌+◌, ◌-◌, ◌^◌, ◌↔◌, ◌⊎◌, Some, None, Err, length};
-ghost use Rattle.std.specs.Prelude.{map, min, IfOk, IfErr, OnOk, OnErr, IsErr, MatchResult};
+ghost use Rattle.std.specs.Prelude.{map, min, IfOk, IfErr, OnOk, OnErr, IsErr, IsTrue, MatchResult};
 ghost use Rattle.st_format.specs.Device.{CountsFaults};
 ghost use Rattle.st_format.specs.Memory.{IsTooLong, due_of};
 ghost use Rattle.st_format.specs.Turns.{CountsTurn, IsWithin, TakesTurn};
@@ -99,6 +99,44 @@ impl<A: Allocator> MemoryTurns<A> {
         self.last_fault
     }
 
+    // Whether the next turn is a datagram of more octets than a datagram can have.
+    fn is_too_long(&self) -> bool
+        ensures { IsTrue result ↔ IsTooLong self.now.turns }
+    {
+        match self.turns.get(self.at) {
+            Some(MemoryTurn::Datagram(_, octets)) => octets.len() > 65535,
+            _ => false,
+        }
+    }
+
+    // The next turn, whose octets go to the front of the buffer.
+    fn advance(&mut self, buf: &mut [u8]) -> Turn
+        requires room { 65535 ≤ length buf.old }
+        requires fits { IsTooLong self.old.turns → ⊥ }
+        ensures room { length buf.new ≡ length buf.old }
+        ensures within { IsWithin result }
+        ensures turn { TakesTurn (Some self.old.turns) (Some self.new.turns) result buf.new }
+        ensures delivered { CountsTurn result self.old.delivered self.new.delivered }
+        ensures failures { self.new.failures ≡ self.old.failures }
+        ensures last { self.new.last_fault ≡ self.old.last_fault }
+        ensures fails_in { self.new.fails_in ≡ self.old.fails_in }
+    {
+        if self.at == self.turns.len() {
+            return Turn::End;
+        }
+        let at = self.at;
+        self.at += 1;
+        match &self.turns[at] {
+            MemoryTurn::Quiet => Turn::Quiet,
+            MemoryTurn::Datagram(path, octets) => {
+                let count = octets.len();
+                buf[..count].copy_from_slice(octets);
+                self.delivered = self.delivered.saturating_add(1);
+                Turn::Datagram(*path, count)
+            }
+        }
+    }
+
     // One failure more.
     fn fail(&mut self) -> Result<Turn, SourceFault>
         ensures fault { result ≡ Err SourceFault.Device }
@@ -146,28 +184,9 @@ impl<A: Allocator> DatagramSource for MemoryTurns<A> {
     {
         let fails = self.fails_in == 1;
         self.fails_in = self.fails_in.saturating_sub(1);
-        if fails {
+        if fails || self.is_too_long() {
             return self.fail();
         }
-        if self.at == self.turns.len() {
-            return Ok(Turn::End);
-        }
-        match &self.turns[self.at] {
-            MemoryTurn::Quiet => {
-                self.at += 1;
-                Ok(Turn::Quiet)
-            }
-            MemoryTurn::Datagram(path, octets) => {
-                let count = octets.len();
-                if count > 65535 {
-                    return self.fail();
-                }
-                buf[..count].copy_from_slice(octets);
-                let path = *path;
-                self.at += 1;
-                self.delivered = self.delivered.saturating_add(1);
-                Ok(Turn::Datagram(path, count))
-            }
-        }
+        Ok(self.advance(buf))
     }
 }
