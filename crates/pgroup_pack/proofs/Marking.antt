@@ -25,7 +25,6 @@ use Rattle.std.proofs.Math.ListN.{length-set}
 use Rattle.std.proofs.Math.Seq.{drop-append-add}
 use Rattle.std.proofs.Math.Nat.{mul-add, mul-le-mul_left, mul_assoc, mul-div_cancel_left, mod-lt}
 use borrow.Author.Tests.{lt-ltb, ltb-true}
-use borrow.Rule.Slice.PartMut.{put_mid}
 use lib.Lanes.{chunk, put_chunk, zip2, sel_l, top, mask_l}
 use Rattle.st_format.specs.declared.sampling.Sampling.{Sampling}
 use Rattle.st_format.specs.declared.sampling.Sampling.TheVariants.{Ycc422, Ycc444, Rgb}
@@ -33,7 +32,6 @@ use Rattle.st_format.specs.declared.sampling.Depth.{Depth}
 use Rattle.st_format.specs.declared.sampling.Depth.TheVariants.{D8, D10, D12, D16}
 use Rattle.st_format.specs.Pgroup.{bits_of, pixel_group}
 use Rattle.st_format.specs.Samples.{values_in}
-use Rattle.pgroup_pack.proofs.Blocks.{rest_put}
 use Rattle.pgroup_pack.proofs.Values.{length-values_in, values_in-append}
 use Rattle.pgroup_pack.specs.Groups.{differs_at, blanked, blanked_from, AreContested, samples_of}
 use Rattle.pgroup_pack.proofs.GroupLemmas.{length-blanked_from}
@@ -632,24 +630,6 @@ AreContested-append samples vs1 ws1 marks1 new_marks1 new1 vs2 ws2 marks2 new_ma
       ];
     }
 
--- what the code lends of a list's second part, and what it then is
-pub rest_lent : (xs ys : List ℕ) (h : ℕ) → length xs ≡ h
-    → take (length (xs ++ ys) - h) (drop h (xs ++ ys)) ≡ ys
-rest_lent xs ys h long =
-    let count : length (xs ++ ys) - h ≡ length ys = omega (arith, length-append xs ys) in
-    (λ i. take (count i) (drop_at xs ys h long i)) ∙ whole (length ys) ys refl
-
-rest_written : (xs ys zs : List ℕ) (h : ℕ) → length xs ≡ h
-    → put_mid h (length (xs ++ ys) - h) (xs ++ ys) zs ≡ xs ++ zs
-rest_written xs ys zs h long =
-    rest_put h (length (xs ++ ys) - h) (xs ++ ys) zs (omega arith)
-    ∙ ap (λ (ws : List ℕ). ws ++ zs) (take_at xs ys h long)
-
-rest_shared : (xs : List ℕ) (h : ℕ) → take (length xs - h) (drop h xs) ≡ drop h xs
-rest_shared xs h =
-    ap (λ (k : ℕ). take k (drop h xs)) (sym (length-drop h xs))
-    ∙ whole (length (drop h xs)) (drop h xs) refl
-
 group_agrees : (s : Sampling) (d : Depth)
     → 8 * (pixel_group s d).octets ≡ bits_of d * (pixel_group s d).samples
 group_agrees Ycc422 D8 = refl
@@ -670,14 +650,6 @@ some_bits D8 = omega arith
 some_bits D10 = omega arith
 some_bits D12 = omega arith
 some_bits D16 = omega arith
-
--- more samples than are compared at once are those of more than four groups
-pub more_than_four : (samples groups : ℕ) → samples ≤ 12 → 48 < samples * groups → 4 < groups
-more_than_four samples groups few many = elim (cases_lt 4 groups) [
-  | inl lt ↦ lt
-  | inr le ↦ let most : samples * groups ≤ samples * 4 =
-      mul-le-mul_left samples le in absurd (omega arith)
-]
 
 -- the values of groups in two parts
 values_of_parts : (s : Sampling) (d : Depth) (octets others : List ℕ) (k l : ℕ)
@@ -706,105 +678,57 @@ length-group_values s d octets k long =
     (sym (mul_assoc 8 size k) ∙ ap (λ (x : ℕ). x * k) (group_agrees s d)
     ∙ mul_assoc n samples k) ∙ mul-div_cancel_left (samples * k) (some_bits d)
 
-pub length-first_four : (size groups h : ℕ) (octets : List ℕ) → h ≡ size * 4 → 4 < groups
-    → length octets ≡ size * groups → length (take h octets) ≡ h
-length-first_four size groups h octets half many long =
-    let le : size * 4 ≤ size * groups =
-    mul-le-mul_left size (let under : 4 ≤ groups = omega arith in under) in
-    length-take-le h octets (omega arith)
-
 -- groups of which the first four and the others were contested apart
-pub parts_contested : (s : Sampling) (d : Depth) (h : ℕ)
-    (octets others marks first_octets first_marks new_octets new_marks : List ℕ)
-    → h ≡ (pixel_group s d).octets * 4 → 4 < length marks
+pub parts_contested : (s : Sampling) (d : Depth)
+    (octets a b others p q marks l m new_a new_b new_l new_m : List ℕ)
+    → octets ≡ a ++ b → others ≡ p ++ q → marks ≡ l ++ m
     → length octets ≡ (pixel_group s d).octets * length marks → length others ≡ length octets
-    → length first_octets ≡ h → length first_marks ≡ 4 → length new_octets ≡ length (drop h octets)
-    → AreContested (pixel_group s d).samples (values_in (bits_of d) (take h octets))
-    (values_in (bits_of d) (take h others)) (take 4 marks) first_marks
-    (values_in (bits_of d) first_octets)
-    → AreContested (pixel_group s d).samples
-    (values_in (bits_of d)
-    (take (length (first_octets ++ drop h octets) - h) (drop h (first_octets ++ drop h octets))))
-    (values_in (bits_of d) (take (length others - h) (drop h others)))
-    (take (length (first_marks ++ drop 4 marks) - 4)
-    (drop 4 (first_marks ++ drop 4 marks))) new_marks (values_in (bits_of d) new_octets)
+    → length a ≡ (pixel_group s d).octets * 4 → length p ≡ length a → length l ≡ 4
+    → length new_a ≡ length a → length new_b ≡ length b → length new_l ≡ length l
+    → AreContested (pixel_group s d).samples (values_in (bits_of d) a) (values_in (bits_of d) p)
+    l new_l (values_in (bits_of d) new_a)
+    → AreContested (pixel_group s d).samples (values_in (bits_of d) b) (values_in (bits_of d) q)
+    m new_m (values_in (bits_of d) new_b)
     → AreContested (pixel_group s d).samples (values_in (bits_of d) octets)
-    (values_in (bits_of d) others) marks
-    (put_mid 4 (length (first_marks ++ drop 4 marks) - 4) (first_marks ++ drop 4 marks) new_marks)
-    (values_in (bits_of d)
-    (put_mid h (length (first_octets ++ drop h octets) - h)
-    (first_octets ++ drop h octets) new_octets))
-parts_contested s d h octets others marks first_octets first_marks new_octets new_marks half many
-    long alike first_long marks_long new_long a b =
+    (values_in (bits_of d) others) marks (new_l ++ new_m) (values_in (bits_of d) (new_a ++ new_b))
+parts_contested s d octets a b others p q marks l m new_a new_b new_l new_m is_octets is_others
+    is_marks long alike long_a long_p long_l new_long_a new_long_b new_long_l first second =
     let n : ℕ = bits_of d in
     let size : ℕ = (pixel_group s d).octets in
     let samples : ℕ = (pixel_group s d).samples in
-    let rest : ℕ = length marks - 4 in
-    let sum : size * length marks ≡ size * 4 + size * rest =
-    ap (λ (k : ℕ). size * k) (let e : length marks ≡ 4 + rest = omega arith in e)
-    ∙ mul-add size 4 rest in
-    let four : length (take 4 marks) ≡ 4 = length-take-le 4 marks (omega arith) in
-    let o1 : length (take h octets) ≡ size * 4 = length-take-le h octets (omega arith) ∙ half in
-    let o2 : length (drop h octets) ≡ size * rest = omega (arith, length-drop h octets) in
-    let p1 : length (take h others) ≡ size * 4 = length-take-le h others (omega arith) ∙ half in
-    let p2 : length (drop h others) ≡ size * rest = omega (arith, length-drop h others) in
-    let by_four : samples * 4 ≡ samples * length (take 4 marks) =
-    ap (λ (k : ℕ). samples * k) (sym four) in
-    let second : AreContested samples (values_in n (drop h octets)) (values_in n (drop h others))
-    (drop 4 marks) new_marks (values_in n new_octets) =
-    subst (λ (ms : List ℕ). AreContested samples (values_in n (drop h octets))
-    (values_in n (drop h others)) ms new_marks (values_in n new_octets))
-    (rest_lent first_marks (drop 4 marks) 4 marks_long)
-    (subst (λ (os : List ℕ). AreContested samples (values_in n (drop h octets)) (values_in n os)
-    (take (length (first_marks ++ drop 4 marks) - 4)
-    (drop 4 (first_marks ++ drop 4 marks))) new_marks (values_in n new_octets))
-    (rest_shared others h)
-    (subst (λ (os : List ℕ). AreContested samples (values_in n os)
-    (values_in n (take (length others - h) (drop h others)))
-    (take (length (first_marks ++ drop 4 marks) - 4)
-    (drop 4 (first_marks ++ drop 4 marks))) new_marks (values_in n new_octets))
-    (rest_lent first_octets (drop h octets) h first_long) b)) in
-    let both : AreContested samples (values_in n (take h octets) ++ values_in n (drop h octets))
-    (values_in n (take h others) ++ values_in n (drop h others)) (take 4 marks ++ drop 4 marks)
-    (first_marks ++ new_marks) (values_in n first_octets ++ values_in n new_octets) =
-    AreContested-append samples (values_in n (take h octets)) (values_in n (take h others))
-    (take 4 marks) first_marks (values_in n first_octets) (values_in n (drop h octets))
-    (values_in n (drop h others)) (drop 4 marks) new_marks (values_in n new_octets)
-    (length-group_values s d (take h octets) 4 o1 ∙ by_four)
-    (length-group_values s d (take h others) 4 p1 ∙ by_four)
-    (length-group_values s d first_octets 4 (first_long ∙ half) ∙ by_four)
-    (marks_long ∙ sym four) a second in
-    let vs : values_in n (take h octets) ++ values_in n (drop h octets) ≡ values_in n octets =
-    sym (values_of_parts s d (take h octets) (drop h octets) 4 rest o1 o2)
-    ∙ ap (values_in n) (take-append-drop h octets) in
-    let ws : values_in n (take h others) ++ values_in n (drop h others) ≡ values_in n others =
-    sym (values_of_parts s d (take h others) (drop h others) 4 rest p1 p2)
-    ∙ ap (values_in n) (take-append-drop h others) in
-    let new : values_in n first_octets ++ values_in n new_octets
-    ≡ values_in n
-    (put_mid h (length (first_octets ++ drop h octets) - h)
-    (first_octets ++ drop h octets) new_octets) =
-    sym (values_of_parts s d first_octets new_octets 4 rest (first_long ∙ half) (new_long ∙ o2))
-    ∙ ap (values_in n)
-    (sym (rest_written first_octets (drop h octets) new_octets h first_long)) in
-    let ms : first_marks ++ new_marks
-    ≡ put_mid 4 (length (first_marks ++ drop 4 marks) - 4)
-    (first_marks ++ drop 4 marks) new_marks =
-    sym (rest_written first_marks (drop 4 marks) new_marks 4 marks_long) in
-    let now_marks : List ℕ =
-    put_mid 4 (length (first_marks ++ drop 4 marks) - 4)
-    (first_marks ++ drop 4 marks) new_marks in
-    let now : List ℕ =
-    values_in n
-    (put_mid h (length (first_octets ++ drop h octets) - h)
-    (first_octets ++ drop h octets) new_octets) in
-    let old : List ℕ = values_in n (take h octets) ++ values_in n (drop h octets) in
-    let other : List ℕ = values_in n (take h others) ++ values_in n (drop h others) in
+    let count : length marks ≡ 4 + length m =
+    ap length is_marks ∙ length-append l m ∙ ap (λ (k : ℕ). k + length m) long_l in
+    let sum : size * length marks ≡ size * 4 + size * length m =
+    ap (λ (k : ℕ). size * k) count ∙ mul-add size 4 (length m) in
+    let long_b : length b ≡ size * length m =
+    omega (arith, ap length is_octets ∙ length-append a b) in
+    let long_q : length q ≡ size * length m =
+    omega (arith, ap length is_others ∙ length-append p q) in
+    let by_four : samples * 4 ≡ samples * length l =
+    ap (λ (k : ℕ). samples * k) (sym long_l) in
+    let both : AreContested samples (values_in n a ++ values_in n b)
+    (values_in n p ++ values_in n q) (l ++ m) (new_l ++ new_m)
+    (values_in n new_a ++ values_in n new_b) =
+    AreContested-append samples (values_in n a) (values_in n p) l new_l (values_in n new_a)
+    (values_in n b) (values_in n q) m new_m (values_in n new_b)
+    (length-group_values s d a 4 long_a ∙ by_four)
+    (length-group_values s d p 4 (long_p ∙ long_a) ∙ by_four)
+    (length-group_values s d new_a 4 (new_long_a ∙ long_a) ∙ by_four)
+    new_long_l first second in
+    let vs : values_in n a ++ values_in n b ≡ values_in n octets =
+    sym (ap (values_in n) is_octets ∙ values_of_parts s d a b 4 (length m) long_a long_b) in
+    let ws : values_in n p ++ values_in n q ≡ values_in n others =
+    sym (ap (values_in n) is_others
+    ∙ values_of_parts s d p q 4 (length m) (long_p ∙ long_a) long_q) in
+    let new : values_in n new_a ++ values_in n new_b ≡ values_in n (new_a ++ new_b) =
+    sym (values_of_parts s d new_a new_b 4 (length m) (new_long_a ∙ long_a)
+    (new_long_b ∙ long_b)) in
+    let now_marks : List ℕ = new_l ++ new_m in
+    let now : List ℕ = values_in n (new_a ++ new_b) in
     subst (λ (xs : List ℕ). AreContested samples xs (values_in n others) marks now_marks now) vs
-    (subst (λ (xs : List ℕ). AreContested samples old xs marks now_marks now) ws
-    (subst (λ (xs : List ℕ). AreContested samples old other xs now_marks now)
-    (take-append-drop 4 marks)
-    (subst (λ (xs : List ℕ). AreContested samples old other
-    (take 4 marks ++ drop 4 marks) xs now) ms
-    (subst (λ (xs : List ℕ). AreContested samples old other (take 4 marks ++ drop 4 marks)
-    (first_marks ++ new_marks) xs) new both))))
+    (subst (λ (xs : List ℕ). AreContested samples (values_in n a ++ values_in n b) xs marks
+    now_marks now) ws
+    (subst (λ (xs : List ℕ). AreContested samples (values_in n a ++ values_in n b)
+    (values_in n p ++ values_in n q) xs now_marks now) (sym is_marks)
+    (subst (λ (xs : List ℕ). AreContested samples (values_in n a ++ values_in n b)
+    (values_in n p ++ values_in n q) (l ++ m) now_marks xs) new both)))

@@ -35,18 +35,11 @@ pub fn contest(format: &Format, octets: &mut [u8], others: &[u8], marks: &mut [u
         return;
     }
     let half = format.pgroup().octets * FEW;
-    contest_few(
-        format,
-        &mut octets[..half],
-        &others[..half],
-        &mut marks[..FEW],
-    );
-    contest_few(
-        format,
-        &mut octets[half..],
-        &others[half..],
-        &mut marks[FEW..],
-    );
+    let (octets, more_octets) = octets.split_at_mut(half);
+    let (others, more_others) = others.split_at(half);
+    let (marks, more_marks) = marks.split_at_mut(FEW);
+    contest_few(format, octets, others, marks);
+    contest_few(format, more_octets, more_others, more_marks);
 }
 
 /// The same of pgroups that have no more samples than are compared at once.
