@@ -27,10 +27,10 @@ pub fn run_job<A: Allocator, C: Allocator + Copy>(
     ensures sound { OnOk result (IsSound job.now (formats_of inputs.now)) }
     ensures fault { IfErr result (λ e. IsFault e job.now (formats_of inputs.now)) }
 {
-    match inputs {
-        [picture] => run_on_one(alloc, job, picture),
-        [a, b] => run_on_two(alloc, job, a, b),
-        [a, b, by] => run_on_three(alloc, job, a, b, by),
+    match inputs.len() {
+        1 => run_on_one(alloc, job, &inputs[0]),
+        2 => run_on_two(alloc, job, &inputs[0], &inputs[1]),
+        3 => run_on_three(alloc, job, &inputs[0], &inputs[1], &inputs[2]),
         _ => Err(JobFault::WrongInputCount),
     }
 }
