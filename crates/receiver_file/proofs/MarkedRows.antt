@@ -1,17 +1,15 @@
 -- Groups of mark words and packed octets are those of a row's cells.
-use Rattle.std.proofs.Common.{◌≡◌, ℕ, zero, suc, ◌+◌, ◌-◌, ◌*◌, ◌^◌, ◌<◌, ◌≤◌, Bool, true, false}
+use Rattle.std.proofs.Common.{◌≡◌, ℕ, zero, suc, ◌+◌, ◌-◌, ◌*◌, ◌<◌, ◌≤◌, Bool, true, false}
 use Rattle.std.proofs.Common.{cond, eqb, ltb, List, [], ◌∷◌, ◌++◌, length, get_or, take, drop, map}
 use Rattle.std.proofs.Common.{Option, None, Some, append_assoc, append-nil, drop-drop, refl, sym}
 use Rattle.std.proofs.Common.{ap, ◌∙◌, subst, arith}
-use Rattle.std.specs.List.{AllByRecursion, flat_map}
+use Rattle.std.specs.List.{AllByRecursion}
 use Rattle.std.specs.Io.KnownBytes.{Appends}
 use Rattle.std.proofs.KnownBytes.{Appends-trans}
-use Rattle.std.proofs.lemmas.Grind.{flat_map-append}
 use Rattle.std.proofs.lemmas.Bool.{eqb-false, eqb-true, ltb-false, ltb-true}
 use Rattle.std.proofs.lemmas.Nat.Bits.{bit_at_above}
-use Rattle.std.proofs.lemmas.List.{drop-map, drop-take, drop_at, length-drop, length-map}
-use Rattle.std.proofs.lemmas.List.{length-take-le, take-append-drop, take-map, take-take, take_all}
-use Rattle.std.proofs.lemmas.List.{take_at}
+use Rattle.std.proofs.lemmas.List.{drop-map, drop-take, length-drop, length-map}
+use Rattle.std.proofs.lemmas.List.{length-take-le, take-map, take-take, take_all}
 use Rattle.std.proofs.Math.Nat.{mul-add, mul_comm}
 use Rattle.st_format.specs.declared.cell.Cell.{Cell}
 use Rattle.st_format.specs.declared.format.Format.{Format}
@@ -20,7 +18,6 @@ use Rattle.st_format.specs.Position.{row_groups, row_octets, row_samples}
 use Rattle.st_format.specs.Raster.{IsWhole, Raster}
 use Rattle.st_format.specs.Device.{AppendsPrefix}
 use Rattle.st_format.specs.Samples.{Spells, bits}
-use Rattle.st_format.proofs.Spelled.{joined_length}
 use Rattle.pgroup_pack.proofs.Parts.{all_first, all_rest, spelled_first, spelled_rest}
 use Rattle.frame_assembly.specs.Packed.{known_value}
 use Rattle.frame_assembly.specs.Rows.{IsMarkOf, IsStateOf, group_cells, row_cells}

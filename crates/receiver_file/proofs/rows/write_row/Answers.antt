@@ -1,4 +1,4 @@
-use Rattle.std.proofs.Common.{◌≡◌, ◌∙◌, ap, sym, ℕ}
+use Rattle.std.proofs.Common.{◌≡◌, ◌∙◌, ap}
 use Rattle.st_format.specs.declared.format.Format.{Format}
 use Rattle.capture_file.specs.Groups.{groups_text}
 use Rattle.receiver_file.specs.Known.{row_cut, shape_in}
