@@ -6,3 +6,4 @@ pub mod Taken
 pub mod Rotating
 pub mod StateRefusals
 pub mod Ended
+pub mod Refusals

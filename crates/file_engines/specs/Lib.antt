@@ -6,6 +6,7 @@ pub mod Line
 pub mod Migrating
 pub mod Receiving
 pub mod Merging
+pub mod Refused
 pub mod Taking
 pub mod Tallied
 pub mod Refusing

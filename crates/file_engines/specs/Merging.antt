@@ -10,6 +10,10 @@ pub record GivesReceiver (to_give : Option (List ℕ)) (s : State) : Type 0 wher
   pub told : to_give ≡ Some (state_text (kept_of s))
   pub writable : IsWritable s
 
+-- a source was to give the file of a receiver, if it tells what it is to give
+abbrev pub SaysReceiver : Option (List ℕ) → State → Type 0
+SaysReceiver told r = (octets : List ℕ) → told ≡ Some octets → octets ≡ state_text (kept_of r)
+
 -- a receiver was opened as another, and has its frames
 pub record IsAgain (s r : State) : Type 0 where
   pub opening : r.opening ≡ s.opening

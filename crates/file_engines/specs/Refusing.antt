@@ -1,5 +1,5 @@
 -- What holds where a run ends by a refusal.
-use Rattle.std.specs.Prelude.{◌≡◌, ℕ, List, ◌++◌, codes, Option, Some, ⊤}
+use Rattle.std.specs.Prelude.{◌≡◌, ℕ, List, ◌++◌, codes, Option, Some, Result, Ok, Err, ⊤}
 use Rattle.std.specs.Io.KnownBytes.{Appends}
 use Rattle.receiver_file.specs.StateFaults.{StateFault}
 use Rattle.file_engines.specs.RefusalText.{refusal_text}
@@ -24,3 +24,8 @@ pub record TellsRefusal (Is : Refusal → Type 0) (old new : Option (List ℕ)) 
   pub refusal : Refusal
   pub is : Is refusal
   pub told : Appends old new (codes "st2110: " ++ refusal_text refusal ++ codes "\n")
+
+-- what a run came to was a refusal, which was told by its line
+abbrev pub TellsOutcome : {V : Type 0} → Result V Fault → Option (List ℕ) → Option (List ℕ) → Type 0
+TellsOutcome (Ok v) old new = ⊥
+TellsOutcome (Err f) old new = TellsRefusal (λ r. f ≡ Refused r) old new

@@ -1,13 +1,12 @@
 //! The engine of `merge`.
-ghost use Rattle.std.specs.Prelude.{◌≡◌, ◌≢◌, ◌⊎◌, ◌∷◌, [], ℕ, IfErr, IfOk, List, OnOk, Some};
+ghost use Rattle.std.specs.Prelude.{◌≡◌, ◌≢◌, ◌⊎◌, ◌∷◌, [], IfErr, IfOk, OnOk};
 ghost use Rattle.std.specs.Io.KnownBytes.{Appends};
 ghost use Rattle.file_engines.specs.Fault.{Accounts, IfRefused, NoneFailed, OneFailed, counts};
-ghost use Rattle.file_engines.specs.Merging.{GivesReceiver, IsAgain, Joins, Merges};
+ghost use Rattle.file_engines.specs.Merging.{GivesReceiver, IsAgain, Joins, Merges, SaysReceiver};
 ghost use Rattle.file_engines.specs.Receiving.{Saves};
-ghost use Rattle.file_engines.specs.Refusing.{IsStateRefusal, OfRefusal};
+ghost use Rattle.file_engines.specs.Refused.{IsMergeRefusal};
+ghost use Rattle.file_engines.specs.Refusing.{IsStateRefusal, OfRefusal, TellsRefusal};
 ghost use Rattle.path_merge.specs.Frames.{State};
-ghost use Rattle.capture_file.specs.StateFile.{state_text};
-ghost use Rattle.receiver_file.specs.Saved.{kept_of};
 ghost use Rattle.tool_text.specs.Telling.{memory_line};
 
 use crate::fault::{Fault, Refusal, of_state};
@@ -60,6 +59,10 @@ where
     ensures merged { result ≡ 0
         → Merges (L.to_give left.old) (R.to_give right.old) (K.held state.old) (K.held state.new) }
     ensures refused { result ≡ 1 → state.new ≡ state.old }
+    // What is told is the first refusal that speaks against the files.
+    ensures told { result ≡ 1
+        → TellsRefusal (IsMergeRefusal (L.to_give left.old) (R.to_give right.old))
+        (F.held faults.old) (F.held faults.new) }
     ensures silent { result ≡ 0 → faults.new ≡ faults.old }
     ensures memory { result ≡ 4 → Appends (F.held faults.old) (F.held faults.new) memory_line }
 {
@@ -89,6 +92,8 @@ where
     ensures merged { OnOk result
         (Merges (L.to_give left.old) (R.to_give right.old) (K.held state.old) (K.held state.new)) }
     ensures refused { IfErr result (λ f. IfRefused f (state.new ≡ state.old)) }
+    ensures refusal { IfErr result (λ f. OfRefusal f
+        (IsMergeRefusal (L.to_give left.old) (R.to_give right.old))) }
     ensures failures { Accounts result (counts (L.failures left.old) (L.failures left.new)
         ∷ counts (R.failures right.old) (R.failures right.new)
         ∷ counts (K.failures state.old) (K.failures state.new)
@@ -106,6 +111,8 @@ fn merge_both<A: Allocator + Copy, L: ByteSource, R: ByteSource>(
     right: &mut R,
 ) -> Result<Receiver<A>, Fault>
     ensures joined { IfOk result (λ m. Joins (L.to_give left.old) (R.to_give right.old) m) }
+    ensures refusal { IfErr result (λ f. OfRefusal f
+        (IsMergeRefusal (L.to_give left.old) (R.to_give right.old))) }
     ensures failures { Accounts result (counts (L.failures left.old) (L.failures left.new)
         ∷ counts (R.failures right.old) (R.failures right.new) ∷ []) }
 {
@@ -124,8 +131,7 @@ pub fn read_receiver<A: Allocator + Copy, S: ByteSource>(
     alloc: A,
     source: &mut S,
 ) -> Result<Receiver<A>, Fault>
-    ensures found { IfOk result (λ r. (octets : List ℕ) → S.to_give source.old ≡ Some octets
-        → octets ≡ state_text (kept_of r)) }
+    ensures found { IfOk result (λ r. SaysReceiver (S.to_give source.old) r) }
     ensures same { IfOk result (λ r. (s : State)
         → GivesReceiver (S.to_give source.old) s → IsAgain s r) }
     ensures refused { IfErr result (λ f. OfRefusal f (IsStateRefusal (S.to_give source.old))) }

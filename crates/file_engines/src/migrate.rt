@@ -1,8 +1,10 @@
 //! The engine of `migrate`.
-ghost use Rattle.std.specs.Prelude.{◌≡◌, ◌≢◌, ◌≤◌, ◌⊎◌, ◌∷◌, [], IfOk, OnOk, length};
+ghost use Rattle.std.specs.Prelude.{◌≡◌, ◌≢◌, ◌≤◌, ◌⊎◌, ◌∷◌, [], IfErr, IfOk, OnOk, length};
 ghost use Rattle.std.specs.Io.KnownBytes.{Appends};
 ghost use Rattle.file_engines.specs.Fault.{Accounts, NoneFailed, OneFailed, counts};
 ghost use Rattle.file_engines.specs.Migrating.{Migrates};
+ghost use Rattle.file_engines.specs.Refused.{IsCaptureRefusal, IsMigrateRefusal};
+ghost use Rattle.file_engines.specs.Refusing.{OfRefusal, TellsRefusal};
 ghost use Rattle.capture_file.specs.Migrated.{Migrated};
 ghost use Rattle.tool_text.specs.Telling.{memory_line};
 
@@ -53,6 +55,10 @@ where
         ∷ counts (F.failures faults.old) (F.failures faults.new) ∷ []) }
     ensures migrated { result ≡ 0 → Migrates (D.to_give sdp.old) (D.to_give sdp.new)
         (S.to_give source.old) (S.to_give source.new) (K.held sink.old) (K.held sink.new) }
+    // What is told is the first refusal that speaks against the text and the capture.
+    ensures told { result ≡ 1
+        → TellsRefusal (IsMigrateRefusal (D.to_give sdp.old) (S.to_give source.old))
+        (F.held faults.old) (F.held faults.new) }
     ensures silent { result ≡ 0 → faults.new ≡ faults.old }
     ensures memory { result ≡ 4 → Appends (F.held faults.old) (F.held faults.new) memory_line }
 {
@@ -80,6 +86,8 @@ where
     O: ByteSink,
     ensures migrated { OnOk result (Migrates (D.to_give sdp.old) (D.to_give sdp.new)
         (S.to_give source.old) (S.to_give source.new) (K.held sink.old) (K.held sink.new)) }
+    ensures refusal { IfErr result (λ f. OfRefusal f
+        (IsMigrateRefusal (D.to_give sdp.old) (S.to_give source.old))) }
     ensures failures { Accounts result (counts (D.failures sdp.old) (D.failures sdp.new)
         ∷ counts (S.failures source.old) (S.failures source.new)
         ∷ counts (K.failures sink.old) (K.failures sink.new)
@@ -100,6 +108,8 @@ fn move_capture<A: Allocator, S: ByteSource, K: ByteSink>(
     requires { length said.now ≤ 65535 }
     ensures migrated { IfOk result (λ n. Migrated 16777216 n said.now (S.to_give source.old)
         (S.to_give source.new) (K.held sink.old) (K.held sink.new)) }
+    ensures refusal { IfErr result (λ f. OfRefusal f
+        (IsCaptureRefusal (S.to_give source.old))) }
     ensures failures { Accounts result (counts (S.failures source.old) (S.failures source.new)
         ∷ counts (K.failures sink.old) (K.failures sink.new) ∷ []) }
 {

@@ -17,7 +17,9 @@ pub(crate) fn print_frames<A: Allocator, O: ByteSink>(
     output: &mut O,
     text: &mut String<A>,
 ) -> Result<(), Fault>
-    ensures { Accounts result (counts (O.failures output.old) (O.failures output.new) ∷ []) }
+    ensures unrefused { IfErr result (λ f. IfRefused f ⊥) }
+    ensures failures { Accounts result (counts (O.failures output.old) (O.failures output.new)
+        ∷ []) }
 {
     for timestamp in receiver.window() {
         if let Some(frame) = receiver.frame(*timestamp) {

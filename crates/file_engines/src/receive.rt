@@ -1,10 +1,11 @@
 //! The engine of `receive`.
 ghost use Rattle.std.specs.Prelude.{◌≡◌, ◌≢◌, ◌≤◌, ◌<◌, ◌⊎◌, ◌∷◌, [], IfErr, IfOk, IfSome, OnOk};
-ghost use Rattle.std.specs.Prelude.{Some, length, vec_len, sum_by};
+ghost use Rattle.std.specs.Prelude.{Some, length, vec_len, sum_by, ⊤};
 ghost use Rattle.std.specs.Io.KnownBytes.{Appends};
 ghost use Rattle.capture_file.specs.StateFile.{state_text};
 ghost use Rattle.file_engines.specs.Fault.{Accounts, IfRefused, NoneFailed, OneFailed, counts};
 ghost use Rattle.file_engines.specs.Receiving.{Saves, failures_in};
+ghost use Rattle.file_engines.specs.Refusing.{TellsRefusal};
 ghost use Rattle.file_engines.specs.Taking.{HoldsBy, IsPin, Receives, Stands, TakesFile};
 ghost use Rattle.file_engines.specs.Taking.{TakesFiles, TakesFirst};
 ghost use Rattle.receiver_file.specs.Saved.{kept_of};
@@ -92,6 +93,8 @@ where
     ensures taken { result ≡ 0 → Receives wanted.entry.window.now wanted.entry.ssrc.now
         S.to_give captures.old.items (K.held state.old) (K.held state.new) }
     ensures refused { result ≡ 1 → state.new ≡ state.old }
+    // At status 1 a refusal was told by its line.
+    ensures told { result ≡ 1 → TellsRefusal (λ _. ⊤) (F.held faults.old) (F.held faults.new) }
     ensures silent { result ≡ 0 → faults.new ≡ faults.old }
     ensures memory { result ≡ 4 → Appends (F.held faults.old) (F.held faults.new) memory_line }
 {
@@ -143,6 +146,7 @@ pub(crate) fn save<A: Allocator, K: ByteSink>(
         (state_text (kept_of receiver.now))) }
     ensures saved { OnOk result (Saves (K.held state.old) (K.held state.new)) }
     ensures refused { IfErr result (λ f. IfRefused f (state.new ≡ state.old)) }
+    ensures unrefused { IfErr result (λ f. IfRefused f ⊥) }
     ensures failures { Accounts result (counts (K.failures state.old) (K.failures state.new) ∷ []) }
 {
     match save_receiver(state, receiver) {

@@ -1,9 +1,10 @@
 //! The engine of `send`.
 ghost use Rattle.std.specs.Prelude.{◌≡◌, ◌≢◌, ◌≤◌, ◌<◌, ◌⊎◌, ◌∷◌, [], false, IfOk, MatchResult};
-ghost use Rattle.std.specs.Prelude.{length, sum_by, vec_len};
+ghost use Rattle.std.specs.Prelude.{length, sum_by, vec_len, ⊤};
 ghost use Rattle.std.specs.Io.KnownBytes.{Appends, IsAtEnd};
 ghost use Rattle.file_engines.specs.Fault.{Accounts, Blames, NoneFailed, OneFailed, counts};
 ghost use Rattle.file_engines.specs.Receiving.{failures_in};
+ghost use Rattle.file_engines.specs.Refusing.{TellsRefusal};
 ghost use Rattle.tool_text.specs.Telling.{memory_line};
 
 use crate::fault::{Fault, Refusal, of_picture};
@@ -66,6 +67,8 @@ where
         ∷ counts (K.failures sink) (K.failures result.1)
         ∷ counts (O.failures output.old) (O.failures output.new)
         ∷ counts (F.failures faults.old) (F.failures faults.new) ∷ []) }
+    // At status 1 a refusal was told by its line.
+    ensures told { result.0 ≡ 1 → TellsRefusal (λ _. ⊤) (F.held faults.old) (F.held faults.new) }
     ensures silent { result.0 ≡ 0 → faults.new ≡ faults.old }
     ensures memory { result.0 ≡ 4 → Appends (F.held faults.old) (F.held faults.new) memory_line }
 {

@@ -3,6 +3,7 @@ ghost use Rattle.std.specs.Prelude.{◌≡◌, ◌≢◌, ◌⊎◌};
 ghost use Rattle.std.specs.Io.KnownBytes.{Appends};
 ghost use Rattle.st_format.specs.Device.{Failed};
 ghost use Rattle.file_engines.specs.Fault.{HasWorked, IsDone, IsFailed, IsRefused, TellsFault};
+ghost use Rattle.file_engines.specs.Refusing.{TellsOutcome};
 ghost use Rattle.tool_text.specs.Telling.{memory_line};
 
 use crate::fault::Fault;
@@ -38,6 +39,7 @@ pub(crate) fn end<A: Allocator, F: ByteSink>(
     ensures done { result ≡ 0 → IsDone outcome }
     ensures silent { result ≡ 0 → faults.new ≡ faults.old }
     ensures refused { result ≡ 1 → IsRefused outcome }
+    ensures told { result ≡ 1 → TellsOutcome outcome (F.held faults.old) (F.held faults.new) }
     ensures failed { result ≡ 3
         → IsFailed outcome ⊎ Failed (F.failures faults.old) (F.failures faults.new) }
     ensures worked { result ≢ 3 → HasWorked outcome }

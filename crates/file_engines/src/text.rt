@@ -2,7 +2,9 @@
 ghost use Rattle.std.specs.Prelude.{◌≡◌, ◌≤◌, ◌<◌, ◌∷◌, [], length, vec_len, IfErr, IfOk};
 ghost use Rattle.std.specs.Prelude.{MatchOption};
 ghost use Rattle.std.specs.Io.KnownBytes.{Consumes, IsAtEnd};
-ghost use Rattle.file_engines.specs.Fault.{Accounts, counts};
+ghost use Rattle.file_engines.specs.Fault.{Accounts, IfRefused, counts};
+ghost use Rattle.file_engines.specs.Refused.{IsTextRefusal, SaysCaptureText};
+ghost use Rattle.file_engines.specs.Refusing.{OfRefusal};
 ghost use Rattle.file_engines.specs.Text.{GivesMore, GivesText};
 
 use crate::fault::{Fault, Refusal};
@@ -22,6 +24,9 @@ pub(crate) fn read_checked<A: Allocator + Copy, S: ByteSource>(
 ) -> Result<Vec<u8, A>, Fault>
     ensures read { IfOk result (λ said. GivesText 65535 (S.to_give source.old)
         (S.to_give source.new) said.items) }
+    ensures says { IfOk result (λ _. SaysCaptureText (S.to_give source.old)) }
+    ensures refusal { IfErr result (λ f. OfRefusal f
+        (IsTextRefusal too_long (S.to_give source.old))) }
     ensures failures { Accounts result (counts (S.failures source.old) (S.failures source.new)
         ∷ []) }
 {
@@ -43,6 +48,7 @@ pub(crate) fn read_text<A: Allocator, S: ByteSource>(
     ensures read { IfOk result (λ said. MatchOption said
         (GivesMore most (S.to_give source.old) (S.to_give source.new))
         (λ text. GivesText most (S.to_give source.old) (S.to_give source.new) text.items)) }
+    ensures unrefused { IfErr result (λ f. IfRefused f ⊥) }
     ensures failures { Accounts result (counts (S.failures source.old) (S.failures source.new)
         ∷ []) }
 {
@@ -65,6 +71,7 @@ fn read_past<A: Allocator, S: ByteSource>(
         (S.to_give source.new) octets.items) }
     ensures whole { IfOk result (λ octets. length octets.items ≤ most
         → IsAtEnd (S.to_give source.new)) }
+    ensures unrefused { IfErr result (λ f. IfRefused f ⊥) }
     ensures failures { Accounts result (counts (S.failures source.old) (S.failures source.new)
         ∷ []) }
 {

@@ -15,7 +15,7 @@ use Rattle.file_engines.specs.declared.fault.Fault.{Fault}
 use Rattle.path_merge.specs.Frames.{State}
 use Rattle.process_engine.specs.Reading.{SayReceivers}
 use Rattle.process_engine.specs.Refused.{IsPictureRefusal, IsReceiversRefusal, IsRefusedAt}
-use Rattle.process_engine.proofs.Refusals.{of_refusal_map}
+use Rattle.file_engines.proofs.Refusals.{of_refusal_map}
 
 -- what stands at a place, whatever stands for none
 pub same_at : {X : Type 0} (xs : List X) (k : ℕ) (d e : X) → k < length xs

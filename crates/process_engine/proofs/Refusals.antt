@@ -5,13 +5,10 @@ use Rattle.std.proofs.Common.{refl, ap, arith, subst, sym, ◌∙◌, ◌↔◌,
 use Rattle.std.proofs.lemmas.Bool.{false≢true}
 use Rattle.std.specs.List.{AllByRecursion}
 use Rattle.std.specs.Borrow.{Bor}
-use Rattle.std.specs.Io.KnownBytes.{Appends}
 use Rattle.std.specs.Str.Parse.{digits_value}
-use Rattle.file_engines.specs.Fault.{IfRefused, TellsFault}
-use Rattle.file_engines.specs.RefusalText.{refusal_text}
-use Rattle.file_engines.specs.Refusing.{OfRefusal, TellsRefusal}
+use Rattle.file_engines.specs.Refusing.{OfRefusal}
 use Rattle.file_engines.specs.declared.fault.Fault.{Fault}
-use Rattle.file_engines.specs.declared.fault.Fault.TheVariants.{Refused, Device, Memory}
+use Rattle.file_engines.specs.declared.fault.Fault.TheVariants.{Refused}
 use Rattle.file_engines.specs.declared.fault.Refusal.{Refusal}
 use Rattle.file_engines.specs.declared.fault.Refusal.TheVariants as why
 use Rattle.key_mix.specs.Sending.{IsSendFault}
@@ -25,10 +22,6 @@ use Rattle.st_format.specs.Member.{IsMember}
 use Rattle.st_format.specs.Picture.{FitsDepth, Values}
 use Rattle.st_format.specs.Raster.{Raster}
 use Rattle.tool_text.specs.Fields.{parted}
-use Rattle.tool_text.specs.Status.{status_number}
-use Rattle.tool_text.specs.Telling.{IsRefusalLine, TellsLine, memory_line}
-use Rattle.tool_text.specs.declared.status.Status.{Status}
-use Rattle.tool_text.specs.declared.status.Status.TheVariants as ended
 use Rattle.process_engine.specs.declared.process.Processing.{Processing}
 use Rattle.process_engine.specs.FillText.{IsFillText}
 use Rattle.process_engine.specs.Inputs.{AreFramesAt, AreValues, FitsFrames, IsFill, IsHeldFor}
@@ -39,22 +32,6 @@ use Rattle.process_engine.specs.Refused.{IsReceiversRefusal, IsRefusalOfRead, Is
 use Rattle.process_engine.specs.Refused.{IsSendRefusal, OfFormats, OfFrames, SaysJob}
 
 -- ---- what holds of a refusal
-
-pub of_refusal_map : {P Q : Refusal → Type 0} (f : Fault) → ((r : Refusal) → P r → Q r)
-    → OfRefusal f P → OfRefusal f Q
-of_refusal_map (Refused r) then is = then r is
-of_refusal_map Device then is = tt
-of_refusal_map Memory then is = tt
-
-pub none_refused : (P : Refusal → Type 0) (f : Fault) → IfRefused f ⊥ → OfRefusal f P
-none_refused P (Refused r) none = absurd none
-none_refused P Device none = tt
-none_refused P Memory none = tt
-
-pub if_err_map : {X E : Type 0} {P Q : E → Type 0} (r : Result X E) → ((e : E) → P e → Q e)
-    → IfErr r P → IfErr r Q
-if_err_map (Ok x) f p = p
-if_err_map (Err e) f p = f e p
 
 pub if_ok_both : {X E : Type 0} {P R : X → Type 0} {Q : Type 0} (r : Result X E)
     → ((x : X) → P x → Q → R x) → IfOk r P → OnOk r Q → IfOk r R
@@ -237,51 +214,3 @@ read_refused to_give states hold w why.ProcessJob is = absurd is.refused.holds.h
 read_refused to_give states hold w (why.State f) is = absurd is.refused.holds.holds
 read_refused to_give states hold w (why.Picture f) is = absurd is.refused.holds.holds
 read_refused to_give states hold w r is = is
-
--- ---- what is told
-
-line_told : (status : Status) (line : List ℕ) (result : Status) (old new : ℕ)
-    (held held' : Option (List ℕ)) → TellsLine status line result old new held held'
-    → status_number result ≡ 1 → (result ≡ status) × Appends held held' line
-line_told status line result old new held held' (inl is) one = (is.0, is.2)
-line_told status line result old new held held' (inr is) one =
-    let three : status_number result ≡ 3 = ap status_number is.0 in
-    absurd (omega (arith, one, three))
-
-told_of_line : (Is : Refusal → Type 0) (r : Refusal) → Is r → (status : Status) (line : List ℕ)
-    (held held' : Option (List ℕ)) → IsRefusalLine (refusal_text r) status line
-    → status_number status ≡ 1 → Appends held held' line → TellsRefusal Is held held'
-told_of_line Is r is status line held held' (inl told) one taken = record {
-  refusal = r;
-  is = is;
-  told = subst (λ (l : List ℕ). Appends held held' l) told.1 taken;
-}
-told_of_line Is r is status line held held' (inr told) one taken =
-    let four : status_number status ≡ 4 = ap status_number told.0 in
-    absurd (omega (arith, one, four))
-
--- where a run ends with status 1, a refusal was told
-pub refusal_told : (Is : Refusal → Type 0) (f : Fault) (result : Status) (old new : ℕ)
-    (held held' : Option (List ℕ)) → TellsFault f result old new held held'
-    → OfRefusal f Is → status_number result ≡ 1 → TellsRefusal Is held held'
-refusal_told Is (Refused r) result old new held held' tells is one =
-    let told = line_told tells.0 tells.1 result old new held held' tells.3 one in
-    told_of_line Is r is tells.0 tells.1 held held' tells.2
-    (sym (ap status_number told.0) ∙ one) told.1
-refusal_told Is Device result old new held held' tells is one =
-    let told = line_told tells.0 tells.1 result old new held held' tells.3 one in
-    let three : status_number result ≡ 3 = ap status_number (told.0 ∙ tells.2.0) in
-    absurd (omega (arith, one, three))
-refusal_told Is Memory result old new held held' tells is one =
-    let told = line_told tells.0 tells.1 result old new held held' tells.3 one in
-    let four : status_number result ≡ 4 = ap status_number (told.0 ∙ tells.2.0) in
-    absurd (omega (arith, one, four))
-
--- where memory was wanted the status isn't 1
-pub memory_told : (Is : Refusal → Type 0) (result : Status) (old new : ℕ)
-    (held held' : Option (List ℕ)) → TellsLine ended.Memory memory_line result old new held held'
-    → status_number result ≡ 1 → TellsRefusal Is held held'
-memory_told Is result old new held held' tells one =
-    let told = line_told ended.Memory memory_line result old new held held' tells one in
-    let four : status_number result ≡ 4 = ap status_number told.0 in
-    absurd (omega (arith, one, four))

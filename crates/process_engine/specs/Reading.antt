@@ -2,14 +2,9 @@
 use Rattle.std.specs.Prelude.{◌≡◌, ℕ, List, Option, None, Some, ⊤}
 use Rattle.std.specs.List.{AllZip}
 use Rattle.capture_file.specs.PictureFile.{picture_text}
-use Rattle.capture_file.specs.StateFile.{state_text}
 use Rattle.path_merge.specs.Frames.{State}
-use Rattle.receiver_file.specs.Saved.{kept_of}
+use Rattle.file_engines.specs.Merging.{SaysReceiver}
 use Rattle.st_format.specs.Picture.{Values}
-
--- a source was to give the file of a receiver, if it tells what it is to give
-abbrev pub SaysReceiver : Option (List ℕ) → State → Type 0
-SaysReceiver told r = (octets : List ℕ) → told ≡ Some octets → octets ≡ state_text (kept_of r)
 
 -- sources were to give those of receivers, one each
 abbrev pub SayReceivers : {S : Type 0} → (S → Option (List ℕ)) → List S → List State → Type 0

@@ -2,11 +2,12 @@
 ghost use Rattle.std.specs.Prelude.{◌≡◌, ◌<◌, ◌∷◌, [], ℕ, length, slice_index_or, sum_by};
 ghost use Rattle.std.specs.Prelude.{IfErr, IfOk};
 ghost use Rattle.file_engines.specs.Fault.{Accounts, counts};
+ghost use Rattle.file_engines.specs.Merging.{SaysReceiver};
 ghost use Rattle.file_engines.specs.Receiving.{failures_in};
 ghost use Rattle.file_engines.specs.Refusing.{OfRefusal};
 ghost use Rattle.process_engine.specs.Refused.{IsHeldRefusal, IsPictureRefusal};
 ghost use Rattle.process_engine.specs.Refused.{IsReceiversRefusal, IsRefusedAt};
-ghost use Rattle.process_engine.specs.Reading.{SayReceivers, SaysHeld, SaysPicture, SaysReceiver};
+ghost use Rattle.process_engine.specs.Reading.{SayReceivers, SaysHeld, SaysPicture};
 
 use capture_file::read_picture;
 use file_engines::{Fault, of_picture, read_receiver};

@@ -1,9 +1,10 @@
 //! The engine of `loop`.
 ghost use Rattle.std.specs.Prelude.{◌≡◌, ◌≢◌, ◌≤◌, ◌<◌, ◌+◌, ◌⊎◌, ◌∷◌, ℕ, List, [], min, length};
-ghost use Rattle.std.specs.Prelude.{IfOk, OnOk, Some};
+ghost use Rattle.std.specs.Prelude.{IfOk, OnOk, Some, ⊤};
 ghost use Rattle.std.specs.Io.KnownBytes.{Appends};
 ghost use Rattle.capture_file.specs.PictureFile.{picture_text};
 ghost use Rattle.file_engines.specs.Fault.{Accounts, NoneFailed, OneFailed, counts};
+ghost use Rattle.file_engines.specs.Refusing.{TellsRefusal};
 ghost use Rattle.packet_plan.specs.Plan.{IsFullPlan};
 ghost use Rattle.path_merge.specs.Frames.{Holds};
 ghost use Rattle.path_merge.specs.Took.{CountsAll};
@@ -87,6 +88,8 @@ where
     ensures looped { result ≡ 0 → Loops wanted.max_octets wanted.limit
         (L.DatagramSource.delivered link.old) (L.DatagramSource.delivered link.new)
         (S.to_give picture.old) (O.held output.old) (O.held output.new) }
+    // At status 1 a refusal was told by its line.
+    ensures told { result ≡ 1 → TellsRefusal (λ _. ⊤) (F.held faults.old) (F.held faults.new) }
     ensures silent { result ≡ 0 → faults.new ≡ faults.old }
     ensures memory { result ≡ 4 → Appends (F.held faults.old) (F.held faults.new) memory_line }
 {

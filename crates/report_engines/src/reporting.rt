@@ -2,6 +2,7 @@
 ghost use Rattle.std.specs.Prelude.{◌≡◌, ◌≢◌, ◌⊎◌, ◌∷◌, [], IfErr, OnOk};
 ghost use Rattle.std.specs.Io.KnownBytes.{Appends};
 ghost use Rattle.file_engines.specs.Fault.{Accounts, IfRefused, NoneFailed, OneFailed, counts};
+ghost use Rattle.file_engines.specs.Refusing.{IsStateRefusal, OfRefusal, TellsRefusal};
 ghost use Rattle.tool_text.specs.Telling.{memory_line};
 ghost use Rattle.report_engines.specs.Reporting.{Reports};
 
@@ -35,6 +36,9 @@ where
     ensures reported { result ≡ 0
         → Reports (S.to_give state.old) (O.held output.old) (O.held output.new) }
     ensures refused { result ≡ 1 → output.new ≡ output.old }
+    // What is told is the refusal of the file.
+    ensures told { result ≡ 1 → TellsRefusal (IsStateRefusal (S.to_give state.old))
+        (F.held faults.old) (F.held faults.new) }
     ensures silent { result ≡ 0 → faults.new ≡ faults.old }
     ensures memory { result ≡ 4 → Appends (F.held faults.old) (F.held faults.new) memory_line }
 {
@@ -56,6 +60,7 @@ where
     ensures reported { OnOk result
         (Reports (S.to_give state.old) (O.held output.old) (O.held output.new)) }
     ensures refused { IfErr result (λ f. IfRefused f (output.new ≡ output.old)) }
+    ensures refusal { IfErr result (λ f. OfRefusal f (IsStateRefusal (S.to_give state.old))) }
     ensures failures { Accounts result (counts (S.failures state.old) (S.failures state.new)
         ∷ counts (O.failures output.old) (O.failures output.new) ∷ []) }
 {

@@ -5,3 +5,4 @@ pub mod OctetLemmas
 pub mod WindowLemmas
 mod RehearsalLemmas
 mod FaultLemmas
+mod ToldLemmas

@@ -1,6 +1,7 @@
 -- Faults that end a run.
 use Rattle.std.specs.Prelude.{◌≡◌, ℕ, ◌⊎◌, List, ◌++◌, codes, Option, Result, MatchResult, ⊤}
 use Rattle.std.specs.Fmt.{decimal}
+use Rattle.std.specs.Io.KnownBytes.{Appends}
 use Rattle.st_format.specs.Device.{Failed}
 use Rattle.packet_numbers.specs.Numbers.{seq_map_fault_name, seq_map_fault_number}
 use Rattle.packet_plan.specs.Faults.{plan_fault_name, plan_fault_number}
@@ -91,3 +92,15 @@ abbrev pub TellsFault : Fault → Status → ℕ → ℕ → Option (List ℕ) �
 TellsFault f result old new held held' =
     (status : Status) × (line : List ℕ) × IsLineOf f status line
     × TellsLine status line result old new held held'
+
+-- neither a device's fault nor want of memory
+abbrev pub IsScriptRefusal : Fault → Type 0
+IsScriptRefusal fault.Device = ⊥
+IsScriptRefusal fault.Memory = ⊥
+IsScriptRefusal refusal = ⊤
+
+-- the refusal of a script was told by its line
+pub record TellsScriptRefusal (old new : Option (List ℕ)) : Type 0 where
+  pub fault : Fault
+  pub is : IsScriptRefusal fault
+  pub told : Appends old new (codes "st2110: " ++ fault_text fault ++ codes "\n")

@@ -5,7 +5,7 @@ ghost use Rattle.std.specs.Io.KnownBytes.{Appends};
 ghost use Rattle.path_merge.specs.Frames.{Holds};
 ghost use Rattle.st_format.specs.Device.{Failed};
 ghost use Rattle.st2110_tool.specs.FirstLines.{ReadsOpening, lines_left};
-ghost use Rattle.st2110_tool.specs.Fault.{Accounts, AccountsBoth, Reads};
+ghost use Rattle.st2110_tool.specs.Fault.{Accounts, AccountsBoth, Reads, TellsScriptRefusal};
 ghost use Rattle.tool_text.specs.Telling.{memory_line};
 ghost use Rattle.st2110_tool.specs.Forms.{IsTraceLine};
 ghost use Rattle.st2110_tool.specs.Script.{GivesAll, GivesScript};
@@ -49,6 +49,8 @@ where
         × (F.failures faults.new ≡ F.failures faults.old) }
     ensures whole { result ≡ 0 → GivesScript (S.to_give source.old) (S.to_give source.new) }
     ensures read { result ≡ 1 → GivesAll (S.to_give source.old) (S.to_give source.new) }
+    // At status 1 a refusal was told by its line.
+    ensures told { result ≡ 1 → TellsScriptRefusal (F.held faults.old) (F.held faults.new) }
     ensures silent { result ≡ 0 → faults.new ≡ faults.old }
     ensures memory { result ≡ 4 → Appends (F.held faults.old) (F.held faults.new) memory_line }
 {

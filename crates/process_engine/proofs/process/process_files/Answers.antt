@@ -1,7 +1,8 @@
 use Rattle.std.proofs.Common.{◌≡◌, rules, subst, sym}
 use Rattle.std.proofs.lemmas.Result.{err_from_is_err_and}
 use Rattle.process_engine.specs.Reading.{SayReceivers}
-use Rattle.process_engine.proofs.Refusals.{held_refused, if_err_map, of_refusal_map, read_refused}
+use Rattle.file_engines.proofs.Refusals.{if_err_map, of_refusal_map}
+use Rattle.process_engine.proofs.Refusals.{held_refused, read_refused}
 use Rattle.process_engine.proofs.Settling.{if_ok_map}
 use Rattle.process_engine.proofs.process.process_files.Goals as goal
 

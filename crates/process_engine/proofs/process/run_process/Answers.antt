@@ -1,6 +1,6 @@
 use Rattle.std.proofs.Common.{sym, ◌∙◌}
 use Rattle.process_engine.specs.Refused.{IsRunRefusal}
-use Rattle.process_engine.proofs.Refusals.{memory_told, refusal_told}
+use Rattle.file_engines.proofs.Refusals.{memory_told, refusal_told}
 use Rattle.process_engine.proofs.process.run_process.Goals as goal
 
 pub returns-in_default-clause-told : goal.returns-in_default-clause-told

@@ -4,8 +4,8 @@ use Rattle.key_mix.specs.Sending.{IsSendable, input_formats, settled_inputs}
 use Rattle.process_engine.specs.Inputs.{IsHeldFor, lent, raster_formats, settled_frames}
 use Rattle.process_engine.specs.Processing.{TakesJob}
 use Rattle.process_engine.specs.Refused.{HasNoFill, IsSendRefusal}
-use Rattle.process_engine.proofs.Refusals.{fill_refused, hold_refused, if_err_map, if_ok_both}
-use Rattle.process_engine.proofs.Refusals.{of_refusal_map, sent_refusal}
+use Rattle.file_engines.proofs.Refusals.{if_err_map, of_refusal_map}
+use Rattle.process_engine.proofs.Refusals.{fill_refused, hold_refused, if_ok_both, sent_refusal}
 use Rattle.process_engine.proofs.Settling.{fill_lent, some_lent}
 use Rattle.process_engine.proofs.process.send_frames.Goals as goal
 

@@ -1,7 +1,7 @@
 use Rattle.std.proofs.Common.{get_or}
 use Rattle.file_engines.proofs.SetSums.{set_counted}
 use Rattle.process_engine.proofs.FileRefusals.{same_at}
-use Rattle.process_engine.proofs.Refusals.{if_err_map, of_refusal_map}
+use Rattle.file_engines.proofs.Refusals.{if_err_map, of_refusal_map}
 use Rattle.process_engine.proofs.reading.read_at.Goals as goal
 
 pub returns-clause-failures : goal.returns-clause-failures

@@ -1,5 +1,6 @@
 use Rattle.std.proofs.Common.{◌≡◌, ◌+◌, [], ◌∷◌, ◌++◌, take, arith, ◌∙◌, rules, subst, sym}
-use Rattle.process_engine.specs.Reading.{SayReceivers, SaysReceiver}
+use Rattle.file_engines.specs.Merging.{SaysReceiver}
+use Rattle.process_engine.specs.Reading.{SayReceivers}
 use Rattle.std.proofs.lemmas.Result.{err_from_is_err_and}
 use Rattle.process_engine.proofs.FileRefusals.{first_refused}
 use Rattle.process_engine.proofs.Lists.{zip_next}

@@ -1,0 +1,17 @@
+use Rattle.std.proofs.Common.{sym, ◌∙◌}
+use Rattle.st2110_tool.proofs.ToldLemmas.{memory_told, refusal_told}
+use Rattle.st2110_tool.proofs.rehearse.run_rehearse.Goals as goal
+
+pub returns-in_default-clause-told : goal.returns-in_default-clause-told
+returns-in_default-clause-told g c = λ one.
+    memory_told c.tell_memory.result (g.F.ByteSink.failures c.args.faults.now)
+    (g.F.ByteSink.failures c.tell_memory.new.faults) (g.F.ByteSink.held c.args.faults.now)
+    (g.F.ByteSink.held c.tell_memory.new.faults) c.tell_memory.ensures
+    (sym c.number.ensures ∙ one)
+
+pub returns-clause-told : goal.returns-clause-told
+returns-clause-told g c = λ one.
+    refusal_told c.in-Err.fault c.tell.result (g.F.ByteSink.failures c.args.faults.now)
+    (g.F.ByteSink.failures c.tell.new.faults) (g.F.ByteSink.held c.args.faults.now)
+    (g.F.ByteSink.held c.tell.new.faults) c.tell.ensures
+    (sym c.number-in-Err.ensures ∙ one)
