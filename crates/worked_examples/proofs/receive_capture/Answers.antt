@@ -1,5 +1,4 @@
-use Rattle.std.proofs.Common.{◌≡◌, ◌∙◌, List, ℕ, Option, Some, ap, refl}
-use Rattle.st_format.specs.Turns.{Due}
+use Rattle.std.proofs.Common.{◌≡◌, ◌∙◌, List, ℕ, Option, Some, ap}
 use Rattle.capture_file.specs.declared.reader.Standing.{Standing}
 use Rattle.capture_file.specs.declared.reader.Standing.TheVariants.{Reads}
 use Rattle.capture_file.specs.Reader.{dues_in, turns_of}
