@@ -51,6 +51,12 @@ returns-in_default-clause-fault g c =
           (take l.index texts) l.invariant.taken c.in_default.ensures.fault;
     }
 
+pub returns-clause-fault : goal.returns-clause-fault
+returns-clause-fault g c = tt
+
+pub returns-clause-counted : goal.returns-clause-counted
+returns-clause-counted g c = c.loop-index.invariant.failures
+
 pub returns-clause-sent : goal.returns-clause-sent
 returns-clause-sent g c =
     let l = c.loop-index in
