@@ -3,12 +3,20 @@ ghost use Rattle.std.specs.Prelude.{◌≡◌, ◌≤◌};
 ghost use Rattle.sdp_format.specs.Views.{items_in};
 ghost use Rattle.sdp_format.specs.Reading.{seen, format_of, depth_named};
 ghost use Rattle.st_format.specs.Fields.{fields_of};
+ghost use Rattle.st_format.specs.Words.{sampling_named};
 
 use crate::fault::SdpFault;
 use crate::items::{Parameter, rate};
 use crate::lines::{begins, is_word};
 use crate::parameters::{is_interlaced, text_of};
 use st_format::{Depth, Format, Sampling, read_number};
+
+/// The sampling of a word.
+fn sampling_of(text: &[u8]) -> Option<Sampling>
+    ensures { result ≡ sampling_named text.now }
+{
+    Sampling::of_word(text)
+}
 
 /// The depth of a word.
 #[tactic(auto, unfolding(crate::specs::Reading::depth_named))]
@@ -33,9 +41,7 @@ fn depth_named(text: &[u8]) -> Option<Depth>
 pub(crate) fn format_of(list: &[Parameter<'_>]) -> Result<Format, SdpFault>
     ensures { seen fields_of result ≡ format_of (items_in list.now) }
 {
-    let sampling = Sampling::of_word(text_of(list, b"sampling")).ok_or(
-        SdpFault::UnsupportedSampling,
-    )?;
+    let sampling = sampling_of(text_of(list, b"sampling")).ok_or(SdpFault::UnsupportedSampling)?;
     let depth = depth_named(text_of(list, b"depth")).ok_or(SdpFault::UnsupportedDepth)?;
     if is_interlaced(list) {
         return Err(SdpFault::Interlaced);
