@@ -2,6 +2,9 @@ use Rattle.path_merge.proofs.TurnLemmas.{holds_any, holds_delivered}
 use Rattle.path_merge.specs.Took.{delivered_in}
 use Rattle.path_merge.proofs.receiving.receive.Goals as goal
 
+pub returns-clause-took : goal.returns-clause-took
+returns-clause-took g c = c.take_turns.ensures.took
+
 pub returns-clause-holds : goal.returns-clause-holds
 returns-clause-holds g c =
     let turns = g.S.DatagramSource.turns in
