@@ -48,24 +48,27 @@ fn reads_capture<A: Allocator + Copy>(
 fn reads_picture<A: Allocator>(global: Global, alloc: A) -> Result<Option<bool>, Fail> {
     let mut source = source(global, FILE)?;
     match read_picture(alloc, &mut source) {
-        Ok(picture) => Ok(Some(is_first(&picture)?)),
+        Ok(picture) => Ok(Some(is_first(&picture))),
         Err(FileFault::NoMemory) => Ok(None),
-        Err(fault) => Err(Fail::from(fault)),
+        Err(_) => Ok(Some(false)),
     }
 }
 
 /// Whether a picture has F1's format, and the octets of P0's file behind the format.
-fn is_packed<A: Allocator>(picture: &PackedPicture<A>) -> Result<bool, Fail> {
-    Ok(picture.format() == small()? && picture.octets() == &FILE[FILE.len().min(22)..])
+fn is_packed<A: Allocator>(picture: &PackedPicture<A>) -> bool {
+    match small() {
+        Ok(format) => picture.format() == format && picture.octets() == &FILE[FILE.len().min(22)..],
+        Err(_) => false,
+    }
 }
 
 /// Whether it is read so that its octets stay packed, or `None` where memory is wanted.
 fn reads_packed<A: Allocator>(global: Global, alloc: A) -> Result<Option<bool>, Fail> {
     let mut source = source(global, FILE)?;
     match read_packed_picture(&mut source, Vec::new(alloc)) {
-        Ok(picture) => Ok(Some(is_packed(&picture)?)),
+        Ok(picture) => Ok(Some(is_packed(&picture))),
         Err(FileFault::NoMemory) => Ok(None),
-        Err(fault) => Err(Fail::from(fault)),
+        Err(_) => Ok(Some(false)),
     }
 }
 

@@ -1,6 +1,7 @@
 //! The example held: a frame settled over a picture that was held.
 use crate::checks::met;
-use crate::pictures::{contested, has_values, small};
+use crate::pictures::{contested, has_values};
+use crate::small_format::small;
 use frame_assembly::{Base, Frame};
 use path_merge::Receiver;
 use st_format::Picture;

@@ -1,9 +1,8 @@
 //! Frames that are settled, run through a job and sent: the examples send-gain-one and held, a sink
 //! that fails at each put, and what is refused before anything is sent.
 use crate::checks::met;
-use crate::pictures::small;
 use crate::sending::{GROUPS, STAMP, WHOLE, has_taken, p0, sink};
-use crate::small_format::{LOWER, UPPER};
+use crate::small_format::{LOWER, UPPER, small};
 use frame_assembly::{Base, Frame};
 use key_mix::{Axis, Job, JobFault, JobInput, SendJobFault, WipeShape, send_job};
 use path_merge::Receiver;
@@ -72,13 +71,12 @@ fn sends(
     fails_in: u64,
     answer: Result<u32, SendJobFault>,
     datagrams: &[&str],
-) -> Result<bool, Fail> {
-    let Some(frame) = receiver.frame(900) else {
-        return Ok(false);
+) -> bool {
+    let (Some(frame), Ok(mut sink)) = (receiver.frame(900), sink(alloc, fails_in)) else {
+        return false;
     };
-    let mut sink = sink(alloc, fails_in)?;
-    let is_answered = send_black(alloc, &ONE, frame, size, &mut sink) == answer;
-    Ok(is_answered && has_taken(alloc, &sink, fails_in, datagrams))
+    send_black(alloc, &ONE, frame, size, &mut sink) == answer
+        && has_taken(alloc, &sink, fails_in, datagrams)
 }
 
 /// *send-gain-one*.
@@ -86,10 +84,10 @@ fn sends(
 fn send_gain_one(rt: HostRuntime) -> Result<(), Fail> {
     let (whole, half) = (merged(rt.alloc())?, upper(rt.alloc())?);
     let small = Err(SendJobFault::BadPacketSize);
-    met(&rt, sends(rt.alloc(), &whole, 42, 0, Ok(2), &[WHOLE])?);
-    met(&rt, sends(rt.alloc(), &half, 42, 0, Ok(2), &[UPPER_ALONE])?);
-    met(&rt, sends(rt.alloc(), &whole, 23, 0, small, &[])?);
-    met(&rt, sends(rt.alloc(), &whole, 9001, 0, small, &[])?);
+    met(&rt, sends(rt.alloc(), &whole, 42, 0, Ok(2), &[WHOLE]));
+    met(&rt, sends(rt.alloc(), &half, 42, 0, Ok(2), &[UPPER_ALONE]));
+    met(&rt, sends(rt.alloc(), &whole, 23, 0, small, &[]));
+    met(&rt, sends(rt.alloc(), &whole, 9001, 0, small, &[]));
     Ok(())
 }
 
@@ -116,11 +114,11 @@ fn held(rt: HostRuntime) -> Result<(), Fail> {
 #[test]
 fn failing_sinks(rt: HostRuntime) -> Result<(), Fail> {
     let receiver = merged(rt.alloc())?;
-    met(&rt, sends(rt.alloc(), &receiver, 24, 0, Ok(5), &GROUPS)?);
+    met(&rt, sends(rt.alloc(), &receiver, 24, 0, Ok(5), &GROUPS));
     for sent in 0..4u32 {
         let fault = Err(SendJobFault::Sink { sent });
         let (before, call) = (&GROUPS[..sent as usize], u64::from(sent) + 1);
-        met(&rt, sends(rt.alloc(), &receiver, 24, call, fault, before)?);
+        met(&rt, sends(rt.alloc(), &receiver, 24, call, fault, before));
     }
     Ok(())
 }
@@ -141,16 +139,19 @@ const REFUSED: [(Job, JobFault); 5] = [
     (Job::ToYcc422, JobFault::NotYcc444),
 ];
 
-/// Whether a job is refused, and nothing sent.
-fn is_refused(alloc: Global, job: &Job, fault: JobFault, size: u32) -> Result<bool, Fail> {
-    let receiver = upper(alloc)?;
-    let Some(frame) = receiver.frame(900) else {
-        return Ok(false);
+/// Whether a job of a receiver's frame is refused, and nothing sent.
+fn refuses(alloc: Global, receiver: &Receiver, job: &Job, fault: JobFault, size: u32) -> bool {
+    let (Some(frame), Ok(mut sink)) = (receiver.frame(900), sink(alloc, 1)) else {
+        return false;
     };
-    let mut sink = sink(alloc, 1)?;
-    let answer = send_black(alloc, job, frame, size, &mut sink);
-    let is_untouched = sink.failures() == 0 && sink.taken().is_empty();
-    Ok(answer == Err(SendJobFault::Job(fault)) && is_untouched)
+    send_black(alloc, job, frame, size, &mut sink) == Err(SendJobFault::Job(fault))
+        && sink.failures() == 0
+        && sink.taken().is_empty()
+}
+
+/// The same of *first-datagram*'s.
+fn is_refused(alloc: Global, job: &Job, fault: JobFault, size: u32) -> Result<bool, Fail> {
+    Ok(refuses(alloc, &upper(alloc)?, job, fault, size))
 }
 
 #[test]
@@ -168,14 +169,13 @@ pub fn has_sent<C: Allocator + Copy>(
     alloc: C,
     global: Global,
     receiver: &Receiver,
-) -> Result<Option<bool>, Fail> {
-    let Some(frame) = receiver.frame(900) else {
-        return Ok(Some(false));
+) -> Option<bool> {
+    let (Some(frame), Ok(mut sink)) = (receiver.frame(900), sink(global, 0)) else {
+        return Some(false);
     };
-    let mut sink = sink(global, 0)?;
     let answer = send_black(alloc, &ONE, frame, 42, &mut sink);
-    Ok(match answer {
+    match answer {
         Err(SendJobFault::Job(JobFault::NoMemory)) if sink.taken().is_empty() => None,
         _ => Some(answer == Ok(2) && has_taken(global, &sink, 0, &[WHOLE])),
-    })
+    }
 }

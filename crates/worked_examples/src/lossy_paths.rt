@@ -1,24 +1,14 @@
 //! Pictures that come back from two lossy copies (SMPTE ST 2022-7).
 use crate::checks::met;
-use crate::sending::{STAMP, runs_through, sent};
+use crate::sending::{STAMP, runs_through, sent, sink_of};
 use crate::small_format::counts;
 use frame_assembly::{Base, Frame};
 use packet_plan::Plan;
 use path_merge::Receiver;
-use st_format::memory::MemoryDatagrams;
 use st_format::{Cell, Depth, Format, Path, Picture, Sampling};
 use std::alloc::{AllocError, Allocator, Global};
 use std::process::Abort;
 use std::test::Fail;
-
-/// A sink of 128 slots of 200 octets.
-fn sink(alloc: Global) -> Result<MemoryDatagrams, AllocError> {
-    let mut slots = Vec::with_capacity(alloc, 128)?;
-    for _ in 0..128u32 {
-        slots.push(Vec::with_capacity(alloc, 200)?)?;
-    }
-    Ok(MemoryDatagrams::new(slots, 0))
-}
 
 /// Whether a datagram is lost on A: every third.
 fn is_lost_on_a(place: usize) -> bool {
@@ -157,7 +147,7 @@ fn first_segments(plan: &Plan) -> usize {
 fn comes_back(alloc: Global, picture: &Picture) -> Result<bool, Fail> {
     let format = picture.format();
     let plan = Plan::new(alloc, format, 200)?;
-    let mut sink = sink(alloc)?;
+    let mut sink = sink_of(alloc, 128, 200, 0)?;
     if !matches!(sent(&plan, picture, STAMP, &mut sink), Some(Ok(_))) {
         return Ok(false);
     }

@@ -2,17 +2,19 @@
 use crate::checks::{is_named, met};
 use path_merge::{MAX_COUNT, Noted, OpenedUnlike, SeqMap, SeqMapFault};
 use refusing::Refusing;
-use std::alloc::{AllocError, Allocator, Global};
+use std::alloc::{Allocator, Global};
 use std::process::Abort;
-use std::test::Fail;
 
-/// Whether the missing runs of a map are these.
+/// Whether the missing runs of a map are these, or `None` where memory is wanted for them.
 fn misses<A: Allocator, B: Allocator>(
     alloc: A,
     map: &SeqMap<B>,
     runs: &[(u32, u32)],
-) -> Result<bool, AllocError> {
-    Ok(map.missing_runs(alloc)?.as_slice() == runs)
+) -> Option<bool> {
+    match map.missing_runs(alloc) {
+        Ok(missing) => Some(missing.as_slice() == runs),
+        Err(_) => None,
+    }
 }
 
 /// Whether a map that notes these numbers answers so.
@@ -32,18 +34,26 @@ const NUMBERS: [(u32, Noted); 4] = [
     (2, Noted::Beyond),
 ];
 
-/// Whether a map's numbers run on past 2^32.
-fn runs_on<A: Allocator + Copy>(alloc: A) -> Result<bool, SeqMapFault> {
-    let mut map = SeqMap::open(alloc, 4_294_967_294, 4)?;
-    let is_noted = notes(&mut map, &NUMBERS);
+/// Whether a map's numbers run on past 2^32, or `None` where memory is wanted.
+fn runs_on<A: Allocator>(alloc: A, map: &mut SeqMap<A>) -> Option<bool> {
     let is_opened = map.first() == 4_294_967_294 && map.count() == 4;
-    Ok(is_noted && is_opened && misses(alloc, &map, &[(4_294_967_295, 1), (1, 1)])?)
+    let is_noted = notes(map, &NUMBERS);
+    let is_missing = misses(alloc, map, &[(4_294_967_295, 1), (1, 1)])?;
+    Some(is_opened && is_noted && is_missing)
+}
+
+/// Whether *number-map* is answered over an allocator, or `None` where it wants memory.
+pub fn is_mapped<A: Allocator + Copy>(alloc: A) -> Option<bool> {
+    match SeqMap::open(alloc, 4_294_967_294, 4) {
+        Ok(mut map) => runs_on(alloc, &mut map),
+        Err(SeqMapFault::NoMemory) => None,
+        Err(SeqMapFault::BadCount) => Some(false),
+    }
 }
 
 #[test]
-fn number_map(rt: HostRuntime) -> Result<(), Fail> {
-    met(&rt, runs_on(rt.alloc())?);
-    Ok(())
+fn number_map(rt: HostRuntime) {
+    met(&rt, is_mapped(rt.alloc()) == Some(true));
 }
 
 /// Why a map is not opened, or `None` where it is.
@@ -61,34 +71,34 @@ const COUNTS: [(u32, u32, Noted); 5] = [
     (1_048_576, 1_048_581, Noted::Beyond),
 ];
 
-/// What a map of 5 and on answers to a number.
-fn noted(alloc: Global, count: u32, number: u32) -> Result<Noted, SeqMapFault> {
-    let mut map = SeqMap::open(alloc, 5, count)?;
-    Ok(map.note(number))
+/// Whether a map of 5 and on answers so to a number.
+fn is_noted(alloc: Global, count: u32, number: u32, wanted: Noted) -> bool {
+    match SeqMap::open(alloc, 5, count) {
+        Ok(mut map) => map.note(number) == wanted,
+        Err(_) => false,
+    }
 }
 
 #[test]
-fn counts(rt: HostRuntime) -> Result<(), Fail> {
+fn counts(rt: HostRuntime) {
     for (count, number, wanted) in COUNTS {
-        met(&rt, noted(rt.alloc(), count, number)? == wanted);
+        met(&rt, is_noted(rt.alloc(), count, number, wanted));
     }
     met(&rt, MAX_COUNT == 1_048_576);
-    Ok(())
 }
 
 /// The faults that no script prints.
 #[test]
-fn faults(rt: HostRuntime) -> Result<(), Fail> {
+fn faults(rt: HostRuntime) {
     met(
         &rt,
-        is_named(rt.alloc(), &SeqMapFault::NoMemory, "NoMemory")?,
+        is_named(rt.alloc(), &SeqMapFault::NoMemory, "NoMemory"),
     );
-    met(&rt, is_named(rt.alloc(), &OpenedUnlike, "OpenedUnlike")?);
+    met(&rt, is_named(rt.alloc(), &OpenedUnlike, "OpenedUnlike"));
     met(
         &rt,
         SeqMapFault::NoMemory.number() == 1 && OpenedUnlike.number() == 1,
     );
-    Ok(())
 }
 
 /// The numbers of two paths.
@@ -96,56 +106,56 @@ const LEFT: [(u32, Noted); 2] = [(10, Noted::New), (73, Noted::New)];
 
 const RIGHT: [(u32, Noted); 3] = [(74, Noted::New), (12, Noted::New), (73, Noted::New)];
 
-/// Whether maps of other numbers are refused, which changes nothing.
-fn absorbs_none(alloc: Global, left: &mut SeqMap) -> Result<bool, SeqMapFault> {
-    let mut agree = true;
-    for (first, count) in [(11u32, 70u32), (10, 69)] {
-        let other = SeqMap::open(alloc, first, count)?;
-        agree &= left.absorb(&other) == Err(OpenedUnlike);
-        agree &= misses(alloc, left, &[(11, 62), (74, 6)])?;
+/// Whether a map of other numbers is refused, which changes nothing.
+fn is_refused(alloc: Global, left: &mut SeqMap, first: u32, count: u32) -> bool {
+    match SeqMap::open(alloc, first, count) {
+        Ok(other) => {
+            left.absorb(&other) == Err(OpenedUnlike)
+                && misses(alloc, left, &[(11, 62), (74, 6)]) == Some(true)
+        }
+        Err(_) => false,
     }
-    Ok(agree)
 }
 
 /// Whether a map takes in another, which stays as it is.
-fn is_union(alloc: Global, left: &mut SeqMap, right: &SeqMap) -> Result<bool, AllocError> {
-    let is_absorbed = left.absorb(right) == Ok(());
-    let is_joined = misses(alloc, left, &[(11, 1), (13, 60), (75, 5)])?;
-    let is_kept = misses(alloc, right, &[(10, 2), (13, 60), (75, 5)])?;
-    Ok(is_absorbed && is_joined && is_kept && left.note(74) == Noted::Again)
+fn is_union(alloc: Global, left: &mut SeqMap, right: &SeqMap) -> bool {
+    left.absorb(right) == Ok(())
+        && misses(alloc, left, &[(11, 1), (13, 60), (75, 5)]) == Some(true)
+        && misses(alloc, right, &[(10, 2), (13, 60), (75, 5)]) == Some(true)
+        && left.note(74) == Noted::Again
 }
 
 /// The union, or a refusal that changes nothing.
-fn absorbs(alloc: Global) -> Result<bool, SeqMapFault> {
-    let mut left = SeqMap::open(alloc, 10, 70)?;
-    let mut right = SeqMap::open(alloc, 10, 70)?;
-    let are_noted = notes(&mut left, &LEFT) && notes(&mut right, &RIGHT);
-    Ok(are_noted && absorbs_none(alloc, &mut left)? && is_union(alloc, &mut left, &right)?)
+fn absorbs(alloc: Global, left: &mut SeqMap, right: &mut SeqMap) -> bool {
+    notes(left, &LEFT)
+        && notes(right, &RIGHT)
+        && is_refused(alloc, left, 11, 70)
+        && is_refused(alloc, left, 10, 69)
+        && is_union(alloc, left, right)
 }
 
-#[test]
-fn two_paths(rt: HostRuntime) -> Result<(), Fail> {
-    met(&rt, absorbs(rt.alloc())?);
-    Ok(())
-}
-
-/// Whether *number-map* is answered over an allocator, or `None` where it wants memory.
-pub fn is_mapped<A: Allocator + Copy>(alloc: A) -> Option<bool> {
-    match runs_on(alloc) {
-        Ok(runs_on) => Some(runs_on),
-        Err(SeqMapFault::NoMemory) => None,
-        Err(SeqMapFault::BadCount) => Some(false),
+/// The same of two maps that are opened alike.
+fn maps_absorb(alloc: Global) -> bool {
+    match (SeqMap::open(alloc, 10, 70), SeqMap::open(alloc, 10, 70)) {
+        (Ok(mut left), Ok(mut right)) => absorbs(alloc, &mut left, &mut right),
+        _ => false,
     }
 }
 
+#[test]
+fn two_paths(rt: HostRuntime) {
+    met(&rt, maps_absorb(rt.alloc()));
+}
+
 /// Whether a map with six gaps misses them, or `None` where memory is wanted for them.
-pub fn misses_six<A: Allocator>(global: Global, alloc: A) -> Result<Option<bool>, SeqMapFault> {
-    let mut map = SeqMap::open(global, 0, 12)?;
-    let are_noted = notes(&mut map, &LOWER) && notes(&mut map, &UPPER);
-    Ok(match map.missing_runs(alloc) {
-        Ok(runs) => Some(are_noted && runs.as_slice() == GAPS.as_slice()),
-        Err(_) => None,
-    })
+pub fn misses_six<A: Allocator>(global: Global, alloc: A) -> Option<bool> {
+    match SeqMap::open(global, 0, 12) {
+        Ok(mut map) => {
+            let are_noted = notes(&mut map, &LOWER) && notes(&mut map, &UPPER);
+            Some(misses(alloc, &map, &GAPS)? && are_noted)
+        }
+        Err(_) => Some(false),
+    }
 }
 
 /// Whether a count is tested before memory is asked for.
@@ -162,21 +172,34 @@ const UPPER: [(u32, Noted); 3] = [(7, Noted::New), (9, Noted::New), (11, Noted::
 
 const GAPS: [(u32, u32); 6] = [(0, 1), (2, 1), (4, 1), (6, 1), (8, 1), (10, 1)];
 
+/// Whether a map notes numbers, and takes in another that notes others.
+fn are_joined<A: Allocator>(map: &mut SeqMap<A>, other: &mut SeqMap<A>) -> bool {
+    notes(map, &LOWER) && notes(other, &UPPER) && map.absorb(other) == Ok(())
+}
+
 /// Whether noting and absorbing ask for no memory.
-fn asks_for_none(refusing: &Refusing<Global>) -> Result<bool, SeqMapFault> {
-    let mut map = SeqMap::open(refusing, 0, 12)?;
-    let mut other = SeqMap::open(refusing, 0, 12)?;
+fn asks_for_none<A: Allocator>(
+    refusing: &Refusing<Global>,
+    map: &mut SeqMap<A>,
+    other: &mut SeqMap<A>,
+) -> bool {
     refusing.refuse(1);
-    let are_noted = notes(&mut map, &LOWER) && notes(&mut other, &UPPER);
-    let is_absorbed = map.absorb(&other) == Ok(()) && !refusing.was_met();
+    let are_joined = are_joined(map, other) && !refusing.was_met();
     refusing.refuse(0);
-    Ok(are_noted && is_absorbed && misses(refusing, &map, &GAPS)?)
+    are_joined && misses(refusing, map, &GAPS) == Some(true)
+}
+
+/// The same of two maps over this memory.
+fn maps_ask_for_none(refusing: &Refusing<Global>) -> bool {
+    match (SeqMap::open(refusing, 0, 12), SeqMap::open(refusing, 0, 12)) {
+        (Ok(mut map), Ok(mut other)) => asks_for_none(refusing, &mut map, &mut other),
+        _ => false,
+    }
 }
 
 #[test]
-fn growths(rt: HostRuntime) -> Result<(), Fail> {
+fn growths(rt: HostRuntime) {
     let refusing = Refusing::new(rt.alloc(), 1);
     met(&rt, tests_the_count(&refusing));
-    met(&rt, asks_for_none(&refusing)?);
-    Ok(())
+    met(&rt, maps_ask_for_none(&refusing));
 }

@@ -1,8 +1,10 @@
 //! The example packed-marks: a pgroup of twelve samples, one of them contested.
+use crate::checks::met;
 use crate::datagrams::{opened, takes};
 use frame_assembly::{Counts, Frame};
+use path_merge::Receiver;
 use st_format::{Cell, Depth, Format, Sampling};
-use std::process::Abort;
+use std::alloc::Global;
 use std::test::Fail;
 
 /// Two datagrams; in the second, Y of column 1 is 65 in place of 64.
@@ -42,15 +44,31 @@ fn has_row(frame: &Frame) -> bool {
         && frame.marks(0) == [0x8010u16].as_slice()
 }
 
+/// Whether a receiver's frame is the example's.
+fn is_frame(receiver: &Receiver) -> bool {
+    match receiver.frame(900) {
+        Some(frame) => frame.counts() == COUNTS && has_cells(frame) && has_row(frame),
+        None => false,
+    }
+}
+
+/// Whether a receiver takes both datagrams.
+fn takes_both(alloc: Global, receiver: &mut Receiver) -> bool {
+    takes(alloc, receiver, DATAGRAMS[0]) && takes(alloc, receiver, DATAGRAMS[1])
+}
+
+/// Whether the frame of a receiver that takes both datagrams is the example's.
+fn is_received(alloc: Global, format: Format) -> bool {
+    match opened(alloc, format) {
+        Ok(mut receiver) => takes_both(alloc, &mut receiver) && is_frame(&receiver),
+        Err(_) => false,
+    }
+}
+
 /// *packed-marks*.
 #[test]
 fn packed_marks(rt: HostRuntime) -> Result<(), Fail> {
     let format = Format::new(Sampling::Ycc444, Depth::D10, 4, 1, 60, 1)?;
-    let mut receiver = opened(rt.alloc(), format)?;
-    for digits in DATAGRAMS {
-        assert!(rt; takes(rt.alloc(), &mut receiver, digits));
-    }
-    let frame = receiver.frame(900).expect(&rt, "a frame");
-    assert!(rt; frame.counts() == COUNTS && has_cells(frame) && has_row(frame));
+    met(&rt, is_received(rt.alloc(), format));
     Ok(())
 }

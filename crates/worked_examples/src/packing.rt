@@ -2,6 +2,7 @@
 ghost use Rattle.std.specs.Prelude.{IsTrue};
 ghost use Rattle.pgroup_pack.specs.Packing.{Agree};
 
+use crate::checks::met;
 use pgroup_pack::{pack, sample_at, unpack};
 use st_format::{Depth, Format, Sampling};
 use std::alloc::{AllocError, Global};
@@ -115,8 +116,7 @@ const EXAMPLES: [(Sampling, Depth, &[u16], &[u8]); 4] = [
 fn packed_octets(rt: HostRuntime) -> Result<(), Fail> {
     for (sampling, depth, samples, octets) in EXAMPLES {
         let format = Format::new(sampling, depth, 4, 1, 60, 1)?;
-        let agree = is_packing(rt.alloc(), &format, samples, octets)?;
-        assert!(rt; agree, "{sampling:?} {depth:?}");
+        met(&rt, is_packing(rt.alloc(), &format, samples, octets)?);
     }
     Ok(())
 }

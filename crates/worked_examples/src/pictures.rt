@@ -1,17 +1,13 @@
 //! Pictures, timestamps, and frames that are copied and settled.
 use crate::checks::met;
 use crate::datagrams::{opened, takes};
+use crate::small_format::small;
 use frame_assembly::{Base, Frame};
 use path_merge::Receiver;
-use st_format::{Depth, Format, FormatFault, Picture, PictureFault, Sampling};
+use st_format::{Depth, Format, Picture, PictureFault, Sampling};
 use std::alloc::{AllocError, Allocator, Global};
 use std::process::Abort;
 use std::test::Fail;
-
-/// F1: 4:2:2, 8 bits, 4 by 2, 60 frames a second.
-pub fn small() -> Result<Format, FormatFault> {
-    Format::new(Sampling::Ycc422, Depth::D8, 4, 2, 60, 1)
-}
 
 /// A value of a picture, or `None` where there is no such position.
 pub fn value<A: Allocator>(
@@ -65,13 +61,19 @@ const TIMESTAMPS: [(u32, u32, u32); 5] = [
     (0, 4_294_967_295, 2_147_482_146),
 ];
 
-#[test]
-fn timestamps(rt: HostRuntime) -> Result<(), Fail> {
-    let format = Format::new(Sampling::Ycc422, Depth::D8, 1920, 1080, 60000, 1001)?;
-    for (base, k, timestamp) in TIMESTAMPS {
-        assert_eq!(rt; format.timestamp(base, k), timestamp, "{base} {k}");
+/// Whether it is so at 60000/1001.
+fn is_timestamp(base: u32, k: u32, timestamp: u32) -> bool {
+    match Format::new(Sampling::Ycc422, Depth::D8, 1920, 1080, 60000, 1001) {
+        Ok(format) => format.timestamp(base, k) == timestamp,
+        Err(_) => false,
     }
-    Ok(())
+}
+
+#[test]
+fn timestamps(rt: HostRuntime) {
+    for (base, k, timestamp) in TIMESTAMPS {
+        met(&rt, is_timestamp(base, k, timestamp));
+    }
 }
 
 /// The greatest value of each depth.
@@ -82,31 +84,48 @@ const MOST: [(Depth, u16); 4] = [
     (Depth::D16, 65535),
 ];
 
-/// Whether a picture of a depth is filled with its greatest value, 1 and 2.
-fn fills(alloc: Global, depth: Depth, most: u16) -> Result<bool, Fail> {
-    let format = Format::new(Sampling::Ycc422, depth, 4, 2, 60, 1)?;
-    let picture = Picture::new(alloc, format, [most, 1, 2])?;
+/// Whether a picture is filled with a value, 1 and 2.
+fn is_filled(picture: &Picture, most: u16) -> bool {
     let upper = [(0, 0, 2, Some(2)), (0, 1, 1, None)];
     let lower = [(1, 3, 0, Some(most)), (1, 2, 1, Some(1))];
-    Ok(has_values(&picture, &upper) && has_values(&picture, &lower))
+    has_values(picture, &upper) && has_values(picture, &lower)
 }
 
-/// Why there is no picture of F1 with a fill.
-fn fault_of<A: Allocator>(alloc: A, fill: [u16; 3]) -> Result<Option<PictureFault>, FormatFault> {
-    Ok(Picture::new(alloc, small()?, fill).err())
+/// Whether a picture of a format is.
+fn format_is_filled(alloc: Global, format: Format, most: u16) -> bool {
+    match Picture::new(alloc, format, [most, 1, 2]) {
+        Ok(picture) => is_filled(&picture, most),
+        Err(_) => false,
+    }
+}
+
+/// Whether a picture of a depth is filled with its greatest value, 1 and 2.
+fn fills(alloc: Global, depth: Depth, most: u16) -> bool {
+    match Format::new(Sampling::Ycc422, depth, 4, 2, 60, 1) {
+        Ok(format) => format_is_filled(alloc, format, most),
+        Err(_) => false,
+    }
+}
+
+/// Whether there is no picture of F1 with a fill, since a value of it is too large.
+fn is_too_large(alloc: Global, fill: [u16; 3]) -> bool {
+    match small() {
+        Ok(format) => {
+            Picture::new(alloc, format, fill).err() == Some(PictureFault::ValueTooLarge)
+        }
+        Err(_) => false,
+    }
 }
 
 /// A value has at most as many bits as a sample.
 #[test]
-fn greatest_values(rt: HostRuntime) -> Result<(), Fail> {
+fn greatest_values(rt: HostRuntime) {
     for (depth, most) in MOST {
-        assert!(rt; fills(rt.alloc(), depth, most)?, "{depth:?}");
+        met(&rt, fills(rt.alloc(), depth, most));
     }
     for fill in [[256, 0, 0], [0, 256, 0], [0, 0, 256]] {
-        let fault = fault_of(rt.alloc(), fill)?;
-        assert!(rt; fault == Some(PictureFault::ValueTooLarge), "{fill:?}");
+        met(&rt, is_too_large(rt.alloc(), fill));
     }
-    Ok(())
 }
 
 /// Sets one value, and no other: not where there is no position, and none that is too large.
@@ -123,17 +142,30 @@ const SET: [(u32, u32, u8, Option<u16>); 4] = [
 ];
 
 /// Whether a picture's copy is the same until a value is set.
-fn is_set_alone(alloc: Global, first: &Picture) -> Result<bool, PictureFault> {
-    let mut picture = first.try_copy(alloc)?;
-    let was_same = picture.same(first);
-    Ok(was_same && sets(&mut picture) && has_values(&picture, &SET) && !picture.same(first))
+fn is_set_alone(alloc: Global, first: &Picture) -> bool {
+    match first.try_copy(alloc) {
+        Ok(mut picture) => {
+            picture.same(first)
+                && sets(&mut picture)
+                && has_values(&picture, &SET)
+                && !picture.same(first)
+        }
+        Err(_) => false,
+    }
+}
+
+/// The same of a picture of F1.
+fn small_is_set_alone(alloc: Global, format: Format) -> bool {
+    match Picture::new(alloc, format, [16, 128, 129]) {
+        Ok(picture) => is_set_alone(alloc, &picture),
+        Err(_) => false,
+    }
 }
 
 /// One value changes, and no other.
 #[test]
 fn one_value(rt: HostRuntime) -> Result<(), Fail> {
-    let first = Picture::new(rt.alloc(), small()?, [16, 128, 129])?;
-    met(&rt, is_set_alone(rt.alloc(), &first)?);
+    met(&rt, small_is_set_alone(rt.alloc(), small()?));
     Ok(())
 }
 
@@ -153,11 +185,15 @@ pub fn contested(alloc: Global) -> Result<Receiver, Fail> {
 }
 
 /// Whether a frame's copy is the same, until it is cleared.
-fn copies(alloc: Global, frame: &Frame) -> Result<bool, AllocError> {
-    let mut copy = frame.try_copy(alloc)?;
-    let is_same = copy.same(frame);
-    copy.clear();
-    Ok(is_same && !copy.same(frame) && copy.counts().missing == 16)
+fn copies(alloc: Global, frame: &Frame) -> bool {
+    match frame.try_copy(alloc) {
+        Ok(mut copy) => {
+            let is_same = copy.same(frame);
+            copy.clear();
+            is_same && !copy.same(frame) && copy.counts().missing == 16
+        }
+        Err(_) => false,
+    }
 }
 
 /// A frame settled with 50, 128, 128.
@@ -173,13 +209,19 @@ pub const SETTLED: [(u32, u32, u8, Option<u16>); 4] = [
     (1, 2, 1, Some(128)),
 ];
 
-/// Whether a receiver's frame is copied, and settled to these values.
-fn copies_and_settles(alloc: Global, receiver: &Receiver) -> Result<bool, AllocError> {
+/// Whether a frame is settled to these values.
+fn settles(alloc: Global, frame: &Frame) -> bool {
+    match settled(alloc, frame) {
+        Ok(picture) => has_values(&picture, &SETTLED),
+        Err(_) => false,
+    }
+}
+
+/// Whether a receiver's frame is copied, and settled to them.
+fn copies_and_settles(alloc: Global, receiver: &Receiver) -> bool {
     match receiver.frame(900) {
-        Some(frame) => {
-            Ok(copies(alloc, frame)? && has_values(&settled(alloc, frame)?, &SETTLED))
-        }
-        None => Ok(false),
+        Some(frame) => copies(alloc, frame) && settles(alloc, frame),
+        None => false,
     }
 }
 
@@ -187,6 +229,6 @@ fn copies_and_settles(alloc: Global, receiver: &Receiver) -> Result<bool, AllocE
 #[test]
 fn copies_and_settling(rt: HostRuntime) -> Result<(), Fail> {
     let receiver = contested(rt.alloc())?;
-    met(&rt, copies_and_settles(rt.alloc(), &receiver)?);
+    met(&rt, copies_and_settles(rt.alloc(), &receiver));
     Ok(())
 }

@@ -6,21 +6,16 @@ use bt709_fixed::{ColourFault, RangeKind, gain, limit, to_ycc422, to_ycc444};
 use key_mix::{Axis, JobFault, WipeShape, key, wipe};
 use st_format::{Depth, Format, FormatFault, Picture, Sampling};
 use std::alloc::{Allocator, Global};
-use std::test::Fail;
 
 /// 8 by 2, 60 frames a second.
 fn wide(sampling: Sampling, depth: Depth) -> Result<Format, FormatFault> {
     Format::new(sampling, depth, 8, 2, 60, 1)
 }
 
-/// A picture of 8 by 2 of one colour.
-pub fn plain(
-    alloc: Global,
-    sampling: Sampling,
-    depth: Depth,
-    fill: [u16; 3],
-) -> Result<Picture, Fail> {
-    Ok(Picture::new(alloc, wide(sampling, depth)?, fill)?)
+/// A picture of 8 by 2 of one colour, where there is one.
+pub fn plain(alloc: Global, sampling: Sampling, depth: Depth, fill: [u16; 3]) -> Option<Picture> {
+    let format = wide(sampling, depth).ok()?;
+    Picture::new(alloc, format, fill).ok()
 }
 
 /// Whether all of a picture of 8 by 2 is of one format and colour.
@@ -30,8 +25,11 @@ pub fn is_plain<A: Allocator>(
     sampling: Sampling,
     depth: Depth,
     fill: [u16; 3],
-) -> Result<bool, Fail> {
-    Ok(picture.same(&plain(alloc, sampling, depth, fill)?))
+) -> bool {
+    match plain(alloc, sampling, depth, fill) {
+        Some(wanted) => picture.same(&wanted),
+        None => false,
+    }
 }
 
 /// *matrix*: a depth, R, G and B, and then Y, Cb and Cr.
@@ -42,46 +40,69 @@ const MATRIX: [(Depth, [u16; 3], [u16; 3]); 4] = [
     (Depth::D16, [0, 0, 65535], [4732, 65279, 29695]),
 ];
 
-/// Whether a picture of one colour has this colour by the matrix.
-fn is_matrixed(alloc: Global, depth: Depth, rgb: [u16; 3], ycc: [u16; 3]) -> Result<bool, Fail> {
-    let picture = plain(alloc, Sampling::Rgb, depth, rgb)?;
-    match to_ycc444(alloc, &picture) {
+/// Whether a picture has this colour by the matrix.
+fn has_matrix(alloc: Global, picture: &Picture, depth: Depth, ycc: [u16; 3]) -> bool {
+    match to_ycc444(alloc, picture) {
         Ok(made) => is_plain(alloc, &made, Sampling::Ycc444, depth, ycc),
-        Err(_) => Ok(false),
+        Err(_) => false,
     }
 }
 
+/// The same of a picture of one colour.
+fn is_matrixed(alloc: Global, depth: Depth, rgb: [u16; 3], ycc: [u16; 3]) -> bool {
+    match plain(alloc, Sampling::Rgb, depth, rgb) {
+        Some(picture) => has_matrix(alloc, &picture, depth, ycc),
+        None => false,
+    }
+}
+
+/// Whether a picture has no matrix, since it isn't RGB.
+fn is_not_rgb(alloc: Global, picture: &Picture) -> bool {
+    to_ycc444(alloc, picture).err() == Some(ColourFault::NotRgb)
+}
+
+/// Whether a picture isn't made 4:2:2, since it isn't 4:4:4.
+fn is_not_ycc444(alloc: Global, picture: &Picture) -> bool {
+    to_ycc422(alloc, picture).err() == Some(ColourFault::NotYcc444)
+}
+
 /// Whether only RGB has a matrix, and only 4:4:4 is made 4:2:2.
-fn refuses_colours(alloc: Global, sampling: Sampling) -> Result<bool, Fail> {
-    let picture = plain(alloc, sampling, Depth::D8, [16, 128, 128])?;
-    let (matrixed, thinned) = (to_ycc444(alloc, &picture), to_ycc422(alloc, &picture));
-    let refused = (
-        matrixed.err() == Some(ColourFault::NotRgb),
-        thinned.err() == Some(ColourFault::NotYcc444),
-    );
-    Ok(refused == (sampling != Sampling::Rgb, sampling != Sampling::Ycc444))
+fn refuses_colours(alloc: Global, sampling: Sampling) -> bool {
+    match plain(alloc, sampling, Depth::D8, [16, 128, 128]) {
+        Some(picture) => {
+            is_not_rgb(alloc, &picture) == (sampling != Sampling::Rgb)
+                && is_not_ycc444(alloc, &picture) == (sampling != Sampling::Ycc444)
+        }
+        None => false,
+    }
 }
 
 /// Whether 4:2:2 of a picture of 4:4:4 is of its colour.
-fn is_thinned(alloc: Global) -> Result<bool, Fail> {
-    let picture = plain(alloc, Sampling::Ycc444, Depth::D8, [235, 128, 128])?;
-    match to_ycc422(alloc, &picture) {
+fn thins(alloc: Global, picture: &Picture) -> bool {
+    match to_ycc422(alloc, picture) {
         Ok(made) => is_plain(alloc, &made, Sampling::Ycc422, Depth::D8, [235, 128, 128]),
-        Err(_) => Ok(false),
+        Err(_) => false,
+    }
+}
+
+/// The same of one colour.
+fn is_thinned(alloc: Global) -> bool {
+    match plain(alloc, Sampling::Ycc444, Depth::D8, [235, 128, 128]) {
+        Some(picture) => thins(alloc, &picture),
+        None => false,
     }
 }
 
 /// *matrix*.
 #[test]
-fn matrix(rt: HostRuntime) -> Result<(), Fail> {
+fn matrix(rt: HostRuntime) {
     for (depth, rgb, ycc) in MATRIX {
-        met(&rt, is_matrixed(rt.alloc(), depth, rgb, ycc)?);
+        met(&rt, is_matrixed(rt.alloc(), depth, rgb, ycc));
     }
     for sampling in [Sampling::Ycc422, Sampling::Ycc444, Sampling::Rgb] {
-        met(&rt, refuses_colours(rt.alloc(), sampling)?);
+        met(&rt, refuses_colours(rt.alloc(), sampling));
     }
-    met(&rt, is_thinned(rt.alloc())?);
-    Ok(())
+    met(&rt, is_thinned(rt.alloc()));
 }
 
 /// *key-rounds*: a depth, the lumas of a and b, the key's luma, and the luma of their mix.
@@ -92,42 +113,52 @@ const KEYS: [(Depth, u16, u16, u16, u16); 4] = [
     (Depth::D16, 4096, 60160, 32128, 32128),
 ];
 
-/// Whether two pictures of one colour have this luma between them, and a key of each sampling that
-/// has lumas gives it.
-fn is_keyed(
-    alloc: Global,
-    sampling: Sampling,
-    case: (Depth, u16, u16, u16, u16),
-) -> Result<bool, Fail> {
-    let (depth, of_a, of_b, of_key, wanted) = case;
-    let a = plain(alloc, Sampling::Ycc422, depth, [of_a, 1, of_a])?;
-    let b = plain(alloc, Sampling::Ycc422, depth, [of_b, 1, of_b])?;
-    let by = plain(alloc, sampling, depth, [of_key, 0, 0])?;
-    match key(alloc, &a, &b, &by) {
-        Ok(made) => is_plain(alloc, &made, Sampling::Ycc422, depth, [wanted, 1, wanted]),
-        Err(_) => Ok(false),
+/// Whether two pictures have a picture of this luma between them by a key.
+fn mixes(alloc: Global, a: &Picture, b: &Picture, by: &Picture, wanted: (Depth, u16)) -> bool {
+    let (depth, luma) = wanted;
+    match key(alloc, a, b, by) {
+        Ok(made) => is_plain(alloc, &made, Sampling::Ycc422, depth, [luma, 1, luma]),
+        Err(_) => false,
     }
 }
 
-/// The fault of a key of RGB, and of one of another depth.
-fn key_fault(alloc: Global, depth: Depth) -> Result<Option<JobFault>, Fail> {
-    let a = plain(alloc, Sampling::Rgb, Depth::D8, [16, 16, 16])?;
-    let by = plain(alloc, Sampling::Rgb, depth, [16, 16, 16])?;
-    Ok(key(alloc, &a, &a, &by).err())
+/// Whether two pictures of one colour have this luma between them, and a key of each sampling that
+/// has lumas gives it.
+fn is_keyed(alloc: Global, sampling: Sampling, case: (Depth, u16, u16, u16, u16)) -> bool {
+    let (depth, of_a, of_b, of_key, wanted) = case;
+    let (Some(a), Some(b), Some(by)) = (
+        plain(alloc, Sampling::Ycc422, depth, [of_a, 1, of_a]),
+        plain(alloc, Sampling::Ycc422, depth, [of_b, 1, of_b]),
+        plain(alloc, sampling, depth, [of_key, 0, 0]),
+    ) else {
+        return false;
+    };
+    mixes(alloc, &a, &b, &by, (depth, wanted))
+}
+
+/// Whether a key of RGB of a depth has this fault.
+fn is_no_key(alloc: Global, depth: Depth, fault: JobFault) -> bool {
+    let (Some(a), Some(by)) = (
+        plain(alloc, Sampling::Rgb, Depth::D8, [16, 16, 16]),
+        plain(alloc, Sampling::Rgb, depth, [16, 16, 16]),
+    ) else {
+        return false;
+    };
+    key(alloc, &a, &a, &by).err() == Some(fault)
 }
 
 /// *key-rounds*.
 #[test]
-fn key_rounds(rt: HostRuntime) -> Result<(), Fail> {
+fn key_rounds(rt: HostRuntime) {
     for case in KEYS {
-        met(&rt, is_keyed(rt.alloc(), Sampling::Ycc422, case)?);
-        met(&rt, is_keyed(rt.alloc(), Sampling::Ycc444, case)?);
+        met(&rt, is_keyed(rt.alloc(), Sampling::Ycc422, case));
+        met(&rt, is_keyed(rt.alloc(), Sampling::Ycc444, case));
     }
-    let of_rgb = key_fault(rt.alloc(), Depth::D8)?;
-    let of_ten = key_fault(rt.alloc(), Depth::D10)?;
-    met(&rt, of_rgb == Some(JobFault::KeyNotYcc));
-    met(&rt, of_ten == Some(JobFault::FormatsDiffer));
-    Ok(())
+    met(&rt, is_no_key(rt.alloc(), Depth::D8, JobFault::KeyNotYcc));
+    met(
+        &rt,
+        is_no_key(rt.alloc(), Depth::D10, JobFault::FormatsDiffer),
+    );
 }
 
 /// *wipe-weights*: position, softness, and the lumas of each row.
@@ -139,14 +170,14 @@ const WIPES: [(u32, u32, [u16; 8]); 4] = [
 ];
 
 /// The wipe from luma 16 to luma 235 of one sampling.
-fn wiped(
-    alloc: Global,
-    sampling: Sampling,
-    shape: WipeShape,
-) -> Result<Result<Picture, JobFault>, Fail> {
-    let a = plain(alloc, sampling, Depth::D8, [16, 128, 16])?;
-    let b = plain(alloc, sampling, Depth::D8, [235, 128, 235])?;
-    Ok(wipe(alloc, &a, &b, shape))
+fn wiped(alloc: Global, sampling: Sampling, shape: WipeShape) -> Option<Result<Picture, JobFault>> {
+    let (Some(a), Some(b)) = (
+        plain(alloc, sampling, Depth::D8, [16, 128, 16]),
+        plain(alloc, sampling, Depth::D8, [235, 128, 235]),
+    ) else {
+        return None;
+    };
+    Some(wipe(alloc, &a, &b, shape))
 }
 
 /// Whether both rows of a picture have these lumas, and the even columns these values of Cr.
@@ -165,7 +196,7 @@ pub fn has_lumas<A: Allocator>(picture: &Picture<A>, lumas: &[u16; 8]) -> bool {
 }
 
 /// Whether a wipe by columns has these lumas.
-fn is_wiped(alloc: Global, sampling: Sampling, case: (u32, u32, [u16; 8])) -> Result<bool, Fail> {
+fn is_wiped(alloc: Global, sampling: Sampling, case: (u32, u32, [u16; 8])) -> bool {
     let (position, soft, lumas) = case;
     let axis = Axis::Columns;
     let shape = WipeShape {
@@ -173,29 +204,39 @@ fn is_wiped(alloc: Global, sampling: Sampling, case: (u32, u32, [u16; 8])) -> Re
         position,
         soft,
     };
-    match wiped(alloc, sampling, shape)? {
-        Ok(made) => Ok(has_lumas(&made, &lumas)),
-        Err(_) => Ok(false),
+    match wiped(alloc, sampling, shape) {
+        Some(Ok(made)) => has_lumas(&made, &lumas),
+        _ => false,
     }
 }
 
+/// Values of *wipe-weights* by rows.
+const BY_ROWS: [(u32, u32, u8, Option<u16>); 4] = [
+    (0, 7, 0, Some(16)),
+    (0, 6, 2, Some(16)),
+    (1, 0, 0, Some(235)),
+    (1, 0, 2, Some(235)),
+];
+
 /// Whether a wipe by rows stands between the two rows.
-fn is_wiped_by_rows(alloc: Global) -> Result<bool, Fail> {
+fn is_wiped_by_rows(alloc: Global) -> bool {
     let shape = WipeShape {
         axis: Axis::Rows,
         position: 1,
         soft: 0,
     };
-    let values = [
-        (0, 7, 0, Some(16)),
-        (0, 6, 2, Some(16)),
-        (1, 0, 0, Some(235)),
-        (1, 0, 2, Some(235)),
-    ];
-    match wiped(alloc, Sampling::Ycc422, shape)? {
-        Ok(made) => Ok(has_values(&made, &values)),
-        Err(_) => Ok(false),
+    match wiped(alloc, Sampling::Ycc422, shape) {
+        Some(Ok(made)) => has_values(&made, &BY_ROWS),
+        _ => false,
     }
+}
+
+/// Whether a wipe is refused, since its position or softness is beyond the side.
+fn is_bad_wipe(alloc: Global, shape: WipeShape) -> bool {
+    matches!(
+        wiped(alloc, Sampling::Ycc422, shape),
+        Some(Err(JobFault::BadWipe))
+    )
 }
 
 /// Wipes that stand outside of 8 by 2.
@@ -224,17 +265,15 @@ const OUTSIDE: [WipeShape; 4] = [
 
 /// *wipe-weights*.
 #[test]
-fn wipe_weights(rt: HostRuntime) -> Result<(), Fail> {
+fn wipe_weights(rt: HostRuntime) {
     for case in WIPES {
-        met(&rt, is_wiped(rt.alloc(), Sampling::Ycc422, case)?);
-        met(&rt, is_wiped(rt.alloc(), Sampling::Ycc444, case)?);
+        met(&rt, is_wiped(rt.alloc(), Sampling::Ycc422, case));
+        met(&rt, is_wiped(rt.alloc(), Sampling::Ycc444, case));
     }
-    met(&rt, is_wiped_by_rows(rt.alloc())?);
+    met(&rt, is_wiped_by_rows(rt.alloc()));
     for shape in OUTSIDE {
-        let fault = wiped(rt.alloc(), Sampling::Ycc422, shape)?.err();
-        met(&rt, fault == Some(JobFault::BadWipe));
+        met(&rt, is_bad_wipe(rt.alloc(), shape));
     }
-    Ok(())
 }
 
 /// *gain-and-limit*: a depth, a fill, the gain, and the fill then. The second fill's Cb is at the
@@ -248,13 +287,14 @@ const GAINS: [(Depth, [u16; 3], u32, [u16; 3]); 5] = [
 ];
 
 /// Whether a picture of one colour has another by a gain.
-fn is_gained(alloc: Global, case: (Depth, [u16; 3], u32, [u16; 3])) -> Result<bool, Fail> {
+fn is_gained(alloc: Global, case: (Depth, [u16; 3], u32, [u16; 3])) -> bool {
     let (depth, fill, g, wanted) = case;
-    let picture = plain(alloc, Sampling::Ycc422, depth, fill)?;
-    if g > 16384 {
-        return Ok(false);
+    match plain(alloc, Sampling::Ycc422, depth, fill) {
+        Some(picture) => {
+            g <= 16384 && is_plain(alloc, &gain(picture, g), Sampling::Ycc422, depth, wanted)
+        }
+        None => false,
     }
-    is_plain(alloc, &gain(picture, g), Sampling::Ycc422, depth, wanted)
 }
 
 /// *gain-and-limit*: a sampling, the range, a fill of 10 bits, and the fill then.
@@ -298,23 +338,21 @@ const LIMITS: [(Sampling, RangeKind, [u16; 3], [u16; 3]); 6] = [
 ];
 
 /// Whether a picture of one colour has another within a range.
-fn is_limited(
-    alloc: Global,
-    case: (Sampling, RangeKind, [u16; 3], [u16; 3]),
-) -> Result<bool, Fail> {
+fn is_limited(alloc: Global, case: (Sampling, RangeKind, [u16; 3], [u16; 3])) -> bool {
     let (sampling, range, fill, wanted) = case;
-    let picture = plain(alloc, sampling, Depth::D10, fill)?;
-    is_plain(alloc, &limit(picture, range), sampling, Depth::D10, wanted)
+    match plain(alloc, sampling, Depth::D10, fill) {
+        Some(picture) => { is_plain(alloc, &limit(picture, range), sampling, Depth::D10, wanted) }
+        None => false,
+    }
 }
 
 /// *gain-and-limit*.
 #[test]
-fn gain_and_limit(rt: HostRuntime) -> Result<(), Fail> {
+fn gain_and_limit(rt: HostRuntime) {
     for case in GAINS {
-        met(&rt, is_gained(rt.alloc(), case)?);
+        met(&rt, is_gained(rt.alloc(), case));
     }
     for case in LIMITS {
-        met(&rt, is_limited(rt.alloc(), case)?);
+        met(&rt, is_limited(rt.alloc(), case));
     }
-    Ok(())
 }

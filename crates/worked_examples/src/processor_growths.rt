@@ -74,12 +74,12 @@ fn of_colour<A: Allocator>(
     global: Global,
     made: Result<Picture<A>, ColourFault>,
     to: Plain,
-) -> Result<Option<bool>, Fail> {
+) -> Option<bool> {
     let (sampling, depth, fill) = to;
     match made {
-        Ok(picture) => Ok(Some(is_plain(global, &picture, sampling, depth, fill)?)),
-        Err(ColourFault::NoMemory) => Ok(None),
-        Err(fault) => Err(Fail::from(fault)),
+        Ok(picture) => Some(is_plain(global, &picture, sampling, depth, fill)),
+        Err(ColourFault::NoMemory) => None,
+        Err(_) => Some(false),
     }
 }
 
@@ -88,24 +88,26 @@ fn of_job<A: Allocator>(
     global: Global,
     made: Result<Picture<A>, JobFault>,
     to: Plain,
-) -> Result<Option<bool>, Fail> {
+) -> Option<bool> {
     let (sampling, depth, fill) = to;
     match made {
-        Ok(picture) => Ok(Some(is_plain(global, &picture, sampling, depth, fill)?)),
-        Err(JobFault::NoMemory) => Ok(None),
-        Err(fault) => Err(Fail::from(fault)),
+        Ok(picture) => Some(is_plain(global, &picture, sampling, depth, fill)),
+        Err(JobFault::NoMemory) => None,
+        Err(_) => Some(false),
     }
 }
 
 impl Wanting for Single {
     fn answer(&self, global: Global, refusing: &Refusing<Global>) -> Result<Option<bool>, Fail> {
         let (sampling, depth, fill) = self.from;
-        let inputs = [plain(global, sampling, depth, fill)?];
-        match self.way {
-            Way::ToYcc444 => of_colour(global, to_ycc444(refusing, &inputs[0]), self.to),
-            Way::ToYcc422 => of_colour(global, to_ycc422(refusing, &inputs[0]), self.to),
-            Way::Run(job) => of_job(global, run_job(refusing, &job, &inputs), self.to),
-        }
+        let Some(input) = plain(global, sampling, depth, fill) else {
+            return Ok(Some(false));
+        };
+        Ok(match self.way {
+            Way::ToYcc444 => of_colour(global, to_ycc444(refusing, &input), self.to),
+            Way::ToYcc422 => of_colour(global, to_ycc422(refusing, &input), self.to),
+            Way::Run(job) => of_job(global, run_job(refusing, &job, &[input]), self.to),
+        })
     }
 }
 
@@ -147,30 +149,36 @@ fn of_wipe<A: Allocator>(made: Result<Picture<A>, JobFault>) -> Option<bool> {
 }
 
 /// A picture of 4:2:2, 8 bits, of one colour.
-fn of_eight_bits(global: Global, fill: [u16; 3]) -> Result<Picture, Fail> {
+fn of_eight_bits(global: Global, fill: [u16; 3]) -> Option<Picture> {
     plain(global, Sampling::Ycc422, Depth::D8, fill)
 }
 
 /// The wipe from luma 16 to luma 235.
-fn wiped(global: Global, refusing: &Refusing<Global>, is_job: bool) -> Result<Option<bool>, Fail> {
-    let inputs = [
-        of_eight_bits(global, [16, 128, 16])?,
-        of_eight_bits(global, [235, 128, 235])?,
-    ];
-    Ok(if is_job {
+fn wiped(global: Global, refusing: &Refusing<Global>, is_job: bool) -> Option<bool> {
+    let (Some(a), Some(b)) = (
+        of_eight_bits(global, [16, 128, 16]),
+        of_eight_bits(global, [235, 128, 235]),
+    ) else {
+        return Some(false);
+    };
+    let inputs = [a, b];
+    if is_job {
         of_wipe(run_job(refusing, &Job::Wipe(SHAPE), &inputs))
     } else {
         of_wipe(wipe(refusing, &inputs[0], &inputs[1], SHAPE))
-    })
+    }
 }
 
 /// The mix of luma 16 and 17 by luma 126, which is 17.
-fn keyed(global: Global, refusing: &Refusing<Global>, is_job: bool) -> Result<Option<bool>, Fail> {
-    let inputs = [
-        of_eight_bits(global, [16, 1, 16])?,
-        of_eight_bits(global, [17, 1, 17])?,
-        of_eight_bits(global, [126, 0, 0])?,
-    ];
+fn keyed(global: Global, refusing: &Refusing<Global>, is_job: bool) -> Option<bool> {
+    let (Some(a), Some(b), Some(by)) = (
+        of_eight_bits(global, [16, 1, 16]),
+        of_eight_bits(global, [17, 1, 17]),
+        of_eight_bits(global, [126, 0, 0]),
+    ) else {
+        return Some(false);
+    };
+    let inputs = [a, b, by];
     let made = if is_job {
         run_job(refusing, &Job::Key, &inputs)
     } else {
@@ -181,12 +189,12 @@ fn keyed(global: Global, refusing: &Refusing<Global>, is_job: bool) -> Result<Op
 
 impl Wanting for Mixed {
     fn answer(&self, global: Global, refusing: &Refusing<Global>) -> Result<Option<bool>, Fail> {
-        match self {
+        Ok(match self {
             Mixed::Wipe => wiped(global, refusing, false),
             Mixed::WipeJob => wiped(global, refusing, true),
             Mixed::Key => keyed(global, refusing, false),
             Mixed::KeyJob => keyed(global, refusing, true),
-        }
+        })
     }
 }
 
@@ -204,7 +212,7 @@ struct SendOne;
 
 impl Wanting for SendOne {
     fn answer(&self, global: Global, refusing: &Refusing<Global>) -> Result<Option<bool>, Fail> {
-        has_sent(refusing, global, &merged(global)?)
+        Ok(has_sent(refusing, global, &merged(global)?))
     }
 }
 

@@ -16,21 +16,28 @@ pub const FILE: &[u8] =
     b"S20RCV01\0\x08\0\x04\0\x02\0\0\0\x3C\0\0\0\x01\x60\0\0\0\0\0\x01\0\0\x03\x84\
     \x02\0\x02\x80\0\x80\x11\x01\x80\x12\x80\x13\0\0";
 
-/// A receiver of F1, payload type 96, any source and window [900], that took two datagrams.
-fn received(alloc: Global, first: &[u8], second: &[u8]) -> Result<Receiver, Fail> {
-    let mut receiver = opened(alloc, small()?)?;
-    if takes_octets(&mut receiver, first) && takes_octets(&mut receiver, second) {
-        Ok(receiver)
-    } else {
-        Err(Fail::from("refused"))
+/// Whether a receiver is saved as a file.
+fn saves<A: Allocator>(alloc: Global, receiver: &Receiver<A>, file: &[u8]) -> bool {
+    match Vec::with_capacity(alloc, 4096) {
+        Ok(room) => {
+            let mut sink = MemorySink::new(room, 7, 0);
+            save_receiver(&mut sink, receiver).is_ok() && sink.held() == file
+        }
+        Err(_) => false,
     }
 }
 
-/// A receiver's file.
-fn saved<A: Allocator>(alloc: Global, receiver: &Receiver<A>) -> Result<MemorySink, Fail> {
-    let mut sink = MemorySink::new(Vec::with_capacity(alloc, 4096)?, 7, 0);
-    save_receiver(&mut sink, receiver)?;
-    Ok(sink)
+/// Whether a receiver of F1, payload type 96, any source and window [900] that takes two datagrams
+/// is saved as the file.
+fn saves_both(alloc: Global, format: Format, first: &[u8], second: &[u8]) -> bool {
+    match opened(alloc, format) {
+        Ok(mut receiver) => {
+            takes_octets(&mut receiver, first)
+                && takes_octets(&mut receiver, second)
+                && saves(alloc, &receiver, FILE)
+        }
+        Err(_) => false,
+    }
 }
 
 /// What octets are read as, of which a call gives at most `piece`.
@@ -47,28 +54,28 @@ fn load<A: Allocator + Copy>(
 
 #[test]
 fn contested_state_file(rt: HostRuntime) -> Result<(), Fail> {
-    let receiver = received(rt.alloc(), UPPER, ANOTHER)?;
-    let turned = received(rt.alloc(), ANOTHER, UPPER)?;
+    let format = small()?;
     met(
         &rt,
-        FILE.len() == 47 && saved(rt.alloc(), &receiver)?.held() == FILE,
+        FILE.len() == 47 && saves_both(rt.alloc(), format, UPPER, ANOTHER),
     );
-    met(&rt, saved(rt.alloc(), &turned)?.held() == FILE);
+    met(&rt, saves_both(rt.alloc(), format, ANOTHER, UPPER));
     Ok(())
 }
 
 /// Whether the file is read in such pieces, and written the same again.
-fn comes_again(alloc: Global, piece: usize) -> Result<bool, Fail> {
-    let receiver = load(alloc, alloc, FILE, piece)??;
-    Ok(is_contested(&receiver) && saved(alloc, &receiver)?.held() == FILE)
+fn comes_again(alloc: Global, piece: usize) -> bool {
+    match load(alloc, alloc, FILE, piece) {
+        Ok(Ok(receiver)) => is_contested(&receiver) && saves(alloc, &receiver, FILE),
+        _ => false,
+    }
 }
 
 #[test]
-fn state_file_again(rt: HostRuntime) -> Result<(), Fail> {
+fn state_file_again(rt: HostRuntime) {
     for piece in [1usize, 3, 4096] {
-        met(&rt, comes_again(rt.alloc(), piece)?);
+        met(&rt, comes_again(rt.alloc(), piece));
     }
-    Ok(())
 }
 
 /// Whether a receiver is the file's: *contested*'s, which keeps no refusal.
@@ -79,23 +86,42 @@ fn is_contested<A: Allocator>(receiver: &Receiver<A>) -> bool {
 /// Whether the file is read as its receiver over an allocator, or `None` where memory is wanted.
 pub fn is_loaded<A: Allocator + Copy>(global: Global, alloc: A) -> Result<Option<bool>, Fail> {
     match load(alloc, global, FILE, 3)? {
-        Ok(receiver) => Ok(Some(
-            is_contested(&receiver) && saved(global, &receiver)?.held() == FILE,
-        )),
+        Ok(receiver) => Ok(Some(is_contested(&receiver) && saves(global, &receiver, FILE))),
         Err(FileFault::NoMemory) => Ok(None),
-        Err(fault) => Err(Fail::from(fault)),
+        Err(_) => Ok(Some(false)),
     }
 }
 
-/// Whether the file of a receiver that took nothing says its depth, and is read and written again.
-fn says_depth(alloc: Global, depth: Depth, bits: u8) -> Result<bool, Fail> {
-    let format = Format::new(Sampling::Ycc422, depth, 4, 2, 60, 1)?;
-    let receiver = Receiver::open(alloc, format, 96, Some(7), &[900, 901])?;
-    let file = saved(alloc, &receiver)?;
-    let octets = file.held();
-    let again = load(alloc, alloc, octets, 3)??;
-    let is_told = octets.len() > 9 && octets[9] == bits && again.ssrc() == Some(7);
-    Ok(is_told && saved(alloc, &again)?.held() == octets)
+/// Whether the file of a receiver of source 7 says its depth, and is read and written again.
+fn tells_depth(alloc: Global, file: &[u8], bits: u8) -> bool {
+    match load(alloc, alloc, file, 3) {
+        Ok(Ok(again)) => {
+            file.len() > 9
+                && file[9] == bits
+                && again.ssrc() == Some(7)
+                && saves(alloc, &again, file)
+        }
+        _ => false,
+    }
+}
+
+/// The same of a receiver that is saved.
+fn saved_tells_depth(alloc: Global, receiver: &Receiver, bits: u8) -> bool {
+    match Vec::with_capacity(alloc, 4096) {
+        Ok(room) => {
+            let mut sink = MemorySink::new(room, 7, 0);
+            save_receiver(&mut sink, receiver).is_ok() && tells_depth(alloc, sink.held(), bits)
+        }
+        Err(_) => false,
+    }
+}
+
+/// The same of a receiver of a format that took nothing.
+fn says_depth(alloc: Global, format: Format, bits: u8) -> bool {
+    match Receiver::open(alloc, format, 96, Some(7), &[900, 901]) {
+        Ok(receiver) => saved_tells_depth(alloc, &receiver, bits),
+        Err(_) => false,
+    }
 }
 
 const DEPTHS: [(Depth, u8); 4] = [
@@ -108,7 +134,8 @@ const DEPTHS: [(Depth, u8); 4] = [
 #[test]
 fn state_file_of_each_depth(rt: HostRuntime) -> Result<(), Fail> {
     for (depth, bits) in &DEPTHS {
-        met(&rt, says_depth(rt.alloc(), *depth, *bits)?);
+        let format = Format::new(Sampling::Ycc422, *depth, 4, 2, 60, 1)?;
+        met(&rt, says_depth(rt.alloc(), format, *bits));
     }
     Ok(())
 }

@@ -4,7 +4,6 @@ use sdp_format::{Range, Sdp, SdpFault, fmtp_text, read_sdp};
 use st_format::{Depth, Sampling};
 use std::alloc::{Allocator, Global};
 use std::process::Abort;
-use std::test::Fail;
 
 pub const CAMERA: &str =
     "v=0\no=- 1 1 IN IP4 192.0.2.1\ns=Camera 1\nt=0 0\na=group:DUP primary secondary\nm=video 5004 RTP/AVP 112\nc=IN IP4 239.0.0.1/32\na=rtpmap:112 raw/90000\na=fmtp:112 sampling=YCbCr-4:2:2; width=1920; height=1080; exactframerate=60000/1001; depth=10; TCS=SDR; colorimetry=BT709; PM=2110GPM; SSN=ST2110-20:2017; TP=2110TPN; \na=mid:primary\nm=video 5006 RTP/AVP 112\nc=IN IP4 239.0.0.2/32\na=rtpmap:112 raw/90000\na=fmtp:112 sampling=YCbCr-4:2:2; width=1920; height=1080; exactframerate=60000/1001; depth=10; TCS=SDR; colorimetry=BT709; PM=2110GPM; SSN=ST2110-20:2017; TP=2110TPN; \na=mid:secondary\n";
@@ -35,20 +34,28 @@ fn is_camera(sdp: &Sdp) -> bool {
         && sdp.colorimetry.as_slice() == b"BT709".as_slice()
 }
 
+/// Whether a description is the camera's, and written as its line.
+fn is_camera_line(alloc: Global, sdp: &Sdp) -> bool {
+    match fmtp_text(alloc, sdp) {
+        Ok(line) => is_camera(sdp) && line.as_slice() == LINE.as_bytes(),
+        Err(_) => false,
+    }
+}
+
 /// Whether the camera's text is read as its fields, and they are written as its line.
-fn is_read(alloc: Global) -> Result<bool, SdpFault> {
-    let sdp = read_sdp(alloc, CAMERA.as_bytes())?;
-    let line = fmtp_text(alloc, &sdp)?;
-    Ok(is_camera(&sdp) && line.as_slice() == LINE.as_bytes())
+fn is_read(alloc: Global) -> bool {
+    match read_sdp(alloc, CAMERA.as_bytes()) {
+        Ok(sdp) => is_camera_line(alloc, &sdp),
+        Err(_) => false,
+    }
 }
 
 /// The fields of the camera; and the one fault that no text has.
 #[test]
-fn the_camera(rt: HostRuntime) -> Result<(), Fail> {
-    met(&rt, is_read(rt.alloc())?);
+fn the_camera(rt: HostRuntime) {
+    met(&rt, is_read(rt.alloc()));
     met(&rt, SdpFault::NoMemory.number() == 1);
-    met(&rt, is_named(rt.alloc(), &SdpFault::NoMemory, "NoMemory")?);
-    Ok(())
+    met(&rt, is_named(rt.alloc(), &SdpFault::NoMemory, "NoMemory"));
 }
 
 /// Whether `read_sdp` and `fmtp_text` give the camera's line over an allocator, or `None` where one

@@ -232,7 +232,7 @@ pub fn is_slid<A: Allocator + Copy>(alloc: A) -> Result<Option<bool>, Fail> {
     match Pair::of(alloc, small()?, unlike, &[900]) {
         Ok(mut pair) => Ok(Some(pair.follows_all(&SLIDE))),
         Err(OpenFault::NoMemory) => Ok(None),
-        Err(fault) => Err(Fail::from(fault)),
+        Err(_) => Ok(Some(false)),
     }
 }
 
