@@ -1,6 +1,6 @@
 //! Runs over devices that move one octet a call, and that fail at each of their calls in turn.
 use crate::checks::met;
-use crate::running::{Failing, Ran, SOUND, run};
+use crate::running::{Failing, Ran, SOUND, run_on};
 use std::alloc::AllocError;
 use std::process::Abort;
 use std::test::Fail;
@@ -29,9 +29,9 @@ fn ended(run: &Ran, status: u8, printed: &[u8], told: &[u8]) -> bool {
 
 #[test]
 fn one_octet_a_call(rt: HostRuntime) -> Result<(), Fail> {
-    let sound = run(&rt, rt.alloc(), SCRIPT, 1, SOUND)?;
+    let sound = run_on(rt.alloc(), rt.alloc(), SCRIPT, 1, SOUND)?;
     met(&rt, ended(&sound, 0, OUTPUT, b""));
-    let refused = run(&rt, rt.alloc(), REFUSED, 1, SOUND)?;
+    let refused = run_on(rt.alloc(), rt.alloc(), REFUSED, 1, SOUND)?;
     met(&rt, ended(&refused, 1, REFUSED_OUTPUT, TOLD));
     Ok(())
 }
@@ -51,7 +51,7 @@ fn ends_at_source(
         source: call,
         ..SOUND
     };
-    let run = run(rt, rt.alloc(), SCRIPT, 1, failing)?;
+    let run = run_on(rt.alloc(), rt.alloc(), SCRIPT, 1, failing)?;
     Ok(if is_done {
         run.status == 0
     } else {
@@ -79,7 +79,7 @@ fn ends_at_output(
         output: call,
         ..SOUND
     };
-    let run = run(rt, rt.alloc(), SCRIPT, 1, failing)?;
+    let run = run_on(rt.alloc(), rt.alloc(), SCRIPT, 1, failing)?;
     Ok(if is_done {
         run.status == 0
     } else {
@@ -105,7 +105,7 @@ fn faults_that_fail(rt: HostRuntime) -> Result<(), Fail> {
             faults: call,
             ..SOUND
         };
-        let run = run(&rt, rt.alloc(), REFUSED, 1, failing)?;
+        let run = run_on(rt.alloc(), rt.alloc(), REFUSED, 1, failing)?;
         met(&rt, ended(&run, 3, REFUSED_OUTPUT, first(TOLD, call - 1)));
     }
     Ok(())

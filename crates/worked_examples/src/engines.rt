@@ -12,7 +12,7 @@ use std::process::Abort;
 use std::test::Fail;
 
 /// An engine, run once.
-#[derive(Clone, Copy, Debug, PartialEq, Eq)]
+#[derive(Clone, Copy)]
 enum Engine {
     Migrate,
     Receive,

@@ -38,6 +38,17 @@ pub fn file_sink(global: Global) -> Result<MemorySink, AllocError>
     Ok(MemorySink::new(Vec::with_capacity(global, 4096)?, 7, 0))
 }
 
+/// A run that has written nothing yet, and whose status is to come.
+fn begun(global: Global) -> Result<FileRun, AllocError> {
+    let (written, printed, told) = (file_sink(global)?, file_sink(global)?, file_sink(global)?);
+    Ok(FileRun {
+        status: u8::MAX,
+        written,
+        printed,
+        told,
+    })
+}
+
 /// A run of `migrate` of a capture with a text.
 pub fn migrate_on<A: Allocator + Copy>(
     global: Global,
@@ -46,25 +57,17 @@ pub fn migrate_on<A: Allocator + Copy>(
     capture: &[u8],
 ) -> Result<FileRun, AllocError> {
     let (mut text, mut capture) = (source(global, text)?, source(global, capture)?);
-    let (mut written, mut printed, mut told) = (
-        file_sink(global)?,
-        file_sink(global)?,
-        file_sink(global)?,
-    );
+    let mut run = begun(global)?;
     let status = run_migrate(
         alloc,
         &mut text,
         &mut capture,
-        &mut written,
-        &mut printed,
-        &mut told,
+        &mut run.written,
+        &mut run.printed,
+        &mut run.told,
     );
-    Ok(FileRun {
-        status,
-        written,
-        printed,
-        told,
-    })
+    run.status = status;
+    Ok(run)
 }
 
 /// A run of `merge` of a receiver's file with itself.
@@ -74,25 +77,17 @@ pub fn merge_on<A: Allocator + Copy>(
     file: &[u8],
 ) -> Result<FileRun, AllocError> {
     let (mut left, mut right) = (source(global, file)?, source(global, file)?);
-    let (mut written, mut printed, mut told) = (
-        file_sink(global)?,
-        file_sink(global)?,
-        file_sink(global)?,
-    );
+    let mut run = begun(global)?;
     let status = run_merge(
         alloc,
         &mut left,
         &mut right,
-        &mut written,
-        &mut printed,
-        &mut told,
+        &mut run.written,
+        &mut run.printed,
+        &mut run.told,
     );
-    Ok(FileRun {
-        status,
-        written,
-        printed,
-        told,
-    })
+    run.status = status;
+    Ok(run)
 }
 
 /// A run of `receive` of one capture, of any source. The list of captures stands in memory of
@@ -111,26 +106,18 @@ pub fn receive_on<A: Allocator + Copy>(
     };
     let mut captures = Vec::with_capacity(alloc, 1)?;
     captures.push(source(global, capture)?)?;
-    let (mut written, mut printed, mut told) = (
-        file_sink(global)?,
-        file_sink(global)?,
-        file_sink(global)?,
-    );
+    let mut run = begun(global)?;
     let status = run_receive(
         alloc,
         wanted,
         &mut Some(source(global, text)?),
         &mut captures,
-        &mut written,
-        &mut printed,
-        &mut told,
+        &mut run.written,
+        &mut run.printed,
+        &mut run.told,
     );
-    Ok(FileRun {
-        status,
-        written,
-        printed,
-        told,
-    })
+    run.status = status;
+    Ok(run)
 }
 
 /// A run of `send` of one picture, without an SDP text.

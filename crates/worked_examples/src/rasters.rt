@@ -116,13 +116,14 @@ fn samples_in(format: &Format, groups: u32) -> usize {
 }
 
 impl Play {
-    fn new(alloc: Global, format: Format, of_picture: u64, seed: u64) -> Result<Play, Fail> {
-        Ok(Play {
+    /// What has taken nothing yet, where there is memory for it.
+    fn new(alloc: Global, format: Format, of_picture: u64, seed: u64) -> Option<Play> {
+        Some(Play {
             format,
-            picture: picture(alloc, format, of_picture)?,
+            picture: picture(alloc, format, of_picture).ok()?,
             generator: Generator::new(seed),
-            receiver: opened(alloc, format)?,
-            cells: Vec::from_elem(alloc, Cell::Missing, format.sample_count())?,
+            receiver: opened(alloc, format).ok()?,
+            cells: Vec::from_elem(alloc, Cell::Missing, format.sample_count()).ok()?,
             is_sound: true,
         })
     }
@@ -241,14 +242,13 @@ impl Play {
     }
 }
 
-/// The datagram of some segments.
-fn written(alloc: Global, offers: &[Offer]) -> Result<Vec<u8>, AllocError> {
-    let mut datagram = Vec::new(alloc);
-    begin(&mut datagram)?;
+/// Writes the datagram of some segments.
+fn write(datagram: &mut Vec<u8>, offers: &[Offer]) -> Result<(), AllocError> {
+    begin(datagram)?;
     for (place, offer) in offers.iter().enumerate() {
         let goes_on = place + 1 < offers.len();
         put_head(
-            &mut datagram,
+            datagram,
             offer.octets.len(),
             offer.row,
             offer.offset,
@@ -258,6 +258,13 @@ fn written(alloc: Global, offers: &[Offer]) -> Result<Vec<u8>, AllocError> {
     for offer in offers {
         datagram.extend_from_slice(offer.octets.as_slice())?;
     }
+    Ok(())
+}
+
+/// The datagram of some segments.
+fn written(alloc: Global, offers: &[Offer]) -> Result<Vec<u8>, AllocError> {
+    let mut datagram = Vec::new(alloc);
+    write(&mut datagram, offers)?;
     Ok(datagram)
 }
 
@@ -331,19 +338,6 @@ fn cells_agree(frame: &Frame, cells: &[Cell]) -> bool {
     agree && number == cells.len()
 }
 
-/// A receiver of a picture that has taken so many datagrams, drawn from a seed.
-fn played(
-    alloc: Global,
-    format: Format,
-    of_picture: u64,
-    seed: u64,
-    datagrams: u32,
-) -> Result<Play, Fail> {
-    let mut play = Play::new(alloc, format, of_picture, seed)?;
-    play.run(alloc, datagrams)?;
-    Ok(play)
-}
-
 /// Whether two receivers agree with their models, and the left one again with the right one merged
 /// into it.
 fn agree(alloc: Global, left: &mut Play, right: &Play) -> Result<bool, AllocError> {
@@ -352,11 +346,29 @@ fn agree(alloc: Global, left: &mut Play, right: &Play) -> Result<bool, AllocErro
     Ok(apart && left.agrees() && left.has_rows(alloc)?)
 }
 
-/// Whether two receivers of one picture agree so.
-fn merges(alloc: Global, format: Format, seed: u64, datagrams: u32) -> Result<bool, Fail> {
-    let mut left = played(alloc, format, seed, seed.wrapping_add(1), datagrams)?;
-    let right = played(alloc, format, seed, seed.wrapping_add(2), datagrams)?;
-    Ok(agree(alloc, &mut left, &right)?)
+/// Whether two receivers of one picture agree so, once each has taken so many datagrams.
+fn runs_agree(
+    alloc: Global,
+    left: &mut Play,
+    right: &mut Play,
+    datagrams: u32,
+) -> Result<bool, AllocError> {
+    left.run(alloc, datagrams)?;
+    right.run(alloc, datagrams)?;
+    agree(alloc, left, right)
+}
+
+/// The same of receivers that are opened, and datagrams that are drawn from a seed.
+fn merges(alloc: Global, format: Format, seed: u64, datagrams: u32) -> bool {
+    match (
+        Play::new(alloc, format, seed, seed.wrapping_add(1)),
+        Play::new(alloc, format, seed, seed.wrapping_add(2)),
+    ) {
+        (Some(mut left), Some(mut right)) => {
+            runs_agree(alloc, &mut left, &mut right, datagrams) == Ok(true)
+        }
+        _ => false,
+    }
 }
 
 /// Small frames and frames of some blocks of groups, from few datagrams to many.
@@ -365,8 +377,8 @@ fn kind_merges(alloc: Global, sampling: Sampling, depth: Depth) -> Result<bool, 
     let wide = Format::new(sampling, depth, 840, 2, 60, 1)?;
     let mut agree = true;
     for round in 0..20u32 {
-        agree &= merges(alloc, small, u64::from(round), 1 + round)?;
-        agree &= merges(alloc, wide, u64::from(round), 1 + round)?;
+        agree &= merges(alloc, small, u64::from(round), 1 + round);
+        agree &= merges(alloc, wide, u64::from(round), 1 + round);
     }
     Ok(agree)
 }
@@ -382,6 +394,6 @@ fn each_sampling_and_depth(rt: HostRuntime) -> Result<(), Fail> {
 #[test]
 fn full_size(rt: HostRuntime) -> Result<(), Fail> {
     let format = Format::new(Sampling::Ycc422, Depth::D10, 1920, 1080, 60, 1)?;
-    met(&rt, merges(rt.alloc(), format, 5, 4000)?);
+    met(&rt, merges(rt.alloc(), format, 5, 4000));
     Ok(())
 }

@@ -1,6 +1,6 @@
 //! *rehearsal-script* through the engine: failing devices, and wants of memory.
 use crate::checks::met;
-use crate::running::{Failing, Ran, SOUND, play_script, play_script_on};
+use crate::running::{Failing, Ran, SOUND, play_script_on};
 use std::alloc::{AllocError, Allocator, Global};
 use std::process::Abort;
 use std::test::Fail;
@@ -52,7 +52,7 @@ fn ends_by_a_device(run: &Ran) -> bool {
 
 /// The script's run over devices that move one octet a call.
 fn slow(rt: &(impl Abort + AllocGlobal), failing: Failing) -> Result<Ran, AllocError> {
-    play_script(rt, rt.alloc(), SCRIPT.as_bytes(), 1, failing)
+    play_script_on(rt.alloc(), rt.alloc(), SCRIPT.as_bytes(), 1, failing)
 }
 
 /// Whether the source's fault at a call ends the run.

@@ -2,7 +2,7 @@
 //! and through the engine.
 use crate::checks::met;
 use crate::datagrams::{begin, opened, put_head, takes_octets};
-use crate::running::{Ran, SOUND, report};
+use crate::running::{Ran, SOUND, report_on};
 use crate::small_format::{ANOTHER, UPPER, small};
 use frame_report::write_report;
 use path_merge::Receiver;
@@ -58,26 +58,29 @@ fn sink(alloc: Global, piece: usize) -> Result<MemorySink, AllocError> {
     Ok(MemorySink::new(room, piece.max(1), 0))
 }
 
-/// *contested*'s receiver.
-fn contested(alloc: Global) -> Result<Receiver, Fail> {
-    let mut receiver = opened(alloc, small()?)?;
-    if takes_octets(&mut receiver, UPPER) && takes_octets(&mut receiver, ANOTHER) {
-        Ok(receiver)
-    } else {
-        Err(Fail::from("refused"))
+/// Whether a receiver's report is this text.
+fn tells(alloc: Global, receiver: &Receiver, text: &[u8]) -> bool {
+    match sink(alloc, 7) {
+        Ok(mut sink) => write_report(receiver, &mut sink).is_ok() && sink.held() == text,
+        Err(_) => false,
     }
 }
 
-/// Whether a receiver's report is this text.
-fn tells(alloc: Global, receiver: &Receiver, text: &[u8]) -> Result<bool, Fail> {
-    let mut sink = sink(alloc, 7)?;
-    write_report(receiver, &mut sink)?;
-    Ok(sink.held() == text)
+/// Whether that of *contested*'s receiver is.
+fn contested_is_told(alloc: Global, format: Format) -> bool {
+    match opened(alloc, format) {
+        Ok(mut receiver) => {
+            takes_octets(&mut receiver, UPPER)
+                && takes_octets(&mut receiver, ANOTHER)
+                && tells(alloc, &receiver, REPORT)
+        }
+        Err(_) => false,
+    }
 }
 
 #[test]
 fn contested_report(rt: HostRuntime) -> Result<(), Fail> {
-    met(&rt, tells(rt.alloc(), &contested(rt.alloc())?, REPORT)?);
+    met(&rt, contested_is_told(rt.alloc(), small()?));
     Ok(())
 }
 
@@ -108,20 +111,14 @@ fn names(sampling: Sampling) -> (&'static str, &'static str, &'static str) {
     }
 }
 
-/// A receiver of two rows of four pixel groups, of which only the second of the lower row came,
-/// twice: its first and its last sample are contested.
-fn received(alloc: Global, kind: Kind) -> Result<Receiver, Fail> {
-    let (sampling, depth, columns, octets, _) = kind;
-    let format = Format::new(sampling, depth, u32::from(columns) * 4, 2, 60, 1)?;
-    let mut receiver = opened(alloc, format)?;
+/// Whether a receiver of two rows of four pixel groups takes the second of the lower row twice: its
+/// first and its last sample are contested then.
+fn takes_twice(alloc: Global, receiver: &mut Receiver, kind: Kind) -> Result<bool, AllocError> {
+    let (_, _, columns, octets, _) = kind;
     let place = (1, u16::from(columns));
     let first = group(alloc, place, octets, (0, 0))?;
     let second = group(alloc, place, octets, (0x80, 1))?;
-    if takes_octets(&mut receiver, &first) && takes_octets(&mut receiver, &second) {
-        Ok(receiver)
-    } else {
-        Err(Fail::from("refused"))
-    }
+    Ok(takes_octets(receiver, &first) && takes_octets(receiver, &second))
 }
 
 /// The first two lines of its report.
@@ -161,34 +158,43 @@ fn contested_text(alloc: Global, kind: Kind) -> Result<String, AllocError> {
     )
 }
 
-/// Whether the report of this kind's receiver is as its lines say.
-fn is_told(alloc: Global, kind: Kind) -> Result<bool, Fail> {
-    let receiver = received(alloc, kind)?;
+/// Whether its report is as its lines say.
+fn has_lines(alloc: Global, receiver: &Receiver, kind: Kind) -> Result<bool, AllocError> {
     let mut text = counts_text(alloc, kind)?;
     text.push_str(missing_text(alloc, kind)?.as_str())?;
     text.push_str(contested_text(alloc, kind)?.as_str())?;
-    tells(alloc, &receiver, text.as_bytes())
+    Ok(tells(alloc, receiver, text.as_bytes()))
+}
+
+/// The same of a receiver of this kind's format.
+fn is_told(alloc: Global, format: Format, kind: Kind) -> bool {
+    match opened(alloc, format) {
+        Ok(mut receiver) => {
+            takes_twice(alloc, &mut receiver, kind) == Ok(true)
+                && has_lines(alloc, &receiver, kind) == Ok(true)
+        }
+        Err(_) => false,
+    }
 }
 
 #[test]
 fn each_kind(rt: HostRuntime) -> Result<(), Fail> {
     for kind in &GROUPS {
-        met(&rt, is_told(rt.alloc(), *kind)?);
+        let (sampling, depth, columns, _, _) = *kind;
+        let format = Format::new(sampling, depth, u32::from(columns) * 4, 2, 60, 1)?;
+        met(&rt, is_told(rt.alloc(), format, *kind));
     }
     Ok(())
 }
 
-/// A receiver of a row of 8192 pixel groups, of which each second one came.
-fn each_second(alloc: Global) -> Result<Receiver, Fail> {
-    let format = Format::new(Sampling::Ycc444, Depth::D8, 8192, 1, 60, 1)?;
-    let mut receiver = opened(alloc, format)?;
+/// Whether a receiver of a row of 8192 pixel groups takes each second one.
+fn takes_each_second(alloc: Global, receiver: &mut Receiver) -> Result<bool, AllocError> {
+    let mut are_taken = true;
     for pair in 0..4096u16 {
         let datagram = group(alloc, (0, pair * 2), 3, (1, 1))?;
-        if !takes_octets(&mut receiver, &datagram) {
-            return Err(Fail::from("refused"));
-        }
+        are_taken &= takes_octets(receiver, &datagram);
     }
-    Ok(receiver)
+    Ok(are_taken)
 }
 
 /// How many lines a text has.
@@ -196,14 +202,33 @@ fn lines(text: &[u8]) -> usize {
     text.iter().filter(|octet| **octet == b'\n').count()
 }
 
+/// Whether a text begins and ends as the report of such a row, and has its lines.
+fn is_wide(text: &[u8]) -> bool {
+    text.starts_with(WIDE_HEAD) && text.ends_with(WIDE_TAIL) && lines(text) == 4099
+}
+
+/// Whether a receiver's report is such a text.
+fn tells_widely(alloc: Global, receiver: &Receiver) -> bool {
+    match sink(alloc, 4096) {
+        Ok(mut sink) => write_report(receiver, &mut sink).is_ok() && is_wide(sink.held()),
+        Err(_) => false,
+    }
+}
+
+/// Whether that of a receiver that takes each second group is.
+fn each_second_is_told(alloc: Global, format: Format) -> bool {
+    match opened(alloc, format) {
+        Ok(mut receiver) => {
+            takes_each_second(alloc, &mut receiver) == Ok(true) && tells_widely(alloc, &receiver)
+        }
+        Err(_) => false,
+    }
+}
+
 #[test]
 fn each_second_group(rt: HostRuntime) -> Result<(), Fail> {
-    let receiver = each_second(rt.alloc())?;
-    let mut sink = sink(rt.alloc(), 4096)?;
-    write_report(&receiver, &mut sink)?;
-    let text = sink.held();
-    let has_ends = text.starts_with(WIDE_HEAD) && text.ends_with(WIDE_TAIL);
-    met(&rt, has_ends && lines(text) == 4099);
+    let format = Format::new(Sampling::Ycc444, Depth::D8, 8192, 1, 60, 1)?;
+    met(&rt, each_second_is_told(rt.alloc(), format));
     Ok(())
 }
 
@@ -214,9 +239,9 @@ fn ended(run: &Ran, status: u8, printed: &[u8], told: &[u8]) -> bool {
 
 #[test]
 fn report_of_a_file(rt: HostRuntime) -> Result<(), Fail> {
-    let whole = report(&rt, rt.alloc(), FILE, 5, SOUND)?;
+    let whole = report_on(rt.alloc(), rt.alloc(), FILE, 5, SOUND)?;
     met(&rt, ended(&whole, 0, REPORT, b""));
-    let cut = report(&rt, rt.alloc(), &FILE[..20], 5, SOUND)?;
+    let cut = report_on(rt.alloc(), rt.alloc(), &FILE[..20], 5, SOUND)?;
     met(&rt, ended(&cut, 1, b"", b"st2110: state 5 Truncated\n"));
     Ok(())
 }

@@ -1,11 +1,10 @@
-//! A run of the engine over devices in memory.
+//! Runs of the engines of the text over devices in memory of `global`.
 use st_format::memory::{MemorySink, MemorySource};
 use st2110_tool::{run_rehearse, run_report, run_sdp, run_trace};
 use std::alloc::{AllocError, Allocator, Global};
-use std::process::Abort;
 
 /// At which of its calls each device fails, counted from 1; 0 means that it does not.
-#[derive(Clone, Copy, Debug)]
+#[derive(Clone, Copy)]
 pub struct Failing {
     pub source: u64,
     pub output: u64,
@@ -40,17 +39,6 @@ impl Ran {
 }
 
 /// Runs a script over devices that move at most `piece` octets a call.
-pub fn run<A: Allocator + Copy>(
-    rt: &(impl Abort + AllocGlobal),
-    alloc: A,
-    script: &[u8],
-    piece: usize,
-    failing: Failing,
-) -> Result<Ran, AllocError> {
-    run_on(rt.alloc(), alloc, script, piece, failing)
-}
-
-/// The same, where the devices stand in memory of `global`.
 pub fn run_on<A: Allocator + Copy>(
     global: Global,
     alloc: A,
@@ -58,31 +46,14 @@ pub fn run_on<A: Allocator + Copy>(
     piece: usize,
     failing: Failing,
 ) -> Result<Ran, AllocError> {
-    let piece = piece.max(1);
-    let octets = Vec::from_slice(global, script)?;
-    let mut source = MemorySource::new(octets, piece, failing.source);
-    let mut output = sink(global, piece, failing.output)?;
-    let mut faults = sink(global, piece, failing.faults)?;
-    let status = run_trace(alloc, &mut source, &mut output, &mut faults);
-    Ok(Ran {
-        status,
-        output,
-        faults,
-    })
+    let mut source = source(global, script, piece, failing.source)?;
+    let mut ran = begun(global, piece, failing)?;
+    let status = run_trace(alloc, &mut source, &mut ran.output, &mut ran.faults);
+    ran.status = status;
+    Ok(ran)
 }
 
 /// Reads an SDP text over devices that move at most `piece` octets a call.
-pub fn describe<A: Allocator + Copy>(
-    rt: &(impl Abort + AllocGlobal),
-    alloc: A,
-    text: &[u8],
-    piece: usize,
-    failing: Failing,
-) -> Result<Ran, AllocError> {
-    describe_on(rt.alloc(), alloc, text, piece, failing)
-}
-
-/// The same, where the devices stand in memory of `global`.
 pub fn describe_on<A: Allocator + Copy>(
     global: Global,
     alloc: A,
@@ -90,31 +61,14 @@ pub fn describe_on<A: Allocator + Copy>(
     piece: usize,
     failing: Failing,
 ) -> Result<Ran, AllocError> {
-    let piece = piece.max(1);
-    let octets = Vec::from_slice(global, text)?;
-    let mut source = MemorySource::new(octets, piece, failing.source);
-    let mut output = sink(global, piece, failing.output)?;
-    let mut faults = sink(global, piece, failing.faults)?;
-    let status = run_sdp(alloc, &mut source, &mut output, &mut faults);
-    Ok(Ran {
-        status,
-        output,
-        faults,
-    })
+    let mut source = source(global, text, piece, failing.source)?;
+    let mut ran = begun(global, piece, failing)?;
+    let status = run_sdp(alloc, &mut source, &mut ran.output, &mut ran.faults);
+    ran.status = status;
+    Ok(ran)
 }
 
 /// Plays the schedule of a script over devices that move at most `piece` octets a call.
-pub fn play_script<A: Allocator + Copy>(
-    rt: &(impl Abort + AllocGlobal),
-    alloc: A,
-    script: &[u8],
-    piece: usize,
-    failing: Failing,
-) -> Result<Ran, AllocError> {
-    play_script_on(rt.alloc(), alloc, script, piece, failing)
-}
-
-/// The same, where the devices stand in memory of `global`.
 pub fn play_script_on<A: Allocator + Copy>(
     global: Global,
     alloc: A,
@@ -122,31 +76,14 @@ pub fn play_script_on<A: Allocator + Copy>(
     piece: usize,
     failing: Failing,
 ) -> Result<Ran, AllocError> {
-    let piece = piece.max(1);
-    let octets = Vec::from_slice(global, script)?;
-    let mut source = MemorySource::new(octets, piece, failing.source);
-    let mut output = sink(global, piece, failing.output)?;
-    let mut faults = sink(global, piece, failing.faults)?;
-    let status = run_rehearse(alloc, &mut source, &mut output, &mut faults);
-    Ok(Ran {
-        status,
-        output,
-        faults,
-    })
+    let mut source = source(global, script, piece, failing.source)?;
+    let mut ran = begun(global, piece, failing)?;
+    let status = run_rehearse(alloc, &mut source, &mut ran.output, &mut ran.faults);
+    ran.status = status;
+    Ok(ran)
 }
 
 /// Reports of a receiver's file over devices that move at most `piece` octets a call.
-pub fn report<A: Allocator + Copy>(
-    rt: &(impl Abort + AllocGlobal),
-    alloc: A,
-    file: &[u8],
-    piece: usize,
-    failing: Failing,
-) -> Result<Ran, AllocError> {
-    report_on(rt.alloc(), alloc, file, piece, failing)
-}
-
-/// The same, where the devices stand in memory of `global`.
 pub fn report_on<A: Allocator + Copy>(
     global: Global,
     alloc: A,
@@ -154,14 +91,30 @@ pub fn report_on<A: Allocator + Copy>(
     piece: usize,
     failing: Failing,
 ) -> Result<Ran, AllocError> {
-    let piece = piece.max(1);
-    let octets = Vec::from_slice(global, file)?;
-    let mut source = MemorySource::new(octets, piece, failing.source);
-    let mut output = sink(global, piece, failing.output)?;
-    let mut faults = sink(global, piece, failing.faults)?;
-    let status = run_report(alloc, &mut source, &mut output, &mut faults);
+    let mut source = source(global, file, piece, failing.source)?;
+    let mut ran = begun(global, piece, failing)?;
+    let status = run_report(alloc, &mut source, &mut ran.output, &mut ran.faults);
+    ran.status = status;
+    Ok(ran)
+}
+
+/// A source of octets that gives at most `piece` octets a call.
+fn source(
+    global: Global,
+    octets: &[u8],
+    piece: usize,
+    fails_in: u64,
+) -> Result<MemorySource, AllocError> {
+    let octets = Vec::from_slice(global, octets)?;
+    Ok(MemorySource::new(octets, piece.max(1), fails_in))
+}
+
+/// A run that has written nothing yet, and whose status is to come.
+fn begun(global: Global, piece: usize, failing: Failing) -> Result<Ran, AllocError> {
+    let output = sink(global, piece, failing.output)?;
+    let faults = sink(global, piece, failing.faults)?;
     Ok(Ran {
-        status,
+        status: u8::MAX,
         output,
         faults,
     })

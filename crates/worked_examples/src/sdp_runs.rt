@@ -1,6 +1,6 @@
 //! The engine of `sdp` over the camera's text: failing devices, and wants of memory.
 use crate::checks::met;
-use crate::running::{Failing, Ran, SOUND, describe, describe_on};
+use crate::running::{Failing, Ran, SOUND, describe_on};
 use crate::sdp::{CAMERA, LINE};
 use std::alloc::{AllocError, Allocator, Global};
 use std::process::Abort;
@@ -32,7 +32,7 @@ fn ends(rt: &(impl Abort + AllocGlobal), source: u64, output: u64) -> Result<boo
         output,
         faults: 0,
     };
-    let run = describe(rt, rt.alloc(), CAMERA.as_bytes(), 16, failing)?;
+    let run = describe_on(rt.alloc(), rt.alloc(), CAMERA.as_bytes(), 16, failing)?;
     Ok(ends_by_a_device(&run))
 }
 
@@ -42,7 +42,7 @@ fn devices_of_a_description(rt: HostRuntime) -> Result<(), Fail> {
     for (source, output) in FAILING {
         met(&rt, ends(&rt, source, output)?);
     }
-    let sound = describe(&rt, rt.alloc(), CAMERA.as_bytes(), 1, SOUND)?;
+    let sound = describe_on(rt.alloc(), rt.alloc(), CAMERA.as_bytes(), 1, SOUND)?;
     met(&rt, is_camera(&sound));
     Ok(())
 }
