@@ -3,7 +3,7 @@
 use crate::checks::met;
 use crate::pictures::set;
 use crate::small_format::{KINDS, small};
-use frame_assembly::Base;
+use frame_assembly::{Base, Frame};
 use packet_plan::{Plan, PlanFault, SendFault, Stamp, send_frame};
 use path_merge::Receiver;
 use st_format::memory::MemoryDatagrams;
@@ -110,45 +110,49 @@ fn are_datagrams(alloc: Global, taken: &[Vec<u8>], datagrams: &[&str]) -> bool {
     agree
 }
 
-/// Whether P0 sent in packets of at most `size` octets, from number `first` on, gives these
-/// datagrams, and then either this next number or a fault of the sink.
-fn sends(
-    alloc: Global,
-    size: u32,
-    first: u32,
-    fails_in: u64,
-    answer: Result<u32, SendFault>,
-    datagrams: &[&str],
-) -> Result<bool, Fail> {
-    let picture = p0(alloc)?;
-    let plan = Plan::new(alloc, picture.format(), size)?;
-    let mut sink = sink(alloc, fails_in)?;
-    let stamp = Stamp { first, ..STAMP };
-    let is_answered = sent(&plan, &picture, stamp, &mut sink) == Some(answer);
-    Ok(is_answered && has_taken(alloc, &sink, fails_in, datagrams))
-}
-
-/// Whether a picture sent by a plan gives these datagrams, and then this next number.
+/// Whether a picture sent by a plan gives these datagrams to a sink that fails at one call, and this
+/// answer: a next number, or a fault of the sink.
 fn gives<A: Allocator, B: Allocator>(
     global: Global,
     plan: &Plan<A>,
     picture: &Picture<B>,
-    next: u32,
+    sending: (Stamp, u64),
+    answer: Result<u32, SendFault>,
     datagrams: &[&str],
-) -> Result<bool, AllocError> {
-    let mut sink = sink(global, 0)?;
-    let is_answered = sent(plan, picture, STAMP, &mut sink) == Some(Ok(next));
-    Ok(is_answered && has_taken(global, &sink, 0, datagrams))
+) -> bool {
+    let (stamp, fails_in) = sending;
+    match sink(global, fails_in) {
+        Ok(mut sink) => {
+            sent(plan, picture, stamp, &mut sink) == Some(answer)
+                && has_taken(global, &sink, fails_in, datagrams)
+        }
+        Err(_) => false,
+    }
+}
+
+/// The same in packets of at most `size` octets.
+fn sends<A: Allocator>(
+    alloc: Global,
+    picture: &Picture<A>,
+    size: u32,
+    sending: (Stamp, u64),
+    answer: Result<u32, SendFault>,
+    datagrams: &[&str],
+) -> bool {
+    match Plan::new(alloc, picture.format(), size) {
+        Ok(plan) => gives(alloc, &plan, picture, sending, answer, datagrams),
+        Err(_) => false,
+    }
 }
 
 /// Whether P0 over an allocator gives *sender-sizes*' datagram at 42 octets, or `None` where the
 /// picture wants memory.
 pub fn gives_whole<A: Allocator>(global: Global, alloc: A) -> Result<Option<bool>, Fail> {
-    let plan = Plan::new(global, small()?, 42)?;
     match Picture::new(alloc, small()?, [0, 128, 128]) {
         Ok(mut picture) => {
             let fit = set_luma(&mut picture);
-            Ok(Some(fit && gives(global, &plan, &picture, 2, &[WHOLE])?))
+            let is_sent = sends(global, &picture, 42, (STAMP, 0), Ok(2), &[WHOLE]);
+            Ok(Some(fit && is_sent))
         }
         Err(PictureFault::NoMemory) => Ok(None),
         Err(_) => Ok(Some(false)),
@@ -159,11 +163,11 @@ pub fn gives_whole<A: Allocator>(global: Global, alloc: A) -> Result<Option<bool
 /// it wants memory.
 pub fn gives_groups<A: Allocator>(global: Global, alloc: A) -> Result<Option<bool>, Fail> {
     let picture = p0(global)?;
-    match Plan::new(alloc, picture.format(), 24) {
-        Ok(plan) => Ok(Some(gives(global, &plan, &picture, 5, &GROUPS)?)),
-        Err(PlanFault::NoMemory) => Ok(None),
-        Err(_) => Ok(Some(false)),
-    }
+    Ok(match Plan::new(alloc, picture.format(), 24) {
+        Ok(plan) => Some(gives(global, &plan, &picture, (STAMP, 0), Ok(5), &GROUPS)),
+        Err(PlanFault::NoMemory) => None,
+        Err(_) => Some(false),
+    })
 }
 
 /// Whether a sink has taken these datagrams, and has failed once where it was to fail.
@@ -174,30 +178,41 @@ pub fn has_taken(alloc: Global, sink: &MemoryDatagrams, fails_in: u64, datagrams
 /// Whether a sink that fails at a call has the datagrams before it, as the fault tells.
 fn fails_at(
     alloc: Global,
+    picture: &Picture,
     size: u32,
-    first: u32,
+    stamp: Stamp,
     call: usize,
     datagrams: &[&str],
-) -> Result<bool, Fail> {
+) -> bool {
     let before = call.saturating_sub(1).min(datagrams.len());
     let sent = u32::try_from(before).unwrap_or(u32::MAX);
     let fault = Err(SendFault { sent });
-    sends(alloc, size, first, call as u64, fault, &datagrams[..before])
+    sends(
+        alloc,
+        picture,
+        size,
+        (stamp, call as u64),
+        fault,
+        &datagrams[..before],
+    )
 }
 
-/// The same with a sink that fails at none of its calls, and then at each in turn.
+/// Whether a picture sent from a number on gives these datagrams and this next number with a sink
+/// that fails at none of its calls, and the datagrams before with one that fails at each in turn.
 fn sends_each(
     alloc: Global,
+    picture: &Picture,
     size: u32,
-    first: u32,
-    next: u32,
+    numbers: (u32, u32),
     datagrams: &[&str],
-) -> Result<bool, Fail> {
-    let mut agree = sends(alloc, size, first, 0, Ok(next), datagrams)?;
+) -> bool {
+    let (first, next) = numbers;
+    let stamp = Stamp { first, ..STAMP };
+    let mut agree = sends(alloc, picture, size, (stamp, 0), Ok(next), datagrams);
     for call in 1..datagrams.len() + 1 {
-        agree &= fails_at(alloc, size, first, call, datagrams)?;
+        agree &= fails_at(alloc, picture, size, stamp, call, datagrams);
     }
-    Ok(agree)
+    agree
 }
 
 /// *sender-sizes*' datagram at 42 octets.
@@ -239,21 +254,25 @@ const SENDER_SIZES: [(u32, u32, u32, &[&str]); 4] = [
 
 #[test]
 fn sender_sizes(rt: HostRuntime) -> Result<(), Fail> {
+    let picture = p0(rt.alloc())?;
     for (size, first, next, datagrams) in SENDER_SIZES {
-        met(&rt, sends_each(rt.alloc(), size, first, next, datagrams)?);
+        met(
+            &rt,
+            sends_each(rt.alloc(), &picture, size, (first, next), datagrams),
+        );
     }
     Ok(())
 }
 
-/// How many packets a plan of F1 has, or why there is none.
-fn planned<A: Allocator>(alloc: A, size: u32) -> Result<Result<u32, PlanFault>, Fail> {
-    match Plan::new(alloc, small()?, size) {
-        Ok(plan) => Ok(Ok(plan.len())),
-        Err(fault) => Ok(Err(fault)),
+/// Whether a plan of a format has so many packets, or there is none for this fault.
+fn is_planned(alloc: Global, format: Format, size: u32, wanted: Result<u32, PlanFault>) -> bool {
+    match Plan::new(alloc, format, size) {
+        Ok(plan) => wanted == Ok(plan.len()),
+        Err(fault) => wanted == Err(fault),
     }
 }
 
-/// Sizes, and what there is of a plan at each.
+/// Sizes, and what there is of a plan of F1 at each.
 const SIZES: [(u32, Result<u32, PlanFault>); 6] = [
     (24, Ok(4)),
     (9000, Ok(1)),
@@ -266,8 +285,9 @@ const SIZES: [(u32, Result<u32, PlanFault>); 6] = [
 /// How many packets there are at 24, and *sender-sizes* at 23 and 9001.
 #[test]
 fn least_and_greatest_sizes(rt: HostRuntime) -> Result<(), Fail> {
+    let format = small()?;
     for (size, wanted) in SIZES {
-        met(&rt, planned(rt.alloc(), size)? == wanted);
+        met(&rt, is_planned(rt.alloc(), format, size, wanted));
     }
     Ok(())
 }
@@ -375,32 +395,63 @@ pub fn runs_through(alloc: Global, format: Format) -> Result<Picture, Fail> {
     fitting(picture, fit)
 }
 
-/// Whether a picture comes out of a receiver of one source whole and without a contest.
-fn is_received(alloc: Global, taken: &[Vec<u8>], picture: &Picture) -> Result<bool, Fail> {
-    let mut receiver = Receiver::open(alloc, picture.format(), 96, Some(1), &[900])?;
+/// Whether a frame is a picture, whole and without a contest.
+fn is_whole(alloc: Global, frame: &Frame, picture: &Picture) -> bool {
+    let counts = frame.counts();
+    match frame.settle(alloc, Base::<Global>::Fill([0, 0, 0])) {
+        Ok(settled) => counts.missing == 0 && counts.contested == 0 && settled.same(picture),
+        Err(_) => false,
+    }
+}
+
+/// Whether a receiver's frame is.
+fn holds(alloc: Global, receiver: &Receiver, picture: &Picture) -> bool {
+    match receiver.frame(900) {
+        Some(frame) => is_whole(alloc, frame, picture),
+        None => false,
+    }
+}
+
+/// Takes datagrams by B, and tells whether none was refused.
+fn takes_all(receiver: &mut Receiver, datagrams: &[Vec<u8>]) -> bool {
     let mut kept = true;
-    for octets in taken {
+    for octets in datagrams {
         kept &= receiver.take(Path::B, octets.as_slice()).is_ok();
     }
-    let frame = receiver.frame(900).ok_or("no frame")?;
-    let counts = frame.counts();
-    let settled = frame.settle(alloc, Base::<Global>::Fill([0, 0, 0]))?;
-    Ok(kept && counts.missing == 0 && counts.contested == 0 && settled.same(picture))
+    kept
+}
+
+/// Whether a picture comes out of a receiver of one source whole and without a contest.
+fn is_received(alloc: Global, taken: &[Vec<u8>], picture: &Picture) -> bool {
+    match Receiver::open(alloc, picture.format(), 96, Some(1), &[900]) {
+        Ok(mut receiver) => takes_all(&mut receiver, taken) && holds(alloc, &receiver, picture),
+        Err(_) => false,
+    }
+}
+
+/// Whether a picture that is sent by a plan comes back.
+fn is_returned(alloc: Global, plan: &Plan, picture: &Picture) -> bool {
+    match sink(alloc, 0) {
+        Ok(mut sink) => {
+            matches!(sent(plan, picture, STAMP, &mut sink), Some(Ok(_)))
+                && is_received(alloc, sink.taken(), picture)
+        }
+        Err(_) => false,
+    }
 }
 
 /// Whether a picture that is sent in packets of at most `size` octets comes back.
-fn comes_back(alloc: Global, picture: &Picture, size: u32) -> Result<bool, Fail> {
-    let plan = Plan::new(alloc, picture.format(), size)?;
-    let mut sink = sink(alloc, 0)?;
-    let is_sent = matches!(sent(&plan, picture, STAMP, &mut sink), Some(Ok(_)));
-    Ok(is_sent && is_received(alloc, sink.taken(), picture)?)
+fn comes_back(alloc: Global, picture: &Picture, size: u32) -> bool {
+    match Plan::new(alloc, picture.format(), size) {
+        Ok(plan) => is_returned(alloc, &plan, picture),
+        Err(_) => false,
+    }
 }
 
-/// The same of a format, in packets of the least size and of 1,400 octets.
-fn sizes_come_back(alloc: Global, format: Format) -> Result<bool, Fail> {
-    let picture = runs_through(alloc, format)?;
-    let least = 20 + format.pgroup().octets as u32;
-    Ok(comes_back(alloc, &picture, least)? && comes_back(alloc, &picture, 1400)?)
+/// The same in packets of the least size and of 1,400 octets.
+fn sizes_come_back(alloc: Global, picture: &Picture) -> bool {
+    let least = 20 + picture.format().pgroup().octets as u32;
+    comes_back(alloc, picture, least) && comes_back(alloc, picture, 1400)
 }
 
 /// Each sampling and depth.
@@ -408,7 +459,8 @@ fn sizes_come_back(alloc: Global, format: Format) -> Result<bool, Fail> {
 fn pictures_come_back(rt: HostRuntime) -> Result<(), Fail> {
     for (sampling, depth) in KINDS {
         let format = Format::new(sampling, depth, 8, 3, 60, 1)?;
-        met(&rt, sizes_come_back(rt.alloc(), format)?);
+        let picture = runs_through(rt.alloc(), format)?;
+        met(&rt, sizes_come_back(rt.alloc(), &picture));
     }
     Ok(())
 }
