@@ -7,3 +7,4 @@ pub mod Rotating
 pub mod StateRefusals
 pub mod Ended
 pub mod Refusals
+pub mod SentRefusals

@@ -10,3 +10,4 @@ pub mod Refused
 pub mod Taking
 pub mod Tallied
 pub mod Refusing
+pub mod Sent

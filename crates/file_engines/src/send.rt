@@ -1,10 +1,13 @@
 //! The engine of `send`.
-ghost use Rattle.std.specs.Prelude.{◌≡◌, ◌≢◌, ◌≤◌, ◌<◌, ◌⊎◌, ◌∷◌, [], false, IfOk, MatchResult};
-ghost use Rattle.std.specs.Prelude.{length, sum_by, vec_len, ⊤};
+ghost use Rattle.std.specs.Prelude.{◌≡◌, ◌≢◌, ◌+◌, ◌≤◌, ◌<◌, ◌⊎◌, ◌∷◌, [], false, IfErr, IfOk};
+ghost use Rattle.std.specs.Prelude.{MatchResult, drop, length, sum_by, vec_len};
 ghost use Rattle.std.specs.Io.KnownBytes.{Appends, IsAtEnd};
 ghost use Rattle.file_engines.specs.Fault.{Accounts, Blames, NoneFailed, OneFailed, counts};
 ghost use Rattle.file_engines.specs.Receiving.{failures_in};
-ghost use Rattle.file_engines.specs.Refusing.{TellsRefusal};
+ghost use Rattle.file_engines.specs.Refusing.{OfRefusal, TellsRefusal};
+ghost use Rattle.file_engines.specs.Sent.{FirstIs, FirstSays, IsPictureRefusal, IsSaidRefusal};
+ghost use Rattle.file_engines.specs.Sent.{IsPicturesRefusal, IsRestRefusal, IsSendRefusal};
+ghost use Rattle.file_engines.specs.Sent.{SaysFormat};
 ghost use Rattle.tool_text.specs.Telling.{memory_line};
 
 use crate::fault::{Fault, Refusal, of_picture};
@@ -67,8 +70,10 @@ where
         ∷ counts (K.failures sink) (K.failures result.1)
         ∷ counts (O.failures output.old) (O.failures output.new)
         ∷ counts (F.failures faults.old) (F.failures faults.new) ∷ []) }
-    // At status 1 a refusal was told by its line.
-    ensures told { result.0 ≡ 1 → TellsRefusal (λ _. ⊤) (F.held faults.old) (F.held faults.new) }
+    // At status 1 a refusal of the words or the files was told by its line.
+    ensures told { result.0 ≡ 1
+        → TellsRefusal (IsSendRefusal wanted.max_octets sdp.old S.to_give pictures.old)
+        (F.held faults.old) (F.held faults.new) }
     ensures silent { result.0 ≡ 0 → faults.new ≡ faults.old }
     ensures memory { result.0 ≡ 4 → Appends (F.held faults.old) (F.held faults.new) memory_line }
 {
@@ -100,6 +105,8 @@ where
         (failures_in S.failures sdp.new) ∷ counts (sum_by S.failures pictures.old)
         (sum_by S.failures pictures.new) ∷ counts (K.failures sink) (K.failures result.1)
         ∷ counts (O.failures output.old) (O.failures output.new) ∷ []) }
+    ensures refusal { IfErr result.0 (λ f. OfRefusal f
+        (IsSendRefusal wanted.max_octets sdp.old S.to_give pictures.old)) }
 {
     let said = match read_said(alloc, sdp, pictures.len()) {
         Ok(said) => said,
@@ -121,6 +128,7 @@ fn read_said<A: Allocator + Copy, S: ByteSource>(
 ) -> Result<Vec<u8, A>, Fault>
     ensures few { IfOk result (λ _. pictures ≤ 10000) }
     ensures text { IfOk result (λ said. vec_len said ≤ 65535) }
+    ensures refusal { IfErr result (λ f. OfRefusal f (IsSaidRefusal pictures sdp.old S.to_give)) }
     ensures failures { Accounts result (counts (failures_in S.failures sdp.old)
         (failures_in S.failures sdp.new) ∷ []) }
 {
@@ -148,6 +156,8 @@ fn send_pictures<A: Allocator + Copy, S: ByteSource, K: ByteSink>(
     requires few { length pictures.old ≤ 10000 }
     requires payload_type { wanted.payload_type ≤ 127 }
     requires empty { IsAtEnd (K.held sink) }
+    ensures refusal { IfErr result.0 (λ f. OfRefusal f
+        (IsPicturesRefusal wanted.max_octets S.to_give pictures.old)) }
     ensures failures { Accounts result.0 (counts (sum_by S.failures pictures.old)
         (sum_by S.failures pictures.new) ∷ counts (K.failures sink) (K.failures result.1) ∷ []) }
 {
@@ -184,6 +194,10 @@ fn begin<A: Allocator + Copy, S: ByteSource, K: ByteSink>(
     ensures len { length pictures.new ≡ length pictures.old }
     ensures room { length buf.new ≡ 65535 }
     ensures stands { IfOk result (λ s. s.0.writer.place.failed ≡ false) }
+    ensures behind { drop 1 pictures.new ≡ drop 1 pictures.old }
+    ensures says { IfOk result (λ s. FirstSays S.to_give s.0.plan.format pictures.old) }
+    ensures refusal { IfErr result (λ e. OfRefusal e.0
+        (IsPicturesRefusal wanted.max_octets S.to_give pictures.old)) }
     ensures failures { MatchResult result
         (λ s. NoneFailed (counts (sum_by S.failures pictures.old) (sum_by S.failures pictures.new)
         ∷ counts (K.failures sink) (K.failures s.0.writer.sink) ∷ []))
@@ -213,6 +227,11 @@ fn read_first<A: Allocator + Copy, S: ByteSource>(
 ) -> Result<(PackedPicture<A>, Plan<A>), Fault>
     requires { 0 < length pictures.old }
     ensures len { length pictures.new ≡ length pictures.old }
+    ensures behind { drop 1 pictures.new ≡ drop 1 pictures.old }
+    ensures alike { IfOk result (λ first. first.0.format ≡ first.1.format) }
+    ensures says { IfOk result (λ first. FirstSays S.to_give first.1.format pictures.old) }
+    ensures refusal { IfErr result (λ f. OfRefusal f
+        (IsPicturesRefusal max_octets S.to_give pictures.old)) }
     ensures failures { Accounts result (counts (sum_by S.failures pictures.old)
         (sum_by S.failures pictures.new) ∷ []) }
 {
@@ -232,6 +251,8 @@ fn send_rest<A: Allocator, S: ByteSource, K: ByteSink>(
     requires few { length pictures.old ≤ 10000 }
     requires room { length buf.old ≡ 65535 }
     requires stands { sender.old.writer.place.failed ≡ false }
+    ensures refusal { IfErr result (λ f. OfRefusal f
+        (IsRestRefusal sender.old.plan.format S.to_give (drop 1 pictures.old))) }
     ensures failures { Accounts result (counts (sum_by S.failures pictures.old)
         (sum_by S.failures pictures.new) ∷ counts (K.failures sender.old.writer.sink)
         (K.failures sender.new.writer.sink) ∷ []) }
@@ -252,6 +273,11 @@ fn read_at<A: Allocator, S: ByteSource>(
 ) -> Result<PackedPicture<A>, Fault>
     requires { place < length pictures.old }
     ensures len { length pictures.new ≡ length pictures.old }
+    ensures behind { drop (place + 1) pictures.new ≡ drop (place + 1) pictures.old }
+    ensures says { IfOk result
+        (λ p. FirstSays S.to_give p.format (drop place pictures.old)) }
+    ensures refusal { IfErr result (λ f. OfRefusal f
+        (λ r. FirstIs (λ s. IsPictureRefusal (S.to_give s) r) (drop place pictures.old))) }
     ensures failures { Accounts result (counts (sum_by S.failures pictures.old)
         (sum_by S.failures pictures.new) ∷ []) }
 {
@@ -263,7 +289,10 @@ fn read_one<A: Allocator, S: ByteSource>(
     source: &mut S,
     room: Vec<u8, A>,
 ) -> Result<PackedPicture<A>, Fault>
-    ensures { Accounts result (counts (S.failures source.old) (S.failures source.new) ∷ []) }
+    ensures says { IfOk result (λ p. SaysFormat (S.to_give source.old) p.format) }
+    ensures refusal { IfErr result (λ f. OfRefusal f (IsPictureRefusal (S.to_give source.old))) }
+    ensures failures { Accounts result (counts (S.failures source.old) (S.failures source.new)
+        ∷ []) }
 {
     match read_packed_picture(source, room) {
         Ok(picture) => Ok(picture),

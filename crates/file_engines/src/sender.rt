@@ -1,6 +1,8 @@
 //! Sending pictures into a capture.
-ghost use Rattle.std.specs.Prelude.{◌≡◌, ◌≤◌, ◌∷◌, [], false, length, OnOk};
-ghost use Rattle.file_engines.specs.Fault.{Accounts, counts};
+ghost use Rattle.std.specs.Prelude.{◌≡◌, ◌≤◌, ◌∷◌, [], false, length, IfErr, OnOk};
+ghost use Rattle.file_engines.specs.Fault.{Accounts, IfRefused, counts};
+ghost use Rattle.file_engines.specs.Refusing.{OfRefusal};
+ghost use Rattle.file_engines.specs.declared.fault.Refusal.TheVariants.{SendFormats};
 
 use crate::fault::{Fault, Refusal};
 use capture_file::{CaptureWriter, Paths};
@@ -43,7 +45,8 @@ impl<A: Allocator, K: ByteSink> Sender<A, K> {
     /// Nothing was sent yet.
     pub fn new(plan: Plan<A>, writer: CaptureWriter<K>, wanted: Sending) -> Sender<A, K>
         requires { wanted.payload_type ≤ 127 }
-        ensures { result.writer ≡ writer }
+        ensures writer { result.writer ≡ writer }
+        ensures plan { result.plan ≡ plan }
     {
         Sender {
             plan,
@@ -65,6 +68,9 @@ impl<A: Allocator, K: ByteSink> Sender<A, K> {
         requires stands { self.old.writer.place.failed ≡ false }
         ensures room { length buf.new ≡ 65535 }
         ensures stands { OnOk result (self.new.writer.place.failed ≡ false) }
+        ensures plan { self.new.plan ≡ self.old.plan }
+        ensures refusal { IfErr result (λ f. OfRefusal f
+            (λ r. (r ≡ SendFormats) × (picture.now.format ≡ self.old.plan.format → ⊥))) }
         ensures failures { Accounts result (counts (K.failures self.old.writer.sink)
             (K.failures self.new.writer.sink) ∷ []) }
     {
@@ -107,6 +113,7 @@ fn put_all<A: Allocator, B: Allocator, K: ByteSink>(
     requires stands { writer.old.place.failed ≡ false }
     ensures room { length buf.new ≡ 65535 }
     ensures stands { OnOk result (writer.new.place.failed ≡ false) }
+    ensures unrefused { IfErr result (λ f. IfRefused f ⊥) }
     ensures failures { Accounts result (counts (K.failures writer.old.sink)
         (K.failures writer.new.sink) ∷ []) }
 {

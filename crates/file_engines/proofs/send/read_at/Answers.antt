@@ -5,4 +5,4 @@ pub returns-clause-failures : goal.returns-clause-failures
 returns-clause-failures g c =
     set_counted g.S.ByteSource.failures c.args.pictures.now c.args.place
     c.index-pictures-place.result c.read_one.new.source c.read_one.result c.requires
-    c.read_one.ensures
+    c.read_one.ensures.failures

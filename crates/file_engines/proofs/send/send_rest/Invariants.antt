@@ -1,4 +1,4 @@
-use Rattle.std.proofs.Common.{◌≡◌, false, length}
+use Rattle.std.proofs.Common.{◌≡◌, drop, false, length}
 use Rattle.std.specs.List.{sum_by}
 use Rattle.file_engines.proofs.send.send_rest.Given as goal
 
@@ -7,6 +7,8 @@ invariant-loop-place g l = record {
   len : length l.pictures ≡ length l.initial.pictures;
   room : length l.buf ≡ 65535;
   stands : l.sender.writer.place.failed ≡ false;
+  plan : l.sender.plan ≡ l.initial.sender.plan;
+  behind : drop l.place l.pictures ≡ drop l.place l.initial.pictures;
   pictures : sum_by g.S.ByteSource.failures l.pictures
       ≡ sum_by g.S.ByteSource.failures l.initial.pictures;
   sink : g.K.ByteSink.failures l.sender.writer.sink
