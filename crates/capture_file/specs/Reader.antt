@@ -15,7 +15,7 @@ use Rattle.capture_file.specs.declared.reader.Standing.TheVariants.{Reads, Ended
 use Rattle.capture_file.specs.Faults.{CountsFault, file_fault_number}
 use Rattle.capture_file.specs.Reading.{entries_in}
 use Rattle.capture_file.specs.Records.{Entry}
-use Rattle.capture_file.specs.Source.{FailsRecord}
+use Rattle.capture_file.specs.Source.{FailsRecord, ReadsRecord}
 
 -- a record as a turn
 abbrev pub due_of : Entry → Due
@@ -61,6 +61,12 @@ abbrev pub StandsAfter : Turn → Standing → Option (List ℕ) → Type 0
 StandsAfter (Datagram path count) stands to_give = stands ≡ Reads
 StandsAfter Quiet stands to_give = ⊥
 StandsAfter End stands to_give = (stands ≡ Ended) × IsAtEnd to_give
+
+-- a datagram was told of the record that a source gave
+abbrev pub GivesRecord : Turn → Option (List ℕ) → Option (List ℕ) → Type 0
+GivesRecord (Datagram path count) old new = (e : Entry) × ReadsRecord old new e
+GivesRecord Quiet old new = ⊤
+GivesRecord End old new = ⊤
 
 -- where a reader stands after a fault, by the octets that were to come
 abbrev pub StandsAtFault : Standing → Option (List ℕ) → Type 0

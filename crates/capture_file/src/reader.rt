@@ -7,7 +7,7 @@ ghost use Rattle.st_format.specs.Turns.{CountsTurn, IsWithin, TakesTurn};
 ghost use Rattle.capture_file.specs.Faults.{CountsDevice, CountsFault, IsOfFront};
 ghost use Rattle.capture_file.specs.Fields.{Fails, Takes};
 ghost use Rattle.capture_file.specs.Fronts.{front_at};
-ghost use Rattle.capture_file.specs.Reader.{CountsDeviceAt, IsNewReader, StandsAfter};
+ghost use Rattle.capture_file.specs.Reader.{CountsDeviceAt, GivesRecord, IsNewReader, StandsAfter};
 ghost use Rattle.capture_file.specs.Reader.{StandsAtFault, last_fault_of, source_fault, turns_of};
 ghost use Rattle.capture_file.specs.Records.{entry_of};
 ghost use Rattle.capture_file.specs.Source.{FailsRecord, ReadsEnd, ReadsRecord};
@@ -190,6 +190,9 @@ impl<S: ByteSource> DatagramSource for CaptureReader<S> {
         // Each turn but the last is a record. The end comes only where no octet is left.
         ensures goes { IfOk result
             (λ t. StandsAfter t self.new.standing (S.to_give self.new.source)) }
+        // A datagram is that of the record at the front of the octets to come.
+        ensures given { self.old.standing ≡ Reads → IfOk result
+            (λ t. GivesRecord t (S.to_give self.old.source) (S.to_give self.new.source)) }
         // A fault of the content is what is wrong at the front of the octets to come: all records
         // before it are delivered. One of the device comes only where the source failed in this
         // call.

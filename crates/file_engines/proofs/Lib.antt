@@ -7,4 +7,6 @@ pub mod Rotating
 pub mod StateRefusals
 pub mod Ended
 pub mod Refusals
+pub mod OneOf
 pub mod SentRefusals
+pub mod ReceivedRefusals

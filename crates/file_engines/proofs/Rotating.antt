@@ -1,7 +1,7 @@
 -- Captures that are taken one after the other, each the first of a list, in which its source then
 -- stands last.
 use Rattle.std.proofs.Common.{◌≡◌, ℕ, ◌+◌, ◌<◌, List, [], ◌∷◌, ◌++◌, length, Option, Some, refl}
-use Rattle.std.proofs.Common.{sym, ap, subst, ◌∙◌, arith, append_assoc, append-nil}
+use Rattle.std.proofs.Common.{sym, ap, subst, ◌∙◌, arith, append_assoc, append-nil, drop, drop-drop}
 use Rattle.std.specs.List.{flat_map}
 use Rattle.std.specs.Io.KnownBytes.{Appends}
 use Rattle.capture_file.specs.StateFile.{state_text}
@@ -28,6 +28,7 @@ pub record Rotated {S A : Type 0} (o : Opening A) (f : S → Option (List ℕ)) 
   pub done : List S
   pub now_is : now ≡ rest ++ done
   pub count : length rest + k ≡ length start
+  pub behind : rest ≡ drop k start
   pub left : (octets : List (List ℕ)) (ds : List (List ℕ)) → AllTell f start octets
       → Stands o before ds → Left o f rest after (ds ++ flat_map capture_datagrams octets)
 
@@ -38,6 +39,7 @@ none_rotated o f xs b = record {
   done = [];
   now_is = sym (append-nil xs);
   count = omega arith;
+  behind = refl;
   left = λ octets ds tell stands. record
       { octets = octets; here = ds; tell = tell; stands = stands; whole = refl };
 }
@@ -66,13 +68,13 @@ tail_of x y xs ys is = cc
 rotated_by : {S A : Type 0} (o : Opening A) (f : S → Option (List ℕ)) (k : ℕ)
     (start now new : List S) (before b a : Option (Session A)) (rest done : List S)
     → now ≡ rest ++ done
-    → length rest + k ≡ length start → k < length start
+    → length rest + k ≡ length start → rest ≡ drop k start → k < length start
     → ((octets : List (List ℕ)) (ds : List (List ℕ)) → AllTell f start octets → Stands o before ds →
     Left o f rest b (ds ++ flat_map capture_datagrams octets))
     → TakesFirst o f now new b a → Rotated o f (k + 1) start new before a
-rotated_by o f k start now new before b a [] done now_is count more left first = absurd
+rotated_by o f k start now new before b a [] done now_is count behind more left first = absurd
     (omega arith)
-rotated_by o f k start now new before b a (x ∷ xs) done now_is count more left first =
+rotated_by o f k start now new before b a (x ∷ xs) done now_is count behind more left first =
     let joined : x ∷ (xs ++ done) ≡ first.first ∷ first.more = sym now_is ∙ first.old_is in
     let head : first.first ≡ x = head_of x first.first (xs ++ done) first.more joined in
     let tail : first.more ≡ xs ++ done = tail_of x first.first (xs ++ done) first.more joined in
@@ -85,6 +87,7 @@ rotated_by o f k start now new before b a (x ∷ xs) done now_is count more left
       now_is = first.new_is ∙ ap (λ l. l ++ first.last ∷ []) tail
           ∙ append_assoc xs done (first.last ∷ []);
       count = omega arith;
+      behind = ap (drop 1) behind ∙ drop-drop 1 k start;
       left = λ octets ds tell stands.
           let l : Left o f (x ∷ xs) b (ds ++ flat_map capture_datagrams octets) = left octets ds
           tell stands in
@@ -98,7 +101,7 @@ pub one_more : {S A : Type 0} (o : Opening A) (f : S → Option (List ℕ)) (k :
     → TakesFirst o f now new b a → Rotated o f (k + 1) start new before a
 one_more o f k start now new before b a rotated more first =
     rotated_by o f k start now new before b a rotated.rest rotated.done rotated.now_is rotated.count
-    more rotated.left first
+    rotated.behind more rotated.left first
 
 -- none is left
 none_left : {S A : Type 0} (o : Opening A) (f : S → Option (List ℕ)) (rest : List S)

@@ -1,5 +1,5 @@
 -- Which refusal of a picture ends a run of `send`.
-use Rattle.std.proofs.Common.{◌≡◌, ℕ, zero, suc, ◌<◌, inl, inr, List, [], ◌∷◌, drop, Option, refl}
+use Rattle.std.proofs.Common.{◌≡◌, ℕ, zero, suc, ◌<◌, List, [], ◌∷◌, drop, Option, refl}
 use Rattle.std.proofs.Common.{sym, subst, ◌∙◌, arith}
 use Rattle.packet_plan.specs.declared.plan.PlanFault.{PlanFault}
 use Rattle.packet_plan.specs.declared.plan.PlanFault.TheVariants.{NoMemory, BadPacketSize}
@@ -10,22 +10,7 @@ use Rattle.file_engines.specs.Sent.{FirstIs, FirstSays, IsPictureRefusal, IsPict
 use Rattle.file_engines.specs.Sent.{IsPlanFault, IsRestRefusal, OneIs, SaysOther}
 use Rattle.file_engines.specs.declared.fault.Refusal.{Refusal}
 use Rattle.file_engines.specs.declared.fault.Refusal.TheVariants as why
-
--- ---- one of a list
-
-first_one : {S : Type 0} (Is : S → Type 0) (xs : List S) → FirstIs Is xs → OneIs Is xs
-first_one Is [] is = is
-first_one Is (x ∷ xs) is = inl is
-
-one_behind : {S : Type 0} (Is : S → Type 0) (i : ℕ) (xs : List S) → OneIs Is (drop i xs)
-    → OneIs Is xs
-one_behind Is zero xs is = is
-one_behind Is (suc i) [] is = is
-one_behind Is (suc i) (x ∷ xs) is = inr (one_behind Is i xs is)
-
-no_first : {S : Type 0} (xs : List S) → FirstIs (λ s. ⊥) xs → ⊥
-no_first [] is = is
-no_first (x ∷ xs) is = is
+use Rattle.file_engines.proofs.OneOf.{first_one, no_first, one_behind}
 
 -- ---- the pictures
 

@@ -11,3 +11,4 @@ pub mod Taking
 pub mod Tallied
 pub mod Refusing
 pub mod Sent
+pub mod Received

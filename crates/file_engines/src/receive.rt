@@ -1,11 +1,15 @@
 //! The engine of `receive`.
-ghost use Rattle.std.specs.Prelude.{◌≡◌, ◌≢◌, ◌≤◌, ◌<◌, ◌⊎◌, ◌∷◌, [], IfErr, IfOk, IfSome, OnOk};
-ghost use Rattle.std.specs.Prelude.{Some, length, vec_len, sum_by, ⊤};
+ghost use Rattle.std.specs.Prelude.{◌≡◌, ◌≢◌, ◌≤◌, ◌<◌, ◌⊎◌, ◌∷◌, [], ℕ, IfErr, IfOk, IfSome, OnOk};
+ghost use Rattle.std.specs.Prelude.{MatchOption, Option, None, Some, length, vec_len, sum_by};
 ghost use Rattle.std.specs.Io.KnownBytes.{Appends};
 ghost use Rattle.capture_file.specs.StateFile.{state_text};
 ghost use Rattle.file_engines.specs.Fault.{Accounts, IfRefused, NoneFailed, OneFailed, counts};
+ghost use Rattle.file_engines.specs.Received.{IsCapturesRefusal, IsFrontRefusal};
+ghost use Rattle.file_engines.specs.Received.{IsGivenRefusal, IsReceiveRefusal, IsTakeRefusal};
+ghost use Rattle.file_engines.specs.Received.{IsWordRefusal};
 ghost use Rattle.file_engines.specs.Receiving.{Saves, failures_in};
-ghost use Rattle.file_engines.specs.Refusing.{TellsRefusal};
+ghost use Rattle.file_engines.specs.Refusing.{OfRefusal, TellsRefusal};
+ghost use Rattle.file_engines.specs.Sent.{FirstIs};
 ghost use Rattle.file_engines.specs.Taking.{HoldsBy, IsPin, Receives, Stands, TakesFile};
 ghost use Rattle.file_engines.specs.Taking.{TakesFiles, TakesFirst};
 ghost use Rattle.receiver_file.specs.Saved.{kept_of};
@@ -93,8 +97,10 @@ where
     ensures taken { result ≡ 0 → Receives wanted.entry.window.now wanted.entry.ssrc.now
         S.to_give captures.old.items (K.held state.old) (K.held state.new) }
     ensures refused { result ≡ 1 → state.new ≡ state.old }
-    // At status 1 a refusal was told by its line.
-    ensures told { result ≡ 1 → TellsRefusal (λ _. ⊤) (F.held faults.old) (F.held faults.new) }
+    // At status 1 a refusal of the words or the files was told by its line.
+    ensures told { result ≡ 1
+        → TellsRefusal (IsReceiveRefusal wanted.entry.window.now wanted.entry.ssrc.now sdp.old
+        S.to_give captures.old.items) (F.held faults.old) (F.held faults.new) }
     ensures silent { result ≡ 0 → faults.new ≡ faults.old }
     ensures memory { result ≡ 4 → Appends (F.held faults.old) (F.held faults.new) memory_line }
 {
@@ -124,6 +130,8 @@ where
     ensures taken { OnOk result (Receives wanted.entry.window.now wanted.entry.ssrc.now
         S.to_give captures.old.items (K.held state.old) (K.held state.new)) }
     ensures refused { IfErr result (λ f. IfRefused f (state.new ≡ state.old)) }
+    ensures refusal { IfErr result (λ f. OfRefusal f (IsReceiveRefusal wanted.entry.window.now
+        wanted.entry.ssrc.now sdp.old S.to_give captures.old.items)) }
     ensures failures { Accounts result (counts (failures_in S.failures sdp.old)
         (failures_in S.failures sdp.new) ∷ counts (sum_by S.failures captures.old.items)
         (sum_by S.failures captures.new.items)
@@ -159,6 +167,8 @@ pub(crate) fn save<A: Allocator, K: ByteSink>(
 fn read_opening<A: Allocator + Copy>(alloc: A, wanted: Wanted<'_>) -> Result<Opening<A>, Fault>
     ensures window { IfOk result (λ o. AreTimestamps wanted.entry.window.now o.window.items) }
     ensures source { IfOk result (λ o. IsPin wanted.entry.ssrc.now o.ssrc) }
+    ensures refusal { IfErr result (λ f. OfRefusal f
+        (IsWordRefusal wanted.entry.window.now wanted.entry.ssrc.now)) }
     ensures failures { Accounts result [] }
 {
     let Some(window) = read_timestamps(alloc, wanted.window)? else {
@@ -172,7 +182,8 @@ fn read_opening<A: Allocator + Copy>(alloc: A, wanted: Wanted<'_>) -> Result<Ope
 
 /// A source that is pinned, or none.
 fn read_source(text: &[u8]) -> Option<Option<u32>>
-    ensures { IfSome result (λ ssrc. IsPin text.now ssrc) }
+    ensures is { IfSome result (λ ssrc. IsPin text.now ssrc) }
+    ensures none { result ≡ None → (ssrc : Option ℕ) → IsPin text.now ssrc → ⊥ }
 {
     if text == b"any".as_slice() {
         return Some(None);
@@ -187,6 +198,9 @@ fn begin<A: Allocator + Copy, S: ByteSource>(
     sdp: &mut Option<S>,
 ) -> Result<Option<Session<A>>, Fault>
     ensures begun { IfOk result (λ begun. Stands opening.now begun []) }
+    ensures none { IfOk result (λ begun. begun ≡ None → sdp.old ≡ None) }
+    ensures refusal { IfErr result (λ f. OfRefusal f (λ r. MatchOption sdp.old ⊥
+        (λ s. IsGivenRefusal opening.now.window.items (S.to_give s) r))) }
     ensures failures { Accounts result (counts (failures_in S.failures sdp.old)
         (failures_in S.failures sdp.new) ∷ []) }
 {
@@ -206,6 +220,8 @@ fn open_by_sdp<A: Allocator + Copy, S: ByteSource>(
     source: &mut S,
 ) -> Result<Session<A>, Fault>
     ensures opened { IfOk result (λ s. HoldsBy opening.now s []) }
+    ensures refusal { IfErr result (λ f. OfRefusal f
+        (IsGivenRefusal opening.now.window.items (S.to_give source.old))) }
     ensures failures { Accounts result (counts (S.failures source.old) (S.failures source.new)
         ∷ []) }
 {
@@ -224,6 +240,8 @@ fn take_captures<A: Allocator + Copy, S: ByteSource>(
 ) -> Result<Session<A>, Fault>
     ensures taken { IfOk result
         (λ s. TakesFiles opening.now S.to_give captures.old.items begun (Some s)) }
+    ensures refusal { IfErr result (λ f. OfRefusal f
+        (IsCapturesRefusal opening.now.window.items begun S.to_give captures.old.items)) }
     ensures failures { Accounts result (counts (sum_by S.failures captures.old.items)
         (sum_by S.failures captures.new.items) ∷ []) }
 {
@@ -249,6 +267,10 @@ fn take_all<A: Allocator + Copy, S: ByteSource>(
     requires room { 65535 ≤ length buf.old }
     ensures taken { OnOk result
         (TakesFiles opening.now S.to_give captures.old.items begun.old begun.new) }
+    ensures none { OnOk result (begun.new ≡ None
+        → (begun.old ≡ None) × (captures.old.items ≡ [])) }
+    ensures refusal { IfErr result (λ f. OfRefusal f
+        (IsCapturesRefusal opening.now.window.items begun.old S.to_give captures.old.items)) }
     ensures failures { Accounts result (counts (sum_by S.failures captures.old.items)
         (sum_by S.failures captures.new.items) ∷ []) }
 {
@@ -276,6 +298,10 @@ fn take_next<A: Allocator + Copy, S: ByteSource>(
     ensures len { vec_len captures.new ≡ vec_len captures.old }
     ensures taken { OnOk result (TakesFirst opening.now S.to_give
         captures.old.items captures.new.items begun.old begun.new) }
+    ensures begun { OnOk result (begun.new ≢ None) }
+    ensures refusal { IfErr result (λ f. OfRefusal f (λ r. FirstIs
+        (λ s. IsTakeRefusal opening.now.window.items begun.old (S.to_give s) r)
+        captures.old.items)) }
     ensures failures { Accounts result (counts (sum_by S.failures captures.old.items)
         (sum_by S.failures captures.new.items) ∷ []) }
 {
@@ -299,6 +325,9 @@ fn take_one<A: Allocator + Copy, S: ByteSource>(
     ensures text { length said.new ≡ length said.old }
     ensures room { length buf.new ≡ length buf.old }
     ensures taken { OnOk result.1 (TakesFile opening.now (S.to_give capture) begun.old begun.new) }
+    ensures begun { OnOk result.1 (begun.new ≢ None) }
+    ensures refusal { IfErr result.1 (λ f. OfRefusal f
+        (IsTakeRefusal opening.now.window.items begun.old (S.to_give capture))) }
     ensures failures { Accounts result.1 (counts (S.failures capture) (S.failures result.0) ∷ []) }
 {
     let reader = match CaptureReader::open(capture, said) {
@@ -325,6 +354,8 @@ fn open_by_text<A: Allocator + Copy>(
     said: &[u8],
 ) -> Result<Session<A>, Fault>
     ensures opened { IfOk result (λ s. HoldsBy opening.now s []) }
+    ensures refusal { IfErr result (λ f. OfRefusal f
+        (IsFrontRefusal opening.now.window.items said.now)) }
     ensures failures { Accounts result [] }
 {
     if said.is_empty() {
@@ -340,7 +371,9 @@ fn print_session<A: Allocator, O: ByteSink>(
     output: &mut O,
     text: &mut String<A>,
 ) -> Result<(), Fault>
-    ensures { Accounts result (counts (O.failures output.old) (O.failures output.new) ∷ []) }
+    ensures unrefused { IfErr result (λ f. IfRefused f ⊥) }
+    ensures failures { Accounts result (counts (O.failures output.old) (O.failures output.new)
+        ∷ []) }
 {
     print(Line::Delivered(session.delivered), output, text)?;
     if tells_refusals {
@@ -356,7 +389,9 @@ fn print_tally<A: Allocator, O: ByteSink>(
     output: &mut O,
     text: &mut String<A>,
 ) -> Result<(), Fault>
-    ensures { Accounts result (counts (O.failures output.old) (O.failures output.new) ∷ []) }
+    ensures unrefused { IfErr result (λ f. IfRefused f ⊥) }
+    ensures failures { Accounts result (counts (O.failures output.old) (O.failures output.new)
+        ∷ []) }
 {
     for place in 0..REFUSALS.len() {
         let count = tally.refused[place];

@@ -1,9 +1,14 @@
 //! Taking the datagrams of captures into one receiver.
-ghost use Rattle.std.specs.Prelude.{◌≡◌, ◌≤◌, ◌<◌, ◌∷◌, [], length, IfOk, IfSome, OnOk};
+ghost use Rattle.std.specs.Prelude.{◌≡◌, ◌≤◌, ◌<◌, ◌∷◌, [], Some, length, IfErr, IfOk, IfSome};
+ghost use Rattle.std.specs.Prelude.{OnOk};
 ghost use Rattle.capture_file.specs.Reader.{turns_of};
+ghost use Rattle.capture_file.specs.Reading.{fault_at};
 ghost use Rattle.capture_file.specs.declared.reader.Standing.TheVariants.{Reads};
 ghost use Rattle.file_engines.specs.Fault.{Accounts, counts};
+ghost use Rattle.file_engines.specs.Received.{GivesRecords, HasRecordFault, IsFileRefusal};
+ghost use Rattle.file_engines.specs.Received.{IsOpeningRefusal};
 ghost use Rattle.file_engines.specs.Receiving.{told_fault};
+ghost use Rattle.file_engines.specs.Refusing.{OfRefusal};
 ghost use Rattle.file_engines.specs.Taking.{TakesAllDue, TakesRecord, TakesRecords};
 ghost use Rattle.path_merge.specs.Frames.{Holds};
 
@@ -39,6 +44,8 @@ impl<A: Allocator + Copy> Session<A> {
         ensures ssrc { IfOk result (λ s. s.receiver.opening.ssrc ≡ ssrc) }
         ensures holds { IfOk result (λ s. Holds s.receiver []) }
         ensures delivered { IfOk result (λ s. s.delivered ≡ 0) }
+        ensures refusal { IfErr result (λ f. OfRefusal f
+            (IsOpeningRefusal window.now sdp.now)) }
         ensures failures { Accounts result [] }
     {
         let said = read_sdp(alloc, sdp)?;
@@ -66,6 +73,8 @@ impl<A: Allocator> Session<A> {
         requires reads { reader.standing ≡ Reads }
         ensures room { length buf.new ≡ length buf.old }
         ensures taken { OnOk result.1 (TakesRecords (S.to_give reader.source) self.old self.new) }
+        ensures refusal { IfErr result.1 (λ f. OfRefusal f
+            (IsFileRefusal HasRecordFault (S.to_give reader.source))) }
         ensures failures { Accounts result.1 (counts (S.failures reader.source)
             (S.failures result.0) ∷ []) }
     {
@@ -92,6 +101,8 @@ fn take_records<S: ByteSource, A: Allocator>(
     ensures room { length buf.new ≡ length buf.old }
     ensures taken { IfOk result (λ n. TakesAllDue n
         (turns_of reader.old.standing (S.to_give reader.old.source)) receiver.old receiver.new) }
+    ensures refusal { IfErr result (λ f. OfRefusal f
+        (IsFileRefusal HasRecordFault (S.to_give reader.old.source))) }
     ensures failures { Accounts result (counts (S.failures reader.old.source)
         (S.failures reader.new.source) ∷ []) }
 {
@@ -121,6 +132,10 @@ fn next_record<S: ByteSource>(
     ensures taken { IfOk result (λ r. TakesRecord
         (turns_of reader.old.standing (S.to_give reader.old.source))
         (turns_of reader.new.standing (S.to_give reader.new.source)) r buf.new) }
+    ensures given { IfOk result (λ r. IfSome r (λ _. GivesRecords 1
+        (S.to_give reader.old.source) (S.to_give reader.new.source))) }
+    ensures refusal { IfErr result (λ f. OfRefusal f (IsFileRefusal
+        (λ octets e. fault_at octets ≡ Some e) (S.to_give reader.old.source))) }
     ensures failures { Accounts result (counts (S.failures reader.old.source)
         (S.failures reader.new.source) ∷ []) }
 {

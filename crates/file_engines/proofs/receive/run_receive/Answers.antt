@@ -2,7 +2,9 @@ use Rattle.std.proofs.Common.{List, [], ◌∷◌}
 use Rattle.std.specs.List.{sum_by}
 use Rattle.file_engines.specs.Receiving.{failures_in}
 use Rattle.file_engines.specs.Fault.{Failures, counts}
+use Rattle.file_engines.specs.Received.{IsReceiveRefusal}
 use Rattle.file_engines.proofs.Ended.{none_failed, on_done, on_refused, one_failed}
+use Rattle.file_engines.proofs.Refusals.{outcome_told}
 use Rattle.file_engines.proofs.receive.run_receive.Goals as goal
 
 pub returns-clause-device : goal.returns-clause-device
@@ -50,3 +52,12 @@ pub returns-clause-refused : goal.returns-clause-refused
 returns-clause-refused g c =
     let run = c.receive-outcome in
     λ is. on_refused run.result _ (c.end.ensures.refused is) run.ensures.refused
+
+pub returns-clause-told : goal.returns-clause-told
+returns-clause-told g c =
+    let run = c.receive-outcome in
+    let wanted = c.args.wanted in
+    let Is = IsReceiveRefusal wanted.window.now wanted.ssrc.now c.args.sdp.now
+    g.S.ByteSource.to_give c.args.captures.now.items in
+    λ is. outcome_told Is run.result (g.F.ByteSink.held c.args.faults.now)
+    (g.F.ByteSink.held c.end.new.faults) (c.end.ensures.told is) run.ensures.refusal
