@@ -1,2 +1,3 @@
 pub mod Passing
 pub mod Accounting
+pub mod LoopRefusals

@@ -1,2 +1,3 @@
 pub mod Looping
 pub mod Reporting
+pub mod Looped

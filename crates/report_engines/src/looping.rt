@@ -1,14 +1,16 @@
 //! The engine of `loop`.
 ghost use Rattle.std.specs.Prelude.{◌≡◌, ◌≢◌, ◌≤◌, ◌<◌, ◌+◌, ◌⊎◌, ◌∷◌, ℕ, List, [], min, length};
-ghost use Rattle.std.specs.Prelude.{IfOk, OnOk, Some, ⊤};
+ghost use Rattle.std.specs.Prelude.{IfErr, IfOk, OnOk, Some};
 ghost use Rattle.std.specs.Io.KnownBytes.{Appends};
 ghost use Rattle.capture_file.specs.PictureFile.{picture_text};
-ghost use Rattle.file_engines.specs.Fault.{Accounts, NoneFailed, OneFailed, counts};
-ghost use Rattle.file_engines.specs.Refusing.{TellsRefusal};
+ghost use Rattle.file_engines.specs.Fault.{Accounts, IfRefused, NoneFailed, OneFailed, counts};
+ghost use Rattle.file_engines.specs.Refusing.{OfRefusal, TellsRefusal};
+ghost use Rattle.file_engines.specs.Sent.{IsPictureRefusal};
 ghost use Rattle.packet_plan.specs.Plan.{IsFullPlan};
 ghost use Rattle.path_merge.specs.Frames.{Holds};
 ghost use Rattle.path_merge.specs.Took.{CountsAll};
 ghost use Rattle.tool_text.specs.Telling.{memory_line};
+ghost use Rattle.report_engines.specs.Looped.{IsLoopRefusal};
 ghost use Rattle.report_engines.specs.Looping.{Came, Loops, Prints, loop_opening};
 
 use crate::link::DatagramLink;
@@ -88,8 +90,10 @@ where
     ensures looped { result ≡ 0 → Loops wanted.max_octets wanted.limit
         (L.DatagramSource.delivered link.old) (L.DatagramSource.delivered link.new)
         (S.to_give picture.old) (O.held output.old) (O.held output.new) }
-    // At status 1 a refusal was told by its line.
-    ensures told { result ≡ 1 → TellsRefusal (λ _. ⊤) (F.held faults.old) (F.held faults.new) }
+    // At status 1 the picture's refusal, or that of its plan, was told by its line.
+    ensures told { result ≡ 1
+        → TellsRefusal (IsLoopRefusal wanted.max_octets (S.to_give picture.old))
+        (F.held faults.old) (F.held faults.new) }
     ensures silent { result ≡ 0 → faults.new ≡ faults.old }
     ensures memory { result ≡ 4 → Appends (F.held faults.old) (F.held faults.new) memory_line }
 {
@@ -121,6 +125,8 @@ where
     ensures looped { OnOk result (Loops wanted.max_octets wanted.limit
         (L.DatagramSource.delivered link.old) (L.DatagramSource.delivered link.new)
         (S.to_give source.old) (O.held output.old) (O.held output.new)) }
+    ensures refusal { IfErr result (λ f. OfRefusal f
+        (IsLoopRefusal wanted.max_octets (S.to_give source.old))) }
     ensures failures { Accounts result (counts (S.failures source.old) (S.failures source.new)
         ∷ counts (L.DatagramSink.failures link.old) (L.DatagramSink.failures link.new)
         ∷ counts (O.failures output.old) (O.failures output.new) ∷ []) }
@@ -137,6 +143,7 @@ where
 fn read_shown<A: Allocator, S: ByteSource>(alloc: A, source: &mut S) -> Result<Picture<A>, Fault>
     ensures found { IfOk result (λ p. (octets : List ℕ) → S.to_give source.old ≡ Some octets
         → octets ≡ picture_text p) }
+    ensures refusal { IfErr result (λ f. OfRefusal f (IsPictureRefusal (S.to_give source.old))) }
     ensures failures { Accounts result (counts (S.failures source.old) (S.failures source.new)
         ∷ []) }
 {
@@ -150,6 +157,7 @@ fn read_shown<A: Allocator, S: ByteSource>(alloc: A, source: &mut S) -> Result<P
 fn open<A: Allocator + Copy>(alloc: A, picture: &Picture<A>) -> Result<Receiver<A>, Fault>
     ensures opening { IfOk result (λ r. r.opening ≡ loop_opening picture.now.format) }
     ensures holds { IfOk result (λ r. Holds r []) }
+    ensures unrefused { IfErr result (λ f. IfRefused f ⊥) }
     ensures failures { Accounts result [] }
 {
     let format = picture.format();
@@ -178,6 +186,7 @@ fn pass<A: Allocator, L: DatagramLink>(
     ensures turns { L.DatagramSource.delivered link.new
         ≤ L.DatagramSource.delivered link.old + limit }
     ensures opening { receiver.new.opening ≡ receiver.old.opening }
+    ensures unrefused { IfErr result (λ f. IfRefused f ⊥) }
     ensures failures { Accounts result
         (counts (L.DatagramSink.failures link.old) (L.DatagramSink.failures link.new) ∷ []) }
 {
@@ -218,6 +227,7 @@ fn pass_one<A: Allocator, L: DatagramLink>(
     ensures turns { L.DatagramSource.delivered link.new
         ≤ L.DatagramSource.delivered link.old + 1 }
     ensures opening { receiver.new.opening ≡ receiver.old.opening }
+    ensures unrefused { IfErr result (λ f. IfRefused f ⊥) }
     ensures failures { Accounts result
         (counts (L.DatagramSink.failures link.old) (L.DatagramSink.failures link.new) ∷ []) }
 {
@@ -241,6 +251,7 @@ fn print_passed<A: Allocator, O: ByteSink>(
     requires { receiver.now.opening.window ≡ STAMP.timestamp ∷ [] }
     ensures printed { OnOk result (Prints passed.sent passed.delivered receiver.now
         (O.held output.old) (O.held output.new)) }
+    ensures unrefused { IfErr result (λ f. IfRefused f ⊥) }
     ensures failures { Accounts result (counts (O.failures output.old) (O.failures output.new)
         ∷ []) }
 {

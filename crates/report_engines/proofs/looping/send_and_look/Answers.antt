@@ -1,12 +1,53 @@
-use Rattle.std.proofs.Common.{ℕ, ◌∙◌, subst}
+use Rattle.std.proofs.Common.{ℕ, ◌∙◌, Err, ap, refl, subst, sym}
+use Rattle.std.proofs.lemmas.Result.{err_from_is_err_and}
 use Rattle.file_engines.proofs.Merged.{on_ok}
+use Rattle.file_engines.proofs.Refusals.{if_none_refused, none_refused}
 use Rattle.file_engines.specs.Fault.{counts}
 use Rattle.packet_plan.specs.Plan.{IsFullPlan}
 use Rattle.path_merge.specs.Frames.{State}
 use Rattle.st_format.specs.declared.format.Format.{Format}
+use Rattle.report_engines.specs.Looped.{IsLoopRefusal}
 use Rattle.report_engines.specs.Looping.{Came, Loops, Prints}
-use Rattle.report_engines.proofs.Accounting.{accounts_last}
+use Rattle.report_engines.proofs.Accounting.{accounts_last, blamed_second}
+use Rattle.report_engines.proofs.LoopRefusals.{plan_refused}
 use Rattle.report_engines.proofs.looping.send_and_look.Goals as goal
+
+pub returns-in_err-plan-clause-refusal : goal.returns-in_err-plan-clause-refusal
+returns-in_err-plan-clause-refusal g c =
+    let told = g.S.ByteSource.to_give c.args.source.now in
+    let picture = c.in_ok-picture.picture in
+    let p = err_from_is_err_and c.from_residual-in_err-plan.result
+    c.from_residual-in_err-plan.ensures.1 in
+    rw (p.1, p.2) (plan_refused c.args.wanted.max_octets told c.format.result
+    (λ octets is. (picture, sym c.format.ensures.value, c.in_ok-picture.ensures.found octets is))
+    c.in_err-plan.field-0.0 (λ is. c.in_err-plan.ensures.size.0 (ap Err is)))
+
+pub returns-in_err-passed-clause-refusal : goal.returns-in_err-passed-clause-refusal
+returns-in_err-passed-clause-refusal g c =
+    let Is = IsLoopRefusal c.args.wanted.max_octets
+    (g.S.ByteSource.to_give c.args.source.now) in
+    let p = err_from_is_err_and c.from_residual-in_err-passed.result
+    c.from_residual-in_err-passed.ensures.1 in
+    rw (p.1, p.2) (none_refused Is c.in_err-passed.field-0.0 c.in_err-passed.ensures.unrefused)
+
+pub returns-in_err-passed-clause-failures : goal.returns-in_err-passed-clause-failures
+returns-in_err-passed-clause-failures g c =
+    let p = err_from_is_err_and c.from_residual-in_err-passed.result
+    c.from_residual-in_err-passed.ensures.1 in
+    rw (p.1, p.2) (blamed_second c.in_err-passed.field-0.0
+    (counts (g.S.ByteSource.failures c.args.source.now)
+    (g.S.ByteSource.failures c.read_shown.new.source))
+    (counts (g.L.DatagramSink.failures c.args.link.now)
+    (g.L.DatagramSink.failures c.pass.new.link))
+    (counts (g.O.ByteSink.failures c.args.output.now)
+    (g.O.ByteSink.failures c.args.output.now))
+    c.in_ok-picture.ensures.failures refl c.in_err-passed.ensures.failures)
+
+pub returns-clause-refusal : goal.returns-clause-refusal
+returns-clause-refusal g c =
+    if_none_refused (IsLoopRefusal c.args.wanted.max_octets
+    (g.S.ByteSource.to_give c.args.source.now)) c.print_passed.result
+    c.print_passed.ensures.unrefused
 
 pub returns-clause-looped : goal.returns-clause-looped
 returns-clause-looped g c =
