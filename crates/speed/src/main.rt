@@ -65,20 +65,29 @@ fn run(rt: &HostRuntime) -> Result<(), Fault> {
     let mut words = env::args(rt)?;
     words.next();
     let Some(word) = words.next() else {
-        measure(rt, (Depth::D10, 48, 4, 1400, 13), 1, false)?;
-        return measure_jobs(rt, Depth::D10, (48, 4), 1, false);
+        return measure_few(rt);
     };
-    match (word.as_str(), words.next()) {
+    let what = words.next();
+    follow(rt, word.as_str(), what.as_deref())
+}
+
+/// Makes one round of a small picture, and prints nothing.
+fn measure_few(rt: &HostRuntime) -> Result<(), Fault> {
+    measure(rt, (Depth::D10, 48, 4, 1400, 13), 1, false)?;
+    measure_jobs(rt, Depth::D10, (48, 4), 1, false)
+}
+
+/// Measures what the words say.
+fn follow(rt: &HostRuntime, word: &str, what: Option<&str>) -> Result<(), Fault> {
+    match (word, what) {
         ("measure", None) => {
             for case in CASES {
                 measure(rt, case, 25, true)?;
             }
             Ok(())
         }
-        ("measure", Some(size)) if size.as_str() == "large" => {
-            measure(rt, (Depth::D10, 8192, 8192, 1400, 5), 5, true)
-        }
-        ("measure", Some(what)) if what.as_str() == "jobs" => {
+        ("measure", Some("large")) => { measure(rt, (Depth::D10, 8192, 8192, 1400, 5), 5, true) }
+        ("measure", Some("jobs")) => {
             measure_jobs(rt, Depth::D10, (1920, 1080), 25, true)?;
             measure_jobs(rt, Depth::D16, (1920, 1080), 25, true)
         }
@@ -88,28 +97,44 @@ fn run(rt: &HostRuntime) -> Result<(), Fault> {
 
 /// Measures the calls of a case.
 fn measure(rt: &HostRuntime, case: Case, rounds: u32, prints: bool) -> Result<(), Fault> {
-    let (depth, width, height, size, count) = case;
+    let (depth, width, height, size, _) = case;
     let Ok(format) = Format::new(Sampling::Ycc422, depth, width, height, 60, 1) else {
         return Err(Fault);
     };
     let first = Stream::new(rt.alloc(), format, size, Change(0, 1))?;
     let mut room = Room::new(rt.alloc(), &first)?;
-    let copied = room.best(rt, Call::Copy, (&first, &first), rounds)?;
+    measure_calls(rt, &first, &mut room, case, rounds, prints)
+}
+
+/// Measures the calls of a case on its stream and in its room.
+fn measure_calls(
+    rt: &HostRuntime,
+    first: &Stream,
+    room: &mut Room,
+    case: Case,
+    rounds: u32,
+    prints: bool,
+) -> Result<(), Fault> {
+    let copied = room.best(rt, Call::Copy, (first, first), rounds)?;
     let octets = room.octets.len();
     if prints {
-        let bits = depth.bits();
-        println!(rt;
-            "{width} by {height}, 4:2:2, {bits} bits, packets of {size}, {octets} octets"
-        )?;
-        print(rt, "copy of the octets", copied, copied, octets)?;
+        print_case(rt, case, copied, octets)?;
     }
-    for (name, call) in CALLS.iter().take(count) {
-        let spent = spend(rt, *call, &first, &mut room, size, rounds)?;
+    for (name, call) in CALLS.iter().take(case.4) {
+        let spent = spend(rt, *call, first, room, case.3, rounds)?;
         if prints {
             print(rt, name, spent, copied, octets)?;
         }
     }
     Ok(())
+}
+
+/// Prints a case, and the line of the copy of its octets.
+fn print_case(rt: &HostRuntime, case: Case, copied: u64, octets: usize) -> Result<(), Fault> {
+    let (depth, width, height, size, _) = case;
+    let bits = depth.bits();
+    println!(rt; "{width} by {height}, 4:2:2, {bits} bits, packets of {size}, {octets} octets")?;
+    print(rt, "copy of the octets", copied, copied, octets)
 }
 
 /// The nanoseconds of a call's best round, in packets of this size.
@@ -156,21 +181,45 @@ fn measure_jobs(
         let Ok(format) = Format::new(sampling, depth, size.0, size.1, 60, 1) else {
             return Err(Fault);
         };
-        let mut inputs = Inputs::new(rt.alloc(), format)?;
-        let copied = inputs.best(rt, &job, count, Way::Copy, rounds)?;
-        let called = inputs.best(rt, &job, count, Way::Call, rounds)?;
-        let looped = inputs.best(rt, &job, count, Way::Plain, rounds)?;
-        let octets = format.sample_count().wrapping_mul(2).wrapping_mul(count);
+        let spent = spend_job(rt, &job, format, count, rounds)?;
         if prints {
-            let bits = depth.bits();
-            println!(rt; "{name}, {bits} bits, {count} of {octets} octets in all")?;
-            print(rt, "copy of the samples", copied, copied, octets)?;
-            print(rt, "the job", called, copied, octets)?;
-            print(rt, "a plain loop", looped, copied, octets)?;
+            print_job(rt, name, format, count, spent)?;
         }
         measure_sending(rt, &job, format, count, rounds, prints)?;
     }
     Ok(())
+}
+
+/// The nanoseconds of the best rounds of a copy of a job's inputs, of the job, and of a plain loop.
+fn spend_job(
+    rt: &HostRuntime,
+    job: &Job,
+    format: Format,
+    count: usize,
+    rounds: u32,
+) -> Result<(u64, u64, u64), Fault> {
+    let mut inputs = Inputs::new(rt.alloc(), format)?;
+    let copied = inputs.best(rt, job, count, Way::Copy, rounds)?;
+    let called = inputs.best(rt, job, count, Way::Call, rounds)?;
+    let looped = inputs.best(rt, job, count, Way::Plain, rounds)?;
+    Ok((copied, called, looped))
+}
+
+/// Prints a job, and the lines of a copy of its inputs, of the job, and of a plain loop.
+fn print_job(
+    rt: &HostRuntime,
+    name: &str,
+    format: Format,
+    count: usize,
+    spent: (u64, u64, u64),
+) -> Result<(), Fault> {
+    let (copied, called, looped) = spent;
+    let octets = format.sample_count().wrapping_mul(2).wrapping_mul(count);
+    let bits = format.depth().bits();
+    println!(rt; "{name}, {bits} bits, {count} of {octets} octets in all")?;
+    print(rt, "copy of the samples", copied, copied, octets)?;
+    print(rt, "the job", called, copied, octets)?;
+    print(rt, "a plain loop", looped, copied, octets)
 }
 
 /// Measures `send_job`, as a ratio to its parts.
