@@ -1,4 +1,5 @@
 pub mod InRow
+mod Inputs
 pub mod Mixed
 pub mod Parts
 pub mod Pictures
