@@ -25,21 +25,19 @@ fn random(
 ) -> Result<Picture, Fail> {
     let format = Format::new(sampling, depth, WIDTH, HEIGHT, 60, 1)?;
     let mut picture = Picture::new(alloc, format, [0, 0, 0])?;
-    let most = format.max_value();
+    fill(generator, format.max_value(), &mut picture);
+    Ok(picture)
+}
+
+/// Sets each value of a picture to one of these bits.
+fn fill(generator: &mut Generator, most: u16, picture: &mut Picture) {
     for row in 0..HEIGHT {
         for column in 0..WIDTH {
             for component in 0..3u8 {
-                set(
-                    &mut picture,
-                    row,
-                    column,
-                    component,
-                    generator.word() & most,
-                );
+                set(picture, row, column, component, generator.word() & most);
             }
         }
     }
-    Ok(picture)
 }
 
 /// A row, a column and a component.
@@ -165,17 +163,24 @@ fn sampling_of(job: &Job, sampling: Sampling) -> Sampling {
     }
 }
 
+/// Whether a job's picture is of its formula and has this format.
+fn gives(alloc: Global, job: &Job, inputs: &[Picture], wanted: &Format) -> bool {
+    match run_job(alloc, job, inputs) {
+        Ok(made) => made.format() == *wanted && is_made(job, inputs, &made),
+        Err(_) => false,
+    }
+}
+
 /// Whether a job's picture is of its formula and has the inputs' size, depth and rate.
-fn is_run(alloc: Global, job: &Job, inputs: &[Picture]) -> Result<bool, Fail> {
+fn is_run(alloc: Global, job: &Job, inputs: &[Picture]) -> bool {
     let Some(first) = inputs.first() else {
-        return Ok(false);
+        return false;
     };
     let format = first.format();
     let sampling = sampling_of(job, format.sampling());
-    let wanted = Format::new(sampling, format.depth(), WIDTH, HEIGHT, 60, 1)?;
-    match run_job(alloc, job, inputs) {
-        Ok(made) => Ok(made.format() == wanted && is_made(job, inputs, &made)),
-        Err(_) => Ok(false),
+    match Format::new(sampling, format.depth(), WIDTH, HEIGHT, 60, 1) {
+        Ok(wanted) => gives(alloc, job, inputs, &wanted),
+        Err(_) => false,
     }
 }
 
@@ -202,19 +207,19 @@ const WIPES: [(Axis, u32, u32); 7] = [
 ];
 
 /// Whether the jobs give their pictures for the first `count` inputs.
-fn are_run(alloc: Global, jobs: &[Job], inputs: &[Picture], count: usize) -> Result<bool, Fail> {
+fn are_run(alloc: Global, jobs: &[Job], inputs: &[Picture], count: usize) -> bool {
     let Some(inputs) = inputs.get(..count) else {
-        return Ok(false);
+        return false;
     };
     let mut are_run = true;
     for job in jobs {
-        are_run &= is_run(alloc, job, inputs)?;
+        are_run &= is_run(alloc, job, inputs);
     }
-    Ok(are_run)
+    are_run
 }
 
 /// The same of the wipes, for the first two inputs.
-fn are_wiped(alloc: Global, inputs: &[Picture]) -> Result<bool, Fail> {
+fn are_wiped(alloc: Global, inputs: &[Picture]) -> bool {
     let mut are_wiped = true;
     for (axis, position, soft) in WIPES {
         let job = Job::Wipe(WipeShape {
@@ -222,25 +227,47 @@ fn are_wiped(alloc: Global, inputs: &[Picture]) -> Result<bool, Fail> {
             position,
             soft,
         });
-        are_wiped &= are_run(alloc, &[job], inputs, 2)?;
+        are_wiped &= are_run(alloc, &[job], inputs, 2);
     }
-    Ok(are_wiped)
+    are_wiped
+}
+
+/// Whether a job of inputs that it takes, or may refuse by this fault, is run or refused so.
+fn is_run_or_refused(
+    alloc: Global,
+    job: &Job,
+    inputs: &[Picture],
+    takes: bool,
+    refusal: JobFault,
+) -> bool {
+    match run_job(alloc, job, inputs).err() {
+        Some(fault) => !takes && fault == refusal,
+        None => is_run(alloc, job, inputs),
+    }
 }
 
 /// The matrix of RGB, 4:2:2 of 4:4:4, and what they refuse.
-fn resamples(alloc: Global, inputs: &[Picture], sampling: Sampling) -> Result<bool, Fail> {
+fn resamples(alloc: Global, inputs: &[Picture], sampling: Sampling) -> bool {
     let Some(inputs) = inputs.get(..1) else {
-        return Ok(false);
+        return false;
     };
-    let matrixed = match run_job(alloc, &Job::ToYcc444, inputs) {
-        Err(fault) => sampling != Sampling::Rgb && fault == JobFault::NotRgb,
-        Ok(_) => is_run(alloc, &Job::ToYcc444, inputs)?,
-    };
-    let thinned = match run_job(alloc, &Job::ToYcc422, inputs) {
-        Err(fault) => sampling != Sampling::Ycc444 && fault == JobFault::NotYcc444,
-        Ok(_) => is_run(alloc, &Job::ToYcc422, inputs)?,
-    };
-    Ok(matrixed && thinned)
+    let (is_rgb, is_ycc444) = (sampling == Sampling::Rgb, sampling == Sampling::Ycc444);
+    is_run_or_refused(alloc, &Job::ToYcc444, inputs, is_rgb, JobFault::NotRgb)
+        && is_run_or_refused(
+            alloc,
+            &Job::ToYcc422,
+            inputs,
+            is_ycc444,
+            JobFault::NotYcc444,
+        )
+}
+
+/// Whether three pictures come through each job.
+fn inputs_come_through(alloc: Global, inputs: &[Picture], sampling: Sampling) -> bool {
+    are_run(alloc, &SINGLE, inputs, 1)
+        && are_wiped(alloc, inputs)
+        && are_run(alloc, &[Job::Key], inputs, 3)
+        && resamples(alloc, inputs, sampling)
 }
 
 /// Whether pictures of one sampling and depth come through each job, keyed by both samplings with
@@ -258,10 +285,7 @@ fn comes_through(
             random(alloc, generator, sampling, depth)?,
             random(alloc, generator, of_key, depth)?,
         ];
-        comes &= are_run(alloc, &SINGLE, &inputs, 1)?;
-        comes &= are_wiped(alloc, &inputs)?;
-        comes &= are_run(alloc, &[Job::Key], &inputs, 3)?;
-        comes &= resamples(alloc, &inputs, sampling)?;
+        comes &= inputs_come_through(alloc, &inputs, sampling);
     }
     Ok(comes)
 }

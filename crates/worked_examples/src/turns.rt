@@ -1,10 +1,10 @@
 //! Sources of datagrams, what a receiver takes from them, and frames that are joined.
-ghost use Rattle.std.specs.Prelude.{◌≡◌, IfOk};
+ghost use Rattle.std.specs.Prelude.{◌≡◌};
 
 use crate::checks::{met, none_fails};
 use crate::small_format::{ANOTHER, LOWER, OTHER_VERSION, UPPER, counted, counts, small};
 use frame_assembly::{Counts, Frame};
-use path_merge::{ReceiveFault, Received, Receiver, receive};
+use path_merge::{OpenFault, ReceiveFault, Received, Receiver, receive};
 use payload_header::{PayloadFault, read_payload};
 use refusing::Refusing;
 use st_format::memory::{MemoryTurn, MemoryTurns};
@@ -94,11 +94,8 @@ fn turns_in_memory(rt: HostRuntime) -> Result<(), Fail> {
 /// What a source of one datagram of so many octets tells, and how many turns are then to come.
 fn told(alloc: Global, octets: usize) -> Result<(Result<Turn, SourceFault>, usize), AllocError> {
     let datagram = Vec::from_elem(alloc, 7, octets)?;
-    let mut turns = Vec::with_capacity(alloc, 1)?;
-    turns.push(MemoryTurn::Datagram(Path::A, datagram))?;
-    let mut source = MemoryTurns::new(turns, 0);
-    let mut buf = Vec::from_elem(alloc, 0, 65_535)?;
-    let turn = source.next(buf.as_mut_slice());
+    let mut source = source(alloc, &[Some((Path::A, datagram.as_slice()))], 0)?;
+    let (turn, _) = next(alloc, &mut source, b"")?;
     Ok((turn, source.turns().len()))
 }
 
@@ -126,43 +123,47 @@ fn put<A: Allocator>(frame: &mut Frame<A>, octets: &[u8]) -> Result<(), PayloadF
     Ok(())
 }
 
-/// A frame of a datagram's payload.
-fn holding<A: Allocator + Copy>(alloc: A, format: Format, octets: &[u8]) -> Result<Frame<A>, Fail>
-    ensures { IfOk result (λ f. f.format ≡ format) }
-{
-    let mut frame = Frame::new(alloc, format)?;
-    put(&mut frame, octets)?;
-    Ok(frame)
+/// Whether a frame has these counts once it has taken in one of a row, which keeps its own.
+fn absorbs<A: Allocator + Copy>(
+    alloc: A,
+    frame: &mut Frame,
+    octets: &[u8],
+    wanted: Counts,
+) -> bool {
+    match Frame::new(alloc, frame.format()) {
+        Ok(mut other) => {
+            let is_put = put(&mut other, octets).is_ok();
+            frame.absorb(&other);
+            is_put && frame.counts() == wanted && other.counts() == counted(8, 8, 0)
+        }
+        Err(_) => false,
+    }
 }
 
-/// The counts of a frame that takes in others, one after another, and those of the first of them.
-fn joined(alloc: Global, format: Format) -> Result<[Counts; 5], Fail> {
+/// Whether a frame of nothing takes the upper row, and then others, one after another.
+fn joins(alloc: Global, frame: &mut Frame) -> bool {
     let refusing = Refusing::new(alloc, 0);
-    let mut frame = holding(alloc, format, UPPER)?;
-    let first = frame.counts();
-    let lower = holding(&refusing, format, LOWER)?;
-    frame.absorb(&lower);
-    let second = frame.counts();
-    frame.absorb(&holding(alloc, format, ANOTHER)?);
-    let third = frame.counts();
-    frame.absorb(&holding(alloc, format, UPPER)?);
-    Ok([first, second, third, frame.counts(), lower.counts()])
+    let contested = counted(15, 0, 1);
+    put(frame, UPPER).is_ok()
+        && frame.counts() == counted(8, 8, 0)
+        && absorbs(&refusing, frame, LOWER, counted(16, 0, 0))
+        && absorbs(alloc, frame, ANOTHER, contested)
+        && absorbs(alloc, frame, UPPER, contested)
 }
 
 /// Two halves make the whole frame; what differs is contested, and stays so. The other frame may be
 /// over another allocator.
 #[test]
 fn frames_joined(rt: HostRuntime) -> Result<(), Fail> {
-    let half = counted(8, 8, 0);
-    let contested = counted(15, 0, 1);
-    let wanted = [half, counted(16, 0, 0), contested, contested, half];
-    met(&rt, joined(rt.alloc(), small()?)? == wanted);
+    let mut frame = Frame::new(rt.alloc(), small()?)?;
+    let joins = joins(rt.alloc(), &mut frame);
+    met(&rt, joins);
     Ok(())
 }
 
-/// A receiver of F1, payload type 96, any source and window [900].
-fn receiver(alloc: Global) -> Result<Receiver, Fail> {
-    Ok(Receiver::open(alloc, small()?, 96, None, &[900])?)
+/// A receiver of a format, payload type 96, any source and window [900].
+fn receiver(alloc: Global, format: Format) -> Result<Receiver, OpenFault> {
+    Receiver::open(alloc, format, 96, None, &[900])
 }
 
 /// At most `limit` turns of a source.
@@ -195,22 +196,32 @@ const LIMITS: [(u64, u64, bool, u64); 6] = [
 ];
 
 /// Whether a source is received up to a limit, or to the end.
-fn is_received(alloc: Global, limit: u64, received: Received, present: u64) -> Result<bool, Fail> {
-    let mut source = source(alloc, &THREE, 0)?;
-    let mut receiver = receiver(alloc)?;
-    let result = taken(alloc, &mut source, &mut receiver, limit)?;
+fn is_received(
+    alloc: Global,
+    format: Format,
+    source: &mut MemoryTurns,
+    limit: u64,
+    received: Received,
+    present: u64,
+) -> bool {
     let frame = counted(present, 16u64.wrapping_sub(present), 0);
-    Ok(result == Ok(received) && counts(&receiver, 900) == Some(frame))
+    match receiver(alloc, format) {
+        Ok(mut receiver) => {
+            taken(alloc, source, &mut receiver, limit) == Ok(Ok(received))
+                && counts(&receiver, 900) == Some(frame)
+        }
+        Err(_) => false,
+    }
 }
 
 #[test]
 fn received_from_a_source(rt: HostRuntime) -> Result<(), Fail> {
-    for (limit, delivered, ended, present) in &LIMITS {
-        let received = Received {
-            delivered: *delivered,
-            ended: *ended,
-        };
-        met(&rt, is_received(rt.alloc(), *limit, received, *present)?);
+    let format = small()?;
+    for (limit, delivered, ended, present) in LIMITS {
+        let received = Received { delivered, ended };
+        let mut source = source(rt.alloc(), &THREE, 0)?;
+        let is_received = is_received(rt.alloc(), format, &mut source, limit, received, present);
+        met(&rt, is_received);
     }
     Ok(())
 }
@@ -230,18 +241,15 @@ fn ends_at_fault(
     receiver: &mut Receiver,
     delivered: u64,
     present: u64,
-) -> Result<bool, AllocError> {
+) -> bool {
     let fault = ReceiveFault {
         delivered,
         fault: SourceFault::Device,
     };
-    let result = taken(alloc, source, receiver, 10)?;
     let frame = counted(present, 16u64.wrapping_sub(present), 0);
-    Ok(
-        result == Err(fault)
-            && counts(receiver, 900) == Some(frame)
-            && source.delivered() == delivered,
-    )
+    taken(alloc, source, receiver, 10) == Ok(Err(fault))
+        && counts(receiver, 900) == Some(frame)
+        && source.delivered() == delivered
 }
 
 /// Whether the rest of it comes later.
@@ -250,27 +258,35 @@ fn goes_on(
     source: &mut MemoryTurns,
     receiver: &mut Receiver,
     delivered: u64,
-) -> Result<bool, AllocError> {
+) -> bool {
     let received = Received {
         delivered,
         ended: true,
     };
-    let result = taken(alloc, source, receiver, 10)?;
-    Ok(result == Ok(received) && counts(receiver, 900) == Some(counted(8, 8, 0)))
+    taken(alloc, source, receiver, 10) == Ok(Ok(received))
+        && counts(receiver, 900) == Some(counted(8, 8, 0))
+}
+
+/// Whether a source that fails behind so many datagrams gives what came before, and then the rest.
+fn comes_in_two(alloc: Global, format: Format, source: &mut MemoryTurns, before: u64) -> bool {
+    let present = if before == 0 { 0 } else { 8 };
+    match receiver(alloc, format) {
+        Ok(mut receiver) => {
+            ends_at_fault(alloc, source, &mut receiver, before, present)
+                && goes_on(alloc, source, &mut receiver, 3u64.saturating_sub(before))
+        }
+        Err(_) => false,
+    }
 }
 
 /// A source that fails at one call: what came before is taken, and the rest comes later.
 #[test]
 fn received_up_to_a_fault(rt: HostRuntime) -> Result<(), Fail> {
+    let format = small()?;
     for before in 0..3u64 {
         let mut source = source(rt.alloc(), &THRICE, before + 1)?;
-        let mut receiver = receiver(rt.alloc())?;
-        let present = if before == 0 { 0 } else { 8 };
-        let ends = ends_at_fault(rt.alloc(), &mut source, &mut receiver, before, present)?;
-        met(
-            &rt,
-            ends && goes_on(rt.alloc(), &mut source, &mut receiver, 3 - before)?,
-        );
+        let comes = comes_in_two(rt.alloc(), format, &mut source, before);
+        met(&rt, comes);
     }
     Ok(())
 }
