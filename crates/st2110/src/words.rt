@@ -166,19 +166,39 @@ pub fn read_words(alloc: Global, words: &[String]) -> Result<Given<'_>, WordsFau
 
 /// Reads the command.
 fn command<'a>(alloc: Global, matches: &ArgMatches<'a>) -> Result<Words<'a>, AllocError> {
-    Ok(match matches.subcommand() {
-        Some(("sdp", _)) => Words::Sdp,
-        Some(("rehearse", _)) => Words::Rehearse,
-        Some(("migrate", given)) => Words::Migrate(migrate_words(given)),
-        Some(("send", given)) => Words::Send(send_words(alloc, given)?),
-        Some(("receive", given)) => Words::Receive(receive_words(alloc, given)?),
-        Some(("merge", given)) => Words::Merge(merge_words(given)),
-        Some(("process", given)) => Words::Process(process_words(alloc, given)?),
-        Some(("report", given)) => Words::Report(word(given, "state")),
-        Some(("loop", given)) => Words::Loop(loop_words(given)),
-        // clap lets `trace` and no words through, and nothing else.
+    match matches.subcommand() {
+        Some((name, given)) => command_words(alloc, name, given),
+        // clap lets no words through, as `trace`.
+        None => Ok(Words::Trace),
+    }
+}
+
+/// Reads the words of the command of this name.
+fn command_words<'a>(
+    alloc: Global,
+    name: &str,
+    given: &ArgMatches<'a>,
+) -> Result<Words<'a>, AllocError> {
+    match name {
+        "send" => Ok(Words::Send(send_words(alloc, given)?)),
+        "receive" => Ok(Words::Receive(receive_words(alloc, given)?)),
+        "process" => Ok(Words::Process(process_words(alloc, given)?)),
+        _ => Ok(plain_words(name, given)),
+    }
+}
+
+/// Reads the words of a command that takes no list of files.
+fn plain_words<'a>(name: &str, given: &ArgMatches<'a>) -> Words<'a> {
+    match name {
+        "sdp" => Words::Sdp,
+        "rehearse" => Words::Rehearse,
+        "migrate" => Words::Migrate(migrate_words(given)),
+        "merge" => Words::Merge(merge_words(given)),
+        "report" => Words::Report(word(given, "state")),
+        "loop" => Words::Loop(loop_words(given)),
+        // clap lets `trace` through, and nothing else.
         _ => Words::Trace,
-    })
+    }
 }
 
 fn migrate_words<'a>(given: &ArgMatches<'a>) -> MigrateWords<'a> {

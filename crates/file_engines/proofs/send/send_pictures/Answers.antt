@@ -11,6 +11,6 @@ returns-clause-refusal g c =
     let format = c.in-Ok-begin.begun.0.plan.format in
     if_err_map c.send_rest-sent.result
     (λ e. of_refusal_map e
-        (λ r is. rest_refused c.args.wanted.max_octets format f c.args.pictures.now r begun.says
-        (subst (λ ys. IsRestRefusal format f ys r) begun.behind is)))
+    (λ r is. rest_refused c.args.wanted.max_octets format f c.args.pictures.now r begun.says
+    (subst (λ ys. IsRestRefusal format f ys r) begun.behind is)))
     c.send_rest-sent.ensures.refusal
