@@ -11,7 +11,7 @@ use Rattle.std.proofs.lemmas.List.{ext_get_or, get_or-set_same, get_or-set_other
 use Rattle.std.proofs.lemmas.List.{take_at, get_or_append_left, get_or-take, drop-append-le}
 use Rattle.std.proofs.lemmas.List.{take-append-le, length-drop, get_or-append_right}
 use Rattle.std.proofs.lemmas.List.FromFn.{get_or-map-range_with_len}
-use Rattle.std.proofs.lemmas.Nat.{pow_pos, shr-shr, shr_split, one_shl}
+use Rattle.std.proofs.lemmas.Nat.{pow_pos, shr-shr, shr_split, one_shl, mul-le}
 use Rattle.std.proofs.lemmas.Nat.Bits.{bit_at-zero, bit_at-lt, bit_at_and, bit_at_or, bit_at_ones}
 use Rattle.std.proofs.lemmas.Nat.Bits.{bit_at_ones_above, bit_at_above, bit_at_cat_low}
 use Rattle.std.proofs.lemmas.Nat.Bits.{bit_at_cat_high, and_pow}
@@ -629,7 +629,7 @@ AreContested-append samples vs1 ws1 marks1 new_marks1 new1 vs2 ws2 marks2 new_ma
       ];
     }
 
-group_agrees : (s : Sampling) (d : Depth)
+pub group_agrees : (s : Sampling) (d : Depth)
     → 8 * (pixel_group s d).octets ≡ bits_of d * (pixel_group s d).samples
 group_agrees Ycc422 D8 = refl
 group_agrees Ycc422 D10 = refl
@@ -649,6 +649,36 @@ some_bits D8 = omega arith
 some_bits D10 = omega arith
 some_bits D12 = omega arith
 some_bits D16 = omega arith
+
+-- how many samples a group has
+pub sample_bounds : (s : Sampling) (d : Depth)
+    → (0 < (pixel_group s d).samples) × ((pixel_group s d).samples ≤ 12)
+sample_bounds Ycc422 D8 = (omega arith, omega arith)
+sample_bounds Ycc422 D10 = (omega arith, omega arith)
+sample_bounds Ycc422 D12 = (omega arith, omega arith)
+sample_bounds Ycc422 D16 = (omega arith, omega arith)
+sample_bounds Ycc444 D8 = (omega arith, omega arith)
+sample_bounds Ycc444 D10 = (omega arith, omega arith)
+sample_bounds Ycc444 D12 = (omega arith, omega arith)
+sample_bounds Ycc444 D16 = (omega arith, omega arith)
+sample_bounds Rgb D8 = (omega arith, omega arith)
+sample_bounds Rgb D10 = (omega arith, omega arith)
+sample_bounds Rgb D12 = (omega arith, omega arith)
+sample_bounds Rgb D16 = (omega arith, omega arith)
+
+-- octets of whole groups beside the first of the samples that lie in a list
+pub first_samples : (s : Sampling) (d depth : Depth) (samples : ℕ) (octets marks xs : List ℕ)
+    → depth ≡ d → samples ≡ (pixel_group s d).samples
+    → length octets ≡ (pixel_group s d).octets * length marks → samples * length marks ≤ length xs
+    → 8 * length octets ≡ bits_of depth * length (take (samples * length marks) xs)
+first_samples s d depth samples octets marks xs same count long few =
+    let k : ℕ = length marks in
+    let group : ℕ = (pixel_group s d).samples in
+    ap (λ (n : ℕ). 8 * n) long ∙ sym (mul_assoc 8 (pixel_group s d).octets k)
+    ∙ ap (λ (n : ℕ). n * k) (group_agrees s d) ∙ mul_assoc (bits_of d) group k
+    ∙ ap (λ (n : ℕ). bits_of d * (n * k)) (sym count)
+    ∙ ap (λ (e : Depth). bits_of e * (samples * k)) (sym same)
+    ∙ ap (λ (n : ℕ). bits_of depth * n) (sym (length-take-le (samples * k) xs few))
 
 -- the values of groups in two parts
 values_of_parts : (s : Sampling) (d : Depth) (octets others : List ℕ) (k l : ℕ)
@@ -677,6 +707,30 @@ length-group_values s d octets k long =
     (sym (mul_assoc 8 size k) ∙ ap (λ (x : ℕ). x * k) (group_agrees s d)
     ∙ mul_assoc n samples k) ∙ mul-div_cancel_left (samples * k) (some_bits d)
 
+-- the octets of all groups behind the first four
+pub other_octets : (size : ℕ) (octets a b marks l m : List ℕ) → octets ≡ a ++ b → marks ≡ l ++ m
+    → length octets ≡ size * length marks → length a ≡ size * 4 → length l ≡ 4
+    → length b ≡ size * length m
+other_octets size octets a b marks l m is_octets is_marks long long_a long_l =
+    let sum : size * length marks ≡ size * 4 + size * length m =
+    ap (λ (k : ℕ). size * k)
+    (ap length is_marks ∙ length-append l m ∙ ap (λ (k : ℕ). k + length m) long_l)
+    ∙ mul-add size 4 (length m) in
+    omega (arith, long, long_a, sum, ap length is_octets ∙ length-append a b)
+
+-- more samples than are compared at once are of four groups at least
+pub many_groups : (s : Sampling) (d : Depth) (samples groups : ℕ)
+    → samples ≡ (pixel_group s d).samples → 48 < samples * groups → 4 ≤ groups
+many_groups s d samples groups same many = elim (cases_lt groups 4) [
+  | inl few ↦ omega (
+    arith,
+    many,
+    mul-le samples groups 12 3
+        (subst (λ (n : ℕ). n ≤ 12) (sym same) (sample_bounds s d).1) (omega arith),
+  )
+  | inr all ↦ all
+]
+
 -- groups of which the first four and the others were contested apart
 pub parts_contested : (s : Sampling) (d : Depth)
     (octets a b others p q marks l m new_a new_b new_l new_m : List ℕ)
@@ -695,14 +749,11 @@ parts_contested s d octets a b others p q marks l m new_a new_b new_l new_m is_o
     let n : ℕ = bits_of d in
     let size : ℕ = (pixel_group s d).octets in
     let samples : ℕ = (pixel_group s d).samples in
-    let count : length marks ≡ 4 + length m =
-    ap length is_marks ∙ length-append l m ∙ ap (λ (k : ℕ). k + length m) long_l in
-    let sum : size * length marks ≡ size * 4 + size * length m =
-    ap (λ (k : ℕ). size * k) count ∙ mul-add size 4 (length m) in
     let long_b : length b ≡ size * length m =
-    omega (arith, ap length is_octets ∙ length-append a b) in
+    other_octets size octets a b marks l m is_octets is_marks long long_a long_l in
     let long_q : length q ≡ size * length m =
-    omega (arith, ap length is_others ∙ length-append p q) in
+    other_octets size others p q marks l m is_others is_marks (alike ∙ long) (long_p ∙ long_a)
+    long_l in
     let by_four : samples * 4 ≡ samples * length l =
     ap (λ (k : ℕ). samples * k) (sym long_l) in
     let both : AreContested samples (values_in n a ++ values_in n b)

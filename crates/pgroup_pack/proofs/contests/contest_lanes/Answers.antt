@@ -1,10 +1,12 @@
-use Rattle.std.proofs.Common.{◌≡◌, ℕ, ◌*◌, List, length, take, refl, sym, ap, ◌∙◌, subst}
+use Rattle.std.proofs.Common.{◌≡◌, ◌<◌, ◌≤◌, ℕ, ◌*◌, List, length, take, refl, sym, ap, ◌∙◌}
+use Rattle.std.proofs.Common.{subst}
 use Rattle.std.proofs.Common.{arith, rules}
 use Rattle.st_format.specs.Pgroup.{bits_of, pixel_group}
 use Rattle.st_format.specs.Samples.{values_in}
 use Rattle.st_format.specs.declared.sampling.Depth.{Depth}
 use Rattle.pgroup_pack.specs.Groups.{AreContested}
-use Rattle.pgroup_pack.proofs.Marking.{few_contested, length-group_values}
+use Rattle.pgroup_pack.proofs.Marking.{few_contested, first_samples}
+use Rattle.pgroup_pack.proofs.Marking.{length-group_values, sample_bounds}
 use Rattle.pgroup_pack.proofs.Values.{spelled_values}
 use Rattle.pgroup_pack.proofs.contests.contest_lanes.Goals as goal
 
@@ -56,3 +58,52 @@ returns c =
     (values_in n octets) xs marks new_marks new) right_is left in
     subst (λ (k : ℕ). AreContested k (values_in n octets)
     (values_in n others) marks new_marks new) c.requires.samples right
+
+lanes : (samples group marks : ℕ) → samples ≡ group → group * marks ≤ 48 → samples * marks ≤ 48
+lanes samples group marks same few = subst (λ (n : ℕ). n * marks ≤ 48) (sym same) few
+
+pub overflow_mul-count : goal.overflow_mul-count
+overflow_mul-count c =
+    omega (arith, lanes c.args.samples _ (length c.args.marks.now) c.requires.samples c.requires.few)
+
+pub unpack_at-requires : goal.unpack_at-requires
+unpack_at-requires c =
+    first_samples c.args.format.now.sampling c.args.format.now.depth c.args.depth c.args.samples
+    c.args.octets.now c.args.marks.now _ c.requires.depth c.requires.samples c.requires.octets
+    (lanes c.args.samples _ (length c.args.marks.now) c.requires.samples c.requires.few)
+
+pub unpack_at-requires-2 : goal.unpack_at-requires-2
+unpack_at-requires-2 c =
+    first_samples c.args.format.now.sampling c.args.format.now.depth c.args.depth c.args.samples
+    c.args.others.now c.args.marks.now _ c.requires.depth c.requires.samples
+    (c.requires.others ∙ c.requires.octets)
+    (lanes c.args.samples _ (length c.args.marks.now) c.requires.samples c.requires.few)
+
+pub mark_differing-contested-requires-clause-some :
+    goal.mark_differing-contested-requires-clause-some
+mark_differing-contested-requires-clause-some c =
+    subst (λ (n : ℕ). 0 < n) (sym c.requires.samples)
+    (sample_bounds c.args.format.now.sampling c.args.format.now.depth).0
+
+pub mark_differing-contested-requires-clause-most :
+    goal.mark_differing-contested-requires-clause-most
+mark_differing-contested-requires-clause-most c =
+    subst (λ (n : ℕ). n ≤ 12) (sym c.requires.samples)
+    (sample_bounds c.args.format.now.sampling c.args.format.now.depth).1
+
+pub mark_differing-contested-requires-clause-few :
+    goal.mark_differing-contested-requires-clause-few
+mark_differing-contested-requires-clause-few c =
+    lanes c.args.samples _ (length c.args.marks.now) c.requires.samples c.requires.few
+
+pub pack_at-requires-clause-lengths : goal.pack_at-requires-clause-lengths
+pack_at-requires-clause-lengths c =
+    first_samples c.args.format.now.sampling c.args.format.now.depth c.args.depth c.args.samples
+    c.args.octets.now c.args.marks.now c.blank_bits.new.samples c.requires.depth c.requires.samples
+    c.requires.octets
+    (omega (
+      arith,
+      c.blank_bits.auto,
+      c.unpack_at.auto.samples,
+      lanes c.args.samples _ (length c.args.marks.now) c.requires.samples c.requires.few,
+    ))
