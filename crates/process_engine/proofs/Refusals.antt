@@ -1,6 +1,6 @@
 -- Which refusal ends a run.
 use Rattle.std.proofs.Common.{◌≡◌, ℕ, ◌<◌, zero, suc, ◌⊎◌, inl, inr, List, [], ◌∷◌, length}
-use Rattle.std.proofs.Common.{get_or, Option, None, Some, Result, Ok, Err, IfErr, IfOk}
+use Rattle.std.proofs.Common.{get_or, Option, None, Some, Result, Ok, Err, IfOk}
 use Rattle.std.proofs.Common.{refl, ap, arith, subst, sym, ◌∙◌, ◌↔◌, IsSome, OnOk}
 use Rattle.std.proofs.lemmas.Bool.{false≢true}
 use Rattle.std.specs.List.{AllByRecursion}

@@ -64,7 +64,11 @@ lanes samples group marks same few = subst (λ (n : ℕ). n * marks ≤ 48) (sym
 
 pub overflow_mul-count : goal.overflow_mul-count
 overflow_mul-count c =
-    omega (arith, lanes c.args.samples _ (length c.args.marks.now) c.requires.samples c.requires.few)
+    omega (
+      arith,
+      lanes c.args.samples _ (length c.args.marks.now)
+          c.requires.samples c.requires.few,
+    )
 
 pub unpack_at-requires : goal.unpack_at-requires
 unpack_at-requires c =

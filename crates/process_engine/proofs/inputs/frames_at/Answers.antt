@@ -1,5 +1,8 @@
-use Rattle.std.proofs.Common.{arith, refl, subst, sym}
+use Rattle.std.proofs.Common.{Some, map, option_copied, arith, refl, subst, sym, ap, ◌∙◌}
+use Rattle.std.proofs.lemmas.List.{take_all}
+use Rattle.path_merge.specs.Frames.{frame_at}
 use Rattle.st_format.specs.Member.{IsMember}
+use Rattle.process_engine.proofs.Lists.{map_next}
 use Rattle.process_engine.proofs.Refusals.{member_at, window_lacks}
 use Rattle.process_engine.proofs.inputs.frames_at.Goals as goal
 
@@ -16,3 +19,19 @@ returns-in_default-clause-refused g c =
             c.in_default.not-Some c.frame.ensures.within;
       },
     )
+
+pub loop-receiver-preserved : goal.loop-receiver-preserved
+loop-receiver-preserved g c =
+    map_next (λ r. frame_at r.opening.window r.frames c.args.timestamp) (λ f. Some f.now)
+    c.args.receivers.now c.loop-receiver.frames.items c.loop-receiver.receiver-index
+    c.receiver-item.result c.in-Some.frame c.loop-receiver-test.true c.receiver-item.is
+    c.loop-receiver.invariant
+    (sym c.frame.ensures.frame ∙ ap (λ o. option_copied o) c.in-Some.is)
+    ∙ ap (λ fs. map (λ f. Some f.now) fs) (sym c.in-Ok.ensures.items)
+
+pub returns-clause-are : goal.returns-clause-are
+returns-clause-are g c =
+    ap (λ rs. map (λ r. frame_at r.opening.window r.frames c.args.timestamp) rs)
+    (sym (take_all c.loop-receiver.receiver-index c.args.receivers.now
+    c.loop-receiver-test.false))
+    ∙ c.loop-receiver.invariant
