@@ -1,7 +1,7 @@
 //! Why a text describes no video.
 ghost use Rattle.std.specs.Prelude.{◌≡◌};
 ghost use Rattle.sdp_format.specs.declared.fault.SdpFault.TheVariants.{NoMemory};
-ghost use Rattle.sdp_format.specs.Faults.{sdp_fault_number};
+ghost use Rattle.sdp_format.specs.Faults.{sdp_fault_name, sdp_fault_number};
 
 use std::alloc::{AllocError, AllocFailed};
 use std::fmt;
@@ -55,32 +55,38 @@ impl SdpFault {
     }
 }
 
+/// The fault's name.
+fn name(fault: SdpFault) -> &'static str
+    ensures { result.now ≡ sdp_fault_name fault }
+{
+    match fault {
+        SdpFault::NoMemory => "NoMemory",
+        SdpFault::NoVideo => "NoVideo",
+        SdpFault::TooManyLegs => "TooManyLegs",
+        SdpFault::BadMediaLine => "BadMediaLine",
+        SdpFault::NoRtpmap => "NoRtpmap",
+        SdpFault::NotRaw90000 => "NotRaw90000",
+        SdpFault::NoFmtp => "NoFmtp",
+        SdpFault::BadParameter => "BadParameter",
+        SdpFault::DoubleParameter => "DoubleParameter",
+        SdpFault::MissingParameter => "MissingParameter",
+        SdpFault::UnsupportedSampling => "UnsupportedSampling",
+        SdpFault::UnsupportedDepth => "UnsupportedDepth",
+        SdpFault::Interlaced => "Interlaced",
+        SdpFault::UnsupportedPacking => "UnsupportedPacking",
+        SdpFault::BadSsn => "BadSsn",
+        SdpFault::BadFormat => "BadFormat",
+        SdpFault::LegsDiffer => "LegsDiffer",
+    }
+}
+
 impl fmt::Display for SdpFault {
     ghost use Rattle.std.specs.Prelude.{Some};
-    ghost use Rattle.sdp_format.specs.Faults.{sdp_fault_name};
 
     ghost output = { λ fault. Some (sdp_fault_name fault) };
 
     fn fmt<W: fmt::Write>(&self, f: &mut fmt::Formatter<W>) -> fmt::Result {
-        match self {
-            SdpFault::NoMemory => f.write_str("NoMemory"),
-            SdpFault::NoVideo => f.write_str("NoVideo"),
-            SdpFault::TooManyLegs => f.write_str("TooManyLegs"),
-            SdpFault::BadMediaLine => f.write_str("BadMediaLine"),
-            SdpFault::NoRtpmap => f.write_str("NoRtpmap"),
-            SdpFault::NotRaw90000 => f.write_str("NotRaw90000"),
-            SdpFault::NoFmtp => f.write_str("NoFmtp"),
-            SdpFault::BadParameter => f.write_str("BadParameter"),
-            SdpFault::DoubleParameter => f.write_str("DoubleParameter"),
-            SdpFault::MissingParameter => f.write_str("MissingParameter"),
-            SdpFault::UnsupportedSampling => f.write_str("UnsupportedSampling"),
-            SdpFault::UnsupportedDepth => f.write_str("UnsupportedDepth"),
-            SdpFault::Interlaced => f.write_str("Interlaced"),
-            SdpFault::UnsupportedPacking => f.write_str("UnsupportedPacking"),
-            SdpFault::BadSsn => f.write_str("BadSsn"),
-            SdpFault::BadFormat => f.write_str("BadFormat"),
-            SdpFault::LegsDiffer => f.write_str("LegsDiffer"),
-        }
+        f.write_str(name(*self))
     }
 }
 
