@@ -1,14 +1,16 @@
 //! The one fmtp line of what a text says.
-ghost use Rattle.std.specs.Prelude.{◌≡◌, ◌++◌, MatchResult, IfOk, decimal};
+ghost use Rattle.std.specs.Prelude.{◌≡◌, ◌++◌, MatchResult, IfOk, codes, decimal};
 ghost use Rattle.sdp_format.specs.declared.fault.SdpFault.TheVariants.{NoMemory};
 ghost use Rattle.sdp_format.specs.Canonical.{canonical, divisor_text, depth_text};
 ghost use Rattle.sdp_format.specs.Canonical.{range_text};
 ghost use Rattle.sdp_format.specs.Views.{description};
 ghost use Rattle.sdp_format.specs.Back.{ReadsBack};
+ghost use Rattle.st_format.specs.Fields.{fields_of};
+ghost use Rattle.st_format.specs.Words.{sampling_text};
 
 use crate::fault::SdpFault;
 use crate::sdp::{Range, Sdp};
-use st_format::Depth;
+use st_format::{Depth, Format};
 use std::alloc::Allocator;
 
 fn depth_text(depth: Depth) -> &'static [u8]
@@ -41,17 +43,33 @@ fn add<A: Allocator + Copy>(text: &mut Vec<u8, A>, piece: &[u8]) -> Result<(), S
     Ok(())
 }
 
-/// Puts a number in decimal digits behind a text.
+/// Puts an item of this value behind a text.
+fn add_item<A: Allocator + Copy>(
+    text: &mut Vec<u8, A>,
+    name: &[u8],
+    value: &[u8],
+) -> Result<(), SdpFault>
+    ensures { MatchResult result
+        (λ _. text.new.items ≡ text.old.items ++ name.now ++ value.now)
+        (λ e. e ≡ NoMemory) }
+{
+    add(text, name)?;
+    add(text, value)
+}
+
+/// Puts an item behind a text whose value is a number, in decimal digits.
 fn add_number<A: Allocator + Copy>(
     alloc: A,
     text: &mut Vec<u8, A>,
+    name: &[u8],
     number: u32,
 ) -> Result<(), SdpFault>
-    ensures { MatchResult result (λ _. text.new.items ≡ text.old.items ++ decimal number)
+    ensures { MatchResult result
+        (λ _. text.new.items ≡ text.old.items ++ name.now ++ decimal number)
         (λ e. e ≡ NoMemory) }
 {
     let digits = format!(in alloc; "{number}")?;
-    add(text, digits.as_bytes())
+    add_item(text, name, digits.as_bytes())
 }
 
 /// Puts `/D` behind a rate whose divisor is not 1.
@@ -70,6 +88,30 @@ fn add_divisor<A: Allocator + Copy>(
     add(text, digits.as_bytes())
 }
 
+/// Puts the items of a format behind a text.
+fn add_format<A: Allocator + Copy>(
+    alloc: A,
+    text: &mut Vec<u8, A>,
+    format: &Format,
+) -> Result<(), SdpFault>
+    ensures { MatchResult result
+        (λ _. text.new.items ≡ text.old.items
+        ++ codes " sampling=" ++ sampling_text (fields_of format.now).sampling
+        ++ codes "; width=" ++ decimal (fields_of format.now).width
+        ++ codes "; height=" ++ decimal (fields_of format.now).height
+        ++ codes "; exactframerate=" ++ decimal (fields_of format.now).n
+        ++ divisor_text (fields_of format.now).d
+        ++ codes "; depth=" ++ depth_text (fields_of format.now).depth)
+        (λ e. e ≡ NoMemory) }
+{
+    add_item(text, b" sampling=", format.sampling.word())?;
+    add_number(alloc, text, b"; width=", format.width)?;
+    add_number(alloc, text, b"; height=", format.height)?;
+    add_number(alloc, text, b"; exactframerate=", format.n)?;
+    add_divisor(alloc, text, format.d)?;
+    add_item(text, b"; depth=", depth_text(format.depth))
+}
+
 /// The whole line, item by item in one order.
 #[tactic(auto, unfolding(crate::specs::Canonical::canonical))]
 fn written<A: Allocator + Copy>(alloc: A, sdp: &Sdp) -> Result<Vec<u8, A>, SdpFault>
@@ -77,23 +119,14 @@ fn written<A: Allocator + Copy>(alloc: A, sdp: &Sdp) -> Result<Vec<u8, A>, SdpFa
         (λ e. e ≡ NoMemory) }
 {
     let mut text = Vec::new(alloc);
-    add(&mut text, b"a=fmtp:")?;
-    add_number(alloc, &mut text, sdp.payload_type as u32)?;
-    add(&mut text, b" sampling=")?;
-    add(&mut text, sdp.format.sampling.word())?;
-    add(&mut text, b"; width=")?;
-    add_number(alloc, &mut text, sdp.format.width)?;
-    add(&mut text, b"; height=")?;
-    add_number(alloc, &mut text, sdp.format.height)?;
-    add(&mut text, b"; exactframerate=")?;
-    add_number(alloc, &mut text, sdp.format.n)?;
-    add_divisor(alloc, &mut text, sdp.format.d)?;
-    add(&mut text, b"; depth=")?;
-    add(&mut text, depth_text(sdp.format.depth))?;
-    add(&mut text, b"; colorimetry=")?;
-    add(&mut text, sdp.colorimetry.as_slice())?;
-    add(&mut text, b"; PM=2110GPM; SSN=ST2110-20:2017")?;
-    add(&mut text, range_text(sdp.range))?;
+    add_number(alloc, &mut text, b"a=fmtp:", sdp.payload_type as u32)?;
+    add_format(alloc, &mut text, &sdp.format)?;
+    add_item(&mut text, b"; colorimetry=", sdp.colorimetry.as_slice())?;
+    add_item(
+        &mut text,
+        b"; PM=2110GPM; SSN=ST2110-20:2017",
+        range_text(sdp.range),
+    )?;
     Ok(text)
 }
 
