@@ -204,3 +204,8 @@ pub joined5 : (p q r s t u a b c d x : List ℕ) → q ≡ p ++ a → r ≡ q ++
     → t ≡ s ++ d → u ≡ t ++ x → u ≡ p ++ (a ++ (b ++ (c ++ (d ++ x))))
 joined5 p q r s t u a b c d x e f h i j =
     joined2 p q u a (b ++ (c ++ (d ++ x))) e (joined4 q r s t u b c d x f h i j)
+
+pub joined6 : (p q r s t u v a b c d x y : List ℕ) → q ≡ p ++ a → r ≡ q ++ b → s ≡ r ++ c
+    → t ≡ s ++ d → u ≡ t ++ x → v ≡ u ++ y → v ≡ p ++ (a ++ (b ++ (c ++ (d ++ (x ++ y)))))
+joined6 p q r s t u v a b c d x y e f h i j k =
+    joined2 p q v a (b ++ (c ++ (d ++ (x ++ y)))) e (joined5 q r s t u v b c d x y f h i j k)
