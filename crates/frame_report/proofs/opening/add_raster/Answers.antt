@@ -25,19 +25,43 @@ pub add_number-requires-3 : goal.add_number-requires-3
 add_number-requires-3 c =
     let first : length c.add.new.self ≡ length c.args.page.now + length c.word.result.now =
     ap length c.add.ensures ∙ length-append c.args.page.now c.word.result.now in
-    omega (arith, first, c.requires, c.word.ensures.short, c.add_number.ensures.short, c.add_number-2.ensures.short)
+    omega (
+      arith,
+      first,
+      c.requires,
+      c.word.ensures.short,
+      c.add_number.ensures.short,
+      c.add_number-2.ensures.short,
+    )
 
 pub add_number-requires-4 : goal.add_number-requires-4
 add_number-requires-4 c =
     let first : length c.add.new.self ≡ length c.args.page.now + length c.word.result.now =
     ap length c.add.ensures ∙ length-append c.args.page.now c.word.result.now in
-    omega (arith, first, c.requires, c.word.ensures.short, c.add_number.ensures.short, c.add_number-2.ensures.short, c.add_number-3.ensures.short)
+    omega (
+      arith,
+      first,
+      c.requires,
+      c.word.ensures.short,
+      c.add_number.ensures.short,
+      c.add_number-2.ensures.short,
+      c.add_number-3.ensures.short,
+    )
 
 pub add_number-requires-5 : goal.add_number-requires-5
 add_number-requires-5 c =
     let first : length c.add.new.self ≡ length c.args.page.now + length c.word.result.now =
     ap length c.add.ensures ∙ length-append c.args.page.now c.word.result.now in
-    omega (arith, first, c.requires, c.word.ensures.short, c.add_number.ensures.short, c.add_number-2.ensures.short, c.add_number-3.ensures.short, c.add_number-4.ensures.short)
+    omega (
+      arith,
+      first,
+      c.requires,
+      c.word.ensures.short,
+      c.add_number.ensures.short,
+      c.add_number-2.ensures.short,
+      c.add_number-3.ensures.short,
+      c.add_number-4.ensures.short,
+    )
 
 pub returns-clause-text : goal.returns-clause-text
 returns-clause-text c =
@@ -56,4 +80,13 @@ pub returns-clause-short : goal.returns-clause-short
 returns-clause-short c =
     let first : length c.add.new.self ≡ length c.args.page.now + length c.word.result.now =
     ap length c.add.ensures ∙ length-append c.args.page.now c.word.result.now in
-    omega (arith, first, c.word.ensures.short, c.add_number.ensures.short, c.add_number-2.ensures.short, c.add_number-3.ensures.short, c.add_number-4.ensures.short, c.add_number-5.ensures.short)
+    omega (
+      arith,
+      first,
+      c.word.ensures.short,
+      c.add_number.ensures.short,
+      c.add_number-2.ensures.short,
+      c.add_number-3.ensures.short,
+      c.add_number-4.ensures.short,
+      c.add_number-5.ensures.short,
+    )

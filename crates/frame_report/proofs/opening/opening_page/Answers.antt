@@ -47,7 +47,15 @@ add-requires-3 g c =
     ap length c.add.ensures ∙ length-append c.new-page.result (codes "receiver ") in
     let second : length c.add-2.new.self ≡ length c.add_number.new.self + 6 =
     ap length c.add-2.ensures ∙ length-append c.add_number.new.self (codes " ssrc ") in
-    omega (arith, empty, first, second, c.add_raster.ensures.short, c.add_number.ensures.short, c.add_source.ensures.short)
+    omega (
+      arith,
+      empty,
+      first,
+      second,
+      c.add_raster.ensures.short,
+      c.add_number.ensures.short,
+      c.add_source.ensures.short,
+    )
 
 pub returns : goal.returns
 returns g c =

@@ -11,7 +11,8 @@ use Rattle.st_format.proofs.memory.turns.MemoryTurns.advance.Goals as goal
 -- the turns that are left, by the next one
 next_due : {A : Type 0} (turns : List (MemoryTurn A)) (at : ℕ) (turn next : MemoryTurn A)
     → at < length turns → turn ≡ slice_index_or turns at turn → turn ≡ next
-    → map (due_of {A = A}) (drop at turns) ≡ due_of next ∷ map (due_of {A = A}) (drop (at + 1) turns)
+    → map (due_of {A = A}) (drop at turns) ≡ due_of next ∷ map (due_of {A = A}) (drop (at + 1)
+    turns)
 next_due {A} turns at turn next within here is =
     at_drop_more (map (due_of {A = A})) turns at turn within
     ∙ ap (λ (t : MemoryTurn A). due_of t ∷ map (due_of {A = A}) (drop (at + 1) turns))
@@ -92,7 +93,8 @@ slice_bounds-copy_from_slice-end g c =
     omega (arith, within, c.len.ensures, c.if-self-len.false) in
     let due =
     sym (ap (λ (s : Turns). s.turns) c.self.view_is)
-    ∙ next_due c.self.inside.turns.items c.self.inside.at c.index.result.now (Datagram c.in-Datagram.path c.in-Datagram.octets) before
+    ∙ next_due c.self.inside.turns.items c.self.inside.at c.index.result.now (Datagram
+    c.in-Datagram.path c.in-Datagram.octets) before
     c.index.ensures c.in-Datagram.is in
     let short : 65535 < length c.in-Datagram.octets.items → ⊥ =
     subst (λ (ds : List Due). IsTooLong ds → ⊥) due c.requires.fits in
@@ -105,7 +107,8 @@ returns-in-Datagram-clause-within g c =
     omega (arith, within, c.len.ensures, c.if-self-len.false) in
     let due =
     sym (ap (λ (s : Turns). s.turns) c.self.view_is)
-    ∙ next_due c.self.inside.turns.items c.self.inside.at c.index.result.now (Datagram c.in-Datagram.path c.in-Datagram.octets) before
+    ∙ next_due c.self.inside.turns.items c.self.inside.at c.index.result.now (Datagram
+    c.in-Datagram.path c.in-Datagram.octets) before
     c.index.ensures c.in-Datagram.is in
     let short : 65535 < length c.in-Datagram.octets.items → ⊥ =
     subst (λ (ds : List Due). IsTooLong ds → ⊥) due c.requires.fits in
@@ -118,7 +121,8 @@ returns-in-Datagram-clause-turn g c =
     omega (arith, within, c.len.ensures, c.if-self-len.false) in
     let due =
     sym (ap (λ (s : Turns). s.turns) c.self.view_is)
-    ∙ next_due c.self.inside.turns.items c.self.inside.at c.index.result.now (Datagram c.in-Datagram.path c.in-Datagram.octets) before
+    ∙ next_due c.self.inside.turns.items c.self.inside.at c.index.result.now (Datagram
+    c.in-Datagram.path c.in-Datagram.octets) before
     c.index.ensures c.in-Datagram.is in
     let copied : c.copy_from_slice.new.self ≡ c.in-Datagram.octets.items = search rules in
     let long : length c.copy_from_slice.new.self ≡ c.len-count.result = search rules in
