@@ -11,6 +11,10 @@ use Rattle.std.proofs.Common.{
   ◌<◌,
   ◌≤◌,
   inl,
+  List,
+  length,
+  take,
+  drop,
   refl,
   arith,
   sym,
@@ -25,6 +29,7 @@ use Rattle.std.proofs.lemmas.Nat.{
   mod_below,
   div_below,
 }
+use Rattle.std.proofs.lemmas.List.{length-take, length-drop}
 use Rattle.std.proofs.Math.Nat.{mul_comm}
 use Rattle.st_format.specs.declared.format.Format.{Format}
 use Rattle.st_format.specs.declared.sampling.Sampling.{Sampling}
@@ -68,10 +73,31 @@ pub row_within : (row at n m height long : ℕ) → at ≡ row * m → n ≡ m �
 row_within row at n m height long begins of_n of_long h =
     omega (arith, row_ends row m height h, begins, of_n, of_long)
 
+-- the end of a row of a raster is small
+pub row_far : (row at n m height : ℕ) → at ≡ row * m → n ≡ m → n ≤ 32768 → row < height
+    → height ≤ 8192 → at + n ≤ 8192 * 32768
+row_far row at n m height begins of_n few h most =
+    let fits : height * m ≤ 8192 * 32768 =
+    mul-le height m 8192 32768 most (omega (arith, of_n, few)) in
+    omega (arith, row_ends row m height h, begins, of_n, fits)
+
 pub all_rows : (row at m height long : ℕ) → at ≡ row * m → long ≡ height * m → height ≤ row
     → long ≤ at
 all_rows row at m height long begins of_long h =
     omega (arith, mul-le height m row m h (omega arith), begins, of_long)
+
+-- parts of two lists of one length
+pub same_part : (at m : ℕ) (xs ys : List ℕ) → length xs ≡ length ys
+    → length (take m (drop at xs)) ≡ length (take m (drop at ys))
+same_part at m xs ys same =
+    omega (
+      arith,
+      length-take m (drop at xs),
+      length-take m (drop at ys),
+      length-drop at xs,
+      length-drop at ys,
+      same,
+    )
 
 pub column-below : (f : Format) (j : ℕ) → j < row_samples f
     → (place_in_row f.sampling j).0 < f.width

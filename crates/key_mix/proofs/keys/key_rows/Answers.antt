@@ -1,5 +1,6 @@
 use Rattle.std.proofs.Common.{◌≡◌, ℕ, ◌+◌, ◌-◌, ◌*◌, ◌%◌, ◌<◌, ◌≤◌, get_or, length, take, drop, min}
-use Rattle.std.proofs.Common.{refl, arith, rules, sym, ap, subst, ◌∙◌}
+use Rattle.std.proofs.Common.{refl, arith, sym, ap, subst, ◌∙◌}
+use Rattle.std.proofs.Math.Nat.{le-add_right}
 use Rattle.std.proofs.lemmas.List.{length-take, length-drop}
 use borrow.Rule.Slice.PartMut.{same_len_mid}
 use Rattle.st_format.specs.Pgroup.{bits_of}
@@ -7,7 +8,15 @@ use Rattle.st_format.specs.Position.{number_in_row, place_in_row, row_samples, r
 use Rattle.lane_kernels.specs.Formulas.{scale}
 use Rattle.bt709_fixed.proofs.Part.{part_made}
 use Rattle.key_mix.specs.Rows.{keyed_at}
-use Rattle.key_mix.proofs.InRow.{all_rows, column-below, luma-below, row_within, whole_row}
+use Rattle.key_mix.proofs.InRow.{
+  all_rows,
+  column-below,
+  luma-below,
+  row_far,
+  row_within,
+  same_part,
+  whole_row,
+}
 use Rattle.key_mix.proofs.Parts.{keyed_row}
 use Rattle.key_mix.proofs.Pictures.{key_most}
 use Rattle.key_mix.proofs.keys.key_rows.Goals as goal
@@ -98,7 +107,7 @@ loop-row-preserved c =
     let fits_by =
     row_within l.row l.from c.row_samples-m.result (row_samples g) g.height
     (length by) inv.lumas of_m c.requires.of_by lt_g in
-    let long : length ys ≡ length (take m (drop a xs)) = search rules in
+    let long : length ys ≡ length (take m (drop a xs)) = c.key_mix.auto.out in
     let count : length ys ≡ n =
     omega (arith, long, length-take m (drop a xs), length-drop a xs, fits) in
     let keys_long : length keys ≡ row_samples f = c.row_keys.ensures.long ∙ inv.room in
@@ -146,3 +155,192 @@ returns-clause-each c = λ k h.
     all_rows l.row l.at (row_samples f) f.height
     (length l.out) l.invariant.begins l.invariant.long last in
     l.invariant.done k (omega (arith, h, all))
+
+pub loop-row-init : goal.loop-row-init
+loop-row-init c =
+    record {
+      long = c.requires.of_out;
+      begins = omega arith;
+      within = omega arith;
+      lumas = omega arith;
+      inside = omega arith;
+      room = c.requires.of_row;
+      done = λ k h. absurd (omega (arith, h));
+    }
+
+pub overflow_add-end : goal.overflow_add-end
+overflow_add-end c =
+    let f = c.args.format in
+    let l = c.loop-row in
+    let lt : l.row < f.height =
+    omega (arith, c.height-height.ensures, c.loop-row-test.true) in
+    let far =
+    row_far l.row l.at c.row_samples-n.result (row_samples f) f.height l.invariant.begins
+    c.row_samples-n.ensures.value c.row_samples-n.ensures.limit lt f.whole_height.most in
+    omega (arith, far)
+
+pub overflow_add-to : goal.overflow_add-to
+overflow_add-to c =
+    let f = c.args.of_key in
+    let l = c.loop-row in
+    let lt : l.row < f.height =
+    omega (arith, c.height-height.ensures, c.loop-row-test.true, c.requires.alike.height) in
+    let far =
+    row_far l.row l.from c.row_samples-m.result (row_samples f) f.height l.invariant.lumas
+    c.row_samples-m.ensures.value c.row_samples-m.ensures.limit lt f.whole_height.most in
+    omega (arith, far)
+
+pub offset_bounds-by-from : goal.offset_bounds-by-from
+offset_bounds-by-from c =
+    let f = c.args.of_key in
+    let l = c.loop-row in
+    let lt : l.row < f.height =
+    omega (arith, c.height-height.ensures, c.loop-row-test.true, c.requires.alike.height) in
+    let far =
+    row_far l.row l.from c.row_samples-m.result (row_samples f) f.height l.invariant.lumas
+    c.row_samples-m.ensures.value c.row_samples-m.ensures.limit lt f.whole_height.most in
+    omega (arith, far)
+
+pub offset_bounds-a-at : goal.offset_bounds-a-at
+offset_bounds-a-at c =
+    let f = c.args.format in
+    let l = c.loop-row in
+    let lt : l.row < f.height =
+    omega (arith, c.height-height.ensures, c.loop-row-test.true) in
+    let far =
+    row_far l.row l.at c.row_samples-n.result (row_samples f) f.height l.invariant.begins
+    c.row_samples-n.ensures.value c.row_samples-n.ensures.limit lt f.whole_height.most in
+    omega (arith, far)
+
+pub offset_bounds-b-at : goal.offset_bounds-b-at
+offset_bounds-b-at c =
+    let f = c.args.format in
+    let l = c.loop-row in
+    let lt : l.row < f.height =
+    omega (arith, c.height-height.ensures, c.loop-row-test.true) in
+    let far =
+    row_far l.row l.at c.row_samples-n.result (row_samples f) f.height l.invariant.begins
+    c.row_samples-n.ensures.value c.row_samples-n.ensures.limit lt f.whole_height.most in
+    omega (arith, far)
+
+pub offset_bounds-out-at : goal.offset_bounds-out-at
+offset_bounds-out-at c =
+    let f = c.args.format in
+    let l = c.loop-row in
+    let lt : l.row < f.height =
+    omega (arith, c.height-height.ensures, c.loop-row-test.true) in
+    let far =
+    row_far l.row l.at c.row_samples-n.result (row_samples f) f.height l.invariant.begins
+    c.row_samples-n.ensures.value c.row_samples-n.ensures.limit lt f.whole_height.most in
+    omega (arith, far)
+
+pub slice_bounds-row_keys-count : goal.slice_bounds-row_keys-count
+slice_bounds-row_keys-count c =
+    le-add_right c.loop-row.from c.row_samples-m.result
+
+pub slice_bounds-key_mix-count : goal.slice_bounds-key_mix-count
+slice_bounds-key_mix-count c =
+    le-add_right c.loop-row.at c.row_samples-n.result
+
+pub slice_bounds-key_mix-count-in-loop-row : goal.slice_bounds-key_mix-count-in-loop-row
+slice_bounds-key_mix-count-in-loop-row c =
+    le-add_right c.loop-row.at c.row_samples-n.result
+
+pub slice_bounds-key_mix-count-in-loop-row-2 : goal.slice_bounds-key_mix-count-in-loop-row-2
+slice_bounds-key_mix-count-in-loop-row-2 c =
+    le-add_right c.loop-row.at c.row_samples-n.result
+
+pub slice_bounds-row_keys-start : goal.slice_bounds-row_keys-start
+slice_bounds-row_keys-start c =
+    le-add_right c.loop-row.from c.row_samples-m.result
+
+pub slice_bounds-key_mix-start : goal.slice_bounds-key_mix-start
+slice_bounds-key_mix-start c =
+    le-add_right c.loop-row.at c.row_samples-n.result
+
+pub slice_bounds-key_mix-start-in-loop-row : goal.slice_bounds-key_mix-start-in-loop-row
+slice_bounds-key_mix-start-in-loop-row c =
+    le-add_right c.loop-row.at c.row_samples-n.result
+
+pub slice_bounds-key_mix-start-in-loop-row-2 : goal.slice_bounds-key_mix-start-in-loop-row-2
+slice_bounds-key_mix-start-in-loop-row-2 c =
+    le-add_right c.loop-row.at c.row_samples-n.result
+
+pub slice_bounds-key_mix-end-in-loop-row : goal.slice_bounds-key_mix-end-in-loop-row
+slice_bounds-key_mix-end-in-loop-row c =
+    let f = c.args.format in
+    let l = c.loop-row in
+    let lt : l.row < f.height =
+    omega (arith, c.height-height.ensures, c.loop-row-test.true) in
+    let fits =
+    row_within l.row l.at c.row_samples-n.result (row_samples f) f.height
+    (length l.out) l.invariant.begins c.row_samples-n.ensures.value l.invariant.long lt in
+    omega (arith, fits, l.invariant.long, c.requires.of_b)
+
+pub slice_bounds-key_mix-end-in-loop-row-2 : goal.slice_bounds-key_mix-end-in-loop-row-2
+slice_bounds-key_mix-end-in-loop-row-2 c =
+    let f = c.args.format in
+    let l = c.loop-row in
+    let lt : l.row < f.height =
+    omega (arith, c.height-height.ensures, c.loop-row-test.true) in
+    let fits =
+    row_within l.row l.at c.row_samples-n.result (row_samples f) f.height
+    (length l.out) l.invariant.begins c.row_samples-n.ensures.value l.invariant.long lt in
+    fits
+
+pub row_keys-requires-clause-few : goal.row_keys-requires-clause-few
+row_keys-requires-clause-few c =
+    omega (
+      arith,
+      c.loop-row.invariant.room,
+      c.row_samples-n.ensures.value,
+      c.row_samples-n.ensures.limit,
+    )
+
+pub row_keys-requires-clause-most : goal.row_keys-requires-clause-most
+row_keys-requires-clause-most c =
+    c.scale_of-scale.ensures.most
+
+pub overflow_mul-scale : goal.overflow_mul-scale
+overflow_mul-scale c =
+    omega (arith, c.scale_of-scale.ensures.most)
+
+pub key_mix-requires-clause-some : goal.key_mix-requires-clause-some
+key_mix-requires-clause-some c =
+    omega (arith, c.scale_of-scale.ensures.least)
+
+pub key_mix-requires-clause-of_a : goal.key_mix-requires-clause-of_a
+key_mix-requires-clause-of_a c =
+    let l = c.loop-row in
+    let m = l.at + c.row_samples-n.result - l.at in
+    same_part l.at m c.args.a.now l.out (c.requires.of_a ∙ sym l.invariant.long)
+
+pub key_mix-requires-clause-of_b : goal.key_mix-requires-clause-of_b
+key_mix-requires-clause-of_b c =
+    let l = c.loop-row in
+    let m = l.at + c.row_samples-n.result - l.at in
+    same_part l.at m c.args.b.now l.out (c.requires.of_b ∙ sym l.invariant.long)
+
+pub key_mix-requires-clause-of_k : goal.key_mix-requires-clause-of_k
+key_mix-requires-clause-of_k c =
+    let f = c.args.format in
+    let l = c.loop-row in
+    let lt : l.row < f.height =
+    omega (arith, c.height-height.ensures, c.loop-row-test.true) in
+    let fits =
+    row_within l.row l.at c.row_samples-n.result (row_samples f) f.height
+    (length l.out) l.invariant.begins c.row_samples-n.ensures.value l.invariant.long lt in
+    let m = l.at + c.row_samples-n.result - l.at in
+    omega (
+      arith,
+      length-take m (drop l.at l.out),
+      length-drop l.at l.out,
+      fits,
+      c.row_keys.ensures.long,
+      l.invariant.room,
+      c.row_samples-n.ensures.value,
+    )
+
+pub returns-clause-long : goal.returns-clause-long
+returns-clause-long c =
+    c.loop-row.invariant.long ∙ sym c.requires.of_out

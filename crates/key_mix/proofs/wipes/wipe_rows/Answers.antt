@@ -11,19 +11,19 @@ use Rattle.std.proofs.Common.{
   drop,
   refl,
   arith,
-  rules,
   sym,
   ap,
   subst,
   ◌∙◌,
 }
+use Rattle.std.proofs.Math.Nat.{le-add_right}
 use Rattle.std.proofs.lemmas.List.{length-take, length-drop}
 use borrow.Rule.Slice.PartMut.{same_len_mid}
 use Rattle.st_format.specs.Position.{row_samples}
 use Rattle.bt709_fixed.proofs.Part.{part_made}
 use Rattle.key_mix.specs.Jobs.{along}
 use Rattle.key_mix.specs.Rows.{in_row, row_weight, wiped_at}
-use Rattle.key_mix.proofs.InRow.{all_rows, row_within}
+use Rattle.key_mix.proofs.InRow.{all_rows, row_far, row_within, same_part}
 use Rattle.key_mix.proofs.Mixed.{weight_most}
 use Rattle.key_mix.proofs.Parts.{next_row, wiped_row}
 use Rattle.key_mix.proofs.wipes.wipe_rows.Goals as goal
@@ -73,7 +73,7 @@ loop-row-preserved c =
     let lt : l.row < f.height = omega (arith, c.height-height.ensures, c.loop-row-test.true) in
     let fits : a + n ≤ length xs =
     row_within l.row a n (row_samples f) f.height (length xs) inv.begins of_n inv.long lt in
-    let long : length ys ≡ length (take m (drop a xs)) = search rules in
+    let long : length ys ≡ length (take m (drop a xs)) = c.mix256.auto.out in
     let count : length ys ≡ n =
     omega (arith, long, length-take m (drop a xs), length-drop a xs, fits) in
     let whole = same_len_mid a m xs ys long in
@@ -106,3 +106,137 @@ returns-clause-each c = λ k h.
     all_rows l.row l.at (row_samples f) f.height
     (length l.out) l.invariant.begins l.invariant.long last in
     l.invariant.done k (omega (arith, h, all))
+
+pub first_weights-requires : goal.first_weights-requires
+first_weights-requires c =
+    omega (
+      arith,
+      c.requires.of_row,
+      c.row_samples-n.ensures.value,
+      c.row_samples-n.ensures.limit,
+    )
+
+pub overflow_add-end : goal.overflow_add-end
+overflow_add-end c =
+    let f = c.args.format in
+    let l = c.loop-row in
+    let lt : l.row < f.height = omega (arith, c.height-height.ensures, c.loop-row-test.true) in
+    let far =
+    row_far l.row l.at c.row_samples-n.result (row_samples f) f.height l.invariant.begins
+    c.row_samples-n.ensures.value c.row_samples-n.ensures.limit lt f.whole_height.most in
+    omega (arith, far)
+
+pub offset_bounds-a-at : goal.offset_bounds-a-at
+offset_bounds-a-at c =
+    let f = c.args.format in
+    let l = c.loop-row in
+    let lt : l.row < f.height = omega (arith, c.height-height.ensures, c.loop-row-test.true) in
+    let far =
+    row_far l.row l.at c.row_samples-n.result (row_samples f) f.height l.invariant.begins
+    c.row_samples-n.ensures.value c.row_samples-n.ensures.limit lt f.whole_height.most in
+    omega (arith, far)
+
+pub offset_bounds-b-at : goal.offset_bounds-b-at
+offset_bounds-b-at c =
+    let f = c.args.format in
+    let l = c.loop-row in
+    let lt : l.row < f.height = omega (arith, c.height-height.ensures, c.loop-row-test.true) in
+    let far =
+    row_far l.row l.at c.row_samples-n.result (row_samples f) f.height l.invariant.begins
+    c.row_samples-n.ensures.value c.row_samples-n.ensures.limit lt f.whole_height.most in
+    omega (arith, far)
+
+pub offset_bounds-out-at : goal.offset_bounds-out-at
+offset_bounds-out-at c =
+    let f = c.args.format in
+    let l = c.loop-row in
+    let lt : l.row < f.height = omega (arith, c.height-height.ensures, c.loop-row-test.true) in
+    let far =
+    row_far l.row l.at c.row_samples-n.result (row_samples f) f.height l.invariant.begins
+    c.row_samples-n.ensures.value c.row_samples-n.ensures.limit lt f.whole_height.most in
+    omega (arith, far)
+
+pub slice_bounds-mix256-count : goal.slice_bounds-mix256-count
+slice_bounds-mix256-count c =
+    le-add_right c.loop-row.at c.row_samples-n.result
+
+pub slice_bounds-mix256-count-in-loop-row : goal.slice_bounds-mix256-count-in-loop-row
+slice_bounds-mix256-count-in-loop-row c =
+    le-add_right c.loop-row.at c.row_samples-n.result
+
+pub slice_bounds-mix256-count-in-loop-row-2 : goal.slice_bounds-mix256-count-in-loop-row-2
+slice_bounds-mix256-count-in-loop-row-2 c =
+    le-add_right c.loop-row.at c.row_samples-n.result
+
+pub slice_bounds-mix256-start : goal.slice_bounds-mix256-start
+slice_bounds-mix256-start c =
+    le-add_right c.loop-row.at c.row_samples-n.result
+
+pub slice_bounds-mix256-start-in-loop-row : goal.slice_bounds-mix256-start-in-loop-row
+slice_bounds-mix256-start-in-loop-row c =
+    le-add_right c.loop-row.at c.row_samples-n.result
+
+pub slice_bounds-mix256-start-in-loop-row-2 : goal.slice_bounds-mix256-start-in-loop-row-2
+slice_bounds-mix256-start-in-loop-row-2 c =
+    le-add_right c.loop-row.at c.row_samples-n.result
+
+pub slice_bounds-mix256-end-in-loop-row : goal.slice_bounds-mix256-end-in-loop-row
+slice_bounds-mix256-end-in-loop-row c =
+    let f = c.args.format in
+    let l = c.loop-row in
+    let lt : l.row < f.height = omega (arith, c.height-height.ensures, c.loop-row-test.true) in
+    let fits =
+    row_within l.row l.at c.row_samples-n.result (row_samples f) f.height
+    (length l.out) l.invariant.begins c.row_samples-n.ensures.value l.invariant.long lt in
+    omega (arith, fits, l.invariant.long, c.requires.of_b)
+
+pub slice_bounds-mix256-end-in-loop-row-2 : goal.slice_bounds-mix256-end-in-loop-row-2
+slice_bounds-mix256-end-in-loop-row-2 c =
+    let f = c.args.format in
+    let l = c.loop-row in
+    let lt : l.row < f.height = omega (arith, c.height-height.ensures, c.loop-row-test.true) in
+    let fits =
+    row_within l.row l.at c.row_samples-n.result (row_samples f) f.height
+    (length l.out) l.invariant.begins c.row_samples-n.ensures.value l.invariant.long lt in
+    fits
+
+pub mix256-requires-clause-of_a : goal.mix256-requires-clause-of_a
+mix256-requires-clause-of_a c =
+    let l = c.loop-row in
+    let m = l.at + c.row_samples-n.result - l.at in
+    same_part l.at m c.args.a.now l.out (c.requires.of_a ∙ sym l.invariant.long)
+
+pub mix256-requires-clause-of_b : goal.mix256-requires-clause-of_b
+mix256-requires-clause-of_b c =
+    let l = c.loop-row in
+    let m = l.at + c.row_samples-n.result - l.at in
+    same_part l.at m c.args.b.now l.out (c.requires.of_b ∙ sym l.invariant.long)
+
+pub mix256-requires-clause-of_w : goal.mix256-requires-clause-of_w
+mix256-requires-clause-of_w c =
+    let f = c.args.format in
+    let l = c.loop-row in
+    let lt : l.row < f.height = omega (arith, c.height-height.ensures, c.loop-row-test.true) in
+    let fits =
+    row_within l.row l.at c.row_samples-n.result (row_samples f) f.height
+    (length l.out) l.invariant.begins c.row_samples-n.ensures.value l.invariant.long lt in
+    let m = l.at + c.row_samples-n.result - l.at in
+    omega (
+      arith,
+      length-take m (drop l.at l.out),
+      length-drop l.at l.out,
+      fits,
+      l.invariant.room,
+      c.row_samples-n.ensures.value,
+    )
+
+pub overflow_add-row : goal.overflow_add-row
+overflow_add-row c =
+    let f = c.args.format in
+    let l = c.loop-row in
+    let lt : l.row < f.height = omega (arith, c.height-height.ensures, c.loop-row-test.true) in
+    omega (arith, lt, f.whole_height.most)
+
+pub returns-clause-long : goal.returns-clause-long
+returns-clause-long c =
+    c.loop-row.invariant.long ∙ sym c.requires.of_out
