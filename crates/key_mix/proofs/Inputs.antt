@@ -4,13 +4,25 @@ use Rattle.std.proofs.Common.{
   List,
   [],
   ◌∷◌,
+  ℕ,
+  zero,
+  suc,
+  ◌+◌,
+  ◌<◌,
+  ◌++◌,
   get_or,
   length,
   map,
+  take,
   arith,
+  sym,
   ap,
+  subst,
   ◌∙◌,
 }
+use Rattle.std.proofs.lemmas.List.{map-append}
+use Rattle.std.proofs.Math.Seq.{take-suc}
+use Rattle.std.specs.List.{AllByRecursion}
 
 pub one : {X : Type 0} (xs : List X) (x : X) → length xs ≡ 1 → x ≡ get_or xs 0 x → x ∷ [] ≡ xs
 one [] x long is = absurd (omega (arith, long))
@@ -46,3 +58,25 @@ pub map_three : {X Y : Type 0} (f : X → Y) (xs : List X) (x y z : X) (p q r : 
     → p ≡ f x → q ≡ f y → r ≡ f z → p ∷ q ∷ r ∷ [] ≡ map f xs
 map_three f xs x y z p q r long is next last of_x of_y of_z =
     (λ j. of_x j ∷ of_y j ∷ of_z j ∷ []) ∙ ap (map f) (three xs x y z long is next last)
+
+-- what holds of each input holds of the one read at a place
+at_place : {X : Type 0} (P : X → Type 0) (xs : List X) (i : ℕ) (d : X) → AllByRecursion P xs
+    → i < length xs → P (get_or xs i d)
+at_place P [] i d all h = absurd (omega (arith, h))
+at_place P (x ∷ xs) zero d all h = all.0
+at_place P (x ∷ xs) (suc i) d all h = at_place P xs i d all.1 (omega (arith, h))
+
+pub of_item : {X : Type 0} (P : X → Type 0) (xs : List X) (i : ℕ) (x : X) → AllByRecursion P xs
+    → i < length xs → x ≡ get_or xs i x → P x
+of_item P xs i x all h is = subst P (sym is) (at_place P xs i x all h)
+
+-- what a function makes of the first few, and of one more
+pub map_more : {X Y : Type 0} (f : X → Y) (xs : List X) (i : ℕ) (x : X) (old new : List Y) (p : Y)
+    → i < length xs → x ≡ get_or xs i x → old ≡ map f (take i xs) → p ≡ f x
+    → new ≡ old ++ (p ∷ []) → new ≡ map f (take (i + 1) xs)
+map_more f xs i x old new p h is before of_x more =
+    let next : i + 1 ≡ suc i = omega arith in
+    let both : take (i + 1) xs ≡ take i xs ++ (x ∷ []) =
+    ap (λ n. take n xs) next ∙ take-suc xs i x h ∙ (λ j. take i xs ++ (sym is j ∷ [])) in
+    more ∙ (λ j. before j ++ (of_x j ∷ [])) ∙ sym (map-append f (take i xs) (x ∷ []))
+    ∙ ap (map f) (sym both)
