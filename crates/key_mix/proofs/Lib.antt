@@ -7,3 +7,4 @@ pub mod Resampled
 pub mod Sent
 pub mod Refused
 pub mod Steps
+pub mod Alone
