@@ -76,7 +76,8 @@ pub made_ycc422 : {T : Type 0} (x : T) (f : Format)
 made_ycc422 x f when = sound_ycc422 f (λ h. no_fault x colour.NotYcc444 (when.1 h))
 
 -- no fault comes before the one of the sampling
-first_ycc444 : (f : Format) (other : JobFault) → turn_of other < 5 → Against other ToYcc444 (f ∷ []) → ⊥
+first_ycc444 : (f : Format) (other : JobFault) → turn_of other < 5
+    → Against other ToYcc444 (f ∷ []) → ⊥
 first_ycc444 f NoMemory before h = absurd h
 first_ycc444 f FormatsDiffer before h = absurd h
 first_ycc444 f KeyNotYcc before h = absurd h
@@ -86,7 +87,8 @@ first_ycc444 f NotYcc444 before h = absurd h
 first_ycc444 f WrongInputCount before h = absurd (h refl)
 first_ycc444 f BadGain before h = absurd h
 
-first_ycc422 : (f : Format) (other : JobFault) → turn_of other < 6 → Against other ToYcc422 (f ∷ []) → ⊥
+first_ycc422 : (f : Format) (other : JobFault) → turn_of other < 6
+    → Against other ToYcc422 (f ∷ []) → ⊥
 first_ycc422 f NoMemory before h = absurd h
 first_ycc422 f FormatsDiffer before h = absurd h
 first_ycc422 f KeyNotYcc before h = absurd h

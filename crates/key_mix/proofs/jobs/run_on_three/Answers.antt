@@ -5,7 +5,8 @@ use Rattle.key_mix.proofs.jobs.run_on_three.Goals as goal
 
 pub returns-in-Key-clause-made : goal.returns-in-Key-clause-made
 returns-in-Key-clause-made g c =
-    subst (λ j. IfOk c.key.result (IsJobPicture j (c.args.a.now ∷ c.args.b.now ∷ c.args.by.now ∷ [])))
+    subst (λ j. IfOk c.key.result (IsJobPicture j (c.args.a.now ∷ c.args.b.now ∷ c.args.by.now ∷
+    [])))
     (sym c.in-Key.is) c.key.ensures.made
 
 pub returns-in-Key-clause-whole : goal.returns-in-Key-clause-whole
@@ -13,14 +14,16 @@ returns-in-Key-clause-whole g c = c.key.ensures.whole
 
 pub returns-in-Key-clause-sound : goal.returns-in-Key-clause-sound
 returns-in-Key-clause-sound g c =
-    subst (λ j. OnOk c.key.result (IsSound j (c.args.a.now.format ∷ c.args.b.now.format ∷ c.args.by.now.format ∷ [])))
+    subst (λ j. OnOk c.key.result (IsSound j (c.args.a.now.format ∷ c.args.b.now.format ∷
+    c.args.by.now.format ∷ [])))
     (sym c.in-Key.is) c.key.ensures.sound
 
 pub returns-in-Key-clause-fault : goal.returns-in-Key-clause-fault
 returns-in-Key-clause-fault g c =
     subst
     (λ j. IfErr c.key.result
-    (λ e. IsFault e j (c.args.a.now.format ∷ c.args.b.now.format ∷ c.args.by.now.format ∷ []))) (sym c.in-Key.is)
+    (λ e. IsFault e j (c.args.a.now.format ∷ c.args.b.now.format ∷ c.args.by.now.format ∷ [])))
+    (sym c.in-Key.is)
     c.key.ensures.fault
 
 pub returns-in_default : goal.returns-in_default

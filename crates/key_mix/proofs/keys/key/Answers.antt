@@ -7,7 +7,14 @@ use Rattle.key_mix.specs.Jobs.{IsSound, key_value}
 use Rattle.key_mix.specs.Rows.{keyed_at}
 use Rattle.key_mix.specs.declared.Job.TheVariants.{Key}
 use Rattle.key_mix.specs.declared.faults.JobFault.TheVariants.{FormatsDiffer, KeyNotYcc}
-use Rattle.key_mix.proofs.Refused.{never_later, never_ok, no_memory_left, no_value, other_err, refused}
+use Rattle.key_mix.proofs.Refused.{
+  never_later,
+  never_ok,
+  no_memory_left,
+  no_value,
+  other_err,
+  refused,
+}
 use Rattle.key_mix.proofs.Pictures.{keyed_picture}
 use Rattle.key_mix.proofs.keys.key.Goals as goal
 
@@ -88,7 +95,8 @@ returns-in_err-test_key-clause-ycc g c =
 pub returns-in_err-test_key-clause-fault : goal.returns-in_err-test_key-clause-fault
 returns-in_err-test_key-clause-fault g c =
     refused c.from_residual.result c.in_err-test_key.field-0.0 Key _ _
-    (λ j. c.format-format.ensures.value j ∷ c.format.ensures.value j ∷ c.format-of_key.ensures.value j ∷ [])
+    (λ j. c.format-format.ensures.value j ∷ c.format.ensures.value j ∷
+    c.format-of_key.ensures.value j ∷ [])
     c.from_residual.ensures.1 c.in_err-test_key.ensures.refusal
 
 pub keyed_samples-requires-clause-of_a : goal.keyed_samples-requires-clause-of_a
@@ -143,7 +151,8 @@ returns-in_err-samples-clause-ycc g c =
 pub returns-in_err-samples-clause-fault : goal.returns-in_err-samples-clause-fault
 returns-in_err-samples-clause-fault g c =
     no_memory_left c.from_residual-in_err-samples.result Key _ _
-    (λ j. c.format-format.ensures.value j ∷ c.format.ensures.value j ∷ c.format-of_key.ensures.value j ∷ [])
+    (λ j. c.format-format.ensures.value j ∷ c.format.ensures.value j ∷
+    c.format-of_key.ensures.value j ∷ [])
     c.from_residual-in_err-samples.ensures.1 c.in_ok-test_key.ensures.sound
 
 pub returns-clause-whole : goal.returns-clause-whole
@@ -156,7 +165,8 @@ returns-clause-formats g c =
       sym c.format-format.ensures.value,
       sym c.format.ensures.value,
       sym c.format-of_key.ensures.value,
-    ) (never_ok c.in_ok-test_key.field-0 FormatsDiffer c.from_samples.result c.in_ok-test_key.ensures.formats)
+    ) (never_ok c.in_ok-test_key.field-0 FormatsDiffer c.from_samples.result
+    c.in_ok-test_key.ensures.formats)
 
 pub returns-clause-ycc : goal.returns-clause-ycc
 returns-clause-ycc g c =
@@ -164,12 +174,14 @@ returns-clause-ycc g c =
       sym c.format-format.ensures.value,
       sym c.format.ensures.value,
       sym c.format-of_key.ensures.value,
-    ) (never_ok c.in_ok-test_key.field-0 KeyNotYcc c.from_samples.result c.in_ok-test_key.ensures.ycc)
+    ) (never_ok c.in_ok-test_key.field-0 KeyNotYcc c.from_samples.result
+    c.in_ok-test_key.ensures.ycc)
 
 pub returns-clause-sound : goal.returns-clause-sound
 returns-clause-sound g c =
     subst (IsSound Key)
-    (λ j. c.format-format.ensures.value j ∷ c.format.ensures.value j ∷ c.format-of_key.ensures.value j ∷ [])
+    (λ j. c.format-format.ensures.value j ∷ c.format.ensures.value j ∷
+    c.format-of_key.ensures.value j ∷ [])
     c.in_ok-test_key.ensures.sound
 
 pub returns-clause-fault : goal.returns-clause-fault

@@ -147,14 +147,16 @@ returns-clause-formats g c =
     rw (
       sym c.format-format.ensures.value,
       sym c.format.ensures.value,
-    ) (never_ok c.in_ok-test_wipe.field-0 FormatsDiffer c.from_samples.result c.in_ok-test_wipe.ensures.formats)
+    ) (never_ok c.in_ok-test_wipe.field-0 FormatsDiffer c.from_samples.result
+    c.in_ok-test_wipe.ensures.formats)
 
 pub returns-clause-shape : goal.returns-clause-shape
 returns-clause-shape g c =
     rw (
       sym c.format-format.ensures.value,
       sym c.format.ensures.value,
-    ) (never_ok c.in_ok-test_wipe.field-0 BadWipe c.from_samples.result c.in_ok-test_wipe.ensures.shape)
+    ) (never_ok c.in_ok-test_wipe.field-0 BadWipe c.from_samples.result
+    c.in_ok-test_wipe.ensures.shape)
 
 pub returns-clause-sound : goal.returns-clause-sound
 returns-clause-sound g c =
