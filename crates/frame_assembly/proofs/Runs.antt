@@ -33,6 +33,12 @@ times_le size a b le =
       (let e : a + (b - a) ≡ b = omega arith in ap (λ (x : ℕ). size * x) e),
     )
 
+-- of groups that are all of a run's, the octets are too
+pub end_below : (size z end many long : ℕ) → z ≡ size → end ≤ many → long ≡ size * many
+    → z * end ≤ long
+end_below size z end many long same le e =
+    subst (λ (k : ℕ). k * end ≤ long) (sym same) (omega (arith, e, times_le size end many le))
+
 pub packed_first : (n size samples at : ℕ) (marks octets : List ℕ) → AreSizes n size samples
     → at ≤ length marks → IsPacked n size samples marks octets
     → AreParts n size samples (take at marks) (take (size * at) octets) (drop at marks)

@@ -1,6 +1,7 @@
 use Rattle.std.proofs.Common.{ℕ, ◌+◌, ◌-◌, ◌*◌, ◌/◌, length, refl, arith}
 use Rattle.frame_assembly.proofs.PackedLemmas.{sizes}
-use Rattle.frame_assembly.proofs.Runs.{are_alike, none_joined_to, part_between, part_behind}
+use Rattle.frame_assembly.proofs.Runs.{are_alike, end_below, none_joined_to, part_between}
+use Rattle.frame_assembly.proofs.Runs.{part_behind}
 use Rattle.frame_assembly.proofs.Runs.{part_packed, left_packed, left_long, part_joined, joined_all}
 use Rattle.frame_assembly.proofs.groups.join_chunks.Goals as goal
 
@@ -81,3 +82,162 @@ returns c =
     (length c.args.other_marks.now) (length c.args.others.now) c.requires.size (omega arith)
     (omega (arith, c.requires.alike)) c.requires.other.long)
     are (omega arith) (omega arith) c.loop-i.invariant c.join_chunk-2.ensures)
+
+pub overflow_mul-from : goal.overflow_mul-from
+overflow_mul-from c = omega arith
+
+pub overflow_add-to : goal.overflow_add-to
+overflow_add-to c = omega arith
+
+pub overflow_mul-to : goal.overflow_mul-to
+overflow_mul-to c = omega arith
+
+pub overflow_mul-start : goal.overflow_mul-start
+overflow_mul-start c =
+    omega (
+      arith,
+      end_below _ _ (8 * c.loop-i.i) (length c.args.marks.now) (length c.args.octets.now)
+          c.requires.size (omega arith)
+          c.requires.packed.long,
+    )
+
+pub overflow_mul-end : goal.overflow_mul-end
+overflow_mul-end c =
+    omega (
+      arith,
+      end_below _ _ (8 * (c.loop-i.i + 1)) (length c.args.marks.now) (length c.args.octets.now)
+          c.requires.size (omega arith)
+          c.requires.packed.long,
+    )
+
+pub offset_bounds-marks-from : goal.offset_bounds-marks-from
+offset_bounds-marks-from c = omega arith
+
+pub slice_bounds-join_chunk-count : goal.slice_bounds-join_chunk-count
+slice_bounds-join_chunk-count c = omega arith
+
+pub slice_bounds-join_chunk-start : goal.slice_bounds-join_chunk-start
+slice_bounds-join_chunk-start c = omega arith
+
+pub slice_bounds-join_chunk-end : goal.slice_bounds-join_chunk-end
+slice_bounds-join_chunk-end c = omega arith
+
+pub slice_bounds-join_chunk-count-in-loop-i : goal.slice_bounds-join_chunk-count-in-loop-i
+slice_bounds-join_chunk-count-in-loop-i c = omega arith
+
+pub slice_bounds-join_chunk-start-in-loop-i : goal.slice_bounds-join_chunk-start-in-loop-i
+slice_bounds-join_chunk-start-in-loop-i c = omega arith
+
+pub slice_bounds-join_chunk-end-in-loop-i : goal.slice_bounds-join_chunk-end-in-loop-i
+slice_bounds-join_chunk-end-in-loop-i c =
+    omega (
+      arith,
+      end_below _ _ (8 * (c.loop-i.i + 1)) (length c.args.marks.now) (length c.args.octets.now)
+          c.requires.size (omega arith)
+          c.requires.packed.long,
+    )
+
+pub offset_bounds-other_marks-from : goal.offset_bounds-other_marks-from
+offset_bounds-other_marks-from c = omega arith
+
+pub slice_bounds-join_chunk-count-in-loop-i-2 : goal.slice_bounds-join_chunk-count-in-loop-i-2
+slice_bounds-join_chunk-count-in-loop-i-2 c = omega arith
+
+pub slice_bounds-join_chunk-start-in-loop-i-2 : goal.slice_bounds-join_chunk-start-in-loop-i-2
+slice_bounds-join_chunk-start-in-loop-i-2 c = omega arith
+
+pub slice_bounds-join_chunk-end-in-loop-i-2 : goal.slice_bounds-join_chunk-end-in-loop-i-2
+slice_bounds-join_chunk-end-in-loop-i-2 c = omega arith
+
+pub slice_bounds-join_chunk-count-in-loop-i-3 : goal.slice_bounds-join_chunk-count-in-loop-i-3
+slice_bounds-join_chunk-count-in-loop-i-3 c = omega arith
+
+pub slice_bounds-join_chunk-start-in-loop-i-3 : goal.slice_bounds-join_chunk-start-in-loop-i-3
+slice_bounds-join_chunk-start-in-loop-i-3 c = omega arith
+
+pub slice_bounds-join_chunk-end-in-loop-i-3 : goal.slice_bounds-join_chunk-end-in-loop-i-3
+slice_bounds-join_chunk-end-in-loop-i-3 c =
+    omega (
+      arith,
+      end_below _ _ (8 * (c.loop-i.i + 1)) (length c.args.other_marks.now)
+          (length c.args.others.now) c.requires.size
+          (omega (arith, c.requires.alike)) c.requires.other.long,
+    )
+
+pub overflow_mul-from-2 : goal.overflow_mul-from-2
+overflow_mul-from-2 c = omega arith
+
+pub overflow_mul-start-2 : goal.overflow_mul-start-2
+overflow_mul-start-2 c =
+    omega (
+      arith,
+      end_below _ _ (8 * (length c.args.marks.now / 8)) (length c.args.marks.now)
+          (length c.args.octets.now) c.requires.size (omega arith)
+          c.requires.packed.long,
+    )
+
+pub offset_bounds-marks-from-2 : goal.offset_bounds-marks-from-2
+offset_bounds-marks-from-2 c = omega arith
+
+pub slice_bounds-join_chunk-count-2 : goal.slice_bounds-join_chunk-count-2
+slice_bounds-join_chunk-count-2 c = omega arith
+
+pub slice_bounds-join_chunk-start-2 : goal.slice_bounds-join_chunk-start-2
+slice_bounds-join_chunk-start-2 c = omega arith
+
+pub slice_bounds-join_chunk-end-2 : goal.slice_bounds-join_chunk-end-2
+slice_bounds-join_chunk-end-2 c = omega arith
+
+pub slice_bounds-join_chunk-count-3 : goal.slice_bounds-join_chunk-count-3
+slice_bounds-join_chunk-count-3 c =
+    omega (
+      arith,
+      end_below _ _ (8 * (length c.args.marks.now / 8)) (length c.args.marks.now)
+          (length c.args.octets.now) c.requires.size (omega arith)
+          c.requires.packed.long,
+    )
+
+pub slice_bounds-join_chunk-start-3 : goal.slice_bounds-join_chunk-start-3
+slice_bounds-join_chunk-start-3 c =
+    omega (
+      arith,
+      end_below _ _ (8 * (length c.args.marks.now / 8)) (length c.args.marks.now)
+          (length c.args.octets.now) c.requires.size (omega arith)
+          c.requires.packed.long,
+    )
+
+pub slice_bounds-join_chunk-end-3 : goal.slice_bounds-join_chunk-end-3
+slice_bounds-join_chunk-end-3 c = omega arith
+
+pub offset_bounds-other_marks-from-2 : goal.offset_bounds-other_marks-from-2
+offset_bounds-other_marks-from-2 c = omega arith
+
+pub slice_bounds-join_chunk-count-4 : goal.slice_bounds-join_chunk-count-4
+slice_bounds-join_chunk-count-4 c = omega arith
+
+pub slice_bounds-join_chunk-start-4 : goal.slice_bounds-join_chunk-start-4
+slice_bounds-join_chunk-start-4 c = omega arith
+
+pub slice_bounds-join_chunk-end-4 : goal.slice_bounds-join_chunk-end-4
+slice_bounds-join_chunk-end-4 c = omega arith
+
+pub slice_bounds-join_chunk-count-5 : goal.slice_bounds-join_chunk-count-5
+slice_bounds-join_chunk-count-5 c =
+    omega (
+      arith,
+      end_below _ _ (8 * (length c.args.marks.now / 8)) (length c.args.other_marks.now)
+          (length c.args.others.now) c.requires.size
+          (omega (arith, c.requires.alike)) c.requires.other.long,
+    )
+
+pub slice_bounds-join_chunk-start-5 : goal.slice_bounds-join_chunk-start-5
+slice_bounds-join_chunk-start-5 c =
+    omega (
+      arith,
+      end_below _ _ (8 * (length c.args.marks.now / 8)) (length c.args.other_marks.now)
+          (length c.args.others.now) c.requires.size
+          (omega (arith, c.requires.alike)) c.requires.other.long,
+    )
+
+pub slice_bounds-join_chunk-end-5 : goal.slice_bounds-join_chunk-end-5
+slice_bounds-join_chunk-end-5 c = omega arith

@@ -1,6 +1,7 @@
 use Rattle.std.proofs.Common.{ℕ, ◌+◌, ◌-◌, ◌*◌, ◌/◌, length, refl, arith}
 use Rattle.frame_assembly.proofs.PackedLemmas.{sizes}
-use Rattle.frame_assembly.proofs.Runs.{are_alike, none_joined_to, part_between, part_behind}
+use Rattle.frame_assembly.proofs.Runs.{are_alike, end_below, none_joined_to, part_between}
+use Rattle.frame_assembly.proofs.Runs.{part_behind}
 use Rattle.frame_assembly.proofs.Runs.{part_packed, left_packed, left_long, part_joined, joined_all}
 use Rattle.frame_assembly.proofs.groups.join_run.Goals as goal
 
@@ -87,3 +88,162 @@ returns c =
     (omega arith)
     (omega (arith, c.requires.alike)) c.requires.other.long)
     are (omega arith) (omega arith) c.loop-i.invariant c.join_block-2.ensures)
+
+pub overflow_mul-from : goal.overflow_mul-from
+overflow_mul-from c = omega arith
+
+pub overflow_add-to : goal.overflow_add-to
+overflow_add-to c = omega arith
+
+pub overflow_mul-to : goal.overflow_mul-to
+overflow_mul-to c = omega arith
+
+pub overflow_mul-start : goal.overflow_mul-start
+overflow_mul-start c =
+    omega (
+      arith,
+      end_below _ _ (64 * c.loop-i.i) (length c.args.marks.now) (length c.args.octets.now)
+          c.pgroup-size.ensures.octets (omega arith)
+          c.requires.packed.long,
+    )
+
+pub overflow_mul-end : goal.overflow_mul-end
+overflow_mul-end c =
+    omega (
+      arith,
+      end_below _ _ (64 * (c.loop-i.i + 1)) (length c.args.marks.now) (length c.args.octets.now)
+          c.pgroup-size.ensures.octets (omega arith)
+          c.requires.packed.long,
+    )
+
+pub offset_bounds-marks-from : goal.offset_bounds-marks-from
+offset_bounds-marks-from c = omega arith
+
+pub slice_bounds-join_block-count : goal.slice_bounds-join_block-count
+slice_bounds-join_block-count c = omega arith
+
+pub slice_bounds-join_block-start : goal.slice_bounds-join_block-start
+slice_bounds-join_block-start c = omega arith
+
+pub slice_bounds-join_block-end : goal.slice_bounds-join_block-end
+slice_bounds-join_block-end c = omega arith
+
+pub slice_bounds-join_block-count-in-loop-i : goal.slice_bounds-join_block-count-in-loop-i
+slice_bounds-join_block-count-in-loop-i c = omega arith
+
+pub slice_bounds-join_block-start-in-loop-i : goal.slice_bounds-join_block-start-in-loop-i
+slice_bounds-join_block-start-in-loop-i c = omega arith
+
+pub slice_bounds-join_block-end-in-loop-i : goal.slice_bounds-join_block-end-in-loop-i
+slice_bounds-join_block-end-in-loop-i c =
+    omega (
+      arith,
+      end_below _ _ (64 * (c.loop-i.i + 1)) (length c.args.marks.now) (length c.args.octets.now)
+          c.pgroup-size.ensures.octets (omega arith)
+          c.requires.packed.long,
+    )
+
+pub offset_bounds-other_marks-from : goal.offset_bounds-other_marks-from
+offset_bounds-other_marks-from c = omega arith
+
+pub slice_bounds-join_block-count-in-loop-i-2 : goal.slice_bounds-join_block-count-in-loop-i-2
+slice_bounds-join_block-count-in-loop-i-2 c = omega arith
+
+pub slice_bounds-join_block-start-in-loop-i-2 : goal.slice_bounds-join_block-start-in-loop-i-2
+slice_bounds-join_block-start-in-loop-i-2 c = omega arith
+
+pub slice_bounds-join_block-end-in-loop-i-2 : goal.slice_bounds-join_block-end-in-loop-i-2
+slice_bounds-join_block-end-in-loop-i-2 c = omega arith
+
+pub slice_bounds-join_block-count-in-loop-i-3 : goal.slice_bounds-join_block-count-in-loop-i-3
+slice_bounds-join_block-count-in-loop-i-3 c = omega arith
+
+pub slice_bounds-join_block-start-in-loop-i-3 : goal.slice_bounds-join_block-start-in-loop-i-3
+slice_bounds-join_block-start-in-loop-i-3 c = omega arith
+
+pub slice_bounds-join_block-end-in-loop-i-3 : goal.slice_bounds-join_block-end-in-loop-i-3
+slice_bounds-join_block-end-in-loop-i-3 c =
+    omega (
+      arith,
+      end_below _ _ (64 * (c.loop-i.i + 1)) (length c.args.other_marks.now)
+          (length c.args.others.now) c.pgroup-size.ensures.octets
+          (omega (arith, c.requires.alike)) c.requires.other.long,
+    )
+
+pub overflow_mul-from-2 : goal.overflow_mul-from-2
+overflow_mul-from-2 c = omega arith
+
+pub overflow_mul-start-2 : goal.overflow_mul-start-2
+overflow_mul-start-2 c =
+    omega (
+      arith,
+      end_below _ _ (64 * (length c.args.marks.now / 64)) (length c.args.marks.now)
+          (length c.args.octets.now) c.pgroup-size.ensures.octets (omega arith)
+          c.requires.packed.long,
+    )
+
+pub offset_bounds-marks-from-2 : goal.offset_bounds-marks-from-2
+offset_bounds-marks-from-2 c = omega arith
+
+pub slice_bounds-join_block-count-2 : goal.slice_bounds-join_block-count-2
+slice_bounds-join_block-count-2 c = omega arith
+
+pub slice_bounds-join_block-start-2 : goal.slice_bounds-join_block-start-2
+slice_bounds-join_block-start-2 c = omega arith
+
+pub slice_bounds-join_block-end-2 : goal.slice_bounds-join_block-end-2
+slice_bounds-join_block-end-2 c = omega arith
+
+pub slice_bounds-join_block-count-3 : goal.slice_bounds-join_block-count-3
+slice_bounds-join_block-count-3 c =
+    omega (
+      arith,
+      end_below _ _ (64 * (length c.args.marks.now / 64)) (length c.args.marks.now)
+          (length c.args.octets.now) c.pgroup-size.ensures.octets (omega arith)
+          c.requires.packed.long,
+    )
+
+pub slice_bounds-join_block-start-3 : goal.slice_bounds-join_block-start-3
+slice_bounds-join_block-start-3 c =
+    omega (
+      arith,
+      end_below _ _ (64 * (length c.args.marks.now / 64)) (length c.args.marks.now)
+          (length c.args.octets.now) c.pgroup-size.ensures.octets (omega arith)
+          c.requires.packed.long,
+    )
+
+pub slice_bounds-join_block-end-3 : goal.slice_bounds-join_block-end-3
+slice_bounds-join_block-end-3 c = omega arith
+
+pub offset_bounds-other_marks-from-2 : goal.offset_bounds-other_marks-from-2
+offset_bounds-other_marks-from-2 c = omega arith
+
+pub slice_bounds-join_block-count-4 : goal.slice_bounds-join_block-count-4
+slice_bounds-join_block-count-4 c = omega arith
+
+pub slice_bounds-join_block-start-4 : goal.slice_bounds-join_block-start-4
+slice_bounds-join_block-start-4 c = omega arith
+
+pub slice_bounds-join_block-end-4 : goal.slice_bounds-join_block-end-4
+slice_bounds-join_block-end-4 c = omega arith
+
+pub slice_bounds-join_block-count-5 : goal.slice_bounds-join_block-count-5
+slice_bounds-join_block-count-5 c =
+    omega (
+      arith,
+      end_below _ _ (64 * (length c.args.marks.now / 64)) (length c.args.other_marks.now)
+          (length c.args.others.now) c.pgroup-size.ensures.octets
+          (omega (arith, c.requires.alike)) c.requires.other.long,
+    )
+
+pub slice_bounds-join_block-start-5 : goal.slice_bounds-join_block-start-5
+slice_bounds-join_block-start-5 c =
+    omega (
+      arith,
+      end_below _ _ (64 * (length c.args.marks.now / 64)) (length c.args.other_marks.now)
+          (length c.args.others.now) c.pgroup-size.ensures.octets
+          (omega (arith, c.requires.alike)) c.requires.other.long,
+    )
+
+pub slice_bounds-join_block-end-5 : goal.slice_bounds-join_block-end-5
+slice_bounds-join_block-end-5 c = omega arith

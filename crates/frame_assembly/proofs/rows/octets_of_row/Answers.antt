@@ -24,3 +24,61 @@ returns-clause-spelled c =
     c.pgroup-size.result.octets c.row_groups-count.result c.pgroup-size.ensures.octets
     c.row_groups-count.ensures.value
     c.requires.whole c.requires.packed c.requires.row
+
+pub overflow_mul-first : goal.overflow_mul-first
+overflow_mul-first c =
+    let k : ℕ = c.args.row in
+    let same = c.row_groups-count.ensures.value in
+    let at : k * c.row_groups-count.result ≡ _ = ap (λ (j : ℕ). k * j) same in
+    omega (
+      arith,
+      row_inside c.args.format.now c.args.marks.now c.args.row c.requires.whole c.requires.row,
+    )
+
+pub overflow_add-result : goal.overflow_add-result
+overflow_add-result c =
+    let k : ℕ = c.args.row in
+    let same = c.row_groups-count.ensures.value in
+    let at : k * c.row_groups-count.result ≡ _ = ap (λ (j : ℕ). k * j) same in
+    omega (
+      arith,
+      row_inside c.args.format.now c.args.marks.now c.args.row c.requires.whole c.requires.row,
+    )
+
+pub overflow_mul-result : goal.overflow_mul-result
+overflow_mul-result c =
+    let k : ℕ = c.args.row in
+    let same = c.row_groups-count.ensures.value in
+    let at : k * c.row_groups-count.result ≡ _ = ap (λ (j : ℕ). k * j) same in
+    let le =
+    octets_inside c.args.format.now c.args.marks.now c.args.octets.now
+    (c.args.row * c.row_groups-count.result) c.row_groups-count.result
+    c.pgroup-size.result.octets c.requires.packed
+    (omega (
+      arith,
+      row_inside c.args.format.now c.args.marks.now c.args.row c.requires.whole c.requires.row,
+    ))
+    c.pgroup-size.ensures.octets in
+    omega arith
+
+pub overflow_mul-result-2 : goal.overflow_mul-result-2
+overflow_mul-result-2 c =
+    let k : ℕ = c.args.row in
+    let same = c.row_groups-count.ensures.value in
+    let at : k * c.row_groups-count.result ≡ _ = ap (λ (j : ℕ). k * j) same in
+    let le =
+    octets_inside c.args.format.now c.args.marks.now c.args.octets.now
+    (c.args.row * c.row_groups-count.result) c.row_groups-count.result
+    c.pgroup-size.result.octets c.requires.packed
+    (omega (
+      arith,
+      row_inside c.args.format.now c.args.marks.now c.args.row c.requires.whole c.requires.row,
+    ))
+    c.pgroup-size.ensures.octets in
+    omega arith
+
+pub slice_bounds-result-count : goal.slice_bounds-result-count
+slice_bounds-result-count c = omega arith
+
+pub slice_bounds-result-start : goal.slice_bounds-result-start
+slice_bounds-result-start c = omega arith
