@@ -1,17 +1,32 @@
-use Rattle.std.proofs.Common.{◌≡◌, ℕ, ◌+◌, ◌/◌, ◌<◌, false, eqb, length, sym, ap, arith}
+use Rattle.std.proofs.Common.{◌≡◌, ℕ, ◌+◌, ◌/◌, ◌<◌, ◌≤◌, false, eqb, length, sym, ap, arith}
 use Rattle.std.proofs.lemmas.Bool.{eqb-true, eqb-false}
 use Rattle.payload_header.specs.Payload.{seen, IsInside}
-use Rattle.frame_assembly.specs.Packed.{cells_in}
+use Rattle.frame_assembly.specs.Packed.{cells_in, group_count}
 use Rattle.frame_assembly.proofs.PackedLemmas.{sizes}
 use Rattle.frame_assembly.proofs.Put.{no_octets, offset_below}
-use Rattle.frame_assembly.proofs.Runs.{part_between, part_packed}
-use Rattle.frame_assembly.proofs.Segments.{cells_long, groups_end, segment_octets, slice_long}
+use Rattle.frame_assembly.proofs.Runs.{end_below, part_between, part_packed, times_le}
+use Rattle.frame_assembly.proofs.Segments.{cells_long, first_group, groups_end, segment_octets}
+use Rattle.frame_assembly.proofs.Segments.{slice_long}
 use Rattle.frame_assembly.proofs.SegmentPut.{segment_put}
 use Rattle.st_format.specs.Pgroup.{pixel_group}
+use Rattle.st_format.specs.Raster.{Segment}
+use Rattle.st_format.specs.declared.format.Format.{Format}
 use Rattle.frame_assembly.proofs.joining.join_segment.Goals as goal
 
 some : (n : ℕ) → false ≡ eqb n 0 → 0 < n
 some n h = let ne : n ≡ 0 → ⊥ = eqb-false n 0 (sym h) in omega arith
+
+ends : (f : Format) (s : Segment) (first z many : ℕ) → IsInside s f → first ≡ first_group f s
+    → z ≡ (pixel_group f.sampling f.depth).octets → many ≡ group_count f
+    → first + length s.octets / z ≤ many
+ends f s first z many inside at same whole =
+    omega (
+      arith,
+      groups_end f s inside,
+      at,
+      ap (λ (k : ℕ). length s.octets / k) same,
+      whole,
+    )
 
 pub returns-then-is_empty-clause-cells : goal.returns-then-is_empty-clause-cells
 returns-then-is_empty-clause-cells c =
@@ -100,3 +115,99 @@ returns-clause-cells c = λ ts.
     c.args.marks.now c.args.octets.now c.join_whole.new.marks c.join_whole.new.octets
     (c.requires.inside has) c.requires.whole c.requires.packed c.groups_before-first.ensures.value
     c.pgroup-size.ensures.octets c.join_whole.ensures).cells ts
+
+pub returns-then-is_empty-clause-packed : goal.returns-then-is_empty-clause-packed
+returns-then-is_empty-clause-packed c =
+    c.requires.packed
+
+pub nonzero_div-end : goal.nonzero_div-end
+nonzero_div-end c =
+    c.pgroup-size.ensures.some.0
+
+pub overflow_add-end : goal.overflow_add-end
+overflow_add-end c =
+    let lt : c.groups_before-first.result
+    + length c.args.segment.now.octets.now / c.pgroup-size.result.octets ≤ length c.args.marks.now =
+    ends c.args.format.now
+    (seen c.args.segment.now) c.groups_before-first.result c.pgroup-size.result.octets
+    (length c.args.marks.now)
+    (c.requires.inside (some (length c.args.segment.now.octets.now) c.if-is_empty.ensures))
+    c.groups_before-first.ensures.value c.pgroup-size.ensures.octets c.requires.whole in
+    omega (arith, lt)
+
+pub offset_bounds-marks-first : goal.offset_bounds-marks-first
+offset_bounds-marks-first c =
+    omega (arith, c.groups_before-first.ensures.limit)
+
+pub slice_bounds-join_whole-count : goal.slice_bounds-join_whole-count
+slice_bounds-join_whole-count c =
+    omega arith
+
+pub slice_bounds-join_whole-start : goal.slice_bounds-join_whole-start
+slice_bounds-join_whole-start c =
+    omega arith
+
+pub overflow_mul-size : goal.overflow_mul-size
+overflow_mul-size c =
+    let lt : c.groups_before-first.result
+    + length c.args.segment.now.octets.now / c.pgroup-size.result.octets ≤ length c.args.marks.now =
+    ends c.args.format.now
+    (seen c.args.segment.now) c.groups_before-first.result c.pgroup-size.result.octets
+    (length c.args.marks.now)
+    (c.requires.inside (some (length c.args.segment.now.octets.now) c.if-is_empty.ensures))
+    c.groups_before-first.ensures.value c.pgroup-size.ensures.octets c.requires.whole in
+    omega (
+      arith,
+      end_below _ _ c.groups_before-first.result
+          (length c.args.marks.now) (length c.args.octets.now) c.pgroup-size.ensures.octets
+          (omega (arith, lt))
+          c.requires.packed.long,
+    )
+
+pub overflow_mul-size-2 : goal.overflow_mul-size-2
+overflow_mul-size-2 c =
+    let lt : c.groups_before-first.result
+    + length c.args.segment.now.octets.now / c.pgroup-size.result.octets ≤ length c.args.marks.now =
+    ends c.args.format.now
+    (seen c.args.segment.now) c.groups_before-first.result c.pgroup-size.result.octets
+    (length c.args.marks.now)
+    (c.requires.inside (some (length c.args.segment.now.octets.now) c.if-is_empty.ensures))
+    c.groups_before-first.ensures.value c.pgroup-size.ensures.octets c.requires.whole in
+    omega (
+      arith,
+      end_below _ _ (c.groups_before-first.result
+          + length c.args.segment.now.octets.now / c.pgroup-size.result.octets)
+          (length c.args.marks.now) (length c.args.octets.now) c.pgroup-size.ensures.octets
+          (omega (arith, lt))
+          c.requires.packed.long,
+    )
+
+pub slice_bounds-join_whole-count-2 : goal.slice_bounds-join_whole-count-2
+slice_bounds-join_whole-count-2 c =
+    times_le c.pgroup-size.result.octets c.groups_before-first.result
+    (c.groups_before-first.result + length c.args.segment.now.octets.now / c.pgroup-size.result.octets)
+    (omega arith)
+
+pub slice_bounds-join_whole-start-2 : goal.slice_bounds-join_whole-start-2
+slice_bounds-join_whole-start-2 c =
+    times_le c.pgroup-size.result.octets c.groups_before-first.result
+    (c.groups_before-first.result + length c.args.segment.now.octets.now / c.pgroup-size.result.octets)
+    (omega arith)
+
+pub slice_bounds-join_whole-end-2 : goal.slice_bounds-join_whole-end-2
+slice_bounds-join_whole-end-2 c =
+    let lt : c.groups_before-first.result
+    + length c.args.segment.now.octets.now / c.pgroup-size.result.octets ≤ length c.args.marks.now =
+    ends c.args.format.now
+    (seen c.args.segment.now) c.groups_before-first.result c.pgroup-size.result.octets
+    (length c.args.marks.now)
+    (c.requires.inside (some (length c.args.segment.now.octets.now) c.if-is_empty.ensures))
+    c.groups_before-first.ensures.value c.pgroup-size.ensures.octets c.requires.whole in
+    omega (
+      arith,
+      end_below _ _ (c.groups_before-first.result
+          + length c.args.segment.now.octets.now / c.pgroup-size.result.octets)
+          (length c.args.marks.now) (length c.args.octets.now) c.pgroup-size.ensures.octets
+          (omega (arith, lt))
+          c.requires.packed.long,
+    )
