@@ -6,7 +6,9 @@ use Rattle.std.specs.List.{All, flat_map, range_with_len, AllByRecursion}
 use Rattle.std.proofs.lemmas.Bool.{cases_lt}
 use Rattle.std.proofs.lemmas.Nat.{mul-le}
 use Rattle.std.proofs.Math.Nat.{div-mul-le_self, mul_assoc}
+use Rattle.std.proofs.Common.{append_assoc}
 use Rattle.std.proofs.lemmas.List.{length-append, length-take-le, length-drop, map-append}
+use Rattle.std.proofs.lemmas.List.{take_all}
 use Rattle.std.proofs.lemmas.List.Elements.{All-from_recursion, All-take, All-drop}
 use Rattle.std.proofs.lemmas.List.FromFn.{length-map-range_with_len}
 use Rattle.st_format.specs.declared.format.Format.{Format}
@@ -269,3 +271,58 @@ length-runs p (r ∷ rs) =
       length-run p r,
       length-runs p rs,
     )
+
+-- ---- bounds
+
+pub place_below : (f : Format) (r : PacketRun) (w : ℕ) → HasHead f r → w ≡ row_groups f → w ≤ 8192
+    → r.row * w + r.first ≤ 8192 * 8192 + 8192
+place_below f r w head e most =
+    omega (
+      arith,
+      head.run.inside,
+      mul-le r.row w 8192 8192 (omega (arith, head.row, f.whole_height.most)) most,
+    )
+
+pub groups_below : (f : Format) (r : PacketRun) (w : ℕ) → HasHead f r → w ≡ row_groups f → w ≤ 8192
+    → r.groups ≤ 8192
+groups_below f r w head e most = omega (arith, head.run.inside)
+
+-- ---- the first of the runs that are left, and those behind it
+
+abbrev pub rest_of : List PacketRun → List PacketRun
+rest_of rest = take (length rest - 1) (drop 1 rest)
+
+pub first_written : (h : PacketRun → List ℕ) (rest : List PacketRun) (d : PacketRun)
+    (old new text : List ℕ) → 1 ≤ length rest → new ≡ old ++ h (get_or rest 0 d)
+    → old ++ flat_map h rest ≡ text → new ++ flat_map h (rest_of rest) ≡ text
+first_written h [] d old new text some step all = absurd (omega arith)
+first_written h (r ∷ rs) d old new text some step all =
+    ap (λ (xs : List ℕ). xs ++ flat_map h (rest_of (r ∷ rs))) step
+    ∙ ap (λ (qs : List PacketRun). (old ++ h r) ++ flat_map h qs)
+    (take_all (length (r ∷ rs) - 1) rs (omega arith))
+    ∙ append_assoc old (h r) (flat_map h rs) ∙ all
+
+pub first_counted : (h : PacketRun → List ℕ) (rest : List PacketRun) (d : PacketRun) (a b n : ℕ)
+    → 1 ≤ length rest → b ≡ a + length (h (get_or rest 0 d)) → a + length (flat_map h rest) ≡ n
+    → b + length (flat_map h (rest_of rest)) ≡ n
+first_counted h [] d a b n some step all = absurd (omega arith)
+first_counted h (r ∷ rs) d a b n some step all =
+    ap (λ (qs : List PacketRun). b + length (flat_map h qs))
+    (take_all (length (r ∷ rs) - 1) rs (omega arith))
+    ∙ omega (arith, step, all, length-append (h r) (flat_map h rs))
+
+pub first_fits : (h : PacketRun → List ℕ) (rest : List PacketRun) (d : PacketRun) (a n : ℕ)
+    → 1 ≤ length rest → a + length (flat_map h rest) ≤ n → a + length (h (get_or rest 0 d)) ≤ n
+first_fits h [] d a n some le = absurd (omega arith)
+first_fits h (r ∷ rs) d a n some le = omega (arith, le, length-append (h r) (flat_map h rs))
+
+pub first_holds : (P : PacketRun → Type 0) (rest : List PacketRun) (d : PacketRun)
+    → 1 ≤ length rest → AllByRecursion P rest → P (get_or rest 0 d)
+first_holds P [] d some all = absurd (omega arith)
+first_holds P (r ∷ rs) d some all = all.0
+
+pub rest_holds : (P : PacketRun → Type 0) (rest : List PacketRun) → 1 ≤ length rest
+    → AllByRecursion P rest → AllByRecursion P (rest_of rest)
+rest_holds P [] some all = absurd (omega arith)
+rest_holds P (r ∷ rs) some all =
+    subst (AllByRecursion P) (sym (take_all (length (r ∷ rs) - 1) rs (omega arith))) all.1

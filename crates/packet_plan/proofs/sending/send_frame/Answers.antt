@@ -1,8 +1,10 @@
-use Rattle.std.proofs.Common.{◌<◌, ◌+◌, List, ℕ, length, take, subst, ◌∙◌, arith}
+use Rattle.std.proofs.Common.{◌<◌, ◌+◌, ◌%◌, List, ℕ, length, min, take, refl, sym, ap, subst}
+use Rattle.std.proofs.Common.{◌∙◌, arith}
+use Rattle.std.proofs.lemmas.List.{length-take-le}
 use Rattle.st_format.specs.Device.{TakesAll}
 use Rattle.packet_plan.specs.Text.{datagram_texts}
 use Rattle.packet_plan.proofs.Taken.{all_texts, length-texts, plan_sent, takes_kept, takes_more}
-use Rattle.packet_plan.proofs.Taken.{texts_more}
+use Rattle.packet_plan.proofs.Taken.{packet_fits, packet_room, takes_none, texts_more}
 use Rattle.packet_plan.proofs.sending.send_frame.Goals as goal
 
 pub loop-index-preserved : goal.loop-index-preserved
@@ -78,3 +80,82 @@ returns-clause-sent g c =
             c.loop-index-test.false,
           ))) l.invariant.taken;
     }
+
+pub loop-index-init : goal.loop-index-init
+loop-index-init g c =
+    record {
+      taken = takes_none (g.S.DatagramSink.taken c.args.sink.now);
+      failures = refl;
+      known = λ some. absurd (omega arith);
+      long = refl;
+    }
+
+pub write_packet-length-requires-clause-index : goal.write_packet-length-requires-clause-index
+write_packet-length-requires-clause-index g c =
+    omega (arith, c.len-count.ensures.value, c.loop-index-test.true)
+
+pub write_packet-length-requires-clause-format : goal.write_packet-length-requires-clause-format
+write_packet-length-requires-clause-format g c = c.requires.format
+
+pub write_packet-length-requires-clause-room : goal.write_packet-length-requires-clause-room
+write_packet-length-requires-clause-room g c =
+    let room =
+    packet_room c.args.plan.now c.loop-index.index (length c.args.buf.now) c.requires.room
+    (omega (arith, c.len-count.ensures.value, c.loop-index-test.true)) in
+    omega (arith, room, c.loop-index.invariant.long)
+
+pub slice_bounds-put-end : goal.slice_bounds-put-end
+slice_bounds-put-end g c =
+    let room =
+    packet_room c.args.plan.now c.loop-index.index (length c.args.buf.now) c.requires.room
+    (omega (arith, c.len-count.ensures.value, c.loop-index-test.true)) in
+    let w = c.write_packet-length in
+    omega (arith, room, w.ensures.value, w.ensures.length, c.loop-index.invariant.long)
+
+pub slice_bounds-put-end-in-loop-index : goal.slice_bounds-put-end-in-loop-index
+slice_bounds-put-end-in-loop-index g c =
+    let room =
+    packet_room c.args.plan.now c.loop-index.index (length c.args.buf.now) c.requires.room
+    (omega (arith, c.len-count.ensures.value, c.loop-index-test.true)) in
+    let w = c.write_packet-length in
+    sym (length-take-le w.result w.new.buf
+    (omega (arith, room, w.ensures.value, w.ensures.length, c.loop-index.invariant.long)))
+
+pub put-requires : goal.put-requires
+put-requires g c =
+    let fits =
+    packet_fits c.args.plan.now c.loop-index.index c.len-count.ensures.full
+    (omega (arith, c.len-count.ensures.value, c.loop-index-test.true)) in
+    let room =
+    packet_room c.args.plan.now c.loop-index.index (length c.args.buf.now) c.requires.room
+    (omega (arith, c.len-count.ensures.value, c.loop-index-test.true)) in
+    let w = c.write_packet-length in
+    omega (
+      arith,
+      fits,
+      w.ensures.value,
+      length-take-le w.result w.new.buf
+          (omega (arith, room, w.ensures.value, w.ensures.length, c.loop-index.invariant.long)),
+    )
+
+pub returns-in_default-clause-length : goal.returns-in_default-clause-length
+returns-in_default-clause-length g c =
+    c.write_packet-length.ensures.length ∙ c.loop-index.invariant.long
+
+pub returns-in_default-clause-sent : goal.returns-in_default-clause-sent
+returns-in_default-clause-sent g c = tt
+
+pub returns-in_default-clause-next : goal.returns-in_default-clause-next
+returns-in_default-clause-next g c = tt
+
+pub returns-in_default-clause-counted : goal.returns-in_default-clause-counted
+returns-in_default-clause-counted g c =
+    c.in_default.ensures.counted
+    ∙ ap (λ (k : ℕ). min (k + 1) 18446744073709551615) c.loop-index.invariant.failures
+
+pub returns-clause-length : goal.returns-clause-length
+returns-clause-length g c = c.loop-index.invariant.long
+
+pub returns-clause-next : goal.returns-clause-next
+returns-clause-next g c =
+    ap (λ (k : ℕ). (c.args.stamp.first + k) % 4294967296) c.len-count.ensures.value

@@ -1,4 +1,9 @@
-use Rattle.std.proofs.Common.{◌≡◌, ◌+◌, ◌-◌, ◌*◌, ◌≤◌, ℕ, drop, length, arith}
+use Rattle.std.proofs.Common.{◌≡◌, ◌+◌, ◌-◌, ◌*◌, ◌^◌, ◌<◌, ◌≤◌, ℕ, drop, length, sym, ap}
+use Rattle.std.proofs.Common.{◌∙◌, subst, arith}
+use Rattle.std.specs.List.{All}
+use Rattle.st_format.specs.Pgroup.{bits_of}
+use Rattle.st_format.specs.declared.format.Format.{Format}
+use Rattle.packet_plan.specs.Plan.{group_octets}
 use Rattle.std.proofs.lemmas.List.{length-drop, length-take-le}
 use Rattle.std.proofs.lemmas.Slice.{drop-put_mid}
 use Rattle.packet_plan.proofs.RunLemmas.{octets_are, run_agrees}
@@ -40,3 +45,50 @@ returns-clause-behind g c =
       length-take-le (end - at) (drop at buf) (omega (arith, inside, length-drop at buf)),
     ) in
     drop-put_mid at (end - at) buf octets end (omega arith) (omega arith) long
+
+pub run_samples-values-requires : goal.run_samples-values-requires
+run_samples-values-requires g c = c.requires.head
+
+pub overflow_mul-end : goal.overflow_mul-end
+overflow_mul-end g c =
+    omega (
+      arith,
+      c.requires.head.small,
+      ap (λ (k : ℕ). c.args.run.groups * k)
+          (c.group_octets_of.ensures.value ∙ ap group_octets c.format-format.ensures.value),
+    )
+
+pub overflow_cast-end : goal.overflow_cast-end
+overflow_cast-end g c =
+    omega (
+      arith,
+      c.requires.head.small,
+      ap (λ (k : ℕ). c.args.run.groups * k)
+          (c.group_octets_of.ensures.value ∙ ap group_octets c.format-format.ensures.value),
+    )
+
+pub overflow_add-end : goal.overflow_add-end
+overflow_add-end g c =
+    omega (
+      arith,
+      c.requires.room,
+      octets_are c.args.picture.now c.args.run c.format-format.result c.group_octets_of.result
+          c.format-format.ensures.value c.group_octets_of.ensures.value,
+    )
+
+pub slice_bounds-write_values-count : goal.slice_bounds-write_values-count
+slice_bounds-write_values-count g c = omega arith
+
+pub slice_bounds-write_values-start : goal.slice_bounds-write_values-start
+slice_bounds-write_values-start g c = omega arith
+
+pub write_values-requires-clause-fit : goal.write_values-requires-clause-fit
+write_values-requires-clause-fit g c =
+    subst (λ (f : Format). All (λ v. v < 2 ^ bits_of f.depth) c.run_samples-values.result.now)
+    (sym c.format-format.ensures.value) c.run_samples-values.ensures.fit
+
+pub returns-clause-value : goal.returns-clause-value
+returns-clause-value g c =
+    ap (λ (k : ℕ). c.args.at + k)
+    (octets_are c.args.picture.now c.args.run c.format-format.result c.group_octets_of.result
+    c.format-format.ensures.value c.group_octets_of.ensures.value)
