@@ -185,13 +185,15 @@ overflow_mul-size-2 c =
 pub slice_bounds-join_whole-count-2 : goal.slice_bounds-join_whole-count-2
 slice_bounds-join_whole-count-2 c =
     times_le c.pgroup-size.result.octets c.groups_before-first.result
-    (c.groups_before-first.result + length c.args.segment.now.octets.now / c.pgroup-size.result.octets)
+    (c.groups_before-first.result
+    + length c.args.segment.now.octets.now / c.pgroup-size.result.octets)
     (omega arith)
 
 pub slice_bounds-join_whole-start-2 : goal.slice_bounds-join_whole-start-2
 slice_bounds-join_whole-start-2 c =
     times_le c.pgroup-size.result.octets c.groups_before-first.result
-    (c.groups_before-first.result + length c.args.segment.now.octets.now / c.pgroup-size.result.octets)
+    (c.groups_before-first.result
+    + length c.args.segment.now.octets.now / c.pgroup-size.result.octets)
     (omega arith)
 
 pub slice_bounds-join_whole-end-2 : goal.slice_bounds-join_whole-end-2

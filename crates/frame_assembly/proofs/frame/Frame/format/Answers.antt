@@ -1,4 +1,6 @@
-use Rattle.std.proofs.Common.{subst}
+use Rattle.std.proofs.Common.{ap, subst}
+use Rattle.st_format.specs.Fit.{ValuesFit}
+use Rattle.st_format.specs.Raster.{IsWhole, Raster}
 use Rattle.frame_assembly.specs.Rows.{GroupsAreWhole}
 use Rattle.frame_assembly.proofs.WholeGroups.{whole_groups}
 use Rattle.frame_assembly.proofs.frame.Frame.format.Goals as goal
@@ -6,3 +8,12 @@ use Rattle.frame_assembly.proofs.frame.Frame.format.Goals as goal
 pub returns-clause-groups : goal.returns-clause-groups
 returns-clause-groups g c =
     subst GroupsAreWhole c.self.view_is (whole_groups _ _ _ c.self.invariant)
+
+pub returns-clause-format : goal.returns-clause-format
+returns-clause-format g c = ap (λ (r : Raster). r.format) c.self.view_is
+
+pub returns-clause-whole : goal.returns-clause-whole
+returns-clause-whole g c = subst IsWhole c.self.view_is c.self.invariant.frame.whole
+
+pub returns-clause-fit : goal.returns-clause-fit
+returns-clause-fit g c = subst ValuesFit c.self.view_is c.self.invariant.frame.fit
