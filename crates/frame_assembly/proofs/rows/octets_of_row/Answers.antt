@@ -1,4 +1,6 @@
-use Rattle.std.proofs.Common.{◌≡◌, ℕ, ◌*◌, ap, arith}
+use Rattle.std.proofs.Common.{◌≡◌, ℕ, ◌+◌, ◌-◌, ◌*◌, ◌/◌, ◌≤◌, length, drop, ap, ◌∙◌, arith}
+use Rattle.std.proofs.lemmas.List.{length-drop, length-take-le}
+use Rattle.st_format.specs.Pgroup.{pixel_group}
 use Rattle.frame_assembly.proofs.RowLemmas.{octets_inside, row_inside, row_spelled}
 use Rattle.frame_assembly.proofs.rows.octets_of_row.Goals as goal
 
@@ -82,3 +84,24 @@ slice_bounds-result-count c = omega arith
 
 pub slice_bounds-result-start : goal.slice_bounds-result-start
 slice_bounds-result-start c = omega arith
+
+pub returns-clause-long : goal.returns-clause-long
+returns-clause-long c =
+    let f = c.args.format.now in
+    let z : ℕ = c.pgroup-size.result.octets in
+    let n : ℕ = c.row_groups-count.result in
+    let k : ℕ = c.args.row in
+    let at : k * n ≡ _ = ap (λ (j : ℕ). k * j) c.row_groups-count.ensures.value in
+    let le : z * (k * n + n) ≤ length c.args.octets.now =
+    octets_inside f c.args.marks.now c.args.octets.now (k * n) n z c.requires.packed
+    (omega (
+      arith,
+      c.row_groups-count.ensures.value,
+      row_inside f c.args.marks.now c.args.row c.requires.whole c.requires.row,
+    )) c.pgroup-size.ensures.octets in
+    let count : z * (k * n + n) - z * (k * n) ≡ n * z = omega arith in
+    length-take-le (z * (k * n + n) - z * (k * n)) (drop (z * (k * n)) c.args.octets.now)
+    (omega (arith, le, length-drop (z * (k * n)) c.args.octets.now))
+    ∙ count ∙ ap (λ (j : ℕ). j * z) c.row_groups-count.ensures.value
+    ∙ ap (λ (j : ℕ). f.width / (pixel_group f.sampling f.depth).pixels * j)
+    c.pgroup-size.ensures.octets
