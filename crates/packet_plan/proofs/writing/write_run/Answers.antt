@@ -1,11 +1,13 @@
 use Rattle.std.proofs.Common.{◌≡◌, ◌+◌, ◌-◌, ◌*◌, ◌^◌, ◌<◌, ◌≤◌, ℕ, drop, length, sym, ap}
-use Rattle.std.proofs.Common.{◌∙◌, subst, arith}
+use Rattle.std.proofs.Common.{◌++◌, ◌∙◌, List, take, subst, arith}
 use Rattle.std.specs.List.{All}
 use Rattle.st_format.specs.Pgroup.{bits_of}
+use Rattle.st_format.specs.Samples.{octets_in}
+use Rattle.packet_plan.specs.Sent.{run_values}
 use Rattle.st_format.specs.declared.format.Format.{Format}
 use Rattle.packet_plan.specs.Plan.{group_octets}
 use Rattle.std.proofs.lemmas.List.{length-drop, length-take-le}
-use Rattle.std.proofs.lemmas.Slice.{drop-put_mid}
+use Rattle.std.proofs.lemmas.Slice.{drop-put_mid, take-put_mid}
 use Rattle.packet_plan.proofs.RunLemmas.{octets_are, run_agrees}
 use Rattle.packet_plan.proofs.writing.write_run.Goals as goal
 
@@ -92,3 +94,29 @@ returns-clause-value g c =
     ap (λ (k : ℕ). c.args.at + k)
     (octets_are c.args.picture.now c.args.run c.format-format.result c.group_octets_of.result
     c.format-format.ensures.value c.group_octets_of.ensures.value)
+
+pub returns-clause-written : goal.returns-clause-written
+returns-clause-written g c =
+    let at = c.args.at in
+    let buf = c.args.buf.now in
+    let octets = c.write_values.new.octets in
+    let end : ℕ = at + c.args.run.groups * c.group_octets_of.result in
+    let inside : end ≤ length buf =
+    omega (
+      arith,
+      c.requires.room,
+      octets_are c.args.picture.now c.args.run c.format-format.result c.group_octets_of.result
+          c.format-format.ensures.value c.group_octets_of.ensures.value,
+    ) in
+    let long : length octets ≡ end - at =
+    omega (
+      arith,
+      c.write_values.auto.octets,
+      length-take-le (end - at) (drop at buf) (omega (arith, inside, length-drop at buf)),
+    ) in
+    take-put_mid at (end - at) buf octets end (omega (arith, long)) (omega (arith, inside))
+    ∙ ap (λ (os : List ℕ). take at buf ++ os)
+    (c.write_values.ensures
+    ∙ ap (octets_in (bits_of c.format-format.result.depth)) c.run_samples-values.ensures.value
+    ∙ ap (λ (f : Format). octets_in (bits_of f.depth)
+    (run_values c.args.picture.now c.args.run)) c.format-format.ensures.value)
