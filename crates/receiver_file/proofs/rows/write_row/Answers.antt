@@ -1,3 +1,6 @@
+use Rattle.std.proofs.Common.{ℕ, ◌*◌, refl, sym}
+use Rattle.std.proofs.Math.Nat.{mul_comm}
+use Rattle.st_format.specs.Position.{row_groups}
 use Rattle.std.proofs.Common.{◌≡◌, ◌∙◌, ap}
 use Rattle.st_format.specs.declared.format.Format.{Format}
 use Rattle.capture_file.specs.Groups.{groups_text}
@@ -33,3 +36,32 @@ returns-clause-fault g c =
     c.marks-marks.ensures.long c.packed_row-octets.ensures.long c.marks-marks.ensures.marks
     c.are_words.ensures c.are_octets.ensures.all c.packed_row-octets.ensures.spelled in
     rw (← e) c.write_marked.ensures.fault
+
+pub marks-marks-requires : goal.marks-marks-requires
+marks-marks-requires g c = c.requires
+
+pub packed_row-octets-requires : goal.packed_row-octets-requires
+packed_row-octets-requires g c = c.requires
+
+pub slice_bounds-write_marked-end : goal.slice_bounds-write_marked-end
+slice_bounds-write_marked-end g c = refl
+
+pub write_marked-requires-clause-few : goal.write_marked-requires-clause-few
+write_marked-requires-clause-few g c = c.pgroup.ensures.most.0
+
+pub write_marked-requires-clause-octets : goal.write_marked-requires-clause-octets
+write_marked-requires-clause-octets g c =
+    let f : Format = c.args.frame.now.format in
+    let size : c.pgroup.result.octets ≡ (shape_in f).octets =
+    c.pgroup.ensures.octets
+    ∙ ap (λ (f : Format). (shape_in f).octets) c.format.ensures.format in
+    c.packed_row-octets.ensures.long
+    ∙ mul_comm (row_groups f) (shape_in f).octets
+    ∙ ap (λ (n : ℕ). n * row_groups f) (sym size)
+    ∙ ap (λ (n : ℕ). c.pgroup.result.octets * n) (sym c.marks-marks.ensures.long)
+
+pub write_marked-requires-clause-room : goal.write_marked-requires-clause-room
+write_marked-requires-clause-room g c = refl
+
+pub returns-clause-counted : goal.returns-clause-counted
+returns-clause-counted g c = c.write_marked.ensures.counted
