@@ -1,3 +1,9 @@
+use Rattle.std.proofs.Common.{arith}
+use Rattle.std.proofs.lemmas.Result.{IfOk-from_err}
+use Rattle.capture_file.specs.Faults.{CountsFault}
+use Rattle.capture_file.specs.Fields.{Takes}
+use Rattle.receiver_file.specs.Saved.{kept_frames}
+use Rattle.receiver_file.specs.StateReading.{all_held_at}
 use Rattle.std.proofs.Common.{◌≡◌, ℕ, ◌+◌, ◌∙◌, List, [], ◌∷◌, ◌++◌, length, length-append, ap}
 use Rattle.std.proofs.Common.{refl, sym, subst}
 use Rattle.std.proofs.lemmas.Result.{err_from_is_err_and}
@@ -73,3 +79,93 @@ loop-preserved g c =
           c.in_ok-frame.ensures.counted ∙ c.in_ok-timestamp.ensures.counted
           ∙ c.loop.invariant.failures;
     }
+
+pub returns-in_err-timestamp-clause-count : goal.returns-in_err-timestamp-clause-count
+returns-in_err-timestamp-clause-count g c = IfOk-from_err _ _ c.from_residual.ensures.0
+
+pub returns-in_err-timestamp-clause-different : goal.returns-in_err-timestamp-clause-different
+returns-in_err-timestamp-clause-different g c = IfOk-from_err _ _ c.from_residual.ensures.0
+
+pub returns-in_err-timestamp-clause-one_each : goal.returns-in_err-timestamp-clause-one_each
+returns-in_err-timestamp-clause-one_each g c = IfOk-from_err _ _ c.from_residual.ensures.0
+
+pub returns-in_err-timestamp-clause-of_format : goal.returns-in_err-timestamp-clause-of_format
+returns-in_err-timestamp-clause-of_format g c = IfOk-from_err _ _ c.from_residual.ensures.0
+
+pub returns-in_err-timestamp-clause-read : goal.returns-in_err-timestamp-clause-read
+returns-in_err-timestamp-clause-read g c = IfOk-from_err _ _ c.from_residual.ensures.0
+
+pub returns-in_err-frame-clause-count : goal.returns-in_err-frame-clause-count
+returns-in_err-frame-clause-count g c = IfOk-from_err _ _ c.from_residual-in_err-frame.ensures.0
+
+pub returns-in_err-frame-clause-different : goal.returns-in_err-frame-clause-different
+returns-in_err-frame-clause-different g c = IfOk-from_err _ _ c.from_residual-in_err-frame.ensures.0
+
+pub returns-in_err-frame-clause-one_each : goal.returns-in_err-frame-clause-one_each
+returns-in_err-frame-clause-one_each g c = IfOk-from_err _ _ c.from_residual-in_err-frame.ensures.0
+
+pub returns-in_err-frame-clause-of_format : goal.returns-in_err-frame-clause-of_format
+returns-in_err-frame-clause-of_format g c = IfOk-from_err _ _ c.from_residual-in_err-frame.ensures.0
+
+pub returns-in_err-frame-clause-read : goal.returns-in_err-frame-clause-read
+returns-in_err-frame-clause-read g c = IfOk-from_err _ _ c.from_residual-in_err-frame.ensures.0
+
+pub returns-in_err-push-clause-count : goal.returns-in_err-push-clause-count
+returns-in_err-push-clause-count g c = IfOk-from_err _ _ c.from_residual-in_err-push.ensures.0
+
+pub returns-in_err-push-clause-different : goal.returns-in_err-push-clause-different
+returns-in_err-push-clause-different g c = IfOk-from_err _ _ c.from_residual-in_err-push.ensures.0
+
+pub returns-in_err-push-clause-one_each : goal.returns-in_err-push-clause-one_each
+returns-in_err-push-clause-one_each g c = IfOk-from_err _ _ c.from_residual-in_err-push.ensures.0
+
+pub returns-in_err-push-clause-of_format : goal.returns-in_err-push-clause-of_format
+returns-in_err-push-clause-of_format g c = IfOk-from_err _ _ c.from_residual-in_err-push.ensures.0
+
+pub returns-in_err-push-clause-read : goal.returns-in_err-push-clause-read
+returns-in_err-push-clause-read g c = IfOk-from_err _ _ c.from_residual-in_err-push.ensures.0
+
+pub returns-in_err-timestamp-clause-counted : goal.returns-in_err-timestamp-clause-counted
+returns-in_err-timestamp-clause-counted g c =
+    let p = err_from_is_err_and c.from_residual.result c.from_residual.ensures.1 in
+    rw (p.1, p.2) (subst
+    (λ (n : ℕ). CountsFault c.in_err-timestamp.field-0.0 n (g.S.ByteSource.failures c.read_timestamp.new.source))
+    (c.loop.invariant.failures) c.in_err-timestamp.ensures.counted)
+
+pub returns-in_err-frame-clause-counted : goal.returns-in_err-frame-clause-counted
+returns-in_err-frame-clause-counted g c =
+    let p = err_from_is_err_and c.from_residual-in_err-frame.result c.from_residual-in_err-frame.ensures.1 in
+    rw (p.1, p.2) (subst
+    (λ (n : ℕ). CountsFault c.in_err-frame.field-0.0 n (g.S.ByteSource.failures c.read_frame.new.source))
+    (c.in_ok-timestamp.ensures.counted ∙ c.loop.invariant.failures) c.in_err-frame.ensures.counted)
+
+pub returns-clause-count : goal.returns-clause-count
+returns-clause-count g c =
+    let done : c.loop.counter ≡ c.args.count =
+    omega (arith, c.loop-test.false, c.loop.auto.counter-end) in
+    c.loop.invariant.stamps ∙ done
+
+pub returns-clause-different : goal.returns-clause-different
+returns-clause-different g c = c.loop.invariant.different
+
+pub returns-clause-one_each : goal.returns-clause-one_each
+returns-clause-one_each g c =
+    let done : c.loop.counter ≡ c.args.count =
+    omega (arith, c.loop-test.false, c.loop.auto.counter-end) in
+    c.loop.invariant.one_each ∙ c.loop.invariant.stamps ∙ done
+
+pub returns-clause-of_format : goal.returns-clause-of_format
+returns-clause-of_format g c = c.loop.invariant.of_format
+
+pub returns-clause-read : goal.returns-clause-read
+returns-clause-read g c =
+    let done : c.loop.counter ≡ c.args.count =
+    omega (arith, c.loop-test.false, c.loop.auto.counter-end) in
+    subst
+    (λ (n : ℕ). Takes (all_held_at (fields_of c.args.format) n [])
+    (g.S.ByteSource.to_give c.args.source.now) (g.S.ByteSource.to_give c.loop.source)
+    (kept_frames (fields_of c.args.format) c.loop.window.items c.loop.frames.items))
+    done c.loop.invariant.goes
+
+pub returns-clause-counted : goal.returns-clause-counted
+returns-clause-counted g c = c.loop.invariant.failures
