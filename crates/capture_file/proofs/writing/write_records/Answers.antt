@@ -1,3 +1,7 @@
+use Rattle.std.proofs.Common.{◌≤◌, length, get_or, ap, arith}
+use Rattle.std.proofs.lemmas.List.{take_all}
+use Rattle.st_format.specs.Device.{CountsOne}
+use Rattle.capture_file.specs.declared.record.Record.{Record}
 use Rattle.std.proofs.Common.{◌+◌, ◌++◌, ◌∙◌, sym, subst, ℕ, List, map, take, drop}
 use Rattle.std.proofs.KnownBytes.{Appends-trans}
 use Rattle.std.proofs.lemmas.Result.{err_from_is_err_and}
@@ -39,3 +43,40 @@ loop-record-preserved g c =
           (rw c.deref.ensures.value at c.in_ok-write_record.ensures.ok));
       failures = c.in_ok-write_record.ensures.counted ∙ c.loop-record.invariant.failures;
     }
+
+pub offset_bounds-records-record-index : goal.offset_bounds-records-record-index
+offset_bounds-records-record-index g c = omega (arith, c.loop-record-test.true)
+
+pub write_record-requires : goal.write_record-requires
+write_record-requires g c =
+    let short : length (get_or c.args.records.now c.loop-record.record-index c.record-item.result).octets.items
+    ≤ 65535 =
+    c.requires c.loop-record.record-index c.record-item.result c.loop-record-test.true in
+    rw (c.deref.ensures.value)
+    (subst (λ (r : Record g.row.A.Denot). length r.octets.items ≤ 65535) (sym c.record-item.is)
+    short)
+
+pub returns-in_err-write_record-clause-ok : goal.returns-in_err-write_record-clause-ok
+returns-in_err-write_record-clause-ok g c =
+    let p =
+    err_from_is_err_and c.from_residual.result c.from_residual.ensures.1 in
+    rw (p.1) tt
+
+pub returns-in_err-write_record-clause-counted : goal.returns-in_err-write_record-clause-counted
+returns-in_err-write_record-clause-counted g c =
+    let p =
+    err_from_is_err_and c.from_residual.result c.from_residual.ensures.1 in
+    rw (p.1)
+    (subst (λ (n : ℕ). CountsOne n (g.K.ByteSink.failures c.write_record.new.sink))
+    c.loop-record.invariant.failures c.in_err-write_record.ensures.counted)
+
+pub returns-clause-ok : goal.returns-clause-ok
+returns-clause-ok g c =
+    subst
+    (λ (rs : List (Record g.row.A.Denot)). Appends (g.K.ByteSink.held c.args.sink.now)
+    (g.K.ByteSink.held c.loop-record.sink) (records_text (map entry_seen rs)))
+    (take_all c.loop-record.record-index c.args.records.now c.loop-record-test.false)
+    c.loop-record.invariant.written
+
+pub returns-clause-counted : goal.returns-clause-counted
+returns-clause-counted g c = c.loop-record.invariant.failures
