@@ -1,3 +1,7 @@
+use Rattle.std.proofs.Common.{◌∙◌, ap}
+use Rattle.std.proofs.lemmas.Result.{IfOk-from_err}
+use Rattle.st_format.specs.Position.{sample_count}
+use Rattle.pgroup_pack.specs.Packing.{Agree}
 use Rattle.std.proofs.Common.{◌≡◌, ℕ, List, length, drop, subst, sym, arith}
 use Rattle.std.proofs.lemmas.List.{take_at}
 use Rattle.std.proofs.lemmas.Result.{err_from_is_err_and}
@@ -38,3 +42,38 @@ returns-clause-read g c =
     (subst (λ (n : ℕ). Takes (field_at n) (g.S.ByteSource.to_give c.args.source.now)
     (g.S.ByteSource.to_give c.read_field.new.source) buf) size
     c.in_ok-read_field.ensures.read))
+
+pub returns-in_err-resize-clause-size : goal.returns-in_err-resize-clause-size
+returns-in_err-resize-clause-size g c = IfOk-from_err _ _ c.from_residual.ensures.0
+
+pub returns-in_err-resize-clause-read : goal.returns-in_err-resize-clause-read
+returns-in_err-resize-clause-read g c = IfOk-from_err _ _ c.from_residual.ensures.0
+
+pub returns-in_err-read_field-clause-size : goal.returns-in_err-read_field-clause-size
+returns-in_err-read_field-clause-size g c = IfOk-from_err _ _ c.from_residual-in_err-read_field.ensures.0
+
+pub returns-in_err-read_field-clause-read : goal.returns-in_err-read_field-clause-read
+returns-in_err-read_field-clause-read g c = IfOk-from_err _ _ c.from_residual-in_err-read_field.ensures.0
+
+pub returns-in_err-read_field-clause-counted : goal.returns-in_err-read_field-clause-counted
+returns-in_err-read_field-clause-counted g c =
+    let p =
+    err_from_is_err_and c.from_residual-in_err-read_field.result c.from_residual-in_err-read_field.ensures.1 in
+    rw (p.1, p.2) c.in_err-read_field.ensures.counted
+
+pub returns-clause-size : goal.returns-clause-size
+returns-clause-size g c =
+    let buf : List ℕ = c.read_field.new.buf in
+    let rest : List ℕ = drop (length buf) c.resize.new.self.items in
+    let size : length c.deref_mut.result.now ≡ c.raster_octets.result =
+    omega (arith, c.deref_mut.ensures.len, c.in_ok-resize.ensures.len) in
+    let long : length buf ≡ c.resize.new.self.len =
+    omega (arith, size, c.in_ok-resize.ensures.len, c.read_field.ensures.room) in
+    subst (λ (n : ℕ). Agree c.args.format.now n (sample_count c.args.format.now))
+    (sym
+    (ap (λ (os : List ℕ). length os) (take_at buf rest c.resize.new.self.len long)
+    ∙ c.read_field.ensures.room ∙ size))
+    c.raster_octets.ensures
+
+pub returns-clause-counted : goal.returns-clause-counted
+returns-clause-counted g c = c.in_ok-read_field.ensures.counted
