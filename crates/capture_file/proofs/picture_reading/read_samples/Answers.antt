@@ -1,3 +1,5 @@
+use Rattle.std.proofs.lemmas.Result.{IfOk-from_err}
+use Rattle.capture_file.specs.Faults.{CountsFault}
 use Rattle.std.proofs.Common.{◌≡◌, ◌≤◌, ◌+◌, ◌*◌, ◌%◌, ◌++◌, ◌∙◌, ℕ, List, length, drop, refl}
 use Rattle.std.proofs.Common.{subst, sym, ap, arith}
 use Rattle.std.proofs.lemmas.List.{length-append, length-take-le, take_at}
@@ -73,3 +75,49 @@ returns-in_err-read_piece-clause-fault g c =
     (subst (λ (k : ℕ). Fails (field_at k)
     (g.S.ByteSource.to_give c.loop-octets.source) c.in_err-read_piece.field-0.0)
     (length-take-le size octets fits) r.fault))
+
+pub returns-in_err-samples-clause-size : goal.returns-in_err-samples-clause-size
+returns-in_err-samples-clause-size g c = IfOk-from_err _ _ c.from_residual.ensures.0
+
+pub returns-in_err-samples-clause-read : goal.returns-in_err-samples-clause-read
+returns-in_err-samples-clause-read g c = IfOk-from_err _ _ c.from_residual.ensures.0
+
+pub returns-in_err-read_piece-clause-size : goal.returns-in_err-read_piece-clause-size
+returns-in_err-read_piece-clause-size g c = IfOk-from_err _ _ c.from_residual-in_err-read_piece.ensures.0
+
+pub returns-in_err-read_piece-clause-read : goal.returns-in_err-read_piece-clause-read
+returns-in_err-read_piece-clause-read g c = IfOk-from_err _ _ c.from_residual-in_err-read_piece.ensures.0
+
+pub returns-in_err-extend_from_slice-clause-size : goal.returns-in_err-extend_from_slice-clause-size
+returns-in_err-extend_from_slice-clause-size g c = IfOk-from_err _ _ c.from_residual-in_err-extend_from_slice.ensures.0
+
+pub returns-in_err-extend_from_slice-clause-read : goal.returns-in_err-extend_from_slice-clause-read
+returns-in_err-extend_from_slice-clause-read g c = IfOk-from_err _ _ c.from_residual-in_err-extend_from_slice.ensures.0
+
+pub piece_samples-n-requires-clause-left : goal.piece_samples-n-requires-clause-left
+piece_samples-n-requires-clause-left g c = omega (arith, c.len.ensures, c.len-done.ensures, c.loop-octets-test.true)
+
+pub piece_samples-n-requires-clause-count : goal.piece_samples-n-requires-clause-count
+piece_samples-n-requires-clause-count g c = c.requires
+
+pub piece_octets-size-requires-clause-few : goal.piece_octets-size-requires-clause-few
+piece_octets-size-requires-clause-few g c = c.piece_samples-n.ensures.few
+
+pub piece_octets-size-requires-clause-whole : goal.piece_octets-size-requires-clause-whole
+piece_octets-size-requires-clause-whole g c = c.piece_samples-n.ensures.whole
+
+pub returns-in_err-read_piece-clause-counted : goal.returns-in_err-read_piece-clause-counted
+returns-in_err-read_piece-clause-counted g c =
+    let p =
+    err_from_is_err_and c.from_residual-in_err-read_piece.result c.from_residual-in_err-read_piece.ensures.1 in
+    rw (p.1, p.2)
+    (subst
+    (λ (n : ℕ). CountsFault c.in_err-read_piece.field-0.0 n
+    (g.S.ByteSource.failures c.read_piece.new.source))
+    c.loop-octets.invariant.failures c.in_err-read_piece.ensures.counted)
+
+pub returns-clause-read : goal.returns-clause-read
+returns-clause-read g c = c.loop-octets.invariant.given
+
+pub returns-clause-counted : goal.returns-clause-counted
+returns-clause-counted g c = c.loop-octets.invariant.failures
