@@ -1,3 +1,7 @@
+use Rattle.std.proofs.Common.{ℕ, ◌+◌, List, drop, ap, refl, subst}
+use Rattle.std.proofs.lemmas.List.{length-append, take-append-drop}
+use Rattle.std.proofs.lemmas.Result.{IfOk-from_err}
+use Rattle.st_format.specs.Device.{CountsOne}
 use Rattle.std.proofs.Common.{◌≡◌, ◌<◌, ◌≤◌, length, take, ◌∙◌, sym, arith}
 use Rattle.std.proofs.lemmas.List.{length-take, length-take-le}
 use Rattle.std.proofs.lemmas.Result.{err_from_is_err_and}
@@ -38,3 +42,98 @@ returns-then-branch-head-clause-fault g c =
     (take k c.read_whole-2.new.buf) c.in_ok-head.head (gave_all _ _ _ _ e.given ten) e.room
     (sym c.in_ok-head.ensures.exact) e2.given (e2.short (omega arith))
     (omega (arith, length-take k c.read_whole-2.new.buf))
+
+pub returns-in_err-read_whole-clause-within : goal.returns-in_err-read_whole-clause-within
+returns-in_err-read_whole-clause-within g c = IfOk-from_err _ _ c.from_residual.ensures.0
+
+pub returns-in_err-read_whole-clause-read : goal.returns-in_err-read_whole-clause-read
+returns-in_err-read_whole-clause-read g c = IfOk-from_err _ _ c.from_residual.ensures.0
+
+pub returns-in_err-head-clause-within : goal.returns-in_err-head-clause-within
+returns-in_err-head-clause-within g c = IfOk-from_err _ _ c.from_residual-in_err-head.ensures.0
+
+pub returns-in_err-head-clause-read : goal.returns-in_err-head-clause-read
+returns-in_err-head-clause-read g c = IfOk-from_err _ _ c.from_residual-in_err-head.ensures.0
+
+pub returns-in_err-read_whole-2-clause-within : goal.returns-in_err-read_whole-2-clause-within
+returns-in_err-read_whole-2-clause-within g c = IfOk-from_err _ _ c.from_residual-in_err-read_whole-2.ensures.0
+
+pub returns-in_err-read_whole-2-clause-read : goal.returns-in_err-read_whole-2-clause-read
+returns-in_err-read_whole-2-clause-read g c = IfOk-from_err _ _ c.from_residual-in_err-read_whole-2.ensures.0
+
+pub returns-in_err-read_whole-clause-room : goal.returns-in_err-read_whole-clause-room
+returns-in_err-read_whole-clause-room g c = refl
+
+pub returns-in_err-read_whole-clause-counted : goal.returns-in_err-read_whole-clause-counted
+returns-in_err-read_whole-clause-counted g c =
+    let p =
+    err_from_is_err_and c.from_residual.result c.from_residual.ensures.1 in
+    rw (p.1, p.2) c.in_err-read_whole.ensures.counted
+
+pub returns-then-branch-lt-REST-clause-room : goal.returns-then-branch-lt-REST-clause-room
+returns-then-branch-lt-REST-clause-room g c = refl
+
+pub returns-then-branch-lt-REST-clause-counted : goal.returns-then-branch-lt-REST-clause-counted
+returns-then-branch-lt-REST-clause-counted g c = c.in_ok-read_whole.ensures.counted
+
+pub returns-in_err-head-clause-room : goal.returns-in_err-head-clause-room
+returns-in_err-head-clause-room g c = refl
+
+pub returns-in_err-head-clause-counted : goal.returns-in_err-head-clause-counted
+returns-in_err-head-clause-counted g c =
+    let p =
+    err_from_is_err_and c.from_residual-in_err-head.result c.from_residual-in_err-head.ensures.1 in
+    rw (p.1, p.2, c.in_err-head.ensures.fault) c.in_ok-read_whole.ensures.counted
+
+pub returns-in_err-read_whole-2-clause-room : goal.returns-in_err-read_whole-2-clause-room
+returns-in_err-read_whole-2-clause-room g c =
+    let n : ℕ = c.in_ok-head.head.length in
+    let buf : List ℕ = c.args.buf.now in
+    length-append c.read_whole-2.new.buf (drop n buf)
+    ∙ ap (λ (k : ℕ). k + length (drop n buf)) c.read_whole-2.ensures.room
+    ∙ sym (length-append (take n buf) (drop n buf))
+    ∙ ap (λ (xs : List ℕ). length xs) (take-append-drop n buf)
+
+pub returns-in_err-read_whole-2-clause-counted : goal.returns-in_err-read_whole-2-clause-counted
+returns-in_err-read_whole-2-clause-counted g c =
+    let p =
+    err_from_is_err_and c.from_residual-in_err-read_whole-2.result c.from_residual-in_err-read_whole-2.ensures.1 in
+    rw (p.1, p.2)
+    (subst (λ (n : ℕ). CountsOne n (g.S.ByteSource.failures c.read_whole-2.new.source))
+    c.in_ok-read_whole.ensures.counted c.in_err-read_whole-2.ensures.counted)
+
+pub returns-then-branch-head-clause-room : goal.returns-then-branch-head-clause-room
+returns-then-branch-head-clause-room g c =
+    let n : ℕ = c.in_ok-head.head.length in
+    let buf : List ℕ = c.args.buf.now in
+    length-append c.read_whole-2.new.buf (drop n buf)
+    ∙ ap (λ (k : ℕ). k + length (drop n buf)) c.read_whole-2.ensures.room
+    ∙ sym (length-append (take n buf) (drop n buf))
+    ∙ ap (λ (xs : List ℕ). length xs) (take-append-drop n buf)
+
+pub returns-then-branch-head-clause-counted : goal.returns-then-branch-head-clause-counted
+returns-then-branch-head-clause-counted g c = c.in_ok-read_whole-2.ensures.counted ∙ c.in_ok-read_whole.ensures.counted
+
+pub returns-clause-room : goal.returns-clause-room
+returns-clause-room g c =
+    let n : ℕ = c.in_ok-head.head.length in
+    let buf : List ℕ = c.args.buf.now in
+    length-append c.read_whole-2.new.buf (drop n buf)
+    ∙ ap (λ (k : ℕ). k + length (drop n buf)) c.read_whole-2.ensures.room
+    ∙ sym (length-append (take n buf) (drop n buf))
+    ∙ ap (λ (xs : List ℕ). length xs) (take-append-drop n buf)
+
+pub returns-clause-counted : goal.returns-clause-counted
+returns-clause-counted g c = c.in_ok-read_whole-2.ensures.counted ∙ c.in_ok-read_whole.ensures.counted
+
+pub slice_bounds-read_whole-end-2 : goal.slice_bounds-read_whole-end-2
+slice_bounds-read_whole-end-2 g c =
+    omega (arith, c.requires, c.in_ok-head.ensures.spelled.length_fits)
+
+pub slice_bounds-read_whole-end-3 : goal.slice_bounds-read_whole-end-3
+slice_bounds-read_whole-end-3 g c =
+    sym (length-take-le c.in_ok-head.head.length c.args.buf.now
+    (omega (arith, c.requires, c.in_ok-head.ensures.spelled.length_fits)))
+
+pub returns-clause-within : goal.returns-clause-within
+returns-clause-within g c = c.in_ok-head.ensures.spelled.length_fits
