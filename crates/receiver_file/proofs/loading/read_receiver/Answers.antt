@@ -1,3 +1,5 @@
+use Rattle.std.proofs.Common.{ℕ, ◌∙◌, arith, subst, sym}
+use Rattle.capture_file.specs.Faults.{CountsFault}
 use Rattle.std.proofs.lemmas.Result.{err_from_is_err_and}
 use Rattle.st_format.specs.Fields.{fields_of}
 use Rattle.receiver_file.proofs.StateRuns.{state_end, state_format, state_frames, state_gives}
@@ -61,3 +63,104 @@ returns-clause-read g c =
 
 pub returns-clause-fault : goal.returns-clause-fault
 returns-clause-fault g c = state_memory _ c.open_again.result c.open_again.ensures.memory
+
+pub returns-in_err-read_name-clause-octets : goal.returns-in_err-read_name-clause-octets
+returns-in_err-read_name-clause-octets g c = c.read_name.ensures.octets
+
+pub returns-in_err-read_name-clause-counted : goal.returns-in_err-read_name-clause-counted
+returns-in_err-read_name-clause-counted g c =
+    let p = err_from_is_err_and c.from_residual.result c.from_residual.ensures.1 in
+    rw (p.1, p.2) c.in_err-read_name.ensures.counted
+
+pub returns-in_err-format-clause-octets : goal.returns-in_err-format-clause-octets
+returns-in_err-format-clause-octets g c = c.read_name.ensures.octets
+
+pub returns-in_err-format-clause-counted : goal.returns-in_err-format-clause-counted
+returns-in_err-format-clause-counted g c =
+    let p =
+    err_from_is_err_and c.from_residual-in_err-format.result
+    c.from_residual-in_err-format.ensures.1 in
+    rw (p.1, p.2) (subst
+    (λ (n : ℕ). CountsFault c.in_err-format.field-0.0 n
+    (g.S.ByteSource.failures c.read_format.new.source))
+    (c.in_ok-read_name.ensures.counted) c.in_err-format.ensures.counted)
+
+pub returns-in_err-head-clause-octets : goal.returns-in_err-head-clause-octets
+returns-in_err-head-clause-octets g c = c.read_name.ensures.octets
+
+pub returns-in_err-head-clause-counted : goal.returns-in_err-head-clause-counted
+returns-in_err-head-clause-counted g c =
+    let p =
+    err_from_is_err_and c.from_residual-in_err-head.result
+    c.from_residual-in_err-head.ensures.1 in
+    rw (p.1, p.2) (subst
+    (λ (n : ℕ). CountsFault c.in_err-head.field-0.0 n
+    (g.S.ByteSource.failures c.read_head.new.source))
+    (c.in_ok-format.ensures.counted ∙ c.in_ok-read_name.ensures.counted)
+    c.in_err-head.ensures.counted)
+
+pub returns-in_err-frames-clause-octets : goal.returns-in_err-frames-clause-octets
+returns-in_err-frames-clause-octets g c = c.read_name.ensures.octets
+
+pub returns-in_err-frames-clause-counted : goal.returns-in_err-frames-clause-counted
+returns-in_err-frames-clause-counted g c =
+    let p =
+    err_from_is_err_and c.from_residual-in_err-frames.result
+    c.from_residual-in_err-frames.ensures.1 in
+    rw (p.1, p.2) (subst
+    (λ (n : ℕ). CountsFault c.in_err-frames.field-0.0 n
+    (g.S.ByteSource.failures c.read_frames.new.source))
+    (c.in_ok-head.ensures.counted ∙ c.in_ok-format.ensures.counted
+    ∙ c.in_ok-read_name.ensures.counted)
+    c.in_err-frames.ensures.counted)
+
+pub returns-in_err-read_end-clause-octets : goal.returns-in_err-read_end-clause-octets
+returns-in_err-read_end-clause-octets g c = c.read_name.ensures.octets
+
+pub returns-in_err-read_end-clause-counted : goal.returns-in_err-read_end-clause-counted
+returns-in_err-read_end-clause-counted g c =
+    let p =
+    err_from_is_err_and c.from_residual-in_err-read_end.result
+    c.from_residual-in_err-read_end.ensures.1 in
+    rw (p.1, p.2) (subst
+    (λ (n : ℕ). CountsFault c.in_err-read_end.field-0.0 n
+    (g.S.ByteSource.failures c.read_end.new.source))
+    (c.in_ok-frames.ensures.counted ∙ c.in_ok-head.ensures.counted
+    ∙ c.in_ok-format.ensures.counted ∙ c.in_ok-read_name.ensures.counted)
+    c.in_err-read_end.ensures.counted)
+
+pub read_frames-requires : goal.read_frames-requires
+read_frames-requires g c = c.in_ok-head.ensures.few
+
+pub open_again-requires-clause-payload_type : goal.open_again-requires-clause-payload_type
+open_again-requires-clause-payload_type g c = c.in_ok-head.ensures.payload_type
+
+pub open_again-requires-clause-some : goal.open_again-requires-clause-some
+open_again-requires-clause-some g c =
+    omega (arith, c.in_ok-frames.ensures.count, c.in_ok-head.ensures.some)
+
+pub open_again-requires-clause-few : goal.open_again-requires-clause-few
+open_again-requires-clause-few g c =
+    omega (arith, c.in_ok-frames.ensures.count, c.in_ok-head.ensures.few)
+
+pub open_again-requires-clause-different : goal.open_again-requires-clause-different
+open_again-requires-clause-different g c = c.in_ok-frames.ensures.different
+
+pub open_again-requires-clause-one_each : goal.open_again-requires-clause-one_each
+open_again-requires-clause-one_each g c =
+    c.in_ok-frames.ensures.one_each ∙ sym c.in_ok-frames.ensures.count
+
+pub open_again-requires-clause-of_format : goal.open_again-requires-clause-of_format
+open_again-requires-clause-of_format g c = c.in_ok-frames.ensures.of_format
+
+pub returns-clause-octets : goal.returns-clause-octets
+returns-clause-octets g c = c.read_name.ensures.octets
+
+pub returns-clause-receiver : goal.returns-clause-receiver
+returns-clause-receiver g c = c.open_again.ensures.receiver
+
+pub returns-clause-refusals : goal.returns-clause-refusals
+returns-clause-refusals g c = c.open_again.ensures.refusals
+
+pub returns-clause-writable : goal.returns-clause-writable
+returns-clause-writable g c = c.open_again.ensures.writable
