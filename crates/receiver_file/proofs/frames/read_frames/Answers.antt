@@ -1,5 +1,4 @@
 use Rattle.std.proofs.Common.{arith}
-use Rattle.std.proofs.lemmas.Result.{IfOk-from_err}
 use Rattle.capture_file.specs.Faults.{CountsFault}
 use Rattle.capture_file.specs.Fields.{Takes}
 use Rattle.receiver_file.specs.Saved.{kept_frames}
@@ -80,63 +79,22 @@ loop-preserved g c =
           ∙ c.loop.invariant.failures;
     }
 
-pub returns-in_err-timestamp-clause-count : goal.returns-in_err-timestamp-clause-count
-returns-in_err-timestamp-clause-count g c = IfOk-from_err _ _ c.from_residual.ensures.0
-
-pub returns-in_err-timestamp-clause-different : goal.returns-in_err-timestamp-clause-different
-returns-in_err-timestamp-clause-different g c = IfOk-from_err _ _ c.from_residual.ensures.0
-
-pub returns-in_err-timestamp-clause-one_each : goal.returns-in_err-timestamp-clause-one_each
-returns-in_err-timestamp-clause-one_each g c = IfOk-from_err _ _ c.from_residual.ensures.0
-
-pub returns-in_err-timestamp-clause-of_format : goal.returns-in_err-timestamp-clause-of_format
-returns-in_err-timestamp-clause-of_format g c = IfOk-from_err _ _ c.from_residual.ensures.0
-
-pub returns-in_err-timestamp-clause-read : goal.returns-in_err-timestamp-clause-read
-returns-in_err-timestamp-clause-read g c = IfOk-from_err _ _ c.from_residual.ensures.0
-
-pub returns-in_err-frame-clause-count : goal.returns-in_err-frame-clause-count
-returns-in_err-frame-clause-count g c = IfOk-from_err _ _ c.from_residual-in_err-frame.ensures.0
-
-pub returns-in_err-frame-clause-different : goal.returns-in_err-frame-clause-different
-returns-in_err-frame-clause-different g c = IfOk-from_err _ _ c.from_residual-in_err-frame.ensures.0
-
-pub returns-in_err-frame-clause-one_each : goal.returns-in_err-frame-clause-one_each
-returns-in_err-frame-clause-one_each g c = IfOk-from_err _ _ c.from_residual-in_err-frame.ensures.0
-
-pub returns-in_err-frame-clause-of_format : goal.returns-in_err-frame-clause-of_format
-returns-in_err-frame-clause-of_format g c = IfOk-from_err _ _ c.from_residual-in_err-frame.ensures.0
-
-pub returns-in_err-frame-clause-read : goal.returns-in_err-frame-clause-read
-returns-in_err-frame-clause-read g c = IfOk-from_err _ _ c.from_residual-in_err-frame.ensures.0
-
-pub returns-in_err-push-clause-count : goal.returns-in_err-push-clause-count
-returns-in_err-push-clause-count g c = IfOk-from_err _ _ c.from_residual-in_err-push.ensures.0
-
-pub returns-in_err-push-clause-different : goal.returns-in_err-push-clause-different
-returns-in_err-push-clause-different g c = IfOk-from_err _ _ c.from_residual-in_err-push.ensures.0
-
-pub returns-in_err-push-clause-one_each : goal.returns-in_err-push-clause-one_each
-returns-in_err-push-clause-one_each g c = IfOk-from_err _ _ c.from_residual-in_err-push.ensures.0
-
-pub returns-in_err-push-clause-of_format : goal.returns-in_err-push-clause-of_format
-returns-in_err-push-clause-of_format g c = IfOk-from_err _ _ c.from_residual-in_err-push.ensures.0
-
-pub returns-in_err-push-clause-read : goal.returns-in_err-push-clause-read
-returns-in_err-push-clause-read g c = IfOk-from_err _ _ c.from_residual-in_err-push.ensures.0
-
 pub returns-in_err-timestamp-clause-counted : goal.returns-in_err-timestamp-clause-counted
 returns-in_err-timestamp-clause-counted g c =
     let p = err_from_is_err_and c.from_residual.result c.from_residual.ensures.1 in
     rw (p.1, p.2) (subst
-    (λ (n : ℕ). CountsFault c.in_err-timestamp.field-0.0 n (g.S.ByteSource.failures c.read_timestamp.new.source))
+    (λ (n : ℕ). CountsFault c.in_err-timestamp.field-0.0 n
+    (g.S.ByteSource.failures c.read_timestamp.new.source))
     (c.loop.invariant.failures) c.in_err-timestamp.ensures.counted)
 
 pub returns-in_err-frame-clause-counted : goal.returns-in_err-frame-clause-counted
 returns-in_err-frame-clause-counted g c =
-    let p = err_from_is_err_and c.from_residual-in_err-frame.result c.from_residual-in_err-frame.ensures.1 in
+    let p =
+    err_from_is_err_and c.from_residual-in_err-frame.result
+    c.from_residual-in_err-frame.ensures.1 in
     rw (p.1, p.2) (subst
-    (λ (n : ℕ). CountsFault c.in_err-frame.field-0.0 n (g.S.ByteSource.failures c.read_frame.new.source))
+    (λ (n : ℕ). CountsFault c.in_err-frame.field-0.0 n
+    (g.S.ByteSource.failures c.read_frame.new.source))
     (c.in_ok-timestamp.ensures.counted ∙ c.loop.invariant.failures) c.in_err-frame.ensures.counted)
 
 pub returns-clause-count : goal.returns-clause-count
