@@ -1,5 +1,4 @@
 use Rattle.std.proofs.Common.{◌∙◌, ap}
-use Rattle.std.proofs.lemmas.Result.{IfOk-from_err}
 use Rattle.st_format.specs.Position.{sample_count}
 use Rattle.pgroup_pack.specs.Packing.{Agree}
 use Rattle.std.proofs.Common.{◌≡◌, ℕ, List, length, drop, subst, sym, arith}
@@ -43,22 +42,11 @@ returns-clause-read g c =
     (g.S.ByteSource.to_give c.read_field.new.source) buf) size
     c.in_ok-read_field.ensures.read))
 
-pub returns-in_err-resize-clause-size : goal.returns-in_err-resize-clause-size
-returns-in_err-resize-clause-size g c = IfOk-from_err _ _ c.from_residual.ensures.0
-
-pub returns-in_err-resize-clause-read : goal.returns-in_err-resize-clause-read
-returns-in_err-resize-clause-read g c = IfOk-from_err _ _ c.from_residual.ensures.0
-
-pub returns-in_err-read_field-clause-size : goal.returns-in_err-read_field-clause-size
-returns-in_err-read_field-clause-size g c = IfOk-from_err _ _ c.from_residual-in_err-read_field.ensures.0
-
-pub returns-in_err-read_field-clause-read : goal.returns-in_err-read_field-clause-read
-returns-in_err-read_field-clause-read g c = IfOk-from_err _ _ c.from_residual-in_err-read_field.ensures.0
-
 pub returns-in_err-read_field-clause-counted : goal.returns-in_err-read_field-clause-counted
 returns-in_err-read_field-clause-counted g c =
     let p =
-    err_from_is_err_and c.from_residual-in_err-read_field.result c.from_residual-in_err-read_field.ensures.1 in
+    err_from_is_err_and c.from_residual-in_err-read_field.result
+    c.from_residual-in_err-read_field.ensures.1 in
     rw (p.1, p.2) c.in_err-read_field.ensures.counted
 
 pub returns-clause-size : goal.returns-clause-size

@@ -1,4 +1,3 @@
-use Rattle.std.proofs.lemmas.Result.{IfOk-from_err}
 use Rattle.capture_file.specs.Faults.{CountsFault}
 use Rattle.std.proofs.Common.{◌≡◌, ◌≤◌, ◌+◌, ◌*◌, ◌%◌, ◌++◌, ◌∙◌, ℕ, List, length, drop, refl}
 use Rattle.std.proofs.Common.{subst, sym, ap, arith}
@@ -76,26 +75,9 @@ returns-in_err-read_piece-clause-fault g c =
     (g.S.ByteSource.to_give c.loop-octets.source) c.in_err-read_piece.field-0.0)
     (length-take-le size octets fits) r.fault))
 
-pub returns-in_err-samples-clause-size : goal.returns-in_err-samples-clause-size
-returns-in_err-samples-clause-size g c = IfOk-from_err _ _ c.from_residual.ensures.0
-
-pub returns-in_err-samples-clause-read : goal.returns-in_err-samples-clause-read
-returns-in_err-samples-clause-read g c = IfOk-from_err _ _ c.from_residual.ensures.0
-
-pub returns-in_err-read_piece-clause-size : goal.returns-in_err-read_piece-clause-size
-returns-in_err-read_piece-clause-size g c = IfOk-from_err _ _ c.from_residual-in_err-read_piece.ensures.0
-
-pub returns-in_err-read_piece-clause-read : goal.returns-in_err-read_piece-clause-read
-returns-in_err-read_piece-clause-read g c = IfOk-from_err _ _ c.from_residual-in_err-read_piece.ensures.0
-
-pub returns-in_err-extend_from_slice-clause-size : goal.returns-in_err-extend_from_slice-clause-size
-returns-in_err-extend_from_slice-clause-size g c = IfOk-from_err _ _ c.from_residual-in_err-extend_from_slice.ensures.0
-
-pub returns-in_err-extend_from_slice-clause-read : goal.returns-in_err-extend_from_slice-clause-read
-returns-in_err-extend_from_slice-clause-read g c = IfOk-from_err _ _ c.from_residual-in_err-extend_from_slice.ensures.0
-
 pub piece_samples-n-requires-clause-left : goal.piece_samples-n-requires-clause-left
-piece_samples-n-requires-clause-left g c = omega (arith, c.len.ensures, c.len-done.ensures, c.loop-octets-test.true)
+piece_samples-n-requires-clause-left g c =
+    omega (arith, c.len.ensures, c.len-done.ensures, c.loop-octets-test.true)
 
 pub piece_samples-n-requires-clause-count : goal.piece_samples-n-requires-clause-count
 piece_samples-n-requires-clause-count g c = c.requires
@@ -109,7 +91,8 @@ piece_octets-size-requires-clause-whole g c = c.piece_samples-n.ensures.whole
 pub returns-in_err-read_piece-clause-counted : goal.returns-in_err-read_piece-clause-counted
 returns-in_err-read_piece-clause-counted g c =
     let p =
-    err_from_is_err_and c.from_residual-in_err-read_piece.result c.from_residual-in_err-read_piece.ensures.1 in
+    err_from_is_err_and c.from_residual-in_err-read_piece.result
+    c.from_residual-in_err-read_piece.ensures.1 in
     rw (p.1, p.2)
     (subst
     (λ (n : ℕ). CountsFault c.in_err-read_piece.field-0.0 n

@@ -72,7 +72,8 @@ pub piece_octets-size-requires-clause-whole : goal.piece_octets-size-requires-cl
 piece_octets-size-requires-clause-whole g c = c.piece_samples-n.ensures.whole
 
 pub slice_bounds-write_piece-end-in-loop-done : goal.slice_bounds-write_piece-end-in-loop-done
-slice_bounds-write_piece-end-in-loop-done g c = omega (arith, c.piece_octets-size.ensures.few, c.loop-done.invariant.room)
+slice_bounds-write_piece-end-in-loop-done g c =
+    omega (arith, c.piece_octets-size.ensures.few, c.loop-done.invariant.room)
 
 pub slice_bounds-write_piece-end-in-loop-done-2 : goal.slice_bounds-write_piece-end-in-loop-done-2
 slice_bounds-write_piece-end-in-loop-done-2 g c =

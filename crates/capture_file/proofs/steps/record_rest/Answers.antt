@@ -1,6 +1,5 @@
 use Rattle.std.proofs.Common.{ℕ, ◌+◌, List, drop, ap, refl, subst}
 use Rattle.std.proofs.lemmas.List.{length-append, take-append-drop}
-use Rattle.std.proofs.lemmas.Result.{IfOk-from_err}
 use Rattle.st_format.specs.Device.{CountsOne}
 use Rattle.std.proofs.Common.{◌≡◌, ◌<◌, ◌≤◌, length, take, ◌∙◌, sym, arith}
 use Rattle.std.proofs.lemmas.List.{length-take, length-take-le}
@@ -43,24 +42,6 @@ returns-then-branch-head-clause-fault g c =
     (sym c.in_ok-head.ensures.exact) e2.given (e2.short (omega arith))
     (omega (arith, length-take k c.read_whole-2.new.buf))
 
-pub returns-in_err-read_whole-clause-within : goal.returns-in_err-read_whole-clause-within
-returns-in_err-read_whole-clause-within g c = IfOk-from_err _ _ c.from_residual.ensures.0
-
-pub returns-in_err-read_whole-clause-read : goal.returns-in_err-read_whole-clause-read
-returns-in_err-read_whole-clause-read g c = IfOk-from_err _ _ c.from_residual.ensures.0
-
-pub returns-in_err-head-clause-within : goal.returns-in_err-head-clause-within
-returns-in_err-head-clause-within g c = IfOk-from_err _ _ c.from_residual-in_err-head.ensures.0
-
-pub returns-in_err-head-clause-read : goal.returns-in_err-head-clause-read
-returns-in_err-head-clause-read g c = IfOk-from_err _ _ c.from_residual-in_err-head.ensures.0
-
-pub returns-in_err-read_whole-2-clause-within : goal.returns-in_err-read_whole-2-clause-within
-returns-in_err-read_whole-2-clause-within g c = IfOk-from_err _ _ c.from_residual-in_err-read_whole-2.ensures.0
-
-pub returns-in_err-read_whole-2-clause-read : goal.returns-in_err-read_whole-2-clause-read
-returns-in_err-read_whole-2-clause-read g c = IfOk-from_err _ _ c.from_residual-in_err-read_whole-2.ensures.0
-
 pub returns-in_err-read_whole-clause-room : goal.returns-in_err-read_whole-clause-room
 returns-in_err-read_whole-clause-room g c = refl
 
@@ -97,7 +78,8 @@ returns-in_err-read_whole-2-clause-room g c =
 pub returns-in_err-read_whole-2-clause-counted : goal.returns-in_err-read_whole-2-clause-counted
 returns-in_err-read_whole-2-clause-counted g c =
     let p =
-    err_from_is_err_and c.from_residual-in_err-read_whole-2.result c.from_residual-in_err-read_whole-2.ensures.1 in
+    err_from_is_err_and c.from_residual-in_err-read_whole-2.result
+    c.from_residual-in_err-read_whole-2.ensures.1 in
     rw (p.1, p.2)
     (subst (λ (n : ℕ). CountsOne n (g.S.ByteSource.failures c.read_whole-2.new.source))
     c.in_ok-read_whole.ensures.counted c.in_err-read_whole-2.ensures.counted)
@@ -112,7 +94,8 @@ returns-then-branch-head-clause-room g c =
     ∙ ap (λ (xs : List ℕ). length xs) (take-append-drop n buf)
 
 pub returns-then-branch-head-clause-counted : goal.returns-then-branch-head-clause-counted
-returns-then-branch-head-clause-counted g c = c.in_ok-read_whole-2.ensures.counted ∙ c.in_ok-read_whole.ensures.counted
+returns-then-branch-head-clause-counted g c =
+    c.in_ok-read_whole-2.ensures.counted ∙ c.in_ok-read_whole.ensures.counted
 
 pub returns-clause-room : goal.returns-clause-room
 returns-clause-room g c =
@@ -124,7 +107,8 @@ returns-clause-room g c =
     ∙ ap (λ (xs : List ℕ). length xs) (take-append-drop n buf)
 
 pub returns-clause-counted : goal.returns-clause-counted
-returns-clause-counted g c = c.in_ok-read_whole-2.ensures.counted ∙ c.in_ok-read_whole.ensures.counted
+returns-clause-counted g c =
+    c.in_ok-read_whole-2.ensures.counted ∙ c.in_ok-read_whole.ensures.counted
 
 pub slice_bounds-read_whole-end-2 : goal.slice_bounds-read_whole-end-2
 slice_bounds-read_whole-end-2 g c =

@@ -46,7 +46,8 @@ returns-in_err-write_front-clause-ok g c =
 pub returns-in_err-write_records-clause-ok : goal.returns-in_err-write_records-clause-ok
 returns-in_err-write_records-clause-ok g c =
     let p =
-    err_from_is_err_and c.from_residual-in_err-write_records.result c.from_residual-in_err-write_records.ensures.1 in
+    err_from_is_err_and c.from_residual-in_err-write_records.result
+    c.from_residual-in_err-write_records.ensures.1 in
     rw (p.1) tt
 
 pub returns-in_err-write_front-clause-counted : goal.returns-in_err-write_front-clause-counted
@@ -58,7 +59,8 @@ returns-in_err-write_front-clause-counted g c =
 pub returns-in_err-write_records-clause-counted : goal.returns-in_err-write_records-clause-counted
 returns-in_err-write_records-clause-counted g c =
     let p =
-    err_from_is_err_and c.from_residual-in_err-write_records.result c.from_residual-in_err-write_records.ensures.1 in
+    err_from_is_err_and c.from_residual-in_err-write_records.result
+    c.from_residual-in_err-write_records.ensures.1 in
     rw (p.1, p.2)
     (subst (λ (n : ℕ). CountsOne n (g.K.ByteSink.failures c.write_records.new.sink))
     c.in_ok-write_front.ensures.counted c.in_err-write_records.ensures.counted)
@@ -70,4 +72,5 @@ returns-clause-ok g c =
     c.in_ok-write_records.ensures.ok
 
 pub returns-clause-counted : goal.returns-clause-counted
-returns-clause-counted g c = c.in_ok-write_records.ensures.counted ∙ c.in_ok-write_front.ensures.counted
+returns-clause-counted g c =
+    c.in_ok-write_records.ensures.counted ∙ c.in_ok-write_front.ensures.counted

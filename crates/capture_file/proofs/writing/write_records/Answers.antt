@@ -49,9 +49,9 @@ offset_bounds-records-record-index g c = omega (arith, c.loop-record-test.true)
 
 pub write_record-requires : goal.write_record-requires
 write_record-requires g c =
-    let short : length (get_or c.args.records.now c.loop-record.record-index c.record-item.result).octets.items
-    ≤ 65535 =
-    c.requires c.loop-record.record-index c.record-item.result c.loop-record-test.true in
+    let i : ℕ = c.loop-record.record-index in
+    let short : length (get_or c.args.records.now i c.record-item.result).octets.items ≤ 65535 =
+    c.requires i c.record-item.result c.loop-record-test.true in
     rw (c.deref.ensures.value)
     (subst (λ (r : Record g.row.A.Denot). length r.octets.items ≤ 65535) (sym c.record-item.is)
     short)
