@@ -1,4 +1,7 @@
-use Rattle.std.proofs.Common.{arith, refl, rules}
+use Rattle.std.proofs.Common.{ℕ, ◌∙◌, subst, sym}
+use Rattle.std.proofs.lemmas.List.{length-take-le}
+use Rattle.st_format.specs.Device.{CountsFaults, CountsOne}
+use Rattle.std.proofs.Common.{arith, refl}
 use Rattle.std.proofs.lemmas.Result.{err_from_is_err_and, on_err_weaker, on_ok_weaker}
 use Rattle.receiver_file.proofs.MarkedRows.{passes_done, passes_group, passes_start, passes_stop}
 use Rattle.receiver_file.proofs.rows.write_marked.Goals as goal
@@ -21,7 +24,7 @@ loop-group-preserved g c = record {
       (omega arith) c.loop-group.invariant.passed c.in_ok-at.ensures.passed
       c.put_group-filled.new.room c.put_group-filled.ensures.put;
   filled = omega (arith, c.put_group-filled.ensures.within, c.put_group-filled.ensures.length);
-  failures = search rules;
+  failures = c.in_ok-at.ensures.counted ∙ c.loop-group.invariant.failures;
 }
 
 pub returns-clause-ok : goal.returns-clause-ok
@@ -35,3 +38,35 @@ returns-clause-fault g c =
     on_err_weaker c.write_whole.result
     (λ q. passes_stop c.args.size c.loop-group.group c.args.marks.now c.args.octets.now _ _ _ _
     c.loop-group.invariant.passed q) c.write_whole.ensures.fault
+
+pub make_room-requires-clause-filled : goal.make_room-requires-clause-filled
+make_room-requires-clause-filled g c = c.loop-group.invariant.filled
+
+pub make_room-requires-clause-room : goal.make_room-requires-clause-room
+make_room-requires-clause-room g c = c.loop-group.auto.room ∙ c.requires.room
+
+pub returns-in_err-at-clause-ok : goal.returns-in_err-at-clause-ok
+returns-in_err-at-clause-ok g c =
+    let p = err_from_is_err_and c.from_residual.result c.from_residual.ensures.1 in
+    rw (p.1) tt
+
+pub returns-in_err-at-clause-counted : goal.returns-in_err-at-clause-counted
+returns-in_err-at-clause-counted g c =
+    let p = err_from_is_err_and c.from_residual.result c.from_residual.ensures.1 in
+    rw (p.1)
+    (subst (λ (n : ℕ). CountsOne n (g.K.ByteSink.failures c.make_room.new.sink))
+    c.loop-group.invariant.failures c.in_err-at.ensures.counted)
+
+pub slice_bounds-write_whole-end : goal.slice_bounds-write_whole-end
+slice_bounds-write_whole-end g c = c.loop-group.invariant.filled
+
+pub slice_bounds-write_whole-end-2 : goal.slice_bounds-write_whole-end-2
+slice_bounds-write_whole-end-2 g c =
+    sym (length-take-le c.loop-group.filled c.loop-group.room c.loop-group.invariant.filled)
+
+pub returns-clause-counted : goal.returns-clause-counted
+returns-clause-counted g c =
+    subst
+    (λ (n : ℕ). CountsFaults n (g.K.ByteSink.failures c.write_whole.new.sink)
+    c.write_whole.result)
+    c.loop-group.invariant.failures c.write_whole.ensures.counted
