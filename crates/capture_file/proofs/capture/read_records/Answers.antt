@@ -1,3 +1,5 @@
+use Rattle.std.proofs.lemmas.List.{length-take-le}
+use Rattle.capture_file.specs.Faults.{CountsFault}
 use Rattle.std.proofs.lemmas.List.{map-append}
 use Rattle.std.proofs.Common.{ℕ, ◌-◌, ◌≡◌, ◌∙◌, ap, sym, subst, List, ◌++◌, ◌∷◌, [], map, arith}
 use Rattle.std.proofs.lemmas.Result.{err_from_is_err_and}
@@ -56,3 +58,53 @@ returns-clause-read g c =
     goes_on_end c.args.limit _ _ _ _
     (map entry_seen c.loop-records.records.items) c.loop-records.invariant.goes
     (rw none at c.in_ok-first.ensures.given) (c.in_ok-first.ensures.end none)
+
+pub returns-in_err-first-clause-counted : goal.returns-in_err-first-clause-counted
+returns-in_err-first-clause-counted g c =
+    let p =
+    err_from_is_err_and c.from_residual.result c.from_residual.ensures.1 in
+    rw (p.1, p.2)
+    (subst
+    (λ (n : ℕ). CountsFault c.in_err-first.field-0.0 n
+    (g.S.ByteSource.failures c.record_begins.new.source))
+    c.loop-records.invariant.failures c.in_err-first.ensures.counted)
+
+pub returns-then-left-eq0-clause-counted : goal.returns-then-left-eq0-clause-counted
+returns-then-left-eq0-clause-counted g c =
+    c.in_ok-first.ensures.counted ∙ c.loop-records.invariant.failures
+
+pub record_rest-requires : goal.record_rest-requires
+record_rest-requires g c = c.loop-records.invariant.room
+
+pub returns-in_err-head-clause-counted : goal.returns-in_err-head-clause-counted
+returns-in_err-head-clause-counted g c =
+    let p =
+    err_from_is_err_and c.from_residual-in_err-head.result c.from_residual-in_err-head.ensures.1 in
+    rw (p.1, p.2)
+    (subst
+    (λ (n : ℕ). CountsFault c.in_err-head.field-0.0 n
+    (g.S.ByteSource.failures c.record_rest.new.source))
+    (c.in_ok-first.ensures.counted ∙ c.loop-records.invariant.failures)
+    c.in_err-head.ensures.counted)
+
+pub slice_bounds-from_slice-end : goal.slice_bounds-from_slice-end
+slice_bounds-from_slice-end g c =
+    omega (
+      arith,
+      c.in_ok-head.ensures.within,
+      c.record_rest.ensures.room,
+      c.loop-records.invariant.room,
+    )
+
+pub slice_bounds-from_slice-end-in-Some : goal.slice_bounds-from_slice-end-in-Some
+slice_bounds-from_slice-end-in-Some g c =
+    sym (length-take-le c.in_ok-head.head.length c.record_rest.new.buf
+    (omega (
+      arith,
+      c.in_ok-head.ensures.within,
+      c.record_rest.ensures.room,
+      c.loop-records.invariant.room,
+    )))
+
+pub returns-clause-counted : goal.returns-clause-counted
+returns-clause-counted g c = c.in_ok-first.ensures.counted ∙ c.loop-records.invariant.failures
