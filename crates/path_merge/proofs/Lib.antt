@@ -24,3 +24,6 @@ pub mod PlayLemmas
 pub mod Outcomes
 pub mod UnfitLemmas
 pub mod Blank
+pub mod Failed
+pub mod Lives
+pub mod Kept

@@ -2,12 +2,14 @@
 use Rattle.std.proofs.Common.{◌≡◌, ℕ, zero, suc, ◌+◌, ◌%◌, ◌^◌, ◌<◌, ◌≤◌, inl, inr, Bool, true}
 use Rattle.std.proofs.Common.{false, cond, eqb, List, [], ◌∷◌, ◌++◌, length, drop, get_or, refl}
 use Rattle.std.proofs.Common.{Vec, sym, subst, ap, ◌∙◌, arith}
+use Rattle.std.proofs.Common.{Fits, w32}
 use Rattle.std.proofs.lemmas.Bool.{eqb-true}
+use Rattle.std.proofs.lemmas.List.Elements.{All-from_recursion}
 use Rattle.std.proofs.lemmas.Bool.Decides.{eqb_tells}
 use Rattle.st_format.specs.Picture.{Values}
 use Rattle.packet_plan.specs.declared.run.PacketRun.{PacketRun}
 use Rattle.packet_plan.specs.declared.stamp.Stamp.{Stamp}
-use Rattle.packet_plan.specs.Plan.{RasterPlan, packet_at}
+use Rattle.packet_plan.specs.Plan.{RasterPlan, packet_at, packet_octets}
 use Rattle.packet_plan.specs.Sender.{stamp_of}
 use Rattle.packet_plan.specs.Sending.{EachHasRoom}
 use Rattle.packet_plan.specs.Sent.{is_empty}
@@ -119,3 +121,47 @@ pub room_kept : {A : Type 0} (plan : RasterPlan) (buf : Vec ℕ A) (lent new kep
 room_kept plan buf lent new kept of_buf long is room =
     subst (λ (n : ℕ). EachHasRoom plan n)
     (sym (ap (λ (xs : List ℕ). length xs) is ∙ long ∙ ap (λ (xs : List ℕ). length xs) of_buf)) room
+
+pub upto : (n m : ℕ) → n < m → n ≤ m
+upto n m lt = omega (arith, lt)
+
+pub below_all : (n m most : ℕ) → n < m → m ≤ most → n < most
+below_all n m most lt le = omega (arith, lt, le)
+
+-- past the last picture nothing is to come
+pub to_come_past : (plan : RasterPlan) (stamp : Stamp) (pictures : List Values) (next : Next)
+    → length pictures ≤ next.picture → to_come plan stamp pictures next ≡ []
+to_come_past plan stamp pictures next le =
+    ap (texts_behind plan stamp next.picture next.index next.first)
+    (drop_past pictures next.picture le)
+
+abbrev moved : Bool → ℕ → Next → Next
+moved b count next =
+    cond b
+    (record { picture = next.picture + 1; index = 0; first = (next.first + count) % 2 ^ 32 })
+    (record { picture = next.picture; index = next.index + 1; first = next.first })
+
+-- a packet moves on to another of so many
+pub index_after : (count : ℕ) (next : Next) → next.index < count
+    → (after_packet count next).index < count
+index_after count next lt = elim (eqb_tells (next.index + 1) count) [
+  | inl h ↦ subst (λ (b : Bool). (moved b count next).index < count) (sym h.0)
+      (omega (arith, lt))
+  | inr h ↦ subst (λ (b : Bool). (moved b count next).index < count) (sym h.0)
+      (omega (arith, lt, h.1))
+]
+
+pub fits_below : (n m : ℕ) → n < m → m ≤ 10000 → Fits w32 n
+fits_below n m lt le = omega (arith, lt, le)
+
+-- each packet of a plan has room
+pub room_at : (plan : RasterPlan) (octets i : ℕ) → EachHasRoom plan octets
+    → i < length plan.packets → packet_octets plan.format (packet_at plan i) ≤ octets
+room_at plan octets i room lt =
+    All-from_recursion (λ (packet : List PacketRun). packet_octets plan.format packet ≤ octets)
+    plan.packets room i [] lt
+
+-- the octets of a packet lie within what was lent
+pub octets_within : (count octets lent left : ℕ) → count ≡ octets → octets ≤ lent → left ≡ lent
+    → count ≤ left
+octets_within count octets lent left is le kept = omega (arith, is, le, kept)

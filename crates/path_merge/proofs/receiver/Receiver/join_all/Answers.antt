@@ -1,7 +1,9 @@
 use Rattle.std.proofs.Common.{List, drop, length, ap, sym, ◌∙◌, subst, refl, arith, take_at}
 use Rattle.st_format.specs.Raster.{Raster}
 use Rattle.path_merge.specs.Frames.{State, SameFormats, joined_frames}
+use Rattle.path_merge.specs.Frames.{IsReceiver}
 use Rattle.path_merge.proofs.Joined.{alike, receiver_joined}
+use Rattle.path_merge.proofs.Lives.{in_frames}
 use Rattle.path_merge.proofs.receiver.Receiver.join_all.Goals as goal
 
 pub join_frames-requires : goal.join_frames-requires
@@ -36,3 +38,34 @@ invariant_of-self g c =
 
 pub returns-clause-receiver : goal.returns-clause-receiver
 returns-clause-receiver g c = (invariant_of-self g c).0
+
+pub as_mut_slice-requires : goal.as_mut_slice-requires
+as_mut_slice-requires g c κs within = (in_frames _ _ within.0, within.1)
+
+pub as_slice-requires : goal.as_slice-requires
+as_slice-requires g c κs within = (in_frames _ _ within.0, within.1)
+
+pub returns-clause-opening : goal.returns-clause-opening
+returns-clause-opening g c = ap (λ (s : State). s.opening) c.self.view_is
+
+pub returns-clause-refusals : goal.returns-clause-refusals
+returns-clause-refusals g c = ap (λ (s : State). s.refusals) c.self.view_is
+
+pub returns-clause-frames : goal.returns-clause-frames
+returns-clause-frames g c =
+    take_at c.join_frames.new.frames
+    (drop (length c.join_frames.new.frames) c.self.inside.frames.items) c.self.inside.frames.len
+    (omega arith)
+    ∙ c.join_frames.ensures
+    ∙ ap
+    (λ (xs : List Raster). joined_frames xs c.as_slice.result.now)
+    (c.as_mut_slice.ensures.value ∙ ap (λ (s : State). s.frames) c.self.view_is)
+    ∙ ap
+    (λ (xs : List Raster). joined_frames c.args.self.now.frames xs)
+    (c.as_slice.ensures.value ∙ ap (λ (s : State). s.frames) c.other.view_is)
+
+pub returns-clause-old : goal.returns-clause-old
+returns-clause-old g c = subst IsReceiver c.self.view_is c.self.invariant.0
+
+pub returns-clause-other : goal.returns-clause-other
+returns-clause-other g c = subst IsReceiver c.other.view_is c.other.invariant.0
