@@ -26,4 +26,4 @@ pub mod UnfitLemmas
 pub mod Blank
 pub mod Failed
 pub mod Lives
-pub mod Kept
+pub mod CountingUp

@@ -6,7 +6,7 @@ use Rattle.path_merge.specs.Stage.{FailsAt}
 use Rattle.std.proofs.Common.{inl, inr, length, refl}
 use Rattle.path_merge.specs.Stage.{FollowsTo}
 use Rattle.path_merge.proofs.Failed.{not_event}
-use Rattle.path_merge.proofs.Kept.{fewer, reached}
+use Rattle.path_merge.proofs.CountingUp.{fewer, reached}
 use Rattle.path_merge.proofs.PlayLemmas.{fails_here, follows_next, same_place}
 use Rattle.path_merge.proofs.schedule.playing.follow_all.Goals as goal
 
