@@ -2,3 +2,4 @@ pub mod Lists
 pub mod Settling
 pub mod Refusals
 pub mod FileRefusals
+pub mod Ends
