@@ -1,5 +1,9 @@
-use Rattle.std.proofs.Common.{◌≡◌, sym, ◌∙◌, sum_by, ◌∷◌, []}
+use Rattle.std.proofs.Common.{◌≡◌, refl, sym, ◌∙◌, sum_by, ◌∷◌, []}
+use Rattle.std.specs.Prelude.{⊤}
+use Rattle.tool_text.specs.Telling.{memory_line}
+use Rattle.tool_text.specs.declared.status.Status.TheVariants as ended
 use Rattle.file_engines.specs.Fault.{counts}
+use Rattle.file_engines.specs.declared.fault.Fault.TheVariants as fault
 use Rattle.file_engines.specs.Receiving.{failures_in}
 use Rattle.process_engine.specs.Refused.{IsRunRefusal}
 use Rattle.file_engines.proofs.Refusals.{memory_told, refusal_told}
@@ -132,4 +136,56 @@ returns-clause-memory g c =
     ends c.in-Err.fault P c.tell.result c.number-in-Err.result (failed old) (failed new) (held old)
     (held new) c.tell.ensures c.in-Err.ensures.refused c.number-in-Err.ensures in
     ends_memory c.in-Err.fault P c.number-in-Err.result (failed old) (failed new) (held old)
+    (held new) e
+
+pub returns-in_default-clause-range : goal.returns-in_default-clause-range
+returns-in_default-clause-range g c =
+    let failed = g.F.ByteSink.failures in
+    let held = g.F.ByteSink.held in
+    let old = c.args.faults.now in
+    let new = c.tell_memory.new.faults in
+    let e =
+    ends fault.Memory ⊤ c.tell_memory.result c.number.result (failed old) (failed new) (held old)
+    (held new) (ended.Memory, memory_line, (refl, refl), c.tell_memory.ensures) tt
+    c.number.ensures in
+    ends_range fault.Memory ⊤ c.number.result (failed old) (failed new) (held old)
+    (held new) e
+
+pub returns-in_default-clause-sent : goal.returns-in_default-clause-sent
+returns-in_default-clause-sent g c =
+    let failed = g.F.ByteSink.failures in
+    let held = g.F.ByteSink.held in
+    let old = c.args.faults.now in
+    let new = c.tell_memory.new.faults in
+    let e =
+    ends fault.Memory ⊤ c.tell_memory.result c.number.result (failed old) (failed new) (held old)
+    (held new) (ended.Memory, memory_line, (refl, refl), c.tell_memory.ensures) tt
+    c.number.ensures in
+    ends_nonzero fault.Memory ⊤ c.number.result (failed old) (failed new) (held old)
+    (held new) e
+
+pub returns-in_default-clause-silent : goal.returns-in_default-clause-silent
+returns-in_default-clause-silent g c =
+    let failed = g.F.ByteSink.failures in
+    let held = g.F.ByteSink.held in
+    let old = c.args.faults.now in
+    let new = c.tell_memory.new.faults in
+    let e =
+    ends fault.Memory ⊤ c.tell_memory.result c.number.result (failed old) (failed new) (held old)
+    (held new) (ended.Memory, memory_line, (refl, refl), c.tell_memory.ensures) tt
+    c.number.ensures in
+    ends_nonzero fault.Memory ⊤ c.number.result (failed old) (failed new) (held old)
+    (held new) e
+
+pub returns-in_default-clause-memory : goal.returns-in_default-clause-memory
+returns-in_default-clause-memory g c =
+    let failed = g.F.ByteSink.failures in
+    let held = g.F.ByteSink.held in
+    let old = c.args.faults.now in
+    let new = c.tell_memory.new.faults in
+    let e =
+    ends fault.Memory ⊤ c.tell_memory.result c.number.result (failed old) (failed new) (held old)
+    (held new) (ended.Memory, memory_line, (refl, refl), c.tell_memory.ensures) tt
+    c.number.ensures in
+    ends_memory fault.Memory ⊤ c.number.result (failed old) (failed new) (held old)
     (held new) e
