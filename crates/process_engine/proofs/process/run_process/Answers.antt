@@ -83,8 +83,8 @@ returns-clause-working g c =
     ∷ counts (hold c.args.hold.now) (hold c.process.new.hold)
     ∷ counts (sink c.args.sink.now) (sink c.process.new.sink)
     ∷ counts (output c.args.output.now) (output c.process.new.output) ∷ [] in
-    ends_working devices c.in-Err.fault P c.number-in-Err.result (failed old) (failed new) (held old)
-    (held new) c.in-Err.ensures.failures e
+    ends_working devices c.in-Err.fault P c.number-in-Err.result (failed old) (failed new)
+    (held old) (held new) c.in-Err.ensures.failures e
 
 pub returns-clause-sent : goal.returns-clause-sent
 returns-clause-sent g c =
