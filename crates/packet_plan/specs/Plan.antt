@@ -45,7 +45,7 @@ pub record IsPacket (f : Format) (size : ℕ) (p : List PacketRun) : Type 0 wher
   pub fits : packet_octets f p ≤ size
 
 -- The runs of all packets, joined, are all pixel groups in raster order, each once (SMPTE ST
--- 2110-20, 6.3, general packing mode).
+-- 2110-20, general packing mode).
 pub record IsRasterPlan (f : Format) (size : ℕ) (packets : List (List PacketRun)) : Type 0 where
   pub each : AllByRecursion (IsPacket f size) packets
   pub whole : flat_map (flat_map (numbers f)) packets ≡ range_with_len 0 (group_count f)

@@ -29,7 +29,7 @@ header_with d sequence payload = record {
 
 -- Grammar: octets are a datagram of this format that says d. They are an RTP header of d's fields,
 -- and behind all headers a payload of d's segments; the packet number is 65536 times the payload's
--- extended number plus the header's sequence number. RFC 3550, 5.1; RFC 4175, 4.1
+-- extended number plus the header's sequence number. RFC 3550, 5.1; RFC 4175, 4.1 and 4.2
 pub record IsDatagram (octets : List ℕ) (f : Format) (d : Datagram) : Type 0 where
   pub sequence : ℕ
   pub extended : ℕ

@@ -12,7 +12,7 @@ use thiserror::Error;
 pub enum Taken {
     /// Its samples were joined to the frame of its timestamp. This is its packet number: 65536
     /// times the extended number of its payload plus the sequence number of its header (RFC 4175,
-    /// 4.1).
+    /// 4.1 and 4.2).
     Kept(u32),
     /// Its timestamp isn't in the window, and nothing changed.
     Outside,

@@ -17,8 +17,8 @@ pub enum PayloadFault {
     /// There aren't two octets of extended number, or a header isn't whole (RFC 4175, 4.2).
     ShortPayloadHeader = 1,
 
-    /// The third header says that another follows. RFC 4175 allows more headers; SMPTE ST 2110-20,
-    /// 6.1 allows three, and so does this reader: a sender of plain RFC 4175 is refused here.
+    /// The third header says that another follows. RFC 4175 allows more headers; SMPTE ST 2110-20
+    /// allows three, and so does this reader: a sender of plain RFC 4175 is refused here.
     TooManySegments = 2,
 
     /// F is set: the segment is of the second field of an interlaced frame.

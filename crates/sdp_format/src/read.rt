@@ -205,7 +205,7 @@ fn read_text<A: Allocator + Copy>(alloc: A, text: &[u8]) -> Result<Sdp, SdpFault
 }
 
 /// Reads what an SDP text says of the studio video that it announces (RFC 8866, 5 and 6; SMPTE ST
-/// 2110-20, 7).
+/// 2110-20, SDP).
 ///
 /// A text has one or two video sections; two are the legs of one video and say the same but for
 /// their ports. The error is the first fault of the text: `NoVideo`, `TooManyLegs`, then the faults

@@ -15,7 +15,7 @@ use std::alloc::Allocator;
 use tool_text::{LINE, Status, tell_memory};
 
 /// Reads the SDP text that the source gives, and writes its canonical fmtp line (RFC 8866; SMPTE ST
-/// 2110-20, 7).
+/// 2110-20, SDP).
 ///
 /// Answers 0; 1 where the text is refused, with `st2110: sdp N NAME` told to the faults, or is
 /// longer than 16,777,216 octets, with `st2110: script 1` (own); 3 exactly where a device failed; 4
