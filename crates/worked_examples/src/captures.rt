@@ -7,9 +7,9 @@ use crate::small_format::{UPPER, counted, counts, small};
 use capture_file::{
     Capture, CaptureReader, FileFault, Record, migrate_capture, read_capture, write_capture,
 };
-use path_merge::{Received, Receiver};
+use path_merge::{ReceiveFault, Received, Receiver};
 use st_format::memory::{MemorySink, MemorySource};
-use st_format::{DatagramSource, Path, Turn};
+use st_format::{DatagramSource, Path, SourceFault, Turn};
 use std::alloc::{AllocError, Allocator, Global};
 use std::process::Abort;
 use std::test::Fail;
@@ -24,6 +24,12 @@ pub const NEW: &[u8] = b"S20CAP02\0\0\0\0\0\0\0\0\0\0\0\0\x1C\
 /// The latter with the text `v=0`.
 pub const WITH_TEXT: &[u8] = b"S20CAP02\0\x03v=0\0\0\0\0\0\0\0\0\0\0\x1C\
     \x80\xE0\0\x01\0\0\x03\x84\0\0\0\x01\0\0\0\x08\0\0\0\0\x80\x10\x80\x11\x80\x12\x80\x13";
+
+/// A capture of version 1 of that datagram by A and by B, without its last octet.
+const CUT: &[u8] = b"S20CAP01\0\0\0\0\0\0\0\0\0\0\x1C\
+    \x80\xE0\0\x01\0\0\x03\x84\0\0\0\x01\0\0\0\x08\0\0\0\0\x80\x10\x80\x11\x80\x12\x80\x13\
+    \x01\0\0\0\0\0\0\0\0\0\x1C\
+    \x80\xE0\0\x01\0\0\x03\x84\0\0\0\x01\0\0\0\x08\0\0\0\0\x80\x10\x80\x11\x80\x12\x80";
 
 /// A source of a file.
 fn source(alloc: Global, file: &[u8]) -> Result<MemorySource, AllocError> {
@@ -78,51 +84,54 @@ fn written(rt: HostRuntime) -> Result<(), Fail> {
     Ok(())
 }
 
-/// Whether a capture gives a receiver its datagram, and ends.
-fn gives_one(
+/// Whether `receive` answers so for a capture, the receiver then has *first-datagram*'s frame, and
+/// the reader answers so from then on.
+fn gives_first(
     alloc: Global,
     reader: &mut CaptureReader<MemorySource>,
     receiver: &mut Receiver,
+    answer: Result<Received, ReceiveFault>,
+    after: Result<Turn, SourceFault>,
 ) -> Result<bool, AllocError> {
     let mut buf = vec![in alloc; 0u8; 65535]?;
-    let received = Received {
-        delivered: 1,
-        ended: true,
-    };
-    Ok(
-        receive_capture(reader, receiver, &mut buf, 10) == Ok(received)
-            && counts(receiver, 900) == Some(counted(8, 8, 0)),
-    )
+    Ok(receive_capture(reader, receiver, &mut buf, 10) == answer
+        && counts(receiver, 900) == Some(counted(8, 8, 0))
+        && reader.next(&mut buf) == after)
 }
 
-/// Whether a capture stays at its end.
-fn is_at_end(alloc: Global, reader: &mut CaptureReader<MemorySource>) -> Result<bool, AllocError> {
-    let mut buf = vec![in alloc; 0u8; 65535]?;
-    Ok(reader.next(&mut buf) == Ok(Turn::End))
-}
-
-/// Whether a capture gives its datagram, and stays at its end.
-fn gives_all(
+/// The same of a file that is a capture, and of a new receiver.
+fn is_received(
     alloc: Global,
-    reader: &mut CaptureReader<MemorySource>,
-    receiver: &mut Receiver,
-) -> Result<bool, AllocError> {
-    Ok(gives_one(alloc, reader, receiver)? && is_at_end(alloc, reader)?)
-}
-
-/// Whether a receiver gets all of the capture of version 1.
-fn is_received(alloc: Global, receiver: &mut Receiver) -> Result<bool, AllocError> {
+    file: &[u8],
+    answer: Result<Received, ReceiveFault>,
+    after: Result<Turn, SourceFault>,
+) -> Result<bool, Fail> {
+    let mut receiver = Receiver::open(alloc, small()?, 96, None, &[900])?;
     let mut text = vec![in alloc; 0u8; 65535]?;
-    match CaptureReader::open(source(alloc, OLD)?, &mut text) {
-        Ok(mut reader) => gives_all(alloc, &mut reader, receiver),
+    match CaptureReader::open(source(alloc, file)?, &mut text) {
+        Ok(mut reader) => Ok(gives_first(alloc, &mut reader, &mut receiver, answer, after)?),
         Err(_) => Ok(false),
     }
 }
 
 #[test]
 fn capture_receive(rt: HostRuntime) -> Result<(), Fail> {
-    let mut receiver = Receiver::open(rt.alloc(), small()?, 96, None, &[900])?;
-    met(&rt, is_received(rt.alloc(), &mut receiver)?);
+    let received = Received {
+        delivered: 1,
+        ended: true,
+    };
+    met(&rt, is_received(rt.alloc(), OLD, Ok(received), Ok(Turn::End))?);
+    Ok(())
+}
+
+#[test]
+fn cut_capture(rt: HostRuntime) -> Result<(), Fail> {
+    let truncated = SourceFault::Content(5);
+    let fault = ReceiveFault {
+        delivered: 1,
+        fault: truncated,
+    };
+    met(&rt, is_received(rt.alloc(), CUT, Err(fault), Err(truncated))?);
     Ok(())
 }
 

@@ -4,6 +4,7 @@ use crate::checks::met;
 use crate::formulas::{cb, clipped, cr, gained, keyed, luma, mixed, scale};
 use crate::generator::Generator;
 use crate::pictures::{set, value};
+use crate::sending::fitting;
 use crate::small_format::KINDS;
 use bt709_fixed::RangeKind;
 use key_mix::{Axis, Job, JobFault, WipeShape, run_job};
@@ -25,19 +26,21 @@ fn random(
 ) -> Result<Picture, Fail> {
     let format = Format::new(sampling, depth, WIDTH, HEIGHT, 60, 1)?;
     let mut picture = Picture::new(alloc, format, [0, 0, 0])?;
-    fill(generator, format.max_value(), &mut picture);
-    Ok(picture)
+    let fit = fill(generator, format.max_value(), &mut picture);
+    fitting(picture, fit)
 }
 
-/// Sets each value of a picture to one of these bits.
-fn fill(generator: &mut Generator, most: u16, picture: &mut Picture) {
+/// Sets each value of a picture to one of these bits, and tells whether all of them fit.
+fn fill(generator: &mut Generator, most: u16, picture: &mut Picture) -> bool {
+    let mut fit = true;
     for row in 0..HEIGHT {
         for column in 0..WIDTH {
             for component in 0..3u8 {
-                set(picture, row, column, component, generator.word() & most);
+                fit &= set(picture, row, column, component, generator.word() & most);
             }
         }
     }
+    fit
 }
 
 /// A row, a column and a component.

@@ -1,5 +1,6 @@
 //! *rehearsal*, and what else a schedule does: through the library.
 use crate::checks::met;
+use crate::sending::p0;
 use crate::small_format::{counted, counts, small};
 use frame_assembly::Counts;
 use packet_plan::{Plan, Stamp};
@@ -16,17 +17,6 @@ pub const STAMP: Stamp = Stamp {
     ssrc: 1,
 };
 
-/// P0: luma 16 to 23, the rest 128.
-fn first_picture(alloc: Global) -> Result<Picture, Fail> {
-    let mut picture = Picture::new(alloc, small()?, [16, 128, 128])?;
-    for k in 0..8u32 {
-        if picture.format().has_position(k / 4, k % 4, 0) && 16 + k <= 255 {
-            picture.set(k / 4, k % 4, 0, 16 + k as u16);
-        }
-    }
-    Ok(picture)
-}
-
 /// F1's plan at 40 octets: packets of 12 and of 4 samples.
 fn small_plan(alloc: Global) -> Result<Plan, Fail> {
     Ok(Plan::new(alloc, small()?, 40)?)
@@ -36,7 +26,7 @@ fn small_plan(alloc: Global) -> Result<Plan, Fail> {
 fn pictures(alloc: Global, count: usize) -> Result<Vec<Picture>, Fail> {
     let mut pictures = Vec::new(alloc);
     for _ in 0..count {
-        pictures.push(first_picture(alloc)?)?;
+        pictures.push(p0(alloc)?)?;
     }
     Ok(pictures)
 }

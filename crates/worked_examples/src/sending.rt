@@ -48,7 +48,7 @@ pub fn p0(alloc: Global) -> Result<Picture, Fail> {
 }
 
 /// A picture, where all values that were set fit.
-fn fitting(picture: Picture, fit: bool) -> Result<Picture, Fail> {
+pub fn fitting(picture: Picture, fit: bool) -> Result<Picture, Fail> {
     if fit {
         Ok(picture)
     } else {
