@@ -31,6 +31,20 @@ frame 900 present 12 missing 4 contested 0'
         merge)
             written=dev.rcv shown='frame 900 present 12 missing 4 contested 0'
             set -- merge --state dev.rcv one.rcv one.rcv ;;
+        process)
+            written=dev.cap shown='sent 1'
+            set -- process --job gain:4096 --ts 900 --fill 16,128,128 --out dev.cap one.rcv ;;
+        report)
+            shown='receiver YCbCr-4:2:2 8 4 2 60/1 pt 96 ssrc any
+frame 900 present 12 missing 4 contested 0
+missing row 1 columns 2 to 3
+end'
+            set -- report one.rcv ;;
+        loop)
+            shown='sent 2
+delivered 2
+frame 0 present 16 missing 0 contested 0'
+            set -- loop --max 40 "$files/four-by-two.pic" ;;
     esac
     words=$*
 }
@@ -44,7 +58,7 @@ ends() {
 }
 
 # shellcheck disable=SC2086
-for command in trace sdp rehearse migrate send receive merge; do
+for command in trace sdp rehearse migrate send receive merge process report loop; do
     on $command
     rm -f dev.cap dev.rcv
     "$program" $words <"$input" >out 2>err
@@ -68,6 +82,8 @@ for command in trace sdp rehearse migrate send receive merge; do
             fail "$command, standard output is closed, and the file is not mixed with it" \
                 "$(od -An -v -tx1 "$written" | tr -d ' \n' | head -c 300)"
         fi
+    fi
+    if [ "$input" = /dev/null ]; then
         "$program" $words <&- >out 2>err
         status=$?
         says "$command, standard input is closed" 0 "$shown" ''

@@ -80,3 +80,26 @@ frame 900 present 4 missing 12 contested 0' ''
 run merge --state merged.rcv a.rcv b.rcv
 says 'one datagram of each path' 0 "$whole" ''
 holds 'one datagram of each path: the receiver' merged.rcv "$opened 00 00000000 01 00000384 01 80108011 01 80128013 01 80148015 01 80168017"
+
+# What the README shows of these, and of the capture that has both.
+run send --sdp "$root/examples/four-by-two.sdp" --base 900 --max 40 --paths both --out sent.cap "$root/examples/four-by-two.pic"
+says 'the README: sent' 0 'sent 2' ''
+run receive --window 900 --state sent.rcv sent.cap
+says 'the README: received' 0 "delivered 4
+$whole" ''
+if cmp -s merged.rcv sent.rcv; then
+    pass 'the README: the merged receiver is that of the capture, octet for octet'
+else
+    fail 'the README: the merged receiver is that of the capture, octet for octet' 'they differ'
+fi
+run report a.rcv
+says 'the README: what the first lacks' 0 'receiver YCbCr-4:2:2 8 4 2 60/1 pt 96 ssrc any
+frame 900 present 12 missing 4 contested 0
+missing row 1 columns 2 to 3
+end' ''
+run report merged.rcv
+says 'the README: the merged one lacks nothing' 0 'receiver YCbCr-4:2:2 8 4 2 60/1 pt 96 ssrc any
+frame 900 present 16 missing 0 contested 0
+end' ''
+run process --job gain:4096 --ts 900 --fill 16,128,128 --base 900 --out gained.cap merged.rcv
+says 'the README: processed' 0 'sent 1' ''

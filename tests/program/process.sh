@@ -8,6 +8,10 @@ processed='--ts 900 --fill 16,128,128 --max 42 --first 1 --base 900 --out j.cap'
 black='8010801080108010'
 octets "5332305049433031 0008000400010000003C00000001 $u" >row.pic
 : >empty.rcv
+# Receivers of R'G'B' and of 4:4:4 that lack every sample.
+lacking='08000400020000003C00000001 60 00 00000000 01 00000384 0000000000000000'
+octets "5332305243563031 02 $lacking" >rgb.rcv
+octets "5332305243563031 01 $lacking" >ycc444.rcv
 
 # made NAME CAPTURE WORDS..: whether a job on receivers sends one datagram, and the capture is this.
 made() {
@@ -37,6 +41,13 @@ made 'no gain' "$sent $black $black" gain:0 both.rcv
 run process --job key $processed both.rcv both.rcv both.rcv
 says 'a key' 0 'sent 1' ''
 holds 'a key: the capture' j.cap "$one $sent $u$l"
+# White is white in 4:4:4 (ITU-R BT.709), in groups of a pixel; and black of 4:4:4 is black in 4:2:2.
+run process --job ycc444 --ts 900 --fill 235,235,235 --max 50 --first 1 --base 900 --out j.cap rgb.rcv
+says 'to 4:4:4' 0 'sent 1' ''
+white='80EB80 80EB80 80EB80 80EB80'
+holds 'to 4:4:4: the capture' j.cap "5332304341503032 0000 00 0000000000000000 0032
+    80E00001 00000384 00000001 0000 000C 0000 8000 000C 0001 0000 $white $white"
+made 'to 4:2:2' "$sent $black $black" ycc422 ycc444.rcv
 run process --job gain:4096 --ts 900 --fill 0,0,0 --out j.cap --max 40 --first 4294967295 both.rcv
 says 'numbers begin anew' 0 'sent 2' ''
 run process --job gain:4096 --ts 900 --fill 0,0,0 --out j.cap both.rcv
@@ -77,6 +88,9 @@ process 4 HoldDiffers|--job key $processed --hold row.pic both.rcv
 job 7 WrongInputCount|--job key $processed both.rcv
 job 7 WrongInputCount|--job gain:16385 $processed both.rcv both.rcv
 job 8 BadGain|--job gain:16385 $processed both.rcv
+job 2 FormatsDiffer|--job wipe:columns:1:1 $processed both.rcv rgb.rcv
+job 2 FormatsDiffer|--job key $processed both.rcv rgb.rcv both.rcv
+job 3 KeyNotYcc|--job key $processed both.rcv both.rcv rgb.rcv
 job 4 BadWipe|--job wipe:columns:5:0 $processed both.rcv both.rcv
 job 4 BadWipe|--job wipe:rows:0:3 $processed both.rcv both.rcv
 job 5 NotRgb|--job ycc444 $processed both.rcv

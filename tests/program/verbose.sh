@@ -139,6 +139,7 @@ octets "5332305043503031" >x.pic
 head -c 37 p.pic >cut.pic
 head -c 40 both.cap >cut.cap
 octets "$opened 00 00000000 01 00000384 01 80108011" >cut.rcv
+octets "$opened 00 00000000 01 00000384 02 0000 80108011 01 80128013 00 00" >mixed.rcv
 while IFS='|' read -r words status_wanted fault place; do
     # shellcheck disable=SC2086
     run $words --verbose
@@ -165,6 +166,22 @@ merge --state v.rcv g.rcv other.rcv|1|merge 1 OpenedUnlike|other.rcv, octet 45; 
 merge --state v.rcv cut.rcv g.rcv|1|state 5 Truncated|cut.rcv, octet 38; wanted more octets: the file ends before it is whole
 merge --state v.rcv g.rcv name.cap|1|state 3 BadName|name.cap, octet 8; wanted a receiver, which begins S20RCV
 merge --state v.rcv g.rcv no-such-file|3|device|no-such-file, octet 0; wanted to read there: No such file or directory (os error 2)
+merge --state v.rcv mixed.rcv g.rcv|1|state 8 MixedGroup|mixed.rcv, octet 40; wanted a mask of some of the pgroup's samples, each of them 0
+receive --state v.rcv --window 9 --sdp no-such-file old.cap|3|device|no-such-file, octet 0; wanted to read there: No such file or directory (os error 2)
+process --job limit --ts 900 --fill 0,0,0 --out v.cap g.rcv|1|process 1 BadJob|--job; wanted limit:nominal, limit:video, gain:G, ycc444, ycc422, wipe:columns:P:S, wipe:rows:P:S or key
+process --job gain:1 --ts 901 --fill 0,0,0 --out v.cap g.rcv|1|process 2 NoFrame|--ts; wanted a timestamp of each receiver's window
+process --job gain:1 --ts 900 --fill 0,0 --out v.cap g.rcv|1|process 3 BadFill|--fill; wanted three numbers with commas between, none above the greatest value of a frame
+process --job gain:1 --ts 900 --fill 0,0,0 --hold row.pic --out v.cap g.rcv|1|process 4 HoldDiffers|row.pic, octet 30; wanted a picture of the first frame's format
+process --job wipe:rows:1:0 --ts 900 --fill 0,0,0 --out v.cap g.rcv rgb.rcv|1|job 2 FormatsDiffer|--job; wanted frames of one format, and a key of their size, depth and rate
+process --job key --ts 900 --fill 0,0,0 --out v.cap g.rcv g.rcv rgb.rcv|1|job 3 KeyNotYcc|--job; wanted a key of Y, Cb and Cr
+process --job wipe:rows:3:0 --ts 900 --fill 0,0,0 --out v.cap g.rcv g.rcv|1|job 4 BadWipe|--job; wanted P and S of at most the width, or for rows the height
+process --job ycc444 --ts 900 --fill 0,0,0 --out v.cap g.rcv|1|job 5 NotRgb|--job; wanted a frame of R, G and B
+process --job ycc422 --ts 900 --fill 0,0,0 --out v.cap g.rcv|1|job 6 NotYcc444|--job; wanted a frame of Y, Cb and Cr at each column
+process --job key --ts 900 --fill 0,0,0 --out v.cap g.rcv|1|job 7 WrongInputCount|--job; wanted one receiver, for a wipe two and for key three
+process --job gain:16385 --ts 900 --fill 0,0,0 --out v.cap g.rcv|1|job 8 BadGain|--job; wanted a gain of at most 16384
+process --job gain:1 --ts 900 --fill 0,0,0 --max 23 --out v.cap g.rcv|1|plan 2 BadPacketSize|--max; wanted 20 octets and a pgroup at least, and at most 9000
+process --job gain:1 --ts 900 --fill 0,0,0 --out v.cap cut.rcv|1|state 5 Truncated|cut.rcv, octet 38; wanted more octets: the file ends before it is whole
+process --job gain:1 --ts 900 --fill 0,0,0 --out no-folder/v.cap g.rcv|3|device|no-folder/v.cap; wanted to write there: No such file or directory (os error 2)
 migrate --sdp q.sdp --out v.cap new.cap|1|capture 4 BadVersion|new.cap, octet 8; wanted version 01, or for receive 01 or 02
 migrate --sdp no-such-file --out v.cap old.cap|3|device|no-such-file, octet 0; wanted to read there: No such file or directory (os error 2)
 migrate --sdp q.sdp --out no-folder/v.cap old.cap|3|device|no-folder/v.cap; wanted to write there: No such file or directory (os error 2)

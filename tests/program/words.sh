@@ -65,7 +65,6 @@ trase
 trace examples
 trace sdp
 trace --out f.cap
-trace --version
 trace --verbose --verbose
 sdp q.sdp
 sdp --sdp q.sdp
@@ -103,6 +102,16 @@ merge --state no-words.rcv
 merge --state no-words.rcv g.rcv
 merge --state no-words.rcv g.rcv g.rcv g.rcv
 merge g.rcv g.rcv
+process
+process --job gain:1 --ts 900 --fill 0,0,0 --out no-words.cap
+process --ts 900 --fill 0,0,0 --out no-words.cap g.rcv
+process --job gain:1 --fill 0,0,0 --out no-words.cap g.rcv
+process --job gain:1 --ts 900 --out no-words.cap g.rcv
+process --job gain:1 --ts 900 --fill 0,0,0 g.rcv
+process --job gain:1 --ts x --fill 0,0,0 --out no-words.cap g.rcv
+process --job gain:1 --ts 4294967296 --fill 0,0,0 --out no-words.cap g.rcv
+process --job gain:1 --ts 900 --fill 0,0,0 --pt 128 --out no-words.cap g.rcv
+process --job gain:1 --ts 900 --fill 0,0,0 --paths b --out no-words.cap g.rcv
 report
 report g.rcv g.rcv
 report --state g.rcv
@@ -112,6 +121,16 @@ loop --max 4294967296 p.pic
 loop --limit x p.pic
 loop --limit 18446744073709551616 p.pic
 loop --out no-words.cap p.pic
+trace --version
+sdp --version
+rehearse --version
+migrate --version
+send --version
+receive --version
+merge --version
+process --version
+report --version
+loop --version
 END
 none 'refused words write no capture' no-words.cap
 none 'refused words write no receiver' no-words.rcv
