@@ -6,7 +6,7 @@
 # sought one behind the other by a reader that keeps them by that hash, and it takes the square of
 # their number. Prints both times, and how many times the plain one the other takes, for each number
 # of items. Words: how many rounds (3); the best counts.
-root=$(cd "$(dirname "$0")/.." && pwd) || exit 1
+root=$(CDPATH='' cd -- "$(dirname -- "$0")/.." && pwd) || exit 1
 rounds=${1:-3}
 folder=$(mktemp -d "${TMPDIR:-/tmp}/st2110-bench.XXXXXX") || exit 1
 trap 'rm -rf "$folder"' EXIT
