@@ -13,7 +13,7 @@ use Rattle.capture_file.specs.declared.fault.FileFault.{FileFault}
 use Rattle.path_merge.specs.Frames.{Holds, State}
 use Rattle.path_merge.specs.Took.{TakesDue}
 use Rattle.receiver_file.specs.Saved.{kept_of}
-use Rattle.tool_text.specs.Timestamps.{AreTimestamps, Spells}
+use Rattle.tool_text.specs.Timestamps.{AreTimestamps, IsNumberOf}
 use Rattle.file_engines.specs.declared.receive.Opening.{Opening}
 use Rattle.file_engines.specs.declared.session.Session.{Session}
 
@@ -35,7 +35,7 @@ AllTell to_give (s ∷ ss) (o ∷ os) = (to_give s ≡ Some o) × AllTell to_giv
 -- the text of a source that is pinned, or of none
 abbrev pub IsPin : List ℕ → Option ℕ → Type 0
 IsPin text None = text ≡ codes "any"
-IsPin text (Some ssrc) = Spells text ssrc
+IsPin text (Some ssrc) = IsNumberOf text ssrc
 
 -- ---- one capture
 

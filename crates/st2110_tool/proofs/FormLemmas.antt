@@ -15,7 +15,7 @@ use Rattle.tool_text.specs.Fields.{parted}
 use Rattle.st2110_tool.specs.Forms.{AreFormat, AreFour, AreHeightAndRate, AreOpening, AreTwo}
 use Rattle.st2110_tool.specs.Forms.{IsFormatLine, IsOpenLine, IsRate, IsSourceText, IsTraceLine}
 use Rattle.st_format.specs.Words.{sampling_text}
-use Rattle.tool_text.specs.Timestamps.{Spells}
+use Rattle.tool_text.specs.Timestamps.{IsNumberOf}
 
 pub if_none : {X P : Type 0} (r : Option X) → r ≡ None → P → IfNone r P
 if_none None e p = p
@@ -109,12 +109,12 @@ later x y p same e = ap (λ (l : List ℕ). parted 32 l) same ∙ e
 
 pub depth_none : (text word behind depth more : List ℕ) → parted 32 text ≡ Some (word, behind)
     → parted 32 behind ≡ Some (depth, more)
-    → ((d : Depth) → Spells depth (bits_of d) → ⊥) → (f : FormatLine) → AreFormat text f → ⊥
+    → ((d : Depth) → IsNumberOf depth (bits_of d) → ⊥) → (f : FormatLine) → AreFormat text f → ⊥
 depth_none text word behind depth more e g none f all =
     let a = second_same text word behind (sampling_text f.sampling) all.behind e all.parts in
     let b = second_same behind depth more all.depth all.more g
     (later behind all.behind (Some (all.depth, all.more)) a.1 all.parts_behind) in
-    none f.depth (subst (λ (l : List ℕ). Spells l (bits_of f.depth)) (sym b.0) all.depth_is)
+    none f.depth (subst (λ (l : List ℕ). IsNumberOf l (bits_of f.depth)) (sym b.0) all.depth_is)
 
 pub height_none : (text word behind depth more width last : List ℕ)
     → parted 32 text ≡ Some (word, behind) → parted 32 behind ≡ Some (depth, more)
@@ -138,12 +138,12 @@ format_none text rest e none f all =
 -- ---- what is no line `open`
 
 pub type_none : (text number behind : List ℕ) → parted 32 text ≡ Some (number, behind)
-    → ((n : ℕ) → n ≤ 127 → Spells number n → ⊥)
+    → ((n : ℕ) → n ≤ 127 → IsNumberOf number n → ⊥)
     → (payload_type : ℕ) (ssrc : Option ℕ) (window : List ℕ)
     → AreOpening text payload_type ssrc window → ⊥
 type_none text number behind e none payload_type ssrc window all =
     let a = second_same text number behind all.number all.behind e all.parts in
-    none payload_type all.seven_bits (subst (λ (l : List ℕ). Spells l payload_type)
+    none payload_type all.seven_bits (subst (λ (l : List ℕ). IsNumberOf l payload_type)
     (sym a.0) all.number_is)
 
 pub source_none : (text number behind source said : List ℕ) → parted 32 text ≡ Some (number, behind)

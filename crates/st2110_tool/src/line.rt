@@ -5,7 +5,7 @@ ghost use Rattle.hex.specs.Hex.{decode_of};
 ghost use Rattle.st2110_tool.specs.Forms.{AreFormat, AreFour, AreHeightAndRate, AreOpening, AreTwo};
 ghost use Rattle.st2110_tool.specs.Forms.{IsFormatLine, IsOctetsText, IsOpenLine, IsRate};
 ghost use Rattle.st2110_tool.specs.Forms.{IsWindowText, IsSourceText, IsTraceLine};
-ghost use Rattle.tool_text.specs.Timestamps.{Spells};
+ghost use Rattle.tool_text.specs.Timestamps.{IsNumberOf};
 ghost use Rattle.st_format.specs.Pgroup.{bits_of};
 
 use st_format::{Depth, Path, Sampling, read_number};
@@ -102,8 +102,8 @@ fn read_rate(text: &[u8]) -> Option<(u32, u32)>
 }
 
 fn read_depth(text: &[u8]) -> Option<Depth>
-    ensures is { IfSome result (λ depth. Spells text.now (bits_of depth)) }
-    ensures none { IfNone result ((depth : Depth) → Spells text.now (bits_of depth) → ⊥) }
+    ensures is { IfSome result (λ depth. IsNumberOf text.now (bits_of depth)) }
+    ensures none { IfNone result ((depth : Depth) → IsNumberOf text.now (bits_of depth) → ⊥) }
 {
     match read_number(text)? {
         8 => Some(Depth::D8),
@@ -144,8 +144,8 @@ fn read_opening(text: &[u8]) -> Option<OpenLine<'_>>
 /// A payload type: up to 127.
 pub(crate) fn read_payload_type(text: &[u8]) -> Option<u8>
     ensures range { IfSome result (λ n. n ≤ 127) }
-    ensures is { IfSome result (λ n. Spells text.now n) }
-    ensures none { IfNone result ((n : ℕ) → n ≤ 127 → Spells text.now n → ⊥) }
+    ensures is { IfSome result (λ n. IsNumberOf text.now n) }
+    ensures none { IfNone result ((n : ℕ) → n ≤ 127 → IsNumberOf text.now n → ⊥) }
 {
     let number = read_number(text)?;
     if number <= 127 {

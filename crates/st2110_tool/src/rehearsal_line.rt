@@ -3,7 +3,7 @@ ghost use Rattle.std.specs.Prelude.{◌≡◌, ◌≤◌, ℕ, List, IfNone, IfO
 ghost use Rattle.st_format.specs.declared.path.Path.{Path as ByPath};
 ghost use Rattle.packet_plan.specs.declared.stamp.Stamp.{Stamp as AStamp};
 ghost use Rattle.path_merge.specs.declared.schedule.event.Event.{Event as AnEvent};
-ghost use Rattle.tool_text.specs.Timestamps.{Spells};
+ghost use Rattle.tool_text.specs.Timestamps.{IsNumberOf};
 ghost use Rattle.st2110_tool.specs.RehearsalForms.{AreArrival, AreReceiverAndNumber, AreReceivers};
 ghost use Rattle.st2110_tool.specs.RehearsalForms.{AreStamp, IsEventLine, IsNumberLine};
 ghost use Rattle.st2110_tool.specs.RehearsalForms.{IsStampLine, IsWindowLine, path_text};
@@ -120,8 +120,8 @@ fn read_receivers(text: &[u8]) -> Option<(u8, u8)>
 /// A receiver's number: up to 255.
 fn read_receiver(text: &[u8]) -> Option<u8>
     ensures range { IfSome result (λ n. n ≤ 255) }
-    ensures is { IfSome result (λ n. Spells text.now n) }
-    ensures none { IfNone result ((n : ℕ) → n ≤ 255 → Spells text.now n → ⊥) }
+    ensures is { IfSome result (λ n. IsNumberOf text.now n) }
+    ensures none { IfNone result ((n : ℕ) → n ≤ 255 → IsNumberOf text.now n → ⊥) }
 {
     let number = read_number(text)?;
     if number <= 255 {
