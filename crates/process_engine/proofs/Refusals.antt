@@ -25,7 +25,7 @@ use Rattle.tool_text.specs.Fields.{parted}
 use Rattle.process_engine.specs.declared.process.Processing.{Processing}
 use Rattle.process_engine.specs.FillText.{IsFillText}
 use Rattle.process_engine.specs.Inputs.{AreFramesAt, AreValues, FitsFrames, IsFill, IsHeldFor}
-use Rattle.process_engine.specs.Inputs.{lent}
+use Rattle.process_engine.specs.Inputs.{frames_lent}
 use Rattle.process_engine.specs.Processing.{of_send_job}
 use Rattle.process_engine.specs.Refused.{AreReceivers, HasNoFill, IsHeldRefusal, IsJobRefusal}
 use Rattle.process_engine.specs.Refused.{IsReceiversRefusal, IsRefusalOfRead, IsRunRefusal}
@@ -119,7 +119,7 @@ one_fill text f g f_three g_three p q =
     ∙ sym (of_three g g_three)
 
 fits_at : (fill : List ℕ) (fs : List (Bor Raster)) (k : ℕ) (d : Bor Raster) → k < length fs
-    → FitsFrames fill (lent fs)
+    → FitsFrames fill (frames_lent fs)
     → AllByRecursion (FitsDepth (get_or fs k d).now.format) fill
 fits_at fill [] k d some fits = absurd (omega (arith, some))
 fits_at fill (f ∷ fs) zero d some fits = fits.0
@@ -130,7 +130,7 @@ pub unfit_fill : (text fill : List ℕ) (fs : List (Bor Raster)) (k : ℕ) (d : 
     → k < length fs → IsFillText text (get_or fill 0 0) (get_or fill 1 0) (get_or fill 2 0)
     → AreValues fill
     → (AllByRecursion (FitsDepth (get_or fs k d).now.format) fill → ⊥)
-    → HasNoFill text (lent fs)
+    → HasNoFill text (frames_lent fs)
 unfit_fill text fill fs k d some is values unfit = λ other other_is.
     unfit (subst (λ (l : List ℕ). AllByRecursion (FitsDepth (get_or fs k d).now.format) l)
     (one_fill text other fill other_is.values.three values.three other_is.is is)

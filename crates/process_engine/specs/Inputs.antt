@@ -63,8 +63,8 @@ raster_formats qs = map (λ q. q.format) qs
 -- ---- the same of frames that are lent
 
 -- the frames
-abbrev pub lent : List (Bor Raster) → List Raster
-lent fs = map (λ f. f.now) fs
+abbrev pub frames_lent : List (Bor Raster) → List Raster
+frames_lent fs = map (λ f. f.now) fs
 
 abbrev pub AreLentAt : ℕ → List State → List (Bor Raster) → Type 0
 AreLentAt ts rs fs =
