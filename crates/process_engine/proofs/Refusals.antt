@@ -164,7 +164,7 @@ send_refused (sending.Sink sent) j fs size is = tt
 
 -- where no fill fits the frames, that is the refusal
 pub fill_refused : (f : Fault) (j : Job) (w : Processing) (rs : List State) (held : Option Values)
-    (qs : List Raster) → AreFramesAt w.timestamp rs qs
+    (qs : List Raster) → AreFramesAt qs rs w.timestamp
     → (f ≡ Refused why.ProcessFill) × HasNoFill w.fill.now qs
     → OfRefusal f (IsJobRefusal j w rs held)
 fill_refused f j w rs held qs are is =
@@ -173,7 +173,7 @@ fill_refused f j w rs held qs are is =
 
 -- where what is held has another format, that is the refusal
 pub hold_refused : (f : Fault) (j : Job) (w : Processing) (rs : List State) (held : Option Values)
-    (qs : List Raster) (fill : List ℕ) → AreFramesAt w.timestamp rs qs → IsFill w.fill.now fill qs
+    (qs : List Raster) (fill : List ℕ) → AreFramesAt qs rs w.timestamp → IsFill fill w.fill.now qs
     → (f ≡ Refused why.ProcessHold) × (IsHeldFor held qs → ⊥)
     → OfRefusal f (IsJobRefusal j w rs held)
 hold_refused f j w rs held qs fill are fill_is is =

@@ -39,7 +39,7 @@ fits_lent fill (f ∷ fs) fits = (fits.0, fits_lent fill fs fits.1)
 -- a fill that was read and fits frames that are lent once more
 pub fill_lent : (text fill : List ℕ) (fs again : List (Bor Raster)) → again ≡ fs
     → IsFillText text (slice_index fill 0) (slice_index fill 1) (slice_index fill 2)
-    → AreValues fill → FitsLent fill again → IsFill text fill (frames_lent fs)
+    → AreValues fill → FitsLent fill again → IsFill fill text (frames_lent fs)
 fill_lent text fill fs again same is values fits = record {
   is = is;
   values = values;

@@ -10,7 +10,7 @@ use Rattle.tool_text.specs.Fields.{parted}
 use Rattle.tool_text.specs.Timestamps.{IsNumberOf}
 
 -- a word, and a number behind it
-pub record IsWordAndNumber (word text : List ℕ) (n : ℕ) : Type 0 where
+pub record IsWordAndNumber (text word : List ℕ) (n : ℕ) : Type 0 where
   pub digits : List ℕ
   pub text_is : text ≡ word ++ digits
   pub is : IsNumberOf digits n
@@ -34,7 +34,7 @@ pub record IsWipeText (text : List ℕ) (w : WipeShape) : Type 0 where
 abbrev pub IsJobText : List ℕ → Job → Type 0
 IsJobText text (Limit Nominal) = text ≡ codes "limit:nominal"
 IsJobText text (Limit VideoData) = text ≡ codes "limit:video"
-IsJobText text (Gain g) = IsWordAndNumber (codes "gain:") text g
+IsJobText text (Gain g) = IsWordAndNumber text (codes "gain:") g
 IsJobText text ToYcc444 = text ≡ codes "ycc444"
 IsJobText text ToYcc422 = text ≡ codes "ycc422"
 IsJobText text (Wipe w) = IsWipeText text w

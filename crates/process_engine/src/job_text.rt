@@ -54,8 +54,8 @@ fn read_plain(text: &[u8]) -> Option<Job>
 
 /// The number of a gain.
 fn read_gain(text: &[u8]) -> Option<u32>
-    ensures is { IfSome result (λ g. IsWordAndNumber (codes "gain:") text.now g) }
-    ensures none { IfNone result ((g : ℕ) → IsWordAndNumber (codes "gain:") text.now g → ⊥) }
+    ensures is { IfSome result (λ g. IsWordAndNumber text.now (codes "gain:") g) }
+    ensures none { IfNone result ((g : ℕ) → IsWordAndNumber text.now (codes "gain:") g → ⊥) }
 {
     let digits = after_word(text, b"gain:")?;
     read_number(digits)

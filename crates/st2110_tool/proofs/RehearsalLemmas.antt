@@ -42,7 +42,7 @@ stamp_none text rest e none s all =
 -- ---- what is no line of a number or a window
 
 pub number_none : (word text rest : List ℕ) → text ≡ word ++ rest → (IsNumber rest → ⊥) → (n : ℕ)
-    → IsNumberLine word text n → ⊥
+    → IsNumberLine text word n → ⊥
 number_none word text rest e none n all =
     none (subst IsNumber (same_rest word all.rest rest (sym all.text_is ∙ e)) all.number_is.is)
 

@@ -34,7 +34,7 @@ pub record IsStampLine (text : List ℕ) (s : Stamp) : Type 0 where
   pub fields : AreStamp rest s
 
 -- a line of a word and a number, as `max OCTETS` or `receivers N` (own)
-pub record IsNumberLine (word text : List ℕ) (n : ℕ) : Type 0 where
+pub record IsNumberLine (text word : List ℕ) (n : ℕ) : Type 0 where
   pub rest : List ℕ
   pub text_is : text ≡ word ++ rest
   pub number_is : IsNumberOf rest n

@@ -44,8 +44,8 @@ fn read_stamp(text: &[u8]) -> Option<Stamp>
 
 /// What a line of a word, its space and a number says.
 pub(crate) fn read_number_line(text: &[u8], word: &[u8]) -> Option<u32>
-    ensures is { IfSome result (λ n. IsNumberLine word.now text.now n) }
-    ensures none { IfNone result ((n : ℕ) → IsNumberLine word.now text.now n → ⊥) }
+    ensures is { IfSome result (λ n. IsNumberLine text.now word.now n) }
+    ensures none { IfNone result ((n : ℕ) → IsNumberLine text.now word.now n → ⊥) }
 {
     let rest = after_word(text, word)?;
     let number = read_number(rest)?;
