@@ -29,7 +29,7 @@ use Rattle.process_engine.specs.Inputs.{frames_lent}
 use Rattle.process_engine.specs.Processing.{of_send_job}
 use Rattle.process_engine.specs.Refused.{AreReceivers, HasNoFill, IsHeldRefusal, IsJobRefusal}
 use Rattle.process_engine.specs.Refused.{IsReceiversRefusal, IsRefusalOfRead, IsRunRefusal}
-use Rattle.process_engine.specs.Refused.{IsSendRefusal, OfFormats, OfFrames, SaysJob}
+use Rattle.process_engine.specs.Refused.{IsJobOrPlanRefusal, OfFormats, OfFrames, SaysJob}
 
 -- ---- what holds of a refusal
 
@@ -143,7 +143,7 @@ either none (inl x) = absurd (none x)
 either none (inr y) = y
 
 pub send_refused : (e : SendJobFault) (j : Job) (fs : List Format) (size : ℕ)
-    → IsSendFault e j fs size → OfRefusal (of_send_job e) (λ r. IsSendRefusal j size r fs)
+    → IsSendFault e j fs size → OfRefusal (of_send_job e) (λ r. IsJobOrPlanRefusal j size r fs)
 send_refused (sending.Job job_fault.NoMemory) j fs size is = tt
 send_refused (sending.Job job_fault.FormatsDiffer) j fs size is =
     either (λ no. let e : job_fault.FormatsDiffer ≡ job_fault.NoMemory = no.0 in cc) is
@@ -185,7 +185,7 @@ hold_refused f j w rs held qs fill are fill_is is =
 
 -- a refusal of the job or the size, as one of the job of receivers
 pub sent_refusal : (j : Job) (w : Processing) (rs : List State) (held : Option Values)
-    (r : Refusal) → OfFrames w rs (OfFormats w held (IsSendRefusal j w.max_octets r))
+    (r : Refusal) → OfFrames w rs (OfFormats w held (IsJobOrPlanRefusal j w.max_octets r))
     → IsJobRefusal j w rs held r
 sent_refusal j w rs held why.ProcessFrame has = absurd has.holds.holds
 sent_refusal j w rs held why.ProcessFill has = absurd has.holds.holds

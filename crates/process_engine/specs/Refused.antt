@@ -53,10 +53,10 @@ pub record OfFormats (w : Processing) (held : Option Values) (Holds : List Forma
   pub holds : Holds (raster_formats qs)
 
 -- the refusals of the job itself, and of its packets' size
-abbrev pub IsSendRefusal : Job → ℕ → Refusal → List Format → Type 0
-IsSendRefusal job size (refusal.Job e) fs = IsRefusal e job fs
-IsSendRefusal job size (refusal.Plan plan.BadPacketSize) fs = IsBadSize job fs size
-IsSendRefusal job size r fs = ⊥
+abbrev pub IsJobOrPlanRefusal : Job → ℕ → Refusal → List Format → Type 0
+IsJobOrPlanRefusal job size (refusal.Job e) fs = IsRefusal e job fs
+IsJobOrPlanRefusal job size (refusal.Plan plan.BadPacketSize) fs = IsBadSize job fs size
+IsJobOrPlanRefusal job size r fs = ⊥
 
 -- the refusals of a job of receivers and a held picture
 abbrev pub IsJobRefusal : Job → Processing → List State → Option Values → Refusal → Type 0
@@ -64,7 +64,7 @@ IsJobRefusal job w rs held refusal.ProcessFrame = LacksFrame w.timestamp rs
 IsJobRefusal job w rs held refusal.ProcessFill = OfFrames w rs (HasNoFill w.fill.now)
 IsJobRefusal job w rs held refusal.ProcessHold = OfFrames w rs (DiffersHeld w held)
 IsJobRefusal job w rs held r =
-    OfFrames w rs (OfFormats w held (IsSendRefusal job w.max_octets r))
+    OfFrames w rs (OfFormats w held (IsJobOrPlanRefusal job w.max_octets r))
 
 -- ---- words and files
 

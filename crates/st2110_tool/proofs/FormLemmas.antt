@@ -13,7 +13,7 @@ use Rattle.st2110_tool.specs.declared.line.TraceLine.{TraceLine}
 use Rattle.st2110_tool.specs.declared.line.TraceLine.TheVariants.{Datagram, Slide, Numbers, Cell}
 use Rattle.tool_text.specs.Fields.{parted}
 use Rattle.st2110_tool.specs.Forms.{AreFormat, AreFour, AreHeightAndRate, AreOpening, AreTwo}
-use Rattle.st2110_tool.specs.Forms.{IsFormatLine, IsOpenLine, IsRate, IsSourceText, IsTraceLine}
+use Rattle.st2110_tool.specs.Forms.{IsFormatLine, IsOpenLine, IsRateText, IsSourceText, IsTraceLine}
 use Rattle.st_format.specs.Words.{sampling_text}
 use Rattle.tool_text.specs.Timestamps.{IsNumberOf}
 
@@ -85,12 +85,12 @@ if_some_map (Some x) f p = f x p
 -- ---- what is no line `format`
 
 pub rate_none : (text first rate : List ℕ) → parted 32 text ≡ Some (first, rate)
-    → ((n d : ℕ) → IsRate rate n d → ⊥)
+    → ((n d : ℕ) → IsRateText rate n d → ⊥)
     → (height n d : ℕ) → AreHeightAndRate text height n d → ⊥
 rate_none text first rate e none height n d all =
     let a : rate ≡ all.rate = (some_pair_parts first all.first rate all.rate
     (sym e ∙ all.parts)).1 in
-    none n d (subst (λ (l : List ℕ). IsRate l n d) (sym a) all.rate_is)
+    none n d (subst (λ (l : List ℕ). IsRateText l n d) (sym a) all.rate_is)
 
 pub sampling_none : (text word behind : List ℕ) → parted 32 text ≡ Some (word, behind)
     → ((s : Sampling) → word ≢ sampling_text s)

@@ -32,7 +32,7 @@ pub record AreFour (text : List ℕ) (p : Place) : Type 0 where
   pub last_are : AreTwo last p.column p.component
 
 -- two numbers, parted by the first stroke
-pub record IsRate (text : List ℕ) (n d : ℕ) : Type 0 where
+pub record IsRateText (text : List ℕ) (n d : ℕ) : Type 0 where
   pub over : List ℕ
   pub under : List ℕ
   pub parts : parted 47 text ≡ Some (over, under)
@@ -45,7 +45,7 @@ pub record AreHeightAndRate (text : List ℕ) (height n d : ℕ) : Type 0 where
   pub rate : List ℕ
   pub parts : parted 32 text ≡ Some (first, rate)
   pub height_is : IsNumberOf first height
-  pub rate_is : IsRate rate n d
+  pub rate_is : IsRateText rate n d
 
 -- Six fields, parted by spaces but the last two, which a stroke parts (own)
 pub record AreFormat (text : List ℕ) (f : FormatLine) : Type 0 where

@@ -73,7 +73,7 @@ pub record AreReceiverAndNumber (text : List ℕ) (receiver n : ℕ) : Type 0 wh
   pub eight_bits : receiver ≤ 255
 
 -- two receivers of 8 bits
-pub record AreReceivers (text : List ℕ) (into from : ℕ) : Type 0 where
+pub record AreTwoReceivers (text : List ℕ) (into from : ℕ) : Type 0 where
   pub both : AreTwo text into from
   pub into_bits : into ≤ 255
   pub from_bits : from ≤ 255
@@ -86,4 +86,4 @@ IsEventLine text (Arrive to by number) =
 IsEventLine text (Slide at next) =
     (rest : List ℕ) × (text ≡ codes "slide " ++ rest) × AreReceiverAndNumber rest at next
 IsEventLine text (Merge into from) =
-    (rest : List ℕ) × (text ≡ codes "merge " ++ rest) × AreReceivers rest into from
+    (rest : List ℕ) × (text ≡ codes "merge " ++ rest) × AreTwoReceivers rest into from

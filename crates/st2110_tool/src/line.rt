@@ -3,7 +3,7 @@ ghost use Rattle.std.specs.Prelude.{◌≡◌, ◌≤◌, ◌<◌, ℕ, List, Ok
 ghost use Rattle.std.specs.Prelude.{IfOk, IfSome, IsFalse, IsTrue};
 ghost use Rattle.hex.specs.Hex.{decode_of};
 ghost use Rattle.st2110_tool.specs.Forms.{AreFormat, AreFour, AreHeightAndRate, AreOpening, AreTwo};
-ghost use Rattle.st2110_tool.specs.Forms.{IsFormatLine, IsOctetsText, IsOpenLine, IsRate};
+ghost use Rattle.st2110_tool.specs.Forms.{IsFormatLine, IsOctetsText, IsOpenLine, IsRateText};
 ghost use Rattle.st2110_tool.specs.Forms.{IsWindowText, IsSourceText, IsTraceLine};
 ghost use Rattle.tool_text.specs.Timestamps.{IsNumberOf};
 ghost use Rattle.st_format.specs.Pgroup.{bits_of};
@@ -94,8 +94,8 @@ fn read_height_and_rate(text: &[u8]) -> Option<(u32, u32, u32)>
 
 /// Two numbers, parted by a stroke.
 fn read_rate(text: &[u8]) -> Option<(u32, u32)>
-    ensures is { IfSome result (λ p. IsRate text.now p.0 p.1) }
-    ensures none { IfNone result ((n d : ℕ) → IsRate text.now n d → ⊥) }
+    ensures is { IfSome result (λ p. IsRateText text.now p.0 p.1) }
+    ensures none { IfNone result ((n d : ℕ) → IsRateText text.now n d → ⊥) }
 {
     let (n, d) = split_once(text, b'/')?;
     Some((read_number(n)?, read_number(d)?))

@@ -4,8 +4,8 @@ ghost use Rattle.st_format.specs.declared.path.Path.{Path as ByPath};
 ghost use Rattle.packet_plan.specs.declared.stamp.Stamp.{Stamp as AStamp};
 ghost use Rattle.path_merge.specs.declared.schedule.event.Event.{Event as AnEvent};
 ghost use Rattle.tool_text.specs.Timestamps.{IsNumberOf};
-ghost use Rattle.st2110_tool.specs.RehearsalForms.{AreArrival, AreReceiverAndNumber, AreReceivers};
-ghost use Rattle.st2110_tool.specs.RehearsalForms.{AreStamp, IsEventLine, IsNumberLine};
+ghost use Rattle.st2110_tool.specs.RehearsalForms.{AreArrival, AreReceiverAndNumber, AreStamp};
+ghost use Rattle.st2110_tool.specs.RehearsalForms.{AreTwoReceivers, IsEventLine, IsNumberLine};
 ghost use Rattle.st2110_tool.specs.RehearsalForms.{IsStampLine, IsWindowLine, path_text};
 
 use crate::line::{read_payload_type, read_two, read_window};
@@ -110,8 +110,8 @@ fn read_receiver_and_number(text: &[u8]) -> Option<(u8, u32)>
 
 /// Two receivers.
 fn read_receivers(text: &[u8]) -> Option<(u8, u8)>
-    ensures is { IfSome result (λ p. AreReceivers text.now p.0 p.1) }
-    ensures none { IfNone result ((into from : ℕ) → AreReceivers text.now into from → ⊥) }
+    ensures is { IfSome result (λ p. AreTwoReceivers text.now p.0 p.1) }
+    ensures none { IfNone result ((into from : ℕ) → AreTwoReceivers text.now into from → ⊥) }
 {
     let (into, from) = split_once(text, b' ')?;
     Some((read_receiver(into)?, read_receiver(from)?))

@@ -3,7 +3,7 @@ use Rattle.std.proofs.lemmas.Result.{err_from_is_err_and}
 use Rattle.key_mix.specs.Sending.{IsSendable, input_formats, settled_inputs}
 use Rattle.process_engine.specs.Inputs.{IsHeldFor, frames_lent, raster_formats, settled_frames}
 use Rattle.process_engine.specs.Processing.{TakesJob}
-use Rattle.process_engine.specs.Refused.{HasNoFill, IsSendRefusal}
+use Rattle.process_engine.specs.Refused.{HasNoFill, IsJobOrPlanRefusal}
 use Rattle.file_engines.proofs.Refusals.{if_err_map, of_refusal_map}
 use Rattle.process_engine.proofs.Refusals.{fill_refused, hold_refused, if_ok_both, sent_refusal}
 use Rattle.process_engine.proofs.Settling.{fill_lent, some_lent}
@@ -95,7 +95,7 @@ returns-clause-refusal g c =
             c.in_ok-fill.ensures.is c.in_ok-fill.ensures.values c.in_ok-fill.ensures.fits;
         held_is = subst (λ l. IsHeldFor held (frames_lent l)) second c.in_ok-check_held.ensures.is;
         holds =
-            subst (λ l. IsSendRefusal c.args.job.now c.args.wanted.max_octets r l) formats
+            subst (λ l. IsJobOrPlanRefusal c.args.job.now c.args.wanted.max_octets r l) formats
             refused;
       };
     })) is) c.send.ensures.refusal
