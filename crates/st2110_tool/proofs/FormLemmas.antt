@@ -13,8 +13,9 @@ use Rattle.st2110_tool.specs.declared.line.TraceLine.{TraceLine}
 use Rattle.st2110_tool.specs.declared.line.TraceLine.TheVariants.{Datagram, Slide, Numbers, Cell}
 use Rattle.tool_text.specs.Fields.{parted}
 use Rattle.st2110_tool.specs.Forms.{AreFormat, AreFour, AreHeightAndRate, AreOpening, AreTwo}
-use Rattle.st2110_tool.specs.Forms.{IsFormatLine, IsOpenLine, IsRateText, IsSourceText, IsTraceLine}
+use Rattle.st2110_tool.specs.Forms.{IsFormatLine, IsOpenLine, IsRateText, IsTraceLine}
 use Rattle.st_format.specs.Words.{sampling_text}
+use Rattle.tool_text.specs.Sources.{IsSourceText}
 use Rattle.tool_text.specs.Timestamps.{IsNumberOf}
 
 pub if_none : {X P : Type 0} (r : Option X) → r ≡ None → P → IfNone r P

@@ -1,5 +1,5 @@
 -- The forms of a script's lines.
-use Rattle.std.specs.Prelude.{◌≡◌, ◌≤◌, ℕ, List, [], ◌∷◌, ◌++◌, codes, Option, None, Some, Ok}
+use Rattle.std.specs.Prelude.{◌≡◌, ◌≤◌, ℕ, List, [], ◌∷◌, ◌++◌, codes, Option, Some, Ok}
 use Rattle.hex.specs.Hex.{decode_of}
 use Rattle.st_format.specs.declared.path.Path.TheVariants as path
 use Rattle.st_format.specs.Pgroup.{bits_of}
@@ -9,6 +9,7 @@ use Rattle.st2110_tool.specs.declared.line.Place.{Place}
 use Rattle.st2110_tool.specs.declared.line.TraceLine.{TraceLine}
 use Rattle.st2110_tool.specs.declared.line.TraceLine.TheVariants.{Datagram, Slide, Numbers, Cell}
 use Rattle.tool_text.specs.Fields.{parted}
+use Rattle.tool_text.specs.Sources.{IsSourceText}
 use Rattle.tool_text.specs.Timestamps.{AreTimestamps, IsNumberOf}
 
 -- two numbers, parted by the first space
@@ -66,11 +67,6 @@ pub record IsFormatLine (text : List ℕ) (f : FormatLine) : Type 0 where
   pub rest : List ℕ
   pub text_is : text ≡ codes "format " ++ rest
   pub fields : AreFormat rest f
-
--- a number, or `any` for none
-abbrev pub IsSourceText : List ℕ → Option ℕ → Type 0
-IsSourceText text None = text ≡ codes "any"
-IsSourceText text (Some n) = IsNumberOf text n
 
 -- a payload type of 7 bits, a source and a window, parted by spaces
 pub record AreOpening (text : List ℕ) (payload_type : ℕ) (ssrc : Option ℕ)

@@ -4,13 +4,13 @@ ghost use Rattle.std.specs.Prelude.{IfOk, IfSome, IsFalse, IsTrue};
 ghost use Rattle.hex.specs.Hex.{decode_of};
 ghost use Rattle.st2110_tool.specs.Forms.{AreFormat, AreFour, AreHeightAndRate, AreOpening, AreTwo};
 ghost use Rattle.st2110_tool.specs.Forms.{IsFormatLine, IsOctetsText, IsOpenLine, IsRateText};
-ghost use Rattle.st2110_tool.specs.Forms.{IsWindowText, IsSourceText, IsTraceLine};
+ghost use Rattle.st2110_tool.specs.Forms.{IsWindowText, IsTraceLine};
 ghost use Rattle.tool_text.specs.Timestamps.{IsNumberOf};
 ghost use Rattle.st_format.specs.Pgroup.{bits_of};
 
 use st_format::{Depth, Path, Sampling, read_number};
 use std::alloc::{AllocError, Allocator};
-use tool_text::{after_word, read_timestamps, split_once};
+use tool_text::{after_word, read_source, read_timestamps, split_once};
 
 /// A line `format S B W H N/D`.
 #[derive(Clone, Copy)]
@@ -153,17 +153,6 @@ pub(crate) fn read_payload_type(text: &[u8]) -> Option<u8>
     } else {
         None
     }
-}
-
-/// A pinned SSRC, or none.
-fn read_source(text: &[u8]) -> Option<Option<u32>>
-    ensures is { IfSome result (λ source. IsSourceText text.now source) }
-    ensures none { IfNone result ((source : Option ℕ) → IsSourceText text.now source → ⊥) }
-{
-    if text == b"any".as_slice() {
-        return Some(None);
-    }
-    Some(Some(read_number(text)?))
 }
 
 /// The timestamps of a window, and none where the text isn't of its form.
