@@ -1,0 +1,22 @@
+//! Texts, parted at a separator.
+ghost use Rattle.std.specs.Prelude.{◌≡◌, ◌<◌, ◌==◌, IfSome, length, position};
+ghost use Rattle.std.specs.Option.{option_map};
+ghost use Rattle.st_format.specs.Text.{parted};
+
+/// The text before the first `separator`, and the text behind it; none where it has no separator.
+pub fn split_once(text: &[u8], separator: u8) -> Option<(&[u8], &[u8])>
+    ensures parts { option_map (λ p. (p.0.now, p.1.now)) result ≡ parted separator text.now }
+    ensures shorter { IfSome result (λ p. length p.1.now < length text.now) }
+{
+    match place_of(text, separator) {
+        Some(place) => Some((&text[..place], &text[place + 1..])),
+        None => None,
+    }
+}
+
+/// The index of the first `octet`.
+fn place_of(text: &[u8], octet: u8) -> Option<usize>
+    ensures { result ≡ position (λ x. x == octet) text.now }
+{
+    text.iter().position(|x| *x == octet)
+}
