@@ -21,7 +21,7 @@ use Rattle.st_format.specs.declared.format.Format.{Format}
 use Rattle.st_format.specs.Member.{IsMember}
 use Rattle.st_format.specs.Picture.{FitsDepth, Values}
 use Rattle.st_format.specs.Raster.{Raster}
-use Rattle.tool_text.specs.Fields.{parted}
+use Rattle.st_format.specs.Text.{parted}
 use Rattle.process_engine.specs.declared.process.Processing.{Processing}
 use Rattle.process_engine.specs.FillText.{IsFillText}
 use Rattle.process_engine.specs.Inputs.{AreFramesAt, AreValues, FitsFrames, IsFill, IsHeldFor}

@@ -1,6 +1,6 @@
 -- The text of a fill (own).
 use Rattle.std.specs.Prelude.{◌≡◌, ℕ, List, Some}
-use Rattle.tool_text.specs.Fields.{parted}
+use Rattle.st_format.specs.Text.{parted}
 use Rattle.tool_text.specs.Timestamps.{IsNumberOf}
 
 -- three numbers, parted by commas: a value for each component

@@ -6,7 +6,7 @@ use Rattle.key_mix.specs.declared.Axis.TheVariants.{Columns, Rows}
 use Rattle.key_mix.specs.declared.Job.{Job}
 use Rattle.key_mix.specs.declared.Job.TheVariants.{Limit, Gain, ToYcc444, ToYcc422, Wipe, Key}
 use Rattle.key_mix.specs.declared.WipeShape.{WipeShape}
-use Rattle.tool_text.specs.Fields.{parted}
+use Rattle.st_format.specs.Text.{parted}
 use Rattle.tool_text.specs.Timestamps.{IsNumberOf}
 
 -- a word, and a number behind it

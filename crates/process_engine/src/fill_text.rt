@@ -4,8 +4,7 @@ ghost use Rattle.process_engine.specs.FillText.{IsFillText};
 ghost use Rattle.process_engine.specs.Inputs.{AreValues};
 ghost use Rattle.tool_text.specs.Timestamps.{IsNumberOf};
 
-use st_format::read_number;
-use tool_text::split_once;
+use st_format::{read_number, split_once};
 
 /// The values that a text says, one for each component: three numbers of 16 bits, parted by commas.
 /// Any other text is none.

@@ -5,8 +5,8 @@ ghost use Rattle.process_engine.specs.JobText.{axis_word};
 
 use bt709_fixed::RangeKind;
 use key_mix::{Axis, Job, WipeShape};
-use st_format::read_number;
-use tool_text::{after_word, split_once};
+use st_format::{read_number, split_once};
+use tool_text::after_word;
 
 /// The job that a text says: `limit:nominal`, `limit:video`, `gain:G`, `ycc444`, `ycc422`,
 /// `wipe:columns:P:S`, `wipe:rows:P:S` or `key`. Any other text is none.

@@ -14,7 +14,7 @@ use Rattle.frame_assembly.proofs.PackedLemmas.{groups_agree, sizes}
 use Rattle.frame_assembly.proofs.Segments.{sample_count_groups}
 use Rattle.path_merge.specs.declared.schedule.event.Event.{Event}
 use Rattle.path_merge.specs.declared.schedule.event.Event.TheVariants.{Send, Arrive, Slide, Merge}
-use Rattle.tool_text.specs.Fields.{parted}
+use Rattle.st_format.specs.Text.{parted}
 use Rattle.st2110_tool.specs.Forms.{AreTwo}
 use Rattle.st_format.specs.Words.{IsNumber}
 use Rattle.st2110_tool.specs.RehearsalForms.{AreArrival, AreReceiverAndNumber, AreTwoReceivers}

@@ -8,7 +8,7 @@ use Rattle.st2110_tool.specs.declared.line.FormatLine.{FormatLine}
 use Rattle.st2110_tool.specs.declared.line.Place.{Place}
 use Rattle.st2110_tool.specs.declared.line.TraceLine.{TraceLine}
 use Rattle.st2110_tool.specs.declared.line.TraceLine.TheVariants.{Datagram, Slide, Numbers, Cell}
-use Rattle.tool_text.specs.Fields.{parted}
+use Rattle.st_format.specs.Text.{parted}
 use Rattle.tool_text.specs.Sources.{IsSourceText}
 use Rattle.tool_text.specs.Timestamps.{AreTimestamps, IsNumberOf}
 

@@ -9,7 +9,7 @@ use Rattle.st_format.specs.Samples.{Spells}
 use Rattle.packet_plan.specs.declared.stamp.Stamp.{Stamp}
 use Rattle.path_merge.specs.declared.schedule.event.Event.{Event}
 use Rattle.path_merge.specs.declared.schedule.event.Event.TheVariants.{Send, Arrive, Slide, Merge}
-use Rattle.tool_text.specs.Fields.{parted}
+use Rattle.st_format.specs.Text.{parted}
 use Rattle.st2110_tool.specs.Forms.{AreTwo, IsWindowText}
 use Rattle.tool_text.specs.Timestamps.{IsNumberOf}
 

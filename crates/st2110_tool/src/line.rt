@@ -8,9 +8,9 @@ ghost use Rattle.st2110_tool.specs.Forms.{IsWindowText, IsTraceLine};
 ghost use Rattle.tool_text.specs.Timestamps.{IsNumberOf};
 ghost use Rattle.st_format.specs.Pgroup.{bits_of};
 
-use st_format::{Depth, Path, Sampling, read_number};
+use st_format::{Depth, Path, Sampling, read_number, split_once};
 use std::alloc::{AllocError, Allocator};
-use tool_text::{after_word, read_source, read_timestamps, split_once};
+use tool_text::{after_word, read_source, read_timestamps};
 
 /// A line `format S B W H N/D`.
 #[derive(Clone, Copy)]

@@ -11,9 +11,9 @@ ghost use Rattle.st2110_tool.specs.RehearsalForms.{IsStampLine, IsWindowLine, pa
 use crate::line::{read_payload_type, read_two, read_window};
 use packet_plan::Stamp;
 use path_merge::Event;
-use st_format::{Path, read_number};
+use st_format::{Path, read_number, split_once};
 use std::alloc::{AllocError, Allocator};
-use tool_text::{after_word, split_once};
+use tool_text::after_word;
 
 /// What a line `stamp PT FIRST TIMESTAMP SSRC` says.
 pub(crate) fn read_stamp_line(text: &[u8]) -> Option<Stamp>

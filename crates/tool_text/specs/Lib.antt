@@ -1,5 +1,4 @@
 pub mod Status
-pub mod Fields
 pub mod Timestamps
 pub mod Sources
 pub mod Telling

@@ -2,7 +2,7 @@
 use Rattle.std.specs.Prelude.{◌≡◌, ℕ, List, [], ◌∷◌, None, Some}
 use Rattle.std.specs.Str.Parse.{digits_value}
 use Rattle.st_format.specs.Words.{IsNumber}
-use Rattle.tool_text.specs.Fields.{parted}
+use Rattle.st_format.specs.Text.{parted}
 
 -- a number of this value
 pub record IsNumberOf (text : List ℕ) (n : ℕ) : Type 0 where

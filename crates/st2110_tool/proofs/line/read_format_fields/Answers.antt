@@ -1,5 +1,5 @@
 use Rattle.std.proofs.Common.{rules, List, ℕ, Some, sym, subst, ◌≡◌}
-use Rattle.tool_text.specs.Fields.{parted}
+use Rattle.st_format.specs.Text.{parted}
 use Rattle.tool_text.specs.Timestamps.{IsNumberOf}
 use Rattle.st2110_tool.proofs.FormLemmas.{depth_none, height_none, if_none, sampling_none}
 use Rattle.st2110_tool.proofs.line.read_format_fields.Goals as goal
