@@ -11,7 +11,7 @@ use Rattle.st_format.specs.Pgroup.{bits_of}
 use Rattle.st_format.specs.Picture.{FitsDepth, IsPicture, Values}
 use Rattle.st_format.proofs.Numbering.{number_of-below}
 use Rattle.lane_kernels.specs.Formulas.{cb, cr, luma}
-use Rattle.bt709_fixed.specs.Operations.{IsOf, IsResampled, matrixed, matrixed_at, ycc444_value}
+use Rattle.bt709_fixed.specs.Operations.{IsOf, IsResampled, matrix_component, matrixed_at, ycc444_value}
 use Rattle.bt709_fixed.proofs.Made.{all_from_each, component-number, some_bits}
 use Rattle.bt709_fixed.proofs.Ranges.{video_data_fits}
 
@@ -52,7 +52,7 @@ chosen_fits m x y z true u p q r = p
 chosen_fits m x y z false true p q r = q
 chosen_fits m x y z false false p q r = r
 
-matrixed_fits : (n c r g b : ℕ) → 8 ≤ n → matrixed n c r g b < 2 ^ n
+matrixed_fits : (n c r g b : ℕ) → 8 ≤ n → matrix_component n c r g b < 2 ^ n
 matrixed_fits n c r g b h =
     chosen_fits (2 ^ n) _ _ _ (c == 0) (c == 1) (video_data_fits n (luma r g b) h)
     (video_data_fits n (cb n r g b) h) (video_data_fits n (cr n r g b) h)
@@ -111,7 +111,7 @@ matrixed_picture v f new s r w long each =
             let y = pixel_at v.format f at 1 s r in
             let z = pixel_at v.format f at 2 s r in
             each k (omega (arith, below, whole))
-            ∙ (λ i. matrixed n (same i) (get_or v.samples (x i) 0) (get_or v.samples (y i) 0)
+            ∙ (λ i. matrix_component n (same i) (get_or v.samples (x i) 0) (get_or v.samples (y i) 0)
             (get_or v.samples (z i) 0));
       },
     )
