@@ -26,7 +26,7 @@ whole_pixels f s =
     let is : f.height * (f.width * 3) ≡ f.height * f.width * 3 = omega arith in
     ap (λ x. f.height * x % 3) (row_of_rgb f s) ∙ ap (λ x. x % 3) is ∙ omega arith
 
-pub count_same : (f g : Format) → f.sampling ≡ Rgb → IsResampled Ycc444 f g
+pub count_same : (f g : Format) → f.sampling ≡ Rgb → IsResampled g f Ycc444
     → sample_count g ≡ sample_count f
 count_same f g s r =
     (λ i. r.height i * row_of_ycc g r.sampling i) ∙ (λ i. f.height * (r.width i * 3))
@@ -72,7 +72,7 @@ unfolding in_pixel
 in_pixel-below c = chosen_fits 3 1 0 2 (c == 0) (c == 1) (omega arith) (omega arith) (omega arith)
 
 -- the sample of another component in the same pixel
-pixel_at : (f g : Format) (p : Position) (c : ℕ) → f.sampling ≡ Rgb → IsResampled Ycc444 f g
+pixel_at : (f g : Format) (p : Position) (c : ℕ) → f.sampling ≡ Rgb → IsResampled g f Ycc444
     → 3 * (number_of g p / 3) + c
     ≡ number_of f (record { row = p.row; column = p.column; component = c })
 pixel_at f g p c s r =
@@ -85,7 +85,7 @@ pixel_at f g p c s r =
     ∙ sym (number_rgb f (record { row = p.row; column = p.column; component = c }) s)
 
 pub matrixed_picture : (v : Values) (f : Format) (new : List ℕ) → v.format.sampling ≡ Rgb
-    → IsResampled Ycc444 v.format f → IsPicture v
+    → IsResampled f v.format Ycc444 → IsPicture v
     → length new ≡ length v.samples
     → ((k : ℕ) → k < length new → get_or new k 0 ≡ matrixed_at (bits_of v.format.depth) v.samples k)
     → IsPicture (record { format = f; samples = new })

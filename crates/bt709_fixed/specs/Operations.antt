@@ -126,7 +126,7 @@ abbrev pub ycc422_value : Values → Position → ℕ
 ycc422_value v at = value_at v at
 
 -- f is g but for its sampling
-pub record IsResampled (s : Sampling) (g f : Format) : Type 0 where
+pub record IsResampled (f g : Format) (s : Sampling) : Type 0 where
   pub sampling : f.sampling ≡ s
   pub depth : f.depth ≡ g.depth
   pub width : f.width ≡ g.width
