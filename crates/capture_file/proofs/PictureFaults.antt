@@ -25,7 +25,7 @@ use Rattle.capture_file.specs.PictureFaults.{HasCutGroups, HasHead, HasNoFormat,
 use Rattle.capture_file.specs.PictureFaults.{HasTrailing, IsCutPicture, IsFormat, PictureFault}
 use Rattle.capture_file.specs.PictureFaults.IsCutPicture.{Kind, Block, Groups}
 use Rattle.capture_file.specs.PictureFile.{Shown, nothing_at, one_at, one_by, picture_at, raster_at}
-use Rattle.capture_file.specs.PictureFile.{raster_octets, shows}
+use Rattle.capture_file.specs.PictureFile.{raster_octets, shown_by}
 use Rattle.capture_file.specs.StateFile.{format_text}
 use Rattle.capture_file.proofs.BlockFaults.{block_again, block_fails, block_read}
 use Rattle.capture_file.proofs.Failing.{differ, field_fails, field_short, field_whole, not_both}
@@ -62,7 +62,7 @@ abbrev read_samples : Fields → Part → Result Part FileFault
 read_samples f x = Ok (values_in (bits_of f.depth) x.0, x.1)
 
 abbrev showing : Fields → List ℕ → ⊤ × List ℕ → Answer
-showing f samples e = Ok (shows f samples, e.1)
+showing f samples e = Ok (shown_by f samples, e.1)
 
 abbrev read_end : Fields → Part → Answer
 read_end f s = nothing_at s.1 >>= showing f s.0
@@ -315,7 +315,7 @@ end_fault f behind octets x e head is h =
             long = longer (length behind) (length x.1) (raster_octets f) r.rest n.1;
           } in
           subst (λ (k : FileFault). PictureFault k octets) n.0 w
-      | inr u ↦ absurd (not_both (Shown × List ℕ) (shows f x.0, u.first.1) e u.next)
+      | inr u ↦ absurd (not_both (Shown × List ℕ) (shown_by f x.0, u.first.1) e u.next)
     ]
 
 raster_short : (f : Fields) (behind : List ℕ) → length behind < raster_octets f

@@ -42,8 +42,8 @@ moment_after paths moment [] = moment
 moment_after paths moment (d ∷ ds) = moment_after paths (moment_behind paths moment) ds
 
 -- the capture of a text and datagrams
-abbrev pub written : Paths → List ℕ → List (List ℕ) → List ℕ
-written paths text datagrams = front_text Two text ++ records_text (entries_from paths 0 datagrams)
+abbrev pub written_text : Paths → List ℕ → List (List ℕ) → List ℕ
+written_text paths text datagrams = front_text Two text ++ records_text (entries_from paths 0 datagrams)
 
 -- the first of each two
 abbrev pub first_of_two : List Entry → List (List ℕ)
@@ -101,7 +101,7 @@ pub record IsWritten (paths : Paths) (text_len moment : ℕ) (held : List ℕ) :
   pub text_len_is : length text ≡ text_len
   pub fit : AllByRecursion IsDatagram datagrams
   pub moment_is : moment_after paths 0 datagrams ≡ moment
-  pub whole : held ≡ written paths text datagrams
+  pub whole : held ≡ written_text paths text datagrams
 
 -- What a writer's sink holds, where it tells it: until a fault, the capture of a text and
 -- datagrams.
