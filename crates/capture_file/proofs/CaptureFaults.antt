@@ -352,7 +352,7 @@ one_capture_fault limit e f octets p q
 -- a capture within the limit, or a fault
 abbrev CaptureOr : ℕ → List ℕ → Type 0
 CaptureOr limit octets =
-    ((c : Content) × IsCapture c octets × (length c.records ≤ limit))
+    ((c : Content) × IsCapture octets c × (length c.records ≤ limit))
     ⊎ ((f : FileFault) × CaptureFault limit f octets)
 
 either : (limit : ℕ) (octets : List ℕ) (r : Result (Content × List ℕ) FileFault) → AreOctets octets

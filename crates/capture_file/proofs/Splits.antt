@@ -288,7 +288,7 @@ front_again Two text rest has =
     ∙ text_again text rest has
 
 -- what is a capture is read as what it says
-pub capture_again : (c : Content) (octets : List ℕ) (limit : ℕ) → IsCapture c octets
+pub capture_again : (c : Content) (octets : List ℕ) (limit : ℕ) → IsCapture octets c
     → length c.records ≤ limit → capture_at limit octets ≡ Ok (c, [])
 unfolding capture_at
 capture_again c octets limit is le =
@@ -306,7 +306,7 @@ abbrev content_in : Content → Result (Content × List ℕ) FileFault → Conte
 content_in c (Ok x) = x.0
 content_in c (Err f) = c
 
-pub one : (c d : Content) (octets : List ℕ) → IsCapture c octets → IsCapture d octets → c ≡ d
+pub one : (c d : Content) (octets : List ℕ) → IsCapture octets c → IsCapture octets d → c ≡ d
 one c d octets p q =
     let limit : ℕ = length c.records + length d.records in
     let a : said c.text c.records [] ≡ capture_at limit octets =
@@ -344,7 +344,7 @@ pub only_read : {A : Type 0} (limit : ℕ) (old new : Option (List ℕ))
     (r : Result (Capture A) FileFault)
     → IfOk r (λ v. Takes (capture_at limit) old new (capture_seen v))
     → IfErr r (λ f. Fails (capture_at limit) old f)
-    → (c : Content) (octets : List ℕ) → old ≡ Some octets → IsCapture c octets
+    → (c : Content) (octets : List ℕ) → old ≡ Some octets → IsCapture octets c
     → length c.records ≤ limit → MatchResult r (λ v. capture_seen v ≡ c) IsMachine
 only_read limit old new (Ok v) p q c octets told is le =
     only_ok c (capture_seen v) limit octets new (capture_again c octets limit is le)

@@ -51,7 +51,7 @@ RecordFault fault octets = ⊥
 -- A capture stands at the front, and these octets behind it.
 pub record HasBehind (capture : Content) (behind octets : List ℕ) : Type 0 where
   pub front : List ℕ
-  pub is : IsCapture capture front
+  pub is : IsCapture front capture
   pub whole : octets ≡ front ++ behind
 
 -- Version 02, and behind it the octets end within the two of the text's length, or within as many

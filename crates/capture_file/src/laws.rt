@@ -37,13 +37,13 @@ pub fn turns_of_run()
 
 /// What is a capture is read as what it says.
 pub fn capture_read()
-    ensures { (c : Content) (octets : List ℕ) (limit : ℕ) → IsCapture c octets
+    ensures { (c : Content) (octets : List ℕ) (limit : ℕ) → IsCapture octets c
         → length c.records ≤ limit → capture_at limit octets ≡ Ok (c, []) }
 {}
 
 /// Octets are a capture of one content.
 pub fn one_content()
-    ensures { (c d : Content) (octets : List ℕ) → IsCapture c octets → IsCapture d octets → c ≡ d }
+    ensures { (c d : Content) (octets : List ℕ) → IsCapture octets c → IsCapture octets d → c ≡ d }
 {}
 
 /// What is wrong at the front of octets is a record's fault exactly where the fault's condition
@@ -74,7 +74,7 @@ pub fn one_cut()
 /// Octets are a capture of at most so many records, or a fault's condition holds of them.
 pub fn capture_or_fault()
     ensures { (limit : ℕ) (octets : List ℕ) → AreOctets octets
-        → ((c : Content) × IsCapture c octets × (length c.records ≤ limit))
+        → ((c : Content) × IsCapture octets c × (length c.records ≤ limit))
         ⊎ ((f : FileFault) × CaptureFault limit f octets) }
 {}
 
