@@ -13,7 +13,7 @@ use Rattle.st_format.specs.Position.{component_in_row, run}
 use Rattle.lane_kernels.specs.Formulas.{clip, gain, scale}
 use Rattle.lane_kernels.proofs.Scales.{centre_is}
 use Rattle.bt709_fixed.proofs.Part.{put_below, put_within}
-use Rattle.bt709_fixed.specs.Operations.{gained, is_colour, limited}
+use Rattle.bt709_fixed.specs.Operations.{gained_sample, is_colour, limited_sample}
 use Rattle.bt709_fixed.specs.declared.RangeKind.TheVariants.{Nominal}
 
 component_turns : (s : Sampling) (k : ℕ) → component_in_row s (k % 24) ≡ component_in_row s k
@@ -31,12 +31,12 @@ colour_turns s k luma colour =
     ap (λ component. if is_colour s component then colour else luma) (component_turns s k)
 
 pub limited_turns : (n s v : ℕ) (colour : Bool) → s ≡ scale n
-    → clip (16 * s) (if colour then 240 * s else 235 * s) (pos v) ≡ limited Nominal n colour v
+    → clip (16 * s) (if colour then 240 * s else 235 * s) (pos v) ≡ limited_sample Nominal n colour v
 limited_turns n s v true e = λ i. clip (16 * e i) (240 * e i) (pos v)
 limited_turns n s v false e = λ i. clip (16 * e i) (235 * e i) (pos v)
 
 pub gained_turns : (g n s v : ℕ) (colour : Bool) → 8 ≤ n → s ≡ scale n
-    → clip s (255 * s - 1) (gain (if colour then 128 * s else 16 * s) g v) ≡ gained g n colour v
+    → clip s (255 * s - 1) (gain (if colour then 128 * s else 16 * s) g v) ≡ gained_sample g n colour v
 gained_turns g n s v true h e =
     let c = ap (λ x. 128 * x) e ∙ sym (centre_is n h) in
     λ i. clip (e i) (255 * e i - 1) (gain (c i) g v)

@@ -11,7 +11,7 @@ use Rattle.st_format.specs.Pgroup.{bits_of}
 use Rattle.st_format.specs.Picture.{FitsDepth, IsPicture, Values}
 use Rattle.st_format.proofs.Numbering.{number_of-below}
 use Rattle.lane_kernels.specs.Formulas.{cb, cr, luma}
-use Rattle.bt709_fixed.specs.Operations.{IsOf, IsResampled, matrixed, matrixed_at, ycc444_value}
+use Rattle.bt709_fixed.specs.Operations.{IsOf, IsResampled, matrix_component, matrixed_at, ycc444_value}
 use Rattle.bt709_fixed.proofs.Made.{all_from_each, component-number, some_bits}
 use Rattle.bt709_fixed.proofs.Ranges.{video_data_fits}
 
@@ -26,7 +26,7 @@ whole_pixels f s =
     let is : f.height * (f.width * 3) ≡ f.height * f.width * 3 = omega arith in
     ap (λ x. f.height * x % 3) (row_of_rgb f s) ∙ ap (λ x. x % 3) is ∙ omega arith
 
-pub count_same : (f g : Format) → f.sampling ≡ Rgb → IsResampled Ycc444 f g
+pub count_same : (f g : Format) → f.sampling ≡ Rgb → IsResampled g f Ycc444
     → sample_count g ≡ sample_count f
 count_same f g s r =
     (λ i. r.height i * row_of_ycc g r.sampling i) ∙ (λ i. f.height * (r.width i * 3))
@@ -52,7 +52,7 @@ chosen_fits m x y z true u p q r = p
 chosen_fits m x y z false true p q r = q
 chosen_fits m x y z false false p q r = r
 
-matrixed_fits : (n c r g b : ℕ) → 8 ≤ n → matrixed n c r g b < 2 ^ n
+matrixed_fits : (n c r g b : ℕ) → 8 ≤ n → matrix_component n c r g b < 2 ^ n
 matrixed_fits n c r g b h =
     chosen_fits (2 ^ n) _ _ _ (c == 0) (c == 1) (video_data_fits n (luma r g b) h)
     (video_data_fits n (cb n r g b) h) (video_data_fits n (cr n r g b) h)
@@ -72,7 +72,7 @@ unfolding in_pixel
 in_pixel-below c = chosen_fits 3 1 0 2 (c == 0) (c == 1) (omega arith) (omega arith) (omega arith)
 
 -- the sample of another component in the same pixel
-pixel_at : (f g : Format) (p : Position) (c : ℕ) → f.sampling ≡ Rgb → IsResampled Ycc444 f g
+pixel_at : (f g : Format) (p : Position) (c : ℕ) → f.sampling ≡ Rgb → IsResampled g f Ycc444
     → 3 * (number_of g p / 3) + c
     ≡ number_of f (record { row = p.row; column = p.column; component = c })
 pixel_at f g p c s r =
@@ -85,7 +85,7 @@ pixel_at f g p c s r =
     ∙ sym (number_rgb f (record { row = p.row; column = p.column; component = c }) s)
 
 pub matrixed_picture : (v : Values) (f : Format) (new : List ℕ) → v.format.sampling ≡ Rgb
-    → IsResampled Ycc444 v.format f → IsPicture v
+    → IsResampled f v.format Ycc444 → IsPicture v
     → length new ≡ length v.samples
     → ((k : ℕ) → k < length new → get_or new k 0 ≡ matrixed_at (bits_of v.format.depth) v.samples k)
     → IsPicture (record { format = f; samples = new })
@@ -111,7 +111,7 @@ matrixed_picture v f new s r w long each =
             let y = pixel_at v.format f at 1 s r in
             let z = pixel_at v.format f at 2 s r in
             each k (omega (arith, below, whole))
-            ∙ (λ i. matrixed n (same i) (get_or v.samples (x i) 0) (get_or v.samples (y i) 0)
+            ∙ (λ i. matrix_component n (same i) (get_or v.samples (x i) 0) (get_or v.samples (y i) 0)
             (get_or v.samples (z i) 0));
       },
     )

@@ -5,7 +5,7 @@ use Rattle.std.specs.Prelude.{slice_index_or}
 use Rattle.std.proofs.lemmas.List.{get_or-drop, get_or-take}
 use Rattle.st_format.specs.declared.sampling.Sampling.TheVariants.{Ycc444}
 use Rattle.st_format.specs.Position.{component_in_row, run}
-use Rattle.bt709_fixed.specs.Operations.{matrixed, matrixed_at}
+use Rattle.bt709_fixed.specs.Operations.{matrix_component, matrixed_at}
 
 module _ (rgb : List ℕ) (a m i : ℕ) (begins : a % 3 ≡ 0) (ends : m % 3 ≡ 0) (within : i < m) where
   of_pixel : (c : ℕ) → c < 3
@@ -24,4 +24,4 @@ module _ (rgb : List ℕ) (a m i : ℕ) (begins : a % 3 ≡ 0) (ends : m % 3 ≡
       let r = of_pixel 0 (omega arith) in
       let g = of_pixel 1 (omega arith) in
       let b = of_pixel 2 (omega arith) in
-      λ j. matrixed n (same_component j) (r j) (g j) (b j)
+      λ j. matrix_component n (same_component j) (r j) (g j) (b j)

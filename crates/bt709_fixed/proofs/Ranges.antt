@@ -8,7 +8,7 @@ use Rattle.bt709_fixed.specs.declared.Change.{Change}
 use Rattle.bt709_fixed.specs.declared.Change.TheVariants.{Gain, Limit}
 use Rattle.bt709_fixed.specs.declared.RangeKind.{RangeKind}
 use Rattle.bt709_fixed.specs.declared.RangeKind.TheVariants.{Nominal, VideoData}
-use Rattle.bt709_fixed.specs.Operations.{changed, limited, kept}
+use Rattle.bt709_fixed.specs.Operations.{changed_by, limited_sample, kept_value}
 
 pub video_data_fits : (n : ℕ) (z : ℤ) → 8 ≤ n → video_data n z < 2 ^ n
 video_data_fits n z h =
@@ -20,7 +20,7 @@ video_data_fits n z h =
     )
 
 limited_fits : (r : RangeKind) (n : ℕ) (colour : Bool) (v : ℕ) → 8 ≤ n
-    → limited r n colour v < 2 ^ n
+    → limited_sample r n colour v < 2 ^ n
 limited_fits Nominal n true v h =
     omega (
       arith,
@@ -38,6 +38,6 @@ limited_fits Nominal n false v h =
 limited_fits VideoData n colour v h = video_data_fits n (pos v) h
 
 pub changed_fits : (change : Change) (n : ℕ) (colour : Bool) (v : ℕ) → 8 ≤ n
-    → changed change n colour v < 2 ^ n
+    → changed_by change n colour v < 2 ^ n
 changed_fits (Limit range) n colour v h = limited_fits range n colour v h
-changed_fits (Gain g) n colour v h = video_data_fits n (gain (kept n colour) g v) h
+changed_fits (Gain g) n colour v h = video_data_fits n (gain (kept_value n colour) g v) h

@@ -161,7 +161,7 @@ number_full f p s =
     (λ i. p.row * row_of_pixels f s i + number_in_row (s i) p.column p.component)
     ∙ omega arith
 
-pub thinned_at : (f g : Format) (p : Position) → f.sampling ≡ Ycc444 → IsResampled Ycc422 f g
+pub thinned_at : (f g : Format) (p : Position) → f.sampling ≡ Ycc444 → IsResampled g f Ycc422
     → IsPosition p g
     → thinned_number (number_of g p) ≡ number_of f p
 thinned_at f g p s r at =
@@ -172,7 +172,7 @@ thinned_at f g p s r at =
     ∙ ap (λ w. p.row * (w * 3) + (p.column * 3 + in_pixel p.component)) width
     ∙ sym (number_full f p s)
 
-pub count_thinned : (f g : Format) → f.sampling ≡ Ycc444 → IsResampled Ycc422 f g
+pub count_thinned : (f g : Format) → f.sampling ≡ Ycc444 → IsResampled g f Ycc422
     → 4 * (sample_count f / 6) ≡ sample_count g
 count_thinned f g s r =
     let half : ℕ = g.width / 2 in
@@ -205,7 +205,7 @@ value_fits v k is =
     fits_at (2 ^ bits_of v.format.depth) v.samples k (some_values v.format.depth) is.fit
 
 pub thinned_picture : (v : Values) (f : Format) (new : List ℕ) → v.format.sampling ≡ Ycc444
-    → IsResampled Ycc422 v.format f → IsPicture v
+    → IsResampled f v.format Ycc422 → IsPicture v
     → length new ≡ 4 * (length v.samples / 6)
     → ((k : ℕ) → k < length new → get_or new k 0 ≡ get_or v.samples (thinned_number k) 0)
     → IsPicture (record { format = f; samples = new })

@@ -52,18 +52,18 @@ is_colour Ycc444 component = not (component == 0)
 is_colour Rgb component = false
 
 -- a value brought to a range, of n bits
-abbrev pub limited : RangeKind → ℕ → Bool → ℕ → ℕ
-limited Nominal n true v = nominal_colour n (pos v)
-limited Nominal n false v = nominal n (pos v)
-limited VideoData n colour v = video_data n (pos v)
+abbrev pub limited_sample : RangeKind → ℕ → Bool → ℕ → ℕ
+limited_sample Nominal n true v = nominal_colour n (pos v)
+limited_sample Nominal n false v = nominal n (pos v)
+limited_sample VideoData n colour v = video_data n (pos v)
 
 -- the value that gain keeps: the centre for Cb and Cr, else black
-abbrev pub kept : ℕ → Bool → ℕ
-kept n true = centre n
-kept n false = 16 * scale n
+abbrev pub kept_value : ℕ → Bool → ℕ
+kept_value n true = centre n
+kept_value n false = 16 * scale n
 
-abbrev pub gained : ℕ → ℕ → Bool → ℕ → ℕ
-gained g n colour v = video_data n (gain (kept n colour) g v)
+abbrev pub gained_sample : ℕ → ℕ → Bool → ℕ → ℕ
+gained_sample g n colour v = video_data n (gain (kept_value n colour) g v)
 
 -- a gain is at most 4, in 4096ths
 abbrev pub IsBounded : Change → Type 0
@@ -71,28 +71,28 @@ IsBounded (Limit range) = ⊤
 IsBounded (Gain g) = g ≤ 16384
 
 -- what a change makes of a value
-abbrev pub changed : Change → ℕ → Bool → ℕ → ℕ
-changed (Limit range) n colour v = limited range n colour v
-changed (Gain g) n colour v = gained g n colour v
+abbrev pub changed_by : Change → ℕ → Bool → ℕ → ℕ
+changed_by (Limit range) n colour v = limited_sample range n colour v
+changed_by (Gain g) n colour v = gained_sample g n colour v
 
 -- the same of the sample of number k, in a row or a raster of n bits
 abbrev pub changed_sample : Change → Sampling → ℕ → ℕ → ℕ → ℕ
-changed_sample change s n k v = changed change n (is_colour s (component_in_row s k)) v
+changed_sample change s n k v = changed_by change n (is_colour s (component_in_row s k)) v
 
 -- the one of three values that a component has
 abbrev pub of_component : ℕ → ℕ → ℕ → ℕ → ℕ
 of_component component y cb cr = if component == 0 then y else (if component == 1 then cb else cr)
 
 -- Y, Cb or Cr of n bits
-abbrev pub matrixed : ℕ → ℕ → ℕ → ℕ → ℕ → ℕ
-matrixed n component r g b =
+abbrev pub matrix_component : ℕ → ℕ → ℕ → ℕ → ℕ → ℕ
+matrix_component n component r g b =
     of_component component (video_data n (luma r g b)) (video_data n (cb n r g b))
     (video_data n (cr n r g b))
 
 -- the same of the pixel of sample number k, in a list of R, G and B
 abbrev pub matrixed_at : ℕ → List ℕ → ℕ → ℕ
 matrixed_at n rgb k =
-    matrixed n (component_in_row Ycc444 k) (slice_index rgb (3 * (k / 3) + 0))
+    matrix_component n (component_in_row Ycc444 k) (slice_index rgb (3 * (k / 3) + 0))
     (slice_index rgb (3 * (k / 3) + 1)) (slice_index rgb (3 * (k / 3) + 2))
 
 -- the value of another component at the same row and column
@@ -104,21 +104,21 @@ component_at v at component =
 
 abbrev pub limit_value : RangeKind → Values → Position → ℕ
 limit_value range v at =
-    limited range (bits_of v.format.depth) (is_colour v.format.sampling at.component)
+    limited_sample range (bits_of v.format.depth) (is_colour v.format.sampling at.component)
     (value_at v at)
 
 abbrev pub gain_value : ℕ → Values → Position → ℕ
 gain_value g v at =
-    gained g (bits_of v.format.depth) (is_colour v.format.sampling at.component) (value_at v at)
+    gained_sample g (bits_of v.format.depth) (is_colour v.format.sampling at.component) (value_at v at)
 
 abbrev pub changed_value : Change → Values → Position → ℕ
 changed_value change v at =
-    changed change (bits_of v.format.depth) (is_colour v.format.sampling at.component)
+    changed_by change (bits_of v.format.depth) (is_colour v.format.sampling at.component)
     (value_at v at)
 
 abbrev pub ycc444_value : Values → Position → ℕ
 ycc444_value v at =
-    matrixed (bits_of v.format.depth) at.component (component_at v at 0) (component_at v at 1)
+    matrix_component (bits_of v.format.depth) at.component (component_at v at 0) (component_at v at 1)
     (component_at v at 2)
 
 -- Cb and Cr of the even columns, where alone 4:2:2 has a position for them
@@ -126,7 +126,7 @@ abbrev pub ycc422_value : Values → Position → ℕ
 ycc422_value v at = value_at v at
 
 -- f is g but for its sampling
-pub record IsResampled (s : Sampling) (g f : Format) : Type 0 where
+pub record IsResampled (f g : Format) (s : Sampling) : Type 0 where
   pub sampling : f.sampling ≡ s
   pub depth : f.depth ≡ g.depth
   pub width : f.width ≡ g.width

@@ -324,7 +324,7 @@ fn join_components(y: &[u16], cb: &[u16], cr: &[u16], out: &mut [u16])
 /// The format with Y, Cb and Cr in place of R, G and B: that of what [`to_ycc444`] gives.
 pub fn as_ycc444(format: Format) -> Format
     requires { format.sampling ≡ Rgb }
-    ensures { IsResampled Ycc444 format result }
+    ensures { IsResampled result format Ycc444 }
 {
     Format {
         sampling: Sampling::Ycc444,
@@ -388,7 +388,7 @@ pub fn to_ycc444<A: Allocator, B: Allocator>(
     picture: &Picture<A>,
 ) -> Result<Picture<B>, ColourFault>
     ensures made { IfOk result (λ p. IsOf p.format (ycc444_value picture.now) p) }
-    ensures format { IfOk result (λ p. IsResampled Ycc444 picture.now.format p.format) }
+    ensures format { IfOk result (λ p. IsResampled p.format picture.now.format Ycc444) }
     ensures whole { IfOk result (λ p. IsPicture p) }
     ensures rgb { (result ≡ Err NotRgb) ↔ (picture.now.format.sampling ≢ Rgb) }
     ensures only { result ≢ Err NotYcc444 }
@@ -423,7 +423,7 @@ fn matrixed_samples<B: Allocator>(
 /// The format with Cb and Cr at the even columns alone: that of what [`to_ycc422`] gives.
 pub fn as_ycc422(format: Format) -> Format
     requires { format.sampling ≡ Ycc444 }
-    ensures { IsResampled Ycc422 format result }
+    ensures { IsResampled result format Ycc422 }
 {
     Format {
         sampling: Sampling::Ycc422,
@@ -442,7 +442,7 @@ pub fn to_ycc422<A: Allocator, B: Allocator>(
     picture: &Picture<A>,
 ) -> Result<Picture<B>, ColourFault>
     ensures made { IfOk result (λ p. IsOf p.format (ycc422_value picture.now) p) }
-    ensures format { IfOk result (λ p. IsResampled Ycc422 picture.now.format p.format) }
+    ensures format { IfOk result (λ p. IsResampled p.format picture.now.format Ycc422) }
     ensures whole { IfOk result (λ p. IsPicture p) }
     ensures ycc444 { (result ≡ Err NotYcc444) ↔ (picture.now.format.sampling ≢ Ycc444) }
     ensures only { result ≢ Err NotRgb }

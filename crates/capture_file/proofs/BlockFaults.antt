@@ -250,9 +250,6 @@ pub record Blocked (block : List ℕ) (f : Fields) : Type 0 where
   pub format : IsFormat f
   pub text : block ≡ format_text f
 
-abbrev Taken : Type 0
-Taken = Result (Fields × List ℕ) FileFault
-
 pub block_read : (block : List ℕ) (f : Fields) → AreOctets block → length block ≡ 14
     → block_of block ≡ Ok f → Blocked block f
 unfolding block_at

@@ -51,9 +51,6 @@ parts block s b w h n d es eb ew eh en ed =
     (λ (r : Result Sampling FileFault). r >>= λ x. depth_of (get_or block 1 0) >>=
     λ y. lowest (format_at x y w1 h1 n1 d1) n1 d1) es
 
-kept : Fields → Read
-kept f = Ok f
-
 both_eq : (a b c d : ℕ) → a ≡ b → c ≡ d → (eqb a b && eqb c d) ≡ true
 both_eq a b c d p q = ap (λ (x : Bool). x && eqb c d) (eq-eqb a b p) ∙ eq-eqb c d q
 

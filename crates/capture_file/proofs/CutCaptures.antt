@@ -13,7 +13,7 @@ use Rattle.capture_file.specs.CaptureFaults.IsCutRecord.{Head, Octets}
 use Rattle.capture_file.specs.Fronts.{capture_name, front_at, front_text, kind_text}
 use Rattle.capture_file.specs.Reading.{entries_in, rest_at}
 use Rattle.capture_file.specs.Records.{Entry, path_octet, record_text, records_text, rest_text}
-use Rattle.capture_file.specs.Runs.{HasNoRecord, IsRun}
+use Rattle.capture_file.specs.Runs.{HasNoRecord, AreRecordsOf}
 use Rattle.capture_file.proofs.CaptureFaults.{front_again, front_cut, front_short}
 use Rattle.capture_file.proofs.Entries.{rest_again}
 use Rattle.capture_file.proofs.Failing.{answered, not_both}
@@ -58,7 +58,7 @@ records_are limit octets h bytes =
     let own : AreOctets (behind_front h)
     = AreOctets-back (front_is h) (behind_front h)
     (subst AreOctets (whole_is limit octets h) bytes) in
-    let run : IsRun h.capture.records h.behind (behind_front h)
+    let run : AreRecordsOf h.capture.records h.behind (behind_front h)
     = record { fit = h.stands.is.fit; whole = refl; no_more = no_record h.behind h.wrong } in
     run_read (behind_front h) h.behind h.capture.records own run
 

@@ -13,7 +13,7 @@ use Rattle.capture_file.specs.declared.front.Version.TheVariants.{Two}
 use Rattle.capture_file.specs.Fronts.{front_head, front_text}
 use Rattle.capture_file.specs.Reading.{entries_in}
 use Rattle.capture_file.specs.Records.{AllFit, Entry, Fits, record_text, records_text}
-use Rattle.capture_file.specs.Writer.{IsDatagram, IsWritten, datagrams_by, datagrams_in}
+use Rattle.capture_file.specs.Writer.{IsShortEnough, IsWritten, datagrams_by, datagrams_in}
 use Rattle.capture_file.specs.Writer.{entries_from, entries_of, entry, first_of_two, moment_after}
 use Rattle.capture_file.specs.Writer.{moment_behind}
 use Rattle.capture_file.proofs.Cuts.{entries_front, entries_cut}
@@ -33,13 +33,13 @@ by_from Both m [] more = refl
 by_from Both m (d ∷ ds) more =
     ap (λ (xs : List (List ℕ)). d ∷ xs) (by_from Both (moment_behind Both m) ds more)
 
-entry_fits : (m : ℕ) (d : List ℕ) → m < 2 ^ 64 → IsDatagram d
+entry_fits : (m : ℕ) (d : List ℕ) → m < 2 ^ 64 → IsShortEnough d
     → (A_fits : Fits (entry A m d)) × Fits (entry B m d)
 entry_fits m d lt fits =
     (record { moment = lt; octets = fits }, record { moment = lt; octets = fits })
 
 -- the records of a datagram have a text
-pub fits_of : (paths : Paths) (m : ℕ) (d : List ℕ) → m < 2 ^ 64 → IsDatagram d
+pub fits_of : (paths : Paths) (m : ℕ) (d : List ℕ) → m < 2 ^ 64 → IsShortEnough d
     → AllFit (entries_of paths m d)
 fits_of OnlyA m d lt fits = ((entry_fits m d lt fits).0, tt)
 fits_of OnlyB m d lt fits = ((entry_fits m d lt fits).1, tt)
@@ -51,7 +51,7 @@ fits_append [] ys p q = q
 fits_append (x ∷ xs) ys p q = (p.0, fits_append xs ys p.1 q)
 
 pub fits_from : (paths : Paths) (m : ℕ) (ds : List (List ℕ)) → m < 2 ^ 64
-    → AllByRecursion IsDatagram ds → AllFit (entries_from paths m ds)
+    → AllByRecursion IsShortEnough ds → AllFit (entries_from paths m ds)
 fits_from paths m [] lt fits = tt
 fits_from paths m (d ∷ ds) lt fits =
     fits_append (entries_of paths m d) (entries_from paths (moment_behind paths m) ds)
@@ -59,7 +59,7 @@ fits_from paths m (d ∷ ds) lt fits =
     (fits_from paths (moment_behind paths m) ds (omega arith) fits.1)
 
 -- the records of a datagram that is cut are those of none
-tail_cut : (paths : Paths) (m : ℕ) (d : List ℕ) (k : ℕ) → m < 2 ^ 64 → IsDatagram d
+tail_cut : (paths : Paths) (m : ℕ) (d : List ℕ) (k : ℕ) → m < 2 ^ 64 → IsShortEnough d
     → k < length (records_text (entries_of paths m d))
     → datagrams_by paths (entries_in (take k (records_text (entries_of paths m d)))) ≡ []
 tail_cut OnlyA m d k lt fits short =
@@ -124,8 +124,8 @@ moment_snoc : (paths : Paths) (m : ℕ) (ds : List (List ℕ)) (d : List ℕ)
 moment_snoc paths m [] d = refl
 moment_snoc paths m (x ∷ ds) d = moment_snoc paths (moment_behind paths m) ds d
 
-datagrams_fit : (ds : List (List ℕ)) (d : List ℕ) → AllByRecursion IsDatagram ds → IsDatagram d
-    → AllByRecursion IsDatagram (ds ++ d ∷ [])
+datagrams_fit : (ds : List (List ℕ)) (d : List ℕ) → AllByRecursion IsShortEnough ds → IsShortEnough d
+    → AllByRecursion IsShortEnough (ds ++ d ∷ [])
 datagrams_fit [] d p q = (q, tt)
 datagrams_fit (x ∷ ds) d p q = (p.0, datagrams_fit ds d p.1 q)
 
@@ -170,7 +170,7 @@ holds paths n m held is =
 
 -- a datagram more
 pub takes : (paths : Paths) (n m : ℕ) (held : List ℕ) (d : List ℕ)
-    → (is : IsWritten paths n m held) → m < 2 ^ 64 → IsDatagram d
+    → (is : IsWritten paths n m held) → m < 2 ^ 64 → IsShortEnough d
     → datagrams_in paths n (held ++ records_text (entries_of paths m d)) ≡ is.datagrams ++ d ∷ []
 takes paths n m held d is lt fits =
     let es : List Entry = entries_of paths m d in
@@ -185,7 +185,7 @@ takes paths n m held d is lt fits =
 
 -- a datagram that is cut
 pub keeps : (paths : Paths) (n m : ℕ) (held : List ℕ) (d : List ℕ) (k : ℕ)
-    → (is : IsWritten paths n m held) → m < 2 ^ 64 → IsDatagram d
+    → (is : IsWritten paths n m held) → m < 2 ^ 64 → IsShortEnough d
     → k < length (records_text (entries_of paths m d))
     → datagrams_in paths n (held ++ take k (records_text (entries_of paths m d))) ≡ is.datagrams
 keeps paths n m held d k is lt fits short =
@@ -194,7 +194,7 @@ keeps paths n m held d k is lt fits short =
 
 -- what is written then
 pub writes : (paths : Paths) (n m : ℕ) (held : List ℕ) (d : List ℕ)
-    → (is : IsWritten paths n m held) → IsDatagram d
+    → (is : IsWritten paths n m held) → IsShortEnough d
     → IsWritten paths n (moment_behind paths m) (held ++ records_text (entries_of paths m d))
 writes paths n m held d is fits =
     let es : List Entry = entries_from paths 0 is.datagrams in

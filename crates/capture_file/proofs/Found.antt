@@ -233,7 +233,7 @@ records_takes (suc limit) (first ∷ octets) x bytes e =
 
 -- What is read as a capture is one, all of it.
 pub record Found (limit : ℕ) (octets : List ℕ) (x : Content × List ℕ) : Type 0 where
-  pub is : IsCapture x.0 octets
+  pub is : IsCapture octets x.0
   pub few : length x.0.records ≤ limit
   pub all : x.1 ≡ []
 
@@ -265,7 +265,7 @@ capture_found limit octets x bytes e =
 
 found_by : {A : Type 0} (limit : ℕ) (octets : List ℕ) (new : Option (List ℕ)) (v : Capture A)
     → AreOctets octets → Leaves (capture_at limit octets) (capture_seen v) new
-    → IsCapture (capture_seen v) octets × (length v.records.items ≤ limit) × IsAtEnd new
+    → IsCapture octets (capture_seen v) × (length v.records.items ≤ limit) × IsAtEnd new
 found_by limit octets None v bytes p = absurd p
 found_by limit octets (Some rest) v bytes p =
     let f = capture_found limit octets (capture_seen v, rest) bytes p in
@@ -279,7 +279,7 @@ pub found_read : {A : Type 0} (limit : ℕ) (old new : Option (List ℕ))
     → IfOk r (λ v. Takes (capture_at limit) old new (capture_seen v)) → OnOk r (TellsOctets old)
     → IfOk r
     (λ v. (octets : List ℕ) → old ≡ Some octets
-    → IsCapture (capture_seen v) octets × (length v.records.items ≤ limit) × IsAtEnd new)
+    → IsCapture octets (capture_seen v) × (length v.records.items ≤ limit) × IsAtEnd new)
 found_read limit old new (Ok v) p bytes =
     λ octets told. found_by limit octets new v (subst TellsOctets told bytes)
     (subst (λ (k : Option (List ℕ)). Takes (capture_at limit) k new (capture_seen v)) told p)

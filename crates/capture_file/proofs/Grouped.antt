@@ -19,7 +19,7 @@ use Rattle.st_format.specs.Samples.{octets_in, values_in}
 use Rattle.st_format.proofs.Spelled.{values_in-spelled}
 use Rattle.st_format.proofs.SpelledOctets.{Spells-octets_in, length-octets_in}
 use Rattle.capture_file.specs.declared.fault.FileFault.{FileFault}
-use Rattle.capture_file.specs.declared.fault.FileFault.TheVariants.{BadField, MixedGroup}
+use Rattle.capture_file.specs.declared.fault.FileFault.TheVariants.{MixedGroup}
 use Rattle.capture_file.specs.Fields.{field_at}
 use Rattle.st_format.specs.Reading.{◌>>=◌}
 use Rattle.capture_file.specs.Groups.{IsGroup, IsHad, IsShape, Shape, are_zeroed, cells_by}
@@ -134,16 +134,6 @@ octets_again : (s : Shape) (cs : List Cell) → IsShape s → length cs ≡ s.sa
 octets_again s cs is whole =
     length-octets_in s.bits (map value_or_0 cs) s.octets
     (ap (λ (k : ℕ). s.bits * k) (length-map cs value_or_0 ∙ whole) ∙ is.octets)
-
-abbrev choices : Shape → ℕ → List ℕ → Cells
-choices s state octets =
-    cond (eqb state 0) (Ok (replicate s.samples Missing, octets))
-    (cond (eqb state 1)
-    (field_at s.octets octets >>= λ x. Ok (map Value (values_in s.bits x.0), x.1))
-    (cond (eqb state 2)
-    (field_at 2 octets >>= λ m. field_at s.octets m.1 >>=
-    λ x. mixed_by s (from_be_bytes w16 m.0) (values_in s.bits x.0) x.1)
-    (Err BadField)))
 
 cases_zero : (n : ℕ) → (n ≡ 0) ⊎ (n ≡ 0 → ⊥)
 cases_zero zero = inl refl

@@ -5,7 +5,6 @@ use Rattle.std.proofs.Common.{arith}
 use Rattle.std.specs.Prelude.{⊤}
 use Rattle.std.specs.Io.KnownBytes.{Consumes, IsAtEnd}
 use Rattle.capture_file.specs.declared.fault.FileFault.{FileFault}
-use Rattle.capture_file.specs.declared.fault.FileFault.TheVariants.{NoMemory, Device}
 use Rattle.capture_file.specs.declared.fault.FileFault.TheVariants.{TooManyRecords}
 use Rattle.capture_file.specs.Capture.{Content, capture_at, records_at}
 use Rattle.capture_file.specs.Fields.{Takes, Fails}
@@ -32,19 +31,11 @@ GoesOn limit (Some o) left so_far None = ⊥
 GoesOn limit (Some o) left so_far (Some m) =
     records_at limit o ≡ with_front so_far (records_at left m)
 
-front_none : (r : Many) → r ≡ with_front [] r
-front_none (Ok x) = refl
-front_none (Err f) = refl
-
 front_more : (es : List Entry) (e : Entry) (r : Many)
     → with_front es (r >>= λ y. Ok (e ∷ y.0, y.1)) ≡ with_front (es ++ e ∷ []) r
 front_more es e (Ok x) =
     ap (λ (xs : List Entry). let q : Many = Ok (xs, x.1) in q) (sym (append_assoc es (e ∷ []) x.0))
 front_more es e (Err f) = refl
-
-pub goes_on_first : (limit : ℕ) (known : Option (List ℕ)) → GoesOn limit known limit [] known
-goes_on_first limit None = tt
-goes_on_first limit (Some o) = front_none (records_at limit o)
 
 one_more : (left : ℕ) (so_far : List Entry) (first : ℕ) (m rest : List ℕ) (e : Entry) → Fits e
     → first ≡ path_octet e.path → m ≡ rest_text e ++ rest
@@ -129,16 +120,6 @@ goes_on_many limit (Some o) None mid so_far first p q = absurd p
 goes_on_many limit (Some o) (Some n) None so_far first p q = absurd q
 goes_on_many limit (Some o) (Some n) (Some m) so_far first p q =
     p ∙ ap (λ (t : List ℕ). with_front so_far (records_at 0 t)) q ∙ many so_far first m
-
-pub fails_memory : {X : Type 0} (reading : List ℕ → Result (X × List ℕ) FileFault)
-    (known : Option (List ℕ)) → Fails reading known NoMemory
-fails_memory reading None = tt
-fails_memory reading (Some o) = tt
-
-pub fails_device : {X : Type 0} (reading : List ℕ → Result (X × List ℕ) FileFault)
-    (known : Option (List ℕ)) → Fails reading known Device
-fails_device reading None = tt
-fails_device reading (Some o) = tt
 
 -- an option that is no Some is None
 pub none_left : (o : Option ℕ) → ((x : ℕ) → o ≡ Some x → ⊥) → o ≡ None

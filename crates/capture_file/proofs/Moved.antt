@@ -3,7 +3,7 @@ use Rattle.std.proofs.Common.{◌≡◌, ℕ, ◌+◌, ◌-◌, List, [], ◌∷
 use Rattle.std.proofs.Common.{append_assoc, append-nil, refl, sym, ap, ◌∙◌, subst, inl, inr, arith}
 use Rattle.std.specs.Prelude.{◌⊎◌}
 use Rattle.std.specs.Io.KnownBytes.{Appends, Consumes, IsAtEnd}
-use Rattle.std.proofs.KnownBytes.{Appends-nil, Appends-trans, Consumes-nil, Consumes-trans}
+use Rattle.std.proofs.KnownBytes.{Appends-trans, Consumes-nil, Consumes-trans}
 use Rattle.std.proofs.lemmas.List.{length-append, take-append-drop}
 use Rattle.st_format.specs.Device.{AppendsPrefix}
 use Rattle.capture_file.specs.Capture.{records_at}
@@ -23,7 +23,7 @@ use Rattle.capture_file.specs.Migrated.{BeginsWith, Migrated, MovesAll, MovesSom
 use Rattle.capture_file.specs.Migrated.{old_by}
 use Rattle.capture_file.specs.Records.{Entry, record_text, records_text, rest_text}
 use Rattle.capture_file.specs.Source.{IfTold, ReadsRest}
-use Rattle.capture_file.proofs.Loops.{GoesOn, goes_on_end, goes_on_first, goes_on_more, one_less}
+use Rattle.capture_file.proofs.Loops.{GoesOn, goes_on_end, goes_on_more, one_less}
 use Rattle.capture_file.proofs.Parsing.{fails_first, fails_then, gives_then}
 use Rattle.capture_file.proofs.Written.{prefix_then, records_append}
 
@@ -34,16 +34,6 @@ pub record MovesSoFar (limit left : ℕ)
   pub given : Consumes source_old source_now (records_text entries)
   pub written : Appends held_old held_now (records_text entries)
   pub counted : length entries + left ≡ limit
-
-pub moves_first : (limit : ℕ) (source held : Option (List ℕ))
-    → MovesSoFar limit limit source source held held
-moves_first limit source held = record {
-  entries = [];
-  goes = goes_on_first limit source;
-  given = Consumes-nil source;
-  written = Appends-nil held;
-  counted = omega arith;
-}
 
 -- a record more was read
 record_given : (now mid new : Option (List ℕ)) (first : ℕ) (e : Entry)
@@ -96,18 +86,6 @@ begins : (old now : Option (List ℕ)) (text : List ℕ) → Consumes old now te
 begins None now text p = tt
 begins (Some o) None text p = absurd p
 begins (Some o) (Some m) text p = record { rest = m; parts = p }
-
--- where the source failed
-pub moves_some : (limit left : ℕ) (source_old now held_old held_now : Option (List ℕ))
-    → MovesSoFar limit left source_old now held_old held_now
-    → MovesSome source_old held_old held_now
-moves_some limit left source_old now held_old held_now m =
-    record {
-      entries = m.entries;
-      first =
-          begins source_old now (records_text m.entries) m.given;
-      written = inl m.written;
-    }
 
 -- where the sink failed
 pub moves_part : (limit left : ℕ)

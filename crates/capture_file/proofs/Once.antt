@@ -17,7 +17,7 @@ use Rattle.capture_file.specs.declared.fault.FileFault.{FileFault}
 use Rattle.capture_file.specs.declared.front.Version.TheVariants.{One}
 use Rattle.capture_file.specs.Fronts.{kind_text, receiver_name}
 use Rattle.capture_file.specs.Groups.{IsGroup, IsShape, Shape, groups_at, groups_text, shape_of}
-use Rattle.capture_file.specs.StateFile.{cut_cells, joined_groups, HasRoom, Held, IsHeld, IsKept}
+use Rattle.capture_file.specs.StateFile.{cut_cells, joined_groups, FitsBlock, Held, IsHeld, IsKeptReceiver}
 use Rattle.capture_file.specs.StateFile.{Kept, SsrcFits, format_text, held_text, opening_text}
 use Rattle.capture_file.specs.StateFile.{sampling_code, ssrc_text, state_text}
 use Rattle.capture_file.proofs.Grouped.{groups_again}
@@ -160,7 +160,7 @@ abbrev fields : Sampling → Depth → ℕ → ℕ → ℕ → ℕ → Fields
 fields s b w h n d = record { sampling = s; depth = b; width = w; height = h; n = n; d = d }
 
 -- a format block
-format_once : (f g : Fields) → HasRoom f → HasRoom g → format_text f ≡ format_text g → f ≡ g
+format_once : (f g : Fields) → FitsBlock f → FitsBlock g → format_text f ≡ format_text g → f ≡ g
 format_once f g p q e =
     let s : f.sampling ≡ g.sampling = code_once f.sampling g.sampling (ap head_in e) in
     let b : f.depth ≡ g.depth =
@@ -199,7 +199,7 @@ abbrev kept : Fields → ℕ → Option ℕ → List Held → Kept
 kept f pt ssrc frames = record { format = f; payload_type = pt; ssrc = ssrc; frames = frames }
 
 -- Equal files are of equal receivers.
-pub state_once : (k l : Kept) → IsKept k → IsKept l → state_text k ≡ state_text l → k ≡ l
+pub state_once : (k l : Kept) → IsKeptReceiver k → IsKeptReceiver l → state_text k ≡ state_text l → k ≡ l
 state_once k l p q e =
     let ka : List ℕ = flat_map (held_text k.format) k.frames in
     let la : List ℕ = flat_map (held_text l.format) l.frames in

@@ -22,10 +22,10 @@ use Rattle.capture_file.specs.Fields.{field_at}
 use Rattle.st_format.specs.Reading.{◌>>=◌}
 use Rattle.capture_file.specs.Fronts.{kind_at, kind_text, picture_name, version_text, with_rest}
 use Rattle.capture_file.specs.PictureFaults.{HasCutGroups, HasHead, HasNoFormat, HasOtherThanOne}
-use Rattle.capture_file.specs.PictureFaults.{HasTrailing, IsCutPicture, IsFormat, PictureFault}
+use Rattle.capture_file.specs.PictureFaults.{HasTrailing, IsCutPicture, IsFormat, IsPictureFault}
 use Rattle.capture_file.specs.PictureFaults.IsCutPicture.{Kind, Block, Groups}
 use Rattle.capture_file.specs.PictureFile.{Shown, nothing_at, one_at, one_by, picture_at, raster_at}
-use Rattle.capture_file.specs.PictureFile.{raster_octets, shows}
+use Rattle.capture_file.specs.PictureFile.{raster_octets, shown_by}
 use Rattle.capture_file.specs.StateFile.{format_text}
 use Rattle.capture_file.proofs.BlockFaults.{block_again, block_fails, block_read}
 use Rattle.capture_file.proofs.Failing.{differ, field_fails, field_short, field_whole, not_both}
@@ -62,7 +62,7 @@ abbrev read_samples : Fields → Part → Result Part FileFault
 read_samples f x = Ok (values_in (bits_of f.depth) x.0, x.1)
 
 abbrev showing : Fields → List ℕ → ⊤ × List ℕ → Answer
-showing f samples e = Ok (shows f samples, e.1)
+showing f samples e = Ok (shown_by f samples, e.1)
 
 abbrev read_end : Fields → Part → Answer
 read_end f s = nothing_at s.1 >>= showing f s.0
@@ -76,17 +76,17 @@ read_format v = block_at v.1 >>= read_raster
 -- ---- name and version
 
 by_kind : (octets : List ℕ) (e : FileFault) → KindFails picture_name octets e
-    → PictureFault e octets
+    → IsPictureFault e octets
 by_kind octets e (Cut is lt) = let c : IsCutPicture octets = Kind lt in
-    subst (λ (k : FileFault). PictureFault k octets) is c
-by_kind octets e (Name is other) = subst (λ (k : FileFault). PictureFault k octets) is other
+    subst (λ (k : FileFault). IsPictureFault k octets) is c
+by_kind octets e (Name is other) = subst (λ (k : FileFault). IsPictureFault k octets) is other
 by_kind octets e (Digits is other) =
     let w : HasOtherThanOne picture_name octets
     = record { version = other.version; kind = other.kind; other = other.other One } in
-    subst (λ (k : FileFault). PictureFault k octets) is w
+    subst (λ (k : FileFault). IsPictureFault k octets) is w
 
 by_version : (v : Version) (rest octets : List ℕ) (e : FileFault)
-    → octets ≡ kind_text picture_name v ++ rest → one_by v rest ≡ Err e → PictureFault e octets
+    → octets ≡ kind_text picture_name v ++ rest → one_by v rest ≡ Err e → IsPictureFault e octets
 by_version One rest octets e whole h = absurd (not_both Kinded (One, rest) e h)
 by_version Two rest octets e whole h =
     let w : HasOtherThanOne picture_name octets = record {
@@ -99,10 +99,10 @@ by_version Two rest octets e whole h =
       };
       other = differ (codes "02") (codes "01") refl;
     } in
-    subst (λ (k : FileFault). PictureFault k octets) (same_fault Kinded BadVersion e h) w
+    subst (λ (k : FileFault). IsPictureFault k octets) (same_fault Kinded BadVersion e h) w
 
 one_fails : (octets : List ℕ) (e : FileFault) → one_at picture_name octets ≡ Err e
-    → PictureFault e octets
+    → IsPictureFault e octets
 unfolding one_at
 one_fails octets e h =
     elim (split_fails (kind_at picture_name octets) read_one e h) [
@@ -166,7 +166,7 @@ version_by octets h false e =
 -- ---- the format block
 
 block_fault : (octets rest : List ℕ) (e : FileFault) → octets ≡ kind_text picture_name One ++ rest
-    → block_at rest ≡ Err e → PictureFault e octets
+    → block_at rest ≡ Err e → IsPictureFault e octets
 unfolding block_at
 block_fault octets rest e whole h =
     elim (split_fails (field_at 14 rest) read_block e h) [
@@ -174,7 +174,7 @@ block_fault octets rest e whole h =
           let s = field_fails 14 rest e p in
           let c : IsCutPicture octets
           = Block (record { behind = rest; whole = whole; short = s.short }) in
-          subst (λ (k : FileFault). PictureFault k octets) s.is c
+          subst (λ (k : FileFault). IsPictureFault k octets) s.is c
       | inr t ↦ elim (split_fails (block_of t.first.0) (with_behind t.first.1) e t.next) [
         | inl p ↦
             let f = field_takes 14 rest t.first t.is in
@@ -191,7 +191,7 @@ block_fault octets rest e whole h =
               none = λ g is same. not_both Fields g e (sym (ap block_of same ∙ block_again g is)
                   ∙ p);
             } in
-            subst (λ (k : FileFault). PictureFault k octets) (block_fails t.first.0 e len p) w
+            subst (λ (k : FileFault). IsPictureFault k octets) (block_fails t.first.0 e len p) w
         | inr u ↦ absurd (not_both Formed (u.first, t.first.1) e u.next)
       ]
     ]
@@ -286,7 +286,7 @@ raster_takes f octets x h =
     }
 
 raster_fault : (f : Fields) (behind octets : List ℕ) (e : FileFault) → HasHead f behind octets
-    → raster_at f behind ≡ Err e → PictureFault e octets
+    → raster_at f behind ≡ Err e → IsPictureFault e octets
 unfolding raster_at
 raster_fault f behind octets e head h =
     elim (split_fails (field_at (raster_octets f) behind) (read_samples f) e h) [
@@ -295,13 +295,13 @@ raster_fault f behind octets e head h =
           let g : HasCutGroups octets
           = record { format = f; behind = behind; head = head; short = s.short } in
           let c : IsCutPicture octets = Groups g in
-          subst (λ (k : FileFault). PictureFault k octets) s.is c
+          subst (λ (k : FileFault). IsPictureFault k octets) s.is c
       | inr t ↦ absurd (not_both Part (values_in (bits_of f.depth) t.first.0, t.first.1) e t.next)
     ]
 
 end_fault : (f : Fields) (behind octets : List ℕ) (x : Part) (e : FileFault)
     → HasHead f behind octets → raster_at f behind ≡ Ok x → read_end f x ≡ Err e
-    → PictureFault e octets
+    → IsPictureFault e octets
 end_fault f behind octets x e head is h =
     elim (split_fails (nothing_at x.1) (showing f x.0) e h) [
       | inl p ↦
@@ -314,8 +314,8 @@ end_fault f behind octets x e head is h =
             head = head;
             long = longer (length behind) (length x.1) (raster_octets f) r.rest n.1;
           } in
-          subst (λ (k : FileFault). PictureFault k octets) n.0 w
-      | inr u ↦ absurd (not_both (Shown × List ℕ) (shows f x.0, u.first.1) e u.next)
+          subst (λ (k : FileFault). IsPictureFault k octets) n.0 w
+      | inr u ↦ absurd (not_both (Shown × List ℕ) (shown_by f x.0, u.first.1) e u.next)
     ]
 
 raster_short : (f : Fields) (behind : List ℕ) → length behind < raster_octets f
@@ -340,7 +340,7 @@ raster_whole f behind lt
 -- ---- what is read has the fault
 
 pub picture_fails : (e : FileFault) (octets : List ℕ) → AreOctets octets → picture_at octets ≡ Err e
-    → PictureFault e octets
+    → IsPictureFault e octets
 unfolding picture_at
 picture_fails e octets bytes h =
     elim (split_fails (one_at picture_name octets) read_format e h) [
@@ -424,7 +424,7 @@ no_format_tells octets bytes h =
     format_tells octets (h.block ++ h.behind) BadField h.whole
     (block_refused h.block h.behind rest h.long h.none)
 
-pub picture_tells : (e : FileFault) (octets : List ℕ) → AreOctets octets → PictureFault e octets
+pub picture_tells : (e : FileFault) (octets : List ℕ) → AreOctets octets → IsPictureFault e octets
     → picture_at octets ≡ Err e
 picture_tells BadName octets bytes h
     = front_tells octets BadName (one_tells octets BadName (name_tells picture_name octets h))
@@ -439,7 +439,7 @@ picture_tells MixedGroup octets bytes h = absurd h
 picture_tells TooManyRecords octets bytes h = absurd h
 
 pub one_picture_fault : (e f : FileFault) (octets : List ℕ) → AreOctets octets
-    → PictureFault e octets → PictureFault f octets → e ≡ f
+    → IsPictureFault e octets → IsPictureFault f octets → e ≡ f
 one_picture_fault e f octets bytes p q
     = same_fault (Shown × List ℕ) e f (sym (picture_tells e octets bytes p)
     ∙ picture_tells f octets bytes q)

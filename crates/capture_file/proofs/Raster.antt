@@ -28,7 +28,7 @@ use Rattle.capture_file.specs.Fields.{Fails, Takes, field_at}
 use Rattle.capture_file.specs.Fronts.{picture_name, with_rest}
 use Rattle.capture_file.specs.PictureFile.{GivesSpelled, Shown, head_of, nothing_at, one_at}
 use Rattle.capture_file.specs.PictureFile.{picture_at, picture_text, raster_at, raster_octets}
-use Rattle.capture_file.specs.PictureFile.{shows}
+use Rattle.capture_file.specs.PictureFile.{shown_by}
 use Rattle.capture_file.proofs.Parsing.{fails_first, fails_then, gives_field, gives_pure}
 use Rattle.capture_file.proofs.Parsing.{gives_then, then_reads}
 use Rattle.capture_file.proofs.Spelt.{spelled_size}
@@ -173,7 +173,7 @@ at_end (Some o) (Some r) p e =
 
 -- the readings behind the version, behind the format block and behind the samples
 abbrev shown : Fields → List ℕ → Result Shown FileFault
-shown f samples = Ok (shows f samples)
+shown f samples = Ok (shown_by f samples)
 
 abbrev behind_raster : Fields → List ℕ → List ℕ → Result (Shown × List ℕ) FileFault
 behind_raster f samples = then_reads nothing_at (λ _ rest. with_rest (shown f samples) rest)
@@ -216,11 +216,11 @@ end_fails old a b c f vs e p q r s =
 
 pub picture_gives : (old a b c new : Option (List ℕ)) (f : Fields) (vs : List ℕ)
     → Takes (one_at picture_name) old a One → Takes block_at a b f → Takes (raster_at f) b c vs
-    → Takes nothing_at c new tt → Takes picture_at old new (shows f vs)
+    → Takes nothing_at c new tt → Takes picture_at old new (shown_by f vs)
 unfolding picture_at
 picture_gives old a b c new f vs p q r s =
-    gives_then (one_at picture_name) behind_version old a new One (shows f vs) p
-    (gives_then block_at behind_block a b new f (shows f vs) q
-    (gives_then (raster_at f) (behind_raster f) b c new vs (shows f vs) r
-    (gives_then nothing_at (λ _ rest. with_rest (shown f vs) rest) c new new tt (shows f vs) s
-    (gives_pure (shown f vs) new (shows f vs) refl))))
+    gives_then (one_at picture_name) behind_version old a new One (shown_by f vs) p
+    (gives_then block_at behind_block a b new f (shown_by f vs) q
+    (gives_then (raster_at f) (behind_raster f) b c new vs (shown_by f vs) r
+    (gives_then nothing_at (λ _ rest. with_rest (shown f vs) rest) c new new tt (shown_by f vs) s
+    (gives_pure (shown f vs) new (shown_by f vs) refl))))

@@ -15,7 +15,7 @@ use Rattle.capture_file.specs.declared.fault.FileFault.TheVariants.{TrailingByte
 use Rattle.capture_file.specs.declared.fault.FileFault.TheVariants.{TooManyRecords}
 use Rattle.capture_file.specs.declared.record.RecordHead.{RecordHead}
 use Rattle.capture_file.specs.Capture.{records_at}
-use Rattle.capture_file.specs.CaptureFaults.{HasBadPath, IsCutRecord, RecordFault, count_in}
+use Rattle.capture_file.specs.CaptureFaults.{HasBadPath, IsCutRecord, IsRecordFault, count_in}
 use Rattle.capture_file.specs.CaptureFaults.IsCutRecord.{Head, Octets}
 use Rattle.st_format.specs.Reading.{◌>>=◌}
 use Rattle.capture_file.specs.Reading.{fault_at, fault_by, head_at, head_by, octets_at, path_of}
@@ -97,12 +97,12 @@ short_cut l d n m p s q r = omega arith
 record_by : (first : ℕ) (octets : List ℕ) (e : FileFault) → 10 ≤ length octets
     → HeadCase first (take 10 octets)
     → octets_at (head_at first (take 10 octets)) (drop 10 octets) ≡ Err e
-    → RecordFault e (first ∷ octets)
+    → IsRecordFault e (first ∷ octets)
 record_by first octets e long (NoPath lt is) h =
     let bad : failed One BadField ≡ failed One e
     = sym (ap (λ (r : Result RecordHead FileFault). octets_at r (drop 10 octets)) is) ∙ h in
     let wrong : HasBadPath (first ∷ octets) = record { head = omega arith; path = lt } in
-    subst (λ (k : FileFault). RecordFault k (first ∷ octets)) (same_fault One BadField e bad) wrong
+    subst (λ (k : FileFault). IsRecordFault k (first ∷ octets)) (same_fault One BadField e bad) wrong
 record_by first octets e long (Good hd le is count) h =
     let d : List ℕ = drop 10 octets in
     let cut : octets_at (answered RecordHead hd) d ≡ failed One e
@@ -115,13 +115,13 @@ record_by first octets e long (Good hd le is count) h =
           = Octets (omega arith) le
           (cut_short (length octets) (length d) hd.length (count_in (first ∷ octets))
           (length-drop 10 octets) long few (count ∙ count_is first octets)) in
-          subst (λ (k : FileFault). RecordFault k (first ∷ octets)) (same_fault One Truncated e w.1)
+          subst (λ (k : FileFault). IsRecordFault k (first ∷ octets)) (same_fault One Truncated e w.1)
           wrong
       | inr w ↦ absurd (not_both One (entry_of hd d, drop hd.length d) e w.1)
     ]
 
 pub record_fails : (first : ℕ) (octets : List ℕ) (e : FileFault) → rest_at first octets ≡ Err e
-    → RecordFault e (first ∷ octets)
+    → IsRecordFault e (first ∷ octets)
 unfolding rest_at
 record_fails first octets e h =
     elim (chosen (ltb (length octets) 10) (failed One Truncated)
@@ -129,7 +129,7 @@ record_fails first octets e h =
       | inl w ↦
           let lt : length octets < 10 = ltb-true (length octets) 10 w.0 in
           let wrong : IsCutRecord (first ∷ octets) = Head (omega arith) (omega arith) in
-          subst (λ (k : FileFault). RecordFault k (first ∷ octets)) (same_fault One Truncated e w.1)
+          subst (λ (k : FileFault). IsRecordFault k (first ∷ octets)) (same_fault One Truncated e w.1)
           wrong
       | inr w ↦ record_by first octets e (ltb-false (length octets) 10 w.0)
           (head_case first (take 10 octets)) w.1
@@ -138,7 +138,7 @@ record_fails first octets e h =
 -- ---- what has the fault is read so
 
 -- no fault stands at the end
-pub fault_needs : (e : FileFault) → RecordFault e [] → ⊥
+pub fault_needs : (e : FileFault) → IsRecordFault e [] → ⊥
 fault_needs Truncated (Head more lt) = omega arith
 fault_needs Truncated (Octets long le short) = omega arith
 fault_needs BadField h = let long : 11 ≤ length {A = ℕ} [] = h.head in omega arith
@@ -186,7 +186,7 @@ octets_tell first octets le long short (Good hd most is count) =
     ∙ ap (λ (b : Bool). cond b (failed One Truncated)
     (answered One (entry_of hd d, drop hd.length d))) (lt-ltb (length d) hd.length few)
 
-pub record_tells : (e : FileFault) (first : ℕ) (octets : List ℕ) → RecordFault e (first ∷ octets)
+pub record_tells : (e : FileFault) (first : ℕ) (octets : List ℕ) → IsRecordFault e (first ∷ octets)
     → rest_at first octets ≡ Err e
 record_tells Truncated first octets (Head more lt) = cut_head first octets lt
 record_tells Truncated first octets (Octets long le short)
@@ -212,7 +212,7 @@ abbrev no_fault : Option FileFault
 no_fault = None
 
 fault_of : (first : ℕ) (octets : List ℕ) (e : FileFault) (r : Result (Entry × List ℕ) FileFault)
-    → rest_at first octets ≡ r → fault_by r ≡ Some e → RecordFault e (first ∷ octets)
+    → rest_at first octets ≡ r → fault_by r ≡ Some e → IsRecordFault e (first ∷ octets)
 fault_of first octets e (Ok x) is h = let bad : no_fault ≡ some_fault e = h in absurd cc
 fault_of first octets e (Err f) is h =
     let same : some_fault f ≡ some_fault e = h in
@@ -220,12 +220,12 @@ fault_of first octets e (Err f) is h =
     record_fails first octets e (is ∙ ap (failed One) eq)
 
 pub front_fails : (e : FileFault) (octets : List ℕ) → fault_at octets ≡ Some e
-    → RecordFault e octets
+    → IsRecordFault e octets
 unfolding fault_at
 front_fails e [] h = let bad : no_fault ≡ some_fault e = h in absurd cc
 front_fails e (first ∷ octets) h = fault_of first octets e (rest_at first octets) refl h
 
-pub front_tells : (e : FileFault) (octets : List ℕ) → RecordFault e octets
+pub front_tells : (e : FileFault) (octets : List ℕ) → IsRecordFault e octets
     → fault_at octets ≡ Some e
 unfolding fault_at
 front_tells e [] h = absurd (fault_needs e h)
@@ -243,7 +243,7 @@ and_more limit x = records_at limit x.1 >>= more x.0
 pub data IsStop (limit : ℕ) (e : FileFault) (entries : List Entry) (behind : List ℕ) : Type 0 where
   Full : TooManyRecords ≡ e → length entries ≡ limit → 0 < length behind
       → IsStop limit e entries behind
-  Wrong : length entries < limit → RecordFault e behind → IsStop limit e entries behind
+  Wrong : length entries < limit → IsRecordFault e behind → IsStop limit e entries behind
 
 pub record Stops (limit : ℕ) (e : FileFault) (octets : List ℕ) : Type 0 where
   pub entries : List Entry
@@ -325,7 +325,7 @@ full_tells (suc limit) (x ∷ entries) behind fit full left
     (full_tells limit entries behind fit.1 (omega arith) left)
 
 pub wrong_tells : (limit : ℕ) (entries : List Entry) (behind : List ℕ) (e : FileFault)
-    → AllFit entries → length entries < limit → RecordFault e behind
+    → AllFit entries → length entries < limit → IsRecordFault e behind
     → records_at limit (records_text entries ++ behind) ≡ Err e
 unfolding records_at
 wrong_tells zero entries behind e fit few wrong = absurd (omega arith)

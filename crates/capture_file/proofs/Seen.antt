@@ -42,7 +42,7 @@ use Rattle.capture_file.specs.Fields.{Fails, Takes, Leaves, field_at}
 use Rattle.st_format.specs.Reading.{◌>>=◌}
 use Rattle.capture_file.specs.Fronts.{kind_at, kind_of, kind_text, picture_name, with_rest}
 use Rattle.capture_file.specs.PictureFile.{Shown, nothing_at, one_at, one_by, picture_at}
-use Rattle.capture_file.specs.PictureFile.{picture_text, raster_at, raster_octets, shown_of, shows}
+use Rattle.capture_file.specs.PictureFile.{picture_text, raster_at, raster_octets, shown_of, shown_by}
 use Rattle.st_format.specs.Device.{AreOctets, TellsOctets}
 use Rattle.capture_file.specs.StateFile.{format_text, sampling_code}
 use Rattle.capture_file.proofs.Blocked.{block_parts, lowest_good}
@@ -371,7 +371,7 @@ abbrev with_shown : Shown → List ℕ → Result (Shown × List ℕ) FileFault
 with_shown s rest = Ok (s, rest)
 
 abbrev behind_samples : Fields → List ℕ × List ℕ → Result (Shown × List ℕ) FileFault
-behind_samples f s = nothing_at s.1 >>= λ e. with_shown (shows f s.0) e.1
+behind_samples f s = nothing_at s.1 >>= λ e. with_shown (shown_by f s.0) e.1
 
 abbrev behind_fields : Fields × List ℕ → Result (Shown × List ℕ) FileFault
 behind_fields f = raster_at f.0 f.1 >>= λ s. behind_samples f.0 s
@@ -391,9 +391,9 @@ picture_found p octets rest bytes e =
     let r = split_then (raster_at b.first.0 b.first.1) (λ s. behind_samples b.first.0 s) x b.next in
     let n =
     split_then (nothing_at r.first.1)
-    (λ e. with_shown (shows b.first.0 r.first.0) e.1) x r.next in
+    (λ e. with_shown (shown_by b.first.0 r.first.0) e.1) x r.next in
     let none = nothing_is r.first.1 n.first n.is in
-    let same : (shows b.first.0 r.first.0, n.first.1) ≡ x =
+    let same : (shown_by b.first.0 r.first.0, n.first.1) ≡ x =
     ap (λ (q : Result (Shown × List ℕ) FileFault). given q x) n.next in
     let fields : b.first.0 ≡ fields_of p.format = ap (λ (y : Shown × List ℕ). y.0.format) same in
     let samples : r.first.0 ≡ p.samples = ap (λ (y : Shown × List ℕ). y.0.samples) same in

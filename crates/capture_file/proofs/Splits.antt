@@ -30,7 +30,7 @@ use Rattle.capture_file.specs.Fronts.{kind_at, kind_of, kind_text, text_at, text
 use Rattle.capture_file.specs.Reading.{entries_by, entries_in, entries_up_to, path_of, rest_at}
 use Rattle.capture_file.specs.Records.{AllFit, Entry, Fits, entry_of, path_octet, record_text}
 use Rattle.capture_file.specs.Records.{records_text, rest_text}
-use Rattle.capture_file.specs.Runs.{HasNoRecord, IsRun}
+use Rattle.capture_file.specs.Runs.{HasNoRecord, AreRecordsOf}
 use Rattle.st_format.specs.Device.{AreOctets}
 use Rattle.st_format.proofs.Octets.{AreOctets-drop, AreOctets-take}
 use Rattle.capture_file.proofs.Cuts.{entries_front}
@@ -146,7 +146,7 @@ pub AreOctets-tail : (x : ℕ) (xs : List ℕ) → AreOctets (x ∷ xs) → AreO
 AreOctets-tail x xs h i = h (suc i)
 
 abbrev Split : ℕ → List ℕ → Type 0
-Split n octets = (rest : List ℕ) × IsRun (entries_up_to n octets) rest octets
+Split n octets = (rest : List ℕ) × AreRecordsOf (entries_up_to n octets) rest octets
 
 no_record_nil : HasNoRecord []
 no_record_nil e behind fits is = let n : length (record_text e ++ behind) ≡ 0 =
@@ -167,7 +167,7 @@ no_record first octets f bad e behind fits is =
 split_by : (n : ℕ) (first : ℕ) (octets : List ℕ) (r : Result (Entry × List ℕ) FileFault)
     → rest_at first octets ≡ r → AreOctets octets → length octets ≤ n
     → ((o : List ℕ) → AreOctets o → length o ≤ n → Split n o)
-    → (rest : List ℕ) × IsRun (entries_by r (entries_up_to n)) rest (first ∷ octets)
+    → (rest : List ℕ) × AreRecordsOf (entries_by r (entries_up_to n)) rest (first ∷ octets)
 split_by n first octets (Ok x) e bytes le more =
     let t = rest_takes first octets x bytes e in
     let shrinks : length x.1 ≤ length octets = rest_shrinks first octets x e in
@@ -198,7 +198,7 @@ split (suc n) (x ∷ octets) bytes le =
     (λ o b l. split n o b l)
 
 pub splits : (octets : List ℕ) → AreOctets octets
-    → (rest : List ℕ) × IsRun (entries_in octets) rest octets
+    → (rest : List ℕ) × AreRecordsOf (entries_in octets) rest octets
 splits octets bytes = split (length octets) octets bytes (omega arith)
 
 none_by : (first : ℕ) (octets : List ℕ) (r : Result (Entry × List ℕ) FileFault)
@@ -219,7 +219,7 @@ none_read (x ∷ octets) bytes none =
     none_by x octets (rest_at x octets) refl (AreOctets-tail x octets bytes) none
 
 pub run_read : (octets rest : List ℕ) (entries : List Entry) → AreOctets octets
-    → IsRun entries rest octets → entries ≡ entries_in octets
+    → AreRecordsOf entries rest octets → entries ≡ entries_in octets
 run_read octets rest entries bytes run =
     let rb : AreOctets rest =
     AreOctets-back (records_text entries) rest (subst AreOctets run.whole bytes) in
@@ -288,7 +288,7 @@ front_again Two text rest has =
     ∙ text_again text rest has
 
 -- what is a capture is read as what it says
-pub capture_again : (c : Content) (octets : List ℕ) (limit : ℕ) → IsCapture c octets
+pub capture_again : (c : Content) (octets : List ℕ) (limit : ℕ) → IsCapture octets c
     → length c.records ≤ limit → capture_at limit octets ≡ Ok (c, [])
 unfolding capture_at
 capture_again c octets limit is le =
@@ -306,7 +306,7 @@ abbrev content_in : Content → Result (Content × List ℕ) FileFault → Conte
 content_in c (Ok x) = x.0
 content_in c (Err f) = c
 
-pub one : (c d : Content) (octets : List ℕ) → IsCapture c octets → IsCapture d octets → c ≡ d
+pub one : (c d : Content) (octets : List ℕ) → IsCapture octets c → IsCapture octets d → c ≡ d
 one c d octets p q =
     let limit : ℕ = length c.records + length d.records in
     let a : said c.text c.records [] ≡ capture_at limit octets =
@@ -344,7 +344,7 @@ pub only_read : {A : Type 0} (limit : ℕ) (old new : Option (List ℕ))
     (r : Result (Capture A) FileFault)
     → IfOk r (λ v. Takes (capture_at limit) old new (capture_seen v))
     → IfErr r (λ f. Fails (capture_at limit) old f)
-    → (c : Content) (octets : List ℕ) → old ≡ Some octets → IsCapture c octets
+    → (c : Content) (octets : List ℕ) → old ≡ Some octets → IsCapture octets c
     → length c.records ≤ limit → MatchResult r (λ v. capture_seen v ≡ c) IsMachine
 only_read limit old new (Ok v) p q c octets told is le =
     only_ok c (capture_seen v) limit octets new (capture_again c octets limit is le)

@@ -9,14 +9,14 @@ use Rattle.capture_file.specs.declared.front.Version.TheVariants.{Two}
 use Rattle.capture_file.specs.Fronts.{front_text}
 use Rattle.capture_file.specs.Records.{records_text}
 use Rattle.capture_file.specs.Source.{IfTold}
-use Rattle.capture_file.specs.Writer.{IsDatagram, IsWritten, Place, StandsWritten, datagrams_in}
+use Rattle.capture_file.specs.Writer.{IsShortEnough, IsWritten, WriterPlace, StandsWritten, datagrams_in}
 use Rattle.capture_file.specs.Writer.{entries_of, moment_behind, place_behind, place_failed}
 use Rattle.capture_file.specs.Writer.{taken_of}
 use Rattle.capture_file.proofs.Datagrams.{holds, keeps, takes, writes}
 
 -- a writer that wrote a datagram took it
-pub takes_one : (p : Place) (old new : Option (List ℕ)) (d : List ℕ) → p.failed ≡ false
-    → p.moment < 2 ^ 64 → IsDatagram d → StandsWritten p old
+pub takes_one : (p : WriterPlace) (old new : Option (List ℕ)) (d : List ℕ) → p.failed ≡ false
+    → p.moment < 2 ^ 64 → IsShortEnough d → StandsWritten p old
     → Appends old new (records_text (entries_of p.paths p.moment d))
     → TakesOne (taken_of p old) (taken_of (place_behind p) new) d
 takes_one p None new d ok lt fits stands a = tt
@@ -27,8 +27,8 @@ takes_one p (Some o) (Some o2) d ok lt fits stands a =
     ∙ ap (λ (xs : List (List ℕ)). xs ++ d ∷ []) (sym (holds p.paths p.text_len p.moment o is))
 
 -- and one that was cut off didn't
-pub keeps_all : (p : Place) (old new : Option (List ℕ)) (d : List ℕ) → p.failed ≡ false
-    → p.moment < 2 ^ 64 → IsDatagram d → StandsWritten p old
+pub keeps_all : (p : WriterPlace) (old new : Option (List ℕ)) (d : List ℕ) → p.failed ≡ false
+    → p.moment < 2 ^ 64 → IsShortEnough d → StandsWritten p old
     → AppendsPrefix old new (records_text (entries_of p.paths p.moment d))
     → KeepsAll (taken_of p old) (taken_of (place_failed p) new)
 keeps_all p None new d ok lt fits stands a = tt
@@ -40,8 +40,8 @@ keeps_all p (Some o) (Some o2) d ok lt fits stands a =
     ∙ sym (holds p.paths p.text_len p.moment o is)
 
 -- behind a datagram the sink holds what was written
-pub stands_behind : (p : Place) (old new : Option (List ℕ)) (d : List ℕ) → p.failed ≡ false
-    → IsDatagram d → StandsWritten p old → StaysUntold old new
+pub stands_behind : (p : WriterPlace) (old new : Option (List ℕ)) (d : List ℕ) → p.failed ≡ false
+    → IsShortEnough d → StandsWritten p old → StaysUntold old new
     → Appends old new (records_text (entries_of p.paths p.moment d))
     → StandsWritten (place_behind p) new
 stands_behind p old None d ok fits stands untold a = tt
@@ -56,7 +56,7 @@ on_err (Ok x) = tt
 on_err (Err e) = tt
 
 -- a new writer
-abbrev pub place_new : Paths → List ℕ → Place
+abbrev pub place_new : Paths → List ℕ → WriterPlace
 place_new paths text = record { paths = paths; text_len = length text; moment = 0; failed = false }
 
 -- the sink of a new writer holds the capture of no datagram

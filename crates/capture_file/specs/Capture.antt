@@ -26,7 +26,7 @@ abbrev pub capture_text : List ℕ → List Entry → List ℕ
 capture_text text records = capture_by Two (record { text = text; records = records })
 
 -- The octets are a capture that says this.
-pub record IsCapture (c : Content) (octets : List ℕ) : Type 0 where
+pub record IsCapture (octets : List ℕ) (c : Content) : Type 0 where
   pub version : Version
   pub front : HasFront version c.text
   pub fit : AllFit c.records

@@ -41,17 +41,17 @@ pub record HasBadPath (octets : List ℕ) : Type 0 where
   pub path : 1 < slice_index octets 0
 
 -- the condition of each fault of a record at the front of octets
-abbrev pub RecordFault : FileFault → List ℕ → Type 0
-RecordFault Truncated octets = IsCutRecord octets
-RecordFault BadField octets = HasBadPath octets
-RecordFault fault octets = ⊥
+abbrev pub IsRecordFault : FileFault → List ℕ → Type 0
+IsRecordFault Truncated octets = IsCutRecord octets
+IsRecordFault BadField octets = HasBadPath octets
+IsRecordFault fault octets = ⊥
 
 -- CAPTURES
 
 -- A capture stands at the front, and these octets behind it.
 pub record HasBehind (capture : Content) (behind octets : List ℕ) : Type 0 where
   pub front : List ℕ
-  pub is : IsCapture capture front
+  pub is : IsCapture front capture
   pub whole : octets ≡ front ++ behind
 
 -- Version 02, and behind it the octets end within the two of the text's length, or within as many
@@ -67,7 +67,7 @@ pub record HasBadRecord (limit : ℕ) (fault : FileFault) (octets : List ℕ) : 
   pub behind : List ℕ
   pub stands : HasBehind capture behind octets
   pub few : length capture.records < limit
-  pub wrong : RecordFault fault behind
+  pub wrong : IsRecordFault fault behind
 
 -- Behind a capture of as many records as the limit allows stands an octet.
 pub record HasRecordMore (limit : ℕ) (octets : List ℕ) : Type 0 where
@@ -89,10 +89,10 @@ cut_place (Text cut) = InText
 cut_place (Record bad) = record_place bad.wrong
 
 -- the condition of each fault of a capture of at most so many records, by itself
-abbrev pub CaptureFault : ℕ → FileFault → List ℕ → Type 0
-CaptureFault limit BadName octets = HasOtherName capture_name octets
-CaptureFault limit BadVersion octets = HasOtherVersion capture_name octets
-CaptureFault limit Truncated octets = IsCutCapture limit octets
-CaptureFault limit BadField octets = HasBadRecord limit BadField octets
-CaptureFault limit TooManyRecords octets = HasRecordMore limit octets
-CaptureFault limit fault octets = ⊥
+abbrev pub IsCaptureFault : ℕ → FileFault → List ℕ → Type 0
+IsCaptureFault limit BadName octets = HasOtherName capture_name octets
+IsCaptureFault limit BadVersion octets = HasOtherVersion capture_name octets
+IsCaptureFault limit Truncated octets = IsCutCapture limit octets
+IsCaptureFault limit BadField octets = HasBadRecord limit BadField octets
+IsCaptureFault limit TooManyRecords octets = HasRecordMore limit octets
+IsCaptureFault limit fault octets = ⊥

@@ -10,11 +10,11 @@ use Rattle.capture_file.specs.declared.front.Version.TheVariants.{One}
 use Rattle.capture_file.specs.Fronts.{kind_text, picture_name}
 use Rattle.capture_file.specs.KindFaults.{HasKind, HasOtherName, IsCutKind}
 use Rattle.capture_file.specs.PictureFile.{head_of, raster_octets}
-use Rattle.capture_file.specs.StateFile.{HasRoom, format_text}
+use Rattle.capture_file.specs.StateFile.{FitsBlock, format_text}
 
 -- A format that there is, with its rate in lowest terms.
 pub record IsFormat (f : Fields) : Type 0 where
-  pub room : HasRoom f
+  pub room : FitsBlock f
   pub is : format_at f.sampling f.depth f.width f.height f.n f.d ≡ Ok f
 
 -- this name, and two octets that are not version 01
@@ -74,10 +74,10 @@ picture_place (Block cut) = InBlock
 picture_place (Groups cut) = InGroups
 
 -- the condition of each fault of a picture's file, by itself
-abbrev pub PictureFault : FileFault → List ℕ → Type 0
-PictureFault BadName octets = HasOtherName picture_name octets
-PictureFault BadVersion octets = HasOtherThanOne picture_name octets
-PictureFault Truncated octets = IsCutPicture octets
-PictureFault BadField octets = HasNoFormat octets
-PictureFault TrailingBytes octets = HasTrailing octets
-PictureFault fault octets = ⊥
+abbrev pub IsPictureFault : FileFault → List ℕ → Type 0
+IsPictureFault BadName octets = HasOtherName picture_name octets
+IsPictureFault BadVersion octets = HasOtherThanOne picture_name octets
+IsPictureFault Truncated octets = IsCutPicture octets
+IsPictureFault BadField octets = HasNoFormat octets
+IsPictureFault TrailingBytes octets = HasTrailing octets
+IsPictureFault fault octets = ⊥

@@ -57,13 +57,13 @@ nothing_at [] = Ok (tt, [])
 nothing_at (octet ∷ octets) = Err TrailingBytes
 
 -- a picture's file
-abbrev pub shows : Fields → List ℕ → Shown
-shows f samples = record { format = f; samples = samples }
+abbrev pub shown_by : Fields → List ℕ → Shown
+shown_by f samples = record { format = f; samples = samples }
 
 unfoldable pub picture_at : List ℕ → Result (Shown × List ℕ) FileFault
 picture_at octets =
     one_at picture_name octets >>= λ v. block_at v.1 >>= λ f. raster_at f.0 f.1 >>=
-    λ s. nothing_at s.1 >>= λ e. Ok (shows f.0 s.0, e.1)
+    λ s. nothing_at s.1 >>= λ e. Ok (shown_by f.0 s.0, e.1)
 
 -- A source gave octets that spell these values of so many bits.
 pub record GivesSpelled (bits : ℕ) (old new : Option (List ℕ)) (values : List ℕ) : Type 0 where

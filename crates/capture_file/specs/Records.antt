@@ -44,7 +44,7 @@ abbrev pub AllFit : List Entry → Type 0
 AllFit entries = AllByRecursion Fits entries
 
 -- an octet and ten more are the text of this head
-pub record IsHead (first : ℕ) (octets : List ℕ) (h : RecordHead) : Type 0 where
+pub record IsRecordHead (first : ℕ) (octets : List ℕ) (h : RecordHead) : Type 0 where
   pub first_is : first ≡ path_octet h.path
   pub moment : h.moment < 2 ^ 64
   pub length_fits : h.length < 2 ^ 16

@@ -9,7 +9,7 @@ HasNoRecord octets = (e : Entry) (behind : List ℕ) → Fits e → octets ≡ r
 
 -- The octets are these records and a rest at whose front stands no record: it is empty, or the
 -- first fault stands there.
-pub record IsRun (entries : List Entry) (rest octets : List ℕ) : Type 0 where
+pub record AreRecordsOf (entries : List Entry) (rest octets : List ℕ) : Type 0 where
   pub fit : AllFit entries
   pub whole : octets ≡ records_text entries ++ rest
   pub no_more : HasNoRecord rest

@@ -61,7 +61,7 @@ abbrev pub group_count : Fields → ℕ
 group_count f = f.height * (f.width / (pixel_group f.sampling f.depth).pixels)
 
 -- numbers that a format block has room for
-pub record HasRoom (f : Fields) : Type 0 where
+pub record FitsBlock (f : Fields) : Type 0 where
   pub width : f.width < 2 ^ 16
   pub height : f.height < 2 ^ 16
   pub n : f.n < 2 ^ 32
@@ -77,8 +77,8 @@ pub record IsHeld (f : Fields) (h : Held) : Type 0 where
   pub count : length h.groups ≡ group_count f
   pub groups : AllByRecursion (IsGroup (shape_of f.sampling f.depth)) h.groups
 
-pub record IsKept (k : Kept) : Type 0 where
-  pub room : HasRoom k.format
+pub record IsKeptReceiver (k : Kept) : Type 0 where
+  pub room : FitsBlock k.format
   pub ssrc : SsrcFits k.ssrc
   pub frames : AllByRecursion (IsHeld k.format) k.frames
 

@@ -42,8 +42,8 @@ moment_after paths moment [] = moment
 moment_after paths moment (d ∷ ds) = moment_after paths (moment_behind paths moment) ds
 
 -- the capture of a text and datagrams
-abbrev pub written : Paths → List ℕ → List (List ℕ) → List ℕ
-written paths text datagrams = front_text Two text ++ records_text (entries_from paths 0 datagrams)
+abbrev pub written_text : Paths → List ℕ → List (List ℕ) → List ℕ
+written_text paths text datagrams = front_text Two text ++ records_text (entries_from paths 0 datagrams)
 
 -- the first of each two
 abbrev pub first_of_two : List Entry → List (List ℕ)
@@ -63,14 +63,14 @@ abbrev pub datagrams_in : Paths → ℕ → List ℕ → List (List ℕ)
 datagrams_in paths text_len held = datagrams_by paths (entries_in (drop (10 + text_len) held))
 
 -- where a writer stands: the moment is that of the next record
-pub record Place : Type 0 where
+pub record WriterPlace : Type 0 where
   pub paths : Paths
   pub text_len : ℕ
   pub moment : ℕ
   pub failed : Bool
 
 -- behind a datagram, and after a fault
-abbrev pub place_behind : Place → Place
+abbrev pub place_behind : WriterPlace → WriterPlace
 place_behind p =
     record {
       paths = p.paths;
@@ -80,18 +80,18 @@ place_behind p =
       failed = p.failed;
     }
 
-abbrev pub place_failed : Place → Place
+abbrev pub place_failed : WriterPlace → WriterPlace
 place_failed p = record { paths = p.paths; text_len = p.text_len; moment = p.moment; failed = true }
 
 -- what is seen of a writer
 pub record Writer (K : Type 0) : Type 0 where
   pub sink : K
-  pub place : Place
+  pub place : WriterPlace
   pub failures : ℕ
 
 -- of at most 65,535 octets
-abbrev pub IsDatagram : List ℕ → Type 0
-IsDatagram octets = length octets < 2 ^ 16
+abbrev pub IsShortEnough : List ℕ → Type 0
+IsShortEnough octets = length octets < 2 ^ 16
 
 -- A sink holds the capture of a text and datagrams, of which the next record's moment is this.
 pub record IsWritten (paths : Paths) (text_len moment : ℕ) (held : List ℕ) : Type 0 where
@@ -99,18 +99,18 @@ pub record IsWritten (paths : Paths) (text_len moment : ℕ) (held : List ℕ) :
   pub datagrams : List (List ℕ)
   pub text_fits : length text < 2 ^ 16
   pub text_len_is : length text ≡ text_len
-  pub fit : AllByRecursion IsDatagram datagrams
+  pub fit : AllByRecursion IsShortEnough datagrams
   pub moment_is : moment_after paths 0 datagrams ≡ moment
-  pub whole : held ≡ written paths text datagrams
+  pub whole : held ≡ written_text paths text datagrams
 
 -- What a writer's sink holds, where it tells it: until a fault, the capture of a text and
 -- datagrams.
-abbrev pub StandsWritten : Place → Option (List ℕ) → Type 0
+abbrev pub StandsWritten : WriterPlace → Option (List ℕ) → Type 0
 StandsWritten p None = ⊤
 StandsWritten p (Some held) = p.failed ≡ false → IsWritten p.paths p.text_len p.moment held
 
 -- The datagrams that a writer took: those whose records its sink holds. Where the sink doesn't tell
 -- what it holds, they are not told.
-abbrev pub taken_of : Place → Option (List ℕ) → Option (List (List ℕ))
+abbrev pub taken_of : WriterPlace → Option (List ℕ) → Option (List (List ℕ))
 taken_of p None = None
 taken_of p (Some held) = Some (datagrams_in p.paths p.text_len held)

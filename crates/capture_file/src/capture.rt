@@ -47,11 +47,11 @@ pub fn read_capture<A: Allocator + Copy, S: ByteSource>(
     ensures counted { CountsDevice (S.failures source.old) (S.failures source.new) result }
     // What is read is a capture, all of it, of at most so many records.
     ensures found { IfOk result (λ v. (octets : List ℕ) → S.to_give source.old ≡ Some octets
-        → IsCapture (capture_seen v) octets × (length v.records.items ≤ limit)
+        → IsCapture octets (capture_seen v) × (length v.records.items ≤ limit)
         × IsAtEnd (S.to_give source.new)) }
     // What is a capture is read as what it says, unless the memory or the device fails.
     ensures only { (c : Content) (octets : List ℕ) → S.to_give source.old ≡ Some octets
-        → IsCapture c octets → length c.records ≤ limit
+        → IsCapture octets c → length c.records ≤ limit
         → MatchResult result (λ v. capture_seen v ≡ c) IsMachine }
 {
     read_whole_capture(alloc, source, limit)

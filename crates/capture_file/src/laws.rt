@@ -7,62 +7,62 @@ ghost use Rattle.st_format.specs.Picture.{IsPicture, Values};
 ghost use Rattle.st_format.specs.Turns.{Due};
 ghost use Rattle.capture_file.specs.declared.fault.FileFault.{FileFault};
 ghost use Rattle.capture_file.specs.Capture.{Content, IsCapture, capture_at};
-ghost use Rattle.capture_file.specs.CaptureFaults.{CaptureFault, IsCutCapture, RecordFault};
+ghost use Rattle.capture_file.specs.CaptureFaults.{IsCaptureFault, IsCutCapture, IsRecordFault};
 ghost use Rattle.capture_file.specs.CaptureFaults.{cut_place};
-ghost use Rattle.capture_file.specs.PictureFaults.{IsCutPicture, PictureFault, picture_place};
+ghost use Rattle.capture_file.specs.PictureFaults.{IsCutPicture, IsPictureFault, picture_place};
 ghost use Rattle.capture_file.specs.PictureFile.{picture_at, picture_text, shown_of};
 ghost use Rattle.capture_file.specs.Reader.{due_of, dues_in};
 ghost use Rattle.capture_file.specs.Reading.{entries_in, fault_at};
 ghost use Rattle.capture_file.specs.Records.{Entry};
-ghost use Rattle.capture_file.specs.Runs.{IsRun};
-ghost use Rattle.capture_file.specs.StateFile.{IsKept, Kept, cut_cells, state_text};
+ghost use Rattle.capture_file.specs.Runs.{AreRecordsOf};
+ghost use Rattle.capture_file.specs.StateFile.{IsKeptReceiver, Kept, cut_cells, state_text};
 
 /// The records that are read of octets are those that they spell up to their first fault.
 pub fn records_read()
     ensures { (octets : List ℕ) → AreOctets octets
-        → (rest : List ℕ) × IsRun (entries_in octets) rest octets }
+        → (rest : List ℕ) × AreRecordsOf (entries_in octets) rest octets }
 {}
 
 /// Octets spell one list of records up to their first fault: those that are read of them.
 pub fn one_run()
     ensures { (octets rest : List ℕ) (entries : List Entry) → AreOctets octets
-        → IsRun entries rest octets → entries ≡ entries_in octets }
+        → AreRecordsOf entries rest octets → entries ≡ entries_in octets }
 {}
 
 /// The turns of octets are the datagrams of the records that they spell up to their first fault.
 pub fn turns_of_run()
     ensures { (octets rest : List ℕ) (entries : List Entry) → AreOctets octets
-        → IsRun entries rest octets → dues_in octets ≡ map due_of entries }
+        → AreRecordsOf entries rest octets → dues_in octets ≡ map due_of entries }
 {}
 
 /// What is a capture is read as what it says.
 pub fn capture_read()
-    ensures { (c : Content) (octets : List ℕ) (limit : ℕ) → IsCapture c octets
+    ensures { (c : Content) (octets : List ℕ) (limit : ℕ) → IsCapture octets c
         → length c.records ≤ limit → capture_at limit octets ≡ Ok (c, []) }
 {}
 
 /// Octets are a capture of one content.
 pub fn one_content()
-    ensures { (c d : Content) (octets : List ℕ) → IsCapture c octets → IsCapture d octets → c ≡ d }
+    ensures { (c d : Content) (octets : List ℕ) → IsCapture octets c → IsCapture octets d → c ≡ d }
 {}
 
 /// What is wrong at the front of octets is a record's fault exactly where the fault's condition
 /// holds.
 pub fn record_fault()
     ensures { (f : FileFault) (octets : List ℕ)
-        → (fault_at octets ≡ Some f) ↔ RecordFault f octets }
+        → (fault_at octets ≡ Some f) ↔ IsRecordFault f octets }
 {}
 
 /// Octets are read as a capture with a fault exactly where the fault's condition holds.
 pub fn capture_fault()
     ensures { (limit : ℕ) (f : FileFault) (octets : List ℕ) → AreOctets octets
-        → (capture_at limit octets ≡ Err f) ↔ CaptureFault limit f octets }
+        → (capture_at limit octets ≡ Err f) ↔ IsCaptureFault limit f octets }
 {}
 
 /// At most one fault's condition holds of a capture.
 pub fn one_capture_fault()
     ensures { (limit : ℕ) (f g : FileFault) (octets : List ℕ)
-        → CaptureFault limit f octets → CaptureFault limit g octets → f ≡ g }
+        → IsCaptureFault limit f octets → IsCaptureFault limit g octets → f ≡ g }
 {}
 
 /// A capture that is cut is cut in one place.
@@ -74,15 +74,15 @@ pub fn one_cut()
 /// Octets are a capture of at most so many records, or a fault's condition holds of them.
 pub fn capture_or_fault()
     ensures { (limit : ℕ) (octets : List ℕ) → AreOctets octets
-        → ((c : Content) × IsCapture c octets × (length c.records ≤ limit))
-        ⊎ ((f : FileFault) × CaptureFault limit f octets) }
+        → ((c : Content) × IsCapture octets c × (length c.records ≤ limit))
+        ⊎ ((f : FileFault) × IsCaptureFault limit f octets) }
 {}
 
 /// A receiver has one file: two that have equal files have the same format, payload type, source,
 /// timestamps and cells. That equal ones have equal files is plain, since the text is a function of
 /// these.
 pub fn one_file()
-    ensures { (k l : Kept) → IsKept k → IsKept l → state_text k ≡ state_text l → k ≡ l }
+    ensures { (k l : Kept) → IsKeptReceiver k → IsKeptReceiver l → state_text k ≡ state_text l → k ≡ l }
 {}
 
 /// Cells with equal groups are equal: so with [`one_file`] equal files are of equal frames.
@@ -106,13 +106,13 @@ pub fn one_picture()
 /// Octets are read as a picture with a fault exactly where the fault's condition holds.
 pub fn picture_fault()
     ensures { (f : FileFault) (octets : List ℕ) → AreOctets octets
-        → (picture_at octets ≡ Err f) ↔ PictureFault f octets }
+        → (picture_at octets ≡ Err f) ↔ IsPictureFault f octets }
 {}
 
 /// At most one fault's condition holds of a picture's file.
 pub fn one_picture_fault()
     ensures { (f g : FileFault) (octets : List ℕ) → AreOctets octets
-        → PictureFault f octets → PictureFault g octets → f ≡ g }
+        → IsPictureFault f octets → IsPictureFault g octets → f ≡ g }
 {}
 
 /// A picture's file that is cut is cut in one place.

@@ -1,4 +1,4 @@
-//! Captures, pictures and receivers as files (own).
+//! Captures and pictures as files, and what a receiver's file says (own).
 #![tactic(auto)]
 
 mod block;

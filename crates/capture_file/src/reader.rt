@@ -137,7 +137,7 @@ impl<S: ByteSource> CaptureReader<S> {
         self.source
     }
 
-    // One failure more, which is told of.
+    /// One failure more, which is told of.
     fn fail(&mut self, fault: FileFault) -> Result<Turn, SourceFault>
         ensures fault { result ≡ Err (source_fault fault) }
         ensures standing { self.new.standing ≡ Failed fault }

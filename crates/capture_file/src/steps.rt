@@ -3,7 +3,7 @@ ghost use Rattle.std.specs.Prelude.{◌≡◌, ◌≤◌, ◌<◌, length, take,
 ghost use Rattle.std.specs.Io.KnownBytes.{Consumes, IsAtEnd, Keeps};
 ghost use Rattle.capture_file.specs.Faults.{CountsDevice, IsDevice};
 ghost use Rattle.capture_file.specs.Reading.{head_at, path_of};
-ghost use Rattle.capture_file.specs.Records.{IsHead, entry_of, path_octet};
+ghost use Rattle.capture_file.specs.Records.{IsRecordHead, entry_of, path_octet};
 ghost use Rattle.capture_file.specs.Source.{FailsRest, ReadsRest};
 
 use crate::fault::FileFault;
@@ -50,7 +50,7 @@ fn path_in(first: u8) -> Result<Path, FileFault>
 /// The head that an octet and the ten behind it make.
 fn head_of(first: u8, rest: &[u8; REST]) -> Result<RecordHead, FileFault>
     ensures exact { result ≡ head_at first rest.now }
-    ensures spelled { IfOk result (λ r. IsHead first rest.now r) }
+    ensures spelled { IfOk result (λ r. IsRecordHead first rest.now r) }
     ensures fault { IfErr result (λ f. f ≡ FileFault.BadField) }
 {
     let path = match path_in(first) {

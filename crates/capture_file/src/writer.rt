@@ -125,7 +125,7 @@ impl<K: ByteSink> CaptureWriter<K> {
         self.sink
     }
 
-    // One failure more, which is told of.
+    /// One failure more, which is told of.
     fn fail(&mut self) -> Result<(), SinkFault>
         ensures fault { IsErr result }
         ensures sink { self.new.sink ≡ self.old.sink }

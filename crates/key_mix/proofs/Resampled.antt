@@ -52,7 +52,7 @@ IsRate-prop n d x y =
 IsLowest-prop : (n d : ℕ) → IsProp (IsLowest n d)
 IsLowest-prop n d = let is : IsProp (common_divisor n d ≡ 1) = hlevel props in is
 
-resampled_once : (s : Sampling) (g f h : Format) → IsResampled s g f → IsResampled s g h → f ≡ h
+resampled_once : (s : Sampling) (g f h : Format) → IsResampled f g s → IsResampled h g s → f ≡ h
 resampled_once s g f h x y =
     let e : f.sampling ≡ h.sampling = x.sampling ∙ sym y.sampling in
     let b : f.depth ≡ h.depth = x.depth ∙ sym y.depth in

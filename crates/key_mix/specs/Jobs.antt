@@ -56,9 +56,9 @@ abbrev pub IsJobPicture : Job → List Values → Values → Type 0
 IsJobPicture (Limit range) (v ∷ []) p = IsOf v.format (limit_value range v) p
 IsJobPicture (Gain g) (v ∷ []) p = IsOf v.format (gain_value g v) p
 IsJobPicture ToYcc444 (v ∷ []) p =
-    IsResampled Ycc444 v.format p.format × IsOf p.format (ycc444_value v) p
+    IsResampled p.format v.format Ycc444 × IsOf p.format (ycc444_value v) p
 IsJobPicture ToYcc422 (v ∷ []) p =
-    IsResampled Ycc422 v.format p.format × IsOf p.format (ycc422_value v) p
+    IsResampled p.format v.format Ycc422 × IsOf p.format (ycc422_value v) p
 IsJobPicture (Wipe w) (a ∷ b ∷ []) p = IsOf a.format (wipe_value w a b) p
 IsJobPicture Key (a ∷ b ∷ k ∷ []) p = IsOf a.format (key_value a b k) p
 IsJobPicture j vs p = ⊥
@@ -89,8 +89,8 @@ abbrev pub IsJobFormat : Job → List Format → Format → Type 0
 IsJobFormat j [] f = ⊥
 IsJobFormat (Limit range) (g ∷ gs) f = f ≡ g
 IsJobFormat (Gain gain) (g ∷ gs) f = f ≡ g
-IsJobFormat ToYcc444 (g ∷ gs) f = IsResampled Ycc444 g f
-IsJobFormat ToYcc422 (g ∷ gs) f = IsResampled Ycc422 g f
+IsJobFormat ToYcc444 (g ∷ gs) f = IsResampled f g Ycc444
+IsJobFormat ToYcc422 (g ∷ gs) f = IsResampled f g Ycc422
 IsJobFormat (Wipe w) (g ∷ gs) f = f ≡ g
 IsJobFormat Key (g ∷ gs) f = f ≡ g
 

@@ -3,7 +3,6 @@ ghost use Rattle.std.specs.Prelude.{◌≡◌};
 
 use bt709_fixed::ColourFault;
 use packet_plan::{PlanFault, SendFault};
-use st_format::PictureFault;
 use std::alloc::AllocError;
 use std::fmt;
 use thiserror::Error;

@@ -39,7 +39,7 @@ use crate::JobFault;
 use crate::formats::test_key;
 use crate::rows::luma_in_row;
 use bt709_fixed::scale_of;
-use st_format::{Depth, Format, Picture, Sampling};
+use st_format::{Format, Picture, Sampling};
 use std::alloc::{AllocError, Allocator};
 
 /// `a` where the luma of `by` is black, `b` where it is white, and a mix between. `FormatsDiffer`

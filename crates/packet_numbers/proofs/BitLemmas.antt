@@ -158,19 +158,9 @@ flags_of_union words others news count is =
 
 -- ---- through the vector that keeps the words
 
-abbrev pub IsRoom : ℕ → List ℕ → Type 0
-IsRoom count items = (count ≤ 64 * length items) × (64 * length items < count + 64)
-
 back : (len : ℕ) (items new : List ℕ) → length new ≡ len
     → take len (new ++ drop (length new) items) ≡ new
 back len items new long = take_at new (drop (length new) items) len long
-
-pub room_back : (len count : ℕ) (items new : List ℕ) → IsRoom count items → length new ≡ len
-    → length items ≡ len → IsRoom count (take len (new ++ drop (length new) items))
-room_back len count items new room long was =
-    let e : length (take len (new ++ drop (length new) items)) ≡ length items =
-    ap length (back len items new long) ∙ long ∙ sym was in
-    (omega (arith, e), omega (arith, e))
 
 pub set_back : (len count place : ℕ) (view : List Bool) (items cells new : List ℕ)
     → flags_of items count ≡ view → cells ≡ items → length new ≡ len → place < length view

@@ -272,22 +272,6 @@ front_at r xs ys behind post extended n hs ks is none parts same long room =
     ∙ ap (λ (zs : List ℕ). zs ++ t) head
     ∙ ap (λ (gs : List SegmentHead). fixed_text plain r ++ front_text extended gs) same
 
-pub text_at : (p : Values) (stamp : Stamp) (i n : ℕ) (l : Bool) (rs : List PacketRun) (f : Format)
-    (front all : List ℕ) → all ≡ front ++ flat_map (run_octets p) rs
-    → front
-    ≡ fixed_text plain (header_of stamp n l []) ++ front_text (n / 65536) (map (head_of f) rs)
-    → n ≡ number_of stamp i → f ≡ p.format → all ≡ datagram_text p stamp i l rs
-text_at p stamp i n l rs f front all ea eb en ef =
-    let x : List ℕ = fixed_text plain (header_of stamp n l []) in
-    ea ∙ ap (λ (xs : List ℕ). xs ++ flat_map (run_octets p) rs) eb
-    ∙ append_assoc x (front_text (n / 65536) (map (head_of f) rs)) (flat_map (run_octets p) rs)
-    ∙ ap
-    (λ (g : Format). x ++
-    (front_text (n / 65536) (map (head_of g) rs) ++ flat_map (run_octets p) rs)) ef
-    ∙ ap
-    (λ (m : ℕ). fixed_text plain (header_of stamp m l []) ++
-    (front_text (m / 65536) (map (head_of p.format) rs) ++ flat_map (run_octets p) rs)) en
-
 -- how long it is
 pub octets_at : (p : Values) (rs : List PacketRun)
     → 14 + 6 * length rs + length (flat_map (run_octets p) rs) ≡ packet_octets p.format rs

@@ -1,7 +1,7 @@
 -- Which refusal ends a run of `process`: the first in one order of those that speak against its
 -- words and files (own). Each is said to stand only where none before it does.
 use Rattle.std.specs.Prelude.{◌≡◌, ℕ, ◌<◌, List, length, take, slice_index_or, Option, None, Some}
-use Rattle.capture_file.specs.PictureFaults.{PictureFault}
+use Rattle.capture_file.specs.PictureFaults.{IsPictureFault}
 use Rattle.file_engines.specs.Refusing.{IsStateRefusal}
 use Rattle.file_engines.specs.declared.fault.Refusal.{Refusal}
 use Rattle.file_engines.specs.declared.fault.Refusal.TheVariants as refusal
@@ -71,7 +71,7 @@ IsJobRefusal job w rs held r =
 -- the refusal of a picture's file: the fault's condition holds of the octets, where they are told
 abbrev pub IsPictureRefusal : Option (List ℕ) → Refusal → Type 0
 IsPictureRefusal told (refusal.Picture f) =
-    (octets : List ℕ) → told ≡ Some octets → AreOctets octets → PictureFault f octets
+    (octets : List ℕ) → told ≡ Some octets → AreOctets octets → IsPictureFault f octets
 IsPictureRefusal told r = ⊥
 
 -- the refusal of the file of the picture that is held

@@ -11,7 +11,7 @@ use Rattle.path_merge.specs.Frames.{IsReceiver, State}
 use Rattle.path_merge.specs.Opening.{IsWindow}
 use Rattle.capture_file.specs.declared.front.Version.TheVariants.{One}
 use Rattle.capture_file.specs.Fronts.{kind_text, receiver_name}
-use Rattle.capture_file.specs.StateFile.{Held, IsKept, Kept, SsrcFits, cut_cells, format_text}
+use Rattle.capture_file.specs.StateFile.{Held, IsKeptReceiver, Kept, SsrcFits, cut_cells, format_text}
 use Rattle.capture_file.specs.StateFile.{group_count, held_of, held_text, opening_text}
 
 -- what is kept of frames, one for each timestamp
@@ -35,7 +35,7 @@ timestamp_in h = h.timestamp
 -- What a file can say: a format there is, with its rate in lowest terms, a payload type of seven
 -- bits, and a window of 1 to 16 timestamps, all different
 pub record IsSaved (k : Kept) : Type 0 where
-  pub kept : IsKept k
+  pub kept : IsKeptReceiver k
   pub format : format_at k.format.sampling k.format.depth k.format.width k.format.height k.format.n
       k.format.d ≡ Ok k.format
   pub payload_type : k.payload_type < 128

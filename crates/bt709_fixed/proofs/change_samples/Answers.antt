@@ -3,7 +3,7 @@ use Rattle.std.specs.Prelude.{pos}
 use Rattle.st_format.specs.Pgroup.{bits_of}
 use Rattle.st_format.specs.Position.{component_in_row}
 use Rattle.lane_kernels.specs.Formulas.{clip, gain}
-use Rattle.bt709_fixed.specs.Operations.{changed, is_colour}
+use Rattle.bt709_fixed.specs.Operations.{changed_by, is_colour}
 use Rattle.bt709_fixed.specs.declared.Change.TheVariants.{Limit}
 use Rattle.bt709_fixed.proofs.Made.{some_bits}
 use Rattle.bt709_fixed.proofs.InTurn.{colour_turns, gained_turns, limited_turns}
@@ -20,7 +20,7 @@ returns-in-Gain-clause-each c = λ k h.
     c.gain_about.ensures.each k h ∙ (λ i. clip s (255 * s - 1) (gain (zero i) c.in-Gain.g v))
     ∙ gained_turns c.in-Gain.g (bits_of c.args.depth) s v colour (some_bits c.args.depth)
     c.scale_of-s.ensures.value
-    ∙ ap (λ change. changed change (bits_of c.args.depth) colour v) (sym c.in-Gain.is)
+    ∙ ap (λ change. changed_by change (bits_of c.args.depth) colour v) (sym c.in-Gain.is)
 
 pub returns-in-Nominal-clause-each : goal.returns-in-Nominal-clause-each
 returns-in-Nominal-clause-each c = λ k h.
@@ -32,5 +32,5 @@ returns-in-Nominal-clause-each c = λ k h.
     ∙ colour_turns c.args.sampling k (235 * s) (240 * s) in
     c.clip_below.ensures.each k h ∙ (λ i. clip (16 * s) (high i) (pos v))
     ∙ limited_turns (bits_of c.args.depth) s v colour c.scale_of-s.ensures.value
-    ∙ ap (λ change. changed change (bits_of c.args.depth) colour v)
+    ∙ ap (λ change. changed_by change (bits_of c.args.depth) colour v)
     (sym (c.in-Limit.is ∙ ap Limit c.in-Nominal.is))

@@ -3,7 +3,7 @@ use Rattle.std.proofs.lemmas.List.{take_at}
 use Rattle.st_format.specs.Pgroup.{bits_of}
 use Rattle.st_format.specs.Picture.{IsPicture}
 use Rattle.st_format.specs.Position.{component_in_row}
-use Rattle.bt709_fixed.specs.Operations.{IsOf, is_colour, changed, changed_value}
+use Rattle.bt709_fixed.specs.Operations.{IsOf, is_colour, changed_by, changed_value}
 use Rattle.bt709_fixed.proofs.Made.{made, some_bits}
 use Rattle.bt709_fixed.proofs.Ranges.{changed_fits}
 use Rattle.bt709_fixed.proofs.changed.Goals as goal
@@ -18,11 +18,11 @@ from_samples-requires g c =
     let d = c.depth.ensures ∙ ap (λ f. f.depth) form in
     let is =
     made v c.format-format.result new
-    (λ k x. changed c.args.change (bits_of v.format.depth)
+    (λ k x. changed_by c.args.change (bits_of v.format.depth)
     (is_colour v.format.sampling k) x) form c.format-format.ensures.whole
     (c.change_samples.ensures.long ∙ ap length old)
     (λ k h. c.change_samples.ensures.each k h
-    ∙ (λ j. changed c.args.change (bits_of (d j)) (is_colour (s j) (component_in_row (s j) k))
+    ∙ (λ j. changed_by c.args.change (bits_of (d j)) (is_colour (s j) (component_in_row (s j) k))
     (get_or (old j) k 0)))
     (λ k x. changed_fits c.args.change (bits_of v.format.depth) (is_colour v.format.sampling k) x
     (some_bits v.format.depth)) in
@@ -43,11 +43,11 @@ returns-clause-value g c =
     let d = c.depth.ensures ∙ ap (λ f. f.depth) form in
     let is =
     made v c.format-format.result new
-    (λ k x. changed c.args.change (bits_of v.format.depth)
+    (λ k x. changed_by c.args.change (bits_of v.format.depth)
     (is_colour v.format.sampling k) x) form c.format-format.ensures.whole
     (c.change_samples.ensures.long ∙ ap length old)
     (λ k h. c.change_samples.ensures.each k h
-    ∙ (λ j. changed c.args.change (bits_of (d j)) (is_colour (s j) (component_in_row (s j) k))
+    ∙ (λ j. changed_by c.args.change (bits_of (d j)) (is_colour (s j) (component_in_row (s j) k))
     (get_or (old j) k 0)))
     (λ k x. changed_fits c.args.change (bits_of v.format.depth) (is_colour v.format.sampling k) x
     (some_bits v.format.depth)) in

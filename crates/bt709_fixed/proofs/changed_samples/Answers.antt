@@ -3,7 +3,7 @@ use Rattle.std.proofs.Common.{arith}
 use Rattle.std.proofs.lemmas.List.{length-append, length-take, length-drop, take_at}
 use borrow.Rule.Slice.PartMut.{put_mid, same_len_mid}
 use Rattle.st_format.specs.Pgroup.{bits_of}
-use Rattle.bt709_fixed.specs.Operations.{changed, is_colour}
+use Rattle.bt709_fixed.specs.Operations.{changed_by, is_colour}
 use Rattle.bt709_fixed.proofs.InTurn.{more_turns}
 use Rattle.bt709_fixed.proofs.changed_samples.Goals as goal
 
@@ -17,7 +17,7 @@ loop-done-preserved g c =
     let n : ℕ = c.min-some.result in
     let s = c.args.sampling in
     let of : ℕ → ℕ → ℕ = λ component x.
-    changed c.args.change (bits_of c.args.depth) (is_colour s component) x in
+    changed_by c.args.change (bits_of c.args.depth) (is_colour s component) x in
     let inv = c.loop-done.invariant in
     let us : List ℕ = take (d + n - d) (drop d full) in
     let is : xs ≡ vs ++ us =

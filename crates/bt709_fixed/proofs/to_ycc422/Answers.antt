@@ -12,7 +12,7 @@ from_samples-requires g c =
     let s = sym (ap (λ f. f.sampling) form) ∙ sym c.sampling.ensures ∙ c.in-Ycc444.is in
     let full = c.samples-full.ensures.value in
     let is = thinned_picture v c.as_ycc422.result c.in_ok-samples.samples.items s
-    (subst (λ f. IsResampled Ycc422 f c.as_ycc422.result) form c.as_ycc422.ensures)
+    (subst (λ f. IsResampled c.as_ycc422.result f Ycc422) form c.as_ycc422.ensures)
     c.samples-full.ensures.whole
     (c.in_ok-samples.ensures.long ∙ ap (λ xs. 4 * (length xs / 6)) full)
     (λ k h. c.in_ok-samples.ensures.each k h ∙ ap (λ xs. get_or xs (thinned_number k) 0) full) in
@@ -25,7 +25,7 @@ returns-clause-made g c =
     let s = sym (ap (λ f. f.sampling) form) ∙ sym c.sampling.ensures ∙ c.in-Ycc444.is in
     let full = c.samples-full.ensures.value in
     let is = thinned_picture v c.as_ycc422.result c.in_ok-samples.samples.items s
-    (subst (λ f. IsResampled Ycc422 f c.as_ycc422.result) form c.as_ycc422.ensures)
+    (subst (λ f. IsResampled c.as_ycc422.result f Ycc422) form c.as_ycc422.ensures)
     c.samples-full.ensures.whole
     (c.in_ok-samples.ensures.long ∙ ap (λ xs. 4 * (length xs / 6)) full)
     (λ k h. c.in_ok-samples.ensures.each k h ∙ ap (λ xs. get_or xs (thinned_number k) 0) full) in

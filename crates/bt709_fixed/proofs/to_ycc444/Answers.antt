@@ -22,7 +22,7 @@ from_samples-requires g c =
     let d = c.depth.ensures ∙ ap (λ f. f.depth) form in
     let rgb = c.samples-rgb.ensures.value in
     let is = matrixed_picture v c.as_ycc444.result c.in_ok-samples.samples.items s
-    (subst (λ f. IsResampled Ycc444 f c.as_ycc444.result) form c.as_ycc444.ensures)
+    (subst (λ f. IsResampled c.as_ycc444.result f Ycc444) form c.as_ycc444.ensures)
     c.samples-rgb.ensures.whole
     (c.in_ok-samples.ensures.long ∙ ap length rgb)
     (λ k h. c.in_ok-samples.ensures.each k h ∙ (λ j. matrixed_at (bits_of (d j)) (rgb j) k)) in
@@ -36,7 +36,7 @@ returns-clause-made g c =
     let d = c.depth.ensures ∙ ap (λ f. f.depth) form in
     let rgb = c.samples-rgb.ensures.value in
     let is = matrixed_picture v c.as_ycc444.result c.in_ok-samples.samples.items s
-    (subst (λ f. IsResampled Ycc444 f c.as_ycc444.result) form c.as_ycc444.ensures)
+    (subst (λ f. IsResampled c.as_ycc444.result f Ycc444) form c.as_ycc444.ensures)
     c.samples-rgb.ensures.whole
     (c.in_ok-samples.ensures.long ∙ ap length rgb)
     (λ k h. c.in_ok-samples.ensures.each k h ∙ (λ j. matrixed_at (bits_of (d j)) (rgb j) k)) in

@@ -1,4 +1,4 @@
-use Rattle.std.proofs.Common.{◌≤◌, length, get_or, ap, arith}
+use Rattle.std.proofs.Common.{◌≤◌, length, get_or, arith}
 use Rattle.std.proofs.lemmas.List.{take_all}
 use Rattle.st_format.specs.Device.{CountsOne}
 use Rattle.capture_file.specs.declared.record.Record.{Record}

@@ -1,13 +1,13 @@
 use Rattle.std.proofs.Common.{arith}
 use Rattle.std.proofs.lemmas.Result.{on_err_weaker}
-use Rattle.capture_file.specs.Writer.{Place}
+use Rattle.capture_file.specs.Writer.{WriterPlace}
 use Rattle.capture_file.proofs.Told.{takes_one, keeps_all, on_err, stands_behind}
 use Rattle.capture_file.proofs.writer.CaptureWriterDatagramSink.put.Goals as goal
 
 pub returns-in-Ok-clause-taken : goal.returns-in-Ok-clause-taken
 returns-in-Ok-clause-taken g c =
     let w = c.self.inside in
-    let p : Place =
+    let p : WriterPlace =
     record { paths = w.paths; text_len = w.text_len; moment = w.moment; failed = w.failed } in
     rw (← c.self.view_is, c.width.ensures)
     (takes_one p _ _ c.args.octets.now c.if-self.false c.self.invariant.0
@@ -16,7 +16,7 @@ returns-in-Ok-clause-taken g c =
 pub returns-in-Err-clause-fault : goal.returns-in-Err-clause-fault
 returns-in-Err-clause-fault g c =
     let w = c.self.inside in
-    let p : Place =
+    let p : WriterPlace =
     record { paths = w.paths; text_len = w.text_len; moment = w.moment; failed = w.failed } in
     rw (← c.self.view_is, c.fail-in-Err.ensures.place, c.fail-in-Err.ensures.sink)
     (on_err_weaker c.fail-in-Err.result
@@ -27,7 +27,7 @@ returns-in-Err-clause-fault g c =
 pub invariant_of-self : goal.invariant_of-self
 invariant_of-self g c =
     let w = c.self.inside in
-    let p : Place =
+    let p : WriterPlace =
     record { paths = w.paths; text_len = w.text_len; moment = w.moment; failed = w.failed } in
     rw c.width.ensures (
       omega arith,
