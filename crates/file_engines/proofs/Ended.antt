@@ -2,8 +2,8 @@
 use Rattle.std.proofs.Common.{◌≡◌, ◌⊎◌, inl, inr, List, [], ◌∷◌, ◌++◌, Result, Ok, Err}
 use Rattle.std.specs.Prelude.{IfErr, OnOk}
 use Rattle.st_format.specs.Device.{Failed}
-use Rattle.file_engines.specs.Fault.{Accounts, Failures, HasWorked, IfRefused, IsDone, IsFailed}
-use Rattle.file_engines.specs.Fault.{IsRefused, NoneFailed, OneFailed}
+use Rattle.file_engines.specs.Fault.{Accounts, EndsDone, EndsFailed, EndsRefused, EndsWorked}
+use Rattle.file_engines.specs.Fault.{Failures, IfRefused, NoneFailed, OneFailed}
 use Rattle.file_engines.specs.declared.fault.Fault.{Fault}
 use Rattle.file_engines.specs.declared.fault.Fault.TheVariants.{Refused, Device, Memory}
 
@@ -26,7 +26,7 @@ nor_the_last (a ∷ b ∷ ds) d none is = (none.0, nor_the_last (b ∷ ds) d non
 
 -- a device of the run failed, or that of the faults
 pub one_failed : {V : Type 0} (r : Result V Fault) (ds : List Failures) (d : Failures)
-    → Accounts r ds → IsFailed r ⊎ Failed d.before d.after → OneFailed (ds ++ d ∷ [])
+    → Accounts r ds → EndsFailed r ⊎ Failed d.before d.after → OneFailed (ds ++ d ∷ [])
 one_failed r ds d says (inr last) = the_last ds d last
 one_failed (Ok v) ds d says (inl is) = absurd is
 one_failed (Err (Refused e)) ds d says (inl is) = absurd is
@@ -35,18 +35,18 @@ one_failed (Err Memory) ds d says (inl is) = absurd is
 
 -- none of them did
 pub none_failed : {V : Type 0} (r : Result V Fault) (ds : List Failures) (d : Failures)
-    → Accounts r ds → HasWorked r → d.after ≡ d.before → NoneFailed (ds ++ d ∷ [])
+    → Accounts r ds → EndsWorked r → d.after ≡ d.before → NoneFailed (ds ++ d ∷ [])
 none_failed (Ok v) ds d says worked last = nor_the_last ds d says last
 none_failed (Err (Refused e)) ds d says worked last = nor_the_last ds d says last
 none_failed (Err Device) ds d says worked last = absurd worked
 none_failed (Err Memory) ds d says worked last = nor_the_last ds d says last
 
 -- what holds of a run that came to its end, and of one that was refused
-pub on_done : {V : Type 0} (r : Result V Fault) (P : Type 0) → IsDone r → OnOk r P → P
+pub on_done : {V : Type 0} (r : Result V Fault) (P : Type 0) → EndsDone r → OnOk r P → P
 on_done (Ok v) P done is = is
 on_done (Err e) P done is = absurd done
 
-pub on_refused : {V : Type 0} (r : Result V Fault) (P : Type 0) → IsRefused r
+pub on_refused : {V : Type 0} (r : Result V Fault) (P : Type 0) → EndsRefused r
     → IfErr r (λ f. IfRefused f P) → P
 on_refused (Ok v) P refused is = absurd refused
 on_refused (Err (Refused e)) P refused is = is

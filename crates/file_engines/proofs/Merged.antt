@@ -8,7 +8,7 @@ use Rattle.path_merge.specs.Frames.{Holds, State, frames_of, joined_frames}
 use Rattle.path_merge.specs.Opening.{Opening}
 use Rattle.path_merge.proofs.Frames.{frames_of-append}
 use Rattle.receiver_file.specs.Saved.{kept_of}
-use Rattle.file_engines.specs.Merging.{IsAgain, Joins, Merges, merged}
+use Rattle.file_engines.specs.Merging.{IsAgain, Joins, Merges, merged_state}
 
 -- what follows from what holds after a success
 pub on_ok : {V E : Type 0} (r : Result V E) (P Q : Type 0) → (P → Q) → OnOk r P → OnOk r Q
@@ -18,7 +18,7 @@ on_ok (Err e) P Q then is = is
 -- what was read of two files, merged
 pub joined : (s t l r m : State) → IsAgain s l → IsAgain t r → l.opening ≡ r.opening
     → m.opening ≡ l.opening → m.frames ≡ joined_frames l.frames r.frames
-    → (s.opening ≡ t.opening) × IsAgain (merged s t) m
+    → (s.opening ≡ t.opening) × IsAgain (merged_state s t) m
 joined s t l r m left right alike opening frames = (
   sym left.opening ∙ alike ∙ right.opening,
   record {
@@ -39,7 +39,7 @@ same_kept s r again =
 
 holds_both : (s t : State) → s.opening ≡ t.opening → (xs ys : List (List ℕ)) → Holds s xs
     → Holds t ys
-    → Holds (merged s t) (xs ++ ys)
+    → Holds (merged_state s t) (xs ++ ys)
 holds_both s t alike xs ys holds_xs holds_ys =
     ap (λ (rs : List Raster). joined_frames rs t.frames) holds_xs
     ∙ ap (joined_frames (frames_of s.opening xs))
@@ -51,12 +51,12 @@ pub merges : (left right old new : Option (List ℕ)) (m : State) → Joins left
     → Appends old new (state_text (kept_of m)) → Merges left right old new
 merges left right old new m joins taken = record {
   saved = λ s t gives also_gives.
-      let is : (s.opening ≡ t.opening) × IsAgain (merged s t) m =
+      let is : (s.opening ≡ t.opening) × IsAgain (merged_state s t) m =
       joins.joined s t gives also_gives in
       record {
         alike = is.0;
         taken = subst (λ (k : Kept). Appends old new (state_text k))
-            (same_kept (merged s t) m is.1) taken;
+            (same_kept (merged_state s t) m is.1) taken;
         holds = holds_both s t is.0;
       };
 }

@@ -6,8 +6,9 @@ use Rattle.std.specs.List.{flat_map}
 use Rattle.std.specs.Io.KnownBytes.{Appends}
 use Rattle.capture_file.specs.StateFile.{state_text}
 use Rattle.receiver_file.specs.Saved.{kept_of}
+use Rattle.tool_text.specs.Sources.{IsSourceText}
 use Rattle.tool_text.specs.Timestamps.{AreTimestamps}
-use Rattle.file_engines.specs.Taking.{AllTell, HoldsBy, IsPin, Receives, Stands, TakesFile}
+use Rattle.file_engines.specs.Taking.{AllTell, HoldsBy, Receives, Stands, TakesFile}
 use Rattle.file_engines.specs.Taking.{TakesFiles, TakesFirst, capture_datagrams}
 use Rattle.file_engines.specs.declared.receive.Opening.{Opening}
 use Rattle.file_engines.specs.declared.session.Session.{Session}
@@ -129,7 +130,7 @@ all_rotated o f k start now before after rotated all = record {
 pub receives : {S A : Type 0} (o : Opening A) (window source : List ℕ) (f : S → Option (List ℕ))
     (captures : List S)
     (begun : Option (Session A)) (s : Session A) (old new : Option (List ℕ))
-    → AreTimestamps window o.window.items → IsPin source o.ssrc → Stands o begun []
+    → AreTimestamps window o.window.items → IsSourceText source o.ssrc → Stands o begun []
     → TakesFiles o f captures begun (Some s) → Appends old new (state_text (kept_of s.receiver))
     → Receives window source f captures old new
 receives o window source f captures begun s old new is_window is_source stands files taken =
@@ -140,7 +141,7 @@ receives o window source f captures begun s old new is_window is_source stands f
           record {
             receiver = s.receiver;
             window_is = subst (λ (w : List ℕ). AreTimestamps window w) (sym holds.window) is_window;
-            source_is = subst (λ (p : Option ℕ). IsPin source p) (sym holds.ssrc) is_source;
+            source_is = subst (λ (p : Option ℕ). IsSourceText source p) (sym holds.ssrc) is_source;
             holds = holds.holds;
             taken = taken;
           };

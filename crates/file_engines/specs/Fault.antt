@@ -59,27 +59,27 @@ IfRefused Memory P = ⊤
 -- ---- what a run came to
 
 -- its end
-abbrev pub IsDone : {V : Type 0} → Result V Fault → Type 0
-IsDone (Ok v) = ⊤
-IsDone (Err f) = ⊥
+abbrev pub EndsDone : {V : Type 0} → Result V Fault → Type 0
+EndsDone (Ok v) = ⊤
+EndsDone (Err f) = ⊥
 
 -- a refusal
-abbrev pub IsRefused : {V : Type 0} → Result V Fault → Type 0
-IsRefused (Ok v) = ⊥
-IsRefused (Err (Refused r)) = ⊤
-IsRefused (Err Device) = ⊥
-IsRefused (Err Memory) = ⊥
+abbrev pub EndsRefused : {V : Type 0} → Result V Fault → Type 0
+EndsRefused (Ok v) = ⊥
+EndsRefused (Err (Refused r)) = ⊤
+EndsRefused (Err Device) = ⊥
+EndsRefused (Err Memory) = ⊥
 
 -- a device's fault
-abbrev pub IsFailed : {V : Type 0} → Result V Fault → Type 0
-IsFailed (Ok v) = ⊥
-IsFailed (Err (Refused r)) = ⊥
-IsFailed (Err Device) = ⊤
-IsFailed (Err Memory) = ⊥
+abbrev pub EndsFailed : {V : Type 0} → Result V Fault → Type 0
+EndsFailed (Ok v) = ⊥
+EndsFailed (Err (Refused r)) = ⊥
+EndsFailed (Err Device) = ⊤
+EndsFailed (Err Memory) = ⊥
 
 -- anything but a device's fault
-abbrev pub HasWorked : {V : Type 0} → Result V Fault → Type 0
-HasWorked (Ok v) = ⊤
-HasWorked (Err (Refused r)) = ⊤
-HasWorked (Err Device) = ⊥
-HasWorked (Err Memory) = ⊤
+abbrev pub EndsWorked : {V : Type 0} → Result V Fault → Type 0
+EndsWorked (Ok v) = ⊤
+EndsWorked (Err (Refused r)) = ⊤
+EndsWorked (Err Device) = ⊥
+EndsWorked (Err Memory) = ⊤

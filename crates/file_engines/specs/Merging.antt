@@ -20,15 +20,17 @@ pub record IsAgain (s r : State) : Type 0 where
   pub frames : r.frames ≡ s.frames
 
 -- two receivers as one: each frame is the join of theirs
-abbrev pub merged : State → State → State
-merged s t = record { opening = s.opening; frames = joined_frames s.frames t.frames; refusals = [] }
+abbrev pub merged_state : State → State → State
+merged_state s t =
+    record { opening = s.opening; frames = joined_frames s.frames t.frames; refusals = [] }
 
 -- A sink took the file of two receivers merged, which are opened alike. So it is the file of one
 -- that holds the datagrams of both.
 pub record SavesMerged (s t : State) (old new : Option (List ℕ)) : Type 0 where
   pub alike : s.opening ≡ t.opening
-  pub taken : Appends old new (state_text (kept_of (merged s t)))
-  pub holds : (xs ys : List (List ℕ)) → Holds s xs → Holds t ys → Holds (merged s t) (xs ++ ys)
+  pub taken : Appends old new (state_text (kept_of (merged_state s t)))
+  pub holds : (xs ys : List (List ℕ)) → Holds s xs → Holds t ys
+      → Holds (merged_state s t) (xs ++ ys)
 
 -- of two sources that are to give the files of receivers, a sink took that of the two merged
 pub record Merges (left right old new : Option (List ℕ)) : Type 0 where
@@ -37,4 +39,4 @@ pub record Merges (left right old new : Option (List ℕ)) : Type 0 where
 -- the same of a receiver that was not written yet
 pub record Joins (left right : Option (List ℕ)) (m : State) : Type 0 where
   pub joined : (s t : State) → GivesReceiver left s → GivesReceiver right t
-      → (s.opening ≡ t.opening) × IsAgain (merged s t) m
+      → (s.opening ≡ t.opening) × IsAgain (merged_state s t) m

@@ -16,7 +16,7 @@ use Rattle.sdp_format.specs.Sections.{video_sections}
 use Rattle.tool_text.specs.Timestamps.{AreTimestamps}
 use Rattle.file_engines.specs.Refused.{GivesAbove}
 use Rattle.file_engines.specs.Sent.{OneIs}
-use Rattle.file_engines.specs.Taking.{IsPin}
+use Rattle.tool_text.specs.Sources.{IsSourceText}
 use Rattle.file_engines.specs.declared.fault.Refusal.{Refusal}
 use Rattle.file_engines.specs.declared.fault.Refusal.TheVariants as refusal
 
@@ -26,7 +26,7 @@ use Rattle.file_engines.specs.declared.fault.Refusal.TheVariants as refusal
 -- `any`.
 abbrev pub IsWordRefusal : List ℕ → List ℕ → Refusal → Type 0
 IsWordRefusal window ssrc refusal.ReceiveWindow = (ts : List ℕ) → AreTimestamps window ts → ⊥
-IsWordRefusal window ssrc refusal.ReceiveSource = (pin : Option ℕ) → IsPin ssrc pin → ⊥
+IsWordRefusal window ssrc refusal.ReceiveSource = (pin : Option ℕ) → IsSourceText ssrc pin → ⊥
 IsWordRefusal window ssrc r = ⊥
 
 -- ---- opening a receiver

@@ -1,5 +1,5 @@
 -- Which datagrams `receive` takes.
-use Rattle.std.specs.Prelude.{◌≡◌, ℕ, ◌+◌, ◌-◌, ◌^◌, min, List, [], ◌∷◌, ◌++◌, length, codes, ⊤}
+use Rattle.std.specs.Prelude.{◌≡◌, ℕ, ◌+◌, ◌-◌, ◌^◌, min, List, [], ◌∷◌, ◌++◌, length, ⊤}
 use Rattle.std.specs.Prelude.{Option, None, Some, Result, Ok, Err}
 use Rattle.std.specs.List.{flat_map}
 use Rattle.std.specs.Io.KnownBytes.{Appends}
@@ -13,7 +13,8 @@ use Rattle.capture_file.specs.declared.fault.FileFault.{FileFault}
 use Rattle.path_merge.specs.Frames.{Holds, State}
 use Rattle.path_merge.specs.Took.{TakesDue}
 use Rattle.receiver_file.specs.Saved.{kept_of}
-use Rattle.tool_text.specs.Timestamps.{AreTimestamps, Spells}
+use Rattle.tool_text.specs.Sources.{IsSourceText}
+use Rattle.tool_text.specs.Timestamps.{AreTimestamps}
 use Rattle.file_engines.specs.declared.receive.Opening.{Opening}
 use Rattle.file_engines.specs.declared.session.Session.{Session}
 
@@ -31,11 +32,6 @@ AllTell to_give [] [] = ⊤
 AllTell to_give [] (o ∷ os) = ⊥
 AllTell to_give (s ∷ ss) [] = ⊥
 AllTell to_give (s ∷ ss) (o ∷ os) = (to_give s ≡ Some o) × AllTell to_give ss os
-
--- the text of a source that is pinned, or of none
-abbrev pub IsPin : List ℕ → Option ℕ → Type 0
-IsPin text None = text ≡ codes "any"
-IsPin text (Some ssrc) = Spells text ssrc
 
 -- ---- one capture
 
@@ -116,7 +112,7 @@ pub record SavesHolding (window source : List ℕ) (datagrams : List (List ℕ))
     (old new : Option (List ℕ)) : Type 0 where
   pub receiver : State
   pub window_is : AreTimestamps window receiver.opening.window
-  pub source_is : IsPin source receiver.opening.ssrc
+  pub source_is : IsSourceText source receiver.opening.ssrc
   pub holds : Holds receiver datagrams
   pub taken : Appends old new (state_text (kept_of receiver))
 

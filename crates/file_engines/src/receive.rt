@@ -1,5 +1,5 @@
 //! The engine of `receive`.
-ghost use Rattle.std.specs.Prelude.{◌≡◌, ◌≢◌, ◌≤◌, ◌<◌, ◌⊎◌, ◌∷◌, [], ℕ, IfErr, IfOk, IfSome, OnOk};
+ghost use Rattle.std.specs.Prelude.{◌≡◌, ◌≢◌, ◌≤◌, ◌<◌, ◌⊎◌, ◌∷◌, [], IfErr, IfOk, OnOk};
 ghost use Rattle.std.specs.Prelude.{MatchOption, Option, None, Some, length, vec_len, sum_by};
 ghost use Rattle.std.specs.Io.KnownBytes.{Appends};
 ghost use Rattle.capture_file.specs.StateFile.{state_text};
@@ -10,9 +10,10 @@ ghost use Rattle.file_engines.specs.Received.{IsWordRefusal};
 ghost use Rattle.file_engines.specs.Receiving.{Saves, failures_in};
 ghost use Rattle.file_engines.specs.Refusing.{OfRefusal, TellsRefusal};
 ghost use Rattle.file_engines.specs.Sent.{FirstIs};
-ghost use Rattle.file_engines.specs.Taking.{HoldsBy, IsPin, Receives, Stands, TakesFile};
+ghost use Rattle.file_engines.specs.Taking.{HoldsBy, Receives, Stands, TakesFile};
 ghost use Rattle.file_engines.specs.Taking.{TakesFiles, TakesFirst};
 ghost use Rattle.receiver_file.specs.Saved.{kept_of};
+ghost use Rattle.tool_text.specs.Sources.{IsSourceText};
 ghost use Rattle.tool_text.specs.Telling.{memory_line};
 ghost use Rattle.tool_text.specs.Timestamps.{AreTimestamps};
 
@@ -26,9 +27,9 @@ use crate::text::{read_text, room};
 use capture_file::CaptureReader;
 use path_merge::Receiver;
 use receiver_file::save_receiver;
-use st_format::{ByteSink, ByteSource, read_number};
+use st_format::{ByteSink, ByteSource};
 use std::alloc::Allocator;
-use tool_text::{LINE, read_timestamps, tell_memory};
+use tool_text::{LINE, read_source, read_timestamps, tell_memory};
 
 /// The greatest number of octets of an SDP's file (own).
 const SDP: usize = 16_777_216;
@@ -166,7 +167,7 @@ pub(crate) fn save<A: Allocator, K: ByteSink>(
 /// Reads the words.
 fn read_opening<A: Allocator + Copy>(alloc: A, wanted: Wanted<'_>) -> Result<Opening<A>, Fault>
     ensures window { IfOk result (λ o. AreTimestamps wanted.entry.window.now o.window.items) }
-    ensures source { IfOk result (λ o. IsPin wanted.entry.ssrc.now o.ssrc) }
+    ensures source { IfOk result (λ o. IsSourceText wanted.entry.ssrc.now o.ssrc) }
     ensures refusal { IfErr result (λ f. OfRefusal f
         (IsWordRefusal wanted.entry.window.now wanted.entry.ssrc.now)) }
     ensures failures { Accounts result [] }
@@ -178,17 +179,6 @@ fn read_opening<A: Allocator + Copy>(alloc: A, wanted: Wanted<'_>) -> Result<Ope
         return Err(Fault::Refused(Refusal::ReceiveSource));
     };
     Ok(Opening { window, ssrc })
-}
-
-/// A source that is pinned, or none.
-fn read_source(text: &[u8]) -> Option<Option<u32>>
-    ensures is { IfSome result (λ ssrc. IsPin text.now ssrc) }
-    ensures none { result ≡ None → (ssrc : Option ℕ) → IsPin text.now ssrc → ⊥ }
-{
-    if text == b"any".as_slice() {
-        return Some(None);
-    }
-    Some(Some(read_number(text)?))
 }
 
 /// Opens a receiver by the SDP, where there is one.

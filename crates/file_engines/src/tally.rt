@@ -1,7 +1,7 @@
 //! Counts of what a receiver answered.
 ghost use Rattle.std.specs.Prelude.{◌≡◌};
 ghost use Rattle.std.specs.List.{AllByRecursion};
-ghost use Rattle.file_engines.specs.Tallied.{counted};
+ghost use Rattle.file_engines.specs.Tallied.{tally_after};
 ghost use Rattle.std.specs.Prelude.{Err};
 
 use path_merge::{Refusal, Taken};
@@ -49,7 +49,7 @@ impl Tally {
 
     /// Counts an answer: of the count that is its own one more, as long as that fits.
     pub fn note(&mut self, answer: Result<Taken, Refusal>)
-        ensures { self.new ≡ counted answer self.old }
+        ensures { self.new ≡ tally_after answer self.old }
     {
         match answer {
             Ok(Taken::Kept(_)) => {}
@@ -60,7 +60,7 @@ impl Tally {
 
     /// Counts a datagram that was refused.
     fn note_refusal(&mut self, refusal: Refusal)
-        ensures { self.new ≡ counted (Err refusal) self.old }
+        ensures { self.new ≡ tally_after (Err refusal) self.old }
     {
         let place = usize::from(refusal.number()) - 1;
         self.refused[place] = self.refused[place].saturating_add(1);

@@ -2,7 +2,8 @@
 ghost use Rattle.std.specs.Prelude.{◌≡◌, ◌≢◌, ◌⊎◌};
 ghost use Rattle.std.specs.Io.KnownBytes.{Appends};
 ghost use Rattle.st_format.specs.Device.{Failed};
-ghost use Rattle.file_engines.specs.Fault.{HasWorked, IsDone, IsFailed, IsRefused, TellsFault};
+ghost use Rattle.file_engines.specs.Fault.{EndsDone, EndsFailed, EndsRefused, EndsWorked};
+ghost use Rattle.file_engines.specs.Fault.{TellsFault};
 ghost use Rattle.file_engines.specs.Refusing.{TellsOutcome};
 ghost use Rattle.tool_text.specs.Telling.{memory_line};
 
@@ -36,13 +37,13 @@ pub(crate) fn end<A: Allocator, F: ByteSink>(
     faults: &mut F,
 ) -> u8
     ensures range { (result ≡ 0) ⊎ (result ≡ 1) ⊎ (result ≡ 3) ⊎ (result ≡ 4) }
-    ensures done { result ≡ 0 → IsDone outcome }
+    ensures done { result ≡ 0 → EndsDone outcome }
     ensures silent { result ≡ 0 → faults.new ≡ faults.old }
-    ensures refused { result ≡ 1 → IsRefused outcome }
+    ensures refused { result ≡ 1 → EndsRefused outcome }
     ensures told { result ≡ 1 → TellsOutcome outcome (F.held faults.old) (F.held faults.new) }
     ensures failed { result ≡ 3
-        → IsFailed outcome ⊎ Failed (F.failures faults.old) (F.failures faults.new) }
-    ensures worked { result ≢ 3 → HasWorked outcome }
+        → EndsFailed outcome ⊎ Failed (F.failures faults.old) (F.failures faults.new) }
+    ensures worked { result ≢ 3 → EndsWorked outcome }
     ensures working { result ≢ 3 → F.failures faults.new ≡ F.failures faults.old }
     ensures memory { result ≡ 4 → Appends (F.held faults.old) (F.held faults.new) memory_line }
 {

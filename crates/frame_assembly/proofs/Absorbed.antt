@@ -7,7 +7,7 @@ use Rattle.st_format.specs.Cell.{join}
 use Rattle.st_format.specs.Fit.{IsFrame}
 use Rattle.st_format.specs.Offer.{Offer, cell_of}
 use Rattle.st_format.specs.Position.{Position, IsPosition, number_of}
-use Rattle.st_format.specs.Raster.{Raster, cell_at, cells_of, joined, joined_rasters, raster_of}
+use Rattle.st_format.specs.Raster.{Raster, cell_at, cells_of, joined_cells, joined_rasters, raster_of}
 use Rattle.st_format.proofs.Rasters.{cell_at-joined, cell_at-raster_of, length-cells_of}
 
 -- At each position stands the join.
@@ -18,7 +18,7 @@ each_absorbed r q new is other same joins p at =
     ap (λ (x : Raster). cell_at x p) joins ∙ cell_at-joined r q p is.whole other.whole (sym same) at
 
 pub each_offered : (r new : Raster) (offers : List Offer) (ts : ℕ) → IsFrame r
-    → new.format ≡ r.format → new.cells ≡ joined r.cells (cells_of r.format offers ts)
+    → new.format ≡ r.format → new.cells ≡ joined_cells r.cells (cells_of r.format offers ts)
     → (p : Position) → IsPosition p r.format
     → cell_at new p ≡ join (cell_at r p) (cell_of offers ts p)
 each_offered r new offers ts is same cells p at =

@@ -11,7 +11,7 @@ use Rattle.std.proofs.lemmas.Nat.Bits.{bit_at-lt, bit_at-zero, bit_at_or, shr_an
 use Rattle.st_format.specs.declared.cell.Cell.{Cell}
 use Rattle.st_format.specs.declared.cell.Cell.TheVariants.{Missing, Value, Contested}
 use Rattle.st_format.specs.Cell.{join}
-use Rattle.st_format.specs.Raster.{joined}
+use Rattle.st_format.specs.Raster.{joined_cells}
 use Rattle.st_format.specs.Samples.{values_in}
 use Rattle.pgroup_pack.specs.Groups.{blanked, blanked_from, differs_at}
 use Rattle.frame_assembly.specs.Packed.{IsMark, IsPacked, Joins, cells_from, known_value, marked}
@@ -25,7 +25,7 @@ join_same Missing = refl
 join_same (Value v) = ap (λ (b : Bool). if b then Value v else Contested) (eq-eqb v v refl)
 join_same Contested = refl
 
-joined_same : (cs : List Cell) → joined cs cs ≡ cs
+joined_same : (cs : List Cell) → joined_cells cs cs ≡ cs
 joined_same [] = refl
 joined_same (c ∷ cs) = rw (join_same c, joined_same cs) refl
 
@@ -37,10 +37,10 @@ same_joined n size samples marks octets other_marks others packed same_marks sam
   long = refl;
   cells =
       sym (ap
-      (λ (ms : List ℕ). joined (packed_cells n size marks octets) (packed_cells n size ms others))
+      (λ (ms : List ℕ). joined_cells (packed_cells n size marks octets) (packed_cells n size ms others))
       (sym same_marks)
       ∙ ap
-      (λ (os : List ℕ). joined (packed_cells n size marks octets)
+      (λ (os : List ℕ). joined_cells (packed_cells n size marks octets)
       (packed_cells n size marks os)) (sym same_octets)
       ∙ joined_same (packed_cells n size marks octets));
 }
@@ -82,7 +82,7 @@ packed_missing n size (m ∷ marks) octets low =
     (cells_missing m 0 (values_in n (take size octets)) (low_bit m here))
     (packed_missing n size marks (drop size octets) (λ k lt. low (suc k) (omega arith)))
 
-missing_joined : (cs ds : List Cell) → length cs ≡ length ds → AreMissing cs → joined cs ds ≡ ds
+missing_joined : (cs ds : List Cell) → length cs ≡ length ds → AreMissing cs → joined_cells cs ds ≡ ds
 missing_joined [] [] long are = refl
 missing_joined [] (d ∷ ds) long are = absurd (omega arith)
 missing_joined (c ∷ cs) [] long are = absurd (omega arith)
@@ -94,7 +94,7 @@ join_missing Missing d e = e
 join_missing (Value v) d e = ap (join (Value v)) e
 join_missing Contested d e = refl
 
-joined_missing : (cs ds : List Cell) → length cs ≡ length ds → AreMissing ds → joined cs ds ≡ cs
+joined_missing : (cs ds : List Cell) → length cs ≡ length ds → AreMissing ds → joined_cells cs ds ≡ cs
 joined_missing [] ds long are = refl
 joined_missing (c ∷ cs) [] long are = absurd (omega arith)
 joined_missing (c ∷ cs) (d ∷ ds) long are =
@@ -179,7 +179,7 @@ pub record IsBoth (m o c : ℕ) (vs ws : List ℕ) (i : ℕ) : Type 0 where
       → bit_at c (i + k) ≡ max (max (bit_at m (i + k)) (bit_at o (i + k))) (differs_at vs ws k)
 
 cells_both : (m o c i : ℕ) (vs ws : List ℕ) → length vs ≡ length ws → IsBoth m o c vs ws i
-    → cells_from c i (blanked_from c i vs) ≡ joined (cells_from m i vs) (cells_from o i ws)
+    → cells_from c i (blanked_from c i vs) ≡ joined_cells (cells_from m i vs) (cells_from o i ws)
 unfolding cells_from
 cells_both m o c i [] [] long is = refl
 cells_both m o c i [] (w ∷ ws) long is = absurd (omega arith)
@@ -324,9 +324,9 @@ group_contested n size samples m o c octets others new_octets is packed other hi
       };
       long = refl;
       cells = cells ∙ cells_both m o c 0 vs ws (vs_long ∙ sym ws_long) are
-          ∙ ap (λ (cs : List Cell). joined cs (cells_from o 0 ws))
+          ∙ ap (λ (cs : List Cell). joined_cells cs (cells_from o 0 ws))
           (sym (one_cells n size m octets octets_long))
-          ∙ ap (joined (packed_cells n size (m ∷ []) octets))
+          ∙ ap (joined_cells (packed_cells n size (m ∷ []) octets))
           (sym (one_cells n size o others others_long));
     }
 

@@ -15,7 +15,7 @@ use Rattle.st_format.specs.Fit.{CellFits}
 use Rattle.st_format.specs.Pgroup.{bits_of, pixel_group}
 use Rattle.st_format.specs.Picture.{FitsDepth}
 use Rattle.st_format.specs.Position.{sample_count}
-use Rattle.st_format.specs.Raster.{Raster, cells_of, joined, joined_rasters, offers_in_all}
+use Rattle.st_format.specs.Raster.{Raster, cells_of, joined_cells, joined_rasters, offers_in_all}
 use Rattle.payload_header.specs.declared.payload.Segment.{Segment as SegmentView}
 use Rattle.payload_header.specs.declared.payload.PayloadView.{PayloadView}
 use Rattle.payload_header.specs.Payload.{seen}
@@ -215,24 +215,24 @@ pub frame_put : (ts marks_len octets_len : ℕ) (f : Format) (r : Raster)
     → frame_view f (cells_in f marks octets) ≡ r → cells_marks ≡ marks → cells_octets ≡ octets
     → length new_marks ≡ marks_len → length new_octets ≡ octets_len → segs ≡ v.segments.items
     → cells_in f new_marks new_octets
-    ≡ joined (cells_in f cells_marks cells_octets)
+    ≡ joined_cells (cells_in f cells_marks cells_octets)
     (cells_of f (offers_in_all f ts (map seen segs)) ts)
     → cells_in f (put_back marks_len marks new_marks) (put_back octets_len octets new_octets)
-    ≡ joined r.cells (cells_of r.format (offers_in_all r.format ts (segments_of v)) ts)
+    ≡ joined_cells r.cells (cells_of r.format (offers_in_all r.format ts (segments_of v)) ts)
 frame_put ts marks_len octets_len f r marks octets cells_marks cells_octets new_marks new_octets v
     segs is_view same_marks same_octets long other_long is_segs joins =
     cells_back f marks_len octets_len marks octets new_marks new_octets long other_long ∙ joins
     ∙ ap
-    (λ (ms : List ℕ). joined (cells_in f ms cells_octets)
+    (λ (ms : List ℕ). joined_cells (cells_in f ms cells_octets)
     (cells_of f (offers_in_all f ts (map seen segs)) ts)) same_marks
     ∙ ap
-    (λ (os : List ℕ). joined (cells_in f marks os)
+    (λ (os : List ℕ). joined_cells (cells_in f marks os)
     (cells_of f (offers_in_all f ts (map seen segs)) ts)) same_octets
     ∙ ap
-    (λ (ss : List SegmentView). joined (cells_in f marks octets)
+    (λ (ss : List SegmentView). joined_cells (cells_in f marks octets)
     (cells_of f (offers_in_all f ts (map seen ss)) ts)) is_segs
     ∙ ap
-    (λ (q : Raster). joined q.cells
+    (λ (q : Raster). joined_cells q.cells
     (cells_of q.format (offers_in_all q.format ts (segments_of v)) ts)) is_view
 
 -- and what joining another frame leaves
@@ -244,7 +244,7 @@ pub frame_absorb : (marks_len octets_len : ℕ) (f g : Format) (r q : Raster)
     → cells_marks ≡ marks → cells_octets ≡ octets → other_marks ≡ items_marks
     → others ≡ items_octets → length new_marks ≡ marks_len → length new_octets ≡ octets_len
     → cells_in f new_marks new_octets
-    ≡ joined (cells_in f cells_marks cells_octets) (cells_in f other_marks others)
+    ≡ joined_cells (cells_in f cells_marks cells_octets) (cells_in f other_marks others)
     → frame_view f
     (cells_in f (put_back marks_len marks new_marks) (put_back octets_len octets new_octets))
     ≡ joined_rasters r q
@@ -257,13 +257,13 @@ frame_absorb marks_len octets_len f g r q marks octets cells_marks cells_octets 
     ap (frame_view f)
     (cells_back f marks_len octets_len marks octets new_marks new_octets long other_long ∙ joins
     ∙ ap
-    (λ (ms : List ℕ). joined (cells_in f ms cells_octets)
+    (λ (ms : List ℕ). joined_cells (cells_in f ms cells_octets)
     (cells_in f other_marks others)) same_marks
-    ∙ ap (λ (os : List ℕ). joined (cells_in f marks os) (cells_in f other_marks others)) same_octets
-    ∙ ap (λ (ms : List ℕ). joined (cells_in f marks octets) (cells_in f ms others)) same_other_marks
-    ∙ ap (λ (os : List ℕ). joined (cells_in f marks octets) (cells_in f items_marks os)) same_others
+    ∙ ap (λ (os : List ℕ). joined_cells (cells_in f marks os) (cells_in f other_marks others)) same_octets
+    ∙ ap (λ (ms : List ℕ). joined_cells (cells_in f marks octets) (cells_in f ms others)) same_other_marks
+    ∙ ap (λ (os : List ℕ). joined_cells (cells_in f marks octets) (cells_in f items_marks os)) same_others
     ∙ ap
-    (λ (h : Format). joined (cells_in f marks octets)
+    (λ (h : Format). joined_cells (cells_in f marks octets)
     (cells_in h items_marks items_octets)) formats)
     ∙ ap (λ (x : Raster). joined_rasters (frame_view f (cells_in f marks octets)) x) other_view
     ∙ ap (λ (x : Raster). joined_rasters x q) is_view

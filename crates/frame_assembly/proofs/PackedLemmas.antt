@@ -13,7 +13,7 @@ use Rattle.st_format.specs.declared.sampling.Depth.{Depth}
 use Rattle.st_format.specs.declared.sampling.Depth.TheVariants.{D8, D10, D12, D16}
 use Rattle.st_format.specs.Cell.{join}
 use Rattle.st_format.specs.Pgroup.{bits_of, pixel_group}
-use Rattle.st_format.specs.Raster.{joined}
+use Rattle.st_format.specs.Raster.{joined_cells}
 use Rattle.st_format.specs.Samples.{values_in}
 use Rattle.st_format.proofs.WholeOctets.{AllByRecursion-append}
 use Rattle.pgroup_pack.proofs.Values.{length-values_in, values_in-append}
@@ -323,7 +323,7 @@ IsPacked-parts n size samples marks octets others rest is long a =
     }
 
 pub joined-append : (xs0 bs cs ds : List Cell) → length xs0 ≡ length cs
-    → joined (xs0 ++ bs) (cs ++ ds) ≡ joined xs0 cs ++ joined bs ds
+    → joined_cells (xs0 ++ bs) (cs ++ ds) ≡ joined_cells xs0 cs ++ joined_cells bs ds
 joined-append [] bs [] ds long = refl
 joined-append [] bs (c ∷ cs) ds long = absurd (omega arith)
 joined-append (a ∷ xs0) bs [] ds long = absurd (omega arith)
@@ -350,10 +350,10 @@ Joins-append n size samples ms os ms1 os1 ms2 os2 ns ps ns1 ps1 ns2 ps2 is long 
       cells =
           packed_cells-append n size ms2 os2 ns2 ps2 a.packed.long
           ∙ ap (λ (xs : List Cell). xs ++ packed_cells n size ns2 ps2) a.cells
-          ∙ ap (λ (xs : List Cell). joined xs0 cs ++ xs) b.cells
+          ∙ ap (λ (xs : List Cell). joined_cells xs0 cs ++ xs) b.cells
           ∙ sym (joined-append xs0 bs cs ds same)
-          ∙ ap (λ (xs : List Cell). joined xs (cs ++ ds))
+          ∙ ap (λ (xs : List Cell). joined_cells xs (cs ++ ds))
           (sym (packed_cells-append n size ms os ns ps long))
-          ∙ ap (joined (packed_cells n size (ms ++ ns) (os ++ ps)))
+          ∙ ap (joined_cells (packed_cells n size (ms ++ ns) (os ++ ps)))
           (sym (packed_cells-append n size ms1 os1 ns1 ps1 long1));
     }

@@ -13,7 +13,7 @@ use Rattle.st_format.specs.Samples.{values_in}
 use Rattle.st_format.specs.Position.{run_columns, run_samples, row_samples, sample_count}
 use Rattle.st_format.specs.Pgroup.{pixel_group, bits_of}
 use Rattle.st_format.specs.Raster.{Segment, first_number, offers_from, offers_in, offers_in_all}
-use Rattle.st_format.specs.Raster.{cells_of, joined}
+use Rattle.st_format.specs.Raster.{cells_of, joined_cells}
 use Rattle.pgroup_pack.proofs.Values.{length-values_in}
 use Rattle.pgroup_pack.proofs.Values.{spelled_values}
 use Rattle.st_format.proofs.Rasters.{cells_of-append, joined-assoc, joined_none}
@@ -87,13 +87,13 @@ no_values d = sym (spelled_values d {octets = []} {vs = []} (record { fit = tt; 
 -- A segment without octets offers nothing.
 pub no_octets : (f : Format) (ts : ℕ) (cells : List Cell) (s : Segment)
     → length cells ≡ sample_count f → length s.octets ≡ 0
-    → cells ≡ joined cells (cells_of f (offers_in f ts s) ts)
+    → cells ≡ joined_cells cells (cells_of f (offers_in f ts s) ts)
 no_octets f ts cells s whole none =
     let nil : s.octets ≡ [] = nil_from_length s.octets none in
     sym (ap
-    (λ (os : List ℕ). joined cells
+    (λ (os : List ℕ). joined_cells cells
     (cells_of f (offers_from f ts (first_number f s) (values_in (bits_of f.depth) os)) ts)) nil
-    ∙ ap (λ (vs : List ℕ). joined cells (cells_of f (offers_from f ts (first_number f s) vs) ts))
+    ∙ ap (λ (vs : List ℕ). joined_cells cells (cells_of f (offers_from f ts (first_number f s) vs) ts))
     (no_values f.depth)
     ∙ joined_none f ts cells whole)
 
@@ -101,7 +101,7 @@ no_octets f ts cells s whole none =
 pub segment_written : (f : Format) (ts : ℕ) (cells : List Cell) (s : Segment)
     → length cells ≡ sample_count f → IsInside s f
     → written_from (first_number f s) (values_in (bits_of f.depth) s.octets) cells
-    ≡ joined cells (cells_of f (offers_in f ts s) ts)
+    ≡ joined_cells cells (cells_of f (offers_in f ts s) ts)
 segment_written f ts cells s whole is =
     written_from-joined f ts (first_number f s) (values_in (bits_of f.depth) s.octets) cells whole
     (omega (arith, segment_ends f s is, length-values_in (bits_of f.depth) s.octets))
@@ -109,26 +109,26 @@ segment_written f ts cells s whole is =
 -- One segment joined, and the segments that are left
 pub segments_more : (f : Format) (ts i : ℕ) (old cells new : List Cell) (ss : List SegmentView)
     (d : SegmentView) → i < length ss
-    → new ≡ joined cells (cells_of f (offers_in f ts (seen (get_or ss i d))) ts)
-    → joined cells (cells_of f (offers_in_all f ts (map seen (drop i ss))) ts) ≡ old
-    → joined new (cells_of f (offers_in_all f ts (map seen (drop (i + 1) ss))) ts) ≡ old
+    → new ≡ joined_cells cells (cells_of f (offers_in f ts (seen (get_or ss i d))) ts)
+    → joined_cells cells (cells_of f (offers_in_all f ts (map seen (drop i ss))) ts) ≡ old
+    → joined_cells new (cells_of f (offers_in_all f ts (map seen (drop (i + 1) ss))) ts) ≡ old
 segments_more f ts i old cells new ss d lt is before =
     let rest : List Segment = map seen (drop (i + 1) ss) in
     let s : Segment = seen (get_or ss i d) in
     let split : map seen (drop i ss) ≡ s ∷ rest = rw (drop-cons ss i d lt, add-one) refl in
-    ap (λ (cs : List Cell). joined cs (cells_of f (offers_in_all f ts rest) ts)) is
+    ap (λ (cs : List Cell). joined_cells cs (cells_of f (offers_in_all f ts rest) ts)) is
     ∙ joined-assoc cells (cells_of f (offers_in f ts s) ts)
     (cells_of f (offers_in_all f ts rest) ts)
-    ∙ ap (joined cells) (sym (cells_of-append f (offers_in f ts s) (offers_in_all f ts rest) ts))
-    ∙ ap (λ (xs : List Segment). joined cells (cells_of f (offers_in_all f ts xs) ts)) (sym split)
+    ∙ ap (joined_cells cells) (sym (cells_of-append f (offers_in f ts s) (offers_in_all f ts rest) ts))
+    ∙ ap (λ (xs : List Segment). joined_cells cells (cells_of f (offers_in_all f ts xs) ts)) (sym split)
     ∙ before
 
 pub segments_all : (f : Format) (ts i : ℕ) (old cells : List Cell) (ss : List SegmentView)
     → length cells ≡ sample_count f → length ss ≤ i
-    → joined cells (cells_of f (offers_in_all f ts (map seen (drop i ss))) ts) ≡ old → cells ≡ old
+    → joined_cells cells (cells_of f (offers_in_all f ts (map seen (drop i ss))) ts) ≡ old → cells ≡ old
 segments_all f ts i old cells ss whole le before =
     let none : drop i ss ≡ [] = drop_all i ss le in
     sym (joined_none f ts cells whole)
     ∙ ap
-    (λ (xs : List SegmentView). joined cells
+    (λ (xs : List SegmentView). joined_cells cells
     (cells_of f (offers_in_all f ts (map seen xs)) ts)) (sym none) ∙ before

@@ -5,7 +5,7 @@ use Rattle.std.proofs.lemmas.List.{length-drop, length-take-le}
 use borrow.Rule.Slice.PartMut.{put_mid}
 use Rattle.st_format.specs.declared.format.Format.{Format}
 use Rattle.st_format.specs.Pgroup.{bits_of, pixel_group}
-use Rattle.st_format.specs.Raster.{Segment, cells_of, joined, offers_in}
+use Rattle.st_format.specs.Raster.{Segment, cells_of, joined_cells, offers_in}
 use Rattle.st_format.specs.Samples.{values_in}
 use Rattle.payload_header.specs.Payload.{IsInside}
 use Rattle.frame_assembly.specs.Packed.{AreJoined, ArePacked, cells_in, group_count, whole_marks}
@@ -21,7 +21,7 @@ pub record IsSegmentPut (f : Format) (s : Segment)
   pub packed : ArePacked f new_marks new_octets
   pub cells : (ts : ℕ)
       → cells_in f new_marks new_octets
-      ≡ joined (cells_in f marks octets) (cells_of f (offers_in f ts s) ts)
+      ≡ joined_cells (cells_in f marks octets) (cells_of f (offers_in f ts s) ts)
 
 pub segment_put : (f : Format) (s : Segment) (first z : ℕ)
     (marks octets part_marks part_octets : List ℕ) → IsInside s f → length marks ≡ group_count f

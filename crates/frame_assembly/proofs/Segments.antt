@@ -21,7 +21,7 @@ use Rattle.st_format.specs.declared.format.Format.{Format}
 use Rattle.st_format.specs.Cell.{join}
 use Rattle.st_format.specs.Pgroup.{bits_of, pixel_group}
 use Rattle.st_format.specs.Position.{row_groups, row_samples, sample_count}
-use Rattle.st_format.specs.Raster.{Segment, first_number, joined}
+use Rattle.st_format.specs.Raster.{Segment, first_number, joined_cells}
 use Rattle.st_format.specs.Samples.{values_in}
 use Rattle.st_format.proofs.Columns.{row_samples_groups, samples_before}
 use Rattle.payload_header.specs.Payload.{IsInside}
@@ -103,7 +103,7 @@ set_seam [] ys x c = refl
 set_seam (w ∷ xs) ys x c = ap (λ (zs : List Cell). w ∷ zs) (set_seam xs ys x c)
 
 written_parts : (vs : List ℕ) (xs bs cs : List Cell) → length bs ≡ length vs
-    → written_from (length xs) vs (xs ++ (bs ++ cs)) ≡ xs ++ (joined bs (map Value vs) ++ cs)
+    → written_from (length xs) vs (xs ++ (bs ++ cs)) ≡ xs ++ (joined_cells bs (map Value vs) ++ cs)
 unfolding written_from
 written_parts [] xs [] cs long = refl
 written_parts [] xs (b ∷ bs) cs long = absurd (omega arith)
@@ -120,7 +120,7 @@ written_parts (v ∷ vs) xs (b ∷ bs) cs long =
     ∙ ap (written_from (length xs + 1) vs) (set_seam xs rest b c ∙ split)
     ∙ ap (λ (k : ℕ). written_from k vs ((xs ++ c ∷ []) ++ rest)) long_more
     ∙ written_parts vs (xs ++ c ∷ []) bs cs (omega arith)
-    ∙ append_assoc xs (c ∷ []) (joined bs (map Value vs) ++ cs)
+    ∙ append_assoc xs (c ∷ []) (joined_cells bs (map Value vs) ++ cs)
 
 -- what a run of a raster's groups leaves when whole groups were joined to it
 pub record IsPut (n size samples at : ℕ)
@@ -183,7 +183,7 @@ put_here n size samples at count marks octets others part_marks part_octets is l
           ∙ ap (λ (zs : List Cell). xs ++ zs)
           (packed_cells-append n size part_marks part_octets cm co joins.packed.long)
           ∙ ap (λ (zs : List Cell). xs ++ (zs ++ cs))
-          (joins.cells ∙ ap (joined bs) (whole_cells n size samples count others is long))
+          (joins.cells ∙ ap (joined_cells bs) (whole_cells n size samples count others is long))
           ∙ sym (written_parts vs xs bs cs bs_long)
           ∙ ap (λ (k : ℕ). written_from k vs (xs ++ (bs ++ cs))) xs_long
           ∙ ap (written_from (samples * at) vs) (sym old);

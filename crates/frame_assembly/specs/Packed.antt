@@ -8,7 +8,7 @@ use Rattle.st_format.specs.declared.cell.Cell.TheVariants.{Missing, Value, Conte
 use Rattle.st_format.specs.declared.format.Format.{Format}
 use Rattle.st_format.specs.Fit.{IsFrame}
 use Rattle.st_format.specs.Pgroup.{bits_of, pixel_group}
-use Rattle.st_format.specs.Raster.{joined}
+use Rattle.st_format.specs.Raster.{joined_cells}
 use Rattle.st_format.specs.Samples.{values_in}
 
 -- Of a mark word, bit 15 says that the group has no missing sample, and bit i that its sample i is
@@ -53,7 +53,7 @@ pub record Joins (n size samples : ℕ)
   pub packed : IsPacked n size samples new_marks new_octets
   pub long : length new_marks ≡ length marks
   pub cells : packed_cells n size new_marks new_octets
-      ≡ joined (packed_cells n size marks octets) (packed_cells n size other_marks others)
+      ≡ joined_cells (packed_cells n size marks octets) (packed_cells n size other_marks others)
 
 -- The same of a format's groups
 abbrev pub cells_in : Format → List ℕ → List ℕ → List Cell

@@ -17,7 +17,7 @@ ghost use Rattle.st_format.specs.Pgroup.{bits_of, pixel_group};
 ghost use Rattle.st_format.specs.Position.{IsPosition, Position, group_start, row_groups};
 ghost use Rattle.st_format.specs.Position.{row_octets};
 ghost use Rattle.st_format.specs.Samples.{Spells, values_in};
-ghost use Rattle.st_format.specs.Raster.{IsWhole, blank, cell_at, cells_of, joined, joined_rasters};
+ghost use Rattle.st_format.specs.Raster.{IsWhole, blank, cell_at, cells_of, joined_cells, joined_rasters};
 ghost use Rattle.st_format.specs.Raster.{offers_in_all};
 
 use crate::base::Base;
@@ -134,7 +134,7 @@ impl<A: Allocator> Frame<A> {
         // A payload has no timestamp: its offers join alike at whichever it is given.
         ensures cells { (ts : ℕ)
             → self.new.cells
-            ≡ joined self.old.cells
+            ≡ joined_cells self.old.cells
             (cells_of self.old.format
             (offers_in_all self.old.format ts (segments_of view.now)) ts) }
         ensures each { (ts : ℕ) (p : Position) → IsPosition p self.old.format
@@ -159,7 +159,7 @@ impl<A: Allocator> Frame<A> {
         requires { other.now.format ≡ self.old.format }
         ensures format { self.new.format ≡ self.old.format }
         ensures rasters { self.new ≡ joined_rasters self.old other.now }
-        ensures cells { self.new.cells ≡ joined self.old.cells other.now.cells }
+        ensures cells { self.new.cells ≡ joined_cells self.old.cells other.now.cells }
         ensures each { (p : Position) → IsPosition p self.old.format
             → cell_at self.new p ≡ join (cell_at self.old p) (cell_at other.now p) }
         ensures whole { IsWhole self.new }

@@ -4,7 +4,7 @@ ghost use Rattle.frame_assembly.specs.Packed.{AreJoined, ArePacked, cells_in, gr
 ghost use Rattle.frame_assembly.specs.Packed.{whole_marks};
 ghost use Rattle.payload_header.specs.Payload.{IsInside, seen};
 ghost use Rattle.st_format.specs.Pgroup.{pixel_group};
-ghost use Rattle.st_format.specs.Raster.{cells_of, joined, offers_in, offers_in_all};
+ghost use Rattle.st_format.specs.Raster.{cells_of, joined_cells, offers_in, offers_in_all};
 
 use crate::groups::{BLOCK, PRESENT, join_block};
 use payload_header::Segment;
@@ -54,7 +54,7 @@ pub fn join_segments(
     ensures packed { ArePacked format.now marks.new octets.new }
     ensures cells { (ts : ℕ)
         → cells_in format.now marks.new octets.new
-        ≡ joined (cells_in format.now marks.old octets.old)
+        ≡ joined_cells (cells_in format.now marks.old octets.old)
         (cells_of format.now (offers_in_all format.now ts (map seen segments.now)) ts) }
 {
     for segment in segments {
@@ -70,7 +70,7 @@ fn join_segment(format: &Format, marks: &mut [u16], octets: &mut [u8], segment: 
     ensures packed { ArePacked format.now marks.new octets.new }
     ensures cells { (ts : ℕ)
         → cells_in format.now marks.new octets.new
-        ≡ joined (cells_in format.now marks.old octets.old)
+        ≡ joined_cells (cells_in format.now marks.old octets.old)
         (cells_of format.now (offers_in format.now ts (seen segment.now)) ts) }
 {
     if segment.octets.is_empty() {

@@ -27,11 +27,5 @@ ok_not_err x e same = absurd cc
 abbrev fault : SlideFault → Result ℕ SlideFault
 fault e = Err e
 
-pub in_window_only : fault InWindow ≡ fault OtherFormat → ⊥
-in_window_only same = absurd cc
-
-pub other_format_only : fault OtherFormat ≡ fault InWindow → ⊥
-other_format_only same = absurd cc
-
 pub not_event : (place : ℕ) → play.NoMemory ≡ play.BadEvent place → ⊥
 not_event place same = absurd cc

@@ -16,7 +16,7 @@ use Rattle.st_format.specs.Cell.{join}
 use Rattle.st_format.specs.Member.{IsMember}
 use Rattle.st_format.specs.Offer.{Offer, cell_of}
 use Rattle.st_format.specs.Position.{Position, IsPosition, sample_count}
-use Rattle.st_format.specs.Raster.{Raster, IsWhole, blank, raster_of, cells_of, joined}
+use Rattle.st_format.specs.Raster.{Raster, IsWhole, blank, raster_of, cells_of, joined_cells}
 use Rattle.st_format.specs.Raster.{joined_rasters, offers_in_all}
 use Rattle.st_format.proofs.Rasters.{cell_at-raster_of, cell_at-joined, joined_none}
 use Rattle.st_format.proofs.Rasters.{length-cells_of, length-joined}
@@ -57,7 +57,7 @@ abbrev with_format : Format → List Cell → Raster
 with_format f cells = record { format = f; cells = cells }
 
 same_frame : (f : Format) (ts : ℕ) (r : Raster) → r.format ≡ f → IsWhole r
-    → r ≡ with_cells r (joined r.cells (cells_of f [] ts))
+    → r ≡ with_cells r (joined_cells r.cells (cells_of f [] ts))
 same_frame f ts r of_format whole =
     ap (with_cells r) (sym (joined_none f ts r.cells (whole ∙ ap sample_count of_format)))
 
@@ -70,13 +70,13 @@ same_frames f os [] [] e formats whole none = refl
 same_frames f os [] (r ∷ rs) e formats whole none = absurd (omega arith)
 same_frames f os (t ∷ w) [] e formats whole none = absurd (omega arith)
 same_frames f os (t ∷ w) (r ∷ rs) e formats whole none =
-    let first : r ≡ with_cells r (joined r.cells (cells_of f os t)) =
+    let first : r ≡ with_cells r (joined_cells r.cells (cells_of f os t)) =
     same_frame f t r formats.0 whole.0
-    ∙ ap (λ (cs : List Cell). with_cells r (joined r.cells cs)) (sym (none t (inl refl))) in
+    ∙ ap (λ (cs : List Cell). with_cells r (joined_cells r.cells cs)) (sym (none t (inl refl))) in
     let rest : rs ≡ joined_frames rs (map (raster_of f os) w) =
     same_frames f os w rs (omega arith) formats.1 whole.1 (λ ts m. none ts (inr m)) in
     ap (λ (q : Raster). q ∷ rs) first
-    ∙ ap (λ (qs : List Raster). with_cells r (joined r.cells (cells_of f os t)) ∷ qs) rest
+    ∙ ap (λ (qs : List Raster). with_cells r (joined_cells r.cells (cells_of f os t)) ∷ qs) rest
 
 frames_left : (s : State) (os : List Offer) → IsReceiver s
     → ((ts : ℕ) → IsMember ts s.opening.window
@@ -115,7 +115,7 @@ put_at : (f : Format) (os : List Offer) (ts i : ℕ) (w : List ℕ) (rs : List R
     → AreDifferent w → slice_get w i ≡ Some ts → length rs ≡ length w
     → AllByRecursion (λ r. r.format ≡ f) rs → AllByRecursion IsWhole rs
     → ((t : ℕ) → (t ≡ ts → ⊥) → cells_of f os t ≡ cells_of f [] t)
-    → new ≡ with_cells (get_or rs i d) (joined (get_or rs i d).cells (cells_of f os ts))
+    → new ≡ with_cells (get_or rs i d) (joined_cells (get_or rs i d).cells (cells_of f os ts))
     → set rs i new ≡ joined_frames rs (map (raster_of f os) w)
 put_at f os ts i [] rs new d different at e formats whole none now = absurd cc
 put_at f os ts i (t ∷ w) [] new d different at e formats whole none now = absurd (omega (arith, e))
@@ -125,18 +125,18 @@ put_at f os ts zero (t ∷ w) (r ∷ rs) new d different at e formats whole none
     same_frames f os w rs (omega (arith, e)) formats.1 whole.1
     (λ u m. none u (λ x. different.0 (subst (λ (y : ℕ). IsMember y w) (x ∙ sym same) m))) in
     ap (λ (q : Raster). q ∷ rs) now
-    ∙ ap (λ (x : ℕ). with_cells r (joined r.cells (cells_of f os x)) ∷ rs) (sym same)
-    ∙ ap (λ (qs : List Raster). with_cells r (joined r.cells (cells_of f os t)) ∷ qs) rest
+    ∙ ap (λ (x : ℕ). with_cells r (joined_cells r.cells (cells_of f os x)) ∷ rs) (sym same)
+    ∙ ap (λ (qs : List Raster). with_cells r (joined_cells r.cells (cells_of f os t)) ∷ qs) rest
 put_at f os ts (suc i) (t ∷ w) (r ∷ rs) new d different at e formats whole none now =
     let other : t ≡ ts
     → ⊥ = λ x. different.0 (subst (λ (y : ℕ). IsMember y w) (sym x) (member_get ts i w at)) in
-    let first : r ≡ with_cells r (joined r.cells (cells_of f os t)) =
+    let first : r ≡ with_cells r (joined_cells r.cells (cells_of f os t)) =
     same_frame f t r formats.0 whole.0
-    ∙ ap (λ (cs : List Cell). with_cells r (joined r.cells cs)) (sym (none t other)) in
+    ∙ ap (λ (cs : List Cell). with_cells r (joined_cells r.cells cs)) (sym (none t other)) in
     let rest : set rs i new ≡ joined_frames rs (map (raster_of f os) w) =
     put_at f os ts i w rs new d different.1 at (omega (arith, e)) formats.1 whole.1 none now in
     ap (λ (q : Raster). q ∷ set rs i new) first
-    ∙ ap (λ (qs : List Raster). with_cells r (joined r.cells (cells_of f os t)) ∷ qs) rest
+    ∙ ap (λ (qs : List Raster). with_cells r (joined_cells r.cells (cells_of f os t)) ∷ qs) rest
 
 -- One of a timestamp of the window is joined to the frame at its place.
 pub frames_kept : (s : State) (octets : List ℕ) (a : Datagram) (place : ℕ) (new old : Raster)
@@ -146,7 +146,7 @@ pub frames_kept : (s : State) (octets : List ℕ) (a : Datagram) (place : ℕ) (
     → new.format ≡ old.format
     → ((ts : ℕ)
     → new.cells
-    ≡ joined old.cells (cells_of old.format (offers_in_all old.format ts a.segments) ts))
+    ≡ joined_cells old.cells (cells_of old.format (offers_in_all old.format ts a.segments) ts))
     → set s.frames place new ≡ joined_frames s.frames (frames_of s.opening (octets ∷ []))
 frames_kept s octets a place new old is read at is_old kept joins =
     let f : Format = s.opening.format in
@@ -156,21 +156,21 @@ frames_kept s octets a place new old is read at is_old kept joins =
     let of_format : old.format ≡ f =
     ap (λ (r : Raster). r.format) is_old
     ∙ is.of_format place old (omega (arith, lt, is.one_each)) in
-    let cells : new.cells ≡ joined old.cells (cells_of f os ts) =
+    let cells : new.cells ≡ joined_cells old.cells (cells_of f os ts) =
     joins ts
     ∙ ap
-    (λ (g : Format). joined old.cells (cells_of g (offers_in_all g ts a.segments) ts)) of_format
-    ∙ ap (λ (xs : List Offer). joined old.cells (cells_of f xs ts))
+    (λ (g : Format). joined_cells old.cells (cells_of g (offers_in_all g ts a.segments) ts)) of_format
+    ∙ ap (λ (xs : List Offer). joined_cells old.cells (cells_of f xs ts))
     (sym (alone_admitted s.opening octets a read)) in
-    let now : new ≡ with_cells old (joined old.cells (cells_of f os ts)) =
+    let now : new ≡ with_cells old (joined_cells old.cells (cells_of f os ts)) =
     ap (λ (cs : List Cell). with_cells new cs) cells
-    ∙ ap (λ (g : Format). with_format g (joined old.cells (cells_of f os ts))) kept in
+    ∙ ap (λ (g : Format). with_format g (joined_cells old.cells (cells_of f os ts))) kept in
     put_at f os ts place s.opening.window s.frames new old is.window.different at is.one_each
     (recursion_from_All (λ (r : Raster). r.format ≡ f) s.frames is.of_format)
     (recursion_from_All IsWhole s.frames is.whole)
     (λ t other. ap (λ (xs : List Offer). cells_of f xs t) (alone_admitted s.opening octets a read)
     ∙ cells_kept f [] t ts a.segments (λ e. other (sym e)))
-    (now ∙ ap (λ (r : Raster). with_cells r (joined r.cells (cells_of f os ts))) is_old)
+    (now ∙ ap (λ (r : Raster). with_cells r (joined_cells r.cells (cells_of f os ts))) is_old)
 
 -- ---- what it holds
 

@@ -6,7 +6,7 @@ use Rattle.st_format.specs.declared.cell.Cell.{Cell}
 use Rattle.st_format.specs.declared.cell.Cell.TheVariants.{Missing, Value, Contested}
 use Rattle.st_format.specs.declared.format.Format.{Format}
 use Rattle.st_format.specs.Cell.{join}
-use Rattle.st_format.specs.Raster.{Raster, joined, joined_rasters}
+use Rattle.st_format.specs.Raster.{Raster, joined_cells, joined_rasters}
 use Rattle.st_format.proofs.Rasters.{joined-assoc}
 use Rattle.path_merge.specs.Frames.{SameFormats, IsReceiver, State, joined_frames}
 use Rattle.path_merge.proofs.Joined.{alike}
@@ -49,13 +49,13 @@ join-same Contested = refl
 
 -- ---- one frame
 
-joined-comm : (cs ds : List Cell) → joined cs ds ≡ joined ds cs
+joined-comm : (cs ds : List Cell) → joined_cells cs ds ≡ joined_cells ds cs
 joined-comm [] [] = refl
 joined-comm [] (d ∷ ds) = refl
 joined-comm (c ∷ cs) [] = refl
 joined-comm (c ∷ cs) (d ∷ ds) = rw (join-comm c d, joined-comm cs ds) refl
 
-joined-same : (cs : List Cell) → joined cs cs ≡ cs
+joined-same : (cs : List Cell) → joined_cells cs cs ≡ cs
 joined-same [] = refl
 joined-same (c ∷ cs) = rw (join-same c, joined-same cs) refl
 
@@ -65,7 +65,7 @@ raster f cells = record { format = f; cells = cells }
 rasters-comm : (r q : Raster) → q.format ≡ r.format → joined_rasters r q ≡ joined_rasters q r
 rasters-comm r q same =
     ap (raster r.format) (joined-comm r.cells q.cells)
-    ∙ ap (λ (f : Format). raster f (joined q.cells r.cells)) (sym same)
+    ∙ ap (λ (f : Format). raster f (joined_cells q.cells r.cells)) (sym same)
 
 -- ---- the frames of receivers
 

@@ -10,6 +10,7 @@ use Rattle.payload_header.specs.declared.payload.PayloadFault.{PayloadFault}
 use Rattle.payload_header.specs.Reading.{payload_walk}
 use Rattle.payload_header.proofs.Taken.{payload_takes}
 use Rattle.st_format.specs.Device.{AreOctets}
+use Rattle.st_format.proofs.Octets.{all_octets}
 use Rattle.payload_header.proofs.Again.{payload_again}
 use Rattle.rtp_header.specs.declared.header.RtpFault.{RtpFault}
 use Rattle.rtp_header.specs.Grammar.{Rtp, fixed_text, IsRtp}
@@ -99,10 +100,6 @@ bytes_of [] h i = omega arith
 bytes_of (b ∷ bs) h zero = h.0
 bytes_of (b ∷ bs) h (suc i) = bytes_of bs h.1 i
 
-bytes_from : (bs : List ℕ) → AreOctets bs → AllByRecursion (λ v. v < 256) bs
-bytes_from [] h = tt
-bytes_from (b ∷ bs) h = (h 0, bytes_from bs (λ k. h (suc k)))
-
 abbrev Fits : ℕ → Type 0
 Fits v = v < 256
 
@@ -118,7 +115,7 @@ all_right (x ∷ xs) ys h = all_right xs ys h.1
 pub payload_octets : (r : Rtp) (octets : List ℕ) → AreOctets octets → IsRtp octets r
     → AreOctets r.payload
 payload_octets r octets fit is =
-    let whole = subst (λ (x : List ℕ). AllByRecursion Fits x) is.whole (bytes_from octets fit) in
+    let whole = subst (λ (x : List ℕ). AllByRecursion Fits x) is.whole (all_octets octets fit) in
     let a =
     all_right (fixed_text is.flags r)
     (is.source_list ++ (is.extension ++ (r.payload ++ is.padding))) whole in

@@ -41,11 +41,6 @@ pub take_more : (es : List Event) (i : ℕ) (e : Event) → slice_get es i ≡ S
 take_more es i e h = let one : i + 1 ≡ suc i =
     omega arith in ap (λ (n : ℕ). take n es) one ∙ take_suc es i e h
 
-pub follows_none : {A : Type 0} (plan : RasterPlan) (stamp : Stamp) (pictures : List Values)
-    (events : List Event) (stage : Stage A) → FollowsTo plan stamp pictures events 0 stage stage
-follows_none plan stamp pictures events stage s some is =
-    record { admitted = λ place event lt at. absurd (omega (arith, lt)); stage = is }
-
 same_event : (a b : Event) (es : List Event) (i : ℕ) → slice_get es i ≡ Some a
     → slice_get es i ≡ Some b → a ≡ b
 same_event a b es i g h = cc

@@ -11,7 +11,7 @@ use Rattle.st_format.specs.declared.cell.Cell.{Cell}
 use Rattle.st_format.specs.declared.format.Format.{Format}
 use Rattle.st_format.specs.declared.path.Path.{Path}
 use Rattle.st_format.specs.Offer.{Offer}
-use Rattle.st_format.specs.Raster.{Raster, blank, raster_of, cells_of, joined, joined_rasters}
+use Rattle.st_format.specs.Raster.{Raster, blank, raster_of, cells_of, joined_cells, joined_rasters}
 use Rattle.st_format.proofs.Members.{member_left, member_right, member_cases}
 use Rattle.st_format.proofs.Rasters.{cells_of-append, joined_none, length-cells_of}
 use Rattle.st_format.specs.Device.{AreOctets}
@@ -159,7 +159,7 @@ none_joined : (o : Opening) (xs : List (List ℕ)) (octets : List ℕ) (ts : ℕ
 none_joined o xs octets ts none =
     let cells : List Cell = cells_of o.format (flat_map (offers o) xs) ts in
     ap (with_cells o.format)
-    (ap (joined cells) none
+    (ap (joined_cells cells) none
     ∙ joined_none o.format ts cells (length-cells_of o.format (flat_map (offers o) xs) ts))
 
 same_arrive : (r t m n : ℕ) (p q : Path) → Arrive r p m ≡ Arrive t q n → m ≡ n
@@ -248,9 +248,6 @@ frame_taken s es to number path octets stay q sent fit at lasts is =
 
 same_merge : (r t m n : ℕ) → Merge r m ≡ Merge t n → m ≡ n
 same_merge r t m n h = cc
-
-pub timestamp_of_same : (a b : Stay) → a ≡ b → a.timestamp ≡ b.timestamp
-timestamp_of_same a b h = ap (λ (x : Stay). x.timestamp) h
 
 -- A stay's frame is joined to the one of the same timestamp that it is merged into, while both
 -- last.

@@ -62,13 +62,6 @@ frames_taken s es r k n path octets (t ∷ w) (q ∷ fs) sent fit le at are =
           (drop_next all w n t at) are.1,
     )
 
--- the stays that last have different timestamps where the window does
-member_drop : (t i n : ℕ) (xs : List ℕ) → n ≤ i → slice_get xs i ≡ Some t → IsMember t (drop n xs)
-member_drop t i zero xs le h = member_get t i xs h
-member_drop t i (suc n) [] le h = absurd cc
-member_drop t zero (suc n) (x ∷ xs) le h = absurd (omega (arith, le))
-member_drop t (suc i) (suc n) (x ∷ xs) le h = member_drop t i n xs (omega (arith, le)) h
-
 one_place : (t i j n : ℕ) (xs : List ℕ) → AreDifferent (drop n xs) → n ≤ i → n ≤ j
     → slice_get xs i ≡ Some t → slice_get xs j ≡ Some t → i ≡ j
 one_place t i j n [] different le lf g h = absurd cc
@@ -89,9 +82,6 @@ one_place t zero j (suc n) (x ∷ xs) different le lf g h = absurd (omega (arith
 one_place t (suc i) zero (suc n) (x ∷ xs) different le lf g h = absurd (omega (arith, lf))
 one_place t (suc i) (suc j) (suc n) (x ∷ xs) different le lf g h =
     ap suc (one_place t i j n xs different (omega (arith, le)) (omega (arith, lf)) g h)
-
-abbrev Rebuilt : ℕ → ℕ → ℕ → Stay → Type 0
-Rebuilt r n t x = x ≡ stay_at r n t
 
 rebuilt : (r n t : ℕ) (x : Stay) → x.receiver ≡ r → x.number ≡ n → x.timestamp ≡ t
     → x ≡ stay_at r n t

@@ -14,7 +14,7 @@ use Rattle.st_format.specs.declared.path.Path.{Path}
 use Rattle.st_format.specs.Device.{CountsOne}
 use Rattle.st_format.specs.Member.{SameDatagrams}
 use Rattle.st_format.specs.Position.{sample_count}
-use Rattle.st_format.specs.Raster.{Raster, IsWhole, cells_of, joined, raster_of}
+use Rattle.st_format.specs.Raster.{Raster, IsWhole, cells_of, joined_cells, raster_of}
 use Rattle.st_format.specs.Turns.{Due, Comes, Nothing, GivesTurns, TakesTurn, datagrams_of}
 use Rattle.st_format.proofs.Rasters.{joined_none}
 use Rattle.path_merge.specs.declared.answer.Refusal.{Refusal}
@@ -41,12 +41,12 @@ frames_stay f [] [] e formats whole = refl
 frames_stay f [] (r ∷ rs) e formats whole = absurd (omega arith)
 frames_stay f (t ∷ w) [] e formats whole = absurd (omega arith)
 frames_stay f (t ∷ w) (r ∷ rs) e formats whole =
-    let first : r ≡ with_cells r (joined r.cells (cells_of f [] t)) =
+    let first : r ≡ with_cells r (joined_cells r.cells (cells_of f [] t)) =
     ap (with_cells r) (sym (joined_none f t r.cells (whole.0 ∙ ap sample_count formats.0))) in
     let rest : rs ≡ joined_frames rs (map (raster_of f []) w) =
     frames_stay f w rs (omega arith) formats.1 whole.1 in
     ap (λ (q : Raster). q ∷ rs) first
-    ∙ ap (λ (qs : List Raster). with_cells r (joined r.cells (cells_of f [] t)) ∷ qs) rest
+    ∙ ap (λ (qs : List Raster). with_cells r (joined_cells r.cells (cells_of f [] t)) ∷ qs) rest
 
 -- no datagram leaves the frames
 no_datagram : (s : State) → IsReceiver s

@@ -1,7 +1,7 @@
 -- Why octets are refused: one condition for each refusal, over the whole octets.
 use Rattle.std.specs.Prelude.{◌≡◌, ◌≢◌, List, ℕ}
 use Rattle.payload_header.specs.declared.payload.PayloadFault.{PayloadFault}
-use Rattle.payload_header.specs.Faults.{IsRefused as IsPayloadRefused}
+use Rattle.payload_header.specs.Faults.{IsRefusedPayload}
 use Rattle.rtp_header.specs.Faults.{HasFault}
 use Rattle.rtp_header.specs.Grammar.{Rtp, IsRtp}
 use Rattle.path_merge.specs.declared.answer.Refusal.{Refusal}
@@ -28,7 +28,7 @@ pub record HasBadPayload (octets : List ℕ) (o : Opening) (fault : PayloadFault
   pub is_header : IsRtp octets header
   pub type_is : header.payload_type ≡ o.payload_type
   pub source : IsSource o.ssrc header.ssrc
-  pub is_refused : IsPayloadRefused header.payload o.format fault
+  pub is_refused : IsRefusedPayload header.payload o.format fault
 
 -- Why octets are refused. Each condition says that no earlier one holds.
 abbrev pub IsRefusedDatagram : List ℕ → Opening → Refusal → Type 0

@@ -1,11 +1,14 @@
 //! Laws over the definitions alone: the headline for whole lists of datagrams. Each is the contract
 //! of a function that does nothing. What each call keeps of it says the call's own clause `holds`.
 //!
-//! - The same datagrams, the same frames and missing map: `same_frames`, `holds_same`.
-//! - What a receiver says of a sample is so, exactly: `each_cell`.
-//! - Merging gives the receiver of all datagrams, in any tree: `both_lists`, `any_tree`.
-//! - Each value is the sender's: `sender_cells`. A frame is whole where each of its packets came by
-//!   one path or the other: `sender_frame`, `whole_frame`.
+//! - The same datagrams, the same frames and missing map: `same_frames` (`frames`, `missing_map`),
+//!   `holds_same`; from a new receiver on, `any_list` of `receive`.
+//! - What a receiver says of a sample is so, exactly: `each_cell` (`is`, `missing`).
+//! - Merging two gives the receiver of all their datagrams: `holds` of `Receiver::merge`; in any
+//!   tree: `both_lists`, `any_tree`.
+//! - Each value is the sender's: `sender_cells` (`values`, `none_contested`).
+//! - A picture of which each packet came by one path or the other is whole: `sender_frame`
+//!   (`picture`), `whole_frame`.
 ghost use Rattle.std.specs.Prelude.{◌≡◌, ◌≢◌, ◌↔◌, ◌⊎◌, ◌<◌, ℕ, Bool, List, ◌++◌, map, Some};
 ghost use Rattle.std.specs.Prelude.{slice_get};
 ghost use Rattle.std.specs.List.{flat_map};

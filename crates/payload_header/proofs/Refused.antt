@@ -23,7 +23,7 @@ use Rattle.st_format.specs.Reading.{◌>>=◌}
 use Rattle.payload_header.specs.Reading.{fault_or, segments_at, octets_of, data_at, payload_walk}
 use Rattle.st_format.specs.Reading.{Gives}
 use Rattle.payload_header.specs.Faults.{BeginsWith, AllGoOn, LacksHeader, GoesOn, HasHeaders}
-use Rattle.payload_header.specs.Faults.{HasFault, LacksData, IsRefused}
+use Rattle.payload_header.specs.Faults.{HasFault, LacksData, IsRefusedPayload}
 use Rattle.payload_header.specs.View.{said}
 use Rattle.payload_header.proofs.Taken.{IsText, text_at, Heads, headers_take}
 use Rattle.st_format.proofs.Octets.{AreOctets-drop}
@@ -164,9 +164,9 @@ begins octets n rest headers more number parts fit = record {
 refused_stop : (f : Format) (octets : List ℕ) (n : ℕ) (rest : List ℕ) (fault : PayloadFault)
     (headers : List Header) (more : List ℕ) → BeginsWith octets headers more → AllGoOn headers
     → ((fault ≡ ShortPayloadHeader) × (length headers < most_segments) × (length more < 6))
-    ⊎ ((fault ≡ TooManySegments) × (length headers ≡ most_segments)) → IsRefused octets f fault
+    ⊎ ((fault ≡ TooManySegments) × (length headers ≡ most_segments)) → IsRefusedPayload octets f fault
 refused_stop f octets n rest fault headers more begin go_on (inl w) =
-    subst (IsRefused octets f) (sym w.0)
+    subst (IsRefusedPayload octets f) (sym w.0)
     (inr (record {
       headers = headers;
       more = more;
@@ -177,12 +177,12 @@ refused_stop f octets n rest fault headers more begin go_on (inl w) =
       short = w.2;
     }))
 refused_stop f octets n rest fault headers more begin go_on (inr w) =
-    subst (IsRefused octets f) (sym w.0)
+    subst (IsRefusedPayload octets f) (sym w.0)
     (record { headers = headers; more = more; begins = begin; go_on = go_on; as_many = w.1 })
 
 -- only the five tests of a header are told of a header
 refused_header : (f : Format) (octets : List ℕ) (fault : PayloadFault) → HasFault octets f fault
-    → IsRefused octets f fault
+    → IsRefusedPayload octets f fault
 refused_header f octets ShortPayloadHeader has = absurd has.has.wrong
 refused_header f octets TooManySegments has = absurd has.has.wrong
 refused_header f octets SecondField has = has
@@ -197,9 +197,9 @@ refused_data_at : (f : Format) (octets : List ℕ) (headers : List Header) (more
     → headers_fault f headers ≡ None
     → ltb (length more) (octets_of headers) ≡ short
     → cond short (Err ShortData) (Ok (segments_at headers more)) ≡ Err fault
-    → IsRefused octets f fault
+    → IsRefusedPayload octets f fault
 refused_data_at f octets headers more fault true whole none s e =
-    subst (IsRefused octets f) (err_is (List Segment) ShortData fault e)
+    subst (IsRefusedPayload octets f) (err_is (List Segment) ShortData fault e)
     (record {
       headers = headers;
       more = more;
@@ -213,7 +213,7 @@ refused_data_at f octets headers more fault false whole none s e = absurd cc
 refused_tests : (f : Format) (octets : List ℕ) (headers : List Header) (more : List ℕ)
     (fault : PayloadFault) (o : Option PayloadFault) → HasHeaders octets headers more
     → headers_fault f headers ≡ o
-    → fault_or o (data_at headers more) ≡ Err fault → IsRefused octets f fault
+    → fault_or o (data_at headers more) ≡ Err fault → IsRefusedPayload octets f fault
 refused_tests f octets headers more fault None whole is e =
     refused_data_at f octets headers more fault
     (ltb (length more) (octets_of headers)) whole is refl e
@@ -242,7 +242,7 @@ after_headers f n hs = fault_or (headers_fault f hs.0) (data_at hs.0 hs.1) >>= w
 
 refused_after : (f : Format) (octets : List ℕ) (n : ℕ) (rest : List ℕ) (hs : List Header × List ℕ)
     (fault : PayloadFault) → IsNumber octets n rest → Heads most_segments rest hs.0 hs.1
-    → after_headers f n hs ≡ Err fault → IsRefused octets f fault
+    → after_headers f n hs ≡ Err fault → IsRefusedPayload octets f fault
 refused_after f octets n rest hs fault number heads e =
     refused_tests f octets hs.0 hs.1 fault (headers_fault f hs.0)
     (record {
@@ -255,7 +255,7 @@ refused_after f octets n rest hs fault number heads e =
 
 refused_number : (f : Format) (octets : List ℕ) (n : ℕ) (rest : List ℕ) (fault : PayloadFault)
     → IsNumber octets n rest
-    → (headers_at most_segments rest >>= after_headers f n) ≡ Err fault → IsRefused octets f fault
+    → (headers_at most_segments rest >>= after_headers f n) ≡ Err fault → IsRefusedPayload octets f fault
 refused_number f octets n rest fault number e =
     elim (bind_err (headers_at most_segments rest) (after_headers f n) fault e) [
       | inl stop ↦ let s : Stops most_segments rest fault =
@@ -279,12 +279,12 @@ after_number f x = headers_at most_segments x.1 >>= after_headers f x.0
 
 -- What isn't read has a fault's condition.
 pub payload_refused : (f : Format) (octets : List ℕ) (fault : PayloadFault) → AreOctets octets
-    → payload_walk f octets ≡ Err fault → IsRefused octets f fault
+    → payload_walk f octets ≡ Err fault → IsRefusedPayload octets f fault
 unfolding payload_walk
 payload_refused f octets fault bytes e =
     elim (bind_err (number_at octets) (after_number f) fault e) [
       | inl stop ↦ let s =
-          number_err octets fault (ltb (length octets) 2) refl _ stop in subst (IsRefused octets f)
+          number_err octets fault (ltb (length octets) 2) refl _ stop in subst (IsRefusedPayload octets f)
           (sym s.0) (inl s.1)
       | inr x ↦ refused_number f octets x.0.0 x.0.1 fault (number_take octets x.0 bytes x.1) x.2
     ]
@@ -384,7 +384,7 @@ unfolding payload_walk
 no_number f octets lt = rw (lt-ltb (length octets) 2 lt) refl
 
 pub refused_payload : (f : Format) (octets : List ℕ) (fault : PayloadFault)
-    → IsRefused octets f fault → payload_walk f octets ≡ Err fault
+    → IsRefusedPayload octets f fault → payload_walk f octets ≡ Err fault
 refused_payload f octets ShortPayloadHeader (inl lt) = no_number f octets lt
 refused_payload f octets ShortPayloadHeader (inr lacks) = lacks_header f octets lacks
 refused_payload f octets TooManySegments is = goes_on f octets is
@@ -398,7 +398,7 @@ refused_payload f octets ShortData is = lacks_data f octets is
 -- The clause of a reader that gives what reading gives
 pub is_refused : (f : Format) (octets : List ℕ) (r : Result PayloadView PayloadFault)
     → AreOctets octets → Gives said r (payload_walk f octets)
-    → (fault : PayloadFault) → (r ≡ Err fault) ↔ IsRefused octets f fault
+    → (fault : PayloadFault) → (r ≡ Err fault) ↔ IsRefusedPayload octets f fault
 is_refused f octets (Ok v) bytes gives fault =
     (λ e. absurd cc, λ is. let e = refused_payload f octets fault is in absurd cc)
 is_refused f octets (Err d) bytes gives fault = (

@@ -116,12 +116,12 @@ pub record LacksData (octets : List ℕ) (f : Format) : Type 0 where
   pub short : length more < octets_of headers
 
 -- Why octets are refused. ShortPayloadHeader also stands for less than an extended number.
-abbrev pub IsRefused : List ℕ → Format → PayloadFault → Type 0
-IsRefused octets f ShortPayloadHeader = (length octets < 2) ⊎ LacksHeader octets
-IsRefused octets f TooManySegments = GoesOn octets
-IsRefused octets f SecondField = HasFault octets f SecondField
-IsRefused octets f BadLength = HasFault octets f BadLength
-IsRefused octets f BadOffset = HasFault octets f BadOffset
-IsRefused octets f RowOutside = HasFault octets f RowOutside
-IsRefused octets f ColumnsOutside = HasFault octets f ColumnsOutside
-IsRefused octets f ShortData = LacksData octets f
+abbrev pub IsRefusedPayload : List ℕ → Format → PayloadFault → Type 0
+IsRefusedPayload octets f ShortPayloadHeader = (length octets < 2) ⊎ LacksHeader octets
+IsRefusedPayload octets f TooManySegments = GoesOn octets
+IsRefusedPayload octets f SecondField = HasFault octets f SecondField
+IsRefusedPayload octets f BadLength = HasFault octets f BadLength
+IsRefusedPayload octets f BadOffset = HasFault octets f BadOffset
+IsRefusedPayload octets f RowOutside = HasFault octets f RowOutside
+IsRefusedPayload octets f ColumnsOutside = HasFault octets f ColumnsOutside
+IsRefusedPayload octets f ShortData = LacksData octets f

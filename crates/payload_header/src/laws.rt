@@ -5,7 +5,7 @@ ghost use Rattle.st_format.specs.Raster.{Segment};
 ghost use Rattle.payload_header.specs.declared.payload.PayloadFault.{PayloadFault};
 ghost use Rattle.payload_header.specs.Payload.{IsPayload};
 ghost use Rattle.payload_header.specs.Reading.{payload_walk};
-ghost use Rattle.payload_header.specs.Faults.{IsRefused};
+ghost use Rattle.payload_header.specs.Faults.{IsRefusedPayload};
 ghost use Rattle.st_format.specs.Device.{AreOctets};
 ghost use Rattle.payload_header.specs.declared.writing.SegmentHead.{SegmentHead};
 ghost use Rattle.payload_header.specs.Writing.{AreHeads, AreInside, IsWholePayload, data_text};
@@ -21,26 +21,26 @@ pub fn one_reading()
 pub fn read_or_refused()
     ensures { (f : Format) (octets : List ℕ) → AreOctets octets
         → ((extended : ℕ) × (segments : List Segment) × IsPayload octets f extended segments)
-        ⊎ ((fault : PayloadFault) × IsRefused octets f fault) }
+        ⊎ ((fault : PayloadFault) × IsRefusedPayload octets f fault) }
 {}
 
 /// A payload isn't refused.
 pub fn payload_not_refused()
     ensures { (f : Format) (octets : List ℕ) (extended : ℕ) (segments : List Segment)
         (fault : PayloadFault)
-        → IsPayload octets f extended segments → IsRefused octets f fault → ⊥ }
+        → IsPayload octets f extended segments → IsRefusedPayload octets f fault → ⊥ }
 {}
 
 /// Octets are refused for one fault at most.
 pub fn refused_once()
-    ensures { (f : Format) (octets : List ℕ) (a b : PayloadFault) → IsRefused octets f a
-        → IsRefused octets f b → a ≡ b }
+    ensures { (f : Format) (octets : List ℕ) (a b : PayloadFault) → IsRefusedPayload octets f a
+        → IsRefusedPayload octets f b → a ≡ b }
 {}
 
 /// Reading from the left tells a fault exactly where its condition holds.
 pub fn fault_exactly()
     ensures { (f : Format) (octets : List ℕ) (fault : PayloadFault) → AreOctets octets
-        → (payload_walk f octets ≡ Err fault) ↔ IsRefused octets f fault }
+        → (payload_walk f octets ≡ Err fault) ↔ IsRefusedPayload octets f fault }
 {}
 
 /// The front that heads announce, with their segments' octets behind it, is a payload with these

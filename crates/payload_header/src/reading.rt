@@ -2,7 +2,7 @@
 //! pixel groups).
 ghost use Rattle.std.specs.Prelude.{◌≡◌, ◌≤◌, ◌↔◌, ℕ, List, length, map, IfOk, Ok, Err};
 ghost use Rattle.payload_header.specs.declared.payload.PayloadFault.{PayloadFault};
-ghost use Rattle.payload_header.specs.Faults.{IsRefused};
+ghost use Rattle.payload_header.specs.Faults.{IsRefusedPayload};
 ghost use Rattle.payload_header.specs.View.{said, segments_of};
 ghost use Rattle.payload_header.specs.Payload.{IsPayload, seen};
 ghost use Rattle.st_format.specs.Raster.{Segment as SegmentText};
@@ -186,7 +186,7 @@ pub fn read_payload<'a>(format: &Format, octets: &'a [u8]) -> Result<PayloadView
         → Gives said result (Ok (extended, segments)) }
     // Each fault comes exactly where its condition holds.
     ensures refused { (fault : PayloadFault)
-        → (result ≡ Err fault) ↔ IsRefused octets.now format.now fault }
+        → (result ≡ Err fault) ↔ IsRefusedPayload octets.now format.now fault }
     // The answer as a walk over the octets, for the walks that go on from it.
     ensures exact { Gives said result (payload_walk format.now octets.now) }
     ensures format { IfOk result (λ v. v.format ≡ format.now) }

@@ -21,15 +21,15 @@ use Rattle.st_format.specs.declared.format.Format.{Format}
 use Rattle.st_format.specs.Member.{IsMember}
 use Rattle.st_format.specs.Picture.{FitsDepth, Values}
 use Rattle.st_format.specs.Raster.{Raster}
-use Rattle.tool_text.specs.Fields.{parted}
+use Rattle.st_format.specs.Text.{parted}
 use Rattle.process_engine.specs.declared.process.Processing.{Processing}
 use Rattle.process_engine.specs.FillText.{IsFillText}
 use Rattle.process_engine.specs.Inputs.{AreFramesAt, AreValues, FitsFrames, IsFill, IsHeldFor}
-use Rattle.process_engine.specs.Inputs.{lent}
+use Rattle.process_engine.specs.Inputs.{frames_lent}
 use Rattle.process_engine.specs.Processing.{of_send_job}
 use Rattle.process_engine.specs.Refused.{AreReceivers, HasNoFill, IsHeldRefusal, IsJobRefusal}
 use Rattle.process_engine.specs.Refused.{IsReceiversRefusal, IsRefusalOfRead, IsRunRefusal}
-use Rattle.process_engine.specs.Refused.{IsSendRefusal, OfFormats, OfFrames, SaysJob}
+use Rattle.process_engine.specs.Refused.{IsJobOrPlanRefusal, OfFormats, OfFrames, SaysJob}
 
 -- ---- what holds of a refusal
 
@@ -119,7 +119,7 @@ one_fill text f g f_three g_three p q =
     ∙ sym (of_three g g_three)
 
 fits_at : (fill : List ℕ) (fs : List (Bor Raster)) (k : ℕ) (d : Bor Raster) → k < length fs
-    → FitsFrames fill (lent fs)
+    → FitsFrames fill (frames_lent fs)
     → AllByRecursion (FitsDepth (get_or fs k d).now.format) fill
 fits_at fill [] k d some fits = absurd (omega (arith, some))
 fits_at fill (f ∷ fs) zero d some fits = fits.0
@@ -130,7 +130,7 @@ pub unfit_fill : (text fill : List ℕ) (fs : List (Bor Raster)) (k : ℕ) (d : 
     → k < length fs → IsFillText text (get_or fill 0 0) (get_or fill 1 0) (get_or fill 2 0)
     → AreValues fill
     → (AllByRecursion (FitsDepth (get_or fs k d).now.format) fill → ⊥)
-    → HasNoFill text (lent fs)
+    → HasNoFill text (frames_lent fs)
 unfit_fill text fill fs k d some is values unfit = λ other other_is.
     unfit (subst (λ (l : List ℕ). AllByRecursion (FitsDepth (get_or fs k d).now.format) l)
     (one_fill text other fill other_is.values.three values.three other_is.is is)
@@ -143,7 +143,7 @@ either none (inl x) = absurd (none x)
 either none (inr y) = y
 
 pub send_refused : (e : SendJobFault) (j : Job) (fs : List Format) (size : ℕ)
-    → IsSendFault e j fs size → OfRefusal (of_send_job e) (λ r. IsSendRefusal j size r fs)
+    → IsSendFault e j fs size → OfRefusal (of_send_job e) (λ r. IsJobOrPlanRefusal j size r fs)
 send_refused (sending.Job job_fault.NoMemory) j fs size is = tt
 send_refused (sending.Job job_fault.FormatsDiffer) j fs size is =
     either (λ no. let e : job_fault.FormatsDiffer ≡ job_fault.NoMemory = no.0 in cc) is
@@ -164,7 +164,7 @@ send_refused (sending.Sink sent) j fs size is = tt
 
 -- where no fill fits the frames, that is the refusal
 pub fill_refused : (f : Fault) (j : Job) (w : Processing) (rs : List State) (held : Option Values)
-    (qs : List Raster) → AreFramesAt w.timestamp rs qs
+    (qs : List Raster) → AreFramesAt qs rs w.timestamp
     → (f ≡ Refused why.ProcessFill) × HasNoFill w.fill.now qs
     → OfRefusal f (IsJobRefusal j w rs held)
 fill_refused f j w rs held qs are is =
@@ -173,7 +173,7 @@ fill_refused f j w rs held qs are is =
 
 -- where what is held has another format, that is the refusal
 pub hold_refused : (f : Fault) (j : Job) (w : Processing) (rs : List State) (held : Option Values)
-    (qs : List Raster) (fill : List ℕ) → AreFramesAt w.timestamp rs qs → IsFill w.fill.now fill qs
+    (qs : List Raster) (fill : List ℕ) → AreFramesAt qs rs w.timestamp → IsFill fill w.fill.now qs
     → (f ≡ Refused why.ProcessHold) × (IsHeldFor held qs → ⊥)
     → OfRefusal f (IsJobRefusal j w rs held)
 hold_refused f j w rs held qs fill are fill_is is =
@@ -185,7 +185,7 @@ hold_refused f j w rs held qs fill are fill_is is =
 
 -- a refusal of the job or the size, as one of the job of receivers
 pub sent_refusal : (j : Job) (w : Processing) (rs : List State) (held : Option Values)
-    (r : Refusal) → OfFrames w rs (OfFormats w held (IsSendRefusal j w.max_octets r))
+    (r : Refusal) → OfFrames w rs (OfFormats w held (IsJobOrPlanRefusal j w.max_octets r))
     → IsJobRefusal j w rs held r
 sent_refusal j w rs held why.ProcessFrame has = absurd has.holds.holds
 sent_refusal j w rs held why.ProcessFill has = absurd has.holds.holds

@@ -1,7 +1,7 @@
 -- The text of a fill (own).
 use Rattle.std.specs.Prelude.{◌≡◌, ℕ, List, Some}
-use Rattle.tool_text.specs.Fields.{parted}
-use Rattle.tool_text.specs.Timestamps.{Spells}
+use Rattle.st_format.specs.Text.{parted}
+use Rattle.tool_text.specs.Timestamps.{IsNumberOf}
 
 -- three numbers, parted by commas: a value for each component
 pub record IsFillText (text : List ℕ) (a b c : ℕ) : Type 0 where
@@ -11,6 +11,6 @@ pub record IsFillText (text : List ℕ) (a b c : ℕ) : Type 0 where
   pub rest : List ℕ
   pub parts : parted 44 text ≡ Some (first, rest)
   pub parts_rest : parted 44 rest ≡ Some (second, third)
-  pub first_is : Spells first a
-  pub second_is : Spells second b
-  pub third_is : Spells third c
+  pub first_is : IsNumberOf first a
+  pub second_is : IsNumberOf second b
+  pub third_is : IsNumberOf third c

@@ -14,8 +14,8 @@ use Rattle.st_format.specs.Raster.{Raster, cell_at}
 use Rattle.process_engine.specs.FillText.{IsFillText}
 
 -- each receiver's frame of a timestamp
-abbrev pub AreFramesAt : ℕ → List State → List Raster → Type 0
-AreFramesAt ts rs qs = map (λ r. frame_at r.opening.window r.frames ts) rs ≡ map Some qs
+abbrev pub AreFramesAt : List Raster → List State → ℕ → Type 0
+AreFramesAt qs rs ts = map (λ r. frame_at r.opening.window r.frames ts) rs ≡ map Some qs
 
 -- a value for each component, which fits the depth of each frame
 abbrev pub FitsFrames : List ℕ → List Raster → Type 0
@@ -27,7 +27,7 @@ pub record AreValues (fill : List ℕ) : Type 0 where
   pub fit : AllByRecursion (λ v. v < 65536) fill
 
 -- the fill that a text says, which fits each frame
-pub record IsFill (text fill : List ℕ) (qs : List Raster) : Type 0 where
+pub record IsFill (fill text : List ℕ) (qs : List Raster) : Type 0 where
   pub is : IsFillText text (slice_index fill 0) (slice_index fill 1) (slice_index fill 2)
   pub values : AreValues fill
   pub fits : FitsFrames fill qs
@@ -63,8 +63,8 @@ raster_formats qs = map (λ q. q.format) qs
 -- ---- the same of frames that are lent
 
 -- the frames
-abbrev pub lent : List (Bor Raster) → List Raster
-lent fs = map (λ f. f.now) fs
+abbrev pub frames_lent : List (Bor Raster) → List Raster
+frames_lent fs = map (λ f. f.now) fs
 
 abbrev pub AreLentAt : ℕ → List State → List (Bor Raster) → Type 0
 AreLentAt ts rs fs =

@@ -6,14 +6,14 @@ use Rattle.key_mix.specs.declared.Axis.TheVariants.{Columns, Rows}
 use Rattle.key_mix.specs.declared.Job.{Job}
 use Rattle.key_mix.specs.declared.Job.TheVariants.{Limit, Gain, ToYcc444, ToYcc422, Wipe, Key}
 use Rattle.key_mix.specs.declared.WipeShape.{WipeShape}
-use Rattle.tool_text.specs.Fields.{parted}
-use Rattle.tool_text.specs.Timestamps.{Spells}
+use Rattle.st_format.specs.Text.{parted}
+use Rattle.tool_text.specs.Timestamps.{IsNumberOf}
 
 -- a word, and a number behind it
-pub record IsWordAndNumber (word text : List ℕ) (n : ℕ) : Type 0 where
+pub record IsWordAndNumber (text word : List ℕ) (n : ℕ) : Type 0 where
   pub digits : List ℕ
   pub text_is : text ≡ word ++ digits
-  pub is : Spells digits n
+  pub is : IsNumberOf digits n
 
 -- the words before the two numbers of a wipe
 abbrev pub axis_word : Axis → List ℕ
@@ -27,14 +27,14 @@ pub record IsWipeText (text : List ℕ) (w : WipeShape) : Type 0 where
   pub soft : List ℕ
   pub text_is : text ≡ axis_word w.axis ++ rest
   pub parts : parted 58 rest ≡ Some (position, soft)
-  pub position_is : Spells position w.position
-  pub soft_is : Spells soft w.soft
+  pub position_is : IsNumberOf position w.position
+  pub soft_is : IsNumberOf soft w.soft
 
 -- the text of a job
 abbrev pub IsJobText : List ℕ → Job → Type 0
 IsJobText text (Limit Nominal) = text ≡ codes "limit:nominal"
 IsJobText text (Limit VideoData) = text ≡ codes "limit:video"
-IsJobText text (Gain g) = IsWordAndNumber (codes "gain:") text g
+IsJobText text (Gain g) = IsWordAndNumber text (codes "gain:") g
 IsJobText text ToYcc444 = text ≡ codes "ycc444"
 IsJobText text ToYcc422 = text ≡ codes "ycc422"
 IsJobText text (Wipe w) = IsWipeText text w

@@ -35,9 +35,9 @@ pub record SendsJob (job : Job) (ts : ℕ) (fill_text : List ℕ) (size : ℕ) (
     (rs : List State) (held : Option Values) (old new : Option (List (List ℕ))) (count : ℕ) :
     Type 0 where
   pub frames : List Raster
-  pub are : AreFramesAt ts rs frames
+  pub are : AreFramesAt frames rs ts
   pub fill : List ℕ
-  pub fill_is : IsFill fill_text fill frames
+  pub fill_is : IsFill fill fill_text frames
   pub held_is : IsHeldFor held frames
   pub sendable : IsSendable job (raster_formats frames) size
   pub takes : TakesJob job (settled_frames held fill frames) size stamp old new count

@@ -30,33 +30,33 @@ pub record LacksFrame (ts : ℕ) (rs : List State) : Type 0 where
 
 -- no fill that the text says fits the frames
 abbrev pub HasNoFill : List ℕ → List Raster → Type 0
-HasNoFill text qs = (fill : List ℕ) → IsFill text fill qs → ⊥
+HasNoFill text qs = (fill : List ℕ) → IsFill fill text qs → ⊥
 
 -- each receiver has a frame, and of the frames this holds
 pub record OfFrames (w : Processing) (rs : List State) (Holds : List Raster → Type 0) : Type 0 where
   pub frames : List Raster
-  pub are : AreFramesAt w.timestamp rs frames
+  pub are : AreFramesAt frames rs w.timestamp
   pub holds : Holds frames
 
 -- frames have a fill, and the held picture has another format than the first of them
 pub record DiffersHeld (w : Processing) (held : Option Values) (qs : List Raster) : Type 0 where
   pub fill : List ℕ
-  pub fill_is : IsFill w.fill.now fill qs
+  pub fill_is : IsFill fill w.fill.now qs
   pub differs : IsHeldFor held qs → ⊥
 
 -- frames have a fill, the held picture has the format of the first, and of their formats this holds
 pub record OfFormats (w : Processing) (held : Option Values) (Holds : List Format → Type 0)
     (qs : List Raster) : Type 0 where
   pub fill : List ℕ
-  pub fill_is : IsFill w.fill.now fill qs
+  pub fill_is : IsFill fill w.fill.now qs
   pub held_is : IsHeldFor held qs
   pub holds : Holds (raster_formats qs)
 
 -- the refusals of the job itself, and of its packets' size
-abbrev pub IsSendRefusal : Job → ℕ → Refusal → List Format → Type 0
-IsSendRefusal job size (refusal.Job e) fs = IsRefusal e job fs
-IsSendRefusal job size (refusal.Plan plan.BadPacketSize) fs = IsBadSize job fs size
-IsSendRefusal job size r fs = ⊥
+abbrev pub IsJobOrPlanRefusal : Job → ℕ → Refusal → List Format → Type 0
+IsJobOrPlanRefusal job size (refusal.Job e) fs = IsRefusal e job fs
+IsJobOrPlanRefusal job size (refusal.Plan plan.BadPacketSize) fs = IsBadSize job fs size
+IsJobOrPlanRefusal job size r fs = ⊥
 
 -- the refusals of a job of receivers and a held picture
 abbrev pub IsJobRefusal : Job → Processing → List State → Option Values → Refusal → Type 0
@@ -64,7 +64,7 @@ IsJobRefusal job w rs held refusal.ProcessFrame = LacksFrame w.timestamp rs
 IsJobRefusal job w rs held refusal.ProcessFill = OfFrames w rs (HasNoFill w.fill.now)
 IsJobRefusal job w rs held refusal.ProcessHold = OfFrames w rs (DiffersHeld w held)
 IsJobRefusal job w rs held r =
-    OfFrames w rs (OfFormats w held (IsSendRefusal job w.max_octets r))
+    OfFrames w rs (OfFormats w held (IsJobOrPlanRefusal job w.max_octets r))
 
 -- ---- words and files
 

@@ -2,10 +2,9 @@
 ghost use Rattle.std.specs.Prelude.{◌<◌, ℕ, slice_index, IfNone, IfSome};
 ghost use Rattle.process_engine.specs.FillText.{IsFillText};
 ghost use Rattle.process_engine.specs.Inputs.{AreValues};
-ghost use Rattle.tool_text.specs.Timestamps.{Spells};
+ghost use Rattle.tool_text.specs.Timestamps.{IsNumberOf};
 
-use st_format::read_number;
-use tool_text::split_once;
+use st_format::{read_number, split_once};
 
 /// The values that a text says, one for each component: three numbers of 16 bits, parted by commas.
 /// Any other text is none.
@@ -23,8 +22,8 @@ pub fn read_fill(text: &[u8]) -> Option<[u16; 3]>
 
 /// A number of 16 bits.
 fn read_value(text: &[u8]) -> Option<u16>
-    ensures is { IfSome result (λ n. Spells text.now n) }
-    ensures none { IfNone result ((n : ℕ) → n < 65536 → Spells text.now n → ⊥) }
+    ensures is { IfSome result (λ n. IsNumberOf text.now n) }
+    ensures none { IfNone result ((n : ℕ) → n < 65536 → IsNumberOf text.now n → ⊥) }
 {
     let number = read_number(text)?;
     if number <= 65_535 {

@@ -8,7 +8,8 @@ ghost use Rattle.file_engines.specs.Refusing.{OfRefusal};
 ghost use Rattle.key_mix.specs.Sending.{HasBase, input_formats, settled_inputs};
 ghost use Rattle.process_engine.specs.FillText.{IsFillText};
 ghost use Rattle.process_engine.specs.Inputs.{AreLentAt, AreValues, FitsLent, IsHeldFor};
-ghost use Rattle.process_engine.specs.Inputs.{filled_input, held_input, lent, raster_formats};
+ghost use Rattle.process_engine.specs.Inputs.{filled_input, frames_lent, held_input};
+ghost use Rattle.process_engine.specs.Inputs.{raster_formats};
 ghost use Rattle.process_engine.specs.Inputs.{settled_frames};
 ghost use Rattle.process_engine.specs.Refused.{HasNoFill, LacksFrame};
 ghost use Rattle.st_format.specs.Picture.{FitsDepth};
@@ -53,7 +54,7 @@ pub fn fill_for<A: Allocator>(text: &[u8], frames: &[&Frame<A>]) -> Result<[u16;
     ensures values { IfOk result (λ fill. AreValues fill) }
     ensures fits { IfOk result (λ fill. FitsLent fill frames.now) }
     ensures refused { IfErr result (λ f. (f ≡ Fault.Refused Refusal.ProcessFill)
-        × HasNoFill text.now (lent frames.now)) }
+        × HasNoFill text.now (frames_lent frames.now)) }
     ensures failures { Accounts result [] }
 {
     let Some(fill) = read_fill(text) else {
@@ -80,9 +81,9 @@ pub fn check_held<A: Allocator>(
     held: &Option<Picture<A>>,
     frames: &[&Frame<A>],
 ) -> Result<(), Fault>
-    ensures is { OnOk result (IsHeldFor held.now (lent frames.now)) }
+    ensures is { OnOk result (IsHeldFor held.now (frames_lent frames.now)) }
     ensures refused { IfErr result (λ f. (f ≡ Fault.Refused Refusal.ProcessHold)
-        × (IsHeldFor held.now (lent frames.now) → ⊥)) }
+        × (IsHeldFor held.now (frames_lent frames.now) → ⊥)) }
     ensures failures { Accounts result [] }
 {
     if let (Some(picture), Some(frame)) = (held, frames.first()) {
@@ -102,11 +103,12 @@ pub fn inputs_of<'a, A: Allocator + Copy>(
     held: &'a Option<Picture<A>>,
 ) -> Result<Vec<JobInput<'a, A>, A>, Fault>
     requires fill { FitsLent fill frames.now }
-    requires held { IsHeldFor held.now (lent frames.now) }
+    requires held { IsHeldFor held.now (frames_lent frames.now) }
     ensures settled { IfOk result (λ v. settled_inputs v.items
-        ≡ settled_frames held.now fill (lent frames.now)) }
+        ≡ settled_frames held.now fill (frames_lent frames.now)) }
     ensures bases { IfOk result (λ v. AllByRecursion HasBase v.items) }
-    ensures formats { IfOk result (λ v. input_formats v.items ≡ raster_formats (lent frames.now)) }
+    ensures formats { IfOk result (λ v. input_formats v.items
+        ≡ raster_formats (frames_lent frames.now)) }
     ensures unrefused { IfErr result (λ f. IfRefused f ⊥) }
     ensures failures { Accounts result [] }
 {

@@ -5,8 +5,8 @@ ghost use Rattle.process_engine.specs.JobText.{axis_word};
 
 use bt709_fixed::RangeKind;
 use key_mix::{Axis, Job, WipeShape};
-use st_format::read_number;
-use tool_text::{after_word, split_once};
+use st_format::{read_number, split_once};
+use tool_text::after_word;
 
 /// The job that a text says: `limit:nominal`, `limit:video`, `gain:G`, `ycc444`, `ycc422`,
 /// `wipe:columns:P:S`, `wipe:rows:P:S` or `key`. Any other text is none.
@@ -54,8 +54,8 @@ fn read_plain(text: &[u8]) -> Option<Job>
 
 /// The number of a gain.
 fn read_gain(text: &[u8]) -> Option<u32>
-    ensures is { IfSome result (λ g. IsWordAndNumber (codes "gain:") text.now g) }
-    ensures none { IfNone result ((g : ℕ) → IsWordAndNumber (codes "gain:") text.now g → ⊥) }
+    ensures is { IfSome result (λ g. IsWordAndNumber text.now (codes "gain:") g) }
+    ensures none { IfNone result ((g : ℕ) → IsWordAndNumber text.now (codes "gain:") g → ⊥) }
 {
     let digits = after_word(text, b"gain:")?;
     read_number(digits)

@@ -11,7 +11,7 @@ ghost use Rattle.key_mix.specs.Sending.{HasBase, IsSendable, IsSentJob, input_fo
 ghost use Rattle.key_mix.specs.Sending.{settled_inputs};
 ghost use Rattle.process_engine.specs.Processing.{PrintsSent, SendsFiles, SendsJob, TakesJob};
 ghost use Rattle.process_engine.specs.Processing.{of_send_job};
-ghost use Rattle.process_engine.specs.Refused.{IsJobRefusal, IsRunRefusal, IsSendRefusal};
+ghost use Rattle.process_engine.specs.Refused.{IsJobOrPlanRefusal, IsJobRefusal, IsRunRefusal};
 ghost use Rattle.st_format.specs.Device.{TakesAll};
 ghost use Rattle.tool_text.specs.Telling.{memory_line};
 
@@ -209,7 +209,7 @@ fn send<A: Allocator + Copy, K: DatagramSink>(
     ensures sendable { OnOk result
         (IsSendable job.now (input_formats inputs.now) wanted.entry.max_octets) }
     ensures refusal { IfErr result (λ f. OfRefusal f (λ r.
-        IsSendRefusal job.now wanted.entry.max_octets r (input_formats inputs.now))) }
+        IsJobOrPlanRefusal job.now wanted.entry.max_octets r (input_formats inputs.now))) }
     ensures failures { Accounts result (counts (K.failures sink.old) (K.failures sink.new) ∷ []) }
 {
     let stamp = wanted.stamp;

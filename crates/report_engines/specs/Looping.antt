@@ -29,13 +29,13 @@ pub record Came (turns delivered : ℕ) (receiver : State) : Type 0 where
   pub holds : Holds receiver (datagrams_of due)
 
 -- a line, with its end
-abbrev pub ended : List ℕ → List ℕ
-ended line = line ++ 10 ∷ []
+abbrev pub ended_line : List ℕ → List ℕ
+ended_line line = line ++ 10 ∷ []
 
 abbrev pub loop_text : ℕ → ℕ → Counts → List ℕ
 loop_text sent delivered counts =
-    ended (line_text (Sent sent)) ++ (ended (line_text (Delivered delivered))
-    ++ ended (line_text (Frame (record { timestamp = 0; counts = counts }))))
+    ended_line (line_text (Sent sent)) ++ (ended_line (line_text (Delivered delivered))
+    ++ ended_line (line_text (Frame (record { timestamp = 0; counts = counts }))))
 
 -- How many datagrams were sent and delivered is printed, and how many samples of a receiver's frame
 -- of timestamp 0 are of each kind.

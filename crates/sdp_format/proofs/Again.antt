@@ -52,9 +52,6 @@ number_decimal n small =
 abbrev pub is_word : ℕ → Bool
 is_word b = not (is_space b) && not (b == 59)
 
-abbrev pub is_key : ℕ → Bool
-is_key b = is_word b && not (b == 61)
-
 pub not_true : (a : Bool) → not a ≡ true → a ≡ false
 not_true true e = sym e
 not_true false e = refl

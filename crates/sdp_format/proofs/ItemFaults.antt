@@ -54,9 +54,6 @@ pub not_false : (a : Bool) → not a ≡ false → a ≡ true
 not_false true e = refl
 not_false false e = sym e
 
-true_not : (a : Bool) → a ≡ true → not a ≡ false
-true_not a e = ap not e
-
 -- words of samplings, depths, ranges and packings
 named_sampling : (text : List ℕ) (s : Sampling) → sampling_named text ≡ Some s
     → text ≡ sampling_text s

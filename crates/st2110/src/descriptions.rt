@@ -3,8 +3,7 @@ use crate::script::{Line, Lines, show};
 use crate::told::Told;
 use crate::wanted::wanted;
 use sdp_format::read_sdp;
-use st_format::read_number;
-use tool_text::split_once;
+use st_format::{read_number, split_once};
 
 /// How many octets of the items of an fmtp line are searched for the item at fault.
 const SEARCHED: usize = 4096;

@@ -1,7 +1,7 @@
 //! Where a script is at fault: the line, what it says, and what may stand there.
 use crate::told::Told;
 use crate::wanted::wanted;
-use tool_text::split_once;
+use st_format::split_once;
 
 /// The greatest number of octets of a script.
 const LIMIT: usize = 16_777_216;

@@ -11,11 +11,12 @@ use Rattle.st2110_tool.specs.declared.line.FormatLine.{FormatLine}
 use Rattle.st2110_tool.specs.declared.line.Place.{Place}
 use Rattle.st2110_tool.specs.declared.line.TraceLine.{TraceLine}
 use Rattle.st2110_tool.specs.declared.line.TraceLine.TheVariants.{Datagram, Slide, Numbers, Cell}
-use Rattle.tool_text.specs.Fields.{parted}
+use Rattle.st_format.specs.Text.{parted}
 use Rattle.st2110_tool.specs.Forms.{AreFormat, AreFour, AreHeightAndRate, AreOpening, AreTwo}
-use Rattle.st2110_tool.specs.Forms.{IsFormatLine, IsOpenLine, IsRate, IsSourceText, IsTraceLine}
+use Rattle.st2110_tool.specs.Forms.{IsFormatLine, IsOpenLine, IsRateText, IsTraceLine}
 use Rattle.st_format.specs.Words.{sampling_text}
-use Rattle.tool_text.specs.Timestamps.{Spells}
+use Rattle.tool_text.specs.Sources.{IsSourceText}
+use Rattle.tool_text.specs.Timestamps.{IsNumberOf}
 
 pub if_none : {X P : Type 0} (r : Option X) → r ≡ None → P → IfNone r P
 if_none None e p = p
@@ -85,12 +86,12 @@ if_some_map (Some x) f p = f x p
 -- ---- what is no line `format`
 
 pub rate_none : (text first rate : List ℕ) → parted 32 text ≡ Some (first, rate)
-    → ((n d : ℕ) → IsRate rate n d → ⊥)
+    → ((n d : ℕ) → IsRateText rate n d → ⊥)
     → (height n d : ℕ) → AreHeightAndRate text height n d → ⊥
 rate_none text first rate e none height n d all =
     let a : rate ≡ all.rate = (some_pair_parts first all.first rate all.rate
     (sym e ∙ all.parts)).1 in
-    none n d (subst (λ (l : List ℕ). IsRate l n d) (sym a) all.rate_is)
+    none n d (subst (λ (l : List ℕ). IsRateText l n d) (sym a) all.rate_is)
 
 pub sampling_none : (text word behind : List ℕ) → parted 32 text ≡ Some (word, behind)
     → ((s : Sampling) → word ≢ sampling_text s)
@@ -109,12 +110,12 @@ later x y p same e = ap (λ (l : List ℕ). parted 32 l) same ∙ e
 
 pub depth_none : (text word behind depth more : List ℕ) → parted 32 text ≡ Some (word, behind)
     → parted 32 behind ≡ Some (depth, more)
-    → ((d : Depth) → Spells depth (bits_of d) → ⊥) → (f : FormatLine) → AreFormat text f → ⊥
+    → ((d : Depth) → IsNumberOf depth (bits_of d) → ⊥) → (f : FormatLine) → AreFormat text f → ⊥
 depth_none text word behind depth more e g none f all =
     let a = second_same text word behind (sampling_text f.sampling) all.behind e all.parts in
     let b = second_same behind depth more all.depth all.more g
     (later behind all.behind (Some (all.depth, all.more)) a.1 all.parts_behind) in
-    none f.depth (subst (λ (l : List ℕ). Spells l (bits_of f.depth)) (sym b.0) all.depth_is)
+    none f.depth (subst (λ (l : List ℕ). IsNumberOf l (bits_of f.depth)) (sym b.0) all.depth_is)
 
 pub height_none : (text word behind depth more width last : List ℕ)
     → parted 32 text ≡ Some (word, behind) → parted 32 behind ≡ Some (depth, more)
@@ -138,12 +139,12 @@ format_none text rest e none f all =
 -- ---- what is no line `open`
 
 pub type_none : (text number behind : List ℕ) → parted 32 text ≡ Some (number, behind)
-    → ((n : ℕ) → n ≤ 127 → Spells number n → ⊥)
+    → ((n : ℕ) → n ≤ 127 → IsNumberOf number n → ⊥)
     → (payload_type : ℕ) (ssrc : Option ℕ) (window : List ℕ)
     → AreOpening text payload_type ssrc window → ⊥
 type_none text number behind e none payload_type ssrc window all =
     let a = second_same text number behind all.number all.behind e all.parts in
-    none payload_type all.seven_bits (subst (λ (l : List ℕ). Spells l payload_type)
+    none payload_type all.seven_bits (subst (λ (l : List ℕ). IsNumberOf l payload_type)
     (sym a.0) all.number_is)
 
 pub source_none : (text number behind source said : List ℕ) → parted 32 text ≡ Some (number, behind)

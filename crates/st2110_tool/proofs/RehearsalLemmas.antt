@@ -14,10 +14,10 @@ use Rattle.frame_assembly.proofs.PackedLemmas.{groups_agree, sizes}
 use Rattle.frame_assembly.proofs.Segments.{sample_count_groups}
 use Rattle.path_merge.specs.declared.schedule.event.Event.{Event}
 use Rattle.path_merge.specs.declared.schedule.event.Event.TheVariants.{Send, Arrive, Slide, Merge}
-use Rattle.tool_text.specs.Fields.{parted}
+use Rattle.st_format.specs.Text.{parted}
 use Rattle.st2110_tool.specs.Forms.{AreTwo}
 use Rattle.st_format.specs.Words.{IsNumber}
-use Rattle.st2110_tool.specs.RehearsalForms.{AreArrival, AreReceiverAndNumber, AreReceivers}
+use Rattle.st2110_tool.specs.RehearsalForms.{AreArrival, AreReceiverAndNumber, AreTwoReceivers}
 use Rattle.st2110_tool.specs.RehearsalForms.{AreStamp, IsEventLine, IsNumberLine, IsStampLine}
 use Rattle.st2110_tool.proofs.FormLemmas.{differ, later, same_rest, second_same}
 
@@ -42,7 +42,7 @@ stamp_none text rest e none s all =
 -- ---- what is no line of a number or a window
 
 pub number_none : (word text rest : List ℕ) → text ≡ word ++ rest → (IsNumber rest → ⊥) → (n : ℕ)
-    → IsNumberLine word text n → ⊥
+    → IsNumberLine text word n → ⊥
 number_none word text rest e none n all =
     none (subst IsNumber (same_rest word all.rest rest (sym all.text_is ∙ e)) all.number_is.is)
 
@@ -81,15 +81,15 @@ slide_none text rest e none (Merge into from) is =
     differ text (codes "merge " ++ is.0) (codes "slide " ++ rest) refl is.1 e
 
 pub merge_none : (text rest : List ℕ) → text ≡ codes "merge " ++ rest
-    → ((into from : ℕ) → AreReceivers rest into from → ⊥) → (event : Event) → IsEventLine text event
-    → ⊥
+    → ((into from : ℕ) → AreTwoReceivers rest into from → ⊥) → (event : Event)
+    → IsEventLine text event → ⊥
 merge_none text rest e none Send is = differ text (codes "send") (codes "merge " ++ rest) refl is e
 merge_none text rest e none (Arrive to by number) is =
     differ text (codes "arrive " ++ is.0) (codes "merge " ++ rest) refl is.1 e
 merge_none text rest e none (Slide at next) is =
     differ text (codes "slide " ++ is.0) (codes "merge " ++ rest) refl is.1 e
 merge_none text rest e none (Merge into from) is =
-    none into from (subst (λ (l : List ℕ). AreReceivers l into from)
+    none into from (subst (λ (l : List ℕ). AreTwoReceivers l into from)
     (same_rest (codes "merge ") is.0 rest (sym is.1 ∙ e)) is.2)
 
 -- ---- the octets of a picture

@@ -1,5 +1,5 @@
 -- The forms of a script's lines.
-use Rattle.std.specs.Prelude.{◌≡◌, ◌≤◌, ℕ, List, [], ◌∷◌, ◌++◌, codes, Option, None, Some, Ok}
+use Rattle.std.specs.Prelude.{◌≡◌, ◌≤◌, ℕ, List, [], ◌∷◌, ◌++◌, codes, Option, Some, Ok}
 use Rattle.hex.specs.Hex.{decode_of}
 use Rattle.st_format.specs.declared.path.Path.TheVariants as path
 use Rattle.st_format.specs.Pgroup.{bits_of}
@@ -8,16 +8,17 @@ use Rattle.st2110_tool.specs.declared.line.FormatLine.{FormatLine}
 use Rattle.st2110_tool.specs.declared.line.Place.{Place}
 use Rattle.st2110_tool.specs.declared.line.TraceLine.{TraceLine}
 use Rattle.st2110_tool.specs.declared.line.TraceLine.TheVariants.{Datagram, Slide, Numbers, Cell}
-use Rattle.tool_text.specs.Fields.{parted}
-use Rattle.tool_text.specs.Timestamps.{AreTimestamps, Spells}
+use Rattle.st_format.specs.Text.{parted}
+use Rattle.tool_text.specs.Sources.{IsSourceText}
+use Rattle.tool_text.specs.Timestamps.{AreTimestamps, IsNumberOf}
 
 -- two numbers, parted by the first space
 pub record AreTwo (text : List ℕ) (m n : ℕ) : Type 0 where
   pub first : List ℕ
   pub second : List ℕ
   pub parts : parted 32 text ≡ Some (first, second)
-  pub first_is : Spells first m
-  pub second_is : Spells second n
+  pub first_is : IsNumberOf first m
+  pub second_is : IsNumberOf second n
 
 -- four numbers, parted by spaces: a timestamp, a row, a column and a component
 pub record AreFour (text : List ℕ) (p : Place) : Type 0 where
@@ -27,25 +28,25 @@ pub record AreFour (text : List ℕ) (p : Place) : Type 0 where
   pub last : List ℕ
   pub parts : parted 32 text ≡ Some (timestamp, behind)
   pub parts_behind : parted 32 behind ≡ Some (row, last)
-  pub timestamp_is : Spells timestamp p.timestamp
-  pub row_is : Spells row p.row
+  pub timestamp_is : IsNumberOf timestamp p.timestamp
+  pub row_is : IsNumberOf row p.row
   pub last_are : AreTwo last p.column p.component
 
 -- two numbers, parted by the first stroke
-pub record IsRate (text : List ℕ) (n d : ℕ) : Type 0 where
+pub record IsRateText (text : List ℕ) (n d : ℕ) : Type 0 where
   pub over : List ℕ
   pub under : List ℕ
   pub parts : parted 47 text ≡ Some (over, under)
-  pub over_is : Spells over n
-  pub under_is : Spells under d
+  pub over_is : IsNumberOf over n
+  pub under_is : IsNumberOf under d
 
 -- the fields behind a width
 pub record AreHeightAndRate (text : List ℕ) (height n d : ℕ) : Type 0 where
   pub first : List ℕ
   pub rate : List ℕ
   pub parts : parted 32 text ≡ Some (first, rate)
-  pub height_is : Spells first height
-  pub rate_is : IsRate rate n d
+  pub height_is : IsNumberOf first height
+  pub rate_is : IsRateText rate n d
 
 -- Six fields, parted by spaces but the last two, which a stroke parts (own)
 pub record AreFormat (text : List ℕ) (f : FormatLine) : Type 0 where
@@ -57,8 +58,8 @@ pub record AreFormat (text : List ℕ) (f : FormatLine) : Type 0 where
   pub parts : parted 32 text ≡ Some (sampling_text f.sampling, behind)
   pub parts_behind : parted 32 behind ≡ Some (depth, more)
   pub parts_more : parted 32 more ≡ Some (width, last)
-  pub depth_is : Spells depth (bits_of f.depth)
-  pub width_is : Spells width f.width
+  pub depth_is : IsNumberOf depth (bits_of f.depth)
+  pub width_is : IsNumberOf width f.width
   pub last_are : AreHeightAndRate last f.height f.n f.d
 
 -- a line `format S B W H N/D` (own)
@@ -66,11 +67,6 @@ pub record IsFormatLine (text : List ℕ) (f : FormatLine) : Type 0 where
   pub rest : List ℕ
   pub text_is : text ≡ codes "format " ++ rest
   pub fields : AreFormat rest f
-
--- a number, or `any` for none
-abbrev pub IsSourceText : List ℕ → Option ℕ → Type 0
-IsSourceText text None = text ≡ codes "any"
-IsSourceText text (Some n) = Spells text n
 
 -- a payload type of 7 bits, a source and a window, parted by spaces
 pub record AreOpening (text : List ℕ) (payload_type : ℕ) (ssrc : Option ℕ)
@@ -80,7 +76,7 @@ pub record AreOpening (text : List ℕ) (payload_type : ℕ) (ssrc : Option ℕ)
   pub behind : List ℕ
   pub parts : parted 32 text ≡ Some (number, behind)
   pub parts_behind : parted 32 behind ≡ Some (source, window)
-  pub number_is : Spells number payload_type
+  pub number_is : IsNumberOf number payload_type
   pub seven_bits : payload_type ≤ 127
   pub source_is : IsSourceText source ssrc
 
@@ -106,7 +102,7 @@ abbrev pub IsTraceLine : List ℕ → TraceLine → Type 0
 IsTraceLine text (Datagram path.A digits) = text ≡ codes "A " ++ digits.now
 IsTraceLine text (Datagram path.B digits) = text ≡ codes "B " ++ digits.now
 IsTraceLine text (Slide timestamp) =
-    (rest : List ℕ) × (text ≡ codes "slide " ++ rest) × Spells rest timestamp
+    (rest : List ℕ) × (text ≡ codes "slide " ++ rest) × IsNumberOf rest timestamp
 IsTraceLine text (Numbers first count) =
     (rest : List ℕ) × (text ≡ codes "numbers " ++ rest) × AreTwo rest first count
 IsTraceLine text (Cell place) =

@@ -5,13 +5,13 @@ use Rattle.st_format.specs.declared.path.Path.{Path}
 use Rattle.st_format.specs.declared.path.Path.TheVariants as path
 use Rattle.st_format.specs.Pgroup.{bits_of}
 use Rattle.st_format.specs.Picture.{Values}
-use Rattle.st_format.specs.Samples.{Spells as OctetsSpell}
+use Rattle.st_format.specs.Samples.{Spells}
 use Rattle.packet_plan.specs.declared.stamp.Stamp.{Stamp}
 use Rattle.path_merge.specs.declared.schedule.event.Event.{Event}
 use Rattle.path_merge.specs.declared.schedule.event.Event.TheVariants.{Send, Arrive, Slide, Merge}
-use Rattle.tool_text.specs.Fields.{parted}
+use Rattle.st_format.specs.Text.{parted}
 use Rattle.st2110_tool.specs.Forms.{AreTwo, IsWindowText}
-use Rattle.tool_text.specs.Timestamps.{Spells}
+use Rattle.tool_text.specs.Timestamps.{IsNumberOf}
 
 -- the fields of a stamp, parted by spaces: a payload type of 7 bits, a number, a timestamp and a
 -- source
@@ -22,9 +22,9 @@ pub record AreStamp (text : List ℕ) (s : Stamp) : Type 0 where
   pub last : List ℕ
   pub parts : parted 32 text ≡ Some (payload_type, behind)
   pub parts_behind : parted 32 behind ≡ Some (first, last)
-  pub payload_type_is : Spells payload_type s.payload_type
+  pub payload_type_is : IsNumberOf payload_type s.payload_type
   pub seven_bits : s.payload_type ≤ 127
-  pub first_is : Spells first s.first
+  pub first_is : IsNumberOf first s.first
   pub last_are : AreTwo last s.timestamp s.ssrc
 
 -- a line `stamp PT FIRST TIMESTAMP SSRC` (own)
@@ -34,10 +34,10 @@ pub record IsStampLine (text : List ℕ) (s : Stamp) : Type 0 where
   pub fields : AreStamp rest s
 
 -- a line of a word and a number, as `max OCTETS` or `receivers N` (own)
-pub record IsNumberLine (word text : List ℕ) (n : ℕ) : Type 0 where
+pub record IsNumberLine (text word : List ℕ) (n : ℕ) : Type 0 where
   pub rest : List ℕ
   pub text_is : text ≡ word ++ rest
-  pub number_is : Spells rest n
+  pub number_is : IsNumberOf rest n
 
 -- a line `window WINDOW` (own)
 pub record IsWindowLine (text window : List ℕ) : Type 0 where
@@ -49,7 +49,7 @@ pub record IsWindowLine (text window : List ℕ) : Type 0 where
 pub record IsPictureText (text : List ℕ) (p : Values) : Type 0 where
   pub octets : List ℕ
   pub digits : decode_of text ≡ Ok octets
-  pub spells : OctetsSpell (bits_of p.format.depth) octets p.samples
+  pub spells : Spells (bits_of p.format.depth) octets p.samples
 
 -- the letter of a path
 abbrev pub path_text : Path → List ℕ
@@ -63,9 +63,9 @@ pub record AreArrival (text : List ℕ) (to : ℕ) (by : Path) (number : ℕ) : 
   pub last : List ℕ
   pub parts : parted 32 text ≡ Some (receiver, behind)
   pub parts_behind : parted 32 behind ≡ Some (path_text by, last)
-  pub receiver_is : Spells receiver to
+  pub receiver_is : IsNumberOf receiver to
   pub eight_bits : to ≤ 255
-  pub number_is : Spells last number
+  pub number_is : IsNumberOf last number
 
 -- a receiver of 8 bits and a number
 pub record AreReceiverAndNumber (text : List ℕ) (receiver n : ℕ) : Type 0 where
@@ -73,7 +73,7 @@ pub record AreReceiverAndNumber (text : List ℕ) (receiver n : ℕ) : Type 0 wh
   pub eight_bits : receiver ≤ 255
 
 -- two receivers of 8 bits
-pub record AreReceivers (text : List ℕ) (into from : ℕ) : Type 0 where
+pub record AreTwoReceivers (text : List ℕ) (into from : ℕ) : Type 0 where
   pub both : AreTwo text into from
   pub into_bits : into ≤ 255
   pub from_bits : from ≤ 255
@@ -86,4 +86,4 @@ IsEventLine text (Arrive to by number) =
 IsEventLine text (Slide at next) =
     (rest : List ℕ) × (text ≡ codes "slide " ++ rest) × AreReceiverAndNumber rest at next
 IsEventLine text (Merge into from) =
-    (rest : List ℕ) × (text ≡ codes "merge " ++ rest) × AreReceivers rest into from
+    (rest : List ℕ) × (text ≡ codes "merge " ++ rest) × AreTwoReceivers rest into from

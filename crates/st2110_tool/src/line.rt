@@ -3,14 +3,14 @@ ghost use Rattle.std.specs.Prelude.{◌≡◌, ◌≤◌, ◌<◌, ℕ, List, Ok
 ghost use Rattle.std.specs.Prelude.{IfOk, IfSome, IsFalse, IsTrue};
 ghost use Rattle.hex.specs.Hex.{decode_of};
 ghost use Rattle.st2110_tool.specs.Forms.{AreFormat, AreFour, AreHeightAndRate, AreOpening, AreTwo};
-ghost use Rattle.st2110_tool.specs.Forms.{IsFormatLine, IsOctetsText, IsOpenLine, IsRate};
-ghost use Rattle.st2110_tool.specs.Forms.{IsWindowText, IsSourceText, IsTraceLine};
-ghost use Rattle.tool_text.specs.Timestamps.{Spells};
+ghost use Rattle.st2110_tool.specs.Forms.{IsFormatLine, IsOctetsText, IsOpenLine, IsRateText};
+ghost use Rattle.st2110_tool.specs.Forms.{IsWindowText, IsTraceLine};
+ghost use Rattle.tool_text.specs.Timestamps.{IsNumberOf};
 ghost use Rattle.st_format.specs.Pgroup.{bits_of};
 
-use st_format::{Depth, Path, Sampling, read_number};
+use st_format::{Depth, Path, Sampling, read_number, split_once};
 use std::alloc::{AllocError, Allocator};
-use tool_text::{after_word, read_timestamps, split_once};
+use tool_text::{after_word, read_source, read_timestamps};
 
 /// A line `format S B W H N/D`.
 #[derive(Clone, Copy)]
@@ -94,16 +94,16 @@ fn read_height_and_rate(text: &[u8]) -> Option<(u32, u32, u32)>
 
 /// Two numbers, parted by a stroke.
 fn read_rate(text: &[u8]) -> Option<(u32, u32)>
-    ensures is { IfSome result (λ p. IsRate text.now p.0 p.1) }
-    ensures none { IfNone result ((n d : ℕ) → IsRate text.now n d → ⊥) }
+    ensures is { IfSome result (λ p. IsRateText text.now p.0 p.1) }
+    ensures none { IfNone result ((n d : ℕ) → IsRateText text.now n d → ⊥) }
 {
     let (n, d) = split_once(text, b'/')?;
     Some((read_number(n)?, read_number(d)?))
 }
 
 fn read_depth(text: &[u8]) -> Option<Depth>
-    ensures is { IfSome result (λ depth. Spells text.now (bits_of depth)) }
-    ensures none { IfNone result ((depth : Depth) → Spells text.now (bits_of depth) → ⊥) }
+    ensures is { IfSome result (λ depth. IsNumberOf text.now (bits_of depth)) }
+    ensures none { IfNone result ((depth : Depth) → IsNumberOf text.now (bits_of depth) → ⊥) }
 {
     match read_number(text)? {
         8 => Some(Depth::D8),
@@ -144,8 +144,8 @@ fn read_opening(text: &[u8]) -> Option<OpenLine<'_>>
 /// A payload type: up to 127.
 pub(crate) fn read_payload_type(text: &[u8]) -> Option<u8>
     ensures range { IfSome result (λ n. n ≤ 127) }
-    ensures is { IfSome result (λ n. Spells text.now n) }
-    ensures none { IfNone result ((n : ℕ) → n ≤ 127 → Spells text.now n → ⊥) }
+    ensures is { IfSome result (λ n. IsNumberOf text.now n) }
+    ensures none { IfNone result ((n : ℕ) → n ≤ 127 → IsNumberOf text.now n → ⊥) }
 {
     let number = read_number(text)?;
     if number <= 127 {
@@ -153,17 +153,6 @@ pub(crate) fn read_payload_type(text: &[u8]) -> Option<u8>
     } else {
         None
     }
-}
-
-/// A pinned SSRC, or none.
-fn read_source(text: &[u8]) -> Option<Option<u32>>
-    ensures is { IfSome result (λ source. IsSourceText text.now source) }
-    ensures none { IfNone result ((source : Option ℕ) → IsSourceText text.now source → ⊥) }
-{
-    if text == b"any".as_slice() {
-        return Some(None);
-    }
-    Some(Some(read_number(text)?))
 }
 
 /// The timestamps of a window, and none where the text isn't of its form.

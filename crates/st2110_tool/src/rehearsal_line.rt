@@ -3,17 +3,17 @@ ghost use Rattle.std.specs.Prelude.{◌≡◌, ◌≤◌, ℕ, List, IfNone, IfO
 ghost use Rattle.st_format.specs.declared.path.Path.{Path as ByPath};
 ghost use Rattle.packet_plan.specs.declared.stamp.Stamp.{Stamp as AStamp};
 ghost use Rattle.path_merge.specs.declared.schedule.event.Event.{Event as AnEvent};
-ghost use Rattle.tool_text.specs.Timestamps.{Spells};
-ghost use Rattle.st2110_tool.specs.RehearsalForms.{AreArrival, AreReceiverAndNumber, AreReceivers};
-ghost use Rattle.st2110_tool.specs.RehearsalForms.{AreStamp, IsEventLine, IsNumberLine};
+ghost use Rattle.tool_text.specs.Timestamps.{IsNumberOf};
+ghost use Rattle.st2110_tool.specs.RehearsalForms.{AreArrival, AreReceiverAndNumber, AreStamp};
+ghost use Rattle.st2110_tool.specs.RehearsalForms.{AreTwoReceivers, IsEventLine, IsNumberLine};
 ghost use Rattle.st2110_tool.specs.RehearsalForms.{IsStampLine, IsWindowLine, path_text};
 
 use crate::line::{read_payload_type, read_two, read_window};
 use packet_plan::Stamp;
 use path_merge::Event;
-use st_format::{Path, read_number};
+use st_format::{Path, read_number, split_once};
 use std::alloc::{AllocError, Allocator};
-use tool_text::{after_word, split_once};
+use tool_text::after_word;
 
 /// What a line `stamp PT FIRST TIMESTAMP SSRC` says.
 pub(crate) fn read_stamp_line(text: &[u8]) -> Option<Stamp>
@@ -44,8 +44,8 @@ fn read_stamp(text: &[u8]) -> Option<Stamp>
 
 /// What a line of a word, its space and a number says.
 pub(crate) fn read_number_line(text: &[u8], word: &[u8]) -> Option<u32>
-    ensures is { IfSome result (λ n. IsNumberLine word.now text.now n) }
-    ensures none { IfNone result ((n : ℕ) → IsNumberLine word.now text.now n → ⊥) }
+    ensures is { IfSome result (λ n. IsNumberLine text.now word.now n) }
+    ensures none { IfNone result ((n : ℕ) → IsNumberLine text.now word.now n → ⊥) }
 {
     let rest = after_word(text, word)?;
     let number = read_number(rest)?;
@@ -110,8 +110,8 @@ fn read_receiver_and_number(text: &[u8]) -> Option<(u8, u32)>
 
 /// Two receivers.
 fn read_receivers(text: &[u8]) -> Option<(u8, u8)>
-    ensures is { IfSome result (λ p. AreReceivers text.now p.0 p.1) }
-    ensures none { IfNone result ((into from : ℕ) → AreReceivers text.now into from → ⊥) }
+    ensures is { IfSome result (λ p. AreTwoReceivers text.now p.0 p.1) }
+    ensures none { IfNone result ((into from : ℕ) → AreTwoReceivers text.now into from → ⊥) }
 {
     let (into, from) = split_once(text, b' ')?;
     Some((read_receiver(into)?, read_receiver(from)?))
@@ -120,8 +120,8 @@ fn read_receivers(text: &[u8]) -> Option<(u8, u8)>
 /// A receiver's number: up to 255.
 fn read_receiver(text: &[u8]) -> Option<u8>
     ensures range { IfSome result (λ n. n ≤ 255) }
-    ensures is { IfSome result (λ n. Spells text.now n) }
-    ensures none { IfNone result ((n : ℕ) → n ≤ 255 → Spells text.now n → ⊥) }
+    ensures is { IfSome result (λ n. IsNumberOf text.now n) }
+    ensures none { IfNone result ((n : ℕ) → n ≤ 255 → IsNumberOf text.now n → ⊥) }
 {
     let number = read_number(text)?;
     if number <= 255 {

@@ -7,9 +7,8 @@ ghost use Rattle.st2110_tool.specs.Fault.{Accounts, ReadsAt};
 ghost use Rattle.st2110_tool.specs.Script.{IsCut, IsReadFrom, IsWholeLines, numbered_lines};
 
 use crate::fault::Fault;
-use st_format::{ByteSource, read_whole};
+use st_format::{ByteSource, read_whole, split_once};
 use std::alloc::Allocator;
-use tool_text::split_once;
 
 /// The greatest number of octets of a script (own).
 pub(crate) const LIMIT: usize = 16_777_216;

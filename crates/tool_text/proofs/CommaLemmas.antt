@@ -3,8 +3,8 @@ use Rattle.std.proofs.Common.{◌≡◌, ℕ, List, [], ◌∷◌, ◌++◌, Opt
 use Rattle.std.proofs.Common.{◌∙◌, append_assoc}
 use Rattle.std.specs.Str.Parse.{digits_value}
 use Rattle.std.proofs.lemmas.Option.{some_pair_parts}
-use Rattle.tool_text.specs.Fields.{parted}
-use Rattle.tool_text.specs.Timestamps.{AreTimestamps, Spells}
+use Rattle.st_format.specs.Text.{parted}
+use Rattle.tool_text.specs.Timestamps.{AreTimestamps, IsNumberOf}
 
 -- some were read, and the rest of the text has what is left
 pub record SoFar (text done rest : List ℕ) : Type 0 where
@@ -16,16 +16,16 @@ pub none_yet : (text : List ℕ) → SoFar text [] text
 none_yet text = record { forth = λ left is. is; back = λ all is. (all, refl, is) }
 
 one_forth : (rest first more : List ℕ) (t : ℕ) (left : List ℕ) → parted 44 rest ≡ Some (first, more)
-    → Spells first t → AreTimestamps more left → AreTimestamps rest (t ∷ left)
+    → IsNumberOf first t → AreTimestamps more left → AreTimestamps rest (t ∷ left)
 one_forth rest first more t [] parts is are = absurd are
 one_forth rest first more t (u ∷ us) parts is are = (first, more, parts, is, are)
 
-same_value : (t u : ℕ) (a b : List ℕ) → a ≡ b → Spells a u → Spells b t → u ≡ t
+same_value : (t u : ℕ) (a b : List ℕ) → a ≡ b → IsNumberOf a u → IsNumberOf b t → u ≡ t
 same_value t u a b same is_u is_t =
     is_u.value ∙ ap (λ (l : List ℕ). digits_value 10 l) same ∙ sym is_t.value
 
 one_back : (rest first more : List ℕ) (t : ℕ) (all : List ℕ) → parted 44 rest ≡ Some (first, more)
-    → Spells first t → AreTimestamps rest all → (left : List ℕ) × (all ≡ t ∷ left)
+    → IsNumberOf first t → AreTimestamps rest all → (left : List ℕ) × (all ≡ t ∷ left)
     × AreTimestamps more left
 one_back rest first more t [] parts is are = absurd are
 one_back rest first more t (u ∷ []) parts is are = absurd (none_some (sym are.0 ∙ parts))
@@ -40,7 +40,7 @@ one_back rest first more t (u ∷ v ∷ us) parts is are =
     )
 
 pub one_more : (text done rest first more : List ℕ) (t : ℕ) → SoFar text done rest
-    → parted 44 rest ≡ Some (first, more) → Spells first t → SoFar text (done ++ t ∷ []) more
+    → parted 44 rest ≡ Some (first, more) → IsNumberOf first t → SoFar text (done ++ t ∷ []) more
 one_more text done rest first more t so_far parts is = record {
   forth = λ left are. subst (λ (xs : List ℕ). AreTimestamps text xs)
       (sym (append_assoc done (t ∷ []) left))
@@ -52,13 +52,13 @@ one_more text done rest first more t so_far parts is = record {
 }
 
 pub last_one : (text done rest : List ℕ) (t : ℕ) → SoFar text done rest → parted 44 rest ≡ None
-    → Spells rest t → AreTimestamps text (done ++ t ∷ [])
+    → IsNumberOf rest t → AreTimestamps text (done ++ t ∷ [])
 last_one text done rest t so_far parts is = so_far.forth (t ∷ []) (parts, is)
 
 -- ---- texts that are none
 
 no_first : (rest first more : List ℕ) (left : List ℕ) → parted 44 rest ≡ Some (first, more)
-    → ((n : ℕ) → Spells first n → ⊥) → AreTimestamps rest left → ⊥
+    → ((n : ℕ) → IsNumberOf first n → ⊥) → AreTimestamps rest left → ⊥
 no_first rest first more [] parts none are = are
 no_first rest first more (u ∷ []) parts none are = absurd (none_some (sym are.0 ∙ parts))
   where
@@ -66,16 +66,16 @@ no_first rest first more (u ∷ []) parts none are = absurd (none_some (sym are.
     none_some h = cc
 no_first rest first more (u ∷ v ∷ us) parts none are =
     let same = some_pair_parts are.0 first are.1 more (sym are.2 ∙ parts) in
-    none u (subst (λ (l : List ℕ). Spells l u) same.0 are.3)
+    none u (subst (λ (l : List ℕ). IsNumberOf l u) same.0 are.3)
 
 pub field_none : (text done rest first more : List ℕ) → SoFar text done rest
-    → parted 44 rest ≡ Some (first, more) → ((n : ℕ) → Spells first n → ⊥) → (said : List ℕ)
+    → parted 44 rest ≡ Some (first, more) → ((n : ℕ) → IsNumberOf first n → ⊥) → (said : List ℕ)
     → AreTimestamps text said → ⊥
 field_none text done rest first more so_far parts none said are =
     let b = so_far.back said are in no_first rest first more b.0 parts none b.2
 
-no_last : (rest : List ℕ) (left : List ℕ) → parted 44 rest ≡ None → ((n : ℕ) → Spells rest n → ⊥)
-    → AreTimestamps rest left → ⊥
+no_last : (rest : List ℕ) (left : List ℕ) → parted 44 rest ≡ None
+    → ((n : ℕ) → IsNumberOf rest n → ⊥) → AreTimestamps rest left → ⊥
 no_last rest [] parts none are = are
 no_last rest (u ∷ []) parts none are = none u are.1
 no_last rest (u ∷ v ∷ us) parts none are = absurd (none_some are.0 are.1 (sym parts ∙ are.2))
@@ -84,6 +84,6 @@ no_last rest (u ∷ v ∷ us) parts none are = absurd (none_some are.0 are.1 (sy
     none_some a b h = cc
 
 pub last_none : (text done rest : List ℕ) → SoFar text done rest → parted 44 rest ≡ None
-    → ((n : ℕ) → Spells rest n → ⊥) → (said : List ℕ) → AreTimestamps text said → ⊥
+    → ((n : ℕ) → IsNumberOf rest n → ⊥) → (said : List ℕ) → AreTimestamps text said → ⊥
 last_none text done rest so_far parts none said are =
     let b = so_far.back said are in no_last rest b.0 parts none b.2

@@ -1,5 +1,5 @@
 pub mod Status
-pub mod Fields
 pub mod Timestamps
+pub mod Sources
 pub mod Telling
 pub mod Frames

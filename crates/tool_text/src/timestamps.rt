@@ -2,8 +2,7 @@
 ghost use Rattle.std.specs.Prelude.{ℕ, List, IfNone, IfOk, IfSome};
 ghost use Rattle.tool_text.specs.Timestamps.{AreTimestamps};
 
-use crate::fields::split_once;
-use st_format::read_number;
+use st_format::{read_number, split_once};
 use std::alloc::{AllocError, Allocator};
 
 /// Timestamps parted by commas, and none where the text isn't of that form.

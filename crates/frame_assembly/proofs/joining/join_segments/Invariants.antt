@@ -1,5 +1,5 @@
 use Rattle.std.proofs.Common.{◌≡◌, ℕ, drop, length, map}
-use Rattle.st_format.specs.Raster.{cells_of, joined, offers_in_all}
+use Rattle.st_format.specs.Raster.{cells_of, joined_cells, offers_in_all}
 use Rattle.payload_header.specs.Payload.{seen}
 use Rattle.frame_assembly.specs.Packed.{ArePacked, cells_in, group_count}
 use Rattle.frame_assembly.proofs.joining.join_segments.Given as goal
@@ -14,8 +14,8 @@ abbrev pub invariant-loop-segment : goal.invariant-loop-segment
 invariant-loop-segment l =
     Joins (length l.marks ≡ group_count l.format) (ArePacked l.format l.marks l.octets)
     ((ts : ℕ)
-    → joined (cells_in l.format l.marks l.octets)
+    → joined_cells (cells_in l.format l.marks l.octets)
     (cells_of l.format
     (offers_in_all l.format ts (map seen (drop l.segment-index l.segments))) ts)
-    ≡ joined (cells_in l.format l.initial.marks l.initial.octets)
+    ≡ joined_cells (cells_in l.format l.initial.marks l.initial.octets)
     (cells_of l.format (offers_in_all l.format ts (map seen l.segments)) ts))

@@ -4,13 +4,13 @@ use Rattle.std.specs.Borrow.{Bor}
 use Rattle.std.specs.List.{AllByRecursion}
 use Rattle.st_format.specs.Picture.{FitsDepth}
 use Rattle.st_format.specs.Raster.{Raster}
-use Rattle.process_engine.specs.Inputs.{lent}
+use Rattle.process_engine.specs.Inputs.{frames_lent}
 use Rattle.process_engine.proofs.Refusals.{unfit_fill, unread_fill}
 use Rattle.process_engine.proofs.inputs.fill_for.Goals as goal
 
 pub returns-in_default-clause-refused : goal.returns-in_default-clause-refused
 returns-in_default-clause-refused g c =
-    (refl, unread_fill c.args.text.now (lent c.args.frames.now) c.in_default.ensures.none)
+    (refl, unread_fill c.args.text.now (frames_lent c.args.frames.now) c.in_default.ensures.none)
 
 pub returns-then-not-fits-clause-refused : goal.returns-then-not-fits-clause-refused
 returns-then-not-fits-clause-refused g c =

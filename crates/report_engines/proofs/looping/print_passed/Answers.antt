@@ -6,7 +6,7 @@ use Rattle.file_engines.specs.Line.{line_text}
 use Rattle.file_engines.specs.declared.line.Line.TheVariants.{Sent, Delivered, Frame}
 use Rattle.path_merge.specs.Frames.{frame_at}
 use Rattle.st_format.specs.Raster.{Raster}
-use Rattle.report_engines.specs.Looping.{Prints, ended, loop_text}
+use Rattle.report_engines.specs.Looping.{Prints, ended_line, loop_text}
 use Rattle.report_engines.proofs.looping.print_passed.Goals as goal
 
 pub returns-clause-printed : goal.returns-clause-printed
@@ -16,9 +16,10 @@ returns-clause-printed g c =
     let first = held c.print.new.output in
     let second = held c.print-2.new.output in
     let new = held c.print-3.new.output in
-    let sent = ended (line_text (Sent c.from.result)) in
-    let delivered = ended (line_text (Delivered c.args.passed.delivered)) in
-    let frame = ended (line_text (Frame (record { timestamp = 0; counts = c.counts.result }))) in
+    let sent = ended_line (line_text (Sent c.from.result)) in
+    let delivered = ended_line (line_text (Delivered c.args.passed.delivered)) in
+    let frame =
+    ended_line (line_text (Frame (record { timestamp = 0; counts = c.counts.result }))) in
     let at_zero : Option Raster =
     frame_at c.args.receiver.now.opening.window c.args.receiver.now.frames 0 in
     on_ok c.print-3.result (Appends second new frame)

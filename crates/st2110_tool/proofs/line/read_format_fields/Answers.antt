@@ -1,6 +1,6 @@
 use Rattle.std.proofs.Common.{rules, List, ℕ, Some, sym, subst, ◌≡◌}
-use Rattle.tool_text.specs.Fields.{parted}
-use Rattle.tool_text.specs.Timestamps.{Spells}
+use Rattle.st_format.specs.Text.{parted}
+use Rattle.tool_text.specs.Timestamps.{IsNumberOf}
 use Rattle.st2110_tool.proofs.FormLemmas.{depth_none, height_none, if_none, sampling_none}
 use Rattle.st2110_tool.proofs.line.read_format_fields.Goals as goal
 
@@ -29,7 +29,7 @@ returns-in_err-read_depth-clause-none c =
 
 pub returns-clause-is : goal.returns-clause-is
 returns-clause-is c =
-    let width : Spells c.in_ok-width.width.now c.in_ok-read_number.field-0 = search rules in
+    let width : IsNumberOf c.in_ok-width.width.now c.in_ok-read_number.field-0 = search rules in
     record {
       depth = c.in_ok-depth.depth.now;
       width = c.in_ok-width.width.now;

@@ -1,4 +1,4 @@
--- Fields of a line.
+-- Texts, parted at a separator.
 use Rattle.std.specs.Prelude.{ℕ, ◌+◌, ◌==◌, List, take, drop, position, Option}
 use Rattle.std.specs.Option.{option_map}
 

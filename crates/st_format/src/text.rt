@@ -1,10 +1,9 @@
-//! Fields of a line.
-ghost use Rattle.std.specs.Prelude.{◌≡◌, ◌≢◌, ◌<◌, ◌==◌, ◌++◌, List, ℕ, IfSome, MatchOption};
-ghost use Rattle.std.specs.Prelude.{length, position};
+//! Texts, parted at a separator.
+ghost use Rattle.std.specs.Prelude.{◌≡◌, ◌<◌, ◌==◌, IfSome, length, position};
 ghost use Rattle.std.specs.Option.{option_map};
-ghost use Rattle.tool_text.specs.Fields.{parted};
+ghost use Rattle.st_format.specs.Text.{parted};
 
-/// The text before the first `separator`, and the text behind it.
+/// The text before the first `separator`, and the text behind it; none where it has no separator.
 pub fn split_once(text: &[u8], separator: u8) -> Option<(&[u8], &[u8])>
     ensures parts { option_map (λ p. (p.0.now, p.1.now)) result ≡ parted separator text.now }
     ensures shorter { IfSome result (λ p. length p.1.now < length text.now) }
@@ -13,14 +12,6 @@ pub fn split_once(text: &[u8], separator: u8) -> Option<(&[u8], &[u8])>
         Some(place) => Some((&text[..place], &text[place + 1..])),
         None => None,
     }
-}
-
-/// The text behind a word, where it begins so.
-pub fn after_word<'a>(text: &'a [u8], word: &[u8]) -> Option<&'a [u8]>
-    ensures cases { MatchOption result ((rest : List ℕ) → text.now ≢ word.now ++ rest) (λ rest.
-        text.now ≡ word.now ++ rest.now) }
-{
-    text.strip_prefix(word)
 }
 
 /// The index of the first `octet`.

@@ -1,6 +1,6 @@
 use Rattle.std.proofs.lemmas.Bool.Decides.{Decides-eqb}
 use Rattle.std.proofs.lemmas.Slice.Eq.{strip_prefix_is}
-use Rattle.tool_text.proofs.fields.after_word.Goals as goal
+use Rattle.tool_text.proofs.words.after_word.Goals as goal
 
 pub returns : goal.returns
 returns c = record {
