@@ -49,10 +49,9 @@ use Rattle.capture_file.proofs.Blocked.{block_parts, lowest_good}
 use Rattle.capture_file.proofs.Entries.{chosen}
 use Rattle.capture_file.proofs.Found.{failed, field_takes, given, kind_takes, split_then}
 use Rattle.capture_file.proofs.Raster.{raster_bits}
-use Rattle.capture_file.proofs.Splits.{AreOctets-back, AreOctets-tail}
-use Rattle.st_format.proofs.Octets.{AreOctets-drop}
+use Rattle.capture_file.proofs.Splits.{AreOctets-back}
 use Rattle.capture_file.proofs.Splits.{field_again}
-use Rattle.st_format.proofs.Octets.{AreOctets-take}
+use Rattle.st_format.proofs.Octets.{AreOctets-drop, AreOctets-take, all_octets}
 
 -- ---- name and version
 
@@ -308,10 +307,6 @@ block_again f rest =
 
 abbrev with_values : List ℕ → List ℕ → Result (List ℕ × List ℕ) FileFault
 with_values values rest = Ok (values, rest)
-
-pub all_octets : (xs : List ℕ) → AreOctets xs → AllByRecursion (λ v. v < 256) xs
-all_octets [] bytes = tt
-all_octets (x ∷ xs) bytes = (bytes 0, all_octets xs (AreOctets-tail x xs bytes))
 
 raster_takes : (f : Fields) (count : ℕ) (octets : List ℕ) (x : List ℕ × List ℕ)
     → bits_of f.depth * count ≡ 8 * raster_octets f → AreOctets octets → raster_at f octets ≡ Ok x

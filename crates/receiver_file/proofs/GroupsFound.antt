@@ -27,7 +27,7 @@ use Rattle.capture_file.specs.Groups.{group_text, groups_at, groups_text, mask_o
 use Rattle.capture_file.specs.Groups.{samples_text, value_or_0}
 use Rattle.capture_file.proofs.Entries.{chosen}
 use Rattle.capture_file.proofs.Found.{field_takes, given, split_then}
-use Rattle.capture_file.proofs.Seen.{all_octets}
+use Rattle.st_format.proofs.Octets.{all_octets}
 use Rattle.capture_file.proofs.Splits.{AreOctets-back}
 use Rattle.st_format.proofs.Octets.{AreOctets-drop, AreOctets-take}
 use Rattle.capture_file.proofs.Splits.{AreOctets-tail}
