@@ -3,14 +3,41 @@ ghost use Rattle.std.specs.Prelude.{◌≡◌, length, IfErr, IfOk};
 ghost use Rattle.capture_file.specs.Blocks.{block_at, block_of, depth_of, fields_made, sampling_of};
 ghost use Rattle.capture_file.specs.Faults.{CountsDevice};
 ghost use Rattle.capture_file.specs.Fields.{Fails, Takes};
+ghost use Rattle.capture_file.specs.StateFile.{format_text, sampling_code};
 ghost use Rattle.st_format.specs.Fields.{fields_of};
 
 use crate::fault::FileFault;
 use crate::front::read_field;
+use byteorder::{BigEndian, ByteOrder};
 use st_format::{ByteSource, Depth, Format, Sampling};
 
 /// The octets of a format block.
 const BLOCK: usize = 14;
+
+/// The code of a sampling in a format block.
+fn code_of(sampling: Sampling) -> u8
+    ensures { result ≡ sampling_code sampling }
+{
+    match sampling {
+        Sampling::Ycc422 => 0,
+        Sampling::Ycc444 => 1,
+        Sampling::Rgb => 2,
+    }
+}
+
+/// The format block of a format.
+pub fn format_block(format: &Format) -> [u8; BLOCK]
+    ensures { result ≡ format_text (fields_of format.now) }
+{
+    let mut block = [0u8; BLOCK];
+    block[0] = code_of(format.sampling());
+    block[1] = format.depth().bits() as u8;
+    BigEndian::write_u16(&mut block[2..], format.width() as u16);
+    BigEndian::write_u16(&mut block[4..], format.height() as u16);
+    BigEndian::write_u32(&mut block[6..], format.n());
+    BigEndian::write_u32(&mut block[10..], format.d());
+    block
+}
 
 /// The sampling of a code of the format block.
 fn sampling_in(code: u8) -> Result<Sampling, FileFault>

@@ -18,7 +18,7 @@ mod steps;
 mod writer;
 mod writing;
 
-pub use block::read_format;
+pub use block::{format_block, read_format};
 pub use capture::{Capture, read_capture};
 pub use fault::FileFault;
 pub use front::{Version, read_field, read_kind};

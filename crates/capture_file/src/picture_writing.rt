@@ -8,16 +8,12 @@ ghost use Rattle.st_format.specs.Pgroup.{bits_of};
 ghost use Rattle.st_format.specs.Samples.{octets_in};
 ghost use Rattle.capture_file.specs.Faults.{CountsDevice, IsDevice};
 ghost use Rattle.capture_file.specs.PictureFile.{head_of, picture_text};
-ghost use Rattle.capture_file.specs.StateFile.{format_text, sampling_code};
 
+use crate::block::format_block;
 use crate::fault::FileFault;
 use crate::pieces::{PIECE, piece_octets, piece_samples};
-use byteorder::{BigEndian, ByteOrder};
-use st_format::{ByteSink, DeviceFault, Format, Picture, Sampling, write_whole};
+use st_format::{ByteSink, DeviceFault, Format, Picture, write_whole};
 use std::alloc::Allocator;
-
-/// The octets of a format block.
-const BLOCK: usize = 14;
 
 /// Writes a picture's file: name, version 01, format block, and the pixel groups packed. No memory
 /// is taken.
@@ -52,32 +48,7 @@ fn write_head<K: ByteSink>(sink: &mut K, format: &Format) -> Result<(), DeviceFa
     ensures counted { CountsFaults (K.failures sink.old) (K.failures sink.new) result }
 {
     write_whole(sink, b"S20PIC01")?;
-    write_whole(sink, &block_of(format))
-}
-
-/// The code of a sampling in a format block.
-fn code_of(sampling: Sampling) -> u8
-    ensures { result ≡ sampling_code sampling }
-{
-    match sampling {
-        Sampling::Ycc422 => 0,
-        Sampling::Ycc444 => 1,
-        Sampling::Rgb => 2,
-    }
-}
-
-/// The format block of a format.
-fn block_of(format: &Format) -> [u8; BLOCK]
-    ensures { result ≡ format_text (fields_of format.now) }
-{
-    let mut block = [0u8; BLOCK];
-    block[0] = code_of(format.sampling());
-    block[1] = format.depth().bits() as u8;
-    BigEndian::write_u16(&mut block[2..], format.width() as u16);
-    BigEndian::write_u16(&mut block[4..], format.height() as u16);
-    BigEndian::write_u32(&mut block[6..], format.n());
-    BigEndian::write_u32(&mut block[10..], format.d());
-    block
+    write_whole(sink, &format_block(format))
 }
 
 /// Writes the octets that samples spell, in pieces that are packed into `piece`.

@@ -6,12 +6,12 @@ use Rattle.capture_file.specs.declared.fault.FileFault.TheVariants.{NoMemory, De
 use Rattle.capture_file.specs.declared.fault.FileFault.TheVariants.{BadVersion, Truncated, BadField}
 use Rattle.capture_file.specs.declared.fault.FileFault.TheVariants.{TrailingBytes, MixedGroup}
 use Rattle.capture_file.specs.declared.fault.FileFault.TheVariants.{TooManyRecords}
-use Rattle.receiver_file.specs.StateFaults.{StateFault}
+use Rattle.receiver_file.specs.StateFaults.{IsStateFault}
 use Rattle.file_engines.specs.LowerFaults.{state_fault}
 use Rattle.file_engines.specs.Refusing.{IsStateRefusal, OfRefusal}
 
 pub state_refused : (told : Option (List ℕ)) (f : FileFault)
-    → ((octets : List ℕ) → told ≡ Some octets → IfContent f (StateFault f octets))
+    → ((octets : List ℕ) → told ≡ Some octets → IfContent f (IsStateFault f octets))
     → OfRefusal (state_fault f) (IsStateRefusal told)
 state_refused told NoMemory wrong = tt
 state_refused told Device wrong = tt

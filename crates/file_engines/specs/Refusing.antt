@@ -1,7 +1,7 @@
 -- What holds where a run ends by a refusal.
 use Rattle.std.specs.Prelude.{◌≡◌, ℕ, List, ◌++◌, codes, Option, Some, Result, Ok, Err, ⊤}
 use Rattle.std.specs.Io.KnownBytes.{Appends}
-use Rattle.receiver_file.specs.StateFaults.{StateFault}
+use Rattle.receiver_file.specs.StateFaults.{IsStateFault}
 use Rattle.file_engines.specs.RefusalText.{refusal_text}
 use Rattle.file_engines.specs.declared.fault.Fault.{Fault}
 use Rattle.file_engines.specs.declared.fault.Fault.TheVariants.{Refused, Device, Memory}
@@ -16,7 +16,7 @@ OfRefusal Memory Holds = ⊤
 
 -- the refusal of a receiver's file: the fault's condition holds of the octets, where they are told
 abbrev pub IsStateRefusal : Option (List ℕ) → Refusal → Type 0
-IsStateRefusal told (State f) = (octets : List ℕ) → told ≡ Some octets → StateFault f octets
+IsStateRefusal told (State f) = (octets : List ℕ) → told ≡ Some octets → IsStateFault f octets
 IsStateRefusal told r = ⊥
 
 -- a refusal of which this holds was told by its line

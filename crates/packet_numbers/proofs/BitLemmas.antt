@@ -1,5 +1,5 @@
 -- Flags that are kept as bits of words.
-use Rattle.std.proofs.Common.{◌≡◌, ℕ, zero, suc, ◌+◌, ◌*◌, ◌/◌, ◌%◌, ◌^◌, ◌<◌, ◌≤◌, max, Bool, true}
+use Rattle.std.proofs.Common.{◌≡◌, ℕ, zero, suc, ◌*◌, ◌/◌, ◌%◌, ◌^◌, ◌<◌, ◌≤◌, max, Bool, true}
 use Rattle.std.proofs.Common.{false, ◌==◌, ◌||◌, List, ◌++◌, length, get_or, set, take, drop}
 use Rattle.std.proofs.Common.{replicate, bit_or, refl, sym, ap, ◌∙◌, inl, inr, arith, w64}
 use Rattle.std.specs.Int.{bit_at}

@@ -38,9 +38,6 @@ Number = Result (ℕ × List ℕ) FileFault
 
 -- ---- the format block
 
-abbrev Part : Type 0
-Part = List ℕ × List ℕ
-
 pub block_fault : (octets : List ℕ) (e : FileFault) → AreOctets octets → block_at octets ≡ Err e
     → FieldFails (length octets < 14) (HasNoBlock octets) e
 unfolding block_at

@@ -1,9 +1,8 @@
 -- The frames of a receiver, each told by a call on it.
-use Rattle.std.proofs.Common.{◌≡◌, ℕ, zero, suc, ◌+◌, ◌<◌, ◌≤◌, Bool, false, cond, eqb, List, []}
+use Rattle.std.proofs.Common.{◌≡◌, ℕ, zero, suc, ◌+◌, ◌<◌, Bool, false, cond, eqb, List, []}
 use Rattle.std.proofs.Common.{◌∷◌, length, take, get_or, Option, Some, sym, ap, ◌∙◌, subst, arith}
 use Rattle.std.specs.List.{AllByRecursion}
 use Rattle.std.proofs.lemmas.Bool.{eq-eqb, ne_eqb}
-use Rattle.std.proofs.lemmas.List.{take_all}
 use Rattle.st_format.specs.Member.{IsMember}
 use Rattle.st_format.specs.Raster.{Raster}
 use Rattle.path_merge.specs.Frames.{IsReceiver, State, frame_at}
@@ -41,8 +40,3 @@ filled_next s i t r is lt at found told all =
     let w : List ℕ = s.opening.window in
     subst (λ (n : ℕ). AllByRecursion IsFilled (take n s.frames)) e
     (filled_more w s.frames i t r is.window.different is.one_each lt at found told all)
-
-pub filled_all : (s : State) (i : ℕ) → IsReceiver s → length s.opening.window ≤ i
-    → AllByRecursion IsFilled (take i s.frames) → AllByRecursion IsFilled s.frames
-filled_all s i is le all =
-    subst (AllByRecursion IsFilled) (take_all i s.frames (omega (arith, is.one_each))) all

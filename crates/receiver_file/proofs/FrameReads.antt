@@ -1,39 +1,17 @@
 -- A timestamp and its frame, read behind others.
-use Rattle.std.proofs.Common.{◌≡◌, ℕ, ◌+◌, ◌-◌, ◌*◌, ◌<◌, List, [], ◌∷◌, ◌++◌, length, map, Option}
+use Rattle.std.proofs.Common.{◌≡◌, ℕ, ◌+◌, ◌-◌, ◌<◌, List, [], ◌∷◌, ◌++◌, length, map, Option}
 use Rattle.std.proofs.Common.{sym, subst, arith}
-use Rattle.st_format.specs.declared.cell.Cell.{Cell}
-use Rattle.st_format.specs.declared.format.Format.{Format}
-use Rattle.st_format.specs.Fields.{Fields, fields_of}
+use Rattle.st_format.specs.Fields.{Fields}
 use Rattle.st_format.specs.Raster.{Raster}
-use Rattle.st_format.specs.Position.{row_groups}
 use Rattle.capture_file.specs.declared.fault.FileFault.{FileFault}
 use Rattle.capture_file.specs.Fields.{Fails, Takes}
 use Rattle.capture_file.specs.Groups.{groups_at, shape_of}
 use Rattle.capture_file.specs.StateFile.{Held, group_count, held_of}
-use Rattle.receiver_file.specs.Known.{rows_cut, shape_in}
 use Rattle.receiver_file.specs.Saved.{groups_in, kept_frames, timestamp_in}
 use Rattle.receiver_file.specs.StateReading.{all_held_at, timestamp_at}
 use Rattle.receiver_file.proofs.FrameRuns.{frames_more, frames_none, frames_stop, held_cut}
 use Rattle.receiver_file.proofs.FrameRuns.{held_fails, held_gives}
 use Rattle.receiver_file.proofs.Stamped.{kept_more, kept_stamps}
-
--- the groups of a frame, in the words of its format's fields
-pub frame_read : (f o h : Format) (cells : List Cell) (old new : Option (List ℕ)) → o ≡ f → h ≡ o
-    → Takes (groups_at (shape_in o) (o.height * row_groups o)) old new
-    (rows_cut (record { format = h; cells = cells }) o.height)
-    → Takes (groups_at (shape_in f) (group_count (fields_of f))) old new
-    (groups_in (fields_of f) cells)
-frame_read f o h cells old new e k p =
-    subst (λ (x : Format). Takes (groups_at (shape_in x) (x.height * row_groups x)) old new
-    (rows_cut (record { format = x; cells = cells }) x.height)) e
-    (subst (λ (x : Format). Takes (groups_at (shape_in o) (o.height * row_groups o)) old new
-    (rows_cut (record { format = x; cells = cells }) o.height)) k p)
-
-pub frame_fails : (f o : Format) (old : Option (List ℕ)) (e : FileFault) → o ≡ f
-    → Fails (groups_at (shape_in o) (o.height * row_groups o)) old e
-    → Fails (groups_at (shape_in f) (group_count (fields_of f))) old e
-frame_fails f o old e k p =
-    subst (λ (x : Format). Fails (groups_at (shape_in x) (x.height * row_groups x)) old e) k p
 
 behind_window : (f : Fields) (w : List ℕ) (rs : List Raster) (old mid : Option (List ℕ)) (t : ℕ)
     → length rs ≡ length w → Takes (timestamp_at w) old mid t

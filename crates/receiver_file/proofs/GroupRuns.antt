@@ -1,6 +1,6 @@
 -- Groups that are read and written after others.
 use Rattle.std.proofs.Common.{◌≡◌, ℕ, zero, suc, ◌+◌, List, [], ◌∷◌, ◌++◌, Option, None, Some}
-use Rattle.std.proofs.Common.{Result, Ok, Err, refl, sym, ap, ◌∙◌, subst, append-nil, arith}
+use Rattle.std.proofs.Common.{Result, Ok, Err, refl, sym, ap, ◌∙◌, subst, arith}
 use Rattle.std.specs.Io.KnownBytes.{Appends}
 use Rattle.std.proofs.KnownBytes.{Appends-trans}
 use Rattle.std.proofs.lemmas.Grind.{flat_map-append}
@@ -137,6 +137,3 @@ texts_cut s gs hs rest all old mid new e p q =
     subst (AppendsPrefix old new) (sym whole)
     (prefix_first old new (groups_text s gs ++ groups_text s hs) (groups_text s rest)
     (prefix_then old mid new (groups_text s gs) (groups_text s hs) p q))
-
-pub text_one : (s : Shape) (g : List Cell) → group_text s g ≡ groups_text s (g ∷ [])
-text_one s g = sym (append-nil (group_text s g))

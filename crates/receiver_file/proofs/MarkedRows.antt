@@ -40,14 +40,6 @@ pub passes_none : (known : Option (List ℕ)) → Passes known known [] []
 passes_none None = record { first = []; taken = tt; whole = refl }
 passes_none (Some o) = record { first = []; taken = sym (append-nil o); whole = refl }
 
-pub passes_kept : (known : Option (List ℕ)) (xs : List ℕ) → Passes known known xs xs
-passes_kept None xs = record { first = []; taken = tt; whole = refl }
-passes_kept (Some o) xs = record { first = []; taken = sym (append-nil o); whole = refl }
-
-pub passes_taken : (old new : Option (List ℕ)) (xs : List ℕ) → Appends old new xs
-    → Passes old new xs []
-passes_taken old new xs p = record { first = xs; taken = p; whole = sym (append-nil xs) }
-
 pub passes_then : (old mid new : Option (List ℕ)) (xs ys zs : List ℕ) → Passes old mid xs ys
     → Passes mid new ys zs → Passes old new xs zs
 passes_then old mid new xs ys zs p q = record {

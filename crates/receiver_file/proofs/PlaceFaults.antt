@@ -20,10 +20,10 @@ use Rattle.receiver_file.specs.declared.front.Head.{Head}
 use Rattle.receiver_file.specs.Front.{count_at, flag_at, head_at, payload_type_at, ssrc_at}
 use Rattle.receiver_file.specs.Saved.{timestamp_in}
 use Rattle.receiver_file.specs.StateFaults.{AreFewer, IsBadAt, IsCutAt, IsHead, IsMixedAt, IsSaid}
-use Rattle.receiver_file.specs.StateFaults.{Place, block_front, flag_octet, frames_front, head_text}
+use Rattle.receiver_file.specs.StateFaults.{FieldPlace, block_front, flag_octet, frames_front, head_text}
 use Rattle.receiver_file.specs.StateFaults.{shape_by, text_before}
-use Rattle.receiver_file.specs.StateFaults.Place.{AtBlock, AtPayloadType, AtFlag, AtSource, AtCount}
-use Rattle.receiver_file.specs.StateFaults.Place.{AtTimestamp, AtGroup}
+use Rattle.receiver_file.specs.StateFaults.FieldPlace.{AtBlock, AtPayloadType, AtFlag, AtSource, AtCount}
+use Rattle.receiver_file.specs.StateFaults.FieldPlace.{AtTimestamp, AtGroup}
 use Rattle.receiver_file.specs.StateReading.{all_held_at, held_at, state_at, timestamp_at}
 use Rattle.receiver_file.proofs.Again.{Frames_read, flag_off, flag_on, new_all, ssrc_again}
 use Rattle.receiver_file.proofs.Again.{state_formed, state_headed, state_named, type_again}
@@ -51,7 +51,7 @@ abbrev Headed : Type 0
 Headed = Result (Head × List ℕ) FileFault
 
 -- the reading at a place fails
-abbrev pub FailsAt : Place → List ℕ → FileFault → Type 0
+abbrev pub FailsAt : FieldPlace → List ℕ → FileFault → Type 0
 FailsAt AtBlock octets e = block_at octets ≡ Err e
 FailsAt (AtPayloadType f) octets e = payload_type_at octets ≡ Err e
 FailsAt (AtFlag f type) octets e = flag_at octets ≡ Err e
@@ -62,7 +62,7 @@ FailsAt (AtGroup f h frames timestamp groups) octets e = group_at (shape_by f) o
 
 -- ---- it fails as the condition says, and the condition holds where it fails
 
-pub cut_at : (place : Place) (octets : List ℕ) → IsCutAt place octets
+pub cut_at : (place : FieldPlace) (octets : List ℕ) → IsCutAt place octets
     → FailsAt place octets Truncated
 cut_at AtBlock octets c = block_short octets c
 cut_at (AtPayloadType f) octets c = type_gone octets c
@@ -72,7 +72,7 @@ cut_at (AtCount f type ssrc) octets c = count_gone octets c
 cut_at (AtTimestamp f h frames) octets c = stamp_short (map timestamp_in frames) octets c
 cut_at (AtGroup f h frames timestamp groups) octets c = group_cut (shape_by f) octets c
 
-pub bad_at : (place : Place) (octets : List ℕ) → AreOctets octets → IsBadAt place octets
+pub bad_at : (place : FieldPlace) (octets : List ℕ) → AreOctets octets → IsBadAt place octets
     → FailsAt place octets BadField
 bad_at AtBlock octets bytes b = block_none octets bytes b
 bad_at (AtPayloadType f) octets bytes b = type_above octets b
@@ -83,7 +83,7 @@ bad_at (AtCount f type ssrc) octets bytes b = count_other octets b
 bad_at (AtTimestamp f h frames) octets bytes b = stamp_twice (map timestamp_in frames) octets b
 bad_at (AtGroup f h frames timestamp groups) octets bytes b = group_state (shape_by f) octets b
 
-pub mixed_at_place : (place : Place) (octets : List ℕ) → IsMixedAt place octets
+pub mixed_at_place : (place : FieldPlace) (octets : List ℕ) → IsMixedAt place octets
     → FailsAt place octets MixedGroup
 mixed_at_place AtBlock octets m = absurd m
 mixed_at_place (AtPayloadType f) octets m = absurd m
@@ -93,12 +93,12 @@ mixed_at_place (AtCount f type ssrc) octets m = absurd m
 mixed_at_place (AtTimestamp f h frames) octets m = absurd m
 mixed_at_place (AtGroup f h frames timestamp groups) octets m = group_mask (shape_by f) octets m
 
-pub data PlaceFails (place : Place) (octets : List ℕ) (e : FileFault) : Type 0 where
+pub data PlaceFails (place : FieldPlace) (octets : List ℕ) (e : FileFault) : Type 0 where
   IsCut : Truncated ≡ e → IsCutAt place octets → PlaceFails place octets e
   IsBad : BadField ≡ e → IsBadAt place octets → PlaceFails place octets e
   IsMixed : MixedGroup ≡ e → IsMixedAt place octets → PlaceFails place octets e
 
-by_field : (place : Place) (octets : List ℕ) (e : FileFault)
+by_field : (place : FieldPlace) (octets : List ℕ) (e : FileFault)
     → FieldFails (IsCutAt place octets) (IsBadAt place octets) e → PlaceFails place octets e
 by_field place octets e (Ends is short) = IsCut is short
 by_field place octets e (Says is wrong) = IsBad is wrong
@@ -110,7 +110,7 @@ by_group f h frames t gs octets e (Cut is short) = IsCut is short
 by_group f h frames t gs octets e (State is wrong) = IsBad is wrong
 by_group f h frames t gs octets e (Mask is wrong) = IsMixed is wrong
 
-pub place_faults : (place : Place) (octets : List ℕ) (e : FileFault) → AreOctets octets
+pub place_faults : (place : FieldPlace) (octets : List ℕ) (e : FileFault) → AreOctets octets
     → FailsAt place octets e → PlaceFails place octets e
 place_faults AtBlock octets e bytes h = by_field AtBlock octets e (block_fault octets e bytes h)
 place_faults (AtPayloadType f) octets e bytes h =
@@ -188,7 +188,7 @@ frames_end f h hs octets e said x =
     ∙ ap (λ (r : Frames_read). r >>= behind_frames f h)
     (frames_stop f h.count [] hs octets e said.held (new_all [] hs said.different) said.fewer x)
 
-pub place_fails : (place : Place) (octets : List ℕ) (e : FileFault) → IsSaid place
+pub place_fails : (place : FieldPlace) (octets : List ℕ) (e : FileFault) → IsSaid place
     → FailsAt place octets e → state_at (text_before place ++ octets) ≡ Err e
 place_fails AtBlock octets e said x =
     state_named octets ∙ ap (λ (r : Result (Fields × List ℕ) FileFault). r >>= behind_block) x
@@ -218,13 +218,13 @@ place_fails (AtGroup f h frames t gs) octets e said x =
 -- ---- each reading that fails does so at a place
 
 pub record Reached (octets : List ℕ) (e : FileFault) : Type 0 where
-  pub place : Place
+  pub place : FieldPlace
   pub behind : List ℕ
   pub said : IsSaid place
   pub whole : octets ≡ text_before place ++ behind
   pub fails : FailsAt place behind e
 
-pub reached : (place : Place) (octets rest : List ℕ) (e : FileFault) → IsSaid place
+pub reached : (place : FieldPlace) (octets rest : List ℕ) (e : FileFault) → IsSaid place
     → octets ≡ text_before place ++ rest → FailsAt place rest e → Reached octets e
 reached place octets rest e said whole fails =
     record { place = place; behind = rest; said = said; whole = whole; fails = fails }

@@ -6,15 +6,14 @@ use Rattle.std.proofs.lemmas.List.{length-drop, length-take-le}
 use Rattle.st_format.specs.Raster.{IsWhole, Raster}
 use Rattle.frame_assembly.specs.Rows.{group_cells}
 use Rattle.frame_assembly.proofs.Segments.{sample_count_groups}
-use Rattle.capture_file.proofs.Once.{shape_is}
 use Rattle.receiver_file.specs.Known.{shape_in}
 use Rattle.st_format.specs.declared.cell.Cell.{Cell}
 use Rattle.st_format.specs.Device.{AppendsPrefix}
 use Rattle.st_format.specs.Position.{group_start, row_groups}
-use Rattle.capture_file.specs.Groups.{Shape, group_text, groups_text}
+use Rattle.capture_file.specs.Groups.{Shape, groups_text}
 use Rattle.capture_file.specs.StateFile.{cut_cells}
 use Rattle.receiver_file.proofs.CutCells.{cut_add, cut_place, cut_three}
-use Rattle.receiver_file.proofs.GroupRuns.{text_one, texts_cut, texts_more}
+use Rattle.receiver_file.proofs.GroupRuns.{texts_cut, texts_more}
 
 -- the cells of a row, and one group of it
 abbrev pub row_from : ℕ → ℕ → List Cell → List Cell
@@ -31,22 +30,6 @@ cut_next size a g cells =
     ∙ ap (λ (t : List (List Cell)). cut_cells size g (row_from size a cells) ++ t)
     (cut_place size a g cells)
 
-row_rest : ℕ → ℕ → ℕ → ℕ → List Cell → List (List Cell)
-row_rest size a g n cells =
-    cut_cells size (n - (g + 1)) (drop (size * (g + 1)) (row_from size a cells))
-
-cut_row : (size a g n : ℕ) (cells : List Cell) → g < n
-    → cut_cells size n (row_from size a cells)
-    ≡ (cut_cells size g (row_from size a cells) ++ group_from size a g cells ∷ [])
-    ++ row_rest size a g n cells
-unfolding row_rest
-cut_row size a g n cells lt =
-    cut_three size g 1 (n - (g + 1)) n (row_from size a cells) (omega arith)
-    ∙ ap
-    (λ (t : List (List Cell)).
-    (cut_cells size g (row_from size a cells) ++ t) ++ cut_cells size (n - (g + 1))
-    (drop (size * (g + 1)) (row_from size a cells))) (cut_place size a g cells)
-
 -- ---- written
 
 pub written_none : (s : Shape) (size : ℕ) (cells : List Cell) (known : Option (List ℕ))
@@ -54,25 +37,6 @@ pub written_none : (s : Shape) (size : ℕ) (cells : List Cell) (known : Option 
 unfolding cut_cells
 written_none s size cells None = tt
 written_none s size cells (Some o) = sym (append-nil o)
-
-pub written_more : (s : Shape) (size a g : ℕ) (cells : List Cell) (old mid new : Option (List ℕ))
-    → Appends old mid (groups_text s (cut_cells size g (row_from size a cells)))
-    → Appends mid new (group_text s (group_from size a g cells))
-    → Appends old new (groups_text s (cut_cells size (g + 1) (row_from size a cells)))
-written_more s size a g cells old mid new p q =
-    texts_more s (cut_cells size g (row_from size a cells)) (group_from size a g cells ∷ [])
-    (cut_cells size (g + 1) (row_from size a cells)) old mid new (cut_next size a g cells) p
-    (subst (Appends mid new) (text_one s (group_from size a g cells)) q)
-
-pub written_stop : (s : Shape) (size a g n : ℕ) (cells : List Cell) (old mid new : Option (List ℕ))
-    → g < n → Appends old mid (groups_text s (cut_cells size g (row_from size a cells)))
-    → AppendsPrefix mid new (group_text s (group_from size a g cells))
-    → AppendsPrefix old new (groups_text s (cut_cells size n (row_from size a cells)))
-written_stop s size a g n cells old mid new lt p q =
-    texts_cut s (cut_cells size g (row_from size a cells)) (group_from size a g cells ∷ [])
-    (row_rest size a g n cells) (cut_cells size n (row_from size a cells)) old mid new
-    (cut_row size a g n cells lt) p
-    (subst (AppendsPrefix mid new) (text_one s (group_from size a g cells)) q)
 
 -- rows
 pub rows_next : (size per row : ℕ) (cells : List Cell)
@@ -168,12 +132,3 @@ start_within r row group whole lt below =
     let total : length r.cells ≡ size * (row * per + group) + size * e =
     whole ∙ sym (sample_count_groups r.format) ∙ ap (λ (n : ℕ). size * n) all ∙ split in
     omega (arith, total)
-
-pub group_some : (r : Raster) (row group : ℕ) → IsWhole r → row < r.format.height
-    → group < row_groups r.format → 0 < length (group_cells r row group)
-group_some r row group whole lt below =
-    omega (
-      arith,
-      group_long r row group whole lt below,
-      (shape_is r.format.sampling r.format.depth).some,
-    )

@@ -38,12 +38,6 @@ kept_more f (u ∷ w) [] t r e = absurd (omega (arith, e))
 kept_more f (u ∷ w) (q ∷ rs) t r e =
     ap (λ (hs : List Held). held_of f u q.cells ∷ hs) (kept_more f w rs t r (omega (arith, e)))
 
-pub kept_length : (f : Fields) (w : List ℕ) (rs : List Raster) → length rs ≡ length w
-    → length (kept_frames f w rs) ≡ length w
-kept_length f [] rs e = refl
-kept_length f (t ∷ w) [] e = absurd (omega (arith, e))
-kept_length f (t ∷ w) (r ∷ rs) e = ap suc (kept_length f w rs (omega (arith, e)))
-
 -- a timestamp that wasn't there
 not_last : (x t : ℕ) (w : List ℕ) → (IsMember x w → ⊥) → (t ≡ x → ⊥) → IsMember x (w ++ t ∷ []) → ⊥
 not_last x t [] out other (inl e) = other (sym e)

@@ -34,10 +34,10 @@ use Rattle.receiver_file.specs.declared.front.Head.{Head}
 use Rattle.receiver_file.specs.Front.{head_at, name_at, only_one}
 use Rattle.receiver_file.specs.Saved.{IsSaved, frames_text, timestamp_in}
 use Rattle.receiver_file.specs.StateFaults.{HasMore, HasPlace, IsBadAt, IsCutAt, IsCutState, IsHead}
-use Rattle.receiver_file.specs.StateFaults.{IsMixedAt, IsSaid, Place, StateFault, block_front}
+use Rattle.receiver_file.specs.StateFaults.{IsMixedAt, IsSaid, FieldPlace, IsStateFault, block_front}
 use Rattle.receiver_file.specs.StateFaults.{head_text, text_before}
 use Rattle.receiver_file.specs.StateFaults.IsCutState.{Kind, Field}
-use Rattle.receiver_file.specs.StateFaults.Place.{AtBlock}
+use Rattle.receiver_file.specs.StateFaults.FieldPlace.{AtBlock}
 use Rattle.receiver_file.specs.StateReading.{all_held_at, end_at, state_at}
 use Rattle.receiver_file.proofs.Again.{head_of, state_parts, state_whole}
 use Rattle.receiver_file.proofs.FieldFaults.{head_read}
@@ -65,18 +65,18 @@ behind_name a = block_at a.1 >>= behind_block
 -- ---- name and version
 
 by_kind : (octets : List ℕ) (e : FileFault) → KindFails receiver_name octets e
-    → StateFault e octets
+    → IsStateFault e octets
 by_kind octets e (Cut is lt) =
     let c : IsCutState octets = Kind lt in
-    subst (λ (k : FileFault). StateFault k octets) is c
-by_kind octets e (Name is other) = subst (λ (k : FileFault). StateFault k octets) is other
+    subst (λ (k : FileFault). IsStateFault k octets) is c
+by_kind octets e (Name is other) = subst (λ (k : FileFault). IsStateFault k octets) is other
 by_kind octets e (Digits is other) =
     let w : HasOtherThanOne receiver_name octets
     = record { version = other.version; kind = other.kind; other = other.other One } in
-    subst (λ (k : FileFault). StateFault k octets) is w
+    subst (λ (k : FileFault). IsStateFault k octets) is w
 
 by_version : (v : Version) (rest octets : List ℕ) (e : FileFault)
-    → octets ≡ kind_text receiver_name v ++ rest → only (v, rest) ≡ Err e → StateFault e octets
+    → octets ≡ kind_text receiver_name v ++ rest → only (v, rest) ≡ Err e → IsStateFault e octets
 by_version One rest octets e whole h = absurd (not_both (Unit {0} × List ℕ) (tt, rest) e h)
 by_version Two rest octets e whole h =
     let w : HasOtherThanOne receiver_name octets = record {
@@ -89,10 +89,10 @@ by_version Two rest octets e whole h =
       };
       other = differ (codes "02") (codes "01") refl;
     } in
-    subst (λ (k : FileFault). StateFault k octets)
+    subst (λ (k : FileFault). IsStateFault k octets)
     (same_fault (Unit {0} × List ℕ) BadVersion e h) w
 
-name_fails : (octets : List ℕ) (e : FileFault) → name_at octets ≡ Err e → StateFault e octets
+name_fails : (octets : List ℕ) (e : FileFault) → name_at octets ≡ Err e → IsStateFault e octets
 unfolding name_at
 name_fails octets e h =
     elim (split_fails (kind_at receiver_name octets) only e h) [
@@ -134,30 +134,30 @@ version_stops octets h false e =
 
 -- ---- what is read has the fault
 
-standing : (octets : List ℕ) (IsWrong : Place → List ℕ → Type 0) (place : Place) (rest : List ℕ)
+standing : (octets : List ℕ) (IsWrong : FieldPlace → List ℕ → Type 0) (place : FieldPlace) (rest : List ℕ)
     → IsSaid place → octets ≡ text_before place ++ rest → IsWrong place rest
     → HasPlace IsWrong octets
 standing octets IsWrong place rest said whole wrong =
     record { place = place; behind = rest; said = said; whole = whole; wrong = wrong }
 
 place_fault : (octets : List ℕ) (e : FileFault) (r : Reached octets e)
-    → PlaceFails r.place r.behind e → StateFault e octets
+    → PlaceFails r.place r.behind e → IsStateFault e octets
 place_fault octets e r (IsCut is short) =
     let p : HasPlace IsCutAt octets
     = standing octets IsCutAt r.place r.behind r.said r.whole short in
     let c : IsCutState octets = Field p in
-    subst (λ (k : FileFault). StateFault k octets) is c
+    subst (λ (k : FileFault). IsStateFault k octets) is c
 place_fault octets e r (IsBad is wrong) =
     let p : HasPlace IsBadAt octets
     = standing octets IsBadAt r.place r.behind r.said r.whole wrong in
-    subst (λ (k : FileFault). StateFault k octets) is p
+    subst (λ (k : FileFault). IsStateFault k octets) is p
 place_fault octets e r (IsMixed is wrong) =
     let p : HasPlace IsMixedAt octets
     = standing octets IsMixedAt r.place r.behind r.said r.whole wrong in
-    subst (λ (k : FileFault). StateFault k octets) is p
+    subst (λ (k : FileFault). IsStateFault k octets) is p
 
 reached_fault : (octets : List ℕ) (e : FileFault) → AreOctets octets → Reached octets e
-    → StateFault e octets
+    → IsStateFault e octets
 reached_fault octets e bytes r =
     place_fault octets e r (place_faults r.place r.behind e
     (behind (text_before r.place) octets r.behind bytes r.whole) r.fails)
@@ -246,20 +246,20 @@ ended f h octets rest x is head e =
     }
 
 end_fault : (k : Kept) (octets rest : List ℕ) (e : FileFault) → Ended k octets rest
-    → (end_at rest >>= λ z. with_kept k z.1) ≡ Err e → StateFault e octets
+    → (end_at rest >>= λ z. with_kept k z.1) ≡ Err e → IsStateFault e octets
 end_fault k octets rest e whole h =
     elim (split_fails (end_at rest) (λ z. with_kept k z.1) e h) [
       | inl p ↦
           let more = end_more rest e p in
           let w : HasMore octets
           = record { kept = k; behind = rest; is = whole.is; whole = whole.whole; more = more.1 } in
-          subst (λ (f : FileFault). StateFault f octets) more.0 w
+          subst (λ (f : FileFault). IsStateFault f octets) more.0 w
       | inr z ↦ absurd (not_both (Kept × List ℕ) (k, z.first.1) e z.next)
     ]
 
 frames_fault : (f : Fields) (h : Head) (octets rest : List ℕ) (e : FileFault) → AreOctets octets
     → IsFormat f → Headed f octets (h, rest) → behind_head f (h, rest) ≡ Err e
-    → StateFault e octets
+    → IsStateFault e octets
 frames_fault f h octets rest e bytes is head x =
     elim (split_fails (all_held_at f h.count [] rest) (behind_frames f h) e x) [
       | inl p ↦ reached_fault octets e bytes
@@ -269,7 +269,7 @@ frames_fault f h octets rest e bytes is head x =
     ]
 
 head_fault : (octets : List ℕ) (x : Fields × List ℕ) (e : FileFault) → AreOctets octets
-    → Formed octets x → behind_block x ≡ Err e → StateFault e octets
+    → Formed octets x → behind_block x ≡ Err e → IsStateFault e octets
 head_fault octets x e bytes b h =
     elim (split_fails (head_at x.1) (behind_head x.0) e h) [
       | inl p ↦ reached_fault octets e bytes
@@ -279,7 +279,7 @@ head_fault octets x e bytes b h =
     ]
 
 pub state_fails : (e : FileFault) (octets : List ℕ) → AreOctets octets → state_at octets ≡ Err e
-    → StateFault e octets
+    → IsStateFault e octets
 unfolding state_at
 state_fails e octets bytes h =
     elim (split_fails (name_at octets) behind_name e h) [
@@ -344,7 +344,7 @@ more_tells octets h =
     ap state_at h.whole ∙ state_whole h.kept h.behind h.is
     ∙ ap (λ (r : Named). r >>= λ z. with_kept h.kept z.1) (end_found h.behind h.more)
 
-pub state_tells : (e : FileFault) (octets : List ℕ) → AreOctets octets → StateFault e octets
+pub state_tells : (e : FileFault) (octets : List ℕ) → AreOctets octets → IsStateFault e octets
     → state_at octets ≡ Err e
 state_tells BadName octets bytes h = kind_stops octets BadName (name_tells receiver_name octets h)
 state_tells BadVersion octets bytes h
@@ -359,8 +359,8 @@ state_tells TooManyRecords octets bytes h = absurd h
 
 -- ---- one fault, or a file
 
-pub one_state_fault : (e f : FileFault) (octets : List ℕ) → AreOctets octets → StateFault e octets
-    → StateFault f octets → e ≡ f
+pub one_state_fault : (e f : FileFault) (octets : List ℕ) → AreOctets octets → IsStateFault e octets
+    → IsStateFault f octets → e ≡ f
 one_state_fault e f octets bytes p q
     = same_fault (Kept × List ℕ) e f (sym (state_tells e octets bytes p)
     ∙ state_tells f octets bytes q)
@@ -369,7 +369,7 @@ one_state_fault e f octets bytes p q
 abbrev StateOr : List ℕ → Type 0
 StateOr octets =
     ((k : Kept) × IsSaved k × (octets ≡ state_text k))
-    ⊎ ((f : FileFault) × StateFault f octets)
+    ⊎ ((f : FileFault) × IsStateFault f octets)
 
 either : (octets : List ℕ) (r : Result (Kept × List ℕ) FileFault) → AreOctets octets
     → state_at octets ≡ r → StateOr octets
@@ -384,9 +384,9 @@ state_or_fault octets bytes = either octets (state_at octets) bytes refl
 
 pub wrong_state : (old : Option (List ℕ)) (r : Result State FileFault) → TellsOctets old
     → IfErr r (λ f. Fails state_at old f)
-    → IfErr r (λ f. (octets : List ℕ) → old ≡ Some octets → IfContent f (StateFault f octets))
+    → IfErr r (λ f. (octets : List ℕ) → old ≡ Some octets → IfContent f (IsStateFault f octets))
 wrong_state old (Ok s) bytes p = tt
 wrong_state old (Err f) bytes p =
-    λ octets told. if_content_weaker f (state_at octets ≡ Err f) (StateFault f octets)
+    λ octets told. if_content_weaker f (state_at octets ≡ Err f) (IsStateFault f octets)
     (λ e. state_fails f octets (subst TellsOctets told bytes) e)
     (subst (λ (o : Option (List ℕ)). Fails state_at o f) told p)

@@ -1,7 +1,6 @@
 -- A receiver's file, read part by part.
-use Rattle.std.proofs.Common.{◌≡◌, ℕ, ◌<◌, List, [], ◌∷◌, length, Option, None, Some, Result, Ok}
-use Rattle.std.proofs.Common.{Err, refl, sym, ap, ◌∙◌, subst, arith}
-use Rattle.std.specs.Io.KnownBytes.{Consumes, IsAtEnd}
+use Rattle.std.proofs.Common.{◌≡◌, ℕ, List, [], Option, Result, Ok}
+use Rattle.std.proofs.Common.{Err, refl, sym, subst}
 use Rattle.std.specs.Prelude.{IfErr, IfOk}
 use Rattle.st_format.specs.declared.format.Format.{Format}
 use Rattle.st_format.specs.Fields.{Fields, fields_of}
@@ -9,7 +8,7 @@ use Rattle.st_format.specs.Raster.{Raster}
 use Rattle.path_merge.specs.Frames.{State}
 use Rattle.path_merge.specs.Opening.{Opening}
 use Rattle.capture_file.specs.declared.fault.FileFault.{FileFault}
-use Rattle.capture_file.specs.declared.fault.FileFault.TheVariants.{NoMemory, TrailingBytes}
+use Rattle.capture_file.specs.declared.fault.FileFault.TheVariants.{NoMemory}
 use Rattle.capture_file.specs.Blocks.{block_at}
 use Rattle.capture_file.specs.Fields.{Fails, Takes}
 use Rattle.capture_file.specs.StateFile.{Held, Kept}
@@ -19,26 +18,6 @@ use Rattle.receiver_file.specs.Front.{head_at, name_at}
 use Rattle.receiver_file.specs.Saved.{kept_frames, kept_of}
 use Rattle.receiver_file.specs.StateReading.{all_held_at, end_at, state_at}
 use Rattle.receiver_file.proofs.Valued.{memory_fails, value_cut, value_gives, valued}
-
--- ---- the end
-
-pub end_gives : (old new : Option (List ℕ)) (given : List ℕ) → length given ≡ 0
-    → Consumes old new given → IsAtEnd new → Takes end_at old new tt
-end_gives None new given none p q = tt
-end_gives (Some o) None given none p q = absurd p
-end_gives (Some o) (Some rest) (x ∷ given) none p q = absurd (omega (arith, none))
-end_gives (Some o) (Some rest) [] none p q =
-    let empty : o ≡ [] = p ∙ q in
-    ap end_at empty
-    ∙ ap (λ (t : List ℕ). let r : Result (Unit {0} × List ℕ) FileFault = Ok (tt, t) in r)
-    (sym q)
-
-pub end_fails : (old new : Option (List ℕ)) (given : List ℕ) → 0 < length given
-    → Consumes old new given → Fails end_at old TrailingBytes
-end_fails None new given some p = tt
-end_fails (Some o) None given some p = absurd p
-end_fails (Some o) (Some rest) [] some p = absurd (omega (arith, some))
-end_fails (Some o) (Some rest) (x ∷ given) some p = ap end_at p
 
 -- ---- the parts
 

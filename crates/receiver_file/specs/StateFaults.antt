@@ -38,14 +38,14 @@ pub record IsHead (h : Head) : Type 0 where
 -- A place in a file where a field begins, by what stands before it: name and version; the format;
 -- the payload type; whether a source is pinned; the source; all before the frames, and whole
 -- frames; and of the next frame its timestamp, and whole groups.
-pub data Place : Type 0 where
-  AtBlock : Place
-  AtPayloadType : Fields → Place
-  AtFlag : Fields → ℕ → Place
-  AtSource : Fields → ℕ → Bool → Place
-  AtCount : Fields → ℕ → Option ℕ → Place
-  AtTimestamp : Fields → Head → List Held → Place
-  AtGroup : Fields → Head → List Held → ℕ → List (List Cell) → Place
+pub data FieldPlace : Type 0 where
+  AtBlock : FieldPlace
+  AtPayloadType : Fields → FieldPlace
+  AtFlag : Fields → ℕ → FieldPlace
+  AtSource : Fields → ℕ → Bool → FieldPlace
+  AtCount : Fields → ℕ → Option ℕ → FieldPlace
+  AtTimestamp : Fields → Head → List Held → FieldPlace
+  AtGroup : Fields → Head → List Held → ℕ → List (List Cell) → FieldPlace
 
 -- whether a source is pinned
 abbrev pub flag_octet : Bool → ℕ
@@ -62,7 +62,7 @@ abbrev pub shape_by : Fields → Shape
 shape_by f = shape_of f.sampling f.depth
 
 -- the octets before a place
-abbrev pub text_before : Place → List ℕ
+abbrev pub text_before : FieldPlace → List ℕ
 text_before AtBlock = kind_text receiver_name One
 text_before (AtPayloadType f) = block_front f
 text_before (AtFlag f type) = block_front f ++ type ∷ []
@@ -89,7 +89,7 @@ pub record IsBegun (f : Fields) (before : List Held) (timestamp : ℕ) (gs : Lis
   pub fewer : length gs < group_count f
 
 -- What stands before a place is what a file can say.
-abbrev pub IsSaid : Place → Type 0
+abbrev pub IsSaid : FieldPlace → Type 0
 IsSaid AtBlock = ⊤
 IsSaid (AtPayloadType f) = IsFormat f
 IsSaid (AtFlag f type) = IsFormat f × (type < 128)
@@ -154,7 +154,7 @@ pub record HasWrongMask (s : Shape) (octets : List ℕ) : Type 0 where
   pub wrong : IsWrongMask s mask (values_in s.bits packed)
 
 -- The octets end within the field at a place.
-abbrev pub IsCutAt : Place → List ℕ → Type 0
+abbrev pub IsCutAt : FieldPlace → List ℕ → Type 0
 IsCutAt AtBlock octets = length octets < 14
 IsCutAt (AtPayloadType f) octets = octets ≡ []
 IsCutAt (AtFlag f type) octets = octets ≡ []
@@ -166,7 +166,7 @@ IsCutAt (AtGroup f h frames timestamp groups) octets = IsCutGroup (shape_by f) o
 -- The field at a place says what no such file says: a block of no format, a payload type above 127,
 -- a flag above 1, a source where none is pinned, 0 or more than 16 timestamps, a timestamp that
 -- stood before, a state above 2.
-abbrev pub IsBadAt : Place → List ℕ → Type 0
+abbrev pub IsBadAt : FieldPlace → List ℕ → Type 0
 IsBadAt AtBlock octets = HasNoBlock octets
 IsBadAt (AtPayloadType f) octets = HasOctet (λ type. 127 < type) octets
 IsBadAt (AtFlag f type) octets = HasOctet (λ flag. 1 < flag) octets
@@ -178,15 +178,15 @@ IsBadAt (AtTimestamp f h frames) octets =
 IsBadAt (AtGroup f h frames timestamp groups) octets = HasOctet (λ state. 2 < state) octets
 
 -- The group at a place has a wrong mask.
-abbrev pub IsMixedAt : Place → List ℕ → Type 0
+abbrev pub IsMixedAt : FieldPlace → List ℕ → Type 0
 IsMixedAt (AtGroup f h frames timestamp groups) octets = HasWrongMask (shape_by f) octets
 IsMixedAt place octets = ⊥
 
 -- THE FAULTS
 
 -- Behind what a file can say up to some place, this is so of the octets.
-pub record HasPlace (IsWrong : Place → List ℕ → Type 0) (octets : List ℕ) : Type 0 where
-  pub place : Place
+pub record HasPlace (IsWrong : FieldPlace → List ℕ → Type 0) (octets : List ℕ) : Type 0 where
+  pub place : FieldPlace
   pub behind : List ℕ
   pub said : IsSaid place
   pub whole : octets ≡ text_before place ++ behind
@@ -206,11 +206,11 @@ pub record HasMore (octets : List ℕ) : Type 0 where
   pub more : 0 < length behind
 
 -- the condition of each fault of a receiver's file, by itself
-abbrev pub StateFault : FileFault → List ℕ → Type 0
-StateFault BadName octets = HasOtherName receiver_name octets
-StateFault BadVersion octets = HasOtherThanOne receiver_name octets
-StateFault Truncated octets = IsCutState octets
-StateFault BadField octets = HasPlace IsBadAt octets
-StateFault MixedGroup octets = HasPlace IsMixedAt octets
-StateFault TrailingBytes octets = HasMore octets
-StateFault fault octets = ⊥
+abbrev pub IsStateFault : FileFault → List ℕ → Type 0
+IsStateFault BadName octets = HasOtherName receiver_name octets
+IsStateFault BadVersion octets = HasOtherThanOne receiver_name octets
+IsStateFault Truncated octets = IsCutState octets
+IsStateFault BadField octets = HasPlace IsBadAt octets
+IsStateFault MixedGroup octets = HasPlace IsMixedAt octets
+IsStateFault TrailingBytes octets = HasMore octets
+IsStateFault fault octets = ⊥

@@ -6,7 +6,7 @@ ghost use Rattle.path_merge.specs.Frames.{Holds, State};
 ghost use Rattle.capture_file.specs.declared.fault.FileFault.{FileFault};
 ghost use Rattle.capture_file.specs.StateFile.{Kept, state_text};
 ghost use Rattle.receiver_file.specs.Saved.{IsSaved, kept_of};
-ghost use Rattle.receiver_file.specs.StateFaults.{StateFault};
+ghost use Rattle.receiver_file.specs.StateFaults.{IsStateFault};
 ghost use Rattle.receiver_file.specs.StateReading.{state_at};
 
 /// Receivers opened alike that took the same datagrams, by either path, in any order and with any
@@ -20,18 +20,18 @@ pub fn equal_files()
 /// Octets are read as a receiver's file with a fault exactly where the fault's condition holds.
 pub fn state_fault()
     ensures { (f : FileFault) (octets : List ℕ) → AreOctets octets
-        → (state_at octets ≡ Err f) ↔ StateFault f octets }
+        → (state_at octets ≡ Err f) ↔ IsStateFault f octets }
 {}
 
 /// At most one fault's condition holds of a receiver's file.
 pub fn one_state_fault()
     ensures { (f g : FileFault) (octets : List ℕ) → AreOctets octets
-        → StateFault f octets → StateFault g octets → f ≡ g }
+        → IsStateFault f octets → IsStateFault g octets → f ≡ g }
 {}
 
 /// Octets are the file of a receiver, or a fault's condition holds of them.
 pub fn state_or_fault()
     ensures { (octets : List ℕ) → AreOctets octets
         → ((k : Kept) × IsSaved k × (octets ≡ state_text k))
-        ⊎ ((f : FileFault) × StateFault f octets) }
+        ⊎ ((f : FileFault) × IsStateFault f octets) }
 {}

@@ -9,7 +9,7 @@ ghost use Rattle.capture_file.specs.Faults.{CountsDevice, IfContent, IsMachine};
 ghost use Rattle.capture_file.specs.Fields.{Fails, Takes};
 ghost use Rattle.capture_file.specs.StateFile.{Kept, state_text};
 ghost use Rattle.receiver_file.specs.Saved.{IsSaved, IsWritable, kept_of};
-ghost use Rattle.receiver_file.specs.StateFaults.{StateFault};
+ghost use Rattle.receiver_file.specs.StateFaults.{IsStateFault};
 ghost use Rattle.receiver_file.specs.StateReading.{end_at, state_at};
 
 use crate::frames::{Frames, read_frames};
@@ -52,7 +52,7 @@ pub fn load_receiver<A: Allocator + Copy, S: ByteSource>(
         → (octets ≡ state_text (kept_of r)) × IsSaved (kept_of r)) }
     // A fault of the content is one whose condition holds of the octets.
     ensures wrong { IfErr result (λ f. (octets : List ℕ) → S.to_give source.old ≡ Some octets
-        → IfContent f (StateFault f octets)) }
+        → IfContent f (IsStateFault f octets)) }
     // What is a receiver's file is read as what it says, unless the memory or the device fails.
     ensures only { (k : Kept) → S.to_give source.old ≡ Some (state_text k) → IsSaved k
         → MatchResult result (λ r. kept_of r ≡ k) IsMachine }

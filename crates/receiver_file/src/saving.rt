@@ -3,10 +3,9 @@ ghost use Rattle.std.specs.Prelude.{◌≡◌, ◌∷◌, ◌++◌, [], IfErr, O
 ghost use Rattle.std.specs.Int.{to_be_bytes};
 ghost use Rattle.std.specs.Io.KnownBytes.{Appends};
 ghost use Rattle.st_format.specs.Device.{AppendsPrefix, CountsFaults};
-ghost use Rattle.st_format.specs.Fields.{fields_of};
 ghost use Rattle.path_merge.specs.Frames.{IsReceiver, State};
 ghost use Rattle.capture_file.specs.Faults.{CountsDevice, IsDevice};
-ghost use Rattle.capture_file.specs.StateFile.{format_text, opening_text, ssrc_text, state_text};
+ghost use Rattle.capture_file.specs.StateFile.{opening_text, ssrc_text, state_text};
 ghost use Rattle.receiver_file.specs.Saved.{IsWritable, kept_of};
 ghost use Rattle.receiver_file.specs.Saved.{frame_text, frames_text, front_text};
 ghost use Rattle.receiver_file.specs.StateReading.{state_at};
@@ -14,10 +13,10 @@ ghost use Rattle.receiver_file.specs.StateReading.{state_at};
 use crate::rows::write_rows;
 use crate::telling::tell_receiver;
 use byteorder::{BigEndian, ByteOrder};
-use capture_file::FileFault;
+use capture_file::{FileFault, format_block};
 use frame_assembly::Frame;
 use path_merge::Receiver;
-use st_format::{ByteSink, DeviceFault, Format, Sampling, write_whole};
+use st_format::{ByteSink, DeviceFault, write_whole};
 use std::alloc::Allocator;
 
 /// Name and version.
@@ -67,26 +66,8 @@ fn write_front<A: Allocator, K: ByteSink>(
     ensures counted { CountsFaults (K.failures sink.old) (K.failures sink.new) result }
 {
     write_whole(sink, RECEIVER_ONE)?;
-    write_whole(sink, &block_of(&receiver.format()))?;
+    write_whole(sink, &format_block(&receiver.format()))?;
     write_whole(sink, &head_of(receiver))
-}
-
-/// A format block.
-fn block_of(format: &Format) -> [u8; 14]
-    ensures { result ≡ format_text (fields_of format.now) }
-{
-    let mut block = [0u8; 14];
-    block[0] = match format.sampling() {
-        Sampling::Ycc422 => 0,
-        Sampling::Ycc444 => 1,
-        Sampling::Rgb => 2,
-    };
-    block[1] = format.depth().bits() as u8;
-    BigEndian::write_u16(&mut block[2..], format.width() as u16);
-    BigEndian::write_u16(&mut block[4..], format.height() as u16);
-    BigEndian::write_u32(&mut block[6..], format.n());
-    BigEndian::write_u32(&mut block[10..], format.d());
-    block
 }
 
 /// The fields behind the format block.

@@ -19,11 +19,11 @@ returns-clause-ok g c =
     on_ok_weaker c.write_whole-2.result
     (λ q. Appends-trans _ _ _ (kind_text picture_name One)
     (format_text (fields_of c.args.format.now)) c.in_ok-write_whole.ensures.ok
-    (rw c.block_of.ensures at q)) c.write_whole-2.ensures.ok
+    (rw c.format_block.ensures at q)) c.write_whole-2.ensures.ok
 
 pub returns-clause-fault : goal.returns-clause-fault
 returns-clause-fault g c =
     on_err_weaker c.write_whole-2.result
     (λ q. prefix_then _ _ _ (kind_text picture_name One)
     (format_text (fields_of c.args.format.now)) c.in_ok-write_whole.ensures.ok
-    (rw c.block_of.ensures at q)) c.write_whole-2.ensures.fault
+    (rw c.format_block.ensures at q)) c.write_whole-2.ensures.fault

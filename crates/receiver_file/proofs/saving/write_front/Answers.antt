@@ -27,8 +27,8 @@ returns-in_err-write_whole-2-clause-fault g c =
     err_from_is_err_and c.from_residual-in_err-write_whole-2.result
     c.from_residual-in_err-write_whole-2.ensures.1 in
     let k : Kept = kept_of c.args.receiver.now in
-    let block : c.block_of.result ≡ format_text k.format =
-    c.block_of.ensures ∙ ap
+    let block : c.format_block.result ≡ format_text k.format =
+    c.format_block.ensures ∙ ap
     (λ (f : Format). format_text (fields_of f)) c.format.ensures.format in
     rw (p.1)
     (prefix_then _ _ _ name
@@ -39,8 +39,8 @@ returns-in_err-write_whole-2-clause-fault g c =
 pub returns-clause-ok : goal.returns-clause-ok
 returns-clause-ok g c =
     let k : Kept = kept_of c.args.receiver.now in
-    let block : c.block_of.result ≡ format_text k.format =
-    c.block_of.ensures ∙ ap
+    let block : c.format_block.result ≡ format_text k.format =
+    c.format_block.ensures ∙ ap
     (λ (f : Format). format_text (fields_of f)) c.format.ensures.format in
     on_ok_weaker c.write_whole-3.result
     (λ q. Appends-trans _ _ _ name
@@ -52,8 +52,8 @@ returns-clause-ok g c =
 pub returns-clause-fault : goal.returns-clause-fault
 returns-clause-fault g c =
     let k : Kept = kept_of c.args.receiver.now in
-    let block : c.block_of.result ≡ format_text k.format =
-    c.block_of.ensures ∙ ap
+    let block : c.format_block.result ≡ format_text k.format =
+    c.format_block.ensures ∙ ap
     (λ (f : Format). format_text (fields_of f)) c.format.ensures.format in
     on_err_weaker c.write_whole-3.result
     (λ q. prefix_then _ _ _ name
