@@ -31,12 +31,14 @@ colour_turns s k luma colour =
     ap (λ component. if is_colour s component then colour else luma) (component_turns s k)
 
 pub limited_turns : (n s v : ℕ) (colour : Bool) → s ≡ scale n
-    → clip (16 * s) (if colour then 240 * s else 235 * s) (pos v) ≡ limited_sample Nominal n colour v
+    → clip (16 * s) (if colour then 240 * s else 235 * s) (pos v)
+    ≡ limited_sample Nominal n colour v
 limited_turns n s v true e = λ i. clip (16 * e i) (240 * e i) (pos v)
 limited_turns n s v false e = λ i. clip (16 * e i) (235 * e i) (pos v)
 
 pub gained_turns : (g n s v : ℕ) (colour : Bool) → 8 ≤ n → s ≡ scale n
-    → clip s (255 * s - 1) (gain (if colour then 128 * s else 16 * s) g v) ≡ gained_sample g n colour v
+    → clip s (255 * s - 1) (gain (if colour then 128 * s else 16 * s) g v)
+    ≡ gained_sample g n colour v
 gained_turns g n s v true h e =
     let c = ap (λ x. 128 * x) e ∙ sym (centre_is n h) in
     λ i. clip (e i) (255 * e i - 1) (gain (c i) g v)

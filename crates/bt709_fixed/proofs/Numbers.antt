@@ -11,7 +11,8 @@ use Rattle.st_format.specs.Pgroup.{bits_of}
 use Rattle.st_format.specs.Picture.{FitsDepth, IsPicture, Values}
 use Rattle.st_format.proofs.Numbering.{number_of-below}
 use Rattle.lane_kernels.specs.Formulas.{cb, cr, luma}
-use Rattle.bt709_fixed.specs.Operations.{IsOf, IsResampled, matrix_component, matrixed_at, ycc444_value}
+use Rattle.bt709_fixed.specs.Operations.{IsOf, IsResampled, matrix_component, matrixed_at}
+use Rattle.bt709_fixed.specs.Operations.{ycc444_value}
 use Rattle.bt709_fixed.proofs.Made.{all_from_each, component-number, some_bits}
 use Rattle.bt709_fixed.proofs.Ranges.{video_data_fits}
 
@@ -111,7 +112,8 @@ matrixed_picture v f new s r w long each =
             let y = pixel_at v.format f at 1 s r in
             let z = pixel_at v.format f at 2 s r in
             each k (omega (arith, below, whole))
-            ∙ (λ i. matrix_component n (same i) (get_or v.samples (x i) 0) (get_or v.samples (y i) 0)
+            ∙ (λ i. matrix_component n (same i) (get_or v.samples (x i) 0) (get_or v.samples (y i)
+            0)
             (get_or v.samples (z i) 0));
       },
     )

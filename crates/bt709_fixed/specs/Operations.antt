@@ -109,7 +109,8 @@ limit_value range v at =
 
 abbrev pub gain_value : ℕ → Values → Position → ℕ
 gain_value g v at =
-    gained_sample g (bits_of v.format.depth) (is_colour v.format.sampling at.component) (value_at v at)
+    gained_sample g (bits_of v.format.depth) (is_colour v.format.sampling at.component)
+    (value_at v at)
 
 abbrev pub changed_value : Change → Values → Position → ℕ
 changed_value change v at =
@@ -118,7 +119,8 @@ changed_value change v at =
 
 abbrev pub ycc444_value : Values → Position → ℕ
 ycc444_value v at =
-    matrix_component (bits_of v.format.depth) at.component (component_at v at 0) (component_at v at 1)
+    matrix_component (bits_of v.format.depth) at.component (component_at v at 0)
+    (component_at v at 1)
     (component_at v at 2)
 
 -- Cb and Cr of the even columns, where alone 4:2:2 has a position for them

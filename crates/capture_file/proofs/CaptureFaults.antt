@@ -15,7 +15,7 @@ use Rattle.capture_file.specs.declared.fault.FileFault.TheVariants.{TrailingByte
 use Rattle.capture_file.specs.declared.fault.FileFault.TheVariants.{TooManyRecords}
 use Rattle.capture_file.specs.declared.front.Version.{Version}
 use Rattle.capture_file.specs.declared.front.Version.TheVariants.{One, Two}
-use Rattle.capture_file.specs.Capture.{Content, IsCapture, capture_at, records_at}
+use Rattle.capture_file.specs.Capture.{Content, IsCapture, capture_walk, records_at}
 use Rattle.capture_file.specs.CaptureFaults.{IsCaptureFault, HasBadRecord, HasBehind, HasCutText}
 use Rattle.capture_file.specs.CaptureFaults.{HasRecordMore, IsCutCapture, IsRecordFault}
 use Rattle.capture_file.specs.CaptureFaults.IsCutCapture.{Kind, Text, Record}
@@ -272,8 +272,8 @@ by_records limit octets e x t s =
     }) s.stop
 
 pub capture_fails : (limit : ℕ) (e : FileFault) (octets : List ℕ) → AreOctets octets
-    → capture_at limit octets ≡ Err e → IsCaptureFault limit e octets
-unfolding capture_at
+    → capture_walk limit octets ≡ Err e → IsCaptureFault limit e octets
+unfolding capture_walk
 capture_fails limit e octets bytes h =
     elim (split_fails (front_at octets) (read_records limit) e h) [
       | inl p ↦ by_front limit octets e (front_fails octets e p)
@@ -293,14 +293,14 @@ capture_fails limit e octets bytes h =
 -- ---- what has the fault is read so
 
 front_tells : (limit : ℕ) (octets : List ℕ) (e : FileFault) → front_at octets ≡ Err e
-    → capture_at limit octets ≡ Err e
-unfolding capture_at
+    → capture_walk limit octets ≡ Err e
+unfolding capture_walk
 front_tells limit octets e h = ap (λ (r : Result Part FileFault). r >>= read_records limit) h
 
 behind_tells : (limit : ℕ) (octets : List ℕ) (e : FileFault) (c : Content) (behind : List ℕ)
     → HasBehind c behind octets → records_at limit (records_text c.records ++ behind) ≡ Err e
-    → capture_at limit octets ≡ Err e
-unfolding capture_at
+    → capture_walk limit octets ≡ Err e
+unfolding capture_walk
 behind_tells limit octets e c behind stands h =
     let v : Version = stands.is.version in
     let front : List ℕ = front_text v c.text in
@@ -313,13 +313,13 @@ behind_tells limit octets e c behind stands h =
     ∙ ap (λ (r : Result (List Entry × List ℕ) FileFault). r >>= saying c.text) h
 
 record_tells : (limit : ℕ) (octets : List ℕ) (e : FileFault) → HasBadRecord limit e octets
-    → capture_at limit octets ≡ Err e
+    → capture_walk limit octets ≡ Err e
 record_tells limit octets e h
     = behind_tells limit octets e h.capture h.behind h.stands
     (wrong_tells limit h.capture.records h.behind e h.stands.is.fit h.few h.wrong)
 
 cut_tells : (limit : ℕ) (octets : List ℕ) → IsCutCapture limit octets
-    → capture_at limit octets ≡ Err Truncated
+    → capture_walk limit octets ≡ Err Truncated
 cut_tells limit octets (Kind lt)
     = front_tells limit octets Truncated
     (front_cut octets Truncated (kind_cut capture_name octets lt))
@@ -327,7 +327,7 @@ cut_tells limit octets (Text cut) = front_tells limit octets Truncated (front_sh
 cut_tells limit octets (Record h) = record_tells limit octets Truncated h
 
 pub capture_tells : (limit : ℕ) (e : FileFault) (octets : List ℕ) → IsCaptureFault limit e octets
-    → capture_at limit octets ≡ Err e
+    → capture_walk limit octets ≡ Err e
 capture_tells limit BadName octets h
     = front_tells limit octets BadName (front_cut octets BadName (name_tells capture_name octets h))
 capture_tells limit BadVersion octets h
@@ -356,10 +356,10 @@ CaptureOr limit octets =
     ⊎ ((f : FileFault) × IsCaptureFault limit f octets)
 
 either : (limit : ℕ) (octets : List ℕ) (r : Result (Content × List ℕ) FileFault) → AreOctets octets
-    → capture_at limit octets ≡ r → CaptureOr limit octets
+    → capture_walk limit octets ≡ r → CaptureOr limit octets
 either limit octets (Ok x) bytes is =
     let f = capture_found limit octets x bytes is in inl (x.0, f.is, f.few)
 either limit octets (Err e) bytes is = inr (e, capture_fails limit e octets bytes is)
 
 pub capture_or_fault : (limit : ℕ) (octets : List ℕ) → AreOctets octets → CaptureOr limit octets
-capture_or_fault limit octets bytes = either limit octets (capture_at limit octets) bytes refl
+capture_or_fault limit octets bytes = either limit octets (capture_walk limit octets) bytes refl

@@ -124,7 +124,8 @@ moment_snoc : (paths : Paths) (m : ℕ) (ds : List (List ℕ)) (d : List ℕ)
 moment_snoc paths m [] d = refl
 moment_snoc paths m (x ∷ ds) d = moment_snoc paths (moment_behind paths m) ds d
 
-datagrams_fit : (ds : List (List ℕ)) (d : List ℕ) → AllByRecursion IsShortEnough ds → IsShortEnough d
+datagrams_fit : (ds : List (List ℕ)) (d : List ℕ) → AllByRecursion IsShortEnough ds
+    → IsShortEnough d
     → AllByRecursion IsShortEnough (ds ++ d ∷ [])
 datagrams_fit [] d p q = (q, tt)
 datagrams_fit (x ∷ ds) d p q = (p.0, datagrams_fit ds d p.1 q)

@@ -17,7 +17,7 @@ use Rattle.capture_file.specs.declared.front.Version.TheVariants.{One, Two}
 use Rattle.std.specs.Prelude.{Option, None, Some, IfOk, OnOk, map}
 use Rattle.std.specs.Io.KnownBytes.{IsAtEnd}
 use Rattle.capture_file.specs.declared.capture.Capture.{Capture}
-use Rattle.capture_file.specs.Capture.{Content, IsCapture, capture_at, capture_seen, entry_seen}
+use Rattle.capture_file.specs.Capture.{Content, IsCapture, capture_walk, capture_seen, entry_seen}
 use Rattle.capture_file.specs.Capture.{records_at}
 use Rattle.capture_file.specs.Fields.{Takes, Leaves, field_at}
 use Rattle.st_format.specs.Reading.{◌>>=◌}
@@ -238,8 +238,8 @@ pub record Found (limit : ℕ) (octets : List ℕ) (x : Content × List ℕ) : T
   pub all : x.1 ≡ []
 
 pub capture_found : (limit : ℕ) (octets : List ℕ) (x : Content × List ℕ) → AreOctets octets
-    → capture_at limit octets ≡ Ok x → Found limit octets x
-unfolding capture_at
+    → capture_walk limit octets ≡ Ok x → Found limit octets x
+unfolding capture_walk
 capture_found limit octets x bytes e =
     let a = split_then (front_at octets) (λ y. records_at limit y.1 >>= λ z. whole y.0 z) x e in
     let b = split_then (records_at limit a.first.1) (λ z. whole a.first.0 z) x a.next in
@@ -264,7 +264,7 @@ capture_found limit octets x bytes e =
     })
 
 found_by : {A : Type 0} (limit : ℕ) (octets : List ℕ) (new : Option (List ℕ)) (v : Capture A)
-    → AreOctets octets → Leaves (capture_at limit octets) (capture_seen v) new
+    → AreOctets octets → Leaves (capture_walk limit octets) (capture_seen v) new
     → IsCapture octets (capture_seen v) × (length v.records.items ≤ limit) × IsAtEnd new
 found_by limit octets None v bytes p = absurd p
 found_by limit octets (Some rest) v bytes p =
@@ -276,11 +276,11 @@ found_by limit octets (Some rest) v bytes p =
 
 pub found_read : {A : Type 0} (limit : ℕ) (old new : Option (List ℕ))
     (r : Result (Capture A) FileFault)
-    → IfOk r (λ v. Takes (capture_at limit) old new (capture_seen v)) → OnOk r (TellsOctets old)
+    → IfOk r (λ v. Takes (capture_walk limit) old new (capture_seen v)) → OnOk r (TellsOctets old)
     → IfOk r
     (λ v. (octets : List ℕ) → old ≡ Some octets
     → IsCapture octets (capture_seen v) × (length v.records.items ≤ limit) × IsAtEnd new)
 found_read limit old new (Ok v) p bytes =
     λ octets told. found_by limit octets new v (subst TellsOctets told bytes)
-    (subst (λ (k : Option (List ℕ)). Takes (capture_at limit) k new (capture_seen v)) told p)
+    (subst (λ (k : Option (List ℕ)). Takes (capture_walk limit) k new (capture_seen v)) told p)
 found_read limit old new (Err f) p bytes = tt

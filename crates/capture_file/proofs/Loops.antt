@@ -6,7 +6,7 @@ use Rattle.std.specs.Prelude.{⊤}
 use Rattle.std.specs.Io.KnownBytes.{Consumes, IsAtEnd}
 use Rattle.capture_file.specs.declared.fault.FileFault.{FileFault}
 use Rattle.capture_file.specs.declared.fault.FileFault.TheVariants.{TooManyRecords}
-use Rattle.capture_file.specs.Capture.{Content, capture_at, records_at}
+use Rattle.capture_file.specs.Capture.{Content, capture_walk, records_at}
 use Rattle.capture_file.specs.Fields.{Takes, Fails}
 use Rattle.st_format.specs.Reading.{◌>>=◌}
 use Rattle.capture_file.specs.Fronts.{front_at}
@@ -151,19 +151,20 @@ records_fails limit text (Some m) f p =
 -- a capture is its front and its records
 pub capture_gives : (limit : ℕ) (old mid new : Option (List ℕ)) (text : List ℕ) (es : List Entry)
     → Takes front_at old mid text → Takes (records_at limit) mid new es
-    → Takes (capture_at limit) old new (record { text = text; records = es })
-unfolding capture_at
+    → Takes (capture_walk limit) old new (record { text = text; records = es })
+unfolding capture_walk
 capture_gives limit old mid new text es p q =
     gives_then front_at (records_of limit) old mid new text
     (record { text = text; records = es }) p (records_gives limit text mid new es q)
 
 pub capture_fails : (limit : ℕ) (old mid : Option (List ℕ)) (text : List ℕ) (f : FileFault)
-    → Takes front_at old mid text → Fails (records_at limit) mid f → Fails (capture_at limit) old f
-unfolding capture_at
+    → Takes front_at old mid text → Fails (records_at limit) mid f
+    → Fails (capture_walk limit) old f
+unfolding capture_walk
 capture_fails limit old mid text f p q =
     fails_then front_at (records_of limit) old mid text f p (records_fails limit text mid f q)
 
 pub capture_cut : (limit : ℕ) (old : Option (List ℕ)) (f : FileFault) → Fails front_at old f
-    → Fails (capture_at limit) old f
-unfolding capture_at
+    → Fails (capture_walk limit) old f
+unfolding capture_walk
 capture_cut limit old f p = fails_first front_at (records_of limit) old f p

@@ -17,7 +17,8 @@ use Rattle.capture_file.specs.declared.fault.FileFault.{FileFault}
 use Rattle.capture_file.specs.declared.front.Version.TheVariants.{One}
 use Rattle.capture_file.specs.Fronts.{kind_text, receiver_name}
 use Rattle.capture_file.specs.Groups.{IsGroup, IsShape, Shape, groups_at, groups_text, shape_of}
-use Rattle.capture_file.specs.StateFile.{cut_cells, joined_groups, FitsBlock, Held, IsHeld, IsKeptReceiver}
+use Rattle.capture_file.specs.StateFile.{cut_cells, joined_groups, FitsBlock, Held, IsHeld}
+use Rattle.capture_file.specs.StateFile.{IsKeptReceiver}
 use Rattle.capture_file.specs.StateFile.{Kept, SsrcFits, format_text, held_text, opening_text}
 use Rattle.capture_file.specs.StateFile.{sampling_code, ssrc_text, state_text}
 use Rattle.capture_file.proofs.Grouped.{groups_again}
@@ -199,7 +200,8 @@ abbrev kept : Fields → ℕ → Option ℕ → List Held → Kept
 kept f pt ssrc frames = record { format = f; payload_type = pt; ssrc = ssrc; frames = frames }
 
 -- Equal files are of equal receivers.
-pub state_once : (k l : Kept) → IsKeptReceiver k → IsKeptReceiver l → state_text k ≡ state_text l → k ≡ l
+pub state_once : (k l : Kept) → IsKeptReceiver k → IsKeptReceiver l
+    → state_text k ≡ state_text l → k ≡ l
 state_once k l p q e =
     let ka : List ℕ = flat_map (held_text k.format) k.frames in
     let la : List ℕ = flat_map (held_text l.format) l.frames in

@@ -24,7 +24,8 @@ use Rattle.capture_file.specs.Fronts.{kind_at, kind_text, picture_name, version_
 use Rattle.capture_file.specs.PictureFaults.{HasCutGroups, HasHead, HasNoFormat, HasOtherThanOne}
 use Rattle.capture_file.specs.PictureFaults.{HasTrailing, IsCutPicture, IsFormat, IsPictureFault}
 use Rattle.capture_file.specs.PictureFaults.IsCutPicture.{Kind, Block, Groups}
-use Rattle.capture_file.specs.PictureFile.{Shown, nothing_at, one_at, one_by, picture_at, raster_at}
+use Rattle.capture_file.specs.PictureFile.{Shown, nothing_at, one_at, one_by, picture_walk}
+use Rattle.capture_file.specs.PictureFile.{raster_at}
 use Rattle.capture_file.specs.PictureFile.{raster_octets, shown_by}
 use Rattle.capture_file.specs.StateFile.{format_text}
 use Rattle.capture_file.proofs.BlockFaults.{block_again, block_fails, block_read}
@@ -339,9 +340,10 @@ raster_whole f behind lt
 
 -- ---- what is read has the fault
 
-pub picture_fails : (e : FileFault) (octets : List ℕ) → AreOctets octets → picture_at octets ≡ Err e
+pub picture_fails : (e : FileFault) (octets : List ℕ) → AreOctets octets
+    → picture_walk octets ≡ Err e
     → IsPictureFault e octets
-unfolding picture_at
+unfolding picture_walk
 picture_fails e octets bytes h =
     elim (split_fails (one_at picture_name octets) read_format e h) [
       | inl p ↦ one_fails octets e p
@@ -371,21 +373,21 @@ picture_fails e octets bytes h =
 -- ---- what has the fault is read so
 
 front_tells : (octets : List ℕ) (e : FileFault) → one_at picture_name octets ≡ Err e
-    → picture_at octets ≡ Err e
-unfolding picture_at
+    → picture_walk octets ≡ Err e
+unfolding picture_walk
 front_tells octets e h = ap (λ (r : Result Kinded FileFault). r >>= read_format) h
 
 format_tells : (octets rest : List ℕ) (e : FileFault) → octets ≡ kind_text picture_name One ++ rest
-    → block_at rest ≡ Err e → picture_at octets ≡ Err e
-unfolding picture_at
+    → block_at rest ≡ Err e → picture_walk octets ≡ Err e
+unfolding picture_walk
 format_tells octets rest e whole h =
     ap (λ (o : List ℕ). one_at picture_name o >>= read_format) whole
     ∙ ap (λ (r : Result Kinded FileFault). r >>= read_format) (one_again rest)
     ∙ ap (λ (r : Result Formed FileFault). r >>= read_raster) h
 
 head_tells : (f : Fields) (behind octets : List ℕ) → HasHead f behind octets
-    → picture_at octets ≡ read_raster (f, behind)
-unfolding picture_at
+    → picture_walk octets ≡ read_raster (f, behind)
+unfolding picture_walk
 head_tells f behind octets head =
     let kind : List ℕ = kind_text picture_name One in
     ap (λ (o : List ℕ). one_at picture_name o >>= read_format) (head.whole
@@ -393,7 +395,7 @@ head_tells f behind octets head =
     ∙ ap (λ (r : Result Kinded FileFault). r >>= read_format) (one_again (format_text f ++ behind))
     ∙ ap (λ (r : Result Formed FileFault). r >>= read_raster) (block_tells f behind head.is)
 
-cut_tells : (octets : List ℕ) → IsCutPicture octets → picture_at octets ≡ Err Truncated
+cut_tells : (octets : List ℕ) → IsCutPicture octets → picture_walk octets ≡ Err Truncated
 cut_tells octets (Kind lt)
     = front_tells octets Truncated (one_tells octets Truncated (kind_cut picture_name octets lt))
 cut_tells octets (Block h)
@@ -403,7 +405,7 @@ cut_tells octets (Groups h) =
     ∙ ap (λ (r : Result Part FileFault). r >>= read_end h.format)
     (raster_short h.format h.behind h.short)
 
-trailing_tells : (octets : List ℕ) → HasTrailing octets → picture_at octets ≡ Err TrailingBytes
+trailing_tells : (octets : List ℕ) → HasTrailing octets → picture_walk octets ≡ Err TrailingBytes
 trailing_tells octets h =
     let n : ℕ = raster_octets h.format in
     let values : List ℕ = values_in (bits_of h.format.depth) (take n h.behind) in
@@ -416,7 +418,7 @@ trailing_tells octets h =
     (nothing_tells (drop n h.behind) some)
 
 no_format_tells : (octets : List ℕ) → AreOctets octets → HasNoFormat octets
-    → picture_at octets ≡ Err BadField
+    → picture_walk octets ≡ Err BadField
 no_format_tells octets bytes h =
     let rest : AreOctets (h.block ++ h.behind)
     = AreOctets-back (kind_text picture_name One) (h.block ++ h.behind)
@@ -425,7 +427,7 @@ no_format_tells octets bytes h =
     (block_refused h.block h.behind rest h.long h.none)
 
 pub picture_tells : (e : FileFault) (octets : List ℕ) → AreOctets octets → IsPictureFault e octets
-    → picture_at octets ≡ Err e
+    → picture_walk octets ≡ Err e
 picture_tells BadName octets bytes h
     = front_tells octets BadName (one_tells octets BadName (name_tells picture_name octets h))
 picture_tells BadVersion octets bytes h

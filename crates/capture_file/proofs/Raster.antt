@@ -27,7 +27,7 @@ use Rattle.capture_file.specs.Blocks.{block_at}
 use Rattle.capture_file.specs.Fields.{Fails, Takes, field_at}
 use Rattle.capture_file.specs.Fronts.{picture_name, with_rest}
 use Rattle.capture_file.specs.PictureFile.{GivesSpelled, Shown, head_of, nothing_at, one_at}
-use Rattle.capture_file.specs.PictureFile.{picture_at, picture_text, raster_at, raster_octets}
+use Rattle.capture_file.specs.PictureFile.{picture_walk, picture_text, raster_at, raster_octets}
 use Rattle.capture_file.specs.PictureFile.{shown_by}
 use Rattle.capture_file.proofs.Parsing.{fails_first, fails_then, gives_field, gives_pure}
 use Rattle.capture_file.proofs.Parsing.{gives_then, then_reads}
@@ -185,29 +185,29 @@ abbrev behind_version : Version → List ℕ → Result (Shown × List ℕ) File
 behind_version v = then_reads block_at behind_block
 
 pub version_fails : (old : Option (List ℕ)) (e : FileFault) → Fails (one_at picture_name) old e
-    → Fails picture_at old e
-unfolding picture_at
+    → Fails picture_walk old e
+unfolding picture_walk
 version_fails old e p = fails_first (one_at picture_name) behind_version old e p
 
 pub block_fails : (old a : Option (List ℕ)) (e : FileFault) → Takes (one_at picture_name) old a One
-    → Fails block_at a e → Fails picture_at old e
-unfolding picture_at
+    → Fails block_at a e → Fails picture_walk old e
+unfolding picture_walk
 block_fails old a e p q =
     fails_then (one_at picture_name) behind_version old a One e p
     (fails_first block_at behind_block a e q)
 
 pub body_fails : (old a b : Option (List ℕ)) (f : Fields) (e : FileFault)
     → Takes (one_at picture_name) old a One → Takes block_at a b f → Fails (raster_at f) b e
-    → Fails picture_at old e
-unfolding picture_at
+    → Fails picture_walk old e
+unfolding picture_walk
 body_fails old a b f e p q r =
     fails_then (one_at picture_name) behind_version old a One e p
     (fails_then block_at behind_block a b f e q (fails_first (raster_at f) (behind_raster f) b e r))
 
 pub end_fails : (old a b c : Option (List ℕ)) (f : Fields) (vs : List ℕ) (e : FileFault)
     → Takes (one_at picture_name) old a One → Takes block_at a b f → Takes (raster_at f) b c vs
-    → Fails nothing_at c e → Fails picture_at old e
-unfolding picture_at
+    → Fails nothing_at c e → Fails picture_walk old e
+unfolding picture_walk
 end_fails old a b c f vs e p q r s =
     fails_then (one_at picture_name) behind_version old a One e p
     (fails_then block_at behind_block a b f e q
@@ -216,8 +216,8 @@ end_fails old a b c f vs e p q r s =
 
 pub picture_gives : (old a b c new : Option (List ℕ)) (f : Fields) (vs : List ℕ)
     → Takes (one_at picture_name) old a One → Takes block_at a b f → Takes (raster_at f) b c vs
-    → Takes nothing_at c new tt → Takes picture_at old new (shown_by f vs)
-unfolding picture_at
+    → Takes nothing_at c new tt → Takes picture_walk old new (shown_by f vs)
+unfolding picture_walk
 picture_gives old a b c new f vs p q r s =
     gives_then (one_at picture_name) behind_version old a new One (shown_by f vs) p
     (gives_then block_at behind_block a b new f (shown_by f vs) q

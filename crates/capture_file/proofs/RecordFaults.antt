@@ -102,7 +102,8 @@ record_by first octets e long (NoPath lt is) h =
     let bad : failed One BadField ≡ failed One e
     = sym (ap (λ (r : Result RecordHead FileFault). octets_at r (drop 10 octets)) is) ∙ h in
     let wrong : HasBadPath (first ∷ octets) = record { head = omega arith; path = lt } in
-    subst (λ (k : FileFault). IsRecordFault k (first ∷ octets)) (same_fault One BadField e bad) wrong
+    subst (λ (k : FileFault). IsRecordFault k (first ∷ octets)) (same_fault One BadField e bad)
+    wrong
 record_by first octets e long (Good hd le is count) h =
     let d : List ℕ = drop 10 octets in
     let cut : octets_at (answered RecordHead hd) d ≡ failed One e
@@ -115,7 +116,8 @@ record_by first octets e long (Good hd le is count) h =
           = Octets (omega arith) le
           (cut_short (length octets) (length d) hd.length (count_in (first ∷ octets))
           (length-drop 10 octets) long few (count ∙ count_is first octets)) in
-          subst (λ (k : FileFault). IsRecordFault k (first ∷ octets)) (same_fault One Truncated e w.1)
+          subst (λ (k : FileFault). IsRecordFault k (first ∷ octets))
+          (same_fault One Truncated e w.1)
           wrong
       | inr w ↦ absurd (not_both One (entry_of hd d, drop hd.length d) e w.1)
     ]
@@ -129,7 +131,8 @@ record_fails first octets e h =
       | inl w ↦
           let lt : length octets < 10 = ltb-true (length octets) 10 w.0 in
           let wrong : IsCutRecord (first ∷ octets) = Head (omega arith) (omega arith) in
-          subst (λ (k : FileFault). IsRecordFault k (first ∷ octets)) (same_fault One Truncated e w.1)
+          subst (λ (k : FileFault). IsRecordFault k (first ∷ octets))
+          (same_fault One Truncated e w.1)
           wrong
       | inr w ↦ record_by first octets e (ltb-false (length octets) 10 w.0)
           (head_case first (take 10 octets)) w.1

@@ -41,8 +41,9 @@ use Rattle.capture_file.specs.Faults.{IfContent, IsMachine}
 use Rattle.capture_file.specs.Fields.{Fails, Takes, Leaves, field_at}
 use Rattle.st_format.specs.Reading.{◌>>=◌}
 use Rattle.capture_file.specs.Fronts.{kind_at, kind_of, kind_text, picture_name, with_rest}
-use Rattle.capture_file.specs.PictureFile.{Shown, nothing_at, one_at, one_by, picture_at}
-use Rattle.capture_file.specs.PictureFile.{picture_text, raster_at, raster_octets, shown_of, shown_by}
+use Rattle.capture_file.specs.PictureFile.{Shown, nothing_at, one_at, one_by, picture_walk}
+use Rattle.capture_file.specs.PictureFile.{picture_text, raster_at, raster_octets, shown_of}
+use Rattle.capture_file.specs.PictureFile.{shown_by}
 use Rattle.st_format.specs.Device.{AreOctets, TellsOctets}
 use Rattle.capture_file.specs.StateFile.{format_text, sampling_code}
 use Rattle.capture_file.proofs.Blocked.{block_parts, lowest_good}
@@ -376,8 +377,8 @@ record IsFile (octets : List ℕ) (p : Values) (rest : List ℕ) : Type 0 where
   all : rest ≡ []
 
 picture_found : (p : Values) (octets rest : List ℕ) → AreOctets octets
-    → picture_at octets ≡ Ok (shown_of p, rest) → IsFile octets p rest
-unfolding picture_at picture_text
+    → picture_walk octets ≡ Ok (shown_of p, rest) → IsFile octets p rest
+unfolding picture_walk picture_text
 picture_found p octets rest bytes e =
     let x : Shown × List ℕ = (shown_of p, rest) in
     let a =
@@ -419,20 +420,20 @@ picture_found p octets rest bytes e =
     }
 
 found_by : (p : Values) (octets : List ℕ) (new : Option (List ℕ)) → AreOctets octets
-    → Leaves (picture_at octets) (shown_of p) new → (octets ≡ picture_text p) × IsAtEnd new
+    → Leaves (picture_walk octets) (shown_of p) new → (octets ≡ picture_text p) × IsAtEnd new
 found_by p octets None bytes q = absurd q
 found_by p octets (Some rest) bytes q = let f =
     picture_found p octets rest bytes q in (f.text, f.all)
 
 found_told : (p : Values) (old new : Option (List ℕ)) → TellsOctets old
-    → Takes picture_at old new (shown_of p) → (octets : List ℕ) → old ≡ Some octets
+    → Takes picture_walk old new (shown_of p) → (octets : List ℕ) → old ≡ Some octets
     → (octets ≡ picture_text p) × IsAtEnd new
 found_told p old new bytes g octets told =
     found_by p octets new (subst TellsOctets told bytes)
-    (subst (λ (k : Option (List ℕ)). Takes picture_at k new (shown_of p)) told g)
+    (subst (λ (k : Option (List ℕ)). Takes picture_walk k new (shown_of p)) told g)
 
 pub found_picture : (old new : Option (List ℕ)) (r : Result Values FileFault)
-    → IfOk r (λ p. Takes picture_at old new (shown_of p)) → OnOk r (TellsOctets old)
+    → IfOk r (λ p. Takes picture_walk old new (shown_of p)) → OnOk r (TellsOctets old)
     → IfOk r (λ p. (octets : List ℕ) → old ≡ Some octets → (octets ≡ picture_text p) × IsAtEnd new)
 found_picture old new (Ok p) g bytes = found_told p old new bytes g
 found_picture old new (Err f) g bytes = tt
@@ -452,13 +453,13 @@ one_again rest =
     ap (λ (r : Result (Version × List ℕ) FileFault). r >>= λ x. one_by x.0 x.1) (kind_again rest)
 
 -- what is a picture's file is read as what it says
-pub picture_again : (p : Values) → IsPicture p → picture_at (picture_text p) ≡ Ok (shown_of p, [])
-unfolding picture_at picture_text
+pub picture_again : (p : Values) → IsPicture p → picture_walk (picture_text p) ≡ Ok (shown_of p, [])
+unfolding picture_walk picture_text
 picture_again p is =
     let kind : List ℕ = kind_text picture_name One in
     let block : List ℕ = format_text (fields_of p.format) in
     let body : List ℕ = octets_in (bits_of p.format.depth) p.samples in
-    ap picture_at (append_assoc kind block body)
+    ap picture_walk (append_assoc kind block body)
     ∙ ap
     (λ (r : Result (Version × List ℕ) FileFault). r >>= λ v. block_at v.1 >>=
     λ f. behind_fields f) (one_again (block ++ body))
@@ -476,10 +477,10 @@ shown_in s (Err f) = s
 pub picture_once : (p q : Values) → IsPicture p → IsPicture q → picture_text p ≡ picture_text q
     → shown_of p ≡ shown_of q
 picture_once p q a b e =
-    ap (shown_in (shown_of p)) (sym (picture_again p a) ∙ ap picture_at e ∙ picture_again q b)
+    ap (shown_in (shown_of p)) (sym (picture_again p a) ∙ ap picture_walk e ∙ picture_again q b)
 
 only_ok : (p q : Values) (octets : List ℕ) (new : Option (List ℕ))
-    → picture_at octets ≡ Ok (shown_of p, []) → Leaves (picture_at octets) (shown_of q) new
+    → picture_walk octets ≡ Ok (shown_of p, []) → Leaves (picture_walk octets) (shown_of q) new
     → shown_of q ≡ shown_of p
 only_ok p q octets None e g = absurd g
 only_ok p q octets (Some rest) e g = ap (shown_in (shown_of q)) (sym g ∙ e)
@@ -496,19 +497,20 @@ machine_left TrailingBytes P h p = h p
 machine_left MixedGroup P h p = h p
 machine_left TooManyRecords P h p = h p
 
-clash : (s : Shown) (octets : List ℕ) (f : FileFault) → picture_at octets ≡ Ok (s, [])
-    → picture_at octets ≡ Err f → ⊥
+clash : (s : Shown) (octets : List ℕ) (f : FileFault) → picture_walk octets ≡ Ok (s, [])
+    → picture_walk octets ≡ Err f → ⊥
 clash s octets f e p = let bad : with_shown s [] ≡ failed (Shown × List ℕ) f =
     sym e ∙ p in absurd cc
 
 pub only_picture : (old new : Option (List ℕ)) (r : Result Values FileFault)
-    → IfOk r (λ q. Takes picture_at old new (shown_of q)) → IfErr r (λ f. Fails picture_at old f)
+    → IfOk r (λ q. Takes picture_walk old new (shown_of q))
+    → IfErr r (λ f. Fails picture_walk old f)
     → (p : Values) (octets : List ℕ) → old ≡ Some octets → IsPicture p → octets ≡ picture_text p
     → MatchResult r (λ q. shown_of q ≡ shown_of p) IsMachine
 only_picture old new (Ok q) a b p octets told is text =
-    only_ok p q octets new (ap picture_at text ∙ picture_again p is)
-    (subst (λ (k : Option (List ℕ)). Takes picture_at k new (shown_of q)) told a)
+    only_ok p q octets new (ap picture_walk text ∙ picture_again p is)
+    (subst (λ (k : Option (List ℕ)). Takes picture_walk k new (shown_of q)) told a)
 only_picture old new (Err f) a b p octets told is text =
-    machine_left f (picture_at octets ≡ Err f)
-    (clash (shown_of p) octets f (ap picture_at text ∙ picture_again p is))
-    (subst (λ (k : Option (List ℕ)). Fails picture_at k f) told b)
+    machine_left f (picture_walk octets ≡ Err f)
+    (clash (shown_of p) octets f (ap picture_walk text ∙ picture_again p is))
+    (subst (λ (k : Option (List ℕ)). Fails picture_walk k f) told b)

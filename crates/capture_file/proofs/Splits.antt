@@ -19,7 +19,7 @@ use Rattle.capture_file.specs.declared.fault.FileFault.TheVariants.{TooManyRecor
 use Rattle.capture_file.specs.declared.front.Version.{Version}
 use Rattle.capture_file.specs.declared.front.Version.TheVariants.{One, Two}
 use Rattle.capture_file.specs.declared.record.RecordHead.{RecordHead}
-use Rattle.capture_file.specs.Capture.{Content, IsCapture, capture_at, capture_seen, records_at}
+use Rattle.capture_file.specs.Capture.{Content, IsCapture, capture_walk, capture_seen, records_at}
 use Rattle.capture_file.specs.Fields.{Fails, Takes, Leaves, field_at}
 use Rattle.st_format.specs.Reading.{◌>>=◌}
 use Rattle.capture_file.specs.Faults.{IfContent, IsMachine}
@@ -289,10 +289,10 @@ front_again Two text rest has =
 
 -- what is a capture is read as what it says
 pub capture_again : (c : Content) (octets : List ℕ) (limit : ℕ) → IsCapture octets c
-    → length c.records ≤ limit → capture_at limit octets ≡ Ok (c, [])
-unfolding capture_at
+    → length c.records ≤ limit → capture_walk limit octets ≡ Ok (c, [])
+unfolding capture_walk
 capture_again c octets limit is le =
-    ap (capture_at limit) is.whole
+    ap (capture_walk limit) is.whole
     ∙ ap
     (λ (r : Result (List ℕ × List ℕ) FileFault). r >>= λ x. records_at limit x.1 >>=
     λ y. said x.0 y.0 y.1) (front_again is.version c.text (records_text c.records) is.front)
@@ -309,9 +309,9 @@ content_in c (Err f) = c
 pub one : (c d : Content) (octets : List ℕ) → IsCapture octets c → IsCapture octets d → c ≡ d
 one c d octets p q =
     let limit : ℕ = length c.records + length d.records in
-    let a : said c.text c.records [] ≡ capture_at limit octets =
+    let a : said c.text c.records [] ≡ capture_walk limit octets =
     sym (capture_again c octets limit p (omega arith)) in
-    let b : capture_at limit octets ≡ said d.text d.records [] =
+    let b : capture_walk limit octets ≡ said d.text d.records [] =
     capture_again d octets limit q (omega arith) in
     let same : said c.text c.records [] ≡ said d.text d.records [] = a ∙ b in
     ap (content_in c) same
@@ -319,16 +319,16 @@ one c d octets p q =
 -- ---- what a reader of captures owes
 
 only_ok : (c d : Content) (limit : ℕ) (octets : List ℕ) (new : Option (List ℕ))
-    → capture_at limit octets ≡ Ok (c, []) → Leaves (capture_at limit octets) d new → d ≡ c
+    → capture_walk limit octets ≡ Ok (c, []) → Leaves (capture_walk limit octets) d new → d ≡ c
 only_ok c d limit octets None e p = absurd p
 only_ok c d limit octets (Some rest) e p = ap (content_in d) (sym p ∙ e)
 
 clash : (c : Content) (limit : ℕ) (octets : List ℕ) (f : FileFault)
-    → capture_at limit octets ≡ Ok (c, []) → capture_at limit octets ≡ Err f → ⊥
+    → capture_walk limit octets ≡ Ok (c, []) → capture_walk limit octets ≡ Err f → ⊥
 clash c limit octets f e p = let bad : said c.text c.records [] ≡ failed f = sym e ∙ p in absurd cc
 
 only_err : (c : Content) (limit : ℕ) (octets : List ℕ) (f : FileFault)
-    → capture_at limit octets ≡ Ok (c, []) → IfContent f (capture_at limit octets ≡ Err f)
+    → capture_walk limit octets ≡ Ok (c, []) → IfContent f (capture_walk limit octets ≡ Err f)
     → IsMachine f
 only_err c limit octets NoMemory e p = tt
 only_err c limit octets Device e p = tt
@@ -342,13 +342,13 @@ only_err c limit octets TooManyRecords e p = clash c limit octets TooManyRecords
 
 pub only_read : {A : Type 0} (limit : ℕ) (old new : Option (List ℕ))
     (r : Result (Capture A) FileFault)
-    → IfOk r (λ v. Takes (capture_at limit) old new (capture_seen v))
-    → IfErr r (λ f. Fails (capture_at limit) old f)
+    → IfOk r (λ v. Takes (capture_walk limit) old new (capture_seen v))
+    → IfErr r (λ f. Fails (capture_walk limit) old f)
     → (c : Content) (octets : List ℕ) → old ≡ Some octets → IsCapture octets c
     → length c.records ≤ limit → MatchResult r (λ v. capture_seen v ≡ c) IsMachine
 only_read limit old new (Ok v) p q c octets told is le =
     only_ok c (capture_seen v) limit octets new (capture_again c octets limit is le)
-    (subst (λ (k : Option (List ℕ)). Takes (capture_at limit) k new (capture_seen v)) told p)
+    (subst (λ (k : Option (List ℕ)). Takes (capture_walk limit) k new (capture_seen v)) told p)
 only_read limit old new (Err f) p q c octets told is le =
     only_err c limit octets f (capture_again c octets limit is le)
-    (subst (λ (k : Option (List ℕ)). Fails (capture_at limit) k f) told q)
+    (subst (λ (k : Option (List ℕ)). Fails (capture_walk limit) k f) told q)

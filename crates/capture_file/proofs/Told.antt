@@ -9,7 +9,8 @@ use Rattle.capture_file.specs.declared.front.Version.TheVariants.{Two}
 use Rattle.capture_file.specs.Fronts.{front_text}
 use Rattle.capture_file.specs.Records.{records_text}
 use Rattle.capture_file.specs.Source.{IfTold}
-use Rattle.capture_file.specs.Writer.{IsShortEnough, IsWritten, WriterPlace, StandsWritten, datagrams_in}
+use Rattle.capture_file.specs.Writer.{IsShortEnough, IsWritten, WriterPlace, StandsWritten}
+use Rattle.capture_file.specs.Writer.{datagrams_in}
 use Rattle.capture_file.specs.Writer.{entries_of, moment_behind, place_behind, place_failed}
 use Rattle.capture_file.specs.Writer.{taken_of}
 use Rattle.capture_file.proofs.Datagrams.{holds, keeps, takes, writes}

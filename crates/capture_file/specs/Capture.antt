@@ -47,8 +47,8 @@ records_at (suc n) [] = Ok ([], [])
 records_at (suc n) (first ∷ octets) =
     rest_at first octets >>= λ x. records_at n x.1 >>= λ y. Ok (x.0 ∷ y.0, y.1)
 
--- a capture, of at most so many records
-unfoldable pub capture_at : ℕ → List ℕ → Result (Content × List ℕ) FileFault
-capture_at limit octets =
+-- the walk from the left: a capture of at most so many records, or the first fault
+unfoldable pub capture_walk : ℕ → List ℕ → Result (Content × List ℕ) FileFault
+capture_walk limit octets =
     front_at octets >>= λ x. records_at limit x.1 >>=
     λ y. Ok (record { text = x.0; records = y.0 }, y.1)

@@ -56,12 +56,13 @@ abbrev pub nothing_at : List ℕ → Result (⊤ × List ℕ) FileFault
 nothing_at [] = Ok (tt, [])
 nothing_at (octet ∷ octets) = Err TrailingBytes
 
--- a picture's file
+-- what fields and samples show
 abbrev pub shown_by : Fields → List ℕ → Shown
 shown_by f samples = record { format = f; samples = samples }
 
-unfoldable pub picture_at : List ℕ → Result (Shown × List ℕ) FileFault
-picture_at octets =
+-- the walk from the left: a picture's file, or the first fault
+unfoldable pub picture_walk : List ℕ → Result (Shown × List ℕ) FileFault
+picture_walk octets =
     one_at picture_name octets >>= λ v. block_at v.1 >>= λ f. raster_at f.0 f.1 >>=
     λ s. nothing_at s.1 >>= λ e. Ok (shown_by f.0 s.0, e.1)
 

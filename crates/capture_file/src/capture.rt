@@ -2,7 +2,7 @@
 ghost use Rattle.std.specs.Prelude.{◌≡◌, ◌≤◌, ℕ, List, Some, length, map, vec_len, IfErr, IfOk};
 ghost use Rattle.std.specs.Prelude.{OnOk, MatchResult};
 ghost use Rattle.std.specs.List.{All};
-ghost use Rattle.capture_file.specs.Capture.{Content, IsCapture, capture_at, capture_seen};
+ghost use Rattle.capture_file.specs.Capture.{Content, IsCapture, capture_walk, capture_seen};
 ghost use Rattle.capture_file.specs.Capture.{entry_seen, records_at};
 ghost use Rattle.capture_file.specs.Faults.{CountsDevice, IsMachine};
 ghost use Rattle.capture_file.specs.Fields.{Fails, Takes};
@@ -40,10 +40,6 @@ pub fn read_capture<A: Allocator + Copy, S: ByteSource>(
     source: &mut S,
     limit: u64,
 ) -> Result<Capture<A>, FileFault>
-    ensures read { IfOk result
-        (λ c. Takes (capture_at limit) (S.to_give source.old) (S.to_give source.new)
-        (capture_seen c)) }
-    ensures fault { IfErr result (λ f. Fails (capture_at limit) (S.to_give source.old) f) }
     ensures counted { CountsDevice (S.failures source.old) (S.failures source.new) result }
     // What is read is a capture, all of it, of at most so many records.
     ensures found { IfOk result (λ v. (octets : List ℕ) → S.to_give source.old ≡ Some octets
@@ -53,6 +49,11 @@ pub fn read_capture<A: Allocator + Copy, S: ByteSource>(
     ensures only { (c : Content) (octets : List ℕ) → S.to_give source.old ≡ Some octets
         → IsCapture octets c → length c.records ≤ limit
         → MatchResult result (λ v. capture_seen v ≡ c) IsMachine }
+    // The same by the walk from the left, for the walks that go on from it.
+    ensures read { IfOk result
+        (λ c. Takes (capture_walk limit) (S.to_give source.old) (S.to_give source.new)
+        (capture_seen c)) }
+    ensures fault { IfErr result (λ f. Fails (capture_walk limit) (S.to_give source.old) f) }
 {
     read_whole_capture(alloc, source, limit)
 }
@@ -64,9 +65,9 @@ fn read_whole_capture<A: Allocator + Copy, S: ByteSource>(
     limit: u64,
 ) -> Result<Capture<A>, FileFault>
     ensures read { IfOk result
-        (λ c. Takes (capture_at limit) (S.to_give source.old) (S.to_give source.new)
+        (λ c. Takes (capture_walk limit) (S.to_give source.old) (S.to_give source.new)
         (capture_seen c)) }
-    ensures fault { IfErr result (λ f. Fails (capture_at limit) (S.to_give source.old) f) }
+    ensures fault { IfErr result (λ f. Fails (capture_walk limit) (S.to_give source.old) f) }
     ensures octets { OnOk result (TellsOctets (S.to_give source.old)) }
     ensures counted { CountsDevice (S.failures source.old) (S.failures source.new) result }
 {

@@ -6,11 +6,11 @@ ghost use Rattle.st_format.specs.Device.{AreOctets};
 ghost use Rattle.st_format.specs.Picture.{IsPicture, Values};
 ghost use Rattle.st_format.specs.Turns.{Due};
 ghost use Rattle.capture_file.specs.declared.fault.FileFault.{FileFault};
-ghost use Rattle.capture_file.specs.Capture.{Content, IsCapture, capture_at};
+ghost use Rattle.capture_file.specs.Capture.{Content, IsCapture, capture_walk};
 ghost use Rattle.capture_file.specs.CaptureFaults.{IsCaptureFault, IsCutCapture, IsRecordFault};
 ghost use Rattle.capture_file.specs.CaptureFaults.{cut_place};
 ghost use Rattle.capture_file.specs.PictureFaults.{IsCutPicture, IsPictureFault, picture_place};
-ghost use Rattle.capture_file.specs.PictureFile.{picture_at, picture_text, shown_of};
+ghost use Rattle.capture_file.specs.PictureFile.{picture_walk, picture_text, shown_of};
 ghost use Rattle.capture_file.specs.Reader.{due_of, dues_in};
 ghost use Rattle.capture_file.specs.Reading.{entries_in, fault_at};
 ghost use Rattle.capture_file.specs.Records.{Entry};
@@ -38,7 +38,7 @@ pub fn turns_of_run()
 /// What is a capture is read as what it says.
 pub fn capture_read()
     ensures { (c : Content) (octets : List ℕ) (limit : ℕ) → IsCapture octets c
-        → length c.records ≤ limit → capture_at limit octets ≡ Ok (c, []) }
+        → length c.records ≤ limit → capture_walk limit octets ≡ Ok (c, []) }
 {}
 
 /// Octets are a capture of one content.
@@ -56,7 +56,7 @@ pub fn record_fault()
 /// Octets are read as a capture with a fault exactly where the fault's condition holds.
 pub fn capture_fault()
     ensures { (limit : ℕ) (f : FileFault) (octets : List ℕ) → AreOctets octets
-        → (capture_at limit octets ≡ Err f) ↔ IsCaptureFault limit f octets }
+        → (capture_walk limit octets ≡ Err f) ↔ IsCaptureFault limit f octets }
 {}
 
 /// At most one fault's condition holds of a capture.
@@ -82,7 +82,8 @@ pub fn capture_or_fault()
 /// timestamps and cells. That equal ones have equal files is plain, since the text is a function of
 /// these.
 pub fn one_file()
-    ensures { (k l : Kept) → IsKeptReceiver k → IsKeptReceiver l → state_text k ≡ state_text l → k ≡ l }
+    ensures { (k l : Kept) → IsKeptReceiver k → IsKeptReceiver l → state_text k ≡ state_text l
+        → k ≡ l }
 {}
 
 /// Cells with equal groups are equal: so with [`one_file`] equal files are of equal frames.
@@ -93,7 +94,7 @@ pub fn one_raster()
 
 /// A picture's file is read as that picture.
 pub fn picture_read()
-    ensures { (p : Values) → IsPicture p → picture_at (picture_text p) ≡ Ok (shown_of p, []) }
+    ensures { (p : Values) → IsPicture p → picture_walk (picture_text p) ≡ Ok (shown_of p, []) }
 {}
 
 /// A picture has one file: two that have equal files have the same format and the same samples.
@@ -106,7 +107,7 @@ pub fn one_picture()
 /// Octets are read as a picture with a fault exactly where the fault's condition holds.
 pub fn picture_fault()
     ensures { (f : FileFault) (octets : List ℕ) → AreOctets octets
-        → (picture_at octets ≡ Err f) ↔ IsPictureFault f octets }
+        → (picture_walk octets ≡ Err f) ↔ IsPictureFault f octets }
 {}
 
 /// At most one fault's condition holds of a picture's file.

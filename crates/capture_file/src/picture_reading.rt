@@ -11,7 +11,7 @@ ghost use Rattle.capture_file.specs.declared.front.Version.TheVariants.{One};
 ghost use Rattle.capture_file.specs.Faults.{CountsDevice, IsMachine, IsOfField};
 ghost use Rattle.capture_file.specs.Fields.{Fails, Takes, field_at};
 ghost use Rattle.capture_file.specs.Fronts.{picture_name};
-ghost use Rattle.capture_file.specs.PictureFile.{GivesSpelled, nothing_at, one_at, picture_at};
+ghost use Rattle.capture_file.specs.PictureFile.{GivesSpelled, nothing_at, one_at, picture_walk};
 ghost use Rattle.capture_file.specs.PictureFile.{picture_text, raster_at, shown_of};
 
 use crate::block::read_format;
@@ -33,9 +33,6 @@ pub fn read_picture<A: Allocator, S: ByteSource>(
     source: &mut S,
 ) -> Result<Picture<A>, FileFault>
     ensures whole { IfOk result (λ p. IsPicture p) }
-    ensures read { IfOk result (λ p. Takes picture_at
-        (S.to_give source.old) (S.to_give source.new) (shown_of p)) }
-    ensures fault { IfErr result (λ f. Fails picture_at (S.to_give source.old) f) }
     ensures counted { CountsDevice (S.failures source.old) (S.failures source.new) result }
     // What is read is the file of the picture that is answered, all of it.
     ensures found { IfOk result (λ p. (octets : List ℕ) → S.to_give source.old ≡ Some octets
@@ -44,6 +41,10 @@ pub fn read_picture<A: Allocator, S: ByteSource>(
     ensures only { (p : Values) (octets : List ℕ)
         → S.to_give source.old ≡ Some octets → IsPicture p → octets ≡ picture_text p
         → MatchResult result (λ q. shown_of q ≡ shown_of p) IsMachine }
+    // The same by the walk from the left, for the walks that go on from it.
+    ensures read { IfOk result (λ p. Takes picture_walk
+        (S.to_give source.old) (S.to_give source.new) (shown_of p)) }
+    ensures fault { IfErr result (λ f. Fails picture_walk (S.to_give source.old) f) }
 {
     read_whole_picture(alloc, source)
 }
@@ -54,9 +55,9 @@ fn read_whole_picture<A: Allocator, S: ByteSource>(
     source: &mut S,
 ) -> Result<Picture<A>, FileFault>
     ensures whole { IfOk result (λ p. IsPicture p) }
-    ensures read { IfOk result (λ p. Takes picture_at
+    ensures read { IfOk result (λ p. Takes picture_walk
         (S.to_give source.old) (S.to_give source.new) (shown_of p)) }
-    ensures fault { IfErr result (λ f. Fails picture_at (S.to_give source.old) f) }
+    ensures fault { IfErr result (λ f. Fails picture_walk (S.to_give source.old) f) }
     ensures octets { OnOk result (TellsOctets (S.to_give source.old)) }
     ensures counted { CountsDevice (S.failures source.old) (S.failures source.new) result }
 {

@@ -3,7 +3,7 @@ use Rattle.std.specs.Prelude.{◌≡◌, ℕ, ◌+◌, ◌<◌, ◌≤◌, ◌�
 use Rattle.std.specs.Prelude.{Option, Some, Err}
 use Rattle.st_format.specs.Picture.{Values}
 use Rattle.st_format.specs.declared.format.Format.{Format}
-use Rattle.capture_file.specs.PictureFile.{picture_at, picture_text}
+use Rattle.capture_file.specs.PictureFile.{picture_walk, picture_text}
 use Rattle.packet_plan.specs.Plan.{group_octets}
 use Rattle.packet_plan.specs.declared.plan.PlanFault.{PlanFault}
 use Rattle.packet_plan.specs.declared.plan.PlanFault.TheVariants.{NoMemory, BadPacketSize}
@@ -28,7 +28,7 @@ OneIs Is (s ∷ ss) = Is s ⊎ OneIs Is ss
 -- the refusal of a picture's file: the fault is the first of the octets, where they are told
 abbrev pub IsPictureRefusal : Option (List ℕ) → Refusal → Type 0
 IsPictureRefusal told (refusal.Picture f) =
-    (octets : List ℕ) → told ≡ Some octets → picture_at octets ≡ Err f
+    (octets : List ℕ) → told ≡ Some octets → picture_walk octets ≡ Err f
 IsPictureRefusal told r = ⊥
 
 -- a source was to give the file of a picture of this format, if it tells what it is to give

@@ -7,7 +7,8 @@ use Rattle.st_format.specs.Cell.{join}
 use Rattle.st_format.specs.Fit.{IsFrame}
 use Rattle.st_format.specs.Offer.{Offer, cell_of}
 use Rattle.st_format.specs.Position.{Position, IsPosition, number_of}
-use Rattle.st_format.specs.Raster.{Raster, cell_at, cells_of, joined_cells, joined_rasters, raster_of}
+use Rattle.st_format.specs.Raster.{Raster, cell_at, cells_of, joined_cells, joined_rasters}
+use Rattle.st_format.specs.Raster.{raster_of}
 use Rattle.st_format.proofs.Rasters.{cell_at-joined, cell_at-raster_of, length-cells_of}
 
 -- At each position stands the join.

@@ -37,7 +37,8 @@ same_joined n size samples marks octets other_marks others packed same_marks sam
   long = refl;
   cells =
       sym (ap
-      (λ (ms : List ℕ). joined_cells (packed_cells n size marks octets) (packed_cells n size ms others))
+      (λ (ms : List ℕ). joined_cells (packed_cells n size marks octets)
+      (packed_cells n size ms others))
       (sym same_marks)
       ∙ ap
       (λ (os : List ℕ). joined_cells (packed_cells n size marks octets)
@@ -82,7 +83,8 @@ packed_missing n size (m ∷ marks) octets low =
     (cells_missing m 0 (values_in n (take size octets)) (low_bit m here))
     (packed_missing n size marks (drop size octets) (λ k lt. low (suc k) (omega arith)))
 
-missing_joined : (cs ds : List Cell) → length cs ≡ length ds → AreMissing cs → joined_cells cs ds ≡ ds
+missing_joined : (cs ds : List Cell) → length cs ≡ length ds → AreMissing cs
+    → joined_cells cs ds ≡ ds
 missing_joined [] [] long are = refl
 missing_joined [] (d ∷ ds) long are = absurd (omega arith)
 missing_joined (c ∷ cs) [] long are = absurd (omega arith)
@@ -94,7 +96,8 @@ join_missing Missing d e = e
 join_missing (Value v) d e = ap (join (Value v)) e
 join_missing Contested d e = refl
 
-joined_missing : (cs ds : List Cell) → length cs ≡ length ds → AreMissing ds → joined_cells cs ds ≡ cs
+joined_missing : (cs ds : List Cell) → length cs ≡ length ds → AreMissing ds
+    → joined_cells cs ds ≡ cs
 joined_missing [] ds long are = refl
 joined_missing (c ∷ cs) [] long are = absurd (omega arith)
 joined_missing (c ∷ cs) (d ∷ ds) long are =

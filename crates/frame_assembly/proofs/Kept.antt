@@ -259,9 +259,12 @@ frame_absorb marks_len octets_len f g r q marks octets cells_marks cells_octets 
     ∙ ap
     (λ (ms : List ℕ). joined_cells (cells_in f ms cells_octets)
     (cells_in f other_marks others)) same_marks
-    ∙ ap (λ (os : List ℕ). joined_cells (cells_in f marks os) (cells_in f other_marks others)) same_octets
-    ∙ ap (λ (ms : List ℕ). joined_cells (cells_in f marks octets) (cells_in f ms others)) same_other_marks
-    ∙ ap (λ (os : List ℕ). joined_cells (cells_in f marks octets) (cells_in f items_marks os)) same_others
+    ∙ ap (λ (os : List ℕ). joined_cells (cells_in f marks os) (cells_in f other_marks others))
+    same_octets
+    ∙ ap (λ (ms : List ℕ). joined_cells (cells_in f marks octets) (cells_in f ms others))
+    same_other_marks
+    ∙ ap (λ (os : List ℕ). joined_cells (cells_in f marks octets) (cells_in f items_marks os))
+    same_others
     ∙ ap
     (λ (h : Format). joined_cells (cells_in f marks octets)
     (cells_in h items_marks items_octets)) formats)

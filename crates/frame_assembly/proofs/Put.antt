@@ -93,7 +93,8 @@ no_octets f ts cells s whole none =
     sym (ap
     (λ (os : List ℕ). joined_cells cells
     (cells_of f (offers_from f ts (first_number f s) (values_in (bits_of f.depth) os)) ts)) nil
-    ∙ ap (λ (vs : List ℕ). joined_cells cells (cells_of f (offers_from f ts (first_number f s) vs) ts))
+    ∙ ap (λ (vs : List ℕ). joined_cells cells (cells_of f (offers_from f ts (first_number f s) vs)
+    ts))
     (no_values f.depth)
     ∙ joined_none f ts cells whole)
 
@@ -119,13 +120,16 @@ segments_more f ts i old cells new ss d lt is before =
     ap (λ (cs : List Cell). joined_cells cs (cells_of f (offers_in_all f ts rest) ts)) is
     ∙ joined-assoc cells (cells_of f (offers_in f ts s) ts)
     (cells_of f (offers_in_all f ts rest) ts)
-    ∙ ap (joined_cells cells) (sym (cells_of-append f (offers_in f ts s) (offers_in_all f ts rest) ts))
-    ∙ ap (λ (xs : List Segment). joined_cells cells (cells_of f (offers_in_all f ts xs) ts)) (sym split)
+    ∙ ap (joined_cells cells) (sym (cells_of-append f (offers_in f ts s) (offers_in_all f ts rest)
+    ts))
+    ∙ ap (λ (xs : List Segment). joined_cells cells (cells_of f (offers_in_all f ts xs) ts))
+    (sym split)
     ∙ before
 
 pub segments_all : (f : Format) (ts i : ℕ) (old cells : List Cell) (ss : List SegmentView)
     → length cells ≡ sample_count f → length ss ≤ i
-    → joined_cells cells (cells_of f (offers_in_all f ts (map seen (drop i ss))) ts) ≡ old → cells ≡ old
+    → joined_cells cells (cells_of f (offers_in_all f ts (map seen (drop i ss))) ts) ≡ old
+    → cells ≡ old
 segments_all f ts i old cells ss whole le before =
     let none : drop i ss ≡ [] = drop_all i ss le in
     sym (joined_none f ts cells whole)

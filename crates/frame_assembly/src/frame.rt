@@ -17,7 +17,8 @@ ghost use Rattle.st_format.specs.Pgroup.{bits_of, pixel_group};
 ghost use Rattle.st_format.specs.Position.{IsPosition, Position, group_start, row_groups};
 ghost use Rattle.st_format.specs.Position.{row_octets};
 ghost use Rattle.st_format.specs.Samples.{Spells, values_in};
-ghost use Rattle.st_format.specs.Raster.{IsWhole, blank, cell_at, cells_of, joined_cells, joined_rasters};
+ghost use Rattle.st_format.specs.Raster.{IsWhole, blank, cell_at, cells_of, joined_cells};
+ghost use Rattle.st_format.specs.Raster.{joined_rasters};
 ghost use Rattle.st_format.specs.Raster.{offers_in_all};
 
 use crate::base::Base;

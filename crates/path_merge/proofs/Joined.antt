@@ -159,7 +159,8 @@ frames_kept s octets a place new old is read at is_old kept joins =
     let cells : new.cells ≡ joined_cells old.cells (cells_of f os ts) =
     joins ts
     ∙ ap
-    (λ (g : Format). joined_cells old.cells (cells_of g (offers_in_all g ts a.segments) ts)) of_format
+    (λ (g : Format). joined_cells old.cells (cells_of g (offers_in_all g ts a.segments) ts))
+    of_format
     ∙ ap (λ (xs : List Offer). joined_cells old.cells (cells_of f xs ts))
     (sym (alone_admitted s.opening octets a read)) in
     let now : new ≡ with_cells old (joined_cells old.cells (cells_of f os ts)) =

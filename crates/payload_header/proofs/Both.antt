@@ -52,7 +52,8 @@ no_payload : (x : ℕ × List Segment) (fault : PayloadFault) → whole x.0 x.1 
 no_payload x fault e = absurd cc
 
 pub not_refused : (f : Format) (octets : List ℕ) (extended : ℕ) (segments : List Segment)
-    (fault : PayloadFault) → IsPayload octets f extended segments → IsRefusedPayload octets f fault → ⊥
+    (fault : PayloadFault) → IsPayload octets f extended segments
+    → IsRefusedPayload octets f fault → ⊥
 not_refused f octets extended segments fault is refused =
     no_payload (extended, segments) fault
     (sym (payload_again f extended segments octets is) ∙ refused_payload f octets fault refused)
@@ -60,7 +61,8 @@ not_refused f octets extended segments fault is refused =
 same_fault : (a b : PayloadFault) → failed a ≡ failed b → a ≡ b
 same_fault a b e = cc
 
-pub is_refused_once : (f : Format) (octets : List ℕ) (a b : PayloadFault) → IsRefusedPayload octets f a
+pub is_refused_once : (f : Format) (octets : List ℕ) (a b : PayloadFault)
+    → IsRefusedPayload octets f a
     → IsRefusedPayload octets f b → a ≡ b
 is_refused_once f octets a b p q =
     same_fault a b (sym (refused_payload f octets a p) ∙ refused_payload f octets b q)

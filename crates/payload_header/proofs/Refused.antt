@@ -164,7 +164,8 @@ begins octets n rest headers more number parts fit = record {
 refused_stop : (f : Format) (octets : List ℕ) (n : ℕ) (rest : List ℕ) (fault : PayloadFault)
     (headers : List Header) (more : List ℕ) → BeginsWith octets headers more → AllGoOn headers
     → ((fault ≡ ShortPayloadHeader) × (length headers < most_segments) × (length more < 6))
-    ⊎ ((fault ≡ TooManySegments) × (length headers ≡ most_segments)) → IsRefusedPayload octets f fault
+    ⊎ ((fault ≡ TooManySegments) × (length headers ≡ most_segments))
+    → IsRefusedPayload octets f fault
 refused_stop f octets n rest fault headers more begin go_on (inl w) =
     subst (IsRefusedPayload octets f) (sym w.0)
     (inr (record {
@@ -255,7 +256,8 @@ refused_after f octets n rest hs fault number heads e =
 
 refused_number : (f : Format) (octets : List ℕ) (n : ℕ) (rest : List ℕ) (fault : PayloadFault)
     → IsNumber octets n rest
-    → (headers_at most_segments rest >>= after_headers f n) ≡ Err fault → IsRefusedPayload octets f fault
+    → (headers_at most_segments rest >>= after_headers f n) ≡ Err fault
+    → IsRefusedPayload octets f fault
 refused_number f octets n rest fault number e =
     elim (bind_err (headers_at most_segments rest) (after_headers f n) fault e) [
       | inl stop ↦ let s : Stops most_segments rest fault =
@@ -284,7 +286,8 @@ unfolding payload_walk
 payload_refused f octets fault bytes e =
     elim (bind_err (number_at octets) (after_number f) fault e) [
       | inl stop ↦ let s =
-          number_err octets fault (ltb (length octets) 2) refl _ stop in subst (IsRefusedPayload octets f)
+          number_err octets fault (ltb (length octets) 2)
+          refl _ stop in subst (IsRefusedPayload octets f)
           (sym s.0) (inl s.1)
       | inr x ↦ refused_number f octets x.0.0 x.0.1 fault (number_take octets x.0 bytes x.1) x.2
     ]

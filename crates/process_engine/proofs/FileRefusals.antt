@@ -3,7 +3,7 @@ use Rattle.std.proofs.Common.{◌≡◌, ℕ, ◌<◌, zero, suc, List, [], ◌�
 use Rattle.std.proofs.Common.{Option, Some, refl, arith, subst, sym, ◌∙◌}
 use Rattle.capture_file.proofs.PictureFaults.{picture_fails}
 use Rattle.capture_file.specs.Fields.{Fails}
-use Rattle.capture_file.specs.PictureFile.{picture_at}
+use Rattle.capture_file.specs.PictureFile.{picture_walk}
 use Rattle.capture_file.specs.declared.fault.FileFault.{FileFault}
 use Rattle.capture_file.specs.declared.fault.FileFault.TheVariants.{NoMemory, Device, BadName}
 use Rattle.capture_file.specs.declared.fault.FileFault.TheVariants.{BadVersion, Truncated, BadField}
@@ -25,11 +25,11 @@ same_at (x ∷ xs) zero d e some = refl
 same_at (x ∷ xs) (suc k) d e some = same_at xs k d e (omega (arith, some))
 
 fails_in : (told : Option (List ℕ)) (f : FileFault) (octets : List ℕ) → told ≡ Some octets
-    → Fails picture_at told f → Fails picture_at (Some octets) f
-fails_in told f octets is fails = subst (λ (o : Option (List ℕ)). Fails picture_at o f) is fails
+    → Fails picture_walk told f → Fails picture_walk (Some octets) f
+fails_in told f octets is fails = subst (λ (o : Option (List ℕ)). Fails picture_walk o f) is fails
 
 -- a fault of a picture's file as a refusal
-pub picture_refused : (told : Option (List ℕ)) (f : FileFault) → Fails picture_at told f
+pub picture_refused : (told : Option (List ℕ)) (f : FileFault) → Fails picture_walk told f
     → OfRefusal (picture_fault f) (IsPictureRefusal told)
 picture_refused told NoMemory fails = tt
 picture_refused told Device fails = tt

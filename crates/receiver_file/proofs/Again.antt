@@ -39,7 +39,7 @@ use Rattle.receiver_file.specs.Front.{only_one, payload_type_at, payload_type_of
 use Rattle.receiver_file.specs.Numbers.{number_at}
 use Rattle.receiver_file.specs.Saved.{IsSaved, kept_of, timestamp_in}
 use Rattle.receiver_file.specs.StateFaults.{IsHead, block_front, frames_front, head_text}
-use Rattle.receiver_file.specs.StateReading.{all_held_at, end_at, held_at, new_of, state_at}
+use Rattle.receiver_file.specs.StateReading.{all_held_at, end_at, held_at, new_of, state_walk}
 use Rattle.receiver_file.specs.StateReading.{timestamp_at}
 use Rattle.receiver_file.proofs.Found.{behind_block, behind_frames, behind_head, with_head}
 use Rattle.receiver_file.proofs.Found.{with_kept}
@@ -216,22 +216,22 @@ abbrev Named : Type 0
 Named = Result (Unit {0} × List ℕ) FileFault
 
 pub state_named : (rest : List ℕ)
-    → state_at (kind_text receiver_name One ++ rest) ≡ (block_at rest >>= behind_block)
-unfolding state_at
+    → state_walk (kind_text receiver_name One ++ rest) ≡ (block_at rest >>= behind_block)
+unfolding state_walk
 state_named rest = ap (λ (r : Named). r >>= λ a. block_at a.1 >>= behind_block) (name_again rest)
 
 pub state_formed : (f : Fields) (rest : List ℕ) → IsFormat f
-    → state_at (block_front f ++ rest) ≡ (head_at rest >>= behind_head f)
+    → state_walk (block_front f ++ rest) ≡ (head_at rest >>= behind_head f)
 state_formed f rest is =
-    ap state_at (append_assoc (kind_text receiver_name One) (format_text f) rest)
+    ap state_walk (append_assoc (kind_text receiver_name One) (format_text f) rest)
     ∙ state_named (format_text f ++ rest)
     ∙ ap (λ (r : Result (Fields × List ℕ) FileFault). r >>= behind_block) (block_tells f rest is)
 
 pub state_headed : (f : Fields) (h : Head) (rest : List ℕ) → IsFormat f → IsHead h
-    → state_at ((block_front f ++ head_text h) ++ rest)
+    → state_walk ((block_front f ++ head_text h) ++ rest)
     ≡ (all_held_at f h.count [] rest >>= behind_frames f h)
 state_headed f h rest is head =
-    ap state_at (append_assoc (block_front f) (head_text h) rest)
+    ap state_walk (append_assoc (block_front f) (head_text h) rest)
     ∙ state_formed f (head_text h ++ rest) is
     ∙ ap (λ (r : Result (Head × List ℕ) FileFault). r >>= behind_head f) (head_again h rest head)
 
@@ -246,7 +246,7 @@ state_parts k =
 
 -- a whole file, and what stands behind it
 pub state_whole : (k : Kept) (rest : List ℕ) → IsSaved k
-    → state_at (state_text k ++ rest) ≡ (end_at rest >>= λ z. with_kept k z.1)
+    → state_walk (state_text k ++ rest) ≡ (end_at rest >>= λ z. with_kept k z.1)
 state_whole k rest is =
     let texts : List ℕ = flat_map (held_text k.format) k.frames in
     let some : 0 < length k.frames
@@ -258,15 +258,15 @@ state_whole k rest is =
       ssrc = is.kept.ssrc;
       count = record { some = some; most = few };
     } in
-    ap (λ (t : List ℕ). state_at (t ++ rest)) (sym (state_parts k))
-    ∙ ap state_at (append_assoc (block_front k.format ++ opening_text k) texts rest)
+    ap (λ (t : List ℕ). state_walk (t ++ rest)) (sym (state_parts k))
+    ∙ ap state_walk (append_assoc (block_front k.format ++ opening_text k) texts rest)
     ∙ state_headed k.format (head_of k) (texts ++ rest)
     (record { room = is.kept.room; is = is.format }) head
     ∙ ap (λ (r : Frames_read). r >>= behind_frames k.format (head_of k))
     (all_again k.format [] k.frames rest is.kept.frames (new_all [] k.frames is.window.different))
 
-pub state_again : (k : Kept) → IsSaved k → state_at (state_text k) ≡ Ok (k, [])
-state_again k is = ap state_at (sym (append-nil (state_text k))) ∙ state_whole k [] is
+pub state_again : (k : Kept) → IsSaved k → state_walk (state_text k) ≡ Ok (k, [])
+state_again k is = ap state_walk (sym (append-nil (state_text k))) ∙ state_whole k [] is
 
 -- ---- what a reader of receivers' files owes
 
@@ -280,17 +280,17 @@ ok_kept k rest = Ok (k, rest)
 abbrev failed : FileFault → Result (Kept × List ℕ) FileFault
 failed f = Err f
 
-only_ok : (k l : Kept) (octets : List ℕ) (new : Option (List ℕ)) → state_at octets ≡ Ok (k, [])
-    → Leaves (state_at octets) l new → l ≡ k
+only_ok : (k l : Kept) (octets : List ℕ) (new : Option (List ℕ)) → state_walk octets ≡ Ok (k, [])
+    → Leaves (state_walk octets) l new → l ≡ k
 only_ok k l octets None e p = absurd p
 only_ok k l octets (Some rest) e p = ap (kept_in l) (sym p ∙ e)
 
-clash : (k : Kept) (octets : List ℕ) (f : FileFault) → state_at octets ≡ Ok (k, [])
-    → state_at octets ≡ Err f → ⊥
+clash : (k : Kept) (octets : List ℕ) (f : FileFault) → state_walk octets ≡ Ok (k, [])
+    → state_walk octets ≡ Err f → ⊥
 clash k octets f e p = let bad : ok_kept k [] ≡ failed f = sym e ∙ p in absurd cc
 
-only_err : (k : Kept) (octets : List ℕ) (f : FileFault) → state_at octets ≡ Ok (k, [])
-    → IfContent f (state_at octets ≡ Err f) → IsMachine f
+only_err : (k : Kept) (octets : List ℕ) (f : FileFault) → state_walk octets ≡ Ok (k, [])
+    → IfContent f (state_walk octets ≡ Err f) → IsMachine f
 only_err k octets NoMemory e p = tt
 only_err k octets Device e p = tt
 only_err k octets BadName e p = clash k octets BadName e p
@@ -302,12 +302,12 @@ only_err k octets MixedGroup e p = clash k octets MixedGroup e p
 only_err k octets TooManyRecords e p = clash k octets TooManyRecords e p
 
 pub only_state : (old new : Option (List ℕ)) (r : Result State FileFault)
-    → IfOk r (λ s. Takes state_at old new (kept_of s)) → IfErr r (λ f. Fails state_at old f)
+    → IfOk r (λ s. Takes state_walk old new (kept_of s)) → IfErr r (λ f. Fails state_walk old f)
     → (k : Kept) → old ≡ Some (state_text k) → IsSaved k
     → MatchResult r (λ s. kept_of s ≡ k) IsMachine
 only_state old new (Ok s) p q k told is =
     only_ok k (kept_of s) (state_text k) new (state_again k is)
-    (subst (λ (o : Option (List ℕ)). Takes state_at o new (kept_of s)) told p)
+    (subst (λ (o : Option (List ℕ)). Takes state_walk o new (kept_of s)) told p)
 only_state old new (Err f) p q k told is =
     only_err k (state_text k) f (state_again k is)
-    (subst (λ (o : Option (List ℕ)). Fails state_at o f) told q)
+    (subst (λ (o : Option (List ℕ)). Fails state_walk o f) told q)

@@ -12,7 +12,7 @@ use Rattle.st_format.specs.Reading.{◌>>=◌}
 use Rattle.capture_file.specs.StateFile.{Kept}
 use Rattle.receiver_file.specs.Front.{head_at, name_at}
 use Rattle.receiver_file.specs.Saved.{kept_of}
-use Rattle.receiver_file.specs.StateReading.{all_held_at, end_at, state_at}
+use Rattle.receiver_file.specs.StateReading.{all_held_at, end_at, state_walk}
 
 abbrev Whole : Type 0
 Whole = Result (Kept × List ℕ) FileFault
@@ -33,8 +33,8 @@ end_rest : (octets : List ℕ) (k : Kept) → rest_of (end_at octets >>= λ z. w
 end_rest [] k = refl
 end_rest (x ∷ octets) k = refl
 
-state_rest : (octets : List ℕ) → rest_of (state_at octets) ≡ []
-unfolding state_at
+state_rest : (octets : List ℕ) → rest_of (state_walk octets) ≡ []
+unfolding state_walk
 state_rest octets =
     then_rest (name_at octets)
     (λ a. block_at a.1 >>= λ f. head_at f.1 >>= λ p. all_held_at f.0 p.0.count [] p.1 >>=
@@ -86,16 +86,16 @@ state_rest octets =
           h.0;
     })))))
 
-gives_end : (old new : Option (List ℕ)) (k : Kept) → Takes state_at old new k → (octets : List ℕ)
+gives_end : (old new : Option (List ℕ)) (k : Kept) → Takes state_walk old new k → (octets : List ℕ)
     → old ≡ Some octets → IsAtEnd new
 gives_end None new k p octets e = absurd cc
 gives_end (Some o) None k p octets e = absurd p
 gives_end (Some o) (Some rest) k p octets e = sym (ap rest_of p) ∙ state_rest o
 
 pub loaded_end : (old new : Option (List ℕ)) (r : Result State FileFault)
-    → IfOk r (λ s. Takes state_at old new (kept_of s))
+    → IfOk r (λ s. Takes state_walk old new (kept_of s))
     → IfOk r (λ s. (octets : List ℕ) → old ≡ Some octets → IsAtEnd new)
 loaded_end old new r p =
-    IfOk-weaker r (λ s. Takes state_at old new (kept_of s))
+    IfOk-weaker r (λ s. Takes state_walk old new (kept_of s))
     (λ s. (octets : List ℕ) → old ≡ Some octets → IsAtEnd new)
     (λ s. gives_end old new (kept_of s)) p

@@ -33,7 +33,7 @@ use Rattle.receiver_file.specs.Front.{payload_type_at, ssrc_at, ssrc_of}
 use Rattle.receiver_file.specs.Numbers.{number_at, octet_at}
 use Rattle.receiver_file.specs.Saved.{IsSaved, IsWritable, kept_of}
 use Rattle.receiver_file.specs.StateFaults.{flag_octet, head_text}
-use Rattle.receiver_file.specs.StateReading.{all_held_at, end_at, held_at, state_at, timestamp_at}
+use Rattle.receiver_file.specs.StateReading.{all_held_at, end_at, held_at, state_walk, timestamp_at}
 use Rattle.receiver_file.proofs.GroupsFound.{behind, cut_takes, groups_take}
 use Rattle.receiver_file.proofs.Savable.{writable_saved}
 
@@ -329,9 +329,10 @@ behind_head f p = all_held_at f p.0.count [] p.1 >>= λ h. behind_frames f p.0 h
 abbrev pub behind_block : Fields × List ℕ → Result (Kept × List ℕ) FileFault
 behind_block f = head_at f.1 >>= λ p. behind_head f.0 p
 
-pub state_takes : (octets : List ℕ) (x : Kept × List ℕ) → AreOctets octets → state_at octets ≡ Ok x
+pub state_takes : (octets : List ℕ) (x : Kept × List ℕ) → AreOctets octets
+    → state_walk octets ≡ Ok x
     → octets ≡ state_text x.0
-unfolding state_at
+unfolding state_walk
 state_takes octets x bytes e =
     let a = split_then (name_at octets) (λ y. block_at y.1 >>= λ f. behind_block f) x e in
     let b = split_then (block_at a.first.1) (λ f. behind_block f) x a.next in
@@ -372,18 +373,18 @@ state_takes octets x bytes e =
 -- ---- what a reader of receivers' files owes
 
 text_by : (k : Kept) (octets : List ℕ) (new : Option (List ℕ)) → AreOctets octets
-    → Leaves (state_at octets) k new → octets ≡ state_text k
+    → Leaves (state_walk octets) k new → octets ≡ state_text k
 text_by k octets None bytes p = absurd p
 text_by k octets (Some rest) bytes p = state_takes octets (k, rest) bytes p
 
-text_told : (k : Kept) (old new : Option (List ℕ)) → TellsOctets old → Takes state_at old new k
+text_told : (k : Kept) (old new : Option (List ℕ)) → TellsOctets old → Takes state_walk old new k
     → (octets : List ℕ) → old ≡ Some octets → octets ≡ state_text k
 text_told k old new bytes p octets told =
     text_by k octets new (subst TellsOctets told bytes)
-    (subst (λ (o : Option (List ℕ)). Takes state_at o new k) told p)
+    (subst (λ (o : Option (List ℕ)). Takes state_walk o new k) told p)
 
 pub found_state : (old new : Option (List ℕ)) (r : Result State FileFault)
-    → IfOk r (λ s. Takes state_at old new (kept_of s)) → TellsOctets old
+    → IfOk r (λ s. Takes state_walk old new (kept_of s)) → TellsOctets old
     → IfOk r IsWritable
     → IfOk r (λ s. (octets : List ℕ) → old ≡ Some octets
     → (octets ≡ state_text (kept_of s)) × IsSaved (kept_of s))

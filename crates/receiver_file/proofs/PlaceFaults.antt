@@ -20,11 +20,13 @@ use Rattle.receiver_file.specs.declared.front.Head.{Head}
 use Rattle.receiver_file.specs.Front.{count_at, flag_at, head_at, payload_type_at, ssrc_at}
 use Rattle.receiver_file.specs.Saved.{timestamp_in}
 use Rattle.receiver_file.specs.StateFaults.{AreFewer, IsBadAt, IsCutAt, IsHead, IsMixedAt, IsSaid}
-use Rattle.receiver_file.specs.StateFaults.{FieldPlace, block_front, flag_octet, frames_front, head_text}
+use Rattle.receiver_file.specs.StateFaults.{FieldPlace, block_front, flag_octet, frames_front}
+use Rattle.receiver_file.specs.StateFaults.{head_text}
 use Rattle.receiver_file.specs.StateFaults.{shape_by, text_before}
-use Rattle.receiver_file.specs.StateFaults.FieldPlace.{AtBlock, AtPayloadType, AtFlag, AtSource, AtCount}
+use Rattle.receiver_file.specs.StateFaults.FieldPlace.{AtBlock, AtPayloadType, AtFlag, AtSource}
+use Rattle.receiver_file.specs.StateFaults.FieldPlace.{AtCount}
 use Rattle.receiver_file.specs.StateFaults.FieldPlace.{AtTimestamp, AtGroup}
-use Rattle.receiver_file.specs.StateReading.{all_held_at, held_at, state_at, timestamp_at}
+use Rattle.receiver_file.specs.StateReading.{all_held_at, held_at, state_walk, timestamp_at}
 use Rattle.receiver_file.proofs.Again.{Frames_read, flag_off, flag_on, new_all, ssrc_again}
 use Rattle.receiver_file.proofs.Again.{state_formed, state_headed, state_named, type_again}
 use Rattle.receiver_file.proofs.FieldFaults.{block_fault, block_none, count_fails, count_gone}
@@ -141,7 +143,7 @@ abbrev behind_flag : Bool × List ℕ → Result (Option ℕ × List ℕ) FileFa
 behind_flag y = source_at y.0 y.1
 
 front_fails : (f : Fields) (octets : List ℕ) (e : FileFault) → IsFormat f → head_at octets ≡ Err e
-    → state_at (block_front f ++ octets) ≡ Err e
+    → state_walk (block_front f ++ octets) ≡ Err e
 front_fails f octets e is h
     = state_formed f octets is ∙ ap (λ (r : Headed). r >>= behind_head f) h
 
@@ -180,37 +182,37 @@ ssrc_source true octets e h
 
 frames_end : (f : Fields) (h : Head) (hs : List Held) (octets : List ℕ) (e : FileFault)
     → AreFewer f h hs → held_at f (map timestamp_in hs) octets ≡ Err e
-    → state_at (frames_front f h hs ++ octets) ≡ Err e
+    → state_walk (frames_front f h hs ++ octets) ≡ Err e
 frames_end f h hs octets e said x =
     let texts : List ℕ = flat_map (held_text f) hs in
-    ap state_at (append_assoc (block_front f ++ head_text h) texts octets)
+    ap state_walk (append_assoc (block_front f ++ head_text h) texts octets)
     ∙ state_headed f h (texts ++ octets) said.format said.head
     ∙ ap (λ (r : Frames_read). r >>= behind_frames f h)
     (frames_stop f h.count [] hs octets e said.held (new_all [] hs said.different) said.fewer x)
 
 pub place_fails : (place : FieldPlace) (octets : List ℕ) (e : FileFault) → IsSaid place
-    → FailsAt place octets e → state_at (text_before place ++ octets) ≡ Err e
+    → FailsAt place octets e → state_walk (text_before place ++ octets) ≡ Err e
 place_fails AtBlock octets e said x =
     state_named octets ∙ ap (λ (r : Result (Fields × List ℕ) FileFault). r >>= behind_block) x
 place_fails (AtPayloadType f) octets e said x = front_fails f octets e said (head_type octets e x)
 place_fails (AtFlag f type) octets e said x =
-    ap state_at (append_assoc (block_front f) (type ∷ []) octets)
+    ap state_walk (append_assoc (block_front f) (type ∷ []) octets)
     ∙ front_fails f (type ∷ octets) e said.0
     (head_ssrc type octets e said.1 (ssrc_flag octets e x))
 place_fails (AtSource f type pinned) octets e said x =
     let flag : ℕ = flag_octet pinned in
-    ap state_at (append_assoc (block_front f) (type ∷ flag ∷ []) octets)
+    ap state_walk (append_assoc (block_front f) (type ∷ flag ∷ []) octets)
     ∙ front_fails f (type ∷ flag ∷ octets) e said.0
     (head_ssrc type (flag ∷ octets) e said.1 (ssrc_source pinned octets e x))
 place_fails (AtCount f type ssrc) octets e said x =
-    ap state_at (append_assoc (block_front f) (type ∷ ssrc_text ssrc) octets)
+    ap state_walk (append_assoc (block_front f) (type ∷ ssrc_text ssrc) octets)
     ∙ front_fails f (type ∷ (ssrc_text ssrc ++ octets)) e said.0.0
     (head_count type ssrc octets e said.0.1 said.1 x)
 place_fails (AtTimestamp f h frames) octets e said x =
     frames_end f h frames octets e said (held_stamp f (map timestamp_in frames) octets e x)
 place_fails (AtGroup f h frames t gs) octets e said x =
     let begun : List ℕ = to_be_bytes w32 t ++ groups_text (shape_by f) gs in
-    ap state_at (append_assoc (frames_front f h frames) begun octets)
+    ap state_walk (append_assoc (frames_front f h frames) begun octets)
     ∙ frames_end f h frames (begun ++ octets) e said.0
     (held_groups f (map timestamp_in frames) t gs octets e
     (record { fits = said.1.fits; new = said.1.new }) said.1.groups said.1.fewer x)

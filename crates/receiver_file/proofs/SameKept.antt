@@ -16,7 +16,7 @@ use Rattle.capture_file.specs.StateFile.{Held, Kept, group_count, state_text}
 use Rattle.capture_file.proofs.Once.{cells_once}
 use Rattle.receiver_file.specs.Known.{shape_in}
 use Rattle.receiver_file.specs.Saved.{IsSaved, IsWritable, kept_frames, kept_of, timestamp_in}
-use Rattle.receiver_file.specs.StateReading.{state_at}
+use Rattle.receiver_file.specs.StateReading.{state_walk}
 use Rattle.receiver_file.proofs.Again.{kept_in, only_state, state_again}
 use Rattle.receiver_file.proofs.Savable.{writable_saved}
 use Rattle.receiver_file.proofs.Stamped.{kept_stamps}
@@ -111,7 +111,7 @@ same_held r s a b e =
 
 -- a receiver that is read of another's file
 pub same_read : (s r : State) → IsWritable s → IsReceiver r
-    → state_at (state_text (kept_of s)) ≡ Ok (kept_of r, [])
+    → state_walk (state_text (kept_of s)) ≡ Ok (kept_of r, [])
     → (r.opening ≡ s.opening) × (r.frames ≡ s.frames)
 same_read s r is b e =
     let kept : kept_of r ≡ kept_of s =
@@ -121,7 +121,7 @@ same_read s r is b e =
 -- ---- what is answered of a receiver's file
 
 pub loaded_same : (old new : Option (List ℕ)) (r : Result State FileFault)
-    → IfOk r (λ x. Takes state_at old new (kept_of x)) → IfErr r (λ f. Fails state_at old f)
+    → IfOk r (λ x. Takes state_walk old new (kept_of x)) → IfErr r (λ f. Fails state_walk old f)
     → IfOk r IsReceiver → (s : State) → old ≡ Some (state_text (kept_of s)) → IsReceiver s
     → IsSaved (kept_of s) → IfOk r (λ x. (x.opening ≡ s.opening) × (x.frames ≡ s.frames))
 loaded_same old new (Err f) p q a s told b is = tt

@@ -34,11 +34,12 @@ use Rattle.receiver_file.specs.declared.front.Head.{Head}
 use Rattle.receiver_file.specs.Front.{head_at, name_at, only_one}
 use Rattle.receiver_file.specs.Saved.{IsSaved, frames_text, timestamp_in}
 use Rattle.receiver_file.specs.StateFaults.{HasMore, HasPlace, IsBadAt, IsCutAt, IsCutState, IsHead}
-use Rattle.receiver_file.specs.StateFaults.{IsMixedAt, IsSaid, FieldPlace, IsStateFault, block_front}
+use Rattle.receiver_file.specs.StateFaults.{IsMixedAt, IsSaid, FieldPlace, IsStateFault}
+use Rattle.receiver_file.specs.StateFaults.{block_front}
 use Rattle.receiver_file.specs.StateFaults.{head_text, text_before}
 use Rattle.receiver_file.specs.StateFaults.IsCutState.{Kind, Field}
 use Rattle.receiver_file.specs.StateFaults.FieldPlace.{AtBlock}
-use Rattle.receiver_file.specs.StateReading.{all_held_at, end_at, state_at}
+use Rattle.receiver_file.specs.StateReading.{all_held_at, end_at, state_walk}
 use Rattle.receiver_file.proofs.Again.{head_of, state_parts, state_whole}
 use Rattle.receiver_file.proofs.FieldFaults.{head_read}
 use Rattle.receiver_file.proofs.Found.{behind_block, behind_frames, behind_head, head_takes}
@@ -101,25 +102,25 @@ name_fails octets e h =
           (kind_takes receiver_name octets t.first t.is) t.next
     ]
 
-name_stops : (octets : List ℕ) (e : FileFault) → name_at octets ≡ Err e → state_at octets ≡ Err e
-unfolding state_at
+name_stops : (octets : List ℕ) (e : FileFault) → name_at octets ≡ Err e → state_walk octets ≡ Err e
+unfolding state_walk
 name_stops octets e h = ap (λ (r : Named). r >>= behind_name) h
 
 kind_stops : (octets : List ℕ) (e : FileFault) → kind_at receiver_name octets ≡ Err e
-    → state_at octets ≡ Err e
+    → state_walk octets ≡ Err e
 unfolding name_at
 kind_stops octets e h
     = name_stops octets e (ap (λ (r : Result Kinded FileFault). r >>= only) h)
 
 two_stops : (octets rest : List ℕ) → octets ≡ kind_text receiver_name Two ++ rest
-    → state_at octets ≡ Err BadVersion
+    → state_walk octets ≡ Err BadVersion
 unfolding name_at
 two_stops octets rest whole =
     name_stops octets BadVersion (ap (λ (o : List ℕ). kind_at receiver_name o >>= only) whole
     ∙ ap (λ (r : Result Kinded FileFault). r >>= only) (kind_tells receiver_name Two rest refl))
 
 version_stops : (octets : List ℕ) (h : HasOtherThanOne receiver_name octets) (b : Bool)
-    → bytes_eq h.version (codes "02") ≡ b → state_at octets ≡ Err BadVersion
+    → bytes_eq h.version (codes "02") ≡ b → state_walk octets ≡ Err BadVersion
 version_stops octets h true e =
     let same : h.version ≡ codes "02" = (bytes_eq-Decides h.version (codes "02")).0 e in
     two_stops octets h.kind.behind (h.kind.whole
@@ -134,7 +135,8 @@ version_stops octets h false e =
 
 -- ---- what is read has the fault
 
-standing : (octets : List ℕ) (IsWrong : FieldPlace → List ℕ → Type 0) (place : FieldPlace) (rest : List ℕ)
+standing : (octets : List ℕ) (IsWrong : FieldPlace → List ℕ
+    → Type 0) (place : FieldPlace) (rest : List ℕ)
     → IsSaid place → octets ≡ text_before place ++ rest → IsWrong place rest
     → HasPlace IsWrong octets
 standing octets IsWrong place rest said whole wrong =
@@ -278,9 +280,9 @@ head_fault octets x e bytes b h =
           (headed x.0 octets x.1 c.first b.whole b.bytes c.is) c.next
     ]
 
-pub state_fails : (e : FileFault) (octets : List ℕ) → AreOctets octets → state_at octets ≡ Err e
+pub state_fails : (e : FileFault) (octets : List ℕ) → AreOctets octets → state_walk octets ≡ Err e
     → IsStateFault e octets
-unfolding state_at
+unfolding state_walk
 state_fails e octets bytes h =
     elim (split_fails (name_at octets) behind_name e h) [
       | inl p ↦ name_fails octets e p
@@ -297,9 +299,10 @@ state_fails e octets bytes h =
 
 -- ---- what is read can be written
 
-pub state_saved : (octets : List ℕ) (x : Kept × List ℕ) → AreOctets octets → state_at octets ≡ Ok x
+pub state_saved : (octets : List ℕ) (x : Kept × List ℕ) → AreOctets octets
+    → state_walk octets ≡ Ok x
     → IsSaved x.0
-unfolding state_at
+unfolding state_walk
 state_saved octets x bytes h =
     let a = split_then (name_at octets) behind_name x h in
     let b = split_then (block_at a.first.1) behind_block x a.next in
@@ -318,34 +321,34 @@ state_saved octets x bytes h =
 
 -- ---- what has the fault is read so
 
-place_tells : (octets : List ℕ) (e : FileFault) (r : Reached octets e) → state_at octets ≡ Err e
+place_tells : (octets : List ℕ) (e : FileFault) (r : Reached octets e) → state_walk octets ≡ Err e
 place_tells octets e r
-    = ap state_at r.whole ∙ place_fails r.place r.behind e r.said r.fails
+    = ap state_walk r.whole ∙ place_fails r.place r.behind e r.said r.fails
 
-cut_tells : (octets : List ℕ) → IsCutState octets → state_at octets ≡ Err Truncated
+cut_tells : (octets : List ℕ) → IsCutState octets → state_walk octets ≡ Err Truncated
 cut_tells octets (Kind lt) = kind_stops octets Truncated (kind_cut receiver_name octets lt)
 cut_tells octets (Field p) =
     place_tells octets Truncated (reached p.place octets p.behind Truncated p.said p.whole
     (cut_at p.place p.behind p.wrong))
 
 bad_tells : (octets : List ℕ) → AreOctets octets → HasPlace IsBadAt octets
-    → state_at octets ≡ Err BadField
+    → state_walk octets ≡ Err BadField
 bad_tells octets bytes p =
     place_tells octets BadField (reached p.place octets p.behind BadField p.said p.whole
     (bad_at p.place p.behind (behind (text_before p.place) octets p.behind bytes p.whole) p.wrong))
 
-mixed_tells : (octets : List ℕ) → HasPlace IsMixedAt octets → state_at octets ≡ Err MixedGroup
+mixed_tells : (octets : List ℕ) → HasPlace IsMixedAt octets → state_walk octets ≡ Err MixedGroup
 mixed_tells octets p =
     place_tells octets MixedGroup (reached p.place octets p.behind MixedGroup p.said p.whole
     (mixed_at_place p.place p.behind p.wrong))
 
-more_tells : (octets : List ℕ) → HasMore octets → state_at octets ≡ Err TrailingBytes
+more_tells : (octets : List ℕ) → HasMore octets → state_walk octets ≡ Err TrailingBytes
 more_tells octets h =
-    ap state_at h.whole ∙ state_whole h.kept h.behind h.is
+    ap state_walk h.whole ∙ state_whole h.kept h.behind h.is
     ∙ ap (λ (r : Named). r >>= λ z. with_kept h.kept z.1) (end_found h.behind h.more)
 
 pub state_tells : (e : FileFault) (octets : List ℕ) → AreOctets octets → IsStateFault e octets
-    → state_at octets ≡ Err e
+    → state_walk octets ≡ Err e
 state_tells BadName octets bytes h = kind_stops octets BadName (name_tells receiver_name octets h)
 state_tells BadVersion octets bytes h
     = version_stops octets h (bytes_eq h.version (codes "02")) refl
@@ -372,21 +375,21 @@ StateOr octets =
     ⊎ ((f : FileFault) × IsStateFault f octets)
 
 either : (octets : List ℕ) (r : Result (Kept × List ℕ) FileFault) → AreOctets octets
-    → state_at octets ≡ r → StateOr octets
+    → state_walk octets ≡ r → StateOr octets
 either octets (Ok x) bytes e
     = inl (x.0, state_saved octets x bytes e, state_takes octets x bytes e)
 either octets (Err f) bytes e = inr (f, state_fails f octets bytes e)
 
 pub state_or_fault : (octets : List ℕ) → AreOctets octets → StateOr octets
-state_or_fault octets bytes = either octets (state_at octets) bytes refl
+state_or_fault octets bytes = either octets (state_walk octets) bytes refl
 
 -- ---- what a reader of receivers' files owes
 
 pub wrong_state : (old : Option (List ℕ)) (r : Result State FileFault) → TellsOctets old
-    → IfErr r (λ f. Fails state_at old f)
+    → IfErr r (λ f. Fails state_walk old f)
     → IfErr r (λ f. (octets : List ℕ) → old ≡ Some octets → IfContent f (IsStateFault f octets))
 wrong_state old (Ok s) bytes p = tt
 wrong_state old (Err f) bytes p =
-    λ octets told. if_content_weaker f (state_at octets ≡ Err f) (IsStateFault f octets)
+    λ octets told. if_content_weaker f (state_walk octets ≡ Err f) (IsStateFault f octets)
     (λ e. state_fails f octets (subst TellsOctets told bytes) e)
-    (subst (λ (o : Option (List ℕ)). Fails state_at o f) told p)
+    (subst (λ (o : Option (List ℕ)). Fails state_walk o f) told p)

@@ -16,7 +16,7 @@ use Rattle.capture_file.proofs.Parsing.{fails_first, fails_then, gives_then, the
 use Rattle.receiver_file.specs.declared.front.Head.{Head}
 use Rattle.receiver_file.specs.Front.{head_at, name_at}
 use Rattle.receiver_file.specs.Saved.{kept_frames, kept_of}
-use Rattle.receiver_file.specs.StateReading.{all_held_at, end_at, state_at}
+use Rattle.receiver_file.specs.StateReading.{all_held_at, end_at, state_walk}
 use Rattle.receiver_file.proofs.Valued.{memory_fails, value_cut, value_gives, valued}
 
 -- ---- the parts
@@ -38,27 +38,27 @@ abbrev behind_name : Unit {0} → List ℕ → Result (Kept × List ℕ) FileFau
 behind_name u octets = then_reads block_at behind_format octets
 
 pub state_name : (old : Option (List ℕ)) (e : FileFault) → Fails name_at old e
-    → Fails state_at old e
-unfolding state_at
+    → Fails state_walk old e
+unfolding state_walk
 state_name old e p = fails_first name_at behind_name old e p
 
 pub state_format : (old a : Option (List ℕ)) (e : FileFault) → Takes name_at old a tt
-    → Fails block_at a e → Fails state_at old e
-unfolding state_at
+    → Fails block_at a e → Fails state_walk old e
+unfolding state_walk
 state_format old a e n p =
     fails_then name_at behind_name old a tt e n (fails_first block_at behind_format a e p)
 
 pub state_head : (old a b : Option (List ℕ)) (f : Fields) (e : FileFault) → Takes name_at old a tt
-    → Takes block_at a b f → Fails head_at b e → Fails state_at old e
-unfolding state_at
+    → Takes block_at a b f → Fails head_at b e → Fails state_walk old e
+unfolding state_walk
 state_head old a b f e n m p =
     fails_then name_at behind_name old a tt e n
     (fails_then block_at behind_format a b f e m (fails_first head_at (behind_head f) b e p))
 
 pub state_frames : (old a b c : Option (List ℕ)) (f : Fields) (h : Head) (e : FileFault)
     → Takes name_at old a tt → Takes block_at a b f → Takes head_at b c h
-    → Fails (all_held_at f h.count []) c e → Fails state_at old e
-unfolding state_at
+    → Fails (all_held_at f h.count []) c e → Fails state_walk old e
+unfolding state_walk
 state_frames old a b c f h e n m k p =
     fails_then name_at behind_name old a tt e n
     (fails_then block_at behind_format a b f e m
@@ -67,8 +67,8 @@ state_frames old a b c f h e n m k p =
 
 pub state_end : (old a b c d : Option (List ℕ)) (f : Fields) (h : Head) (hs : List Held)
     (e : FileFault) → Takes name_at old a tt → Takes block_at a b f → Takes head_at b c h
-    → Takes (all_held_at f h.count []) c d hs → Fails end_at d e → Fails state_at old e
-unfolding state_at
+    → Takes (all_held_at f h.count []) c d hs → Fails end_at d e → Fails state_walk old e
+unfolding state_walk
 state_end old a b c d f h hs e n m k l p =
     fails_then name_at behind_name old a tt e n
     (fails_then block_at behind_format a b f e m
@@ -79,9 +79,9 @@ state_end old a b c d f h hs e n m k l p =
 pub state_gives : (old a b c d new : Option (List ℕ)) (f : Fields) (h : Head) (hs : List Held)
     → Takes name_at old a tt → Takes block_at a b f → Takes head_at b c h
     → Takes (all_held_at f h.count []) c d hs → Takes end_at d new tt
-    → Takes state_at old new
+    → Takes state_walk old new
     (record { format = f; payload_type = h.payload_type; ssrc = h.ssrc; frames = hs })
-unfolding state_at
+unfolding state_walk
 state_gives old a b c d new f h hs n m k l p =
     let all : Kept =
     record { format = f; payload_type = h.payload_type; ssrc = h.ssrc; frames = hs } in
@@ -105,7 +105,7 @@ kept_by o rs =
 
 pub state_made : (old new : Option (List ℕ)) (f : Format) (h : Head) (w : List ℕ)
     (rs : List Raster) (r : Result State FileFault)
-    → Takes state_at old new
+    → Takes state_walk old new
     (record {
       format = fields_of f;
       payload_type = h.payload_type;
@@ -116,16 +116,16 @@ pub state_made : (old new : Option (List ℕ)) (f : Format) (h : Head) (w : List
     → IfOk r
     (λ s. s.opening
     ≡ record { format = f; payload_type = h.payload_type; ssrc = h.ssrc; window = w })
-    → IfOk r (λ s. s.frames ≡ rs) → IfOk r (λ s. Takes state_at old new (kept_of s))
+    → IfOk r (λ s. s.frames ≡ rs) → IfOk r (λ s. Takes state_walk old new (kept_of s))
 state_made old new f h w rs (Err e) p opening frames = tt
 state_made old new f h w rs (Ok s) p opening frames =
     let o : Opening =
     record { format = f; payload_type = h.payload_type; ssrc = h.ssrc; window = w } in
-    subst (λ (x : Opening). Takes state_at old new (kept_by x s.frames)) (sym opening)
-    (subst (λ (x : List Raster). Takes state_at old new (kept_by o x)) (sym frames) p)
+    subst (λ (x : Opening). Takes state_walk old new (kept_by x s.frames)) (sym opening)
+    (subst (λ (x : List Raster). Takes state_walk old new (kept_by o x)) (sym frames) p)
 
 pub state_memory : (old : Option (List ℕ)) (r : Result State FileFault)
-    → IfErr r (λ f. f ≡ NoMemory) → IfErr r (λ f. Fails state_at old f)
+    → IfErr r (λ f. f ≡ NoMemory) → IfErr r (λ f. Fails state_walk old f)
 state_memory old (Ok s) e = tt
 state_memory old (Err f) e =
-    subst (λ (x : FileFault). Fails state_at old x) (sym e) (memory_fails state_at old)
+    subst (λ (x : FileFault). Fails state_walk old x) (sym e) (memory_fails state_walk old)

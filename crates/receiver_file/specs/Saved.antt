@@ -11,7 +11,8 @@ use Rattle.path_merge.specs.Frames.{IsReceiver, State}
 use Rattle.path_merge.specs.Opening.{IsWindow}
 use Rattle.capture_file.specs.declared.front.Version.TheVariants.{One}
 use Rattle.capture_file.specs.Fronts.{kind_text, receiver_name}
-use Rattle.capture_file.specs.StateFile.{Held, IsKeptReceiver, Kept, SsrcFits, cut_cells, format_text}
+use Rattle.capture_file.specs.StateFile.{Held, IsKeptReceiver, Kept, SsrcFits, cut_cells}
+use Rattle.capture_file.specs.StateFile.{format_text}
 use Rattle.capture_file.specs.StateFile.{group_count, held_of, held_text, opening_text}
 
 -- what is kept of frames, one for each timestamp

@@ -39,9 +39,9 @@ abbrev pub end_at : List ℕ → Result (Unit {0} × List ℕ) FileFault
 end_at [] = Ok (tt, [])
 end_at (x ∷ octets) = Err TrailingBytes
 
--- a receiver's file
-unfoldable pub state_at : List ℕ → Result (Kept × List ℕ) FileFault
-state_at octets =
+-- the walk from the left: a receiver's file, or the first fault
+unfoldable pub state_walk : List ℕ → Result (Kept × List ℕ) FileFault
+state_walk octets =
     name_at octets >>= λ a. block_at a.1 >>= λ f. head_at f.1 >>=
     λ p. all_held_at f.0 p.0.count [] p.1 >>= λ h. end_at h.1 >>= λ z.
     Ok (

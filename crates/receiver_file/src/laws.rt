@@ -7,7 +7,7 @@ ghost use Rattle.capture_file.specs.declared.fault.FileFault.{FileFault};
 ghost use Rattle.capture_file.specs.StateFile.{Kept, state_text};
 ghost use Rattle.receiver_file.specs.Saved.{IsSaved, kept_of};
 ghost use Rattle.receiver_file.specs.StateFaults.{IsStateFault};
-ghost use Rattle.receiver_file.specs.StateReading.{state_at};
+ghost use Rattle.receiver_file.specs.StateReading.{state_walk};
 
 /// Receivers opened alike that took the same datagrams, by either path, in any order and with any
 /// repeats, have equal files (SMPTE ST 2022-7).
@@ -20,7 +20,7 @@ pub fn equal_files()
 /// Octets are read as a receiver's file with a fault exactly where the fault's condition holds.
 pub fn state_fault()
     ensures { (f : FileFault) (octets : List ℕ) → AreOctets octets
-        → (state_at octets ≡ Err f) ↔ IsStateFault f octets }
+        → (state_walk octets ≡ Err f) ↔ IsStateFault f octets }
 {}
 
 /// At most one fault's condition holds of a receiver's file.

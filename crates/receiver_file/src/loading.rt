@@ -10,7 +10,7 @@ ghost use Rattle.capture_file.specs.Fields.{Fails, Takes};
 ghost use Rattle.capture_file.specs.StateFile.{Kept, state_text};
 ghost use Rattle.receiver_file.specs.Saved.{IsSaved, IsWritable, kept_of};
 ghost use Rattle.receiver_file.specs.StateFaults.{IsStateFault};
-ghost use Rattle.receiver_file.specs.StateReading.{end_at, state_at};
+ghost use Rattle.receiver_file.specs.StateReading.{end_at, state_walk};
 
 use crate::frames::{Frames, read_frames};
 use crate::front::{Head, read_head, read_name};
@@ -35,9 +35,6 @@ pub fn load_receiver<A: Allocator + Copy, S: ByteSource>(
     alloc: A,
     source: &mut S,
 ) -> Result<Receiver<A>, FileFault>
-    ensures read { IfOk result
-        (λ r. Takes state_at (S.to_give source.old) (S.to_give source.new) (kept_of r)) }
-    ensures fault { IfErr result (λ f. Fails state_at (S.to_give source.old) f) }
     ensures counted { CountsDevice (S.failures source.old) (S.failures source.new) result }
     ensures receiver { IfOk result (λ r. IsReceiver r) }
     ensures refusals { IfOk result (λ r. r.refusals ≡ []) }
@@ -63,6 +60,10 @@ pub fn load_receiver<A: Allocator + Copy, S: ByteSource>(
     ensures holds { (s : State) (datagrams : List (List ℕ))
         → S.to_give source.old ≡ Some (state_text (kept_of s)) → IsWritable s
         → Holds s datagrams → IfOk result (λ r. Holds r datagrams) }
+    // The same by the walk from the left, for the walks that go on from it.
+    ensures read { IfOk result
+        (λ r. Takes state_walk (S.to_give source.old) (S.to_give source.new) (kept_of r)) }
+    ensures fault { IfErr result (λ f. Fails state_walk (S.to_give source.old) f) }
 {
     read_receiver(alloc, source)
 }
@@ -73,8 +74,8 @@ fn read_receiver<A: Allocator + Copy, S: ByteSource>(
     source: &mut S,
 ) -> Result<Receiver<A>, FileFault>
     ensures read { IfOk result
-        (λ r. Takes state_at (S.to_give source.old) (S.to_give source.new) (kept_of r)) }
-    ensures fault { IfErr result (λ f. Fails state_at (S.to_give source.old) f) }
+        (λ r. Takes state_walk (S.to_give source.old) (S.to_give source.new) (kept_of r)) }
+    ensures fault { IfErr result (λ f. Fails state_walk (S.to_give source.old) f) }
     ensures counted { CountsDevice (S.failures source.old) (S.failures source.new) result }
     ensures octets { TellsOctets (S.to_give source.old) }
     ensures receiver { IfOk result (λ r. IsReceiver r) }

@@ -8,7 +8,7 @@ ghost use Rattle.capture_file.specs.Faults.{CountsDevice, IsDevice};
 ghost use Rattle.capture_file.specs.StateFile.{opening_text, ssrc_text, state_text};
 ghost use Rattle.receiver_file.specs.Saved.{IsWritable, kept_of};
 ghost use Rattle.receiver_file.specs.Saved.{frame_text, frames_text, front_text};
-ghost use Rattle.receiver_file.specs.StateReading.{state_at};
+ghost use Rattle.receiver_file.specs.StateReading.{state_walk};
 
 use crate::rows::write_rows;
 use crate::telling::tell_receiver;
@@ -42,10 +42,10 @@ pub fn save_receiver<A: Allocator, K: ByteSink>(
     ensures counted { CountsDevice (K.failures sink.old) (K.failures sink.new) result }
     // Each receiver can be written: its file is read, to its end, as what is kept of it,
     ensures writable { IsWritable receiver.now }
-    ensures again { state_at (state_text (kept_of receiver.now)) ≡ Ok (kept_of receiver.now, []) }
+    ensures again { state_walk (state_text (kept_of receiver.now)) ≡ Ok (kept_of receiver.now, []) }
     // and a receiver that is read of it is this one, its refusals aside.
     ensures same { (s : State) → IsReceiver s
-        → state_at (state_text (kept_of receiver.now)) ≡ Ok (kept_of s, [])
+        → state_walk (state_text (kept_of receiver.now)) ≡ Ok (kept_of s, [])
         → (s.opening ≡ receiver.now.opening) × (s.frames ≡ receiver.now.frames) }
 {
     tell_receiver(receiver);

@@ -4,7 +4,7 @@ ghost use Rattle.std.specs.List.{AllByRecursion};
 ghost use Rattle.path_merge.specs.Frames.{IsReceiver, State};
 ghost use Rattle.capture_file.specs.StateFile.{SsrcFits, state_text};
 ghost use Rattle.receiver_file.specs.Saved.{IsFilled, IsWritable, kept_of};
-ghost use Rattle.receiver_file.specs.StateReading.{state_at};
+ghost use Rattle.receiver_file.specs.StateReading.{state_walk};
 
 use frame_assembly::Frame;
 use path_merge::Receiver;
@@ -13,9 +13,9 @@ use std::alloc::Allocator;
 /// What is always so of a receiver. It only asks for what a proof needs: no cell is looked at.
 pub(crate) fn tell_receiver<A: Allocator>(receiver: &Receiver<A>)
     ensures writable { IsWritable receiver.now }
-    ensures again { state_at (state_text (kept_of receiver.now)) ≡ Ok (kept_of receiver.now, []) }
+    ensures again { state_walk (state_text (kept_of receiver.now)) ≡ Ok (kept_of receiver.now, []) }
     ensures same { (s : State) → IsReceiver s
-        → state_at (state_text (kept_of receiver.now)) ≡ Ok (kept_of s, [])
+        → state_walk (state_text (kept_of receiver.now)) ≡ Ok (kept_of s, [])
         → (s.opening ≡ receiver.now.opening) × (s.frames ≡ receiver.now.frames) }
 {
     tell_all(receiver);

@@ -94,9 +94,11 @@ fn gives_first(
     after: Result<Turn, SourceFault>,
 ) -> Result<bool, AllocError> {
     let mut buf = vec![in alloc; 0u8; 65535]?;
-    Ok(receive_capture(reader, receiver, &mut buf, 10) == answer
-        && counts(receiver, 900) == Some(counted(8, 8, 0))
-        && reader.next(&mut buf) == after)
+    Ok(
+        receive_capture(reader, receiver, &mut buf, 10) == answer
+            && counts(receiver, 900) == Some(counted(8, 8, 0))
+            && reader.next(&mut buf) == after,
+    )
 }
 
 /// The same of a file that is a capture, and of a new receiver.
@@ -120,7 +122,10 @@ fn capture_receive(rt: HostRuntime) -> Result<(), Fail> {
         delivered: 1,
         ended: true,
     };
-    met(&rt, is_received(rt.alloc(), OLD, Ok(received), Ok(Turn::End))?);
+    met(
+        &rt,
+        is_received(rt.alloc(), OLD, Ok(received), Ok(Turn::End))?,
+    );
     Ok(())
 }
 
@@ -131,7 +136,10 @@ fn cut_capture(rt: HostRuntime) -> Result<(), Fail> {
         delivered: 1,
         fault: truncated,
     };
-    met(&rt, is_received(rt.alloc(), CUT, Err(fault), Err(truncated))?);
+    met(
+        &rt,
+        is_received(rt.alloc(), CUT, Err(fault), Err(truncated))?,
+    );
     Ok(())
 }
 

@@ -15,7 +15,8 @@ from_samples-requires g c =
     let d = c.depth-depth.ensures ∙ ap (λ f. f.depth) form in
     let is =
     made v c.format-format.result c.in_ok-samples.samples.items
-    (λ k x. changed_by c.args.change (bits_of v.format.depth) (is_colour v.format.sampling k) x) form
+    (λ k x. changed_by c.args.change (bits_of v.format.depth) (is_colour v.format.sampling k) x)
+    form
     c.samples.ensures.whole (c.in_ok-samples.ensures.long ∙ ap length old)
     (λ k h. c.in_ok-samples.ensures.each k h
     ∙ (λ j. changed_by c.args.change (bits_of (d j)) (is_colour (s j) (component_in_row (s j) k))
@@ -33,7 +34,8 @@ returns-clause-value g c =
     let d = c.depth-depth.ensures ∙ ap (λ f. f.depth) form in
     let is =
     made v c.format-format.result c.in_ok-samples.samples.items
-    (λ k x. changed_by c.args.change (bits_of v.format.depth) (is_colour v.format.sampling k) x) form
+    (λ k x. changed_by c.args.change (bits_of v.format.depth) (is_colour v.format.sampling k) x)
+    form
     c.samples.ensures.whole (c.in_ok-samples.ensures.long ∙ ap length old)
     (λ k h. c.in_ok-samples.ensures.each k h
     ∙ (λ j. changed_by c.args.change (bits_of (d j)) (is_colour (s j) (component_in_row (s j) k))

@@ -1,5 +1,5 @@
 use Rattle.std.proofs.Common.{◌≡◌, ◌∙◌, ap, sym, subst, ℕ, List, map, take}
-use Rattle.capture_file.specs.Capture.{capture_at, entry_seen}
+use Rattle.capture_file.specs.Capture.{capture_walk, entry_seen}
 use Rattle.capture_file.specs.Fields.{Takes}
 use Rattle.capture_file.specs.Records.{Entry}
 use Rattle.std.proofs.lemmas.List.{take_at}
@@ -33,7 +33,7 @@ returns-clause-read g c =
     (c.deref.ensures.value
     ∙ take_at c.read_front.new.text _ c.in_ok-buf.buf.len
     (c.in_ok-text_len.ensures.room ∙ c.deref_mut.ensures.len)) in
-    subst (λ (t : List ℕ). Takes (capture_at c.args.limit)
+    subst (λ (t : List ℕ). Takes (capture_walk c.args.limit)
     (g.S.ByteSource.to_give c.args.source.now)
     (g.S.ByteSource.to_give c.read_records.new.source)
     (record { text = t; records = records })) (sym text)

@@ -5,7 +5,7 @@ use Rattle.st_format.specs.Pgroup.{bits_of}
 use Rattle.st_format.specs.Picture.{Values}
 use Rattle.st_format.specs.Samples.{values_in}
 use Rattle.capture_file.specs.Fields.{Takes}
-use Rattle.capture_file.specs.PictureFile.{picture_at, shown_of}
+use Rattle.capture_file.specs.PictureFile.{picture_walk, shown_of}
 use Rattle.capture_file.proofs.Raster.{block_fails, body_fails, end_fails, picture_gives}
 use Rattle.capture_file.proofs.Raster.{version_fails}
 use Rattle.capture_file.proofs.packed_reading.read_all.Goals as goal
@@ -52,7 +52,7 @@ returns-in_err-read_end-clause-fault g c =
 
 pub returns-clause-read : goal.returns-clause-read
 returns-clause-read g c =
-    subst (λ (p : Values). Takes picture_at (g.S.ByteSource.to_give c.args.source.now)
+    subst (λ (p : Values). Takes picture_walk (g.S.ByteSource.to_give c.args.source.now)
     (g.S.ByteSource.to_give c.read_end.new.source) (shown_of p))
     (sym c.from_octets.ensures.value)
     (picture_gives _ _ _ _ _
