@@ -220,24 +220,24 @@ front_takes octets x bytes h =
 -- ---- what is read has the fault
 
 by_kind : (limit : ℕ) (octets : List ℕ) (e : FileFault) → KindFails capture_name octets e
-    → IsCaptureFault limit e octets
-by_kind limit octets e (Cut is cut) = let c : IsCutCapture limit octets = Kind cut in
-    subst (λ (k : FileFault). IsCaptureFault limit k octets) is c
+    → IsCaptureFault e limit octets
+by_kind limit octets e (Cut is cut) = let c : IsCutCapture octets limit = Kind cut in
+    subst (λ (k : FileFault). IsCaptureFault k limit octets) is c
 by_kind limit octets e (Name is other)
-    = subst (λ (k : FileFault). IsCaptureFault limit k octets) is other
+    = subst (λ (k : FileFault). IsCaptureFault k limit octets) is other
 by_kind limit octets e (Digits is other)
-    = subst (λ (k : FileFault). IsCaptureFault limit k octets) is other
+    = subst (λ (k : FileFault). IsCaptureFault k limit octets) is other
 
 by_front : (limit : ℕ) (octets : List ℕ) (e : FileFault) → FrontFails octets e
-    → IsCaptureFault limit e octets
+    → IsCaptureFault e limit octets
 by_front limit octets e (InKind k) = by_kind limit octets e k
-by_front limit octets e (InText is cut) = let c : IsCutCapture limit octets = Text cut in
-    subst (λ (k : FileFault). IsCaptureFault limit k octets) is c
+by_front limit octets e (InText is cut) = let c : IsCutCapture octets limit = Text cut in
+    subst (λ (k : FileFault). IsCaptureFault k limit octets) is c
 
 -- a record's fault is the capture's
 by_record : (limit : ℕ) (octets : List ℕ) (e : FileFault) (c : Content) (behind : List ℕ)
-    → HasBehind c behind octets → length c.records < limit → IsRecordFault e behind
-    → IsCaptureFault limit e octets
+    → HasBehind octets c behind → length c.records < limit → IsRecordFault e behind
+    → IsCaptureFault e limit octets
 by_record limit octets Truncated c behind stands few wrong
     = Record (record { capture = c; behind = behind; stands = stands; few = few; wrong = wrong })
 by_record limit octets BadField c behind stands few wrong
@@ -251,16 +251,16 @@ by_record limit octets MixedGroup c behind stands few wrong = wrong
 by_record limit octets TooManyRecords c behind stands few wrong = absurd wrong
 
 by_stop : (limit : ℕ) (octets : List ℕ) (e : FileFault) (c : Content) (behind : List ℕ)
-    → HasBehind c behind octets → IsStop limit e c.records behind → IsCaptureFault limit e octets
+    → HasBehind octets c behind → IsStop limit e c.records behind → IsCaptureFault e limit octets
 by_stop limit octets e c behind stands (Full is full left) =
-    let m : HasRecordMore limit octets
+    let m : HasRecordMore octets limit
     = record { capture = c; behind = behind; stands = stands; full = full; more = left } in
-    subst (λ (k : FileFault). IsCaptureFault limit k octets) is m
+    subst (λ (k : FileFault). IsCaptureFault k limit octets) is m
 by_stop limit octets e c behind stands (Wrong few wrong)
     = by_record limit octets e c behind stands few wrong
 
 by_records : (limit : ℕ) (octets : List ℕ) (e : FileFault) (x : Part) → TakesFront octets x
-    → Stops limit e x.1 → IsCaptureFault limit e octets
+    → Stops limit e x.1 → IsCaptureFault e limit octets
 by_records limit octets e x t s =
     let c : Content = record { text = x.0; records = s.entries } in
     let front : List ℕ = front_text t.version x.0 in
@@ -272,7 +272,7 @@ by_records limit octets e x t s =
     }) s.stop
 
 pub capture_fails : (limit : ℕ) (e : FileFault) (octets : List ℕ) → AreOctets octets
-    → capture_walk limit octets ≡ Err e → IsCaptureFault limit e octets
+    → capture_walk limit octets ≡ Err e → IsCaptureFault e limit octets
 unfolding capture_walk
 capture_fails limit e octets bytes h =
     elim (split_fails (front_at octets) (read_records limit) e h) [
@@ -298,7 +298,7 @@ unfolding capture_walk
 front_tells limit octets e h = ap (λ (r : Result Part FileFault). r >>= read_records limit) h
 
 behind_tells : (limit : ℕ) (octets : List ℕ) (e : FileFault) (c : Content) (behind : List ℕ)
-    → HasBehind c behind octets → records_at limit (records_text c.records ++ behind) ≡ Err e
+    → HasBehind octets c behind → records_at limit (records_text c.records ++ behind) ≡ Err e
     → capture_walk limit octets ≡ Err e
 unfolding capture_walk
 behind_tells limit octets e c behind stands h =
@@ -312,13 +312,13 @@ behind_tells limit octets e c behind stands h =
     (front_again v c.text (records_text c.records ++ behind) stands.is.front)
     ∙ ap (λ (r : Result (List Entry × List ℕ) FileFault). r >>= saying c.text) h
 
-record_tells : (limit : ℕ) (octets : List ℕ) (e : FileFault) → HasBadRecord limit e octets
+record_tells : (limit : ℕ) (octets : List ℕ) (e : FileFault) → HasBadRecord octets limit e
     → capture_walk limit octets ≡ Err e
 record_tells limit octets e h
     = behind_tells limit octets e h.capture h.behind h.stands
     (wrong_tells limit h.capture.records h.behind e h.stands.is.fit h.few h.wrong)
 
-cut_tells : (limit : ℕ) (octets : List ℕ) → IsCutCapture limit octets
+cut_tells : (limit : ℕ) (octets : List ℕ) → IsCutCapture octets limit
     → capture_walk limit octets ≡ Err Truncated
 cut_tells limit octets (Kind lt)
     = front_tells limit octets Truncated
@@ -326,7 +326,7 @@ cut_tells limit octets (Kind lt)
 cut_tells limit octets (Text cut) = front_tells limit octets Truncated (front_short octets cut)
 cut_tells limit octets (Record h) = record_tells limit octets Truncated h
 
-pub capture_tells : (limit : ℕ) (e : FileFault) (octets : List ℕ) → IsCaptureFault limit e octets
+pub capture_tells : (limit : ℕ) (e : FileFault) (octets : List ℕ) → IsCaptureFault e limit octets
     → capture_walk limit octets ≡ Err e
 capture_tells limit BadName octets h
     = front_tells limit octets BadName (front_cut octets BadName (name_tells capture_name octets h))
@@ -344,7 +344,7 @@ capture_tells limit TrailingBytes octets h = absurd h
 capture_tells limit MixedGroup octets h = absurd h
 
 pub one_capture_fault : (limit : ℕ) (e f : FileFault) (octets : List ℕ)
-    → IsCaptureFault limit e octets → IsCaptureFault limit f octets → e ≡ f
+    → IsCaptureFault e limit octets → IsCaptureFault f limit octets → e ≡ f
 one_capture_fault limit e f octets p q
     = same_fault (Content × List ℕ) e f (sym (capture_tells limit e octets p)
     ∙ capture_tells limit f octets q)
@@ -353,7 +353,7 @@ one_capture_fault limit e f octets p q
 abbrev CaptureOr : ℕ → List ℕ → Type 0
 CaptureOr limit octets =
     ((c : Content) × IsCapture octets c × (length c.records ≤ limit))
-    ⊎ ((f : FileFault) × IsCaptureFault limit f octets)
+    ⊎ ((f : FileFault) × IsCaptureFault f limit octets)
 
 either : (limit : ℕ) (octets : List ℕ) (r : Result (Content × List ℕ) FileFault) → AreOctets octets
     → capture_walk limit octets ≡ r → CaptureOr limit octets

@@ -34,25 +34,25 @@ no_record behind cut e more fits is =
     not_both (Entry × List ℕ) (e, more) Truncated (sym (rest_again e more fits) ∙ bad)
 
 -- what stands behind the front of a capture with a record that is cut
-abbrev behind_front : {limit : ℕ} {octets : List ℕ} → HasBadRecord limit Truncated octets → List ℕ
+abbrev behind_front : {limit : ℕ} {octets : List ℕ} → HasBadRecord octets limit Truncated → List ℕ
 behind_front h = records_text h.capture.records ++ h.behind
 
-abbrev front_is : {limit : ℕ} {octets : List ℕ} → HasBadRecord limit Truncated octets → List ℕ
+abbrev front_is : {limit : ℕ} {octets : List ℕ} → HasBadRecord octets limit Truncated → List ℕ
 front_is h = front_text h.stands.is.version h.capture.text
 
-whole_is : (limit : ℕ) (octets : List ℕ) (h : HasBadRecord limit Truncated octets)
+whole_is : (limit : ℕ) (octets : List ℕ) (h : HasBadRecord octets limit Truncated)
     → octets ≡ front_is h ++ behind_front h
 whole_is limit octets h =
     h.stands.whole ∙ ap (λ (o : List ℕ). o ++ h.behind) h.stands.is.whole
     ∙ append_assoc (front_is h) (records_text h.capture.records) h.behind
 
-front_reads : (limit : ℕ) (octets : List ℕ) (h : HasBadRecord limit Truncated octets)
+front_reads : (limit : ℕ) (octets : List ℕ) (h : HasBadRecord octets limit Truncated)
     → front_at octets ≡ Ok (h.capture.text, behind_front h)
 front_reads limit octets h =
     ap front_at (whole_is limit octets h)
     ∙ front_again h.stands.is.version h.capture.text (behind_front h) h.stands.is.front
 
-records_are : (limit : ℕ) (octets : List ℕ) (h : HasBadRecord limit Truncated octets)
+records_are : (limit : ℕ) (octets : List ℕ) (h : HasBadRecord octets limit Truncated)
     → AreOctets octets → h.capture.records ≡ entries_in (behind_front h)
 records_are limit octets h bytes =
     let own : AreOctets (behind_front h)
@@ -80,7 +80,7 @@ record_once b c (Octets long path short) (Head left few) same =
     absurd (omega (arith, ap length same))
 record_once b c (Octets long path short) (Octets whole one few) same = refl
 
-records_once : (limit : ℕ) (octets : List ℕ) (g h : HasBadRecord limit Truncated octets)
+records_once : (limit : ℕ) (octets : List ℕ) (g h : HasBadRecord octets limit Truncated)
     → AreOctets octets → record_place g.wrong ≡ record_place h.wrong
 records_once limit octets g h bytes =
     let reads : answered Part (g.capture.text, behind_front g)
@@ -102,7 +102,7 @@ kind_or_text octets lt h =
     omega arith
 
 front_or_record : (limit : ℕ) (octets : List ℕ) → front_at octets ≡ Err Truncated
-    → HasBadRecord limit Truncated octets → ⊥
+    → HasBadRecord octets limit Truncated → ⊥
 front_or_record limit octets bad h =
     not_both Part (h.capture.text, behind_front h) Truncated
     (sym (front_reads limit octets h) ∙ bad)
@@ -110,7 +110,7 @@ front_or_record limit octets bad h =
 kind_fails : (octets : List ℕ) → length octets < 8 → front_at octets ≡ Err Truncated
 kind_fails octets lt = front_cut octets Truncated (kind_cut capture_name octets lt)
 
-pub cut_once : (limit : ℕ) (octets : List ℕ) → AreOctets octets → (a b : IsCutCapture limit octets)
+pub cut_once : (limit : ℕ) (octets : List ℕ) → AreOctets octets → (a b : IsCutCapture octets limit)
     → cut_place a ≡ cut_place b
 cut_once limit octets bytes (Kind x) (Kind y) = refl
 cut_once limit octets bytes (Kind x) (Text y) = absurd (kind_or_text octets x y)

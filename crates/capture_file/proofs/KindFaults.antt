@@ -24,8 +24,8 @@ use Rattle.capture_file.proofs.Splits.{field_again}
 
 pub data KindFails (name octets : List ℕ) (e : FileFault) : Type 0 where
   Cut : Truncated ≡ e → IsCutKind octets → KindFails name octets e
-  Name : BadName ≡ e → HasOtherName name octets → KindFails name octets e
-  Digits : BadVersion ≡ e → HasOtherVersion name octets → KindFails name octets e
+  Name : BadName ≡ e → HasOtherName octets name → KindFails name octets e
+  Digits : BadVersion ≡ e → HasOtherVersion octets name → KindFails name octets e
 
 other_version : (x : List ℕ) → bytes_eq x (codes "01") ≡ false → bytes_eq x (codes "02") ≡ false
     → (v : Version) → x ≡ version_text v → ⊥
@@ -54,7 +54,7 @@ no_version x e h =
     ]
 
 kind_parts : (x behind octets : List ℕ) → length x ≡ 8 → octets ≡ x ++ behind
-    → HasKind (take 6 x) (drop 6 x) octets
+    → HasKind octets (take 6 x) (drop 6 x)
 kind_parts x behind octets len whole = record {
   behind = behind;
   six = length-take-le 6 x (omega arith);
@@ -63,7 +63,7 @@ kind_parts x behind octets len whole = record {
       ∙ append_assoc (take 6 x) (drop 6 x) behind;
 }
 
-kind_of_fails : (name x octets : List ℕ) (e : FileFault) → HasKind (take 6 x) (drop 6 x) octets
+kind_of_fails : (name x octets : List ℕ) (e : FileFault) → HasKind octets (take 6 x) (drop 6 x)
     → kind_of name x ≡ Err e → KindFails name octets e
 kind_of_fails name x octets e kind h =
     elim (chosen (bytes_eq (take 6 x) name) (version_of (drop 6 x)) (failed Version BadName)
@@ -73,7 +73,7 @@ kind_of_fails name x octets e kind h =
           let same : take 6 x ≡ name = (bytes_eq-Decides (take 6 x) name).0 w.0 in
           Digits v.is (record {
             version = drop 6 x;
-            kind = subst (λ (k : List ℕ). HasKind k (drop 6 x) octets) same kind;
+            kind = subst (λ (k : List ℕ). HasKind octets k (drop 6 x)) same kind;
             other
                 = v.other;
           })
@@ -115,7 +115,7 @@ abbrev version_by : List ℕ → List ℕ → List ℕ → Result Version FileFa
 version_by name found version
     = cond (bytes_eq found name) (version_of version) (failed Version BadName)
 
-kind_front : (name found version octets : List ℕ) (k : HasKind found version octets)
+kind_front : (name found version octets : List ℕ) (k : HasKind octets found version)
     → kind_at name octets ≡ with_rest (version_by name found version) k.behind
 unfolding kind_at
 kind_front name found version octets k =
@@ -138,7 +138,7 @@ kind_cut name octets lt
     = ap (λ (r : Result (List ℕ × List ℕ) FileFault). r >>= λ x. with_rest (kind_of name x.0) x.1)
     (field_short 8 octets lt)
 
-pub name_tells : (name octets : List ℕ) → HasOtherName name octets
+pub name_tells : (name octets : List ℕ) → HasOtherName octets name
     → kind_at name octets ≡ Err BadName
 name_tells name octets h =
     kind_front name h.found h.version octets h.kind
@@ -154,7 +154,7 @@ version_bad x other =
     ∙ ap (λ (b : Bool). cond b (answered Version Two) (failed Version BadVersion))
     (apart x (codes "02") (other Two))
 
-pub version_tells : (name octets : List ℕ) → HasOtherVersion name octets
+pub version_tells : (name octets : List ℕ) → HasOtherVersion octets name
     → kind_at name octets ≡ Err BadVersion
 version_tells name octets h =
     kind_front name name h.version octets h.kind

@@ -82,7 +82,7 @@ by_kind octets e (Cut is lt) = let c : IsCutPicture octets = Kind lt in
     subst (λ (k : FileFault). IsPictureFault k octets) is c
 by_kind octets e (Name is other) = subst (λ (k : FileFault). IsPictureFault k octets) is other
 by_kind octets e (Digits is other) =
-    let w : HasOtherThanOne picture_name octets
+    let w : HasOtherThanOne octets picture_name
     = record { version = other.version; kind = other.kind; other = other.other One } in
     subst (λ (k : FileFault). IsPictureFault k octets) is w
 
@@ -90,7 +90,7 @@ by_version : (v : Version) (rest octets : List ℕ) (e : FileFault)
     → octets ≡ kind_text picture_name v ++ rest → one_by v rest ≡ Err e → IsPictureFault e octets
 by_version One rest octets e whole h = absurd (not_both Kinded (One, rest) e h)
 by_version Two rest octets e whole h =
-    let w : HasOtherThanOne picture_name octets = record {
+    let w : HasOtherThanOne octets picture_name = record {
       version = codes "02";
       kind = record {
         behind = rest;
@@ -149,7 +149,7 @@ pub neither : (version : List ℕ) → (version ≡ codes "01" → ⊥) → (ver
 neither version one two One p = one p
 neither version one two Two p = two p
 
-version_by : (octets : List ℕ) (h : HasOtherThanOne picture_name octets) (b : Bool)
+version_by : (octets : List ℕ) (h : HasOtherThanOne octets picture_name) (b : Bool)
     → bytes_eq h.version (codes "02") ≡ b → one_at picture_name octets ≡ Err BadVersion
 version_by octets h true e =
     let same : h.version ≡ codes "02" = (bytes_eq-Decides h.version (codes "02")).0 e in

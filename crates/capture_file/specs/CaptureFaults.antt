@@ -49,7 +49,7 @@ IsRecordFault fault octets = ⊥
 -- CAPTURES
 
 -- A capture stands at the front, and these octets behind it.
-pub record HasBehind (capture : Content) (behind octets : List ℕ) : Type 0 where
+pub record HasBehind (octets : List ℕ) (capture : Content) (behind : List ℕ) : Type 0 where
   pub front : List ℕ
   pub is : IsCapture front capture
   pub whole : octets ≡ front ++ behind
@@ -62,37 +62,37 @@ pub record HasCutText (octets : List ℕ) : Type 0 where
   pub short : length behind < 2 + from_be_bytes w16 (take 2 behind)
 
 -- Behind a capture of fewer records than the limit stands a record with this fault.
-pub record HasBadRecord (limit : ℕ) (fault : FileFault) (octets : List ℕ) : Type 0 where
+pub record HasBadRecord (octets : List ℕ) (limit : ℕ) (fault : FileFault) : Type 0 where
   pub capture : Content
   pub behind : List ℕ
-  pub stands : HasBehind capture behind octets
+  pub stands : HasBehind octets capture behind
   pub few : length capture.records < limit
   pub wrong : IsRecordFault fault behind
 
 -- Behind a capture of as many records as the limit allows stands an octet.
-pub record HasRecordMore (limit : ℕ) (octets : List ℕ) : Type 0 where
+pub record HasRecordMore (octets : List ℕ) (limit : ℕ) : Type 0 where
   pub capture : Content
   pub behind : List ℕ
-  pub stands : HasBehind capture behind octets
+  pub stands : HasBehind octets capture behind
   pub full : length capture.records ≡ limit
   pub more : 0 < length behind
 
 -- The octets end within name or version, within the text, or within a record.
-pub data IsCutCapture (limit : ℕ) (octets : List ℕ) : Type 0 where
-  Kind : IsCutKind octets → IsCutCapture limit octets
-  Text : HasCutText octets → IsCutCapture limit octets
-  Record : HasBadRecord limit Truncated octets → IsCutCapture limit octets
+pub data IsCutCapture (octets : List ℕ) (limit : ℕ) : Type 0 where
+  Kind : IsCutKind octets → IsCutCapture octets limit
+  Text : HasCutText octets → IsCutCapture octets limit
+  Record : HasBadRecord octets limit Truncated → IsCutCapture octets limit
 
-abbrev pub cut_place : {limit : ℕ} {octets : List ℕ} → IsCutCapture limit octets → CutPlace
+abbrev pub cut_place : {limit : ℕ} {octets : List ℕ} → IsCutCapture octets limit → CutPlace
 cut_place (Kind short) = InKind
 cut_place (Text cut) = InText
 cut_place (Record bad) = record_place bad.wrong
 
 -- the condition of each fault of a capture of at most so many records, by itself
-abbrev pub IsCaptureFault : ℕ → FileFault → List ℕ → Type 0
-IsCaptureFault limit BadName octets = HasOtherName capture_name octets
-IsCaptureFault limit BadVersion octets = HasOtherVersion capture_name octets
-IsCaptureFault limit Truncated octets = IsCutCapture limit octets
-IsCaptureFault limit BadField octets = HasBadRecord limit BadField octets
-IsCaptureFault limit TooManyRecords octets = HasRecordMore limit octets
-IsCaptureFault limit fault octets = ⊥
+abbrev pub IsCaptureFault : FileFault → ℕ → List ℕ → Type 0
+IsCaptureFault BadName limit octets = HasOtherName octets capture_name
+IsCaptureFault BadVersion limit octets = HasOtherVersion octets capture_name
+IsCaptureFault Truncated limit octets = IsCutCapture octets limit
+IsCaptureFault BadField limit octets = HasBadRecord octets limit BadField
+IsCaptureFault TooManyRecords limit octets = HasRecordMore octets limit
+IsCaptureFault fault limit octets = ⊥

@@ -5,7 +5,7 @@ use Rattle.capture_file.specs.declared.front.Version.{Version}
 use Rattle.capture_file.specs.Fronts.{version_text}
 
 -- Six octets of a name stand at the front, then two of a version, and then any.
-pub record HasKind (name version octets : List ℕ) : Type 0 where
+pub record HasKind (octets name version : List ℕ) : Type 0 where
   pub behind : List ℕ
   pub six : length name ≡ 6
   pub two : length version ≡ 2
@@ -16,14 +16,14 @@ abbrev pub IsCutKind : List ℕ → Type 0
 IsCutKind octets = length octets < 8
 
 -- another name than this
-pub record HasOtherName (name octets : List ℕ) : Type 0 where
+pub record HasOtherName (octets name : List ℕ) : Type 0 where
   pub found : List ℕ
   pub version : List ℕ
-  pub kind : HasKind found version octets
+  pub kind : HasKind octets found version
   pub other : found ≢ name
 
 -- this name, and two octets that are no version
-pub record HasOtherVersion (name octets : List ℕ) : Type 0 where
+pub record HasOtherVersion (octets name : List ℕ) : Type 0 where
   pub version : List ℕ
-  pub kind : HasKind name version octets
+  pub kind : HasKind octets name version
   pub other : (v : Version) → version ≢ version_text v

@@ -18,9 +18,9 @@ pub record IsFormat (f : Fields) : Type 0 where
   pub is : format_at f.sampling f.depth f.width f.height f.n f.d ≡ Ok f
 
 -- this name, and two octets that are not version 01
-pub record HasOtherThanOne (name octets : List ℕ) : Type 0 where
+pub record HasOtherThanOne (octets name : List ℕ) : Type 0 where
   pub version : List ℕ
-  pub kind : HasKind name version octets
+  pub kind : HasKind octets name version
   pub other : version ≢ codes "01"
 
 -- behind name and version the octets end within the fourteen of the format block
@@ -75,8 +75,8 @@ picture_place (Groups cut) = InGroups
 
 -- the condition of each fault of a picture's file, by itself
 abbrev pub IsPictureFault : FileFault → List ℕ → Type 0
-IsPictureFault BadName octets = HasOtherName picture_name octets
-IsPictureFault BadVersion octets = HasOtherThanOne picture_name octets
+IsPictureFault BadName octets = HasOtherName octets picture_name
+IsPictureFault BadVersion octets = HasOtherThanOne octets picture_name
 IsPictureFault Truncated octets = IsCutPicture octets
 IsPictureFault BadField octets = HasNoFormat octets
 IsPictureFault TrailingBytes octets = HasTrailing octets

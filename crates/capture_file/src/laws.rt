@@ -56,26 +56,26 @@ pub fn record_fault()
 /// Octets are read as a capture with a fault exactly where the fault's condition holds.
 pub fn capture_fault()
     ensures { (limit : ℕ) (f : FileFault) (octets : List ℕ) → AreOctets octets
-        → (capture_walk limit octets ≡ Err f) ↔ IsCaptureFault limit f octets }
+        → (capture_walk limit octets ≡ Err f) ↔ IsCaptureFault f limit octets }
 {}
 
 /// At most one fault's condition holds of a capture.
 pub fn one_capture_fault()
     ensures { (limit : ℕ) (f g : FileFault) (octets : List ℕ)
-        → IsCaptureFault limit f octets → IsCaptureFault limit g octets → f ≡ g }
+        → IsCaptureFault f limit octets → IsCaptureFault g limit octets → f ≡ g }
 {}
 
 /// A capture that is cut is cut in one place.
 pub fn one_cut()
     ensures { (limit : ℕ) (octets : List ℕ) → AreOctets octets
-        → (a b : IsCutCapture limit octets) → cut_place a ≡ cut_place b }
+        → (a b : IsCutCapture octets limit) → cut_place a ≡ cut_place b }
 {}
 
 /// Octets are a capture of at most so many records, or a fault's condition holds of them.
 pub fn capture_or_fault()
     ensures { (limit : ℕ) (octets : List ℕ) → AreOctets octets
         → ((c : Content) × IsCapture octets c × (length c.records ≤ limit))
-        ⊎ ((f : FileFault) × IsCaptureFault limit f octets) }
+        ⊎ ((f : FileFault) × IsCaptureFault f limit octets) }
 {}
 
 /// A receiver has one file: two that have equal files have the same format, payload type, source,

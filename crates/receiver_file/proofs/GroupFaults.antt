@@ -45,13 +45,13 @@ Group = List Cell
 
 contested_by : (m v : ℕ) (vs : List ℕ) (odd nought : Bool) → eqb (m % 2) 1 ≡ odd → eqb v 0 ≡ nought
     → ((not odd || nought) && are_zeroed (m / 2) vs) ≡ false
-    → (are_zeroed (m / 2) vs ≡ false → HasContestedValue (m / 2) vs)
-    → HasContestedValue m (v ∷ vs)
+    → (are_zeroed (m / 2) vs ≡ false → HasContestedValue vs (m / 2))
+    → HasContestedValue (v ∷ vs) m
 contested_by m v vs true true p q e rest = inr (rest e)
 contested_by m v vs true false p q e rest = inl (eqb-true (m % 2) 1 p, eqb-false v 0 q)
 contested_by m v vs false nought p q e rest = inr (rest e)
 
-contested_from : (m : ℕ) (vs : List ℕ) → are_zeroed m vs ≡ false → HasContestedValue m vs
+contested_from : (m : ℕ) (vs : List ℕ) → are_zeroed m vs ≡ false → HasContestedValue vs m
 unfolding are_zeroed
 contested_from m [] e = let bad : true ≡ false = e in absurd cc
 contested_from m (v ∷ vs) e =
@@ -70,7 +70,7 @@ third true b = refl
 third false true = refl
 third false false = refl
 
-contested_is : (m : ℕ) (vs : List ℕ) → HasContestedValue m vs → are_zeroed m vs ≡ false
+contested_is : (m : ℕ) (vs : List ℕ) → HasContestedValue vs m → are_zeroed m vs ≡ false
 unfolding are_zeroed
 contested_is m [] h = absurd h
 contested_is m (v ∷ vs) (inl p) =
@@ -85,13 +85,13 @@ is_wrong s m vs = eqb m 0 || not (ltb m (2 ^ s.samples)) || not (are_zeroed m vs
 
 wrong_by : (s : Shape) (m : ℕ) (vs : List ℕ) (a b c : Bool) → eqb m 0 ≡ a
     → ltb m (2 ^ s.samples) ≡ b → are_zeroed m vs ≡ c → (a || not b || not c) ≡ true
-    → IsWrongMask s m vs
+    → IsWrongMask m s vs
 wrong_by s m vs true b c p q r e = NamesNone (eqb-true m 0 p)
 wrong_by s m vs false false c p q r e = NamesMore (ltb-false m (2 ^ s.samples) q)
 wrong_by s m vs false true false p q r e = NamesValue (contested_from m vs r)
 wrong_by s m vs false true true p q r e = let bad : false ≡ true = e in absurd cc
 
-wrong_is : (s : Shape) (m : ℕ) (vs : List ℕ) → IsWrongMask s m vs → is_wrong s m vs ≡ true
+wrong_is : (s : Shape) (m : ℕ) (vs : List ℕ) → IsWrongMask m s vs → is_wrong s m vs ≡ true
 wrong_is s m vs (NamesNone p) =
     ap (λ (b : Bool). b || not (ltb m (2 ^ s.samples)) || not (are_zeroed m vs)) (eq-eqb m 0 p)
 wrong_is s m vs (NamesMore p) =
@@ -104,9 +104,9 @@ wrong_is s m vs (NamesValue p) =
 -- ---- what is read has the fault
 
 pub data GroupFails (s : Shape) (octets : List ℕ) (e : FileFault) : Type 0 where
-  Cut : Truncated ≡ e → IsCutGroup s octets → GroupFails s octets e
+  Cut : Truncated ≡ e → IsCutGroup octets s → GroupFails s octets e
   State : BadField ≡ e → HasOctet (λ state. 2 < state) octets → GroupFails s octets e
-  Mask : MixedGroup ≡ e → HasWrongMask s octets → GroupFails s octets e
+  Mask : MixedGroup ≡ e → HasWrongMask octets s → GroupFails s octets e
 
 plain_fails : (s : Shape) (octets : List ℕ) (e : FileFault) → plain_at s octets ≡ Err e
     → (Truncated ≡ e) × (length octets < s.octets)
@@ -119,7 +119,7 @@ plain_fails s octets e h =
     ]
 
 mask_fails : (s : Shape) (m : ℕ) (vs rest : List ℕ) (e : FileFault) → mixed_by s m vs rest ≡ Err e
-    → (MixedGroup ≡ e) × IsWrongMask s m vs
+    → (MixedGroup ≡ e) × IsWrongMask m s vs
 mask_fails s m vs rest e h =
     elim (chosen (is_wrong s m vs) (no_cells MixedGroup) (ok_cells (cells_by m vs) rest)
     (no_cells e) h) [
@@ -134,7 +134,7 @@ mask_fails s m vs rest e h =
 -- the octets of a contested group behind its state
 data MixedFails (s : Shape) (octets : List ℕ) (e : FileFault) : Type 0 where
   CutMixed : Truncated ≡ e → length octets < 2 + s.octets → MixedFails s octets e
-  WrongMixed : MixedGroup ≡ e → HasWrongMask s (2 ∷ octets) → MixedFails s octets e
+  WrongMixed : MixedGroup ≡ e → HasWrongMask (2 ∷ octets) s → MixedFails s octets e
 
 packed_fails : (s : Shape) (two rest octets : List ℕ) (e : FileFault) → octets ≡ two ++ rest
     → length two ≡ 2 → AreOctets two → AreOctets rest → mixed_behind s two rest ≡ Err e
@@ -181,7 +181,7 @@ by_mixed : (s : Shape) (n : ℕ) (octets : List ℕ) (e : FileFault) → n ≡ 2
     → GroupFails s (n ∷ octets) e
 by_mixed s n octets e two (CutMixed is short) = Cut is (inr (two, short))
 by_mixed s n octets e two (WrongMixed is mask) =
-    Mask is (subst (λ (k : ℕ). HasWrongMask s (k ∷ octets)) (sym two) mask)
+    Mask is (subst (λ (k : ℕ). HasWrongMask (k ∷ octets) s) (sym two) mask)
 
 above_2 : (n : ℕ) → (n ≡ 0 → ⊥) → (n ≡ 1 → ⊥) → (n ≡ 2 → ⊥) → 2 < n
 above_2 zero a b c = absurd (a refl)
@@ -234,7 +234,7 @@ packed_short s octets lt =
           (field_short s.octets (drop 2 octets) (omega (arith, lt, two, size)))
     ]
 
-pub group_cut : (s : Shape) (octets : List ℕ) → IsCutGroup s octets
+pub group_cut : (s : Shape) (octets : List ℕ) → IsCutGroup octets s
     → group_at s octets ≡ Err Truncated
 unfolding group_at
 group_cut s [] h = refl
@@ -259,7 +259,7 @@ pub group_state : (s : Shape) (octets : List ℕ) → HasOctet (λ state. 2 < st
     → group_at s octets ≡ Err BadField
 group_state s octets h = ap (group_at s) h.whole ∙ state_above s h.first h.behind h.is
 
-pub group_mask : (s : Shape) (octets : List ℕ) → HasWrongMask s octets
+pub group_mask : (s : Shape) (octets : List ℕ) → HasWrongMask octets s
     → group_at s octets ≡ Err MixedGroup
 unfolding group_at
 group_mask s octets h =

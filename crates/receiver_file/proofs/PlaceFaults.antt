@@ -64,7 +64,7 @@ FailsAt (AtGroup f h frames timestamp groups) octets e = group_at (shape_by f) o
 
 -- ---- it fails as the condition says, and the condition holds where it fails
 
-pub cut_at : (place : FieldPlace) (octets : List ℕ) → IsCutAt place octets
+pub cut_at : (place : FieldPlace) (octets : List ℕ) → IsCutAt octets place
     → FailsAt place octets Truncated
 cut_at AtBlock octets c = block_short octets c
 cut_at (AtPayloadType f) octets c = type_gone octets c
@@ -74,7 +74,7 @@ cut_at (AtCount f type ssrc) octets c = count_gone octets c
 cut_at (AtTimestamp f h frames) octets c = stamp_short (map timestamp_in frames) octets c
 cut_at (AtGroup f h frames timestamp groups) octets c = group_cut (shape_by f) octets c
 
-pub bad_at : (place : FieldPlace) (octets : List ℕ) → AreOctets octets → IsBadAt place octets
+pub bad_at : (place : FieldPlace) (octets : List ℕ) → AreOctets octets → IsBadAt octets place
     → FailsAt place octets BadField
 bad_at AtBlock octets bytes b = block_none octets bytes b
 bad_at (AtPayloadType f) octets bytes b = type_above octets b
@@ -85,7 +85,7 @@ bad_at (AtCount f type ssrc) octets bytes b = count_other octets b
 bad_at (AtTimestamp f h frames) octets bytes b = stamp_twice (map timestamp_in frames) octets b
 bad_at (AtGroup f h frames timestamp groups) octets bytes b = group_state (shape_by f) octets b
 
-pub mixed_at_place : (place : FieldPlace) (octets : List ℕ) → IsMixedAt place octets
+pub mixed_at_place : (place : FieldPlace) (octets : List ℕ) → IsMixedAt octets place
     → FailsAt place octets MixedGroup
 mixed_at_place AtBlock octets m = absurd m
 mixed_at_place (AtPayloadType f) octets m = absurd m
@@ -96,12 +96,12 @@ mixed_at_place (AtTimestamp f h frames) octets m = absurd m
 mixed_at_place (AtGroup f h frames timestamp groups) octets m = group_mask (shape_by f) octets m
 
 pub data PlaceFails (place : FieldPlace) (octets : List ℕ) (e : FileFault) : Type 0 where
-  IsCut : Truncated ≡ e → IsCutAt place octets → PlaceFails place octets e
-  IsBad : BadField ≡ e → IsBadAt place octets → PlaceFails place octets e
-  IsMixed : MixedGroup ≡ e → IsMixedAt place octets → PlaceFails place octets e
+  IsCut : Truncated ≡ e → IsCutAt octets place → PlaceFails place octets e
+  IsBad : BadField ≡ e → IsBadAt octets place → PlaceFails place octets e
+  IsMixed : MixedGroup ≡ e → IsMixedAt octets place → PlaceFails place octets e
 
 by_field : (place : FieldPlace) (octets : List ℕ) (e : FileFault)
-    → FieldFails (IsCutAt place octets) (IsBadAt place octets) e → PlaceFails place octets e
+    → FieldFails (IsCutAt octets place) (IsBadAt octets place) e → PlaceFails place octets e
 by_field place octets e (Ends is short) = IsCut is short
 by_field place octets e (Says is wrong) = IsBad is wrong
 

@@ -72,7 +72,7 @@ by_kind octets e (Cut is lt) =
     subst (λ (k : FileFault). IsStateFault k octets) is c
 by_kind octets e (Name is other) = subst (λ (k : FileFault). IsStateFault k octets) is other
 by_kind octets e (Digits is other) =
-    let w : HasOtherThanOne receiver_name octets
+    let w : HasOtherThanOne octets receiver_name
     = record { version = other.version; kind = other.kind; other = other.other One } in
     subst (λ (k : FileFault). IsStateFault k octets) is w
 
@@ -80,7 +80,7 @@ by_version : (v : Version) (rest octets : List ℕ) (e : FileFault)
     → octets ≡ kind_text receiver_name v ++ rest → only (v, rest) ≡ Err e → IsStateFault e octets
 by_version One rest octets e whole h = absurd (not_both (Unit {0} × List ℕ) (tt, rest) e h)
 by_version Two rest octets e whole h =
-    let w : HasOtherThanOne receiver_name octets = record {
+    let w : HasOtherThanOne octets receiver_name = record {
       version = codes "02";
       kind = record {
         behind = rest;
@@ -119,7 +119,7 @@ two_stops octets rest whole =
     name_stops octets BadVersion (ap (λ (o : List ℕ). kind_at receiver_name o >>= only) whole
     ∙ ap (λ (r : Result Kinded FileFault). r >>= only) (kind_tells receiver_name Two rest refl))
 
-version_stops : (octets : List ℕ) (h : HasOtherThanOne receiver_name octets) (b : Bool)
+version_stops : (octets : List ℕ) (h : HasOtherThanOne octets receiver_name) (b : Bool)
     → bytes_eq h.version (codes "02") ≡ b → state_walk octets ≡ Err BadVersion
 version_stops octets h true e =
     let same : h.version ≡ codes "02" = (bytes_eq-Decides h.version (codes "02")).0 e in
@@ -135,9 +135,8 @@ version_stops octets h false e =
 
 -- ---- what is read has the fault
 
-standing : (octets : List ℕ) (IsWrong : FieldPlace → List ℕ
-    → Type 0) (place : FieldPlace) (rest : List ℕ)
-    → IsSaid place → octets ≡ text_before place ++ rest → IsWrong place rest
+standing : (octets : List ℕ) (IsWrong : List ℕ → FieldPlace → Type 0)
+    (place : FieldPlace) (rest : List ℕ) → IsSaid place → octets ≡ text_before place ++ rest → IsWrong rest place
     → HasPlace IsWrong octets
 standing octets IsWrong place rest said whole wrong =
     record { place = place; behind = rest; said = said; whole = whole; wrong = wrong }

@@ -126,71 +126,71 @@ pub record HasNoBlock (octets : List ℕ) : Type 0 where
 
 -- The octets end before the state of a group, or before the end of the octets or of mask and octets
 -- that go with it.
-abbrev pub IsCutGroup : Shape → List ℕ → Type 0
-IsCutGroup s [] = ⊤
-IsCutGroup s (state ∷ octets) =
+abbrev pub IsCutGroup : List ℕ → Shape → Type 0
+IsCutGroup [] s = ⊤
+IsCutGroup (state ∷ octets) s =
     ((state ≡ 1) × (length octets < s.octets)) ⊎ ((state ≡ 2) × (length octets < 2 + s.octets))
 
 -- A sample that the mask names, counted from its least significant bit, isn't 0.
-abbrev pub HasContestedValue : ℕ → List ℕ → Type 0
-HasContestedValue mask [] = ⊥
-HasContestedValue mask (v ∷ vs) =
-    ((mask % 2 ≡ 1) × (v ≢ 0)) ⊎ HasContestedValue (mask / 2) vs
+abbrev pub HasContestedValue : List ℕ → ℕ → Type 0
+HasContestedValue [] mask = ⊥
+HasContestedValue (v ∷ vs) mask =
+    ((mask % 2 ≡ 1) × (v ≢ 0)) ⊎ HasContestedValue vs (mask / 2)
 
 -- a mask that names no sample, or one that the group hasn't, or one that has a value
-pub data IsWrongMask (s : Shape) (mask : ℕ) (values : List ℕ) : Type 0 where
-  NamesNone : mask ≡ 0 → IsWrongMask s mask values
-  NamesMore : 2 ^ s.samples ≤ mask → IsWrongMask s mask values
-  NamesValue : HasContestedValue mask values → IsWrongMask s mask values
+pub data IsWrongMask (mask : ℕ) (s : Shape) (values : List ℕ) : Type 0 where
+  NamesNone : mask ≡ 0 → IsWrongMask mask s values
+  NamesMore : 2 ^ s.samples ≤ mask → IsWrongMask mask s values
+  NamesValue : HasContestedValue values mask → IsWrongMask mask s values
 
 -- a contested group, whole, whose mask is wrong
-pub record HasWrongMask (s : Shape) (octets : List ℕ) : Type 0 where
+pub record HasWrongMask (octets : List ℕ) (s : Shape) : Type 0 where
   pub mask : ℕ
   pub packed : List ℕ
   pub behind : List ℕ
   pub fits : mask < 2 ^ 16
   pub long : length packed ≡ s.octets
   pub whole : octets ≡ 2 ∷ (to_be_bytes w16 mask ++ (packed ++ behind))
-  pub wrong : IsWrongMask s mask (values_in s.bits packed)
+  pub wrong : IsWrongMask mask s (values_in s.bits packed)
 
 -- The octets end within the field at a place.
-abbrev pub IsCutAt : FieldPlace → List ℕ → Type 0
-IsCutAt AtBlock octets = length octets < 14
-IsCutAt (AtPayloadType f) octets = octets ≡ []
-IsCutAt (AtFlag f type) octets = octets ≡ []
-IsCutAt (AtSource f type pinned) octets = length octets < 4
-IsCutAt (AtCount f type ssrc) octets = octets ≡ []
-IsCutAt (AtTimestamp f h frames) octets = length octets < 4
-IsCutAt (AtGroup f h frames timestamp groups) octets = IsCutGroup (shape_by f) octets
+abbrev pub IsCutAt : List ℕ → FieldPlace → Type 0
+IsCutAt octets AtBlock = length octets < 14
+IsCutAt octets (AtPayloadType f) = octets ≡ []
+IsCutAt octets (AtFlag f type) = octets ≡ []
+IsCutAt octets (AtSource f type pinned) = length octets < 4
+IsCutAt octets (AtCount f type ssrc) = octets ≡ []
+IsCutAt octets (AtTimestamp f h frames) = length octets < 4
+IsCutAt octets (AtGroup f h frames timestamp groups) = IsCutGroup octets (shape_by f)
 
 -- The field at a place says what no such file says: a block of no format, a payload type above 127,
 -- a flag above 1, a source where none is pinned, 0 or more than 16 timestamps, a timestamp that
 -- stood before, a state above 2.
-abbrev pub IsBadAt : FieldPlace → List ℕ → Type 0
-IsBadAt AtBlock octets = HasNoBlock octets
-IsBadAt (AtPayloadType f) octets = HasOctet (λ type. 127 < type) octets
-IsBadAt (AtFlag f type) octets = HasOctet (λ flag. 1 < flag) octets
-IsBadAt (AtSource f type true) octets = ⊥
-IsBadAt (AtSource f type false) octets = HasNumber (λ ssrc. 0 < ssrc) octets
-IsBadAt (AtCount f type ssrc) octets = HasOctet (λ count. (count ≡ 0) ⊎ (16 < count)) octets
-IsBadAt (AtTimestamp f h frames) octets =
+abbrev pub IsBadAt : List ℕ → FieldPlace → Type 0
+IsBadAt octets AtBlock = HasNoBlock octets
+IsBadAt octets (AtPayloadType f) = HasOctet (λ type. 127 < type) octets
+IsBadAt octets (AtFlag f type) = HasOctet (λ flag. 1 < flag) octets
+IsBadAt octets (AtSource f type true) = ⊥
+IsBadAt octets (AtSource f type false) = HasNumber (λ ssrc. 0 < ssrc) octets
+IsBadAt octets (AtCount f type ssrc) = HasOctet (λ count. (count ≡ 0) ⊎ (16 < count)) octets
+IsBadAt octets (AtTimestamp f h frames) =
     HasNumber (λ t. IsMember t (map timestamp_in frames)) octets
-IsBadAt (AtGroup f h frames timestamp groups) octets = HasOctet (λ state. 2 < state) octets
+IsBadAt octets (AtGroup f h frames timestamp groups) = HasOctet (λ state. 2 < state) octets
 
 -- The group at a place has a wrong mask.
-abbrev pub IsMixedAt : FieldPlace → List ℕ → Type 0
-IsMixedAt (AtGroup f h frames timestamp groups) octets = HasWrongMask (shape_by f) octets
-IsMixedAt place octets = ⊥
+abbrev pub IsMixedAt : List ℕ → FieldPlace → Type 0
+IsMixedAt octets (AtGroup f h frames timestamp groups) = HasWrongMask octets (shape_by f)
+IsMixedAt octets place = ⊥
 
 -- THE FAULTS
 
 -- Behind what a file can say up to some place, this is so of the octets.
-pub record HasPlace (IsWrong : FieldPlace → List ℕ → Type 0) (octets : List ℕ) : Type 0 where
+pub record HasPlace (IsWrong : List ℕ → FieldPlace → Type 0) (octets : List ℕ) : Type 0 where
   pub place : FieldPlace
   pub behind : List ℕ
   pub said : IsSaid place
   pub whole : octets ≡ text_before place ++ behind
-  pub wrong : IsWrong place behind
+  pub wrong : IsWrong behind place
 
 -- The octets end within name or version, or within a field behind them.
 pub data IsCutState (octets : List ℕ) : Type 0 where
@@ -207,8 +207,8 @@ pub record HasMore (octets : List ℕ) : Type 0 where
 
 -- the condition of each fault of a receiver's file, by itself
 abbrev pub IsStateFault : FileFault → List ℕ → Type 0
-IsStateFault BadName octets = HasOtherName receiver_name octets
-IsStateFault BadVersion octets = HasOtherThanOne receiver_name octets
+IsStateFault BadName octets = HasOtherName octets receiver_name
+IsStateFault BadVersion octets = HasOtherThanOne octets receiver_name
 IsStateFault Truncated octets = IsCutState octets
 IsStateFault BadField octets = HasPlace IsBadAt octets
 IsStateFault MixedGroup octets = HasPlace IsMixedAt octets
