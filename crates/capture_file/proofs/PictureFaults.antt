@@ -286,7 +286,7 @@ raster_takes f octets x h =
           ∙ length-drop n octets;
     }
 
-raster_fault : (f : Fields) (behind octets : List ℕ) (e : FileFault) → HasHead f behind octets
+raster_fault : (f : Fields) (behind octets : List ℕ) (e : FileFault) → HasHead octets f behind
     → raster_at f behind ≡ Err e → IsPictureFault e octets
 unfolding raster_at
 raster_fault f behind octets e head h =
@@ -301,7 +301,7 @@ raster_fault f behind octets e head h =
     ]
 
 end_fault : (f : Fields) (behind octets : List ℕ) (x : Part) (e : FileFault)
-    → HasHead f behind octets → raster_at f behind ≡ Ok x → read_end f x ≡ Err e
+    → HasHead octets f behind → raster_at f behind ≡ Ok x → read_end f x ≡ Err e
     → IsPictureFault e octets
 end_fault f behind octets x e head is h =
     elim (split_fails (nothing_at x.1) (showing f x.0) e h) [
@@ -357,7 +357,7 @@ picture_fails e octets bytes h =
             | inl p ↦ block_fault octets v.first.1 e whole p
             | inr f ↦
                 let s = block_stands v.first.1 f.first rest f.is in
-                let head : HasHead f.first.0 f.first.1 octets = record {
+                let head : HasHead octets f.first.0 f.first.1 = record {
                   is = s.format;
                   whole = whole ∙ ap (λ (o : List ℕ). kind_text picture_name One ++ o) s.text
                       ∙ sym (append_assoc (kind_text picture_name One) (format_text f.first.0)
@@ -385,7 +385,7 @@ format_tells octets rest e whole h =
     ∙ ap (λ (r : Result Kinded FileFault). r >>= read_format) (one_again rest)
     ∙ ap (λ (r : Result Formed FileFault). r >>= read_raster) h
 
-head_tells : (f : Fields) (behind octets : List ℕ) → HasHead f behind octets
+head_tells : (f : Fields) (behind octets : List ℕ) → HasHead octets f behind
     → picture_walk octets ≡ read_raster (f, behind)
 unfolding picture_walk
 head_tells f behind octets head =

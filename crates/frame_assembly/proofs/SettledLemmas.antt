@@ -24,7 +24,7 @@ use Rattle.frame_assembly.proofs.Segments.{sample_count_groups}
 
 -- ---- by number
 
-base_place : {A : Type 0} (f : Format) (base : Base A) (k : ℕ) → IsBaseOf f base
+base_place : {A : Type 0} (f : Format) (base : Base A) (k : ℕ) → IsBaseOf base f
     → base_value base (place f k) ≡ base_number f.sampling base k
 base_place f (Fill fill) k is = ap (λ (c : ℕ). get_or fill c 0) (component-place f k)
 base_place f (Hold picture) k is =
@@ -32,7 +32,7 @@ base_place f (Hold picture) k is =
     ∙ ap (λ (n : ℕ). get_or picture.now.samples n 0) (number_of-place f k)
 
 -- the value at a position, by its number
-at_number : {A : Type 0} (r : Raster) (base : Base A) (k : ℕ) → IsBaseOf r.format base
+at_number : {A : Type 0} (r : Raster) (base : Base A) (k : ℕ) → IsBaseOf base r.format
     → settled_cell (cell_at r (place r.format k)) (base_value base (place r.format k))
     ≡ settled_cell (get_or r.cells k Missing) (base_number r.format.sampling base k)
 at_number r base k is =
@@ -40,7 +40,7 @@ at_number r base k is =
     (number_of-place r.format k)
     ∙ ap (settled_cell (get_or r.cells k Missing)) (base_place r.format base k is)
 
-by_count : {A : Type 0} (r : Raster) (base : Base A) → IsBaseOf r.format base
+by_count : {A : Type 0} (r : Raster) (base : Base A) → IsBaseOf base r.format
     → (settled r base).samples
     ≡ map (λ k. settled_cell (get_or r.cells k Missing) (base_number r.format.sampling base k))
     (range_with_len 0 (sample_count r.format))
@@ -53,7 +53,7 @@ by_count r base is =
     (λ k. settled_cell (get_or r.cells k Missing) (base_number r.format.sampling base k))
     (range_with_len 0 (sample_count r.format)) (λ k. at_number r base k is)
 
-pub settled-samples : {A : Type 0} (r : Raster) (base : Base A) → IsBaseOf r.format base
+pub settled-samples : {A : Type 0} (r : Raster) (base : Base A) → IsBaseOf base r.format
     → length r.cells ≡ sample_count r.format
     → settled_numbers r.cells (base_number r.format.sampling base) ≡ (settled r base).samples
 settled-samples r base is whole =
@@ -70,7 +70,7 @@ value_fits f Missing v a b = b
 value_fits f (Value w) v a b = a
 value_fits f Contested v a b = b
 
-base_fits : {A : Type 0} (f : Format) (base : Base A) (p : Position) → IsBaseOf f base
+base_fits : {A : Type 0} (f : Format) (base : Base A) (p : Position) → IsBaseOf base f
     → HoldsPicture base → FitsDepth f (base_value base p)
 base_fits f (Fill fill) p is held = value_number-fits f fill p.component is
 base_fits f (Hold picture) p is held =
@@ -80,7 +80,7 @@ base_fits f (Hold picture) p is held =
     (number_of picture.now.format p) held.fit)
 
 pub settled-is_picture : {A : Type 0} (r : Raster) (base : Base A) → IsFrame r
-    → IsBaseOf r.format base → HoldsPicture base → IsPicture (settled r base)
+    → IsBaseOf base r.format → HoldsPicture base → IsPicture (settled r base)
 settled-is_picture r base frame is held =
     record {
       whole =
@@ -107,7 +107,7 @@ held_long f v z groups xs same is are of_group many =
 
 -- What settling the cells of a frame gives, over plain variables
 pub settled_as : {A : Type 0} (f : Format) (items cells : List Cell) (xs : List ℕ) (base : Base A)
-    → IsBaseOf f base → length items ≡ sample_count f → cells ≡ items
+    → IsBaseOf base f → length items ≡ sample_count f → cells ≡ items
     → xs ≡ settled_numbers cells (base_number f.sampling base)
     → xs ≡ (settled (frame_view f items) base).samples
 settled_as f items cells xs base is_base whole same is =

@@ -26,9 +26,9 @@ base_value (Fill fill) p = slice_index fill p.component
 base_value (Hold picture) p = value_at picture.now p
 
 -- a base for a format: a fill that fits the depth, or a held picture of the format
-abbrev pub IsBaseOf : {A : Type 0} → Format → Base A → Type 0
-IsBaseOf f (Fill fill) = AllByRecursion (FitsDepth f) fill
-IsBaseOf f (Hold picture) = picture.now.format ≡ f
+abbrev pub IsBaseOf : {A : Type 0} → Base A → Format → Type 0
+IsBaseOf (Fill fill) f = AllByRecursion (FitsDepth f) fill
+IsBaseOf (Hold picture) f = picture.now.format ≡ f
 
 -- Settled, of cells and a base: at each position the value where the cell has one, else the base's
 abbrev pub settled : {A : Type 0} → Raster → Base A → Values

@@ -208,7 +208,7 @@ impl<A: Allocator> Frame<A> {
         alloc: B,
         base: Base<'_, C>,
     ) -> Result<Picture<B>, AllocError>
-        requires { IsBaseOf self.now.format base }
+        requires { IsBaseOf base self.now.format }
         ensures settled { IfOk result (λ p. p ≡ settled self.now base.entry) }
         ensures picture { IfOk result (λ p. IsPicture p) }
     {

@@ -28,7 +28,7 @@ pub fn settled_samples<B: Allocator, C: Allocator>(
     requires packed { ArePacked format.now marks.now octets.now }
     requires few { length marks.now ≤ 8192 * 8192 }
     requires groups { length marks.now ≡ group_count format.now }
-    requires base { IsBaseOf format.now base }
+    requires base { IsBaseOf base format.now }
     ensures settled { IfOk result
         (λ v. v.items
         ≡ settled_numbers (cells_in format.now marks.now octets.now)
@@ -51,7 +51,7 @@ fn read_settled<C: Allocator>(
 )
     requires packed { ArePacked format.now marks.now octets.now }
     requires groups { length marks.now ≡ group_count format.now }
-    requires base { IsBaseOf format.now base }
+    requires base { IsBaseOf base format.now }
     requires samples { length samples.old
         ≡ (pixel_group format.now.sampling format.now.depth).samples * length marks.now }
     ensures settled { samples.new
@@ -66,7 +66,7 @@ fn read_settled<C: Allocator>(
 /// Gives each sample the base's value where its cell has none.
 fn settle_over<C: Allocator>(format: &Format, marks: &[u16], base: Base<'_, C>, samples: &mut [u16])
     requires groups { length marks.now ≡ group_count format.now }
-    requires base { IsBaseOf format.now base }
+    requires base { IsBaseOf base format.now }
     requires samples { length samples.old
         ≡ (pixel_group format.now.sampling format.now.depth).samples * length marks.now }
     ensures settled { IsSettledTo (pixel_group format.now.sampling format.now.depth).samples

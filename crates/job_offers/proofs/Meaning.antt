@@ -8,8 +8,8 @@ use Rattle.key_mix.specs.declared.Job.{Job}
 use Rattle.job_offers.specs.Offered.{OffersJob}
 
 pub job_offered : (j : Job) (pictures : List Values) (size : ℕ) (stamp : Stamp)
-    (datagrams : List (List ℕ)) → IsSentJob j pictures size stamp datagrams
-    → OffersJob j pictures stamp datagrams
+    (datagrams : List (List ℕ)) → IsSentJob datagrams j pictures size stamp
+    → OffersJob datagrams j pictures stamp
 job_offered j pictures size stamp datagrams is =
     record {
       picture = is.picture;

@@ -12,10 +12,10 @@ use Rattle.key_mix.specs.declared.Job.{Job}
 
 -- To each receiver that is opened for them, datagrams offer the values of a job's picture at the
 -- stamp's timestamp: each position once, and no other.
-pub record OffersJob (j : Job) (pictures : List Values) (stamp : Stamp)
-    (datagrams : List (List ℕ)) : Type 0 where
+pub record OffersJob (datagrams : List (List ℕ)) (j : Job) (pictures : List Values)
+    (stamp : Stamp) : Type 0 where
   pub picture : Values
-  pub made : IsJobPicture j pictures picture
+  pub made : IsJobPicture picture j pictures
   pub offered : (o : Opening) → IsOpenFor o picture.format stamp.payload_type stamp.ssrc
       → flat_map (offers o) datagrams
       ≡ map (offer_at picture stamp.timestamp) (places picture.format)

@@ -15,10 +15,11 @@ ghost use Rattle.job_offers.specs.Offered.{OffersJob};
 pub fn offered_by_job()
     ensures datagrams { (j : Job) (pictures : List Values) (size : ℕ) (stamp : Stamp)
         (datagrams : List (List ℕ))
-        → IsSentJob j pictures size stamp datagrams → OffersJob j pictures stamp datagrams }
+        → IsSentJob datagrams j pictures size stamp → OffersJob datagrams j pictures stamp }
     ensures sent { (j : Job) (pictures : List Values) (size : ℕ) (stamp : Stamp)
         (old new : List (List ℕ)) (next : ℕ)
-        → Sends (IsSentJob j pictures size stamp) stamp.first (Some old) (Some new) (Ok next)
+        → Sends (λ ds. IsSentJob ds j pictures size stamp) stamp.first (Some old) (Some new)
+        (Ok next)
         → (datagrams : List (List ℕ)) × (new ≡ old ++ datagrams)
-        × OffersJob j pictures stamp datagrams }
+        × OffersJob datagrams j pictures stamp }
 {}

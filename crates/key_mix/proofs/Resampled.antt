@@ -78,8 +78,8 @@ resampled_once s g f h x y =
     }
 
 -- a job's picture has one format
-pub job_format_once : (j : Job) (gs : List Format) (f h : Format) → IsJobFormat j gs f
-    → IsJobFormat j gs h → f ≡ h
+pub job_format_once : (j : Job) (gs : List Format) (f h : Format) → IsJobFormat f j gs
+    → IsJobFormat h j gs → f ≡ h
 job_format_once (Limit range) (g ∷ gs) f h x y = x ∙ sym y
 job_format_once (Gain gain) (g ∷ gs) f h x y = x ∙ sym y
 job_format_once ToYcc444 (g ∷ gs) f h x y = resampled_once _ g f h x y

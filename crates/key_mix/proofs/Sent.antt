@@ -31,14 +31,14 @@ sends_as Are Were first old new (Err fault.BadPacketSize) each h = h
 
 -- a size that isn't refused, and one that is
 pub size_fits : (f : Format) (size : ℕ)
-    → ((size < 20 + group_octets f) ⊎ (9000 < size) → ⊥) → IsSize f size
+    → ((size < 20 + group_octets f) ⊎ (9000 < size) → ⊥) → IsSize size f
 size_fits f size not =
     let low : size < 20 + group_octets f → ⊥ = λ h. not (inl h) in
     let high : 9000 < size → ⊥ = λ h. not (inr h) in
     record { least = omega (arith, low); most = omega (arith, high) }
 
 pub size_bad : (f : Format) (size : ℕ) → (size < 20 + group_octets f) ⊎ (9000 < size)
-    → IsSize f size → ⊥
+    → IsSize size f → ⊥
 size_bad f size (inl h) is = omega (arith, h, is.least)
 size_bad f size (inr h) is = omega (arith, h, is.most)
 
@@ -55,8 +55,8 @@ only_memory e j fs sound (inl h) = h.0
 only_memory e j fs sound (inr h) = absurd (sound e h.is)
 
 -- the format of a job's picture
-pub picture_format : (j : Job) (vs : List Values) (p : Values) → IsJobPicture j vs p
-    → IsJobFormat j (formats_of vs) p.format
+pub picture_format : (j : Job) (vs : List Values) (p : Values) → IsJobPicture p j vs
+    → IsJobFormat p.format j (formats_of vs)
 picture_format (Limit range) (v ∷ []) p h = h.format
 picture_format (Gain gain) (v ∷ []) p h = h.format
 picture_format ToYcc444 (v ∷ []) p h = h.0
@@ -87,7 +87,7 @@ ok_apart x h = cc
 
 -- a plan's fault is one of sending, and where there is a plan its size is one
 pub plan_fault : {T : Type 0} → (e : PlanFault) (j : Job) (fs : List Format) (f : Format) (size : ℕ)
-    → IsSound j fs → IsJobFormat j fs f
+    → IsSound j fs → IsJobFormat f j fs
     → (err T e ≡ err T plan.BadPacketSize) ↔ ((size < 20 + group_octets f) ⊎ (9000 < size))
     → IsSendFault (plan_job_fault e) j fs size
 plan_fault {T} plan.NoMemory j fs f size sound is when =
@@ -105,7 +105,7 @@ plan_fault {T} plan.BadPacketSize j fs f size sound is when =
 
 pub plan_fits : {T : Type 0} → (x : T) (f : Format) (size : ℕ)
     → (ok PlanFault x ≡ err T plan.BadPacketSize) ↔ ((size < 20 + group_octets f) ⊎ (9000 < size))
-    → IsSize f size
+    → IsSize size f
 plan_fits x f size when = size_fits f size (λ h. absurd (ok_apart x (when.1 h)))
 
 -- a result of a sound job whose faults come as they should has none but memory
@@ -116,7 +116,7 @@ only_if (Err e) j fs sound h = only_memory e j fs sound h
 
 -- a picture has as many datagrams as its plan has packets
 pub length-sent : (p : Values) (stamp : Stamp) (i : ℕ) (qs : List (List PacketRun))
-    (ds : List (List ℕ)) → AreSent p stamp i qs ds → length ds ≡ length qs
+    (ds : List (List ℕ)) → AreSent ds p stamp i qs → length ds ≡ length qs
 length-sent p stamp i [] [] h = refl
 length-sent p stamp i (q ∷ qs) (d ∷ ds) h = ap suc (length-sent p stamp (i + 1) qs ds h.1)
 length-sent p stamp i [] (d ∷ ds) h = elim h [ ]

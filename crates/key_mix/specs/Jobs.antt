@@ -52,16 +52,16 @@ key_value a b k at =
     (key_of (bits_of a.format.depth) (component_at k at 0))
 
 -- JobPicture
-abbrev pub IsJobPicture : Job → List Values → Values → Type 0
-IsJobPicture (Limit range) (v ∷ []) p = IsOf v.format (limit_value range v) p
-IsJobPicture (Gain g) (v ∷ []) p = IsOf v.format (gain_value g v) p
-IsJobPicture ToYcc444 (v ∷ []) p =
+abbrev pub IsJobPicture : Values → Job → List Values → Type 0
+IsJobPicture p (Limit range) (v ∷ []) = IsOf v.format (limit_value range v) p
+IsJobPicture p (Gain g) (v ∷ []) = IsOf v.format (gain_value g v) p
+IsJobPicture p ToYcc444 (v ∷ []) =
     IsResampled p.format v.format Ycc444 × IsOf p.format (ycc444_value v) p
-IsJobPicture ToYcc422 (v ∷ []) p =
+IsJobPicture p ToYcc422 (v ∷ []) =
     IsResampled p.format v.format Ycc422 × IsOf p.format (ycc422_value v) p
-IsJobPicture (Wipe w) (a ∷ b ∷ []) p = IsOf a.format (wipe_value w a b) p
-IsJobPicture Key (a ∷ b ∷ k ∷ []) p = IsOf a.format (key_value a b k) p
-IsJobPicture j vs p = ⊥
+IsJobPicture p (Wipe w) (a ∷ b ∷ []) = IsOf a.format (wipe_value w a b) p
+IsJobPicture p Key (a ∷ b ∷ k ∷ []) = IsOf a.format (key_value a b k) p
+IsJobPicture p j vs = ⊥
 
 -- how many pictures a job takes
 abbrev pub inputs_of : Job → ℕ
@@ -85,14 +85,14 @@ abbrev pub formats_of : List Values → List Format
 formats_of vs = map (λ v. v.format) vs
 
 -- The format of a job's picture is that of the first input, but for the sampling.
-abbrev pub IsJobFormat : Job → List Format → Format → Type 0
-IsJobFormat j [] f = ⊥
-IsJobFormat (Limit range) (g ∷ gs) f = f ≡ g
-IsJobFormat (Gain gain) (g ∷ gs) f = f ≡ g
-IsJobFormat ToYcc444 (g ∷ gs) f = IsResampled f g Ycc444
-IsJobFormat ToYcc422 (g ∷ gs) f = IsResampled f g Ycc422
-IsJobFormat (Wipe w) (g ∷ gs) f = f ≡ g
-IsJobFormat Key (g ∷ gs) f = f ≡ g
+abbrev pub IsJobFormat : Format → Job → List Format → Type 0
+IsJobFormat f j [] = ⊥
+IsJobFormat f (Limit range) (g ∷ gs) = f ≡ g
+IsJobFormat f (Gain gain) (g ∷ gs) = f ≡ g
+IsJobFormat f ToYcc444 (g ∷ gs) = IsResampled f g Ycc444
+IsJobFormat f ToYcc422 (g ∷ gs) = IsResampled f g Ycc422
+IsJobFormat f (Wipe w) (g ∷ gs) = f ≡ g
+IsJobFormat f Key (g ∷ gs) = f ≡ g
 
 -- what speaks against a job of pictures of these formats
 abbrev pub Against : JobFault → Job → List Format → Type 0

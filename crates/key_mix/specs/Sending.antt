@@ -37,19 +37,19 @@ input_formats inputs = map (λ i. i.frame.now.format) inputs
 
 -- the base of an input is one for its frame's format
 abbrev pub HasBase : {A : Type 0} → JobInput A → Type 0
-HasBase i = IsBaseOf i.frame.now.format i.base
+HasBase i = IsBaseOf i.base i.frame.now.format
 
 -- Settled, of each input
 abbrev pub settled_inputs : {A : Type 0} → List (JobInput A) → List Values
 settled_inputs inputs = map (λ i. settled i.frame.now i.base) inputs
 
 -- Datagrams are those of the job's picture, by a raster plan.
-pub record IsSentJob (j : Job) (pictures : List Values) (size : ℕ) (stamp : Stamp)
-    (datagrams : List (List ℕ)) : Type 0 where
+pub record IsSentJob (datagrams : List (List ℕ)) (j : Job) (pictures : List Values) (size : ℕ)
+    (stamp : Stamp) : Type 0 where
   pub picture : Values
-  pub made : IsJobPicture j pictures picture
+  pub made : IsJobPicture picture j pictures
   pub plan : List (List PacketRun)
-  pub sent : IsSentPicture picture stamp size plan datagrams
+  pub sent : IsSentPicture datagrams picture stamp size plan
 
 -- What a sink has taken after an answer: such datagrams, all of them; where it failed, the first of
 -- them; and else nothing. The first packet has the number `first`.
@@ -75,15 +75,15 @@ CountsSink old new (Err fault.BadPacketSize) = new ≡ old
 pub record IsSendable (j : Job) (formats : List Format) (size : ℕ) : Type 0 where
   pub sound : IsSound j formats
   pub format : Format
-  pub is : IsJobFormat j formats format
-  pub fits : IsSize format size
+  pub is : IsJobFormat format j formats
+  pub fits : IsSize size format
 
 -- Nothing speaks against the job, and the size is none for the format of its picture.
 pub record IsBadSize (j : Job) (formats : List Format) (size : ℕ) : Type 0 where
   pub sound : IsSound j formats
   pub format : Format
-  pub is : IsJobFormat j formats format
-  pub none : IsSize format size → ⊥
+  pub is : IsJobFormat format j formats
+  pub none : IsSize size format → ⊥
 
 -- When each fault comes: the first refusal of the job; then the size; then memory, and the sink
 abbrev pub IsSendFault : SendJobFault → Job → List Format → ℕ → Type 0

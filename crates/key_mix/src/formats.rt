@@ -28,7 +28,7 @@ use st_format::{Format, Sampling};
 
 /// The format of a job's picture of one picture of this format, or the first refusal.
 pub(crate) fn format_of_one(job: &Job, format: Format) -> Result<Format, JobFault>
-    ensures format { IfOk result (λ f. IsJobFormat job.now (format ∷ []) f) }
+    ensures format { IfOk result (λ f. IsJobFormat f job.now (format ∷ [])) }
     ensures sound { OnOk result (IsSound job.now (format ∷ [])) }
     ensures refusal { IfErr result (λ e. IsRefusal e job.now (format ∷ [])) }
 {
@@ -53,7 +53,7 @@ pub(crate) const MOST_GAIN: u32 = 16384;
 
 /// The same of two pictures.
 pub(crate) fn format_of_two(job: &Job, a: Format, b: Format) -> Result<Format, JobFault>
-    ensures format { IfOk result (λ f. IsJobFormat job.now (a ∷ b ∷ []) f) }
+    ensures format { IfOk result (λ f. IsJobFormat f job.now (a ∷ b ∷ [])) }
     ensures sound { OnOk result (IsSound job.now (a ∷ b ∷ [])) }
     ensures refusal { IfErr result (λ e. IsRefusal e job.now (a ∷ b ∷ [])) }
 {
@@ -73,7 +73,7 @@ pub(crate) fn format_of_three(
     b: Format,
     by: Format,
 ) -> Result<Format, JobFault>
-    ensures format { IfOk result (λ f. IsJobFormat job.now (a ∷ b ∷ by ∷ []) f) }
+    ensures format { IfOk result (λ f. IsJobFormat f job.now (a ∷ b ∷ by ∷ [])) }
     ensures sound { OnOk result (IsSound job.now (a ∷ b ∷ by ∷ [])) }
     ensures refusal { IfErr result (λ e. IsRefusal e job.now (a ∷ b ∷ by ∷ [])) }
 {

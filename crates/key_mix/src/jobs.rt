@@ -22,7 +22,7 @@ pub fn run_job<A: Allocator, C: Allocator + Copy>(
     job: &Job,
     inputs: &[Picture<A>],
 ) -> Result<Picture<C>, JobFault>
-    ensures made { IfOk result (λ p. IsJobPicture job.now inputs.now p) }
+    ensures made { IfOk result (λ p. IsJobPicture p job.now inputs.now) }
     ensures whole { IfOk result (λ p. IsPicture p) }
     ensures sound { OnOk result (IsSound job.now (formats_of inputs.now)) }
     ensures fault { IfErr result (λ e. IsFault e job.now (formats_of inputs.now)) }
@@ -41,7 +41,7 @@ fn run_on_one<A: Allocator, C: Allocator + Copy>(
     job: &Job,
     picture: &Picture<A>,
 ) -> Result<Picture<C>, JobFault>
-    ensures made { IfOk result (λ p. IsJobPicture job.now (picture.now ∷ []) p) }
+    ensures made { IfOk result (λ p. IsJobPicture p job.now (picture.now ∷ [])) }
     ensures whole { IfOk result (λ p. IsPicture p) }
     ensures sound { OnOk result (IsSound job.now (picture.now.format ∷ [])) }
     ensures fault { IfErr result (λ e. IsFault e job.now (picture.now.format ∷ [])) }
@@ -63,7 +63,7 @@ fn run_on_two<A: Allocator, C: Allocator + Copy>(
     a: &Picture<A>,
     b: &Picture<A>,
 ) -> Result<Picture<C>, JobFault>
-    ensures made { IfOk result (λ p. IsJobPicture job.now (a.now ∷ b.now ∷ []) p) }
+    ensures made { IfOk result (λ p. IsJobPicture p job.now (a.now ∷ b.now ∷ [])) }
     ensures whole { IfOk result (λ p. IsPicture p) }
     ensures sound { OnOk result (IsSound job.now (a.now.format ∷ b.now.format ∷ [])) }
     ensures fault { IfErr result (λ e. IsFault e job.now (a.now.format ∷ b.now.format ∷ [])) }
@@ -82,7 +82,7 @@ fn run_on_three<A: Allocator, C: Allocator + Copy>(
     b: &Picture<A>,
     by: &Picture<A>,
 ) -> Result<Picture<C>, JobFault>
-    ensures made { IfOk result (λ p. IsJobPicture job.now (a.now ∷ b.now ∷ by.now ∷ []) p) }
+    ensures made { IfOk result (λ p. IsJobPicture p job.now (a.now ∷ b.now ∷ by.now ∷ [])) }
     ensures whole { IfOk result (λ p. IsPicture p) }
     ensures sound { OnOk result
         (IsSound job.now (a.now.format ∷ b.now.format ∷ by.now.format ∷ [])) }

@@ -56,7 +56,8 @@ pub fn send_job<A: Allocator, C: Allocator + Copy, S: DatagramSink>(
 ) -> Result<u32, SendJobFault>
     requires bases { AllByRecursion HasBase inputs.now }
     requires payload_type { stamp.payload_type ≤ 127 }
-    ensures sent { Sends (IsSentJob job.now (settled_inputs inputs.now) max_octets stamp)
+    ensures sent { Sends
+        (λ ds. IsSentJob ds job.now (settled_inputs inputs.now) max_octets stamp)
         stamp.first (S.taken sink.old) (S.taken sink.new) result }
     ensures sendable { OnOk result
         (IsSendable job.now (input_formats inputs.now) max_octets) }
@@ -77,7 +78,7 @@ fn job_plan<A: Allocator, C: Allocator + Copy>(
     inputs: &[JobInput<'_, A>],
     max_octets: u32,
 ) -> Result<Plan<C>, SendJobFault>
-    ensures format { IfOk result (λ p. IsJobFormat job.now (input_formats inputs.now) p.format) }
+    ensures format { IfOk result (λ p. IsJobFormat p.format job.now (input_formats inputs.now)) }
     ensures octets { IfOk result (λ p. p.max_octets ≡ max_octets) }
     ensures sendable { OnOk result
         (IsSendable job.now (input_formats inputs.now) max_octets) }
@@ -97,7 +98,7 @@ fn job_picture<A: Allocator, C: Allocator + Copy>(
 ) -> Result<Picture<C>, JobFault>
     requires bases { AllByRecursion HasBase inputs.now }
     requires sound { IsSound job.now (input_formats inputs.now) }
-    ensures made { IfOk result (λ p. IsJobPicture job.now (settled_inputs inputs.now) p) }
+    ensures made { IfOk result (λ p. IsJobPicture p job.now (settled_inputs inputs.now)) }
     ensures only { IfErr result (λ e. e ≡ NoMemory) }
 {
     let pictures = settle_inputs(alloc, inputs)?;
@@ -115,7 +116,7 @@ fn send_picture<A: Allocator, B: Allocator, C: Allocator, S: DatagramSink>(
     requires format { picture.now.format ≡ plan.now.format }
     requires payload_type { stamp.payload_type ≤ 127 }
     ensures sent { Sends
-        (IsSentPicture picture.now stamp plan.now.max_octets plan.now.packets)
+        (λ ds. IsSentPicture ds picture.now stamp plan.now.max_octets plan.now.packets)
         stamp.first (S.taken sink.old) (S.taken sink.new) result }
     ensures late { IfErr result IsLate }
     ensures counted { CountsSink (S.failures sink.old) (S.failures sink.new) result }
@@ -126,7 +127,7 @@ fn send_picture<A: Allocator, B: Allocator, C: Allocator, S: DatagramSink>(
 
 /// The format of a job's picture of inputs, or the first refusal.
 fn job_format<A: Allocator>(job: &Job, inputs: &[JobInput<'_, A>]) -> Result<Format, JobFault>
-    ensures format { IfOk result (λ f. IsJobFormat job.now (input_formats inputs.now) f) }
+    ensures format { IfOk result (λ f. IsJobFormat f job.now (input_formats inputs.now)) }
     ensures sound { OnOk result (IsSound job.now (input_formats inputs.now)) }
     ensures refusal { IfErr result (λ e. IsRefusal e job.now (input_formats inputs.now)) }
 {

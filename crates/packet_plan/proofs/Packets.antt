@@ -156,7 +156,7 @@ some_octets f = some_octets_of f.sampling f.depth
 pub in_row : (k w : ℕ) → 0 < w → k < (k / w + 1) * w
 in_row k w lt = omega (arith, div-add-mod' k w, mod_below k w lt, row_up (k / w) w)
 
-pub next_room : (f : Format) (size k : ℕ) → IsSize f size → k < group_count f → k < next f size k
+pub next_room : (f : Format) (size k : ℕ) → IsSize size f → k < group_count f → k < next f size k
 unfolding next room
 next_room f size k fits lt =
     let one : 1 ≤ (size - (14 + 6 * 1)) / group_octets f =
@@ -310,7 +310,7 @@ in_rows : (f : Format) (size k e : ℕ) → k ≤ next f size k
 in_rows f size k e after le =
     omega (arith, div-add-mod' k (row_groups f), add_rows (k / row_groups f) e (row_groups f))
 
-pub from_numbers : (f : Format) (size k : ℕ) → IsSize f size → k < group_count f
+pub from_numbers : (f : Format) (size k : ℕ) → IsSize size f → k < group_count f
     → flat_map (numbers f) (packet_from f size k) ≡ range_with_len k (next f size k - k)
 unfolding packet_from
 from_numbers f size k fits lt =
@@ -324,7 +324,7 @@ from_numbers f size k fits lt =
     (in_rows f size k 3 (omega arith) (omega arith))
     ∙ ap (λ (s : ℕ). range_with_len s (next f size k - k)) (div-add-mod' k w)
 
-pub from_packet : (f : Format) (size k : ℕ) → IsSize f size → k < group_count f
+pub from_packet : (f : Format) (size k : ℕ) → IsSize size f → k < group_count f
     → IsPacket f size (packet_from f size k)
 unfolding packet_from room
 from_packet f size k fits lt =
@@ -438,8 +438,8 @@ more_some f (r ∷ []) some =
 more_some f (r ∷ q ∷ rs) some = omega arith
 
 -- A packet that doesn't end the raster has no room.
-pub no_room : (f : Format) (size k : ℕ) → IsSize f size → k < group_count f
-    → next f size k < group_count f → HasRoom f size (packet_from f size k) → ⊥
+pub no_room : (f : Format) (size k : ℕ) → IsSize size f → k < group_count f
+    → next f size k < group_count f → HasRoom (packet_from f size k) f size → ⊥
 no_room f size k fits lt more room =
     let p : List PacketRun = packet_from f size k in
     let is = from_packet f size k fits lt in

@@ -10,7 +10,7 @@ use Rattle.packet_plan.specs.Sender.{Sender, stamp_of, SendsFrom, IsSenderList}
 
 -- one datagram for each packet
 length-sent : (p : Values) (stamp : Stamp) (i : ℕ) (qs : List (List PacketRun))
-    (ds : List (List ℕ)) → AreSent p stamp i qs ds → length ds ≡ length qs
+    (ds : List (List ℕ)) → AreSent ds p stamp i qs → length ds ≡ length qs
 length-sent p stamp i [] [] sent = refl
 length-sent p stamp i [] (d ∷ ds) sent = absurd sent
 length-sent p stamp i (q ∷ qs) [] sent = absurd sent
@@ -20,7 +20,7 @@ more_from : (s : Sender) (k first : ℕ) (ps : List Values) (ds : List (List ℕ
     (j number size : ℕ) (qs : List (List PacketRun)) (mine : List (List ℕ))
     → first < 2 ^ 32 → SendsFrom s k ps first ds → p.format ≡ s.format → j ≡ k + length ps
     → number ≡ (first + length ds) % 2 ^ 32
-    → IsSentPicture p (stamp_of s j number) size qs mine
+    → IsSentPicture mine p (stamp_of s j number) size qs
     → SendsFrom s k (ps ++ p ∷ []) first (ds ++ mine)
 more_from s k first [] ds p j number size qs mine small sends format place count sent =
     let none : length ds ≡ 0 = ap length sends in
@@ -33,8 +33,8 @@ more_from s k first [] ds p j number size qs mine small sends format place count
       others = [];
       format = format;
       picture =
-          subst (λ (n : ℕ). IsSentPicture p (stamp_of s k n) size qs mine) same
-          (subst (λ (i : ℕ). IsSentPicture p (stamp_of s i number) size qs mine) here sent);
+          subst (λ (n : ℕ). IsSentPicture mine p (stamp_of s k n) size qs) same
+          (subst (λ (i : ℕ). IsSentPicture mine p (stamp_of s i number) size qs) here sent);
       rest = refl;
       whole = ap (λ (xs : List (List ℕ)). xs ++ mine) sends ∙ sym (append-nil mine);
     }
@@ -60,15 +60,15 @@ more_from s k first (q ∷ ps) ds p j number size qs mine small sends format pla
           ∙ append_assoc sends.mine sends.others mine;
     }
 
-pub none_sent : (s : Sender) (first : ℕ) → IsSenderList s first [] []
+pub none_sent : (s : Sender) (first : ℕ) → IsSenderList [] s first []
 none_sent s first = record { few = omega arith; sent = refl }
 
 -- A list and the next picture's datagrams are a list of one picture more.
 pub one_more_sent : (s : Sender) (first : ℕ) (ps : List Values) (ds : List (List ℕ)) (p : Values)
     (size : ℕ) (qs : List (List PacketRun)) (mine : List (List ℕ))
-    → first < 2 ^ 32 → IsSenderList s first ps ds → length ps < 10000 → p.format ≡ s.format
-    → IsSentPicture p (stamp_of s (length ps) ((first + length ds) % 2 ^ 32)) size qs mine
-    → IsSenderList s first (ps ++ p ∷ []) (ds ++ mine)
+    → first < 2 ^ 32 → IsSenderList ds s first ps → length ps < 10000 → p.format ≡ s.format
+    → IsSentPicture mine p (stamp_of s (length ps) ((first + length ds) % 2 ^ 32)) size qs
+    → IsSenderList (ds ++ mine) s first (ps ++ p ∷ [])
 one_more_sent s first ps ds p size qs mine small is few format sent = record {
   few = omega (arith, length-append ps (p ∷ []));
   sent =

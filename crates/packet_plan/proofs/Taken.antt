@@ -85,7 +85,7 @@ texts_more p stamp qs i d lt is =
 
 -- ---- a plan that is sent
 
-pub packet_fits : (plan : RasterPlan) (i : ℕ) → IsFullPlan plan.format plan.max_octets plan.packets
+pub packet_fits : (plan : RasterPlan) (i : ℕ) → IsFullPlan plan.packets plan.format plan.max_octets
     → i < length plan.packets → packet_octets plan.format (packet_at plan i) ≤ 9000
 packet_fits plan i full lt =
     let is : IsPacket plan.format plan.max_octets (packet_at plan i) =
@@ -105,20 +105,20 @@ pub record Known (p : Values) (stamp : Stamp) : Type 0 where
 
 -- the datagrams of a plan, where something is known once there is one
 texts_sent : (p : Values) (stamp : Stamp) (size : ℕ) (qs : List (List PacketRun)) → size ≤ 9000
-    → IsRasterPlan p.format size qs → (0 < length qs → Known p stamp)
-    → IsSentPicture p stamp size qs (datagram_texts p stamp 0 qs)
+    → IsRasterPlan qs p.format size → (0 < length qs → Known p stamp)
+    → IsSentPicture (datagram_texts p stamp 0 qs) p stamp size qs
 texts_sent p stamp size [] most plan known = record { plan = plan; sent = tt }
 texts_sent p stamp size (q ∷ qs) most plan known =
     let some : 0 < length (q ∷ qs) = omega arith in
     picture_sent p stamp size (q ∷ qs) most plan (known some).is_picture (known some).is_stamp
 
 pub plan_sent : (p : Values) (stamp : Stamp) (plan : RasterPlan) → p.format ≡ plan.format
-    → IsFullPlan plan.format plan.max_octets plan.packets
+    → IsFullPlan plan.packets plan.format plan.max_octets
     → (0 < length plan.packets → Known p stamp)
-    → IsSentPicture p stamp plan.max_octets plan.packets (datagram_texts p stamp 0 plan.packets)
+    → IsSentPicture (datagram_texts p stamp 0 plan.packets) p stamp plan.max_octets plan.packets
 plan_sent p stamp plan same full known =
     texts_sent p stamp plan.max_octets plan.packets full.limits.most
-    (subst (λ (f : Format). IsRasterPlan f plan.max_octets plan.packets) (sym same) full.plan) known
+    (subst (λ (f : Format). IsRasterPlan plan.packets f plan.max_octets) (sym same) full.plan) known
 
 pub all_texts : (p : Values) (stamp : Stamp) (qs : List (List PacketRun)) (n : ℕ) → length qs ≤ n
     → take n (datagram_texts p stamp 0 qs) ≡ datagram_texts p stamp 0 qs

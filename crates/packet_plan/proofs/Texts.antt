@@ -126,7 +126,7 @@ carried p (r ∷ rs) is heads = (
 -- The text of a datagram is a datagram of the picture.
 pub sent_text : (p : Values) (stamp : Stamp) (i : ℕ) (l : Bool) (rs : List PacketRun)
     → AreRuns p.format rs → IsPicture p → IsStamp stamp
-    → IsSentPacket p stamp i l rs (datagram_text p stamp i l rs)
+    → IsSentPacket (datagram_text p stamp i l rs) p stamp i l rs
 sent_text p stamp i l rs are is fits =
     let number : ℕ = number_of stamp i in
     let payload : List ℕ = payload_text p number rs in
@@ -170,7 +170,7 @@ pub packet_sent : (p : Values) (stamp : Stamp) (size i a n : ℕ) (l : Bool) (rs
     → size ≤ 9000 → IsPacket p.format size rs
     → flat_map (numbers p.format) rs ≡ range_with_len a n → a + n ≤ group_count p.format
     → IsPicture p → IsStamp stamp
-    → IsSentPacket p stamp i l rs (datagram_text p stamp i l rs)
+    → IsSentPacket (datagram_text p stamp i l rs) p stamp i l rs
 packet_sent p stamp size i a n l rs most is whole le picture fits =
     sent_text p stamp i l rs (packet_runs p.format size a n rs most is whole le) picture fits
 
@@ -178,7 +178,7 @@ are_sent : (p : Values) (stamp : Stamp) (size i a n : ℕ) (qs : List (List Pack
     → AllByRecursion (IsPacket p.format size) qs
     → all_numbers p.format qs ≡ range_with_len a n → a + n ≤ group_count p.format → IsPicture p
     → IsStamp stamp
-    → AreSent p stamp i qs (datagram_texts p stamp i qs)
+    → AreSent (datagram_texts p stamp i qs) p stamp i qs
 are_sent p stamp size i a n [] most each whole le picture fits = tt
 are_sent p stamp size i a n (q ∷ qs) most each whole le picture fits =
     let f : Format = p.format in
@@ -191,8 +191,8 @@ are_sent p stamp size i a n (q ∷ qs) most each whole le picture fits =
 
 -- The texts of the packets of a raster plan are the datagrams of the picture.
 pub picture_sent : (p : Values) (stamp : Stamp) (size : ℕ) (qs : List (List PacketRun))
-    → size ≤ 9000 → IsRasterPlan p.format size qs → IsPicture p → IsStamp stamp
-    → IsSentPicture p stamp size qs (datagram_texts p stamp 0 qs)
+    → size ≤ 9000 → IsRasterPlan qs p.format size → IsPicture p → IsStamp stamp
+    → IsSentPicture (datagram_texts p stamp 0 qs) p stamp size qs
 picture_sent p stamp size qs most plan picture fits = record {
   plan = plan;
   sent =
@@ -213,7 +213,7 @@ are_runs f size a n (q ∷ qs) most each whole le =
       are_runs f size (a + m) r.0 qs most each.1 r.3 (omega arith),
     )
 
-pub plan_runs : (plan : RasterPlan) (i : ℕ) → IsFullPlan plan.format plan.max_octets plan.packets
+pub plan_runs : (plan : RasterPlan) (i : ℕ) → IsFullPlan plan.packets plan.format plan.max_octets
     → i < length plan.packets → AreRuns plan.format (packet_at plan i)
 plan_runs plan i full lt =
     All-from_recursion (AreRuns plan.format) plan.packets

@@ -19,7 +19,7 @@ pub walk_more : (f : Format) (size k : ℕ) (ss : List ℕ) (e : ℕ) → IsWalk
 walk_more f size k [] e h lt = rw h (refl, lt, refl)
 walk_more f size k (s ∷ ss) e h lt = (h.0, h.1, walk_more f size (next f size k) ss e h.2 lt)
 
-pub walk_packets : (f : Format) (size k : ℕ) (ss : List ℕ) (e : ℕ) → IsSize f size
+pub walk_packets : (f : Format) (size k : ℕ) (ss : List ℕ) (e : ℕ) → IsSize size f
     → IsWalk f size k ss e → AllByRecursion (IsPacket f size) (map (packet_from f size) ss)
 walk_packets f size k [] e fits h = tt
 walk_packets f size k (s ∷ ss) e fits h =
@@ -30,8 +30,8 @@ pub walk_differ : (f : Format) (size : ℕ) (ss : List ℕ)
 walk_differ f size [] = tt
 walk_differ f size (s ∷ ss) = (from_differ f size s, walk_differ f size ss)
 
-pub walk_none_room : (f : Format) (size k : ℕ) (ss : List ℕ) (e : ℕ) → IsSize f size
-    → IsWalk f size k ss e → NoneHasRoom f size (map (packet_from f size) ss)
+pub walk_none_room : (f : Format) (size k : ℕ) (ss : List ℕ) (e : ℕ) → IsSize size f
+    → IsWalk f size k ss e → NoneHasRoom (map (packet_from f size) ss) f size
 walk_none_room f size k [] e fits h = tt
 walk_none_room f size k (s ∷ []) e fits h = tt
 walk_none_room f size k (s ∷ t ∷ ss) e fits h = (
@@ -42,7 +42,7 @@ walk_none_room f size k (s ∷ t ∷ ss) e fits h = (
 abbrev pub all_numbers : Format → List (List PacketRun) → List ℕ
 all_numbers f ps = flat_map (flat_map (numbers f)) ps
 
-pub walk_whole : (f : Format) (size k : ℕ) (ss : List ℕ) → IsSize f size → k ≤ group_count f
+pub walk_whole : (f : Format) (size k : ℕ) (ss : List ℕ) → IsSize size f → k ≤ group_count f
     → IsWalk f size k ss (group_count f)
     → all_numbers f (map (packet_from f size) ss) ≡ range_with_len k (group_count f - k)
 walk_whole f size k [] fits le h = let e : group_count f - k ≡ 0 = omega arith in rw e refl
@@ -60,8 +60,8 @@ walk_whole f size k (s ∷ ss) fits le h =
     (from_numbers f size k fits lt)
     ∙ range-append k (m - k) (group_count f - m) m (group_count f - k) (omega arith) (omega arith)
 
-pub walk_plan : (f : Format) (size : ℕ) (ss : List ℕ) → IsSize f size
-    → IsWalk f size 0 ss (group_count f) → IsRasterPlan f size (map (packet_from f size) ss)
+pub walk_plan : (f : Format) (size : ℕ) (ss : List ℕ) → IsSize size f
+    → IsWalk f size 0 ss (group_count f) → IsRasterPlan (map (packet_from f size) ss) f size
 walk_plan f size ss fits h = record {
   each = walk_packets f size 0 ss (group_count f) fits h;
   whole = let z : group_count f - 0 ≡ group_count f =
@@ -87,7 +87,7 @@ front (x ∷ xs) ys a (suc t) e =
 
 -- The greedy walk from k has no more packets than any that begin no later.
 pub walk_fewest : (f : Format) (size k a : ℕ) (ss : List ℕ) (ps : List (List PacketRun))
-    → IsSize f size → k ≤ group_count f → IsWalk f size k ss (group_count f)
+    → IsSize size f → k ≤ group_count f → IsWalk f size k ss (group_count f)
     → a ≤ k → AllByRecursion (IsPacket f size) ps
     → all_numbers f ps ≡ range_with_len a (group_count f - a) → length ss ≤ length ps
 walk_fewest f size k a [] ps fits le h before each whole = omega arith
@@ -115,8 +115,8 @@ length-map g [] = refl
 length-map g (x ∷ xs) = ap suc (length-map g xs)
 
 -- No raster plan has fewer packets.
-pub fewest : (f : Format) (size : ℕ) (ss : List ℕ) (ps : List (List PacketRun)) → IsSize f size
-    → IsWalk f size 0 ss (group_count f) → IsRasterPlan f size ps
+pub fewest : (f : Format) (size : ℕ) (ss : List ℕ) (ps : List (List PacketRun)) → IsSize size f
+    → IsWalk f size 0 ss (group_count f) → IsRasterPlan ps f size
     → length (map (packet_from f size) ss) ≤ length ps
 fewest f size ss ps fits h plan =
     let z : group_count f ≡ group_count f - 0 = omega arith in
@@ -126,8 +126,8 @@ fewest f size ss ps fits h plan =
 
 -- A walk from the first group to the last is a full plan.
 pub promised : (f : Format) (size : ℕ) (ss : List ℕ)
-    → IsSize f size × IsWalk f size 0 ss (group_count f)
-    → IsFullPlan f size (map (packet_from f size) ss)
+    → IsSize size f × IsWalk f size 0 ss (group_count f)
+    → IsFullPlan (map (packet_from f size) ss) f size
 promised f size ss h = record {
   limits = h.0;
   plan = walk_plan f size ss h.0 h.1;
@@ -144,7 +144,7 @@ walk_below f size k (s ∷ ss) e zero h lt = rw h.0 h.1
 walk_below f size k (s ∷ ss) e (suc i) h lt =
     walk_below f size (next f size k) ss e i h.2 (omega arith)
 
-pub walk_count : (f : Format) (size k : ℕ) (ss : List ℕ) → IsSize f size → k ≤ group_count f
+pub walk_count : (f : Format) (size k : ℕ) (ss : List ℕ) → IsSize size f → k ≤ group_count f
     → IsWalk f size k ss (group_count f) → k + length ss ≤ group_count f
 walk_count f size k [] fits le h = omega arith
 walk_count f size k (s ∷ ss) fits le h =

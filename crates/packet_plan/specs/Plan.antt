@@ -46,7 +46,7 @@ pub record IsPacket (f : Format) (size : ℕ) (p : List PacketRun) : Type 0 wher
 
 -- The runs of all packets, joined, are all pixel groups in raster order, each once (SMPTE ST
 -- 2110-20, general packing mode).
-pub record IsRasterPlan (f : Format) (size : ℕ) (packets : List (List PacketRun)) : Type 0 where
+pub record IsRasterPlan (packets : List (List PacketRun)) (f : Format) (size : ℕ) : Type 0 where
   pub each : AllByRecursion (IsPacket f size) packets
   pub whole : flat_map (flat_map (numbers f)) packets ≡ range_with_len 0 (group_count f)
 
@@ -66,30 +66,30 @@ one_more f (r ∷ []) =
 one_more f (r ∷ s ∷ rs) = r ∷ one_more f (s ∷ rs)
 
 -- A packet has room where that passes neither three runs nor the greatest size (own).
-pub record HasRoom (f : Format) (size : ℕ) (p : List PacketRun) : Type 0 where
+pub record HasRoom (p : List PacketRun) (f : Format) (size : ℕ) : Type 0 where
   pub few : length (one_more f p) ≤ most_segments
   pub fits : packet_octets f (one_more f p) ≤ size
 
 -- No packet but the last has room (own).
-abbrev pub NoneHasRoom : Format → ℕ → List (List PacketRun) → Type 0
-NoneHasRoom f size [] = Unit {0}
-NoneHasRoom f size (p ∷ []) = Unit {0}
-NoneHasRoom f size (p ∷ q ∷ ps) = (HasRoom f size p → ⊥) × NoneHasRoom f size (q ∷ ps)
+abbrev pub NoneHasRoom : List (List PacketRun) → Format → ℕ → Type 0
+NoneHasRoom [] f size = Unit {0}
+NoneHasRoom (p ∷ []) f size = Unit {0}
+NoneHasRoom (p ∷ q ∷ ps) f size = (HasRoom p f size → ⊥) × NoneHasRoom (q ∷ ps) f size
 
 -- The sizes of packets that plans are made for: room for a run of one pixel group, and at most 9000
 -- octets (own).
-pub record IsSize (f : Format) (size : ℕ) : Type 0 where
+pub record IsSize (size : ℕ) (f : Format) : Type 0 where
   pub least : 20 + group_octets f ≤ size
   pub most : size ≤ 9000
 
 -- A raster plan with all that is said of the plans that are made: runs of a packet are of rising
 -- rows, no packet but the last has room, and no raster plan has fewer packets (own).
-pub record IsFullPlan (f : Format) (size : ℕ) (packets : List (List PacketRun)) : Type 0 where
-  pub limits : IsSize f size
-  pub plan : IsRasterPlan f size packets
+pub record IsFullPlan (packets : List (List PacketRun)) (f : Format) (size : ℕ) : Type 0 where
+  pub limits : IsSize size f
+  pub plan : IsRasterPlan packets f size
   pub rows : AllByRecursion RowsRise packets
-  pub room : NoneHasRoom f size packets
-  pub fewest : (others : List (List PacketRun)) → IsRasterPlan f size others
+  pub room : NoneHasRoom packets f size
+  pub fewest : (others : List (List PacketRun)) → IsRasterPlan others f size
       → length packets ≤ length others
 
 -- A plan as callers see it

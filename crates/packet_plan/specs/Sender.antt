@@ -32,7 +32,7 @@ pub record IsNext (s : Sender) (k first : ℕ) (p : Values) (later : ℕ → Lis
   pub mine : List (List ℕ)
   pub others : List (List ℕ)
   pub format : p.format ≡ s.format
-  pub picture : IsSentPicture p (stamp_of s k first) size packets mine
+  pub picture : IsSentPicture mine p (stamp_of s k first) size packets
   pub rest : later ((first + length packets) % 2 ^ 32) others
   pub whole : datagrams ≡ mine ++ others
 
@@ -42,7 +42,7 @@ SendsFrom s k [] first datagrams = datagrams ≡ []
 SendsFrom s k (p ∷ ps) first datagrams = IsNext s k first p (SendsFrom s (k + 1) ps) datagrams
 
 -- A sender's list: at most 10,000 pictures (own), one after another
-pub record IsSenderList (s : Sender) (first : ℕ) (pictures : List Values)
-    (datagrams : List (List ℕ)) : Type 0 where
+pub record IsSenderList (datagrams : List (List ℕ)) (s : Sender) (first : ℕ)
+    (pictures : List Values) : Type 0 where
   pub few : length pictures ≤ 10000
   pub sent : SendsFrom s 0 pictures first datagrams

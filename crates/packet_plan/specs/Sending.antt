@@ -16,13 +16,13 @@ EachHasRoom plan octets =
 pub record SendsPicture (p : Values) (stamp : Stamp) (plan : RasterPlan)
     (old new : Option (List (List ℕ))) : Type 0 where
   pub datagrams : List (List ℕ)
-  pub sent : IsSentPicture p stamp plan.max_octets plan.packets datagrams
+  pub sent : IsSentPicture datagrams p stamp plan.max_octets plan.packets
   pub taken : TakesAll old new datagrams
 
 -- A sink took so many of them, from the first on, and not all.
 pub record SendsPart (p : Values) (stamp : Stamp) (plan : RasterPlan) (count : ℕ)
     (old new : Option (List (List ℕ))) : Type 0 where
   pub datagrams : List (List ℕ)
-  pub sent : IsSentPicture p stamp plan.max_octets plan.packets datagrams
+  pub sent : IsSentPicture datagrams p stamp plan.max_octets plan.packets
   pub short : count < length datagrams
   pub taken : TakesAll old new (take count datagrams)

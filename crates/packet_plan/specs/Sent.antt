@@ -41,8 +41,8 @@ pub record Carries (p : Values) (r : PacketRun) (s : Segment) : Type 0 where
 -- Octets are the i-th datagram of a picture, which carries these runs: an RTP header with P, X and
 -- CC zero (RFC 3550, 5.1), then a payload with nothing behind its segments (RFC 4175, 4). The high
 -- half of the packet's number is the extended number. The marker is set on the last datagram alone.
-pub record IsSentPacket (p : Values) (stamp : Stamp) (i : ℕ) (is_last : Bool)
-    (runs : List PacketRun) (octets : List ℕ) : Type 0 where
+pub record IsSentPacket (octets : List ℕ) (p : Values) (stamp : Stamp) (i : ℕ)
+    (is_last : Bool) (runs : List PacketRun) : Type 0 where
   pub header : Rtp
   pub extended : ℕ
   pub segments : List Segment
@@ -60,15 +60,15 @@ is_empty [] = true
 is_empty (x ∷ xs) = false
 
 -- one datagram for each packet, in order, from the i-th on
-abbrev pub AreSent : Values → Stamp → ℕ → List (List PacketRun) → List (List ℕ) → Type 0
-AreSent p stamp i [] [] = Unit {0}
-AreSent p stamp i [] (d ∷ ds) = ⊥
-AreSent p stamp i (q ∷ qs) [] = ⊥
-AreSent p stamp i (q ∷ qs) (d ∷ ds) =
-    IsSentPacket p stamp i (is_empty qs) q d × AreSent p stamp (i + 1) qs ds
+abbrev pub AreSent : List (List ℕ) → Values → Stamp → ℕ → List (List PacketRun) → Type 0
+AreSent [] p stamp i [] = Unit {0}
+AreSent (d ∷ ds) p stamp i [] = ⊥
+AreSent [] p stamp i (q ∷ qs) = ⊥
+AreSent (d ∷ ds) p stamp i (q ∷ qs) =
+    IsSentPacket d p stamp i (is_empty qs) q × AreSent ds p stamp (i + 1) qs
 
 -- The datagrams of a picture, by a raster plan
-pub record IsSentPicture (p : Values) (stamp : Stamp) (size : ℕ) (packets : List (List PacketRun))
-    (datagrams : List (List ℕ)) : Type 0 where
-  pub plan : IsRasterPlan p.format size packets
-  pub sent : AreSent p stamp 0 packets datagrams
+pub record IsSentPicture (datagrams : List (List ℕ)) (p : Values) (stamp : Stamp) (size : ℕ)
+    (packets : List (List PacketRun)) : Type 0 where
+  pub plan : IsRasterPlan packets p.format size
+  pub sent : AreSent datagrams p stamp 0 packets

@@ -51,7 +51,7 @@ fn room_for(format: &Format, max_octets: u32, count: u32) -> u32
 /// The first pgroup behind the packet that begins with this one.
 #[tactic(auto, using(crate::proofs::Packets::next_bounds), unfolding(crate::specs::Greedy::next))]
 fn next_of(format: &Format, max_octets: u32, group: u32) -> u32
-    requires size { IsSize format.now max_octets }
+    requires size { IsSize max_octets format.now }
     requires group { group < group_count format.now }
     ensures value { result ≡ next format.now max_octets group }
     ensures after { group < result }
@@ -68,7 +68,7 @@ fn next_of(format: &Format, max_octets: u32, group: u32) -> u32
 /// The runs of the packet that begins with this pgroup.
 #[tactic(auto, unfolding(crate::specs::Greedy::packet_from))]
 pub(crate) fn runs_from(format: &Format, max_octets: u32, group: u32) -> ArrayVec<PacketRun, 3>
-    requires size { IsSize format.now max_octets }
+    requires size { IsSize max_octets format.now }
     requires group { group < group_count format.now }
     ensures { result.items ≡ packet_from format.now max_octets group }
 {
@@ -93,7 +93,7 @@ pub(crate) fn starts_of<A: Allocator>(
     format: &Format,
     max_octets: u32,
 ) -> Result<Vec<u32, A>, AllocError>
-    requires { IsSize format.now max_octets }
+    requires { IsSize max_octets format.now }
     ensures { IfOk result
         (λ starts. IsWalk format.now max_octets 0 starts.items (group_count format.now)) }
 {

@@ -20,22 +20,22 @@ pub fn text_is_sent()
         → flat_map (numbers p.format) runs ≡ range_with_len first count
         → first + count ≤ group_count p.format
         → IsPicture p → IsStamp stamp
-        → IsSentPacket p stamp i is_last runs (datagram_text p stamp i is_last runs) }
+        → IsSentPacket (datagram_text p stamp i is_last runs) p stamp i is_last runs }
     ensures picture { (p : Values) (stamp : Stamp) (size : ℕ) (packets : List (List PacketRun))
-        → size ≤ 9000 → IsRasterPlan p.format size packets → IsPicture p → IsStamp stamp
-        → IsSentPicture p stamp size packets (datagram_texts p stamp 0 packets) }
+        → size ≤ 9000 → IsRasterPlan packets p.format size → IsPicture p → IsStamp stamp
+        → IsSentPicture (datagram_texts p stamp 0 packets) p stamp size packets }
 {}
 
 /// Pictures sent in turn are a sender's list: nothing is one; and a list, followed by the datagrams
 /// of the next picture by any raster plan, is one of one picture more, where the picture's
 /// timestamp is that of its place and its numbers run on from the list's.
 pub fn sent_in_turn()
-    ensures none { (s : Sender) (first : ℕ) → IsSenderList s first [] [] }
+    ensures none { (s : Sender) (first : ℕ) → IsSenderList [] s first [] }
     ensures more { (s : Sender) (first : ℕ) (pictures : List Values) (datagrams : List (List ℕ))
         (p : Values) (size : ℕ) (packets : List (List PacketRun)) (mine : List (List ℕ))
-        → first < 2 ^ 32 → IsSenderList s first pictures datagrams → length pictures < 10000
+        → first < 2 ^ 32 → IsSenderList datagrams s first pictures → length pictures < 10000
         → p.format ≡ s.format
-        → IsSentPicture p
-        (stamp_of s (length pictures) ((first + length datagrams) % 2 ^ 32)) size packets mine
-        → IsSenderList s first (pictures ++ p ∷ []) (datagrams ++ mine) }
+        → IsSentPicture mine
+        p (stamp_of s (length pictures) ((first + length datagrams) % 2 ^ 32)) size packets
+        → IsSenderList (datagrams ++ mine) s first (pictures ++ p ∷ []) }
 {}

@@ -99,7 +99,7 @@ impl<A: Allocator> Model for Plan<A> {
       packets = map (packet_from p.format p.max_octets) p.starts.items;
     } };
 
-    ghost invariant = { λ p. IsSize p.format p.max_octets
+    ghost invariant = { λ p. IsSize p.max_octets p.format
         × IsWalk p.format p.max_octets 0 p.starts.items (group_count p.format) };
 }
 
@@ -119,12 +119,12 @@ impl<A: Allocator> Plan<A> {
             ↔ ((max_octets < 20 + group_octets format) ⊎ (9000 < max_octets)) }
         ensures made { IfOk result (λ p. (p.format ≡ format) × (p.max_octets ≡ max_octets)) }
         // The packets are a raster plan, and as full as can be.
-        ensures plan { IfOk result (λ p. IsRasterPlan format max_octets p.packets) }
+        ensures plan { IfOk result (λ p. IsRasterPlan p.packets format max_octets) }
         ensures rows { IfOk result (λ p. AllByRecursion RowsRise p.packets) }
-        ensures room { IfOk result (λ p. NoneHasRoom format max_octets p.packets) }
+        ensures room { IfOk result (λ p. NoneHasRoom p.packets format max_octets) }
         // No raster plan has fewer packets.
         ensures fewest { IfOk result (λ p. (others : List (List Run))
-            → IsRasterPlan format max_octets others → length p.packets ≤ length others) }
+            → IsRasterPlan others format max_octets → length p.packets ≤ length others) }
     {
         if max_octets < ONE_SEGMENT + group_octets_of(&format) || max_octets > MOST_OCTETS {
             return Err(PlanFault::BadPacketSize);
@@ -143,7 +143,7 @@ impl<A: Allocator> Plan<A> {
         ensures some { 0 < length self.now.packets }
         ensures most { length self.now.packets ≤ 8192 * 8192 }
         // What `new` ensures holds of every plan.
-        ensures full { IsFullPlan self.now.format self.now.max_octets self.now.packets }
+        ensures full { IsFullPlan self.now.packets self.now.format self.now.max_octets }
     {
         self.starts.len() as u32
     }
@@ -153,7 +153,7 @@ impl<A: Allocator> Plan<A> {
     #[inline(always)]
     pub fn facts(&self)
         ensures some { 0 < length self.now.packets }
-        ensures full { IsFullPlan self.now.format self.now.max_octets self.now.packets }
+        ensures full { IsFullPlan self.now.packets self.now.format self.now.max_octets }
     {
         let _format = &self.format;
     }
@@ -188,8 +188,8 @@ impl<A: Allocator> Plan<A> {
         requires payload_type { stamp.payload_type ≤ 127 }
         ensures length { length buf.new ≡ length buf.old }
         ensures value { result ≡ packet_octets self.now.format (packet_at self.now index) }
-        ensures sent { IsSentPacket picture.now stamp index (index + 1 == length self.now.packets)
-            (packet_at self.now index) (take result buf.new) }
+        ensures sent { IsSentPacket (take result buf.new) picture.now stamp index
+            (index + 1 == length self.now.packets) (packet_at self.now index) }
         // These very octets, and no others, are such a datagram.
         ensures text { take result buf.new ≡ datagram_text picture.now stamp index
             (index + 1 == length self.now.packets) (packet_at self.now index) }
@@ -214,8 +214,8 @@ impl<A: Allocator> Plan<A> {
         requires payload_type { stamp.payload_type ≤ 127 }
         ensures length { length buf.new ≡ length buf.old }
         ensures value { result ≡ packet_octets self.now.format (packet_at self.now index) }
-        ensures sent { IsSentPacket packed.now stamp index (index + 1 == length self.now.packets)
-            (packet_at self.now index) (take result buf.new) }
+        ensures sent { IsSentPacket (take result buf.new) packed.now stamp index
+            (index + 1 == length self.now.packets) (packet_at self.now index) }
         // These very octets, and no others, are such a datagram.
         ensures text { take result buf.new ≡ datagram_text packed.now stamp index
             (index + 1 == length self.now.packets) (packet_at self.now index) }

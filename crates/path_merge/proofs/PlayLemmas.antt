@@ -118,7 +118,7 @@ stamp_is : (s : Sender) (k first : ℕ) → s.payload_type < 128 → s.ssrc < 2 
 stamp_is s k first low fits = record { payload_type = low; timestamp = omega arith; ssrc = fits }
 
 sends_texts : (s : Sender) (plan : RasterPlan) (k first : ℕ) (ps : List Values)
-    → s.format ≡ plan.format → IsFullPlan plan.format plan.max_octets plan.packets
+    → s.format ≡ plan.format → IsFullPlan plan.packets plan.format plan.max_octets
     → s.payload_type < 128 → s.ssrc < 2 ^ 32
     → AllByRecursion (λ p. p.format ≡ plan.format) ps → AllByRecursion IsPicture ps
     → SendsFrom s k ps first (texts_from s plan.packets k first ps)
@@ -132,7 +132,7 @@ sends_texts s plan k first (p ∷ ps) same full low fits formats whole = record 
   picture =
       picture_sent p (stamp_of s k first) plan.max_octets plan.packets
       (omega (arith, full.limits.most))
-      (subst (λ (f : Format). IsRasterPlan f plan.max_octets plan.packets)
+      (subst (λ (f : Format). IsRasterPlan plan.packets f plan.max_octets)
       (sym formats.0) full.plan) whole.0 (stamp_is s k first low fits);
   rest =
       sends_texts s plan (k + 1)
@@ -141,11 +141,11 @@ sends_texts s plan k first (p ∷ ps) same full low fits formats whole = record 
 }
 
 pub texts_list : (plan : RasterPlan) (stamp : Stamp) (ps : List Values)
-    → IsFullPlan plan.format plan.max_octets plan.packets → stamp.payload_type < 128
+    → IsFullPlan plan.packets plan.format plan.max_octets → stamp.payload_type < 128
     → stamp.ssrc < 2 ^ 32
     → ArePictures ps plan.format → All IsPicture ps
-    → IsSenderList (sender_of plan stamp) stamp.first ps
-    (texts_from (sender_of plan stamp) plan.packets 0 stamp.first ps)
+    → IsSenderList (texts_from (sender_of plan stamp) plan.packets 0 stamp.first ps)
+    (sender_of plan stamp) stamp.first ps
 texts_list plan stamp ps full low fits are whole = record {
   few = are.few;
   sent =
@@ -155,10 +155,10 @@ texts_list plan stamp ps full low fits are whole = record {
 }
 
 sent_by : (s : Sender) (plan : RasterPlan) (k first : ℕ) (ps : List Values)
-    → s.format ≡ plan.format → IsFullPlan plan.format plan.max_octets plan.packets
+    → s.format ≡ plan.format → IsFullPlan plan.packets plan.format plan.max_octets
     → s.payload_type < 128 → s.ssrc < 2 ^ 32
     → AllByRecursion (λ p. p.format ≡ plan.format) ps → AllByRecursion IsPicture ps
-    → AreSentBy s plan k first ps (texts_from s plan.packets k first ps)
+    → AreSentBy (texts_from s plan.packets k first ps) s plan k first ps
 sent_by s plan k first [] same full low fits formats whole = refl
 sent_by s plan k first (p ∷ ps) same full low fits formats whole = record {
   mine = datagram_texts p (stamp_of s k first) 0 plan.packets;
@@ -166,7 +166,7 @@ sent_by s plan k first (p ∷ ps) same full low fits formats whole = record {
   picture =
       picture_sent p (stamp_of s k first) plan.max_octets plan.packets
       (omega (arith, full.limits.most))
-      (subst (λ (f : Format). IsRasterPlan f plan.max_octets plan.packets)
+      (subst (λ (f : Format). IsRasterPlan plan.packets f plan.max_octets)
       (sym formats.0) full.plan) whole.0 (stamp_is s k first low fits);
   rest =
       sent_by s plan (k + 1)
@@ -176,11 +176,11 @@ sent_by s plan k first (p ∷ ps) same full low fits formats whole = record {
 
 -- each picture's datagrams are by the plan's own packets
 pub texts_by : (plan : RasterPlan) (stamp : Stamp) (ps : List Values)
-    → IsFullPlan plan.format plan.max_octets plan.packets → stamp.payload_type < 128
+    → IsFullPlan plan.packets plan.format plan.max_octets → stamp.payload_type < 128
     → stamp.ssrc < 2 ^ 32
     → ArePictures ps plan.format → All IsPicture ps
-    → AreSentBy (sender_of plan stamp) plan 0 stamp.first ps
-    (texts_from (sender_of plan stamp) plan.packets 0 stamp.first ps)
+    → AreSentBy (texts_from (sender_of plan stamp) plan.packets 0 stamp.first ps) (sender_of plan stamp) plan 0 stamp.first
+    ps
 texts_by plan stamp ps full low fits are whole =
     sent_by (sender_of plan stamp) plan 0 stamp.first ps refl full low fits
     (recursion_from_All (λ (p : Values). p.format ≡ plan.format) ps are.of_format)

@@ -121,7 +121,7 @@ record HasHeader (stamp : Stamp) (d : List ℕ) : Type 0 where
   ssrc : header.ssrc ≡ stamp.ssrc
 
 header_of_sent : (p : Values) (stamp : Stamp) (i : ℕ) (qs : List (List PacketRun))
-    (ds : List (List ℕ)) (d : List ℕ) → AreSent p stamp i qs ds → IsMember d ds → HasHeader stamp d
+    (ds : List (List ℕ)) (d : List ℕ) → AreSent ds p stamp i qs → IsMember d ds → HasHeader stamp d
 header_of_sent p stamp i [] [] d sent m = absurd m
 header_of_sent p stamp i [] (e ∷ ds) d sent m = absurd sent
 header_of_sent p stamp i (q ∷ qs) [] d sent m = absurd m
@@ -136,7 +136,7 @@ header_of_sent p stamp i (q ∷ qs) (e ∷ ds) d sent (inr m) =
 
 -- What a picture's datagram offers, whatever payload type and source the receiver has
 offered_at : (o : Opening) (p : Values) (stamp : Stamp) (size : ℕ) (qs : List (List PacketRun))
-    (ds : List (List ℕ)) (t s : Bool) → p.format ≡ o.format → IsSentPicture p stamp size qs ds
+    (ds : List (List ℕ)) (t s : Bool) → p.format ≡ o.format → IsSentPicture ds p stamp size qs
     → eqb stamp.payload_type o.payload_type ≡ t → is_other o.ssrc stamp.ssrc ≡ s
     → (d : List ℕ) → IsMember d ds → (x : Offer) → IsMember x (offers o d)
     → (x.timestamp ≡ stamp.timestamp) × (x.value ≡ value_at p x.position)
@@ -370,7 +370,7 @@ sent_from s k (q ∷ ps) first ds (suc j) p sends at =
 
 -- Each picture of a sender's list is sent by it.
 pub sent-among : (s : Sender) (first : ℕ) (ps : List Values) (ds : List (List ℕ)) (k : ℕ)
-    (p : Values) → IsSenderList s first ps ds → slice_get ps k ≡ Some p → IsSentAmong p s k ds
+    (p : Values) → IsSenderList ds s first ps → slice_get ps k ≡ Some p → IsSentAmong p s k ds
 sent-among s first ps ds k p is at = let z : 0 + k ≡ k =
     omega arith in subst (λ (i : ℕ). IsSentAmong p s i ds) z
     (sent_from s 0 ps first ds k p is.sent at)
@@ -384,7 +384,7 @@ frame_cell o datagrams timestamp at =
 
 -- Where every datagram is a sender's, so is each cell.
 pub cells-senders : (o : Opening) (s : Sender) (first : ℕ) (ps : List Values)
-    (ds xs : List (List ℕ)) → IsSenderList s first ps ds → s.format ≡ o.format → AreAmong xs ds
+    (ds xs : List (List ℕ)) → IsSenderList ds s first ps → s.format ≡ o.format → AreAmong xs ds
     → (ts : ℕ) (at : Position) → IsSendersCell (frame_cell o xs ts at) s ps ts at
 cells-senders o s first ps ds xs is same among ts at =
     let os : List Offer = flat_map (offers o) xs in
@@ -394,14 +394,14 @@ cells-senders o s first ps ds xs is same among ts at =
     (all-senders o s ps first ds xs same is.sent among))
 
 pub never-contested : (o : Opening) (s : Sender) (first : ℕ) (ps : List Values)
-    (ds xs : List (List ℕ)) → IsSenderList s first ps ds → s.format ≡ o.format → AreAmong xs ds
+    (ds xs : List (List ℕ)) → IsSenderList ds s first ps → s.format ≡ o.format → AreAmong xs ds
     → (ts : ℕ) (at : Position) → frame_cell o xs ts at ≡ Contested → ⊥
 never-contested o s first ps ds xs is same among ts at e =
     subst (λ (c : Cell). IsSendersCell c s ps ts at) e
     (cells-senders o s first ps ds xs is same among ts at)
 
 pub values-senders : (o : Opening) (s : Sender) (first : ℕ) (ps : List Values)
-    (ds xs : List (List ℕ)) → IsSenderList s first ps ds → s.format ≡ o.format → AreAmong xs ds
+    (ds xs : List (List ℕ)) → IsSenderList ds s first ps → s.format ≡ o.format → AreAmong xs ds
     → (k : ℕ) (p : Values) (at : Position) (v : ℕ) → slice_get ps k ≡ Some p
     → frame_cell o xs (timestamp_of s.format s.base k) at ≡ Value v → v ≡ value_at p at
 values-senders o s first ps ds xs is same among k p at v there e =
@@ -415,12 +415,12 @@ values-senders o s first ps ds xs is same among k p at v there e =
 
 -- Where every datagram is a sender's and all of a picture's are there, the frame is the picture.
 pub frame-senders : (o : Opening) (s : Sender) (first : ℕ) (ps : List Values)
-    (ds xs : List (List ℕ)) → IsSenderList s first ps ds
+    (ds xs : List (List ℕ)) → IsSenderList ds s first ps
     → IsOpenFor o s.format s.payload_type s.ssrc → AreAmong xs ds
     → (k : ℕ) (p : Values) → slice_get ps k ≡ Some p → length p.samples ≡ sample_count p.format
     → IsMember (timestamp_of s.format s.base k) o.window
     → (number size : ℕ) (qs : List (List PacketRun)) (mine : List (List ℕ))
-    → IsSentPicture p (stamp_of s k number) size qs mine → AreAmong mine xs
+    → IsSentPicture mine p (stamp_of s k number) size qs → AreAmong mine xs
     → frame_at o.window (frames_of o xs) (timestamp_of s.format s.base k) ≡ Some (picture_raster p)
 frame-senders o s first ps ds xs is opened among k p there whole inside number size qs mine sent
     all =
@@ -446,7 +446,7 @@ frame-senders o s first ps ds xs is opened among k p there whole inside number s
 
 -- Where they have the same members, each frame of a picture is the picture.
 pub frame-all : (o : Opening) (s : Sender) (first : ℕ) (ps : List Values) (ds xs : List (List ℕ))
-    → IsSenderList s first ps ds → IsOpenFor o s.format s.payload_type s.ssrc → SameDatagrams xs ds
+    → IsSenderList ds s first ps → IsOpenFor o s.format s.payload_type s.ssrc → SameDatagrams xs ds
     → (k : ℕ) (p : Values) → slice_get ps k ≡ Some p → length p.samples ≡ sample_count p.format
     → IsMember (timestamp_of s.format s.base k) o.window
     → frame_at o.window (frames_of o xs) (timestamp_of s.format s.base k) ≡ Some (picture_raster p)

@@ -113,7 +113,7 @@ offers_in_all-runs p ts (r ∷ rs) (s ∷ ss) c =
 -- The i-th datagram of a picture offers the picture's values at the positions of its runs.
 pub offers-packet : (o : Opening) (p : Values) (stamp : Stamp) (i : ℕ) (l : Bool)
     (rs : List PacketRun) (d : List ℕ) → IsOpenFor o p.format stamp.payload_type stamp.ssrc
-    → IsSentPacket p stamp i l rs d
+    → IsSentPacket d p stamp i l rs
     → offers o d ≡ flat_map (run_offers p stamp.timestamp) rs
 offers-packet o p stamp i l rs d opened sent =
     let h : Rtp = sent.header in
@@ -166,7 +166,7 @@ packet_offers p ts q =
 
 offers-packets : (o : Opening) (p : Values) (stamp : Stamp) (i : ℕ) (qs : List (List PacketRun))
     (ds : List (List ℕ)) → IsOpenFor o p.format stamp.payload_type stamp.ssrc
-    → AreSent p stamp i qs ds
+    → AreSent ds p stamp i qs
     → flat_map (offers o) ds ≡ flat_map (packet_offers p stamp.timestamp) qs
 offers-packets o p stamp i [] [] opened sent = refl
 offers-packets o p stamp i [] (d ∷ ds) opened sent = absurd sent
@@ -181,7 +181,7 @@ offers-packets o p stamp i (q ∷ qs) (d ∷ ds) opened sent =
 -- The datagrams of a picture offer its value at each position, in raster order, once.
 pub offers-picture : (o : Opening) (p : Values) (stamp : Stamp) (size : ℕ)
     (qs : List (List PacketRun)) (ds : List (List ℕ))
-    → IsOpenFor o p.format stamp.payload_type stamp.ssrc → IsSentPicture p stamp size qs ds
+    → IsOpenFor o p.format stamp.payload_type stamp.ssrc → IsSentPicture ds p stamp size qs
     → flat_map (offers o) ds ≡ map (offer_at p stamp.timestamp) (places p.format)
 offers-picture o p stamp size qs ds opened is =
     let f : Format = p.format in

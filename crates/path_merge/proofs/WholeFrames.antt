@@ -97,7 +97,7 @@ length-values (v ∷ vs) = ap suc (length-values vs)
 -- What a picture's datagrams offer is at its timestamp, and the picture's value.
 pub sent_offers : (o : Opening) (p : Values) (stamp : Stamp) (size : ℕ)
     (qs : List (List PacketRun)) (ds : List (List ℕ))
-    → IsOpenFor o p.format stamp.payload_type stamp.ssrc → IsSentPicture p stamp size qs ds
+    → IsOpenFor o p.format stamp.payload_type stamp.ssrc → IsSentPicture ds p stamp size qs
     → (x : Offer) → IsMember x (flat_map (offers o) ds)
     → (x.timestamp ≡ stamp.timestamp) × (x.value ≡ value_at p x.position)
 sent_offers o p stamp size qs ds opened is x m =
@@ -113,7 +113,7 @@ sent_offers o p stamp size qs ds opened is x m =
 
 whole_cells : (o : Opening) (p : Values) (stamp : Stamp) (size : ℕ) (qs : List (List PacketRun))
     (ds xs : List (List ℕ)) → IsOpenFor o p.format stamp.payload_type stamp.ssrc
-    → IsSentPicture p stamp size qs ds
+    → IsSentPicture ds p stamp size qs
     → length p.samples ≡ sample_count p.format → AreAmong ds xs
     → ((x : Offer) → IsMember x (flat_map (offers o) xs) → x.timestamp ≡ stamp.timestamp
     → x.value ≡ value_at p x.position)
@@ -148,7 +148,7 @@ with_cells f cells = record { format = f; cells = cells }
 -- picture's, the raster is the picture.
 pub whole_raster : (o : Opening) (p : Values) (stamp : Stamp) (size : ℕ)
     (qs : List (List PacketRun)) (ds xs : List (List ℕ))
-    → IsOpenFor o p.format stamp.payload_type stamp.ssrc → IsSentPicture p stamp size qs ds
+    → IsOpenFor o p.format stamp.payload_type stamp.ssrc → IsSentPicture ds p stamp size qs
     → length p.samples ≡ sample_count p.format → AreAmong ds xs
     → ((x : Offer) → IsMember x (flat_map (offers o) xs) → x.timestamp ≡ stamp.timestamp
     → x.value ≡ value_at p x.position)
@@ -184,7 +184,7 @@ frame-raster o xs ts m = frame_there o.format (flat_map (offers o) xs) ts o.wind
 pub frame-whole : (o : Opening) (p : Values) (stamp : Stamp) (size : ℕ)
     (qs : List (List PacketRun)) (ds xs : List (List ℕ))
     → IsOpenFor o p.format stamp.payload_type stamp.ssrc → IsMember stamp.timestamp o.window
-    → length p.samples ≡ sample_count p.format → IsSentPicture p stamp size qs ds → AreAmong ds xs
+    → length p.samples ≡ sample_count p.format → IsSentPicture ds p stamp size qs → AreAmong ds xs
     → AreAmongAt xs ds o stamp.timestamp
     → frame_at o.window (frames_of o xs) stamp.timestamp ≡ Some (picture_raster p)
 frame-whole o p stamp size qs ds xs opened inside whole is all others =
@@ -229,7 +229,7 @@ among_offers o ts d ds (Ok g) fit read at x m h =
 pub frame-grammar : (o : Opening) (p : Values) (stamp : Stamp) (size : ℕ)
     (qs : List (List PacketRun)) (ds xs : List (List ℕ))
     → IsOpenFor o p.format stamp.payload_type stamp.ssrc → IsMember stamp.timestamp o.window
-    → length p.samples ≡ sample_count p.format → IsSentPicture p stamp size qs ds → AreAmong ds xs
+    → length p.samples ≡ sample_count p.format → IsSentPicture ds p stamp size qs → AreAmong ds xs
     → ((d : List ℕ) → IsMember d xs → AreOctets d)
     → ((d : List ℕ) (g : Datagram) → IsMember d xs → IsFor d o g → g.timestamp ≡ stamp.timestamp
     → IsMember d ds)

@@ -81,5 +81,5 @@ pub record IsSentAmong (p : Values) (s : Sender) (k : ℕ) (datagrams : List (Li
   pub packets : List (List PacketRun)
   pub mine : List (List ℕ)
   pub format : p.format ≡ s.format
-  pub picture : IsSentPicture p (stamp_of s k first) size packets mine
+  pub picture : IsSentPicture mine p (stamp_of s k first) size packets
   pub among : AreAmong mine datagrams

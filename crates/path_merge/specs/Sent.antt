@@ -37,17 +37,17 @@ pub record IsNextBy (s : Sender) (plan : RasterPlan) (k first : ℕ) (p : Values
     (later : List (List ℕ) → Type 0) (datagrams : List (List ℕ)) : Type 0 where
   pub mine : List (List ℕ)
   pub others : List (List ℕ)
-  pub picture : IsSentPicture p (stamp_of s k first) plan.max_octets plan.packets mine
+  pub picture : IsSentPicture mine p (stamp_of s k first) plan.max_octets plan.packets
   pub rest : later others
   pub whole : datagrams ≡ mine ++ others
 
 -- Datagrams are those of pictures from the k-th on, each picture's by the very packets of one plan,
 -- numbers running on from the first (SMPTE ST 2110-20, packets; ST 2110-10, RTP timestamps)
-abbrev pub AreSentBy : Sender → RasterPlan → ℕ → ℕ → List Values → List (List ℕ) → Type 0
-AreSentBy s plan k first [] datagrams = datagrams ≡ []
-AreSentBy s plan k first (p ∷ ps) datagrams =
+abbrev pub AreSentBy : List (List ℕ) → Sender → RasterPlan → ℕ → ℕ → List Values → Type 0
+AreSentBy datagrams s plan k first [] = datagrams ≡ []
+AreSentBy datagrams s plan k first (p ∷ ps) =
     IsNextBy s plan k first p
-    (AreSentBy s plan (k + 1) ((first + length plan.packets) % 2 ^ 32) ps) datagrams
+    (λ ds. AreSentBy ds s plan (k + 1) ((first + length plan.packets) % 2 ^ 32) ps) datagrams
 
 -- the receivers take the sender's datagrams alone: its format, payload type and source are pinned
 abbrev pub scene_of : RasterPlan → List Values → Stamp → List ℕ → ℕ → Scene
@@ -66,7 +66,7 @@ scene_of plan pictures stamp window receivers = record {
 pub record IsOfSender (s : Scene) (sender : Sender) (pictures : List Values) : Type 0 where
   pub first : ℕ
   pub datagrams : List (List ℕ)
-  pub list : IsSenderList sender first pictures datagrams
+  pub list : IsSenderList datagrams sender first pictures
   pub format : sender.format ≡ s.opening.format
   pub among : AreAmong s.sent datagrams
 

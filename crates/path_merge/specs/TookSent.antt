@@ -19,7 +19,7 @@ use Rattle.path_merge.specs.Sender.{AreAmong, IsOpenFor}
 pub record TookOfSender (r : State) (s : Sender) (pictures : List Values) : Type 0 where
   pub first : ℕ
   pub sent : List (List ℕ)
-  pub list : IsSenderList s first pictures sent
+  pub list : IsSenderList sent s first pictures
   pub format : s.format ≡ r.opening.format
   pub taken : List (List ℕ)
   pub holds : Holds r taken
@@ -43,7 +43,7 @@ pub record TookPicture (r : State) (p : Values) (stamp : Stamp) : Type 0 where
   pub size : ℕ
   pub packets : List (List PacketRun)
   pub sent : List (List ℕ)
-  pub picture : IsSentPicture p stamp size packets sent
+  pub picture : IsSentPicture sent p stamp size packets
   pub taken : List (List ℕ)
   pub holds : Holds r taken
   pub all : AreAmong sent taken

@@ -133,12 +133,12 @@ pub fn offered_by_sent()
     ensures datagram { (o : Opening) (p : Values) (stamp : Stamp) (i : ℕ) (is_last : Bool)
         (runs : List PacketRun) (octets : List ℕ) →
         IsOpenFor o p.format stamp.payload_type stamp.ssrc →
-        IsSentPacket p stamp i is_last runs octets →
+        IsSentPacket octets p stamp i is_last runs →
         offers o octets ≡ flat_map (run_offers p stamp.timestamp) runs }
     ensures picture { (o : Opening) (p : Values) (stamp : Stamp) (size : ℕ)
         (packets : List (List PacketRun)) (datagrams : List (List ℕ)) →
         IsOpenFor o p.format stamp.payload_type stamp.ssrc →
-        IsSentPicture p stamp size packets datagrams →
+        IsSentPicture datagrams p stamp size packets →
         flat_map (offers o) datagrams ≡ map (offer_at p stamp.timestamp) (places p.format) }
 {}
 
@@ -170,7 +170,7 @@ pub fn timestamps_differ()
 pub fn pictures_sent()
     ensures { (s : Sender) (first : ℕ) (pictures : List Values) (datagrams : List (List ℕ))
         (k : ℕ) (p : Values) →
-        IsSenderList s first pictures datagrams → slice_get pictures k ≡ Some p →
+        IsSenderList datagrams s first pictures → slice_get pictures k ≡ Some p →
         IsSentAmong p s k datagrams }
 {}
 

@@ -66,8 +66,8 @@ raster_formats qs = map (λ q. q.format) qs
 abbrev pub frames_lent : List (Bor Raster) → List Raster
 frames_lent fs = map (λ f. f.now) fs
 
-abbrev pub AreLentAt : ℕ → List State → List (Bor Raster) → Type 0
-AreLentAt ts rs fs =
+abbrev pub AreLentAt : List (Bor Raster) → ℕ → List State → Type 0
+AreLentAt fs ts rs =
     map (λ r. frame_at r.opening.window r.frames ts) rs ≡ map (λ f. Some f.now) fs
 
 abbrev pub FitsLent : List ℕ → List (Bor Raster) → Type 0

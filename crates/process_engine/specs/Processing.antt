@@ -25,7 +25,7 @@ use Rattle.process_engine.specs.Reading.{SayReceivers, SaysHeld}
 pub record TakesJob (job : Job) (pictures : List Values) (size : ℕ) (stamp : Stamp)
     (old new : Option (List (List ℕ))) (count : ℕ) : Type 0 where
   pub datagrams : List (List ℕ)
-  pub spell : IsSentJob job pictures size stamp datagrams
+  pub spell : IsSentJob datagrams job pictures size stamp
   pub taken : TakesAll old new datagrams
   pub count_is : count ≡ length datagrams % 2 ^ 32
 

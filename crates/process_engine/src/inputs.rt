@@ -28,7 +28,7 @@ pub fn frames_at<'a, A: Allocator + Copy>(
     receivers: &'a [Receiver<A>],
     timestamp: u32,
 ) -> Result<Vec<&'a Frame<A>, A>, Fault>
-    ensures are { IfOk result (λ v. AreLentAt timestamp receivers.now v.items) }
+    ensures are { IfOk result (λ v. AreLentAt v.items timestamp receivers.now) }
     ensures refused { IfErr result (λ f. OfRefusal f
         (λ r. (r ≡ Refusal.ProcessFrame) × LacksFrame timestamp receivers.now)) }
     ensures failures { Accounts result [] }

@@ -54,7 +54,7 @@ pub record Loops (max limit before after : ℕ) (given old new : Option (List �
   pub delivered : ℕ
   pub receiver : State
   pub read : (octets : List ℕ) → given ≡ Some octets → octets ≡ picture_text picture
-  pub plan : IsFullPlan picture.format max packets
+  pub plan : IsFullPlan packets picture.format max
   pub opening : receiver.opening ≡ loop_opening picture.format
   pub came : Came (min limit (length packets)) delivered receiver
   pub counted : CountsAll delivered before after

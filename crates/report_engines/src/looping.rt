@@ -182,7 +182,7 @@ fn pass<A: Allocator, L: DatagramLink>(
     ensures came { IfOk result (λ p. Came p.sent p.delivered receiver.new) }
     ensures counted { IfOk result (λ p. CountsAll p.delivered
         (L.DatagramSource.delivered link.old) (L.DatagramSource.delivered link.new)) }
-    ensures plan { IsFullPlan plan.now.format plan.now.max_octets plan.now.packets }
+    ensures plan { IsFullPlan plan.now.packets plan.now.format plan.now.max_octets }
     ensures turns { L.DatagramSource.delivered link.new
         ≤ L.DatagramSource.delivered link.old + limit }
     ensures opening { receiver.new.opening ≡ receiver.old.opening }
@@ -214,7 +214,7 @@ fn pass_one<A: Allocator, L: DatagramLink>(
     buf: &mut [u8],
     index: u32,
 ) -> Result<u64, Fault>
-    requires plan { IsFullPlan plan.now.format plan.now.max_octets plan.now.packets }
+    requires plan { IsFullPlan plan.now.packets plan.now.format plan.now.max_octets }
     requires index { index < length plan.now.packets }
     requires format { picture.now.format ≡ plan.now.format }
     requires room { length buf.old ≡ 65535 }

@@ -66,11 +66,11 @@ pub fn play<A: Allocator + Copy, B: Allocator, C: Allocator>(
     // The datagrams are those of one sender's list, by the plan's own packets, and each frame is
     // the sender's.
     ensures list { OnOk result
-        (IsSenderList (sender_of plan.now stamp) stamp.first pictures.now
-        (scene_of plan.now pictures.now stamp window.now receivers).sent) }
+        (IsSenderList (scene_of plan.now pictures.now stamp window.now receivers).sent
+        (sender_of plan.now stamp) stamp.first pictures.now) }
     ensures packets { OnOk result
-        (AreSentBy (sender_of plan.now stamp) plan.now 0 stamp.first pictures.now
-        (scene_of plan.now pictures.now stamp window.now receivers).sent) }
+        (AreSentBy (scene_of plan.now pictures.now stamp window.now receivers).sent (sender_of plan.now stamp) plan.now 0 stamp.first
+        pictures.now) }
     ensures senders { OnOk result ((stay : Stay) (frame : Raster) →
         IsFrameOf frame stay (scene_of plan.now pictures.now stamp window.now receivers) events.now
         → IsSendersFrame frame stay (sender_of plan.now stamp) pictures.now

@@ -5,7 +5,7 @@ use Rattle.key_mix.proofs.jobs.run_job.Goals as goal
 
 pub returns-in-1-clause-made : goal.returns-in-1-clause-made
 returns-in-1-clause-made g c =
-    subst (λ xs. IfOk c.run_on_one.result (λ p. IsJobPicture c.args.job.now xs p))
+    subst (λ xs. IfOk c.run_on_one.result (λ p. IsJobPicture p c.args.job.now xs))
     (one c.args.inputs.now
     c.index-inputs-0.result c.in-1.is
     c.index-inputs-0.is)
@@ -29,7 +29,7 @@ returns-in-1-clause-fault g c =
 
 pub returns-in-2-clause-made : goal.returns-in-2-clause-made
 returns-in-2-clause-made g c =
-    subst (λ xs. IfOk c.run_on_two.result (λ p. IsJobPicture c.args.job.now xs p))
+    subst (λ xs. IfOk c.run_on_two.result (λ p. IsJobPicture p c.args.job.now xs))
     (two c.args.inputs.now
     c.index-inputs-0-in-2.result c.index-inputs-1.result c.in-2.is
     c.index-inputs-0-in-2.is c.index-inputs-1.is)
@@ -53,7 +53,7 @@ returns-in-2-clause-fault g c =
 
 pub returns-in-3-clause-made : goal.returns-in-3-clause-made
 returns-in-3-clause-made g c =
-    subst (λ xs. IfOk c.run_on_three.result (λ p. IsJobPicture c.args.job.now xs p))
+    subst (λ xs. IfOk c.run_on_three.result (λ p. IsJobPicture p c.args.job.now xs))
     (three c.args.inputs.now
     c.index-inputs-0-in-3.result c.index-inputs-1-in-3.result c.index-inputs-2.result c.in-3.is
     c.index-inputs-0-in-3.is c.index-inputs-1-in-3.is c.index-inputs-2.is)

@@ -41,7 +41,7 @@ returns-in_err-limited_copy-in-Limit-clause-fault g c =
 pub returns-in_ok-limited_copy-in-Limit-clause-made :
     goal.returns-in_ok-limited_copy-in-Limit-clause-made
 returns-in_ok-limited_copy-in-Limit-clause-made g c =
-    subst (λ j. IsJobPicture j (c.args.picture.now ∷ []) c.in_ok-limited_copy-in-Limit.field-0)
+    subst (λ j. IsJobPicture c.in_ok-limited_copy-in-Limit.field-0 j (c.args.picture.now ∷ []))
     (sym c.in-Limit.is) c.in_ok-limited_copy-in-Limit.ensures.value
 
 pub returns-in_ok-limited_copy-in-Limit-clause-whole :
@@ -88,7 +88,7 @@ returns-in_err-gained_copy-in-Gain-2-clause-fault g c =
 pub returns-in_ok-gained_copy-in-Gain-2-clause-made :
     goal.returns-in_ok-gained_copy-in-Gain-2-clause-made
 returns-in_ok-gained_copy-in-Gain-2-clause-made g c =
-    subst (λ j. IsJobPicture j (c.args.picture.now ∷ []) c.in_ok-gained_copy-in-Gain-2.field-0)
+    subst (λ j. IsJobPicture c.in_ok-gained_copy-in-Gain-2.field-0 j (c.args.picture.now ∷ []))
     (sym c.in-Gain-2.is) c.in_ok-gained_copy-in-Gain-2.ensures.value
 
 pub returns-in_ok-gained_copy-in-Gain-2-clause-whole :
@@ -134,7 +134,7 @@ pub returns-in_ok-to_ycc444-in-ToYcc444-clause-made :
     goal.returns-in_ok-to_ycc444-in-ToYcc444-clause-made
 returns-in_ok-to_ycc444-in-ToYcc444-clause-made g c =
     let p = c.in_ok-to_ycc444-in-ToYcc444 in
-    subst (λ j. IsJobPicture j (c.args.picture.now ∷ []) p.field-0) (sym c.in-ToYcc444.is)
+    subst (λ j. IsJobPicture p.field-0 j (c.args.picture.now ∷ [])) (sym c.in-ToYcc444.is)
     (p.ensures.format, p.ensures.made)
 
 pub returns-in_ok-to_ycc444-in-ToYcc444-clause-whole :
@@ -180,7 +180,7 @@ pub returns-in_ok-to_ycc422-in-ToYcc422-clause-made :
     goal.returns-in_ok-to_ycc422-in-ToYcc422-clause-made
 returns-in_ok-to_ycc422-in-ToYcc422-clause-made g c =
     let p = c.in_ok-to_ycc422-in-ToYcc422 in
-    subst (λ j. IsJobPicture j (c.args.picture.now ∷ []) p.field-0) (sym c.in-ToYcc422.is)
+    subst (λ j. IsJobPicture p.field-0 j (c.args.picture.now ∷ [])) (sym c.in-ToYcc422.is)
     (p.ensures.format, p.ensures.made)
 
 pub returns-in_ok-to_ycc422-in-ToYcc422-clause-whole :

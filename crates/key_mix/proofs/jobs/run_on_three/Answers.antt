@@ -5,8 +5,9 @@ use Rattle.key_mix.proofs.jobs.run_on_three.Goals as goal
 
 pub returns-in-Key-clause-made : goal.returns-in-Key-clause-made
 returns-in-Key-clause-made g c =
-    subst (λ j. IfOk c.key.result (IsJobPicture j (c.args.a.now ∷ c.args.b.now ∷ c.args.by.now ∷
-    [])))
+    subst
+    (λ j. IfOk c.key.result
+    (λ p. IsJobPicture p j (c.args.a.now ∷ c.args.b.now ∷ c.args.by.now ∷ [])))
     (sym c.in-Key.is) c.key.ensures.made
 
 pub returns-in-Key-clause-whole : goal.returns-in-Key-clause-whole

@@ -5,7 +5,7 @@ use Rattle.key_mix.proofs.jobs.run_on_two.Goals as goal
 
 pub returns-in-Wipe-clause-made : goal.returns-in-Wipe-clause-made
 returns-in-Wipe-clause-made g c =
-    subst (λ j. IfOk c.wipe.result (IsJobPicture j (c.args.a.now ∷ c.args.b.now ∷ [])))
+    subst (λ j. IfOk c.wipe.result (λ p. IsJobPicture p j (c.args.a.now ∷ c.args.b.now ∷ [])))
     (sym c.in-Wipe.is) c.wipe.ensures.made
 
 pub returns-in-Wipe-clause-whole : goal.returns-in-Wipe-clause-whole

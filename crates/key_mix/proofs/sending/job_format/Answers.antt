@@ -5,7 +5,7 @@ use Rattle.key_mix.proofs.sending.job_format.Goals as goal
 
 pub returns-in-len1-clause-format : goal.returns-in-len1-clause-format
 returns-in-len1-clause-format g c =
-    subst (λ fs. IfOk c.format_of_one.result (λ f. IsJobFormat c.args.job.now fs f))
+    subst (λ fs. IfOk c.format_of_one.result (λ f. IsJobFormat f c.args.job.now fs))
     (map_one (λ i. i.frame.now.format) c.args.inputs.now
     c.a-item.result
     c.format.result
@@ -38,7 +38,7 @@ returns-in-len1-clause-refusal g c =
 
 pub returns-in-len2-clause-format : goal.returns-in-len2-clause-format
 returns-in-len2-clause-format g c =
-    subst (λ fs. IfOk c.format_of_two.result (λ f. IsJobFormat c.args.job.now fs f))
+    subst (λ fs. IfOk c.format_of_two.result (λ f. IsJobFormat f c.args.job.now fs))
     (map_two (λ i. i.frame.now.format) c.args.inputs.now
     c.a-item-then-inputs-lt3.result c.b-item.result
     c.format-in-len2.result c.format-in-len2-2.result
@@ -71,7 +71,7 @@ returns-in-len2-clause-refusal g c =
 
 pub returns-in-len3-clause-format : goal.returns-in-len3-clause-format
 returns-in-len3-clause-format g c =
-    subst (λ fs. IfOk c.format_of_three.result (λ f. IsJobFormat c.args.job.now fs f))
+    subst (λ fs. IfOk c.format_of_three.result (λ f. IsJobFormat f c.args.job.now fs))
     (map_three (λ i. i.frame.now.format) c.args.inputs.now
     c.a-item-then-inputs-lt4.result c.b-item-then-inputs-lt4.result c.by-item.result
     c.format-in-len3.result c.format-in-len3-2.result c.format-in-len3-3.result

@@ -12,7 +12,7 @@ send_picture-requires-clause-format g c =
     let inputs = c.args.inputs.now in
     let p = c.in_ok-picture.picture in
     job_format_once j (input_formats inputs) p.format c.in_ok-plan.plan.format
-    (subst (λ fs. IsJobFormat j fs p.format) (settled_formats inputs)
+    (subst (λ fs. IsJobFormat p.format j fs) (settled_formats inputs)
     (picture_format j (settled_inputs inputs) p c.in_ok-picture.ensures.made))
     c.in_ok-plan.ensures.format
 
@@ -22,14 +22,14 @@ returns-clause-sent g c =
     let plan = c.in_ok-plan.plan in
     let stamp = c.args.stamp in
     sends_as
-    (IsSentJob c.args.job.now (settled_inputs c.args.inputs.now) c.args.max_octets stamp)
-    (IsSentPicture p stamp plan.max_octets plan.packets) stamp.first
+    (λ ds. IsSentJob ds c.args.job.now (settled_inputs c.args.inputs.now) c.args.max_octets stamp)
+    (λ ds. IsSentPicture ds p stamp plan.max_octets plan.packets) stamp.first
     (g.S.DatagramSink.taken c.args.sink.now) (g.S.DatagramSink.taken c.send_picture.new.sink)
     c.send_picture.result
     (λ (ds : List (List ℕ)) h. record {
       picture = p;
       made = c.in_ok-picture.ensures.made;
       plan = plan.packets;
-      sent = subst (λ size. IsSentPicture p stamp size plan.packets ds)
+      sent = subst (λ size. IsSentPicture ds p stamp size plan.packets)
           c.in_ok-plan.ensures.octets h;
     }) c.send_picture.ensures.sent

@@ -70,9 +70,9 @@ returns-clause-looped g c =
       receiver = receiver;
       read = c.in_ok-picture.ensures.found;
       plan =
-          subst (λ (m : ℕ). IsFullPlan c.in_ok-picture.picture.format m plan.packets)
+          subst (λ (m : ℕ). IsFullPlan plan.packets c.in_ok-picture.picture.format m)
           c.in_ok-plan.ensures.made.1
-          (subst (λ (f : Format). IsFullPlan f plan.max_octets plan.packets)
+          (subst (λ (f : Format). IsFullPlan plan.packets f plan.max_octets)
           (c.in_ok-plan.ensures.made.0 ∙ c.format.ensures.value) c.in_ok-passed.ensures.plan);
       opening = c.in_ok-passed.ensures.opening ∙ c.in_ok-receiver.ensures.opening;
       came =

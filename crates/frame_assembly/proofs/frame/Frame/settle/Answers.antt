@@ -21,8 +21,8 @@ from_samples-requires g c =
     c.as_slice.ensures.value
     ∙ ap (cells_in c.self.inside.format c.self.inside.marks.items) c.as_slice-2.ensures.value in
     let r : Raster = frame_view c.self.inside.format items in
-    let is_base : IsBaseOf c.self.inside.format c.args.base =
-    subst (λ (q : Raster). IsBaseOf q.format c.args.base) (sym c.self.view_is) c.requires in
+    let is_base : IsBaseOf c.args.base c.self.inside.format =
+    subst (λ (q : Raster). IsBaseOf c.args.base q.format) (sym c.self.view_is) c.requires in
     subst (λ (xs : List ℕ). IsPicture (values c.self.inside.format xs))
     (sym (settled_as c.self.inside.format items lent c.in_ok-samples.samples.items c.args.base
     is_base c.self.invariant.frame.whole same c.in_ok-samples.ensures.settled))
@@ -39,8 +39,8 @@ returns-clause-settled g c =
     (ms : List ℕ). cells_in c.self.inside.format ms c.as_slice-2.result.now)
     c.as_slice.ensures.value
     ∙ ap (cells_in c.self.inside.format c.self.inside.marks.items) c.as_slice-2.ensures.value in
-    let is_base : IsBaseOf c.self.inside.format c.args.base =
-    subst (λ (q : Raster). IsBaseOf q.format c.args.base) (sym c.self.view_is) c.requires in
+    let is_base : IsBaseOf c.args.base c.self.inside.format =
+    subst (λ (q : Raster). IsBaseOf c.args.base q.format) (sym c.self.view_is) c.requires in
     c.from_samples.ensures.value
     ∙ ap (values c.self.inside.format)
     (settled_as c.self.inside.format items lent c.in_ok-samples.samples.items c.args.base

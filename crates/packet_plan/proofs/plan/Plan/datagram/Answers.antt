@@ -8,7 +8,7 @@ pub returns-clause-sent : goal.returns-clause-sent
 returns-clause-sent g c =
     let rs = packet_at c.args.self.now c.args.index in
     let last = eqb (c.args.index + 1) (length c.args.self.now.packets) in
-    subst (λ (xs : List ℕ). IsSentPacket c.args.picture.now c.args.stamp c.args.index last rs xs)
+    subst (λ (xs : List ℕ). IsSentPacket xs c.args.picture.now c.args.stamp c.args.index last rs)
     (sym c.write_packet.ensures.text)
     (sent_text c.args.picture.now c.args.stamp c.args.index last rs
     (runs_at c.args.self.now.format c.args.picture.now.format rs rs c.requires.format refl

@@ -5,7 +5,7 @@ use Rattle.packet_plan.proofs.plan.Plan.facts.Goals as goal
 
 pub returns-clause-full : goal.returns-clause-full
 returns-clause-full g c =
-    subst (λ (p : RasterPlan). IsFullPlan p.format p.max_octets p.packets) c.self.view_is
+    subst (λ (p : RasterPlan). IsFullPlan p.packets p.format p.max_octets) c.self.view_is
     (promised c.self.inside.format c.self.inside.max_octets c.self.inside.starts.items
     c.self.invariant)
 
