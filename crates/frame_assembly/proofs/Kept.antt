@@ -18,7 +18,7 @@ use Rattle.st_format.specs.Position.{sample_count}
 use Rattle.st_format.specs.Raster.{Raster, cells_of, joined_cells, joined_rasters, offers_in_all}
 use Rattle.payload_header.specs.declared.payload.Segment.{Segment as SegmentView}
 use Rattle.payload_header.specs.declared.payload.PayloadView.{PayloadView}
-use Rattle.payload_header.specs.Payload.{seen}
+use Rattle.payload_header.specs.Payload.{seen_segment}
 use Rattle.payload_header.specs.View.{segments_of}
 use Rattle.st_format.specs.Samples.{bits, values_in}
 use Rattle.st_format.proofs.Spelled.{values_in-spelled}
@@ -216,7 +216,7 @@ pub frame_put : (ts marks_len octets_len : ℕ) (f : Format) (r : Raster)
     → length new_marks ≡ marks_len → length new_octets ≡ octets_len → segs ≡ v.segments.items
     → cells_in f new_marks new_octets
     ≡ joined_cells (cells_in f cells_marks cells_octets)
-    (cells_of f (offers_in_all f ts (map seen segs)) ts)
+    (cells_of f (offers_in_all f ts (map seen_segment segs)) ts)
     → cells_in f (put_back marks_len marks new_marks) (put_back octets_len octets new_octets)
     ≡ joined_cells r.cells (cells_of r.format (offers_in_all r.format ts (segments_of v)) ts)
 frame_put ts marks_len octets_len f r marks octets cells_marks cells_octets new_marks new_octets v
@@ -224,13 +224,13 @@ frame_put ts marks_len octets_len f r marks octets cells_marks cells_octets new_
     cells_back f marks_len octets_len marks octets new_marks new_octets long other_long ∙ joins
     ∙ ap
     (λ (ms : List ℕ). joined_cells (cells_in f ms cells_octets)
-    (cells_of f (offers_in_all f ts (map seen segs)) ts)) same_marks
+    (cells_of f (offers_in_all f ts (map seen_segment segs)) ts)) same_marks
     ∙ ap
     (λ (os : List ℕ). joined_cells (cells_in f marks os)
-    (cells_of f (offers_in_all f ts (map seen segs)) ts)) same_octets
+    (cells_of f (offers_in_all f ts (map seen_segment segs)) ts)) same_octets
     ∙ ap
     (λ (ss : List SegmentView). joined_cells (cells_in f marks octets)
-    (cells_of f (offers_in_all f ts (map seen ss)) ts)) is_segs
+    (cells_of f (offers_in_all f ts (map seen_segment ss)) ts)) is_segs
     ∙ ap
     (λ (q : Raster). joined_cells q.cells
     (cells_of q.format (offers_in_all q.format ts (segments_of v)) ts)) is_view

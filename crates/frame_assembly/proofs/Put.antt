@@ -18,7 +18,7 @@ use Rattle.pgroup_pack.proofs.Values.{length-values_in}
 use Rattle.pgroup_pack.proofs.Values.{spelled_values}
 use Rattle.st_format.proofs.Rasters.{cells_of-append, joined-assoc, joined_none}
 use Rattle.payload_header.specs.declared.payload.Segment.{Segment as SegmentView}
-use Rattle.payload_header.specs.Payload.{IsInside, seen}
+use Rattle.payload_header.specs.Payload.{IsInside, seen_segment}
 use Rattle.frame_assembly.specs.Written.{written_from}
 use Rattle.frame_assembly.proofs.WrittenLemmas.{written_from-joined}
 
@@ -110,13 +110,13 @@ segment_written f ts cells s whole is =
 -- One segment joined, and the segments that are left
 pub segments_more : (f : Format) (ts i : ℕ) (old cells new : List Cell) (ss : List SegmentView)
     (d : SegmentView) → i < length ss
-    → new ≡ joined_cells cells (cells_of f (offers_in f ts (seen (get_or ss i d))) ts)
-    → joined_cells cells (cells_of f (offers_in_all f ts (map seen (drop i ss))) ts) ≡ old
-    → joined_cells new (cells_of f (offers_in_all f ts (map seen (drop (i + 1) ss))) ts) ≡ old
+    → new ≡ joined_cells cells (cells_of f (offers_in f ts (seen_segment (get_or ss i d))) ts)
+    → joined_cells cells (cells_of f (offers_in_all f ts (map seen_segment (drop i ss))) ts) ≡ old
+    → joined_cells new (cells_of f (offers_in_all f ts (map seen_segment (drop (i + 1) ss))) ts) ≡ old
 segments_more f ts i old cells new ss d lt is before =
-    let rest : List Segment = map seen (drop (i + 1) ss) in
-    let s : Segment = seen (get_or ss i d) in
-    let split : map seen (drop i ss) ≡ s ∷ rest = rw (drop-cons ss i d lt, add-one) refl in
+    let rest : List Segment = map seen_segment (drop (i + 1) ss) in
+    let s : Segment = seen_segment (get_or ss i d) in
+    let split : map seen_segment (drop i ss) ≡ s ∷ rest = rw (drop-cons ss i d lt, add-one) refl in
     ap (λ (cs : List Cell). joined_cells cs (cells_of f (offers_in_all f ts rest) ts)) is
     ∙ joined-assoc cells (cells_of f (offers_in f ts s) ts)
     (cells_of f (offers_in_all f ts rest) ts)
@@ -128,11 +128,11 @@ segments_more f ts i old cells new ss d lt is before =
 
 pub segments_all : (f : Format) (ts i : ℕ) (old cells : List Cell) (ss : List SegmentView)
     → length cells ≡ sample_count f → length ss ≤ i
-    → joined_cells cells (cells_of f (offers_in_all f ts (map seen (drop i ss))) ts) ≡ old
+    → joined_cells cells (cells_of f (offers_in_all f ts (map seen_segment (drop i ss))) ts) ≡ old
     → cells ≡ old
 segments_all f ts i old cells ss whole le before =
     let none : drop i ss ≡ [] = drop_all i ss le in
     sym (joined_none f ts cells whole)
     ∙ ap
     (λ (xs : List SegmentView). joined_cells cells
-    (cells_of f (offers_in_all f ts (map seen xs)) ts)) (sym none) ∙ before
+    (cells_of f (offers_in_all f ts (map seen_segment xs)) ts)) (sym none) ∙ before

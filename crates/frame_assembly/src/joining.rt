@@ -2,7 +2,7 @@
 ghost use Rattle.std.specs.Prelude.{◌≡◌, ◌<◌, ◌≤◌, ◌+◌, ◌*◌, ◌/◌, ℕ, length, All, map};
 ghost use Rattle.frame_assembly.specs.Packed.{AreJoined, ArePacked, cells_in, group_count};
 ghost use Rattle.frame_assembly.specs.Packed.{whole_marks};
-ghost use Rattle.payload_header.specs.Payload.{IsInside, seen};
+ghost use Rattle.payload_header.specs.Payload.{IsInside, seen_segment};
 ghost use Rattle.st_format.specs.Pgroup.{pixel_group};
 ghost use Rattle.st_format.specs.Raster.{cells_of, joined_cells, offers_in, offers_in_all};
 
@@ -50,12 +50,12 @@ pub fn join_segments(
     requires whole { length marks.old ≡ group_count format.now }
     requires packed { ArePacked format.now marks.old octets.old }
     requires inside { All
-        (λ s. 0 < length s.octets.now → IsInside (seen s) format.now) segments.now }
+        (λ s. 0 < length s.octets.now → IsInside (seen_segment s) format.now) segments.now }
     ensures packed { ArePacked format.now marks.new octets.new }
     ensures cells { (ts : ℕ)
         → cells_in format.now marks.new octets.new
         ≡ joined_cells (cells_in format.now marks.old octets.old)
-        (cells_of format.now (offers_in_all format.now ts (map seen segments.now)) ts) }
+        (cells_of format.now (offers_in_all format.now ts (map seen_segment segments.now)) ts) }
 {
     for segment in segments {
         join_segment(format, marks, octets, segment);
@@ -66,12 +66,12 @@ pub fn join_segments(
 fn join_segment(format: &Format, marks: &mut [u16], octets: &mut [u8], segment: &Segment<'_>)
     requires whole { length marks.old ≡ group_count format.now }
     requires packed { ArePacked format.now marks.old octets.old }
-    requires inside { 0 < length segment.now.octets.now → IsInside (seen segment.now) format.now }
+    requires inside { 0 < length segment.now.octets.now → IsInside (seen_segment segment.now) format.now }
     ensures packed { ArePacked format.now marks.new octets.new }
     ensures cells { (ts : ℕ)
         → cells_in format.now marks.new octets.new
         ≡ joined_cells (cells_in format.now marks.old octets.old)
-        (cells_of format.now (offers_in format.now ts (seen segment.now)) ts) }
+        (cells_of format.now (offers_in format.now ts (seen_segment segment.now)) ts) }
 {
     if segment.octets.is_empty() {
         return;

@@ -10,7 +10,7 @@ use Rattle.st_format.specs.declared.format.Format.{Format}
 use Rattle.st_format.specs.Pgroup.{bits_of}
 use Rattle.st_format.specs.Picture.{Values, IsPicture, FitsDepth}
 use Rattle.st_format.specs.Raster.{Segment}
-use Rattle.rtp_header.specs.Grammar.{Rtp, IsPlainRtp, fixed_text, plain}
+use Rattle.rtp_header.specs.Grammar.{Rtp, IsPlainRtp, fixed_text, plain_flags}
 use Rattle.rtp_header.proofs.Written.{plain_rtp}
 use Rattle.payload_header.specs.Payload.{group_of, header_text, IsInside}
 use Rattle.payload_header.specs.Writing.{HeadFits, Announces, AreInside, AreHeads, IsWholePayload}
@@ -230,11 +230,11 @@ runs_at f g rs qs e h are =
 
 -- a plain datagram's octets
 pub plain_octets : (r : Rtp) (octets : List ℕ) → IsPlainRtp octets r
-    → octets ≡ fixed_text plain r ++ r.payload
+    → octets ≡ fixed_text plain_flags r ++ r.payload
 plain_octets r octets is =
     let tail : is.is.source_list ++ (is.is.extension ++ (r.payload ++ is.is.padding)) ≡ r.payload =
     rw (is.no_sources, is.no_extension, is.no_padding) (append-nil r.payload) in
-    is.is.whole ∙ rw (is.flags) (ap (λ (xs : List ℕ). fixed_text plain r ++ xs) tail)
+    is.is.whole ∙ rw (is.flags) (ap (λ (xs : List ℕ). fixed_text plain_flags r ++ xs) tail)
 
 length-heads : (heads : List SegmentHead)
     → length (flat_map header_text (headers_of_heads heads)) ≡ 6 * length heads
@@ -257,12 +257,12 @@ pub front_at : (r : Rtp) (xs ys behind post : List ℕ) (extended n : ℕ) (hs k
     → IsPlainRtp (take 12 xs ++ []) r → r.payload ≡ [] → ys ≡ front_text extended hs ++ behind
     → hs ≡ ks
     → n ≡ 2 + 6 * length hs → 12 ≤ length xs
-    → take (12 + n) (take 12 xs ++ (ys ++ post)) ≡ fixed_text plain r ++ front_text extended ks
+    → take (12 + n) (take 12 xs ++ (ys ++ post)) ≡ fixed_text plain_flags r ++ front_text extended ks
 front_at r xs ys behind post extended n hs ks is none parts same long room =
     let t : List ℕ = front_text extended hs in
-    let head : take 12 xs ≡ fixed_text plain r =
+    let head : take 12 xs ≡ fixed_text plain_flags r =
     sym (append-nil (take 12 xs)) ∙ plain_octets r (take 12 xs ++ []) is
-    ∙ ap (λ (zs : List ℕ). fixed_text plain r ++ zs) none ∙ append-nil (fixed_text plain r) in
+    ∙ ap (λ (zs : List ℕ). fixed_text plain_flags r ++ zs) none ∙ append-nil (fixed_text plain_flags r) in
     let count : length (take 12 xs ++ t) ≡ 12 + n =
     omega (arith, length-append (take 12 xs) t, length-take-le 12 xs room, length-heads hs) in
     ap (λ (zs : List ℕ). take (12 + n) (take 12 xs ++ (zs ++ post))) parts
@@ -270,7 +270,7 @@ front_at r xs ys behind post extended n hs ks is none parts same long room =
     ∙ ap (take (12 + n)) (sym (append_assoc (take 12 xs) t (behind ++ post)))
     ∙ take_at (take 12 xs ++ t) (behind ++ post) (12 + n) count
     ∙ ap (λ (zs : List ℕ). zs ++ t) head
-    ∙ ap (λ (gs : List SegmentHead). fixed_text plain r ++ front_text extended gs) same
+    ∙ ap (λ (gs : List SegmentHead). fixed_text plain_flags r ++ front_text extended gs) same
 
 -- how long it is
 pub octets_at : (p : Values) (rs : List PacketRun)

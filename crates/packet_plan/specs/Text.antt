@@ -6,7 +6,7 @@ use Rattle.st_format.specs.declared.format.Format.{Format}
 use Rattle.st_format.specs.Pgroup.{bits_of}
 use Rattle.st_format.specs.Picture.{Values}
 use Rattle.st_format.specs.Samples.{octets_in}
-use Rattle.rtp_header.specs.Grammar.{Rtp, fixed_text, plain}
+use Rattle.rtp_header.specs.Grammar.{Rtp, fixed_text, plain_flags}
 use Rattle.payload_header.specs.Payload.{group_of, most_segments}
 use Rattle.payload_header.specs.Writing.{front_text}
 use Rattle.payload_header.specs.declared.writing.SegmentHead.{SegmentHead}
@@ -53,7 +53,7 @@ number_of stamp i = (stamp.first + i) % 2 ^ 32
 abbrev pub datagram_text : Values → Stamp → ℕ → Bool → List PacketRun → List ℕ
 datagram_text p stamp i is_last runs =
     let payload : List ℕ = payload_text p (number_of stamp i) runs in
-    fixed_text plain (header_of stamp (number_of stamp i) is_last payload) ++ payload
+    fixed_text plain_flags (header_of stamp (number_of stamp i) is_last payload) ++ payload
 
 -- the datagrams of packets, from the i-th on
 abbrev pub datagram_texts : Values → Stamp → ℕ → List (List PacketRun) → List (List ℕ)

@@ -179,8 +179,8 @@ pub texts_by : (plan : RasterPlan) (stamp : Stamp) (ps : List Values)
     → IsFullPlan plan.packets plan.format plan.max_octets → stamp.payload_type < 128
     → stamp.ssrc < 2 ^ 32
     → ArePictures ps plan.format → All IsPicture ps
-    → AreSentBy (texts_from (sender_of plan stamp) plan.packets 0 stamp.first ps) (sender_of plan stamp) plan 0 stamp.first
-    ps
+    → AreSentBy (texts_from (sender_of plan stamp) plan.packets 0 stamp.first ps)
+    (sender_of plan stamp) plan 0 stamp.first ps
 texts_by plan stamp ps full low fits are whole =
     sent_by (sender_of plan stamp) plan 0 stamp.first ps refl full low fits
     (recursion_from_All (λ (p : Values). p.format ≡ plan.format) ps are.of_format)

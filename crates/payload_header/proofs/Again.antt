@@ -25,7 +25,7 @@ use Rattle.payload_header.specs.Reading.{data_at, payload_walk}
 use Rattle.st_format.specs.Reading.{Gives}
 use Rattle.std.specs.Prelude.{IfOk}
 use Rattle.payload_header.specs.declared.payload.PayloadView.{PayloadView}
-use Rattle.payload_header.specs.View.{said, segments_of}
+use Rattle.payload_header.specs.View.{said_payload, segments_of}
 use Rattle.payload_header.proofs.Taken.{payload_takes}
 use Rattle.st_format.specs.Device.{AreOctets}
 use Rattle.payload_header.proofs.Grammar.{octets_of-cons}
@@ -289,15 +289,15 @@ payload_again f extended segments octets is =
 
 -- The clauses of a reader that gives what reading gives
 pub is_found : (f : Format) (octets : List ℕ) (r : Result PayloadView PayloadFault)
-    → AreOctets octets → Gives said r (payload_walk f octets)
+    → AreOctets octets → Gives said_payload r (payload_walk f octets)
     → IfOk r (λ v. IsPayload octets f v.extended (segments_of v))
 is_found f octets (Ok v) bytes gives =
     payload_takes f octets (v.extended, segments_of v) bytes gives
 is_found f octets (Err e) bytes gives = tt
 
 pub is_only : (f : Format) (octets : List ℕ) (r : Result PayloadView PayloadFault)
-    → Gives said r (payload_walk f octets)
+    → Gives said_payload r (payload_walk f octets)
     → (extended : ℕ) (segments : List Segment) → IsPayload octets f extended segments
-    → Gives said r (Ok (extended, segments))
+    → Gives said_payload r (Ok (extended, segments))
 is_only f octets (Ok v) gives e ss is = sym (payload_again f e ss octets is) ∙ gives
 is_only f octets (Err x) gives e ss is = sym (payload_again f e ss octets is) ∙ gives

@@ -15,7 +15,7 @@ use Rattle.payload_header.specs.declared.payload.PayloadFault.TheVariants.{Secon
 use Rattle.payload_header.specs.declared.payload.PayloadFault.TheVariants.{BadOffset, RowOutside}
 use Rattle.payload_header.specs.declared.payload.PayloadFault.TheVariants.{ColumnsOutside}
 use Rattle.payload_header.specs.declared.payload.Segment.{Segment as SegmentView}
-use Rattle.payload_header.specs.Payload.{group_of, Header, IsInside, Describes, seen}
+use Rattle.payload_header.specs.Payload.{group_of, Header, IsInside, Describes, seen_segment}
 use Rattle.payload_header.specs.Reading.{first_of, header_fault, headers_fault, option_or}
 use Rattle.payload_header.specs.Reading.{segments_at, octets_of}
 
@@ -115,17 +115,17 @@ all_inside f (h ∷ hs) [] d = absurd d
 all_inside f (h ∷ hs) (s ∷ ss) d = (d.0.inside, all_inside f hs ss d.1)
 
 seen_inside : (f : Format) (ss : List SegmentView)
-    → AllByRecursion (λ s. 0 < length s.octets → IsInside s f) (map seen ss)
-    → AllByRecursion (λ s. 0 < length s.octets.now → IsInside (seen s) f) ss
+    → AllByRecursion (λ s. 0 < length s.octets → IsInside s f) (map seen_segment ss)
+    → AllByRecursion (λ s. 0 < length s.octets.now → IsInside (seen_segment s) f) ss
 seen_inside f [] h = tt
 seen_inside f (s ∷ ss) h = (h.0, seen_inside f ss h.1)
 
 pub view_inside : (f : Format) (hs : List Header) (octets : List ℕ) (ss : List SegmentView)
-    → map seen ss ≡ segments_at hs octets → headers_fault f hs ≡ None → octets_of hs ≤ length octets
-    → All (λ s. 0 < length s.octets.now → IsInside (seen s) f) ss
+    → map seen_segment ss ≡ segments_at hs octets → headers_fault f hs ≡ None → octets_of hs ≤ length octets
+    → All (λ s. 0 < length s.octets.now → IsInside (seen_segment s) f) ss
 view_inside f hs octets ss is none enough =
-    All-from_recursion (λ s. 0 < length s.octets.now → IsInside (seen s) f) ss
+    All-from_recursion (λ s. 0 < length s.octets.now → IsInside (seen_segment s) f) ss
     (seen_inside f ss
-    (all_inside f hs (map seen ss)
+    (all_inside f hs (map seen_segment ss)
     (subst (λ (xs : List Segment). AllZip (λ h s. Describes h f s) hs xs) (sym is)
     (all_described f hs octets none enough))))

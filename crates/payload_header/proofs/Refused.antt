@@ -24,7 +24,7 @@ use Rattle.payload_header.specs.Reading.{fault_or, segments_at, octets_of, data_
 use Rattle.st_format.specs.Reading.{Gives}
 use Rattle.payload_header.specs.Faults.{BeginsWith, AllGoOn, LacksHeader, GoesOn, HasHeaders}
 use Rattle.payload_header.specs.Faults.{HasFault, LacksData, IsRefusedPayload}
-use Rattle.payload_header.specs.View.{said}
+use Rattle.payload_header.specs.View.{said_payload}
 use Rattle.payload_header.proofs.Taken.{IsText, text_at, Heads, headers_take}
 use Rattle.st_format.proofs.Octets.{AreOctets-drop}
 use Rattle.st_format.specs.Device.{AreOctets}
@@ -400,7 +400,7 @@ refused_payload f octets ShortData is = lacks_data f octets is
 
 -- The clause of a reader that gives what reading gives
 pub is_refused : (f : Format) (octets : List ℕ) (r : Result PayloadView PayloadFault)
-    → AreOctets octets → Gives said r (payload_walk f octets)
+    → AreOctets octets → Gives said_payload r (payload_walk f octets)
     → (fault : PayloadFault) → (r ≡ Err fault) ↔ IsRefusedPayload octets f fault
 is_refused f octets (Ok v) bytes gives fault =
     (λ e. absurd cc, λ is. let e = refused_payload f octets fault is in absurd cc)

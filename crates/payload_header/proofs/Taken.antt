@@ -15,7 +15,7 @@ use Rattle.st_format.specs.Raster.{Segment}
 use Rattle.payload_header.specs.declared.payload.PayloadFault.{PayloadFault}
 use Rattle.payload_header.specs.declared.payload.PayloadFault.TheVariants.{ShortPayloadHeader}
 use Rattle.payload_header.specs.declared.payload.PayloadFault.TheVariants.{ShortData}
-use Rattle.payload_header.specs.Payload.{Header, HeaderFits, flagged, header_text, IsChain}
+use Rattle.payload_header.specs.Payload.{Header, HeaderFits, flagged_number, header_text, IsChain}
 use Rattle.payload_header.specs.Payload.{IsPayload, most_segments}
 use Rattle.payload_header.specs.Reading.{number_at, header_of, headers_at, headers_fault}
 use Rattle.st_format.specs.Device.{AreOctets}
@@ -32,13 +32,13 @@ two_back two len bytes = be_bytes_2 two (from_be_bytes w16 two) len bytes refl
 
 -- fifteen bits behind a flag
 flag_back_at : (n : ℕ) (b : Bool) → n < 2 ^ 16 → leb (2 ^ 15) n ≡ b
-    → flagged b (n % 2 ^ 15) ≡ to_be_bytes w16 n
+    → flagged_number b (n % 2 ^ 15) ≡ to_be_bytes w16 n
 flag_back_at n true lt e = let le : 2 ^ 15 ≤ n =
     leb-true (2 ^ 15) n e in let q : 2 ^ 15 + n % 2 ^ 15 ≡ n = omega arith in ap (to_be_bytes w16) q
 flag_back_at n false lt e = let less : n < 2 ^ 15 =
     leb-false (2 ^ 15) n e in let q : 0 + n % 2 ^ 15 ≡ n = omega arith in ap (to_be_bytes w16) q
 
-flag_back : (n : ℕ) → n < 2 ^ 16 → flagged (leb (2 ^ 15) n) (n % 2 ^ 15) ≡ to_be_bytes w16 n
+flag_back : (n : ℕ) → n < 2 ^ 16 → flagged_number (leb (2 ^ 15) n) (n % 2 ^ 15) ≡ to_be_bytes w16 n
 flag_back n lt = flag_back_at n (leb (2 ^ 15) n) lt refl
 
 pieces : (six : List ℕ) → (take 2 six ++ take 2 (drop 2 six)) ++ drop 4 six ≡ six
@@ -64,10 +64,10 @@ header_back six len bytes =
     let bytes_o : AreOctets o = AreOctets-drop 4 six bytes in
     let ta : to_be_bytes w16 (from_be_bytes w16 a) ≡ a =
     two_back a (omega (arith, length-take 2 six)) (AreOctets-take 2 six bytes) in
-    let tr : flagged (leb (2 ^ 15) (from_be_bytes w16 r)) (from_be_bytes w16 r % 2 ^ 15) ≡ r =
+    let tr : flagged_number (leb (2 ^ 15) (from_be_bytes w16 r)) (from_be_bytes w16 r % 2 ^ 15) ≡ r =
     flag_back (from_be_bytes w16 r) (two_below r bytes_r)
     ∙ two_back r (omega (arith, length-take 2 (drop 2 six), length-drop 2 six)) bytes_r in
-    let to : flagged (leb (2 ^ 15) (from_be_bytes w16 o)) (from_be_bytes w16 o % 2 ^ 15) ≡ o =
+    let to : flagged_number (leb (2 ^ 15) (from_be_bytes w16 o)) (from_be_bytes w16 o % 2 ^ 15) ≡ o =
     flag_back (from_be_bytes w16 o) (two_below o bytes_o)
     ∙ two_back o (omega (arith, length-drop 4 six)) bytes_o in
     record {

@@ -36,12 +36,12 @@ pub record HeaderFits (h : Header) : Type 0 where
   pub offset : h.offset < 2 ^ 15
 
 -- 15 bits behind a flag, the highest bit of 16
-abbrev pub flagged : Bool → ℕ → List ℕ
-flagged flag n = to_be_bytes w16 ((if flag then 2 ^ 15 else 0) + n)
+abbrev pub flagged_number : Bool → ℕ → List ℕ
+flagged_number flag n = to_be_bytes w16 ((if flag then 2 ^ 15 else 0) + n)
 
 -- the six octets of a header: Length; F and row; C and Offset (RFC 4175, 4.2)
 abbrev pub header_text : Header → List ℕ
-header_text h = to_be_bytes w16 h.octets ++ flagged h.second_field h.row ++ flagged h.more h.offset
+header_text h = to_be_bytes w16 h.octets ++ flagged_number h.second_field h.row ++ flagged_number h.more h.offset
 
 -- one header or more, of which all but the last say by C that another follows (RFC 4175, 4.2)
 abbrev pub IsChain : List Header → Type 0
@@ -78,5 +78,5 @@ pub record IsPayload (payload : List ℕ) (f : Format) (extended : ℕ)
       (flat_map header_text headers ++ (flat_map (λ s. s.octets) segments ++ rest))
 
 -- a segment without where its octets lie in memory
-abbrev pub seen : SegmentView → Segment
-seen s = record { row = s.row; offset = s.offset; octets = s.octets.now }
+abbrev pub seen_segment : SegmentView → Segment
+seen_segment s = record { row = s.row; offset = s.offset; octets = s.octets.now }

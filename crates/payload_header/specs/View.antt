@@ -2,11 +2,11 @@
 use Rattle.std.specs.Prelude.{ℕ, List, map}
 use Rattle.st_format.specs.Raster.{Segment}
 use Rattle.payload_header.specs.declared.payload.PayloadView.{PayloadView}
-use Rattle.payload_header.specs.Payload.{seen}
+use Rattle.payload_header.specs.Payload.{seen_segment}
 
 abbrev pub segments_of : PayloadView → List Segment
-segments_of v = map seen v.segments.items
+segments_of v = map seen_segment v.segments.items
 
 -- the extended number and the segments
-abbrev pub said : PayloadView → ℕ × List Segment
-said v = (v.extended, segments_of v)
+abbrev pub said_payload : PayloadView → ℕ × List Segment
+said_payload v = (v.extended, segments_of v)

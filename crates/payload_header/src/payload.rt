@@ -1,6 +1,6 @@
 //! What a payload says: an extended number and segments of rows, or the fault of its octets.
 ghost use Rattle.std.specs.Prelude.{◌<◌, length, All};
-ghost use Rattle.payload_header.specs.Payload.{IsInside, seen};
+ghost use Rattle.payload_header.specs.Payload.{IsInside, seen_segment};
 
 use arrayvec::ArrayVec;
 use st_format::Format;
@@ -110,5 +110,5 @@ pub struct PayloadView<'a> {
     /// One to three segments, in the order of their headers.
     pub segments: ArrayVec<Segment<'a>, 3>,
     pub ghost inside: { All
-        (λ s. 0 < length s.octets.now → IsInside (seen s) format) segments.items },
+        (λ s. 0 < length s.octets.now → IsInside (seen_segment s) format) segments.items },
 }

@@ -3,8 +3,8 @@
 ghost use Rattle.std.specs.Prelude.{◌≡◌, ◌≤◌, ◌↔◌, ℕ, List, length, map, IfOk, Ok, Err};
 ghost use Rattle.payload_header.specs.declared.payload.PayloadFault.{PayloadFault};
 ghost use Rattle.payload_header.specs.Faults.{IsRefusedPayload};
-ghost use Rattle.payload_header.specs.View.{said, segments_of};
-ghost use Rattle.payload_header.specs.Payload.{IsPayload, seen};
+ghost use Rattle.payload_header.specs.View.{said_payload, segments_of};
+ghost use Rattle.payload_header.specs.Payload.{IsPayload, seen_segment};
 ghost use Rattle.st_format.specs.Raster.{Segment as SegmentText};
 ghost use Rattle.payload_header.specs.Reading.{fields, header_fault, header_of, headers_at};
 ghost use Rattle.st_format.specs.Reading.{Gives};
@@ -118,7 +118,7 @@ fn total(headers: &[Header]) -> usize
 fn segments_in<'a>(headers: &[Header], rest_of: &'a [u8]) -> ArrayVec<Segment<'a>, 3>
     requires few { length headers.now ≤ 3 }
     requires whole { octets_of (map fields headers.now) ≤ length rest_of.now }
-    ensures { map seen result.items ≡ segments_at (map fields headers.now) rest_of.now }
+    ensures { map seen_segment result.items ≡ segments_at (map fields headers.now) rest_of.now }
 {
     let mut segments = ArrayVec::new();
     let mut rest = rest_of;
@@ -137,7 +137,7 @@ fn segments_in<'a>(headers: &[Header], rest_of: &'a [u8]) -> ArrayVec<Segment<'a
 /// What reading from the left gives.
 #[tactic(auto, unfolding(crate::specs::Reading::payload_walk))]
 fn read<'a>(format: &Format, octets: &'a [u8]) -> Result<PayloadView<'a>, PayloadFault>
-    ensures exact { Gives said result (payload_walk format.now octets.now) }
+    ensures exact { Gives said_payload result (payload_walk format.now octets.now) }
     ensures format { IfOk result (λ v. v.format ≡ format.now) }
 {
     if octets.len() < 2 {
@@ -183,12 +183,12 @@ pub fn read_payload<'a>(format: &Format, octets: &'a [u8]) -> Result<PayloadView
     // What is in the grammar is read, in its one reading.
     ensures only { (extended : ℕ) (segments : List SegmentText)
         → IsPayload octets.now format.now extended segments
-        → Gives said result (Ok (extended, segments)) }
+        → Gives said_payload result (Ok (extended, segments)) }
     // Each fault comes exactly where its condition holds.
     ensures refused { (fault : PayloadFault)
         → (result ≡ Err fault) ↔ IsRefusedPayload octets.now format.now fault }
     // The answer as a walk over the octets, for the walks that go on from it.
-    ensures exact { Gives said result (payload_walk format.now octets.now) }
+    ensures exact { Gives said_payload result (payload_walk format.now octets.now) }
     ensures format { IfOk result (λ v. v.format ≡ format.now) }
 {
     read(format, octets)

@@ -136,7 +136,8 @@ version_stops octets h false e =
 -- ---- what is read has the fault
 
 standing : (octets : List ℕ) (IsWrong : List ℕ → FieldPlace → Type 0)
-    (place : FieldPlace) (rest : List ℕ) → IsSaid place → octets ≡ text_before place ++ rest → IsWrong rest place
+    (place : FieldPlace) (rest : List ℕ) → IsSaid place → octets ≡ text_before place ++ rest
+    → IsWrong rest place
     → HasPlace IsWrong octets
 standing octets IsWrong place rest said whole wrong =
     record { place = place; behind = rest; said = said; whole = whole; wrong = wrong }

@@ -16,7 +16,7 @@ use Rattle.st_format.specs.Device.{AreOctets}
 use Rattle.st_format.specs.Reading.{◌>>=◌, Gives}
 use Rattle.rtp_header.specs.Reading.{behind, behind_extension, without_padding, fields_of}
 use Rattle.rtp_header.specs.Reading.{fixed_at, rtp_walk}
-use Rattle.rtp_header.specs.Views.{seen}
+use Rattle.rtp_header.specs.Views.{seen_rtp}
 use Rattle.rtp_header.specs.declared.header.RtpView.{RtpView}
 use Rattle.rtp_header.proofs.Taken.{rtp_takes}
 
@@ -236,20 +236,20 @@ rtp_again r octets is =
 
 -- The clauses of a reader that gives what reading gives
 pub is_found : (octets : List ℕ) (r : Result RtpView RtpFault) → AreOctets octets
-    → Gives seen r (rtp_walk octets) → IfOk r (λ v. IsRtp octets (seen v))
-is_found octets (Ok v) bytes gives = rtp_takes octets (seen v) bytes gives
+    → Gives seen_rtp r (rtp_walk octets) → IfOk r (λ v. IsRtp octets (seen_rtp v))
+is_found octets (Ok v) bytes gives = rtp_takes octets (seen_rtp v) bytes gives
 is_found octets (Err e) bytes gives = tt
 
 ok_is : (r q : Rtp) → rtp_ok r ≡ rtp_ok q → r ≡ q
 ok_is r q e = cc
 
-pub is_only : (octets : List ℕ) (r : Result RtpView RtpFault) → Gives seen r (rtp_walk octets)
-    → (q : Rtp) → IsRtp octets q → IsOkAnd r (λ v. seen v ≡ q)
-is_only octets (Ok v) gives q is = ok_is (seen v) q (sym gives ∙ rtp_again q octets is)
+pub is_only : (octets : List ℕ) (r : Result RtpView RtpFault) → Gives seen_rtp r (rtp_walk octets)
+    → (q : Rtp) → IsRtp octets q → IsOkAnd r (λ v. seen_rtp v ≡ q)
+is_only octets (Ok v) gives q is = ok_is (seen_rtp v) q (sym gives ∙ rtp_again q octets is)
 is_only octets (Err e) gives q is = let again : rtp_walk octets ≡ Ok q =
     rtp_again q octets is in absurd cc
 
-pub is_none : (octets : List ℕ) (r : Result RtpView RtpFault) → Gives seen r (rtp_walk octets)
+pub is_none : (octets : List ℕ) (r : Result RtpView RtpFault) → Gives seen_rtp r (rtp_walk octets)
     → IfErr r (λ e. (q : Rtp) → IsRtp octets q → ⊥)
 is_none octets (Ok v) gives = tt
 is_none octets (Err e) gives = λ q is. let again : rtp_walk octets ≡ Ok q =

@@ -16,7 +16,7 @@ use Rattle.rtp_header.specs.Reading.{behind, behind_extension, without_padding, 
 use Rattle.rtp_header.specs.Reading.{rtp_walk}
 use Rattle.rtp_header.specs.Faults.{HasFault, IsShortExtension, IsBadPadding, version_of, IsPadded}
 use Rattle.rtp_header.specs.Faults.{sources_end, extension_words, headers_end, last_octet}
-use Rattle.rtp_header.specs.Views.{seen}
+use Rattle.rtp_header.specs.Views.{seen_rtp}
 
 abbrev rtp_err : RtpFault → Result Rtp RtpFault
 rtp_err e = Err e
@@ -355,17 +355,17 @@ view_err : (d e : RtpFault) → view_of d ≡ view_of e → d ≡ e
 view_err d e h = cc
 
 from_view : (e : RtpFault) (octets : List ℕ) (r : Result RtpView RtpFault)
-    → Gives seen r (rtp_walk octets) → IsErrOf r e → rtp_walk octets ≡ Err e
+    → Gives seen_rtp r (rtp_walk octets) → IsErrOf r e → rtp_walk octets ≡ Err e
 from_view e octets (Ok v) gives is = absurd cc
 from_view e octets (Err d) gives is = gives ∙ ap rtp_err (view_err d e is)
 
 to_view : (e : RtpFault) (octets : List ℕ) (r : Result RtpView RtpFault)
-    → Gives seen r (rtp_walk octets) → rtp_walk octets ≡ Err e → IsErrOf r e
+    → Gives seen_rtp r (rtp_walk octets) → rtp_walk octets ≡ Err e → IsErrOf r e
 to_view e octets (Ok v) gives is = absurd cc
 to_view e octets (Err d) gives is = ap view_of (err_is d e (sym gives ∙ is))
 
 pub is_faulted : (e : RtpFault) (octets : List ℕ) (r : Result RtpView RtpFault)
-    → Gives seen r (rtp_walk octets) → IsErrOf r e ↔ HasFault octets e
+    → Gives seen_rtp r (rtp_walk octets) → IsErrOf r e ↔ HasFault octets e
 is_faulted e octets r gives =
     let law = rtp_faulted e octets in (
       λ (is : IsErrOf r e). law.0 (from_view e octets r gives is),

@@ -21,8 +21,8 @@ pub record Flags : Type 0 where
   pub sources : ℕ
 
 -- P, X and CC zero
-abbrev pub plain : Flags
-plain = record { padded = false; extended = false; sources = 0 }
+abbrev pub plain_flags : Flags
+plain_flags = record { padded = false; extended = false; sources = 0 }
 
 -- a flag's bit in an octet, of this worth where it is set
 abbrev pub bit : Bool → ℕ → ℕ
@@ -82,7 +82,7 @@ pub record IsRtp (octets : List ℕ) (r : Rtp) : Type 0 where
 -- zero, and there are no sources, no extension and no padding. RFC 3550, 5.1
 pub record IsPlainRtp (octets : List ℕ) (r : Rtp) : Type 0 where
   pub is : IsRtp octets r
-  pub flags : is.flags ≡ plain
+  pub flags : is.flags ≡ plain_flags
   pub no_sources : is.source_list ≡ []
   pub no_extension : is.extension ≡ []
   pub no_padding : is.padding ≡ []

@@ -5,8 +5,8 @@ use Rattle.rtp_header.specs.declared.header.RtpView.{RtpView}
 use Rattle.rtp_header.specs.Grammar.{Rtp}
 
 -- a view, without where its payload lies in memory
-abbrev pub seen : RtpView → Rtp
-seen v =
+abbrev pub seen_rtp : RtpView → Rtp
+seen_rtp v =
     record {
       marker = v.marker;
       payload_type = v.payload_type;
@@ -18,8 +18,8 @@ seen v =
     }
 
 -- a head to be written, with a payload behind it
-abbrev pub headed : RtpHead → List ℕ → Rtp
-headed h payload =
+abbrev pub headed_rtp : RtpHead → List ℕ → Rtp
+headed_rtp h payload =
     record {
       marker = h.marker;
       payload_type = h.payload_type;

@@ -6,7 +6,7 @@ ghost use Rattle.rtp_header.specs.Faults.{IsShortHeader};
 ghost use Rattle.rtp_header.specs.Reading.{behind, behind_extension, rtp_walk};
 ghost use Rattle.st_format.specs.Reading.{Gives};
 ghost use Rattle.rtp_header.specs.Reading.{without_padding};
-ghost use Rattle.rtp_header.specs.Views.{seen};
+ghost use Rattle.rtp_header.specs.Views.{seen_rtp};
 
 use crate::header::{FIXED, RtpFault, RtpView, VERSION};
 
@@ -56,7 +56,7 @@ fn strip_padding(padded: bool, octets: &[u8]) -> Result<&[u8], RtpFault>
 /// What reading from the left gives.
 #[tactic(auto, unfolding(crate::specs::Reading::rtp_walk))]
 fn read(octets: &[u8]) -> Result<RtpView<'_>, RtpFault>
-    ensures exact { Gives seen result (rtp_walk octets.now) }
+    ensures exact { Gives seen_rtp result (rtp_walk octets.now) }
 {
     if octets.len() < FIXED {
         return Err(RtpFault::ShortHeader);
@@ -90,9 +90,9 @@ fn read(octets: &[u8]) -> Result<RtpView<'_>, RtpFault>
 /// - `BadPadding`: P is set, and the last octet is 0 or more than the octets behind the headers.
 pub fn read_rtp(octets: &[u8]) -> Result<RtpView<'_>, RtpFault>
     // What is read is in the grammar.
-    ensures found { IfOk result (λ v. IsRtp octets.now (seen v)) }
+    ensures found { IfOk result (λ v. IsRtp octets.now (seen_rtp v)) }
     // What is in the grammar is read so: it has one reading.
-    ensures only { (r : Rtp) → IsRtp octets.now r → IsOkAnd result (λ v. seen v ≡ r) }
+    ensures only { (r : Rtp) → IsRtp octets.now r → IsOkAnd result (λ v. seen_rtp v ≡ r) }
     // A fault comes only where nothing in the grammar fits.
     ensures none { IfErr result (λ _. (r : Rtp) → IsRtp octets.now r → ⊥) }
     // Each fault comes exactly where this stands in the octets.
@@ -101,7 +101,7 @@ pub fn read_rtp(octets: &[u8]) -> Result<RtpView<'_>, RtpFault>
     ensures short_extension { IsErrOf result RtpFault.ShortExtension ↔ IsShortExtension octets.now }
     ensures bad_padding { IsErrOf result RtpFault.BadPadding ↔ IsBadPadding octets.now }
     // The answer as a walk over the octets, for the walks that go on from it.
-    ensures exact { Gives seen result (rtp_walk octets.now) }
+    ensures exact { Gives seen_rtp result (rtp_walk octets.now) }
 {
     read(octets)
 }

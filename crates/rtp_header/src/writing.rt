@@ -1,7 +1,7 @@
 //! Writing a fixed header.
 ghost use Rattle.std.specs.Prelude.{◌≡◌, ◌^◌, ◌<◌, ◌≤◌, ◌++◌, ℕ, List, [], drop, length, take};
-ghost use Rattle.rtp_header.specs.Grammar.{IsPlainRtp, fixed_text, plain};
-ghost use Rattle.rtp_header.specs.Views.{headed};
+ghost use Rattle.rtp_header.specs.Grammar.{IsPlainRtp, fixed_text, plain_flags};
+ghost use Rattle.rtp_header.specs.Views.{headed_rtp};
 
 use crate::header::{RtpHead, VERSION};
 use byteorder::{BigEndian, ByteOrder};
@@ -10,7 +10,7 @@ use byteorder::{BigEndian, ByteOrder};
 fn write_fixed(buffer: &mut [u8], head: &RtpHead)
     requires room { 12 ≤ length buffer.old }
     requires payload_type { head.now.payload_type ≤ 127 }
-    ensures text { buffer.new ≡ fixed_text plain (headed head.now []) ++ drop 12 buffer.old }
+    ensures text { buffer.new ≡ fixed_text plain_flags (headed_rtp head.now []) ++ drop 12 buffer.old }
     ensures sequence { head.now.sequence < 2 ^ 16 }
     ensures timestamp { head.now.timestamp < 2 ^ 32 }
     ensures ssrc { head.now.ssrc < 2 ^ 32 }
@@ -33,7 +33,7 @@ pub fn write_rtp(buffer: &mut [u8], head: &RtpHead)
     requires payload_type { head.now.payload_type ≤ 127 }
     // Whatever payload follows them, the 12 octets and it are a datagram that says this.
     ensures header { (payload : List ℕ) →
-        IsPlainRtp (take 12 buffer.new ++ payload) (headed head.now payload) }
+        IsPlainRtp (take 12 buffer.new ++ payload) (headed_rtp head.now payload) }
     // The octets behind them stay.
     ensures kept { drop 12 buffer.new ≡ drop 12 buffer.old }
     ensures length { length buffer.new ≡ length buffer.old }

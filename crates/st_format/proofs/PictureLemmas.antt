@@ -8,7 +8,7 @@ use Rattle.std.proofs.Math.Nat.{mod-mod_of_dvd, dvd-mul_left}
 use Rattle.std.proofs.lemmas.List.FromFn.{get_or-map-range_with_len, length-map-range_with_len}
 use Rattle.st_format.specs.declared.format.Format.{Format}
 use Rattle.st_format.specs.Pgroup.{bits_of}
-use Rattle.st_format.specs.Picture.{Values, IsPicture, FitsDepth, SetsOne, filled}
+use Rattle.st_format.specs.Picture.{Values, IsPicture, FitsDepth, SetsOne, filled_picture}
 use Rattle.st_format.specs.Position.{Position, IsPosition, component_in_row, run, run_columns}
 use Rattle.st_format.specs.Position.{run_samples, sample_count, place, places, number_of}
 use Rattle.st_format.specs.Position.{place_in_row}
@@ -33,7 +33,7 @@ component-place f k =
     (dvd-mul_left (run_samples f.sampling) (f.width / run_columns f.sampling)))
 
 pub filled-samples : (f : Format) (fill : List ℕ)
-    → (filled f fill).samples
+    → (filled_picture f fill).samples
     ≡ map (λ k. get_or fill (component_in_row f.sampling k) 0) (range_with_len 0 (sample_count f))
 filled-samples f fill =
     map-map (λ (p : Position). get_or fill p.component 0) (place f)
@@ -60,7 +60,7 @@ three_fit f fill long some a b c (suc (suc (suc k))) =
 
 pub filled-is_picture : (f : Format) (fill : List ℕ) → length fill ≡ 3 → 0 < 2 ^ bits_of f.depth
     → FitsDepth f (get_or fill 0 0) → FitsDepth f (get_or fill 1 0) → FitsDepth f (get_or fill 2 0)
-    → IsPicture (filled f fill)
+    → IsPicture (filled_picture f fill)
 filled-is_picture f fill long some a b c =
     record {
       whole =

@@ -62,9 +62,9 @@ format_at s b w h n d =
     })))
 
 -- what a call made, by its fields
-abbrev pub made : Result Format FormatFault → Result Fields FormatFault
-made (Ok f) = Ok (fields_of f)
-made (Err e) = Err e
+abbrev pub made_fields : Result Format FormatFault → Result Fields FormatFault
+made_fields (Ok f) = Ok (fields_of f)
+made_fields (Err e) = Err e
 
 -- whether two say the same, as a test
 abbrev pub same_sampling : Sampling → Sampling → Bool

@@ -3,7 +3,7 @@ ghost use Rattle.std.specs.Prelude.{◌≡◌, ◌≤◌, ◌<◌, ◌^◌, ◌�
 ghost use Rattle.std.specs.Prelude.{slice_index};
 ghost use Rattle.std.specs.List.{AllByRecursion, range_with_len};
 ghost use Rattle.st_format.specs.Pgroup.{bits_of};
-ghost use Rattle.st_format.specs.Picture.{FitsDepth, IsPicture, SetsOne, filled, value_at};
+ghost use Rattle.st_format.specs.Picture.{FitsDepth, IsPicture, SetsOne, filled_picture, value_at};
 ghost use Rattle.st_format.specs.Position.{IsPosition, component_in_row};
 ghost use Rattle.st_format.specs.declared.picture.PictureFault.TheVariants.{NoMemory};
 
@@ -80,7 +80,7 @@ impl<A: Allocator> Picture<A> {
     pub fn new(alloc: A, format: Format, fill: [u16; 3]) -> Result<Picture<A>, PictureFault>
         ensures large { (result ≡ Err PictureFault.ValueTooLarge)
             ↔ (AllByRecursion (FitsDepth format) fill → ⊥) }
-        ensures made { IfOk result (λ p. p ≡ filled format fill) }
+        ensures made { IfOk result (λ p. p ≡ filled_picture format fill) }
         ensures whole { IfOk result (λ p. IsPicture p) }
     {
         let most = format.max_value();
@@ -183,7 +183,7 @@ fn filled_samples<A: Allocator>(
     format: Format,
     fill: [u16; 3],
 ) -> Result<Vec<u16, A>, AllocError>
-    ensures { IfOk result (λ v. v.items ≡ (filled format fill).samples) }
+    ensures { IfOk result (λ v. v.items ≡ (filled_picture format fill).samples) }
 {
     let mut samples = Vec::from_elem(alloc, 0, format.sample_count())?;
     fill_samples(format.sampling, fill, samples.as_mut_slice());

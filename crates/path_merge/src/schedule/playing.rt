@@ -69,8 +69,8 @@ pub fn play<A: Allocator + Copy, B: Allocator, C: Allocator>(
         (IsSenderList (scene_of plan.now pictures.now stamp window.now receivers).sent
         (sender_of plan.now stamp) stamp.first pictures.now) }
     ensures packets { OnOk result
-        (AreSentBy (scene_of plan.now pictures.now stamp window.now receivers).sent (sender_of plan.now stamp) plan.now 0 stamp.first
-        pictures.now) }
+        (AreSentBy (scene_of plan.now pictures.now stamp window.now receivers).sent
+        (sender_of plan.now stamp) plan.now 0 stamp.first pictures.now) }
     ensures senders { OnOk result ((stay : Stay) (frame : Raster) →
         IsFrameOf frame stay (scene_of plan.now pictures.now stamp window.now receivers) events.now
         → IsSendersFrame frame stay (sender_of plan.now stamp) pictures.now

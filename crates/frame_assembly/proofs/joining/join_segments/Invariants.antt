@@ -1,6 +1,6 @@
 use Rattle.std.proofs.Common.{◌≡◌, ℕ, drop, length, map}
 use Rattle.st_format.specs.Raster.{cells_of, joined_cells, offers_in_all}
-use Rattle.payload_header.specs.Payload.{seen}
+use Rattle.payload_header.specs.Payload.{seen_segment}
 use Rattle.frame_assembly.specs.Packed.{ArePacked, cells_in, group_count}
 use Rattle.frame_assembly.proofs.joining.join_segments.Given as goal
 
@@ -16,6 +16,6 @@ invariant-loop-segment l =
     ((ts : ℕ)
     → joined_cells (cells_in l.format l.marks l.octets)
     (cells_of l.format
-    (offers_in_all l.format ts (map seen (drop l.segment-index l.segments))) ts)
+    (offers_in_all l.format ts (map seen_segment (drop l.segment-index l.segments))) ts)
     ≡ joined_cells (cells_in l.format l.initial.marks l.initial.octets)
-    (cells_of l.format (offers_in_all l.format ts (map seen l.segments)) ts))
+    (cells_of l.format (offers_in_all l.format ts (map seen_segment l.segments)) ts))

@@ -1,6 +1,6 @@
 use Rattle.std.proofs.Common.{◌≡◌, ◌≤◌, ◌++◌, drop, map, length}
 use Rattle.arrayvec.specs.ArrayVec.{array_vec_len}
-use Rattle.payload_header.specs.Payload.{seen}
+use Rattle.payload_header.specs.Payload.{seen_segment}
 use Rattle.payload_header.specs.Reading.{fields, octets_of, segments_at}
 use Rattle.payload_header.proofs.reading.segments_in.Given as goal
 
@@ -11,7 +11,7 @@ pub record Front (so_far whole count : Type 0) : Type 0 where
 
 abbrev pub invariant-loop-header : goal.invariant-loop-header
 invariant-loop-header l =
-    Front (map seen l.segments.items ++ segments_at
+    Front (map seen_segment l.segments.items ++ segments_at
     (map fields (drop l.header-index l.headers)) l.rest
     ≡ segments_at (map fields l.headers) l.rest_of)
     (octets_of (map fields (drop l.header-index l.headers)) ≤ length l.rest)
