@@ -7,7 +7,7 @@ use Rattle.std.proofs.lemmas.Nat.Bits.{bit_at_or}
 use Rattle.std.proofs.Math.Nat.{mul-suc}
 use Rattle.std.proofs.Math.Seq.{drop-append-add}
 use Rattle.st_format.specs.Samples.{values_in}
-use Rattle.pgroup_pack.specs.Groups.{AreContested, blanked, differs_at, samples_of}
+use Rattle.pgroup_pack.specs.Groups.{AreContested, blanked_samples, differs_at, samples_of}
 use Rattle.frame_assembly.specs.Packed.{IsPacked, Joins, packed_cells}
 use Rattle.frame_assembly.proofs.PackedLemmas.{AreParts, AreSizes, IsPacked-parts, Joins-append}
 use Rattle.frame_assembly.proofs.PackedLemmas.{both_values, first_long, rest_long, one_long}
@@ -57,7 +57,7 @@ rest_contested samples v1 v2 w1 w2 x1 x2 b c both marks v_long w_long x_long all
       (next_samples samples group w1 w2 w_long j) i));
   blank = λ group lt.
       sym (next_samples samples group x1 x2 x_long) ∙ all.blank (suc group) (omega arith)
-      ∙ ap (blanked (get_or marks group 0)) (next_samples samples group v1 v2 v_long);
+      ∙ ap (blanked_samples (get_or marks group 0)) (next_samples samples group v1 v2 v_long);
 }
 
 -- the values of the first group, and of those behind it
@@ -154,9 +154,9 @@ contested_joined n size samples (m ∷ ms) (o ∷ os) (b ∷ bs)
     (differs_at (first_samples samples v1 (values_in n o2) v1_long j)
     (first_samples samples w1 (values_in n p2) w1_long j) i))
     ∙ ap (λ (y : ℕ). max y (differs_at v1 w1 i)) (bit_at_or m o i) in
-    let blank : x1 ≡ blanked c v1 =
+    let blank : x1 ≡ blanked_samples c v1 =
     sym (first_samples samples x1 (values_in n q2) x1_long) ∙ all.blank 0 (omega arith)
-    ∙ ap (blanked c) (first_samples samples v1 (values_in n o2) v1_long) in
+    ∙ ap (blanked_samples c) (first_samples samples v1 (values_in n o2) v1_long) in
     let first : Joins n size samples (m ∷ []) o1 (o ∷ []) p1 (c ∷ []) q1 =
     group_contested n size samples m o c o1 p1 q1 is mine.first theirs.first
     (are.high 0 (omega arith)) (are.high_other 0 (omega arith)) here

@@ -10,10 +10,10 @@ use borrow.Rule.Slice.PartMut.{put_mid}
 use Rattle.st_format.specs.declared.cell.Cell.{Cell}
 use Rattle.st_format.specs.declared.cell.Cell.TheVariants.{Missing}
 use Rattle.st_format.specs.Samples.{values_in}
-use Rattle.pgroup_pack.specs.Groups.{blanked, blanked_from}
+use Rattle.pgroup_pack.specs.Groups.{blanked_samples, blanked_from}
 use Rattle.frame_assembly.specs.Packed.{IsMark, IsPacked, cells_from, known_value, marked}
 use Rattle.frame_assembly.specs.Packed.{packed_cells}
-use Rattle.frame_assembly.specs.Rows.{given_from, replaced}
+use Rattle.frame_assembly.specs.Rows.{given_from, replaced_cells}
 use Rattle.frame_assembly.proofs.PackedLemmas.{AreSizes, IsPacked-append, length-packed_cells}
 use Rattle.frame_assembly.proofs.PackedLemmas.{one_long, packed_cells-append}
 use Rattle.frame_assembly.proofs.GroupJoins.{known_blanked, marked_seen, one_cells, seen}
@@ -26,11 +26,11 @@ pub record IsReplaced (n size samples at mark : ℕ)
     (from marks octets new_marks new_octets : List ℕ) : Type 0 where
   pub packed : IsPacked n size samples new_marks new_octets
   pub cells : packed_cells n size new_marks new_octets
-      ≡ replaced (samples * at) (packed_cells n size (mark ∷ []) from)
+      ≡ replaced_cells (samples * at) (packed_cells n size (mark ∷ []) from)
       (packed_cells n size marks octets)
 
 replaced_here : (xs new bs cs cells : List Cell) (k : ℕ) → cells ≡ xs ++ (bs ++ cs) → length xs ≡ k
-    → length bs ≡ length new → xs ++ (new ++ cs) ≡ replaced k new cells
+    → length bs ≡ length new → xs ++ (new ++ cs) ≡ replaced_cells k new cells
 replaced_here xs new bs cs cells k split long alike =
     let front : take k cells ≡ xs = ap (take k) split ∙ take_at xs (bs ++ cs) k long in
     let back : drop (length new) (drop k cells) ≡ cs =
@@ -131,14 +131,14 @@ given_mark samples k none = inr (high k, λ i le lt. low k i lt ∙ none i le)
 
 pub given_packed : (n size samples k : ℕ) (from : List ℕ) → AreSizes n size samples
     → length from ≡ size → ((i : ℕ) → samples ≤ i → bit_at k i ≡ 0)
-    → values_in n from ≡ blanked k (values_in n from)
+    → values_in n from ≡ blanked_samples k (values_in n from)
     → IsPacked n size samples (bit_or 32768 k ∷ []) from
 given_packed n size samples k from is long none blank =
     let m : ℕ = bit_or 32768 k in
     let vs : List ℕ = values_in n from in
     let vs_long : length vs ≡ samples = one_long n size samples from is long in
     let few = is.few in
-    let same : vs ≡ blanked m vs = blank ∙ sym (blanked_low k 0 vs (omega arith)) in
+    let same : vs ≡ blanked_samples m vs = blank ∙ sym (blanked_low k 0 vs (omega arith)) in
     record {
       long = long ∙ (let e : size ≡ size * 1 = omega arith in e);
       words = (given_mark samples k none, tt);

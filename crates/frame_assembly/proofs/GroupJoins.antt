@@ -13,7 +13,7 @@ use Rattle.st_format.specs.declared.cell.Cell.TheVariants.{Missing, Value, Conte
 use Rattle.st_format.specs.Cell.{join}
 use Rattle.st_format.specs.Raster.{joined_cells}
 use Rattle.st_format.specs.Samples.{values_in}
-use Rattle.pgroup_pack.specs.Groups.{blanked, blanked_from, differs_at}
+use Rattle.pgroup_pack.specs.Groups.{blanked_samples, blanked_from, differs_at}
 use Rattle.frame_assembly.specs.Packed.{IsMark, IsPacked, Joins, cells_from, known_value, marked}
 use Rattle.frame_assembly.specs.Packed.{packed_cells}
 use Rattle.frame_assembly.proofs.PackedLemmas.{AreSizes, length-packed_cells, one_long}
@@ -283,7 +283,7 @@ pub group_contested : (n size samples m o c : ℕ) (octets others new_octets : L
     → ((i : ℕ)
     → bit_at c i
     ≡ max (max (bit_at m i) (bit_at o i)) (differs_at (values_in n octets) (values_in n others) i))
-    → length new_octets ≡ length octets → values_in n new_octets ≡ blanked c (values_in n octets)
+    → length new_octets ≡ length octets → values_in n new_octets ≡ blanked_samples c (values_in n octets)
     → Joins n size samples (m ∷ []) octets (o ∷ []) others (c ∷ []) new_octets
 group_contested n size samples m o c octets others new_octets is packed other high_m high_o bits
     long blank =
@@ -313,7 +313,7 @@ group_contested n size samples m o c octets others new_octets is packed other hi
           (λ (j : ℕ). bit_at c j ≡ max (max (bit_at m j) (bit_at o j)) (differs_at vs ws k)) (sym e)
           (bits k);
     } in
-    let cells : packed_cells n size (c ∷ []) new_octets ≡ cells_from c 0 (blanked c vs) =
+    let cells : packed_cells n size (c ∷ []) new_octets ≡ cells_from c 0 (blanked_samples c vs) =
     one_cells n size c new_octets new_long ∙ ap (cells_from c 0) blank in
     record {
       packed = record {
@@ -339,7 +339,7 @@ pub group_joined : (n size samples m o d : ℕ) (octets others new_octets : List
     → 32768 ≤ o
     → ((i : ℕ) → bit_at d i ≡ differs_at (values_in n octets) (values_in n others) i)
     → length new_octets ≡ length octets
-    → values_in n new_octets ≡ blanked (bit_or (bit_or m o) d) (values_in n octets)
+    → values_in n new_octets ≡ blanked_samples (bit_or (bit_or m o) d) (values_in n octets)
     → Joins n size samples (m ∷ []) octets (o ∷ []) others (bit_or (bit_or m o) d ∷ []) new_octets
 group_joined n size samples m o d octets others new_octets is packed other high_m high_o differ
     long blank =

@@ -17,7 +17,7 @@ use Rattle.st_format.proofs.Rasters.{map-map, map_same}
 use Rattle.frame_assembly.specs.declared.base.Base.{Base}
 use Rattle.frame_assembly.specs.declared.base.Base.TheVariants.{Fill, Hold}
 use Rattle.frame_assembly.specs.Packed.{group_count}
-use Rattle.frame_assembly.specs.Settled.{HoldsPicture, IsBaseOf, base_number, base_value, settled}
+use Rattle.frame_assembly.specs.Settled.{HoldsPicture, IsBaseOf, base_number, base_value, settled_picture}
 use Rattle.frame_assembly.specs.Settled.{settled_cell, settled_numbers}
 use Rattle.frame_assembly.proofs.Kept.{frame_view}
 use Rattle.frame_assembly.proofs.Segments.{sample_count_groups}
@@ -41,7 +41,7 @@ at_number r base k is =
     ∙ ap (settled_cell (get_or r.cells k Missing)) (base_place r.format base k is)
 
 by_count : {A : Type 0} (r : Raster) (base : Base A) → IsBaseOf base r.format
-    → (settled r base).samples
+    → (settled_picture r base).samples
     ≡ map (λ k. settled_cell (get_or r.cells k Missing) (base_number r.format.sampling base k))
     (range_with_len 0 (sample_count r.format))
 by_count r base is =
@@ -55,7 +55,7 @@ by_count r base is =
 
 pub settled-samples : {A : Type 0} (r : Raster) (base : Base A) → IsBaseOf base r.format
     → length r.cells ≡ sample_count r.format
-    → settled_numbers r.cells (base_number r.format.sampling base) ≡ (settled r base).samples
+    → settled_numbers r.cells (base_number r.format.sampling base) ≡ (settled_picture r base).samples
 settled-samples r base is whole =
     ap (λ (n : ℕ). map
     (λ k. settled_cell (get_or r.cells k Missing) (base_number r.format.sampling base k))
@@ -80,7 +80,7 @@ base_fits f (Hold picture) p is held =
     (number_of picture.now.format p) held.fit)
 
 pub settled-is_picture : {A : Type 0} (r : Raster) (base : Base A) → IsFrame r
-    → IsBaseOf base r.format → HoldsPicture base → IsPicture (settled r base)
+    → IsBaseOf base r.format → HoldsPicture base → IsPicture (settled_picture r base)
 settled-is_picture r base frame is held =
     record {
       whole =
@@ -109,7 +109,7 @@ held_long f v z groups xs same is are of_group many =
 pub settled_as : {A : Type 0} (f : Format) (items cells : List Cell) (xs : List ℕ) (base : Base A)
     → IsBaseOf base f → length items ≡ sample_count f → cells ≡ items
     → xs ≡ settled_numbers cells (base_number f.sampling base)
-    → xs ≡ (settled (frame_view f items) base).samples
+    → xs ≡ (settled_picture (frame_view f items) base).samples
 settled_as f items cells xs base is_base whole same is =
     is ∙ ap (λ (cs : List Cell). settled_numbers cs (base_number f.sampling base)) same
     ∙ settled-samples (frame_view f items) base is_base whole

@@ -15,3 +15,11 @@ pub record AreCounts (r : Raster) (counts : Counts) : Type 0 where
   pub present : counts.present ≡ positions_of is_present r
   pub missing : counts.missing ≡ positions_of is_missing r
   pub contested : counts.contested ≡ positions_of is_contested r
+
+-- how many cells of a frame are of each kind
+abbrev pub counts_of : Raster → Counts
+counts_of r = record {
+  present = count_by is_present r.cells;
+  missing = count_by is_missing r.cells;
+  contested = count_by is_contested r.cells;
+}

@@ -67,5 +67,5 @@ given_cells present mask vs =
     if present then given_from mask 0 vs else replicate (length vs) Missing
 
 -- cells with some of them replaced, from a number on
-abbrev pub replaced : ℕ → List Cell → List Cell → List Cell
-replaced k new cells = take k cells ++ (new ++ drop (length new) (drop k cells))
+abbrev pub replaced_cells : ℕ → List Cell → List Cell → List Cell
+replaced_cells k new cells = take k cells ++ (new ++ drop (length new) (drop k cells))

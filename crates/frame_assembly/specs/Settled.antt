@@ -31,8 +31,8 @@ IsBaseOf (Fill fill) f = AllByRecursion (FitsDepth f) fill
 IsBaseOf (Hold picture) f = picture.now.format ≡ f
 
 -- Settled, of cells and a base: at each position the value where the cell has one, else the base's
-abbrev pub settled : {A : Type 0} → Raster → Base A → Values
-settled r base =
+abbrev pub settled_picture : {A : Type 0} → Raster → Base A → Values
+settled_picture r base =
     record {
       format = r.format;
       samples =

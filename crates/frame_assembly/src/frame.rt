@@ -5,9 +5,9 @@ ghost use Rattle.std.specs.Int.{bit_at};
 ghost use Rattle.frame_assembly.specs.Kinds.{AreCounts};
 ghost use Rattle.frame_assembly.specs.Packed.{known_value};
 ghost use Rattle.frame_assembly.specs.Rows.{GroupsAreWhole, IsMarkOf, IsStateOf, given_cells};
-ghost use Rattle.frame_assembly.specs.Rows.{group_cells, replaced, row_cells};
-ghost use Rattle.frame_assembly.specs.Settled.{IsBaseOf, settled};
-ghost use Rattle.pgroup_pack.specs.Groups.{blanked};
+ghost use Rattle.frame_assembly.specs.Rows.{group_cells, replaced_cells, row_cells};
+ghost use Rattle.frame_assembly.specs.Settled.{IsBaseOf, settled_picture};
+ghost use Rattle.pgroup_pack.specs.Groups.{blanked_samples};
 ghost use Rattle.payload_header.specs.View.{segments_of};
 ghost use Rattle.st_format.specs.Cell.{is_contested, is_missing, is_present, join};
 ghost use Rattle.st_format.specs.Fit.{ValuesFit};
@@ -209,7 +209,7 @@ impl<A: Allocator> Frame<A> {
         base: Base<'_, C>,
     ) -> Result<Picture<B>, AllocError>
         requires { IsBaseOf base self.now.format }
-        ensures settled { IfOk result (λ p. p ≡ settled self.now base.entry) }
+        ensures settled { IfOk result (λ p. p ≡ settled_picture self.now base.entry) }
         ensures picture { IfOk result (λ p. IsPicture p) }
     {
         let samples = settled_samples(
@@ -305,10 +305,10 @@ impl<A: Allocator> Frame<A> {
             → (pixel_group self.old.format.sampling self.old.format.depth).samples ≤ i
             → bit_at contested i ≡ 0 }
         requires zero { values_in (bits_of self.old.format.depth) octets.now
-            ≡ blanked contested (values_in (bits_of self.old.format.depth) octets.now) }
+            ≡ blanked_samples contested (values_in (bits_of self.old.format.depth) octets.now) }
         ensures format { self.new.format ≡ self.old.format }
         ensures cells { self.new.cells
-            ≡ replaced (group_start self.old.format row group)
+            ≡ replaced_cells (group_start self.old.format row group)
             (given_cells present contested
             (values_in (bits_of self.old.format.depth) octets.now)) self.old.cells }
         ensures whole { IsWhole self.new }

@@ -4,8 +4,8 @@ ghost use Rattle.std.specs.Prelude.{map, slice_index, take, drop};
 ghost use Rattle.std.specs.Int.{bit_at};
 ghost use Rattle.frame_assembly.specs.Packed.{ArePacked, cells_in, group_count, known_value};
 ghost use Rattle.frame_assembly.specs.Rows.{IsMarkOf, IsStateOf, given_cells, group_cells};
-ghost use Rattle.frame_assembly.specs.Rows.{replaced, row_cells};
-ghost use Rattle.pgroup_pack.specs.Groups.{blanked};
+ghost use Rattle.frame_assembly.specs.Rows.{replaced_cells, row_cells};
+ghost use Rattle.pgroup_pack.specs.Groups.{blanked_samples};
 ghost use Rattle.st_format.specs.Pgroup.{bits_of, pixel_group};
 ghost use Rattle.st_format.specs.Position.{group_start, row_groups, row_octets};
 ghost use Rattle.st_format.specs.Samples.{Spells, values_in};
@@ -132,10 +132,10 @@ pub fn set_group_of(
     requires bits { (i : ℕ) → (pixel_group format.now.sampling format.now.depth).samples ≤ i
         → bit_at contested i ≡ 0 }
     requires zero { values_in (bits_of format.now.depth) from.now
-        ≡ blanked contested (values_in (bits_of format.now.depth) from.now) }
+        ≡ blanked_samples contested (values_in (bits_of format.now.depth) from.now) }
     ensures packed { ArePacked format.now marks.new octets.new }
     ensures cells { cells_in format.now marks.new octets.new
-        ≡ replaced (group_start format.now row group)
+        ≡ replaced_cells (group_start format.now row group)
         (given_cells present contested (values_in (bits_of format.now.depth) from.now))
         (cells_in format.now marks.old octets.old) }
 {
@@ -172,7 +172,7 @@ fn put_group(
     requires group { ArePacked format.now (mark ∷ []) from.now }
     ensures packed { ArePacked format.now marks.new octets.new }
     ensures cells { cells_in format.now marks.new octets.new
-        ≡ replaced ((pixel_group format.now.sampling format.now.depth).samples * at)
+        ≡ replaced_cells ((pixel_group format.now.sampling format.now.depth).samples * at)
         (cells_in format.now (mark ∷ []) from.now) (cells_in format.now marks.old octets.old) }
 {
     let size = format.pgroup().octets;

@@ -8,8 +8,9 @@ use Rattle.st_format.specs.Raster.{Raster}
 use Rattle.path_merge.specs.Frames.{State, frame_at}
 use Rattle.frame_assembly.specs.declared.counts.Counts.{Counts}
 use Rattle.st_format.specs.Cell.{is_contested, is_missing, is_present}
-use Rattle.frame_report.specs.Gathers.{numbered}
-use Rattle.frame_report.specs.Report.{counts_in, counts_line, frame_text, text_at}
+use Rattle.frame_report.specs.Gathers.{numbered_word}
+use Rattle.frame_assembly.specs.Kinds.{counts_of}
+use Rattle.frame_report.specs.Report.{counts_line, frame_text, text_at}
 use Rattle.frame_report.specs.Report.{text_if}
 use Rattle.frame_report.proofs.Ranges.{items_here}
 
@@ -34,13 +35,13 @@ frames_here s i t r lt at found =
 
 abbrev line_of : ℕ → ℕ → ℕ → ℕ → List ℕ
 line_of timestamp present missing contested =
-    numbered (codes "frame ") timestamp ++ (numbered (codes " present ") present
-    ++ (numbered (codes " missing ") missing
-    ++ (numbered (codes " contested ") contested ++ codes "\n")))
+    numbered_word (codes "frame ") timestamp ++ (numbered_word (codes " present ") present
+    ++ (numbered_word (codes " missing ") missing
+    ++ (numbered_word (codes " contested ") contested ++ codes "\n")))
 
 pub counts_are : (t : ℕ) (k : Counts) (r : Raster) → k.present ≡ count_by is_present r.cells
     → k.missing ≡ count_by is_missing r.cells → k.contested ≡ count_by is_contested r.cells
-    → counts_line t (counts_in r) ≡ counts_line t k
+    → counts_line t (counts_of r) ≡ counts_line t k
 counts_are t k r e f h =
     sym
     (ap (λ (n : ℕ). line_of t n k.missing k.contested) e

@@ -19,7 +19,7 @@ use Rattle.st_format.specs.Pgroup.{pixel_group}
 use Rattle.st_format.specs.Position.{group_start, row_groups}
 use Rattle.st_format.specs.Raster.{IsWhole, Raster}
 use Rattle.frame_assembly.specs.Rows.{IsMarkOf, group_cells}
-use Rattle.packet_numbers.specs.Numbers.{closed, numbered, runs_from}
+use Rattle.packet_numbers.specs.Numbers.{closed_run, numbered_run, runs_from}
 use Rattle.packet_numbers.proofs.Runs.{closed_none, closed_some, runs_closed, runs_end, runs_on}
 use Rattle.frame_report.specs.Missing.{flags_in, known_groups, missing_in_row, missing_line}
 use Rattle.frame_report.specs.Missing.{missing_lines, run_text}
@@ -35,11 +35,11 @@ lines_from columns row start place flags =
 pub lines_closed : (columns row start place : ℕ) (flags : List Bool) → place < length flags
     → get_or flags place false ≡ true
     → lines_from columns row start place flags
-    ≡ flat_map (missing_line columns row) (closed start place)
+    ≡ flat_map (missing_line columns row) (closed_run start place)
     ++ lines_from columns row (place + 1) (place + 1) flags
 lines_closed columns row start place flags lt e =
     ap (flat_map (missing_line columns row)) (runs_closed flags start place lt e)
-    ∙ flat_map-append (missing_line columns row) (closed start place)
+    ∙ flat_map-append (missing_line columns row) (closed_run start place)
     (runs_from (place + 1) (place + 1) (drop (place + 1) flags))
 
 pub lines_on : (columns row start place : ℕ) (flags : List Bool) → place < length flags
@@ -51,7 +51,7 @@ lines_on columns row start place flags lt e =
 
 pub lines_end : (columns row start place : ℕ) (flags : List Bool) → length flags ≤ place
     → lines_from columns row start place flags
-    ≡ flat_map (missing_line columns row) (closed start place)
+    ≡ flat_map (missing_line columns row) (closed_run start place)
 lines_end columns row start place flags le =
     ap (flat_map (missing_line columns row)) (runs_end flags start place le)
 
@@ -64,24 +64,24 @@ flag_is marks group lt =
 -- ---- runs that are told by numbers from 0 on
 
 closed_same : (start end : ℕ) → end < 2 ^ 32
-    → map (numbered 0) (closed start end) ≡ closed start end
+    → map (numbered_run 0) (closed_run start end) ≡ closed_run start end
 closed_same start end small =
     elim (cases_lt start end) [
       | inl lt ↦
           let e : (0 + start) % 2 ^ 32 ≡ start = omega (arith, lt, small) in
-          ap (map (numbered 0)) (closed_some start end lt)
+          ap (map (numbered_run 0)) (closed_some start end lt)
           ∙ ap (λ (k : ℕ). (k, end - start) ∷ []) e ∙ sym (closed_some start end lt)
-      | inr le ↦ ap (map (numbered 0)) (closed_none start end le) ∙ sym (closed_none start end le)
+      | inr le ↦ ap (map (numbered_run 0)) (closed_none start end le) ∙ sym (closed_none start end le)
     ]
 
 runs_same : (start place : ℕ) (flags : List Bool) → place + length flags < 2 ^ 32
-    → map (numbered 0) (runs_from start place flags) ≡ runs_from start place flags
+    → map (numbered_run 0) (runs_from start place flags) ≡ runs_from start place flags
 runs_same start place [] small = closed_same start place (omega (arith, small))
 runs_same start place (true ∷ flags) small =
-    map-append (numbered 0) (closed start place) (runs_from (place + 1) (place + 1) flags)
-    ∙ ap (λ xs. xs ++ map (numbered 0) (runs_from (place + 1) (place + 1) flags))
+    map-append (numbered_run 0) (closed_run start place) (runs_from (place + 1) (place + 1) flags)
+    ∙ ap (λ xs. xs ++ map (numbered_run 0) (runs_from (place + 1) (place + 1) flags))
     (closed_same start place (omega (arith, small)))
-    ∙ ap (λ xs. closed start place ++ xs)
+    ∙ ap (λ xs. closed_run start place ++ xs)
     (runs_same (place + 1) (place + 1) flags (omega (arith, small)))
 runs_same start place (false ∷ flags) small =
     runs_same start (place + 1) flags (omega (arith, small))
@@ -144,13 +144,13 @@ row_is r row columns marks long few each some e =
     ap (λ (c : ℕ). flat_map (missing_line c row) (runs_from 0 0 (flags_in marks))) e
     ∙ ap (flat_map (missing_line (pixel_group r.format.sampling r.format.depth).pixels row))
     (sym (runs_same 0 0 (flags_in marks) small)
-    ∙ ap (λ (fs : List Bool). map (numbered 0) (runs_from 0 0 fs))
+    ∙ ap (λ (fs : List Bool). map (numbered_run 0) (runs_from 0 0 fs))
     (flags_are r row marks long each some))
 
 -- the line of one run
 pub run_line : (columns row start end first last : ℕ) → start < end → first ≡ columns * start
     → last ≡ columns * end - 1
-    → run_text row first last ≡ flat_map (missing_line columns row) (closed start end)
+    → run_text row first last ≡ flat_map (missing_line columns row) (closed_run start end)
 run_line columns row start end first last lt e f =
     let whole : start + (end - start) ≡ end = omega (arith, lt) in
     ap (λ (k : ℕ). run_text row k last) e
@@ -161,7 +161,7 @@ run_line columns row start end first last lt e f =
     ∙ append-nil (missing_line columns row (start, end - start)))
 
 pub run_none : (columns row start end : ℕ) → end ≤ start
-    → flat_map (missing_line columns row) (closed start end) ≡ []
+    → flat_map (missing_line columns row) (closed_run start end) ≡ []
 run_none columns row start end le =
     ap (flat_map (missing_line columns row)) (closed_none start end le)
 
@@ -236,7 +236,7 @@ row_none r row whole lt some e =
     let n : ℕ = row_groups r.format in
     ap (λ runs. flat_map
     (missing_line (pixel_group r.format.sampling r.format.depth).pixels row)
-    (map (numbered 0) runs))
+    (map (numbered_run 0) runs))
     (known_runs (known_groups r row).noted 0
     (λ k below.
     (let wide : length (known_groups r row).noted ≡ n = length-map-range_with_len known 0 n in
@@ -259,7 +259,7 @@ flags_long marks = length-map marks (λ mark. eqb (bit_at mark 15) 1)
 pub lines_done : (columns row start place : ℕ) (marks : List ℕ) → length marks ≤ place
     → start ≤ place → place ≤ length marks
     → lines_from columns row start place (flags_in marks)
-    ≡ flat_map (missing_line columns row) (closed start (length marks))
+    ≡ flat_map (missing_line columns row) (closed_run start (length marks))
 lines_done columns row start place marks le order ge =
     lines_end columns row start place (flags_in marks) (omega (arith, le, flags_long marks))
-    ∙ ap (λ (k : ℕ). flat_map (missing_line columns row) (closed start k)) (omega (arith, le, ge))
+    ∙ ap (λ (k : ℕ). flat_map (missing_line columns row) (closed_run start k)) (omega (arith, le, ge))

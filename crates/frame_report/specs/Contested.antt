@@ -6,7 +6,7 @@ use Rattle.st_format.specs.declared.sampling.Sampling.TheVariants.{Ycc422, Ycc44
 use Rattle.st_format.specs.Cell.{is_contested}
 use Rattle.st_format.specs.Position.{Position, group_positions, place_in_row, row_groups}
 use Rattle.st_format.specs.Raster.{Raster, cell_at}
-use Rattle.frame_report.specs.Gathers.{numbered}
+use Rattle.frame_report.specs.Gathers.{numbered_word}
 
 -- the names of components 0, 1 and 2 (SMPTE ST 2110-20, sampling)
 abbrev pub component_names : Sampling → List (List ℕ)
@@ -17,7 +17,7 @@ component_names Rgb = codes "R" ∷ codes "G" ∷ codes "B" ∷ []
 -- `contested row R column K NAME`
 abbrev pub sample_text : ℕ → ℕ → List ℕ → List ℕ
 sample_text row column name =
-    numbered (codes "contested row ") row ++ (numbered (codes " column ") column
+    numbered_word (codes "contested row ") row ++ (numbered_word (codes " column ") column
     ++ (codes " " ++ (name ++ codes "\n")))
 
 -- of a position

@@ -11,5 +11,5 @@ pub record Gathers (old new : Option (List ℕ)) (page page' text : List ℕ) : 
   pub whole : page ++ text ≡ first ++ page'
 
 -- a word and a number
-abbrev pub numbered : List ℕ → ℕ → List ℕ
-numbered word number = word ++ decimal number
+abbrev pub numbered_word : List ℕ → ℕ → List ℕ
+numbered_word word number = word ++ decimal number

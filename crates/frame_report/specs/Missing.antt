@@ -8,7 +8,7 @@ use Rattle.st_format.specs.Position.{row_groups}
 use Rattle.st_format.specs.Raster.{Raster}
 use Rattle.frame_assembly.specs.Rows.{group_cells}
 use Rattle.packet_numbers.specs.Numbers.{Numbers, missing_runs_of}
-use Rattle.frame_report.specs.Gathers.{numbered}
+use Rattle.frame_report.specs.Gathers.{numbered_word}
 
 -- Of a row's pixel groups, from the left, whether something is known of them: a group is missing
 -- where all its samples are.
@@ -28,8 +28,8 @@ missing_runs_in r row = missing_runs_of (known_groups r row)
 -- `missing row R columns A to B`
 abbrev pub run_text : ℕ → ℕ → ℕ → List ℕ
 run_text row first last =
-    numbered (codes "missing row ") row ++ (numbered (codes " columns ") first
-    ++ (numbered (codes " to ") last ++ codes "\n"))
+    numbered_word (codes "missing row ") row ++ (numbered_word (codes " columns ") first
+    ++ (numbered_word (codes " to ") last ++ codes "\n"))
 
 -- of a run: from the first column of its first group to the last of its last, of so many columns a
 -- group

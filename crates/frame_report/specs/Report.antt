@@ -1,34 +1,26 @@
 -- ReportText: what a report says of what a receiver was opened with, and of its cells (own).
-use Rattle.std.specs.Prelude.{ℕ, List, [], ◌++◌, codes, count_by, Option, Some, None}
+use Rattle.std.specs.Prelude.{ℕ, List, [], ◌++◌, codes, Option, Some, None}
 use Rattle.std.specs.List.{flat_map}
-use Rattle.st_format.specs.Cell.{is_contested, is_missing, is_present}
 use Rattle.st_format.specs.Raster.{Raster}
 use Rattle.path_merge.specs.Frames.{State, frame_at}
+use Rattle.frame_assembly.specs.Kinds.{counts_of}
 use Rattle.frame_assembly.specs.declared.counts.Counts.{Counts}
-use Rattle.frame_report.specs.Gathers.{numbered}
+use Rattle.frame_report.specs.Gathers.{numbered_word}
 use Rattle.frame_report.specs.Opening.{opening_line}
 use Rattle.frame_report.specs.Missing.{missing_lines}
 use Rattle.frame_report.specs.Contested.{contested_lines}
 
--- how many cells of a frame are of each kind
-abbrev pub counts_in : Raster → Counts
-counts_in r = record {
-  present = count_by is_present r.cells;
-  missing = count_by is_missing r.cells;
-  contested = count_by is_contested r.cells;
-}
-
 -- `frame TS present P missing M contested C`
 abbrev pub counts_line : ℕ → Counts → List ℕ
 counts_line timestamp counts =
-    numbered (codes "frame ") timestamp ++ (numbered (codes " present ") counts.present
-    ++ (numbered (codes " missing ") counts.missing
-    ++ (numbered (codes " contested ") counts.contested ++ codes "\n")))
+    numbered_word (codes "frame ") timestamp ++ (numbered_word (codes " present ") counts.present
+    ++ (numbered_word (codes " missing ") counts.missing
+    ++ (numbered_word (codes " contested ") counts.contested ++ codes "\n")))
 
 -- the lines of a frame: its counts, its missing runs, its contested samples
 abbrev pub frame_text : ℕ → Raster → List ℕ
 frame_text timestamp r =
-    counts_line timestamp (counts_in r) ++ (missing_lines r ++ contested_lines r)
+    counts_line timestamp (counts_of r) ++ (missing_lines r ++ contested_lines r)
 
 -- those of a timestamp, where there is a frame of it
 abbrev pub text_if : ℕ → Option Raster → List ℕ

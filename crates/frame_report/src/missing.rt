@@ -5,7 +5,7 @@ ghost use Rattle.std.specs.Int.{bit_at};
 ghost use Rattle.std.specs.List.{flat_map};
 ghost use Rattle.st_format.specs.Cell.{is_missing};
 ghost use Rattle.st_format.specs.Device.{AppendsPrefix, CountsFaults};
-ghost use Rattle.packet_numbers.specs.Numbers.{closed, runs_from};
+ghost use Rattle.packet_numbers.specs.Numbers.{closed_run, runs_from};
 ghost use Rattle.frame_report.specs.Gathers.{Gathers};
 ghost use Rattle.frame_report.specs.Missing.{flags_in, missing_in_row, missing_line, missing_lines};
 ghost use Rattle.frame_report.specs.Missing.{run_text};
@@ -99,10 +99,10 @@ fn put_run<K: ByteSink>(
     requires groups { end ≤ 8192 }
     ensures ok { OnOk result
         (Gathers (K.held sink.old) (K.held sink.new) page.old page.new
-        (flat_map (missing_line columns row) (closed start end))) }
+        (flat_map (missing_line columns row) (closed_run start end))) }
     ensures fault { OnErr result
         (AppendsPrefix (K.held sink.old) (K.held sink.new)
-        (page.old ++ flat_map (missing_line columns row) (closed start end))) }
+        (page.old ++ flat_map (missing_line columns row) (closed_run start end))) }
     ensures counted { CountsFaults (K.failures sink.old) (K.failures sink.new) result }
 {
     if start >= end {

@@ -2,7 +2,7 @@
 ghost use Rattle.std.specs.Prelude.{◌≡◌, ◌≤◌, ◌+◌, ◌++◌, [], OnErr, OnOk, length};
 ghost use Rattle.std.specs.Io.KnownBytes.{Appends};
 ghost use Rattle.st_format.specs.Device.{AppendsPrefix, CountsFaults};
-ghost use Rattle.frame_report.specs.Gathers.{Gathers, numbered};
+ghost use Rattle.frame_report.specs.Gathers.{Gathers, numbered_word};
 
 use itoa::Buffer;
 use st_format::{ByteSink, DeviceFault, write_whole};
@@ -85,7 +85,7 @@ impl Page {
     /// Adds a word and a number in decimal digits.
     pub(crate) fn add_number(&mut self, word: &[u8], number: u64)
         requires { length self.old + (length word.now + 40) ≤ GATHERED }
-        ensures text { self.new ≡ self.old ++ numbered word.now number }
+        ensures text { self.new ≡ self.old ++ numbered_word word.now number }
         ensures short { length self.new ≤ length self.old + (length word.now + 40) }
     {
         let mut digits = Buffer::new();

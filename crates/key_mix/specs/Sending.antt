@@ -19,7 +19,7 @@ use Rattle.std.specs.Prelude.{
 use Rattle.st_format.specs.declared.format.Format.{Format}
 use Rattle.st_format.specs.Device.{CountsOne, TakesAll}
 use Rattle.st_format.specs.Picture.{Values}
-use Rattle.frame_assembly.specs.Settled.{IsBaseOf, settled}
+use Rattle.frame_assembly.specs.Settled.{IsBaseOf, settled_picture}
 use Rattle.packet_plan.specs.declared.run.PacketRun.{PacketRun}
 use Rattle.packet_plan.specs.declared.stamp.Stamp.{Stamp}
 use Rattle.packet_plan.specs.Plan.{IsSize}
@@ -41,7 +41,7 @@ HasBase i = IsBaseOf i.base i.frame.now.format
 
 -- Settled, of each input
 abbrev pub settled_inputs : {A : Type 0} → List (JobInput A) → List Values
-settled_inputs inputs = map (λ i. settled i.frame.now i.base) inputs
+settled_inputs inputs = map (λ i. settled_picture i.frame.now i.base) inputs
 
 -- Datagrams are those of the job's picture, by a raster plan.
 pub record IsSentJob (datagrams : List (List ℕ)) (j : Job) (pictures : List Values) (size : ℕ)

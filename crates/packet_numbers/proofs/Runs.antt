@@ -9,21 +9,21 @@ use Rattle.st_format.specs.Member.{IsMember}
 use Rattle.st_format.proofs.Members.{member_left, member_right, member_cases, member-map}
 use Rattle.st_format.proofs.Members.{member_of_map}
 use Rattle.packet_numbers.specs.Numbers.{Numbers, count_of, IsNumbers, place_of, IsNoted}
-use Rattle.packet_numbers.specs.Numbers.{IsMissingRun, AreMissingRuns, closed, runs_from, numbered}
+use Rattle.packet_numbers.specs.Numbers.{IsMissingRun, AreMissingRuns, closed_run, runs_from, numbered_run}
 use Rattle.packet_numbers.specs.Numbers.{missing_runs_of}
 
 -- ---- the walk
 
-pub closed_some : (start end : ℕ) → start < end → closed start end ≡ (start, end - start) ∷ []
+pub closed_some : (start end : ℕ) → start < end → closed_run start end ≡ (start, end - start) ∷ []
 closed_some start end lt = rw (lt-ltb start end lt) refl
 
-pub closed_none : (start end : ℕ) → end ≤ start → closed start end ≡ []
+pub closed_none : (start end : ℕ) → end ≤ start → closed_run start end ≡ []
 closed_none start end le = rw (le-ltb start end le) refl
 
 pub runs_closed : (flags : List Bool) (start place : ℕ) → place < length flags
     → get_or flags place false ≡ true
     → runs_from start place (drop place flags)
-    ≡ closed start place ++ runs_from (place + 1) (place + 1) (drop (place + 1) flags)
+    ≡ closed_run start place ++ runs_from (place + 1) (place + 1) (drop (place + 1) flags)
 runs_closed flags start place lt e =
     ap (runs_from start place) (drop_more flags place false lt)
     ∙ ap (λ (b : Bool). runs_from start place (b ∷ drop (place + 1) flags)) e
@@ -37,7 +37,7 @@ runs_on flags start place lt e =
     ∙ ap (λ (b : Bool). runs_from start place (b ∷ drop (place + 1) flags)) e
 
 pub runs_end : (flags : List Bool) (start place : ℕ) → length flags ≤ place
-    → runs_from start place (drop place flags) ≡ closed start place
+    → runs_from start place (drop place flags) ≡ closed_run start place
 runs_end flags start place le = ap (runs_from start place) (drop_all place flags le)
 
 -- ---- which runs it tells
@@ -53,9 +53,9 @@ pub record IsOpen (m : Numbers) (start place : ℕ) : Type 0 where
 abbrev IsOver : Numbers → ℕ → Type 0
 IsOver m place = place < count_of m → IsNoted m place
 
-closed_run : (m : Numbers) (start place : ℕ) → IsOpen m start place → IsOver m place
+run_closed : (m : Numbers) (start place : ℕ) → IsOpen m start place → IsOver m place
     → start < place → IsMissingRun m start (place - start)
-closed_run m start place o over lt =
+run_closed m start place o over lt =
     let e : start + (place - start) ≡ place = omega arith in
     let within : place ≤ count_of m = o.within in
     record {
@@ -67,13 +67,13 @@ closed_run m start place o over lt =
     }
 
 pub closed_found : (m : Numbers) (start place : ℕ) → IsOpen m start place → IsOver m place
-    → (s len : ℕ) → IsMember (s, len) (closed start place) → IsMissingRun m s len × (start ≤ s)
+    → (s len : ℕ) → IsMember (s, len) (closed_run start place) → IsMissingRun m s len × (start ≤ s)
 closed_found m start place o over s len h = elim (cases_lt start place) [
   | inl lt ↦
       elim (subst (λ (xs : List (ℕ × ℕ)). IsMember (s, len) xs) (closed_some start place lt) h) [
         | inl e ↦ (
           subst (λ (r : ℕ × ℕ). IsMissingRun m r.0 r.1) (sym e)
-              (closed_run m start place o over lt),
+              (run_closed m start place o over lt),
           subst (λ (r : ℕ × ℕ). start ≤ r.0) (sym e) (omega arith),
         )
         | inr none ↦ absurd none
@@ -85,7 +85,7 @@ closed_found m start place o over s len h = elim (cases_lt start place) [
 -- a run from start on whose first place is below place is the one that is closed there
 pub closed_all : (m : Numbers) (start place : ℕ) → IsOpen m start place → IsOver m place
     → (s len : ℕ) → IsMissingRun m s len → start ≤ s → s < place
-    → IsMember (s, len) (closed start place)
+    → IsMember (s, len) (closed_run start place)
 closed_all m start place o over s len run from below =
     let w1 : s + len ≤ count_of m = run.within in
     let w2 : 0 < len = run.some in
@@ -159,7 +159,7 @@ runs_found m start place [] e o s len h =
 runs_found m start place (true ∷ flags) e o s len h =
     let hd = head_of m.noted place true flags e in
     let le : start ≤ place = o.order in
-    elim (member_cases (s, len) (closed start place) (runs_from (place + 1) (place + 1) flags) h) [
+    elim (member_cases (s, len) (closed_run start place) (runs_from (place + 1) (place + 1) flags) h) [
       | inl a ↦ closed_found m start place o (λ lt. hd.is) s len a
       | inr b ↦ let r : IsMissingRun m s len × (place + 1 ≤ s) =
           runs_found m (place + 1) (place + 1) flags hd.rest
@@ -182,12 +182,12 @@ runs_all m start place (true ∷ flags) e o s len run from =
     let hd = head_of m.noted place true flags e in
     let w2 : 0 < len = run.some in
     elim (cases_lt s place) [
-      | inl lt ↦ member_left (s, len) (closed start place)
+      | inl lt ↦ member_left (s, len) (closed_run start place)
           (runs_from (place + 1) (place + 1) flags)
           (closed_all m start place o (λ lt. hd.is) s len run from lt)
       | inr ge ↦ elim (cases_eq s place) [
         | inl here ↦ absurd (run.missing place (omega arith) (omega arith) hd.is)
-        | inr there ↦ member_right (s, len) (closed start place)
+        | inr there ↦ member_right (s, len) (closed_run start place)
             (runs_from (place + 1) (place + 1) flags)
             (runs_all m (place + 1) (place + 1) flags hd.rest
             (open_anew m place hd.within hd.is) s len run (omega arith))
@@ -224,7 +224,7 @@ abbrev firsts : List (ℕ × ℕ) → List ℕ
 firsts rs = map (λ (r : ℕ × ℕ). r.0) rs
 
 closed_rises : (start place : ℕ) (rs : List (ℕ × ℕ)) → start ≤ place → Rises place (firsts rs)
-    → Rises start (firsts (closed start place ++ rs))
+    → Rises start (firsts (closed_run start place ++ rs))
 closed_rises start place rs le h = elim (cases_lt start place) [
   | inl lt ↦ rw (closed_some start place lt)
       (omega arith, rises_from place (start + 1) (firsts rs) (omega arith) h)
@@ -234,7 +234,7 @@ closed_rises start place rs le h = elim (cases_lt start place) [
 starts_rise : (start place : ℕ) (flags : List Bool) → start ≤ place
     → Rises start (firsts (runs_from start place flags))
 starts_rise start place [] le =
-    subst (λ (rs : List (ℕ × ℕ)). Rises start (firsts rs)) (append-nil (closed start place))
+    subst (λ (rs : List (ℕ × ℕ)). Rises start (firsts rs)) (append-nil (closed_run start place))
     (closed_rises start place [] le tt)
 starts_rise start place (true ∷ flags) le =
     closed_rises start place (runs_from (place + 1) (place + 1) flags) le
@@ -245,7 +245,7 @@ starts_rise start place (false ∷ flags) le = starts_rise start (place + 1) fla
 -- ---- by packet numbers
 
 place_of_numbered : (m : Numbers) (r : ℕ × ℕ) → m.first < 2 ^ 32 → r.0 < 2 ^ 32
-    → place_of m (numbered m.first r).0 ≡ r.0
+    → place_of m (numbered_run m.first r).0 ≡ r.0
 place_of_numbered m r small below = omega arith
 
 number_of_place : (m : Numbers) (number : ℕ) → m.first < 2 ^ 32 → number < 2 ^ 32
@@ -254,21 +254,21 @@ number_of_place m number small below = omega arith
 
 places_again : (m : Numbers) (rs : List (ℕ × ℕ)) → m.first < 2 ^ 32
     → ((s len : ℕ) → IsMember (s, len) rs → s < 2 ^ 32)
-    → map (λ (run : ℕ × ℕ). place_of m run.0) (map (numbered m.first) rs) ≡ firsts rs
+    → map (λ (run : ℕ × ℕ). place_of m run.0) (map (numbered_run m.first) rs) ≡ firsts rs
 places_again m [] small each = refl
 places_again m ((s, len) ∷ rs) small each =
-    ap (λ (x : ℕ). x ∷ map (λ (run : ℕ × ℕ). place_of m run.0) (map (numbered m.first) rs))
+    ap (λ (x : ℕ). x ∷ map (λ (run : ℕ × ℕ). place_of m run.0) (map (numbered_run m.first) rs))
     (place_of_numbered m (s, len) small (each s len (inl refl)))
     ∙ ap (λ (xs : List ℕ). s ∷ xs) (places_again m rs small (λ t n h. each t n (inr h)))
 
 numbered_found : (m : Numbers) (rs : List (ℕ × ℕ)) → m.first < 2 ^ 32
     → ((s len : ℕ) → IsMember (s, len) rs → IsMissingRun m s len)
     → ((s len : ℕ) → IsMember (s, len) rs → s < 2 ^ 32)
-    → (number len : ℕ) → IsMember (number, len) (map (numbered m.first) rs)
+    → (number len : ℕ) → IsMember (number, len) (map (numbered_run m.first) rs)
     → (number < 2 ^ 32) × IsMissingRun m (place_of m number) len
 numbered_found m rs small found below number len h =
-    let r : (x : ℕ × ℕ) × IsMember x rs × ((number, len) ≡ numbered m.first x) =
-    member-map (numbered m.first) (number, len) rs h in
+    let r : (x : ℕ × ℕ) × IsMember x rs × ((number, len) ≡ numbered_run m.first x) =
+    member-map (numbered_run m.first) (number, len) rs h in
     let s : ℕ = r.0.0 in
     let is_number : number ≡ (m.first + s) % 2 ^ 32 = ap (λ (x : ℕ × ℕ). x.0) r.2 in
     let is_len : len ≡ r.0.1 = ap (λ (x : ℕ × ℕ). x.1) r.2 in
@@ -281,11 +281,11 @@ numbered_found m rs small found below number len h =
 
 numbered_all : (m : Numbers) (rs : List (ℕ × ℕ)) → m.first < 2 ^ 32 → (number len : ℕ)
     → number < 2 ^ 32 → IsMember (place_of m number, len) rs
-    → IsMember (number, len) (map (numbered m.first) rs)
+    → IsMember (number, len) (map (numbered_run m.first) rs)
 numbered_all m rs small number len below h =
-    subst (λ (x : ℕ). IsMember (x, len) (map (numbered m.first) rs))
+    subst (λ (x : ℕ). IsMember (x, len) (map (numbered_run m.first) rs))
     (number_of_place m number small below)
-    (member_of_map (numbered m.first) (place_of m number, len) rs h)
+    (member_of_map (numbered_run m.first) (place_of m number, len) rs h)
 
 pub are_missing_runs : (m : Numbers) → IsNumbers m → AreMissingRuns m (missing_runs_of m)
 are_missing_runs m is =

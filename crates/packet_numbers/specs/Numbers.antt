@@ -70,20 +70,20 @@ pub record AreMissingRuns (m : Numbers) (runs : List (ℕ × ℕ)) : Type 0 wher
 
 -- The same list place by place, of flags from a place on: no place from start up to there was
 -- noted. Runs are told by their first place.
-abbrev pub closed : ℕ → ℕ → List (ℕ × ℕ)
-closed start end = if nat_lt start end then (start, end - start) ∷ [] else []
+abbrev pub closed_run : ℕ → ℕ → List (ℕ × ℕ)
+closed_run start end = if nat_lt start end then (start, end - start) ∷ [] else []
 
 abbrev pub runs_from : ℕ → ℕ → List Bool → List (ℕ × ℕ)
-runs_from start place [] = closed start place
-runs_from start place (true ∷ flags) = closed start place ++ runs_from (place + 1) (place + 1) flags
+runs_from start place [] = closed_run start place
+runs_from start place (true ∷ flags) = closed_run start place ++ runs_from (place + 1) (place + 1) flags
 runs_from start place (false ∷ flags) = runs_from start (place + 1) flags
 
 -- by its first packet number
-abbrev pub numbered : ℕ → (ℕ × ℕ) → (ℕ × ℕ)
-numbered first run = ((first + run.0) % 2 ^ 32, run.1)
+abbrev pub numbered_run : ℕ → (ℕ × ℕ) → (ℕ × ℕ)
+numbered_run first run = ((first + run.0) % 2 ^ 32, run.1)
 
 abbrev pub missing_runs_of : Numbers → List (ℕ × ℕ)
-missing_runs_of m = map (numbered m.first) (runs_from 0 0 m.noted)
+missing_runs_of m = map (numbered_run m.first) (runs_from 0 0 m.noted)
 
 -- the numbers of the refusals
 abbrev pub seq_map_fault_number : SeqMapFault → ℕ

@@ -27,7 +27,7 @@ use Rattle.path_merge.specs.Admission.{datagram_walk}
 use Rattle.path_merge.specs.Offers.{offers, offers_of}
 use Rattle.path_merge.specs.Frames.{State, IsReceiver, Holds, SameFormats, frames_of, joined_frames}
 use Rattle.path_merge.specs.Frames.{frame_at, cell_if, cell_in}
-use Rattle.path_merge.specs.Sliding.{slid}
+use Rattle.path_merge.specs.Sliding.{slid_state}
 use Rattle.path_merge.proofs.Frames.{cells_kept, frames_of-append}
 use Rattle.path_merge.proofs.Windows.{below_get, member_get}
 
@@ -373,7 +373,7 @@ frames_moved f pt n ssrc (t ∷ w) (r ∷ rs) refusals bits is some e fr wr few 
 
 -- A receiver that slid is a receiver.
 pub receiver_slid : (s : State) (next : ℕ) → IsReceiver s → (IsMember next s.opening.window → ⊥)
-    → IsReceiver (slid s next)
+    → IsReceiver (slid_state s next)
 receiver_slid s next is out =
     let f : Format = s.opening.format in
     frames_moved f s.opening.payload_type next s.opening.ssrc s.opening.window s.frames s.refusals

@@ -15,7 +15,8 @@ use Rattle.path_merge.specs.declared.schedule.played.Handed.{Handed}
 use Rattle.path_merge.specs.declared.schedule.stage.Stage.{Stage}
 use Rattle.path_merge.specs.Played.{IsHanded}
 use Rattle.path_merge.specs.Sent.{scene_of}
-use Rattle.path_merge.specs.Stage.{IsOpened, IsStage, octets_of}
+use Rattle.path_merge.specs.Stage.{IsOpened, IsStage}
+use Rattle.st_format.specs.Memory.{octets_of}
 use Rattle.path_merge.specs.Steps.{to_come}
 use Rattle.path_merge.proofs.SendLemmas.{behind_first}
 use Rattle.path_merge.proofs.StayFrames.{at_opening}

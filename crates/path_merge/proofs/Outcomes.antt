@@ -12,7 +12,7 @@ use Rattle.st_format.proofs.Members.{member_cases}
 use Rattle.st_format.specs.Device.{AreOctets}
 use Rattle.path_merge.specs.Frames.{State, frames_of, joined_frames}
 use Rattle.path_merge.specs.Opening.{Opening, AreDifferent}
-use Rattle.path_merge.specs.Sliding.{slid, with_window}
+use Rattle.path_merge.specs.Sliding.{slid_state, with_window}
 use Rattle.path_merge.specs.declared.schedule.event.Event.{Event}
 use Rattle.path_merge.specs.declared.schedule.event.Event.TheVariants.{Send, Arrive, Slide, Merge}
 use Rattle.path_merge.specs.Admitted.{AreAdmittedTo, CanSlide, IsAdmitted, send_count}
@@ -91,9 +91,9 @@ outcome_more s es (Slide at next) r some octets most admitted all = elim (eqb_te
   | inl same ↦
       let o = all r in
       record {
-        state = slid o.state next;
+        state = slid_state o.state next;
         is_at =
-            subst (λ (x : ℕ). IsAt (slid o.state next) r s (es ++ Slide x next ∷ [])) (sym same.1)
+            subst (λ (x : ℕ). IsAt (slid_state o.state next) r s (es ++ Slide x next ∷ [])) (sym same.1)
             (at_slid s es r next o.state some o.is_at);
         different = different_moved next o.state.opening.window o.different
             (λ m. CanSlide.new (subst (λ (x : ℕ). CanSlide s es x next) same.1 admitted)

@@ -13,7 +13,7 @@ use Rattle.packet_plan.specs.declared.stamp.Stamp.{Stamp}
 use Rattle.packet_plan.specs.Plan.{RasterPlan}
 use Rattle.path_merge.specs.Frames.{State}
 use Rattle.path_merge.specs.Opening.{Opening, AreDifferent}
-use Rattle.path_merge.specs.Sliding.{with_window, slid}
+use Rattle.path_merge.specs.Sliding.{with_window, slid_state}
 use Rattle.path_merge.specs.declared.schedule.event.Event.{Event}
 use Rattle.path_merge.specs.declared.schedule.event.Event.TheVariants.{Send, Arrive, Slide, Merge}
 use Rattle.path_merge.specs.declared.schedule.played.Handed.{Handed}
@@ -23,7 +23,8 @@ use Rattle.path_merge.specs.Stays.{Stay, Lasts, HasEnded, slide_timestamp, slide
 use Rattle.path_merge.specs.Reached.{Scene, IsAt, IsFrameOf, Leaves}
 use Rattle.path_merge.specs.Admitted.{send_count}
 use Rattle.path_merge.specs.Played.{IsHanded, ended_stays, stays_ended_by, stays_ended_behind}
-use Rattle.path_merge.specs.Stage.{Follows, HandsOut, NeverFits, Sends, octets_of}
+use Rattle.path_merge.specs.Stage.{Follows, HandsOut, NeverFits, Sends}
+use Rattle.st_format.specs.Memory.{octets_of}
 use Rattle.path_merge.specs.Steps.{Arrives, Merges, to_come}
 use Rattle.path_merge.proofs.Places.{get_below, get_left}
 use Rattle.path_merge.proofs.Reaching.{frame_kept, none_by_other, none_when_over}
@@ -311,10 +312,10 @@ follows_slide plan stamp pictures at next old new out same s es some is =
           };
       stage = record {
         count =
-            ap length h.all ∙ length-set_state old.receivers.items at (slid h.before next)
+            ap length h.all ∙ length-set_state old.receivers.items at (slid_state h.before next)
             ∙ is.count;
         receivers =
-            λ r state there. each_receiver s es e old.receivers.items at (slid h.before next)
+            λ r state there. each_receiver s es e old.receivers.items at (slid_state h.before next)
             (λ q other. other) is.receivers
             (at_slid s es at next h.before some here) r state
             (ap (λ (xs : List State). slice_get xs r) (sym h.all) ∙ there);

@@ -14,7 +14,7 @@ use Rattle.st_format.specs.Device.{AreOctets}
 use Rattle.path_merge.specs.Frames.{State, Holds, frames_of, joined_frames}
 use Rattle.path_merge.specs.Offers.{offers}
 use Rattle.path_merge.specs.Opening.{Opening, AreDifferent}
-use Rattle.path_merge.specs.Sliding.{with_window, slid}
+use Rattle.path_merge.specs.Sliding.{with_window, slid_state}
 use Rattle.path_merge.proofs.Windows.{member_get}
 use Rattle.path_merge.specs.declared.schedule.event.Event.{Event}
 use Rattle.path_merge.specs.declared.schedule.event.Event.TheVariants.{Send, Arrive, Slide, Merge}
@@ -278,7 +278,7 @@ slid_window w xs next some =
 
 pub at_slid : (s : Scene) (es : List Event) (r next : ℕ) (state : State)
     → 0 < length s.opening.window → IsAt state r s es
-    → IsAt (slid state next) r s (es ++ Slide r next ∷ [])
+    → IsAt (slid_state state next) r s (es ++ Slide r next ∷ [])
 at_slid s es r next state some is =
     let e : Event = Slide r next in
     let xs : List ℕ = slide_timestamps r es in
@@ -308,20 +308,20 @@ at_slid s es r next state some is =
     sym (slid_window s.opening.window xs next some) in
     let blanks : blank s.opening.format ≡ blank state.opening.format =
     ap (λ (o : Opening). blank o.format) (sym is.opening) in
-    let opening : (slid state next).opening ≡ with_window s.opening (drop 1 w ++ next ∷ []) =
+    let opening : (slid_state state next).opening ≡ with_window s.opening (drop 1 w ++ next ∷ []) =
     ap (λ (o : Opening). with_window o (drop 1 o.window ++ next ∷ [])) is.opening in
-    let h : at_window s (es ++ e ∷ []) r (xs ++ next ∷ []) (slid state next) = (
+    let h : at_window s (es ++ e ∷ []) r (xs ++ next ∷ []) (slid_state state next) = (
       opening ∙ ap (with_window s.opening) window,
       subst (λ (n : ℕ). AreFrames s (es ++ e ∷ []) r n
           (drop (length (xs ++ next ∷ [])) (s.opening.window ++ (xs ++ next ∷ [])))
-          (slid state next).frames) one
+          (slid_state state next).frames) one
           (subst (λ (v : List ℕ). AreFrames s (es ++ e ∷ []) r (suc (length xs)) v
-          (slid state next).frames) window
+          (slid_state state next).frames) window
           (subst (λ (b : Raster). AreFrames s (es ++ e ∷ []) r (suc (length xs))
           (drop 1 w ++ next ∷ []) (drop 1 state.frames ++ b ∷ [])) blanks frames)),
     ) in
-    let g : at_window s (es ++ e ∷ []) r (slide_timestamps r (es ++ e ∷ [])) (slid state next) =
-    subst (λ (ys : List ℕ). at_window s (es ++ e ∷ []) r ys (slid state next)) (sym more) h in
+    let g : at_window s (es ++ e ∷ []) r (slide_timestamps r (es ++ e ∷ [])) (slid_state state next) =
+    subst (λ (ys : List ℕ). at_window s (es ++ e ∷ []) r ys (slid_state state next)) (sym more) h in
     record { opening = g.0; frames = g.1 }
 
 -- A receiver that was just opened

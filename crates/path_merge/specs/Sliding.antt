@@ -15,8 +15,8 @@ with_window o window = record {
 
 -- After a slide: the window's first timestamp is gone and the next stands last, its frame blank;
 -- the other frames are as they were (own)
-abbrev pub slid : State → ℕ → State
-slid s next = record {
+abbrev pub slid_state : State → ℕ → State
+slid_state s next = record {
   opening = with_window s.opening (drop 1 s.opening.window ++ next ∷ []);
   frames = drop 1 s.frames ++ blank s.opening.format ∷ [];
   refusals = s.refusals;

@@ -2,6 +2,7 @@
 use Rattle.std.specs.Prelude.{◌≡◌, ℕ, ◌<◌, List, [], ◌∷◌, ◌++◌, length, map, take, Some, slice_get}
 use Rattle.std.specs.Prelude.{Vec}
 use Rattle.std.specs.List.{AllZip}
+use Rattle.st_format.specs.Memory.{octets_of}
 use Rattle.st_format.specs.Picture.{Values}
 use Rattle.packet_plan.specs.declared.stamp.Stamp.{Stamp}
 use Rattle.packet_plan.specs.Plan.{RasterPlan}
@@ -15,9 +16,6 @@ use Rattle.path_merge.specs.Admitted.{AreAdmittedTo, IsAdmitted, IsFirstBad, sen
 use Rattle.path_merge.specs.Played.{IsHanded, ended_stays}
 use Rattle.path_merge.specs.Steps.{Slides, to_come}
 use Rattle.path_merge.specs.declared.schedule.played.Handed.{Handed}
-
-abbrev pub octets_of : {A : Type 0} → Vec ℕ A → List ℕ
-octets_of v = v.items
 
 -- After some events: the receivers are where the events leave them, the stays that ended were
 -- handed out, and what was sent and what is to come make the whole.

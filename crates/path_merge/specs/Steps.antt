@@ -9,7 +9,7 @@ use Rattle.packet_plan.specs.Plan.{RasterPlan, packet_at}
 use Rattle.packet_plan.specs.Sender.{stamp_of}
 use Rattle.packet_plan.specs.Text.{datagram_text, datagram_texts}
 use Rattle.path_merge.specs.Frames.{State, IsReceiver, frames_of, joined_frames}
-use Rattle.path_merge.specs.Sliding.{slid}
+use Rattle.path_merge.specs.Sliding.{slid_state}
 use Rattle.path_merge.specs.declared.schedule.played.Handed.{Handed}
 use Rattle.path_merge.specs.declared.schedule.sending.Next.{Next}
 use Rattle.path_merge.specs.Sent.{sender_of, texts_from}
@@ -37,8 +37,8 @@ pub record Slides {A : Type 0} (at next : ℕ) (old new : List State) (h : Hande
   pub handed : h.receiver ≡ at
   pub first : slice_get before.opening.window 0 ≡ Some h.timestamp
   pub frame : slice_get before.frames 0 ≡ Some h.frame
-  pub receiver : IsReceiver (slid before next)
-  pub all : new ≡ slice_set old at (slid before next)
+  pub receiver : IsReceiver (slid_state before next)
+  pub all : new ≡ slice_set old at (slid_state before next)
 
 -- the same of the receiver alone
 pub record SlidesOne {A : Type 0} (at next : ℕ) (old new : State) (h : Handed A) : Type 0 where
@@ -47,7 +47,7 @@ pub record SlidesOne {A : Type 0} (at next : ℕ) (old new : State) (h : Handed 
   pub first : slice_get old.opening.window 0 ≡ Some h.timestamp
   pub frame : slice_get old.frames 0 ≡ Some h.frame
   pub receiver : IsReceiver new
-  pub all : new ≡ slid old next
+  pub all : new ≡ slid_state old next
 
 -- a receiver was merged into another
 pub record Merges (into from : ℕ) (old new : List State) : Type 0 where

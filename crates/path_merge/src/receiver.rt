@@ -15,7 +15,7 @@ ghost use Rattle.path_merge.specs.Grammar.{Datagram, IsFor, IsKept, IsOutside};
 ghost use Rattle.path_merge.specs.Offers.{AreOffersOf, offers};
 ghost use Rattle.path_merge.specs.Opening.{AreDifferent, IsWindow, IsWindowSize};
 ghost use Rattle.path_merge.specs.Refused.{IsRefusedDatagram};
-ghost use Rattle.path_merge.specs.Sliding.{slid, with_frame};
+ghost use Rattle.path_merge.specs.Sliding.{slid_state, with_frame};
 ghost use Rattle.path_merge.specs.declared.answer.Refusal.{Refusal};
 
 use crate::admitting::admit;
@@ -303,7 +303,7 @@ impl<A: Allocator> Receiver<A> {
         ensures refused { OnErr result ((self.new ≡ self.old) × (out.new ≡ out.old)) }
         ensures first { IfOk result (λ first. slice_get self.old.opening.window 0 ≡ Some first) }
         ensures out { OnOk result (slice_get self.old.frames 0 ≡ Some out.new) }
-        ensures slid { OnOk result (self.new ≡ slid self.old next) }
+        ensures slid { OnOk result (self.new ≡ slid_state self.old next) }
         ensures receiver { IsReceiver self.new }
     {
         if has_timestamp(self.window.as_slice(), next) {
@@ -321,7 +321,7 @@ impl<A: Allocator> Receiver<A> {
         requires format { out.old.format ≡ self.old.opening.format }
         ensures first { slice_get self.old.opening.window 0 ≡ Some result }
         ensures out { slice_get self.old.frames 0 ≡ Some out.new }
-        ensures slid { self.new ≡ slid self.old next }
+        ensures slid { self.new ≡ slid_state self.old next }
         ensures receiver { IsReceiver self.new }
     {
         mem::swap(&mut self.frames[0], out);

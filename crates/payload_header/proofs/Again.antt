@@ -20,7 +20,7 @@ use Rattle.payload_header.specs.Payload.{group_of, Header, HeaderFits, header_te
 use Rattle.payload_header.specs.Payload.{IsInside, Describes, IsPayload, most_segments}
 use Rattle.payload_header.specs.Reading.{first_of, number_at, header_of, headers_at}
 use Rattle.st_format.specs.Reading.{◌>>=◌}
-use Rattle.payload_header.specs.Reading.{headers_fault, option_or, fault_or, segments_at, octets_of}
+use Rattle.payload_header.specs.Reading.{headers_fault, option_or, fault_or, segments_at, counted_octets}
 use Rattle.payload_header.specs.Reading.{data_at, payload_walk}
 use Rattle.st_format.specs.Reading.{Gives}
 use Rattle.std.specs.Prelude.{IfOk}
@@ -204,7 +204,7 @@ all_octets ss = flat_map (λ (s : Segment). s.octets) ss
 
 lengths : (f : Format) (hs : List Header) (ss : List Segment)
     → AllZip (λ h s. Describes h f s) hs ss
-    → octets_of hs ≡ length (all_octets ss)
+    → counted_octets hs ≡ length (all_octets ss)
 lengths f [] [] d = refl
 lengths f [] (s ∷ ss) d = absurd d
 lengths f (h ∷ hs) [] d = absurd d
@@ -262,7 +262,7 @@ unfolding payload_walk
 payload_again f extended segments octets is =
     let later : List ℕ = all_octets segments ++ is.rest in
     let behind : List ℕ = flat_map header_text is.headers ++ later in
-    let enough : ltb (length later) (octets_of is.headers) ≡ false =
+    let enough : ltb (length later) (counted_octets is.headers) ≡ false =
     le-ltb _ _
     (omega (
       arith,

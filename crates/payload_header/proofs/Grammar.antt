@@ -17,7 +17,7 @@ use Rattle.payload_header.specs.declared.payload.PayloadFault.TheVariants.{Colum
 use Rattle.payload_header.specs.declared.payload.Segment.{Segment as SegmentView}
 use Rattle.payload_header.specs.Payload.{group_of, Header, IsInside, Describes, seen_segment}
 use Rattle.payload_header.specs.Reading.{first_of, header_fault, headers_fault, option_or}
-use Rattle.payload_header.specs.Reading.{segments_at, octets_of}
+use Rattle.payload_header.specs.Reading.{segments_at, counted_octets}
 
 -- what five tests say of which none holds
 none_holds : (f : Format) (b1 b2 b3 b4 b5 : Bool)
@@ -85,7 +85,7 @@ header_ok f h false e none s o r p =
       };
     }
 
-pub octets_of-cons : (h : Header) (hs : List Header) → octets_of (h ∷ hs) ≡ h.octets + octets_of hs
+pub octets_of-cons : (h : Header) (hs : List Header) → counted_octets (h ∷ hs) ≡ h.octets + counted_octets hs
 octets_of-cons h hs = sum_by-cons (λ (x : Header). x.octets) h hs
 
 -- The same of each header and its octets in turn
@@ -94,11 +94,11 @@ option_none None b h = (refl, h)
 option_none (Some e) b h = absurd cc
 
 pub all_described : (f : Format) (hs : List Header) (octets : List ℕ) → headers_fault f hs ≡ None
-    → octets_of hs ≤ length octets → AllZip (λ h s. Describes h f s) hs (segments_at hs octets)
+    → counted_octets hs ≤ length octets → AllZip (λ h s. Describes h f s) hs (segments_at hs octets)
 all_described f [] octets none enough = tt
 all_described f (h ∷ hs) octets none enough =
     let two = option_none (header_fault f h) (headers_fault f hs) none in
-    let total : h.octets + octets_of hs ≤ length octets = omega (arith, octets_of-cons h hs) in (
+    let total : h.octets + counted_octets hs ≤ length octets = omega (arith, octets_of-cons h hs) in (
       header_ok f h (eqb h.octets 0) refl two.0
           (record { row = h.row; offset = h.offset; octets = take h.octets octets })
           (omega (arith, length-take h.octets octets)) refl refl,
@@ -121,7 +121,7 @@ seen_inside f [] h = tt
 seen_inside f (s ∷ ss) h = (h.0, seen_inside f ss h.1)
 
 pub view_inside : (f : Format) (hs : List Header) (octets : List ℕ) (ss : List SegmentView)
-    → map seen_segment ss ≡ segments_at hs octets → headers_fault f hs ≡ None → octets_of hs ≤ length octets
+    → map seen_segment ss ≡ segments_at hs octets → headers_fault f hs ≡ None → counted_octets hs ≤ length octets
     → All (λ s. 0 < length s.octets.now → IsInside (seen_segment s) f) ss
 view_inside f hs octets ss is none enough =
     All-from_recursion (λ s. 0 < length s.octets.now → IsInside (seen_segment s) f) ss

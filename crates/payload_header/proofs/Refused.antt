@@ -20,7 +20,7 @@ use Rattle.payload_header.specs.declared.payload.PayloadView.{PayloadView}
 use Rattle.payload_header.specs.Payload.{Header, HeaderFits, header_text, most_segments}
 use Rattle.payload_header.specs.Reading.{number_at, header_of, headers_at, headers_fault}
 use Rattle.st_format.specs.Reading.{◌>>=◌}
-use Rattle.payload_header.specs.Reading.{fault_or, segments_at, octets_of, data_at, payload_walk}
+use Rattle.payload_header.specs.Reading.{fault_or, segments_at, counted_octets, data_at, payload_walk}
 use Rattle.st_format.specs.Reading.{Gives}
 use Rattle.payload_header.specs.Faults.{BeginsWith, AllGoOn, LacksHeader, GoesOn, HasHeaders}
 use Rattle.payload_header.specs.Faults.{HasFault, LacksData, IsRefusedPayload}
@@ -196,7 +196,7 @@ refused_header f octets ShortData has = absurd has.has.wrong
 refused_data_at : (f : Format) (octets : List ℕ) (headers : List Header) (more : List ℕ)
     (fault : PayloadFault) (short : Bool) → HasHeaders octets headers more
     → headers_fault f headers ≡ None
-    → ltb (length more) (octets_of headers) ≡ short
+    → ltb (length more) (counted_octets headers) ≡ short
     → cond short (Err ShortData) (Ok (segments_at headers more)) ≡ Err fault
     → IsRefusedPayload octets f fault
 refused_data_at f octets headers more fault true whole none s e =
@@ -207,7 +207,7 @@ refused_data_at f octets headers more fault true whole none s e =
       whole = whole;
       sound =
           all_sound f headers none;
-      short = ltb-true (length more) (octets_of headers) s;
+      short = ltb-true (length more) (counted_octets headers) s;
     })
 refused_data_at f octets headers more fault false whole none s e = absurd cc
 
@@ -217,7 +217,7 @@ refused_tests : (f : Format) (octets : List ℕ) (headers : List Header) (more :
     → fault_or o (data_at headers more) ≡ Err fault → IsRefusedPayload octets f fault
 refused_tests f octets headers more fault None whole is e =
     refused_data_at f octets headers more fault
-    (ltb (length more) (octets_of headers)) whole is refl e
+    (ltb (length more) (counted_octets headers)) whole is refl e
 refused_tests f octets headers more fault (Some d) whole is e =
     let u : Unsound f headers fault =
     unsound f headers fault
@@ -379,7 +379,7 @@ lacks_data f octets l =
     ∙ ap
     (λ (b : Bool). cond b (Err ShortData)
     (Ok (segments_at l.headers l.more)) >>= with_number l.whole.begins.extended)
-    (lt-ltb (length l.more) (octets_of l.headers) l.short)
+    (lt-ltb (length l.more) (counted_octets l.headers) l.short)
 
 no_number : (f : Format) (octets : List ℕ) → length octets < 2
     → payload_walk f octets ≡ Err ShortPayloadHeader

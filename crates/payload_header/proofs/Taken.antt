@@ -20,7 +20,7 @@ use Rattle.payload_header.specs.Payload.{IsPayload, most_segments}
 use Rattle.payload_header.specs.Reading.{number_at, header_of, headers_at, headers_fault}
 use Rattle.st_format.specs.Device.{AreOctets}
 use Rattle.st_format.specs.Reading.{◌>>=◌}
-use Rattle.payload_header.specs.Reading.{fault_or, segments_at, octets_of, data_at, payload_walk}
+use Rattle.payload_header.specs.Reading.{fault_or, segments_at, counted_octets, data_at, payload_walk}
 use Rattle.st_format.proofs.Octets.{AreOctets-drop, AreOctets-take}
 use Rattle.st_format.proofs.Readings.{bind_ok, guard_ok, three, two_below}
 use Rattle.payload_header.proofs.Grammar.{all_described, octets_of-cons}
@@ -181,14 +181,14 @@ headers_take (suc n) octets y bytes e =
 -- The segments' octets stand at the front of the data.
 pub data_parts : (hs : List Header) (octets : List ℕ)
     → octets
-    ≡ flat_map (λ (s : Segment). s.octets) (segments_at hs octets) ++ drop (octets_of hs) octets
+    ≡ flat_map (λ (s : Segment). s.octets) (segments_at hs octets) ++ drop (counted_octets hs) octets
 data_parts [] octets = refl
 data_parts (h ∷ hs) octets =
     let later : drop h.octets octets
     ≡ flat_map (λ (s : Segment). s.octets) (segments_at hs (drop h.octets octets)) ++ drop
-    (octets_of hs) (drop h.octets octets) = data_parts hs (drop h.octets octets) in
-    let same : drop (octets_of hs) (drop h.octets octets) ≡ drop (octets_of (h ∷ hs)) octets =
-    drop-drop (octets_of hs) h.octets octets
+    (counted_octets hs) (drop h.octets octets) = data_parts hs (drop h.octets octets) in
+    let same : drop (counted_octets hs) (drop h.octets octets) ≡ drop (counted_octets (h ∷ hs)) octets =
+    drop-drop (counted_octets hs) h.octets octets
     ∙ ap (λ (n : ℕ). drop n octets) (omega (arith, octets_of-cons h hs)) in
     sym (take-append-drop h.octets octets)
     ∙ ap (λ (x : List ℕ). take h.octets octets ++ x)
@@ -198,7 +198,7 @@ data_parts (h ∷ hs) octets =
     ∙ sym
     (append_assoc (take h.octets octets)
     (flat_map (λ (s : Segment). s.octets) (segments_at hs (drop h.octets octets)))
-    (drop (octets_of (h ∷ hs)) octets))
+    (drop (counted_octets (h ∷ hs)) octets))
 
 fault_none : (o : Option PayloadFault) (later : Result (List Segment) PayloadFault)
     (ss : List Segment) → fault_or o later ≡ Ok ss → (o ≡ None) × (later ≡ Ok ss)
@@ -247,12 +247,12 @@ payload_takes f octets y bytes e =
     let heads = headers_take most_segments a.0.1 b.0 number.bytes b.1 in
     let none = fault_none (headers_fault f b.0.0) (data_at b.0.0 b.0.1) c.0 c.1 in
     let g =
-    guard_ok (ltb (length b.0.1) (octets_of b.0.0)) ShortData
+    guard_ok (ltb (length b.0.1) (counted_octets b.0.0)) ShortData
     (segments_at b.0.0 b.0.1) c.0 none.1 in
-    let enough : octets_of b.0.0 ≤ length b.0.1 = ltb-false (length b.0.1) (octets_of b.0.0) g.0 in
+    let enough : counted_octets b.0.0 ≤ length b.0.1 = ltb-false (length b.0.1) (counted_octets b.0.0) g.0 in
     let made : IsPayload octets f a.0.0 (segments_at b.0.0 b.0.1) = record {
       headers = b.0.0;
-      rest = drop (octets_of b.0.0) b.0.1;
+      rest = drop (counted_octets b.0.0) b.0.1;
       extended_fits = number.below;
       headers_fit = heads.fit;
       few = heads.few;

@@ -14,7 +14,7 @@ use Rattle.payload_header.specs.declared.payload.PayloadFault.TheVariants.{Short
 use Rattle.payload_header.specs.declared.writing.SegmentHead.{SegmentHead}
 use Rattle.payload_header.specs.Payload.{Header, HeaderFits, header_text, IsChain, IsInside}
 use Rattle.payload_header.specs.Payload.{Describes, IsPayload, most_segments}
-use Rattle.payload_header.specs.Reading.{headers_fault, fault_or, segments_at, octets_of}
+use Rattle.payload_header.specs.Reading.{headers_fault, fault_or, segments_at, counted_octets}
 use Rattle.st_format.specs.Reading.{◌>>=◌}
 use Rattle.payload_header.specs.Reading.{data_at}
 use Rattle.payload_header.specs.Faults.{HasHeaders}
@@ -111,7 +111,7 @@ all_describe f (h ∷ hs) (s ∷ ss) a inside =
     (describes f h s a.0 inside.0, all_describe f hs ss a.1 inside.1)
 
 front_lengths : (hs : List Header) (segments : List Segment) → AllZip Fronts hs segments
-    → octets_of hs ≡ length (data_text segments)
+    → counted_octets hs ≡ length (data_text segments)
 front_lengths [] [] a = refl
 front_lengths [] (s ∷ ss) a = absurd a
 front_lengths (h ∷ hs) [] a = absurd a
@@ -222,8 +222,8 @@ written_has f extended d heads segments ts rest are is =
       chain = is_chain heads are.some;
       few = omega (arith, length-headers heads, are.few);
     } in
-    let enough : ltb (length later) (octets_of hs) ≡ false =
-    le-ltb (length later) (octets_of hs)
+    let enough : ltb (length later) (counted_octets hs) ≡ false =
+    le-ltb (length later) (counted_octets hs)
     (omega (
       arith,
       front_lengths hs segments fronts,

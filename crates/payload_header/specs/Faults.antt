@@ -14,7 +14,7 @@ use Rattle.payload_header.specs.declared.payload.PayloadFault.TheVariants.{Colum
 use Rattle.payload_header.specs.declared.payload.PayloadFault.TheVariants.{ShortData}
 use Rattle.payload_header.specs.Payload.{group_of, Header, HeaderFits, header_text, IsChain}
 use Rattle.payload_header.specs.Payload.{most_segments}
-use Rattle.payload_header.specs.Reading.{octets_of}
+use Rattle.payload_header.specs.Reading.{counted_octets}
 
 -- the faults in their order (own)
 abbrev pub payload_fault_number : PayloadFault → ℕ
@@ -113,7 +113,7 @@ pub record LacksData (octets : List ℕ) (f : Format) : Type 0 where
   pub more : List ℕ
   pub whole : HasHeaders octets headers more
   pub sound : AllByRecursion (λ h. IsSound h f) headers
-  pub short : length more < octets_of headers
+  pub short : length more < counted_octets headers
 
 -- Why octets are refused. ShortPayloadHeader also stands for less than an extended number.
 abbrev pub IsRefusedPayload : List ℕ → Format → PayloadFault → Type 0

@@ -85,12 +85,12 @@ segments_at (h ∷ hs) octets =
     record { row = h.row; offset = h.offset; octets = take h.octets octets } ∷ segments_at hs
     (drop h.octets octets)
 
-abbrev pub octets_of : List Header → ℕ
-octets_of hs = sum_by (λ h. h.octets) hs
+abbrev pub counted_octets : List Header → ℕ
+counted_octets hs = sum_by (λ h. h.octets) hs
 
 abbrev pub data_at : List Header → List ℕ → Result (List Segment) PayloadFault
 data_at hs octets =
-    if nat_lt (length octets) (octets_of hs) then Err ShortData else Ok (segments_at hs octets)
+    if nat_lt (length octets) (counted_octets hs) then Err ShortData else Ok (segments_at hs octets)
 
 -- The walk: the extended number and the segments, or the first fault.
 unfoldable pub payload_walk : Format → List ℕ → Result (ℕ × List Segment) PayloadFault

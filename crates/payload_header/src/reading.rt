@@ -8,7 +8,7 @@ ghost use Rattle.payload_header.specs.Payload.{IsPayload, seen_segment};
 ghost use Rattle.st_format.specs.Raster.{Segment as SegmentText};
 ghost use Rattle.payload_header.specs.Reading.{fields, header_fault, header_of, headers_at};
 ghost use Rattle.st_format.specs.Reading.{Gives};
-ghost use Rattle.payload_header.specs.Reading.{headers_fault, octets_of, payload_walk, segments_at};
+ghost use Rattle.payload_header.specs.Reading.{headers_fault, counted_octets, payload_walk, segments_at};
 
 use crate::payload::{PayloadFault, PayloadView, Segment};
 use arrayvec::ArrayVec;
@@ -105,7 +105,7 @@ fn first_fault(format: &Format, headers: &[Header]) -> Option<PayloadFault>
 /// How many octets the headers announce.
 fn total(headers: &[Header]) -> usize
     requires { length headers.now ≤ 3 }
-    ensures { result ≡ octets_of (map fields headers.now) }
+    ensures { result ≡ counted_octets (map fields headers.now) }
 {
     let mut sum = 0;
     for header in headers {
@@ -117,7 +117,7 @@ fn total(headers: &[Header]) -> usize
 /// Each header's octets, taken from the data in order.
 fn segments_in<'a>(headers: &[Header], rest_of: &'a [u8]) -> ArrayVec<Segment<'a>, 3>
     requires few { length headers.now ≤ 3 }
-    requires whole { octets_of (map fields headers.now) ≤ length rest_of.now }
+    requires whole { counted_octets (map fields headers.now) ≤ length rest_of.now }
     ensures { map seen_segment result.items ≡ segments_at (map fields headers.now) rest_of.now }
 {
     let mut segments = ArrayVec::new();

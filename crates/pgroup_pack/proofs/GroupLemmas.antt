@@ -7,7 +7,7 @@ use Rattle.std.specs.List.{AllByRecursion}
 use Rattle.std.proofs.lemmas.Bool.{eq-eqb, ne_eqb, cases_eq, cases_lt}
 use Rattle.std.proofs.lemmas.List.{drop_more, take_more, length-take-le}
 use Rattle.std.proofs.lemmas.Nat.Bits.{bit_at_set_same, bit_at_set_other}
-use Rattle.pgroup_pack.specs.Groups.{differs_at, blanked, blanked_from}
+use Rattle.pgroup_pack.specs.Groups.{differs_at, blanked_samples, blanked_from}
 
 -- bits below i say which samples differ, and none from i on is set
 pub record Differ (left right : List ℕ) (i word : ℕ) : Type 0 where
@@ -92,12 +92,12 @@ read_seam [] ys x = refl
 read_seam (w ∷ xs) ys x = read_seam xs ys x
 
 pub blank_more : (mask i v : ℕ) (old now : List ℕ) → i < length old
-    → now ≡ blanked mask (take i old) ++ drop i old
+    → now ≡ blanked_samples mask (take i old) ++ drop i old
     → v ≡ (if bit_at mask i == 1 then 0 else get_or now i 0)
-    → set now i v ≡ blanked mask (take (i + 1) old) ++ drop (i + 1) old
+    → set now i v ≡ blanked_samples mask (take (i + 1) old) ++ drop (i + 1) old
 blank_more mask i v old now lt so_far is =
     let x : ℕ = get_or old i 0 in
-    let front : List ℕ = blanked mask (take i old) in
+    let front : List ℕ = blanked_samples mask (take i old) in
     let long : length front ≡ i =
     length-blanked_from mask 0 (take i old) ∙ length-take-le i old (omega arith) in
     let split : now ≡ front ++ x ∷ drop (i + 1) old =
@@ -112,8 +112,8 @@ blank_more mask i v old now lt so_far is =
     ∙ ap (λ (j : ℕ). set (front ++ x ∷ drop (i + 1) old) j v) (sym long)
     ∙ set_seam front (drop (i + 1) old) x v in
     let place : 0 + length (take i old) ≡ i = omega (arith, length-take-le i old) in
-    let more : blanked mask (take (i + 1) old) ≡ front ++ v ∷ [] =
-    ap (blanked mask) (take_more old i 0 lt) ∙ blanked_from-more mask 0 (take i old) x
+    let more : blanked_samples mask (take (i + 1) old) ≡ front ++ v ∷ [] =
+    ap (blanked_samples mask) (take_more old i 0 lt) ∙ blanked_from-more mask 0 (take i old) x
     ∙ ap (λ (j : ℕ). front ++ (if bit_at mask j == 1 then 0 else x) ∷ []) place
     ∙ ap (λ (y : ℕ). front ++ y ∷ []) (sym value) in
     written ∙ sym

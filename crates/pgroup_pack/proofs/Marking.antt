@@ -32,7 +32,7 @@ use Rattle.st_format.specs.declared.sampling.Depth.TheVariants.{D8, D10, D12, D1
 use Rattle.st_format.specs.Pgroup.{bits_of, pixel_group}
 use Rattle.st_format.specs.Samples.{values_in}
 use Rattle.pgroup_pack.proofs.Values.{length-values_in, values_in-append}
-use Rattle.pgroup_pack.specs.Groups.{differs_at, blanked, blanked_from, AreContested, samples_of}
+use Rattle.pgroup_pack.specs.Groups.{differs_at, blanked_samples, blanked_from, AreContested, samples_of}
 use Rattle.pgroup_pack.proofs.GroupLemmas.{length-blanked_from}
 
 -- ---- bits of shifted numbers
@@ -544,7 +544,7 @@ few_contested samples count vs ws left right marks new_marks now new differ bits
           length-chunk (samples * group) samples vs (omega arith) in
           let long2 : length (samples_of samples group new) ≡ samples =
           length-chunk (samples * group) samples new (omega arith) in
-          ext_get_or 0 (samples_of samples group new) (blanked mark old)
+          ext_get_or 0 (samples_of samples group new) (blanked_samples mark old)
           (long2 ∙ sym (length-blanked_from mark 0 old ∙ old_long)) (λ i below.
           let lt1 : i < samples = omega arith in
           let k : ℕ = samples * group + i in
@@ -616,14 +616,14 @@ AreContested-append samples vs1 ws1 marks1 new_marks1 new1 vs2 ws2 marks2 new_ma
         | inl below ↦
             let room = group_within samples (samples * first) group first refl below in
             samples_first samples group new1 new2 (omega arith) ∙ a.blank group below
-            ∙ (λ j. blanked
+            ∙ (λ j. blanked_samples
             (sym (get_or_append_left new_marks1 new_marks2 0 group (omega arith)) j)
             (sym (samples_first samples group vs1 vs2 (omega arith)) j))
         | inr from ↦
             let rest : group - first < length marks2 = omega (arith, length-append marks1 marks2) in
             samples_second samples first group new1 new2 new_long from
             ∙ b.blank (group - first) rest
-            ∙ (λ j. blanked
+            ∙ (λ j. blanked_samples
             (sym (get_or-append_right new_marks1 new_marks2 first group 0 marks_long from) j)
             (sym (samples_second samples first group vs1 vs2 vs_long from) j))
       ];

@@ -7,7 +7,7 @@ use Rattle.st_format.specs.Picture.{IsPicture}
 use Rattle.st_format.specs.Position.{sample_count}
 use Rattle.st_format.specs.Samples.{Spells, values_in}
 use Rattle.st_format.proofs.WholeOctets.{Spells-values_in, values_in-fit}
-use Rattle.pgroup_pack.specs.Packing.{Agree, unpacked}
+use Rattle.pgroup_pack.specs.Packing.{Agree, unpacked_picture}
 use Rattle.pgroup_pack.proofs.Values.{bits_of_pos, length-values_in}
 
 -- they spell its values
@@ -18,7 +18,7 @@ raster_spelled f octets agree =
     Spells-values_in (bits_of f.depth) octets (sample_count f) (bits_of_pos f.depth) agree
 
 pub raster_whole : (f : Format) (octets : List ℕ)
-    → Agree f (length octets) (sample_count f) → IsPicture (unpacked f octets)
+    → Agree f (length octets) (sample_count f) → IsPicture (unpacked_picture f octets)
 raster_whole f octets agree =
     let b : ℕ = bits_of f.depth in
     record {

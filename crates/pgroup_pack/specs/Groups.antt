@@ -12,8 +12,8 @@ abbrev pub blanked_from : ℕ → ℕ → List ℕ → List ℕ
 blanked_from mask i [] = []
 blanked_from mask i (v ∷ vs) = (if bit_at mask i == 1 then 0 else v) ∷ blanked_from mask (i + 1) vs
 
-abbrev pub blanked : ℕ → List ℕ → List ℕ
-blanked mask vs = blanked_from mask 0 vs
+abbrev pub blanked_samples : ℕ → List ℕ → List ℕ
+blanked_samples mask vs = blanked_from mask 0 vs
 
 -- the samples of one group of groups that have so many each
 abbrev pub samples_of : ℕ → ℕ → List ℕ → List ℕ
@@ -28,4 +28,4 @@ pub record AreContested (samples : ℕ) (vs ws marks new_marks new : List ℕ) :
       (differs_at (samples_of samples group vs) (samples_of samples group ws) i)
   pub blank : (group : ℕ) → group < length marks
       → samples_of samples group new
-      ≡ blanked (slice_index new_marks group) (samples_of samples group vs)
+      ≡ blanked_samples (slice_index new_marks group) (samples_of samples group vs)

@@ -14,5 +14,5 @@ abbrev pub Fit : ℕ → List ℕ → Type 0
 Fit n values = All (λ v. v < 2 ^ n) values
 
 -- the picture that the octets of a raster spell
-abbrev pub unpacked : Format → List ℕ → Values
-unpacked f octets = record { format = f; samples = values_in (bits_of f.depth) octets }
+abbrev pub unpacked_picture : Format → List ℕ → Values
+unpacked_picture f octets = record { format = f; samples = values_in (bits_of f.depth) octets }

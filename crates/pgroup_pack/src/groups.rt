@@ -1,7 +1,7 @@
 //! One pixel group: which of its samples differ from another's, and blanking some of them.
 ghost use Rattle.std.specs.Prelude.{◌≡◌, ◌<◌, ◌≤◌, ◌==◌, if◌then◌else◌, ℕ, length};
 ghost use Rattle.std.specs.Int.{bit_at};
-ghost use Rattle.pgroup_pack.specs.Groups.{blanked, differs_at};
+ghost use Rattle.pgroup_pack.specs.Groups.{blanked_samples, differs_at};
 ghost use Rattle.pgroup_pack.specs.Packing.{Fit};
 ghost use Rattle.st_format.specs.Pgroup.{bits_of, pixel_group};
 ghost use Rattle.st_format.specs.Samples.{values_in};
@@ -35,7 +35,7 @@ pub fn differing(format: &Format, a: &[u8], b: &[u8]) -> u16
 pub fn blank(format: &Format, octets: &mut [u8], mask: u16)
     requires { length octets.old ≡ (pixel_group format.now.sampling format.now.depth).octets }
     ensures { values_in (bits_of format.now.depth) octets.new
-        ≡ blanked mask (values_in (bits_of format.now.depth) octets.old) }
+        ≡ blanked_samples mask (values_in (bits_of format.now.depth) octets.old) }
 {
     let count = format.pgroup().samples;
     let mut room = [0; MOST];
@@ -63,7 +63,7 @@ fn differing_samples(left: &[u16], right: &[u16]) -> u16
 /// Makes each sample 0 whose bit of the mask is set.
 fn blank_samples(samples: &mut [u16], mask: u16)
     requires { length samples.old ≤ MOST }
-    ensures { samples.new ≡ blanked mask samples.old }
+    ensures { samples.new ≡ blanked_samples mask samples.old }
 {
     for i in 0..samples.len() {
         samples[i] = kept_sample(mask, i, samples[i]);

@@ -1,6 +1,6 @@
 //! A picture whose pixel groups are packed, as they are sent.
 ghost use Rattle.std.specs.Prelude.{◌≡◌, length};
-ghost use Rattle.pgroup_pack.specs.Packing.{Agree, unpacked};
+ghost use Rattle.pgroup_pack.specs.Packing.{Agree, unpacked_picture};
 ghost use Rattle.st_format.specs.Pgroup.{bits_of};
 ghost use Rattle.st_format.specs.Picture.{IsPicture};
 ghost use Rattle.st_format.specs.Position.{sample_count};
@@ -21,13 +21,13 @@ pub struct PackedPicture<A: Allocator = Global> {
 
 impl<A: Allocator> Model for PackedPicture<A> {
     ghost use Rattle.std.specs.Prelude.{length};
-    ghost use Rattle.pgroup_pack.specs.Packing.{Agree, unpacked};
+    ghost use Rattle.pgroup_pack.specs.Packing.{Agree, unpacked_picture};
     ghost use Rattle.st_format.specs.Picture.{Values};
     ghost use Rattle.st_format.specs.Position.{sample_count};
 
     ghost Value = { Values };
 
-    ghost view = { λ p. unpacked p.format p.octets.items };
+    ghost view = { λ p. unpacked_picture p.format p.octets.items };
 
     ghost invariant = { λ p. Agree p.format (length p.octets.items) (sample_count p.format) };
 }
@@ -37,7 +37,7 @@ impl<A: Allocator> PackedPicture<A> {
     /// memory is taken.
     pub fn from_octets(format: Format, octets: Vec<u8, A>) -> PackedPicture<A>
         requires { Agree format (length octets.items) (sample_count format) }
-        ensures value { result ≡ unpacked format octets.items }
+        ensures value { result ≡ unpacked_picture format octets.items }
         ensures whole { IsPicture result }
     {
         PackedPicture { format, octets }

@@ -9,8 +9,8 @@ use Rattle.std.proofs.lemmas.List.{length-take-le, take_at, drop_at}
 use Rattle.std.proofs.lemmas.Nat.Bits.{bit_at-suc, bit_at-zero, bit_at_lowest, same_from_bits}
 use Rattle.st_format.specs.declared.cell.Cell.{Cell}
 use Rattle.st_format.specs.declared.cell.Cell.TheVariants.{Missing, Value, Contested}
-use Rattle.frame_assembly.specs.Rows.{given_cells, given_from, replaced}
-use Rattle.pgroup_pack.specs.Groups.{blanked, blanked_from, differs_at}
+use Rattle.frame_assembly.specs.Rows.{given_cells, given_from, replaced_cells}
+use Rattle.pgroup_pack.specs.Groups.{blanked_samples, blanked_from, differs_at}
 use Rattle.pgroup_pack.proofs.GroupLemmas.{length-blanked_from}
 use Rattle.capture_file.specs.Groups.{are_zeroed, cells_by}
 
@@ -28,7 +28,7 @@ blanked_next mask i (v ∷ vs) =
 
 -- what is done with the first sample, and with the others
 blanked_first : (mask v : ℕ) (vs : List ℕ)
-    → blanked mask (v ∷ vs) ≡ cond (eqb (mask % 2) 1) 0 v ∷ blanked (mask / 2) vs
+    → blanked_samples mask (v ∷ vs) ≡ cond (eqb (mask % 2) 1) 0 v ∷ blanked_samples (mask / 2) vs
 blanked_first mask v vs =
     ap (λ (b : ℕ). cond (eqb b 1) 0 v ∷ blanked_from mask (0 + 1) vs) (bit_at_lowest mask)
     ∙ ap (λ (t : List ℕ). cond (eqb (mask % 2) 1) 0 v ∷ t) (blanked_next mask 0 vs)
@@ -41,24 +41,24 @@ first_zero : (b : Bool) (v : ℕ) → cond b 0 v ≡ v → (not b || eqb v 0) �
 first_zero true v h = eq-eqb v 0 (sym h)
 first_zero false v h = refl
 
-pub zeroed_same : (mask : ℕ) (vs : List ℕ) → are_zeroed mask vs ≡ true → blanked mask vs ≡ vs
+pub zeroed_same : (mask : ℕ) (vs : List ℕ) → are_zeroed mask vs ≡ true → blanked_samples mask vs ≡ vs
 unfolding are_zeroed
 zeroed_same mask [] h = refl
 zeroed_same mask (v ∷ vs) h =
     let p = and_parts (not (eqb (mask % 2) 1) || eqb v 0) (are_zeroed (mask / 2) vs) h in
     blanked_first mask v vs
-    ∙ ap (λ (x : ℕ). x ∷ blanked (mask / 2) vs) (first_same (eqb (mask % 2) 1) v p.0)
+    ∙ ap (λ (x : ℕ). x ∷ blanked_samples (mask / 2) vs) (first_same (eqb (mask % 2) 1) v p.0)
     ∙ ap (λ (t : List ℕ). v ∷ t) (zeroed_same (mask / 2) vs p.1)
 
 abbrev head : List ℕ → ℕ
 head [] = 0
 head (x ∷ xs) = x
 
-same_zeroed : (mask : ℕ) (vs : List ℕ) → blanked mask vs ≡ vs → are_zeroed mask vs ≡ true
+same_zeroed : (mask : ℕ) (vs : List ℕ) → blanked_samples mask vs ≡ vs → are_zeroed mask vs ≡ true
 unfolding are_zeroed
 same_zeroed mask [] h = refl
 same_zeroed mask (v ∷ vs) h =
-    let e : cond (eqb (mask % 2) 1) 0 v ∷ blanked (mask / 2) vs ≡ v ∷ vs =
+    let e : cond (eqb (mask % 2) 1) 0 v ∷ blanked_samples (mask / 2) vs ≡ v ∷ vs =
     sym (blanked_first mask v vs) ∙ h in
     and_from (not (eqb (mask % 2) 1) || eqb v 0) (are_zeroed (mask / 2) vs)
     (first_zero (eqb (mask % 2) 1) v (ap head e)) (same_zeroed (mask / 2) vs (ap (drop 1) e))
@@ -84,7 +84,7 @@ alike_at vs ws i e =
 
 -- samples that don't differ from what is blanked of them are 0 where the mask says so
 pub zeroed_test : (mask d : ℕ) (vs ws : List ℕ) → ((i : ℕ) → bit_at d i ≡ differs_at vs ws i)
-    → ws ≡ blanked mask vs → eqb d 0 ≡ are_zeroed mask vs
+    → ws ≡ blanked_samples mask vs → eqb d 0 ≡ are_zeroed mask vs
 zeroed_test mask d vs ws bits e =
     elim (cases_Bool (are_zeroed mask vs)) [
       | inl so ↦
@@ -162,12 +162,12 @@ length-given_cells false mask vs = length_missing (length vs)
 
 -- cells before those that are replaced, and those in their place
 pub replaced_before : (k : ℕ) (new cells : List Cell) → k ≤ length cells
-    → take k (replaced k new cells) ≡ take k cells
+    → take k (replaced_cells k new cells) ≡ take k cells
 replaced_before k new cells le =
     take_at (take k cells) (new ++ drop (length new) (drop k cells)) k (length-take-le k cells le)
 
 pub replaced_at : (k size : ℕ) (new cells : List Cell) → k ≤ length cells → length new ≡ size
-    → take size (drop k (replaced k new cells)) ≡ new
+    → take size (drop k (replaced_cells k new cells)) ≡ new
 replaced_at k size new cells le len =
     ap (take size)
     (drop_at (take k cells) (new ++ drop (length new) (drop k cells)) k

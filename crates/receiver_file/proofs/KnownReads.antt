@@ -13,7 +13,7 @@ use Rattle.st_format.specs.Samples.{values_in}
 use Rattle.frame_assembly.specs.declared.state.GroupState.{GroupState}
 use Rattle.frame_assembly.specs.declared.state.GroupState.TheVariants.{Gone, Whole, Mixed}
 use Rattle.frame_assembly.specs.Rows.{given_cells}
-use Rattle.pgroup_pack.specs.Groups.{blanked}
+use Rattle.pgroup_pack.specs.Groups.{blanked_samples}
 use Rattle.capture_file.specs.declared.fault.FileFault.{FileFault}
 use Rattle.capture_file.specs.declared.fault.FileFault.TheVariants.{BadField, Truncated}
 use Rattle.capture_file.specs.Fields.{Fails, Takes, field_at}
@@ -168,7 +168,7 @@ known_bits s Whole octets k i le = bit_at-zero i
 known_bits s (Mixed mask) octets k i le = bit_at_above mask s.samples i k.0 le
 
 pub known_zero : (s : Shape) (state : GroupState) (octets : List ℕ) → IsKnown s state octets
-    → values_in s.bits octets ≡ blanked (mask_in state) (values_in s.bits octets)
+    → values_in s.bits octets ≡ blanked_samples (mask_in state) (values_in s.bits octets)
 known_zero s Gone octets k =
     sym (zeroed_same 0 (values_in s.bits octets) (none_zeroed (values_in s.bits octets)))
 known_zero s Whole octets k =

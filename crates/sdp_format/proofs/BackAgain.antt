@@ -12,7 +12,7 @@ use Rattle.sdp_format.specs.Sections.{Section, Leg, video_sections}
 use Rattle.sdp_format.specs.Reading.{listing_walk, section_walk, media_of, first_attribute}
 use Rattle.sdp_format.specs.Reading.{is_raw90000, sections_walk, text_walk}
 use Rattle.sdp_format.specs.Grammar.{IsFirst}
-use Rattle.sdp_format.specs.Canonical.{canonical}
+use Rattle.sdp_format.specs.Canonical.{canonical_line}
 use Rattle.sdp_format.specs.Views.{description}
 use Rattle.sdp_format.specs.Back.{IsLeg, HasLine, ReadsBack}
 use Rattle.sdp_format.proofs.LineForms.{says_media, attribute_says, says_first}
@@ -37,20 +37,20 @@ leg_of_sdp s =
     }
 
 pub section_back : (l : Leg) (s : Section) (port : ℕ) → IsLeg l
-    → HasLine s (canonical l) l.payload_type port → section_walk s ≡ Ok (port, l)
+    → HasLine s (canonical_line l) l.payload_type port → section_walk s ≡ Ok (port, l)
 unfolding section_walk listing_walk is_raw90000
 section_back l s port k h =
     let e = line_again l k in
     let first : IsFirst s.lines (codes "a=fmtp:") l.payload_type (tail_of l) =
     record {
       before = h.before;
-      line = canonical l;
+      line = canonical_line l;
       after = h.after;
       whole = h.whole;
       none =
           h.none;
       first =
-          attribute_says (codes "a=fmtp:") l.payload_type (canonical l) (tail_of l) e.0;
+          attribute_says (codes "a=fmtp:") l.payload_type (canonical_line l) (tail_of l) e.0;
     } in
     let media : media_of s.media ≡ Some (port, l.payload_type) =
     says_media s.media port l.payload_type h.media in
@@ -61,7 +61,7 @@ section_back l s port k h =
     rw (media, rtpmap, h.raw, fmtp, e.2, e.1) refl
 
 sections_back : (l : Leg) → IsLeg l → (ss : List Section) (ports : List ℕ)
-    → AllZip (λ s port. HasLine s (canonical l) l.payload_type port) ss ports → 0 < length ports
+    → AllZip (λ s port. HasLine s (canonical_line l) l.payload_type port) ss ports → 0 < length ports
     → length ports ≤ 2
     → sections_walk ss ≡ Ok (record { ports = ports; leg = l })
 sections_back l k [] [] z some few = absurd (omega arith)
@@ -76,14 +76,14 @@ sections_back l k (s ∷ t ∷ []) (p ∷ q ∷ r ∷ ps) z some few = absurd z.
 sections_back l k (s ∷ t ∷ u ∷ ss) (p ∷ q ∷ []) z some few = absurd z.1.1
 sections_back l k (s ∷ t ∷ u ∷ ss) (p ∷ q ∷ r ∷ ps) z some few = absurd (omega arith)
 
-pub reads_back : (l : Leg) → IsLeg l → ReadsBack (canonical l) l
+pub reads_back : (l : Leg) → IsLeg l → ReadsBack (canonical_line l) l
 unfolding text_walk
 reads_back l k = λ text ports z some few.
     (text_said text (record { ports = ports; leg = l })).0
     (sections_back l k (video_sections (lines text)) ports z some few)
 
 pub line_back : {X : Type 0} (r : Result X SdpFault) (view : X → List ℕ) (l : Leg) → IsLeg l
-    → MatchResult r (λ v. view v ≡ canonical l) (λ e. e ≡ NoMemory)
+    → MatchResult r (λ v. view v ≡ canonical_line l) (λ e. e ≡ NoMemory)
     → IfOk r (λ v. ReadsBack (view v) l)
 line_back (Ok v) view l k h = subst (λ (line : List ℕ). ReadsBack line l) (sym h) (reads_back l k)
 line_back (Err e) view l k h = tt

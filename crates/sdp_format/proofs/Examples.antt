@@ -12,7 +12,7 @@ use Rattle.sdp_format.specs.Reading.{depth_named, same_leg}
 use Rattle.sdp_format.specs.Naming.{is_bad, rate, range_named, colorimetry}
 use Rattle.sdp_format.specs.Bytes.{trimmed, attribute}
 use Rattle.st_format.specs.Words.{number}
-use Rattle.sdp_format.specs.Canonical.{canonical}
+use Rattle.sdp_format.specs.Canonical.{canonical_line}
 use Rattle.std.specs.Fmt.{digits}
 use Rattle.st_format.specs.Rate.{greatest_up_to}
 
@@ -63,8 +63,8 @@ unfolding text_walk sections_walk section_walk listing_walk leg_of said_in forma
     attribute same_leg greatest_up_to
 camera_says = refl
 
-camera_line : canonical said
+camera_line : canonical_line said
     ≡ codes
     "a=fmtp:112 sampling=YCbCr-4:2:2; width=1920; height=1080; exactframerate=60000/1001; depth=10; colorimetry=BT709; PM=2110GPM; SSN=ST2110-20:2017"
-unfolding canonical digits
+unfolding canonical_line digits
 camera_line = refl

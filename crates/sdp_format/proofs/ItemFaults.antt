@@ -24,9 +24,9 @@ use Rattle.sdp_format.specs.declared.fault.SdpFault.TheVariants.{UnsupportedDept
 use Rattle.sdp_format.specs.declared.fault.SdpFault.TheVariants.{UnsupportedPacking, BadSsn}
 use Rattle.sdp_format.specs.declared.fault.SdpFault.TheVariants.{BadFormat, LegsDiffer}
 use Rattle.sdp_format.specs.Faults.{sdp_fault_number}
-use Rattle.sdp_format.specs.Bytes.{begins}
+use Rattle.sdp_format.specs.Bytes.{begins_with}
 use Rattle.st_format.specs.Words.{number}
-use Rattle.sdp_format.specs.Naming.{Item, is_bad, has_double, has, value_of, text_of, required}
+use Rattle.sdp_format.specs.Naming.{Item, is_bad, has_double, has_name, value_of, text_of, required_names}
 use Rattle.sdp_format.specs.Naming.{rate, range_or, range_named, colorimetry}
 use Rattle.sdp_format.specs.Sections.{Leg}
 use Rattle.sdp_format.specs.Canonical.{depth_text}
@@ -126,22 +126,22 @@ other_depth text e d h = not_none d (sym (depth_again d) ∙ ap depth_named (sym
 
 -- required names
 missing_says : (is : List Item) → is_missing is ≡ true
-    → (name : List ℕ) × Contains required name × Lacks is name
+    → (name : List ℕ) × Contains required_names name × Lacks is name
 missing_says is e = let r =
-    not_all_member (has is) required (not_true (list_all (has is) required) e) in
+    not_all_member (has_name is) required_names (not_true (list_all (has_name is) required_names) e) in
     (r.0, r.1, lacks_has r.0 is r.2)
 
 says_missing : (is : List Item) → is_missing is ≡ false
-    → (name : List ℕ) × Contains required name × Lacks is name → ⊥
+    → (name : List ℕ) × Contains required_names name × Lacks is name → ⊥
 says_missing is e m =
-    let there : has is m.0 ≡ true =
-    all_member (has is) required m.0 (not_false (list_all (has is) required) e) m.1 in
+    let there : has_name is m.0 ≡ true =
+    all_member (has_name is) required_names m.0 (not_false (list_all (has_name is) required_names) e) m.1 in
     let said = has_says m.0 is there in m.2 said.0 said.1
 
 interlaced_says : (is : List Item) → is_interlaced is ≡ true
     → Has is (codes "interlace") ⊎ Has is (codes "segmented")
 interlaced_says is e =
-    elim (or_cases (has is (codes "interlace")) (has is (codes "segmented")) e) [
+    elim (or_cases (has_name is (codes "interlace")) (has_name is (codes "segmented")) e) [
       | inl h ↦ inl (has_says (codes "interlace") is h)
       | inr h ↦ inr (has_says (codes "segmented") is h)
     ]
@@ -149,18 +149,18 @@ interlaced_says is e =
 says_interlaced : (is : List Item) → Has is (codes "interlace") ⊎ Has is (codes "segmented")
     → is_interlaced is ≡ true
 says_interlaced is (inl h) =
-    or_left (has is (codes "interlace")) (has is (codes "segmented"))
+    or_left (has_name is (codes "interlace")) (has_name is (codes "segmented"))
     (says_has (codes "interlace") is h)
 says_interlaced is (inr h) =
-    or_right (has is (codes "interlace")) (has is (codes "segmented"))
+    or_right (has_name is (codes "interlace")) (has_name is (codes "segmented"))
     (says_has (codes "segmented") is h)
 
-pub to_word : (word text : List ℕ) → begins word text ≡ true
+pub to_word : (word text : List ℕ) → begins_with word text ≡ true
     → text ≡ word ++ drop (length word) text
-to_word word text e = (starts_is Decides-eqb text word (begins word text) refl).0 e
+to_word word text e = (starts_is Decides-eqb text word (begins_with word text) refl).0 e
 
-pub from_word : (word text rest : List ℕ) → text ≡ word ++ rest → begins word text ≡ true
-from_word word text rest e = (starts_is Decides-eqb text word (begins word text) refl).1 rest e
+pub from_word : (word text rest : List ℕ) → text ≡ word ++ rest → begins_with word text ≡ true
+from_word word text rest e = (starts_is Decides-eqb text word (begins_with word text) refl).1 rest e
 
 -- What is known of items behind the tests of single items, of doubles and of missing ones
 pub record Sound (is : List Item) : Type 0 where
@@ -169,11 +169,11 @@ pub record Sound (is : List Item) : Type 0 where
   pub whole : is_missing is ≡ false
 
 -- the value of a required name
-said_text : (is : List Item) → Sound is → (name : List ℕ) → Contains required name
+said_text : (is : List Item) → Sound is → (name : List ℕ) → Contains required_names name
     → Says is name (text_of name is)
 said_text is k name m =
-    let there : has is name ≡ true =
-    all_member (has is) required name (not_false (list_all (has is) required) k.whole) m in
+    let there : has_name is name ≡ true =
+    all_member (has_name is) required_names name (not_false (list_all (has_name is) required_names) k.whole) m in
     found_says name (text_of name is) is (some_text (value_of name is) there)
 
 -- no condition below that of doubles holds of items that are good one by one
@@ -288,8 +288,8 @@ format_end is g single i b =
     err_is : {E : Type 0} {q : Result Fields E} {x : E} → q ≡ Err x → IsErr q
     err_is e = ap is_err e
 
-in_required : (k : ℕ) (name : List ℕ) → k < 8 → slice_index_or required k name ≡ name
-    → Contains required name
+in_required : (k : ℕ) (name : List ℕ) → k < 8 → slice_index_or required_names k name ≡ name
+    → Contains required_names name
 in_required k name below e = (k, below, e)
 
 pub format_told : (is : List Item) → Sound is → Below (Of is) 11
@@ -332,7 +332,7 @@ format_told is k b =
     ∙ bytes_same (text_of (codes "PM") is) (codes "2110GPM") (not_false _ e)))
     (λ ep b.
     refuse 18 (Of is) (SaysFormat is) BadSsn
-    (not (begins (codes "ST2110-20:") (text_of (codes "SSN") is))) _ b
+    (not (begins_with (codes "ST2110-20:") (text_of (codes "SSN") is))) _ b
     (λ e. (
       text_of (codes "SSN") is,
       said_text is k (codes "SSN") (in_required 7 (codes "SSN") (lit< tt) refl),

@@ -18,7 +18,7 @@ use Rattle.sdp_format.specs.Naming.{item, items, items_of, is_filled, colorimetr
 use Rattle.sdp_format.specs.Naming.{is_bad}
 use Rattle.sdp_format.specs.Sections.{Leg}
 use Rattle.sdp_format.specs.Reading.{leg_of}
-use Rattle.sdp_format.specs.Canonical.{canonical, depth_text, divisor_text}
+use Rattle.sdp_format.specs.Canonical.{canonical_line, depth_text, divisor_text}
 use Rattle.st_format.specs.Words.{sampling_text}
 use Rattle.sdp_format.specs.Canonical.{range_text}
 use Rattle.sdp_format.proofs.SpelledItems.{spelled, said_items, range_items}
@@ -155,8 +155,8 @@ spelled_by FullProtect pt w h n d c s b = simp append_assoc
 spelled_by Full pt w h n d c s b = simp append_assoc
 
 pub canonical_spelled : (l : Leg)
-    → canonical l ≡ codes "a=fmtp:" ++ (decimal l.payload_type ++ spelled (said_items l))
-unfolding canonical
+    → canonical_line l ≡ codes "a=fmtp:" ++ (decimal l.payload_type ++ spelled (said_items l))
+unfolding canonical_line
 canonical_spelled l =
     spelled_by l.range (decimal l.payload_type) (decimal l.format.width) (decimal l.format.height)
     (decimal l.format.n) (divisor_text l.format.d) l.colorimetry (sampling_text l.format.sampling)
@@ -167,13 +167,13 @@ abbrev pub tail_of : Leg → List ℕ
 tail_of l = drop 1 (spelled (said_items l))
 
 pub line_again : (l : Leg) → IsLeg l
-    → (attribute (codes "a=fmtp:") l.payload_type (canonical l) ≡ Some (tail_of l))
+    → (attribute (codes "a=fmtp:") l.payload_type (canonical_line l) ≡ Some (tail_of l))
     × (leg_of l.payload_type (items (tail_of l)) ≡ Ok l)
     × (list_any is_bad (items (tail_of l)) ≡ false)
 line_again l k =
     let small : l.payload_type < 2 ^ 32 = let p : l.payload_type ≤ 127 =
     k.small_type in omega arith in
-    let a : attribute (codes "a=fmtp:") l.payload_type (canonical l) ≡ Some (tail_of l) =
+    let a : attribute (codes "a=fmtp:") l.payload_type (canonical_line l) ≡ Some (tail_of l) =
     ap (attribute (codes "a=fmtp:") l.payload_type) (canonical_spelled l)
     ∙ attribute_spelled l.payload_type (tail_of l) small in
     let i : items (tail_of l) ≡ said_items l =

@@ -13,9 +13,9 @@ use Rattle.std.proofs.lemmas.Bool.Decides.{Decides-eqb, nat_tests}
 use Rattle.std.proofs.Math.Seq.{drop-append_seam}
 use Rattle.sdp_format.specs.Bytes.{is_space, trim_end, unless_spaces, at_most}
 use Rattle.st_format.specs.Words.{number, is_number}
-use Rattle.sdp_format.specs.Bytes.{front, behind, split, split_left, begins, attribute}
+use Rattle.sdp_format.specs.Bytes.{front, behind, split, split_left, begins_with, attribute}
 use Rattle.sdp_format.specs.Bytes.{behind_number, is_equal}
-use Rattle.sdp_format.specs.Reading.{media_of, media_of_parts, both, first_attribute}
+use Rattle.sdp_format.specs.Reading.{media_of, media_of_parts, number_pair, first_attribute}
 use Rattle.sdp_format.specs.Grammar.{IsMediaLine, IsAttribute, HasNone, IsFirst}
 use Rattle.sdp_format.proofs.Members.{not_both}
 use Rattle.sdp_format.proofs.Doubles.{bytes_same}
@@ -130,7 +130,7 @@ record Words (parts : List (List ℕ)) (m : ℕ × ℕ) : Type 0 where
   port : at_most 65535 (number port_text) ≡ Some m.0
   type : at_most 127 (number type_text) ≡ Some m.1
 
-both_some : (a b : Option ℕ) (m : ℕ × ℕ) → both a b ≡ Some m → (a ≡ Some m.0) × (b ≡ Some m.1)
+both_some : (a b : Option ℕ) (m : ℕ × ℕ) → number_pair a b ≡ Some m → (a ≡ Some m.0) × (b ≡ Some m.1)
 both_some None b m e = absurd (not_none m (sym e))
 both_some (Some x) None m e = absurd (not_none m (sym e))
 both_some (Some x) (Some y) m e = let h : (x, y) ≡ m =
@@ -144,7 +144,7 @@ words_of (a ∷ b ∷ c ∷ []) m e = absurd (not_none m (sym e))
 words_of (a ∷ port ∷ profile ∷ type ∷ []) m e =
     let t =
     cond_some (bytes_eq a (codes "m=video") && bytes_eq profile (codes "RTP/AVP"))
-    (both (at_most 65535 (number port)) (at_most 127 (number type))) m e in
+    (number_pair (at_most 65535 (number port)) (at_most 127 (number type))) m e in
     let w = and_parts (bytes_eq a (codes "m=video")) (bytes_eq profile (codes "RTP/AVP")) t.0 in
     let b = both_some (at_most 65535 (number port)) (at_most 127 (number type)) m t.1 in
     record {
@@ -240,10 +240,10 @@ says_media line port type i =
     ∙ solid i.port_text i.type_text type i.is_type in
     ap (λ z. media_of_parts (split 32 z)) cut
     ∙ ap media_of_parts (four i.port_text i.type_text port type i.is_port i.is_type)
-    ∙ ap (λ z. both (at_most 65535 z) (at_most 127 (number i.type_text))) i.is_port
-    ∙ ap (λ z. both (at_most 65535 (Some port)) (at_most 127 z)) i.is_type
-    ∙ ap (λ z. both z (at_most 127 (Some type))) (most_of 65535 port i.most_port)
-    ∙ ap (λ z. both (Some port) z) (most_of 127 type i.most_type)
+    ∙ ap (λ z. number_pair (at_most 65535 z) (at_most 127 (number i.type_text))) i.is_port
+    ∙ ap (λ z. number_pair (at_most 65535 (Some port)) (at_most 127 z)) i.is_type
+    ∙ ap (λ z. number_pair z (at_most 127 (Some type))) (most_of 65535 port i.most_port)
+    ∙ ap (λ z. number_pair (Some port) z) (most_of 127 type i.most_type)
 
 pub media_once : (line : List ℕ) (p t q u : ℕ) → IsMediaLine line p t → IsMediaLine line q u
     → (p ≡ q) × (t ≡ u)
@@ -283,7 +283,7 @@ pub attribute_says : (word : List ℕ) (n : ℕ) (line rest : List ℕ)
 unfolding attribute
 attribute_says word n line rest e =
     let text : List ℕ = drop (length word) line in
-    let a = cond_some (begins word line) (behind_number n (drop (length word) line)) rest e in
+    let a = cond_some (begins_with word line) (behind_number n (drop (length word) line)) rest e in
     let b =
     cond_some (is_equal (number (front 32 (drop (length word) line))) n)
     (behind 32 (drop (length word) line)) rest a.1 in

@@ -5,7 +5,7 @@ use Rattle.std.specs.Prelude.{is_some}
 use Rattle.std.specs.List.{list_any}
 use Rattle.std.specs.Str.{bytes_eq}
 use Rattle.sdp_format.specs.Bytes.{text_or}
-use Rattle.sdp_format.specs.Naming.{Item, value_of, text_of, has, has_double}
+use Rattle.sdp_format.specs.Naming.{Item, value_of, text_of, has_name, has_double}
 use Rattle.sdp_format.specs.Grammar.{Says, Has, Lacks, HasDouble}
 use Rattle.sdp_format.proofs.Members.{member_later, member_cases, no_member, not_both, or_cases}
 use Rattle.sdp_format.proofs.Members.{or_right, any_member, member_any, member_split}
@@ -86,7 +86,7 @@ lacks_none name is l = none_by name is (value_of name is) refl l
 pub none_lacks : (name : List ℕ) (is : List Item) → value_of name is ≡ None → Lacks is name
 none_lacks name is e = λ v m. says_some name v is m e
 
-pub has_says : (name : List ℕ) (is : List Item) → has is name ≡ true → Has is name
+pub has_says : (name : List ℕ) (is : List Item) → has_name is name ≡ true → Has is name
 has_says name is e =
     (text_of name is, found_says name (text_of name is) is (some_text (value_of name is) e))
 
@@ -94,11 +94,11 @@ some_by : (o : Option (List ℕ)) → (o ≡ None → ⊥) → is_some o ≡ tru
 some_by None h = absurd (h refl)
 some_by (Some x) h = refl
 
-pub says_has : (name : List ℕ) (is : List Item) → Has is name → has is name ≡ true
+pub says_has : (name : List ℕ) (is : List Item) → Has is name → has_name is name ≡ true
 says_has name is h = some_by (value_of name is) (says_some name h.0 is h.1)
 
-pub lacks_has : (name : List ℕ) (is : List Item) → has is name ≡ false → Lacks is name
-lacks_has name is e = λ v m. not_both (has is name) (says_has name is (v, m)) e
+pub lacks_has : (name : List ℕ) (is : List Item) → has_name is name ≡ false → Lacks is name
+lacks_has name is e = λ v m. not_both (has_name is name) (says_has name is (v, m)) e
 
 -- the one value of a name
 pub text_known : (name value : List ℕ) (is : List Item) → has_double is ≡ false

@@ -13,7 +13,7 @@ use Rattle.sdp_format.specs.declared.fault.SdpFault.TheVariants.{UnsupportedDept
 use Rattle.sdp_format.specs.declared.fault.SdpFault.TheVariants.{UnsupportedPacking, BadSsn}
 use Rattle.sdp_format.specs.declared.fault.SdpFault.TheVariants.{BadFormat, LegsDiffer}
 use Rattle.sdp_format.specs.Faults.{sdp_fault_number}
-use Rattle.sdp_format.specs.Reading.{wanted, refused}
+use Rattle.sdp_format.specs.Reading.{value_or_fault, fault_where}
 use Rattle.st_format.specs.Reading.{◌>>=◌}
 
 fault_at : ℕ → SdpFault
@@ -101,7 +101,7 @@ pub refuse : {X : Type 0} (n : ℕ) (C : SdpFault → Type 0) (R : X → Type 0)
     (k : Unit {0} → Result X SdpFault) → Below C (sdp_fault_number f)
     → (t ≡ true → C f) → (t ≡ false → C f → ⊥)
     → (t ≡ false → Below C (sdp_fault_number f + 1) → Told n C R (k tt))
-    → Told n C R (refused f t >>= k)
+    → Told n C R (fault_where f t >>= k)
 refuse n C R f true k b holds fails rest = (holds refl, b)
 refuse n C R f false k b holds fails rest =
     rest refl (more C f (sdp_fault_number f + 1) refl b (fails refl))
@@ -110,7 +110,7 @@ pub want : {A X : Type 0} (n : ℕ) (C : SdpFault → Type 0) (R : X → Type 0)
     (o : Option A) (k : A → Result X SdpFault) → Below C (sdp_fault_number f)
     → (o ≡ None → C f) → ((x : A) → o ≡ Some x → C f → ⊥)
     → ((x : A) → o ≡ Some x → Below C (sdp_fault_number f + 1) → Told n C R (k x))
-    → Told n C R (wanted f o >>= k)
+    → Told n C R (value_or_fault f o >>= k)
 want n C R f None k b holds fails rest = (holds refl, b)
 want n C R f (Some x) k b holds fails rest =
     rest x refl (more C f (sdp_fault_number f + 1) refl b (fails x refl))
@@ -118,7 +118,7 @@ want n C R f (Some x) k b holds fails rest =
 -- a value that is there for another reason
 pub there : {A X : Type 0} (n : ℕ) (C : SdpFault → Type 0) (R : X → Type 0) (f : SdpFault)
     (o : Option A) (k : A → Result X SdpFault)
-    → (o ≡ None → ⊥) → ((x : A) → o ≡ Some x → Told n C R (k x)) → Told n C R (wanted f o >>= k)
+    → (o ≡ None → ⊥) → ((x : A) → o ≡ Some x → Told n C R (k x)) → Told n C R (value_or_fault f o >>= k)
 there n C R f None k some rest = absurd (some refl)
 there n C R f (Some x) k some rest = rest x refl
 

@@ -14,7 +14,7 @@ use Rattle.sdp_format.specs.Bytes.{lines}
 use Rattle.sdp_format.specs.Sections.{Section, Leg, Description, video_sections}
 use Rattle.st_format.specs.Reading.{◌>>=◌}
 use Rattle.st_format.proofs.SameFields.{fields_are, fields_self}
-use Rattle.sdp_format.specs.Reading.{refused, GivesUnlessMemory, section_walk, same_range, same_leg}
+use Rattle.sdp_format.specs.Reading.{fault_where, GivesUnlessMemory, section_walk, same_range, same_leg}
 use Rattle.sdp_format.specs.Reading.{sections_walk, text_walk}
 use Rattle.sdp_format.specs.Grammar.{IsFirstFault, IsFaultless, SectionSays, Differ, TwoDiffer}
 use Rattle.sdp_format.specs.Grammar.{IsTextFault, OneSays, BothSay, IsDescribed}
@@ -94,7 +94,7 @@ abbrev one : Read → Answer
 one x = Ok (described (x.0 ∷ []) x.1)
 
 abbrev both : Read → Read → Answer
-both x y = refused LegsDiffer (not (same_leg x.1 y.1)) >>= λ t. Ok (described (x.0 ∷ y.0 ∷ []) x.1)
+both x y = fault_where LegsDiffer (not (same_leg x.1 y.1)) >>= λ t. Ok (described (x.0 ∷ y.0 ∷ []) x.1)
 
 abbrev one_of : Result Read SdpFault → Answer
 one_of r = r >>= one
@@ -156,14 +156,14 @@ record Alike (r q : Result Read SdpFault) (d : Description) : Type 0 where
   said : described (first.0 ∷ second.0 ∷ []) first.1 ≡ d
 
 both_err : (x y : Read) (t : Bool) (f : SdpFault) → same_leg x.1 y.1 ≡ t
-    → (refused LegsDiffer (not t) >>= λ u. Ok (described (x.0 ∷ y.0 ∷ []) x.1)) ≡ Err f
+    → (fault_where LegsDiffer (not t) >>= λ u. Ok (described (x.0 ∷ y.0 ∷ []) x.1)) ≡ Err f
     → (same_leg x.1 y.1 ≡ false) × (f ≡ LegsDiffer)
 both_err x y true f h e =
     no_answer (described (x.0 ∷ y.0 ∷ []) x.1) f (Ok (described (x.0 ∷ y.0 ∷ []) x.1)) refl e
 both_err x y false f h e = (h, sym (err_same LegsDiffer f (Err LegsDiffer) refl e))
 
 both_ok : (x y : Read) (t : Bool) (d : Description) → same_leg x.1 y.1 ≡ t
-    → (refused LegsDiffer (not t) >>= λ u. Ok (described (x.0 ∷ y.0 ∷ []) x.1)) ≡ Ok d
+    → (fault_where LegsDiffer (not t) >>= λ u. Ok (described (x.0 ∷ y.0 ∷ []) x.1)) ≡ Ok d
     → (same_leg x.1 y.1 ≡ true) × (described (x.0 ∷ y.0 ∷ []) x.1 ≡ d)
 both_ok x y true d h e =
     (h, ok_same (described (x.0 ∷ y.0 ∷ []) x.1) d (Ok (described (x.0 ∷ y.0 ∷ []) x.1)) refl e)
@@ -252,7 +252,7 @@ two_fault_to s t f (inr (inr h)) =
     as_two s t ∙ ap (λ r. two_of r (section_walk t)) a
     ∙ ap (λ q. q >>= λ y. both (d.port, d.leg) y) b
     ∙ ap
-    (λ (x : Bool). refused LegsDiffer (not x) >>=
+    (λ (x : Bool). fault_where LegsDiffer (not x) >>=
     λ t. Ok (described (d.port ∷ d.second_port ∷ []) d.leg)) u
     ∙ ap (λ (z : SdpFault). Err z) (sym h.3)
 
@@ -308,7 +308,7 @@ pub two_read : (s t : Section) (p q : ℕ) (l : Leg) → section_walk s ≡ Ok (
     → section_walk t ≡ Ok (q, l) → sections_walk (s ∷ t ∷ []) ≡ Ok (described (p ∷ q ∷ []) l)
 two_read s t p q l a b =
     as_two s t ∙ ap (λ r. two_of r (section_walk t)) a ∙ ap (λ r. r >>= λ y. both (p, l) y) b
-    ∙ ap (λ (x : Bool). refused LegsDiffer (not x) >>= λ t. Ok (described (p ∷ q ∷ []) l))
+    ∙ ap (λ (x : Bool). fault_where LegsDiffer (not x) >>= λ t. Ok (described (p ∷ q ∷ []) l))
     (leg_self l)
 
 pub one_read : (s : Section) (p : ℕ) (l : Leg) → section_walk s ≡ Ok (p, l)

@@ -24,8 +24,8 @@ range_text Narrow = []
 range_text FullProtect = codes "; RANGE=FULLPROTECT"
 range_text Full = codes "; RANGE=FULL"
 
-unfoldable pub canonical : Leg → List ℕ
-canonical l =
+unfoldable pub canonical_line : Leg → List ℕ
+canonical_line l =
     codes "a=fmtp:" ++ decimal l.payload_type
     ++ codes " sampling=" ++ sampling_text l.format.sampling
     ++ codes "; width=" ++ decimal l.format.width

@@ -24,7 +24,7 @@ use Rattle.sdp_format.specs.declared.fault.SdpFault.TheVariants.{BadFormat, Legs
 use Rattle.sdp_format.specs.Faults.{sdp_fault_number}
 use Rattle.sdp_format.specs.Bytes.{is_space, trimmed}
 use Rattle.st_format.specs.Words.{number}
-use Rattle.sdp_format.specs.Naming.{Item, items, rate, colorimetry, range_named, required}
+use Rattle.sdp_format.specs.Naming.{Item, items, rate, colorimetry, range_named, required_names}
 use Rattle.sdp_format.specs.Sections.{Section, Leg, Description}
 use Rattle.sdp_format.specs.Canonical.{depth_text}
 use Rattle.st_format.specs.Words.{sampling_text}
@@ -109,7 +109,7 @@ pub record IsGiven (is : List Item) (given : Fields) : Type 0 where
 abbrev pub ItemFault : List Item → SdpFault → Type 0
 ItemFault is BadParameter = (i : Item) × Contains is i × IsBadItem i
 ItemFault is DoubleParameter = HasDouble is
-ItemFault is MissingParameter = (name : List ℕ) × Contains required name × Lacks is name
+ItemFault is MissingParameter = (name : List ℕ) × Contains required_names name × Lacks is name
 ItemFault is UnsupportedSampling =
     (text : List ℕ) × Says is (codes "sampling") text × ((s : Sampling) → text ≢ sampling_text s)
 ItemFault is UnsupportedDepth =

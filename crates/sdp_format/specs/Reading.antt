@@ -23,25 +23,25 @@ use Rattle.sdp_format.specs.declared.fault.SdpFault.TheVariants.{UnsupportedSamp
 use Rattle.sdp_format.specs.declared.fault.SdpFault.TheVariants.{UnsupportedDepth, Interlaced}
 use Rattle.sdp_format.specs.declared.fault.SdpFault.TheVariants.{UnsupportedPacking, BadSsn}
 use Rattle.sdp_format.specs.declared.fault.SdpFault.TheVariants.{BadFormat, LegsDiffer}
-use Rattle.sdp_format.specs.Bytes.{trimmed, trim_end, at_most, split, lines, begins}
+use Rattle.sdp_format.specs.Bytes.{trimmed, trim_end, at_most, split, lines, begins_with}
 use Rattle.sdp_format.specs.Bytes.{attribute}
 use Rattle.sdp_format.specs.Sections.{Section, Leg, Description, video_sections}
-use Rattle.sdp_format.specs.Naming.{Item, items, is_bad, has_double, has, value_of, required, rate}
+use Rattle.sdp_format.specs.Naming.{Item, items, is_bad, has_double, has_name, value_of, required_names, rate}
 use Rattle.sdp_format.specs.Naming.{range_or, colorimetry, text_of}
 
 -- a value that has to be there, and a condition that has not to hold
-abbrev pub wanted : {A : Type 0} → SdpFault → Option A → Result A SdpFault
-wanted fault None = Err fault
-wanted fault (Some x) = Ok x
+abbrev pub value_or_fault : {A : Type 0} → SdpFault → Option A → Result A SdpFault
+value_or_fault fault None = Err fault
+value_or_fault fault (Some x) = Ok x
 
-abbrev pub refused : SdpFault → Bool → Result (Unit {0}) SdpFault
-refused fault holds = if holds then Err fault else Ok tt
+abbrev pub fault_where : SdpFault → Bool → Result (Unit {0}) SdpFault
+fault_where fault holds = if holds then Err fault else Ok tt
 
 -- port and payload type of a media line
-abbrev pub both : Option ℕ → Option ℕ → Option (ℕ × ℕ)
-both None b = None
-both (Some a) None = None
-both (Some a) (Some b) = Some (a, b)
+abbrev pub number_pair : Option ℕ → Option ℕ → Option (ℕ × ℕ)
+number_pair None b = None
+number_pair (Some a) None = None
+number_pair (Some a) (Some b) = Some (a, b)
 
 abbrev pub media_of_parts : List (List ℕ) → Option (ℕ × ℕ)
 media_of_parts [] = None
@@ -50,7 +50,7 @@ media_of_parts (a ∷ b ∷ []) = None
 media_of_parts (a ∷ b ∷ c ∷ []) = None
 media_of_parts (a ∷ port ∷ profile ∷ type ∷ []) =
     if bytes_eq a (codes "m=video") && bytes_eq profile (codes "RTP/AVP")
-    then both (at_most 65535 (number port)) (at_most 127 (number type)) else None
+    then number_pair (at_most 65535 (number port)) (at_most 127 (number type)) else None
 media_of_parts (a ∷ b ∷ c ∷ d ∷ e ∷ es) = None
 
 unfoldable pub media_of : List ℕ → Option (ℕ × ℕ)
@@ -73,14 +73,14 @@ depth_named text =
     (if bytes_eq text (codes "16") then Some D16 else None)))
 
 abbrev pub is_missing : List Item → Bool
-is_missing is = not (list_all (has is) required)
+is_missing is = not (list_all (has_name is) required_names)
 
 abbrev pub is_interlaced : List Item → Bool
-is_interlaced is = has is (codes "interlace") || has is (codes "segmented")
+is_interlaced is = has_name is (codes "interlace") || has_name is (codes "segmented")
 
-abbrev pub seen : {X Y : Type 0} → (X → Y) → Result X SdpFault → Result Y SdpFault
-seen view (Ok x) = Ok (view x)
-seen view (Err e) = Err e
+abbrev pub result_map : {X Y : Type 0} → (X → Y) → Result X SdpFault → Result Y SdpFault
+result_map view (Ok x) = Ok (view x)
+result_map view (Err e) = Err e
 
 -- What a function returned, seen by view, is what reading gives, unless memory ran out
 abbrev pub GivesUnlessMemory : {X Y : Type 0} → (X → Y) → Result X SdpFault → Result Y SdpFault
@@ -95,23 +95,23 @@ or_fault (Err e) = Err BadFormat
 -- the format that the items give, once each has its form and stands there
 unfoldable pub format_of : List Item → Result Fields SdpFault
 format_of is = do
-  sampling ← wanted UnsupportedSampling (sampling_named (text_of (codes "sampling") is))
-  depth ← wanted UnsupportedDepth (depth_named (text_of (codes "depth") is))
-  tt ← refused Interlaced (is_interlaced is)
-  tt ← refused UnsupportedPacking (not (bytes_eq (text_of (codes "PM") is) (codes "2110GPM")))
-  tt ← refused BadSsn (not (begins (codes "ST2110-20:") (text_of (codes "SSN") is)))
-  width ← wanted BadParameter (number (text_of (codes "width") is))
-  height ← wanted BadParameter (number (text_of (codes "height") is))
-  rate ← wanted BadParameter (rate (text_of (codes "exactframerate") is))
+  sampling ← value_or_fault UnsupportedSampling (sampling_named (text_of (codes "sampling") is))
+  depth ← value_or_fault UnsupportedDepth (depth_named (text_of (codes "depth") is))
+  tt ← fault_where Interlaced (is_interlaced is)
+  tt ← fault_where UnsupportedPacking (not (bytes_eq (text_of (codes "PM") is) (codes "2110GPM")))
+  tt ← fault_where BadSsn (not (begins_with (codes "ST2110-20:") (text_of (codes "SSN") is)))
+  width ← value_or_fault BadParameter (number (text_of (codes "width") is))
+  height ← value_or_fault BadParameter (number (text_of (codes "height") is))
+  rate ← value_or_fault BadParameter (rate (text_of (codes "exactframerate") is))
   or_fault (format_at sampling depth width height rate.0 rate.1)
 
 -- what items say, with the payload type of their line
 unfoldable pub said_in : ℕ → List Item → Result Leg SdpFault
 said_in payload_type is = do
-  tt ← refused MissingParameter (is_missing is)
+  tt ← fault_where MissingParameter (is_missing is)
   format ← format_of is
-  range ← wanted BadParameter (range_or (value_of (codes "RANGE") is))
-  colorimetry ← wanted BadParameter (colorimetry (text_of (codes "colorimetry") is))
+  range ← value_or_fault BadParameter (range_or (value_of (codes "RANGE") is))
+  colorimetry ← value_or_fault BadParameter (colorimetry (text_of (codes "colorimetry") is))
   Ok (record {
     payload_type = payload_type;
     format = format;
@@ -122,7 +122,7 @@ said_in payload_type is = do
 -- the same, of items that may have one name twice
 unfoldable pub leg_of : ℕ → List Item → Result Leg SdpFault
 leg_of payload_type is = do
-  tt ← refused DoubleParameter (has_double is)
+  tt ← fault_where DoubleParameter (has_double is)
   said_in payload_type is
 
 -- The port, the payload type and the items of a section
@@ -134,11 +134,11 @@ pub record Listed : Type 0 where
 -- The part of the walk over a section that wants no memory: up to its items, none of them bad
 unfoldable pub listing_walk : Section → Result Listed SdpFault
 listing_walk s = do
-  media ← wanted BadMediaLine (media_of s.media)
-  map ← wanted NoRtpmap (first_attribute (codes "a=rtpmap:") media.1 s.lines)
-  tt ← refused NotRaw90000 (not (is_raw90000 map))
-  text ← wanted NoFmtp (first_attribute (codes "a=fmtp:") media.1 s.lines)
-  tt ← refused BadParameter (list_any is_bad (items text))
+  media ← value_or_fault BadMediaLine (media_of s.media)
+  map ← value_or_fault NoRtpmap (first_attribute (codes "a=rtpmap:") media.1 s.lines)
+  tt ← fault_where NotRaw90000 (not (is_raw90000 map))
+  text ← value_or_fault NoFmtp (first_attribute (codes "a=fmtp:") media.1 s.lines)
+  tt ← fault_where BadParameter (list_any is_bad (items text))
   Ok (record { port = media.0; payload_type = media.1; list = items text })
 
 -- The walk over a section: its port and what it says, or its first fault
@@ -176,7 +176,7 @@ sections_walk (s ∷ []) = do
 sections_walk (s ∷ t ∷ []) = do
   first ← section_walk s
   second ← section_walk t
-  tt ← refused LegsDiffer (not (same_leg first.1 second.1))
+  tt ← fault_where LegsDiffer (not (same_leg first.1 second.1))
   Ok (record { ports = first.0 ∷ second.0 ∷ []; leg = first.1 })
 sections_walk (s ∷ t ∷ u ∷ rest) = Err TooManyLegs
 

@@ -1,7 +1,7 @@
 //! The one fmtp line of what a text says.
 ghost use Rattle.std.specs.Prelude.{◌≡◌, ◌++◌, MatchResult, IfOk, codes, decimal};
 ghost use Rattle.sdp_format.specs.declared.fault.SdpFault.TheVariants.{NoMemory};
-ghost use Rattle.sdp_format.specs.Canonical.{canonical, divisor_text, depth_text};
+ghost use Rattle.sdp_format.specs.Canonical.{canonical_line, divisor_text, depth_text};
 ghost use Rattle.sdp_format.specs.Canonical.{range_text};
 ghost use Rattle.sdp_format.specs.Views.{description};
 ghost use Rattle.sdp_format.specs.Back.{ReadsBack};
@@ -113,9 +113,9 @@ fn add_format<A: Allocator + Copy>(
 }
 
 /// The whole line, item by item in one order.
-#[tactic(auto, unfolding(crate::specs::Canonical::canonical))]
+#[tactic(auto, unfolding(crate::specs::Canonical::canonical_line))]
 fn written<A: Allocator + Copy>(alloc: A, sdp: &Sdp) -> Result<Vec<u8, A>, SdpFault>
-    ensures { MatchResult result (λ v. v.items ≡ canonical (description sdp.now).leg)
+    ensures { MatchResult result (λ v. v.items ≡ canonical_line (description sdp.now).leg)
         (λ e. e ≡ NoMemory) }
 {
     let mut text = Vec::new(alloc);
@@ -136,7 +136,7 @@ fn written<A: Allocator + Copy>(alloc: A, sdp: &Sdp) -> Result<Vec<u8, A>, SdpFa
 ///
 /// The only error is `NoMemory`, where a growth was refused.
 pub fn fmtp_text<A: Allocator + Copy>(alloc: A, sdp: &Sdp) -> Result<Vec<u8, A>, SdpFault>
-    ensures line { MatchResult result (λ v. v.items ≡ canonical (description sdp.now).leg)
+    ensures line { MatchResult result (λ v. v.items ≡ canonical_line (description sdp.now).leg)
         (λ e. e ≡ NoMemory) }
     ensures back { IfOk result (λ v. ReadsBack v.items (description sdp.now).leg) }
 {

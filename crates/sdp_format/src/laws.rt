@@ -18,7 +18,7 @@ ghost use Rattle.sdp_format.specs.Sections.{Section, Description, video_sections
 ghost use Rattle.sdp_format.specs.Reading.{section_walk, text_walk};
 ghost use Rattle.sdp_format.specs.Grammar.{IsMediaLine, LacksLine, HasOtherMap, HasItemFault};
 ghost use Rattle.sdp_format.specs.Grammar.{NoneBefore, TwoDiffer, IsTextFault, IsDescribed};
-ghost use Rattle.sdp_format.specs.Canonical.{canonical};
+ghost use Rattle.sdp_format.specs.Canonical.{canonical_line};
 ghost use Rattle.sdp_format.specs.Views.{description};
 ghost use Rattle.sdp_format.specs.Back.{ReadsBack};
 
@@ -89,5 +89,5 @@ pub fn section_faults()
 
 /// The canonical line of each `Sdp` reads back.
 pub fn reads_back()
-    ensures { (sdp : Sdp) → ReadsBack (canonical (description sdp).leg) (description sdp).leg }
+    ensures { (sdp : Sdp) → ReadsBack (canonical_line (description sdp).leg) (description sdp).leg }
 {}

@@ -1,7 +1,7 @@
 //! What one section says.
 ghost use Rattle.std.specs.Prelude.{◌≡◌, ◌≤◌};
 ghost use Rattle.sdp_format.specs.Views.{items_in};
-ghost use Rattle.sdp_format.specs.Reading.{seen, format_of, depth_named};
+ghost use Rattle.sdp_format.specs.Reading.{result_map, format_of, depth_named};
 ghost use Rattle.st_format.specs.Fields.{fields_of};
 ghost use Rattle.st_format.specs.Words.{sampling_named};
 
@@ -39,7 +39,7 @@ fn depth_named(text: &[u8]) -> Option<Depth>
 /// The format that the items give.
 #[tactic(auto, unfolding(crate::specs::Reading::format_of))]
 pub(crate) fn format_of(list: &[Parameter<'_>]) -> Result<Format, SdpFault>
-    ensures { seen fields_of result ≡ format_of (items_in list.now) }
+    ensures { result_map fields_of result ≡ format_of (items_in list.now) }
 {
     let sampling = sampling_of(text_of(list, b"sampling")).ok_or(SdpFault::UnsupportedSampling)?;
     let depth = depth_named(text_of(list, b"depth")).ok_or(SdpFault::UnsupportedDepth)?;

@@ -3,7 +3,7 @@ ghost use Rattle.std.specs.Prelude.{◌≡◌, ◌∷◌, [], None, Some, MatchO
 ghost use Rattle.std.specs.Option.{option_copied};
 ghost use Rattle.std.specs.Str.{bytes_eq};
 ghost use Rattle.std.specs.Str.Lines.{strip_carriage_return};
-ghost use Rattle.sdp_format.specs.Bytes.{begins, lines, lines_left, attribute, at_most};
+ghost use Rattle.sdp_format.specs.Bytes.{begins_with, lines, lines_left, attribute, at_most};
 ghost use Rattle.st_format.specs.Words.{number};
 ghost use Rattle.sdp_format.specs.Sections.{video_sections, section_lines};
 ghost use Rattle.sdp_format.specs.Reading.{media_of, first_attribute, is_raw90000};
@@ -21,7 +21,7 @@ pub(crate) fn is_word(text: &[u8], word: &[u8]) -> bool
 
 /// Whether a text begins with a word.
 pub(crate) fn begins(word: &[u8], text: &[u8]) -> bool
-    ensures { result ≡ begins word.now text.now }
+    ensures { result ≡ begins_with word.now text.now }
 {
     text.starts_with(word)
 }

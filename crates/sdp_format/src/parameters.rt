@@ -1,7 +1,7 @@
 //! The items of an fmtp line as a list, and what they say by their names.
 ghost use Rattle.std.specs.Prelude.{◌≡◌, ◌∷◌, [], None, Some, IfOk, Err, Ok, if◌then◌else◌};
 ghost use Rattle.std.specs.Option.{option_copied};
-ghost use Rattle.sdp_format.specs.Naming.{items, has_double, value_of, has, text_of, required};
+ghost use Rattle.sdp_format.specs.Naming.{items, has_double, value_of, has_name, text_of, required_names};
 ghost use Rattle.sdp_format.specs.Reading.{GivesUnlessMemory, is_missing, is_interlaced};
 ghost use Rattle.sdp_format.specs.Views.{items_in};
 ghost use Rattle.sdp_format.specs.declared.fault.SdpFault.TheVariants.{DoubleParameter};
@@ -49,7 +49,7 @@ pub(crate) fn value_of<'a>(list: &[Parameter<'a>], name: &[u8]) -> Option<&'a [u
 
 /// Whether there is an item of a name.
 pub(crate) fn has(list: &[Parameter<'_>], name: &[u8]) -> bool
-    ensures { result ≡ has (items_in list.now) name.now }
+    ensures { result ≡ has_name (items_in list.now) name.now }
 {
     value_of(list, name).is_some()
 }

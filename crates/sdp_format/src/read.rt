@@ -8,7 +8,7 @@ ghost use Rattle.sdp_format.specs.declared.fault.SdpFault.TheVariants.{NoMemory}
 ghost use Rattle.sdp_format.specs.Sections.{video_sections};
 ghost use Rattle.sdp_format.specs.Reading.{GivesUnlessMemory, WantsMemory, leg_of, listing_walk};
 ghost use Rattle.sdp_format.specs.Reading.{said_in, same_leg, same_range, section_walk};
-ghost use Rattle.sdp_format.specs.Reading.{sections_walk, seen, text_walk};
+ghost use Rattle.sdp_format.specs.Reading.{sections_walk, result_map, text_walk};
 ghost use Rattle.sdp_format.specs.Grammar.{IsDescribed, IsTextFault};
 ghost use Rattle.sdp_format.specs.Naming.{items, range_or};
 ghost use Rattle.sdp_format.specs.ReadLeg.{leg_seen, listed_seen, section_of};
@@ -36,7 +36,7 @@ fn range_or(text: Option<&[u8]>) -> Option<Range>
 #[tactic(auto, unfolding(crate::specs::Reading::said_in))]
 fn said_in(payload_type: u8, list: &[Parameter<'_>]) -> Result<Leg, SdpFault>
     requires { payload_type ≤ 127 }
-    ensures { seen leg_seen result ≡ said_in payload_type (items_in list.now) }
+    ensures { result_map leg_seen result ≡ said_in payload_type (items_in list.now) }
 {
     if is_missing(list) {
         return Err(SdpFault::MissingParameter);
@@ -65,7 +65,7 @@ fn leg_of<A: Allocator + Copy>(alloc: A, payload_type: u8, text: &[u8]) -> Resul
 /// The port and the payload type of a section, and the text of its items, none of them bad.
 #[tactic(auto, unfolding(crate::specs::Reading::listing_walk))]
 fn listed<'a>(media: &[u8], left: Option<&'a [u8]>) -> Result<Listed<'a>, SdpFault>
-    ensures exact { seen listed_seen result
+    ensures exact { result_map listed_seen result
         ≡ listing_walk (section_of media.now (option_copied left.entry)) }
     ensures no_memory { IfErr result (λ e. e ≢ NoMemory) }
 {

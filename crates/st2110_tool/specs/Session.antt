@@ -1,7 +1,7 @@
 -- What the lines of a script do to a receiver and to what stands beside it.
 use Rattle.std.specs.Prelude.{◌≡◌, ◌≢◌, ◌≤◌, ◌⊎◌, ℕ, false, length, List, [], ◌∷◌, replicate}
-use Rattle.std.specs.Prelude.{Option, Some, None, Result, Ok, Err, count_by, slice_get}
-use Rattle.frame_assembly.specs.declared.counts.Counts.{Counts}
+use Rattle.std.specs.Prelude.{Option, Some, None, Result, Ok, Err, slice_get}
+use Rattle.frame_assembly.specs.Kinds.{counts_of}
 use Rattle.path_merge.specs.declared.answer.Refusal.{Refusal}
 use Rattle.path_merge.specs.declared.answer.Taken.{Taken}
 use Rattle.path_merge.specs.declared.answer.Taken.TheVariants as taken
@@ -9,8 +9,7 @@ use Rattle.path_merge.specs.declared.fault.SlideFault.TheVariants.{InWindow}
 use Rattle.path_merge.specs.Answers.{refusals_after, taken_at}
 use Rattle.path_merge.specs.Frames.{State, cell_in, frames_of, joined_frames}
 use Rattle.path_merge.specs.Numbers.{Numbers, place_of, with_place}
-use Rattle.path_merge.specs.Sliding.{slid}
-use Rattle.st_format.specs.Cell.{is_contested, is_missing, is_present}
+use Rattle.path_merge.specs.Sliding.{slid_state}
 use Rattle.st_format.specs.declared.cell.Cell.{Cell}
 use Rattle.st_format.specs.declared.cell.Cell.TheVariants as cell
 use Rattle.st_format.specs.declared.path.Path.{Path}
@@ -44,21 +43,13 @@ numbers_after (Ok (taken.Kept number)) numbers = with_number number numbers
 numbers_after (Ok taken.Outside) numbers = numbers
 numbers_after (Err refusal) numbers = numbers
 
--- how many cells of a frame are of each kind
-abbrev pub counts_of : Raster → Counts
-counts_of r = record {
-  present = count_by is_present r.cells;
-  missing = count_by is_missing r.cells;
-  contested = count_by is_contested r.cells;
-}
-
 -- A slide to a timestamp that the window has not: the window moves on, and the answer tells of its
 -- first timestamp and of that one's frame, which is then the spare one (own).
 pub record IsSlide (old : State) (next : ℕ) (new : State) (spare : Raster)
     (answer : Answer) : Type 0 where
   pub first : ℕ
   pub first_is : slice_get old.opening.window 0 ≡ Some first
-  pub moved : new ≡ slid old next
+  pub moved : new ≡ slid_state old next
   pub frame_is : slice_get old.frames 0 ≡ Some spare
   pub answer_is : answer ≡ Out first (counts_of spare)
 

@@ -11,7 +11,7 @@ ghost use Rattle.path_merge.specs.Admitted.{AreAdmittedTo, IsFirstBad, IsSchedul
 ghost use Rattle.path_merge.specs.Frames.{Holds, IsReceiver, State, frames_of, joined_frames};
 ghost use Rattle.path_merge.specs.Reached.{Chain, IsAt, IsFrameOf, LastStep, Leaves, Scene};
 ghost use Rattle.path_merge.specs.Sent.{IsOfSender, IsSendersFrame};
-ghost use Rattle.path_merge.specs.Sliding.{slid};
+ghost use Rattle.path_merge.specs.Sliding.{slid_state};
 ghost use Rattle.path_merge.specs.Stays.{Lasts, Stay};
 ghost use Rattle.path_merge.specs.declared.schedule.event.Event.{Event as AnEvent};
 ghost use Rattle.path_merge.specs.declared.schedule.event.Event.TheVariants.{Arrive, Merge, Slide};
@@ -37,7 +37,7 @@ pub fn one_event_more()
         IsAt new r s (events ++ Arrive r path number ∷ []) }
     ensures slide { (s : Scene) (events : List AnEvent) (r next : ℕ) (state : State) →
         0 < length s.opening.window → IsAt state r s events →
-        IsAt (slid state next) r s (events ++ Slide r next ∷ []) }
+        IsAt (slid_state state next) r s (events ++ Slide r next ∷ []) }
     ensures merge { (s : Scene) (events : List AnEvent) (r q : ℕ) (state other new : State) →
         IsAt state r s events → IsAt other q s events →
         state.opening ≡ other.opening → IsReceiver state →

@@ -5,7 +5,7 @@ use Rattle.st_format.specs.Pgroup.{bits_of, pixel_group}
 use Rattle.st_format.specs.Samples.{values_in}
 use Rattle.st_format.specs.Position.{group_start}
 use Rattle.frame_assembly.specs.Packed.{cells_in}
-use Rattle.frame_assembly.specs.Rows.{given_cells, replaced}
+use Rattle.frame_assembly.specs.Rows.{given_cells, replaced_cells}
 use Rattle.frame_assembly.proofs.PackedLemmas.{sizes}
 use Rattle.frame_assembly.proofs.GivenLemmas.{given_is, given_packed, missing_is, missing_packed}
 use Rattle.frame_assembly.proofs.GivenLemmas.{none_from}
@@ -29,17 +29,17 @@ returns-then-present-clause-cells c =
     let vs : List ℕ = values_in (bits_of c.args.format.now.depth) c.args.from.now in
     c.put_group.ensures.cells
     ∙ ap
-    (λ (k : ℕ). replaced
+    (λ (k : ℕ). replaced_cells
     ((pixel_group c.args.format.now.sampling c.args.format.now.depth).samples * k)
     (cells_in c.args.format.now
     (bit_or 32768 c.args.contested ∷ []) c.args.from.now) old) c.place_of-at.ensures.place
     ∙ ap
-    (λ (cs : List Cell). replaced
+    (λ (cs : List Cell). replaced_cells
     (group_start c.args.format.now c.args.row c.args.group) cs old)
     (given_is _ _ _ c.args.contested c.args.from.now
     (sizes c.args.format.now.sampling c.args.format.now.depth) c.requires.octets)
     ∙ ap
-    (λ (b : Bool). replaced (group_start c.args.format.now c.args.row c.args.group)
+    (λ (b : Bool). replaced_cells (group_start c.args.format.now c.args.row c.args.group)
     (given_cells b c.args.contested vs) old) (sym c.if-present.true)
 
 pub returns-else-present-clause-cells : goal.returns-else-present-clause-cells
@@ -49,16 +49,16 @@ returns-else-present-clause-cells c =
     let none : List ℕ = take {A = ℕ} c.pgroup.result.octets (replicate 15 0) in
     c.put_group-else-present.ensures.cells
     ∙ ap
-    (λ (k : ℕ). replaced
+    (λ (k : ℕ). replaced_cells
     ((pixel_group c.args.format.now.sampling c.args.format.now.depth).samples * k)
     (cells_in c.args.format.now (0 ∷ []) none) old) c.place_of-at.ensures.place
     ∙ ap
-    (λ (cs : List Cell). replaced
+    (λ (cs : List Cell). replaced_cells
     (group_start c.args.format.now c.args.row c.args.group) cs old)
     (missing_is _ _ _ none c.args.from.now
     (sizes c.args.format.now.sampling c.args.format.now.depth)
     (none_from _ _ c.pgroup.ensures.octets
     (omega (arith, c.pgroup.ensures.most, c.pgroup.ensures.octets))) c.requires.octets)
     ∙ ap
-    (λ (b : Bool). replaced (group_start c.args.format.now c.args.row c.args.group)
+    (λ (b : Bool). replaced_cells (group_start c.args.format.now c.args.row c.args.group)
     (given_cells b c.args.contested vs) old) (sym c.if-present.false)

@@ -2,7 +2,7 @@ use Rattle.std.proofs.Common.{◌≡◌, ◌+◌, ◌∙◌, length, ap, arith, 
 use Rattle.std.proofs.lemmas.List.{length-append}
 use Rattle.st_format.specs.Pgroup.{bits_of}
 use Rattle.st_format.specs.Words.{sampling_text}
-use Rattle.frame_report.specs.Gathers.{numbered}
+use Rattle.frame_report.specs.Gathers.{numbered_word}
 use Rattle.frame_report.proofs.Gathering.{joined6}
 use Rattle.frame_report.proofs.opening.add_raster.Goals as goal
 
@@ -66,9 +66,9 @@ add_number-requires-5 c =
 pub returns-clause-text : goal.returns-clause-text
 returns-clause-text c =
     let f = c.args.format.now in
-    joined6 _ _ _ _ _ _ _ (sampling_text f.sampling) (numbered (codes " ") (bits_of f.depth))
-    (numbered (codes " ") f.width) (numbered (codes " ") f.height) (numbered (codes " ") f.n)
-    (numbered (codes "/") f.d)
+    joined6 _ _ _ _ _ _ _ (sampling_text f.sampling) (numbered_word (codes " ") (bits_of f.depth))
+    (numbered_word (codes " ") f.width) (numbered_word (codes " ") f.height) (numbered_word (codes " ") f.n)
+    (numbered_word (codes "/") f.d)
     (rw (c.word.ensures.text, c.sampling.ensures) at c.add.ensures)
     (rw (c.from.ensures, c.bits.ensures, c.depth.ensures) at c.add_number.ensures.text)
     (rw (c.from-2.ensures, c.width.ensures) at c.add_number-2.ensures.text)

@@ -1,6 +1,6 @@
 use Rattle.std.proofs.Common.{◌≡◌, ◌+◌, ◌∙◌, [], length, ap, arith, codes}
 use Rattle.std.proofs.lemmas.List.{length-append}
-use Rattle.frame_report.specs.Gathers.{numbered}
+use Rattle.frame_report.specs.Gathers.{numbered_word}
 use Rattle.frame_report.specs.Opening.{raster_text, source_text}
 use Rattle.frame_report.proofs.Gathering.{joined6}
 use Rattle.frame_report.proofs.opening.opening_page.Goals as goal
@@ -61,7 +61,7 @@ pub returns : goal.returns
 returns g c =
     let opening = c.args.receiver.now.opening in
     joined6 [] _ _ _ _ _ _ (codes "receiver ") (raster_text opening.format)
-    (numbered (codes " pt ") opening.payload_type)
+    (numbered_word (codes " pt ") opening.payload_type)
     (codes " ssrc ") (source_text opening.ssrc) (codes "\n")
     (rw c.new-page.ensures at c.add.ensures)
     (rw c.format.ensures.format at c.add_raster.ensures.text)

@@ -1,6 +1,6 @@
 use Rattle.std.proofs.Common.{arith, ap, ◌∙◌}
 use Rattle.std.proofs.lemmas.List.{take_all}
-use Rattle.frame_assembly.specs.Settled.{settled}
+use Rattle.frame_assembly.specs.Settled.{settled_picture}
 use Rattle.key_mix.specs.Sending.{HasBase, settled_inputs}
 use Rattle.key_mix.proofs.Inputs.{map_more, of_item}
 use Rattle.key_mix.proofs.sending.settle_inputs.Goals as goal
@@ -21,7 +21,7 @@ loop-input-smaller g c = omega (arith, c.loop-input-test.true)
 
 pub loop-input-preserved : goal.loop-input-preserved
 loop-input-preserved g c =
-    map_more (λ i. settled i.frame.now i.base) c.args.inputs.now c.loop-input.input-index
+    map_more (λ i. settled_picture i.frame.now i.base) c.args.inputs.now c.loop-input.input-index
     c.input-item.result c.loop-input.pictures.items c.push.new.self.items
     c.in_ok-settle.field-0 c.loop-input-test.true c.input-item.is c.loop-input.invariant
     c.in_ok-settle.ensures.settled c.in_ok-push.ensures.items

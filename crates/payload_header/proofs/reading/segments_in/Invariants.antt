@@ -1,7 +1,7 @@
 use Rattle.std.proofs.Common.{◌≡◌, ◌≤◌, ◌++◌, drop, map, length}
 use Rattle.arrayvec.specs.ArrayVec.{array_vec_len}
 use Rattle.payload_header.specs.Payload.{seen_segment}
-use Rattle.payload_header.specs.Reading.{fields, octets_of, segments_at}
+use Rattle.payload_header.specs.Reading.{fields, counted_octets, segments_at}
 use Rattle.payload_header.proofs.reading.segments_in.Given as goal
 
 pub record Front (so_far whole count : Type 0) : Type 0 where
@@ -14,5 +14,5 @@ invariant-loop-header l =
     Front (map seen_segment l.segments.items ++ segments_at
     (map fields (drop l.header-index l.headers)) l.rest
     ≡ segments_at (map fields l.headers) l.rest_of)
-    (octets_of (map fields (drop l.header-index l.headers)) ≤ length l.rest)
+    (counted_octets (map fields (drop l.header-index l.headers)) ≤ length l.rest)
     (array_vec_len l.segments ≡ l.header-index)

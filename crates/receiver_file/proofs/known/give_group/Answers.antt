@@ -7,7 +7,7 @@ use Rattle.st_format.specs.Pgroup.{pixel_group}
 use Rattle.st_format.specs.Raster.{Raster}
 use Rattle.st_format.specs.Samples.{values_in}
 use Rattle.st_format.specs.Position.{group_start}
-use Rattle.pgroup_pack.specs.Groups.{blanked}
+use Rattle.pgroup_pack.specs.Groups.{blanked_samples}
 use Rattle.pgroup_pack.proofs.Marking.{length-group_values}
 use Rattle.frame_assembly.specs.Rows.{given_cells, group_cells}
 use Rattle.capture_file.specs.Groups.{Shape}
@@ -27,7 +27,7 @@ pub set_group-requires-clause-zero : goal.set_group-requires-clause-zero
 set_group-requires-clause-zero g c =
     let s : Shape = shape_in c.args.frame.now.format in
     subst (λ (m : ℕ). values_in s.bits c.args.octets.now
-    ≡ blanked m (values_in s.bits c.args.octets.now)) (sym c.mask_of.ensures)
+    ≡ blanked_samples m (values_in s.bits c.args.octets.now)) (sym c.mask_of.ensures)
     (known_zero s c.args.state c.args.octets.now c.requires.known)
 
 pub returns-clause-before : goal.returns-clause-before

@@ -1,6 +1,6 @@
 use Rattle.std.proofs.Common.{◌≡◌, ℕ, ◌<◌, ◌≤◌, List, length, sym, ap, ◌∙◌, subst, arith}
 use Rattle.std.specs.Int.{bit_at}
-use Rattle.pgroup_pack.specs.Groups.{blanked}
+use Rattle.pgroup_pack.specs.Groups.{blanked_samples}
 use Rattle.st_format.specs.declared.cell.Cell.{Cell}
 use Rattle.st_format.specs.declared.format.Format.{Format}
 use Rattle.st_format.specs.Pgroup.{bits_of, pixel_group}
@@ -8,7 +8,7 @@ use Rattle.st_format.specs.Position.{group_start, row_groups}
 use Rattle.st_format.specs.Raster.{Raster}
 use Rattle.st_format.specs.Samples.{values_in}
 use Rattle.frame_assembly.specs.Packed.{ArePacked, cells_in}
-use Rattle.frame_assembly.specs.Rows.{given_cells, replaced}
+use Rattle.frame_assembly.specs.Rows.{given_cells, replaced_cells}
 use Rattle.frame_assembly.proofs.Kept.{cells_back, kept, kept_back}
 use Rattle.frame_assembly.proofs.WholeGroups.{whole_groups}
 use Rattle.frame_assembly.proofs.frame.Frame.set_group.Goals as goal
@@ -71,7 +71,7 @@ set_group_of-requires-clause-bits g c =
 pub set_group_of-requires-clause-zero : goal.set_group_of-requires-clause-zero
 set_group_of-requires-clause-zero g c =
     subst (λ (r : Raster). values_in (bits_of r.format.depth) c.args.octets.now
-    ≡ blanked c.args.contested (values_in (bits_of r.format.depth) c.args.octets.now))
+    ≡ blanked_samples c.args.contested (values_in (bits_of r.format.depth) c.args.octets.now))
     (sym c.self.view_is) c.requires.zero
 
 pub returns-clause-cells : goal.returns-clause-cells
@@ -84,9 +84,9 @@ returns-clause-cells g c =
     c.self.inside.octets.items c.set_group_of.new.marks c.set_group_of.new.octets (omega arith)
     (omega arith)
     ∙ c.set_group_of.ensures.cells
-    ∙ ap (λ (ms : List ℕ). replaced (group_start f c.args.row c.args.group) (given f)
+    ∙ ap (λ (ms : List ℕ). replaced_cells (group_start f c.args.row c.args.group) (given f)
     (cells_in f ms c.as_mut_slice-2.result.now)) c.as_mut_slice.ensures.value
-    ∙ ap (λ (os : List ℕ). replaced (group_start f c.args.row c.args.group) (given f)
+    ∙ ap (λ (os : List ℕ). replaced_cells (group_start f c.args.row c.args.group) (given f)
     (cells_in f c.self.inside.marks.items os)) c.as_mut_slice-2.ensures.value
-    ∙ ap (λ (r : Raster). replaced (group_start r.format c.args.row c.args.group)
+    ∙ ap (λ (r : Raster). replaced_cells (group_start r.format c.args.row c.args.group)
     (given r.format) r.cells) c.self.view_is

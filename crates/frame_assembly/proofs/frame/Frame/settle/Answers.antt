@@ -4,7 +4,7 @@ use Rattle.st_format.specs.Picture.{IsPicture}
 use Rattle.st_format.specs.Raster.{Raster}
 use Rattle.st_format.proofs.PictureLemmas.{values}
 use Rattle.frame_assembly.specs.Packed.{cells_in}
-use Rattle.frame_assembly.specs.Settled.{IsBaseOf, settled}
+use Rattle.frame_assembly.specs.Settled.{IsBaseOf, settled_picture}
 use Rattle.frame_assembly.proofs.Kept.{frame_view}
 use Rattle.frame_assembly.proofs.SettledLemmas.{settled-is_picture, settled_as}
 use Rattle.frame_assembly.proofs.frame.Frame.settle.Goals as goal
@@ -45,4 +45,4 @@ returns-clause-settled g c =
     ∙ ap (values c.self.inside.format)
     (settled_as c.self.inside.format items lent c.in_ok-samples.samples.items c.args.base
     is_base c.self.invariant.frame.whole same c.in_ok-samples.ensures.settled)
-    ∙ ap (λ (q : Raster). settled q c.args.base) c.self.view_is
+    ∙ ap (λ (q : Raster). settled_picture q c.args.base) c.self.view_is

@@ -2,7 +2,7 @@ use Rattle.std.proofs.Common.{◌≡◌, ◌∙◌, ℕ, ap, refl, count_by}
 use Rattle.frame_assembly.specs.declared.counts.Counts.{Counts}
 use Rattle.st_format.specs.Cell.{is_contested, is_missing, is_present}
 use Rattle.st_format.specs.Raster.{Raster}
-use Rattle.st2110_tool.specs.Session.{counts_of}
+use Rattle.frame_assembly.specs.Kinds.{counts_of}
 use Rattle.st2110_tool.specs.declared.answer.Answer.TheVariants.{Out}
 use Rattle.st2110_tool.proofs.session.Session.slide.Goals as goal
 
