@@ -43,7 +43,8 @@ moment_after paths moment (d ∷ ds) = moment_after paths (moment_behind paths m
 
 -- the capture of a text and datagrams
 abbrev pub written_text : Paths → List ℕ → List (List ℕ) → List ℕ
-written_text paths text datagrams = front_text Two text ++ records_text (entries_from paths 0 datagrams)
+written_text paths text datagrams =
+    front_text Two text ++ records_text (entries_from paths 0 datagrams)
 
 -- the first of each two
 abbrev pub first_of_two : List Entry → List (List ℕ)

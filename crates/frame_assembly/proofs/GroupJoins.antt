@@ -283,7 +283,8 @@ pub group_contested : (n size samples m o c : ℕ) (octets others new_octets : L
     → ((i : ℕ)
     → bit_at c i
     ≡ max (max (bit_at m i) (bit_at o i)) (differs_at (values_in n octets) (values_in n others) i))
-    → length new_octets ≡ length octets → values_in n new_octets ≡ blanked_samples c (values_in n octets)
+    → length new_octets ≡ length octets → values_in n new_octets
+    ≡ blanked_samples c (values_in n octets)
     → Joins n size samples (m ∷ []) octets (o ∷ []) others (c ∷ []) new_octets
 group_contested n size samples m o c octets others new_octets is packed other high_m high_o bits
     long blank =

@@ -112,7 +112,8 @@ pub segments_more : (f : Format) (ts i : ℕ) (old cells new : List Cell) (ss : 
     (d : SegmentView) → i < length ss
     → new ≡ joined_cells cells (cells_of f (offers_in f ts (seen_segment (get_or ss i d))) ts)
     → joined_cells cells (cells_of f (offers_in_all f ts (map seen_segment (drop i ss))) ts) ≡ old
-    → joined_cells new (cells_of f (offers_in_all f ts (map seen_segment (drop (i + 1) ss))) ts) ≡ old
+    → joined_cells new (cells_of f (offers_in_all f ts (map seen_segment (drop (i + 1) ss))) ts)
+    ≡ old
 segments_more f ts i old cells new ss d lt is before =
     let rest : List Segment = map seen_segment (drop (i + 1) ss) in
     let s : Segment = seen_segment (get_or ss i d) in

@@ -17,7 +17,8 @@ use Rattle.st_format.proofs.Rasters.{map-map, map_same}
 use Rattle.frame_assembly.specs.declared.base.Base.{Base}
 use Rattle.frame_assembly.specs.declared.base.Base.TheVariants.{Fill, Hold}
 use Rattle.frame_assembly.specs.Packed.{group_count}
-use Rattle.frame_assembly.specs.Settled.{HoldsPicture, IsBaseOf, base_number, base_value, settled_picture}
+use Rattle.frame_assembly.specs.Settled.{HoldsPicture, IsBaseOf, base_number, base_value}
+use Rattle.frame_assembly.specs.Settled.{settled_picture}
 use Rattle.frame_assembly.specs.Settled.{settled_cell, settled_numbers}
 use Rattle.frame_assembly.proofs.Kept.{frame_view}
 use Rattle.frame_assembly.proofs.Segments.{sample_count_groups}
@@ -55,7 +56,8 @@ by_count r base is =
 
 pub settled-samples : {A : Type 0} (r : Raster) (base : Base A) → IsBaseOf base r.format
     → length r.cells ≡ sample_count r.format
-    → settled_numbers r.cells (base_number r.format.sampling base) ≡ (settled_picture r base).samples
+    → settled_numbers r.cells (base_number r.format.sampling base)
+    ≡ (settled_picture r base).samples
 settled-samples r base is whole =
     ap (λ (n : ℕ). map
     (λ k. settled_cell (get_or r.cells k Missing) (base_number r.format.sampling base k))

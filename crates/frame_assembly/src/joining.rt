@@ -66,7 +66,8 @@ pub fn join_segments(
 fn join_segment(format: &Format, marks: &mut [u16], octets: &mut [u8], segment: &Segment<'_>)
     requires whole { length marks.old ≡ group_count format.now }
     requires packed { ArePacked format.now marks.old octets.old }
-    requires inside { 0 < length segment.now.octets.now → IsInside (seen_segment segment.now) format.now }
+    requires inside { 0 < length segment.now.octets.now
+        → IsInside (seen_segment segment.now) format.now }
     ensures packed { ArePacked format.now marks.new octets.new }
     ensures cells { (ts : ℕ)
         → cells_in format.now marks.new octets.new

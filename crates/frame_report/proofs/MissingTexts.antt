@@ -71,7 +71,8 @@ closed_same start end small =
           let e : (0 + start) % 2 ^ 32 ≡ start = omega (arith, lt, small) in
           ap (map (numbered_run 0)) (closed_some start end lt)
           ∙ ap (λ (k : ℕ). (k, end - start) ∷ []) e ∙ sym (closed_some start end lt)
-      | inr le ↦ ap (map (numbered_run 0)) (closed_none start end le) ∙ sym (closed_none start end le)
+      | inr le ↦ ap (map (numbered_run 0)) (closed_none start end le)
+          ∙ sym (closed_none start end le)
     ]
 
 runs_same : (start place : ℕ) (flags : List Bool) → place + length flags < 2 ^ 32
@@ -262,4 +263,5 @@ pub lines_done : (columns row start place : ℕ) (marks : List ℕ) → length m
     ≡ flat_map (missing_line columns row) (closed_run start (length marks))
 lines_done columns row start place marks le order ge =
     lines_end columns row start place (flags_in marks) (omega (arith, le, flags_long marks))
-    ∙ ap (λ (k : ℕ). flat_map (missing_line columns row) (closed_run start k)) (omega (arith, le, ge))
+    ∙ ap (λ (k : ℕ). flat_map (missing_line columns row) (closed_run start k))
+    (omega (arith, le, ge))

@@ -9,7 +9,8 @@ use Rattle.st_format.specs.Member.{IsMember}
 use Rattle.st_format.proofs.Members.{member_left, member_right, member_cases, member-map}
 use Rattle.st_format.proofs.Members.{member_of_map}
 use Rattle.packet_numbers.specs.Numbers.{Numbers, count_of, IsNumbers, place_of, IsNoted}
-use Rattle.packet_numbers.specs.Numbers.{IsMissingRun, AreMissingRuns, closed_run, runs_from, numbered_run}
+use Rattle.packet_numbers.specs.Numbers.{IsMissingRun, AreMissingRuns, closed_run, runs_from}
+use Rattle.packet_numbers.specs.Numbers.{numbered_run}
 use Rattle.packet_numbers.specs.Numbers.{missing_runs_of}
 
 -- ---- the walk
@@ -159,7 +160,8 @@ runs_found m start place [] e o s len h =
 runs_found m start place (true ∷ flags) e o s len h =
     let hd = head_of m.noted place true flags e in
     let le : start ≤ place = o.order in
-    elim (member_cases (s, len) (closed_run start place) (runs_from (place + 1) (place + 1) flags) h) [
+    elim (member_cases (s, len) (closed_run start place)
+    (runs_from (place + 1) (place + 1) flags) h) [
       | inl a ↦ closed_found m start place o (λ lt. hd.is) s len a
       | inr b ↦ let r : IsMissingRun m s len × (place + 1 ≤ s) =
           runs_found m (place + 1) (place + 1) flags hd.rest

@@ -75,7 +75,8 @@ closed_run start end = if nat_lt start end then (start, end - start) ∷ [] else
 
 abbrev pub runs_from : ℕ → ℕ → List Bool → List (ℕ × ℕ)
 runs_from start place [] = closed_run start place
-runs_from start place (true ∷ flags) = closed_run start place ++ runs_from (place + 1) (place + 1) flags
+runs_from start place (true ∷ flags) =
+    closed_run start place ++ runs_from (place + 1) (place + 1) flags
 runs_from start place (false ∷ flags) = runs_from start (place + 1) flags
 
 -- by its first packet number

@@ -3,7 +3,8 @@ ghost use Rattle.std.specs.Prelude.{◌≡◌, ◌↔◌, ◌⊎◌, ◌<◌, �
 ghost use Rattle.std.specs.Prelude.{OnErr, OnOk, length, map, replicate, false};
 ghost use Rattle.packet_numbers.specs.Numbers.{AreAlike, AreMissingRuns, IsCount, IsNoted};
 ghost use Rattle.packet_numbers.specs.Numbers.{IsNumbers, closed_run, count_of, missing_runs_of};
-ghost use Rattle.packet_numbers.specs.Numbers.{numbered_run, place_of, runs_from, union, with_place};
+ghost use Rattle.packet_numbers.specs.Numbers.{numbered_run, place_of, runs_from, union};
+ghost use Rattle.packet_numbers.specs.Numbers.{with_place};
 ghost use Rattle.packet_numbers.specs.declared.seq_map.SeqMapFault.TheVariants.{NoMemory};
 
 use crate::bit_list::BitList;
@@ -187,7 +188,8 @@ fn runs_of<A: Allocator, B: Allocator>(
     noted: &BitList<A>,
 ) -> Result<Vec<(u32, u32), B>, AllocError>
     requires { length noted.now < 2 ^ 32 }
-    ensures { IfOk result (λ runs. runs.items ≡ map (numbered_run first) (runs_from 0 0 noted.now)) }
+    ensures { IfOk result (λ runs. runs.items
+        ≡ map (numbered_run first) (runs_from 0 0 noted.now)) }
 {
     let mut runs = Vec::new(alloc);
     let mut start = 0;

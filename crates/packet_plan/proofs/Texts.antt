@@ -257,12 +257,14 @@ pub front_at : (r : Rtp) (xs ys behind post : List ℕ) (extended n : ℕ) (hs k
     → IsPlainRtp (take 12 xs ++ []) r → r.payload ≡ [] → ys ≡ front_text extended hs ++ behind
     → hs ≡ ks
     → n ≡ 2 + 6 * length hs → 12 ≤ length xs
-    → take (12 + n) (take 12 xs ++ (ys ++ post)) ≡ fixed_text plain_flags r ++ front_text extended ks
+    → take (12 + n) (take 12 xs ++ (ys ++ post)) ≡ fixed_text plain_flags r
+    ++ front_text extended ks
 front_at r xs ys behind post extended n hs ks is none parts same long room =
     let t : List ℕ = front_text extended hs in
     let head : take 12 xs ≡ fixed_text plain_flags r =
     sym (append-nil (take 12 xs)) ∙ plain_octets r (take 12 xs ++ []) is
-    ∙ ap (λ (zs : List ℕ). fixed_text plain_flags r ++ zs) none ∙ append-nil (fixed_text plain_flags r) in
+    ∙ ap (λ (zs : List ℕ). fixed_text plain_flags r ++ zs) none
+    ∙ append-nil (fixed_text plain_flags r) in
     let count : length (take 12 xs ++ t) ≡ 12 + n =
     omega (arith, length-append (take 12 xs) t, length-take-le 12 xs room, length-heads hs) in
     ap (λ (zs : List ℕ). take (12 + n) (take 12 xs ++ (zs ++ post))) parts

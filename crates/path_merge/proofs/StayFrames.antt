@@ -320,7 +320,8 @@ at_slid s es r next state some is =
           (subst (λ (b : Raster). AreFrames s (es ++ e ∷ []) r (suc (length xs))
           (drop 1 w ++ next ∷ []) (drop 1 state.frames ++ b ∷ [])) blanks frames)),
     ) in
-    let g : at_window s (es ++ e ∷ []) r (slide_timestamps r (es ++ e ∷ [])) (slid_state state next) =
+    let g : at_window s (es ++ e ∷ []) r (slide_timestamps r (es ++ e ∷ []))
+    (slid_state state next) =
     subst (λ (ys : List ℕ). at_window s (es ++ e ∷ []) r ys (slid_state state next)) (sym more) h in
     record { opening = g.0; frames = g.1 }
 

@@ -20,7 +20,8 @@ use Rattle.payload_header.specs.Payload.{group_of, Header, HeaderFits, header_te
 use Rattle.payload_header.specs.Payload.{IsInside, Describes, IsPayload, most_segments}
 use Rattle.payload_header.specs.Reading.{first_of, number_at, header_of, headers_at}
 use Rattle.st_format.specs.Reading.{◌>>=◌}
-use Rattle.payload_header.specs.Reading.{headers_fault, option_or, fault_or, segments_at, counted_octets}
+use Rattle.payload_header.specs.Reading.{headers_fault, option_or, fault_or, segments_at}
+use Rattle.payload_header.specs.Reading.{counted_octets}
 use Rattle.payload_header.specs.Reading.{data_at, payload_walk}
 use Rattle.st_format.specs.Reading.{Gives}
 use Rattle.std.specs.Prelude.{IfOk}

@@ -85,7 +85,8 @@ header_ok f h false e none s o r p =
       };
     }
 
-pub octets_of-cons : (h : Header) (hs : List Header) → counted_octets (h ∷ hs) ≡ h.octets + counted_octets hs
+pub octets_of-cons : (h : Header) (hs : List Header) → counted_octets (h ∷ hs)
+    ≡ h.octets + counted_octets hs
 octets_of-cons h hs = sum_by-cons (λ (x : Header). x.octets) h hs
 
 -- The same of each header and its octets in turn
@@ -98,7 +99,8 @@ pub all_described : (f : Format) (hs : List Header) (octets : List ℕ) → head
 all_described f [] octets none enough = tt
 all_described f (h ∷ hs) octets none enough =
     let two = option_none (header_fault f h) (headers_fault f hs) none in
-    let total : h.octets + counted_octets hs ≤ length octets = omega (arith, octets_of-cons h hs) in (
+    let total : h.octets + counted_octets hs ≤ length octets
+    = omega (arith, octets_of-cons h hs) in (
       header_ok f h (eqb h.octets 0) refl two.0
           (record { row = h.row; offset = h.offset; octets = take h.octets octets })
           (omega (arith, length-take h.octets octets)) refl refl,
@@ -121,7 +123,8 @@ seen_inside f [] h = tt
 seen_inside f (s ∷ ss) h = (h.0, seen_inside f ss h.1)
 
 pub view_inside : (f : Format) (hs : List Header) (octets : List ℕ) (ss : List SegmentView)
-    → map seen_segment ss ≡ segments_at hs octets → headers_fault f hs ≡ None → counted_octets hs ≤ length octets
+    → map seen_segment ss ≡ segments_at hs octets → headers_fault f hs ≡ None
+    → counted_octets hs ≤ length octets
     → All (λ s. 0 < length s.octets.now → IsInside (seen_segment s) f) ss
 view_inside f hs octets ss is none enough =
     All-from_recursion (λ s. 0 < length s.octets.now → IsInside (seen_segment s) f) ss

@@ -20,7 +20,8 @@ use Rattle.payload_header.specs.declared.payload.PayloadView.{PayloadView}
 use Rattle.payload_header.specs.Payload.{Header, HeaderFits, header_text, most_segments}
 use Rattle.payload_header.specs.Reading.{number_at, header_of, headers_at, headers_fault}
 use Rattle.st_format.specs.Reading.{◌>>=◌}
-use Rattle.payload_header.specs.Reading.{fault_or, segments_at, counted_octets, data_at, payload_walk}
+use Rattle.payload_header.specs.Reading.{fault_or, segments_at, counted_octets, data_at}
+use Rattle.payload_header.specs.Reading.{payload_walk}
 use Rattle.st_format.specs.Reading.{Gives}
 use Rattle.payload_header.specs.Faults.{BeginsWith, AllGoOn, LacksHeader, GoesOn, HasHeaders}
 use Rattle.payload_header.specs.Faults.{HasFault, LacksData, IsRefusedPayload}

@@ -20,7 +20,8 @@ use Rattle.payload_header.specs.Payload.{IsPayload, most_segments}
 use Rattle.payload_header.specs.Reading.{number_at, header_of, headers_at, headers_fault}
 use Rattle.st_format.specs.Device.{AreOctets}
 use Rattle.st_format.specs.Reading.{◌>>=◌}
-use Rattle.payload_header.specs.Reading.{fault_or, segments_at, counted_octets, data_at, payload_walk}
+use Rattle.payload_header.specs.Reading.{fault_or, segments_at, counted_octets, data_at}
+use Rattle.payload_header.specs.Reading.{payload_walk}
 use Rattle.st_format.proofs.Octets.{AreOctets-drop, AreOctets-take}
 use Rattle.st_format.proofs.Readings.{bind_ok, guard_ok, three, two_below}
 use Rattle.payload_header.proofs.Grammar.{all_described, octets_of-cons}
@@ -64,10 +65,12 @@ header_back six len bytes =
     let bytes_o : AreOctets o = AreOctets-drop 4 six bytes in
     let ta : to_be_bytes w16 (from_be_bytes w16 a) ≡ a =
     two_back a (omega (arith, length-take 2 six)) (AreOctets-take 2 six bytes) in
-    let tr : flagged_number (leb (2 ^ 15) (from_be_bytes w16 r)) (from_be_bytes w16 r % 2 ^ 15) ≡ r =
+    let tr : flagged_number (leb (2 ^ 15) (from_be_bytes w16 r)) (from_be_bytes w16 r % 2 ^ 15)
+    ≡ r =
     flag_back (from_be_bytes w16 r) (two_below r bytes_r)
     ∙ two_back r (omega (arith, length-take 2 (drop 2 six), length-drop 2 six)) bytes_r in
-    let to : flagged_number (leb (2 ^ 15) (from_be_bytes w16 o)) (from_be_bytes w16 o % 2 ^ 15) ≡ o =
+    let to : flagged_number (leb (2 ^ 15) (from_be_bytes w16 o)) (from_be_bytes w16 o % 2 ^ 15)
+    ≡ o =
     flag_back (from_be_bytes w16 o) (two_below o bytes_o)
     ∙ two_back o (omega (arith, length-drop 4 six)) bytes_o in
     record {
@@ -181,13 +184,15 @@ headers_take (suc n) octets y bytes e =
 -- The segments' octets stand at the front of the data.
 pub data_parts : (hs : List Header) (octets : List ℕ)
     → octets
-    ≡ flat_map (λ (s : Segment). s.octets) (segments_at hs octets) ++ drop (counted_octets hs) octets
+    ≡ flat_map (λ (s : Segment). s.octets) (segments_at hs octets)
+    ++ drop (counted_octets hs) octets
 data_parts [] octets = refl
 data_parts (h ∷ hs) octets =
     let later : drop h.octets octets
     ≡ flat_map (λ (s : Segment). s.octets) (segments_at hs (drop h.octets octets)) ++ drop
     (counted_octets hs) (drop h.octets octets) = data_parts hs (drop h.octets octets) in
-    let same : drop (counted_octets hs) (drop h.octets octets) ≡ drop (counted_octets (h ∷ hs)) octets =
+    let same : drop (counted_octets hs) (drop h.octets octets)
+    ≡ drop (counted_octets (h ∷ hs)) octets =
     drop-drop (counted_octets hs) h.octets octets
     ∙ ap (λ (n : ℕ). drop n octets) (omega (arith, octets_of-cons h hs)) in
     sym (take-append-drop h.octets octets)
@@ -249,7 +254,8 @@ payload_takes f octets y bytes e =
     let g =
     guard_ok (ltb (length b.0.1) (counted_octets b.0.0)) ShortData
     (segments_at b.0.0 b.0.1) c.0 none.1 in
-    let enough : counted_octets b.0.0 ≤ length b.0.1 = ltb-false (length b.0.1) (counted_octets b.0.0) g.0 in
+    let enough : counted_octets b.0.0 ≤ length b.0.1
+    = ltb-false (length b.0.1) (counted_octets b.0.0) g.0 in
     let made : IsPayload octets f a.0.0 (segments_at b.0.0 b.0.1) = record {
       headers = b.0.0;
       rest = drop (counted_octets b.0.0) b.0.1;

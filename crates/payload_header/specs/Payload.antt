@@ -41,7 +41,8 @@ flagged_number flag n = to_be_bytes w16 ((if flag then 2 ^ 15 else 0) + n)
 
 -- the six octets of a header: Length; F and row; C and Offset (RFC 4175, 4.2)
 abbrev pub header_text : Header → List ℕ
-header_text h = to_be_bytes w16 h.octets ++ flagged_number h.second_field h.row ++ flagged_number h.more h.offset
+header_text h = to_be_bytes w16 h.octets ++ flagged_number h.second_field h.row
+    ++ flagged_number h.more h.offset
 
 -- one header or more, of which all but the last say by C that another follows (RFC 4175, 4.2)
 abbrev pub IsChain : List Header → Type 0

@@ -8,7 +8,8 @@ ghost use Rattle.payload_header.specs.Payload.{IsPayload, seen_segment};
 ghost use Rattle.st_format.specs.Raster.{Segment as SegmentText};
 ghost use Rattle.payload_header.specs.Reading.{fields, header_fault, header_of, headers_at};
 ghost use Rattle.st_format.specs.Reading.{Gives};
-ghost use Rattle.payload_header.specs.Reading.{headers_fault, counted_octets, payload_walk, segments_at};
+ghost use Rattle.payload_header.specs.Reading.{headers_fault, counted_octets, payload_walk};
+ghost use Rattle.payload_header.specs.Reading.{segments_at};
 
 use crate::payload::{PayloadFault, PayloadView, Segment};
 use arrayvec::ArrayVec;

@@ -32,7 +32,8 @@ use Rattle.st_format.specs.declared.sampling.Depth.TheVariants.{D8, D10, D12, D1
 use Rattle.st_format.specs.Pgroup.{bits_of, pixel_group}
 use Rattle.st_format.specs.Samples.{values_in}
 use Rattle.pgroup_pack.proofs.Values.{length-values_in, values_in-append}
-use Rattle.pgroup_pack.specs.Groups.{differs_at, blanked_samples, blanked_from, AreContested, samples_of}
+use Rattle.pgroup_pack.specs.Groups.{differs_at, blanked_samples, blanked_from, AreContested}
+use Rattle.pgroup_pack.specs.Groups.{samples_of}
 use Rattle.pgroup_pack.proofs.GroupLemmas.{length-blanked_from}
 
 -- ---- bits of shifted numbers

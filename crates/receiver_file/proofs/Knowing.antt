@@ -41,7 +41,8 @@ first_zero : (b : Bool) (v : ℕ) → cond b 0 v ≡ v → (not b || eqb v 0) �
 first_zero true v h = eq-eqb v 0 (sym h)
 first_zero false v h = refl
 
-pub zeroed_same : (mask : ℕ) (vs : List ℕ) → are_zeroed mask vs ≡ true → blanked_samples mask vs ≡ vs
+pub zeroed_same : (mask : ℕ) (vs : List ℕ) → are_zeroed mask vs ≡ true → blanked_samples mask vs
+    ≡ vs
 unfolding are_zeroed
 zeroed_same mask [] h = refl
 zeroed_same mask (v ∷ vs) h =

@@ -11,7 +11,8 @@ pub record Fits (r : Rtp) : Type 0 where
   pub timestamp : r.timestamp < 2 ^ 32
   pub ssrc : r.ssrc < 2 ^ 32
 
-pub plain_rtp : (r : Rtp) (octets : List ℕ) → Fits r → octets ≡ fixed_text plain_flags r ++ r.payload
+pub plain_rtp : (r : Rtp) (octets : List ℕ) → Fits r → octets ≡ fixed_text plain_flags r
+    ++ r.payload
     → IsPlainRtp octets r
 plain_rtp r octets fits parts =
     let is : IsRtp octets r = record {
@@ -27,7 +28,8 @@ plain_rtp r octets fits parts =
       sources = refl;
       is_extension = refl;
       is_padding = refl;
-      whole = parts ∙ ap (λ (x : List ℕ). fixed_text plain_flags r ++ x) (sym (append-nil r.payload));
+      whole =
+          parts ∙ ap (λ (x : List ℕ). fixed_text plain_flags r ++ x) (sym (append-nil r.payload));
     } in
     record { is = is; flags = refl; no_sources = refl; no_extension = refl; no_padding = refl }
 

@@ -10,7 +10,8 @@ use byteorder::{BigEndian, ByteOrder};
 fn write_fixed(buffer: &mut [u8], head: &RtpHead)
     requires room { 12 ≤ length buffer.old }
     requires payload_type { head.now.payload_type ≤ 127 }
-    ensures text { buffer.new ≡ fixed_text plain_flags (headed_rtp head.now []) ++ drop 12 buffer.old }
+    ensures text { buffer.new ≡ fixed_text plain_flags (headed_rtp head.now [])
+        ++ drop 12 buffer.old }
     ensures sequence { head.now.sequence < 2 ^ 16 }
     ensures timestamp { head.now.timestamp < 2 ^ 32 }
     ensures ssrc { head.now.ssrc < 2 ^ 32 }

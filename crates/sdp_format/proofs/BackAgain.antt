@@ -61,7 +61,8 @@ section_back l s port k h =
     rw (media, rtpmap, h.raw, fmtp, e.2, e.1) refl
 
 sections_back : (l : Leg) → IsLeg l → (ss : List Section) (ports : List ℕ)
-    → AllZip (λ s port. HasLine s (canonical_line l) l.payload_type port) ss ports → 0 < length ports
+    → AllZip (λ s port. HasLine s (canonical_line l) l.payload_type port) ss ports
+    → 0 < length ports
     → length ports ≤ 2
     → sections_walk ss ≡ Ok (record { ports = ports; leg = l })
 sections_back l k [] [] z some few = absurd (omega arith)

@@ -26,7 +26,8 @@ use Rattle.sdp_format.specs.declared.fault.SdpFault.TheVariants.{BadFormat, Legs
 use Rattle.sdp_format.specs.Faults.{sdp_fault_number}
 use Rattle.sdp_format.specs.Bytes.{begins_with}
 use Rattle.st_format.specs.Words.{number}
-use Rattle.sdp_format.specs.Naming.{Item, is_bad, has_double, has_name, value_of, text_of, required_names}
+use Rattle.sdp_format.specs.Naming.{Item, is_bad, has_double, has_name, value_of, text_of}
+use Rattle.sdp_format.specs.Naming.{required_names}
 use Rattle.sdp_format.specs.Naming.{rate, range_or, range_named, colorimetry}
 use Rattle.sdp_format.specs.Sections.{Leg}
 use Rattle.sdp_format.specs.Canonical.{depth_text}
@@ -128,14 +129,16 @@ other_depth text e d h = not_none d (sym (depth_again d) ∙ ap depth_named (sym
 missing_says : (is : List Item) → is_missing is ≡ true
     → (name : List ℕ) × Contains required_names name × Lacks is name
 missing_says is e = let r =
-    not_all_member (has_name is) required_names (not_true (list_all (has_name is) required_names) e) in
+    not_all_member (has_name is) required_names
+    (not_true (list_all (has_name is) required_names) e) in
     (r.0, r.1, lacks_has r.0 is r.2)
 
 says_missing : (is : List Item) → is_missing is ≡ false
     → (name : List ℕ) × Contains required_names name × Lacks is name → ⊥
 says_missing is e m =
     let there : has_name is m.0 ≡ true =
-    all_member (has_name is) required_names m.0 (not_false (list_all (has_name is) required_names) e) m.1 in
+    all_member (has_name is) required_names m.0
+    (not_false (list_all (has_name is) required_names) e) m.1 in
     let said = has_says m.0 is there in m.2 said.0 said.1
 
 interlaced_says : (is : List Item) → is_interlaced is ≡ true
@@ -173,7 +176,8 @@ said_text : (is : List Item) → Sound is → (name : List ℕ) → Contains req
     → Says is name (text_of name is)
 said_text is k name m =
     let there : has_name is name ≡ true =
-    all_member (has_name is) required_names name (not_false (list_all (has_name is) required_names) k.whole) m in
+    all_member (has_name is) required_names name
+    (not_false (list_all (has_name is) required_names) k.whole) m in
     found_says name (text_of name is) is (some_text (value_of name is) there)
 
 -- no condition below that of doubles holds of items that are good one by one

@@ -130,7 +130,8 @@ record Words (parts : List (List ℕ)) (m : ℕ × ℕ) : Type 0 where
   port : at_most 65535 (number port_text) ≡ Some m.0
   type : at_most 127 (number type_text) ≡ Some m.1
 
-both_some : (a b : Option ℕ) (m : ℕ × ℕ) → number_pair a b ≡ Some m → (a ≡ Some m.0) × (b ≡ Some m.1)
+both_some : (a b : Option ℕ) (m : ℕ × ℕ) → number_pair a b ≡ Some m → (a ≡ Some m.0)
+    × (b ≡ Some m.1)
 both_some None b m e = absurd (not_none m (sym e))
 both_some (Some x) None m e = absurd (not_none m (sym e))
 both_some (Some x) (Some y) m e = let h : (x, y) ≡ m =

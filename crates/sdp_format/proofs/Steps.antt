@@ -118,7 +118,8 @@ want n C R f (Some x) k b holds fails rest =
 -- a value that is there for another reason
 pub there : {A X : Type 0} (n : ℕ) (C : SdpFault → Type 0) (R : X → Type 0) (f : SdpFault)
     (o : Option A) (k : A → Result X SdpFault)
-    → (o ≡ None → ⊥) → ((x : A) → o ≡ Some x → Told n C R (k x)) → Told n C R (value_or_fault f o >>= k)
+    → (o ≡ None → ⊥) → ((x : A) → o ≡ Some x → Told n C R (k x))
+    → Told n C R (value_or_fault f o >>= k)
 there n C R f None k some rest = absurd (some refl)
 there n C R f (Some x) k some rest = rest x refl
 

@@ -14,7 +14,8 @@ use Rattle.sdp_format.specs.Bytes.{lines}
 use Rattle.sdp_format.specs.Sections.{Section, Leg, Description, video_sections}
 use Rattle.st_format.specs.Reading.{◌>>=◌}
 use Rattle.st_format.proofs.SameFields.{fields_are, fields_self}
-use Rattle.sdp_format.specs.Reading.{fault_where, GivesUnlessMemory, section_walk, same_range, same_leg}
+use Rattle.sdp_format.specs.Reading.{fault_where, GivesUnlessMemory, section_walk, same_range}
+use Rattle.sdp_format.specs.Reading.{same_leg}
 use Rattle.sdp_format.specs.Reading.{sections_walk, text_walk}
 use Rattle.sdp_format.specs.Grammar.{IsFirstFault, IsFaultless, SectionSays, Differ, TwoDiffer}
 use Rattle.sdp_format.specs.Grammar.{IsTextFault, OneSays, BothSay, IsDescribed}
@@ -94,7 +95,8 @@ abbrev one : Read → Answer
 one x = Ok (described (x.0 ∷ []) x.1)
 
 abbrev both : Read → Read → Answer
-both x y = fault_where LegsDiffer (not (same_leg x.1 y.1)) >>= λ t. Ok (described (x.0 ∷ y.0 ∷ []) x.1)
+both x y =
+    fault_where LegsDiffer (not (same_leg x.1 y.1)) >>= λ t. Ok (described (x.0 ∷ y.0 ∷ []) x.1)
 
 abbrev one_of : Result Read SdpFault → Answer
 one_of r = r >>= one

@@ -26,7 +26,8 @@ use Rattle.sdp_format.specs.declared.fault.SdpFault.TheVariants.{BadFormat, Legs
 use Rattle.sdp_format.specs.Bytes.{trimmed, trim_end, at_most, split, lines, begins_with}
 use Rattle.sdp_format.specs.Bytes.{attribute}
 use Rattle.sdp_format.specs.Sections.{Section, Leg, Description, video_sections}
-use Rattle.sdp_format.specs.Naming.{Item, items, is_bad, has_double, has_name, value_of, required_names, rate}
+use Rattle.sdp_format.specs.Naming.{Item, items, is_bad, has_double, has_name, value_of}
+use Rattle.sdp_format.specs.Naming.{required_names, rate}
 use Rattle.sdp_format.specs.Naming.{range_or, colorimetry, text_of}
 
 -- a value that has to be there, and a condition that has not to hold

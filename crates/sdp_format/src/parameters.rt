@@ -1,7 +1,8 @@
 //! The items of an fmtp line as a list, and what they say by their names.
 ghost use Rattle.std.specs.Prelude.{◌≡◌, ◌∷◌, [], None, Some, IfOk, Err, Ok, if◌then◌else◌};
 ghost use Rattle.std.specs.Option.{option_copied};
-ghost use Rattle.sdp_format.specs.Naming.{items, has_double, value_of, has_name, text_of, required_names};
+ghost use Rattle.sdp_format.specs.Naming.{items, has_double, value_of, has_name, text_of};
+ghost use Rattle.sdp_format.specs.Naming.{required_names};
 ghost use Rattle.sdp_format.specs.Reading.{GivesUnlessMemory, is_missing, is_interlaced};
 ghost use Rattle.sdp_format.specs.Views.{items_in};
 ghost use Rattle.sdp_format.specs.declared.fault.SdpFault.TheVariants.{DoubleParameter};

@@ -26,7 +26,8 @@ value_at v p = slice_index v.samples (number_of v.format p)
 
 -- one value for each component
 abbrev pub filled_picture : Format → List ℕ → Values
-filled_picture f fill = record { format = f; samples = map (λ p. slice_index fill p.component) (places f) }
+filled_picture f fill =
+    record { format = f; samples = map (λ p. slice_index fill p.component) (places f) }
 
 -- one position has another value, and each other position the one that it had
 pub record SetsOne (old new : Values) (p : Position) (value : ℕ) : Type 0 where

@@ -11,8 +11,8 @@ returns-in_err-picture-clause-refusal g c =
     let now = c.loop-place.pictures in
     let p = err_from_is_err_and c.from_residual.result c.from_residual.ensures.1 in
     rw (p.1, p.2) (of_refusal_map c.in_err-picture.field-0.0
-    (next_refused c.args.sender.now.plan.format f c.loop-place.place start now (omega (arith, c.loop-place.auto.place))
-    c.loop-place.invariant.behind)
+    (next_refused c.args.sender.now.plan.format f c.loop-place.place start now
+    (omega (arith, c.loop-place.auto.place)) c.loop-place.invariant.behind)
     c.in_err-picture.ensures.refusal)
 
 pub returns-in_err-send-clause-refusal : goal.returns-in_err-send-clause-refusal
@@ -25,6 +25,7 @@ returns-in_err-send-clause-refusal g c =
     c.from_residual-in_err-send.ensures.1 in
     rw (p.1, p.2) (of_refusal_map c.in_err-send.field-0.0
     (other_refused c.args.sender.now.plan.format c.loop-place.sender.plan.format other f
-    c.loop-place.place start now (omega (arith, c.loop-place.auto.place)) c.loop-place.invariant.behind
+    c.loop-place.place start now (omega (arith, c.loop-place.auto.place))
+    c.loop-place.invariant.behind
     (ap (λ x. x.format) c.loop-place.invariant.plan) c.in_ok-picture.ensures.says)
     c.in_err-send.ensures.refusal)

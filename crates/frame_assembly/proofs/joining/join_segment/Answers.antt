@@ -31,7 +31,8 @@ ends f s first z many inside at same whole =
 pub returns-then-is_empty-clause-cells : goal.returns-then-is_empty-clause-cells
 returns-then-is_empty-clause-cells c =
     λ ts. no_octets c.args.format.now ts
-    (cells_in c.args.format.now c.args.marks.now c.args.octets.now) (seen_segment c.args.segment.now)
+    (cells_in c.args.format.now c.args.marks.now c.args.octets.now)
+    (seen_segment c.args.segment.now)
     (cells_long c.args.format.now c.args.marks.now c.args.octets.now c.requires.whole
     c.requires.packed) (eqb-true (length c.args.segment.now.octets.now) 0
     (sym c.if-is_empty.ensures))
@@ -40,7 +41,8 @@ pub groups_before-first-requires : goal.groups_before-first-requires
 groups_before-first-requires c =
     let has : 0 < length c.args.segment.now.octets.now =
     some (length c.args.segment.now.octets.now) c.if-is_empty.ensures in
-    let inside : IsInside (seen_segment c.args.segment.now) c.args.format.now = c.requires.inside has in
+    let inside : IsInside (seen_segment c.args.segment.now) c.args.format.now
+    = c.requires.inside has in
     record {
       row = inside.row;
       column =
@@ -51,7 +53,8 @@ pub slice_bounds-join_whole-end : goal.slice_bounds-join_whole-end
 slice_bounds-join_whole-end c =
     let has : 0 < length c.args.segment.now.octets.now =
     some (length c.args.segment.now.octets.now) c.if-is_empty.ensures in
-    let inside : IsInside (seen_segment c.args.segment.now) c.args.format.now = c.requires.inside has in
+    let inside : IsInside (seen_segment c.args.segment.now) c.args.format.now
+    = c.requires.inside has in
     let s : ℕ = (pixel_group c.args.format.now.sampling c.args.format.now.depth).octets in
     let e : c.pgroup-size.result.octets ≡ s = c.pgroup-size.ensures.octets in
     let end = groups_end c.args.format.now (seen_segment c.args.segment.now) inside in
@@ -65,7 +68,8 @@ join_whole-requires-clause-packed c =
     let f = c.args.format.now in
     let len : ℕ = length c.args.segment.now.octets.now in
     let has : 0 < len = some len c.if-is_empty.ensures in
-    let inside : IsInside (seen_segment c.args.segment.now) c.args.format.now = c.requires.inside has in
+    let inside : IsInside (seen_segment c.args.segment.now) c.args.format.now
+    = c.requires.inside has in
     let s : ℕ = (pixel_group c.args.format.now.sampling c.args.format.now.depth).octets in
     let quotient : len / c.pgroup-size.result.octets ≡ len / s =
     ap (λ (k : ℕ). len / k) c.pgroup-size.ensures.octets in
@@ -85,10 +89,12 @@ pub join_whole-requires-clause-alike : goal.join_whole-requires-clause-alike
 join_whole-requires-clause-alike c =
     let len : ℕ = length c.args.segment.now.octets.now in
     let has : 0 < len = some len c.if-is_empty.ensures in
-    let inside : IsInside (seen_segment c.args.segment.now) c.args.format.now = c.requires.inside has in
+    let inside : IsInside (seen_segment c.args.segment.now) c.args.format.now
+    = c.requires.inside has in
     slice_long _ _ c.groups_before-first.result len
     (length c.args.marks.now) c.args.octets.now c.pgroup-size.ensures.octets
-    (segment_octets c.args.format.now (seen_segment c.args.segment.now) inside) c.requires.packed.long
+    (segment_octets c.args.format.now (seen_segment c.args.segment.now) inside)
+    c.requires.packed.long
     (omega (
       arith,
       groups_end c.args.format.now (seen_segment c.args.segment.now) inside,

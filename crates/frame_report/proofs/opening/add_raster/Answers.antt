@@ -67,7 +67,8 @@ pub returns-clause-text : goal.returns-clause-text
 returns-clause-text c =
     let f = c.args.format.now in
     joined6 _ _ _ _ _ _ _ (sampling_text f.sampling) (numbered_word (codes " ") (bits_of f.depth))
-    (numbered_word (codes " ") f.width) (numbered_word (codes " ") f.height) (numbered_word (codes " ") f.n)
+    (numbered_word (codes " ") f.width) (numbered_word (codes " ") f.height)
+    (numbered_word (codes " ") f.n)
     (numbered_word (codes "/") f.d)
     (rw (c.word.ensures.text, c.sampling.ensures) at c.add.ensures)
     (rw (c.from.ensures, c.bits.ensures, c.depth.ensures) at c.add_number.ensures.text)
