@@ -8,10 +8,10 @@ use Rattle.st_format.specs.declared.sampling.Sampling.{Sampling}
 use Rattle.st_format.specs.declared.sampling.Depth.{Depth}
 use Rattle.st_format.specs.declared.format.Format.{Format}
 use Rattle.st_format.specs.declared.format.FormatFault.{FormatFault}
-use Rattle.st_format.specs.Fields.{Fields, fields_of, format_at}
+use Rattle.st_format.specs.Fields.{Fields, fields_of, format_at, made_fields}
 use Rattle.capture_file.specs.declared.fault.FileFault.{FileFault}
 use Rattle.capture_file.specs.declared.fault.FileFault.TheVariants.{BadField}
-use Rattle.capture_file.specs.Blocks.{block_at, block_of, depth_of, fields_made, lowest}
+use Rattle.capture_file.specs.Blocks.{block_at, block_of, depth_of, lowest}
 use Rattle.capture_file.specs.Blocks.{sampling_of}
 use Rattle.capture_file.specs.Fields.{Fails, Takes, field_at}
 use Rattle.st_format.specs.Reading.{◌>>=◌}
@@ -86,7 +86,7 @@ block_parts block r s b w h n d es eb ew eh en ed e = e ∙ parts block s b w h 
 
 -- from a source
 pub block_gives : (old mid : Option (List ℕ)) (block : List ℕ) (r : Result Format FileFault)
-    → Takes (field_at 14) old mid block → fields_made r ≡ block_of block
+    → Takes (field_at 14) old mid block → made_fields r ≡ block_of block
     → IfOk r (λ f. Takes block_at old mid (fields_of f))
 unfolding block_at
 block_gives old mid block (Ok f) p e =
@@ -95,7 +95,7 @@ block_gives old mid block (Ok f) p e =
 block_gives old mid block (Err f) p e = tt
 
 pub block_fails : (old mid : Option (List ℕ)) (block : List ℕ) (r : Result Format FileFault)
-    → Takes (field_at 14) old mid block → fields_made r ≡ block_of block
+    → Takes (field_at 14) old mid block → made_fields r ≡ block_of block
     → IfErr r (λ f. Fails block_at old f)
 unfolding block_at
 block_fails old mid block (Ok f) p e = tt

@@ -14,7 +14,7 @@ use Rattle.std.proofs.Math.Nat.{pow-suc}
 use Rattle.std.proofs.Math.Pow.{pow_mono}
 use Rattle.st_format.specs.declared.cell.Cell.{Cell}
 use Rattle.st_format.specs.declared.cell.Cell.TheVariants.{Missing, Value, Contested}
-use Rattle.st_format.specs.Cell.{is_missing}
+use Rattle.st_format.specs.Cell.{is_missing, known_value}
 use Rattle.st_format.specs.Samples.{octets_in, values_in}
 use Rattle.st_format.proofs.Spelled.{values_in-spelled}
 use Rattle.st_format.proofs.SpelledOctets.{Spells-octets_in, length-octets_in}
@@ -24,7 +24,7 @@ use Rattle.capture_file.specs.Fields.{field_at}
 use Rattle.st_format.specs.Reading.{◌>>=◌}
 use Rattle.capture_file.specs.Groups.{IsGroup, IsHad, IsShape, Shape, are_zeroed, cells_by}
 use Rattle.capture_file.specs.Groups.{group_at, group_text, groups_at, groups_text, mask_of}
-use Rattle.capture_file.specs.Groups.{mixed_by, samples_text, value_or_0}
+use Rattle.capture_file.specs.Groups.{mixed_by, samples_text}
 use Rattle.capture_file.proofs.Splits.{field_again}
 
 abbrev Cells : Type 0
@@ -51,33 +51,33 @@ high_0 m = omega arith
 
 -- the cells of the mask and the values
 cells_again : (bits : ℕ) (cs : List Cell) → AllByRecursion (IsHad bits) cs
-    → cells_by (mask_of cs) (map value_or_0 cs) ≡ cs
-unfolding cells_by mask_of
+    → cells_by (mask_of cs) (map known_value cs) ≡ cs
+unfolding cells_by mask_of known_value
 cells_again bits [] had = refl
 cells_again bits (Missing ∷ cs) had = absurd had.0
 cells_again bits (Value v ∷ cs) had =
     ap (λ (b : Bool). cond b Contested (Value v) ∷ cells_by ((0 + 2 * mask_of cs) / 2)
-    (map value_or_0 cs)) (low_0 (mask_of cs))
-    ∙ ap (λ (m : ℕ). Value v ∷ cells_by m (map value_or_0 cs)) (high_0 (mask_of cs))
+    (map known_value cs)) (low_0 (mask_of cs))
+    ∙ ap (λ (m : ℕ). Value v ∷ cells_by m (map known_value cs)) (high_0 (mask_of cs))
     ∙ ap (λ (xs : List Cell). Value v ∷ xs) (cells_again bits cs had.1)
 cells_again bits (Contested ∷ cs) had =
     ap (λ (b : Bool). cond b Contested (Value 0) ∷ cells_by ((1 + 2 * mask_of cs) / 2)
-    (map value_or_0 cs)) (low_1 (mask_of cs))
-    ∙ ap (λ (m : ℕ). Contested ∷ cells_by m (map value_or_0 cs)) (high_1 (mask_of cs))
+    (map known_value cs)) (low_1 (mask_of cs))
+    ∙ ap (λ (m : ℕ). Contested ∷ cells_by m (map known_value cs)) (high_1 (mask_of cs))
     ∙ ap (λ (xs : List Cell). Contested ∷ xs) (cells_again bits cs had.1)
 
-zeroed_again : (cs : List Cell) → are_zeroed (mask_of cs) (map value_or_0 cs) ≡ true
-unfolding are_zeroed mask_of
+zeroed_again : (cs : List Cell) → are_zeroed (mask_of cs) (map known_value cs) ≡ true
+unfolding are_zeroed mask_of known_value
 zeroed_again [] = refl
 zeroed_again (Missing ∷ cs) =
     both_true (ap (λ (b : Bool). not b || true) (low_0 (mask_of cs)))
-    (ap (λ (m : ℕ). are_zeroed m (map value_or_0 cs)) (high_0 (mask_of cs)) ∙ zeroed_again cs)
+    (ap (λ (m : ℕ). are_zeroed m (map known_value cs)) (high_0 (mask_of cs)) ∙ zeroed_again cs)
 zeroed_again (Value v ∷ cs) =
     both_true (ap (λ (b : Bool). not b || eqb v 0) (low_0 (mask_of cs)))
-    (ap (λ (m : ℕ). are_zeroed m (map value_or_0 cs)) (high_0 (mask_of cs)) ∙ zeroed_again cs)
+    (ap (λ (m : ℕ). are_zeroed m (map known_value cs)) (high_0 (mask_of cs)) ∙ zeroed_again cs)
 zeroed_again (Contested ∷ cs) =
     both_true (ap (λ (b : Bool). not b || true) (low_1 (mask_of cs)))
-    (ap (λ (m : ℕ). are_zeroed m (map value_or_0 cs)) (high_1 (mask_of cs)) ∙ zeroed_again cs)
+    (ap (λ (m : ℕ). are_zeroed m (map known_value cs)) (high_1 (mask_of cs)) ∙ zeroed_again cs)
 
 below_double : (b m k : ℕ) → b < 2 → m < 2 ^ k → b + 2 * m < 2 ^ suc k
 below_double b m k lt h = omega (arith, pow-suc 2 k)
@@ -92,8 +92,8 @@ mask_below (Contested ∷ cs) = below_double 1 (mask_of cs) (length cs) (omega a
 
 -- with no contested sample
 plain_again : (bits : ℕ) (cs : List Cell) → AllByRecursion (IsHad bits) cs → mask_of cs ≡ 0
-    → map Value (map value_or_0 cs) ≡ cs
-unfolding mask_of
+    → map Value (map known_value cs) ≡ cs
+unfolding mask_of known_value
 plain_again bits [] had e = refl
 plain_again bits (Missing ∷ cs) had e = absurd had.0
 plain_again bits (Value v ∷ cs) had e =
@@ -101,7 +101,8 @@ plain_again bits (Value v ∷ cs) had e =
 plain_again bits (Contested ∷ cs) had e = absurd (omega (arith, e))
 
 values_fit : (bits : ℕ) (cs : List Cell) → AllByRecursion (IsHad bits) cs
-    → AllByRecursion (λ (v : ℕ). v < 2 ^ bits) (map value_or_0 cs)
+    → AllByRecursion (λ (v : ℕ). v < 2 ^ bits) (map known_value cs)
+unfolding known_value
 values_fit bits [] had = tt
 values_fit bits (Missing ∷ cs) had = absurd had.0
 values_fit bits (Value v ∷ cs) had = (had.0, values_fit bits cs had.1)
@@ -121,10 +122,10 @@ all_missing (suc n) = all_missing n
 
 -- the values of the octets
 values_again : (s : Shape) (cs : List Cell) → IsShape s → length cs ≡ s.samples
-    → AllByRecursion (IsHad s.bits) cs → values_in s.bits (samples_text s cs) ≡ map value_or_0 cs
+    → AllByRecursion (IsHad s.bits) cs → values_in s.bits (samples_text s cs) ≡ map known_value cs
 values_again s cs is whole had =
-    let vs : List ℕ = map value_or_0 cs in
-    let len : length vs ≡ s.samples = length-map cs value_or_0 ∙ whole in
+    let vs : List ℕ = map known_value cs in
+    let len : length vs ≡ s.samples = length-map cs known_value ∙ whole in
     values_in-spelled s.bits (octets_in s.bits vs) vs is.some_bits
     (Spells-octets_in s.bits vs s.octets (ap (λ (k : ℕ). s.bits * k) len ∙ is.octets)
     (values_fit s.bits cs had))
@@ -132,8 +133,8 @@ values_again s cs is whole had =
 octets_again : (s : Shape) (cs : List Cell) → IsShape s → length cs ≡ s.samples
     → length (samples_text s cs) ≡ s.octets
 octets_again s cs is whole =
-    length-octets_in s.bits (map value_or_0 cs) s.octets
-    (ap (λ (k : ℕ). s.bits * k) (length-map cs value_or_0 ∙ whole) ∙ is.octets)
+    length-octets_in s.bits (map known_value cs) s.octets
+    (ap (λ (k : ℕ). s.bits * k) (length-map cs known_value ∙ whole) ∙ is.octets)
 
 cases_zero : (n : ℕ) → (n ≡ 0) ⊎ (n ≡ 0 → ⊥)
 cases_zero zero = inl refl
@@ -162,7 +163,7 @@ mixed_group : (s : Shape) (cs : List Cell) (rest : List ℕ) → IsShape s → l
 unfolding group_at
 mixed_group s cs rest is whole had some =
     let m : ℕ = mask_of cs in
-    let vs : List ℕ = map value_or_0 cs in
+    let vs : List ℕ = map known_value cs in
     let below : m < 2 ^ s.samples = subst (λ (k : ℕ). m < 2 ^ k) whole (mask_below cs) in
     let few : m < 2 ^ 16 = lt_through m s.samples below (omega (arith, is.few)) in
     ap (λ (r : Result (List ℕ × List ℕ) FileFault). r >>= λ y. field_at s.octets y.1 >>=

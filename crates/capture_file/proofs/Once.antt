@@ -45,7 +45,7 @@ once_32 m n p q e =
     sym (from_be_bytes-to_be_bytes_4 m p) ∙ ap (from_be_bytes w32) e
     ∙ from_be_bytes-to_be_bytes_4 n q
 
--- the pixel groups of each format
+-- the pgroups of each format
 pub shape_is : (s : Sampling) (b : Depth) → IsShape (shape_of s b)
 shape_is Ycc422 D8 =
     record { some = omega arith; few = omega arith; some_bits = omega arith; octets = refl }

@@ -1,4 +1,4 @@
--- All pixel groups of a raster, read as they are.
+-- All pgroups of a raster, read as they are.
 use Rattle.std.proofs.Common.{◌≡◌, ℕ, ◌*◌, ◌/◌, List, Option, Result, Ok, refl, ap}
 use Rattle.std.proofs.Common.{subst, arith}
 use Rattle.st_format.specs.declared.format.Format.{Format}

@@ -252,7 +252,7 @@ block_refused block behind bytes len none =
     ∙ ap (λ (r : Result Fields FileFault). with_rest r behind)
     (refused block (block_of block) own len none refl)
 
--- ---- the pixel groups, and the end
+-- ---- the pgroups, and the end
 
 pub nothing_fails : (octets : List ℕ) (e : FileFault) → nothing_at octets ≡ Err e
     → (TrailingBytes ≡ e) × (0 < length octets)

@@ -52,8 +52,3 @@ block_of block =
 
 unfoldable pub block_at : List ℕ → Result (Fields × List ℕ) FileFault
 block_at octets = field_at 14 octets >>= λ x. with_rest (block_of x.0) x.1
-
--- what a function made, by its fields
-abbrev pub fields_made : Result Format FileFault → Result Fields FileFault
-fields_made (Ok f) = Ok (fields_of f)
-fields_made (Err e) = Err e

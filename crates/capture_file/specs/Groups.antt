@@ -1,4 +1,4 @@
--- The cells of a pixel group as octets of a receiver's file (own).
+-- The cells of a pgroup as octets of a receiver's file (own).
 use Rattle.std.specs.Prelude.{◌≡◌, ℕ, zero, suc, ◌+◌, ◌*◌, ◌/◌, ◌%◌, ◌^◌, ◌<◌, ◌≤◌, Bool, true, not}
 use Rattle.std.specs.Prelude.{◌&&◌, ◌||◌, ◌==◌, nat_lt, if◌then◌else◌, List, [], ◌∷◌, ◌++◌, ◌⊎◌}
 use Rattle.std.specs.Prelude.{length, map, replicate, ⊤, Result, Ok, Err}
@@ -8,7 +8,7 @@ use Rattle.st_format.specs.declared.cell.Cell.{Cell}
 use Rattle.st_format.specs.declared.cell.Cell.TheVariants.{Missing, Value, Contested}
 use Rattle.st_format.specs.declared.sampling.Sampling.{Sampling}
 use Rattle.st_format.specs.declared.sampling.Depth.{Depth}
-use Rattle.st_format.specs.Cell.{is_missing}
+use Rattle.st_format.specs.Cell.{is_missing, known_value}
 use Rattle.st_format.specs.Pgroup.{bits_of, pixel_group}
 use Rattle.st_format.specs.Samples.{octets_in, values_in}
 use Rattle.capture_file.specs.declared.fault.FileFault.{FileFault}
@@ -16,7 +16,7 @@ use Rattle.capture_file.specs.declared.fault.FileFault.TheVariants.{BadField, Mi
 use Rattle.capture_file.specs.Fields.{field_at}
 use Rattle.st_format.specs.Reading.{◌>>=◌}
 
--- the octets and samples of a pixel group, and the bits of a sample
+-- the octets and samples of a pgroup, and the bits of a sample
 pub record Shape : Type 0 where
   pub octets : ℕ
   pub samples : ℕ
@@ -31,16 +31,11 @@ shape_of s b =
           bits_of b;
     }
 
--- a sample's bit of the mask, and its value: 0 where it has none
+-- a sample's bit of the mask
 abbrev pub contested_bit : Cell → ℕ
 contested_bit Missing = 0
 contested_bit (Value v) = 0
 contested_bit Contested = 1
-
-abbrev pub value_or_0 : Cell → ℕ
-value_or_0 Missing = 0
-value_or_0 (Value v) = v
-value_or_0 Contested = 0
 
 -- bit i, counted from the least significant, says that sample i is contested
 unfoldable pub mask_of : List Cell → ℕ
@@ -48,7 +43,7 @@ mask_of [] = 0
 mask_of (c ∷ cs) = contested_bit c + 2 * mask_of cs
 
 abbrev pub samples_text : Shape → List Cell → List ℕ
-samples_text s cells = octets_in s.bits (map value_or_0 cells)
+samples_text s cells = octets_in s.bits (map known_value cells)
 
 -- A group: 0 where all samples are missing; 1 and the octets where all have values; 2, the mask and
 -- the octets where some are contested.

@@ -42,21 +42,21 @@ pub record HasHead (octets : List ℕ) (format : Fields) (behind : List ℕ) : T
   pub is : IsFormat format
   pub whole : octets ≡ head_of format ++ behind
 
--- fewer octets behind the head than the pixel groups take
+-- fewer octets behind the head than the pgroups take
 pub record HasCutGroups (octets : List ℕ) : Type 0 where
   pub format : Fields
   pub behind : List ℕ
   pub head : HasHead octets format behind
   pub short : length behind < raster_octets format
 
--- more octets behind the head than the pixel groups take
+-- more octets behind the head than the pgroups take
 pub record HasTrailing (octets : List ℕ) : Type 0 where
   pub format : Fields
   pub behind : List ℕ
   pub head : HasHead octets format behind
   pub long : raster_octets format < length behind
 
--- The octets end within name or version, within the format block, or within the pixel groups.
+-- The octets end within name or version, within the format block, or within the pgroups.
 pub data IsCutPicture (octets : List ℕ) : Type 0 where
   Kind : IsCutKind octets → IsCutPicture octets
   Block : HasCutBlock octets → IsCutPicture octets

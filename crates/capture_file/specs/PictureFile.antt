@@ -24,15 +24,15 @@ pub record Shown : Type 0 where
 abbrev pub shown_of : Values → Shown
 shown_of p = record { format = fields_of p.format; samples = p.samples }
 
--- name, version and format block: what stands before the pixel groups
+-- name, version and format block: what stands before the pgroups
 abbrev pub head_of : Fields → List ℕ
 head_of f = kind_text picture_name One ++ format_text f
 
--- A picture's file: its head, and all pixel groups in raster order, packed.
+-- A picture's file: its head, and all pgroups in raster order, packed.
 unfoldable pub picture_text : Values → List ℕ
 picture_text p = head_of (fields_of p.format) ++ octets_in (bits_of p.format.depth) p.samples
 
--- how many octets the pixel groups of a raster take
+-- how many octets the pgroups of a raster take
 abbrev pub raster_octets : Fields → ℕ
 raster_octets f =
     f.height *

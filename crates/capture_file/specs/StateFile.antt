@@ -31,7 +31,7 @@ abbrev pub ssrc_text : Option ℕ → List ℕ
 ssrc_text None = 0 ∷ to_be_bytes w32 0
 ssrc_text (Some ssrc) = 1 ∷ to_be_bytes w32 ssrc
 
--- a timestamp, and its frame by pixel groups in raster order
+-- a timestamp, and its frame by pgroups in raster order
 pub record Held : Type 0 where
   pub timestamp : ℕ
   pub groups : List (List Cell)

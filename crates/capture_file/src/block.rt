@@ -1,10 +1,10 @@
 //! Format blocks.
 ghost use Rattle.std.specs.Prelude.{◌≡◌, length, IfErr, IfOk};
-ghost use Rattle.capture_file.specs.Blocks.{block_at, block_of, depth_of, fields_made, sampling_of};
+ghost use Rattle.capture_file.specs.Blocks.{block_at, block_of, depth_of, sampling_of};
 ghost use Rattle.capture_file.specs.Faults.{CountsDevice};
 ghost use Rattle.capture_file.specs.Fields.{Fails, Takes};
 ghost use Rattle.capture_file.specs.StateFile.{format_text, sampling_code};
-ghost use Rattle.st_format.specs.Fields.{fields_of};
+ghost use Rattle.st_format.specs.Fields.{fields_of, made_fields};
 
 use crate::fault::FileFault;
 use crate::front::read_field;
@@ -66,7 +66,7 @@ fn depth_in(code: u8) -> Result<Depth, FileFault>
 
 /// The format that fourteen octets say.
 fn format_in(block: &[u8; BLOCK]) -> Result<Format, FileFault>
-    ensures exact { fields_made result ≡ block_of block.now }
+    ensures exact { made_fields result ≡ block_of block.now }
     ensures fault { IfErr result (λ f. f ≡ FileFault.BadField) }
 {
     let sampling = sampling_in(block[0])?;

@@ -1,4 +1,4 @@
-//! Reading a picture's file as it is: its pixel groups stay packed.
+//! Reading a picture's file as it is: its pgroups stay packed.
 ghost use Rattle.std.specs.Prelude.{◌≡◌, ℕ, List, Some, length, IfErr, IfOk, MatchResult, OnOk};
 ghost use Rattle.std.specs.Io.KnownBytes.{IsAtEnd};
 ghost use Rattle.pgroup_pack.specs.Packing.{Agree};
@@ -20,7 +20,7 @@ use pgroup_pack::PackedPicture;
 use st_format::{ByteSource, Format};
 use std::alloc::Allocator;
 
-/// Reads a picture's file, of version 01, and leaves its pixel groups packed. They come into the
+/// Reads a picture's file, of version 01, and leaves its pgroups packed. They come into the
 /// memory of `room`, whatever that holds: only where it has too little memory is more taken. So the
 /// memory of one picture serves for the next.
 ///
@@ -49,7 +49,7 @@ pub fn read_packed_picture<A: Allocator, S: ByteSource>(
     read_all(source, room)
 }
 
-/// Reads the front, the pixel groups, and that nothing is behind them.
+/// Reads the front, the pgroups, and that nothing is behind them.
 fn read_all<A: Allocator, S: ByteSource>(
     source: &mut S,
     room: Vec<u8, A>,
@@ -68,7 +68,7 @@ fn read_all<A: Allocator, S: ByteSource>(
     Ok(PackedPicture::from_octets(format, octets))
 }
 
-/// Reads all pixel groups of a raster.
+/// Reads all pgroups of a raster.
 fn read_groups<A: Allocator, S: ByteSource>(
     source: &mut S,
     format: &Format,
@@ -88,7 +88,7 @@ fn read_groups<A: Allocator, S: ByteSource>(
     Ok(room)
 }
 
-/// How many octets all pixel groups of a raster take.
+/// How many octets all pgroups of a raster take.
 fn raster_octets(format: &Format) -> usize
     ensures { Agree format.now result (sample_count format.now) }
 {

@@ -27,7 +27,7 @@ use std::alloc::Allocator;
 ///
 /// The first fault in the order of the octets, or one of the memory or the device before it:
 /// `NoMemory`, `Device`, `BadName`, `BadVersion` (version 02 too), `Truncated`, `BadField`, or
-/// `TrailingBytes` where one octet was read behind the last pixel group.
+/// `TrailingBytes` where one octet was read behind the last pgroup.
 pub fn read_picture<A: Allocator, S: ByteSource>(
     alloc: A,
     source: &mut S,

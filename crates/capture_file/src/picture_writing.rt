@@ -15,7 +15,7 @@ use crate::pieces::{PIECE, piece_octets, piece_samples};
 use st_format::{ByteSink, DeviceFault, Format, Picture, write_whole};
 use std::alloc::Allocator;
 
-/// Writes a picture's file: name, version 01, format block, and the pixel groups packed. No memory
+/// Writes a picture's file: name, version 01, format block, and the pgroups packed. No memory
 /// is taken.
 ///
 /// # Errors
@@ -39,7 +39,7 @@ pub fn write_picture<A: Allocator, K: ByteSink>(
     Ok(())
 }
 
-/// Writes what stands before the pixel groups.
+/// Writes what stands before the pgroups.
 fn write_head<K: ByteSink>(sink: &mut K, format: &Format) -> Result<(), DeviceFault>
     ensures ok { OnOk result (Appends (K.held sink.old) (K.held sink.new)
         (head_of (fields_of format.now))) }

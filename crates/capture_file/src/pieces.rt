@@ -4,7 +4,7 @@ ghost use Rattle.st_format.specs.Pgroup.{bits_of};
 
 use st_format::{Depth, Format};
 
-/// How many octets are read or written at once: whole pixel groups of each format, as 360 octets
+/// How many octets are read or written at once: whole pgroups of each format, as 360 octets
 /// are.
 pub(crate) const PIECE: usize = 3600;
 

@@ -11,7 +11,8 @@ use Rattle.st_format.specs.declared.cell.Cell.{Cell}
 use Rattle.st_format.specs.declared.cell.Cell.TheVariants.{Missing}
 use Rattle.st_format.specs.Samples.{values_in}
 use Rattle.pgroup_pack.specs.Groups.{blanked_samples, blanked_from}
-use Rattle.frame_assembly.specs.Packed.{IsMark, IsPacked, cells_from, known_value, marked}
+use Rattle.frame_assembly.specs.Packed.{IsMark, IsPacked, cells_from, marked}
+use Rattle.st_format.specs.Cell.{known_value}
 use Rattle.frame_assembly.specs.Packed.{packed_cells}
 use Rattle.frame_assembly.specs.Rows.{given_from, replaced_cells}
 use Rattle.frame_assembly.proofs.PackedLemmas.{AreSizes, IsPacked-append, length-packed_cells}

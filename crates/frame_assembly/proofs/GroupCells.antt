@@ -9,10 +9,10 @@ use Rattle.std.proofs.lemmas.List.{drop_at, length-drop, length-take-le, take-ap
 use Rattle.std.proofs.lemmas.Nat.Bits.{bit_at-pow_other, bit_at-zero, bit_at_above, bit_at_cat_low}
 use Rattle.st_format.specs.declared.cell.Cell.{Cell}
 use Rattle.st_format.specs.declared.cell.Cell.TheVariants.{Missing, Value, Contested}
-use Rattle.st_format.specs.Cell.{is_contested, is_missing, is_present}
+use Rattle.st_format.specs.Cell.{is_contested, is_missing, is_present, known_value}
 use Rattle.st_format.specs.Samples.{Spells, values_in}
 use Rattle.st_format.proofs.WholeOctets.{Spells-values_in}
-use Rattle.frame_assembly.specs.Packed.{IsMark, IsPacked, cells_from, known_value, marked}
+use Rattle.frame_assembly.specs.Packed.{IsMark, IsPacked, cells_from, marked}
 use Rattle.frame_assembly.specs.Packed.{packed_cells}
 use Rattle.frame_assembly.specs.Rows.{IsMarkOf}
 use Rattle.frame_assembly.proofs.PackedLemmas.{AreSizes, groups_agree, length-cells_from}

@@ -10,11 +10,11 @@ use Rattle.std.proofs.lemmas.List.{append-nil, take_at}
 use Rattle.std.proofs.lemmas.Nat.Bits.{bit_at-lt, bit_at-zero, bit_at_or, shr_and_one}
 use Rattle.st_format.specs.declared.cell.Cell.{Cell}
 use Rattle.st_format.specs.declared.cell.Cell.TheVariants.{Missing, Value, Contested}
-use Rattle.st_format.specs.Cell.{join}
+use Rattle.st_format.specs.Cell.{join, known_value}
 use Rattle.st_format.specs.Raster.{joined_cells}
 use Rattle.st_format.specs.Samples.{values_in}
 use Rattle.pgroup_pack.specs.Groups.{blanked_samples, blanked_from, differs_at}
-use Rattle.frame_assembly.specs.Packed.{IsMark, IsPacked, Joins, cells_from, known_value, marked}
+use Rattle.frame_assembly.specs.Packed.{IsMark, IsPacked, Joins, cells_from, marked}
 use Rattle.frame_assembly.specs.Packed.{packed_cells}
 use Rattle.frame_assembly.proofs.PackedLemmas.{AreSizes, length-packed_cells, one_long}
 

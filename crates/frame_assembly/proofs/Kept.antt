@@ -14,7 +14,7 @@ use Rattle.st_format.specs.declared.format.Format.{Format}
 use Rattle.st_format.specs.Fit.{CellFits}
 use Rattle.st_format.specs.Pgroup.{bits_of, pixel_group}
 use Rattle.st_format.specs.Picture.{FitsDepth}
-use Rattle.st_format.specs.Position.{sample_count}
+use Rattle.st_format.specs.Position.{sample_count, group_count}
 use Rattle.st_format.specs.Raster.{Raster, cells_of, joined_cells, joined_rasters, offers_in_all}
 use Rattle.payload_header.specs.declared.payload.Segment.{Segment as SegmentView}
 use Rattle.payload_header.specs.declared.payload.PayloadView.{PayloadView}
@@ -24,7 +24,8 @@ use Rattle.st_format.specs.Samples.{bits, values_in}
 use Rattle.st_format.proofs.Spelled.{values_in-spelled}
 use Rattle.st_format.proofs.WholeOctets.{values_in-fit}
 use Rattle.frame_assembly.specs.Packed.{ArePacked, IsKept, IsMark, IsPacked, cells_from, cells_in}
-use Rattle.frame_assembly.specs.Packed.{group_count, known_value, marked, packed_cells}
+use Rattle.frame_assembly.specs.Packed.{marked, packed_cells}
+use Rattle.st_format.specs.Cell.{known_value}
 use Rattle.frame_assembly.proofs.PackedLemmas.{AreSizes, groups_agree, length-packed_cells, sizes}
 use Rattle.frame_assembly.proofs.GroupJoins.{AreMissing, packed_missing}
 use Rattle.frame_assembly.proofs.Segments.{cells_long, sample_count_groups}

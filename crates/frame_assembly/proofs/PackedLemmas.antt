@@ -11,13 +11,13 @@ use Rattle.st_format.specs.declared.sampling.Sampling.{Sampling}
 use Rattle.st_format.specs.declared.sampling.Sampling.TheVariants.{Ycc422, Ycc444, Rgb}
 use Rattle.st_format.specs.declared.sampling.Depth.{Depth}
 use Rattle.st_format.specs.declared.sampling.Depth.TheVariants.{D8, D10, D12, D16}
-use Rattle.st_format.specs.Cell.{join}
+use Rattle.st_format.specs.Cell.{join, known_value}
 use Rattle.st_format.specs.Pgroup.{bits_of, pixel_group}
 use Rattle.st_format.specs.Raster.{joined_cells}
 use Rattle.st_format.specs.Samples.{values_in}
 use Rattle.st_format.proofs.WholeOctets.{AllByRecursion-append}
 use Rattle.pgroup_pack.proofs.Values.{length-values_in, values_in-append}
-use Rattle.frame_assembly.specs.Packed.{IsMark, IsPacked, Joins, cells_from, known_value}
+use Rattle.frame_assembly.specs.Packed.{IsMark, IsPacked, Joins, cells_from}
 use Rattle.frame_assembly.specs.Packed.{packed_cells}
 
 -- A group's bits are those of its samples.

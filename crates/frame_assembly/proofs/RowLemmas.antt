@@ -5,10 +5,11 @@ use Rattle.std.proofs.lemmas.List.{get_or-drop, get_or-take, length-take}
 use Rattle.std.proofs.Math.Nat.{mul-add}
 use Rattle.st_format.specs.declared.format.Format.{Format}
 use Rattle.st_format.specs.Pgroup.{bits_of, pixel_group}
-use Rattle.st_format.specs.Position.{row_groups, row_samples}
+use Rattle.st_format.specs.Position.{row_groups, row_samples, group_count}
 use Rattle.st_format.specs.Raster.{Raster}
 use Rattle.st_format.specs.Samples.{Spells}
-use Rattle.frame_assembly.specs.Packed.{ArePacked, cells_in, group_count, known_value}
+use Rattle.frame_assembly.specs.Packed.{ArePacked, cells_in}
+use Rattle.st_format.specs.Cell.{known_value}
 use Rattle.frame_assembly.specs.Rows.{IsMarkOf, group_cells, row_cells}
 use Rattle.frame_assembly.proofs.PackedLemmas.{sizes}
 use Rattle.frame_assembly.proofs.Runs.{times_le}

@@ -11,7 +11,8 @@ use Rattle.st_format.specs.declared.cell.Cell.{Cell}
 use Rattle.st_format.specs.declared.cell.Cell.TheVariants.{Missing, Value, Contested}
 use Rattle.st_format.specs.Samples.{Spells, values_in}
 use Rattle.st_format.proofs.WholeOctets.{Spells-values_in, one_spelling}
-use Rattle.frame_assembly.specs.Packed.{IsMark, IsPacked, cells_from, known_value, marked}
+use Rattle.frame_assembly.specs.Packed.{IsMark, IsPacked, cells_from, marked}
+use Rattle.st_format.specs.Cell.{known_value}
 use Rattle.frame_assembly.specs.Packed.{packed_cells}
 use Rattle.frame_assembly.proofs.PackedLemmas.{AreSizes, first_long, first_part, groups_agree}
 use Rattle.frame_assembly.proofs.PackedLemmas.{length-cells_from, one_long, rest_long, second_part}

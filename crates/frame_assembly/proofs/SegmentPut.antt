@@ -8,7 +8,8 @@ use Rattle.st_format.specs.Pgroup.{bits_of, pixel_group}
 use Rattle.st_format.specs.Raster.{Segment, cells_of, joined_cells, offers_in}
 use Rattle.st_format.specs.Samples.{values_in}
 use Rattle.payload_header.specs.Payload.{IsInside}
-use Rattle.frame_assembly.specs.Packed.{AreJoined, ArePacked, cells_in, group_count, whole_marks}
+use Rattle.frame_assembly.specs.Packed.{AreJoined, ArePacked, cells_in, whole_marks}
+use Rattle.st_format.specs.Position.{group_count}
 use Rattle.frame_assembly.specs.Written.{written_from}
 use Rattle.frame_assembly.proofs.PackedLemmas.{sizes}
 use Rattle.frame_assembly.proofs.Put.{segment_written}

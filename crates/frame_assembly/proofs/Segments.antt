@@ -18,15 +18,15 @@ use Rattle.st_format.specs.declared.sampling.Sampling.TheVariants.{Ycc422, Ycc44
 use Rattle.st_format.specs.declared.sampling.Depth.{Depth}
 use Rattle.st_format.specs.declared.sampling.Depth.TheVariants.{D8, D10, D12, D16}
 use Rattle.st_format.specs.declared.format.Format.{Format}
-use Rattle.st_format.specs.Cell.{join}
+use Rattle.st_format.specs.Cell.{join, known_value}
 use Rattle.st_format.specs.Pgroup.{bits_of, pixel_group}
-use Rattle.st_format.specs.Position.{row_groups, row_samples, sample_count}
+use Rattle.st_format.specs.Position.{row_groups, row_samples, sample_count, group_count}
 use Rattle.st_format.specs.Raster.{Segment, first_number, joined_cells}
 use Rattle.st_format.specs.Samples.{values_in}
 use Rattle.st_format.proofs.Columns.{row_samples_groups, samples_before}
 use Rattle.payload_header.specs.Payload.{IsInside}
-use Rattle.frame_assembly.specs.Packed.{IsMark, IsPacked, Joins, cells_from, group_count}
-use Rattle.frame_assembly.specs.Packed.{known_value, marked, packed_cells, whole_marks}
+use Rattle.frame_assembly.specs.Packed.{IsMark, IsPacked, Joins, cells_from}
+use Rattle.frame_assembly.specs.Packed.{marked, packed_cells, whole_marks}
 use Rattle.frame_assembly.specs.Written.{written_from}
 use Rattle.frame_assembly.proofs.PackedLemmas.{AreSizes, IsPacked-append, both_values, first_long}
 use Rattle.frame_assembly.proofs.PackedLemmas.{length-groups, length-packed_cells, one_long}

@@ -8,7 +8,7 @@ use Rattle.st_format.specs.declared.format.Format.{Format}
 use Rattle.st_format.specs.Fit.{CellFits, IsFrame}
 use Rattle.st_format.specs.Pgroup.{pixel_group}
 use Rattle.st_format.specs.Picture.{FitsDepth, IsPicture, Values}
-use Rattle.st_format.specs.Position.{Position, number_of, place, places, sample_count}
+use Rattle.st_format.specs.Position.{Position, number_of, place, places, sample_count, group_count}
 use Rattle.st_format.specs.Raster.{Raster, cell_at}
 use Rattle.st_format.proofs.Fits.{cell_number-fits, each_fits, value_number-fits}
 use Rattle.st_format.proofs.Numbering.{number_of-place}
@@ -16,7 +16,6 @@ use Rattle.st_format.proofs.PictureLemmas.{component-place}
 use Rattle.st_format.proofs.Rasters.{map-map, map_same}
 use Rattle.frame_assembly.specs.declared.base.Base.{Base}
 use Rattle.frame_assembly.specs.declared.base.Base.TheVariants.{Fill, Hold}
-use Rattle.frame_assembly.specs.Packed.{group_count}
 use Rattle.frame_assembly.specs.Settled.{HoldsPicture, IsBaseOf, base_number, base_value}
 use Rattle.frame_assembly.specs.Settled.{settled_picture}
 use Rattle.frame_assembly.specs.Settled.{settled_cell, settled_numbers}

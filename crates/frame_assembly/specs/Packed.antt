@@ -1,4 +1,4 @@
--- How a frame keeps its cells: packed octets, and a mark word for each pixel group (own).
+-- How a frame keeps its cells: packed octets, and a mark word for each pgroup (own).
 use Rattle.std.specs.Prelude.{◌≡◌, ℕ, ◌+◌, ◌*◌, ◌/◌, ◌<◌, ◌≤◌, ◌==◌, if◌then◌else◌, List, [], ◌∷◌}
 use Rattle.std.specs.Prelude.{◌++◌, ◌⊎◌, length, map, take, drop, replicate}
 use Rattle.std.specs.Int.{bit_at}
@@ -6,8 +6,10 @@ use Rattle.std.specs.List.{AllByRecursion}
 use Rattle.st_format.specs.declared.cell.Cell.{Cell}
 use Rattle.st_format.specs.declared.cell.Cell.TheVariants.{Missing, Value, Contested}
 use Rattle.st_format.specs.declared.format.Format.{Format}
+use Rattle.st_format.specs.Cell.{known_value}
 use Rattle.st_format.specs.Fit.{IsFrame}
 use Rattle.st_format.specs.Pgroup.{bits_of, pixel_group}
+use Rattle.st_format.specs.Position.{group_count}
 use Rattle.st_format.specs.Raster.{joined_cells}
 use Rattle.st_format.specs.Samples.{values_in}
 
@@ -29,12 +31,6 @@ packed_cells n size [] octets = []
 packed_cells n size (mark ∷ marks) octets =
     cells_from mark 0 (values_in n (take size octets)) ++ packed_cells n size marks
     (drop size octets)
-
--- the octets' value for a sample: 0 where none is known
-unfoldable pub known_value : Cell → ℕ
-known_value Missing = 0
-known_value (Value v) = v
-known_value Contested = 0
 
 -- 0 for a missing group; else bit 15 and no bit of a sample that the group hasn't
 unfoldable pub IsMark : ℕ → ℕ → Type 0
@@ -74,10 +70,6 @@ AreJoined f marks octets other_marks others new_marks new_octets =
 -- the marks of groups of which each sample is offered
 abbrev pub whole_marks : ℕ → List ℕ
 whole_marks count = replicate count 32768
-
--- how many groups a raster has
-abbrev pub group_count : Format → ℕ
-group_count f = f.height * (f.width / (pixel_group f.sampling f.depth).pixels)
 
 -- What a frame keeps: all groups of its raster; so its cells are a frame's
 pub record IsKept (f : Format) (marks octets : List ℕ) : Type 0 where

@@ -1,4 +1,4 @@
--- What a frame tells of its rows and pixel groups, in the words of its cells (own).
+-- What a frame tells of its rows and pgroups, in the words of its cells (own).
 use Rattle.std.specs.Prelude.{◌≡◌, ◌≢◌, ◌⊎◌, ℕ, ◌+◌, ◌*◌, ◌<◌, ◌≤◌, ◌==◌, Bool, true, false}
 use Rattle.std.specs.Prelude.{if◌then◌else◌, List, [], ◌∷◌, ◌++◌, length, take, drop}
 use Rattle.std.specs.Prelude.{slice_index_or, replicate}

@@ -3,13 +3,12 @@ ghost use Rattle.std.specs.Prelude.{◌≡◌, ◌<◌, ◌≤◌, ◌↔◌, �
 ghost use Rattle.std.specs.Prelude.{slice_index};
 ghost use Rattle.std.specs.Int.{bit_at};
 ghost use Rattle.frame_assembly.specs.Kinds.{AreCounts};
-ghost use Rattle.frame_assembly.specs.Packed.{known_value};
+ghost use Rattle.st_format.specs.Cell.{known_value, is_contested, is_missing, is_present, join};
 ghost use Rattle.frame_assembly.specs.Rows.{GroupsAreWhole, IsMarkOf, IsStateOf, given_cells};
 ghost use Rattle.frame_assembly.specs.Rows.{group_cells, replaced_cells, row_cells};
 ghost use Rattle.frame_assembly.specs.Settled.{IsBaseOf, settled_picture};
 ghost use Rattle.pgroup_pack.specs.Groups.{blanked_samples};
 ghost use Rattle.payload_header.specs.View.{segments_of};
-ghost use Rattle.st_format.specs.Cell.{is_contested, is_missing, is_present, join};
 ghost use Rattle.st_format.specs.Fit.{ValuesFit};
 ghost use Rattle.st_format.specs.Offer.{cell_of};
 ghost use Rattle.st_format.specs.Picture.{IsPicture};

@@ -1,4 +1,4 @@
-//! Joining pixel groups as a frame keeps them: packed octets, and a mark word for each group.
+//! Joining pgroups as a frame keeps them: packed octets, and a mark word for each group.
 ghost use Rattle.std.specs.Prelude.{◌≡◌, ◌<◌, ◌≤◌, ◌*◌, ◌↔◌, ℕ, [], ◌∷◌, IsTrue, length};
 ghost use Rattle.std.specs.Prelude.{slice_index};
 ghost use Rattle.frame_assembly.specs.Packed.{AreJoined, ArePacked, cells_in, marked};

@@ -1,6 +1,7 @@
 //! Joining what segments offer to the groups of a frame.
 ghost use Rattle.std.specs.Prelude.{◌≡◌, ◌<◌, ◌≤◌, ◌+◌, ◌*◌, ◌/◌, ℕ, length, All, map};
-ghost use Rattle.frame_assembly.specs.Packed.{AreJoined, ArePacked, cells_in, group_count};
+ghost use Rattle.frame_assembly.specs.Packed.{AreJoined, ArePacked, cells_in};
+ghost use Rattle.st_format.specs.Position.{group_count};
 ghost use Rattle.frame_assembly.specs.Packed.{whole_marks};
 ghost use Rattle.payload_header.specs.Payload.{IsInside, seen_segment};
 ghost use Rattle.st_format.specs.Pgroup.{pixel_group};

@@ -2,12 +2,13 @@
 ghost use Rattle.std.specs.Prelude.{◌≡◌, ◌<◌, ◌≤◌, ◌+◌, ◌*◌, ◌/◌, ◌==◌, ℕ, List, [], ◌∷◌, length};
 ghost use Rattle.std.specs.Prelude.{map, slice_index, take, drop};
 ghost use Rattle.std.specs.Int.{bit_at};
-ghost use Rattle.frame_assembly.specs.Packed.{ArePacked, cells_in, group_count, known_value};
+ghost use Rattle.frame_assembly.specs.Packed.{ArePacked, cells_in};
+ghost use Rattle.st_format.specs.Cell.{known_value};
 ghost use Rattle.frame_assembly.specs.Rows.{IsMarkOf, IsStateOf, given_cells, group_cells};
 ghost use Rattle.frame_assembly.specs.Rows.{replaced_cells, row_cells};
 ghost use Rattle.pgroup_pack.specs.Groups.{blanked_samples};
 ghost use Rattle.st_format.specs.Pgroup.{bits_of, pixel_group};
-ghost use Rattle.st_format.specs.Position.{group_start, row_groups, row_octets};
+ghost use Rattle.st_format.specs.Position.{group_start, row_groups, row_octets, group_count};
 ghost use Rattle.st_format.specs.Samples.{Spells, values_in};
 ghost use Rattle.st_format.specs.declared.cell.Cell.{Cell};
 

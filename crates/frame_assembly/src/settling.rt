@@ -2,11 +2,11 @@
 ghost use Rattle.std.specs.Prelude.{◌≡◌, ◌<◌, ◌≤◌, ◌+◌, ◌-◌, ◌*◌, ◌%◌, ◌↔◌, ℕ, List, IfOk, IsTrue};
 ghost use Rattle.std.specs.Prelude.{length, map, slice_index};
 ghost use Rattle.std.specs.List.{range_with_len};
-ghost use Rattle.frame_assembly.specs.Packed.{ArePacked, cells_in, group_count, marked};
+ghost use Rattle.frame_assembly.specs.Packed.{ArePacked, cells_in, marked};
 ghost use Rattle.frame_assembly.specs.Settled.{HoldsPicture, IsBaseOf, IsSettledTo, base_number};
 ghost use Rattle.frame_assembly.specs.Settled.{settled_cell, settled_numbers};
 ghost use Rattle.st_format.specs.Pgroup.{pixel_group};
-ghost use Rattle.st_format.specs.Position.{component_in_row};
+ghost use Rattle.st_format.specs.Position.{component_in_row, group_count};
 
 use crate::base::Base;
 use crate::groups::{BLOCK, PRESENT, are_missing, marked_cell};

@@ -1,6 +1,6 @@
-//! What is known of a pixel group as a whole.
+//! What is known of a pgroup as a whole.
 
-/// What is known of the samples of a pixel group.
+/// What is known of the samples of a pgroup.
 #[derive(Clone, Copy, Debug, PartialEq, Eq)]
 pub enum GroupState {
     /// All are missing.

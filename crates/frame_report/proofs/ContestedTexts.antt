@@ -1,4 +1,4 @@
--- The lines of a pixel group's mark word are those of its contested samples.
+-- The lines of a pgroup's mark word are those of its contested samples.
 use Rattle.std.proofs.Common.{◌≡◌, ℕ, zero, suc, ◌+◌, ◌-◌, ◌*◌, ◌<◌, ◌≤◌, Bool, true, false}
 use Rattle.std.proofs.Common.{eqb, List, [], ◌∷◌, ◌++◌, length, get_or, drop, refl, sym}
 use Rattle.std.proofs.Common.{ap, ◌∙◌, inl, inr, if◌then◌else◌, cond, count_by, arith}

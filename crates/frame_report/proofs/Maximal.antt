@@ -16,7 +16,7 @@ use Rattle.packet_numbers.specs.Numbers.{AreMissingRuns}
 use Rattle.packet_numbers.proofs.Runs.{are_missing_runs}
 use Rattle.frame_report.specs.Missing.{known_groups, missing_runs_in}
 
--- so many columns have at least one pixel group, and at most one for each
+-- so many columns have at least one pgroup, and at most one for each
 groups_of : (s : Sampling) (d : Depth) (w : ℕ) → 2 ≤ w → w % 2 ≡ 0
     → w % (pixel_group s d).pixels ≡ 0
     → (1 ≤ w / (pixel_group s d).pixels) × (w / (pixel_group s d).pixels ≤ w)

@@ -30,12 +30,12 @@ abbrev pub contested_at : Raster → Position → List ℕ
 contested_at r p =
     if is_contested (cell_at r p) then contested_line r.format.sampling p else []
 
--- those of a pixel group, in the order in which its samples are sent
+-- those of a pgroup, in the order in which its samples are sent
 abbrev pub contested_in_group : Raster → ℕ → ℕ → List ℕ
 contested_in_group r row group =
     flat_map (contested_at r) (group_positions r.format row group)
 
--- those of a row, pixel group by pixel group from the left
+-- those of a row, pgroup by pgroup from the left
 abbrev pub contested_in_row : Raster → ℕ → List ℕ
 contested_in_row r row =
     flat_map (contested_in_group r row) (range_with_len 0 (row_groups r.format))

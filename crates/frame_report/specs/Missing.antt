@@ -1,4 +1,4 @@
--- The lines of the missing pixel groups of a frame (own).
+-- The lines of the missing pgroups of a frame (own).
 use Rattle.std.specs.Prelude.{ℕ, ◌+◌, ◌-◌, ◌*◌, ◌==◌, Bool, List, ◌++◌, map, not, codes}
 use Rattle.std.specs.Int.{bit_at}
 use Rattle.std.specs.List.{flat_map, list_all, range_with_len}
@@ -10,7 +10,7 @@ use Rattle.frame_assembly.specs.Rows.{group_cells}
 use Rattle.packet_numbers.specs.Numbers.{Numbers, missing_runs_of}
 use Rattle.frame_report.specs.Gathers.{numbered_word}
 
--- Of a row's pixel groups, from the left, whether something is known of them: a group is missing
+-- Of a row's pgroups, from the left, whether something is known of them: a group is missing
 -- where all its samples are.
 abbrev pub known_groups : Raster → ℕ → Numbers
 known_groups r row = record {

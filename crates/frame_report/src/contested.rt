@@ -44,7 +44,7 @@ pub(crate) fn put_contested<A: Allocator, K: ByteSink>(
     put_rows::<ContestedSamples, A, K>(page, sink, frame)
 }
 
-/// The lines of the contested samples, pixel group by pixel group.
+/// The lines of the contested samples, pgroup by pgroup.
 struct ContestedSamples;
 
 impl RowLines for ContestedSamples {

@@ -1,4 +1,4 @@
-//! What a receiver lacks, as text (own): the counts of each frame, its missing runs of pixel groups
+//! What a receiver lacks, as text (own): the counts of each frame, its missing runs of pgroups
 //! and its contested samples.
 //!
 //! What a report says is told by `report_text`.

@@ -1,4 +1,4 @@
-//! The lines of missing pixel groups.
+//! The lines of missing pgroups.
 ghost use Rattle.std.specs.Prelude.{◌≡◌, ◌==◌, ◌≤◌, ◌<◌, ◌+◌, ◌++◌, OnErr, OnOk};
 ghost use Rattle.std.specs.Prelude.{count_by, length};
 ghost use Rattle.std.specs.Int.{bit_at};

@@ -17,7 +17,7 @@ use std::alloc::Allocator;
 
 /// Writes what a receiver lacks, as text: a line of what it was opened with; for each timestamp of
 /// its window, in window order, a line of how many samples are present, missing and contested, a
-/// line for each maximal run of missing pixel groups of a row, and a line for each contested
+/// line for each maximal run of missing pgroups of a row, and a line for each contested
 /// sample; and a last line. No memory is taken.
 ///
 /// # Errors

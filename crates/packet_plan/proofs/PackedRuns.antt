@@ -12,7 +12,8 @@ use Rattle.st_format.proofs.Spelled.{joined_length}
 use Rattle.st_format.proofs.SpelledOctets.{octets_in-spelled}
 use Rattle.pgroup_pack.proofs.Parts.{all_first, all_rest, spelled_first, spelled_rest}
 use Rattle.packet_plan.specs.declared.run.PacketRun.{PacketRun}
-use Rattle.packet_plan.specs.Plan.{group_count, group_octets, row_groups}
+use Rattle.packet_plan.specs.Plan.{group_octets}
+use Rattle.st_format.specs.Position.{row_groups, group_count}
 use Rattle.packet_plan.specs.Sent.{group_samples, run_values}
 use Rattle.packet_plan.specs.Text.{HasHead, run_octets}
 use Rattle.packet_plan.proofs.RunLemmas.{count_is, group_below, run_slice, run_within}

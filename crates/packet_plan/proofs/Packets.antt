@@ -18,7 +18,8 @@ use Rattle.st_format.specs.Pgroup.{pixel_group}
 use Rattle.packet_plan.specs.Greedy.{room, reach, next, cut, packet_from}
 use Rattle.packet_plan.specs.declared.run.PacketRun.{PacketRun}
 use Rattle.packet_plan.specs.Plan.{IsSize, RowsRise, one_more, HasRoom, IsRun, IsPacket}
-use Rattle.packet_plan.specs.Plan.{row_groups, group_count, group_octets, numbers, groups_in}
+use Rattle.packet_plan.specs.Plan.{group_octets, numbers, groups_in}
+use Rattle.st_format.specs.Position.{row_groups, group_count}
 
 -- ---- ranges
 
@@ -129,7 +130,6 @@ some_pixels Rgb D12 w h e = le-div 1 w 2 (omega arith) (omega arith)
 some_pixels Rgb D16 w h e = le-div 1 w 1 (omega arith) (omega arith)
 
 pub some_groups : (f : Format) → 0 < row_groups f
-unfolding row_groups
 some_groups f =
     some_pixels f.sampling f.depth f.width f.whole_width.least f.whole_width.whole_groups
 

@@ -18,11 +18,12 @@ use Rattle.st_format.specs.declared.sampling.Depth.{Depth}
 use Rattle.st_format.specs.declared.sampling.Depth.TheVariants.{D8, D10, D12, D16}
 use Rattle.st_format.specs.Pgroup.{pixel_group, bits_of}
 use Rattle.st_format.specs.Picture.{Values, IsPicture, FitsDepth}
-use Rattle.st_format.specs.Position.{run_columns, run_samples, sample_count}
+use Rattle.st_format.specs.Position.{run_columns, run_samples, sample_count, row_groups}
 use Rattle.pgroup_pack.specs.Packing.{Agree}
 use Rattle.payload_header.specs.Payload.{group_of}
 use Rattle.packet_plan.specs.declared.run.PacketRun.{PacketRun}
-use Rattle.packet_plan.specs.Plan.{IsRun, row_groups, group_count, group_octets, groups_in, numbers}
+use Rattle.packet_plan.specs.Plan.{IsRun, group_octets, groups_in, numbers}
+use Rattle.st_format.specs.Position.{group_count}
 use Rattle.packet_plan.specs.Sent.{sample, group_samples, group_values, run_values}
 use Rattle.packet_plan.specs.Text.{HasHead, run_octets}
 use Rattle.st_format.proofs.SpelledOctets.{length-octets_in}
@@ -63,7 +64,6 @@ columns_of s d w = div-mul-le_self w (pixel_group s d).pixels
 -- a run lies in the columns
 pub columns : (f : Format) (r : PacketRun) → IsRun f r
     → (r.first + r.groups) * (group_of f).pixels ≤ f.width
-unfolding row_groups
 columns f r is =
     let more =
     mul-le (r.first + r.groups) (group_of f).pixels (row_groups f)
@@ -125,7 +125,6 @@ row_by Rgb D16 w e = omega arith
 
 -- the samples of all groups are all samples
 pub count_is : (f : Format) → group_count f * group_samples f ≡ sample_count f
-unfolding row_groups
 count_is f =
     mul_assoc f.height (f.width / (group_of f).pixels) (group_samples f)
     ∙ ap (λ (k : ℕ). f.height * k) (row_by f.sampling f.depth f.width f.whole_width.whole_groups)

@@ -1,4 +1,4 @@
--- Pixel groups as bits: those of a group's samples are those of its octets.
+-- Pgroups as bits: those of a group's samples are those of its octets.
 use Rattle.std.proofs.Common.{◌≡◌, ℕ, ◌*◌, refl, ap, ◌∙◌, arith}
 use Rattle.st_format.specs.Pgroup.{pixel_group, bits_of}
 use Rattle.st_format.specs.declared.sampling.Sampling.{Sampling}

@@ -19,7 +19,8 @@ use Rattle.payload_header.specs.declared.writing.SegmentHead.{SegmentHead}
 use Rattle.payload_header.proofs.Written.{is_written_payload}
 use Rattle.packet_plan.specs.declared.run.PacketRun.{PacketRun}
 use Rattle.packet_plan.specs.declared.stamp.Stamp.{Stamp}
-use Rattle.packet_plan.specs.Plan.{IsPacket, IsRasterPlan, group_octets, group_count, numbers}
+use Rattle.packet_plan.specs.Plan.{IsPacket, IsRasterPlan, group_octets, numbers}
+use Rattle.st_format.specs.Position.{group_count}
 use Rattle.packet_plan.specs.Plan.{packet_octets, IsFullPlan, RasterPlan, packet_at}
 use Rattle.packet_plan.specs.Sent.{Carries, run_values, IsSentPacket, IsSentPicture, AreSent}
 use Rattle.packet_plan.specs.Sent.{is_empty}

@@ -5,7 +5,8 @@ use Rattle.std.specs.List.{flat_map, range_with_len, AllByRecursion}
 use Rattle.st_format.specs.declared.format.Format.{Format}
 use Rattle.packet_plan.specs.declared.run.PacketRun.{PacketRun}
 use Rattle.packet_plan.specs.Plan.{IsSize, IsFullPlan, IsPacket, IsRasterPlan, NoneHasRoom}
-use Rattle.packet_plan.specs.Plan.{RowsRise, row_groups, group_count, numbers, packet_octets}
+use Rattle.packet_plan.specs.Plan.{RowsRise, numbers, packet_octets}
+use Rattle.st_format.specs.Position.{row_groups, group_count}
 use Rattle.packet_plan.specs.Greedy.{next, packet_from, IsWalk}
 use Rattle.packet_plan.proofs.Packets.{range-append, from_numbers, from_packet, from_differ}
 use Rattle.packet_plan.proofs.Packets.{next_room, next_below, no_room, ahead, some_groups}
@@ -154,7 +155,6 @@ walk_count f size k (s ∷ ss) fits le h =
     omega arith
 
 pub group_count_most : (f : Format) → group_count f ≤ 8192 * 8192
-unfolding row_groups
 group_count_most f =
     let columns : f.width / (group_of f).pixels ≤ 8192 =
     omega (arith, div-le_self f.width (group_of f).pixels, f.whole_width.most) in

@@ -1,12 +1,13 @@
 -- The plan that is made: packets filled one after another (own). A packet is known by the number of
--- its first pixel group.
+-- its first pgroup.
 use Rattle.std.specs.Prelude.{◌≡◌, ℕ, zero, suc, ◌+◌, ◌-◌, ◌*◌, ◌/◌, ◌%◌, ◌<◌, min, max, List, []}
 use Rattle.std.specs.Prelude.{◌∷◌}
 use Rattle.st_format.specs.declared.format.Format.{Format}
 use Rattle.packet_plan.specs.declared.run.PacketRun.{PacketRun}
-use Rattle.packet_plan.specs.Plan.{group_octets, row_groups, group_count}
+use Rattle.packet_plan.specs.Plan.{group_octets}
+use Rattle.st_format.specs.Position.{row_groups, group_count}
 
--- how many pixel groups fit behind this many heads
+-- how many pgroups fit behind this many heads
 unfoldable pub room : Format → ℕ → ℕ → ℕ
 room f size count = (size - (14 + 6 * count)) / group_octets f
 

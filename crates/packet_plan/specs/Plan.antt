@@ -1,39 +1,33 @@
--- Raster plans: which pixel groups each packet of a picture carries (SMPTE ST 2110-20, general
+-- Raster plans: which pgroups each packet of a picture carries (SMPTE ST 2110-20, general
 -- packing mode; RFC 4175, 4.3).
-use Rattle.std.specs.Prelude.{◌≡◌, ℕ, ◌+◌, ◌*◌, ◌/◌, ◌<◌, ◌≤◌, ◌==◌, if◌then◌else◌, List, [], ◌∷◌}
+use Rattle.std.specs.Prelude.{◌≡◌, ℕ, ◌+◌, ◌*◌, ◌<◌, ◌≤◌, ◌==◌, if◌then◌else◌, List, [], ◌∷◌}
 use Rattle.std.specs.Prelude.{length, slice_index_or}
 use Rattle.std.specs.List.{flat_map, range_with_len, AllByRecursion}
 use Rattle.st_format.specs.declared.format.Format.{Format}
+use Rattle.st_format.specs.Position.{group_count, row_groups}
 use Rattle.payload_header.specs.Payload.{group_of, most_segments}
 use Rattle.packet_plan.specs.declared.run.PacketRun.{PacketRun}
 
--- how many octets a pixel group has
+-- how many octets a pgroup has
 unfoldable pub group_octets : Format → ℕ
 group_octets f = (group_of f).octets
 
--- how many pixel groups a row has, and a raster
-unfoldable pub row_groups : Format → ℕ
-row_groups f = f.width / (group_of f).pixels
-
-abbrev pub group_count : Format → ℕ
-group_count f = f.height * row_groups f
-
--- A run is some pixel groups, at least one, of one row (RFC 4175, 4.3).
+-- A run is some pgroups, at least one, of one row (RFC 4175, 4.3).
 pub record IsRun (f : Format) (r : PacketRun) : Type 0 where
   pub some : 1 ≤ r.groups
   pub inside : r.first + r.groups ≤ row_groups f
 
--- Pixel groups are numbered in raster order. The numbers of a run's groups
+-- Pgroups are numbered in raster order. The numbers of a run's groups
 abbrev pub numbers : Format → PacketRun → List ℕ
 numbers f r = range_with_len (r.row * row_groups f + r.first) r.groups
 
--- how many pixel groups runs have
+-- how many pgroups runs have
 abbrev pub groups_in : List PacketRun → ℕ
 groups_in [] = 0
 groups_in (r ∷ rs) = r.groups + groups_in rs
 
 -- how long a packet is: the RTP header of 12 octets, the extended number of two, a header of six
--- for each run, and the pixel groups (RFC 3550, 5.1; RFC 4175, 4)
+-- for each run, and the pgroups (RFC 3550, 5.1; RFC 4175, 4)
 abbrev pub packet_octets : Format → List PacketRun → ℕ
 packet_octets f p = 14 + 6 * length p + group_octets f * groups_in p
 
@@ -44,7 +38,7 @@ pub record IsPacket (f : Format) (size : ℕ) (p : List PacketRun) : Type 0 wher
   pub runs : AllByRecursion (IsRun f) p
   pub fits : packet_octets f p ≤ size
 
--- The runs of all packets, joined, are all pixel groups in raster order, each once (SMPTE ST
+-- The runs of all packets, joined, are all pgroups in raster order, each once (SMPTE ST
 -- 2110-20, general packing mode).
 pub record IsRasterPlan (packets : List (List PacketRun)) (f : Format) (size : ℕ) : Type 0 where
   pub each : AllByRecursion (IsPacket f size) packets
@@ -55,7 +49,7 @@ abbrev pub RowsRise : List PacketRun → Type 0
 RowsRise [] = Unit {0}
 RowsRise (r ∷ rs) = AllByRecursion (λ s. r.row < s.row) rs × RowsRise rs
 
--- a packet with one pixel group more, the next of the raster: in its last run, or in a new run
+-- a packet with one pgroup more, the next of the raster: in its last run, or in a new run
 -- where a row begins (own)
 unfoldable pub one_more : Format → List PacketRun → List PacketRun
 one_more f [] = []
@@ -76,7 +70,7 @@ NoneHasRoom [] f size = Unit {0}
 NoneHasRoom (p ∷ []) f size = Unit {0}
 NoneHasRoom (p ∷ q ∷ ps) f size = (HasRoom p f size → ⊥) × NoneHasRoom (q ∷ ps) f size
 
--- The sizes of packets that plans are made for: room for a run of one pixel group, and at most 9000
+-- The sizes of packets that plans are made for: room for a run of one pgroup, and at most 9000
 -- octets (own).
 pub record IsSize (size : ℕ) (f : Format) : Type 0 where
   pub least : 20 + group_octets f ≤ size

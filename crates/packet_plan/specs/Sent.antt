@@ -18,16 +18,16 @@ use Rattle.packet_plan.specs.Plan.{numbers, IsRasterPlan}
 abbrev pub sample : Values → ℕ → ℕ
 sample p k = slice_index p.samples k
 
--- how many samples a pixel group has
+-- how many samples a pgroup has
 abbrev pub group_samples : Format → ℕ
 group_samples f = (group_of f).samples
 
--- the values of a pixel group, by its number, in the order in which they are sent (RFC 4175, 4.3)
+-- the values of a pgroup, by its number, in the order in which they are sent (RFC 4175, 4.3)
 abbrev pub group_values : Values → ℕ → List ℕ
 group_values p g =
     map (sample p) (range_with_len (g * group_samples p.format) (group_samples p.format))
 
--- the values of a run's pixel groups
+-- the values of a run's pgroups
 abbrev pub run_values : Values → PacketRun → List ℕ
 run_values p r = flat_map (group_values p) (numbers p.format r)
 

@@ -1,7 +1,8 @@
 //! Packets filled one after another. A packet is known by its first pgroup, and pgroups are
 //! numbered in raster order.
 ghost use Rattle.std.specs.Prelude.{◌≡◌, ◌<◌, ◌≤◌, ◌+◌, ◌*◌, IfOk};
-ghost use Rattle.packet_plan.specs.Plan.{IsSize, group_count, group_octets, row_groups};
+ghost use Rattle.packet_plan.specs.Plan.{IsSize, group_octets};
+ghost use Rattle.st_format.specs.Position.{row_groups, group_count};
 ghost use Rattle.packet_plan.specs.Greedy.{IsWalk, next, packet_from, room};
 
 use crate::run::PacketRun;
@@ -10,7 +11,6 @@ use st_format::Format;
 use std::alloc::{AllocError, Allocator};
 
 /// How many pgroups a row has.
-#[tactic(auto, unfolding(crate::specs::Plan::row_groups))]
 pub(crate) fn row_groups_of(format: &Format) -> u32
     ensures value { result ≡ row_groups format.now }
     ensures some { 0 < row_groups format.now }

@@ -88,7 +88,8 @@ pub struct Plan<A: Allocator = Global> {
 
 impl<A: Allocator> Model for Plan<A> {
     ghost use Rattle.std.specs.Prelude.{map};
-    ghost use Rattle.packet_plan.specs.Plan.{IsSize, RasterPlan, group_count};
+    ghost use Rattle.packet_plan.specs.Plan.{IsSize, RasterPlan};
+ghost use Rattle.st_format.specs.Position.{group_count};
     ghost use Rattle.packet_plan.specs.Greedy.{IsWalk, packet_from};
 
     ghost Value = { RasterPlan };
@@ -199,7 +200,7 @@ impl<A: Allocator> Plan<A> {
         self.write_packet(index, picture, stamp, buf)
     }
 
-    /// Writes the datagram of a packet of a picture whose pixel groups are packed, which are copied
+    /// Writes the datagram of a packet of a picture whose pgroups are packed, which are copied
     /// as they are: as [`datagram`](Plan::datagram) does otherwise.
     pub fn packed_datagram<B: Allocator>(
         &self,

@@ -11,7 +11,7 @@ use Rattle.st_format.specs.declared.sampling.Depth.{Depth}
 use Rattle.st_format.specs.declared.sampling.Depth.TheVariants.{D8, D10, D12, D16}
 use Rattle.st_format.specs.Pgroup.{pixel_group, bits_of}
 use Rattle.st_format.specs.Picture.{Values}
-use Rattle.st_format.specs.Position.{place, places, run_columns, run_samples}
+use Rattle.st_format.specs.Position.{place, places, run_columns, run_samples, row_groups}
 use Rattle.st_format.specs.Offer.{Offer}
 use Rattle.st_format.specs.Raster.{Segment, first_number, offers_from, offers_in, offers_in_all}
 use Rattle.st_format.proofs.Numbering.{number_of-place}
@@ -20,14 +20,15 @@ use Rattle.payload_header.specs.Payload.{group_of, IsPayload}
 use Rattle.rtp_header.specs.Grammar.{Rtp}
 use Rattle.packet_plan.specs.declared.run.PacketRun.{PacketRun}
 use Rattle.packet_plan.specs.declared.stamp.Stamp.{Stamp}
-use Rattle.packet_plan.specs.Plan.{numbers, row_groups, group_count}
+use Rattle.packet_plan.specs.Plan.{numbers}
 use Rattle.packet_plan.specs.Sent.{sample, group_samples, run_values, Carries, IsSentPacket}
 use Rattle.packet_plan.specs.Sent.{is_empty, AreSent, IsSentPicture}
 use Rattle.packet_plan.proofs.RunLemmas.{groups_joined, row_by, count_is}
 use Rattle.path_merge.specs.Opening.{Opening, IsSource}
 use Rattle.path_merge.specs.Grammar.{Datagram, IsDatagram}
 use Rattle.path_merge.specs.Offers.{offers}
-use Rattle.path_merge.specs.Sender.{IsOpenFor, group_places, offer_at, run_offers}
+use Rattle.path_merge.specs.Sender.{IsOpenFor, offer_at, run_offers}
+use Rattle.st_format.specs.Position.{positions_of_group, group_count}
 use Rattle.path_merge.proofs.Offered.{offers-for}
 
 -- ---- a run
@@ -40,7 +41,7 @@ offers_from-samples p ts k zero = refl
 offers_from-samples p ts k (suc n) =
     rw (offers_from-samples p ts (k + 1) n, number_of-place p.format k) refl
 
--- a run's first sample, by columns and by pixel groups
+-- a run's first sample, by columns and by pgroups
 columns_by : (s : Sampling) (d : Depth) (first : ℕ)
     → first * (pixel_group s d).pixels / run_columns s * run_samples s
     ≡ first * (pixel_group s d).samples
@@ -59,7 +60,6 @@ columns_by Rgb D16 first = omega arith
 
 first_number-run : (p : Values) (r : PacketRun) (s : Segment) → Carries p r s
     → (r.row * row_groups p.format + r.first) * group_samples p.format ≡ first_number p.format s
-unfolding row_groups
 first_number-run p r s c =
     let f : Format = p.format in
     let g : ℕ = group_samples f in
@@ -162,7 +162,7 @@ joined_through h g n (x ∷ xs) =
 
 abbrev packet_offers : Values → ℕ → List PacketRun → List Offer
 packet_offers p ts q =
-    map (offer_at p ts) (flat_map (group_places p.format) (flat_map (numbers p.format) q))
+    map (offer_at p ts) (flat_map (positions_of_group p.format) (flat_map (numbers p.format) q))
 
 offers-packets : (o : Opening) (p : Values) (stamp : Stamp) (i : ℕ) (qs : List (List PacketRun))
     (ds : List (List ℕ)) → IsOpenFor o p.format stamp.payload_type stamp.ssrc
@@ -174,7 +174,8 @@ offers-packets o p stamp i (q ∷ qs) [] opened sent = absurd sent
 offers-packets o p stamp i (q ∷ qs) (d ∷ ds) opened sent =
     ap (λ (os : List Offer). os ++ flat_map (offers o) ds)
     (offers-packet o p stamp i (is_empty qs) q d opened sent.0
-    ∙ joined_through (offer_at p stamp.timestamp) (group_places p.format) (numbers p.format) q)
+    ∙ joined_through (offer_at p stamp.timestamp) (positions_of_group p.format)
+    (numbers p.format) q)
     ∙ ap (λ (os : List Offer). packet_offers p stamp.timestamp q ++ os)
     (offers-packets o p stamp (i + 1) qs ds opened sent.1)
 
@@ -188,9 +189,9 @@ offers-picture o p stamp size qs ds opened is =
     let w : ℕ = group_samples f in
     let z : 0 * w ≡ 0 = omega arith in
     offers-packets o p stamp 0 qs ds opened is.sent
-    ∙ joined_through (offer_at p stamp.timestamp) (group_places f) (flat_map (numbers f)) qs
+    ∙ joined_through (offer_at p stamp.timestamp) (positions_of_group f) (flat_map (numbers f)) qs
     ∙ ap (map (offer_at p stamp.timestamp))
-    (ap (flat_map (group_places f)) is.plan.whole
+    (ap (flat_map (positions_of_group f)) is.plan.whole
     ∙ groups_joined (place f) w 0 (group_count f)
     ∙ ap (λ (k : ℕ). map (place f) (range_with_len k (group_count f * w))) z
     ∙ ap (λ (k : ℕ). map (place f) (range_with_len 0 k)) (count_is f))

@@ -1,17 +1,17 @@
 -- What a sender's datagrams mean to a receiver.
-use Rattle.std.specs.Prelude.{◌≡◌, ◌≢◌, ◌⊎◌, ⊤, ℕ, ◌*◌, List, map, Some, slice_get}
-use Rattle.std.specs.List.{flat_map, range_with_len}
+use Rattle.std.specs.Prelude.{◌≡◌, ◌≢◌, ◌⊎◌, ⊤, ℕ, List, map, Some, slice_get}
+use Rattle.std.specs.List.{flat_map}
 use Rattle.st_format.specs.declared.cell.Cell.{Cell}
 use Rattle.st_format.specs.declared.cell.Cell.TheVariants.{Missing, Value, Contested}
 use Rattle.st_format.specs.declared.format.Format.{Format}
 use Rattle.st_format.specs.Member.{IsMember}
 use Rattle.st_format.specs.Offer.{Offer}
 use Rattle.st_format.specs.Picture.{Values, value_at, timestamp_of}
-use Rattle.st_format.specs.Position.{Position, place}
+use Rattle.st_format.specs.Position.{Position, positions_of_group}
 use Rattle.st_format.specs.Raster.{Raster}
 use Rattle.packet_plan.specs.declared.run.PacketRun.{PacketRun}
 use Rattle.packet_plan.specs.Plan.{numbers}
-use Rattle.packet_plan.specs.Sent.{group_samples, IsSentPicture}
+use Rattle.packet_plan.specs.Sent.{IsSentPicture}
 use Rattle.packet_plan.specs.Sender.{Sender, stamp_of}
 use Rattle.path_merge.specs.Opening.{Opening, IsSource}
 use Rattle.path_merge.specs.Offers.{offers}
@@ -23,13 +23,9 @@ pub record IsOpenFor (o : Opening) (f : Format) (payload_type ssrc : ℕ) : Type
   pub type_is : payload_type ≡ o.payload_type
   pub source : IsSource o.ssrc ssrc
 
--- the positions of a pixel group, by its number, and of a run of them, in the order in which they
--- are sent (RFC 4175, 4.3)
-abbrev pub group_places : Format → ℕ → List Position
-group_places f g = map (place f) (range_with_len (g * group_samples f) (group_samples f))
-
+-- the positions of a run of pgroups, in the order in which they are sent (RFC 4175, 4.3)
 abbrev pub run_places : Format → PacketRun → List Position
-run_places f r = flat_map (group_places f) (numbers f r)
+run_places f r = flat_map (positions_of_group f) (numbers f r)
 
 -- the value of a picture at a position, as an offer at a timestamp
 abbrev pub offer_at : Values → ℕ → Position → Offer

@@ -9,11 +9,11 @@ use Rattle.st_format.specs.Pgroup.{Group, pixel_group}
 use Rattle.st_format.specs.Raster.{Segment}
 use Rattle.payload_header.specs.declared.payload.Segment.{Segment as SegmentView}
 
--- the pixel group of a format (SMPTE ST 2110-20, pixel groups)
+-- the pgroup of a format (SMPTE ST 2110-20, pixel groups)
 abbrev pub group_of : Format → Group
 group_of f = pixel_group f.sampling f.depth
 
--- A segment with octets has whole pixel groups, begins at one, and lies in the raster (RFC 4175,
+-- A segment with octets has whole pgroups, begins at one, and lies in the raster (RFC 4175,
 -- 4.2 and 4.3; SMPTE ST 2110-20, pixel groups).
 pub record IsInside (s : Segment) (f : Format) : Type 0 where
   pub whole_groups : length s.octets % (group_of f).octets ≡ 0

@@ -49,7 +49,7 @@ pub record AreHeads (extended : ℕ) (heads : List SegmentHead)
 abbrev pub data_text : List Segment → List ℕ
 data_text segments = flat_map (λ s. s.octets) segments
 
--- what the grammar asks of segments beside: whole pixel groups, at one, inside the raster
+-- what the grammar asks of segments beside: whole pgroups, at one, inside the raster
 abbrev pub AreInside : List Segment → Format → Type 0
 AreInside segments f = AllByRecursion (λ s. 0 < length s.octets → IsInside s f) segments
 

@@ -1,5 +1,5 @@
 //! Reading a payload, with the first fault (RFC 4175, 4.2 and 4.3; SMPTE ST 2110-20, packets and
-//! pixel groups).
+//! pgroups).
 ghost use Rattle.std.specs.Prelude.{◌≡◌, ◌≤◌, ◌↔◌, ℕ, List, length, map, IfOk, Ok, Err};
 ghost use Rattle.payload_header.specs.declared.payload.PayloadFault.{PayloadFault};
 ghost use Rattle.payload_header.specs.Faults.{IsRefusedPayload};

@@ -1,4 +1,4 @@
--- The samples of one pixel group: which differ, and which are blanked.
+-- The samples of one pgroup: which differ, and which are blanked.
 use Rattle.std.proofs.Common.{◌≡◌, ℕ, zero, suc, ◌+◌, ◌*◌, ◌^◌, ◌%◌, ◌<◌, ◌≤◌, Bool, true, false}
 use Rattle.std.proofs.Common.{◌==◌, if◌then◌else◌, List, [], ◌∷◌, ◌++◌, length, get_or, set, take}
 use Rattle.std.proofs.Common.{drop, bit_or, refl, sym, ap, ◌∙◌, inl, inr, arith, w16, append_assoc}

@@ -1,4 +1,4 @@
--- One pixel group: which of its samples differ from another's, and samples that are blanked (own).
+-- One pgroup: which of its samples differ from another's, and samples that are blanked (own).
 use Rattle.std.specs.Prelude.{◌≡◌, ◌<◌, ℕ, ◌+◌, ◌*◌, ◌==◌, if◌then◌else◌, List, [], ◌∷◌, length}
 use Rattle.std.specs.Prelude.{take, drop, max, slice_index}
 use Rattle.std.specs.Int.{bit_at}

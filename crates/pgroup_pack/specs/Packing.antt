@@ -1,11 +1,11 @@
--- Samples of pixel groups in octets (RFC 4175, 4.3).
+-- Samples of pgroups in octets (RFC 4175, 4.3).
 use Rattle.std.specs.Prelude.{◌≡◌, ℕ, ◌*◌, ◌^◌, ◌<◌, List, All}
 use Rattle.st_format.specs.Pgroup.{bits_of}
 use Rattle.st_format.specs.Picture.{Values}
 use Rattle.st_format.specs.Samples.{values_in}
 use Rattle.st_format.specs.declared.format.Format.{Format}
 
--- So many octets and so many samples of a format have as many bits. Whole pixel groups do.
+-- So many octets and so many samples of a format have as many bits. Whole pgroups do.
 abbrev pub Agree : Format → ℕ → ℕ → Type 0
 Agree f octets samples = 8 * octets ≡ bits_of f.depth * samples
 

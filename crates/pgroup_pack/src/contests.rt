@@ -1,4 +1,4 @@
-//! Several pixel groups at once: which of their samples differ from others', and blanking these.
+//! Several pgroups at once: which of their samples differ from others', and blanking these.
 ghost use Rattle.std.specs.Prelude.{◌≡◌, ◌<◌, ◌≤◌, ◌+◌, ◌*◌, ◌==◌, if◌then◌else◌, ℕ, length, max};
 ghost use Rattle.std.specs.Prelude.{nat_lt, slice_index};
 ghost use Rattle.std.specs.Int.{bit_at};

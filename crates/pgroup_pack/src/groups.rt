@@ -1,4 +1,4 @@
-//! One pixel group: which of its samples differ from another's, and blanking some of them.
+//! One pgroup: which of its samples differ from another's, and blanking some of them.
 ghost use Rattle.std.specs.Prelude.{◌≡◌, ◌<◌, ◌≤◌, ◌==◌, if◌then◌else◌, ℕ, length};
 ghost use Rattle.std.specs.Int.{bit_at};
 ghost use Rattle.pgroup_pack.specs.Groups.{blanked_samples, differs_at};

@@ -1,9 +1,9 @@
-//! Samples in octets, and back: the pixel groups of RFC 4175, 4.3, and SMPTE ST 2110-20, pixel
+//! Samples in octets, and back: the pgroups of RFC 4175, 4.3, and SMPTE ST 2110-20, pixel
 //! groups.
 //!
-//! The samples of a pixel group follow one another without gaps, each with its most significant bit
+//! The samples of a pgroup follow one another without gaps, each with its most significant bit
 //! first. So octets spell samples where the bits of the octets are the bits of the samples, joined
-//! in order. Octets are passed by whole pixel groups, as a row, a segment or one group of it.
+//! in order. Octets are passed by whole pgroups, as a row, a segment or one group of it.
 #![tactic(auto)]
 
 mod contests;
@@ -26,7 +26,7 @@ use st_format::{Depth, Format};
 
 /// Reads the samples that octets spell, in the order in which they are sent.
 ///
-/// The octets are whole pixel groups, none too, and the slices agree: the octets have as many bits
+/// The octets are whole pgroups, none too, and the slices agree: the octets have as many bits
 /// as the samples.
 pub fn unpack(format: &Format, octets: &[u8], samples: &mut [u16])
     requires { Agree format.now (length octets.now) (length samples.old) }
@@ -38,7 +38,7 @@ pub fn unpack(format: &Format, octets: &[u8], samples: &mut [u16])
 
 /// Writes the octets that spell samples, which stand in the order in which they are sent.
 ///
-/// The samples are those of whole pixel groups, none too, each fits the depth, and the slices
+/// The samples are those of whole pgroups, none too, each fits the depth, and the slices
 /// agree: the octets have as many bits as the samples.
 pub fn pack(format: &Format, samples: &[u16], octets: &mut [u8])
     requires lengths { Agree format.now (length octets.old) (length samples.now) }

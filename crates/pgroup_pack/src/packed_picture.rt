@@ -1,4 +1,4 @@
-//! A picture whose pixel groups are packed, as they are sent.
+//! A picture whose pgroups are packed, as they are sent.
 ghost use Rattle.std.specs.Prelude.{◌≡◌, length};
 ghost use Rattle.pgroup_pack.specs.Packing.{Agree, unpacked_picture};
 ghost use Rattle.st_format.specs.Pgroup.{bits_of};
@@ -10,7 +10,7 @@ use st_format::Format;
 use std::alloc::{Allocator, Global};
 use std::marker::Model;
 
-/// A picture that is kept as the octets of all its pixel groups, in raster order and in the order
+/// A picture that is kept as the octets of all its pgroups, in raster order and in the order
 /// in which they are sent (RFC 4175, 4.3). Contracts see it as the raster of values that these
 /// octets spell, as they see a picture whose samples are numbers.
 #[derive(Drop)]

@@ -39,7 +39,8 @@ use Rattle.receiver_file.specs.Front.{only_one, payload_type_at, payload_type_of
 use Rattle.receiver_file.specs.Numbers.{number_at}
 use Rattle.receiver_file.specs.Saved.{IsSaved, kept_of, timestamp_in}
 use Rattle.receiver_file.specs.StateFaults.{IsHead, block_front, frames_front, head_text}
-use Rattle.receiver_file.specs.StateReading.{all_held_at, end_at, held_at, new_of, state_walk}
+use Rattle.receiver_file.specs.StateReading.{all_held_at, held_at, new_of, state_walk}
+use Rattle.capture_file.specs.PictureFile.{nothing_at}
 use Rattle.receiver_file.specs.StateReading.{timestamp_at}
 use Rattle.receiver_file.proofs.Found.{behind_block, behind_frames, behind_head, with_head}
 use Rattle.receiver_file.proofs.Found.{with_kept}
@@ -246,7 +247,7 @@ state_parts k =
 
 -- a whole file, and what stands behind it
 pub state_whole : (k : Kept) (rest : List ℕ) → IsSaved k
-    → state_walk (state_text k ++ rest) ≡ (end_at rest >>= λ z. with_kept k z.1)
+    → state_walk (state_text k ++ rest) ≡ (nothing_at rest >>= λ z. with_kept k z.1)
 state_whole k rest is =
     let texts : List ℕ = flat_map (held_text k.format) k.frames in
     let some : 0 < length k.frames

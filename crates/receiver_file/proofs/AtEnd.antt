@@ -12,7 +12,8 @@ use Rattle.st_format.specs.Reading.{◌>>=◌}
 use Rattle.capture_file.specs.StateFile.{Kept}
 use Rattle.receiver_file.specs.Front.{head_at, name_at}
 use Rattle.receiver_file.specs.Saved.{kept_of}
-use Rattle.receiver_file.specs.StateReading.{all_held_at, end_at, state_walk}
+use Rattle.receiver_file.specs.StateReading.{all_held_at, state_walk}
+use Rattle.capture_file.specs.PictureFile.{nothing_at}
 
 abbrev Whole : Type 0
 Whole = Result (Kept × List ℕ) FileFault
@@ -29,7 +30,7 @@ then_rest : {A : Type 0} (r : Result A FileFault) (f : A → Whole) → ((x : A)
 then_rest (Ok x) f each = each x
 then_rest (Err e) f each = refl
 
-end_rest : (octets : List ℕ) (k : Kept) → rest_of (end_at octets >>= λ z. whole k z.1) ≡ []
+end_rest : (octets : List ℕ) (k : Kept) → rest_of (nothing_at octets >>= λ z. whole k z.1) ≡ []
 end_rest [] k = refl
 end_rest (x ∷ octets) k = refl
 
@@ -38,7 +39,7 @@ unfolding state_walk
 state_rest octets =
     then_rest (name_at octets)
     (λ a. block_at a.1 >>= λ f. head_at f.1 >>= λ p. all_held_at f.0 p.0.count [] p.1 >>=
-    λ h. end_at h.1 >>=
+    λ h. nothing_at h.1 >>=
     λ z. whole
     (record {
       format = f.0;
@@ -48,7 +49,7 @@ state_rest octets =
           h.0;
     }) z.1)
     (λ a. then_rest (block_at a.1)
-    (λ f. head_at f.1 >>= λ p. all_held_at f.0 p.0.count [] p.1 >>= λ h. end_at h.1 >>=
+    (λ f. head_at f.1 >>= λ p. all_held_at f.0 p.0.count [] p.1 >>= λ h. nothing_at h.1 >>=
     λ z. whole
     (record {
       format = f.0;
@@ -58,7 +59,7 @@ state_rest octets =
           h.0;
     }) z.1)
     (λ f. then_rest (head_at f.1)
-    (λ p. all_held_at f.0 p.0.count [] p.1 >>= λ h. end_at h.1 >>=
+    (λ p. all_held_at f.0 p.0.count [] p.1 >>= λ h. nothing_at h.1 >>=
     λ z. whole
     (record {
       format = f.0;
@@ -68,7 +69,7 @@ state_rest octets =
           h.0;
     }) z.1)
     (λ p. then_rest (all_held_at f.0 p.0.count [] p.1)
-    (λ h. end_at h.1 >>=
+    (λ h. nothing_at h.1 >>=
     λ z. whole
     (record {
       format = f.0;

@@ -33,7 +33,8 @@ use Rattle.receiver_file.specs.Front.{payload_type_at, ssrc_at, ssrc_of}
 use Rattle.receiver_file.specs.Numbers.{number_at, octet_at}
 use Rattle.receiver_file.specs.Saved.{IsSaved, IsWritable, kept_of}
 use Rattle.receiver_file.specs.StateFaults.{flag_octet, head_text}
-use Rattle.receiver_file.specs.StateReading.{all_held_at, end_at, held_at, state_walk, timestamp_at}
+use Rattle.receiver_file.specs.StateReading.{all_held_at, held_at, state_walk, timestamp_at}
+use Rattle.capture_file.specs.PictureFile.{nothing_at}
 use Rattle.receiver_file.proofs.GroupsFound.{behind, cut_takes, groups_take}
 use Rattle.receiver_file.proofs.Savable.{writable_saved}
 
@@ -310,7 +311,7 @@ all_take f (suc n) before octets x bytes e =
 
 -- ---- the file
 
-pub end_is : (octets : List ℕ) (x : Unit {0} × List ℕ) → end_at octets ≡ Ok x → octets ≡ []
+pub end_is : (octets : List ℕ) (x : Unit {0} × List ℕ) → nothing_at octets ≡ Ok x → octets ≡ []
 end_is [] x e = refl
 end_is (y ∷ octets) x e = let bad : failed (Unit {0} × List ℕ) TrailingBytes ≡ Ok x = e in absurd cc
 
@@ -321,7 +322,7 @@ abbrev pub with_kept : Kept → List ℕ → Result (Kept × List ℕ) FileFault
 with_kept k rest = Ok (k, rest)
 
 abbrev pub behind_frames : Fields → Head → List Held × List ℕ → Result (Kept × List ℕ) FileFault
-behind_frames f p h = end_at h.1 >>= λ z. with_kept (kept_made f p h.0) z.1
+behind_frames f p h = nothing_at h.1 >>= λ z. with_kept (kept_made f p h.0) z.1
 
 abbrev pub behind_head : Fields → Head × List ℕ → Result (Kept × List ℕ) FileFault
 behind_head f p = all_held_at f p.0.count [] p.1 >>= λ h. behind_frames f p.0 h
@@ -341,7 +342,7 @@ state_takes octets x bytes e =
     = split_then (all_held_at b.first.0 c.first.0.count [] c.first.1)
     (λ h. behind_frames b.first.0 c.first.0 h) x c.next in
     let z
-    = split_then (end_at d.first.1)
+    = split_then (nothing_at d.first.1)
     (λ u. with_kept (kept_made b.first.0 c.first.0 d.first.0) u.1) x d.next in
     let f : Fields = b.first.0 in
     let p : Head = c.first.0 in

@@ -1,4 +1,4 @@
--- Pixel groups: each fault is read exactly where its condition holds, and what is read is a group.
+-- Pgroups: each fault is read exactly where its condition holds, and what is read is a group.
 use Rattle.std.proofs.Common.{◌≡◌, ℕ, zero, suc, ◌+◌, ◌-◌, ◌/◌, ◌%◌, ◌^◌, ◌<◌, Bool, true, false}
 use Rattle.std.proofs.Common.{cond, not, ◌&&◌, ◌||◌, eqb, ltb, List, [], ◌∷◌, ◌++◌, length, map}
 use Rattle.std.proofs.Common.{replicate, take, drop, Result, Ok, Err, append_assoc, refl, sym, ap}

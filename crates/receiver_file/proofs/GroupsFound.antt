@@ -1,4 +1,4 @@
--- What is read as a pixel group is its text.
+-- What is read as a pgroup is its text.
 use Rattle.std.proofs.Common.{◌≡◌, ℕ, zero, suc, ◌+◌, ◌*◌, ◌/◌, ◌%◌, ◌^◌, ◌<◌, Bool, true, false}
 use Rattle.std.proofs.Common.{cond, not, ◌&&◌, ◌||◌, eqb, ltb, List, [], ◌∷◌, ◌++◌, length, map}
 use Rattle.std.proofs.Common.{replicate, drop, Result, Ok, Err, append_assoc, refl, sym, ap, ◌∙◌}
@@ -12,7 +12,7 @@ use Rattle.std.proofs.lemmas.Nat.{be_bytes_2}
 use Rattle.std.proofs.Math.Nat.{mul-div_right, pow-suc}
 use Rattle.st_format.specs.declared.cell.Cell.{Cell}
 use Rattle.st_format.specs.declared.cell.Cell.TheVariants.{Missing, Value, Contested}
-use Rattle.st_format.specs.Cell.{is_missing}
+use Rattle.st_format.specs.Cell.{is_missing, known_value}
 use Rattle.st_format.specs.Device.{AreOctets}
 use Rattle.st_format.specs.Samples.{octets_in, values_in}
 use Rattle.st_format.proofs.SpelledOctets.{octets_in-spelled}
@@ -24,7 +24,7 @@ use Rattle.capture_file.specs.Fields.{field_at}
 use Rattle.st_format.specs.Reading.{◌>>=◌}
 use Rattle.capture_file.specs.Groups.{IsShape, Shape, are_zeroed, cells_by, contested_bit, group_at}
 use Rattle.capture_file.specs.Groups.{group_text, groups_at, groups_text, mask_of, mixed_by}
-use Rattle.capture_file.specs.Groups.{samples_text, value_or_0}
+use Rattle.capture_file.specs.Groups.{samples_text}
 use Rattle.capture_file.proofs.Entries.{chosen}
 use Rattle.capture_file.proofs.Found.{field_takes, given, split_then}
 use Rattle.st_format.proofs.Octets.{all_octets}
@@ -110,7 +110,8 @@ unfolding mask_of
 plain_mask [] = refl
 plain_mask (v ∷ vs) = let rest : mask_of (map Value vs) ≡ 0 = plain_mask vs in omega (arith, rest)
 
-plain_values : (vs : List ℕ) → map value_or_0 (map Value vs) ≡ vs
+plain_values : (vs : List ℕ) → map known_value (map Value vs) ≡ vs
+unfolding known_value
 plain_values [] = refl
 plain_values (v ∷ vs) = ap (λ (t : List ℕ). v ∷ t) (plain_values vs)
 
@@ -153,16 +154,17 @@ mixed_mask m (v ∷ vs) below =
     ]
 
 value_is : (b : Bool) (v : ℕ) → (not b || eqb v 0) ≡ true
-    → value_or_0 (cond b Contested (Value v)) ≡ v
+    → known_value (cond b Contested (Value v)) ≡ v
+unfolding known_value
 value_is true v h = sym (eqb-true v 0 h)
 value_is false v h = refl
 
-mixed_values : (m : ℕ) (vs : List ℕ) → are_zeroed m vs ≡ true → map value_or_0 (cells_by m vs) ≡ vs
+mixed_values : (m : ℕ) (vs : List ℕ) → are_zeroed m vs ≡ true → map known_value (cells_by m vs) ≡ vs
 unfolding cells_by are_zeroed
 mixed_values m [] zeroed = refl
 mixed_values m (v ∷ vs) zeroed =
     let p = and_parts (not (eqb (m % 2) 1) || eqb v 0) (are_zeroed (m / 2) vs) zeroed in
-    ap (λ (x : ℕ). x ∷ map value_or_0 (cells_by (m / 2) vs)) (value_is (eqb (m % 2) 1) v p.0)
+    ap (λ (x : ℕ). x ∷ map known_value (cells_by (m / 2) vs)) (value_is (eqb (m % 2) 1) v p.0)
     ∙ ap (λ (t : List ℕ). v ∷ t) (mixed_values (m / 2) vs p.1)
 
 cell_there : (b : Bool) (v : ℕ) → is_missing (cond b Contested (Value v)) ≡ false

@@ -19,7 +19,7 @@ use Rattle.st_format.specs.Raster.{IsWhole, Raster}
 use Rattle.st_format.specs.Device.{AppendsPrefix}
 use Rattle.st_format.specs.Samples.{Spells, bits}
 use Rattle.pgroup_pack.proofs.Parts.{all_first, all_rest, spelled_first, spelled_rest}
-use Rattle.frame_assembly.specs.Packed.{known_value}
+use Rattle.st_format.specs.Cell.{known_value}
 use Rattle.frame_assembly.specs.Rows.{IsMarkOf, IsStateOf, group_cells, row_cells}
 use Rattle.frame_assembly.specs.declared.state.GroupState.TheVariants.{Gone, Whole, Mixed}
 use Rattle.frame_assembly.proofs.GroupCells.{mixed_contested, mixed_others, not_missing, whole}

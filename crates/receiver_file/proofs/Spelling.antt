@@ -8,30 +8,21 @@ use Rattle.std.proofs.lemmas.Bool.{eq-eqb, eqb-false, eqb-true, ne_eqb}
 use Rattle.std.proofs.lemmas.Nat.Bits.{bit_at-suc, bit_at_lowest, bit_at-zero, same_from_bits}
 use Rattle.st_format.specs.declared.cell.Cell.{Cell}
 use Rattle.st_format.specs.declared.cell.Cell.TheVariants.{Missing, Value, Contested}
-use Rattle.st_format.specs.Cell.{is_contested, is_missing, is_present}
+use Rattle.st_format.specs.Cell.{is_contested, is_missing, is_present, known_value}
 use Rattle.st_format.specs.Samples.{Spells, octets_in}
 use Rattle.st_format.proofs.SpelledOctets.{octets_in-spelled}
 use Rattle.frame_assembly.specs.declared.state.GroupState.TheVariants.{Gone, Whole, Mixed}
-use Rattle.frame_assembly.specs.Packed.{known_value}
 use Rattle.frame_assembly.specs.Rows.{IsStateOf}
 use Rattle.frame_assembly.specs.declared.state.GroupState.{GroupState}
 use Rattle.receiver_file.specs.Known.{known_text}
-use Rattle.capture_file.specs.Groups.{Shape, group_text, mask_of, samples_text, value_or_0}
-
-same_values : (cells : List Cell) → map known_value cells ≡ map value_or_0 cells
-unfolding known_value
-same_values [] = refl
-same_values (Missing ∷ cells) = ap (λ (t : List ℕ). 0 ∷ t) (same_values cells)
-same_values (Value v ∷ cells) = ap (λ (t : List ℕ). v ∷ t) (same_values cells)
-same_values (Contested ∷ cells) = ap (λ (t : List ℕ). 0 ∷ t) (same_values cells)
+use Rattle.capture_file.specs.Groups.{Shape, group_text, mask_of, samples_text}
 
 -- the octets of a frame are those of the file
 octets_same : (s : Shape) (octets : List ℕ) (cells : List Cell)
     → AllByRecursion (λ (v : ℕ). v < 256) octets → Spells s.bits octets (map known_value cells)
     → samples_text s cells ≡ octets
 octets_same s octets cells small spelled =
-    ap (octets_in s.bits) (sym (same_values cells))
-    ∙ octets_in-spelled s.bits octets (map known_value cells) small spelled
+    octets_in-spelled s.bits octets (map known_value cells) small spelled
 
 all_missing : (cells : List Cell)
     → ((i : ℕ) → i < length cells → is_missing (get_or cells i Missing) ≡ true)

@@ -39,7 +39,8 @@ use Rattle.receiver_file.specs.StateFaults.{block_front}
 use Rattle.receiver_file.specs.StateFaults.{head_text, text_before}
 use Rattle.receiver_file.specs.StateFaults.IsCutState.{Kind, Field}
 use Rattle.receiver_file.specs.StateFaults.FieldPlace.{AtBlock}
-use Rattle.receiver_file.specs.StateReading.{all_held_at, end_at, state_walk}
+use Rattle.receiver_file.specs.StateReading.{all_held_at, state_walk}
+use Rattle.capture_file.specs.PictureFile.{nothing_at}
 use Rattle.receiver_file.proofs.Again.{head_of, state_parts, state_whole}
 use Rattle.receiver_file.proofs.FieldFaults.{head_read}
 use Rattle.receiver_file.proofs.Found.{behind_block, behind_frames, behind_head, head_takes}
@@ -182,12 +183,12 @@ saved f h hs is head frames =
       };
     }
 
-end_more : (octets : List ℕ) (e : FileFault) → end_at octets ≡ Err e
+end_more : (octets : List ℕ) (e : FileFault) → nothing_at octets ≡ Err e
     → (TrailingBytes ≡ e) × (0 < length octets)
 end_more [] e h = absurd (not_both (Unit {0} × List ℕ) (tt, []) e h)
 end_more (x ∷ octets) e h = (same_fault (Unit {0} × List ℕ) TrailingBytes e h, omega arith)
 
-end_found : (octets : List ℕ) → 0 < length octets → end_at octets ≡ Err TrailingBytes
+end_found : (octets : List ℕ) → 0 < length octets → nothing_at octets ≡ Err TrailingBytes
 end_found [] more = absurd (omega (arith, more))
 end_found (x ∷ octets) more = refl
 
@@ -248,9 +249,9 @@ ended f h octets rest x is head e =
     }
 
 end_fault : (k : Kept) (octets rest : List ℕ) (e : FileFault) → Ended k octets rest
-    → (end_at rest >>= λ z. with_kept k z.1) ≡ Err e → IsStateFault e octets
+    → (nothing_at rest >>= λ z. with_kept k z.1) ≡ Err e → IsStateFault e octets
 end_fault k octets rest e whole h =
-    elim (split_fails (end_at rest) (λ z. with_kept k z.1) e h) [
+    elim (split_fails (nothing_at rest) (λ z. with_kept k z.1) e h) [
       | inl p ↦
           let more = end_more rest e p in
           let w : HasMore octets
@@ -311,7 +312,7 @@ state_saved octets x bytes h =
     = split_then (all_held_at b.first.0 c.first.0.count [] c.first.1)
     (behind_frames b.first.0 c.first.0) x c.next in
     let k : Kept = kept_made b.first.0 c.first.0 d.first.0 in
-    let z = split_then (end_at d.first.1) (λ u. with_kept k u.1) x d.next in
+    let z = split_then (nothing_at d.first.1) (λ u. with_kept k u.1) x d.next in
     let same : (k, z.first.1) ≡ x
     = ap (λ (r : Result (Kept × List ℕ) FileFault). given r x) z.next in
     let f = formed octets a.first.1 b.first bytes (name_takes octets a.first a.is) b.is in

@@ -16,7 +16,8 @@ use Rattle.capture_file.proofs.Parsing.{fails_first, fails_then, gives_then, the
 use Rattle.receiver_file.specs.declared.front.Head.{Head}
 use Rattle.receiver_file.specs.Front.{head_at, name_at}
 use Rattle.receiver_file.specs.Saved.{kept_frames, kept_of}
-use Rattle.receiver_file.specs.StateReading.{all_held_at, end_at, state_walk}
+use Rattle.receiver_file.specs.StateReading.{all_held_at, state_walk}
+use Rattle.capture_file.specs.PictureFile.{nothing_at}
 use Rattle.receiver_file.proofs.Valued.{memory_fails, value_cut, value_gives, valued}
 
 -- ---- the parts
@@ -26,7 +27,7 @@ kept f h hs end =
     Ok (record { format = f; payload_type = h.payload_type; ssrc = h.ssrc; frames = hs })
 
 abbrev behind_frames : Fields → Head → List Held → List ℕ → Result (Kept × List ℕ) FileFault
-behind_frames f h hs octets = valued end_at (kept f h hs) octets
+behind_frames f h hs octets = valued nothing_at (kept f h hs) octets
 
 abbrev behind_head : Fields → Head → List ℕ → Result (Kept × List ℕ) FileFault
 behind_head f h octets = then_reads (all_held_at f h.count []) (behind_frames f h) octets
@@ -67,18 +68,18 @@ state_frames old a b c f h e n m k p =
 
 pub state_end : (old a b c d : Option (List ℕ)) (f : Fields) (h : Head) (hs : List Held)
     (e : FileFault) → Takes name_at old a tt → Takes block_at a b f → Takes head_at b c h
-    → Takes (all_held_at f h.count []) c d hs → Fails end_at d e → Fails state_walk old e
+    → Takes (all_held_at f h.count []) c d hs → Fails nothing_at d e → Fails state_walk old e
 unfolding state_walk
 state_end old a b c d f h hs e n m k l p =
     fails_then name_at behind_name old a tt e n
     (fails_then block_at behind_format a b f e m
     (fails_then head_at (behind_head f) b c h e k
     (fails_then (all_held_at f h.count []) (behind_frames f h) c d hs e l
-    (value_cut end_at (kept f h hs) d e p))))
+    (value_cut nothing_at (kept f h hs) d e p))))
 
 pub state_gives : (old a b c d new : Option (List ℕ)) (f : Fields) (h : Head) (hs : List Held)
     → Takes name_at old a tt → Takes block_at a b f → Takes head_at b c h
-    → Takes (all_held_at f h.count []) c d hs → Takes end_at d new tt
+    → Takes (all_held_at f h.count []) c d hs → Takes nothing_at d new tt
     → Takes state_walk old new
     (record { format = f; payload_type = h.payload_type; ssrc = h.ssrc; frames = hs })
 unfolding state_walk
@@ -89,7 +90,7 @@ state_gives old a b c d new f h hs n m k l p =
     (gives_then block_at behind_format a b new f all m
     (gives_then head_at (behind_head f) b c new h all k
     (gives_then (all_held_at f h.count []) (behind_frames f h) c d new hs all l
-    (value_gives end_at (kept f h hs) d new tt all p refl))))
+    (value_gives nothing_at (kept f h hs) d new tt all p refl))))
 
 -- ---- the receiver that is made
 

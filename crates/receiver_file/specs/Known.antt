@@ -1,4 +1,4 @@
--- The pixel groups of a format, and those of a frame's rows (own).
+-- The pgroups of a format, and those of a frame's rows (own).
 use Rattle.std.specs.Prelude.{◌≡◌, ℕ, ◌*◌, ◌^◌, ◌<◌, Bool, true, false, List, [], ◌∷◌, ◌++◌, map}
 use Rattle.std.specs.Prelude.{replicate, drop, ⊤, Result}
 use Rattle.std.specs.Int.{w16, from_be_bytes, to_be_bytes}
@@ -16,7 +16,7 @@ use Rattle.st_format.specs.Reading.{◌>>=◌}
 use Rattle.capture_file.specs.Groups.{Shape, are_zeroed, cells_by, mixed_by, shape_of}
 use Rattle.capture_file.specs.StateFile.{cut_cells}
 
--- the pixel groups of a format
+-- the pgroups of a format
 abbrev pub shape_in : Format → Shape
 shape_in f = shape_of f.sampling f.depth
 

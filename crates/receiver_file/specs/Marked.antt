@@ -1,4 +1,4 @@
--- The pixel groups of mark words and packed octets, as they are written (own).
+-- The pgroups of mark words and packed octets, as they are written (own).
 use Rattle.std.specs.Prelude.{◌≡◌, ℕ, ◌-◌, ◌==◌, nat_lt, if◌then◌else◌, Option, List, [], ◌∷◌, ◌++◌}
 use Rattle.std.specs.Prelude.{take, drop}
 use Rattle.std.specs.Io.KnownBytes.{Appends}

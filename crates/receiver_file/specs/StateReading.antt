@@ -4,11 +4,12 @@ use Rattle.std.specs.Prelude.{Err}
 use Rattle.std.specs.List.{list_any}
 use Rattle.st_format.specs.Fields.{Fields}
 use Rattle.capture_file.specs.declared.fault.FileFault.{FileFault}
-use Rattle.capture_file.specs.declared.fault.FileFault.TheVariants.{BadField, TrailingBytes}
+use Rattle.capture_file.specs.declared.fault.FileFault.TheVariants.{BadField}
 use Rattle.capture_file.specs.Blocks.{block_at}
 use Rattle.st_format.specs.Reading.{◌>>=◌}
 use Rattle.capture_file.specs.Fronts.{with_rest}
 use Rattle.capture_file.specs.Groups.{groups_at, shape_of}
+use Rattle.capture_file.specs.PictureFile.{nothing_at}
 use Rattle.capture_file.specs.StateFile.{Held, Kept, group_count}
 use Rattle.receiver_file.specs.Front.{head_at, name_at}
 use Rattle.receiver_file.specs.Numbers.{number_at}
@@ -34,16 +35,11 @@ all_held_at f (suc n) before octets =
     held_at f before octets >>= λ h. all_held_at f n (before ++ h.0.timestamp ∷ []) h.1 >>=
     λ y. Ok (h.0 ∷ y.0, y.1)
 
--- nothing
-abbrev pub end_at : List ℕ → Result (Unit {0} × List ℕ) FileFault
-end_at [] = Ok (tt, [])
-end_at (x ∷ octets) = Err TrailingBytes
-
 -- the walk from the left: a receiver's file, or the first fault
 unfoldable pub state_walk : List ℕ → Result (Kept × List ℕ) FileFault
 state_walk octets =
     name_at octets >>= λ a. block_at a.1 >>= λ f. head_at f.1 >>=
-    λ p. all_held_at f.0 p.0.count [] p.1 >>= λ h. end_at h.1 >>= λ z.
+    λ p. all_held_at f.0 p.0.count [] p.1 >>= λ h. nothing_at h.1 >>= λ z.
     Ok (
       record { format = f.0; payload_type = p.0.payload_type; ssrc = p.0.ssrc; frames = h.0 },
       z.1,

@@ -1,4 +1,4 @@
-//! The pixel groups of a frame, from a source.
+//! The pgroups of a frame, from a source.
 ghost use Rattle.std.specs.Prelude.{◌≡◌, ◌<◌, ◌*◌, IfErr, OnOk, take};
 ghost use Rattle.st_format.specs.Position.{group_start, row_groups};
 ghost use Rattle.capture_file.specs.Faults.{CountsDevice};

@@ -1,4 +1,4 @@
-//! A pixel group as octets, in a room.
+//! A pgroup as octets, in a room.
 ghost use Rattle.std.specs.Prelude.{◌≡◌, ◌<◌, ◌≤◌, ◌+◌, ◌∷◌, ◌++◌, length, take};
 ghost use Rattle.std.specs.Int.{w16, to_be_bytes};
 ghost use Rattle.std.specs.List.{AllByRecursion};

@@ -1,4 +1,4 @@
-//! What is known of a pixel group, from a source into a frame.
+//! What is known of a pgroup, from a source into a frame.
 ghost use Rattle.std.specs.Prelude.{◌≡◌, ◌<◌, ◌^◌, ◌*◌, ◌==◌, ◌||◌, IfErr, IfOk, OnOk, length};
 ghost use Rattle.std.specs.Prelude.{nat_lt, not, take};
 ghost use Rattle.st_format.specs.Raster.{IsWhole};

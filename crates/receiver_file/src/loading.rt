@@ -10,7 +10,8 @@ ghost use Rattle.capture_file.specs.Fields.{Fails, Takes};
 ghost use Rattle.capture_file.specs.StateFile.{Kept, state_text};
 ghost use Rattle.receiver_file.specs.Saved.{IsSaved, IsWritable, kept_of};
 ghost use Rattle.receiver_file.specs.StateFaults.{IsStateFault};
-ghost use Rattle.receiver_file.specs.StateReading.{end_at, state_walk};
+ghost use Rattle.receiver_file.specs.StateReading.{state_walk};
+ghost use Rattle.capture_file.specs.PictureFile.{nothing_at};
 
 use crate::frames::{Frames, read_frames};
 use crate::front::{Head, read_head, read_name};
@@ -92,8 +93,8 @@ fn read_receiver<A: Allocator + Copy, S: ByteSource>(
 
 /// Finds a source at its end.
 fn read_end<S: ByteSource>(source: &mut S) -> Result<(), FileFault>
-    ensures read { OnOk result (Takes end_at (S.to_give source.old) (S.to_give source.new) tt) }
-    ensures fault { IfErr result (λ f. Fails end_at (S.to_give source.old) f) }
+    ensures read { OnOk result (Takes nothing_at (S.to_give source.old) (S.to_give source.new) tt) }
+    ensures fault { IfErr result (λ f. Fails nothing_at (S.to_give source.old) f) }
     ensures counted { CountsDevice (S.failures source.old) (S.failures source.new) result }
 {
     let mut octet = [0u8; 1];

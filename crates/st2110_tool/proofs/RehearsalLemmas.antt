@@ -7,9 +7,8 @@ use Rattle.hex.proofs.HexLemmas.{decode_of-ok}
 use Rattle.st_format.specs.declared.format.Format.{Format}
 use Rattle.st_format.specs.declared.path.Path.{Path}
 use Rattle.st_format.specs.Pgroup.{bits_of, pixel_group}
-use Rattle.st_format.specs.Position.{sample_count}
+use Rattle.st_format.specs.Position.{sample_count, group_count}
 use Rattle.packet_plan.specs.declared.stamp.Stamp.{Stamp}
-use Rattle.frame_assembly.specs.Packed.{group_count}
 use Rattle.frame_assembly.proofs.PackedLemmas.{groups_agree, sizes}
 use Rattle.frame_assembly.proofs.Segments.{sample_count_groups}
 use Rattle.path_merge.specs.declared.schedule.event.Event.{Event}
@@ -94,7 +93,7 @@ merge_none text rest e none (Merge into from) is =
 
 -- ---- the octets of a picture
 
--- A picture's samples have as many bits as some octets: those of its pixel groups.
+-- A picture's samples have as many bits as some octets: those of its pgroups.
 pub whole_groups : (f : Format) → (m : ℕ) × (8 * m ≡ bits_of f.depth * sample_count f)
 whole_groups f = (
   (pixel_group f.sampling f.depth).octets * group_count f,

@@ -1,4 +1,4 @@
--- Columns: where a segment begins, and which positions a pixel group has.
+-- Columns: where a segment begins, and which positions a pgroup has.
 use Rattle.std.proofs.Common.{◌≡◌, ℕ, ◌+◌, ◌*◌, ◌/◌, ◌%◌, ◌<◌, ◌≤◌, ◌-◌, inr, refl, sym, ap, ◌∙◌}
 use Rattle.std.proofs.Common.{subst, arith, map, mul-le-mul_left}
 use Rattle.std.specs.List.{range_with_len}
@@ -70,7 +70,7 @@ pub first-column : (f : Format) (s : Segment) → s.row < f.height → s.offset 
 first-column f s row column at_group =
     ap (λ (p : Position). p.column) (first_place f s row column at_group)
 
--- ---- which positions a pixel group has
+-- ---- which positions a pgroup has
 
 -- samples of whole groups before a column
 pub samples_before : (s : Sampling) (d : Depth) (x : ℕ) → x % (pixel_group s d).pixels ≡ 0

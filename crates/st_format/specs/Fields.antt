@@ -62,7 +62,7 @@ format_at s b w h n d =
     })))
 
 -- what a call made, by its fields
-abbrev pub made_fields : Result Format FormatFault → Result Fields FormatFault
+abbrev pub made_fields : {E : Type 0} → Result Format E → Result Fields E
 made_fields (Ok f) = Ok (fields_of f)
 made_fields (Err e) = Err e
 

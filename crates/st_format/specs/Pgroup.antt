@@ -1,11 +1,11 @@
--- Pixel groups: SMPTE ST 2110-20, tables of pgroups; RFC 4175, 4.3.
+-- Pgroups: SMPTE ST 2110-20, tables of pgroups; RFC 4175, 4.3.
 use Rattle.std.specs.Prelude.{ℕ}
 use Rattle.st_format.specs.declared.sampling.Sampling.{Sampling}
 use Rattle.st_format.specs.declared.sampling.Sampling.TheVariants.{Ycc422, Ycc444, Rgb}
 use Rattle.st_format.specs.declared.sampling.Depth.{Depth}
 use Rattle.st_format.specs.declared.sampling.Depth.TheVariants.{D8, D10, D12, D16}
 
--- Octets, pixels and samples of a pixel group, the smallest piece that a segment carries
+-- Octets, pixels and samples of a pgroup, the smallest piece that a segment carries
 pub record Group : Type 0 where
   pub octets : ℕ
   pub pixels : ℕ

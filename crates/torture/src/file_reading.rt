@@ -87,7 +87,7 @@ struct Groups {
     bits: usize,
 }
 
-/// Octets, pixels and samples of a pixel group (RFC 4175, 4.3), or `None` where there is no such
+/// Octets, pixels and samples of a pgroup (RFC 4175, 4.3), or `None` where there is no such
 /// sampling or depth.
 pub fn group_of(sampling: u32, depth: u32) -> Option<(u32, u32, u32)> {
     match (sampling, depth) {
@@ -121,7 +121,7 @@ pub fn is_rate(n: u32, d: u32) -> bool {
     (1 <= d) & (n <= 1_000_000) & (d <= 1_000_000) & is_within
 }
 
-/// Whether a width is one of pixel groups of so many pixels (own).
+/// Whether a width is one of pgroups of so many pixels (own).
 pub fn is_width(width: u32, pixels: u32) -> bool {
     (2 <= width) & (width <= 8192) & (width % 2 == 0) & (width % pixels.max(1) == 0)
 }

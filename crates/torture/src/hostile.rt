@@ -67,7 +67,7 @@ fn write_segments(generator: &mut Generator, format: &Format, octets: &mut Text)
 /// The head of a segment, and how many octets it was to have before a field was spoiled.
 fn write_head(generator: &mut Generator, format: &Format, goes_on: bool, octets: &mut Text) -> u32 {
     let group = format.pgroup();
-    let groups = format.width() / group.pixels.max(1);
+    let groups = format.width() / group.pixels;
     let first = generator.below(groups);
     let count = generator.below(groups.saturating_sub(first).wrapping_add(1));
     let length = count.wrapping_mul(group.octets as u32);

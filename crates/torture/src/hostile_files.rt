@@ -11,7 +11,7 @@ const DEPTHS: [u32; 4] = [8, 10, 12, 16];
 /// Rates, in lowest terms.
 const RATES: [(u32, u32); 4] = [(60_000, 1001), (1_000_000, 999_999), (300, 1), (25, 1)];
 
-/// Octets and samples of a pixel group, and how many groups there are.
+/// Octets and samples of a pgroup, and how many groups there are.
 #[derive(Clone, Copy)]
 struct Block {
     size: u32,

@@ -87,9 +87,9 @@ fn any_max(generator: &mut Generator, format: &Format) -> u32 {
     size.wrapping_add(20).wrapping_add(rest)
 }
 
-/// The pixel groups of a picture.
+/// The pgroups of a picture.
 fn groups_of(format: &Format) -> u32 {
-    (format.width() / format.pgroup().pixels.max(1)).wrapping_mul(format.height())
+    (format.width() / format.pgroup().pixels).wrapping_mul(format.height())
 }
 
 /// About how many datagrams a picture has: their size is that of whole groups and their headers.

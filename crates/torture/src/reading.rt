@@ -122,16 +122,16 @@ fn refused(format: &Format, head: &Head) -> Option<u8> {
     if head.has_field {
         return Some(9);
     }
-    if head.length % group.octets.max(1) != 0 {
+    if head.length % group.octets != 0 {
         return Some(10);
     }
-    if head.offset % group.pixels.max(1) != 0 {
+    if head.offset % group.pixels != 0 {
         return Some(11);
     }
     if head.row >= format.height() {
         return Some(12);
     }
-    let columns = (head.length / group.octets.max(1)).wrapping_mul(group.pixels as usize);
+    let columns = (head.length / group.octets).wrapping_mul(group.pixels as usize);
     if (head.offset as usize).wrapping_add(columns) > format.width() as usize {
         return Some(13);
     }

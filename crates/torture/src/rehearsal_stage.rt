@@ -1,5 +1,5 @@
 //! What a rehearsal's receivers are to hold, kept plainly: since all datagrams are of one sender, a
-//! frame is which pixel groups came.
+//! frame is which pgroups came.
 use crate::script_reading::put_counts;
 use crate::text::Text;
 use st_format::Format;
@@ -14,7 +14,7 @@ const HEAD: usize = 6;
 /// The most segments of a datagram (SMPTE ST 2110-20, general packing).
 const SEGMENTS: usize = 3;
 
-/// The pixel groups of a picture, in raster order.
+/// The pgroups of a picture, in raster order.
 #[derive(Clone, Copy)]
 pub struct Raster {
     by_row: usize,
@@ -26,11 +26,11 @@ pub struct Raster {
 impl Raster {
     pub fn new(format: &Format) -> Raster {
         let group = format.pgroup();
-        let by_row = (format.width() / group.pixels.max(1)) as usize;
+        let by_row = (format.width() / group.pixels) as usize;
         Raster {
             by_row: by_row.max(1),
             count: by_row.wrapping_mul(format.height() as usize),
-            octets: group.octets.max(1),
+            octets: group.octets,
             samples: group.samples,
         }
     }

@@ -4,7 +4,7 @@ use crate::answers::OF_LINES;
 use crate::fault::Fault;
 use crate::generator::Generator;
 use crate::script_text::Pieces;
-use crate::stop::{LARGE, MEMORY, Stop};
+use crate::stop::{LARGE, MEMORY};
 use crate::text::Text;
 use crate::{hostile_rehearsals, hostile_scripts, rehearsal_reading, script_reading};
 use st_format::memory::{MemorySink, MemorySource};

@@ -189,7 +189,7 @@ const PICTURES: [(usize, u8, &[Row]); 11] = [
 
 /// The same of *contested-state-file*'s file and `load_receiver`. Behind the format block stand a
 /// payload type of 1 octet, a flag of 1, a source of 4, a number of timestamps of 1, a timestamp of
-/// 4, and four pixel groups: the first a state of 1, a mask of 2 and 4 octets.
+/// 4, and four pgroups: the first a state of 1, a mask of 2 and 4 octets.
 const RECEIVERS: [(usize, u8, &[Row]); 20] = [
     (
         47,

@@ -49,7 +49,7 @@ pub struct Delivered;
 #[derive(Drop)]
 pub struct Samples;
 
-/// `read_packed_picture`: how many octets its pixel groups have.
+/// `read_packed_picture`: how many octets its pgroups have.
 #[derive(Drop)]
 pub struct Packed;
 

@@ -121,7 +121,7 @@ fn packed_octets(rt: HostRuntime) -> Result<(), Fail> {
     Ok(())
 }
 
-/// Rows of up to `MOST_GROUPS` pixel groups.
+/// Rows of up to `MOST_GROUPS` pgroups.
 const MOST_GROUPS: usize = 9;
 
 /// Turns bit `place` of the octets, counted from the most significant of the first.

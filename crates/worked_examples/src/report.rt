@@ -1,4 +1,4 @@
-//! Reports: of *contested*, of each sampling and depth, of a row with each second pixel group,
+//! Reports: of *contested*, of each sampling and depth, of a row with each second pgroup,
 //! and through the engine.
 use crate::checks::met;
 use crate::datagrams::{begin, opened, put_head, takes_octets};
@@ -23,7 +23,7 @@ pub const REPORT: &[u8] = b"receiver YCbCr-4:2:2 8 4 2 60/1 pt 96 ssrc any\n\
 pub const FILE: &[u8] = b"S20RCV01\0\x08\0\x04\0\x02\0\0\0\x3C\0\0\0\x01\x60\0\0\0\0\0\x01\
     \0\0\x03\x84\x02\0\x02\x80\0\x80\x11\x01\x80\x12\x80\x13\0\0";
 
-/// A sampling, a depth, and how many columns, octets and samples a pixel group of theirs has
+/// A sampling, a depth, and how many columns, octets and samples a pgroup of theirs has
 /// (SMPTE ST 2110-20, the tables of pgroups).
 type Kind = (Sampling, Depth, u8, u8, u8);
 
@@ -84,7 +84,7 @@ fn contested_report(rt: HostRuntime) -> Result<(), Fail> {
     Ok(())
 }
 
-/// A datagram of the pixel group at a column of a row, all zeros but for its first and last octet.
+/// A datagram of the pgroup at a column of a row, all zeros but for its first and last octet.
 fn group(
     alloc: Global,
     place: (u16, u16),
@@ -102,7 +102,7 @@ fn group(
     Ok(datagram)
 }
 
-/// The sampling's word, and the names of the first and of the last sample of a pixel group.
+/// The sampling's word, and the names of the first and of the last sample of a pgroup.
 fn names(sampling: Sampling) -> (&'static str, &'static str, &'static str) {
     match sampling {
         Sampling::Ycc422 => ("YCbCr-4:2:2", "Cb", "Y"),
@@ -111,7 +111,7 @@ fn names(sampling: Sampling) -> (&'static str, &'static str, &'static str) {
     }
 }
 
-/// Whether a receiver of two rows of four pixel groups takes the second of the lower row twice: its
+/// Whether a receiver of two rows of four pgroups takes the second of the lower row twice: its
 /// first and its last sample are contested then.
 fn takes_twice(alloc: Global, receiver: &mut Receiver, kind: Kind) -> Result<bool, AllocError> {
     let (_, _, columns, octets, _) = kind;
@@ -134,7 +134,7 @@ fn counts_text(alloc: Global, kind: Kind) -> Result<String, AllocError> {
     )
 }
 
-/// Its lines of missing pixel groups.
+/// Its lines of missing pgroups.
 fn missing_text(alloc: Global, kind: Kind) -> Result<String, AllocError> {
     let columns = u32::from(kind.2);
     let before = columns.saturating_sub(1);
@@ -187,7 +187,7 @@ fn each_kind(rt: HostRuntime) -> Result<(), Fail> {
     Ok(())
 }
 
-/// Whether a receiver of a row of 8192 pixel groups takes each second one.
+/// Whether a receiver of a row of 8192 pgroups takes each second one.
 fn takes_each_second(alloc: Global, receiver: &mut Receiver) -> Result<bool, AllocError> {
     let mut are_taken = true;
     for pair in 0..4096u16 {

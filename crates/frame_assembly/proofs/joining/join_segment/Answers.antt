@@ -1,7 +1,8 @@
 use Rattle.std.proofs.Common.{◌≡◌, ℕ, ◌+◌, ◌/◌, ◌<◌, ◌≤◌, false, eqb, length, sym, ap, arith}
 use Rattle.std.proofs.lemmas.Bool.{eqb-true, eqb-false}
 use Rattle.payload_header.specs.Payload.{seen_segment, IsInside}
-use Rattle.frame_assembly.specs.Packed.{cells_in, group_count}
+use Rattle.frame_assembly.specs.Packed.{cells_in}
+use Rattle.st_format.specs.Position.{group_count}
 use Rattle.frame_assembly.proofs.PackedLemmas.{sizes}
 use Rattle.frame_assembly.proofs.Put.{no_octets, offset_below}
 use Rattle.frame_assembly.proofs.Runs.{end_below, part_between, part_packed, times_le}

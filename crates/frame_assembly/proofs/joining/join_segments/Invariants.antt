@@ -1,7 +1,8 @@
 use Rattle.std.proofs.Common.{◌≡◌, ℕ, drop, length, map}
 use Rattle.st_format.specs.Raster.{cells_of, joined_cells, offers_in_all}
 use Rattle.payload_header.specs.Payload.{seen_segment}
-use Rattle.frame_assembly.specs.Packed.{ArePacked, cells_in, group_count}
+use Rattle.frame_assembly.specs.Packed.{ArePacked, cells_in}
+use Rattle.st_format.specs.Position.{group_count}
 use Rattle.frame_assembly.proofs.joining.join_segments.Given as goal
 
 pub record Joins (whole packed rest : Type 0) : Type 0 where

@@ -1,7 +1,7 @@
 use Rattle.std.proofs.Common.{ℕ, List, map, sym, subst, arith}
 use Rattle.st_format.specs.Pgroup.{bits_of}
 use Rattle.st_format.specs.Samples.{Spells}
-use Rattle.frame_assembly.specs.Packed.{known_value}
+use Rattle.st_format.specs.Cell.{known_value}
 use Rattle.frame_assembly.specs.Rows.{group_cells}
 use Rattle.frame_assembly.proofs.RowLemmas.{group_few, group_marks, group_spelled, octets_inside}
 use Rattle.frame_assembly.proofs.RowLemmas.{raster_in}

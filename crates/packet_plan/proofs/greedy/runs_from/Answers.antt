@@ -1,5 +1,5 @@
 use Rattle.std.proofs.Common.{arith, refl}
-use Rattle.packet_plan.specs.Plan.{row_groups}
+use Rattle.st_format.specs.Position.{row_groups}
 use Rattle.packet_plan.proofs.Packets.{code_more, code_over}
 use Rattle.packet_plan.proofs.greedy.runs_from.Goals as goal
 

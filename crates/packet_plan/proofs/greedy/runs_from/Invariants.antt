@@ -1,7 +1,7 @@
 use Rattle.std.proofs.Common.{◌-◌, ◌+◌, ◌≡◌, ◌<◌, ◌≤◌, ◌++◌}
 use Rattle.arrayvec.specs.ArrayVec.{array_vec_len}
 use Rattle.packet_plan.specs.Greedy.{cut, packet_from}
-use Rattle.packet_plan.specs.Plan.{row_groups}
+use Rattle.st_format.specs.Position.{row_groups}
 use Rattle.packet_plan.proofs.greedy.runs_from.Given as goal
 
 pub record Cuts (so_far inside count low : Type 0) : Type 0 where

@@ -1,5 +1,5 @@
 use Rattle.std.proofs.Common.{◌-◌, ◌≤◌}
-use Rattle.packet_plan.specs.Plan.{group_count}
+use Rattle.st_format.specs.Position.{group_count}
 use Rattle.packet_plan.specs.Greedy.{IsWalk}
 use Rattle.packet_plan.proofs.greedy.starts_of.Given as goal
 

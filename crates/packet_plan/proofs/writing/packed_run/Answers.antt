@@ -1,6 +1,7 @@
 use Rattle.std.proofs.Common.{◌+◌, ◌*◌, ap, ◌∙◌, arith}
 use Rattle.std.proofs.lemmas.Nat.{mul-le}
-use Rattle.packet_plan.specs.Plan.{group_octets, row_groups}
+use Rattle.packet_plan.specs.Plan.{group_octets}
+use Rattle.st_format.specs.Position.{row_groups}
 use Rattle.packet_plan.proofs.RunLemmas.{groups_below, place_below}
 use Rattle.packet_plan.proofs.PackedRuns.{packed_inside, packed_is}
 use Rattle.packet_plan.proofs.writing.packed_run.Goals as goal

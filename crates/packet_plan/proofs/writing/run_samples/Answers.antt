@@ -1,7 +1,7 @@
 use Rattle.std.proofs.Common.{◌+◌, ◌*◌, length, ap, ◌∙◌, sym, subst, arith}
 use Rattle.std.specs.List.{All}
 use Rattle.st_format.specs.Picture.{FitsDepth}
-use Rattle.packet_plan.specs.Plan.{row_groups}
+use Rattle.st_format.specs.Position.{row_groups}
 use Rattle.packet_plan.specs.Sent.{group_samples}
 use Rattle.std.proofs.lemmas.Nat.{mul-le}
 use Rattle.packet_plan.proofs.RunLemmas.{groups_below, place_below, run_inside, run_is, run_fits}

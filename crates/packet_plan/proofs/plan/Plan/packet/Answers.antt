@@ -1,6 +1,7 @@
 use Rattle.std.proofs.Common.{◌≡◌, ◌<◌, ℕ, length, map, get_or, sym, subst, ◌∙◌, arith}
 use Rattle.std.proofs.lemmas.List.{get_or_default}
-use Rattle.packet_plan.specs.Plan.{RasterPlan, group_count}
+use Rattle.packet_plan.specs.Plan.{RasterPlan}
+use Rattle.st_format.specs.Position.{group_count}
 use Rattle.packet_plan.specs.Greedy.{packet_from}
 use Rattle.packet_plan.proofs.Walks.{walk_below, length-map}
 use Rattle.packet_plan.proofs.plan.Plan.packet.Goals as goal
