@@ -21,7 +21,8 @@ use Rattle.capture_file.specs.Blocks.{block_at, block_of}
 use Rattle.capture_file.specs.Fields.{field_at}
 use Rattle.st_format.specs.Reading.{◌>>=◌}
 use Rattle.capture_file.specs.Fronts.{kind_at, kind_text, picture_name, version_text, with_rest}
-use Rattle.capture_file.specs.PictureFaults.{HasCutGroups, HasHead, HasNoFormat, HasOtherThanOne}
+use Rattle.capture_file.specs.PictureFaults.{HasCutGroups, HasPictureHead, HasNoFormat}
+use Rattle.capture_file.specs.PictureFaults.{HasOtherThanOne}
 use Rattle.capture_file.specs.PictureFaults.{HasTrailing, IsCutPicture, IsFormat, IsPictureFault}
 use Rattle.capture_file.specs.PictureFaults.IsCutPicture.{Kind, Block, Groups}
 use Rattle.capture_file.specs.PictureFile.{Shown, nothing_at, one_at, one_by, picture_walk}
@@ -286,7 +287,8 @@ raster_takes f octets x h =
           ∙ length-drop n octets;
     }
 
-raster_fault : (f : Fields) (behind octets : List ℕ) (e : FileFault) → HasHead octets f behind
+raster_fault : (f : Fields) (behind octets : List ℕ) (e : FileFault)
+    → HasPictureHead octets f behind
     → raster_at f behind ≡ Err e → IsPictureFault e octets
 unfolding raster_at
 raster_fault f behind octets e head h =
@@ -301,7 +303,7 @@ raster_fault f behind octets e head h =
     ]
 
 end_fault : (f : Fields) (behind octets : List ℕ) (x : Part) (e : FileFault)
-    → HasHead octets f behind → raster_at f behind ≡ Ok x → read_end f x ≡ Err e
+    → HasPictureHead octets f behind → raster_at f behind ≡ Ok x → read_end f x ≡ Err e
     → IsPictureFault e octets
 end_fault f behind octets x e head is h =
     elim (split_fails (nothing_at x.1) (showing f x.0) e h) [
@@ -357,7 +359,7 @@ picture_fails e octets bytes h =
             | inl p ↦ block_fault octets v.first.1 e whole p
             | inr f ↦
                 let s = block_stands v.first.1 f.first rest f.is in
-                let head : HasHead octets f.first.0 f.first.1 = record {
+                let head : HasPictureHead octets f.first.0 f.first.1 = record {
                   is = s.format;
                   whole = whole ∙ ap (λ (o : List ℕ). kind_text picture_name One ++ o) s.text
                       ∙ sym (append_assoc (kind_text picture_name One) (format_text f.first.0)
@@ -385,7 +387,7 @@ format_tells octets rest e whole h =
     ∙ ap (λ (r : Result Kinded FileFault). r >>= read_format) (one_again rest)
     ∙ ap (λ (r : Result Formed FileFault). r >>= read_raster) h
 
-head_tells : (f : Fields) (behind octets : List ℕ) → HasHead octets f behind
+head_tells : (f : Fields) (behind octets : List ℕ) → HasPictureHead octets f behind
     → picture_walk octets ≡ read_raster (f, behind)
 unfolding picture_walk
 head_tells f behind octets head =

@@ -38,7 +38,7 @@ pub record HasNoFormat (octets : List ℕ) : Type 0 where
   pub none : (f : Fields) → IsFormat f → block ≢ format_text f
 
 -- The head of a picture of some format, and these octets behind it.
-pub record HasHead (octets : List ℕ) (format : Fields) (behind : List ℕ) : Type 0 where
+pub record HasPictureHead (octets : List ℕ) (format : Fields) (behind : List ℕ) : Type 0 where
   pub is : IsFormat format
   pub whole : octets ≡ head_of format ++ behind
 
@@ -46,14 +46,14 @@ pub record HasHead (octets : List ℕ) (format : Fields) (behind : List ℕ) : T
 pub record HasCutGroups (octets : List ℕ) : Type 0 where
   pub format : Fields
   pub behind : List ℕ
-  pub head : HasHead octets format behind
+  pub head : HasPictureHead octets format behind
   pub short : length behind < raster_octets format
 
 -- more octets behind the head than the pgroups take
 pub record HasTrailing (octets : List ℕ) : Type 0 where
   pub format : Fields
   pub behind : List ℕ
-  pub head : HasHead octets format behind
+  pub head : HasPictureHead octets format behind
   pub long : raster_octets format < length behind
 
 -- The octets end within name or version, within the format block, or within the pgroups.

@@ -23,7 +23,8 @@ use Rattle.payload_header.specs.View.{segments_of}
 use Rattle.st_format.specs.Samples.{bits, values_in}
 use Rattle.st_format.proofs.Spelled.{values_in-spelled}
 use Rattle.st_format.proofs.WholeOctets.{values_in-fit}
-use Rattle.frame_assembly.specs.Packed.{ArePacked, IsKept, IsMark, IsPacked, cells_from, cells_in}
+use Rattle.frame_assembly.specs.Packed.{ArePacked, HasAllGroups, IsMark, IsPacked, cells_from}
+use Rattle.frame_assembly.specs.Packed.{cells_in}
 use Rattle.frame_assembly.specs.Packed.{marked, packed_cells}
 use Rattle.st_format.specs.Cell.{known_value}
 use Rattle.frame_assembly.proofs.PackedLemmas.{AreSizes, groups_agree, length-packed_cells, sizes}
@@ -69,7 +70,7 @@ packed_fit f size (m ∷ marks) octets =
     (packed_fit f size marks (drop size octets))
 
 pub kept : (f : Format) (marks octets : List ℕ) → length marks ≡ group_count f
-    → ArePacked f marks octets → IsKept f marks octets
+    → ArePacked f marks octets → HasAllGroups f marks octets
 kept f marks octets groups packed = record {
   groups = groups;
   packed = packed;
@@ -169,7 +170,7 @@ blank_cells f marks octets k many is_marks is_octets =
 
 pub blank_kept : (f : Format) (marks octets : List ℕ) (k : ℕ) → k ≡ group_count f
     → marks ≡ replicate k 0 → octets ≡ replicate ((pixel_group f.sampling f.depth).octets * k) 0
-    → IsKept f marks octets
+    → HasAllGroups f marks octets
 blank_kept f marks octets k many is_marks is_octets =
     kept f marks octets (ap length is_marks ∙ length-replicate {A = ℕ} k 0 ∙ many)
     (subst (λ (ms : List ℕ). ArePacked f ms octets) (sym is_marks)
@@ -189,12 +190,12 @@ back len items new long = take_at new (drop (length new) items) len long
 pub kept_back : (f : Format) (marks_len octets_len : ℕ)
     (marks octets new_marks new_octets : List ℕ) → length new_marks ≡ marks_len
     → length new_octets ≡ octets_len
-    → IsKept f new_marks new_octets
-    → IsKept f (put_back marks_len marks new_marks) (put_back octets_len octets new_octets)
+    → HasAllGroups f new_marks new_octets
+    → HasAllGroups f (put_back marks_len marks new_marks) (put_back octets_len octets new_octets)
 kept_back f marks_len octets_len marks octets new_marks new_octets long other_long is =
-    subst (λ (ms : List ℕ). IsKept f ms (put_back octets_len octets new_octets))
+    subst (λ (ms : List ℕ). HasAllGroups f ms (put_back octets_len octets new_octets))
     (sym (back marks_len marks new_marks long))
-    (subst (IsKept f new_marks) (sym (back octets_len octets new_octets other_long)) is)
+    (subst (HasAllGroups f new_marks) (sym (back octets_len octets new_octets other_long)) is)
 
 pub cells_back : (f : Format) (marks_len octets_len : ℕ)
     (marks octets new_marks new_octets : List ℕ) → length new_marks ≡ marks_len

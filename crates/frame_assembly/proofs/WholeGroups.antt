@@ -7,7 +7,7 @@ use Rattle.st_format.specs.declared.cell.Cell.TheVariants.{Missing}
 use Rattle.st_format.specs.declared.format.Format.{Format}
 use Rattle.st_format.specs.Cell.{is_missing}
 use Rattle.st_format.specs.Position.{row_groups}
-use Rattle.frame_assembly.specs.Packed.{IsKept}
+use Rattle.frame_assembly.specs.Packed.{HasAllGroups}
 use Rattle.frame_assembly.specs.Rows.{GroupsAreWhole, IsAllOrNone, IsMarkOf, group_cells}
 use Rattle.frame_assembly.proofs.RowLemmas.{group_marks, raster_in}
 
@@ -19,7 +19,7 @@ alike false cells same = inr same
 all_or_none : (mark : ℕ) (cells : List Cell) → IsMarkOf mark cells → IsAllOrNone cells
 all_or_none mark cells is = alike (bit_at mark 15 == 0) cells is.missing
 
-pub whole_groups : (f : Format) (marks octets : List ℕ) → IsKept f marks octets
+pub whole_groups : (f : Format) (marks octets : List ℕ) → HasAllGroups f marks octets
     → GroupsAreWhole (raster_in f marks octets)
 whole_groups f marks octets kept row group lt below =
     let at : ℕ = row * row_groups f + group in

@@ -72,7 +72,7 @@ abbrev pub whole_marks : ℕ → List ℕ
 whole_marks count = replicate count 32768
 
 -- What a frame keeps: all groups of its raster; so its cells are a frame's
-pub record IsKept (f : Format) (marks octets : List ℕ) : Type 0 where
+pub record HasAllGroups (f : Format) (marks octets : List ℕ) : Type 0 where
   pub groups : length marks ≡ group_count f
   pub packed : ArePacked f marks octets
   pub frame : IsFrame (record { format = f; cells = cells_in f marks octets })

@@ -45,7 +45,7 @@ pub struct Frame<A: Allocator = Global> {
 }
 
 impl<A: Allocator> Model for Frame<A> {
-    ghost use Rattle.frame_assembly.specs.Packed.{IsKept, cells_in};
+    ghost use Rattle.frame_assembly.specs.Packed.{HasAllGroups, cells_in};
     ghost use Rattle.st_format.specs.Raster.{Raster};
 
     // The format, and the cells in raster order
@@ -57,7 +57,7 @@ impl<A: Allocator> Model for Frame<A> {
           cells_in a.format a.marks.items a.octets.items;
     } };
 
-    ghost invariant = { λ a. IsKept a.format a.marks.items a.octets.items };
+    ghost invariant = { λ a. HasAllGroups a.format a.marks.items a.octets.items };
 }
 
 impl<A: Allocator + Copy> Frame<A> {

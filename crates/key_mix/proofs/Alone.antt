@@ -6,7 +6,7 @@ use Rattle.bt709_fixed.specs.declared.ColourFault.{ColourFault}
 use Rattle.bt709_fixed.specs.declared.ColourFault.TheVariants as colour
 use Rattle.bt709_fixed.specs.declared.RangeKind.{RangeKind}
 use Rattle.key_mix.specs.Faults.{colour_job_fault}
-use Rattle.key_mix.specs.Jobs.{Against, IsFault, IsSound, turn_of}
+use Rattle.key_mix.specs.Jobs.{Against, IsFault, IsSoundJob, turn_of}
 use Rattle.key_mix.specs.declared.Job.TheVariants.{Limit, Gain, ToYcc444, ToYcc422}
 use Rattle.key_mix.specs.declared.faults.JobFault.{JobFault}
 use Rattle.key_mix.specs.declared.faults.JobFault.TheVariants.{
@@ -21,7 +21,7 @@ use Rattle.key_mix.specs.declared.faults.JobFault.TheVariants.{
 }
 use Rattle.key_mix.proofs.Refused.{err, fault_of, no_fault, ok}
 
-pub sound_limit : (range : RangeKind) (f : Format) → IsSound (Limit range) (f ∷ [])
+pub sound_limit : (range : RangeKind) (f : Format) → IsSoundJob (Limit range) (f ∷ [])
 sound_limit range f NoMemory h = absurd h
 sound_limit range f FormatsDiffer h = absurd h
 sound_limit range f KeyNotYcc h = absurd h
@@ -31,7 +31,7 @@ sound_limit range f NotYcc444 h = absurd h
 sound_limit range f WrongInputCount h = absurd (h refl)
 sound_limit range f BadGain h = absurd h
 
-pub sound_gain : (g : ℕ) (f : Format) → g ≤ 16384 → IsSound (Gain g) (f ∷ [])
+pub sound_gain : (g : ℕ) (f : Format) → g ≤ 16384 → IsSoundJob (Gain g) (f ∷ [])
 sound_gain g f most NoMemory h = absurd h
 sound_gain g f most FormatsDiffer h = absurd h
 sound_gain g f most KeyNotYcc h = absurd h
@@ -41,7 +41,7 @@ sound_gain g f most NotYcc444 h = absurd h
 sound_gain g f most WrongInputCount h = absurd (h refl)
 sound_gain g f most BadGain h = absurd (omega (arith, most, h))
 
-sound_ycc444 : (f : Format) → (f.sampling ≢ Rgb → ⊥) → IsSound ToYcc444 (f ∷ [])
+sound_ycc444 : (f : Format) → (f.sampling ≢ Rgb → ⊥) → IsSoundJob ToYcc444 (f ∷ [])
 sound_ycc444 f rgb NoMemory h = absurd h
 sound_ycc444 f rgb FormatsDiffer h = absurd h
 sound_ycc444 f rgb KeyNotYcc h = absurd h
@@ -51,7 +51,7 @@ sound_ycc444 f rgb NotYcc444 h = absurd h
 sound_ycc444 f rgb WrongInputCount h = absurd (h refl)
 sound_ycc444 f rgb BadGain h = absurd h
 
-sound_ycc422 : (f : Format) → (f.sampling ≢ Ycc444 → ⊥) → IsSound ToYcc422 (f ∷ [])
+sound_ycc422 : (f : Format) → (f.sampling ≢ Ycc444 → ⊥) → IsSoundJob ToYcc422 (f ∷ [])
 sound_ycc422 f full NoMemory h = absurd h
 sound_ycc422 f full FormatsDiffer h = absurd h
 sound_ycc422 f full KeyNotYcc h = absurd h
@@ -67,12 +67,12 @@ memory_apart : {T : Type 0} (d : ColourFault) → (colour.NoMemory ≡ d → ⊥
 memory_apart d apart h = apart (ap (fault_of colour.NoMemory) h)
 
 pub made_ycc444 : {T : Type 0} (x : T) (f : Format)
-    → (ok ColourFault x ≡ err T colour.NotRgb) ↔ (f.sampling ≢ Rgb) → IsSound ToYcc444 (f ∷ [])
+    → (ok ColourFault x ≡ err T colour.NotRgb) ↔ (f.sampling ≢ Rgb) → IsSoundJob ToYcc444 (f ∷ [])
 made_ycc444 x f when = sound_ycc444 f (λ h. no_fault x colour.NotRgb (when.1 h))
 
 pub made_ycc422 : {T : Type 0} (x : T) (f : Format)
     → (ok ColourFault x ≡ err T colour.NotYcc444) ↔ (f.sampling ≢ Ycc444)
-    → IsSound ToYcc422 (f ∷ [])
+    → IsSoundJob ToYcc422 (f ∷ [])
 made_ycc422 x f when = sound_ycc422 f (λ h. no_fault x colour.NotYcc444 (when.1 h))
 
 -- no fault comes before the one of the sampling

@@ -3,7 +3,7 @@ use Rattle.std.proofs.Common.{◌≡◌, ◌≢◌, ◌↔◌, ℕ, List, Result
 use Rattle.std.proofs.Common.{length, refl, arith, ap, inl, inr, subst, sym, ◌∙◌}
 use Rattle.std.specs.Result.{IsErrAnd}
 use Rattle.st_format.specs.declared.format.Format.{Format}
-use Rattle.key_mix.specs.Jobs.{IsFault, IsRefusal, IsSound, inputs_of}
+use Rattle.key_mix.specs.Jobs.{IsFault, IsRefusal, IsSoundJob, inputs_of}
 use Rattle.key_mix.specs.declared.WipeShape.{WipeShape}
 use Rattle.key_mix.specs.declared.Job.{Job}
 use Rattle.key_mix.specs.declared.Job.TheVariants.{Limit, Gain, ToYcc444, ToYcc422, Wipe, Key}
@@ -48,9 +48,9 @@ fault_is (Err x) e j k fs same h is =
     subst (λ i. IsFault x i fs) (sym same) (subst (λ y. IsFault y j fs) (sym h) is)
 
 pub no_memory_left : {T : Type 0} (r : Result T JobFault) (j : Job) (fs gs : List Format) → fs ≡ gs
-    → IsErrAnd r (λ x. x ≡ NoMemory) → IsSound j fs → IfErr r (λ x. IsFault x j gs)
+    → IsErrAnd r (λ x. x ≡ NoMemory) → IsSoundJob j fs → IfErr r (λ x. IsFault x j gs)
 no_memory_left (Ok x) j fs gs same h is = absurd h
-no_memory_left (Err x) j fs gs same h is = inl (h, subst (IsSound j) same is)
+no_memory_left (Err x) j fs gs same h is = inl (h, subst (IsSoundJob j) same is)
 
 pub no_fault : {T E : Type 0} (x : T) (e : E) → ok E x ≡ err T e → ⊥
 no_fault x e h = cc

@@ -15,7 +15,7 @@ use Rattle.key_mix.specs.declared.faults.SendJobFault.{SendJobFault}
 use Rattle.key_mix.specs.declared.faults.SendJobFault.TheVariants as fault
 use Rattle.key_mix.specs.declared.Job.{Job}
 use Rattle.key_mix.specs.declared.Job.TheVariants.{Limit, Gain, ToYcc444, ToYcc422, Wipe, Key}
-use Rattle.key_mix.specs.Jobs.{IsFault, IsJobFormat, IsJobPicture, IsSound, formats_of}
+use Rattle.key_mix.specs.Jobs.{IsFault, IsJobFormat, IsJobPicture, IsSoundJob, formats_of}
 use Rattle.key_mix.specs.Faults.{plan_job_fault}
 use Rattle.key_mix.specs.Sending.{IsSendFault, Sends, input_formats, settled_inputs}
 use Rattle.key_mix.specs.declared.sending.JobInput.{JobInput}
@@ -49,7 +49,7 @@ settled_formats [] = refl
 settled_formats (i ∷ is) = ap (λ fs. i.frame.now.format ∷ fs) (settled_formats is)
 
 -- a sound job has no fault but memory
-pub only_memory : (e : JobFault) (j : Job) (fs : List Format) → IsSound j fs → IsFault e j fs
+pub only_memory : (e : JobFault) (j : Job) (fs : List Format) → IsSoundJob j fs → IsFault e j fs
     → e ≡ NoMemory
 only_memory e j fs sound (inl h) = h.0
 only_memory e j fs sound (inr h) = absurd (sound e h.is)
@@ -87,7 +87,7 @@ ok_apart x h = cc
 
 -- a plan's fault is one of sending, and where there is a plan its size is one
 pub plan_fault : {T : Type 0} → (e : PlanFault) (j : Job) (fs : List Format) (f : Format) (size : ℕ)
-    → IsSound j fs → IsJobFormat f j fs
+    → IsSoundJob j fs → IsJobFormat f j fs
     → (err T e ≡ err T plan.BadPacketSize) ↔ ((size < 20 + group_octets f) ⊎ (9000 < size))
     → IsSendFault (plan_job_fault e) j fs size
 plan_fault {T} plan.NoMemory j fs f size sound is when =
@@ -109,7 +109,7 @@ pub plan_fits : {T : Type 0} → (x : T) (f : Format) (size : ℕ)
 plan_fits x f size when = size_fits f size (λ h. absurd (ok_apart x (when.1 h)))
 
 -- a result of a sound job whose faults come as they should has none but memory
-pub only_if : {T : Type 0} → (r : Result T JobFault) (j : Job) (fs : List Format) → IsSound j fs
+pub only_if : {T : Type 0} → (r : Result T JobFault) (j : Job) (fs : List Format) → IsSoundJob j fs
     → IfErr r (λ e. IsFault e j fs) → IfErr r (λ e. e ≡ NoMemory)
 only_if (Ok x) j fs sound h = tt
 only_if (Err e) j fs sound h = only_memory e j fs sound h

@@ -118,8 +118,8 @@ turn_of NotYcc444 = 6
 turn_of NoMemory = 7
 
 -- nothing speaks against a job
-abbrev pub IsSound : Job → List Format → Type 0
-IsSound j fs = (e : JobFault) → Against e j fs → ⊥
+abbrev pub IsSoundJob : Job → List Format → Type 0
+IsSoundJob j fs = (e : JobFault) → Against e j fs → ⊥
 
 -- the first refusal
 pub record IsRefusal (e : JobFault) (j : Job) (fs : List Format) : Type 0 where
@@ -128,4 +128,4 @@ pub record IsRefusal (e : JobFault) (j : Job) (fs : List Format) : Type 0 where
 
 -- When each fault comes: the first refusal, and memory where there is none
 abbrev pub IsFault : JobFault → Job → List Format → Type 0
-IsFault e j fs = ((e ≡ NoMemory) × IsSound j fs) ⊎ IsRefusal e j fs
+IsFault e j fs = ((e ≡ NoMemory) × IsSoundJob j fs) ⊎ IsRefusal e j fs

@@ -24,7 +24,7 @@ use Rattle.packet_plan.specs.declared.run.PacketRun.{PacketRun}
 use Rattle.packet_plan.specs.declared.stamp.Stamp.{Stamp}
 use Rattle.packet_plan.specs.Plan.{IsSize}
 use Rattle.packet_plan.specs.Sent.{IsSentPicture}
-use Rattle.key_mix.specs.Jobs.{IsJobFormat, IsJobPicture, IsRefusal, IsSound}
+use Rattle.key_mix.specs.Jobs.{IsJobFormat, IsJobPicture, IsRefusal, IsSoundJob}
 use Rattle.key_mix.specs.declared.Job.{Job}
 use Rattle.key_mix.specs.declared.faults.JobFault.TheVariants.{NoMemory}
 use Rattle.key_mix.specs.declared.faults.SendJobFault.{SendJobFault}
@@ -73,14 +73,14 @@ CountsSink old new (Err fault.BadPacketSize) = new ≡ old
 
 -- Nothing speaks against the job, and the size is one for the format of its picture.
 pub record IsSendable (j : Job) (formats : List Format) (size : ℕ) : Type 0 where
-  pub sound : IsSound j formats
+  pub sound : IsSoundJob j formats
   pub format : Format
   pub is : IsJobFormat format j formats
   pub fits : IsSize size format
 
 -- Nothing speaks against the job, and the size is none for the format of its picture.
 pub record IsBadSize (j : Job) (formats : List Format) (size : ℕ) : Type 0 where
-  pub sound : IsSound j formats
+  pub sound : IsSoundJob j formats
   pub format : Format
   pub is : IsJobFormat format j formats
   pub none : IsSize size format → ⊥

@@ -14,7 +14,7 @@ ghost use Rattle.std.specs.Prelude.{
   OnOk,
 };
 ghost use Rattle.st_format.specs.declared.sampling.Sampling.TheVariants.{Rgb};
-ghost use Rattle.key_mix.specs.Jobs.{IsAlike, IsJobFormat, IsRefusal, IsSound, extent};
+ghost use Rattle.key_mix.specs.Jobs.{IsAlike, IsJobFormat, IsRefusal, IsSoundJob, extent};
 ghost use Rattle.key_mix.specs.declared.Job.TheVariants.{Key, Wipe};
 ghost use Rattle.key_mix.specs.declared.faults.JobFault.TheVariants.{
   FormatsDiffer,
@@ -29,7 +29,7 @@ use st_format::{Format, Sampling};
 /// The format of a job's picture of one picture of this format, or the first refusal.
 pub(crate) fn format_of_one(job: &Job, format: Format) -> Result<Format, JobFault>
     ensures format { IfOk result (λ f. IsJobFormat f job.now (format ∷ [])) }
-    ensures sound { OnOk result (IsSound job.now (format ∷ [])) }
+    ensures sound { OnOk result (IsSoundJob job.now (format ∷ [])) }
     ensures refusal { IfErr result (λ e. IsRefusal e job.now (format ∷ [])) }
 {
     match job {
@@ -54,7 +54,7 @@ pub(crate) const MOST_GAIN: u32 = 16384;
 /// The same of two pictures.
 pub(crate) fn format_of_two(job: &Job, a: Format, b: Format) -> Result<Format, JobFault>
     ensures format { IfOk result (λ f. IsJobFormat f job.now (a ∷ b ∷ [])) }
-    ensures sound { OnOk result (IsSound job.now (a ∷ b ∷ [])) }
+    ensures sound { OnOk result (IsSoundJob job.now (a ∷ b ∷ [])) }
     ensures refusal { IfErr result (λ e. IsRefusal e job.now (a ∷ b ∷ [])) }
 {
     match job {
@@ -74,7 +74,7 @@ pub(crate) fn format_of_three(
     by: Format,
 ) -> Result<Format, JobFault>
     ensures format { IfOk result (λ f. IsJobFormat f job.now (a ∷ b ∷ by ∷ [])) }
-    ensures sound { OnOk result (IsSound job.now (a ∷ b ∷ by ∷ [])) }
+    ensures sound { OnOk result (IsSoundJob job.now (a ∷ b ∷ by ∷ [])) }
     ensures refusal { IfErr result (λ e. IsRefusal e job.now (a ∷ b ∷ by ∷ [])) }
 {
     match job {
@@ -94,7 +94,7 @@ pub(crate) fn test_wipe(a: Format, b: Format, shape: WipeShape) -> Result<(), Jo
         ↔ ((a ≡ b)
         × ((extent shape.axis a < shape.position) ⊎ (extent shape.axis a < shape.soft))) }
     ensures only { IfErr result (λ e. (e ≡ FormatsDiffer) ⊎ (e ≡ BadWipe)) }
-    ensures sound { OnOk result (IsSound (Wipe shape) (a ∷ b ∷ [])) }
+    ensures sound { OnOk result (IsSoundJob (Wipe shape) (a ∷ b ∷ [])) }
     ensures refusal { IfErr result (λ e. IsRefusal e (Wipe shape) (a ∷ b ∷ [])) }
 {
     if !a.same(&b) {
@@ -114,7 +114,7 @@ pub(crate) fn test_key(a: Format, b: Format, by: Format) -> Result<(), JobFault>
     ensures ycc { (result ≡ Err KeyNotYcc)
         ↔ ((a ≡ b) × IsAlike a by × (by.sampling ≡ Rgb)) }
     ensures only { IfErr result (λ e. (e ≡ FormatsDiffer) ⊎ (e ≡ KeyNotYcc)) }
-    ensures sound { OnOk result (IsSound Key (a ∷ b ∷ by ∷ [])) }
+    ensures sound { OnOk result (IsSoundJob Key (a ∷ b ∷ by ∷ [])) }
     ensures refusal { IfErr result (λ e. IsRefusal e Key (a ∷ b ∷ by ∷ [])) }
 {
     if !a.same(&b) || !are_alike(a, by) {

@@ -1,7 +1,7 @@
 //! Running a job on pictures.
 ghost use Rattle.std.specs.Prelude.{◌≡◌, ◌∷◌, [], IfErr, IfOk, OnOk};
 ghost use Rattle.st_format.specs.Picture.{IsPicture};
-ghost use Rattle.key_mix.specs.Jobs.{IsFault, IsJobPicture, IsSound, formats_of};
+ghost use Rattle.key_mix.specs.Jobs.{IsFault, IsJobPicture, IsSoundJob, formats_of};
 
 use crate::formats::MOST_GAIN;
 use crate::{Job, JobFault, key, wipe};
@@ -24,7 +24,7 @@ pub fn run_job<A: Allocator, C: Allocator + Copy>(
 ) -> Result<Picture<C>, JobFault>
     ensures made { IfOk result (λ p. IsJobPicture p job.now inputs.now) }
     ensures whole { IfOk result (λ p. IsPicture p) }
-    ensures sound { OnOk result (IsSound job.now (formats_of inputs.now)) }
+    ensures sound { OnOk result (IsSoundJob job.now (formats_of inputs.now)) }
     ensures fault { IfErr result (λ e. IsFault e job.now (formats_of inputs.now)) }
 {
     match inputs.len() {
@@ -43,7 +43,7 @@ fn run_on_one<A: Allocator, C: Allocator + Copy>(
 ) -> Result<Picture<C>, JobFault>
     ensures made { IfOk result (λ p. IsJobPicture p job.now (picture.now ∷ [])) }
     ensures whole { IfOk result (λ p. IsPicture p) }
-    ensures sound { OnOk result (IsSound job.now (picture.now.format ∷ [])) }
+    ensures sound { OnOk result (IsSoundJob job.now (picture.now.format ∷ [])) }
     ensures fault { IfErr result (λ e. IsFault e job.now (picture.now.format ∷ [])) }
 {
     match job {
@@ -65,7 +65,7 @@ fn run_on_two<A: Allocator, C: Allocator + Copy>(
 ) -> Result<Picture<C>, JobFault>
     ensures made { IfOk result (λ p. IsJobPicture p job.now (a.now ∷ b.now ∷ [])) }
     ensures whole { IfOk result (λ p. IsPicture p) }
-    ensures sound { OnOk result (IsSound job.now (a.now.format ∷ b.now.format ∷ [])) }
+    ensures sound { OnOk result (IsSoundJob job.now (a.now.format ∷ b.now.format ∷ [])) }
     ensures fault { IfErr result (λ e. IsFault e job.now (a.now.format ∷ b.now.format ∷ [])) }
 {
     match job {
@@ -85,7 +85,7 @@ fn run_on_three<A: Allocator, C: Allocator + Copy>(
     ensures made { IfOk result (λ p. IsJobPicture p job.now (a.now ∷ b.now ∷ by.now ∷ [])) }
     ensures whole { IfOk result (λ p. IsPicture p) }
     ensures sound { OnOk result
-        (IsSound job.now (a.now.format ∷ b.now.format ∷ by.now.format ∷ [])) }
+        (IsSoundJob job.now (a.now.format ∷ b.now.format ∷ by.now.format ∷ [])) }
     ensures fault { IfErr result (λ e.
         IsFault e job.now (a.now.format ∷ b.now.format ∷ by.now.format ∷ [])) }
 {

@@ -30,7 +30,7 @@ ghost use Rattle.st_format.specs.Position.{
   sample_count,
 };
 ghost use Rattle.bt709_fixed.specs.Operations.{IsOf};
-ghost use Rattle.key_mix.specs.Jobs.{IsAlike, IsFault, IsSound, key_value};
+ghost use Rattle.key_mix.specs.Jobs.{IsAlike, IsFault, IsSoundJob, key_value};
 ghost use Rattle.key_mix.specs.Rows.{column_key, keyed_at};
 ghost use Rattle.key_mix.specs.declared.Job.TheVariants.{Key};
 ghost use Rattle.key_mix.specs.declared.faults.JobFault.TheVariants.{FormatsDiffer, KeyNotYcc};
@@ -59,7 +59,7 @@ pub fn key<A: Allocator, B: Allocator, K: Allocator, C: Allocator + Copy>(
         ↔ ((a.now.format ≡ b.now.format) × IsAlike a.now.format by.now.format
         × (by.now.format.sampling ≡ Rgb)) }
     ensures sound { OnOk result
-        (IsSound Key (a.now.format ∷ b.now.format ∷ by.now.format ∷ [])) }
+        (IsSoundJob Key (a.now.format ∷ b.now.format ∷ by.now.format ∷ [])) }
     ensures fault { IfErr result (λ e.
         IsFault e Key (a.now.format ∷ b.now.format ∷ by.now.format ∷ [])) }
 {

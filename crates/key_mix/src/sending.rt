@@ -2,7 +2,7 @@
 ghost use Rattle.std.specs.Prelude.{◌≡◌, ◌≤◌, IfErr, IfOk, OnOk};
 ghost use Rattle.std.specs.List.{AllByRecursion};
 ghost use Rattle.packet_plan.specs.Sent.{IsSentPicture};
-ghost use Rattle.key_mix.specs.Jobs.{IsJobFormat, IsJobPicture, IsRefusal, IsSound};
+ghost use Rattle.key_mix.specs.Jobs.{IsJobFormat, IsJobPicture, IsRefusal, IsSoundJob};
 ghost use Rattle.key_mix.specs.Sending.{
   CountsSink,
   HasBase,
@@ -97,7 +97,7 @@ fn job_picture<A: Allocator, C: Allocator + Copy>(
     inputs: &[JobInput<'_, A>],
 ) -> Result<Picture<C>, JobFault>
     requires bases { AllByRecursion HasBase inputs.now }
-    requires sound { IsSound job.now (input_formats inputs.now) }
+    requires sound { IsSoundJob job.now (input_formats inputs.now) }
     ensures made { IfOk result (λ p. IsJobPicture p job.now (settled_inputs inputs.now)) }
     ensures only { IfErr result (λ e. e ≡ NoMemory) }
 {
@@ -128,7 +128,7 @@ fn send_picture<A: Allocator, B: Allocator, C: Allocator, S: DatagramSink>(
 /// The format of a job's picture of inputs, or the first refusal.
 fn job_format<A: Allocator>(job: &Job, inputs: &[JobInput<'_, A>]) -> Result<Format, JobFault>
     ensures format { IfOk result (λ f. IsJobFormat f job.now (input_formats inputs.now)) }
-    ensures sound { OnOk result (IsSound job.now (input_formats inputs.now)) }
+    ensures sound { OnOk result (IsSoundJob job.now (input_formats inputs.now)) }
     ensures refusal { IfErr result (λ e. IsRefusal e job.now (input_formats inputs.now)) }
 {
     match inputs {

@@ -21,7 +21,7 @@ ghost use Rattle.st_format.specs.Picture.{IsPicture};
 ghost use Rattle.st_format.specs.Position.{row_samples, sample_count};
 ghost use Rattle.lane_kernels.specs.Formulas.{weight};
 ghost use Rattle.bt709_fixed.specs.Operations.{IsOf};
-ghost use Rattle.key_mix.specs.Jobs.{IsFault, IsSound, extent, wipe_value};
+ghost use Rattle.key_mix.specs.Jobs.{IsFault, IsSoundJob, extent, wipe_value};
 ghost use Rattle.key_mix.specs.Rows.{next_weight, row_weight, wiped_at};
 ghost use Rattle.key_mix.specs.declared.Job.TheVariants.{Wipe};
 ghost use Rattle.key_mix.specs.declared.faults.JobFault.TheVariants.{FormatsDiffer, BadWipe};
@@ -48,7 +48,7 @@ pub fn wipe<A: Allocator, B: Allocator, C: Allocator + Copy>(
         ↔ ((a.now.format ≡ b.now.format)
         × ((extent shape.axis a.now.format < shape.position)
         ⊎ (extent shape.axis a.now.format < shape.soft))) }
-    ensures sound { OnOk result (IsSound (Wipe shape) (a.now.format ∷ b.now.format ∷ [])) }
+    ensures sound { OnOk result (IsSoundJob (Wipe shape) (a.now.format ∷ b.now.format ∷ [])) }
     ensures fault { IfErr result (λ e.
         IsFault e (Wipe shape) (a.now.format ∷ b.now.format ∷ [])) }
 {

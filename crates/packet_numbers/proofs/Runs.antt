@@ -109,13 +109,13 @@ closed_all m start place o over s len run from below =
     subst (λ (xs : List (ℕ × ℕ)). IsMember (s, len) xs) (sym (closed_some start place lt)) (inl is)
 
 -- what is left from a place on
-record IsHead (all : List Bool) (place : ℕ) (b : Bool) (flags : List Bool) : Type 0 where
+record IsFirstOf (all : List Bool) (place : ℕ) (b : Bool) (flags : List Bool) : Type 0 where
   within : place < length all
   is : get_or all place false ≡ b
   rest : flags ≡ drop (place + 1) all
 
 head_of : (all : List Bool) (place : ℕ) (b : Bool) (flags : List Bool)
-    → (b ∷ flags) ≡ drop place all → IsHead all place b flags
+    → (b ∷ flags) ≡ drop place all → IsFirstOf all place b flags
 head_of all place b flags e =
     let n : suc (length flags) ≡ length all - place = ap length e ∙ length-drop place all in
     let lt : place < length all = omega arith in

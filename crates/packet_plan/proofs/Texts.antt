@@ -22,7 +22,7 @@ use Rattle.packet_plan.specs.declared.stamp.Stamp.{Stamp}
 use Rattle.packet_plan.specs.Plan.{IsPacket, IsRasterPlan, group_octets, numbers}
 use Rattle.st_format.specs.Position.{group_count}
 use Rattle.packet_plan.specs.Plan.{packet_octets, IsFullPlan, RasterPlan, packet_at}
-use Rattle.packet_plan.specs.Sent.{Carries, run_values, IsSentPacket, IsSentPicture, AreSent}
+use Rattle.packet_plan.specs.Sent.{CarriesRun, run_values, IsSentPacket, IsSentPicture, AreSent}
 use Rattle.packet_plan.specs.Sent.{is_empty}
 use Rattle.packet_plan.specs.Text.{AreRuns, HasHead, IsStamp, head_of, run_octets, payload_text}
 use Rattle.packet_plan.specs.Text.{header_of, number_of, datagram_text, datagram_texts}
@@ -110,7 +110,7 @@ is_payload p number rs small are =
 -- ---- the datagram
 
 carried : (p : Values) (rs : List PacketRun) → IsPicture p → AllByRecursion (HasHead p.format) rs
-    → AllZip (Carries p) rs (map (segment_of p) rs)
+    → AllZip (CarriesRun p) rs (map (segment_of p) rs)
 carried p [] is heads = tt
 carried p (r ∷ rs) is heads = (
   record {

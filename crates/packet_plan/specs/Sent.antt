@@ -33,7 +33,7 @@ run_values p r = flat_map (group_values p) (numbers p.format r)
 
 -- A segment carries a run: it stands at the run's row and first pixel, and its octets spell the
 -- picture there (RFC 4175, 4.3).
-pub record Carries (p : Values) (r : PacketRun) (s : Segment) : Type 0 where
+pub record CarriesRun (p : Values) (r : PacketRun) (s : Segment) : Type 0 where
   pub row : s.row ≡ r.row
   pub offset : s.offset ≡ r.first * (group_of p.format).pixels
   pub spells : Spells (bits_of p.format.depth) s.octets (run_values p r)
@@ -53,7 +53,7 @@ pub record IsSentPacket (octets : List ℕ) (p : Values) (stamp : Stamp) (i : �
   pub ssrc : header.ssrc ≡ stamp.ssrc
   pub number : 65536 * extended + header.sequence ≡ (stamp.first + i) % 2 ^ 32
   pub marker : header.marker ≡ is_last
-  pub carries : AllZip (Carries p) runs segments
+  pub carries : AllZip (CarriesRun p) runs segments
 
 abbrev pub is_empty : {X : Type 0} → List X → Bool
 is_empty [] = true

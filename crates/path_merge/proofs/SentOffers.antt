@@ -21,7 +21,7 @@ use Rattle.rtp_header.specs.Grammar.{Rtp}
 use Rattle.packet_plan.specs.declared.run.PacketRun.{PacketRun}
 use Rattle.packet_plan.specs.declared.stamp.Stamp.{Stamp}
 use Rattle.packet_plan.specs.Plan.{numbers}
-use Rattle.packet_plan.specs.Sent.{sample, group_samples, run_values, Carries, IsSentPacket}
+use Rattle.packet_plan.specs.Sent.{sample, group_samples, run_values, CarriesRun, IsSentPacket}
 use Rattle.packet_plan.specs.Sent.{is_empty, AreSent, IsSentPicture}
 use Rattle.packet_plan.proofs.RunLemmas.{groups_joined, row_by, count_is}
 use Rattle.path_merge.specs.Opening.{Opening, IsSource}
@@ -58,7 +58,7 @@ columns_by Rgb D10 first = omega arith
 columns_by Rgb D12 first = omega arith
 columns_by Rgb D16 first = omega arith
 
-first_number-run : (p : Values) (r : PacketRun) (s : Segment) → Carries p r s
+first_number-run : (p : Values) (r : PacketRun) (s : Segment) → CarriesRun p r s
     → (r.row * row_groups p.format + r.first) * group_samples p.format ≡ first_number p.format s
 first_number-run p r s c =
     let f : Format = p.format in
@@ -85,7 +85,7 @@ some_bits D12 = omega arith
 some_bits D16 = omega arith
 
 -- What a segment offers that carries a run
-offers_in-run : (p : Values) (ts : ℕ) (r : PacketRun) (s : Segment) → Carries p r s
+offers_in-run : (p : Values) (ts : ℕ) (r : PacketRun) (s : Segment) → CarriesRun p r s
     → offers_in p.format ts s ≡ run_offers p ts r
 offers_in-run p ts r s c =
     let f : Format = p.format in
@@ -100,7 +100,7 @@ offers_in-run p ts r s c =
     ∙ ap (map (offer_at p ts)) (sym (groups_joined (place f) w g r.groups))
 
 offers_in_all-runs : (p : Values) (ts : ℕ) (rs : List PacketRun) (ss : List Segment)
-    → AllZip (Carries p) rs ss → offers_in_all p.format ts ss ≡ flat_map (run_offers p ts) rs
+    → AllZip (CarriesRun p) rs ss → offers_in_all p.format ts ss ≡ flat_map (run_offers p ts) rs
 offers_in_all-runs p ts [] [] c = refl
 offers_in_all-runs p ts [] (s ∷ ss) c = absurd c
 offers_in_all-runs p ts (r ∷ rs) [] c = absurd c

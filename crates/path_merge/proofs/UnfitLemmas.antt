@@ -5,7 +5,7 @@ use Rattle.st_format.specs.declared.format.Format.{Format}
 use Rattle.st_format.specs.Picture.{Values}
 use Rattle.path_merge.specs.Opening.{AreDifferent, IsWindow, IsWindowSize}
 use Rattle.path_merge.specs.Played.{ArePictures, IsReceiverCount}
-use Rattle.path_merge.specs.Unfit.{IsUnfit, SpeaksAgainst}
+use Rattle.path_merge.specs.Unfit.{IsUnfitPlay, SpeaksAgainst}
 use Rattle.path_merge.specs.declared.schedule.play_fault.PlayFault.{PlayFault}
 use Rattle.path_merge.specs.declared.schedule.play_fault.PlayFault.TheVariants.{NoMemory, BadEvent}
 use Rattle.path_merge.specs.declared.schedule.play_fault.PlayFault.TheVariants.{BadWindow}
@@ -16,7 +16,7 @@ use Rattle.path_merge.specs.declared.schedule.play_fault.PlayFault.TheVariants.{
 -- Where the window is one, a fault of the rest speaks against the whole.
 pub rest_speaks : {T : Type 0} (r : Result T PlayFault) (w : List ℕ) (ps : List Values)
     (format : Format) (receivers : ℕ) → IsWindow w
-    → IfErr r (λ e. IsUnfit e ps format receivers)
+    → IfErr r (λ e. IsUnfitPlay e ps format receivers)
     → IfErr r (λ e. SpeaksAgainst e w ps format receivers)
 rest_speaks (Ok x) w ps format receivers is h = h
 rest_speaks (Err NoMemory) w ps format receivers is h = h

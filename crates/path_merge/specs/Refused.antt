@@ -2,7 +2,7 @@
 use Rattle.std.specs.Prelude.{◌≡◌, ◌≢◌, List, ℕ}
 use Rattle.payload_header.specs.declared.payload.PayloadFault.{PayloadFault}
 use Rattle.payload_header.specs.Faults.{IsRefusedPayload}
-use Rattle.rtp_header.specs.Faults.{HasFault}
+use Rattle.rtp_header.specs.Faults.{HasRtpFault}
 use Rattle.rtp_header.specs.Grammar.{Rtp, IsRtp}
 use Rattle.path_merge.specs.declared.answer.Refusal.{Refusal}
 use Rattle.path_merge.specs.declared.answer.Refusal.TheVariants.{Header, WrongPayloadType}
@@ -32,7 +32,7 @@ pub record HasBadPayload (octets : List ℕ) (o : Opening) (fault : PayloadFault
 
 -- Why octets are refused. Each condition says that no earlier one holds.
 abbrev pub IsRefusedDatagram : List ℕ → Opening → Refusal → Type 0
-IsRefusedDatagram octets o (Header fault) = HasFault octets fault
+IsRefusedDatagram octets o (Header fault) = HasRtpFault octets fault
 IsRefusedDatagram octets o WrongPayloadType = HasOtherType octets o
 IsRefusedDatagram octets o WrongSource = HasOtherSource octets o
 IsRefusedDatagram octets o (Payload fault) = HasBadPayload octets o fault

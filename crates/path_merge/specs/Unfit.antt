@@ -12,13 +12,13 @@ use Rattle.path_merge.specs.declared.schedule.play_fault.PlayFault.TheVariants.{
 use Rattle.path_merge.specs.declared.schedule.play_fault.PlayFault.TheVariants.{BadReceivers}
 
 -- the faults of the pictures and of the number of receivers, in this order
-abbrev pub IsUnfit : PlayFault → List Values → Format → ℕ → Type 0
-IsUnfit NoMemory pictures format receivers = ⊥
-IsUnfit (BadEvent place) pictures format receivers = ⊥
-IsUnfit BadWindow pictures format receivers = ⊥
-IsUnfit DoubleTimestamp pictures format receivers = ⊥
-IsUnfit BadPictures pictures format receivers = ArePictures pictures format → ⊥
-IsUnfit BadReceivers pictures format receivers =
+abbrev pub IsUnfitPlay : PlayFault → List Values → Format → ℕ → Type 0
+IsUnfitPlay NoMemory pictures format receivers = ⊥
+IsUnfitPlay (BadEvent place) pictures format receivers = ⊥
+IsUnfitPlay BadWindow pictures format receivers = ⊥
+IsUnfitPlay DoubleTimestamp pictures format receivers = ⊥
+IsUnfitPlay BadPictures pictures format receivers = ArePictures pictures format → ⊥
+IsUnfitPlay BadReceivers pictures format receivers =
     ArePictures pictures format × (IsReceiverCount receivers → ⊥)
 
 -- those of the window come before them

@@ -24,7 +24,7 @@ use Rattle.payload_header.specs.Reading.{fault_or, segments_at, counted_octets, 
 use Rattle.payload_header.specs.Reading.{payload_walk}
 use Rattle.st_format.specs.Reading.{Gives}
 use Rattle.payload_header.specs.Faults.{BeginsWith, AllGoOn, LacksHeader, GoesOn, HasHeaders}
-use Rattle.payload_header.specs.Faults.{HasFault, LacksData, IsRefusedPayload}
+use Rattle.payload_header.specs.Faults.{HasPayloadFault, LacksData, IsRefusedPayload}
 use Rattle.payload_header.specs.View.{said_payload}
 use Rattle.payload_header.proofs.Taken.{IsText, text_at, Heads, headers_take}
 use Rattle.st_format.proofs.Octets.{AreOctets-drop}
@@ -183,7 +183,8 @@ refused_stop f octets n rest fault headers more begin go_on (inr w) =
     (record { headers = headers; more = more; begins = begin; go_on = go_on; as_many = w.1 })
 
 -- only the five tests of a header are told of a header
-refused_header : (f : Format) (octets : List ℕ) (fault : PayloadFault) → HasFault octets f fault
+refused_header : (f : Format) (octets : List ℕ) (fault : PayloadFault)
+    → HasPayloadFault octets f fault
     → IsRefusedPayload octets f fault
 refused_header f octets ShortPayloadHeader has = absurd has.has.wrong
 refused_header f octets TooManySegments has = absurd has.has.wrong
@@ -359,7 +360,7 @@ goes_on f octets g =
     ∙ ap (λ (r : Read). r >>= after_headers f g.begins.extended)
     (headers_many most_segments g.headers g.more g.go_on g.begins.headers_fit g.as_many)
 
-has_fault : (f : Format) (octets : List ℕ) (fault : PayloadFault) → HasFault octets f fault
+has_fault : (f : Format) (octets : List ℕ) (fault : PayloadFault) → HasPayloadFault octets f fault
     → payload_walk f octets ≡ Err fault
 has_fault f octets fault h =
     let headers : List Header = h.before ++ h.header ∷ h.after in

@@ -15,7 +15,7 @@ use Rattle.payload_header.specs.declared.payload.PayloadFault.TheVariants.{Colum
 use Rattle.payload_header.specs.declared.payload.PayloadFault.TheVariants.{ShortData}
 use Rattle.payload_header.specs.Payload.{group_of, Header}
 use Rattle.payload_header.specs.Reading.{first_of, header_fault, headers_fault, option_or}
-use Rattle.payload_header.specs.Faults.{payload_fault_number, IsWrong, IsSound, HasFirst}
+use Rattle.payload_header.specs.Faults.{payload_fault_number, IsWrong, IsSoundHeader, HasFirst}
 
 -- the five tests, and what they answered
 record Tests (f : Format) (h : Header) (field length offset row columns : Bool) : Type 0 where
@@ -275,7 +275,7 @@ first_told f h fault has =
     })
 
 sound_at : (f : Format) (h : Header) (b : Bool) → eqb h.octets 0 ≡ b
-    → cond b None (tested f h) ≡ None → IsSound h f
+    → cond b None (tested f h) ≡ None → IsSoundHeader h f
 sound_at f h true e is = let z : h.octets ≡ 0 =
     eqb-true h.octets 0 e in λ some fault wrong. omega (arith, some, z)
 sound_at f h false e is =
@@ -283,10 +283,10 @@ sound_at f h false e is =
     (none_found h.second_field (length_test f h) (offset_test f h) (row_test f h)
     (columns_test f h) is fault)
 
-is_sound : (f : Format) (h : Header) → header_fault f h ≡ None → IsSound h f
+is_sound : (f : Format) (h : Header) → header_fault f h ≡ None → IsSoundHeader h f
 is_sound f h is = sound_at f h (eqb h.octets 0) refl is
 
-quiet_at : (f : Format) (h : Header) (b : Bool) → eqb h.octets 0 ≡ b → IsSound h f
+quiet_at : (f : Format) (h : Header) (b : Bool) → eqb h.octets 0 ≡ b → IsSoundHeader h f
     → cond b None (tested f h) ≡ None
 quiet_at f h true e sound = refl
 quiet_at f h false e sound =
@@ -297,7 +297,7 @@ quiet_at f h false e sound =
     (λ fault. false_from_ne_true (its_answer f h fault)
     (λ holds. sound some fault (wrong_of f h fault holds)))
 
-sound_quiet : (f : Format) (h : Header) → IsSound h f → header_fault f h ≡ None
+sound_quiet : (f : Format) (h : Header) → IsSoundHeader h f → header_fault f h ≡ None
 sound_quiet f h sound = quiet_at f h (eqb h.octets 0) refl sound
 
 -- ---- headers in turn
@@ -308,7 +308,7 @@ pub record Unsound (f : Format) (hs : List Header) (fault : PayloadFault) : Type
   pub header : Header
   pub after : List Header
   pub parts : hs ≡ before ++ header ∷ after
-  pub sound : AllByRecursion (λ h. IsSound h f) before
+  pub sound : AllByRecursion (λ h. IsSoundHeader h f) before
   pub has : HasFirst header f fault
 
 unsound_at : (f : Format) (h : Header) (hs : List Header) (fault : PayloadFault)
@@ -344,7 +344,7 @@ unsound f (h ∷ hs) fault is =
     unsound_at f h hs fault (header_fault f h) refl (unsound f hs fault) is
 
 pub fault_told : (f : Format) (before : List Header) (h : Header) (after : List Header)
-    (fault : PayloadFault) → AllByRecursion (λ h. IsSound h f) before → HasFirst h f fault
+    (fault : PayloadFault) → AllByRecursion (λ h. IsSoundHeader h f) before → HasFirst h f fault
     → headers_fault f (before ++ h ∷ after) ≡ Some fault
 fault_told f [] h after fault sound has =
     ap (λ (o : Option PayloadFault). option_or o (headers_fault f after)) (first_told f h fault has)
@@ -353,17 +353,18 @@ fault_told f (b ∷ before) h after fault sound has =
     (sound_quiet f b sound.0) ∙ fault_told f before h after fault sound.1 has
 
 all_sound_at : (f : Format) (h : Header) (hs : List Header) (o : Option PayloadFault)
-    → header_fault f h ≡ o → (headers_fault f hs ≡ None → AllByRecursion (λ h. IsSound h f) hs)
-    → option_or o (headers_fault f hs) ≡ None → AllByRecursion (λ h. IsSound h f) (h ∷ hs)
+    → header_fault f h ≡ o
+    → (headers_fault f hs ≡ None → AllByRecursion (λ h. IsSoundHeader h f) hs)
+    → option_or o (headers_fault f hs) ≡ None → AllByRecursion (λ h. IsSoundHeader h f) (h ∷ hs)
 all_sound_at f h hs None e later is = (is_sound f h e, later is)
 all_sound_at f h hs (Some d) e later is = absurd cc
 
 pub all_sound : (f : Format) (hs : List Header) → headers_fault f hs ≡ None
-    → AllByRecursion (λ h. IsSound h f) hs
+    → AllByRecursion (λ h. IsSoundHeader h f) hs
 all_sound f [] is = tt
 all_sound f (h ∷ hs) is = all_sound_at f h hs (header_fault f h) refl (all_sound f hs) is
 
-pub all_quiet : (f : Format) (hs : List Header) → AllByRecursion (λ h. IsSound h f) hs
+pub all_quiet : (f : Format) (hs : List Header) → AllByRecursion (λ h. IsSoundHeader h f) hs
     → headers_fault f hs ≡ None
 all_quiet f [] sound = refl
 all_quiet f (h ∷ hs) sound =

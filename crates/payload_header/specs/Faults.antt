@@ -87,8 +87,8 @@ IsWrong h f TooManySegments = ⊥
 IsWrong h f ShortData = ⊥
 
 -- A header with octets has nothing wrong; one without octets may have anything (own).
-abbrev pub IsSound : Header → Format → Type 0
-IsSound h f = 0 < h.octets → (fault : PayloadFault) → IsWrong h f fault → ⊥
+abbrev pub IsSoundHeader : Header → Format → Type 0
+IsSoundHeader h f = 0 < h.octets → (fault : PayloadFault) → IsWrong h f fault → ⊥
 
 -- A header has octets, and this is the first that is wrong with it.
 pub record HasFirst (h : Header) (f : Format) (fault : PayloadFault) : Type 0 where
@@ -98,13 +98,13 @@ pub record HasFirst (h : Header) (f : Format) (fault : PayloadFault) : Type 0 wh
       → IsWrong h f earlier → ⊥
 
 -- Whole headers, and of the first in turn that isn't sound this is the first that is wrong.
-pub record HasFault (octets : List ℕ) (f : Format) (fault : PayloadFault) : Type 0 where
+pub record HasPayloadFault (octets : List ℕ) (f : Format) (fault : PayloadFault) : Type 0 where
   pub before : List Header
   pub header : Header
   pub after : List Header
   pub more : List ℕ
   pub whole : HasHeaders octets (before ++ header ∷ after) more
-  pub sound : AllByRecursion (λ h. IsSound h f) before
+  pub sound : AllByRecursion (λ h. IsSoundHeader h f) before
   pub has : HasFirst header f fault
 
 -- Whole headers, all sound, and fewer octets behind them than the sum of their Lengths
@@ -112,16 +112,16 @@ pub record LacksData (octets : List ℕ) (f : Format) : Type 0 where
   pub headers : List Header
   pub more : List ℕ
   pub whole : HasHeaders octets headers more
-  pub sound : AllByRecursion (λ h. IsSound h f) headers
+  pub sound : AllByRecursion (λ h. IsSoundHeader h f) headers
   pub short : length more < counted_octets headers
 
 -- Why octets are refused. ShortPayloadHeader also stands for less than an extended number.
 abbrev pub IsRefusedPayload : List ℕ → Format → PayloadFault → Type 0
 IsRefusedPayload octets f ShortPayloadHeader = (length octets < 2) ⊎ LacksHeader octets
 IsRefusedPayload octets f TooManySegments = GoesOn octets
-IsRefusedPayload octets f SecondField = HasFault octets f SecondField
-IsRefusedPayload octets f BadLength = HasFault octets f BadLength
-IsRefusedPayload octets f BadOffset = HasFault octets f BadOffset
-IsRefusedPayload octets f RowOutside = HasFault octets f RowOutside
-IsRefusedPayload octets f ColumnsOutside = HasFault octets f ColumnsOutside
+IsRefusedPayload octets f SecondField = HasPayloadFault octets f SecondField
+IsRefusedPayload octets f BadLength = HasPayloadFault octets f BadLength
+IsRefusedPayload octets f BadOffset = HasPayloadFault octets f BadOffset
+IsRefusedPayload octets f RowOutside = HasPayloadFault octets f RowOutside
+IsRefusedPayload octets f ColumnsOutside = HasPayloadFault octets f ColumnsOutside
 IsRefusedPayload octets f ShortData = LacksData octets f

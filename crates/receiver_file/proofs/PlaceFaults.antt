@@ -19,7 +19,7 @@ use Rattle.capture_file.proofs.PictureFaults.{block_short}
 use Rattle.receiver_file.specs.declared.front.Head.{Head}
 use Rattle.receiver_file.specs.Front.{count_at, flag_at, head_at, payload_type_at, ssrc_at}
 use Rattle.receiver_file.specs.Saved.{timestamp_in}
-use Rattle.receiver_file.specs.StateFaults.{AreFewer, IsBadAt, IsCutAt, IsHead, IsMixedAt, IsSaid}
+use Rattle.receiver_file.specs.StateFaults.{AreFewer, IsBadAt, IsCutAt, IsHead, IsMixedAt, CanStand}
 use Rattle.receiver_file.specs.StateFaults.{FieldPlace, block_front, flag_octet, frames_front}
 use Rattle.receiver_file.specs.StateFaults.{head_text}
 use Rattle.receiver_file.specs.StateFaults.{shape_by, text_before}
@@ -190,7 +190,7 @@ frames_end f h hs octets e said x =
     ∙ ap (λ (r : Frames_read). r >>= behind_frames f h)
     (frames_stop f h.count [] hs octets e said.held (new_all [] hs said.different) said.fewer x)
 
-pub place_fails : (place : FieldPlace) (octets : List ℕ) (e : FileFault) → IsSaid place
+pub place_fails : (place : FieldPlace) (octets : List ℕ) (e : FileFault) → CanStand place
     → FailsAt place octets e → state_walk (text_before place ++ octets) ≡ Err e
 place_fails AtBlock octets e said x =
     state_named octets ∙ ap (λ (r : Result (Fields × List ℕ) FileFault). r >>= behind_block) x
@@ -222,11 +222,11 @@ place_fails (AtGroup f h frames t gs) octets e said x =
 pub record Reached (octets : List ℕ) (e : FileFault) : Type 0 where
   pub place : FieldPlace
   pub behind : List ℕ
-  pub said : IsSaid place
+  pub said : CanStand place
   pub whole : octets ≡ text_before place ++ behind
   pub fails : FailsAt place behind e
 
-pub reached : (place : FieldPlace) (octets rest : List ℕ) (e : FileFault) → IsSaid place
+pub reached : (place : FieldPlace) (octets rest : List ℕ) (e : FileFault) → CanStand place
     → octets ≡ text_before place ++ rest → FailsAt place rest e → Reached octets e
 reached place octets rest e said whole fails =
     record { place = place; behind = rest; said = said; whole = whole; fails = fails }

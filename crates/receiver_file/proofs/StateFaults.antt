@@ -34,7 +34,7 @@ use Rattle.receiver_file.specs.declared.front.Head.{Head}
 use Rattle.receiver_file.specs.Front.{head_at, name_at, only_one}
 use Rattle.receiver_file.specs.Saved.{IsSaved, frames_text, timestamp_in}
 use Rattle.receiver_file.specs.StateFaults.{HasMore, HasPlace, IsBadAt, IsCutAt, IsCutState, IsHead}
-use Rattle.receiver_file.specs.StateFaults.{IsMixedAt, IsSaid, FieldPlace, IsStateFault}
+use Rattle.receiver_file.specs.StateFaults.{IsMixedAt, CanStand, FieldPlace, IsStateFault}
 use Rattle.receiver_file.specs.StateFaults.{block_front}
 use Rattle.receiver_file.specs.StateFaults.{head_text, text_before}
 use Rattle.receiver_file.specs.StateFaults.IsCutState.{Kind, Field}
@@ -137,7 +137,7 @@ version_stops octets h false e =
 -- ---- what is read has the fault
 
 standing : (octets : List ℕ) (IsWrong : List ℕ → FieldPlace → Type 0)
-    (place : FieldPlace) (rest : List ℕ) → IsSaid place → octets ≡ text_before place ++ rest
+    (place : FieldPlace) (rest : List ℕ) → CanStand place → octets ≡ text_before place ++ rest
     → IsWrong rest place
     → HasPlace IsWrong octets
 standing octets IsWrong place rest said whole wrong =

@@ -89,14 +89,14 @@ pub record IsBegun (f : Fields) (before : List Held) (timestamp : ℕ) (gs : Lis
   pub fewer : length gs < group_count f
 
 -- What stands before a place is what a file can say.
-abbrev pub IsSaid : FieldPlace → Type 0
-IsSaid AtBlock = ⊤
-IsSaid (AtPayloadType f) = IsFormat f
-IsSaid (AtFlag f type) = IsFormat f × (type < 128)
-IsSaid (AtSource f type pinned) = IsFormat f × (type < 128)
-IsSaid (AtCount f type ssrc) = (IsFormat f × (type < 128)) × SsrcFits ssrc
-IsSaid (AtTimestamp f h frames) = AreFewer f h frames
-IsSaid (AtGroup f h frames timestamp groups) =
+abbrev pub CanStand : FieldPlace → Type 0
+CanStand AtBlock = ⊤
+CanStand (AtPayloadType f) = IsFormat f
+CanStand (AtFlag f type) = IsFormat f × (type < 128)
+CanStand (AtSource f type pinned) = IsFormat f × (type < 128)
+CanStand (AtCount f type ssrc) = (IsFormat f × (type < 128)) × SsrcFits ssrc
+CanStand (AtTimestamp f h frames) = AreFewer f h frames
+CanStand (AtGroup f h frames timestamp groups) =
     AreFewer f h frames × IsBegun f frames timestamp groups
 
 -- WHAT IS WRONG AT A PLACE
@@ -188,7 +188,7 @@ IsMixedAt octets place = ⊥
 pub record HasPlace (IsWrong : List ℕ → FieldPlace → Type 0) (octets : List ℕ) : Type 0 where
   pub place : FieldPlace
   pub behind : List ℕ
-  pub said : IsSaid place
+  pub said : CanStand place
   pub whole : octets ≡ text_before place ++ behind
   pub wrong : IsWrong behind place
 

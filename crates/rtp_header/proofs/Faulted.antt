@@ -14,7 +14,8 @@ use Rattle.rtp_header.specs.Grammar.{Rtp}
 use Rattle.st_format.specs.Reading.{◌>>=◌, Gives}
 use Rattle.rtp_header.specs.Reading.{behind, behind_extension, without_padding, fields_of}
 use Rattle.rtp_header.specs.Reading.{rtp_walk}
-use Rattle.rtp_header.specs.Faults.{HasFault, IsShortExtension, IsBadPadding, version_of, IsPadded}
+use Rattle.rtp_header.specs.Faults.{HasRtpFault, IsShortExtension, IsBadPadding, version_of}
+use Rattle.rtp_header.specs.Faults.{IsPadded}
 use Rattle.rtp_header.specs.Faults.{sources_end, extension_words, headers_end, last_octet}
 use Rattle.rtp_header.specs.Views.{seen_rtp}
 
@@ -35,7 +36,7 @@ record IsFaultless (octets : List ℕ) : Type 0 where
 -- what is answered stands in the octets
 abbrev Stands : List ℕ → Result Rtp RtpFault → Type 0
 Stands octets (Ok r) = IsFaultless octets
-Stands octets (Err e) = HasFault octets e
+Stands octets (Err e) = HasRtpFault octets e
 
 -- ---- the padding
 
@@ -304,7 +305,7 @@ rtp_stands octets =
 
 -- ---- one fault at most stands in the octets
 
-unlike : (e d : RtpFault) (octets : List ℕ) → HasFault octets e → HasFault octets d → e ≡ d
+unlike : (e d : RtpFault) (octets : List ℕ) → HasRtpFault octets e → HasRtpFault octets d → e ≡ d
 unlike ShortHeader ShortHeader octets h g = refl
 unlike ShortHeader BadVersion octets h g = absurd (omega (arith, g.whole))
 unlike ShortHeader ShortExtension octets h g = absurd (omega (arith, g.whole))
@@ -328,7 +329,7 @@ not_wrong : (octets : List ℕ)
 not_wrong octets counted wrong =
     elim wrong [ inl nought ↦ counted.0 nought | inr more ↦ omega (arith, counted.1) ]
 
-not_faulted : (e : RtpFault) (octets : List ℕ) → IsFaultless octets → HasFault octets e → ⊥
+not_faulted : (e : RtpFault) (octets : List ℕ) → IsFaultless octets → HasRtpFault octets e → ⊥
 not_faulted ShortHeader octets is h = omega (arith, is.whole)
 not_faulted BadVersion octets is h = h.other is.version
 not_faulted ShortExtension octets is h = omega (arith, is.headers, h.cut)
@@ -337,12 +338,13 @@ not_faulted BadPadding octets is h = not_wrong octets (is.counted h.padded) h.wr
 -- ---- the fault that is told
 
 told : (e : RtpFault) (octets : List ℕ) (r : Result Rtp RtpFault) → Stands octets r
-    → HasFault octets e → r ≡ Err e
+    → HasRtpFault octets e → r ≡ Err e
 told e octets (Ok r) stands h = absurd (not_faulted e octets stands h)
 told e octets (Err d) stands h = ap (λ (x : RtpFault). rtp_err x) (unlike d e octets stands h)
 
 -- A fault is told exactly where it stands in the octets.
-pub rtp_faulted : (e : RtpFault) (octets : List ℕ) → (rtp_walk octets ≡ Err e) ↔ HasFault octets e
+pub rtp_faulted : (e : RtpFault) (octets : List ℕ)
+    → (rtp_walk octets ≡ Err e) ↔ HasRtpFault octets e
 rtp_faulted e octets = (
   λ (h : rtp_walk octets ≡ Err e). subst (Stands octets) h (rtp_stands octets),
   told e octets (rtp_walk octets) (rtp_stands octets),
@@ -365,9 +367,9 @@ to_view e octets (Ok v) gives is = absurd cc
 to_view e octets (Err d) gives is = ap view_of (err_is d e (sym gives ∙ is))
 
 pub is_faulted : (e : RtpFault) (octets : List ℕ) (r : Result RtpView RtpFault)
-    → Gives seen_rtp r (rtp_walk octets) → IsErrOf r e ↔ HasFault octets e
+    → Gives seen_rtp r (rtp_walk octets) → IsErrOf r e ↔ HasRtpFault octets e
 is_faulted e octets r gives =
     let law = rtp_faulted e octets in (
       λ (is : IsErrOf r e). law.0 (from_view e octets r gives is),
-      λ (h : HasFault octets e). to_view e octets r gives (law.1 h),
+      λ (h : HasRtpFault octets e). to_view e octets r gives (law.1 h),
     )

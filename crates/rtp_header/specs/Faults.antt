@@ -74,8 +74,8 @@ pub record IsBadPadding (octets : List ℕ) : Type 0 where
   pub wrong : (last_octet octets ≡ 0) ⊎ (length octets < headers_end octets + last_octet octets)
 
 -- the fault's condition
-abbrev pub HasFault : List ℕ → RtpFault → Type 0
-HasFault octets ShortHeader = IsShortHeader octets
-HasFault octets BadVersion = IsBadVersion octets
-HasFault octets ShortExtension = IsShortExtension octets
-HasFault octets BadPadding = IsBadPadding octets
+abbrev pub HasRtpFault : List ℕ → RtpFault → Type 0
+HasRtpFault octets ShortHeader = IsShortHeader octets
+HasRtpFault octets BadVersion = IsBadVersion octets
+HasRtpFault octets ShortExtension = IsShortExtension octets
+HasRtpFault octets BadPadding = IsBadPadding octets

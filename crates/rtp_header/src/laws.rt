@@ -2,7 +2,8 @@
 //! nothing.
 ghost use Rattle.std.specs.Prelude.{◌≡◌, ◌⊎◌, ◌↔◌, ℕ, List, Ok, Err};
 ghost use Rattle.rtp_header.specs.declared.header.RtpFault.{RtpFault};
-ghost use Rattle.rtp_header.specs.Faults.{HasFault, IsBadPadding, IsBadVersion, IsShortExtension};
+ghost use Rattle.rtp_header.specs.Faults.{HasRtpFault, IsBadPadding, IsBadVersion};
+ghost use Rattle.rtp_header.specs.Faults.{IsShortExtension};
 ghost use Rattle.rtp_header.specs.Faults.{IsShortHeader};
 ghost use Rattle.rtp_header.specs.Grammar.{IsRtp, Rtp};
 ghost use Rattle.rtp_header.specs.Reading.{rtp_walk};
@@ -34,9 +35,9 @@ pub fn first_fault()
 /// Octets are a datagram, or one fault stands in them and no other.
 pub fn datagram_or_fault()
     ensures some { (octets : List ℕ) → AreOctets octets →
-        ((r : Rtp) × IsRtp octets r) ⊎ ((e : RtpFault) × HasFault octets e) }
+        ((r : Rtp) × IsRtp octets r) ⊎ ((e : RtpFault) × HasRtpFault octets e) }
     ensures apart { (octets : List ℕ) (r : Rtp) (e : RtpFault) →
-        IsRtp octets r → HasFault octets e → ⊥ }
+        IsRtp octets r → HasRtpFault octets e → ⊥ }
     ensures one { (octets : List ℕ) (e d : RtpFault) →
-        HasFault octets e → HasFault octets d → e ≡ d }
+        HasRtpFault octets e → HasRtpFault octets d → e ≡ d }
 {}

@@ -11,7 +11,7 @@ use Rattle.st2110_tool.specs.declared.line.TraceLine.{TraceLine}
 use Rattle.st2110_tool.specs.declared.line.TraceLine.TheVariants.{Datagram, Slide, Cell}
 use Rattle.st2110_tool.specs.declared.line.TraceLine.TheVariants as line
 use Rattle.st2110_tool.specs.Forms.{IsOctetsText, IsTraceLine}
-use Rattle.st2110_tool.specs.Session.{IsAtFault, IsUnfit}
+use Rattle.st2110_tool.specs.Session.{IsAtFault, IsUnfitLine}
 use Rattle.st2110_tool.proofs.FormLemmas.{differ, same_rest}
 
 -- no octets for which there is room have these digits
@@ -26,7 +26,7 @@ same_digits word a b text room at is none =
 -- a line that is no datagram and no `numbers` is never unfit, so the text that it has is of no
 -- other form
 unfit_again : (text : List ℕ) (room : ℕ) (noted : Option Numbers) (a b : TraceLine)
-    → IsTraceLine text a → IsTraceLine text b → IsUnfit a room noted → IsUnfit b room noted
+    → IsTraceLine text a → IsTraceLine text b → IsUnfitLine a room noted → IsUnfitLine b room noted
 unfit_again text room noted (Datagram path.A d) (Datagram path.A e) at is none =
     same_digits (codes "A ") d.now e.now text room at is none
 unfit_again text room noted (Datagram path.A d) (Datagram path.B e) at is none =
@@ -61,7 +61,7 @@ unfit_again text room noted (line.Numbers first count) (Cell place) at is none =
 unfit_again text room noted (Cell place) b at is none = absurd none
 
 unfit_of : (text : List ℕ) (room : ℕ) (noted : Option Numbers) (b : TraceLine) → IsTraceLine text b
-    → IsAtFault text room noted → IsUnfit b room noted
+    → IsAtFault text room noted → IsUnfitLine b room noted
 unfit_of text room noted b is (inl none) = absurd (none b is)
 unfit_of text room noted b is (inr said) = unfit_again text room noted said.0 b said.1 is said.2
 
@@ -78,7 +78,7 @@ told number p n =
 
 -- a line that succeeds is not at fault
 pub never : {V : Type 0} (text : List ℕ) (number room : ℕ) (noted : Option Numbers) (b : TraceLine)
-    (v : V) → IsTraceLine text b → (IsUnfit b room noted → ⊥) → (n : ℕ)
+    (v : V) → IsTraceLine text b → (IsUnfitLine b room noted → ⊥) → (n : ℕ)
     → (◌≡◌ {A = Result V Fault} (Ok v) (Err (Script n)))
     ↔ ((n ≡ number) × IsAtFault text room noted)
 never text number room noted b v is fit n =
@@ -86,7 +86,7 @@ never text number room noted b v is fit n =
 
 -- nor is one at which memory is wanted
 pub wanted : {V : Type 0} (text : List ℕ) (number room : ℕ) (noted : Option Numbers) (b : TraceLine)
-    (r : Result V Fault) (f : Fault) → IsTraceLine text b → (IsUnfit b room noted → ⊥)
+    (r : Result V Fault) (f : Fault) → IsTraceLine text b → (IsUnfitLine b room noted → ⊥)
     → r ≡ Err f → f ≡ Memory → (n : ℕ)
     → (r ≡ Err (Script n)) ↔ ((n ≡ number) × IsAtFault text room noted)
 wanted text number room noted b r f is fit err memory n =
@@ -103,7 +103,7 @@ same_fault f g e = ap (fault_in f) e
 -- where a fault is a script's exactly where the line is unfit, it is so where the text is at fault
 pub told_by : {V W : Type 0} (text : List ℕ) (number room : ℕ) (noted : Option Numbers)
     (b : TraceLine) (f : Fault) → IsTraceLine text b
-    → ((◌≡◌ {A = Result W Fault} (Err f) (Err (Script number))) ↔ IsUnfit b room noted)
+    → ((◌≡◌ {A = Result W Fault} (Err f) (Err (Script number))) ↔ IsUnfitLine b room noted)
     → ((n : ℕ) → ◌≡◌ {A = Result W Fault} (Err f) (Err (Script n)) → n ≡ number) → (n : ℕ)
     → (◌≡◌ {A = Result V Fault} (Err f) (Err (Script n)))
     ↔ ((n ≡ number) × IsAtFault text room noted)

@@ -120,15 +120,15 @@ Follows (line.Cell place) old new before after answer = TellsCell place old new 
 
 -- Lines that are of a form and may not stand where they do: a datagram whose digits are those of no
 -- octets for which there is room, and `numbers` where numbers are noted already (own)
-abbrev pub IsUnfit : TraceLine → ℕ → Option Numbers → Type 0
-IsUnfit (Datagram path digits) room numbers =
+abbrev pub IsUnfitLine : TraceLine → ℕ → Option Numbers → Type 0
+IsUnfitLine (Datagram path digits) room numbers =
     (octets : List ℕ) → length octets ≤ room → IsOctetsText digits.now octets → ⊥
-IsUnfit (Slide next) room numbers = ⊥
-IsUnfit (line.Numbers first count) room numbers = numbers ≢ None
-IsUnfit (line.Cell place) room numbers = ⊥
+IsUnfitLine (Slide next) room numbers = ⊥
+IsUnfitLine (line.Numbers first count) room numbers = numbers ≢ None
+IsUnfitLine (line.Cell place) room numbers = ⊥
 
 -- a line that is of no form, or an unfit one (own)
 abbrev pub IsAtFault : List ℕ → ℕ → Option Numbers → Type 0
 IsAtFault text room numbers =
     ((said : TraceLine) → IsTraceLine text said → ⊥)
-    ⊎ ((said : TraceLine) × IsTraceLine text said × IsUnfit said room numbers)
+    ⊎ ((said : TraceLine) × IsTraceLine text said × IsUnfitLine said room numbers)

@@ -3,7 +3,7 @@ ghost use Rattle.std.specs.Prelude.{◌≡◌, All, IfErr, IsFalse, IsTrue, OnOk
 ghost use Rattle.st_format.specs.Picture.{IsPicture};
 ghost use Rattle.path_merge.specs.Opening.{IsWindow};
 ghost use Rattle.path_merge.specs.Played.{ArePictures, IsReceiverCount};
-ghost use Rattle.path_merge.specs.Unfit.{IsUnfit, SpeaksAgainst};
+ghost use Rattle.path_merge.specs.Unfit.{IsUnfitPlay, SpeaksAgainst};
 
 use crate::fault::OpenFault;
 use crate::schedule::play_fault::PlayFault;
@@ -44,7 +44,7 @@ fn check_rest<C: Allocator>(
     pictures: &[Picture<C>],
     receivers: u8,
 ) -> Result<(), PlayFault>
-    ensures fault { IfErr result (λ e. IsUnfit e pictures.now format receivers) }
+    ensures fault { IfErr result (λ e. IsUnfitPlay e pictures.now format receivers) }
     ensures fine { OnOk result (ArePictures pictures.now format × IsReceiverCount receivers) }
     ensures whole { OnOk result (All IsPicture pictures.now) }
 {

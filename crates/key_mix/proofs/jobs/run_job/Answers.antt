@@ -1,5 +1,5 @@
 use Rattle.std.proofs.Common.{IfErr, IfOk, OnOk, subst}
-use Rattle.key_mix.specs.Jobs.{IsFault, IsJobPicture, IsSound, formats_of}
+use Rattle.key_mix.specs.Jobs.{IsFault, IsJobPicture, IsSoundJob, formats_of}
 use Rattle.key_mix.proofs.Inputs.{one, three, two}
 use Rattle.key_mix.proofs.jobs.run_job.Goals as goal
 
@@ -13,7 +13,7 @@ returns-in-1-clause-made g c =
 
 pub returns-in-1-clause-sound : goal.returns-in-1-clause-sound
 returns-in-1-clause-sound g c =
-    subst (λ xs. OnOk c.run_on_one.result (IsSound c.args.job.now (formats_of xs)))
+    subst (λ xs. OnOk c.run_on_one.result (IsSoundJob c.args.job.now (formats_of xs)))
     (one c.args.inputs.now
     c.index-inputs-0.result c.in-1.is
     c.index-inputs-0.is)
@@ -37,7 +37,7 @@ returns-in-2-clause-made g c =
 
 pub returns-in-2-clause-sound : goal.returns-in-2-clause-sound
 returns-in-2-clause-sound g c =
-    subst (λ xs. OnOk c.run_on_two.result (IsSound c.args.job.now (formats_of xs)))
+    subst (λ xs. OnOk c.run_on_two.result (IsSoundJob c.args.job.now (formats_of xs)))
     (two c.args.inputs.now
     c.index-inputs-0-in-2.result c.index-inputs-1.result c.in-2.is
     c.index-inputs-0-in-2.is c.index-inputs-1.is)
@@ -61,7 +61,7 @@ returns-in-3-clause-made g c =
 
 pub returns-in-3-clause-sound : goal.returns-in-3-clause-sound
 returns-in-3-clause-sound g c =
-    subst (λ xs. OnOk c.run_on_three.result (IsSound c.args.job.now (formats_of xs)))
+    subst (λ xs. OnOk c.run_on_three.result (IsSoundJob c.args.job.now (formats_of xs)))
     (three c.args.inputs.now
     c.index-inputs-0-in-3.result c.index-inputs-1-in-3.result c.index-inputs-2.result c.in-3.is
     c.index-inputs-0-in-3.is c.index-inputs-1-in-3.is c.index-inputs-2.is)

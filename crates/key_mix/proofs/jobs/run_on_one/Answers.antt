@@ -1,6 +1,6 @@
 use Rattle.std.proofs.Common.{[], ◌∷◌, arith, inl, refl, subst, sym}
 use Rattle.key_mix.specs.Faults.{colour_job_fault}
-use Rattle.key_mix.specs.Jobs.{IsFault, IsJobPicture, IsSound}
+use Rattle.key_mix.specs.Jobs.{IsFault, IsJobPicture, IsSoundJob}
 use Rattle.key_mix.specs.declared.Job.TheVariants.{Limit, Gain, ToYcc444, ToYcc422}
 use Rattle.key_mix.specs.declared.faults.JobFault.TheVariants.{NoMemory, BadGain}
 use Rattle.key_mix.proofs.Alone.{
@@ -52,7 +52,7 @@ returns-in_ok-limited_copy-in-Limit-clause-whole g c =
 pub returns-in_ok-limited_copy-in-Limit-clause-sound :
     goal.returns-in_ok-limited_copy-in-Limit-clause-sound
 returns-in_ok-limited_copy-in-Limit-clause-sound g c =
-    subst (λ j. IsSound j (c.args.picture.now.format ∷ [])) (sym c.in-Limit.is)
+    subst (λ j. IsSoundJob j (c.args.picture.now.format ∷ [])) (sym c.in-Limit.is)
     (sound_limit c.in-Limit.range c.args.picture.now.format)
 
 pub returns-in_err-gained_copy-in-Gain-2-clause-made :
@@ -99,7 +99,7 @@ returns-in_ok-gained_copy-in-Gain-2-clause-whole g c =
 pub returns-in_ok-gained_copy-in-Gain-2-clause-sound :
     goal.returns-in_ok-gained_copy-in-Gain-2-clause-sound
 returns-in_ok-gained_copy-in-Gain-2-clause-sound g c =
-    subst (λ j. IsSound j (c.args.picture.now.format ∷ [])) (sym c.in-Gain.is)
+    subst (λ j. IsSoundJob j (c.args.picture.now.format ∷ [])) (sym c.in-Gain.is)
     (sound_gain c.in-Gain.g c.args.picture.now.format
     (omega (arith, c.if-g-gt-MOST_GAIN.false)))
 
@@ -146,7 +146,7 @@ pub returns-in_ok-to_ycc444-in-ToYcc444-clause-sound :
     goal.returns-in_ok-to_ycc444-in-ToYcc444-clause-sound
 returns-in_ok-to_ycc444-in-ToYcc444-clause-sound g c =
     let p = c.in_ok-to_ycc444-in-ToYcc444 in
-    subst (λ j. IsSound j (c.args.picture.now.format ∷ [])) (sym c.in-ToYcc444.is)
+    subst (λ j. IsSoundJob j (c.args.picture.now.format ∷ [])) (sym c.in-ToYcc444.is)
     (made_ycc444 p.field-0 c.args.picture.now.format p.ensures.rgb)
 
 pub returns-in_err-to_ycc422-in-ToYcc422-clause-made :
@@ -192,7 +192,7 @@ pub returns-in_ok-to_ycc422-in-ToYcc422-clause-sound :
     goal.returns-in_ok-to_ycc422-in-ToYcc422-clause-sound
 returns-in_ok-to_ycc422-in-ToYcc422-clause-sound g c =
     let p = c.in_ok-to_ycc422-in-ToYcc422 in
-    subst (λ j. IsSound j (c.args.picture.now.format ∷ [])) (sym c.in-ToYcc422.is)
+    subst (λ j. IsSoundJob j (c.args.picture.now.format ∷ [])) (sym c.in-ToYcc422.is)
     (made_ycc422 p.field-0 c.args.picture.now.format p.ensures.ycc444)
 
 pub returns-in-Gain-clause-fault : goal.returns-in-Gain-clause-fault

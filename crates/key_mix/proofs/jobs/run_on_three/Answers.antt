@@ -1,5 +1,5 @@
 use Rattle.std.proofs.Common.{[], ◌∷◌, IfErr, IfOk, OnOk, subst, sym}
-use Rattle.key_mix.specs.Jobs.{IsFault, IsJobPicture, IsSound}
+use Rattle.key_mix.specs.Jobs.{IsFault, IsJobPicture, IsSoundJob}
 use Rattle.key_mix.proofs.Refused.{not_three, wrong_count}
 use Rattle.key_mix.proofs.jobs.run_on_three.Goals as goal
 
@@ -15,7 +15,7 @@ returns-in-Key-clause-whole g c = c.key.ensures.whole
 
 pub returns-in-Key-clause-sound : goal.returns-in-Key-clause-sound
 returns-in-Key-clause-sound g c =
-    subst (λ j. OnOk c.key.result (IsSound j (c.args.a.now.format ∷ c.args.b.now.format ∷
+    subst (λ j. OnOk c.key.result (IsSoundJob j (c.args.a.now.format ∷ c.args.b.now.format ∷
     c.args.by.now.format ∷ [])))
     (sym c.in-Key.is) c.key.ensures.sound
 

@@ -1,5 +1,5 @@
 use Rattle.std.proofs.Common.{[], ◌∷◌, IfErr, IfOk, OnOk, subst, sym}
-use Rattle.key_mix.specs.Jobs.{IsFault, IsJobPicture, IsSound}
+use Rattle.key_mix.specs.Jobs.{IsFault, IsJobPicture, IsSoundJob}
 use Rattle.key_mix.proofs.Refused.{not_two, wrong_count}
 use Rattle.key_mix.proofs.jobs.run_on_two.Goals as goal
 
@@ -13,7 +13,7 @@ returns-in-Wipe-clause-whole g c = c.wipe.ensures.whole
 
 pub returns-in-Wipe-clause-sound : goal.returns-in-Wipe-clause-sound
 returns-in-Wipe-clause-sound g c =
-    subst (λ j. OnOk c.wipe.result (IsSound j (c.args.a.now.format ∷ c.args.b.now.format ∷ [])))
+    subst (λ j. OnOk c.wipe.result (IsSoundJob j (c.args.a.now.format ∷ c.args.b.now.format ∷ [])))
     (sym c.in-Wipe.is) c.wipe.ensures.sound
 
 pub returns-in-Wipe-clause-fault : goal.returns-in-Wipe-clause-fault

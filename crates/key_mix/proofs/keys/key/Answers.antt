@@ -3,7 +3,7 @@ use Rattle.std.proofs.lemmas.Result.{err_from_is_err_and}
 use Rattle.st_format.specs.Picture.{IsPicture}
 use Rattle.st_format.specs.Position.{sample_count}
 use Rattle.bt709_fixed.specs.Operations.{IsOf}
-use Rattle.key_mix.specs.Jobs.{IsSound, key_value}
+use Rattle.key_mix.specs.Jobs.{IsSoundJob, key_value}
 use Rattle.key_mix.specs.Rows.{keyed_at}
 use Rattle.key_mix.specs.declared.Job.TheVariants.{Key}
 use Rattle.key_mix.specs.declared.faults.JobFault.TheVariants.{FormatsDiffer, KeyNotYcc}
@@ -179,7 +179,7 @@ returns-clause-ycc g c =
 
 pub returns-clause-sound : goal.returns-clause-sound
 returns-clause-sound g c =
-    subst (IsSound Key)
+    subst (IsSoundJob Key)
     (λ j. c.format-format.ensures.value j ∷ c.format.ensures.value j ∷
     c.format-of_key.ensures.value j ∷ [])
     c.in_ok-test_key.ensures.sound

@@ -1,5 +1,5 @@
 use Rattle.std.proofs.Common.{IfErr, IfOk, OnOk, arith, subst}
-use Rattle.key_mix.specs.Jobs.{IsJobFormat, IsRefusal, IsSound}
+use Rattle.key_mix.specs.Jobs.{IsJobFormat, IsRefusal, IsSoundJob}
 use Rattle.key_mix.proofs.Inputs.{map_one, map_three, map_two}
 use Rattle.key_mix.proofs.sending.job_format.Goals as goal
 
@@ -16,7 +16,7 @@ returns-in-len1-clause-format g c =
 
 pub returns-in-len1-clause-sound : goal.returns-in-len1-clause-sound
 returns-in-len1-clause-sound g c =
-    subst (λ fs. OnOk c.format_of_one.result (IsSound c.args.job.now fs))
+    subst (λ fs. OnOk c.format_of_one.result (IsSoundJob c.args.job.now fs))
     (map_one (λ i. i.frame.now.format) c.args.inputs.now
     c.a-item.result
     c.format.result
@@ -49,7 +49,7 @@ returns-in-len2-clause-format g c =
 
 pub returns-in-len2-clause-sound : goal.returns-in-len2-clause-sound
 returns-in-len2-clause-sound g c =
-    subst (λ fs. OnOk c.format_of_two.result (IsSound c.args.job.now fs))
+    subst (λ fs. OnOk c.format_of_two.result (IsSoundJob c.args.job.now fs))
     (map_two (λ i. i.frame.now.format) c.args.inputs.now
     c.a-item-then-inputs-lt3.result c.b-item.result
     c.format-in-len2.result c.format-in-len2-2.result
@@ -83,7 +83,7 @@ returns-in-len3-clause-format g c =
 
 pub returns-in-len3-clause-sound : goal.returns-in-len3-clause-sound
 returns-in-len3-clause-sound g c =
-    subst (λ fs. OnOk c.format_of_three.result (IsSound c.args.job.now fs))
+    subst (λ fs. OnOk c.format_of_three.result (IsSoundJob c.args.job.now fs))
     (map_three (λ i. i.frame.now.format) c.args.inputs.now
     c.a-item-then-inputs-lt4.result c.b-item-then-inputs-lt4.result c.by-item.result
     c.format-in-len3.result c.format-in-len3-2.result c.format-in-len3-3.result

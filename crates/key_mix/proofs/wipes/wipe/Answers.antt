@@ -3,7 +3,7 @@ use Rattle.std.proofs.lemmas.Result.{err_from_is_err_and}
 use Rattle.st_format.specs.Picture.{IsPicture}
 use Rattle.st_format.specs.Position.{sample_count}
 use Rattle.bt709_fixed.specs.Operations.{IsOf}
-use Rattle.key_mix.specs.Jobs.{IsSound, wipe_value}
+use Rattle.key_mix.specs.Jobs.{IsSoundJob, wipe_value}
 use Rattle.key_mix.specs.Rows.{wiped_at}
 use Rattle.key_mix.specs.declared.Job.TheVariants.{Wipe}
 use Rattle.key_mix.specs.declared.faults.JobFault.TheVariants.{FormatsDiffer, BadWipe}
@@ -160,7 +160,7 @@ returns-clause-shape g c =
 
 pub returns-clause-sound : goal.returns-clause-sound
 returns-clause-sound g c =
-    subst (IsSound (Wipe c.args.shape))
+    subst (IsSoundJob (Wipe c.args.shape))
     (λ j. c.format-format.ensures.value j ∷ c.format.ensures.value j ∷ [])
     c.in_ok-test_wipe.ensures.sound
 

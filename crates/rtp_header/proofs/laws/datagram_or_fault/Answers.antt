@@ -1,6 +1,6 @@
 use Rattle.std.proofs.Common.{◌≡◌, ◌⊎◌, inl, inr, ℕ, List, Result, Ok, Err, refl}
 use Rattle.rtp_header.specs.declared.header.RtpFault.{RtpFault}
-use Rattle.rtp_header.specs.Faults.{HasFault}
+use Rattle.rtp_header.specs.Faults.{HasRtpFault}
 use Rattle.rtp_header.specs.Grammar.{IsRtp, Rtp}
 use Rattle.st_format.specs.Device.{AreOctets}
 use Rattle.rtp_header.specs.Reading.{rtp_walk}
@@ -11,7 +11,7 @@ use Rattle.rtp_header.proofs.laws.datagram_or_fault.Goals as goal
 
 -- what is read is a datagram, and a fault that is told stands there
 told : (octets : List ℕ) (r : Result Rtp RtpFault) → AreOctets octets → rtp_walk octets ≡ r
-    → ((x : Rtp) × IsRtp octets x) ⊎ ((x : RtpFault) × HasFault octets x)
+    → ((x : Rtp) × IsRtp octets x) ⊎ ((x : RtpFault) × HasRtpFault octets x)
 told octets (Ok x) fit e = inl (x, rtp_takes octets x fit e)
 told octets (Err d) fit e = inr (d, (rtp_faulted d octets).0 e)
 

@@ -1,7 +1,7 @@
 use Rattle.std.proofs.Common.{ℕ, List, sym, ap, ◌∙◌, subst}
 use Rattle.std.proofs.lemmas.Result.{err_from_is_err_and}
 use Rattle.st_format.specs.Raster.{IsWhole}
-use Rattle.frame_assembly.specs.Packed.{IsKept, cells_in}
+use Rattle.frame_assembly.specs.Packed.{HasAllGroups, cells_in}
 use Rattle.frame_assembly.proofs.Kept.{frame_view}
 use Rattle.st_format.specs.Fit.{ValuesFit}
 use Rattle.frame_assembly.specs.Rows.{GroupsAreWhole}
@@ -55,9 +55,9 @@ returns-in_err-octets-clause-same g c =
 
 pub invariant_of-result : goal.invariant_of-result
 invariant_of-result g c =
-    subst (λ (ms : List ℕ). IsKept c.self.inside.format ms c.in_ok-octets.octets.items)
+    subst (λ (ms : List ℕ). HasAllGroups c.self.inside.format ms c.in_ok-octets.octets.items)
     (sym (c.in_ok-marks.ensures.items ∙ c.as_slice.ensures.value))
-    (subst (IsKept c.self.inside.format c.self.inside.marks.items)
+    (subst (HasAllGroups c.self.inside.format c.self.inside.marks.items)
     (sym (c.in_ok-octets.ensures.items ∙ c.as_slice-2.ensures.value)) c.self.invariant)
 
 pub returns-clause-same : goal.returns-clause-same
