@@ -2,7 +2,7 @@
 use Rattle.std.proofs.Common.{◌≡◌, ℕ, ◌+◌, ◌^◌, ◌<◌, ◌≤◌, List, [], ◌++◌, length, take, drop}
 use Rattle.std.proofs.Common.{Result, Ok, Err, append_assoc, refl, sym, ap, ◌∙◌, subst, inl, inr}
 use Rattle.std.proofs.Common.{arith}
-use Rattle.std.specs.Prelude.{◌⊎◌}
+use Rattle.std.specs.Prelude.{◌⊎◌, IfErr, Option, Some}
 use Rattle.std.specs.Int.{w16, from_be_bytes, to_be_bytes}
 use Rattle.std.proofs.lemmas.Bool.{cases_lt}
 use Rattle.std.proofs.lemmas.List.{length-drop, length-take-le, take-append-drop}
@@ -19,11 +19,13 @@ use Rattle.capture_file.specs.Capture.{Content, IsCapture, capture_walk, records
 use Rattle.capture_file.specs.CaptureFaults.{IsCaptureFault, HasBadRecord, HasBehind, HasCutText}
 use Rattle.capture_file.specs.CaptureFaults.{HasRecordMore, IsCutCapture, IsRecordFault}
 use Rattle.capture_file.specs.CaptureFaults.IsCutCapture.{Kind, Text, Record}
-use Rattle.capture_file.specs.Fields.{field_at}
+use Rattle.capture_file.specs.Faults.{IfContent}
+use Rattle.capture_file.specs.Fields.{Fails, field_at}
 use Rattle.st_format.specs.Reading.{◌>>=◌}
 use Rattle.capture_file.specs.Fronts.{HasFront, capture_name, counted_text, front_at, front_text}
 use Rattle.capture_file.specs.Fronts.{kind_at, kind_text, text_at, text_by}
 use Rattle.capture_file.specs.Records.{Entry, records_text}
+use Rattle.capture_file.proofs.Content.{if_content_weaker}
 use Rattle.capture_file.proofs.Failing.{Short, answered, field_fails, field_short, field_whole}
 use Rattle.capture_file.proofs.Failing.{less, not_both, same_fault, short_with, split_fails}
 use Rattle.capture_file.proofs.Found.{capture_found, field_takes, given, kind_takes, split_then}
@@ -363,3 +365,14 @@ either limit octets (Err e) bytes is = inr (e, capture_fails limit e octets byte
 
 pub capture_or_fault : (limit : ℕ) (octets : List ℕ) → AreOctets octets → CaptureOr limit octets
 capture_or_fault limit octets bytes = either limit octets (capture_walk limit octets) bytes refl
+
+-- what a reader of captures owes of a fault
+pub capture_wrong : {X : Type 0} (limit : ℕ) (told : Option (List ℕ)) (r : Result X FileFault)
+    → IfErr r (λ f. Fails (capture_walk limit) told f)
+    → IfErr r (λ f. (octets : List ℕ) → told ≡ Some octets → AreOctets octets
+    → IfContent f (IsCaptureFault f limit octets))
+capture_wrong limit told (Ok x) fails = tt
+capture_wrong limit told (Err f) fails =
+    λ octets is bytes. if_content_weaker f (capture_walk limit octets ≡ Err f)
+    (IsCaptureFault f limit octets) (capture_fails limit f octets bytes)
+    (subst (λ (o : Option (List ℕ)). Fails (capture_walk limit) o f) is fails)

@@ -2,7 +2,7 @@
 use Rattle.std.proofs.Common.{◌≡◌, ℕ, ◌-◌, ◌<◌, Bool, true, false, codes, List, [], ◌∷◌, ◌++◌}
 use Rattle.std.proofs.Common.{length, take, drop, Result, Ok, Err, append_assoc, refl, sym, ap, ◌∙◌}
 use Rattle.std.proofs.Common.{subst, inl, inr, arith}
-use Rattle.std.specs.Prelude.{⊤}
+use Rattle.std.specs.Prelude.{⊤, IfErr, Option, Some}
 use Rattle.std.specs.Str.{bytes_eq}
 use Rattle.std.proofs.lemmas.List.{length-drop, length-take-le, take-append-drop, take_at}
 use Rattle.std.proofs.lemmas.Slice.Eq.{bytes_eq-Decides}
@@ -18,18 +18,20 @@ use Rattle.capture_file.specs.declared.fault.FileFault.TheVariants.{TooManyRecor
 use Rattle.capture_file.specs.declared.front.Version.{Version}
 use Rattle.capture_file.specs.declared.front.Version.TheVariants.{One, Two}
 use Rattle.capture_file.specs.Blocks.{block_at, block_of}
-use Rattle.capture_file.specs.Fields.{field_at}
+use Rattle.capture_file.specs.Faults.{IfContent}
+use Rattle.capture_file.specs.Fields.{Fails, field_at, nothing_at}
 use Rattle.st_format.specs.Reading.{◌>>=◌}
 use Rattle.capture_file.specs.Fronts.{kind_at, kind_text, picture_name, version_text, with_rest}
 use Rattle.capture_file.specs.PictureFaults.{HasCutGroups, HasPictureHead, HasNoFormat}
 use Rattle.capture_file.specs.PictureFaults.{HasOtherThanOne}
 use Rattle.capture_file.specs.PictureFaults.{HasTrailing, IsCutPicture, IsFormat, IsPictureFault}
 use Rattle.capture_file.specs.PictureFaults.IsCutPicture.{Kind, Block, Groups}
-use Rattle.capture_file.specs.PictureFile.{Shown, nothing_at, one_at, one_by, picture_walk}
+use Rattle.capture_file.specs.PictureFile.{Shown, one_at, one_by, picture_walk}
 use Rattle.capture_file.specs.PictureFile.{raster_at}
 use Rattle.capture_file.specs.PictureFile.{raster_octets, shown_by}
 use Rattle.capture_file.specs.StateFile.{format_text}
 use Rattle.capture_file.proofs.BlockFaults.{block_again, block_fails, block_read}
+use Rattle.capture_file.proofs.Content.{if_content_weaker}
 use Rattle.capture_file.proofs.Failing.{differ, field_fails, field_short, field_whole, not_both}
 use Rattle.capture_file.proofs.Failing.{same_fault, split_fails}
 use Rattle.capture_file.proofs.Found.{failed, field_takes, given, kind_takes, split_then}
@@ -447,3 +449,13 @@ pub one_picture_fault : (e f : FileFault) (octets : List ℕ) → AreOctets octe
 one_picture_fault e f octets bytes p q
     = same_fault (Shown × List ℕ) e f (sym (picture_tells e octets bytes p)
     ∙ picture_tells f octets bytes q)
+
+-- what a reader of pictures' files owes of a fault
+pub picture_wrong : {X : Type 0} (told : Option (List ℕ)) (r : Result X FileFault)
+    → IfErr r (λ f. Fails picture_walk told f)
+    → IfErr r (λ f. (octets : List ℕ) → told ≡ Some octets → AreOctets octets
+    → IfContent f (IsPictureFault f octets))
+picture_wrong told (Ok x) fails = tt
+picture_wrong told (Err f) fails =
+    λ octets is bytes. if_content_weaker f (picture_walk octets ≡ Err f) (IsPictureFault f octets)
+    (picture_fails f octets bytes) (subst (λ (o : Option (List ℕ)). Fails picture_walk o f) is fails)

@@ -24,9 +24,9 @@ use Rattle.capture_file.specs.declared.fault.FileFault.TheVariants.{TrailingByte
 use Rattle.capture_file.specs.declared.front.Version.{Version}
 use Rattle.capture_file.specs.declared.front.Version.TheVariants.{One}
 use Rattle.capture_file.specs.Blocks.{block_at}
-use Rattle.capture_file.specs.Fields.{Fails, Takes, field_at}
+use Rattle.capture_file.specs.Fields.{Fails, Takes, field_at, nothing_at}
 use Rattle.capture_file.specs.Fronts.{picture_name, with_rest}
-use Rattle.capture_file.specs.PictureFile.{GivesSpelled, Shown, head_of, nothing_at, one_at}
+use Rattle.capture_file.specs.PictureFile.{GivesSpelled, Shown, head_of, one_at}
 use Rattle.capture_file.specs.PictureFile.{picture_walk, picture_text, raster_at, raster_octets}
 use Rattle.capture_file.specs.PictureFile.{shown_by}
 use Rattle.capture_file.proofs.Parsing.{fails_first, fails_then, gives_field, gives_pure}

@@ -38,10 +38,10 @@ use Rattle.capture_file.specs.declared.front.Version.{Version}
 use Rattle.capture_file.specs.declared.front.Version.TheVariants.{One, Two}
 use Rattle.capture_file.specs.Blocks.{block_at, block_of, depth_of, lowest, sampling_of}
 use Rattle.capture_file.specs.Faults.{IfContent, IsMachine}
-use Rattle.capture_file.specs.Fields.{Fails, Takes, Leaves, field_at}
+use Rattle.capture_file.specs.Fields.{Fails, Takes, Leaves, field_at, nothing_at}
 use Rattle.st_format.specs.Reading.{◌>>=◌}
 use Rattle.capture_file.specs.Fronts.{kind_at, kind_of, kind_text, picture_name, with_rest}
-use Rattle.capture_file.specs.PictureFile.{Shown, nothing_at, one_at, one_by, picture_walk}
+use Rattle.capture_file.specs.PictureFile.{Shown, one_at, one_by, picture_walk}
 use Rattle.capture_file.specs.PictureFile.{picture_text, raster_at, raster_octets, shown_of}
 use Rattle.capture_file.specs.PictureFile.{shown_by}
 use Rattle.st_format.specs.Device.{AreOctets, TellsOctets}

@@ -1,16 +1,21 @@
 -- A file read from the left: a reading answers a value and the octets behind it, or the first
 -- fault. What a function does to a source is what a reading does to the octets that the source was
 -- to give.
-use Rattle.std.specs.Prelude.{◌≡◌, ℕ, nat_lt, if◌then◌else◌, List, length, take, drop, ⊤, Option}
-use Rattle.std.specs.Prelude.{None, Some, Result, Ok, Err}
+use Rattle.std.specs.Prelude.{◌≡◌, ℕ, nat_lt, if◌then◌else◌, List, [], ◌∷◌, length, take, drop}
+use Rattle.std.specs.Prelude.{⊤, Option, None, Some, Result, Ok, Err}
 use Rattle.capture_file.specs.declared.fault.FileFault.{FileFault}
-use Rattle.capture_file.specs.declared.fault.FileFault.TheVariants.{Truncated}
+use Rattle.capture_file.specs.declared.fault.FileFault.TheVariants.{Truncated, TrailingBytes}
 use Rattle.capture_file.specs.Faults.{IfContent}
 
 -- so many octets
 unfoldable pub field_at : ℕ → List ℕ → Result (List ℕ × List ℕ) FileFault
 field_at n octets =
     if nat_lt (length octets) n then Err Truncated else Ok (take n octets, drop n octets)
+
+-- nothing stands behind what was read
+abbrev pub nothing_at : List ℕ → Result (⊤ × List ℕ) FileFault
+nothing_at [] = Ok (tt, [])
+nothing_at (octet ∷ octets) = Err TrailingBytes
 
 -- a source that was to give octets is left with those behind the value
 abbrev pub Leaves : {X : Type 0} → Result (X × List ℕ) FileFault → X → Option (List ℕ) → Type 0

@@ -1,17 +1,17 @@
 -- A picture as a file (own): its text as a function of what it holds, and how octets are read as
 -- one.
-use Rattle.std.specs.Prelude.{ℕ, ◌*◌, ◌/◌, List, [], ◌∷◌, ◌++◌, ⊤, Option, Result, Ok, Err}
+use Rattle.std.specs.Prelude.{ℕ, ◌*◌, ◌/◌, List, ◌++◌, Option, Result, Ok, Err}
 use Rattle.std.specs.Io.KnownBytes.{Consumes}
 use Rattle.st_format.specs.Fields.{Fields, fields_of}
 use Rattle.st_format.specs.Pgroup.{bits_of, pixel_group}
 use Rattle.st_format.specs.Picture.{Values}
 use Rattle.st_format.specs.Samples.{Spells, octets_in, values_in}
 use Rattle.capture_file.specs.declared.fault.FileFault.{FileFault}
-use Rattle.capture_file.specs.declared.fault.FileFault.TheVariants.{BadVersion, TrailingBytes}
+use Rattle.capture_file.specs.declared.fault.FileFault.TheVariants.{BadVersion}
 use Rattle.capture_file.specs.declared.front.Version.{Version}
 use Rattle.capture_file.specs.declared.front.Version.TheVariants.{One, Two}
 use Rattle.capture_file.specs.Blocks.{block_at}
-use Rattle.capture_file.specs.Fields.{field_at}
+use Rattle.capture_file.specs.Fields.{field_at, nothing_at}
 use Rattle.st_format.specs.Reading.{◌>>=◌}
 use Rattle.capture_file.specs.Fronts.{kind_at, kind_text, picture_name}
 use Rattle.capture_file.specs.StateFile.{format_text}
@@ -50,11 +50,6 @@ one_at name octets = kind_at name octets >>= λ x. one_by x.0 x.1
 unfoldable pub raster_at : Fields → List ℕ → Result (List ℕ × List ℕ) FileFault
 raster_at f octets =
     field_at (raster_octets f) octets >>= λ x. Ok (values_in (bits_of f.depth) x.0, x.1)
-
--- nothing stands behind what was read
-abbrev pub nothing_at : List ℕ → Result (⊤ × List ℕ) FileFault
-nothing_at [] = Ok (tt, [])
-nothing_at (octet ∷ octets) = Err TrailingBytes
 
 -- what fields and samples show
 abbrev pub shown_by : Fields → List ℕ → Shown

@@ -4,9 +4,10 @@ ghost use Rattle.std.specs.Prelude.{OnOk, MatchResult};
 ghost use Rattle.std.specs.List.{All};
 ghost use Rattle.capture_file.specs.Capture.{Content, IsCapture, capture_walk, capture_seen};
 ghost use Rattle.capture_file.specs.Capture.{entry_seen, records_at};
-ghost use Rattle.capture_file.specs.Faults.{CountsDevice, IsMachine};
+ghost use Rattle.capture_file.specs.CaptureFaults.{IsCaptureFault};
+ghost use Rattle.capture_file.specs.Faults.{CountsDevice, IfContent, IsMachine};
 ghost use Rattle.capture_file.specs.Fields.{Fails, Takes};
-ghost use Rattle.st_format.specs.Device.{TellsOctets};
+ghost use Rattle.st_format.specs.Device.{AreOctets, TellsOctets};
 ghost use Rattle.std.specs.Io.KnownBytes.{IsAtEnd};
 
 use crate::fault::FileFault;
@@ -45,6 +46,9 @@ pub fn read_capture<A: Allocator + Copy, S: ByteSource>(
     ensures found { IfOk result (λ v. (octets : List ℕ) → S.to_give source.old ≡ Some octets
         → IsCapture octets (capture_seen v) × (length v.records.items ≤ limit)
         × IsAtEnd (S.to_give source.new)) }
+    // A fault of the content is one whose condition holds of the octets.
+    ensures wrong { IfErr result (λ f. (octets : List ℕ) → S.to_give source.old ≡ Some octets
+        → AreOctets octets → IfContent f (IsCaptureFault f limit octets)) }
     // What is a capture is read as what it says, unless the memory or the device fails.
     ensures only { (c : Content) (octets : List ℕ) → S.to_give source.old ≡ Some octets
         → IsCapture octets c → length c.records ≤ limit

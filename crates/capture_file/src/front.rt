@@ -1,7 +1,7 @@
-//! What stands at the front of a file.
+//! The fields of a file, what stands at its front, and that nothing is behind it.
 ghost use Rattle.std.specs.Prelude.{◌≡◌, ◌≤◌, ◌<◌, codes, length, take, IfErr, IfOk, OnOk};
 ghost use Rattle.capture_file.specs.Faults.{CountsDevice, IsOfField, IsOfFront};
-ghost use Rattle.capture_file.specs.Fields.{Fails, Takes, field_at};
+ghost use Rattle.capture_file.specs.Fields.{Fails, Takes, field_at, nothing_at};
 ghost use Rattle.capture_file.specs.Fronts.{front_at, kind_at, kind_of, text_at, version_of};
 ghost use Rattle.st_format.specs.Device.{TellsOctets};
 
@@ -39,6 +39,24 @@ pub fn read_field<S: ByteSource>(source: &mut S, buf: &mut [u8]) -> Result<(), F
 {
     if read_whole(source, buf)? < buf.len() {
         return Err(FileFault::Truncated);
+    }
+    Ok(())
+}
+
+/// Finds that nothing stands behind what was read.
+///
+/// # Errors
+///
+/// `TrailingBytes` where an octet was read, and `Device`.
+pub fn read_end<S: ByteSource>(source: &mut S) -> Result<(), FileFault>
+    ensures read { OnOk result
+        (Takes nothing_at (S.to_give source.old) (S.to_give source.new) tt) }
+    ensures fault { IfErr result (λ f. Fails nothing_at (S.to_give source.old) f) }
+    ensures counted { CountsDevice (S.failures source.old) (S.failures source.new) result }
+{
+    let mut octet = [0u8; 1];
+    if source.read(&mut octet)? > 0 {
+        return Err(FileFault::TrailingBytes);
     }
     Ok(())
 }

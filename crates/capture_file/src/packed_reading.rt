@@ -2,20 +2,21 @@
 ghost use Rattle.std.specs.Prelude.{◌≡◌, ℕ, List, Some, length, IfErr, IfOk, MatchResult, OnOk};
 ghost use Rattle.std.specs.Io.KnownBytes.{IsAtEnd};
 ghost use Rattle.pgroup_pack.specs.Packing.{Agree};
-ghost use Rattle.st_format.specs.Device.{TellsOctets};
+ghost use Rattle.st_format.specs.Device.{AreOctets, TellsOctets};
 ghost use Rattle.st_format.specs.Fields.{fields_of};
 ghost use Rattle.st_format.specs.Pgroup.{bits_of};
 ghost use Rattle.st_format.specs.Picture.{IsPicture, Values};
 ghost use Rattle.st_format.specs.Position.{sample_count};
 ghost use Rattle.st_format.specs.Samples.{values_in};
-ghost use Rattle.capture_file.specs.Faults.{CountsDevice, IsMachine};
+ghost use Rattle.capture_file.specs.Faults.{CountsDevice, IfContent, IsMachine};
 ghost use Rattle.capture_file.specs.Fields.{Fails, Takes};
+ghost use Rattle.capture_file.specs.PictureFaults.{IsPictureFault};
 ghost use Rattle.capture_file.specs.PictureFile.{picture_walk, picture_text, raster_at, shown_of};
 
 use crate::block::read_format;
 use crate::fault::FileFault;
-use crate::front::{PICTURE, read_field};
-use crate::picture_reading::{read_end, read_version_one};
+use crate::front::{PICTURE, read_end, read_field};
+use crate::picture_reading::read_version_one;
 use pgroup_pack::PackedPicture;
 use st_format::{ByteSource, Format};
 use std::alloc::Allocator;
@@ -37,6 +38,9 @@ pub fn read_packed_picture<A: Allocator, S: ByteSource>(
     // What is read is the file of the picture that is answered, all of it.
     ensures found { IfOk result (λ p. (octets : List ℕ) → S.to_give source.old ≡ Some octets
         → (octets ≡ picture_text p) × IsAtEnd (S.to_give source.new)) }
+    // A fault of the content is one whose condition holds of the octets.
+    ensures wrong { IfErr result (λ f. (octets : List ℕ) → S.to_give source.old ≡ Some octets
+        → AreOctets octets → IfContent f (IsPictureFault f octets)) }
     // What is a picture's file is read as that picture, unless the memory or the device fails.
     ensures only { (p : Values) (octets : List ℕ)
         → S.to_give source.old ≡ Some octets → IsPicture p → octets ≡ picture_text p

@@ -3,20 +3,21 @@ ghost use Rattle.std.specs.Prelude.{◌≡◌, ◌*◌, ◌/◌, ◌%◌, ℕ, L
 ghost use Rattle.std.specs.Prelude.{MatchResult, OnOk};
 ghost use Rattle.std.specs.Io.KnownBytes.{IsAtEnd};
 ghost use Rattle.pgroup_pack.specs.Packing.{Agree};
-ghost use Rattle.st_format.specs.Device.{TellsOctets};
+ghost use Rattle.st_format.specs.Device.{AreOctets, TellsOctets};
 ghost use Rattle.st_format.specs.Fields.{fields_of};
 ghost use Rattle.st_format.specs.Pgroup.{bits_of};
 ghost use Rattle.st_format.specs.Picture.{IsPicture, Values};
 ghost use Rattle.capture_file.specs.declared.front.Version.TheVariants.{One};
-ghost use Rattle.capture_file.specs.Faults.{CountsDevice, IsMachine, IsOfField};
+ghost use Rattle.capture_file.specs.Faults.{CountsDevice, IfContent, IsMachine, IsOfField};
 ghost use Rattle.capture_file.specs.Fields.{Fails, Takes, field_at};
 ghost use Rattle.capture_file.specs.Fronts.{picture_name};
-ghost use Rattle.capture_file.specs.PictureFile.{GivesSpelled, nothing_at, one_at, picture_walk};
+ghost use Rattle.capture_file.specs.PictureFaults.{IsPictureFault};
+ghost use Rattle.capture_file.specs.PictureFile.{GivesSpelled, one_at, picture_walk};
 ghost use Rattle.capture_file.specs.PictureFile.{picture_text, raster_at, shown_of};
 
 use crate::block::read_format;
 use crate::fault::FileFault;
-use crate::front::{PICTURE, Version, read_field, read_kind};
+use crate::front::{PICTURE, Version, read_end, read_field, read_kind};
 use crate::pieces::{PIECE, piece_octets, piece_samples};
 use st_format::{ByteSource, Format, Picture};
 use std::alloc::Allocator;
@@ -37,6 +38,9 @@ pub fn read_picture<A: Allocator, S: ByteSource>(
     // What is read is the file of the picture that is answered, all of it.
     ensures found { IfOk result (λ p. (octets : List ℕ) → S.to_give source.old ≡ Some octets
         → (octets ≡ picture_text p) × IsAtEnd (S.to_give source.new)) }
+    // A fault of the content is one whose condition holds of the octets.
+    ensures wrong { IfErr result (λ f. (octets : List ℕ) → S.to_give source.old ≡ Some octets
+        → AreOctets octets → IfContent f (IsPictureFault f octets)) }
     // What is a picture's file is read as that picture, unless the memory or the device fails.
     ensures only { (p : Values) (octets : List ℕ)
         → S.to_give source.old ≡ Some octets → IsPicture p → octets ≡ picture_text p
@@ -148,19 +152,5 @@ fn read_piece<S: ByteSource>(
 {
     read_field(source, octets)?;
     pgroup_pack::unpack(format, octets, samples);
-    Ok(())
-}
-
-/// Finds that nothing stands behind what was read.
-pub(crate) fn read_end<S: ByteSource>(source: &mut S) -> Result<(), FileFault>
-    ensures read { OnOk result
-        (Takes nothing_at (S.to_give source.old) (S.to_give source.new) tt) }
-    ensures fault { IfErr result (λ f. Fails nothing_at (S.to_give source.old) f) }
-    ensures counted { CountsDevice (S.failures source.old) (S.failures source.new) result }
-{
-    let mut octet = [0u8; 1];
-    if source.read(&mut octet)? > 0 {
-        return Err(FileFault::TrailingBytes);
-    }
     Ok(())
 }

@@ -8,12 +8,14 @@ use Rattle.std.specs.Io.KnownBytes.{Appends, Consumes, IsAtEnd}
 use Rattle.capture_file.specs.Faults.{IfContent}
 use Rattle.capture_file.specs.Fields.{Fails}
 use Rattle.capture_file.specs.Migrated.{old_at}
+use Rattle.capture_file.specs.PictureFaults.{IsPictureFault}
 use Rattle.capture_file.specs.declared.fault.FileFault.{FileFault}
 use Rattle.capture_file.specs.declared.fault.FileFault.TheVariants.{NoMemory, Device, BadName}
 use Rattle.capture_file.specs.declared.fault.FileFault.TheVariants.{BadVersion, Truncated, BadField}
 use Rattle.capture_file.specs.declared.fault.FileFault.TheVariants.{TrailingBytes, MixedGroup}
 use Rattle.capture_file.specs.declared.fault.FileFault.TheVariants.{TooManyRecords}
 use Rattle.path_merge.specs.Frames.{State}
+use Rattle.st_format.specs.Device.{AreOctets}
 use Rattle.sdp_format.specs.Bytes.{lines}
 use Rattle.sdp_format.specs.Grammar.{IsTextFault}
 use Rattle.sdp_format.specs.Sections.{video_sections}
@@ -24,13 +26,14 @@ use Rattle.tool_text.specs.Telling.{IsRefusalLine, TellsLine, memory_line}
 use Rattle.tool_text.specs.declared.status.Status.{Status}
 use Rattle.tool_text.specs.declared.status.Status.TheVariants as ended
 use Rattle.file_engines.specs.Fault.{IfRefused, TellsFault}
-use Rattle.file_engines.specs.LowerFaults.{capture_fault, of_sdp}
+use Rattle.file_engines.specs.LowerFaults.{capture_fault, of_sdp, picture_fault}
 use Rattle.file_engines.specs.Merging.{SaysReceiver}
 use Rattle.file_engines.specs.RefusalText.{refusal_text}
 use Rattle.file_engines.specs.Refused.{IsCaptureRefusal, IsMergeRefusal, IsMigrateRefusal}
 use Rattle.file_engines.specs.Refused.{HasTextFault, IsSdpRefusal, IsTextRefusal}
 use Rattle.file_engines.specs.Refused.{SaysCaptureText}
 use Rattle.file_engines.specs.Refusing.{IsStateRefusal, OfRefusal, TellsOutcome, TellsRefusal}
+use Rattle.file_engines.specs.Sent.{IsPictureRefusal}
 use Rattle.file_engines.specs.Text.{GivesMore, GivesText}
 use Rattle.file_engines.specs.declared.fault.Fault.{Fault}
 use Rattle.file_engines.specs.declared.fault.Fault.TheVariants as fault
@@ -262,6 +265,20 @@ capture_refused told BadField fails = told_octets told BadField fails
 capture_refused told TrailingBytes fails = told_octets told TrailingBytes fails
 capture_refused told MixedGroup fails = told_octets told MixedGroup fails
 capture_refused told TooManyRecords fails = told_octets told TooManyRecords fails
+
+-- a fault of a picture's file as a refusal
+pub picture_refused : (told : Option (List ℕ)) (f : FileFault)
+    → ((octets : List ℕ) → told ≡ Some octets → AreOctets octets
+    → IfContent f (IsPictureFault f octets)) → OfRefusal (picture_fault f) (IsPictureRefusal told)
+picture_refused told NoMemory wrong = tt
+picture_refused told Device wrong = tt
+picture_refused told BadName wrong = wrong
+picture_refused told BadVersion wrong = wrong
+picture_refused told Truncated wrong = wrong
+picture_refused told BadField wrong = wrong
+picture_refused told TrailingBytes wrong = wrong
+picture_refused told MixedGroup wrong = wrong
+picture_refused told TooManyRecords wrong = wrong
 
 -- the refusals of a text and of a capture are those of `migrate`
 pub text_refused : (sdp source : Option (List ℕ)) (r : Refusal)

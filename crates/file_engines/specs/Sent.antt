@@ -1,9 +1,11 @@
 -- Which refusal ends a run of `send` (own).
 use Rattle.std.specs.Prelude.{◌≡◌, ℕ, ◌+◌, ◌<◌, ◌≤◌, ◌⊎◌, List, [], ◌∷◌, length}
-use Rattle.std.specs.Prelude.{Option, Some, Err}
+use Rattle.std.specs.Prelude.{Option, Some}
+use Rattle.st_format.specs.Device.{AreOctets}
 use Rattle.st_format.specs.Picture.{Values}
 use Rattle.st_format.specs.declared.format.Format.{Format}
-use Rattle.capture_file.specs.PictureFile.{picture_walk, picture_text}
+use Rattle.capture_file.specs.PictureFaults.{IsPictureFault}
+use Rattle.capture_file.specs.PictureFile.{picture_text}
 use Rattle.packet_plan.specs.Plan.{group_octets}
 use Rattle.packet_plan.specs.declared.plan.PlanFault.{PlanFault}
 use Rattle.packet_plan.specs.declared.plan.PlanFault.TheVariants.{NoMemory, BadPacketSize}
@@ -25,11 +27,15 @@ OneIs Is (s ∷ ss) = Is s ⊎ OneIs Is ss
 
 -- ---- a picture's file
 
--- the refusal of a picture's file: the fault is the first of the octets, where they are told
+-- the refusal of a picture's file: the fault's condition holds of the octets, where they are told
 abbrev pub IsPictureRefusal : Option (List ℕ) → Refusal → Type 0
 IsPictureRefusal told (refusal.Picture f) =
-    (octets : List ℕ) → told ≡ Some octets → picture_walk octets ≡ Err f
+    (octets : List ℕ) → told ≡ Some octets → AreOctets octets → IsPictureFault f octets
 IsPictureRefusal told r = ⊥
+
+-- a source was to give the file of a picture
+abbrev pub SaysPicture : Option (List ℕ) → Values → Type 0
+SaysPicture told p = (octets : List ℕ) → told ≡ Some octets → octets ≡ picture_text p
 
 -- a source was to give the file of a picture of this format, if it tells what it is to give
 abbrev pub SaysFormat : Option (List ℕ) → Format → Type 0

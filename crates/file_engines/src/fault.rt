@@ -154,7 +154,7 @@ pub(crate) fn of_capture(fault: FileFault) -> Fault
 }
 
 /// A fault of a picture's file.
-pub fn of_picture(fault: FileFault) -> Fault
+pub(crate) fn of_picture(fault: FileFault) -> Fault
     ensures { result ≡ picture_fault fault }
 {
     of_file(fault, Refusal::Picture(fault))

@@ -10,13 +10,14 @@ ghost use Rattle.file_engines.specs.Sent.{IsPicturesRefusal, IsRestRefusal, IsSe
 ghost use Rattle.file_engines.specs.Sent.{SaysFormat};
 ghost use Rattle.tool_text.specs.Telling.{memory_line};
 
-use crate::fault::{Fault, Refusal, of_picture};
+use crate::fault::{Fault, Refusal};
 use crate::line::Line;
+use crate::pictures::read_packed;
 use crate::printing::print;
 use crate::sender::{Sender, Sending};
 use crate::telling::end;
 use crate::text::{read_checked, room};
-use capture_file::{CaptureWriter, read_packed_picture};
+use capture_file::CaptureWriter;
 use packet_plan::Plan;
 use pgroup_pack::PackedPicture;
 use st_format::{ByteSink, ByteSource};
@@ -281,21 +282,5 @@ fn read_at<A: Allocator, S: ByteSource>(
     ensures failures { Accounts result (counts (sum_by S.failures pictures.old)
         (sum_by S.failures pictures.new) ∷ []) }
 {
-    read_one(&mut pictures[place], room)
-}
-
-/// Reads a picture into this memory.
-fn read_one<A: Allocator, S: ByteSource>(
-    source: &mut S,
-    room: Vec<u8, A>,
-) -> Result<PackedPicture<A>, Fault>
-    ensures says { IfOk result (λ p. SaysFormat (S.to_give source.old) p.format) }
-    ensures refusal { IfErr result (λ f. OfRefusal f (IsPictureRefusal (S.to_give source.old))) }
-    ensures failures { Accounts result (counts (S.failures source.old) (S.failures source.new)
-        ∷ []) }
-{
-    match read_packed_picture(source, room) {
-        Ok(picture) => Ok(picture),
-        Err(fault) => Err(of_picture(fault)),
-    }
+    read_packed(&mut pictures[place], room)
 }

@@ -1,17 +1,16 @@
 //! Settling cells: a value for each sample.
-ghost use Rattle.std.specs.Prelude.{◌≡◌, ◌<◌, ◌≤◌, ◌+◌, ◌-◌, ◌*◌, ◌%◌, ◌↔◌, ℕ, List, IfOk, IsTrue};
-ghost use Rattle.std.specs.Prelude.{length, map, slice_index};
-ghost use Rattle.std.specs.List.{range_with_len};
+ghost use Rattle.std.specs.Prelude.{◌≡◌, ◌<◌, ◌≤◌, ◌+◌, ◌-◌, ◌*◌, ◌↔◌, ℕ, List, IfOk, IsTrue};
+ghost use Rattle.std.specs.Prelude.{length, slice_index};
 ghost use Rattle.frame_assembly.specs.Packed.{ArePacked, cells_in, marked};
 ghost use Rattle.frame_assembly.specs.Settled.{HoldsPicture, IsBaseOf, IsSettledTo, base_number};
 ghost use Rattle.frame_assembly.specs.Settled.{settled_cell, settled_numbers};
 ghost use Rattle.st_format.specs.Pgroup.{pixel_group};
-ghost use Rattle.st_format.specs.Position.{component_in_row, group_count};
+ghost use Rattle.st_format.specs.Position.{group_count};
 
 use crate::base::Base;
 use crate::groups::{BLOCK, PRESENT, are_missing, marked_cell};
 use pgroup_pack::unpack;
-use st_format::{Cell, Format, Sampling};
+use st_format::{Cell, Format, fill_samples};
 use std::alloc::{AllocError, Allocator};
 
 /// How many samples a block of groups has at most: a group has 12 or fewer.
@@ -84,17 +83,6 @@ fn settle_over<C: Allocator>(format: &Format, marks: &[u16], base: Base<'_, C>, 
         Base::Hold(picture) => {
             settle_over_held(of_group, marks, picture.samples(), samples);
         }
-    }
-}
-
-/// Gives each sample the value of its component.
-fn fill_samples(sampling: Sampling, fill: [u16; 3], samples: &mut [u16])
-    ensures { samples.new
-        ≡ map (λ k. slice_index fill (component_in_row sampling k))
-        (range_with_len 0 (length samples.old)) }
-{
-    for (number, sample) in samples.iter_mut().enumerate() {
-        *sample = fill[sampling.component_in_row(number)];
     }
 }
 

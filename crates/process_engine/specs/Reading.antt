@@ -1,18 +1,14 @@
 -- What the files say that are processed (own).
-use Rattle.std.specs.Prelude.{◌≡◌, ℕ, List, Option, None, Some, ⊤}
+use Rattle.std.specs.Prelude.{ℕ, List, Option, None, Some, ⊤}
 use Rattle.std.specs.List.{AllZip}
-use Rattle.capture_file.specs.PictureFile.{picture_text}
 use Rattle.path_merge.specs.Frames.{State}
 use Rattle.file_engines.specs.Merging.{SaysReceiver}
+use Rattle.file_engines.specs.Sent.{SaysPicture}
 use Rattle.st_format.specs.Picture.{Values}
 
 -- sources were to give those of receivers, one each
 abbrev pub SayReceivers : {S : Type 0} → (S → Option (List ℕ)) → List S → List State → Type 0
 SayReceivers to_give ss rs = AllZip (λ s r. SaysReceiver (to_give s) r) ss rs
-
--- a source was to give the file of a picture
-abbrev pub SaysPicture : Option (List ℕ) → Values → Type 0
-SaysPicture told p = (octets : List ℕ) → told ≡ Some octets → octets ≡ picture_text p
 
 -- there is a picture where there is a source, which was to give its file
 abbrev pub SaysHeld : {S : Type 0} → (S → Option (List ℕ)) → Option S → Option Values → Type 0

@@ -1,8 +1,8 @@
 -- Which refusal ends a run of `process`: the first in one order of those that speak against its
 -- words and files (own). Each is said to stand only where none before it does.
 use Rattle.std.specs.Prelude.{◌≡◌, ℕ, ◌<◌, List, length, take, slice_index_or, Option, None, Some}
-use Rattle.capture_file.specs.PictureFaults.{IsPictureFault}
 use Rattle.file_engines.specs.Refusing.{IsStateRefusal}
+use Rattle.file_engines.specs.Sent.{IsPictureRefusal}
 use Rattle.file_engines.specs.declared.fault.Refusal.{Refusal}
 use Rattle.file_engines.specs.declared.fault.Refusal.TheVariants as refusal
 use Rattle.key_mix.specs.Jobs.{IsRefusal}
@@ -11,7 +11,6 @@ use Rattle.key_mix.specs.declared.Job.{Job}
 use Rattle.packet_plan.specs.declared.plan.PlanFault.TheVariants as plan
 use Rattle.path_merge.specs.Frames.{State}
 use Rattle.st_format.specs.declared.format.Format.{Format}
-use Rattle.st_format.specs.Device.{AreOctets}
 use Rattle.st_format.specs.Member.{IsMember}
 use Rattle.st_format.specs.Picture.{Values}
 use Rattle.st_format.specs.Raster.{Raster}
@@ -67,12 +66,6 @@ IsJobRefusal job w rs held r =
     OfFrames w rs (OfFormats w held (IsJobOrPlanRefusal job w.max_octets r))
 
 -- ---- words and files
-
--- the refusal of a picture's file: the fault's condition holds of the octets, where they are told
-abbrev pub IsPictureRefusal : Option (List ℕ) → Refusal → Type 0
-IsPictureRefusal told (refusal.Picture f) =
-    (octets : List ℕ) → told ≡ Some octets → AreOctets octets → IsPictureFault f octets
-IsPictureRefusal told r = ⊥
 
 -- the refusal of the file of the picture that is held
 abbrev pub IsHeldRefusal : {S : Type 0} → (S → Option (List ℕ)) → Option S → Refusal → Type 0

@@ -5,12 +5,10 @@ ghost use Rattle.file_engines.specs.Fault.{Accounts, counts};
 ghost use Rattle.file_engines.specs.Merging.{SaysReceiver};
 ghost use Rattle.file_engines.specs.Receiving.{failures_in};
 ghost use Rattle.file_engines.specs.Refusing.{OfRefusal};
-ghost use Rattle.process_engine.specs.Refused.{IsHeldRefusal, IsPictureRefusal};
-ghost use Rattle.process_engine.specs.Refused.{IsReceiversRefusal, IsRefusedAt};
-ghost use Rattle.process_engine.specs.Reading.{SayReceivers, SaysHeld, SaysPicture};
+ghost use Rattle.process_engine.specs.Refused.{IsHeldRefusal, IsReceiversRefusal, IsRefusedAt};
+ghost use Rattle.process_engine.specs.Reading.{SayReceivers, SaysHeld};
 
-use capture_file::read_picture;
-use file_engines::{Fault, of_picture, read_receiver};
+use file_engines::{Fault, read_receiver, read_unpacked};
 use path_merge::Receiver;
 use st_format::{ByteSource, Picture};
 use std::alloc::Allocator;
@@ -67,22 +65,9 @@ pub fn read_held<A: Allocator, S: ByteSource>(
 {
     match hold {
         None => Ok(None),
-        Some(source) => match read_one(alloc, source) {
+        Some(source) => match read_unpacked(alloc, source) {
             Ok(picture) => Ok(Some(picture)),
             Err(fault) => Err(fault),
         },
-    }
-}
-
-/// Reads a picture's file.
-fn read_one<A: Allocator, S: ByteSource>(alloc: A, source: &mut S) -> Result<Picture<A>, Fault>
-    ensures says { IfOk result (λ p. SaysPicture (S.to_give source.old) p) }
-    ensures refused { IfErr result (λ f. OfRefusal f (IsPictureRefusal (S.to_give source.old))) }
-    ensures failures { Accounts result (counts (S.failures source.old) (S.failures source.new)
-        ∷ []) }
-{
-    match read_picture(alloc, source) {
-        Ok(picture) => Ok(picture),
-        Err(fault) => Err(of_picture(fault)),
     }
 }

@@ -22,7 +22,7 @@ use Rattle.capture_file.specs.declared.fault.FileFault.TheVariants.{TooManyRecor
 use Rattle.capture_file.specs.declared.front.Version.TheVariants.{One}
 use Rattle.capture_file.specs.Blocks.{block_at}
 use Rattle.capture_file.specs.Faults.{IfContent, IsMachine}
-use Rattle.capture_file.specs.Fields.{Fails, Takes, Leaves}
+use Rattle.capture_file.specs.Fields.{Fails, Takes, Leaves, nothing_at}
 use Rattle.st_format.specs.Reading.{◌>>=◌}
 use Rattle.capture_file.specs.Fronts.{kind_at, kind_of, kind_text, receiver_name, with_rest}
 use Rattle.capture_file.specs.Groups.{Shape, groups_at, groups_text, shape_of}
@@ -40,7 +40,6 @@ use Rattle.receiver_file.specs.Numbers.{number_at}
 use Rattle.receiver_file.specs.Saved.{IsSaved, kept_of, timestamp_in}
 use Rattle.receiver_file.specs.StateFaults.{IsHead, block_front, frames_front, head_text}
 use Rattle.receiver_file.specs.StateReading.{all_held_at, held_at, new_of, state_walk}
-use Rattle.capture_file.specs.PictureFile.{nothing_at}
 use Rattle.receiver_file.specs.StateReading.{timestamp_at}
 use Rattle.receiver_file.proofs.Found.{behind_block, behind_frames, behind_head, with_head}
 use Rattle.receiver_file.proofs.Found.{with_kept}

@@ -7,13 +7,12 @@ use Rattle.std.proofs.lemmas.Result.{IfOk-weaker}
 use Rattle.path_merge.specs.Frames.{State}
 use Rattle.capture_file.specs.declared.fault.FileFault.{FileFault}
 use Rattle.capture_file.specs.Blocks.{block_at}
-use Rattle.capture_file.specs.Fields.{Takes}
+use Rattle.capture_file.specs.Fields.{Takes, nothing_at}
 use Rattle.st_format.specs.Reading.{◌>>=◌}
 use Rattle.capture_file.specs.StateFile.{Kept}
 use Rattle.receiver_file.specs.Front.{head_at, name_at}
 use Rattle.receiver_file.specs.Saved.{kept_of}
 use Rattle.receiver_file.specs.StateReading.{all_held_at, state_walk}
-use Rattle.capture_file.specs.PictureFile.{nothing_at}
 
 abbrev Whole : Type 0
 Whole = Result (Kept × List ℕ) FileFault

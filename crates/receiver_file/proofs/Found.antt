@@ -17,7 +17,7 @@ use Rattle.capture_file.specs.declared.fault.FileFault.TheVariants.{TrailingByte
 use Rattle.capture_file.specs.declared.front.Version.{Version}
 use Rattle.capture_file.specs.declared.front.Version.TheVariants.{One, Two}
 use Rattle.capture_file.specs.Blocks.{block_at}
-use Rattle.capture_file.specs.Fields.{Takes, Leaves, field_at}
+use Rattle.capture_file.specs.Fields.{Takes, Leaves, field_at, nothing_at}
 use Rattle.st_format.specs.Reading.{◌>>=◌}
 use Rattle.capture_file.specs.Fronts.{kind_at, kind_text, receiver_name, with_rest}
 use Rattle.capture_file.specs.Groups.{Shape, groups_at, groups_text, shape_of}
@@ -34,7 +34,6 @@ use Rattle.receiver_file.specs.Numbers.{number_at, octet_at}
 use Rattle.receiver_file.specs.Saved.{IsSaved, IsWritable, kept_of}
 use Rattle.receiver_file.specs.StateFaults.{flag_octet, head_text}
 use Rattle.receiver_file.specs.StateReading.{all_held_at, held_at, state_walk, timestamp_at}
-use Rattle.capture_file.specs.PictureFile.{nothing_at}
 use Rattle.receiver_file.proofs.GroupsFound.{behind, cut_takes, groups_take}
 use Rattle.receiver_file.proofs.Savable.{writable_saved}
 

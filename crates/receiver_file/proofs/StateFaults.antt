@@ -18,7 +18,7 @@ use Rattle.capture_file.specs.declared.front.Version.{Version}
 use Rattle.capture_file.specs.declared.front.Version.TheVariants.{One, Two}
 use Rattle.capture_file.specs.Blocks.{block_at}
 use Rattle.capture_file.specs.Faults.{IfContent}
-use Rattle.capture_file.specs.Fields.{Fails}
+use Rattle.capture_file.specs.Fields.{Fails, nothing_at}
 use Rattle.st_format.specs.Reading.{◌>>=◌}
 use Rattle.capture_file.specs.Fronts.{kind_at, kind_text, receiver_name, with_rest}
 use Rattle.capture_file.specs.PictureFaults.{HasOtherThanOne, IsFormat}
@@ -40,7 +40,6 @@ use Rattle.receiver_file.specs.StateFaults.{head_text, text_before}
 use Rattle.receiver_file.specs.StateFaults.IsCutState.{Kind, Field}
 use Rattle.receiver_file.specs.StateFaults.FieldPlace.{AtBlock}
 use Rattle.receiver_file.specs.StateReading.{all_held_at, state_walk}
-use Rattle.capture_file.specs.PictureFile.{nothing_at}
 use Rattle.receiver_file.proofs.Again.{head_of, state_parts, state_whole}
 use Rattle.receiver_file.proofs.FieldFaults.{head_read}
 use Rattle.receiver_file.proofs.Found.{behind_block, behind_frames, behind_head, head_takes}

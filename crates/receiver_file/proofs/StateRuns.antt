@@ -10,14 +10,13 @@ use Rattle.path_merge.specs.Opening.{Opening}
 use Rattle.capture_file.specs.declared.fault.FileFault.{FileFault}
 use Rattle.capture_file.specs.declared.fault.FileFault.TheVariants.{NoMemory}
 use Rattle.capture_file.specs.Blocks.{block_at}
-use Rattle.capture_file.specs.Fields.{Fails, Takes}
+use Rattle.capture_file.specs.Fields.{Fails, Takes, nothing_at}
 use Rattle.capture_file.specs.StateFile.{Held, Kept}
 use Rattle.capture_file.proofs.Parsing.{fails_first, fails_then, gives_then, then_reads}
 use Rattle.receiver_file.specs.declared.front.Head.{Head}
 use Rattle.receiver_file.specs.Front.{head_at, name_at}
 use Rattle.receiver_file.specs.Saved.{kept_frames, kept_of}
 use Rattle.receiver_file.specs.StateReading.{all_held_at, state_walk}
-use Rattle.capture_file.specs.PictureFile.{nothing_at}
 use Rattle.receiver_file.proofs.Valued.{memory_fails, value_cut, value_gives, valued}
 
 -- ---- the parts

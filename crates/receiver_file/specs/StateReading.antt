@@ -9,7 +9,7 @@ use Rattle.capture_file.specs.Blocks.{block_at}
 use Rattle.st_format.specs.Reading.{◌>>=◌}
 use Rattle.capture_file.specs.Fronts.{with_rest}
 use Rattle.capture_file.specs.Groups.{groups_at, shape_of}
-use Rattle.capture_file.specs.PictureFile.{nothing_at}
+use Rattle.capture_file.specs.Fields.{nothing_at}
 use Rattle.capture_file.specs.StateFile.{Held, Kept, group_count}
 use Rattle.receiver_file.specs.Front.{head_at, name_at}
 use Rattle.receiver_file.specs.Numbers.{number_at}

@@ -11,15 +11,14 @@ ghost use Rattle.capture_file.specs.StateFile.{Kept, state_text};
 ghost use Rattle.receiver_file.specs.Saved.{IsSaved, IsWritable, kept_of};
 ghost use Rattle.receiver_file.specs.StateFaults.{IsStateFault};
 ghost use Rattle.receiver_file.specs.StateReading.{state_walk};
-ghost use Rattle.capture_file.specs.PictureFile.{nothing_at};
 
 use crate::frames::{Frames, read_frames};
 use crate::front::{Head, read_head, read_name};
 use crate::telling::tell_receiver;
-use capture_file::{FileFault, read_format};
+use capture_file::{FileFault, read_end, read_format};
 use frame_assembly::Frame;
 use path_merge::Receiver;
-use st_format::{ByteSource, Format, read_whole};
+use st_format::{ByteSource, Format};
 use std::alloc::Allocator;
 
 /// Reads a receiver that was written as a file. Its list of refusals is empty.
@@ -89,19 +88,6 @@ fn read_receiver<A: Allocator + Copy, S: ByteSource>(
     let frames = read_frames(alloc, source, format, head.count)?;
     read_end(source)?;
     open_again(alloc, format, head, frames)
-}
-
-/// Finds a source at its end.
-fn read_end<S: ByteSource>(source: &mut S) -> Result<(), FileFault>
-    ensures read { OnOk result (Takes nothing_at (S.to_give source.old) (S.to_give source.new) tt) }
-    ensures fault { IfErr result (λ f. Fails nothing_at (S.to_give source.old) f) }
-    ensures counted { CountsDevice (S.failures source.old) (S.failures source.new) result }
-{
-    let mut octet = [0u8; 1];
-    if read_whole(source, &mut octet)? > 0 {
-        return Err(FileFault::TrailingBytes);
-    }
-    Ok(())
 }
 
 /// A receiver of these frames.

@@ -2,10 +2,8 @@
 ghost use Rattle.std.specs.Prelude.{◌≡◌, ◌≢◌, ◌≤◌, ◌<◌, ◌+◌, ◌⊎◌, ◌∷◌, ℕ, List, [], min, length};
 ghost use Rattle.std.specs.Prelude.{IfErr, IfOk, OnOk, Some};
 ghost use Rattle.std.specs.Io.KnownBytes.{Appends};
-ghost use Rattle.capture_file.specs.PictureFile.{picture_text};
 ghost use Rattle.file_engines.specs.Fault.{Accounts, IfRefused, NoneFailed, OneFailed, counts};
 ghost use Rattle.file_engines.specs.Refusing.{OfRefusal, TellsRefusal};
-ghost use Rattle.file_engines.specs.Sent.{IsPictureRefusal};
 ghost use Rattle.packet_plan.specs.Plan.{IsFullPlan};
 ghost use Rattle.path_merge.specs.Frames.{Holds};
 ghost use Rattle.path_merge.specs.Took.{CountsAll};
@@ -14,8 +12,7 @@ ghost use Rattle.report_engines.specs.Looped.{IsLoopRefusal};
 ghost use Rattle.report_engines.specs.Looping.{Came, Loops, Prints, loop_opening};
 
 use crate::link::DatagramLink;
-use capture_file::read_picture;
-use file_engines::{Fault, Line, of_picture, print, room, tell};
+use file_engines::{Fault, Line, print, read_unpacked, room, tell};
 use packet_plan::{Plan, Stamp};
 use path_merge::{Receiver, receive};
 use st_format::{ByteSink, ByteSource, Picture};
@@ -131,26 +128,12 @@ where
         ∷ counts (L.DatagramSink.failures link.old) (L.DatagramSink.failures link.new)
         ∷ counts (O.failures output.old) (O.failures output.new) ∷ []) }
 {
-    let picture = read_shown(alloc, source)?;
+    let picture = read_unpacked(alloc, source)?;
     let plan = Plan::new(alloc, picture.format(), wanted.max_octets)?;
     let mut receiver = open(alloc, &picture)?;
     let mut buf = room(alloc)?;
     let passed = pass(&plan, &picture, &mut receiver, link, &mut buf, wanted.limit)?;
     print_passed(passed, &receiver, output, text)
-}
-
-/// Reads a picture.
-fn read_shown<A: Allocator, S: ByteSource>(alloc: A, source: &mut S) -> Result<Picture<A>, Fault>
-    ensures found { IfOk result (λ p. (octets : List ℕ) → S.to_give source.old ≡ Some octets
-        → octets ≡ picture_text p) }
-    ensures refusal { IfErr result (λ f. OfRefusal f (IsPictureRefusal (S.to_give source.old))) }
-    ensures failures { Accounts result (counts (S.failures source.old) (S.failures source.new)
-        ∷ []) }
-{
-    match read_picture(alloc, source) {
-        Ok(picture) => Ok(picture),
-        Err(fault) => Err(of_picture(fault)),
-    }
 }
 
 /// A receiver of the datagrams of a picture.

@@ -2,7 +2,6 @@
 ghost use Rattle.std.specs.Prelude.{◌≡◌, ◌∷◌, [], None, Some, MatchOption, IfSome, ◌≤◌};
 ghost use Rattle.std.specs.Option.{option_copied};
 ghost use Rattle.std.specs.Str.{bytes_eq};
-ghost use Rattle.std.specs.Str.Lines.{strip_carriage_return};
 ghost use Rattle.sdp_format.specs.Bytes.{begins_with, lines, lines_left, attribute, at_most};
 ghost use Rattle.st_format.specs.Words.{number};
 ghost use Rattle.sdp_format.specs.Sections.{video_sections, section_lines};
@@ -10,7 +9,7 @@ ghost use Rattle.sdp_format.specs.Reading.{media_of, first_attribute, is_raw9000
 ghost use Rattle.sdp_format.specs.ReadLeg.{section_of};
 
 use crate::text::{cut, trim, trim_end};
-use st_format::read_number;
+use st_format::{read_number, without_carriage_return};
 
 /// Whether a text is a word, its case as it is.
 pub(crate) fn is_word(text: &[u8], word: &[u8]) -> bool
@@ -26,24 +25,13 @@ pub(crate) fn begins(word: &[u8], text: &[u8]) -> bool
     text.starts_with(word)
 }
 
-/// A line without one CR at its end.
-fn without_return(line: &[u8]) -> &[u8]
-    ensures { result.now ≡ strip_carriage_return line.now }
-{
-    if !line.is_empty() && line[line.len() - 1] == b'\r' {
-        &line[..line.len() - 1]
-    } else {
-        line
-    }
-}
-
 /// The first line of a text, and what is left behind it.
 #[tactic(auto, using(crate::proofs::Parts::next_lines))]
 pub(crate) fn next_line(text: &[u8]) -> (&[u8], Option<&[u8]>)
     ensures { lines text.now ≡ result.0.now ∷ lines_left (option_copied result.1) }
 {
     let (line, rest) = cut(text, b'\n');
-    (without_return(line), rest)
+    (without_carriage_return(line), rest)
 }
 
 /// The first line of the next video section, and what is left behind it.

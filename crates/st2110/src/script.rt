@@ -1,7 +1,7 @@
 //! Where a script is at fault: the line, what it says, and what may stand there.
 use crate::told::Told;
 use crate::wanted::wanted;
-use st_format::split_once;
+use st_format::{split_once, without_carriage_return};
 
 /// The greatest number of octets of a script.
 const LIMIT: usize = 16_777_216;
@@ -83,14 +83,6 @@ impl<'a> Lines<'a> {
             behind,
             is_past: self.octets > LIMIT,
         }
-    }
-}
-
-/// A line without one CR at its end.
-fn without_carriage_return(text: &[u8]) -> &[u8] {
-    match text {
-        [front @ .., b'\r'] => front,
-        _ => text,
     }
 }
 

@@ -2,12 +2,12 @@
 ghost use Rattle.std.specs.Prelude.{◌≡◌, ◌≤◌, ◌<◌, ◌+◌, ◌∷◌, [], length, IfErr, IfNone, IfSome};
 ghost use Rattle.std.specs.Prelude.{IfOk, MatchOption};
 ghost use Rattle.std.specs.Io.KnownBytes.{Consumes, IsAtEnd};
-ghost use Rattle.std.specs.Str.Lines.{lines, strip_carriage_return};
+ghost use Rattle.std.specs.Str.Lines.{lines};
 ghost use Rattle.st2110_tool.specs.Fault.{Accounts, ReadsAt};
 ghost use Rattle.st2110_tool.specs.Script.{IsCut, IsReadFrom, IsWholeLines, numbered_lines};
 
 use crate::fault::Fault;
-use st_format::{ByteSource, read_whole, split_once};
+use st_format::{ByteSource, read_whole, split_once, without_carriage_return};
 use std::alloc::Allocator;
 
 /// The greatest number of octets of a script (own).
@@ -166,15 +166,5 @@ fn split_line(text: &[u8]) -> Option<(&[u8], &[u8])>
     match split_once(text, b'\n') {
         Some((line, rest)) => Some((without_carriage_return(line), rest)),
         None => Some((text, &[])),
-    }
-}
-
-/// The text without a CR at its end.
-fn without_carriage_return(text: &[u8]) -> &[u8]
-    ensures { result.now ≡ strip_carriage_return text.now }
-{
-    match text {
-        [front @ .., b'\r'] => front,
-        _ => text,
     }
 }

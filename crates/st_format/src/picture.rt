@@ -190,8 +190,8 @@ fn filled_samples<A: Allocator>(
     Ok(samples)
 }
 
-/// Gives each sample the value of its component.
-fn fill_samples(sampling: Sampling, fill: [u16; 3], samples: &mut [u16])
+/// Gives each sample the value of its component: the samples of whole groups, from a row's first on.
+pub fn fill_samples(sampling: Sampling, fill: [u16; 3], samples: &mut [u16])
     ensures { samples.new
         ≡ map (λ k. slice_index fill (component_in_row sampling k))
         (range_with_len 0 (length samples.old)) }

@@ -1,6 +1,7 @@
-//! Texts, parted at a separator.
+//! Texts, parted at a separator, and lines.
 ghost use Rattle.std.specs.Prelude.{◌≡◌, ◌<◌, ◌==◌, IfSome, length, position};
 ghost use Rattle.std.specs.Option.{option_map};
+ghost use Rattle.std.specs.Str.Lines.{strip_carriage_return};
 ghost use Rattle.st_format.specs.Text.{parted};
 
 /// The text before the first `separator`, and the text behind it; none where it has no separator.
@@ -19,4 +20,14 @@ fn place_of(text: &[u8], octet: u8) -> Option<usize>
     ensures { result ≡ position (λ x. x == octet) text.now }
 {
     text.iter().position(|x| *x == octet)
+}
+
+/// A line without a CR at its end.
+pub fn without_carriage_return(line: &[u8]) -> &[u8]
+    ensures { result.now ≡ strip_carriage_return line.now }
+{
+    match line {
+        [front @ .., b'\r'] => front,
+        _ => line,
+    }
 }

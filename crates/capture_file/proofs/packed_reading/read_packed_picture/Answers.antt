@@ -1,4 +1,5 @@
 use Rattle.capture_file.proofs.Seen.{found_picture, only_picture}
+use Rattle.capture_file.proofs.PictureFaults.{picture_wrong}
 use Rattle.capture_file.proofs.packed_reading.read_packed_picture.Goals as goal
 
 pub returns-clause-found : goal.returns-clause-found
@@ -10,3 +11,6 @@ pub returns-clause-only : goal.returns-clause-only
 returns-clause-only g c p octets told is text =
     only_picture _ _ c.read_all.result c.read_all.ensures.read
     c.read_all.ensures.fault p octets told is text
+
+pub returns-clause-wrong : goal.returns-clause-wrong
+returns-clause-wrong g c = picture_wrong _ c.read_all.result c.read_all.ensures.fault

@@ -1,4 +1,5 @@
 use Rattle.capture_file.proofs.Seen.{found_picture, only_picture}
+use Rattle.capture_file.proofs.PictureFaults.{picture_wrong}
 use Rattle.capture_file.proofs.picture_reading.read_picture.Goals as goal
 
 pub returns-clause-found : goal.returns-clause-found
@@ -10,3 +11,7 @@ pub returns-clause-only : goal.returns-clause-only
 returns-clause-only g c p octets told is text =
     only_picture _ _ c.read_whole_picture.result c.read_whole_picture.ensures.read
     c.read_whole_picture.ensures.fault p octets told is text
+
+pub returns-clause-wrong : goal.returns-clause-wrong
+returns-clause-wrong g c =
+    picture_wrong _ c.read_whole_picture.result c.read_whole_picture.ensures.fault

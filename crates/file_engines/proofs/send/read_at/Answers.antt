@@ -4,5 +4,5 @@ use Rattle.file_engines.proofs.send.read_at.Goals as goal
 pub returns-clause-failures : goal.returns-clause-failures
 returns-clause-failures g c =
     set_counted g.S.ByteSource.failures c.args.pictures.now c.args.place
-    c.index-pictures-place.result c.read_one.new.source c.read_one.result c.requires
-    c.read_one.ensures.failures
+    c.index-pictures-place.result c.read_packed.new.source c.read_packed.result c.requires
+    c.read_packed.ensures.failures

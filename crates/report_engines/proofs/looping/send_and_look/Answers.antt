@@ -19,7 +19,7 @@ returns-in_err-plan-clause-refusal g c =
     let p = err_from_is_err_and c.from_residual-in_err-plan.result
     c.from_residual-in_err-plan.ensures.1 in
     rw (p.1, p.2) (plan_refused c.args.wanted.max_octets told c.format.result
-    (λ octets is. (picture, sym c.format.ensures.value, c.in_ok-picture.ensures.found octets is))
+    (λ octets is. (picture, sym c.format.ensures.value, c.in_ok-picture.ensures.says octets is))
     c.in_err-plan.field-0.0 (λ is. c.in_err-plan.ensures.size.0 (ap Err is)))
 
 pub returns-in_err-passed-clause-refusal : goal.returns-in_err-passed-clause-refusal
@@ -36,7 +36,7 @@ returns-in_err-passed-clause-failures g c =
     c.from_residual-in_err-passed.ensures.1 in
     rw (p.1, p.2) (blamed_second c.in_err-passed.field-0.0
     (counts (g.S.ByteSource.failures c.args.source.now)
-    (g.S.ByteSource.failures c.read_shown.new.source))
+    (g.S.ByteSource.failures c.read_unpacked.new.source))
     (counts (g.L.DatagramSink.failures c.args.link.now)
     (g.L.DatagramSink.failures c.pass.new.link))
     (counts (g.O.ByteSink.failures c.args.output.now)
@@ -68,7 +68,7 @@ returns-clause-looped g c =
       packets = plan.packets;
       delivered = passed.delivered;
       receiver = receiver;
-      read = c.in_ok-picture.ensures.found;
+      read = c.in_ok-picture.ensures.says;
       plan =
           subst (λ (m : ℕ). IsFullPlan plan.packets c.in_ok-picture.picture.format m)
           c.in_ok-plan.ensures.made.1
@@ -87,7 +87,7 @@ pub returns-clause-failures : goal.returns-clause-failures
 returns-clause-failures g c =
     accounts_last c.print_passed.result
     (counts (g.S.ByteSource.failures c.args.source.now)
-    (g.S.ByteSource.failures c.read_shown.new.source))
+    (g.S.ByteSource.failures c.read_unpacked.new.source))
     (counts (g.L.DatagramSink.failures c.args.link.now)
     (g.L.DatagramSink.failures c.pass.new.link))
     (counts (g.O.ByteSink.failures c.args.output.now)

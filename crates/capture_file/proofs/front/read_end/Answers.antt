@@ -2,7 +2,7 @@ use Rattle.std.proofs.Common.{◌≡◌, ℕ, take, subst, arith}
 use Rattle.std.specs.Io.KnownBytes.{Consumes}
 use Rattle.std.proofs.lemmas.List.{length-take-le}
 use Rattle.capture_file.proofs.Raster.{at_end, not_end}
-use Rattle.capture_file.proofs.picture_reading.read_end.Goals as goal
+use Rattle.capture_file.proofs.front.read_end.Goals as goal
 
 pub returns-then-branch-gt0-clause-fault : goal.returns-then-branch-gt0-clause-fault
 returns-then-branch-gt0-clause-fault g c =
