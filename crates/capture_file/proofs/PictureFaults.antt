@@ -458,4 +458,5 @@ pub picture_wrong : {X : Type 0} (told : Option (List ℕ)) (r : Result X FileFa
 picture_wrong told (Ok x) fails = tt
 picture_wrong told (Err f) fails =
     λ octets is bytes. if_content_weaker f (picture_walk octets ≡ Err f) (IsPictureFault f octets)
-    (picture_fails f octets bytes) (subst (λ (o : Option (List ℕ)). Fails picture_walk o f) is fails)
+    (picture_fails f octets bytes)
+    (subst (λ (o : Option (List ℕ)). Fails picture_walk o f) is fails)

@@ -89,7 +89,7 @@ pub struct Plan<A: Allocator = Global> {
 impl<A: Allocator> Model for Plan<A> {
     ghost use Rattle.std.specs.Prelude.{map};
     ghost use Rattle.packet_plan.specs.Plan.{IsSize, RasterPlan};
-ghost use Rattle.st_format.specs.Position.{group_count};
+    ghost use Rattle.st_format.specs.Position.{group_count};
     ghost use Rattle.packet_plan.specs.Greedy.{IsWalk, packet_from};
 
     ghost Value = { RasterPlan };

@@ -94,7 +94,7 @@ outcome_more s es (Slide at next) r some octets most admitted all = elim (eqb_te
         state = slid_state o.state next;
         is_at =
             subst (λ (x : ℕ). IsAt (slid_state o.state next) r s (es ++ Slide x next ∷ []))
-                (sym same.1)
+            (sym same.1)
             (at_slid s es r next o.state some o.is_at);
         different = different_moved next o.state.opening.window o.different
             (λ m. CanSlide.new (subst (λ (x : ℕ). CanSlide s es x next) same.1 admitted)

@@ -190,7 +190,7 @@ fn filled_samples<A: Allocator>(
     Ok(samples)
 }
 
-/// Gives each sample the value of its component: the samples of whole groups, from a row's first on.
+/// Gives each sample the value of its component: samples of a row, from its first on, or of rows.
 pub fn fill_samples(sampling: Sampling, fill: [u16; 3], samples: &mut [u16])
     ensures { samples.new
         ≡ map (λ k. slice_index fill (component_in_row sampling k))

@@ -6,7 +6,7 @@ use Rattle.packet_numbers.proofs.seq_map.runs_of.Given as goal
 abbrev pub invariant-loop-place : goal.invariant-loop-place
 invariant-loop-place g l = record {
   whole : l.runs.items
-    ++ map (numbered_run l.first) (runs_from l.start l.place (drop l.place l.noted))
+      ++ map (numbered_run l.first) (runs_from l.start l.place (drop l.place l.noted))
       ≡ map (numbered_run l.first) (runs_from 0 0 l.noted);
   order : l.start ≤ l.place;
 }
