@@ -93,7 +93,7 @@ const COMMANDS: &[Said] = &[
     Said {
         name: "report",
         about: "Prints what a receiver was opened with, and of each frame its counts, its missing \
-            pixel groups and its contested samples",
+            pgroups and its contested samples",
         words: &[REPORTED],
     },
     Said {
@@ -321,6 +321,7 @@ fn named<'a>(alloc: Global) -> Result<Command<'a>, AllocError> {
         .arg(verbose(alloc))
 }
 
+/// `--verbose`, which every command takes.
 fn verbose<'a>(alloc: Global) -> Arg<'a> {
     Arg::new(alloc, "verbose")
         .long("verbose")
@@ -339,6 +340,7 @@ fn command<'a>(alloc: Global, said: &Said) -> Result<Command<'a>, AllocError> {
     Ok(command)
 }
 
+/// A command that takes these words too.
 fn with_words<'a>(
     alloc: Global,
     command: Command<'a>,
@@ -351,6 +353,7 @@ fn with_words<'a>(
     Ok(command)
 }
 
+/// A word of a command, with its help.
 fn argument<'a>(alloc: Global, word: &Word) -> Arg<'a> {
     let argument = Arg::new(alloc, word.name).help(word.help);
     formed(argument, word.name, word.form)
@@ -374,6 +377,7 @@ fn option<'a>(word: Arg<'a>, name: &'static str, value: &'static str) -> Arg<'a>
     word.long(name).value_name(value)
 }
 
+/// An option of a kind of value that is this text where it isn't given.
 fn with_default<'a>(word: Arg<'a>, kind: ValueParser<'static>, text: &'static str) -> Arg<'a> {
     word.value_parser(kind).default_value(text)
 }

@@ -29,6 +29,7 @@ struct Round {
 }
 
 impl Round {
+    /// A receiver and its second reading, of any format, payload type, source and window.
     fn open(alloc: Global, generator: &mut Generator) -> Result<Round, Fault> {
         let format = any_format(generator)?;
         let payload_type = generator.below(128) as u8;

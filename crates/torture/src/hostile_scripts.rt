@@ -25,6 +25,7 @@ struct Scene {
 }
 
 impl Scene {
+    /// Any opening and window.
     fn any(alloc: Global, generator: &mut Generator) -> Result<Scene, Fault> {
         let format = any_format(generator)?;
         let names = generator.one_in(2);

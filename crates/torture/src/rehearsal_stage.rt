@@ -164,6 +164,7 @@ impl Stage {
         self.windows.get(first..end).unwrap_or(&[])
     }
 
+    /// Sends the next datagram, where one is left.
     fn send(&mut self) -> bool {
         let is_left = self.sent < self.by_picture().wrapping_mul(self.pictures.len());
         self.sent = self.sent.wrapping_add(usize::from(is_left));
@@ -196,6 +197,7 @@ impl Stage {
         }
     }
 
+    /// Hands out the first frame of a window, and puts a blank one behind the last.
     fn slide(&mut self, event: Event, output: &mut Text) -> bool {
         if event.at >= self.receivers
             || place_of(event.number, self.window(event.at)) < self.width
@@ -243,6 +245,7 @@ impl Stage {
         self.groups.get(number).copied().unwrap_or(false)
     }
 
+    /// Notes whether the group of a number came.
     fn set(&mut self, number: usize, came: bool) {
         if let Some(group) = self.groups.get_mut(number) {
             *group = came;

@@ -176,6 +176,7 @@ impl Session {
         Ok(())
     }
 
+    /// Answers a line `slide`.
     fn slide(&mut self, alloc: Global, line: Fields<'_>, output: &mut Text) -> Result<(), Stop> {
         let mut fields = line;
         let next = fields.number(u32::MAX);

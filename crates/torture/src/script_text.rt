@@ -17,6 +17,7 @@ impl<'a> Pieces<'a> {
         }
     }
 
+    /// The next piece; the last is what stands behind the last separator.
     pub fn next(&mut self) -> Option<&'a [u8]> {
         let text = self.left?;
         let place = place_of(self.separator, text);
@@ -218,6 +219,7 @@ impl Window {
         }
     }
 
+    /// Puts a timestamp behind the others, and counts it even where there are 16.
     fn put(&mut self, timestamp: u32) {
         if let Some(place) = self.timestamps.get_mut(self.count) {
             *place = timestamp;

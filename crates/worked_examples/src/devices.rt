@@ -23,6 +23,7 @@ const TOLD: &[u8] = b"st2110: script 4\n";
 /// What a device that fails is told as.
 const DEVICE: &[u8] = b"st2110: device\n";
 
+/// Whether a run ended with this status, printed this and told this.
 fn ended(run: &Ran, status: u8, printed: &[u8], told: &[u8]) -> bool {
     run.status == status && run.printed() == printed && run.told() == told
 }

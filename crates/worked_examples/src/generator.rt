@@ -42,12 +42,14 @@ impl Generator {
         }
     }
 
+    /// Fills a slice with octets without order.
     pub fn fill_octets(&mut self, octets: &mut [u8]) {
         for i in 0..octets.len() {
             octets[i] = self.octet();
         }
     }
 
+    /// Fills a slice with words without order.
     pub fn fill_words(&mut self, words: &mut [u16]) {
         for i in 0..words.len() {
             words[i] = self.word();

@@ -55,6 +55,8 @@ fn selected(mask: u8, a: u8, b: u8) -> u8 {
     octet
 }
 
+/// Whether `select` does over the first `n` octets what one octet after the other gives, and
+/// leaves those behind.
 fn selects_plainly(mask: &[u8; MOST], a: &[u8; MOST], b: &[u8; MOST], n: usize) -> bool {
     let (mut out, mut wanted) = ([BEHIND; MOST], [BEHIND; MOST]);
     if n > MOST {
@@ -78,6 +80,7 @@ fn either(a: u16, b: u16) -> u16 {
     word
 }
 
+/// Whether `or_marks` does over the first `n` words what one word after the other gives.
 fn joins_plainly(into: &[u16; MOST], from: &[u16; MOST], n: usize) -> bool {
     let (mut out, mut wanted) = (*into, *into);
     if n > MOST {
@@ -101,6 +104,7 @@ fn ones_under(mask: u16, word: u16) -> u64 {
     ones
 }
 
+/// Whether `count_marks` counts in the first `n` words what one word after the other gives.
 fn counts_plainly(marks: &[u16; MOST], mask: u16, n: usize) -> bool {
     let mut wanted = 0u64;
     if n > MOST {

@@ -113,6 +113,7 @@ fn link(global: Global, way: Way, fails_in: u64) -> Result<MemoryLink, AllocErro
     Ok(MemoryLink::new(slots, comes, fails_in))
 }
 
+/// A sink of seven octets a call that never fails.
 fn sink(global: Global) -> Result<MemorySink, AllocError> {
     Ok(MemorySink::new(Vec::with_capacity(global, 128)?, 7, 0))
 }

@@ -16,6 +16,7 @@ const SAMPLES: [u16; 16] = [
     128, 16, 128, 17, 128, 18, 128, 19, 128, 20, 128, 21, 128, 22, 128, 23,
 ];
 
+/// A sink of at most `piece` octets a call that never fails.
 fn sink(alloc: Global, piece: usize) -> Result<MemorySink, AllocError> {
     let room = Vec::with_capacity(alloc, 64)?;
     Ok(MemorySink::new(room, piece.max(1), 0))

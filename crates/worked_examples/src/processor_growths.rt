@@ -54,6 +54,7 @@ const LIMITED: (Plain, Plain) = (
     (Sampling::Ycc444, Depth::D10, [64, 960, 64]),
 );
 
+/// A picture of one colour, and what this way makes of it.
 const fn made_by(way: Way, colours: (Plain, Plain)) -> Single {
     let (from, to) = colours;
     Single { way, from, to }

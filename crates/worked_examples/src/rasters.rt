@@ -164,6 +164,7 @@ impl Play {
         })
     }
 
+    /// One to three offers.
     fn draw_offers(&mut self, alloc: Global) -> Result<Vec<Offer>, AllocError> {
         let mut offers = Vec::new(alloc);
         for _ in 0..1 + self.generator.below(3) {
@@ -280,6 +281,7 @@ fn offer_all(cells: &mut [Cell], offers: &[Offer]) {
     }
 }
 
+/// Joins cells place by place.
 fn join_all(cells: &mut [Cell], others: &[Cell]) {
     for i in 0..cells.len() {
         if i < others.len() {

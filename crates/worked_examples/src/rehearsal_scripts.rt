@@ -18,6 +18,7 @@ fn wants_memory(run: &Ran) -> bool {
         && OUTPUT.as_bytes().starts_with(run.printed())
 }
 
+/// Whether a run played the script whole.
 fn is_rehearsal(run: &Ran) -> bool {
     run.status == 0 && run.printed() == OUTPUT.as_bytes() && run.told().is_empty()
 }
@@ -35,6 +36,7 @@ pub fn is_rehearsed<A: Allocator + Copy>(
     })
 }
 
+/// Calls of the source and of the output that fail, counted from 1; 0 means that none does.
 const fn failing(source: u64, output: u64) -> Failing {
     Failing {
         source,

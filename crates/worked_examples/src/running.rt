@@ -120,6 +120,8 @@ fn begun(global: Global, piece: usize, failing: Failing) -> Result<Ran, AllocErr
     })
 }
 
+/// A sink of at most `piece` octets a call, of which one fails, counted from 1; 0 means that none
+/// does.
 fn sink(alloc: Global, piece: usize, fails_in: u64) -> Result<MemorySink, AllocError> {
     let room = Vec::with_capacity(alloc, 4096)?;
     Ok(MemorySink::new(room, piece.max(1), fails_in))

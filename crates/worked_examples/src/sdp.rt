@@ -17,6 +17,7 @@ pub fn line_of<A: Allocator + Copy>(alloc: A, text: &[u8]) -> Result<Vec<u8, A>,
     fmtp_text(alloc, &sdp)
 }
 
+/// Whether the format is that of the camera's text.
 fn has_camera_format(sdp: &Sdp) -> bool {
     sdp.format.sampling == Sampling::Ycc422
         && sdp.format.depth == Depth::D10
@@ -26,6 +27,7 @@ fn has_camera_format(sdp: &Sdp) -> bool {
         && sdp.format.d == 1001
 }
 
+/// Whether all that an SDP says is what the camera's text says.
 fn is_camera(sdp: &Sdp) -> bool {
     sdp.ports.as_slice() == [5004, 5006].as_slice()
         && sdp.payload_type == 112

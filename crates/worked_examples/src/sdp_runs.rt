@@ -6,6 +6,7 @@ use std::alloc::{AllocError, Allocator, Global};
 use std::process::Abort;
 use std::test::Fail;
 
+/// Whether a run printed the camera's canonical line and nothing else.
 fn is_camera(run: &Ran) -> bool {
     let printed = run.printed();
     run.status == 0

@@ -54,6 +54,7 @@ impl ModelStay {
 struct Window([ModelStay; 3]);
 
 impl Window {
+    /// Whether a timestamp is in the window.
     fn has(&self, timestamp: u32) -> bool {
         self.0.iter().any(|stay| stay.timestamp == timestamp)
     }
@@ -115,6 +116,7 @@ impl Model {
         }
     }
 
+    /// Sends the next datagram, where one is left.
     fn send(&mut self) -> bool {
         let is_left = self.sent < DATAGRAMS;
         if is_left {
@@ -123,6 +125,7 @@ impl Model {
         is_left
     }
 
+    /// Lets a datagram that was sent reach a receiver.
     fn arrive(&mut self, to: usize, number: u32) -> bool {
         let can_be = to < RECEIVERS && number < self.sent;
         if can_be {
@@ -131,6 +134,7 @@ impl Model {
         can_be
     }
 
+    /// Ends the first stay of a receiver, and begins one of a timestamp that its window hasn't.
     fn slide(&mut self, at: u8, next: u32) -> Result<bool, AllocError> {
         let place = usize::from(at);
         if place >= RECEIVERS || self.windows[place].has(next) {
@@ -141,6 +145,7 @@ impl Model {
         Ok(true)
     }
 
+    /// Lets what reached one receiver reach another too, where their windows are equal.
     fn merge(&mut self, into: usize, from: usize) -> bool {
         if into >= RECEIVERS || from >= RECEIVERS || into == from {
             return false;

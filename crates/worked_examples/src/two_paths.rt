@@ -95,11 +95,13 @@ struct Pair<A: Allocator = Global> {
 }
 
 impl<A: Allocator + Copy> Pair<A> {
+    /// Receivers of F1, and frames of F1 and of RGB.
     fn open(alloc: A, window: &[u32]) -> Result<Pair<A>, Fail> {
         let unlike = Format::new(Sampling::Rgb, Depth::D8, 4, 2, 60, 1)?;
         Ok(Pair::of(alloc, small()?, unlike, window)?)
     }
 
+    /// Receivers and a frame of a format, and a frame of another.
     fn of(alloc: A, format: Format, unlike: Format, window: &[u32]) -> Result<Pair<A>, OpenFault> {
         Ok(Pair {
             near: Receiver::open(alloc, format, 96, None, window)?,
@@ -111,6 +113,7 @@ impl<A: Allocator + Copy> Pair<A> {
 }
 
 impl<A: Allocator> Pair<A> {
+    /// Whether a step does what it says.
     fn follows(&mut self, step: &Step) -> bool {
         match step {
             Step::Take(path, octets, answer) => self.near.take(*path, *octets) == *answer,
@@ -142,6 +145,7 @@ impl<A: Allocator> Pair<A> {
         }
     }
 
+    /// Whether each step does what it says.
     fn follows_all(&mut self, steps: &[Step]) -> bool {
         self.fails_at(steps).is_none()
     }
