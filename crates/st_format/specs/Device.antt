@@ -56,3 +56,13 @@ abbrev pub KeepsAll : Option (List (List ℕ)) → Option (List (List ℕ)) → 
 KeepsAll None new = ⊤
 KeepsAll (Some old) None = ⊥
 KeepsAll (Some old) (Some new) = new ≡ old
+
+-- What a source of octets told at some moment: what it was to give, and how often it had failed
+-- (own).
+pub record Told : Type 0 where
+  pub to_give : Option (List ℕ)
+  pub failures : ℕ
+
+-- where there is no source of octets, nothing was told (own)
+abbrev pub told_nothing : Told
+told_nothing = record { to_give = None; failures = 0 }

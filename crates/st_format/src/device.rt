@@ -6,9 +6,12 @@
 //! it carries, so its list is `None`: then only the clauses on numbers of octets and on failures
 //! hold of it.
 //!
+//! A device that is lent, `&mut S`, is a device too: what it says is what the lender's says.
+//!
 //! A count of failures or of datagrams stays at 2^64 - 1 once it is there.
-ghost use Rattle.std.specs.Prelude.{◌≡◌, ◌≤◌, ◌<◌, ℕ, List, Option, length, take, IfOk, OnOk};
-ghost use Rattle.std.specs.Prelude.{IfErr, OnErr, MatchResult};
+ghost use Rattle.std.specs.Prelude.{◌≡◌, ◌≤◌, ◌<◌, ℕ, List, [], ◌∷◌, Option, length, take, IfOk};
+ghost use Rattle.std.specs.Prelude.{OnOk, IfErr, OnErr, MatchResult};
+ghost use Rattle.std.specs.Borrow.{GName};
 ghost use Rattle.std.specs.Io.KnownBytes.{Consumes, Appends, Keeps, IsAtEnd};
 ghost use Rattle.st_format.specs.Device.{CountsFaults, ConsumesPrefix, AppendsPrefix, StaysUntold};
 ghost use Rattle.st_format.specs.Device.{TakesOne, KeepsAll, TellsOctets};
@@ -92,6 +95,9 @@ pub trait ByteSource {
     /// How often it has failed.
     ghost failures: { Self → ℕ };
 
+    /// The references by which it reaches what it reads from, which stay. None where it owns that.
+    ghost names: { Self → List GName } = { λ _. [] };
+
     /// Puts octets at the front of `buf`, and answers how many: at most as many as `buf` has, and
     /// maybe fewer than there are. They are the first of those still to give, and are then given.
     /// What `buf` holds behind them is not said.
@@ -111,7 +117,8 @@ pub trait ByteSource {
         ensures end { IfOk result (λ n. n ≡ 0 → 0 < length buf.old → IsAtEnd (to_give self.new)) }
         ensures fault { OnErr result (Keeps (to_give self.old) (to_give self.new)) }
         ensures octets { TellsOctets (to_give self.old) }
-        ensures counted { CountsFaults (failures self.old) (failures self.new) result };
+        ensures counted { CountsFaults (failures self.old) (failures self.new) result }
+        ensures names { names self.new ≡ names self.old };
 }
 
 /// Takes octets, one piece after another.
@@ -165,6 +172,7 @@ pub trait DatagramSink {
 /// Gives datagrams that come by two paths, one turn after another, until its end.
 pub trait DatagramSource {
     ghost use Rattle.std.specs.Prelude.{Some};
+    ghost use Rattle.st_format.specs.Device.{Told, told_nothing};
     ghost use Rattle.st_format.specs.Turns.{CountsTurn, Due, IsWithin, TakesTurn};
     ghost use Rattle.st_format.specs.declared.device.SourceFault.{SourceFault as Fault};
 
@@ -180,6 +188,13 @@ pub trait DatagramSource {
 
     /// Its last fault, if it has failed.
     ghost last_fault: { Self → Option Fault };
+
+    /// What the source of octets below it told when this source began to read it, which stays.
+    /// Nothing where there is none.
+    ghost before: { Self → Told } = { λ _. told_nothing };
+
+    /// The references by which it reaches what it reads from, which stay. None where it owns that.
+    ghost names: { Self → List GName } = { λ _. [] };
 
     /// Tells the first of the turns to come, which is then past, or `End` where none is left. The
     /// octets of a datagram stand at the front of `buf`, which has room for any datagram: 65,535
@@ -197,7 +212,59 @@ pub trait DatagramSource {
             (λ _. delivered self.new ≡ delivered self.old) }
         ensures counted { CountsFaults (failures self.old) (failures self.new) result }
         ensures last { IfErr result (λ e. last_fault self.new ≡ Some e) }
-        ensures blameless { OnOk result (last_fault self.new ≡ last_fault self.old) };
+        ensures blameless { OnOk result (last_fault self.new ≡ last_fault self.old) }
+        ensures before { before self.new ≡ before self.old }
+        ensures names { names self.new ≡ names self.old };
+}
+
+impl<S: ByteSource> ByteSource for &mut S {
+    ghost to_give = { λ s. S.to_give s.now };
+
+    ghost failures = { λ s. S.failures s.now };
+
+    ghost names = { λ s. s.ghost_name ∷ [] };
+
+    fn read(&mut self, buf: &mut [u8]) -> Result<usize, DeviceFault> {
+        ByteSource::read(&mut **self, buf)
+    }
+}
+
+impl<K: ByteSink> ByteSink for &mut K {
+    ghost held = { λ k. K.held k.now };
+
+    ghost failures = { λ k. K.failures k.now };
+
+    fn write(&mut self, octets: &[u8]) -> Result<usize, DeviceFault> {
+        ByteSink::write(&mut **self, octets)
+    }
+}
+
+impl<K: DatagramSink> DatagramSink for &mut K {
+    ghost taken = { λ k. K.taken k.now };
+
+    ghost failures = { λ k. K.failures k.now };
+
+    fn put(&mut self, octets: &[u8]) -> Result<(), SinkFault> {
+        DatagramSink::put(&mut **self, octets)
+    }
+}
+
+impl<D: DatagramSource> DatagramSource for &mut D {
+    ghost turns = { λ d. D.turns d.now };
+
+    ghost delivered = { λ d. D.delivered d.now };
+
+    ghost failures = { λ d. D.failures d.now };
+
+    ghost last_fault = { λ d. D.last_fault d.now };
+
+    ghost before = { λ d. D.before d.now };
+
+    ghost names = { λ d. d.ghost_name ∷ [] };
+
+    fn next(&mut self, buf: &mut [u8]) -> Result<Turn, SourceFault> {
+        DatagramSource::next(&mut **self, buf)
+    }
 }
 
 /// Reads until `buf` is full or the source is at its end, and answers how many octets stand at the
@@ -215,6 +282,7 @@ pub fn read_whole<S: ByteSource>(source: &mut S, buf: &mut [u8]) -> Result<usize
         (ConsumesPrefix (S.to_give source.old) (S.to_give source.new) buf.new) }
     ensures octets { 0 < length buf.old → TellsOctets (S.to_give source.old) }
     ensures counted { CountsFaults (S.failures source.old) (S.failures source.new) result }
+    ensures names { S.names source.new ≡ S.names source.old }
 {
     let mut filled = 0;
     while filled < buf.len() {

@@ -105,4 +105,5 @@ loop-filled-preserved g c =
           l.invariant.1 now.given,
       now.counted ∙ l.invariant.2,
       λ _. tells_before l.filled l.buf _ _ l.invariant.1 l.invariant.3 now.octets,
+      now.names ∙ l.invariant.4,
     )

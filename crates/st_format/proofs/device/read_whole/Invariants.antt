@@ -13,3 +13,4 @@ invariant-loop-filled g l =
     (take l.filled l.buf)
     × (g.S.ByteSource.failures l.source ≡ g.S.ByteSource.failures l.initial.source)
     × (0 < l.filled → TellsOctets (g.S.ByteSource.to_give l.initial.source))
+    × (g.S.ByteSource.names l.source ≡ g.S.ByteSource.names l.initial.source)
