@@ -3,6 +3,7 @@ pub mod Parsing
 pub mod Rests
 pub mod Entries
 pub mod Dues
+pub mod Standings
 pub mod Fronted
 pub mod Written
 pub mod Cuts

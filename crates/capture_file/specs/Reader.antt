@@ -1,7 +1,8 @@
 -- A reader of a capture as a source of datagrams (own).
-use Rattle.std.specs.Prelude.{◌≡◌, ℕ, List, [], ⊤, map, Option, None, Some}
+use Rattle.std.specs.Prelude.{◌≡◌, ℕ, ◌-◌, ◌^◌, min, List, [], ⊤, map, Option, None, Some}
 use Rattle.std.specs.Option.{option_map}
 use Rattle.std.specs.Io.KnownBytes.{IsAtEnd}
+use Rattle.st_format.specs.Device.{Told}
 use Rattle.st_format.specs.Turns.{Due, Comes}
 use Rattle.st_format.specs.declared.device.SourceFault.{SourceFault}
 use Rattle.st_format.specs.declared.device.SourceFault.TheVariants.{Content}
@@ -15,7 +16,7 @@ use Rattle.capture_file.specs.declared.reader.Standing.TheVariants.{Reads, Ended
 use Rattle.capture_file.specs.Faults.{CountsFault, file_fault_number}
 use Rattle.capture_file.specs.Reading.{entries_in}
 use Rattle.capture_file.specs.Records.{Entry}
-use Rattle.capture_file.specs.Source.{FailsRecord, ReadsRecord}
+use Rattle.capture_file.specs.Source.{FailsRecord, GivesRecords, ReadsRecord}
 
 -- a record as a turn
 abbrev pub due_of : Entry → Due
@@ -41,15 +42,34 @@ last_fault_of Reads = None
 last_fault_of Ended = None
 last_fault_of (Failed f) = Some (source_fault f)
 
--- a reader that came to the end stands at it
-abbrev pub StandsRight : Standing → Option (List ℕ) → Type 0
-StandsRight Reads to_give = ⊤
-StandsRight Ended to_give = IsAtEnd to_give
-StandsRight (Failed f) to_give = ⊤
+-- a source gave the records that were delivered, of which at most 2^64 - 1 are counted
+pub record HasDelivered (delivered : ℕ) (old new : Option (List ℕ)) : Type 0 where
+  pub count : ℕ
+  pub counted : delivered ≡ min count (2 ^ 64 - 1)
+  pub gave : GivesRecords count old new
 
--- what is seen of a reader
+-- a source was to give whole records, and then what is none by this fault
+pub record FailsBehind (f : FileFault) (old : Option (List ℕ)) : Type 0 where
+  pub count : ℕ
+  pub behind : Option (List ℕ)
+  pub gave : GivesRecords count old behind
+  pub fails : FailsRecord f behind
+
+-- Where a reader stands, by what it delivered, what its source told when the reader began with the
+-- records, what that is to give now, and how often it has failed now: whole records were read up to
+-- here, up to the end, or up to the fault.
+abbrev pub StandsRight : Standing → ℕ → Told → Option (List ℕ) → ℕ → Type 0
+StandsRight Reads delivered before to_give failures =
+    HasDelivered delivered before.to_give to_give × (failures ≡ before.failures)
+StandsRight Ended delivered before to_give failures =
+    HasDelivered delivered before.to_give to_give × (failures ≡ before.failures) × IsAtEnd to_give
+StandsRight (Failed f) delivered before to_give failures =
+    FailsBehind f before.to_give × CountsFault f before.failures failures
+
+-- what is seen of a reader: `before` is what its source told when it began with the records
 pub record Reader (S : Type 0) : Type 0 where
   pub source : S
+  pub before : Told
   pub text_len : ℕ
   pub standing : Standing
   pub delivered : ℕ

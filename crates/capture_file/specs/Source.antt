@@ -1,11 +1,12 @@
 -- What reading does to a source of octets.
-use Rattle.std.specs.Prelude.{◌≡◌, ℕ, List, ⊤, Option, None, Some, Err}
+use Rattle.std.specs.Prelude.{◌≡◌, ℕ, List, [], length, ⊤, Option, None, Some, Err}
 use Rattle.std.specs.Io.KnownBytes.{Consumes, IsAtEnd}
 use Rattle.capture_file.specs.declared.fault.FileFault.{FileFault}
 use Rattle.capture_file.specs.declared.fault.FileFault.TheVariants.{Device, Truncated, BadField}
 use Rattle.capture_file.specs.Faults.{IfContent}
 use Rattle.capture_file.specs.Reading.{fault_at, rest_at}
-use Rattle.capture_file.specs.Records.{Entry, Fits, path_octet, record_text, rest_text}
+use Rattle.capture_file.specs.Records.{AllFit, Entry, Fits, path_octet, record_text}
+use Rattle.capture_file.specs.Records.{records_text, rest_text}
 
 -- The source gave the rest of this record's text, and an octet is its first.
 pub record ReadsRest (first : ℕ) (old new : Option (List ℕ)) (e : Entry) : Type 0 where
@@ -36,8 +37,16 @@ pub record ReadsRecord (old new : Option (List ℕ)) (e : Entry) : Type 0 where
   pub fits : Fits e
   pub given : Consumes old new (record_text e)
 
+-- a source gave so many whole records
+pub record GivesRecords (count : ℕ) (old new : Option (List ℕ)) : Type 0 where
+  pub records : List Entry
+  pub fit : AllFit records
+  pub counted : length records ≡ count
+  pub given : Consumes old new (records_text records)
+
 -- a source has come to its end, and gave nothing more
 pub record ReadsEnd (old new : Option (List ℕ)) : Type 0 where
+  pub none : Consumes old new []
   pub before : IsAtEnd old
   pub after : IsAtEnd new
 

@@ -1,5 +1,6 @@
 //! Why a file was not read or not written.
-ghost use Rattle.std.specs.Prelude.{◌≡◌};
+ghost use Rattle.std.specs.Prelude.{◌≡◌, Some, IfSome};
+ghost use Rattle.capture_file.specs.declared.fault.FileFault.{FileFault};
 ghost use Rattle.capture_file.specs.declared.fault.FileFault.TheVariants.{NoMemory, Device};
 ghost use Rattle.capture_file.specs.Faults.{file_fault_number};
 
@@ -38,6 +39,25 @@ impl FileFault {
         ensures { result ≡ file_fault_number self }
     {
         self as u8
+    }
+
+    /// The fault of a number, as a source of datagrams tells it; `None` where no fault has it.
+    pub fn of_number(number: u8) -> Option<FileFault>
+        ensures known { (f : FileFault) → file_fault_number f ≡ number → result ≡ Some f }
+        ensures number { IfSome result (λ f. file_fault_number f ≡ number) }
+    {
+        match number {
+            1 => Some(FileFault::NoMemory),
+            2 => Some(FileFault::Device),
+            3 => Some(FileFault::BadName),
+            4 => Some(FileFault::BadVersion),
+            5 => Some(FileFault::Truncated),
+            6 => Some(FileFault::BadField),
+            7 => Some(FileFault::TrailingBytes),
+            8 => Some(FileFault::MixedGroup),
+            9 => Some(FileFault::TooManyRecords),
+            _ => None,
+        }
     }
 }
 

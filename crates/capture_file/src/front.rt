@@ -36,6 +36,7 @@ pub fn read_field<S: ByteSource>(source: &mut S, buf: &mut [u8]) -> Result<(), F
     ensures fault { IfErr result (λ f. Fails (field_at (length buf.old)) (S.to_give source.old) f) }
     ensures octets { 0 < length buf.old → TellsOctets (S.to_give source.old) }
     ensures counted { CountsDevice (S.failures source.old) (S.failures source.new) result }
+    ensures names { S.names source.new ≡ S.names source.old }
 {
     if read_whole(source, buf)? < buf.len() {
         return Err(FileFault::Truncated);
@@ -53,6 +54,7 @@ pub fn read_end<S: ByteSource>(source: &mut S) -> Result<(), FileFault>
         (Takes nothing_at (S.to_give source.old) (S.to_give source.new) tt) }
     ensures fault { IfErr result (λ f. Fails nothing_at (S.to_give source.old) f) }
     ensures counted { CountsDevice (S.failures source.old) (S.failures source.new) result }
+    ensures names { S.names source.new ≡ S.names source.old }
 {
     let mut octet = [0u8; 1];
     if source.read(&mut octet)? > 0 {
@@ -100,6 +102,7 @@ pub fn read_kind<S: ByteSource>(source: &mut S, name: &[u8]) -> Result<Version, 
     ensures fault { IfErr result (λ f. Fails (kind_at name.now) (S.to_give source.old) f) }
     ensures octets { TellsOctets (S.to_give source.old) }
     ensures counted { CountsDevice (S.failures source.old) (S.failures source.new) result }
+    ensures names { S.names source.new ≡ S.names source.old }
 {
     let mut octets = [0u8; 8];
     read_field(source, &mut octets)?;
@@ -118,6 +121,7 @@ pub(crate) fn read_front<S: ByteSource>(source: &mut S, text: &mut [u8]) -> Resu
     ensures fault { IfErr result (λ f. Fails front_at (S.to_give source.old) f) }
     ensures octets { TellsOctets (S.to_give source.old) }
     ensures counted { CountsDevice (S.failures source.old) (S.failures source.new) result }
+    ensures names { S.names source.new ≡ S.names source.old }
 {
     match read_kind(source, CAPTURE)? {
         Version::One => Ok(0),
@@ -135,6 +139,7 @@ fn read_text<S: ByteSource>(source: &mut S, text: &mut [u8]) -> Result<usize, Fi
         (λ n. Takes text_at (S.to_give source.old) (S.to_give source.new) (take n text.new)) }
     ensures fault { IfErr result (λ f. Fails text_at (S.to_give source.old) f) }
     ensures counted { CountsDevice (S.failures source.old) (S.failures source.new) result }
+    ensures names { S.names source.new ≡ S.names source.old }
 {
     let mut octets = [0u8; 2];
     read_field(source, &mut octets)?;

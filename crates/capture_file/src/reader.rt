@@ -1,5 +1,5 @@
 //! A capture as a source of datagrams.
-ghost use Rattle.std.specs.Prelude.{◌≡◌, ◌≤◌, ◌<◌, ◌+◌, ◌-◌, ◌^◌, Some, Ok, Err, length, take, min};
+ghost use Rattle.std.specs.Prelude.{◌≡◌, ◌≤◌, ◌<◌, Some, Ok, Err, length, take};
 ghost use Rattle.std.specs.Prelude.{IfErr, IfOk, IfSome, OnErr, OnOk, MatchOption, MatchResult};
 ghost use Rattle.std.specs.Io.KnownBytes.{IsAtEnd};
 ghost use Rattle.st_format.specs.Device.{CountsFaults, CountsOne};
@@ -8,7 +8,8 @@ ghost use Rattle.capture_file.specs.Faults.{CountsDevice, CountsFault, IsOfFront
 ghost use Rattle.capture_file.specs.Fields.{Fails, Takes};
 ghost use Rattle.capture_file.specs.Fronts.{front_at};
 ghost use Rattle.capture_file.specs.Reader.{CountsDeviceAt, GivesRecord, IsNewReader, StandsAfter};
-ghost use Rattle.capture_file.specs.Reader.{StandsAtFault, last_fault_of, source_fault, turns_of};
+ghost use Rattle.capture_file.specs.Reader.{StandsAtFault, StandsRight, last_fault_of};
+ghost use Rattle.capture_file.specs.Reader.{source_fault, turns_of};
 ghost use Rattle.capture_file.specs.Records.{entry_of};
 ghost use Rattle.capture_file.specs.Source.{FailsRecord, ReadsEnd, ReadsRecord};
 ghost use Rattle.capture_file.specs.declared.fault.FileFault.{FileFault};
@@ -20,6 +21,7 @@ use crate::record::RecordHead;
 use crate::steps::{record_begins, record_rest};
 use st_format::{ByteSource, DatagramSource, SourceFault, Turn};
 use std::marker::Model;
+use std::snapshot::Snapshot;
 
 /// Where a reader stands.
 #[derive(Clone, Copy)]
@@ -33,13 +35,15 @@ pub enum Standing {
 }
 
 /// Gives the datagrams of a capture, one record after the other, from a source of octets, which it
-/// owns.
+/// owns; of one that is lent, `&mut S`, it owns the loan.
 ///
 /// After the end it answers the end, and after a fault that fault: it then asks the source for
 /// nothing more.
 #[derive(Drop)]
 pub struct CaptureReader<S: ByteSource> {
     source: S,
+    /// The source as it was when the records began. Only proofs see it.
+    opened: Snapshot<S>,
     text_len: usize,
     standing: Standing,
     delivered: u64,
@@ -55,13 +59,17 @@ impl<S: ByteSource> Model for CaptureReader<S> {
 
     ghost view = { λ r. record {
       source = r.source;
+      before =
+          record { to_give = S.to_give r.opened.value; failures = S.failures r.opened.value };
       text_len = r.text_len;
       standing = r.standing;
       delivered = r.delivered;
       failures = r.failures;
     } };
 
-    ghost invariant = { λ r. StandsRight r.standing (S.to_give r.source) };
+    ghost invariant = { λ r. StandsRight r.standing r.delivered
+        (record { to_give = S.to_give r.opened.value; failures = S.failures r.opened.value })
+        (S.to_give r.source) (S.failures r.source) };
 }
 
 /// Reads the next record, or answers `None` at the end.
@@ -77,6 +85,7 @@ fn read_record<S: ByteSource>(
         (λ h. ReadsRecord (S.to_give source.old) (S.to_give source.new) (entry_of h buf.new))) }
     ensures fault { IfErr result (λ f. FailsRecord f (S.to_give source.old)) }
     ensures counted { CountsDevice (S.failures source.old) (S.failures source.new) result }
+    ensures names { S.names source.new ≡ S.names source.old }
 {
     let Some(first) = record_begins(source)? else {
         return Ok(None);
@@ -110,15 +119,24 @@ impl<S: ByteSource> CaptureReader<S> {
         ensures fault { IfErr result (λ e. IsOfFront e.0 × Fails front_at (S.to_give source) e.0) }
         ensures counted { MatchResult result (λ r. S.failures r.source ≡ S.failures source)
             (λ e. CountsFault e.0 (S.failures source) (S.failures e.1)) }
+        // The records begin where the text ends.
+        ensures before { IfOk result (λ r. r.before
+            ≡ record { to_give = S.to_give r.source; failures = S.failures r.source }) }
+        ensures names { MatchResult result (λ r. S.names r.source ≡ S.names source)
+            (λ e. S.names e.1 ≡ S.names source) }
     {
         match read_front(&mut source, text) {
-            Ok(text_len) => Ok(CaptureReader {
-                source,
-                text_len,
-                standing: Standing::Reads,
-                delivered: 0,
-                failures: 0,
-            }),
+            Ok(text_len) => {
+                let opened = Snapshot::of(&source);
+                Ok(CaptureReader {
+                    source,
+                    opened,
+                    text_len,
+                    standing: Standing::Reads,
+                    delivered: 0,
+                    failures: 0,
+                })
+            }
             Err(fault) => Err((fault, source)),
         }
     }
@@ -130,25 +148,14 @@ impl<S: ByteSource> CaptureReader<S> {
         self.text_len
     }
 
-    /// Gives the source back, as it then is.
+    /// Gives the source back, as it then is: by where the reader stands it gave whole records up to
+    /// here, up to its end, or up to a fault.
     pub fn into_inner(self) -> S
-        ensures { result ≡ self.source }
+        ensures source { result ≡ self.source }
+        ensures stands { StandsRight self.standing self.delivered self.before (S.to_give result)
+            (S.failures result) }
     {
         self.source
-    }
-
-    /// One failure more, which is told of.
-    fn fail(&mut self, fault: FileFault) -> Result<Turn, SourceFault>
-        ensures fault { result ≡ Err (source_fault fault) }
-        ensures standing { self.new.standing ≡ Failed fault }
-        ensures counted { self.new.failures ≡ min (self.old.failures + 1) (2 ^ 64 - 1) }
-        ensures source { self.new.source ≡ self.old.source }
-        ensures delivered { self.new.delivered ≡ self.old.delivered }
-        ensures text_len { self.new.text_len ≡ self.old.text_len }
-    {
-        self.failures = self.failures.saturating_add(1);
-        self.standing = Standing::Failed(fault);
-        Err(told(fault))
     }
 }
 
@@ -171,6 +178,10 @@ impl<S: ByteSource> DatagramSource for CaptureReader<S> {
 
     ghost last_fault = { λ r. last_fault_of r.standing };
 
+    ghost before = { λ r. r.before };
+
+    ghost names = { λ r. S.names r.source };
+
     /// Tells the next record's datagram, or the end. What was once the end or a fault stays it.
     fn next(&mut self, buf: &mut [u8]) -> Result<Turn, SourceFault>
         requires { 65535 ≤ length buf.old }
@@ -186,6 +197,8 @@ impl<S: ByteSource> DatagramSource for CaptureReader<S> {
         ensures last { IfErr result (λ e. last_fault_of self.new.standing ≡ Some e) }
         ensures blameless { OnOk result
             (last_fault_of self.new.standing ≡ last_fault_of self.old.standing) }
+        ensures before { self.new.before ≡ self.old.before }
+        ensures names { S.names self.new.source ≡ S.names self.old.source }
 
         // Each turn but the last is a record. The end comes only where no octet is left.
         ensures goes { IfOk result
@@ -211,7 +224,10 @@ impl<S: ByteSource> DatagramSource for CaptureReader<S> {
     {
         match self.standing {
             Standing::Ended => return Ok(Turn::End),
-            Standing::Failed(fault) => return self.fail(fault),
+            Standing::Failed(fault) => {
+                self.failures = self.failures.saturating_add(1);
+                return Err(told(fault));
+            }
             Standing::Reads => {}
         }
         match read_record(&mut self.source, buf) {
@@ -223,7 +239,11 @@ impl<S: ByteSource> DatagramSource for CaptureReader<S> {
                 self.standing = Standing::Ended;
                 Ok(Turn::End)
             }
-            Err(fault) => self.fail(fault),
+            Err(fault) => {
+                self.standing = Standing::Failed(fault);
+                self.failures = self.failures.saturating_add(1);
+                Err(told(fault))
+            }
         }
     }
 }

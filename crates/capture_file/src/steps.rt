@@ -25,6 +25,7 @@ pub fn record_begins<S: ByteSource>(source: &mut S) -> Result<Option<u8>, FileFa
     ensures fault { IfErr result
         (λ f. IsDevice f × Keeps (S.to_give source.old) (S.to_give source.new)) }
     ensures counted { CountsDevice (S.failures source.old) (S.failures source.new) result }
+    ensures names { S.names source.new ≡ S.names source.old }
 {
     let mut first = [0u8; 1];
     let n = source.read(&mut first)?;
@@ -90,6 +91,7 @@ pub fn record_rest<S: ByteSource>(
         (λ r. ReadsRest first (S.to_give source.old) (S.to_give source.new) (entry_of r buf.new)) }
     ensures fault { IfErr result (λ f. FailsRest f first (S.to_give source.old)) }
     ensures counted { CountsDevice (S.failures source.old) (S.failures source.new) result }
+    ensures names { S.names source.new ≡ S.names source.old }
 {
     let mut rest = [0u8; REST];
     if read_whole(source, &mut rest)? < REST {

@@ -1,11 +1,12 @@
 -- What a receiver has of the turns of a source.
 use Rattle.std.proofs.Common.{◌≡◌, ℕ, zero, suc, ◌+◌, ◌-◌, ◌^◌, ◌≤◌, min, List, [], ◌∷◌, ◌++◌}
-use Rattle.std.proofs.Common.{length, map, take, drop, Option, Some, None, Result, Ok, Err}
+use Rattle.std.proofs.Common.{fold, length, map, take, drop, Option, Some, None, Result, Ok, Err}
 use Rattle.std.proofs.Common.{MatchResult, refl, sym, ap, ◌∙◌, subst, arith}
 use Rattle.std.specs.List.{AllByRecursion, flat_map}
 use Rattle.std.proofs.lemmas.List.{append-nil, append_assoc, length-append, length-drop, take_at}
 use Rattle.std.proofs.lemmas.List.{drop-append-le, drop-drop}
 use Rattle.std.proofs.lemmas.List.Concat.{flat_map-append}
+use Rattle.std.proofs.lemmas.List.Sums.{fold_push}
 use Rattle.std.proofs.lemmas.List.Elements.{recursion_from_All}
 use Rattle.st_format.specs.declared.cell.Cell.{Cell}
 use Rattle.st_format.specs.declared.device.Turn.TheVariants.{Datagram, Quiet}
@@ -24,8 +25,8 @@ use Rattle.path_merge.specs.declared.receiving.Received.{Received}
 use Rattle.path_merge.specs.Frames.{State, Holds, IsReceiver, frames_of, joined_frames}
 use Rattle.path_merge.specs.Answers.{last_64, refusals_after, taken_at}
 use Rattle.path_merge.specs.Opening.{Opening}
-use Rattle.path_merge.specs.Took.{CountsAll, TakesDue, Took, TookUpTo, delivered_in, refused_by}
-use Rattle.path_merge.specs.Took.{refusal_of}
+use Rattle.path_merge.specs.Took.{CountsAll, HearsAll, TakesDue, Took, TookUpTo, answers_to}
+use Rattle.path_merge.specs.Took.{delivered_in, refusal_of, refused_by}
 use Rattle.path_merge.proofs.Frames.{frames_of-append, frames_of-same}
 use Rattle.path_merge.proofs.MergeLemmas.{joined_frames-assoc}
 
@@ -220,6 +221,67 @@ quiet_taken k n buf old mid new s t so_far turn =
       };
     }
 
+-- ---- what was heard
+
+-- the answers to turns, and to one datagram more
+answers_more : (o : Opening) (due : List Due) (path : Path) (d : List ℕ)
+    → answers_to o (due ++ Comes path d ∷ []) ≡ answers_to o due ++ taken_at o d ∷ []
+answers_more o [] path d = refl
+answers_more o (Comes p x ∷ due) path d =
+    ap (λ (as : List (Result Taken Refusal)). taken_at o x ∷ as) (answers_more o due path d)
+answers_more o (Nothing ∷ due) path d = answers_more o due path d
+
+answers_quiet : (o : Opening) (due : List Due) → answers_to o (due ++ Nothing ∷ []) ≡ answers_to o due
+answers_quiet o [] = refl
+answers_quiet o (Comes p x ∷ due) =
+    ap (λ (as : List (Result Taken Refusal)). taken_at o x ∷ as) (answers_quiet o due)
+answers_quiet o (Nothing ∷ due) = answers_quiet o due
+
+-- what was taken in k turns, and an observer was told the answers
+pub record Heard {O : Type 0} (after : O → Result Taken Refusal → O) (k delivered : ℕ)
+    (old now : Option (List Due)) (before later : State) (was is : O) : Type 0 where
+  pub so_far : SoFar k delivered old now before later
+  pub heard : HearsAll after before.opening so_far.due was is
+
+pub nothing_heard : {O : Type 0} (after : O → Result Taken Refusal → O) (old : Option (List Due))
+    (s : State) (o : O) → IsReceiver s → Heard after 0 0 old old s s o o
+unfolding nothing_taken
+nothing_heard after old s o is = record { so_far = nothing_taken old s is; heard = refl }
+
+pub datagram_heard : {O : Type 0} (after : O → Result Taken Refusal → O) (k n count : ℕ)
+    (path : Path) (buf : List ℕ) (r : Result Taken Refusal)
+    (old mid new : Option (List Due)) (s t u : State) (was is now : O)
+    → Heard after k n old mid s t was is → IsReceiver t
+    → TakesTurn mid new (Datagram path count) buf → u.opening ≡ t.opening
+    → u.frames ≡ joined_frames t.frames (frames_of t.opening (take count buf ∷ []))
+    → r ≡ taken_at t.opening (take count buf) → u.refusals ≡ refusals_after path r t.refusals
+    → now ≡ after is r → Heard after (k + 1) (n + 1) old new s u was now
+unfolding datagram_taken
+datagram_heard {O} after k n count path buf r old mid new s t u was is now so receiver turn opening
+    frames answer refusals noted =
+    let d : List ℕ = take count buf in
+    let due : List Due = so.so_far.due in
+    let said : r ≡ taken_at s.opening d =
+    answer ∙ ap (λ (o : Opening). taken_at o d) so.so_far.taken.opening in
+    record {
+      so_far = datagram_taken k n count path buf r old mid new s t u so.so_far receiver turn opening
+          frames answer refusals;
+      heard = noted ∙ ap (λ (o : O). after o r) so.heard
+          ∙ ap (after (fold after was (answers_to s.opening due))) said
+          ∙ sym (fold_push after was (answers_to s.opening due) (taken_at s.opening d))
+          ∙ ap (fold after was) (sym (answers_more s.opening due path d));
+    }
+
+pub quiet_heard : {O : Type 0} (after : O → Result Taken Refusal → O) (k n : ℕ) (buf : List ℕ)
+    (old mid new : Option (List Due)) (s t : State) (was is : O)
+    → Heard after k n old mid s t was is → TakesTurn mid new Quiet buf
+    → Heard after (k + 1) n old new s t was is
+unfolding quiet_taken
+quiet_heard after k n buf old mid new s t was is so turn = record {
+  so_far = quiet_taken k n buf old mid new s t so.so_far turn;
+  heard = so.heard ∙ ap (fold after was) (sym (answers_quiet s.opening so.so_far.due));
+}
+
 -- ---- counts
 
 pub counts_none : (old : ℕ) → CountsAll 0 old old
@@ -280,3 +342,40 @@ pub holds_any : (s t : State) (n : ℕ) (due : List Due)
     → (ds : List (List ℕ)) → Holds s [] → SameDatagrams (take n (datagrams_of due)) ds → Holds t ds
 holds_any s t n due holds ds none same =
     holds [] none ∙ frames_of-same t.opening (take n (datagrams_of due)) ds same
+
+-- ---- what was heard of turns that a source told
+
+heard_due : {O : Type 0} (after : O → Result Taken Refusal → O) (o : Opening)
+    (old rest : Option (List Due)) (due turns : List Due) (n : ℕ) (was is : O)
+    → GivesTurns old rest due → length (datagrams_of due) ≡ n → old ≡ Some turns
+    → HearsAll after o due was is
+    → is ≡ fold after was (map (taken_at o) (take n (datagrams_of turns)))
+heard_due after o old rest due turns n was is given count told heard =
+    heard ∙ ap (λ (ds : List (List ℕ)). fold after was (map (taken_at o) ds))
+    (sym (gave_first turns rest due n
+    (subst (λ (x : Option (List Due)). GivesTurns x rest due) told given) count))
+
+-- the answers to as many datagrams as were delivered
+pub heard_delivered : {O : Type 0} (after : O → Result Taken Refusal → O) (limit : ℕ)
+    (r : Result Received ReceiveFault) (old new : Option (List Due)) (s t : State) (was is : O)
+    → MatchResult r
+    (λ x. (took : Took limit x old new s t) × HearsAll after s.opening took.due was is)
+    (λ e. (took : TookUpTo limit e.delivered old s t) × HearsAll after s.opening took.due was is)
+    → (turns : List Due) → old ≡ Some turns
+    → is ≡ fold after was (map (taken_at s.opening) (take (delivered_in r) (datagrams_of turns)))
+heard_delivered after limit (Ok x) old new s t was is (took, heard) turns told =
+    heard_due after s.opening old new took.due turns x.delivered was is took.given took.taken.count
+    told heard
+heard_delivered after limit (Err e) old new s t was is (took, heard) turns told =
+    heard_due after s.opening old took.rest took.due turns e.delivered was is took.given
+    took.taken.count told heard
+
+-- what was taken, without what was heard
+pub only_taken : {O : Type 0} (after : O → Result Taken Refusal → O) (limit : ℕ)
+    (r : Result Received ReceiveFault) (old new : Option (List Due)) (s t : State) (was is : O)
+    → MatchResult r
+    (λ x. (took : Took limit x old new s t) × HearsAll after s.opening took.due was is)
+    (λ e. (took : TookUpTo limit e.delivered old s t) × HearsAll after s.opening took.due was is)
+    → MatchResult r (λ x. Took limit x old new s t) (λ e. TookUpTo limit e.delivered old s t)
+only_taken after limit (Ok x) old new s t was is (took, heard) = took
+only_taken after limit (Err e) old new s t was is (took, heard) = took

@@ -1,6 +1,6 @@
 -- What `receive` does with the turns of a source (own).
 use Rattle.std.specs.Prelude.{◌≡◌, ℕ, ◌+◌, ◌-◌, ◌^◌, ◌<◌, ◌++◌, min, Bool, true, false, List, []}
-use Rattle.std.specs.Prelude.{◌∷◌, length, Option, Result, Ok, Err}
+use Rattle.std.specs.Prelude.{◌∷◌, fold, length, map, Option, Result, Ok, Err}
 use Rattle.std.specs.List.{flat_map}
 use Rattle.st_format.specs.declared.path.Path.{Path}
 use Rattle.st_format.specs.Turns.{Due, Comes, Nothing, GivesTurns, HasEnded, datagrams_of}
@@ -56,6 +56,16 @@ pub record TookUpTo (limit delivered : ℕ) (old : Option (List Due))
   pub given : GivesTurns old rest due
   pub turns : length due < limit
   pub taken : TakesDue due delivered before after
+
+-- the answers to the datagrams among turns, in order
+abbrev pub answers_to : Opening → List Due → List (Result Taken Refusal)
+answers_to opening due = map (taken_at opening) (datagrams_of due)
+
+-- An observer was told the answers to the datagrams among turns, one after the other, and became by
+-- each what an answer makes of it.
+abbrev pub HearsAll : {O : Type 0} → (O → Result Taken Refusal → O) → Opening → List Due → O → O
+    → Type 0
+HearsAll after opening due old new = new ≡ fold after old (answers_to opening due)
 
 -- how many datagrams were delivered
 abbrev pub delivered_in : Result Received ReceiveFault → ℕ

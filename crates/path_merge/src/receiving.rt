@@ -1,12 +1,14 @@
 //! Taking what a source of datagrams gives.
-ghost use Rattle.std.specs.Prelude.{◌≡◌, ◌≤◌, ℕ, List, [], Some, ◌++◌, length, take, IfErr};
-ghost use Rattle.std.specs.Prelude.{MatchResult};
+ghost use Rattle.std.specs.Prelude.{◌≡◌, ◌≤◌, ℕ, List, [], Some, ◌++◌, fold, length, map, take};
+ghost use Rattle.std.specs.Prelude.{IfErr, MatchResult, OnOk};
+ghost use Rattle.path_merge.specs.Answers.{taken_at};
 ghost use Rattle.path_merge.specs.Frames.{Holds, IsReceiver};
-ghost use Rattle.path_merge.specs.Took.{CountsAll, Took, TookUpTo, delivered_in};
+ghost use Rattle.path_merge.specs.Took.{CountsAll, HearsAll, Took, TookUpTo, delivered_in};
 ghost use Rattle.st_format.specs.Device.{CountsFaults};
 ghost use Rattle.st_format.specs.Member.{SameDatagrams};
 ghost use Rattle.st_format.specs.Turns.{Due, datagrams_of};
 
+use crate::observer::{Observer, Unobserved};
 use crate::receiver::Receiver;
 use st_format::{DatagramSource, SourceFault, Turn};
 use std::alloc::Allocator;
@@ -81,42 +83,108 @@ pub fn receive<S: DatagramSource, A: Allocator>(
         (S.delivered source.old) (S.delivered source.new) }
     ensures counted { CountsFaults (S.failures source.old) (S.failures source.new) result }
     ensures fault { IfErr result (λ e. S.last_fault source.new ≡ Some e.fault) }
+    ensures blameless { OnOk result (S.last_fault source.new ≡ S.last_fault source.old) }
 
     // What stays.
     ensures opening { receiver.new.opening ≡ receiver.old.opening }
     ensures receiver { IsReceiver receiver.new }
     ensures room { length buf.new ≡ length buf.old }
+    ensures before { S.before source.new ≡ S.before source.old }
+    ensures names { S.names source.new ≡ S.names source.old }
 {
-    // It is one where not one turn is taken too.
-    receiver.facts();
-    take_turns(source, receiver, buf, limit)
+    receive_each(source, receiver, buf, limit, &mut Unobserved)
 }
 
-/// Takes so many turns, or fewer where one is the end or a fault.
-fn take_turns<S: DatagramSource, A: Allocator>(
+/// Gives a receiver the datagrams of a source, as [`receive`] does, and tells an observer the
+/// receiver's answer to each, in order.
+pub fn receive_each<S: DatagramSource, A: Allocator, O: Observer>(
     source: &mut S,
     receiver: &mut Receiver<A>,
     buf: &mut [u8],
     limit: u64,
+    observer: &mut O,
 ) -> Result<Received, ReceiveFault>
-    requires room { 65535 ≤ length buf.old }
-    requires receiver { IsReceiver receiver.old }
-    ensures few { delivered_in result ≤ limit }
+    requires { 65535 ≤ length buf.old }
+
+    // Which turns were taken, and what the receiver has of their datagrams.
     ensures took { MatchResult result
         (λ r. Took limit r (S.turns source.old) (S.turns source.new) receiver.old receiver.new)
         (λ e. TookUpTo limit e.delivered (S.turns source.old) receiver.old receiver.new) }
+
+    // The observer was told the answer to each of these datagrams, in order.
+    ensures heard { MatchResult result
+        (λ r. (t : Took limit r (S.turns source.old) (S.turns source.new) receiver.old
+        receiver.new) × HearsAll O.after receiver.old.opening t.due observer.old observer.new)
+        (λ e. (t : TookUpTo limit e.delivered (S.turns source.old) receiver.old receiver.new)
+        × HearsAll O.after receiver.old.opening t.due observer.old observer.new) }
+    ensures answers { (due : List Due) → S.turns source.old ≡ Some due →
+        observer.new ≡ fold O.after observer.old
+        (map (taken_at receiver.old.opening) (take (delivered_in result) (datagrams_of due))) }
+
+    // Where it held the Frames of some datagrams and the source tells its turns, it then holds
+    // those of them and the first datagrams that were to come: as many as were delivered.
+    ensures holds { (datagrams : List (List ℕ)) (due : List Due) →
+        S.turns source.old ≡ Some due → Holds receiver.old datagrams →
+        Holds receiver.new (datagrams ++ take (delivered_in result) (datagrams_of due)) }
+
+    // So one that held the Frames of nothing then holds those of every list that has the same
+    // datagrams as those delivered.
+    ensures any_list { (datagrams : List (List ℕ)) (due : List Due) →
+        S.turns source.old ≡ Some due → Holds receiver.old [] →
+        SameDatagrams (take (delivered_in result) (datagrams_of due)) datagrams →
+        Holds receiver.new datagrams }
+
+    // What the source counts, and its fault.
+    ensures few { delivered_in result ≤ limit }
     ensures delivered { CountsAll (delivered_in result)
         (S.delivered source.old) (S.delivered source.new) }
     ensures counted { CountsFaults (S.failures source.old) (S.failures source.new) result }
     ensures fault { IfErr result (λ e. S.last_fault source.new ≡ Some e.fault) }
+    ensures blameless { OnOk result (S.last_fault source.new ≡ S.last_fault source.old) }
+
+    // What stays.
+    ensures opening { receiver.new.opening ≡ receiver.old.opening }
     ensures receiver { IsReceiver receiver.new }
     ensures room { length buf.new ≡ length buf.old }
+    ensures before { S.before source.new ≡ S.before source.old }
+    ensures names { S.names source.new ≡ S.names source.old }
+{
+    // It is one where not one turn is taken too.
+    receiver.facts();
+    take_turns(source, receiver, buf, limit, observer)
+}
+
+/// Takes so many turns, or fewer where one is the end or a fault.
+fn take_turns<S: DatagramSource, A: Allocator, O: Observer>(
+    source: &mut S,
+    receiver: &mut Receiver<A>,
+    buf: &mut [u8],
+    limit: u64,
+    observer: &mut O,
+) -> Result<Received, ReceiveFault>
+    requires room { 65535 ≤ length buf.old }
+    requires receiver { IsReceiver receiver.old }
+    ensures few { delivered_in result ≤ limit }
+    ensures heard { MatchResult result
+        (λ r. (t : Took limit r (S.turns source.old) (S.turns source.new) receiver.old
+        receiver.new) × HearsAll O.after receiver.old.opening t.due observer.old observer.new)
+        (λ e. (t : TookUpTo limit e.delivered (S.turns source.old) receiver.old receiver.new)
+        × HearsAll O.after receiver.old.opening t.due observer.old observer.new) }
+    ensures delivered { CountsAll (delivered_in result)
+        (S.delivered source.old) (S.delivered source.new) }
+    ensures counted { CountsFaults (S.failures source.old) (S.failures source.new) result }
+    ensures fault { IfErr result (λ e. S.last_fault source.new ≡ Some e.fault) }
+    ensures blameless { OnOk result (S.last_fault source.new ≡ S.last_fault source.old) }
+    ensures receiver { IsReceiver receiver.new }
+    ensures room { length buf.new ≡ length buf.old }
+    ensures before { S.before source.new ≡ S.before source.old }
+    ensures names { S.names source.new ≡ S.names source.old }
 {
     let mut delivered = 0;
     for _ in 0..limit {
         match source.next(buf) {
             Ok(Turn::Datagram(path, count)) => {
-                let _ = receiver.take(path, &buf[..count]);
+                observer.note(receiver.take(path, &buf[..count]));
                 delivered += 1;
                 continue;
             }

@@ -2,8 +2,8 @@ use Rattle.std.proofs.Common.{ℕ, ◌∙◌, arith, refl, subst, sym}
 use Rattle.st_format.specs.Turns.{CountsTurn, TakesTurn}
 use Rattle.st_format.specs.declared.device.Turn.{Turn}
 use Rattle.path_merge.specs.Took.{CountsAll}
-use Rattle.path_merge.proofs.TurnLemmas.{counts_none, counts_more, nothing_taken, datagram_taken}
-use Rattle.path_merge.proofs.TurnLemmas.{quiet_taken}
+use Rattle.path_merge.proofs.TurnLemmas.{counts_none, counts_more, datagram_heard}
+use Rattle.path_merge.proofs.TurnLemmas.{nothing_heard, quiet_heard}
 use Rattle.path_merge.proofs.receiving.take_turns.Goals as goal
 
 pub loop-init : goal.loop-init
@@ -12,9 +12,12 @@ loop-init g c = record {
   room = refl;
   receiver = c.requires.receiver;
   so_far =
-      nothing_taken (g.S.DatagramSource.turns c.args.source.now) c.args.receiver.now
-      c.requires.receiver;
+      nothing_heard g.O.Observer.after (g.S.DatagramSource.turns c.args.source.now)
+      c.args.receiver.now c.args.observer.now c.requires.receiver;
   delivered = counts_none (g.S.DatagramSource.delivered c.args.source.now);
+  last = refl;
+  before = refl;
+  names = refl;
   failures = refl;
 }
 
@@ -35,14 +38,19 @@ loop-preserved-in-Ok-Datagram g c =
       room = w.ensures.room ∙ before.room;
       receiver = c.take.ensures.receiver;
       so_far =
-          datagram_taken c.loop.counter c.loop.delivered w.count w.path c.next.new.buf
+          datagram_heard g.O.Observer.after c.loop.counter c.loop.delivered w.count w.path
+          c.next.new.buf
           c.take.result (turns c.args.source.now) (turns c.loop.source) (turns c.next.new.self)
-          c.args.receiver.now c.loop.receiver c.take.new.self before.so_far before.receiver turn
+          c.args.receiver.now c.loop.receiver c.take.new.self c.args.observer.now c.loop.observer
+          c.note.new.self before.so_far before.receiver turn
           c.take.ensures.opening c.take.ensures.frames c.take.ensures.answer
-          c.take.ensures.refusals;
+          c.take.ensures.refusals c.note.ensures;
       delivered =
           counts_more c.loop.delivered (counted c.args.source.now) (counted c.loop.source)
           (counted c.next.new.self) before.delivered one;
+      last = w.ensures.blameless ∙ before.last;
+      before = w.ensures.before ∙ before.before;
+      names = w.ensures.names ∙ before.names;
       failures = w.ensures.counted ∙ before.failures;
     }
 
@@ -63,11 +71,15 @@ loop-preserved g c =
       room = w.ensures.room ∙ before.room;
       receiver = before.receiver;
       so_far =
-          quiet_taken c.loop.counter c.loop.delivered c.next.new.buf (turns c.args.source.now)
-          (turns c.loop.source) (turns c.next.new.self)
-          c.args.receiver.now c.loop.receiver before.so_far turn;
+          quiet_heard g.O.Observer.after c.loop.counter c.loop.delivered c.next.new.buf
+          (turns c.args.source.now) (turns c.loop.source) (turns c.next.new.self)
+          c.args.receiver.now c.loop.receiver c.args.observer.now c.loop.observer before.so_far
+          turn;
       delivered =
           subst (λ (n : ℕ). CountsAll c.loop.delivered (counted c.args.source.now) n)
           (sym none) before.delivered;
+      last = w.ensures.blameless ∙ before.last;
+      before = w.ensures.before ∙ before.before;
+      names = w.ensures.names ∙ before.names;
       failures = w.ensures.counted ∙ before.failures;
     }

@@ -1,0 +1,33 @@
+use Rattle.path_merge.proofs.TurnLemmas.{heard_delivered, holds_any, holds_delivered, only_taken}
+use Rattle.path_merge.specs.Took.{delivered_in}
+use Rattle.path_merge.proofs.receiving.receive_each.Goals as goal
+
+pub returns-clause-took : goal.returns-clause-took
+returns-clause-took g c =
+    let turns = g.S.DatagramSource.turns in
+    only_taken g.O.Observer.after c.args.limit c.take_turns.result (turns c.args.source.now)
+    (turns c.take_turns.new.source) c.args.receiver.now c.take_turns.new.receiver
+    c.args.observer.now c.take_turns.new.observer c.take_turns.ensures.heard
+
+pub returns-clause-heard : goal.returns-clause-heard
+returns-clause-heard g c = c.take_turns.ensures.heard
+
+pub returns-clause-answers : goal.returns-clause-answers
+returns-clause-answers g c =
+    let turns = g.S.DatagramSource.turns in
+    heard_delivered g.O.Observer.after c.args.limit c.take_turns.result (turns c.args.source.now)
+    (turns c.take_turns.new.source) c.args.receiver.now c.take_turns.new.receiver
+    c.args.observer.now c.take_turns.new.observer c.take_turns.ensures.heard
+
+pub returns-clause-holds : goal.returns-clause-holds
+returns-clause-holds g c =
+    let turns = g.S.DatagramSource.turns in
+    holds_delivered c.args.limit c.take_turns.result (turns c.args.source.now)
+    (turns c.take_turns.new.source) c.args.receiver.now c.take_turns.new.receiver
+    (returns-clause-took g c)
+
+pub returns-clause-any_list : goal.returns-clause-any_list
+returns-clause-any_list g c = λ datagrams due told.
+    holds_any c.args.receiver.now c.take_turns.new.receiver (delivered_in c.take_turns.result) due
+    (λ ds. returns-clause-holds g c ds due told)
+    datagrams
