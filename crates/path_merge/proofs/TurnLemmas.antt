@@ -228,13 +228,13 @@ answers_more : (o : Opening) (due : List Due) (path : Path) (d : List ℕ)
     → answers_to o (due ++ Comes path d ∷ []) ≡ answers_to o due ++ taken_at o d ∷ []
 answers_more o [] path d = refl
 answers_more o (Comes p x ∷ due) path d =
-    ap (λ (as : List (Result Taken Refusal)). taken_at o x ∷ as) (answers_more o due path d)
+    ap (λ (rest : List (Result Taken Refusal)). taken_at o x ∷ rest) (answers_more o due path d)
 answers_more o (Nothing ∷ due) path d = answers_more o due path d
 
 answers_quiet : (o : Opening) (due : List Due) → answers_to o (due ++ Nothing ∷ []) ≡ answers_to o due
 answers_quiet o [] = refl
 answers_quiet o (Comes p x ∷ due) =
-    ap (λ (as : List (Result Taken Refusal)). taken_at o x ∷ as) (answers_quiet o due)
+    ap (λ (rest : List (Result Taken Refusal)). taken_at o x ∷ rest) (answers_quiet o due)
 answers_quiet o (Nothing ∷ due) = answers_quiet o due
 
 -- what was taken in k turns, and an observer was told the answers

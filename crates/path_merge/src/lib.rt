@@ -17,8 +17,8 @@ mod window;
 
 pub use answer::{Refusal, Taken};
 pub use fault::{OpenFault, SlideFault};
-pub use packet_numbers::{MAX_COUNT, Noted, OpenedUnlike, SeqMap, SeqMapFault, number_laws};
 pub use observer::Observer;
+pub use packet_numbers::{MAX_COUNT, Noted, OpenedUnlike, SeqMap, SeqMapFault, number_laws};
 pub use receiver::Receiver;
 pub use receiving::{ReceiveFault, Received, receive, receive_each};
 pub use schedule::event::Event;
