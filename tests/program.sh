@@ -158,7 +158,7 @@ END
 octets "$old_head $d1" >old.cap
 
 # The parts, in the order in which they are run: later ones use files and words of earlier ones.
-parts='text examples forms windows rehearsals descriptions limits migrate receive send
+parts='text examples forms windows rehearsals descriptions limits migrate receive tallies send kinds
     merge process report loop words devices verbose launcher'
 for part in $parts; do
     counted=$((passed + failed))
