@@ -25,12 +25,12 @@ fail() {
 
 # Writes octets that are given as hexadecimal digits, with spaces anywhere.
 octets() {
-    digits=$(printf '%s' "$*" | tr -d ' \n')
-    while [ -n "$digits" ]; do
-        rest=${digits#??}
-        printf "\\$(printf '%03o' "0x${digits%"$rest"}")"
-        digits=$rest
-    done
+    # shellcheck disable=SC2059
+    printf "$(printf '%s' "$*" | tr -d ' \n' | tr a-f A-F | awk '{
+        for (i = 1; i < length($0); i += 2)
+            printf "\\%03o", 16 * digit(substr($0, i, 1)) + digit(substr($0, i + 1, 1))
+    }
+    function digit(text) { return index("0123456789ABCDEF", text) - 1 }')"
 }
 
 # Runs the program: its output, faults and status are then in the files out, err and the variable status.
@@ -67,6 +67,15 @@ holds() {
         pass "$1"
     else
         fail "$1" "$2 holds $(od -An -v -tx1 "$2" 2>&1 | tr -d ' \n' | head -c 300)"
+    fi
+}
+
+# alike NAME FILE OTHER: whether two files have the same octets.
+alike() {
+    if cmp -s "$2" "$3"; then
+        pass "$1"
+    else
+        fail "$1" "$2 holds $(od -An -v -tx1 "$2" 2>&1 | tr -d ' \n' | head -c 600)"
     fi
 }
 
@@ -148,11 +157,22 @@ a=fmtp:96 sampling=YCbCr-4:2:2; width=4; height=2; exactframerate=60; depth=8; c
 END
 octets "$old_head $d1" >old.cap
 
-for part in text examples forms windows rehearsals descriptions limits \
-    migrate receive send merge process report loop words devices verbose launcher; do
-    if [ -f "$root/tests/program/$part.sh" ]; then
-        . "$root/tests/program/$part.sh"
+# The parts, in the order in which they are run: later ones use files and words of earlier ones.
+parts='text examples forms windows rehearsals descriptions limits migrate receive tallies send kinds
+    merge process report loop words devices verbose launcher'
+for part in $parts; do
+    counted=$((passed + failed))
+    if [ ! -f "$root/tests/program/$part.sh" ]; then
+        fail "$part.sh" 'it is missing'
+        continue
     fi
+    . "$root/tests/program/$part.sh"
+    [ $((passed + failed)) -gt "$counted" ] || fail "$part.sh" 'it tests nothing'
+done
+for file in "$root"/tests/program/*; do
+    name=${file##*/}
+    # shellcheck disable=SC2086
+    printf '%s.sh\n' $parts | grep -q -x -F -e "$name" || fail "$name" 'it is no part that is run'
 done
 
 echo "$passed passed, $failed failed"

@@ -93,6 +93,36 @@ export CDPATH
 by 'with CDPATH set' clone/st2110 trace
 by 'with CDPATH set, by sh' sh clone/st2110 trace
 unset CDPATH
+# Without words it is `trace`, and says at a terminal alone that it reads a script. `script` of
+# util-linux makes a terminal.
+by 'without words, from a file' clone/st2110
+"$room/clone/st2110" <"$root/examples/first-datagram.trace" 2>&1 | cat >out
+status=0
+says 'launcher: without words, into a pipe' 0 "kept 1
+$frame" ''
+cat "$root/examples/first-datagram.trace" | clone/st2110 >out 2>err
+status=$?
+says 'launcher: without words, from a pipe' 0 "kept 1
+$frame" ''
+# at_terminal WORD..: as `launch`, where what is typed is the first script and then the end.
+at_terminal() {
+    script -q -e -c "$* >out 2>said" /dev/null <"$root/examples/first-datagram.trace" >/dev/null
+    status=$?
+    : >err
+}
+if script --version 2>/dev/null | grep -q util-linux; then
+    at_terminal clone/st2110
+    says 'launcher: without words, at a terminal' 0 "kept 1
+$frame" ''
+    tells 'launcher: without words, at a terminal, what it says' \
+        "st2110: reading a script from standard input, up to Ctrl-D; 'st2110 --help' tells the commands"
+    at_terminal clone/st2110 trace
+    says 'launcher: trace, at a terminal' 0 "kept 1
+$frame" ''
+    tells 'launcher: trace, at a terminal, in silence' ''
+else
+    echo "skipped: the launcher at a terminal, since there is no script of util-linux"
+fi
 cd elsewhere || exit 125
 "$room/clone/st2110" send --out here.cap --max 42 ../row.pic >../out 2>../err
 status=$?

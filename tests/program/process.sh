@@ -86,6 +86,7 @@ process 3 BadFill|--job key --ts 900 --fill a,b,c --hold row.pic --out j.cap bot
 process 4 HoldDiffers|--job gain:4096 $processed --hold row.pic both.rcv
 process 4 HoldDiffers|--job key $processed --hold row.pic both.rcv
 job 7 WrongInputCount|--job key $processed both.rcv
+job 7 WrongInputCount|--job key $processed both.rcv both.rcv
 job 7 WrongInputCount|--job gain:16385 $processed both.rcv both.rcv
 job 8 BadGain|--job gain:16385 $processed both.rcv
 job 2 FormatsDiffer|--job wipe:columns:1:1 $processed both.rcv rgb.rcv

@@ -29,6 +29,62 @@ says 'numbers and timestamps begin anew' 0 'sent 2' ''
 holds 'numbers and timestamps begin anew: the file' f.cap "5332304341503032 0000 00 0000000000000000 002A 80E0FFFF FFFFFFFF 00000001 FFFF $behind \
     00 0000000000000001 002A 80E00000 000005DB 00000001 0000 $behind"
 
+# Three pictures of two packets each, 1500 ticks apart.
+x=8020802180228023
+y=8024802580268027
+raster='0008000400020000003C00000001'
+octets "5332305049433031 $raster $l$u" >swapped.pic
+octets "5332305049433031 $raster $x$y" >third.pic
+run send --out three.cap --max 40 --first 5 --base 900 p.pic swapped.pic third.pic
+says 'three pictures' 0 'sent 6' ''
+split='00000001 0000 0008 0000 8000 0004 0001 0000'
+rest='00000001 0000 0004 0001 0002'
+holds 'three pictures: the file' three.cap "5332304341503032 0000
+    00 0000000000000000 0026 80600005 00000384 $split $u 80148015
+    00 0000000000000001 0018 80E00006 00000384 $rest 80168017
+    00 0000000000000002 0026 80600007 00000960 $split $l 80108011
+    00 0000000000000003 0018 80E00008 00000960 $rest 80128013
+    00 0000000000000004 0026 80600009 00000F3C $split $x 80248025
+    00 0000000000000005 0018 80E0000A 00000F3C $rest 80268027"
+
+# Five pictures at 60000/1001: 0, 1501, 3003, 4504 and 6006 ticks behind the first. With the third
+# timestamps and numbers begin anew. One receiver has all five.
+sed 's/exactframerate=60/&000\/1001/' q.sdp >five.sdp
+raster='0008000400020000EA60000003E9'
+set -- "$u$l" "$l$u" "$x$y" "$y$x" "$u$x"
+for rows in "$@"; do
+    octets "5332305049433031 $raster $rows" >"$rows.pic"
+done
+window=4294964296,4294965797,3,1504,3006
+run send --out five.cap --sdp five.sdp --max 42 --first 4294967294 --base 4294964296 \
+    "$1.pic" "$2.pic" "$3.pic" "$4.pic" "$5.pic"
+says 'five pictures' 0 'sent 5' ''
+both='0008 0000 8000 0008 0001 0000'
+{
+    octets 5332304341503032 "$(printf '%04X' "$(wc -c <five.sdp)")"
+    cat five.sdp
+    octets "00 0000000000000000 002A 80E0FFFE FFFFF448 00000001 FFFF $both $1
+        00 0000000000000001 002A 80E0FFFF FFFFFA25 00000001 FFFF $both $2
+        00 0000000000000002 002A 80E00000 00000003 00000001 0000 $both $3
+        00 0000000000000003 002A 80E00001 000005E0 00000001 0000 $both $4
+        00 0000000000000004 002A 80E00002 00000BBE 00000001 0000 $both $5"
+} >want.cap
+alike 'five pictures: the file' five.cap want.cap
+run receive --window $window --state five.rcv five.cap
+says 'five pictures: received' 0 'delivered 5
+frame 4294964296 present 16 missing 0 contested 0
+frame 4294965797 present 16 missing 0 contested 0
+frame 3 present 16 missing 0 contested 0
+frame 1504 present 16 missing 0 contested 0
+frame 3006 present 16 missing 0 contested 0' ''
+# Four pgroups of a picture, with the state of each.
+pgroups() {
+    printf '%s' "$1" | sed 's/.\{8\}/01&/g'
+}
+holds 'five pictures: the receiver' five.rcv "5332305243563031 $raster 60 00 00000000 05
+    FFFFF448 $(pgroups "$1") FFFFFA25 $(pgroups "$2") 00000003 $(pgroups "$3")
+    000005E0 $(pgroups "$4") 00000BBE $(pgroups "$5")"
+
 # A round trip: the capture's text opens the receiver, and what is known of the frame is the picture.
 run send --out trip.cap --sdp q.sdp --base 900 --max 24 --paths both p.pic
 says 'a round trip: sent' 0 'sent 4' ''

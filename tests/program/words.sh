@@ -132,5 +132,136 @@ process --version
 report --version
 loop --version
 END
+# Of each kind of refused words the whole text, as the Rust crate clap has it, version 4: the words,
+# and on standard input what stands between `error: ` and the last two lines, which are alike.
+refused_text() {
+    {
+        echo "error: $(cat)"
+        printf '\nFor more information, try %s.\n' "'--help'"
+    } >want.err
+    # shellcheck disable=SC2086
+    run $1
+    if [ "$status" = 2 ] && [ ! -s out ] && cmp -s err want.err; then
+        pass "refused, its text: $1"
+    else
+        fail "refused, its text: $1" "status $status: $(cat err)"
+    fi
+}
+refused_text frobnicate <<'END'
+unrecognized subcommand 'frobnicate'
+
+Usage: st2110 [OPTIONS] [COMMAND]
+END
+refused_text trase <<'END'
+unrecognized subcommand 'trase'
+
+  tip: a similar subcommand exists: 'trace'
+
+Usage: st2110 [OPTIONS] [COMMAND]
+END
+refused_text 'help frobnicate' <<'END'
+unrecognized subcommand 'frobnicate'
+
+Usage: st2110 [OPTIONS] [COMMAND]
+END
+refused_text --frobnicate <<'END'
+unexpected argument '--frobnicate' found
+
+Usage: st2110 [OPTIONS] [COMMAND]
+END
+refused_text -x <<'END'
+unexpected argument '-x' found
+
+Usage: st2110 [OPTIONS] [COMMAND]
+END
+refused_text 'sdp --sdp q.sdp' <<'END'
+unexpected argument '--sdp' found
+
+Usage: st2110 sdp [OPTIONS]
+END
+refused_text 'sdp q.sdp' <<'END'
+unexpected argument 'q.sdp' found
+
+Usage: st2110 sdp [OPTIONS]
+END
+refused_text 'send --ou no-words.cap p.pic' <<'END'
+unexpected argument '--ou' found
+
+  tip: a similar argument exists: '--out'
+
+Usage: st2110 send --out <FILE> <PICTURE>...
+END
+refused_text 'send --out no-words.cap --window 900 p.pic' <<'END'
+unexpected argument '--window' found
+
+  tip: to pass '--window' as a value, use '-- --window'
+
+Usage: st2110 send --out <FILE> <PICTURE>...
+END
+refused_text 'send p.pic --out' <<'END'
+a value is required for '--out <FILE>' but none was supplied
+END
+refused_text 'send p.pic --paths' <<'END'
+a value is required for '--paths <PATHS>' but none was supplied
+  [possible values: a, b, both]
+END
+refused_text 'send --out no-words.cap --paths c p.pic' <<'END'
+invalid value 'c' for '--paths <PATHS>'
+  [possible values: a, b, both]
+END
+refused_text 'send --out no-words.cap --paths bot p.pic' <<'END'
+invalid value 'bot' for '--paths <PATHS>'
+  [possible values: a, b, both]
+
+  tip: a similar value exists: 'both'
+END
+refused_text 'send --out no-words.cap --pt 128 p.pic' <<'END'
+invalid value '128' for '--pt <N>': 128 is not in 0..=127
+END
+refused_text 'send --out no-words.cap --base 4294967296 p.pic' <<'END'
+invalid value '4294967296' for '--base <TS>': 4294967296 is not in 0..=4294967295
+END
+refused_text 'send --out no-words.cap --pt x p.pic' <<'END'
+invalid value 'x' for '--pt <N>': invalid digit found in string
+END
+refused_text 'loop --limit 18446744073709551616 p.pic' <<'END'
+invalid value '18446744073709551616' for '--limit <TURNS>': number too large to fit in target type
+END
+refused_text send <<'END'
+the following required arguments were not provided:
+  --out <FILE>
+  <PICTURE>...
+
+Usage: st2110 send --out <FILE> <PICTURE>...
+END
+refused_text 'merge --state no-words.rcv g.rcv' <<'END'
+the following required arguments were not provided:
+  <RIGHT>
+
+Usage: st2110 merge --state <FILE> <LEFT> <RIGHT>
+END
+refused_text 'report g.rcv g.rcv' <<'END'
+unexpected argument 'g.rcv' found
+
+Usage: st2110 report [OPTIONS] <STATE>
+END
+refused_text 'send --out no-words.cap --out no-words.cap p.pic' <<'END'
+the argument '--out <FILE>' cannot be used multiple times
+
+Usage: st2110 send [OPTIONS] --out <FILE> <PICTURE>...
+END
+refused_text 'trace --verbose --verbose' <<'END'
+the argument '--verbose' cannot be used multiple times
+
+Usage: st2110 trace [OPTIONS]
+END
+refused_text 'receive --window 900 --state no-words.rcv --refusals=yes old.cap' <<'END'
+unexpected value 'yes' for '--refusals' found; no more were expected
+
+Usage: st2110 receive --window <TS[,TS..]> --state <FILE> --refusals <CAPTURE>...
+END
+"$program" "$(printf '\377')" >out 2>err </dev/null
+status=$?
+says 'a word that is no text' 2 '' 'error: the command line is no UTF-8 text'
 none 'refused words write no capture' no-words.cap
 none 'refused words write no receiver' no-words.rcv
