@@ -11,11 +11,9 @@ use Rattle.rtp_header.specs.declared.header.RtpFault.{RtpFault}
 use Rattle.rtp_header.specs.declared.header.RtpFault.TheVariants.{ShortHeader, BadVersion}
 use Rattle.rtp_header.specs.declared.header.RtpFault.TheVariants.{ShortExtension, BadPadding}
 use Rattle.rtp_header.specs.Grammar.{Rtp, Flags, bit, fixed_text, IsExtensionIf}
-use Rattle.rtp_header.specs.Grammar.{IsPaddingIf, IsRtp}
-use Rattle.st_format.specs.Device.{AreOctets}
-use Rattle.st_format.specs.Reading.{◌>>=◌, Gives}
+use Rattle.rtp_header.specs.Grammar.{AreOctets, IsPaddingIf, IsRtp}
 use Rattle.rtp_header.specs.Reading.{behind, behind_extension, without_padding, fields_of}
-use Rattle.rtp_header.specs.Reading.{fixed_at, rtp_walk}
+use Rattle.rtp_header.specs.Reading.{◌>>=◌, Gives, fixed_at, rtp_walk}
 use Rattle.rtp_header.specs.Views.{seen_rtp}
 use Rattle.rtp_header.specs.declared.header.RtpView.{RtpView}
 use Rattle.rtp_header.proofs.Taken.{rtp_takes}

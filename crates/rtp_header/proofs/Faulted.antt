@@ -11,9 +11,8 @@ use Rattle.rtp_header.specs.declared.header.RtpFault.TheVariants.{ShortHeader, B
 use Rattle.rtp_header.specs.declared.header.RtpFault.TheVariants.{ShortExtension, BadPadding}
 use Rattle.rtp_header.specs.declared.header.RtpView.{RtpView}
 use Rattle.rtp_header.specs.Grammar.{Rtp}
-use Rattle.st_format.specs.Reading.{◌>>=◌, Gives}
 use Rattle.rtp_header.specs.Reading.{behind, behind_extension, without_padding, fields_of}
-use Rattle.rtp_header.specs.Reading.{rtp_walk}
+use Rattle.rtp_header.specs.Reading.{◌>>=◌, Gives, rtp_walk}
 use Rattle.rtp_header.specs.Faults.{HasRtpFault, IsShortExtension, IsBadPadding, version_of}
 use Rattle.rtp_header.specs.Faults.{IsPadded}
 use Rattle.rtp_header.specs.Faults.{sources_end, extension_words, headers_end, last_octet}

@@ -1,3 +1,4 @@
+pub mod Steps
 pub mod Taken
 pub mod Again
 pub mod Faulted

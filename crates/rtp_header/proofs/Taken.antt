@@ -9,17 +9,15 @@ use Rattle.std.proofs.lemmas.List.{take-append-drop, length-take, length-drop, g
 use Rattle.std.proofs.lemmas.List.{append-nil}
 use Rattle.std.proofs.Math.Seq.{take-add}
 use Rattle.std.proofs.lemmas.Nat.{be_bytes_2, be_bytes_4}
-use Rattle.st_format.proofs.Octets.{AreOctets-drop, AreOctets-take}
-use Rattle.st_format.proofs.Readings.{bind_ok, guard_ok, not_eqb_at, three, two_below}
 use Rattle.rtp_header.specs.declared.header.RtpFault.{RtpFault}
 use Rattle.rtp_header.specs.declared.header.RtpFault.TheVariants.{ShortHeader, BadVersion}
 use Rattle.rtp_header.specs.declared.header.RtpFault.TheVariants.{ShortExtension, BadPadding}
 use Rattle.rtp_header.specs.Grammar.{Rtp, Flags, bit, fixed_text, IsExtension}
-use Rattle.rtp_header.specs.Grammar.{IsExtensionIf, IsPaddingIf, IsRtp}
-use Rattle.st_format.specs.Device.{AreOctets}
-use Rattle.st_format.specs.Reading.{◌>>=◌}
+use Rattle.rtp_header.specs.Grammar.{AreOctets, IsExtensionIf, IsPaddingIf, IsRtp}
 use Rattle.rtp_header.specs.Reading.{behind, behind_extension, without_padding, fields_of}
-use Rattle.rtp_header.specs.Reading.{fixed_at, rtp_walk}
+use Rattle.rtp_header.specs.Reading.{◌>>=◌, fixed_at, rtp_walk}
+use Rattle.rtp_header.proofs.Steps.{AreOctets-drop, AreOctets-take, bind_ok, guard_ok, not_eqb_at}
+use Rattle.rtp_header.proofs.Steps.{three, two_below}
 
 guards_ok : {A : Type 0} (b c : Bool) (d e : RtpFault) (x y : A)
     → cond b (Err d) (cond c (Err e) (Ok x)) ≡ Ok y → (b ≡ false) × (c ≡ false) × (x ≡ y)

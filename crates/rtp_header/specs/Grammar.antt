@@ -3,6 +3,10 @@ use Rattle.std.specs.Prelude.{◌≡◌, ℕ, ◌+◌, ◌-◌, ◌*◌, ◌/◌
 use Rattle.std.specs.Prelude.{if◌then◌else◌, List, [], ◌∷◌, ◌++◌, length, slice_index}
 use Rattle.std.specs.Int.{w16, w32, to_be_bytes}
 
+-- octets: numbers below 256 (own)
+abbrev pub AreOctets : List ℕ → Type 0
+AreOctets octets = (i : ℕ) → slice_index octets i < 256
+
 -- What a datagram says: the fields of its fixed header, and the payload behind all headers.
 -- RFC 3550, 5.1
 pub record Rtp : Type 0 where

@@ -5,9 +5,8 @@ ghost use Rattle.rtp_header.specs.declared.header.RtpFault.{RtpFault};
 ghost use Rattle.rtp_header.specs.Faults.{HasRtpFault, IsBadPadding, IsBadVersion};
 ghost use Rattle.rtp_header.specs.Faults.{IsShortExtension};
 ghost use Rattle.rtp_header.specs.Faults.{IsShortHeader};
-ghost use Rattle.rtp_header.specs.Grammar.{IsRtp, Rtp};
+ghost use Rattle.rtp_header.specs.Grammar.{AreOctets, IsRtp, Rtp};
 ghost use Rattle.rtp_header.specs.Reading.{rtp_walk};
-ghost use Rattle.st_format.specs.Device.{AreOctets};
 
 /// Octets say one thing at most: a datagram has one reading (RFC 3550, 5.1).
 pub fn one_reading()

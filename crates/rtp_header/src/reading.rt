@@ -3,8 +3,7 @@ ghost use Rattle.std.specs.Prelude.{◌≡◌, ◌↔◌, ◌<◌, ℕ, length, 
 ghost use Rattle.rtp_header.specs.Grammar.{IsRtp, Rtp};
 ghost use Rattle.rtp_header.specs.Faults.{IsBadPadding, IsBadVersion, IsShortExtension};
 ghost use Rattle.rtp_header.specs.Faults.{IsShortHeader};
-ghost use Rattle.rtp_header.specs.Reading.{behind, behind_extension, rtp_walk};
-ghost use Rattle.st_format.specs.Reading.{Gives};
+ghost use Rattle.rtp_header.specs.Reading.{Gives, behind, behind_extension, rtp_walk};
 ghost use Rattle.rtp_header.specs.Reading.{without_padding};
 ghost use Rattle.rtp_header.specs.Views.{seen_rtp};
 

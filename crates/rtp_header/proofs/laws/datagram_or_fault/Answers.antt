@@ -1,8 +1,7 @@
 use Rattle.std.proofs.Common.{◌≡◌, ◌⊎◌, inl, inr, ℕ, List, Result, Ok, Err, refl}
 use Rattle.rtp_header.specs.declared.header.RtpFault.{RtpFault}
 use Rattle.rtp_header.specs.Faults.{HasRtpFault}
-use Rattle.rtp_header.specs.Grammar.{IsRtp, Rtp}
-use Rattle.st_format.specs.Device.{AreOctets}
+use Rattle.rtp_header.specs.Grammar.{AreOctets, IsRtp, Rtp}
 use Rattle.rtp_header.specs.Reading.{rtp_walk}
 use Rattle.rtp_header.proofs.Taken.{rtp_takes}
 use Rattle.rtp_header.proofs.Again.{rtp_again}
