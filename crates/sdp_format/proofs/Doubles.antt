@@ -1,26 +1,21 @@
--- Items put into a list one after another, while their names stand in an ordered set.
+-- Items met one after another: those of known names in a map, the names of the others in a set.
 use Rattle.std.proofs.Common.{◌≡◌, ℕ, List, [], ◌∷◌, ◌++◌, Bool, true, false, cond, ◌||◌, Option}
-use Rattle.std.proofs.Common.{Some, None, refl, ap, ◌∙◌, sym, Bor}
+use Rattle.std.proofs.Common.{Some, None, refl, ap, ◌∙◌, sym, if◌then◌else◌}
+use Rattle.std.proofs.Common.{Result, Ok, Err, ◌⊎◌, inl, inr}
 use Rattle.std.specs.List.{list_any}
 use Rattle.std.specs.Str.{bytes_eq}
-use Rattle.std.specs.Prelude.{is_some, not}
-use Rattle.std.specs.Ordering.{nat_cmp}
-use Rattle.std.specs.declared.cmp.Ordering.{Ordering}
-use Rattle.std.specs.Cmp.Lexicographic.{slice_cmp}
-use Rattle.std.specs.BTreeSet.{BTreeSet, contains, Updates}
-use Rattle.std.proofs.lemmas.List.{map-append}
-use Rattle.std.proofs.lemmas.Map.Text.{is_eq-slice_cmp}
+use Rattle.std.specs.Prelude.{is_some}
+use Rattle.std.specs.BTreeSet.{BTreeSet}
+use Rattle.std.proofs.lemmas.List.Elements.{filter-append}
 use Rattle.std.proofs.lemmas.Slice.Eq.{bytes_eq-Decides}
+use Rattle.indexmap.specs.IndexMap.{IndexMap}
 use mathlib.Core.List.{append_assoc}
-use Rattle.sdp_format.specs.Naming.{Item, has_double, value_of}
-use Rattle.sdp_format.specs.Views.{item_of, items_in}
+use Rattle.sdp_format.specs.Naming.{Item, has_double, value_of, is_known, known_items}
+use Rattle.sdp_format.specs.Views.{Slice, item_of, items_in, is_met}
+use Rattle.sdp_format.specs.Reading.{GivesUnlessMemory}
 use Rattle.sdp_format.specs.declared.items.Parameter.{Parameter}
-
-abbrev pub Slice : Type 0
-Slice = Bor (List ℕ)
-
-abbrev pub slice_order : Slice → Slice → Ordering
-slice_order x y = slice_cmp nat_cmp x.now y.now
+use Rattle.sdp_format.specs.declared.fault.SdpFault.{SdpFault}
+use Rattle.sdp_format.specs.declared.fault.SdpFault.TheVariants.{NoMemory, DoubleParameter}
 
 pub bytes_same : (xs ys : List ℕ) → bytes_eq xs ys ≡ true → xs ≡ ys
 bytes_same xs ys e = (bytes_eq-Decides xs ys).0 e
@@ -36,7 +31,7 @@ flipped_by a b true false e f =
 flipped_by a b false true e f =
     let h : bytes_eq a b ≡ true = same_bytes a b (sym (bytes_same b a f)) in sym e ∙ h
 
-flipped : (a b : List ℕ) → bytes_eq a b ≡ bytes_eq b a
+pub flipped : (a b : List ℕ) → bytes_eq a b ≡ bytes_eq b a
 flipped a b = flipped_by a b (bytes_eq a b) (bytes_eq b a) refl refl
 
 pub any_here : (p : Item → Bool) (xs ys : List Item) (y : Item) → p y ≡ true
@@ -97,7 +92,7 @@ known_by false true v whole part h = refl
 known_by s false v whole part h = h
 
 -- a name is known behind one more item where it is the item's, or was known
-known_push : (xs : List Item) (y : Item) (name : List ℕ)
+pub known_push : (xs : List Item) (y : Item) (name : List ℕ)
     → is_some (value_of name (xs ++ y ∷ []))
     ≡ cond (bytes_eq y.0 name) true (is_some (value_of name xs))
 known_push [] y name =
@@ -116,46 +111,63 @@ some_from : (r : Option (List ℕ)) → is_some r ≡ true → (x : List ℕ) ×
 some_from None e = cc
 some_from (Some x) e = (x, refl)
 
-not_from : (a : Bool) → true ≡ not a → a ≡ false
-not_from true e = cc
-not_from false e = refl
-
-true_from : (a : Bool) → false ≡ not a → a ≡ true
-true_from true e = refl
-true_from false e = cc
+pub or_cond : (a b : Bool) → cond a true b ≡ (a || b)
+or_cond true b = refl
+or_cond false b = refl
 
 -- What the loop over the items keeps
-pub record Kept (ps : List Parameter) (names : BTreeSet Slice) (left all : List Item) : Type 0 where
-  pub whole : items_in ps ++ left ≡ all
-  pub single : has_double (items_in ps) ≡ false
-  pub known : (q : Slice) → contains slice_order names q ≡ is_some (value_of q.now (items_in ps))
+pub record Kept {S : Type 0} (known : IndexMap Slice Slice S) (others : BTreeSet Slice)
+    (left all : List Item) : Type 0 where
+  pub done : List Item
+  pub whole : done ++ left ≡ all
+  pub single : has_double done ≡ false
+  pub held : items_in known ≡ known_items done
+  pub met : (q : Slice) → is_met known others q ≡ is_some (value_of q.now done)
 
-pub put_kept : (ps qs : List Parameter) (names new : BTreeSet Slice) (left rest all : List Item)
-    (p : Parameter) → Kept ps names left all → left ≡ item_of p ∷ rest
-    → true ≡ not (contains slice_order names p.name) → Updates slice_order names new p.name true
-    → qs ≡ ps ++ p ∷ [] → Kept qs new rest all
-put_kept ps qs names new left rest all p kept e is_new updates put =
-    let made : items_in qs ≡ items_in ps ++ item_of p ∷ [] =
-    ap items_in put ∙ map-append item_of ps (p ∷ []) in
-    let absent : value_of p.name.now (items_in ps) ≡ None =
-    none_from (value_of p.name.now (items_in ps))
-    (sym (kept.known p.name) ∙ not_from (contains slice_order names p.name) is_new) in
-    record {
-      whole = rw (made, append_assoc) (ap (λ xs. items_in ps ++ xs) (sym e) ∙ kept.whole);
-      single = rw made (double_push (items_in ps) (item_of p) kept.single absent);
-      known = λ q. updates.0 q
-          ∙ (rw (is_eq-slice_cmp p.name.now q.now, kept.known q, made)
-          (sym (known_push (items_in ps) (item_of p) q.now)));
-    }
+pub put_kept : {S : Type 0} (known new : IndexMap Slice Slice S) (others more : BTreeSet Slice)
+    (left rest all : List Item) (p : Parameter)
+    → Kept known others left all → left ≡ item_of p ∷ rest
+    → is_met known others p.name ≡ false
+    → items_in new ≡ items_in known ++ known_items (item_of p ∷ [])
+    → ((q : Slice) → is_met new more q ≡ (bytes_eq p.name.now q.now || is_met known others q))
+    → Kept new more rest all
+put_kept known new others more left rest all p kept e absent put met = record {
+  done = kept.done ++ item_of p ∷ [];
+  whole = rw append_assoc (ap (λ xs. kept.done ++ xs) (sym e) ∙ kept.whole);
+  single = double_push kept.done (item_of p) kept.single
+      (none_from (value_of p.name.now kept.done) (sym (kept.met p.name) ∙ absent));
+  held = put ∙ ap (λ xs. xs ++ known_items (item_of p ∷ [])) kept.held
+      ∙ sym (filter-append (λ i. is_known i.0) kept.done (item_of p ∷ []));
+  met = λ q. met q ∙ ap (λ t. bytes_eq p.name.now q.now || t) (kept.met q)
+      ∙ sym (or_cond (bytes_eq p.name.now q.now) (is_some (value_of q.now kept.done)))
+      ∙ sym (known_push kept.done (item_of p) q.now);
+}
 
-pub met_double : (ps : List Parameter) (names : BTreeSet Slice) (left rest all : List Item)
-    (p : Parameter)
-    → Kept ps names left all → left ≡ item_of p ∷ rest
-    → false ≡ not (contains slice_order names p.name)
-    → has_double all ≡ true
-met_double ps names left rest all p kept e is_new =
-    let there : (x : List ℕ) × (value_of p.name.now (items_in ps) ≡ Some x) =
-    some_from (value_of p.name.now (items_in ps))
-    (sym (kept.known p.name) ∙ true_from (contains slice_order names p.name) is_new) in
-    ap has_double (sym (ap (λ xs. items_in ps ++ xs) (sym e) ∙ kept.whole))
-    ∙ double_met (items_in ps) rest (item_of p) there.0 there.1
+pub met_double : {S : Type 0} (known : IndexMap Slice Slice S) (others : BTreeSet Slice)
+    (left rest all : List Item) (p : Parameter)
+    → Kept known others left all → left ≡ item_of p ∷ rest
+    → is_met known others p.name ≡ true → has_double all ≡ true
+met_double known others left rest all p kept e is_there =
+    let there : (x : List ℕ) × (value_of p.name.now kept.done ≡ Some x) =
+    some_from (value_of p.name.now kept.done) (sym (kept.met p.name) ∙ is_there) in
+    ap has_double (sym (ap (λ xs. kept.done ++ xs) (sym e) ∙ kept.whole))
+    ∙ double_met kept.done rest (item_of p) there.0 there.1
+
+the_err : {X : Type 0} (f e : SdpFault) (r : Result X SdpFault) → r ≡ Err f → r ≡ Err e → f ≡ e
+the_err f e r a b = cc
+
+-- and an item that was not put tells that two of all have one name
+pub told_double : {S : Type 0} (known : IndexMap Slice Slice S) (others : BTreeSet Slice)
+    (left rest all : List Item) (p : Parameter) (r : Result (IndexMap Slice Slice S) SdpFault)
+    (e : SdpFault)
+    → Kept known others left all → left ≡ item_of p ∷ rest
+    → (e ≡ NoMemory) ⊎ ((e ≡ DoubleParameter) × (is_met known others p.name ≡ true))
+    → r ≡ Err e
+    → GivesUnlessMemory items_in r
+    (if has_double all then Err DoubleParameter else Ok (known_items all))
+told_double known others left rest all p (Ok x) e kept put double is_err = cc
+told_double known others left rest all p (Err f) e kept put (inl m) is_err =
+    inl (the_err f e (Err f) refl is_err ∙ m)
+told_double known others left rest all p (Err f) e kept put (inr d) is_err =
+    inr (rw (met_double known others left rest all p kept put d.1)
+    (ap Err (sym d.0 ∙ sym (the_err f e (Err f) refl is_err))))

@@ -1,6 +1,7 @@
 pub mod Trims
 pub mod Parts
 pub mod Doubles
+pub mod KnownItems
 pub mod Examples
 pub mod SpelledItems
 pub mod Again

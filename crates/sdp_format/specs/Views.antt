@@ -1,8 +1,14 @@
 -- What the reader's values stand for.
-use Rattle.std.specs.Prelude.{ℕ, List, map, Option, Some, None}
+use Rattle.std.specs.Prelude.{ℕ, Bool, if◌then◌else◌, List, map, Option, Some, None}
+use Rattle.std.specs.Borrow.{Bor}
+use Rattle.std.specs.declared.cmp.Ordering.{Ordering}
+use Rattle.std.specs.Ordering.{nat_cmp}
+use Rattle.std.specs.Cmp.Lexicographic.{slice_cmp}
+use Rattle.std.specs.BTreeSet.{BTreeSet, contains}
+use Rattle.indexmap.specs.IndexMap.{IndexMap}
 use Rattle.arrayvec.specs.ArrayVec.{ArrayVec}
 use Rattle.st_format.specs.Fields.{fields_of}
-use Rattle.sdp_format.specs.Naming.{Item}
+use Rattle.sdp_format.specs.Naming.{Item, is_known, has_name}
 use Rattle.sdp_format.specs.Sections.{Description}
 use Rattle.sdp_format.specs.declared.items.Parameter.{Parameter}
 use Rattle.sdp_format.specs.declared.sdp.Sdp.{Sdp}
@@ -10,8 +16,25 @@ use Rattle.sdp_format.specs.declared.sdp.Sdp.{Sdp}
 abbrev pub item_of : Parameter → Item
 item_of i = (i.name.now, i.value.now)
 
-abbrev pub items_in : List Parameter → List Item
-items_in ps = map item_of ps
+-- a text as the reader holds it, the order of such texts, and a name and its value
+abbrev pub Slice : Type 0
+Slice = Bor (List ℕ)
+
+abbrev pub slice_order : Slice → Slice → Ordering
+slice_order x y = slice_cmp nat_cmp x.now y.now
+
+abbrev pub pair_of : Slice × Slice → Item
+pair_of e = (e.0.now, e.1.now)
+
+-- the items that a map holds, in their order
+abbrev pub items_in : {S : Type 0} → IndexMap Slice Slice S → List Item
+items_in m = map pair_of m.entries
+
+-- whether a name stands in the map of known names or in the set of the others
+abbrev pub is_met : {S : Type 0} → IndexMap Slice Slice S → BTreeSet Slice → Slice → Bool
+is_met known others name =
+    if is_known name.now then has_name (items_in known) name.now
+    else contains slice_order others name
 
 abbrev pub description : Sdp → Description
 description s = record {

@@ -6,10 +6,11 @@ ghost use Rattle.st_format.specs.Fields.{fields_of};
 ghost use Rattle.st_format.specs.Words.{sampling_named};
 
 use crate::fault::SdpFault;
-use crate::items::{Parameter, rate};
+use crate::items::rate;
 use crate::lines::{begins, is_word};
-use crate::parameters::{is_interlaced, text_of};
+use crate::parameters::{Parameters, is_interlaced, text_of};
 use st_format::{Depth, Format, Sampling, read_number};
+use std::alloc::Allocator;
 
 /// The sampling of a word.
 fn sampling_of(text: &[u8]) -> Option<Sampling>
@@ -38,7 +39,7 @@ fn depth_named(text: &[u8]) -> Option<Depth>
 
 /// The format that the items give.
 #[tactic(auto, unfolding(crate::specs::Reading::format_of))]
-pub(crate) fn format_of(list: &[Parameter<'_>]) -> Result<Format, SdpFault>
+pub(crate) fn format_of<A: Allocator>(list: &Parameters<'_, A>) -> Result<Format, SdpFault>
     ensures { result_map fields_of result ≡ format_of (items_in list.now) }
 {
     let sampling = sampling_of(text_of(list, b"sampling")).ok_or(SdpFault::UnsupportedSampling)?;

@@ -14,10 +14,10 @@ ghost use Rattle.sdp_format.specs.Naming.{items, range_or};
 ghost use Rattle.sdp_format.specs.ReadLeg.{leg_seen, listed_seen, section_of};
 
 use crate::fault::SdpFault;
-use crate::items::{Parameter, colorimetry, has_bad, range_named};
+use crate::items::{colorimetry, has_bad, range_named};
 use crate::leg::format_of;
 use crate::lines::{first_attribute, is_raw90000, is_word, media_of, next_video};
-use crate::parameters::{is_missing, parameters_of, text_of, value_of};
+use crate::parameters::{Parameters, is_missing, parameters_of, text_of, value_of};
 use crate::sdp::{Leg, Listed, Range, Sdp};
 use arrayvec::ArrayVec;
 use std::alloc::Allocator;
@@ -34,7 +34,7 @@ fn range_or(text: Option<&[u8]>) -> Option<Range>
 
 /// What items of different names say.
 #[tactic(auto, unfolding(crate::specs::Reading::said_in))]
-fn said_in(payload_type: u8, list: &[Parameter<'_>]) -> Result<Leg, SdpFault>
+fn said_in<A: Allocator>(payload_type: u8, list: &Parameters<'_, A>) -> Result<Leg, SdpFault>
     requires { payload_type ≤ 127 }
     ensures { result_map leg_seen result ≡ said_in payload_type (items_in list.now) }
 {
