@@ -1,8 +1,8 @@
-pub mod ReaderFaults
 pub mod CaptureSums
 pub mod SetSums
 pub mod Merged
 pub mod Taken
+pub mod CaptureRuns
 pub mod Rotating
 pub mod StateRefusals
 pub mod Ended

@@ -2,65 +2,13 @@
 use Rattle.std.proofs.Common.{◌≡◌, ℕ, ◌+◌, ◌<◌, ◌⊎◌, inl, inr, List, [], ◌∷◌, ◌++◌, length, Option}
 use Rattle.std.proofs.Common.{None, Some, refl, sym, ap, subst, ◌∙◌, arith, append_assoc}
 use Rattle.std.proofs.Common.{append-nil, drop, length-append}
-use Rattle.std.proofs.lemmas.List.Concat.{flat_map-append}
-use Rattle.std.specs.Io.KnownBytes.{Consumes}
-use Rattle.capture_file.specs.Records.{AllFit, Entry, record_text, records_text}
-use Rattle.capture_file.specs.Source.{ReadsRecord}
-use Rattle.file_engines.specs.Received.{GivesRecords, HasCaptureFault}
+use Rattle.file_engines.specs.Received.{HasCaptureFault}
 use Rattle.file_engines.specs.Received.{FirstRefuses, IsCapturesRefusal, IsFileRefusal}
 use Rattle.file_engines.specs.Received.{IsOpenedRefusal, IsTakeRefusal}
 use Rattle.file_engines.specs.Sent.{FirstIs, OneIs}
 use Rattle.file_engines.specs.declared.fault.Refusal.{Refusal}
 use Rattle.file_engines.specs.declared.fault.Refusal.TheVariants as why
 use Rattle.file_engines.proofs.OneOf.{first_one, one_behind}
-
--- ---- records
-
-pub no_records : (told : Option (List ℕ)) → GivesRecords 0 told told
-no_records told = record { records = []; fit = tt; counted = refl; given = nothing told }
-  where
-    nothing : (told : Option (List ℕ)) → Consumes told told []
-    nothing None = tt
-    nothing (Some octets) = refl
-
-pub one_record : (old new : Option (List ℕ)) (e : Entry) → ReadsRecord old new e
-    → GivesRecords 1 old new
-one_record old new e read = record {
-  records = e ∷ [];
-  fit = (read.fits, tt);
-  counted = refl;
-  given = joined old new read.given;
-}
-  where
-    joined : (old new : Option (List ℕ)) → Consumes old new (record_text e)
-        → Consumes old new (records_text (e ∷ []))
-    joined None new given = tt
-    joined (Some xs) None given = absurd given
-    joined (Some xs) (Some ys) given =
-        given ∙ ap (λ (l : List ℕ). l ++ ys) (sym (append-nil (record_text e)))
-
-both_fit : (xs ys : List Entry) → AllFit xs → AllFit ys → AllFit (xs ++ ys)
-both_fit [] ys some more = more
-both_fit (x ∷ xs) ys some more = (some.0, both_fit xs ys some.1 more)
-
-both_given : (a b c : Option (List ℕ)) (xs ys : List Entry) → Consumes a b (records_text xs)
-    → Consumes b c (records_text ys) → Consumes a c (records_text (xs ++ ys))
-both_given None b c xs ys first then = tt
-both_given (Some p) None c xs ys first then = absurd first
-both_given (Some p) (Some q) None xs ys first then = absurd then
-both_given (Some p) (Some q) (Some r) xs ys first then =
-    first ∙ ap (λ (l : List ℕ). records_text xs ++ l) then
-    ∙ sym (append_assoc (records_text xs) (records_text ys) r)
-    ∙ ap (λ (l : List ℕ). l ++ r) (sym (flat_map-append record_text xs ys))
-
-pub more_records : (k n : ℕ) (a b c : Option (List ℕ)) → GivesRecords k a b → GivesRecords n b c
-    → GivesRecords (k + n) a c
-more_records k n a b c first then = record {
-  records = first.records ++ then.records;
-  fit = both_fit first.records then.records first.fit then.fit;
-  counted = omega (arith, first.counted, then.counted, length-append first.records then.records);
-  given = both_given a b c first.records then.records first.given then.given;
-}
 
 -- ---- captures
 

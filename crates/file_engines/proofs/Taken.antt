@@ -15,7 +15,6 @@ use Rattle.path_merge.specs.Frames.{Holds, State, frames_of, joined_frames}
 use Rattle.path_merge.specs.Opening.{Opening as Opened}
 use Rattle.path_merge.specs.Took.{TakesDue}
 use Rattle.path_merge.proofs.Frames.{frames_of-append}
-use Rattle.path_merge.proofs.TurnLemmas.{SoFar}
 use Rattle.file_engines.specs.Taking.{AreAll, HoldsBy, TakesAllDue, TakesFile, TakesFirst}
 use Rattle.file_engines.specs.Taking.{TakesRecords, capture_datagrams, datagrams_behind}
 use Rattle.file_engines.specs.declared.receive.Opening.{Opening}
@@ -23,21 +22,13 @@ use Rattle.file_engines.specs.declared.session.Session.{Session}
 
 -- ---- turns
 
-all_given : (old now : Option (List Due)) (due : List Due) → GivesTurns old now due
+-- at the end, all turns were given
+pub all_given : (old now : Option (List Due)) (due : List Due) → GivesTurns old now due
     → HasEnded now → AreAll old due
 all_given None now due given ended = tt
 all_given (Some a) None due given ended = absurd given
 all_given (Some a) (Some b) due given ended = given ∙ ap (λ (l : List Due). due ++ l) ended
     ∙ append-nil due
-
--- at the end, all turns were taken
-pub all_taken : (k n : ℕ) (old now : Option (List Due)) (s t : State) → SoFar k n old now s t
-    → HasEnded now → TakesAllDue n old s t
-all_taken k n old now s t so_far ended = record {
-  due = so_far.due;
-  all = all_given old now so_far.due so_far.given ended;
-  taken = so_far.taken;
-}
 
 -- ---- records
 

@@ -1,7 +1,6 @@
 -- Which refusal ends a run of `receive` (own).
 use Rattle.std.specs.Prelude.{◌≡◌, ℕ, ◌⊎◌, List, [], ◌∷◌, ◌++◌, length, MatchOption}
 use Rattle.std.specs.Prelude.{Option, None, Some, Ok, Err}
-use Rattle.std.specs.Io.KnownBytes.{Consumes}
 use Rattle.capture_file.specs.Fronts.{front_at}
 use Rattle.capture_file.specs.Reading.{fault_at}
 use Rattle.capture_file.specs.Records.{AllFit, Entry, records_text}
@@ -81,13 +80,6 @@ HasCaptureFault octets f = (front_at octets ≡ Err f)
 abbrev pub IsFileRefusal : (List ℕ → FileFault → Type 0) → Option (List ℕ) → Refusal → Type 0
 IsFileRefusal Has told (refusal.Capture f) = (octets : List ℕ) → told ≡ Some octets → Has octets f
 IsFileRefusal Has told r = ⊥
-
--- a source gave so many records
-pub record GivesRecords (count : ℕ) (old new : Option (List ℕ)) : Type 0 where
-  pub records : List Entry
-  pub fit : AllFit records
-  pub counted : length records ≡ count
-  pub given : Consumes old new (records_text records)
 
 -- ---- captures
 

@@ -3,9 +3,7 @@ use Rattle.std.specs.Prelude.{◌≡◌, ℕ, ◌+◌, ◌-◌, ◌^◌, min, Li
 use Rattle.std.specs.Prelude.{Option, None, Some, Result, Ok, Err}
 use Rattle.std.specs.List.{flat_map}
 use Rattle.std.specs.Io.KnownBytes.{Appends}
-use Rattle.st_format.specs.Turns.{Due, HasEnded, TakesTurn, datagrams_of}
-use Rattle.st_format.specs.declared.device.Turn.TheVariants.{Datagram}
-use Rattle.st_format.specs.declared.path.Path.{Path}
+use Rattle.st_format.specs.Turns.{Due, datagrams_of}
 use Rattle.capture_file.specs.Fronts.{front_at}
 use Rattle.capture_file.specs.Reader.{dues_in}
 use Rattle.capture_file.specs.StateFile.{state_text}
@@ -34,11 +32,6 @@ AllTell to_give (s ∷ ss) [] = ⊥
 AllTell to_give (s ∷ ss) (o ∷ os) = (to_give s ≡ Some o) × AllTell to_give ss os
 
 -- ---- one capture
-
--- the next turn was a datagram, or there was none
-abbrev pub TakesRecord : Option (List Due) → Option (List Due) → Option (Path × ℕ) → List ℕ → Type 0
-TakesRecord old new None buf = HasEnded old
-TakesRecord old new (Some p) buf = TakesTurn old new (Datagram p.0 p.1) buf
 
 -- these are all turns to come, where they are told
 abbrev pub AreAll : Option (List Due) → List Due → Type 0

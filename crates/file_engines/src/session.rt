@@ -1,23 +1,24 @@
 //! Taking the datagrams of captures into one receiver.
-ghost use Rattle.std.specs.Prelude.{◌≡◌, ◌≤◌, ◌<◌, ◌∷◌, [], Some, length, IfErr, IfOk, IfSome};
-ghost use Rattle.std.specs.Prelude.{OnOk};
-ghost use Rattle.capture_file.specs.Reader.{turns_of};
-ghost use Rattle.capture_file.specs.Reading.{fault_at};
-ghost use Rattle.capture_file.specs.declared.reader.Standing.TheVariants.{Reads};
+ghost use Rattle.std.specs.Prelude.{◌≡◌, ◌≤◌, ◌+◌, ◌-◌, ◌^◌, ◌∷◌, [], Ok, Err, true, false, length};
+ghost use Rattle.std.specs.Prelude.{min, IfErr, IfOk, OnOk};
+ghost use Rattle.capture_file.specs.Reader.{IsNewReader, source_fault};
+ghost use Rattle.capture_file.specs.declared.fault.FileFault.{FileFault};
+ghost use Rattle.capture_file.specs.declared.fault.FileFault.TheVariants.{TooManyRecords};
 ghost use Rattle.file_engines.specs.Fault.{Accounts, counts};
-ghost use Rattle.file_engines.specs.Received.{GivesRecords, HasRecordFault, IsFileRefusal};
-ghost use Rattle.file_engines.specs.Received.{IsOpeningRefusal};
-ghost use Rattle.file_engines.specs.Receiving.{told_fault};
+ghost use Rattle.file_engines.specs.LowerFaults.{capture_fault};
+ghost use Rattle.file_engines.specs.Received.{HasRecordFault, IsFileRefusal, IsOpeningRefusal};
 ghost use Rattle.file_engines.specs.Refusing.{OfRefusal};
-ghost use Rattle.file_engines.specs.Taking.{TakesAllDue, TakesRecord, TakesRecords};
+ghost use Rattle.file_engines.specs.Taking.{TakesRecords};
+ghost use Rattle.path_merge.specs.declared.receiving.ReceiveFault.{ReceiveFault};
+ghost use Rattle.path_merge.specs.declared.receiving.Received.{Received};
 ghost use Rattle.path_merge.specs.Frames.{Holds};
 
-use crate::fault::{Fault, Refusal, of_capture};
+use crate::fault::{Fault, of_capture};
 use crate::tally::Tally;
 use capture_file::{CaptureReader, FileFault};
-use path_merge::Receiver;
+use path_merge::{ReceiveFault, Received, Receiver, receive_each};
 use sdp_format::read_sdp;
-use st_format::{ByteSource, DatagramSource, Path, SourceFault, Turn};
+use st_format::{ByteSource, SourceFault};
 use std::alloc::Allocator;
 
 /// The greatest number of turns of one capture (own).
@@ -59,8 +60,8 @@ impl<A: Allocator + Copy> Session<A> {
 }
 
 impl<A: Allocator> Session<A> {
-    /// Takes all datagrams of a capture, from where its reader stands to its end, and gives its
-    /// source back.
+    /// Takes all datagrams of a capture whose reader has just been opened, and gives its source
+    /// back.
     ///
     /// A capture that has not ended after 16,777,216 turns is refused, and so is one that is at
     /// fault; what it delivered before is taken.
@@ -70,7 +71,9 @@ impl<A: Allocator> Session<A> {
         buf: &mut [u8],
     ) -> (S, Result<(), Fault>)
         requires room { 65535 ≤ length buf.old }
-        requires reads { reader.standing ≡ Reads }
+        requires new { IsNewReader reader }
+        requires before { reader.before
+            ≡ record { to_give = S.to_give reader.source; failures = S.failures reader.source } }
         ensures room { length buf.new ≡ length buf.old }
         ensures taken { OnOk result.1 (TakesRecords (S.to_give reader.source) self.old self.new) }
         ensures refusal { IfErr result.1 (λ f. OfRefusal f
@@ -78,82 +81,47 @@ impl<A: Allocator> Session<A> {
         ensures failures { Accounts result.1 (counts (S.failures reader.source)
             (S.failures result.0) ∷ []) }
     {
-        match take_records(&mut reader, &mut self.receiver, &mut self.tally, buf) {
-            Ok(delivered) => {
-                self.delivered = self.delivered.saturating_add(delivered);
-                (reader.into_inner(), Ok(()))
+        let received = receive_each(&mut reader, &mut self.receiver, buf, TURNS, &mut self.tally);
+        let outcome = self.count(received);
+        (reader.into_inner(), outcome)
+    }
+
+    /// Counts what a capture delivered. One that has not ended, or is at fault, is refused.
+    fn count(&mut self, received: Result<Received, ReceiveFault>) -> Result<(), Fault>
+        ensures receiver { self.new.receiver ≡ self.old.receiver }
+        ensures tally { self.new.tally ≡ self.old.tally }
+        ensures ended { (r : Received) → received ≡ Ok r → r.ended ≡ true
+            → (result ≡ Ok tt)
+            × (self.new.delivered ≡ min (self.old.delivered + r.delivered) (2 ^ 64 - 1)) }
+        ensures many { (r : Received) → received ≡ Ok r → r.ended ≡ false
+            → result ≡ Err (capture_fault TooManyRecords) }
+        ensures fault { (e : ReceiveFault) (f : FileFault) → received ≡ Err e
+            → e.fault ≡ source_fault f → result ≡ Err (capture_fault f) }
+    {
+        match received {
+            Ok(received) => {
+                if !received.ended {
+                    return Err(of_capture(FileFault::TooManyRecords));
+                }
+                self.delivered = self.delivered.saturating_add(received.delivered);
+                Ok(())
             }
-            Err(fault) => (reader.into_inner(), Err(fault)),
+            Err(failed) => Err(reader_fault(failed.fault)),
         }
-    }
-}
-
-/// Gives a receiver the datagrams of a capture up to its end, counts its answers, and answers how
-/// many they are.
-fn take_records<S: ByteSource, A: Allocator>(
-    reader: &mut CaptureReader<S>,
-    receiver: &mut Receiver<A>,
-    tally: &mut Tally,
-    buf: &mut [u8],
-) -> Result<u64, Fault>
-    requires room { 65535 ≤ length buf.old }
-    requires reads { reader.old.standing ≡ Reads }
-    ensures room { length buf.new ≡ length buf.old }
-    ensures taken { IfOk result (λ n. TakesAllDue n
-        (turns_of reader.old.standing (S.to_give reader.old.source)) receiver.old receiver.new) }
-    ensures refusal { IfErr result (λ f. OfRefusal f
-        (IsFileRefusal HasRecordFault (S.to_give reader.old.source))) }
-    ensures failures { Accounts result (counts (S.failures reader.old.source)
-        (S.failures reader.new.source) ∷ []) }
-{
-    receiver.facts();
-    let mut delivered = 0;
-    for _ in 0..TURNS {
-        let Some((path, count)) = next_record(reader, buf)? else {
-            return Ok(delivered);
-        };
-        tally.note(receiver.take(path, &buf[..count]));
-        delivered += 1;
-    }
-    Err(of_capture(FileFault::TooManyRecords))
-}
-
-/// The path and the length of the next record's datagram, which then stands at the front of `buf`,
-/// or none at the end.
-fn next_record<S: ByteSource>(
-    reader: &mut CaptureReader<S>,
-    buf: &mut [u8],
-) -> Result<Option<(Path, usize)>, Fault>
-    requires room { 65535 ≤ length buf.old }
-    requires reads { reader.old.standing ≡ Reads }
-    ensures room { length buf.new ≡ length buf.old }
-    ensures within { IfOk result (λ r. IfSome r (λ p. p.1 < 65536)) }
-    ensures reads { IfOk result (λ r. IfSome r (λ _. reader.new.standing ≡ Reads)) }
-    ensures taken { IfOk result (λ r. TakesRecord
-        (turns_of reader.old.standing (S.to_give reader.old.source))
-        (turns_of reader.new.standing (S.to_give reader.new.source)) r buf.new) }
-    ensures given { IfOk result (λ r. IfSome r (λ _. GivesRecords 1
-        (S.to_give reader.old.source) (S.to_give reader.new.source))) }
-    ensures refusal { IfErr result (λ f. OfRefusal f (IsFileRefusal
-        (λ octets e. fault_at octets ≡ Some e) (S.to_give reader.old.source))) }
-    ensures failures { Accounts result (counts (S.failures reader.old.source)
-        (S.failures reader.new.source) ∷ []) }
-{
-    match reader.next(buf) {
-        Ok(Turn::Datagram(path, count)) => Ok(Some((path, count))),
-        Ok(Turn::Quiet) => Ok(None),
-        Ok(Turn::End) => Ok(None),
-        Err(fault) => Err(reader_fault(fault)),
     }
 }
 
 /// A fault that a reader of a capture told.
 fn reader_fault(fault: SourceFault) -> Fault
-    ensures { result ≡ told_fault fault }
+    ensures { (f : FileFault) → fault ≡ source_fault f → result ≡ capture_fault f }
 {
-    match fault {
-        SourceFault::Device => Fault::Device,
-        SourceFault::Content(6) => Fault::Refused(Refusal::Capture(FileFault::BadField)),
-        SourceFault::Content(_) => Fault::Refused(Refusal::Capture(FileFault::Truncated)),
+    let number = match fault {
+        SourceFault::Device => return Fault::Device,
+        SourceFault::Content(number) => number,
+    };
+    match FileFault::of_number(number) {
+        Some(fault) => of_capture(fault),
+        // No reader tells such a number.
+        None => Fault::Device,
     }
 }

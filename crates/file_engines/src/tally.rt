@@ -4,7 +4,7 @@ ghost use Rattle.std.specs.List.{AllByRecursion};
 ghost use Rattle.file_engines.specs.Tallied.{tally_after};
 ghost use Rattle.std.specs.Prelude.{Err};
 
-use path_merge::{Refusal, Taken};
+use path_merge::{Observer, Refusal, Taken};
 use payload_header::PayloadFault;
 use rtp_header::RtpFault;
 
@@ -47,22 +47,26 @@ impl Tally {
         }
     }
 
-    /// Counts an answer: of the count that is its own one more, as long as that fits.
-    pub fn note(&mut self, answer: Result<Taken, Refusal>)
-        ensures { self.new ≡ tally_after answer self.old }
-    {
-        match answer {
-            Ok(Taken::Kept(_)) => {}
-            Ok(Taken::Outside) => self.outside = self.outside.saturating_add(1),
-            Err(refusal) => self.note_refusal(refusal),
-        }
-    }
-
     /// Counts a datagram that was refused.
     fn note_refusal(&mut self, refusal: Refusal)
         ensures { self.new ≡ tally_after (Err refusal) self.old }
     {
         let place = usize::from(refusal.number()) - 1;
         self.refused[place] = self.refused[place].saturating_add(1);
+    }
+}
+
+impl Observer for Tally {
+    ghost use Rattle.file_engines.specs.Tallied.{tally_after};
+
+    ghost after = { λ tally answer. tally_after answer tally };
+
+    /// Counts an answer: of the count that is its own one more, as long as that fits.
+    fn note(&mut self, answer: Result<Taken, Refusal>) {
+        match answer {
+            Ok(Taken::Kept(_)) => {}
+            Ok(Taken::Outside) => self.outside = self.outside.saturating_add(1),
+            Err(refusal) => self.note_refusal(refusal),
+        }
     }
 }
