@@ -1,5 +1,6 @@
 -- What a receiver has of the turns of a source.
-use Rattle.std.proofs.Common.{◌≡◌, ℕ, zero, suc, ◌+◌, ◌-◌, ◌^◌, ◌≤◌, min, List, [], ◌∷◌, ◌++◌}
+use Rattle.std.proofs.Common.{◌≡◌, ℕ, zero, suc, ◌+◌, ◌-◌, ◌^◌, ◌≤◌, ◌<◌, min, Bool, true, false}
+use Rattle.std.proofs.Common.{List, [], ◌∷◌, ◌++◌}
 use Rattle.std.proofs.Common.{fold, length, map, take, drop, Option, Some, None, Result, Ok, Err}
 use Rattle.std.proofs.Common.{MatchResult, refl, sym, ap, ◌∙◌, subst, arith}
 use Rattle.std.specs.List.{AllByRecursion, flat_map}
@@ -16,7 +17,8 @@ use Rattle.st_format.specs.Device.{CountsOne}
 use Rattle.st_format.specs.Member.{SameDatagrams}
 use Rattle.st_format.specs.Position.{sample_count}
 use Rattle.st_format.specs.Raster.{Raster, IsWhole, cells_of, joined_cells, raster_of}
-use Rattle.st_format.specs.Turns.{Due, Comes, Nothing, GivesTurns, TakesTurn, datagrams_of}
+use Rattle.st_format.specs.Turns.{Due, Comes, Nothing, GivesTurns, HasEnded, TakesTurn}
+use Rattle.st_format.specs.Turns.{datagrams_of}
 use Rattle.st_format.proofs.Rasters.{joined_none}
 use Rattle.path_merge.specs.declared.answer.Refusal.{Refusal}
 use Rattle.path_merge.specs.declared.answer.Taken.{Taken}
@@ -281,6 +283,60 @@ quiet_heard after k n buf old mid new s t was is so turn = record {
   so_far = quiet_taken k n buf old mid new s t so.so_far turn;
   heard = so.heard ∙ ap (fold after was) (sym (answers_quiet s.opening so.so_far.due));
 }
+
+-- up to the limit
+pub heard_limit : {O : Type 0} (after : O → Result Taken Refusal → O) (limit k n : ℕ)
+    (old now : Option (List Due)) (s t : State) (was is : O) → Heard after k n old now s t was is
+    → limit ≤ k → k ≤ limit
+    → (took : Took limit (record { delivered = n; ended = false }) old now s t)
+    × HearsAll after s.opening took.due was is
+heard_limit after limit k n old now s t was is so most least = (
+  record {
+    due = so.so_far.due;
+    given = so.so_far.given;
+    turns = omega (arith, so.so_far.turns, most, least);
+    ended = λ not. absurd (never not);
+    taken = so.so_far.taken;
+  },
+  so.heard,
+)
+  where
+    never : (let none : Bool = false in none ≡ true) → ⊥
+    never not = cc
+
+-- up to the end
+pub heard_end : {O : Type 0} (after : O → Result Taken Refusal → O) (limit k n : ℕ)
+    (old mid new : Option (List Due)) (s t : State) (was is : O)
+    → Heard after k n old mid s t was is → k < limit → GivesTurns mid new [] → HasEnded new
+    → (took : Took limit (record { delivered = n; ended = true }) old new s t)
+    × HearsAll after s.opening took.due was is
+heard_end after limit k n old mid new s t was is so below given end = (
+  record {
+    due = so.so_far.due;
+    given = subst (λ (due : List Due). GivesTurns old new due) (append-nil so.so_far.due)
+        (gives_more so.so_far.due [] old mid new so.so_far.given given);
+    turns = omega (arith, so.so_far.turns, below);
+    ended = λ _. end;
+    taken = so.so_far.taken;
+  },
+  so.heard,
+)
+
+-- up to a fault
+pub heard_fault : {O : Type 0} (after : O → Result Taken Refusal → O) (limit k n : ℕ)
+    (old now : Option (List Due)) (s t : State) (was is : O) → Heard after k n old now s t was is
+    → k < limit
+    → (took : TookUpTo limit n old s t) × HearsAll after s.opening took.due was is
+heard_fault after limit k n old now s t was is so below = (
+  record {
+    due = so.so_far.due;
+    rest = now;
+    given = so.so_far.given;
+    turns = omega (arith, so.so_far.turns, below);
+    taken = so.so_far.taken;
+  },
+  so.heard,
+)
 
 -- ---- counts
 

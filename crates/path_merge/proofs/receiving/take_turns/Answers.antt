@@ -3,7 +3,8 @@ use Rattle.st_format.specs.Turns.{CountsTurn, TakesTurn}
 use Rattle.st_format.specs.declared.device.Turn.{Turn}
 use Rattle.path_merge.specs.Took.{CountsAll}
 use Rattle.path_merge.proofs.TurnLemmas.{counts_none, counts_more, datagram_heard}
-use Rattle.path_merge.proofs.TurnLemmas.{nothing_heard, quiet_heard}
+use Rattle.path_merge.proofs.TurnLemmas.{heard_end, heard_fault, heard_limit, nothing_heard}
+use Rattle.path_merge.proofs.TurnLemmas.{quiet_heard}
 use Rattle.path_merge.proofs.receiving.take_turns.Goals as goal
 
 pub loop-init : goal.loop-init
@@ -83,3 +84,29 @@ loop-preserved g c =
       names = w.ensures.names ∙ before.names;
       failures = w.ensures.counted ∙ before.failures;
     }
+
+pub returns-in-Ok-End-clause-heard : goal.returns-in-Ok-End-clause-heard
+returns-in-Ok-End-clause-heard g c =
+    let turns = g.S.DatagramSource.turns in
+    let turn =
+    subst (λ (t : Turn). TakesTurn (turns c.loop.source)
+    (turns c.next.new.self) t c.next.new.buf) c.in-Ok-End.field-0-is c.in-Ok-End.ensures.turn in
+    heard_end g.O.Observer.after c.args.limit c.loop.counter c.loop.delivered
+    (turns c.args.source.now) (turns c.loop.source) (turns c.next.new.self) c.args.receiver.now
+    c.loop.receiver c.args.observer.now c.loop.observer c.loop.invariant.so_far c.loop-test.true
+    turn.0 turn.2
+
+pub returns-in-Err-clause-heard : goal.returns-in-Err-clause-heard
+returns-in-Err-clause-heard g c =
+    let turns = g.S.DatagramSource.turns in
+    heard_fault g.O.Observer.after c.args.limit c.loop.counter c.loop.delivered
+    (turns c.args.source.now) (turns c.loop.source) c.args.receiver.now
+    c.loop.receiver c.args.observer.now c.loop.observer c.loop.invariant.so_far c.loop-test.true
+
+pub returns-clause-heard : goal.returns-clause-heard
+returns-clause-heard g c =
+    let turns = g.S.DatagramSource.turns in
+    heard_limit g.O.Observer.after c.args.limit c.loop.counter c.loop.delivered
+    (turns c.args.source.now) (turns c.loop.source) c.args.receiver.now
+    c.loop.receiver c.args.observer.now c.loop.observer c.loop.invariant.so_far c.loop-test.false
+    c.loop.auto.counter-end
