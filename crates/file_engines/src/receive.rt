@@ -21,7 +21,7 @@ use crate::fault::{Fault, Refusal, of_capture};
 use crate::line::Line;
 use crate::printing::{print, print_frames};
 use crate::session::Session;
-use crate::tally::{REFUSALS, Tally};
+use crate::tally::{Tally, refusal_at};
 use crate::telling::end;
 use crate::text::{read_text, room};
 use capture_file::CaptureReader;
@@ -384,10 +384,10 @@ fn print_tally<A: Allocator, O: ByteSink>(
     ensures failures { Accounts result (counts (O.failures output.old) (O.failures output.new)
         ∷ []) }
 {
-    for place in 0..REFUSALS.len() {
+    for place in 0..tally.refused.len() {
         let count = tally.refused[place];
         if count > 0 {
-            print(Line::Refused(REFUSALS[place], count), output, text)?;
+            print(Line::Refused(refusal_at(place), count), output, text)?;
         }
     }
     if tally.outside > 0 {
