@@ -9,7 +9,7 @@ ghost use Rattle.file_engines.specs.Received.{GivesRecords, HasRecordFault, IsFi
 ghost use Rattle.file_engines.specs.Received.{IsOpeningRefusal};
 ghost use Rattle.file_engines.specs.Receiving.{told_fault};
 ghost use Rattle.file_engines.specs.Refusing.{OfRefusal};
-ghost use Rattle.file_engines.specs.Taking.{TakesAllDue, TakesRecord, TakesRecords};
+ghost use Rattle.file_engines.specs.Taking.{Announces, TakesAllDue, TakesRecord, TakesRecords};
 ghost use Rattle.path_merge.specs.Frames.{Holds};
 
 use crate::fault::{Fault, Refusal, of_capture};
@@ -42,6 +42,8 @@ impl<A: Allocator + Copy> Session<A> {
     ) -> Result<Session<A>, Fault>
         ensures window { IfOk result (λ s. s.receiver.opening.window ≡ window.now) }
         ensures ssrc { IfOk result (λ s. s.receiver.opening.ssrc ≡ ssrc) }
+        // Its format and its payload type are those that the text says.
+        ensures announced { IfOk result (λ s. Announces sdp.now s.receiver.opening) }
         ensures holds { IfOk result (λ s. Holds s.receiver []) }
         ensures delivered { IfOk result (λ s. s.delivered ≡ 0) }
         ensures refusal { IfErr result (λ f. OfRefusal f
