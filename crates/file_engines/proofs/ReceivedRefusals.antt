@@ -71,3 +71,10 @@ none_started k start before now (inl started) all none =
     empty [] is = refl
     empty (x ∷ xs) is = absurd (omega arith)
 none_started k start before now (inr started) all none = absurd (started none)
+
+-- a refusal of the captures where none has begun is one where no SDP is given
+pub captures_refused : {S X Y : Type 0} (window : List ℕ) (begun : Option X) (sdp : Option Y)
+    (f : S → Option (List ℕ)) (captures : List S) → (begun ≡ None → sdp ≡ None) → (r : Refusal)
+    → IsCapturesRefusal window begun f captures r → IsCapturesRefusal window sdp f captures r
+captures_refused window begun sdp f captures none (why.Capture e) is = is
+captures_refused window begun sdp f captures none r is = (none is.0, is.1)

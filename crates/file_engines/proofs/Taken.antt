@@ -15,8 +15,9 @@ use Rattle.path_merge.specs.Frames.{Holds, State, frames_of, joined_frames}
 use Rattle.path_merge.specs.Opening.{Opening as Opened}
 use Rattle.path_merge.specs.Took.{TakesDue}
 use Rattle.path_merge.proofs.Frames.{frames_of-append}
-use Rattle.file_engines.specs.Taking.{AreAll, HoldsBy, TakesAllDue, TakesFile, TakesFirst}
-use Rattle.file_engines.specs.Taking.{TakesRecords, capture_datagrams, datagrams_behind}
+use Rattle.file_engines.specs.Taking.{Announces, AreAll, HoldsBy, Stands, TakesAllDue, TakesFile}
+use Rattle.file_engines.specs.Taking.{TakesFirst, TakesRecords, capture_datagrams, capture_said}
+use Rattle.file_engines.specs.Taking.{datagrams_behind, said_before, said_behind}
 use Rattle.file_engines.specs.declared.receive.Opening.{Opening}
 use Rattle.file_engines.specs.declared.session.Session.{Session}
 
@@ -75,37 +76,65 @@ front_gives told (Some rest) text octets gives is =
     (rest, refl, subst (λ (t : Option (List ℕ)). Takes front_at t (Some rest) text) is gives)
 
 holds_by : {A : Type 0} (o : Opening A) (b a : Session A) (told left : Option (List ℕ))
-    (text octets : List ℕ) (ds : List (List ℕ)) → Takes front_at told left text
+    (text octets said : List ℕ) (ds : List (List ℕ)) → Takes front_at told left text
     → TakesRecords left b a → told ≡ Some octets
-    → HoldsBy o b ds → HoldsBy o a (ds ++ capture_datagrams octets)
-holds_by o b a told left text octets ds gives taken is holds =
+    → HoldsBy o said b ds → HoldsBy o said a (ds ++ capture_datagrams octets)
+holds_by o b a told left text octets said ds gives taken is holds =
     let f : (rest : List ℕ) × (left ≡ Some rest) × (front_at octets ≡ Ok (text, rest)) = front_gives
     told left text octets gives is in
     let more : List (List ℕ) = datagrams_of (dues_in f.0) in
     let same : capture_datagrams octets ≡ more = ap datagrams_behind f.2 in
     let count : a.delivered ≡ min (b.delivered + length more) (2 ^ 64 - 1) = taken.delivered f.0 f.1
     in
-    subst (λ (xs : List (List ℕ)). HoldsBy o a (ds ++ xs)) (sym same) (record {
+    subst (λ (xs : List (List ℕ)). HoldsBy o said a (ds ++ xs)) (sym same) (record {
       window = ap (λ (p : Opened). p.window) taken.opening ∙ holds.window;
       ssrc = ap (λ (p : Opened). p.ssrc) taken.opening ∙ holds.ssrc;
+      announced = subst (λ (p : Opened). Announces said p) (sym taken.opening) holds.announced;
       holds = taken.holds f.0 ds f.1 holds.holds;
       delivered = omega (arith, count, holds.delivered, length-append ds more);
     })
+
+-- so a session that had begun by a text stands by it
+stands_by : {A : Type 0} (o : Opening A) (b a : Session A) (told left : Option (List ℕ))
+    (text octets : List ℕ) (said : Option (List ℕ)) (ds : List (List ℕ))
+    → Takes front_at told left text → TakesRecords left b a → told ≡ Some octets
+    → Stands o (Some b) said ds
+    → Stands o (Some a) (said_behind said (octets ∷ [])) (ds ++ capture_datagrams octets)
+stands_by o b a told left text octets None ds gives taken is stands = absurd stands
+stands_by o b a told left text octets (Some said) ds gives taken is stands =
+    holds_by o b a told left text octets said ds gives taken is stands
+
+-- one that began with the capture stands by the capture's text
+begun_by : {A : Type 0} (o : Opening A) (b a : Session A) (told left : Option (List ℕ))
+    (text octets : List ℕ) (said : Option (List ℕ)) (ds : List (List ℕ))
+    → Takes front_at told left text → TakesRecords left b a → told ≡ Some octets
+    → HoldsBy o text b [] → Stands o None said ds
+    → Stands o (Some a) (said_behind said (octets ∷ [])) (ds ++ capture_datagrams octets)
+begun_by o b a told left text octets (Some said) ds gives taken is begun stands = absurd stands
+begun_by o b a told left text octets None ds gives taken is begun stands =
+    let f : (rest : List ℕ) × (left ≡ Some rest) × (front_at octets ≡ Ok (text, rest)) = front_gives
+    told left text octets gives is in
+    let same : capture_said octets ≡ text = ap said_before f.2 in
+    subst (λ (t : List ℕ). HoldsBy o t a (ds ++ capture_datagrams octets)) (sym same)
+    (holds_by o b a told left text octets text ds gives taken is
+    (subst (λ (xs : List (List ℕ)). HoldsBy o text b xs) (sym stands) begun))
 
 -- by a session that had begun
 pub file_taken : {A : Type 0} (o : Opening A) (b a : Session A) (told left : Option (List ℕ))
     (text : List ℕ) → Takes front_at told left text → TakesRecords left b a
     → TakesFile o told (Some b) (Some a)
-file_taken o b a told left text gives taken = record
-    { stands = λ octets ds is holds. holds_by o b a told left text octets ds gives taken is holds }
+file_taken o b a told left text gives taken = record {
+  stands = λ octets said ds is stands.
+      stands_by o b a told left text octets said ds gives taken is stands;
+}
 
 -- by one that began with it
 pub first_taken : {A : Type 0} (o : Opening A) (b a : Session A) (told left : Option (List ℕ))
-    (text : List ℕ) → Takes front_at told left text → TakesRecords left b a → HoldsBy o b []
+    (text : List ℕ) → Takes front_at told left text → TakesRecords left b a → HoldsBy o text b []
     → TakesFile o told None (Some a)
 first_taken o b a told left text gives taken begun = record {
-  stands = λ octets ds is none. holds_by o b a told left text octets ds gives taken is
-      (subst (λ (xs : List (List ℕ)). HoldsBy o b xs) (sym none) begun);
+  stands = λ octets said ds is stands.
+      begun_by o b a told left text octets said ds gives taken is begun stands;
 }
 
 -- the capture was taken out of a list, and its source then stands last
@@ -120,7 +149,7 @@ takes_first o f (z ∷ zs) ys x y b a some is new taken = record {
   old_is = refl;
   new_is = new;
   taken = record {
-    stands = λ octets ds told stands. taken.stands octets ds (ap f is ∙ told) stands;
+    stands = λ octets said ds told stands. taken.stands octets said ds (ap f is ∙ told) stands;
   };
 }
 
@@ -136,7 +165,7 @@ file_taken_if o begun b a told left text (Err e) is gives taken = tt
 
 pub first_taken_if : {A V E : Type 0} (o : Opening A) (begun : Option (Session A)) (b a : Session A)
     (told left : Option (List ℕ)) (text : List ℕ) (r : Result V E) → begun ≡ None
-    → Takes front_at told left text → HoldsBy o b [] → OnOk r (TakesRecords left b a)
+    → Takes front_at told left text → HoldsBy o text b [] → OnOk r (TakesRecords left b a)
     → OnOk r (TakesFile o told begun (Some a))
 first_taken_if {A = A} o begun b a told left text (Ok v) is gives opened taken = subst
     (λ (s : Option (Session A)). TakesFile o told s (Some a)) (sym is)

@@ -10,7 +10,7 @@ ghost use Rattle.file_engines.specs.Received.{IsWordRefusal};
 ghost use Rattle.file_engines.specs.Receiving.{Saves, failures_in};
 ghost use Rattle.file_engines.specs.Refusing.{OfRefusal, TellsRefusal};
 ghost use Rattle.file_engines.specs.Sent.{FirstIs};
-ghost use Rattle.file_engines.specs.Taking.{HoldsBy, Receives, Stands, TakesFile};
+ghost use Rattle.file_engines.specs.Taking.{Begins, HoldsBy, OpensBy, Receives, TakesFile};
 ghost use Rattle.file_engines.specs.Taking.{TakesFiles, TakesFirst};
 ghost use Rattle.receiver_file.specs.Saved.{kept_of};
 ghost use Rattle.tool_text.specs.Sources.{IsSourceText};
@@ -21,7 +21,7 @@ use crate::fault::{Fault, Refusal, of_capture};
 use crate::line::Line;
 use crate::printing::{print, print_frames};
 use crate::session::Session;
-use crate::tally::{REFUSALS, Tally};
+use crate::tally::{Tally, refusal_at};
 use crate::telling::end;
 use crate::text::{read_text, room};
 use capture_file::CaptureReader;
@@ -94,8 +94,9 @@ where
         ∷ counts (F.failures faults.old) (F.failures faults.new) ∷ []) }
     ensures saved { result ≡ 0 → Saves (K.held state.old) (K.held state.new) }
     // Where the captures tell their octets, what is written is the file of a receiver of the window
-    // and the source that are asked for, which holds the Frames of all their datagrams.
-    ensures taken { result ≡ 0 → Receives wanted.entry.window.now wanted.entry.ssrc.now
+    // and the source that are asked for, and of the format and the payload type that the SDP text
+    // says, which holds the Frames of all their datagrams.
+    ensures taken { result ≡ 0 → Receives wanted.entry.window.now wanted.entry.ssrc.now sdp.old
         S.to_give captures.old.items (K.held state.old) (K.held state.new) }
     ensures refused { result ≡ 1 → state.new ≡ state.old }
     // At status 1 a refusal of the words or the files was told by its line.
@@ -128,7 +129,7 @@ where
     K: ByteSink,
     O: ByteSink,
     ensures saved { OnOk result (Saves (K.held state.old) (K.held state.new)) }
-    ensures taken { OnOk result (Receives wanted.entry.window.now wanted.entry.ssrc.now
+    ensures taken { OnOk result (Receives wanted.entry.window.now wanted.entry.ssrc.now sdp.old
         S.to_give captures.old.items (K.held state.old) (K.held state.new)) }
     ensures refused { IfErr result (λ f. IfRefused f (state.new ≡ state.old)) }
     ensures refusal { IfErr result (λ f. OfRefusal f (IsReceiveRefusal wanted.entry.window.now
@@ -187,7 +188,7 @@ fn begin<A: Allocator + Copy, S: ByteSource>(
     opening: &Opening<A>,
     sdp: &mut Option<S>,
 ) -> Result<Option<Session<A>>, Fault>
-    ensures begun { IfOk result (λ begun. Stands opening.now begun []) }
+    ensures begun { IfOk result (λ begun. Begins opening.now S.to_give sdp.old begun) }
     ensures none { IfOk result (λ begun. begun ≡ None → sdp.old ≡ None) }
     ensures refusal { IfErr result (λ f. OfRefusal f (λ r. MatchOption sdp.old ⊥
         (λ s. IsGivenRefusal opening.now.window.items (S.to_give s) r))) }
@@ -209,7 +210,7 @@ fn open_by_sdp<A: Allocator + Copy, S: ByteSource>(
     opening: &Opening<A>,
     source: &mut S,
 ) -> Result<Session<A>, Fault>
-    ensures opened { IfOk result (λ s. HoldsBy opening.now s []) }
+    ensures opened { IfOk result (λ s. OpensBy opening.now (S.to_give source.old) s) }
     ensures refusal { IfErr result (λ f. OfRefusal f
         (IsGivenRefusal opening.now.window.items (S.to_give source.old))) }
     ensures failures { Accounts result (counts (S.failures source.old) (S.failures source.new)
@@ -343,7 +344,7 @@ fn open_by_text<A: Allocator + Copy>(
     opening: &Opening<A>,
     said: &[u8],
 ) -> Result<Session<A>, Fault>
-    ensures opened { IfOk result (λ s. HoldsBy opening.now s []) }
+    ensures opened { IfOk result (λ s. HoldsBy opening.now said.now s []) }
     ensures refusal { IfErr result (λ f. OfRefusal f
         (IsFrontRefusal opening.now.window.items said.now)) }
     ensures failures { Accounts result [] }
@@ -383,10 +384,10 @@ fn print_tally<A: Allocator, O: ByteSink>(
     ensures failures { Accounts result (counts (O.failures output.old) (O.failures output.new)
         ∷ []) }
 {
-    for place in 0..REFUSALS.len() {
+    for place in 0..tally.refused.len() {
         let count = tally.refused[place];
         if count > 0 {
-            print(Line::Refused(REFUSALS[place], count), output, text)?;
+            print(Line::Refused(refusal_at(place), count), output, text)?;
         }
     }
     if tally.outside > 0 {

@@ -8,7 +8,7 @@ ghost use Rattle.file_engines.specs.Fault.{Accounts, counts};
 ghost use Rattle.file_engines.specs.LowerFaults.{capture_fault};
 ghost use Rattle.file_engines.specs.Received.{HasRecordFault, IsFileRefusal, IsOpeningRefusal};
 ghost use Rattle.file_engines.specs.Refusing.{OfRefusal};
-ghost use Rattle.file_engines.specs.Taking.{TakesRecords};
+ghost use Rattle.file_engines.specs.Taking.{Announces, TakesRecords};
 ghost use Rattle.path_merge.specs.declared.receiving.ReceiveFault.{ReceiveFault};
 ghost use Rattle.path_merge.specs.declared.receiving.Received.{Received};
 ghost use Rattle.path_merge.specs.Frames.{Holds};
@@ -43,6 +43,8 @@ impl<A: Allocator + Copy> Session<A> {
     ) -> Result<Session<A>, Fault>
         ensures window { IfOk result (λ s. s.receiver.opening.window ≡ window.now) }
         ensures ssrc { IfOk result (λ s. s.receiver.opening.ssrc ≡ ssrc) }
+        // Its format and its payload type are those that the text says.
+        ensures announced { IfOk result (λ s. Announces sdp.now s.receiver.opening) }
         ensures holds { IfOk result (λ s. Holds s.receiver []) }
         ensures delivered { IfOk result (λ s. s.delivered ≡ 0) }
         ensures refusal { IfErr result (λ f. OfRefusal f

@@ -1,15 +1,14 @@
 //! Counts of what a receiver answered.
-ghost use Rattle.std.specs.Prelude.{◌≡◌};
-ghost use Rattle.std.specs.List.{AllByRecursion};
-ghost use Rattle.file_engines.specs.Tallied.{tally_after};
-ghost use Rattle.std.specs.Prelude.{Err};
+ghost use Rattle.std.specs.Prelude.{◌≡◌, ◌+◌, ◌<◌, [], Err};
+ghost use Rattle.path_merge.specs.Answers.{refusal_number};
+ghost use Rattle.file_engines.specs.Tallied.{Tallies, TalliesMore, tally_after};
 
 use path_merge::{Observer, Refusal, Taken};
 use payload_header::PayloadFault;
 use rtp_header::RtpFault;
 
 /// All refusals, in the order of their numbers.
-pub(crate) const REFUSALS: [Refusal; 14] = [
+const REFUSALS: [Refusal; 14] = [
     Refusal::Header(RtpFault::ShortHeader),
     Refusal::Header(RtpFault::BadVersion),
     Refusal::Header(RtpFault::ShortExtension),
@@ -26,6 +25,14 @@ pub(crate) const REFUSALS: [Refusal; 14] = [
     Refusal::Payload(PayloadFault::ShortData),
 ];
 
+/// The refusal whose count stands at this place of a tally: that of the next number.
+pub(crate) fn refusal_at(place: usize) -> Refusal
+    requires { place < 14 }
+    ensures { refusal_number result ≡ place + 1 }
+{
+    REFUSALS[place]
+}
+
 /// How many datagrams were refused, for which reason, and how many had timestamps outside the
 /// window.
 #[derive(Drop)]
@@ -38,12 +45,22 @@ pub(crate) struct Tally {
 impl Tally {
     /// Nothing was counted.
     pub fn new() -> Tally
-        ensures refused { AllByRecursion (λ count. count ≡ 0) result.refused }
-        ensures outside { result.outside ≡ 0 }
+        ensures { Tallies result [] }
     {
         Tally {
             refused: [0; 14],
             outside: 0,
+        }
+    }
+
+    /// Counts an answer.
+    fn count(&mut self, answer: Result<Taken, Refusal>)
+        ensures { self.new ≡ tally_after answer self.old }
+    {
+        match answer {
+            Ok(Taken::Kept(_)) => {}
+            Ok(Taken::Outside) => self.outside = self.outside.saturating_add(1),
+            Err(refusal) => self.note_refusal(refusal),
         }
     }
 
@@ -62,11 +79,11 @@ impl Observer for Tally {
     ghost after = { λ tally answer. tally_after answer tally };
 
     /// Counts an answer: of the count that is its own one more, as long as that fits.
-    fn note(&mut self, answer: Result<Taken, Refusal>) {
-        match answer {
-            Ok(Taken::Kept(_)) => {}
-            Ok(Taken::Outside) => self.outside = self.outside.saturating_add(1),
-            Err(refusal) => self.note_refusal(refusal),
-        }
+    fn note(&mut self, answer: Result<Taken, Refusal>)
+        ensures after { self.new ≡ tally_after answer self.old }
+        // Of all answers that it counted, and this one, its counts are what they are to be.
+        ensures counted { TalliesMore self.old self.new answer }
+    {
+        self.count(answer)
     }
 }

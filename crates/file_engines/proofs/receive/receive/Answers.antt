@@ -1,8 +1,12 @@
+use Rattle.std.proofs.Common.{inr}
+use Rattle.std.proofs.lemmas.Result.{err_from_is_err_and}
 use Rattle.std.specs.Io.KnownBytes.{Appends}
 use Rattle.capture_file.specs.StateFile.{state_text}
 use Rattle.receiver_file.specs.Saved.{kept_of}
 use Rattle.file_engines.specs.Taking.{Receives}
 use Rattle.file_engines.proofs.Merged.{on_ok}
+use Rattle.file_engines.proofs.ReceivedRefusals.{captures_refused}
+use Rattle.file_engines.proofs.Refusals.{of_refusal_map}
 use Rattle.file_engines.proofs.Rotating.{receives}
 use Rattle.file_engines.proofs.receive.receive.Goals as goal
 
@@ -16,9 +20,24 @@ returns-clause-taken g c =
     let new = g.K.ByteSink.held c.save.new.state in
     let session = c.in_ok-session.session in
     on_ok c.save.result (Appends old new (state_text (kept_of session.receiver)))
-    (Receives window source to_give captures old new)
-    (receives c.in_ok-opening.opening window source to_give captures c.in_ok-begun.begun session old
-    new
+    (Receives window source c.args.sdp.now to_give captures old new)
+    (receives c.in_ok-opening.opening window source c.args.sdp.now to_give captures
+    c.in_ok-begun.begun session old new
     c.in_ok-opening.ensures.window c.in_ok-opening.ensures.source c.in_ok-begun.ensures.begun
     c.in_ok-session.ensures.taken)
     c.save.ensures.whole
+
+pub returns-in_err-session-clause-refusal : goal.returns-in_err-session-clause-refusal
+returns-in_err-session-clause-refusal g c =
+    let window = c.in_ok-opening.opening.window.items in
+    let p = err_from_is_err_and c.from_residual-in_err-session.result
+    c.from_residual-in_err-session.ensures.1 in
+    rw (p.1, p.2) (of_refusal_map c.in_err-session.field-0.0
+    (λ r is. inr (
+      window,
+      c.in_ok-opening.ensures.window,
+      inr (captures_refused window
+          c.in_ok-begun.begun c.args.sdp.now g.S.ByteSource.to_give c.args.captures.now.items
+          c.in_ok-begun.ensures.none r is),
+    ))
+    c.in_err-session.ensures.refusal)

@@ -2,7 +2,7 @@ use Rattle.std.proofs.Common.{arith, inl, inr, refl}
 use Rattle.std.proofs.lemmas.Result.{err_from_is_err_and}
 use Rattle.file_engines.proofs.ReceivedRefusals.{next_refuses, none_started}
 use Rattle.file_engines.proofs.Refusals.{of_refusal_map}
-use Rattle.file_engines.proofs.Rotating.{none_rotated, one_more}
+use Rattle.file_engines.proofs.Rotating.{all_rotated, none_rotated, one_more}
 use Rattle.file_engines.proofs.receive.take_all.Goals as goal
 
 pub loop-init : goal.loop-init
@@ -44,3 +44,9 @@ pub returns-clause-none : goal.returns-clause-none
 returns-clause-none g c = λ none.
     none_started c.loop.counter c.args.captures.now.items c.args.begun.now c.loop.begun
     c.loop.invariant.begun (omega arith) none
+
+pub returns-clause-taken : goal.returns-clause-taken
+returns-clause-taken g c =
+    all_rotated c.args.opening.now g.S.ByteSource.to_give c.loop.counter
+    c.args.captures.now.items c.loop.captures.items c.args.begun.now c.loop.begun
+    c.loop.invariant.rotated (omega arith)
