@@ -324,3 +324,35 @@ came_accounted outcome done old before after was now told failures (inr (inl lon
     rw long.is long.worked
 came_accounted outcome done old before after was now told failures (inr (inr fault)) =
     rw fault.is (fault_blames fault.fault told.failures failures fault.counted)
+
+-- ---- a reader that was just opened
+
+pub reader_came : {V : Type 0} (received : Result Received ReceiveFault) (outcome : Result V Fault)
+    (done : V) (s t : Standing) (new : Option (List Due)) (before mid after : State)
+    (was now d e : ℕ) (opened kept told : Told) (left : Option (List ℕ)) (failures : ℕ)
+    → s ≡ Reads → d ≡ 0 → opened ≡ told → kept ≡ opened → after ≡ mid
+    → MatchResult received (λ r. Took 16777216 r (turns_of s told.to_give) new before mid)
+    (λ x. TookUpTo 16777216 x.delivered (turns_of s told.to_give) before mid)
+    → IfErr received (λ x. last_fault_of t ≡ Some x.fault)
+    → OnOk received (last_fault_of t ≡ last_fault_of s)
+    → CountsAll (delivered_in received) d e → StandsRight t e kept left failures
+    → Answers received outcome done was now
+    → CameTo outcome done (turns_of Reads told.to_give) before after was now told failures
+reader_came received outcome done s t new before mid after was now d e opened kept told left failures
+    reads none is stays same took fault blameless counted right answers =
+    came_to received outcome done (turns_of Reads told.to_give) new before after was now t e told
+    left failures (record {
+      turns = refl;
+      took = subst (λ (x : State).
+          MatchResult received (λ r. Took 16777216 r (turns_of Reads told.to_give) new before x)
+          (λ y. TookUpTo 16777216 y.delivered (turns_of Reads told.to_give) before x))
+          (sym same)
+          (subst (λ (x : Standing).
+          MatchResult received (λ r. Took 16777216 r (turns_of x told.to_give) new before mid)
+          (λ y. TookUpTo 16777216 y.delivered (turns_of x told.to_give) before mid)) reads took);
+      fault = fault;
+      blameless = subst (λ (x : Standing). OnOk received (last_fault_of t ≡ last_fault_of x)) reads
+          blameless;
+      counted = subst (λ (n : ℕ). CountsAll (delivered_in received) n e) none counted;
+      right = subst (λ (x : Told). StandsRight t e x left failures) (stays ∙ is) right;
+    }) answers
