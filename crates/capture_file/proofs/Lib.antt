@@ -16,6 +16,7 @@ pub mod Once
 pub mod Moved
 pub mod Blocked
 pub mod Found
+pub mod Parts
 pub mod Spelt
 pub mod Versions
 pub mod Raster

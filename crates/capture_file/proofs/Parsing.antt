@@ -7,7 +7,7 @@ use Rattle.std.proofs.lemmas.Bool.{lt-ltb, le-ltb}
 use Rattle.std.proofs.lemmas.List.{length-append, take_at, drop_at}
 use Rattle.capture_file.specs.declared.fault.FileFault.{FileFault}
 use Rattle.capture_file.specs.declared.fault.FileFault.TheVariants.{Truncated}
-use Rattle.capture_file.specs.Fields.{field_at, Leaves, Takes, Fails}
+use Rattle.capture_file.specs.Fields.{field_at, Leaves, GivesPart, Takes, Fails}
 use Rattle.st_format.specs.Reading.{◌>>=◌}
 use Rattle.capture_file.specs.Fronts.{with_rest}
 use Rattle.capture_file.proofs.Content.{if_content, if_content_weaker}
@@ -82,3 +82,27 @@ fails_field n (Some o) (Some rest) given short p e =
     let all : o ≡ given = p ∙ ap (λ (xs : List ℕ). given ++ xs) e ∙ append-nil given in
     ap (λ (b : Bool). cond b cut (Ok (take n o, drop n o)))
     (lt-ltb (length o) n (omega (arith, ap length all)))
+
+-- what was given of one that isn't whole
+pub part_field : (n : ℕ) (old new : Option (List ℕ)) (given : List ℕ) → length given < n
+    → Consumes old new given → GivesPart (field_at n) old new
+unfolding field_at
+part_field n old new given short p = record {
+  part = given;
+  given = p;
+  fault = Truncated;
+  none =
+      ap (λ (b : Bool). cond b cut (Ok (take n given, drop n given)))
+      (lt-ltb (length given) n short);
+}
+
+-- what was given of a first reading that made no value is nothing of which both make one
+pub part_first : {A B : Type 0} (first : Reading A) (next : A → Reading B)
+    (old new : Option (List ℕ)) → GivesPart first old new
+    → GivesPart (then_reads first next) old new
+part_first {A} {B} first next old new p = record {
+  part = p.part;
+  given = p.given;
+  fault = p.fault;
+  none = ap (λ (r : Result (A × List ℕ) FileFault). r >>= λ z. next z.0 z.1) p.none;
+}

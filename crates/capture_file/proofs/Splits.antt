@@ -251,7 +251,7 @@ field_again n front rest len =
     ∙ ap (λ (xs : List ℕ). part xs (drop n (front ++ rest))) (take_at front rest n len)
     ∙ ap (part front) (drop_at front rest n len)
 
-kind_again : (v : Version) (rest : List ℕ)
+pub kind_again : (v : Version) (rest : List ℕ)
     → kind_at capture_name (kind_text capture_name v ++ rest) ≡ Ok (v, rest)
 unfolding kind_at
 kind_again One rest =

@@ -3,6 +3,7 @@
 -- to give.
 use Rattle.std.specs.Prelude.{◌≡◌, ℕ, nat_lt, if◌then◌else◌, List, [], ◌∷◌, length, take, drop}
 use Rattle.std.specs.Prelude.{⊤, Option, None, Some, Result, Ok, Err}
+use Rattle.std.specs.Io.KnownBytes.{Consumes}
 use Rattle.capture_file.specs.declared.fault.FileFault.{FileFault}
 use Rattle.capture_file.specs.declared.fault.FileFault.TheVariants.{Truncated, TrailingBytes}
 use Rattle.capture_file.specs.Faults.{IfContent}
@@ -34,3 +35,11 @@ abbrev pub Fails : {X : Type 0} → (List ℕ → Result (X × List ℕ) FileFau
     → FileFault → Type 0
 Fails reading None f = ⊤
 Fails reading (Some octets) f = IfContent f (reading octets ≡ Err f)
+
+-- A source gave octets of which the reading makes no value: a first part of one, or a wrong one.
+pub record GivesPart {X : Type 0} (reading : List ℕ → Result (X × List ℕ) FileFault)
+    (old new : Option (List ℕ)) : Type 0 where
+  pub part : List ℕ
+  pub given : Consumes old new part
+  pub fault : FileFault
+  pub none : reading part ≡ Err fault

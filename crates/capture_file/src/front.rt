@@ -1,7 +1,7 @@
 //! The fields of a file, what stands at its front, and that nothing is behind it.
 ghost use Rattle.std.specs.Prelude.{◌≡◌, ◌≤◌, ◌<◌, codes, length, take, IfErr, IfOk, OnOk};
 ghost use Rattle.capture_file.specs.Faults.{CountsDevice, IsOfField, IsOfFront};
-ghost use Rattle.capture_file.specs.Fields.{Fails, Takes, field_at, nothing_at};
+ghost use Rattle.capture_file.specs.Fields.{Fails, GivesPart, Takes, field_at, nothing_at};
 ghost use Rattle.capture_file.specs.Fronts.{front_at, kind_at, kind_of, text_at, version_of};
 ghost use Rattle.st_format.specs.Device.{TellsOctets};
 
@@ -34,6 +34,8 @@ pub fn read_field<S: ByteSource>(source: &mut S, buf: &mut [u8]) -> Result<(), F
     ensures read { OnOk result
         (Takes (field_at (length buf.old)) (S.to_give source.old) (S.to_give source.new) buf.new) }
     ensures fault { IfErr result (λ f. Fails (field_at (length buf.old)) (S.to_give source.old) f) }
+    ensures part { IfErr result (λ _. GivesPart (field_at (length buf.old)) (S.to_give source.old)
+        (S.to_give source.new)) }
     ensures octets { 0 < length buf.old → TellsOctets (S.to_give source.old) }
     ensures counted { CountsDevice (S.failures source.old) (S.failures source.new) result }
     ensures names { S.names source.new ≡ S.names source.old }
@@ -100,6 +102,8 @@ pub fn read_kind<S: ByteSource>(source: &mut S, name: &[u8]) -> Result<Version, 
     ensures read { IfOk result
         (λ v. Takes (kind_at name.now) (S.to_give source.old) (S.to_give source.new) v) }
     ensures fault { IfErr result (λ f. Fails (kind_at name.now) (S.to_give source.old) f) }
+    ensures part { IfErr result
+        (λ _. GivesPart (kind_at name.now) (S.to_give source.old) (S.to_give source.new)) }
     ensures octets { TellsOctets (S.to_give source.old) }
     ensures counted { CountsDevice (S.failures source.old) (S.failures source.new) result }
     ensures names { S.names source.new ≡ S.names source.old }

@@ -1,8 +1,7 @@
 //! Writing a capture of version 01 as one of version 02.
-ghost use Rattle.std.specs.Prelude.{◌≡◌, ◌≤◌, ◌⊎◌, length, IfErr, IfOk, MatchResult};
-ghost use Rattle.std.specs.Io.KnownBytes.{Keeps};
-ghost use Rattle.capture_file.specs.Migrated.{CountsEither, Migrated, MovesAll, MovesSome, Stopped};
-ghost use Rattle.capture_file.specs.Migrated.{old_at};
+ghost use Rattle.std.specs.Prelude.{◌≡◌, ◌≤◌, length, IfErr, IfOk, MatchResult};
+ghost use Rattle.capture_file.specs.Migrated.{CountsEither, IsOfCapture, Migrated, MovesAll, Stops};
+ghost use Rattle.capture_file.specs.Migrated.{devices, new_records, new_text, old_at};
 ghost use Rattle.capture_file.specs.Capture.{records_at};
 ghost use Rattle.capture_file.specs.Fields.{Fails};
 
@@ -39,9 +38,14 @@ pub fn migrate_capture<S: ByteSource, K: ByteSink>(
         (λ n. Migrated limit n text.now (S.to_give source.old) (S.to_give source.new)
         (K.held sink.old) (K.held sink.new)) }
     ensures fault { IfErr result (λ f. Fails (old_at limit) (S.to_give source.old) f) }
-    ensures stopped { IfErr result
-        (λ _. Keeps (K.held sink.old) (K.held sink.new)
-        ⊎ Stopped text.now (S.to_give source.old) (K.held sink.old) (K.held sink.new)) }
+    ensures named { IfErr result IsOfCapture }
+    // What the sink took is what is written of the source's octets up to their fault, or up to
+    // where the source failed; or a first part of it, where the sink failed.
+    ensures stopped { IfErr result (λ f. Stops (new_text limit text.now) f
+        (devices (S.to_give source.old) (S.failures source.old)
+        (K.held sink.old) (K.failures sink.old))
+        (devices (S.to_give source.new) (S.failures source.new)
+        (K.held sink.new) (K.failures sink.new))) }
     ensures counted { MatchResult result
         (λ _. (S.failures source.new ≡ S.failures source.old)
         × (K.failures sink.new ≡ K.failures sink.old))
@@ -68,8 +72,12 @@ fn move_records<S: ByteSource, K: ByteSink>(
         (λ n. MovesAll limit n (S.to_give source.old) (S.to_give source.new) (K.held sink.old)
         (K.held sink.new)) }
     ensures fault { IfErr result (λ f. Fails (records_at limit) (S.to_give source.old) f) }
-    ensures stopped { IfErr result
-        (λ _. MovesSome (S.to_give source.old) (K.held sink.old) (K.held sink.new)) }
+    ensures named { IfErr result IsOfCapture }
+    ensures stopped { IfErr result (λ f. Stops (new_records limit) f
+        (devices (S.to_give source.old) (S.failures source.old)
+        (K.held sink.old) (K.failures sink.old))
+        (devices (S.to_give source.new) (S.failures source.new)
+        (K.held sink.new) (K.failures sink.new))) }
     ensures counted { MatchResult result
         (λ _. (S.failures source.new ≡ S.failures source.old)
         × (K.failures sink.new ≡ K.failures sink.old))

@@ -2,7 +2,8 @@
 ghost use Rattle.std.specs.Prelude.{◌≡◌, ◌≤◌, ◌<◌, length, take, option_to_list, None, IfOk, IfErr};
 ghost use Rattle.std.specs.Io.KnownBytes.{Consumes, IsAtEnd, Keeps};
 ghost use Rattle.capture_file.specs.Faults.{CountsDevice, IsDevice};
-ghost use Rattle.capture_file.specs.Reading.{head_at, path_of};
+ghost use Rattle.capture_file.specs.Fields.{GivesPart};
+ghost use Rattle.capture_file.specs.Reading.{head_at, path_of, rest_at};
 ghost use Rattle.capture_file.specs.Records.{IsRecordHead, entry_of, path_octet};
 ghost use Rattle.capture_file.specs.Source.{FailsRest, ReadsRest};
 
@@ -90,6 +91,8 @@ pub fn record_rest<S: ByteSource>(
     ensures read { IfOk result
         (λ r. ReadsRest first (S.to_give source.old) (S.to_give source.new) (entry_of r buf.new)) }
     ensures fault { IfErr result (λ f. FailsRest f first (S.to_give source.old)) }
+    ensures part { IfErr result
+        (λ _. GivesPart (rest_at first) (S.to_give source.old) (S.to_give source.new)) }
     ensures counted { CountsDevice (S.failures source.old) (S.failures source.new) result }
     ensures names { S.names source.new ≡ S.names source.old }
 {

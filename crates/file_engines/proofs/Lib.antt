@@ -11,3 +11,4 @@ pub mod OneOf
 pub mod SentRefusals
 pub mod ReceivedRefusals
 pub mod Tallies
+pub mod Sendings

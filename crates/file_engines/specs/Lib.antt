@@ -12,3 +12,5 @@ pub mod Tallied
 pub mod Refusing
 pub mod Sent
 pub mod Received
+pub mod Writing
+pub mod Sending

@@ -36,6 +36,7 @@ pub(crate) fn read_packed<A: Allocator, S: ByteSource>(
     source: &mut S,
     room: Vec<u8, A>,
 ) -> Result<PackedPicture<A>, Fault>
+    ensures shows { IfOk result (λ p. SaysPicture (S.to_give source.old) p) }
     ensures says { IfOk result (λ p. SaysFormat (S.to_give source.old) p.format) }
     ensures refusal { IfErr result (λ f. OfRefusal f (IsPictureRefusal (S.to_give source.old))) }
     ensures failures { Accounts result (counts (S.failures source.old) (S.failures source.new)

@@ -1,13 +1,15 @@
 //! The engine of `send`.
 ghost use Rattle.std.specs.Prelude.{◌≡◌, ◌≢◌, ◌+◌, ◌≤◌, ◌<◌, ◌⊎◌, ◌∷◌, [], false, IfErr, IfOk};
-ghost use Rattle.std.specs.Prelude.{MatchResult, drop, length, sum_by, vec_len};
+ghost use Rattle.std.specs.Prelude.{MatchResult, OnOk, drop, length, sum_by, vec_len};
 ghost use Rattle.std.specs.Io.KnownBytes.{Appends, IsAtEnd};
 ghost use Rattle.file_engines.specs.Fault.{Accounts, Blames, NoneFailed, OneFailed, counts};
 ghost use Rattle.file_engines.specs.Receiving.{failures_in};
 ghost use Rattle.file_engines.specs.Refusing.{OfRefusal, TellsRefusal};
 ghost use Rattle.file_engines.specs.Sent.{FirstIs, FirstSays, IsPictureRefusal, IsSaidRefusal};
 ghost use Rattle.file_engines.specs.Sent.{IsPicturesRefusal, IsRestRefusal, IsSendRefusal};
-ghost use Rattle.file_engines.specs.Sent.{SaysFormat};
+ghost use Rattle.file_engines.specs.Sent.{SaysFormat, SaysPicture};
+ghost use Rattle.file_engines.specs.Sending.{SaysSdp, SendsAll, SendsFirst, SendsPictures};
+ghost use Rattle.file_engines.specs.Sending.{SendsRest};
 ghost use Rattle.tool_text.specs.Telling.{memory_line};
 
 use crate::fault::{Fault, Refusal};
@@ -71,6 +73,10 @@ where
         ∷ counts (K.failures sink) (K.failures result.1)
         ∷ counts (O.failures output.old) (O.failures output.new)
         ∷ counts (F.failures faults.old) (F.failures faults.new) ∷ []) }
+    // What is written is the capture of the SDP text and of the datagrams of all pictures, in their
+    // order: of the k-th as frame k, the packets' numbers running on.
+    ensures sent { result.0 ≡ 0 → SendsAll S.to_give wanted sdp.old pictures.old
+        (K.held sink) (K.held result.1) }
     // At status 1 a refusal of the words or the files was told by its line.
     ensures told { result.0 ≡ 1
         → TellsRefusal (IsSendRefusal wanted.max_octets sdp.old S.to_give pictures.old)
@@ -102,6 +108,8 @@ where
     O: ByteSink,
     requires payload_type { wanted.payload_type ≤ 127 }
     requires empty { IsAtEnd (K.held sink) }
+    ensures sent { OnOk result.0 (SendsAll S.to_give wanted sdp.old pictures.old
+        (K.held sink) (K.held result.1)) }
     ensures failures { Accounts result.0 (counts (failures_in S.failures sdp.old)
         (failures_in S.failures sdp.new) ∷ counts (sum_by S.failures pictures.old)
         (sum_by S.failures pictures.new) ∷ counts (K.failures sink) (K.failures result.1)
@@ -114,11 +122,10 @@ where
         Err(fault) => return (Err(fault), sink),
     };
     let (sent, sink) = send_pictures(alloc, wanted, &said, pictures, sink);
-    let outcome = match sent {
-        Ok(sent) => print(Line::Sent(sent), output, text),
-        Err(fault) => Err(fault),
-    };
-    (outcome, sink)
+    match sent {
+        Ok(sent) => (print(Line::Sent(sent), output, text), sink),
+        Err(fault) => (Err(fault), sink),
+    }
 }
 
 /// Finds that there are few pictures, and reads the capture's text.
@@ -129,6 +136,7 @@ fn read_said<A: Allocator + Copy, S: ByteSource>(
 ) -> Result<Vec<u8, A>, Fault>
     ensures few { IfOk result (λ _. pictures ≤ 10000) }
     ensures text { IfOk result (λ said. vec_len said ≤ 65535) }
+    ensures says { IfOk result (λ said. SaysSdp S.to_give sdp.old said.items) }
     ensures refusal { IfErr result (λ f. OfRefusal f (IsSaidRefusal pictures sdp.old S.to_give)) }
     ensures failures { Accounts result (counts (failures_in S.failures sdp.old)
         (failures_in S.failures sdp.new) ∷ []) }
@@ -157,6 +165,8 @@ fn send_pictures<A: Allocator + Copy, S: ByteSource, K: ByteSink>(
     requires few { length pictures.old ≤ 10000 }
     requires payload_type { wanted.payload_type ≤ 127 }
     requires empty { IsAtEnd (K.held sink) }
+    ensures sent { OnOk result.0 (SendsPictures S.to_give wanted said.now pictures.old
+        (K.held sink) (K.held result.1)) }
     ensures refusal { IfErr result.0 (λ f. OfRefusal f
         (IsPicturesRefusal wanted.max_octets S.to_give pictures.old)) }
     ensures failures { Accounts result.0 (counts (sum_by S.failures pictures.old)
@@ -196,6 +206,8 @@ fn begin<A: Allocator + Copy, S: ByteSource, K: ByteSink>(
     ensures room { length buf.new ≡ 65535 }
     ensures stands { IfOk result (λ s. s.0.writer.place.failed ≡ false) }
     ensures behind { drop 1 pictures.new ≡ drop 1 pictures.old }
+    ensures sent { IfOk result (λ s. SendsFirst S.to_give K.held wanted said.now pictures.old
+        (K.held sink) s.0) }
     ensures says { IfOk result (λ s. FirstSays S.to_give s.0.plan.format pictures.old) }
     ensures refusal { IfErr result (λ e. OfRefusal e.0
         (IsPicturesRefusal wanted.max_octets S.to_give pictures.old)) }
@@ -230,6 +242,8 @@ fn read_first<A: Allocator + Copy, S: ByteSource>(
     ensures len { length pictures.new ≡ length pictures.old }
     ensures behind { drop 1 pictures.new ≡ drop 1 pictures.old }
     ensures alike { IfOk result (λ first. first.0.format ≡ first.1.format) }
+    ensures shows { IfOk result
+        (λ first. FirstIs (λ s. SaysPicture (S.to_give s) first.0) pictures.old) }
     ensures says { IfOk result (λ first. FirstSays S.to_give first.1.format pictures.old) }
     ensures refusal { IfErr result (λ f. OfRefusal f
         (IsPicturesRefusal max_octets S.to_give pictures.old)) }
@@ -252,6 +266,8 @@ fn send_rest<A: Allocator, S: ByteSource, K: ByteSink>(
     requires few { length pictures.old ≤ 10000 }
     requires room { length buf.old ≡ 65535 }
     requires stands { sender.old.writer.place.failed ≡ false }
+    ensures sent { OnOk result (SendsRest S.to_give K.held (drop 1 pictures.old)
+        sender.old sender.new) }
     ensures refusal { IfErr result (λ f. OfRefusal f
         (IsRestRefusal sender.old.plan.format S.to_give (drop 1 pictures.old))) }
     ensures failures { Accounts result (counts (sum_by S.failures pictures.old)
@@ -275,6 +291,8 @@ fn read_at<A: Allocator, S: ByteSource>(
     requires { place < length pictures.old }
     ensures len { length pictures.new ≡ length pictures.old }
     ensures behind { drop (place + 1) pictures.new ≡ drop (place + 1) pictures.old }
+    ensures shows { IfOk result
+        (λ p. FirstIs (λ s. SaysPicture (S.to_give s) p) (drop place pictures.old)) }
     ensures says { IfOk result
         (λ p. FirstSays S.to_give p.format (drop place pictures.old)) }
     ensures refusal { IfErr result (λ f. OfRefusal f

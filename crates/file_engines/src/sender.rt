@@ -1,6 +1,9 @@
 //! Sending pictures into a capture.
 ghost use Rattle.std.specs.Prelude.{◌≡◌, ◌≤◌, ◌∷◌, [], false, length, IfErr, OnOk};
+ghost use Rattle.st_format.specs.Picture.{IsPicture};
+ghost use Rattle.packet_plan.specs.Sender.{stamp_of};
 ghost use Rattle.file_engines.specs.Fault.{Accounts, IfRefused, counts};
+ghost use Rattle.file_engines.specs.Writing.{WritesPicture};
 ghost use Rattle.file_engines.specs.Refusing.{OfRefusal};
 ghost use Rattle.file_engines.specs.declared.fault.Refusal.TheVariants.{SendFormats};
 
@@ -8,7 +11,7 @@ use crate::fault::{Fault, Refusal};
 use capture_file::{CaptureWriter, Paths};
 use packet_plan::{Plan, Stamp};
 use pgroup_pack::PackedPicture;
-use st_format::{ByteSink, DatagramSink};
+use st_format::{ByteSink, DatagramSink, Format};
 use std::alloc::Allocator;
 
 /// What `send` is asked for, beside its files.
@@ -42,11 +45,15 @@ pub(crate) struct Sender<A: Allocator, K: ByteSink> {
 }
 
 impl<A: Allocator, K: ByteSink> Sender<A, K> {
+    ghost use Rattle.file_engines.specs.Sending.{SendsNext, sender_of};
+
     /// Nothing was sent yet.
     pub fn new(plan: Plan<A>, writer: CaptureWriter<K>, wanted: Sending) -> Sender<A, K>
         requires { wanted.payload_type ≤ 127 }
         ensures writer { result.writer ≡ writer }
         ensures plan { result.plan ≡ plan }
+        ensures wanted { result.wanted ≡ wanted }
+        ensures next { result.next ≡ wanted.first }
     {
         Sender {
             plan,
@@ -69,6 +76,9 @@ impl<A: Allocator, K: ByteSink> Sender<A, K> {
         ensures room { length buf.new ≡ 65535 }
         ensures stands { OnOk result (self.new.writer.place.failed ≡ false) }
         ensures plan { self.new.plan ≡ self.old.plan }
+        // The capture has the records of the picture's datagrams, as frame `place`.
+        ensures sent { OnOk result
+            (SendsNext K.held picture.now place self.old self.new) }
         ensures refusal { IfErr result (λ f. OfRefusal f
             (λ r. (r ≡ SendFormats) × (picture.now.format ≡ self.old.plan.format → ⊥))) }
         ensures failures { Accounts result (counts (K.failures self.old.writer.sink)
@@ -78,17 +88,26 @@ impl<A: Allocator, K: ByteSink> Sender<A, K> {
         if !picture.format().same(&format) {
             return Err(Fault::Refused(Refusal::SendFormats));
         }
-        let stamp = Stamp {
-            payload_type: self.wanted.payload_type,
-            first: self.next,
-            timestamp: format.timestamp(self.wanted.base, place),
-            ssrc: self.wanted.ssrc,
-        };
+        let stamp = self.stamp(&format, place);
         put_all(&self.plan, picture, stamp, buf, &mut self.writer)?;
         let count = self.plan.len();
         self.next = self.next.wrapping_add(count);
         self.sent = self.sent.saturating_add(u64::from(count));
         Ok(())
+    }
+
+    /// The stamp of the picture of this place, whose packets go on from the next number.
+    fn stamp(&self, format: &Format, place: u32) -> Stamp
+        ensures value { result ≡ stamp_of (sender_of format.now self.now.wanted) place
+            self.now.next }
+        ensures payload_type { result.payload_type ≤ 127 }
+    {
+        Stamp {
+            payload_type: self.wanted.payload_type,
+            first: self.next,
+            timestamp: format.timestamp(self.wanted.base, place),
+            ssrc: self.wanted.ssrc,
+        }
     }
 
     /// Gives the capture's sink back, as it then is.
@@ -108,11 +127,14 @@ fn put_all<A: Allocator, B: Allocator, K: ByteSink>(
     writer: &mut CaptureWriter<K>,
 ) -> Result<(), Fault>
     requires format { picture.now.format ≡ plan.now.format }
+    requires picture { IsPicture picture.now }
     requires payload_type { stamp.payload_type ≤ 127 }
     requires room { length buf.old ≡ 65535 }
     requires stands { writer.old.place.failed ≡ false }
     ensures room { length buf.new ≡ 65535 }
     ensures stands { OnOk result (writer.new.place.failed ≡ false) }
+    ensures sent { OnOk result
+        (WritesPicture K.held picture.now stamp plan.now writer.old writer.new) }
     ensures unrefused { IfErr result (λ f. IfRefused f ⊥) }
     ensures failures { Accounts result (counts (K.failures writer.old.sink)
         (K.failures writer.new.sink) ∷ []) }

@@ -5,6 +5,9 @@ use Rattle.file_engines.specs.declared.fault.Fault.{Fault}
 use Rattle.file_engines.proofs.Refusals.{picture_refused}
 use Rattle.file_engines.proofs.pictures.read_packed.Goals as goal
 
+pub returns-in-Ok-clause-shows : goal.returns-in-Ok-clause-shows
+returns-in-Ok-clause-shows g c = λ octets told. (c.in-Ok.ensures.found octets told).0
+
 pub returns-in-Ok-clause-says : goal.returns-in-Ok-clause-says
 returns-in-Ok-clause-says g c = λ octets told.
     (c.in-Ok.picture, refl, (c.in-Ok.ensures.found octets told).0)

@@ -2,7 +2,7 @@ use Rattle.std.proofs.Common.{List, [], ◌∷◌}
 use Rattle.std.specs.List.{sum_by}
 use Rattle.file_engines.specs.Receiving.{failures_in}
 use Rattle.file_engines.specs.Fault.{Failures, counts}
-use Rattle.file_engines.proofs.Ended.{none_failed, one_failed}
+use Rattle.file_engines.proofs.Ended.{none_failed, on_done, one_failed}
 use Rattle.file_engines.proofs.send.run_send.Goals as goal
 
 pub returns-clause-device : goal.returns-clause-device
@@ -35,3 +35,8 @@ returns-clause-working g c =
     counts (g.F.ByteSink.failures c.args.faults.now) (g.F.ByteSink.failures c.end.new.faults) in
     λ is. none_failed run.result.0 devices last run.ensures.failures
     (c.end.ensures.worked is) (c.end.ensures.working is)
+
+pub returns-clause-sent : goal.returns-clause-sent
+returns-clause-sent g c =
+    let run = c.send-outcome in
+    λ is. on_done run.result.0 _ (c.end.ensures.done is) run.ensures.sent

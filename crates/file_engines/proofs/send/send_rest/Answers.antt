@@ -1,7 +1,8 @@
-use Rattle.std.proofs.Common.{ap, arith}
+use Rattle.std.proofs.Common.{ap, arith, drop, drop-drop, refl, sym, ◌∙◌}
 use Rattle.std.proofs.lemmas.Result.{err_from_is_err_and}
 use Rattle.file_engines.proofs.Refusals.{of_refusal_map}
 use Rattle.file_engines.proofs.SentRefusals.{next_refused, other_refused}
+use Rattle.file_engines.proofs.Sendings.{more_so_far, none_so_far, rest_sent}
 use Rattle.file_engines.proofs.send.send_rest.Goals as goal
 
 pub returns-in_err-picture-clause-refusal : goal.returns-in_err-picture-clause-refusal
@@ -29,3 +30,40 @@ returns-in_err-send-clause-refusal g c =
     c.loop-place.invariant.behind
     (ap (λ x. x.format) c.loop-place.invariant.plan) c.in_ok-picture.ensures.says)
     c.in_err-send.ensures.refusal)
+
+pub loop-place-init : goal.loop-place-init
+loop-place-init g c = record {
+  len = refl;
+  room = c.requires.room;
+  stands = c.requires.stands;
+  plan = refl;
+  behind = refl;
+  pictures = refl;
+  sink = refl;
+  sent = none_so_far g.S.ByteSource.to_give g.K.ByteSink.held c.args.pictures.now
+      c.args.sender.now;
+}
+
+pub loop-place-preserved : goal.loop-place-preserved
+loop-place-preserved g c =
+    let l = c.loop-place in
+    record {
+      len = c.in_ok-picture.ensures.len ∙ l.invariant.len;
+      room = c.in_ok-send.ensures.room;
+      stands = c.in_ok-send.ensures.stands;
+      plan = c.in_ok-send.ensures.plan ∙ l.invariant.plan;
+      behind = c.in_ok-picture.ensures.behind ∙ sym (drop-drop 1 l.place l.pictures)
+          ∙ ap (drop 1) l.invariant.behind ∙ drop-drop 1 l.place c.args.pictures.now;
+      pictures = c.in_ok-picture.ensures.failures ∙ l.invariant.pictures;
+      sink = c.in_ok-send.ensures.failures ∙ l.invariant.sink;
+      sent = more_so_far g.S.ByteSource.to_give g.K.ByteSink.held l.place c.args.pictures.now
+          (drop l.place l.pictures) c.in_ok-picture.picture c.args.sender.now l.sender
+          c.send.new.self l.invariant.sent l.invariant.behind c.in_ok-picture.ensures.shows
+          c.in_ok-send.ensures.sent;
+    }
+
+pub returns-clause-sent : goal.returns-clause-sent
+returns-clause-sent g c =
+    let l = c.loop-place in
+    rest_sent g.S.ByteSource.to_give g.K.ByteSink.held l.place c.args.pictures.now
+    c.args.sender.now l.sender l.invariant.sent (omega (arith, l.invariant.len))

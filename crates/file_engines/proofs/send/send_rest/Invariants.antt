@@ -1,5 +1,6 @@
 use Rattle.std.proofs.Common.{◌≡◌, drop, false, length}
 use Rattle.std.specs.List.{sum_by}
+use Rattle.file_engines.proofs.Sendings.{SoFar}
 use Rattle.file_engines.proofs.send.send_rest.Given as goal
 
 abbrev pub invariant-loop-place : goal.invariant-loop-place
@@ -13,4 +14,6 @@ invariant-loop-place g l = record {
       ≡ sum_by g.S.ByteSource.failures l.initial.pictures;
   sink : g.K.ByteSink.failures l.sender.writer.sink
       ≡ g.K.ByteSink.failures l.initial.sender.writer.sink;
+  sent : SoFar g.S.ByteSource.to_give g.K.ByteSink.held l.place l.initial.pictures
+      l.initial.sender l.sender;
 }

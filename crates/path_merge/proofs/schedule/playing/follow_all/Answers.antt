@@ -67,7 +67,7 @@ pub returns-in-Err-Unfit-clause-followed : goal.returns-in-Err-Unfit-clause-foll
 returns-in-Err-Unfit-clause-followed g c = tt
 
 pub returns-in-Err-Unfit-clause-others : goal.returns-in-Err-Unfit-clause-others
-returns-in-Err-Unfit-clause-others g c = inr (c.loop-place.place, refl)
+returns-in-Err-Unfit-clause-others g c = inr (_, refl)
 
 pub returns-clause-followed : goal.returns-clause-followed
 returns-clause-followed g c =
