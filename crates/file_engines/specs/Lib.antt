@@ -12,3 +12,4 @@ pub mod Tallied
 pub mod Refusing
 pub mod Sent
 pub mod Received
+pub mod Printed
