@@ -12,3 +12,4 @@ pub mod SentRefusals
 pub mod ReceivedRefusals
 pub mod Tallies
 pub mod Sendings
+pub mod Printed

@@ -1,8 +1,10 @@
 //! Printing what a run says.
-ghost use Rattle.std.specs.Prelude.{◌++◌, ◌∷◌, [], IfErr, OnOk};
+ghost use Rattle.std.specs.Prelude.{◌++◌, ◌∷◌, [], IfErr, OnErr, OnOk};
 ghost use Rattle.std.specs.Io.KnownBytes.{Appends};
+ghost use Rattle.st_format.specs.Device.{AppendsPrefix};
 ghost use Rattle.file_engines.specs.Fault.{Accounts, IfRefused, counts};
 ghost use Rattle.file_engines.specs.Line.{line_text};
+ghost use Rattle.file_engines.specs.Printed.{frame_line_at, frames_text};
 
 use crate::fault::Fault;
 use crate::line::Line;
@@ -17,20 +19,41 @@ pub(crate) fn print_frames<A: Allocator, O: ByteSink>(
     output: &mut O,
     text: &mut String<A>,
 ) -> Result<(), Fault>
+    ensures printed { OnOk result
+        (Appends (O.held output.old) (O.held output.new) (frames_text receiver.now)) }
+    ensures cut { OnErr result
+        (AppendsPrefix (O.held output.old) (O.held output.new) (frames_text receiver.now)) }
     ensures unrefused { IfErr result (λ f. IfRefused f ⊥) }
     ensures failures { Accounts result (counts (O.failures output.old) (O.failures output.new)
         ∷ []) }
 {
     for timestamp in receiver.window() {
-        if let Some(frame) = receiver.frame(*timestamp) {
-            let line = FrameLine {
-                timestamp: *timestamp,
-                counts: frame.counts(),
-            };
-            print(Line::Frame(line), output, text)?;
-        }
+        print_frame(receiver, *timestamp, output, text)?;
     }
     Ok(())
+}
+
+/// Prints the line of a receiver's frame of a timestamp, where it has one.
+fn print_frame<A: Allocator, O: ByteSink>(
+    receiver: &Receiver<A>,
+    timestamp: u32,
+    output: &mut O,
+    text: &mut String<A>,
+) -> Result<(), Fault>
+    ensures printed { OnOk result
+        (Appends (O.held output.old) (O.held output.new) (frame_line_at receiver.now timestamp)) }
+    ensures cut { OnErr result
+        (AppendsPrefix (O.held output.old) (O.held output.new)
+        (frame_line_at receiver.now timestamp)) }
+    ensures unrefused { IfErr result (λ f. IfRefused f ⊥) }
+    ensures failures { Accounts result (counts (O.failures output.old) (O.failures output.new)
+        ∷ []) }
+{
+    let Some(frame) = receiver.frame(timestamp) else {
+        return Ok(());
+    };
+    let counts = frame.counts();
+    print(Line::Frame(FrameLine { timestamp, counts }), output, text)
 }
 
 /// Prints a line, and an end of line behind it.
@@ -41,6 +64,9 @@ pub fn print<A: Allocator, O: ByteSink>(
 ) -> Result<(), Fault>
     ensures printed { OnOk result
         (Appends (O.held output.old) (O.held output.new) (line_text line ++ 10 ∷ [])) }
+    // Where a device failed or memory was wanted, a first part of it.
+    ensures cut { OnErr result
+        (AppendsPrefix (O.held output.old) (O.held output.new) (line_text line ++ 10 ∷ [])) }
     ensures unrefused { IfErr result (λ f. IfRefused f ⊥) }
     ensures failures { Accounts result (counts (O.failures output.old) (O.failures output.new)
         ∷ []) }
