@@ -10,3 +10,4 @@ pub mod Refusals
 pub mod OneOf
 pub mod SentRefusals
 pub mod ReceivedRefusals
+pub mod Leaving

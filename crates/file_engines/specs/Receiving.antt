@@ -4,7 +4,7 @@ use Rattle.std.specs.Prelude.{ℕ, ◌==◌, if◌then◌else◌, List, Option, 
 use Rattle.std.specs.Io.KnownBytes.{Appends}
 use Rattle.capture_file.specs.StateFile.{state_text}
 use Rattle.path_merge.specs.Frames.{State}
-use Rattle.receiver_file.specs.Saved.{kept_of}
+use Rattle.receiver_file.specs.Saved.{IsWritable, kept_of}
 use Rattle.capture_file.specs.declared.fault.FileFault.TheVariants.{BadField, Truncated}
 use Rattle.st_format.specs.declared.device.SourceFault.{SourceFault}
 use Rattle.st_format.specs.declared.device.SourceFault.TheVariants.{Device as SourceDevice, Content}
@@ -23,7 +23,8 @@ abbrev pub told_fault : SourceFault → Fault
 told_fault SourceDevice = Device
 told_fault (Content n) = Refused (Capture (if n == 6 then BadField else Truncated))
 
--- a sink took the file of a receiver
+-- a sink took the file of a receiver, which can be written
 pub record Saves (old new : Option (List ℕ)) : Type 0 where
   pub receiver : State
+  pub writable : IsWritable receiver
   pub taken : Appends old new (state_text (kept_of receiver))
