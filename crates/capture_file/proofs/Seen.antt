@@ -41,7 +41,7 @@ use Rattle.capture_file.specs.Faults.{IfContent, IsMachine}
 use Rattle.capture_file.specs.Fields.{Fails, Takes, Leaves, field_at, nothing_at}
 use Rattle.st_format.specs.Reading.{◌>>=◌}
 use Rattle.capture_file.specs.Fronts.{kind_at, kind_of, kind_text, picture_name, with_rest}
-use Rattle.capture_file.specs.PictureFile.{Shown, one_at, one_by, picture_walk}
+use Rattle.capture_file.specs.PictureFile.{IsPictureFile, Shown, one_at, one_by, picture_walk}
 use Rattle.capture_file.specs.PictureFile.{picture_text, raster_at, raster_octets, shown_of}
 use Rattle.capture_file.specs.PictureFile.{shown_by}
 use Rattle.st_format.specs.Device.{AreOctets, TellsOctets}
@@ -434,9 +434,12 @@ found_told p old new bytes g octets told =
 
 pub found_picture : (old new : Option (List ℕ)) (r : Result Values FileFault)
     → IfOk r (λ p. Takes picture_walk old new (shown_of p)) → OnOk r (TellsOctets old)
-    → IfOk r (λ p. (octets : List ℕ) → old ≡ Some octets → (octets ≡ picture_text p) × IsAtEnd new)
-found_picture old new (Ok p) g bytes = found_told p old new bytes g
-found_picture old new (Err f) g bytes = tt
+    → IfOk r (λ p. IsPicture p)
+    → IfOk r (λ p. (octets : List ℕ) → old ≡ Some octets → IsPictureFile octets p × IsAtEnd new)
+found_picture old new (Ok p) g bytes is = λ octets told.
+    let f = found_told p old new bytes g octets told in
+    (record { picture = is; whole = f.0 }, f.1)
+found_picture old new (Err f) g bytes is = tt
 
 kind_again : (rest : List ℕ)
     → kind_at picture_name (kind_text picture_name One ++ rest) ≡ Ok (One, rest)
@@ -505,12 +508,12 @@ clash s octets f e p = let bad : with_shown s [] ≡ failed (Shown × List ℕ) 
 pub only_picture : (old new : Option (List ℕ)) (r : Result Values FileFault)
     → IfOk r (λ q. Takes picture_walk old new (shown_of q))
     → IfErr r (λ f. Fails picture_walk old f)
-    → (p : Values) (octets : List ℕ) → old ≡ Some octets → IsPicture p → octets ≡ picture_text p
+    → (p : Values) (octets : List ℕ) → old ≡ Some octets → IsPictureFile octets p
     → MatchResult r (λ q. shown_of q ≡ shown_of p) IsMachine
-only_picture old new (Ok q) a b p octets told is text =
-    only_ok p q octets new (ap picture_walk text ∙ picture_again p is)
+only_picture old new (Ok q) a b p octets told is =
+    only_ok p q octets new (ap picture_walk is.whole ∙ picture_again p is.picture)
     (subst (λ (k : Option (List ℕ)). Takes picture_walk k new (shown_of q)) told a)
-only_picture old new (Err f) a b p octets told is text =
+only_picture old new (Err f) a b p octets told is =
     machine_left f (picture_walk octets ≡ Err f)
-    (clash (shown_of p) octets f (ap picture_walk text ∙ picture_again p is))
+    (clash (shown_of p) octets f (ap picture_walk is.whole ∙ picture_again p is.picture))
     (subst (λ (k : Option (List ℕ)). Fails picture_walk k f) told b)

@@ -1,10 +1,10 @@
 -- A picture as a file (own): its text as a function of what it holds, and how octets are read as
 -- one.
-use Rattle.std.specs.Prelude.{ℕ, ◌*◌, ◌/◌, List, ◌++◌, Option, Result, Ok, Err}
+use Rattle.std.specs.Prelude.{◌≡◌, ℕ, ◌*◌, ◌/◌, List, ◌++◌, Option, Result, Ok, Err}
 use Rattle.std.specs.Io.KnownBytes.{Consumes}
 use Rattle.st_format.specs.Fields.{Fields, fields_of}
 use Rattle.st_format.specs.Pgroup.{bits_of, pixel_group}
-use Rattle.st_format.specs.Picture.{Values}
+use Rattle.st_format.specs.Picture.{IsPicture, Values}
 use Rattle.st_format.specs.Samples.{Spells, octets_in, values_in}
 use Rattle.capture_file.specs.declared.fault.FileFault.{FileFault}
 use Rattle.capture_file.specs.declared.fault.FileFault.TheVariants.{BadVersion}
@@ -31,6 +31,11 @@ head_of f = kind_text picture_name One ++ format_text f
 -- A picture's file: its head, and all pgroups in raster order, packed.
 unfoldable pub picture_text : Values → List ℕ
 picture_text p = head_of (fields_of p.format) ++ octets_in (bits_of p.format.depth) p.samples
+
+-- The octets are the file of this picture.
+pub record IsPictureFile (octets : List ℕ) (p : Values) : Type 0 where
+  pub picture : IsPicture p
+  pub whole : octets ≡ picture_text p
 
 -- how many octets the pgroups of a raster take
 abbrev pub raster_octets : Fields → ℕ

@@ -12,8 +12,8 @@ ghost use Rattle.capture_file.specs.Faults.{CountsDevice, IfContent, IsMachine, 
 ghost use Rattle.capture_file.specs.Fields.{Fails, Takes, field_at};
 ghost use Rattle.capture_file.specs.Fronts.{picture_name};
 ghost use Rattle.capture_file.specs.PictureFaults.{IsPictureFault};
-ghost use Rattle.capture_file.specs.PictureFile.{GivesSpelled, one_at, picture_walk};
-ghost use Rattle.capture_file.specs.PictureFile.{picture_text, raster_at, shown_of};
+ghost use Rattle.capture_file.specs.PictureFile.{GivesSpelled, IsPictureFile, one_at};
+ghost use Rattle.capture_file.specs.PictureFile.{picture_walk, raster_at, shown_of};
 
 use crate::block::read_format;
 use crate::fault::FileFault;
@@ -37,13 +37,13 @@ pub fn read_picture<A: Allocator, S: ByteSource>(
     ensures counted { CountsDevice (S.failures source.old) (S.failures source.new) result }
     // What is read is the file of the picture that is answered, all of it.
     ensures found { IfOk result (λ p. (octets : List ℕ) → S.to_give source.old ≡ Some octets
-        → (octets ≡ picture_text p) × IsAtEnd (S.to_give source.new)) }
+        → IsPictureFile octets p × IsAtEnd (S.to_give source.new)) }
     // A fault of the content is one whose condition holds of the octets.
     ensures wrong { IfErr result (λ f. (octets : List ℕ) → S.to_give source.old ≡ Some octets
         → AreOctets octets → IfContent f (IsPictureFault f octets)) }
     // What is a picture's file is read as that picture, unless the memory or the device fails.
     ensures only { (p : Values) (octets : List ℕ)
-        → S.to_give source.old ≡ Some octets → IsPicture p → octets ≡ picture_text p
+        → S.to_give source.old ≡ Some octets → IsPictureFile octets p
         → MatchResult result (λ q. shown_of q ≡ shown_of p) IsMachine }
     // The same by the walk from the left, for the walks that go on from it.
     ensures read { IfOk result (λ p. Takes picture_walk

@@ -13,3 +13,4 @@ pub mod ReceivedRefusals
 pub mod Tallies
 pub mod Sendings
 pub mod Printed
+pub mod Leaving

@@ -1,5 +1,5 @@
 -- Two receivers that were read, merged and written.
-use Rattle.std.proofs.Common.{◌≡◌, ℕ, List, [], ◌++◌, Option, Result, Ok, Err, sym, ap, subst, ◌∙◌}
+use Rattle.std.proofs.Common.{◌≡◌, ℕ, List, [], ◌++◌, Option, Result, Ok, Err, refl, sym, ap, subst, ◌∙◌}
 use Rattle.std.specs.Prelude.{OnOk}
 use Rattle.std.specs.Io.KnownBytes.{Appends}
 use Rattle.st_format.specs.Raster.{Raster}
@@ -8,12 +8,16 @@ use Rattle.path_merge.specs.Frames.{Holds, State, frames_of, joined_frames}
 use Rattle.path_merge.specs.Opening.{Opening}
 use Rattle.path_merge.proofs.Frames.{frames_of-append}
 use Rattle.receiver_file.specs.Saved.{kept_of}
-use Rattle.file_engines.specs.Merging.{IsAgain, Joins, Merges, merged_state}
+use Rattle.file_engines.specs.Merging.{IsAgain, Joins, Merges, SavesMerged, merged_state}
 
 -- what follows from what holds after a success
 pub on_ok : {V E : Type 0} (r : Result V E) (P Q : Type 0) → (P → Q) → OnOk r P → OnOk r Q
 on_ok (Ok v) P Q then is = then is
 on_ok (Err e) P Q then is = is
+
+-- a receiver is itself
+pub again : (s : State) → IsAgain s s
+again s = record { opening = refl; frames = refl }
 
 -- what was read of two files, merged
 pub joined : (s t l r m : State) → IsAgain s l → IsAgain t r → l.opening ≡ r.opening
@@ -47,16 +51,23 @@ holds_both s t alike xs ys holds_xs holds_ys =
     ∙ sym (frames_of-append s.opening xs ys)
 
 -- what was merged is written
+saves : (s t : State) (old new : Option (List ℕ)) (m : State)
+    → (s.opening ≡ t.opening) × IsAgain (merged_state s t) m
+    → Appends old new (state_text (kept_of m)) → SavesMerged s t old new
+saves s t old new m is taken = record {
+  alike = is.0;
+  taken = subst (λ (k : Kept). Appends old new (state_text k))
+      (same_kept (merged_state s t) m is.1) taken;
+  holds = holds_both s t is.0;
+}
+
 pub merges : (left right old new : Option (List ℕ)) (m : State) → Joins left right m
     → Appends old new (state_text (kept_of m)) → Merges left right old new
 merges left right old new m joins taken = record {
-  saved = λ s t gives also_gives.
-      let is : (s.opening ≡ t.opening) × IsAgain (merged_state s t) m =
-      joins.joined s t gives also_gives in
-      record {
-        alike = is.0;
-        taken = subst (λ (k : Kept). Appends old new (state_text k))
-            (same_kept (merged_state s t) m is.1) taken;
-        holds = holds_both s t is.0;
-      };
+  first = joins.first;
+  second = joins.second;
+  first_is = joins.first_is;
+  second_is = joins.second_is;
+  taken = saves joins.first joins.second old new m joins.both taken;
+  saved = λ s t gives also_gives. saves s t old new m (joins.joined s t gives also_gives) taken;
 }

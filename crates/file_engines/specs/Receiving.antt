@@ -3,14 +3,15 @@ use Rattle.std.specs.Prelude.{ℕ, List, Option, None, Some}
 use Rattle.std.specs.Io.KnownBytes.{Appends}
 use Rattle.capture_file.specs.StateFile.{state_text}
 use Rattle.path_merge.specs.Frames.{State}
-use Rattle.receiver_file.specs.Saved.{kept_of}
+use Rattle.receiver_file.specs.Saved.{IsWritable, kept_of}
 
 -- how often a device failed, where there is one
 abbrev pub failures_in : {S : Type 0} → (S → ℕ) → Option S → ℕ
 failures_in failures None = 0
 failures_in failures (Some s) = failures s
 
--- a sink took the file of a receiver
+-- a sink took the file of a receiver, which can be written
 pub record Saves (old new : Option (List ℕ)) : Type 0 where
   pub receiver : State
+  pub writable : IsWritable receiver
   pub taken : Appends old new (state_text (kept_of receiver))

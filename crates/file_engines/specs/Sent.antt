@@ -5,7 +5,7 @@ use Rattle.st_format.specs.Device.{AreOctets}
 use Rattle.st_format.specs.Picture.{Values}
 use Rattle.st_format.specs.declared.format.Format.{Format}
 use Rattle.capture_file.specs.PictureFaults.{IsPictureFault}
-use Rattle.capture_file.specs.PictureFile.{picture_text}
+use Rattle.capture_file.specs.PictureFile.{IsPictureFile}
 use Rattle.packet_plan.specs.Plan.{group_octets}
 use Rattle.packet_plan.specs.declared.plan.PlanFault.{PlanFault}
 use Rattle.packet_plan.specs.declared.plan.PlanFault.TheVariants.{NoMemory, BadPacketSize}
@@ -35,12 +35,12 @@ IsPictureRefusal told r = ⊥
 
 -- a source was to give the file of a picture
 abbrev pub SaysPicture : Option (List ℕ) → Values → Type 0
-SaysPicture told p = (octets : List ℕ) → told ≡ Some octets → octets ≡ picture_text p
+SaysPicture told p = (octets : List ℕ) → told ≡ Some octets → IsPictureFile octets p
 
 -- a source was to give the file of a picture of this format, if it tells what it is to give
 abbrev pub SaysFormat : Option (List ℕ) → Format → Type 0
 SaysFormat told format = (octets : List ℕ) → told ≡ Some octets
-    → (p : Values) × (p.format ≡ format) × (octets ≡ picture_text p)
+    → (p : Values) × (p.format ≡ format) × IsPictureFile octets p
 
 -- so it is of another format
 pub record SaysOther (told : Option (List ℕ)) (format : Format) : Type 0 where

@@ -55,7 +55,7 @@ where
         ∷ counts (O.failures output.old) (O.failures output.new)
         ∷ counts (F.failures faults.old) (F.failures faults.new) ∷ []) }
     ensures saved { result ≡ 0 → Saves (K.held state.old) (K.held state.new) }
-    // Where the files are those of two receivers, what is written is the file of the two merged.
+    // The files are those of two receivers, and what is written is that of the two merged.
     ensures merged { result ≡ 0
         → Merges (L.to_give left.old) (R.to_give right.old) (K.held state.old) (K.held state.new) }
     ensures refused { result ≡ 1 → state.new ≡ state.old }

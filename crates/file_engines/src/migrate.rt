@@ -2,10 +2,10 @@
 ghost use Rattle.std.specs.Prelude.{◌≡◌, ◌≢◌, ◌≤◌, ◌⊎◌, ◌∷◌, [], IfErr, IfOk, OnOk, length};
 ghost use Rattle.std.specs.Io.KnownBytes.{Appends};
 ghost use Rattle.file_engines.specs.Fault.{Accounts, NoneFailed, OneFailed, counts};
-ghost use Rattle.file_engines.specs.Migrating.{Migrates};
+ghost use Rattle.file_engines.specs.Migrating.{Leaves, LeavesAt, LeavesBy, Migrates, MovesBy};
 ghost use Rattle.file_engines.specs.Refused.{IsCaptureRefusal, IsMigrateRefusal};
 ghost use Rattle.file_engines.specs.Refusing.{OfRefusal, TellsRefusal};
-ghost use Rattle.capture_file.specs.Migrated.{Migrated};
+ghost use Rattle.capture_file.specs.Migrated.{Migrated, devices};
 ghost use Rattle.tool_text.specs.Telling.{memory_line};
 
 use crate::fault::{Fault, Refusal, of_capture};
@@ -55,10 +55,21 @@ where
         ∷ counts (F.failures faults.old) (F.failures faults.new) ∷ []) }
     ensures migrated { result ≡ 0 → Migrates (D.to_give sdp.old) (D.to_give sdp.new)
         (S.to_give source.old) (S.to_give source.new) (K.held sink.old) (K.held sink.new) }
-    // What is told is the first refusal that speaks against the text and the capture.
+    // What is told is the first refusal that speaks against the text and the capture, and the
+    // capture was written up to it.
     ensures told { result ≡ 1
-        → TellsRefusal (IsMigrateRefusal (D.to_give sdp.old) (S.to_give source.old))
+        → TellsRefusal (λ r. IsMigrateRefusal (D.to_give sdp.old) (S.to_give source.old) r
+        × LeavesAt r (D.to_give sdp.old) (D.to_give sdp.new)
+        (devices (S.to_give source.old) (S.failures source.old)
+        (K.held sink.old) (K.failures sink.old))
+        (devices (S.to_give source.new) (S.failures source.new)
+        (K.held sink.new) (K.failures sink.new)))
         (F.held faults.old) (F.held faults.new) }
+    ensures left { result ≢ 0 → Leaves (D.to_give sdp.old) (D.to_give sdp.new)
+        (devices (S.to_give source.old) (S.failures source.old)
+        (K.held sink.old) (K.failures sink.old))
+        (devices (S.to_give source.new) (S.failures source.new)
+        (K.held sink.new) (K.failures sink.new)) }
     ensures silent { result ≡ 0 → faults.new ≡ faults.old }
     ensures memory { result ≡ 4 → Appends (F.held faults.old) (F.held faults.new) memory_line }
 {
@@ -88,6 +99,11 @@ where
         (S.to_give source.old) (S.to_give source.new) (K.held sink.old) (K.held sink.new)) }
     ensures refusal { IfErr result (λ f. OfRefusal f
         (IsMigrateRefusal (D.to_give sdp.old) (S.to_give source.old))) }
+    ensures left { IfErr result (λ f. LeavesBy f (D.to_give sdp.old) (D.to_give sdp.new)
+        (devices (S.to_give source.old) (S.failures source.old)
+        (K.held sink.old) (K.failures sink.old))
+        (devices (S.to_give source.new) (S.failures source.new)
+        (K.held sink.new) (K.failures sink.new))) }
     ensures failures { Accounts result (counts (D.failures sdp.old) (D.failures sdp.new)
         ∷ counts (S.failures source.old) (S.failures source.new)
         ∷ counts (K.failures sink.old) (K.failures sink.new)
@@ -110,6 +126,11 @@ fn move_capture<A: Allocator, S: ByteSource, K: ByteSink>(
         (S.to_give source.new) (K.held sink.old) (K.held sink.new)) }
     ensures refusal { IfErr result (λ f. OfRefusal f
         (IsCaptureRefusal (S.to_give source.old))) }
+    ensures moved { IfErr result (λ f. MovesBy f said.now
+        (devices (S.to_give source.old) (S.failures source.old)
+        (K.held sink.old) (K.failures sink.old))
+        (devices (S.to_give source.new) (S.failures source.new)
+        (K.held sink.new) (K.failures sink.new))) }
     ensures failures { Accounts result (counts (S.failures source.old) (S.failures source.new)
         ∷ counts (K.failures sink.old) (K.failures sink.new) ∷ []) }
 {

@@ -12,7 +12,7 @@ ghost use Rattle.file_engines.specs.Refusing.{OfRefusal, TellsRefusal};
 ghost use Rattle.file_engines.specs.Sent.{FirstIs};
 ghost use Rattle.file_engines.specs.Taking.{Begins, HoldsBy, OpensBy, Receives, TakesFile};
 ghost use Rattle.file_engines.specs.Taking.{TakesFiles, TakesFirst};
-ghost use Rattle.receiver_file.specs.Saved.{kept_of};
+ghost use Rattle.receiver_file.specs.Saved.{IsWritable, kept_of};
 ghost use Rattle.tool_text.specs.Sources.{IsSourceText};
 ghost use Rattle.tool_text.specs.Telling.{memory_line};
 ghost use Rattle.tool_text.specs.Timestamps.{AreTimestamps};
@@ -154,6 +154,7 @@ pub(crate) fn save<A: Allocator, K: ByteSink>(
 ) -> Result<(), Fault>
     ensures whole { OnOk result (Appends (K.held state.old) (K.held state.new)
         (state_text (kept_of receiver.now))) }
+    ensures writable { IsWritable receiver.now }
     ensures saved { OnOk result (Saves (K.held state.old) (K.held state.new)) }
     ensures refused { IfErr result (λ f. IfRefused f (state.new ≡ state.old)) }
     ensures unrefused { IfErr result (λ f. IfRefused f ⊥) }

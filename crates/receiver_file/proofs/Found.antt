@@ -31,7 +31,7 @@ use Rattle.receiver_file.specs.declared.front.Head.{Head}
 use Rattle.receiver_file.specs.Front.{count_at, flag_at, flag_of, head_at, name_at, only_one}
 use Rattle.receiver_file.specs.Front.{payload_type_at, ssrc_at, ssrc_of}
 use Rattle.receiver_file.specs.Numbers.{number_at, octet_at}
-use Rattle.receiver_file.specs.Saved.{IsSaved, IsWritable, kept_of}
+use Rattle.receiver_file.specs.Saved.{IsReceiverFile, IsSaved, IsWritable, kept_of}
 use Rattle.receiver_file.specs.StateFaults.{flag_octet, head_text}
 use Rattle.receiver_file.specs.StateReading.{all_held_at, held_at, state_walk, timestamp_at}
 use Rattle.receiver_file.proofs.GroupsFound.{behind, cut_takes, groups_take}
@@ -387,7 +387,9 @@ pub found_state : (old new : Option (List ℕ)) (r : Result State FileFault)
     → IfOk r (λ s. Takes state_walk old new (kept_of s)) → TellsOctets old
     → IfOk r IsWritable
     → IfOk r (λ s. (octets : List ℕ) → old ≡ Some octets
-    → (octets ≡ state_text (kept_of s)) × IsSaved (kept_of s))
-found_state old new (Ok s) p bytes is =
-    λ octets told. (text_told (kept_of s) old new bytes p octets told, writable_saved s is)
+    → IsReceiverFile octets s × IsSaved (kept_of s))
+found_state old new (Ok s) p bytes is = λ octets told. (
+  record { writable = is; whole = text_told (kept_of s) old new bytes p octets told },
+  writable_saved s is,
+)
 found_state old new (Err f) p bytes is = tt

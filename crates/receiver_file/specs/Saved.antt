@@ -13,7 +13,7 @@ use Rattle.capture_file.specs.declared.front.Version.TheVariants.{One}
 use Rattle.capture_file.specs.Fronts.{kind_text, receiver_name}
 use Rattle.capture_file.specs.StateFile.{Held, IsKeptReceiver, Kept, SsrcFits, cut_cells}
 use Rattle.capture_file.specs.StateFile.{format_text}
-use Rattle.capture_file.specs.StateFile.{group_count, held_of, held_text, opening_text}
+use Rattle.capture_file.specs.StateFile.{group_count, held_of, held_text, opening_text, state_text}
 
 -- what is kept of frames, one for each timestamp
 abbrev pub kept_frames : Fields → List ℕ → List Raster → List Held
@@ -55,6 +55,11 @@ pub record IsWritable (s : State) : Type 0 where
   pub ssrc : SsrcFits s.opening.ssrc
   pub timestamps : AllByRecursion (λ t. t < 2 ^ 32) s.opening.window
   pub frames : AllByRecursion IsFilled s.frames
+
+-- The octets are the file of this receiver, which can be written.
+pub record IsReceiverFile (octets : List ℕ) (s : State) : Type 0 where
+  pub writable : IsWritable s
+  pub whole : octets ≡ state_text (kept_of s)
 
 -- the two parts of a file: what stands before the frames, and the frames
 abbrev pub front_text : Kept → List ℕ

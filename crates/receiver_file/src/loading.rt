@@ -8,7 +8,7 @@ ghost use Rattle.path_merge.specs.Opening.{AreDifferent};
 ghost use Rattle.capture_file.specs.Faults.{CountsDevice, IfContent, IsMachine};
 ghost use Rattle.capture_file.specs.Fields.{Fails, Takes};
 ghost use Rattle.capture_file.specs.StateFile.{Kept, state_text};
-ghost use Rattle.receiver_file.specs.Saved.{IsSaved, IsWritable, kept_of};
+ghost use Rattle.receiver_file.specs.Saved.{IsReceiverFile, IsSaved, IsWritable, kept_of};
 ghost use Rattle.receiver_file.specs.StateFaults.{IsStateFault};
 ghost use Rattle.receiver_file.specs.StateReading.{state_walk};
 
@@ -46,7 +46,7 @@ pub fn load_receiver<A: Allocator + Copy, S: ByteSource>(
         → IsAtEnd (S.to_give source.new)) }
     // What is read is the file of the receiver that is answered, all of it, and one that can be.
     ensures found { IfOk result (λ r. (octets : List ℕ) → S.to_give source.old ≡ Some octets
-        → (octets ≡ state_text (kept_of r)) × IsSaved (kept_of r)) }
+        → IsReceiverFile octets r × IsSaved (kept_of r)) }
     // A fault of the content is one whose condition holds of the octets.
     ensures wrong { IfErr result (λ f. (octets : List ℕ) → S.to_give source.old ≡ Some octets
         → IfContent f (IsStateFault f octets)) }

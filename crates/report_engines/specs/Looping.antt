@@ -1,8 +1,8 @@
 -- What `loop` takes out of its link, and what it prints (own).
 use Rattle.std.specs.Prelude.{◌≡◌, ℕ, ◌≤◌, min, List, [], ◌∷◌, ◌++◌, length, Option, Some}
 use Rattle.std.specs.Io.KnownBytes.{Appends}
-use Rattle.capture_file.specs.PictureFile.{picture_text}
 use Rattle.file_engines.specs.Line.{line_text}
+use Rattle.file_engines.specs.Sent.{SaysPicture}
 use Rattle.file_engines.specs.declared.line.Line.TheVariants.{Sent, Delivered, Frame}
 use Rattle.frame_assembly.specs.Kinds.{AreCounts}
 use Rattle.frame_assembly.specs.declared.counts.Counts.{Counts}
@@ -53,7 +53,7 @@ pub record Loops (max limit before after : ℕ) (given old new : Option (List �
   pub packets : List (List PacketRun)
   pub delivered : ℕ
   pub receiver : State
-  pub read : (octets : List ℕ) → given ≡ Some octets → octets ≡ picture_text picture
+  pub read : SaysPicture given picture
   pub plan : IsFullPlan packets picture.format max
   pub opening : receiver.opening ≡ loop_opening picture.format
   pub came : Came (min limit (length packets)) delivered receiver

@@ -32,7 +32,7 @@ where
     ensures working { result ≢ 3 → NoneFailed (counts (S.failures state.old) (S.failures state.new)
         ∷ counts (O.failures output.old) (O.failures output.new)
         ∷ counts (F.failures faults.old) (F.failures faults.new) ∷ []) }
-    // What is written is the report of the receiver whose file was read.
+    // The file is that of a receiver, and what is written is its report.
     ensures reported { result ≡ 0
         → Reports (S.to_give state.old) (O.held output.old) (O.held output.new) }
     ensures refused { result ≡ 1 → output.new ≡ output.old }

@@ -1,11 +1,19 @@
 use Rattle.std.proofs.lemmas.Result.{err_from_is_err_and}
 use Rattle.std.proofs.Common.{refl, sym, ◌∙◌}
-use Rattle.file_engines.proofs.Merged.{joined}
+use Rattle.file_engines.proofs.Merged.{again, joined}
 use Rattle.file_engines.proofs.Refusals.{of_refusal_map, right_refused}
 use Rattle.file_engines.proofs.merge.merge_both.Goals as goal
 
 pub returns-in-Ok-clause-joined : goal.returns-in-Ok-clause-joined
 returns-in-Ok-clause-joined g c = record {
+  first = c.in_ok-merged.merged;
+  second = c.in_ok-other.other;
+  first_is = c.in_ok-merged.ensures.found;
+  second_is = c.in_ok-other.ensures.found;
+  both =
+      joined c.in_ok-merged.merged c.in_ok-other.other c.in_ok-merged.merged c.in_ok-other.other
+      c.merge.new.self (again c.in_ok-merged.merged) (again c.in_ok-other.other)
+      c.in-Ok.ensures.alike c.merge.ensures.opening c.in-Ok.ensures.frames;
   joined = λ s t gives also_gives.
       joined s t c.in_ok-merged.merged c.in_ok-other.other c.merge.new.self
       (c.in_ok-merged.ensures.same s gives) (c.in_ok-other.ensures.same t also_gives)

@@ -1,6 +1,13 @@
-use Rattle.std.proofs.Common.{List, [], ◌∷◌}
+use Rattle.std.proofs.Common.{List, [], ◌∷◌, refl, sym, ◌∙◌}
 use Rattle.file_engines.specs.Fault.{Failures, counts}
+use Rattle.capture_file.specs.Migrated.{Devices, devices}
+use Rattle.file_engines.specs.Migrating.{LeavesAt}
+use Rattle.file_engines.specs.Migrating.Leaves.{Untouched}
+use Rattle.file_engines.specs.Refused.{IsMigrateRefusal}
+use Rattle.file_engines.specs.declared.fault.Refusal.{Refusal}
 use Rattle.file_engines.proofs.Ended.{none_failed, on_done, one_failed}
+use Rattle.file_engines.proofs.Leaving.{refused_left, run_left}
+use Rattle.file_engines.proofs.Refusals.{memory_told, outcome_told}
 use Rattle.file_engines.proofs.migrate.run_migrate.Goals as goal
 
 pub returns-clause-device : goal.returns-clause-device
@@ -34,3 +41,48 @@ pub returns-clause-migrated : goal.returns-clause-migrated
 returns-clause-migrated g c =
     let run = c.migrate-outcome in
     λ is. on_done run.result _ (c.end.ensures.done is) run.ensures.migrated
+
+pub returns-clause-left : goal.returns-clause-left
+returns-clause-left g c =
+    let run = c.migrate-outcome in
+    let old : Devices =
+    devices (g.S.ByteSource.to_give c.args.source.now) (g.S.ByteSource.failures c.args.source.now)
+    (g.K.ByteSink.held c.args.sink.now) (g.K.ByteSink.failures c.args.sink.now) in
+    let new : Devices =
+    devices (g.S.ByteSource.to_give run.new.source) (g.S.ByteSource.failures run.new.source)
+    (g.K.ByteSink.held run.new.sink) (g.K.ByteSink.failures run.new.sink) in
+    λ _. run_left run.result (g.D.ByteSource.to_give c.args.sdp.now)
+    (g.D.ByteSource.to_give run.new.sdp) old new run.ensures.migrated run.ensures.left
+
+pub returns-clause-told : goal.returns-clause-told
+returns-clause-told g c =
+    let run = c.migrate-outcome in
+    let old : Devices =
+    devices (g.S.ByteSource.to_give c.args.source.now) (g.S.ByteSource.failures c.args.source.now)
+    (g.K.ByteSink.held c.args.sink.now) (g.K.ByteSink.failures c.args.sink.now) in
+    let new : Devices =
+    devices (g.S.ByteSource.to_give run.new.source) (g.S.ByteSource.failures run.new.source)
+    (g.K.ByteSink.held run.new.sink) (g.K.ByteSink.failures run.new.sink) in
+    let sdp_old = g.D.ByteSource.to_give c.args.sdp.now in
+    let sdp_new = g.D.ByteSource.to_give run.new.sdp in
+    let told = IsMigrateRefusal sdp_old (g.S.ByteSource.to_give c.args.source.now) in
+    λ one. outcome_told (λ (r : Refusal). told r × LeavesAt r sdp_old sdp_new old new) run.result
+    (g.F.ByteSink.held c.args.faults.now) (g.F.ByteSink.held c.end.new.faults)
+    (c.end.ensures.told one)
+    (refused_left told run.result sdp_old sdp_new old new run.ensures.refusal run.ensures.left)
+
+pub returns-in_default-clause-left : goal.returns-in_default-clause-left
+returns-in_default-clause-left g c = λ _. Untouched refl
+
+pub returns-in_default-clause-told : goal.returns-in_default-clause-told
+returns-in_default-clause-told g c =
+    let same : Devices =
+    devices (g.S.ByteSource.to_give c.args.source.now) (g.S.ByteSource.failures c.args.source.now)
+    (g.K.ByteSink.held c.args.sink.now) (g.K.ByteSink.failures c.args.sink.now) in
+    let sdp = g.D.ByteSource.to_give c.args.sdp.now in
+    let told = IsMigrateRefusal sdp (g.S.ByteSource.to_give c.args.source.now) in
+    λ one. memory_told (λ (r : Refusal). told r × LeavesAt r sdp sdp same same)
+    c.tell_memory.result (g.F.ByteSink.failures c.args.faults.now)
+    (g.F.ByteSink.failures c.tell_memory.new.faults) (g.F.ByteSink.held c.args.faults.now)
+    (g.F.ByteSink.held c.tell_memory.new.faults) c.tell_memory.ensures
+    (sym c.number.ensures ∙ one)
