@@ -12,9 +12,6 @@ pub mod Tallied
 pub mod Refusing
 pub mod Sent
 pub mod Received
-<<<<<<< HEAD
 pub mod Writing
 pub mod Sending
-=======
 pub mod Printed
->>>>>>> 764b18ca1bec5a50dff64074e801882478a0e9e8
