@@ -8,6 +8,8 @@ use Rattle.std.specs.Option.{option_map}
 use Rattle.st_format.specs.Device.{CountsOne, Failed as HasFailed, Told}
 use Rattle.st_format.specs.Turns.{Due, Comes, Nothing, GivesTurns, datagrams_of}
 use Rattle.st_format.specs.declared.device.SourceFault.{SourceFault}
+use Rattle.st_format.specs.declared.device.SourceFault.TheVariants.{Content}
+use Rattle.st_format.specs.declared.device.SourceFault.TheVariants.{Device as FailedDevice}
 use Rattle.capture_file.specs.declared.fault.FileFault.{FileFault}
 use Rattle.capture_file.specs.declared.fault.FileFault.TheVariants.{NoMemory, Device, BadName}
 use Rattle.capture_file.specs.declared.fault.FileFault.TheVariants.{BadVersion, Truncated, BadField}
@@ -15,7 +17,7 @@ use Rattle.capture_file.specs.declared.fault.FileFault.TheVariants.{TrailingByte
 use Rattle.capture_file.specs.declared.fault.FileFault.TheVariants.{TooManyRecords}
 use Rattle.capture_file.specs.declared.reader.Standing.{Standing}
 use Rattle.capture_file.specs.declared.reader.Standing.TheVariants.{Reads, Ended, Failed}
-use Rattle.capture_file.specs.Faults.{CountsFault}
+use Rattle.capture_file.specs.Faults.{CountsFault, file_fault_number}
 use Rattle.capture_file.specs.Reader.{FailsBehind, HasDelivered, StandsRight, due_of, dues_in}
 use Rattle.capture_file.specs.Reader.{last_fault_of, source_fault, turns_of}
 use Rattle.capture_file.specs.Reading.{entries_in, fault_at}
@@ -356,3 +358,27 @@ reader_came received outcome done s t new before mid after was now d e opened ke
       counted = subst (λ (n : ℕ). CountsAll (delivered_in received) n e) none counted;
       right = subst (λ (x : Told). StandsRight t e x left failures) (stays ∙ is) right;
     }) answers
+
+-- ---- the number of a reader's fault
+
+number_is : (e : SourceFault) (n m : ℕ) → e ≡ Content n → e ≡ Content m → m ≡ n
+number_is e n m here there = cc
+
+no_device : (e : SourceFault) (n : ℕ) → e ≡ Content n → e ≡ FailedDevice → ⊥
+no_device e n here there = cc
+
+-- a fault that a reader told by a number is one of the file's
+pub has_number : {X : Type 0} (f : FileFault) (e : SourceFault) (n : ℕ) → e ≡ Content n
+    → ((g : FileFault) → file_fault_number g ≡ n → ⊥) → e ≡ source_fault f → X
+has_number NoMemory e n is none same = absurd (none NoMemory (number_is e n 1 is same))
+has_number Device e n is none same = absurd (no_device e n is same)
+has_number BadName e n is none same = absurd (none BadName (number_is e n 3 is same))
+has_number BadVersion e n is none same = absurd (none BadVersion (number_is e n 4 is same))
+has_number Truncated e n is none same = absurd (none Truncated (number_is e n 5 is same))
+has_number BadField e n is none same = absurd (none BadField (number_is e n 6 is same))
+has_number TrailingBytes e n is none same = absurd (none TrailingBytes (number_is e n 7 is same))
+has_number MixedGroup e n is none same = absurd (none MixedGroup (number_is e n 8 is same))
+has_number TooManyRecords e n is none same = absurd (none TooManyRecords (number_is e n 9 is same))
+
+pub no_fault : (f : FileFault) (r : Option FileFault) → r ≡ None → r ≡ Some f → ⊥
+no_fault f r none some = cc
