@@ -3,7 +3,7 @@
 use crate::checks::met;
 use crate::pictures::has_values;
 use bt709_fixed::{ColourFault, RangeKind, gain, limit, to_ycc422, to_ycc444};
-use key_mix::{Axis, JobFault, WipeShape, key, wipe};
+use key_mix::{Axis, Job, JobFault, WipeShape, key, run_job, wipe};
 use st_format::{Depth, Format, FormatFault, Picture, Sampling};
 use std::alloc::{Allocator, Global};
 
@@ -346,9 +346,34 @@ fn is_limited(alloc: Global, case: (Sampling, RangeKind, [u16; 3], [u16; 3])) ->
     }
 }
 
+/// *gain-and-limit*: jobs of so many pictures of 4:2:2 that are refused.
+const REFUSED: [(Job, usize, JobFault); 3] = [
+    (Job::Gain(16385), 1, JobFault::BadGain),
+    (Job::Gain(16385), 2, JobFault::WrongInputCount),
+    (Job::Key, 2, JobFault::WrongInputCount),
+];
+
+/// Whether a job of so many pictures, two at most, is refused by this fault.
+fn is_refused(alloc: Global, case: (Job, usize, JobFault)) -> bool {
+    let (job, count, fault) = case;
+    let (Some(a), Some(b)) = (
+        plain(alloc, Sampling::Ycc422, Depth::D8, [100, 128, 128]),
+        plain(alloc, Sampling::Ycc422, Depth::D8, [100, 128, 128]),
+    ) else {
+        return false;
+    };
+    match [a, b].get(..count) {
+        Some(pictures) => run_job(alloc, &job, pictures).err() == Some(fault),
+        None => false,
+    }
+}
+
 /// *gain-and-limit*.
 #[test]
 fn gain_and_limit(rt: HostRuntime) {
+    for case in REFUSED {
+        met(&rt, is_refused(rt.alloc(), case));
+    }
     for case in GAINS {
         met(&rt, is_gained(rt.alloc(), case));
     }
