@@ -10,7 +10,7 @@
 //!
 //! A count of failures or of datagrams stays at 2^64 - 1 once it is there.
 ghost use Rattle.std.specs.Prelude.{◌≡◌, ◌≤◌, ◌<◌, ℕ, List, [], ◌∷◌, Option, length, take, IfOk};
-ghost use Rattle.std.specs.Prelude.{OnOk, IfErr, OnErr, MatchResult};
+ghost use Rattle.std.specs.Prelude.{OnOk, IfErr, OnErr, MatchResult, ⊤};
 ghost use Rattle.std.specs.Borrow.{GName};
 ghost use Rattle.std.specs.Io.KnownBytes.{Consumes, Appends, Keeps, IsAtEnd};
 ghost use Rattle.st_format.specs.Device.{CountsFaults, ConsumesPrefix, AppendsPrefix, StaysUntold};
@@ -132,6 +132,9 @@ pub trait ByteSink {
     /// How often it has failed.
     ghost failures: { Self → ℕ };
 
+    /// The references by which it reaches what it writes to, which stay. None where it owns that.
+    ghost names: { Self → List GName } = { λ _. [] };
+
     /// Takes octets from the front of `octets`, and answers how many: maybe fewer than there are,
     /// but at least one if there is one. They come behind those that it holds.
     ///
@@ -147,7 +150,8 @@ pub trait ByteSink {
             (λ n. Appends (held self.old) (held self.new) (take n octets.now)) }
         ensures fault { OnErr result (Keeps (held self.old) (held self.new)) }
         ensures untold { StaysUntold (held self.old) (held self.new) }
-        ensures counted { CountsFaults (failures self.old) (failures self.new) result };
+        ensures counted { CountsFaults (failures self.old) (failures self.new) result }
+        ensures names { names self.new ≡ names self.old };
 }
 
 /// Takes datagrams, each whole or not at all.
@@ -158,6 +162,13 @@ pub trait DatagramSink {
     /// How often it has failed.
     ghost failures: { Self → ℕ };
 
+    /// What becomes of the sink by a call that takes a datagram. Where a sink of octets lies below
+    /// it, this says what that is then written.
+    ghost takes: { Self → List ℕ → Self → Type 0 } = { λ _ _ _. ⊤ };
+
+    /// What becomes of it by a call that fails, at a datagram.
+    ghost fails: { Self → List ℕ → Self → Type 0 } = { λ _ _ _. ⊤ };
+
     /// Takes one datagram, of at most 65,535 octets; it comes behind those taken before. It may be
     /// empty.
     ///
@@ -166,7 +177,9 @@ pub trait DatagramSink {
         requires { length octets.now ≤ 65535 }
         ensures taken { OnOk result (TakesOne (taken self.old) (taken self.new) octets.now) }
         ensures fault { OnErr result (KeepsAll (taken self.old) (taken self.new)) }
-        ensures counted { CountsFaults (failures self.old) (failures self.new) result };
+        ensures counted { CountsFaults (failures self.old) (failures self.new) result }
+        ensures takes { OnOk result (takes self.old octets.now self.new) }
+        ensures fails { OnErr result (fails self.old octets.now self.new) };
 }
 
 /// Gives datagrams that come by two paths, one turn after another, until its end.
@@ -234,6 +247,8 @@ impl<K: ByteSink> ByteSink for &mut K {
 
     ghost failures = { λ k. K.failures k.now };
 
+    ghost names = { λ k. k.ghost_name ∷ [] };
+
     fn write(&mut self, octets: &[u8]) -> Result<usize, DeviceFault> {
         ByteSink::write(&mut **self, octets)
     }
@@ -243,6 +258,10 @@ impl<K: DatagramSink> DatagramSink for &mut K {
     ghost taken = { λ k. K.taken k.now };
 
     ghost failures = { λ k. K.failures k.now };
+
+    ghost takes = { λ old octets new. K.takes old.now octets new.now };
+
+    ghost fails = { λ old octets new. K.fails old.now octets new.now };
 
     fn put(&mut self, octets: &[u8]) -> Result<(), SinkFault> {
         DatagramSink::put(&mut **self, octets)
@@ -304,6 +323,7 @@ pub fn write_whole<K: ByteSink>(sink: &mut K, octets: &[u8]) -> Result<(), Devic
     ensures fault { OnErr result (AppendsPrefix (K.held sink.old) (K.held sink.new) octets.now) }
     ensures untold { StaysUntold (K.held sink.old) (K.held sink.new) }
     ensures counted { CountsFaults (K.failures sink.old) (K.failures sink.new) result }
+    ensures names { K.names sink.new ≡ K.names sink.old }
 {
     let mut done = 0;
     while done < octets.len() {

@@ -17,4 +17,5 @@ loop-done-preserved g c =
           (g.K.ByteSink.held c.write.new.self) (take n ys)) (take_rest xs l.done) now.taken),
       now.counted ∙ l.invariant.2,
       stays_untold _ _ _ l.invariant.3 now.untold,
+      now.names ∙ l.invariant.4,
     )

@@ -12,3 +12,4 @@ invariant-loop-done g l =
     × Appends (g.K.ByteSink.held l.initial.sink) (g.K.ByteSink.held l.sink) (take l.done l.octets)
     × (g.K.ByteSink.failures l.sink ≡ g.K.ByteSink.failures l.initial.sink)
     × StaysUntold (g.K.ByteSink.held l.initial.sink) (g.K.ByteSink.held l.sink)
+    × (g.K.ByteSink.names l.sink ≡ g.K.ByteSink.names l.initial.sink)
