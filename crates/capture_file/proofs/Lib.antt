@@ -30,3 +30,4 @@ pub mod BlockFaults
 pub mod PictureFaults
 pub mod CutCaptures
 pub mod CutPictures
+pub mod Putting

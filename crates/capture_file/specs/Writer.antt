@@ -1,7 +1,10 @@
 -- What a writer of a capture writes (own).
 use Rattle.std.specs.Prelude.{◌≡◌, ℕ, ◌+◌, ◌%◌, ◌^◌, ◌<◌, Bool, true, false, List, [], ◌∷◌, ◌++◌}
 use Rattle.std.specs.Prelude.{length, drop, map, ⊤, Option, None, Some}
+use Rattle.std.specs.Borrow.{GName}
+use Rattle.std.specs.Io.KnownBytes.{Appends}
 use Rattle.std.specs.List.{AllByRecursion}
+use Rattle.st_format.specs.Device.{AppendsPrefix, CountsOne}
 use Rattle.st_format.specs.declared.path.Path.{Path}
 use Rattle.st_format.specs.declared.path.Path.TheVariants.{A, B}
 use Rattle.capture_file.specs.declared.paths.Paths.{Paths}
@@ -115,3 +118,38 @@ StandsWritten p (Some held) = p.failed ≡ false → IsWritten p.paths p.text_le
 abbrev pub taken_of : WriterPlace → Option (List ℕ) → Option (List (List ℕ))
 taken_of p None = None
 taken_of p (Some held) = Some (datagrams_in p.paths p.text_len held)
+
+-- ---- datagrams put into a writer
+
+-- A writer that had not failed took a datagram: its sink took that datagram's records.
+pub record TakesDatagram {K : Type 0} (held : K → Option (List ℕ)) (failures : K → ℕ)
+    (names : K → List GName) (old : Writer K) (octets : List ℕ) (new : Writer K) : Type 0 where
+  pub stands : old.place.failed ≡ false
+  pub written : Appends (held old.sink) (held new.sink)
+      (records_text (entries_of old.place.paths old.place.moment octets))
+  pub place : new.place ≡ place_behind old.place
+  pub faultless : failures new.sink ≡ failures old.sink
+  pub lent : names new.sink ≡ names old.sink
+
+-- A writer failed at a datagram: its sink failed in this call, having taken a first part of that
+-- datagram's records; or the writer had failed before, and its sink stays.
+pub record FailsDatagram {K : Type 0} (held : K → Option (List ℕ)) (failures : K → ℕ)
+    (names : K → List GName) (old : Writer K) (octets : List ℕ) (new : Writer K) : Type 0 where
+  pub cut : old.place.failed ≡ false → AppendsPrefix (held old.sink) (held new.sink)
+      (records_text (entries_of old.place.paths old.place.moment octets))
+  pub device : old.place.failed ≡ false → CountsOne (failures old.sink) (failures new.sink)
+  pub stays : old.place.failed ≡ true → new.sink ≡ old.sink
+  pub place : new.place ≡ place_failed old.place
+  pub lent : names new.sink ≡ names old.sink
+
+-- A writer wrote the records of these datagrams, and its sink did not fail.
+pub record WritesDatagrams {K : Type 0} (held : K → Option (List ℕ)) (failures : K → ℕ)
+    (names : K → List GName) (datagrams : List (List ℕ)) (old new : Writer K) : Type 0 where
+  pub written : Appends (held old.sink) (held new.sink)
+      (records_text (entries_from old.place.paths old.place.moment datagrams))
+  pub paths : new.place.paths ≡ old.place.paths
+  pub text_len : new.place.text_len ≡ old.place.text_len
+  pub moment : new.place.moment ≡ moment_after old.place.paths old.place.moment datagrams
+  pub stands : new.place.failed ≡ old.place.failed
+  pub faultless : failures new.sink ≡ failures old.sink
+  pub lent : names new.sink ≡ names old.sink

@@ -1,6 +1,6 @@
 //! A capture as a sink of datagrams.
 ghost use Rattle.std.specs.Prelude.{◌≡◌, ◌≤◌, ◌<◌, ◌+◌, ◌%◌, ◌^◌, [], Some, length, IfErr, IfOk};
-ghost use Rattle.std.specs.Prelude.{IsErr, OnErr, OnOk, MatchResult, true, false};
+ghost use Rattle.std.specs.Prelude.{IsErr, OnErr, OnOk, MatchResult, false};
 ghost use Rattle.std.specs.Io.KnownBytes.{Appends, IsAtEnd, Keeps};
 ghost use Rattle.st_format.specs.Device.{AppendsPrefix, CountsFaults, CountsOne, KeepsAll};
 ghost use Rattle.st_format.specs.Device.{StaysUntold, TakesOne};
@@ -8,7 +8,8 @@ ghost use Rattle.capture_file.specs.Faults.{CountsFault, IsDevice};
 ghost use Rattle.capture_file.specs.Fronts.{front_text};
 ghost use Rattle.capture_file.specs.Records.{records_text};
 ghost use Rattle.capture_file.specs.Source.{IfTold};
-ghost use Rattle.capture_file.specs.Writer.{StandsWritten, entries_of, moment_behind, taken_of};
+ghost use Rattle.capture_file.specs.Writer.{FailsDatagram, StandsWritten, TakesDatagram};
+ghost use Rattle.capture_file.specs.Writer.{entries_of, taken_of};
 ghost use Rattle.capture_file.specs.declared.front.Version.TheVariants.{Two};
 
 use crate::fault::FileFault;
@@ -17,8 +18,9 @@ use crate::writing::{write_front, write_record};
 use st_format::{ByteSink, DatagramSink, DeviceFault, Path, SinkFault};
 use std::marker::Model;
 
-/// Writes a capture of the datagrams that it takes into a sink of octets, which it owns: for each
-/// datagram a record by each of its paths, whose moment is the record's index from 0, modulo 2^64.
+/// Writes a capture of the datagrams that it takes into a sink of octets, which it owns; of one that
+/// is lent, `&mut K`, it owns the loan. For each datagram it writes a record by each of its paths,
+/// whose moment is the record's index from 0, modulo 2^64.
 ///
 /// After a fault it takes nothing more, and the sink is asked for nothing.
 #[derive(Drop)]
@@ -66,6 +68,7 @@ fn write_datagram<K: ByteSink>(
         (records_text (entries_of paths moment octets.now))) }
     ensures untold { StaysUntold (K.held sink.old) (K.held sink.new) }
     ensures counted { CountsFaults (K.failures sink.old) (K.failures sink.new) result }
+    ensures names { K.names sink.new ≡ K.names sink.old }
 {
     match paths {
         Paths::OnlyA => write_record(sink, Path::A, moment, octets),
@@ -102,6 +105,8 @@ impl<K: ByteSink> CaptureWriter<K> {
             × AppendsPrefix (K.held sink) (K.held e.1) (front_text Two text.now)) }
         ensures counted { MatchResult result (λ w. K.failures w.sink ≡ K.failures sink)
             (λ e. CountsFault e.0 (K.failures sink) (K.failures e.1)) }
+        ensures names { MatchResult result (λ w. K.names w.sink ≡ K.names sink)
+            (λ e. K.names e.1 ≡ K.names sink) }
     {
         match write_front(&mut sink, text) {
             Ok(()) => Ok(CaptureWriter {
@@ -142,6 +147,10 @@ impl<K: ByteSink> DatagramSink for CaptureWriter<K> {
 
     ghost failures = { λ w. w.failures };
 
+    ghost takes = { λ old octets new. TakesDatagram K.held K.failures K.names old octets new };
+
+    ghost fails = { λ old octets new. FailsDatagram K.held K.failures K.names old octets new };
+
     /// Writes the datagram's records.
     fn put(&mut self, octets: &[u8]) -> Result<(), SinkFault>
         requires { length octets.now ≤ 65535 }
@@ -152,28 +161,13 @@ impl<K: ByteSink> DatagramSink for CaptureWriter<K> {
             (KeepsAll (taken_of self.old.place (K.held self.old.sink))
             (taken_of self.new.place (K.held self.new.sink))) }
         ensures counted { CountsFaults self.old.failures self.new.failures result }
-
         // What is written: all records of the datagram, or after a fault a first part of them. A
         // fault comes only where the sink failed in this call, or the writer had failed before.
-        ensures written { OnOk result
-            ((self.old.place.failed ≡ false)
-            × Appends (K.held self.old.sink) (K.held self.new.sink)
-            (records_text (entries_of self.old.place.paths self.old.place.moment octets.now))) }
-        ensures cut { self.old.place.failed ≡ false
-            → OnErr result
-            (AppendsPrefix (K.held self.old.sink) (K.held self.new.sink)
-            (records_text (entries_of self.old.place.paths self.old.place.moment octets.now))) }
-        ensures device { self.old.place.failed ≡ false
-            → CountsFaults (K.failures self.old.sink) (K.failures self.new.sink) result }
-        ensures moment { OnOk result
-            (self.new.place.moment ≡ moment_behind self.old.place.paths self.old.place.moment) }
-        ensures stands { MatchResult result (λ _. self.new.place.failed ≡ false)
-            (λ _. self.new.place.failed ≡ true) }
         // After a fault nothing is written.
-        ensures failed { self.old.place.failed ≡ true
-            → IsErr result × (self.new.sink ≡ self.old.sink) }
-        ensures front { (self.new.place.paths ≡ self.old.place.paths)
-            × (self.new.place.text_len ≡ self.old.place.text_len) }
+        ensures takes { OnOk result
+            (TakesDatagram K.held K.failures K.names self.old octets.now self.new) }
+        ensures fails { OnErr result
+            (FailsDatagram K.held K.failures K.names self.old octets.now self.new) }
     {
         if self.failed {
             return self.fail();

@@ -37,6 +37,7 @@ pub(crate) fn write_record<K: ByteSink>(
         (record_text (record { path = path; moment = moment; octets = octets.now }))) }
     ensures untold { StaysUntold (K.held sink.old) (K.held sink.new) }
     ensures counted { CountsFaults (K.failures sink.old) (K.failures sink.new) result }
+    ensures names { K.names sink.new ≡ K.names sink.old }
 {
     let head = head_of(path, moment, octets.len() as u16);
     write_whole(sink, &head)?;
@@ -66,6 +67,7 @@ pub(crate) fn write_front<K: ByteSink>(sink: &mut K, text: &[u8]) -> Result<(), 
         (AppendsPrefix (K.held sink.old) (K.held sink.new) (front_text Two text.now)) }
     ensures untold { StaysUntold (K.held sink.old) (K.held sink.new) }
     ensures counted { CountsFaults (K.failures sink.old) (K.failures sink.new) result }
+    ensures names { K.names sink.new ≡ K.names sink.old }
 {
     let front = front_of(text.len() as u16);
     write_whole(sink, &front)?;
