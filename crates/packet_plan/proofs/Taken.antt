@@ -1,12 +1,13 @@
 -- Datagrams put into a sink one after another.
 use Rattle.std.proofs.Common.{◌≡◌, ℕ, zero, suc, ◌+◌, ◌<◌, ◌≤◌, inl, inr, eqb, Bool, List, [], ◌∷◌}
-use Rattle.std.proofs.Common.{◌++◌, length, take, get_or, append_assoc, refl, sym, ap, ◌∙◌, subst}
-use Rattle.std.proofs.Common.{arith, Option, None, Some}
+use Rattle.std.proofs.Common.{◌++◌, length, take, drop, get_or, append_assoc, refl, sym, ap, ◌∙◌}
+use Rattle.std.proofs.Common.{arith, subst, Option, None, Some}
 use Rattle.std.proofs.lemmas.Bool.{eq-eqb, ne_eqb}
 use Rattle.std.proofs.lemmas.Bool.Decides.{eqb_tells}
 use Rattle.std.proofs.lemmas.List.{append-nil, take_all}
 use Rattle.std.proofs.lemmas.List.Elements.{All-from_recursion}
 use Rattle.std.proofs.lemmas.Grind.{take_at_read}
+use Rattle.std.proofs.Math.Seq.{drop-cons}
 use Rattle.st_format.specs.Device.{KeepsAll, TakesAll, TakesOne}
 use Rattle.st_format.specs.Picture.{Values, IsPicture}
 use Rattle.st_format.specs.declared.format.Format.{Format}
@@ -82,6 +83,18 @@ texts_more p stamp qs i d lt is =
     let inside : i < length ds = omega (arith, length-texts p stamp 0 qs) in
     (take_at_read ds i [] inside).1
     ∙ ap (λ (x : List ℕ). take i ds ++ x ∷ []) (text_get p stamp 0 i i qs lt (omega arith) ∙ sym is)
+
+-- the datagrams from the i-th on
+pub texts_behind : (p : Values) (stamp : Stamp) (qs : List (List PacketRun)) (i : ℕ) (d : List ℕ)
+    → i < length qs → d ≡ datagram_text p stamp i (eqb (i + 1) (length qs)) (get_or qs i [])
+    → drop i (datagram_texts p stamp 0 qs) ≡ d ∷ drop (i + 1) (datagram_texts p stamp 0 qs)
+texts_behind p stamp qs i d lt is =
+    let ds : List (List ℕ) = datagram_texts p stamp 0 qs in
+    let inside : i < length ds = omega (arith, length-texts p stamp 0 qs) in
+    let one : i + 1 ≡ suc i = omega arith in
+    drop-cons ds i [] inside
+    ∙ ap (λ (x : List ℕ). x ∷ drop (suc i) ds) (text_get p stamp 0 i i qs lt (omega arith) ∙ sym is)
+    ∙ ap (λ (n : ℕ). d ∷ drop n ds) (sym one)
 
 -- ---- a plan that is sent
 

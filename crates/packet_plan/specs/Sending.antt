@@ -3,6 +3,7 @@ use Rattle.std.specs.Prelude.{ℕ, ◌<◌, ◌≤◌, Option, List, length, tak
 use Rattle.std.specs.List.{AllByRecursion}
 use Rattle.st_format.specs.Device.{TakesAll}
 use Rattle.st_format.specs.Picture.{Values}
+use Rattle.st_format.specs.Puts.{FailsAt, TakesEach}
 use Rattle.packet_plan.specs.declared.stamp.Stamp.{Stamp}
 use Rattle.packet_plan.specs.Plan.{RasterPlan, packet_octets}
 use Rattle.packet_plan.specs.Sent.{IsSentPicture}
@@ -26,3 +27,17 @@ pub record SendsPart (p : Values) (stamp : Stamp) (plan : RasterPlan) (count : �
   pub sent : IsSentPicture datagrams p stamp plan.max_octets plan.packets
   pub short : count < length datagrams
   pub taken : TakesAll old new (take count datagrams)
+
+-- Any sink took the datagrams of a picture by a plan: each call did what `takes` says.
+pub record PutsPicture {S : Type 0} (takes : S → List ℕ → S → Type 0) (p : Values) (stamp : Stamp)
+    (plan : RasterPlan) (old new : S) : Type 0 where
+  pub datagrams : List (List ℕ)
+  pub sent : IsSentPicture datagrams p stamp plan.max_octets plan.packets
+  pub taken : TakesEach takes old datagrams new
+
+-- Any sink took so many of them, from the first on, and failed at the next, as `fails` says.
+pub record PutsPart {S : Type 0} (takes fails : S → List ℕ → S → Type 0) (p : Values)
+    (stamp : Stamp) (plan : RasterPlan) (count : ℕ) (old new : S) : Type 0 where
+  pub datagrams : List (List ℕ)
+  pub sent : IsSentPicture datagrams p stamp plan.max_octets plan.packets
+  pub failed : FailsAt takes fails old datagrams count new

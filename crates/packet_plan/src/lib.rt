@@ -11,6 +11,7 @@ mod stamp;
 mod writing;
 
 pub use plan::{Plan, PlanFault};
+pub use raster::Raster;
 pub use run::PacketRun;
 pub use sending::{SendFault, send_frame};
 pub use stamp::Stamp;

@@ -9,8 +9,9 @@ use pgroup_pack::PackedPicture;
 use st_format::{Format, Picture};
 use std::alloc::Allocator;
 
-/// A picture, whose samples may be numbers or packed octets.
-pub(crate) trait Raster {
+/// A picture whose runs can be written into packets: its samples may be numbers, as a [`Picture`]
+/// has them, or packed octets, as a [`PackedPicture`] keeps them.
+pub trait Raster {
     /// The picture's values.
     ghost values: { Self → Values };
 
@@ -19,7 +20,10 @@ pub(crate) trait Raster {
         ensures value { result ≡ (values self.now).format }
         ensures whole { IsPicture (values self.now) };
 
-    /// Writes the octets of a run behind the first `at`, and answers where they end.
+    /// Writes the octets of a run behind the first `at`, and answers where they end. The octets
+    /// behind them stay.
+    ///
+    /// The run lies in the picture, and `buf` has room for its octets.
     fn write_run(&self, run: PacketRun, buf: &mut [u8], at: usize) -> usize
         requires room { at + length (run_octets (values self.now) run) ≤ length buf.old }
         requires head { HasHead (values self.now).format run }

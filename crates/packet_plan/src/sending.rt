@@ -1,11 +1,13 @@
 //! Sending a picture.
 ghost use Rattle.std.specs.Prelude.{◌≡◌, ◌≤◌, ◌+◌, ◌%◌, ◌^◌, length, IfErr, IfOk, OnOk};
 ghost use Rattle.st_format.specs.Device.{CountsFaults};
-ghost use Rattle.packet_plan.specs.Sending.{EachHasRoom, SendsPart, SendsPicture};
+ghost use Rattle.packet_plan.specs.Sending.{EachHasRoom, PutsPart, PutsPicture};
+ghost use Rattle.packet_plan.specs.Sending.{SendsPart, SendsPicture};
 
 use crate::plan::Plan;
+use crate::raster::Raster;
 use crate::stamp::Stamp;
-use st_format::{DatagramSink, Picture};
+use st_format::DatagramSink;
 use std::alloc::Allocator;
 use std::fmt;
 use thiserror::Error;
@@ -32,29 +34,34 @@ impl fmt::Display for SendFault {
 /// and the number of packets, modulo 2^32.
 ///
 /// Each datagram is written over the first octets of `buf`, as [`Plan::datagram`] does, and put
-/// into the sink. The picture has the plan's format, the payload type is at most 127, and `buf` has
-/// room for each datagram, for which [`Plan::max_octets`] octets are enough; what it holds may be
-/// anything.
+/// into the sink. The picture, of samples that are numbers or packed, has the plan's format, the
+/// payload type is at most 127, and `buf` has room for each datagram, for which
+/// [`Plan::max_octets`] octets are enough; what it holds may be anything.
 ///
 /// # Errors
 ///
 /// `SendFault` where the sink failed, which was its one failure in this call.
-pub fn send_frame<A: Allocator, B: Allocator, S: DatagramSink>(
+pub fn send_frame<A: Allocator, R: Raster, S: DatagramSink>(
     plan: &Plan<A>,
-    picture: &Picture<B>,
+    picture: &R,
     stamp: Stamp,
     buf: &mut [u8],
     sink: &mut S,
 ) -> Result<u32, SendFault>
-    requires format { picture.now.format ≡ plan.now.format }
+    requires format { (R.values picture.now).format ≡ plan.now.format }
     requires room { EachHasRoom plan.now (length buf.old) }
     requires payload_type { stamp.payload_type ≤ 127 }
     ensures length { length buf.new ≡ length buf.old }
-    ensures sent { OnOk result
-        (SendsPicture picture.now stamp plan.now (S.taken sink.old) (S.taken sink.new)) }
+    ensures sent { OnOk result (SendsPicture (R.values picture.now) stamp plan.now
+        (S.taken sink.old) (S.taken sink.new)) }
     ensures next { IfOk result (λ next. next ≡ (stamp.first + length plan.now.packets) % 2 ^ 32) }
-    ensures fault { IfErr result
-        (λ e. SendsPart picture.now stamp plan.now e.sent (S.taken sink.old) (S.taken sink.new)) }
+    ensures fault { IfErr result (λ e. SendsPart (R.values picture.now) stamp plan.now e.sent
+        (S.taken sink.old) (S.taken sink.new)) }
+    // The same of any sink, by what its calls do to it.
+    ensures puts { OnOk result (PutsPicture S.takes (R.values picture.now) stamp plan.now
+        sink.old sink.new) }
+    ensures puts_part { IfErr result (λ e. PutsPart S.takes S.fails (R.values picture.now) stamp
+        plan.now e.sent sink.old sink.new) }
     // The sink fails once where there is a fault, and not at all where there is none.
     ensures counted { CountsFaults (S.failures sink.old) (S.failures sink.new) result }
 {

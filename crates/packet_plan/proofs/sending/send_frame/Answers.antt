@@ -1,10 +1,13 @@
-use Rattle.std.proofs.Common.{◌<◌, ◌+◌, ◌%◌, List, ℕ, length, min, take, refl, sym, ap, subst}
+use Rattle.std.proofs.Common.{◌<◌, ◌≤◌, ◌+◌, ◌%◌, List, ℕ, length, min, take, drop, refl, sym, ap}
+use Rattle.std.proofs.Common.{subst}
 use Rattle.std.proofs.Common.{◌∙◌, arith}
 use Rattle.std.proofs.lemmas.List.{length-take-le}
 use Rattle.st_format.specs.Device.{TakesAll}
+use Rattle.st_format.specs.Puts.{TakesEach}
+use Rattle.st_format.proofs.Sinks.{took_more}
 use Rattle.packet_plan.specs.Text.{datagram_texts}
 use Rattle.packet_plan.proofs.Taken.{all_texts, length-texts, plan_sent, takes_kept, takes_more}
-use Rattle.packet_plan.proofs.Taken.{packet_fits, packet_room, takes_none, texts_more}
+use Rattle.packet_plan.proofs.Taken.{packet_fits, packet_room, takes_none, texts_behind, texts_more}
 use Rattle.packet_plan.proofs.sending.send_frame.Goals as goal
 
 pub loop-index-preserved : goal.loop-index-preserved
@@ -12,7 +15,8 @@ loop-index-preserved g c =
     let l = c.loop-index in
     let w = c.write_packet-length in
     let packets = c.args.plan.now.packets in
-    let texts : List (List ℕ) = datagram_texts c.args.picture.now c.args.stamp 0 packets in
+    let p = g.R.Raster.values c.args.picture.now in
+    let texts : List (List ℕ) = datagram_texts p c.args.stamp 0 packets in
     let lt : l.index < length packets =
     omega (arith, c.len-count.ensures.value, c.loop-index-test.true) in
     record {
@@ -21,8 +25,15 @@ loop-index-preserved g c =
           (g.S.DatagramSink.taken c.put.new.self) (take l.index texts) (take (l.index + 1) texts)
           (take w.result w.new.buf)
           l.invariant.taken c.in-Ok.ensures.taken
-          (texts_more c.args.picture.now c.args.stamp packets l.index
+          (texts_more p c.args.stamp packets l.index
           (take w.result w.new.buf) lt w.ensures.text);
+      put =
+          subst (λ (ds : List (List ℕ)).
+          TakesEach g.S.DatagramSink.takes c.args.sink.now ds c.put.new.self)
+          (sym (texts_more p c.args.stamp packets l.index
+          (take w.result w.new.buf) lt w.ensures.text))
+          (took_more g.S.DatagramSink.takes c.args.sink.now (take l.index texts) l.sink
+          (take w.result w.new.buf) c.put.new.self l.invariant.put c.in-Ok.ensures.takes);
       failures = c.in-Ok.ensures.counted ∙ l.invariant.failures;
       known = λ some. record { is_picture = w.ensures.picture; is_stamp = w.ensures.stamp };
       long = w.ensures.length ∙ l.invariant.long;
@@ -33,11 +44,12 @@ returns-in_default-clause-fault g c =
     let l = c.loop-index in
     let w = c.write_packet-length in
     let packets = c.args.plan.now.packets in
-    let texts : List (List ℕ) = datagram_texts c.args.picture.now c.args.stamp 0 packets in
+    let p = g.R.Raster.values c.args.picture.now in
+    let texts : List (List ℕ) = datagram_texts p c.args.stamp 0 packets in
     record {
       datagrams = texts;
       sent =
-          plan_sent c.args.picture.now c.args.stamp c.args.plan.now c.requires.format
+          plan_sent p c.args.stamp c.args.plan.now c.requires.format
           c.len-count.ensures.full
           (λ some. record { is_picture = w.ensures.picture; is_stamp = w.ensures.stamp });
       short =
@@ -45,7 +57,7 @@ returns-in_default-clause-fault g c =
             arith,
             c.len-count.ensures.value,
             c.loop-index-test.true,
-            length-texts c.args.picture.now c.args.stamp 0 packets,
+            length-texts p c.args.stamp 0 packets,
           );
       taken =
           takes_kept (g.S.DatagramSink.taken c.args.sink.now) (g.S.DatagramSink.taken l.sink)
@@ -63,17 +75,18 @@ pub returns-clause-sent : goal.returns-clause-sent
 returns-clause-sent g c =
     let l = c.loop-index in
     let packets = c.args.plan.now.packets in
-    let texts : List (List ℕ) = datagram_texts c.args.picture.now c.args.stamp 0 packets in
+    let p = g.R.Raster.values c.args.picture.now in
+    let texts : List (List ℕ) = datagram_texts p c.args.stamp 0 packets in
     record {
       datagrams = texts;
       sent =
-          plan_sent c.args.picture.now c.args.stamp c.args.plan.now c.requires.format
+          plan_sent p c.args.stamp c.args.plan.now c.requires.format
           c.len-count.ensures.full
           (λ some. l.invariant.known
           (omega (arith, c.len-count.ensures.value, c.loop-index-test.false)));
       taken =
           subst (TakesAll (g.S.DatagramSink.taken c.args.sink.now) (g.S.DatagramSink.taken l.sink))
-          (all_texts c.args.picture.now c.args.stamp packets l.index
+          (all_texts p c.args.stamp packets l.index
           (omega (
             arith,
             c.len-count.ensures.value,
@@ -81,10 +94,62 @@ returns-clause-sent g c =
           ))) l.invariant.taken;
     }
 
+pub returns-in_default-clause-puts : goal.returns-in_default-clause-puts
+returns-in_default-clause-puts g c = tt
+
+pub returns-in_default-clause-puts_part : goal.returns-in_default-clause-puts_part
+returns-in_default-clause-puts_part g c =
+    let l = c.loop-index in
+    let w = c.write_packet-length in
+    let packets = c.args.plan.now.packets in
+    let p = g.R.Raster.values c.args.picture.now in
+    let texts : List (List ℕ) = datagram_texts p c.args.stamp 0 packets in
+    let lt : l.index < length packets =
+    omega (arith, c.len-count.ensures.value, c.loop-index-test.true) in
+    record {
+      datagrams = texts;
+      sent =
+          plan_sent p c.args.stamp c.args.plan.now c.requires.format c.len-count.ensures.full
+          (λ some. record { is_picture = w.ensures.picture; is_stamp = w.ensures.stamp });
+      failed = record {
+        last = l.sink;
+        datagram = take w.result w.new.buf;
+        more = drop (l.index + 1) texts;
+        behind =
+            texts_behind p c.args.stamp packets l.index (take w.result w.new.buf) lt
+            w.ensures.text;
+        taken = l.invariant.put;
+        failed = c.in_default.ensures.fails;
+      };
+    }
+
+pub returns-clause-puts : goal.returns-clause-puts
+returns-clause-puts g c =
+    let l = c.loop-index in
+    let packets = c.args.plan.now.packets in
+    let p = g.R.Raster.values c.args.picture.now in
+    let texts : List (List ℕ) = datagram_texts p c.args.stamp 0 packets in
+    let all : length packets ≤ l.index =
+    omega (arith, c.len-count.ensures.value, c.loop-index-test.false) in
+    record {
+      datagrams = texts;
+      sent =
+          plan_sent p c.args.stamp c.args.plan.now c.requires.format c.len-count.ensures.full
+          (λ some. l.invariant.known (omega arith));
+      taken =
+          subst (λ (ds : List (List ℕ)).
+          TakesEach g.S.DatagramSink.takes c.args.sink.now ds l.sink)
+          (all_texts p c.args.stamp packets l.index all) l.invariant.put;
+    }
+
+pub returns-clause-puts_part : goal.returns-clause-puts_part
+returns-clause-puts_part g c = tt
+
 pub loop-index-init : goal.loop-index-init
 loop-index-init g c =
     record {
       taken = takes_none (g.S.DatagramSink.taken c.args.sink.now);
+      put = refl;
       failures = refl;
       known = λ some. absurd (omega arith);
       long = refl;
