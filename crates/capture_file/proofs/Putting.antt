@@ -12,49 +12,68 @@ use Rattle.capture_file.specs.Writer.{WritesDatagrams, entries_from, entries_of,
 use Rattle.capture_file.specs.Writer.{moment_behind}
 use Rattle.capture_file.proofs.Written.{records_append}
 
--- a writer that took these datagrams wrote their records
-pub writes_each : {K : Type 0} (held : K → Option (List ℕ)) (failures : K → ℕ)
+-- ---- a writer took datagrams
+
+-- it wrote their records
+pub each_written : {K : Type 0} (held : K → Option (List ℕ)) (failures : K → ℕ)
     (names : K → List GName) (old : Writer K) (ds : List (List ℕ)) (new : Writer K)
-    → TakesEach (TakesDatagram held failures names) old ds new
-    → WritesDatagrams held failures names ds old new
-writes_each {K} held failures names old [] new is =
-    subst (λ (w : Writer K). WritesDatagrams held failures names [] old w) (sym is)
-    (record {
-      written = Appends-nil (held old.sink);
-      paths = refl;
-      text_len = refl;
-      moment = refl;
-      stands = refl;
-      faultless = refl;
-      lent = refl;
-    })
-writes_each {K} held failures names old (d ∷ ds) new (next, one, more) =
-    let rest : WritesDatagrams held failures names ds next new =
-    writes_each held failures names next ds new more in
+    → TakesEach (TakesDatagram held failures names) old ds new → WritesDatagrams held ds old new
+each_written {K} held failures names old [] new is =
+    subst (λ (w : Writer K). WritesDatagrams held [] old w) (sym is)
+    (record { taken = Appends-nil (held old.sink); paths = refl; moment = refl })
+each_written {K} held failures names old (d ∷ ds) new (next, one, more) =
+    let rest : WritesDatagrams held ds next new =
+    each_written held failures names next ds new more in
     let p : WriterPlace = old.place in
     let first : List ℕ = records_text (entries_of p.paths p.moment d) in
     let behind : List ℕ =
     records_text (entries_from p.paths (moment_behind p.paths p.moment) ds) in
-    let written : Appends (held next.sink) (held new.sink) behind =
+    let taken : Appends (held next.sink) (held new.sink) behind =
     subst (λ (q : WriterPlace). Appends (held next.sink) (held new.sink)
-    (records_text (entries_from q.paths q.moment ds))) one.place rest.written in
+    (records_text (entries_from q.paths q.moment ds))) one.place rest.taken in
     record {
-      written =
+      taken =
           subst (Appends (held old.sink) (held new.sink))
           (sym (records_append (entries_of p.paths p.moment d)
           (entries_from p.paths (moment_behind p.paths p.moment) ds)))
           (Appends-trans (held old.sink) (held next.sink) (held new.sink) first behind one.written
-          written);
+          taken);
       paths = rest.paths ∙ ap (λ (q : WriterPlace). q.paths) one.place;
-      text_len = rest.text_len ∙ ap (λ (q : WriterPlace). q.text_len) one.place;
       moment = rest.moment
           ∙ ap (λ (q : WriterPlace). moment_after q.paths q.moment ds) one.place;
-      stands = rest.stands ∙ ap (λ (q : WriterPlace). q.failed) one.place;
-      faultless = rest.faultless ∙ one.faultless;
-      lent = rest.lent ∙ one.lent;
     }
 
--- its sink failed once, where a writer that stands failed at one of some datagrams
+-- it stands as it stood
+pub each_stands : {K : Type 0} (held : K → Option (List ℕ)) (failures : K → ℕ)
+    (names : K → List GName) (old : Writer K) (ds : List (List ℕ)) (new : Writer K)
+    → TakesEach (TakesDatagram held failures names) old ds new
+    → new.place.failed ≡ old.place.failed
+each_stands {K} held failures names old [] new is = ap (λ (w : Writer K). w.place.failed) is
+each_stands {K} held failures names old (d ∷ ds) new (next, one, more) =
+    each_stands held failures names next ds new more
+    ∙ ap (λ (q : WriterPlace). q.failed) one.place
+
+-- its sink did not fail
+pub each_faultless : {K : Type 0} (held : K → Option (List ℕ)) (failures : K → ℕ)
+    (names : K → List GName) (old : Writer K) (ds : List (List ℕ)) (new : Writer K)
+    → TakesEach (TakesDatagram held failures names) old ds new
+    → failures new.sink ≡ failures old.sink
+each_faultless {K} held failures names old [] new is = ap (λ (w : Writer K). failures w.sink) is
+each_faultless {K} held failures names old (d ∷ ds) new (next, one, more) =
+    each_faultless held failures names next ds new more ∙ one.faultless
+
+-- the references by which its sink writes stay
+pub each_lent : {K : Type 0} (held : K → Option (List ℕ)) (failures : K → ℕ)
+    (names : K → List GName) (old : Writer K) (ds : List (List ℕ)) (new : Writer K)
+    → TakesEach (TakesDatagram held failures names) old ds new
+    → names new.sink ≡ names old.sink
+each_lent {K} held failures names old [] new is = ap (λ (w : Writer K). names w.sink) is
+each_lent {K} held failures names old (d ∷ ds) new (next, one, more) =
+    each_lent held failures names next ds new more ∙ one.lent
+
+-- ---- it failed at one of them
+
+-- where it stood, its sink failed once
 pub fails_once : {K : Type 0} (held : K → Option (List ℕ)) (failures : K → ℕ)
     (names : K → List GName) (old : Writer K) (ds : List (List ℕ)) (count : ℕ) (new : Writer K)
     → old.place.failed ≡ false
@@ -62,18 +81,16 @@ pub fails_once : {K : Type 0} (held : K → Option (List ℕ)) (failures : K →
     new
     → CountsOne (failures old.sink) (failures new.sink)
 fails_once held failures names old ds count new stands at =
-    let before : WritesDatagrams held failures names (take count ds) old at.last =
-    writes_each held failures names old (take count ds) at.last at.taken in
-    subst (λ (n : ℕ). CountsOne n (failures new.sink)) before.faultless
-    (at.failed.device (before.stands ∙ stands))
+    let front : List (List ℕ) = take count ds in
+    subst (λ (n : ℕ). CountsOne n (failures new.sink))
+    (each_faultless held failures names old front at.last at.taken)
+    (at.failed.device (each_stands held failures names old front at.last at.taken ∙ stands))
 
--- the references by which it writes stay then too
+-- the references by which its sink writes stay
 pub fails_lent : {K : Type 0} (held : K → Option (List ℕ)) (failures : K → ℕ)
     (names : K → List GName) (old : Writer K) (ds : List (List ℕ)) (count : ℕ) (new : Writer K)
     → FailsAt (TakesDatagram held failures names) (FailsDatagram held failures names) old ds count
     new
     → names new.sink ≡ names old.sink
 fails_lent held failures names old ds count new at =
-    let before : WritesDatagrams held failures names (take count ds) old at.last =
-    writes_each held failures names old (take count ds) at.last at.taken in
-    at.failed.lent ∙ before.lent
+    at.failed.lent ∙ each_lent held failures names old (take count ds) at.last at.taken

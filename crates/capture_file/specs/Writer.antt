@@ -142,14 +142,10 @@ pub record FailsDatagram {K : Type 0} (held : K → Option (List ℕ)) (failures
   pub place : new.place ≡ place_failed old.place
   pub lent : names new.sink ≡ names old.sink
 
--- A writer wrote the records of these datagrams, and its sink did not fail.
-pub record WritesDatagrams {K : Type 0} (held : K → Option (List ℕ)) (failures : K → ℕ)
-    (names : K → List GName) (datagrams : List (List ℕ)) (old new : Writer K) : Type 0 where
-  pub written : Appends (held old.sink) (held new.sink)
+-- a writer wrote the records of these datagrams
+pub record WritesDatagrams {K : Type 0} (held : K → Option (List ℕ)) (datagrams : List (List ℕ))
+    (old new : Writer K) : Type 0 where
+  pub taken : Appends (held old.sink) (held new.sink)
       (records_text (entries_from old.place.paths old.place.moment datagrams))
   pub paths : new.place.paths ≡ old.place.paths
-  pub text_len : new.place.text_len ≡ old.place.text_len
   pub moment : new.place.moment ≡ moment_after old.place.paths old.place.moment datagrams
-  pub stands : new.place.failed ≡ old.place.failed
-  pub faultless : failures new.sink ≡ failures old.sink
-  pub lent : names new.sink ≡ names old.sink
