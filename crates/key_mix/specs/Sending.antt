@@ -19,6 +19,7 @@ use Rattle.std.specs.Prelude.{
 use Rattle.st_format.specs.declared.format.Format.{Format}
 use Rattle.st_format.specs.Device.{CountsOne, TakesAll}
 use Rattle.st_format.specs.Picture.{Values}
+use Rattle.st_format.specs.Puts.{FailsAt, TakesEach}
 use Rattle.frame_assembly.specs.Settled.{IsBaseOf, settled_picture}
 use Rattle.packet_plan.specs.declared.run.PacketRun.{PacketRun}
 use Rattle.packet_plan.specs.declared.stamp.Stamp.{Stamp}
@@ -63,6 +64,18 @@ Sends Are first old new (Err (fault.Sink sent)) =
     × TakesAll old new (take sent datagrams)
 Sends Are first old new (Err (fault.Job e)) = new ≡ old
 Sends Are first old new (Err fault.BadPacketSize) = new ≡ old
+
+-- The same of any sink, by what its calls do to it: it took such datagrams, of which there is one;
+-- or it failed at one of them; or it is as it was.
+abbrev pub Puts : {S : Type 0} → (S → List ℕ → S → Type 0) → (S → List ℕ → S → Type 0)
+    → (List (List ℕ) → Type 0) → ℕ → S → S → Result ℕ SendJobFault → Type 0
+Puts {S} takes fails Are first old new (Ok next) =
+    (datagrams : List (List ℕ)) × Are datagrams × (0 < length datagrams)
+    × TakesEach takes old datagrams new × (next ≡ (first + length datagrams) % 2 ^ 32)
+Puts {S} takes fails Are first old new (Err (fault.Sink sent)) =
+    (datagrams : List (List ℕ)) × Are datagrams × FailsAt takes fails old datagrams sent new
+Puts {S} takes fails Are first old new (Err (fault.Job e)) = new ≡ old
+Puts {S} takes fails Are first old new (Err fault.BadPacketSize) = new ≡ old
 
 -- A sink failed once where it is the fault, and else not at all.
 abbrev pub CountsSink : ℕ → ℕ → Result ℕ SendJobFault → Type 0

@@ -11,6 +11,7 @@ ghost use Rattle.key_mix.specs.Sending.{
   IsSendFault,
   IsSendable,
   IsSentJob,
+  Puts,
   Sends,
   input_formats,
   settled_inputs,
@@ -59,6 +60,10 @@ pub fn send_job<A: Allocator, C: Allocator + Copy, S: DatagramSink>(
     ensures sent { Sends
         (λ ds. IsSentJob ds job.now (settled_inputs inputs.now) max_octets stamp)
         stamp.first (S.taken sink.old) (S.taken sink.new) result }
+    // The same of any sink, by what its calls do to it.
+    ensures puts { Puts S.takes S.fails
+        (λ ds. IsSentJob ds job.now (settled_inputs inputs.now) max_octets stamp)
+        stamp.first sink.old sink.new result }
     ensures sendable { OnOk result
         (IsSendable job.now (input_formats inputs.now) max_octets) }
     ensures fault { IfErr result
@@ -118,9 +123,13 @@ fn send_picture<A: Allocator, B: Allocator, C: Allocator, S: DatagramSink>(
     ensures sent { Sends
         (λ ds. IsSentPicture ds picture.now stamp plan.now.max_octets plan.now.packets)
         stamp.first (S.taken sink.old) (S.taken sink.new) result }
+    ensures puts { Puts S.takes S.fails
+        (λ ds. IsSentPicture ds picture.now stamp plan.now.max_octets plan.now.packets)
+        stamp.first sink.old sink.new result }
     ensures late { IfErr result IsLate }
     ensures counted { CountsSink (S.failures sink.old) (S.failures sink.new) result }
 {
+    plan.facts();
     let mut buf = Vec::from_elem(alloc, 0, plan.max_octets() as usize)?;
     Ok(send_frame(plan, picture, stamp, buf.as_mut_slice(), sink)?)
 }
