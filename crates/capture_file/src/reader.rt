@@ -148,8 +148,8 @@ impl<S: ByteSource> CaptureReader<S> {
         self.text_len
     }
 
-    /// By where the reader stands, its source gave whole records up to here, up to its end, or up to
-    /// a fault. A caller's proof learns it from here; nothing is done.
+    /// By where the reader stands, its source gave whole records up to here, up to its end, or up
+    /// to a fault. A caller's proof learns it from here; nothing is done.
     #[inline(always)]
     pub fn facts(&self)
         ensures { StandsRight self.now.standing self.now.delivered self.now.before

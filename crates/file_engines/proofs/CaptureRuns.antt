@@ -348,8 +348,8 @@ same_heard received s to_give new before mid after t u w reads same tally heard 
     (subst (λ (x : State). Heard received (turns_of Reads to_give) new before x t u) (sym same)
     (subst (λ (x : Standing). Heard received (turns_of x to_give) new before mid t u) reads heard))
 
-pub reader_came : {A V : Type 0} (received : Result Received ReceiveFault) (outcome : Result V Fault)
-    (done : V) (s t : Standing) (new : Option (List Due)) (b a : Session A) (mid : State)
+pub reader_came : {A V : Type 0} (received : Result Received ReceiveFault)
+    (outcome : Result V Fault) (done : V) (s t : Standing) (new : Option (List Due)) (b a : Session A) (mid : State)
     (tally : Tally) (d e : ℕ) (opened kept told : Told) (left : Option (List ℕ)) (failures : ℕ)
     → s ≡ Reads → d ≡ 0 → opened ≡ told → kept ≡ opened → a.receiver ≡ mid → a.tally ≡ tally
     → Heard received (turns_of s told.to_give) new b.receiver mid b.tally tally

@@ -147,8 +147,8 @@ saves_held : {A : Type 0} (o : Opening A) (window source : List ℕ) (Is : List 
     → SavesHolding window source Is ds wanted shown shown' old new
 saves_held o window source Is None s ds wanted shown shown' old new is_window is_source stands opens
     printed taken = absurd stands
-saves_held o window source Is (Some said) s ds wanted shown shown' old new is_window is_source stands
-    opens printed taken =
+saves_held o window source Is (Some said) s ds wanted shown shown' old new is_window is_source
+    stands opens printed taken =
     record {
       receiver = s.receiver;
       window_is = subst (λ (w : List ℕ). AreTimestamps window w) (sym stands.window) is_window;

@@ -1,6 +1,7 @@
 -- Lines that are printed one after the other.
 use Rattle.std.proofs.Common.{◌≡◌, ℕ, ◌+◌, ◌<◌, ◌≤◌, List, [], ◌∷◌, ◌++◌, length, take, drop}
-use Rattle.std.proofs.Common.{codes, get_or, count_by, Option, Some, ap, append-nil, subst, sym, ◌∙◌}
+use Rattle.std.proofs.Common.{codes, get_or, count_by, Option, Some, ap, append-nil, subst, sym}
+use Rattle.std.proofs.Common.{◌∙◌}
 use Rattle.std.proofs.Common.{◌≢◌, zero, suc, Bool, Result, Ok, Err, OnErr, arith, map, refl}
 use Rattle.std.proofs.Common.{slice_index}
 use Rattle.std.specs.Io.KnownBytes.{Appends}

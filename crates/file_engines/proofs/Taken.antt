@@ -21,8 +21,8 @@ use Rattle.path_merge.proofs.Frames.{frames_of-append}
 use Rattle.file_engines.specs.Tallied.{Tallies, tally_after}
 use Rattle.file_engines.specs.declared.tally.Tally.{Tally}
 use Rattle.file_engines.proofs.Tallies.{tallies_all}
-use Rattle.file_engines.specs.Taking.{TakesBehind}
-use Rattle.file_engines.specs.Taking.{Announces, AreAll, Counts, HoldsBy, Stands, TakesAllDue, TakesFile}
+use Rattle.file_engines.specs.Taking.{TakesBehind, TakesFile}
+use Rattle.file_engines.specs.Taking.{Announces, AreAll, Counts, HoldsBy, Stands, TakesAllDue}
 use Rattle.file_engines.specs.Taking.{TakesRecords, capture_datagrams, capture_said}
 use Rattle.file_engines.specs.Taking.{datagrams_behind, said_before, said_behind}
 use Rattle.file_engines.specs.declared.receive.Opening.{Opening}
@@ -55,23 +55,24 @@ holds_more n due s t octets ds taken is holds =
     ∙ ap (λ (o : Opened). frames_of o (ds ++ xs)) (sym taken.opening)
     ∙ ap (λ (ts : List Due). frames_of t.opening (ds ++ datagrams_of ts)) (sym is)
 
+-- the answers to datagrams
+abbrev answers : Opened → List (List ℕ) → List (Result Answer Refusal)
+answers o datagrams = map (taken_at o) datagrams
+
 counts_more : {A : Type 0} (due : List Due) (b a : Session A) (octets : List ℕ)
     (ds : List (List ℕ))
     → HearsAll (λ t answer. tally_after answer t) b.receiver.opening due b.tally a.tally
     → a.receiver.opening ≡ b.receiver.opening → dues_in octets ≡ due → Counts b ds
     → Counts a (ds ++ datagrams_of (dues_in octets))
 counts_more due b a octets ds heard same is counts =
-    let answers : Opened → List (List ℕ) → List (Result Answer Refusal) = λ o xs. map (taken_at o) xs
-    in
+    let o : Opened = b.receiver.opening in
     let xs : List (List ℕ) = datagrams_of due in
-    let all : Tallies a.tally
-    (answers b.receiver.opening ds ++ answers b.receiver.opening xs) =
-    subst (λ (t : Tally). Tallies t (answers b.receiver.opening ds ++ answers b.receiver.opening xs))
-    (sym heard)
-    (tallies_all b.tally (answers b.receiver.opening ds) (answers b.receiver.opening xs) counts) in
+    let all : Tallies a.tally (answers o ds ++ answers o xs) =
+    subst (λ (t : Tally). Tallies t (answers o ds ++ answers o xs)) (sym heard)
+    (tallies_all b.tally (answers o ds) (answers o xs) counts) in
     subst (Tallies a.tally)
-    (sym (map-append (taken_at b.receiver.opening) ds xs)
-    ∙ ap (λ (o : Opened). answers o (ds ++ xs)) (sym same)
+    (sym (map-append (taken_at o) ds xs)
+    ∙ ap (λ (p : Opened). answers p (ds ++ xs)) (sym same)
     ∙ ap (λ (ts : List Due). answers a.receiver.opening (ds ++ datagrams_of ts)) (sym is)) all
 
 pub records_taken : {A : Type 0} (b a : Session A) (n : ℕ) (to_give : Option (List ℕ))

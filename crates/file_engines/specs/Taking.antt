@@ -162,8 +162,8 @@ pub record Begins {S A : Type 0} (o : Opening A) (to_give : S → Option (List �
   pub opens : (captures : List (List ℕ)) (text : List ℕ)
       → IsOpeningText to_give sdp captures text → said_behind said captures ≡ Some text
 
--- The lines of a receiver were printed, and a sink took its file: it was opened with this window and
--- source, and by the SDP text that is so, and was given these datagrams, of which it holds the
+-- The lines of a receiver were printed, and a sink took its file: it was opened with this window
+-- and source, and by the SDP text that is so, and was given these datagrams, of which it holds the
 -- Frames.
 pub record SavesHolding (window source : List ℕ) (IsText : List ℕ → Type 0)
     (datagrams : List (List ℕ)) (wanted : Bool) (shown shown' old new : Option (List ℕ))
