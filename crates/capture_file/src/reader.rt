@@ -148,6 +148,16 @@ impl<S: ByteSource> CaptureReader<S> {
         self.text_len
     }
 
+    /// By where the reader stands, its source gave whole records up to here, up to its end, or up
+    /// to a fault. A caller's proof learns it from here; nothing is done.
+    #[inline(always)]
+    pub fn facts(&self)
+        ensures { StandsRight self.now.standing self.now.delivered self.now.before
+            (S.to_give self.now.source) (S.failures self.now.source) }
+    {
+        let _text_len = &self.text_len;
+    }
+
     /// Gives the source back, as it then is: by where the reader stands it gave whole records up to
     /// here, up to its end, or up to a fault.
     pub fn into_inner(self) -> S

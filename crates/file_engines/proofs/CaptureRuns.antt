@@ -1,10 +1,10 @@
 -- What came of the turns of a capture's reader: its end, more records than are taken, or a fault.
-use Rattle.std.proofs.Common.{◌≡◌, ℕ, ◌+◌, ◌-◌, ◌^◌, ◌<◌, ◌≤◌, ◌⊎◌, inl, inr, min, Bool, true, false}
+use Rattle.std.proofs.Common.{◌≡◌, ℕ, zero, suc, ◌+◌, ◌-◌, ◌^◌, ◌<◌, ◌≤◌, ◌⊎◌, inl, inr, min, take}
+use Rattle.std.proofs.Common.{Bool, true, false}
 use Rattle.std.proofs.Common.{List, [], ◌∷◌, ◌++◌, length, map, Option, None, Some, Result, Ok, Err}
 use Rattle.std.proofs.Common.{MatchResult, refl, sym, ap, ◌∙◌, subst, arith}
 use Rattle.std.proofs.lemmas.Bool.{cases_lt}
 use Rattle.std.specs.Prelude.{IfErr, OnOk}
-use Rattle.std.specs.Option.{option_map}
 use Rattle.st_format.specs.Device.{CountsOne, Failed as HasFailed, Told}
 use Rattle.st_format.specs.Turns.{Due, Comes, Nothing, GivesTurns, datagrams_of}
 use Rattle.st_format.specs.declared.device.SourceFault.{SourceFault}
@@ -23,8 +23,10 @@ use Rattle.capture_file.specs.Reader.{last_fault_of, source_fault, turns_of}
 use Rattle.capture_file.specs.Reading.{entries_in, fault_at}
 use Rattle.capture_file.specs.Records.{Entry}
 use Rattle.capture_file.specs.Source.{GivesRecords, IfTold}
-use Rattle.path_merge.specs.Frames.{State}
-use Rattle.path_merge.specs.Took.{CountsAll, Took, TookUpTo, delivered_in}
+use Rattle.path_merge.specs.Frames.{Holds, State}
+use Rattle.path_merge.specs.Took.{CountsAll, HearsAll, Took, TookUpTo, delivered_in}
+use Rattle.path_merge.specs.declared.answer.Refusal.{Refusal}
+use Rattle.path_merge.specs.declared.answer.Taken.{Taken}
 use Rattle.path_merge.specs.declared.receiving.ReceiveFault.{ReceiveFault}
 use Rattle.path_merge.specs.declared.receiving.Received.{Received}
 use Rattle.file_engines.specs.Fault.{Accounts, Blames, counts}
@@ -34,6 +36,8 @@ use Rattle.file_engines.specs.Refusing.{OfRefusal}
 use Rattle.file_engines.specs.Taking.{TakesAllDue, TakesRecords}
 use Rattle.file_engines.specs.declared.fault.Fault.{Fault}
 use Rattle.file_engines.specs.declared.session.Session.{Session}
+use Rattle.file_engines.specs.declared.tally.Tally.{Tally}
+use Rattle.file_engines.specs.Tallied.{tally_after}
 use Rattle.file_engines.proofs.Taken.{all_given, records_taken}
 
 -- ---- what a reader told
@@ -177,13 +181,24 @@ fault_blames TooManyRecords old new count = count
 
 -- ---- the run
 
+-- what a tally becomes by an answer
+abbrev pub noted : Tally → Result Taken Refusal → Tally
+noted t answer = tally_after answer t
+
+-- What the turns of a source came to for a receiver, whose answers a tally counted.
+abbrev pub Heard : Result Received ReceiveFault → Option (List Due) → Option (List Due) → State
+    → State → Tally → Tally → Type 0
+Heard received old new before after t u = MatchResult received
+    (λ r. (x : Took 16777216 r old new before after) × HearsAll noted before.opening x.due t u)
+    (λ e. (x : TookUpTo 16777216 e.delivered old before after)
+    × HearsAll noted before.opening x.due t u)
+
 -- What the turns of a reader came to, and where it stands behind them.
-pub record Ran (received : Result Received ReceiveFault) (old new : Option (List Due))
-    (before after : State) (stands : Standing) (delivered : ℕ) (told : Told)
+pub record Ran {A : Type 0} (received : Result Received ReceiveFault) (old new : Option (List Due))
+    (b a : Session A) (stands : Standing) (delivered : ℕ) (told : Told)
     (left : Option (List ℕ)) (failures : ℕ) : Type 0 where
   pub turns : old ≡ turns_of Reads told.to_give
-  pub took : MatchResult received (λ r. Took 16777216 r old new before after)
-      (λ e. TookUpTo 16777216 e.delivered old before after)
+  pub heard : Heard received old new b.receiver a.receiver b.tally a.tally
   pub fault : IfErr received (λ e. last_fault_of stands ≡ Some e.fault)
   pub blameless : OnOk received (last_fault_of stands ≡ None)
   pub counted : CountsAll (delivered_in received) 0 delivered
@@ -200,12 +215,12 @@ pub record Answers {V : Type 0} (received : Result Received ReceiveFault) (outco
       → outcome ≡ Err (capture_fault f)
 
 -- the three ends
-pub record IsWhole {V : Type 0} (outcome : Result V Fault) (done : V) (old : Option (List Due))
-    (before after : State) (was now : ℕ) (told : Told) (failures : ℕ) : Type 0 where
+pub record IsWhole {A V : Type 0} (outcome : Result V Fault) (done : V) (old : Option (List Due))
+    (b a : Session A) (told : Told) (failures : ℕ) : Type 0 where
   pub count : ℕ
   pub is : outcome ≡ Ok done
-  pub now_is : now ≡ min (was + count) (2 ^ 64 - 1)
-  pub taken : TakesAllDue count old before after
+  pub now_is : a.delivered ≡ min (b.delivered + count) (2 ^ 64 - 1)
+  pub taken : TakesAllDue count old b a
   pub worked : failures ≡ told.failures
 
 pub record IsTooLong {V : Type 0} (outcome : Result V Fault) (told : Told) (failures : ℕ) : Type 0
@@ -222,10 +237,10 @@ pub record IsAtFault {V : Type 0} (outcome : Result V Fault) (told : Told) (fail
     pub behind : FailsBehind fault told.to_give
     pub counted : CountsFault fault told.failures failures
 
-abbrev pub CameTo : {V : Type 0} → Result V Fault → V → Option (List Due) → State → State → ℕ → ℕ
+abbrev pub CameTo : {A V : Type 0} → Result V Fault → V → Option (List Due) → Session A → Session A
     → Told → ℕ → Type 0
-CameTo outcome done old before after was now told failures =
-    IsWhole outcome done old before after was now told failures
+CameTo outcome done old b a told failures =
+    IsWhole outcome done old b a told failures
     ⊎ (IsTooLong outcome told failures ⊎ IsAtFault outcome told failures)
 
 -- as many turns as are taken
@@ -245,47 +260,45 @@ too_many r old new before after delivered to_give left more turns took counted s
     (subst (λ (o : Option (List ℕ)). HasDelivered delivered o left) is so) counted
     (sym took.taken.count ∙ all ∙ long)
 
-ran_on : {V : Type 0} (r : Received) (outcome : Result V Fault) (done : V)
-    (old new : Option (List Due)) (before after : State) (was now : ℕ) (stands : Standing)
+ran_on : {A V : Type 0} (r : Received) (outcome : Result V Fault) (done : V)
+    (old new : Option (List Due)) (b a : Session A) (stands : Standing)
     (delivered : ℕ) (told : Told) (left : Option (List ℕ)) (failures : ℕ) (ended : Bool)
-    → r.ended ≡ ended → Ran (Ok r) old new before after stands delivered told left failures
-    → Answers (Ok r) outcome done was now
-    → CameTo outcome done old before after was now told failures
-ran_on r outcome done old new before after was now stands delivered told left failures true e ran
-    answers =
+    → r.ended ≡ ended → Ran (Ok r) old new b a stands delivered told left failures
+    → Answers (Ok r) outcome done b.delivered a.delivered
+    → CameTo outcome done old b a told failures
+ran_on r outcome done old new b a stands delivered told left failures true e ran answers =
     let so = answers.ended r refl e in
+    let took : Took 16777216 r old new b.receiver a.receiver = ran.heard.0 in
     inl (record {
       count = r.delivered;
       is = so.0;
       now_is = so.1;
       taken = record {
-        due = ran.took.due;
-        all = all_given old new ran.took.due ran.took.given (ran.took.ended e);
-        taken = ran.took.taken;
+        due = took.due;
+        all = all_given old new took.due took.given (took.ended e);
+        taken = took.taken;
+        heard = ran.heard.1;
       };
       worked = no_failure stands delivered told left failures ran.blameless ran.right;
     })
-ran_on r outcome done old new before after was now stands delivered told left failures false e ran
-    answers =
+ran_on r outcome done old new b a stands delivered told left failures false e ran answers =
     inr (inl (record {
       is = answers.many r refl e;
-      many = too_many r old new before after delivered told.to_give left e ran.turns ran.took
-          ran.counted (all_delivered stands delivered told left failures ran.blameless ran.right);
+      many = too_many r old new b.receiver a.receiver delivered told.to_give left e ran.turns
+          ran.heard.0 ran.counted
+          (all_delivered stands delivered told left failures ran.blameless ran.right);
       worked = no_failure stands delivered told left failures ran.blameless ran.right;
     }))
 
-pub came_to : {V : Type 0} (received : Result Received ReceiveFault) (outcome : Result V Fault)
-    (done : V) (old new : Option (List Due)) (before after : State) (was now : ℕ)
+pub came_to : {A V : Type 0} (received : Result Received ReceiveFault) (outcome : Result V Fault)
+    (done : V) (old new : Option (List Due)) (b a : Session A)
     (stands : Standing) (delivered : ℕ) (told : Told) (left : Option (List ℕ)) (failures : ℕ)
-    → Ran received old new before after stands delivered told left failures
-    → Answers received outcome done was now
-    → CameTo outcome done old before after was now told failures
-came_to (Ok r) outcome done old new before after was now stands delivered told left failures ran
-    answers =
-    ran_on r outcome done old new before after was now stands delivered told left failures r.ended
-    refl ran answers
-came_to (Err e) outcome done old new before after was now stands delivered told left failures ran
-    answers =
+    → Ran received old new b a stands delivered told left failures
+    → Answers received outcome done b.delivered a.delivered
+    → CameTo outcome done old b a told failures
+came_to (Ok r) outcome done old new b a stands delivered told left failures ran answers =
+    ran_on r outcome done old new b a stands delivered told left failures r.ended refl ran answers
+came_to (Err e) outcome done old new b a stands delivered told left failures ran answers =
     let f = the_fault stands e.fault delivered told left failures ran.fault ran.right in
     inr (inr (record {
       fault = f.fault;
@@ -298,66 +311,95 @@ came_to (Err e) outcome done old new before after was now stands delivered told 
 
 pub came_taken : {A V : Type 0} (b a : Session A) (outcome : Result V Fault) (done : V)
     (told : Told) (failures : ℕ)
-    → CameTo outcome done (turns_of Reads told.to_give) b.receiver a.receiver b.delivered
-    a.delivered told failures
+    → CameTo outcome done (turns_of Reads told.to_give) b a told failures
     → OnOk outcome (TakesRecords told.to_give b a)
 came_taken b a outcome done told failures (inl whole) =
-    rw whole.is (records_taken b a whole.count Reads told.to_give refl whole.taken whole.now_is)
+    rw whole.is (records_taken b a whole.count told.to_give whole.taken whole.now_is)
 came_taken b a outcome done told failures (inr (inl long)) = rw long.is tt
 came_taken b a outcome done told failures (inr (inr fault)) = rw fault.is tt
 
-pub came_refused : {V : Type 0} (outcome : Result V Fault) (done : V) (old : Option (List Due))
-    (before after : State) (was now : ℕ) (told : Told) (failures : ℕ)
-    → CameTo outcome done old before after was now told failures
+pub came_refused : {A V : Type 0} (outcome : Result V Fault) (done : V) (old : Option (List Due))
+    (b a : Session A) (told : Told) (failures : ℕ)
+    → CameTo outcome done old b a told failures
     → IfErr outcome (λ f. OfRefusal f (IsFileRefusal HasRecordFault told.to_give))
-came_refused outcome done old before after was now told failures (inl whole) = rw whole.is tt
-came_refused outcome done old before after was now told failures (inr (inl long)) =
-    rw long.is long.many
-came_refused outcome done old before after was now told failures (inr (inr fault)) =
+came_refused outcome done old b a told failures (inl whole) = rw whole.is tt
+came_refused outcome done old b a told failures (inr (inl long)) = rw long.is long.many
+came_refused outcome done old b a told failures (inr (inr fault)) =
     rw fault.is (fault_refuses fault.fault told.to_give fault.behind)
 
-pub came_accounted : {V : Type 0} (outcome : Result V Fault) (done : V) (old : Option (List Due))
-    (before after : State) (was now : ℕ) (told : Told) (failures : ℕ)
-    → CameTo outcome done old before after was now told failures
+pub came_accounted : {A V : Type 0} (outcome : Result V Fault) (done : V) (old : Option (List Due))
+    (b a : Session A) (told : Told) (failures : ℕ)
+    → CameTo outcome done old b a told failures
     → Accounts outcome (counts told.failures failures ∷ [])
-came_accounted outcome done old before after was now told failures (inl whole) =
-    rw whole.is whole.worked
-came_accounted outcome done old before after was now told failures (inr (inl long)) =
-    rw long.is long.worked
-came_accounted outcome done old before after was now told failures (inr (inr fault)) =
+came_accounted outcome done old b a told failures (inl whole) = rw whole.is whole.worked
+came_accounted outcome done old b a told failures (inr (inl long)) = rw long.is long.worked
+came_accounted outcome done old b a told failures (inr (inr fault)) =
     rw fault.is (fault_blames fault.fault told.failures failures fault.counted)
 
 -- ---- a reader that was just opened
 
-pub reader_came : {V : Type 0} (received : Result Received ReceiveFault) (outcome : Result V Fault)
-    (done : V) (s t : Standing) (new : Option (List Due)) (before mid after : State)
-    (was now d e : ℕ) (opened kept told : Told) (left : Option (List ℕ)) (failures : ℕ)
-    → s ≡ Reads → d ≡ 0 → opened ≡ told → kept ≡ opened → after ≡ mid
-    → MatchResult received (λ r. Took 16777216 r (turns_of s told.to_give) new before mid)
-    (λ x. TookUpTo 16777216 x.delivered (turns_of s told.to_give) before mid)
+-- what was heard by a receiver and a tally that stay
+same_heard : (received : Result Received ReceiveFault) (s : Standing) (to_give : Option (List ℕ))
+    (new : Option (List Due)) (before mid after : State) (t u w : Tally) → s ≡ Reads
+    → after ≡ mid → w ≡ u → Heard received (turns_of s to_give) new before mid t u
+    → Heard received (turns_of Reads to_give) new before after t w
+same_heard received s to_give new before mid after t u w reads same tally heard =
+    subst (λ (x : Tally). Heard received (turns_of Reads to_give) new before after t x) (sym tally)
+    (subst (λ (x : State). Heard received (turns_of Reads to_give) new before x t u) (sym same)
+    (subst (λ (x : Standing). Heard received (turns_of x to_give) new before mid t u) reads heard))
+
+pub reader_came : {A V : Type 0} (received : Result Received ReceiveFault)
+    (outcome : Result V Fault) (done : V) (s t : Standing) (new : Option (List Due)) (b a : Session A) (mid : State)
+    (tally : Tally) (d e : ℕ) (opened kept told : Told) (left : Option (List ℕ)) (failures : ℕ)
+    → s ≡ Reads → d ≡ 0 → opened ≡ told → kept ≡ opened → a.receiver ≡ mid → a.tally ≡ tally
+    → Heard received (turns_of s told.to_give) new b.receiver mid b.tally tally
     → IfErr received (λ x. last_fault_of t ≡ Some x.fault)
     → OnOk received (last_fault_of t ≡ last_fault_of s)
     → CountsAll (delivered_in received) d e → StandsRight t e kept left failures
-    → Answers received outcome done was now
-    → CameTo outcome done (turns_of Reads told.to_give) before after was now told failures
-reader_came received outcome done s t new before mid after was now d e opened kept told left failures
-    reads none is stays same took fault blameless counted right answers =
-    came_to received outcome done (turns_of Reads told.to_give) new before after was now t e told
-    left failures (record {
+    → Answers received outcome done b.delivered a.delivered
+    → CameTo outcome done (turns_of Reads told.to_give) b a told failures
+reader_came received outcome done s t new b a mid tally d e opened kept told left failures
+    reads none is stays same same_tally heard fault blameless counted right answers =
+    came_to received outcome done (turns_of Reads told.to_give) new b a t e told left failures
+    (record {
       turns = refl;
-      took = subst (λ (x : State).
-          MatchResult received (λ r. Took 16777216 r (turns_of Reads told.to_give) new before x)
-          (λ y. TookUpTo 16777216 y.delivered (turns_of Reads told.to_give) before x))
-          (sym same)
-          (subst (λ (x : Standing).
-          MatchResult received (λ r. Took 16777216 r (turns_of x told.to_give) new before mid)
-          (λ y. TookUpTo 16777216 y.delivered (turns_of x told.to_give) before mid)) reads took);
+      heard = same_heard received s told.to_give new b.receiver mid a.receiver b.tally tally
+          a.tally reads same same_tally heard;
       fault = fault;
       blameless = subst (λ (x : Standing). OnOk received (last_fault_of t ≡ last_fault_of x)) reads
           blameless;
       counted = subst (λ (n : ℕ). CountsAll (delivered_in received) n e) none counted;
       right = subst (λ (x : Told). StandsRight t e x left failures) (stays ∙ is) right;
     }) answers
+
+-- ---- what was delivered is held, however the turns ended
+
+turns_told : (s : Standing) (known : Option (List ℕ)) (octets : List ℕ) → s ≡ Reads
+    → known ≡ Some octets → turns_of s known ≡ Some (dues_in octets)
+turns_told s known octets reads is =
+    ap (λ (x : Standing). turns_of x known) reads ∙ ap (turns_of Reads) is
+
+-- a reader that had delivered none counts what was delivered now
+count_is : (n old new : ℕ) → old ≡ 0 → n ≤ 16777216 → CountsAll n old new → n ≡ new
+count_is zero old new none few counted = sym (counted.none refl ∙ none)
+count_is (suc n) old new none few counted =
+    let more : new ≡ min (old + suc n) (2 ^ 64 - 1) = counted.some (omega arith) in
+    omega (arith, more, none, few)
+
+pub delivered_held : (s : Standing) (to_give : Option (List ℕ)) (before mid after : State)
+    (n old new : ℕ) → s ≡ Reads → old ≡ 0 → after ≡ mid → n ≤ 16777216 → CountsAll n old new
+    → ((datagrams : List (List ℕ)) (due : List Due) → turns_of s to_give ≡ Some due
+    → Holds before datagrams → Holds mid (datagrams ++ take n (datagrams_of due)))
+    → (datagrams : List (List ℕ)) (octets : List ℕ) → to_give ≡ Some octets
+    → Holds before datagrams
+    → Holds after (datagrams ++ take new (datagrams_of (dues_in octets)))
+delivered_held s to_give before mid after n old new reads none same few counted holds datagrams
+    octets is held =
+    let due : List Due = dues_in octets in
+    subst (λ (x : State). Holds x (datagrams ++ take new (datagrams_of due))) (sym same)
+    (subst (λ (m : ℕ). Holds mid (datagrams ++ take m (datagrams_of due)))
+    (count_is n old new none few counted)
+    (holds datagrams due (turns_told s to_give octets reads is) held))
 
 -- ---- the number of a reader's fault
 

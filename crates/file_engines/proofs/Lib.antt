@@ -1,9 +1,8 @@
-pub mod CaptureSums
 pub mod SetSums
 pub mod Merged
 pub mod Taken
 pub mod CaptureRuns
-pub mod Rotating
+pub mod InOrder
 pub mod StateRefusals
 pub mod Ended
 pub mod Refusals

@@ -1,6 +1,6 @@
 -- The failures of sources in a list, one of which is used where it stands.
 use Rattle.std.proofs.Common.{ℕ, ◌<◌, inl, inr, List, [], ◌∷◌, length, set, get_or, Result, Ok, Err}
-use Rattle.std.proofs.Common.{arith}
+use Rattle.std.proofs.Common.{◌≡◌, arith, subst, sym}
 use Rattle.std.specs.List.{sum_by}
 use Rattle.std.proofs.lemmas.List.Sums.{get_or-le-sum_by, sum_by-set}
 use Rattle.file_engines.specs.declared.fault.Fault.{Fault}
@@ -19,3 +19,10 @@ set_counted f xs i d y (Err Device) lt (inl more) =
     inl (omega (arith, sum_by-set f xs i y d lt, more))
 set_counted f xs i d y (Err Device) lt (inr most) =
     inr (omega (arith, get_or-le-sum_by f xs i d lt, most))
+
+-- what is said of a source between two calls is said of it before the one and after the other
+pub counted_by : {V : Type 0} (r : Result V Fault) (old mid now new : ℕ) → mid ≡ old → new ≡ now
+    → Accounts r (counts mid now ∷ []) → Accounts r (counts old new ∷ [])
+counted_by r old mid now new first last is =
+    subst (λ (n : ℕ). Accounts r (counts n new ∷ [])) first
+    (subst (λ (n : ℕ). Accounts r (counts mid n ∷ [])) (sym last) is)

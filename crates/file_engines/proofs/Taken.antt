@@ -1,7 +1,8 @@
 -- What was taken of one capture.
-use Rattle.std.proofs.Common.{◌≡◌, ℕ, ◌+◌, ◌-◌, ◌^◌, ◌<◌, min, List, [], ◌∷◌, ◌++◌, length, take}
-use Rattle.std.proofs.Common.{drop, get_or, Option, None, Some, Result, Ok, Err, refl, sym, ap}
-use Rattle.std.proofs.Common.{subst, ◌∙◌, arith, append-nil, length-append}
+use Rattle.std.proofs.Common.{◌≡◌, ℕ, ◌+◌, ◌-◌, ◌^◌, min, List, [], ◌∷◌, ◌++◌, length}
+use Rattle.std.proofs.Common.{Option, None, Some, Result, Ok, Err, refl, sym, ap}
+use Rattle.std.proofs.Common.{map, subst, ◌∙◌, arith, append-nil, length-append}
+use Rattle.std.proofs.lemmas.List.{map-append}
 use Rattle.std.specs.Option.{option_map}
 use Rattle.std.specs.Prelude.{OnOk}
 use Rattle.st_format.specs.Raster.{Raster}
@@ -9,14 +10,20 @@ use Rattle.st_format.specs.Turns.{Due, GivesTurns, HasEnded, datagrams_of}
 use Rattle.capture_file.specs.Fields.{Takes}
 use Rattle.capture_file.specs.Fronts.{front_at}
 use Rattle.capture_file.specs.Reader.{dues_in, turns_of}
-use Rattle.capture_file.specs.declared.reader.Standing.{Standing}
 use Rattle.capture_file.specs.declared.reader.Standing.TheVariants.{Reads}
 use Rattle.path_merge.specs.Frames.{Holds, State, frames_of, joined_frames}
 use Rattle.path_merge.specs.Opening.{Opening as Opened}
-use Rattle.path_merge.specs.Took.{TakesDue}
+use Rattle.path_merge.specs.Answers.{taken_at}
+use Rattle.path_merge.specs.Took.{HearsAll, TakesDue}
+use Rattle.path_merge.specs.declared.answer.Refusal.{Refusal}
+use Rattle.path_merge.specs.declared.answer.Taken.{Taken as Answer}
 use Rattle.path_merge.proofs.Frames.{frames_of-append}
-use Rattle.file_engines.specs.Taking.{Announces, AreAll, HoldsBy, Stands, TakesAllDue, TakesFile}
-use Rattle.file_engines.specs.Taking.{TakesFirst, TakesRecords, capture_datagrams, capture_said}
+use Rattle.file_engines.specs.Tallied.{Tallies, tally_after}
+use Rattle.file_engines.specs.declared.tally.Tally.{Tally}
+use Rattle.file_engines.proofs.Tallies.{tallies_all}
+use Rattle.file_engines.specs.Taking.{TakesBehind, TakesFile}
+use Rattle.file_engines.specs.Taking.{Announces, AreAll, Counts, HoldsBy, Stands, TakesAllDue}
+use Rattle.file_engines.specs.Taking.{TakesRecords, capture_datagrams, capture_said}
 use Rattle.file_engines.specs.Taking.{datagrams_behind, said_before, said_behind}
 use Rattle.file_engines.specs.declared.receive.Opening.{Opening}
 use Rattle.file_engines.specs.declared.session.Session.{Session}
@@ -33,12 +40,10 @@ all_given (Some a) (Some b) due given ended = given ∙ ap (λ (l : List Due). d
 
 -- ---- records
 
-dues_are : (stands : Standing) (to_give : Option (List ℕ)) (due : List Due) (octets : List ℕ)
-    → stands ≡ Reads → AreAll (turns_of stands to_give) due → to_give ≡ Some octets
-    → dues_in octets ≡ due
-dues_are stands to_give due octets reads all told =
-    subst (λ (o : Option (List ℕ)). AreAll (option_map dues_in o) due) told
-    (subst (λ (x : Standing). AreAll (turns_of x to_give) due) reads all)
+dues_are : (to_give : Option (List ℕ)) (due : List Due) (octets : List ℕ)
+    → AreAll (turns_of Reads to_give) due → to_give ≡ Some octets → dues_in octets ≡ due
+dues_are to_give due octets all told =
+    subst (λ (o : Option (List ℕ)). AreAll (option_map dues_in o) due) told all
 
 holds_more : (n : ℕ) (due : List Due) (s t : State) (octets : List ℕ) (ds : List (List ℕ))
     → TakesDue due n s t → dues_in octets ≡ due → Holds s ds
@@ -50,24 +55,44 @@ holds_more n due s t octets ds taken is holds =
     ∙ ap (λ (o : Opened). frames_of o (ds ++ xs)) (sym taken.opening)
     ∙ ap (λ (ts : List Due). frames_of t.opening (ds ++ datagrams_of ts)) (sym is)
 
-pub records_taken : {A : Type 0} (b a : Session A) (n : ℕ) (stands : Standing)
-    (to_give : Option (List ℕ)) → stands ≡ Reads
-    → TakesAllDue n (turns_of stands to_give) b.receiver a.receiver
+-- the answers to datagrams
+abbrev answers : Opened → List (List ℕ) → List (Result Answer Refusal)
+answers o datagrams = map (taken_at o) datagrams
+
+counts_more : {A : Type 0} (due : List Due) (b a : Session A) (octets : List ℕ)
+    (ds : List (List ℕ))
+    → HearsAll (λ t answer. tally_after answer t) b.receiver.opening due b.tally a.tally
+    → a.receiver.opening ≡ b.receiver.opening → dues_in octets ≡ due → Counts b ds
+    → Counts a (ds ++ datagrams_of (dues_in octets))
+counts_more due b a octets ds heard same is counts =
+    let o : Opened = b.receiver.opening in
+    let xs : List (List ℕ) = datagrams_of due in
+    let all : Tallies a.tally (answers o ds ++ answers o xs) =
+    subst (λ (t : Tally). Tallies t (answers o ds ++ answers o xs)) (sym heard)
+    (tallies_all b.tally (answers o ds) (answers o xs) counts) in
+    subst (Tallies a.tally)
+    (sym (map-append (taken_at o) ds xs)
+    ∙ ap (λ (p : Opened). answers p (ds ++ xs)) (sym same)
+    ∙ ap (λ (ts : List Due). answers a.receiver.opening (ds ++ datagrams_of ts)) (sym is)) all
+
+pub records_taken : {A : Type 0} (b a : Session A) (n : ℕ) (to_give : Option (List ℕ))
+    → TakesAllDue n (turns_of Reads to_give) b a
     → a.delivered ≡ min (b.delivered + n) (2 ^ 64 - 1) → TakesRecords to_give b a
-records_taken b a n stands to_give reads all counted = record {
+records_taken b a n to_give all counted = record {
   opening = all.taken.opening;
   holds = λ octets ds told holds. holds_more n all.due b.receiver a.receiver octets ds all.taken
-      (dues_are stands to_give all.due octets reads all.all told) holds;
+      (dues_are to_give all.due octets all.all told) holds;
+  tallied = λ octets ds told counts. counts_more all.due b a octets ds all.heard all.taken.opening
+      (dues_are to_give all.due octets all.all told) counts;
   delivered = λ octets told.
-      let is : dues_in octets ≡ all.due = dues_are stands to_give all.due octets reads all.all told
-      in
+      let is : dues_in octets ≡ all.due = dues_are to_give all.due octets all.all told in
       counted ∙ ap (λ (m : ℕ). min (b.delivered + m) (2 ^ 64 - 1))
       (sym (ap (λ (ts : List Due). length (datagrams_of ts)) is ∙ all.taken.count));
 }
 
 -- ---- a capture
 
-front_gives : (told left : Option (List ℕ)) (text octets : List ℕ)
+pub front_gives : (told left : Option (List ℕ)) (text octets : List ℕ)
     → Takes front_at told left text → told ≡ Some octets
     → (rest : List ℕ) × (left ≡ Some rest) × (front_at octets ≡ Ok (text, rest))
 front_gives told None text octets gives is = absurd
@@ -91,6 +116,7 @@ holds_by o b a told left text octets said ds gives taken is holds =
       ssrc = ap (λ (p : Opened). p.ssrc) taken.opening ∙ holds.ssrc;
       announced = subst (λ (p : Opened). Announces said p) (sym taken.opening) holds.announced;
       holds = taken.holds f.0 ds f.1 holds.holds;
+      tallied = taken.tallied f.0 ds f.1 holds.tallied;
       delivered = omega (arith, count, holds.delivered, length-append ds more);
     })
 
@@ -137,40 +163,23 @@ first_taken o b a told left text gives taken begun = record {
       begun_by o b a told left text octets said ds gives taken is begun stands;
 }
 
--- the capture was taken out of a list, and its source then stands last
-pub takes_first : {S A : Type 0} (o : Opening A) (f : S → Option (List ℕ)) (xs ys : List S)
-    (x y : S) (b a : Option (Session A)) → 0 < length xs → x ≡ get_or xs 0 x
-    → ys ≡ (take 0 xs ++ drop 1 xs) ++ y ∷ [] → TakesFile o (f x) b a → TakesFirst o f xs ys b a
-takes_first o f [] ys x y b a some is new taken = absurd (omega arith)
-takes_first o f (z ∷ zs) ys x y b a some is new taken = record {
-  first = z;
-  more = zs;
-  last = y;
-  old_is = refl;
-  new_is = new;
-  taken = record {
-    stands = λ octets said ds told stands. taken.stands octets said ds (ap f is ∙ told) stands;
-  };
-}
-
 -- the same where it was taken at all
 pub file_taken_if : {A V E : Type 0} (o : Opening A) (begun : Option (Session A)) (b a : Session A)
-    (told left : Option (List ℕ)) (text : List ℕ) (r : Result V E) → begun ≡ Some b
-    → Takes front_at told left text → OnOk r (TakesRecords left b a)
-    → OnOk r (TakesFile o told begun (Some a))
-file_taken_if {A = A} o begun b a told left text (Ok v) is gives taken = subst
-    (λ (s : Option (Session A)). TakesFile o told s (Some a)) (sym is)
-    (file_taken o b a told left text gives taken)
-file_taken_if o begun b a told left text (Err e) is gives taken = tt
+    (left : Option (List ℕ)) (text : List ℕ) (r : Result V E) → begun ≡ Some b
+    → OnOk r (TakesRecords left b a) → OnOk r (TakesBehind o left text begun (Some a))
+file_taken_if {A = A} o begun b a left text (Ok v) is taken =
+    subst (λ (s : Option (Session A)). TakesBehind o left text s (Some a)) (sym is)
+    (λ told gives. file_taken o b a told left text gives taken)
+file_taken_if o begun b a left text (Err e) is taken = tt
 
 pub first_taken_if : {A V E : Type 0} (o : Opening A) (begun : Option (Session A)) (b a : Session A)
-    (told left : Option (List ℕ)) (text : List ℕ) (r : Result V E) → begun ≡ None
-    → Takes front_at told left text → HoldsBy o text b [] → OnOk r (TakesRecords left b a)
-    → OnOk r (TakesFile o told begun (Some a))
-first_taken_if {A = A} o begun b a told left text (Ok v) is gives opened taken = subst
-    (λ (s : Option (Session A)). TakesFile o told s (Some a)) (sym is)
-    (first_taken o b a told left text gives taken opened)
-first_taken_if o begun b a told left text (Err e) is gives opened taken = tt
+    (left : Option (List ℕ)) (text : List ℕ) (r : Result V E) → begun ≡ None
+    → HoldsBy o text b [] → OnOk r (TakesRecords left b a)
+    → OnOk r (TakesBehind o left text begun (Some a))
+first_taken_if {A = A} o begun b a left text (Ok v) is opened taken =
+    subst (λ (s : Option (Session A)). TakesBehind o left text s (Some a)) (sym is)
+    (λ told gives. first_taken o b a told left text gives taken opened)
+first_taken_if o begun b a left text (Err e) is opened taken = tt
 
 pub none_begun : {X : Type 0} (o : Option X) → ((x : X) → o ≡ Some x → ⊥) → o ≡ None
 none_begun None not = refl

@@ -1,10 +1,23 @@
--- What is printed of the frames of a receiver.
-use Rattle.std.specs.Prelude.{ℕ, List, [], ◌∷◌, ◌++◌, codes, Option, None, Some}
-use Rattle.std.specs.List.{flat_map}
+-- What is printed of a receiver, and of what it was given.
+use Rattle.std.specs.Prelude.{ℕ, zero, suc, List, [], ◌∷◌, ◌++◌, codes, Option, None, Some}
+use Rattle.std.specs.Prelude.{Bool, true, false, Result, length, map, slice_index}
+use Rattle.std.specs.List.{count_by, flat_map}
 use Rattle.frame_assembly.specs.Kinds.{counts_of}
+use Rattle.path_merge.specs.Answers.{taken_at}
 use Rattle.path_merge.specs.Frames.{State, frame_at}
 use Rattle.st_format.specs.Raster.{Raster}
+use Rattle.path_merge.specs.declared.answer.Refusal.{Refusal}
+use Rattle.path_merge.specs.declared.answer.Refusal.TheVariants.{Header, WrongPayloadType}
+use Rattle.path_merge.specs.declared.answer.Refusal.TheVariants.{WrongSource, Payload}
+use Rattle.path_merge.specs.declared.answer.Taken.{Taken}
+use Rattle.payload_header.specs.declared.payload.PayloadFault.TheVariants as payload
+use Rattle.rtp_header.specs.declared.header.RtpFault.TheVariants as rtp
 use Rattle.tool_text.specs.Frames.{counts_text}
+use Rattle.file_engines.specs.Line.{line_text}
+use Rattle.file_engines.specs.Tallied.{fitting, is_outside, is_refusal, place_of}
+use Rattle.file_engines.specs.declared.line.Line.{Line}
+use Rattle.file_engines.specs.declared.line.Line.TheVariants.{Delivered, Outside, Refused}
+use Rattle.file_engines.specs.declared.tally.Tally.{Tally}
 
 -- the line of a frame of a timestamp, where there is one: how many of its samples are of each kind
 abbrev pub frame_line : ℕ → Option Raster → List ℕ
@@ -19,3 +32,62 @@ frame_line_at s timestamp = frame_line timestamp (frame_at s.opening.window s.fr
 -- The lines of a receiver's frames, one for each timestamp of its window, in its order (own)
 abbrev pub frames_text : State → List ℕ
 frames_text s = flat_map (frame_line_at s) s.opening.window
+
+-- ---- refusals
+
+-- all refusals, in the order of their numbers
+abbrev pub refusals : List Refusal
+refusals =
+    Header rtp.ShortHeader ∷ Header rtp.BadVersion ∷ Header rtp.ShortExtension
+    ∷ Header rtp.BadPadding ∷ WrongPayloadType ∷ WrongSource ∷ Payload payload.ShortPayloadHeader
+    ∷ Payload payload.TooManySegments ∷ Payload payload.SecondField ∷ Payload payload.BadLength
+    ∷ Payload payload.BadOffset ∷ Payload payload.RowOutside ∷ Payload payload.ColumnsOutside
+    ∷ Payload payload.ShortData ∷ []
+
+-- a line with its end, where what it counts came at all
+abbrev pub counted_line : ℕ → Line → List ℕ
+counted_line zero line = []
+counted_line (suc n) line = line_text line ++ 10 ∷ []
+
+-- The lines of counts: of each refusal that came, in the order of their numbers, how often it came;
+-- and how many datagrams were outside the window, if any (own)
+abbrev pub refusals_text : (Refusal → ℕ) → ℕ → List ℕ
+refusals_text refused outside =
+    flat_map (λ e. counted_line (refused e) (Refused e (refused e))) refusals
+    ++ counted_line outside (Outside outside)
+
+-- the line of a refusal, by the counts of all
+abbrev pub refusal_line : List ℕ → Refusal → List ℕ
+refusal_line counts e =
+    counted_line (slice_index counts (place_of e)) (Refused e (slice_index counts (place_of e)))
+
+-- those of a tally's counts
+abbrev pub tally_text : Tally → List ℕ
+tally_text t = flat_map (refusal_line t.refused) refusals ++ counted_line t.outside
+    (Outside t.outside)
+
+-- those of answers
+abbrev pub answers_text : List (Result Taken Refusal) → List ℕ
+answers_text answers =
+    refusals_text (λ e. fitting (count_by (is_refusal e) answers))
+    (fitting (count_by is_outside answers))
+
+-- ---- what `receive` prints
+
+-- lines that are wanted, or else none
+abbrev pub if_wanted : Bool → List ℕ → List ℕ
+if_wanted true lines = lines
+if_wanted false lines = []
+
+-- How many datagrams were delivered; where they are wanted, the lines of counts; and the lines of
+-- the receiver's frames (own)
+abbrev pub received_text : Bool → ℕ → List ℕ → State → List ℕ
+received_text wanted delivered counts receiver =
+    (line_text (Delivered delivered) ++ 10 ∷ [])
+    ++ (if_wanted wanted counts ++ frames_text receiver)
+
+-- those of a receiver that was given these datagrams
+abbrev pub taken_text : Bool → State → List (List ℕ) → List ℕ
+taken_text wanted receiver datagrams =
+    received_text wanted (fitting (length datagrams))
+    (answers_text (map (taken_at receiver.opening) datagrams)) receiver

@@ -1,6 +1,7 @@
 -- Which refusal ends a run of `receive` (own).
 use Rattle.std.specs.Prelude.{◌≡◌, ℕ, ◌⊎◌, List, [], ◌∷◌, ◌++◌, length, MatchOption}
 use Rattle.std.specs.Prelude.{Option, None, Some, Ok, Err}
+use Rattle.capture_file.specs.Fields.{Takes}
 use Rattle.capture_file.specs.Fronts.{front_at}
 use Rattle.capture_file.specs.Reading.{fault_at}
 use Rattle.capture_file.specs.Records.{AllFit, Entry, records_text}
@@ -88,6 +89,12 @@ abbrev pub IsTakeRefusal : {X : Type 0} → List ℕ → Option X → Option (Li
 IsTakeRefusal window begun told (refusal.Capture f) =
     IsFileRefusal HasCaptureFault told (refusal.Capture f)
 IsTakeRefusal window begun told r = (begun ≡ None) × IsOpenedRefusal window told r
+
+-- a refusal of every capture whose front has this text, and behind it what a source was to give
+abbrev pub IsBehindRefusal : {X : Type 0} → List ℕ → Option X → Option (List ℕ) → List ℕ → Refusal
+    → Type 0
+IsBehindRefusal window begun left text r =
+    (told : Option (List ℕ)) → Takes front_at told left text → IsTakeRefusal window begun told r
 
 -- the refusals of opening by the first of some captures: there may be none
 abbrev pub FirstRefuses : {S : Type 0} → List ℕ → (S → Option (List ℕ)) → List S → Refusal → Type 0

@@ -1,17 +1,19 @@
 //! The engine of `receive`.
-ghost use Rattle.std.specs.Prelude.{◌≡◌, ◌≢◌, ◌≤◌, ◌<◌, ◌⊎◌, ◌∷◌, [], IfErr, IfOk, OnOk};
-ghost use Rattle.std.specs.Prelude.{MatchOption, Option, None, Some, length, vec_len, sum_by};
+ghost use Rattle.std.specs.Prelude.{◌≡◌, ◌≢◌, ◌≤◌, ◌<◌, ◌+◌, ◌⊎◌, ◌∷◌, [], IfErr, IfOk, OnOk};
+ghost use Rattle.std.specs.Prelude.{MatchOption, Option, None, Some, drop, length, sum_by};
 ghost use Rattle.std.specs.Io.KnownBytes.{Appends};
+ghost use Rattle.capture_file.specs.Reader.{IsNewReader};
 ghost use Rattle.capture_file.specs.StateFile.{state_text};
 ghost use Rattle.file_engines.specs.Fault.{Accounts, IfRefused, NoneFailed, OneFailed, counts};
+ghost use Rattle.file_engines.specs.Printed.{if_wanted, received_text, tally_text};
 ghost use Rattle.file_engines.specs.Received.{IsCapturesRefusal, IsFrontRefusal};
 ghost use Rattle.file_engines.specs.Received.{IsGivenRefusal, IsReceiveRefusal, IsTakeRefusal};
-ghost use Rattle.file_engines.specs.Received.{IsWordRefusal};
-ghost use Rattle.file_engines.specs.Receiving.{Saves, failures_in};
+ghost use Rattle.file_engines.specs.Received.{IsBehindRefusal, IsWordRefusal};
+ghost use Rattle.file_engines.specs.Receiving.{Saves, SavesShown, failures_in};
 ghost use Rattle.file_engines.specs.Refusing.{OfRefusal, TellsRefusal};
 ghost use Rattle.file_engines.specs.Sent.{FirstIs};
-ghost use Rattle.file_engines.specs.Taking.{Begins, HoldsBy, OpensBy, Receives, TakesFile};
-ghost use Rattle.file_engines.specs.Taking.{TakesFiles, TakesFirst};
+ghost use Rattle.file_engines.specs.Taking.{Begins, HoldsBy, OpensBy, Receives, TakesBehind};
+ghost use Rattle.file_engines.specs.Taking.{TakesFile, TakesFiles};
 ghost use Rattle.receiver_file.specs.Saved.{IsWritable, kept_of};
 ghost use Rattle.tool_text.specs.Sources.{IsSourceText};
 ghost use Rattle.tool_text.specs.Telling.{memory_line};
@@ -19,9 +21,9 @@ ghost use Rattle.tool_text.specs.Timestamps.{AreTimestamps};
 
 use crate::fault::{Fault, Refusal, of_capture};
 use crate::line::Line;
-use crate::printing::{print, print_frames};
+use crate::printing::{print, print_frames, print_tally};
 use crate::session::Session;
-use crate::tally::{Tally, refusal_at};
+use crate::tally::Tally;
 use crate::telling::end;
 use crate::text::{read_text, room};
 use capture_file::CaptureReader;
@@ -62,13 +64,12 @@ struct Opening<A: Allocator> {
 ///
 /// The status is 0; or 1 where a word, the SDP, the opening or a capture is refused, 3 where a
 /// device failed, and 4 where the allocator refused memory, which `faults` is told by one line.
-/// Nothing is written to `state` where the status is 1. The captures' sources stay in their order
-/// where the status is 0, and else stand in some turn of it.
+/// Nothing is written to `state` where the status is 1.
 pub fn run_receive<A, S, K, O, F>(
     alloc: A,
     wanted: Wanted<'_>,
     sdp: &mut Option<S>,
-    captures: &mut Vec<S, A>,
+    captures: &mut [S],
     state: &mut K,
     output: &mut O,
     faults: &mut F,
@@ -82,27 +83,30 @@ where
     ensures range { (result ≡ 0) ⊎ (result ≡ 1) ⊎ (result ≡ 3) ⊎ (result ≡ 4) }
     ensures device { result ≡ 3
         → OneFailed (counts (failures_in S.failures sdp.old) (failures_in S.failures sdp.new)
-        ∷ counts (sum_by S.failures captures.old.items) (sum_by S.failures captures.new.items)
+        ∷ counts (sum_by S.failures captures.old) (sum_by S.failures captures.new)
         ∷ counts (K.failures state.old) (K.failures state.new)
         ∷ counts (O.failures output.old) (O.failures output.new)
         ∷ counts (F.failures faults.old) (F.failures faults.new) ∷ []) }
     ensures working { result ≢ 3
         → NoneFailed (counts (failures_in S.failures sdp.old) (failures_in S.failures sdp.new)
-        ∷ counts (sum_by S.failures captures.old.items) (sum_by S.failures captures.new.items)
+        ∷ counts (sum_by S.failures captures.old) (sum_by S.failures captures.new)
         ∷ counts (K.failures state.old) (K.failures state.new)
         ∷ counts (O.failures output.old) (O.failures output.new)
         ∷ counts (F.failures faults.old) (F.failures faults.new) ∷ []) }
-    ensures saved { result ≡ 0 → Saves (K.held state.old) (K.held state.new) }
+    // What is printed is of the receiver that is written.
+    ensures saved { result ≡ 0 → SavesShown wanted.entry.tells_refusals
+        (O.held output.old) (O.held output.new) (K.held state.old) (K.held state.new) }
     // Where the captures tell their octets, what is written is the file of a receiver of the window
     // and the source that are asked for, and of the format and the payload type that the SDP text
-    // says, which holds the Frames of all their datagrams.
+    // says, which holds the Frames of all their datagrams; and what is printed counts those.
     ensures taken { result ≡ 0 → Receives wanted.entry.window.now wanted.entry.ssrc.now sdp.old
-        S.to_give captures.old.items (K.held state.old) (K.held state.new) }
+        S.to_give captures.old wanted.entry.tells_refusals
+        (O.held output.old) (O.held output.new) (K.held state.old) (K.held state.new) }
     ensures refused { result ≡ 1 → state.new ≡ state.old }
     // At status 1 a refusal of the words or the files was told by its line.
     ensures told { result ≡ 1
         → TellsRefusal (IsReceiveRefusal wanted.entry.window.now wanted.entry.ssrc.now sdp.old
-        S.to_give captures.old.items) (F.held faults.old) (F.held faults.new) }
+        S.to_give captures.old) (F.held faults.old) (F.held faults.new) }
     ensures silent { result ≡ 0 → faults.new ≡ faults.old }
     ensures memory { result ≡ 4 → Appends (F.held faults.old) (F.held faults.new) memory_line }
 {
@@ -118,7 +122,7 @@ fn receive<A, S, K, O>(
     alloc: A,
     wanted: Wanted<'_>,
     sdp: &mut Option<S>,
-    captures: &mut Vec<S, A>,
+    captures: &mut [S],
     state: &mut K,
     output: &mut O,
     text: &mut String<A>,
@@ -128,15 +132,17 @@ where
     S: ByteSource,
     K: ByteSink,
     O: ByteSink,
-    ensures saved { OnOk result (Saves (K.held state.old) (K.held state.new)) }
+    ensures saved { OnOk result (SavesShown wanted.entry.tells_refusals
+        (O.held output.old) (O.held output.new) (K.held state.old) (K.held state.new)) }
     ensures taken { OnOk result (Receives wanted.entry.window.now wanted.entry.ssrc.now sdp.old
-        S.to_give captures.old.items (K.held state.old) (K.held state.new)) }
+        S.to_give captures.old wanted.entry.tells_refusals
+        (O.held output.old) (O.held output.new) (K.held state.old) (K.held state.new)) }
     ensures refused { IfErr result (λ f. IfRefused f (state.new ≡ state.old)) }
     ensures refusal { IfErr result (λ f. OfRefusal f (IsReceiveRefusal wanted.entry.window.now
-        wanted.entry.ssrc.now sdp.old S.to_give captures.old.items)) }
+        wanted.entry.ssrc.now sdp.old S.to_give captures.old)) }
     ensures failures { Accounts result (counts (failures_in S.failures sdp.old)
-        (failures_in S.failures sdp.new) ∷ counts (sum_by S.failures captures.old.items)
-        (sum_by S.failures captures.new.items)
+        (failures_in S.failures sdp.new) ∷ counts (sum_by S.failures captures.old)
+        (sum_by S.failures captures.new)
         ∷ counts (K.failures state.old) (K.failures state.new)
         ∷ counts (O.failures output.old) (O.failures output.new) ∷ []) }
 {
@@ -228,14 +234,14 @@ fn take_captures<A: Allocator + Copy, S: ByteSource>(
     alloc: A,
     opening: &Opening<A>,
     mut begun: Option<Session<A>>,
-    captures: &mut Vec<S, A>,
+    captures: &mut [S],
 ) -> Result<Session<A>, Fault>
     ensures taken { IfOk result
-        (λ s. TakesFiles opening.now S.to_give captures.old.items begun (Some s)) }
+        (λ s. TakesFiles opening.now S.to_give captures.old begun (Some s)) }
     ensures refusal { IfErr result (λ f. OfRefusal f
-        (IsCapturesRefusal opening.now.window.items begun S.to_give captures.old.items)) }
-    ensures failures { Accounts result (counts (sum_by S.failures captures.old.items)
-        (sum_by S.failures captures.new.items) ∷ []) }
+        (IsCapturesRefusal opening.now.window.items begun S.to_give captures.old)) }
+    ensures failures { Accounts result (counts (sum_by S.failures captures.old)
+        (sum_by S.failures captures.new) ∷ []) }
 {
     let mut buf = room(alloc)?;
     let mut said = room(alloc)?;
@@ -251,92 +257,121 @@ fn take_all<A: Allocator + Copy, S: ByteSource>(
     alloc: A,
     opening: &Opening<A>,
     begun: &mut Option<Session<A>>,
-    captures: &mut Vec<S, A>,
+    captures: &mut [S],
     said: &mut [u8],
     buf: &mut [u8],
 ) -> Result<(), Fault>
     requires text { 65535 ≤ length said.old }
     requires room { 65535 ≤ length buf.old }
     ensures taken { OnOk result
-        (TakesFiles opening.now S.to_give captures.old.items begun.old begun.new) }
+        (TakesFiles opening.now S.to_give captures.old begun.old begun.new) }
     ensures none { OnOk result (begun.new ≡ None
-        → (begun.old ≡ None) × (captures.old.items ≡ [])) }
+        → (begun.old ≡ None) × (captures.old ≡ [])) }
     ensures refusal { IfErr result (λ f. OfRefusal f
-        (IsCapturesRefusal opening.now.window.items begun.old S.to_give captures.old.items)) }
-    ensures failures { Accounts result (counts (sum_by S.failures captures.old.items)
-        (sum_by S.failures captures.new.items) ∷ []) }
+        (IsCapturesRefusal opening.now.window.items begun.old S.to_give captures.old)) }
+    ensures failures { Accounts result (counts (sum_by S.failures captures.old)
+        (sum_by S.failures captures.new) ∷ []) }
 {
-    let count = captures.len();
-    for _ in 0..count {
-        take_next(alloc, opening, begun, captures, said, buf)?;
+    for place in 0..captures.len() {
+        take_at(alloc, opening, begun, captures, place, said, buf)?;
     }
     Ok(())
 }
 
-/// Takes the capture that stands first, which then stands last.
-fn take_next<A: Allocator + Copy, S: ByteSource>(
+/// Takes the capture of a place.
+fn take_at<A: Allocator + Copy, S: ByteSource>(
     alloc: A,
     opening: &Opening<A>,
     begun: &mut Option<Session<A>>,
-    captures: &mut Vec<S, A>,
+    captures: &mut [S],
+    place: usize,
     said: &mut [u8],
     buf: &mut [u8],
 ) -> Result<(), Fault>
-    requires some { 0 < vec_len captures.old }
+    requires place { place < length captures.old }
     requires text { 65535 ≤ length said.old }
     requires room { 65535 ≤ length buf.old }
     ensures text { length said.new ≡ length said.old }
     ensures room { length buf.new ≡ length buf.old }
-    ensures len { vec_len captures.new ≡ vec_len captures.old }
-    ensures taken { OnOk result (TakesFirst opening.now S.to_give
-        captures.old.items captures.new.items begun.old begun.new) }
+    ensures len { length captures.new ≡ length captures.old }
+    ensures behind { drop (place + 1) captures.new ≡ drop (place + 1) captures.old }
+    ensures taken { OnOk result (FirstIs
+        (λ s. TakesFile opening.now (S.to_give s) begun.old begun.new)
+        (drop place captures.old)) }
     ensures begun { OnOk result (begun.new ≢ None) }
     ensures refusal { IfErr result (λ f. OfRefusal f (λ r. FirstIs
         (λ s. IsTakeRefusal opening.now.window.items begun.old (S.to_give s) r)
-        captures.old.items)) }
-    ensures failures { Accounts result (counts (sum_by S.failures captures.old.items)
-        (sum_by S.failures captures.new.items) ∷ []) }
+        (drop place captures.old))) }
+    ensures failures { Accounts result (counts (sum_by S.failures captures.old)
+        (sum_by S.failures captures.new) ∷ []) }
 {
-    let capture = captures.remove(0);
-    let (capture, outcome) = take_one(alloc, opening, begun, capture, said, buf);
-    captures.push(capture).unwrap();
-    outcome
+    take_one(alloc, opening, begun, &mut captures[place], said, buf)
 }
 
-/// Takes a capture, and gives its source back. Where no receiver is open yet, its text opens one.
+/// Takes a capture. Where no receiver is open yet, its text opens one.
 fn take_one<A: Allocator + Copy, S: ByteSource>(
     alloc: A,
     opening: &Opening<A>,
     begun: &mut Option<Session<A>>,
-    capture: S,
+    capture: &mut S,
     said: &mut [u8],
     buf: &mut [u8],
-) -> (S, Result<(), Fault>)
+) -> Result<(), Fault>
     requires text { 65535 ≤ length said.old }
     requires room { 65535 ≤ length buf.old }
     ensures text { length said.new ≡ length said.old }
     ensures room { length buf.new ≡ length buf.old }
-    ensures taken { OnOk result.1 (TakesFile opening.now (S.to_give capture) begun.old begun.new) }
-    ensures begun { OnOk result.1 (begun.new ≢ None) }
-    ensures refusal { IfErr result.1 (λ f. OfRefusal f
-        (IsTakeRefusal opening.now.window.items begun.old (S.to_give capture))) }
-    ensures failures { Accounts result.1 (counts (S.failures capture) (S.failures result.0) ∷ []) }
+    ensures taken { OnOk result
+        (TakesFile opening.now (S.to_give capture.old) begun.old begun.new) }
+    ensures begun { OnOk result (begun.new ≢ None) }
+    ensures refusal { IfErr result (λ f. OfRefusal f
+        (IsTakeRefusal opening.now.window.items begun.old (S.to_give capture.old))) }
+    ensures failures { Accounts result (counts (S.failures capture.old) (S.failures capture.new)
+        ∷ []) }
 {
-    let reader = match CaptureReader::open(capture, said) {
+    let mut reader = match CaptureReader::open(&mut *capture, said) {
         Ok(reader) => reader,
-        Err((fault, capture)) => return (capture, Err(of_capture(fault))),
+        Err(failed) => return Err(of_capture(failed.0)),
     };
+    let text = &said[..reader.text_len()];
+    let taken = take_opened(alloc, opening, begun, &mut reader, text, buf);
+    let _ = reader.into_inner();
+    taken
+}
+
+/// Takes a capture whose reader has just been opened. Where no receiver is open yet, the capture's
+/// text opens one.
+fn take_opened<A: Allocator + Copy, S: ByteSource>(
+    alloc: A,
+    opening: &Opening<A>,
+    begun: &mut Option<Session<A>>,
+    reader: &mut CaptureReader<S>,
+    text: &[u8],
+    buf: &mut [u8],
+) -> Result<(), Fault>
+    requires room { 65535 ≤ length buf.old }
+    requires new { IsNewReader reader.old }
+    requires before { reader.old.before ≡ record {
+      to_give = S.to_give reader.old.source;
+      failures = S.failures reader.old.source;
+    } }
+    ensures room { length buf.new ≡ length buf.old }
+    ensures taken { OnOk result (TakesBehind opening.now (S.to_give reader.old.source) text.now
+        begun.old begun.new) }
+    ensures begun { OnOk result (begun.new ≢ None) }
+    ensures refusal { IfErr result (λ f. OfRefusal f (IsBehindRefusal opening.now.window.items
+        begun.old (S.to_give reader.old.source) text.now)) }
+    ensures failures { Accounts result (counts (S.failures reader.old.source)
+        (S.failures reader.new.source) ∷ []) }
+    ensures names { S.names reader.new.source ≡ S.names reader.old.source }
+{
     if let Some(session) = begun {
         return session.take_capture(reader, buf);
     }
-    match open_by_text(alloc, opening, &said[..reader.text_len()]) {
-        Ok(mut session) => {
-            let taken = session.take_capture(reader, buf);
-            *begun = Some(session);
-            taken
-        }
-        Err(fault) => (reader.into_inner(), Err(fault)),
-    }
+    let mut session = open_by_text(alloc, opening, text)?;
+    let taken = session.take_capture(reader, buf);
+    *begun = Some(session);
+    taken
 }
 
 /// Opens a receiver by a capture's text.
@@ -363,36 +398,33 @@ fn print_session<A: Allocator, O: ByteSink>(
     output: &mut O,
     text: &mut String<A>,
 ) -> Result<(), Fault>
+    ensures printed { OnOk result (Appends (O.held output.old) (O.held output.new)
+        (received_text tells_refusals session.now.delivered (tally_text session.now.tally)
+        session.now.receiver)) }
     ensures unrefused { IfErr result (λ f. IfRefused f ⊥) }
     ensures failures { Accounts result (counts (O.failures output.old) (O.failures output.new)
         ∷ []) }
 {
     print(Line::Delivered(session.delivered), output, text)?;
-    if tells_refusals {
-        print_tally(&session.tally, output, text)?;
-    }
+    print_wanted(&session.tally, tells_refusals, output, text)?;
     print_frames(&session.receiver, output, text)
 }
 
-/// Prints how many datagrams were refused, for each reason that came, and how many were outside the
-/// window.
-fn print_tally<A: Allocator, O: ByteSink>(
+/// Prints what a tally counts, where that is wanted.
+fn print_wanted<A: Allocator, O: ByteSink>(
     tally: &Tally,
+    is_wanted: bool,
     output: &mut O,
     text: &mut String<A>,
 ) -> Result<(), Fault>
+    ensures printed { OnOk result (Appends (O.held output.old) (O.held output.new)
+        (if_wanted is_wanted (tally_text tally.now))) }
     ensures unrefused { IfErr result (λ f. IfRefused f ⊥) }
     ensures failures { Accounts result (counts (O.failures output.old) (O.failures output.new)
         ∷ []) }
 {
-    for place in 0..tally.refused.len() {
-        let count = tally.refused[place];
-        if count > 0 {
-            print(Line::Refused(refusal_at(place), count), output, text)?;
-        }
+    if !is_wanted {
+        return Ok(());
     }
-    if tally.outside > 0 {
-        print(Line::Outside(tally.outside), output, text)?;
-    }
-    Ok(())
+    print_tally(tally, output, text)
 }

@@ -1,7 +1,7 @@
 //! Taking the datagrams of captures into one receiver.
-ghost use Rattle.std.specs.Prelude.{◌≡◌, ◌≤◌, ◌+◌, ◌-◌, ◌^◌, ◌∷◌, [], Ok, Err, true, false, length};
-ghost use Rattle.std.specs.Prelude.{min, IfErr, IfOk, OnOk};
-ghost use Rattle.capture_file.specs.Reader.{IsNewReader, source_fault};
+ghost use Rattle.std.specs.Prelude.{◌≡◌, ◌≤◌, ◌+◌, ◌-◌, ◌^◌, ◌∷◌, ◌++◌, [], ℕ, List, Ok, Err, Some};
+ghost use Rattle.std.specs.Prelude.{true, false, length, take, min, IfErr, IfOk, OnOk};
+ghost use Rattle.capture_file.specs.Reader.{IsNewReader, dues_in, source_fault};
 ghost use Rattle.capture_file.specs.declared.fault.FileFault.{FileFault};
 ghost use Rattle.capture_file.specs.declared.fault.FileFault.TheVariants.{TooManyRecords};
 ghost use Rattle.file_engines.specs.Fault.{Accounts, counts};
@@ -9,9 +9,11 @@ ghost use Rattle.file_engines.specs.LowerFaults.{capture_fault};
 ghost use Rattle.file_engines.specs.Received.{HasRecordFault, IsFileRefusal, IsOpeningRefusal};
 ghost use Rattle.file_engines.specs.Refusing.{OfRefusal};
 ghost use Rattle.file_engines.specs.Taking.{Announces, TakesRecords};
+ghost use Rattle.file_engines.specs.Tallied.{Tallies};
 ghost use Rattle.path_merge.specs.declared.receiving.ReceiveFault.{ReceiveFault};
 ghost use Rattle.path_merge.specs.declared.receiving.Received.{Received};
 ghost use Rattle.path_merge.specs.Frames.{Holds};
+ghost use Rattle.st_format.specs.Turns.{datagrams_of};
 
 use crate::fault::{Fault, of_capture};
 use crate::tally::Tally;
@@ -46,6 +48,7 @@ impl<A: Allocator + Copy> Session<A> {
         // Its format and its payload type are those that the text says.
         ensures announced { IfOk result (λ s. Announces sdp.now s.receiver.opening) }
         ensures holds { IfOk result (λ s. Holds s.receiver []) }
+        ensures tallied { IfOk result (λ s. Tallies s.tally []) }
         ensures delivered { IfOk result (λ s. s.delivered ≡ 0) }
         ensures refusal { IfErr result (λ f. OfRefusal f
             (IsOpeningRefusal window.now sdp.now)) }
@@ -62,30 +65,38 @@ impl<A: Allocator + Copy> Session<A> {
 }
 
 impl<A: Allocator> Session<A> {
-    /// Takes all datagrams of a capture whose reader has just been opened, and gives its source
-    /// back.
+    /// Takes all datagrams of a capture whose reader has just been opened.
     ///
     /// A capture that has not ended after 16,777,216 turns is refused, and so is one that is at
     /// fault; what it delivered before is taken.
     pub fn take_capture<S: ByteSource>(
         &mut self,
-        mut reader: CaptureReader<S>,
+        reader: &mut CaptureReader<S>,
         buf: &mut [u8],
-    ) -> (S, Result<(), Fault>)
+    ) -> Result<(), Fault>
         requires room { 65535 ≤ length buf.old }
-        requires new { IsNewReader reader }
-        requires before { reader.before
-            ≡ record { to_give = S.to_give reader.source; failures = S.failures reader.source } }
+        requires new { IsNewReader reader.old }
+        requires before { reader.old.before ≡ record {
+          to_give = S.to_give reader.old.source;
+          failures = S.failures reader.old.source;
+        } }
         ensures room { length buf.new ≡ length buf.old }
-        ensures taken { OnOk result.1 (TakesRecords (S.to_give reader.source) self.old self.new) }
-        ensures refusal { IfErr result.1 (λ f. OfRefusal f
-            (IsFileRefusal HasRecordFault (S.to_give reader.source))) }
-        ensures failures { Accounts result.1 (counts (S.failures reader.source)
-            (S.failures result.0) ∷ []) }
+        ensures taken { OnOk result
+            (TakesRecords (S.to_give reader.old.source) self.old self.new) }
+        // After a fault too, the receiver has the datagrams that were delivered.
+        ensures holds { (datagrams : List (List ℕ)) (octets : List ℕ) →
+            S.to_give reader.old.source ≡ Some octets → Holds self.old.receiver datagrams →
+            Holds self.new.receiver
+            (datagrams ++ take reader.new.delivered (datagrams_of (dues_in octets))) }
+        ensures refusal { IfErr result (λ f. OfRefusal f
+            (IsFileRefusal HasRecordFault (S.to_give reader.old.source))) }
+        ensures failures { Accounts result (counts (S.failures reader.old.source)
+            (S.failures reader.new.source) ∷ []) }
+        ensures names { S.names reader.new.source ≡ S.names reader.old.source }
     {
-        let received = receive_each(&mut reader, &mut self.receiver, buf, TURNS, &mut self.tally);
-        let outcome = self.count(received);
-        (reader.into_inner(), outcome)
+        let received = receive_each(reader, &mut self.receiver, buf, TURNS, &mut self.tally);
+        reader.facts();
+        self.count(received)
     }
 
     /// Counts what a capture delivered. One that has not ended, or is at fault, is refused.

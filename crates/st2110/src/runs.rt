@@ -122,7 +122,7 @@ pub fn receive<'a>(rt: &'a HostRuntime, words: &ReceiveWords<'a>, is_verbose: bo
         rt.alloc(),
         wanted(words),
         &mut sdp,
-        &mut captures,
+        captures.as_mut_slice(),
         &mut state,
         &mut output,
         &mut faults,
@@ -304,17 +304,11 @@ fn begun<'a>(source: &FileSource<'a>) -> Option<Reading<'a>> {
     }
 }
 
-/// Where the reading of the last file of a list stands that was begun. An engine may have changed
-/// the list's order.
+/// Where the reading of the last file of a list stands that was begun.
 fn last_begun<'a>(sources: &[FileSource<'a>]) -> Option<Reading<'a>> {
     let mut last = None;
-    let mut most = None;
     for source in sources {
-        let place = source.begun();
-        if place > most {
-            most = place;
-            last = Some(source.reading());
-        }
+        last = begun(source).or(last);
     }
     last
 }

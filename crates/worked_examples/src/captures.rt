@@ -2,12 +2,11 @@
 ghost use Rattle.std.specs.Prelude.{◌≡◌, [], IfOk};
 
 use crate::checks::met;
-use crate::receive_capture;
 use crate::small_format::{UPPER, counted, counts, small};
 use capture_file::{
     Capture, CaptureReader, FileFault, Record, migrate_capture, read_capture, write_capture,
 };
-use path_merge::{ReceiveFault, Received, Receiver};
+use path_merge::{ReceiveFault, Received, Receiver, receive};
 use st_format::memory::{MemorySink, MemorySource};
 use st_format::{DatagramSource, Path, SourceFault, Turn};
 use std::alloc::{AllocError, Allocator, Global};
@@ -95,7 +94,7 @@ fn gives_first(
 ) -> Result<bool, AllocError> {
     let mut buf = vec![in alloc; 0u8; 65535]?;
     Ok(
-        receive_capture(reader, receiver, &mut buf, 10) == answer
+        receive(reader, receiver, &mut buf, 10) == answer
             && counts(receiver, 900) == Some(counted(8, 8, 0))
             && reader.next(&mut buf) == after,
     )

@@ -90,8 +90,7 @@ pub fn merge_on<A: Allocator + Copy>(
     Ok(run)
 }
 
-/// A run of `receive` of one capture, of any source. The list of captures stands in memory of
-/// `alloc`.
+/// A run of `receive` of one capture, of any source.
 pub fn receive_on<A: Allocator + Copy>(
     global: Global,
     alloc: A,
@@ -104,14 +103,13 @@ pub fn receive_on<A: Allocator + Copy>(
         ssrc: b"any",
         tells_refusals: false,
     };
-    let mut captures = Vec::with_capacity(alloc, 1)?;
-    captures.push(source(global, capture)?)?;
+    let capture = source(global, capture)?;
     let mut run = begun(global)?;
     let status = run_receive(
         alloc,
         wanted,
         &mut Some(source(global, text)?),
-        &mut captures,
+        &mut [capture],
         &mut run.written,
         &mut run.printed,
         &mut run.told,

@@ -1,14 +1,6 @@
 //! What no text of the program shows of the worked examples of docs/EXAMPLES.md, and runs in which
-//! a device fails or memory is wanted. Tests, with values that are worked out by hand; and the one
-//! call that gives a receiver the datagrams of a capture, with what is proved of the two together.
+//! a device fails or memory is wanted. Tests, with values that are worked out by hand.
 #![tactic(auto)]
-
-ghost use Rattle.std.specs.Prelude.{◌≡◌, ◌≤◌, ℕ, List, Some, ◌++◌, length, take};
-ghost use Rattle.capture_file.specs.Reader.{dues_in};
-ghost use Rattle.capture_file.specs.declared.reader.Standing.TheVariants.{Reads};
-ghost use Rattle.path_merge.specs.Frames.{Holds};
-ghost use Rattle.path_merge.specs.Took.{delivered_in};
-ghost use Rattle.st_format.specs.Turns.{datagrams_of};
 
 #[cfg(test)]
 mod ample;
@@ -110,24 +102,3 @@ mod two_paths;
 mod value_growths;
 #[cfg(test)]
 mod wanting;
-
-use capture_file::CaptureReader;
-use path_merge::{ReceiveFault, Received, Receiver, receive};
-use st_format::ByteSource;
-use std::alloc::Allocator;
-
-/// Gives a receiver the datagrams of a capture.
-pub fn receive_capture<S: ByteSource, A: Allocator>(
-    reader: &mut CaptureReader<S>,
-    receiver: &mut Receiver<A>,
-    buf: &mut [u8],
-    limit: u64,
-) -> Result<Received, ReceiveFault>
-    requires { 65535 ≤ length buf.old }
-    ensures holds { (datagrams : List (List ℕ)) (octets : List ℕ) → reader.old.standing ≡ Reads
-        → S.to_give reader.old.source ≡ Some octets → Holds receiver.old datagrams
-        → Holds receiver.new
-        (datagrams ++ take (delivered_in result) (datagrams_of (dues_in octets))) }
-{
-    receive(reader, receiver, buf, limit)
-}

@@ -1,4 +1,4 @@
-use Rattle.file_engines.proofs.Rotating.{none_begins, some_begins}
+use Rattle.file_engines.proofs.InOrder.{none_begins, some_begins}
 use Rattle.file_engines.proofs.receive.begin.Goals as goal
 
 pub returns-in-None-clause-begun : goal.returns-in-None-clause-begun

@@ -1,7 +1,7 @@
 use Rattle.std.proofs.Common.{rules, sym, ◌∙◌}
 use Rattle.file_engines.specs.Text.{GivesText}
 use Rattle.file_engines.proofs.Refusals.{all_given}
-use Rattle.file_engines.proofs.Rotating.{opened_if}
+use Rattle.file_engines.proofs.InOrder.{opened_if}
 use Rattle.file_engines.proofs.receive.open_by_sdp.Goals as goal
 
 pub returns-clause-opened : goal.returns-clause-opened
@@ -15,4 +15,4 @@ returns-clause-opened g c =
     (λ octets told. all_given old new said octets gives.given gives.ended told
     ∙ sym c.deref.ensures.value)
     c.deref-2.ensures.value opened.window opened.ssrc opened.announced opened.holds
-    opened.delivered
+    opened.tallied opened.delivered

@@ -13,8 +13,8 @@ returns-clause-device g c =
     let devices : List Failures =
     counts (failures_in g.S.ByteSource.failures c.args.sdp.now)
     (failures_in g.S.ByteSource.failures run.new.sdp)
-    ∷ counts (sum_by g.S.ByteSource.failures c.args.captures.now.items)
-    (sum_by g.S.ByteSource.failures run.new.captures.items)
+    ∷ counts (sum_by g.S.ByteSource.failures c.args.captures.now)
+    (sum_by g.S.ByteSource.failures run.new.captures)
     ∷ counts (g.K.ByteSink.failures c.args.state.now) (g.K.ByteSink.failures run.new.state)
     ∷ counts (g.O.ByteSink.failures c.args.output.now) (g.O.ByteSink.failures run.new.output)
     ∷ [] in
@@ -28,8 +28,8 @@ returns-clause-working g c =
     let devices : List Failures =
     counts (failures_in g.S.ByteSource.failures c.args.sdp.now)
     (failures_in g.S.ByteSource.failures run.new.sdp)
-    ∷ counts (sum_by g.S.ByteSource.failures c.args.captures.now.items)
-    (sum_by g.S.ByteSource.failures run.new.captures.items)
+    ∷ counts (sum_by g.S.ByteSource.failures c.args.captures.now)
+    (sum_by g.S.ByteSource.failures run.new.captures)
     ∷ counts (g.K.ByteSink.failures c.args.state.now) (g.K.ByteSink.failures run.new.state)
     ∷ counts (g.O.ByteSink.failures c.args.output.now) (g.O.ByteSink.failures run.new.output)
     ∷ [] in
@@ -58,6 +58,6 @@ returns-clause-told g c =
     let run = c.receive-outcome in
     let wanted = c.args.wanted in
     let Is = IsReceiveRefusal wanted.window.now wanted.ssrc.now c.args.sdp.now
-    g.S.ByteSource.to_give c.args.captures.now.items in
+    g.S.ByteSource.to_give c.args.captures.now in
     λ is. outcome_told Is run.result (g.F.ByteSink.held c.args.faults.now)
     (g.F.ByteSink.held c.end.new.faults) (c.end.ensures.told is) run.ensures.refusal

@@ -1,8 +1,8 @@
--- Captures that are taken one after the other, each the first of a list, in which its source then
--- stands last.
-use Rattle.std.proofs.Common.{◌≡◌, ℕ, ◌+◌, ◌<◌, List, [], ◌∷◌, ◌++◌, length, Option, None, Some}
+-- Captures that are taken one after the other.
+use Rattle.std.proofs.Common.{◌≡◌, ℕ, ◌+◌, List, [], ◌∷◌, ◌++◌, length, Option, None, Some}
 use Rattle.std.proofs.Common.{Result, Ok, Err, refl, sym, ap, subst, ◌∙◌, arith, append_assoc}
-use Rattle.std.proofs.Common.{append-nil, drop, drop-drop}
+use Rattle.std.proofs.Common.{◌≤◌, append-nil, drop, drop-drop, length-drop}
+use Rattle.file_engines.specs.Sent.{FirstIs}
 use Rattle.std.specs.List.{flat_map}
 use Rattle.std.specs.Io.KnownBytes.{Appends}
 use Rattle.std.specs.Prelude.{IfOk}
@@ -11,12 +11,16 @@ use Rattle.path_merge.specs.Frames.{Holds}
 use Rattle.receiver_file.specs.Saved.{kept_of}
 use Rattle.tool_text.specs.Sources.{IsSourceText}
 use Rattle.tool_text.specs.Timestamps.{AreTimestamps}
+use Rattle.file_engines.specs.Printed.{received_text, tally_text}
+use Rattle.file_engines.specs.Tallied.{Tallies}
 use Rattle.file_engines.specs.Taking.{AllTell, Announces, Begins, IsOpeningText, OpensBy, Receives}
-use Rattle.file_engines.specs.Taking.{SavesHolding, Stands, TakesFile, TakesFiles, TakesFirst}
+use Rattle.file_engines.specs.Taking.{SavesHolding, Stands, TakesFile, TakesFiles}
 use Rattle.file_engines.specs.Taking.{capture_datagrams, said_behind}
 use Rattle.file_engines.specs.declared.fault.Fault.{Fault}
 use Rattle.file_engines.specs.declared.receive.Opening.{Opening}
 use Rattle.file_engines.specs.declared.session.Session.{Session}
+use Rattle.file_engines.proofs.Printed.{received_text_is}
+use Rattle.std.proofs.Common.{Bool}
 
 -- These captures are still to be taken: with the datagrams that are taken by now, theirs are all,
 -- and behind them the receiver is open by this text.
@@ -30,26 +34,17 @@ pub record Left {S A : Type 0} (o : Opening A) (f : S → Option (List ℕ)) (re
   pub behind : said_behind said octets ≡ text
   pub whole : here ++ flat_map capture_datagrams octets ≡ all
 
--- k captures were taken
-pub record Rotated {S A : Type 0} (o : Opening A) (f : S → Option (List ℕ)) (k : ℕ)
-    (start now : List S) (before after : Option (Session A)) : Type 0 where
-  pub rest : List S
-  pub done : List S
-  pub now_is : now ≡ rest ++ done
-  pub count : length rest + k ≡ length start
-  pub behind : rest ≡ drop k start
+-- the first k captures were taken
+pub record SoFar {S A : Type 0} (o : Opening A) (f : S → Option (List ℕ)) (k : ℕ) (start : List S)
+    (before after : Option (Session A)) : Type 0 where
   pub left : (octets : List (List ℕ)) (said : Option (List ℕ)) (ds : List (List ℕ))
       → AllTell f start octets → Stands o before said ds
-      → Left o f rest after (said_behind said octets) (ds ++ flat_map capture_datagrams octets)
+      → Left o f (drop k start) after (said_behind said octets)
+      (ds ++ flat_map capture_datagrams octets)
 
-pub none_rotated : {S A : Type 0} (o : Opening A) (f : S → Option (List ℕ)) (xs : List S)
-    (b : Option (Session A)) → Rotated o f 0 xs xs b b
-none_rotated o f xs b = record {
-  rest = xs;
-  done = [];
-  now_is = sym (append-nil xs);
-  count = omega arith;
-  behind = refl;
+pub none_so_far : {S A : Type 0} (o : Opening A) (f : S → Option (List ℕ)) (xs : List S)
+    (b : Option (Session A)) → SoFar o f 0 xs b b
+none_so_far o f xs b = record {
   left = λ octets said ds tell stands. record {
     octets = octets;
     said = said;
@@ -85,53 +80,27 @@ first_left o f x xs b a text all (p ∷ ps) said here tell stands behind whole t
   whole = append_assoc here (capture_datagrams p) (flat_map capture_datagrams ps) ∙ whole;
 }
 
-head_of : {S : Type 0} (x y : S) (xs ys : List S) → x ∷ xs ≡ y ∷ ys → y ≡ x
-head_of x y xs ys is = cc
-
-tail_of : {S : Type 0} (x y : S) (xs ys : List S) → x ∷ xs ≡ y ∷ ys → ys ≡ xs
-tail_of x y xs ys is = cc
+next_left : {S A : Type 0} (o : Opening A) (f : S → Option (List ℕ)) (rest : List S)
+    (b a : Option (Session A)) (text : Option (List ℕ)) (all : List (List ℕ))
+    → Left o f rest b text all → FirstIs (λ s. TakesFile o (f s) b a) rest
+    → Left o f (drop 1 rest) a text all
+next_left o f [] b a text all l taken = absurd taken
+next_left o f (x ∷ xs) b a text all l taken =
+    first_left o f x xs b a text all l.octets l.said l.here l.tell l.stands l.behind l.whole taken
 
 -- one more
-rotated_by : {S A : Type 0} (o : Opening A) (f : S → Option (List ℕ)) (k : ℕ)
-    (start now new : List S) (before b a : Option (Session A)) (rest done : List S)
-    → now ≡ rest ++ done
-    → length rest + k ≡ length start → rest ≡ drop k start → k < length start
-    → ((octets : List (List ℕ)) (said : Option (List ℕ)) (ds : List (List ℕ))
-    → AllTell f start octets → Stands o before said ds
-    → Left o f rest b (said_behind said octets) (ds ++ flat_map capture_datagrams octets))
-    → TakesFirst o f now new b a → Rotated o f (k + 1) start new before a
-rotated_by o f k start now new before b a [] done now_is count behind more left first = absurd
-    (omega arith)
-rotated_by o f k start now new before b a (x ∷ xs) done now_is count behind more left first =
-    let joined : x ∷ (xs ++ done) ≡ first.first ∷ first.more = sym now_is ∙ first.old_is in
-    let head : first.first ≡ x = head_of x first.first (xs ++ done) first.more joined in
-    let tail : first.more ≡ xs ++ done = tail_of x first.first (xs ++ done) first.more joined in
-    let taken : TakesFile o (f x) b a = record {
-      stands = λ octets said ds told stands.
-          first.taken.stands octets said ds (ap f head ∙ told) stands;
-    } in
-    record {
-      rest = xs;
-      done = done ++ first.last ∷ [];
-      now_is = first.new_is ∙ ap (λ l. l ++ first.last ∷ []) tail
-          ∙ append_assoc xs done (first.last ∷ []);
-      count = omega arith;
-      behind = ap (drop 1) behind ∙ drop-drop 1 k start;
-      left = λ octets said ds tell stands.
-          let text : Option (List ℕ) = said_behind said octets in
-          let all : List (List ℕ) = ds ++ flat_map capture_datagrams octets in
-          let l : Left o f (x ∷ xs) b text all = left octets said ds tell stands in
-          first_left o f x xs b a text all l.octets l.said l.here l.tell l.stands l.behind l.whole
-          taken;
-    }
-
 pub one_more : {S A : Type 0} (o : Opening A) (f : S → Option (List ℕ)) (k : ℕ)
-    (start now new : List S) (before b a : Option (Session A)) → Rotated o f k start now before b
-    → k < length start
-    → TakesFirst o f now new b a → Rotated o f (k + 1) start new before a
-one_more o f k start now new before b a rotated more first =
-    rotated_by o f k start now new before b a rotated.rest rotated.done rotated.now_is rotated.count
-    rotated.behind more rotated.left first
+    (start rest : List S) (before b a : Option (Session A)) → SoFar o f k start before b
+    → rest ≡ drop k start → FirstIs (λ s. TakesFile o (f s) b a) rest
+    → SoFar o f (k + 1) start before a
+one_more {S} o f k start rest before b a so_far behind taken = record {
+  left = λ octets said ds tell stands.
+      let text : Option (List ℕ) = said_behind said octets in
+      let all : List (List ℕ) = ds ++ flat_map capture_datagrams octets in
+      subst (λ (xs : List S). Left o f xs a text all) (drop-drop 1 k start)
+      (next_left o f (drop k start) b a text all (so_far.left octets said ds tell stands)
+      (subst (λ (xs : List S). FirstIs (λ s. TakesFile o (f s) b a) xs) behind taken));
+}
 
 said_none : (said : Option (List ℕ)) → said_behind said [] ≡ said
 said_none None = refl
@@ -151,17 +120,16 @@ none_left o f [] a text all [] said here none tell stands behind whole =
     subst (λ (t : Option (List ℕ)). Stands o a t all) (sym (said_none said) ∙ behind)
     (subst (λ (ds : List (List ℕ)). Stands o a said ds) (sym (append-nil here) ∙ whole) stands)
 
-pub all_rotated : {S A : Type 0} (o : Opening A) (f : S → Option (List ℕ)) (k : ℕ)
-    (start now : List S) (before after : Option (Session A))
-    → Rotated o f k start now before after → k ≡ length start
+pub all_taken : {S A : Type 0} (o : Opening A) (f : S → Option (List ℕ)) (k : ℕ) (start : List S)
+    (before after : Option (Session A)) → SoFar o f k start before after → length start ≤ k
     → TakesFiles o f start before after
-all_rotated o f k start now before after rotated all = record {
+all_taken o f k start before after so_far end = record {
   stands = λ octets said ds tell stands.
       let text : Option (List ℕ) = said_behind said octets in
       let whole : List (List ℕ) = ds ++ flat_map capture_datagrams octets in
-      let l : Left o f rotated.rest after text whole = rotated.left octets said ds tell stands in
-      none_left o f rotated.rest after text whole l.octets l.said l.here
-      (omega (arith, rotated.count)) l.tell l.stands l.behind l.whole;
+      let l : Left o f (drop k start) after text whole = so_far.left octets said ds tell stands in
+      none_left o f (drop k start) after text whole l.octets l.said l.here
+      (omega (arith, length-drop k start, end)) l.tell l.stands l.behind l.whole;
 }
 
 -- ---- the receiver that took them is written
@@ -170,14 +138,17 @@ some_is : (a b : List ℕ) → Some a ≡ Some b → a ≡ b
 some_is a b is = cc
 
 saves_held : {A : Type 0} (o : Opening A) (window source : List ℕ) (Is : List ℕ → Type 0)
-    (said : Option (List ℕ)) (s : Session A) (ds : List (List ℕ)) (old new : Option (List ℕ))
+    (said : Option (List ℕ)) (s : Session A) (ds : List (List ℕ)) (wanted : Bool)
+    (shown shown' old new : Option (List ℕ))
     → AreTimestamps window o.window.items → IsSourceText source o.ssrc → Stands o (Some s) said ds
     → ((text : List ℕ) → Is text → said ≡ Some text)
+    → Appends shown shown' (received_text wanted s.delivered (tally_text s.tally) s.receiver)
     → Appends old new (state_text (kept_of s.receiver))
-    → SavesHolding window source Is ds old new
-saves_held o window source Is None s ds old new is_window is_source stands opens taken = absurd
-    stands
-saves_held o window source Is (Some said) s ds old new is_window is_source stands opens taken =
+    → SavesHolding window source Is ds wanted shown shown' old new
+saves_held o window source Is None s ds wanted shown shown' old new is_window is_source stands opens
+    printed taken = absurd stands
+saves_held o window source Is (Some said) s ds wanted shown shown' old new is_window is_source
+    stands opens printed taken =
     record {
       receiver = s.receiver;
       window_is = subst (λ (w : List ℕ). AreTimestamps window w) (sym stands.window) is_window;
@@ -186,21 +157,29 @@ saves_held o window source Is (Some said) s ds old new is_window is_source stand
           subst (λ (t : List ℕ). Announces t s.receiver.opening) (some_is said text (opens text is))
           stands.announced;
       holds = stands.holds;
+      printed = subst (Appends shown shown')
+          (received_text_is wanted s.delivered s.tally s.receiver ds stands.delivered
+          stands.tallied) printed;
       taken = taken;
     }
 
 pub receives : {S A : Type 0} (o : Opening A) (window source : List ℕ) (sdp : Option S)
     (f : S → Option (List ℕ)) (captures : List S)
-    (begun : Option (Session A)) (s : Session A) (old new : Option (List ℕ))
+    (begun : Option (Session A)) (s : Session A) (wanted : Bool)
+    (shown shown' old new : Option (List ℕ))
     → AreTimestamps window o.window.items → IsSourceText source o.ssrc → Begins o f sdp begun
-    → TakesFiles o f captures begun (Some s) → Appends old new (state_text (kept_of s.receiver))
-    → Receives window source sdp f captures old new
-receives o window source sdp f captures begun s old new is_window is_source begins files taken =
+    → TakesFiles o f captures begun (Some s)
+    → Appends shown shown' (received_text wanted s.delivered (tally_text s.tally) s.receiver)
+    → Appends old new (state_text (kept_of s.receiver))
+    → Receives window source sdp f captures wanted shown shown' old new
+receives o window source sdp f captures begun s wanted shown shown' old new is_window is_source
+    begins files printed taken =
     record {
       saved = λ octets tell.
           saves_held o window source (IsOpeningText f sdp octets) (said_behind begins.said octets) s
-          (flat_map capture_datagrams octets) old new is_window is_source
-          (files.stands octets begins.said [] tell begins.stands) (begins.opens octets) taken;
+          (flat_map capture_datagrams octets) wanted shown shown' old new is_window is_source
+          (files.stands octets begins.said [] tell begins.stands) (begins.opens octets) printed
+          taken;
     }
 
 -- ---- a run begins
@@ -233,17 +212,21 @@ pub opened_if : {A : Type 0} (o : Opening A) (r : Result (Session A) Fault)
     → IfOk r (λ s. s.receiver.opening.window ≡ window)
     → IfOk r (λ s. s.receiver.opening.ssrc ≡ o.ssrc)
     → IfOk r (λ s. Announces text s.receiver.opening)
-    → IfOk r (λ s. Holds s.receiver []) → IfOk r (λ s. s.delivered ≡ 0)
+    → IfOk r (λ s. Holds s.receiver []) → IfOk r (λ s. Tallies s.tally [])
+    → IfOk r (λ s. s.delivered ≡ 0)
     → IfOk r (λ s. OpensBy o to_give s)
-opened_if o (Ok s) to_give text window is same of_window of_source announced holds none = record {
-  text = text;
-  is = is;
-  opened = record {
-    window = of_window ∙ same;
-    ssrc = of_source;
-    announced = announced;
-    holds = holds;
-    delivered = omega (arith, none);
-  };
-}
-opened_if o (Err f) to_give text window is same of_window of_source announced holds none = tt
+opened_if o (Ok s) to_give text window is same of_window of_source announced holds tallied none =
+    record {
+      text = text;
+      is = is;
+      opened = record {
+        window = of_window ∙ same;
+        ssrc = of_source;
+        announced = announced;
+        holds = holds;
+        tallied = tallied;
+        delivered = omega (arith, none);
+      };
+    }
+opened_if o (Err f) to_give text window is same of_window of_source announced holds tallied none =
+    tt
