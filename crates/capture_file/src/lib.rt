@@ -31,4 +31,4 @@ pub use reader::{CaptureReader, Standing};
 pub use record::{Record, RecordHead};
 pub use steps::{record_begins, record_rest};
 pub use writer::CaptureWriter;
-pub use writing::write_capture;
+pub use writing::{write_capture, write_front, write_record};

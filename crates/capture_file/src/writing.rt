@@ -22,7 +22,10 @@ const HEAD: usize = 11;
 const FRONT: usize = 10;
 
 /// Writes a record.
-pub(crate) fn write_record<K: ByteSink>(
+///
+/// An `Err` is the sink's one failure in this call. The sink then has a first part of the record's
+/// text more than before, and not all.
+pub fn write_record<K: ByteSink>(
     sink: &mut K,
     path: Path,
     moment: u64,
@@ -58,8 +61,11 @@ fn head_of(path: Path, moment: u64, length: u16) -> [u8; HEAD]
     head
 }
 
-/// Writes what stands before the records.
-pub(crate) fn write_front<K: ByteSink>(sink: &mut K, text: &[u8]) -> Result<(), DeviceFault>
+/// Writes what stands before the records of a capture of version 02: name, version and a text.
+///
+/// An `Err` is the sink's one failure in this call. The sink then has a first part of that more than
+/// before, and not all.
+pub fn write_front<K: ByteSink>(sink: &mut K, text: &[u8]) -> Result<(), DeviceFault>
     requires { length text.now ≤ 65535 }
     ensures ok { OnOk result
         (Appends (K.held sink.old) (K.held sink.new) (front_text Two text.now)) }

@@ -3,3 +3,4 @@ pub mod Settling
 pub mod Refusals
 pub mod FileRefusals
 pub mod Ends
+pub mod Late

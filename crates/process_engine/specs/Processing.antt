@@ -1,5 +1,6 @@
 -- What `process` sends (own).
-use Rattle.std.specs.Prelude.{◌≡◌, ℕ, ◌^◌, ◌%◌, List, [], ◌∷◌, ◌++◌, Option, length}
+use Rattle.std.specs.Prelude.{◌≡◌, ℕ, ◌+◌, ◌^◌, ◌%◌, List, [], ◌∷◌, ◌++◌, Option, length}
+use Rattle.std.specs.Prelude.{Result, Ok, Err}
 use Rattle.std.specs.Io.KnownBytes.{Appends}
 use Rattle.file_engines.specs.Line.{line_text}
 use Rattle.file_engines.specs.declared.line.Line.TheVariants.{Sent}
@@ -13,26 +14,41 @@ use Rattle.key_mix.specs.Sending.{IsSendable, IsSentJob}
 use Rattle.key_mix.specs.declared.Job.{Job}
 use Rattle.packet_plan.specs.declared.stamp.Stamp.{Stamp}
 use Rattle.path_merge.specs.Frames.{State}
-use Rattle.st_format.specs.Device.{TakesAll}
+use Rattle.st_format.specs.Device.{CountsOne}
 use Rattle.st_format.specs.Picture.{Values}
 use Rattle.st_format.specs.Raster.{Raster}
 use Rattle.process_engine.specs.Inputs.{AreFramesAt, IsFill, IsHeldFor, raster_formats}
 use Rattle.process_engine.specs.Inputs.{settled_frames}
 use Rattle.process_engine.specs.JobText.{IsJobText}
+use Rattle.process_engine.specs.Late.{late_text}
 use Rattle.process_engine.specs.Reading.{SayReceivers, SaysHeld}
 
--- A sink took the datagrams of a job's picture of pictures; so many modulo 2^32.
+-- A sink of octets was written the capture of the datagrams of a job's picture of pictures; so many
+-- modulo 2^32.
 pub record TakesJob (job : Job) (pictures : List Values) (size : ℕ) (stamp : Stamp)
-    (old new : Option (List (List ℕ))) (count : ℕ) : Type 0 where
+    (old new : Option (List ℕ)) (count : ℕ) : Type 0 where
   pub datagrams : List (List ℕ)
   pub spell : IsSentJob datagrams job pictures size stamp
-  pub taken : TakesAll old new datagrams
+  pub written : Appends old new (late_text datagrams)
   pub count_is : count ≡ length datagrams % 2 ^ 32
 
--- A sink took those of receivers' frames of a timestamp, each settled. Nothing speaks against the
+-- What became of a sink of octets: it was written the capture of such datagrams, and didn't fail;
+-- or it failed once; and else it is as it was. The first packet has the number `first`.
+abbrev pub WritesJob : {K : Type 0} → (List (List ℕ) → Type 0) → (K → Option (List ℕ)) → (K → ℕ)
+    → ℕ → K → K → Result ℕ SendJobFault → Type 0
+WritesJob Are held failures first old new (Ok next) =
+    (datagrams : List (List ℕ)) × Are datagrams
+    × Appends (held old) (held new) (late_text datagrams) × (failures new ≡ failures old)
+    × (next ≡ (first + length datagrams) % 2 ^ 32)
+WritesJob Are held failures first old new (Err (sending.Sink sent)) =
+    CountsOne (failures old) (failures new)
+WritesJob Are held failures first old new (Err (sending.Job e)) = new ≡ old
+WritesJob Are held failures first old new (Err sending.BadPacketSize) = new ≡ old
+
+-- It was written that of receivers' frames of a timestamp, each settled. Nothing speaks against the
 -- job, and the size is one for the format of its picture.
 pub record SendsJob (job : Job) (ts : ℕ) (fill_text : List ℕ) (size : ℕ) (stamp : Stamp)
-    (rs : List State) (held : Option Values) (old new : Option (List (List ℕ))) (count : ℕ) :
+    (rs : List State) (held : Option Values) (old new : Option (List ℕ)) (count : ℕ) :
     Type 0 where
   pub frames : List Raster
   pub are : AreFramesAt frames rs ts
@@ -42,11 +58,11 @@ pub record SendsJob (job : Job) (ts : ℕ) (fill_text : List ℕ) (size : ℕ) (
   pub sendable : IsSendable job (raster_formats frames) size
   pub takes : TakesJob job (settled_frames held fill frames) size stamp old new count
 
--- A sink took those of the job that a text says, of the receivers and the held picture whose files
+-- It was written that of the job that a text says, of the receivers and the held picture whose files
 -- sources were to give.
 pub record SendsFiles {S : Type 0} (to_give : S → Option (List ℕ)) (states : List S)
     (hold : Option S) (job_text : List ℕ) (ts : ℕ) (fill_text : List ℕ) (size : ℕ) (stamp : Stamp)
-    (old new : Option (List (List ℕ))) (count : ℕ) : Type 0 where
+    (old new : Option (List ℕ)) (count : ℕ) : Type 0 where
   pub job : Job
   pub job_is : IsJobText job_text job
   pub receivers : List State

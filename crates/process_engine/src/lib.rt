@@ -1,6 +1,7 @@
 //! The engine of the program that processes frames: receivers and a job in, datagrams out.
 #![tactic(auto)]
 
+mod capture;
 mod fill_text;
 mod inputs;
 mod job_text;

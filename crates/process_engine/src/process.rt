@@ -7,14 +7,14 @@ ghost use Rattle.std.specs.Io.KnownBytes.{Appends};
 ghost use Rattle.file_engines.specs.Fault.{Accounts, IfRefused, NoneFailed, OneFailed, counts};
 ghost use Rattle.file_engines.specs.Receiving.{failures_in};
 ghost use Rattle.file_engines.specs.Refusing.{OfRefusal, TellsRefusal};
-ghost use Rattle.key_mix.specs.Sending.{HasBase, IsSendable, IsSentJob, input_formats};
+ghost use Rattle.key_mix.specs.Sending.{HasBase, IsSendFault, IsSendable, IsSentJob, input_formats};
 ghost use Rattle.key_mix.specs.Sending.{settled_inputs};
 ghost use Rattle.process_engine.specs.Processing.{PrintsSent, SendsFiles, SendsJob, TakesJob};
-ghost use Rattle.process_engine.specs.Processing.{of_send_job};
+ghost use Rattle.process_engine.specs.Processing.{WritesJob, of_send_job};
 ghost use Rattle.process_engine.specs.Refused.{IsJobOrPlanRefusal, IsJobRefusal, IsRunRefusal};
-ghost use Rattle.st_format.specs.Device.{TakesAll};
 ghost use Rattle.tool_text.specs.Telling.{memory_line};
 
+use crate::capture::LateCapture;
 use crate::inputs::{check_held, fill_for, frames_at, inputs_of};
 use crate::job_text::read_job;
 use crate::reading::{read_held, read_receivers};
@@ -22,7 +22,7 @@ use file_engines::{Fault, Line, Refusal, print, tell};
 use key_mix::{Job, JobInput, SendJobFault, send_job};
 use packet_plan::{PlanFault, Stamp};
 use path_merge::Receiver;
-use st_format::{ByteSink, ByteSource, DatagramSink, Picture};
+use st_format::{ByteSink, ByteSource, Picture};
 use std::alloc::Allocator;
 use tool_text::{LINE, Status, tell_memory};
 
@@ -42,8 +42,9 @@ pub struct Processing<'a> {
     pub max_octets: u32,
 }
 
-/// Runs a job on the frames of a timestamp, one of each receiver, sends the job's picture into
-/// `sink`, and prints `sent N` to `output`, how many datagrams that are.
+/// Runs a job on the frames of a timestamp, one of each receiver, writes the capture of the job's
+/// picture to `sink`, by path A and with no text, and prints `sent N` to `output`, how many
+/// datagrams that are.
 ///
 /// The receivers' files are read in their order, and then the picture of `hold`, where there is
 /// one. The first frame takes the held picture's values where it has none, and each other the
@@ -54,7 +55,7 @@ pub struct Processing<'a> {
 /// or has a value above the greatest of a frame's depth (`process 3`), the held picture has another
 /// format than the first frame (`process 4`), or, in this order, the job is refused (`job`) or
 /// there is no such plan (`plan`); 3 where a device failed, and 4 where the allocator refused
-/// memory. `faults` is told of it by one line. Nothing is sent where the status is 1.
+/// memory. `faults` is told of it by one line. `sink` isn't touched where the status is 1.
 pub fn run_process<A, S, K, O, F>(
     alloc: A,
     wanted: Processing<'_>,
@@ -67,7 +68,7 @@ pub fn run_process<A, S, K, O, F>(
 where
     A: Allocator + Copy,
     S: ByteSource,
-    K: DatagramSink,
+    K: ByteSink,
     O: ByteSink,
     F: ByteSink,
     requires payload_type { wanted.stamp.payload_type ≤ 127 }
@@ -84,13 +85,13 @@ where
         ∷ counts (K.failures sink.old) (K.failures sink.new)
         ∷ counts (O.failures output.old) (O.failures output.new)
         ∷ counts (F.failures faults.old) (F.failures faults.new) ∷ []) }
-    // What is sent are the datagrams of the job's picture, made of the receivers and the held
-    // picture whose files were read; how many is printed.
+    // What is written is the capture of the datagrams of the job's picture, made of the receivers and
+    // the held picture whose files were read; how many they are is printed.
     ensures sent { result ≡ 0 → (count : ℕ) × SendsFiles S.to_give states.old hold.old
         wanted.entry.job.now wanted.entry.timestamp wanted.entry.fill.now wanted.entry.max_octets
-        wanted.entry.stamp (K.taken sink.old) (K.taken sink.new) count
+        wanted.entry.stamp (K.held sink.old) (K.held sink.new) count
         × PrintsSent count (O.held output.old) (O.held output.new) }
-    ensures refused { result ≡ 1 → K.taken sink.new ≡ K.taken sink.old }
+    ensures refused { result ≡ 1 → sink.new ≡ sink.old }
     // What is told is the first refusal that speaks against the words and files.
     ensures told { result ≡ 1
         → TellsRefusal (IsRunRefusal S.to_give states.old hold.old wanted.entry)
@@ -120,14 +121,14 @@ fn process<A, S, K, O>(
 where
     A: Allocator + Copy,
     S: ByteSource,
-    K: DatagramSink,
+    K: ByteSink,
     O: ByteSink,
     requires payload_type { wanted.stamp.payload_type ≤ 127 }
     ensures sent { OnOk result ((count : ℕ) × SendsFiles S.to_give states.old hold.old
         wanted.entry.job.now wanted.entry.timestamp wanted.entry.fill.now wanted.entry.max_octets
-        wanted.entry.stamp (K.taken sink.old) (K.taken sink.new) count
+        wanted.entry.stamp (K.held sink.old) (K.held sink.new) count
         × PrintsSent count (O.held output.old) (O.held output.new)) }
-    ensures refused { IfErr result (λ f. IfRefused f (K.taken sink.new ≡ K.taken sink.old)) }
+    ensures refused { IfErr result (λ f. IfRefused f (sink.new ≡ sink.old)) }
     ensures refusal { IfErr result (λ f. OfRefusal f
         (IsRunRefusal S.to_give states.old hold.old wanted.entry)) }
     ensures failures { Accounts result
@@ -141,7 +142,7 @@ where
 }
 
 /// Reads the job and the files, sends the job's picture, and answers how many datagrams that is.
-fn process_files<A: Allocator + Copy, S: ByteSource, K: DatagramSink>(
+fn process_files<A: Allocator + Copy, S: ByteSource, K: ByteSink>(
     alloc: A,
     wanted: Processing<'_>,
     states: &mut [S],
@@ -151,8 +152,8 @@ fn process_files<A: Allocator + Copy, S: ByteSource, K: DatagramSink>(
     requires payload_type { wanted.stamp.payload_type ≤ 127 }
     ensures sent { IfOk result (λ n. SendsFiles S.to_give states.old hold.old
         wanted.entry.job.now wanted.entry.timestamp wanted.entry.fill.now wanted.entry.max_octets
-        wanted.entry.stamp (K.taken sink.old) (K.taken sink.new) n) }
-    ensures refused { IfErr result (λ f. IfRefused f (K.taken sink.new ≡ K.taken sink.old)) }
+        wanted.entry.stamp (K.held sink.old) (K.held sink.new) n) }
+    ensures refused { IfErr result (λ f. IfRefused f (sink.new ≡ sink.old)) }
     ensures refusal { IfErr result (λ f. OfRefusal f
         (IsRunRefusal S.to_give states.old hold.old wanted.entry)) }
     ensures failures { Accounts result
@@ -169,7 +170,7 @@ fn process_files<A: Allocator + Copy, S: ByteSource, K: DatagramSink>(
 }
 
 /// Sends the job's picture of the receivers' frames, and answers how many datagrams that is.
-fn send_frames<A: Allocator + Copy, K: DatagramSink>(
+fn send_frames<A: Allocator + Copy, K: ByteSink>(
     alloc: A,
     job: &Job,
     wanted: Processing<'_>,
@@ -178,10 +179,10 @@ fn send_frames<A: Allocator + Copy, K: DatagramSink>(
     sink: &mut K,
 ) -> Result<u32, Fault>
     requires payload_type { wanted.stamp.payload_type ≤ 127 }
-    ensures refused { IfErr result (λ f. IfRefused f (K.taken sink.new ≡ K.taken sink.old)) }
+    ensures refused { IfErr result (λ f. IfRefused f (sink.new ≡ sink.old)) }
     ensures sent { IfOk result (λ n. SendsJob job.now wanted.entry.timestamp wanted.entry.fill.now
         wanted.entry.max_octets wanted.entry.stamp receivers.now held.now
-        (K.taken sink.old) (K.taken sink.new) n) }
+        (K.held sink.old) (K.held sink.new) n) }
     ensures refusal { IfErr result (λ f. OfRefusal f
         (IsJobRefusal job.now wanted.entry receivers.now held.now)) }
     ensures failures { Accounts result (counts (K.failures sink.old) (K.failures sink.new) ∷ []) }
@@ -193,8 +194,8 @@ fn send_frames<A: Allocator + Copy, K: DatagramSink>(
     send(alloc, job, &inputs, wanted, sink)
 }
 
-/// Sends the job's picture, and answers how many datagrams that is.
-fn send<A: Allocator + Copy, K: DatagramSink>(
+/// Writes the capture of the job's picture, and answers how many datagrams that is.
+fn send<A: Allocator + Copy, K: ByteSink>(
     alloc: A,
     job: &Job,
     inputs: &[JobInput<'_, A>],
@@ -203,9 +204,9 @@ fn send<A: Allocator + Copy, K: DatagramSink>(
 ) -> Result<u32, Fault>
     requires bases { AllByRecursion HasBase inputs.now }
     requires payload_type { wanted.stamp.payload_type ≤ 127 }
-    ensures refused { IfErr result (λ f. IfRefused f (K.taken sink.new ≡ K.taken sink.old)) }
+    ensures refused { IfErr result (λ f. IfRefused f (sink.new ≡ sink.old)) }
     ensures sent { IfOk result (λ n. TakesJob job.now (settled_inputs inputs.now)
-        wanted.entry.max_octets wanted.entry.stamp (K.taken sink.old) (K.taken sink.new) n) }
+        wanted.entry.max_octets wanted.entry.stamp (K.held sink.old) (K.held sink.new) n) }
     ensures sendable { OnOk result
         (IsSendable job.now (input_formats inputs.now) wanted.entry.max_octets) }
     ensures refusal { IfErr result (λ f. OfRefusal f (λ r.
@@ -213,10 +214,36 @@ fn send<A: Allocator + Copy, K: DatagramSink>(
     ensures failures { Accounts result (counts (K.failures sink.old) (K.failures sink.new) ∷ []) }
 {
     let stamp = wanted.stamp;
-    match send_job(alloc, job, inputs, wanted.max_octets, stamp, sink) {
+    match send_capture(alloc, job, inputs, wanted.max_octets, stamp, sink) {
         Ok(next) => Ok(next.wrapping_sub(stamp.first)),
         Err(fault) => Err(send_job_fault(fault)),
     }
+}
+
+/// Sends the job's picture into a capture, which is begun at the first datagram: a run that is
+/// refused doesn't touch the sink. Answers as [`send_job`] does.
+fn send_capture<A: Allocator + Copy, K: ByteSink>(
+    alloc: A,
+    job: &Job,
+    inputs: &[JobInput<'_, A>],
+    max_octets: u32,
+    stamp: Stamp,
+    sink: &mut K,
+) -> Result<u32, SendJobFault>
+    requires bases { AllByRecursion HasBase inputs.now }
+    requires payload_type { stamp.payload_type ≤ 127 }
+    ensures written { WritesJob
+        (λ ds. IsSentJob ds job.now (settled_inputs inputs.now) max_octets stamp)
+        K.held K.failures stamp.first sink.old sink.new result }
+    ensures sendable { OnOk result
+        (IsSendable job.now (input_formats inputs.now) max_octets) }
+    ensures fault { IfErr result
+        (λ e. IsSendFault e job.now (input_formats inputs.now) max_octets) }
+{
+    let mut capture = LateCapture::new(&mut *sink);
+    let answer = send_job(alloc, job, inputs, max_octets, stamp, &mut capture);
+    let _ = capture.into_inner();
+    answer
 }
 
 /// A fault of the sending as one that ends a run.

@@ -1,7 +1,6 @@
 //! The program `st2110`: words in, a status out.
 #![tactic(auto)]
 
-mod captures;
 mod commands;
 mod descriptions;
 mod files;

@@ -1,7 +1,6 @@
 //! The commands, each with the real devices that its engine works on.
 ghost use Rattle.std.specs.Prelude.{◌≤◌};
 
-use crate::captures::CaptureSink;
 use crate::descriptions::tell_description;
 use crate::files::{FileSink, FileSource};
 use crate::link::{UdpLink, unbound};
@@ -181,19 +180,16 @@ pub fn process<'a>(rt: &'a HostRuntime, words: &ProcessWords<'a>, is_verbose: bo
         return without_memory(rt);
     };
     let mut hold = source(rt, words.hold);
-    let mut sink = CaptureSink::new(FileSink::new(rt, words.out));
+    let mut out = FileSink::new(rt, words.out);
     let status = run_process(
         rt.alloc(),
         processing(words),
         states.as_mut_slice(),
         &mut hold,
-        &mut sink,
+        &mut out,
         &mut output,
         &mut faults,
     );
-    let Some(mut out) = sink.into_file() else {
-        return status;
-    };
     let status = finish(status, &mut out, &mut faults);
     let devices = Devices {
         sdp: None,

@@ -92,7 +92,7 @@ fn receiver_is_run(alloc: Global, file: &[u8]) -> Result<bool, AllocError> {
     let reported = report_on(alloc, alloc, file, 4096, SOUND)?;
     let processed = process_on(alloc, alloc, PROCESSING, file)?;
     let is_same = is_written(&merged) && merged.written.held() == file;
-    Ok(is_same && is_done(&reported) && processed.status == 0)
+    Ok(is_same && is_done(&reported) && is_written(&processed))
 }
 
 /// Whether a capture is received by an SDP text, and what was received is run on.

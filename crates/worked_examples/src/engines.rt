@@ -1,9 +1,7 @@
 //! The engines of files over devices in memory: with memory, and with each growth refused in turn.
 use crate::checks::met;
-use crate::file_runs::{
-    FileRun, ProcessRun, merge_on, migrate_on, process_on, receive_on, send_on,
-};
-use crate::sending::{STAMP, WHOLE, has_taken};
+use crate::file_runs::{FileRun, merge_on, migrate_on, process_on, receive_on, send_on};
+use crate::sending::STAMP;
 use crate::wanting::{MEMORY, Wanting, grows};
 use refusing::Refusing;
 use st2110_tool::{Paths, Processing, Sending};
@@ -144,30 +142,20 @@ const PROCESSING: Processing<'static> = Processing {
     max_octets: 42,
 };
 
-const SENT_ONE: &[u8] = b"sent 1\n";
-
-/// Whether a run sent this and printed how many datagrams it is, or `None` where it wanted memory.
-fn sent_whole(global: Global, run: &ProcessRun) -> Option<bool> {
-    let (is_sent, printed) = (
-        has_taken(global, &run.sent, 0, &[WHOLE]),
-        run.printed.held(),
-    );
-    let is_empty = run.sent.taken().is_empty();
-    if run.status == 4 && run.told.held() == MEMORY {
-        return if (is_sent || is_empty) && SENT_ONE.starts_with(printed) {
-            None
-        } else {
-            Some(false)
-        };
-    }
-    Some(run.status == 0 && is_sent && printed == SENT_ONE && run.told.held().is_empty())
-}
+/// A capture of version 02 with an empty text and one record by A, of moment 0 and 42 octets:
+/// *sender-sizes*' datagram, whose number is 1.
+const PROCESSED: &str = "5332304341503032000000000000000000000000\
+    2A80E0000100000384000000010000000800008000000800010000\
+    80108011801280138014801580168017";
 
 impl Wanting for Processed {
     fn answer(&self, global: Global, refusing: &Refusing<Global>) -> Result<Option<bool>, Fail> {
-        let file = hex::decode(global, MERGED)?;
+        let (file, written) = (
+            hex::decode(global, MERGED)?,
+            hex::decode(global, PROCESSED)?,
+        );
         let run = process_on(global, refusing, PROCESSING, &file)?;
-        Ok(sent_whole(global, &run))
+        Ok(answered(&run, &written, b"sent 1\n"))
     }
 }
 

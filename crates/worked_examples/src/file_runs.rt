@@ -1,8 +1,7 @@
 //! Runs of the engines of files over devices in memory.
 ghost use Rattle.std.specs.Prelude.{◌≡◌, ◌≤◌, [], IfOk};
 
-use crate::sending::sink;
-use st_format::memory::{MemoryDatagrams, MemorySink, MemorySource};
+use st_format::memory::{MemorySink, MemorySource};
 use st2110_tool::{
     Processing, Sending, Wanted, run_merge, run_migrate, run_process, run_receive, run_send,
 };
@@ -13,15 +12,6 @@ use std::alloc::{AllocError, Allocator, Global};
 pub struct FileRun {
     pub status: u8,
     pub written: MemorySink,
-    pub printed: MemorySink,
-    pub told: MemorySink,
-}
-
-/// How a run of `process` ended, and what it sent.
-#[derive(Drop)]
-pub struct ProcessRun {
-    pub status: u8,
-    pub sent: MemoryDatagrams,
     pub printed: MemorySink,
     pub told: MemorySink,
 }
@@ -156,28 +146,19 @@ pub fn process_on<A: Allocator + Copy>(
     alloc: A,
     wanted: Processing<'_>,
     file: &[u8],
-) -> Result<ProcessRun, AllocError>
+) -> Result<FileRun, AllocError>
     requires { wanted.stamp.payload_type ≤ 127 }
 {
     let state = source(global, file)?;
-    let (mut sent, mut printed, mut told) = (
-        sink(global, 0)?,
-        file_sink(global)?,
-        file_sink(global)?,
-    );
-    let status = run_process(
+    let mut run = begun(global)?;
+    run.status = run_process(
         alloc,
         wanted,
         &mut [state],
         &mut None,
-        &mut sent,
-        &mut printed,
-        &mut told,
+        &mut run.written,
+        &mut run.printed,
+        &mut run.told,
     );
-    Ok(ProcessRun {
-        status,
-        sent,
-        printed,
-        told,
-    })
+    Ok(run)
 }

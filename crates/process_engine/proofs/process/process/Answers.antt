@@ -13,7 +13,7 @@ returns-clause-sent g c =
     on_ok c.print.result (PrintsSent c.from.result old new)
     ((count : ℕ) × SendsFiles g.S.ByteSource.to_give c.args.states.now c.args.hold.now
     wanted.job.now wanted.timestamp wanted.fill.now wanted.max_octets wanted.stamp
-    (g.K.DatagramSink.taken c.args.sink.now) (g.K.DatagramSink.taken c.process_files.new.sink)
+    (g.K.ByteSink.held c.args.sink.now) (g.K.ByteSink.held c.process_files.new.sink)
     count × PrintsSent count old new)
     (λ printed. (
       sent,

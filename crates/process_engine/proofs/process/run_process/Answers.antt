@@ -35,7 +35,7 @@ returns-clause-range g c =
     let held = g.F.ByteSink.held in
     let old = c.args.faults.now in
     let new = c.tell.new.faults in
-    let P = g.K.DatagramSink.taken c.process.new.sink ≡ g.K.DatagramSink.taken c.args.sink.now in
+    let P = c.process.new.sink ≡ c.args.sink.now in
     let e =
     ends c.in-Err.fault P c.tell.result c.number-in-Err.result (failed old) (failed new) (held old)
     (held new) c.tell.ensures c.in-Err.ensures.refused c.number-in-Err.ensures in
@@ -48,13 +48,13 @@ returns-clause-device g c =
     let held = g.F.ByteSink.held in
     let old = c.args.faults.now in
     let new = c.tell.new.faults in
-    let P = g.K.DatagramSink.taken c.process.new.sink ≡ g.K.DatagramSink.taken c.args.sink.now in
+    let P = c.process.new.sink ≡ c.args.sink.now in
     let e =
     ends c.in-Err.fault P c.tell.result c.number-in-Err.result (failed old) (failed new) (held old)
     (held new) c.tell.ensures c.in-Err.ensures.refused c.number-in-Err.ensures in
     let states = sum_by g.S.ByteSource.failures in
     let hold = failures_in g.S.ByteSource.failures in
-    let sink = g.K.DatagramSink.failures in
+    let sink = g.K.ByteSink.failures in
     let output = g.O.ByteSink.failures in
     let devices =
     counts (states c.args.states.now) (states c.process.new.states)
@@ -70,13 +70,13 @@ returns-clause-working g c =
     let held = g.F.ByteSink.held in
     let old = c.args.faults.now in
     let new = c.tell.new.faults in
-    let P = g.K.DatagramSink.taken c.process.new.sink ≡ g.K.DatagramSink.taken c.args.sink.now in
+    let P = c.process.new.sink ≡ c.args.sink.now in
     let e =
     ends c.in-Err.fault P c.tell.result c.number-in-Err.result (failed old) (failed new) (held old)
     (held new) c.tell.ensures c.in-Err.ensures.refused c.number-in-Err.ensures in
     let states = sum_by g.S.ByteSource.failures in
     let hold = failures_in g.S.ByteSource.failures in
-    let sink = g.K.DatagramSink.failures in
+    let sink = g.K.ByteSink.failures in
     let output = g.O.ByteSink.failures in
     let devices =
     counts (states c.args.states.now) (states c.process.new.states)
@@ -92,7 +92,7 @@ returns-clause-sent g c =
     let held = g.F.ByteSink.held in
     let old = c.args.faults.now in
     let new = c.tell.new.faults in
-    let P = g.K.DatagramSink.taken c.process.new.sink ≡ g.K.DatagramSink.taken c.args.sink.now in
+    let P = c.process.new.sink ≡ c.args.sink.now in
     let e =
     ends c.in-Err.fault P c.tell.result c.number-in-Err.result (failed old) (failed new) (held old)
     (held new) c.tell.ensures c.in-Err.ensures.refused c.number-in-Err.ensures in
@@ -105,7 +105,7 @@ returns-clause-refused g c =
     let held = g.F.ByteSink.held in
     let old = c.args.faults.now in
     let new = c.tell.new.faults in
-    let P = g.K.DatagramSink.taken c.process.new.sink ≡ g.K.DatagramSink.taken c.args.sink.now in
+    let P = c.process.new.sink ≡ c.args.sink.now in
     let e =
     ends c.in-Err.fault P c.tell.result c.number-in-Err.result (failed old) (failed new) (held old)
     (held new) c.tell.ensures c.in-Err.ensures.refused c.number-in-Err.ensures in
@@ -118,7 +118,7 @@ returns-clause-silent g c =
     let held = g.F.ByteSink.held in
     let old = c.args.faults.now in
     let new = c.tell.new.faults in
-    let P = g.K.DatagramSink.taken c.process.new.sink ≡ g.K.DatagramSink.taken c.args.sink.now in
+    let P = c.process.new.sink ≡ c.args.sink.now in
     let e =
     ends c.in-Err.fault P c.tell.result c.number-in-Err.result (failed old) (failed new) (held old)
     (held new) c.tell.ensures c.in-Err.ensures.refused c.number-in-Err.ensures in
@@ -131,7 +131,7 @@ returns-clause-memory g c =
     let held = g.F.ByteSink.held in
     let old = c.args.faults.now in
     let new = c.tell.new.faults in
-    let P = g.K.DatagramSink.taken c.process.new.sink ≡ g.K.DatagramSink.taken c.args.sink.now in
+    let P = c.process.new.sink ≡ c.args.sink.now in
     let e =
     ends c.in-Err.fault P c.tell.result c.number-in-Err.result (failed old) (failed new) (held old)
     (held new) c.tell.ensures c.in-Err.ensures.refused c.number-in-Err.ensures in
