@@ -1,23 +1,32 @@
 -- Pictures sent one after the other into a capture.
-use Rattle.std.proofs.Common.{◌≡◌, ℕ, zero, suc, ◌+◌, ◌%◌, ◌^◌, ◌<◌, ◌≤◌, List, [], ◌∷◌, ◌++◌}
+use Rattle.std.proofs.Common.{◌≡◌, ℕ, zero, suc, ◌+◌, ◌-◌, ◌%◌, ◌^◌, ◌<◌, ◌≤◌, List, [], ◌∷◌}
 use Rattle.std.proofs.Common.{false, drop, Option, None, Some, Result, Ok, Err, refl, sym, ap}
-use Rattle.std.proofs.Common.{length, subst, ◌∙◌, arith}
+use Rattle.std.proofs.Common.{◌++◌, length, subst, ◌∙◌, arith, inl, inr}
 use Rattle.std.proofs.Common.{append_assoc, append-nil, drop-drop, length-append, length-drop}
-use Rattle.std.proofs.KnownBytes.{Appends-nil, Appends-trans}
+use Rattle.std.proofs.KnownBytes.{Appends-trans}
+use Rattle.std.proofs.lemmas.Bool.{cases_lt}
 use Rattle.std.proofs.lemmas.Slice.Zip.{AllZip-long}
+use Rattle.std.specs.Borrow.{GName}
 use Rattle.std.specs.Io.KnownBytes.{Appends}
 use Rattle.std.specs.Prelude.{OnOk}
+use Rattle.st_format.specs.Device.{CountsOne, Failed}
 use Rattle.st_format.specs.Picture.{Values}
 use Rattle.st_format.specs.declared.device.ByteSink.{Ghosts}
 use Rattle.st_format.specs.declared.format.Format.{Format}
+use Rattle.capture_file.proofs.Putting.{each_written, fails_once}
+use Rattle.capture_file.specs.Faults.{CountsFault, IsDevice}
+use Rattle.capture_file.specs.declared.fault.FileFault.{FileFault}
+use Rattle.capture_file.specs.declared.fault.FileFault.TheVariants.{Device}
 use Rattle.capture_file.proofs.Written.{records_append}
 use Rattle.capture_file.specs.Fronts.{front_text}
 use Rattle.capture_file.specs.Records.{Entry, records_text}
-use Rattle.capture_file.specs.Writer.{Writer, entries_from, entries_of, moment_after, moment_behind}
-use Rattle.capture_file.specs.Writer.{WriterPlace, written_text}
+use Rattle.capture_file.specs.Writer.{FailsDatagram, TakesDatagram, Writer, WriterPlace}
+use Rattle.capture_file.specs.Writer.{entries_from, entries_of, moment_after, moment_behind}
+use Rattle.capture_file.specs.Writer.{written_text}
 use Rattle.capture_file.specs.declared.front.Version.TheVariants.{Two}
 use Rattle.capture_file.specs.declared.paths.Paths.{Paths}
 use Rattle.packet_plan.specs.Plan.{RasterPlan}
+use Rattle.packet_plan.specs.Sending.{PutsPart, PutsPicture}
 use Rattle.packet_plan.specs.Sender.{IsNext, SendsFrom, Sender, stamp_of}
 use Rattle.packet_plan.specs.Sent.{IsSentPicture}
 use Rattle.packet_plan.specs.declared.run.PacketRun.{PacketRun}
@@ -25,10 +34,10 @@ use Rattle.packet_plan.specs.declared.stamp.Stamp.{Stamp}
 use Rattle.file_engines.specs.Sent.{FirstIs, SaysPicture}
 use Rattle.file_engines.specs.Text.{GivesText}
 use Rattle.file_engines.proofs.Refusals.{all_given}
-use Rattle.file_engines.specs.Sending.{HasSent, SayPictures, SendsFirst, SendsMore, SendsNext}
-use Rattle.file_engines.specs.Sending.{SaysSdp, SendsPictures, SendsRest, SendsTo}
+use Rattle.file_engines.specs.Sending.{HasSent, SayPictures, SendsFirstAndRest, SendsMore}
+use Rattle.file_engines.specs.Sending.{SaysSdp, SendsNext, SendsPictures, SendsRest, SendsTo}
 use Rattle.file_engines.specs.Sending.{sender_of}
-use Rattle.file_engines.specs.Writing.{WritesDatagrams, WritesPicture}
+use Rattle.file_engines.specs.Writing.{WritesPicture}
 use Rattle.file_engines.specs.declared.sender.Sender.{Sender as Sends}
 use Rattle.file_engines.specs.declared.sender.Sending.{Sending}
 
@@ -58,51 +67,50 @@ records-append paths m ds es =
     (entries_from paths (moment_after paths m ds) es))
     ∙ ap records_text (sym (entries-append paths m ds es))
 
--- ---- a writer
-
-pub writes_none : {K : Type 0} (held : K → Option (List ℕ)) (w : Writer K)
-    → WritesDatagrams held [] w w
-writes_none held w = record { taken = Appends-nil (held w.sink); paths = refl; moment = refl }
-
--- the records of some, and then those of others
-taken_both : (o m n : Option (List ℕ)) (p q : Paths) (t u : ℕ) (ds es : List (List ℕ))
-    → Appends o m (records_text (entries_from p t ds)) → q ≡ p → u ≡ moment_after p t ds
-    → Appends m n (records_text (entries_from q u es))
-    → Appends o n (records_text (entries_from p t (ds ++ es)))
-taken_both o m n p q t u ds es first same at then =
-    let behind : Appends m n (records_text (entries_from p (moment_after p t ds) es)) =
-    subst (λ (v : ℕ). Appends m n (records_text (entries_from p v es))) at
-    (subst (λ (x : Paths). Appends m n (records_text (entries_from x u es))) same then) in
-    subst (Appends o n) (records-append p t ds es)
-    (Appends-trans o m n (records_text (entries_from p t ds))
-    (records_text (entries_from p (moment_after p t ds) es)) first behind)
-
 moment_both : (p q : Paths) (t u v : ℕ) (ds es : List (List ℕ)) → q ≡ p → u ≡ moment_after p t ds
     → v ≡ moment_after q u es → v ≡ moment_after p t (ds ++ es)
 moment_both p q t u v ds es same at then =
     then ∙ ap (λ (x : Paths). moment_after x u es) same
     ∙ ap (λ (w : ℕ). moment_after p w es) at ∙ sym (moment-append p t ds es)
 
--- one datagram more
-pub writes_more : {K : Type 0} (held : K → Option (List ℕ)) (a b c : Writer K)
-    (ds es : List (List ℕ)) (d : List ℕ) → WritesDatagrams held ds a b
-    → Appends (held b.sink) (held c.sink)
-    (records_text (entries_of b.place.paths b.place.moment d))
-    → c.place.paths ≡ b.place.paths
-    → c.place.moment ≡ moment_behind b.place.paths b.place.moment → es ≡ ds ++ d ∷ []
-    → WritesDatagrams held es a c
-writes_more held a b c ds es d first step paths moment is =
-    let one : Appends (held b.sink) (held c.sink)
-    (records_text (entries_from b.place.paths b.place.moment (d ∷ []))) =
-    subst (λ (l : List Entry). Appends (held b.sink) (held c.sink) (records_text l))
-    (sym (append-nil (entries_of b.place.paths b.place.moment d))) step in
-    subst (λ (l : List (List ℕ)). WritesDatagrams held l a c) (sym is) (record {
-      taken = taken_both (held a.sink) (held b.sink) (held c.sink) a.place.paths b.place.paths
-          a.place.moment b.place.moment ds (d ∷ []) first.taken first.paths first.moment one;
-      paths = paths ∙ first.paths;
-      moment = moment_both a.place.paths b.place.paths a.place.moment b.place.moment
-          c.place.moment ds (d ∷ []) first.paths first.moment moment;
-    })
+-- ---- a picture's datagrams put into a writer
+
+-- all of them: it wrote their records
+pub writes_picture : {K : Type 0} (held : K → Option (List ℕ)) (failures : K → ℕ)
+    (names : K → List GName) (p : Values) (stamp : Stamp) (plan : RasterPlan)
+    (old new : Writer K)
+    → PutsPicture (TakesDatagram held failures names) p stamp plan old new
+    → WritesPicture held p stamp plan old new
+writes_picture held failures names p stamp plan old new puts = record {
+  datagrams = puts.datagrams;
+  sent = puts.sent;
+  written = each_written held failures names old puts.datagrams new puts.taken;
+}
+
+-- a failure that was counted
+pub counted_once : (old new : ℕ) → CountsOne old new → Failed old new
+counted_once old new one = elim (cases_lt old (2 ^ 64 - 1)) [
+  | inl lt ↦ inl (omega (arith, one, lt))
+  | inr le ↦ inr (omega (arith, le))
+]
+
+-- a capture that could not be begun: its sink, which was lent, failed
+pub open_failed : (f : FileFault) (old now new : ℕ) → IsDevice f → CountsFault f old now
+    → new ≡ now → Failed old new
+open_failed Device old now new is one same =
+    subst (λ (n : ℕ). Failed old n) (sym same) (counted_once old now one)
+open_failed f old now new is one same = absurd is
+
+-- not all of them: its sink failed
+pub fails_picture : {K : Type 0} (held : K → Option (List ℕ)) (failures : K → ℕ)
+    (names : K → List GName) (p : Values) (stamp : Stamp) (plan : RasterPlan) (count : ℕ)
+    (old new : Writer K) → old.place.failed ≡ false
+    → PutsPart (TakesDatagram held failures names) (FailsDatagram held failures names) p stamp plan
+    count old new
+    → Failed (failures old.sink) (failures new.sink)
+fails_picture held failures names p stamp plan count old new stands puts =
+    counted_once (failures old.sink) (failures new.sink)
+    (fails_once held failures names old puts.datagrams count new stands puts.failed)
 
 -- ---- datagrams of pictures
 
@@ -230,29 +238,21 @@ has_more held wanted text start ps p k old new count has sends =
         (records_text (entries_from p (moment_after p 0 ds) es)) first behind)
 
 -- the first picture was sent into a capture that was begun
-pub begun_by : {S A K : Type 0} {G : Ghosts K} (f : S → Option (List ℕ))
-    (held : K → Option (List ℕ))
-    (wanted : Sending) (text : List ℕ) (sources : List S) (start : Option (List ℕ)) (p : Values)
-    (opened : Writer K) (old new : Sends A K G) → FirstIs (λ s. SaysPicture (f s) p) sources
+pub first_sent : {A K : Type 0} {G : Ghosts K} (held : K → Option (List ℕ)) (wanted : Sending)
+    (text : List ℕ) (start : Option (List ℕ)) (p : Values) (opened : Writer K)
+    (old new : Sends A K G)
     → opened.place ≡ record
     { paths = wanted.paths; text_len = length text; moment = 0; failed = false }
     → Appends start (held opened.sink) (front_text Two text) → old.writer ≡ opened
     → old.wanted ≡ wanted → old.next ≡ wanted.first → SendsNext held p 0 old new
-    → SendsFirst f held wanted text sources start new
-begun_by {S} {A} {K} {G} f held wanted text sources start p opened old new says place front writer
-    is
-    next sends =
-    record {
-      picture = p;
-      says = says;
-      sent =
-          has_more held wanted text start [] p 0 old new refl
-          (none_sent held wanted text start old is next
-          (ap (λ (w : Writer K). w.place.paths) writer ∙ ap (λ (q : WriterPlace). q.paths) place)
-          (ap (λ (w : Writer K). w.place.moment) writer ∙ ap (λ (q : WriterPlace). q.moment) place)
-          (subst (λ (w : Writer K). Appends start (held w.sink) (front_text Two text)) (sym writer)
-          front)) sends;
-    }
+    → HasSent held wanted text start (p ∷ []) new
+first_sent {A} {K} {G} held wanted text start p opened old new place front writer is next sends =
+    has_more held wanted text start [] p 0 old new refl
+    (none_sent held wanted text start old is next
+    (ap (λ (w : Writer K). w.place.paths) writer ∙ ap (λ (q : WriterPlace). q.paths) place)
+    (ap (λ (w : Writer K). w.place.moment) writer ∙ ap (λ (q : WriterPlace). q.moment) place)
+    (subst (λ (w : Writer K). Appends start (held w.sink) (front_text Two text)) (sym writer)
+    front)) sends
 
 -- ---- pictures behind the first
 
@@ -331,42 +331,52 @@ rest_sent {S} f held k start old now so_far all = record {
 -- ---- a run
 
 -- the first picture, and those behind it
-pub pictures_sent : {S A K : Type 0} {G : Ghosts K} (f : S → Option (List ℕ))
-    (held : K → Option (List ℕ))
-    (wanted : Sending) (text : List ℕ) (sources others : List S) (start : Option (List ℕ))
-    (first last : Sends A K G) (sink : K) → length sources ≤ 10000
-    → SendsFirst f held wanted text sources start first → others ≡ drop 1 sources
-    → sink ≡ last.writer.sink → SendsRest f held others first last
-    → SendsPictures f wanted text sources start (held sink)
-pictures_sent {S} {A} {K} f held wanted text sources others start first last sink few begun behind
-    same rest =
-    let p : Values = begun.picture in
-    let say : SayPictures f sources (p ∷ rest.pictures) =
-    first_says f sources p rest.pictures begun.says
-    (subst (λ (l : List S). SayPictures f l rest.pictures) behind rest.say) in
-    let has : HasSent held wanted text start (p ∷ rest.pictures) last =
-    rest.sent.sent wanted text start (p ∷ []) refl begun.sent in
+pub first_and_rest_sent : {S A K : Type 0} {G : Ghosts K} (f : S → Option (List ℕ))
+    (held : K → Option (List ℕ)) (wanted : Sending) (text : List ℕ) (p : Values)
+    (sources : List S) (start last_held : Option (List ℕ)) (first last : Sends A K G)
+    → length sources < 10000 → HasSent held wanted text start (p ∷ []) first
+    → SendsRest f held sources first last → last_held ≡ held last.writer.sink
+    → SendsFirstAndRest f wanted text p sources start last_held
+first_and_rest_sent {S} {A} {K} {G} f held wanted text p sources start last_held first last few
+    begun rest same =
+    let ps : List Values = p ∷ rest.pictures in
+    let has : HasSent held wanted text start ps last =
+    rest.sent.sent wanted text start (p ∷ []) refl begun in
     let format : p.format ≡ last.plan.format = has.sent.format in
-    let count : length (p ∷ rest.pictures) ≡ length sources =
-    AllZip-long (λ s q. SaysPicture (f s) q) sources (p ∷ rest.pictures) say in
+    let count : length rest.pictures ≡ length sources =
+    AllZip-long (λ s q. SaysPicture (f s) q) sources rest.pictures rest.say in
     record {
-      pictures = p ∷ rest.pictures;
-      say = say;
+      rest = rest.pictures;
+      say = rest.say;
       taken = record {
         datagrams = has.datagrams;
         sent = record {
           few = omega (arith, few, count);
           sent =
-              subst (λ (x : Format). SendsFrom (sender_of x wanted) 0 (p ∷ rest.pictures)
-              wanted.first has.datagrams) (sym format)
-              (sends_from (sender_of last.plan.format wanted) 0 wanted.first last.next
-              (p ∷ rest.pictures) has.datagrams has.sent);
+              subst (λ (x : Format). SendsFrom (sender_of x wanted) 0 ps wanted.first
+              has.datagrams) (sym format)
+              (sends_from (sender_of last.plan.format wanted) 0 wanted.first last.next ps
+              has.datagrams has.sent);
         };
         taken = subst
-            (λ (k : K). Appends start (held k) (written_text wanted.paths text has.datagrams))
-            (sym same) has.taken;
+            (λ (h : Option (List ℕ)). Appends start h
+            (written_text wanted.paths text has.datagrams)) (sym same) has.taken;
       };
     }
+
+-- those of all sources
+pub pictures_sent : {S : Type 0} (f : S → Option (List ℕ)) (wanted : Sending) (text : List ℕ)
+    (p : Values) (sources others : List S) (old new : Option (List ℕ))
+    → FirstIs (λ s. SaysPicture (f s) p) sources → others ≡ drop 1 sources
+    → SendsFirstAndRest f wanted text p others old new
+    → SendsPictures f wanted text sources old new
+pictures_sent {S} f wanted text p sources others old new first behind sends = record {
+  pictures = p ∷ sends.rest;
+  say =
+      first_says f sources p sends.rest first
+      (subst (λ (l : List S). SayPictures f l sends.rest) behind sends.say);
+  taken = sends.taken;
+}
 
 -- ---- the text
 

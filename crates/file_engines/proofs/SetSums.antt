@@ -5,7 +5,7 @@ use Rattle.std.specs.List.{sum_by}
 use Rattle.std.proofs.lemmas.List.Sums.{get_or-le-sum_by, sum_by-set}
 use Rattle.file_engines.specs.declared.fault.Fault.{Fault}
 use Rattle.file_engines.specs.declared.fault.Fault.TheVariants.{Refused, Device, Memory}
-use Rattle.file_engines.specs.Fault.{Accounts, counts}
+use Rattle.file_engines.specs.Fault.{Accounts, Failures, counts}
 
 -- what one source says of its failures the whole list says
 pub set_counted : {S V : Type 0} (f : S → ℕ) (xs : List S) (i : ℕ) (d y : S) (r : Result V Fault)
@@ -26,3 +26,11 @@ pub counted_by : {V : Type 0} (r : Result V Fault) (old mid now new : ℕ) → m
 counted_by r old mid now new first last is =
     subst (λ (n : ℕ). Accounts r (counts n new ∷ [])) first
     (subst (λ (n : ℕ). Accounts r (counts mid n ∷ [])) (sym last) is)
+
+-- the same of the second of two devices
+pub counted_behind : {V : Type 0} (r : Result V Fault) (d : Failures) (old mid now new : ℕ)
+    → mid ≡ old → new ≡ now → Accounts r (d ∷ counts mid now ∷ [])
+    → Accounts r (d ∷ counts old new ∷ [])
+counted_behind r d old mid now new first last is =
+    subst (λ (n : ℕ). Accounts r (d ∷ counts n new ∷ [])) first
+    (subst (λ (n : ℕ). Accounts r (d ∷ counts mid n ∷ [])) (sym last) is)

@@ -9,7 +9,7 @@ use Rattle.st_format.specs.declared.format.Format.{Format}
 use Rattle.capture_file.specs.Writer.{moment_after, written_text}
 use Rattle.packet_plan.specs.Plan.{RasterPlan}
 use Rattle.packet_plan.specs.Sender.{IsNext, IsSenderList, Sender, stamp_of}
-use Rattle.file_engines.specs.Sent.{FirstIs, SaysPicture}
+use Rattle.file_engines.specs.Sent.{SaysPicture}
 use Rattle.file_engines.specs.Writing.{WritesPicture}
 use Rattle.file_engines.specs.declared.sender.Sender.{Sender as Sends}
 use Rattle.file_engines.specs.declared.sender.Sending.{Sending}
@@ -69,14 +69,6 @@ pub record SendsMore {A K : Type 0} {G : Ghosts K} (held : K → Option (List �
 
 -- ---- the run
 
--- a sender put the picture into a capture that the first of some sources was to give
-pub record SendsFirst {S A K : Type 0} {G : Ghosts K} (to_give : S → Option (List ℕ))
-    (held : K → Option (List ℕ)) (wanted : Sending) (text : List ℕ) (sources : List S)
-    (start : Option (List ℕ)) (s : Sends A K G) : Type 0 where
-  pub picture : Values
-  pub says : FirstIs (λ x. SaysPicture (to_give x) picture) sources
-  pub sent : HasSent held wanted text start (picture ∷ []) s
-
 -- sources were to give the files of these pictures, one each, where they tell what they are to give
 abbrev pub SayPictures : {S : Type 0} → (S → Option (List ℕ)) → List S → List Values → Type 0
 SayPictures to_give sources pictures = AllZip (λ s p. SaysPicture (to_give s) p) sources pictures
@@ -87,6 +79,14 @@ pub record SendsRest {S A K : Type 0} {G : Ghosts K} (to_give : S → Option (Li
   pub pictures : List Values
   pub say : SayPictures to_give sources pictures
   pub sent : SendsMore held 1 pictures old new
+
+-- a sender sent a picture as frame 0, and behind it those that sources were to give
+pub record SendsEach {S A K : Type 0} {G : Ghosts K} (to_give : S → Option (List ℕ))
+    (held : K → Option (List ℕ)) (first : Values) (sources : List S) (old new : Sends A K G)
+    : Type 0 where
+  pub between : Sends A K G
+  pub sent : SendsNext held first 0 old between
+  pub rest : SendsRest to_give held sources between new
 
 -- A sink took the capture of a text and of the datagrams of pictures: of the k-th as frame k, all
 -- by raster plans, the packets' numbers running on.
@@ -101,6 +101,14 @@ abbrev pub TakesPictures : Sending → List ℕ → List Values → Option (List
     → Type 0
 TakesPictures wanted text [] old new = new ≡ old
 TakesPictures wanted text (p ∷ ps) old new = TakesCapture wanted text p.format (p ∷ ps) old new
+
+-- a sink took the capture of this picture and, behind it, of those that sources were to give
+pub record SendsFirstAndRest {S : Type 0} (to_give : S → Option (List ℕ)) (wanted : Sending)
+    (text : List ℕ) (first : Values) (sources : List S) (old new : Option (List ℕ))
+    : Type 0 where
+  pub rest : List Values
+  pub say : SayPictures to_give sources rest
+  pub taken : TakesCapture wanted text first.format (first ∷ rest) old new
 
 -- a sink took the pictures whose files sources were to give
 pub record SendsPictures {S : Type 0} (to_give : S → Option (List ℕ)) (wanted : Sending)

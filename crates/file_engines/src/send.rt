@@ -1,18 +1,18 @@
 //! The engine of `send`.
 ghost use Rattle.std.specs.Prelude.{◌≡◌, ◌≢◌, ◌+◌, ◌≤◌, ◌<◌, ◌⊎◌, ◌∷◌, [], false, IfErr, IfOk};
-ghost use Rattle.std.specs.Prelude.{MatchResult, OnOk, drop, length, sum_by, vec_len};
+ghost use Rattle.std.specs.Prelude.{OnOk, drop, length, sum_by, vec_len};
 ghost use Rattle.std.specs.Io.KnownBytes.{Appends, IsAtEnd};
-ghost use Rattle.file_engines.specs.Fault.{Accounts, Blames, NoneFailed, OneFailed, counts};
+ghost use Rattle.file_engines.specs.Fault.{Accounts, NoneFailed, OneFailed, counts};
 ghost use Rattle.file_engines.specs.Receiving.{failures_in};
 ghost use Rattle.file_engines.specs.Refusing.{OfRefusal, TellsRefusal};
 ghost use Rattle.file_engines.specs.Sent.{FirstIs, FirstSays, IsPictureRefusal, IsSaidRefusal};
 ghost use Rattle.file_engines.specs.Sent.{IsPicturesRefusal, IsRestRefusal, IsSendRefusal};
 ghost use Rattle.file_engines.specs.Sent.{SaysFormat, SaysPicture};
-ghost use Rattle.file_engines.specs.Sending.{SaysSdp, SendsAll, SendsFirst, SendsPictures};
-ghost use Rattle.file_engines.specs.Sending.{SendsRest};
+ghost use Rattle.file_engines.specs.Sending.{SaysSdp, SendsAll, SendsEach, SendsFirstAndRest};
+ghost use Rattle.file_engines.specs.Sending.{SendsPictures, SendsRest};
 ghost use Rattle.tool_text.specs.Telling.{memory_line};
 
-use crate::fault::{Fault, Refusal};
+use crate::fault::{Fault, Refusal, of_capture};
 use crate::line::Line;
 use crate::pictures::read_packed;
 use crate::printing::print;
@@ -41,17 +41,16 @@ const PICTURES: usize = 10_000;
 /// read), the SDP is longer than 65,535 octets (`send 3`) or refused, there is no such plan, or a
 /// picture is refused or is of another format than the first (`send 1`); 3 where a device failed,
 /// and 4 where the allocator refused memory. `faults` is told of it by one line. What was sent
-/// before a fault stands in the capture. Its sink is given back; one that tells its octets holds
-/// none before.
+/// before a fault stands in the capture. A `sink` that tells its octets holds none before.
 pub fn run_send<A, S, K, O, F>(
     alloc: A,
     wanted: Sending,
     sdp: &mut Option<S>,
     pictures: &mut [S],
-    sink: K,
+    sink: &mut K,
     output: &mut O,
     faults: &mut F,
-) -> (u8, K)
+) -> u8
 where
     A: Allocator + Copy,
     S: ByteSource,
@@ -59,36 +58,36 @@ where
     O: ByteSink,
     F: ByteSink,
     requires payload_type { wanted.payload_type ≤ 127 }
-    requires empty { IsAtEnd (K.held sink) }
-    ensures range { (result.0 ≡ 0) ⊎ (result.0 ≡ 1) ⊎ (result.0 ≡ 3) ⊎ (result.0 ≡ 4) }
-    ensures device { result.0 ≡ 3
+    requires empty { IsAtEnd (K.held sink.old) }
+    ensures range { (result ≡ 0) ⊎ (result ≡ 1) ⊎ (result ≡ 3) ⊎ (result ≡ 4) }
+    ensures device { result ≡ 3
         → OneFailed (counts (failures_in S.failures sdp.old) (failures_in S.failures sdp.new)
         ∷ counts (sum_by S.failures pictures.old) (sum_by S.failures pictures.new)
-        ∷ counts (K.failures sink) (K.failures result.1)
+        ∷ counts (K.failures sink.old) (K.failures sink.new)
         ∷ counts (O.failures output.old) (O.failures output.new)
         ∷ counts (F.failures faults.old) (F.failures faults.new) ∷ []) }
-    ensures working { result.0 ≢ 3
+    ensures working { result ≢ 3
         → NoneFailed (counts (failures_in S.failures sdp.old) (failures_in S.failures sdp.new)
         ∷ counts (sum_by S.failures pictures.old) (sum_by S.failures pictures.new)
-        ∷ counts (K.failures sink) (K.failures result.1)
+        ∷ counts (K.failures sink.old) (K.failures sink.new)
         ∷ counts (O.failures output.old) (O.failures output.new)
         ∷ counts (F.failures faults.old) (F.failures faults.new) ∷ []) }
     // What is written is the capture of the SDP text and of the datagrams of all pictures, in their
     // order: of the k-th as frame k, the packets' numbers running on.
-    ensures sent { result.0 ≡ 0 → SendsAll S.to_give wanted sdp.old pictures.old
-        (K.held sink) (K.held result.1) }
+    ensures sent { result ≡ 0 → SendsAll S.to_give wanted sdp.old pictures.old
+        (K.held sink.old) (K.held sink.new) }
     // At status 1 a refusal of the words or the files was told by its line.
-    ensures told { result.0 ≡ 1
+    ensures told { result ≡ 1
         → TellsRefusal (IsSendRefusal wanted.max_octets sdp.old S.to_give pictures.old)
         (F.held faults.old) (F.held faults.new) }
-    ensures silent { result.0 ≡ 0 → faults.new ≡ faults.old }
-    ensures memory { result.0 ≡ 4 → Appends (F.held faults.old) (F.held faults.new) memory_line }
+    ensures silent { result ≡ 0 → faults.new ≡ faults.old }
+    ensures memory { result ≡ 4 → Appends (F.held faults.old) (F.held faults.new) memory_line }
 {
     let Ok(mut text) = String::with_capacity(alloc, LINE) else {
-        return (tell_memory(faults).number(), sink);
+        return tell_memory(faults).number();
     };
-    let (outcome, sink) = send(alloc, wanted, sdp, pictures, sink, output, &mut text);
-    (end(outcome, &mut text, faults), sink)
+    let outcome = send(alloc, wanted, sdp, pictures, sink, output, &mut text);
+    end(outcome, &mut text, faults)
 }
 
 /// Reads the text, sends the pictures, and prints how many datagrams they were.
@@ -97,35 +96,29 @@ fn send<A, S, K, O>(
     wanted: Sending,
     sdp: &mut Option<S>,
     pictures: &mut [S],
-    sink: K,
+    sink: &mut K,
     output: &mut O,
     text: &mut String<A>,
-) -> (Result<(), Fault>, K)
+) -> Result<(), Fault>
 where
     A: Allocator + Copy,
     S: ByteSource,
     K: ByteSink,
     O: ByteSink,
     requires payload_type { wanted.payload_type ≤ 127 }
-    requires empty { IsAtEnd (K.held sink) }
-    ensures sent { OnOk result.0 (SendsAll S.to_give wanted sdp.old pictures.old
-        (K.held sink) (K.held result.1)) }
-    ensures failures { Accounts result.0 (counts (failures_in S.failures sdp.old)
+    requires empty { IsAtEnd (K.held sink.old) }
+    ensures sent { OnOk result (SendsAll S.to_give wanted sdp.old pictures.old
+        (K.held sink.old) (K.held sink.new)) }
+    ensures failures { Accounts result (counts (failures_in S.failures sdp.old)
         (failures_in S.failures sdp.new) ∷ counts (sum_by S.failures pictures.old)
-        (sum_by S.failures pictures.new) ∷ counts (K.failures sink) (K.failures result.1)
+        (sum_by S.failures pictures.new) ∷ counts (K.failures sink.old) (K.failures sink.new)
         ∷ counts (O.failures output.old) (O.failures output.new) ∷ []) }
-    ensures refusal { IfErr result.0 (λ f. OfRefusal f
+    ensures refusal { IfErr result (λ f. OfRefusal f
         (IsSendRefusal wanted.max_octets sdp.old S.to_give pictures.old)) }
 {
-    let said = match read_said(alloc, sdp, pictures.len()) {
-        Ok(said) => said,
-        Err(fault) => return (Err(fault), sink),
-    };
-    let (sent, sink) = send_pictures(alloc, wanted, &said, pictures, sink);
-    match sent {
-        Ok(sent) => (print(Line::Sent(sent), output, text), sink),
-        Err(fault) => (Err(fault), sink),
-    }
+    let said = read_said(alloc, sdp, pictures.len())?;
+    let sent = send_pictures(alloc, wanted, &said, pictures, sink)?;
+    print(Line::Sent(sent), output, text)
 }
 
 /// Finds that there are few pictures, and reads the capture's text.
@@ -159,77 +152,85 @@ fn send_pictures<A: Allocator + Copy, S: ByteSource, K: ByteSink>(
     wanted: Sending,
     said: &[u8],
     pictures: &mut [S],
-    sink: K,
-) -> (Result<u64, Fault>, K)
+    sink: &mut K,
+) -> Result<u64, Fault>
     requires text { length said.now ≤ 65535 }
     requires few { length pictures.old ≤ 10000 }
     requires payload_type { wanted.payload_type ≤ 127 }
-    requires empty { IsAtEnd (K.held sink) }
-    ensures sent { OnOk result.0 (SendsPictures S.to_give wanted said.now pictures.old
-        (K.held sink) (K.held result.1)) }
-    ensures refusal { IfErr result.0 (λ f. OfRefusal f
+    requires empty { IsAtEnd (K.held sink.old) }
+    ensures sent { OnOk result (SendsPictures S.to_give wanted said.now pictures.old
+        (K.held sink.old) (K.held sink.new)) }
+    ensures refusal { IfErr result (λ f. OfRefusal f
         (IsPicturesRefusal wanted.max_octets S.to_give pictures.old)) }
-    ensures failures { Accounts result.0 (counts (sum_by S.failures pictures.old)
-        (sum_by S.failures pictures.new) ∷ counts (K.failures sink) (K.failures result.1) ∷ []) }
+    ensures failures { Accounts result (counts (sum_by S.failures pictures.old)
+        (sum_by S.failures pictures.new)
+        ∷ counts (K.failures sink.old) (K.failures sink.new) ∷ []) }
 {
     if pictures.is_empty() {
-        return (Ok(0), sink);
+        return Ok(0);
     }
-    let mut buf = match room(alloc) {
-        Ok(buf) => buf,
-        Err(_) => return (Err(Fault::Memory), sink),
-    };
-    let (mut sender, room) = match begin(alloc, wanted, said, pictures, sink, &mut buf) {
-        Ok(begun) => begun,
-        Err((fault, sink)) => return (Err(fault), sink),
-    };
-    let sent = send_rest(&mut sender, pictures, room, &mut buf);
-    (sent, sender.into_sink())
+    let mut buf = room(alloc)?;
+    let (picture, plan) = read_first(alloc, wanted.max_octets, pictures)?;
+    send_first_and_rest(wanted, said, plan, picture, pictures, sink, &mut buf)
 }
 
-/// Reads the first picture, makes the plan, begins the capture and sends that picture. The memory
-/// of that picture is answered too.
-fn begin<A: Allocator + Copy, S: ByteSource, K: ByteSink>(
-    alloc: A,
+/// Begins the capture, sends the first picture, which was read, and those behind it, and answers
+/// how many datagrams were sent.
+fn send_first_and_rest<A: Allocator, S: ByteSource, K: ByteSink>(
     wanted: Sending,
     said: &[u8],
+    plan: Plan<A>,
+    picture: PackedPicture<A>,
     pictures: &mut [S],
-    sink: K,
+    sink: &mut K,
     buf: &mut [u8],
-) -> Result<(Sender<A, K>, Vec<u8, A>), (Fault, K)>
+) -> Result<u64, Fault>
     requires text { length said.now ≤ 65535 }
-    requires some { 0 < length pictures.old }
+    requires few { length pictures.old ≤ 10000 }
     requires payload_type { wanted.payload_type ≤ 127 }
-    requires empty { IsAtEnd (K.held sink) }
+    requires alike { picture.format ≡ plan.format }
+    requires empty { IsAtEnd (K.held sink.old) }
     requires room { length buf.old ≡ 65535 }
-    ensures len { length pictures.new ≡ length pictures.old }
-    ensures room { length buf.new ≡ 65535 }
-    ensures stands { IfOk result (λ s. s.0.writer.place.failed ≡ false) }
-    ensures behind { drop 1 pictures.new ≡ drop 1 pictures.old }
-    ensures sent { IfOk result (λ s. SendsFirst S.to_give K.held wanted said.now pictures.old
-        (K.held sink) s.0) }
-    ensures says { IfOk result (λ s. FirstSays S.to_give s.0.plan.format pictures.old) }
-    ensures refusal { IfErr result (λ e. OfRefusal e.0
-        (IsPicturesRefusal wanted.max_octets S.to_give pictures.old)) }
-    ensures failures { MatchResult result
-        (λ s. NoneFailed (counts (sum_by S.failures pictures.old) (sum_by S.failures pictures.new)
-        ∷ counts (K.failures sink) (K.failures s.0.writer.sink) ∷ []))
-        (λ e. Blames (counts (sum_by S.failures pictures.old) (sum_by S.failures pictures.new)
-        ∷ counts (K.failures sink) (K.failures e.1) ∷ []) e.0) }
+    ensures sent { OnOk result (SendsFirstAndRest S.to_give wanted said.now picture
+        (drop 1 pictures.old) (K.held sink.old) (K.held sink.new)) }
+    ensures refusal { IfErr result (λ f. OfRefusal f
+        (IsRestRefusal plan.format S.to_give (drop 1 pictures.old))) }
+    ensures failures { Accounts result (counts (sum_by S.failures pictures.old)
+        (sum_by S.failures pictures.new)
+        ∷ counts (K.failures sink.old) (K.failures sink.new) ∷ []) }
 {
-    let (picture, plan) = match read_first(alloc, wanted.max_octets, pictures) {
-        Ok(first) => first,
-        Err(fault) => return Err((fault, sink)),
-    };
-    let writer = match CaptureWriter::open(sink, wanted.paths, said) {
+    let writer = match CaptureWriter::open(&mut *sink, wanted.paths, said) {
         Ok(writer) => writer,
-        Err((_, sink)) => return Err((Fault::Device, sink)),
+        Err(failed) => return Err(of_capture(failed.0)),
     };
     let mut sender = Sender::new(plan, writer, wanted);
-    match sender.send(&picture, 0, buf) {
-        Ok(()) => Ok((sender, picture.into_octets())),
-        Err(fault) => Err((fault, sender.into_sink())),
-    }
+    let sent = send_each(&mut sender, picture, pictures, buf);
+    let _ = sender.into_sink();
+    sent
+}
+
+/// Sends the first picture, and those behind it, and answers how many datagrams were sent.
+fn send_each<A: Allocator, S: ByteSource, K: ByteSink>(
+    sender: &mut Sender<A, K>,
+    picture: PackedPicture<A>,
+    pictures: &mut [S],
+    buf: &mut [u8],
+) -> Result<u64, Fault>
+    requires few { length pictures.old ≤ 10000 }
+    requires room { length buf.old ≡ 65535 }
+    requires stands { sender.old.writer.place.failed ≡ false }
+    requires alike { picture.format ≡ sender.old.plan.format }
+    ensures sent { OnOk result (SendsEach S.to_give K.held picture (drop 1 pictures.old)
+        sender.old sender.new) }
+    ensures refusal { IfErr result (λ f. OfRefusal f
+        (IsRestRefusal sender.old.plan.format S.to_give (drop 1 pictures.old))) }
+    ensures failures { Accounts result (counts (sum_by S.failures pictures.old)
+        (sum_by S.failures pictures.new) ∷ counts (K.failures sender.old.writer.sink)
+        (K.failures sender.new.writer.sink) ∷ []) }
+    ensures names { K.names sender.new.writer.sink ≡ K.names sender.old.writer.sink }
+{
+    sender.send(&picture, 0, buf)?;
+    send_rest(sender, pictures, picture.into_octets(), buf)
 }
 
 /// Reads the first picture, and makes a plan for pictures of its format.
@@ -273,6 +274,7 @@ fn send_rest<A: Allocator, S: ByteSource, K: ByteSink>(
     ensures failures { Accounts result (counts (sum_by S.failures pictures.old)
         (sum_by S.failures pictures.new) ∷ counts (K.failures sender.old.writer.sink)
         (K.failures sender.new.writer.sink) ∷ []) }
+    ensures names { K.names sender.new.writer.sink ≡ K.names sender.old.writer.sink }
 {
     for place in 1..pictures.len() {
         let picture = read_at(pictures, place, room)?;

@@ -1,17 +1,15 @@
 //! Sending pictures into a capture.
 ghost use Rattle.std.specs.Prelude.{◌≡◌, ◌≤◌, ◌∷◌, [], false, length, IfErr, OnOk};
-ghost use Rattle.st_format.specs.Picture.{IsPicture};
 ghost use Rattle.packet_plan.specs.Sender.{stamp_of};
-ghost use Rattle.file_engines.specs.Fault.{Accounts, IfRefused, counts};
-ghost use Rattle.file_engines.specs.Writing.{WritesPicture};
+ghost use Rattle.file_engines.specs.Fault.{Accounts, counts};
 ghost use Rattle.file_engines.specs.Refusing.{OfRefusal};
 ghost use Rattle.file_engines.specs.declared.fault.Refusal.TheVariants.{SendFormats};
 
 use crate::fault::{Fault, Refusal};
 use capture_file::{CaptureWriter, Paths};
-use packet_plan::{Plan, Stamp};
+use packet_plan::{Plan, Stamp, send_frame};
 use pgroup_pack::PackedPicture;
-use st_format::{ByteSink, DatagramSink, Format};
+use st_format::{ByteSink, Format};
 use std::alloc::Allocator;
 
 /// What `send` is asked for, beside its files.
@@ -83,17 +81,27 @@ impl<A: Allocator, K: ByteSink> Sender<A, K> {
             (λ r. (r ≡ SendFormats) × (picture.now.format ≡ self.old.plan.format → ⊥))) }
         ensures failures { Accounts result (counts (K.failures self.old.writer.sink)
             (K.failures self.new.writer.sink) ∷ []) }
+        ensures names { K.names self.new.writer.sink ≡ K.names self.old.writer.sink }
     {
         let format = self.plan.format();
         if !picture.format().same(&format) {
             return Err(Fault::Refused(Refusal::SendFormats));
         }
         let stamp = self.stamp(&format, place);
-        put_all(&self.plan, picture, stamp, buf, &mut self.writer)?;
         let count = self.plan.len();
-        self.next = self.next.wrapping_add(count);
+        let Ok(next) = send_frame(&self.plan, picture, stamp, buf, &mut self.writer) else {
+            return Err(Fault::Device);
+        };
+        self.next = next;
         self.sent = self.sent.saturating_add(u64::from(count));
         Ok(())
+    }
+
+    /// Gives the capture's sink back, as it then is.
+    pub fn into_sink(self) -> K
+        ensures { result ≡ self.writer.sink }
+    {
+        self.writer.into_inner()
     }
 
     /// The stamp of the picture of this place, whose packets go on from the next number.
@@ -109,42 +117,4 @@ impl<A: Allocator, K: ByteSink> Sender<A, K> {
             ssrc: self.wanted.ssrc,
         }
     }
-
-    /// Gives the capture's sink back, as it then is.
-    pub fn into_sink(self) -> K
-        ensures { result ≡ self.writer.sink }
-    {
-        self.writer.into_inner()
-    }
-}
-
-/// Writes all datagrams of a picture, each over the first octets of `buf`.
-fn put_all<A: Allocator, B: Allocator, K: ByteSink>(
-    plan: &Plan<A>,
-    picture: &PackedPicture<B>,
-    stamp: Stamp,
-    buf: &mut [u8],
-    writer: &mut CaptureWriter<K>,
-) -> Result<(), Fault>
-    requires format { picture.now.format ≡ plan.now.format }
-    requires picture { IsPicture picture.now }
-    requires payload_type { stamp.payload_type ≤ 127 }
-    requires room { length buf.old ≡ 65535 }
-    requires stands { writer.old.place.failed ≡ false }
-    ensures room { length buf.new ≡ 65535 }
-    ensures stands { OnOk result (writer.new.place.failed ≡ false) }
-    ensures sent { OnOk result
-        (WritesPicture K.held picture.now stamp plan.now writer.old writer.new) }
-    ensures unrefused { IfErr result (λ f. IfRefused f ⊥) }
-    ensures failures { Accounts result (counts (K.failures writer.old.sink)
-        (K.failures writer.new.sink) ∷ []) }
-{
-    let packets = plan.len();
-    for index in 0..packets {
-        let count = plan.packed_datagram(index, picture, stamp, buf);
-        let Ok(()) = writer.put(&buf[..count]) else {
-            return Err(Fault::Device);
-        };
-    }
-    Ok(())
 }

@@ -88,12 +88,13 @@ pub fn send<'a>(rt: &'a HostRuntime, words: &SendWords<'a>, is_verbose: bool) ->
         return without_memory(rt);
     };
     let mut sdp = source(rt, words.sdp);
-    let (status, mut out) = run_send(
+    let mut out = FileSink::new(rt, words.out);
+    let status = run_send(
         rt.alloc(),
         words.sending,
         &mut sdp,
         pictures.as_mut_slice(),
-        FileSink::new(rt, words.out),
+        &mut out,
         &mut output,
         &mut faults,
     );

@@ -29,7 +29,9 @@ pub fn file_sink(global: Global) -> Result<MemorySink, AllocError>
 }
 
 /// A run that has written nothing yet, and whose status is to come.
-fn begun(global: Global) -> Result<FileRun, AllocError> {
+fn begun(global: Global) -> Result<FileRun, AllocError>
+    ensures { IfOk result (λ run. run.written.held ≡ []) }
+{
     let (written, printed, told) = (file_sink(global)?, file_sink(global)?, file_sink(global)?);
     Ok(FileRun {
         status: u8::MAX,
@@ -118,26 +120,17 @@ pub fn send_on<A: Allocator + Copy>(
     requires { sending.payload_type ≤ 127 }
 {
     let picture = source(global, picture)?;
-    let (written, mut printed, mut told) = (
-        file_sink(global)?,
-        file_sink(global)?,
-        file_sink(global)?,
-    );
-    let (status, written) = run_send(
+    let mut run = begun(global)?;
+    run.status = run_send(
         alloc,
         sending,
         &mut None,
         &mut [picture],
-        written,
-        &mut printed,
-        &mut told,
+        &mut run.written,
+        &mut run.printed,
+        &mut run.told,
     );
-    Ok(FileRun {
-        status,
-        written,
-        printed,
-        told,
-    })
+    Ok(run)
 }
 
 /// A run of `process` of one receiver's file, without a picture that is held.

@@ -13,12 +13,12 @@ returns-clause-device g c =
     (failures_in g.S.ByteSource.failures run.new.sdp)
     ∷ counts (sum_by g.S.ByteSource.failures c.args.pictures.now)
     (sum_by g.S.ByteSource.failures run.new.pictures)
-    ∷ counts (g.K.ByteSink.failures c.args.sink) (g.K.ByteSink.failures run.result.1)
+    ∷ counts (g.K.ByteSink.failures c.args.sink.now) (g.K.ByteSink.failures run.new.sink)
     ∷ counts (g.O.ByteSink.failures c.args.output.now) (g.O.ByteSink.failures run.new.output)
     ∷ [] in
     let last : Failures =
     counts (g.F.ByteSink.failures c.args.faults.now) (g.F.ByteSink.failures c.end.new.faults) in
-    λ is. one_failed run.result.0 devices last run.ensures.failures (c.end.ensures.failed is)
+    λ is. one_failed run.result devices last run.ensures.failures (c.end.ensures.failed is)
 
 pub returns-clause-working : goal.returns-clause-working
 returns-clause-working g c =
@@ -28,15 +28,15 @@ returns-clause-working g c =
     (failures_in g.S.ByteSource.failures run.new.sdp)
     ∷ counts (sum_by g.S.ByteSource.failures c.args.pictures.now)
     (sum_by g.S.ByteSource.failures run.new.pictures)
-    ∷ counts (g.K.ByteSink.failures c.args.sink) (g.K.ByteSink.failures run.result.1)
+    ∷ counts (g.K.ByteSink.failures c.args.sink.now) (g.K.ByteSink.failures run.new.sink)
     ∷ counts (g.O.ByteSink.failures c.args.output.now) (g.O.ByteSink.failures run.new.output)
     ∷ [] in
     let last : Failures =
     counts (g.F.ByteSink.failures c.args.faults.now) (g.F.ByteSink.failures c.end.new.faults) in
-    λ is. none_failed run.result.0 devices last run.ensures.failures
+    λ is. none_failed run.result devices last run.ensures.failures
     (c.end.ensures.worked is) (c.end.ensures.working is)
 
 pub returns-clause-sent : goal.returns-clause-sent
 returns-clause-sent g c =
     let run = c.send-outcome in
-    λ is. on_done run.result.0 _ (c.end.ensures.done is) run.ensures.sent
+    λ is. on_done run.result _ (c.end.ensures.done is) run.ensures.sent

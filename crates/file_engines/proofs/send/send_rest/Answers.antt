@@ -40,6 +40,7 @@ loop-place-init g c = record {
   behind = refl;
   pictures = refl;
   sink = refl;
+  names = refl;
   sent = none_so_far g.S.ByteSource.to_give g.K.ByteSink.held c.args.pictures.now
       c.args.sender.now;
 }
@@ -56,6 +57,7 @@ loop-place-preserved g c =
           ∙ ap (drop 1) l.invariant.behind ∙ drop-drop 1 l.place c.args.pictures.now;
       pictures = c.in_ok-picture.ensures.failures ∙ l.invariant.pictures;
       sink = c.in_ok-send.ensures.failures ∙ l.invariant.sink;
+      names = c.in_ok-send.ensures.names ∙ l.invariant.names;
       sent = more_so_far g.S.ByteSource.to_give g.K.ByteSink.held l.place c.args.pictures.now
           (drop l.place l.pictures) c.in_ok-picture.picture c.args.sender.now l.sender
           c.send.new.self l.invariant.sent l.invariant.behind c.in_ok-picture.ensures.shows

@@ -14,6 +14,8 @@ invariant-loop-place g l = record {
       ≡ sum_by g.S.ByteSource.failures l.initial.pictures;
   sink : g.K.ByteSink.failures l.sender.writer.sink
       ≡ g.K.ByteSink.failures l.initial.sender.writer.sink;
+  names : g.K.ByteSink.names l.sender.writer.sink
+      ≡ g.K.ByteSink.names l.initial.sender.writer.sink;
   sent : SoFar g.S.ByteSource.to_give g.K.ByteSink.held l.place l.initial.pictures
       l.initial.sender l.sender;
 }
