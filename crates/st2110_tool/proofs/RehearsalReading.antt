@@ -1,6 +1,6 @@
 -- Lines of a rehearsal that are read one by one.
 use Rattle.std.proofs.Common.{◌≡◌, ◌⊎◌, inl, inr, Bool, true, ℕ, ◌*◌, List, [], ◌∷◌, ◌++◌, codes, length, refl}
-use Rattle.std.proofs.Common.{Result, Ok, Err, ap, sym, subst, ◌∙◌, append_assoc, append-nil, arith}
+use Rattle.std.proofs.Common.{Ok, ap, sym, subst, ◌∙◌, append_assoc, append-nil}
 use Rattle.std.specs.List.{AllZip}
 use Rattle.hex.specs.Hex.{decode_of}
 use Rattle.packet_plan.specs.declared.stamp.Stamp.{Stamp}

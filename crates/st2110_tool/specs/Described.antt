@@ -1,8 +1,6 @@
 -- What is printed of an SDP text, and why one is refused.
 use Rattle.std.specs.Prelude.{◌≡◌, ℕ, List, [], ◌∷◌, ◌++◌, Bool, true, false, Option, ⊤}
 use Rattle.std.specs.Io.KnownBytes.{Appends}
-use Rattle.sdp_format.specs.declared.fault.SdpFault.{SdpFault}
-use Rattle.sdp_format.specs.declared.fault.SdpFault.TheVariants as sdp
 use Rattle.sdp_format.specs.Bytes.{lines}
 use Rattle.sdp_format.specs.Canonical.{canonical_line}
 use Rattle.sdp_format.specs.Grammar.{IsDescribed, IsTextFault}

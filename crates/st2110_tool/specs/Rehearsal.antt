@@ -1,5 +1,5 @@
 -- What the lines of a rehearsal say, and which of them is at fault.
-use Rattle.std.specs.Prelude.{◌≡◌, ◌≤◌, ◌⊎◌, ℕ, List, [], ◌∷◌, ◌++◌, codes, Bool, true, Result, Ok}
+use Rattle.std.specs.Prelude.{◌≡◌, ◌⊎◌, ℕ, List, [], ◌∷◌, ◌++◌, codes, Bool, true, Ok}
 use Rattle.std.specs.List.{AllZip}
 use Rattle.packet_plan.specs.declared.stamp.Stamp.{Stamp}
 use Rattle.path_merge.specs.declared.schedule.event.Event.{Event}

@@ -1,4 +1,4 @@
-use Rattle.std.proofs.Common.{◌≡◌, ◌∙◌, [], arith, inl, length, sym}
+use Rattle.std.proofs.Common.{◌≡◌, ◌∙◌, [], arith, inl, sym}
 use Rattle.std.proofs.lemmas.Bool.{eqb-true}
 use Rattle.std.proofs.lemmas.List.{nil_from_length}
 use Rattle.st2110_tool.proofs.RehearsedLemmas.{on_ok_map}

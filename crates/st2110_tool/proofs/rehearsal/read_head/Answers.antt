@@ -1,4 +1,4 @@
-use Rattle.std.proofs.Common.{List, ℕ, Result, inl, inr, subst, sym, ◌∙◌}
+use Rattle.std.proofs.Common.{ℕ, inl, inr, subst, sym, ◌∙◌}
 use Rattle.std.proofs.lemmas.Result.{err_from_is_err_and}
 use Rattle.st2110_tool.specs.declared.fault.Fault.{Fault}
 use Rattle.st2110_tool.specs.FirstLines.{IsFaultyNext, end_of, lines_left}
