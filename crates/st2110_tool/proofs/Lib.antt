@@ -6,3 +6,5 @@ pub mod WindowLemmas
 mod RehearsalLemmas
 mod FaultLemmas
 mod ToldLemmas
+mod RehearsalReading
+mod RehearsedLemmas

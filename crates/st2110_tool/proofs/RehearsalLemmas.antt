@@ -1,5 +1,5 @@
 -- Texts that are no line of a rehearsal, and what a picture's octets are.
-use Rattle.std.proofs.Common.{◌≡◌, ℕ, false, ◌==◌, ◌*◌, ◌/◌, List, ◌++◌, codes, get_or, length}
+use Rattle.std.proofs.Common.{◌≡◌, ◌≤◌, ℕ, false, ◌==◌, ◌*◌, ◌/◌, List, ◌++◌, codes, get_or, length}
 use Rattle.std.proofs.Common.{Some, Ok, refl, ap, sym, subst, ◌∙◌, arith}
 use Rattle.std.proofs.lemmas.Bool.{eqb-false}
 use Rattle.hex.specs.Hex.{decode_of}
@@ -17,7 +17,9 @@ use Rattle.st_format.specs.Text.{parted}
 use Rattle.st2110_tool.specs.Forms.{AreTwo}
 use Rattle.st_format.specs.Words.{IsNumber}
 use Rattle.st2110_tool.specs.RehearsalForms.{AreArrival, AreReceiverAndNumber, AreTwoReceivers}
-use Rattle.st2110_tool.specs.RehearsalForms.{AreStamp, IsEventLine, IsNumberLine, IsStampLine}
+use Rattle.st2110_tool.specs.RehearsalForms.{AreStamp, IsCountLine, IsEventLine, IsNumberLine}
+use Rattle.st2110_tool.specs.RehearsalForms.{IsStampLine}
+use Rattle.tool_text.specs.Timestamps.{IsNumberOf}
 use Rattle.st2110_tool.proofs.FormLemmas.{differ, later, same_rest, second_same}
 
 -- ---- what is no line `stamp`
@@ -44,6 +46,13 @@ pub number_none : (word text rest : List ℕ) → text ≡ word ++ rest → (IsN
     → IsNumberLine text word n → ⊥
 number_none word text rest e none n all =
     none (subst IsNumber (same_rest word all.rest rest (sym all.text_is ∙ e)) all.number_is.is)
+
+pub count_none : (text rest : List ℕ) → text ≡ codes "receivers " ++ rest
+    → ((n : ℕ) → n ≤ 255 → IsNumberOf rest n → ⊥) → (n : ℕ) → IsCountLine text n → ⊥
+count_none text rest e none n all =
+    none n all.eight_bits (subst (λ (l : List ℕ). IsNumberOf l n)
+    (same_rest (codes "receivers ") all.line_is.rest rest (sym all.line_is.text_is ∙ e))
+    all.line_is.number_is)
 
 -- ---- what is no event
 

@@ -1,5 +1,6 @@
 -- Faults that end a run.
-use Rattle.std.specs.Prelude.{◌≡◌, ℕ, ◌⊎◌, List, ◌++◌, codes, Option, Result, MatchResult, ⊤}
+use Rattle.std.specs.Prelude.{◌≡◌, ℕ, ◌⊎◌, List, ◌++◌, codes, Bool, false, Option, Result}
+use Rattle.std.specs.Prelude.{MatchResult, ⊤}
 use Rattle.std.specs.Fmt.{decimal}
 use Rattle.std.specs.Io.KnownBytes.{Appends}
 use Rattle.st_format.specs.Device.{Failed}
@@ -9,7 +10,7 @@ use Rattle.path_merge.specs.Answers.{open_fault_name, open_fault_number}
 use Rattle.path_merge.specs.PlayFault.{play_fault_name, play_fault_number}
 use Rattle.sdp_format.specs.Faults.{sdp_fault_name, sdp_fault_number}
 use Rattle.st_format.specs.Faults.{format_fault_name, format_fault_number}
-use Rattle.st2110_tool.specs.Script.{GivesAll, GivesScript}
+use Rattle.st2110_tool.specs.Script.{GivesAll, GivesScript, IsReadFrom}
 use Rattle.st2110_tool.specs.declared.fault.Fault.{Fault}
 use Rattle.st2110_tool.specs.declared.fault.Fault.TheVariants as fault
 use Rattle.tool_text.specs.Telling.{IsRefusalLine, TellsLine, device_line, memory_line}
@@ -104,3 +105,27 @@ pub record TellsScriptRefusal (old new : Option (List ℕ)) : Type 0 where
   pub fault : Fault
   pub is : IsScriptRefusal fault
   pub told : Appends old new (codes "st2110: " ++ fault_text fault ++ codes "\n")
+
+-- A source gave a script that is refused, and its refusal was told by its line: this is why (own)
+pub record RefusesScript (Why : List ℕ → Bool → Fault → Type 0)
+    (given given' held held' : Option (List ℕ)) : Type 0 where
+  pub fault : Fault
+  pub is : IsScriptRefusal fault
+  pub told : Appends held held' (codes "st2110: " ++ fault_text fault ++ codes "\n")
+  pub script : List ℕ
+  pub is_cut : Bool
+  pub read : IsReadFrom given given' script is_cut
+  pub why : Why script is_cut fault
+
+-- Where a run ends by the refusal of a script, a source gave the script, and this is why
+abbrev pub ReadsRefused : (List ℕ → Bool → Fault → Type 0) → Fault → Option (List ℕ)
+    → Option (List ℕ) → Type 0
+ReadsRefused Why f given given' =
+    IsScriptRefusal f → (script : List ℕ) × (is_cut : Bool)
+    × IsReadFrom given given' script is_cut × Why script is_cut f
+
+-- A source gave a whole script, and this was done with it
+abbrev pub DoesScript : (List ℕ → Option (List ℕ) → Option (List ℕ) → Type 0)
+    → Option (List ℕ) → Option (List ℕ) → Option (List ℕ) → Option (List ℕ) → Type 0
+DoesScript Does given given' held held' =
+    (script : List ℕ) × IsReadFrom given given' script false × Does script held held'

@@ -6,3 +6,6 @@ pub mod Session
 pub mod Forms
 pub mod RehearsalForms
 pub mod FirstLines
+pub mod Rehearsal
+pub mod Rehearsed
+pub mod Described

@@ -39,6 +39,11 @@ pub record IsNumberLine (text word : List ℕ) (n : ℕ) : Type 0 where
   pub text_is : text ≡ word ++ rest
   pub number_is : IsNumberOf rest n
 
+-- a line `receivers N`, of 8 bits (own)
+pub record IsCountLine (text : List ℕ) (count : ℕ) : Type 0 where
+  pub line_is : IsNumberLine text (codes "receivers ") count
+  pub eight_bits : count ≤ 255
+
 -- a line `window WINDOW` (own)
 pub record IsWindowLine (text window : List ℕ) : Type 0 where
   pub rest : List ℕ

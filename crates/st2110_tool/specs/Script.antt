@@ -13,6 +13,10 @@ abbrev pub numbered_lines : ℕ → List ℕ → List (ℕ × List ℕ)
 numbered_lines passed text =
     filter (λ line. not (length line.1 == 0)) (enumerate_from (passed + 1) (lines text))
 
+-- the number of the line behind the last one of a text, before which so many lines stand (own)
+abbrev pub line_behind : ℕ → List ℕ → ℕ
+line_behind passed text = passed + length (lines text) + 1
+
 -- the first n octets of a text are its lines that end by LF
 pub record IsWholeLines (text : List ℕ) (n : ℕ) : Type 0 where
   pub within : n ≤ length text

@@ -36,9 +36,10 @@ pub(crate) enum Answer {
 }
 
 impl fmt::Display for Answer {
+    ghost use Rattle.std.specs.Prelude.{Some};
     ghost use Rattle.st2110_tool.specs.Answer.{answer_text};
 
-    ghost output = { answer_text };
+    ghost output = { λ answer. Some (answer_text answer) };
 
     fn fmt<W: fmt::Write>(&self, f: &mut fmt::Formatter<W>) -> fmt::Result {
         match self {

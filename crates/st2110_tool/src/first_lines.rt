@@ -1,8 +1,8 @@
 //! The lines that a script begins with.
-ghost use Rattle.std.specs.Prelude.{◌≡◌, ◌≢◌, ◌∷◌, ◌+◌, Err, IfErr, IfOk, Ok};
+ghost use Rattle.std.specs.Prelude.{◌≡◌, ◌≢◌, ◌∷◌, [], Err, IfErr, IfOk, Ok};
 ghost use Rattle.st_format.specs.declared.format.FormatFault.{FormatFault};
 ghost use Rattle.st_format.specs.Fields.{fields_of};
-ghost use Rattle.st2110_tool.specs.FirstLines.{ReadsFormat, lines_left};
+ghost use Rattle.st2110_tool.specs.FirstLines.{IsFaultyFormat, ReadsFormat, end_of, lines_left};
 
 use crate::fault::Fault;
 use crate::line::read_format_line;
@@ -14,7 +14,9 @@ use st_format::Format;
 pub(crate) fn next_line<'a>(lines: &mut Lines<'a>) -> Result<Line<'a>, Fault>
     ensures next { IfOk result (λ line.
         lines_left lines.old ≡ (line.number, line.text.now) ∷ lines_left lines.new) }
-    ensures none { IfErr result (λ fault. fault ≡ Fault.Script (lines.new.passed + 1)) }
+    ensures none { IfErr result (λ fault.
+        (fault ≡ Fault.Script (end_of lines.old)) × (lines_left lines.old ≡ [])) }
+    ensures end { end_of lines.new ≡ end_of lines.old }
     ensures refused { IfErr result (λ fault. fault ≢ Fault.Device) }
 {
     match lines.next() {
@@ -29,6 +31,9 @@ pub(crate) fn read_format(lines: &mut Lines<'_>) -> Result<Format, Fault>
         ReadsFormat (lines_left lines.old) (lines_left lines.new) (Ok (fields_of format))) }
     ensures none { (why : FormatFault) → result ≡ Err (Fault.Format why)
         → ReadsFormat (lines_left lines.old) (lines_left lines.new) (Err why) }
+    ensures fault { IfErr result (λ fault.
+        IsFaultyFormat (lines_left lines.old) (end_of lines.old) fault) }
+    ensures end { end_of lines.new ≡ end_of lines.old }
     ensures refused { IfErr result (λ fault. fault ≢ Fault.Device) }
 {
     let line = next_line(lines)?;

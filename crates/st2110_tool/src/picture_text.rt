@@ -3,6 +3,7 @@ ghost use Rattle.std.specs.Prelude.{◌≡◌, ◌≤◌, ℕ, List, Ok, IfNone,
 ghost use Rattle.hex.specs.Hex.{decode_of};
 ghost use Rattle.pgroup_pack.specs.Packing.{Agree};
 ghost use Rattle.st_format.specs.Pgroup.{bits_of};
+ghost use Rattle.st_format.specs.Picture.{IsPicture};
 ghost use Rattle.st_format.specs.Position.{sample_count};
 ghost use Rattle.st_format.specs.Samples.{Spells};
 ghost use Rattle.st2110_tool.specs.RehearsalForms.{IsPictureText};
@@ -21,6 +22,7 @@ pub(crate) fn read_picture<A: Allocator + Copy>(
 ) -> Result<Option<Picture<A>>, AllocError>
     ensures format { IfOk result (λ said. IfSome said (λ p. p.format ≡ format)) }
     ensures is { IfOk result (λ said. IfSome said (λ p. IsPictureText digits.now p)) }
+    ensures whole { IfOk result (λ said. IfSome said (λ p. IsPicture p)) }
     ensures none { IfOk result (λ said. IfNone said ((octets : List ℕ)
         → Agree format (length octets) (sample_count format) → decode_of digits.now ≡ Ok octets
         → ⊥)) }
@@ -55,6 +57,7 @@ fn unpacked<A: Allocator>(alloc: A, format: Format, octets: &[u8]) -> Result<Pic
     requires { Agree format (length octets.now) (sample_count format) }
     ensures format { IfOk result (λ p. p.format ≡ format) }
     ensures spells { IfOk result (λ p. Spells (bits_of format.depth) octets.now p.samples) }
+    ensures whole { IfOk result (λ p. IsPicture p) }
 {
     let mut samples = Vec::from_elem(alloc, 0u16, format.sample_count())?;
     unpack(&format, octets, samples.as_mut_slice());

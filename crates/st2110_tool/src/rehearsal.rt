@@ -1,10 +1,22 @@
 //! A script of `rehearse`: what is opened and sent, and the events.
-ghost use Rattle.std.specs.Prelude.{◌≡◌, ◌≢◌, ◌≤◌, false, length, IfErr, IfOk, OnOk};
+ghost use Rattle.std.specs.Prelude.{◌≡◌, ◌≢◌, ◌≤◌, ◌+◌, ◌⊎◌, ◌∷◌, ◌++◌, [], false, length};
+ghost use Rattle.std.specs.Prelude.{IfErr, IfOk, OnOk};
+ghost use Rattle.st_format.specs.Picture.{Values};
+ghost use Rattle.st2110_tool.specs.FirstLines.{IsFaultyNext, ReadsOne, end_of, lines_left};
+ghost use Rattle.st2110_tool.specs.Rehearsal.{AddsLine, IsBody, IsFaultyBody};
+ghost use Rattle.st2110_tool.specs.Rehearsal.{IsFaultyHead, IsPictureOf};
+ghost use Rattle.st2110_tool.specs.Rehearsal.{IsFaultyRehearsal, IsMaxLine, IsUnfitBehind, ReadsHead};
+ghost use Rattle.st2110_tool.specs.Rehearsal.{SaysCount, SaysMax, SaysRehearsal, SaysStamp};
+ghost use Rattle.st2110_tool.specs.Rehearsal.{SaysWindow, heading_of, said_by};
+ghost use Rattle.st2110_tool.specs.RehearsalForms.{IsCountLine, IsStampLine, IsWindowLine};
+ghost use Rattle.st2110_tool.specs.Script.{line_behind, numbered_lines};
 
 use crate::fault::Fault;
 use crate::first_lines::{next_line, read_format};
 use crate::picture_text::read_picture;
-use crate::rehearsal_line::{read_event, read_number_line, read_stamp_line, read_window_line};
+use crate::rehearsal_line::{
+    read_count_line, read_event, read_number_line, read_stamp_line, read_window_line,
+};
 use crate::script::{Line, Lines, Script};
 use packet_plan::Stamp;
 use path_merge::Event;
@@ -39,14 +51,15 @@ pub(crate) fn read_rehearsal<A: Allocator + Copy>(
     ensures refused { IfErr result (λ fault. fault ≢ Fault.Device) }
     ensures whole { OnOk result (script.now.is_cut ≡ false) }
     ensures range { IfOk result (λ r. r.head.stamp.payload_type ≤ 127) }
+    ensures says { IfOk result (λ r.
+        SaysRehearsal (numbered_lines 0 script.now.octets.items) (said_by r)) }
+    ensures fault { IfErr result (λ fault. (fault ≡ Fault.Memory)
+        ⊎ IsFaultyRehearsal (numbered_lines 0 script.now.octets.items) script.now.is_cut
+        (line_behind 0 script.now.octets.items) fault) }
 {
     let mut lines = Lines::new(&script.octets);
-    let mut rehearsal = Rehearsal {
-        head: read_head(alloc, &mut lines)?,
-        pictures: Vec::new(alloc),
-        events: Vec::new(alloc),
-    };
-    read_body(alloc, &mut lines, &mut rehearsal)?;
+    let head = read_head(alloc, &mut lines)?;
+    let rehearsal = read_body(alloc, head, &mut lines)?;
     if script.is_cut {
         return Err(Fault::Script(lines.following()));
     }
@@ -57,6 +70,11 @@ pub(crate) fn read_rehearsal<A: Allocator + Copy>(
 fn read_head<A: Allocator + Copy>(alloc: A, lines: &mut Lines<'_>) -> Result<Head<A>, Fault>
     ensures refused { IfErr result (λ fault. fault ≢ Fault.Device) }
     ensures range { IfOk result (λ head. head.stamp.payload_type ≤ 127) }
+    ensures says { IfOk result (λ head.
+        ReadsHead (lines_left lines.old) (lines_left lines.new) (heading_of head)) }
+    ensures fault { IfErr result (λ fault. (fault ≡ Fault.Memory)
+        ⊎ IsFaultyHead (lines_left lines.old) (end_of lines.old) fault) }
+    ensures end { OnOk result (end_of lines.new ≡ end_of lines.old) }
 {
     Ok(Head {
         format: read_format(lines)?,
@@ -71,6 +89,11 @@ fn read_head<A: Allocator + Copy>(alloc: A, lines: &mut Lines<'_>) -> Result<Hea
 fn read_stamp(lines: &mut Lines<'_>) -> Result<Stamp, Fault>
     ensures refused { IfErr result (λ fault. fault ≢ Fault.Device) }
     ensures range { IfOk result (λ stamp. stamp.payload_type ≤ 127) }
+    ensures says { IfOk result (λ stamp. ReadsOne (λ text. IsStampLine text stamp)
+        (lines_left lines.old) (lines_left lines.new)) }
+    ensures fault { IfErr result (λ fault.
+        IsFaultyNext SaysStamp (lines_left lines.old) (end_of lines.old) fault) }
+    ensures end { end_of lines.new ≡ end_of lines.old }
 {
     let line = next_line(lines)?;
     match read_stamp_line(line.text) {
@@ -81,7 +104,12 @@ fn read_stamp(lines: &mut Lines<'_>) -> Result<Stamp, Fault>
 
 /// The greatest size of a packet, in octets, that the next line says.
 fn read_max(lines: &mut Lines<'_>) -> Result<u32, Fault>
-    ensures { IfErr result (λ fault. fault ≢ Fault.Device) }
+    ensures refused { IfErr result (λ fault. fault ≢ Fault.Device) }
+    ensures says { IfOk result (λ octets. ReadsOne (λ text. IsMaxLine text octets)
+        (lines_left lines.old) (lines_left lines.new)) }
+    ensures fault { IfErr result (λ fault.
+        IsFaultyNext SaysMax (lines_left lines.old) (end_of lines.old) fault) }
+    ensures end { end_of lines.new ≡ end_of lines.old }
 {
     let line = next_line(lines)?;
     match read_number_line(line.text, b"max ") {
@@ -92,7 +120,12 @@ fn read_max(lines: &mut Lines<'_>) -> Result<u32, Fault>
 
 /// The window that the next line says.
 fn read_window<A: Allocator + Copy>(alloc: A, lines: &mut Lines<'_>) -> Result<Vec<u32, A>, Fault>
-    ensures { IfErr result (λ fault. fault ≢ Fault.Device) }
+    ensures refused { IfErr result (λ fault. fault ≢ Fault.Device) }
+    ensures says { IfOk result (λ window. ReadsOne (λ text. IsWindowLine text window.items)
+        (lines_left lines.old) (lines_left lines.new)) }
+    ensures fault { IfErr result (λ fault. (fault ≡ Fault.Memory)
+        ⊎ IsFaultyNext SaysWindow (lines_left lines.old) (end_of lines.old) fault) }
+    ensures end { end_of lines.new ≡ end_of lines.old }
 {
     let line = next_line(lines)?;
     match read_window_line(alloc, line.text)? {
@@ -103,28 +136,43 @@ fn read_window<A: Allocator + Copy>(alloc: A, lines: &mut Lines<'_>) -> Result<V
 
 /// How many receivers the next line says.
 fn read_receiver_count(lines: &mut Lines<'_>) -> Result<u8, Fault>
-    ensures { IfErr result (λ fault. fault ≢ Fault.Device) }
+    ensures refused { IfErr result (λ fault. fault ≢ Fault.Device) }
+    ensures says { IfOk result (λ count. ReadsOne (λ text. IsCountLine text count)
+        (lines_left lines.old) (lines_left lines.new)) }
+    ensures fault { IfErr result (λ fault.
+        IsFaultyNext SaysCount (lines_left lines.old) (end_of lines.old) fault) }
+    ensures end { end_of lines.new ≡ end_of lines.old }
 {
     let line = next_line(lines)?;
-    match read_number_line(line.text, b"receivers ") {
-        Some(count) if count <= 255 => Ok(count as u8),
-        _ => Err(Fault::Script(line.number)),
+    match read_count_line(line.text) {
+        Some(count) => Ok(count),
+        None => Err(Fault::Script(line.number)),
     }
 }
 
-/// Reads the pictures, and then the events.
+/// Reads what stands behind the head: the pictures, and then the events.
 fn read_body<A: Allocator + Copy>(
     alloc: A,
+    head: Head<A>,
     lines: &mut Lines<'_>,
-    rehearsal: &mut Rehearsal<A>,
-) -> Result<(), Fault>
+) -> Result<Rehearsal<A>, Fault>
     ensures refused { IfErr result (λ fault. fault ≢ Fault.Device) }
-    ensures head { rehearsal.new.head ≡ rehearsal.old.head }
+    ensures head { IfOk result (λ r. r.head ≡ head) }
+    ensures says { IfOk result (λ r.
+        IsBody head.format (lines_left lines.old) r.pictures.items r.events.items) }
+    ensures fault { IfErr result (λ fault. (fault ≡ Fault.Memory)
+        ⊎ IsFaultyBody head.format (lines_left lines.old) fault) }
+    ensures end { OnOk result (lines.new.passed + 1 ≡ end_of lines.old) }
 {
+    let mut rehearsal = Rehearsal {
+        head,
+        pictures: Vec::new(alloc),
+        events: Vec::new(alloc),
+    };
     while let Some(line) = lines.next() {
-        read_body_line(alloc, line, rehearsal)?;
+        read_body_line(alloc, line, &mut rehearsal)?;
     }
-    Ok(())
+    Ok(rehearsal)
 }
 
 /// Reads a line of a picture, which stands before all events, or of an event.
@@ -135,6 +183,12 @@ fn read_body_line<A: Allocator + Copy>(
 ) -> Result<(), Fault>
     ensures refused { IfErr result (λ fault. fault ≢ Fault.Device) }
     ensures head { rehearsal.new.head ≡ rehearsal.old.head }
+    ensures adds { OnOk result (AddsLine rehearsal.old.head.format line.entry.text.now
+        rehearsal.old.pictures.items rehearsal.old.events.items
+        rehearsal.new.pictures.items rehearsal.new.events.items) }
+    ensures fault { IfErr result (λ fault. (fault ≡ Fault.Memory)
+        ⊎ ((fault ≡ Fault.Script line.entry.number)
+        × IsUnfitBehind rehearsal.old.head.format rehearsal.old.events.items line.entry.text.now)) }
 {
     if let Some(digits) = after_word(line.text, b"picture ") {
         if !rehearsal.events.is_empty() {
@@ -150,8 +204,11 @@ fn read_body_line<A: Allocator + Copy>(
 
 /// Adds an event.
 fn add_event<A: Allocator>(event: Event, rehearsal: &mut Rehearsal<A>) -> Result<(), Fault>
-    ensures refused { IfErr result (λ fault. fault ≢ Fault.Device) }
+    ensures fault { IfErr result (λ fault. fault ≡ Fault.Memory) }
     ensures head { rehearsal.new.head ≡ rehearsal.old.head }
+    ensures pictures { rehearsal.new.pictures.items ≡ rehearsal.old.pictures.items }
+    ensures events { OnOk result
+        (rehearsal.new.events.items ≡ rehearsal.old.events.items ++ event ∷ []) }
 {
     match rehearsal.events.push(event) {
         Ok(()) => Ok(()),
@@ -159,21 +216,41 @@ fn add_event<A: Allocator>(event: Event, rehearsal: &mut Rehearsal<A>) -> Result
     }
 }
 
-/// Adds the picture of these digits, which stand in the line of this number.
+/// Adds the picture of the digits of a line.
 fn add_picture<A: Allocator + Copy>(
     alloc: A,
-    line: usize,
+    number: usize,
     digits: &[u8],
     rehearsal: &mut Rehearsal<A>,
 ) -> Result<(), Fault>
-    ensures refused { IfErr result (λ fault. fault ≢ Fault.Device) }
     ensures head { rehearsal.new.head ≡ rehearsal.old.head }
+    ensures events { rehearsal.new.events.items ≡ rehearsal.old.events.items }
+    ensures picture { OnOk result ((p : Values)
+        × IsPictureOf rehearsal.old.head.format digits.now p
+        × (rehearsal.new.pictures.items ≡ rehearsal.old.pictures.items ++ p ∷ [])) }
+    ensures fault { IfErr result (λ fault. (fault ≡ Fault.Memory)
+        ⊎ ((fault ≡ Fault.Script number)
+        × ((p : Values) → IsPictureOf rehearsal.old.head.format digits.now p → ⊥))) }
 {
     match read_picture(alloc, rehearsal.head.format, digits)? {
-        Some(picture) => match rehearsal.pictures.push(picture) {
-            Ok(()) => Ok(()),
-            Err(_) => Err(Fault::Memory),
-        },
-        None => Err(Fault::Script(line)),
+        Some(picture) => keep_picture(picture, rehearsal),
+        None => Err(Fault::Script(number)),
+    }
+}
+
+/// Adds a picture that was read.
+fn keep_picture<A: Allocator>(
+    picture: Picture<A>,
+    rehearsal: &mut Rehearsal<A>,
+) -> Result<(), Fault>
+    ensures fault { IfErr result (λ fault. fault ≡ Fault.Memory) }
+    ensures head { rehearsal.new.head ≡ rehearsal.old.head }
+    ensures events { rehearsal.new.events.items ≡ rehearsal.old.events.items }
+    ensures pictures { OnOk result
+        (rehearsal.new.pictures.items ≡ rehearsal.old.pictures.items ++ picture ∷ []) }
+{
+    match rehearsal.pictures.push(picture) {
+        Ok(()) => Ok(()),
+        Err(_) => Err(Fault::Memory),
     }
 }

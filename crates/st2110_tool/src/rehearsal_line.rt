@@ -5,7 +5,8 @@ ghost use Rattle.packet_plan.specs.declared.stamp.Stamp.{Stamp as AStamp};
 ghost use Rattle.path_merge.specs.declared.schedule.event.Event.{Event as AnEvent};
 ghost use Rattle.tool_text.specs.Timestamps.{IsNumberOf};
 ghost use Rattle.st2110_tool.specs.RehearsalForms.{AreArrival, AreReceiverAndNumber, AreStamp};
-ghost use Rattle.st2110_tool.specs.RehearsalForms.{AreTwoReceivers, IsEventLine, IsNumberLine};
+ghost use Rattle.st2110_tool.specs.RehearsalForms.{AreTwoReceivers, IsCountLine, IsEventLine};
+ghost use Rattle.st2110_tool.specs.RehearsalForms.{IsNumberLine};
 ghost use Rattle.st2110_tool.specs.RehearsalForms.{IsStampLine, IsWindowLine, path_text};
 
 use crate::line::{read_payload_type, read_two, read_window};
@@ -50,6 +51,15 @@ pub(crate) fn read_number_line(text: &[u8], word: &[u8]) -> Option<u32>
     let rest = after_word(text, word)?;
     let number = read_number(rest)?;
     Some(number)
+}
+
+/// What a line `receivers N` says: up to 255.
+pub(crate) fn read_count_line(text: &[u8]) -> Option<u8>
+    ensures is { IfSome result (λ n. IsCountLine text.now n) }
+    ensures none { IfNone result ((n : ℕ) → IsCountLine text.now n → ⊥) }
+{
+    let rest = after_word(text, b"receivers ")?;
+    read_receiver(rest)
 }
 
 /// What a line `window WINDOW` says, and none where it isn't of its form.

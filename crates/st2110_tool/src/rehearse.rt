@@ -1,8 +1,13 @@
 //! The engine of `rehearse`.
-ghost use Rattle.std.specs.Prelude.{◌≡◌, ◌≢◌, ◌≤◌, ◌⊎◌, false, length, IfErr, OnOk};
+ghost use Rattle.std.specs.Prelude.{◌≡◌, ◌≢◌, ◌≤◌, ◌⊎◌, false, length, IfErr, IfOk, OnErr, OnOk};
 ghost use Rattle.std.specs.Io.KnownBytes.{Appends};
-ghost use Rattle.st_format.specs.Device.{Failed};
-ghost use Rattle.st2110_tool.specs.Fault.{Accounts, AccountsBoth, Reads, TellsScriptRefusal};
+ghost use Rattle.st_format.specs.Device.{AppendsPrefix, Failed};
+ghost use Rattle.st2110_tool.specs.Fault.{Accounts, AccountsBoth, DoesScript, IsScriptRefusal};
+ghost use Rattle.st2110_tool.specs.Fault.{Reads, ReadsRefused, RefusesScript, TellsScriptRefusal};
+ghost use Rattle.st2110_tool.specs.Rehearsal.{said_by};
+ghost use Rattle.st2110_tool.specs.Rehearsed.{IsRefusedScript, IsUnplayed, PlaysSaid, Rehearses};
+ghost use Rattle.st2110_tool.specs.Rehearsed.{handed_line, handed_text, receiver_lines};
+ghost use Rattle.st2110_tool.specs.Rehearsed.{receivers_text};
 ghost use Rattle.tool_text.specs.Telling.{memory_line};
 ghost use Rattle.st2110_tool.specs.Script.{GivesAll, GivesScript};
 
@@ -44,6 +49,12 @@ where
     ensures told { result ≡ 1 → TellsScriptRefusal (F.held faults.old) (F.held faults.new) }
     ensures silent { result ≡ 0 → faults.new ≡ faults.old }
     ensures memory { result ≡ 4 → Appends (F.held faults.old) (F.held faults.new) memory_line }
+    // What the script says is played, and printed; or it is refused for its first fault.
+    ensures rehearses { result ≡ 0 → DoesScript (Rehearses A)
+        (S.to_give source.old) (S.to_give source.new) (O.held output.old) (O.held output.new) }
+    ensures refused { result ≡ 1 → RefusesScript IsRefusedScript
+        (S.to_give source.old) (S.to_give source.new) (F.held faults.old) (F.held faults.new) }
+    ensures nothing { result ≡ 1 → O.held output.new ≡ O.held output.old }
 {
     let Ok(mut text) = String::with_capacity(alloc, LINE) else {
         return tell_memory(faults).number();
@@ -68,6 +79,12 @@ where
     ensures failures { AccountsBoth result (S.failures source.old) (S.failures source.new)
         (O.failures output.old) (O.failures output.new) }
     ensures read { Reads result (S.to_give source.old) (S.to_give source.new) }
+    ensures rehearses { OnOk result (DoesScript (Rehearses A)
+        (S.to_give source.old) (S.to_give source.new) (O.held output.old) (O.held output.new)) }
+    ensures refused { IfErr result (λ fault. ReadsRefused IsRefusedScript fault
+        (S.to_give source.old) (S.to_give source.new)) }
+    ensures nothing { IfErr result (λ fault. IsScriptRefusal fault
+        → O.held output.new ≡ O.held output.old) }
 {
     let script = read_script(alloc, source)?;
     rehearse_script(alloc, &script, output, text)
@@ -83,6 +100,12 @@ fn rehearse_script<A: Allocator + Copy, O: ByteSink>(
     requires { length script.now.octets.items ≤ 16777216 }
     ensures failures { Accounts result (O.failures output.old) (O.failures output.new) }
     ensures whole { OnOk result (script.now.is_cut ≡ false) }
+    ensures rehearses { OnOk result
+        (Rehearses A script.now.octets.items (O.held output.old) (O.held output.new)) }
+    ensures fault { IfErr result (λ fault. IsScriptRefusal fault
+        → IsRefusedScript script.now.octets.items script.now.is_cut fault) }
+    ensures nothing { IfErr result (λ fault. IsScriptRefusal fault
+        → O.held output.new ≡ O.held output.old) }
 {
     let rehearsal = read_rehearsal(alloc, script)?;
     let played = play_rehearsal(alloc, &rehearsal)?;
@@ -96,10 +119,13 @@ fn play_rehearsal<A: Allocator + Copy>(
     rehearsal: &Rehearsal<A>,
 ) -> Result<Played<A>, Fault>
     requires { rehearsal.now.head.stamp.payload_type ≤ 127 }
-    ensures { IfErr result (λ fault. fault ≢ Fault.Device) }
+    ensures refused { IfErr result (λ fault. fault ≢ Fault.Device) }
+    ensures plays { IfOk result (λ played. PlaysSaid played (said_by rehearsal.now)) }
+    ensures unplayed { IfErr result (λ fault. IsUnplayed fault (said_by rehearsal.now)) }
 {
     let head = &rehearsal.head;
     let plan = Plan::new(alloc, head.format, head.max_octets)?;
+    plan.facts();
     Ok(play(
         alloc,
         &plan,
@@ -117,17 +143,35 @@ fn print_handed<A: Allocator, O: ByteSink>(
     output: &mut O,
     text: &mut String<A>,
 ) -> Result<(), Fault>
-    ensures { Accounts result (O.failures output.old) (O.failures output.new) }
+    ensures failures { Accounts result (O.failures output.old) (O.failures output.new) }
+    ensures unrefused { IfErr result (λ fault. IsScriptRefusal fault → ⊥) }
+    ensures printed { OnOk result
+        (Appends (O.held output.old) (O.held output.new) (handed_text handed.now)) }
+    ensures cut { OnErr result
+        (AppendsPrefix (O.held output.old) (O.held output.new) (handed_text handed.now)) }
 {
     for out in handed {
-        let counts = out.frame.counts();
-        print(
-            Answer::HandedOut(out.receiver, out.timestamp, counts),
-            output,
-            text,
-        )?;
+        print_out(out, output, text)?;
     }
     Ok(())
+}
+
+/// Prints the line of a frame that was handed out.
+fn print_out<A: Allocator, O: ByteSink>(
+    out: &Handed<A>,
+    output: &mut O,
+    text: &mut String<A>,
+) -> Result<(), Fault>
+    ensures failures { Accounts result (O.failures output.old) (O.failures output.new) }
+    ensures unrefused { IfErr result (λ fault. IsScriptRefusal fault → ⊥) }
+    ensures printed { OnOk result
+        (Appends (O.held output.old) (O.held output.new) (handed_line out.now)) }
+    ensures cut { OnErr result
+        (AppendsPrefix (O.held output.old) (O.held output.new) (handed_line out.now)) }
+{
+    let counts = out.frame.counts();
+    let answer = Answer::HandedOut(out.receiver, out.timestamp, counts);
+    print(answer, output, text)
 }
 
 /// Prints the number of each receiver, and a line for each of its frames.
@@ -136,11 +180,34 @@ fn print_receivers<A: Allocator, O: ByteSink>(
     output: &mut O,
     text: &mut String<A>,
 ) -> Result<(), Fault>
-    ensures { Accounts result (O.failures output.old) (O.failures output.new) }
+    ensures failures { Accounts result (O.failures output.old) (O.failures output.new) }
+    ensures unrefused { IfErr result (λ fault. IsScriptRefusal fault → ⊥) }
+    ensures printed { OnOk result
+        (Appends (O.held output.old) (O.held output.new) (receivers_text receivers.now)) }
+    ensures cut { OnErr result
+        (AppendsPrefix (O.held output.old) (O.held output.new) (receivers_text receivers.now)) }
 {
     for (number, receiver) in receivers.iter().enumerate() {
-        print(Answer::Receiver(number), output, text)?;
-        print_frames(receiver, output, text)?;
+        print_receiver(number, receiver, output, text)?;
     }
     Ok(())
+}
+
+/// Prints the number of a receiver, and a line for each of its frames.
+fn print_receiver<A: Allocator, O: ByteSink>(
+    number: usize,
+    receiver: &Receiver<A>,
+    output: &mut O,
+    text: &mut String<A>,
+) -> Result<(), Fault>
+    ensures failures { Accounts result (O.failures output.old) (O.failures output.new) }
+    ensures unrefused { IfErr result (λ fault. IsScriptRefusal fault → ⊥) }
+    ensures printed { OnOk result
+        (Appends (O.held output.old) (O.held output.new) (receiver_lines (number, receiver.now))) }
+    ensures cut { OnErr result
+        (AppendsPrefix (O.held output.old) (O.held output.new)
+        (receiver_lines (number, receiver.now))) }
+{
+    print(Answer::Receiver(number), output, text)?;
+    print_frames(receiver, output, text)
 }

@@ -3,8 +3,9 @@ ghost use Rattle.std.specs.Prelude.{◌≡◌, ◌≤◌, ◌<◌, ◌+◌, ◌�
 ghost use Rattle.std.specs.Prelude.{IfOk, MatchOption};
 ghost use Rattle.std.specs.Io.KnownBytes.{Consumes, IsAtEnd};
 ghost use Rattle.std.specs.Str.Lines.{lines};
-ghost use Rattle.st2110_tool.specs.Fault.{Accounts, ReadsAt};
-ghost use Rattle.st2110_tool.specs.Script.{IsCut, IsReadFrom, IsWholeLines, numbered_lines};
+ghost use Rattle.st2110_tool.specs.Fault.{Accounts, IsScriptRefusal, ReadsAt};
+ghost use Rattle.st2110_tool.specs.Script.{IsCut, IsReadFrom, IsWholeLines, line_behind};
+ghost use Rattle.st2110_tool.specs.Script.{numbered_lines};
 
 use crate::fault::Fault;
 use st_format::{ByteSource, read_whole, split_once, without_carriage_return};
@@ -31,6 +32,7 @@ where
     ensures failures { Accounts result (S.failures source.old) (S.failures source.new) }
     ensures refused { IfErr result (λ fault.
         ReadsAt fault (S.to_give source.old) (S.to_give source.new)) }
+    ensures unrefused { IfErr result (λ fault. IsScriptRefusal fault → ⊥) }
     ensures read { IfOk result (λ s.
         IsReadFrom (S.to_give source.old) (S.to_give source.new) s.octets.items s.is_cut) }
 {
@@ -48,6 +50,7 @@ where
         Consumes (S.to_give source.old) (S.to_give source.new) octets.items) }
     ensures whole { IfOk result (λ octets. length octets.items ≤ LIMIT
         → IsAtEnd (S.to_give source.new)) }
+    ensures unrefused { IfErr result (λ fault. IsScriptRefusal fault → ⊥) }
     ensures failures { Accounts result (S.failures source.old) (S.failures source.new) }
 {
     let mut octets = Vec::new(alloc);
@@ -132,6 +135,8 @@ impl<'a> Lines<'a> {
         ensures fewer { IfSome result (λ _. length self.new.rest.now < length self.old.rest.now) }
         ensures end { IfNone result
             (self.new.passed ≡ self.old.passed + length (lines self.old.rest.now)) }
+        ensures behind { line_behind self.new.passed self.new.rest.now
+            ≡ line_behind self.old.passed self.old.rest.now }
     {
         while let Some((text, rest)) = split_line(self.rest) {
             self.rest = rest;

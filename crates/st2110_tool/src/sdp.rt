@@ -1,8 +1,11 @@
 //! The engine of `sdp`.
-ghost use Rattle.std.specs.Prelude.{◌≡◌, ◌≢◌, ◌⊎◌, IfErr};
+ghost use Rattle.std.specs.Prelude.{◌≡◌, ◌≢◌, ◌⊎◌, IfErr, IfOk, OnOk};
 ghost use Rattle.std.specs.Io.KnownBytes.{Appends};
 ghost use Rattle.st_format.specs.Device.{Failed};
-ghost use Rattle.st2110_tool.specs.Fault.{AccountsBoth, Reads, TellsScriptRefusal};
+ghost use Rattle.st2110_tool.specs.Described.{Describes, IsCanonicalOf, IsTextRefusal};
+ghost use Rattle.st2110_tool.specs.Described.{IsUndescribed};
+ghost use Rattle.st2110_tool.specs.Fault.{AccountsBoth, DoesScript, Reads, ReadsRefused};
+ghost use Rattle.st2110_tool.specs.Fault.{RefusesScript, TellsScriptRefusal};
 ghost use Rattle.tool_text.specs.Telling.{memory_line};
 ghost use Rattle.st2110_tool.specs.Script.{GivesAll, GivesScript};
 
@@ -39,6 +42,11 @@ where
     ensures told { result ≡ 1 → TellsScriptRefusal (F.held faults.old) (F.held faults.new) }
     ensures silent { result ≡ 0 → faults.new ≡ faults.old }
     ensures memory { result ≡ 4 → Appends (F.held faults.old) (F.held faults.new) memory_line }
+    // The canonical line of the text is printed; or the text is refused for its first fault.
+    ensures printed { result ≡ 0 → DoesScript Describes
+        (S.to_give source.old) (S.to_give source.new) (O.held output.old) (O.held output.new) }
+    ensures refused { result ≡ 1 → RefusesScript IsUndescribed
+        (S.to_give source.old) (S.to_give source.new) (F.held faults.old) (F.held faults.new) }
 {
     let Ok(mut text) = String::with_capacity(alloc, LINE) else {
         return tell_memory(faults).number();
@@ -58,6 +66,10 @@ where
     ensures read { Reads result (S.to_give source.old) (S.to_give source.new) }
     ensures failures { AccountsBoth result (S.failures source.old) (S.failures source.new)
         (O.failures output.old) (O.failures output.new) }
+    ensures printed { OnOk result (DoesScript Describes
+        (S.to_give source.old) (S.to_give source.new) (O.held output.old) (O.held output.new)) }
+    ensures refused { IfErr result (λ fault. ReadsRefused IsUndescribed fault
+        (S.to_give source.old) (S.to_give source.new)) }
 {
     let script = read_script(alloc, source)?;
     if script.is_cut {
@@ -70,7 +82,9 @@ where
 
 /// The canonical line of a text, with its LF.
 fn canonical_line<A: Allocator + Copy>(alloc: A, text: &[u8]) -> Result<Vec<u8, A>, Fault>
-    ensures { IfErr result (λ fault. fault ≢ Fault.Device) }
+    ensures device { IfErr result (λ fault. fault ≢ Fault.Device) }
+    ensures canonical { IfOk result (λ line. IsCanonicalOf text.now line.items) }
+    ensures refused { IfErr result (λ fault. IsTextRefusal text.now fault) }
 {
     let sdp = read_sdp(alloc, text)?;
     let mut line = fmtp_text(alloc, &sdp)?;

@@ -1,5 +1,7 @@
 use Rattle.std.proofs.Common.{sym, ◌∙◌}
-use Rattle.st2110_tool.proofs.ToldLemmas.{memory_told, refusal_told}
+use Rattle.st2110_tool.specs.Rehearsed.{IsRefusedScript}
+use Rattle.st2110_tool.proofs.ToldLemmas.{memory_no_refusal, memory_told, refusal_told}
+use Rattle.st2110_tool.proofs.ToldLemmas.{script_refused}
 use Rattle.st2110_tool.proofs.rehearse.run_rehearse.Goals as goal
 
 pub returns-in_default-clause-told : goal.returns-in_default-clause-told
@@ -14,4 +16,19 @@ returns-clause-told g c = λ one.
     refusal_told c.in-Err.fault c.tell.result (g.F.ByteSink.failures c.args.faults.now)
     (g.F.ByteSink.failures c.tell.new.faults) (g.F.ByteSink.held c.args.faults.now)
     (g.F.ByteSink.held c.tell.new.faults) c.tell.ensures
+    (sym c.number-in-Err.ensures ∙ one)
+
+pub returns-in_default-clause-refused : goal.returns-in_default-clause-refused
+returns-in_default-clause-refused g c = λ one.
+    memory_no_refusal c.tell_memory.result (g.F.ByteSink.failures c.args.faults.now)
+    (g.F.ByteSink.failures c.tell_memory.new.faults) (g.F.ByteSink.held c.args.faults.now)
+    (g.F.ByteSink.held c.tell_memory.new.faults) c.tell_memory.ensures
+    (sym c.number.ensures ∙ one)
+
+pub returns-clause-refused : goal.returns-clause-refused
+returns-clause-refused g c = λ one.
+    script_refused IsRefusedScript c.in-Err.fault c.tell.result
+    (g.F.ByteSink.failures c.args.faults.now) (g.F.ByteSink.failures c.tell.new.faults)
+    _ _ (g.F.ByteSink.held c.args.faults.now)
+    (g.F.ByteSink.held c.tell.new.faults) c.tell.ensures c.in-Err.ensures.refused
     (sym c.number-in-Err.ensures ∙ one)

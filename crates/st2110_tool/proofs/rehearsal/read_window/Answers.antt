@@ -1,0 +1,16 @@
+use Rattle.std.proofs.Common.{List, ℕ, inr, refl}
+use Rattle.st2110_tool.specs.declared.fault.Fault.TheVariants.{Script}
+use Rattle.st2110_tool.specs.FirstLines.{end_of, lines_left}
+use Rattle.st2110_tool.specs.Rehearsal.{SaysWindow}
+use Rattle.st2110_tool.specs.RehearsalForms.{IsWindowLine}
+use Rattle.st2110_tool.proofs.RehearsalReading.{faulty_line}
+use Rattle.st2110_tool.proofs.rehearsal.read_window.Goals as goal
+
+pub returns-in-None-clause-fault : goal.returns-in-None-clause-fault
+returns-in-None-clause-fault g c =
+    let none : (said : List ℕ) → IsWindowLine c.in_ok-line.line.text.now said → ⊥ =
+    rw c.in-None.is at c.in_ok-window.ensures.none in
+    inr (faulty_line SaysWindow (lines_left c.args.lines.now) (lines_left c.next_line.new.lines)
+    c.in_ok-line.line.number c.in_ok-line.line.text.now (end_of c.args.lines.now)
+    (Script c.in_ok-line.line.number) c.in_ok-line.ensures.next
+    (λ said. none said.0 said.1) refl)
