@@ -9,13 +9,13 @@ use crate::script::{Kind, tell_line};
 use crate::streams::{InputSource, OutputSink};
 use crate::told::FaultSink;
 use crate::words::{LoopWords, MergeWords, MigrateWords, ProcessWords, ReceiveWords, SendWords};
+use run_outcome::{Fault, end};
 use st2110_tool::{
     Processing, Status, Wanted, run_loop, run_merge, run_migrate, run_process, run_receive,
     run_rehearse, run_report, run_sdp, run_send, run_trace,
 };
 use std::alloc::AllocError;
 use std::io::{Read, Write};
-use tool_text::tell_device;
 
 /// Runs the script on standard input.
 pub fn trace(rt: &HostRuntime, is_verbose: bool) -> u8 {
@@ -256,7 +256,7 @@ pub fn loop_back(rt: &HostRuntime, words: &LoopWords<'_>, is_verbose: bool) -> u
             );
             (status, link.writing())
         }
-        Err(fault) => (tell_device(&mut faults).number(), unbound(fault)),
+        Err(fault) => (end(Err(Fault::Device), &mut faults), unbound(fault)),
     };
     let devices = Devices {
         sdp: None,
@@ -332,7 +332,7 @@ fn finish<W: Write + Drop>(status: u8, file: &mut FileSink<'_>, faults: &mut Fau
     if file.finish() || status == Status::Device.number() {
         return status;
     }
-    tell_device(faults).number()
+    end(Err(Fault::Device), faults)
 }
 
 /// Says where the fault of a command with files is, if one was told, and if that is asked for.

@@ -1,10 +1,1 @@
-mod LineLemmas
-mod FrameLemmas
-mod FormLemmas
-pub mod OctetLemmas
-pub mod WindowLemmas
-mod RehearsalLemmas
-mod FaultLemmas
-mod ToldLemmas
-mod RehearsalReading
-mod RehearsedLemmas
+pub mod ReadScripts

@@ -1,26 +1,15 @@
-//! The engines of the program: text in, text out, and a status.
+//! The door to the engines of the program: devices in and out, and an exit status.
 #![tactic(auto)]
 
-mod answer;
-mod fault;
-mod first_lines;
-mod line;
-mod picture_text;
-mod printing;
-mod rehearsal;
-mod rehearsal_line;
-mod rehearse;
-mod script;
-mod sdp;
-mod session;
-mod telling;
-mod trace;
+mod captures;
+mod receivers;
+mod scripts;
 
-pub use file_engines::{Paths, Sending, Wanted, run_merge, run_migrate, run_receive, run_send};
+pub use capture_engines::{DatagramLink, Looping, MemoryLink, Sending, Wanted};
+pub use capture_file::Paths;
+pub use captures::{run_loop, run_migrate, run_receive, run_send};
 pub use packet_plan::Stamp;
-pub use process_engine::{Processing, run_process};
-pub use rehearse::run_rehearse;
-pub use report_engines::{DatagramLink, Looping, MemoryLink, run_loop, run_report};
-pub use sdp::run_sdp;
-pub use tool_text::Status;
-pub use trace::run_trace;
+pub use receiver_engines::Processing;
+pub use receivers::{run_merge, run_process, run_report};
+pub use run_outcome::Status;
+pub use scripts::{run_rehearse, run_sdp, run_trace};

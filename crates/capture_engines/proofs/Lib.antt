@@ -1,0 +1,14 @@
+pub mod Taken
+pub mod CaptureRuns
+pub mod InOrder
+pub mod OneOf
+pub mod SentRefusals
+pub mod ReceivedRefusals
+pub mod MigrateRefusals
+pub mod LoopRefusals
+pub mod Tallies
+pub mod Sendings
+pub mod Printed
+pub mod Leaving
+pub mod Passing
+pub mod Accounting

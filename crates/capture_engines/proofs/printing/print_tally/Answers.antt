@@ -1,0 +1,45 @@
+use Rattle.std.proofs.Common.{List, ℕ}
+use Rattle.std.specs.Io.KnownBytes.{Appends}
+use Rattle.std.specs.List.{flat_map}
+use Rattle.std.proofs.KnownBytes.{Appends-trans}
+use Rattle.std.proofs.lemmas.Result.{err_from_is_err_and}
+use Rattle.st_format.specs.Device.{AppendsPrefix}
+use Rattle.capture_file.proofs.Written.{prefix_first, prefix_then}
+use Rattle.capture_engines.specs.Printed.{counted_line, refusal_line, refusals, tally_text}
+use Rattle.run_outcome.specs.declared.line.Line.TheVariants.{OutsideCount}
+use Rattle.run_outcome.proofs.Printed.{on_err, on_ok}
+use Rattle.capture_engines.proofs.printing.print_tally.Goals as goal
+
+pub returns-in_err-print_refusals-clause-cut : goal.returns-in_err-print_refusals-clause-cut
+returns-in_err-print_refusals-clause-cut g c =
+    let t = c.args.tally.now in
+    let p = err_from_is_err_and c.from_residual.result c.from_residual.ensures.1 in
+    rw (p.1)
+    (prefix_first (g.O.ByteSink.held c.args.output.now)
+    (g.O.ByteSink.held c.print_refusals.new.output) (flat_map (refusal_line t.refused) refusals)
+    (counted_line t.outside (OutsideCount t.outside)) c.in_err-print_refusals.ensures.cut)
+
+pub returns-clause-printed : goal.returns-clause-printed
+returns-clause-printed g c =
+    let t = c.args.tally.now in
+    let lines : List ℕ = flat_map (refusal_line t.refused) refusals in
+    let last : List ℕ = counted_line t.outside (OutsideCount t.outside) in
+    let old = g.O.ByteSink.held c.args.output.now in
+    let mid = g.O.ByteSink.held c.print_refusals.new.output in
+    let new = g.O.ByteSink.held c.print_counted.new.output in
+    on_ok c.print_counted.result (Appends mid new last) (Appends old new (tally_text t))
+    (Appends-trans old mid new lines last c.in_ok-print_refusals.ensures.printed)
+    c.print_counted.ensures.printed
+
+pub returns-clause-cut : goal.returns-clause-cut
+returns-clause-cut g c =
+    let t = c.args.tally.now in
+    let lines : List ℕ = flat_map (refusal_line t.refused) refusals in
+    let last : List ℕ = counted_line t.outside (OutsideCount t.outside) in
+    let old = g.O.ByteSink.held c.args.output.now in
+    let mid = g.O.ByteSink.held c.print_refusals.new.output in
+    let new = g.O.ByteSink.held c.print_counted.new.output in
+    on_err c.print_counted.result (AppendsPrefix mid new last)
+    (AppendsPrefix old new (tally_text t))
+    (prefix_then old mid new lines last c.in_ok-print_refusals.ensures.printed)
+    c.print_counted.ensures.cut

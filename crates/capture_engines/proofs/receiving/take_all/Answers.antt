@@ -1,0 +1,52 @@
+use Rattle.std.proofs.Common.{ap, arith, drop, drop-drop, inl, inr, refl, sym, ◌∙◌}
+use Rattle.std.proofs.lemmas.Result.{err_from_is_err_and}
+use Rattle.capture_engines.proofs.InOrder.{all_taken, none_so_far, one_more}
+use Rattle.capture_engines.proofs.ReceivedRefusals.{next_refuses, none_started}
+use Rattle.run_outcome.proofs.Refusals.{of_refusal_map}
+use Rattle.capture_engines.proofs.receiving.take_all.Goals as goal
+
+pub loop-place-init : goal.loop-place-init
+loop-place-init g c = record {
+  len = refl;
+  behind = refl;
+  failures = refl;
+  begun = inl (refl, refl);
+  taken = none_so_far c.args.opening.now g.S.ByteSource.to_give c.args.captures.now
+      c.args.begun.now;
+}
+
+pub loop-place-preserved : goal.loop-place-preserved
+loop-place-preserved g c =
+    let l = c.loop-place in
+    let at = c.in_ok-take_at.ensures in
+    record {
+      len = at.len ∙ l.invariant.len;
+      behind = at.behind ∙ sym (drop-drop 1 l.place l.captures)
+          ∙ ap (drop 1) l.invariant.behind ∙ drop-drop 1 l.place c.args.captures.now;
+      failures = at.failures ∙ l.invariant.failures;
+      begun = inr at.begun;
+      taken = one_more c.args.opening.now g.S.ByteSource.to_give l.place c.args.captures.now
+          (drop l.place l.captures) c.args.begun.now l.begun c.take_at.new.begun l.invariant.taken
+          l.invariant.behind at.taken;
+    }
+
+pub returns-in_err-take_at-clause-refusal : goal.returns-in_err-take_at-clause-refusal
+returns-in_err-take_at-clause-refusal g c =
+    let l = c.loop-place in
+    let p = err_from_is_err_and c.from_residual.result c.from_residual.ensures.1 in
+    rw (p.1, p.2) (of_refusal_map c.in_err-take_at.field-0.0
+    (next_refuses c.args.opening.now.window.items g.S.ByteSource.to_give l.place
+    c.args.captures.now (drop l.place l.captures) c.args.begun.now l.begun l.invariant.behind
+    l.invariant.begun)
+    c.in_err-take_at.ensures.refusal)
+
+pub returns-clause-none : goal.returns-clause-none
+returns-clause-none g c = λ none.
+    none_started c.loop-place.place c.args.captures.now c.args.begun.now c.loop-place.begun
+    c.loop-place.invariant.begun (omega (arith, c.loop-place.invariant.len)) none
+
+pub returns-clause-taken : goal.returns-clause-taken
+returns-clause-taken g c =
+    let l = c.loop-place in
+    all_taken c.args.opening.now g.S.ByteSource.to_give l.place c.args.captures.now
+    c.args.begun.now l.begun l.invariant.taken (omega (arith, l.invariant.len))

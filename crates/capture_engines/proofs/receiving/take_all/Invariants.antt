@@ -1,0 +1,16 @@
+use Rattle.std.proofs.Common.{◌≡◌, drop, length}
+use Rattle.std.specs.List.{sum_by}
+use Rattle.capture_engines.proofs.InOrder.{SoFar}
+use Rattle.capture_engines.proofs.ReceivedRefusals.{HasStarted}
+use Rattle.capture_engines.proofs.receiving.take_all.Given as goal
+
+abbrev pub invariant-loop-place : goal.invariant-loop-place
+invariant-loop-place g l = record {
+  len : length l.captures ≡ length l.initial.captures;
+  behind : drop l.place l.captures ≡ drop l.place l.initial.captures;
+  failures : sum_by g.S.ByteSource.failures l.captures ≡ sum_by g.S.ByteSource.failures
+      l.initial.captures;
+  begun : HasStarted l.place l.initial.begun l.begun;
+  taken : SoFar l.fn.opening g.S.ByteSource.to_give l.place l.initial.captures l.initial.begun
+      l.begun;
+}

@@ -1,0 +1,71 @@
+use Rattle.std.proofs.Common.{ap, arith, drop, drop-drop, refl, sym, ◌∙◌}
+use Rattle.std.proofs.lemmas.Result.{err_from_is_err_and}
+use Rattle.run_outcome.proofs.Refusals.{of_refusal_map}
+use Rattle.capture_engines.proofs.SentRefusals.{next_refused, other_refused}
+use Rattle.capture_engines.proofs.Sendings.{more_so_far, none_so_far, rest_sent}
+use Rattle.capture_engines.proofs.sending.send_rest.Goals as goal
+
+pub returns-in_err-picture-clause-refusal : goal.returns-in_err-picture-clause-refusal
+returns-in_err-picture-clause-refusal g c =
+    let f = g.S.ByteSource.to_give in
+    let start = c.args.pictures.now in
+    let now = c.loop-place.pictures in
+    let p = err_from_is_err_and c.from_residual.result c.from_residual.ensures.1 in
+    rw (p.1, p.2) (of_refusal_map c.in_err-picture.field-0.0
+    (next_refused c.args.sender.now.plan.format f c.loop-place.place start now
+    (omega (arith, c.loop-place.auto.place)) c.loop-place.invariant.behind)
+    c.in_err-picture.ensures.refusal)
+
+pub returns-in_err-send-clause-refusal : goal.returns-in_err-send-clause-refusal
+returns-in_err-send-clause-refusal g c =
+    let f = g.S.ByteSource.to_give in
+    let start = c.args.pictures.now in
+    let now = c.loop-place.pictures in
+    let other = c.in_ok-picture.picture.format in
+    let p = err_from_is_err_and c.from_residual-in_err-send.result
+    c.from_residual-in_err-send.ensures.1 in
+    rw (p.1, p.2) (of_refusal_map c.in_err-send.field-0.0
+    (other_refused c.args.sender.now.plan.format c.loop-place.sender.plan.format other f
+    c.loop-place.place start now (omega (arith, c.loop-place.auto.place))
+    c.loop-place.invariant.behind
+    (ap (λ x. x.format) c.loop-place.invariant.plan) c.in_ok-picture.ensures.says)
+    c.in_err-send.ensures.refusal)
+
+pub loop-place-init : goal.loop-place-init
+loop-place-init g c = record {
+  len = refl;
+  room = c.requires.room;
+  stands = c.requires.stands;
+  plan = refl;
+  behind = refl;
+  pictures = refl;
+  sink = refl;
+  names = refl;
+  sent = none_so_far g.S.ByteSource.to_give g.K.ByteSink.held c.args.pictures.now
+      c.args.sender.now;
+}
+
+pub loop-place-preserved : goal.loop-place-preserved
+loop-place-preserved g c =
+    let l = c.loop-place in
+    record {
+      len = c.in_ok-picture.ensures.len ∙ l.invariant.len;
+      room = c.in_ok-send.ensures.room;
+      stands = c.in_ok-send.ensures.stands;
+      plan = c.in_ok-send.ensures.plan ∙ l.invariant.plan;
+      behind = c.in_ok-picture.ensures.behind ∙ sym (drop-drop 1 l.place l.pictures)
+          ∙ ap (drop 1) l.invariant.behind ∙ drop-drop 1 l.place c.args.pictures.now;
+      pictures = c.in_ok-picture.ensures.failures ∙ l.invariant.pictures;
+      sink = c.in_ok-send.ensures.failures ∙ l.invariant.sink;
+      names = c.in_ok-send.ensures.names ∙ l.invariant.names;
+      sent = more_so_far g.S.ByteSource.to_give g.K.ByteSink.held l.place c.args.pictures.now
+          (drop l.place l.pictures) c.in_ok-picture.picture c.args.sender.now l.sender
+          c.send.new.self l.invariant.sent l.invariant.behind c.in_ok-picture.ensures.shows
+          c.in_ok-send.ensures.sent;
+    }
+
+pub returns-clause-sent : goal.returns-clause-sent
+returns-clause-sent g c =
+    let l = c.loop-place in
+    rest_sent g.S.ByteSource.to_give g.K.ByteSink.held l.place c.args.pictures.now
+    c.args.sender.now l.sender l.invariant.sent (omega (arith, l.invariant.len))

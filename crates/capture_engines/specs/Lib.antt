@@ -1,0 +1,12 @@
+pub mod Migrating
+pub mod MigrateRefused
+pub mod Tallied
+pub mod Printed
+pub mod Receiving
+pub mod Received
+pub mod Taking
+pub mod Writing
+pub mod Sent
+pub mod Sending
+pub mod Looping
+pub mod Looped

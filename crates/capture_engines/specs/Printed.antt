@@ -1,0 +1,77 @@
+-- What is printed of a receiver, and of what it was given.
+use Rattle.std.specs.Prelude.{ℕ, zero, suc, List, [], ◌∷◌, ◌++◌, Bool, true, false, Result, length}
+use Rattle.std.specs.Prelude.{map, slice_index}
+use Rattle.std.specs.List.{count_by, flat_map}
+use Rattle.path_merge.specs.Answers.{taken_at}
+use Rattle.path_merge.specs.Frames.{State}
+use Rattle.path_merge.specs.declared.answer.Refusal.{Refusal}
+use Rattle.path_merge.specs.declared.answer.Refusal.TheVariants.{Header, WrongPayloadType}
+use Rattle.path_merge.specs.declared.answer.Refusal.TheVariants.{WrongSource, Payload}
+use Rattle.path_merge.specs.declared.answer.Taken.{Taken}
+use Rattle.payload_header.specs.declared.payload.PayloadFault.TheVariants as payload
+use Rattle.rtp_header.specs.declared.header.RtpFault.TheVariants as rtp
+use Rattle.run_outcome.specs.Line.{line_text}
+use Rattle.capture_engines.specs.Tallied.{fitting, is_outside, is_refusal, place_of}
+use Rattle.run_outcome.specs.declared.line.Line.{Line}
+use Rattle.run_outcome.specs.declared.line.Line.TheVariants.{Delivered, OutsideCount, RefusedCount}
+use Rattle.capture_engines.specs.declared.tally.Tally.{Tally}
+use Rattle.run_outcome.specs.Frames.{frames_text}
+
+-- ---- refusals
+
+-- all refusals, in the order of their numbers
+abbrev pub refusals : List Refusal
+refusals =
+    Header rtp.ShortHeader ∷ Header rtp.BadVersion ∷ Header rtp.ShortExtension
+    ∷ Header rtp.BadPadding ∷ WrongPayloadType ∷ WrongSource ∷ Payload payload.ShortPayloadHeader
+    ∷ Payload payload.TooManySegments ∷ Payload payload.SecondField ∷ Payload payload.BadLength
+    ∷ Payload payload.BadOffset ∷ Payload payload.RowOutside ∷ Payload payload.ColumnsOutside
+    ∷ Payload payload.ShortData ∷ []
+
+-- a line with its end, where what it counts came at all
+abbrev pub counted_line : ℕ → Line → List ℕ
+counted_line zero line = []
+counted_line (suc n) line = line_text line ++ 10 ∷ []
+
+-- The lines of counts: of each refusal that came, in the order of their numbers, how often it came;
+-- and how many datagrams were outside the window, if any (own)
+abbrev pub refusals_text : (Refusal → ℕ) → ℕ → List ℕ
+refusals_text refused outside =
+    flat_map (λ e. counted_line (refused e) (RefusedCount e (refused e))) refusals
+    ++ counted_line outside (OutsideCount outside)
+
+-- the line of a refusal, by the counts of all
+abbrev pub refusal_line : List ℕ → Refusal → List ℕ
+refusal_line counts e =
+    counted_line (slice_index counts (place_of e)) (RefusedCount e (slice_index counts (place_of e)))
+
+-- those of a tally's counts
+abbrev pub tally_text : Tally → List ℕ
+tally_text t = flat_map (refusal_line t.refused) refusals ++ counted_line t.outside
+    (OutsideCount t.outside)
+
+-- those of answers
+abbrev pub answers_text : List (Result Taken Refusal) → List ℕ
+answers_text answers =
+    refusals_text (λ e. fitting (count_by (is_refusal e) answers))
+    (fitting (count_by is_outside answers))
+
+-- ---- what `receive` prints
+
+-- lines that are wanted, or else none
+abbrev pub if_wanted : Bool → List ℕ → List ℕ
+if_wanted true lines = lines
+if_wanted false lines = []
+
+-- How many datagrams were delivered; where they are wanted, the lines of counts; and the lines of
+-- the receiver's frames (own)
+abbrev pub received_text : Bool → ℕ → List ℕ → State → List ℕ
+received_text wanted delivered counts receiver =
+    (line_text (Delivered delivered) ++ 10 ∷ [])
+    ++ (if_wanted wanted counts ++ frames_text receiver)
+
+-- those of a receiver that was given these datagrams
+abbrev pub taken_text : Bool → State → List (List ℕ) → List ℕ
+taken_text wanted receiver datagrams =
+    received_text wanted (fitting (length datagrams))
+    (answers_text (map (taken_at receiver.opening) datagrams)) receiver

@@ -1,0 +1,18 @@
+-- Devices that may not be there, and what is written of a receiver.
+use Rattle.std.specs.Prelude.{ℕ, Bool, List, Option}
+use Rattle.std.specs.Io.KnownBytes.{Appends}
+use Rattle.capture_file.specs.StateFile.{state_text}
+use Rattle.path_merge.specs.Frames.{State}
+use Rattle.receiver_file.specs.Saved.{IsWritable, kept_of}
+use Rattle.capture_engines.specs.Printed.{received_text, tally_text}
+use Rattle.capture_engines.specs.declared.tally.Tally.{Tally}
+
+-- the lines of a receiver were printed, with those of some counts, where these are wanted; and then
+-- a sink took the receiver's file, which can be written
+pub record SavesShown (wanted : Bool) (shown shown' old new : Option (List ℕ)) : Type 0 where
+  pub receiver : State
+  pub delivered : ℕ
+  pub tally : Tally
+  pub writable : IsWritable receiver
+  pub printed : Appends shown shown' (received_text wanted delivered (tally_text tally) receiver)
+  pub taken : Appends old new (state_text (kept_of receiver))

@@ -1,0 +1,22 @@
+//! The engines of the program that read and write captures: pictures into them, out of them a
+//! receiver, from an old version to the new one, and over a link instead.
+#![tactic(auto)]
+
+mod link;
+mod looping;
+mod memory_link;
+mod migrating;
+mod printing;
+mod receiving;
+mod sender;
+mod sending;
+mod session;
+mod tally;
+
+pub use link::DatagramLink;
+pub use looping::{Looping, loop_back};
+pub use memory_link::MemoryLink;
+pub use migrating::migrate;
+pub use receiving::{Wanted, receive};
+pub use sender::Sending;
+pub use sending::send;

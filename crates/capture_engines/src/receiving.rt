@@ -1,0 +1,372 @@
+//! The engine of `receive`.
+ghost use Rattle.std.specs.Prelude.{◌≡◌, ◌≢◌, ◌≤◌, ◌<◌, ◌+◌, ◌∷◌, [], IfErr, IfOk, OnOk};
+ghost use Rattle.std.specs.Prelude.{MatchOption, Option, None, Some, drop, length, sum_by};
+ghost use Rattle.std.specs.Io.KnownBytes.{Appends};
+ghost use Rattle.capture_file.specs.Reader.{IsNewReader};
+ghost use Rattle.capture_file.specs.StateFile.{state_text};
+ghost use Rattle.run_outcome.specs.Fault.{Accounts, IfRefused, counts, failures_in};
+ghost use Rattle.capture_engines.specs.Printed.{if_wanted, received_text, tally_text};
+ghost use Rattle.capture_engines.specs.Received.{IsCapturesRefusal, IsFrontRefusal, IsGivenRefusal};
+ghost use Rattle.capture_engines.specs.Received.{IsReceiveRefusal, IsTakeRefusal, IsBehindRefusal};
+ghost use Rattle.capture_engines.specs.Received.{IsWordRefusal};
+ghost use Rattle.capture_engines.specs.Receiving.{SavesShown};
+ghost use Rattle.run_outcome.specs.Refusing.{OfRefusal};
+ghost use Rattle.capture_engines.specs.Sent.{FirstIs};
+ghost use Rattle.capture_engines.specs.Taking.{Begins, HoldsBy, OpensBy, Receives, TakesBehind};
+ghost use Rattle.capture_engines.specs.Taking.{TakesFile, TakesFiles};
+ghost use Rattle.receiver_file.specs.Saved.{IsWritable, kept_of};
+ghost use Rattle.run_outcome.specs.Sources.{IsSourceText};
+ghost use Rattle.run_outcome.specs.Timestamps.{AreTimestamps};
+
+use crate::printing::print_tally;
+use crate::session::Session;
+use crate::tally::Tally;
+use capture_file::CaptureReader;
+use path_merge::Receiver;
+use receiver_file::save_receiver;
+use run_outcome::{
+    Fault, Line, Refusal, of_capture, of_state, print, print_frames, read_source, read_text,
+    read_timestamps, room,
+};
+use st_format::{ByteSink, ByteSource};
+use std::alloc::Allocator;
+
+/// The greatest number of octets of an SDP's file (own).
+const SDP: usize = 16_777_216;
+
+/// What `receive` is asked for, beside its files.
+#[derive(Clone, Copy)]
+pub struct Wanted<'a> {
+    /// Timestamps with commas between.
+    pub window: &'a [u8],
+    /// The number of the one source to take datagrams of, or `any`.
+    pub ssrc: &'a [u8],
+    /// Whether refusals are told.
+    pub tells_refusals: bool,
+}
+
+/// What is received with: the timestamps and the source that are asked for.
+#[derive(Drop)]
+struct Opening<A: Allocator> {
+    window: Vec<u32, A>,
+    ssrc: Option<u32>,
+}
+
+/// Takes the datagrams of captures into one receiver.
+///
+/// The receiver is opened by the SDP text of `sdp`, of at most 16,777,216 octets, or, where there
+/// is none, by that of the first capture. Then the captures' datagrams are taken, one capture after
+/// the other. `delivered N` is printed to `output`, then, where they are wanted, how many datagrams
+/// were refused for which reason, and then a line for the frame of each timestamp. Last the
+/// receiver is written to `state`.
+///
+/// # Errors
+///
+/// A refusal where a word, the SDP, the opening or a capture is refused, before anything is written
+/// to `state`; and else that a device failed or memory was wanted.
+pub fn receive<A, S, K, O>(
+    alloc: A,
+    wanted: Wanted<'_>,
+    sdp: &mut Option<S>,
+    captures: &mut [S],
+    state: &mut K,
+    output: &mut O,
+) -> Result<(), Fault>
+where
+    A: Allocator + Copy,
+    S: ByteSource,
+    K: ByteSink,
+    O: ByteSink,
+    ensures saved { OnOk result (SavesShown wanted.entry.tells_refusals
+        (O.held output.old) (O.held output.new) (K.held state.old) (K.held state.new)) }
+    ensures taken { OnOk result (Receives wanted.entry.window.now wanted.entry.ssrc.now sdp.old
+        S.to_give captures.old wanted.entry.tells_refusals
+        (O.held output.old) (O.held output.new) (K.held state.old) (K.held state.new)) }
+    ensures refused { IfErr result (λ f. IfRefused f (state.new ≡ state.old)) }
+    ensures refusal { IfErr result (λ f. OfRefusal f (IsReceiveRefusal wanted.entry.window.now
+        wanted.entry.ssrc.now sdp.old S.to_give captures.old)) }
+    ensures failures { Accounts result (counts (failures_in S.failures sdp.old)
+        (failures_in S.failures sdp.new) ∷ counts (sum_by S.failures captures.old)
+        (sum_by S.failures captures.new)
+        ∷ counts (K.failures state.old) (K.failures state.new)
+        ∷ counts (O.failures output.old) (O.failures output.new) ∷ []) }
+{
+    let opening = read_opening(alloc, wanted)?;
+    let begun = begin(alloc, &opening, sdp)?;
+    let session = take_captures(alloc, &opening, begun, captures)?;
+    print_session(&session, wanted.tells_refusals, output)?;
+    save(&session.receiver, state)
+}
+
+/// Writes a receiver's file.
+fn save<A: Allocator, K: ByteSink>(
+    receiver: &Receiver<A>,
+    state: &mut K,
+) -> Result<(), Fault>
+    ensures whole { OnOk result (Appends (K.held state.old) (K.held state.new)
+        (state_text (kept_of receiver.now))) }
+    ensures writable { IsWritable receiver.now }
+    ensures refused { IfErr result (λ f. IfRefused f (state.new ≡ state.old)) }
+    ensures unrefused { IfErr result (λ f. IfRefused f ⊥) }
+    ensures failures { Accounts result (counts (K.failures state.old) (K.failures state.new) ∷ []) }
+{
+    match save_receiver(state, receiver) {
+        Ok(()) => Ok(()),
+        Err(fault) => Err(of_state(fault)),
+    }
+}
+
+/// Reads the words.
+fn read_opening<A: Allocator + Copy>(alloc: A, wanted: Wanted<'_>) -> Result<Opening<A>, Fault>
+    ensures window { IfOk result (λ o. AreTimestamps wanted.entry.window.now o.window.items) }
+    ensures source { IfOk result (λ o. IsSourceText wanted.entry.ssrc.now o.ssrc) }
+    ensures refusal { IfErr result (λ f. OfRefusal f
+        (IsWordRefusal wanted.entry.window.now wanted.entry.ssrc.now)) }
+    ensures failures { Accounts result [] }
+{
+    let Some(window) = read_timestamps(alloc, wanted.window)? else {
+        return Err(Fault::Refused(Refusal::ReceiveWindow));
+    };
+    let Some(ssrc) = read_source(wanted.ssrc) else {
+        return Err(Fault::Refused(Refusal::ReceiveSource));
+    };
+    Ok(Opening { window, ssrc })
+}
+
+/// Opens a receiver by the SDP, where there is one.
+fn begin<A: Allocator + Copy, S: ByteSource>(
+    alloc: A,
+    opening: &Opening<A>,
+    sdp: &mut Option<S>,
+) -> Result<Option<Session<A>>, Fault>
+    ensures begun { IfOk result (λ begun. Begins opening.now S.to_give sdp.old begun) }
+    ensures none { IfOk result (λ begun. begun ≡ None → sdp.old ≡ None) }
+    ensures refusal { IfErr result (λ f. OfRefusal f (λ r. MatchOption sdp.old ⊥
+        (λ s. IsGivenRefusal opening.now.window.items (S.to_give s) r))) }
+    ensures failures { Accounts result (counts (failures_in S.failures sdp.old)
+        (failures_in S.failures sdp.new) ∷ []) }
+{
+    match sdp {
+        None => Ok(None),
+        Some(source) => match open_by_sdp(alloc, opening, source) {
+            Ok(session) => Ok(Some(session)),
+            Err(fault) => Err(fault),
+        },
+    }
+}
+
+/// Opens a receiver by an SDP text.
+fn open_by_sdp<A: Allocator + Copy, S: ByteSource>(
+    alloc: A,
+    opening: &Opening<A>,
+    source: &mut S,
+) -> Result<Session<A>, Fault>
+    ensures opened { IfOk result (λ s. OpensBy opening.now (S.to_give source.old) s) }
+    ensures refusal { IfErr result (λ f. OfRefusal f
+        (IsGivenRefusal opening.now.window.items (S.to_give source.old))) }
+    ensures failures { Accounts result (counts (S.failures source.old) (S.failures source.new)
+        ∷ []) }
+{
+    let Some(said) = read_text(alloc, source, SDP)? else {
+        return Err(Fault::Refused(Refusal::ReceiveSdp));
+    };
+    Session::open(alloc, &said, opening.ssrc, &opening.window)
+}
+
+/// Takes all captures.
+fn take_captures<A: Allocator + Copy, S: ByteSource>(
+    alloc: A,
+    opening: &Opening<A>,
+    mut begun: Option<Session<A>>,
+    captures: &mut [S],
+) -> Result<Session<A>, Fault>
+    ensures taken { IfOk result
+        (λ s. TakesFiles opening.now S.to_give captures.old begun (Some s)) }
+    ensures refusal { IfErr result (λ f. OfRefusal f
+        (IsCapturesRefusal opening.now.window.items begun S.to_give captures.old)) }
+    ensures failures { Accounts result (counts (sum_by S.failures captures.old)
+        (sum_by S.failures captures.new) ∷ []) }
+{
+    let mut buf = room(alloc)?;
+    let mut said = room(alloc)?;
+    take_all(alloc, opening, &mut begun, captures, &mut said, &mut buf)?;
+    match begun {
+        Some(session) => Ok(session),
+        None => Err(Fault::Refused(Refusal::ReceiveNoSdp)),
+    }
+}
+
+/// Takes all captures, each by way of the two rooms: one for its text, and one for its datagrams.
+fn take_all<A: Allocator + Copy, S: ByteSource>(
+    alloc: A,
+    opening: &Opening<A>,
+    begun: &mut Option<Session<A>>,
+    captures: &mut [S],
+    said: &mut [u8],
+    buf: &mut [u8],
+) -> Result<(), Fault>
+    requires text { 65535 ≤ length said.old }
+    requires room { 65535 ≤ length buf.old }
+    ensures taken { OnOk result
+        (TakesFiles opening.now S.to_give captures.old begun.old begun.new) }
+    ensures none { OnOk result (begun.new ≡ None
+        → (begun.old ≡ None) × (captures.old ≡ [])) }
+    ensures refusal { IfErr result (λ f. OfRefusal f
+        (IsCapturesRefusal opening.now.window.items begun.old S.to_give captures.old)) }
+    ensures failures { Accounts result (counts (sum_by S.failures captures.old)
+        (sum_by S.failures captures.new) ∷ []) }
+{
+    for place in 0..captures.len() {
+        take_at(alloc, opening, begun, captures, place, said, buf)?;
+    }
+    Ok(())
+}
+
+/// Takes the capture of a place.
+fn take_at<A: Allocator + Copy, S: ByteSource>(
+    alloc: A,
+    opening: &Opening<A>,
+    begun: &mut Option<Session<A>>,
+    captures: &mut [S],
+    place: usize,
+    said: &mut [u8],
+    buf: &mut [u8],
+) -> Result<(), Fault>
+    requires place { place < length captures.old }
+    requires text { 65535 ≤ length said.old }
+    requires room { 65535 ≤ length buf.old }
+    ensures text { length said.new ≡ length said.old }
+    ensures room { length buf.new ≡ length buf.old }
+    ensures len { length captures.new ≡ length captures.old }
+    ensures behind { drop (place + 1) captures.new ≡ drop (place + 1) captures.old }
+    ensures taken { OnOk result (FirstIs
+        (λ s. TakesFile opening.now (S.to_give s) begun.old begun.new)
+        (drop place captures.old)) }
+    ensures begun { OnOk result (begun.new ≢ None) }
+    ensures refusal { IfErr result (λ f. OfRefusal f (λ r. FirstIs
+        (λ s. IsTakeRefusal opening.now.window.items begun.old (S.to_give s) r)
+        (drop place captures.old))) }
+    ensures failures { Accounts result (counts (sum_by S.failures captures.old)
+        (sum_by S.failures captures.new) ∷ []) }
+{
+    take_one(alloc, opening, begun, &mut captures[place], said, buf)
+}
+
+/// Takes a capture. Where no receiver is open yet, its text opens one.
+fn take_one<A: Allocator + Copy, S: ByteSource>(
+    alloc: A,
+    opening: &Opening<A>,
+    begun: &mut Option<Session<A>>,
+    capture: &mut S,
+    said: &mut [u8],
+    buf: &mut [u8],
+) -> Result<(), Fault>
+    requires text { 65535 ≤ length said.old }
+    requires room { 65535 ≤ length buf.old }
+    ensures text { length said.new ≡ length said.old }
+    ensures room { length buf.new ≡ length buf.old }
+    ensures taken { OnOk result
+        (TakesFile opening.now (S.to_give capture.old) begun.old begun.new) }
+    ensures begun { OnOk result (begun.new ≢ None) }
+    ensures refusal { IfErr result (λ f. OfRefusal f
+        (IsTakeRefusal opening.now.window.items begun.old (S.to_give capture.old))) }
+    ensures failures { Accounts result (counts (S.failures capture.old) (S.failures capture.new)
+        ∷ []) }
+{
+    let mut reader = match CaptureReader::open(&mut *capture, said) {
+        Ok(reader) => reader,
+        Err(failed) => return Err(of_capture(failed.0)),
+    };
+    let text = &said[..reader.text_len()];
+    let taken = take_opened(alloc, opening, begun, &mut reader, text, buf);
+    let _ = reader.into_inner();
+    taken
+}
+
+/// Takes a capture whose reader has just been opened. Where no receiver is open yet, the capture's
+/// text opens one.
+fn take_opened<A: Allocator + Copy, S: ByteSource>(
+    alloc: A,
+    opening: &Opening<A>,
+    begun: &mut Option<Session<A>>,
+    reader: &mut CaptureReader<S>,
+    text: &[u8],
+    buf: &mut [u8],
+) -> Result<(), Fault>
+    requires room { 65535 ≤ length buf.old }
+    requires new { IsNewReader reader.old }
+    requires before { reader.old.before ≡ record {
+      to_give = S.to_give reader.old.source;
+      failures = S.failures reader.old.source;
+    } }
+    ensures room { length buf.new ≡ length buf.old }
+    ensures taken { OnOk result (TakesBehind opening.now (S.to_give reader.old.source) text.now
+        begun.old begun.new) }
+    ensures begun { OnOk result (begun.new ≢ None) }
+    ensures refusal { IfErr result (λ f. OfRefusal f (IsBehindRefusal opening.now.window.items
+        begun.old (S.to_give reader.old.source) text.now)) }
+    ensures failures { Accounts result (counts (S.failures reader.old.source)
+        (S.failures reader.new.source) ∷ []) }
+    ensures names { S.names reader.new.source ≡ S.names reader.old.source }
+{
+    if let Some(session) = begun {
+        return session.take_capture(reader, buf);
+    }
+    let mut session = open_by_text(alloc, opening, text)?;
+    let taken = session.take_capture(reader, buf);
+    *begun = Some(session);
+    taken
+}
+
+/// Opens a receiver by a capture's text.
+fn open_by_text<A: Allocator + Copy>(
+    alloc: A,
+    opening: &Opening<A>,
+    said: &[u8],
+) -> Result<Session<A>, Fault>
+    ensures opened { IfOk result (λ s. HoldsBy opening.now said.now s []) }
+    ensures refusal { IfErr result (λ f. OfRefusal f
+        (IsFrontRefusal opening.now.window.items said.now)) }
+    ensures failures { Accounts result [] }
+{
+    if said.is_empty() {
+        return Err(Fault::Refused(Refusal::ReceiveNoSdp));
+    }
+    Session::open(alloc, said, opening.ssrc, &opening.window)
+}
+
+/// Prints what was delivered, and what is then known.
+fn print_session<A: Allocator, O: ByteSink>(
+    session: &Session<A>,
+    tells_refusals: bool,
+    output: &mut O,
+) -> Result<(), Fault>
+    ensures printed { OnOk result (Appends (O.held output.old) (O.held output.new)
+        (received_text tells_refusals session.now.delivered (tally_text session.now.tally)
+        session.now.receiver)) }
+    ensures unrefused { IfErr result (λ f. IfRefused f ⊥) }
+    ensures failures { Accounts result (counts (O.failures output.old) (O.failures output.new)
+        ∷ []) }
+{
+    print(Line::Delivered(session.delivered), output)?;
+    print_wanted(&session.tally, tells_refusals, output)?;
+    print_frames(&session.receiver, output)
+}
+
+/// Prints what a tally counts, where that is wanted.
+fn print_wanted<O: ByteSink>(
+    tally: &Tally,
+    is_wanted: bool,
+    output: &mut O,
+) -> Result<(), Fault>
+    ensures printed { OnOk result (Appends (O.held output.old) (O.held output.new)
+        (if_wanted is_wanted (tally_text tally.now))) }
+    ensures unrefused { IfErr result (λ f. IfRefused f ⊥) }
+    ensures failures { Accounts result (counts (O.failures output.old) (O.failures output.new)
+        ∷ []) }
+{
+    if !is_wanted {
+        return Ok(());
+    }
+    print_tally(tally, output)
+}

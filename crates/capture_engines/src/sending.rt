@@ -1,0 +1,249 @@
+//! The engine of `send`.
+ghost use Rattle.std.specs.Prelude.{◌≡◌, ◌+◌, ◌≤◌, ◌<◌, ◌∷◌, [], false, IfErr, IfOk, OnOk, drop};
+ghost use Rattle.std.specs.Prelude.{length, sum_by, vec_len};
+ghost use Rattle.std.specs.Io.KnownBytes.{IsAtEnd};
+ghost use Rattle.run_outcome.specs.Fault.{Accounts, counts, failures_in};
+ghost use Rattle.run_outcome.specs.Refusing.{OfRefusal};
+ghost use Rattle.capture_engines.specs.Sent.{FirstIs, FirstSays, IsSaidRefusal, IsPicturesRefusal};
+ghost use Rattle.capture_engines.specs.Sent.{IsRestRefusal, IsSendRefusal};
+ghost use Rattle.run_outcome.specs.Pictures.{IsPictureRefusal, SaysPicture};
+ghost use Rattle.capture_engines.specs.Sending.{SaysSdp, SendsAll, SendsEach, SendsFirstAndRest};
+ghost use Rattle.capture_engines.specs.Sending.{SendsPictures, SendsRest};
+
+use crate::sender::{Sender, Sending};
+use capture_file::CaptureWriter;
+use packet_plan::Plan;
+use pgroup_pack::PackedPicture;
+use run_outcome::{Fault, Line, Refusal, of_capture, print, read_checked, read_packed, room};
+use st_format::{ByteSink, ByteSource};
+use std::alloc::Allocator;
+
+/// The greatest number of pictures (own).
+const PICTURES: usize = 10_000;
+
+/// Sends pictures, one after the other, into a capture, and prints `sent N` to `output`, how many
+/// datagrams that are.
+///
+/// The SDP text of `sdp`, where there is one, is read first, and is the capture's text, which else
+/// is empty. Each picture is read and sent before the next. The plan is made, and then the capture
+/// begun, once the first is read. The k-th picture is the k-th frame, and the packets' numbers run
+/// on. Without pictures nothing is written. A `sink` that tells its octets holds none before.
+///
+/// # Errors
+///
+/// A refusal where there are more than 10,000 pictures (before anything is read), the SDP is longer
+/// than 65,535 octets or refused, there is no such plan, or a picture is refused or is of another
+/// format than the first; and else that a device failed or memory was wanted. What was sent before
+/// stands in the capture.
+pub fn send<A, S, K, O>(
+    alloc: A,
+    wanted: Sending,
+    sdp: &mut Option<S>,
+    pictures: &mut [S],
+    sink: &mut K,
+    output: &mut O,
+) -> Result<(), Fault>
+where
+    A: Allocator + Copy,
+    S: ByteSource,
+    K: ByteSink,
+    O: ByteSink,
+    requires payload_type { wanted.payload_type ≤ 127 }
+    requires empty { IsAtEnd (K.held sink.old) }
+    ensures sent { OnOk result (SendsAll S.to_give wanted sdp.old pictures.old
+        (K.held sink.old) (K.held sink.new)) }
+    ensures failures { Accounts result (counts (failures_in S.failures sdp.old)
+        (failures_in S.failures sdp.new) ∷ counts (sum_by S.failures pictures.old)
+        (sum_by S.failures pictures.new) ∷ counts (K.failures sink.old) (K.failures sink.new)
+        ∷ counts (O.failures output.old) (O.failures output.new) ∷ []) }
+    ensures refusal { IfErr result (λ f. OfRefusal f
+        (IsSendRefusal wanted.max_octets sdp.old S.to_give pictures.old)) }
+{
+    let said = read_said(alloc, sdp, pictures.len())?;
+    let sent = send_pictures(alloc, wanted, &said, pictures, sink)?;
+    print(Line::Sent(sent), output)
+}
+
+/// Finds that there are few pictures, and reads the capture's text.
+fn read_said<A: Allocator + Copy, S: ByteSource>(
+    alloc: A,
+    sdp: &mut Option<S>,
+    pictures: usize,
+) -> Result<Vec<u8, A>, Fault>
+    ensures few { IfOk result (λ _. pictures ≤ 10000) }
+    ensures text { IfOk result (λ said. vec_len said ≤ 65535) }
+    ensures says { IfOk result (λ said. SaysSdp S.to_give sdp.old said.items) }
+    ensures refusal { IfErr result (λ f. OfRefusal f (IsSaidRefusal pictures sdp.old S.to_give)) }
+    ensures failures { Accounts result (counts (failures_in S.failures sdp.old)
+        (failures_in S.failures sdp.new) ∷ []) }
+{
+    if pictures > PICTURES {
+        return Err(Fault::Refused(Refusal::SendPictures));
+    }
+    match sdp {
+        None => Ok(Vec::new(alloc)),
+        Some(source) => match read_checked(alloc, source, Refusal::SendSdp) {
+            Ok(said) => Ok(said),
+            Err(fault) => Err(fault),
+        },
+    }
+}
+
+/// Sends all pictures, and answers how many datagrams that are.
+fn send_pictures<A: Allocator + Copy, S: ByteSource, K: ByteSink>(
+    alloc: A,
+    wanted: Sending,
+    said: &[u8],
+    pictures: &mut [S],
+    sink: &mut K,
+) -> Result<u64, Fault>
+    requires text { length said.now ≤ 65535 }
+    requires few { length pictures.old ≤ 10000 }
+    requires payload_type { wanted.payload_type ≤ 127 }
+    requires empty { IsAtEnd (K.held sink.old) }
+    ensures sent { OnOk result (SendsPictures S.to_give wanted said.now pictures.old
+        (K.held sink.old) (K.held sink.new)) }
+    ensures refusal { IfErr result (λ f. OfRefusal f
+        (IsPicturesRefusal wanted.max_octets S.to_give pictures.old)) }
+    ensures failures { Accounts result (counts (sum_by S.failures pictures.old)
+        (sum_by S.failures pictures.new)
+        ∷ counts (K.failures sink.old) (K.failures sink.new) ∷ []) }
+{
+    if pictures.is_empty() {
+        return Ok(0);
+    }
+    let mut buf = room(alloc)?;
+    let (picture, plan) = read_first(alloc, wanted.max_octets, pictures)?;
+    send_first_and_rest(wanted, said, plan, picture, pictures, sink, &mut buf)
+}
+
+/// Begins the capture, sends the first picture, which was read, and those behind it, and answers
+/// how many datagrams were sent.
+fn send_first_and_rest<A: Allocator, S: ByteSource, K: ByteSink>(
+    wanted: Sending,
+    said: &[u8],
+    plan: Plan<A>,
+    picture: PackedPicture<A>,
+    pictures: &mut [S],
+    sink: &mut K,
+    buf: &mut [u8],
+) -> Result<u64, Fault>
+    requires text { length said.now ≤ 65535 }
+    requires few { length pictures.old ≤ 10000 }
+    requires payload_type { wanted.payload_type ≤ 127 }
+    requires alike { picture.format ≡ plan.format }
+    requires empty { IsAtEnd (K.held sink.old) }
+    requires room { length buf.old ≡ 65535 }
+    ensures sent { OnOk result (SendsFirstAndRest S.to_give wanted said.now picture
+        (drop 1 pictures.old) (K.held sink.old) (K.held sink.new)) }
+    ensures refusal { IfErr result (λ f. OfRefusal f
+        (IsRestRefusal plan.format S.to_give (drop 1 pictures.old))) }
+    ensures failures { Accounts result (counts (sum_by S.failures pictures.old)
+        (sum_by S.failures pictures.new)
+        ∷ counts (K.failures sink.old) (K.failures sink.new) ∷ []) }
+{
+    let writer = match CaptureWriter::open(&mut *sink, wanted.paths, said) {
+        Ok(writer) => writer,
+        Err(failed) => return Err(of_capture(failed.0)),
+    };
+    let mut sender = Sender::new(plan, writer, wanted);
+    let sent = send_each(&mut sender, picture, pictures, buf);
+    let _ = sender.into_sink();
+    sent
+}
+
+/// Sends the first picture, and those behind it, and answers how many datagrams were sent.
+fn send_each<A: Allocator, S: ByteSource, K: ByteSink>(
+    sender: &mut Sender<A, K>,
+    picture: PackedPicture<A>,
+    pictures: &mut [S],
+    buf: &mut [u8],
+) -> Result<u64, Fault>
+    requires few { length pictures.old ≤ 10000 }
+    requires room { length buf.old ≡ 65535 }
+    requires stands { sender.old.writer.place.failed ≡ false }
+    requires alike { picture.format ≡ sender.old.plan.format }
+    ensures sent { OnOk result (SendsEach S.to_give K.held picture (drop 1 pictures.old)
+        sender.old sender.new) }
+    ensures refusal { IfErr result (λ f. OfRefusal f
+        (IsRestRefusal sender.old.plan.format S.to_give (drop 1 pictures.old))) }
+    ensures failures { Accounts result (counts (sum_by S.failures pictures.old)
+        (sum_by S.failures pictures.new) ∷ counts (K.failures sender.old.writer.sink)
+        (K.failures sender.new.writer.sink) ∷ []) }
+    ensures names { K.names sender.new.writer.sink ≡ K.names sender.old.writer.sink }
+{
+    sender.send(&picture, 0, buf)?;
+    send_rest(sender, pictures, picture.into_octets(), buf)
+}
+
+/// Reads the first picture, and makes a plan for pictures of its format.
+fn read_first<A: Allocator + Copy, S: ByteSource>(
+    alloc: A,
+    max_octets: u32,
+    pictures: &mut [S],
+) -> Result<(PackedPicture<A>, Plan<A>), Fault>
+    requires { 0 < length pictures.old }
+    ensures len { length pictures.new ≡ length pictures.old }
+    ensures behind { drop 1 pictures.new ≡ drop 1 pictures.old }
+    ensures alike { IfOk result (λ first. first.0.format ≡ first.1.format) }
+    ensures shows { IfOk result
+        (λ first. FirstIs (λ s. SaysPicture (S.to_give s) first.0) pictures.old) }
+    ensures says { IfOk result (λ first. FirstSays S.to_give first.1.format pictures.old) }
+    ensures refusal { IfErr result (λ f. OfRefusal f
+        (IsPicturesRefusal max_octets S.to_give pictures.old)) }
+    ensures failures { Accounts result (counts (sum_by S.failures pictures.old)
+        (sum_by S.failures pictures.new) ∷ []) }
+{
+    let picture = read_at(pictures, 0, Vec::new(alloc))?;
+    let plan = Plan::new(alloc, picture.format(), max_octets)?;
+    Ok((picture, plan))
+}
+
+/// Reads and sends the pictures behind the first, each in the memory of the one before it, and
+/// answers how many datagrams were sent.
+fn send_rest<A: Allocator, S: ByteSource, K: ByteSink>(
+    sender: &mut Sender<A, K>,
+    pictures: &mut [S],
+    mut room: Vec<u8, A>,
+    buf: &mut [u8],
+) -> Result<u64, Fault>
+    requires few { length pictures.old ≤ 10000 }
+    requires room { length buf.old ≡ 65535 }
+    requires stands { sender.old.writer.place.failed ≡ false }
+    ensures sent { OnOk result (SendsRest S.to_give K.held (drop 1 pictures.old)
+        sender.old sender.new) }
+    ensures refusal { IfErr result (λ f. OfRefusal f
+        (IsRestRefusal sender.old.plan.format S.to_give (drop 1 pictures.old))) }
+    ensures failures { Accounts result (counts (sum_by S.failures pictures.old)
+        (sum_by S.failures pictures.new) ∷ counts (K.failures sender.old.writer.sink)
+        (K.failures sender.new.writer.sink) ∷ []) }
+    ensures names { K.names sender.new.writer.sink ≡ K.names sender.old.writer.sink }
+{
+    for place in 1..pictures.len() {
+        let picture = read_at(pictures, place, room)?;
+        sender.send(&picture, place as u32, buf)?;
+        room = picture.into_octets();
+    }
+    Ok(sender.sent)
+}
+
+/// Reads the picture of a place into this memory.
+fn read_at<A: Allocator, S: ByteSource>(
+    pictures: &mut [S],
+    place: usize,
+    room: Vec<u8, A>,
+) -> Result<PackedPicture<A>, Fault>
+    requires { place < length pictures.old }
+    ensures len { length pictures.new ≡ length pictures.old }
+    ensures behind { drop (place + 1) pictures.new ≡ drop (place + 1) pictures.old }
+    ensures shows { IfOk result
+        (λ p. FirstIs (λ s. SaysPicture (S.to_give s) p) (drop place pictures.old)) }
+    ensures says { IfOk result
+        (λ p. FirstSays S.to_give p.format (drop place pictures.old)) }
+    ensures refusal { IfErr result (λ f. OfRefusal f
+        (λ r. FirstIs (λ s. IsPictureRefusal (S.to_give s) r) (drop place pictures.old))) }
+    ensures failures { Accounts result (counts (sum_by S.failures pictures.old)
+        (sum_by S.failures pictures.new) ∷ []) }
+{
+    read_packed(&mut pictures[place], room)
+}

@@ -1,0 +1,89 @@
+//! Counts of what a receiver answered.
+ghost use Rattle.std.specs.Prelude.{◌≡◌, ◌+◌, ◌<◌, [], Err};
+ghost use Rattle.path_merge.specs.Answers.{refusal_number};
+ghost use Rattle.capture_engines.specs.Tallied.{Tallies, TalliesMore, tally_after};
+
+use path_merge::{Observer, Refusal, Taken};
+use payload_header::PayloadFault;
+use rtp_header::RtpFault;
+
+/// All refusals, in the order of their numbers.
+const REFUSALS: [Refusal; 14] = [
+    Refusal::Header(RtpFault::ShortHeader),
+    Refusal::Header(RtpFault::BadVersion),
+    Refusal::Header(RtpFault::ShortExtension),
+    Refusal::Header(RtpFault::BadPadding),
+    Refusal::WrongPayloadType,
+    Refusal::WrongSource,
+    Refusal::Payload(PayloadFault::ShortPayloadHeader),
+    Refusal::Payload(PayloadFault::TooManySegments),
+    Refusal::Payload(PayloadFault::SecondField),
+    Refusal::Payload(PayloadFault::BadLength),
+    Refusal::Payload(PayloadFault::BadOffset),
+    Refusal::Payload(PayloadFault::RowOutside),
+    Refusal::Payload(PayloadFault::ColumnsOutside),
+    Refusal::Payload(PayloadFault::ShortData),
+];
+
+/// The refusal whose count stands at this place of a tally: that of the next number.
+pub(crate) fn refusal_at(place: usize) -> Refusal
+    requires { place < 14 }
+    ensures { refusal_number result ≡ place + 1 }
+{
+    REFUSALS[place]
+}
+
+/// How many datagrams were refused, for which reason, and how many had timestamps outside the
+/// window.
+#[derive(Drop)]
+pub(crate) struct Tally {
+    /// The count of the refusal of number n stands at n - 1.
+    pub refused: [u64; 14],
+    pub outside: u64,
+}
+
+impl Tally {
+    /// Nothing was counted.
+    pub fn new() -> Tally
+        ensures { Tallies result [] }
+    {
+        Tally {
+            refused: [0; 14],
+            outside: 0,
+        }
+    }
+
+    /// Counts an answer.
+    fn count(&mut self, answer: Result<Taken, Refusal>)
+        ensures { self.new ≡ tally_after answer self.old }
+    {
+        match answer {
+            Ok(Taken::Kept(_)) => {}
+            Ok(Taken::Outside) => self.outside = self.outside.saturating_add(1),
+            Err(refusal) => self.note_refusal(refusal),
+        }
+    }
+
+    /// Counts a datagram that was refused.
+    fn note_refusal(&mut self, refusal: Refusal)
+        ensures { self.new ≡ tally_after (Err refusal) self.old }
+    {
+        let place = usize::from(refusal.number()) - 1;
+        self.refused[place] = self.refused[place].saturating_add(1);
+    }
+}
+
+impl Observer for Tally {
+    ghost use Rattle.capture_engines.specs.Tallied.{tally_after};
+
+    ghost after = { λ tally answer. tally_after answer tally };
+
+    /// Counts an answer: of the count that is its own one more, as long as that fits.
+    fn note(&mut self, answer: Result<Taken, Refusal>)
+        ensures after { self.new ≡ tally_after answer self.old }
+        // Of all answers that it counted, and this one, its counts are what they are to be.
+        ensures counted { TalliesMore self.old self.new answer }
+    {
+        self.count(answer)
+    }
+}

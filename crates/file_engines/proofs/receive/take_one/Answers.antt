@@ -1,8 +1,0 @@
-use Rattle.std.proofs.Common.{rules}
-use Rattle.file_engines.proofs.SetSums.{counted_by}
-use Rattle.file_engines.proofs.receive.take_one.Goals as goal
-
-pub returns-clause-failures : goal.returns-clause-failures
-returns-clause-failures g c =
-    counted_by c.take_opened-taken.result _ _ _ _ c.in-Ok.ensures.counted (search rules)
-    c.take_opened-taken.ensures.failures

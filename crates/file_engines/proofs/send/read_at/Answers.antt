@@ -1,8 +1,0 @@
-use Rattle.file_engines.proofs.SetSums.{set_counted}
-use Rattle.file_engines.proofs.send.read_at.Goals as goal
-
-pub returns-clause-failures : goal.returns-clause-failures
-returns-clause-failures g c =
-    set_counted g.S.ByteSource.failures c.args.pictures.now c.args.place
-    c.index-pictures-place.result c.read_packed.new.source c.read_packed.result c.requires
-    c.read_packed.ensures.failures

@@ -1,0 +1,9 @@
+pub mod StateRefusals
+pub mod Merged
+pub mod MergeRefusals
+pub mod Lists
+pub mod Settling
+pub mod Refusals
+pub mod FileRefusals
+pub mod Late
+pub mod Meaning

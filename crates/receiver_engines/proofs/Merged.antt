@@ -1,0 +1,73 @@
+-- Two receivers that were read, merged and written.
+use Rattle.std.proofs.Common.{◌≡◌, ℕ, List, [], ◌++◌, Option, Result, Ok, Err, refl, sym, ap, subst, ◌∙◌}
+use Rattle.std.specs.Prelude.{OnOk}
+use Rattle.std.specs.Io.KnownBytes.{Appends}
+use Rattle.st_format.specs.Raster.{Raster}
+use Rattle.capture_file.specs.StateFile.{Kept, state_text}
+use Rattle.path_merge.specs.Frames.{Holds, State, frames_of, joined_frames}
+use Rattle.path_merge.specs.Opening.{Opening}
+use Rattle.path_merge.proofs.Frames.{frames_of-append}
+use Rattle.receiver_file.specs.Saved.{kept_of}
+use Rattle.receiver_engines.specs.Merging.{IsAgain, Joins, Merges, SavesMerged, merged_state}
+
+-- what follows from what holds after a success
+pub on_ok : {V E : Type 0} (r : Result V E) (P Q : Type 0) → (P → Q) → OnOk r P → OnOk r Q
+on_ok (Ok v) P Q then is = then is
+on_ok (Err e) P Q then is = is
+
+-- a receiver is itself
+pub again : (s : State) → IsAgain s s
+again s = record { opening = refl; frames = refl }
+
+-- what was read of two files, merged
+pub joined : (s t l r m : State) → IsAgain s l → IsAgain t r → l.opening ≡ r.opening
+    → m.opening ≡ l.opening → m.frames ≡ joined_frames l.frames r.frames
+    → (s.opening ≡ t.opening) × IsAgain (merged_state s t) m
+joined s t l r m left right alike opening frames = (
+  sym left.opening ∙ alike ∙ right.opening,
+  record {
+    opening = opening ∙ left.opening;
+    frames = frames ∙ ap (λ (rs : List Raster). joined_frames rs r.frames) left.frames
+        ∙ ap (joined_frames s.frames) right.frames;
+  },
+)
+
+abbrev receiver : Opening → List Raster → State
+receiver o rs = record { opening = o; frames = rs; refusals = [] }
+
+-- receivers of one opening and the same frames are kept alike
+pub same_kept : (s r : State) → IsAgain s r → kept_of r ≡ kept_of s
+same_kept s r again =
+    ap (λ (o : Opening). kept_of (receiver o r.frames)) again.opening
+    ∙ ap (λ (rs : List Raster). kept_of (receiver s.opening rs)) again.frames
+
+holds_both : (s t : State) → s.opening ≡ t.opening → (xs ys : List (List ℕ)) → Holds s xs
+    → Holds t ys
+    → Holds (merged_state s t) (xs ++ ys)
+holds_both s t alike xs ys holds_xs holds_ys =
+    ap (λ (rs : List Raster). joined_frames rs t.frames) holds_xs
+    ∙ ap (joined_frames (frames_of s.opening xs))
+    (holds_ys ∙ ap (λ (o : Opening). frames_of o ys) (sym alike))
+    ∙ sym (frames_of-append s.opening xs ys)
+
+-- what was merged is written
+saves : (s t : State) (old new : Option (List ℕ)) (m : State)
+    → (s.opening ≡ t.opening) × IsAgain (merged_state s t) m
+    → Appends old new (state_text (kept_of m)) → SavesMerged s t old new
+saves s t old new m is taken = record {
+  alike = is.0;
+  taken = subst (λ (k : Kept). Appends old new (state_text k))
+      (same_kept (merged_state s t) m is.1) taken;
+  holds = holds_both s t is.0;
+}
+
+pub merges : (left right old new : Option (List ℕ)) (m : State) → Joins left right m
+    → Appends old new (state_text (kept_of m)) → Merges left right old new
+merges left right old new m joins taken = record {
+  first = joins.first;
+  second = joins.second;
+  first_is = joins.first_is;
+  second_is = joins.second_is;
+  taken = saves joins.first joins.second old new m joins.both taken;
+  saved = λ s t gives also_gives. saves s t old new m (joins.joined s t gives also_gives) taken;
+}

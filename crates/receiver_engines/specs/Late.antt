@@ -1,0 +1,48 @@
+-- What a capture writes that is begun at its first datagram (own).
+use Rattle.std.specs.Prelude.{◌≡◌, ℕ, Bool, true, false, List, [], ◌∷◌, ◌++◌, Option}
+use Rattle.std.specs.Borrow.{GName}
+use Rattle.std.specs.Io.KnownBytes.{Appends}
+use Rattle.capture_file.specs.Fronts.{front_text}
+use Rattle.capture_file.specs.Records.{record_text}
+use Rattle.capture_file.specs.Writer.{entry, moment_behind, written_text}
+use Rattle.capture_file.specs.declared.front.Version.TheVariants.{Two}
+use Rattle.capture_file.specs.declared.paths.Paths.TheVariants.{OnlyA}
+use Rattle.st_format.specs.Device.{CountsOne}
+use Rattle.st_format.specs.declared.path.Path.TheVariants.{A}
+use Rattle.receiver_engines.specs.declared.late_capture.LateCapture.{LateCapture}
+
+-- what stands before the first record, where it isn't written yet
+abbrev pub late_front : Bool → List ℕ
+late_front true = []
+late_front false = front_text Two []
+
+-- what is written for a datagram
+abbrev pub late_octets : Bool → ℕ → List ℕ → List ℕ
+late_octets is_begun moment octets =
+    late_front is_begun ++ record_text (entry A moment octets)
+
+-- The capture of datagrams: path A, no text. It isn't begun where there are none.
+abbrev pub late_text : List (List ℕ) → List ℕ
+late_text [] = []
+late_text (d ∷ ds) = written_text OnlyA [] (d ∷ ds)
+
+-- A capture that was whole took a datagram: its sink is written the record, behind the front where
+-- that wasn't written yet.
+pub record TakesLate {K : Type 0} (held : K → Option (List ℕ)) (failures : K → ℕ)
+    (names : K → List GName) (old : LateCapture K) (octets : List ℕ) (new : LateCapture K) :
+    Type 0 where
+  pub whole : old.is_cut ≡ false
+  pub stays : new.is_cut ≡ false
+  pub begun : new.is_begun ≡ true
+  pub moment : new.moment ≡ moment_behind OnlyA old.moment
+  pub written : Appends (held old.sink) (held new.sink) (late_octets old.is_begun old.moment octets)
+  pub working : failures new.sink ≡ failures old.sink
+  pub names_stay : names new.sink ≡ names old.sink
+
+-- One that fails is cut. If it was whole, its sink failed once; else that is asked for nothing.
+pub record FailsLate {K : Type 0} (failures : K → ℕ) (names : K → List GName)
+    (old new : LateCapture K) : Type 0 where
+  pub cut : new.is_cut ≡ true
+  pub counted : old.is_cut ≡ false → CountsOne (failures old.sink) (failures new.sink)
+  pub untouched : old.is_cut ≡ true → new.sink ≡ old.sink
+  pub names_stay : names new.sink ≡ names old.sink

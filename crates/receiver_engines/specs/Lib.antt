@@ -1,0 +1,12 @@
+pub mod States
+pub mod Merging
+pub mod MergeRefused
+pub mod Reporting
+pub mod JobText
+pub mod FillText
+pub mod Inputs
+pub mod Reading
+pub mod Late
+pub mod Processing
+pub mod Refused
+pub mod Offered

@@ -1,0 +1,82 @@
+-- What `process` sends (own).
+use Rattle.std.specs.Prelude.{◌≡◌, ℕ, ◌+◌, ◌^◌, ◌%◌, List, [], ◌∷◌, ◌++◌, Option, length}
+use Rattle.std.specs.Prelude.{Result, Ok, Err}
+use Rattle.std.specs.Io.KnownBytes.{Appends}
+use Rattle.run_outcome.specs.Line.{line_text}
+use Rattle.run_outcome.specs.declared.line.Line.TheVariants.{Sent}
+use Rattle.run_outcome.specs.LowerFaults.{of_job, of_plan}
+use Rattle.run_outcome.specs.declared.fault.Fault.{Fault}
+use Rattle.run_outcome.specs.declared.fault.Fault.TheVariants.{Device}
+use Rattle.key_mix.specs.declared.faults.SendJobFault.{SendJobFault}
+use Rattle.key_mix.specs.declared.faults.SendJobFault.TheVariants as sending
+use Rattle.packet_plan.specs.declared.plan.PlanFault.TheVariants as plan
+use Rattle.key_mix.specs.Sending.{IsSendable, IsSentJob}
+use Rattle.key_mix.specs.declared.Job.{Job}
+use Rattle.packet_plan.specs.declared.stamp.Stamp.{Stamp}
+use Rattle.path_merge.specs.Frames.{State}
+use Rattle.st_format.specs.Device.{CountsOne}
+use Rattle.st_format.specs.Picture.{Values}
+use Rattle.st_format.specs.Raster.{Raster}
+use Rattle.receiver_engines.specs.Inputs.{AreFramesAt, IsFill, IsHeldFor, raster_formats}
+use Rattle.receiver_engines.specs.Inputs.{settled_frames}
+use Rattle.receiver_engines.specs.JobText.{IsJobText}
+use Rattle.receiver_engines.specs.Late.{late_text}
+use Rattle.receiver_engines.specs.Reading.{SayReceivers, SaysHeld}
+
+-- A sink of octets was written the capture of the datagrams of a job's picture of pictures; so many
+-- modulo 2^32.
+pub record TakesJob (job : Job) (pictures : List Values) (size : ℕ) (stamp : Stamp)
+    (old new : Option (List ℕ)) (count : ℕ) : Type 0 where
+  pub datagrams : List (List ℕ)
+  pub spell : IsSentJob datagrams job pictures size stamp
+  pub written : Appends old new (late_text datagrams)
+  pub count_is : count ≡ length datagrams % 2 ^ 32
+
+-- What became of a sink of octets: it was written the capture of such datagrams, and didn't fail;
+-- or it failed once; and else it is as it was. The first packet has the number `first`.
+abbrev pub WritesJob : {K : Type 0} → (List (List ℕ) → Type 0) → (K → Option (List ℕ)) → (K → ℕ)
+    → ℕ → K → K → Result ℕ SendJobFault → Type 0
+WritesJob Are held failures first old new (Ok next) =
+    (datagrams : List (List ℕ)) × Are datagrams
+    × Appends (held old) (held new) (late_text datagrams) × (failures new ≡ failures old)
+    × (next ≡ (first + length datagrams) % 2 ^ 32)
+WritesJob Are held failures first old new (Err (sending.Sink sent)) =
+    CountsOne (failures old) (failures new)
+WritesJob Are held failures first old new (Err (sending.Job e)) = new ≡ old
+WritesJob Are held failures first old new (Err sending.BadPacketSize) = new ≡ old
+
+-- It was written that of receivers' frames of a timestamp, each settled. Nothing speaks against the
+-- job, and the size is one for the format of its picture.
+pub record SendsJob (job : Job) (ts : ℕ) (fill_text : List ℕ) (size : ℕ) (stamp : Stamp)
+    (rs : List State) (held : Option Values) (old new : Option (List ℕ)) (count : ℕ) :
+    Type 0 where
+  pub frames : List Raster
+  pub are : AreFramesAt frames rs ts
+  pub fill : List ℕ
+  pub fill_is : IsFill fill fill_text frames
+  pub held_is : IsHeldFor held frames
+  pub sendable : IsSendable job (raster_formats frames) size
+  pub takes : TakesJob job (settled_frames held fill frames) size stamp old new count
+
+-- It was written that of the job that a text says, of the receivers and the held picture whose files
+-- sources were to give.
+pub record SendsFiles {S : Type 0} (to_give : S → Option (List ℕ)) (states : List S)
+    (hold : Option S) (job_text : List ℕ) (ts : ℕ) (fill_text : List ℕ) (size : ℕ) (stamp : Stamp)
+    (old new : Option (List ℕ)) (count : ℕ) : Type 0 where
+  pub job : Job
+  pub job_is : IsJobText job_text job
+  pub receivers : List State
+  pub receivers_are : SayReceivers to_give states receivers
+  pub held : Option Values
+  pub held_is : SaysHeld to_give hold held
+  pub sends : SendsJob job ts fill_text size stamp receivers held old new count
+
+-- How many datagrams were sent is printed.
+abbrev pub PrintsSent : ℕ → Option (List ℕ) → Option (List ℕ) → Type 0
+PrintsSent count old new = Appends old new (line_text (Sent count) ++ 10 ∷ [])
+
+-- a fault of a sending
+abbrev pub of_send_job : SendJobFault → Fault
+of_send_job (sending.Job e) = of_job e
+of_send_job sending.BadPacketSize = of_plan plan.BadPacketSize
+of_send_job (sending.Sink sent) = Device

@@ -1,0 +1,115 @@
+//! A capture that is begun at its first datagram, as a sink of datagrams. It tells no datagrams.
+ghost use Rattle.std.specs.Prelude.{◌≡◌, ◌≤◌, length, IsErr, None, OnOk, true, false};
+ghost use Rattle.std.specs.Io.KnownBytes.{Appends};
+ghost use Rattle.receiver_engines.specs.Late.{FailsLate, TakesLate, late_front, late_octets};
+ghost use Rattle.st_format.specs.Device.{CountsFaults, CountsOne};
+
+use capture_file::{write_front, write_record};
+use st_format::{ByteSink, DatagramSink, DeviceFault, Path, SinkFault};
+
+/// Writes a capture with an empty text, of records by path A, into a sink of octets. It is begun at
+/// the first datagram: a sink of which nothing is asked before isn't touched.
+///
+/// After a fault it takes nothing more, and the sink is asked for nothing.
+#[derive(Drop)]
+pub(crate) struct LateCapture<K: ByteSink> {
+    pub(crate) sink: K,
+    pub(crate) is_begun: bool,
+    /// The moment of the next record.
+    pub(crate) moment: u64,
+    pub(crate) is_cut: bool,
+    pub(crate) failures: u64,
+}
+
+impl<K: ByteSink> LateCapture<K> {
+    /// A capture that isn't begun.
+    pub(crate) fn new(sink: K) -> Self
+        ensures sink { result.sink ≡ sink }
+        ensures begun { result.is_begun ≡ false }
+        ensures moment { result.moment ≡ 0 }
+        ensures cut { result.is_cut ≡ false }
+    {
+        LateCapture {
+            sink,
+            is_begun: false,
+            moment: 0,
+            is_cut: false,
+            failures: 0,
+        }
+    }
+
+    /// Gives the sink back, as it then is.
+    pub(crate) fn into_inner(self) -> K
+        ensures { result ≡ self.sink }
+    {
+        self.sink
+    }
+
+    /// One failure more, which is told of.
+    fn fail(&mut self) -> Result<(), SinkFault>
+        ensures fault { IsErr result }
+        ensures sink { self.new.sink ≡ self.old.sink }
+        ensures cut { self.new.is_cut ≡ self.old.is_cut }
+        ensures counted { CountsOne self.old.failures self.new.failures }
+    {
+        self.failures = self.failures.saturating_add(1);
+        Err(SinkFault)
+    }
+}
+
+impl<K: ByteSink> DatagramSink for LateCapture<K> {
+    ghost taken = { λ _. None };
+
+    ghost failures = { λ c. c.failures };
+
+    ghost takes = { λ old octets new. TakesLate K.held K.failures K.names old octets new };
+
+    ghost fails = { λ old octets new. FailsLate K.failures K.names old new };
+
+    /// Writes the datagram's record, and before the first one the front.
+    fn put(&mut self, octets: &[u8]) -> Result<(), SinkFault> {
+        if self.is_cut {
+            return self.fail();
+        }
+        match write_datagram(&mut self.sink, self.is_begun, self.moment, octets) {
+            Ok(()) => {
+                self.is_begun = true;
+                self.moment = self.moment.wrapping_add(1);
+                Ok(())
+            }
+            Err(_) => {
+                self.is_cut = true;
+                self.fail()
+            }
+        }
+    }
+}
+
+/// Writes a datagram's record of this moment, behind the front where the capture isn't begun.
+fn write_datagram<K: ByteSink>(
+    sink: &mut K,
+    is_begun: bool,
+    moment: u64,
+    octets: &[u8],
+) -> Result<(), DeviceFault>
+    requires { length octets.now ≤ 65535 }
+    ensures ok { OnOk result
+        (Appends (K.held sink.old) (K.held sink.new) (late_octets is_begun moment octets.now)) }
+    ensures counted { CountsFaults (K.failures sink.old) (K.failures sink.new) result }
+    ensures names { K.names sink.new ≡ K.names sink.old }
+{
+    begin(sink, is_begun)?;
+    write_record(sink, Path::A, moment, octets)
+}
+
+/// Writes the front, where the capture isn't begun.
+fn begin<K: ByteSink>(sink: &mut K, is_begun: bool) -> Result<(), DeviceFault>
+    ensures ok { OnOk result (Appends (K.held sink.old) (K.held sink.new) (late_front is_begun)) }
+    ensures counted { CountsFaults (K.failures sink.old) (K.failures sink.new) result }
+    ensures names { K.names sink.new ≡ K.names sink.old }
+{
+    if is_begun {
+        return Ok(());
+    }
+    write_front(sink, &[])
+}

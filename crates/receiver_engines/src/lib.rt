@@ -1,0 +1,19 @@
+//! The engines of the program that read receivers' files: two are merged, one is reported, and frames
+//! of some are processed.
+#![tactic(auto)]
+
+mod fill_text;
+mod inputs;
+mod job_offers;
+mod job_text;
+mod late_capture;
+mod merging;
+mod processing;
+mod reading;
+mod reporting;
+mod states;
+
+pub use job_offers::offered_by_job;
+pub use merging::merge;
+pub use processing::{Processing, process};
+pub use reporting::report;

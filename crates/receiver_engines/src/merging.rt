@@ -1,0 +1,71 @@
+//! The engine of `merge`.
+ghost use Rattle.std.specs.Prelude.{◌≡◌, ◌∷◌, [], IfErr, IfOk, OnOk};
+ghost use Rattle.run_outcome.specs.Fault.{Accounts, IfRefused, counts};
+ghost use Rattle.receiver_engines.specs.Merging.{Joins, Merges, Saves};
+ghost use Rattle.receiver_engines.specs.MergeRefused.{IsMergeRefusal};
+ghost use Rattle.run_outcome.specs.Refusing.{OfRefusal};
+
+use crate::states::{read_receiver, save};
+use path_merge::Receiver;
+use run_outcome::{Fault, Refusal, print_frames};
+use st_format::{ByteSink, ByteSource};
+use std::alloc::Allocator;
+
+/// Merges two receivers that were written as files.
+///
+/// The receivers of `left` and of `right` are read, and the right one is merged into the left. A
+/// line for the frame of each timestamp is printed to `output`, and then the merged receiver is
+/// written to `state`.
+///
+/// # Errors
+///
+/// A refusal where a file is refused or the two are opened unlike, before anything is written to
+/// `state`; and else that a device failed or memory was wanted.
+pub fn merge<A, L, R, K, O>(
+    alloc: A,
+    left: &mut L,
+    right: &mut R,
+    state: &mut K,
+    output: &mut O,
+) -> Result<(), Fault>
+where
+    A: Allocator + Copy,
+    L: ByteSource,
+    R: ByteSource,
+    K: ByteSink,
+    O: ByteSink,
+    ensures saved { OnOk result (Saves (K.held state.old) (K.held state.new)) }
+    ensures merged { OnOk result
+        (Merges (L.to_give left.old) (R.to_give right.old) (K.held state.old) (K.held state.new)) }
+    ensures refused { IfErr result (λ f. IfRefused f (state.new ≡ state.old)) }
+    ensures refusal { IfErr result (λ f. OfRefusal f
+        (IsMergeRefusal (L.to_give left.old) (R.to_give right.old))) }
+    ensures failures { Accounts result (counts (L.failures left.old) (L.failures left.new)
+        ∷ counts (R.failures right.old) (R.failures right.new)
+        ∷ counts (K.failures state.old) (K.failures state.new)
+        ∷ counts (O.failures output.old) (O.failures output.new) ∷ []) }
+{
+    let merged = merge_both(alloc, left, right)?;
+    print_frames(&merged, output)?;
+    save(&merged, state)
+}
+
+/// Reads two receivers, and merges the second into the first.
+fn merge_both<A: Allocator + Copy, L: ByteSource, R: ByteSource>(
+    alloc: A,
+    left: &mut L,
+    right: &mut R,
+) -> Result<Receiver<A>, Fault>
+    ensures joined { IfOk result (λ m. Joins (L.to_give left.old) (R.to_give right.old) m) }
+    ensures refusal { IfErr result (λ f. OfRefusal f
+        (IsMergeRefusal (L.to_give left.old) (R.to_give right.old))) }
+    ensures failures { Accounts result (counts (L.failures left.old) (L.failures left.new)
+        ∷ counts (R.failures right.old) (R.failures right.new) ∷ []) }
+{
+    let mut merged = read_receiver(alloc, left)?;
+    let other = read_receiver(alloc, right)?;
+    match merged.merge(&other) {
+        Ok(()) => Ok(merged),
+        Err(_) => Err(Fault::Refused(Refusal::MergeUnlike)),
+    }
+}

@@ -1,0 +1,199 @@
+//! The engine of `process`.
+ghost use Rattle.std.specs.Prelude.{◌≡◌, ◌≤◌, ◌∷◌, [], ◌-◌, ◌+◌, IfErr, IfOk, OnOk, sum_by, ℕ};
+ghost use Rattle.std.specs.List.{AllByRecursion};
+ghost use Rattle.run_outcome.specs.Fault.{Accounts, IfRefused, counts, failures_in};
+ghost use Rattle.run_outcome.specs.Refusing.{OfRefusal};
+ghost use Rattle.key_mix.specs.Sending.{HasBase, IsSendFault, IsSendable, IsSentJob, input_formats};
+ghost use Rattle.key_mix.specs.Sending.{settled_inputs};
+ghost use Rattle.receiver_engines.specs.Processing.{PrintsSent, SendsFiles, SendsJob, TakesJob};
+ghost use Rattle.receiver_engines.specs.Processing.{WritesJob, of_send_job};
+ghost use Rattle.receiver_engines.specs.Refused.{IsJobOrPlanRefusal, IsJobRefusal, IsRunRefusal};
+
+use crate::inputs::{check_held, fill_for, frames_at, inputs_of};
+use crate::job_text::read_job;
+use crate::late_capture::LateCapture;
+use crate::reading::{read_held, read_receivers};
+use key_mix::{Job, JobInput, SendJobFault, send_job};
+use packet_plan::{PlanFault, Stamp};
+use path_merge::Receiver;
+use run_outcome::{Fault, Line, Refusal, print};
+use st_format::{ByteSink, ByteSource, Picture};
+use std::alloc::Allocator;
+
+/// What `process` is asked for, beside its files.
+#[derive(Clone, Copy, Debug, PartialEq, Eq)]
+pub struct Processing<'a> {
+    /// The job, as `limit:nominal`, `limit:video`, `gain:G`, `ycc444`, `ycc422`,
+    /// `wipe:columns:P:S`, `wipe:rows:P:S` or `key`.
+    pub job: &'a [u8],
+    /// The timestamp of the frames, in ticks of a 90 kHz clock.
+    pub timestamp: u32,
+    /// The value of each component, with commas between, for a sample that has none.
+    pub fill: &'a [u8],
+    /// What the packets have in common; the payload type is at most 127.
+    pub stamp: Stamp,
+    /// The most octets of a packet.
+    pub max_octets: u32,
+}
+
+/// Runs a job on the frames of a timestamp, one of each receiver, writes the capture of the job's
+/// picture to `sink`, by path A and with no text, and prints `sent N` to `output`, how many
+/// datagrams that are.
+///
+/// The receivers' files are read in their order, and then the picture of `hold`, where there is
+/// one. The first frame takes the held picture's values where it has none, and each other the
+/// fill's.
+///
+/// # Errors
+///
+/// A refusal where the job's text is none (before any file is read), a file is refused, a
+/// receiver's window hasn't the timestamp, the fill's text is none or has a value above the
+/// greatest of a frame's depth, the held picture has another format than the first frame, or, in
+/// this order, the job is refused or there is no such plan: `sink` isn't touched then. Else that a
+/// device failed or memory was wanted.
+pub fn process<A, S, K, O>(
+    alloc: A,
+    wanted: Processing<'_>,
+    states: &mut [S],
+    hold: &mut Option<S>,
+    sink: &mut K,
+    output: &mut O,
+) -> Result<(), Fault>
+where
+    A: Allocator + Copy,
+    S: ByteSource,
+    K: ByteSink,
+    O: ByteSink,
+    requires payload_type { wanted.stamp.payload_type ≤ 127 }
+    ensures sent { OnOk result ((count : ℕ) × SendsFiles S.to_give states.old hold.old
+        wanted.entry.job.now wanted.entry.timestamp wanted.entry.fill.now wanted.entry.max_octets
+        wanted.entry.stamp (K.held sink.old) (K.held sink.new) count
+        × PrintsSent count (O.held output.old) (O.held output.new)) }
+    ensures refused { IfErr result (λ f. IfRefused f (sink.new ≡ sink.old)) }
+    ensures refusal { IfErr result (λ f. OfRefusal f
+        (IsRunRefusal S.to_give states.old hold.old wanted.entry)) }
+    ensures failures { Accounts result
+        (counts (sum_by S.failures states.old) (sum_by S.failures states.new)
+        ∷ counts (failures_in S.failures hold.old) (failures_in S.failures hold.new)
+        ∷ counts (K.failures sink.old) (K.failures sink.new)
+        ∷ counts (O.failures output.old) (O.failures output.new) ∷ []) }
+{
+    let sent = process_files(alloc, wanted, states, hold, sink)?;
+    print(Line::Sent(u64::from(sent)), output)
+}
+
+/// Reads the job and the files, sends the job's picture, and answers how many datagrams that is.
+fn process_files<A: Allocator + Copy, S: ByteSource, K: ByteSink>(
+    alloc: A,
+    wanted: Processing<'_>,
+    states: &mut [S],
+    hold: &mut Option<S>,
+    sink: &mut K,
+) -> Result<u32, Fault>
+    requires payload_type { wanted.stamp.payload_type ≤ 127 }
+    ensures sent { IfOk result (λ n. SendsFiles S.to_give states.old hold.old
+        wanted.entry.job.now wanted.entry.timestamp wanted.entry.fill.now wanted.entry.max_octets
+        wanted.entry.stamp (K.held sink.old) (K.held sink.new) n) }
+    ensures refused { IfErr result (λ f. IfRefused f (sink.new ≡ sink.old)) }
+    ensures refusal { IfErr result (λ f. OfRefusal f
+        (IsRunRefusal S.to_give states.old hold.old wanted.entry)) }
+    ensures failures { Accounts result
+        (counts (sum_by S.failures states.old) (sum_by S.failures states.new)
+        ∷ counts (failures_in S.failures hold.old) (failures_in S.failures hold.new)
+        ∷ counts (K.failures sink.old) (K.failures sink.new) ∷ []) }
+{
+    let Some(job) = read_job(wanted.job) else {
+        return Err(Fault::Refused(Refusal::ProcessJob));
+    };
+    let receivers = read_receivers(alloc, states)?;
+    let held = read_held(alloc, hold)?;
+    send_frames(alloc, &job, wanted, &receivers, &held, sink)
+}
+
+/// Sends the job's picture of the receivers' frames, and answers how many datagrams that is.
+fn send_frames<A: Allocator + Copy, K: ByteSink>(
+    alloc: A,
+    job: &Job,
+    wanted: Processing<'_>,
+    receivers: &[Receiver<A>],
+    held: &Option<Picture<A>>,
+    sink: &mut K,
+) -> Result<u32, Fault>
+    requires payload_type { wanted.stamp.payload_type ≤ 127 }
+    ensures refused { IfErr result (λ f. IfRefused f (sink.new ≡ sink.old)) }
+    ensures sent { IfOk result (λ n. SendsJob job.now wanted.entry.timestamp wanted.entry.fill.now
+        wanted.entry.max_octets wanted.entry.stamp receivers.now held.now
+        (K.held sink.old) (K.held sink.new) n) }
+    ensures refusal { IfErr result (λ f. OfRefusal f
+        (IsJobRefusal job.now wanted.entry receivers.now held.now)) }
+    ensures failures { Accounts result (counts (K.failures sink.old) (K.failures sink.new) ∷ []) }
+{
+    let frames = frames_at(alloc, receivers, wanted.timestamp)?;
+    let fill = fill_for(wanted.fill, &frames)?;
+    check_held(held, &frames)?;
+    let inputs = inputs_of(alloc, &frames, fill, held)?;
+    send(alloc, job, &inputs, wanted, sink)
+}
+
+/// Writes the capture of the job's picture, and answers how many datagrams that is.
+fn send<A: Allocator + Copy, K: ByteSink>(
+    alloc: A,
+    job: &Job,
+    inputs: &[JobInput<'_, A>],
+    wanted: Processing<'_>,
+    sink: &mut K,
+) -> Result<u32, Fault>
+    requires bases { AllByRecursion HasBase inputs.now }
+    requires payload_type { wanted.stamp.payload_type ≤ 127 }
+    ensures refused { IfErr result (λ f. IfRefused f (sink.new ≡ sink.old)) }
+    ensures sent { IfOk result (λ n. TakesJob job.now (settled_inputs inputs.now)
+        wanted.entry.max_octets wanted.entry.stamp (K.held sink.old) (K.held sink.new) n) }
+    ensures sendable { OnOk result
+        (IsSendable job.now (input_formats inputs.now) wanted.entry.max_octets) }
+    ensures refusal { IfErr result (λ f. OfRefusal f (λ r.
+        IsJobOrPlanRefusal job.now wanted.entry.max_octets r (input_formats inputs.now))) }
+    ensures failures { Accounts result (counts (K.failures sink.old) (K.failures sink.new) ∷ []) }
+{
+    let stamp = wanted.stamp;
+    match send_capture(alloc, job, inputs, wanted.max_octets, stamp, sink) {
+        Ok(next) => Ok(next.wrapping_sub(stamp.first)),
+        Err(fault) => Err(send_job_fault(fault)),
+    }
+}
+
+/// Sends the job's picture into a capture, which is begun at the first datagram: a run that is
+/// refused doesn't touch the sink. Answers as [`send_job`] does.
+fn send_capture<A: Allocator + Copy, K: ByteSink>(
+    alloc: A,
+    job: &Job,
+    inputs: &[JobInput<'_, A>],
+    max_octets: u32,
+    stamp: Stamp,
+    sink: &mut K,
+) -> Result<u32, SendJobFault>
+    requires bases { AllByRecursion HasBase inputs.now }
+    requires payload_type { stamp.payload_type ≤ 127 }
+    ensures written { WritesJob
+        (λ ds. IsSentJob ds job.now (settled_inputs inputs.now) max_octets stamp)
+        K.held K.failures stamp.first sink.old sink.new result }
+    ensures sendable { OnOk result
+        (IsSendable job.now (input_formats inputs.now) max_octets) }
+    ensures fault { IfErr result
+        (λ e. IsSendFault e job.now (input_formats inputs.now) max_octets) }
+{
+    let mut capture = LateCapture::new(&mut *sink);
+    let answer = send_job(alloc, job, inputs, max_octets, stamp, &mut capture);
+    let _ = capture.into_inner();
+    answer
+}
+
+/// A fault of the sending as one that ends a run.
+fn send_job_fault(fault: SendJobFault) -> Fault
+    ensures { result ≡ of_send_job fault }
+{
+    match fault {
+        SendJobFault::Job(fault) => Fault::from(fault),
+        SendJobFault::BadPacketSize => Fault::from(PlanFault::BadPacketSize),
+        SendJobFault::Sink { .. } => Fault::Device,
+    }
+}

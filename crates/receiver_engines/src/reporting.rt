@@ -1,0 +1,37 @@
+//! The engine of `report`.
+ghost use Rattle.std.specs.Prelude.{◌≡◌, ◌∷◌, [], IfErr, OnOk};
+ghost use Rattle.run_outcome.specs.Fault.{Accounts, IfRefused, counts};
+ghost use Rattle.receiver_engines.specs.States.{IsStateRefusal};
+ghost use Rattle.run_outcome.specs.Refusing.{OfRefusal};
+ghost use Rattle.receiver_engines.specs.Reporting.{Reports};
+
+use crate::states::read_receiver;
+use frame_report::write_report;
+use run_outcome::Fault;
+use st_format::{ByteSink, ByteSource};
+use std::alloc::Allocator;
+
+/// Prints what a receiver lacks that was written as a file: its report is written to `output`.
+///
+/// # Errors
+///
+/// A refusal where the file is refused, before anything is written to `output`; and else that a
+/// device failed or memory was wanted.
+pub fn report<A, S, O>(alloc: A, state: &mut S, output: &mut O) -> Result<(), Fault>
+where
+    A: Allocator + Copy,
+    S: ByteSource,
+    O: ByteSink,
+    ensures reported { OnOk result
+        (Reports (S.to_give state.old) (O.held output.old) (O.held output.new)) }
+    ensures refused { IfErr result (λ f. IfRefused f (output.new ≡ output.old)) }
+    ensures refusal { IfErr result (λ f. OfRefusal f (IsStateRefusal (S.to_give state.old))) }
+    ensures failures { Accounts result (counts (S.failures state.old) (S.failures state.new)
+        ∷ counts (O.failures output.old) (O.failures output.new) ∷ []) }
+{
+    let receiver = read_receiver(alloc, state)?;
+    match write_report(&receiver, output) {
+        Ok(()) => Ok(()),
+        Err(_) => Err(Fault::Device),
+    }
+}

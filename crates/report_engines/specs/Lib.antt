@@ -1,3 +1,0 @@
-pub mod Looping
-pub mod Reporting
-pub mod Looped

@@ -1,0 +1,6 @@
+pub mod CommaLemmas
+pub mod Ended
+pub mod TextLines
+pub mod Printed
+pub mod Refusals
+pub mod SetSums

@@ -1,0 +1,244 @@
+-- Which refusal ends a run, and that it is told.
+use Rattle.std.proofs.Common.{◌≡◌, ℕ, ◌≤◌, ◌⊎◌, inl, inr, List, [], ◌++◌, length, Option, None}
+use Rattle.std.proofs.Common.{Some, Result, Ok, Err, IfErr, refl, ap, append-nil, arith}
+use Rattle.std.proofs.Common.{length-append, subst, sym, ◌∙◌}
+use Rattle.std.specs.Prelude.{⊤}
+use Rattle.std.specs.Io.KnownBytes.{Appends, Consumes, IsAtEnd}
+use Rattle.capture_file.specs.Faults.{IfContent}
+use Rattle.capture_file.specs.PictureFaults.{IsPictureFault}
+use Rattle.capture_file.specs.declared.fault.FileFault.{FileFault}
+use Rattle.capture_file.specs.declared.fault.FileFault.TheVariants.{NoMemory, Device, BadName}
+use Rattle.capture_file.specs.declared.fault.FileFault.TheVariants.{BadVersion, Truncated, BadField}
+use Rattle.capture_file.specs.declared.fault.FileFault.TheVariants.{TrailingBytes, MixedGroup}
+use Rattle.capture_file.specs.declared.fault.FileFault.TheVariants.{TooManyRecords}
+use Rattle.st_format.specs.Device.{AreOctets}
+use Rattle.sdp_format.specs.Bytes.{lines}
+use Rattle.sdp_format.specs.Grammar.{IsTextFault}
+use Rattle.sdp_format.specs.Sections.{video_sections}
+use Rattle.sdp_format.specs.declared.fault.SdpFault.{SdpFault}
+use Rattle.sdp_format.specs.declared.fault.SdpFault.TheVariants as sdp
+use Rattle.run_outcome.specs.Status.{status_number}
+use Rattle.run_outcome.specs.Telling.{IsRefusalLine, TellsLine, memory_line}
+use Rattle.run_outcome.specs.declared.status.Status.{Status}
+use Rattle.run_outcome.specs.declared.status.Status.TheVariants as ended
+use Rattle.run_outcome.specs.Fault.{IfRefused, TellsFault}
+use Rattle.run_outcome.specs.LowerFaults.{of_sdp, picture_fault}
+use Rattle.run_outcome.specs.RefusalText.{refusal_text}
+use Rattle.run_outcome.specs.TextRefusals.{HasTextFault, IsSdpRefusal, IsTextRefusal}
+use Rattle.run_outcome.specs.Refusing.{OfRefusal, TellsOutcome, TellsRefusal}
+use Rattle.run_outcome.specs.Pictures.{IsPictureRefusal}
+use Rattle.run_outcome.specs.Text.{GivesMore, GivesText}
+use Rattle.run_outcome.specs.declared.fault.Fault.{Fault}
+use Rattle.run_outcome.specs.declared.fault.Fault.TheVariants as fault
+use Rattle.run_outcome.specs.declared.refusal.Refusal.{Refusal}
+
+-- ---- what holds of a refusal
+
+pub of_refusal_map : {P Q : Refusal → Type 0} (f : Fault) → ((r : Refusal) → P r → Q r)
+    → OfRefusal f P → OfRefusal f Q
+of_refusal_map (fault.Refused r) then is = then r is
+of_refusal_map fault.Device then is = tt
+of_refusal_map fault.Memory then is = tt
+
+pub if_err_map : {V E : Type 0} {P Q : E → Type 0} (r : Result V E) → ((e : E) → P e → Q e)
+    → IfErr r P → IfErr r Q
+if_err_map (Ok v) f p = p
+if_err_map (Err e) f p = f e p
+
+-- of a run that isn't refused anything holds where it is
+pub none_refused : (P : Refusal → Type 0) (f : Fault) → IfRefused f ⊥ → OfRefusal f P
+none_refused P (fault.Refused r) none = absurd none
+none_refused P fault.Device none = tt
+none_refused P fault.Memory none = tt
+
+pub if_none_refused : {V : Type 0} (P : Refusal → Type 0) (r : Result V Fault)
+    → IfErr r (λ f. IfRefused f ⊥) → IfErr r (λ f. OfRefusal f P)
+if_none_refused P (Ok v) none = tt
+if_none_refused P (Err f) none = none_refused P f none
+
+-- any refusal is one
+pub any_refusal : (f : Fault) → OfRefusal f (λ _. ⊤)
+any_refusal (fault.Refused r) = tt
+any_refusal fault.Device = tt
+any_refusal fault.Memory = tt
+
+-- ---- what is told
+
+-- at status 1 a line was told whole, which is that of the status
+pub line_told : (status : Status) (line : List ℕ) (result : Status) (old new : ℕ)
+    (held held' : Option (List ℕ)) → TellsLine status line result old new held held'
+    → status_number result ≡ 1 → (result ≡ status) × Appends held held' line
+line_told status line result old new held held' (inl is) one = (is.0, is.2)
+line_told status line result old new held held' (inr is) one =
+    let three : status_number result ≡ 3 = ap status_number is.0 in
+    absurd (omega (arith, one, three))
+
+told_of_line : (Is : Refusal → Type 0) (r : Refusal) → Is r → (status : Status) (line : List ℕ)
+    (held held' : Option (List ℕ)) → IsRefusalLine (refusal_text r) status line
+    → status_number status ≡ 1 → Appends held held' line → TellsRefusal Is held held'
+told_of_line Is r is status line held held' (inl told) one taken = record {
+  refusal = r;
+  is = is;
+  told = subst (λ (l : List ℕ). Appends held held' l) told.1 taken;
+}
+told_of_line Is r is status line held held' (inr told) one taken =
+    let four : status_number status ≡ 4 = ap status_number told.0 in
+    absurd (omega (arith, one, four))
+
+-- where a run ends with status 1, a refusal was told
+pub refusal_told : (Is : Refusal → Type 0) (f : Fault) (result : Status) (old new : ℕ)
+    (held held' : Option (List ℕ)) → TellsFault f result old new held held'
+    → OfRefusal f Is → status_number result ≡ 1 → TellsRefusal Is held held'
+refusal_told Is (fault.Refused r) result old new held held' tells is one =
+    let told = line_told tells.0 tells.1 result old new held held' tells.3 one in
+    told_of_line Is r is tells.0 tells.1 held held' tells.2
+    (sym (ap status_number told.0) ∙ one) told.1
+refusal_told Is fault.Device result old new held held' tells is one =
+    let told = line_told tells.0 tells.1 result old new held held' tells.3 one in
+    let three : status_number result ≡ 3 = ap status_number (told.0 ∙ tells.2.0) in
+    absurd (omega (arith, one, three))
+refusal_told Is fault.Memory result old new held held' tells is one =
+    let told = line_told tells.0 tells.1 result old new held held' tells.3 one in
+    let four : status_number result ≡ 4 = ap status_number (told.0 ∙ tells.2.0) in
+    absurd (omega (arith, one, four))
+
+-- where memory was wanted the status isn't 1
+pub memory_told : (Is : Refusal → Type 0) (result : Status) (old new : ℕ)
+    (held held' : Option (List ℕ)) → TellsLine ended.Memory memory_line result old new held held'
+    → status_number result ≡ 1 → TellsRefusal Is held held'
+memory_told Is result old new held held' tells one =
+    let told = line_told ended.Memory memory_line result old new held held' tells one in
+    let four : status_number result ≡ 4 = ap status_number told.0 in
+    absurd (omega (arith, one, four))
+
+-- a fault is the refusal that it is
+pub own_refusal : (f : Fault) → OfRefusal f (λ r. f ≡ fault.Refused r)
+own_refusal (fault.Refused r) = refl
+own_refusal fault.Device = tt
+own_refusal fault.Memory = tt
+
+-- where what a run came to was told as a refusal, what holds of a refusal holds of that
+pub outcome_told : {V : Type 0} (Is : Refusal → Type 0) (r : Result V Fault)
+    (held held' : Option (List ℕ)) → TellsOutcome r held held' → IfErr r (λ f. OfRefusal f Is)
+    → TellsRefusal Is held held'
+outcome_told Is (Ok v) held held' told is = absurd told
+outcome_told Is (Err f) held held' told is = record {
+  refusal = told.refusal;
+  is = subst (λ (g : Fault). OfRefusal g Is) told.is is;
+  told = told.told;
+}
+
+-- ---- merge
+
+-- ---- migrate
+
+abbrev octets_or : List ℕ → Option (List ℕ) → List ℕ
+octets_or other None = other
+octets_or other (Some octets) = octets
+
+no_octets : (octets : List ℕ) → (let o : Option (List ℕ) = None in o ≡ Some octets) → ⊥
+no_octets octets none = cc
+
+-- what a source that tells its octets gave, up to its end, is all that it was to give
+pub all_given : (old new : Option (List ℕ)) (given octets : List ℕ) → Consumes old new given
+    → IsAtEnd new → old ≡ Some octets → octets ≡ given
+all_given None new given octets gives ends told = absurd (no_octets octets told)
+all_given (Some all) None given octets gives ends told = absurd gives
+all_given (Some all) (Some left) given octets gives ends told =
+    sym (ap (octets_or []) told) ∙ gives ∙ ap (λ l. given ++ l) ends ∙ append-nil given
+
+-- and it was to give at least what it gave
+pub some_given : (old new : Option (List ℕ)) (given octets : List ℕ) → Consumes old new given
+    → old ≡ Some octets → length given ≤ length octets
+some_given None new given octets gives told = absurd (no_octets octets told)
+some_given (Some all) None given octets gives told = absurd gives
+some_given (Some all) (Some left) given octets gives told =
+    let counted : length octets ≡ length (given ++ left) =
+    ap length (sym (ap (octets_or []) told) ∙ gives) in
+    omega (arith, counted, length-append given left)
+
+-- a text that is too long is refused so
+pub long_refused : (too_long : Refusal) (old new : Option (List ℕ)) → GivesMore 65535 old new
+    → IsTextRefusal too_long old too_long
+long_refused too_long old new gives = inl (
+  refl,
+  λ octets told.
+      let some = some_given old new gives.octets octets gives.given told in
+      omega (arith, some, gives.many),
+)
+
+-- what is said of a text that was read is said of what the source was to give
+pub of_source : (Is : List ℕ → Type 0) (old new : Option (List ℕ)) (text : List ℕ)
+    → GivesText 65535 old new text → Is text → (octets : List ℕ) → old ≡ Some octets → Is octets
+of_source Is old new text gives is octets told =
+    subst Is (sym (all_given old new text octets gives.given gives.ended told)) is
+
+either : {X Y : Type 0} → (X → ⊥) → X ⊎ Y → Y
+either none (inl x) = absurd (none x)
+either none (inr y) = y
+
+-- a fault of an SDP text as a refusal
+sdp_refused : (told : Option (List ℕ)) (f : SdpFault) → (f ≡ sdp.NoMemory) ⊎ HasTextFault told f
+    → OfRefusal (of_sdp f) (IsSdpRefusal told)
+sdp_refused told sdp.NoMemory is = tt
+sdp_refused told sdp.NoVideo is =
+    either (λ memory. let e : sdp.NoVideo ≡ sdp.NoMemory = memory in cc) is
+sdp_refused told sdp.TooManyLegs is =
+    either (λ memory. let e : sdp.TooManyLegs ≡ sdp.NoMemory = memory in cc) is
+sdp_refused told sdp.BadMediaLine is =
+    either (λ memory. let e : sdp.BadMediaLine ≡ sdp.NoMemory = memory in cc) is
+sdp_refused told sdp.NoRtpmap is =
+    either (λ memory. let e : sdp.NoRtpmap ≡ sdp.NoMemory = memory in cc) is
+sdp_refused told sdp.NotRaw90000 is =
+    either (λ memory. let e : sdp.NotRaw90000 ≡ sdp.NoMemory = memory in cc) is
+sdp_refused told sdp.NoFmtp is =
+    either (λ memory. let e : sdp.NoFmtp ≡ sdp.NoMemory = memory in cc) is
+sdp_refused told sdp.BadParameter is =
+    either (λ memory. let e : sdp.BadParameter ≡ sdp.NoMemory = memory in cc) is
+sdp_refused told sdp.DoubleParameter is =
+    either (λ memory. let e : sdp.DoubleParameter ≡ sdp.NoMemory = memory in cc) is
+sdp_refused told sdp.MissingParameter is =
+    either (λ memory. let e : sdp.MissingParameter ≡ sdp.NoMemory = memory in cc) is
+sdp_refused told sdp.UnsupportedSampling is =
+    either (λ memory. let e : sdp.UnsupportedSampling ≡ sdp.NoMemory = memory in cc) is
+sdp_refused told sdp.UnsupportedDepth is =
+    either (λ memory. let e : sdp.UnsupportedDepth ≡ sdp.NoMemory = memory in cc) is
+sdp_refused told sdp.Interlaced is =
+    either (λ memory. let e : sdp.Interlaced ≡ sdp.NoMemory = memory in cc) is
+sdp_refused told sdp.UnsupportedPacking is =
+    either (λ memory. let e : sdp.UnsupportedPacking ≡ sdp.NoMemory = memory in cc) is
+sdp_refused told sdp.BadSsn is =
+    either (λ memory. let e : sdp.BadSsn ≡ sdp.NoMemory = memory in cc) is
+sdp_refused told sdp.BadFormat is =
+    either (λ memory. let e : sdp.BadFormat ≡ sdp.NoMemory = memory in cc) is
+sdp_refused told sdp.LegsDiffer is =
+    either (λ memory. let e : sdp.LegsDiffer ≡ sdp.NoMemory = memory in cc) is
+
+-- the same, of a text that was read to its end
+pub text_fault_refused : (too_long : Refusal) (old new : Option (List ℕ)) (text : List ℕ)
+    → GivesText 65535 old new text → (f : SdpFault)
+    → (f ≡ sdp.NoMemory) ⊎ IsTextFault (video_sections (lines text)) f
+    → OfRefusal (of_sdp f) (IsTextRefusal too_long old)
+text_fault_refused too_long old new text gives f is =
+    of_refusal_map (of_sdp f) (λ r said. inr said) (sdp_refused old f (of_text is))
+  where
+    of_text : (f ≡ sdp.NoMemory) ⊎ IsTextFault (video_sections (lines text)) f
+        → (f ≡ sdp.NoMemory) ⊎ HasTextFault old f
+    of_text (inl memory) = inl memory
+    of_text (inr fault) = inr (λ octets told.
+        subst (λ (l : List ℕ). IsTextFault (video_sections (lines l)) f)
+        (sym (all_given old new text octets gives.given gives.ended told)) fault)
+
+-- a fault of a picture's file as a refusal
+pub picture_refused : (told : Option (List ℕ)) (f : FileFault)
+    → ((octets : List ℕ) → told ≡ Some octets → AreOctets octets
+    → IfContent f (IsPictureFault f octets)) → OfRefusal (picture_fault f) (IsPictureRefusal told)
+picture_refused told NoMemory wrong = tt
+picture_refused told Device wrong = tt
+picture_refused told BadName wrong = wrong
+picture_refused told BadVersion wrong = wrong
+picture_refused told Truncated wrong = wrong
+picture_refused told BadField wrong = wrong
+picture_refused told TrailingBytes wrong = wrong
+picture_refused told MixedGroup wrong = wrong
+picture_refused told TooManyRecords wrong = wrong

@@ -1,0 +1,41 @@
+use Rattle.std.proofs.Common.{rules, ◌≡◌, ◌⊎◌, List, ℕ, subst}
+use Rattle.std.proofs.lemmas.Result.{err_from_is_err_and}
+use Rattle.sdp_format.specs.Bytes.{lines}
+use Rattle.sdp_format.specs.Grammar.{IsDescribed, IsTextFault}
+use Rattle.sdp_format.specs.Sections.{video_sections}
+use Rattle.sdp_format.specs.Views.{description}
+use Rattle.sdp_format.specs.declared.fault.SdpFault.TheVariants.{NoMemory}
+use Rattle.run_outcome.specs.TextRefusals.{IsCaptureText}
+use Rattle.run_outcome.specs.Text.{GivesText}
+use Rattle.run_outcome.proofs.Refusals.{of_source, text_fault_refused}
+use Rattle.run_outcome.proofs.text.read_checked.Goals as goal
+
+pub returns-in_err-read_sdp-clause-refusal : goal.returns-in_err-read_sdp-clause-refusal
+returns-in_err-read_sdp-clause-refusal g c =
+    let said = c.in-Some.said.items in
+    let old = g.S.ByteSource.to_give c.args.source.now in
+    let new = g.S.ByteSource.to_give c.read_text.new.source in
+    let gives : GivesText 65535 old new said = search rules in
+    let fault = c.in_err-read_sdp.field-0.0 in
+    let faulty : (fault ≡ NoMemory) ⊎ IsTextFault (video_sections (lines said)) fault =
+    subst (λ (l : List ℕ). (fault ≡ NoMemory) ⊎ IsTextFault (video_sections (lines l)) fault)
+    c.deref.ensures.value c.in_err-read_sdp.ensures.fault in
+    let p =
+    err_from_is_err_and c.from_residual-in_err-read_sdp.result
+    c.from_residual-in_err-read_sdp.ensures.1 in
+    rw (p.1, p.2) (text_fault_refused c.args.too_long old new said gives fault faulty)
+
+pub returns-clause-says : goal.returns-clause-says
+returns-clause-says g c =
+    let said = c.in-Some.said.items in
+    let old = g.S.ByteSource.to_give c.args.source.now in
+    let new = g.S.ByteSource.to_give c.read_text.new.source in
+    let gives : GivesText 65535 old new said = search rules in
+    let sdp = description c.in_ok-read_sdp.field-0 in
+    of_source IsCaptureText old new said gives (record {
+      few = gives.few;
+      description = sdp;
+      described =
+          subst (λ (l : List ℕ). IsDescribed (video_sections (lines l)) sdp)
+          c.deref.ensures.value c.in_ok-read_sdp.ensures.said;
+    })

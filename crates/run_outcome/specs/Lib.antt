@@ -1,0 +1,13 @@
+pub mod Status
+pub mod Timestamps
+pub mod Sources
+pub mod Telling
+pub mod RefusalText
+pub mod Fault
+pub mod LowerFaults
+pub mod Refusing
+pub mod Frames
+pub mod Line
+pub mod Text
+pub mod TextRefusals
+pub mod Pictures

@@ -1,0 +1,48 @@
+-- What is printed of a refusal: its subject, its number and its name (own).
+use Rattle.std.specs.Prelude.{ℕ, List, ◌++◌, codes}
+use Rattle.std.specs.Fmt.{decimal}
+use Rattle.capture_file.specs.Faults.{file_fault_name, file_fault_number}
+use Rattle.key_mix.specs.Faults.{job_fault_name, job_fault_number}
+use Rattle.packet_numbers.specs.Numbers.{seq_map_fault_name, seq_map_fault_number}
+use Rattle.packet_plan.specs.Faults.{plan_fault_name, plan_fault_number}
+use Rattle.path_merge.specs.Answers.{open_fault_name, open_fault_number}
+use Rattle.path_merge.specs.PlayFault.{play_fault_name, play_fault_number}
+use Rattle.sdp_format.specs.Faults.{sdp_fault_name, sdp_fault_number}
+use Rattle.st_format.specs.Faults.{format_fault_name, format_fault_number}
+use Rattle.run_outcome.specs.Telling.{numbered_name}
+use Rattle.run_outcome.specs.declared.refusal.Refusal.{Refusal}
+use Rattle.run_outcome.specs.declared.refusal.Refusal.TheVariants as refusal
+
+abbrev pub refusal_text : Refusal → List ℕ
+refusal_text (refusal.Script line) = codes "script " ++ decimal line
+refusal_text refusal.MigrateSdp = codes "migrate 1 SdpTooLong"
+refusal_text refusal.ReceiveWindow = codes "receive 1 BadWindowText"
+refusal_text refusal.ReceiveSource = codes "receive 2 BadSource"
+refusal_text refusal.ReceiveSdp = codes "receive 3 SdpTooLong"
+refusal_text refusal.ReceiveNoSdp = codes "receive 4 NoSdp"
+refusal_text refusal.SendFormats = codes "send 1 FormatsDiffer"
+refusal_text refusal.SendPictures = codes "send 2 TooManyPictures"
+refusal_text refusal.SendSdp = codes "send 3 SdpTooLong"
+refusal_text refusal.MergeUnlike = codes "merge 1 OpenedUnlike"
+refusal_text refusal.ProcessJob = codes "process 1 BadJob"
+refusal_text refusal.ProcessFrame = codes "process 2 NoFrame"
+refusal_text refusal.ProcessFill = codes "process 3 BadFill"
+refusal_text refusal.ProcessHold = codes "process 4 HoldDiffers"
+refusal_text (refusal.Format f) =
+    numbered_name (codes "format ") (format_fault_number f) (format_fault_name f)
+refusal_text (refusal.Numbers f) =
+    numbered_name (codes "numbers ") (seq_map_fault_number f) (seq_map_fault_name f)
+refusal_text (refusal.Play f) =
+    numbered_name (codes "play ") (play_fault_number f) (play_fault_name f)
+refusal_text (refusal.Sdp f) = numbered_name (codes "sdp ") (sdp_fault_number f) (sdp_fault_name f)
+refusal_text (refusal.Open f) =
+    numbered_name (codes "open ") (open_fault_number f) (open_fault_name f)
+refusal_text (refusal.Plan f) =
+    numbered_name (codes "plan ") (plan_fault_number f) (plan_fault_name f)
+refusal_text (refusal.Job f) = numbered_name (codes "job ") (job_fault_number f) (job_fault_name f)
+refusal_text (refusal.Capture f) =
+    numbered_name (codes "capture ") (file_fault_number f) (file_fault_name f)
+refusal_text (refusal.Picture f) =
+    numbered_name (codes "picture ") (file_fault_number f) (file_fault_name f)
+refusal_text (refusal.State f) =
+    numbered_name (codes "state ") (file_fault_number f) (file_fault_name f)

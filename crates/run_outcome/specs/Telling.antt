@@ -1,0 +1,30 @@
+-- Lines that tell how a run ended.
+use Rattle.std.specs.Prelude.{◌≡◌, ℕ, ◌⊎◌, List, ◌++◌, codes, Option}
+use Rattle.std.specs.Fmt.{decimal}
+use Rattle.std.specs.Io.KnownBytes.{Appends}
+use Rattle.st_format.specs.Device.{Failed}
+use Rattle.run_outcome.specs.declared.status.Status.{Status}
+use Rattle.run_outcome.specs.declared.status.Status.TheVariants.{Refused, Device, Memory}
+
+-- A line was told: the sink took it whole, or it failed, and then the run ends by that
+abbrev pub TellsLine : Status → List ℕ → Status → ℕ → ℕ
+    → Option (List ℕ) → Option (List ℕ) → Type 0
+TellsLine status line result old new held held' =
+    ((result ≡ status) × (new ≡ old) × Appends held held' line)
+    ⊎ ((result ≡ Device) × Failed old new)
+
+abbrev pub device_line : List ℕ
+device_line = codes "st2110: device\n"
+
+abbrev pub memory_line : List ℕ
+memory_line = codes "st2110: memory\n"
+
+-- the line of a refusal with this text; where memory is wanted for it, that of memory
+abbrev pub IsRefusalLine : List ℕ → Status → List ℕ → Type 0
+IsRefusalLine text status line =
+    ((status ≡ Refused) × (line ≡ codes "st2110: " ++ text ++ codes "\n"))
+    ⊎ ((status ≡ Memory) × (line ≡ memory_line))
+
+-- a subject, a number and a name, parted by spaces
+abbrev pub numbered_name : List ℕ → ℕ → List ℕ → List ℕ
+numbered_name subject number name = subject ++ (decimal number ++ (codes " " ++ name))

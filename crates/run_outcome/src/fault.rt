@@ -1,0 +1,174 @@
+//! What ends a run before its end.
+ghost use Rattle.std.specs.Prelude.{◌≡◌};
+ghost use Rattle.run_outcome.specs.LowerFaults.{capture_fault, file_fault, picture_fault};
+ghost use Rattle.run_outcome.specs.LowerFaults.{state_fault};
+
+use crate::refusal::Refusal;
+use capture_file::FileFault;
+use key_mix::JobFault;
+use packet_numbers::SeqMapFault;
+use packet_plan::PlanFault;
+use path_merge::{OpenFault, PlayFault};
+use sdp_format::SdpFault;
+use st_format::{DeviceFault, FormatFault};
+use std::alloc::AllocError;
+
+/// What ends a run before its end.
+#[derive(Clone, Copy)]
+pub enum Fault {
+    /// The words or the files are refused.
+    Refused(Refusal),
+    /// A device failed.
+    Device,
+    /// Memory was wanted.
+    Memory,
+}
+
+impl From<AllocError> for Fault {
+    ghost use Rattle.std.specs.Prelude.{◌≡◌};
+    ghost use Rattle.run_outcome.specs.declared.fault.Fault.TheVariants.{Memory};
+
+    ghost from_gives = { λ _ fault. fault ≡ Memory };
+
+    fn from(_: AllocError) -> Fault {
+        Fault::Memory
+    }
+}
+
+impl From<DeviceFault> for Fault {
+    ghost use Rattle.std.specs.Prelude.{◌≡◌};
+    ghost use Rattle.run_outcome.specs.declared.fault.Fault.TheVariants.{Device};
+
+    ghost from_gives = { λ _ fault. fault ≡ Device };
+
+    fn from(_: DeviceFault) -> Fault {
+        Fault::Device
+    }
+}
+
+impl From<SdpFault> for Fault {
+    ghost use Rattle.std.specs.Prelude.{◌≡◌};
+    ghost use Rattle.run_outcome.specs.LowerFaults.{of_sdp};
+
+    ghost from_gives = { λ refusal fault. fault ≡ of_sdp refusal };
+
+    fn from(refusal: SdpFault) -> Fault {
+        match refusal {
+            SdpFault::NoMemory => Fault::Memory,
+            refusal => Fault::Refused(Refusal::Sdp(refusal)),
+        }
+    }
+}
+
+impl From<OpenFault> for Fault {
+    ghost use Rattle.std.specs.Prelude.{◌≡◌};
+    ghost use Rattle.run_outcome.specs.LowerFaults.{of_open};
+
+    ghost from_gives = { λ refusal fault. fault ≡ of_open refusal };
+
+    fn from(refusal: OpenFault) -> Fault {
+        match refusal {
+            OpenFault::NoMemory => Fault::Memory,
+            refusal => Fault::Refused(Refusal::Open(refusal)),
+        }
+    }
+}
+
+impl From<PlanFault> for Fault {
+    ghost use Rattle.std.specs.Prelude.{◌≡◌};
+    ghost use Rattle.run_outcome.specs.LowerFaults.{of_plan};
+
+    ghost from_gives = { λ refusal fault. fault ≡ of_plan refusal };
+
+    fn from(refusal: PlanFault) -> Fault {
+        match refusal {
+            PlanFault::NoMemory => Fault::Memory,
+            refusal => Fault::Refused(Refusal::Plan(refusal)),
+        }
+    }
+}
+
+impl From<JobFault> for Fault {
+    ghost use Rattle.std.specs.Prelude.{◌≡◌};
+    ghost use Rattle.run_outcome.specs.LowerFaults.{of_job};
+
+    ghost from_gives = { λ refusal fault. fault ≡ of_job refusal };
+
+    fn from(refusal: JobFault) -> Fault {
+        match refusal {
+            JobFault::NoMemory => Fault::Memory,
+            refusal => Fault::Refused(Refusal::Job(refusal)),
+        }
+    }
+}
+
+impl From<FormatFault> for Fault {
+    ghost use Rattle.std.specs.Prelude.{◌≡◌};
+    ghost use Rattle.run_outcome.specs.LowerFaults.{of_format};
+
+    ghost from_gives = { λ refusal fault. fault ≡ of_format refusal };
+
+    fn from(refusal: FormatFault) -> Fault {
+        Fault::Refused(Refusal::Format(refusal))
+    }
+}
+
+impl From<SeqMapFault> for Fault {
+    ghost use Rattle.std.specs.Prelude.{◌≡◌};
+    ghost use Rattle.run_outcome.specs.LowerFaults.{of_numbers};
+
+    ghost from_gives = { λ refusal fault. fault ≡ of_numbers refusal };
+
+    fn from(refusal: SeqMapFault) -> Fault {
+        match refusal {
+            SeqMapFault::NoMemory => Fault::Memory,
+            refusal => Fault::Refused(Refusal::Numbers(refusal)),
+        }
+    }
+}
+
+impl From<PlayFault> for Fault {
+    ghost use Rattle.std.specs.Prelude.{◌≡◌};
+    ghost use Rattle.run_outcome.specs.LowerFaults.{of_play};
+
+    ghost from_gives = { λ refusal fault. fault ≡ of_play refusal };
+
+    fn from(refusal: PlayFault) -> Fault {
+        match refusal {
+            PlayFault::NoMemory => Fault::Memory,
+            refusal => Fault::Refused(Refusal::Play(refusal)),
+        }
+    }
+}
+
+/// A fault of a capture.
+pub fn of_capture(fault: FileFault) -> Fault
+    ensures { result ≡ capture_fault fault }
+{
+    of_file(fault, Refusal::Capture(fault))
+}
+
+/// A fault of a picture's file.
+pub fn of_picture(fault: FileFault) -> Fault
+    ensures { result ≡ picture_fault fault }
+{
+    of_file(fault, Refusal::Picture(fault))
+}
+
+/// A fault of a receiver's file.
+pub fn of_state(fault: FileFault) -> Fault
+    ensures { result ≡ state_fault fault }
+{
+    of_file(fault, Refusal::State(fault))
+}
+
+/// A fault of a file, which is this refusal where it is one of the content.
+fn of_file(fault: FileFault, refusal: Refusal) -> Fault
+    ensures { result ≡ file_fault fault refusal }
+{
+    match fault {
+        FileFault::Device => Fault::Device,
+        FileFault::NoMemory => Fault::Memory,
+        _ => Fault::Refused(refusal),
+    }
+}

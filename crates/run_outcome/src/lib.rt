@@ -1,0 +1,29 @@
+//! How a run of the program ends, and what it says: statuses, faults, the refusals of all commands,
+//! lines of output, and what the engines read alike.
+#![tactic(auto)]
+
+mod ending;
+mod fault;
+mod line;
+mod pictures;
+mod printing;
+mod refusal;
+mod sources;
+mod status;
+mod telling;
+mod text;
+mod text_line;
+mod timestamps;
+mod words;
+
+pub use ending::end;
+pub use fault::{Fault, of_capture, of_picture, of_state};
+pub use line::Line;
+pub use pictures::{read_packed, read_unpacked};
+pub use printing::{print, print_frames};
+pub use refusal::Refusal;
+pub use sources::read_source;
+pub use status::Status;
+pub use text::{read_checked, read_text, room};
+pub use timestamps::read_timestamps;
+pub use words::after_word;

@@ -1,0 +1,49 @@
+//! Pictures' files, whose faults are told as an engine tells them.
+ghost use Rattle.std.specs.Prelude.{◌∷◌, [], IfErr, IfOk};
+ghost use Rattle.run_outcome.specs.Fault.{Accounts, counts};
+ghost use Rattle.run_outcome.specs.Refusing.{OfRefusal};
+ghost use Rattle.run_outcome.specs.Pictures.{IsPictureRefusal, SaysFormat, SaysPicture};
+
+use crate::fault::{Fault, of_picture};
+use capture_file::{read_packed_picture, read_picture};
+use pgroup_pack::PackedPicture;
+use st_format::{ByteSource, Picture};
+use std::alloc::Allocator;
+
+/// Reads a picture.
+///
+/// # Errors
+///
+/// A refusal (`Refusal::Picture`) where the octets are no picture's file, and else that a device or
+/// the allocator failed.
+pub fn read_unpacked<A: Allocator, S: ByteSource>(
+    alloc: A,
+    source: &mut S,
+) -> Result<Picture<A>, Fault>
+    ensures says { IfOk result (λ p. SaysPicture (S.to_give source.old) p) }
+    ensures refusal { IfErr result (λ f. OfRefusal f (IsPictureRefusal (S.to_give source.old))) }
+    ensures failures { Accounts result (counts (S.failures source.old) (S.failures source.new)
+        ∷ []) }
+{
+    match read_picture(alloc, source) {
+        Ok(picture) => Ok(picture),
+        Err(fault) => Err(of_picture(fault)),
+    }
+}
+
+/// Reads a picture into this memory, its pgroups packed.
+pub fn read_packed<A: Allocator, S: ByteSource>(
+    source: &mut S,
+    room: Vec<u8, A>,
+) -> Result<PackedPicture<A>, Fault>
+    ensures shows { IfOk result (λ p. SaysPicture (S.to_give source.old) p) }
+    ensures says { IfOk result (λ p. SaysFormat (S.to_give source.old) p.format) }
+    ensures refusal { IfErr result (λ f. OfRefusal f (IsPictureRefusal (S.to_give source.old))) }
+    ensures failures { Accounts result (counts (S.failures source.old) (S.failures source.new)
+        ∷ []) }
+{
+    match read_packed_picture(source, room) {
+        Ok(picture) => Ok(picture),
+        Err(fault) => Err(of_picture(fault)),
+    }
+}

@@ -1,0 +1,73 @@
+//! Printing what a run says.
+ghost use Rattle.std.specs.Prelude.{◌++◌, ◌∷◌, [], IfErr, OnErr, OnOk};
+ghost use Rattle.std.specs.Io.KnownBytes.{Appends};
+ghost use Rattle.st_format.specs.Device.{AppendsPrefix};
+ghost use Rattle.run_outcome.specs.Fault.{Accounts, IfRefused, counts};
+ghost use Rattle.run_outcome.specs.Frames.{frame_line_at, frames_text};
+ghost use Rattle.run_outcome.specs.Line.{line_text};
+
+use crate::fault::Fault;
+use crate::line::Line;
+use crate::text_line::line_of;
+use path_merge::Receiver;
+use st_format::{ByteSink, write_whole};
+use std::alloc::Allocator;
+
+/// Prints a line for the frame of each timestamp of a receiver's window.
+pub fn print_frames<A: Allocator, O: ByteSink>(
+    receiver: &Receiver<A>,
+    output: &mut O,
+) -> Result<(), Fault>
+    ensures printed { OnOk result
+        (Appends (O.held output.old) (O.held output.new) (frames_text receiver.now)) }
+    ensures cut { OnErr result
+        (AppendsPrefix (O.held output.old) (O.held output.new) (frames_text receiver.now)) }
+    ensures unrefused { IfErr result (λ f. IfRefused f ⊥) }
+    ensures failures { Accounts result (counts (O.failures output.old) (O.failures output.new)
+        ∷ []) }
+{
+    for timestamp in receiver.window() {
+        print_frame(receiver, *timestamp, output)?;
+    }
+    Ok(())
+}
+
+/// Prints the line of a receiver's frame of a timestamp, where it has one.
+fn print_frame<A: Allocator, O: ByteSink>(
+    receiver: &Receiver<A>,
+    timestamp: u32,
+    output: &mut O,
+) -> Result<(), Fault>
+    ensures printed { OnOk result
+        (Appends (O.held output.old) (O.held output.new) (frame_line_at receiver.now timestamp)) }
+    ensures cut { OnErr result
+        (AppendsPrefix (O.held output.old) (O.held output.new)
+        (frame_line_at receiver.now timestamp)) }
+    ensures unrefused { IfErr result (λ f. IfRefused f ⊥) }
+    ensures failures { Accounts result (counts (O.failures output.old) (O.failures output.new)
+        ∷ []) }
+{
+    let Some(frame) = receiver.frame(timestamp) else {
+        return Ok(());
+    };
+    let counts = frame.counts();
+    print(Line::Frame(timestamp, counts), output)
+}
+
+/// Prints a line, and an end of line behind it.
+pub fn print<O: ByteSink>(line: Line, output: &mut O) -> Result<(), Fault>
+    ensures printed { OnOk result
+        (Appends (O.held output.old) (O.held output.new) (line_text line ++ 10 ∷ [])) }
+    // Where a device failed or memory was wanted, a first part of it.
+    ensures cut { OnErr result
+        (AppendsPrefix (O.held output.old) (O.held output.new) (line_text line ++ 10 ∷ [])) }
+    ensures unrefused { IfErr result (λ f. IfRefused f ⊥) }
+    ensures failures { Accounts result (counts (O.failures output.old) (O.failures output.new)
+        ∷ []) }
+{
+    let Some(text) = line_of(line) else {
+        return Err(Fault::Memory);
+    };
+    write_whole(output, text.as_bytes())?;
+    Ok(())
+}

@@ -1,0 +1,96 @@
+//! Texts that are read whole, and SDP among them.
+ghost use Rattle.std.specs.Prelude.{◌≡◌, ◌≤◌, ◌<◌, ◌∷◌, [], length, vec_len, IfErr, IfOk};
+ghost use Rattle.std.specs.Prelude.{MatchOption};
+ghost use Rattle.std.specs.Io.KnownBytes.{Consumes, IsAtEnd};
+ghost use Rattle.run_outcome.specs.Fault.{Accounts, IfRefused, counts};
+ghost use Rattle.run_outcome.specs.TextRefusals.{IsTextRefusal, SaysCaptureText};
+ghost use Rattle.run_outcome.specs.Refusing.{OfRefusal};
+ghost use Rattle.run_outcome.specs.Text.{GivesMore, GivesText};
+
+use crate::fault::Fault;
+use crate::refusal::Refusal;
+use sdp_format::read_sdp;
+use st_format::{ByteSource, read_whole};
+use std::alloc::{AllocError, Allocator};
+
+/// The greatest number of octets of a capture's text, and of a datagram.
+const CAPTURE_TEXT: usize = 65_535;
+
+/// Reads an SDP text for a capture, and finds that it is one. A longer text than a capture may have
+/// is refused so.
+pub fn read_checked<A: Allocator + Copy, S: ByteSource>(
+    alloc: A,
+    source: &mut S,
+    too_long: Refusal,
+) -> Result<Vec<u8, A>, Fault>
+    ensures read { IfOk result (λ said. GivesText 65535 (S.to_give source.old)
+        (S.to_give source.new) said.items) }
+    ensures says { IfOk result (λ _. SaysCaptureText (S.to_give source.old)) }
+    ensures refusal { IfErr result (λ f. OfRefusal f
+        (IsTextRefusal too_long (S.to_give source.old))) }
+    ensures failures { Accounts result (counts (S.failures source.old) (S.failures source.new)
+        ∷ []) }
+{
+    let Some(said) = read_text(alloc, source, CAPTURE_TEXT)? else {
+        return Err(Fault::Refused(too_long));
+    };
+    read_sdp(alloc, &said)?;
+    Ok(said)
+}
+
+/// Reads a source to its end, and answers what it gave, or none where that is more than so many
+/// octets.
+pub fn read_text<A: Allocator, S: ByteSource>(
+    alloc: A,
+    source: &mut S,
+    most: usize,
+) -> Result<Option<Vec<u8, A>>, Fault>
+    requires { most ≤ 16777216 }
+    ensures read { IfOk result (λ said. MatchOption said
+        (GivesMore most (S.to_give source.old) (S.to_give source.new))
+        (λ text. GivesText most (S.to_give source.old) (S.to_give source.new) text.items)) }
+    ensures unrefused { IfErr result (λ f. IfRefused f ⊥) }
+    ensures failures { Accounts result (counts (S.failures source.old) (S.failures source.new)
+        ∷ []) }
+{
+    let octets = read_past(alloc, source, most)?;
+    if octets.len() <= most {
+        Ok(Some(octets))
+    } else {
+        Ok(None)
+    }
+}
+
+/// Reads a source to its end, or until it gave more than so many octets.
+fn read_past<A: Allocator, S: ByteSource>(
+    alloc: A,
+    source: &mut S,
+    most: usize,
+) -> Result<Vec<u8, A>, Fault>
+    requires { most ≤ 16777216 }
+    ensures given { IfOk result (λ octets. Consumes (S.to_give source.old)
+        (S.to_give source.new) octets.items) }
+    ensures whole { IfOk result (λ octets. length octets.items ≤ most
+        → IsAtEnd (S.to_give source.new)) }
+    ensures unrefused { IfErr result (λ f. IfRefused f ⊥) }
+    ensures failures { Accounts result (counts (S.failures source.old) (S.failures source.new)
+        ∷ []) }
+{
+    let mut octets = Vec::new(alloc);
+    let mut piece = [0u8; 4096];
+    while octets.len() <= most {
+        let n = read_whole(source, &mut piece)?;
+        octets.extend_from_slice(&piece[..n])?;
+        if n < piece.len() {
+            return Ok(octets);
+        }
+    }
+    Ok(octets)
+}
+
+/// Room for the octets of any datagram, and of a capture's text.
+pub fn room<A: Allocator>(alloc: A) -> Result<Vec<u8, A>, AllocError>
+    ensures { IfOk result (λ room. vec_len room ≡ 65535) }
+{
+    vec![in alloc; 0u8; CAPTURE_TEXT]
+}

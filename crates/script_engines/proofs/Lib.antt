@@ -1,0 +1,9 @@
+mod LineLemmas
+mod FrameLemmas
+mod FormLemmas
+pub mod OctetLemmas
+pub mod WindowLemmas
+mod RehearsalLemmas
+mod FaultLemmas
+mod RehearsalReading
+mod RehearsedLemmas

@@ -1,0 +1,199 @@
+-- What is played and printed of a rehearsal.
+use Rattle.std.proofs.Common.{◌≡◌, ◌⊎◌, inl, inr, Bool, ℕ, ◌+◌, ◌<◌, ◌≤◌, List, ◌++◌, length}
+use Rattle.std.proofs.Common.{get_or, take, Option, Result, Ok, Err, OnOk, OnErr, IfErr, ap}
+use Rattle.std.proofs.Common.{sym, subst, ◌∙◌, zero-add, arith}
+use Rattle.std.specs.Io.KnownBytes.{Appends}
+use Rattle.std.specs.List.{enumerate_from}
+use Rattle.std.proofs.KnownBytes.{Appends-trans}
+use Rattle.std.proofs.Math.Seq.{take-append-add}
+use Rattle.std.proofs.lemmas.List.{length-append, take-append-le}
+use Rattle.std.proofs.lemmas.List.FromFn.{get_or-enumerate_from, length-enumerate_from}
+use Rattle.packet_plan.specs.Plan.{IsFullPlan, RasterPlan}
+use Rattle.path_merge.specs.declared.schedule.event.Event.{Event}
+use Rattle.path_merge.specs.declared.schedule.play_fault.PlayFault.{PlayFault}
+use Rattle.path_merge.specs.declared.schedule.play_fault.PlayFault.TheVariants as play
+use Rattle.path_merge.specs.declared.schedule.played.Handed.{Handed}
+use Rattle.path_merge.specs.declared.schedule.played.Played.{Played}
+use Rattle.path_merge.specs.Frames.{State}
+use Rattle.st_format.specs.Device.{AppendsPrefix}
+use Rattle.st_format.specs.Picture.{Values}
+use Rattle.run_outcome.specs.declared.fault.Fault.{Fault}
+use Rattle.run_outcome.specs.declared.fault.Fault.TheVariants.{Refused, Device, Memory}
+use Rattle.script_engines.specs.declared.rehearsal.Rehearsal.{Rehearsal}
+use Rattle.run_outcome.specs.Fault.{IfRefused}
+use Rattle.run_outcome.specs.Refusing.{OfRefusal}
+use Rattle.run_outcome.specs.LowerFaults.{of_play}
+use Rattle.script_engines.specs.Rehearsal.{Heading, IsFaultyRehearsal, Said, SaysRehearsal, said_by}
+use Rattle.script_engines.specs.Rehearsed.{IsPlanOf, IsRefusedScript, IsUnplayed, IsUnplayedBy}
+use Rattle.script_engines.specs.Rehearsed.{PlaysSaid, Rehearses}
+use Rattle.script_engines.specs.Rehearsed.{handed_text, receivers_text}
+use Rattle.script_engines.specs.Script.{line_behind, numbered_lines}
+
+-- ---- texts of numbered items
+
+pub numbered_item : {X : Type 0} (xs : List X) (i : ℕ) (x : X) → i < length xs
+    → x ≡ get_or xs i x → ◌≡◌ {A = ℕ × X} (i, x) (get_or (enumerate_from 0 xs) i (i, x))
+numbered_item xs i x lt is =
+    sym (get_or-enumerate_from 0 xs i (i, x) lt
+    ∙ ap (λ (k : ℕ). (k, get_or xs i x)) (zero-add i)
+    ∙ ap (λ (y : _). (i, y)) (sym is))
+
+pub numbered_before : {X : Type 0} (xs : List X) (i : ℕ) → i < length xs
+    → i < length (enumerate_from 0 xs)
+numbered_before xs i lt = subst (λ (n : ℕ). i < n) (sym (length-enumerate_from 0 xs)) lt
+
+pub numbered_end : {X : Type 0} (xs : List X) (i : ℕ) → length xs ≤ i
+    → length (enumerate_from 0 xs) ≤ i
+numbered_end xs i end = subst (λ (n : ℕ). n ≤ i) (sym (length-enumerate_from 0 xs)) end
+
+-- ---- one text behind another
+
+-- what was cut within a text is cut within it and what follows
+pub cut_first : (old new : Option (List ℕ)) (xs ys : List ℕ) → AppendsPrefix old new xs
+    → AppendsPrefix old new (xs ++ ys)
+cut_first old new xs ys p = record {
+  count = p.count;
+  short = let s : p.count < length xs = p.short in omega (arith, length-append xs ys);
+  taken = let s : p.count ≤ length xs =
+      omega (arith, p.short) in subst (Appends old new)
+      (sym (take-append-le p.count xs ys s)) p.taken;
+}
+
+-- what was cut behind a text
+pub cut_then : (old mid new : Option (List ℕ)) (xs ys : List ℕ) → Appends old mid xs
+    → AppendsPrefix mid new ys → AppendsPrefix old new (xs ++ ys)
+cut_then old mid new xs ys p q = record {
+  count = length xs + q.count;
+  short = let s : q.count < length ys = q.short in omega (arith, length-append xs ys);
+  taken =
+      subst (Appends old new) (sym (take-append-add xs ys q.count))
+      (Appends-trans old mid new xs (take q.count ys) p q.taken);
+}
+
+-- where the second of two texts was printed, both were
+pub both_printed : {V E : Type 0} (r : Result V E) (old mid new : Option (List ℕ))
+    (xs ys : List ℕ) → Appends old mid xs → OnOk r (Appends mid new ys)
+    → OnOk r (Appends old new (xs ++ ys))
+both_printed (Ok v) old mid new xs ys p q = Appends-trans old mid new xs ys p q
+both_printed (Err e) old mid new xs ys p q = tt
+
+pub both_cut : {V E : Type 0} (r : Result V E) (old mid new : Option (List ℕ))
+    (xs ys : List ℕ) → Appends old mid xs → OnErr r (AppendsPrefix mid new ys)
+    → OnErr r (AppendsPrefix old new (xs ++ ys))
+both_cut (Ok v) old mid new xs ys p q = tt
+both_cut (Err e) old mid new xs ys p q = cut_then old mid new xs ys p q
+
+-- what is so where a run succeeds
+pub on_ok_map : {V E P Q : Type 0} (r : Result V E) → (P → Q) → OnOk r P → OnOk r Q
+on_ok_map (Ok v) f p = f p
+on_ok_map (Err e) f p = tt
+
+-- ---- a script that is played, or refused
+
+pub rehearses : {A : Type 0} (script : List ℕ) (r : Rehearsal A) (played : Played A)
+    (handed : List (Handed A)) (receivers : List State) (old mid new : Option (List ℕ))
+    → handed ≡ played.handed.items → receivers ≡ played.receivers.items
+    → SaysRehearsal (numbered_lines 0 script) (said_by r) → PlaysSaid played (said_by r)
+    → Appends old mid (handed_text handed) → Appends mid new (receivers_text receivers)
+    → Rehearses A script old new
+rehearses script r played handed receivers old mid new h e says plays p q =
+    let first : Appends old mid (handed_text played.handed.items) =
+    subst (λ (hs : List (Handed _)). Appends old mid (handed_text hs)) h p in
+    let last : Appends mid new (receivers_text played.receivers.items) =
+    subst (λ (rs : List State). Appends mid new (receivers_text rs)) e q in
+    record {
+      said = said_by r;
+      says = says;
+      played = played;
+      plays = plays;
+      printed = Appends-trans old mid new (handed_text played.handed.items)
+          (receivers_text played.receivers.items) first last;
+    }
+
+-- a fault of the lines that were read, as one that a run ends by
+pub refused_read : (script : List ℕ) (is_cut : Bool) (f y : Fault) → y ≡ f
+    → ((f ≡ Memory) ⊎ IsFaultyRehearsal (numbered_lines 0 script) is_cut (line_behind 0 script) f)
+    → OfRefusal y (λ r. IsRefusedScript script is_cut (Refused r))
+refused_read script is_cut f y same bad =
+    subst (λ (g : Fault). OfRefusal g (λ r. IsRefusedScript script is_cut (Refused r))) (sym same)
+    (refused f bad)
+  where
+    refused : (g : Fault) → ((g ≡ Memory)
+        ⊎ IsFaultyRehearsal (numbered_lines 0 script) is_cut (line_behind 0 script) g)
+        → OfRefusal g (λ r. IsRefusedScript script is_cut (Refused r))
+    refused (Refused r) (inl memory) = absurd cc
+    refused (Refused r) (inr faulty) = inl faulty
+    refused Device faulty = tt
+    refused Memory faulty = tt
+
+-- what holds where a run that no refusal ends is refused
+pub none_holds : {V : Type 0} (r : Result V Fault) (P : Type 0)
+    → IfErr r (λ f. IfRefused f ⊥) → IfErr r (λ f. IfRefused f P)
+none_holds (Ok v) P none = tt
+none_holds (Err (Refused r)) P none = absurd none
+none_holds (Err Device) P none = tt
+none_holds (Err Memory) P none = tt
+
+-- so of a rehearsal that is not played
+pub refused_play : (script : List ℕ) (is_cut : Bool) (f : Fault) (said : Said)
+    → SaysRehearsal (numbered_lines 0 script) said → IsUnplayed f said
+    → OfRefusal f (λ r. IsRefusedScript script is_cut (Refused r))
+refused_play script is_cut (Refused r) said says bad =
+    inr (record { said = said; says = says; unplayed = bad })
+refused_play script is_cut Device said says bad = tt
+refused_play script is_cut Memory said says bad = tt
+
+-- ---- what is played
+
+-- a rehearsal with another window, other pictures and other events
+abbrev pub said_like : Said → List ℕ → List Values → List Event → Said
+said_like s window pictures events = record {
+  heading = record {
+    format = s.heading.format;
+    stamp = s.heading.stamp;
+    max_octets = s.heading.max_octets;
+    window = window;
+    receivers = s.heading.receivers;
+  };
+  pictures = pictures;
+  events = events;
+}
+
+pub said_same : (s : Said) (window : List ℕ) (pictures : List Values) (events : List Event)
+    → window ≡ s.heading.window → pictures ≡ s.pictures → events ≡ s.events
+    → said_like s window pictures events ≡ s
+said_same s window pictures events w p e =
+    ap (λ (ts : List ℕ). said_like s ts pictures events) w
+    ∙ ap (λ (ps : List Values). said_like s s.heading.window ps events) p
+    ∙ ap (λ (es : List Event). said_like s s.heading.window s.pictures es) e
+
+pub plan_of : (plan : RasterPlan) (h : Heading) → (plan.format ≡ h.format)
+    × (plan.max_octets ≡ h.max_octets) → IsFullPlan plan.packets plan.format plan.max_octets
+    → IsPlanOf plan h
+plan_of plan h made full = record { format_is = made.0; max_is = made.1; full = full }
+
+-- what is said of a schedule that is not played
+pub record SaysWhy {V : Type 0} (r : Result V PlayFault) (plan : RasterPlan) (said : Said)
+    : Type 0 where
+  pub window : r ≡ Err play.BadWindow → IsUnplayedBy play.BadWindow plan said
+  pub double : r ≡ Err play.DoubleTimestamp → IsUnplayedBy play.DoubleTimestamp plan said
+  pub pictures : r ≡ Err play.BadPictures → IsUnplayedBy play.BadPictures plan said
+  pub receivers : r ≡ Err play.BadReceivers → IsUnplayedBy play.BadReceivers plan said
+  pub event : (place : ℕ) → r ≡ Err (play.BadEvent place)
+      → IsUnplayedBy (play.BadEvent place) plan said
+
+pub unplayed : {V : Type 0} (r : Result V PlayFault) (f : PlayFault) (y : Fault)
+    (plan : RasterPlan) (said : Said) → IsPlanOf plan said.heading → SaysWhy r plan said
+    → r ≡ Err f → y ≡ of_play f → IsUnplayed y said
+unplayed r play.NoMemory y plan said of why is same =
+    subst (λ (g : Fault). IsUnplayed g said) (sym same) tt
+unplayed r (play.BadEvent place) y plan said of why is same =
+    subst (λ (g : Fault). IsUnplayed g said) (sym same) (plan, of, why.event place is)
+unplayed r play.BadWindow y plan said of why is same =
+    subst (λ (g : Fault). IsUnplayed g said) (sym same) (plan, of, why.window is)
+unplayed r play.DoubleTimestamp y plan said of why is same =
+    subst (λ (g : Fault). IsUnplayed g said) (sym same) (plan, of, why.double is)
+unplayed r play.BadPictures y plan said of why is same =
+    subst (λ (g : Fault). IsUnplayed g said) (sym same) (plan, of, why.pictures is)
+unplayed r play.BadReceivers y plan said of why is same =
+    subst (λ (g : Fault). IsUnplayed g said) (sym same) (plan, of, why.receivers is)

@@ -1,0 +1,9 @@
+pub mod Script
+pub mod Reading
+pub mod Forms
+pub mod FirstLines
+pub mod Session
+pub mod Described
+pub mod RehearsalForms
+pub mod Rehearsal
+pub mod Rehearsed

@@ -1,0 +1,17 @@
+//! The engines of the program that read texts: scripts that are followed or rehearsed, and SDP.
+#![tactic(auto)]
+
+mod first_lines;
+mod line;
+mod picture_text;
+mod rehearsal;
+mod rehearsal_line;
+mod rehearsing;
+mod script;
+mod sdp;
+mod session;
+mod tracing;
+
+pub use rehearsing::rehearse;
+pub use sdp::describe;
+pub use tracing::trace;

@@ -1,0 +1,173 @@
+//! A script: the octets that a source gives, and their lines.
+ghost use Rattle.std.specs.Prelude.{◌≡◌, ◌≤◌, ◌<◌, ◌+◌, ◌∷◌, [], length, IfErr, IfNone, IfSome};
+ghost use Rattle.std.specs.Prelude.{IfOk, MatchOption};
+ghost use Rattle.std.specs.Io.KnownBytes.{Consumes, IsAtEnd};
+ghost use Rattle.std.specs.Str.Lines.{lines};
+ghost use Rattle.run_outcome.specs.Fault.{Accounts, IfRefused, counts};
+ghost use Rattle.script_engines.specs.Script.{IsCut, IsReadFrom, IsWholeLines, line_behind};
+ghost use Rattle.script_engines.specs.Script.{numbered_lines};
+
+use run_outcome::Fault;
+use st_format::{ByteSource, read_whole, split_once, without_carriage_return};
+use std::alloc::Allocator;
+
+/// The greatest number of octets of a script (own).
+pub(crate) const LIMIT: usize = 16_777_216;
+
+/// A script that was read.
+#[derive(Drop)]
+pub(crate) struct Script<A: Allocator> {
+    /// Its octets; of a script that passes the limit, the lines before the one in which it does.
+    pub octets: Vec<u8, A>,
+    /// Whether it passes the limit.
+    pub is_cut: bool,
+}
+
+/// Reads a script.
+pub(crate) fn read_script<A, S>(alloc: A, source: &mut S) -> Result<Script<A>, Fault>
+where
+    A: Allocator,
+    S: ByteSource,
+    ensures limit { IfOk result (λ s. length s.octets.items ≤ LIMIT) }
+    ensures failures { Accounts result (counts (S.failures source.old) (S.failures source.new)
+        ∷ []) }
+    ensures unrefused { IfErr result (λ f. IfRefused f ⊥) }
+    ensures read { IfOk result (λ s.
+        IsReadFrom (S.to_give source.old) (S.to_give source.new) s.octets.items s.is_cut) }
+{
+    Ok(cut_at_limit(read_past_limit(alloc, source)?))
+}
+
+/// Reads a source to its end, or until more octets were read than a script may have.
+fn read_past_limit<A, S>(alloc: A, source: &mut S) -> Result<Vec<u8, A>, Fault>
+where
+    A: Allocator,
+    S: ByteSource,
+    ensures given { IfOk result (λ octets.
+        Consumes (S.to_give source.old) (S.to_give source.new) octets.items) }
+    ensures whole { IfOk result (λ octets. length octets.items ≤ LIMIT
+        → IsAtEnd (S.to_give source.new)) }
+    ensures unrefused { IfErr result (λ f. IfRefused f ⊥) }
+    ensures failures { Accounts result (counts (S.failures source.old) (S.failures source.new)
+        ∷ []) }
+{
+    let mut octets = Vec::new(alloc);
+    let mut piece = [0u8; 4096];
+    while octets.len() <= LIMIT {
+        let n = read_whole(source, &mut piece)?;
+        octets.extend_from_slice(&piece[..n])?;
+        if n < piece.len() {
+            return Ok(octets);
+        }
+    }
+    Ok(octets)
+}
+
+/// The script of these octets.
+fn cut_at_limit<A: Allocator>(mut octets: Vec<u8, A>) -> Script<A>
+    ensures limit { length result.octets.items ≤ LIMIT }
+    ensures cut { IsCut octets.items result.octets.items result.is_cut }
+{
+    if octets.len() <= LIMIT {
+        return Script {
+            octets,
+            is_cut: false,
+        };
+    }
+    let end = whole_lines(&octets[..LIMIT]);
+    octets.truncate(end);
+    Script {
+        octets,
+        is_cut: true,
+    }
+}
+
+/// How many octets the lines of a text have that end by LF.
+fn whole_lines(text: &[u8]) -> usize
+    ensures { IsWholeLines text.now result }
+{
+    let mut end = text.len();
+    while end > 0 && text[end - 1] != b'\n' {
+        end -= 1;
+    }
+    end
+}
+
+/// A line of a script that isn't empty.
+#[derive(Clone, Copy)]
+pub(crate) struct ScriptLine<'a> {
+    /// Its number, counted from 1, empty lines counted too.
+    pub number: usize,
+    /// Its octets, without the LF and a CR before that.
+    pub text: &'a [u8],
+}
+
+/// The lines of a script that are still to come.
+#[derive(Drop)]
+pub(crate) struct Lines<'a> {
+    rest: &'a [u8],
+    passed: usize,
+    ghost counted: { passed + length rest.now ≤ 16777216 },
+}
+
+impl<'a> Lines<'a> {
+    /// All lines of a text.
+    pub fn new(text: &'a [u8]) -> Lines<'a>
+        requires { length text.now ≤ 16777216 }
+        ensures rest { result.rest.now ≡ text.now }
+        ensures passed { result.passed ≡ 0 }
+    {
+        Lines {
+            rest: text,
+            passed: 0,
+        }
+    }
+
+    /// The next line that isn't empty.
+    pub fn next(&mut self) -> Option<ScriptLine<'a>>
+        ensures next { MatchOption result
+            (numbered_lines self.old.passed self.old.rest.now ≡ [])
+            (λ line. numbered_lines self.old.passed self.old.rest.now
+            ≡ (line.number, line.text.now)
+            ∷ numbered_lines self.new.passed self.new.rest.now) }
+        ensures fewer { IfSome result (λ _. length self.new.rest.now < length self.old.rest.now) }
+        ensures end { IfNone result
+            (self.new.passed ≡ self.old.passed + length (lines self.old.rest.now)) }
+        ensures behind { line_behind self.new.passed self.new.rest.now
+            ≡ line_behind self.old.passed self.old.rest.now }
+    {
+        while let Some((text, rest)) = split_line(self.rest) {
+            self.rest = rest;
+            self.passed += 1;
+            if !text.is_empty() {
+                return Some(ScriptLine {
+                    number: self.passed,
+                    text,
+                });
+            }
+        }
+        None
+    }
+
+    /// The number of the line behind those that were given.
+    pub fn following(&self) -> usize
+        ensures { result ≡ self.now.passed + 1 }
+    {
+        self.passed + 1
+    }
+}
+
+/// The first line of a text, without its LF and a CR before that, and the text behind it.
+fn split_line(text: &[u8]) -> Option<(&[u8], &[u8])>
+    ensures cases { MatchOption result (text.now ≡ []) (λ p.
+        lines text.now ≡ p.0.now ∷ lines p.1.now) }
+    ensures shorter { IfSome result (λ p. length p.1.now < length text.now) }
+{
+    if text.is_empty() {
+        return None;
+    }
+    match split_once(text, b'\n') {
+        Some((line, rest)) => Some((without_carriage_return(line), rest)),
+        None => Some((text, &[])),
+    }
+}

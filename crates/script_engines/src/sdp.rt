@@ -1,0 +1,56 @@
+//! The engine of `sdp`.
+ghost use Rattle.std.specs.Prelude.{◌∷◌, [], IfErr, IfOk, OnOk};
+ghost use Rattle.run_outcome.specs.Fault.{Accounts, counts};
+ghost use Rattle.run_outcome.specs.Refusing.{OfRefusal};
+ghost use Rattle.script_engines.specs.Reading.{DoesScript, IsRefusedFor, Reads};
+ghost use Rattle.script_engines.specs.Described.{Describes, IsCanonicalOf, IsUndescribedText};
+ghost use Rattle.script_engines.specs.Described.{IsUndescribed};
+
+use crate::script::read_script;
+use run_outcome::{Fault, Refusal};
+use sdp_format::{fmtp_text, read_sdp};
+use st_format::{ByteSink, ByteSource, write_whole};
+use std::alloc::Allocator;
+
+/// Reads the SDP text that the source gives, and writes its canonical fmtp line (RFC 8866; SMPTE ST
+/// 2110-20, SDP).
+///
+/// # Errors
+///
+/// A refusal where the text is refused, or is longer than 16,777,216 octets (own: as a script, at
+/// its line 1); and else that a device failed or memory was wanted.
+pub fn describe<A, S, O>(alloc: A, source: &mut S, output: &mut O) -> Result<(), Fault>
+where
+    A: Allocator + Copy,
+    S: ByteSource,
+    O: ByteSink,
+    ensures read { Reads result (S.to_give source.old) (S.to_give source.new) }
+    ensures failures { Accounts result (counts (S.failures source.old) (S.failures source.new)
+        ∷ counts (O.failures output.old) (O.failures output.new) ∷ []) }
+    ensures printed { OnOk result (DoesScript Describes
+        (S.to_give source.old) (S.to_give source.new) (O.held output.old) (O.held output.new)) }
+    ensures refusal { IfErr result (λ f. OfRefusal f
+        (IsRefusedFor IsUndescribed (S.to_give source.old) (S.to_give source.new))) }
+{
+    let script = read_script(alloc, source)?;
+    if script.is_cut {
+        return Err(Fault::Refused(Refusal::Script(1)));
+    }
+    let line = canonical_line(alloc, &script.octets)?;
+    write_whole(output, &line)?;
+    Ok(())
+}
+
+/// The canonical line of a text, with its LF.
+fn canonical_line<A: Allocator + Copy>(alloc: A, text: &[u8]) -> Result<Vec<u8, A>, Fault>
+    ensures device { Accounts result [] }
+    ensures canonical { IfOk result (λ line. IsCanonicalOf text.now line.items) }
+    ensures refused { IfErr result (λ fault. IsUndescribedText text.now fault) }
+{
+    let sdp = read_sdp(alloc, text)?;
+    let mut line = fmtp_text(alloc, &sdp)?;
+    match line.push(b'\n') {
+        Ok(()) => Ok(line),
+        Err(_) => Err(Fault::Memory),
+    }
+}

@@ -1,0 +1,212 @@
+//! The engine of `trace`.
+ghost use Rattle.std.specs.Prelude.{◌≡◌, ◌≤◌, ◌<◌, ◌↔◌, ◌∷◌, [], ℕ};
+ghost use Rattle.std.specs.Prelude.{false, length, Err, IfErr, IfOk, OnOk};
+ghost use Rattle.path_merge.specs.Frames.{Holds};
+ghost use Rattle.script_engines.specs.FirstLines.{ReadsOpening, lines_left};
+ghost use Rattle.run_outcome.specs.Fault.{Accounts, counts};
+ghost use Rattle.run_outcome.specs.LowerFaults.{of_script};
+ghost use Rattle.run_outcome.specs.Refusing.{OfRefusal};
+ghost use Rattle.script_engines.specs.Reading.{Reads};
+ghost use Rattle.script_engines.specs.Forms.{IsTraceLine};
+ghost use Rattle.script_engines.specs.Session.{Follows, IsAtFault, IsTraceRefusal};
+
+use crate::first_lines::{next_line, read_format};
+use crate::line::{TraceLine, read_octets, read_open_line, read_trace_line, read_window};
+use crate::script::{Lines, Script, ScriptLine, read_script};
+use crate::session::Session;
+use path_merge::{Receiver, SeqMap};
+use run_outcome::{Fault, Line, Refusal, print, print_frames};
+use st_format::{ByteSink, ByteSource, Format};
+use std::alloc::Allocator;
+
+/// The greatest number of octets of a datagram.
+const DATAGRAM: usize = 65_535;
+
+/// Runs the script that the source gives.
+///
+/// The script is read whole; then its lines are followed one by one, and what each says is printed
+/// to `output`. At the end a line for the frame of each timestamp of the window is printed, and one
+/// for each run of numbers that did not come, where numbers are noted.
+///
+/// # Errors
+///
+/// A refusal where the script, its format, its opening or its count of numbers is refused; and else
+/// that a device failed or memory was wanted.
+pub fn trace<A, S, O>(alloc: A, source: &mut S, output: &mut O) -> Result<(), Fault>
+where
+    A: Allocator + Copy,
+    S: ByteSource,
+    O: ByteSink,
+    ensures failures { Accounts result (counts (S.failures source.old) (S.failures source.new)
+        ∷ counts (O.failures output.old) (O.failures output.new) ∷ []) }
+    ensures read { Reads result (S.to_give source.old) (S.to_give source.new) }
+    ensures refusal { IfErr result (λ f. OfRefusal f IsTraceRefusal) }
+{
+    let script = read_script(alloc, source)?;
+    play(alloc, &script, output)
+}
+
+/// Opens a receiver, follows the lines behind, and prints what is known at the end.
+fn play<A: Allocator + Copy, O: ByteSink>(
+    alloc: A,
+    script: &Script<A>,
+    output: &mut O,
+) -> Result<(), Fault>
+    requires { length script.now.octets.items ≤ 16777216 }
+    ensures failures { Accounts result (counts (O.failures output.old) (O.failures output.new)
+        ∷ []) }
+    ensures whole { OnOk result (script.now.is_cut ≡ false) }
+    ensures refusal { IfErr result (λ f. OfRefusal f IsTraceRefusal) }
+{
+    let mut lines = Lines::new(&script.octets);
+    let mut session = open_session(alloc, &mut lines)?;
+    play_to_end(alloc, script.is_cut, &mut lines, &mut session, output)
+}
+
+/// Opens a receiver of the format of the first line, and begins a session with it.
+fn open_session<A: Allocator + Copy>(alloc: A, lines: &mut Lines<'_>) -> Result<Session<A>, Fault>
+    ensures failures { Accounts result [] }
+    ensures refusal { IfErr result (λ f. OfRefusal f IsTraceRefusal) }
+{
+    let format = read_format(lines)?;
+    let receiver = open_receiver(alloc, format, lines)?;
+    Ok(Session::new(receiver))
+}
+
+/// Follows the lines, of which none may be missing, and prints what is known behind the last.
+fn play_to_end<A: Allocator + Copy, O: ByteSink>(
+    alloc: A,
+    is_cut: bool,
+    lines: &mut Lines<'_>,
+    session: &mut Session<A>,
+    output: &mut O,
+) -> Result<(), Fault>
+    ensures failures { Accounts result (counts (O.failures output.old) (O.failures output.new)
+        ∷ []) }
+    ensures whole { OnOk result (is_cut ≡ false) }
+    ensures refusal { IfErr result (λ f. OfRefusal f IsTraceRefusal) }
+{
+    play_lines(alloc, lines, session, output)?;
+    if is_cut {
+        return Err(Fault::Refused(Refusal::Script(lines.following())));
+    }
+    print_frames(&session.receiver, output)?;
+    print_absent(alloc, &session.numbers, output)
+}
+
+/// Opens a receiver of a format as the next line says: for just its payload type, source and
+/// window.
+fn open_receiver<A: Allocator + Copy>(
+    alloc: A,
+    format: Format,
+    lines: &mut Lines<'_>,
+) -> Result<Receiver<A>, Fault>
+    ensures opening { IfOk result (λ receiver.
+        ReadsOpening (lines_left lines.old) (lines_left lines.new) format receiver.opening) }
+    ensures holds { IfOk result (λ receiver. Holds receiver []) }
+    ensures failures { Accounts result [] }
+    ensures refusal { IfErr result (λ f. OfRefusal f IsTraceRefusal) }
+{
+    let line = next_line(lines)?;
+    let Some(said) = read_open_line(line.text) else {
+        return Err(Fault::Refused(Refusal::Script(line.number)));
+    };
+    let Some(window) = read_window(alloc, said.window)? else {
+        return Err(Fault::Refused(Refusal::Script(line.number)));
+    };
+    match Receiver::open(alloc, format, said.payload_type, said.ssrc, &window) {
+        Ok(receiver) => Ok(receiver),
+        Err(fault) => Err(Fault::from(fault)),
+    }
+}
+
+/// Follows the lines to the last, each of which prints what it says.
+fn play_lines<A: Allocator + Copy, O: ByteSink>(
+    alloc: A,
+    lines: &mut Lines<'_>,
+    session: &mut Session<A>,
+    output: &mut O,
+) -> Result<(), Fault>
+    ensures failures { Accounts result (counts (O.failures output.old) (O.failures output.new)
+        ∷ []) }
+    ensures refusal { IfErr result (λ f. OfRefusal f IsTraceRefusal) }
+{
+    let mut octets = Vec::from_elem(alloc, 0u8, DATAGRAM)?;
+    while let Some(line) = lines.next() {
+        play_line(alloc, line, session, &mut octets, output)?;
+    }
+    Ok(())
+}
+
+/// Follows a line, and prints what it says.
+fn play_line<A: Allocator + Copy, O: ByteSink>(
+    alloc: A,
+    line: ScriptLine<'_>,
+    session: &mut Session<A>,
+    octets: &mut [u8],
+    output: &mut O,
+) -> Result<(), Fault>
+    ensures failures { Accounts result (counts (O.failures output.old) (O.failures output.new)
+        ∷ []) }
+    ensures refusal { IfErr result (λ f. OfRefusal f IsTraceRefusal) }
+{
+    match answer_to(alloc, line, session, octets)? {
+        Some(answer) => print(answer, output),
+        None => Ok(()),
+    }
+}
+
+/// Follows a line, and tells what is to be printed, if anything.
+fn answer_to<A: Allocator + Copy>(
+    alloc: A,
+    line: ScriptLine<'_>,
+    session: &mut Session<A>,
+    octets: &mut [u8],
+) -> Result<Option<Line>, Fault>
+    ensures failures { Accounts result [] }
+    ensures follows { IfOk result (λ answer. (said : TraceLine)
+        × IsTraceLine line.entry.text.now said
+        × Follows said session.old.receiver session.new.receiver
+        session.old.numbers session.new.numbers answer) }
+    ensures script { (number : ℕ) → (result ≡ Err (of_script number))
+        ↔ ((number ≡ line.entry.number)
+        × IsAtFault line.entry.text.now (length octets.old) session.old.numbers) }
+    ensures refusal { IfErr result (λ f. OfRefusal f IsTraceRefusal) }
+{
+    let Some(said) = read_trace_line(line.text) else {
+        return Err(Fault::Refused(Refusal::Script(line.number)));
+    };
+    Ok(match said {
+        TraceLine::Datagram(path, digits) => match read_octets(digits, octets) {
+            Some(n) => Some(session.take(path, &octets[..n])),
+            None => return Err(Fault::Refused(Refusal::Script(line.number))),
+        },
+        TraceLine::Slide(next) => Some(session.slide(alloc, next)?),
+        TraceLine::Numbers(first, count) => {
+            match session.open_numbers(alloc, line.number, first, count) {
+                Ok(()) => None,
+                Err(fault) => return Err(fault),
+            }
+        }
+        TraceLine::Cell(place) => Some(session.cell(place)),
+    })
+}
+
+/// Prints the runs of numbers that did not come, where numbers are noted.
+fn print_absent<A: Allocator + Copy, O: ByteSink>(
+    alloc: A,
+    numbers: &Option<SeqMap<A>>,
+    output: &mut O,
+) -> Result<(), Fault>
+    ensures failures { Accounts result (counts (O.failures output.old) (O.failures output.new)
+        ∷ []) }
+    ensures refusal { IfErr result (λ f. OfRefusal f IsTraceRefusal) }
+{
+    let Some(numbers) = numbers else {
+        return Ok(());
+    };
+    for (first, count) in numbers.missing_runs(alloc)? {
+        print(Line::Absent(first, count), output)?;
+    }
+    Ok(())
+}

@@ -1,0 +1,43 @@
+use Rattle.std.proofs.Common.{List, [], ◌∷◌}
+use Rattle.capture_engines.specs.Looped.{IsLoopRefusal}
+use Rattle.run_outcome.specs.Fault.{Failures, counts}
+use Rattle.run_outcome.proofs.Ended.{none_failed, on_done, one_failed}
+use Rattle.run_outcome.proofs.Refusals.{outcome_told}
+use Rattle.st2110_tool.proofs.captures.run_loop.Goals as goal
+
+pub returns-clause-device : goal.returns-clause-device
+returns-clause-device g c =
+    let run = c.loop_back-outcome in
+    let devices : List Failures =
+    counts (g.S.ByteSource.failures c.args.picture.now) (g.S.ByteSource.failures run.new.source)
+    ∷ counts (g.L.DatagramSink.failures c.args.link.now) (g.L.DatagramSink.failures run.new.link)
+    ∷ counts (g.O.ByteSink.failures c.args.output.now) (g.O.ByteSink.failures run.new.output)
+    ∷ [] in
+    let last : Failures =
+    counts (g.F.ByteSink.failures c.args.faults.now) (g.F.ByteSink.failures c.end.new.faults) in
+    λ is. one_failed run.result devices last run.ensures.failures (c.end.ensures.failed is)
+
+pub returns-clause-working : goal.returns-clause-working
+returns-clause-working g c =
+    let run = c.loop_back-outcome in
+    let devices : List Failures =
+    counts (g.S.ByteSource.failures c.args.picture.now) (g.S.ByteSource.failures run.new.source)
+    ∷ counts (g.L.DatagramSink.failures c.args.link.now) (g.L.DatagramSink.failures run.new.link)
+    ∷ counts (g.O.ByteSink.failures c.args.output.now) (g.O.ByteSink.failures run.new.output)
+    ∷ [] in
+    let last : Failures =
+    counts (g.F.ByteSink.failures c.args.faults.now) (g.F.ByteSink.failures c.end.new.faults) in
+    λ is. none_failed run.result devices last run.ensures.failures
+    (c.end.ensures.worked is) (c.end.ensures.working is)
+
+pub returns-clause-looped : goal.returns-clause-looped
+returns-clause-looped g c =
+    let run = c.loop_back-outcome in
+    λ is. on_done run.result _ (c.end.ensures.done is) run.ensures.looped
+
+pub returns-clause-told : goal.returns-clause-told
+returns-clause-told g c =
+    let run = c.loop_back-outcome in
+    let Is = IsLoopRefusal c.args.wanted.max_octets (g.S.ByteSource.to_give c.args.picture.now) in
+    λ one. outcome_told Is run.result (g.F.ByteSink.held c.args.faults.now)
+    (g.F.ByteSink.held c.end.new.faults) (c.end.ensures.told one) run.ensures.refusal

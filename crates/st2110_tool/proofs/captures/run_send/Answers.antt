@@ -1,0 +1,51 @@
+use Rattle.std.proofs.Common.{List, [], ◌∷◌}
+use Rattle.std.specs.List.{sum_by}
+use Rattle.capture_engines.specs.Sent.{IsSendRefusal}
+use Rattle.run_outcome.specs.Fault.{Failures, counts, failures_in}
+use Rattle.run_outcome.proofs.Ended.{none_failed, on_done, one_failed}
+use Rattle.run_outcome.proofs.Refusals.{outcome_told}
+use Rattle.st2110_tool.proofs.captures.run_send.Goals as goal
+
+pub returns-clause-device : goal.returns-clause-device
+returns-clause-device g c =
+    let run = c.send-outcome in
+    let devices : List Failures =
+    counts (failures_in g.S.ByteSource.failures c.args.sdp.now)
+    (failures_in g.S.ByteSource.failures run.new.sdp)
+    ∷ counts (sum_by g.S.ByteSource.failures c.args.pictures.now)
+    (sum_by g.S.ByteSource.failures run.new.pictures)
+    ∷ counts (g.K.ByteSink.failures c.args.sink.now) (g.K.ByteSink.failures run.new.sink)
+    ∷ counts (g.O.ByteSink.failures c.args.output.now) (g.O.ByteSink.failures run.new.output)
+    ∷ [] in
+    let last : Failures =
+    counts (g.F.ByteSink.failures c.args.faults.now) (g.F.ByteSink.failures c.end.new.faults) in
+    λ is. one_failed run.result devices last run.ensures.failures (c.end.ensures.failed is)
+
+pub returns-clause-working : goal.returns-clause-working
+returns-clause-working g c =
+    let run = c.send-outcome in
+    let devices : List Failures =
+    counts (failures_in g.S.ByteSource.failures c.args.sdp.now)
+    (failures_in g.S.ByteSource.failures run.new.sdp)
+    ∷ counts (sum_by g.S.ByteSource.failures c.args.pictures.now)
+    (sum_by g.S.ByteSource.failures run.new.pictures)
+    ∷ counts (g.K.ByteSink.failures c.args.sink.now) (g.K.ByteSink.failures run.new.sink)
+    ∷ counts (g.O.ByteSink.failures c.args.output.now) (g.O.ByteSink.failures run.new.output)
+    ∷ [] in
+    let last : Failures =
+    counts (g.F.ByteSink.failures c.args.faults.now) (g.F.ByteSink.failures c.end.new.faults) in
+    λ is. none_failed run.result devices last run.ensures.failures
+    (c.end.ensures.worked is) (c.end.ensures.working is)
+
+pub returns-clause-sent : goal.returns-clause-sent
+returns-clause-sent g c =
+    let run = c.send-outcome in
+    λ is. on_done run.result _ (c.end.ensures.done is) run.ensures.sent
+
+pub returns-clause-told : goal.returns-clause-told
+returns-clause-told g c =
+    let run = c.send-outcome in
+    let Is = IsSendRefusal c.args.wanted.max_octets c.args.sdp.now
+    g.S.ByteSource.to_give c.args.pictures.now in
+    λ one. outcome_told Is run.result (g.F.ByteSink.held c.args.faults.now)
+    (g.F.ByteSink.held c.end.new.faults) (c.end.ensures.told one) run.ensures.refusal

@@ -1,0 +1,56 @@
+use Rattle.std.proofs.Common.{List, [], ◌∷◌}
+use Rattle.receiver_engines.specs.MergeRefused.{IsMergeRefusal}
+use Rattle.run_outcome.specs.Fault.{Failures, counts}
+use Rattle.run_outcome.proofs.Ended.{none_failed, on_done, on_refused, one_failed}
+use Rattle.run_outcome.proofs.Refusals.{outcome_told}
+use Rattle.st2110_tool.proofs.receivers.run_merge.Goals as goal
+
+pub returns-clause-device : goal.returns-clause-device
+returns-clause-device g c =
+    let run = c.merge-outcome in
+    let devices : List Failures =
+    counts (g.L.ByteSource.failures c.args.left.now) (g.L.ByteSource.failures run.new.left)
+    ∷ counts (g.R.ByteSource.failures c.args.right.now) (g.R.ByteSource.failures run.new.right)
+    ∷ counts (g.K.ByteSink.failures c.args.state.now) (g.K.ByteSink.failures run.new.state)
+    ∷ counts (g.O.ByteSink.failures c.args.output.now) (g.O.ByteSink.failures run.new.output)
+    ∷ [] in
+    let last : Failures =
+    counts (g.F.ByteSink.failures c.args.faults.now) (g.F.ByteSink.failures c.end.new.faults) in
+    λ is. one_failed run.result devices last run.ensures.failures (c.end.ensures.failed is)
+
+pub returns-clause-working : goal.returns-clause-working
+returns-clause-working g c =
+    let run = c.merge-outcome in
+    let devices : List Failures =
+    counts (g.L.ByteSource.failures c.args.left.now) (g.L.ByteSource.failures run.new.left)
+    ∷ counts (g.R.ByteSource.failures c.args.right.now) (g.R.ByteSource.failures run.new.right)
+    ∷ counts (g.K.ByteSink.failures c.args.state.now) (g.K.ByteSink.failures run.new.state)
+    ∷ counts (g.O.ByteSink.failures c.args.output.now) (g.O.ByteSink.failures run.new.output)
+    ∷ [] in
+    let last : Failures =
+    counts (g.F.ByteSink.failures c.args.faults.now) (g.F.ByteSink.failures c.end.new.faults) in
+    λ is. none_failed run.result devices last run.ensures.failures
+    (c.end.ensures.worked is) (c.end.ensures.working is)
+
+pub returns-clause-saved : goal.returns-clause-saved
+returns-clause-saved g c =
+    let run = c.merge-outcome in
+    λ is. on_done run.result _ (c.end.ensures.done is) run.ensures.saved
+
+pub returns-clause-merged : goal.returns-clause-merged
+returns-clause-merged g c =
+    let run = c.merge-outcome in
+    λ is. on_done run.result _ (c.end.ensures.done is) run.ensures.merged
+
+pub returns-clause-refused : goal.returns-clause-refused
+returns-clause-refused g c =
+    let run = c.merge-outcome in
+    λ is. on_refused run.result _ (c.end.ensures.refused is) run.ensures.refused
+
+pub returns-clause-told : goal.returns-clause-told
+returns-clause-told g c =
+    let run = c.merge-outcome in
+    let Is = IsMergeRefusal (g.L.ByteSource.to_give c.args.left.now)
+    (g.R.ByteSource.to_give c.args.right.now) in
+    λ one. outcome_told Is run.result (g.F.ByteSink.held c.args.faults.now)
+    (g.F.ByteSink.held c.end.new.faults) (c.end.ensures.told one) run.ensures.refusal

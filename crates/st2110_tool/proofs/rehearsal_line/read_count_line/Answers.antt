@@ -1,9 +1,0 @@
-use Rattle.st2110_tool.proofs.FormLemmas.{if_none_map}
-use Rattle.st2110_tool.proofs.RehearsalLemmas.{count_none}
-use Rattle.st2110_tool.proofs.rehearsal_line.read_count_line.Goals as goal
-
-pub returns-clause-none : goal.returns-clause-none
-returns-clause-none c =
-    if_none_map c.read_receiver.result
-    (count_none c.args.text.now c.in_ok-rest.rest.now c.in_ok-rest.ensures.cases)
-    c.read_receiver.ensures.none

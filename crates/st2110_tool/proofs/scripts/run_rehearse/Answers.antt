@@ -1,0 +1,59 @@
+use Rattle.std.proofs.Common.{List, [], ◌∷◌}
+use Rattle.script_engines.specs.Rehearsed.{IsRefusedScript}
+use Rattle.script_engines.specs.Reading.{IsRefusedFor}
+use Rattle.st2110_tool.proofs.ReadScripts.{read_all, read_whole}
+use Rattle.run_outcome.specs.Fault.{Failures, counts}
+use Rattle.run_outcome.proofs.Ended.{none_failed, on_done, on_refused, one_failed}
+use Rattle.run_outcome.proofs.Refusals.{outcome_told}
+use Rattle.st2110_tool.proofs.scripts.run_rehearse.Goals as goal
+
+pub returns-clause-device : goal.returns-clause-device
+returns-clause-device g c =
+    let run = c.rehearse-outcome in
+    let devices : List Failures =
+    counts (g.S.ByteSource.failures c.args.source.now) (g.S.ByteSource.failures run.new.source)
+    ∷ counts (g.O.ByteSink.failures c.args.output.now) (g.O.ByteSink.failures run.new.output)
+    ∷ [] in
+    let last : Failures =
+    counts (g.F.ByteSink.failures c.args.faults.now) (g.F.ByteSink.failures c.end.new.faults) in
+    λ is. one_failed run.result devices last run.ensures.failures (c.end.ensures.failed is)
+
+pub returns-clause-working : goal.returns-clause-working
+returns-clause-working g c =
+    let run = c.rehearse-outcome in
+    let devices : List Failures =
+    counts (g.S.ByteSource.failures c.args.source.now) (g.S.ByteSource.failures run.new.source)
+    ∷ counts (g.O.ByteSink.failures c.args.output.now) (g.O.ByteSink.failures run.new.output)
+    ∷ [] in
+    let last : Failures =
+    counts (g.F.ByteSink.failures c.args.faults.now) (g.F.ByteSink.failures c.end.new.faults) in
+    λ is. none_failed run.result devices last run.ensures.failures
+    (c.end.ensures.worked is) (c.end.ensures.working is)
+
+pub returns-clause-rehearses : goal.returns-clause-rehearses
+returns-clause-rehearses g c =
+    let run = c.rehearse-outcome in
+    λ is. on_done run.result _ (c.end.ensures.done is) run.ensures.rehearses
+
+pub returns-clause-nothing : goal.returns-clause-nothing
+returns-clause-nothing g c =
+    let run = c.rehearse-outcome in
+    λ is. on_refused run.result _ (c.end.ensures.refused is) run.ensures.nothing
+
+pub returns-clause-told : goal.returns-clause-told
+returns-clause-told g c =
+    let run = c.rehearse-outcome in
+    let Is = IsRefusedFor IsRefusedScript (g.S.ByteSource.to_give c.args.source.now)
+    (g.S.ByteSource.to_give run.new.source) in
+    λ one. outcome_told Is run.result (g.F.ByteSink.held c.args.faults.now)
+    (g.F.ByteSink.held c.end.new.faults) (c.end.ensures.told one) run.ensures.refusal
+
+pub returns-clause-whole : goal.returns-clause-whole
+returns-clause-whole g c =
+    let run = c.rehearse-outcome in
+    λ is. read_whole run.result _ _ (c.end.ensures.done is) run.ensures.read
+
+pub returns-clause-read : goal.returns-clause-read
+returns-clause-read g c =
+    let run = c.rehearse-outcome in
+    λ is. read_all run.result _ _ (c.end.ensures.refused is) run.ensures.read

@@ -1,5 +1,0 @@
-use Rattle.st2110_tool.proofs.FaultLemmas.{on_ok}
-use Rattle.st2110_tool.proofs.trace.play_to_end.Goals as goal
-
-pub returns-clause-whole : goal.returns-clause-whole
-returns-clause-whole g c = on_ok c.print_absent.result c.if-is_cut.false

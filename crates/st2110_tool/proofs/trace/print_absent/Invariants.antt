@@ -1,5 +1,0 @@
-use Rattle.std.proofs.Common.{◌≡◌}
-use Rattle.st2110_tool.proofs.trace.print_absent.Given as goal
-
-abbrev pub invariant-loop-first : goal.invariant-loop-first
-invariant-loop-first g l = g.O.ByteSink.failures l.output ≡ g.O.ByteSink.failures l.initial.output

@@ -1,0 +1,126 @@
+//! The engines of texts, each with its status.
+ghost use Rattle.std.specs.Prelude.{◌≡◌, ◌≢◌, ◌⊎◌, ◌∷◌, []};
+ghost use Rattle.std.specs.Io.KnownBytes.{Appends};
+ghost use Rattle.run_outcome.specs.Fault.{NoneFailed, OneFailed, counts};
+ghost use Rattle.run_outcome.specs.Refusing.{TellsRefusal};
+ghost use Rattle.run_outcome.specs.Telling.{memory_line};
+ghost use Rattle.script_engines.specs.Described.{Describes, IsUndescribed};
+ghost use Rattle.script_engines.specs.Reading.{DoesScript, IsRefusedFor};
+ghost use Rattle.script_engines.specs.Rehearsed.{IsRefusedScript, Rehearses};
+ghost use Rattle.script_engines.specs.Script.{GivesAll, GivesScript};
+ghost use Rattle.script_engines.specs.Session.{IsTraceRefusal};
+
+use run_outcome::end;
+use script_engines::{describe, rehearse, trace};
+use st_format::{ByteSink, ByteSource};
+use std::alloc::Allocator;
+
+/// Runs the script that the source gives, and answers the exit status.
+///
+/// The script is read whole; then its lines are followed one by one, and what each says is printed
+/// to `output`. At the end a line for the frame of each timestamp of the window is printed, and one
+/// for each run of numbers that did not come, where numbers are noted. The status is 0; or 1 where
+/// the script, its format, its opening or its count of numbers is refused, 3 where a device failed,
+/// and 4 where the allocator refused memory, which `faults` is told by one line.
+pub fn run_trace<A, S, O, F>(alloc: A, source: &mut S, output: &mut O, faults: &mut F) -> u8
+where
+    A: Allocator + Copy,
+    S: ByteSource,
+    O: ByteSink,
+    F: ByteSink,
+    ensures range { (result ≡ 0) ⊎ (result ≡ 1) ⊎ (result ≡ 3) ⊎ (result ≡ 4) }
+    ensures device { result ≡ 3
+        → OneFailed (counts (S.failures source.old) (S.failures source.new)
+        ∷ counts (O.failures output.old) (O.failures output.new)
+        ∷ counts (F.failures faults.old) (F.failures faults.new) ∷ []) }
+    ensures working { result ≢ 3
+        → NoneFailed (counts (S.failures source.old) (S.failures source.new)
+        ∷ counts (O.failures output.old) (O.failures output.new)
+        ∷ counts (F.failures faults.old) (F.failures faults.new) ∷ []) }
+    ensures whole { result ≡ 0 → GivesScript (S.to_give source.old) (S.to_give source.new) }
+    ensures read { result ≡ 1 → GivesAll (S.to_give source.old) (S.to_give source.new) }
+    // At status 1 a refusal of the script was told by its line.
+    ensures told { result ≡ 1
+        → TellsRefusal IsTraceRefusal (F.held faults.old) (F.held faults.new) }
+    ensures silent { result ≡ 0 → faults.new ≡ faults.old }
+    ensures memory { result ≡ 4 → Appends (F.held faults.old) (F.held faults.new) memory_line }
+{
+    let outcome = trace(alloc, source, output);
+    end(outcome, faults)
+}
+
+/// Reads the SDP text that the source gives, and writes its canonical fmtp line (RFC 8866; SMPTE ST
+/// 2110-20, SDP).
+///
+/// Answers 0; 1 where the text is refused, with `st2110: sdp N NAME` told to the faults, or is
+/// longer than 16,777,216 octets, with `st2110: script 1` (own); 3 exactly where a device failed; 4
+/// where memory was wanted.
+pub fn run_sdp<A, S, O, F>(alloc: A, source: &mut S, output: &mut O, faults: &mut F) -> u8
+where
+    A: Allocator + Copy,
+    S: ByteSource,
+    O: ByteSink,
+    F: ByteSink,
+    ensures range { (result ≡ 0) ⊎ (result ≡ 1) ⊎ (result ≡ 3) ⊎ (result ≡ 4) }
+    ensures device { result ≡ 3
+        → OneFailed (counts (S.failures source.old) (S.failures source.new)
+        ∷ counts (O.failures output.old) (O.failures output.new)
+        ∷ counts (F.failures faults.old) (F.failures faults.new) ∷ []) }
+    ensures working { result ≢ 3
+        → NoneFailed (counts (S.failures source.old) (S.failures source.new)
+        ∷ counts (O.failures output.old) (O.failures output.new)
+        ∷ counts (F.failures faults.old) (F.failures faults.new) ∷ []) }
+    ensures whole { result ≡ 0 → GivesScript (S.to_give source.old) (S.to_give source.new) }
+    ensures read { result ≡ 1 → GivesAll (S.to_give source.old) (S.to_give source.new) }
+    // At status 1 the first fault of the text was told by its line.
+    ensures told { result ≡ 1 → TellsRefusal
+        (IsRefusedFor IsUndescribed (S.to_give source.old) (S.to_give source.new))
+        (F.held faults.old) (F.held faults.new) }
+    ensures silent { result ≡ 0 → faults.new ≡ faults.old }
+    ensures memory { result ≡ 4 → Appends (F.held faults.old) (F.held faults.new) memory_line }
+    // At 0 the canonical line of the text is printed.
+    ensures printed { result ≡ 0 → DoesScript Describes
+        (S.to_give source.old) (S.to_give source.new) (O.held output.old) (O.held output.new) }
+{
+    let outcome = describe(alloc, source, output);
+    end(outcome, faults)
+}
+
+/// Plays the schedule that the source gives as a script, and answers the exit status.
+///
+/// The script is read whole; then it is planned and played, and a line is printed to `output` for
+/// each frame that was handed out, in order, and then for each receiver its number and a line for
+/// the frame of each timestamp of its window. The status is 0; or 1 where the script, its format,
+/// its plan or its schedule is refused, 3 where a device failed, and 4 where the allocator refused
+/// memory, which `faults` is told by one line.
+pub fn run_rehearse<A, S, O, F>(alloc: A, source: &mut S, output: &mut O, faults: &mut F) -> u8
+where
+    A: Allocator + Copy,
+    S: ByteSource,
+    O: ByteSink,
+    F: ByteSink,
+    ensures range { (result ≡ 0) ⊎ (result ≡ 1) ⊎ (result ≡ 3) ⊎ (result ≡ 4) }
+    ensures device { result ≡ 3
+        → OneFailed (counts (S.failures source.old) (S.failures source.new)
+        ∷ counts (O.failures output.old) (O.failures output.new)
+        ∷ counts (F.failures faults.old) (F.failures faults.new) ∷ []) }
+    ensures working { result ≢ 3
+        → NoneFailed (counts (S.failures source.old) (S.failures source.new)
+        ∷ counts (O.failures output.old) (O.failures output.new)
+        ∷ counts (F.failures faults.old) (F.failures faults.new) ∷ []) }
+    ensures whole { result ≡ 0 → GivesScript (S.to_give source.old) (S.to_give source.new) }
+    ensures read { result ≡ 1 → GivesAll (S.to_give source.old) (S.to_give source.new) }
+    // At status 1 why the script is no rehearsal, or isn't played, was told by its line.
+    ensures told { result ≡ 1 → TellsRefusal
+        (IsRefusedFor IsRefusedScript (S.to_give source.old) (S.to_give source.new))
+        (F.held faults.old) (F.held faults.new) }
+    ensures silent { result ≡ 0 → faults.new ≡ faults.old }
+    ensures memory { result ≡ 4 → Appends (F.held faults.old) (F.held faults.new) memory_line }
+    // At 0 what the script says is played, and printed; at 1 nothing is printed.
+    ensures rehearses { result ≡ 0 → DoesScript (Rehearses A)
+        (S.to_give source.old) (S.to_give source.new) (O.held output.old) (O.held output.new) }
+    ensures nothing { result ≡ 1 → O.held output.new ≡ O.held output.old }
+{
+    let outcome = rehearse(alloc, source, output);
+    end(outcome, faults)
+}
