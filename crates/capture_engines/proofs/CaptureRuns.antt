@@ -10,19 +10,19 @@ use Rattle.st_format.specs.Turns.{Due, Comes, Nothing, GivesTurns, datagrams_of}
 use Rattle.st_format.specs.declared.device.SourceFault.{SourceFault}
 use Rattle.st_format.specs.declared.device.SourceFault.TheVariants.{Content}
 use Rattle.st_format.specs.declared.device.SourceFault.TheVariants.{Device as FailedDevice}
-use Rattle.capture_file.specs.declared.fault.FileFault.{FileFault}
-use Rattle.capture_file.specs.declared.fault.FileFault.TheVariants.{NoMemory, Device, BadName}
-use Rattle.capture_file.specs.declared.fault.FileFault.TheVariants.{BadVersion, Truncated, BadField}
-use Rattle.capture_file.specs.declared.fault.FileFault.TheVariants.{TrailingBytes, MixedGroup}
-use Rattle.capture_file.specs.declared.fault.FileFault.TheVariants.{TooManyRecords}
-use Rattle.capture_file.specs.declared.reader.Standing.{Standing}
-use Rattle.capture_file.specs.declared.reader.Standing.TheVariants.{Reads, Ended, Failed}
-use Rattle.capture_file.specs.Faults.{CountsFault, file_fault_number}
-use Rattle.capture_file.specs.Reader.{FailsBehind, HasDelivered, StandsRight, due_of, dues_in}
-use Rattle.capture_file.specs.Reader.{last_fault_of, source_fault, turns_of}
-use Rattle.capture_file.specs.Reading.{entries_in, fault_at}
-use Rattle.capture_file.specs.Records.{Entry}
-use Rattle.capture_file.specs.Source.{GivesRecords, IfTold}
+use Rattle.media_file.specs.declared.fault.FileFault.{FileFault}
+use Rattle.media_file.specs.declared.fault.FileFault.TheVariants.{NoMemory, Device, BadName}
+use Rattle.media_file.specs.declared.fault.FileFault.TheVariants.{BadVersion, Truncated, BadField}
+use Rattle.media_file.specs.declared.fault.FileFault.TheVariants.{TrailingBytes, MixedGroup}
+use Rattle.media_file.specs.declared.fault.FileFault.TheVariants.{TooManyRecords}
+use Rattle.media_file.specs.declared.reader.Standing.{Standing}
+use Rattle.media_file.specs.declared.reader.Standing.TheVariants.{Reads, Ended, Failed}
+use Rattle.media_file.specs.Faults.{CountsFault, file_fault_number}
+use Rattle.media_file.specs.Reader.{FailsBehind, HasDelivered, StandsRight, due_of, dues_in}
+use Rattle.media_file.specs.Reader.{last_fault_of, source_fault, turns_of}
+use Rattle.media_file.specs.Reading.{entries_in, fault_at}
+use Rattle.media_file.specs.Records.{Entry}
+use Rattle.media_file.specs.Source.{GivesRecords, IfTold}
 use Rattle.path_merge.specs.Frames.{Holds, State}
 use Rattle.path_merge.specs.Took.{CountsAll, HearsAll, Took, TookUpTo, delivered_in}
 use Rattle.path_merge.specs.declared.answer.Refusal.{Refusal}

@@ -6,7 +6,7 @@ use Rattle.capture_engines.specs.Sent.{FirstIs}
 use Rattle.std.specs.List.{flat_map}
 use Rattle.std.specs.Io.KnownBytes.{Appends}
 use Rattle.std.specs.Prelude.{IfOk}
-use Rattle.capture_file.specs.StateFile.{state_text}
+use Rattle.media_file.specs.StateFile.{state_text}
 use Rattle.path_merge.specs.Frames.{Holds}
 use Rattle.receiver_file.specs.Saved.{kept_of}
 use Rattle.run_outcome.specs.Sources.{IsSourceText}

@@ -1,13 +1,13 @@
 -- Which refusal ends a run of `migrate`.
 use Rattle.std.proofs.Common.{◌≡◌, ℕ, inl, inr, List, Option, Some, Err, subst}
-use Rattle.capture_file.specs.Faults.{IfContent}
-use Rattle.capture_file.specs.Fields.{Fails}
-use Rattle.capture_file.specs.Migrated.{old_at}
-use Rattle.capture_file.specs.declared.fault.FileFault.{FileFault}
-use Rattle.capture_file.specs.declared.fault.FileFault.TheVariants.{NoMemory, Device, BadName}
-use Rattle.capture_file.specs.declared.fault.FileFault.TheVariants.{BadVersion, Truncated, BadField}
-use Rattle.capture_file.specs.declared.fault.FileFault.TheVariants.{TrailingBytes, MixedGroup}
-use Rattle.capture_file.specs.declared.fault.FileFault.TheVariants.{TooManyRecords}
+use Rattle.media_file.specs.Faults.{IfContent}
+use Rattle.media_file.specs.Fields.{Fails}
+use Rattle.media_file.specs.Migrated.{old_at}
+use Rattle.media_file.specs.declared.fault.FileFault.{FileFault}
+use Rattle.media_file.specs.declared.fault.FileFault.TheVariants.{NoMemory, Device, BadName}
+use Rattle.media_file.specs.declared.fault.FileFault.TheVariants.{BadVersion, Truncated, BadField}
+use Rattle.media_file.specs.declared.fault.FileFault.TheVariants.{TrailingBytes, MixedGroup}
+use Rattle.media_file.specs.declared.fault.FileFault.TheVariants.{TooManyRecords}
 use Rattle.sdp_format.specs.declared.fault.SdpFault.TheVariants as sdp
 use Rattle.run_outcome.specs.LowerFaults.{capture_fault}
 use Rattle.capture_engines.specs.MigrateRefused.{IsCaptureRefusal, IsMigrateRefusal}

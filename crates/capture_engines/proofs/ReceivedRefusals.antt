@@ -1,7 +1,7 @@
 -- Which refusal ends a run of `receive`.
 use Rattle.std.proofs.Common.{◌≡◌, ℕ, ◌≤◌, ◌⊎◌, inl, inr, List, [], ◌∷◌, length, Option, None, Some}
 use Rattle.std.proofs.Common.{refl, sym, ap, subst, ◌∙◌, arith, drop}
-use Rattle.capture_file.specs.Fronts.{front_at}
+use Rattle.media_file.specs.Fronts.{front_at}
 use Rattle.std.proofs.Common.{Ok}
 use Rattle.capture_engines.specs.Received.{HasCaptureFault, HasRecordFault, IsBehindRefusal}
 use Rattle.capture_engines.specs.Received.{IsFrontRefusal}

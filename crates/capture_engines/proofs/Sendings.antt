@@ -13,18 +13,18 @@ use Rattle.st_format.specs.Device.{CountsOne, Failed}
 use Rattle.st_format.specs.Picture.{Values}
 use Rattle.st_format.specs.declared.device.ByteSink.{Ghosts}
 use Rattle.st_format.specs.declared.format.Format.{Format}
-use Rattle.capture_file.proofs.Putting.{each_written, fails_once}
-use Rattle.capture_file.specs.Faults.{CountsFault, IsDevice}
-use Rattle.capture_file.specs.declared.fault.FileFault.{FileFault}
-use Rattle.capture_file.specs.declared.fault.FileFault.TheVariants.{Device}
-use Rattle.capture_file.proofs.Written.{records_append}
-use Rattle.capture_file.specs.Fronts.{front_text}
-use Rattle.capture_file.specs.Records.{Entry, records_text}
-use Rattle.capture_file.specs.Writer.{FailsDatagram, TakesDatagram, Writer, WriterPlace}
-use Rattle.capture_file.specs.Writer.{entries_from, entries_of, moment_after, moment_behind}
-use Rattle.capture_file.specs.Writer.{written_text}
-use Rattle.capture_file.specs.declared.front.Version.TheVariants.{Two}
-use Rattle.capture_file.specs.declared.paths.Paths.{Paths}
+use Rattle.media_file.proofs.Putting.{each_written, fails_once}
+use Rattle.media_file.specs.Faults.{CountsFault, IsDevice}
+use Rattle.media_file.specs.declared.fault.FileFault.{FileFault}
+use Rattle.media_file.specs.declared.fault.FileFault.TheVariants.{Device}
+use Rattle.media_file.proofs.Written.{records_append}
+use Rattle.media_file.specs.Fronts.{front_text}
+use Rattle.media_file.specs.Records.{Entry, records_text}
+use Rattle.media_file.specs.Writer.{FailsDatagram, TakesDatagram, Writer, WriterPlace}
+use Rattle.media_file.specs.Writer.{entries_from, entries_of, moment_after, moment_behind}
+use Rattle.media_file.specs.Writer.{written_text}
+use Rattle.media_file.specs.declared.front.Version.TheVariants.{Two}
+use Rattle.media_file.specs.declared.paths.Paths.{Paths}
 use Rattle.packet_plan.specs.Plan.{RasterPlan}
 use Rattle.packet_plan.specs.Sending.{PutsPart, PutsPicture}
 use Rattle.packet_plan.specs.Sender.{IsNext, SendsFrom, Sender, stamp_of}

@@ -7,10 +7,10 @@ use Rattle.std.specs.Option.{option_map}
 use Rattle.std.specs.Prelude.{OnOk}
 use Rattle.st_format.specs.Raster.{Raster}
 use Rattle.st_format.specs.Turns.{Due, GivesTurns, HasEnded, datagrams_of}
-use Rattle.capture_file.specs.Fields.{Takes}
-use Rattle.capture_file.specs.Fronts.{front_at}
-use Rattle.capture_file.specs.Reader.{dues_in, turns_of}
-use Rattle.capture_file.specs.declared.reader.Standing.TheVariants.{Reads}
+use Rattle.media_file.specs.Fields.{Takes}
+use Rattle.media_file.specs.Fronts.{front_at}
+use Rattle.media_file.specs.Reader.{dues_in, turns_of}
+use Rattle.media_file.specs.declared.reader.Standing.TheVariants.{Reads}
 use Rattle.path_merge.specs.Frames.{Holds, State, frames_of, joined_frames}
 use Rattle.path_merge.specs.Opening.{Opening as Opened}
 use Rattle.path_merge.specs.Answers.{taken_at}

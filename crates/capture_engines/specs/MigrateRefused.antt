@@ -1,7 +1,7 @@
 -- Which refusal ends a run of `merge`, and which one of `migrate` (own). Each is said to stand only
 -- where none before it does.
 use Rattle.std.specs.Prelude.{◌≡◌, ℕ, List, Option, Some, Err}
-use Rattle.capture_file.specs.Migrated.{old_at}
+use Rattle.media_file.specs.Migrated.{old_at}
 use Rattle.run_outcome.specs.declared.refusal.Refusal.{Refusal}
 use Rattle.run_outcome.specs.declared.refusal.Refusal.TheVariants as refusal
 use Rattle.run_outcome.specs.TextRefusals.{IsTextRefusal, SaysCaptureText}

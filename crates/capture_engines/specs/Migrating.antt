@@ -1,8 +1,8 @@
 -- What `migrate` writes.
 use Rattle.std.specs.Prelude.{◌≡◌, ℕ, List, Option}
-use Rattle.capture_file.specs.Migrated.{Devices, Migrated, Stops, new_text}
-use Rattle.capture_file.specs.declared.fault.FileFault.{FileFault}
-use Rattle.capture_file.specs.declared.fault.FileFault.TheVariants as file
+use Rattle.media_file.specs.Migrated.{Devices, Migrated, Stops, new_text}
+use Rattle.media_file.specs.declared.fault.FileFault.{FileFault}
+use Rattle.media_file.specs.declared.fault.FileFault.TheVariants as file
 use Rattle.run_outcome.specs.declared.fault.Fault.{Fault}
 use Rattle.run_outcome.specs.declared.fault.Fault.TheVariants as fault
 use Rattle.run_outcome.specs.declared.refusal.Refusal.{Refusal}

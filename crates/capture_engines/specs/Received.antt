@@ -1,12 +1,12 @@
 -- Which refusal ends a run of `receive` (own).
 use Rattle.std.specs.Prelude.{◌≡◌, ℕ, ◌⊎◌, List, [], ◌∷◌, ◌++◌, length, MatchOption}
 use Rattle.std.specs.Prelude.{Option, None, Some, Ok, Err}
-use Rattle.capture_file.specs.Fields.{Takes}
-use Rattle.capture_file.specs.Fronts.{front_at}
-use Rattle.capture_file.specs.Reading.{fault_at}
-use Rattle.capture_file.specs.Records.{AllFit, Entry, records_text}
-use Rattle.capture_file.specs.declared.fault.FileFault.{FileFault}
-use Rattle.capture_file.specs.declared.fault.FileFault.TheVariants.{TooManyRecords}
+use Rattle.media_file.specs.Fields.{Takes}
+use Rattle.media_file.specs.Fronts.{front_at}
+use Rattle.media_file.specs.Reading.{fault_at}
+use Rattle.media_file.specs.Records.{AllFit, Entry, records_text}
+use Rattle.media_file.specs.declared.fault.FileFault.{FileFault}
+use Rattle.media_file.specs.declared.fault.FileFault.TheVariants.{TooManyRecords}
 use Rattle.path_merge.specs.Opening.{AreDifferent, IsWindowSize}
 use Rattle.path_merge.specs.declared.fault.OpenFault.{OpenFault}
 use Rattle.path_merge.specs.declared.fault.OpenFault.TheVariants as open_fault

@@ -6,7 +6,7 @@ use Rattle.std.specs.List.{AllZip}
 use Rattle.st_format.specs.Picture.{Values}
 use Rattle.st_format.specs.declared.device.ByteSink.{Ghosts}
 use Rattle.st_format.specs.declared.format.Format.{Format}
-use Rattle.capture_file.specs.Writer.{moment_after, written_text}
+use Rattle.media_file.specs.Writer.{moment_after, written_text}
 use Rattle.packet_plan.specs.Plan.{RasterPlan}
 use Rattle.packet_plan.specs.Sender.{IsNext, IsSenderList, Sender, stamp_of}
 use Rattle.run_outcome.specs.Pictures.{SaysPicture}

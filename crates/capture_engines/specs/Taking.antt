@@ -8,11 +8,11 @@ use Rattle.sdp_format.specs.Grammar.{IsDescribed}
 use Rattle.sdp_format.specs.Sections.{Description, video_sections}
 use Rattle.st_format.specs.Fields.{fields_of}
 use Rattle.st_format.specs.Turns.{Due, datagrams_of}
-use Rattle.capture_file.specs.Fields.{Takes}
-use Rattle.capture_file.specs.Fronts.{front_at}
-use Rattle.capture_file.specs.Reader.{dues_in}
-use Rattle.capture_file.specs.StateFile.{state_text}
-use Rattle.capture_file.specs.declared.fault.FileFault.{FileFault}
+use Rattle.media_file.specs.Fields.{Takes}
+use Rattle.media_file.specs.Fronts.{front_at}
+use Rattle.media_file.specs.Reader.{dues_in}
+use Rattle.media_file.specs.StateFile.{state_text}
+use Rattle.media_file.specs.declared.fault.FileFault.{FileFault}
 use Rattle.path_merge.specs.Answers.{taken_at}
 use Rattle.path_merge.specs.Frames.{Holds, State}
 use Rattle.path_merge.specs.Opening.{Opening as Opened}

@@ -1,7 +1,7 @@
 -- What a writer of a capture writes of datagrams.
 use Rattle.std.specs.Prelude.{ℕ, List, Option}
 use Rattle.st_format.specs.Picture.{Values}
-use Rattle.capture_file.specs.Writer.{Writer, WritesDatagrams}
+use Rattle.media_file.specs.Writer.{Writer, WritesDatagrams}
 use Rattle.packet_plan.specs.Plan.{RasterPlan}
 use Rattle.packet_plan.specs.Sent.{IsSentPicture}
 use Rattle.packet_plan.specs.declared.stamp.Stamp.{Stamp}

@@ -4,9 +4,9 @@ ghost use Rattle.run_outcome.specs.Fault.{Accounts, counts};
 ghost use Rattle.capture_engines.specs.Migrating.{LeavesBy, Migrates, MovesBy};
 ghost use Rattle.capture_engines.specs.MigrateRefused.{IsCaptureRefusal, IsMigrateRefusal};
 ghost use Rattle.run_outcome.specs.Refusing.{OfRefusal};
-ghost use Rattle.capture_file.specs.Migrated.{Migrated, devices};
+ghost use Rattle.media_file.specs.Migrated.{Migrated, devices};
 
-use capture_file::migrate_capture;
+use media_file::migrate_capture;
 use run_outcome::{Fault, Line, Refusal, of_capture, print, read_checked, room};
 use st_format::{ByteSink, ByteSource};
 use std::alloc::Allocator;

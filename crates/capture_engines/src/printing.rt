@@ -12,10 +12,7 @@ use st_format::ByteSink;
 
 /// Prints how many datagrams were refused, for each reason that came, and how many were outside the
 /// window.
-pub(crate) fn print_tally<O: ByteSink>(
-    tally: &Tally,
-    output: &mut O,
-) -> Result<(), Fault>
+pub(crate) fn print_tally<O: ByteSink>(tally: &Tally, output: &mut O) -> Result<(), Fault>
     ensures printed { OnOk result
         (Appends (O.held output.old) (O.held output.new) (tally_text tally.now)) }
     ensures cut { OnErr result
@@ -29,10 +26,7 @@ pub(crate) fn print_tally<O: ByteSink>(
 }
 
 /// Prints how often each refusal came that came, of the counts of all.
-fn print_refusals<O: ByteSink>(
-    refused: &[u64; 14],
-    output: &mut O,
-) -> Result<(), Fault>
+fn print_refusals<O: ByteSink>(refused: &[u64; 14], output: &mut O) -> Result<(), Fault>
     ensures printed { OnOk result (Appends (O.held output.old) (O.held output.new)
         (flat_map (refusal_line refused.now) refusals)) }
     ensures cut { OnErr result (AppendsPrefix (O.held output.old) (O.held output.new)
@@ -49,11 +43,7 @@ fn print_refusals<O: ByteSink>(
 }
 
 /// Prints a line where what it counts came at all.
-fn print_counted<O: ByteSink>(
-    line: Line,
-    count: u64,
-    output: &mut O,
-) -> Result<(), Fault>
+fn print_counted<O: ByteSink>(line: Line, count: u64, output: &mut O) -> Result<(), Fault>
     ensures printed { OnOk result
         (Appends (O.held output.old) (O.held output.new) (counted_line count line)) }
     ensures cut { OnErr result

@@ -2,8 +2,8 @@
 ghost use Rattle.std.specs.Prelude.{◌≡◌, ◌≢◌, ◌≤◌, ◌<◌, ◌+◌, ◌∷◌, [], IfErr, IfOk, OnOk};
 ghost use Rattle.std.specs.Prelude.{MatchOption, Option, None, Some, drop, length, sum_by};
 ghost use Rattle.std.specs.Io.KnownBytes.{Appends};
-ghost use Rattle.capture_file.specs.Reader.{IsNewReader};
-ghost use Rattle.capture_file.specs.StateFile.{state_text};
+ghost use Rattle.media_file.specs.Reader.{IsNewReader};
+ghost use Rattle.media_file.specs.StateFile.{state_text};
 ghost use Rattle.run_outcome.specs.Fault.{Accounts, IfRefused, counts, failures_in};
 ghost use Rattle.capture_engines.specs.Printed.{if_wanted, received_text, tally_text};
 ghost use Rattle.capture_engines.specs.Received.{IsCapturesRefusal, IsFrontRefusal, IsGivenRefusal};
@@ -21,7 +21,7 @@ ghost use Rattle.run_outcome.specs.Timestamps.{AreTimestamps};
 use crate::printing::print_tally;
 use crate::session::Session;
 use crate::tally::Tally;
-use capture_file::CaptureReader;
+use media_file::CaptureReader;
 use path_merge::Receiver;
 use receiver_file::save_receiver;
 use run_outcome::{
@@ -99,10 +99,7 @@ where
 }
 
 /// Writes a receiver's file.
-fn save<A: Allocator, K: ByteSink>(
-    receiver: &Receiver<A>,
-    state: &mut K,
-) -> Result<(), Fault>
+fn save<A: Allocator, K: ByteSink>(receiver: &Receiver<A>, state: &mut K) -> Result<(), Fault>
     ensures whole { OnOk result (Appends (K.held state.old) (K.held state.new)
         (state_text (kept_of receiver.now))) }
     ensures writable { IsWritable receiver.now }
@@ -354,11 +351,7 @@ fn print_session<A: Allocator, O: ByteSink>(
 }
 
 /// Prints what a tally counts, where that is wanted.
-fn print_wanted<O: ByteSink>(
-    tally: &Tally,
-    is_wanted: bool,
-    output: &mut O,
-) -> Result<(), Fault>
+fn print_wanted<O: ByteSink>(tally: &Tally, is_wanted: bool, output: &mut O) -> Result<(), Fault>
     ensures printed { OnOk result (Appends (O.held output.old) (O.held output.new)
         (if_wanted is_wanted (tally_text tally.now))) }
     ensures unrefused { IfErr result (λ f. IfRefused f ⊥) }

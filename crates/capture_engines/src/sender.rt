@@ -5,7 +5,7 @@ ghost use Rattle.run_outcome.specs.Fault.{Accounts, counts};
 ghost use Rattle.run_outcome.specs.Refusing.{OfRefusal};
 ghost use Rattle.run_outcome.specs.declared.refusal.Refusal.TheVariants.{SendFormats};
 
-use capture_file::{CaptureWriter, Paths};
+use media_file::{CaptureWriter, Paths};
 use packet_plan::{Plan, Stamp, send_frame};
 use pgroup_pack::PackedPicture;
 use run_outcome::{Fault, Refusal};

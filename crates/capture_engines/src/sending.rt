@@ -11,7 +11,7 @@ ghost use Rattle.capture_engines.specs.Sending.{SaysSdp, SendsAll, SendsEach, Se
 ghost use Rattle.capture_engines.specs.Sending.{SendsPictures, SendsRest};
 
 use crate::sender::{Sender, Sending};
-use capture_file::CaptureWriter;
+use media_file::CaptureWriter;
 use packet_plan::Plan;
 use pgroup_pack::PackedPicture;
 use run_outcome::{Fault, Line, Refusal, of_capture, print, read_checked, read_packed, room};

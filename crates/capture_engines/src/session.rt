@@ -1,9 +1,9 @@
 //! Taking the datagrams of captures into one receiver.
 ghost use Rattle.std.specs.Prelude.{◌≡◌, ◌≤◌, ◌+◌, ◌-◌, ◌^◌, ◌∷◌, ◌++◌, [], ℕ, List, Ok, Err, Some};
 ghost use Rattle.std.specs.Prelude.{true, false, length, take, min, IfErr, IfOk, OnOk};
-ghost use Rattle.capture_file.specs.Reader.{IsNewReader, dues_in, source_fault};
-ghost use Rattle.capture_file.specs.declared.fault.FileFault.{FileFault};
-ghost use Rattle.capture_file.specs.declared.fault.FileFault.TheVariants.{TooManyRecords};
+ghost use Rattle.media_file.specs.Reader.{IsNewReader, dues_in, source_fault};
+ghost use Rattle.media_file.specs.declared.fault.FileFault.{FileFault};
+ghost use Rattle.media_file.specs.declared.fault.FileFault.TheVariants.{TooManyRecords};
 ghost use Rattle.run_outcome.specs.Fault.{Accounts, counts};
 ghost use Rattle.run_outcome.specs.LowerFaults.{capture_fault};
 ghost use Rattle.capture_engines.specs.Received.{HasRecordFault, IsFileRefusal, IsOpeningRefusal};
@@ -16,7 +16,7 @@ ghost use Rattle.path_merge.specs.Frames.{Holds};
 ghost use Rattle.st_format.specs.Turns.{datagrams_of};
 
 use crate::tally::Tally;
-use capture_file::{CaptureReader, FileFault};
+use media_file::{CaptureReader, FileFault};
 use path_merge::{ReceiveFault, Received, Receiver, receive_each};
 use run_outcome::{Fault, of_capture};
 use sdp_format::read_sdp;

@@ -1,34 +1,10 @@
-//! Captures and pictures as files, and what a receiver's file says (own).
+//! The door to the project's files: captures, pictures and receivers, read and written.
 #![tactic(auto)]
 
-mod block;
-mod capture;
-mod fault;
-mod front;
-pub mod laws;
-mod migrating;
-mod packed_reading;
-mod paths;
-mod picture_reading;
-mod picture_writing;
-mod pieces;
-mod reader;
-mod record;
-mod steps;
-mod writer;
-mod writing;
-
-pub use block::{format_block, read_format};
-pub use capture::{Capture, read_capture};
-pub use fault::FileFault;
-pub use front::{Version, read_end, read_field, read_kind};
-pub use migrating::migrate_capture;
-pub use packed_reading::read_packed_picture;
-pub use paths::Paths;
-pub use picture_reading::read_picture;
-pub use picture_writing::write_picture;
-pub use reader::{CaptureReader, Standing};
-pub use record::{Record, RecordHead};
-pub use steps::{record_begins, record_rest};
-pub use writer::CaptureWriter;
-pub use writing::{write_capture, write_front, write_record};
+pub use media_file::{
+    Capture, CaptureReader, CaptureWriter, FileFault, Paths, Record, RecordHead, Standing, Version,
+    format_block, laws, migrate_capture, read_capture, read_end, read_field, read_format,
+    read_kind, read_packed_picture, read_picture, record_begins, record_rest, write_capture,
+    write_front, write_picture, write_record,
+};
+pub use receiver_file::{load_receiver, save_receiver};

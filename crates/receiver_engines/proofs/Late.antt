@@ -4,11 +4,11 @@ use Rattle.std.proofs.Common.{append_assoc, subst, ◌∙◌, ap, take, Ok, Err,
 use Rattle.std.proofs.KnownBytes.{Appends-nil, Appends-trans}
 use Rattle.std.specs.Borrow.{GName}
 use Rattle.std.specs.Io.KnownBytes.{Appends}
-use Rattle.capture_file.specs.Fronts.{front_text}
-use Rattle.capture_file.specs.Records.{record_text, records_text}
-use Rattle.capture_file.specs.Writer.{entries_from, entry, moment_behind}
-use Rattle.capture_file.specs.declared.front.Version.TheVariants.{Two}
-use Rattle.capture_file.specs.declared.paths.Paths.TheVariants.{OnlyA}
+use Rattle.media_file.specs.Fronts.{front_text}
+use Rattle.media_file.specs.Records.{record_text, records_text}
+use Rattle.media_file.specs.Writer.{entries_from, entry, moment_behind}
+use Rattle.media_file.specs.declared.front.Version.TheVariants.{Two}
+use Rattle.media_file.specs.declared.paths.Paths.TheVariants.{OnlyA}
 use Rattle.key_mix.specs.Sending.{Puts}
 use Rattle.key_mix.specs.declared.faults.SendJobFault.{SendJobFault}
 use Rattle.key_mix.specs.declared.faults.SendJobFault.TheVariants as fault

@@ -3,7 +3,7 @@ use Rattle.std.proofs.Common.{◌≡◌, ℕ, List, [], ◌++◌, Option, Result
 use Rattle.std.specs.Prelude.{OnOk}
 use Rattle.std.specs.Io.KnownBytes.{Appends}
 use Rattle.st_format.specs.Raster.{Raster}
-use Rattle.capture_file.specs.StateFile.{Kept, state_text}
+use Rattle.media_file.specs.StateFile.{Kept, state_text}
 use Rattle.path_merge.specs.Frames.{Holds, State, frames_of, joined_frames}
 use Rattle.path_merge.specs.Opening.{Opening}
 use Rattle.path_merge.proofs.Frames.{frames_of-append}

@@ -1,11 +1,11 @@
 -- A fault of a receiver's file as a refusal.
 use Rattle.std.proofs.Common.{◌≡◌, ℕ, List, Option, Some}
-use Rattle.capture_file.specs.Faults.{IfContent}
-use Rattle.capture_file.specs.declared.fault.FileFault.{FileFault}
-use Rattle.capture_file.specs.declared.fault.FileFault.TheVariants.{NoMemory, Device, BadName}
-use Rattle.capture_file.specs.declared.fault.FileFault.TheVariants.{BadVersion, Truncated, BadField}
-use Rattle.capture_file.specs.declared.fault.FileFault.TheVariants.{TrailingBytes, MixedGroup}
-use Rattle.capture_file.specs.declared.fault.FileFault.TheVariants.{TooManyRecords}
+use Rattle.media_file.specs.Faults.{IfContent}
+use Rattle.media_file.specs.declared.fault.FileFault.{FileFault}
+use Rattle.media_file.specs.declared.fault.FileFault.TheVariants.{NoMemory, Device, BadName}
+use Rattle.media_file.specs.declared.fault.FileFault.TheVariants.{BadVersion, Truncated, BadField}
+use Rattle.media_file.specs.declared.fault.FileFault.TheVariants.{TrailingBytes, MixedGroup}
+use Rattle.media_file.specs.declared.fault.FileFault.TheVariants.{TooManyRecords}
 use Rattle.receiver_file.specs.StateFaults.{IsStateFault}
 use Rattle.run_outcome.specs.LowerFaults.{state_fault}
 use Rattle.receiver_engines.specs.States.{IsStateRefusal}

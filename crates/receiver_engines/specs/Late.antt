@@ -2,11 +2,11 @@
 use Rattle.std.specs.Prelude.{◌≡◌, ℕ, Bool, true, false, List, [], ◌∷◌, ◌++◌, Option}
 use Rattle.std.specs.Borrow.{GName}
 use Rattle.std.specs.Io.KnownBytes.{Appends}
-use Rattle.capture_file.specs.Fronts.{front_text}
-use Rattle.capture_file.specs.Records.{record_text}
-use Rattle.capture_file.specs.Writer.{entry, moment_behind, written_text}
-use Rattle.capture_file.specs.declared.front.Version.TheVariants.{Two}
-use Rattle.capture_file.specs.declared.paths.Paths.TheVariants.{OnlyA}
+use Rattle.media_file.specs.Fronts.{front_text}
+use Rattle.media_file.specs.Records.{record_text}
+use Rattle.media_file.specs.Writer.{entry, moment_behind, written_text}
+use Rattle.media_file.specs.declared.front.Version.TheVariants.{Two}
+use Rattle.media_file.specs.declared.paths.Paths.TheVariants.{OnlyA}
 use Rattle.st_format.specs.Device.{CountsOne}
 use Rattle.st_format.specs.declared.path.Path.TheVariants.{A}
 use Rattle.receiver_engines.specs.declared.late_capture.LateCapture.{LateCapture}

@@ -1,7 +1,7 @@
 -- What `merge` writes.
 use Rattle.std.specs.Prelude.{◌≡◌, ℕ, List, [], ◌++◌, Option, Some}
 use Rattle.std.specs.Io.KnownBytes.{Appends}
-use Rattle.capture_file.specs.StateFile.{state_text}
+use Rattle.media_file.specs.StateFile.{state_text}
 use Rattle.path_merge.specs.Frames.{Holds, State, joined_frames}
 use Rattle.receiver_file.specs.Saved.{IsReceiverFile, IsWritable, kept_of}
 

@@ -4,7 +4,7 @@ ghost use Rattle.std.specs.Io.KnownBytes.{Appends};
 ghost use Rattle.receiver_engines.specs.Late.{FailsLate, TakesLate, late_front, late_octets};
 ghost use Rattle.st_format.specs.Device.{CountsFaults, CountsOne};
 
-use capture_file::{write_front, write_record};
+use media_file::{write_front, write_record};
 use st_format::{ByteSink, DatagramSink, DeviceFault, Path, SinkFault};
 
 /// Writes a capture with an empty text, of records by path A, into a sink of octets. It is begun at

@@ -1,5 +1,5 @@
-//! The engines of the program that read receivers' files: two are merged, one is reported, and frames
-//! of some are processed.
+//! The engines of the program that read receivers' files: two are merged, one is reported, and
+//! frames of some are processed.
 #![tactic(auto)]
 
 mod fill_text;

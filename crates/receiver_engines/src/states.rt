@@ -4,7 +4,7 @@ ghost use Rattle.run_outcome.specs.Fault.{Accounts, IfRefused, counts};
 ghost use Rattle.receiver_engines.specs.Merging.{Saves, GivesReceiver, IsAgain, SaysReceiver};
 ghost use Rattle.run_outcome.specs.Refusing.{OfRefusal};
 ghost use Rattle.std.specs.Io.KnownBytes.{Appends};
-ghost use Rattle.capture_file.specs.StateFile.{state_text};
+ghost use Rattle.media_file.specs.StateFile.{state_text};
 ghost use Rattle.receiver_file.specs.Saved.{kept_of};
 ghost use Rattle.receiver_engines.specs.States.{IsStateRefusal};
 ghost use Rattle.path_merge.specs.Frames.{State};

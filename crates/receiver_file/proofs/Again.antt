@@ -14,25 +14,25 @@ use Rattle.st_format.specs.Member.{IsMember}
 use Rattle.path_merge.specs.Frames.{State}
 use Rattle.path_merge.specs.Opening.{AreDifferent}
 use Rattle.path_merge.proofs.Answered.{member_from_any}
-use Rattle.capture_file.specs.declared.fault.FileFault.{FileFault}
-use Rattle.capture_file.specs.declared.fault.FileFault.TheVariants.{NoMemory, Device, BadName}
-use Rattle.capture_file.specs.declared.fault.FileFault.TheVariants.{BadVersion, Truncated, BadField}
-use Rattle.capture_file.specs.declared.fault.FileFault.TheVariants.{TrailingBytes, MixedGroup}
-use Rattle.capture_file.specs.declared.fault.FileFault.TheVariants.{TooManyRecords}
-use Rattle.capture_file.specs.declared.front.Version.TheVariants.{One}
-use Rattle.capture_file.specs.Blocks.{block_at}
-use Rattle.capture_file.specs.Faults.{IfContent, IsMachine}
-use Rattle.capture_file.specs.Fields.{Fails, Takes, Leaves, nothing_at}
+use Rattle.media_file.specs.declared.fault.FileFault.{FileFault}
+use Rattle.media_file.specs.declared.fault.FileFault.TheVariants.{NoMemory, Device, BadName}
+use Rattle.media_file.specs.declared.fault.FileFault.TheVariants.{BadVersion, Truncated, BadField}
+use Rattle.media_file.specs.declared.fault.FileFault.TheVariants.{TrailingBytes, MixedGroup}
+use Rattle.media_file.specs.declared.fault.FileFault.TheVariants.{TooManyRecords}
+use Rattle.media_file.specs.declared.front.Version.TheVariants.{One}
+use Rattle.media_file.specs.Blocks.{block_at}
+use Rattle.media_file.specs.Faults.{IfContent, IsMachine}
+use Rattle.media_file.specs.Fields.{Fails, Takes, Leaves, nothing_at}
 use Rattle.st_format.specs.Reading.{◌>>=◌}
-use Rattle.capture_file.specs.Fronts.{kind_at, kind_of, kind_text, receiver_name, with_rest}
-use Rattle.capture_file.specs.Groups.{Shape, groups_at, groups_text, shape_of}
-use Rattle.capture_file.specs.PictureFaults.{IsFormat}
-use Rattle.capture_file.specs.StateFile.{Held, IsHeld, Kept, SsrcFits, format_text, group_count}
-use Rattle.capture_file.specs.StateFile.{held_text, opening_text, ssrc_text, state_text}
-use Rattle.capture_file.proofs.Grouped.{groups_again}
-use Rattle.capture_file.proofs.Once.{shape_is}
-use Rattle.capture_file.proofs.PictureFaults.{block_tells}
-use Rattle.capture_file.proofs.Splits.{field_again}
+use Rattle.media_file.specs.Fronts.{kind_at, kind_of, kind_text, receiver_name, with_rest}
+use Rattle.media_file.specs.Groups.{Shape, groups_at, groups_text, shape_of}
+use Rattle.media_file.specs.PictureFaults.{IsFormat}
+use Rattle.media_file.specs.StateFile.{Held, IsHeld, Kept, SsrcFits, format_text, group_count}
+use Rattle.media_file.specs.StateFile.{held_text, opening_text, ssrc_text, state_text}
+use Rattle.media_file.proofs.Grouped.{groups_again}
+use Rattle.media_file.proofs.Once.{shape_is}
+use Rattle.media_file.proofs.PictureFaults.{block_tells}
+use Rattle.media_file.proofs.Splits.{field_again}
 use Rattle.receiver_file.specs.declared.front.Head.{Head}
 use Rattle.receiver_file.specs.Front.{count_at, count_of, flag_at, flag_of, head_at, name_at}
 use Rattle.receiver_file.specs.Front.{only_one, payload_type_at, payload_type_of, ssrc_at, ssrc_of}

@@ -5,11 +5,11 @@ use Rattle.std.specs.Prelude.{IfOk}
 use Rattle.std.specs.Io.KnownBytes.{IsAtEnd}
 use Rattle.std.proofs.lemmas.Result.{IfOk-weaker}
 use Rattle.path_merge.specs.Frames.{State}
-use Rattle.capture_file.specs.declared.fault.FileFault.{FileFault}
-use Rattle.capture_file.specs.Blocks.{block_at}
-use Rattle.capture_file.specs.Fields.{Takes, nothing_at}
+use Rattle.media_file.specs.declared.fault.FileFault.{FileFault}
+use Rattle.media_file.specs.Blocks.{block_at}
+use Rattle.media_file.specs.Fields.{Takes, nothing_at}
 use Rattle.st_format.specs.Reading.{◌>>=◌}
-use Rattle.capture_file.specs.StateFile.{Kept}
+use Rattle.media_file.specs.StateFile.{Kept}
 use Rattle.receiver_file.specs.Front.{head_at, name_at}
 use Rattle.receiver_file.specs.Saved.{kept_of}
 use Rattle.receiver_file.specs.StateReading.{all_held_at, state_walk}

@@ -3,7 +3,7 @@ use Rattle.std.proofs.Common.{◌≡◌, ℕ, zero, suc, ◌+◌, ◌*◌, List,
 use Rattle.std.proofs.Common.{drop-drop, refl, sym, ap, ◌∙◌, arith}
 use Rattle.std.proofs.lemmas.List.{drop-take, take-take}
 use Rattle.st_format.specs.declared.cell.Cell.{Cell}
-use Rattle.capture_file.specs.StateFile.{cut_cells}
+use Rattle.media_file.specs.StateFile.{cut_cells}
 
 cut_at : (size a b : ℕ) (cells : List Cell) → a ≡ b
     → cut_cells size a cells ≡ cut_cells size b cells

@@ -8,18 +8,18 @@ use Rattle.std.proofs.lemmas.Bool.{or_parts}
 use Rattle.st_format.specs.Device.{AreOctets}
 use Rattle.st_format.specs.Fields.{Fields}
 use Rattle.path_merge.specs.Opening.{IsWindowSize}
-use Rattle.capture_file.specs.declared.fault.FileFault.{FileFault}
-use Rattle.capture_file.specs.declared.fault.FileFault.TheVariants.{BadField, Truncated}
-use Rattle.capture_file.specs.Blocks.{block_at, block_of}
-use Rattle.capture_file.specs.Fields.{field_at}
+use Rattle.media_file.specs.declared.fault.FileFault.{FileFault}
+use Rattle.media_file.specs.declared.fault.FileFault.TheVariants.{BadField, Truncated}
+use Rattle.media_file.specs.Blocks.{block_at, block_of}
+use Rattle.media_file.specs.Fields.{field_at}
 use Rattle.st_format.specs.Reading.{◌>>=◌}
-use Rattle.capture_file.specs.Fronts.{with_rest}
-use Rattle.capture_file.specs.StateFile.{SsrcFits}
-use Rattle.capture_file.proofs.BlockFaults.{block_again, block_fails}
-use Rattle.capture_file.proofs.Entries.{chosen}
-use Rattle.capture_file.proofs.Failing.{answered, field_fails, not_both, same_fault, split_fails}
-use Rattle.capture_file.proofs.Found.{failed, given, split_then}
-use Rattle.capture_file.proofs.PictureFaults.{block_refused}
+use Rattle.media_file.specs.Fronts.{with_rest}
+use Rattle.media_file.specs.StateFile.{SsrcFits}
+use Rattle.media_file.proofs.BlockFaults.{block_again, block_fails}
+use Rattle.media_file.proofs.Entries.{chosen}
+use Rattle.media_file.proofs.Failing.{answered, field_fails, not_both, same_fault, split_fails}
+use Rattle.media_file.proofs.Found.{failed, given, split_then}
+use Rattle.media_file.proofs.PictureFaults.{block_refused}
 use Rattle.receiver_file.specs.declared.front.Head.{Head}
 use Rattle.receiver_file.specs.Front.{count_at, flag_at, flag_of, head_at, payload_type_at, ssrc_at}
 use Rattle.receiver_file.specs.Front.{ssrc_of}

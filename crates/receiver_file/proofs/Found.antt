@@ -11,22 +11,22 @@ use Rattle.st_format.specs.declared.cell.Cell.{Cell}
 use Rattle.st_format.specs.Device.{AreOctets, TellsOctets}
 use Rattle.st_format.specs.Fields.{Fields}
 use Rattle.path_merge.specs.Frames.{State}
-use Rattle.capture_file.specs.declared.fault.FileFault.{FileFault}
-use Rattle.capture_file.specs.declared.fault.FileFault.TheVariants.{BadField, BadVersion}
-use Rattle.capture_file.specs.declared.fault.FileFault.TheVariants.{TrailingBytes}
-use Rattle.capture_file.specs.declared.front.Version.{Version}
-use Rattle.capture_file.specs.declared.front.Version.TheVariants.{One, Two}
-use Rattle.capture_file.specs.Blocks.{block_at}
-use Rattle.capture_file.specs.Fields.{Takes, Leaves, field_at, nothing_at}
+use Rattle.media_file.specs.declared.fault.FileFault.{FileFault}
+use Rattle.media_file.specs.declared.fault.FileFault.TheVariants.{BadField, BadVersion}
+use Rattle.media_file.specs.declared.fault.FileFault.TheVariants.{TrailingBytes}
+use Rattle.media_file.specs.declared.front.Version.{Version}
+use Rattle.media_file.specs.declared.front.Version.TheVariants.{One, Two}
+use Rattle.media_file.specs.Blocks.{block_at}
+use Rattle.media_file.specs.Fields.{Takes, Leaves, field_at, nothing_at}
 use Rattle.st_format.specs.Reading.{◌>>=◌}
-use Rattle.capture_file.specs.Fronts.{kind_at, kind_text, receiver_name, with_rest}
-use Rattle.capture_file.specs.Groups.{Shape, groups_at, groups_text, shape_of}
-use Rattle.capture_file.specs.StateFile.{Held, Kept, format_text, group_count, held_text}
-use Rattle.capture_file.specs.StateFile.{opening_text, ssrc_text, state_text}
-use Rattle.capture_file.proofs.Entries.{chosen}
-use Rattle.capture_file.proofs.Found.{failed, given, kind_takes, split_then}
-use Rattle.capture_file.proofs.Once.{shape_is}
-use Rattle.capture_file.proofs.Seen.{block_takes}
+use Rattle.media_file.specs.Fronts.{kind_at, kind_text, receiver_name, with_rest}
+use Rattle.media_file.specs.Groups.{Shape, groups_at, groups_text, shape_of}
+use Rattle.media_file.specs.StateFile.{Held, Kept, format_text, group_count, held_text}
+use Rattle.media_file.specs.StateFile.{opening_text, ssrc_text, state_text}
+use Rattle.media_file.proofs.Entries.{chosen}
+use Rattle.media_file.proofs.Found.{failed, given, kind_takes, split_then}
+use Rattle.media_file.proofs.Once.{shape_is}
+use Rattle.media_file.proofs.Seen.{block_takes}
 use Rattle.receiver_file.specs.declared.front.Head.{Head}
 use Rattle.receiver_file.specs.Front.{count_at, flag_at, flag_of, head_at, name_at, only_one}
 use Rattle.receiver_file.specs.Front.{payload_type_at, ssrc_at, ssrc_of}

@@ -11,18 +11,18 @@ use Rattle.st_format.specs.Fields.{Fields}
 use Rattle.st_format.specs.Member.{IsMember}
 use Rattle.path_merge.specs.Opening.{AreDifferent}
 use Rattle.path_merge.proofs.Answered.{any_from_member, member_from_any}
-use Rattle.capture_file.specs.declared.fault.FileFault.{FileFault}
-use Rattle.capture_file.specs.declared.fault.FileFault.TheVariants.{BadField, Truncated}
-use Rattle.capture_file.specs.Fields.{field_at}
+use Rattle.media_file.specs.declared.fault.FileFault.{FileFault}
+use Rattle.media_file.specs.declared.fault.FileFault.TheVariants.{BadField, Truncated}
+use Rattle.media_file.specs.Fields.{field_at}
 use Rattle.st_format.specs.Reading.{◌>>=◌}
-use Rattle.capture_file.specs.Fronts.{with_rest}
-use Rattle.capture_file.specs.Groups.{IsGroup, Shape, group_at, groups_at, groups_text}
-use Rattle.capture_file.specs.StateFile.{Held, IsHeld, group_count, held_text}
-use Rattle.capture_file.proofs.Entries.{chosen}
-use Rattle.capture_file.proofs.Failing.{answered, field_fails, field_short, not_both, same_fault}
-use Rattle.capture_file.proofs.Failing.{split_fails}
-use Rattle.capture_file.proofs.Found.{failed, given, split_then}
-use Rattle.capture_file.proofs.Once.{shape_is}
+use Rattle.media_file.specs.Fronts.{with_rest}
+use Rattle.media_file.specs.Groups.{IsGroup, Shape, group_at, groups_at, groups_text}
+use Rattle.media_file.specs.StateFile.{Held, IsHeld, group_count, held_text}
+use Rattle.media_file.proofs.Entries.{chosen}
+use Rattle.media_file.proofs.Failing.{answered, field_fails, field_short, not_both, same_fault}
+use Rattle.media_file.proofs.Failing.{split_fails}
+use Rattle.media_file.proofs.Found.{failed, given, split_then}
+use Rattle.media_file.proofs.Once.{shape_is}
 use Rattle.receiver_file.specs.Numbers.{number_at}
 use Rattle.receiver_file.specs.Saved.{timestamp_in}
 use Rattle.receiver_file.specs.StateFaults.{HasNumber, shape_by}

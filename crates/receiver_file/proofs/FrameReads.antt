@@ -3,10 +3,10 @@ use Rattle.std.proofs.Common.{◌≡◌, ℕ, ◌+◌, ◌-◌, ◌<◌, List, [
 use Rattle.std.proofs.Common.{sym, subst, arith}
 use Rattle.st_format.specs.Fields.{Fields}
 use Rattle.st_format.specs.Raster.{Raster}
-use Rattle.capture_file.specs.declared.fault.FileFault.{FileFault}
-use Rattle.capture_file.specs.Fields.{Fails, Takes}
-use Rattle.capture_file.specs.Groups.{groups_at, shape_of}
-use Rattle.capture_file.specs.StateFile.{Held, group_count, held_of}
+use Rattle.media_file.specs.declared.fault.FileFault.{FileFault}
+use Rattle.media_file.specs.Fields.{Fails, Takes}
+use Rattle.media_file.specs.Groups.{groups_at, shape_of}
+use Rattle.media_file.specs.StateFile.{Held, group_count, held_of}
 use Rattle.receiver_file.specs.Saved.{groups_in, kept_frames, timestamp_in}
 use Rattle.receiver_file.specs.StateReading.{all_held_at, timestamp_at}
 use Rattle.receiver_file.proofs.FrameRuns.{frames_more, frames_none, frames_stop, held_cut}

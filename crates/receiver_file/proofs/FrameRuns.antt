@@ -4,14 +4,14 @@ use Rattle.std.proofs.Common.{Result, Ok, Err, refl, sym, ap, ◌∙◌, subst, 
 use Rattle.std.proofs.Common.{arith}
 use Rattle.st_format.specs.declared.cell.Cell.{Cell}
 use Rattle.st_format.specs.Fields.{Fields}
-use Rattle.capture_file.specs.declared.fault.FileFault.{FileFault}
-use Rattle.capture_file.specs.Fields.{Fails, Takes}
+use Rattle.media_file.specs.declared.fault.FileFault.{FileFault}
+use Rattle.media_file.specs.Fields.{Fails, Takes}
 use Rattle.st_format.specs.Reading.{◌>>=◌}
-use Rattle.capture_file.specs.Fronts.{with_rest}
-use Rattle.capture_file.specs.Groups.{groups_at, shape_of}
-use Rattle.capture_file.specs.StateFile.{Held, group_count}
-use Rattle.capture_file.proofs.Content.{if_content_weaker}
-use Rattle.capture_file.proofs.Parsing.{fails_first, fails_then, gives_pure, gives_then, then_reads}
+use Rattle.media_file.specs.Fronts.{with_rest}
+use Rattle.media_file.specs.Groups.{groups_at, shape_of}
+use Rattle.media_file.specs.StateFile.{Held, group_count}
+use Rattle.media_file.proofs.Content.{if_content_weaker}
+use Rattle.media_file.proofs.Parsing.{fails_first, fails_then, gives_pure, gives_then, then_reads}
 use Rattle.receiver_file.specs.Saved.{timestamp_in}
 use Rattle.receiver_file.specs.StateReading.{all_held_at, held_at, timestamp_at}
 

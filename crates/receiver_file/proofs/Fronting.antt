@@ -3,13 +3,13 @@ use Rattle.std.proofs.Common.{◌≡◌, ℕ, ◌<◌, ◌≤◌, Bool, cond, lt
 use Rattle.std.proofs.Common.{Err, refl, sym, ap, ◌∙◌, arith}
 use Rattle.std.specs.Prelude.{IfErr, IfOk}
 use Rattle.std.proofs.lemmas.Bool.{eq-eqb, le-ltb, lt-ltb, ne_eqb}
-use Rattle.capture_file.specs.declared.fault.FileFault.{FileFault}
-use Rattle.capture_file.specs.declared.fault.FileFault.TheVariants.{BadField, BadVersion}
-use Rattle.capture_file.specs.declared.front.Version.{Version}
-use Rattle.capture_file.specs.declared.front.Version.TheVariants.{One, Two}
-use Rattle.capture_file.specs.Fields.{Fails, Takes}
-use Rattle.capture_file.specs.Fronts.{kind_at, receiver_name}
-use Rattle.capture_file.proofs.Parsing.{fails_first, fails_then, gives_then, then_reads}
+use Rattle.media_file.specs.declared.fault.FileFault.{FileFault}
+use Rattle.media_file.specs.declared.fault.FileFault.TheVariants.{BadField, BadVersion}
+use Rattle.media_file.specs.declared.front.Version.{Version}
+use Rattle.media_file.specs.declared.front.Version.TheVariants.{One, Two}
+use Rattle.media_file.specs.Fields.{Fails, Takes}
+use Rattle.media_file.specs.Fronts.{kind_at, receiver_name}
+use Rattle.media_file.proofs.Parsing.{fails_first, fails_then, gives_then, then_reads}
 use Rattle.receiver_file.specs.declared.front.Head.{Head}
 use Rattle.receiver_file.specs.Front.{count_at, count_of, flag_at, flag_of, head_at, name_at}
 use Rattle.receiver_file.specs.Front.{only_one, payload_type_at, payload_type_of, ssrc_at, ssrc_of}

@@ -13,18 +13,18 @@ use Rattle.st_format.specs.declared.cell.Cell.TheVariants.{Missing, Value, Conte
 use Rattle.st_format.specs.Device.{AreOctets}
 use Rattle.st_format.specs.Samples.{values_in}
 use Rattle.st_format.proofs.WholeOctets.{values_in-fit}
-use Rattle.capture_file.specs.declared.fault.FileFault.{FileFault}
-use Rattle.capture_file.specs.declared.fault.FileFault.TheVariants.{BadField, MixedGroup, Truncated}
-use Rattle.capture_file.specs.Fields.{field_at}
+use Rattle.media_file.specs.declared.fault.FileFault.{FileFault}
+use Rattle.media_file.specs.declared.fault.FileFault.TheVariants.{BadField, MixedGroup, Truncated}
+use Rattle.media_file.specs.Fields.{field_at}
 use Rattle.st_format.specs.Reading.{◌>>=◌}
-use Rattle.capture_file.specs.Groups.{IsGroup, IsHad, IsShape, Shape, are_zeroed, cells_by}
-use Rattle.capture_file.specs.Groups.{group_at, group_text, groups_at, groups_text, mixed_by}
-use Rattle.capture_file.proofs.Entries.{chosen}
-use Rattle.capture_file.proofs.Failing.{field_fails, field_short, field_whole, not_both, same_fault}
-use Rattle.capture_file.proofs.Failing.{split_fails}
-use Rattle.capture_file.proofs.Found.{given, split_then}
-use Rattle.capture_file.proofs.Grouped.{group_again}
-use Rattle.capture_file.proofs.Splits.{AreOctets-tail, below_16, field_again}
+use Rattle.media_file.specs.Groups.{IsGroup, IsHad, IsShape, Shape, are_zeroed, cells_by}
+use Rattle.media_file.specs.Groups.{group_at, group_text, groups_at, groups_text, mixed_by}
+use Rattle.media_file.proofs.Entries.{chosen}
+use Rattle.media_file.proofs.Failing.{field_fails, field_short, field_whole, not_both, same_fault}
+use Rattle.media_file.proofs.Failing.{split_fails}
+use Rattle.media_file.proofs.Found.{given, split_then}
+use Rattle.media_file.proofs.Grouped.{group_again}
+use Rattle.media_file.proofs.Splits.{AreOctets-tail, below_16, field_again}
 use Rattle.receiver_file.specs.StateFaults.{HasContestedValue, HasOctet, HasWrongMask, IsCutGroup}
 use Rattle.receiver_file.specs.StateFaults.{IsWrongMask}
 use Rattle.receiver_file.specs.StateFaults.IsWrongMask.{NamesNone, NamesMore, NamesValue}

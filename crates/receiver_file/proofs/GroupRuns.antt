@@ -6,12 +6,12 @@ use Rattle.std.proofs.KnownBytes.{Appends-trans}
 use Rattle.std.proofs.lemmas.Grind.{flat_map-append}
 use Rattle.st_format.specs.declared.cell.Cell.{Cell}
 use Rattle.st_format.specs.Device.{AppendsPrefix}
-use Rattle.capture_file.specs.declared.fault.FileFault.{FileFault}
-use Rattle.capture_file.specs.Fields.{Fails, Takes}
+use Rattle.media_file.specs.declared.fault.FileFault.{FileFault}
+use Rattle.media_file.specs.Fields.{Fails, Takes}
 use Rattle.st_format.specs.Reading.{◌>>=◌}
-use Rattle.capture_file.specs.Groups.{Shape, group_at, group_text, groups_at, groups_text}
-use Rattle.capture_file.proofs.Content.{if_content_weaker}
-use Rattle.capture_file.proofs.Written.{prefix_first, prefix_then}
+use Rattle.media_file.specs.Groups.{Shape, group_at, group_text, groups_at, groups_text}
+use Rattle.media_file.proofs.Content.{if_content_weaker}
+use Rattle.media_file.proofs.Written.{prefix_first, prefix_then}
 
 abbrev Many : Type 0
 Many = Result (List (List Cell) × List ℕ) FileFault

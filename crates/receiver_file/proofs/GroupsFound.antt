@@ -18,19 +18,19 @@ use Rattle.st_format.specs.Samples.{octets_in, values_in}
 use Rattle.st_format.proofs.SpelledOctets.{octets_in-spelled}
 use Rattle.st_format.proofs.WholeOctets.{Spells-values_in}
 use Rattle.pgroup_pack.proofs.Values.{length-values_in}
-use Rattle.capture_file.specs.declared.fault.FileFault.{FileFault}
-use Rattle.capture_file.specs.declared.fault.FileFault.TheVariants.{BadField, MixedGroup, Truncated}
-use Rattle.capture_file.specs.Fields.{field_at}
+use Rattle.media_file.specs.declared.fault.FileFault.{FileFault}
+use Rattle.media_file.specs.declared.fault.FileFault.TheVariants.{BadField, MixedGroup, Truncated}
+use Rattle.media_file.specs.Fields.{field_at}
 use Rattle.st_format.specs.Reading.{◌>>=◌}
-use Rattle.capture_file.specs.Groups.{IsShape, Shape, are_zeroed, cells_by, contested_bit, group_at}
-use Rattle.capture_file.specs.Groups.{group_text, groups_at, groups_text, mask_of, mixed_by}
-use Rattle.capture_file.specs.Groups.{samples_text}
-use Rattle.capture_file.proofs.Entries.{chosen}
-use Rattle.capture_file.proofs.Found.{field_takes, given, split_then}
+use Rattle.media_file.specs.Groups.{IsShape, Shape, are_zeroed, cells_by, contested_bit, group_at}
+use Rattle.media_file.specs.Groups.{group_text, groups_at, groups_text, mask_of, mixed_by}
+use Rattle.media_file.specs.Groups.{samples_text}
+use Rattle.media_file.proofs.Entries.{chosen}
+use Rattle.media_file.proofs.Found.{field_takes, given, split_then}
 use Rattle.st_format.proofs.Octets.{all_octets}
-use Rattle.capture_file.proofs.Splits.{AreOctets-back}
+use Rattle.media_file.proofs.Splits.{AreOctets-back}
 use Rattle.st_format.proofs.Octets.{AreOctets-drop, AreOctets-take}
-use Rattle.capture_file.proofs.Splits.{AreOctets-tail}
+use Rattle.media_file.proofs.Splits.{AreOctets-tail}
 
 -- ---- octets that are cut off
 

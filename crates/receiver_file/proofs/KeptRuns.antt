@@ -15,11 +15,11 @@ use Rattle.st_format.specs.Member.{IsMember}
 use Rattle.st_format.specs.Raster.{Raster}
 use Rattle.path_merge.specs.Frames.{IsReceiver, State, frame_at}
 use Rattle.path_merge.specs.Opening.{AreDifferent}
-use Rattle.capture_file.specs.StateFile.{Held, Kept, format_text, held_of, held_text, opening_text}
-use Rattle.capture_file.specs.StateFile.{ssrc_text, state_text}
-use Rattle.capture_file.specs.declared.front.Version.TheVariants.{One}
-use Rattle.capture_file.specs.Fronts.{kind_text, receiver_name}
-use Rattle.capture_file.proofs.Written.{prefix_first, prefix_then}
+use Rattle.media_file.specs.StateFile.{Held, Kept, format_text, held_of, held_text, opening_text}
+use Rattle.media_file.specs.StateFile.{ssrc_text, state_text}
+use Rattle.media_file.specs.declared.front.Version.TheVariants.{One}
+use Rattle.media_file.specs.Fronts.{kind_text, receiver_name}
+use Rattle.media_file.proofs.Written.{prefix_first, prefix_then}
 use Rattle.receiver_file.specs.Saved.{frame_text, frames_text, front_text, kept_frames, kept_of}
 
 pub member_of : (w : List ℕ) (i : ℕ) → i < length w → IsMember (get_or w i 0) w

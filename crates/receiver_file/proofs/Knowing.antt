@@ -12,7 +12,7 @@ use Rattle.st_format.specs.declared.cell.Cell.TheVariants.{Missing, Value, Conte
 use Rattle.frame_assembly.specs.Rows.{given_cells, given_from, replaced_cells}
 use Rattle.pgroup_pack.specs.Groups.{blanked_samples, blanked_from, differs_at}
 use Rattle.pgroup_pack.proofs.GroupLemmas.{length-blanked_from}
-use Rattle.capture_file.specs.Groups.{are_zeroed, cells_by}
+use Rattle.media_file.specs.Groups.{are_zeroed, cells_by}
 
 -- ---- samples that are 0 where the mask says so
 

@@ -14,14 +14,14 @@ use Rattle.frame_assembly.specs.declared.state.GroupState.{GroupState}
 use Rattle.frame_assembly.specs.declared.state.GroupState.TheVariants.{Gone, Whole, Mixed}
 use Rattle.frame_assembly.specs.Rows.{given_cells}
 use Rattle.pgroup_pack.specs.Groups.{blanked_samples}
-use Rattle.capture_file.specs.declared.fault.FileFault.{FileFault}
-use Rattle.capture_file.specs.declared.fault.FileFault.TheVariants.{BadField, Truncated}
-use Rattle.capture_file.specs.Fields.{Fails, Takes, field_at}
+use Rattle.media_file.specs.declared.fault.FileFault.{FileFault}
+use Rattle.media_file.specs.declared.fault.FileFault.TheVariants.{BadField, Truncated}
+use Rattle.media_file.specs.Fields.{Fails, Takes, field_at}
 use Rattle.st_format.specs.Reading.{◌>>=◌}
-use Rattle.capture_file.specs.Fronts.{with_rest}
-use Rattle.capture_file.specs.Groups.{Shape, group_at}
-use Rattle.capture_file.proofs.Content.{if_content_weaker}
-use Rattle.capture_file.proofs.Parsing.{fails_first, fails_then, gives_pure, gives_then, then_reads}
+use Rattle.media_file.specs.Fronts.{with_rest}
+use Rattle.media_file.specs.Groups.{Shape, group_at}
+use Rattle.media_file.proofs.Content.{if_content_weaker}
+use Rattle.media_file.proofs.Parsing.{fails_first, fails_then, gives_pure, gives_then, then_reads}
 use Rattle.receiver_file.specs.Known.{IsKnown, cells_known, is_there, mask_in, mixed_at}
 use Rattle.receiver_file.specs.Numbers.{octet_at}
 use Rattle.receiver_file.proofs.Knowing.{given_mixed, given_whole, none_zeroed, zeroed_same}

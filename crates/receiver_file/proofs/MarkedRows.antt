@@ -25,10 +25,10 @@ use Rattle.frame_assembly.specs.declared.state.GroupState.TheVariants.{Gone, Who
 use Rattle.frame_assembly.proofs.GroupCells.{mixed_contested, mixed_others, not_missing, whole}
 use Rattle.st_format.proofs.Columns.{row_samples_groups}
 use Rattle.frame_assembly.proofs.Segments.{sample_count_groups, swap_first}
-use Rattle.capture_file.proofs.Once.{shape_is}
-use Rattle.capture_file.specs.Groups.{IsShape, Shape, group_text, groups_text}
-use Rattle.capture_file.specs.StateFile.{cut_cells}
-use Rattle.capture_file.proofs.Written.{prefix_first, prefix_then}
+use Rattle.media_file.proofs.Once.{shape_is}
+use Rattle.media_file.specs.Groups.{IsShape, Shape, group_text, groups_text}
+use Rattle.media_file.specs.StateFile.{cut_cells}
+use Rattle.media_file.proofs.Written.{prefix_first, prefix_then}
 use Rattle.receiver_file.specs.Known.{known_text, row_cut, shape_in}
 use Rattle.receiver_file.specs.Marked.{Passes, marked_text, state_in}
 use Rattle.receiver_file.proofs.RowRuns.{sum_rows}

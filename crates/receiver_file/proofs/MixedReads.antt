@@ -4,11 +4,11 @@ use Rattle.std.proofs.Common.{Option, None, Some, Result, Ok, Err, refl, sym, ap
 use Rattle.std.specs.Int.{w16, from_be_bytes}
 use Rattle.st_format.specs.declared.cell.Cell.{Cell}
 use Rattle.st_format.specs.Samples.{values_in}
-use Rattle.capture_file.specs.declared.fault.FileFault.{FileFault}
-use Rattle.capture_file.specs.declared.fault.FileFault.TheVariants.{MixedGroup}
-use Rattle.capture_file.specs.Fields.{Fails, Takes, field_at}
-use Rattle.capture_file.specs.Groups.{Shape, are_zeroed, cells_by, mixed_by}
-use Rattle.capture_file.proofs.Parsing.{fails_first, fails_then, gives_then, then_reads}
+use Rattle.media_file.specs.declared.fault.FileFault.{FileFault}
+use Rattle.media_file.specs.declared.fault.FileFault.TheVariants.{MixedGroup}
+use Rattle.media_file.specs.Fields.{Fails, Takes, field_at}
+use Rattle.media_file.specs.Groups.{Shape, are_zeroed, cells_by, mixed_by}
+use Rattle.media_file.proofs.Parsing.{fails_first, fails_then, gives_then, then_reads}
 use Rattle.receiver_file.specs.Known.{mixed_at}
 
 abbrev Cells : Type 0

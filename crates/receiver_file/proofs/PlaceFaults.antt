@@ -7,15 +7,15 @@ use Rattle.std.specs.List.{flat_map}
 use Rattle.st_format.specs.declared.cell.Cell.{Cell}
 use Rattle.st_format.specs.Device.{AreOctets}
 use Rattle.st_format.specs.Fields.{Fields}
-use Rattle.capture_file.specs.declared.fault.FileFault.{FileFault}
-use Rattle.capture_file.specs.declared.fault.FileFault.TheVariants.{BadField, MixedGroup, Truncated}
-use Rattle.capture_file.specs.Blocks.{block_at}
+use Rattle.media_file.specs.declared.fault.FileFault.{FileFault}
+use Rattle.media_file.specs.declared.fault.FileFault.TheVariants.{BadField, MixedGroup, Truncated}
+use Rattle.media_file.specs.Blocks.{block_at}
 use Rattle.st_format.specs.Reading.{◌>>=◌}
-use Rattle.capture_file.specs.Groups.{group_at, groups_text}
-use Rattle.capture_file.specs.PictureFaults.{IsFormat}
-use Rattle.capture_file.specs.StateFile.{Held, SsrcFits, held_text, ssrc_text}
-use Rattle.capture_file.proofs.Failing.{not_both, split_fails}
-use Rattle.capture_file.proofs.PictureFaults.{block_short}
+use Rattle.media_file.specs.Groups.{group_at, groups_text}
+use Rattle.media_file.specs.PictureFaults.{IsFormat}
+use Rattle.media_file.specs.StateFile.{Held, SsrcFits, held_text, ssrc_text}
+use Rattle.media_file.proofs.Failing.{not_both, split_fails}
+use Rattle.media_file.proofs.PictureFaults.{block_short}
 use Rattle.receiver_file.specs.declared.front.Head.{Head}
 use Rattle.receiver_file.specs.Front.{count_at, flag_at, head_at, payload_type_at, ssrc_at}
 use Rattle.receiver_file.specs.Saved.{timestamp_in}

@@ -3,10 +3,10 @@ use Rattle.std.proofs.Common.{◌≡◌, ℕ, ◌+◌, ◌-◌, ◌*◌, ◌<◌
 use Rattle.std.proofs.Common.{Option, sym, ap, ◌∙◌, subst, arith}
 use Rattle.std.proofs.lemmas.List.{drop-take, take-take}
 use Rattle.st_format.specs.declared.cell.Cell.{Cell}
-use Rattle.capture_file.specs.declared.fault.FileFault.{FileFault}
-use Rattle.capture_file.specs.Fields.{Fails, Takes}
-use Rattle.capture_file.specs.Groups.{Shape, group_at, groups_at}
-use Rattle.capture_file.specs.StateFile.{cut_cells}
+use Rattle.media_file.specs.declared.fault.FileFault.{FileFault}
+use Rattle.media_file.specs.Fields.{Fails, Takes}
+use Rattle.media_file.specs.Groups.{Shape, group_at, groups_at}
+use Rattle.media_file.specs.StateFile.{cut_cells}
 use Rattle.receiver_file.proofs.CutCells.{cut_alike, cut_none}
 use Rattle.receiver_file.proofs.GroupRuns.{groups_more, groups_none, groups_one, groups_one_fault}
 use Rattle.receiver_file.proofs.GroupRuns.{groups_stop}

@@ -10,8 +10,8 @@ use Rattle.receiver_file.specs.Known.{shape_in}
 use Rattle.st_format.specs.declared.cell.Cell.{Cell}
 use Rattle.st_format.specs.Device.{AppendsPrefix}
 use Rattle.st_format.specs.Position.{group_start, row_groups}
-use Rattle.capture_file.specs.Groups.{Shape, groups_text}
-use Rattle.capture_file.specs.StateFile.{cut_cells}
+use Rattle.media_file.specs.Groups.{Shape, groups_text}
+use Rattle.media_file.specs.StateFile.{cut_cells}
 use Rattle.receiver_file.proofs.CutCells.{cut_add, cut_place, cut_three}
 use Rattle.receiver_file.proofs.GroupRuns.{texts_cut, texts_more}
 

@@ -10,10 +10,10 @@ use Rattle.st_format.specs.Raster.{IsWhole, Raster}
 use Rattle.frame_assembly.proofs.Segments.{sample_count_groups}
 use Rattle.path_merge.specs.Frames.{Holds, IsReceiver, State, frames_of}
 use Rattle.path_merge.specs.Opening.{Opening}
-use Rattle.capture_file.specs.declared.fault.FileFault.{FileFault}
-use Rattle.capture_file.specs.Fields.{Fails, Takes}
-use Rattle.capture_file.specs.StateFile.{Held, Kept, group_count, state_text}
-use Rattle.capture_file.proofs.Once.{cells_once}
+use Rattle.media_file.specs.declared.fault.FileFault.{FileFault}
+use Rattle.media_file.specs.Fields.{Fails, Takes}
+use Rattle.media_file.specs.StateFile.{Held, Kept, group_count, state_text}
+use Rattle.media_file.proofs.Once.{cells_once}
 use Rattle.receiver_file.specs.Known.{shape_in}
 use Rattle.receiver_file.specs.Saved.{IsSaved, IsWritable, kept_frames, kept_of, timestamp_in}
 use Rattle.receiver_file.specs.StateReading.{state_walk}

@@ -17,8 +17,8 @@ use Rattle.st_format.specs.Position.{group_start, row_groups}
 use Rattle.frame_assembly.specs.Rows.{group_cells}
 use Rattle.path_merge.specs.Frames.{State}
 use Rattle.path_merge.specs.Opening.{IsWindow}
-use Rattle.capture_file.specs.Groups.{IsGroup, IsHad}
-use Rattle.capture_file.specs.StateFile.{IsHeld, cut_cells, group_count, held_of}
+use Rattle.media_file.specs.Groups.{IsGroup, IsHad}
+use Rattle.media_file.specs.StateFile.{IsHeld, cut_cells, group_count, held_of}
 use Rattle.receiver_file.specs.Known.{shape_in}
 use Rattle.receiver_file.specs.Saved.{IsFilled, IsSaved, IsWritable, kept_frames, kept_of}
 use Rattle.receiver_file.proofs.RowRuns.{group_long}

@@ -15,7 +15,7 @@ use Rattle.frame_assembly.specs.declared.state.GroupState.TheVariants.{Gone, Who
 use Rattle.frame_assembly.specs.Rows.{IsStateOf}
 use Rattle.frame_assembly.specs.declared.state.GroupState.{GroupState}
 use Rattle.receiver_file.specs.Known.{known_text}
-use Rattle.capture_file.specs.Groups.{Shape, group_text, mask_of, samples_text}
+use Rattle.media_file.specs.Groups.{Shape, group_text, mask_of, samples_text}
 
 -- the octets of a frame are those of the file
 octets_same : (s : Shape) (octets : List ℕ) (cells : List Cell)

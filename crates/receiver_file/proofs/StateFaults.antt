@@ -9,27 +9,27 @@ use Rattle.std.proofs.lemmas.Slice.Eq.{bytes_eq-Decides}
 use Rattle.st_format.specs.Device.{AreOctets, TellsOctets}
 use Rattle.st_format.specs.Fields.{Fields}
 use Rattle.path_merge.specs.Frames.{State}
-use Rattle.capture_file.specs.declared.fault.FileFault.{FileFault}
-use Rattle.capture_file.specs.declared.fault.FileFault.TheVariants.{NoMemory, Device, BadName}
-use Rattle.capture_file.specs.declared.fault.FileFault.TheVariants.{BadVersion, Truncated, BadField}
-use Rattle.capture_file.specs.declared.fault.FileFault.TheVariants.{TrailingBytes, MixedGroup}
-use Rattle.capture_file.specs.declared.fault.FileFault.TheVariants.{TooManyRecords}
-use Rattle.capture_file.specs.declared.front.Version.{Version}
-use Rattle.capture_file.specs.declared.front.Version.TheVariants.{One, Two}
-use Rattle.capture_file.specs.Blocks.{block_at}
-use Rattle.capture_file.specs.Faults.{IfContent}
-use Rattle.capture_file.specs.Fields.{Fails, nothing_at}
+use Rattle.media_file.specs.declared.fault.FileFault.{FileFault}
+use Rattle.media_file.specs.declared.fault.FileFault.TheVariants.{NoMemory, Device, BadName}
+use Rattle.media_file.specs.declared.fault.FileFault.TheVariants.{BadVersion, Truncated, BadField}
+use Rattle.media_file.specs.declared.fault.FileFault.TheVariants.{TrailingBytes, MixedGroup}
+use Rattle.media_file.specs.declared.fault.FileFault.TheVariants.{TooManyRecords}
+use Rattle.media_file.specs.declared.front.Version.{Version}
+use Rattle.media_file.specs.declared.front.Version.TheVariants.{One, Two}
+use Rattle.media_file.specs.Blocks.{block_at}
+use Rattle.media_file.specs.Faults.{IfContent}
+use Rattle.media_file.specs.Fields.{Fails, nothing_at}
 use Rattle.st_format.specs.Reading.{◌>>=◌}
-use Rattle.capture_file.specs.Fronts.{kind_at, kind_text, receiver_name, with_rest}
-use Rattle.capture_file.specs.PictureFaults.{HasOtherThanOne, IsFormat}
-use Rattle.capture_file.specs.StateFile.{Held, Kept, format_text, state_text}
-use Rattle.capture_file.proofs.Content.{if_content_weaker}
-use Rattle.capture_file.proofs.Failing.{differ, not_both, same_fault, split_fails}
-use Rattle.capture_file.proofs.Found.{given, kind_takes, split_then}
-use Rattle.capture_file.proofs.KindFaults.{KindFails, kind_cut, kind_fails, kind_tells, name_tells}
-use Rattle.capture_file.proofs.KindFaults.{version_tells}
-use Rattle.capture_file.proofs.KindFaults.KindFails.{Cut, Name, Digits}
-use Rattle.capture_file.proofs.PictureFaults.{block_stands, neither}
+use Rattle.media_file.specs.Fronts.{kind_at, kind_text, receiver_name, with_rest}
+use Rattle.media_file.specs.PictureFaults.{HasOtherThanOne, IsFormat}
+use Rattle.media_file.specs.StateFile.{Held, Kept, format_text, state_text}
+use Rattle.media_file.proofs.Content.{if_content_weaker}
+use Rattle.media_file.proofs.Failing.{differ, not_both, same_fault, split_fails}
+use Rattle.media_file.proofs.Found.{given, kind_takes, split_then}
+use Rattle.media_file.proofs.KindFaults.{KindFails, kind_cut, kind_fails, kind_tells, name_tells}
+use Rattle.media_file.proofs.KindFaults.{version_tells}
+use Rattle.media_file.proofs.KindFaults.KindFails.{Cut, Name, Digits}
+use Rattle.media_file.proofs.PictureFaults.{block_stands, neither}
 use Rattle.receiver_file.specs.declared.front.Head.{Head}
 use Rattle.receiver_file.specs.Front.{head_at, name_at, only_one}
 use Rattle.receiver_file.specs.Saved.{IsSaved, frames_text, timestamp_in}

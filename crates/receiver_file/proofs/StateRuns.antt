@@ -7,12 +7,12 @@ use Rattle.st_format.specs.Fields.{Fields, fields_of}
 use Rattle.st_format.specs.Raster.{Raster}
 use Rattle.path_merge.specs.Frames.{State}
 use Rattle.path_merge.specs.Opening.{Opening}
-use Rattle.capture_file.specs.declared.fault.FileFault.{FileFault}
-use Rattle.capture_file.specs.declared.fault.FileFault.TheVariants.{NoMemory}
-use Rattle.capture_file.specs.Blocks.{block_at}
-use Rattle.capture_file.specs.Fields.{Fails, Takes, nothing_at}
-use Rattle.capture_file.specs.StateFile.{Held, Kept}
-use Rattle.capture_file.proofs.Parsing.{fails_first, fails_then, gives_then, then_reads}
+use Rattle.media_file.specs.declared.fault.FileFault.{FileFault}
+use Rattle.media_file.specs.declared.fault.FileFault.TheVariants.{NoMemory}
+use Rattle.media_file.specs.Blocks.{block_at}
+use Rattle.media_file.specs.Fields.{Fails, Takes, nothing_at}
+use Rattle.media_file.specs.StateFile.{Held, Kept}
+use Rattle.media_file.proofs.Parsing.{fails_first, fails_then, gives_then, then_reads}
 use Rattle.receiver_file.specs.declared.front.Head.{Head}
 use Rattle.receiver_file.specs.Front.{head_at, name_at}
 use Rattle.receiver_file.specs.Saved.{kept_frames, kept_of}

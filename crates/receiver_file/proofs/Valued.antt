@@ -1,13 +1,13 @@
 -- A value that is made of what was read.
 use Rattle.std.proofs.Common.{◌≡◌, ℕ, List, Option, None, Some, Result, Ok, Err, ap, get_or, sym}
 use Rattle.std.specs.Prelude.{IfErr, IfOk}
-use Rattle.capture_file.specs.declared.fault.FileFault.{FileFault}
-use Rattle.capture_file.specs.declared.fault.FileFault.TheVariants.{NoMemory}
+use Rattle.media_file.specs.declared.fault.FileFault.{FileFault}
+use Rattle.media_file.specs.declared.fault.FileFault.TheVariants.{NoMemory}
 use Rattle.std.specs.Int.{w32, from_be_bytes}
-use Rattle.capture_file.specs.Fields.{Fails, Takes, field_at}
-use Rattle.capture_file.specs.Fronts.{with_rest}
-use Rattle.capture_file.proofs.Parsing.{fails_first, fails_pure, fails_then, gives_pure, gives_then}
-use Rattle.capture_file.proofs.Parsing.{then_reads}
+use Rattle.media_file.specs.Fields.{Fails, Takes, field_at}
+use Rattle.media_file.specs.Fronts.{with_rest}
+use Rattle.media_file.proofs.Parsing.{fails_first, fails_pure, fails_then, gives_pure, gives_then}
+use Rattle.media_file.proofs.Parsing.{then_reads}
 use Rattle.receiver_file.specs.Numbers.{number_at, octet_at}
 
 abbrev Reading : Type 0 → Type 0

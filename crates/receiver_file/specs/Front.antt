@@ -1,12 +1,12 @@
 -- What stands in a receiver's file before its frames (own).
 use Rattle.std.specs.Prelude.{ℕ, nat_lt, ◌==◌, ◌||◌, Bool, true, false, if◌then◌else◌, List, Option}
 use Rattle.std.specs.Prelude.{None, Some, Result, Ok, Err}
-use Rattle.capture_file.specs.declared.fault.FileFault.{FileFault}
-use Rattle.capture_file.specs.declared.fault.FileFault.TheVariants.{BadField, BadVersion}
-use Rattle.capture_file.specs.declared.front.Version.{Version}
-use Rattle.capture_file.specs.declared.front.Version.TheVariants.{One, Two}
+use Rattle.media_file.specs.declared.fault.FileFault.{FileFault}
+use Rattle.media_file.specs.declared.fault.FileFault.TheVariants.{BadField, BadVersion}
+use Rattle.media_file.specs.declared.front.Version.{Version}
+use Rattle.media_file.specs.declared.front.Version.TheVariants.{One, Two}
 use Rattle.st_format.specs.Reading.{◌>>=◌}
-use Rattle.capture_file.specs.Fronts.{kind_at, receiver_name, with_rest}
+use Rattle.media_file.specs.Fronts.{kind_at, receiver_name, with_rest}
 use Rattle.receiver_file.specs.declared.front.Head.{Head}
 use Rattle.receiver_file.specs.Numbers.{number_at, octet_at}
 

@@ -10,11 +10,11 @@ use Rattle.frame_assembly.specs.declared.state.GroupState.{GroupState}
 use Rattle.frame_assembly.specs.declared.state.GroupState.TheVariants.{Gone, Whole, Mixed}
 use Rattle.st_format.specs.Samples.{values_in}
 use Rattle.st_format.specs.Position.{group_start, row_groups}
-use Rattle.capture_file.specs.declared.fault.FileFault.{FileFault}
-use Rattle.capture_file.specs.Fields.{field_at}
+use Rattle.media_file.specs.declared.fault.FileFault.{FileFault}
+use Rattle.media_file.specs.Fields.{field_at}
 use Rattle.st_format.specs.Reading.{◌>>=◌}
-use Rattle.capture_file.specs.Groups.{Shape, are_zeroed, cells_by, mixed_by, shape_of}
-use Rattle.capture_file.specs.StateFile.{cut_cells}
+use Rattle.media_file.specs.Groups.{Shape, are_zeroed, cells_by, mixed_by, shape_of}
+use Rattle.media_file.specs.StateFile.{cut_cells}
 
 -- the pgroups of a format
 abbrev pub shape_in : Format → Shape

@@ -1,8 +1,8 @@
 -- Numbers at the front of octets (own).
 use Rattle.std.specs.Prelude.{ℕ, List, slice_index, Result, Ok}
 use Rattle.std.specs.Int.{w32, from_be_bytes}
-use Rattle.capture_file.specs.declared.fault.FileFault.{FileFault}
-use Rattle.capture_file.specs.Fields.{field_at}
+use Rattle.media_file.specs.declared.fault.FileFault.{FileFault}
+use Rattle.media_file.specs.Fields.{field_at}
 use Rattle.st_format.specs.Reading.{◌>>=◌}
 
 -- one octet

@@ -9,11 +9,11 @@ use Rattle.st_format.specs.Raster.{IsWhole, Raster}
 use Rattle.frame_assembly.specs.Rows.{GroupsAreWhole}
 use Rattle.path_merge.specs.Frames.{IsReceiver, State}
 use Rattle.path_merge.specs.Opening.{IsWindow}
-use Rattle.capture_file.specs.declared.front.Version.TheVariants.{One}
-use Rattle.capture_file.specs.Fronts.{kind_text, receiver_name}
-use Rattle.capture_file.specs.StateFile.{Held, IsKeptReceiver, Kept, SsrcFits, cut_cells}
-use Rattle.capture_file.specs.StateFile.{format_text}
-use Rattle.capture_file.specs.StateFile.{group_count, held_of, held_text, opening_text, state_text}
+use Rattle.media_file.specs.declared.front.Version.TheVariants.{One}
+use Rattle.media_file.specs.Fronts.{kind_text, receiver_name}
+use Rattle.media_file.specs.StateFile.{Held, IsKeptReceiver, Kept, SsrcFits, cut_cells}
+use Rattle.media_file.specs.StateFile.{format_text}
+use Rattle.media_file.specs.StateFile.{group_count, held_of, held_text, opening_text, state_text}
 
 -- what is kept of frames, one for each timestamp
 abbrev pub kept_frames : Fields → List ℕ → List Raster → List Held

@@ -10,17 +10,17 @@ use Rattle.st_format.specs.Fields.{Fields}
 use Rattle.st_format.specs.Member.{IsMember}
 use Rattle.st_format.specs.Samples.{values_in}
 use Rattle.path_merge.specs.Opening.{AreDifferent, IsWindowSize}
-use Rattle.capture_file.specs.declared.fault.FileFault.{FileFault}
-use Rattle.capture_file.specs.declared.fault.FileFault.TheVariants.{BadName, BadVersion, Truncated}
-use Rattle.capture_file.specs.declared.fault.FileFault.TheVariants.{BadField, TrailingBytes}
-use Rattle.capture_file.specs.declared.fault.FileFault.TheVariants.{MixedGroup}
-use Rattle.capture_file.specs.declared.front.Version.TheVariants.{One}
-use Rattle.capture_file.specs.Fronts.{kind_text, receiver_name}
-use Rattle.capture_file.specs.Groups.{IsGroup, Shape, groups_text, shape_of}
-use Rattle.capture_file.specs.KindFaults.{HasOtherName, IsCutKind}
-use Rattle.capture_file.specs.PictureFaults.{HasOtherThanOne, IsFormat}
-use Rattle.capture_file.specs.StateFile.{Held, IsHeld, Kept, SsrcFits, format_text, group_count}
-use Rattle.capture_file.specs.StateFile.{held_text, ssrc_text, state_text}
+use Rattle.media_file.specs.declared.fault.FileFault.{FileFault}
+use Rattle.media_file.specs.declared.fault.FileFault.TheVariants.{BadName, BadVersion, Truncated}
+use Rattle.media_file.specs.declared.fault.FileFault.TheVariants.{BadField, TrailingBytes}
+use Rattle.media_file.specs.declared.fault.FileFault.TheVariants.{MixedGroup}
+use Rattle.media_file.specs.declared.front.Version.TheVariants.{One}
+use Rattle.media_file.specs.Fronts.{kind_text, receiver_name}
+use Rattle.media_file.specs.Groups.{IsGroup, Shape, groups_text, shape_of}
+use Rattle.media_file.specs.KindFaults.{HasOtherName, IsCutKind}
+use Rattle.media_file.specs.PictureFaults.{HasOtherThanOne, IsFormat}
+use Rattle.media_file.specs.StateFile.{Held, IsHeld, Kept, SsrcFits, format_text, group_count}
+use Rattle.media_file.specs.StateFile.{held_text, ssrc_text, state_text}
 use Rattle.receiver_file.specs.declared.front.Head.{Head}
 use Rattle.receiver_file.specs.Saved.{IsSaved, timestamp_in}
 

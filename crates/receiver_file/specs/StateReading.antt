@@ -3,14 +3,14 @@ use Rattle.std.specs.Prelude.{ℕ, zero, suc, ◌==◌, if◌then◌else◌, Lis
 use Rattle.std.specs.Prelude.{Err}
 use Rattle.std.specs.List.{list_any}
 use Rattle.st_format.specs.Fields.{Fields}
-use Rattle.capture_file.specs.declared.fault.FileFault.{FileFault}
-use Rattle.capture_file.specs.declared.fault.FileFault.TheVariants.{BadField}
-use Rattle.capture_file.specs.Blocks.{block_at}
+use Rattle.media_file.specs.declared.fault.FileFault.{FileFault}
+use Rattle.media_file.specs.declared.fault.FileFault.TheVariants.{BadField}
+use Rattle.media_file.specs.Blocks.{block_at}
 use Rattle.st_format.specs.Reading.{◌>>=◌}
-use Rattle.capture_file.specs.Fronts.{with_rest}
-use Rattle.capture_file.specs.Groups.{groups_at, shape_of}
-use Rattle.capture_file.specs.Fields.{nothing_at}
-use Rattle.capture_file.specs.StateFile.{Held, Kept, group_count}
+use Rattle.media_file.specs.Fronts.{with_rest}
+use Rattle.media_file.specs.Groups.{groups_at, shape_of}
+use Rattle.media_file.specs.Fields.{nothing_at}
+use Rattle.media_file.specs.StateFile.{Held, Kept, group_count}
 use Rattle.receiver_file.specs.Front.{head_at, name_at}
 use Rattle.receiver_file.specs.Numbers.{number_at}
 

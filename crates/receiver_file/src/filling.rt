@@ -1,15 +1,15 @@
 //! The pgroups of a frame, from a source.
 ghost use Rattle.std.specs.Prelude.{◌≡◌, ◌<◌, ◌*◌, IfErr, OnOk, take};
 ghost use Rattle.st_format.specs.Position.{group_start, row_groups};
-ghost use Rattle.capture_file.specs.Faults.{CountsDevice};
-ghost use Rattle.capture_file.specs.Fields.{Fails, Takes};
-ghost use Rattle.capture_file.specs.Groups.{groups_at};
+ghost use Rattle.media_file.specs.Faults.{CountsDevice};
+ghost use Rattle.media_file.specs.Fields.{Fails, Takes};
+ghost use Rattle.media_file.specs.Groups.{groups_at};
 ghost use Rattle.receiver_file.specs.Known.{row_cut, rows_cut, shape_in};
 
 use crate::known::read_group;
 use crate::rows::groups_in_row;
-use capture_file::FileFault;
 use frame_assembly::Frame;
+use media_file::FileFault;
 use st_format::ByteSource;
 use std::alloc::Allocator;
 

@@ -3,10 +3,10 @@ ghost use Rattle.std.specs.Prelude.{◌≡◌, ◌≤◌, [], All, IfErr, IfOk, 
 ghost use Rattle.st_format.specs.Fields.{fields_of};
 ghost use Rattle.path_merge.specs.Opening.{AreDifferent};
 ghost use Rattle.st_format.specs.Member.{IsMember};
-ghost use Rattle.capture_file.specs.Faults.{CountsDevice};
-ghost use Rattle.capture_file.specs.Fields.{Fails, Takes};
-ghost use Rattle.capture_file.specs.StateFile.{group_count};
-ghost use Rattle.capture_file.specs.Groups.{groups_at};
+ghost use Rattle.media_file.specs.Faults.{CountsDevice};
+ghost use Rattle.media_file.specs.Fields.{Fails, Takes};
+ghost use Rattle.media_file.specs.StateFile.{group_count};
+ghost use Rattle.media_file.specs.Groups.{groups_at};
 ghost use Rattle.receiver_file.specs.Known.{shape_in};
 ghost use Rattle.receiver_file.specs.Saved.{groups_in, kept_frames};
 ghost use Rattle.receiver_file.specs.StateReading.{all_held_at, new_of, timestamp_at};
@@ -14,8 +14,8 @@ ghost use Rattle.receiver_file.specs.StateReading.{all_held_at, new_of, timestam
 use crate::filling::read_rows;
 use crate::octets::read_number;
 use arrayvec::ArrayVec;
-use capture_file::FileFault;
 use frame_assembly::Frame;
+use media_file::FileFault;
 use st_format::{ByteSource, Format};
 use std::alloc::Allocator;
 

@@ -2,13 +2,13 @@
 //! format and window.
 ghost use Rattle.std.specs.Prelude.{◌≡◌, ◌<◌, ◌≤◌, IfErr, IfOk, OnOk};
 ghost use Rattle.st_format.specs.Device.{TellsOctets};
-ghost use Rattle.capture_file.specs.Faults.{CountsDevice};
-ghost use Rattle.capture_file.specs.Fields.{Fails, Takes};
+ghost use Rattle.media_file.specs.Faults.{CountsDevice};
+ghost use Rattle.media_file.specs.Fields.{Fails, Takes};
 ghost use Rattle.receiver_file.specs.Front.{count_at, count_of, flag_at, flag_of, head_at, name_at};
 ghost use Rattle.receiver_file.specs.Front.{payload_type_at, payload_type_of, ssrc_at, ssrc_of};
 
 use crate::octets::{read_number, read_octet};
-use capture_file::{FileFault, Version, read_kind};
+use media_file::{FileFault, Version, read_kind};
 use st_format::ByteSource;
 
 /// The name of receivers' files.

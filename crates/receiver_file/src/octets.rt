@@ -1,10 +1,10 @@
 //! Numbers that are read from a source.
 ghost use Rattle.std.specs.Prelude.{◌≡◌, IfErr, IfOk};
-ghost use Rattle.capture_file.specs.Faults.{CountsDevice};
-ghost use Rattle.capture_file.specs.Fields.{Fails, Takes};
+ghost use Rattle.media_file.specs.Faults.{CountsDevice};
+ghost use Rattle.media_file.specs.Fields.{Fails, Takes};
 ghost use Rattle.receiver_file.specs.Numbers.{number_at, octet_at};
 
-use capture_file::{FileFault, read_field};
+use media_file::{FileFault, read_field};
 use st_format::ByteSource;
 
 /// Reads one octet.

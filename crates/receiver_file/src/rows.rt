@@ -3,7 +3,7 @@ ghost use Rattle.std.specs.Prelude.{◌≡◌, ◌<◌, ◌≤◌, ◌+◌, ◌*
 ghost use Rattle.std.specs.Io.KnownBytes.{Appends};
 ghost use Rattle.st_format.specs.Device.{AppendsPrefix, CountsFaults};
 ghost use Rattle.st_format.specs.Position.{row_groups};
-ghost use Rattle.capture_file.specs.Groups.{groups_text};
+ghost use Rattle.media_file.specs.Groups.{groups_text};
 ghost use Rattle.receiver_file.specs.Known.{row_cut, rows_cut, shape_in};
 ghost use Rattle.receiver_file.specs.Marked.{Passes, marked_text};
 

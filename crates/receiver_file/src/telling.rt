@@ -2,7 +2,7 @@
 ghost use Rattle.std.specs.Prelude.{◌≡◌, ◌<◌, ◌^◌, [], Ok};
 ghost use Rattle.std.specs.List.{AllByRecursion};
 ghost use Rattle.path_merge.specs.Frames.{IsReceiver, State};
-ghost use Rattle.capture_file.specs.StateFile.{SsrcFits, state_text};
+ghost use Rattle.media_file.specs.StateFile.{SsrcFits, state_text};
 ghost use Rattle.receiver_file.specs.Saved.{IsFilled, IsWritable, kept_of};
 ghost use Rattle.receiver_file.specs.StateReading.{state_walk};
 

@@ -7,7 +7,7 @@ use Rattle.std.specs.List.{flat_map}
 use Rattle.std.proofs.KnownBytes.{Appends-nil, Appends-trans}
 use Rattle.std.proofs.lemmas.Grind.{flat_map-append}
 use Rattle.std.proofs.lemmas.List.{length-append, take_all, take_more, take-append-drop}
-use Rattle.capture_file.proofs.Written.{prefix_first, prefix_then}
+use Rattle.media_file.proofs.Written.{prefix_first, prefix_then}
 use Rattle.frame_assembly.specs.declared.counts.Counts.{Counts}
 use Rattle.frame_assembly.specs.Kinds.{counts_of}
 use Rattle.path_merge.specs.Frames.{State, frame_at}

@@ -4,13 +4,13 @@ use Rattle.std.proofs.Common.{Some, Result, Ok, Err, IfErr, refl, ap, append-nil
 use Rattle.std.proofs.Common.{length-append, subst, sym, ◌∙◌}
 use Rattle.std.specs.Prelude.{⊤}
 use Rattle.std.specs.Io.KnownBytes.{Appends, Consumes, IsAtEnd}
-use Rattle.capture_file.specs.Faults.{IfContent}
-use Rattle.capture_file.specs.PictureFaults.{IsPictureFault}
-use Rattle.capture_file.specs.declared.fault.FileFault.{FileFault}
-use Rattle.capture_file.specs.declared.fault.FileFault.TheVariants.{NoMemory, Device, BadName}
-use Rattle.capture_file.specs.declared.fault.FileFault.TheVariants.{BadVersion, Truncated, BadField}
-use Rattle.capture_file.specs.declared.fault.FileFault.TheVariants.{TrailingBytes, MixedGroup}
-use Rattle.capture_file.specs.declared.fault.FileFault.TheVariants.{TooManyRecords}
+use Rattle.media_file.specs.Faults.{IfContent}
+use Rattle.media_file.specs.PictureFaults.{IsPictureFault}
+use Rattle.media_file.specs.declared.fault.FileFault.{FileFault}
+use Rattle.media_file.specs.declared.fault.FileFault.TheVariants.{NoMemory, Device, BadName}
+use Rattle.media_file.specs.declared.fault.FileFault.TheVariants.{BadVersion, Truncated, BadField}
+use Rattle.media_file.specs.declared.fault.FileFault.TheVariants.{TrailingBytes, MixedGroup}
+use Rattle.media_file.specs.declared.fault.FileFault.TheVariants.{TooManyRecords}
 use Rattle.st_format.specs.Device.{AreOctets}
 use Rattle.sdp_format.specs.Bytes.{lines}
 use Rattle.sdp_format.specs.Grammar.{IsTextFault}

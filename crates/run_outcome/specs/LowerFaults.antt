@@ -1,8 +1,8 @@
 -- Faults of the crates below as faults that end a run: want of memory and a device's fault are told
 -- as such, and any other refusal by its subject, number and name (own).
 use Rattle.std.specs.Prelude.{ℕ}
-use Rattle.capture_file.specs.declared.fault.FileFault.{FileFault}
-use Rattle.capture_file.specs.declared.fault.FileFault.TheVariants as file
+use Rattle.media_file.specs.declared.fault.FileFault.{FileFault}
+use Rattle.media_file.specs.declared.fault.FileFault.TheVariants as file
 use Rattle.key_mix.specs.declared.faults.JobFault.{JobFault}
 use Rattle.key_mix.specs.declared.faults.JobFault.TheVariants as job
 use Rattle.packet_numbers.specs.declared.seq_map.SeqMapFault.{SeqMapFault}

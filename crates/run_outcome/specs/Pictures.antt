@@ -3,8 +3,8 @@ use Rattle.std.specs.Prelude.{◌≡◌, ℕ, ◌+◌, ◌<◌, ◌⊎◌, List,
 use Rattle.st_format.specs.Device.{AreOctets}
 use Rattle.st_format.specs.Picture.{Values}
 use Rattle.st_format.specs.declared.format.Format.{Format}
-use Rattle.capture_file.specs.PictureFaults.{IsPictureFault}
-use Rattle.capture_file.specs.PictureFile.{IsPictureFile}
+use Rattle.media_file.specs.PictureFaults.{IsPictureFault}
+use Rattle.media_file.specs.PictureFile.{IsPictureFile}
 use Rattle.packet_plan.specs.Plan.{group_octets}
 use Rattle.packet_plan.specs.declared.plan.PlanFault.{PlanFault}
 use Rattle.packet_plan.specs.declared.plan.PlanFault.TheVariants.{NoMemory, BadPacketSize}

@@ -1,7 +1,7 @@
 -- What is printed of a refusal: its subject, its number and its name (own).
 use Rattle.std.specs.Prelude.{ℕ, List, ◌++◌, codes}
 use Rattle.std.specs.Fmt.{decimal}
-use Rattle.capture_file.specs.Faults.{file_fault_name, file_fault_number}
+use Rattle.media_file.specs.Faults.{file_fault_name, file_fault_number}
 use Rattle.key_mix.specs.Faults.{job_fault_name, job_fault_number}
 use Rattle.packet_numbers.specs.Numbers.{seq_map_fault_name, seq_map_fault_number}
 use Rattle.packet_plan.specs.Faults.{plan_fault_name, plan_fault_number}

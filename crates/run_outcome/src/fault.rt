@@ -4,8 +4,8 @@ ghost use Rattle.run_outcome.specs.LowerFaults.{capture_fault, file_fault, pictu
 ghost use Rattle.run_outcome.specs.LowerFaults.{state_fault};
 
 use crate::refusal::Refusal;
-use capture_file::FileFault;
 use key_mix::JobFault;
+use media_file::FileFault;
 use packet_numbers::SeqMapFault;
 use packet_plan::PlanFault;
 use path_merge::{OpenFault, PlayFault};

@@ -5,7 +5,7 @@ ghost use Rattle.run_outcome.specs.Refusing.{OfRefusal};
 ghost use Rattle.run_outcome.specs.Pictures.{IsPictureRefusal, SaysFormat, SaysPicture};
 
 use crate::fault::{Fault, of_picture};
-use capture_file::{read_packed_picture, read_picture};
+use media_file::{read_packed_picture, read_picture};
 use pgroup_pack::PackedPicture;
 use st_format::{ByteSource, Picture};
 use std::alloc::Allocator;

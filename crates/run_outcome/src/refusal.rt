@@ -1,6 +1,6 @@
 //! Why a run is refused.
-use capture_file::FileFault;
 use key_mix::JobFault;
+use media_file::FileFault;
 use packet_numbers::SeqMapFault;
 use packet_plan::PlanFault;
 use path_merge::{OpenFault, PlayFault};

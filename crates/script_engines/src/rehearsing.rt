@@ -114,10 +114,7 @@ fn print_handed<A: Allocator, O: ByteSink>(
 }
 
 /// Prints the line of a frame that was handed out.
-fn print_out<A: Allocator, O: ByteSink>(
-    out: &Handed<A>,
-    output: &mut O,
-) -> Result<(), Fault>
+fn print_out<A: Allocator, O: ByteSink>(out: &Handed<A>, output: &mut O) -> Result<(), Fault>
     ensures failures { Accounts result (counts (O.failures output.old) (O.failures output.new)
         ∷ []) }
     ensures unrefused { IfErr result (λ f. IfRefused f ⊥) }

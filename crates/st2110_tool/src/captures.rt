@@ -11,13 +11,11 @@ ghost use Rattle.capture_engines.specs.Receiving.{SavesShown};
 ghost use Rattle.capture_engines.specs.Taking.{Receives};
 ghost use Rattle.capture_engines.specs.Migrating.{Leaves, LeavesAt, Migrates};
 ghost use Rattle.capture_engines.specs.MigrateRefused.{IsMigrateRefusal};
-ghost use Rattle.capture_file.specs.Migrated.{devices};
+ghost use Rattle.media_file.specs.Migrated.{devices};
 ghost use Rattle.capture_engines.specs.Looped.{IsLoopRefusal};
 ghost use Rattle.capture_engines.specs.Looping.{Loops};
 
-use capture_engines::{
-    DatagramLink, Looping, Sending, Wanted, loop_back, migrate, receive, send,
-};
+use capture_engines::{DatagramLink, Looping, Sending, Wanted, loop_back, migrate, receive, send};
 use run_outcome::end;
 use st_format::{ByteSink, ByteSource};
 use std::alloc::Allocator;

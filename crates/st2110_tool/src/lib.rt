@@ -6,8 +6,8 @@ mod receivers;
 mod scripts;
 
 pub use capture_engines::{DatagramLink, Looping, MemoryLink, Sending, Wanted};
-pub use capture_file::Paths;
 pub use captures::{run_loop, run_migrate, run_receive, run_send};
+pub use media_file::Paths;
 pub use packet_plan::Stamp;
 pub use receiver_engines::Processing;
 pub use receivers::{run_merge, run_process, run_report};

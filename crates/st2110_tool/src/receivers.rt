@@ -144,8 +144,8 @@ where
         ∷ counts (K.failures sink.old) (K.failures sink.new)
         ∷ counts (O.failures output.old) (O.failures output.new)
         ∷ counts (F.failures faults.old) (F.failures faults.new) ∷ []) }
-    // What is written is the capture of the datagrams of the job's picture, made of the receivers and
-    // the held picture whose files were read; how many they are is printed.
+    // What is written is the capture of the datagrams of the job's picture, made of the receivers
+    // and the held picture whose files were read; how many they are is printed.
     ensures sent { result ≡ 0 → (count : ℕ) × SendsFiles S.to_give states.old hold.old
         wanted.entry.job.now wanted.entry.timestamp wanted.entry.fill.now wanted.entry.max_octets
         wanted.entry.stamp (K.held sink.old) (K.held sink.new) count

@@ -1,5 +1,5 @@
 use Rattle.std.proofs.lemmas.Result.{err_from_is_err_and}
-use Rattle.capture_file.specs.Migrated.{Devices, devices}
+use Rattle.media_file.specs.Migrated.{Devices, devices}
 use Rattle.capture_engines.proofs.Leaving.{moved_left, printed_left, untouched}
 use Rattle.capture_engines.proofs.migrating.migrate.Goals as goal
 

@@ -4,7 +4,7 @@ use Rattle.std.specs.List.{flat_map}
 use Rattle.std.proofs.KnownBytes.{Appends-trans}
 use Rattle.std.proofs.lemmas.Result.{err_from_is_err_and}
 use Rattle.st_format.specs.Device.{AppendsPrefix}
-use Rattle.capture_file.proofs.Written.{prefix_first, prefix_then}
+use Rattle.media_file.proofs.Written.{prefix_first, prefix_then}
 use Rattle.capture_engines.specs.Printed.{counted_line, refusal_line, refusals, tally_text}
 use Rattle.run_outcome.specs.declared.line.Line.TheVariants.{OutsideCount}
 use Rattle.run_outcome.proofs.Printed.{on_err, on_ok}

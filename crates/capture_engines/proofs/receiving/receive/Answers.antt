@@ -1,7 +1,7 @@
 use Rattle.std.proofs.Common.{inr}
 use Rattle.std.proofs.lemmas.Result.{err_from_is_err_and}
 use Rattle.std.specs.Io.KnownBytes.{Appends}
-use Rattle.capture_file.specs.StateFile.{state_text}
+use Rattle.media_file.specs.StateFile.{state_text}
 use Rattle.receiver_file.specs.Saved.{kept_of}
 use Rattle.capture_engines.specs.Receiving.{SavesShown}
 use Rattle.capture_engines.specs.Taking.{Receives}

@@ -1,5 +1,5 @@
 use Rattle.std.specs.Io.KnownBytes.{Appends}
-use Rattle.capture_file.specs.StateFile.{state_text}
+use Rattle.media_file.specs.StateFile.{state_text}
 use Rattle.receiver_engines.specs.Merging.{Merges}
 use Rattle.receiver_file.specs.Saved.{kept_of}
 use Rattle.receiver_engines.proofs.Merged.{merges, on_ok}

@@ -5,9 +5,9 @@ use Rattle.st_format.specs.declared.format.Format.{Format}
 use Rattle.st_format.specs.Raster.{Raster}
 use Rattle.st_format.specs.Position.{group_start, row_groups}
 use Rattle.frame_assembly.specs.Rows.{group_cells}
-use Rattle.capture_file.specs.Fields.{Fails, Takes}
-use Rattle.capture_file.specs.Groups.{Shape, group_at, groups_at}
-use Rattle.capture_file.specs.StateFile.{cut_cells}
+use Rattle.media_file.specs.Fields.{Fails, Takes}
+use Rattle.media_file.specs.Groups.{Shape, group_at, groups_at}
+use Rattle.media_file.specs.StateFile.{cut_cells}
 use Rattle.receiver_file.specs.Known.{row_cut, shape_in}
 use Rattle.receiver_file.proofs.RowReads.{read_next, read_none, read_stop, start_less, take_less}
 use Rattle.receiver_file.proofs.filling.read_row.Goals as goal

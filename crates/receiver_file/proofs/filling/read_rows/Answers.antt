@@ -4,9 +4,9 @@ use Rattle.std.proofs.lemmas.Result.{err_from_is_err_and}
 use Rattle.st_format.specs.declared.format.Format.{Format}
 use Rattle.st_format.specs.Raster.{Raster}
 use Rattle.st_format.specs.Position.{group_start, row_groups}
-use Rattle.capture_file.specs.Fields.{Fails, Takes}
-use Rattle.capture_file.specs.Groups.{Shape, groups_at}
-use Rattle.capture_file.specs.StateFile.{cut_cells}
+use Rattle.media_file.specs.Fields.{Fails, Takes}
+use Rattle.media_file.specs.Groups.{Shape, groups_at}
+use Rattle.media_file.specs.StateFile.{cut_cells}
 use Rattle.receiver_file.specs.Known.{row_cut, rows_cut, shape_in}
 use Rattle.receiver_file.proofs.RowReads.{rows_fail, rows_read, rows_start}
 use Rattle.receiver_file.proofs.filling.read_rows.Goals as goal

@@ -1,8 +1,8 @@
 use Rattle.std.proofs.Common.{◌≡◌, ◌*◌}
 use Rattle.st_format.specs.Position.{row_groups}
-use Rattle.capture_file.specs.Fields.{Takes}
-use Rattle.capture_file.specs.Groups.{groups_at}
-use Rattle.capture_file.specs.StateFile.{cut_cells}
+use Rattle.media_file.specs.Fields.{Takes}
+use Rattle.media_file.specs.Groups.{groups_at}
+use Rattle.media_file.specs.StateFile.{cut_cells}
 use Rattle.receiver_file.specs.Known.{shape_in}
 use Rattle.receiver_file.proofs.filling.read_rows.Given as goal
 

@@ -10,7 +10,7 @@ use Rattle.st_format.specs.Position.{group_start}
 use Rattle.pgroup_pack.specs.Groups.{blanked_samples}
 use Rattle.pgroup_pack.proofs.Marking.{length-group_values}
 use Rattle.frame_assembly.specs.Rows.{given_cells, group_cells}
-use Rattle.capture_file.specs.Groups.{Shape}
+use Rattle.media_file.specs.Groups.{Shape}
 use Rattle.receiver_file.specs.Known.{cells_known, is_there, shape_in}
 use Rattle.receiver_file.proofs.Knowing.{length-given_cells, replaced_at, replaced_before}
 use Rattle.receiver_file.proofs.KnownReads.{known_bits, known_given, known_zero}

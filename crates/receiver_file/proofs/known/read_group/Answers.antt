@@ -3,8 +3,8 @@ use Rattle.std.proofs.lemmas.List.{length-take-le}
 use Rattle.std.proofs.lemmas.Result.{err_from_is_err_and}
 use Rattle.st_format.specs.declared.format.Format.{Format}
 use Rattle.st_format.specs.Pgroup.{pixel_group}
-use Rattle.capture_file.specs.Fields.{Fails, Takes}
-use Rattle.capture_file.specs.Groups.{group_at}
+use Rattle.media_file.specs.Fields.{Fails, Takes}
+use Rattle.media_file.specs.Groups.{group_at}
 use Rattle.receiver_file.specs.Known.{IsKnown, cells_known, shape_in}
 use Rattle.receiver_file.proofs.known.read_group.Goals as goal
 

@@ -1,6 +1,6 @@
 use Rattle.std.proofs.Common.{◌≡◌, ℕ, subst, arith}
 use Rattle.std.proofs.lemmas.Result.{err_from_is_err_and}
-use Rattle.capture_file.specs.Fields.{Fails, Takes, field_at}
+use Rattle.media_file.specs.Fields.{Fails, Takes, field_at}
 use Rattle.receiver_file.specs.Known.{shape_in}
 use Rattle.receiver_file.proofs.KnownReads.{gone_gives, group_cut, mixed_fault, mixed_then}
 use Rattle.receiver_file.proofs.KnownReads.{state_bad, whole_gives, whole_short}

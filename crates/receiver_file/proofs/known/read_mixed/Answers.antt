@@ -1,8 +1,8 @@
 use Rattle.std.proofs.Common.{◌≡◌, ℕ, ◌∙◌, true, false, List, ap, sym, subst}
 use Rattle.std.proofs.lemmas.Result.{err_from_is_err_and}
 use Rattle.st_format.specs.Samples.{values_in}
-use Rattle.capture_file.specs.Fields.{Fails, Takes, field_at}
-use Rattle.capture_file.specs.Groups.{Shape, cells_by}
+use Rattle.media_file.specs.Fields.{Fails, Takes, field_at}
+use Rattle.media_file.specs.Groups.{Shape, cells_by}
 use Rattle.receiver_file.specs.Known.{mixed_at, shape_in}
 use Rattle.receiver_file.proofs.MixedReads.{is_other, mixed_cut, mixed_gives, mixed_other}
 use Rattle.receiver_file.proofs.MixedReads.{mixed_short, not_flipped}

@@ -1,5 +1,5 @@
 use Rattle.std.proofs.Common.{ℕ, ◌∙◌, arith, subst, sym}
-use Rattle.capture_file.specs.Faults.{CountsFault}
+use Rattle.media_file.specs.Faults.{CountsFault}
 use Rattle.std.proofs.lemmas.Result.{err_from_is_err_and}
 use Rattle.st_format.specs.Fields.{fields_of}
 use Rattle.receiver_file.proofs.StateRuns.{state_end, state_format, state_frames, state_gives}

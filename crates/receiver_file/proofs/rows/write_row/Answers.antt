@@ -3,7 +3,7 @@ use Rattle.std.proofs.Math.Nat.{mul_comm}
 use Rattle.st_format.specs.Position.{row_groups}
 use Rattle.std.proofs.Common.{◌≡◌, ◌∙◌, ap}
 use Rattle.st_format.specs.declared.format.Format.{Format}
-use Rattle.capture_file.specs.Groups.{groups_text}
+use Rattle.media_file.specs.Groups.{groups_text}
 use Rattle.receiver_file.specs.Known.{row_cut, shape_in}
 use Rattle.receiver_file.specs.Marked.{marked_text}
 use Rattle.receiver_file.proofs.MarkedRows.{row_is}

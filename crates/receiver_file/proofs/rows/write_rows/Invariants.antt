@@ -1,6 +1,6 @@
 use Rattle.std.proofs.Common.{◌≡◌}
 use Rattle.std.specs.Io.KnownBytes.{Appends}
-use Rattle.capture_file.specs.Groups.{groups_text}
+use Rattle.media_file.specs.Groups.{groups_text}
 use Rattle.receiver_file.specs.Known.{rows_cut, shape_in}
 use Rattle.receiver_file.proofs.rows.write_rows.Given as goal
 

@@ -1,8 +1,8 @@
 use Rattle.std.proofs.Common.{List, ℕ, subst}
 use Rattle.std.proofs.lemmas.Result.{err_from_is_err_and}
 use Rattle.st_format.specs.Device.{AppendsPrefix}
-use Rattle.capture_file.specs.StateFile.{Kept}
-use Rattle.capture_file.proofs.Written.{prefix_first, prefix_then}
+use Rattle.media_file.specs.StateFile.{Kept}
+use Rattle.media_file.proofs.Written.{prefix_first, prefix_then}
 use Rattle.receiver_file.specs.Saved.{frames_text, front_text, kept_of}
 use Rattle.receiver_file.proofs.KeptRuns.{state_parts}
 use Rattle.receiver_file.proofs.saving.save_receiver.Goals as goal

@@ -1,9 +1,9 @@
 use Rattle.std.specs.Int.{w32, to_be_bytes}
 use Rattle.std.proofs.lemmas.Result.{err_from_is_err_and, on_err_weaker}
 use Rattle.st_format.specs.declared.format.Format.{Format}
-use Rattle.capture_file.specs.Groups.{groups_text}
+use Rattle.media_file.specs.Groups.{groups_text}
 use Rattle.receiver_file.specs.Known.{rows_cut, shape_in}
-use Rattle.capture_file.proofs.Written.{prefix_first, prefix_then}
+use Rattle.media_file.proofs.Written.{prefix_first, prefix_then}
 use Rattle.receiver_file.proofs.saving.write_frame.Goals as goal
 
 pub returns-in_err-write_whole-clause-fault : goal.returns-in_err-write_whole-clause-fault

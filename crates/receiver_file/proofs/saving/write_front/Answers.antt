@@ -3,10 +3,10 @@ use Rattle.std.proofs.KnownBytes.{Appends-trans}
 use Rattle.std.proofs.lemmas.Result.{err_from_is_err_and, on_err_weaker, on_ok_weaker}
 use Rattle.st_format.specs.declared.format.Format.{Format}
 use Rattle.st_format.specs.Fields.{fields_of}
-use Rattle.capture_file.specs.declared.front.Version.TheVariants.{One}
-use Rattle.capture_file.specs.Fronts.{kind_text, receiver_name}
-use Rattle.capture_file.specs.StateFile.{Kept, format_text, opening_text}
-use Rattle.capture_file.proofs.Written.{prefix_first, prefix_then}
+use Rattle.media_file.specs.declared.front.Version.TheVariants.{One}
+use Rattle.media_file.specs.Fronts.{kind_text, receiver_name}
+use Rattle.media_file.specs.StateFile.{Kept, format_text, opening_text}
+use Rattle.media_file.proofs.Written.{prefix_first, prefix_then}
 use Rattle.receiver_file.specs.Saved.{kept_of}
 use Rattle.receiver_file.proofs.saving.write_front.Goals as goal
 

@@ -1,6 +1,6 @@
 use Rattle.std.proofs.Common.{List, [], ◌∷◌}
 use Rattle.run_outcome.specs.Fault.{Failures, counts}
-use Rattle.capture_file.specs.Migrated.{Devices, devices}
+use Rattle.media_file.specs.Migrated.{Devices, devices}
 use Rattle.capture_engines.specs.Migrating.{LeavesAt}
 use Rattle.capture_engines.specs.MigrateRefused.{IsMigrateRefusal}
 use Rattle.run_outcome.specs.declared.refusal.Refusal.{Refusal}

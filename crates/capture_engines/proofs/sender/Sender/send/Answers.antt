@@ -1,6 +1,6 @@
 use Rattle.std.proofs.Common.{ap, refl, rules, subst, ◌∙◌}
 use Rattle.st_format.specs.declared.format.Format.{Format}
-use Rattle.capture_file.proofs.Putting.{each_faultless, each_lent, each_stands, fails_lent}
+use Rattle.media_file.proofs.Putting.{each_faultless, each_lent, each_stands, fails_lent}
 use Rattle.packet_plan.specs.Sender.{stamp_of}
 use Rattle.packet_plan.specs.declared.stamp.Stamp.{Stamp}
 use Rattle.capture_engines.specs.Sending.{sender_of}

@@ -1,6 +1,6 @@
 use Rattle.st_format.specs.Device.{Told}
-use Rattle.capture_file.specs.Reader.{turns_of}
-use Rattle.capture_file.specs.declared.reader.Standing.TheVariants.{Reads}
+use Rattle.media_file.specs.Reader.{turns_of}
+use Rattle.media_file.specs.declared.reader.Standing.TheVariants.{Reads}
 use Rattle.capture_engines.proofs.CaptureRuns.{came_accounted, came_refused, came_taken}
 use Rattle.capture_engines.proofs.CaptureRuns.{delivered_held, reader_came}
 use Rattle.capture_engines.proofs.session.Session.take_capture.Goals as goal

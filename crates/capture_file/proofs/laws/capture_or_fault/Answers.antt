@@ -1,5 +1,0 @@
-use Rattle.capture_file.proofs.CaptureFaults.{capture_or_fault}
-use Rattle.capture_file.proofs.laws.capture_or_fault.Goals as goal
-
-pub returns : goal.returns
-returns c limit octets bytes = capture_or_fault limit octets bytes

@@ -1,5 +1,0 @@
-use Rattle.capture_file.proofs.CaptureFaults.{one_capture_fault}
-use Rattle.capture_file.proofs.laws.one_capture_fault.Goals as goal
-
-pub returns : goal.returns
-returns c limit f g octets p q = one_capture_fault limit f g octets p q

@@ -1,5 +1,0 @@
-use Rattle.capture_file.proofs.PictureFaults.{picture_fails, picture_tells}
-use Rattle.capture_file.proofs.laws.picture_fault.Goals as goal
-
-pub returns : goal.returns
-returns c f octets bytes = (picture_fails f octets bytes, picture_tells f octets bytes)

@@ -1,5 +1,0 @@
-use Rattle.capture_file.proofs.Splits.{splits}
-use Rattle.capture_file.proofs.laws.records_read.Goals as goal
-
-pub returns : goal.returns
-returns c octets bytes = splits octets bytes

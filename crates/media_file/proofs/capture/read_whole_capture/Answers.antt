@@ -1,0 +1,41 @@
+use Rattle.std.proofs.Common.{◌≡◌, ◌∙◌, ap, sym, subst, ℕ, List, map, take}
+use Rattle.media_file.specs.Capture.{capture_walk, entry_seen}
+use Rattle.media_file.specs.Fields.{Takes}
+use Rattle.media_file.specs.Records.{Entry}
+use Rattle.std.proofs.lemmas.List.{take_at}
+use Rattle.std.proofs.lemmas.Result.{err_from_is_err_and}
+use Rattle.media_file.proofs.Loops.{capture_cut, capture_fails, capture_gives}
+use Rattle.media_file.proofs.capture.read_whole_capture.Goals as goal
+
+pub returns-in_err-text_len-clause-fault : goal.returns-in_err-text_len-clause-fault
+returns-in_err-text_len-clause-fault g c =
+    let p =
+    err_from_is_err_and c.from_residual-in_err-text_len.result
+    c.from_residual-in_err-text_len.ensures.1 in
+    rw (p.1, p.2)
+    (capture_cut c.args.limit _ c.in_err-text_len.field-0.0 c.in_err-text_len.ensures.fault)
+
+pub returns-in_err-records-clause-fault : goal.returns-in_err-records-clause-fault
+returns-in_err-records-clause-fault g c =
+    let p =
+    err_from_is_err_and c.from_residual-in_err-records.result
+    c.from_residual-in_err-records.ensures.1 in
+    rw (p.1, p.2)
+    (capture_fails c.args.limit _ _ _ c.in_err-records.field-0.0 c.in_ok-text_len.ensures.read
+    c.in_err-records.ensures.fault)
+
+pub returns-clause-read : goal.returns-clause-read
+returns-clause-read g c =
+    let records : List Entry = map entry_seen c.in_ok-records.records.items in
+    let text : c.in_ok-text.text.items ≡ take c.in_ok-text_len.text_len c.read_front.new.text =
+    c.in_ok-text.ensures.items
+    ∙ ap (take c.in_ok-text_len.text_len)
+    (c.deref.ensures.value
+    ∙ take_at c.read_front.new.text _ c.in_ok-buf.buf.len
+    (c.in_ok-text_len.ensures.room ∙ c.deref_mut.ensures.len)) in
+    subst (λ (t : List ℕ). Takes (capture_walk c.args.limit)
+    (g.S.ByteSource.to_give c.args.source.now)
+    (g.S.ByteSource.to_give c.read_records.new.source)
+    (record { text = t; records = records })) (sym text)
+    (capture_gives c.args.limit _ _ _ _ records c.in_ok-text_len.ensures.read
+    c.in_ok-records.ensures.read)

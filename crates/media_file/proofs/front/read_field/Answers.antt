@@ -1,0 +1,38 @@
+use Rattle.std.proofs.Common.{◌<◌, length, take, arith}
+use Rattle.std.proofs.lemmas.List.{length-take}
+use Rattle.std.proofs.lemmas.Result.{err_from_is_err_and}
+use Rattle.media_file.proofs.Parsing.{fails_field, gives_field, part_field}
+use Rattle.media_file.proofs.Rests.{gave_all}
+use Rattle.media_file.proofs.front.read_field.Goals as goal
+
+pub returns-then-branch-buf-clause-fault : goal.returns-then-branch-buf-clause-fault
+returns-then-branch-buf-clause-fault g c =
+    let n = c.in_ok-read_whole.field-0 in
+    let e = c.in_ok-read_whole.ensures in
+    let lt : n < length c.args.buf.now = omega (arith, e.room) in
+    fails_field _ _ _ (take n c.read_whole.new.buf)
+    (omega (arith, length-take n c.read_whole.new.buf)) e.given
+    (e.short (omega (arith, e.room)))
+
+pub returns-clause-read : goal.returns-clause-read
+returns-clause-read g c =
+    let e = c.in_ok-read_whole.ensures in
+    gives_field _ _ _ c.read_whole.new.buf e.room (gave_all _ _ _ _ e.given (omega (arith, e.room)))
+
+pub returns-in_err-read_whole-clause-part : goal.returns-in_err-read_whole-clause-part
+returns-in_err-read_whole-clause-part g c =
+    let p = err_from_is_err_and c.from_residual.result c.from_residual.ensures.1 in
+    let e = c.in_err-read_whole.ensures.fault in
+    let lt : e.count < length c.args.buf.now =
+    omega (arith, e.short, c.read_whole.ensures.room) in
+    rw (p.1)
+    (part_field _ _ _ (take e.count c.read_whole.new.buf)
+    (omega (arith, length-take e.count c.read_whole.new.buf)) e.given)
+
+pub returns-then-branch-buf-clause-part : goal.returns-then-branch-buf-clause-part
+returns-then-branch-buf-clause-part g c =
+    let n = c.in_ok-read_whole.field-0 in
+    let e = c.in_ok-read_whole.ensures in
+    let lt : n < length c.args.buf.now = omega (arith, e.room) in
+    part_field _ _ _ (take n c.read_whole.new.buf)
+    (omega (arith, length-take n c.read_whole.new.buf)) e.given

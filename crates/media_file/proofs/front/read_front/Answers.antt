@@ -1,0 +1,22 @@
+use Rattle.std.proofs.lemmas.Result.{err_from_is_err_and}
+use Rattle.media_file.proofs.Fronted.{front_gives_one, front_gives_two, front_fails_two}
+use Rattle.media_file.proofs.Fronted.{front_cut}
+use Rattle.media_file.proofs.front.read_front.Goals as goal
+
+pub returns-in_err-read_kind-clause-fault : goal.returns-in_err-read_kind-clause-fault
+returns-in_err-read_kind-clause-fault g c =
+    let p = err_from_is_err_and c.from_residual.result c.from_residual.ensures.1 in
+    rw (p.1, p.2) (front_cut _ c.in_err-read_kind.field-0.0 c.in_err-read_kind.ensures.fault)
+
+pub returns-in-One-clause-read : goal.returns-in-One-clause-read
+returns-in-One-clause-read g c = front_gives_one _ _ _ c.in-One.is c.in_ok-read_kind.ensures.read
+
+pub returns-in-Two-clause-read : goal.returns-in-Two-clause-read
+returns-in-Two-clause-read g c =
+    front_gives_two _ _ _ _ c.read_text.new.text c.read_text.result c.in-Two.is
+    c.in_ok-read_kind.ensures.read c.read_text.ensures.read
+
+pub returns-in-Two-clause-fault : goal.returns-in-Two-clause-fault
+returns-in-Two-clause-fault g c =
+    front_fails_two _ _ _ c.read_text.result c.in-Two.is c.in_ok-read_kind.ensures.read
+    c.read_text.ensures.fault

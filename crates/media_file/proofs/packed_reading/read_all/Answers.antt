@@ -1,0 +1,62 @@
+use Rattle.std.proofs.Common.{subst, sym}
+use Rattle.std.proofs.lemmas.Result.{err_from_is_err_and}
+use Rattle.st_format.specs.Fields.{fields_of}
+use Rattle.st_format.specs.Pgroup.{bits_of}
+use Rattle.st_format.specs.Picture.{Values}
+use Rattle.st_format.specs.Samples.{values_in}
+use Rattle.media_file.specs.Fields.{Takes}
+use Rattle.media_file.specs.PictureFile.{picture_walk, shown_of}
+use Rattle.media_file.proofs.Raster.{block_fails, body_fails, end_fails, picture_gives}
+use Rattle.media_file.proofs.Raster.{version_fails}
+use Rattle.media_file.proofs.packed_reading.read_all.Goals as goal
+
+pub returns-in_err-read_version_one-clause-fault : goal.returns-in_err-read_version_one-clause-fault
+returns-in_err-read_version_one-clause-fault g c =
+    let p = err_from_is_err_and c.from_residual.result c.from_residual.ensures.1 in
+    rw (p.1, p.2)
+    (version_fails _ c.in_err-read_version_one.field-0.0
+    c.in_err-read_version_one.ensures.fault)
+
+pub returns-in_err-format-clause-fault : goal.returns-in_err-format-clause-fault
+returns-in_err-format-clause-fault g c =
+    let p =
+    err_from_is_err_and c.from_residual-in_err-format.result
+    c.from_residual-in_err-format.ensures.1 in
+    rw (p.1, p.2)
+    (block_fails _ _ c.in_err-format.field-0.0 c.in_ok-read_version_one.ensures.read
+    c.in_err-format.ensures.fault)
+
+pub returns-in_err-octets-clause-fault : goal.returns-in_err-octets-clause-fault
+returns-in_err-octets-clause-fault g c =
+    let p =
+    err_from_is_err_and c.from_residual-in_err-octets.result
+    c.from_residual-in_err-octets.ensures.1 in
+    rw (p.1, p.2)
+    (body_fails _ _ _
+    (fields_of c.in_ok-format.format) c.in_err-octets.field-0.0
+    c.in_ok-read_version_one.ensures.read c.in_ok-format.ensures.read
+    c.in_err-octets.ensures.fault)
+
+pub returns-in_err-read_end-clause-fault : goal.returns-in_err-read_end-clause-fault
+returns-in_err-read_end-clause-fault g c =
+    let p =
+    err_from_is_err_and c.from_residual-in_err-read_end.result
+    c.from_residual-in_err-read_end.ensures.1 in
+    rw (p.1, p.2)
+    (end_fails _ _ _ _
+    (fields_of c.in_ok-format.format)
+    (values_in (bits_of c.in_ok-format.format.depth) c.in_ok-octets.octets.items)
+    c.in_err-read_end.field-0.0
+    c.in_ok-read_version_one.ensures.read c.in_ok-format.ensures.read
+    c.in_ok-octets.ensures.read c.in_err-read_end.ensures.fault)
+
+pub returns-clause-read : goal.returns-clause-read
+returns-clause-read g c =
+    subst (λ (p : Values). Takes picture_walk (g.S.ByteSource.to_give c.args.source.now)
+    (g.S.ByteSource.to_give c.read_end.new.source) (shown_of p))
+    (sym c.from_octets.ensures.value)
+    (picture_gives _ _ _ _ _
+    (fields_of c.in_ok-format.format)
+    (values_in (bits_of c.in_ok-format.format.depth) c.in_ok-octets.octets.items)
+    c.in_ok-read_version_one.ensures.read c.in_ok-format.ensures.read
+    c.in_ok-octets.ensures.read c.in_ok-read_end.ensures.read)

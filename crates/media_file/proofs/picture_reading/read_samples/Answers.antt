@@ -1,0 +1,106 @@
+use Rattle.media_file.specs.Faults.{CountsFault}
+use Rattle.std.proofs.Common.{◌≡◌, ◌≤◌, ◌+◌, ◌*◌, ◌%◌, ◌++◌, ◌∙◌, ℕ, List, length, drop, refl}
+use Rattle.std.proofs.Common.{subst, sym, ap, arith}
+use Rattle.std.proofs.lemmas.List.{length-append, length-take-le, take_at}
+use Rattle.std.proofs.lemmas.Result.{err_from_is_err_and}
+use Rattle.st_format.specs.Pgroup.{bits_of}
+use Rattle.media_file.specs.Fields.{Fails, field_at}
+use Rattle.media_file.specs.PictureFile.{GivesSpelled}
+use Rattle.media_file.proofs.Spelt.{piece_fails, spelled_more, spelled_none}
+use Rattle.media_file.proofs.picture_reading.read_samples.Goals as goal
+
+pub loop-octets-init : goal.loop-octets-init
+loop-octets-init g c =
+    let b : ℕ = bits_of c.args.format.now.depth in
+    let none = c.in_ok-samples.ensures.items in
+    let size : length c.in_ok-samples.samples.items ≡ 0 = ap length none in
+    record {
+      within = omega (arith, size);
+      whole = subst (λ (k : ℕ). b * k % 8 ≡ 0) (sym size) (omega arith);
+      given =
+          subst (GivesSpelled b (g.S.ByteSource.to_give c.args.source.now)
+          (g.S.ByteSource.to_give c.args.source.now)) (sym none)
+          (spelled_none b (g.S.ByteSource.to_give c.args.source.now));
+      failures = refl;
+    }
+
+pub loop-octets-preserved : goal.loop-octets-preserved
+loop-octets-preserved g c =
+    let i = c.loop-octets.invariant in
+    let e = c.piece_samples-n.ensures in
+    let r = c.in_ok-read_piece.ensures in
+    let b : ℕ = bits_of c.args.format.now.depth in
+    let n : ℕ = c.piece_samples-n.result in
+    let vs : List ℕ = c.loop-octets.samples.items in
+    let ws : List ℕ = c.read_piece.new.samples in
+    let piece : List ℕ = c.loop-octets.piece in
+    let fits : n ≤ length piece = omega (arith, e.fits) in
+    let long : length ws ≡ n = r.size ∙ length-take-le n piece fits in
+    let items : c.extend_from_slice.new.self.items ≡ vs ++ ws =
+    c.in_ok-extend_from_slice.ensures.items
+    ∙ ap (λ (xs : List ℕ). vs ++ xs) (take_at ws (drop n piece) n long) in
+    let done : length vs ≡ c.len-done.result = omega arith in
+    let next : length c.extend_from_slice.new.self.items ≡ c.len-done.result + n =
+    ap length items ∙ length-append vs ws ∙ omega (arith, long, done) in
+    record {
+      within = omega (arith, next, e.within);
+      whole = subst (λ (k : ℕ). b * k % 8 ≡ 0) (sym next) e.next;
+      given =
+          subst (GivesSpelled b (g.S.ByteSource.to_give c.args.source.now)
+          (g.S.ByteSource.to_give c.read_piece.new.source)) (sym items)
+          (spelled_more b _ _ _ vs ws i.given r.read);
+      failures = r.counted ∙ i.failures;
+    }
+
+pub returns-in_err-read_piece-clause-fault : goal.returns-in_err-read_piece-clause-fault
+returns-in_err-read_piece-clause-fault g c =
+    let p =
+    err_from_is_err_and c.from_residual-in_err-read_piece.result
+    c.from_residual-in_err-read_piece.ensures.1 in
+    let i = c.loop-octets.invariant in
+    let e = c.piece_samples-n.ensures in
+    let r = c.in_err-read_piece.ensures in
+    let n : ℕ = c.piece_samples-n.result in
+    let size : ℕ = c.piece_octets-size.result in
+    let vs : List ℕ = c.loop-octets.samples.items in
+    let octets : List ℕ = c.loop-octets.octets in
+    let few : size ≤ 3600 = c.piece_octets-size.ensures.few in
+    let fits : size ≤ length octets = omega arith in
+    rw (p.1, p.2)
+    (piece_fails (bits_of c.args.format.now.depth) (length vs) n c.args.count size
+    (g.S.ByteSource.to_give c.args.source.now)
+    (g.S.ByteSource.to_give c.loop-octets.source) vs c.in_err-read_piece.field-0.0
+    r.named (omega (arith, e.within)) c.piece_octets-size.ensures.exact refl i.given
+    (subst (λ (k : ℕ). Fails (field_at k)
+    (g.S.ByteSource.to_give c.loop-octets.source) c.in_err-read_piece.field-0.0)
+    (length-take-le size octets fits) r.fault))
+
+pub piece_samples-n-requires-clause-left : goal.piece_samples-n-requires-clause-left
+piece_samples-n-requires-clause-left g c =
+    omega (arith, c.len.ensures, c.len-done.ensures, c.loop-octets-test.true)
+
+pub piece_samples-n-requires-clause-count : goal.piece_samples-n-requires-clause-count
+piece_samples-n-requires-clause-count g c = c.requires
+
+pub piece_octets-size-requires-clause-few : goal.piece_octets-size-requires-clause-few
+piece_octets-size-requires-clause-few g c = c.piece_samples-n.ensures.few
+
+pub piece_octets-size-requires-clause-whole : goal.piece_octets-size-requires-clause-whole
+piece_octets-size-requires-clause-whole g c = c.piece_samples-n.ensures.whole
+
+pub returns-in_err-read_piece-clause-counted : goal.returns-in_err-read_piece-clause-counted
+returns-in_err-read_piece-clause-counted g c =
+    let p =
+    err_from_is_err_and c.from_residual-in_err-read_piece.result
+    c.from_residual-in_err-read_piece.ensures.1 in
+    rw (p.1, p.2)
+    (subst
+    (λ (n : ℕ). CountsFault c.in_err-read_piece.field-0.0 n
+    (g.S.ByteSource.failures c.read_piece.new.source))
+    c.loop-octets.invariant.failures c.in_err-read_piece.ensures.counted)
+
+pub returns-clause-read : goal.returns-clause-read
+returns-clause-read g c = c.loop-octets.invariant.given
+
+pub returns-clause-counted : goal.returns-clause-counted
+returns-clause-counted g c = c.loop-octets.invariant.failures

@@ -1,0 +1,45 @@
+-- A file read from the left: a reading answers a value and the octets behind it, or the first
+-- fault. What a function does to a source is what a reading does to the octets that the source was
+-- to give.
+use Rattle.std.specs.Prelude.{◌≡◌, ℕ, nat_lt, if◌then◌else◌, List, [], ◌∷◌, length, take, drop}
+use Rattle.std.specs.Prelude.{⊤, Option, None, Some, Result, Ok, Err}
+use Rattle.std.specs.Io.KnownBytes.{Consumes}
+use Rattle.media_file.specs.declared.fault.FileFault.{FileFault}
+use Rattle.media_file.specs.declared.fault.FileFault.TheVariants.{Truncated, TrailingBytes}
+use Rattle.media_file.specs.Faults.{IfContent}
+
+-- so many octets
+unfoldable pub field_at : ℕ → List ℕ → Result (List ℕ × List ℕ) FileFault
+field_at n octets =
+    if nat_lt (length octets) n then Err Truncated else Ok (take n octets, drop n octets)
+
+-- nothing stands behind what was read
+abbrev pub nothing_at : List ℕ → Result (⊤ × List ℕ) FileFault
+nothing_at [] = Ok (tt, [])
+nothing_at (octet ∷ octets) = Err TrailingBytes
+
+-- a source that was to give octets is left with those behind the value
+abbrev pub Leaves : {X : Type 0} → Result (X × List ℕ) FileFault → X → Option (List ℕ) → Type 0
+Leaves read x None = ⊥
+Leaves read x (Some rest) = read ≡ Ok (x, rest)
+
+-- A source gave what the reading makes this value of, where it told its octets.
+abbrev pub Takes : {X : Type 0} → (List ℕ → Result (X × List ℕ) FileFault) → Option (List ℕ)
+    → Option (List ℕ) → X → Type 0
+Takes reading None new x = ⊤
+Takes reading (Some octets) new x = Leaves (reading octets) x new
+
+-- A fault that is neither the memory's nor the device's is the first that the reading finds in the
+-- octets that a source was to give, where it told them.
+abbrev pub Fails : {X : Type 0} → (List ℕ → Result (X × List ℕ) FileFault) → Option (List ℕ)
+    → FileFault → Type 0
+Fails reading None f = ⊤
+Fails reading (Some octets) f = IfContent f (reading octets ≡ Err f)
+
+-- A source gave octets of which the reading makes no value: a first part of one, or a wrong one.
+pub record GivesPart {X : Type 0} (reading : List ℕ → Result (X × List ℕ) FileFault)
+    (old new : Option (List ℕ)) : Type 0 where
+  pub part : List ℕ
+  pub given : Consumes old new part
+  pub fault : FileFault
+  pub none : reading part ≡ Err fault

@@ -1,0 +1,153 @@
+//! The fields of a file, what stands at its front, and that nothing is behind it.
+ghost use Rattle.std.specs.Prelude.{◌≡◌, ◌≤◌, ◌<◌, codes, length, take, IfErr, IfOk, OnOk};
+ghost use Rattle.media_file.specs.Faults.{CountsDevice, IsOfField, IsOfFront};
+ghost use Rattle.media_file.specs.Fields.{Fails, GivesPart, Takes, field_at, nothing_at};
+ghost use Rattle.media_file.specs.Fronts.{front_at, kind_at, kind_of, text_at, version_of};
+ghost use Rattle.st_format.specs.Device.{TellsOctets};
+
+use crate::fault::FileFault;
+use st_format::{ByteSource, read_whole};
+
+/// The name of captures.
+pub(crate) const CAPTURE: &[u8] = b"S20CAP";
+
+/// The name of pictures.
+pub(crate) const PICTURE: &[u8] = b"S20PIC";
+
+/// The versions of files, which are two digits behind a file's name.
+#[derive(Clone, Copy)]
+pub enum Version {
+    /// `01`
+    One,
+    /// `02`
+    Two,
+}
+
+/// Fills `buf` with the next octets of a file.
+///
+/// # Errors
+///
+/// `Truncated` where the source ends before `buf` is full, and `Device`.
+pub fn read_field<S: ByteSource>(source: &mut S, buf: &mut [u8]) -> Result<(), FileFault>
+    ensures room { length buf.new ≡ length buf.old }
+    ensures named { IfErr result IsOfField }
+    ensures read { OnOk result
+        (Takes (field_at (length buf.old)) (S.to_give source.old) (S.to_give source.new) buf.new) }
+    ensures fault { IfErr result (λ f. Fails (field_at (length buf.old)) (S.to_give source.old) f) }
+    ensures part { IfErr result (λ _. GivesPart (field_at (length buf.old)) (S.to_give source.old)
+        (S.to_give source.new)) }
+    ensures octets { 0 < length buf.old → TellsOctets (S.to_give source.old) }
+    ensures counted { CountsDevice (S.failures source.old) (S.failures source.new) result }
+    ensures names { S.names source.new ≡ S.names source.old }
+{
+    if read_whole(source, buf)? < buf.len() {
+        return Err(FileFault::Truncated);
+    }
+    Ok(())
+}
+
+/// Finds that nothing stands behind what was read.
+///
+/// # Errors
+///
+/// `TrailingBytes` where an octet was read, and `Device`.
+pub fn read_end<S: ByteSource>(source: &mut S) -> Result<(), FileFault>
+    ensures read { OnOk result
+        (Takes nothing_at (S.to_give source.old) (S.to_give source.new) tt) }
+    ensures fault { IfErr result (λ f. Fails nothing_at (S.to_give source.old) f) }
+    ensures counted { CountsDevice (S.failures source.old) (S.failures source.new) result }
+    ensures names { S.names source.new ≡ S.names source.old }
+{
+    let mut octet = [0u8; 1];
+    if source.read(&mut octet)? > 0 {
+        return Err(FileFault::TrailingBytes);
+    }
+    Ok(())
+}
+
+/// The version of a file that begins with these octets.
+fn version_in(name: &[u8], octets: &[u8; 8]) -> Result<Version, FileFault>
+    ensures exact { result ≡ kind_of name.now octets.now }
+    ensures named { IfErr result IsOfFront }
+{
+    let (front, version) = octets.split_at(6);
+    if front != name {
+        return Err(FileFault::BadName);
+    }
+    version_by(version)
+}
+
+/// The version that two digits are.
+fn version_by(digits: &[u8]) -> Result<Version, FileFault>
+    ensures exact { result ≡ version_of digits.now }
+    ensures named { IfErr result IsOfFront }
+{
+    if digits == b"01".as_slice() {
+        return Ok(Version::One);
+    }
+    if digits == b"02".as_slice() {
+        return Ok(Version::Two);
+    }
+    Err(FileFault::BadVersion)
+}
+
+/// Reads what each file begins with: six octets of name, and two of version. Answers the version.
+///
+/// # Errors
+///
+/// `Truncated` where there are fewer than eight octets, `BadName` where the first six are another
+/// name, `BadVersion` where the others are no version, and `Device`.
+pub fn read_kind<S: ByteSource>(source: &mut S, name: &[u8]) -> Result<Version, FileFault>
+    ensures named { IfErr result IsOfFront }
+    ensures read { IfOk result
+        (λ v. Takes (kind_at name.now) (S.to_give source.old) (S.to_give source.new) v) }
+    ensures fault { IfErr result (λ f. Fails (kind_at name.now) (S.to_give source.old) f) }
+    ensures part { IfErr result
+        (λ _. GivesPart (kind_at name.now) (S.to_give source.old) (S.to_give source.new)) }
+    ensures octets { TellsOctets (S.to_give source.old) }
+    ensures counted { CountsDevice (S.failures source.old) (S.failures source.new) result }
+    ensures names { S.names source.new ≡ S.names source.old }
+{
+    let mut octets = [0u8; 8];
+    read_field(source, &mut octets)?;
+    version_in(name, &octets)
+}
+
+/// Reads what stands before the records of a capture. Its text then stands at the front of `text`,
+/// which has room for any; answers how many octets it has.
+pub(crate) fn read_front<S: ByteSource>(source: &mut S, text: &mut [u8]) -> Result<usize, FileFault>
+    requires { 65535 ≤ length text.old }
+    ensures room { length text.new ≡ length text.old }
+    ensures within { IfOk result (λ n. n < 65536) }
+    ensures named { IfErr result IsOfFront }
+    ensures read { IfOk result
+        (λ n. Takes front_at (S.to_give source.old) (S.to_give source.new) (take n text.new)) }
+    ensures fault { IfErr result (λ f. Fails front_at (S.to_give source.old) f) }
+    ensures octets { TellsOctets (S.to_give source.old) }
+    ensures counted { CountsDevice (S.failures source.old) (S.failures source.new) result }
+    ensures names { S.names source.new ≡ S.names source.old }
+{
+    match read_kind(source, CAPTURE)? {
+        Version::One => Ok(0),
+        Version::Two => read_text(source, text),
+    }
+}
+
+/// Reads a text behind its length.
+fn read_text<S: ByteSource>(source: &mut S, text: &mut [u8]) -> Result<usize, FileFault>
+    requires { 65535 ≤ length text.old }
+    ensures room { length text.new ≡ length text.old }
+    ensures within { IfOk result (λ n. n < 65536) }
+    ensures named { IfErr result IsOfField }
+    ensures read { IfOk result
+        (λ n. Takes text_at (S.to_give source.old) (S.to_give source.new) (take n text.new)) }
+    ensures fault { IfErr result (λ f. Fails text_at (S.to_give source.old) f) }
+    ensures counted { CountsDevice (S.failures source.old) (S.failures source.new) result }
+    ensures names { S.names source.new ≡ S.names source.old }
+{
+    let mut octets = [0u8; 2];
+    read_field(source, &mut octets)?;
+    let length = u16::from_be_bytes(octets) as usize;
+    read_field(source, &mut text[..length])?;
+    Ok(length)
+}
