@@ -1,3 +1,4 @@
+pub mod Differences
 pub mod Formulas
 pub mod Lanes
 pub mod Marks
