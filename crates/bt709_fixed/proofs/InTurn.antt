@@ -14,7 +14,7 @@ use Rattle.lane_kernels.specs.Formulas.{clip, gain, scale}
 use Rattle.lane_kernels.proofs.Scales.{centre_is}
 use Rattle.bt709_fixed.proofs.Part.{put_below, put_within}
 use Rattle.bt709_fixed.specs.Operations.{gained_sample, is_colour, limited_sample}
-use Rattle.bt709_fixed.specs.declared.RangeKind.TheVariants.{Nominal}
+use Rattle.bt709_fixed.specs.declared.changes.RangeKind.TheVariants.{Nominal}
 
 component_turns : (s : Sampling) (k : ℕ) → component_in_row s (k % 24) ≡ component_in_row s k
 component_turns Ycc422 k = let turn : k % 24 % 4 ≡ k % 4 = omega arith in

@@ -4,10 +4,10 @@ use Rattle.std.specs.Prelude.{ℤ, pos}
 use Rattle.lane_kernels.specs.Formulas.{gain, scale, video_data}
 use Rattle.lane_kernels.proofs.Clipping.{clip_most}
 use Rattle.lane_kernels.proofs.Scales.{scale_least, whole_is}
-use Rattle.bt709_fixed.specs.declared.Change.{Change}
-use Rattle.bt709_fixed.specs.declared.Change.TheVariants.{Gain, Limit}
-use Rattle.bt709_fixed.specs.declared.RangeKind.{RangeKind}
-use Rattle.bt709_fixed.specs.declared.RangeKind.TheVariants.{Nominal, VideoData}
+use Rattle.bt709_fixed.specs.declared.changes.Change.{Change}
+use Rattle.bt709_fixed.specs.declared.changes.Change.TheVariants.{Gain, Limit}
+use Rattle.bt709_fixed.specs.declared.changes.RangeKind.{RangeKind}
+use Rattle.bt709_fixed.specs.declared.changes.RangeKind.TheVariants.{Nominal, VideoData}
 use Rattle.bt709_fixed.specs.Operations.{changed_by, limited_sample, kept_value}
 
 pub video_data_fits : (n : ℕ) (z : ℤ) → 8 ≤ n → video_data n z < 2 ^ n

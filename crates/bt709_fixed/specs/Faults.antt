@@ -1,7 +1,7 @@
 -- The numbers of the refusals, and the names that `Display` prints (own).
 use Rattle.std.specs.Prelude.{ℕ, List, codes}
-use Rattle.bt709_fixed.specs.declared.ColourFault.{ColourFault}
-use Rattle.bt709_fixed.specs.declared.ColourFault.TheVariants.{NoMemory, NotRgb, NotYcc444}
+use Rattle.bt709_fixed.specs.declared.faults.ColourFault.{ColourFault}
+use Rattle.bt709_fixed.specs.declared.faults.ColourFault.TheVariants.{NoMemory, NotRgb, NotYcc444}
 
 abbrev pub colour_fault_number : ColourFault → ℕ
 colour_fault_number NoMemory = 1

@@ -35,10 +35,10 @@ use Rattle.lane_kernels.specs.Formulas.{
   scale,
   video_data,
 }
-use Rattle.bt709_fixed.specs.declared.Change.{Change}
-use Rattle.bt709_fixed.specs.declared.Change.TheVariants.{Gain, Limit}
-use Rattle.bt709_fixed.specs.declared.RangeKind.{RangeKind}
-use Rattle.bt709_fixed.specs.declared.RangeKind.TheVariants.{Nominal, VideoData}
+use Rattle.bt709_fixed.specs.declared.changes.Change.{Change}
+use Rattle.bt709_fixed.specs.declared.changes.Change.TheVariants.{Gain, Limit}
+use Rattle.bt709_fixed.specs.declared.changes.RangeKind.{RangeKind}
+use Rattle.bt709_fixed.specs.declared.changes.RangeKind.TheVariants.{Nominal, VideoData}
 
 -- The picture p has the format f, and at each position the value that is given
 pub record IsOf (f : Format) (value : Position → ℕ) (p : Values) : Type 0 where

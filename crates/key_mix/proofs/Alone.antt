@@ -2,9 +2,9 @@
 use Rattle.std.proofs.Common.{◌≡◌, ◌≢◌, ◌↔◌, ℕ, ◌<◌, ◌≤◌, [], ◌∷◌, refl, arith, ap, inl, inr}
 use Rattle.st_format.specs.declared.format.Format.{Format}
 use Rattle.st_format.specs.declared.sampling.Sampling.TheVariants.{Ycc444, Rgb}
-use Rattle.bt709_fixed.specs.declared.ColourFault.{ColourFault}
-use Rattle.bt709_fixed.specs.declared.ColourFault.TheVariants as colour
-use Rattle.bt709_fixed.specs.declared.RangeKind.{RangeKind}
+use Rattle.bt709_fixed.specs.declared.faults.ColourFault.{ColourFault}
+use Rattle.bt709_fixed.specs.declared.faults.ColourFault.TheVariants as colour
+use Rattle.bt709_fixed.specs.declared.changes.RangeKind.{RangeKind}
 use Rattle.key_mix.specs.Faults.{colour_job_fault}
 use Rattle.key_mix.specs.Jobs.{Against, IsFault, IsSoundJob, turn_of}
 use Rattle.key_mix.specs.declared.Job.TheVariants.{Limit, Gain, ToYcc444, ToYcc422}

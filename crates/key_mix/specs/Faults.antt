@@ -2,8 +2,8 @@
 -- fault (own).
 use Rattle.std.specs.Prelude.{ℕ, List, ◌++◌, codes}
 use Rattle.std.specs.Fmt.{decimal}
-use Rattle.bt709_fixed.specs.declared.ColourFault.{ColourFault}
-use Rattle.bt709_fixed.specs.declared.ColourFault.TheVariants as colour
+use Rattle.bt709_fixed.specs.declared.faults.ColourFault.{ColourFault}
+use Rattle.bt709_fixed.specs.declared.faults.ColourFault.TheVariants as colour
 use Rattle.packet_plan.specs.declared.plan.PlanFault.{PlanFault}
 use Rattle.packet_plan.specs.declared.plan.PlanFault.TheVariants as plan
 use Rattle.key_mix.specs.declared.faults.JobFault.{JobFault}

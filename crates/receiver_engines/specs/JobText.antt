@@ -1,6 +1,6 @@
 -- The text of a job (own).
 use Rattle.std.specs.Prelude.{◌≡◌, ℕ, List, ◌++◌, codes, Some, ⊤}
-use Rattle.bt709_fixed.specs.declared.RangeKind.TheVariants.{Nominal, VideoData}
+use Rattle.bt709_fixed.specs.declared.changes.RangeKind.TheVariants.{Nominal, VideoData}
 use Rattle.key_mix.specs.declared.Axis.{Axis}
 use Rattle.key_mix.specs.declared.Axis.TheVariants.{Columns, Rows}
 use Rattle.key_mix.specs.declared.Job.{Job}

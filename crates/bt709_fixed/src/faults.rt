@@ -1,0 +1,52 @@
+//! Why there is no picture of other components.
+ghost use Rattle.std.specs.Prelude.{◌≡◌};
+ghost use Rattle.bt709_fixed.specs.declared.faults.ColourFault.TheVariants.{NoMemory};
+
+use std::alloc::AllocError;
+use std::fmt;
+use thiserror::Error;
+
+/// Why there is no picture of other components. `Display` is the fault's name.
+#[derive(Clone, Copy, Debug, PartialEq, Eq, Error)]
+pub enum ColourFault {
+    /// The memory was refused.
+    NoMemory = 1,
+    /// The picture isn't of R, G and B.
+    NotRgb,
+    /// The picture isn't of Y, Cb and Cr at each column.
+    NotYcc444,
+}
+
+impl ColourFault {
+    ghost use Rattle.bt709_fixed.specs.Faults.{colour_fault_number};
+
+    /// Its number: 1 to 3.
+    pub fn number(self) -> u8
+        ensures { result ≡ colour_fault_number self }
+    {
+        self as u8
+    }
+}
+
+impl fmt::Display for ColourFault {
+    ghost use Rattle.std.specs.Prelude.{Some};
+    ghost use Rattle.bt709_fixed.specs.Faults.{colour_fault_name};
+
+    ghost output = { λ fault. Some (colour_fault_name fault) };
+
+    fn fmt<W: fmt::Write>(&self, f: &mut fmt::Formatter<W>) -> fmt::Result {
+        f.write_str(match self {
+            ColourFault::NoMemory => "NoMemory",
+            ColourFault::NotRgb => "NotRgb",
+            ColourFault::NotYcc444 => "NotYcc444",
+        })
+    }
+}
+
+impl From<AllocError> for ColourFault {
+    ghost from_gives = { λ _ e. e ≡ NoMemory };
+
+    fn from(_error: AllocError) -> ColourFault {
+        ColourFault::NoMemory
+    }
+}
