@@ -37,6 +37,22 @@ impl JobFault {
     {
         self as u8
     }
+
+    /// What was wanted where this fault comes, in words for a person.
+    pub fn wanted(self) -> &'static str {
+        match self {
+            JobFault::NoMemory => "more memory than there is",
+            JobFault::FormatsDiffer => {
+                "frames of one format, and a key of their size, depth and rate"
+            }
+            JobFault::KeyNotYcc => "a key of Y, Cb and Cr",
+            JobFault::BadWipe => "P and S of at most the width, or for rows the height",
+            JobFault::NotRgb => "a frame of R, G and B",
+            JobFault::NotYcc444 => "a frame of Y, Cb and Cr at each column",
+            JobFault::WrongInputCount => "one receiver, for a wipe two and for key three",
+            JobFault::BadGain => "a gain of at most 16384",
+        }
+    }
 }
 
 impl fmt::Display for JobFault {

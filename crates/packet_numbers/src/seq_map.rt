@@ -32,6 +32,14 @@ impl SeqMapFault {
     {
         self as u8
     }
+
+    /// What was wanted where this fault comes, in words for a person.
+    pub fn wanted(self) -> &'static str {
+        match self {
+            SeqMapFault::NoMemory => "more memory than there is",
+            SeqMapFault::BadCount => "a COUNT from 1 to 1048576",
+        }
+    }
 }
 
 impl fmt::Display for SeqMapFault {

@@ -48,6 +48,14 @@ impl PlanFault {
     {
         self as u8
     }
+
+    /// What was wanted where this fault comes, in words for a person.
+    pub fn wanted(self) -> &'static str {
+        match self {
+            PlanFault::NoMemory => "more memory than there is",
+            PlanFault::BadPacketSize => "20 octets and a pgroup at least, and at most 9000",
+        }
+    }
 }
 
 impl fmt::Display for PlanFault {

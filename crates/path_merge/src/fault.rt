@@ -26,6 +26,15 @@ impl OpenFault {
     {
         self as u8
     }
+
+    /// What was wanted where this fault comes, in words for a person.
+    pub fn wanted(self) -> &'static str {
+        match self {
+            OpenFault::NoMemory => "more memory than there is",
+            OpenFault::BadWindow => "1 to 16 timestamps",
+            OpenFault::DoubleTimestamp => "each timestamp once",
+        }
+    }
 }
 
 impl fmt::Display for OpenFault {

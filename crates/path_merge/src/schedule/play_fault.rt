@@ -2,6 +2,7 @@
 ghost use Rattle.std.specs.Prelude.{◌≡◌};
 ghost use Rattle.path_merge.specs.declared.schedule.play_fault.Stop.TheVariants.{NoMemory};
 
+use crate::fault::OpenFault;
 use std::alloc::{AllocError, AllocFailed};
 use std::fmt;
 use thiserror::Error;
@@ -39,6 +40,18 @@ impl PlayFault {
             PlayFault::DoubleTimestamp => 4,
             PlayFault::BadPictures => 5,
             PlayFault::BadReceivers => 6,
+        }
+    }
+
+    /// What was wanted where this fault comes, in words for a person.
+    pub fn wanted(self) -> &'static str {
+        match self {
+            PlayFault::NoMemory => OpenFault::NoMemory.wanted(),
+            PlayFault::BadEvent(_) => "an event that can happen after those before it",
+            PlayFault::BadWindow => OpenFault::BadWindow.wanted(),
+            PlayFault::DoubleTimestamp => OpenFault::DoubleTimestamp.wanted(),
+            PlayFault::BadPictures => "at most 10000 pictures",
+            PlayFault::BadReceivers => "1 to 8 receivers",
         }
     }
 }
