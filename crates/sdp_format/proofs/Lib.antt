@@ -16,3 +16,4 @@ pub mod LineForms
 pub mod SectionFaults
 pub mod TextFaults
 pub mod BackAgain
+pub mod Places

@@ -8,3 +8,4 @@ pub mod ReadLeg
 pub mod Views
 pub mod Canonical
 pub mod Back
+pub mod Places

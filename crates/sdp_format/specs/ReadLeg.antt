@@ -7,6 +7,8 @@ use Rattle.sdp_format.specs.Sections.{Leg, Section, section_lines}
 use Rattle.sdp_format.specs.Reading.{Listed}
 use Rattle.sdp_format.specs.declared.sdp.Leg.{Leg as Read}
 use Rattle.sdp_format.specs.declared.sdp.Listed.{Listed as ReadList}
+use Rattle.sdp_format.specs.declared.sdp.VideoSection.{VideoSection}
+use Rattle.std.specs.Option.{option_copied}
 
 abbrev pub leg_seen : Read → Leg
 leg_seen l = record {
@@ -22,3 +24,6 @@ listed_seen l = record { port = l.port; payload_type = l.payload_type; list = it
 -- the section of a first line and of what is left behind it
 abbrev pub section_of : List ℕ → Option (List ℕ) → Section
 section_of media left = record { media = media; lines = section_lines (lines_left left) }
+
+abbrev pub section_at : VideoSection → Section
+section_at s = section_of s.media.now (option_copied s.left)

@@ -53,6 +53,34 @@ impl SdpFault {
     {
         self as u8
     }
+
+    /// What was wanted where this fault comes, in words for a person.
+    pub fn wanted(self) -> &'static str {
+        match self {
+            SdpFault::NoMemory => "more memory than there is",
+            SdpFault::NoVideo => "a line that begins m=video and a space",
+            SdpFault::TooManyLegs => "at most two sections m=video",
+            SdpFault::BadMediaLine => "m=video PORT RTP/AVP PT, PORT to 65535 and PT to 127",
+            SdpFault::NoRtpmap => "a=rtpmap:PT for the payload type of the line m=video",
+            SdpFault::NotRaw90000 => "raw/90000 in a=rtpmap:PT",
+            SdpFault::NoFmtp => "a=fmtp:PT for the payload type of the line m=video",
+            SdpFault::BadParameter => "in a=fmtp:PT items NAME=VALUE, each value of its form",
+            SdpFault::DoubleParameter => "in a=fmtp:PT each name once",
+            SdpFault::MissingParameter => {
+                "sampling, width, height, exactframerate, depth, colorimetry, PM and SSN in \
+                 a=fmtp:PT"
+            }
+            SdpFault::UnsupportedSampling => "sampling=YCbCr-4:2:2, YCbCr-4:4:4 or RGB",
+            SdpFault::UnsupportedDepth => "depth=8, 10, 12 or 16",
+            SdpFault::Interlaced => "neither interlace nor segmented",
+            SdpFault::UnsupportedPacking => "PM=2110GPM",
+            SdpFault::BadSsn => "SSN=ST2110-20: and a year",
+            SdpFault::BadFormat => "width, height and exactframerate of a format",
+            SdpFault::LegsDiffer => {
+                "two sections with one payload type, format, range and colorimetry"
+            }
+        }
+    }
 }
 
 /// The fault's name.

@@ -4,16 +4,19 @@
 
 mod canonical;
 mod fault;
+mod item_at_fault;
 mod items;
 pub mod laws;
 mod leg;
 mod lines;
 mod parameters;
+mod place;
 mod read;
 mod sdp;
 mod text;
 
 pub use canonical::fmtp_text;
 pub use fault::SdpFault;
-pub use read::read_sdp;
+pub use place::{Located, Place};
+pub use read::{read_located, read_sdp};
 pub use sdp::{Range, Sdp};

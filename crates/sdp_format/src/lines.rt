@@ -1,13 +1,14 @@
 //! The lines of a text, and what they say by themselves.
 ghost use Rattle.std.specs.Prelude.{◌≡◌, ◌∷◌, [], None, Some, MatchOption, IfSome, ◌≤◌};
-ghost use Rattle.std.specs.Option.{option_copied};
+ghost use Rattle.std.specs.Option.{option_copied, option_map};
 ghost use Rattle.std.specs.Str.{bytes_eq};
 ghost use Rattle.sdp_format.specs.Bytes.{begins_with, lines, lines_left, attribute, at_most};
 ghost use Rattle.st_format.specs.Words.{number};
 ghost use Rattle.sdp_format.specs.Sections.{video_sections, section_lines};
 ghost use Rattle.sdp_format.specs.Reading.{media_of, first_attribute, is_raw90000};
-ghost use Rattle.sdp_format.specs.ReadLeg.{section_of};
+ghost use Rattle.sdp_format.specs.ReadLeg.{section_at};
 
+use crate::sdp::VideoSection;
 use crate::text::{cut, trim, trim_end};
 use st_format::{read_number, without_carriage_return};
 
@@ -34,18 +35,17 @@ pub(crate) fn next_line(text: &[u8]) -> (&[u8], Option<&[u8]>)
     (without_carriage_return(line), rest)
 }
 
-/// The first line of the next video section, and what is left behind it.
-pub(crate) fn next_video<'a>(left: Option<&'a [u8]>) -> Option<(&'a [u8], Option<&'a [u8]>)>
+/// The next video section.
+pub(crate) fn next_video<'a>(left: Option<&'a [u8]>) -> Option<VideoSection<'a>>
     ensures { let sections = video_sections (lines_left (option_copied left.entry)) in
-        MatchOption result (sections ≡ []) (λ v. sections
-        ≡ section_of v.0.now (option_copied v.1)
-        ∷ video_sections (lines_left (option_copied v.1))) }
+        MatchOption result (sections ≡ []) (λ s. sections
+        ≡ section_at s ∷ video_sections (lines_left (option_copied s.left))) }
 {
     let mut rest = left;
     while let Some(text) = rest {
-        let (line, more) = next_line(text);
-        if begins(b"m=video ", line) {
-            return Some((line, more));
+        let (media, more) = next_line(text);
+        if begins(b"m=video ", media) {
+            return Some(VideoSection { media, left: more });
         }
         rest = more;
     }
@@ -67,6 +67,30 @@ fn attribute<'a>(word: &[u8], wanted: u8, line: &'a [u8]) -> Option<&'a [u8]>
     }
 }
 
+/// What follows them in the first line of the section that has them, and what is left behind that
+/// line.
+pub(crate) fn attribute_line<'a>(
+    word: &[u8],
+    wanted: u8,
+    left: Option<&'a [u8]>,
+) -> Option<(&'a [u8], Option<&'a [u8]>)>
+    ensures { option_map (λ l. l.0.now) result
+        ≡ first_attribute word.now wanted (section_lines (lines_left (option_copied left.entry))) }
+{
+    let mut rest = left;
+    while let Some(text) = rest {
+        let (line, more) = next_line(text);
+        if begins(b"m=", line) {
+            return None;
+        }
+        if let Some(found) = attribute(word, wanted, line) {
+            return Some((found, more));
+        }
+        rest = more;
+    }
+    None
+}
+
 /// What follows them in the first line of the section that has them.
 pub(crate) fn first_attribute<'a>(
     word: &[u8],
@@ -76,19 +100,10 @@ pub(crate) fn first_attribute<'a>(
     ensures { option_copied result
         ≡ first_attribute word.now wanted (section_lines (lines_left (option_copied left.entry))) }
 {
-    let mut rest = left;
-    while let Some(text) = rest {
-        let (line, more) = next_line(text);
-        if begins(b"m=", line) {
-            return None;
-        }
-        let found = attribute(word, wanted, line);
-        if found.is_some() {
-            return found;
-        }
-        rest = more;
+    match attribute_line(word, wanted, left) {
+        Some((found, _)) => Some(found),
+        None => None,
     }
-    None
 }
 
 /// A decimal number up to a limit.

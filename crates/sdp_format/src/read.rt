@@ -1,6 +1,6 @@
 //! The reader of whole texts.
 ghost use Rattle.std.specs.Prelude.{◌≡◌, ◌≢◌, ◌≤◌, ◌<◌, ◌∷◌, [], None, Some, length, ◌⊎◌, IfOk};
-ghost use Rattle.std.specs.Prelude.{IfErr, IsErrOf, IsOk};
+ghost use Rattle.std.specs.Prelude.{IfErr, IsErrOf, IsOk, IfSome};
 ghost use Rattle.std.specs.Option.{option_copied};
 ghost use Rattle.sdp_format.specs.Bytes.{lines};
 ghost use Rattle.sdp_format.specs.Views.{items_in, description};
@@ -11,14 +11,16 @@ ghost use Rattle.sdp_format.specs.Reading.{said_in, same_leg, same_range, sectio
 ghost use Rattle.sdp_format.specs.Reading.{sections_walk, result_map, text_walk};
 ghost use Rattle.sdp_format.specs.Grammar.{IsDescribed, IsTextFault};
 ghost use Rattle.sdp_format.specs.Naming.{items, range_or};
-ghost use Rattle.sdp_format.specs.ReadLeg.{leg_seen, listed_seen, section_of};
+ghost use Rattle.sdp_format.specs.ReadLeg.{leg_seen, listed_seen, section_of, section_at};
+ghost use Rattle.sdp_format.specs.Places.{IsPlace, without_place, without_section};
 
 use crate::fault::SdpFault;
 use crate::items::{colorimetry, has_bad, range_named};
 use crate::leg::format_of;
 use crate::lines::{first_attribute, is_raw90000, is_word, media_of, next_video};
 use crate::parameters::{Parameters, is_missing, parameters_of, text_of, value_of};
-use crate::sdp::{Leg, Listed, Range, Sdp};
+use crate::place::{Located, place_of};
+use crate::sdp::{Leg, Listed, Range, Sdp, Stop, VideoSection};
 use arrayvec::ArrayVec;
 use std::alloc::Allocator;
 
@@ -146,15 +148,35 @@ fn described(ports: ArrayVec<u16, 2>, leg: Leg) -> Sdp
     }
 }
 
+/// The port of a section, and what the section says; a fault comes with the section.
+fn said_by<'a, A: Allocator + Copy>(
+    alloc: A,
+    from: VideoSection<'a>,
+) -> Result<(u16, Leg), Stop<'a>>
+    ensures exact { GivesUnlessMemory (λ x. (x.0, leg_seen x.1)) (without_section result)
+        (section_walk (section_at from.entry)) }
+    ensures found { IsOk result → IsOk (listing_walk (section_at from.entry)) }
+    ensures memory { IsErrOf (without_section result) NoMemory
+        → IsOk (listing_walk (section_at from.entry)) }
+{
+    match section(alloc, from.media, from.left) {
+        Ok(said) => Ok(said),
+        Err(fault) => Err(Stop {
+            fault,
+            section: Some(from),
+        }),
+    }
+}
+
 /// A text of one section: its port, and what it says.
 #[tactic(auto, unfolding(crate::specs::Reading::sections_walk))]
-fn one<A: Allocator + Copy>(alloc: A, media: &[u8], left: Option<&[u8]>) -> Result<Sdp, SdpFault>
-    ensures exact { GivesUnlessMemory description result
-        (sections_walk (section_of media.now (option_copied left.entry) ∷ [])) }
-    ensures memory { IsErrOf result NoMemory
-        → IsOk (listing_walk (section_of media.now (option_copied left.entry))) }
+fn one<'a, A: Allocator + Copy>(alloc: A, section: VideoSection<'a>) -> Result<Sdp, Stop<'a>>
+    ensures exact { GivesUnlessMemory description (without_section result)
+        (sections_walk (section_at section.entry ∷ [])) }
+    ensures memory { IsErrOf (without_section result) NoMemory
+        → IsOk (listing_walk (section_at section.entry)) }
 {
-    let (port, leg) = section(alloc, media, left)?;
+    let (port, leg) = said_by(alloc, section)?;
     let mut ports = ArrayVec::new();
     ports.push(port);
     Ok(described(ports, leg))
@@ -162,23 +184,23 @@ fn one<A: Allocator + Copy>(alloc: A, media: &[u8], left: Option<&[u8]>) -> Resu
 
 /// A text of two sections, which have to say the same.
 #[tactic(auto, unfolding(crate::specs::Reading::sections_walk))]
-fn two<A: Allocator + Copy>(
+fn two<'a, A: Allocator + Copy>(
     alloc: A,
-    media: &[u8],
-    left: Option<&[u8]>,
-    second_media: &[u8],
-    second_left: Option<&[u8]>,
-) -> Result<Sdp, SdpFault>
-    ensures exact { GivesUnlessMemory description result
-        (sections_walk (section_of media.now (option_copied left.entry)
-        ∷ section_of second_media.now (option_copied second_left.entry) ∷ [])) }
-    ensures memory { IsErrOf result NoMemory
-        → IsOk (listing_walk (section_of media.now (option_copied left.entry))) }
+    first: VideoSection<'a>,
+    second: VideoSection<'a>,
+) -> Result<Sdp, Stop<'a>>
+    ensures exact { GivesUnlessMemory description (without_section result)
+        (sections_walk (section_at first.entry ∷ section_at second.entry ∷ [])) }
+    ensures memory { IsErrOf (without_section result) NoMemory
+        → IsOk (listing_walk (section_at first.entry)) }
 {
-    let (port, leg) = section(alloc, media, left)?;
-    let (second_port, second) = section(alloc, second_media, second_left)?;
-    if !same_leg(&leg, &second) {
-        return Err(SdpFault::LegsDiffer);
+    let (port, leg) = said_by(alloc, first)?;
+    let (second_port, second_leg) = said_by(alloc, second)?;
+    if !same_leg(&leg, &second_leg) {
+        return Err(Stop {
+            fault: SdpFault::LegsDiffer,
+            section: Some(second),
+        });
     }
     let mut ports = ArrayVec::new();
     ports.push(port);
@@ -188,20 +210,27 @@ fn two<A: Allocator + Copy>(
 
 /// A text, from its first line on.
 #[tactic(auto, unfolding(crate::specs::Reading::text_walk, crate::specs::Reading::sections_walk))]
-fn read_text<A: Allocator + Copy>(alloc: A, text: &[u8]) -> Result<Sdp, SdpFault>
-    ensures exact { GivesUnlessMemory description result (text_walk text.now) }
-    ensures memory { IsErrOf result NoMemory → WantsMemory (video_sections (lines text.now)) }
+fn read_text<'a, A: Allocator + Copy>(alloc: A, text: &'a [u8]) -> Result<Sdp, Stop<'a>>
+    ensures exact { GivesUnlessMemory description (without_section result) (text_walk text.now) }
+    ensures memory { IsErrOf (without_section result) NoMemory
+        → WantsMemory (video_sections (lines text.now)) }
 {
-    let Some((media, left)) = next_video(Some(text)) else {
-        return Err(SdpFault::NoVideo);
+    let Some(first) = next_video(Some(text)) else {
+        return Err(Stop {
+            fault: SdpFault::NoVideo,
+            section: None,
+        });
     };
-    let Some((second_media, second_left)) = next_video(left) else {
-        return one(alloc, media, left);
+    let Some(second) = next_video(first.left) else {
+        return one(alloc, first);
     };
-    if next_video(second_left).is_some() {
-        return Err(SdpFault::TooManyLegs);
+    if let Some(third) = next_video(second.left) {
+        return Err(Stop {
+            fault: SdpFault::TooManyLegs,
+            section: Some(third),
+        });
     }
-    two(alloc, media, left, second_media, second_left)
+    two(alloc, first, second)
 }
 
 /// Reads what an SDP text says of the studio video that it announces (RFC 8866, 5 and 6; SMPTE ST
@@ -222,5 +251,32 @@ pub fn read_sdp<A: Allocator + Copy>(alloc: A, text: &[u8]) -> Result<Sdp, SdpFa
     // The same by the walk, which tells one answer for each text.
     ensures exact { GivesUnlessMemory description result (text_walk text.now) }
 {
-    read_text(alloc, text)
+    match read_text(alloc, text) {
+        Ok(sdp) => Ok(sdp),
+        Err(stop) => Err(stop.fault),
+    }
+}
+
+/// Reads what an SDP text says, as [`read_sdp`] does: it reads the same texts as the same, and the
+/// error of any other text has the same fault. With the fault comes the place in the text that has
+/// it. Memory is wanted for what `read_sdp` wants it for, and for nothing else.
+pub fn read_located<A: Allocator + Copy>(alloc: A, text: &[u8]) -> Result<Sdp, Located>
+    ensures said { IfOk result
+        (λ sdp. IsDescribed (video_sections (lines text.now)) (description sdp)) }
+    ensures fault { IfErr result (λ l. (l.fault ≡ NoMemory)
+        ⊎ IsTextFault (video_sections (lines text.now)) l.fault) }
+    ensures place { IfErr result (λ l. IfSome l.place (λ place. IsPlace text.now place)) }
+    ensures memory { IsErrOf (without_place result) NoMemory
+        → WantsMemory (video_sections (lines text.now)) }
+
+    // The same by the walk, which tells one answer for each text.
+    ensures exact { GivesUnlessMemory description (without_place result) (text_walk text.now) }
+{
+    match read_text(alloc, text) {
+        Ok(sdp) => Ok(sdp),
+        Err(stop) => Err(Located {
+            fault: stop.fault,
+            place: place_of(text, stop),
+        }),
+    }
 }

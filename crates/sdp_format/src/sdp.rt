@@ -2,6 +2,7 @@
 ghost use Rattle.std.specs.Prelude.{◌≡◌, ◌≤◌, ◌<◌, Some, length};
 ghost use Rattle.sdp_format.specs.Naming.{colorimetry as colours_in};
 
+use crate::fault::SdpFault;
 use arrayvec::ArrayVec;
 use st_format::Format;
 
@@ -52,4 +53,18 @@ pub(crate) struct Leg {
     pub(crate) colorimetry: ArrayVec<u8, 32>,
     ghost small_type: { payload_type ≤ 127 },
     ghost named: { colours_in colorimetry.items ≡ Some colorimetry.items },
+}
+
+/// A video section: its first line, and what is left of the text behind that.
+#[derive(Clone, Copy)]
+pub(crate) struct VideoSection<'a> {
+    pub(crate) media: &'a [u8],
+    pub(crate) left: Option<&'a [u8]>,
+}
+
+/// Why a text is not read, and the section in which that was found, if it was in one.
+#[derive(Clone, Copy)]
+pub(crate) struct Stop<'a> {
+    pub(crate) fault: SdpFault,
+    pub(crate) section: Option<VideoSection<'a>>,
 }

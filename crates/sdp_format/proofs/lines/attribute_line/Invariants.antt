@@ -3,7 +3,7 @@ use Rattle.std.specs.Option.{option_copied}
 use Rattle.sdp_format.specs.Bytes.{lines_left}
 use Rattle.sdp_format.specs.Sections.{section_lines}
 use Rattle.sdp_format.specs.Reading.{first_attribute}
-use Rattle.sdp_format.proofs.lines.first_attribute.Given as goal
+use Rattle.sdp_format.proofs.lines.attribute_line.Given as goal
 
 abbrev pub invariant-loop-rest : goal.invariant-loop-rest
 invariant-loop-rest l =
