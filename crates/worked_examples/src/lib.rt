@@ -87,6 +87,8 @@ mod sample_kernels;
 #[cfg(test)]
 mod sdp;
 #[cfg(test)]
+mod sdp_places;
+#[cfg(test)]
 mod sdp_runs;
 #[cfg(test)]
 mod sending;
@@ -100,5 +102,7 @@ mod turns;
 mod two_paths;
 #[cfg(test)]
 mod value_growths;
+#[cfg(test)]
+mod wanted_texts;
 #[cfg(test)]
 mod wanting;
