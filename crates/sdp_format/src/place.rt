@@ -1,5 +1,6 @@
 //! Where in a text its fault is.
-ghost use Rattle.std.specs.Prelude.{◌≡◌, ◌≤◌, IfSome, length, take};
+ghost use Rattle.std.specs.Prelude.{◌≡◌, ◌≤◌, ◌⊎◌, IfSome, length, take};
+ghost use Rattle.sdp_format.specs.declared.fault.SdpFault.TheVariants.{NoMemory, NoVideo};
 ghost use Rattle.sdp_format.specs.Places.{IsPlace, line_feeds};
 
 use crate::fault::SdpFault;
@@ -119,7 +120,9 @@ fn place_in(text: &[u8], section: VideoSection<'_>, fault: SdpFault) -> Place
 
 /// The place of that for which a text isn't read.
 pub(crate) fn place_of(text: &[u8], stop: Stop<'_>) -> Option<Place>
-    ensures { IfSome result (λ place. IsPlace text.now place) }
+    ensures place { IfSome result (λ place. IsPlace text.now place) }
+    ensures placed { result ≡ None
+        → (stop.entry.fault ≡ NoMemory) ⊎ (stop.entry.fault ≡ NoVideo) }
 {
     match (stop.fault, stop.section) {
         (SdpFault::NoMemory, _) | (_, None) => None,

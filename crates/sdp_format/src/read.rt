@@ -4,7 +4,7 @@ ghost use Rattle.std.specs.Prelude.{IfErr, IsErrOf, IsOk, IfSome};
 ghost use Rattle.std.specs.Option.{option_copied};
 ghost use Rattle.sdp_format.specs.Bytes.{lines};
 ghost use Rattle.sdp_format.specs.Views.{items_in, description};
-ghost use Rattle.sdp_format.specs.declared.fault.SdpFault.TheVariants.{NoMemory};
+ghost use Rattle.sdp_format.specs.declared.fault.SdpFault.TheVariants.{NoMemory, NoVideo};
 ghost use Rattle.sdp_format.specs.Sections.{video_sections};
 ghost use Rattle.sdp_format.specs.Reading.{GivesUnlessMemory, WantsMemory, leg_of, listing_walk};
 ghost use Rattle.sdp_format.specs.Reading.{said_in, same_leg, same_range, section_walk};
@@ -266,6 +266,8 @@ pub fn read_located<A: Allocator + Copy>(alloc: A, text: &[u8]) -> Result<Sdp, L
     ensures fault { IfErr result (λ l. (l.fault ≡ NoMemory)
         ⊎ IsTextFault (video_sections (lines text.now)) l.fault) }
     ensures place { IfErr result (λ l. IfSome l.place (λ place. IsPlace text.now place)) }
+    ensures placed { IfErr result (λ l. l.place ≡ None
+        → (l.fault ≡ NoMemory) ⊎ (l.fault ≡ NoVideo)) }
     ensures memory { IsErrOf (without_place result) NoMemory
         → WantsMemory (video_sections (lines text.now)) }
 

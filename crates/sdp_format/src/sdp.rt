@@ -1,5 +1,6 @@
 //! What a text and its sections say.
-ghost use Rattle.std.specs.Prelude.{◌≡◌, ◌≤◌, ◌<◌, Some, length};
+ghost use Rattle.std.specs.Prelude.{◌≡◌, ◌≤◌, ◌<◌, Some, None, length};
+ghost use Rattle.sdp_format.specs.declared.fault.SdpFault.TheVariants.{NoVideo};
 ghost use Rattle.sdp_format.specs.Naming.{colorimetry as colours_in};
 
 use crate::fault::SdpFault;
@@ -67,4 +68,5 @@ pub(crate) struct VideoSection<'a> {
 pub(crate) struct Stop<'a> {
     pub(crate) fault: SdpFault,
     pub(crate) section: Option<VideoSection<'a>>,
+    ghost found: { section ≡ None → fault ≡ NoVideo },
 }
