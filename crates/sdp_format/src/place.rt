@@ -77,7 +77,7 @@ fn narrowed(text: &[u8], line: Place, fault: SdpFault) -> Place
     }
 }
 
-/// With what a line begins that can have a fault, where it isn't a section's first.
+/// How the line begins that has a fault, where that isn't the first line of its section.
 fn attribute_at_fault(fault: SdpFault) -> Option<&'static [u8]> {
     match fault {
         SdpFault::NoMemory
@@ -100,7 +100,7 @@ fn attribute_at_fault(fault: SdpFault) -> Option<&'static [u8]> {
     }
 }
 
-/// What is left behind the line of a section with an attribute that can have a fault.
+/// What is left behind the line of a section that has a fault, where that isn't its first line.
 fn attribute_left<'a>(section: VideoSection<'a>, fault: SdpFault) -> Option<Option<&'a [u8]>> {
     let word = attribute_at_fault(fault)?;
     let (_, payload_type) = media_of(section.media)?;
@@ -118,7 +118,7 @@ fn place_in(text: &[u8], section: VideoSection<'_>, fault: SdpFault) -> Place
     }
 }
 
-/// The place of that for which a text isn't read.
+/// The place of the fault for which a text isn't read.
 pub(crate) fn place_of(text: &[u8], stop: Stop<'_>) -> Option<Place>
     ensures place { IfSome result (λ place. IsPlace text.now place) }
     ensures placed { result ≡ None
