@@ -93,13 +93,13 @@ group_replaced n size samples at mark z from marks octets part is lt packed one 
 
 -- ---- a group of given values
 
-high : (k : ℕ) → bit_at (bit_or 32768 k) 15 ≡ 1
-high k =
+pub high_of_or : (k : ℕ) → bit_at (bit_or 32768 k) 15 ≡ 1
+high_of_or k =
     let e : bit_at k 15 < 2 = bit_at-lt k 15 in
     bit_at_or 32768 k 15 ∙ (let f : max 1 (bit_at k 15) ≡ 1 = omega arith in f)
 
-low : (k i : ℕ) → i < 15 → bit_at (bit_or 32768 k) i ≡ bit_at k i
-low k i lt =
+pub low_of_or : (k i : ℕ) → i < 15 → bit_at (bit_or 32768 k) i ≡ bit_at k i
+low_of_or k i lt =
     let ne : i ≡ 15 → ⊥ = λ e. absurd (omega arith) in
     bit_at_or 32768 k i ∙ ap (λ (b : ℕ). max b (bit_at k i)) (bit_at-pow_other 15 i ne)
     ∙ (let f : max 0 (bit_at k i) ≡ bit_at k i = omega arith in f)
@@ -110,8 +110,8 @@ unfolding cells_from given_from
 given_seen k i [] le = refl
 given_seen k i (v ∷ vs) le =
     let here : marked (bit_or 32768 k) i v ≡ seen (bit_at k i) v =
-    marked_seen (bit_or 32768 k) i v (high k)
-    ∙ ap (λ (b : ℕ). seen b v) (low k i (omega arith)) in
+    marked_seen (bit_or 32768 k) i v (high_of_or k)
+    ∙ ap (λ (b : ℕ). seen b v) (low_of_or k i (omega arith)) in
     let rest : cells_from (bit_or 32768 k) (i + 1) vs ≡ given_from k (i + 1) vs =
     given_seen k (i + 1) vs (omega arith) in
     rw (here, rest) refl
@@ -121,14 +121,14 @@ blanked_low : (k i : ℕ) (vs : List ℕ) → i + length vs ≤ 15
 blanked_low k i [] le = refl
 blanked_low k i (v ∷ vs) le =
     ap (λ (b : ℕ). (if b == 1 then 0 else v) ∷ blanked_from (bit_or 32768 k) (i + 1) vs)
-    (low k i (omega arith))
+    (low_of_or k i (omega arith))
     ∙ ap (λ (xs : List ℕ). (if bit_at k i == 1 then 0 else v) ∷ xs)
     (blanked_low k (i + 1) vs (omega arith))
 
 given_mark : (samples k : ℕ) → ((i : ℕ) → samples ≤ i → bit_at k i ≡ 0)
     → IsMark samples (bit_or 32768 k)
 unfolding IsMark
-given_mark samples k none = inr (high k, λ i le lt. low k i lt ∙ none i le)
+given_mark samples k none = inr (high_of_or k, λ i le lt. low_of_or k i lt ∙ none i le)
 
 pub given_packed : (n size samples k : ℕ) (from : List ℕ) → AreSizes n size samples
     → length from ≡ size → ((i : ℕ) → samples ≤ i → bit_at k i ≡ 0)
@@ -144,7 +144,7 @@ given_packed n size samples k from is long none blank =
       long = long ∙ (let e : size ≡ size * 1 = omega arith in e);
       words = (given_mark samples k none, tt);
       known =
-          same ∙ known_blanked m 0 vs (high k)
+          same ∙ known_blanked m 0 vs (high_of_or k)
           ∙ ap (λ (xs : List ℕ). map known_value (cells_from m 0 xs)) (sym same)
           ∙ ap (map known_value) (sym (one_cells n size m from long));
     }

@@ -17,5 +17,6 @@ pub mod SegmentPut
 pub mod Put
 pub mod SettledLemmas
 pub mod Absorbed
+pub mod MarkLemmas
 pub mod WholeGroups
 pub mod Positions

@@ -1,5 +1,6 @@
 pub mod Packed
 pub mod Rows
+pub mod Marks
 pub mod Kinds
 pub mod Written
 pub mod Settled

@@ -3,7 +3,7 @@ ghost use Rattle.std.specs.Prelude.{◌≡◌, ◌≤◌, ◌-◌, ◌*◌, ◌^
 ghost use Rattle.frame_assembly.specs.Packed.{ArePacked, cells_in};
 ghost use Rattle.st_format.specs.Cell.{is_contested, is_missing, is_present};
 
-use crate::groups::PRESENT;
+use crate::state::PRESENT;
 use lane_kernels::count_marks;
 use st_format::Format;
 

@@ -4,12 +4,10 @@ ghost use Rattle.std.specs.Prelude.{slice_index};
 ghost use Rattle.frame_assembly.specs.Packed.{AreJoined, ArePacked, cells_in, marked};
 ghost use Rattle.st_format.specs.Pgroup.{pixel_group};
 
+use crate::state::PRESENT;
 use lane_kernels::or_marks;
 use pgroup_pack::{blank, contest, differing};
 use st_format::{Cell, Format};
-
-/// Bit 15 of a mark word: the group has no missing sample.
-pub const PRESENT: u16 = 0x8000;
 
 /// How many groups are compared or copied at once.
 pub const BLOCK: usize = 64;

@@ -7,7 +7,8 @@ ghost use Rattle.payload_header.specs.Payload.{IsInside, seen_segment};
 ghost use Rattle.st_format.specs.Pgroup.{pixel_group};
 ghost use Rattle.st_format.specs.Raster.{cells_of, joined_cells, offers_in, offers_in_all};
 
-use crate::groups::{BLOCK, PRESENT, join_block};
+use crate::groups::{BLOCK, join_block};
+use crate::state::PRESENT;
 use payload_header::Segment;
 use st_format::Format;
 

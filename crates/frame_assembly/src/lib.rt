@@ -14,5 +14,6 @@ mod state;
 pub use base::Base;
 pub use counts::Counts;
 pub use frame::Frame;
+pub use rows::MOST_GROUP_OCTETS;
 pub use st_format::Cell;
 pub use state::GroupState;

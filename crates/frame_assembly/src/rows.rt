@@ -1,6 +1,6 @@
 //! The octets and mark words of a row and of a group.
-ghost use Rattle.std.specs.Prelude.{◌≡◌, ◌<◌, ◌≤◌, ◌+◌, ◌*◌, ◌/◌, ◌==◌, ℕ, List, [], ◌∷◌, length};
-ghost use Rattle.std.specs.Prelude.{map, slice_index, take, drop};
+ghost use Rattle.std.specs.Prelude.{◌≡◌, ◌<◌, ◌≤◌, ◌+◌, ◌*◌, ℕ, [], ◌∷◌, length, map};
+ghost use Rattle.std.specs.Prelude.{slice_index};
 ghost use Rattle.std.specs.Int.{bit_at};
 ghost use Rattle.frame_assembly.specs.Packed.{ArePacked, cells_in};
 ghost use Rattle.st_format.specs.Cell.{known_value};
@@ -10,12 +10,13 @@ ghost use Rattle.pgroup_pack.specs.Groups.{blanked_samples};
 ghost use Rattle.st_format.specs.Pgroup.{bits_of, pixel_group};
 ghost use Rattle.st_format.specs.Position.{group_start, row_groups, row_octets, group_count};
 ghost use Rattle.st_format.specs.Samples.{Spells, values_in};
-ghost use Rattle.st_format.specs.declared.cell.Cell.{Cell};
 
-use crate::groups::PRESENT;
 use crate::joining::row_groups;
 use crate::state::GroupState;
 use st_format::Format;
+
+/// The most octets that a pgroup has: four pixels of 4:4:4 or RGB at 10 bits (RFC 4175, 4.3).
+pub const MOST_GROUP_OCTETS: usize = 15;
 
 /// The octets of a row.
 pub fn octets_of_row<'a>(format: &Format, marks: &[u16], octets: &'a [u8], row: u32) -> &'a [u8]
@@ -97,21 +98,7 @@ pub fn group_of(
     let size = format.pgroup().octets;
     let at = place_of(format, row, group);
     out.copy_from_slice(&octets[size * at..size * (at + 1)]);
-    state_of(marks[at])
-}
-
-/// What a mark word says of its group's cells.
-fn state_of(mark: u16) -> GroupState
-    ensures { (cells : List Cell) → length cells ≤ 12 → IsMarkOf mark cells
-        → IsStateOf result cells }
-{
-    if mark < PRESENT {
-        GroupState::Gone
-    } else if mark == PRESENT {
-        GroupState::Whole
-    } else {
-        GroupState::Mixed(mark - PRESENT)
-    }
+    GroupState::of_mark(marks[at])
 }
 
 /// Gives a group other octets and contested samples, or makes it missing.
@@ -142,22 +129,21 @@ pub fn set_group_of(
 {
     let at = place_of(format, row, group);
     if present {
-        put_group(format, marks, octets, at, PRESENT | contested, from);
+        // Where no sample is contested, this is the mark of a whole group.
+        let mark = GroupState::Mixed(contested).mark();
+        put_group(format, marks, octets, at, mark, from);
     } else {
-        let none = [0; MOST_OCTETS];
+        let none = [0; MOST_GROUP_OCTETS];
         put_group(
             format,
             marks,
             octets,
             at,
-            0,
+            GroupState::Gone.mark(),
             &none[..format.pgroup().octets],
         );
     }
 }
-
-/// The most octets that a group has.
-const MOST_OCTETS: usize = 15;
 
 /// Replaces one group.
 fn put_group(

@@ -8,7 +8,8 @@ ghost use Rattle.st_format.specs.Pgroup.{pixel_group};
 ghost use Rattle.st_format.specs.Position.{group_count};
 
 use crate::base::Base;
-use crate::groups::{BLOCK, PRESENT, are_missing, marked_cell};
+use crate::groups::{BLOCK, are_missing, marked_cell};
+use crate::state::PRESENT;
 use pgroup_pack::unpack;
 use st_format::{Cell, Format, fill_samples};
 use std::alloc::{AllocError, Allocator};

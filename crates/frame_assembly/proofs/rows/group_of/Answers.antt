@@ -20,7 +20,7 @@ returns-clause-spelled c =
 
 pub returns-clause-state : goal.returns-clause-state
 returns-clause-state c =
-    c.state_of.ensures _
+    c.of_mark.ensures.cells _
     (group_few c.args.format.now c.args.marks.now c.args.octets.now c.args.row c.args.group)
     (group_marks c.args.format.now c.args.marks.now c.args.octets.now c.args.row c.args.group
     c.place_of-at.result c.place_of-at.ensures.place c.requires.whole c.requires.packed

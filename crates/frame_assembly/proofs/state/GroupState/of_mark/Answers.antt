@@ -1,9 +1,9 @@
 use Rattle.std.proofs.Common.{arith}
 use Rattle.frame_assembly.proofs.GroupCells.{mixed_contested, mixed_others, not_missing}
-use Rattle.frame_assembly.proofs.rows.state_of.Goals as goal
+use Rattle.frame_assembly.proofs.state.GroupState.of_mark.Goals as goal
 
-pub returns-else-mark-eq-PRESENT : goal.returns-else-mark-eq-PRESENT
-returns-else-mark-eq-PRESENT c = λ cells few is.
+pub returns-else-mark-eq-PRESENT-clause-cells : goal.returns-else-mark-eq-PRESENT-clause-cells
+returns-else-mark-eq-PRESENT-clause-cells c = λ cells few is.
     let high = c.if-mark-lt-PRESENT.false in
     let unlike = c.if-mark-eq-PRESENT.false in (
       λ e. unlike (omega arith),
