@@ -45,12 +45,12 @@ state_is mark cells few small is =
 
 -- ---- the mark word of a state
 
-has_value : (c : Cell) → is_present c ≡ true → is_missing c ≡ false
+pub has_value : (c : Cell) → is_present c ≡ true → is_missing c ≡ false
 has_value Missing e = let f = e in cc
 has_value (Value v) e = refl
 has_value Contested e = refl
 
-value_alone : (c : Cell) → is_present c ≡ true → is_contested c ≡ false
+pub value_alone : (c : Cell) → is_present c ≡ true → is_contested c ≡ false
 value_alone Missing e = refl
 value_alone (Value v) e = refl
 value_alone Contested e = let f = e in cc

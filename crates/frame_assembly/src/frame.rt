@@ -3,6 +3,7 @@ ghost use Rattle.std.specs.Prelude.{◌≡◌, ◌<◌, ◌≤◌, ◌↔◌, �
 ghost use Rattle.std.specs.Prelude.{slice_index};
 ghost use Rattle.std.specs.Int.{bit_at};
 ghost use Rattle.frame_assembly.specs.Kinds.{AreCounts};
+ghost use Rattle.frame_assembly.specs.Marks.{state_of_mark};
 ghost use Rattle.st_format.specs.Cell.{known_value, is_contested, is_missing, is_present, join};
 ghost use Rattle.frame_assembly.specs.Rows.{GroupsAreWhole, IsMarkOf, IsStateOf, given_cells};
 ghost use Rattle.frame_assembly.specs.Rows.{group_cells, replaced_cells, row_cells};
@@ -255,12 +256,16 @@ impl<A: Allocator> Frame<A> {
     }
 
     /// A mark word for each pgroup of a row: bit 15 is set where it has no missing sample, bit `i`
-    /// where its sample `i` is contested; the word of a missing pgroup is 0.
+    /// where its sample `i` is contested; the word of a missing pgroup is 0. `GroupState::of_mark`
+    /// reads it.
     pub fn marks(&self, row: u32) -> &[u16]
         requires { row < self.now.format.height }
         ensures long { length result.now ≡ row_groups self.now.format }
         ensures marks { (group : ℕ) → group < row_groups self.now.format
             → IsMarkOf (slice_index result.now group) (group_cells self.now row group) }
+        ensures states { (group : ℕ) → group < row_groups self.now.format
+            → IsStateOf (state_of_mark (slice_index result.now group))
+            (group_cells self.now row group) }
     {
         marks_of_row(
             &self.format,

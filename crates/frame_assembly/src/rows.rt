@@ -2,6 +2,7 @@
 ghost use Rattle.std.specs.Prelude.{◌≡◌, ◌<◌, ◌≤◌, ◌+◌, ◌*◌, ℕ, [], ◌∷◌, length, map};
 ghost use Rattle.std.specs.Prelude.{slice_index};
 ghost use Rattle.std.specs.Int.{bit_at};
+ghost use Rattle.frame_assembly.specs.Marks.{state_of_mark};
 ghost use Rattle.frame_assembly.specs.Packed.{ArePacked, cells_in};
 ghost use Rattle.st_format.specs.Cell.{known_value};
 ghost use Rattle.frame_assembly.specs.Rows.{IsMarkOf, IsStateOf, given_cells, group_cells};
@@ -46,6 +47,13 @@ pub fn marks_of_row<'a>(format: &Format, marks: &'a [u16], octets: &[u8], row: u
     ensures long { length result.now ≡ row_groups format.now }
     ensures marks { (group : ℕ) → group < row_groups format.now
         → IsMarkOf (slice_index result.now group)
+        (group_cells (record {
+          format = format.now;
+          cells =
+              cells_in format.now marks.now octets.now;
+        }) row group) }
+    ensures states { (group : ℕ) → group < row_groups format.now
+        → IsStateOf (state_of_mark (slice_index result.now group))
         (group_cells (record {
           format = format.now;
           cells =

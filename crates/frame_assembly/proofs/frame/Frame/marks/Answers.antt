@@ -2,7 +2,8 @@ use Rattle.std.proofs.Common.{ℕ, ◌<◌, List, length, get_or, sym, ap, ◌�
 use Rattle.st_format.specs.Position.{row_groups}
 use Rattle.st_format.specs.Raster.{Raster}
 use Rattle.frame_assembly.specs.Packed.{ArePacked, cells_in}
-use Rattle.frame_assembly.specs.Rows.{IsMarkOf, group_cells}
+use Rattle.frame_assembly.specs.Marks.{state_of_mark}
+use Rattle.frame_assembly.specs.Rows.{IsMarkOf, IsStateOf, group_cells}
 use Rattle.frame_assembly.proofs.Kept.{frame_view}
 use Rattle.frame_assembly.proofs.frame.Frame.marks.Goals as goal
 
@@ -34,3 +35,14 @@ returns-clause-marks g c =
     ∙ ap (λ (os : List ℕ). frame_view c.self.inside.format
     (cells_in c.self.inside.format c.self.inside.marks.items os)) c.as_slice-2.ensures.value
     ∙ c.self.view_is) c.marks_of_row.ensures.marks
+
+pub returns-clause-states : goal.returns-clause-states
+returns-clause-states g c =
+    subst (λ (r : Raster). (group : ℕ) → group < row_groups r.format
+    → IsStateOf (state_of_mark (get_or c.marks_of_row.result.now group 0))
+    (group_cells r c.args.row group))
+    (ap (λ (ms : List ℕ). frame_view c.self.inside.format
+    (cells_in c.self.inside.format ms c.as_slice-2.result.now)) c.as_slice.ensures.value
+    ∙ ap (λ (os : List ℕ). frame_view c.self.inside.format
+    (cells_in c.self.inside.format c.self.inside.marks.items os)) c.as_slice-2.ensures.value
+    ∙ c.self.view_is) c.marks_of_row.ensures.states
