@@ -22,7 +22,8 @@ use Rattle.media_file.specs.Fronts.{with_rest}
 use Rattle.media_file.specs.Groups.{Shape, group_at}
 use Rattle.media_file.proofs.Content.{if_content_weaker}
 use Rattle.media_file.proofs.Parsing.{fails_first, fails_then, gives_pure, gives_then, then_reads}
-use Rattle.receiver_file.specs.Known.{IsKnown, cells_known, is_there, mask_in, mixed_at}
+use Rattle.frame_assembly.specs.Marks.{contested_mask, is_group_present}
+use Rattle.receiver_file.specs.Known.{IsKnown, cells_known, mixed_at}
 use Rattle.receiver_file.specs.Numbers.{octet_at}
 use Rattle.receiver_file.proofs.Knowing.{given_mixed, given_whole, none_zeroed, zeroed_same}
 use Rattle.receiver_file.proofs.Valued.{value_cut, value_gives, valued}
@@ -162,13 +163,13 @@ state_bad s old mid n none one two p = group_fails s old mid n n BadField refl p
 -- ---- what a frame is given
 
 pub known_bits : (s : Shape) (state : GroupState) (octets : List ℕ) → IsKnown s state octets
-    → (i : ℕ) → s.samples ≤ i → bit_at (mask_in state) i ≡ 0
+    → (i : ℕ) → s.samples ≤ i → bit_at (contested_mask state) i ≡ 0
 known_bits s Gone octets k i le = bit_at-zero i
 known_bits s Whole octets k i le = bit_at-zero i
 known_bits s (Mixed mask) octets k i le = bit_at_above mask s.samples i k.0 le
 
 pub known_zero : (s : Shape) (state : GroupState) (octets : List ℕ) → IsKnown s state octets
-    → values_in s.bits octets ≡ blanked_samples (mask_in state) (values_in s.bits octets)
+    → values_in s.bits octets ≡ blanked_samples (contested_mask state) (values_in s.bits octets)
 known_zero s Gone octets k =
     sym (zeroed_same 0 (values_in s.bits octets) (none_zeroed (values_in s.bits octets)))
 known_zero s Whole octets k =
@@ -177,7 +178,7 @@ known_zero s (Mixed mask) octets k = sym (zeroed_same mask (values_in s.bits oct
 
 pub known_given : (s : Shape) (state : GroupState) (octets : List ℕ)
     → length (values_in s.bits octets) ≡ s.samples
-    → given_cells (is_there state) (mask_in state) (values_in s.bits octets)
+    → given_cells (is_group_present state) (contested_mask state) (values_in s.bits octets)
     ≡ cells_known s state octets
 known_given s Gone octets e = ap (λ (n : ℕ). replicate n Missing) e
 known_given s Whole octets e = given_whole (values_in s.bits octets)

@@ -1,13 +1,11 @@
 -- Groups of mark words and packed octets are those of a row's cells.
-use Rattle.std.proofs.Common.{◌≡◌, ℕ, zero, suc, ◌+◌, ◌-◌, ◌*◌, ◌<◌, ◌≤◌, Bool, true, false}
-use Rattle.std.proofs.Common.{cond, eqb, ltb, List, [], ◌∷◌, ◌++◌, length, get_or, take, drop, map}
+use Rattle.std.proofs.Common.{◌≡◌, ℕ, zero, suc, ◌+◌, ◌-◌, ◌*◌, ◌<◌, ◌≤◌}
+use Rattle.std.proofs.Common.{List, [], ◌∷◌, ◌++◌, length, get_or, take, drop, map}
 use Rattle.std.proofs.Common.{Option, None, Some, append_assoc, append-nil, drop-drop, refl, sym}
 use Rattle.std.proofs.Common.{ap, ◌∙◌, subst, arith}
 use Rattle.std.specs.List.{AllByRecursion}
 use Rattle.std.specs.Io.KnownBytes.{Appends}
 use Rattle.std.proofs.KnownBytes.{Appends-trans}
-use Rattle.std.proofs.lemmas.Bool.{eqb-false, eqb-true, ltb-false, ltb-true}
-use Rattle.std.proofs.lemmas.Nat.Bits.{bit_at_above}
 use Rattle.std.proofs.lemmas.List.{drop-map, drop-take, length-drop, length-map}
 use Rattle.std.proofs.lemmas.List.{length-take-le, take-map, take-take, take_all}
 use Rattle.std.proofs.Math.Nat.{mul-add, mul_comm}
@@ -17,12 +15,11 @@ use Rattle.st_format.specs.Pgroup.{bits_of}
 use Rattle.st_format.specs.Position.{row_groups, row_octets, row_samples}
 use Rattle.st_format.specs.Raster.{IsWhole, Raster}
 use Rattle.st_format.specs.Device.{AppendsPrefix}
-use Rattle.st_format.specs.Samples.{Spells, bits}
+use Rattle.st_format.specs.Samples.{Spells}
 use Rattle.pgroup_pack.proofs.Parts.{all_first, all_rest, spelled_first, spelled_rest}
 use Rattle.st_format.specs.Cell.{known_value}
-use Rattle.frame_assembly.specs.Rows.{IsMarkOf, IsStateOf, group_cells, row_cells}
-use Rattle.frame_assembly.specs.declared.state.GroupState.TheVariants.{Gone, Whole, Mixed}
-use Rattle.frame_assembly.proofs.GroupCells.{mixed_contested, mixed_others, not_missing, whole}
+use Rattle.frame_assembly.specs.Rows.{IsStateOf, group_cells, row_cells}
+use Rattle.frame_assembly.specs.Marks.{state_of_mark}
 use Rattle.st_format.proofs.Columns.{row_samples_groups}
 use Rattle.frame_assembly.proofs.Segments.{sample_count_groups, swap_first}
 use Rattle.media_file.proofs.Once.{shape_is}
@@ -30,7 +27,7 @@ use Rattle.media_file.specs.Groups.{IsShape, Shape, group_text, groups_text}
 use Rattle.media_file.specs.StateFile.{cut_cells}
 use Rattle.media_file.proofs.Written.{prefix_first, prefix_then}
 use Rattle.receiver_file.specs.Known.{known_text, row_cut, shape_in}
-use Rattle.receiver_file.specs.Marked.{Passes, marked_text, state_in}
+use Rattle.receiver_file.specs.Marked.{Passes, marked_text}
 use Rattle.receiver_file.proofs.RowRuns.{sum_rows}
 use Rattle.receiver_file.proofs.Spelling.{known_is}
 
@@ -73,28 +70,29 @@ passes_cut old mid new xs ys p q =
 
 pub marked_next : (size g : ℕ) (marks octets : List ℕ) → g < length marks
     → marked_text size (take (g + 1) marks) octets
-    ≡ marked_text size (take g marks) octets ++ known_text (state_in (get_or marks g 0))
+    ≡ marked_text size (take g marks) octets ++ known_text (state_of_mark (get_or marks g 0))
     (take size (drop (size * g) octets))
 unfolding marked_text
 marked_next size g [] octets lt = absurd (omega (arith, lt))
 marked_next size zero (m ∷ marks) octets lt =
     let z : 0 ≡ size * 0 = omega arith in
-    append-nil (known_text (state_in m) (take size octets))
-    ∙ ap (λ (n : ℕ). known_text (state_in m) (take size (drop n octets))) z
+    append-nil (known_text (state_of_mark m) (take size octets))
+    ∙ ap (λ (n : ℕ). known_text (state_of_mark m) (take size (drop n octets))) z
 marked_next size (suc g) (m ∷ marks) octets lt =
     let z : size + size * g ≡ size * suc g = omega arith in
     let e : suc g + 1 ≡ suc (g + 1) = omega arith in
     ap (λ (k : ℕ). marked_text size (take k (m ∷ marks)) octets) e
-    ∙ ap (λ (t : List ℕ). known_text (state_in m) (take size octets) ++ t)
+    ∙ ap (λ (t : List ℕ). known_text (state_of_mark m) (take size octets) ++ t)
     (marked_next size g marks (drop size octets) (omega (arith, lt)))
     ∙ sym
-    (append_assoc (known_text (state_in m) (take size octets))
+    (append_assoc (known_text (state_of_mark m) (take size octets))
     (marked_text size (take g marks) (drop size octets))
-    (known_text (state_in (get_or marks g 0)) (take size (drop (size * g) (drop size octets)))))
+    (known_text (state_of_mark (get_or marks g 0))
+    (take size (drop (size * g) (drop size octets)))))
     ∙ ap
     (λ (t : List ℕ).
-    (known_text (state_in m) (take size octets) ++ marked_text size (take g marks)
-    (drop size octets)) ++ known_text (state_in (get_or marks g 0)) (take size t))
+    (known_text (state_of_mark m) (take size octets) ++ marked_text size (take g marks)
+    (drop size octets)) ++ known_text (state_of_mark (get_or marks g 0)) (take size t))
     (drop-drop (size * g) size octets ∙ ap (λ (n : ℕ). drop n octets) z)
 
 -- the first groups, and the others
@@ -108,15 +106,15 @@ marked_split size zero marks octets = let z : 0 ≡ size * 0 =
 marked_split size (suc g) [] octets = refl
 marked_split size (suc g) (m ∷ marks) octets =
     let z : size + size * g ≡ size * suc g = omega arith in
-    ap (λ (t : List ℕ). known_text (state_in m) (take size octets) ++ t)
+    ap (λ (t : List ℕ). known_text (state_of_mark m) (take size octets) ++ t)
     (marked_split size g marks (drop size octets))
     ∙ sym
-    (append_assoc (known_text (state_in m) (take size octets))
+    (append_assoc (known_text (state_of_mark m) (take size octets))
     (marked_text size (take g marks) (drop size octets))
     (marked_text size (drop g marks) (drop (size * g) (drop size octets))))
     ∙ ap
     (λ (t : List ℕ).
-    (known_text (state_in m) (take size octets) ++ marked_text size (take g marks)
+    (known_text (state_of_mark m) (take size octets) ++ marked_text size (take g marks)
     (drop size octets)) ++ marked_text size (drop g marks) t)
     (drop-drop (size * g) size octets ∙ ap (λ (n : ℕ). drop n octets) z)
 
@@ -130,43 +128,16 @@ marked_cut size g marks octets old new p =
 
 -- ---- the groups of cells
 
-gone_state : (mark : ℕ) (cells : List Cell) → mark < 32768 → IsMarkOf mark cells
-    → IsStateOf Gone cells
-gone_state mark cells lt is =
-    λ i within. is.missing i within
-    ∙ ap (λ (b : ℕ). eqb b 0) (bit_at_above mark 15 15 (omega (arith, lt)) (omega arith))
-
-state_by : (mark : ℕ) (cells : List Cell) (gone even : Bool) → length cells ≤ 12 → mark < 65536
-    → IsMarkOf mark cells → ltb mark 32768 ≡ gone → eqb mark 32768 ≡ even
-    → IsStateOf (cond gone Gone (cond even Whole (Mixed (mark - 32768)))) cells
-state_by mark cells true even few small is low same =
-    gone_state mark cells (ltb-true mark 32768 low) is
-state_by mark cells false true few small is low same =
-    whole mark cells (eqb-true mark 32768 same) few is
-state_by mark cells false false few small is low same =
-    let high : 32768 ≤ mark = ltb-false mark 32768 low in
-    let other : mark ≡ 32768 → ⊥ = eqb-false mark 32768 same in (
-      λ e. other (omega (arith, high, e)),
-      not_missing mark cells high small is,
-      mixed_contested mark cells high few is,
-      mixed_others mark cells high small few is,
-    )
-
-state_is : (mark : ℕ) (cells : List Cell) → length cells ≤ 12 → mark < 65536 → IsMarkOf mark cells
-    → IsStateOf (state_in mark) cells
-state_is mark cells few small is =
-    state_by mark cells (ltb mark 32768) (eqb mark 32768) few small is refl refl
-
 pub row_text : (s : Shape) (marks octets : List ℕ) (cells : List Cell) → IsShape s
     → ((i : ℕ) → i < length marks
-    → IsMarkOf (get_or marks i 0) (take s.samples (drop (s.samples * i) cells)))
+    → IsStateOf (state_of_mark (get_or marks i 0)) (take s.samples (drop (s.samples * i) cells)))
     → s.samples * length marks ≤ length cells → length octets ≡ s.octets * length marks
-    → AllByRecursion (λ (v : ℕ). v < 65536) marks → AllByRecursion (λ (v : ℕ). v < 256) octets
+    → AllByRecursion (λ (v : ℕ). v < 256) octets
     → Spells s.bits octets (map known_value (take (s.samples * length marks) cells))
     → marked_text s.octets marks octets ≡ groups_text s (cut_cells s.samples (length marks) cells)
 unfolding marked_text cut_cells
-row_text s [] octets cells is each long size words small spelled = refl
-row_text s (m ∷ marks) octets cells is each long size words small spelled =
+row_text s [] octets cells is each long size small spelled = refl
+row_text s (m ∷ marks) octets cells is each long size small spelled =
     let n : ℕ = s.samples in
     let z : ℕ = s.octets in
     let k : ℕ = length marks in
@@ -195,24 +166,23 @@ row_text s (m ∷ marks) octets cells is each long size words small spelled =
     (spelled_rest s.bits z n octets
     (map known_value all) is.octets some_octets some_cells spelled) in
     let long_first : length (take n cells) ≡ n = length-take-le n cells inside in
-    let mark : IsMarkOf m (take n cells) =
-    subst (λ (j : ℕ). IsMarkOf m (take n (drop j cells))) (sym none) (each 0 (omega arith)) in
-    let state : IsStateOf (state_in m) (take n cells) =
-    state_is m (take n cells) (omega (arith, long_first, is.few)) words.0 mark in
+    let state : IsStateOf (state_of_mark m) (take n cells) =
+    subst (λ (j : ℕ). IsStateOf (state_of_mark m) (take n (drop j cells))) (sym none)
+    (each 0 (omega arith)) in
     let next : (i : ℕ) → i < k
-    → IsMarkOf (get_or marks i 0) (take n (drop (n * i) (drop n cells))) =
+    → IsStateOf (state_of_mark (get_or marks i 0)) (take n (drop (n * i) (drop n cells))) =
     λ i lt. let e : n * suc i ≡ n + n * i = omega arith in
-    subst (λ (t : List Cell). IsMarkOf (get_or marks i 0) (take n t))
+    subst (λ (t : List Cell). IsStateOf (state_of_mark (get_or marks i 0)) (take n t))
     (ap (λ (j : ℕ). drop j cells) e ∙ sym (drop-drop (n * i) n cells))
     (each (suc i) (omega (arith, lt))) in
     ap (λ (t : List ℕ). t ++ marked_text z marks (drop z octets))
-    (known_is s (take n cells) (take z octets) (state_in m)
+    (known_is s (take n cells) (take z octets) (state_of_mark m)
     (omega (arith, long_first, is.some))
     (all_first (λ (v : ℕ). v < 256) z octets small) first_spelled state)
     ∙ ap (λ (t : List ℕ). group_text s (take n cells) ++ t)
     (row_text s marks (drop z octets) (drop n cells) is next
     (omega (arith, length-drop n cells, long, more))
-    (omega (arith, length-drop z octets, size, sizes)) words.1
+    (omega (arith, length-drop z octets, size, sizes))
     (all_rest (λ (v : ℕ). v < 256) z octets small) rest_spelled)
 
 -- ---- a loop over groups
@@ -244,19 +214,19 @@ pub passes_group : (size g : ℕ) (marks octets kept room : List ℕ) (at end : 
     → Passes mid new kept (take at room)
     → (later : List ℕ)
     → take end later
-    ≡ take at room ++ known_text (state_in (get_or marks g 0))
+    ≡ take at room ++ known_text (state_of_mark (get_or marks g 0))
     (take (size * (g + 1) - size * g) (drop (size * g) octets))
     → Passes old new (marked_text size (take (g + 1) marks) octets) (take end later)
 passes_group size g marks octets kept room at end old mid new lt p q later put =
     let e : size * (g + 1) - size * g ≡ size = omega (arith, mul-add size g 1) in
     let t : List ℕ =
-    known_text (state_in (get_or marks g 0)) (take size (drop (size * g) octets)) in
+    known_text (state_of_mark (get_or marks g 0)) (take size (drop (size * g) octets)) in
     passes_more old new (marked_text size (take g marks) octets) (take at room) t
     (marked_text size (take (g + 1) marks) octets) (take end later)
     (passes_then old mid new (marked_text size (take g marks) octets) kept (take at room) p q)
     (marked_next size g marks octets lt)
     (put ∙ ap
-    (λ (k : ℕ). take at room ++ known_text (state_in (get_or marks g 0))
+    (λ (k : ℕ). take at room ++ known_text (state_of_mark (get_or marks g 0))
     (take k (drop (size * g) octets))) e)
 
 -- ---- the groups of a frame's row
@@ -265,11 +235,11 @@ pub row_is : (r : Raster) (row size : ℕ) (marks octets : List ℕ) → IsWhole
     → row < r.format.height → size ≡ (shape_in r.format).octets
     → length marks ≡ row_groups r.format → length octets ≡ row_octets r.format
     → ((group : ℕ) → group < row_groups r.format
-    → IsMarkOf (get_or marks group 0) (group_cells r row group))
-    → AllByRecursion (λ (v : ℕ). v < 65536) marks → AllByRecursion (λ (v : ℕ). v < 256) octets
+    → IsStateOf (state_of_mark (get_or marks group 0)) (group_cells r row group))
+    → AllByRecursion (λ (v : ℕ). v < 256) octets
     → Spells (bits_of r.format.depth) octets (map known_value (row_cells r row))
     → marked_text size marks octets ≡ groups_text (shape_in r.format) (row_cut r row)
-row_is r row size marks octets whole lt same many long each words small spelled =
+row_is r row size marks octets whole lt same many long each small spelled =
     let f : Format = r.format in
     let n : ℕ = (shape_in f).samples in
     let per : ℕ = row_groups f in
@@ -283,9 +253,10 @@ row_is r row size marks octets whole lt same many long each words small spelled 
     whole ∙ sym (sample_count_groups f) ∙ ap (λ (k : ℕ). n * k) (sym rows) ∙ split in
     let inside : n * per ≤ length cells =
     omega (arith, length-drop (n * (row * per + 0)) r.cells, total) in
-    let at : (i : ℕ) → i < per → IsMarkOf (get_or marks i 0) (take n (drop (n * i) cells)) =
+    let at : (i : ℕ) → i < per
+    → IsStateOf (state_of_mark (get_or marks i 0)) (take n (drop (n * i) cells)) =
     λ i below. let e : n * (row * per + i) ≡ n * (row * per + 0) + n * i = omega arith in
-    subst (λ (t : List Cell). IsMarkOf (get_or marks i 0) (take n t))
+    subst (λ (t : List Cell). IsStateOf (state_of_mark (get_or marks i 0)) (take n t))
     (ap (λ (k : ℕ). drop k r.cells) e ∙ sym (drop-drop (n * i) (n * (row * per + 0)) r.cells))
     (each i below) in
     let first : row * row_samples f ≡ n * (row * per + 0) =
@@ -304,7 +275,7 @@ row_is r row size marks octets whole lt same many long each words small spelled 
     ap (λ (k : ℕ). marked_text k marks octets) same
     ∙ row_text (shape_in f) marks octets cells (shape_is f.sampling f.depth)
     (λ i below. at i (subst (λ (k : ℕ). i < k) many below))
-    (subst (λ (k : ℕ). n * k ≤ length cells) (sym many) inside) size_here words small
+    (subst (λ (k : ℕ). n * k ≤ length cells) (sym many) inside) size_here small
     (subst (λ (k : ℕ). Spells (bits_of f.depth) octets (map known_value (take (n * k) cells)))
     (sym many) here)
     ∙ ap (λ (k : ℕ). groups_text (shape_in f) (cut_cells n k cells)) many

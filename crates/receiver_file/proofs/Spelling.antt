@@ -9,7 +9,7 @@ use Rattle.std.proofs.lemmas.Nat.Bits.{bit_at-suc, bit_at_lowest, bit_at-zero, s
 use Rattle.st_format.specs.declared.cell.Cell.{Cell}
 use Rattle.st_format.specs.declared.cell.Cell.TheVariants.{Missing, Value, Contested}
 use Rattle.st_format.specs.Cell.{is_contested, is_missing, is_present, known_value}
-use Rattle.st_format.specs.Samples.{Spells, octets_in}
+use Rattle.st_format.specs.Samples.{Spells}
 use Rattle.st_format.proofs.SpelledOctets.{octets_in-spelled}
 use Rattle.frame_assembly.specs.declared.state.GroupState.TheVariants.{Gone, Whole, Mixed}
 use Rattle.frame_assembly.specs.Rows.{IsStateOf}

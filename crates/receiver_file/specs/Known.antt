@@ -1,5 +1,5 @@
 -- The pgroups of a format, and those of a frame's rows (own).
-use Rattle.std.specs.Prelude.{◌≡◌, ℕ, ◌*◌, ◌^◌, ◌<◌, Bool, true, false, List, [], ◌∷◌, ◌++◌, map}
+use Rattle.std.specs.Prelude.{◌≡◌, ℕ, ◌*◌, ◌^◌, ◌<◌, true, List, [], ◌∷◌, ◌++◌, map}
 use Rattle.std.specs.Prelude.{replicate, drop, ⊤, Result}
 use Rattle.std.specs.Int.{w16, from_be_bytes, to_be_bytes}
 use Rattle.st_format.specs.declared.cell.Cell.{Cell}
@@ -40,17 +40,6 @@ abbrev pub cells_known : Shape → GroupState → List ℕ → List Cell
 cells_known s Gone octets = replicate s.samples Missing
 cells_known s Whole octets = map Value (values_in s.bits octets)
 cells_known s (Mixed mask) octets = cells_by mask (values_in s.bits octets)
-
--- the mask of a state, 0 where no sample is contested, and whether the group isn't missing
-abbrev pub mask_in : GroupState → ℕ
-mask_in Gone = 0
-mask_in Whole = 0
-mask_in (Mixed mask) = mask
-
-abbrev pub is_there : GroupState → Bool
-is_there Gone = false
-is_there Whole = true
-is_there (Mixed mask) = true
 
 -- a mask has no bit beyond the group's samples, and a contested sample is 0
 abbrev pub IsKnown : Shape → GroupState → List ℕ → Type 0

@@ -1,21 +1,14 @@
 -- The pgroups of mark words and packed octets, as they are written (own).
-use Rattle.std.specs.Prelude.{◌≡◌, ℕ, ◌-◌, ◌==◌, nat_lt, if◌then◌else◌, Option, List, [], ◌∷◌, ◌++◌}
-use Rattle.std.specs.Prelude.{take, drop}
+use Rattle.std.specs.Prelude.{◌≡◌, ℕ, Option, List, [], ◌∷◌, ◌++◌, take, drop}
 use Rattle.std.specs.Io.KnownBytes.{Appends}
-use Rattle.frame_assembly.specs.declared.state.GroupState.{GroupState}
-use Rattle.frame_assembly.specs.declared.state.GroupState.TheVariants.{Gone, Whole, Mixed}
+use Rattle.frame_assembly.specs.Marks.{state_of_mark}
 use Rattle.receiver_file.specs.Known.{known_text}
-
--- what a mark word says of its group
-abbrev pub state_in : ℕ → GroupState
-state_in mark =
-    if nat_lt mark 32768 then Gone else (if mark == 32768 then Whole else Mixed (mark - 32768))
 
 -- groups of these mark words, each of so many octets
 unfoldable pub marked_text : ℕ → List ℕ → List ℕ → List ℕ
 marked_text size [] octets = []
 marked_text size (mark ∷ marks) octets =
-    known_text (state_in mark) (take size octets) ++ marked_text size marks (drop size octets)
+    known_text (state_of_mark mark) (take size octets) ++ marked_text size marks (drop size octets)
 
 -- Of some octets a sink took the first, and the rest is kept
 pub record Passes (old new : Option (List ℕ)) (octets rest : List ℕ) : Type 0 where

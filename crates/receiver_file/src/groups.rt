@@ -1,53 +1,26 @@
 //! A pgroup as octets, in a room.
-ghost use Rattle.std.specs.Prelude.{◌≡◌, ◌<◌, ◌≤◌, ◌+◌, ◌∷◌, ◌++◌, length, take};
+ghost use Rattle.std.specs.Prelude.{◌≡◌, ◌≤◌, ◌+◌, ◌∷◌, ◌++◌, length, take};
 ghost use Rattle.std.specs.Int.{w16, to_be_bytes};
-ghost use Rattle.std.specs.List.{AllByRecursion};
+ghost use Rattle.frame_assembly.specs.Marks.{state_of_mark};
 ghost use Rattle.receiver_file.specs.Known.{known_text};
-ghost use Rattle.receiver_file.specs.Marked.{state_in};
 
 use byteorder::{BigEndian, ByteOrder};
-use frame_assembly::GroupState;
-
-/// The most octets that a group has.
-pub(crate) const MOST_OCTETS: usize = 15;
+use frame_assembly::{GroupState, MOST_GROUP_OCTETS};
 
 /// The most octets that a group takes in a file: its state, its mask and its own.
-pub(crate) const MOST_TEXT: usize = 18;
-
-/// The mark word of a group each of whose samples has a value.
-const WHOLE: u16 = 0x8000;
-
-/// What a mark word says of its group.
-#[inline(always)]
-fn state_of(mark: u16) -> GroupState
-    ensures { result ≡ state_in mark }
-{
-    if mark < WHOLE {
-        GroupState::Gone
-    } else if mark == WHOLE {
-        GroupState::Whole
-    } else {
-        GroupState::Mixed(mark - WHOLE)
-    }
-}
-
-/// What their type tells of mark words.
-pub(crate) fn are_words(marks: &[u16])
-    ensures { AllByRecursion (λ v. v < 65536) marks.now }
-{
-    let _marks = marks;
-}
+pub(crate) const MOST_TEXT: usize = 3 + MOST_GROUP_OCTETS;
 
 /// Puts a group behind the first `at` octets of a room, and answers where it ends.
 #[inline(always)]
 pub(crate) fn put_group(room: &mut [u8], at: usize, mark: u16, octets: &[u8]) -> usize
-    requires few { length octets.now ≤ MOST_OCTETS }
+    requires few { length octets.now ≤ MOST_GROUP_OCTETS }
     requires room { at + MOST_TEXT ≤ length room.old }
     ensures length { length room.new ≡ length room.old }
     ensures within { result ≤ length room.old }
-    ensures put { take result room.new ≡ take at room.old ++ known_text (state_in mark) octets.now }
+    ensures put { take result room.new
+        ≡ take at room.old ++ known_text (state_of_mark mark) octets.now }
 {
-    match state_of(mark) {
+    match GroupState::of_mark(mark) {
         GroupState::Gone => put_octets(room, at, &[0]),
         GroupState::Whole => put_behind(room, at, &[1], octets),
         GroupState::Mixed(mask) => put_behind(room, at, &mixed_head(mask), octets),

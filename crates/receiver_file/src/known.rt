@@ -1,5 +1,5 @@
 //! What is known of a pgroup, from a source into a frame.
-ghost use Rattle.std.specs.Prelude.{◌≡◌, ◌<◌, ◌^◌, ◌*◌, ◌==◌, ◌||◌, IfErr, IfOk, OnOk, length};
+ghost use Rattle.std.specs.Prelude.{◌≡◌, ◌<◌, ◌^◌, ◌==◌, ◌||◌, IfErr, IfOk, OnOk, length};
 ghost use Rattle.std.specs.Prelude.{nat_lt, not, take};
 ghost use Rattle.st_format.specs.Raster.{IsWhole};
 ghost use Rattle.st_format.specs.Pgroup.{bits_of, pixel_group};
@@ -9,12 +9,10 @@ ghost use Rattle.frame_assembly.specs.Rows.{group_cells};
 ghost use Rattle.media_file.specs.Faults.{CountsDevice};
 ghost use Rattle.media_file.specs.Fields.{Fails, Takes};
 ghost use Rattle.media_file.specs.Groups.{are_zeroed, group_at};
-ghost use Rattle.receiver_file.specs.Known.{IsKnown, cells_known, is_there, mask_in, mixed_at};
-ghost use Rattle.receiver_file.specs.Known.{shape_in};
+ghost use Rattle.receiver_file.specs.Known.{IsKnown, cells_known, mixed_at, shape_in};
 
-use crate::groups::MOST_OCTETS;
 use crate::octets::read_octet;
-use frame_assembly::{Frame, GroupState};
+use frame_assembly::{Frame, GroupState, MOST_GROUP_OCTETS};
 use media_file::{FileFault, read_field};
 use pgroup_pack::{blank, differing};
 use st_format::{ByteSource, Format};
@@ -40,7 +38,7 @@ pub(crate) fn read_group<A: Allocator, S: ByteSource>(
     ensures counted { CountsDevice (S.failures source.old) (S.failures source.new) result }
 {
     let format = frame.format();
-    let mut room = [0u8; MOST_OCTETS];
+    let mut room = [0u8; MOST_GROUP_OCTETS];
     let octets = &mut room[..format.pgroup().octets];
     let state = read_known(source, &format, octets)?;
     give_group(frame, row, group, octets, state);
@@ -67,24 +65,7 @@ fn give_group<A: Allocator>(
     ensures cells { group_cells frame.new row group
         ≡ cells_known (shape_in frame.old.format) state octets.now }
 {
-    frame.set_group(row, group, octets, mask_of(state), is_present(state));
-}
-
-/// The mask of a state: 0 where no sample is contested.
-fn mask_of(state: GroupState) -> u16
-    ensures { result ≡ mask_in state }
-{
-    match state {
-        GroupState::Gone | GroupState::Whole => 0,
-        GroupState::Mixed(mask) => mask,
-    }
-}
-
-/// Whether a group of this state isn't missing.
-fn is_present(state: GroupState) -> bool
-    ensures { result ≡ is_there state }
-{
-    !matches!(state, GroupState::Gone)
+    frame.set_group(row, group, octets, state.mask(), state.is_present());
 }
 
 /// Reads what is known of a group: its state, and its octets where it isn't missing.
@@ -156,7 +137,7 @@ fn is_blanked(format: &Format, octets: &[u8], mask: u16) -> bool
     requires { length octets.now ≡ (pixel_group format.now.sampling format.now.depth).octets }
     ensures { result ≡ are_zeroed mask (values_in (bits_of format.now.depth) octets.now) }
 {
-    let mut room = [0u8; MOST_OCTETS];
+    let mut room = [0u8; MOST_GROUP_OCTETS];
     let blanked = &mut room[..octets.len()];
     blanked.copy_from_slice(octets);
     blank(format, blanked, mask);

@@ -7,8 +7,8 @@ ghost use Rattle.media_file.specs.Groups.{groups_text};
 ghost use Rattle.receiver_file.specs.Known.{row_cut, rows_cut, shape_in};
 ghost use Rattle.receiver_file.specs.Marked.{Passes, marked_text};
 
-use crate::groups::{MOST_OCTETS, MOST_TEXT, are_words, put_group};
-use frame_assembly::Frame;
+use crate::groups::{MOST_TEXT, put_group};
+use frame_assembly::{Frame, MOST_GROUP_OCTETS};
 use st_format::{ByteSink, DeviceFault, Format, are_octets, write_whole};
 use std::alloc::Allocator;
 
@@ -59,7 +59,6 @@ fn write_row<A: Allocator, K: ByteSink>(
     let mut room = [0u8; GATHERED];
     let marks = frame.marks(row);
     let octets = frame.packed_row(row);
-    are_words(marks);
     are_octets(octets);
     write_marked(
         sink,
@@ -78,7 +77,7 @@ fn write_marked<K: ByteSink>(
     octets: &[u8],
     room: &mut [u8],
 ) -> Result<(), DeviceFault>
-    requires few { size ≤ MOST_OCTETS }
+    requires few { size ≤ MOST_GROUP_OCTETS }
     requires octets { length octets.now ≡ size * length marks.now }
     requires room { length room.old ≡ GATHERED }
     ensures ok { OnOk result (Appends (K.held sink.old) (K.held sink.new)

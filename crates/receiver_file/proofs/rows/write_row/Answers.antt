@@ -19,8 +19,8 @@ returns-clause-ok g c =
     c.packed_row-octets.result.now ≡ groups_text (shape_in r.format) (row_cut r c.args.row) =
     row_is r c.args.row c.pgroup.result.octets c.marks-marks.result.now
     c.packed_row-octets.result.now c.format.ensures.whole c.requires size
-    c.marks-marks.ensures.long c.packed_row-octets.ensures.long c.marks-marks.ensures.marks
-    c.are_words.ensures c.are_octets.ensures.all c.packed_row-octets.ensures.spelled in
+    c.marks-marks.ensures.long c.packed_row-octets.ensures.long c.marks-marks.ensures.states
+    c.are_octets.ensures.all c.packed_row-octets.ensures.spelled in
     rw (← e) c.write_marked.ensures.ok
 
 pub returns-clause-fault : goal.returns-clause-fault
@@ -33,8 +33,8 @@ returns-clause-fault g c =
     c.packed_row-octets.result.now ≡ groups_text (shape_in r.format) (row_cut r c.args.row) =
     row_is r c.args.row c.pgroup.result.octets c.marks-marks.result.now
     c.packed_row-octets.result.now c.format.ensures.whole c.requires size
-    c.marks-marks.ensures.long c.packed_row-octets.ensures.long c.marks-marks.ensures.marks
-    c.are_words.ensures c.are_octets.ensures.all c.packed_row-octets.ensures.spelled in
+    c.marks-marks.ensures.long c.packed_row-octets.ensures.long c.marks-marks.ensures.states
+    c.are_octets.ensures.all c.packed_row-octets.ensures.spelled in
     rw (← e) c.write_marked.ensures.fault
 
 pub marks-marks-requires : goal.marks-marks-requires

@@ -1,9 +1,0 @@
-use Rattle.std.proofs.Common.{ℕ, ◌<◌, arith}
-use Rattle.std.proofs.lemmas.List.{get_or_default}
-use Rattle.std.proofs.lemmas.List.Elements.{recursion_from_All}
-use Rattle.receiver_file.proofs.groups.are_words.Goals as goal
-
-pub returns : goal.returns
-returns c =
-    recursion_from_All (λ (v : ℕ). v < 65536) c.args.marks.now
-    (λ k d lt. rw (get_or_default c.args.marks.now k d 0 lt) (omega (arith, c.type_inv.marks k)))
