@@ -1,14 +1,12 @@
 -- The lines of a pgroup's mark word are those of its contested samples.
 use Rattle.std.proofs.Common.{◌≡◌, ℕ, zero, suc, ◌+◌, ◌-◌, ◌*◌, ◌<◌, ◌≤◌, Bool, true, false}
 use Rattle.std.proofs.Common.{eqb, List, [], ◌∷◌, ◌++◌, length, get_or, drop, refl, sym}
-use Rattle.std.proofs.Common.{ap, ◌∙◌, inl, inr, if◌then◌else◌, cond, count_by, arith}
+use Rattle.std.proofs.Common.{ap, ◌∙◌, if◌then◌else◌, cond, count_by, arith}
 use Rattle.std.specs.Int.{bit_at}
 use Rattle.std.specs.List.{flat_map, range_with_len}
-use Rattle.std.proofs.lemmas.Bool.{cases_lt}
 use Rattle.std.proofs.lemmas.List.{get_or-drop, get_or-take, length-drop, length-take-le}
 use Rattle.std.proofs.lemmas.List.Sums.{sum_by-cons}
 use Rattle.std.proofs.lemmas.Nat.{div-mul-add, mod-mul-add}
-use Rattle.std.proofs.lemmas.Nat.Bits.{bit_at-pow_other, bit_at_above}
 use Rattle.st_format.specs.declared.cell.Cell.{Cell}
 use Rattle.st_format.specs.declared.cell.Cell.TheVariants.{Missing, Value, Contested}
 use Rattle.st_format.specs.declared.format.Format.{Format}
@@ -23,7 +21,11 @@ use Rattle.st_format.specs.Position.{component_in_row, place_in_row, row_groups,
 use Rattle.st_format.specs.Raster.{IsWhole, Raster, cell_at}
 use Rattle.st_format.proofs.Columns.{row_samples_groups}
 use Rattle.st_format.proofs.Numbering.{number_of-place}
-use Rattle.frame_assembly.specs.Rows.{IsMarkOf, group_cells}
+use Rattle.frame_assembly.specs.declared.state.GroupState.{GroupState}
+use Rattle.frame_assembly.specs.declared.state.GroupState.TheVariants.{Gone, Whole, Mixed}
+use Rattle.frame_assembly.specs.Marks.{contested_mask}
+use Rattle.frame_assembly.specs.Rows.{IsStateOf, group_cells}
+use Rattle.frame_assembly.proofs.MarkLemmas.{value_alone}
 use Rattle.frame_assembly.proofs.Segments.{sample_count_groups}
 use Rattle.frame_report.specs.Contested.{contested_at, contested_in_group, contested_line}
 use Rattle.frame_report.specs.Contested.{component_names, contested_in_row, contested_lines}
@@ -89,26 +91,26 @@ cell_is r row group i lt =
     ∙ sym (get_or-take (pixel_group r.format.sampling r.format.depth).samples (drop at r.cells) i
     Missing lt)
 
--- the line of a sample, by its bit of the mark word
+-- the line of a sample, by its bit of the mask
 abbrev pub line_by : Raster → ℕ → ℕ → ℕ → ℕ → List ℕ
-line_by r row group mark i =
-    line_where (eqb (bit_at mark i) 1) r.format.sampling row (in_row r.format group i)
+line_by r row group mask i =
+    line_where (eqb (bit_at mask i) 1) r.format.sampling row (in_row r.format group i)
 
-line_is : (r : Raster) (row group mark i : ℕ) → group < row_groups r.format
+line_is : (r : Raster) (row group mask i : ℕ) → group < row_groups r.format
     → i < (pixel_group r.format.sampling r.format.depth).samples
     → length (group_cells r row group) ≡ (pixel_group r.format.sampling r.format.depth).samples
-    → IsMarkOf mark (group_cells r row group)
+    → IsStateOf (Mixed mask) (group_cells r row group)
     → contested_at r (place r.format (group_start r.format row group + i))
-    ≡ line_by r row group mark i
-line_is r row group mark i below lt long is =
+    ≡ line_by r row group mask i
+line_is r row group mask i below lt long is =
     let within : i < length (group_cells r row group) = omega (arith, lt, long) in
     ap (λ (b : Bool).
     if b
     then contested_line r.format.sampling (place r.format (group_start r.format row group + i))
     else [])
-    (ap is_contested (cell_is r row group i lt) ∙ is.contested i within)
+    (ap is_contested (cell_is r row group i lt) ∙ is.2 i within)
     ∙ ap (λ (p : Position).
-    if eqb (bit_at mark i) 1 then contested_line r.format.sampling p else [])
+    if eqb (bit_at mask i) 1 then contested_line r.format.sampling p else [])
     (spot_is r.format row group i below lt)
 
 texts_same : (f g : ℕ → List ℕ) (a n : ℕ) → ((i : ℕ) → a ≤ i → i < a + n → f i ≡ g i)
@@ -122,19 +124,19 @@ texts_same f g a (suc n) same =
     (λ i from to. same i (omega (arith, from)) (omega (arith, to))))
 
 -- a group's lines, sample by sample
-pub group_is : (r : Raster) (row group mark : ℕ) → IsWhole r → row < r.format.height
-    → group < row_groups r.format → IsMarkOf mark (group_cells r row group)
-    → flat_map (line_by r row group mark)
+pub group_is : (r : Raster) (row group mask : ℕ) → IsWhole r → row < r.format.height
+    → group < row_groups r.format → IsStateOf (Mixed mask) (group_cells r row group)
+    → flat_map (line_by r row group mask)
     (range_with_len 0 (pixel_group r.format.sampling r.format.depth).samples)
     ≡ contested_in_group r row group
-group_is r row group mark whole inside below is =
+group_is r row group mask whole inside below is =
     let n : ℕ = (pixel_group r.format.sampling r.format.depth).samples in
     let at : ℕ = group_start r.format row group in
     let long : length (group_cells r row group) ≡ n = group_long r row group whole inside below in
     let none : at ≡ at + 0 = omega arith in
     sym (texts_mapped (contested_at r) (place r.format) at 0 at n none
-    ∙ texts_same (λ i. contested_at r (place r.format (at + i))) (line_by r row group mark) 0 n
-    (λ i from to. line_is r row group mark i below (omega (arith, to)) long is))
+    ∙ texts_same (λ i. contested_at r (place r.format (at + i))) (line_by r row group mask) 0 n
+    (λ i from to. line_is r row group mask i below (omega (arith, to)) long is))
 
 -- ---- groups without a contested sample
 
@@ -143,28 +145,18 @@ not_both Missing e = refl
 not_both (Value v) e = refl
 not_both Contested e = let g = e in cc
 
-clear_bit : (mark i : ℕ) (cells : List Cell) → mark ≤ 32768 → length cells ≤ 12
-    → IsMarkOf mark cells → i < length cells → is_contested (get_or cells i Missing) ≡ false
-clear_bit mark i cells le few is lt =
-    elim (cases_lt mark 32768) [
-      | inl low ↦
-          not_both (get_or cells i Missing)
-          (is.missing i lt
-          ∙ ap (λ (b : ℕ). eqb b 0) (bit_at_above mark 15 15 (omega (arith, low)) (omega arith)))
-      | inr high ↦
-          let e : mark ≡ 32768 = omega (arith, le, high) in
-          let other : i ≡ 15 → ⊥ = λ h. absurd (omega (arith, h, lt, few)) in
-          is.contested i lt
-          ∙ ap (λ (b : ℕ). eqb b 1)
-          (ap (λ (m : ℕ). bit_at m i) e ∙ bit_at-pow_other 15 i other)
-    ]
+none_contested : (state : GroupState) (cells : List Cell) → IsStateOf state cells
+    → contested_mask state ≡ 0 → (i : ℕ) → i < length cells
+    → is_contested (get_or cells i Missing) ≡ false
+none_contested Gone cells is none i lt = not_both (get_or cells i Missing) (is i lt)
+none_contested Whole cells is none i lt = value_alone (get_or cells i Missing) (is i lt)
+none_contested (Mixed mask) cells is none i lt = absurd (is.0 none)
 
-pub group_none : (r : Raster) (row group mark : ℕ) → IsWhole r → row < r.format.height
-    → group < row_groups r.format
-    → (pixel_group r.format.sampling r.format.depth).samples ≤ 12
-    → IsMarkOf mark (group_cells r row group) → mark ≤ 32768
+pub group_none : (r : Raster) (row group : ℕ) (state : GroupState) → IsWhole r
+    → row < r.format.height → group < row_groups r.format
+    → IsStateOf state (group_cells r row group) → contested_mask state ≡ 0
     → contested_in_group r row group ≡ []
-group_none r row group mark whole inside below few is le =
+group_none r row group state whole inside below is clear =
     let n : ℕ = (pixel_group r.format.sampling r.format.depth).samples in
     let at : ℕ = group_start r.format row group in
     let long : length (group_cells r row group) ≡ n = group_long r row group whole inside below in
@@ -174,11 +166,10 @@ group_none r row group mark whole inside below few is le =
     (λ i from to.
     (let lt : i < n = omega (arith, to) in
     let within : i < length (group_cells r row group) = omega (arith, lt, long) in
-    let short : length (group_cells r row group) ≤ 12 = omega (arith, few, long) in
     ap (λ (b : Bool).
     if b then contested_line r.format.sampling (place r.format (at + i)) else [])
     (ap is_contested (cell_is r row group i lt)
-    ∙ clear_bit mark i (group_cells r row group) le short is within)))
+    ∙ none_contested state (group_cells r row group) is clear i within)))
 
 -- ---- frames without a contested sample
 
@@ -238,20 +229,6 @@ some_samples Rgb D8 = omega arith
 some_samples Rgb D10 = omega arith
 some_samples Rgb D12 = omega arith
 some_samples Rgb D16 = omega arith
-
-pub few_samples : (s : Sampling) (d : Depth) → (pixel_group s d).samples ≤ 12
-few_samples Ycc422 D8 = omega arith
-few_samples Ycc422 D10 = omega arith
-few_samples Ycc422 D12 = omega arith
-few_samples Ycc422 D16 = omega arith
-few_samples Ycc444 D8 = omega arith
-few_samples Ycc444 D10 = omega arith
-few_samples Ycc444 D12 = omega arith
-few_samples Ycc444 D16 = omega arith
-few_samples Rgb D8 = omega arith
-few_samples Rgb D10 = omega arith
-few_samples Rgb D12 = omega arith
-few_samples Rgb D16 = omega arith
 
 pub group_some : (r : Raster) (row group : ℕ) → IsWhole r → row < r.format.height
     → group < row_groups r.format → 0 < length (group_cells r row group)

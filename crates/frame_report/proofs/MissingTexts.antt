@@ -1,9 +1,8 @@
 -- The lines of a row's mark words are those of its missing runs.
 use Rattle.std.proofs.Common.{◌≡◌, ℕ, zero, suc, ◌+◌, ◌-◌, ◌%◌, ◌^◌, ◌<◌, ◌≤◌, Bool, true, false}
-use Rattle.std.proofs.Common.{not, eqb, List, [], ◌∷◌, ◌++◌, length, map, drop, get_or, refl, sym}
+use Rattle.std.proofs.Common.{not, List, [], ◌∷◌, ◌++◌, length, map, drop, get_or, refl, sym}
 use Rattle.std.proofs.Common.{ap, ◌∙◌, inl, inr, ◌&&◌, ◌*◌, cond, count_by, min}
 use Rattle.std.proofs.Common.{arith}
-use Rattle.std.specs.Int.{bit_at}
 use Rattle.std.specs.List.{flat_map, list_all}
 use Rattle.std.proofs.lemmas.Grind.{flat_map-append}
 use Rattle.std.proofs.lemmas.List.{get_or-drop, get_or-map, get_or-take, length-map, append-nil}
@@ -18,7 +17,11 @@ use Rattle.st_format.specs.Cell.{is_missing}
 use Rattle.st_format.specs.Pgroup.{pixel_group}
 use Rattle.st_format.specs.Position.{group_start, row_groups}
 use Rattle.st_format.specs.Raster.{IsWhole, Raster}
-use Rattle.frame_assembly.specs.Rows.{IsMarkOf, group_cells}
+use Rattle.frame_assembly.specs.declared.state.GroupState.{GroupState}
+use Rattle.frame_assembly.specs.declared.state.GroupState.TheVariants.{Gone, Whole, Mixed}
+use Rattle.frame_assembly.specs.Marks.{is_group_present, state_of_mark}
+use Rattle.frame_assembly.specs.Rows.{IsStateOf, group_cells}
+use Rattle.frame_assembly.proofs.MarkLemmas.{has_value}
 use Rattle.packet_numbers.specs.Numbers.{closed_run, numbered_run, runs_from}
 use Rattle.packet_numbers.proofs.Runs.{closed_none, closed_some, runs_closed, runs_end, runs_on}
 use Rattle.frame_report.specs.Missing.{flags_in, known_groups, missing_in_row, missing_line}
@@ -57,9 +60,9 @@ lines_end columns row start place flags le =
 
 -- the flag of a mark word
 pub flag_is : (marks : List ℕ) (group : ℕ) → group < length marks
-    → get_or (flags_in marks) group false ≡ eqb (bit_at (get_or marks group 0) 15) 1
+    → get_or (flags_in marks) group false ≡ is_group_present (state_of_mark (get_or marks group 0))
 flag_is marks group lt =
-    get_or-map (λ mark. eqb (bit_at mark 15) 1) marks group 0 false lt
+    get_or-map (λ mark. is_group_present (state_of_mark mark)) marks group 0 false lt
 
 -- ---- runs that are told by numbers from 0 on
 
@@ -101,26 +104,22 @@ all_same true (x ∷ y ∷ cells) each some =
     ap (λ (t : Bool). t && list_all is_missing (y ∷ cells)) (each 0 (omega arith))
     ∙ all_same true (y ∷ cells) (λ i lt. each (suc i) (omega (arith, lt))) (omega arith)
 
-one_or_none : (b : ℕ) → b < 2 → eqb b 1 ≡ not (eqb b 0)
-one_or_none zero small = refl
-one_or_none (suc zero) small = refl
-one_or_none (suc (suc b)) small = absurd (omega (arith, small))
-
-flag_of_cells : (mark : ℕ) (cells : List Cell) → IsMarkOf mark cells → 0 < length cells
-    → eqb (bit_at mark 15) 1 ≡ not (list_all is_missing cells)
-flag_of_cells mark cells is some =
-    let small : bit_at mark 15 < 2 = omega arith in
-    one_or_none (bit_at mark 15) small
-    ∙ ap not (sym (all_same (eqb (bit_at mark 15) 0) cells is.missing some))
+flag_of_cells : (state : GroupState) (cells : List Cell) → IsStateOf state cells
+    → 0 < length cells → is_group_present state ≡ not (list_all is_missing cells)
+flag_of_cells Gone cells is some = ap not (sym (all_same true cells is some))
+flag_of_cells Whole cells is some =
+    ap not (sym (all_same false cells
+    (λ i lt. has_value (get_or cells i Missing) (is i lt)) some))
+flag_of_cells (Mixed mask) cells is some = ap not (sym (all_same false cells is.1 some))
 
 flags_are : (r : Raster) (row : ℕ) (marks : List ℕ) → length marks ≡ row_groups r.format
     → ((group : ℕ) → group < row_groups r.format
-    → IsMarkOf (get_or marks group 0) (group_cells r row group))
+    → IsStateOf (state_of_mark (get_or marks group 0)) (group_cells r row group))
     → ((group : ℕ) → group < row_groups r.format → 0 < length (group_cells r row group))
     → flags_in marks ≡ (known_groups r row).noted
 flags_are r row marks long each some =
     let known : ℕ → Bool = λ group. not (list_all is_missing (group_cells r row group)) in
-    let flag : ℕ → Bool = λ mark. eqb (bit_at mark 15) 1 in
+    let flag : ℕ → Bool = λ mark. is_group_present (state_of_mark mark) in
     let n : ℕ = row_groups r.format in
     same_lists (flags_in marks) (known_groups r row).noted
     (length-map marks flag ∙ long ∙ sym (length-map-range_with_len known 0 n))
@@ -128,18 +127,19 @@ flags_are r row marks long each some =
     (let below : k < length marks = omega (arith, lt, length-map marks flag) in
     let inside : k < n = omega (arith, below, long) in
     get_or-map flag marks k 0 d below
-    ∙ flag_of_cells (get_or marks k 0) (group_cells r row k) (each k inside) (some k inside)
+    ∙ flag_of_cells (state_of_mark (get_or marks k 0)) (group_cells r row k)
+    (each k inside) (some k inside)
     ∙ sym (get_or-map-range_with_len known 0 n k k d inside (omega arith))))
 
 pub row_is : (r : Raster) (row columns : ℕ) (marks : List ℕ) → length marks ≡ row_groups r.format
     → length marks ≤ 8192
     → ((group : ℕ) → group < row_groups r.format
-    → IsMarkOf (get_or marks group 0) (group_cells r row group))
+    → IsStateOf (state_of_mark (get_or marks group 0)) (group_cells r row group))
     → ((group : ℕ) → group < row_groups r.format → 0 < length (group_cells r row group))
     → columns ≡ (pixel_group r.format.sampling r.format.depth).pixels
     → flat_map (missing_line columns row) (runs_from 0 0 (flags_in marks)) ≡ missing_in_row r row
 row_is r row columns marks long few each some e =
-    let flag : ℕ → Bool = λ mark. eqb (bit_at mark 15) 1 in
+    let flag : ℕ → Bool = λ mark. is_group_present (state_of_mark mark) in
     let small : 0 + length (flags_in marks) < 2 ^ 32 =
     omega (arith, few, length-map marks flag) in
     ap (λ (c : ℕ). flat_map (missing_line c row) (runs_from 0 0 (flags_in marks))) e
@@ -255,7 +255,7 @@ rows_none r whole some e =
 -- ---- the end of a row
 
 pub flags_long : (marks : List ℕ) → length (flags_in marks) ≡ length marks
-flags_long marks = length-map marks (λ mark. eqb (bit_at mark 15) 1)
+flags_long marks = length-map marks (λ mark. is_group_present (state_of_mark mark))
 
 pub lines_done : (columns row start place : ℕ) (marks : List ℕ) → length marks ≤ place
     → start ≤ place → place ≤ length marks

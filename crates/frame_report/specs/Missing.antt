@@ -1,11 +1,11 @@
 -- The lines of the missing pgroups of a frame (own).
-use Rattle.std.specs.Prelude.{ℕ, ◌+◌, ◌-◌, ◌*◌, ◌==◌, Bool, List, ◌++◌, map, not, codes}
-use Rattle.std.specs.Int.{bit_at}
+use Rattle.std.specs.Prelude.{ℕ, ◌+◌, ◌-◌, ◌*◌, Bool, List, ◌++◌, map, not, codes}
 use Rattle.std.specs.List.{flat_map, list_all, range_with_len}
 use Rattle.st_format.specs.Cell.{is_missing}
 use Rattle.st_format.specs.Pgroup.{pixel_group}
 use Rattle.st_format.specs.Position.{row_groups}
 use Rattle.st_format.specs.Raster.{Raster}
+use Rattle.frame_assembly.specs.Marks.{is_group_present, state_of_mark}
 use Rattle.frame_assembly.specs.Rows.{group_cells}
 use Rattle.packet_numbers.specs.Numbers.{Numbers, missing_runs_of}
 use Rattle.frame_report.specs.Gathers.{numbered_word}
@@ -46,6 +46,6 @@ missing_in_row r row =
 abbrev pub missing_lines : Raster → List ℕ
 missing_lines r = flat_map (missing_in_row r) (range_with_len 0 r.format.height)
 
--- the same of mark words: whether a group is known, by bit 15
+-- the same of mark words: whether a group is known
 abbrev pub flags_in : List ℕ → List Bool
-flags_in marks = map (λ mark. bit_at mark 15 == 1) marks
+flags_in marks = map (λ mark. is_group_present (state_of_mark mark)) marks

@@ -6,7 +6,9 @@ ghost use Rattle.st_format.specs.Cell.{is_contested};
 ghost use Rattle.st_format.specs.Device.{AppendsPrefix, CountsFaults};
 ghost use Rattle.st_format.specs.declared.sampling.Sampling.TheVariants.{Ycc422};
 ghost use Rattle.st_format.specs.Position.{place_in_row, row_groups, run};
-ghost use Rattle.frame_assembly.specs.Rows.{IsMarkOf, group_cells};
+ghost use Rattle.frame_assembly.specs.declared.state.GroupState.TheVariants.{Mixed};
+ghost use Rattle.frame_assembly.specs.Marks.{state_of_mark};
+ghost use Rattle.frame_assembly.specs.Rows.{IsStateOf, group_cells};
 ghost use Rattle.frame_report.specs.Gathers.{Gathers};
 ghost use Rattle.frame_report.specs.Contested.{component_names, contested_in_group, line_where};
 ghost use Rattle.frame_report.specs.Contested.{sample_text, spot};
@@ -14,12 +16,9 @@ ghost use Rattle.frame_report.specs.Contested.{contested_in_row, contested_line,
 
 use crate::page::{GATHERED, LINE, Page};
 use crate::rows::{RowLines, put_rows};
-use frame_assembly::Frame;
+use frame_assembly::{Frame, GroupState};
 use st_format::{ByteSink, DeviceFault, Sampling};
 use std::alloc::Allocator;
-
-/// The mark word of a group each of whose samples has a value. A greater one has contested samples.
-const WHOLE: u16 = 0x8000;
 
 /// Puts a line for each contested sample of a frame, rows from the top. Where none is, there is
 /// nothing to look for.
@@ -76,7 +75,7 @@ fn put_group<A: Allocator, K: ByteSink>(
 ) -> Result<(), DeviceFault>
     requires row { row < frame.now.format.height }
     requires group { group < row_groups frame.now.format }
-    requires mark { IsMarkOf mark (group_cells frame.now row group) }
+    requires mark { IsStateOf (state_of_mark mark) (group_cells frame.now row group) }
     ensures ok { OnOk result
         (Gathers (K.held sink.old) (K.held sink.new) page.old page.new
         (contested_in_group frame.now row group)) }
@@ -85,25 +84,28 @@ fn put_group<A: Allocator, K: ByteSink>(
         (page.old ++ contested_in_group frame.now row group)) }
     ensures counted { CountsFaults (K.failures sink.old) (K.failures sink.new) result }
 {
-    if mark <= WHOLE {
-        frame.facts();
-        return Ok(());
+    match GroupState::of_mark(mark) {
+        GroupState::Gone | GroupState::Whole => {
+            frame.facts();
+            Ok(())
+        }
+        GroupState::Mixed(mask) => put_samples(page, sink, frame, row, group, mask),
     }
-    put_samples(page, sink, frame, row, group, mark)
 }
 
-/// Puts the lines of a group, in the order in which its samples are sent.
+/// Puts the lines of a group of which this mask names the contested samples, in the order in which
+/// its samples are sent.
 fn put_samples<A: Allocator, K: ByteSink>(
     page: &mut Page,
     sink: &mut K,
     frame: &Frame<A>,
     row: u32,
     group: usize,
-    mark: u16,
+    mask: u16,
 ) -> Result<(), DeviceFault>
     requires row { row < frame.now.format.height }
     requires group { group < row_groups frame.now.format }
-    requires mark { IsMarkOf mark (group_cells frame.now row group) }
+    requires mask { IsStateOf (Mixed mask) (group_cells frame.now row group) }
     ensures ok { OnOk result
         (Gathers (K.held sink.old) (K.held sink.new) page.old page.new
         (contested_in_group frame.now row group)) }
@@ -115,7 +117,7 @@ fn put_samples<A: Allocator, K: ByteSink>(
     let format = frame.format();
     let samples = format.pgroup().samples;
     for i in 0..samples {
-        let is_contested = is_set(mark, i);
+        let is_contested = is_set(mask, i);
         put_sample(
             page,
             sink,
@@ -128,14 +130,14 @@ fn put_samples<A: Allocator, K: ByteSink>(
     Ok(())
 }
 
-/// Whether a bit of a mark word is set.
+/// Whether a bit of a mask is set.
 #[inline(always)]
 #[tactic(auto, using(std::proofs::lemmas::Nat::Bits::shr_and_one))]
-fn is_set(mark: u16, i: usize) -> bool
+fn is_set(mask: u16, i: usize) -> bool
     requires { i < 16 }
-    ensures { result ≡ (bit_at mark i == 1) }
+    ensures { result ≡ (bit_at mask i == 1) }
 {
-    mark >> i & 1 == 1
+    mask >> i & 1 == 1
 }
 
 /// Puts the line of a row's sample, counted from the row's first, where it is contested.

@@ -1,10 +1,10 @@
 //! The lines of missing pgroups.
-ghost use Rattle.std.specs.Prelude.{◌≡◌, ◌==◌, ◌≤◌, ◌<◌, ◌+◌, ◌++◌, OnErr, OnOk};
+ghost use Rattle.std.specs.Prelude.{◌≡◌, ◌≤◌, ◌<◌, ◌+◌, ◌++◌, OnErr, OnOk};
 ghost use Rattle.std.specs.Prelude.{count_by, length};
-ghost use Rattle.std.specs.Int.{bit_at};
 ghost use Rattle.std.specs.List.{flat_map};
 ghost use Rattle.st_format.specs.Cell.{is_missing};
 ghost use Rattle.st_format.specs.Device.{AppendsPrefix, CountsFaults};
+ghost use Rattle.frame_assembly.specs.Marks.{is_group_present, state_of_mark};
 ghost use Rattle.packet_numbers.specs.Numbers.{closed_run, runs_from};
 ghost use Rattle.frame_report.specs.Gathers.{Gathers};
 ghost use Rattle.frame_report.specs.Missing.{flags_in, missing_in_row, missing_line, missing_lines};
@@ -12,7 +12,7 @@ ghost use Rattle.frame_report.specs.Missing.{run_text};
 
 use crate::page::{GATHERED, LINE, Page};
 use crate::rows::{RowLines, put_rows};
-use frame_assembly::Frame;
+use frame_assembly::{Frame, GroupState};
 use st_format::{ByteSink, DeviceFault};
 use std::alloc::Allocator;
 
@@ -116,9 +116,9 @@ fn put_run<K: ByteSink>(
 /// Whether something is known of the group of a mark word.
 #[inline(always)]
 fn is_known(mark: u16) -> bool
-    ensures { result ≡ (bit_at mark 15 == 1) }
+    ensures { result ≡ is_group_present (state_of_mark mark) }
 {
-    mark >> 15 & 1 == 1
+    GroupState::of_mark(mark).is_present()
 }
 
 /// Adds the line of a row's columns.

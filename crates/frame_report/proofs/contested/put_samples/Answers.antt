@@ -14,10 +14,10 @@ loop-i-init g c =
     record {
       put =
           put_none _ _ _ _
-          (texts_all (line_by r c.args.row c.args.group c.args.mark)
+          (texts_all (line_by r c.args.row c.args.group c.args.mask)
           (pixel_group r.format.sampling r.format.depth).samples
-          ∙ group_is r c.args.row c.args.group c.args.mark c.format-format.ensures.whole
-          c.requires.row c.requires.group c.requires.mark);
+          ∙ group_is r c.args.row c.args.group c.args.mask c.format-format.ensures.whole
+          c.requires.row c.requires.group c.requires.mask);
       failures = refl;
     }
 
@@ -32,15 +32,15 @@ returns-in_err-put_sample-clause-fault g c =
     ∙ ap (λ (f : Format). (pixel_group f.sampling f.depth).samples)
     c.format-format.ensures.format in
     let lt : i < n = subst (λ (k : ℕ). i < k) count c.loop-i-test.true in
-    let rest : List ℕ = texts_from (line_by r c.args.row c.args.group c.args.mark) (i + 1) n in
+    let rest : List ℕ = texts_from (line_by r c.args.row c.args.group c.args.mask) (i + 1) n in
     let here : List ℕ =
     line_where c.is_set-is_contested.result c.sampling.result c.args.row
     (c.pgroup-samples.result.samples * c.args.group + i) in
     rw (p.1)
     (put_cut _ _ _ _ _ _ here rest _ c.loop-i.invariant.put
-    (texts_here (line_by r c.args.row c.args.group c.args.mark) i n lt
+    (texts_here (line_by r c.args.row c.args.group c.args.mask) i n lt
     ∙ ap (λ (t : List ℕ). t ++ rest)
-    (line_told r c.args.row c.args.group c.args.mark i c.is_set-is_contested.result
+    (line_told r c.args.row c.args.group c.args.mask i c.is_set-is_contested.result
     c.sampling.result c.format-format.result c.pgroup-samples.result.samples
     c.is_set-is_contested.ensures c.sampling.ensures c.format-format.ensures.format
     c.pgroup-samples.ensures.samples))
@@ -56,16 +56,16 @@ loop-i-preserved g c =
     ∙ ap (λ (f : Format). (pixel_group f.sampling f.depth).samples)
     c.format-format.ensures.format in
     let lt : i < n = subst (λ (k : ℕ). i < k) count c.loop-i-test.true in
-    let rest : List ℕ = texts_from (line_by r c.args.row c.args.group c.args.mark) (i + 1) n in
+    let rest : List ℕ = texts_from (line_by r c.args.row c.args.group c.args.mask) (i + 1) n in
     let here : List ℕ =
     line_where c.is_set-is_contested.result c.sampling.result c.args.row
     (c.pgroup-samples.result.samples * c.args.group + i) in
     record {
       put =
           put_more _ _ _ _ _ _ _ here rest _ c.loop-i.invariant.put
-          (texts_here (line_by r c.args.row c.args.group c.args.mark) i n lt
+          (texts_here (line_by r c.args.row c.args.group c.args.mask) i n lt
           ∙ ap (λ (t : List ℕ). t ++ rest)
-          (line_told r c.args.row c.args.group c.args.mark i c.is_set-is_contested.result
+          (line_told r c.args.row c.args.group c.args.mask i c.is_set-is_contested.result
           c.sampling.result c.format-format.result c.pgroup-samples.result.samples
           c.is_set-is_contested.ensures c.sampling.ensures c.format-format.ensures.format
           c.pgroup-samples.ensures.samples))
@@ -84,4 +84,4 @@ returns-clause-ok g c =
     c.format-format.ensures.format in
     let le : n ≤ i = subst (λ (k : ℕ). k ≤ i) count c.loop-i-test.false in
     put_all _ _ _ _ _ _ c.loop-i.invariant.put
-    (texts_end (line_by r c.args.row c.args.group c.args.mark) i n le)
+    (texts_end (line_by r c.args.row c.args.group c.args.mask) i n le)

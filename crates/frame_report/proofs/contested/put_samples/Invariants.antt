@@ -13,7 +13,7 @@ pub record Putting (so_far count : Type 0) : Type 0 where
 abbrev pub invariant-loop-i : goal.invariant-loop-i
 invariant-loop-i g l = Putting
     (IsPut (g.K.ByteSink.held l.initial.sink) (g.K.ByteSink.held l.sink) l.initial.page l.page
-    (texts_from (line_by l.frame l.row l.group l.mark) l.i
+    (texts_from (line_by l.frame l.row l.group l.mask) l.i
     (pixel_group l.frame.format.sampling l.frame.format.depth).samples)
     (contested_in_group l.frame l.row l.group))
     (g.K.ByteSink.failures l.sink ≡ g.K.ByteSink.failures l.initial.sink)

@@ -14,7 +14,7 @@ returns-clause-ok g c =
     let e : flat_map (missing_line c.from-columns.result c.args.row)
     (runs_from 0 0 (flags_in c.marks.result.now)) ≡ missing_in_row r c.args.row =
     row_is r c.args.row c.from-columns.result c.marks.result.now c.marks.ensures.long
-    (omega arith) c.marks.ensures.marks
+    (omega arith) c.marks.ensures.states
     (λ group below. group_some r c.args.row group c.format.ensures.whole c.requires below)
     (c.from-columns.ensures ∙ c.pgroup.ensures.pixels
     ∙ ap (λ (f : Format). (pixel_group f.sampling f.depth).pixels) c.format.ensures.format) in
@@ -26,7 +26,7 @@ returns-clause-fault g c =
     let e : flat_map (missing_line c.from-columns.result c.args.row)
     (runs_from 0 0 (flags_in c.marks.result.now)) ≡ missing_in_row r c.args.row =
     row_is r c.args.row c.from-columns.result c.marks.result.now c.marks.ensures.long
-    (omega arith) c.marks.ensures.marks
+    (omega arith) c.marks.ensures.states
     (λ group below. group_some r c.args.row group c.format.ensures.whole c.requires below)
     (c.from-columns.ensures ∙ c.pgroup.ensures.pixels
     ∙ ap (λ (f : Format). (pixel_group f.sampling f.depth).pixels) c.format.ensures.format) in
