@@ -3,12 +3,10 @@ ghost use Rattle.std.specs.Prelude.{ℕ, ◌≡◌, ◌≤◌, IsTrue};
 ghost use Rattle.std.specs.Int.{bit_at};
 
 use crate::packing::sample;
-use frame_assembly::{Frame, GroupState};
+use frame_assembly::{Frame, GroupState, MOST_GROUP_OCTETS};
 use pgroup_pack::blank;
 use st_format::{Cell, Format};
 use std::alloc::{AllocError, Global};
-
-const MOST_OCTETS: usize = 15;
 
 /// The mark bits of the most samples that a group has.
 const BITS: [u16; 12] = [1, 2, 4, 8, 16, 32, 64, 128, 256, 512, 1024, 2048];
@@ -63,7 +61,7 @@ fn told(state: GroupState) -> Option<u16> {
 
 /// Writes the octets of a group of a frame, and tells its mark word; `None` where there is no
 /// group.
-fn read(frame: &Frame, row: u32, place: u32, room: &mut [u8; MOST_OCTETS]) -> Option<u16> {
+fn read(frame: &Frame, row: u32, place: u32, room: &mut [u8; MOST_GROUP_OCTETS]) -> Option<u16> {
     let format = frame.format();
     let group = format.pgroup();
     let is_place = row < format.height() && place < format.width() / group.pixels;
@@ -74,11 +72,20 @@ fn read(frame: &Frame, row: u32, place: u32, room: &mut [u8; MOST_OCTETS]) -> Op
     }
 }
 
+/// Whether a mark word says the state that it is the word of.
+fn is_told(mark: u16) -> bool {
+    let state = GroupState::of_mark(mark);
+    told(state) == Some(mark) && state.mark() == mark
+}
+
 /// Whether a group's mark word, its state and its octets are those of its cells.
 fn group_agrees(frame: &Frame, row: u32, place: u32, mark: u16, cells: &[Cell]) -> bool {
-    let mut room = [255; MOST_OCTETS];
+    let mut room = [255; MOST_GROUP_OCTETS];
     let state = read(frame, row, place, &mut room);
-    state == Some(mark) && mark_of(cells) == state && spells(&frame.format(), &room, cells)
+    state == Some(mark)
+        && is_told(mark)
+        && mark_of(cells) == state
+        && spells(&frame.format(), &room, cells)
 }
 
 /// So many items from a place on, or none where there are not so many.
@@ -131,7 +138,7 @@ fn has_bits_below(mask: u16, count: usize) -> bool
 fn set(frame: &mut Frame, row: u32, place: u32, octets: &[u8], mask: u16, present: bool) -> bool {
     let format = frame.format();
     let group = format.pgroup();
-    let mut room = [0; MOST_OCTETS];
+    let mut room = [0; MOST_GROUP_OCTETS];
     if octets.len() != group.octets {
         return false;
     }
@@ -151,7 +158,7 @@ fn set(frame: &mut Frame, row: u32, place: u32, octets: &[u8], mask: u16, presen
 /// Gives a group of one frame to another, or makes it missing, and tells whether it could be set.
 fn give(frame: &Frame, copy: &mut Frame, row: u32, place: u32) -> bool {
     let size = frame.format().pgroup().octets;
-    let mut room = [0; MOST_OCTETS];
+    let mut room = [0; MOST_GROUP_OCTETS];
     match read(frame, row, place, &mut room) {
         Some(mark) => {
             set(
