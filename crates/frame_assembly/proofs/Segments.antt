@@ -4,11 +4,11 @@ use Rattle.std.proofs.Common.{◌++◌, length, get_or, set, take, drop, map, re
 use Rattle.std.proofs.Common.{inr, arith, append_assoc, length-append}
 use Rattle.std.specs.Int.{bit_at}
 use Rattle.std.specs.List.{AllByRecursion}
-use Rattle.std.proofs.lemmas.List.{drop_at, length-drop, length-take-le, length-replicate}
-use Rattle.std.proofs.lemmas.List.{replicate-append-replicate, take_at, map-append, nil_from_length}
+use Rattle.std.proofs.lemmas.List.{length-drop, length-take-le, length-replicate, map-append}
+use Rattle.std.proofs.lemmas.List.{nil_from_length}
 use Rattle.std.proofs.lemmas.List.{take-append-drop}
 use Rattle.std.proofs.lemmas.Nat.Bits.{bit_at-pow_other}
-use Rattle.std.proofs.Math.Nat.{mul-add, mul_assoc, mul_comm}
+use Rattle.std.proofs.Math.Nat.{div-le_self, mul-add, mul_assoc, mul_comm}
 use Rattle.std.proofs.Math.Seq.{get_or-append_seam}
 use borrow.Rule.Slice.PartMut.{put_mid}
 use Rattle.st_format.specs.declared.cell.Cell.{Cell}
@@ -292,6 +292,20 @@ groups_end f s is =
           (pixel_group f.sampling f.depth).octets) is.row inner,
     )
 
+-- a segment has no more groups than a row may have
+pub few_groups : (f : Format) (s : Segment) → IsInside s f
+    → length s.octets / (pixel_group f.sampling f.depth).octets ≤ 8192
+few_groups f s is =
+    let inner =
+    in_row f.sampling f.depth f.width s.offset
+    (length s.octets) f.whole_width.whole_groups is.at_group is.columns in
+    omega (
+      arith,
+      inner,
+      div-le_self f.width (pixel_group f.sampling f.depth).pixels,
+      f.whole_width.most,
+    )
+
 pub segment_octets : (f : Format) (s : Segment) → IsInside s f
     → length s.octets
     ≡ (pixel_group f.sampling f.depth).octets *
@@ -309,26 +323,6 @@ cells_long f marks octets whole packed =
     ∙ ap (λ (k : ℕ). (pixel_group f.sampling f.depth).samples * k) whole ∙ sample_count_groups f
 
 -- a part of whole marks
-pub whole_part : (a c k : ℕ) → a + c ≤ k → take c (drop a (whole_marks k)) ≡ whole_marks c
-whole_part a c k le =
-    let e : k ≡ a + (c + (k - (a + c))) = omega arith in
-    let split : whole_marks k ≡ whole_marks a ++ (whole_marks c ++ whole_marks (k - (a + c))) =
-    ap whole_marks e ∙ sym (replicate-append-replicate a (c + (k - (a + c))) 32768)
-    ∙ ap (λ (xs : List ℕ). whole_marks a ++ xs)
-    (sym (replicate-append-replicate c (k - (a + c)) 32768)) in
-    ap (λ (xs : List ℕ). take c (drop a xs)) split
-    ∙ ap (take c)
-    (drop_at (whole_marks a) (whole_marks c ++ whole_marks (k - (a + c))) a
-    (length-replicate a 32768))
-    ∙ take_at (whole_marks c) (whole_marks (k - (a + c))) c (length-replicate c 32768)
-
-pub whole_rest : (many now at : ℕ) (whole : List ℕ) → whole ≡ whole_marks 64 → now ≡ many
-    → many - at ≤ 64 → take (now - at) whole ≡ whole_marks (many - at)
-whole_rest many now at whole is same few =
-    let e : now - at ≡ many - at = omega arith in
-    ap (take (now - at)) is ∙ ap (λ (k : ℕ). take k (whole_marks 64)) e
-    ∙ whole_part 0 (many - at) 64 (omega arith)
-
 pub other_marks_same : (n size samples : ℕ) (marks same_marks octets : List ℕ) → marks ≡ same_marks
     → IsPacked n size samples marks octets → IsPacked n size samples same_marks octets
 other_marks_same n size samples marks same_marks octets e packed =

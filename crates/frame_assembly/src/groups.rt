@@ -57,7 +57,7 @@ pub fn join_run(
 
 /// Joins other groups: at once where they are the same or all of these are missing, else a few at a
 /// time.
-pub fn join_block(
+fn join_block(
     format: &Format,
     marks: &mut [u16],
     octets: &mut [u8],

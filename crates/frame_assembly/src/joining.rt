@@ -7,10 +7,16 @@ ghost use Rattle.payload_header.specs.Payload.{IsInside, seen_segment};
 ghost use Rattle.st_format.specs.Pgroup.{pixel_group};
 ghost use Rattle.st_format.specs.Raster.{cells_of, joined_cells, offers_in, offers_in_all};
 
-use crate::groups::{BLOCK, join_block};
+use crate::groups::join_run;
 use crate::state::PRESENT;
 use payload_header::Segment;
 use st_format::Format;
+
+/// The most groups of a row.
+const MOST_GROUPS: usize = 8192;
+
+/// The mark words of groups of which each sample is present, for as many as a row may have.
+static WHOLE: [u16; MOST_GROUPS] = [PRESENT; MOST_GROUPS];
 
 /// How many groups a row has.
 pub fn row_groups(format: &Format) -> usize
@@ -92,46 +98,12 @@ fn join_segment(format: &Format, marks: &mut [u16], octets: &mut [u8], segment: 
 
 /// Joins groups of which each sample is offered.
 fn join_whole(format: &Format, marks: &mut [u16], octets: &mut [u8], others: &[u8])
+    requires few { length marks.old ≤ MOST_GROUPS }
     requires packed { ArePacked format.now marks.old octets.old }
     requires alike { length others.now ≡ length octets.old }
     ensures { AreJoined format.now marks.old octets.old
         (whole_marks (length marks.old)) others.now marks.new octets.new }
 {
-    join_blocks(format, marks, octets, &[PRESENT; BLOCK], others);
-}
-
-/// Joins groups of which each sample is offered, a block after the other; `whole` are the marks of
-/// a block.
-fn join_blocks(format: &Format, marks: &mut [u16], octets: &mut [u8], whole: &[u16], others: &[u8])
-    requires packed { ArePacked format.now marks.old octets.old }
-    requires whole { whole.now ≡ whole_marks BLOCK }
-    requires alike { length others.now ≡ length octets.old }
-    ensures { AreJoined format.now marks.old octets.old
-        (whole_marks (length marks.old)) others.now marks.new octets.new }
-{
-    let size = format.pgroup().octets;
-    let blocks = marks.len() / BLOCK;
-    for i in 0..blocks {
-        let from = BLOCK * i;
-        let to = BLOCK * (i + 1);
-        let start = size * from;
-        let end = size * to;
-        join_block(
-            format,
-            &mut marks[from..to],
-            &mut octets[start..end],
-            whole,
-            &others[start..end],
-        );
-    }
-    let from = BLOCK * blocks;
-    let start = size * from;
-    let rest = marks.len() - from;
-    join_block(
-        format,
-        &mut marks[from..],
-        &mut octets[start..],
-        &whole[..rest],
-        &others[start..],
-    );
+    let count = marks.len();
+    join_run(format, marks, octets, &WHOLE[..count], others);
 }

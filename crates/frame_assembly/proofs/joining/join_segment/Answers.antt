@@ -1,4 +1,5 @@
-use Rattle.std.proofs.Common.{◌≡◌, ℕ, ◌+◌, ◌/◌, ◌<◌, ◌≤◌, false, eqb, length, sym, ap, arith}
+use Rattle.std.proofs.Common.{◌≡◌, ℕ, ◌+◌, ◌-◌, ◌/◌, ◌<◌, ◌≤◌, false, drop, eqb, length}
+use Rattle.std.proofs.Common.{length-take-le, sym, ap, arith}
 use Rattle.std.proofs.lemmas.Bool.{eqb-true, eqb-false}
 use Rattle.payload_header.specs.Payload.{seen_segment, IsInside}
 use Rattle.frame_assembly.specs.Packed.{cells_in}
@@ -6,8 +7,8 @@ use Rattle.st_format.specs.Position.{group_count}
 use Rattle.frame_assembly.proofs.PackedLemmas.{sizes}
 use Rattle.frame_assembly.proofs.Put.{no_octets, offset_below}
 use Rattle.frame_assembly.proofs.Runs.{end_below, part_between, part_packed, times_le}
-use Rattle.frame_assembly.proofs.Segments.{cells_long, first_group, groups_end, segment_octets}
-use Rattle.frame_assembly.proofs.Segments.{slice_long}
+use Rattle.frame_assembly.proofs.Segments.{cells_long, few_groups, first_group, groups_end}
+use Rattle.frame_assembly.proofs.Segments.{segment_octets, slice_long}
 use Rattle.frame_assembly.proofs.SegmentPut.{segment_put}
 use Rattle.st_format.specs.Pgroup.{pixel_group}
 use Rattle.st_format.specs.Raster.{Segment}
@@ -63,6 +64,22 @@ slice_bounds-join_whole-end c =
     ≡ length c.args.segment.now.octets.now / s =
     ap (λ (k : ℕ). length c.args.segment.now.octets.now / k) e in
     omega (arith, end, quotient, c.groups_before-first.ensures.value, c.requires.whole)
+
+pub join_whole-requires-clause-few : goal.join_whole-requires-clause-few
+join_whole-requires-clause-few c =
+    let len : ℕ = length c.args.segment.now.octets.now in
+    let inside : IsInside (seen_segment c.args.segment.now) c.args.format.now
+    = c.requires.inside (some len c.if-is_empty.ensures) in
+    let s : ℕ = (pixel_group c.args.format.now.sampling c.args.format.now.depth).octets in
+    let quotient : len / c.pgroup-size.result.octets ≡ len / s =
+    ap (λ (k : ℕ). len / k) c.pgroup-size.ensures.octets in
+    omega (
+      arith,
+      quotient,
+      few_groups c.args.format.now (seen_segment c.args.segment.now) inside,
+      length-take-le (c.groups_before-first.result + len / c.pgroup-size.result.octets
+          - c.groups_before-first.result) (drop c.groups_before-first.result c.args.marks.now),
+    )
 
 pub join_whole-requires-clause-packed : goal.join_whole-requires-clause-packed
 join_whole-requires-clause-packed c =
