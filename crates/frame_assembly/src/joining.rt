@@ -18,21 +18,12 @@ const MOST_GROUPS: usize = 8192;
 /// The mark words of groups of which each sample is present, for as many as a row may have.
 static WHOLE: [u16; MOST_GROUPS] = [PRESENT; MOST_GROUPS];
 
-/// How many groups a row has.
-pub fn row_groups(format: &Format) -> usize
-    ensures value { result
-        ≡ format.now.width / (pixel_group format.now.sampling format.now.depth).pixels }
-    ensures limit { result ≤ 8192 }
-{
-    (format.width() / format.pgroup().pixels) as usize
-}
-
 /// How many groups a raster has.
 pub fn group_total(format: &Format) -> usize
     ensures value { result ≡ group_count format.now }
     ensures limit { result ≤ 8192 * 8192 }
 {
-    format.height() as usize * row_groups(format)
+    format.height() as usize * format.row_groups() as usize
 }
 
 /// How many groups stand before the one of a column of a row, in raster order.
@@ -45,7 +36,7 @@ fn groups_before(format: &Format, row: u32, column: u32) -> usize
         (pixel_group format.now.sampling format.now.depth).pixels }
     ensures limit { result ≤ 8192 * 8192 + 8192 }
 {
-    row as usize * row_groups(format) + (column / format.pgroup().pixels) as usize
+    row as usize * format.row_groups() as usize + (column / format.pgroup().pixels) as usize
 }
 
 /// Joins what the segments offer.

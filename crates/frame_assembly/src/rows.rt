@@ -12,7 +12,6 @@ ghost use Rattle.st_format.specs.Pgroup.{bits_of, pixel_group};
 ghost use Rattle.st_format.specs.Position.{group_start, row_groups, row_octets, group_count};
 ghost use Rattle.st_format.specs.Samples.{Spells, values_in};
 
-use crate::joining::row_groups;
 use crate::state::GroupState;
 use st_format::Format;
 
@@ -34,7 +33,7 @@ pub fn octets_of_row<'a>(format: &Format, marks: &[u16], octets: &'a [u8], row: 
         }) row)) }
 {
     let size = format.pgroup().octets;
-    let count = row_groups(format);
+    let count = format.row_groups() as usize;
     let first = row as usize * count;
     &octets[size * first..size * (first + count)]
 }
@@ -60,7 +59,7 @@ pub fn marks_of_row<'a>(format: &Format, marks: &'a [u16], octets: &[u8], row: u
               cells_in format.now marks.now octets.now;
         }) row group) }
 {
-    let count = row_groups(format);
+    let count = format.row_groups() as usize;
     let first = row as usize * count;
     &marks[first..first + count]
 }
@@ -72,7 +71,7 @@ fn place_of(format: &Format, row: u32, group: u32) -> usize
     ensures place { result ≡ row * row_groups format.now + group }
     ensures limit { result < group_count format.now }
 {
-    row as usize * row_groups(format) + group as usize
+    row as usize * format.row_groups() as usize + group as usize
 }
 
 /// Copies the octets of a group, and tells what is known of it.

@@ -10,15 +10,6 @@ use arrayvec::ArrayVec;
 use st_format::Format;
 use std::alloc::{AllocError, Allocator};
 
-/// How many pgroups a row has.
-pub(crate) fn row_groups_of(format: &Format) -> u32
-    ensures value { result ≡ row_groups format.now }
-    ensures some { 0 < row_groups format.now }
-    ensures most { row_groups format.now ≤ 8192 }
-{
-    format.width / format.pgroup().pixels
-}
-
 /// How many octets a pgroup has.
 #[tactic(auto, unfolding(crate::specs::Plan::group_octets))]
 pub(crate) fn group_octets_of(format: &Format) -> u32
@@ -34,7 +25,7 @@ fn group_count_of(format: &Format) -> u32
     ensures value { result ≡ group_count format.now }
     ensures most { group_count format.now ≤ 8192 * 8192 }
 {
-    format.height * row_groups_of(format)
+    format.height * format.row_groups()
 }
 
 /// How many pgroups fit behind this many headers of segments.
@@ -58,7 +49,7 @@ fn next_of(format: &Format, max_octets: u32, group: u32) -> u32
     ensures within { result ≤ group_count format.now }
 {
     // With one, two or three segments: no further than there is room, and not beyond the last row.
-    let width = row_groups_of(format);
+    let width = format.row_groups();
     let one = (group + room_for(format, max_octets, 1)).min((group / width + 1) * width);
     let two = (group + room_for(format, max_octets, 2)).min((group / width + 2) * width);
     let three = (group + room_for(format, max_octets, 3)).min((group / width + 3) * width);
@@ -72,7 +63,7 @@ pub(crate) fn runs_from(format: &Format, max_octets: u32, group: u32) -> ArrayVe
     requires group { group < group_count format.now }
     ensures { result.items ≡ packet_from format.now max_octets group }
 {
-    let width = row_groups_of(format);
+    let width = format.row_groups();
     let mut row = group / width;
     let mut first = group % width;
     let mut left = next_of(format, max_octets, group) - group;

@@ -13,7 +13,7 @@ ghost use Rattle.packet_plan.specs.Sent.{run_values};
 ghost use Rattle.packet_plan.specs.Text.{AreRuns, HasHead, IsStamp, datagram_text};
 ghost use Rattle.packet_plan.specs.Text.{head_of as head_at, header_of, run_octets};
 
-use crate::greedy::{group_octets_of, row_groups_of};
+use crate::greedy::group_octets_of;
 use crate::raster::Raster;
 use crate::run::PacketRun;
 use crate::stamp::Stamp;
@@ -100,7 +100,7 @@ fn run_samples<A: Allocator>(picture: &Picture<A>, run: PacketRun) -> &[u16]
 {
     let format = picture.format();
     let samples = format.pgroup().samples;
-    let start = (run.row * row_groups_of(&format) + run.first) as usize * samples;
+    let start = (run.row * format.row_groups() + run.first) as usize * samples;
     let (_, from) = picture.samples().split_at(start);
     let (values, _) = from.split_at(run.groups as usize * samples);
     values
@@ -143,7 +143,7 @@ fn packed_run<A: Allocator>(picture: &PackedPicture<A>, run: PacketRun) -> &[u8]
 {
     let format = picture.format();
     let size = group_octets_of(&format) as usize;
-    let start = (run.row * row_groups_of(&format) + run.first) as usize * size;
+    let start = (run.row * format.row_groups() + run.first) as usize * size;
     let octets = picture.octets();
     are_octets(octets);
     let (_, from) = octets.split_at(start);

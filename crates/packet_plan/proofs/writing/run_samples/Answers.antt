@@ -11,10 +11,10 @@ pub split_at-requires : goal.split_at-requires
 split_at-requires g c =
     omega (
       arith,
-      run_inside c.args.picture.now c.args.run c.row_groups_of.result
+      run_inside c.args.picture.now c.args.run c.row_groups.result
           c.pgroup-samples.result.samples
           (length c.samples.result.now) c.samples.ensures.whole c.requires
-          (c.row_groups_of.ensures.value ∙ ap row_groups c.format-format.ensures.value)
+          (c.row_groups.ensures.value ∙ ap row_groups c.format-format.ensures.value)
           (c.pgroup-samples.ensures.samples ∙ ap group_samples c.format-format.ensures.value)
           (ap length c.samples.ensures.value),
     )
@@ -24,20 +24,20 @@ split_at-requires-2 g c =
     omega (
       arith,
       c.split_at.ensures.back_len,
-      run_inside c.args.picture.now c.args.run c.row_groups_of.result
+      run_inside c.args.picture.now c.args.run c.row_groups.result
           c.pgroup-samples.result.samples
           (length c.samples.result.now) c.samples.ensures.whole c.requires
-          (c.row_groups_of.ensures.value ∙ ap row_groups c.format-format.ensures.value)
+          (c.row_groups.ensures.value ∙ ap row_groups c.format-format.ensures.value)
           (c.pgroup-samples.ensures.samples ∙ ap group_samples c.format-format.ensures.value)
           (ap length c.samples.ensures.value),
     )
 
 pub returns-clause-value : goal.returns-clause-value
 returns-clause-value g c =
-    run_is c.args.picture.now c.args.run c.row_groups_of.result c.pgroup-samples.result.samples
+    run_is c.args.picture.now c.args.run c.row_groups.result c.pgroup-samples.result.samples
     c.samples.result.now c.split_at.result.1.now c.split_at-2.result.0.now
     c.samples.ensures.whole c.requires
-    (c.row_groups_of.ensures.value ∙ ap row_groups c.format-format.ensures.value)
+    (c.row_groups.ensures.value ∙ ap row_groups c.format-format.ensures.value)
     (c.pgroup-samples.ensures.samples ∙ ap group_samples c.format-format.ensures.value)
     c.samples.ensures.value c.split_at.ensures.back c.split_at-2.ensures.front
 
@@ -49,36 +49,36 @@ returns-clause-fit g c =
 pub overflow_mul-start : goal.overflow_mul-start
 overflow_mul-start g c =
     let below =
-    place_below c.args.picture.now.format c.args.run c.row_groups_of.result c.requires
-    (c.row_groups_of.ensures.value ∙ ap row_groups c.format-format.ensures.value)
-    (omega (arith, c.row_groups_of.ensures.value, c.row_groups_of.ensures.most)) in
+    place_below c.args.picture.now.format c.args.run c.row_groups.result c.requires
+    (c.row_groups.ensures.value ∙ ap row_groups c.format-format.ensures.value)
+    (omega (arith, c.row_groups.ensures.value, c.row_groups.ensures.most)) in
     omega (arith, below)
 
 pub overflow_add-start : goal.overflow_add-start
 overflow_add-start g c =
     let below =
-    place_below c.args.picture.now.format c.args.run c.row_groups_of.result c.requires
-    (c.row_groups_of.ensures.value ∙ ap row_groups c.format-format.ensures.value)
-    (omega (arith, c.row_groups_of.ensures.value, c.row_groups_of.ensures.most)) in
+    place_below c.args.picture.now.format c.args.run c.row_groups.result c.requires
+    (c.row_groups.ensures.value ∙ ap row_groups c.format-format.ensures.value)
+    (omega (arith, c.row_groups.ensures.value, c.row_groups.ensures.most)) in
     omega (arith, below)
 
 pub overflow_cast-start : goal.overflow_cast-start
 overflow_cast-start g c =
     let below =
-    place_below c.args.picture.now.format c.args.run c.row_groups_of.result c.requires
-    (c.row_groups_of.ensures.value ∙ ap row_groups c.format-format.ensures.value)
-    (omega (arith, c.row_groups_of.ensures.value, c.row_groups_of.ensures.most)) in
+    place_below c.args.picture.now.format c.args.run c.row_groups.result c.requires
+    (c.row_groups.ensures.value ∙ ap row_groups c.format-format.ensures.value)
+    (omega (arith, c.row_groups.ensures.value, c.row_groups.ensures.most)) in
     omega (arith, below)
 
 pub overflow_mul-start-2 : goal.overflow_mul-start-2
 overflow_mul-start-2 g c =
     let below =
-    place_below c.args.picture.now.format c.args.run c.row_groups_of.result c.requires
-    (c.row_groups_of.ensures.value ∙ ap row_groups c.format-format.ensures.value)
-    (omega (arith, c.row_groups_of.ensures.value, c.row_groups_of.ensures.most)) in
+    place_below c.args.picture.now.format c.args.run c.row_groups.result c.requires
+    (c.row_groups.ensures.value ∙ ap row_groups c.format-format.ensures.value)
+    (omega (arith, c.row_groups.ensures.value, c.row_groups.ensures.most)) in
     omega (
       arith,
-      mul-le (c.args.run.row * c.row_groups_of.result + c.args.run.first)
+      mul-le (c.args.run.row * c.row_groups.result + c.args.run.first)
           c.pgroup-samples.result.samples (8192 * 8192 + 8192) 12 below
           c.pgroup-samples.ensures.most.2,
     )
@@ -86,9 +86,9 @@ overflow_mul-start-2 g c =
 pub overflow_mul-run : goal.overflow_mul-run
 overflow_mul-run g c =
     let below =
-    groups_below c.args.picture.now.format c.args.run c.row_groups_of.result c.requires
-    (c.row_groups_of.ensures.value ∙ ap row_groups c.format-format.ensures.value)
-    (omega (arith, c.row_groups_of.ensures.value, c.row_groups_of.ensures.most)) in
+    groups_below c.args.picture.now.format c.args.run c.row_groups.result c.requires
+    (c.row_groups.ensures.value ∙ ap row_groups c.format-format.ensures.value)
+    (omega (arith, c.row_groups.ensures.value, c.row_groups.ensures.most)) in
     omega (
       arith,
       mul-le c.args.run.groups c.pgroup-samples.result.samples 8192 12 below
