@@ -7,7 +7,6 @@ ghost use Rattle.media_file.specs.Groups.{groups_at};
 ghost use Rattle.receiver_file.specs.Known.{row_cut, rows_cut, shape_in};
 
 use crate::known::read_group;
-use crate::rows::groups_in_row;
 use frame_assembly::Frame;
 use media_file::FileFault;
 use st_format::ByteSource;
@@ -53,7 +52,7 @@ fn read_row<A: Allocator, S: ByteSource>(
         (S.to_give source.old) f) }
     ensures counted { CountsDevice (S.failures source.old) (S.failures source.new) result }
 {
-    for group in 0..groups_in_row(&frame.format()) {
+    for group in 0..frame.format().row_groups() {
         read_group(source, frame, row, group)?;
     }
     Ok(())

@@ -2,25 +2,17 @@
 ghost use Rattle.std.specs.Prelude.{◌≡◌, ◌<◌, ◌≤◌, ◌+◌, ◌*◌, IfOk, OnErr, OnOk, length, take};
 ghost use Rattle.std.specs.Io.KnownBytes.{Appends};
 ghost use Rattle.st_format.specs.Device.{AppendsPrefix, CountsFaults};
-ghost use Rattle.st_format.specs.Position.{row_groups};
 ghost use Rattle.media_file.specs.Groups.{groups_text};
 ghost use Rattle.receiver_file.specs.Known.{row_cut, rows_cut, shape_in};
 ghost use Rattle.receiver_file.specs.Marked.{Passes, marked_text};
 
 use crate::groups::{MOST_TEXT, put_group};
 use frame_assembly::{Frame, MOST_GROUP_OCTETS};
-use st_format::{ByteSink, DeviceFault, Format, are_octets, write_whole};
+use st_format::{ByteSink, DeviceFault, are_octets, write_whole};
 use std::alloc::Allocator;
 
 /// How many octets are gathered before a sink is asked to take them.
 const GATHERED: usize = 4096;
-
-/// How many groups a row has.
-pub(crate) fn groups_in_row(format: &Format) -> u32
-    ensures { result ≡ row_groups format.now }
-{
-    format.width() / format.pgroup().pixels
-}
 
 /// Writes the groups of a frame, in raster order.
 pub(crate) fn write_rows<A: Allocator, K: ByteSink>(

@@ -26,8 +26,8 @@ pub returns-in_err-read_group-clause-fault : goal.returns-in_err-read_group-clau
 returns-in_err-read_group-clause-fault g c =
     let p = err_from_is_err_and c.from_residual.result c.from_residual.ensures.1 in
     let f : Format = c.args.frame.now.format in
-    let n : c.groups_in_row-group-end.result ≡ row_groups f =
-    c.groups_in_row-group-end.ensures
+    let n : c.row_groups-group-end.result ≡ row_groups f =
+    c.row_groups-group-end.ensures.value
     ∙ ap (λ (x : Format). row_groups x) c.format.ensures.format in
     let lt : c.loop-group.group < row_groups f =
     subst (λ (k : ℕ). c.loop-group.group < k) n c.loop-group-test.true in
@@ -45,8 +45,8 @@ read_group-requires-clause-row g c =
 pub read_group-requires-clause-group : goal.read_group-requires-clause-group
 read_group-requires-clause-group g c =
     let f : Format = c.args.frame.now.format in
-    let n : c.groups_in_row-group-end.result ≡ row_groups f =
-    c.groups_in_row-group-end.ensures
+    let n : c.row_groups-group-end.result ≡ row_groups f =
+    c.row_groups-group-end.ensures.value
     ∙ ap (λ (x : Format). row_groups x) c.format.ensures.format in
     let lt : c.loop-group.group < row_groups f =
     subst (λ (k : ℕ). c.loop-group.group < k) n c.loop-group-test.true in
@@ -119,10 +119,10 @@ returns-clause-read g c =
     let s : Shape = shape_in f in
     let old : Option (List ℕ) = g.S.ByteSource.to_give c.args.source.now in
     let new : Option (List ℕ) = g.S.ByteSource.to_give c.loop-group.source in
-    let n : c.groups_in_row-group-end.result ≡ row_groups f =
-    c.groups_in_row-group-end.ensures
+    let n : c.row_groups-group-end.result ≡ row_groups f =
+    c.row_groups-group-end.ensures.value
     ∙ ap (λ (x : Format). row_groups x) c.format.ensures.format in
-    let same : c.loop-group.group ≡ c.groups_in_row-group-end.result = omega arith in
+    let same : c.loop-group.group ≡ c.row_groups-group-end.result = omega arith in
     subst (λ (h : Format). Takes (groups_at s (row_groups f)) old new
     (row_cut (record { format = h; cells = c.loop-group.frame.cells }) c.args.row))
     (sym c.loop-group.invariant.format)
