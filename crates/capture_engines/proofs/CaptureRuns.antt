@@ -18,7 +18,7 @@ use Rattle.media_file.specs.declared.fault.FileFault.TheVariants.{TooManyRecords
 use Rattle.media_file.specs.declared.reader.Standing.{Standing}
 use Rattle.media_file.specs.declared.reader.Standing.TheVariants.{Reads, Ended, Failed}
 use Rattle.media_file.specs.Faults.{CountsFault, file_fault_number}
-use Rattle.media_file.specs.Reader.{FailsBehind, HasDelivered, StandsRight, due_of, dues_in}
+use Rattle.media_file.specs.Reader.{FailsBehind, HasDelivered, StandsRight, due_of_entry, dues_in}
 use Rattle.media_file.specs.Reader.{last_fault_of, source_fault, turns_of}
 use Rattle.media_file.specs.Reading.{entries_in, fault_at}
 use Rattle.media_file.specs.Records.{Entry}
@@ -95,21 +95,21 @@ rest_is x y xs ys e = cc
 no_end : {X : Type 0} (y : X) (xs ys : List X) → xs ≡ [] → xs ≡ y ∷ ys → ⊥
 no_end y xs ys none some = cc
 
-no_quiet : (x : Entry) (d : Due) → d ≡ due_of x → d ≡ Nothing → ⊥
+no_quiet : (x : Entry) (d : Due) → d ≡ due_of_entry x → d ≡ Nothing → ⊥
 no_quiet x d comes nothing = cc
 
-all_come : (es : List Entry) (due rest : List Due) → map due_of es ≡ due ++ rest
+all_come : (es : List Entry) (due rest : List Due) → map due_of_entry es ≡ due ++ rest
     → length (datagrams_of due) ≡ length due
 all_come es [] rest e = refl
 all_come [] (d ∷ due) rest e = absurd (no_end d [] (due ++ rest) refl e)
 all_come (x ∷ es) (Comes path octets ∷ due) rest e =
     let more : length (datagrams_of due) ≡ length due =
     all_come es due rest
-    (rest_is (due_of x) (Comes path octets) (map due_of es) (due ++ rest) e) in
+    (rest_is (due_of_entry x) (Comes path octets) (map due_of_entry es) (due ++ rest) e) in
     omega (arith, more)
 all_come (x ∷ es) (Nothing ∷ due) rest e =
-    absurd (no_quiet x (due_of x) refl
-    (first_is (due_of x) Nothing (map due_of es) (due ++ rest) e))
+    absurd (no_quiet x (due_of_entry x) refl
+    (first_is (due_of_entry x) Nothing (map due_of_entry es) (due ++ rest) e))
 
 turns_come : (octets : List ℕ) (new : Option (List Due)) (due : List Due)
     → GivesTurns (turns_of Reads (Some octets)) new due → length (datagrams_of due) ≡ length due

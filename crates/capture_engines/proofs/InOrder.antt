@@ -13,7 +13,7 @@ use Rattle.run_outcome.specs.Sources.{IsSourceText}
 use Rattle.run_outcome.specs.Timestamps.{AreTimestamps}
 use Rattle.capture_engines.specs.Printed.{received_text, tally_text}
 use Rattle.capture_engines.specs.Tallied.{Tallies}
-use Rattle.capture_engines.specs.Taking.{AllTell, Announces, Begins, IsOpeningText, OpensBy}
+use Rattle.capture_engines.specs.Taking.{AllTell, AnnouncesStream, Begins, IsOpeningText, OpensBy}
 use Rattle.capture_engines.specs.Taking.{Receives}
 use Rattle.capture_engines.specs.Taking.{SavesHolding, Stands, TakesFile, TakesFiles}
 use Rattle.capture_engines.specs.Taking.{capture_datagrams, said_behind}
@@ -155,7 +155,8 @@ saves_held o window source Is (Some said) s ds wanted shown shown' old new is_wi
       window_is = subst (λ (w : List ℕ). AreTimestamps window w) (sym stands.window) is_window;
       source_is = subst (λ (p : Option ℕ). IsSourceText source p) (sym stands.ssrc) is_source;
       announced = λ text is.
-          subst (λ (t : List ℕ). Announces t s.receiver.opening) (some_is said text (opens text is))
+          subst (λ (t : List ℕ). AnnouncesStream t s.receiver.opening)
+          (some_is said text (opens text is))
           stands.announced;
       holds = stands.holds;
       printed = subst (Appends shown shown')
@@ -212,7 +213,7 @@ pub opened_if : {A : Type 0} (o : Opening A) (r : Result (Session A) Fault)
     → ((octets : List ℕ) → to_give ≡ Some octets → octets ≡ text) → window ≡ o.window.items
     → IfOk r (λ s. s.receiver.opening.window ≡ window)
     → IfOk r (λ s. s.receiver.opening.ssrc ≡ o.ssrc)
-    → IfOk r (λ s. Announces text s.receiver.opening)
+    → IfOk r (λ s. AnnouncesStream text s.receiver.opening)
     → IfOk r (λ s. Holds s.receiver []) → IfOk r (λ s. Tallies s.tally [])
     → IfOk r (λ s. s.delivered ≡ 0)
     → IfOk r (λ s. OpensBy o to_give s)

@@ -10,7 +10,7 @@ use Rattle.media_file.specs.declared.fault.FileFault.TheVariants.{TrailingBytes,
 use Rattle.media_file.specs.declared.fault.FileFault.TheVariants.{TooManyRecords}
 use Rattle.run_outcome.specs.Fault.{IfRefused}
 use Rattle.run_outcome.specs.LowerFaults.{capture_fault}
-use Rattle.capture_engines.specs.Migrating.{Leaves, LeavesAt, LeavesBy, Migrates, MovesBy}
+use Rattle.capture_engines.specs.Migrating.{LeavesOff, LeavesAt, LeavesBy, Migrates, MovesBy}
 use Rattle.capture_engines.specs.Migrating.Leaves.{Stopped, Untouched, Written}
 use Rattle.run_outcome.specs.TextRefusals.{IsTextRefusal}
 use Rattle.run_outcome.specs.Refusing.{OfRefusal}
@@ -66,7 +66,7 @@ printed_left (Err fault.Memory) sdp_old sdp_new old new all none = Written all
 
 -- however the run ended
 left_by : (f : Fault) (sdp_old sdp_new : Option (List ℕ)) (old new : Devices)
-    → LeavesBy f sdp_old sdp_new old new → Leaves sdp_old sdp_new old new
+    → LeavesBy f sdp_old sdp_new old new → LeavesOff sdp_old sdp_new old new
 left_by (fault.Refused (why.Capture f)) sdp_old sdp_new old new is = Stopped f is
 left_by (fault.Refused r) sdp_old sdp_new old new is = Untouched is
 left_by fault.Device sdp_old sdp_new old new is = is
@@ -75,7 +75,7 @@ left_by fault.Memory sdp_old sdp_new old new is = is
 pub run_left : {V : Type 0} (r : Result V Fault) (sdp_old sdp_new : Option (List ℕ))
     (old new : Devices)
     → OnOk r (Migrates sdp_old sdp_new old.to_give new.to_give old.held new.held)
-    → IfErr r (λ f. LeavesBy f sdp_old sdp_new old new) → Leaves sdp_old sdp_new old new
+    → IfErr r (λ f. LeavesBy f sdp_old sdp_new old new) → LeavesOff sdp_old sdp_new old new
 run_left (Ok v) sdp_old sdp_new old new all is = Written all
 run_left (Err f) sdp_old sdp_new old new all is = left_by f sdp_old sdp_new old new is
 

@@ -5,11 +5,11 @@ use Rattle.packet_plan.specs.declared.plan.PlanFault.TheVariants.{NoMemory, BadP
 use Rattle.st_format.specs.declared.format.Format.{Format}
 use Rattle.run_outcome.specs.LowerFaults.{of_plan}
 use Rattle.run_outcome.specs.Refusing.{OfRefusal}
-use Rattle.run_outcome.specs.Pictures.{IsPlanFault, SaysFormat}
+use Rattle.run_outcome.specs.Pictures.{IsPlanFault, SaysPictureOf}
 use Rattle.capture_engines.specs.Looped.{IsLoopRefusal}
 
 -- the picture's format has no plan
-pub plan_refused : (most : ℕ) (told : Option (List ℕ)) (format : Format) → SaysFormat told format
+pub plan_refused : (most : ℕ) (told : Option (List ℕ)) (format : Format) → SaysPictureOf told format
     → (e : PlanFault) → (e ≡ BadPacketSize → IsPlanFault most format BadPacketSize)
     → OfRefusal (of_plan e) (IsLoopRefusal most told)
 plan_refused most told format says NoMemory is = tt

@@ -37,7 +37,7 @@ use Rattle.run_outcome.specs.Text.{GivesText}
 use Rattle.run_outcome.proofs.Refusals.{all_given}
 use Rattle.capture_engines.specs.Sending.{HasSent, SayPictures, SendsFirstAndRest, SendsMore}
 use Rattle.capture_engines.specs.Sending.{SaysSdp, SendsNext, SendsPictures, SendsRest, SendsTo}
-use Rattle.capture_engines.specs.Sending.{sender_of}
+use Rattle.capture_engines.specs.Sending.{run_sender}
 use Rattle.capture_engines.specs.Writing.{WritesPicture}
 use Rattle.capture_engines.specs.declared.sender.Sender.{Sender as Sends}
 use Rattle.capture_engines.specs.declared.sender.Sending.{Sending}
@@ -190,18 +190,18 @@ pub has_more : {A K : Type 0} {G : Ghosts K} (held : K → Option (List ℕ)) (w
     → length ps ≡ k → HasSent held wanted text start ps old → SendsNext held p k old new
     → HasSent held wanted text start (ps ++ p ∷ []) new
 has_more held wanted text start ps p k old new count has sends =
-    let w : WritesPicture held p (stamp_of (sender_of old.plan.format old.wanted) k old.next)
+    let w : WritesPicture held p (stamp_of (run_sender old.plan.format old.wanted) k old.next)
     old.plan old.writer new.writer = sends.written in
     let same : old.plan.format ≡ new.plan.format =
     ap (λ (x : RasterPlan). x.format) (sym sends.plan) in
-    let by : Sender = sender_of old.plan.format wanted in
+    let by : Sender = run_sender old.plan.format wanted in
     let at : k ≡ 0 + length ps = omega arith in
     let picture : IsSentPicture w.datagrams p (stamp_of by (0 + length ps) old.next)
     old.plan.max_octets old.plan.packets =
     subst (λ (i : ℕ). IsSentPicture w.datagrams p (stamp_of by i old.next) old.plan.max_octets
     old.plan.packets) at
     (subst (λ (v : Sending). IsSentPicture w.datagrams p
-    (stamp_of (sender_of old.plan.format v) k old.next) old.plan.max_octets old.plan.packets)
+    (stamp_of (run_sender old.plan.format v) k old.next) old.plan.max_octets old.plan.packets)
     has.wanted_is w.sent) in
     record {
       datagrams = has.datagrams ++ w.datagrams;
@@ -210,7 +210,7 @@ has_more held wanted text start ps p k old new count has sends =
       moment = moment_both wanted.paths old.writer.place.paths 0 old.writer.place.moment
           new.writer.place.moment has.datagrams w.datagrams has.paths has.moment w.written.moment;
       sent =
-          subst (λ (f : Format). SendsTo (sender_of f wanted) 0 (ps ++ p ∷ []) wanted.first
+          subst (λ (f : Format). SendsTo (run_sender f wanted) 0 (ps ++ p ∷ []) wanted.first
           (has.datagrams ++ w.datagrams) new.next) same
           (subst (λ (n : ℕ). SendsTo by 0 (ps ++ p ∷ []) wanted.first
           (has.datagrams ++ w.datagrams) n) (sym sends.next)
@@ -354,9 +354,9 @@ first_and_rest_sent {S} {A} {K} {G} f held wanted text p sources start last_held
         sent = record {
           few = omega (arith, few, count);
           sent =
-              subst (λ (x : Format). SendsFrom (sender_of x wanted) 0 ps wanted.first
+              subst (λ (x : Format). SendsFrom (run_sender x wanted) 0 ps wanted.first
               has.datagrams) (sym format)
-              (sends_from (sender_of last.plan.format wanted) 0 wanted.first last.next ps
+              (sends_from (run_sender last.plan.format wanted) 0 wanted.first last.next ps
               has.datagrams has.sent);
         };
         taken = subst

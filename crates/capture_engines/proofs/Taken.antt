@@ -22,7 +22,8 @@ use Rattle.capture_engines.specs.Tallied.{Tallies, tally_after}
 use Rattle.capture_engines.specs.declared.tally.Tally.{Tally}
 use Rattle.capture_engines.proofs.Tallies.{tallies_all}
 use Rattle.capture_engines.specs.Taking.{TakesBehind, TakesFile}
-use Rattle.capture_engines.specs.Taking.{Announces, AreAll, Counts, HoldsBy, Stands, TakesAllDue}
+use Rattle.capture_engines.specs.Taking.{AnnouncesStream, AreAll, Counts, HoldsBy, Stands}
+use Rattle.capture_engines.specs.Taking.{TakesAllDue}
 use Rattle.capture_engines.specs.Taking.{TakesRecords, capture_datagrams, capture_said}
 use Rattle.capture_engines.specs.Taking.{datagrams_behind, said_before, said_behind}
 use Rattle.capture_engines.specs.declared.receiving.Opening.{Opening}
@@ -114,7 +115,8 @@ holds_by o b a told left text octets said ds gives taken is holds =
     subst (λ (xs : List (List ℕ)). HoldsBy o said a (ds ++ xs)) (sym same) (record {
       window = ap (λ (p : Opened). p.window) taken.opening ∙ holds.window;
       ssrc = ap (λ (p : Opened). p.ssrc) taken.opening ∙ holds.ssrc;
-      announced = subst (λ (p : Opened). Announces said p) (sym taken.opening) holds.announced;
+      announced = subst (λ (p : Opened). AnnouncesStream said p)
+          (sym taken.opening) holds.announced;
       holds = taken.holds f.0 ds f.1 holds.holds;
       tallied = taken.tallied f.0 ds f.1 holds.tallied;
       delivered = omega (arith, count, holds.delivered, length-append ds more);

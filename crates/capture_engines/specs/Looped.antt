@@ -1,7 +1,7 @@
 -- Which refusal ends a run of `loop` (own).
 use Rattle.std.specs.Prelude.{ℕ, List, Option}
 use Rattle.st_format.specs.declared.format.Format.{Format}
-use Rattle.run_outcome.specs.Pictures.{IsPictureRefusal, IsPlanFault, SaysFormat}
+use Rattle.run_outcome.specs.Pictures.{IsPictureRefusal, IsPlanFault, SaysPictureOf}
 use Rattle.run_outcome.specs.declared.refusal.Refusal.{Refusal}
 use Rattle.run_outcome.specs.declared.refusal.Refusal.TheVariants as refusal
 
@@ -9,5 +9,5 @@ use Rattle.run_outcome.specs.declared.refusal.Refusal.TheVariants as refusal
 abbrev pub IsLoopRefusal : ℕ → Option (List ℕ) → Refusal → Type 0
 IsLoopRefusal most told (refusal.Picture f) = IsPictureRefusal told (refusal.Picture f)
 IsLoopRefusal most told (refusal.Plan e) =
-    (format : Format) × SaysFormat told format × IsPlanFault most format e
+    (format : Format) × SaysPictureOf told format × IsPlanFault most format e
 IsLoopRefusal most told r = ⊥

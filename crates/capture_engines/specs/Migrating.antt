@@ -39,15 +39,15 @@ LeavesAt r sdp_old sdp_new old new = new ≡ old
 
 -- What a run did that didn't end at 0: the capture was neither read nor written; or it was written
 -- up to a fault; or all of it was, and printing failed.
-pub data Leaves (sdp_old sdp_new : Option (List ℕ)) (old new : Devices) : Type 0 where
-  Untouched : new ≡ old → Leaves sdp_old sdp_new old new
+pub data LeavesOff (sdp_old sdp_new : Option (List ℕ)) (old new : Devices) : Type 0 where
+  Untouched : new ≡ old → LeavesOff sdp_old sdp_new old new
   Stopped : (f : FileFault) → StopsMoving f sdp_old sdp_new old new
-      → Leaves sdp_old sdp_new old new
+      → LeavesOff sdp_old sdp_new old new
   Written : Migrates sdp_old sdp_new old.to_give new.to_give old.held new.held
-      → Leaves sdp_old sdp_new old new
+      → LeavesOff sdp_old sdp_new old new
 
 -- the same by the fault that ended the run
 abbrev pub LeavesBy : Fault → Option (List ℕ) → Option (List ℕ) → Devices → Devices → Type 0
 LeavesBy (fault.Refused r) sdp_old sdp_new old new = LeavesAt r sdp_old sdp_new old new
-LeavesBy fault.Device sdp_old sdp_new old new = Leaves sdp_old sdp_new old new
-LeavesBy fault.Memory sdp_old sdp_new old new = Leaves sdp_old sdp_new old new
+LeavesBy fault.Device sdp_old sdp_new old new = LeavesOff sdp_old sdp_new old new
+LeavesBy fault.Memory sdp_old sdp_new old new = LeavesOff sdp_old sdp_new old new

@@ -15,7 +15,7 @@ use Rattle.capture_engines.specs.Tallied.{fitting, is_outside, is_refusal, place
 use Rattle.run_outcome.specs.declared.line.Line.{Line}
 use Rattle.run_outcome.specs.declared.line.Line.TheVariants.{Delivered, OutsideCount, RefusedCount}
 use Rattle.capture_engines.specs.declared.tally.Tally.{Tally}
-use Rattle.run_outcome.specs.Frames.{frames_text}
+use Rattle.run_outcome.specs.Frames.{frame_lines}
 
 -- ---- refusals
 
@@ -68,7 +68,7 @@ if_wanted false lines = []
 abbrev pub received_text : Bool → ℕ → List ℕ → State → List ℕ
 received_text wanted delivered counts receiver =
     (line_text (Delivered delivered) ++ 10 ∷ [])
-    ++ (if_wanted wanted counts ++ frames_text receiver)
+    ++ (if_wanted wanted counts ++ frame_lines receiver)
 
 -- those of a receiver that was given these datagrams
 abbrev pub taken_text : Bool → State → List (List ℕ) → List ℕ

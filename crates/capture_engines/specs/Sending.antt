@@ -15,8 +15,8 @@ use Rattle.capture_engines.specs.declared.sender.Sender.{Sender as Sends}
 use Rattle.capture_engines.specs.declared.sender.Sending.{Sending}
 
 -- what is the same for all pictures of a run
-abbrev pub sender_of : Format → Sending → Sender
-sender_of format wanted =
+abbrev pub run_sender : Format → Sending → Sender
+run_sender format wanted =
     record {
       format = format;
       base = wanted.base;
@@ -34,7 +34,7 @@ number_behind first plan = (first + length plan.packets) % 2 ^ 32
 pub record SendsNext {A K : Type 0} {G : Ghosts K} (held : K → Option (List ℕ)) (p : Values) (k : ℕ)
     (old new : Sends A K G) : Type 0 where
   pub format : p.format ≡ old.plan.format
-  pub written : WritesPicture held p (stamp_of (sender_of old.plan.format old.wanted) k old.next)
+  pub written : WritesPicture held p (stamp_of (run_sender old.plan.format old.wanted) k old.next)
       old.plan old.writer new.writer
   pub next : new.next ≡ number_behind old.next old.plan
   pub plan : new.plan ≡ old.plan
@@ -57,7 +57,7 @@ pub record HasSent {A K : Type 0} {G : Ghosts K} (held : K → Option (List ℕ)
   pub wanted_is : s.wanted ≡ wanted
   pub paths : s.writer.place.paths ≡ wanted.paths
   pub moment : s.writer.place.moment ≡ moment_after wanted.paths 0 datagrams
-  pub sent : SendsTo (sender_of s.plan.format wanted) 0 pictures wanted.first datagrams s.next
+  pub sent : SendsTo (run_sender s.plan.format wanted) 0 pictures wanted.first datagrams s.next
   pub taken : Appends start (held s.writer.sink) (written_text wanted.paths text datagrams)
 
 -- a sender that had sent k pictures sent these behind them
@@ -93,7 +93,7 @@ pub record SendsEach {S A K : Type 0} {G : Ghosts K} (to_give : S → Option (Li
 pub record TakesCapture (wanted : Sending) (text : List ℕ) (format : Format)
     (pictures : List Values) (old new : Option (List ℕ)) : Type 0 where
   pub datagrams : List (List ℕ)
-  pub sent : IsSenderList datagrams (sender_of format wanted) wanted.first pictures
+  pub sent : IsSenderList datagrams (run_sender format wanted) wanted.first pictures
   pub taken : Appends old new (written_text wanted.paths text datagrams)
 
 -- so it is of pictures of the first one's format; where there is none, nothing is written

@@ -4,7 +4,7 @@ use Rattle.st_format.specs.declared.format.Format.{Format}
 use Rattle.run_outcome.specs.TextRefusals.{IsTextRefusal}
 use Rattle.run_outcome.specs.declared.refusal.Refusal.{Refusal}
 use Rattle.run_outcome.specs.declared.refusal.Refusal.TheVariants as refusal
-use Rattle.run_outcome.specs.Pictures.{IsPictureRefusal, SaysFormat, IsPlanFault}
+use Rattle.run_outcome.specs.Pictures.{IsPictureRefusal, SaysPictureOf, IsPlanFault}
 
 -- ---- one of a list
 
@@ -23,14 +23,14 @@ OneIs Is (s ∷ ss) = Is s ⊎ OneIs Is ss
 -- so it is of another format
 pub record SaysOther (told : Option (List ℕ)) (format : Format) : Type 0 where
   pub other : Format
-  pub says : SaysFormat told other
+  pub says : SaysPictureOf told other
   pub unlike : other ≡ format → ⊥
 
 -- ---- the pictures
 
 -- the first of some pictures is of this format
 abbrev pub FirstSays : {S : Type 0} → (S → Option (List ℕ)) → Format → List S → Type 0
-FirstSays f format pictures = FirstIs (λ s. SaysFormat (f s) format) pictures
+FirstSays f format pictures = FirstIs (λ s. SaysPictureOf (f s) format) pictures
 
 -- The refusals of the pictures behind the first, which is of this format: of a file; that one is of
 -- another format.

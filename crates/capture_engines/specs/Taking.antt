@@ -49,7 +49,7 @@ said_behind None [] = None
 said_behind None (octets ∷ captures) = Some (capture_said octets)
 
 -- An SDP text announces what a receiver takes: the text says its format and its payload type.
-pub record Announces (text : List ℕ) (opening : Opened) : Type 0 where
+pub record AnnouncesStream (text : List ℕ) (opening : Opened) : Type 0 where
   pub description : Description
   pub described : IsDescribed (video_sections (lines text)) description
   pub format : fields_of opening.format ≡ description.leg.format
@@ -104,7 +104,7 @@ pub record HoldsBy {A : Type 0} (o : Opening A) (text : List ℕ) (s : Session A
     (datagrams : List (List ℕ)) : Type 0 where
   pub window : s.receiver.opening.window ≡ o.window.items
   pub ssrc : s.receiver.opening.ssrc ≡ o.ssrc
-  pub announced : Announces text s.receiver.opening
+  pub announced : AnnouncesStream text s.receiver.opening
   pub holds : Holds s.receiver datagrams
   pub tallied : Counts s datagrams
   pub delivered : s.delivered ≡ min (length datagrams) (2 ^ 64 - 1)
@@ -171,7 +171,7 @@ pub record SavesHolding (window source : List ℕ) (IsText : List ℕ → Type 0
   pub receiver : State
   pub window_is : AreTimestamps window receiver.opening.window
   pub source_is : IsSourceText source receiver.opening.ssrc
-  pub announced : (text : List ℕ) → IsText text → Announces text receiver.opening
+  pub announced : (text : List ℕ) → IsText text → AnnouncesStream text receiver.opening
   pub holds : Holds receiver datagrams
   pub printed : Appends shown shown' (taken_text wanted receiver datagrams)
   pub taken : Appends old new (state_text (kept_of receiver))

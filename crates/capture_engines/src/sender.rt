@@ -43,7 +43,7 @@ pub(crate) struct Sender<A: Allocator, K: ByteSink> {
 }
 
 impl<A: Allocator, K: ByteSink> Sender<A, K> {
-    ghost use Rattle.capture_engines.specs.Sending.{SendsNext, sender_of};
+    ghost use Rattle.capture_engines.specs.Sending.{SendsNext, run_sender};
 
     /// Nothing was sent yet.
     pub fn new(plan: Plan<A>, writer: CaptureWriter<K>, wanted: Sending) -> Sender<A, K>
@@ -106,7 +106,7 @@ impl<A: Allocator, K: ByteSink> Sender<A, K> {
 
     /// The stamp of the picture of this place, whose packets go on from the next number.
     fn stamp(&self, format: &Format, place: u32) -> Stamp
-        ensures value { result ≡ stamp_of (sender_of format.now self.now.wanted) place
+        ensures value { result ≡ stamp_of (run_sender format.now self.now.wanted) place
             self.now.next }
         ensures payload_type { result.payload_type ≤ 127 }
     {

@@ -8,7 +8,7 @@ ghost use Rattle.run_outcome.specs.Fault.{Accounts, counts};
 ghost use Rattle.run_outcome.specs.LowerFaults.{capture_fault};
 ghost use Rattle.capture_engines.specs.Received.{HasRecordFault, IsFileRefusal, IsOpeningRefusal};
 ghost use Rattle.run_outcome.specs.Refusing.{OfRefusal};
-ghost use Rattle.capture_engines.specs.Taking.{Announces, TakesRecords};
+ghost use Rattle.capture_engines.specs.Taking.{AnnouncesStream, TakesRecords};
 ghost use Rattle.capture_engines.specs.Tallied.{Tallies};
 ghost use Rattle.path_merge.specs.declared.receiving.ReceiveFault.{ReceiveFault};
 ghost use Rattle.path_merge.specs.declared.receiving.Received.{Received};
@@ -46,7 +46,7 @@ impl<A: Allocator + Copy> Session<A> {
         ensures window { IfOk result (λ s. s.receiver.opening.window ≡ window.now) }
         ensures ssrc { IfOk result (λ s. s.receiver.opening.ssrc ≡ ssrc) }
         // Its format and its payload type are those that the text says.
-        ensures announced { IfOk result (λ s. Announces sdp.now s.receiver.opening) }
+        ensures announced { IfOk result (λ s. AnnouncesStream sdp.now s.receiver.opening) }
         ensures holds { IfOk result (λ s. Holds s.receiver []) }
         ensures tallied { IfOk result (λ s. Tallies s.tally []) }
         ensures delivered { IfOk result (λ s. s.delivered ≡ 0) }

@@ -5,7 +5,7 @@ use Rattle.media_file.specs.declared.front.Version.TheVariants.{One}
 use Rattle.media_file.specs.Fronts.{kind_text, picture_name}
 use Rattle.media_file.specs.PictureFaults.{HasCutBlock, HasCutGroups, IsCutPicture, picture_place}
 use Rattle.media_file.specs.PictureFaults.IsCutPicture.{Kind, Block, Groups}
-use Rattle.media_file.specs.PictureFile.{head_of}
+use Rattle.media_file.specs.PictureFile.{picture_head}
 
 block_size : (octets : List ℕ) (h : HasCutBlock octets) → length octets ≡ 8 + length h.behind
 block_size octets h =
@@ -13,7 +13,7 @@ block_size octets h =
 
 groups_size : (octets : List ℕ) (h : HasCutGroups octets) → length octets ≡ 22 + length h.behind
 groups_size octets h =
-    ap length h.head.whole ∙ length-append (head_of h.format) h.behind
+    ap length h.head.whole ∙ length-append (picture_head h.format) h.behind
 
 kind_or_block : (octets : List ℕ) → length octets < 8 → HasCutBlock octets → ⊥
 kind_or_block octets lt h = omega (arith, block_size octets h)

@@ -8,7 +8,7 @@ use Rattle.st_format.specs.Turns.{Comes, GivesTurns, HasEnded}
 use Rattle.media_file.specs.declared.fault.FileFault.{FileFault}
 use Rattle.media_file.specs.declared.reader.Standing.{Standing}
 use Rattle.media_file.specs.declared.reader.Standing.TheVariants.{Reads}
-use Rattle.media_file.specs.Reader.{due_of, dues_in, turns_of}
+use Rattle.media_file.specs.Reader.{due_of_entry, dues_in, turns_of}
 use Rattle.media_file.specs.Reading.{entries_by, entries_up_to, entries_in, rest_at}
 use Rattle.media_file.specs.Records.{Entry, Fits, record_text, rest_text}
 use Rattle.media_file.specs.Source.{ReadsEnd, ReadsRecord}
@@ -61,7 +61,7 @@ gives_first : (old new : Option (List ℕ)) (e : Entry) → ReadsRecord old new 
 gives_first None new e is = tt
 gives_first (Some o) None e is = absurd is.given
 gives_first (Some o) (Some behind) e is =
-    ap dues_in is.given ∙ ap (map due_of) (entries_first e behind is.fits)
+    ap dues_in is.given ∙ ap (map due_of_entry) (entries_first e behind is.fits)
 
 -- a reader gives the record that its source gives
 pub gives_record : (s t : Standing) (old new : Option (List ℕ)) (e : Entry) → s ≡ Reads → t ≡ Reads
@@ -74,7 +74,7 @@ gives_none : (old : Option (List ℕ)) → IsAtEnd old
     → GivesTurns (option_map dues_in old) (Some []) [] × HasEnded (option_map dues_in old)
 gives_none None e = (tt, tt)
 gives_none (Some o) e = let none : dues_in o ≡ [] =
-    ap dues_in e ∙ ap (map due_of) entries_none in (none, none)
+    ap dues_in e ∙ ap (map due_of_entry) entries_none in (none, none)
 
 -- and is at its end where its source is
 pub gives_end : (s : Standing) (old new : Option (List ℕ)) → s ≡ Reads → ReadsEnd old new

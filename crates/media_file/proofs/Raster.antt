@@ -26,7 +26,7 @@ use Rattle.media_file.specs.declared.front.Version.TheVariants.{One}
 use Rattle.media_file.specs.Blocks.{block_at}
 use Rattle.media_file.specs.Fields.{Fails, Takes, field_at, nothing_at}
 use Rattle.media_file.specs.Fronts.{picture_name, with_rest}
-use Rattle.media_file.specs.PictureFile.{GivesSpelled, Shown, head_of, one_at}
+use Rattle.media_file.specs.PictureFile.{GivesSpelled, Shown, picture_head, one_at}
 use Rattle.media_file.specs.PictureFile.{picture_walk, picture_text, raster_at, raster_octets}
 use Rattle.media_file.specs.PictureFile.{shown_by}
 use Rattle.media_file.proofs.Parsing.{fails_first, fails_then, gives_field, gives_pure}
@@ -87,8 +87,8 @@ picture_bits p f vs is e s =
 -- ---- written
 
 heads : (p : Values) (f : Format) → f ≡ p.format
-    → head_of (fields_of f) ≡ head_of (fields_of p.format)
-heads p f e = ap (λ (x : Format). head_of (fields_of x)) e
+    → picture_head (fields_of f) ≡ picture_head (fields_of p.format)
+heads p f e = ap (λ (x : Format). picture_head (fields_of x)) e
 
 bodies : (p : Values) (f : Format) (vs : List ℕ) → f ≡ p.format → vs ≡ p.samples
     → octets_in (bits_of f.depth) vs ≡ octets_in (bits_of p.format.depth) p.samples
@@ -97,28 +97,28 @@ bodies p f vs e s =
     ∙ ap (octets_in (bits_of p.format.depth)) s
 
 pub cut_head : (p : Values) (f : Format) (old new : Option (List ℕ)) → f ≡ p.format
-    → AppendsPrefix old new (head_of (fields_of f)) → AppendsPrefix old new (picture_text p)
+    → AppendsPrefix old new (picture_head (fields_of f)) → AppendsPrefix old new (picture_text p)
 unfolding picture_text
 cut_head p f old new e q =
-    prefix_first old new (head_of (fields_of p.format))
+    prefix_first old new (picture_head (fields_of p.format))
     (octets_in (bits_of p.format.depth) p.samples) (subst (AppendsPrefix old new) (heads p f e) q)
 
 pub cut_body : (p : Values) (f : Format) (vs : List ℕ) (old mid new : Option (List ℕ))
-    → f ≡ p.format → vs ≡ p.samples → Appends old mid (head_of (fields_of f))
+    → f ≡ p.format → vs ≡ p.samples → Appends old mid (picture_head (fields_of f))
     → AppendsPrefix mid new (octets_in (bits_of f.depth) vs)
     → AppendsPrefix old new (picture_text p)
 unfolding picture_text
 cut_body p f vs old mid new e s q r =
-    prefix_then old mid new (head_of (fields_of p.format))
+    prefix_then old mid new (picture_head (fields_of p.format))
     (octets_in (bits_of p.format.depth) p.samples) (subst (Appends old mid) (heads p f e) q)
     (subst (AppendsPrefix mid new) (bodies p f vs e s) r)
 
 pub all_written : (p : Values) (f : Format) (vs : List ℕ) (old mid new : Option (List ℕ))
-    → f ≡ p.format → vs ≡ p.samples → Appends old mid (head_of (fields_of f))
+    → f ≡ p.format → vs ≡ p.samples → Appends old mid (picture_head (fields_of f))
     → Appends mid new (octets_in (bits_of f.depth) vs) → Appends old new (picture_text p)
 unfolding picture_text
 all_written p f vs old mid new e s q r =
-    Appends-trans old mid new (head_of (fields_of p.format))
+    Appends-trans old mid new (picture_head (fields_of p.format))
     (octets_in (bits_of p.format.depth) p.samples) (subst (Appends old mid) (heads p f e) q)
     (subst (Appends mid new) (bodies p f vs e s) r)
 

@@ -9,7 +9,7 @@ use Rattle.media_file.specs.declared.fault.FileFault.TheVariants.{BadField, Trai
 use Rattle.media_file.specs.declared.front.Version.TheVariants.{One}
 use Rattle.media_file.specs.Fronts.{kind_text, picture_name}
 use Rattle.media_file.specs.KindFaults.{HasKind, HasOtherName, IsCutKind}
-use Rattle.media_file.specs.PictureFile.{head_of, raster_octets}
+use Rattle.media_file.specs.PictureFile.{picture_head, raster_octets}
 use Rattle.media_file.specs.StateFile.{FitsBlock, format_text}
 
 -- A format that there is, with its rate in lowest terms.
@@ -40,7 +40,7 @@ pub record HasNoFormat (octets : List ℕ) : Type 0 where
 -- The head of a picture of some format, and these octets behind it.
 pub record HasPictureHead (octets : List ℕ) (format : Fields) (behind : List ℕ) : Type 0 where
   pub is : IsFormat format
-  pub whole : octets ≡ head_of format ++ behind
+  pub whole : octets ≡ picture_head format ++ behind
 
 -- fewer octets behind the head than the pgroups take
 pub record HasCutGroups (octets : List ℕ) : Type 0 where

@@ -25,12 +25,12 @@ abbrev pub shown_of : Values → Shown
 shown_of p = record { format = fields_of p.format; samples = p.samples }
 
 -- name, version and format block: what stands before the pgroups
-abbrev pub head_of : Fields → List ℕ
-head_of f = kind_text picture_name One ++ format_text f
+abbrev pub picture_head : Fields → List ℕ
+picture_head f = kind_text picture_name One ++ format_text f
 
 -- A picture's file: its head, and all pgroups in raster order, packed.
 unfoldable pub picture_text : Values → List ℕ
-picture_text p = head_of (fields_of p.format) ++ octets_in (bits_of p.format.depth) p.samples
+picture_text p = picture_head (fields_of p.format) ++ octets_in (bits_of p.format.depth) p.samples
 
 -- The octets are the file of this picture.
 pub record IsPictureFile (octets : List ℕ) (p : Values) : Type 0 where

@@ -19,12 +19,12 @@ use Rattle.media_file.specs.Records.{Entry}
 use Rattle.media_file.specs.Source.{FailsRecord, GivesRecords, ReadsRecord}
 
 -- a record as a turn
-abbrev pub due_of : Entry → Due
-due_of e = Comes e.path e.octets
+abbrev pub due_of_entry : Entry → Due
+due_of_entry e = Comes e.path e.octets
 
 -- the turns of octets: their records in order, up to their first fault
 abbrev pub dues_in : List ℕ → List Due
-dues_in octets = map due_of (entries_in octets)
+dues_in octets = map due_of_entry (entries_in octets)
 
 -- The turns to come. After the end, and after a fault, no datagram comes.
 abbrev pub turns_of : Standing → Option (List ℕ) → Option (List Due)

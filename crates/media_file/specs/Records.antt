@@ -51,5 +51,5 @@ pub record IsRecordHead (first : ℕ) (octets : List ℕ) (h : RecordHead) : Typ
   pub text : octets ≡ to_be_bytes w64 h.moment ++ to_be_bytes w16 h.length
 
 -- the eleven octets of a head
-abbrev pub head_text : Path → ℕ → ℕ → List ℕ
-head_text path moment count = path_octet path ∷ (to_be_bytes w64 moment ++ to_be_bytes w16 count)
+abbrev pub record_head : Path → ℕ → ℕ → List ℕ
+record_head path moment count = path_octet path ∷ (to_be_bytes w64 moment ++ to_be_bytes w16 count)

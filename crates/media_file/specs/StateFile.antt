@@ -57,8 +57,8 @@ state_text k =
     (format_text k.format ++ (opening_text k ++ flat_map (held_text k.format) k.frames))
 
 -- how many groups a raster has
-abbrev pub group_count : Fields → ℕ
-group_count f = f.height * (f.width / (pixel_group f.sampling f.depth).pixels)
+abbrev pub raster_groups : Fields → ℕ
+raster_groups f = f.height * (f.width / (pixel_group f.sampling f.depth).pixels)
 
 -- numbers that a format block has room for
 pub record FitsBlock (f : Fields) : Type 0 where
@@ -74,7 +74,7 @@ SsrcFits (Some ssrc) = ssrc < 2 ^ 32
 -- what has a text
 pub record IsHeld (f : Fields) (h : Held) : Type 0 where
   pub timestamp : h.timestamp < 2 ^ 32
-  pub count : length h.groups ≡ group_count f
+  pub count : length h.groups ≡ raster_groups f
   pub groups : AllByRecursion (IsGroup (shape_of f.sampling f.depth)) h.groups
 
 pub record IsKeptReceiver (k : Kept) : Type 0 where
@@ -97,5 +97,5 @@ held_of f timestamp cells =
     record {
       timestamp = timestamp;
       groups =
-          cut_cells (pixel_group f.sampling f.depth).samples (group_count f) cells;
+          cut_cells (pixel_group f.sampling f.depth).samples (raster_groups f) cells;
     }

@@ -11,7 +11,7 @@ ghost use Rattle.media_file.specs.CaptureFaults.{IsCaptureFault, IsCutCapture, I
 ghost use Rattle.media_file.specs.CaptureFaults.{cut_place};
 ghost use Rattle.media_file.specs.PictureFaults.{IsCutPicture, IsPictureFault, picture_place};
 ghost use Rattle.media_file.specs.PictureFile.{picture_walk, picture_text, shown_of};
-ghost use Rattle.media_file.specs.Reader.{due_of, dues_in};
+ghost use Rattle.media_file.specs.Reader.{due_of_entry, dues_in};
 ghost use Rattle.media_file.specs.Reading.{entries_in, fault_at};
 ghost use Rattle.media_file.specs.Records.{Entry};
 ghost use Rattle.media_file.specs.Runs.{AreRecordsOf};
@@ -32,7 +32,7 @@ pub fn one_run()
 /// The turns of octets are the datagrams of the records that they spell up to their first fault.
 pub fn turns_of_run()
     ensures { (octets rest : List ℕ) (entries : List Entry) → AreOctets octets
-        → AreRecordsOf entries rest octets → dues_in octets ≡ map due_of entries }
+        → AreRecordsOf entries rest octets → dues_in octets ≡ map due_of_entry entries }
 {}
 
 /// What is a capture is read as what it says.

@@ -7,7 +7,7 @@ ghost use Rattle.st_format.specs.Fields.{fields_of};
 ghost use Rattle.st_format.specs.Pgroup.{bits_of};
 ghost use Rattle.st_format.specs.Samples.{octets_in};
 ghost use Rattle.media_file.specs.Faults.{CountsDevice, IsDevice};
-ghost use Rattle.media_file.specs.PictureFile.{head_of, picture_text};
+ghost use Rattle.media_file.specs.PictureFile.{picture_head, picture_text};
 
 use crate::block::format_block;
 use crate::fault::FileFault;
@@ -42,9 +42,9 @@ pub fn write_picture<A: Allocator, K: ByteSink>(
 /// Writes what stands before the pgroups.
 fn write_head<K: ByteSink>(sink: &mut K, format: &Format) -> Result<(), DeviceFault>
     ensures ok { OnOk result (Appends (K.held sink.old) (K.held sink.new)
-        (head_of (fields_of format.now))) }
+        (picture_head (fields_of format.now))) }
     ensures fault { OnErr result (AppendsPrefix (K.held sink.old) (K.held sink.new)
-        (head_of (fields_of format.now))) }
+        (picture_head (fields_of format.now))) }
     ensures counted { CountsFaults (K.failures sink.old) (K.failures sink.new) result }
 {
     write_whole(sink, b"S20PIC01")?;

@@ -6,7 +6,7 @@ ghost use Rattle.st_format.specs.Device.{AppendsPrefix, CountsFaults, StaysUntol
 ghost use Rattle.media_file.specs.Capture.{capture_text, entry_seen};
 ghost use Rattle.media_file.specs.Faults.{CountsDevice, IsDevice};
 ghost use Rattle.media_file.specs.Fronts.{front_head, front_text};
-ghost use Rattle.media_file.specs.Records.{head_text, record_text, records_text};
+ghost use Rattle.media_file.specs.Records.{record_head, record_text, records_text};
 ghost use Rattle.media_file.specs.declared.front.Version.TheVariants.{Two};
 
 use crate::fault::FileFault;
@@ -49,7 +49,7 @@ pub fn write_record<K: ByteSink>(
 
 /// The head of a record.
 fn head_of(path: Path, moment: u64, length: u16) -> [u8; HEAD]
-    ensures { result ≡ head_text path moment length }
+    ensures { result ≡ record_head path moment length }
 {
     let mut head = [0u8; HEAD];
     head[0] = match path {

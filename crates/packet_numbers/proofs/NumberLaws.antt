@@ -6,7 +6,8 @@ use Rattle.std.proofs.lemmas.Bool.{cases_eq}
 use Rattle.std.proofs.lemmas.List.{same_lists, get_or_default, get_or-set_same, get_or-set_other}
 use Rattle.std.proofs.lemmas.List.{length-set}
 use Rattle.st_format.specs.Member.{IsMember, SameMembers}
-use Rattle.packet_numbers.specs.Numbers.{Numbers, count_of, place_of, IsNoted, with_place, AreAlike}
+use Rattle.packet_numbers.specs.Numbers.{Numbers, number_count, number_place, IsNoted, with_place}
+use Rattle.packet_numbers.specs.Numbers.{AreAlike}
 use Rattle.packet_numbers.specs.Numbers.{union, AreMissingRuns, after_notes}
 use Rattle.packet_numbers.proofs.NumberSets.{noted_below, union_places}
 use Rattle.packet_numbers.proofs.BitLemmas.{length-union}
@@ -55,17 +56,17 @@ either_way m n alike =
 record IsAmong (m : Numbers) (numbers : List ℕ) (place : ℕ) : Type 0 where
   number : ℕ
   member : IsMember number numbers
-  is : place ≡ place_of m number
-  within : place < count_of m
+  is : place ≡ number_place m number
+  within : place < number_count m
 
-noted_here : (m : Numbers) (at place : ℕ) → place ≡ at → place < count_of m
+noted_here : (m : Numbers) (at place : ℕ) → place ≡ at → place < number_count m
     → IsNoted (with_place m at) place
 noted_here m at place e lt =
     ap (λ (k : ℕ). get_or (set m.noted at true) k false) e
     ∙ get_or-set_same m.noted at true false (omega arith)
 
 found : (m : Numbers) (at place : ℕ) → IsNoted (with_place m at) place
-    → IsNoted m place ⊎ ((place ≡ at) × (place < count_of m))
+    → IsNoted m place ⊎ ((place ≡ at) × (place < number_count m))
 found m at place h = elim (cases_eq place at) [
   | inl e ↦ inr (
     e,
@@ -75,7 +76,7 @@ found m at place h = elim (cases_eq place at) [
   | inr ne ↦ inl (sym (get_or-set_other m.noted at place true false ne) ∙ h)
 ]
 
-kept : (m : Numbers) (at place : ℕ) → IsNoted m place ⊎ ((place ≡ at) × (place < count_of m))
+kept : (m : Numbers) (at place : ℕ) → IsNoted m place ⊎ ((place ≡ at) × (place < number_count m))
     → IsNoted (with_place m at) place
 kept m at place (inr now) = noted_here m at place now.0 now.1
 kept m at place (inl was) = elim (cases_eq place at) [
@@ -87,8 +88,8 @@ after_found : (m : Numbers) (numbers : List ℕ) (place : ℕ) → IsNoted (afte
     → IsNoted m place ⊎ IsAmong m numbers place
 after_found m [] place h = inl h
 after_found m (number ∷ numbers) place h =
-    let at : ℕ = place_of m number in
-    let long : count_of (with_place m at) ≡ count_of m = length-set m.noted at true in
+    let at : ℕ = number_place m number in
+    let long : number_count (with_place m at) ≡ number_count m = length-set m.noted at true in
     elim (after_found (with_place m at) numbers place h) [
       | inl a ↦
           elim (found m at place a) [
@@ -110,25 +111,25 @@ after_kept : (m : Numbers) (numbers : List ℕ) (place : ℕ) → IsNoted m plac
     → IsNoted (after_notes m numbers) place
 after_kept m [] place was = was
 after_kept m (number ∷ numbers) place was =
-    after_kept (with_place m (place_of m number)) numbers place
-    (kept m (place_of m number) place (inl was))
+    after_kept (with_place m (number_place m number)) numbers place
+    (kept m (number_place m number) place (inl was))
 
 after_member : (m : Numbers) (numbers : List ℕ) (number place : ℕ) → IsMember number numbers
-    → place ≡ place_of m number → place < count_of m → IsNoted (after_notes m numbers) place
+    → place ≡ number_place m number → place < number_count m → IsNoted (after_notes m numbers) place
 after_member m [] number place h is within = absurd h
 after_member m (x ∷ numbers) number place (inl e) is within =
-    let at : ℕ = place_of m x in
+    let at : ℕ = number_place m x in
     after_kept (with_place m at) numbers place
-    (noted_here m at place (is ∙ ap (place_of m) e) within)
+    (noted_here m at place (is ∙ ap (number_place m) e) within)
 after_member m (x ∷ numbers) number place (inr h) is within =
-    let at : ℕ = place_of m x in
-    let long : count_of (with_place m at) ≡ count_of m = length-set m.noted at true in
+    let at : ℕ = number_place m x in
+    let long : number_count (with_place m at) ≡ number_count m = length-set m.noted at true in
     after_member (with_place m at) numbers number place h is (omega arith)
 
 after_alike : (m : Numbers) (numbers : List ℕ) → AreAlike (after_notes m numbers) m
 after_alike m [] = record { first = refl; count = refl }
 after_alike m (number ∷ numbers) =
-    let at : ℕ = place_of m number in
+    let at : ℕ = number_place m number in
     let rest = after_alike (with_place m at) numbers in
     record { first = rest.first; count = rest.count ∙ length-set m.noted at true }
 
@@ -205,7 +206,7 @@ same_from_members f n p (x ∷ xs) (y ∷ ys) h g forth back =
 pub one_list : (m : Numbers) (xs ys : List (ℕ × ℕ)) → AreMissingRuns m xs → AreMissingRuns m ys
     → xs ≡ ys
 one_list m xs ys h g =
-    let f = λ (run : ℕ × ℕ). place_of m run.0 in
+    let f = λ (run : ℕ × ℕ). number_place m run.0 in
     same_from_members f 0 0 xs ys (rises_of 0 (map f xs) h.order (omega arith))
     (rises_of 0 (map f ys) g.order (omega arith))
     (λ r k. (g.each r.0 r.1).1 ((h.each r.0 r.1).0 k))

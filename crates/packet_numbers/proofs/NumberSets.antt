@@ -3,18 +3,19 @@ use Rattle.std.proofs.Common.{◌≡◌, ℕ, ◌<◌, Bool, false, List, get_or
 use Rattle.std.proofs.Common.{subst, ◌∙◌, arith}
 use Rattle.std.proofs.lemmas.Bool.{cases_lt, or_cases, or_left, or_right, false≢true}
 use Rattle.std.proofs.lemmas.List.{get_or_past}
-use Rattle.packet_numbers.specs.Numbers.{Numbers, count_of, IsCount, IsNumbers, IsNoted, AreAlike}
+use Rattle.packet_numbers.specs.Numbers.{Numbers, number_count, IsCount, IsNumbers, IsNoted}
+use Rattle.packet_numbers.specs.Numbers.{AreAlike}
 use Rattle.packet_numbers.specs.Numbers.{union}
 use Rattle.packet_numbers.specs.BitList.{union_of_flags}
 use Rattle.packet_numbers.proofs.BitLemmas.{length-union, get_or-union}
 
 pub union_numbers : (m n : Numbers) → IsNumbers m → AreAlike m n → IsNumbers (union m n)
 union_numbers m n is alike =
-    let e : count_of (union m n) ≡ count_of m = length-union m.noted n.noted alike.count in
+    let e : number_count (union m n) ≡ number_count m = length-union m.noted n.noted alike.count in
     record { first = is.first; count = subst IsCount (sym e) is.count }
 
-pub noted_below : (m : Numbers) (place : ℕ) → IsNoted m place → place < count_of m
-noted_below m place h = elim (cases_lt place (count_of m)) [
+pub noted_below : (m : Numbers) (place : ℕ) → IsNoted m place → place < number_count m
+noted_below m place h = elim (cases_lt place (number_count m)) [
   | inl lt ↦ lt
   | inr ge ↦ absurd (false≢true (sym (get_or_past m.noted place false ge) ∙ h))
 ]
@@ -22,8 +23,8 @@ noted_below m place h = elim (cases_lt place (count_of m)) [
 pub union_places : (m n : Numbers) → AreAlike m n → (place : ℕ)
     → IsNoted (union m n) place ↔ (IsNoted m place ⊎ IsNoted n place)
 union_places m n alike place =
-    let e : count_of (union m n) ≡ count_of m = length-union m.noted n.noted alike.count in
-    let same : count_of m ≡ count_of n = alike.count in
+    let e : number_count (union m n) ≡ number_count m = length-union m.noted n.noted alike.count in
+    let same : number_count m ≡ number_count n = alike.count in
     let a : Bool = get_or m.noted place false in
     let b : Bool = get_or n.noted place false in (
       λ h. or_cases a b

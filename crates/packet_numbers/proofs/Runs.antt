@@ -8,7 +8,7 @@ use Rattle.std.specs.List.Sorted.{IsStrictlyIncreasing}
 use Rattle.st_format.specs.Member.{IsMember}
 use Rattle.st_format.proofs.Members.{member_left, member_right, member_cases, member-map}
 use Rattle.st_format.proofs.Members.{member_of_map}
-use Rattle.packet_numbers.specs.Numbers.{Numbers, count_of, IsNumbers, place_of, IsNoted}
+use Rattle.packet_numbers.specs.Numbers.{Numbers, number_count, IsNumbers, number_place, IsNoted}
 use Rattle.packet_numbers.specs.Numbers.{IsMissingRun, AreMissingRuns, closed_run, runs_from}
 use Rattle.packet_numbers.specs.Numbers.{numbered_run}
 use Rattle.packet_numbers.specs.Numbers.{missing_runs_of}
@@ -46,19 +46,19 @@ runs_end flags start place le = ap (runs_from start place) (drop_all place flags
 -- nothing was noted from start up to place, and the place before start was
 pub record IsOpen (m : Numbers) (start place : ℕ) : Type 0 where
   pub order : start ≤ place
-  pub within : place ≤ count_of m
+  pub within : place ≤ number_count m
   pub missing : (k : ℕ) → start ≤ k → k < place → IsNoted m k → ⊥
   pub before : 0 < start → IsNoted m (start - 1)
 
 -- the run from start on is over at place
 abbrev IsOver : Numbers → ℕ → Type 0
-IsOver m place = place < count_of m → IsNoted m place
+IsOver m place = place < number_count m → IsNoted m place
 
 run_closed : (m : Numbers) (start place : ℕ) → IsOpen m start place → IsOver m place
     → start < place → IsMissingRun m start (place - start)
 run_closed m start place o over lt =
     let e : start + (place - start) ≡ place = omega arith in
-    let within : place ≤ count_of m = o.within in
+    let within : place ≤ number_count m = o.within in
     record {
       some = omega arith;
       within = omega arith;
@@ -88,9 +88,9 @@ pub closed_all : (m : Numbers) (start place : ℕ) → IsOpen m start place → 
     → (s len : ℕ) → IsMissingRun m s len → start ≤ s → s < place
     → IsMember (s, len) (closed_run start place)
 closed_all m start place o over s len run from below =
-    let w1 : s + len ≤ count_of m = run.within in
+    let w1 : s + len ≤ number_count m = run.within in
     let w2 : 0 < len = run.some in
-    let w3 : place ≤ count_of m = o.within in
+    let w3 : place ≤ number_count m = o.within in
     let here : s ≡ start = elim (cases_lt start s) [
       | inl lt ↦ absurd (o.missing (s - 1) (omega arith) (omega arith) (run.before (omega arith)))
       | inr le ↦ omega arith
@@ -127,7 +127,7 @@ none_left : (all : List Bool) (place : ℕ) → [] ≡ drop place all → length
 none_left all place e = let n : 0 ≡ length all - place =
     ap length e ∙ length-drop place all in omega arith
 
-open_on : (m : Numbers) (start place : ℕ) → IsOpen m start place → place < count_of m
+open_on : (m : Numbers) (start place : ℕ) → IsOpen m start place → place < number_count m
     → get_or m.noted place false ≡ false → IsOpen m start (place + 1)
 open_on m start place o lt clear =
     let le : start ≤ place = o.order in
@@ -141,7 +141,7 @@ open_on m start place o lt clear =
       before = o.before;
     }
 
-open_anew : (m : Numbers) (place : ℕ) → place < count_of m → IsNoted m place
+open_anew : (m : Numbers) (place : ℕ) → place < number_count m → IsNoted m place
     → IsOpen m (place + 1) (place + 1)
 open_anew m place lt came = record {
   order = omega arith;
@@ -155,7 +155,7 @@ pub runs_found : (m : Numbers) (start place : ℕ) (flags : List Bool) → flags
     → (s len : ℕ) → IsMember (s, len) (runs_from start place flags)
     → IsMissingRun m s len × (start ≤ s)
 runs_found m start place [] e o s len h =
-    let end : count_of m ≤ place = none_left m.noted place e in
+    let end : number_count m ≤ place = none_left m.noted place e in
     closed_found m start place o (λ lt. absurd (omega arith)) s len h
 runs_found m start place (true ∷ flags) e o s len h =
     let hd = head_of m.noted place true flags e in
@@ -176,8 +176,8 @@ pub runs_all : (m : Numbers) (start place : ℕ) (flags : List Bool) → flags �
     → (s len : ℕ) → IsMissingRun m s len → start ≤ s
     → IsMember (s, len) (runs_from start place flags)
 runs_all m start place [] e o s len run from =
-    let end : count_of m ≤ place = none_left m.noted place e in
-    let w1 : s + len ≤ count_of m = run.within in
+    let end : number_count m ≤ place = none_left m.noted place e in
+    let w1 : s + len ≤ number_count m = run.within in
     let w2 : 0 < len = run.some in
     closed_all m start place o (λ lt. absurd (omega arith)) s len run from (omega arith)
 runs_all m start place (true ∷ flags) e o s len run from =
@@ -247,19 +247,19 @@ starts_rise start place (false ∷ flags) le = starts_rise start (place + 1) fla
 -- ---- by packet numbers
 
 place_of_numbered : (m : Numbers) (r : ℕ × ℕ) → m.first < 2 ^ 32 → r.0 < 2 ^ 32
-    → place_of m (numbered_run m.first r).0 ≡ r.0
+    → number_place m (numbered_run m.first r).0 ≡ r.0
 place_of_numbered m r small below = omega arith
 
 number_of_place : (m : Numbers) (number : ℕ) → m.first < 2 ^ 32 → number < 2 ^ 32
-    → (m.first + place_of m number) % 2 ^ 32 ≡ number
+    → (m.first + number_place m number) % 2 ^ 32 ≡ number
 number_of_place m number small below = omega arith
 
 places_again : (m : Numbers) (rs : List (ℕ × ℕ)) → m.first < 2 ^ 32
     → ((s len : ℕ) → IsMember (s, len) rs → s < 2 ^ 32)
-    → map (λ (run : ℕ × ℕ). place_of m run.0) (map (numbered_run m.first) rs) ≡ firsts rs
+    → map (λ (run : ℕ × ℕ). number_place m run.0) (map (numbered_run m.first) rs) ≡ firsts rs
 places_again m [] small each = refl
 places_again m ((s, len) ∷ rs) small each =
-    ap (λ (x : ℕ). x ∷ map (λ (run : ℕ × ℕ). place_of m run.0) (map (numbered_run m.first) rs))
+    ap (λ (x : ℕ). x ∷ map (λ (run : ℕ × ℕ). number_place m run.0) (map (numbered_run m.first) rs))
     (place_of_numbered m (s, len) small (each s len (inl refl)))
     ∙ ap (λ (xs : List ℕ). s ∷ xs) (places_again m rs small (λ t n h. each t n (inr h)))
 
@@ -267,27 +267,27 @@ numbered_found : (m : Numbers) (rs : List (ℕ × ℕ)) → m.first < 2 ^ 32
     → ((s len : ℕ) → IsMember (s, len) rs → IsMissingRun m s len)
     → ((s len : ℕ) → IsMember (s, len) rs → s < 2 ^ 32)
     → (number len : ℕ) → IsMember (number, len) (map (numbered_run m.first) rs)
-    → (number < 2 ^ 32) × IsMissingRun m (place_of m number) len
+    → (number < 2 ^ 32) × IsMissingRun m (number_place m number) len
 numbered_found m rs small found below number len h =
     let r : (x : ℕ × ℕ) × IsMember x rs × ((number, len) ≡ numbered_run m.first x) =
     member-map (numbered_run m.first) (number, len) rs h in
     let s : ℕ = r.0.0 in
     let is_number : number ≡ (m.first + s) % 2 ^ 32 = ap (λ (x : ℕ × ℕ). x.0) r.2 in
     let is_len : len ≡ r.0.1 = ap (λ (x : ℕ × ℕ). x.1) r.2 in
-    let place : place_of m number ≡ s =
-    ap (place_of m) is_number ∙ place_of_numbered m r.0 small (below s r.0.1 r.1) in (
+    let place : number_place m number ≡ s =
+    ap (number_place m) is_number ∙ place_of_numbered m r.0 small (below s r.0.1 r.1) in (
       omega arith,
       subst (λ (x : ℕ). IsMissingRun m x len) (sym place)
           (subst (λ (x : ℕ). IsMissingRun m s x) (sym is_len) (found s r.0.1 r.1)),
     )
 
 numbered_all : (m : Numbers) (rs : List (ℕ × ℕ)) → m.first < 2 ^ 32 → (number len : ℕ)
-    → number < 2 ^ 32 → IsMember (place_of m number, len) rs
+    → number < 2 ^ 32 → IsMember (number_place m number, len) rs
     → IsMember (number, len) (map (numbered_run m.first) rs)
 numbered_all m rs small number len below h =
     subst (λ (x : ℕ). IsMember (x, len) (map (numbered_run m.first) rs))
     (number_of_place m number small below)
-    (member_of_map (numbered_run m.first) (place_of m number, len) rs h)
+    (member_of_map (numbered_run m.first) (number_place m number, len) rs h)
 
 pub are_missing_runs : (m : Numbers) → IsNumbers m → AreMissingRuns m (missing_runs_of m)
 are_missing_runs m is =
@@ -301,7 +301,7 @@ are_missing_runs m is =
       before = λ some. absurd (omega arith);
     } in
     let small : m.first < 2 ^ 32 = is.first in
-    let count : count_of m ≤ 1048576 = is.count.most in
+    let count : number_count m ≤ 1048576 = is.count.most in
     let found : (s len : ℕ) → IsMember (s, len) rs
     → IsMissingRun m s len = λ s len h. (runs_found m 0 0 m.noted refl o s len h).0 in
     let below : (s len : ℕ) → IsMember (s, len) rs
@@ -314,7 +314,7 @@ are_missing_runs m is =
           λ number len. (
             numbered_found m rs small found below number len,
             λ h. numbered_all m rs small number len h.0
-                (runs_all m 0 0 m.noted refl o (place_of m number) len h.1 (omega arith)),
+                (runs_all m 0 0 m.noted refl o (number_place m number) len h.1 (omega arith)),
           );
       order =
           subst IsStrictlyIncreasing (sym (places_again m rs small below))

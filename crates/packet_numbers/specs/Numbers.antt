@@ -13,8 +13,8 @@ pub record Numbers : Type 0 where
   pub noted : List Bool
 
 -- how many places there are
-abbrev pub count_of : Numbers → ℕ
-count_of m = length m.noted
+abbrev pub number_count : Numbers → ℕ
+number_count m = length m.noted
 
 -- how many there may be
 pub record IsCount (count : ℕ) : Type 0 where
@@ -27,8 +27,8 @@ pub record IsNumbers (m : Numbers) : Type 0 where
   pub count : IsCount (length m.noted)
 
 -- The place of a packet number is how far it is behind the first, modulo 2 ^ 32.
-abbrev pub place_of : Numbers → ℕ → ℕ
-place_of m number = (number + (2 ^ 32 - m.first)) % 2 ^ 32
+abbrev pub number_place : Numbers → ℕ → ℕ
+number_place m number = (number + (2 ^ 32 - m.first)) % 2 ^ 32
 
 -- Noted: the places that were noted. All are below the count.
 abbrev pub IsNoted : Numbers → ℕ → Type 0
@@ -41,12 +41,12 @@ with_place m place = record { first = m.first; noted = set m.noted place true }
 -- a map after these packet numbers were noted, one after the other
 abbrev pub after_notes : Numbers → List ℕ → Numbers
 after_notes m [] = m
-after_notes m (number ∷ numbers) = after_notes (with_place m (place_of m number)) numbers
+after_notes m (number ∷ numbers) = after_notes (with_place m (number_place m number)) numbers
 
 -- the same first number, and as many places
 pub record AreAlike (m n : Numbers) : Type 0 where
   pub first : m.first ≡ n.first
-  pub count : count_of m ≡ count_of n
+  pub count : number_count m ≡ number_count n
 
 -- the places of both
 abbrev pub union : Numbers → Numbers → Numbers
@@ -56,17 +56,18 @@ union m n = record { first = m.first; noted = union_of_flags m.noted n.noted }
 -- it were, where there are such places.
 pub record IsMissingRun (m : Numbers) (start len : ℕ) : Type 0 where
   pub some : 0 < len
-  pub within : start + len ≤ count_of m
+  pub within : start + len ≤ number_count m
   pub missing : (place : ℕ) → start ≤ place → place < start + len → IsNoted m place → ⊥
   pub before : 0 < start → IsNoted m (start - 1)
-  pub behind : start + len < count_of m → IsNoted m (start + len)
+  pub behind : start + len < number_count m → IsNoted m (start + len)
 
 -- The runs, each by its first packet number and its length, are the maximal runs, no other and each
 -- once, from the first number on.
 pub record AreMissingRuns (m : Numbers) (runs : List (ℕ × ℕ)) : Type 0 where
   pub each : (number len : ℕ)
-      → IsMember (number, len) runs ↔ ((number < 2 ^ 32) × IsMissingRun m (place_of m number) len)
-  pub order : IsStrictlyIncreasing (map (λ run. place_of m run.0) runs)
+      → IsMember (number, len) runs ↔ ((number < 2 ^ 32) × IsMissingRun m
+      (number_place m number) len)
+  pub order : IsStrictlyIncreasing (map (λ run. number_place m run.0) runs)
 
 -- The same list place by place, of flags from a place on: no place from start up to there was
 -- noted. Runs are told by their first place.

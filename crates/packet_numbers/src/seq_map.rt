@@ -2,8 +2,9 @@
 ghost use Rattle.std.specs.Prelude.{◌≡◌, ◌↔◌, ◌⊎◌, ◌<◌, ◌≤◌, ◌^◌, ◌++◌, ℕ, IfOk, IsErr, IsErrOf};
 ghost use Rattle.std.specs.Prelude.{OnErr, OnOk, length, map, replicate, false};
 ghost use Rattle.packet_numbers.specs.Numbers.{AreAlike, AreMissingRuns, IsCount, IsNoted};
-ghost use Rattle.packet_numbers.specs.Numbers.{IsNumbers, closed_run, count_of, missing_runs_of};
-ghost use Rattle.packet_numbers.specs.Numbers.{numbered_run, place_of, runs_from, union};
+ghost use Rattle.packet_numbers.specs.Numbers.{IsNumbers, closed_run, number_count};
+ghost use Rattle.packet_numbers.specs.Numbers.{missing_runs_of};
+ghost use Rattle.packet_numbers.specs.Numbers.{numbered_run, number_place, runs_from, union};
 ghost use Rattle.packet_numbers.specs.Numbers.{with_place};
 ghost use Rattle.packet_numbers.specs.declared.seq_map.SeqMapFault.TheVariants.{NoMemory};
 
@@ -123,7 +124,7 @@ impl<A: Allocator> SeqMap<A> {
 
     /// How many packet numbers there are.
     pub fn count(&self) -> u32
-        ensures value { result ≡ count_of self.now }
+        ensures value { result ≡ number_count self.now }
         ensures numbers { IsNumbers self.now }
     {
         self.noted.len() as u32
@@ -132,18 +133,19 @@ impl<A: Allocator> SeqMap<A> {
     /// Notes a packet number. No memory is taken.
     pub fn note(&mut self, number: u32) -> Noted
         // Which answer.
-        ensures beyond { (result ≡ Noted.Beyond) ↔ (count_of self.old ≤ place_of self.old number) }
-        ensures again { (result ≡ Noted.Again) ↔ IsNoted self.old (place_of self.old number) }
+        ensures beyond { (result ≡ Noted.Beyond)
+            ↔ (number_count self.old ≤ number_place self.old number) }
+        ensures again { (result ≡ Noted.Again) ↔ IsNoted self.old (number_place self.old number) }
         ensures fresh { (result ≡ Noted.New)
-            ↔ ((place_of self.old number < count_of self.old)
-            × (IsNoted self.old (place_of self.old number) → ⊥)) }
+            ↔ ((number_place self.old number < number_count self.old)
+            × (IsNoted self.old (number_place self.old number) → ⊥)) }
 
         // What is noted afterwards: its place too, where that is below the count.
-        ensures value { self.new ≡ with_place self.old (place_of self.old number) }
+        ensures value { self.new ≡ with_place self.old (number_place self.old number) }
         ensures places { (place : ℕ)
             → IsNoted self.new place
             ↔ (IsNoted self.old place
-            ⊎ ((place ≡ place_of self.old number) × (place < count_of self.old))) }
+            ⊎ ((place ≡ number_place self.old number) × (place < number_count self.old))) }
         ensures unchanged { result ≡ Noted.Beyond → self.new ≡ self.old }
         ensures numbers { IsNumbers self.new }
     {

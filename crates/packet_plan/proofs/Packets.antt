@@ -18,7 +18,7 @@ use Rattle.st_format.specs.Pgroup.{pixel_group}
 use Rattle.packet_plan.specs.Greedy.{room, reach, next, cut, packet_from}
 use Rattle.packet_plan.specs.declared.run.PacketRun.{PacketRun}
 use Rattle.packet_plan.specs.Plan.{IsSize, RowsRise, one_more, HasRoom, IsRun, IsPacket}
-use Rattle.packet_plan.specs.Plan.{group_octets, numbers, groups_in}
+use Rattle.packet_plan.specs.Plan.{group_octets, numbers, run_groups}
 use Rattle.st_format.specs.Position.{row_groups, group_count}
 
 -- ---- ranges
@@ -105,7 +105,7 @@ reached f (r ∷ q ∷ rs) a n j runs whole lt some =
 
 -- as many numbers as groups
 pub length-numbers : (f : Format) (rs : List PacketRun)
-    → length (flat_map (numbers f) rs) ≡ groups_in rs
+    → length (flat_map (numbers f) rs) ≡ run_groups rs
 length-numbers f [] = refl
 length-numbers f (r ∷ rs) = length-append (numbers f r) (flat_map (numbers f) rs)
     ∙ ap (λ (n : ℕ). n + length (flat_map (numbers f) rs))
@@ -207,7 +207,7 @@ ahead f size a n k p is whole le all =
     let row : k < (k / w + 1) * w = in_row k w (some_groups f) in
     let far : a + n ≤ (k / w + length p) * w =
     reached f p a n (k / w) is.runs whole (omega arith) is.some in
-    let count : groups_in p ≡ n =
+    let count : run_groups p ≡ n =
     sym (length-numbers f p) ∙ ap length whole ∙ length-range_with_len a n in
     let octets : group_octets f * n ≤ size - (14 + 6 * length p) =
     subst (λ (m : ℕ). group_octets f * m ≤ size - (14 + 6 * length p)) count
@@ -336,7 +336,7 @@ from_packet f size k fits lt =
     let few : length p ≤ a.count =
     cut-length w 3 a.count (k / w) (k % w) (next f size k - k)
     (in_rows f size k a.count (omega arith) bound) in
-    let count : groups_in p ≡ next f size k - k =
+    let count : run_groups p ≡ next f size k - k =
     sym (length-numbers f p) ∙ ap length (from_numbers f size k fits lt)
     ∙ length-range_with_len k (next f size k - k) in
     let behind : next f size k - k ≤ (size - (14 + 6 * a.count)) / group_octets f =

@@ -22,7 +22,7 @@ use Rattle.st_format.specs.Position.{run_columns, run_samples, sample_count, row
 use Rattle.pgroup_pack.specs.Packing.{Agree}
 use Rattle.payload_header.specs.Payload.{group_of}
 use Rattle.packet_plan.specs.declared.run.PacketRun.{PacketRun}
-use Rattle.packet_plan.specs.Plan.{IsRun, group_octets, groups_in, numbers}
+use Rattle.packet_plan.specs.Plan.{IsRun, group_octets, run_groups, numbers}
 use Rattle.st_format.specs.Position.{group_count}
 use Rattle.packet_plan.specs.Sent.{sample, group_samples, group_values, run_values}
 use Rattle.packet_plan.specs.Text.{HasHead, run_octets}
@@ -71,13 +71,13 @@ columns f r is =
     omega (arith, columns_of f.sampling f.depth f.width)
 
 pub have_heads : (f : Format) (size : ℕ) (rs : List PacketRun) → size ≤ 9000
-    → group_octets f * groups_in rs ≤ size → AllByRecursion (IsRun f) rs
+    → group_octets f * run_groups rs ≤ size → AllByRecursion (IsRun f) rs
     → AllByRecursion (λ r. r.row < f.height) rs
     → AllByRecursion (HasHead f) rs
 have_heads f size [] most le runs rows = tt
 have_heads f size (r ∷ rs) most le runs rows =
     let o : ℕ = group_octets f in
-    let up : o * (r.groups + groups_in rs) ≡ r.groups * o + o * groups_in rs = omega arith in
+    let up : o * (r.groups + run_groups rs) ≡ r.groups * o + o * run_groups rs = omega arith in
     let inside : (r.first + r.groups) * (group_of f).pixels ≤ f.width = columns f r runs.0 in
     let parts : (r.first + r.groups) * (group_of f).pixels
     ≡ r.first * (group_of f).pixels + r.groups * (group_of f).pixels = omega arith in (
@@ -259,11 +259,11 @@ run_agrees p r f o at buf vs ef eo ev room =
     ∙ ap (λ (xs : List ℕ). bits_of f.depth * length xs) (sym ev)
 
 pub length-runs : (p : Values) (rs : List PacketRun)
-    → length (flat_map (run_octets p) rs) ≡ group_octets p.format * groups_in rs
+    → length (flat_map (run_octets p) rs) ≡ group_octets p.format * run_groups rs
 length-runs p [] = omega arith
 length-runs p (r ∷ rs) =
-    let up : group_octets p.format * (r.groups + groups_in rs)
-    ≡ r.groups * group_octets p.format + group_octets p.format * groups_in rs = omega arith in
+    let up : group_octets p.format * (r.groups + run_groups rs)
+    ≡ r.groups * group_octets p.format + group_octets p.format * run_groups rs = omega arith in
     omega (
       arith,
       length-append (run_octets p r) (flat_map (run_octets p) rs),

@@ -14,7 +14,7 @@ use Rattle.rtp_header.specs.Grammar.{Rtp, IsPlainRtp, fixed_text, plain_flags}
 use Rattle.rtp_header.proofs.Written.{plain_rtp}
 use Rattle.payload_header.specs.Payload.{group_of, header_text, IsInside}
 use Rattle.payload_header.specs.Writing.{HeadFits, Announces, AreInside, AreHeads, IsWholePayload}
-use Rattle.payload_header.specs.Writing.{data_text, front_text, header_of_head, headers_of_heads}
+use Rattle.payload_header.specs.Writing.{data_text, payload_front, header_of_head, headers_of_heads}
 use Rattle.payload_header.specs.declared.writing.SegmentHead.{SegmentHead}
 use Rattle.payload_header.proofs.Written.{is_written_payload}
 use Rattle.packet_plan.specs.declared.run.PacketRun.{PacketRun}
@@ -102,7 +102,8 @@ is_payload p number rs small are =
       fields = heads_fit f rs are.heads;
       announce = announced p rs;
     } in
-    subst (λ (xs : List ℕ). IsWholePayload (front_text (number / 65536) (map (head_of f) rs) ++ xs)
+    subst (λ (xs : List ℕ). IsWholePayload (payload_front (number / 65536) (map (head_of f) rs)
+    ++ xs)
     f (number / 65536) segments) (data_is p rs)
     ((is_written_payload f (number / 65536) (map (head_of f) rs) segments heads).0
     (are_inside p rs are.heads))
@@ -250,18 +251,18 @@ length-heads (h ∷ k ∷ hs) =
     )
 
 pub length-front : (extended : ℕ) (heads : List SegmentHead)
-    → length (front_text extended heads) ≡ 2 + 6 * length heads
+    → length (payload_front extended heads) ≡ 2 + 6 * length heads
 length-front extended heads = omega (arith, length-heads heads)
 
 -- the RTP header, then the front of the payload
 pub front_at : (r : Rtp) (xs ys behind post : List ℕ) (extended n : ℕ) (hs ks : List SegmentHead)
-    → IsPlainRtp (take 12 xs ++ []) r → r.payload ≡ [] → ys ≡ front_text extended hs ++ behind
+    → IsPlainRtp (take 12 xs ++ []) r → r.payload ≡ [] → ys ≡ payload_front extended hs ++ behind
     → hs ≡ ks
     → n ≡ 2 + 6 * length hs → 12 ≤ length xs
     → take (12 + n) (take 12 xs ++ (ys ++ post)) ≡ fixed_text plain_flags r
-    ++ front_text extended ks
+    ++ payload_front extended ks
 front_at r xs ys behind post extended n hs ks is none parts same long room =
-    let t : List ℕ = front_text extended hs in
+    let t : List ℕ = payload_front extended hs in
     let head : take 12 xs ≡ fixed_text plain_flags r =
     sym (append-nil (take 12 xs)) ∙ plain_octets r (take 12 xs ++ []) is
     ∙ ap (λ (zs : List ℕ). fixed_text plain_flags r ++ zs) none
@@ -273,7 +274,7 @@ front_at r xs ys behind post extended n hs ks is none parts same long room =
     ∙ ap (take (12 + n)) (sym (append_assoc (take 12 xs) t (behind ++ post)))
     ∙ take_at (take 12 xs ++ t) (behind ++ post) (12 + n) count
     ∙ ap (λ (zs : List ℕ). zs ++ t) head
-    ∙ ap (λ (gs : List SegmentHead). fixed_text plain_flags r ++ front_text extended gs) same
+    ∙ ap (λ (gs : List SegmentHead). fixed_text plain_flags r ++ payload_front extended gs) same
 
 -- how long it is
 pub octets_at : (p : Values) (rs : List PacketRun)

@@ -22,14 +22,14 @@ abbrev pub numbers : Format → PacketRun → List ℕ
 numbers f r = range_with_len (r.row * row_groups f + r.first) r.groups
 
 -- how many pgroups runs have
-abbrev pub groups_in : List PacketRun → ℕ
-groups_in [] = 0
-groups_in (r ∷ rs) = r.groups + groups_in rs
+abbrev pub run_groups : List PacketRun → ℕ
+run_groups [] = 0
+run_groups (r ∷ rs) = r.groups + run_groups rs
 
 -- how long a packet is: the RTP header of 12 octets, the extended number of two, a header of six
 -- for each run, and the pgroups (RFC 3550, 5.1; RFC 4175, 4)
 abbrev pub packet_octets : Format → List PacketRun → ℕ
-packet_octets f p = 14 + 6 * length p + group_octets f * groups_in p
+packet_octets f p = 14 + 6 * length p + group_octets f * run_groups p
 
 -- A packet is one to three runs that fit a greatest size (SMPTE ST 2110-20, pixel groups).
 pub record IsPacket (f : Format) (size : ℕ) (p : List PacketRun) : Type 0 where

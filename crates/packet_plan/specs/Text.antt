@@ -8,7 +8,7 @@ use Rattle.st_format.specs.Picture.{Values}
 use Rattle.st_format.specs.Samples.{octets_in}
 use Rattle.rtp_header.specs.Grammar.{Rtp, fixed_text, plain_flags}
 use Rattle.payload_header.specs.Payload.{group_of, most_segments}
-use Rattle.payload_header.specs.Writing.{front_text}
+use Rattle.payload_header.specs.Writing.{payload_front}
 use Rattle.payload_header.specs.declared.writing.SegmentHead.{SegmentHead}
 use Rattle.packet_plan.specs.declared.run.PacketRun.{PacketRun}
 use Rattle.packet_plan.specs.declared.stamp.Stamp.{Stamp}
@@ -32,7 +32,7 @@ run_octets p r = octets_in (bits_of p.format.depth) (run_values p r)
 -- the payload of a packet of this number
 abbrev pub payload_text : Values → ℕ → List PacketRun → List ℕ
 payload_text p number runs =
-    front_text (number / 65536) (map (head_of p.format) runs) ++ flat_map (run_octets p) runs
+    payload_front (number / 65536) (map (head_of p.format) runs) ++ flat_map (run_octets p) runs
 
 -- what the RTP header says in front of a payload
 abbrev pub header_of : Stamp → ℕ → Bool → List ℕ → Rtp

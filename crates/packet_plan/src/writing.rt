@@ -7,7 +7,7 @@ ghost use Rattle.st_format.specs.Picture.{IsPicture};
 ghost use Rattle.st_format.specs.Samples.{octets_in};
 ghost use Rattle.pgroup_pack.specs.Packing.{Agree, Fit};
 ghost use Rattle.rtp_header.specs.Grammar.{fixed_text, plain_flags};
-ghost use Rattle.payload_header.specs.Writing.{front_text};
+ghost use Rattle.payload_header.specs.Writing.{payload_front};
 ghost use Rattle.packet_plan.specs.Plan.{group_octets, packet_octets};
 ghost use Rattle.packet_plan.specs.Sent.{run_values};
 ghost use Rattle.packet_plan.specs.Text.{AreRuns, HasHead, IsStamp, datagram_text};
@@ -75,7 +75,7 @@ fn write_front(
     ensures value { result ≡ 14 + 6 * length runs.now }
     ensures stamp { IsStamp stamp }
     ensures text { take result buf.new ≡ fixed_text plain_flags (header_of stamp number is_last [])
-        ++ front_text (number / 65536) (map (head_at format.now) runs.now) }
+        ++ payload_front (number / 65536) (map (head_at format.now) runs.now) }
     ensures behind { drop result buf.new ≡ drop result buf.old }
 {
     let head = RtpHead {

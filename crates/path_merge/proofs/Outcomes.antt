@@ -16,7 +16,7 @@ use Rattle.path_merge.specs.Sliding.{slid_state, with_window}
 use Rattle.path_merge.specs.declared.schedule.event.Event.{Event}
 use Rattle.path_merge.specs.declared.schedule.event.Event.TheVariants.{Send, Arrive, Slide, Merge}
 use Rattle.path_merge.specs.Admitted.{AreAdmittedTo, CanSlide, IsAdmitted, send_count}
-use Rattle.path_merge.specs.Reached.{Scene, IsAt, Leaves}
+use Rattle.path_merge.specs.Reached.{Scene, IsAt, Spares}
 use Rattle.path_merge.proofs.PlayLemmas.{take_more}
 use Rattle.path_merge.proofs.StageLemmas.{sends_more}
 use Rattle.path_merge.proofs.StayFrames.{at_left, at_merged, at_opening, at_slid, at_taken}
@@ -49,7 +49,7 @@ pub record Outcome (s : Scene) (events : List Event) (r : ℕ) : Type 0 where
   pub is_at : IsAt state r s events
   pub different : AreDifferent state.opening.window
 
-left_one : (s : Scene) (es : List Event) (e : Event) (r : ℕ) → Leaves e r → Outcome s es r
+left_one : (s : Scene) (es : List Event) (e : Event) (r : ℕ) → Spares e r → Outcome s es r
     → Outcome s (es ++ e ∷ []) r
 left_one s es e r leaves o =
     record {

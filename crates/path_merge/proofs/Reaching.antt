@@ -26,7 +26,7 @@ use Rattle.path_merge.specs.declared.schedule.event.Event.{Event}
 use Rattle.path_merge.specs.declared.schedule.event.Event.TheVariants.{Send, Arrive, Slide, Merge}
 use Rattle.path_merge.specs.Stays.{Stay, Lasts, slide_timestamp, slide_timestamps}
 use Rattle.path_merge.specs.Reached.{Scene, Chain, Arrived, Merged, LastStep, By_arrive, By_merge}
-use Rattle.path_merge.specs.Reached.{IsOf, Reaches, IsFrameOf}
+use Rattle.path_merge.specs.Reached.{IsDatagramFor, Reaches, IsFrameOf}
 use Rattle.path_merge.proofs.Chains.{chain_more, chain_cases, chain_last}
 use Rattle.path_merge.proofs.Places.{get_below}
 
@@ -47,7 +47,7 @@ pub record Newly (s : Scene) (es : List Event) (e : Event) (octets : List ℕ)
     (stay : Stay) : Type 0 where
   pub number : ℕ
   pub sent : slice_get s.sent number ≡ Some octets
-  pub is_of : IsOf octets s.opening stay.timestamp
+  pub is_of : IsDatagramFor octets s.opening stay.timestamp
   pub last : LastStep s.opening.window es e number stay
 
 pub reach_newly : (s : Scene) (es : List Event) (e : Event) (octets : List ℕ) (stay : Stay)
@@ -100,7 +100,7 @@ frame_kept s es e stay q none is = record {
 -- whether octets are a datagram of this timestamp
 of_or_not : (o : Opening) (octets : List ℕ) (ts : ℕ) (x : Result Datagram Refusal)
     → AreOctets octets → datagram_walk o.format o.payload_type o.ssrc octets ≡ x
-    → IsOf octets o ts ⊎ (IsOf octets o ts → ⊥)
+    → IsDatagramFor octets o ts ⊎ (IsDatagramFor octets o ts → ⊥)
 of_or_not o octets ts (Err e) fit read =
     inr (λ is. is_ok is.datagram (admitted_for o octets is.datagram is.is_for))
   where
@@ -125,7 +125,7 @@ alone o d = append-nil (offers o d)
 
 -- what is of another timestamp gives no cell
 none_at : (o : Opening) (octets : List ℕ) (ts : ℕ) (x : Result Datagram Refusal) → AreOctets octets
-    → datagram_walk o.format o.payload_type o.ssrc octets ≡ x → (IsOf octets o ts → ⊥)
+    → datagram_walk o.format o.payload_type o.ssrc octets ≡ x → (IsDatagramFor octets o ts → ⊥)
     → cells_of o.format (flat_map (offers o) (octets ∷ [])) ts ≡ cells_of o.format [] ts
 none_at o octets ts (Err e) fit read none =
     ap (λ (os : List Offer). cells_of o.format os ts)
@@ -233,7 +233,7 @@ frame_taken s es to number path octets stay q sent fit at lasts is =
           λ r. elim (reach_cases s es e other stay r) [
             | inl old ↦ (is.each other).1 old
             | inr new ↦ absurd
-                (not_of (subst (λ (x : List ℕ). IsOf x o ts)
+                (not_of (subst (λ (x : List ℕ). IsDatagramFor x o ts)
                 (newly_arrived s es to number path octets other stay sent new) new.is_of))
           ],
         );
@@ -274,7 +274,7 @@ frame_merged s es into other from stay q p at there from_lasts lasts same only i
           | inr new ↦ let r = (its.each octets).0 new in reach_newly s es e octets stay (record {
             number = r.number;
             sent = r.sent;
-            is_of = subst (λ (t : ℕ). IsOf octets o t) same r.is_of;
+            is_of = subst (λ (t : ℕ). IsDatagramFor octets o t) same r.is_of;
             last = By_merge from r.place is_e from_lasts lasts same r.chain;
           })
         ],
@@ -293,7 +293,7 @@ frame_merged s es into other from stay q p at there from_lasts lasts same only i
     }
   where
     by_last : (octets : List ℕ) (n : ℕ) → slice_get s.sent n ≡ Some octets
-        → IsOf octets s.opening stay.timestamp
+        → IsDatagramFor octets s.opening stay.timestamp
         → LastStep s.opening.window es (Merge into other) n stay → Reaches octets from s es
     by_last octets n here is_of (By_arrive path is_it lasts_it) = absurd cc
     by_last octets n here is_of (By_merge x earlier is_it x_lasts lasts_it same_it chain) =
@@ -302,7 +302,7 @@ frame_merged s es into other from stay q p at there from_lasts lasts same only i
         record {
           number = n;
           sent = here;
-          is_of = subst (λ (t : ℕ). IsOf octets s.opening t) (sym same) is_of;
+          is_of = subst (λ (t : ℕ). IsDatagramFor octets s.opening t) (sym same) is_of;
           place = earlier;
           chain = subst (λ (y : Stay). Chain s.opening.window es n y earlier) one chain;
         }

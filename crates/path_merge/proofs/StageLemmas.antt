@@ -19,13 +19,13 @@ use Rattle.path_merge.specs.declared.schedule.event.Event.TheVariants.{Send, Arr
 use Rattle.path_merge.specs.declared.schedule.played.Handed.{Handed}
 use Rattle.path_merge.specs.declared.schedule.sending.Next.{Next}
 use Rattle.path_merge.specs.declared.schedule.stage.Stage.{Stage}
-use Rattle.path_merge.specs.Stays.{Stay, Lasts, HasEnded, slide_timestamp, slide_timestamps}
-use Rattle.path_merge.specs.Reached.{Scene, IsAt, IsFrameOf, Leaves}
+use Rattle.path_merge.specs.Stays.{Stay, Lasts, HasLeft, slide_timestamp, slide_timestamps}
+use Rattle.path_merge.specs.Reached.{Scene, IsAt, IsFrameOf, Spares}
 use Rattle.path_merge.specs.Admitted.{send_count}
 use Rattle.path_merge.specs.Played.{IsHanded, ended_stays, stays_ended_by, stays_ended_behind}
-use Rattle.path_merge.specs.Stage.{Follows, HandsOut, NeverFits, Sends}
+use Rattle.path_merge.specs.Stage.{IsFollowedBy, HandsOut, NeverFits, SendsOne}
 use Rattle.st_format.specs.Memory.{octets_of}
-use Rattle.path_merge.specs.Steps.{Arrives, Merges, to_come}
+use Rattle.path_merge.specs.Steps.{Arrives, MergesInto, to_come}
 use Rattle.path_merge.proofs.Places.{get_below, get_left}
 use Rattle.path_merge.proofs.Reaching.{frame_kept, none_by_other, none_when_over}
 use Rattle.path_merge.proofs.StayFrames.{at_left, at_taken, at_merged, at_slid, at_first}
@@ -54,8 +54,8 @@ pub ended_more : (w : List ℕ) (es : List Event) (e : Event)
 ended_more w es e = ended_snoc w [] es e
 
 -- what has ended stays so
-still_over : (es : List Event) (e : Event) (stay : Stay) → HasEnded stay es
-    → HasEnded stay (es ++ e ∷ [])
+still_over : (es : List Event) (e : Event) (stay : Stay) → HasLeft stay es
+    → HasLeft stay (es ++ e ∷ [])
 still_over es e stay over =
     omega (
       arith,
@@ -64,7 +64,7 @@ still_over es e stay over =
       length-append (slide_timestamps stay.receiver es) (slide_timestamp stay.receiver e),
     )
 
-not_lasting : (w : List ℕ) (es : List Event) (stay : Stay) → HasEnded stay es → Lasts stay w es → ⊥
+not_lasting : (w : List ℕ) (es : List Event) (stay : Stay) → HasLeft stay es → Lasts stay w es → ⊥
 not_lasting w es stay over lasts = absurd (omega (arith, over, lasts.not_ended))
 
 handed_still : {A : Type 0} (s : Scene) (es : List Event) (e : Event) (stay : Stay) (h : Handed A)
@@ -128,7 +128,7 @@ replaced (z ∷ xs) (suc i) (suc r) x y h = elim (replaced xs i r x y h) [
 ]
 
 each_receiver : (s : Scene) (es : List Event) (e : Event) (old : List State) (i : ℕ)
-    (after : State) → ((r : ℕ) → i ≢ r → Leaves e r)
+    (after : State) → ((r : ℕ) → i ≢ r → Spares e r)
     → ((r : ℕ) (state : State) → slice_get old r ≡ Some state → IsAt state r s es)
     → IsAt after i s (es ++ e ∷ [])
     → (r : ℕ) (state : State) → slice_get (set old i after) r ≡ Some state
@@ -176,8 +176,8 @@ drop_first (suc n) (x ∷ xs) t h = drop_first n xs t h
 -- ---- the four events
 
 pub follows_send : {A : Type 0} (plan : RasterPlan) (stamp : Stamp) (pictures : List Values)
-    (old new : Stage A) → Sends plan stamp pictures old new
-    → Follows plan stamp pictures Send old new
+    (old new : Stage A) → SendsOne plan stamp pictures old new
+    → IsFollowedBy plan stamp pictures Send old new
 follows_send plan stamp pictures old new h s es some is = record {
   admitted =
       omega (
@@ -221,7 +221,7 @@ pub follows_arrive : {A : Type 0} (plan : RasterPlan) (stamp : Stamp) (pictures 
     (to number : ℕ) (path : Path) (old new : Stage A)
     → Arrives to number old.sent.items old.receivers.items new.receivers.items
     → new.sent.items ≡ old.sent.items → new.handed.items ≡ old.handed.items → new.next ≡ old.next
-    → Follows plan stamp pictures (Arrive to path number) old new
+    → IsFollowedBy plan stamp pictures (Arrive to path number) old new
 follows_arrive plan stamp pictures to number path old new h sent handed next s es some is =
     let e : Event = Arrive to path number in
     let below : to < length old.receivers.items =
@@ -273,7 +273,7 @@ first_timestamp s es at t state is first =
 
 pub follows_slide : {A : Type 0} (plan : RasterPlan) (stamp : Stamp) (pictures : List Values)
     (at next : ℕ) (old new : Stage A) → HandsOut at next old new
-    → new.next ≡ old.next → Follows plan stamp pictures (Slide at next) old new
+    → new.next ≡ old.next → IsFollowedBy plan stamp pictures (Slide at next) old new
 follows_slide plan stamp pictures at next old new out same s es some is =
     let e : Event = Slide at next in
     let h = out.slides in
@@ -334,9 +334,10 @@ follows_slide plan stamp pictures at next old new out same s es some is =
     }
 
 pub follows_merge : {A : Type 0} (plan : RasterPlan) (stamp : Stamp) (pictures : List Values)
-    (into from : ℕ) (old new : Stage A) → Merges into from old.receivers.items new.receivers.items
+    (into from : ℕ) (old new : Stage A) → MergesInto into from old.receivers.items
+    new.receivers.items
     → new.sent.items ≡ old.sent.items → new.handed.items ≡ old.handed.items → new.next ≡ old.next
-    → Follows plan stamp pictures (Merge into from) old new
+    → IsFollowedBy plan stamp pictures (Merge into from) old new
 follows_merge plan stamp pictures into from old new h sent handed next s es some is =
     let e : Event = Merge into from in
     let here : IsAt h.before into s es = is.receivers into h.before h.there in
@@ -434,10 +435,10 @@ on_ok_map (Ok x) f h = f h
 on_ok_map (Err e) f h = tt
 
 pub follows_of : {A : Type 0} (plan : RasterPlan) (stamp : Stamp) (pictures : List Values)
-    (e f : Event) (old new : Stage A) → f ≡ e → Follows plan stamp pictures e old new
-    → Follows plan stamp pictures f old new
+    (e f : Event) (old new : Stage A) → f ≡ e → IsFollowedBy plan stamp pictures e old new
+    → IsFollowedBy plan stamp pictures f old new
 follows_of plan stamp pictures e f old new same h =
-    subst (λ (x : Event). Follows plan stamp pictures x old new) (sym same) h
+    subst (λ (x : Event). IsFollowedBy plan stamp pictures x old new) (sym same) h
 
 pub never_of : {A : Type 0} (plan : RasterPlan) (stamp : Stamp) (pictures : List Values)
     (e f : Event) (old : Stage A) → f ≡ e → NeverFits plan stamp pictures e old

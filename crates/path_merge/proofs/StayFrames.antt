@@ -19,7 +19,7 @@ use Rattle.path_merge.proofs.Windows.{member_get}
 use Rattle.path_merge.specs.declared.schedule.event.Event.{Event}
 use Rattle.path_merge.specs.declared.schedule.event.Event.TheVariants.{Send, Arrive, Slide, Merge}
 use Rattle.path_merge.specs.Stays.{Stay, Lasts, slide_timestamp, slide_timestamps, window_after}
-use Rattle.path_merge.specs.Reached.{Scene, Reaches, IsFrameOf, AreFrames, IsAt, Leaves}
+use Rattle.path_merge.specs.Reached.{Scene, Reaches, IsFrameOf, AreFrames, IsAt, Spares}
 use Rattle.path_merge.proofs.Chains.{chain_below}
 use Rattle.path_merge.proofs.Places.{drop_get, drop_next}
 use Rattle.path_merge.proofs.Reaching.{Newly, frame_kept, frame_taken, frame_merged, frame_new}
@@ -187,19 +187,19 @@ at_same s es e r state none opening frames =
     (opening, frames) in
     record { opening = h.0; frames = h.1 }
 
-left_frames : (e : Event) (r : ℕ) → Leaves e r → LeavesFrames e r
+left_frames : (e : Event) (r : ℕ) → Spares e r → LeavesFrames e r
 left_frames Send r other = tt
 left_frames (Arrive to path number) r other = other
 left_frames (Slide at next) r other = tt
 left_frames (Merge into from) r other = other
 
-left_window : (e : Event) (r : ℕ) → Leaves e r → slide_timestamp r e ≡ []
+left_window : (e : Event) (r : ℕ) → Spares e r → slide_timestamp r e ≡ []
 left_window Send r other = refl
 left_window (Arrive to path number) r other = refl
 left_window (Slide at next) r other = ap (λ (b : Bool). cond b (next ∷ []) []) (ne_eqb at r other)
 left_window (Merge into from) r other = refl
 
-pub at_left : (s : Scene) (es : List Event) (e : Event) (r : ℕ) (state : State) → Leaves e r
+pub at_left : (s : Scene) (es : List Event) (e : Event) (r : ℕ) (state : State) → Spares e r
     → IsAt state r s es → IsAt state r s (es ++ e ∷ [])
 at_left s es e r state other is =
     at_same s es e r state (left_window e r other) is.opening

@@ -11,7 +11,7 @@ use Rattle.path_merge.specs.declared.fault.SlideFault.TheVariants.{InWindow, Oth
 use Rattle.path_merge.specs.Frames.{State, IsReceiver, frames_of, joined_frames}
 use Rattle.path_merge.specs.declared.schedule.play_fault.Stop.{Stop}
 use Rattle.path_merge.specs.declared.schedule.played.Handed.{Handed}
-use Rattle.path_merge.specs.Steps.{Arrives, Slides, SlidesOne, Merges}
+use Rattle.path_merge.specs.Steps.{Arrives, SlidesOut, SlidesOne, MergesInto}
 
 pub arrives_made : {A : Type 0} (to number r : ℕ) (sent : List (Vec ℕ A)) (old : List State)
     (before after : State) (v : Vec ℕ A) (octets : List ℕ) → r ≡ to → r < length old
@@ -44,7 +44,7 @@ arrives_made to number r sent old before after v octets same lt below is is_v is
 pub slides_made : {A : Type 0} (at next r : ℕ) (old : List State) (d new : State)
     (result : Result (Handed A) Stop) → r ≡ at → r < length old
     → IfOk result (λ h. SlidesOne at next (get_or old r d) new h)
-    → IfOk result (λ h. Slides at next old (set old r new) h)
+    → IfOk result (λ h. SlidesOut at next old (set old r new) h)
 slides_made at next r old d new (Err e) same lt one = one
 slides_made at next r old d new (Ok h) same lt one = record {
   before = get_or old r d;
@@ -136,7 +136,7 @@ pub merges_made : {T E : Type 0} (into from : ℕ) (old new : List State)
     → slice_get old into ≡ Some before → slice_get old from ≡ Some other
     → OnOk r (before.opening ≡ other.opening) → after.opening ≡ before.opening
     → OnOk r (after.frames ≡ joined_frames before.frames other.frames) → IsReceiver after
-    → new ≡ set old into after → Merges into from old new
+    → new ≡ set old into after → MergesInto into from old new
 merges_made into from old new before other after r x is two there too alike opening frames receiver
     all = record {
       two = two;
@@ -182,10 +182,10 @@ refused_at i j into from old r e f h =
     → a.opening ≢ b.opening)) e h)
 
 pub merged_at : {T E : Type 0} (i j into from : ℕ) (old new : List State) (r : Result T E)
-    → i ≡ into → j ≡ from → OnOk r (Merges i j old new) → OnOk r (Merges into from old new)
+    → i ≡ into → j ≡ from → OnOk r (MergesInto i j old new) → OnOk r (MergesInto into from old new)
 merged_at i j into from old new r e f h =
-    subst (λ (y : ℕ). OnOk r (Merges into y old new)) f
-    (subst (λ (x : ℕ). OnOk r (Merges x j old new)) e h)
+    subst (λ (y : ℕ). OnOk r (MergesInto into y old new)) f
+    (subst (λ (x : ℕ). OnOk r (MergesInto x j old new)) e h)
 
 -- ---- the same of equal lists
 
@@ -206,17 +206,17 @@ arrive_unfit_of to number sent sent' old old' r e f h =
     (subst (λ (xs : List State). OnErr r (to < length xs → number < length sent' → ⊥)) f h)
 
 pub slides_of : {A : Type 0} (at next : ℕ) (old old' new new' : List State) (out : Handed A)
-    → old' ≡ old → new ≡ new' → Slides at next old' new' out → Slides at next old new out
+    → old' ≡ old → new ≡ new' → SlidesOut at next old' new' out → SlidesOut at next old new out
 slides_of at next old old' new new' out f g h =
-    subst (λ (xs : List State). Slides at next xs new out) f
-    (subst (λ (xs : List State). Slides at next old' xs out) (sym g) h)
+    subst (λ (xs : List State). SlidesOut at next xs new out) f
+    (subst (λ (xs : List State). SlidesOut at next old' xs out) (sym g) h)
 
 pub merges_of : {T E : Type 0} (into from : ℕ) (old old' new new' : List State) (r : Result T E)
-    → old' ≡ old → new ≡ new' → OnOk r (Merges into from old' new')
-    → OnOk r (Merges into from old new)
+    → old' ≡ old → new ≡ new' → OnOk r (MergesInto into from old' new')
+    → OnOk r (MergesInto into from old new)
 merges_of into from old old' new new' r f g h =
-    subst (λ (xs : List State). OnOk r (Merges into from xs new)) f
-    (subst (λ (xs : List State). OnOk r (Merges into from old' xs)) (sym g) h)
+    subst (λ (xs : List State). OnOk r (MergesInto into from xs new)) f
+    (subst (λ (xs : List State). OnOk r (MergesInto into from old' xs)) (sym g) h)
 
 pub merge_unfit_of : {T E : Type 0} (into from : ℕ) (old old' : List State) (r : Result T E)
     → old' ≡ old

@@ -9,7 +9,7 @@ use Rattle.path_merge.specs.declared.schedule.event.Event.{Event}
 use Rattle.path_merge.specs.declared.schedule.event.Event.TheVariants.{Send, Arrive, Slide, Merge}
 use Rattle.path_merge.specs.declared.schedule.played.Handed.{Handed}
 use Rattle.path_merge.specs.declared.schedule.played.Played.{Played}
-use Rattle.path_merge.specs.Stays.{Stay, HasEnded, slide_timestamps}
+use Rattle.path_merge.specs.Stays.{Stay, HasLeft, slide_timestamps}
 use Rattle.path_merge.specs.Reached.{Scene, IsFrameOf, IsAt}
 use Rattle.path_merge.specs.Admitted.{AreAdmittedTo}
 
@@ -47,7 +47,7 @@ pub record IsHanded {A : Type 0} (s : Scene) (events : List Event) (stay : Stay)
     (h : Handed A) : Type 0 where
   pub receiver : h.receiver ≡ stay.receiver
   pub timestamp : h.timestamp ≡ stay.timestamp
-  pub over : HasEnded stay events
+  pub over : HasLeft stay events
   pub frame : IsFrameOf h.frame stay s events
 
 -- The frames handed out are those of the stays that ended, in order; the receivers have the

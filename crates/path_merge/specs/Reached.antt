@@ -40,7 +40,7 @@ pub data Chain (window : List ℕ) (events : List Event) (number : ℕ) : Stay �
       → Chain window events number stay place
 
 -- octets are a datagram for a receiver, of this timestamp
-pub record IsOf (octets : List ℕ) (o : Opening) (timestamp : ℕ) : Type 0 where
+pub record IsDatagramFor (octets : List ℕ) (o : Opening) (timestamp : ℕ) : Type 0 where
   pub datagram : Datagram
   pub is_for : IsFor octets o datagram
   pub time : datagram.timestamp ≡ timestamp
@@ -49,7 +49,7 @@ pub record IsOf (octets : List ℕ) (o : Opening) (timestamp : ℕ) : Type 0 whe
 pub record Reaches (octets : List ℕ) (stay : Stay) (s : Scene) (events : List Event) : Type 0 where
   pub number : ℕ
   pub sent : slice_get s.sent number ≡ Some octets
-  pub is_of : IsOf octets s.opening stay.timestamp
+  pub is_of : IsDatagramFor octets s.opening stay.timestamp
   pub place : ℕ
   pub chain : Chain s.opening.window events number stay place
 
@@ -93,8 +93,8 @@ pub data LastStep (window : List ℕ) (before : List Event) (event : Event) (num
       → LastStep window before event number stay
 
 -- An event leaves a receiver that it isn't about, and a Send leaves each.
-abbrev pub Leaves : Event → ℕ → Type 0
-Leaves Send receiver = ⊤
-Leaves (Arrive to path number) receiver = to ≢ receiver
-Leaves (Slide at next) receiver = at ≢ receiver
-Leaves (Merge into from) receiver = into ≢ receiver
+abbrev pub Spares : Event → ℕ → Type 0
+Spares Send receiver = ⊤
+Spares (Arrive to path number) receiver = to ≢ receiver
+Spares (Slide at next) receiver = at ≢ receiver
+Spares (Merge into from) receiver = into ≢ receiver

@@ -14,7 +14,7 @@ use Rattle.path_merge.specs.declared.schedule.stage.Stage.{Stage}
 use Rattle.path_merge.specs.Reached.{Scene, IsAt}
 use Rattle.path_merge.specs.Admitted.{AreAdmittedTo, IsAdmitted, IsFirstBad, send_count}
 use Rattle.path_merge.specs.Played.{IsHanded, ended_stays}
-use Rattle.path_merge.specs.Steps.{Slides, to_come}
+use Rattle.path_merge.specs.Steps.{SlidesOut, to_come}
 use Rattle.path_merge.specs.declared.schedule.played.Handed.{Handed}
 
 -- After some events: the receivers are where the events leave them, the stays that ended were
@@ -34,7 +34,7 @@ pub record IsReady {A : Type 0} (plan : RasterPlan) (stage : Stage A) : Type 0 w
   pub index : stage.next.index < length plan.packets
 
 -- the next datagram was sent
-pub record Sends {A : Type 0} (plan : RasterPlan) (stamp : Stamp) (pictures : List Values)
+pub record SendsOne {A : Type 0} (plan : RasterPlan) (stamp : Stamp) (pictures : List Values)
     (old new : Stage A) : Type 0 where
   pub datagram : Vec ℕ A
   pub is_next : to_come plan stamp pictures old.next
@@ -46,7 +46,7 @@ pub record Sends {A : Type 0} (plan : RasterPlan) (stamp : Stamp) (pictures : Li
 -- a receiver's window moved on, and its first frame was handed out
 pub record HandsOut {A : Type 0} (at next : ℕ) (old new : Stage A) : Type 0 where
   pub out : Handed A
-  pub slides : Slides at next old.receivers.items new.receivers.items out
+  pub slides : SlidesOut at next old.receivers.items new.receivers.items out
   pub handed : new.handed.items ≡ old.handed.items ++ out ∷ []
   pub sent : new.sent.items ≡ old.sent.items
 
@@ -57,9 +57,10 @@ pub record IsFollowed {A : Type 0} (plan : RasterPlan) (stamp : Stamp) (pictures
   pub stage : IsStage plan stamp pictures s (before ++ event ∷ []) new
 
 -- so it is whatever the events before were
-abbrev pub Follows : {A : Type 0} → RasterPlan → Stamp → List Values → Event → Stage A → Stage A
+abbrev pub IsFollowedBy : {A : Type 0} → RasterPlan → Stamp → List Values → Event → Stage A
+    → Stage A
     → Type 0
-Follows plan stamp pictures event old new =
+IsFollowedBy plan stamp pictures event old new =
     (s : Scene) (before : List Event) → 0 < length s.opening.window
     → IsStage plan stamp pictures s before old → IsFollowed plan stamp pictures s before event new
 
@@ -90,7 +91,7 @@ FollowsAll plan stamp pictures events old new =
     FollowsTo plan stamp pictures events (length events) old new
 
 -- the first that is not admitted stands at this place
-abbrev pub FailsAt : {A : Type 0} → RasterPlan → Stamp → List Values → List Event → ℕ
+abbrev pub StopsAt : {A : Type 0} → RasterPlan → Stamp → List Values → List Event → ℕ
     → Stage A → Type 0
-FailsAt plan stamp pictures events place old = (s : Scene) → 0 < length s.opening.window →
+StopsAt plan stamp pictures events place old = (s : Scene) → 0 < length s.opening.window →
     IsStage plan stamp pictures s [] old → IsFirstBad place s events

@@ -37,5 +37,5 @@ window_after window receiver events =
     drop (length brought) (window ++ brought)
 
 -- a stay has ended: a Slide at its receiver ended it
-abbrev pub HasEnded : Stay → List Event → Type 0
-HasEnded stay events = stay.number < length (slide_timestamps stay.receiver events)
+abbrev pub HasLeft : Stay → List Event → Type 0
+HasLeft stay events = stay.number < length (slide_timestamps stay.receiver events)

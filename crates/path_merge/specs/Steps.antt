@@ -30,7 +30,7 @@ pub record Arrives {A : Type 0} (to number : ℕ) (sent : List (Vec ℕ A))
   pub all : new ≡ slice_set old to after
 
 -- a receiver's window moved on, and its first frame was handed out
-pub record Slides {A : Type 0} (at next : ℕ) (old new : List State) (h : Handed A) : Type 0 where
+pub record SlidesOut {A : Type 0} (at next : ℕ) (old new : List State) (h : Handed A) : Type 0 where
   pub before : State
   pub there : slice_get old at ≡ Some before
   pub fresh : IsMember next before.opening.window → ⊥
@@ -50,7 +50,7 @@ pub record SlidesOne {A : Type 0} (at next : ℕ) (old new : State) (h : Handed 
   pub all : new ≡ slid_state old next
 
 -- a receiver was merged into another
-pub record Merges (into from : ℕ) (old new : List State) : Type 0 where
+pub record MergesInto (into from : ℕ) (old new : List State) : Type 0 where
   pub two : into ≢ from
   pub before : State
   pub there : slice_get old into ≡ Some before

@@ -17,7 +17,7 @@ use Rattle.payload_header.specs.declared.payload.PayloadFault.TheVariants.{BadLe
 use Rattle.payload_header.specs.declared.payload.PayloadFault.TheVariants.{RowOutside}
 use Rattle.payload_header.specs.declared.payload.PayloadFault.TheVariants.{ColumnsOutside}
 use Rattle.payload_header.specs.Payload.{group_of, Header, HeaderFits, header_text, IsChain}
-use Rattle.payload_header.specs.Payload.{IsInside, Describes, IsPayload, most_segments}
+use Rattle.payload_header.specs.Payload.{IsInside, IsHeaderOf, IsPayload, most_segments}
 use Rattle.payload_header.specs.Reading.{first_of, number_at, header_of, headers_at}
 use Rattle.st_format.specs.Reading.{◌>>=◌}
 use Rattle.payload_header.specs.Reading.{headers_fault, option_or, fault_or, segments_at}
@@ -159,7 +159,7 @@ no_test b1 b2 b3 b4 b5 e1 e2 e3 e4 e5 = rw (e1, e2, e3, e4, e5) refl
 zero_test : (n : ℕ) → n ≡ 0 → not (eqb n 0) ≡ false
 zero_test n e = ap not (eq-eqb n 0 e)
 
-fault_free : (f : Format) (h : Header) (s : Segment) (b : Bool) → Describes h f s
+fault_free : (f : Format) (h : Header) (s : Segment) (b : Bool) → IsHeaderOf h f s
     → eqb h.octets 0 ≡ b
     → cond b None
     (first_of ((h.second_field, SecondField) ∷
@@ -190,7 +190,7 @@ fault_free f h s false d e =
     (sym d.octets) is.columns)))
 
 no_faults : (f : Format) (hs : List Header) (ss : List Segment)
-    → AllZip (λ h s. Describes h f s) hs ss
+    → AllZip (λ h s. IsHeaderOf h f s) hs ss
     → headers_fault f hs ≡ None
 no_faults f [] ss d = refl
 no_faults f (h ∷ hs) [] d = absurd d
@@ -204,7 +204,7 @@ abbrev all_octets : List Segment → List ℕ
 all_octets ss = flat_map (λ (s : Segment). s.octets) ss
 
 lengths : (f : Format) (hs : List Header) (ss : List Segment)
-    → AllZip (λ h s. Describes h f s) hs ss
+    → AllZip (λ h s. IsHeaderOf h f s) hs ss
     → counted_octets hs ≡ length (all_octets ss)
 lengths f [] [] d = refl
 lengths f [] (s ∷ ss) d = absurd d
@@ -222,7 +222,7 @@ abbrev segment : ℕ → ℕ → List ℕ → Segment
 segment row offset octets = record { row = row; offset = offset; octets = octets }
 
 segments_again : (f : Format) (hs : List Header) (ss : List Segment) (rest : List ℕ)
-    → AllZip (λ h s. Describes h f s) hs ss → segments_at hs (all_octets ss ++ rest) ≡ ss
+    → AllZip (λ h s. IsHeaderOf h f s) hs ss → segments_at hs (all_octets ss ++ rest) ≡ ss
 segments_again f [] [] rest d = refl
 segments_again f [] (s ∷ ss) rest d = absurd d
 segments_again f (h ∷ hs) [] rest d = absurd d

@@ -15,7 +15,7 @@ use Rattle.payload_header.specs.declared.payload.PayloadFault.TheVariants.{Secon
 use Rattle.payload_header.specs.declared.payload.PayloadFault.TheVariants.{BadOffset, RowOutside}
 use Rattle.payload_header.specs.declared.payload.PayloadFault.TheVariants.{ColumnsOutside}
 use Rattle.payload_header.specs.declared.payload.Segment.{Segment as SegmentView}
-use Rattle.payload_header.specs.Payload.{group_of, Header, IsInside, Describes, seen_segment}
+use Rattle.payload_header.specs.Payload.{group_of, Header, IsInside, IsHeaderOf, seen_segment}
 use Rattle.payload_header.specs.Reading.{first_of, header_fault, headers_fault, option_or}
 use Rattle.payload_header.specs.Reading.{segments_at, counted_octets}
 
@@ -46,7 +46,7 @@ header_ok : (f : Format) (h : Header) (b : Bool) → eqb h.octets 0 ≡ b
       ColumnsOutside,
     ) ∷ [])) ≡ None
     → (s : Segment) → h.octets ≡ length s.octets → h.row ≡ s.row → h.offset ≡ s.offset
-    → Describes h f s
+    → IsHeaderOf h f s
 header_ok f h true e none s o r p =
     let empty : h.octets ≡ 0 = eqb-true h.octets 0 e in
     record {
@@ -95,7 +95,8 @@ option_none None b h = (refl, h)
 option_none (Some e) b h = absurd cc
 
 pub all_described : (f : Format) (hs : List Header) (octets : List ℕ) → headers_fault f hs ≡ None
-    → counted_octets hs ≤ length octets → AllZip (λ h s. Describes h f s) hs (segments_at hs octets)
+    → counted_octets hs ≤ length octets → AllZip (λ h s. IsHeaderOf h f s) hs
+    (segments_at hs octets)
 all_described f [] octets none enough = tt
 all_described f (h ∷ hs) octets none enough =
     let two = option_none (header_fault f h) (headers_fault f hs) none in
@@ -109,7 +110,7 @@ all_described f (h ∷ hs) octets none enough =
 
 -- what the segments of a view owe
 pub all_inside : (f : Format) (hs : List Header) (ss : List Segment)
-    → AllZip (λ h s. Describes h f s) hs ss
+    → AllZip (λ h s. IsHeaderOf h f s) hs ss
     → AllByRecursion (λ s. 0 < length s.octets → IsInside s f) ss
 all_inside f [] [] d = tt
 all_inside f [] (s ∷ ss) d = absurd d
@@ -130,5 +131,5 @@ view_inside f hs octets ss is none enough =
     All-from_recursion (λ s. 0 < length s.octets.now → IsInside (seen_segment s) f) ss
     (seen_inside f ss
     (all_inside f hs (map seen_segment ss)
-    (subst (λ (xs : List Segment). AllZip (λ h s. Describes h f s) hs xs) (sym is)
+    (subst (λ (xs : List Segment). AllZip (λ h s. IsHeaderOf h f s) hs xs) (sym is)
     (all_described f hs octets none enough))))

@@ -13,12 +13,12 @@ use Rattle.payload_header.specs.declared.payload.PayloadFault.{PayloadFault}
 use Rattle.payload_header.specs.declared.payload.PayloadFault.TheVariants.{ShortData}
 use Rattle.payload_header.specs.declared.writing.SegmentHead.{SegmentHead}
 use Rattle.payload_header.specs.Payload.{Header, HeaderFits, header_text, IsChain, IsInside}
-use Rattle.payload_header.specs.Payload.{Describes, IsPayload, most_segments}
+use Rattle.payload_header.specs.Payload.{IsHeaderOf, IsPayload, most_segments}
 use Rattle.payload_header.specs.Reading.{headers_fault, fault_or, segments_at, counted_octets}
 use Rattle.st_format.specs.Reading.{◌>>=◌}
 use Rattle.payload_header.specs.Reading.{data_at}
 use Rattle.payload_header.specs.Faults.{HasHeaders}
-use Rattle.payload_header.specs.Writing.{HeadFits, header_of_head, headers_of_heads, front_text}
+use Rattle.payload_header.specs.Writing.{HeadFits, header_of_head, headers_of_heads, payload_front}
 use Rattle.payload_header.specs.Writing.{Announces, AreHeads, data_text, AreInside, IsWholePayload}
 use Rattle.payload_header.proofs.Grammar.{octets_of-cons, all_inside}
 use Rattle.payload_header.proofs.Again.{payload_again}
@@ -42,7 +42,7 @@ length-text (h ∷ hs) =
     )
 
 length-front : (extended : ℕ) (heads : List SegmentHead)
-    → length (front_text extended heads) ≡ 2 + 6 * length heads
+    → length (payload_front extended heads) ≡ 2 + 6 * length heads
 length-front extended heads =
     omega (
       arith,
@@ -91,7 +91,7 @@ all_front (h ∷ k ∷ hs) [] a = absurd a
 all_front (h ∷ k ∷ hs) (s ∷ ss) a = (front_of true h s a.0, all_front (k ∷ hs) ss a.1)
 
 describes : (f : Format) (h : Header) (s : Segment) → Fronts h s
-    → (0 < length s.octets → IsInside s f) → Describes h f s
+    → (0 < length s.octets → IsInside s f) → IsHeaderOf h f s
 describes f h s a inside =
     record {
       octets = a.octets;
@@ -103,7 +103,8 @@ describes f h s a inside =
     }
 
 all_describe : (f : Format) (hs : List Header) (segments : List Segment)
-    → AllZip Fronts hs segments → AreInside segments f → AllZip (λ h s. Describes h f s) hs segments
+    → AllZip Fronts hs segments → AreInside segments f → AllZip
+    (λ h s. IsHeaderOf h f s) hs segments
 all_describe f [] [] a inside = tt
 all_describe f [] (s ∷ ss) a inside = absurd a
 all_describe f (h ∷ hs) [] a inside = absurd a
@@ -154,9 +155,9 @@ segments_back (h ∷ hs) (s ∷ ss) rest a =
 
 written_whole : (f : Format) (extended : ℕ) (heads : List SegmentHead) (segments : List Segment)
     → AreHeads extended heads segments → AreInside segments f
-    → IsWholePayload (front_text extended heads ++ data_text segments) f extended segments
+    → IsWholePayload (payload_front extended heads ++ data_text segments) f extended segments
 written_whole f extended heads segments are inside =
-    let made : IsPayload (front_text extended heads ++ data_text segments) f extended segments =
+    let made : IsPayload (payload_front extended heads ++ data_text segments) f extended segments =
     record {
       headers = headers_of_heads heads;
       rest = [];
@@ -180,7 +181,7 @@ written_whole f extended heads segments are inside =
 pub is_written_payload : (f : Format) (extended : ℕ) (heads : List SegmentHead)
     (segments : List Segment) → AreHeads extended heads segments
     → AreInside segments f
-    ↔ IsWholePayload (front_text extended heads ++ data_text segments) f extended segments
+    ↔ IsWholePayload (payload_front extended heads ++ data_text segments) f extended segments
 is_written_payload f extended heads segments are = (
   λ inside. written_whole f extended heads segments are inside,
   λ is. all_inside f is.is_payload.headers segments is.is_payload.described,
@@ -206,13 +207,13 @@ told (Some d) n ss x e = absurd cc
 
 pub written_has : (f : Format) (extended d : ℕ) (heads : List SegmentHead)
     (segments ts : List Segment) (rest : List ℕ) → AreHeads extended heads segments
-    → IsPayload (front_text extended heads ++ (data_text segments ++ rest)) f d ts
+    → IsPayload (payload_front extended heads ++ (data_text segments ++ rest)) f d ts
     → (d ≡ extended) × (ts ≡ segments)
 written_has f extended d heads segments ts rest are is =
     let hs : List Header = headers_of_heads heads in
     let later : List ℕ = data_text segments ++ rest in
     let fronts : AllZip Fronts hs segments = all_front heads segments are.announce in
-    let whole : HasHeaders (front_text extended heads ++ later) hs later = record {
+    let whole : HasHeaders (payload_front extended heads ++ later) hs later = record {
       begins = record {
         extended = extended;
         extended_fits = are.extended_fits;
@@ -236,8 +237,8 @@ written_has f extended d heads segments ts rest are is =
     ≡ read_of (d, ts) =
     ap (λ (r : Result (List Segment) PayloadFault). fault_or
     (headers_fault f hs) r >>= with_number extended) (sym cut)
-    ∙ sym (begun_whole f (front_text extended heads ++ later) hs later whole)
-    ∙ payload_again f d ts (front_text extended heads ++ later) is in
+    ∙ sym (begun_whole f (payload_front extended heads ++ later) hs later whole)
+    ∙ payload_again f d ts (payload_front extended heads ++ later) is in
     let pair : (extended, segments) ≡ (d, ts) =
     told (headers_fault f hs) extended segments (d, ts) read in
     (ap (λ (x : ℕ × List Segment). x.0) (sym pair), ap (λ (x : ℕ × List Segment). x.1) (sym pair))
@@ -246,14 +247,14 @@ written_has f extended d heads segments ts rest are is =
 pub is_written : (extended : ℕ) (heads : List SegmentHead) (new behind : List ℕ)
     → extended < 2 ^ 16 → 0 < length heads → length heads ≤ most_segments
     → AllByRecursion HeadFits heads
-    → new ≡ front_text extended heads ++ behind → (f : Format) (segments : List Segment)
+    → new ≡ payload_front extended heads ++ behind → (f : Format) (segments : List Segment)
     → AllZip Announces heads segments
     → AreInside segments f
     ↔ IsWholePayload (take (2 + 6 * length heads) new ++ data_text segments) f extended segments
 is_written extended heads new behind small some few fields written f segments announce =
-    let front : take (2 + 6 * length heads) new ≡ front_text extended heads =
+    let front : take (2 + 6 * length heads) new ≡ payload_front extended heads =
     ap (take (2 + 6 * length heads)) written
-    ∙ take_at (front_text extended heads) behind (2 + 6 * length heads)
+    ∙ take_at (payload_front extended heads) behind (2 + 6 * length heads)
     (length-front extended heads) in
     subst (λ (x : List ℕ). AreInside segments f
     ↔ IsWholePayload (x ++ data_text segments) f extended segments) (sym front)

@@ -52,7 +52,7 @@ IsChain (h ∷ k ∷ hs) = (h.more ≡ true) × IsChain (k ∷ hs)
 
 -- A header describes a segment of the first field. One without octets is free in its field, row and
 -- offset (own).
-pub record Describes (h : Header) (f : Format) (s : Segment) : Type 0 where
+pub record IsHeaderOf (h : Header) (f : Format) (s : Segment) : Type 0 where
   pub octets : h.octets ≡ length s.octets
   pub row : h.row ≡ s.row
   pub offset : h.offset ≡ s.offset
@@ -73,7 +73,7 @@ pub record IsPayload (payload : List ℕ) (f : Format) (extended : ℕ)
   pub headers_fit : AllByRecursion HeaderFits headers
   pub few : length headers ≤ most_segments
   pub chain : IsChain headers
-  pub described : AllZip (λ h s. Describes h f s) headers segments
+  pub described : AllZip (λ h s. IsHeaderOf h f s) headers segments
   pub whole : payload
       ≡ to_be_bytes w16 extended ++
       (flat_map header_text headers ++ (flat_map (λ s. s.octets) segments ++ rest))

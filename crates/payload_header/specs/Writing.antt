@@ -26,8 +26,8 @@ headers_of_heads (h ∷ []) = header_of_head false h ∷ []
 headers_of_heads (h ∷ k ∷ hs) = header_of_head true h ∷ headers_of_heads (k ∷ hs)
 
 -- the extended number and the headers
-abbrev pub front_text : ℕ → List SegmentHead → List ℕ
-front_text extended heads =
+abbrev pub payload_front : ℕ → List SegmentHead → List ℕ
+payload_front extended heads =
     to_be_bytes w16 extended ++ flat_map header_text (headers_of_heads heads)
 
 -- a head has a segment's place and number of octets

@@ -9,7 +9,7 @@ ghost use Rattle.payload_header.specs.Faults.{IsRefusedPayload};
 ghost use Rattle.st_format.specs.Device.{AreOctets};
 ghost use Rattle.payload_header.specs.declared.writing.SegmentHead.{SegmentHead};
 ghost use Rattle.payload_header.specs.Writing.{AreHeads, AreInside, IsWholePayload, data_text};
-ghost use Rattle.payload_header.specs.Writing.{front_text};
+ghost use Rattle.payload_header.specs.Writing.{payload_front};
 
 /// Octets are a payload of a format in one way at most.
 pub fn one_reading()
@@ -49,13 +49,13 @@ pub fn written_payload()
     ensures { (f : Format) (extended : ℕ) (heads : List SegmentHead) (segments : List Segment)
         → AreHeads extended heads segments
         → AreInside segments f
-        ↔ IsWholePayload (front_text extended heads ++ data_text segments) f extended segments }
+        ↔ IsWholePayload (payload_front extended heads ++ data_text segments) f extended segments }
 {}
 
 /// Whatever stands behind them, it is a payload of no other number and no other segments.
 pub fn written_fields()
     ensures { (f : Format) (extended d : ℕ) (heads : List SegmentHead) (segments ss : List Segment)
         (rest : List ℕ) → AreHeads extended heads segments
-        → IsPayload (front_text extended heads ++ (data_text segments ++ rest)) f d ss
+        → IsPayload (payload_front extended heads ++ (data_text segments ++ rest)) f d ss
         → (d ≡ extended) × (ss ≡ segments) }
 {}

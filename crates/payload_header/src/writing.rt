@@ -6,7 +6,7 @@ ghost use Rattle.st_format.specs.declared.format.Format.{Format};
 ghost use Rattle.st_format.specs.Raster.{Segment};
 ghost use Rattle.payload_header.specs.Payload.{header_text, most_segments};
 ghost use Rattle.payload_header.specs.Writing.{Announces, AreInside, HeadFits, IsWholePayload};
-ghost use Rattle.payload_header.specs.Writing.{data_text, front_text, header_of_head};
+ghost use Rattle.payload_header.specs.Writing.{data_text, payload_front, header_of_head};
 ghost use Rattle.payload_header.specs.Writing.{headers_of_heads};
 
 use byteorder::{BigEndian, ByteOrder};
@@ -70,7 +70,7 @@ fn write_front(buf: &mut [u8], extended: u16, heads: &[SegmentHead])
     requires fields { AllByRecursion HeadFits heads.now }
     ensures length { length buf.new ≡ length buf.old }
     ensures written { buf.new
-        ≡ front_text extended heads.now ++ drop (2 + 6 * length heads.now) buf.old }
+        ≡ payload_front extended heads.now ++ drop (2 + 6 * length heads.now) buf.old }
 {
     BigEndian::write_u16(buf, extended);
     write_headers(&mut buf[2..2 + 6 * heads.len()], heads);
@@ -90,7 +90,7 @@ pub fn write_payload_header(buf: &mut [u8], extended: u16, heads: &[SegmentHead]
     ensures length { length buf.new ≡ length buf.old }
     ensures value { result ≡ 2 + 6 * length heads.now }
     ensures written { buf.new
-        ≡ front_text extended heads.now ++ drop (2 + 6 * length heads.now) buf.old }
+        ≡ payload_front extended heads.now ++ drop (2 + 6 * length heads.now) buf.old }
     // With the segments' octets behind it this is a payload with their fields, just where they lie
     // in the format's raster as the grammar asks.
     ensures payload { (f : Format) (segments : List Segment) → AllZip Announces heads.now segments

@@ -8,7 +8,8 @@ use Rattle.path_merge.specs.Frames.{Holds, State, frames_of, joined_frames}
 use Rattle.path_merge.specs.Opening.{Opening}
 use Rattle.path_merge.proofs.Frames.{frames_of-append}
 use Rattle.receiver_file.specs.Saved.{kept_of}
-use Rattle.receiver_engines.specs.Merging.{IsAgain, Joins, Merges, SavesMerged, merged_state}
+use Rattle.receiver_engines.specs.Merging.{IsAgain, JoinsFirst, MergesFiles, SavesMerged}
+use Rattle.receiver_engines.specs.Merging.{merged_state}
 
 -- what follows from what holds after a success
 pub on_ok : {V E : Type 0} (r : Result V E) (P Q : Type 0) → (P → Q) → OnOk r P → OnOk r Q
@@ -61,8 +62,8 @@ saves s t old new m is taken = record {
   holds = holds_both s t is.0;
 }
 
-pub merges : (left right old new : Option (List ℕ)) (m : State) → Joins left right m
-    → Appends old new (state_text (kept_of m)) → Merges left right old new
+pub merges : (left right old new : Option (List ℕ)) (m : State) → JoinsFirst left right m
+    → Appends old new (state_text (kept_of m)) → MergesFiles left right old new
 merges left right old new m joins taken = record {
   first = joins.first;
   second = joins.second;

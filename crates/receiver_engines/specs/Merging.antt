@@ -33,7 +33,7 @@ pub record SavesMerged (s t : State) (old new : Option (List ℕ)) : Type 0 wher
       → Holds (merged_state s t) (xs ++ ys)
 
 -- Two sources were to give the files of receivers, and a sink took that of the two merged.
-pub record Merges (left right old new : Option (List ℕ)) : Type 0 where
+pub record MergesFiles (left right old new : Option (List ℕ)) : Type 0 where
   pub first : State
   pub second : State
   pub first_is : SaysReceiver left first
@@ -43,7 +43,7 @@ pub record Merges (left right old new : Option (List ℕ)) : Type 0 where
   pub saved : (s t : State) → GivesReceiver left s → GivesReceiver right t → SavesMerged s t old new
 
 -- the same of a receiver that was not written yet
-pub record Joins (left right : Option (List ℕ)) (m : State) : Type 0 where
+pub record JoinsFirst (left right : Option (List ℕ)) (m : State) : Type 0 where
   pub first : State
   pub second : State
   pub first_is : SaysReceiver left first

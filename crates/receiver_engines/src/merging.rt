@@ -1,7 +1,7 @@
 //! The engine of `merge`.
 ghost use Rattle.std.specs.Prelude.{◌≡◌, ◌∷◌, [], IfErr, IfOk, OnOk};
 ghost use Rattle.run_outcome.specs.Fault.{Accounts, IfRefused, counts};
-ghost use Rattle.receiver_engines.specs.Merging.{Joins, Merges, Saves};
+ghost use Rattle.receiver_engines.specs.Merging.{JoinsFirst, MergesFiles, Saves};
 ghost use Rattle.receiver_engines.specs.MergeRefused.{IsMergeRefusal};
 ghost use Rattle.run_outcome.specs.Refusing.{OfRefusal};
 
@@ -36,7 +36,8 @@ where
     O: ByteSink,
     ensures saved { OnOk result (Saves (K.held state.old) (K.held state.new)) }
     ensures merged { OnOk result
-        (Merges (L.to_give left.old) (R.to_give right.old) (K.held state.old) (K.held state.new)) }
+        (MergesFiles (L.to_give left.old) (R.to_give right.old) (K.held state.old)
+        (K.held state.new)) }
     ensures refused { IfErr result (λ f. IfRefused f (state.new ≡ state.old)) }
     ensures refusal { IfErr result (λ f. OfRefusal f
         (IsMergeRefusal (L.to_give left.old) (R.to_give right.old))) }
@@ -56,7 +57,7 @@ fn merge_both<A: Allocator + Copy, L: ByteSource, R: ByteSource>(
     left: &mut L,
     right: &mut R,
 ) -> Result<Receiver<A>, Fault>
-    ensures joined { IfOk result (λ m. Joins (L.to_give left.old) (R.to_give right.old) m) }
+    ensures joined { IfOk result (λ m. JoinsFirst (L.to_give left.old) (R.to_give right.old) m) }
     ensures refusal { IfErr result (λ f. OfRefusal f
         (IsMergeRefusal (L.to_give left.old) (R.to_give right.old))) }
     ensures failures { Accounts result (counts (L.failures left.old) (L.failures left.new)

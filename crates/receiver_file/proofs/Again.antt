@@ -27,18 +27,18 @@ use Rattle.st_format.specs.Reading.{◌>>=◌}
 use Rattle.media_file.specs.Fronts.{kind_at, kind_of, kind_text, receiver_name, with_rest}
 use Rattle.media_file.specs.Groups.{Shape, groups_at, groups_text, shape_of}
 use Rattle.media_file.specs.PictureFaults.{IsFormat}
-use Rattle.media_file.specs.StateFile.{Held, IsHeld, Kept, SsrcFits, format_text, group_count}
+use Rattle.media_file.specs.StateFile.{Held, IsHeld, Kept, SsrcFits, format_text, raster_groups}
 use Rattle.media_file.specs.StateFile.{held_text, opening_text, ssrc_text, state_text}
 use Rattle.media_file.proofs.Grouped.{groups_again}
 use Rattle.media_file.proofs.Once.{shape_is}
 use Rattle.media_file.proofs.PictureFaults.{block_tells}
 use Rattle.media_file.proofs.Splits.{field_again}
 use Rattle.receiver_file.specs.declared.front.Head.{Head}
-use Rattle.receiver_file.specs.Front.{count_at, count_of, flag_at, flag_of, head_at, name_at}
+use Rattle.receiver_file.specs.Front.{count_at, window_count, flag_at, flag_of, head_at, name_at}
 use Rattle.receiver_file.specs.Front.{only_one, payload_type_at, payload_type_of, ssrc_at, ssrc_of}
 use Rattle.receiver_file.specs.Numbers.{number_at}
 use Rattle.receiver_file.specs.Saved.{IsSaved, kept_of, timestamp_in}
-use Rattle.receiver_file.specs.StateFaults.{IsHead, block_front, frames_front, head_text}
+use Rattle.receiver_file.specs.StateFaults.{IsHead, block_front, frames_front, kept_head_text}
 use Rattle.receiver_file.specs.StateReading.{all_held_at, held_at, new_of, state_walk}
 use Rattle.receiver_file.specs.StateReading.{timestamp_at}
 use Rattle.receiver_file.proofs.Found.{behind_block, behind_frames, behind_head, with_head}
@@ -103,7 +103,7 @@ ssrc_again (Some n) rest fits =
 count_again : (n : ℕ) (rest : List ℕ) → 0 < n → n ≤ 16 → count_at (n ∷ rest) ≡ Ok (n, rest)
 unfolding count_at
 count_again n rest some few =
-    ap (λ (r : Number). r >>= λ x. with_rest (count_of x.0) x.1) (octet_is n rest)
+    ap (λ (r : Number). r >>= λ x. with_rest (window_count x.0) x.1) (octet_is n rest)
     ∙ ap
     (λ (b : Bool). let r : Result ℕ FileFault =
     cond (b || ltb 16 n) (Err BadField) (Ok n) in with_rest r rest)
@@ -113,7 +113,7 @@ count_again n rest some few =
     cond b (Err BadField) (Ok n) in with_rest r rest) (le-ltb 16 n few)
 
 pub head_again : (h : Head) (rest : List ℕ) → IsHead h
-    → head_at (head_text h ++ rest) ≡ with_head h.payload_type h.ssrc h.count rest
+    → head_at (kept_head_text h ++ rest) ≡ with_head h.payload_type h.ssrc h.count rest
 unfolding head_at
 head_again h rest is =
     ap (λ (t : List ℕ). head_at (h.payload_type ∷ t))
@@ -180,7 +180,7 @@ held_again f before h rest is out =
     let s : Shape = shape_of f.sampling f.depth in
     ap (held_at f before) (append_assoc (to_be_bytes w32 h.timestamp) (groups_text s h.groups) rest)
     ∙ ap
-    (λ (r : Number). r >>= λ t. groups_at s (group_count f) t.1 >>= λ g. held_made t.0 g.0 g.1)
+    (λ (r : Number). r >>= λ t. groups_at s (raster_groups f) t.1 >>= λ g. held_made t.0 g.0 g.1)
     (stamp_again before h.timestamp (groups_text s h.groups ++ rest) is.timestamp out)
     ∙ ap
     (λ (r : Result (List (List Cell) × List ℕ) FileFault). r >>=
@@ -228,11 +228,11 @@ state_formed f rest is =
     ∙ ap (λ (r : Result (Fields × List ℕ) FileFault). r >>= behind_block) (block_tells f rest is)
 
 pub state_headed : (f : Fields) (h : Head) (rest : List ℕ) → IsFormat f → IsHead h
-    → state_walk ((block_front f ++ head_text h) ++ rest)
+    → state_walk ((block_front f ++ kept_head_text h) ++ rest)
     ≡ (all_held_at f h.count [] rest >>= behind_frames f h)
 state_headed f h rest is head =
-    ap state_walk (append_assoc (block_front f) (head_text h) rest)
-    ∙ state_formed f (head_text h ++ rest) is
+    ap state_walk (append_assoc (block_front f) (kept_head_text h) rest)
+    ∙ state_formed f (kept_head_text h ++ rest) is
     ∙ ap (λ (r : Result (Head × List ℕ) FileFault). r >>= behind_head f) (head_again h rest head)
 
 abbrev pub head_of : Kept → Head

@@ -21,7 +21,7 @@ use Rattle.media_file.specs.Fields.{Takes, Leaves, field_at, nothing_at}
 use Rattle.st_format.specs.Reading.{◌>>=◌}
 use Rattle.media_file.specs.Fronts.{kind_at, kind_text, receiver_name, with_rest}
 use Rattle.media_file.specs.Groups.{Shape, groups_at, groups_text, shape_of}
-use Rattle.media_file.specs.StateFile.{Held, Kept, format_text, group_count, held_text}
+use Rattle.media_file.specs.StateFile.{Held, Kept, format_text, raster_groups, held_text}
 use Rattle.media_file.specs.StateFile.{opening_text, ssrc_text, state_text}
 use Rattle.media_file.proofs.Entries.{chosen}
 use Rattle.media_file.proofs.Found.{failed, given, kind_takes, split_then}
@@ -32,7 +32,7 @@ use Rattle.receiver_file.specs.Front.{count_at, flag_at, flag_of, head_at, name_
 use Rattle.receiver_file.specs.Front.{payload_type_at, ssrc_at, ssrc_of}
 use Rattle.receiver_file.specs.Numbers.{number_at, octet_at}
 use Rattle.receiver_file.specs.Saved.{IsReceiverFile, IsSaved, IsWritable, kept_of}
-use Rattle.receiver_file.specs.StateFaults.{flag_octet, head_text}
+use Rattle.receiver_file.specs.StateFaults.{flag_octet, kept_head_text}
 use Rattle.receiver_file.specs.StateReading.{all_held_at, held_at, state_walk, timestamp_at}
 use Rattle.receiver_file.proofs.GroupsFound.{behind, cut_takes, groups_take}
 use Rattle.receiver_file.proofs.Savable.{writable_saved}
@@ -197,7 +197,7 @@ abbrev pub with_head : ℕ → Option ℕ → ℕ → List ℕ → Result (Head 
 with_head p s n rest = Ok (record { payload_type = p; ssrc = s; count = n }, rest)
 
 pub head_takes : (octets : List ℕ) (x : Head × List ℕ) → AreOctets octets → head_at octets ≡ Ok x
-    → octets ≡ head_text x.0 ++ x.1
+    → octets ≡ kept_head_text x.0 ++ x.1
 unfolding head_at
 head_takes octets x bytes e =
     let a
@@ -222,7 +222,7 @@ head_takes octets x bytes e =
     ∙ sym (append_assoc (ssrc_text b.first.0) (c.first.0 ∷ []) c.first.1) in
     type
     ∙ ap (λ (t : List ℕ). a.first.0 ∷ t) both
-    ∙ ap (λ (p : Head × List ℕ). head_text p.0 ++ p.1) same
+    ∙ ap (λ (p : Head × List ℕ). kept_head_text p.0 ++ p.1) same
 
 -- ---- the frames
 
@@ -246,16 +246,16 @@ held_takes f before octets x bytes e =
     let s : Shape = shape_of f.sampling f.depth in
     let a
     = split_then (timestamp_at before octets)
-    (λ t. groups_at s (group_count f) t.1 >>= λ g. with_held t.0 g.0 g.1) x e in
+    (λ t. groups_at s (raster_groups f) t.1 >>= λ g. with_held t.0 g.0 g.1) x e in
     let b
-    = split_then (groups_at s (group_count f) a.first.1)
+    = split_then (groups_at s (raster_groups f) a.first.1)
     (λ g. with_held a.first.0 g.0 g.1) x a.next in
     let same : (record { timestamp = a.first.0; groups = b.first.0 }, b.first.1) ≡ x
     = ap (λ (r : Result (Held × List ℕ) FileFault). given r x) b.next in
     let stamp : List ℕ = to_be_bytes w32 a.first.0 in
     let front : octets ≡ stamp ++ a.first.1 = stamp_takes before octets a.first bytes a.is in
     let groups : a.first.1 ≡ groups_text s b.first.0 ++ b.first.1
-    = groups_take s (group_count f) a.first.1 b.first (shape_is f.sampling f.depth)
+    = groups_take s (raster_groups f) a.first.1 b.first (shape_is f.sampling f.depth)
     (behind stamp octets a.first.1 bytes front) b.is in
     front ∙ ap (λ (t : List ℕ). stamp ++ t) groups
     ∙ sym (append_assoc stamp (groups_text s b.first.0) b.first.1)
@@ -354,14 +354,15 @@ state_takes octets x bytes e =
     let block : a.first.1 ≡ format_text f ++ b.first.1
     = block_takes a.first.1 b.first second b.is in
     let third : AreOctets b.first.1 = behind (format_text f) a.first.1 b.first.1 second block in
-    let head : b.first.1 ≡ head_text p ++ c.first.1 = head_takes b.first.1 c.first third c.is in
-    let fourth : AreOctets c.first.1 = behind (head_text p) b.first.1 c.first.1 third head in
+    let head : b.first.1 ≡ kept_head_text p ++ c.first.1 = head_takes b.first.1 c.first third c.is
+    in
+    let fourth : AreOctets c.first.1 = behind (kept_head_text p) b.first.1 c.first.1 third head in
     let frames = all_take f p.count [] c.first.1 d.first fourth d.is in
     let texts : List ℕ = flat_map (held_text f) hs in
     let all : c.first.1 ≡ texts
     = frames.text ∙ ap (λ (t : List ℕ). texts ++ t) (end_is d.first.1 z.first z.is)
     ∙ append-nil texts in
-    let opening : head_text p ≡ opening_text (kept_made f p hs)
+    let opening : kept_head_text p ≡ opening_text (kept_made f p hs)
     = ap (λ (n : ℕ). p.payload_type ∷ (ssrc_text p.ssrc ++ n ∷ [])) (sym frames.count) in
     let from_head : b.first.1 ≡ opening_text (kept_made f p hs) ++ texts
     = head ∙ ap (λ (t : List ℕ). t ++ c.first.1) opening

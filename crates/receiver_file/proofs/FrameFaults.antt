@@ -17,7 +17,7 @@ use Rattle.media_file.specs.Fields.{field_at}
 use Rattle.st_format.specs.Reading.{◌>>=◌}
 use Rattle.media_file.specs.Fronts.{with_rest}
 use Rattle.media_file.specs.Groups.{IsGroup, Shape, group_at, groups_at, groups_text}
-use Rattle.media_file.specs.StateFile.{Held, IsHeld, group_count, held_text}
+use Rattle.media_file.specs.StateFile.{Held, IsHeld, raster_groups, held_text}
 use Rattle.media_file.proofs.Entries.{chosen}
 use Rattle.media_file.proofs.Failing.{answered, field_fails, field_short, not_both, same_fault}
 use Rattle.media_file.proofs.Failing.{split_fails}
@@ -193,7 +193,7 @@ pub record GroupsEnd (f : Fields) (before octets : List ℕ) (e : FileFault) : T
   pub rest : List ℕ
   pub stamp : IsStamp before timestamp
   pub all : AllByRecursion (IsGroup (shape_by f)) groups
-  pub fewer : length groups < group_count f
+  pub fewer : length groups < raster_groups f
   pub text : octets ≡ (to_be_bytes w32 timestamp ++ groups_text (shape_by f) groups) ++ rest
   pub wrong : group_at (shape_by f) rest ≡ Err e
 
@@ -203,7 +203,7 @@ pub data HeldFails (f : Fields) (before octets : List ℕ) (e : FileFault) : Typ
 
 abbrev behind_stamp : Fields → ℕ × List ℕ → One_frame
 behind_stamp f t =
-    groups_at (shape_by f) (group_count f) t.1 >>= λ g. with_held t.0 g.0 g.1
+    groups_at (shape_by f) (raster_groups f) t.1 >>= λ g. with_held t.0 g.0 g.1
 
 pub held_fails : (f : Fields) (before octets : List ℕ) (e : FileFault) → AreOctets octets
     → held_at f before octets ≡ Err e → HeldFails f before octets e
@@ -215,10 +215,10 @@ held_fails f before octets e bytes h =
       | inr a ↦
           let stamp : List ℕ = to_be_bytes w32 a.first.0 in
           let front : octets ≡ stamp ++ a.first.1 = stamp_takes before octets a.first bytes a.is in
-          elim (split_fails (groups_at s (group_count f) a.first.1)
+          elim (split_fails (groups_at s (raster_groups f) a.first.1)
           (λ g. with_held a.first.0 g.0 g.1) e a.next) [
             | inl p ↦
-                let g = groups_fail s (group_count f) a.first.1 e (shape_is f.sampling f.depth)
+                let g = groups_fail s (raster_groups f) a.first.1 e (shape_is f.sampling f.depth)
                 (behind stamp octets a.first.1 bytes front) p in
                 InGroups (record {
                   timestamp = a.first.0;
@@ -243,7 +243,7 @@ held_stamp f before rest e h = ap (λ (r : Number). r >>= behind_stamp f) h
 
 pub held_groups : (f : Fields) (before : List ℕ) (t : ℕ) (gs : List (List Cell)) (rest : List ℕ)
     (e : FileFault) → IsStamp before t → AllByRecursion (IsGroup (shape_by f)) gs
-    → length gs < group_count f → group_at (shape_by f) rest ≡ Err e
+    → length gs < raster_groups f → group_at (shape_by f) rest ≡ Err e
     → held_at f before ((to_be_bytes w32 t ++ groups_text (shape_by f) gs) ++ rest) ≡ Err e
 unfolding held_at
 held_groups f before t gs rest e stamp all fewer h =
@@ -252,7 +252,7 @@ held_groups f before t gs rest e stamp all fewer h =
     ∙ ap (λ (r : Number). r >>= behind_stamp f)
     (stamp_again before t (groups_text s gs ++ rest) stamp.fits stamp.new)
     ∙ ap (λ (r : Many). r >>= λ g. with_held t g.0 g.1)
-    (groups_stop s (group_count f) gs rest e (shape_is f.sampling f.depth) all fewer h)
+    (groups_stop s (raster_groups f) gs rest e (shape_is f.sampling f.depth) all fewer h)
 
 pub held_read : (f : Fields) (before octets : List ℕ) (x : Held × List ℕ) → AreOctets octets
     → held_at f before octets ≡ Ok x → IsHeld f x.0 × (IsMember x.0.timestamp before → ⊥)
@@ -261,14 +261,14 @@ held_read f before octets x bytes h =
     let s : Shape = shape_by f in
     let a = split_then (timestamp_at before octets) (behind_stamp f) x h in
     let b
-    = split_then (groups_at s (group_count f) a.first.1)
+    = split_then (groups_at s (raster_groups f) a.first.1)
     (λ g. with_held a.first.0 g.0 g.1) x a.next in
     let same : (record { timestamp = a.first.0; groups = b.first.0 }, b.first.1) ≡ x
     = ap (λ (r : One_frame). given r x) b.next in
     let front : octets ≡ to_be_bytes w32 a.first.0 ++ a.first.1
     = stamp_takes before octets a.first bytes a.is in
     let stamp = stamp_read before octets a.first bytes a.is in
-    let groups = groups_read s (group_count f) a.first.1 b.first (shape_is f.sampling f.depth)
+    let groups = groups_read s (raster_groups f) a.first.1 b.first (shape_is f.sampling f.depth)
     (behind (to_be_bytes w32 a.first.0) octets a.first.1 bytes front) b.is in
     let held : IsHeld f (record { timestamp = a.first.0; groups = b.first.0 }) = record {
       timestamp = stamp.fits;

@@ -9,7 +9,7 @@ use Rattle.media_file.specs.Fields.{Fails, Takes}
 use Rattle.st_format.specs.Reading.{◌>>=◌}
 use Rattle.media_file.specs.Fronts.{with_rest}
 use Rattle.media_file.specs.Groups.{groups_at, shape_of}
-use Rattle.media_file.specs.StateFile.{Held, group_count}
+use Rattle.media_file.specs.StateFile.{Held, raster_groups}
 use Rattle.media_file.proofs.Content.{if_content_weaker}
 use Rattle.media_file.proofs.Parsing.{fails_first, fails_then, gives_pure, gives_then, then_reads}
 use Rattle.receiver_file.specs.Saved.{timestamp_in}
@@ -129,17 +129,17 @@ made t gs = record { timestamp = t; groups = gs }
 
 abbrev with_groups : Fields → ℕ → List ℕ → Result (Held × List ℕ) FileFault
 with_groups f t octets =
-    then_reads (groups_at (shape_of f.sampling f.depth) (group_count f))
+    then_reads (groups_at (shape_of f.sampling f.depth) (raster_groups f))
     (λ g rest. with_rest (Ok (made t g)) rest) octets
 
 pub held_gives : (f : Fields) (before : List ℕ) (old mid new : Option (List ℕ)) (t : ℕ)
     (gs : List (List Cell)) → Takes (timestamp_at before) old mid t
-    → Takes (groups_at (shape_of f.sampling f.depth) (group_count f)) mid new gs
+    → Takes (groups_at (shape_of f.sampling f.depth) (raster_groups f)) mid new gs
     → Takes (held_at f before) old new (made t gs)
 unfolding held_at
 held_gives f before old mid new t gs p q =
     gives_then (timestamp_at before) (with_groups f) old mid new t (made t gs) p
-    (gives_then (groups_at (shape_of f.sampling f.depth) (group_count f))
+    (gives_then (groups_at (shape_of f.sampling f.depth) (raster_groups f))
     (λ g rest. with_rest (Ok (made t g)) rest) mid new new gs (made t gs) q
     (gives_pure (Ok (made t gs)) new (made t gs) refl))
 
@@ -150,10 +150,10 @@ held_cut f before old e p = fails_first (timestamp_at before) (with_groups f) ol
 
 pub held_fails : (f : Fields) (before : List ℕ) (old mid : Option (List ℕ)) (t : ℕ) (e : FileFault)
     → Takes (timestamp_at before) old mid t
-    → Fails (groups_at (shape_of f.sampling f.depth) (group_count f)) mid e
+    → Fails (groups_at (shape_of f.sampling f.depth) (raster_groups f)) mid e
     → Fails (held_at f before) old e
 unfolding held_at
 held_fails f before old mid t e p q =
     fails_then (timestamp_at before) (with_groups f) old mid t e p
-    (fails_first (groups_at (shape_of f.sampling f.depth) (group_count f))
+    (fails_first (groups_at (shape_of f.sampling f.depth) (raster_groups f))
     (λ g rest. with_rest (Ok (made t g)) rest) mid e q)

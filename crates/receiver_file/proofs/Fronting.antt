@@ -11,7 +11,7 @@ use Rattle.media_file.specs.Fields.{Fails, Takes}
 use Rattle.media_file.specs.Fronts.{kind_at, receiver_name}
 use Rattle.media_file.proofs.Parsing.{fails_first, fails_then, gives_then, then_reads}
 use Rattle.receiver_file.specs.declared.front.Head.{Head}
-use Rattle.receiver_file.specs.Front.{count_at, count_of, flag_at, flag_of, head_at, name_at}
+use Rattle.receiver_file.specs.Front.{count_at, window_count, flag_at, flag_of, head_at, name_at}
 use Rattle.receiver_file.specs.Front.{only_one, payload_type_at, payload_type_of, ssrc_at, ssrc_of}
 use Rattle.receiver_file.specs.Numbers.{number_at, octet_at}
 use Rattle.receiver_file.proofs.Valued.{call_fails, call_gives, value_cut, value_fails, value_gives}
@@ -59,13 +59,13 @@ flag_fails old mid n r p e = call_fails octet_at flag_of old mid n r p e
 pub count_cut : (old : Option (List ℕ)) (f : FileFault) → Fails octet_at old f
     → Fails count_at old f
 unfolding count_at
-count_cut old f p = value_cut octet_at count_of old f p
+count_cut old f p = value_cut octet_at window_count old f p
 
 pub count_gives : (old mid : Option (List ℕ)) (n : ℕ) → (n ≡ 0 → ⊥) → n ≤ 16
     → Takes octet_at old mid n → Takes count_at old mid n
 unfolding count_at
 count_gives old mid n some few p =
-    value_gives octet_at count_of old mid n n p
+    value_gives octet_at window_count old mid n n p
     (ap (λ (b : Bool). cond (b || ltb 16 n) bad (ok n)) (ne_eqb n 0 some)
     ∙ ap (λ (b : Bool). cond b bad (ok n)) (le-ltb 16 n few))
 
@@ -73,14 +73,14 @@ pub count_none : (old mid : Option (List ℕ)) (n : ℕ) → n ≡ 0 → Takes o
     → Fails count_at old BadField
 unfolding count_at
 count_none old mid n none p =
-    value_fails octet_at count_of old mid n BadField p
+    value_fails octet_at window_count old mid n BadField p
     (ap (λ (b : Bool). cond (b || ltb 16 n) bad (ok n)) (eq-eqb n 0 none))
 
 pub count_many : (old mid : Option (List ℕ)) (n : ℕ) → 16 < n → Takes octet_at old mid n
     → Fails count_at old BadField
 unfolding count_at
 count_many old mid n many p =
-    value_fails octet_at count_of old mid n BadField p
+    value_fails octet_at window_count old mid n BadField p
     (ap (λ (b : Bool). cond (b || ltb 16 n) bad (ok n)) (ne_eqb n 0 (λ (e : n ≡ 0). omega arith))
     ∙ ap (λ (b : Bool). cond b bad (ok n)) (lt-ltb 16 n many))
 

@@ -20,7 +20,8 @@ use Rattle.media_file.specs.StateFile.{ssrc_text, state_text}
 use Rattle.media_file.specs.declared.front.Version.TheVariants.{One}
 use Rattle.media_file.specs.Fronts.{kind_text, receiver_name}
 use Rattle.media_file.proofs.Written.{prefix_first, prefix_then}
-use Rattle.receiver_file.specs.Saved.{frame_text, frames_text, front_text, kept_frames, kept_of}
+use Rattle.receiver_file.specs.Saved.{kept_frame_text, kept_frames_text, kept_front_text}
+use Rattle.receiver_file.specs.Saved.{kept_frames, kept_of}
 
 pub member_of : (w : List ℕ) (i : ℕ) → i < length w → IsMember (get_or w i 0) w
 member_of [] i lt = absurd (omega (arith, lt))
@@ -80,7 +81,7 @@ texts_before s i = texts (fields_of s.opening.format) (take i (held_in s))
 
 pub kept_next : (s : State) (i t : ℕ) (r : Raster) → IsReceiver s → i < length s.opening.window
     → t ≡ get_or s.opening.window i 0 → frame_at s.opening.window s.frames t ≡ Some r
-    → texts_before s (i + 1) ≡ texts_before s i ++ frame_text t r
+    → texts_before s (i + 1) ≡ texts_before s i ++ kept_frame_text t r
 kept_next s i t r is lt at found =
     let f : Fields = fields_of s.opening.format in
     let hs : List Held = held_in s in
@@ -99,7 +100,7 @@ kept_next s i t r is lt at found =
     (sym format))
 
 pub kept_all : (s : State) (i : ℕ)
-    → frames_text (kept_of s)
+    → kept_frames_text (kept_of s)
     ≡ texts_before s i ++ texts (fields_of s.opening.format) (drop i (held_in s))
 kept_all s i =
     let f : Fields = fields_of s.opening.format in
@@ -113,28 +114,28 @@ frames_none s (Some o) = sym (append-nil o)
 pub frames_more : (s : State) (i t : ℕ) (r : Raster) (old mid new : Option (List ℕ)) → IsReceiver s
     → i < length s.opening.window → t ≡ get_or s.opening.window i 0
     → frame_at s.opening.window s.frames t ≡ Some r
-    → Appends old mid (texts_before s i) → Appends mid new (frame_text t r)
+    → Appends old mid (texts_before s i) → Appends mid new (kept_frame_text t r)
     → Appends old new (texts_before s (i + 1))
 frames_more s i t r old mid new is lt at found p q =
     subst (Appends old new) (sym (kept_next s i t r is lt at found))
-    (Appends-trans old mid new (texts_before s i) (frame_text t r) p q)
+    (Appends-trans old mid new (texts_before s i) (kept_frame_text t r) p q)
 
 pub frames_stop : (s : State) (i t : ℕ) (r : Raster) (old mid new : Option (List ℕ)) → IsReceiver s
     → i < length s.opening.window → t ≡ get_or s.opening.window i 0
     → frame_at s.opening.window s.frames t ≡ Some r
-    → Appends old mid (texts_before s i) → AppendsPrefix mid new (frame_text t r)
-    → AppendsPrefix old new (frames_text (kept_of s))
+    → Appends old mid (texts_before s i) → AppendsPrefix mid new (kept_frame_text t r)
+    → AppendsPrefix old new (kept_frames_text (kept_of s))
 frames_stop s i t r old mid new is lt at found p q =
     let rest : List ℕ = texts (fields_of s.opening.format) (drop (i + 1) (held_in s)) in
     subst (AppendsPrefix old new)
     (sym (kept_all s (i + 1)
     ∙ ap (λ (x : List ℕ). x ++ rest) (kept_next s i t r is lt at found)))
-    (prefix_first old new (texts_before s i ++ frame_text t r) rest
-    (prefix_then old mid new (texts_before s i) (frame_text t r) p q))
+    (prefix_first old new (texts_before s i ++ kept_frame_text t r) rest
+    (prefix_then old mid new (texts_before s i) (kept_frame_text t r) p q))
 
 pub frames_all : (s : State) (i : ℕ) (old new : Option (List ℕ)) → IsReceiver s
     → length s.opening.window ≤ i → Appends old new (texts_before s i)
-    → Appends old new (frames_text (kept_of s))
+    → Appends old new (kept_frames_text (kept_of s))
 frames_all s i old new is le p =
     let f : Fields = fields_of s.opening.format in
     let none : drop i (held_in s) ≡ [] =
@@ -150,9 +151,10 @@ pub file_whole : (a b c d : List ℕ) → (a ++ (b ++ c)) ++ d ≡ a ++ (b ++ (c
 file_whole a b c d = append_assoc a (b ++ c) d ∙ ap (λ (t : List ℕ). a ++ t) (append_assoc b c d)
 
 -- a file is its two parts
-pub state_parts : (k : Kept) → front_text k ++ frames_text k ≡ state_text k
+pub state_parts : (k : Kept) → kept_front_text k ++ kept_frames_text k ≡ state_text k
 state_parts k =
-    file_whole (kind_text receiver_name One) (format_text k.format) (opening_text k) (frames_text k)
+    file_whole (kind_text receiver_name One) (format_text k.format) (opening_text k)
+    (kept_frames_text k)
 
 -- the fields behind a format block
 pub opening_same : (s : State) (p : ℕ) (x : Option ℕ) (n : ℕ) → IsReceiver s

@@ -21,7 +21,7 @@ use Rattle.receiver_file.specs.Front.{count_at, flag_at, head_at, payload_type_a
 use Rattle.receiver_file.specs.Saved.{timestamp_in}
 use Rattle.receiver_file.specs.StateFaults.{AreFewer, IsBadAt, IsCutAt, IsHead, IsMixedAt, CanStand}
 use Rattle.receiver_file.specs.StateFaults.{FieldPlace, block_front, flag_octet, frames_front}
-use Rattle.receiver_file.specs.StateFaults.{head_text}
+use Rattle.receiver_file.specs.StateFaults.{kept_head_text}
 use Rattle.receiver_file.specs.StateFaults.{shape_by, text_before}
 use Rattle.receiver_file.specs.StateFaults.FieldPlace.{AtBlock, AtPayloadType, AtFlag, AtSource}
 use Rattle.receiver_file.specs.StateFaults.FieldPlace.{AtCount}
@@ -185,7 +185,7 @@ frames_end : (f : Fields) (h : Head) (hs : List Held) (octets : List ℕ) (e : F
     → state_walk (frames_front f h hs ++ octets) ≡ Err e
 frames_end f h hs octets e said x =
     let texts : List ℕ = flat_map (held_text f) hs in
-    ap state_walk (append_assoc (block_front f ++ head_text h) texts octets)
+    ap state_walk (append_assoc (block_front f ++ kept_head_text h) texts octets)
     ∙ state_headed f h (texts ++ octets) said.format said.head
     ∙ ap (λ (r : Frames_read). r >>= behind_frames f h)
     (frames_stop f h.count [] hs octets e said.held (new_all [] hs said.different) said.fewer x)
@@ -294,10 +294,10 @@ held_reach f h hs file octets e said whole (InGroups g) =
     (whole ∙ ap (λ (t : List ℕ). front ++ t) g.text ∙ sym (append_assoc front begun g.rest)) g.wrong
 
 pub frames_reach : (f : Fields) (h : Head) (file octets : List ℕ) (e : FileFault) → IsFormat f
-    → IsHead h → file ≡ (block_front f ++ head_text h) ++ octets → AreOctets octets
+    → IsHead h → file ≡ (block_front f ++ kept_head_text h) ++ octets → AreOctets octets
     → all_held_at f h.count [] octets ≡ Err e → Reached file e
 frames_reach f h file octets e is head whole bytes x =
-    let front : List ℕ = block_front f ++ head_text h in
+    let front : List ℕ = block_front f ++ kept_head_text h in
     let r = frames_fail f h.count [] octets e bytes x in
     let texts : List ℕ = flat_map (held_text f) r.frames in
     let all : file ≡ (front ++ texts) ++ r.rest

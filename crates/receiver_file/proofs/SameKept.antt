@@ -12,7 +12,7 @@ use Rattle.path_merge.specs.Frames.{Holds, IsReceiver, State, frames_of}
 use Rattle.path_merge.specs.Opening.{Opening}
 use Rattle.media_file.specs.declared.fault.FileFault.{FileFault}
 use Rattle.media_file.specs.Fields.{Fails, Takes}
-use Rattle.media_file.specs.StateFile.{Held, Kept, group_count, state_text}
+use Rattle.media_file.specs.StateFile.{Held, Kept, raster_groups, state_text}
 use Rattle.media_file.proofs.Once.{cells_once}
 use Rattle.receiver_file.specs.Known.{shape_in}
 use Rattle.receiver_file.specs.Saved.{IsSaved, IsWritable, kept_frames, kept_of, timestamp_in}
@@ -32,10 +32,10 @@ behind [] = []
 behind (h ∷ hs) = hs
 
 raster_long : (o : Format) (r : Raster) → r.format ≡ o → IsWhole r
-    → length r.cells ≡ group_count (fields_of o) * (shape_in o).samples
+    → length r.cells ≡ raster_groups (fields_of o) * (shape_in o).samples
 raster_long o r e whole =
     let size : ℕ = (shape_in o).samples in
-    let n : ℕ = group_count (fields_of o) in
+    let n : ℕ = raster_groups (fields_of o) in
     let turned : size * n ≡ n * size = omega arith in
     subst (λ (x : Format). IsWhole (record { format = x; cells = r.cells })) e whole
     ∙ sym (sample_count_groups o) ∙ turned
@@ -62,7 +62,7 @@ same_frames o (u ∷ w) (r ∷ rs) (q1 ∷ qs) a b p q s t e =
     let first : r.format ≡ o = p 0 r (omega arith) in
     let second : q1.format ≡ o = q 0 q1 (omega arith) in
     let cells : r.cells ≡ q1.cells =
-    cells_once (shape_in o).samples (group_count (fields_of o)) r.cells q1.cells
+    cells_once (shape_in o).samples (raster_groups (fields_of o)) r.cells q1.cells
     (raster_long o r first (s 0 r (omega arith)))
     (raster_long o q1 second (t 0 q1 (omega arith))) (ap groups_first e) in
     let more : rs ≡ qs =

@@ -18,7 +18,7 @@ use Rattle.frame_assembly.specs.Rows.{group_cells}
 use Rattle.path_merge.specs.Frames.{State}
 use Rattle.path_merge.specs.Opening.{IsWindow}
 use Rattle.media_file.specs.Groups.{IsGroup, IsHad}
-use Rattle.media_file.specs.StateFile.{IsHeld, cut_cells, group_count, held_of}
+use Rattle.media_file.specs.StateFile.{IsHeld, cut_cells, raster_groups, held_of}
 use Rattle.receiver_file.specs.Known.{shape_in}
 use Rattle.receiver_file.specs.Saved.{IsFilled, IsSaved, IsWritable, kept_frames, kept_of}
 use Rattle.receiver_file.proofs.RowRuns.{group_long}
@@ -125,10 +125,10 @@ group_at_place r j is lt =
 
 filled_groups : (r : Raster) → IsFilled r
     → AllByRecursion (IsGroup (shape_in r.format))
-    (cut_cells (shape_in r.format).samples (group_count (fields_of r.format)) r.cells)
+    (cut_cells (shape_in r.format).samples (raster_groups (fields_of r.format)) r.cells)
 filled_groups r is =
     let s = shape_in r.format in
-    let n : ℕ = group_count (fields_of r.format) in
+    let n : ℕ = raster_groups (fields_of r.format) in
     let z : s.samples * 0 ≡ 0 = omega arith in
     subst (λ (m : ℕ). AllByRecursion (IsGroup s) (cut_cells s.samples n (drop m r.cells))) z
     (cut_all (IsGroup s) s.samples n 0 r.cells
@@ -141,10 +141,10 @@ held_one : (o : Format) (t : ℕ) (r : Raster) → t < 2 ^ 32 → IsFilled r →
 held_one o t r lt is e =
     record {
       timestamp = lt;
-      count = cut_length (shape_in o).samples (group_count (fields_of o)) r.cells;
+      count = cut_length (shape_in o).samples (raster_groups (fields_of o)) r.cells;
       groups =
           subst (λ (x : Format). AllByRecursion (IsGroup (shape_in x))
-          (cut_cells (shape_in x).samples (group_count (fields_of x)) r.cells)) e
+          (cut_cells (shape_in x).samples (raster_groups (fields_of x)) r.cells)) e
           (filled_groups r is);
     }
 

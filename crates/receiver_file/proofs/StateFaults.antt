@@ -32,11 +32,11 @@ use Rattle.media_file.proofs.KindFaults.KindFails.{Cut, Name, Digits}
 use Rattle.media_file.proofs.PictureFaults.{block_stands, neither}
 use Rattle.receiver_file.specs.declared.front.Head.{Head}
 use Rattle.receiver_file.specs.Front.{head_at, name_at, only_one}
-use Rattle.receiver_file.specs.Saved.{IsSaved, frames_text, timestamp_in}
+use Rattle.receiver_file.specs.Saved.{IsSaved, kept_frames_text, timestamp_in}
 use Rattle.receiver_file.specs.StateFaults.{HasMore, HasPlace, IsBadAt, IsCutAt, IsCutState, IsHead}
 use Rattle.receiver_file.specs.StateFaults.{IsMixedAt, CanStand, FieldPlace, IsStateFault}
 use Rattle.receiver_file.specs.StateFaults.{block_front}
-use Rattle.receiver_file.specs.StateFaults.{head_text, text_before}
+use Rattle.receiver_file.specs.StateFaults.{kept_head_text, text_before}
 use Rattle.receiver_file.specs.StateFaults.IsCutState.{Kind, Field}
 use Rattle.receiver_file.specs.StateFaults.FieldPlace.{AtBlock}
 use Rattle.receiver_file.specs.StateReading.{all_held_at, state_walk}
@@ -210,18 +210,18 @@ formed octets rest x bytes whole h =
 -- all that stands before the frames, and the octets behind it
 record Headed (f : Fields) (octets : List ℕ) (x : Head × List ℕ) : Type 0 where
   head : IsHead x.0
-  whole : octets ≡ (block_front f ++ head_text x.0) ++ x.1
+  whole : octets ≡ (block_front f ++ kept_head_text x.0) ++ x.1
   bytes : AreOctets x.1
 
 headed : (f : Fields) (octets rest : List ℕ) (x : Head × List ℕ) → octets ≡ block_front f ++ rest
     → AreOctets rest → head_at rest ≡ Ok x → Headed f octets x
 headed f octets rest x whole bytes h =
-    let text : rest ≡ head_text x.0 ++ x.1 = head_takes rest x bytes h in
+    let text : rest ≡ kept_head_text x.0 ++ x.1 = head_takes rest x bytes h in
     record {
       head = head_read rest x bytes h;
       whole = whole ∙ ap (λ (t : List ℕ). block_front f ++ t) text
-          ∙ sym (append_assoc (block_front f) (head_text x.0) x.1);
-      bytes = behind (head_text x.0) rest x.1 bytes text;
+          ∙ sym (append_assoc (block_front f) (kept_head_text x.0) x.1);
+      bytes = behind (kept_head_text x.0) rest x.1 bytes text;
     }
 
 -- a whole file, and the octets behind it
@@ -235,14 +235,18 @@ ended : (f : Fields) (h : Head) (octets rest : List ℕ) (x : List Held × List 
 ended f h octets rest x is head e =
     let k : Kept = kept_made f h x.0 in
     let t = all_take f h.count [] rest x head.bytes e in
-    let texts : List ℕ = frames_text k in
-    let opening : head_text h ≡ head_text (head_of k)
-    = ap (λ (n : ℕ). head_text (record { payload_type = h.payload_type; ssrc = h.ssrc; count = n }))
+    let texts : List ℕ = kept_frames_text k in
+    let opening : kept_head_text h ≡ kept_head_text (head_of k)
+    = ap (λ (n : ℕ). kept_head_text (record {
+      payload_type = h.payload_type;
+      ssrc = h.ssrc;
+      count = n;
+    }))
     (sym t.count) in
     record {
       is = saved f h x.0 is head.head (frames_read f h.count [] rest x head.bytes e);
-      whole = head.whole ∙ ap (λ (o : List ℕ). (block_front f ++ head_text h) ++ o) t.text
-          ∙ sym (append_assoc (block_front f ++ head_text h) texts x.1)
+      whole = head.whole ∙ ap (λ (o : List ℕ). (block_front f ++ kept_head_text h) ++ o) t.text
+          ∙ sym (append_assoc (block_front f ++ kept_head_text h) texts x.1)
           ∙ ap (λ (o : List ℕ). ((block_front f ++ o) ++ texts) ++ x.1) opening
           ∙ ap (λ (o : List ℕ). o ++ x.1) (state_parts k);
     }

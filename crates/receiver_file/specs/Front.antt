@@ -40,11 +40,11 @@ unfoldable pub ssrc_at : List ℕ → Result (Option ℕ × List ℕ) FileFault
 ssrc_at octets = flag_at octets >>= λ x. number_at x.1 >>= λ n. with_rest (ssrc_of x.0 n.0) n.1
 
 -- a window has 1 to 16 timestamps
-abbrev pub count_of : ℕ → Result ℕ FileFault
-count_of n = if n == 0 || nat_lt 16 n then Err BadField else Ok n
+abbrev pub window_count : ℕ → Result ℕ FileFault
+window_count n = if n == 0 || nat_lt 16 n then Err BadField else Ok n
 
 unfoldable pub count_at : List ℕ → Result (ℕ × List ℕ) FileFault
-count_at octets = octet_at octets >>= λ x. with_rest (count_of x.0) x.1
+count_at octets = octet_at octets >>= λ x. with_rest (window_count x.0) x.1
 
 -- the fields behind the format block
 unfoldable pub head_at : List ℕ → Result (Head × List ℕ) FileFault

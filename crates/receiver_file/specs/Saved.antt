@@ -13,7 +13,7 @@ use Rattle.media_file.specs.declared.front.Version.TheVariants.{One}
 use Rattle.media_file.specs.Fronts.{kind_text, receiver_name}
 use Rattle.media_file.specs.StateFile.{Held, IsKeptReceiver, Kept, SsrcFits, cut_cells}
 use Rattle.media_file.specs.StateFile.{format_text}
-use Rattle.media_file.specs.StateFile.{group_count, held_of, held_text, opening_text, state_text}
+use Rattle.media_file.specs.StateFile.{raster_groups, held_of, held_text, opening_text, state_text}
 
 -- what is kept of frames, one for each timestamp
 abbrev pub kept_frames : Fields → List ℕ → List Raster → List Held
@@ -62,17 +62,17 @@ pub record IsReceiverFile (octets : List ℕ) (s : State) : Type 0 where
   pub whole : octets ≡ state_text (kept_of s)
 
 -- the two parts of a file: what stands before the frames, and the frames
-abbrev pub front_text : Kept → List ℕ
-front_text k = kind_text receiver_name One ++ (format_text k.format ++ opening_text k)
+abbrev pub kept_front_text : Kept → List ℕ
+kept_front_text k = kind_text receiver_name One ++ (format_text k.format ++ opening_text k)
 
-abbrev pub frames_text : Kept → List ℕ
-frames_text k = flat_map (held_text k.format) k.frames
+abbrev pub kept_frames_text : Kept → List ℕ
+kept_frames_text k = flat_map (held_text k.format) k.frames
 
 -- a timestamp and its frame
-abbrev pub frame_text : ℕ → Raster → List ℕ
-frame_text timestamp r =
+abbrev pub kept_frame_text : ℕ → Raster → List ℕ
+kept_frame_text timestamp r =
     held_text (fields_of r.format) (held_of (fields_of r.format) timestamp r.cells)
 
 -- the groups of a frame's cells
-abbrev pub groups_in : Fields → List Cell → List (List Cell)
-groups_in f cells = cut_cells (pixel_group f.sampling f.depth).samples (group_count f) cells
+abbrev pub cell_groups : Fields → List Cell → List (List Cell)
+cell_groups f cells = cut_cells (pixel_group f.sampling f.depth).samples (raster_groups f) cells

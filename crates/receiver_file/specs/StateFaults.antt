@@ -19,7 +19,7 @@ use Rattle.media_file.specs.Fronts.{kind_text, receiver_name}
 use Rattle.media_file.specs.Groups.{IsGroup, Shape, groups_text, shape_of}
 use Rattle.media_file.specs.KindFaults.{HasOtherName, IsCutKind}
 use Rattle.media_file.specs.PictureFaults.{HasOtherThanOne, IsFormat}
-use Rattle.media_file.specs.StateFile.{Held, IsHeld, Kept, SsrcFits, format_text, group_count}
+use Rattle.media_file.specs.StateFile.{Held, IsHeld, Kept, SsrcFits, format_text, raster_groups}
 use Rattle.media_file.specs.StateFile.{held_text, ssrc_text, state_text}
 use Rattle.receiver_file.specs.declared.front.Head.{Head}
 use Rattle.receiver_file.specs.Saved.{IsSaved, timestamp_in}
@@ -27,8 +27,8 @@ use Rattle.receiver_file.specs.Saved.{IsSaved, timestamp_in}
 -- WHAT A FILE SAYS UP TO A PLACE
 
 -- the fields behind the format block
-abbrev pub head_text : Head → List ℕ
-head_text h = h.payload_type ∷ (ssrc_text h.ssrc ++ h.count ∷ [])
+abbrev pub kept_head_text : Head → List ℕ
+kept_head_text h = h.payload_type ∷ (ssrc_text h.ssrc ++ h.count ∷ [])
 
 pub record IsHead (h : Head) : Type 0 where
   pub payload_type : h.payload_type < 128
@@ -56,7 +56,7 @@ abbrev pub block_front : Fields → List ℕ
 block_front f = kind_text receiver_name One ++ format_text f
 
 abbrev pub frames_front : Fields → Head → List Held → List ℕ
-frames_front f h frames = (block_front f ++ head_text h) ++ flat_map (held_text f) frames
+frames_front f h frames = (block_front f ++ kept_head_text h) ++ flat_map (held_text f) frames
 
 abbrev pub shape_by : Fields → Shape
 shape_by f = shape_of f.sampling f.depth
@@ -86,7 +86,7 @@ pub record IsBegun (f : Fields) (before : List Held) (timestamp : ℕ) (gs : Lis
   pub fits : timestamp < 2 ^ 32
   pub new : IsMember timestamp (map timestamp_in before) → ⊥
   pub groups : AllByRecursion (IsGroup (shape_by f)) gs
-  pub fewer : length gs < group_count f
+  pub fewer : length gs < raster_groups f
 
 -- What stands before a place is what a file can say.
 abbrev pub CanStand : FieldPlace → Type 0

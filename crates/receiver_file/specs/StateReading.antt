@@ -10,7 +10,7 @@ use Rattle.st_format.specs.Reading.{◌>>=◌}
 use Rattle.media_file.specs.Fronts.{with_rest}
 use Rattle.media_file.specs.Groups.{groups_at, shape_of}
 use Rattle.media_file.specs.Fields.{nothing_at}
-use Rattle.media_file.specs.StateFile.{Held, Kept, group_count}
+use Rattle.media_file.specs.StateFile.{Held, Kept, raster_groups}
 use Rattle.receiver_file.specs.Front.{head_at, name_at}
 use Rattle.receiver_file.specs.Numbers.{number_at}
 
@@ -25,7 +25,7 @@ timestamp_at before octets = number_at octets >>= λ x. with_rest (new_of before
 unfoldable pub held_at : Fields → List ℕ → List ℕ → Result (Held × List ℕ) FileFault
 held_at f before octets =
     timestamp_at before octets >>=
-    λ t. groups_at (shape_of f.sampling f.depth) (group_count f) t.1 >>=
+    λ t. groups_at (shape_of f.sampling f.depth) (raster_groups f) t.1 >>=
     λ g. Ok (record { timestamp = t.0; groups = g.0 }, g.1)
 
 -- so many of them, behind those of these timestamps

@@ -5,10 +5,10 @@ ghost use Rattle.path_merge.specs.Opening.{AreDifferent};
 ghost use Rattle.st_format.specs.Member.{IsMember};
 ghost use Rattle.media_file.specs.Faults.{CountsDevice};
 ghost use Rattle.media_file.specs.Fields.{Fails, Takes};
-ghost use Rattle.media_file.specs.StateFile.{group_count};
+ghost use Rattle.media_file.specs.StateFile.{raster_groups};
 ghost use Rattle.media_file.specs.Groups.{groups_at};
 ghost use Rattle.receiver_file.specs.Known.{shape_in};
-ghost use Rattle.receiver_file.specs.Saved.{groups_in, kept_frames};
+ghost use Rattle.receiver_file.specs.Saved.{cell_groups, kept_frames};
 ghost use Rattle.receiver_file.specs.StateReading.{all_held_at, new_of, timestamp_at};
 
 use crate::filling::read_rows;
@@ -89,10 +89,10 @@ fn read_frame<A: Allocator + Copy, S: ByteSource>(
 ) -> Result<Frame<A>, FileFault>
     ensures format { IfOk result (λ r. r.format ≡ format) }
     ensures read { IfOk result
-        (λ r. Takes (groups_at (shape_in format) (group_count (fields_of format)))
-        (S.to_give source.old) (S.to_give source.new) (groups_in (fields_of format) r.cells)) }
+        (λ r. Takes (groups_at (shape_in format) (raster_groups (fields_of format)))
+        (S.to_give source.old) (S.to_give source.new) (cell_groups (fields_of format) r.cells)) }
     ensures fault { IfErr result
-        (λ f. Fails (groups_at (shape_in format) (group_count (fields_of format)))
+        (λ f. Fails (groups_at (shape_in format) (raster_groups (fields_of format)))
         (S.to_give source.old) f) }
     ensures counted { CountsDevice (S.failures source.old) (S.failures source.new) result }
 {

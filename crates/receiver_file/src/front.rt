@@ -4,7 +4,8 @@ ghost use Rattle.std.specs.Prelude.{◌≡◌, ◌<◌, ◌≤◌, IfErr, IfOk, 
 ghost use Rattle.st_format.specs.Device.{TellsOctets};
 ghost use Rattle.media_file.specs.Faults.{CountsDevice};
 ghost use Rattle.media_file.specs.Fields.{Fails, Takes};
-ghost use Rattle.receiver_file.specs.Front.{count_at, count_of, flag_at, flag_of, head_at, name_at};
+ghost use Rattle.receiver_file.specs.Front.{count_at, window_count, flag_at, flag_of, head_at};
+ghost use Rattle.receiver_file.specs.Front.{name_at};
 ghost use Rattle.receiver_file.specs.Front.{payload_type_at, payload_type_of, ssrc_at, ssrc_of};
 
 use crate::octets::{read_number, read_octet};

@@ -7,7 +7,7 @@ ghost use Rattle.path_merge.specs.Frames.{IsReceiver, State};
 ghost use Rattle.media_file.specs.Faults.{CountsDevice, IsDevice};
 ghost use Rattle.media_file.specs.StateFile.{opening_text, ssrc_text, state_text};
 ghost use Rattle.receiver_file.specs.Saved.{IsWritable, kept_of};
-ghost use Rattle.receiver_file.specs.Saved.{frame_text, frames_text, front_text};
+ghost use Rattle.receiver_file.specs.Saved.{kept_frame_text, kept_frames_text, kept_front_text};
 ghost use Rattle.receiver_file.specs.StateReading.{state_walk};
 
 use crate::rows::write_rows;
@@ -60,9 +60,9 @@ fn write_front<A: Allocator, K: ByteSink>(
     receiver: &Receiver<A>,
 ) -> Result<(), DeviceFault>
     ensures ok { OnOk result
-        (Appends (K.held sink.old) (K.held sink.new) (front_text (kept_of receiver.now))) }
+        (Appends (K.held sink.old) (K.held sink.new) (kept_front_text (kept_of receiver.now))) }
     ensures fault { OnErr result
-        (AppendsPrefix (K.held sink.old) (K.held sink.new) (front_text (kept_of receiver.now))) }
+        (AppendsPrefix (K.held sink.old) (K.held sink.new) (kept_front_text (kept_of receiver.now))) }
     ensures counted { CountsFaults (K.failures sink.old) (K.failures sink.new) result }
 {
     write_whole(sink, RECEIVER_ONE)?;
@@ -98,9 +98,10 @@ fn write_frames<A: Allocator, K: ByteSink>(
     receiver: &Receiver<A>,
 ) -> Result<(), DeviceFault>
     ensures ok { OnOk result
-        (Appends (K.held sink.old) (K.held sink.new) (frames_text (kept_of receiver.now))) }
+        (Appends (K.held sink.old) (K.held sink.new) (kept_frames_text (kept_of receiver.now))) }
     ensures fault { OnErr result
-        (AppendsPrefix (K.held sink.old) (K.held sink.new) (frames_text (kept_of receiver.now))) }
+        (AppendsPrefix (K.held sink.old) (K.held sink.new)
+        (kept_frames_text (kept_of receiver.now))) }
     ensures counted { CountsFaults (K.failures sink.old) (K.failures sink.new) result }
 {
     for timestamp in receiver.window() {
@@ -116,9 +117,9 @@ fn write_frame<A: Allocator, K: ByteSink>(
     frame: &Frame<A>,
 ) -> Result<(), DeviceFault>
     ensures ok { OnOk result
-        (Appends (K.held sink.old) (K.held sink.new) (frame_text timestamp frame.now)) }
+        (Appends (K.held sink.old) (K.held sink.new) (kept_frame_text timestamp frame.now)) }
     ensures fault { OnErr result
-        (AppendsPrefix (K.held sink.old) (K.held sink.new) (frame_text timestamp frame.now)) }
+        (AppendsPrefix (K.held sink.old) (K.held sink.new) (kept_frame_text timestamp frame.now)) }
     ensures counted { CountsFaults (K.failures sink.old) (K.failures sink.new) result }
 {
     write_whole(sink, &timestamp.to_be_bytes())?;

@@ -12,7 +12,7 @@ use Rattle.rtp_header.specs.declared.header.RtpFault.TheVariants.{ShortHeader, B
 use Rattle.rtp_header.specs.declared.header.RtpFault.TheVariants.{ShortExtension, BadPadding}
 use Rattle.rtp_header.specs.Grammar.{Rtp, Flags, bit, fixed_text, IsExtensionIf}
 use Rattle.rtp_header.specs.Grammar.{AreOctets, IsPaddingIf, IsRtp}
-use Rattle.rtp_header.specs.Reading.{behind, behind_extension, without_padding, fields_of}
+use Rattle.rtp_header.specs.Reading.{rest_behind, behind_extension, without_padding, rtp_of}
 use Rattle.rtp_header.specs.Reading.{◌>>=◌, Gives, fixed_at, rtp_walk}
 use Rattle.rtp_header.specs.Views.{seen_rtp}
 use Rattle.rtp_header.specs.declared.header.RtpView.{RtpView}
@@ -25,7 +25,8 @@ abbrev ok_list : List ℕ → Result (List ℕ) RtpFault
 ok_list x = Ok x
 
 -- n octets and a rest
-behind_again : (n : ℕ) (front rest : List ℕ) → length front ≡ n → behind n (front ++ rest) ≡ Ok rest
+behind_again : (n : ℕ) (front rest : List ℕ) → length front ≡ n → rest_behind n (front ++ rest)
+    ≡ Ok rest
 behind_again n front rest len =
     let long : ltb (length (front ++ rest)) n ≡ false =
     le-ltb (length (front ++ rest)) n (omega (arith, length-append front rest)) in
@@ -60,9 +61,9 @@ extension_again true extension rest is =
     let long : ltb (length (extension ++ rest)) 4 ≡ false =
     le-ltb (length (extension ++ rest)) 4 (omega (arith, length-append extension rest, size)) in
     ap (λ (b : Bool). cond b (Err ShortExtension)
-    (behind (4 + 4 * from_be_bytes w16 (take 2 (drop 2 (extension ++ rest))))
+    (rest_behind (4 + 4 * from_be_bytes w16 (take 2 (drop 2 (extension ++ rest))))
     (extension ++ rest))) long
-    ∙ ap (λ (k : ℕ). behind (4 + 4 * k) (extension ++ rest)) value
+    ∙ ap (λ (k : ℕ). rest_behind (4 + 4 * k) (extension ++ rest)) value
     ∙ behind_again (4 + 4 * n) extension rest size
 
 padding_again : (flag : Bool) (payload padding : List ℕ) → IsPaddingIf flag padding
@@ -164,7 +165,7 @@ made m t s ts c payload =
 
 -- the fields of a fixed header's text
 fields_again : (g : Flags) (r : Rtp) (tail : List ℕ) → r.payload_type < 128 → r.sequence < 2 ^ 16
-    → r.timestamp < 2 ^ 32 → r.ssrc < 2 ^ 32 → fields_of (fixed_text g r ++ tail) r.payload ≡ r
+    → r.timestamp < 2 ^ 32 → r.ssrc < 2 ^ 32 → rtp_of (fixed_text g r ++ tail) r.payload ≡ r
 fields_again g r tail pt sequence timestamp ssrc =
     let two = second_of r.marker r.payload_type pt in
     let s : ℕ = from_be_bytes w16 (to_be_bytes w16 r.sequence) in
@@ -205,29 +206,29 @@ rtp_again r octets is =
     let whole : List ℕ = fixed_text g r ++ tail in
     ap rtp_walk is.whole
     ∙ ap
-    (λ (a : Result (List ℕ) RtpFault). a >>= λ words. behind (4 * (o % 16)) words >>=
+    (λ (a : Result (List ℕ) RtpFault). a >>= λ words. rest_behind (4 * (o % 16)) words >>=
     λ x. behind_extension (eqb (o / 16 % 2) 1) x >>=
-    λ z. without_padding (eqb (o / 32 % 2) 1) z >>= λ w. Ok (fields_of whole w))
+    λ z. without_padding (eqb (o / 32 % 2) 1) z >>= λ w. Ok (rtp_of whole w))
     (fixed_again g r tail is.few_sources)
     ∙ ap
-    (λ (n : ℕ). behind (4 * n) tail >>= λ x. behind_extension (eqb (o / 16 % 2) 1) x >>=
-    λ z. without_padding (eqb (o / 32 % 2) 1) z >>= λ w. Ok (fields_of whole w)) f.sources
+    (λ (n : ℕ). rest_behind (4 * n) tail >>= λ x. behind_extension (eqb (o / 16 % 2) 1) x >>=
+    λ z. without_padding (eqb (o / 32 % 2) 1) z >>= λ w. Ok (rtp_of whole w)) f.sources
     ∙ ap
     (λ (a : Result (List ℕ) RtpFault). a >>= λ x. behind_extension (eqb (o / 16 % 2) 1) x >>=
-    λ z. without_padding (eqb (o / 32 % 2) 1) z >>= λ w. Ok (fields_of whole w))
+    λ z. without_padding (eqb (o / 32 % 2) 1) z >>= λ w. Ok (rtp_of whole w))
     (behind_again (4 * g.sources) is.source_list
     (is.extension ++ (r.payload ++ is.padding)) is.sources)
     ∙ ap
     (λ (b : Bool). behind_extension b (is.extension ++ (r.payload ++ is.padding)) >>=
-    λ z. without_padding (eqb (o / 32 % 2) 1) z >>= λ w. Ok (fields_of whole w)) f.extended
+    λ z. without_padding (eqb (o / 32 % 2) 1) z >>= λ w. Ok (rtp_of whole w)) f.extended
     ∙ ap
     (λ (a : Result (List ℕ) RtpFault). a >>= λ z. without_padding (eqb (o / 32 % 2) 1) z >>=
-    λ w. Ok (fields_of whole w))
+    λ w. Ok (rtp_of whole w))
     (extension_again g.extended is.extension (r.payload ++ is.padding) is.is_extension)
     ∙ ap
     (λ (b : Bool). without_padding b (r.payload ++ is.padding) >>=
-    λ w. Ok (fields_of whole w)) f.padded
-    ∙ ap (λ (a : Result (List ℕ) RtpFault). a >>= λ w. Ok (fields_of whole w))
+    λ w. Ok (rtp_of whole w)) f.padded
+    ∙ ap (λ (a : Result (List ℕ) RtpFault). a >>= λ w. Ok (rtp_of whole w))
     (padding_again g.padded r.payload is.padding is.is_padding)
     ∙ ap (λ (q : Rtp). Ok q)
     (fields_again g r tail is.payload_type is.sequence is.timestamp is.ssrc)

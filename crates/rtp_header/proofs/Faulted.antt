@@ -11,9 +11,9 @@ use Rattle.rtp_header.specs.declared.header.RtpFault.TheVariants.{ShortHeader, B
 use Rattle.rtp_header.specs.declared.header.RtpFault.TheVariants.{ShortExtension, BadPadding}
 use Rattle.rtp_header.specs.declared.header.RtpView.{RtpView}
 use Rattle.rtp_header.specs.Grammar.{Rtp}
-use Rattle.rtp_header.specs.Reading.{behind, behind_extension, without_padding, fields_of}
+use Rattle.rtp_header.specs.Reading.{rest_behind, behind_extension, without_padding, rtp_of}
 use Rattle.rtp_header.specs.Reading.{◌>>=◌, Gives, rtp_walk}
-use Rattle.rtp_header.specs.Faults.{HasRtpFault, IsShortExtension, IsBadPadding, version_of}
+use Rattle.rtp_header.specs.Faults.{HasRtpFault, IsShortExtension, IsBadPadding, version_bits}
 use Rattle.rtp_header.specs.Faults.{IsPadded}
 use Rattle.rtp_header.specs.Faults.{sources_end, extension_words, headers_end, last_octet}
 use Rattle.rtp_header.specs.Views.{seen_rtp}
@@ -27,7 +27,7 @@ view_of e = Err e
 -- nothing is wrong with the octets
 record IsFaultless (octets : List ℕ) : Type 0 where
   whole : 12 ≤ length octets
-  version : version_of octets ≡ 2
+  version : version_bits octets ≡ 2
   headers : headers_end octets ≤ length octets
   counted : IsPadded octets
       → (last_octet octets ≡ 0 → ⊥) × (headers_end octets + last_octet octets ≤ length octets)
@@ -42,7 +42,7 @@ Stands octets (Err e) = HasRtpFault octets e
 -- what is behind the headers, whole as they are
 record IsBehind (octets rest : List ℕ) : Type 0 where
   whole : 12 ≤ length octets
-  version : version_of octets ≡ 2
+  version : version_bits octets ≡ 2
   headers : headers_end octets ≤ length octets
   is : rest ≡ drop (headers_end octets) octets
 
@@ -105,7 +105,7 @@ counted_stands : (octets rest : List ℕ) (z s : Bool) → IsBehind octets rest 
     → Stands octets
     (cond (z || s) (Err BadPadding)
     (Ok (take (length rest - get_or rest (length rest - 1) 0) rest)) >>=
-    λ w. Ok (fields_of octets w))
+    λ w. Ok (rtp_of octets w))
 counted_stands octets rest true s is padded ez es =
     bad_padding octets rest is padded
     (wrong_zero octets rest is (eqb-true (get_or rest (length rest - 1) 0) 0 ez))
@@ -134,7 +134,7 @@ counted_stands octets rest false false is padded ez es =
 
 padding_stands : (octets rest : List ℕ) (p : Bool) → IsBehind octets rest
     → eqb (get_or octets 0 0 / 32 % 2) 1 ≡ p
-    → Stands octets (without_padding p rest >>= λ w. Ok (fields_of octets w))
+    → Stands octets (without_padding p rest >>= λ w. Ok (rtp_of octets w))
 padding_stands octets rest false is e =
     record {
       whole = is.whole;
@@ -167,7 +167,7 @@ end_extended octets e =
 -- what is behind the sources, whole as they are
 record IsBehindSources (octets rest : List ℕ) : Type 0 where
   whole : 12 ≤ length octets
-  version : version_of octets ≡ 2
+  version : version_bits octets ≡ 2
   sources : sources_end octets ≤ length octets
   is : rest ≡ drop (sources_end octets) octets
 
@@ -192,7 +192,7 @@ words_stand : (octets rest : List ℕ) (k : ℕ) (s p : Bool) → IsBehindSource
     → ltb (length rest) (4 + 4 * k) ≡ s → eqb (get_or octets 0 0 / 32 % 2) 1 ≡ p
     → Stands octets
     (cond s (Err ShortExtension) (Ok (drop (4 + 4 * k) rest)) >>= λ z. without_padding p z >>=
-    λ w. Ok (fields_of octets w))
+    λ w. Ok (rtp_of octets w))
 words_stand octets rest k true p is end e ep =
     let count = count_sources octets rest is in
     let less : length rest < 4 + 4 * k = ltb-true (length rest) (4 + 4 * k) e in
@@ -216,8 +216,8 @@ count_stands : (octets rest : List ℕ) (s p : Bool) → IsBehindSources octets 
     → eqb (get_or octets 0 0 / 32 % 2) 1 ≡ p
     → Stands octets
     (cond s (Err ShortExtension)
-    (behind (4 + 4 * from_be_bytes w16 (take 2 (drop 2 rest))) rest) >>=
-    λ z. without_padding p z >>= λ w. Ok (fields_of octets w))
+    (rest_behind (4 + 4 * from_be_bytes w16 (take 2 (drop 2 rest))) rest) >>=
+    λ z. without_padding p z >>= λ w. Ok (rtp_of octets w))
 count_stands octets rest true p is ex es ep =
     let count = count_sources octets rest is in
     let less : length rest < 4 = ltb-true (length rest) 4 es in
@@ -232,7 +232,7 @@ count_stands octets rest false p is ex es ep =
 extension_stands : (octets rest : List ℕ) (x p : Bool) → IsBehindSources octets rest
     → eqb (get_or octets 0 0 / 16 % 2) 1 ≡ x → eqb (get_or octets 0 0 / 32 % 2) 1 ≡ p
     → Stands octets
-    (behind_extension x rest >>= λ z. without_padding p z >>= λ w. Ok (fields_of octets w))
+    (behind_extension x rest >>= λ z. without_padding p z >>= λ w. Ok (rtp_of octets w))
 extension_stands octets rest false p is ex ep =
     let end = end_plain octets ex in
     padding_stands octets rest p
@@ -253,12 +253,12 @@ end_least : (octets : List ℕ) (x : Bool) → eqb (get_or octets 0 0 / 16 % 2) 
 end_least octets false e = omega (arith, end_plain octets e)
 end_least octets true e = omega (arith, end_extended octets e)
 
-sources_stand : (octets : List ℕ) (s x p : Bool) → 12 ≤ length octets → version_of octets ≡ 2
+sources_stand : (octets : List ℕ) (s x p : Bool) → 12 ≤ length octets → version_bits octets ≡ 2
     → ltb (length (drop 12 octets)) (4 * (get_or octets 0 0 % 16)) ≡ s
     → eqb (get_or octets 0 0 / 16 % 2) 1 ≡ x → eqb (get_or octets 0 0 / 32 % 2) 1 ≡ p
     → Stands octets
     (cond s (Err ShortExtension) (Ok (drop (4 * (get_or octets 0 0 % 16)) (drop 12 octets))) >>=
-    λ y. behind_extension x y >>= λ z. without_padding p z >>= λ w. Ok (fields_of octets w))
+    λ y. behind_extension x y >>= λ z. without_padding p z >>= λ w. Ok (rtp_of octets w))
 unfolding sources_end
 sources_stand octets true x p whole version es ex ep =
     let least = end_least octets x ex in
@@ -281,10 +281,10 @@ fixed_stands : (octets : List ℕ) (s v : Bool) → ltb (length octets) 12 ≡ s
     → eqb (get_or octets 0 0 / 64) 2 ≡ v
     → Stands octets
     (cond s (Err ShortHeader) (cond (not v) (Err BadVersion) (Ok (drop 12 octets))) >>=
-    λ words. behind (4 * (get_or octets 0 0 % 16)) words
+    λ words. rest_behind (4 * (get_or octets 0 0 % 16)) words
     >>= λ y. behind_extension (eqb (get_or octets 0 0 / 16 % 2) 1) y >>=
     λ z. without_padding (eqb (get_or octets 0 0 / 32 % 2) 1) z >>=
-    λ w. Ok (fields_of octets w))
+    λ w. Ok (rtp_of octets w))
 fixed_stands octets true v es ev = ltb-true (length octets) 12 es
 fixed_stands octets false false es ev =
     record {

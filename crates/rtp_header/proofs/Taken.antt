@@ -14,7 +14,7 @@ use Rattle.rtp_header.specs.declared.header.RtpFault.TheVariants.{ShortHeader, B
 use Rattle.rtp_header.specs.declared.header.RtpFault.TheVariants.{ShortExtension, BadPadding}
 use Rattle.rtp_header.specs.Grammar.{Rtp, Flags, bit, fixed_text, IsExtension}
 use Rattle.rtp_header.specs.Grammar.{AreOctets, IsExtensionIf, IsPaddingIf, IsRtp}
-use Rattle.rtp_header.specs.Reading.{behind, behind_extension, without_padding, fields_of}
+use Rattle.rtp_header.specs.Reading.{rest_behind, behind_extension, without_padding, rtp_of}
 use Rattle.rtp_header.specs.Reading.{◌>>=◌, fixed_at, rtp_walk}
 use Rattle.rtp_header.proofs.Steps.{AreOctets-drop, AreOctets-take, bind_ok, guard_ok, not_eqb_at}
 use Rattle.rtp_header.proofs.Steps.{three, two_below}
@@ -31,7 +31,7 @@ record Splits (octets front rest : List ℕ) (n : ℕ) : Type 0 where
   count : length front ≡ n
   bytes : AreOctets rest
 
-behind_ok : (n : ℕ) (octets rest : List ℕ) → AreOctets octets → behind n octets ≡ Ok rest
+behind_ok : (n : ℕ) (octets rest : List ℕ) → AreOctets octets → rest_behind n octets ≡ Ok rest
     → Splits octets (take n octets) rest n
 behind_ok n octets rest bytes e =
     let g = guard_ok (ltb (length octets) n) ShortExtension (drop n octets) rest e in
@@ -84,7 +84,7 @@ same_ok a b e = cc
 extension_at : (octets rest : List ℕ) (short : Bool) → AreOctets octets
     → ltb (length octets) 4 ≡ short
     → cond short (Err ShortExtension)
-    (behind (4 + 4 * from_be_bytes w16 (take 2 (drop 2 octets))) octets) ≡ Ok rest
+    (rest_behind (4 + 4 * from_be_bytes w16 (take 2 (drop 2 octets))) octets) ≡ Ok rest
     → Extended true octets rest
 extension_at octets rest true bytes s e = absurd cc
 extension_at octets rest false bytes s e =
@@ -187,7 +187,7 @@ two_heads a b c d t u p q r = cc
 -- the first twelve octets are the text of their fields
 twelve : (octets payload : List ℕ) → AreOctets octets → 12 ≤ length octets
     → get_or octets 0 0 / 64 ≡ 2
-    → take 12 octets ≡ fixed_text (flags_of octets) (fields_of octets payload)
+    → take 12 octets ≡ fixed_text (flags_of octets) (rtp_of octets payload)
 twelve [] payload bytes long v = absurd (omega arith)
 twelve (a ∷ []) payload bytes long v = absurd (omega arith)
 twelve (a ∷ b ∷ t) payload bytes long v =
@@ -232,16 +232,16 @@ rtp_takes octets y bytes e =
     let pp : Bool = eqb (o / 32 % 2) 1 in
     let a =
     bind_ok (fixed_at octets)
-    (λ words. behind (4 * (o % 16)) words >>= λ x. behind_extension px x >>=
-    λ z. without_padding pp z >>= λ w. Ok (fields_of octets w)) y e in
+    (λ words. rest_behind (4 * (o % 16)) words >>= λ x. behind_extension px x >>=
+    λ z. without_padding pp z >>= λ w. Ok (rtp_of octets w)) y e in
     let b =
-    bind_ok (behind (4 * (o % 16)) a.0)
+    bind_ok (rest_behind (4 * (o % 16)) a.0)
     (λ x. behind_extension px x >>= λ z. without_padding pp z >>=
-    λ w. Ok (fields_of octets w)) y a.2 in
+    λ w. Ok (rtp_of octets w)) y a.2 in
     let c =
     bind_ok (behind_extension px b.0)
-    (λ z. without_padding pp z >>= λ w. Ok (fields_of octets w)) y b.2 in
-    let d = bind_ok (without_padding pp c.0) (λ w. Ok (fields_of octets w)) y c.2 in
+    (λ z. without_padding pp z >>= λ w. Ok (rtp_of octets w)) y b.2 in
+    let d = bind_ok (without_padding pp c.0) (λ w. Ok (rtp_of octets w)) y c.2 in
     let g =
     guards_ok (ltb (length octets) 12) (not (eqb (o / 64) 2)) ShortHeader BadVersion
     (drop 12 octets) a.0 a.1 in
@@ -251,7 +251,7 @@ rtp_takes octets y bytes e =
     let sources = behind_ok (4 * (o % 16)) a.0 b.0 bytes_a b.1 in
     let extension = extension_ok px b.0 c.0 sources.bytes c.1 in
     let padded = padding_ok pp c.0 d.0 d.1 in
-    let made : IsRtp octets (fields_of octets d.0) = record {
+    let made : IsRtp octets (rtp_of octets d.0) = record {
       flags = flags_of octets;
       source_list = take (4 * (o % 16)) a.0;
       extension = extension.front;
@@ -273,9 +273,9 @@ rtp_takes octets y bytes e =
       whole =
           sym (take-append-drop 12 octets)
           ∙ ap (λ (x : List ℕ). x ++ drop 12 octets) (twelve octets d.0 bytes long version)
-          ∙ ap (λ (x : List ℕ). fixed_text (flags_of octets) (fields_of octets d.0) ++ x)
+          ∙ ap (λ (x : List ℕ). fixed_text (flags_of octets) (rtp_of octets d.0) ++ x)
           (g.2 ∙ sources.parts
           ∙ ap (λ (x : List ℕ). take (4 * (o % 16)) a.0 ++ x)
           (extension.parts ∙ ap (λ (x : List ℕ). extension.front ++ x) padded.parts));
     } in
-    subst (λ (r : Rtp). IsRtp octets r) (done (fields_of octets d.0) y d.2) made
+    subst (λ (r : Rtp). IsRtp octets r) (done (rtp_of octets d.0) y d.2) made

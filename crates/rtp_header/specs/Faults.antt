@@ -22,8 +22,8 @@ rtp_fault_name ShortExtension = codes "ShortExtension"
 rtp_fault_name BadPadding = codes "BadPadding"
 
 -- the version: the top two bits of the first octet
-abbrev pub version_of : List ℕ → ℕ
-version_of octets = slice_index octets 0 / 64
+abbrev pub version_bits : List ℕ → ℕ
+version_bits octets = slice_index octets 0 / 64
 
 -- P, the next bit, and X, the one after it
 abbrev pub IsPadded : List ℕ → Type 0
@@ -55,20 +55,20 @@ IsShortHeader octets = length octets < 12
 -- The fixed header is whole, and its version is not 2.
 pub record IsBadVersion (octets : List ℕ) : Type 0 where
   pub whole : 12 ≤ length octets
-  pub other : version_of octets ≢ 2
+  pub other : version_bits octets ≢ 2
 
 -- The fixed header is whole and of version 2, and the octets end before the headers do: the list of
 -- sources or the extension isn't whole.
 pub record IsShortExtension (octets : List ℕ) : Type 0 where
   pub whole : 12 ≤ length octets
-  pub version : version_of octets ≡ 2
+  pub version : version_bits octets ≡ 2
   pub cut : length octets < headers_end octets
 
 -- The headers are whole and of version 2, and P is set, but the last octet is 0 or more than the
 -- octets behind the headers (so also where there are none).
 pub record IsBadPadding (octets : List ℕ) : Type 0 where
   pub whole : 12 ≤ length octets
-  pub version : version_of octets ≡ 2
+  pub version : version_bits octets ≡ 2
   pub headers : headers_end octets ≤ length octets
   pub padded : IsPadded octets
   pub wrong : (last_octet octets ≡ 0) ⊎ (length octets < headers_end octets + last_octet octets)

@@ -22,15 +22,15 @@ Gives view (Ok x) read = read ≡ Ok (view x)
 Gives view (Err e) read = read ≡ Err e
 
 -- what stands behind n octets
-abbrev pub behind : ℕ → List ℕ → Result (List ℕ) RtpFault
-behind n octets = if nat_lt (length octets) n then Err ShortExtension else Ok (drop n octets)
+abbrev pub rest_behind : ℕ → List ℕ → Result (List ℕ) RtpFault
+rest_behind n octets = if nat_lt (length octets) n then Err ShortExtension else Ok (drop n octets)
 
 -- behind the extension, where there is one: two octets, the number of words, the words
 abbrev pub behind_extension : Bool → List ℕ → Result (List ℕ) RtpFault
 behind_extension false octets = Ok octets
 behind_extension true octets =
     if nat_lt (length octets) 4 then Err ShortExtension
-    else behind (4 + 4 * from_be_bytes w16 (take 2 (drop 2 octets))) octets
+    else rest_behind (4 + 4 * from_be_bytes w16 (take 2 (drop 2 octets))) octets
 
 -- without the padding, where there is one: its last octet is its length
 abbrev pub without_padding : Bool → List ℕ → Result (List ℕ) RtpFault
@@ -41,8 +41,8 @@ without_padding true octets =
     || nat_lt (length octets) n then Err BadPadding else Ok (take (length octets - n) octets)
 
 -- the fixed header's fields, and a payload
-abbrev pub fields_of : List ℕ → List ℕ → Rtp
-fields_of octets payload = record {
+abbrev pub rtp_of : List ℕ → List ℕ → Rtp
+rtp_of octets payload = record {
   marker = nat_le 128 (slice_index octets 1);
   payload_type = slice_index octets 1 % 128;
   sequence = from_be_bytes w16 (take 2 (drop 2 octets));
@@ -61,7 +61,7 @@ fixed_at octets =
 unfoldable pub rtp_walk : List ℕ → Result Rtp RtpFault
 rtp_walk octets = do
   words ← fixed_at octets
-  extension ← behind (4 * (slice_index octets 0 % 16)) words
+  extension ← rest_behind (4 * (slice_index octets 0 % 16)) words
   padded ← behind_extension (slice_index octets 0 / 16 % 2 == 1) extension
   payload ← without_padding (slice_index octets 0 / 32 % 2 == 1) padded
-  Ok (fields_of octets payload)
+  Ok (rtp_of octets payload)

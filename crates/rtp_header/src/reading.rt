@@ -3,7 +3,7 @@ ghost use Rattle.std.specs.Prelude.{◌≡◌, ◌↔◌, ◌<◌, ℕ, length, 
 ghost use Rattle.rtp_header.specs.Grammar.{IsRtp, Rtp};
 ghost use Rattle.rtp_header.specs.Faults.{IsBadPadding, IsBadVersion, IsShortExtension};
 ghost use Rattle.rtp_header.specs.Faults.{IsShortHeader};
-ghost use Rattle.rtp_header.specs.Reading.{Gives, behind, behind_extension, rtp_walk};
+ghost use Rattle.rtp_header.specs.Reading.{Gives, rest_behind, behind_extension, rtp_walk};
 ghost use Rattle.rtp_header.specs.Reading.{without_padding};
 ghost use Rattle.rtp_header.specs.Views.{seen_rtp};
 
@@ -11,7 +11,7 @@ use crate::header::{FIXED, RtpFault, RtpView, VERSION};
 
 /// What stands behind `count` octets.
 fn skip(octets: &[u8], count: usize) -> Result<&[u8], RtpFault>
-    ensures { Gives (λ x. x.now) result (behind count octets.now) }
+    ensures { Gives (λ x. x.now) result (rest_behind count octets.now) }
 {
     if octets.len() < count {
         return Err(RtpFault::ShortExtension);

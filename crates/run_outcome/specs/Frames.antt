@@ -25,5 +25,5 @@ abbrev pub frame_line_at : State → ℕ → List ℕ
 frame_line_at s timestamp = frame_line timestamp (frame_at s.opening.window s.frames timestamp)
 
 -- The lines of a receiver's frames, one for each timestamp of its window, in its order (own)
-abbrev pub frames_text : State → List ℕ
-frames_text s = flat_map (frame_line_at s) s.opening.window
+abbrev pub frame_lines : State → List ℕ
+frame_lines s = flat_map (frame_line_at s) s.opening.window

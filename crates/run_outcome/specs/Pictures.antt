@@ -22,8 +22,8 @@ abbrev pub SaysPicture : Option (List ℕ) → Values → Type 0
 SaysPicture told p = (octets : List ℕ) → told ≡ Some octets → IsPictureFile octets p
 
 -- a source was to give the file of a picture of this format, if it tells what it is to give
-abbrev pub SaysFormat : Option (List ℕ) → Format → Type 0
-SaysFormat told format = (octets : List ℕ) → told ≡ Some octets
+abbrev pub SaysPictureOf : Option (List ℕ) → Format → Type 0
+SaysPictureOf told format = (octets : List ℕ) → told ≡ Some octets
     → (p : Values) × (p.format ≡ format) × IsPictureFile octets p
 
 -- a format has no plan of packets of so many octets

@@ -2,7 +2,7 @@
 ghost use Rattle.std.specs.Prelude.{◌∷◌, [], IfErr, IfOk};
 ghost use Rattle.run_outcome.specs.Fault.{Accounts, counts};
 ghost use Rattle.run_outcome.specs.Refusing.{OfRefusal};
-ghost use Rattle.run_outcome.specs.Pictures.{IsPictureRefusal, SaysFormat, SaysPicture};
+ghost use Rattle.run_outcome.specs.Pictures.{IsPictureRefusal, SaysPictureOf, SaysPicture};
 
 use crate::fault::{Fault, of_picture};
 use media_file::{read_packed_picture, read_picture};
@@ -37,7 +37,7 @@ pub fn read_packed<A: Allocator, S: ByteSource>(
     room: Vec<u8, A>,
 ) -> Result<PackedPicture<A>, Fault>
     ensures shows { IfOk result (λ p. SaysPicture (S.to_give source.old) p) }
-    ensures says { IfOk result (λ p. SaysFormat (S.to_give source.old) p.format) }
+    ensures says { IfOk result (λ p. SaysPictureOf (S.to_give source.old) p.format) }
     ensures refusal { IfErr result (λ f. OfRefusal f (IsPictureRefusal (S.to_give source.old))) }
     ensures failures { Accounts result (counts (S.failures source.old) (S.failures source.new)
         ∷ []) }

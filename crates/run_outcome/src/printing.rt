@@ -3,7 +3,7 @@ ghost use Rattle.std.specs.Prelude.{◌++◌, ◌∷◌, [], IfErr, OnErr, OnOk}
 ghost use Rattle.std.specs.Io.KnownBytes.{Appends};
 ghost use Rattle.st_format.specs.Device.{AppendsPrefix};
 ghost use Rattle.run_outcome.specs.Fault.{Accounts, IfRefused, counts};
-ghost use Rattle.run_outcome.specs.Frames.{frame_line_at, frames_text};
+ghost use Rattle.run_outcome.specs.Frames.{frame_line_at, frame_lines};
 ghost use Rattle.run_outcome.specs.Line.{line_text};
 
 use crate::fault::Fault;
@@ -19,9 +19,9 @@ pub fn print_frames<A: Allocator, O: ByteSink>(
     output: &mut O,
 ) -> Result<(), Fault>
     ensures printed { OnOk result
-        (Appends (O.held output.old) (O.held output.new) (frames_text receiver.now)) }
+        (Appends (O.held output.old) (O.held output.new) (frame_lines receiver.now)) }
     ensures cut { OnErr result
-        (AppendsPrefix (O.held output.old) (O.held output.new) (frames_text receiver.now)) }
+        (AppendsPrefix (O.held output.old) (O.held output.new) (frame_lines receiver.now)) }
     ensures unrefused { IfErr result (λ f. IfRefused f ⊥) }
     ensures failures { Accounts result (counts (O.failures output.old) (O.failures output.new)
         ∷ []) }

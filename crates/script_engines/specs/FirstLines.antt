@@ -33,8 +33,8 @@ IsFaultyNext form [] end fault = fault ≡ of_script end
 IsFaultyNext form ((number, text) ∷ behind) end fault = (fault ≡ of_script number) × (form text → ⊥)
 
 -- a text is a line `format`
-abbrev pub SaysFormat : List ℕ → Type 0
-SaysFormat text = (said : FormatLine) × IsFormatLine text said
+abbrev pub SaysFormatLine : List ℕ → Type 0
+SaysFormatLine text = (said : FormatLine) × IsFormatLine text said
 
 -- The next line is one `format`, and this is what its sampling, depth, width, height and rate make:
 -- the fields of a format, its rate in lowest terms, or why there is none. The lines behind it are
@@ -51,7 +51,7 @@ pub record ReadsFormat (lines behind : List (ℕ × List ℕ)) (made : Result Fi
 -- The next line is at fault: it is no line `format`, or one of which no format is made (own)
 abbrev pub IsFaultyFormat : List (ℕ × List ℕ) → ℕ → Fault → Type 0
 IsFaultyFormat lines end f =
-    IsFaultyNext SaysFormat lines end f
+    IsFaultyNext SaysFormatLine lines end f
     ⊎ ((why : FormatFault) × (behind : List (ℕ × List ℕ)) × (f ≡ of_format why)
     × ReadsFormat lines behind (Err why))
 

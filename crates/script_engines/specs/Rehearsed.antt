@@ -3,7 +3,7 @@ use Rattle.std.specs.Prelude.{◌≡◌, ℕ, ◌+◌, ◌<◌, ◌⊎◌, List,
 use Rattle.std.specs.Prelude.{Option, ⊤}
 use Rattle.std.specs.Io.KnownBytes.{Appends}
 use Rattle.std.specs.List.{enumerate_from, flat_map}
-use Rattle.run_outcome.specs.Frames.{frames_text}
+use Rattle.run_outcome.specs.Frames.{frame_lines}
 use Rattle.frame_assembly.specs.Kinds.{counts_of}
 use Rattle.packet_plan.specs.declared.plan.PlanFault.{PlanFault}
 use Rattle.packet_plan.specs.declared.plan.PlanFault.TheVariants as plan
@@ -111,7 +111,7 @@ handed_line h = line_text (HandedOut h.receiver h.timestamp (counts_of h.frame))
 
 -- a receiver's number, and the lines of its frames
 abbrev pub receiver_lines : ℕ × State → List ℕ
-receiver_lines r = (line_text (Receiver r.0) ++ 10 ∷ []) ++ frames_text r.1
+receiver_lines r = (line_text (Receiver r.0) ++ 10 ∷ []) ++ frame_lines r.1
 
 abbrev pub handed_text : {A : Type 0} → List (Handed A) → List ℕ
 handed_text handed = flat_map handed_line handed

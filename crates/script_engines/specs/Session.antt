@@ -65,7 +65,7 @@ abbrev pub no_numbers : ℕ → ℕ → Numbers
 no_numbers first count = record { first = first; noted = replicate count false }
 
 -- a sample of a frame of the window
-pub record IsPlace (s : State) (timestamp : ℕ) (p : Position) : Type 0 where
+pub record IsSamplePlace (s : State) (timestamp : ℕ) (p : Position) : Type 0 where
   pub inside : IsMember timestamp s.opening.window
   pub position : IsPosition p s.opening.format
 
@@ -77,7 +77,8 @@ cell_answer cell.Contested = Contested
 
 -- What a datagram does: its answer, its offers joined, its refusal kept, its number noted where it
 -- is kept (own)
-pub record Takes (path : Path) (octets : List ℕ) (old new : State) (before after : Option Numbers)
+pub record AnswersDatagram (path : Path) (octets : List ℕ) (old new : State)
+    (before after : Option Numbers)
     (answer : Option Line) : Type 0 where
   pub answer_is : answer ≡ Some (datagram_answer (taken_at old.opening octets))
   pub opening : new.opening ≡ old.opening
@@ -86,7 +87,7 @@ pub record Takes (path : Path) (octets : List ℕ) (old new : State) (before aft
   pub numbers : after ≡ numbers_after (taken_at old.opening octets) before
 
 -- What a slide does: it moves the window on, or is refused where the window has the timestamp (own)
-pub record Slides (next : ℕ) (old new : State) (before after : Option Numbers)
+pub record SlidesTo (next : ℕ) (old new : State) (before after : Option Numbers)
     (answer : Option Line) : Type 0 where
   pub refused : IsMember next old.opening.window → (answer ≡ Some (NotSlid InWindow)) × (new ≡ old)
   pub slid : (IsMember next old.opening.window → ⊥) → (spare : Raster) × (said : Line)
@@ -104,9 +105,9 @@ pub record BeginsNumbers (first count : ℕ) (old new : State) (before after : O
 -- What a question for a cell does: it is answered, and nothing changes (own)
 pub record TellsCell (place : Place) (old new : State) (before after : Option Numbers)
     (answer : Option Line) : Type 0 where
-  pub there : IsPlace old place.timestamp (position_of place)
+  pub there : IsSamplePlace old place.timestamp (position_of place)
       → answer ≡ Some (cell_answer (cell_in old place.timestamp (position_of place)))
-  pub nowhere : (IsPlace old place.timestamp (position_of place) → ⊥) → answer ≡ Some Nowhere
+  pub nowhere : (IsSamplePlace old place.timestamp (position_of place) → ⊥) → answer ≡ Some Nowhere
   pub receiver : new ≡ old
   pub numbers : after ≡ before
 
@@ -115,8 +116,8 @@ abbrev pub Follows : TraceLine → State → State → Option Numbers → Option
     → Type 0
 Follows (Datagram path digits) old new before after answer =
     (octets : List ℕ) × IsOctetsText digits.now octets
-    × Takes path octets old new before after answer
-Follows (Slide next) old new before after answer = Slides next old new before after answer
+    × AnswersDatagram path octets old new before after answer
+Follows (Slide next) old new before after answer = SlidesTo next old new before after answer
 Follows (line.Numbers first count) old new before after answer =
     BeginsNumbers first count old new before after answer
 Follows (line.Cell place) old new before after answer = TellsCell place old new before after answer

@@ -10,7 +10,7 @@ ghost use Rattle.st_format.specs.Raster.{Raster};
 ghost use Rattle.run_outcome.specs.Fault.{Accounts};
 ghost use Rattle.run_outcome.specs.LowerFaults.{of_numbers, of_script};
 ghost use Rattle.run_outcome.specs.Refusing.{OfRefusal};
-ghost use Rattle.script_engines.specs.Session.{IsPlace, IsSlide, IsTraceRefusal};
+ghost use Rattle.script_engines.specs.Session.{IsSamplePlace, IsSlide, IsTraceRefusal};
 ghost use Rattle.script_engines.specs.Session.{cell_answer, datagram_answer};
 ghost use Rattle.script_engines.specs.Session.{no_numbers, numbers_after, position_of, with_number};
 
@@ -94,10 +94,10 @@ impl<A: Allocator> Session<A> {
 
     /// What is known of a sample.
     pub fn cell(&self, place: Place) -> Line
-        ensures there { IsPlace self.now.receiver place.timestamp (position_of place)
+        ensures there { IsSamplePlace self.now.receiver place.timestamp (position_of place)
             → result ≡ cell_answer
             (cell_in self.now.receiver place.timestamp (position_of place)) }
-        ensures nowhere { (IsPlace self.now.receiver place.timestamp (position_of place) → ⊥)
+        ensures nowhere { (IsSamplePlace self.now.receiver place.timestamp (position_of place) → ⊥)
             → result ≡ Line.Nowhere }
     {
         let Some(frame) = self.receiver.frame(place.timestamp) else {

@@ -32,7 +32,7 @@ use Rattle.sdp_format.specs.Naming.{rate, range_or, range_named, colorimetry}
 use Rattle.sdp_format.specs.Sections.{Leg}
 use Rattle.sdp_format.specs.Canonical.{depth_text}
 use Rattle.st_format.specs.Words.{sampling_text}
-use Rattle.sdp_format.specs.Reading.{depth_named, is_missing, is_interlaced}
+use Rattle.sdp_format.specs.Reading.{depth_named, lacks_item, is_interlaced}
 use Rattle.st_format.specs.Words.{sampling_named}
 use Rattle.sdp_format.specs.Reading.{or_fault, format_of, said_in, leg_of}
 use Rattle.sdp_format.specs.Grammar.{Says, Has, Lacks, IsGiven, ItemFault, SaysRange, IsSaid}
@@ -126,14 +126,14 @@ other_depth : (text : List ℕ) → depth_named text ≡ None → (d : Depth) �
 other_depth text e d h = not_none d (sym (depth_again d) ∙ ap depth_named (sym h) ∙ e)
 
 -- required names
-missing_says : (is : List Item) → is_missing is ≡ true
+missing_says : (is : List Item) → lacks_item is ≡ true
     → (name : List ℕ) × Contains required_names name × Lacks is name
 missing_says is e = let r =
     not_all_member (has_name is) required_names
     (not_true (list_all (has_name is) required_names) e) in
     (r.0, r.1, lacks_has r.0 is r.2)
 
-says_missing : (is : List Item) → is_missing is ≡ false
+says_missing : (is : List Item) → lacks_item is ≡ false
     → (name : List ℕ) × Contains required_names name × Lacks is name → ⊥
 says_missing is e m =
     let there : has_name is m.0 ≡ true =
@@ -169,7 +169,7 @@ from_word word text rest e = (starts_is Decides-eqb text word (begins_with word 
 pub record Sound (is : List Item) : Type 0 where
   pub good : list_any is_bad is ≡ false
   pub single : has_double is ≡ false
-  pub whole : is_missing is ≡ false
+  pub whole : lacks_item is ≡ false
 
 -- the value of a required name
 said_text : (is : List Item) → Sound is → (name : List ℕ) → Contains required_names name
@@ -423,7 +423,7 @@ leg_told pt is good =
     (below_double is good) (double_says is) (λ e c. not_both _ (says_double is c) e)
     (λ single b.
     refuse 18 (Of is) (λ l. IsSaid is l × (l.payload_type ≡ pt)) MissingParameter
-    (is_missing is) _ b (missing_says is) (says_missing is)
+    (lacks_item is) _ b (missing_says is) (says_missing is)
     (λ whole b.
     let k : Sound is = record { good = good; single = single; whole = whole } in
     follow 18 18 (Of is) (SaysFormat is) (λ l. IsSaid is l × (l.payload_type ≡ pt))

@@ -1,7 +1,7 @@
 -- What a section stands for, as it is read.
 use Rattle.std.specs.Prelude.{ℕ, List, Option}
 use Rattle.st_format.specs.Fields.{fields_of}
-use Rattle.sdp_format.specs.Bytes.{lines_left}
+use Rattle.sdp_format.specs.Bytes.{split_lines_left}
 use Rattle.sdp_format.specs.Naming.{items}
 use Rattle.sdp_format.specs.Sections.{Leg, Section, section_lines}
 use Rattle.sdp_format.specs.Reading.{Listed}
@@ -23,7 +23,7 @@ listed_seen l = record { port = l.port; payload_type = l.payload_type; list = it
 
 -- the section of a first line and of what is left behind it
 abbrev pub section_of : List ℕ → Option (List ℕ) → Section
-section_of media left = record { media = media; lines = section_lines (lines_left left) }
+section_of media left = record { media = media; lines = section_lines (split_lines_left left) }
 
 abbrev pub section_at : VideoSection → Section
 section_at s = section_of s.media.now (option_copied s.left)

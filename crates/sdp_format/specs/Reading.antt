@@ -73,8 +73,8 @@ depth_named text =
     (if bytes_eq text (codes "12") then Some D12 else
     (if bytes_eq text (codes "16") then Some D16 else None)))
 
-abbrev pub is_missing : List Item → Bool
-is_missing is = not (list_all (has_name is) required_names)
+abbrev pub lacks_item : List Item → Bool
+lacks_item is = not (list_all (has_name is) required_names)
 
 abbrev pub is_interlaced : List Item → Bool
 is_interlaced is = has_name is (codes "interlace") || has_name is (codes "segmented")
@@ -109,7 +109,7 @@ format_of is = do
 -- what items say, with the payload type of their line
 unfoldable pub said_in : ℕ → List Item → Result Leg SdpFault
 said_in payload_type is = do
-  tt ← fault_where MissingParameter (is_missing is)
+  tt ← fault_where MissingParameter (lacks_item is)
   format ← format_of is
   range ← value_or_fault BadParameter (range_or (value_of (codes "RANGE") is))
   colorimetry ← value_or_fault BadParameter (colorimetry (text_of (codes "colorimetry") is))

@@ -2,7 +2,7 @@
 ghost use Rattle.std.specs.Prelude.{◌≡◌, ◌∷◌, [], None, Some, MatchOption, IfSome, ◌≤◌};
 ghost use Rattle.std.specs.Option.{option_copied, option_map};
 ghost use Rattle.std.specs.Str.{bytes_eq};
-ghost use Rattle.sdp_format.specs.Bytes.{begins_with, lines, lines_left, attribute, at_most};
+ghost use Rattle.sdp_format.specs.Bytes.{begins_with, lines, split_lines_left, attribute, at_most};
 ghost use Rattle.st_format.specs.Words.{number};
 ghost use Rattle.sdp_format.specs.Sections.{video_sections, section_lines};
 ghost use Rattle.sdp_format.specs.Reading.{media_of, first_attribute, is_raw90000};
@@ -29,7 +29,7 @@ pub(crate) fn begins(word: &[u8], text: &[u8]) -> bool
 /// The first line of a text, and what is left behind it.
 #[tactic(auto, using(crate::proofs::Parts::next_lines))]
 pub(crate) fn next_line(text: &[u8]) -> (&[u8], Option<&[u8]>)
-    ensures { lines text.now ≡ result.0.now ∷ lines_left (option_copied result.1) }
+    ensures { lines text.now ≡ result.0.now ∷ split_lines_left (option_copied result.1) }
 {
     let (line, rest) = cut(text, b'\n');
     (without_carriage_return(line), rest)
@@ -37,9 +37,9 @@ pub(crate) fn next_line(text: &[u8]) -> (&[u8], Option<&[u8]>)
 
 /// The next video section.
 pub(crate) fn next_video<'a>(left: Option<&'a [u8]>) -> Option<VideoSection<'a>>
-    ensures { let sections = video_sections (lines_left (option_copied left.entry)) in
+    ensures { let sections = video_sections (split_lines_left (option_copied left.entry)) in
         MatchOption result (sections ≡ []) (λ s. sections
-        ≡ section_at s ∷ video_sections (lines_left (option_copied s.left))) }
+        ≡ section_at s ∷ video_sections (split_lines_left (option_copied s.left))) }
 {
     let mut rest = left;
     while let Some(text) = rest {
@@ -75,7 +75,8 @@ pub(crate) fn attribute_line<'a>(
     left: Option<&'a [u8]>,
 ) -> Option<(&'a [u8], Option<&'a [u8]>)>
     ensures { option_map (λ l. l.0.now) result
-        ≡ first_attribute word.now wanted (section_lines (lines_left (option_copied left.entry))) }
+        ≡ first_attribute word.now wanted (section_lines
+        (split_lines_left (option_copied left.entry))) }
 {
     let mut rest = left;
     while let Some(text) = rest {
@@ -98,7 +99,8 @@ pub(crate) fn first_attribute<'a>(
     left: Option<&'a [u8]>,
 ) -> Option<&'a [u8]>
     ensures { option_copied result
-        ≡ first_attribute word.now wanted (section_lines (lines_left (option_copied left.entry))) }
+        ≡ first_attribute word.now wanted (section_lines
+        (split_lines_left (option_copied left.entry))) }
 {
     match attribute_line(word, wanted, left) {
         Some((found, _)) => Some(found),

@@ -5,7 +5,7 @@ ghost use Rattle.std.specs.Option.{option_copied};
 ghost use Rattle.std.specs.Str.{bytes_eq};
 ghost use Rattle.sdp_format.specs.Naming.{items, has_double, value_of, has_name, text_of};
 ghost use Rattle.sdp_format.specs.Naming.{required_names, is_known, known_items};
-ghost use Rattle.sdp_format.specs.Reading.{GivesUnlessMemory, is_missing, is_interlaced};
+ghost use Rattle.sdp_format.specs.Reading.{GivesUnlessMemory, lacks_item, is_interlaced};
 ghost use Rattle.sdp_format.specs.Views.{Slice, item_of, items_in, is_met};
 ghost use Rattle.sdp_format.specs.declared.fault.SdpFault.TheVariants.{NoMemory, DoubleParameter};
 
@@ -128,7 +128,7 @@ pub(crate) fn text_of<'a, A: Allocator>(list: &Parameters<'a, A>, name: &[u8]) -
 
 /// Whether one of the eight required names is missing.
 pub(crate) fn is_missing<A: Allocator>(list: &Parameters<'_, A>) -> bool
-    ensures { result ≡ is_missing (items_in list.now) }
+    ensures { result ≡ lacks_item (items_in list.now) }
 {
     !(has(list, b"sampling")
         && has(list, b"width")

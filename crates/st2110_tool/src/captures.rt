@@ -9,7 +9,7 @@ ghost use Rattle.run_outcome.specs.Telling.{memory_line};
 ghost use Rattle.capture_engines.specs.Received.{IsReceiveRefusal};
 ghost use Rattle.capture_engines.specs.Receiving.{SavesShown};
 ghost use Rattle.capture_engines.specs.Taking.{Receives};
-ghost use Rattle.capture_engines.specs.Migrating.{Leaves, LeavesAt, Migrates};
+ghost use Rattle.capture_engines.specs.Migrating.{LeavesOff, LeavesAt, Migrates};
 ghost use Rattle.capture_engines.specs.MigrateRefused.{IsMigrateRefusal};
 ghost use Rattle.media_file.specs.Migrated.{devices};
 ghost use Rattle.capture_engines.specs.Looped.{IsLoopRefusal};
@@ -182,7 +182,7 @@ where
         (devices (S.to_give source.new) (S.failures source.new)
         (K.held sink.new) (K.failures sink.new)))
         (F.held faults.old) (F.held faults.new) }
-    ensures left { result ≢ 0 → Leaves (D.to_give sdp.old) (D.to_give sdp.new)
+    ensures left { result ≢ 0 → LeavesOff (D.to_give sdp.old) (D.to_give sdp.new)
         (devices (S.to_give source.old) (S.failures source.old)
         (K.held sink.old) (K.failures sink.old))
         (devices (S.to_give source.new) (S.failures source.new)

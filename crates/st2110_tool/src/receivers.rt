@@ -2,7 +2,7 @@
 ghost use Rattle.std.specs.Prelude.{◌≡◌, ◌≢◌, ◌⊎◌, ◌∷◌, [], ◌≤◌, ◌-◌, ◌+◌, sum_by, ℕ};
 ghost use Rattle.std.specs.Io.KnownBytes.{Appends};
 ghost use Rattle.run_outcome.specs.Fault.{NoneFailed, OneFailed, counts, failures_in};
-ghost use Rattle.receiver_engines.specs.Merging.{Merges, Saves};
+ghost use Rattle.receiver_engines.specs.Merging.{MergesFiles, Saves};
 ghost use Rattle.receiver_engines.specs.MergeRefused.{IsMergeRefusal};
 ghost use Rattle.receiver_engines.specs.States.{IsStateRefusal};
 ghost use Rattle.run_outcome.specs.Refusing.{TellsRefusal};
@@ -54,7 +54,8 @@ where
     ensures saved { result ≡ 0 → Saves (K.held state.old) (K.held state.new) }
     // The files are those of two receivers, and what is written is that of the two merged.
     ensures merged { result ≡ 0
-        → Merges (L.to_give left.old) (R.to_give right.old) (K.held state.old) (K.held state.new) }
+        → MergesFiles (L.to_give left.old) (R.to_give right.old) (K.held state.old)
+        (K.held state.new) }
     ensures refused { result ≡ 1 → state.new ≡ state.old }
     // What is told is the first refusal that speaks against the files.
     ensures told { result ≡ 1

@@ -9,7 +9,7 @@ ghost use Rattle.st_format.specs.Device.{AreOctets};
 ghost use Rattle.packet_plan.specs.Sender.{Sender};
 ghost use Rattle.path_merge.specs.Admitted.{AreAdmittedTo, IsFirstBad, IsSchedule};
 ghost use Rattle.path_merge.specs.Frames.{Holds, IsReceiver, State, frames_of, joined_frames};
-ghost use Rattle.path_merge.specs.Reached.{Chain, IsAt, IsFrameOf, LastStep, Leaves, Scene};
+ghost use Rattle.path_merge.specs.Reached.{Chain, IsAt, IsFrameOf, LastStep, Spares, Scene};
 ghost use Rattle.path_merge.specs.Sent.{IsOfSender, IsSendersFrame};
 ghost use Rattle.path_merge.specs.Sliding.{slid_state};
 ghost use Rattle.path_merge.specs.Stays.{Lasts, Stay};
@@ -28,7 +28,7 @@ pub fn one_event_more()
     ensures opening { (s : Scene) (r : ℕ) (state : State) →
         state.opening ≡ s.opening → Holds state [] → IsAt state r s [] }
     ensures others { (s : Scene) (events : List AnEvent) (event : AnEvent) (r : ℕ) (state : State) →
-        Leaves event r → IsAt state r s events → IsAt state r s (events ++ event ∷ []) }
+        Spares event r → IsAt state r s events → IsAt state r s (events ++ event ∷ []) }
     ensures take { (s : Scene) (events : List AnEvent) (r number : ℕ) (path : ByPath)
         (octets : List ℕ) (state new : State) →
         slice_get s.sent number ≡ Some octets → AreOctets octets → IsAt state r s events →

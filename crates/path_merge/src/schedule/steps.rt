@@ -4,7 +4,7 @@ ghost use Rattle.std.specs.Prelude.{length, slice_get};
 ghost use Rattle.st_format.specs.Device.{AreOctets};
 ghost use Rattle.st_format.specs.Member.{IsMember};
 ghost use Rattle.path_merge.specs.Frames.{IsReceiver, State, frames_of, joined_frames};
-ghost use Rattle.path_merge.specs.Steps.{Arrives, Merges, Slides, SlidesOne};
+ghost use Rattle.path_merge.specs.Steps.{Arrives, MergesInto, SlidesOut, SlidesOne};
 
 use crate::receiver::Receiver;
 use crate::schedule::play_fault::Stop;
@@ -50,7 +50,7 @@ pub fn slide<A: Allocator + Copy>(
     at: u8,
     next: u32,
 ) -> Result<Handed<A>, Stop>
-    ensures handed { IfOk result (λ h. Slides at next receivers.old receivers.new h) }
+    ensures handed { IfOk result (λ h. SlidesOut at next receivers.old receivers.new h) }
     ensures unfit { result ≡ Err Stop.Unfit → (state : State) →
         slice_get receivers.old at ≡ Some state → IsMember next state.opening.window }
 {
@@ -84,7 +84,7 @@ fn slide_one<A: Allocator + Copy>(
 
 /// A receiver is merged into another.
 pub fn merge<A: Allocator>(receivers: &mut [Receiver<A>], into: u8, from: u8) -> Result<(), Stop>
-    ensures merged { OnOk result (Merges into from receivers.old receivers.new) }
+    ensures merged { OnOk result (MergesInto into from receivers.old receivers.new) }
     ensures unfit { OnErr result ((state other : State) →
         slice_get receivers.old into ≡ Some state → slice_get receivers.old from ≡ Some other →
         into ≢ from → state.opening ≢ other.opening) }
@@ -105,7 +105,7 @@ fn merge_two<A: Allocator>(
     requires into { into < length receivers.old }
     requires from { from < length receivers.old }
     requires two { into ≢ from }
-    ensures merged { OnOk result (Merges into from receivers.old receivers.new) }
+    ensures merged { OnOk result (MergesInto into from receivers.old receivers.new) }
     ensures unfit { OnErr result ((state other : State) →
         slice_get receivers.old into ≡ Some state → slice_get receivers.old from ≡ Some other →
         into ≢ from → state.opening ≢ other.opening) }

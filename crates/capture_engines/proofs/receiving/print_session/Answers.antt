@@ -2,7 +2,7 @@ use Rattle.std.proofs.Common.{List, ℕ, [], ◌∷◌, ◌++◌}
 use Rattle.std.specs.Io.KnownBytes.{Appends}
 use Rattle.std.proofs.KnownBytes.{Appends-trans}
 use Rattle.run_outcome.specs.Line.{line_text}
-use Rattle.run_outcome.specs.Frames.{frames_text}
+use Rattle.run_outcome.specs.Frames.{frame_lines}
 use Rattle.capture_engines.specs.Printed.{if_wanted, received_text, tally_text}
 use Rattle.run_outcome.specs.declared.line.Line.TheVariants.{Delivered}
 use Rattle.run_outcome.proofs.Printed.{on_ok}
@@ -13,7 +13,7 @@ returns-clause-printed g c =
     let s = c.args.session.now in
     let first : List ℕ = line_text (Delivered s.delivered) ++ 10 ∷ [] in
     let counts : List ℕ = if_wanted c.args.tells_refusals (tally_text s.tally) in
-    let frames : List ℕ = frames_text s.receiver in
+    let frames : List ℕ = frame_lines s.receiver in
     let old = g.O.ByteSink.held c.args.output.now in
     let begun = g.O.ByteSink.held c.print.new.output in
     let told = g.O.ByteSink.held c.print_wanted.new.output in

@@ -1,7 +1,7 @@
 use Rattle.std.proofs.Common.{length}
 use Rattle.std.proofs.KnownBytes.{Appends-trans}
 use Rattle.std.proofs.lemmas.Result.{err_from_is_err_and, on_err_weaker, on_ok_weaker}
-use Rattle.media_file.specs.Records.{head_text}
+use Rattle.media_file.specs.Records.{record_head}
 use Rattle.st_format.proofs.Octets.{stays_untold}
 use Rattle.media_file.proofs.Written.{prefix_first, prefix_then}
 use Rattle.media_file.proofs.writing.write_record.Goals as goal
@@ -11,21 +11,21 @@ returns-in_err-write_whole-clause-fault g c =
     let p = err_from_is_err_and c.from_residual.result c.from_residual.ensures.1 in
     rw (p.1)
     (prefix_first _ _
-    (head_text c.args.path c.args.moment (length c.args.octets.now)) c.args.octets.now
+    (record_head c.args.path c.args.moment (length c.args.octets.now)) c.args.octets.now
     (rw c.head_of-head.ensures at c.in_err-write_whole.ensures.fault))
 
 pub returns-clause-ok : goal.returns-clause-ok
 returns-clause-ok g c =
     on_ok_weaker c.write_whole-2.result
     (λ q. Appends-trans _ _ _
-    (head_text c.args.path c.args.moment (length c.args.octets.now)) c.args.octets.now
+    (record_head c.args.path c.args.moment (length c.args.octets.now)) c.args.octets.now
     (rw c.head_of-head.ensures at c.in_ok-write_whole.ensures.ok) q) c.write_whole-2.ensures.ok
 
 pub returns-clause-fault : goal.returns-clause-fault
 returns-clause-fault g c =
     on_err_weaker c.write_whole-2.result
     (λ q. prefix_then _ _ _
-    (head_text c.args.path c.args.moment (length c.args.octets.now)) c.args.octets.now
+    (record_head c.args.path c.args.moment (length c.args.octets.now)) c.args.octets.now
     (rw c.head_of-head.ensures at c.in_ok-write_whole.ensures.ok) q) c.write_whole-2.ensures.fault
 
 pub returns-clause-untold : goal.returns-clause-untold

@@ -6,7 +6,7 @@ use Rattle.packet_plan.specs.Text.{head_of, header_of}
 use Rattle.packet_plan.proofs.Behind.{front_stays}
 use Rattle.packet_plan.proofs.Texts.{heads_fit, front_at, length-front}
 use Rattle.packet_plan.proofs.Walks.{length-map}
-use Rattle.payload_header.specs.Writing.{front_text}
+use Rattle.payload_header.specs.Writing.{payload_front}
 use Rattle.packet_plan.proofs.writing.write_front.Goals as goal
 
 pub write_payload_header-front-requires-clause-fields :
@@ -32,7 +32,7 @@ returns-clause-behind c =
     let heads = take (length c.args.runs.now) c.heads_of-heads.result in
     let count = length-map (head_of c.args.format.now) c.args.runs.now in
     front_stays c.args.buf.now buffer c.write_payload_header-front.new.buf
-    (front_text (c.args.number / 65536) heads) (length buffer - 12)
+    (payload_front (c.args.number / 65536) heads) (length buffer - 12)
     (2 + 6 * length heads) c.write_payload_header-front.result
     c.write_rtp.ensures.kept c.write_payload_header-front.ensures.written
     (length-front (c.args.number / 65536) heads)

@@ -1,6 +1,6 @@
 use Rattle.std.specs.Io.KnownBytes.{Appends}
 use Rattle.media_file.specs.StateFile.{state_text}
-use Rattle.receiver_engines.specs.Merging.{Merges}
+use Rattle.receiver_engines.specs.Merging.{MergesFiles}
 use Rattle.receiver_file.specs.Saved.{kept_of}
 use Rattle.receiver_engines.proofs.Merged.{merges, on_ok}
 use Rattle.receiver_engines.proofs.merging.merge.Goals as goal
@@ -12,5 +12,5 @@ returns-clause-merged g c =
     let old = g.K.ByteSink.held c.args.state.now in
     let new = g.K.ByteSink.held c.save.new.state in
     let m = c.in_ok-merged.merged in
-    on_ok c.save.result (Appends old new (state_text (kept_of m))) (Merges left right old new)
+    on_ok c.save.result (Appends old new (state_text (kept_of m))) (MergesFiles left right old new)
     (merges left right old new m c.in_ok-merged.ensures.joined) c.save.ensures.whole

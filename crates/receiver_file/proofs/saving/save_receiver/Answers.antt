@@ -3,7 +3,7 @@ use Rattle.std.proofs.lemmas.Result.{err_from_is_err_and}
 use Rattle.st_format.specs.Device.{AppendsPrefix}
 use Rattle.media_file.specs.StateFile.{Kept}
 use Rattle.media_file.proofs.Written.{prefix_first, prefix_then}
-use Rattle.receiver_file.specs.Saved.{frames_text, front_text, kept_of}
+use Rattle.receiver_file.specs.Saved.{kept_frames_text, kept_front_text, kept_of}
 use Rattle.receiver_file.proofs.KeptRuns.{state_parts}
 use Rattle.receiver_file.proofs.saving.save_receiver.Goals as goal
 
@@ -15,7 +15,8 @@ returns-in_err-write_front-clause-fault g c =
       tt,
       subst (λ (t : List ℕ). AppendsPrefix (g.K.ByteSink.held c.args.sink.now)
           (g.K.ByteSink.held c.write_front.new.sink) t) (state_parts k)
-          (prefix_first _ _ (front_text k) (frames_text k) c.in_err-write_front.ensures.fault),
+          (prefix_first _ _ (kept_front_text k)
+          (kept_frames_text k) c.in_err-write_front.ensures.fault),
     )
 
 pub returns-in_err-write_frames-clause-fault : goal.returns-in_err-write_frames-clause-fault
@@ -28,6 +29,6 @@ returns-in_err-write_frames-clause-fault g c =
       tt,
       subst (λ (t : List ℕ). AppendsPrefix (g.K.ByteSink.held c.args.sink.now)
           (g.K.ByteSink.held c.write_frames.new.sink) t) (state_parts k)
-          (prefix_then _ _ _ (front_text k)
-          (frames_text k) c.in_ok-write_front.ensures.ok c.in_err-write_frames.ensures.fault),
+          (prefix_then _ _ _ (kept_front_text k)
+          (kept_frames_text k) c.in_ok-write_front.ensures.ok c.in_err-write_frames.ensures.fault),
     )

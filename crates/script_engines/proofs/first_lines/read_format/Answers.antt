@@ -1,6 +1,6 @@
 use Rattle.std.proofs.Common.{inl, inr, refl}
 use Rattle.run_outcome.specs.LowerFaults.{of_script}
-use Rattle.script_engines.specs.FirstLines.{SaysFormat, end_of, lines_left}
+use Rattle.script_engines.specs.FirstLines.{SaysFormatLine, end_of, lines_left}
 use Rattle.script_engines.proofs.FaultLemmas.{nothing_read}
 use Rattle.script_engines.proofs.RehearsalReading.{faulty_line}
 use Rattle.script_engines.proofs.first_lines.read_format.Goals as goal
@@ -9,7 +9,7 @@ pub returns-in_default-clause-fault : goal.returns-in_default-clause-fault
 returns-in_default-clause-fault c =
     let none = nothing_read c.read_format_line.result c.in_default.not-Some
     c.read_format_line.ensures.none in
-    inl (faulty_line SaysFormat (lines_left c.args.lines.now) (lines_left c.next_line.new.lines)
+    inl (faulty_line SaysFormatLine (lines_left c.args.lines.now) (lines_left c.next_line.new.lines)
     c.in_ok-line.line.number c.in_ok-line.line.text.now (end_of c.args.lines.now)
     (of_script c.in_ok-line.line.number) c.in_ok-line.ensures.next (λ said. none said.0 said.1) refl)
 

@@ -3,7 +3,7 @@ use Rattle.st_format.specs.declared.format.Format.{Format}
 use Rattle.media_file.proofs.Putting.{each_faultless, each_lent, each_stands, fails_lent}
 use Rattle.packet_plan.specs.Sender.{stamp_of}
 use Rattle.packet_plan.specs.declared.stamp.Stamp.{Stamp}
-use Rattle.capture_engines.specs.Sending.{sender_of}
+use Rattle.capture_engines.specs.Sending.{run_sender}
 use Rattle.capture_engines.specs.Writing.{WritesPicture}
 use Rattle.capture_engines.proofs.Sendings.{fails_picture, writes_picture}
 use Rattle.capture_engines.proofs.sender.Sender.send.Goals as goal
@@ -27,7 +27,7 @@ returns-clause-sent g c = record {
       subst (λ (s : Stamp). WritesPicture g.K.ByteSink.held c.args.picture.now s
       c.args.self.now.plan c.args.self.now.writer c.send_frame.new.sink)
       (c.stamp-stamp.ensures.value
-      ∙ ap (λ (f : Format). stamp_of (sender_of f c.args.self.now.wanted) c.args.place
+      ∙ ap (λ (f : Format). stamp_of (run_sender f c.args.self.now.wanted) c.args.place
       c.args.self.now.next) c.format-format.ensures)
       (writes_picture g.K.ByteSink.held g.K.ByteSink.failures g.K.ByteSink.names
       c.args.picture.now c.stamp-stamp.result c.args.self.now.plan c.args.self.now.writer
