@@ -322,14 +322,12 @@ pub fn same_groups(
     same_words(marks, other_marks) && same_octets(octets, others)
 }
 
-/// Whether the mark words are the same.
 fn same_words(left: &[u16], right: &[u16]) -> bool
     ensures { IsTrue result ↔ (left.now ≡ right.now) }
 {
     left == right
 }
 
-/// Whether the octets are the same.
 fn same_octets(left: &[u8], right: &[u8]) -> bool
     ensures { IsTrue result ↔ (left.now ≡ right.now) }
 {

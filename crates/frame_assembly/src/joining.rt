@@ -39,7 +39,7 @@ fn groups_before(format: &Format, row: u32, column: u32) -> usize
     row as usize * format.row_groups() as usize + (column / format.pgroup().pixels) as usize
 }
 
-/// Joins what the segments offer.
+/// Joins the offers of each segment to the groups that it lies in.
 pub fn join_segments(
     format: &Format,
     marks: &mut [u16],

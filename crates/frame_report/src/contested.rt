@@ -186,7 +186,6 @@ fn put_line<K: ByteSink>(
     Ok(())
 }
 
-/// Adds the line of a sample.
 fn add_line(page: &mut Page, row: u32, column: usize, name: &[u8])
     requires room { length page.old + LINE ≤ GATHERED }
     requires name { length name.now ≤ 2 }
@@ -221,7 +220,7 @@ fn second_of(sample: usize) -> usize
     }
 }
 
-/// The name of a component.
+/// What a report calls a component: Y, Cb and Cr, or R, G and B.
 fn component_name(sampling: Sampling, component: usize) -> &'static [u8]
     requires { component < 3 }
     ensures name { result.now ≡ slice_index_or (component_names sampling) component [] }

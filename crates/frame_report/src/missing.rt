@@ -40,7 +40,7 @@ pub(crate) fn put_missing<A: Allocator, K: ByteSink>(
     put_rows::<MissingGroups, A, K>(page, sink, frame)
 }
 
-/// The lines of the missing groups.
+/// The lines of missing pgroups, one for each maximal run of a row.
 struct MissingGroups;
 
 impl RowLines for MissingGroups {

@@ -72,7 +72,7 @@ impl Page {
         Ok(())
     }
 
-    /// Adds a word.
+    /// Adds a word behind what waits.
     pub(crate) fn add(&mut self, word: &[u8])
         requires { length self.old + length word.now ≤ GATHERED }
         ensures { self.new ≡ self.old ++ word.now }

@@ -73,7 +73,7 @@ fn put_frames<A: Allocator, K: ByteSink>(
     Ok(())
 }
 
-/// Puts the lines of a frame.
+/// Puts what is said of a frame: its counts, its missing pgroups, its contested samples.
 fn put_frame<A: Allocator, K: ByteSink>(
     page: &mut Page,
     sink: &mut K,

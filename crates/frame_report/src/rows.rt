@@ -15,7 +15,6 @@ pub(crate) trait RowLines {
     /// The lines of a row.
     ghost lines: { Raster → ℕ → List ℕ };
 
-    /// Puts the lines of a row.
     fn put_row<A: Allocator, K: ByteSink>(
         page: &mut Page,
         sink: &mut K,

@@ -110,7 +110,6 @@ fn job_picture<A: Allocator, C: Allocator + Copy>(
     run_job(alloc, job, pictures.as_slice())
 }
 
-/// Sends a picture by a plan.
 fn send_picture<A: Allocator, B: Allocator, C: Allocator, S: DatagramSink>(
     alloc: C,
     plan: &Plan<A>,

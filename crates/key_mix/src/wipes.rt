@@ -132,7 +132,6 @@ fn wipe_rows(
     }
 }
 
-/// The weights of the first row.
 fn first_weights(sampling: Sampling, shape: WipeShape, weights: &mut [u16])
     requires { length weights.old ≤ 32768 }
     ensures long { length weights.new ≡ length weights.old }

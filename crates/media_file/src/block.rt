@@ -11,7 +11,7 @@ use crate::front::read_field;
 use byteorder::{BigEndian, ByteOrder};
 use st_format::{ByteSource, Depth, Format, Sampling};
 
-/// The octets of a format block.
+/// How many octets a format block has.
 const BLOCK: usize = 14;
 
 /// The code of a sampling in a format block.

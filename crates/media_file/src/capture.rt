@@ -14,11 +14,8 @@ use crate::fault::FileFault;
 use crate::front::read_front;
 use crate::record::Record;
 use crate::steps::{record_begins, record_rest};
-use st_format::ByteSource;
+use st_format::{ByteSource, MOST_DATAGRAM};
 use std::alloc::{Allocator, Global};
-
-/// The greatest number of octets of a record, and of a text.
-const MOST: usize = 65535;
 
 /// A text and records.
 #[derive(Drop)]
@@ -87,7 +84,7 @@ fn buffer<A: Allocator>(alloc: A) -> Result<Vec<u8, A>, FileFault>
     ensures room { IfOk result (λ v. vec_len v ≡ 65535) }
     ensures memory { IfErr result (λ f. f ≡ FileFault.NoMemory) }
 {
-    Ok(vec![in alloc; 0u8; MOST]?)
+    Ok(vec![in alloc; 0u8; MOST_DATAGRAM]?)
 }
 
 /// Reads records up to the end.

@@ -8,10 +8,10 @@ ghost use Rattle.st_format.specs.Device.{TellsOctets};
 use crate::fault::FileFault;
 use st_format::{ByteSource, read_whole};
 
-/// The name of captures.
+/// What a capture begins with.
 pub(crate) const CAPTURE: &[u8] = b"S20CAP";
 
-/// The name of pictures.
+/// What a picture's file begins with.
 pub(crate) const PICTURE: &[u8] = b"S20PIC";
 
 /// The versions of files, which are two digits behind a file's name.

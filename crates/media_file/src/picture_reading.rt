@@ -86,7 +86,6 @@ pub(crate) fn read_version_one<S: ByteSource>(source: &mut S, name: &[u8]) -> Re
     }
 }
 
-/// Reads the samples of a raster.
 fn read_raster<A: Allocator, S: ByteSource>(
     alloc: A,
     source: &mut S,

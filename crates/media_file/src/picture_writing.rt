@@ -97,7 +97,7 @@ fn write_piece<K: ByteSink>(
     write_whole(sink, octets)
 }
 
-/// Packs samples.
+/// The octets of some samples, by whole pgroups (RFC 4175, 4.3).
 fn pack(format: &Format, samples: &[u16], octets: &mut [u8])
     requires lengths { Agree format.now (length octets.old) (length samples.now) }
     requires fit { Fit (bits_of format.now.depth) samples.now }

@@ -12,7 +12,7 @@ pub struct RecordHead {
     pub length: usize,
 }
 
-/// A record of a capture.
+/// A record of a capture: when and by which path a datagram came, and its octets.
 #[derive(Drop)]
 pub struct Record<A: Allocator = Global> {
     pub path: Path,

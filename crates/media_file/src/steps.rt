@@ -36,7 +36,6 @@ pub fn record_begins<S: ByteSource>(source: &mut S) -> Result<Option<u8>, FileFa
     Ok(Some(first[0]))
 }
 
-/// The path of an octet.
 fn path_in(first: u8) -> Result<Path, FileFault>
     ensures exact { result ≡ path_of first }
     ensures spelled { IfOk result (λ path. first ≡ path_octet path) }

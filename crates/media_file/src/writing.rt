@@ -18,7 +18,7 @@ use std::alloc::Allocator;
 /// The octets of a record's head.
 const HEAD: usize = 11;
 
-/// The octets before a text.
+/// How many octets stand before the text of a capture: name, version and the text's length.
 const FRONT: usize = 10;
 
 /// Writes a record.
@@ -47,7 +47,6 @@ pub fn write_record<K: ByteSink>(
     write_whole(sink, octets)
 }
 
-/// The head of a record.
 fn head_of(path: Path, moment: u64, length: u16) -> [u8; HEAD]
     ensures { result ≡ record_head path moment length }
 {
@@ -117,7 +116,6 @@ pub fn write_capture<A: Allocator, K: ByteSink>(
     Ok(())
 }
 
-/// Writes records.
 fn write_records<A: Allocator, K: ByteSink>(
     sink: &mut K,
     records: &[Record<A>],

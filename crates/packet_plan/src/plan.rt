@@ -267,7 +267,7 @@ impl<A: Allocator> Plan<A> {
         )
     }
 
-    /// Its format.
+    /// The format that the plan was made for.
     pub fn format(&self) -> Format
         ensures { result ≡ self.now.format }
     {

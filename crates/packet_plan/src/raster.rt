@@ -15,7 +15,7 @@ pub trait Raster {
     /// The picture's values.
     ghost values: { Self → Values };
 
-    /// Its format.
+    /// The format that the plan was made for.
     fn format(&self) -> Format
         ensures value { result ≡ (values self.now).format }
         ensures whole { IsPicture (values self.now) };

@@ -32,7 +32,7 @@ use std::alloc::{Allocator, Global};
 use std::marker::Model;
 use std::mem;
 
-/// How many refusals are kept.
+/// How many of the last refusals a receiver keeps.
 const MOST_REFUSALS: usize = 64;
 
 /// A receiver of datagrams by two paths: a frame for each timestamp of its window.
@@ -418,7 +418,6 @@ fn packet_number(extended: u16, sequence: u16) -> u32
     65536 * u32::from(extended) + u32::from(sequence)
 }
 
-/// The timestamps of a window of 1 to 16.
 fn timestamps(window: &[u32]) -> ArrayVec<u32, MOST_TIMESTAMPS>
     requires { length window.now ≤ MOST_TIMESTAMPS }
     ensures { result.items ≡ window.now }

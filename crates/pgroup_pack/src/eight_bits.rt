@@ -26,7 +26,7 @@ pub(crate) fn pack(samples: &[u16], octets: &mut [u8])
     }
 }
 
-/// The sample of a number.
+/// The sample of a number among those of 8 bits (RFC 4175, 4.3).
 pub(crate) fn sample_at(octets: &[u8], i: usize) -> u16
     requires { i < 8 * length octets.now / 8 }
     ensures { result ≡ slice_index (values_in 8 octets.now) i }

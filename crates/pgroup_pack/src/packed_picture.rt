@@ -43,7 +43,7 @@ impl<A: Allocator> PackedPicture<A> {
         PackedPicture { format, octets }
     }
 
-    /// Its format.
+    /// The format of its raster.
     pub fn format(&self) -> Format
         ensures value { result ≡ self.now.format }
         ensures whole { IsPicture self.now }

@@ -30,7 +30,7 @@ pub(crate) fn pack(samples: &[u16], octets: &mut [u8])
     }
 }
 
-/// The sample of a number.
+/// The sample of a number among those of 16 bits (RFC 4175, 4.3).
 pub(crate) fn sample_at(octets: &[u8], i: usize) -> u16
     requires { i < 8 * length octets.now / 16 }
     ensures { result ≡ slice_index (values_in 16 octets.now) i }

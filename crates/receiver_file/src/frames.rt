@@ -81,7 +81,6 @@ fn new_in(before: &[u32], timestamp: u32) -> Result<u32, FileFault>
     Ok(timestamp)
 }
 
-/// Reads the groups of a frame.
 fn read_frame<A: Allocator + Copy, S: ByteSource>(
     alloc: A,
     source: &mut S,

@@ -26,7 +26,6 @@ pub(crate) struct Head {
     pub count: u8,
 }
 
-/// Reads name and version.
 pub(crate) fn read_name<S: ByteSource>(source: &mut S) -> Result<(), FileFault>
     ensures read { OnOk result (Takes name_at (S.to_give source.old) (S.to_give source.new) tt) }
     ensures fault { IfErr result (λ f. Fails name_at (S.to_give source.old) f) }
@@ -59,7 +58,6 @@ pub(crate) fn read_head<S: ByteSource>(source: &mut S) -> Result<Head, FileFault
     })
 }
 
-/// Reads the payload type.
 fn read_payload_type<S: ByteSource>(source: &mut S) -> Result<u8, FileFault>
     ensures most { IfOk result (λ n. n ≤ 127) }
     ensures read { IfOk result
@@ -97,7 +95,6 @@ fn read_flag<S: ByteSource>(source: &mut S) -> Result<bool, FileFault>
     flag_in(code)
 }
 
-/// What a flag says.
 fn flag_in(code: u8) -> Result<bool, FileFault>
     ensures { result ≡ flag_of code }
 {

@@ -7,7 +7,6 @@ ghost use Rattle.receiver_file.specs.Numbers.{number_at, octet_at};
 use media_file::{FileFault, read_field};
 use st_format::ByteSource;
 
-/// Reads one octet.
 pub(crate) fn read_octet<S: ByteSource>(source: &mut S) -> Result<u8, FileFault>
     ensures read { IfOk result
         (λ n. Takes octet_at (S.to_give source.old) (S.to_give source.new) n) }

@@ -33,7 +33,6 @@ pub(crate) fn write_rows<A: Allocator, K: ByteSink>(
     Ok(())
 }
 
-/// Writes the groups of a row.
 fn write_row<A: Allocator, K: ByteSink>(
     sink: &mut K,
     frame: &Frame<A>,

@@ -19,7 +19,7 @@ use path_merge::Receiver;
 use st_format::{ByteSink, DeviceFault, write_whole};
 use std::alloc::Allocator;
 
-/// Name and version.
+/// What a receiver's file begins with: its name, and version 01.
 const RECEIVER_ONE: &[u8] = b"S20RCV01";
 
 /// Writes a receiver as a file: what it was opened with, and for each timestamp of its window, in
@@ -110,7 +110,6 @@ fn write_frames<A: Allocator, K: ByteSink>(
     Ok(())
 }
 
-/// Writes a timestamp and its frame.
 fn write_frame<A: Allocator, K: ByteSink>(
     sink: &mut K,
     timestamp: u32,

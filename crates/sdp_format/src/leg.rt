@@ -12,14 +12,12 @@ use crate::parameters::{Parameters, is_interlaced, text_of};
 use st_format::{Depth, Format, Sampling, read_number};
 use std::alloc::Allocator;
 
-/// The sampling of a word.
 fn sampling_of(text: &[u8]) -> Option<Sampling>
     ensures { result ≡ sampling_named text.now }
 {
     Sampling::of_word(text)
 }
 
-/// The depth of a word.
 #[tactic(auto, unfolding(crate::specs::Reading::depth_named))]
 fn depth_named(text: &[u8]) -> Option<Depth>
     ensures { result ≡ depth_named text.now }

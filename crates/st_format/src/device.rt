@@ -20,6 +20,10 @@ use crate::Path;
 use std::fmt;
 use thiserror::Error;
 
+/// How many octets a datagram has at most, and the text of a capture: a length of 16 bits (UDP: RFC
+/// 768).
+pub const MOST_DATAGRAM: usize = 65_535;
+
 /// A source or a sink of octets failed. Why is the device's own matter.
 #[derive(Clone, Copy, Debug, PartialEq, Eq, Error)]
 pub struct DeviceFault;

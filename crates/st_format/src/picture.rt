@@ -101,7 +101,7 @@ impl<A: Allocator> Picture<A> {
         Picture { format, samples }
     }
 
-    /// Its format.
+    /// The format that its samples are of.
     pub fn format(&self) -> Format
         ensures value { result ≡ self.now.format }
         ensures whole { IsPicture self.now }

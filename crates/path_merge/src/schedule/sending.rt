@@ -54,7 +54,6 @@ pub fn next_datagram<A: Allocator, B: Allocator, C: Allocator>(
     Ok(octets)
 }
 
-/// The datagram of a packet.
 #[tactic(auto, unfolding(crate::specs::Steps::text_at))]
 fn datagram_of<A: Allocator, B: Allocator, C: Allocator>(
     alloc: A,

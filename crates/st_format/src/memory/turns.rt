@@ -5,7 +5,7 @@ ghost use Rattle.st_format.specs.Device.{CountsFaults};
 ghost use Rattle.st_format.specs.Memory.{IsTooLong, due_of};
 ghost use Rattle.st_format.specs.Turns.{CountsTurn, IsWithin, TakesTurn};
 
-use crate::{DatagramSource, Path, SourceFault, Turn};
+use crate::{DatagramSource, MOST_DATAGRAM, Path, SourceFault, Turn};
 use std::alloc::{Allocator, Global};
 use std::marker::Model;
 
@@ -104,7 +104,7 @@ impl<A: Allocator> MemoryTurns<A> {
         ensures { IsTrue result ↔ IsTooLong self.now.turns }
     {
         match self.turns.get(self.at) {
-            Some(MemoryTurn::Datagram(_, octets)) => octets.len() > 65535,
+            Some(MemoryTurn::Datagram(_, octets)) => octets.len() > MOST_DATAGRAM,
             _ => false,
         }
     }
