@@ -35,7 +35,7 @@ use Rattle.capture_engines.specs.Received.{HasRecordFault, IsFileRefusal}
 use Rattle.run_outcome.specs.Refusing.{OfRefusal}
 use Rattle.capture_engines.specs.Taking.{TakesAllDue, TakesRecords}
 use Rattle.run_outcome.specs.declared.fault.Fault.{Fault}
-use Rattle.capture_engines.specs.declared.session.Session.{Session}
+use Rattle.capture_engines.specs.declared.intake.Intake.{Intake}
 use Rattle.capture_engines.specs.declared.tally.Tally.{Tally}
 use Rattle.capture_engines.specs.Tallied.{tally_after}
 use Rattle.capture_engines.proofs.Taken.{all_given, records_taken}
@@ -195,7 +195,7 @@ Heard received old new before after t u = MatchResult received
 
 -- What the turns of a reader came to, and where it stands behind them.
 pub record Ran {A : Type 0} (received : Result Received ReceiveFault) (old new : Option (List Due))
-    (b a : Session A) (stands : Standing) (delivered : ℕ) (told : Told)
+    (b a : Intake A) (stands : Standing) (delivered : ℕ) (told : Told)
     (left : Option (List ℕ)) (failures : ℕ) : Type 0 where
   pub turns : old ≡ turns_of Reads told.to_give
   pub heard : Heard received old new b.receiver a.receiver b.tally a.tally
@@ -216,7 +216,7 @@ pub record Answers {V : Type 0} (received : Result Received ReceiveFault) (outco
 
 -- the three ends
 pub record IsWhole {A V : Type 0} (outcome : Result V Fault) (done : V) (old : Option (List Due))
-    (b a : Session A) (told : Told) (failures : ℕ) : Type 0 where
+    (b a : Intake A) (told : Told) (failures : ℕ) : Type 0 where
   pub count : ℕ
   pub is : outcome ≡ Ok done
   pub now_is : a.delivered ≡ min (b.delivered + count) (2 ^ 64 - 1)
@@ -237,7 +237,7 @@ pub record IsAtFault {V : Type 0} (outcome : Result V Fault) (told : Told) (fail
     pub behind : FailsBehind fault told.to_give
     pub counted : CountsFault fault told.failures failures
 
-abbrev pub CameTo : {A V : Type 0} → Result V Fault → V → Option (List Due) → Session A → Session A
+abbrev pub CameTo : {A V : Type 0} → Result V Fault → V → Option (List Due) → Intake A → Intake A
     → Told → ℕ → Type 0
 CameTo outcome done old b a told failures =
     IsWhole outcome done old b a told failures
@@ -261,7 +261,7 @@ too_many r old new before after delivered to_give left more turns took counted s
     (sym took.taken.count ∙ all ∙ long)
 
 ran_on : {A V : Type 0} (r : Received) (outcome : Result V Fault) (done : V)
-    (old new : Option (List Due)) (b a : Session A) (stands : Standing)
+    (old new : Option (List Due)) (b a : Intake A) (stands : Standing)
     (delivered : ℕ) (told : Told) (left : Option (List ℕ)) (failures : ℕ) (ended : Bool)
     → r.ended ≡ ended → Ran (Ok r) old new b a stands delivered told left failures
     → Answers (Ok r) outcome done b.delivered a.delivered
@@ -291,7 +291,7 @@ ran_on r outcome done old new b a stands delivered told left failures false e ra
     }))
 
 pub came_to : {A V : Type 0} (received : Result Received ReceiveFault) (outcome : Result V Fault)
-    (done : V) (old new : Option (List Due)) (b a : Session A)
+    (done : V) (old new : Option (List Due)) (b a : Intake A)
     (stands : Standing) (delivered : ℕ) (told : Told) (left : Option (List ℕ)) (failures : ℕ)
     → Ran received old new b a stands delivered told left failures
     → Answers received outcome done b.delivered a.delivered
@@ -309,7 +309,7 @@ came_to (Err e) outcome done old new b a stands delivered told left failures ran
 
 -- ---- what follows
 
-pub came_taken : {A V : Type 0} (b a : Session A) (outcome : Result V Fault) (done : V)
+pub came_taken : {A V : Type 0} (b a : Intake A) (outcome : Result V Fault) (done : V)
     (told : Told) (failures : ℕ)
     → CameTo outcome done (turns_of Reads told.to_give) b a told failures
     → OnOk outcome (TakesRecords told.to_give b a)
@@ -319,7 +319,7 @@ came_taken b a outcome done told failures (inr (inl long)) = rw long.is tt
 came_taken b a outcome done told failures (inr (inr fault)) = rw fault.is tt
 
 pub came_refused : {A V : Type 0} (outcome : Result V Fault) (done : V) (old : Option (List Due))
-    (b a : Session A) (told : Told) (failures : ℕ)
+    (b a : Intake A) (told : Told) (failures : ℕ)
     → CameTo outcome done old b a told failures
     → IfErr outcome (λ f. OfRefusal f (IsFileRefusal HasRecordFault told.to_give))
 came_refused outcome done old b a told failures (inl whole) = rw whole.is tt
@@ -328,7 +328,7 @@ came_refused outcome done old b a told failures (inr (inr fault)) =
     rw fault.is (fault_refuses fault.fault told.to_give fault.behind)
 
 pub came_accounted : {A V : Type 0} (outcome : Result V Fault) (done : V) (old : Option (List Due))
-    (b a : Session A) (told : Told) (failures : ℕ)
+    (b a : Intake A) (told : Told) (failures : ℕ)
     → CameTo outcome done old b a told failures
     → Accounts outcome (counts told.failures failures ∷ [])
 came_accounted outcome done old b a told failures (inl whole) = rw whole.is whole.worked
@@ -349,7 +349,8 @@ same_heard received s to_give new before mid after t u w reads same tally heard 
     (subst (λ (x : Standing). Heard received (turns_of x to_give) new before mid t u) reads heard))
 
 pub reader_came : {A V : Type 0} (received : Result Received ReceiveFault)
-    (outcome : Result V Fault) (done : V) (s t : Standing) (new : Option (List Due)) (b a : Session A) (mid : State)
+    (outcome : Result V Fault) (done : V) (s t : Standing) (new : Option (List Due))
+    (b a : Intake A) (mid : State)
     (tally : Tally) (d e : ℕ) (opened kept told : Told) (left : Option (List ℕ)) (failures : ℕ)
     → s ≡ Reads → d ≡ 0 → opened ≡ told → kept ≡ opened → a.receiver ≡ mid → a.tally ≡ tally
     → Heard received (turns_of s told.to_give) new b.receiver mid b.tally tally

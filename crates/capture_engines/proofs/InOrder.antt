@@ -18,15 +18,15 @@ use Rattle.capture_engines.specs.Taking.{Receives}
 use Rattle.capture_engines.specs.Taking.{SavesHolding, Stands, TakesFile, TakesFiles}
 use Rattle.capture_engines.specs.Taking.{capture_datagrams, said_behind}
 use Rattle.run_outcome.specs.declared.fault.Fault.{Fault}
-use Rattle.capture_engines.specs.declared.receiving.Opening.{Opening}
-use Rattle.capture_engines.specs.declared.session.Session.{Session}
+use Rattle.capture_engines.specs.declared.receiving.Asked.{Asked}
+use Rattle.capture_engines.specs.declared.intake.Intake.{Intake}
 use Rattle.capture_engines.proofs.Printed.{received_text_is}
 use Rattle.std.proofs.Common.{Bool}
 
 -- These captures are still to be taken: with the datagrams that are taken by now, theirs are all,
 -- and behind them the receiver is open by this text.
-pub record Left {S A : Type 0} (o : Opening A) (f : S → Option (List ℕ)) (rest : List S)
-    (now : Option (Session A)) (text : Option (List ℕ)) (all : List (List ℕ)) : Type 0 where
+pub record Left {S A : Type 0} (o : Asked A) (f : S → Option (List ℕ)) (rest : List S)
+    (now : Option (Intake A)) (text : Option (List ℕ)) (all : List (List ℕ)) : Type 0 where
   pub octets : List (List ℕ)
   pub said : Option (List ℕ)
   pub here : List (List ℕ)
@@ -36,15 +36,15 @@ pub record Left {S A : Type 0} (o : Opening A) (f : S → Option (List ℕ)) (re
   pub whole : here ++ flat_map capture_datagrams octets ≡ all
 
 -- the first k captures were taken
-pub record SoFar {S A : Type 0} (o : Opening A) (f : S → Option (List ℕ)) (k : ℕ) (start : List S)
-    (before after : Option (Session A)) : Type 0 where
+pub record SoFar {S A : Type 0} (o : Asked A) (f : S → Option (List ℕ)) (k : ℕ) (start : List S)
+    (before after : Option (Intake A)) : Type 0 where
   pub left : (octets : List (List ℕ)) (said : Option (List ℕ)) (ds : List (List ℕ))
       → AllTell f start octets → Stands o before said ds
       → Left o f (drop k start) after (said_behind said octets)
       (ds ++ flat_map capture_datagrams octets)
 
-pub none_so_far : {S A : Type 0} (o : Opening A) (f : S → Option (List ℕ)) (xs : List S)
-    (b : Option (Session A)) → SoFar o f 0 xs b b
+pub none_so_far : {S A : Type 0} (o : Asked A) (f : S → Option (List ℕ)) (xs : List S)
+    (b : Option (Intake A)) → SoFar o f 0 xs b b
 none_so_far o f xs b = record {
   left = λ octets said ds tell stands. record {
     octets = octets;
@@ -63,8 +63,8 @@ said_then : (said : Option (List ℕ)) (p : List ℕ) (ps : List (List ℕ))
 said_then None p ps = refl
 said_then (Some text) p ps = refl
 
-first_left : {S A : Type 0} (o : Opening A) (f : S → Option (List ℕ)) (x : S) (xs : List S)
-    (b a : Option (Session A)) (text : Option (List ℕ)) (all octets : List (List ℕ))
+first_left : {S A : Type 0} (o : Asked A) (f : S → Option (List ℕ)) (x : S) (xs : List S)
+    (b a : Option (Intake A)) (text : Option (List ℕ)) (all octets : List (List ℕ))
     (said : Option (List ℕ)) (here : List (List ℕ))
     → AllTell f (x ∷ xs) octets
     → Stands o b said here → said_behind said octets ≡ text
@@ -81,8 +81,8 @@ first_left o f x xs b a text all (p ∷ ps) said here tell stands behind whole t
   whole = append_assoc here (capture_datagrams p) (flat_map capture_datagrams ps) ∙ whole;
 }
 
-next_left : {S A : Type 0} (o : Opening A) (f : S → Option (List ℕ)) (rest : List S)
-    (b a : Option (Session A)) (text : Option (List ℕ)) (all : List (List ℕ))
+next_left : {S A : Type 0} (o : Asked A) (f : S → Option (List ℕ)) (rest : List S)
+    (b a : Option (Intake A)) (text : Option (List ℕ)) (all : List (List ℕ))
     → Left o f rest b text all → FirstIs (λ s. TakesFile o (f s) b a) rest
     → Left o f (drop 1 rest) a text all
 next_left o f [] b a text all l taken = absurd taken
@@ -90,8 +90,8 @@ next_left o f (x ∷ xs) b a text all l taken =
     first_left o f x xs b a text all l.octets l.said l.here l.tell l.stands l.behind l.whole taken
 
 -- one more
-pub one_more : {S A : Type 0} (o : Opening A) (f : S → Option (List ℕ)) (k : ℕ)
-    (start rest : List S) (before b a : Option (Session A)) → SoFar o f k start before b
+pub one_more : {S A : Type 0} (o : Asked A) (f : S → Option (List ℕ)) (k : ℕ)
+    (start rest : List S) (before b a : Option (Intake A)) → SoFar o f k start before b
     → rest ≡ drop k start → FirstIs (λ s. TakesFile o (f s) b a) rest
     → SoFar o f (k + 1) start before a
 one_more {S} o f k start rest before b a so_far behind taken = record {
@@ -108,8 +108,8 @@ said_none None = refl
 said_none (Some text) = refl
 
 -- none is left
-none_left : {S A : Type 0} (o : Opening A) (f : S → Option (List ℕ)) (rest : List S)
-    (a : Option (Session A)) (text : Option (List ℕ)) (all octets : List (List ℕ))
+none_left : {S A : Type 0} (o : Asked A) (f : S → Option (List ℕ)) (rest : List S)
+    (a : Option (Intake A)) (text : Option (List ℕ)) (all octets : List (List ℕ))
     (said : Option (List ℕ)) (here : List (List ℕ))
     → length rest ≡ 0 → AllTell f rest octets
     → Stands o a said here → said_behind said octets ≡ text
@@ -121,8 +121,8 @@ none_left o f [] a text all [] said here none tell stands behind whole =
     subst (λ (t : Option (List ℕ)). Stands o a t all) (sym (said_none said) ∙ behind)
     (subst (λ (ds : List (List ℕ)). Stands o a said ds) (sym (append-nil here) ∙ whole) stands)
 
-pub all_taken : {S A : Type 0} (o : Opening A) (f : S → Option (List ℕ)) (k : ℕ) (start : List S)
-    (before after : Option (Session A)) → SoFar o f k start before after → length start ≤ k
+pub all_taken : {S A : Type 0} (o : Asked A) (f : S → Option (List ℕ)) (k : ℕ) (start : List S)
+    (before after : Option (Intake A)) → SoFar o f k start before after → length start ≤ k
     → TakesFiles o f start before after
 all_taken o f k start before after so_far end = record {
   stands = λ octets said ds tell stands.
@@ -138,8 +138,8 @@ all_taken o f k start before after so_far end = record {
 some_is : (a b : List ℕ) → Some a ≡ Some b → a ≡ b
 some_is a b is = cc
 
-saves_held : {A : Type 0} (o : Opening A) (window source : List ℕ) (Is : List ℕ → Type 0)
-    (said : Option (List ℕ)) (s : Session A) (ds : List (List ℕ)) (wanted : Bool)
+saves_held : {A : Type 0} (o : Asked A) (window source : List ℕ) (Is : List ℕ → Type 0)
+    (said : Option (List ℕ)) (s : Intake A) (ds : List (List ℕ)) (wanted : Bool)
     (shown shown' old new : Option (List ℕ))
     → AreTimestamps window o.window.items → IsSourceText source o.ssrc → Stands o (Some s) said ds
     → ((text : List ℕ) → Is text → said ≡ Some text)
@@ -165,9 +165,9 @@ saves_held o window source Is (Some said) s ds wanted shown shown' old new is_wi
       taken = taken;
     }
 
-pub receives : {S A : Type 0} (o : Opening A) (window source : List ℕ) (sdp : Option S)
+pub receives : {S A : Type 0} (o : Asked A) (window source : List ℕ) (sdp : Option S)
     (f : S → Option (List ℕ)) (captures : List S)
-    (begun : Option (Session A)) (s : Session A) (wanted : Bool)
+    (begun : Option (Intake A)) (s : Intake A) (wanted : Bool)
     (shown shown' old new : Option (List ℕ))
     → AreTimestamps window o.window.items → IsSourceText source o.ssrc → Begins o f sdp begun
     → TakesFiles o f captures begun (Some s)
@@ -187,7 +187,7 @@ receives o window source sdp f captures begun s wanted shown shown' old new is_w
 -- ---- a run begins
 
 -- with no SDP's source
-pub none_begins : {S A : Type 0} (o : Opening A) (f : S → Option (List ℕ)) (sdp : Option S)
+pub none_begins : {S A : Type 0} (o : Asked A) (f : S → Option (List ℕ)) (sdp : Option S)
     → sdp ≡ None → Begins {S = S} {A = A} o f sdp None
 none_begins {S} {A} o f sdp none =
     subst (λ (x : Option S). Begins {S = S} {A = A} o f x None) (sym none) (record {
@@ -197,8 +197,8 @@ none_begins {S} {A} o f sdp none =
     })
 
 -- by the SDP's source
-pub some_begins : {S A : Type 0} (o : Opening A) (f : S → Option (List ℕ)) (sdp : Option S)
-    (source : S) (s : Session A) → sdp ≡ Some source → OpensBy o (f source) s
+pub some_begins : {S A : Type 0} (o : Asked A) (f : S → Option (List ℕ)) (sdp : Option S)
+    (source : S) (s : Intake A) → sdp ≡ Some source → OpensBy o (f source) s
     → Begins o f sdp (Some s)
 some_begins {S} {A} o f sdp source s some opens =
     subst (λ (x : Option S). Begins {S = S} {A = A} o f x (Some s)) (sym some) (record {
@@ -207,8 +207,8 @@ some_begins {S} {A} o f sdp source s some opens =
       opens = λ captures text is. ap (λ (t : List ℕ). Some t) (sym (opens.is text is));
     })
 
--- a session that was opened by the text that the SDP's source gave
-pub opened_if : {A : Type 0} (o : Opening A) (r : Result (Session A) Fault)
+-- an intake that was opened by the text that the SDP's source gave
+pub opened_if : {A : Type 0} (o : Asked A) (r : Result (Intake A) Fault)
     (to_give : Option (List ℕ)) (text window : List ℕ)
     → ((octets : List ℕ) → to_give ≡ Some octets → octets ≡ text) → window ≡ o.window.items
     → IfOk r (λ s. s.receiver.opening.window ≡ window)

@@ -11,7 +11,7 @@ use Rattle.media_file.specs.declared.fault.FileFault.TheVariants.{TooManyRecords
 use Rattle.run_outcome.specs.Fault.{IfRefused}
 use Rattle.run_outcome.specs.LowerFaults.{capture_fault}
 use Rattle.capture_engines.specs.Migrating.{LeavesOff, LeavesAt, LeavesBy, Migrates, MovesBy}
-use Rattle.capture_engines.specs.Migrating.Leaves.{Stopped, Untouched, Written}
+use Rattle.capture_engines.specs.Migrating.LeavesOff.{Stopped, Untouched, Written}
 use Rattle.run_outcome.specs.TextRefusals.{IsTextRefusal}
 use Rattle.run_outcome.specs.Refusing.{OfRefusal}
 use Rattle.run_outcome.specs.Text.{GivesText}

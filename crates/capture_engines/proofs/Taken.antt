@@ -12,7 +12,7 @@ use Rattle.media_file.specs.Fronts.{front_at}
 use Rattle.media_file.specs.Reader.{dues_in, turns_of}
 use Rattle.media_file.specs.declared.reader.Standing.TheVariants.{Reads}
 use Rattle.path_merge.specs.Frames.{Holds, State, frames_of, joined_frames}
-use Rattle.path_merge.specs.Opening.{Opening as Opened}
+use Rattle.path_merge.specs.Opening.{Opening}
 use Rattle.path_merge.specs.Answers.{taken_at}
 use Rattle.path_merge.specs.Took.{HearsAll, TakesDue}
 use Rattle.path_merge.specs.declared.answer.Refusal.{Refusal}
@@ -26,8 +26,8 @@ use Rattle.capture_engines.specs.Taking.{AnnouncesStream, AreAll, Counts, HoldsB
 use Rattle.capture_engines.specs.Taking.{TakesAllDue}
 use Rattle.capture_engines.specs.Taking.{TakesRecords, capture_datagrams, capture_said}
 use Rattle.capture_engines.specs.Taking.{datagrams_behind, said_before, said_behind}
-use Rattle.capture_engines.specs.declared.receiving.Opening.{Opening}
-use Rattle.capture_engines.specs.declared.session.Session.{Session}
+use Rattle.capture_engines.specs.declared.receiving.Asked.{Asked}
+use Rattle.capture_engines.specs.declared.intake.Intake.{Intake}
 
 -- ---- turns
 
@@ -53,30 +53,30 @@ holds_more n due s t octets ds taken is holds =
     let xs : List (List ℕ) = datagrams_of due in
     taken.frames ∙ ap (λ (rs : List Raster). joined_frames rs (frames_of s.opening xs)) holds
     ∙ sym (frames_of-append s.opening ds xs)
-    ∙ ap (λ (o : Opened). frames_of o (ds ++ xs)) (sym taken.opening)
+    ∙ ap (λ (o : Opening). frames_of o (ds ++ xs)) (sym taken.opening)
     ∙ ap (λ (ts : List Due). frames_of t.opening (ds ++ datagrams_of ts)) (sym is)
 
 -- the answers to datagrams
-abbrev answers : Opened → List (List ℕ) → List (Result Answer Refusal)
+abbrev answers : Opening → List (List ℕ) → List (Result Answer Refusal)
 answers o datagrams = map (taken_at o) datagrams
 
-counts_more : {A : Type 0} (due : List Due) (b a : Session A) (octets : List ℕ)
+counts_more : {A : Type 0} (due : List Due) (b a : Intake A) (octets : List ℕ)
     (ds : List (List ℕ))
     → HearsAll (λ t answer. tally_after answer t) b.receiver.opening due b.tally a.tally
     → a.receiver.opening ≡ b.receiver.opening → dues_in octets ≡ due → Counts b ds
     → Counts a (ds ++ datagrams_of (dues_in octets))
 counts_more due b a octets ds heard same is counts =
-    let o : Opened = b.receiver.opening in
+    let o : Opening = b.receiver.opening in
     let xs : List (List ℕ) = datagrams_of due in
     let all : Tallies a.tally (answers o ds ++ answers o xs) =
     subst (λ (t : Tally). Tallies t (answers o ds ++ answers o xs)) (sym heard)
     (tallies_all b.tally (answers o ds) (answers o xs) counts) in
     subst (Tallies a.tally)
     (sym (map-append (taken_at o) ds xs)
-    ∙ ap (λ (p : Opened). answers p (ds ++ xs)) (sym same)
+    ∙ ap (λ (p : Opening). answers p (ds ++ xs)) (sym same)
     ∙ ap (λ (ts : List Due). answers a.receiver.opening (ds ++ datagrams_of ts)) (sym is)) all
 
-pub records_taken : {A : Type 0} (b a : Session A) (n : ℕ) (to_give : Option (List ℕ))
+pub records_taken : {A : Type 0} (b a : Intake A) (n : ℕ) (to_give : Option (List ℕ))
     → TakesAllDue n (turns_of Reads to_give) b a
     → a.delivered ≡ min (b.delivered + n) (2 ^ 64 - 1) → TakesRecords to_give b a
 records_taken b a n to_give all counted = record {
@@ -101,7 +101,7 @@ front_gives told None text octets gives is = absurd
 front_gives told (Some rest) text octets gives is =
     (rest, refl, subst (λ (t : Option (List ℕ)). Takes front_at t (Some rest) text) is gives)
 
-holds_by : {A : Type 0} (o : Opening A) (b a : Session A) (told left : Option (List ℕ))
+holds_by : {A : Type 0} (o : Asked A) (b a : Intake A) (told left : Option (List ℕ))
     (text octets said : List ℕ) (ds : List (List ℕ)) → Takes front_at told left text
     → TakesRecords left b a → told ≡ Some octets
     → HoldsBy o said b ds → HoldsBy o said a (ds ++ capture_datagrams octets)
@@ -113,17 +113,17 @@ holds_by o b a told left text octets said ds gives taken is holds =
     let count : a.delivered ≡ min (b.delivered + length more) (2 ^ 64 - 1) = taken.delivered f.0 f.1
     in
     subst (λ (xs : List (List ℕ)). HoldsBy o said a (ds ++ xs)) (sym same) (record {
-      window = ap (λ (p : Opened). p.window) taken.opening ∙ holds.window;
-      ssrc = ap (λ (p : Opened). p.ssrc) taken.opening ∙ holds.ssrc;
-      announced = subst (λ (p : Opened). AnnouncesStream said p)
+      window = ap (λ (p : Opening). p.window) taken.opening ∙ holds.window;
+      ssrc = ap (λ (p : Opening). p.ssrc) taken.opening ∙ holds.ssrc;
+      announced = subst (λ (p : Opening). AnnouncesStream said p)
           (sym taken.opening) holds.announced;
       holds = taken.holds f.0 ds f.1 holds.holds;
       tallied = taken.tallied f.0 ds f.1 holds.tallied;
       delivered = omega (arith, count, holds.delivered, length-append ds more);
     })
 
--- so a session that had begun by a text stands by it
-stands_by : {A : Type 0} (o : Opening A) (b a : Session A) (told left : Option (List ℕ))
+-- so an intake that had begun by a text stands by it
+stands_by : {A : Type 0} (o : Asked A) (b a : Intake A) (told left : Option (List ℕ))
     (text octets : List ℕ) (said : Option (List ℕ)) (ds : List (List ℕ))
     → Takes front_at told left text → TakesRecords left b a → told ≡ Some octets
     → Stands o (Some b) said ds
@@ -133,7 +133,7 @@ stands_by o b a told left text octets (Some said) ds gives taken is stands =
     holds_by o b a told left text octets said ds gives taken is stands
 
 -- one that began with the capture stands by the capture's text
-begun_by : {A : Type 0} (o : Opening A) (b a : Session A) (told left : Option (List ℕ))
+begun_by : {A : Type 0} (o : Asked A) (b a : Intake A) (told left : Option (List ℕ))
     (text octets : List ℕ) (said : Option (List ℕ)) (ds : List (List ℕ))
     → Takes front_at told left text → TakesRecords left b a → told ≡ Some octets
     → HoldsBy o text b [] → Stands o None said ds
@@ -147,8 +147,8 @@ begun_by o b a told left text octets None ds gives taken is begun stands =
     (holds_by o b a told left text octets text ds gives taken is
     (subst (λ (xs : List (List ℕ)). HoldsBy o text b xs) (sym stands) begun))
 
--- by a session that had begun
-pub file_taken : {A : Type 0} (o : Opening A) (b a : Session A) (told left : Option (List ℕ))
+-- by an intake that had begun
+pub file_taken : {A : Type 0} (o : Asked A) (b a : Intake A) (told left : Option (List ℕ))
     (text : List ℕ) → Takes front_at told left text → TakesRecords left b a
     → TakesFile o told (Some b) (Some a)
 file_taken o b a told left text gives taken = record {
@@ -157,7 +157,7 @@ file_taken o b a told left text gives taken = record {
 }
 
 -- by one that began with it
-pub first_taken : {A : Type 0} (o : Opening A) (b a : Session A) (told left : Option (List ℕ))
+pub first_taken : {A : Type 0} (o : Asked A) (b a : Intake A) (told left : Option (List ℕ))
     (text : List ℕ) → Takes front_at told left text → TakesRecords left b a → HoldsBy o text b []
     → TakesFile o told None (Some a)
 first_taken o b a told left text gives taken begun = record {
@@ -166,20 +166,20 @@ first_taken o b a told left text gives taken begun = record {
 }
 
 -- the same where it was taken at all
-pub file_taken_if : {A V E : Type 0} (o : Opening A) (begun : Option (Session A)) (b a : Session A)
+pub file_taken_if : {A V E : Type 0} (o : Asked A) (begun : Option (Intake A)) (b a : Intake A)
     (left : Option (List ℕ)) (text : List ℕ) (r : Result V E) → begun ≡ Some b
     → OnOk r (TakesRecords left b a) → OnOk r (TakesBehind o left text begun (Some a))
 file_taken_if {A = A} o begun b a left text (Ok v) is taken =
-    subst (λ (s : Option (Session A)). TakesBehind o left text s (Some a)) (sym is)
+    subst (λ (s : Option (Intake A)). TakesBehind o left text s (Some a)) (sym is)
     (λ told gives. file_taken o b a told left text gives taken)
 file_taken_if o begun b a left text (Err e) is taken = tt
 
-pub first_taken_if : {A V E : Type 0} (o : Opening A) (begun : Option (Session A)) (b a : Session A)
+pub first_taken_if : {A V E : Type 0} (o : Asked A) (begun : Option (Intake A)) (b a : Intake A)
     (left : Option (List ℕ)) (text : List ℕ) (r : Result V E) → begun ≡ None
     → HoldsBy o text b [] → OnOk r (TakesRecords left b a)
     → OnOk r (TakesBehind o left text begun (Some a))
 first_taken_if {A = A} o begun b a left text (Ok v) is opened taken =
-    subst (λ (s : Option (Session A)). TakesBehind o left text s (Some a)) (sym is)
+    subst (λ (s : Option (Intake A)). TakesBehind o left text s (Some a)) (sym is)
     (λ told gives. first_taken o b a told left text gives taken opened)
 first_taken_if o begun b a left text (Err e) is opened taken = tt
 

@@ -43,7 +43,8 @@ refusals_text refused outside =
 -- the line of a refusal, by the counts of all
 abbrev pub refusal_line : List ℕ → Refusal → List ℕ
 refusal_line counts e =
-    counted_line (slice_index counts (place_of e)) (RefusedCount e (slice_index counts (place_of e)))
+    counted_line (slice_index counts (place_of e))
+    (RefusedCount e (slice_index counts (place_of e)))
 
 -- those of a tally's counts
 abbrev pub tally_text : Tally → List ℕ

@@ -40,7 +40,7 @@ IsWindowFault window open_fault.NoMemory = ⊥
 
 -- the refusals of opening by an SDP text: of the text; of the window
 abbrev pub IsOpeningRefusal : List ℕ → List ℕ → Refusal → Type 0
-IsOpeningRefusal window text (refusal.Sdp e) = IsTextFault (video_sections (lines text)) e
+IsOpeningRefusal window text (refusal.Sdp at) = IsTextFault (video_sections (lines text)) at.fault
 IsOpeningRefusal window text (refusal.Open e) = IsWindowFault window e
 IsOpeningRefusal window text r = ⊥
 

@@ -15,13 +15,13 @@ use Rattle.media_file.specs.StateFile.{state_text}
 use Rattle.media_file.specs.declared.fault.FileFault.{FileFault}
 use Rattle.path_merge.specs.Answers.{taken_at}
 use Rattle.path_merge.specs.Frames.{Holds, State}
-use Rattle.path_merge.specs.Opening.{Opening as Opened}
+use Rattle.path_merge.specs.Opening.{Opening}
 use Rattle.path_merge.specs.Took.{HearsAll, TakesDue}
 use Rattle.receiver_file.specs.Saved.{kept_of}
 use Rattle.run_outcome.specs.Sources.{IsSourceText}
 use Rattle.run_outcome.specs.Timestamps.{AreTimestamps}
-use Rattle.capture_engines.specs.declared.receiving.Opening.{Opening}
-use Rattle.capture_engines.specs.declared.session.Session.{Session}
+use Rattle.capture_engines.specs.declared.receiving.Asked.{Asked}
+use Rattle.capture_engines.specs.declared.intake.Intake.{Intake}
 use Rattle.capture_engines.specs.Printed.{taken_text}
 use Rattle.capture_engines.specs.Tallied.{Tallies, tally_after}
 
@@ -49,7 +49,7 @@ said_behind None [] = None
 said_behind None (octets ∷ captures) = Some (capture_said octets)
 
 -- An SDP text announces what a receiver takes: the text says its format and its payload type.
-pub record AnnouncesStream (text : List ℕ) (opening : Opened) : Type 0 where
+pub record AnnouncesStream (text : List ℕ) (opening : Opening) : Type 0 where
   pub description : Description
   pub described : IsDescribed (video_sections (lines text)) description
   pub format : fields_of opening.format ≡ description.leg.format
@@ -62,8 +62,8 @@ AllTell to_give [] (o ∷ os) = ⊥
 AllTell to_give (s ∷ ss) [] = ⊥
 AllTell to_give (s ∷ ss) (o ∷ os) = (to_give s ≡ Some o) × AllTell to_give ss os
 
--- a session's tally counts the answers to these datagrams
-abbrev pub Counts : {A : Type 0} → Session A → List (List ℕ) → Type 0
+-- an intake's tally counts the answers to these datagrams
+abbrev pub Counts : {A : Type 0} → Intake A → List (List ℕ) → Type 0
 Counts s datagrams = Tallies s.tally (map (taken_at s.receiver.opening) datagrams)
 
 -- ---- one capture
@@ -73,18 +73,18 @@ abbrev pub AreAll : Option (List Due) → List Due → Type 0
 AreAll None due = ⊤
 AreAll (Some turns) due = turns ≡ due
 
--- a session took the datagrams of all turns to come, so many, and counted the answers to them
+-- an intake took the datagrams of all turns to come, so many, and counted the answers to them
 pub record TakesAllDue {A : Type 0} (delivered : ℕ) (turns : Option (List Due))
-    (before after : Session A) : Type 0 where
+    (before after : Intake A) : Type 0 where
   pub due : List Due
   pub all : AreAll turns due
   pub taken : TakesDue due delivered before.receiver after.receiver
   pub heard : HearsAll (λ t answer. tally_after answer t) before.receiver.opening due before.tally
       after.tally
 
--- A session took all records that a source was to give: what its receiver holds, what its tally
+-- An intake took all records that a source was to give: what its receiver holds, what its tally
 -- counts, and how many were delivered.
-pub record TakesRecords {A : Type 0} (to_give : Option (List ℕ)) (before after : Session A) : Type 0
+pub record TakesRecords {A : Type 0} (to_give : Option (List ℕ)) (before after : Intake A) : Type 0
   where
     pub opening : after.receiver.opening ≡ before.receiver.opening
     pub holds : (octets : List ℕ) (datagrams : List (List ℕ)) → to_give ≡ Some octets
@@ -98,9 +98,9 @@ pub record TakesRecords {A : Type 0} (to_give : Option (List ℕ)) (before after
 
 -- ---- captures, one after the other
 
--- A session's receiver was opened with what the words and this SDP text said, it holds the Frames
+-- An intake's receiver was opened with what the words and this SDP text said, it holds the Frames
 -- of these datagrams, its tally counts the answers to them, and so many were delivered.
-pub record HoldsBy {A : Type 0} (o : Opening A) (text : List ℕ) (s : Session A)
+pub record HoldsBy {A : Type 0} (o : Asked A) (text : List ℕ) (s : Intake A)
     (datagrams : List (List ℕ)) : Type 0 where
   pub window : s.receiver.opening.window ≡ o.window.items
   pub ssrc : s.receiver.opening.ssrc ≡ o.ssrc
@@ -109,8 +109,8 @@ pub record HoldsBy {A : Type 0} (o : Opening A) (text : List ℕ) (s : Session A
   pub tallied : Counts s datagrams
   pub delivered : s.delivered ≡ min (length datagrams) (2 ^ 64 - 1)
 
--- the same of a session, or that none has begun, by no text
-abbrev pub Stands : {A : Type 0} → Opening A → Option (Session A) → Option (List ℕ)
+-- the same of an intake, or that none has begun, by no text
+abbrev pub Stands : {A : Type 0} → Asked A → Option (Intake A) → Option (List ℕ)
     → List (List ℕ) → Type 0
 Stands o None None datagrams = datagrams ≡ []
 Stands o None (Some text) datagrams = ⊥
@@ -118,21 +118,21 @@ Stands o (Some s) None datagrams = ⊥
 Stands o (Some s) (Some text) datagrams = HoldsBy o text s datagrams
 
 -- a capture was taken
-pub record TakesFile {A : Type 0} (o : Opening A) (to_give : Option (List ℕ))
-    (before after : Option (Session A)) : Type 0 where
+pub record TakesFile {A : Type 0} (o : Asked A) (to_give : Option (List ℕ))
+    (before after : Option (Intake A)) : Type 0 where
   pub stands : (octets : List ℕ) (said : Option (List ℕ)) (datagrams : List (List ℕ))
       → to_give ≡ Some octets → Stands o before said datagrams
       → Stands o after (said_behind said (octets ∷ [])) (datagrams ++ capture_datagrams octets)
 
 -- every capture was taken whose front has this text, and behind it what a source was to give
-abbrev pub TakesBehind : {A : Type 0} → Opening A → Option (List ℕ) → List ℕ → Option (Session A)
-    → Option (Session A) → Type 0
+abbrev pub TakesBehind : {A : Type 0} → Asked A → Option (List ℕ) → List ℕ → Option (Intake A)
+    → Option (Intake A) → Type 0
 TakesBehind o left text before after =
     (told : Option (List ℕ)) → Takes front_at told left text → TakesFile o told before after
 
 -- all captures were taken, in their order
-pub record TakesFiles {S A : Type 0} (o : Opening A) (to_give : S → Option (List ℕ))
-    (captures : List S) (before after : Option (Session A)) : Type 0 where
+pub record TakesFiles {S A : Type 0} (o : Asked A) (to_give : S → Option (List ℕ))
+    (captures : List S) (before after : Option (Intake A)) : Type 0 where
   pub stands : (octets : List (List ℕ)) (said : Option (List ℕ)) (datagrams : List (List ℕ))
       → AllTell to_give captures octets → Stands o before said datagrams
       → Stands o after (said_behind said octets) (datagrams ++ flat_map capture_datagrams octets)
@@ -146,17 +146,17 @@ abbrev pub IsOpeningText : {S : Type 0} → (S → Option (List ℕ)) → Option
 IsOpeningText to_give None captures text = said_behind None captures ≡ Some text
 IsOpeningText to_give (Some sdp) captures text = to_give sdp ≡ Some text
 
--- a session was opened by the SDP text that a source gave, which is the one that it was to give, if
+-- an intake was opened by the SDP text that a source gave, which is the one that it was to give, if
 -- it tells it
-pub record OpensBy {A : Type 0} (o : Opening A) (to_give : Option (List ℕ)) (s : Session A)
+pub record OpensBy {A : Type 0} (o : Asked A) (to_give : Option (List ℕ)) (s : Intake A)
     : Type 0 where
   pub text : List ℕ
   pub is : (octets : List ℕ) → to_give ≡ Some octets → octets ≡ text
   pub opened : HoldsBy o text s []
 
--- a session has begun by the SDP's source where one is given, and else none has
-pub record Begins {S A : Type 0} (o : Opening A) (to_give : S → Option (List ℕ)) (sdp : Option S)
-    (begun : Option (Session A)) : Type 0 where
+-- an intake has begun by the SDP's source where one is given, and else none has
+pub record Begins {S A : Type 0} (o : Asked A) (to_give : S → Option (List ℕ)) (sdp : Option S)
+    (begun : Option (Intake A)) : Type 0 where
   pub said : Option (List ℕ)
   pub stands : Stands o begun said []
   pub opens : (captures : List (List ℕ)) (text : List ℕ)

@@ -2,6 +2,7 @@
 //! receiver, from an old version to the new one, and over a link instead.
 #![tactic(auto)]
 
+mod intake;
 mod link;
 mod looping;
 mod memory_link;
@@ -10,7 +11,6 @@ mod printing;
 mod receiving;
 mod sender;
 mod sending;
-mod session;
 mod tally;
 
 pub use link::DatagramLink;

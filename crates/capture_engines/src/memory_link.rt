@@ -3,7 +3,7 @@ ghost use Rattle.std.specs.Prelude.{◌≡◌, ◌+◌, ◌-◌, ◌^◌, ◌≤
 
 use crate::link::DatagramLink;
 use st_format::memory::MemoryDatagrams;
-use st_format::{DatagramSink, DatagramSource, Path, SinkFault, SourceFault, Turn};
+use st_format::{DatagramSink, DatagramSource, MOST_DATAGRAM, Path, SinkFault, SourceFault, Turn};
 use std::alloc::{Allocator, Global};
 
 /// Takes each datagram into the next one of some slots, and gives in each turn the one that is to
@@ -109,7 +109,7 @@ impl<A: Allocator> DatagramSource for MemoryLink<A> {
             return Err(SourceFault::Device);
         }
         let turn = match self.due() {
-            Some(octets) if octets.len() <= 65535 => {
+            Some(octets) if octets.len() <= MOST_DATAGRAM => {
                 let count = octets.len();
                 buf[..count].copy_from_slice(octets);
                 self.delivered = self.delivered.saturating_add(1);

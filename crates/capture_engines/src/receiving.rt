@@ -18,8 +18,8 @@ ghost use Rattle.receiver_file.specs.Saved.{IsWritable, kept_of};
 ghost use Rattle.run_outcome.specs.Sources.{IsSourceText};
 ghost use Rattle.run_outcome.specs.Timestamps.{AreTimestamps};
 
+use crate::intake::Intake;
 use crate::printing::print_tally;
-use crate::session::Session;
 use crate::tally::Tally;
 use media_file::CaptureReader;
 use path_merge::Receiver;
@@ -47,7 +47,7 @@ pub struct Wanted<'a> {
 
 /// What is received with: the timestamps and the source that are asked for.
 #[derive(Drop)]
-struct Opening<A: Allocator> {
+struct Asked<A: Allocator> {
     window: Vec<u32, A>,
     ssrc: Option<u32>,
 }
@@ -93,9 +93,9 @@ where
 {
     let opening = read_opening(alloc, wanted)?;
     let begun = begin(alloc, &opening, sdp)?;
-    let session = take_captures(alloc, &opening, begun, captures)?;
-    print_session(&session, wanted.tells_refusals, output)?;
-    save(&session.receiver, state)
+    let intake = take_captures(alloc, &opening, begun, captures)?;
+    print_intake(&intake, wanted.tells_refusals, output)?;
+    save(&intake.receiver, state)
 }
 
 /// Writes a receiver's file.
@@ -113,8 +113,8 @@ fn save<A: Allocator, K: ByteSink>(receiver: &Receiver<A>, state: &mut K) -> Res
     }
 }
 
-/// Reads the words.
-fn read_opening<A: Allocator + Copy>(alloc: A, wanted: Wanted<'_>) -> Result<Opening<A>, Fault>
+/// Reads the words that a receiver is opened by: its timestamps and its source.
+fn read_opening<A: Allocator + Copy>(alloc: A, wanted: Wanted<'_>) -> Result<Asked<A>, Fault>
     ensures window { IfOk result (λ o. AreTimestamps wanted.entry.window.now o.window.items) }
     ensures source { IfOk result (λ o. IsSourceText wanted.entry.ssrc.now o.ssrc) }
     ensures refusal { IfErr result (λ f. OfRefusal f
@@ -127,15 +127,15 @@ fn read_opening<A: Allocator + Copy>(alloc: A, wanted: Wanted<'_>) -> Result<Ope
     let Some(ssrc) = read_source(wanted.ssrc) else {
         return Err(Fault::Refused(Refusal::ReceiveSource));
     };
-    Ok(Opening { window, ssrc })
+    Ok(Asked { window, ssrc })
 }
 
 /// Opens a receiver by the SDP, where there is one.
 fn begin<A: Allocator + Copy, S: ByteSource>(
     alloc: A,
-    opening: &Opening<A>,
+    opening: &Asked<A>,
     sdp: &mut Option<S>,
-) -> Result<Option<Session<A>>, Fault>
+) -> Result<Option<Intake<A>>, Fault>
     ensures begun { IfOk result (λ begun. Begins opening.now S.to_give sdp.old begun) }
     ensures none { IfOk result (λ begun. begun ≡ None → sdp.old ≡ None) }
     ensures refusal { IfErr result (λ f. OfRefusal f (λ r. MatchOption sdp.old ⊥
@@ -146,7 +146,7 @@ fn begin<A: Allocator + Copy, S: ByteSource>(
     match sdp {
         None => Ok(None),
         Some(source) => match open_by_sdp(alloc, opening, source) {
-            Ok(session) => Ok(Some(session)),
+            Ok(intake) => Ok(Some(intake)),
             Err(fault) => Err(fault),
         },
     }
@@ -155,9 +155,9 @@ fn begin<A: Allocator + Copy, S: ByteSource>(
 /// Opens a receiver by an SDP text.
 fn open_by_sdp<A: Allocator + Copy, S: ByteSource>(
     alloc: A,
-    opening: &Opening<A>,
+    opening: &Asked<A>,
     source: &mut S,
-) -> Result<Session<A>, Fault>
+) -> Result<Intake<A>, Fault>
     ensures opened { IfOk result (λ s. OpensBy opening.now (S.to_give source.old) s) }
     ensures refusal { IfErr result (λ f. OfRefusal f
         (IsGivenRefusal opening.now.window.items (S.to_give source.old))) }
@@ -167,16 +167,16 @@ fn open_by_sdp<A: Allocator + Copy, S: ByteSource>(
     let Some(said) = read_text(alloc, source, SDP)? else {
         return Err(Fault::Refused(Refusal::ReceiveSdp));
     };
-    Session::open(alloc, &said, opening.ssrc, &opening.window)
+    Intake::open(alloc, &said, opening.ssrc, &opening.window)
 }
 
-/// Takes all captures.
+/// Takes the datagrams of each capture, one capture after the other.
 fn take_captures<A: Allocator + Copy, S: ByteSource>(
     alloc: A,
-    opening: &Opening<A>,
-    mut begun: Option<Session<A>>,
+    opening: &Asked<A>,
+    mut begun: Option<Intake<A>>,
     captures: &mut [S],
-) -> Result<Session<A>, Fault>
+) -> Result<Intake<A>, Fault>
     ensures taken { IfOk result
         (λ s. TakesFiles opening.now S.to_give captures.old begun (Some s)) }
     ensures refusal { IfErr result (λ f. OfRefusal f
@@ -188,7 +188,7 @@ fn take_captures<A: Allocator + Copy, S: ByteSource>(
     let mut said = room(alloc)?;
     take_all(alloc, opening, &mut begun, captures, &mut said, &mut buf)?;
     match begun {
-        Some(session) => Ok(session),
+        Some(intake) => Ok(intake),
         None => Err(Fault::Refused(Refusal::ReceiveNoSdp)),
     }
 }
@@ -196,8 +196,8 @@ fn take_captures<A: Allocator + Copy, S: ByteSource>(
 /// Takes all captures, each by way of the two rooms: one for its text, and one for its datagrams.
 fn take_all<A: Allocator + Copy, S: ByteSource>(
     alloc: A,
-    opening: &Opening<A>,
-    begun: &mut Option<Session<A>>,
+    opening: &Asked<A>,
+    begun: &mut Option<Intake<A>>,
     captures: &mut [S],
     said: &mut [u8],
     buf: &mut [u8],
@@ -222,8 +222,8 @@ fn take_all<A: Allocator + Copy, S: ByteSource>(
 /// Takes the capture of a place.
 fn take_at<A: Allocator + Copy, S: ByteSource>(
     alloc: A,
-    opening: &Opening<A>,
-    begun: &mut Option<Session<A>>,
+    opening: &Asked<A>,
+    begun: &mut Option<Intake<A>>,
     captures: &mut [S],
     place: usize,
     said: &mut [u8],
@@ -252,8 +252,8 @@ fn take_at<A: Allocator + Copy, S: ByteSource>(
 /// Takes a capture. Where no receiver is open yet, its text opens one.
 fn take_one<A: Allocator + Copy, S: ByteSource>(
     alloc: A,
-    opening: &Opening<A>,
-    begun: &mut Option<Session<A>>,
+    opening: &Asked<A>,
+    begun: &mut Option<Intake<A>>,
     capture: &mut S,
     said: &mut [u8],
     buf: &mut [u8],
@@ -284,8 +284,8 @@ fn take_one<A: Allocator + Copy, S: ByteSource>(
 /// text opens one.
 fn take_opened<A: Allocator + Copy, S: ByteSource>(
     alloc: A,
-    opening: &Opening<A>,
-    begun: &mut Option<Session<A>>,
+    opening: &Asked<A>,
+    begun: &mut Option<Intake<A>>,
     reader: &mut CaptureReader<S>,
     text: &[u8],
     buf: &mut [u8],
@@ -306,21 +306,21 @@ fn take_opened<A: Allocator + Copy, S: ByteSource>(
         (S.failures reader.new.source) ∷ []) }
     ensures names { S.names reader.new.source ≡ S.names reader.old.source }
 {
-    if let Some(session) = begun {
-        return session.take_capture(reader, buf);
+    if let Some(intake) = begun {
+        return intake.take_capture(reader, buf);
     }
-    let mut session = open_by_text(alloc, opening, text)?;
-    let taken = session.take_capture(reader, buf);
-    *begun = Some(session);
+    let mut intake = open_by_text(alloc, opening, text)?;
+    let taken = intake.take_capture(reader, buf);
+    *begun = Some(intake);
     taken
 }
 
 /// Opens a receiver by a capture's text.
 fn open_by_text<A: Allocator + Copy>(
     alloc: A,
-    opening: &Opening<A>,
+    opening: &Asked<A>,
     said: &[u8],
-) -> Result<Session<A>, Fault>
+) -> Result<Intake<A>, Fault>
     ensures opened { IfOk result (λ s. HoldsBy opening.now said.now s []) }
     ensures refusal { IfErr result (λ f. OfRefusal f
         (IsFrontRefusal opening.now.window.items said.now)) }
@@ -329,25 +329,25 @@ fn open_by_text<A: Allocator + Copy>(
     if said.is_empty() {
         return Err(Fault::Refused(Refusal::ReceiveNoSdp));
     }
-    Session::open(alloc, said, opening.ssrc, &opening.window)
+    Intake::open(alloc, said, opening.ssrc, &opening.window)
 }
 
 /// Prints what was delivered, and what is then known.
-fn print_session<A: Allocator, O: ByteSink>(
-    session: &Session<A>,
+fn print_intake<A: Allocator, O: ByteSink>(
+    intake: &Intake<A>,
     tells_refusals: bool,
     output: &mut O,
 ) -> Result<(), Fault>
     ensures printed { OnOk result (Appends (O.held output.old) (O.held output.new)
-        (received_text tells_refusals session.now.delivered (tally_text session.now.tally)
-        session.now.receiver)) }
+        (received_text tells_refusals intake.now.delivered (tally_text intake.now.tally)
+        intake.now.receiver)) }
     ensures unrefused { IfErr result (λ f. IfRefused f ⊥) }
     ensures failures { Accounts result (counts (O.failures output.old) (O.failures output.new)
         ∷ []) }
 {
-    print(Line::Delivered(session.delivered), output)?;
-    print_wanted(&session.tally, tells_refusals, output)?;
-    print_frames(&session.receiver, output)
+    print(Line::Delivered(intake.delivered), output)?;
+    print_wanted(&intake.tally, tells_refusals, output)?;
+    print_frames(&intake.receiver, output)
 }
 
 /// Prints what a tally counts, where that is wanted.

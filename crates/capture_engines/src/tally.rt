@@ -53,7 +53,7 @@ impl Tally {
         }
     }
 
-    /// Counts an answer.
+    /// Counts the answer to one datagram.
     fn count(&mut self, answer: Result<Taken, Refusal>)
         ensures { self.new ≡ tally_after answer self.old }
     {

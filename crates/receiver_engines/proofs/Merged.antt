@@ -1,6 +1,5 @@
 -- Two receivers that were read, merged and written.
-use Rattle.std.proofs.Common.{◌≡◌, ℕ, List, [], ◌++◌, Option, Result, Ok, Err, refl, sym, ap, subst, ◌∙◌}
-use Rattle.std.specs.Prelude.{OnOk}
+use Rattle.std.proofs.Common.{◌≡◌, ℕ, List, [], ◌++◌, Option, refl, sym, ap, subst, ◌∙◌}
 use Rattle.std.specs.Io.KnownBytes.{Appends}
 use Rattle.st_format.specs.Raster.{Raster}
 use Rattle.media_file.specs.StateFile.{Kept, state_text}
@@ -10,11 +9,6 @@ use Rattle.path_merge.proofs.Frames.{frames_of-append}
 use Rattle.receiver_file.specs.Saved.{kept_of}
 use Rattle.receiver_engines.specs.Merging.{IsAgain, JoinsFirst, MergesFiles, SavesMerged}
 use Rattle.receiver_engines.specs.Merging.{merged_state}
-
--- what follows from what holds after a success
-pub on_ok : {V E : Type 0} (r : Result V E) (P Q : Type 0) → (P → Q) → OnOk r P → OnOk r Q
-on_ok (Ok v) P Q then is = then is
-on_ok (Err e) P Q then is = is
 
 -- a receiver is itself
 pub again : (s : State) → IsAgain s s

@@ -52,7 +52,6 @@ fn read_plain(text: &[u8]) -> Option<Job>
     None
 }
 
-/// The number of a gain.
 fn read_gain(text: &[u8]) -> Option<u32>
     ensures is { IfSome result (λ g. IsWordAndNumber text.now (codes "gain:") g) }
     ensures none { IfNone result ((g : ℕ) → IsWordAndNumber text.now (codes "gain:") g → ⊥) }

@@ -17,12 +17,13 @@ use Rattle.sdp_format.specs.Grammar.{IsTextFault}
 use Rattle.sdp_format.specs.Sections.{video_sections}
 use Rattle.sdp_format.specs.declared.fault.SdpFault.{SdpFault}
 use Rattle.sdp_format.specs.declared.fault.SdpFault.TheVariants as sdp
+use Rattle.sdp_format.specs.declared.place.Located.{Located}
 use Rattle.run_outcome.specs.Status.{status_number}
 use Rattle.run_outcome.specs.Telling.{IsRefusalLine, TellsLine, memory_line}
 use Rattle.run_outcome.specs.declared.status.Status.{Status}
 use Rattle.run_outcome.specs.declared.status.Status.TheVariants as ended
 use Rattle.run_outcome.specs.Fault.{IfRefused, TellsFault}
-use Rattle.run_outcome.specs.LowerFaults.{of_sdp, picture_fault}
+use Rattle.run_outcome.specs.LowerFaults.{of_sdp, picture_fault, sdp_fault}
 use Rattle.run_outcome.specs.RefusalText.{refusal_text}
 use Rattle.run_outcome.specs.TextRefusals.{HasTextFault, IsSdpRefusal, IsTextRefusal}
 use Rattle.run_outcome.specs.Refusing.{OfRefusal, TellsOutcome, TellsRefusal}
@@ -31,6 +32,7 @@ use Rattle.run_outcome.specs.Text.{GivesMore, GivesText}
 use Rattle.run_outcome.specs.declared.fault.Fault.{Fault}
 use Rattle.run_outcome.specs.declared.fault.Fault.TheVariants as fault
 use Rattle.run_outcome.specs.declared.refusal.Refusal.{Refusal}
+use Rattle.run_outcome.specs.declared.refusal.Refusal.TheVariants.{Sdp}
 
 -- ---- what holds of a refusal
 
@@ -128,8 +130,6 @@ outcome_told Is (Err f) held held' told is = record {
   told = told.told;
 }
 
--- ---- merge
-
 -- ---- migrate
 
 abbrev octets_or : List ℕ → Option (List ℕ) → List ℕ
@@ -178,55 +178,57 @@ either none (inl x) = absurd (none x)
 either none (inr y) = y
 
 -- a fault of an SDP text as a refusal
-sdp_refused : (told : Option (List ℕ)) (f : SdpFault) → (f ≡ sdp.NoMemory) ⊎ HasTextFault told f
-    → OfRefusal (of_sdp f) (IsSdpRefusal told)
-sdp_refused told sdp.NoMemory is = tt
-sdp_refused told sdp.NoVideo is =
-    either (λ memory. let e : sdp.NoVideo ≡ sdp.NoMemory = memory in cc) is
-sdp_refused told sdp.TooManyLegs is =
-    either (λ memory. let e : sdp.TooManyLegs ≡ sdp.NoMemory = memory in cc) is
-sdp_refused told sdp.BadMediaLine is =
-    either (λ memory. let e : sdp.BadMediaLine ≡ sdp.NoMemory = memory in cc) is
-sdp_refused told sdp.NoRtpmap is =
-    either (λ memory. let e : sdp.NoRtpmap ≡ sdp.NoMemory = memory in cc) is
-sdp_refused told sdp.NotRaw90000 is =
-    either (λ memory. let e : sdp.NotRaw90000 ≡ sdp.NoMemory = memory in cc) is
-sdp_refused told sdp.NoFmtp is =
-    either (λ memory. let e : sdp.NoFmtp ≡ sdp.NoMemory = memory in cc) is
-sdp_refused told sdp.BadParameter is =
-    either (λ memory. let e : sdp.BadParameter ≡ sdp.NoMemory = memory in cc) is
-sdp_refused told sdp.DoubleParameter is =
-    either (λ memory. let e : sdp.DoubleParameter ≡ sdp.NoMemory = memory in cc) is
-sdp_refused told sdp.MissingParameter is =
-    either (λ memory. let e : sdp.MissingParameter ≡ sdp.NoMemory = memory in cc) is
-sdp_refused told sdp.UnsupportedSampling is =
-    either (λ memory. let e : sdp.UnsupportedSampling ≡ sdp.NoMemory = memory in cc) is
-sdp_refused told sdp.UnsupportedDepth is =
-    either (λ memory. let e : sdp.UnsupportedDepth ≡ sdp.NoMemory = memory in cc) is
-sdp_refused told sdp.Interlaced is =
-    either (λ memory. let e : sdp.Interlaced ≡ sdp.NoMemory = memory in cc) is
-sdp_refused told sdp.UnsupportedPacking is =
-    either (λ memory. let e : sdp.UnsupportedPacking ≡ sdp.NoMemory = memory in cc) is
-sdp_refused told sdp.BadSsn is =
-    either (λ memory. let e : sdp.BadSsn ≡ sdp.NoMemory = memory in cc) is
-sdp_refused told sdp.BadFormat is =
-    either (λ memory. let e : sdp.BadFormat ≡ sdp.NoMemory = memory in cc) is
-sdp_refused told sdp.LegsDiffer is =
-    either (λ memory. let e : sdp.LegsDiffer ≡ sdp.NoMemory = memory in cc) is
+sdp_refused : (told : Option (List ℕ)) (r : Refusal) (f : SdpFault)
+    → (HasTextFault told f → IsSdpRefusal told r) → (f ≡ sdp.NoMemory) ⊎ HasTextFault told f
+    → OfRefusal (sdp_fault f r) (IsSdpRefusal told)
+sdp_refused told r sdp.NoMemory so is = tt
+sdp_refused told r sdp.NoVideo so is =
+    so (either (λ memory. let e : sdp.NoVideo ≡ sdp.NoMemory = memory in cc) is)
+sdp_refused told r sdp.TooManyLegs so is =
+    so (either (λ memory. let e : sdp.TooManyLegs ≡ sdp.NoMemory = memory in cc) is)
+sdp_refused told r sdp.BadMediaLine so is =
+    so (either (λ memory. let e : sdp.BadMediaLine ≡ sdp.NoMemory = memory in cc) is)
+sdp_refused told r sdp.NoRtpmap so is =
+    so (either (λ memory. let e : sdp.NoRtpmap ≡ sdp.NoMemory = memory in cc) is)
+sdp_refused told r sdp.NotRaw90000 so is =
+    so (either (λ memory. let e : sdp.NotRaw90000 ≡ sdp.NoMemory = memory in cc) is)
+sdp_refused told r sdp.NoFmtp so is =
+    so (either (λ memory. let e : sdp.NoFmtp ≡ sdp.NoMemory = memory in cc) is)
+sdp_refused told r sdp.BadParameter so is =
+    so (either (λ memory. let e : sdp.BadParameter ≡ sdp.NoMemory = memory in cc) is)
+sdp_refused told r sdp.DoubleParameter so is =
+    so (either (λ memory. let e : sdp.DoubleParameter ≡ sdp.NoMemory = memory in cc) is)
+sdp_refused told r sdp.MissingParameter so is =
+    so (either (λ memory. let e : sdp.MissingParameter ≡ sdp.NoMemory = memory in cc) is)
+sdp_refused told r sdp.UnsupportedSampling so is =
+    so (either (λ memory. let e : sdp.UnsupportedSampling ≡ sdp.NoMemory = memory in cc) is)
+sdp_refused told r sdp.UnsupportedDepth so is =
+    so (either (λ memory. let e : sdp.UnsupportedDepth ≡ sdp.NoMemory = memory in cc) is)
+sdp_refused told r sdp.Interlaced so is =
+    so (either (λ memory. let e : sdp.Interlaced ≡ sdp.NoMemory = memory in cc) is)
+sdp_refused told r sdp.UnsupportedPacking so is =
+    so (either (λ memory. let e : sdp.UnsupportedPacking ≡ sdp.NoMemory = memory in cc) is)
+sdp_refused told r sdp.BadSsn so is =
+    so (either (λ memory. let e : sdp.BadSsn ≡ sdp.NoMemory = memory in cc) is)
+sdp_refused told r sdp.BadFormat so is =
+    so (either (λ memory. let e : sdp.BadFormat ≡ sdp.NoMemory = memory in cc) is)
+sdp_refused told r sdp.LegsDiffer so is =
+    so (either (λ memory. let e : sdp.LegsDiffer ≡ sdp.NoMemory = memory in cc) is)
 
 -- the same, of a text that was read to its end
 pub text_fault_refused : (too_long : Refusal) (old new : Option (List ℕ)) (text : List ℕ)
-    → GivesText 65535 old new text → (f : SdpFault)
-    → (f ≡ sdp.NoMemory) ⊎ IsTextFault (video_sections (lines text)) f
-    → OfRefusal (of_sdp f) (IsTextRefusal too_long old)
-text_fault_refused too_long old new text gives f is =
-    of_refusal_map (of_sdp f) (λ r said. inr said) (sdp_refused old f (of_text is))
+    → GivesText 65535 old new text → (place : Located)
+    → (place.fault ≡ sdp.NoMemory) ⊎ IsTextFault (video_sections (lines text)) place.fault
+    → OfRefusal (of_sdp place) (IsTextRefusal too_long old)
+text_fault_refused too_long old new text gives place is =
+    of_refusal_map (of_sdp place) (λ r said. inr said)
+    (sdp_refused old (Sdp place) place.fault (λ said. said) (of_text is))
   where
-    of_text : (f ≡ sdp.NoMemory) ⊎ IsTextFault (video_sections (lines text)) f
-        → (f ≡ sdp.NoMemory) ⊎ HasTextFault old f
+    of_text : (place.fault ≡ sdp.NoMemory) ⊎ IsTextFault (video_sections (lines text)) place.fault
+        → (place.fault ≡ sdp.NoMemory) ⊎ HasTextFault old place.fault
     of_text (inl memory) = inl memory
     of_text (inr fault) = inr (λ octets told.
-        subst (λ (l : List ℕ). IsTextFault (video_sections (lines l)) f)
+        subst (λ (l : List ℕ). IsTextFault (video_sections (lines l)) place.fault)
         (sym (all_given old new text octets gives.given gives.ended told)) fault)
 
 -- a fault of a picture's file as a refusal

@@ -1,5 +1,6 @@
 -- Faults that end a run, and what they say of devices.
-use Rattle.std.specs.Prelude.{◌≡◌, ℕ, ◌⊎◌, List, [], ◌∷◌, Option, Result, Ok, Err, MatchResult, ⊤}
+use Rattle.std.specs.Prelude.{◌≡◌, ◌≢◌, ℕ, ◌⊎◌, List, [], ◌∷◌, Option, Result, Ok, Err, MatchResult}
+use Rattle.std.specs.Prelude.{⊤}
 use Rattle.std.specs.Prelude.{None, Some}
 use Rattle.st_format.specs.Device.{Failed}
 use Rattle.run_outcome.specs.Telling.{IsRefusalLine, TellsLine, device_line, memory_line}
@@ -38,6 +39,11 @@ Blames devices Memory = NoneFailed devices
 -- where a run succeeds no device failed, and where it ends by a fault that fault says so
 abbrev pub Accounts : {V : Type 0} → Result V Fault → List Failures → Type 0
 Accounts result devices = MatchResult result (λ _. NoneFailed devices) (Blames devices)
+
+-- what an exit status says of devices: 3 that one of them failed, and any other that none did
+abbrev pub StatusBlames : ℕ → List Failures → Type 0
+StatusBlames status devices =
+    (status ≡ 3 → OneFailed devices) × (status ≢ 3 → NoneFailed devices)
 
 -- the line of a fault, and the status
 abbrev pub IsLineOf : Fault → Status → List ℕ → Type 0

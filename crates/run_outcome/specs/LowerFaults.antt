@@ -1,46 +1,55 @@
 -- Faults of the crates below as faults that end a run: want of memory and a device's fault are told
 -- as such, and any other refusal by its subject, number and name (own).
-use Rattle.std.specs.Prelude.{ℕ}
+use Rattle.std.specs.Prelude.{◌≡◌, ℕ, Result, Err}
 use Rattle.media_file.specs.declared.fault.FileFault.{FileFault}
 use Rattle.media_file.specs.declared.fault.FileFault.TheVariants as file
 use Rattle.key_mix.specs.declared.faults.JobFault.{JobFault}
 use Rattle.key_mix.specs.declared.faults.JobFault.TheVariants as job
-use Rattle.packet_numbers.specs.declared.seq_map.SeqMapFault.{SeqMapFault}
 use Rattle.packet_numbers.specs.declared.seq_map.SeqMapFault.TheVariants as numbers
 use Rattle.packet_plan.specs.declared.plan.PlanFault.{PlanFault}
 use Rattle.packet_plan.specs.declared.plan.PlanFault.TheVariants as plan
 use Rattle.path_merge.specs.declared.fault.OpenFault.{OpenFault}
 use Rattle.path_merge.specs.declared.fault.OpenFault.TheVariants as open_fault
-use Rattle.path_merge.specs.declared.schedule.play_fault.PlayFault.{PlayFault}
 use Rattle.path_merge.specs.declared.schedule.play_fault.PlayFault.TheVariants as play
 use Rattle.sdp_format.specs.declared.fault.SdpFault.{SdpFault}
 use Rattle.sdp_format.specs.declared.fault.SdpFault.TheVariants as sdp
-use Rattle.st_format.specs.declared.format.FormatFault.{FormatFault}
+use Rattle.sdp_format.specs.declared.place.Located.{Located}
 use Rattle.run_outcome.specs.declared.fault.Fault.{Fault}
 use Rattle.run_outcome.specs.declared.fault.Fault.TheVariants.{Refused, Device, Memory}
 use Rattle.run_outcome.specs.declared.refusal.Refusal.{Refusal}
-use Rattle.run_outcome.specs.declared.refusal.Refusal.TheVariants.{Script, Format, Numbers, Play}
+use Rattle.run_outcome.specs.declared.refusal.Refusal.TheVariants.{Script}
 use Rattle.run_outcome.specs.declared.refusal.Refusal.TheVariants.{Sdp, Open, Plan, Job, Capture}
 use Rattle.run_outcome.specs.declared.refusal.Refusal.TheVariants.{Picture, State}
+use Rattle.run_outcome.specs.declared.script_line.Form.{Form}
+use Rattle.run_outcome.specs.declared.script_line.LineFault.{LineFault}
+use Rattle.run_outcome.specs.declared.script_line.LineFault.TheVariants as line
 
--- the line of this number of a script is at fault
-abbrev pub of_script : ℕ → Fault
-of_script line = Refused (Script line)
+-- the line of this number of a script isn't of a form
+abbrev pub of_script : ℕ → Form → Fault
+of_script number form = Refused (Script number (line.Form form))
 
-abbrev pub of_format : FormatFault → Fault
-of_format refusal = Refused (Format refusal)
+-- so, whichever form was wanted
+abbrev pub IsMisformed : ℕ → Fault → Type 0
+IsMisformed number fault = (form : Form) × (fault ≡ of_script number form)
 
-abbrev pub of_numbers : SeqMapFault → Fault
-of_numbers numbers.NoMemory = Memory
-of_numbers refusal = Refused (Numbers refusal)
+-- a run ends so
+abbrev pub EndsMisformed : {V : Type 0} → Result V Fault → ℕ → Type 0
+EndsMisformed result number = (form : Form) × (result ≡ Err (of_script number form))
 
-abbrev pub of_play : PlayFault → Fault
-of_play play.NoMemory = Memory
-of_play refusal = Refused (Play refusal)
+-- the line of this number is refused; want of memory is no line's
+abbrev pub of_line : ℕ → LineFault → Fault
+of_line number (line.Open open_fault.NoMemory) = Memory
+of_line number (line.Numbers numbers.NoMemory) = Memory
+of_line number (line.Plan plan.NoMemory) = Memory
+of_line number (line.Play play.NoMemory) = Memory
+of_line number fault = Refused (Script number fault)
 
-abbrev pub of_sdp : SdpFault → Fault
-of_sdp sdp.NoMemory = Memory
-of_sdp refusal = Refused (Sdp refusal)
+abbrev pub sdp_fault : SdpFault → Refusal → Fault
+sdp_fault sdp.NoMemory refusal = Memory
+sdp_fault fault refusal = Refused refusal
+
+abbrev pub of_sdp : Located → Fault
+of_sdp at = sdp_fault at.fault (Sdp at)
 
 abbrev pub of_open : OpenFault → Fault
 of_open open_fault.NoMemory = Memory

@@ -12,9 +12,27 @@ use Rattle.st_format.specs.Faults.{format_fault_name, format_fault_number}
 use Rattle.run_outcome.specs.Telling.{numbered_name}
 use Rattle.run_outcome.specs.declared.refusal.Refusal.{Refusal}
 use Rattle.run_outcome.specs.declared.refusal.Refusal.TheVariants as refusal
+use Rattle.run_outcome.specs.declared.script_line.LineFault.{LineFault}
+use Rattle.run_outcome.specs.declared.script_line.LineFault.TheVariants as line
 
+-- of a line of a script, but for its number
+abbrev pub line_fault_text : LineFault → List ℕ
+line_fault_text (line.Form form) = codes "script"
+line_fault_text (line.Format f) =
+    numbered_name (codes "format ") (format_fault_number f) (format_fault_name f)
+line_fault_text (line.Open f) =
+    numbered_name (codes "open ") (open_fault_number f) (open_fault_name f)
+line_fault_text (line.Numbers f) =
+    numbered_name (codes "numbers ") (seq_map_fault_number f) (seq_map_fault_name f)
+line_fault_text (line.Plan f) =
+    numbered_name (codes "plan ") (plan_fault_number f) (plan_fault_name f)
+line_fault_text (line.Play f) =
+    numbered_name (codes "play ") (play_fault_number f) (play_fault_name f)
+
+-- of all commands
 abbrev pub refusal_text : Refusal → List ℕ
-refusal_text (refusal.Script line) = codes "script " ++ decimal line
+refusal_text (refusal.Script number (line.Form form)) = codes "script " ++ decimal number
+refusal_text (refusal.Script number fault) = line_fault_text fault
 refusal_text refusal.MigrateSdp = codes "migrate 1 SdpTooLong"
 refusal_text refusal.ReceiveWindow = codes "receive 1 BadWindowText"
 refusal_text refusal.ReceiveSource = codes "receive 2 BadSource"
@@ -28,13 +46,8 @@ refusal_text refusal.ProcessJob = codes "process 1 BadJob"
 refusal_text refusal.ProcessFrame = codes "process 2 NoFrame"
 refusal_text refusal.ProcessFill = codes "process 3 BadFill"
 refusal_text refusal.ProcessHold = codes "process 4 HoldDiffers"
-refusal_text (refusal.Format f) =
-    numbered_name (codes "format ") (format_fault_number f) (format_fault_name f)
-refusal_text (refusal.Numbers f) =
-    numbered_name (codes "numbers ") (seq_map_fault_number f) (seq_map_fault_name f)
-refusal_text (refusal.Play f) =
-    numbered_name (codes "play ") (play_fault_number f) (play_fault_name f)
-refusal_text (refusal.Sdp f) = numbered_name (codes "sdp ") (sdp_fault_number f) (sdp_fault_name f)
+refusal_text (refusal.Sdp at) =
+    numbered_name (codes "sdp ") (sdp_fault_number at.fault) (sdp_fault_name at.fault)
 refusal_text (refusal.Open f) =
     numbered_name (codes "open ") (open_fault_number f) (open_fault_name f)
 refusal_text (refusal.Plan f) =

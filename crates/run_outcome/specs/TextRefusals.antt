@@ -18,7 +18,7 @@ HasTextFault told f =
 
 -- the refusal of an SDP text
 abbrev pub IsSdpRefusal : Option (List ℕ) → Refusal → Type 0
-IsSdpRefusal told (refusal.Sdp f) = HasTextFault told f
+IsSdpRefusal told (refusal.Sdp at) = HasTextFault told at.fault
 IsSdpRefusal told r = ⊥
 
 -- the refusals of a capture's text: that it is too long, and those of an SDP

@@ -51,7 +51,6 @@ fn tell<F: ByteSink>(fault: Fault, faults: &mut F) -> Status
     }
 }
 
-/// Tells a refusal by its line.
 fn tell_refusal<F: ByteSink>(refusal: Refusal, faults: &mut F) -> Status
     ensures { TellsFault (Fault.Refused refusal) result (F.failures faults.old)
         (F.failures faults.new) (F.held faults.old) (F.held faults.new) }

@@ -6,11 +6,10 @@ ghost use Rattle.run_outcome.specs.LowerFaults.{state_fault};
 use crate::refusal::Refusal;
 use key_mix::JobFault;
 use media_file::FileFault;
-use packet_numbers::SeqMapFault;
 use packet_plan::PlanFault;
-use path_merge::{OpenFault, PlayFault};
-use sdp_format::SdpFault;
-use st_format::{DeviceFault, FormatFault};
+use path_merge::OpenFault;
+use sdp_format::{Located, SdpFault};
+use st_format::DeviceFault;
 use std::alloc::AllocError;
 
 /// What ends a run before its end.
@@ -46,16 +45,16 @@ impl From<DeviceFault> for Fault {
     }
 }
 
-impl From<SdpFault> for Fault {
+impl From<Located> for Fault {
     ghost use Rattle.std.specs.Prelude.{◌≡◌};
     ghost use Rattle.run_outcome.specs.LowerFaults.{of_sdp};
 
     ghost from_gives = { λ refusal fault. fault ≡ of_sdp refusal };
 
-    fn from(refusal: SdpFault) -> Fault {
-        match refusal {
+    fn from(refusal: Located) -> Fault {
+        match refusal.fault {
             SdpFault::NoMemory => Fault::Memory,
-            refusal => Fault::Refused(Refusal::Sdp(refusal)),
+            _ => Fault::Refused(Refusal::Sdp(refusal)),
         }
     }
 }
@@ -98,45 +97,6 @@ impl From<JobFault> for Fault {
         match refusal {
             JobFault::NoMemory => Fault::Memory,
             refusal => Fault::Refused(Refusal::Job(refusal)),
-        }
-    }
-}
-
-impl From<FormatFault> for Fault {
-    ghost use Rattle.std.specs.Prelude.{◌≡◌};
-    ghost use Rattle.run_outcome.specs.LowerFaults.{of_format};
-
-    ghost from_gives = { λ refusal fault. fault ≡ of_format refusal };
-
-    fn from(refusal: FormatFault) -> Fault {
-        Fault::Refused(Refusal::Format(refusal))
-    }
-}
-
-impl From<SeqMapFault> for Fault {
-    ghost use Rattle.std.specs.Prelude.{◌≡◌};
-    ghost use Rattle.run_outcome.specs.LowerFaults.{of_numbers};
-
-    ghost from_gives = { λ refusal fault. fault ≡ of_numbers refusal };
-
-    fn from(refusal: SeqMapFault) -> Fault {
-        match refusal {
-            SeqMapFault::NoMemory => Fault::Memory,
-            refusal => Fault::Refused(Refusal::Numbers(refusal)),
-        }
-    }
-}
-
-impl From<PlayFault> for Fault {
-    ghost use Rattle.std.specs.Prelude.{◌≡◌};
-    ghost use Rattle.run_outcome.specs.LowerFaults.{of_play};
-
-    ghost from_gives = { λ refusal fault. fault ≡ of_play refusal };
-
-    fn from(refusal: PlayFault) -> Fault {
-        match refusal {
-            PlayFault::NoMemory => Fault::Memory,
-            refusal => Fault::Refused(Refusal::Play(refusal)),
         }
     }
 }

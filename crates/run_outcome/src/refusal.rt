@@ -1,18 +1,17 @@
 //! Why a run is refused.
+use crate::script_line::LineFault;
 use key_mix::JobFault;
 use media_file::FileFault;
-use packet_numbers::SeqMapFault;
 use packet_plan::PlanFault;
-use path_merge::{OpenFault, PlayFault};
-use sdp_format::SdpFault;
-use st_format::FormatFault;
+use path_merge::OpenFault;
+use sdp_format::Located;
 use std::fmt;
 
 /// Why words, a text or files are refused.
 #[derive(Clone, Copy)]
 pub enum Refusal {
-    /// The line of this number of a script isn't of its form, or stands where it may not.
-    Script(usize),
+    /// The line of this number of a script is refused. Lines are counted from 1.
+    Script(usize, LineFault),
     /// The text for a capture is longer than a capture's text may be.
     MigrateSdp,
     /// The window is no text of timestamps.
@@ -39,14 +38,8 @@ pub enum Refusal {
     ProcessFill,
     /// The held picture's format is not that of the first frame.
     ProcessHold,
-    /// There is no such format.
-    Format(FormatFault),
-    /// There is no such map of packet numbers.
-    Numbers(SeqMapFault),
-    /// The schedule is not played.
-    Play(PlayFault),
-    /// The SDP is refused.
-    Sdp(SdpFault),
+    /// The SDP is refused, in a place of it where that is one's.
+    Sdp(Located),
     /// There is no such receiver.
     Open(OpenFault),
     /// There is no such plan.
@@ -69,7 +62,8 @@ impl fmt::Display for Refusal {
 
     fn fmt<W: fmt::Write>(&self, f: &mut fmt::Formatter<W>) -> fmt::Result {
         match self {
-            Refusal::Script(line) => write!(f, "script {line}"),
+            Refusal::Script(line, LineFault::Form(_)) => write!(f, "script {line}"),
+            Refusal::Script(_, fault) => write!(f, "{fault}"),
             Refusal::MigrateSdp => f.write_str("migrate 1 SdpTooLong"),
             Refusal::ReceiveWindow => f.write_str("receive 1 BadWindowText"),
             Refusal::ReceiveSource => f.write_str("receive 2 BadSource"),
@@ -83,19 +77,8 @@ impl fmt::Display for Refusal {
             Refusal::ProcessFrame => f.write_str("process 2 NoFrame"),
             Refusal::ProcessFill => f.write_str("process 3 BadFill"),
             Refusal::ProcessHold => f.write_str("process 4 HoldDiffers"),
-            Refusal::Format(fault) => {
-                let number = fault.number();
-                write!(f, "format {number} {fault}")
-            }
-            Refusal::Numbers(fault) => {
-                let number = fault.number();
-                write!(f, "numbers {number} {fault}")
-            }
-            Refusal::Play(fault) => {
-                let number = fault.number();
-                write!(f, "play {number} {fault}")
-            }
-            Refusal::Sdp(fault) => {
+            Refusal::Sdp(at) => {
+                let fault = at.fault;
                 let number = fault.number();
                 write!(f, "sdp {number} {fault}")
             }

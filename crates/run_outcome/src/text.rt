@@ -9,12 +9,9 @@ ghost use Rattle.run_outcome.specs.Text.{GivesMore, GivesText};
 
 use crate::fault::Fault;
 use crate::refusal::Refusal;
-use sdp_format::read_sdp;
-use st_format::{ByteSource, read_whole};
+use sdp_format::read_located;
+use st_format::{ByteSource, MOST_DATAGRAM, read_whole};
 use std::alloc::{AllocError, Allocator};
-
-/// The greatest number of octets of a capture's text, and of a datagram.
-const CAPTURE_TEXT: usize = 65_535;
 
 /// Reads an SDP text for a capture, and finds that it is one. A longer text than a capture may have
 /// is refused so.
@@ -31,10 +28,10 @@ pub fn read_checked<A: Allocator + Copy, S: ByteSource>(
     ensures failures { Accounts result (counts (S.failures source.old) (S.failures source.new)
         ∷ []) }
 {
-    let Some(said) = read_text(alloc, source, CAPTURE_TEXT)? else {
+    let Some(said) = read_text(alloc, source, MOST_DATAGRAM)? else {
         return Err(Fault::Refused(too_long));
     };
-    read_sdp(alloc, &said)?;
+    read_located(alloc, &said)?;
     Ok(said)
 }
 
@@ -62,7 +59,7 @@ pub fn read_text<A: Allocator, S: ByteSource>(
 }
 
 /// Reads a source to its end, or until it gave more than so many octets.
-fn read_past<A: Allocator, S: ByteSource>(
+pub fn read_past<A: Allocator, S: ByteSource>(
     alloc: A,
     source: &mut S,
     most: usize,
@@ -92,5 +89,5 @@ fn read_past<A: Allocator, S: ByteSource>(
 pub fn room<A: Allocator>(alloc: A) -> Result<Vec<u8, A>, AllocError>
     ensures { IfOk result (λ room. vec_len room ≡ 65535) }
 {
-    vec![in alloc; 0u8; CAPTURE_TEXT]
+    vec![in alloc; 0u8; MOST_DATAGRAM]
 }

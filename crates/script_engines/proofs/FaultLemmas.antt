@@ -6,7 +6,8 @@ use Rattle.std.proofs.Common.{arith, take, length-take-le}
 use Rattle.path_merge.specs.Numbers.{Numbers}
 use Rattle.st_format.specs.declared.path.Path.TheVariants as path
 use Rattle.run_outcome.specs.declared.fault.Fault.{Fault}
-use Rattle.run_outcome.specs.LowerFaults.{of_script}
+use Rattle.run_outcome.specs.declared.script_line.Form.{Form}
+use Rattle.run_outcome.specs.LowerFaults.{EndsMisformed, of_script}
 use Rattle.run_outcome.specs.declared.fault.Fault.TheVariants.{Refused, Memory}
 use Rattle.run_outcome.specs.declared.refusal.Refusal.TheVariants.{Script}
 use Rattle.script_engines.specs.declared.line.TraceLine.{TraceLine}
@@ -69,30 +70,34 @@ unfit_of text room noted b is (inr said) = unfit_again text room noted said.0 b 
 
 -- a fault of a script names one line
 abbrev line_of : {V : Type 0} → Result V Fault → ℕ
-line_of (Err (Refused (Script n))) = n
+line_of (Err (Refused (Script n f))) = n
 line_of other = 0
 
 -- where a line is told to be at fault, it is
-pub told : {V P : Type 0} (number : ℕ) → P → (n : ℕ)
-    → (◌≡◌ {A = Result V Fault} (Err (of_script number)) (Err (of_script n))) ↔ ((n ≡ number) × P)
-told number p n =
-    (λ e. (sym (ap line_of e), p), λ u. ap (λ (k : ℕ). Err (of_script k)) (sym u.0))
+pub told : {V P : Type 0} (number : ℕ) (form : Form) (f : Fault) → f ≡ of_script number form → P
+    → (n : ℕ) → EndsMisformed {V = V} (Err f) n ↔ ((n ≡ number) × P)
+told {V} number form f is p n = (
+  λ e.
+      let same : ◌≡◌ {A = Result V Fault} (Err (of_script number form)) (Err f) =
+      ap (λ (g : Fault). Err g) (sym is) in
+      (sym (ap line_of (same ∙ e.1)), p),
+  λ u. (form, ap (λ (g : Fault). Err g) (is ∙ ap (λ (k : ℕ). of_script k form) (sym u.0))),
+)
 
 -- a line that succeeds is not at fault
 pub never : {V : Type 0} (text : List ℕ) (number room : ℕ) (noted : Option Numbers) (b : TraceLine)
     (v : V) → IsTraceLine text b → (IsUnfitLine b room noted → ⊥) → (n : ℕ)
-    → (◌≡◌ {A = Result V Fault} (Ok v) (Err (of_script n)))
-    ↔ ((n ≡ number) × IsAtFault text room noted)
+    → EndsMisformed {V = V} (Ok v) n ↔ ((n ≡ number) × IsAtFault text room noted)
 never text number room noted b v is fit n =
-    (λ e. absurd cc, λ u. absurd (fit (unfit_of text room noted b is u.1)))
+    (λ e. let q = e.1 in absurd cc, λ u. absurd (fit (unfit_of text room noted b is u.1)))
 
 -- nor is one at which memory is wanted
 pub wanted : {V : Type 0} (text : List ℕ) (number room : ℕ) (noted : Option Numbers) (b : TraceLine)
     (r : Result V Fault) (f : Fault) → IsTraceLine text b → (IsUnfitLine b room noted → ⊥)
     → r ≡ Err f → f ≡ Memory → (n : ℕ)
-    → (r ≡ Err (of_script n)) ↔ ((n ≡ number) × IsAtFault text room noted)
+    → EndsMisformed r n ↔ ((n ≡ number) × IsAtFault text room noted)
 wanted text number room noted b r f is fit err memory n =
-    (λ e. absurd cc, λ u. absurd (fit (unfit_of text room noted b is u.1)))
+    (λ e. let q = e.1 in absurd cc, λ u. absurd (fit (unfit_of text room noted b is u.1)))
 
 -- the fault of a run that ended by one
 abbrev fault_in : {V : Type 0} → Fault → Result V Fault → Fault
@@ -104,21 +109,24 @@ same_fault f g e = ap (fault_in f) e
 
 -- where a fault is a script's exactly where the line is unfit, it is so where the text is at fault
 pub told_by : {V W : Type 0} (text : List ℕ) (number room : ℕ) (noted : Option Numbers)
-    (b : TraceLine) (f : Fault) → IsTraceLine text b
-    → ((◌≡◌ {A = Result W Fault} (Err f) (Err (of_script number))) ↔ IsUnfitLine b room noted)
-    → ((n : ℕ) → ◌≡◌ {A = Result W Fault} (Err f) (Err (of_script n)) → n ≡ number) → (n : ℕ)
-    → (◌≡◌ {A = Result V Fault} (Err f) (Err (of_script n)))
-    ↔ ((n ≡ number) × IsAtFault text room noted)
-told_by text number room noted b f is unfit one n = (
+    (b : TraceLine) (form : Form) (f : Fault) → IsTraceLine text b
+    → ((◌≡◌ {A = Result W Fault} (Err f) (Err (of_script number form)))
+    ↔ IsUnfitLine b room noted)
+    → ((n : ℕ) (wanted : Form) → ◌≡◌ {A = Result W Fault} (Err f) (Err (of_script n wanted))
+    → (n ≡ number) × (wanted ≡ form))
+    → (n : ℕ) → EndsMisformed {V = V} (Err f) n ↔ ((n ≡ number) × IsAtFault text room noted)
+told_by text number room noted b form f is unfit one n = (
   λ e.
-      let script : f ≡ of_script n = same_fault f (of_script n) e in
-      let same : n ≡ number = one n (ap (λ (g : Fault). Err g) script) in
-      let this : f ≡ of_script number = script ∙ ap (λ (k : ℕ). of_script k) same in
-      (same, inr (b, is, unfit.0 (ap (λ (g : Fault). Err g) this))),
+      let script : f ≡ of_script n e.0 = same_fault f (of_script n e.0) e.1 in
+      let same = one n e.0 (ap (λ (g : Fault). Err g) script) in
+      let this : f ≡ of_script number form =
+      script ∙ ap (λ (k : ℕ). of_script k e.0) same.0
+      ∙ ap (λ (wanted : Form). of_script number wanted) same.1 in
+      (same.0, inr (b, is, unfit.0 (ap (λ (g : Fault). Err g) this))),
   λ u.
-      let this : f ≡ of_script number =
-      same_fault f (of_script number) (unfit.1 (unfit_of text room noted b is u.1)) in
-      ap (λ (g : Fault). Err g) (this ∙ ap (λ (k : ℕ). of_script k) (sym u.0)),
+      let this : f ≡ of_script number form =
+      same_fault f (of_script number form) (unfit.1 (unfit_of text room noted b is u.1)) in
+      (form, ap (λ (g : Fault). Err g) (this ∙ ap (λ (k : ℕ). of_script k form) (sym u.0))),
 )
 
 -- no octets for which there is room have the digits of octets that were read

@@ -8,7 +8,7 @@ use Rattle.st_format.specs.declared.sampling.Sampling.{Sampling}
 use Rattle.st_format.specs.declared.sampling.Depth.{Depth}
 use Rattle.st_format.specs.Pgroup.{bits_of}
 use Rattle.script_engines.specs.declared.line.FormatLine.{FormatLine}
-use Rattle.script_engines.specs.declared.line.Place.{Place}
+use Rattle.script_engines.specs.declared.line.SamplePlace.{SamplePlace}
 use Rattle.script_engines.specs.declared.line.TraceLine.{TraceLine}
 use Rattle.script_engines.specs.declared.line.TraceLine.TheVariants.{Datagram, Slide, Numbers, Cell}
 use Rattle.st_format.specs.Text.{parted}
@@ -34,7 +34,7 @@ same_rest (x ∷ w) a b e = same_rest w a b (ap (λ (l : List ℕ). drop 1 l) e)
 -- where the last two of four are no two numbers, they are not four
 pub four_none : (text timestamp behind row last : List ℕ)
     → parted 32 text ≡ Some (timestamp, behind) → parted 32 behind ≡ Some (row, last)
-    → ((m n : ℕ) → AreTwo last m n → ⊥) → (place : Place) → AreFour text place → ⊥
+    → ((m n : ℕ) → AreTwo last m n → ⊥) → (place : SamplePlace) → AreFour text place → ⊥
 four_none text timestamp behind row last e f none place four =
     let a : behind ≡ four.behind =
     (some_pair_parts timestamp four.timestamp behind four.behind (sym e ∙ four.parts)).1 in
@@ -61,7 +61,8 @@ numbers_none text rest e none (Cell place) is =
 
 -- a line `cell` whose rest is no four numbers
 pub cell_none : (text rest : List ℕ) → text ≡ codes "cell " ++ rest
-    → ((place : Place) → AreFour rest place → ⊥) → (line : TraceLine) → IsTraceLine text line → ⊥
+    → ((place : SamplePlace) → AreFour rest place → ⊥) → (line : TraceLine)
+    → IsTraceLine text line → ⊥
 cell_none text rest e none (Datagram path.A digits) is =
     differ text (codes "A " ++ digits.now) (codes "cell " ++ rest) refl is e
 cell_none text rest e none (Datagram path.B digits) is =

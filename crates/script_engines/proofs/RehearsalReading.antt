@@ -1,5 +1,6 @@
 -- Lines of a rehearsal that are read one by one.
-use Rattle.std.proofs.Common.{◌≡◌, ◌⊎◌, inl, inr, Bool, true, ℕ, ◌*◌, List, [], ◌∷◌, ◌++◌, codes, length, refl}
+use Rattle.std.proofs.Common.{◌≡◌, ◌⊎◌, inl, inr, Bool, true, ℕ, ◌*◌, List, [], ◌∷◌, ◌++◌}
+use Rattle.std.proofs.Common.{codes, length, refl}
 use Rattle.std.proofs.Common.{Ok, ap, sym, subst, ◌∙◌, append_assoc, append-nil}
 use Rattle.std.specs.List.{AllZip}
 use Rattle.hex.specs.Hex.{decode_of}
@@ -15,7 +16,8 @@ use Rattle.st_format.specs.Position.{sample_count}
 use Rattle.st_format.specs.Samples.{Spells}
 use Rattle.st_format.proofs.Spelled.{joined_length}
 use Rattle.run_outcome.specs.declared.fault.Fault.{Fault}
-use Rattle.run_outcome.specs.LowerFaults.{of_script}
+use Rattle.run_outcome.specs.declared.script_line.Form.TheVariants.{End}
+use Rattle.run_outcome.specs.LowerFaults.{IsMisformed, of_script}
 use Rattle.run_outcome.specs.declared.fault.Fault.TheVariants.{Memory}
 use Rattle.script_engines.specs.declared.rehearsal.Head.{Head}
 use Rattle.script_engines.specs.declared.rehearsal.Rehearsal.{Rehearsal}
@@ -37,13 +39,14 @@ Numbered = List (ℕ × List ℕ)
 -- ---- the next line
 
 pub faulty_line : (form : List ℕ → Type 0) (lines behind : Numbered) (number : ℕ) (text : List ℕ)
-    (end : ℕ) (f : Fault) → lines ≡ (number, text) ∷ behind → (form text → ⊥) → f ≡ of_script number
+    (end : ℕ) (f : Fault) → lines ≡ (number, text) ∷ behind → (form text → ⊥)
+    → IsMisformed number f
     → IsFaultyNext form lines end f
 faulty_line form lines behind number text end f next none is =
     subst (λ (l : Numbered). IsFaultyNext form l end f) (sym next) (is, none)
 
 pub faulty_end : (form : List ℕ → Type 0) (lines : Numbered) (end : ℕ) (f : Fault)
-    → (f ≡ of_script end) × (lines ≡ []) → IsFaultyNext form lines end f
+    → IsMisformed end f × (lines ≡ []) → IsFaultyNext form lines end f
 faulty_end form lines end f is =
     subst (λ (l : Numbered). IsFaultyNext form l end f) (sym is.1) is.0
 
@@ -160,7 +163,7 @@ so_far_all format all left pictures events s none =
 pub so_far_faulty : (format : Format) (all left left' : Numbered) (number : ℕ) (text : List ℕ)
     (pictures : List Values) (events : List Event) (f : Fault)
     → SoFar format all left pictures events → left ≡ (number, text) ∷ left'
-    → IsUnfitBehind format events text → f ≡ of_script number → IsFaultyBody format all f
+    → IsUnfitBehind format events text → IsMisformed number f → IsFaultyBody format all f
 so_far_faulty format all left left' number text pictures events f s next unfit is = record {
   before = s.before;
   number = number;
@@ -330,15 +333,15 @@ fault_at_body l lines behind is_cut end f y h same is head (inr bad) =
       body = subst (λ (g : Fault). IsFaultyBody h.format behind g) (sym is) bad;
     })))
 
-pub fault_at_end : (lines : Numbered) (is_cut : Bool) (n end : ℕ) (said : Said)
-    → SaysRehearsal lines said → is_cut ≡ true → n ≡ end
-    → ((of_script n ≡ Memory) ⊎ IsFaultyRehearsal lines is_cut end (of_script n))
-fault_at_end lines is_cut n end said says cut last =
+pub fault_at_end : (lines : Numbered) (is_cut : Bool) (n end : ℕ) (f : Fault) (said : Said)
+    → SaysRehearsal lines said → is_cut ≡ true → f ≡ of_script n End → n ≡ end
+    → ((f ≡ Memory) ⊎ IsFaultyRehearsal lines is_cut end f)
+fault_at_end lines is_cut n end f said says cut is last =
     inr (inr (inr (record {
       said = said;
       fine = says;
       cut = cut;
-      fault_is = ap (λ (k : ℕ). of_script k) last;
+      fault_is = is ∙ ap (λ (k : ℕ). of_script k End) last;
     })))
 
 pub says_all : {A : Type 0} (l lines behind : Numbered) (head : Head A) (r : Rehearsal A)

@@ -22,7 +22,8 @@ use Rattle.run_outcome.specs.declared.fault.Fault.TheVariants.{Refused, Device, 
 use Rattle.script_engines.specs.declared.rehearsal.Rehearsal.{Rehearsal}
 use Rattle.run_outcome.specs.Fault.{IfRefused}
 use Rattle.run_outcome.specs.Refusing.{OfRefusal}
-use Rattle.run_outcome.specs.LowerFaults.{of_play}
+use Rattle.run_outcome.specs.declared.script_line.LineFault.TheVariants.{Play}
+use Rattle.run_outcome.specs.LowerFaults.{of_line}
 use Rattle.script_engines.specs.Rehearsal.{Heading, IsFaultyRehearsal, Said, SaysRehearsal, said_by}
 use Rattle.script_engines.specs.Rehearsed.{IsPlanOf, IsRefusedScript, IsUnplayed, IsUnplayedBy}
 use Rattle.script_engines.specs.Rehearsed.{PlaysSaid, Rehearses}
@@ -182,18 +183,18 @@ pub record SaysWhy {V : Type 0} (r : Result V PlayFault) (plan : RasterPlan) (sa
   pub event : (place : ℕ) → r ≡ Err (play.BadEvent place)
       → IsUnplayedBy (play.BadEvent place) plan said
 
-pub unplayed : {V : Type 0} (r : Result V PlayFault) (f : PlayFault) (y : Fault)
+pub unplayed : {V : Type 0} (r : Result V PlayFault) (f : PlayFault) (y : Fault) (number : ℕ)
     (plan : RasterPlan) (said : Said) → IsPlanOf plan said.heading → SaysWhy r plan said
-    → r ≡ Err f → y ≡ of_play f → IsUnplayed y said
-unplayed r play.NoMemory y plan said of why is same =
+    → r ≡ Err f → y ≡ of_line number (Play f) → IsUnplayed y said
+unplayed r play.NoMemory y number plan said of why is same =
     subst (λ (g : Fault). IsUnplayed g said) (sym same) tt
-unplayed r (play.BadEvent place) y plan said of why is same =
+unplayed r (play.BadEvent place) y number plan said of why is same =
     subst (λ (g : Fault). IsUnplayed g said) (sym same) (plan, of, why.event place is)
-unplayed r play.BadWindow y plan said of why is same =
+unplayed r play.BadWindow y number plan said of why is same =
     subst (λ (g : Fault). IsUnplayed g said) (sym same) (plan, of, why.window is)
-unplayed r play.DoubleTimestamp y plan said of why is same =
+unplayed r play.DoubleTimestamp y number plan said of why is same =
     subst (λ (g : Fault). IsUnplayed g said) (sym same) (plan, of, why.double is)
-unplayed r play.BadPictures y plan said of why is same =
+unplayed r play.BadPictures y number plan said of why is same =
     subst (λ (g : Fault). IsUnplayed g said) (sym same) (plan, of, why.pictures is)
-unplayed r play.BadReceivers y plan said of why is same =
+unplayed r play.BadReceivers y number plan said of why is same =
     subst (λ (g : Fault). IsUnplayed g said) (sym same) (plan, of, why.receivers is)

@@ -5,7 +5,8 @@ use Rattle.st_format.specs.declared.format.Format.{Format}
 use Rattle.st_format.specs.declared.format.FormatFault.{FormatFault}
 use Rattle.st_format.specs.Fields.{Fields, format_at}
 use Rattle.run_outcome.specs.declared.fault.Fault.{Fault}
-use Rattle.run_outcome.specs.LowerFaults.{of_format, of_script}
+use Rattle.run_outcome.specs.declared.script_line.LineFault.TheVariants.{Format as OfFormat}
+use Rattle.run_outcome.specs.LowerFaults.{IsMisformed, of_line}
 use Rattle.script_engines.specs.declared.line.FormatLine.{FormatLine}
 use Rattle.script_engines.specs.declared.script.Lines.{Lines}
 use Rattle.script_engines.specs.Forms.{IsFormatLine, IsOpenLine, IsWindowText}
@@ -29,8 +30,9 @@ pub record ReadsOne (form : List ℕ → Type 0) (lines behind : List (ℕ × Li
 -- The next line is at fault, as it is not of a form; where there is none, the line behind the last
 -- is, whose number this is (own)
 abbrev pub IsFaultyNext : (List ℕ → Type 0) → List (ℕ × List ℕ) → ℕ → Fault → Type 0
-IsFaultyNext form [] end fault = fault ≡ of_script end
-IsFaultyNext form ((number, text) ∷ behind) end fault = (fault ≡ of_script number) × (form text → ⊥)
+IsFaultyNext form [] end fault = IsMisformed end fault
+IsFaultyNext form ((number, text) ∷ behind) end fault =
+    IsMisformed number fault × (form text → ⊥)
 
 -- a text is a line `format`
 abbrev pub SaysFormatLine : List ℕ → Type 0
@@ -52,8 +54,8 @@ pub record ReadsFormat (lines behind : List (ℕ × List ℕ)) (made : Result Fi
 abbrev pub IsFaultyFormat : List (ℕ × List ℕ) → ℕ → Fault → Type 0
 IsFaultyFormat lines end f =
     IsFaultyNext SaysFormatLine lines end f
-    ⊎ ((why : FormatFault) × (behind : List (ℕ × List ℕ)) × (f ≡ of_format why)
-    × ReadsFormat lines behind (Err why))
+    ⊎ ((why : FormatFault) × (behind : List (ℕ × List ℕ))
+    × (read : ReadsFormat lines behind (Err why)) × (f ≡ of_line read.number (OfFormat why)))
 
 -- The next line is one `open`, and this opening has its payload type, its source and its window, in
 -- the order of the line, and this format. The lines behind it are left (own)

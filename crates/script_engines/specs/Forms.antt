@@ -5,7 +5,7 @@ use Rattle.st_format.specs.declared.path.Path.TheVariants as path
 use Rattle.st_format.specs.Pgroup.{bits_of}
 use Rattle.st_format.specs.Words.{sampling_text}
 use Rattle.script_engines.specs.declared.line.FormatLine.{FormatLine}
-use Rattle.script_engines.specs.declared.line.Place.{Place}
+use Rattle.script_engines.specs.declared.line.SamplePlace.{SamplePlace}
 use Rattle.script_engines.specs.declared.line.TraceLine.{TraceLine}
 use Rattle.script_engines.specs.declared.line.TraceLine.TheVariants.{Datagram, Slide, Numbers, Cell}
 use Rattle.st_format.specs.Text.{parted}
@@ -21,7 +21,7 @@ pub record AreTwo (text : List ℕ) (m n : ℕ) : Type 0 where
   pub second_is : IsNumberOf second n
 
 -- four numbers, parted by spaces: a timestamp, a row, a column and a component
-pub record AreFour (text : List ℕ) (p : Place) : Type 0 where
+pub record AreFour (text : List ℕ) (p : SamplePlace) : Type 0 where
   pub timestamp : List ℕ
   pub behind : List ℕ
   pub row : List ℕ

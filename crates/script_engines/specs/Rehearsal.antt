@@ -7,7 +7,8 @@ use Rattle.st_format.specs.declared.format.Format.{Format}
 use Rattle.st_format.specs.Fields.{Fields, fields_of}
 use Rattle.st_format.specs.Picture.{IsPicture, Values}
 use Rattle.run_outcome.specs.declared.fault.Fault.{Fault}
-use Rattle.run_outcome.specs.LowerFaults.{of_script}
+use Rattle.run_outcome.specs.declared.script_line.Form.TheVariants.{End}
+use Rattle.run_outcome.specs.LowerFaults.{IsMisformed, of_script}
 use Rattle.script_engines.specs.declared.rehearsal.Head.{Head}
 use Rattle.script_engines.specs.declared.rehearsal.Rehearsal.{Rehearsal}
 use Rattle.script_engines.specs.FirstLines.{IsFaultyFormat, IsFaultyNext, ReadsFormat, ReadsOne}
@@ -103,8 +104,8 @@ pub record IsPictureLine (format : Format) (text : List ℕ) (p : Values) : Type
   pub text_is : text ≡ codes "picture " ++ digits
   pub picture_is : IsPictureOf format digits p
 
--- Lines of pictures, one for each, and behind them lines of events, one for each; each in its order,
--- and no other line (own)
+-- Lines of pictures, one for each, and behind them lines of events, one for each; each in its
+-- order, and no other line (own)
 pub record IsBody (format : Format) (lines : List (ℕ × List ℕ)) (pictures : List Values)
     (events : List Event) : Type 0 where
   pub of_pictures : List (ℕ × List ℕ)
@@ -141,7 +142,7 @@ pub record IsFaultyBody (format : Format) (lines : List (ℕ × List ℕ)) (faul
   pub whole : lines ≡ before ++ (number, text) ∷ behind
   pub fine : IsBody format before pictures events
   pub unfit : IsUnfitBehind format events text
-  pub fault_is : fault ≡ of_script number
+  pub fault_is : IsMisformed number fault
 
 -- ---- a whole rehearsal
 
@@ -171,7 +172,7 @@ pub record IsCutRehearsal (lines : List (ℕ × List ℕ)) (is_cut : Bool) (end 
   pub said : Said
   pub fine : SaysRehearsal lines said
   pub cut : is_cut ≡ true
-  pub fault_is : fault ≡ of_script end
+  pub fault_is : fault ≡ of_script end End
 
 -- lines begin with the five of a rehearsal, and one behind them is at fault
 pub record HasFaultyBody (lines : List (ℕ × List ℕ)) (fault : Fault) : Type 0 where

@@ -24,7 +24,8 @@ use Rattle.st_format.specs.Raster.{Raster}
 use Rattle.run_outcome.specs.declared.line.Line.TheVariants.{HandedOut, Receiver}
 use Rattle.run_outcome.specs.declared.fault.Fault.{Fault}
 use Rattle.run_outcome.specs.declared.fault.Fault.TheVariants as fault
-use Rattle.run_outcome.specs.declared.refusal.Refusal.TheVariants as refusal
+use Rattle.run_outcome.specs.declared.refusal.Refusal.TheVariants.{Script}
+use Rattle.run_outcome.specs.declared.script_line.LineFault.TheVariants as line
 use Rattle.run_outcome.specs.Line.{line_text}
 use Rattle.script_engines.specs.Rehearsal.{Heading, IsFaultyRehearsal, Said, SaysRehearsal}
 use Rattle.script_engines.specs.Script.{line_behind, numbered_lines}
@@ -42,8 +43,8 @@ abbrev pub scene_by : RasterPlan → Said → Scene
 scene_by plan said =
     scene_of plan said.pictures said.heading.stamp said.heading.window said.heading.receivers
 
--- A rehearsal was played by a plan of its own: all its events, over all its pictures; and each frame
--- is the sender's (own)
+-- A rehearsal was played by a plan of its own: all its events, over all its pictures; and each
+-- frame is the sender's (own)
 pub record PlaysSaid {A : Type 0} (played : Played A) (said : Said) : Type 0 where
   pub plan : RasterPlan
   pub plan_is : IsPlanOf plan said.heading
@@ -84,8 +85,8 @@ IsUnplayedBy play.BadReceivers plan said =
 -- Why a rehearsal is not played: there is no plan, or by its plan this is the first reason; or
 -- memory was wanted (own)
 abbrev pub IsUnplayed : Fault → Said → Type 0
-IsUnplayed (fault.Refused (refusal.Plan f)) said = IsUnplanned f said.heading
-IsUnplayed (fault.Refused (refusal.Play f)) said =
+IsUnplayed (fault.Refused (Script number (line.Plan f))) said = IsUnplanned f said.heading
+IsUnplayed (fault.Refused (Script number (line.Play f))) said =
     (plan : RasterPlan) × IsPlanOf plan said.heading × IsUnplayedBy f plan said
 IsUnplayed fault.Memory said = ⊤
 IsUnplayed other said = ⊥

@@ -8,7 +8,7 @@ use Rattle.path_merge.specs.declared.answer.Taken.TheVariants as taken
 use Rattle.path_merge.specs.declared.fault.SlideFault.TheVariants.{InWindow}
 use Rattle.path_merge.specs.Answers.{refusals_after, taken_at}
 use Rattle.path_merge.specs.Frames.{State, cell_in, frames_of, joined_frames}
-use Rattle.path_merge.specs.Numbers.{Numbers, place_of, with_place}
+use Rattle.path_merge.specs.Numbers.{Numbers, number_place, with_place}
 use Rattle.path_merge.specs.Sliding.{slid_state}
 use Rattle.st_format.specs.declared.cell.Cell.{Cell}
 use Rattle.st_format.specs.declared.cell.Cell.TheVariants as cell
@@ -21,12 +21,14 @@ use Rattle.run_outcome.specs.declared.line.Line.TheVariants.{Kept, Outside, Refu
 use Rattle.run_outcome.specs.declared.line.Line.TheVariants.{Value, Contested, Nowhere}
 use Rattle.run_outcome.specs.declared.line.Line.TheVariants.{NotSlid}
 use Rattle.run_outcome.specs.declared.line.Line.TheVariants.{Out}
-use Rattle.script_engines.specs.declared.line.Place.{Place}
+use Rattle.script_engines.specs.declared.line.SamplePlace.{SamplePlace}
 use Rattle.script_engines.specs.declared.line.TraceLine.{TraceLine}
 use Rattle.script_engines.specs.declared.line.TraceLine.TheVariants.{Datagram, Slide}
 use Rattle.script_engines.specs.declared.line.TraceLine.TheVariants as line
 use Rattle.run_outcome.specs.declared.refusal.Refusal.{Refusal as CommandRefusal}
 use Rattle.run_outcome.specs.declared.refusal.Refusal.TheVariants as refusal
+use Rattle.run_outcome.specs.declared.script_line.LineFault.{LineFault}
+use Rattle.run_outcome.specs.declared.script_line.LineFault.TheVariants as fault
 use Rattle.script_engines.specs.Forms.{IsOctetsText, IsTraceLine}
 
 -- the answer to a datagram, by what the receiver says of it
@@ -38,7 +40,7 @@ datagram_answer (Err refusal) = Refused refusal
 -- numbers with one number more, where any are noted
 abbrev pub with_number : ℕ → Option Numbers → Option Numbers
 with_number number None = None
-with_number number (Some m) = Some (with_place m (place_of m number))
+with_number number (Some m) = Some (with_place m (number_place m number))
 
 -- the numbers behind a datagram: that of a datagram that was kept is noted, and no other (own)
 abbrev pub numbers_after : Result Taken Refusal → Option Numbers → Option Numbers
@@ -57,7 +59,7 @@ pub record IsSlide (old : State) (next : ℕ) (new : State) (spare : Raster)
   pub answer_is : answer ≡ Out first (counts_of spare)
 
 -- where in a frame a sample is that a line asks for
-abbrev pub position_of : Place → Position
+abbrev pub position_of : SamplePlace → Position
 position_of p = record { row = p.row; column = p.column; component = p.component }
 
 -- numbers from a first one on, so many, of which none is noted
@@ -103,7 +105,7 @@ pub record BeginsNumbers (first count : ℕ) (old new : State) (before after : O
   pub receiver : new ≡ old
 
 -- What a question for a cell does: it is answered, and nothing changes (own)
-pub record TellsCell (place : Place) (old new : State) (before after : Option Numbers)
+pub record TellsCell (place : SamplePlace) (old new : State) (before after : Option Numbers)
     (answer : Option Line) : Type 0 where
   pub there : IsSamplePlace old place.timestamp (position_of place)
       → answer ≡ Some (cell_answer (cell_in old place.timestamp (position_of place)))
@@ -131,13 +133,18 @@ IsUnfitLine (Slide next) room numbers = ⊥
 IsUnfitLine (line.Numbers first count) room numbers = numbers ≢ None
 IsUnfitLine (line.Cell place) room numbers = ⊥
 
--- The refusals of `trace`: of a line of the script, of its format, of its opening, of its numbers
--- (own)
+-- The refusals of `trace`: of a line of the script by its form, by its format, by its opening, by
+-- its numbers (own)
+abbrev pub IsTraceFault : LineFault → Type 0
+IsTraceFault (fault.Form form) = ⊤
+IsTraceFault (fault.Format f) = ⊤
+IsTraceFault (fault.Open f) = ⊤
+IsTraceFault (fault.Numbers f) = ⊤
+IsTraceFault (fault.Plan f) = ⊥
+IsTraceFault (fault.Play f) = ⊥
+
 abbrev pub IsTraceRefusal : CommandRefusal → Type 0
-IsTraceRefusal (refusal.Script line) = ⊤
-IsTraceRefusal (refusal.Format f) = ⊤
-IsTraceRefusal (refusal.Open f) = ⊤
-IsTraceRefusal (refusal.Numbers f) = ⊤
+IsTraceRefusal (refusal.Script number f) = IsTraceFault f
 IsTraceRefusal other = ⊥
 
 -- a line that is of no form, or an unfit one (own)

@@ -11,6 +11,7 @@ mod script;
 mod sdp;
 mod session;
 mod tracing;
+mod wanted_form;
 
 pub use rehearsing::rehearse;
 pub use sdp::describe;

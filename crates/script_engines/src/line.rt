@@ -43,19 +43,18 @@ pub(crate) enum TraceLine<'a> {
     /// `numbers FIRST COUNT`.
     Numbers(u32, u32),
     /// `cell TS ROW COL COMP`.
-    Cell(Place),
+    Cell(SamplePlace),
 }
 
 /// A sample of a frame: a timestamp, a row, a column and a component.
 #[derive(Clone, Copy)]
-pub(crate) struct Place {
+pub(crate) struct SamplePlace {
     pub timestamp: u32,
     pub row: u32,
     pub column: u32,
     pub component: u32,
 }
 
-/// What a line `format` says.
 pub(crate) fn read_format_line(text: &[u8]) -> Option<FormatLine>
     ensures is { IfSome result (λ line. IsFormatLine text.now line) }
     ensures none { IfNone result ((line : FormatLine) → IsFormatLine text.now line → ⊥) }
@@ -203,14 +202,14 @@ pub(crate) fn read_two(text: &[u8]) -> Option<(u32, u32)>
 }
 
 /// The four numbers behind the word `cell`.
-fn read_place(text: &[u8]) -> Option<Place>
+fn read_place(text: &[u8]) -> Option<SamplePlace>
     ensures is { IfSome result (λ place. AreFour text.now place) }
-    ensures none { IfNone result ((place : Place) → AreFour text.now place → ⊥) }
+    ensures none { IfNone result ((place : SamplePlace) → AreFour text.now place → ⊥) }
 {
     let (timestamp, rest) = split_once(text, b' ')?;
     let (row, rest) = split_once(rest, b' ')?;
     let (column, component) = read_two(rest)?;
-    Some(Place {
+    Some(SamplePlace {
         timestamp: read_number(timestamp)?,
         row: read_number(row)?,
         column,

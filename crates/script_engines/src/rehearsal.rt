@@ -3,7 +3,7 @@ ghost use Rattle.std.specs.Prelude.{◌≡◌, ◌≢◌, ◌≤◌, ◌+◌, �
 ghost use Rattle.std.specs.Prelude.{IfErr, IfOk, OnOk};
 ghost use Rattle.st_format.specs.Picture.{Values};
 ghost use Rattle.run_outcome.specs.Fault.{Accounts};
-ghost use Rattle.run_outcome.specs.LowerFaults.{of_script};
+ghost use Rattle.run_outcome.specs.LowerFaults.{IsMisformed};
 ghost use Rattle.script_engines.specs.FirstLines.{IsFaultyNext, ReadsOne, end_of, lines_left};
 ghost use Rattle.script_engines.specs.Rehearsal.{AddsLine, IsBody, IsFaultyBody};
 ghost use Rattle.script_engines.specs.Rehearsal.{IsFaultyHead, IsPictureOf};
@@ -20,9 +20,10 @@ use crate::rehearsal_line::{
     read_count_line, read_event, read_number_line, read_stamp_line, read_window_line,
 };
 use crate::script::{Lines, Script, ScriptLine};
+use crate::wanted_form::body_form;
 use packet_plan::Stamp;
-use path_merge::Event;
-use run_outcome::{Fault, Refusal, after_word};
+use path_merge::{Event, PlayFault};
+use run_outcome::{Fault, Form, after_word};
 use st_format::{Format, Picture};
 use std::alloc::Allocator;
 
@@ -34,6 +35,12 @@ pub(crate) struct Head<A: Allocator> {
     pub max_octets: u32,
     pub window: Vec<u32, A>,
     pub receivers: u8,
+    /// The number of the line that says the greatest size of a packet.
+    pub max_line: usize,
+    /// That of the line that says the window.
+    pub window_line: usize,
+    /// That of the line that says how many receivers there are.
+    pub receivers_line: usize,
 }
 
 /// A rehearsal that was read.
@@ -42,9 +49,38 @@ pub(crate) struct Rehearsal<A: Allocator> {
     pub head: Head<A>,
     pub pictures: Vec<Picture<A>, A>,
     pub events: Vec<Event, A>,
+    /// The number of the line of each picture.
+    pub picture_lines: Vec<usize, A>,
+    /// The number of the line of each event.
+    pub event_lines: Vec<usize, A>,
 }
 
-/// Reads a rehearsal.
+/// How many pictures a schedule has at most.
+const MOST_PICTURES: usize = 10_000;
+
+impl<A: Allocator> Rehearsal<A> {
+    /// The number of the line by which a schedule is refused: of the window, of the receivers, of
+    /// the first picture too many, or of the event that cannot happen.
+    pub fn line_of(&self, fault: PlayFault) -> usize {
+        match fault {
+            PlayFault::BadWindow | PlayFault::DoubleTimestamp => self.head.window_line,
+            PlayFault::BadReceivers => self.head.receivers_line,
+            PlayFault::BadPictures => line_at(&self.picture_lines, MOST_PICTURES),
+            PlayFault::BadEvent(place) => line_at(&self.event_lines, place),
+            PlayFault::NoMemory => 0,
+        }
+    }
+}
+
+/// The number that stands at a place.
+fn line_at(lines: &[usize], place: usize) -> usize {
+    match lines.get(place) {
+        Some(line) => *line,
+        None => 0,
+    }
+}
+
+/// Reads what all lines of a script say: five first ones, pictures, and events.
 pub(crate) fn read_rehearsal<A: Allocator + Copy>(
     alloc: A,
     script: &Script<A>,
@@ -59,11 +95,11 @@ pub(crate) fn read_rehearsal<A: Allocator + Copy>(
         ⊎ IsFaultyRehearsal (numbered_lines 0 script.now.octets.items) script.now.is_cut
         (line_behind 0 script.now.octets.items) fault) }
 {
-    let mut lines = Lines::new(&script.octets);
+    let mut lines = Lines::new(&script.octets, script.is_cut);
     let head = read_head(alloc, &mut lines)?;
     let rehearsal = read_body(alloc, head, &mut lines)?;
     if script.is_cut {
-        return Err(Fault::Refused(Refusal::Script(lines.following())));
+        return Err(Form::End.refused_at(lines.following()));
     }
     Ok(rehearsal)
 }
@@ -82,8 +118,11 @@ fn read_head<A: Allocator + Copy>(alloc: A, lines: &mut Lines<'_>) -> Result<Hea
         format: read_format(lines)?,
         stamp: read_stamp(lines)?,
         max_octets: read_max(lines)?,
+        max_line: lines.last(),
         window: read_window(alloc, lines)?,
+        window_line: lines.last(),
         receivers: read_receiver_count(lines)?,
+        receivers_line: lines.last(),
     })
 }
 
@@ -97,10 +136,10 @@ fn read_stamp(lines: &mut Lines<'_>) -> Result<Stamp, Fault>
         IsFaultyNext SaysStamp (lines_left lines.old) (end_of lines.old) fault) }
     ensures end { end_of lines.new ≡ end_of lines.old }
 {
-    let line = next_line(lines)?;
+    let line = next_line(lines, Form::Stamp)?;
     match read_stamp_line(line.text) {
         Some(stamp) => Ok(stamp),
-        None => Err(Fault::Refused(Refusal::Script(line.number))),
+        None => Err(Form::Stamp.refused_at(line.number)),
     }
 }
 
@@ -113,10 +152,10 @@ fn read_max(lines: &mut Lines<'_>) -> Result<u32, Fault>
         IsFaultyNext SaysMax (lines_left lines.old) (end_of lines.old) fault) }
     ensures end { end_of lines.new ≡ end_of lines.old }
 {
-    let line = next_line(lines)?;
+    let line = next_line(lines, Form::MaxOctets)?;
     match read_number_line(line.text, b"max ") {
         Some(octets) => Ok(octets),
-        None => Err(Fault::Refused(Refusal::Script(line.number))),
+        None => Err(Form::MaxOctets.refused_at(line.number)),
     }
 }
 
@@ -129,10 +168,10 @@ fn read_window<A: Allocator + Copy>(alloc: A, lines: &mut Lines<'_>) -> Result<V
         ⊎ IsFaultyNext SaysWindow (lines_left lines.old) (end_of lines.old) fault) }
     ensures end { end_of lines.new ≡ end_of lines.old }
 {
-    let line = next_line(lines)?;
+    let line = next_line(lines, Form::Window)?;
     match read_window_line(alloc, line.text)? {
         Some(window) => Ok(window),
-        None => Err(Fault::Refused(Refusal::Script(line.number))),
+        None => Err(Form::Window.refused_at(line.number)),
     }
 }
 
@@ -145,10 +184,10 @@ fn read_receiver_count(lines: &mut Lines<'_>) -> Result<u8, Fault>
         IsFaultyNext SaysCount (lines_left lines.old) (end_of lines.old) fault) }
     ensures end { end_of lines.new ≡ end_of lines.old }
 {
-    let line = next_line(lines)?;
+    let line = next_line(lines, Form::Receivers)?;
     match read_count_line(line.text) {
         Some(count) => Ok(count),
-        None => Err(Fault::Refused(Refusal::Script(line.number))),
+        None => Err(Form::Receivers.refused_at(line.number)),
     }
 }
 
@@ -170,6 +209,8 @@ fn read_body<A: Allocator + Copy>(
         head,
         pictures: Vec::new(alloc),
         events: Vec::new(alloc),
+        picture_lines: Vec::new(alloc),
+        event_lines: Vec::new(alloc),
     };
     while let Some(line) = lines.next() {
         read_body_line(alloc, line, &mut rehearsal)?;
@@ -189,29 +230,39 @@ fn read_body_line<A: Allocator + Copy>(
         rehearsal.old.pictures.items rehearsal.old.events.items
         rehearsal.new.pictures.items rehearsal.new.events.items) }
     ensures fault { IfErr result (λ fault. (fault ≡ Fault.Memory)
-        ⊎ ((fault ≡ of_script line.entry.number)
+        ⊎ (IsMisformed line.entry.number fault
         × IsUnfitBehind rehearsal.old.head.format rehearsal.old.events.items line.entry.text.now)) }
 {
     if let Some(digits) = after_word(line.text, b"picture ") {
         if !rehearsal.events.is_empty() {
-            return Err(Fault::Refused(Refusal::Script(line.number)));
+            return Err(Form::Event.refused_at(line.number));
         }
         return add_picture(alloc, line.number, digits, rehearsal);
     }
     match read_event(line.text) {
-        Some(event) => add_event(event, rehearsal),
-        None => Err(Fault::Refused(Refusal::Script(line.number))),
+        Some(event) => add_event(event, line.number, rehearsal),
+        None => {
+            let has_events = !rehearsal.events.is_empty();
+            Err(body_form(line.text, has_events).refused_at(line.number))
+        }
     }
 }
 
-/// Adds an event.
-fn add_event<A: Allocator>(event: Event, rehearsal: &mut Rehearsal<A>) -> Result<(), Fault>
+/// Adds the event of the line of a number.
+fn add_event<A: Allocator>(
+    event: Event,
+    number: usize,
+    rehearsal: &mut Rehearsal<A>,
+) -> Result<(), Fault>
     ensures fault { IfErr result (λ fault. fault ≡ Fault.Memory) }
     ensures head { rehearsal.new.head ≡ rehearsal.old.head }
     ensures pictures { rehearsal.new.pictures.items ≡ rehearsal.old.pictures.items }
     ensures events { OnOk result
         (rehearsal.new.events.items ≡ rehearsal.old.events.items ++ event ∷ []) }
 {
+    if rehearsal.event_lines.push(number).is_err() {
+        return Err(Fault::Memory);
+    }
     match rehearsal.events.push(event) {
         Ok(()) => Ok(()),
         Err(_) => Err(Fault::Memory),
@@ -231,18 +282,19 @@ fn add_picture<A: Allocator + Copy>(
         × IsPictureOf rehearsal.old.head.format digits.now p
         × (rehearsal.new.pictures.items ≡ rehearsal.old.pictures.items ++ p ∷ [])) }
     ensures fault { IfErr result (λ fault. (fault ≡ Fault.Memory)
-        ⊎ ((fault ≡ of_script number)
+        ⊎ (IsMisformed number fault
         × ((p : Values) → IsPictureOf rehearsal.old.head.format digits.now p → ⊥))) }
 {
     match read_picture(alloc, rehearsal.head.format, digits)? {
-        Some(picture) => keep_picture(picture, rehearsal),
-        None => Err(Fault::Refused(Refusal::Script(number))),
+        Some(picture) => keep_picture(picture, number, rehearsal),
+        None => Err(Form::Picture.refused_at(number)),
     }
 }
 
-/// Adds a picture that was read.
+/// Adds the picture of the line of a number.
 fn keep_picture<A: Allocator>(
     picture: Picture<A>,
+    number: usize,
     rehearsal: &mut Rehearsal<A>,
 ) -> Result<(), Fault>
     ensures fault { IfErr result (λ fault. fault ≡ Fault.Memory) }
@@ -251,6 +303,9 @@ fn keep_picture<A: Allocator>(
     ensures pictures { OnOk result
         (rehearsal.new.pictures.items ≡ rehearsal.old.pictures.items ++ picture ∷ []) }
 {
+    if rehearsal.picture_lines.push(number).is_err() {
+        return Err(Fault::Memory);
+    }
     match rehearsal.pictures.push(picture) {
         Ok(()) => Ok(()),
         Err(_) => Err(Fault::Memory),

@@ -109,7 +109,6 @@ fn read_arrival(text: &[u8]) -> Option<(u8, Path, u32)>
     Some((read_receiver(to)?, read_path(path)?, read_number(number)?))
 }
 
-/// A receiver and a number.
 fn read_receiver_and_number(text: &[u8]) -> Option<(u8, u32)>
     ensures is { IfSome result (λ p. AreReceiverAndNumber text.now p.0 p.1) }
     ensures none { IfNone result ((receiver n : ℕ) → AreReceiverAndNumber text.now receiver n → ⊥) }
@@ -118,7 +117,6 @@ fn read_receiver_and_number(text: &[u8]) -> Option<(u8, u32)>
     Some((read_receiver(receiver)?, read_number(number)?))
 }
 
-/// Two receivers.
 fn read_receivers(text: &[u8]) -> Option<(u8, u8)>
     ensures is { IfSome result (λ p. AreTwoReceivers text.now p.0 p.1) }
     ensures none { IfNone result ((into from : ℕ) → AreTwoReceivers text.now into from → ⊥) }

@@ -16,7 +16,7 @@ use crate::rehearsal::{Rehearsal, read_rehearsal};
 use crate::script::{Script, read_script};
 use packet_plan::Plan;
 use path_merge::{Handed, Played, Receiver, play};
-use run_outcome::{Fault, Line, print, print_frames};
+use run_outcome::{Fault, Line, LineFault, print, print_frames};
 use st_format::{ByteSink, ByteSource};
 use std::alloc::Allocator;
 
@@ -70,7 +70,7 @@ fn rehearse_script<A: Allocator + Copy, O: ByteSink>(
     print_receivers(played.receivers.as_slice(), output)
 }
 
-/// Plans and plays a rehearsal.
+/// Plans a rehearsal for its format and its greatest packet, and plays it by that plan.
 fn play_rehearsal<A: Allocator + Copy>(
     alloc: A,
     rehearsal: &Rehearsal<A>,
@@ -81,9 +81,12 @@ fn play_rehearsal<A: Allocator + Copy>(
     ensures unplayed { IfErr result (λ fault. IsUnplayed fault (said_by rehearsal.now)) }
 {
     let head = &rehearsal.head;
-    let plan = Plan::new(alloc, head.format, head.max_octets)?;
+    let plan = match Plan::new(alloc, head.format, head.max_octets) {
+        Ok(plan) => plan,
+        Err(fault) => return Err(LineFault::Plan(fault).refused_at(head.max_line)),
+    };
     plan.facts();
-    Ok(play(
+    let played = play(
         alloc,
         &plan,
         rehearsal.pictures.as_slice(),
@@ -91,7 +94,11 @@ fn play_rehearsal<A: Allocator + Copy>(
         head.window.as_slice(),
         head.receivers,
         rehearsal.events.as_slice(),
-    )?)
+    );
+    match played {
+        Ok(played) => Ok(played),
+        Err(fault) => Err(LineFault::Play(fault).refused_at(rehearsal.line_of(fault))),
+    }
 }
 
 /// Prints a line for each frame that was handed out.

@@ -1,14 +1,14 @@
 //! A script: the octets that a source gives, and their lines.
 ghost use Rattle.std.specs.Prelude.{◌≡◌, ◌≤◌, ◌<◌, ◌+◌, ◌∷◌, [], length, IfErr, IfNone, IfSome};
 ghost use Rattle.std.specs.Prelude.{IfOk, MatchOption};
-ghost use Rattle.std.specs.Io.KnownBytes.{Consumes, IsAtEnd};
 ghost use Rattle.std.specs.Str.Lines.{lines};
 ghost use Rattle.run_outcome.specs.Fault.{Accounts, IfRefused, counts};
+ghost use Rattle.run_outcome.specs.LowerFaults.{IsMisformed};
 ghost use Rattle.script_engines.specs.Script.{IsCut, IsReadFrom, IsWholeLines, line_behind};
 ghost use Rattle.script_engines.specs.Script.{numbered_lines};
 
-use run_outcome::Fault;
-use st_format::{ByteSource, read_whole, split_once, without_carriage_return};
+use run_outcome::{Fault, Form, read_past};
+use st_format::{ByteSource, split_once, without_carriage_return};
 use std::alloc::Allocator;
 
 /// The greatest number of octets of a script (own).
@@ -23,7 +23,7 @@ pub(crate) struct Script<A: Allocator> {
     pub is_cut: bool,
 }
 
-/// Reads a script.
+/// Reads a source to its end as a script, or up to the limit of one.
 pub(crate) fn read_script<A, S>(alloc: A, source: &mut S) -> Result<Script<A>, Fault>
 where
     A: Allocator,
@@ -35,32 +35,7 @@ where
     ensures read { IfOk result (λ s.
         IsReadFrom (S.to_give source.old) (S.to_give source.new) s.octets.items s.is_cut) }
 {
-    Ok(cut_at_limit(read_past_limit(alloc, source)?))
-}
-
-/// Reads a source to its end, or until more octets were read than a script may have.
-fn read_past_limit<A, S>(alloc: A, source: &mut S) -> Result<Vec<u8, A>, Fault>
-where
-    A: Allocator,
-    S: ByteSource,
-    ensures given { IfOk result (λ octets.
-        Consumes (S.to_give source.old) (S.to_give source.new) octets.items) }
-    ensures whole { IfOk result (λ octets. length octets.items ≤ LIMIT
-        → IsAtEnd (S.to_give source.new)) }
-    ensures unrefused { IfErr result (λ f. IfRefused f ⊥) }
-    ensures failures { Accounts result (counts (S.failures source.old) (S.failures source.new)
-        ∷ []) }
-{
-    let mut octets = Vec::new(alloc);
-    let mut piece = [0u8; 4096];
-    while octets.len() <= LIMIT {
-        let n = read_whole(source, &mut piece)?;
-        octets.extend_from_slice(&piece[..n])?;
-        if n < piece.len() {
-            return Ok(octets);
-        }
-    }
-    Ok(octets)
+    Ok(cut_at_limit(read_past(alloc, source, LIMIT)?))
 }
 
 /// The script of these octets.
@@ -107,12 +82,14 @@ pub(crate) struct ScriptLine<'a> {
 pub(crate) struct Lines<'a> {
     rest: &'a [u8],
     passed: usize,
+    /// Whether the script goes on behind them, past its limit.
+    is_cut: bool,
     ghost counted: { passed + length rest.now ≤ 16777216 },
 }
 
 impl<'a> Lines<'a> {
-    /// All lines of a text.
-    pub fn new(text: &'a [u8]) -> Lines<'a>
+    /// All lines of a text, behind which the script is cut or ends.
+    pub fn new(text: &'a [u8], is_cut: bool) -> Lines<'a>
         requires { length text.now ≤ 16777216 }
         ensures rest { result.rest.now ≡ text.now }
         ensures passed { result.passed ≡ 0 }
@@ -120,6 +97,7 @@ impl<'a> Lines<'a> {
         Lines {
             rest: text,
             passed: 0,
+            is_cut,
         }
     }
 
@@ -149,11 +127,29 @@ impl<'a> Lines<'a> {
         None
     }
 
+    /// The number of the line that was given last.
+    pub fn last(&self) -> usize
+        ensures { result ≡ self.now.passed }
+    {
+        self.passed
+    }
+
     /// The number of the line behind those that were given.
     pub fn following(&self) -> usize
         ensures { result ≡ self.now.passed + 1 }
     {
         self.passed + 1
+    }
+
+    /// The fault of the line behind those that were given, which was to be of a form.
+    pub fn wanting(&self, form: Form) -> Fault
+        ensures { IsMisformed (self.now.passed + 1) result }
+    {
+        if self.is_cut {
+            Form::End.refused_at(self.following())
+        } else {
+            form.refused_at(self.following())
+        }
     }
 }
 

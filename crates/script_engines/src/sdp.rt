@@ -7,8 +7,8 @@ ghost use Rattle.script_engines.specs.Described.{Describes, IsCanonicalOf, IsUnd
 ghost use Rattle.script_engines.specs.Described.{IsUndescribed};
 
 use crate::script::read_script;
-use run_outcome::{Fault, Refusal};
-use sdp_format::{fmtp_text, read_sdp};
+use run_outcome::{Fault, Form};
+use sdp_format::{fmtp_text, read_located};
 use st_format::{ByteSink, ByteSource, write_whole};
 use std::alloc::Allocator;
 
@@ -34,7 +34,7 @@ where
 {
     let script = read_script(alloc, source)?;
     if script.is_cut {
-        return Err(Fault::Refused(Refusal::Script(1)));
+        return Err(Form::TextEnd.refused_at(1));
     }
     let line = canonical_line(alloc, &script.octets)?;
     write_whole(output, &line)?;
@@ -47,8 +47,10 @@ fn canonical_line<A: Allocator + Copy>(alloc: A, text: &[u8]) -> Result<Vec<u8, 
     ensures canonical { IfOk result (λ line. IsCanonicalOf text.now line.items) }
     ensures refused { IfErr result (λ fault. IsUndescribedText text.now fault) }
 {
-    let sdp = read_sdp(alloc, text)?;
-    let mut line = fmtp_text(alloc, &sdp)?;
+    let sdp = read_located(alloc, text)?;
+    let Ok(mut line) = fmtp_text(alloc, &sdp) else {
+        return Err(Fault::Memory);
+    };
     match line.push(b'\n') {
         Ok(()) => Ok(line),
         Err(_) => Err(Fault::Memory),

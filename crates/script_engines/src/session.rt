@@ -8,16 +8,19 @@ ghost use Rattle.path_merge.specs.Numbers.{IsCount};
 ghost use Rattle.st_format.specs.Member.{IsMember};
 ghost use Rattle.st_format.specs.Raster.{Raster};
 ghost use Rattle.run_outcome.specs.Fault.{Accounts};
-ghost use Rattle.run_outcome.specs.LowerFaults.{of_numbers, of_script};
+ghost use Rattle.run_outcome.specs.LowerFaults.{of_line, of_script};
+ghost use Rattle.run_outcome.specs.declared.script_line.Form.TheVariants as form;
+ghost use Rattle.run_outcome.specs.declared.script_line.LineFault.TheVariants as fault;
+ghost use Rattle.run_outcome.specs.declared.script_line.Form.{Form};
 ghost use Rattle.run_outcome.specs.Refusing.{OfRefusal};
 ghost use Rattle.script_engines.specs.Session.{IsSamplePlace, IsSlide, IsTraceRefusal};
 ghost use Rattle.script_engines.specs.Session.{cell_answer, datagram_answer};
 ghost use Rattle.script_engines.specs.Session.{no_numbers, numbers_after, position_of, with_number};
 
-use crate::line::Place;
+use crate::line::SamplePlace;
 use frame_assembly::Frame;
 use path_merge::{Receiver, SeqMap, SeqMapFault, SlideFault, Taken};
-use run_outcome::{Fault, Line, Refusal};
+use run_outcome::{Fault, Form, Line, LineFault};
 use st_format::{Cell, Path};
 use std::alloc::{AllocError, Allocator};
 
@@ -76,9 +79,11 @@ impl<A: Allocator> Session<A> {
         first: u32,
         count: u32,
     ) -> Result<(), Fault>
-        ensures twice { IsErrOf result (of_script line) ↔ (self.old.numbers ≢ None) }
-        ensures line { (number : ℕ) → IsErrOf result (of_script number) → number ≡ line }
-        ensures count { IsErrOf result (of_numbers SeqMapFault.BadCount)
+        ensures twice { IsErrOf result (of_script line form.Numbers)
+            ↔ (self.old.numbers ≢ None) }
+        ensures line { (number : ℕ) (wanted : Form) → IsErrOf result (of_script number wanted)
+            → (number ≡ line) × (wanted ≡ form.Numbers) }
+        ensures count { IsErrOf result (of_line line (fault.Numbers SeqMapFault.BadCount))
             ↔ ((self.old.numbers ≡ None) × (IsCount count → ⊥)) }
         ensures failures { Accounts result [] }
         ensures refusal { IfErr result (λ f. OfRefusal f IsTraceRefusal) }
@@ -86,14 +91,17 @@ impl<A: Allocator> Session<A> {
         ensures receiver { self.new.receiver ≡ self.old.receiver }
     {
         if self.numbers.is_some() {
-            return Err(Fault::Refused(Refusal::Script(line)));
+            return Err(Form::Numbers.refused_at(line));
         }
-        self.numbers = Some(SeqMap::open(alloc, first, count)?);
+        match SeqMap::open(alloc, first, count) {
+            Ok(numbers) => self.numbers = Some(numbers),
+            Err(fault) => return Err(LineFault::Numbers(fault).refused_at(line)),
+        }
         Ok(())
     }
 
     /// What is known of a sample.
-    pub fn cell(&self, place: Place) -> Line
+    pub fn cell(&self, place: SamplePlace) -> Line
         ensures there { IsSamplePlace self.now.receiver place.timestamp (position_of place)
             → result ≡ cell_answer
             (cell_in self.now.receiver place.timestamp (position_of place)) }

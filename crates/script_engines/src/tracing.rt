@@ -4,7 +4,7 @@ ghost use Rattle.std.specs.Prelude.{false, length, Err, IfErr, IfOk, OnOk};
 ghost use Rattle.path_merge.specs.Frames.{Holds};
 ghost use Rattle.script_engines.specs.FirstLines.{ReadsOpening, lines_left};
 ghost use Rattle.run_outcome.specs.Fault.{Accounts, counts};
-ghost use Rattle.run_outcome.specs.LowerFaults.{of_script};
+ghost use Rattle.run_outcome.specs.LowerFaults.{EndsMisformed};
 ghost use Rattle.run_outcome.specs.Refusing.{OfRefusal};
 ghost use Rattle.script_engines.specs.Reading.{Reads};
 ghost use Rattle.script_engines.specs.Forms.{IsTraceLine};
@@ -14,13 +14,11 @@ use crate::first_lines::{next_line, read_format};
 use crate::line::{TraceLine, read_octets, read_open_line, read_trace_line, read_window};
 use crate::script::{Lines, Script, ScriptLine, read_script};
 use crate::session::Session;
+use crate::wanted_form::traced_form;
 use path_merge::{Receiver, SeqMap};
-use run_outcome::{Fault, Line, Refusal, print, print_frames};
+use run_outcome::{Fault, Form, Line, LineFault, print, print_frames, room};
 use st_format::{ByteSink, ByteSource, Format};
 use std::alloc::Allocator;
-
-/// The greatest number of octets of a datagram.
-const DATAGRAM: usize = 65_535;
 
 /// Runs the script that the source gives.
 ///
@@ -58,7 +56,7 @@ fn play<A: Allocator + Copy, O: ByteSink>(
     ensures whole { OnOk result (script.now.is_cut ≡ false) }
     ensures refusal { IfErr result (λ f. OfRefusal f IsTraceRefusal) }
 {
-    let mut lines = Lines::new(&script.octets);
+    let mut lines = Lines::new(&script.octets, script.is_cut);
     let mut session = open_session(alloc, &mut lines)?;
     play_to_end(alloc, script.is_cut, &mut lines, &mut session, output)
 }
@@ -88,7 +86,7 @@ fn play_to_end<A: Allocator + Copy, O: ByteSink>(
 {
     play_lines(alloc, lines, session, output)?;
     if is_cut {
-        return Err(Fault::Refused(Refusal::Script(lines.following())));
+        return Err(Form::End.refused_at(lines.following()));
     }
     print_frames(&session.receiver, output)?;
     print_absent(alloc, &session.numbers, output)
@@ -107,16 +105,16 @@ fn open_receiver<A: Allocator + Copy>(
     ensures failures { Accounts result [] }
     ensures refusal { IfErr result (λ f. OfRefusal f IsTraceRefusal) }
 {
-    let line = next_line(lines)?;
+    let line = next_line(lines, Form::Open)?;
     let Some(said) = read_open_line(line.text) else {
-        return Err(Fault::Refused(Refusal::Script(line.number)));
+        return Err(Form::Open.refused_at(line.number));
     };
     let Some(window) = read_window(alloc, said.window)? else {
-        return Err(Fault::Refused(Refusal::Script(line.number)));
+        return Err(Form::Open.refused_at(line.number));
     };
     match Receiver::open(alloc, format, said.payload_type, said.ssrc, &window) {
         Ok(receiver) => Ok(receiver),
-        Err(fault) => Err(Fault::from(fault)),
+        Err(fault) => Err(LineFault::Open(fault).refused_at(line.number)),
     }
 }
 
@@ -131,7 +129,7 @@ fn play_lines<A: Allocator + Copy, O: ByteSink>(
         ∷ []) }
     ensures refusal { IfErr result (λ f. OfRefusal f IsTraceRefusal) }
 {
-    let mut octets = Vec::from_elem(alloc, 0u8, DATAGRAM)?;
+    let mut octets = room(alloc)?;
     while let Some(line) = lines.next() {
         play_line(alloc, line, session, &mut octets, output)?;
     }
@@ -168,18 +166,18 @@ fn answer_to<A: Allocator + Copy>(
         × IsTraceLine line.entry.text.now said
         × Follows said session.old.receiver session.new.receiver
         session.old.numbers session.new.numbers answer) }
-    ensures script { (number : ℕ) → (result ≡ Err (of_script number))
+    ensures script { (number : ℕ) → EndsMisformed result number
         ↔ ((number ≡ line.entry.number)
         × IsAtFault line.entry.text.now (length octets.old) session.old.numbers) }
     ensures refusal { IfErr result (λ f. OfRefusal f IsTraceRefusal) }
 {
     let Some(said) = read_trace_line(line.text) else {
-        return Err(Fault::Refused(Refusal::Script(line.number)));
+        return Err(traced_form(line.text).refused_at(line.number));
     };
     Ok(match said {
         TraceLine::Datagram(path, digits) => match read_octets(digits, octets) {
             Some(n) => Some(session.take(path, &octets[..n])),
-            None => return Err(Fault::Refused(Refusal::Script(line.number))),
+            None => return Err(Form::Datagram.refused_at(line.number)),
         },
         TraceLine::Slide(next) => Some(session.slide(alloc, next)?),
         TraceLine::Numbers(first, count) => {

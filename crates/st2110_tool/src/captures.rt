@@ -1,7 +1,7 @@
 //! The engines of captures, each with its status.
 ghost use Rattle.std.specs.Prelude.{◌≡◌, ◌≢◌, ◌+◌, ◌≤◌, ◌<◌, ◌⊎◌, ◌∷◌, [], sum_by, Option};
 ghost use Rattle.std.specs.Io.KnownBytes.{Appends, IsAtEnd};
-ghost use Rattle.run_outcome.specs.Fault.{NoneFailed, OneFailed, counts, failures_in};
+ghost use Rattle.run_outcome.specs.Fault.{StatusBlames, counts, failures_in};
 ghost use Rattle.run_outcome.specs.Refusing.{TellsRefusal};
 ghost use Rattle.capture_engines.specs.Sent.{IsSendRefusal};
 ghost use Rattle.capture_engines.specs.Sending.{SendsAll};
@@ -51,14 +51,8 @@ where
     requires payload_type { wanted.payload_type ≤ 127 }
     requires empty { IsAtEnd (K.held sink.old) }
     ensures range { (result ≡ 0) ⊎ (result ≡ 1) ⊎ (result ≡ 3) ⊎ (result ≡ 4) }
-    ensures device { result ≡ 3
-        → OneFailed (counts (failures_in S.failures sdp.old) (failures_in S.failures sdp.new)
-        ∷ counts (sum_by S.failures pictures.old) (sum_by S.failures pictures.new)
-        ∷ counts (K.failures sink.old) (K.failures sink.new)
-        ∷ counts (O.failures output.old) (O.failures output.new)
-        ∷ counts (F.failures faults.old) (F.failures faults.new) ∷ []) }
-    ensures working { result ≢ 3
-        → NoneFailed (counts (failures_in S.failures sdp.old) (failures_in S.failures sdp.new)
+    ensures failures { StatusBlames result (counts (failures_in S.failures sdp.old)
+        (failures_in S.failures sdp.new)
         ∷ counts (sum_by S.failures pictures.old) (sum_by S.failures pictures.new)
         ∷ counts (K.failures sink.old) (K.failures sink.new)
         ∷ counts (O.failures output.old) (O.failures output.new)
@@ -105,14 +99,8 @@ where
     O: ByteSink,
     F: ByteSink,
     ensures range { (result ≡ 0) ⊎ (result ≡ 1) ⊎ (result ≡ 3) ⊎ (result ≡ 4) }
-    ensures device { result ≡ 3
-        → OneFailed (counts (failures_in S.failures sdp.old) (failures_in S.failures sdp.new)
-        ∷ counts (sum_by S.failures captures.old) (sum_by S.failures captures.new)
-        ∷ counts (K.failures state.old) (K.failures state.new)
-        ∷ counts (O.failures output.old) (O.failures output.new)
-        ∷ counts (F.failures faults.old) (F.failures faults.new) ∷ []) }
-    ensures working { result ≢ 3
-        → NoneFailed (counts (failures_in S.failures sdp.old) (failures_in S.failures sdp.new)
+    ensures failures { StatusBlames result (counts (failures_in S.failures sdp.old)
+        (failures_in S.failures sdp.new)
         ∷ counts (sum_by S.failures captures.old) (sum_by S.failures captures.new)
         ∷ counts (K.failures state.old) (K.failures state.new)
         ∷ counts (O.failures output.old) (O.failures output.new)
@@ -160,12 +148,7 @@ where
     O: ByteSink,
     F: ByteSink,
     ensures range { (result ≡ 0) ⊎ (result ≡ 1) ⊎ (result ≡ 3) ⊎ (result ≡ 4) }
-    ensures device { result ≡ 3 → OneFailed (counts (D.failures sdp.old) (D.failures sdp.new)
-        ∷ counts (S.failures source.old) (S.failures source.new)
-        ∷ counts (K.failures sink.old) (K.failures sink.new)
-        ∷ counts (O.failures output.old) (O.failures output.new)
-        ∷ counts (F.failures faults.old) (F.failures faults.new) ∷ []) }
-    ensures working { result ≢ 3 → NoneFailed (counts (D.failures sdp.old) (D.failures sdp.new)
+    ensures failures { StatusBlames result (counts (D.failures sdp.old) (D.failures sdp.new)
         ∷ counts (S.failures source.old) (S.failures source.new)
         ∷ counts (K.failures sink.old) (K.failures sink.new)
         ∷ counts (O.failures output.old) (O.failures output.new)
@@ -219,13 +202,7 @@ where
     O: ByteSink,
     F: ByteSink,
     ensures range { (result ≡ 0) ⊎ (result ≡ 1) ⊎ (result ≡ 3) ⊎ (result ≡ 4) }
-    ensures device { result ≡ 3
-        → OneFailed (counts (S.failures picture.old) (S.failures picture.new)
-        ∷ counts (L.DatagramSink.failures link.old) (L.DatagramSink.failures link.new)
-        ∷ counts (O.failures output.old) (O.failures output.new)
-        ∷ counts (F.failures faults.old) (F.failures faults.new) ∷ []) }
-    ensures working { result ≢ 3
-        → NoneFailed (counts (S.failures picture.old) (S.failures picture.new)
+    ensures failures { StatusBlames result (counts (S.failures picture.old) (S.failures picture.new)
         ∷ counts (L.DatagramSink.failures link.old) (L.DatagramSink.failures link.new)
         ∷ counts (O.failures output.old) (O.failures output.new)
         ∷ counts (F.failures faults.old) (F.failures faults.new) ∷ []) }

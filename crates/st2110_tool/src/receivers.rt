@@ -1,7 +1,7 @@
 //! The engines of receivers' files, each with its status.
-ghost use Rattle.std.specs.Prelude.{◌≡◌, ◌≢◌, ◌⊎◌, ◌∷◌, [], ◌≤◌, ◌-◌, ◌+◌, sum_by, ℕ};
+ghost use Rattle.std.specs.Prelude.{◌≡◌, ◌⊎◌, ◌∷◌, [], ◌≤◌, ◌-◌, ◌+◌, sum_by, ℕ};
 ghost use Rattle.std.specs.Io.KnownBytes.{Appends};
-ghost use Rattle.run_outcome.specs.Fault.{NoneFailed, OneFailed, counts, failures_in};
+ghost use Rattle.run_outcome.specs.Fault.{StatusBlames, counts, failures_in};
 ghost use Rattle.receiver_engines.specs.Merging.{MergesFiles, Saves};
 ghost use Rattle.receiver_engines.specs.MergeRefused.{IsMergeRefusal};
 ghost use Rattle.receiver_engines.specs.States.{IsStateRefusal};
@@ -41,12 +41,7 @@ where
     O: ByteSink,
     F: ByteSink,
     ensures range { (result ≡ 0) ⊎ (result ≡ 1) ⊎ (result ≡ 3) ⊎ (result ≡ 4) }
-    ensures device { result ≡ 3 → OneFailed (counts (L.failures left.old) (L.failures left.new)
-        ∷ counts (R.failures right.old) (R.failures right.new)
-        ∷ counts (K.failures state.old) (K.failures state.new)
-        ∷ counts (O.failures output.old) (O.failures output.new)
-        ∷ counts (F.failures faults.old) (F.failures faults.new) ∷ []) }
-    ensures working { result ≢ 3 → NoneFailed (counts (L.failures left.old) (L.failures left.new)
+    ensures failures { StatusBlames result (counts (L.failures left.old) (L.failures left.new)
         ∷ counts (R.failures right.old) (R.failures right.new)
         ∷ counts (K.failures state.old) (K.failures state.new)
         ∷ counts (O.failures output.old) (O.failures output.new)
@@ -82,10 +77,7 @@ where
     O: ByteSink,
     F: ByteSink,
     ensures range { (result ≡ 0) ⊎ (result ≡ 1) ⊎ (result ≡ 3) ⊎ (result ≡ 4) }
-    ensures device { result ≡ 3 → OneFailed (counts (S.failures state.old) (S.failures state.new)
-        ∷ counts (O.failures output.old) (O.failures output.new)
-        ∷ counts (F.failures faults.old) (F.failures faults.new) ∷ []) }
-    ensures working { result ≢ 3 → NoneFailed (counts (S.failures state.old) (S.failures state.new)
+    ensures failures { StatusBlames result (counts (S.failures state.old) (S.failures state.new)
         ∷ counts (O.failures output.old) (O.failures output.new)
         ∷ counts (F.failures faults.old) (F.failures faults.new) ∷ []) }
     // The file is that of a receiver, and what is written is its report.
@@ -133,14 +125,8 @@ where
     F: ByteSink,
     requires payload_type { wanted.stamp.payload_type ≤ 127 }
     ensures range { (result ≡ 0) ⊎ (result ≡ 1) ⊎ (result ≡ 3) ⊎ (result ≡ 4) }
-    ensures device { result ≡ 3
-        → OneFailed (counts (sum_by S.failures states.old) (sum_by S.failures states.new)
-        ∷ counts (failures_in S.failures hold.old) (failures_in S.failures hold.new)
-        ∷ counts (K.failures sink.old) (K.failures sink.new)
-        ∷ counts (O.failures output.old) (O.failures output.new)
-        ∷ counts (F.failures faults.old) (F.failures faults.new) ∷ []) }
-    ensures working { result ≢ 3
-        → NoneFailed (counts (sum_by S.failures states.old) (sum_by S.failures states.new)
+    ensures failures { StatusBlames result (counts (sum_by S.failures states.old)
+        (sum_by S.failures states.new)
         ∷ counts (failures_in S.failures hold.old) (failures_in S.failures hold.new)
         ∷ counts (K.failures sink.old) (K.failures sink.new)
         ∷ counts (O.failures output.old) (O.failures output.new)

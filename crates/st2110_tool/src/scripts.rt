@@ -1,7 +1,7 @@
 //! The engines of texts, each with its status.
-ghost use Rattle.std.specs.Prelude.{◌≡◌, ◌≢◌, ◌⊎◌, ◌∷◌, []};
+ghost use Rattle.std.specs.Prelude.{◌≡◌, ◌⊎◌, ◌∷◌, []};
 ghost use Rattle.std.specs.Io.KnownBytes.{Appends};
-ghost use Rattle.run_outcome.specs.Fault.{NoneFailed, OneFailed, counts};
+ghost use Rattle.run_outcome.specs.Fault.{StatusBlames, counts};
 ghost use Rattle.run_outcome.specs.Refusing.{TellsRefusal};
 ghost use Rattle.run_outcome.specs.Telling.{memory_line};
 ghost use Rattle.script_engines.specs.Described.{Describes, IsUndescribed};
@@ -29,12 +29,7 @@ where
     O: ByteSink,
     F: ByteSink,
     ensures range { (result ≡ 0) ⊎ (result ≡ 1) ⊎ (result ≡ 3) ⊎ (result ≡ 4) }
-    ensures device { result ≡ 3
-        → OneFailed (counts (S.failures source.old) (S.failures source.new)
-        ∷ counts (O.failures output.old) (O.failures output.new)
-        ∷ counts (F.failures faults.old) (F.failures faults.new) ∷ []) }
-    ensures working { result ≢ 3
-        → NoneFailed (counts (S.failures source.old) (S.failures source.new)
+    ensures failures { StatusBlames result (counts (S.failures source.old) (S.failures source.new)
         ∷ counts (O.failures output.old) (O.failures output.new)
         ∷ counts (F.failures faults.old) (F.failures faults.new) ∷ []) }
     ensures whole { result ≡ 0 → GivesScript (S.to_give source.old) (S.to_give source.new) }
@@ -62,12 +57,7 @@ where
     O: ByteSink,
     F: ByteSink,
     ensures range { (result ≡ 0) ⊎ (result ≡ 1) ⊎ (result ≡ 3) ⊎ (result ≡ 4) }
-    ensures device { result ≡ 3
-        → OneFailed (counts (S.failures source.old) (S.failures source.new)
-        ∷ counts (O.failures output.old) (O.failures output.new)
-        ∷ counts (F.failures faults.old) (F.failures faults.new) ∷ []) }
-    ensures working { result ≢ 3
-        → NoneFailed (counts (S.failures source.old) (S.failures source.new)
+    ensures failures { StatusBlames result (counts (S.failures source.old) (S.failures source.new)
         ∷ counts (O.failures output.old) (O.failures output.new)
         ∷ counts (F.failures faults.old) (F.failures faults.new) ∷ []) }
     ensures whole { result ≡ 0 → GivesScript (S.to_give source.old) (S.to_give source.new) }
@@ -100,12 +90,7 @@ where
     O: ByteSink,
     F: ByteSink,
     ensures range { (result ≡ 0) ⊎ (result ≡ 1) ⊎ (result ≡ 3) ⊎ (result ≡ 4) }
-    ensures device { result ≡ 3
-        → OneFailed (counts (S.failures source.old) (S.failures source.new)
-        ∷ counts (O.failures output.old) (O.failures output.new)
-        ∷ counts (F.failures faults.old) (F.failures faults.new) ∷ []) }
-    ensures working { result ≢ 3
-        → NoneFailed (counts (S.failures source.old) (S.failures source.new)
+    ensures failures { StatusBlames result (counts (S.failures source.old) (S.failures source.new)
         ∷ counts (O.failures output.old) (O.failures output.new)
         ∷ counts (F.failures faults.old) (F.failures faults.new) ∷ []) }
     ensures whole { result ≡ 0 → GivesScript (S.to_give source.old) (S.to_give source.new) }

@@ -5,7 +5,8 @@ use Rattle.capture_engines.proofs.Printed.{none_counted, some_counted}
 use Rattle.capture_engines.proofs.printing.print_counted.Goals as goal
 
 pub returns-then-count-eq0-clause-printed : goal.returns-then-count-eq0-clause-printed
-returns-then-count-eq0-clause-printed g c = none_counted c.args.count c.args.line _ c.if-count-eq0.true
+returns-then-count-eq0-clause-printed g c =
+    none_counted c.args.count c.args.line _ c.if-count-eq0.true
 
 pub returns-clause-printed : goal.returns-clause-printed
 returns-clause-printed g c =

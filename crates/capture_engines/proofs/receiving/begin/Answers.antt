@@ -7,5 +7,5 @@ returns-in-None-clause-begun g c =
 
 pub returns-in-Ok-clause-begun : goal.returns-in-Ok-clause-begun
 returns-in-Ok-clause-begun g c =
-    some_begins c.args.opening.now g.S.ByteSource.to_give c.args.sdp.now _ c.in-Ok.session
+    some_begins c.args.opening.now g.S.ByteSource.to_give c.args.sdp.now _ c.in-Ok.intake
     c.in-Some.is c.in-Ok.ensures.opened

@@ -18,21 +18,21 @@ returns-in-Some-clause-refusal g c =
     (g.S.ByteSource.to_give c.args.reader.now.source) c.args.text.now))
     c.take_capture.ensures.refusal
 
-pub returns-in_err-session-clause-refusal : goal.returns-in_err-session-clause-refusal
-returns-in_err-session-clause-refusal g c =
+pub returns-in_err-intake-clause-refusal : goal.returns-in_err-intake-clause-refusal
+returns-in_err-intake-clause-refusal g c =
     let p = err_from_is_err_and c.from_residual.result c.from_residual.ensures.1 in
-    rw (p.1, p.2) (of_refusal_map c.in_err-session.field-0.0
+    rw (p.1, p.2) (of_refusal_map c.in_err-intake.field-0.0
     (text_refused c.args.opening.now.window.items c.args.begun.now
     (g.S.ByteSource.to_give c.args.reader.now.source) c.args.text.now
     (none_begun c.args.begun.now c.in_default.not-Some))
-    c.in_err-session.ensures.refusal)
+    c.in_err-intake.ensures.refusal)
 
 pub returns-clause-taken : goal.returns-clause-taken
 returns-clause-taken g c =
     first_taken_if c.args.opening.now c.args.begun.now _ _
     (g.S.ByteSource.to_give c.args.reader.now.source) c.args.text.now
     c.take_capture-taken.result (none_begun c.args.begun.now c.in_default.not-Some)
-    c.in_ok-session.ensures.opened c.take_capture-taken.ensures.taken
+    c.in_ok-intake.ensures.opened c.take_capture-taken.ensures.taken
 
 pub returns-clause-refusal : goal.returns-clause-refusal
 returns-clause-refusal g c =

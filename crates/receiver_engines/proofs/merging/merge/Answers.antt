@@ -2,7 +2,8 @@ use Rattle.std.specs.Io.KnownBytes.{Appends}
 use Rattle.media_file.specs.StateFile.{state_text}
 use Rattle.receiver_engines.specs.Merging.{MergesFiles}
 use Rattle.receiver_file.specs.Saved.{kept_of}
-use Rattle.receiver_engines.proofs.Merged.{merges, on_ok}
+use Rattle.run_outcome.proofs.Printed.{on_ok}
+use Rattle.receiver_engines.proofs.Merged.{merges}
 use Rattle.receiver_engines.proofs.merging.merge.Goals as goal
 
 pub returns-clause-merged : goal.returns-clause-merged

@@ -1,5 +1,5 @@
 use Rattle.std.proofs.Common.{◌≡◌, ℕ, rules, subst}
-use Rattle.receiver_engines.proofs.Merged.{on_ok}
+use Rattle.run_outcome.proofs.Printed.{on_ok}
 use Rattle.receiver_engines.specs.Processing.{PrintsSent, SendsFiles}
 use Rattle.receiver_engines.proofs.processing.process.Goals as goal
 

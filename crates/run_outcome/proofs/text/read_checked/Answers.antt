@@ -10,20 +10,21 @@ use Rattle.run_outcome.specs.Text.{GivesText}
 use Rattle.run_outcome.proofs.Refusals.{of_source, text_fault_refused}
 use Rattle.run_outcome.proofs.text.read_checked.Goals as goal
 
-pub returns-in_err-read_sdp-clause-refusal : goal.returns-in_err-read_sdp-clause-refusal
-returns-in_err-read_sdp-clause-refusal g c =
+pub returns-in_err-read_located-clause-refusal : goal.returns-in_err-read_located-clause-refusal
+returns-in_err-read_located-clause-refusal g c =
     let said = c.in-Some.said.items in
     let old = g.S.ByteSource.to_give c.args.source.now in
     let new = g.S.ByteSource.to_give c.read_text.new.source in
     let gives : GivesText 65535 old new said = search rules in
-    let fault = c.in_err-read_sdp.field-0.0 in
-    let faulty : (fault ≡ NoMemory) ⊎ IsTextFault (video_sections (lines said)) fault =
-    subst (λ (l : List ℕ). (fault ≡ NoMemory) ⊎ IsTextFault (video_sections (lines l)) fault)
-    c.deref.ensures.value c.in_err-read_sdp.ensures.fault in
+    let place = c.in_err-read_located.field-0.0 in
+    let faulty : (place.fault ≡ NoMemory) ⊎ IsTextFault (video_sections (lines said)) place.fault =
+    subst (λ (l : List ℕ). (place.fault ≡ NoMemory) ⊎ IsTextFault
+    (video_sections (lines l)) place.fault)
+    c.deref.ensures.value c.in_err-read_located.ensures.fault in
     let p =
-    err_from_is_err_and c.from_residual-in_err-read_sdp.result
-    c.from_residual-in_err-read_sdp.ensures.1 in
-    rw (p.1, p.2) (text_fault_refused c.args.too_long old new said gives fault faulty)
+    err_from_is_err_and c.from_residual-in_err-read_located.result
+    c.from_residual-in_err-read_located.ensures.1 in
+    rw (p.1, p.2) (text_fault_refused c.args.too_long old new said gives place faulty)
 
 pub returns-clause-says : goal.returns-clause-says
 returns-clause-says g c =
@@ -31,11 +32,11 @@ returns-clause-says g c =
     let old = g.S.ByteSource.to_give c.args.source.now in
     let new = g.S.ByteSource.to_give c.read_text.new.source in
     let gives : GivesText 65535 old new said = search rules in
-    let sdp = description c.in_ok-read_sdp.field-0 in
+    let sdp = description c.in_ok-read_located.field-0 in
     of_source IsCaptureText old new said gives (record {
       few = gives.few;
       description = sdp;
       described =
           subst (λ (l : List ℕ). IsDescribed (video_sections (lines l)) sdp)
-          c.deref.ensures.value c.in_ok-read_sdp.ensures.said;
+          c.deref.ensures.value c.in_ok-read_located.ensures.said;
     })

@@ -1,5 +1,5 @@
-use Rattle.std.proofs.Common.{inl, inr, refl}
-use Rattle.run_outcome.specs.LowerFaults.{of_script}
+use Rattle.std.proofs.Common.{inl, inr}
+use Rattle.run_outcome.specs.declared.script_line.Form.TheVariants.{Format}
 use Rattle.script_engines.specs.FirstLines.{SaysFormatLine, end_of, lines_left}
 use Rattle.script_engines.proofs.FaultLemmas.{nothing_read}
 use Rattle.script_engines.proofs.RehearsalReading.{faulty_line}
@@ -11,14 +11,14 @@ returns-in_default-clause-fault c =
     c.read_format_line.ensures.none in
     inl (faulty_line SaysFormatLine (lines_left c.args.lines.now) (lines_left c.next_line.new.lines)
     c.in_ok-line.line.number c.in_ok-line.line.text.now (end_of c.args.lines.now)
-    (of_script c.in_ok-line.line.number) c.in_ok-line.ensures.next (λ said. none said.0 said.1) refl)
+    c.refused_at.result c.in_ok-line.ensures.next (λ said. none said.0 said.1)
+    (Format, c.refused_at.ensures))
 
 pub returns-in-Err-clause-fault : goal.returns-in-Err-clause-fault
 returns-in-Err-clause-fault c =
     inr (
       c.in-Err.fault,
       lines_left c.next_line.new.lines,
-      refl,
       record {
         number = c.in_ok-line.line.number;
         text = c.in_ok-line.line.text.now;
@@ -27,4 +27,5 @@ returns-in-Err-clause-fault c =
         line_is = c.in-Some.ensures.is;
         made_is = c.in-Err.ensures.exact;
       },
+      c.refused_at-in-Err.ensures,
     )

@@ -1,8 +1,9 @@
-use Rattle.std.proofs.Common.{◌≡◌, List, ℕ, Ok, length, inr, refl}
+use Rattle.std.proofs.Common.{◌≡◌, List, ℕ, Ok, length, inr}
 use Rattle.hex.specs.Hex.{decode_of}
 use Rattle.pgroup_pack.specs.Packing.{Agree}
 use Rattle.st_format.specs.Picture.{IsPicture, Values}
 use Rattle.st_format.specs.Position.{sample_count}
+use Rattle.run_outcome.specs.declared.script_line.Form.TheVariants.{Picture}
 use Rattle.script_engines.specs.RehearsalForms.{IsPictureText}
 use Rattle.script_engines.proofs.RehearsalReading.{no_picture}
 use Rattle.script_engines.proofs.RehearsedLemmas.{on_ok_map}
@@ -27,4 +28,8 @@ returns-in-None-clause-fault g c =
     (sample_count c.args.rehearsal.now.head.format)
     → decode_of c.args.digits.now ≡ Ok octets → ⊥ =
     rw c.in-None.is at c.in_ok-picture.ensures.none in
-    inr (refl, no_picture c.args.rehearsal.now.head.format c.args.digits.now none)
+    inr (
+      (Picture, c.refused_at.ensures),
+      no_picture c.args.rehearsal.now.head.format
+          c.args.digits.now none,
+    )

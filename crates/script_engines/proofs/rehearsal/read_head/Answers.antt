@@ -1,10 +1,17 @@
 use Rattle.std.proofs.Common.{ℕ, inl, inr, subst, sym, ◌∙◌}
 use Rattle.std.proofs.lemmas.Result.{err_from_is_err_and}
 use Rattle.run_outcome.specs.declared.fault.Fault.{Fault}
-use Rattle.script_engines.specs.FirstLines.{IsFaultyNext, end_of, lines_left}
+use Rattle.script_engines.specs.FirstLines.{IsFaultyFormat, IsFaultyNext, end_of, lines_left}
 use Rattle.script_engines.specs.Rehearsal.{SaysCount, SaysMax, SaysWindow}
 use Rattle.script_engines.proofs.RehearsalReading.{head_at_count, head_at_max, head_at_window}
 use Rattle.script_engines.proofs.rehearsal.read_head.Goals as goal
+
+pub returns-in_err-read_format-clause-fault : goal.returns-in_err-read_format-clause-fault
+returns-in_err-read_format-clause-fault g c =
+    let p = err_from_is_err_and c.from_residual.result c.from_residual.ensures.1 in
+    rw (p.1) (inr (inl
+    (subst (λ (f : Fault). IsFaultyFormat (lines_left c.args.lines.now) (end_of c.args.lines.now) f)
+    (sym p.2) c.in_err-read_format.ensures.fault)))
 
 pub returns-in_err-read_max-clause-fault : goal.returns-in_err-read_max-clause-fault
 returns-in_err-read_max-clause-fault g c =
@@ -18,7 +25,8 @@ returns-in_err-read_max-clause-fault g c =
     c.in_ok-read_format.ensures.format c.in_ok-read_stamp.ensures.says bad
     (c.read_stamp.ensures.end ∙ c.read_format.ensures.end)))
 
-pub returns-in_err-read_receiver_count-clause-fault : goal.returns-in_err-read_receiver_count-clause-fault
+pub returns-in_err-read_receiver_count-clause-fault :
+    goal.returns-in_err-read_receiver_count-clause-fault
 returns-in_err-read_receiver_count-clause-fault g c =
     let p = err_from_is_err_and c.from_residual-in_err-read_receiver_count.result
     c.from_residual-in_err-read_receiver_count.ensures.1 in

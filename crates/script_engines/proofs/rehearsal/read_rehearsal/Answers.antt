@@ -37,11 +37,11 @@ returns-then-script-clause-fault g c =
     let start = from_start c.new-lines.result.passed c.new-lines.result.rest.now octets
     c.new-lines.ensures.passed (c.new-lines.ensures.rest ∙ c.deref.ensures.value) in
     fault_at_end (numbered_lines 0 octets) c.args.script.now.is_cut c.following.result
-    (line_behind 0 octets) (said_by c.in_ok-rehearsal.rehearsal)
+    (line_behind 0 octets) c.refused_at.result (said_by c.in_ok-rehearsal.rehearsal)
     (says_all (lines_left c.new-lines.result) (numbered_lines 0 octets)
     (lines_left c.read_head.new.lines) c.in_ok-head.head c.in_ok-rehearsal.rehearsal start.0
     c.in_ok-rehearsal.ensures.head c.in_ok-head.ensures.says c.in_ok-rehearsal.ensures.says)
-    c.if-script.true
+    c.if-script.true c.refused_at.ensures
     (c.following.ensures ∙ c.in_ok-rehearsal.ensures.end ∙ c.in_ok-head.ensures.end ∙ start.1)
 
 pub returns-clause-says : goal.returns-clause-says

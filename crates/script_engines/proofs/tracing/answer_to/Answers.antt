@@ -1,6 +1,7 @@
 use Rattle.std.proofs.Common.{◌≡◌, Option, Some, Result, Ok, inl, inr, length, refl, subst}
 use Rattle.std.proofs.lemmas.Result.{err_from_is_err_and}
 use Rattle.run_outcome.specs.declared.line.Line.{Line}
+use Rattle.run_outcome.specs.declared.script_line.Form.TheVariants as form
 use Rattle.script_engines.specs.declared.line.TraceLine.{TraceLine}
 use Rattle.script_engines.specs.declared.line.TraceLine.TheVariants.{Cell, Datagram, Numbers, Slide}
 use Rattle.script_engines.specs.Forms.{IsTraceLine}
@@ -43,14 +44,15 @@ pub returns-in_default-clause-script : goal.returns-in_default-clause-script
 returns-in_default-clause-script g c =
     told
     {P = IsAtFault c.args.line.text.now (length c.args.octets.now) c.args.session.now.numbers}
-    c.args.line.number (inl (nothing_read c.read_trace_line.result c.in_default.not-Some
+    c.args.line.number c.traced_form.result c.refused_at.result c.refused_at.ensures
+    (inl (nothing_read c.read_trace_line.result c.in_default.not-Some
     c.read_trace_line.ensures.none))
 
 pub returns-in-None-clause-script : goal.returns-in-None-clause-script
 returns-in-None-clause-script g c =
     told
     {P = IsAtFault c.args.line.text.now (length c.args.octets.now) c.args.session.now.numbers}
-    c.args.line.number (inr (
+    c.args.line.number form.Datagram c.refused_at-in-None.result c.refused_at-in-None.ensures (inr (
       Datagram c.in-Datagram.path c.in-Datagram.digits,
       subst (λ (said : TraceLine). IsTraceLine c.args.line.text.now said) c.in-Datagram.is
           c.in-Some.ensures.is,
@@ -86,7 +88,8 @@ returns-in-Ok-clause-script g c =
 pub returns-in-Err-clause-script : goal.returns-in-Err-clause-script
 returns-in-Err-clause-script g c =
     told_by c.args.line.text.now c.args.line.number (length c.args.octets.now)
-    c.args.session.now.numbers (Numbers c.in-Numbers.first c.in-Numbers.count) c.in-Err.fault
+    c.args.session.now.numbers (Numbers c.in-Numbers.first c.in-Numbers.count) form.Numbers
+    c.in-Err.fault
     (subst (λ (said : TraceLine). IsTraceLine c.args.line.text.now said) c.in-Numbers.is
     c.in-Some.ensures.is)
     c.in-Err.ensures.twice c.in-Err.ensures.line

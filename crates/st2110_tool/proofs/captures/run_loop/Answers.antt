@@ -1,12 +1,12 @@
 use Rattle.std.proofs.Common.{List, [], ◌∷◌}
 use Rattle.capture_engines.specs.Looped.{IsLoopRefusal}
 use Rattle.run_outcome.specs.Fault.{Failures, counts}
-use Rattle.run_outcome.proofs.Ended.{none_failed, on_done, one_failed}
+use Rattle.run_outcome.proofs.Ended.{blamed, on_done}
 use Rattle.run_outcome.proofs.Refusals.{outcome_told}
 use Rattle.st2110_tool.proofs.captures.run_loop.Goals as goal
 
-pub returns-clause-device : goal.returns-clause-device
-returns-clause-device g c =
+pub returns-clause-failures : goal.returns-clause-failures
+returns-clause-failures g c =
     let run = c.loop_back-outcome in
     let devices : List Failures =
     counts (g.S.ByteSource.failures c.args.picture.now) (g.S.ByteSource.failures run.new.source)
@@ -15,20 +15,8 @@ returns-clause-device g c =
     ∷ [] in
     let last : Failures =
     counts (g.F.ByteSink.failures c.args.faults.now) (g.F.ByteSink.failures c.end.new.faults) in
-    λ is. one_failed run.result devices last run.ensures.failures (c.end.ensures.failed is)
-
-pub returns-clause-working : goal.returns-clause-working
-returns-clause-working g c =
-    let run = c.loop_back-outcome in
-    let devices : List Failures =
-    counts (g.S.ByteSource.failures c.args.picture.now) (g.S.ByteSource.failures run.new.source)
-    ∷ counts (g.L.DatagramSink.failures c.args.link.now) (g.L.DatagramSink.failures run.new.link)
-    ∷ counts (g.O.ByteSink.failures c.args.output.now) (g.O.ByteSink.failures run.new.output)
-    ∷ [] in
-    let last : Failures =
-    counts (g.F.ByteSink.failures c.args.faults.now) (g.F.ByteSink.failures c.end.new.faults) in
-    λ is. none_failed run.result devices last run.ensures.failures
-    (c.end.ensures.worked is) (c.end.ensures.working is)
+    blamed run.result devices last c.end.result run.ensures.failures c.end.ensures.failed
+    c.end.ensures.worked c.end.ensures.working
 
 pub returns-clause-looped : goal.returns-clause-looped
 returns-clause-looped g c =

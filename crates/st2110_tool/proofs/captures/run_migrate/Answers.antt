@@ -4,13 +4,13 @@ use Rattle.media_file.specs.Migrated.{Devices, devices}
 use Rattle.capture_engines.specs.Migrating.{LeavesAt}
 use Rattle.capture_engines.specs.MigrateRefused.{IsMigrateRefusal}
 use Rattle.run_outcome.specs.declared.refusal.Refusal.{Refusal}
-use Rattle.run_outcome.proofs.Ended.{none_failed, on_done, one_failed}
+use Rattle.run_outcome.proofs.Ended.{blamed, on_done}
 use Rattle.capture_engines.proofs.Leaving.{refused_left, run_left}
 use Rattle.run_outcome.proofs.Refusals.{outcome_told}
 use Rattle.st2110_tool.proofs.captures.run_migrate.Goals as goal
 
-pub returns-clause-device : goal.returns-clause-device
-returns-clause-device g c =
+pub returns-clause-failures : goal.returns-clause-failures
+returns-clause-failures g c =
     let run = c.migrate-outcome in
     let devices : List Failures =
     counts (g.D.ByteSource.failures c.args.sdp.now) (g.D.ByteSource.failures run.new.sdp)
@@ -20,21 +20,8 @@ returns-clause-device g c =
     ∷ [] in
     let last : Failures =
     counts (g.F.ByteSink.failures c.args.faults.now) (g.F.ByteSink.failures c.end.new.faults) in
-    λ is. one_failed run.result devices last run.ensures.failures (c.end.ensures.failed is)
-
-pub returns-clause-working : goal.returns-clause-working
-returns-clause-working g c =
-    let run = c.migrate-outcome in
-    let devices : List Failures =
-    counts (g.D.ByteSource.failures c.args.sdp.now) (g.D.ByteSource.failures run.new.sdp)
-    ∷ counts (g.S.ByteSource.failures c.args.source.now) (g.S.ByteSource.failures run.new.source)
-    ∷ counts (g.K.ByteSink.failures c.args.sink.now) (g.K.ByteSink.failures run.new.sink)
-    ∷ counts (g.O.ByteSink.failures c.args.output.now) (g.O.ByteSink.failures run.new.output)
-    ∷ [] in
-    let last : Failures =
-    counts (g.F.ByteSink.failures c.args.faults.now) (g.F.ByteSink.failures c.end.new.faults) in
-    λ is. none_failed run.result devices last run.ensures.failures
-    (c.end.ensures.worked is) (c.end.ensures.working is)
+    blamed run.result devices last c.end.result run.ensures.failures c.end.ensures.failed
+    c.end.ensures.worked c.end.ensures.working
 
 pub returns-clause-migrated : goal.returns-clause-migrated
 returns-clause-migrated g c =

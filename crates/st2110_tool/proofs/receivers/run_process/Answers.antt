@@ -2,12 +2,12 @@ use Rattle.std.proofs.Common.{List, [], ◌∷◌}
 use Rattle.std.specs.List.{sum_by}
 use Rattle.receiver_engines.specs.Refused.{IsRunRefusal}
 use Rattle.run_outcome.specs.Fault.{Failures, counts, failures_in}
-use Rattle.run_outcome.proofs.Ended.{none_failed, on_done, on_refused, one_failed}
+use Rattle.run_outcome.proofs.Ended.{blamed, on_done, on_refused}
 use Rattle.run_outcome.proofs.Refusals.{outcome_told}
 use Rattle.st2110_tool.proofs.receivers.run_process.Goals as goal
 
-pub returns-clause-device : goal.returns-clause-device
-returns-clause-device g c =
+pub returns-clause-failures : goal.returns-clause-failures
+returns-clause-failures g c =
     let run = c.process-outcome in
     let devices : List Failures =
     counts (sum_by g.S.ByteSource.failures c.args.states.now)
@@ -19,23 +19,8 @@ returns-clause-device g c =
     ∷ [] in
     let last : Failures =
     counts (g.F.ByteSink.failures c.args.faults.now) (g.F.ByteSink.failures c.end.new.faults) in
-    λ is. one_failed run.result devices last run.ensures.failures (c.end.ensures.failed is)
-
-pub returns-clause-working : goal.returns-clause-working
-returns-clause-working g c =
-    let run = c.process-outcome in
-    let devices : List Failures =
-    counts (sum_by g.S.ByteSource.failures c.args.states.now)
-    (sum_by g.S.ByteSource.failures run.new.states)
-    ∷ counts (failures_in g.S.ByteSource.failures c.args.hold.now)
-    (failures_in g.S.ByteSource.failures run.new.hold)
-    ∷ counts (g.K.ByteSink.failures c.args.sink.now) (g.K.ByteSink.failures run.new.sink)
-    ∷ counts (g.O.ByteSink.failures c.args.output.now) (g.O.ByteSink.failures run.new.output)
-    ∷ [] in
-    let last : Failures =
-    counts (g.F.ByteSink.failures c.args.faults.now) (g.F.ByteSink.failures c.end.new.faults) in
-    λ is. none_failed run.result devices last run.ensures.failures
-    (c.end.ensures.worked is) (c.end.ensures.working is)
+    blamed run.result devices last c.end.result run.ensures.failures c.end.ensures.failed
+    c.end.ensures.worked c.end.ensures.working
 
 pub returns-clause-sent : goal.returns-clause-sent
 returns-clause-sent g c =

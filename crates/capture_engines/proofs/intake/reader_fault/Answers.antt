@@ -1,5 +1,5 @@
 use Rattle.capture_engines.proofs.CaptureRuns.{has_number, no_fault}
-use Rattle.capture_engines.proofs.session.reader_fault.Goals as goal
+use Rattle.capture_engines.proofs.intake.reader_fault.Goals as goal
 
 pub returns-in-None : goal.returns-in-None
 returns-in-None c = λ f.

@@ -2,7 +2,7 @@ use Rattle.std.proofs.Common.{ap}
 use Rattle.sdp_format.specs.Views.{description}
 use Rattle.st_format.specs.Fields.{fields_of}
 use Rattle.path_merge.specs.Opening.{Opening}
-use Rattle.capture_engines.proofs.session.Session.open.Goals as goal
+use Rattle.capture_engines.proofs.intake.Intake.open.Goals as goal
 
 pub returns-clause-announced : goal.returns-clause-announced
 returns-clause-announced g c = record {

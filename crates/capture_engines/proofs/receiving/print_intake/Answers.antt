@@ -6,11 +6,11 @@ use Rattle.run_outcome.specs.Frames.{frame_lines}
 use Rattle.capture_engines.specs.Printed.{if_wanted, received_text, tally_text}
 use Rattle.run_outcome.specs.declared.line.Line.TheVariants.{Delivered}
 use Rattle.run_outcome.proofs.Printed.{on_ok}
-use Rattle.capture_engines.proofs.receiving.print_session.Goals as goal
+use Rattle.capture_engines.proofs.receiving.print_intake.Goals as goal
 
 pub returns-clause-printed : goal.returns-clause-printed
 returns-clause-printed g c =
-    let s = c.args.session.now in
+    let s = c.args.intake.now in
     let first : List ℕ = line_text (Delivered s.delivered) ++ 10 ∷ [] in
     let counts : List ℕ = if_wanted c.args.tells_refusals (tally_text s.tally) in
     let frames : List ℕ = frame_lines s.receiver in

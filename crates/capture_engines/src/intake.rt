@@ -19,7 +19,7 @@ use crate::tally::Tally;
 use media_file::{CaptureReader, FileFault};
 use path_merge::{ReceiveFault, Received, Receiver, receive_each};
 use run_outcome::{Fault, of_capture};
-use sdp_format::read_sdp;
+use sdp_format::read_located;
 use st_format::{ByteSource, SourceFault};
 use std::alloc::Allocator;
 
@@ -28,21 +28,16 @@ const TURNS: u64 = 16_777_216;
 
 /// A receiver, and what it was given.
 #[derive(Drop)]
-pub(crate) struct Session<A: Allocator> {
+pub(crate) struct Intake<A: Allocator> {
     pub receiver: Receiver<A>,
     pub tally: Tally,
     /// How many datagrams were delivered.
     pub delivered: u64,
 }
 
-impl<A: Allocator + Copy> Session<A> {
+impl<A: Allocator + Copy> Intake<A> {
     /// A receiver of what an SDP text says, for a source and a window.
-    pub fn open(
-        alloc: A,
-        sdp: &[u8],
-        ssrc: Option<u32>,
-        window: &[u32],
-    ) -> Result<Session<A>, Fault>
+    pub fn open(alloc: A, sdp: &[u8], ssrc: Option<u32>, window: &[u32]) -> Result<Intake<A>, Fault>
         ensures window { IfOk result (λ s. s.receiver.opening.window ≡ window.now) }
         ensures ssrc { IfOk result (λ s. s.receiver.opening.ssrc ≡ ssrc) }
         // Its format and its payload type are those that the text says.
@@ -54,9 +49,9 @@ impl<A: Allocator + Copy> Session<A> {
             (IsOpeningRefusal window.now sdp.now)) }
         ensures failures { Accounts result [] }
     {
-        let said = read_sdp(alloc, sdp)?;
+        let said = read_located(alloc, sdp)?;
         let receiver = Receiver::open(alloc, said.format, said.payload_type, ssrc, window)?;
-        Ok(Session {
+        Ok(Intake {
             receiver,
             tally: Tally::new(),
             delivered: 0,
@@ -64,7 +59,7 @@ impl<A: Allocator + Copy> Session<A> {
     }
 }
 
-impl<A: Allocator> Session<A> {
+impl<A: Allocator> Intake<A> {
     /// Takes all datagrams of a capture whose reader has just been opened.
     ///
     /// A capture that has not ended after 16,777,216 turns is refused, and so is one that is at

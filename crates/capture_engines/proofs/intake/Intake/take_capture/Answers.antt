@@ -3,7 +3,7 @@ use Rattle.media_file.specs.Reader.{turns_of}
 use Rattle.media_file.specs.declared.reader.Standing.TheVariants.{Reads}
 use Rattle.capture_engines.proofs.CaptureRuns.{came_accounted, came_refused, came_taken}
 use Rattle.capture_engines.proofs.CaptureRuns.{delivered_held, reader_came}
-use Rattle.capture_engines.proofs.session.Session.take_capture.Goals as goal
+use Rattle.capture_engines.proofs.intake.Intake.take_capture.Goals as goal
 
 pub returns : goal.returns
 returns g c =

@@ -1,0 +1,60 @@
+//! What was wanted where words or files are refused.
+use crate::refusal::Refusal;
+use media_file::FileFault;
+
+impl Refusal {
+    /// What was wanted where this refusal comes, in words for a person.
+    pub fn wanted(self) -> &'static str {
+        match self {
+            Refusal::Script(_, fault) => fault.wanted(),
+            Refusal::MigrateSdp | Refusal::SendSdp => "at most 65535 octets",
+            Refusal::ReceiveWindow => "timestamps with commas between",
+            Refusal::ReceiveSource => "a number or any",
+            Refusal::ReceiveSdp => "at most 16777216 octets",
+            Refusal::ReceiveNoSdp => "an SDP in the capture, or --sdp",
+            Refusal::SendFormats => "a picture of the first one's format",
+            Refusal::SendPictures => "at most 10000 pictures",
+            Refusal::MergeUnlike => "a receiver that was opened as the left one",
+            Refusal::ProcessJob => {
+                "limit:nominal, limit:video, gain:G, ycc444, ycc422, wipe:columns:P:S, \
+                 wipe:rows:P:S or key"
+            }
+            Refusal::ProcessFrame => "a timestamp of each receiver's window",
+            Refusal::ProcessFill => {
+                "three numbers with commas between, none above the greatest value of a frame"
+            }
+            Refusal::ProcessHold => "a picture of the first frame's format",
+            Refusal::Sdp(at) => at.fault.wanted(),
+            Refusal::Open(fault) => fault.wanted(),
+            Refusal::Plan(fault) => fault.wanted(),
+            Refusal::Job(fault) => fault.wanted(),
+            Refusal::Capture(fault) => of_capture(fault),
+            Refusal::Picture(fault) => of_kind(fault, "a picture, which begins S20PIC"),
+            Refusal::State(fault) => of_kind(fault, "a receiver, which begins S20RCV"),
+        }
+    }
+}
+
+/// What was wanted of a capture.
+fn of_capture(fault: FileFault) -> &'static str {
+    match fault {
+        FileFault::BadVersion => "version 01, or for receive 01 or 02",
+        FileFault::BadField => "a path of 0 or 1",
+        _ => of_kind(fault, "a capture, which begins S20CAP"),
+    }
+}
+
+/// What was wanted of a file of a kind, which this text names.
+fn of_kind(fault: FileFault, kind: &'static str) -> &'static str {
+    match fault {
+        FileFault::NoMemory => "more memory than there is",
+        FileFault::Device => "a device that works",
+        FileFault::BadName => kind,
+        FileFault::BadVersion => "version 01",
+        FileFault::Truncated => "more octets: the file ends before it is whole",
+        FileFault::BadField => "a field with a value that there is",
+        FileFault::TrailingBytes => "the end",
+        FileFault::MixedGroup => "a mask of some of the pgroup's samples, each of them 0",
+        FileFault::TooManyRecords => "the end, after at most 16777216 records",
+    }
+}
