@@ -134,6 +134,22 @@ status=$?
 adds 'sdp: no video' 1 '' 'sdp 2 NoVideo' \
     "standard input, octet $(($(wc -c <in))); wanted a line that begins m=video and a space"
 
+# An SDP in a file, and one in a capture.
+turn "$camera" depth=10 depth=9
+printf '%b' "$turned" >depth.sdp
+{
+    octets 5332304341503032 "$(printf '%04X' "$(wc -c <depth.sdp)")"
+    cat depth.sdp
+} >depth.cap
+run -v send --out v.cap --sdp depth.sdp p.pic
+adds 'an SDP in a file' 1 '' 'sdp 12 UnsupportedDepth' 'depth.sdp, line 9; wanted depth=8, 10, 12 or 16'
+run -v migrate --sdp depth.sdp --out v.cap old.cap
+adds 'an SDP in a file, migrated' 1 '' 'sdp 12 UnsupportedDepth' \
+    'depth.sdp, line 9; wanted depth=8, 10, 12 or 16'
+run -v receive --state v.rcv --window 900 depth.cap
+adds 'an SDP in a capture' 1 '' 'sdp 12 UnsupportedDepth' \
+    'depth.cap, line 9 of its SDP; wanted depth=8, 10, 12 or 16'
+
 # Files: COMMAND|STATUS|FAULT|PLACE. What is said of a file is how many of its octets were read.
 octets "5332305043503031" >x.pic
 head -c 37 p.pic >cut.pic

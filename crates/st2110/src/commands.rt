@@ -13,13 +13,13 @@ struct Said {
 /// An option of a command, or its files.
 struct Word {
     name: &'static str,
-    form: Form,
+    usage: Usage,
     help: &'static str,
 }
 
 /// How a word is given. The first text is what help calls its value.
 #[derive(Clone, Copy)]
-enum Form {
+enum Usage {
     /// An option without a value.
     Flag,
     /// An option with a value.
@@ -114,12 +114,12 @@ const COMMANDS: &[Said] = &[
 const SENT: &[Word] = &[
     Word {
         name: "out",
-        form: Form::Required("FILE"),
+        usage: Usage::Required("FILE"),
         help: "Where the capture is written",
     },
     Word {
         name: "sdp",
-        form: Form::Optional("FILE"),
+        usage: Usage::Optional("FILE"),
         help: "SDP text that the capture has; without it, its text is empty",
     },
 ];
@@ -128,12 +128,12 @@ const SENT: &[Word] = &[
 const SENT_PICTURES: &[Word] = &[
     Word {
         name: "paths",
-        form: Form::Default("PATHS", PATHS, "a"),
+        usage: Usage::Default("PATHS", PATHS, "a"),
         help: "The paths by which each packet goes",
     },
     Word {
         name: "pictures",
-        form: Form::Files("PICTURE"),
+        usage: Usage::Files("PICTURE"),
         help: "Pictures, sent one after the other: the k-th is the k-th frame",
     },
 ];
@@ -141,7 +141,7 @@ const SENT_PICTURES: &[Word] = &[
 /// How long packets are.
 const MAX: &[Word] = &[Word {
     name: "max",
-    form: Form::Default("OCTETS", U32, "1400"),
+    usage: Usage::Default("OCTETS", U32, "1400"),
     help: "The most octets of a packet, up to 9000",
 }];
 
@@ -149,22 +149,22 @@ const MAX: &[Word] = &[Word {
 const STAMP: &[Word] = &[
     Word {
         name: "pt",
-        form: Form::Default("N", U7, "96"),
+        usage: Usage::Default("N", U7, "96"),
         help: "The payload type, up to 127",
     },
     Word {
         name: "first",
-        form: Form::Default("N", U32, "0"),
+        usage: Usage::Default("N", U32, "0"),
         help: "The number of the first packet; numbers run on",
     },
     Word {
         name: "base",
-        form: Form::Default("TS", U32, "0"),
+        usage: Usage::Default("TS", U32, "0"),
         help: "The timestamp of the first picture, in ticks of 90 kHz",
     },
     Word {
         name: "ssrc",
-        form: Form::Default("N", U32, "1"),
+        usage: Usage::Default("N", U32, "1"),
         help: "The synchronization source",
     },
 ];
@@ -173,34 +173,34 @@ const STAMP: &[Word] = &[
 const RECEIVED: &[Word] = &[
     Word {
         name: "sdp",
-        form: Form::Optional("FILE"),
+        usage: Usage::Optional("FILE"),
         help: "SDP text that says format and payload type; without it, the text of the first \
             capture",
     },
     Word {
         name: "window",
-        form: Form::Required("TS[,TS..]"),
+        usage: Usage::Required("TS[,TS..]"),
         help: "Timestamps of the frames to receive, 1 to 16, with commas between",
     },
     Word {
         name: "ssrc",
-        form: Form::Default("N", ValueParser::String, "any"),
+        usage: Usage::Default("N", ValueParser::String, "any"),
         help: "The one source to take datagrams of: a number, or any",
     },
     Word {
         name: "state",
-        form: Form::Required("FILE"),
+        usage: Usage::Required("FILE"),
         help: "Where the receiver is written",
     },
     Word {
         name: "refusals",
-        form: Form::Flag,
+        usage: Usage::Flag,
         help: "Also print how many datagrams were refused for which reason, and how many had \
             other timestamps",
     },
     Word {
         name: "captures",
-        form: Form::Files("CAPTURE"),
+        usage: Usage::Files("CAPTURE"),
         help: "Captures, taken one after the other",
     },
 ];
@@ -209,17 +209,17 @@ const RECEIVED: &[Word] = &[
 const MERGED: &[Word] = &[
     Word {
         name: "state",
-        form: Form::Required("FILE"),
+        usage: Usage::Required("FILE"),
         help: "Where the merged receiver is written",
     },
     Word {
         name: "left",
-        form: Form::File("LEFT"),
+        usage: Usage::File("LEFT"),
         help: "Receiver's file, as receive writes it",
     },
     Word {
         name: "right",
-        form: Form::File("RIGHT"),
+        usage: Usage::File("RIGHT"),
         help: "The receiver's file that is merged into it",
     },
 ];
@@ -228,18 +228,18 @@ const MERGED: &[Word] = &[
 const JOB: &[Word] = &[
     Word {
         name: "job",
-        form: Form::Required("JOB"),
+        usage: Usage::Required("JOB"),
         help: "limit:nominal, limit:video, gain:G (4096 is unity), ycc444, ycc422, \
             wipe:columns:P:S, wipe:rows:P:S (position and softness) or key",
     },
     Word {
         name: "ts",
-        form: Form::Number("TS", U32),
+        usage: Usage::Number("TS", U32),
         help: "The timestamp of the frames, in ticks of 90 kHz",
     },
     Word {
         name: "fill",
-        form: Form::Required("A,B,C"),
+        usage: Usage::Required("A,B,C"),
         help: "For a sample that is missing or contested, a value of each component",
     },
 ];
@@ -248,17 +248,17 @@ const JOB: &[Word] = &[
 const PROCESSED: &[Word] = &[
     Word {
         name: "hold",
-        form: Form::Optional("FILE"),
+        usage: Usage::Optional("FILE"),
         help: "Picture whose values the first frame takes in place of the fill's",
     },
     Word {
         name: "out",
-        form: Form::Required("FILE"),
+        usage: Usage::Required("FILE"),
         help: "Where the capture is written",
     },
     Word {
         name: "states",
-        form: Form::Files("STATE"),
+        usage: Usage::Files("STATE"),
         help: "Receivers' files, one for each picture that the job takes",
     },
 ];
@@ -266,7 +266,7 @@ const PROCESSED: &[Word] = &[
 /// The file of `report`.
 const REPORTED: &[Word] = &[Word {
     name: "state",
-    form: Form::File("STATE"),
+    usage: Usage::File("STATE"),
     help: "Receiver's file, as receive writes it",
 }];
 
@@ -274,12 +274,12 @@ const REPORTED: &[Word] = &[Word {
 const LOOPED: &[Word] = &[
     Word {
         name: "limit",
-        form: Form::Default("TURNS", U64, "100000"),
+        usage: Usage::Default("TURNS", U64, "100000"),
         help: "The most turns: in each a datagram is sent and one looked for, for a second",
     },
     Word {
         name: "picture",
-        form: Form::File("PICTURE"),
+        usage: Usage::File("PICTURE"),
         help: "The picture that is sent",
     },
 ];
@@ -288,17 +288,17 @@ const LOOPED: &[Word] = &[
 const MIGRATED: &[Word] = &[
     Word {
         name: "sdp",
-        form: Form::Required("FILE"),
+        usage: Usage::Required("FILE"),
         help: "SDP text that the new capture has",
     },
     Word {
         name: "out",
-        form: Form::Required("FILE"),
+        usage: Usage::Required("FILE"),
         help: "Where the new capture is written",
     },
     Word {
         name: "capture",
-        form: Form::File("CAPTURE"),
+        usage: Usage::File("CAPTURE"),
         help: "Capture of version 01",
     },
 ];
@@ -356,19 +356,19 @@ fn with_words<'a>(
 /// A word of a command, with its help.
 fn argument<'a>(alloc: Global, word: &Word) -> Arg<'a> {
     let argument = Arg::new(alloc, word.name).help(word.help);
-    formed(argument, word.name, word.form)
+    formed(argument, word.name, word.usage)
 }
 
 /// Gives a word its form.
-fn formed<'a>(word: Arg<'a>, name: &'static str, form: Form) -> Arg<'a> {
+fn formed<'a>(word: Arg<'a>, name: &'static str, form: Usage) -> Arg<'a> {
     match form {
-        Form::Flag => word.long(name).action(ArgAction::SetTrue),
-        Form::Optional(value) => option(word, name, value),
-        Form::Required(value) => option(word, name, value).required(true),
-        Form::Number(value, kind) => option(word, name, value).required(true).value_parser(kind),
-        Form::Default(value, kind, text) => with_default(option(word, name, value), kind, text),
-        Form::File(value) => file(word, value),
-        Form::Files(value) => file(word, value).num_args(1..),
+        Usage::Flag => word.long(name).action(ArgAction::SetTrue),
+        Usage::Optional(value) => option(word, name, value),
+        Usage::Required(value) => option(word, name, value).required(true),
+        Usage::Number(value, kind) => option(word, name, value).required(true).value_parser(kind),
+        Usage::Default(value, kind, text) => with_default(option(word, name, value), kind, text),
+        Usage::File(value) => file(word, value),
+        Usage::Files(value) => file(word, value).num_args(1..),
     }
 }
 

@@ -18,10 +18,8 @@ const BUFFER: usize = 1 << 18;
 pub struct FileSource<'a> {
     rt: &'a HostRuntime,
     name: &'a str,
-    place: Place,
+    progress: Progress,
     failures: u64,
-    /// Its place among the files of a list.
-    index: usize,
     /// Whether its reading began.
     is_begun: bool,
     /// How many octets were read.
@@ -32,7 +30,7 @@ pub struct FileSource<'a> {
 
 /// Where the reading of a file stands.
 #[derive(Drop)]
-enum Place {
+enum Progress {
     /// The file isn't open yet.
     Front,
     /// It is open.
@@ -46,29 +44,21 @@ impl<'a> FileSource<'a> {
     pub fn new(rt: &'a HostRuntime, name: &'a str) -> Self
         ensures { ⟦<FileSource<'a> as ByteSource>⟧.failures result ≡ 0 }
     {
-        FileSource::at(rt, 0, name)
-    }
-
-    /// The file of this name, which stands in a list there and isn't looked at yet.
-    pub fn at(rt: &'a HostRuntime, index: usize, name: &'a str) -> Self
-        ensures { ⟦<FileSource<'a> as ByteSource>⟧.failures result ≡ 0 }
-    {
         FileSource {
             rt,
             name,
-            place: Place::Front,
+            progress: Progress::Front,
             failures: 0,
-            index,
             is_begun: false,
             octet: 0,
             fault: None,
         }
     }
 
-    /// Whether its reading began, and its place among the files of a list.
-    pub fn begun(&self) -> Option<usize> {
+    /// Where the reading stands, if it began.
+    pub fn begun(&self) -> Option<Reading<'a>> {
         if self.is_begun {
-            Some(self.index)
+            Some(self.reading())
         } else {
             None
         }
@@ -89,18 +79,18 @@ impl<'a> FileSource<'a> {
         ensures failures { self.new.failures ≡ self.old.failures }
     {
         self.is_begun = true;
-        if let Place::Front = self.place {
+        if let Progress::Front = self.progress {
             let file = fs::open(self.rt, self.name)?;
             let reader = BufReader::with_capacity(self.rt.alloc(), BUFFER, file)?;
-            self.place = Place::Within(reader);
+            self.progress = Progress::Within(reader);
         }
-        let Place::Within(file) = &mut self.place else {
+        let Progress::Within(file) = &mut self.progress else {
             return Ok(0);
         };
         let n = file.read(buf)?;
         self.octet = self.octet.saturating_add(n as u64);
         if n == 0 && !buf.is_empty() {
-            self.place = Place::Past;
+            self.progress = Progress::Past;
         }
         Ok(n)
     }

@@ -2,8 +2,8 @@
 ghost use Rattle.std.specs.Prelude.{◌≡◌, None};
 
 use crate::places::Writing;
-use st_format::{DatagramSink, DatagramSource, Path, SinkFault, SourceFault, Turn};
-use st2110_tool::DatagramLink;
+use capture_engines::DatagramLink;
+use st_format::{DatagramSink, DatagramSource, MOST_DATAGRAM, Path, SinkFault, SourceFault, Turn};
 use std::io::{self, ErrorKind};
 use std::net::{Net, SocketAddr, UdpSocket};
 use std::time::Duration;
@@ -16,9 +16,6 @@ const SOCKETS: &str = "the sockets on 127.0.0.1";
 
 /// How long a datagram is waited for, in seconds.
 const PATIENCE: u64 = 1;
-
-/// The most octets of a datagram.
-const DATAGRAM: usize = 65_535;
 
 /// Two UDP sockets: what is sent by the one comes to the other.
 #[derive(Drop)]
@@ -91,7 +88,7 @@ impl DatagramSource for UdpLink {
 
     /// A turn in which none comes within a second is quiet.
     fn next(&mut self, buf: &mut [u8]) -> Result<Turn, SourceFault> {
-        let error = match self.to.recv_from(&mut buf[..DATAGRAM]) {
+        let error = match self.to.recv_from(&mut buf[..MOST_DATAGRAM]) {
             Ok((n, _)) => {
                 self.delivered = self.delivered.saturating_add(1);
                 return Ok(Turn::Datagram(Path::A, n));

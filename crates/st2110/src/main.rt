@@ -2,22 +2,20 @@
 #![tactic(auto)]
 
 mod commands;
-mod descriptions;
+mod ending;
 mod files;
+mod lines;
 mod link;
 mod places;
 mod runs;
-mod script;
 mod streams;
-mod told;
-mod wanted;
 mod words;
 
 use crate::runs::{
     loop_back, merge, migrate, process, receive, rehearse, report, sdp, send, trace,
 };
 use crate::words::{Given, Words, WordsFault, given_words, read_words};
-use st2110_tool::Status;
+use run_outcome::Status;
 use std::fs::File;
 use std::process::ExitCode;
 

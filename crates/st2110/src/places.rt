@@ -1,6 +1,7 @@
 //! Where a fault is: what `--verbose` adds behind its line.
-use crate::told::Told;
-use crate::wanted::wanted;
+use crate::lines::{line_at, shown};
+use run_outcome::{Fault, Form, LineFault, Refusal};
+use sdp_format::Located;
 use std::io;
 
 /// Where the reading of a file or of standard input stands.
@@ -98,23 +99,65 @@ fn tell_memory(rt: &HostRuntime, devices: &Devices<'_>) {
     }
 }
 
-/// Says where the fault of a command with files is, and what was wanted there.
-pub fn tell_place(rt: &HostRuntime, told: &Told<'_>, devices: &Devices<'_>) {
-    match (told.subject, told.number) {
-        ("device", _) => tell_device(rt, devices),
-        ("memory", _) => tell_memory(rt, devices),
-        ("plan", _) => tell_name(rt, "--max", wanted(told)),
-        ("open", _) | ("receive", 1) => tell_name(rt, "--window", wanted(told)),
-        ("receive", 2) => tell_name(rt, "--ssrc", wanted(told)),
-        ("send", 2) => tell_name(rt, "the pictures", wanted(told)),
-        ("job", _) | ("process", 1) => tell_name(rt, "--job", wanted(told)),
-        ("process", 2) => tell_name(rt, "--ts", wanted(told)),
-        ("process", 3) => tell_name(rt, "--fill", wanted(told)),
-        // An SDP without a file of its own is that of the first capture
-        ("sdp", _) | ("send", 3) | ("migrate", _) | ("receive", 3) => {
-            tell_reading(rt, devices.sdp.or(devices.read), wanted(told));
-        }
-        _ => tell_reading(rt, devices.read, wanted(told)),
+/// What a refusal is of.
+#[derive(Clone, Copy)]
+enum Blamed {
+    /// The word of this name.
+    Word(&'static str),
+    /// The file that was begun last, where its reading stands.
+    Read,
+    /// The SDP, where its reading stands. One without a file of its own is that of the first
+    /// capture.
+    Sdp,
+    /// The line of this number of a script.
+    Line(usize),
+    /// A line of an SDP.
+    Described(Located),
+}
+
+/// What a refusal is of.
+fn blamed_by(refusal: Refusal) -> Blamed {
+    match refusal {
+        Refusal::Script(_, LineFault::Form(Form::TextEnd)) => Blamed::Sdp,
+        Refusal::Script(line, _) => Blamed::Line(line),
+        Refusal::Sdp(at) => Blamed::Described(at),
+        Refusal::Plan(_) => Blamed::Word("--max"),
+        Refusal::Open(_) | Refusal::ReceiveWindow => Blamed::Word("--window"),
+        Refusal::ReceiveSource => Blamed::Word("--ssrc"),
+        Refusal::SendPictures => Blamed::Word("the pictures"),
+        Refusal::Job(_) | Refusal::ProcessJob => Blamed::Word("--job"),
+        Refusal::ProcessFrame => Blamed::Word("--ts"),
+        Refusal::ProcessFill => Blamed::Word("--fill"),
+        Refusal::SendSdp | Refusal::MigrateSdp | Refusal::ReceiveSdp => Blamed::Sdp,
+        Refusal::ReceiveNoSdp
+        | Refusal::SendFormats
+        | Refusal::MergeUnlike
+        | Refusal::ProcessHold
+        | Refusal::Capture(_)
+        | Refusal::Picture(_)
+        | Refusal::State(_) => Blamed::Read,
+    }
+}
+
+/// Says where the fault of a run is, and what was wanted there; `kept` is the script or the SDP that
+/// was read from standard input, where it was kept.
+pub fn explain(rt: &HostRuntime, fault: Fault, devices: &Devices<'_>, kept: Option<&[u8]>) {
+    match fault {
+        Fault::Device => tell_device(rt, devices),
+        Fault::Memory => tell_memory(rt, devices),
+        Fault::Refused(refusal) => tell_refusal(rt, refusal, devices, kept),
+    }
+}
+
+/// Says where a refusal is, and what was wanted there.
+fn tell_refusal(rt: &HostRuntime, refusal: Refusal, devices: &Devices<'_>, kept: Option<&[u8]>) {
+    let wanted = refusal.wanted();
+    match blamed_by(refusal) {
+        Blamed::Word(name) => tell_name(rt, name, wanted),
+        Blamed::Read => tell_reading(rt, devices.read, wanted),
+        Blamed::Sdp => tell_reading(rt, devices.sdp.or(devices.read), wanted),
+        Blamed::Line(line) => tell_script(rt, devices.read, kept, line, wanted),
+        Blamed::Described(at) => tell_sdp(rt, devices, kept, at, wanted),
     }
 }
 
@@ -123,4 +166,60 @@ fn tell_reading(rt: &HostRuntime, reading: Option<Reading<'_>>, wanted: &str) {
     if let Some(reading) = reading {
         tell_octet(rt, &reading, wanted);
     }
+}
+
+/// Says that in the place of a line of a script something else was wanted.
+fn tell_script(
+    rt: &HostRuntime,
+    reading: Option<Reading<'_>>,
+    kept: Option<&[u8]>,
+    line: usize,
+    wanted: &str,
+) {
+    let Some(reading) = reading else {
+        return;
+    };
+    match kept {
+        Some(kept) => tell_text(rt, reading.name, line, line_at(kept, line), wanted),
+        None => tell_line(rt, reading.name, line, "", wanted),
+    }
+}
+
+/// Says that in a place of an SDP something else was wanted. One without a file of its own is that
+/// of the first capture.
+fn tell_sdp(
+    rt: &HostRuntime,
+    devices: &Devices<'_>,
+    kept: Option<&[u8]>,
+    at: Located,
+    wanted: &str,
+) {
+    let Some(place) = at.place else {
+        return tell_reading(rt, devices.sdp.or(devices.read), wanted);
+    };
+    match (devices.sdp, devices.read) {
+        (Some(sdp), _) => match part_of(kept, place.start, place.end) {
+            Some(text) => tell_text(rt, sdp.name, place.line, text, wanted),
+            None => tell_line(rt, sdp.name, place.line, "", wanted),
+        },
+        (None, Some(capture)) => tell_line(rt, capture.name, place.line, " of its SDP", wanted),
+        (None, None) => {}
+    }
+}
+
+/// A part of a text, where that is kept.
+fn part_of(text: Option<&[u8]>, start: usize, end: usize) -> Option<&[u8]> {
+    text?.get(start..end)
+}
+
+/// Says that in the place of a line, or of this part of it, something else was wanted.
+fn tell_text(rt: &HostRuntime, name: &str, line: usize, text: &[u8], wanted: &str) {
+    let (front, dots) = shown(text);
+    let text = front.escape_ascii();
+    let _ = eprintln!(rt; "  at {name}, line {line}, '{text}{dots}'; wanted {wanted}");
+}
+
+/// Says that in the place of a line that isn't shown something else was wanted.
+fn tell_line(rt: &HostRuntime, name: &str, line: usize, of: &str, wanted: &str) {
+    let _ = eprintln!(rt; "  at {name}, line {line}{of}; wanted {wanted}");
 }

@@ -1,57 +1,58 @@
 //! The commands, each with the real devices that its engine works on.
 ghost use Rattle.std.specs.Prelude.{◌≤◌};
 
-use crate::descriptions::tell_description;
+use crate::ending::end_run;
 use crate::files::{FileSink, FileSource};
 use crate::link::{UdpLink, unbound};
-use crate::places::{Devices, Reading, tell_place};
-use crate::script::{Kind, tell_line};
+use crate::places::{Devices, Reading};
 use crate::streams::{InputSource, OutputSink};
-use crate::told::FaultSink;
 use crate::words::{LoopWords, MergeWords, MigrateWords, ProcessWords, ReceiveWords, SendWords};
-use run_outcome::{Fault, end};
-use st2110_tool::{
-    Processing, Status, Wanted, run_loop, run_merge, run_migrate, run_process, run_receive,
-    run_rehearse, run_report, run_sdp, run_send, run_trace,
-};
+use capture_engines::Wanted;
+use receiver_engines::Processing;
+use run_outcome::Fault;
 use std::alloc::AllocError;
-use std::io::{Read, Write};
+use std::io::Write;
 
 /// Runs the script on standard input.
 pub fn trace(rt: &HostRuntime, is_verbose: bool) -> u8 {
     let mut input = InputSource::new(rt.stdin(), kept(rt, is_verbose));
     let mut output = OutputSink::new(rt.stdout());
-    let mut faults = FaultSink::new(rt.alloc(), rt.stderr());
-    let status = run_trace(rt.alloc(), &mut input, &mut output, &mut faults);
-    explain_text(rt, is_verbose, Some(Kind::Trace), &input, &output, &faults);
-    status
+    let outcome = script_engines::trace(rt.alloc(), &mut input, &mut output);
+    let devices = Devices {
+        sdp: None,
+        read: Some(input.reading()),
+        written: None,
+        output: output.writing(),
+    };
+    end_run(rt, is_verbose, outcome, true, &devices, input.kept())
 }
 
 /// Tells the canonical line of the SDP on standard input.
 pub fn sdp(rt: &HostRuntime, is_verbose: bool) -> u8 {
     let mut input = InputSource::new(rt.stdin(), kept(rt, is_verbose));
     let mut output = OutputSink::new(rt.stdout());
-    let mut faults = FaultSink::new(rt.alloc(), rt.stderr());
-    let status = run_sdp(rt.alloc(), &mut input, &mut output, &mut faults);
-    explain_text(rt, is_verbose, None, &input, &output, &faults);
-    status
+    let outcome = script_engines::describe(rt.alloc(), &mut input, &mut output);
+    let devices = Devices {
+        sdp: Some(input.reading()),
+        read: None,
+        written: None,
+        output: output.writing(),
+    };
+    end_run(rt, is_verbose, outcome, true, &devices, input.kept())
 }
 
 /// Plays the schedule on standard input.
 pub fn rehearse(rt: &HostRuntime, is_verbose: bool) -> u8 {
     let mut input = InputSource::new(rt.stdin(), kept(rt, is_verbose));
     let mut output = OutputSink::new(rt.stdout());
-    let mut faults = FaultSink::new(rt.alloc(), rt.stderr());
-    let status = run_rehearse(rt.alloc(), &mut input, &mut output, &mut faults);
-    explain_text(
-        rt,
-        is_verbose,
-        Some(Kind::Rehearse),
-        &input,
-        &output,
-        &faults,
-    );
-    status
+    let outcome = script_engines::rehearse(rt.alloc(), &mut input, &mut output);
+    let devices = Devices {
+        sdp: None,
+        read: Some(input.reading()),
+        written: None,
+        output: output.writing(),
+    };
+    end_run(rt, is_verbose, outcome, true, &devices, input.kept())
 }
 
 /// Writes a capture of version 01 as one of version 02.
@@ -60,82 +61,73 @@ pub fn migrate(rt: &HostRuntime, words: &MigrateWords<'_>, is_verbose: bool) -> 
     let mut capture = FileSource::new(rt, words.capture);
     let mut out = FileSink::new(rt, words.out);
     let mut output = OutputSink::new(rt.stdout());
-    let mut faults = FaultSink::new(rt.alloc(), rt.stderr());
-    let status = run_migrate(
+    let outcome = capture_engines::migrate(
         rt.alloc(),
         &mut sdp,
         &mut capture,
         &mut out,
         &mut output,
-        &mut faults,
     );
-    let status = finish(status, &mut out, &mut faults);
+    let is_whole = out.finish();
     let devices = Devices {
         sdp: Some(sdp.reading()),
-        read: begun(&capture),
+        read: capture.begun(),
         written: Some(out.writing()),
         output: output.writing(),
     };
-    explain(rt, is_verbose, &devices, &faults);
-    status
+    end_run(rt, is_verbose, outcome, is_whole, &devices, None)
 }
 
 /// Sends pictures into a capture.
 pub fn send<'a>(rt: &'a HostRuntime, words: &SendWords<'a>, is_verbose: bool) -> u8 {
     let mut output = OutputSink::new(rt.stdout());
-    let mut faults = FaultSink::new(rt.alloc(), rt.stderr());
     let Ok(mut pictures) = sources(rt, words.pictures.as_slice()) else {
-        return without_memory(rt);
+        return without_memory(rt, is_verbose, &output);
     };
     let mut sdp = source(rt, words.sdp);
     let mut out = FileSink::new(rt, words.out);
-    let status = run_send(
+    let outcome = capture_engines::send(
         rt.alloc(),
         words.sending,
         &mut sdp,
         pictures.as_mut_slice(),
         &mut out,
         &mut output,
-        &mut faults,
     );
-    let status = finish(status, &mut out, &mut faults);
+    let is_whole = out.finish();
     let devices = Devices {
         sdp: reading_of(&sdp),
         read: last_begun(&pictures),
         written: Some(out.writing()),
         output: output.writing(),
     };
-    explain(rt, is_verbose, &devices, &faults);
-    status
+    end_run(rt, is_verbose, outcome, is_whole, &devices, None)
 }
 
 /// Takes the datagrams of captures into one receiver.
 pub fn receive<'a>(rt: &'a HostRuntime, words: &ReceiveWords<'a>, is_verbose: bool) -> u8 {
     let mut output = OutputSink::new(rt.stdout());
-    let mut faults = FaultSink::new(rt.alloc(), rt.stderr());
     let Ok(mut captures) = sources(rt, words.captures.as_slice()) else {
-        return without_memory(rt);
+        return without_memory(rt, is_verbose, &output);
     };
     let mut sdp = source(rt, words.sdp);
     let mut state = FileSink::new(rt, words.state);
-    let status = run_receive(
+    let outcome = capture_engines::receive(
         rt.alloc(),
         wanted(words),
         &mut sdp,
         captures.as_mut_slice(),
         &mut state,
         &mut output,
-        &mut faults,
     );
-    let status = finish(status, &mut state, &mut faults);
+    let is_whole = state.finish();
     let devices = Devices {
         sdp: reading_of(&sdp),
         read: last_begun(&captures),
         written: Some(state.writing()),
         output: output.writing(),
     };
-    explain(rt, is_verbose, &devices, &faults);
-    status
+    end_run(rt, is_verbose, outcome, is_whole, &devices, None)
 }
 
 /// What `receive` is asked for, beside its files.
@@ -153,53 +145,47 @@ pub fn merge(rt: &HostRuntime, words: &MergeWords<'_>, is_verbose: bool) -> u8 {
     let mut right = FileSource::new(rt, words.right);
     let mut state = FileSink::new(rt, words.state);
     let mut output = OutputSink::new(rt.stdout());
-    let mut faults = FaultSink::new(rt.alloc(), rt.stderr());
-    let status = run_merge(
+    let outcome = receiver_engines::merge(
         rt.alloc(),
         &mut left,
         &mut right,
         &mut state,
         &mut output,
-        &mut faults,
     );
-    let status = finish(status, &mut state, &mut faults);
+    let is_whole = state.finish();
     let devices = Devices {
         sdp: None,
-        read: begun(&right).or(begun(&left)),
+        read: right.begun().or(left.begun()),
         written: Some(state.writing()),
         output: output.writing(),
     };
-    explain(rt, is_verbose, &devices, &faults);
-    status
+    end_run(rt, is_verbose, outcome, is_whole, &devices, None)
 }
 
 /// Runs a job on frames of receivers, and sends its picture into a capture.
 pub fn process<'a>(rt: &'a HostRuntime, words: &ProcessWords<'a>, is_verbose: bool) -> u8 {
     let mut output = OutputSink::new(rt.stdout());
-    let mut faults = FaultSink::new(rt.alloc(), rt.stderr());
     let Ok(mut states) = sources(rt, words.states.as_slice()) else {
-        return without_memory(rt);
+        return without_memory(rt, is_verbose, &output);
     };
     let mut hold = source(rt, words.hold);
     let mut out = FileSink::new(rt, words.out);
-    let status = run_process(
+    let outcome = receiver_engines::process(
         rt.alloc(),
         processing(words),
         states.as_mut_slice(),
         &mut hold,
         &mut out,
         &mut output,
-        &mut faults,
     );
-    let status = finish(status, &mut out, &mut faults);
+    let is_whole = out.finish();
     let devices = Devices {
         sdp: None,
         read: reading_begun(&hold).or(last_begun(&states)),
         written: Some(out.writing()),
         output: output.writing(),
     };
-    explain(rt, is_verbose, &devices, &faults);
-    status
+    end_run(rt, is_verbose, outcome, is_whole, &devices, None)
 }
 
 /// What `process` is asked for, beside its files.
@@ -215,57 +201,44 @@ fn processing<'a>(words: &ProcessWords<'a>) -> Processing<'a>
     }
 }
 
-/// Where the reading of a file stands, where one is named and it began.
-fn reading_begun<'a>(source: &Option<FileSource<'a>>) -> Option<Reading<'a>> {
-    match source {
-        Some(source) => begun(source),
-        None => None,
-    }
-}
-
 /// Prints what a receiver lacks that was written as a file.
 pub fn report(rt: &HostRuntime, name: &str, is_verbose: bool) -> u8 {
     let mut state = FileSource::new(rt, name);
     let mut output = OutputSink::new(rt.stdout());
-    let mut faults = FaultSink::new(rt.alloc(), rt.stderr());
-    let status = run_report(rt.alloc(), &mut state, &mut output, &mut faults);
+    let outcome = receiver_engines::report(rt.alloc(), &mut state, &mut output);
     let devices = Devices {
         sdp: None,
-        read: begun(&state),
+        read: state.begun(),
         written: None,
         output: output.writing(),
     };
-    explain(rt, is_verbose, &devices, &faults);
-    status
+    end_run(rt, is_verbose, outcome, true, &devices, None)
 }
 
 /// Sends a picture from one socket of this machine to another, and takes what comes.
 pub fn loop_back(rt: &HostRuntime, words: &LoopWords<'_>, is_verbose: bool) -> u8 {
     let mut picture = FileSource::new(rt, words.picture);
     let mut output = OutputSink::new(rt.stdout());
-    let mut faults = FaultSink::new(rt.alloc(), rt.stderr());
-    let (status, sockets) = match UdpLink::open(rt) {
+    let (outcome, sockets) = match UdpLink::open(rt) {
         Ok(mut link) => {
-            let status = run_loop(
+            let outcome = capture_engines::loop_back(
                 rt.alloc(),
                 words.looping,
                 &mut picture,
                 &mut link,
                 &mut output,
-                &mut faults,
             );
-            (status, link.writing())
+            (outcome, link.writing())
         }
-        Err(fault) => (end(Err(Fault::Device), &mut faults), unbound(fault)),
+        Err(fault) => (Err(Fault::Device), unbound(fault)),
     };
     let devices = Devices {
         sdp: None,
-        read: begun(&picture),
+        read: picture.begun(),
         written: Some(sockets),
         output: output.writing(),
     };
-    explain(rt, is_verbose, &devices, &faults);
-    status
+    end_run(rt, is_verbose, outcome, true, &devices, None)
 }
 
 /// The file of this name, where one is named, which isn't looked at yet.
@@ -280,7 +253,7 @@ fn source<'a>(rt: &'a HostRuntime, name: Option<&'a str>) -> Option<FileSource<'
 fn sources<'a>(rt: &'a HostRuntime, names: &[&'a str]) -> Result<Vec<FileSource<'a>>, AllocError> {
     let mut sources = Vec::new(rt.alloc());
     for name in names {
-        sources.push(FileSource::at(rt, sources.len(), name))?;
+        sources.push(FileSource::new(rt, name))?;
     }
     Ok(sources)
 }
@@ -293,19 +266,11 @@ fn reading_of<'a>(source: &Option<FileSource<'a>>) -> Option<Reading<'a>> {
     }
 }
 
-/// Where the reading of a file stands, where it began.
-fn begun<'a>(source: &FileSource<'a>) -> Option<Reading<'a>> {
-    match source.begun() {
-        Some(_) => Some(source.reading()),
-        None => None,
-    }
-}
-
 /// Where the reading of the last file of a list stands that was begun.
 fn last_begun<'a>(sources: &[FileSource<'a>]) -> Option<Reading<'a>> {
     let mut last = None;
     for source in sources {
-        last = begun(source).or(last);
+        last = source.begun().or(last);
     }
     last
 }
@@ -319,65 +284,25 @@ fn kept(rt: &HostRuntime, is_verbose: bool) -> Option<Vec<u8>> {
     }
 }
 
-/// Tells that memory was wanted.
-fn without_memory(rt: &HostRuntime) -> u8 {
-    // That standard error may fail too changes nothing
-    let _ = eprintln!(rt; "st2110: memory");
-    Status::Memory.number()
-}
-
-/// Writes out what a file's buffer holds. Where that fails, which the engine can't know, the run
-/// ends by a device's fault.
-fn finish<W: Write + Drop>(status: u8, file: &mut FileSink<'_>, faults: &mut FaultSink<W>) -> u8 {
-    if file.finish() || status == Status::Device.number() {
-        return status;
+/// Where the reading of a file stands, where one is named and it began.
+fn reading_begun<'a>(source: &Option<FileSource<'a>>) -> Option<Reading<'a>> {
+    match source {
+        Some(source) => source.begun(),
+        None => None,
     }
-    end(Err(Fault::Device), faults)
 }
 
-/// Says where the fault of a command with files is, if one was told, and if that is asked for.
-fn explain<W: Write + Drop>(
+/// Ends a run whose list of files there was no memory for.
+fn without_memory<W: Write + Drop>(
     rt: &HostRuntime,
     is_verbose: bool,
-    devices: &Devices<'_>,
-    faults: &FaultSink<W>,
-) {
-    if !is_verbose {
-        return;
-    }
-    if let Some(told) = faults.told() {
-        tell_place(rt, &told, devices);
-    }
-}
-
-/// Says where the fault of a command that reads standard input is, if one was told, and if that is
-/// asked for.
-fn explain_text<R: Read + Drop, O: Write + Drop, W: Write + Drop>(
-    rt: &HostRuntime,
-    is_verbose: bool,
-    kind: Option<Kind>,
-    input: &InputSource<R>,
-    output: &OutputSink<O>,
-    faults: &FaultSink<W>,
-) {
-    if !is_verbose {
-        return;
-    }
-    let Some(told) = faults.told() else {
-        return;
+    output: &OutputSink<W>,
+) -> u8 {
+    let devices = Devices {
+        sdp: None,
+        read: None,
+        written: None,
+        output: output.writing(),
     };
-    let is_of_devices = told.subject == "device" || told.subject == "memory";
-    match kind {
-        Some(kind) if !is_of_devices => tell_line(rt, kind, input.kept(), &told),
-        None if told.subject == "sdp" && tell_description(rt, input.kept(), &told) => {}
-        _ => {
-            let devices = Devices {
-                sdp: None,
-                read: Some(input.reading()),
-                written: None,
-                output: output.writing(),
-            };
-            tell_place(rt, &told, &devices);
-        }
-    }
+    end_run(rt, is_verbose, Err(Fault::Memory), true, &devices, None)
 }

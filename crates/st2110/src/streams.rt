@@ -32,11 +32,11 @@ impl<R: Read + Drop> InputSource<R> {
         }
     }
 
-    /// What was read and kept.
-    pub fn kept(&self) -> &[u8] {
+    /// What was read, where it is kept.
+    pub fn kept(&self) -> Option<&[u8]> {
         match &self.kept {
-            Some(kept) => kept,
-            None => &[],
+            Some(kept) => Some(kept.as_slice()),
+            None => None,
         }
     }
 

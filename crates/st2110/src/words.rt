@@ -2,9 +2,11 @@
 ghost use Rattle.std.specs.Prelude.{◌≤◌};
 
 use crate::commands::program;
+use capture_engines::{Looping, Sending};
 use clap::error::ErrorKind;
 use clap::{ArgMatches, Error};
-use st2110_tool::{Looping, Paths, Sending, Stamp};
+use media_file::Paths;
+use packet_plan::Stamp;
 use std::alloc::{AllocError, Global};
 use std::rt::Env;
 use std::{env, io};
