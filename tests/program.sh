@@ -159,7 +159,7 @@ octets "$old_head $d1" >old.cap
 
 # The parts, in the order in which they are run: later ones use files and words of earlier ones.
 parts='text examples forms windows rehearsals descriptions limits migrate receive tallies send kinds
-    merge process report loop words devices verbose launcher'
+    merge process report loop words devices verbose faults launcher install'
 for part in $parts; do
     counted=$((passed + failed))
     if [ ! -f "$root/tests/program/$part.sh" ]; then

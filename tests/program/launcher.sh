@@ -1,24 +1,47 @@
 # The launcher, `st2110` at the root, in a clone with an `rt` that puts the built program where the
 # kit's would. The clone has one crate.
 mkdir -p clone/crates/st2110/src bin elsewhere
-cp "$root/st2110" clone/st2110
+cp -R "$root/st2110" "$root/tools" clone
 echo 'st2110:' >clone/crates.txt
 : >clone/crates/st2110/src/main.rt
+# It notes what it is asked for, and in which crate. A file of the room asks something of it: the
+# crate that `refused` names isn't proved; the proof of the one that `held` names doesn't end; the
+# program's build ends once a launcher has said what stands in `awaited`, or after 20 s; where there is
+# `untried`, nothing can be tried.
 cat >bin/rt <<END
 #!/bin/sh
-echo "\$*" >>"$room/built"
-echo 'rt: chose --jobs 2 for st2110'
-echo 'checked st2110::run, 1 of 1'
-# While there is a file \`awaited\`, until another launcher says that it waits, 20 s at most.
+crate=\${PWD##*/}
+if [ "\$1" = try ]; then
+    shift 2
+    echo "\$PWD" >>"$room/tries"
+    [ ! -e "$room/untried" ] || exit 2
+    "$program" "\$@"
+    status=\$?
+    echo "run=ended status=\$status runners=1 proved=no" >&2
+    exit "\$status"
+fi
+echo "\$* in \$PWD" >>"$room/built"
+[ ! -e out/proved ] || echo "kept \$crate" >>"$room/built"
+waits() {
+    [ "\$(cat "$room/held" 2>/dev/null)" = "\$crate" ] && return
+    [ "\$1" = run ] && [ -e "$room/awaited" ] && ! grep -q -f "$room/awaited" "$room/said"
+}
 turns=0
-while [ -e "$room/awaited" ] && [ \$turns -lt 200 ] && ! grep -q waits "$room/said"; do
+while [ \$turns -lt 200 ] && waits "\$1"; do
     sleep 0.1
     turns=\$((turns + 1))
 done
-[ -e "$room/refused" ] && exit 1
-mkdir -p out && cp "$program" out/st2110
+if [ "\$(cat "$room/refused" 2>/dev/null)" = "\$crate" ]; then
+    seq 30
+    exit 1
+fi
+mkdir -p out && : >out/proved
+[ "\$1" != run ] || cp "$program" out/st2110
 END
 chmod +x bin/rt
+ST2110_ROOMS=1
+XDG_CACHE_HOME=$room/cache
+export ST2110_ROOMS XDG_CACHE_HOME
 ln -s ../clone/st2110 elsewhere/link
 ln -s "$room/elsewhere/link" bin/far
 wide=$PATH
@@ -30,8 +53,7 @@ launch() {
     status=$?
     : >err
 }
-cost=$(sed -n "s/^cost='\(.*\)'$/\1/p" "$root/st2110")
-begins="st2110: proving and building the program; from nothing that takes $cost"
+begins='st2110: proving and building the program; from nothing that takes 5 GB of disk'
 # tells NAME TEXT: whether the launcher said just this.
 tells() {
     expect "$2" >want.said
@@ -42,22 +64,31 @@ tells() {
     fi
 }
 
-PATH=/usr/bin:/bin launch clone/st2110 trace
-if PATH=/usr/bin:/bin command -v rt >/dev/null; then
-    pass 'launcher: rt stands with the common programs'
-else
-    says 'launcher: no rt' 125 '' ''
-    tells 'launcher: no rt, what it says' \
-        "st2110: the program isn't built, and the command rt of the Rattle kit isn't found"
-fi
-: >refused
+# Where python3 or rt isn't found: a folder has what the launcher needs besides.
+mkdir bare
+ln -s "$(command -v dirname)" bare/dirname
+PATH=$room/bare launch clone/st2110 trace
+says 'launcher: no python3' 125 '' ''
+tells 'launcher: no python3, what it says' \
+    "st2110: the program isn't built, and python3, for which the kit's rt is written, isn't found"
+ln -s "$(python3 -c 'import sys; print(sys.executable)')" bare/python3
+PATH=$room/bare launch clone/st2110 trace
+says 'launcher: no rt' 125 '' ''
+tells 'launcher: no rt, what it says' \
+    "st2110: the program isn't built, and the command rt of the Rattle kit isn't found"
+echo st2110 >refused
 launch clone/st2110 trace
-says 'launcher: a build that fails' 125 '' ''
 rm -f refused
+says 'launcher: a build that fails' 125 '' ''
+logs=$(cd clone && pwd -P)/crates/st2110/out/launcher
+tells 'launcher: a build that fails, what it says' "$begins
+st2110: proving st2110, crate 1 of 1, 0 min so far, about 5 more
+$(seq 11 30)
+st2110: the program was not built; the whole text of the build is in $logs/st2110.log"
 # Two first runs at once: one builds, and the other waits for it.
 : >built
 : >said
-: >awaited
+echo waits >awaited
 clone/st2110 --version >first 2>&1 &
 until [ -s first ]; do
     sleep 0.1
@@ -139,17 +170,174 @@ sleep 1
 touch clone/crates/st2110/src/main.rt
 launch clone/st2110 trace
 tells 'launcher: a newer source' "$begins
-st2110: proving st2110, crate 1 of 1"
-mkdir -p clone/crates/low/src clone/crates/other/src
-printf 'low:\nother: low\nst2110: low clap # the program\n' >clone/crates.txt
+st2110: proving st2110, crate 1 of 1, 0 min so far, about 5 more"
+for name in low left right other; do
+    mkdir -p "clone/crates/$name/src"
+    : >"clone/crates/$name/src/lib.rt"
+done
+sleep 1
+printf '%s\n' low: 'other: low' 'st2110: left right clap # the program' 'right: low' 'left: low' \
+    >clone/crates.txt
 launch clone/st2110 trace
+tells 'launcher: other crates' "$begins
+st2110: proving low, crate 1 of 4, 0 min so far, about 8 more
+st2110: proving left, crate 2 of 4, 0 min so far, about 7 more
+st2110: proving right, crate 3 of 4, 0 min so far, about 6 more
+st2110: proving st2110, crate 4 of 4, 0 min so far, about 5 more"
 sleep 1
 touch clone/crates/other/src/lib.rt
 by 'a newer source that it does not stand on' clone/st2110 trace
-touch clone/crates/low/src/lib.rt
+touch clone/crates/left/src/lib.rt
 launch clone/st2110 trace
 tells 'launcher: a newer source below it' "$begins
-st2110: proving st2110, crate 2 of 2"
+st2110: proving left, crate 1 of 2, 0 min so far, about 6 more
+st2110: proving st2110, crate 2 of 2, 0 min so far, about 5 more"
+
+# Side by side, each crate is proved in a room, and the program is built in the clone.
+ST2110_ROOMS=2
+rooms=$room/cache/woqtarish
+anew() {
+    rm -rf clone/crates/*/out
+    : >built
+    : >tries
+}
+anew
+launch clone/st2110 --version
+says 'launcher: in rooms' 0 'st2110 0.1' ''
+tells 'launcher: in rooms, what it says' "$begins
+st2110: proving low, crate 1 of 4, 0 min so far, about 7 more
+st2110: proving left, crate 2 of 4, 0 min so far, about 6 more
+st2110: proving right, crate 3 of 4, 0 min so far, about 6 more
+st2110: proving st2110, crate 4 of 4, 0 min so far, about 5 more"
+sed 's,in .*/\([^/]*\)/crates/,in \1 ,' built | sort >order
+expect 'lib in 1 left
+lib in 1 low
+lib in 2 right
+run -- --version in clone st2110' >want.order
+if cmp -s order want.order; then
+    pass 'launcher: in rooms, where each is proved'
+else
+    fail 'launcher: in rooms, where each is proved' "$(cat built)"
+fi
+if [ -z "$(ls "$rooms")" ]; then
+    pass 'launcher: the rooms are cleared'
+else
+    fail 'launcher: the rooms are cleared' "$(ls "$rooms"/*)"
+fi
+# One that is stopped ends its proofs, and the next one goes on with what they left.
+anew
+echo left >held
+clone/st2110 --version >first 2>&1 &
+turns=0
+until [ $turns -eq 100 ] || grep -q crates/left built; do
+    sleep 0.1
+    turns=$((turns + 1))
+done
+kill -TERM $!
+wait $!
+status=$?
+: >out
+: >err
+says 'launcher: stopped' 143 '' ''
+if [ "$(tail -n 1 first)" = 'st2110: stopped; the next run goes on where this one was' ]; then
+    pass 'launcher: stopped, what it says'
+else
+    fail 'launcher: stopped, what it says' "$(cat first)"
+fi
+rm -f held
+sleep 0.3
+none 'launcher: stopped, with its proofs' "$rooms"/*/1/crates/left/out
+: >clone/crates/low/src/new.rt
+rm -f clone/crates/low/src/lib.rt
+: >built
+echo right >refused
+launch clone/st2110 --version
+rm -f refused
+says 'launcher: a crate that is not proved' 125 '' ''
+if grep -q -x 'kept low' built && [ "$(tail -n 1 said)" = \
+    "st2110: the program was not built; the whole text of the build is in $logs/right.log" ]; then
+    pass 'launcher: it goes on where it was'
+else
+    fail 'launcher: it goes on where it was' "$(cat built said)"
+fi
+if [ "$(ls "$rooms"/*/1/crates/low/src)" = new.rt ]; then
+    pass 'launcher: a room has the sources as they stand'
+else
+    fail 'launcher: a room has the sources as they stand' "$(ls "$rooms"/*/1/crates/low/src)"
+fi
+
+# What reads standard input alone is tried meanwhile, and the proved program gets the same.
+# shown NAME TEXT: whether the launcher said just this of a try.
+shown() {
+    if [ "$(grep 'not yet' said)" = "$2" ]; then
+        pass "$1"
+    else
+        fail "$1" "$(cat said)"
+    fi
+}
+# untried NAME: whether nothing was tried.
+untried() {
+    if [ -s tries ]; then
+        fail "$1" "tried in $(cat tries)"
+    else
+        pass "$1"
+    fi
+}
+anew
+echo 'not yet proved: frame' >awaited
+launch clone/st2110 trace
+says 'launcher: tried' 0 "kept 1
+$frame" ''
+shown 'launcher: tried, what it says' "st2110: not yet proved: kept 1
+st2110: not yet proved: $frame"
+anew
+echo 'not yet proved: st2110: script' >awaited
+echo format | clone/st2110 >out 2>said
+status=$?
+rm -f awaited
+tail -n 1 said >err
+says 'launcher: tried without words, at fault' 1 '' 'st2110: script 1'
+shown 'launcher: tried at fault, what it says' 'st2110: not yet proved: st2110: script 1'
+anew
+: >untried
+launch clone/st2110 trace
+rm -f untried
+says "launcher: what can't be tried" 0 "kept 1
+$frame" ''
+shown "launcher: what can't be tried, in silence" ''
+anew
+{
+    head -n 2 "$root/examples/first-datagram.trace"
+    head -c 17000000 /dev/zero | tr '\0' '\n'
+    tail -n 1 "$root/examples/first-datagram.trace"
+} | clone/st2110 trace >out 2>said
+status=$?
+tail -n 1 said >err
+# It is longer than a script may be: the line behind those that end within 16,777,216 octets is at fault.
+front=$(head -n 2 "$root/examples/first-datagram.trace" | wc -c)
+says 'launcher: an input that is too large to be tried' 1 '' "st2110: script $((16777219 - front))"
+untried 'launcher: an input that is too large'
+# An input that can't be kept, by a `head` that fails. The next run gives the program its own.
+anew
+printf '#!/bin/sh\nexit 1\n' >bin/head
+chmod +x bin/head
+launch clone/st2110 trace
+rm -f bin/head
+says "launcher: an input that can't be kept" 125 '' ''
+tail -n 1 said >last
+mv last said
+tells "launcher: an input that can't be kept, what it says" \
+    "st2110: standard input can't be read, or not be kept: the program stands now, so run it again"
+by "behind an input that couldn't be kept" clone/st2110 trace
+anew
+launch clone/st2110 --help
+untried 'launcher: a command that does not read'
+ST2110_ROOMS=1
+anew
+launch clone/st2110 trace
+says 'launcher: one room' 0 "kept 1
+$frame" ''
+untried 'launcher: one room'
 
 # A file in the place of the folder `out`: that it can't be written to holds for root, too.
 rm -rf clone/crates/st2110/out
@@ -176,3 +364,4 @@ esac
 status=$?
 says 'launcher: the greatest size of a file' 3 '' 'st2110: device'
 PATH=$wide
+unset ST2110_ROOMS XDG_CACHE_HOME

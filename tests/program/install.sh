@@ -1,0 +1,97 @@
+# `install`, in the clone of launcher.sh, whose `rt` has the built program: the three files, of which
+# two have every word that --help tells.
+cp "$root/install" clone/install
+install() {
+    PATH=$room/bin:$PATH ST2110_ROOMS=1 "$@" >out 2>err
+    status=$?
+}
+page=share/man/man1/st2110.1
+words=share/bash-completion/completions/st2110
+: >clone/crates/st2110/src/main.rt
+install clone/install 'a prefix'
+grep -v 'proving' err >rest
+mv rest err
+says 'install: what it says' 0 "$room/a prefix/bin/st2110
+$room/a prefix/$page
+$room/a prefix/$words" "install: $room/a prefix/bin is not in PATH"
+alike 'install: the program' 'a prefix/bin/st2110' "$program"
+if [ "$(find 'a prefix' -type f | wc -l)" -eq 3 ] && [ "$('a prefix/bin/st2110' --version)" = 'st2110 0.1' ]; then
+    pass 'install: three files, and the program runs'
+else
+    fail 'install: three files, and the program runs' "$(find 'a prefix')"
+fi
+mkdir home
+HOME=$room/home install clone/install
+alike 'install: below the home folder' "home/.local/$page" "a prefix/$page"
+PATH=$PATH:$room/home/.local/bin HOME=$room/home install clone/install
+says 'install: again, into a folder of PATH' 0 "$room/home/.local/bin/st2110
+$room/home/.local/$page
+$room/home/.local/$words" ''
+
+# What --help tells of commands and options stands in both files, and its texts in the page.
+sed 's/\\-/-/g; s/\\e/\\/g; s/^\\&//' "a prefix/$page" >page
+# lacking FILE: the lines of standard input that a file lacks.
+lacking() {
+    while IFS= read -r line; do
+        grep -q -F -e "$line" "$1" || printf "'%s' " "$line"
+    done
+}
+# offer WORD..: what bash offers for the last word.
+offer() {
+    bash -c '. "$0" && COMP_WORDS=("$@") COMP_CWORD=$(($# - 1)) && _st2110 && printf "%s\n" "${COMPREPLY[@]}"' \
+        "a prefix/$words" st2110 "$@"
+}
+commands=$("$program" --help | sed -n '/^Commands:/,/^$/s/^  \([a-z]*\) .*/\1/p')
+for command in '' $commands; do
+    [ "$command" != help ] || continue
+    # shellcheck disable=SC2086
+    "$program" $command --help >told
+    lacks=$({
+        sed '/^[A-Z][a-z]*:$/d; s/^Usage: //; s/^ *//; s/   *.*//' told
+        sed -n 's/^  .*[^ ]   *//p' told
+    } | lacking page)
+    if [ -z "$lacks" ]; then
+        pass "install: the page has the help of st2110 $command"
+    else
+        fail "install: the page has the help of st2110 $command" "it lacks $lacks"
+    fi
+    if ! command -v bash >/dev/null; then
+        echo 'skipped: completions, since there is no bash'
+        continue
+    fi
+    # shellcheck disable=SC2086
+    offer $command - >offered
+    lacks=$(sed -n 's/^  *\(-.*\)/\1/p' told | grep -o -E -e '(^|, )--?[A-Za-z-]+' | sed 's/^, //' | lacking offered)
+    if [ -z "$lacks" ]; then
+        pass "install: the options of st2110 $command"
+    else
+        fail "install: the options of st2110 $command" "it lacks $lacks"
+    fi
+done
+if command -v bash >/dev/null; then
+    lacks=$(offer '' >offered && printf '%s\n' "$commands" | lacking offered)
+    begun=$(offer re | tr '\n' ' ')
+    if [ -z "$lacks$(offer send '')" ] && [ "$begun" = 'rehearse receive report ' ]; then
+        pass 'install: the commands, and files behind one'
+    else
+        fail 'install: the commands, and files behind one' "it lacks $lacks"
+    fi
+fi
+
+# Words that it doesn't know, and a prefix that can't be written to: a file is in its place.
+install clone/install --frobnicate
+if [ "$status" = 2 ] && [ ! -s out ] && grep -q '^usage: ./install' err; then
+    pass 'install: refused words'
+else
+    fail 'install: refused words' "status $status: $(cat err)"
+fi
+install clone/install --help
+if [ "$status" = 0 ] && [ ! -s err ] && grep -q '^usage: ./install' out; then
+    pass 'install: --help'
+else
+    fail 'install: --help' "status $status: $(cat err)"
+fi
+install clone/install page
+tail -n 1 err >last
+mv last err
+says 'install: where it may not write' 1 '' "install: $room/page/bin/st2110 was not written"

@@ -1,0 +1,117 @@
+"""The proofs of the crates that the program stands on, side by side in rooms (see first_run.py), the lowest first."""
+import contextlib
+import os
+import subprocess
+import sys
+import time
+
+PROGRAM = "st2110"
+# About how many seconds the first proof of each crate takes, measured on four processors.
+SECONDS = {
+    "st_format": 88, "pgroup_pack": 78, "frame_assembly": 113, "path_merge": 250, "receiver_file": 86, "media_file": 100,
+    "key_mix": 100, "sdp_format": 114, "packet_plan": 50, "payload_header": 40, "rtp_header": 20, "lane_kernels": 60,
+    "bt709_fixed": 50, "packet_numbers": 25, "frame_report": 40, "run_outcome": 80, "script_engines": 120,
+    "capture_engines": 150, "receiver_engines": 100, "st2110": 300,
+}
+# What a crate takes that isn't named there.
+OTHER_SECONDS = 60
+
+
+def show(line):
+    """Prints a line to standard error, if that is there."""
+    if sys.stderr:
+        with contextlib.suppress(OSError):
+            print(line, file=sys.stderr, flush=True)
+
+
+def say(text):
+    show(f"st2110: {text}")
+
+
+def crates_of(checkout):
+    """The crates that the program stands on, lowest first, and last itself: each with those of the checkout that it names."""
+    named, seen, found = {}, set(), {}
+    with open(f"{checkout}/crates.txt", encoding="utf-8") as lines:
+        for line in lines:
+            head, colon, below = line.partition("#")[0].partition(":")
+            if colon and head.split():
+                named[head.split()[0]] = below.split()
+
+    def add(name):
+        if name in named and name not in seen:
+            seen.add(name)
+            for it in named[name]:
+                add(it)
+            found[name] = [it for it in named[name] if it in named]
+
+    add(PROGRAM)
+    return found
+
+
+def changed(checkout, crates, moment):
+    """The crates of which a source was changed after a moment, and those that stand on them."""
+    found = []
+    for name, below in crates.items():
+        walked = [it for part in ("src", "specs", "proofs") for it in os.walk(f"{checkout}/crates/{name}/{part}")]
+        files = [f"{at}/{it}" for at, _, names in walked for it in ("", *names)]
+        if set(found).intersection(below) or any(os.lstat(it).st_mtime > moment for it in files):
+            found.append(name)
+    return found
+
+
+def chains(crates, seconds):
+    """For each crate, how long it takes from its beginning until the program stands, if nothing waits for a room."""
+    longest = {}
+    for name in reversed(list(crates)):
+        longest[name] = seconds[name] + max((longest[it] for it in longest if name in crates[it]), default=0)
+    return longest
+
+
+class Proofs:
+    """The proofs of some crates, each in a room, the lowest first. The program is proved and built in the checkout."""
+
+    def __init__(self, crates, wanted, rooms, checkout, logs):
+        self.crates, self.left, self.rooms, self.checkout, self.logs = crates, list(wanted), rooms, checkout, logs
+        self.seconds = {it: SECONDS.get(it, OTHER_SECONDS) for it in crates}
+        self.running, self.count, self.start, self.expected, self.measured = {}, len(self.left), time.time(), 0, 0
+
+    def step(self):
+        """Begins what can begin, takes what has ended, and returns the log of a proof that failed, or None."""
+        for room in self.rooms:
+            under_way = [name for name, _, _ in self.running.values()]
+            ready = [it for it in self.left if not {*self.left, *under_way}.intersection(self.crates[it])]
+            if not under_way:
+                # (of crates that stand on one another, `rt` tells)
+                ready = ready or self.left
+            if ready and room not in [it for _, it, _ in self.running.values()]:
+                self.begin(max(ready, key=chains(self.crates, self.seconds).get), room)
+        for process in [it for it in self.running if it.poll() is not None]:
+            name, _, begun = self.running.pop(process)
+            took = time.time() - begun
+            if process.returncode:
+                return self.log(name)
+            # (what takes less was proved before)
+            if took > self.seconds[name] / 8:
+                self.expected, self.measured = self.expected + self.seconds[name], self.measured + took
+        return None
+
+    def begin(self, name, room):
+        self.left.remove(name)
+        at, verb = (self.checkout, ["run", "--", "--version"]) if name == PROGRAM else (room, ["lib"])
+        with open(self.log(name), "w", encoding="utf-8") as log:
+            how = {"cwd": f"{at}/crates/{name}", "stdin": subprocess.DEVNULL, "stdout": log, "stderr": log}
+            self.running[subprocess.Popen(["rt", *verb], **how)] = name, room, time.time()
+        place, spent = self.count - len(self.left), round((time.time() - self.start) / 60)
+        say(f"proving {name}, crate {place} of {self.count}, {spent} min so far, about {self.more()} more")
+
+    def more(self):
+        """In how many minutes the program stands, if the proofs take as much of what is expected as those before them."""
+        scale = self.measured / self.expected if self.expected else 1
+        seconds = {it: self.seconds[it] * scale if it in self.left else 0 for it in self.crates}
+        for name, _, begun in self.running.values():
+            seconds[name] = max(self.seconds[name] * scale - (time.time() - begun), 0)
+        in_rooms = (sum(seconds.values()) - seconds[PROGRAM]) / len(self.rooms) + seconds[PROGRAM]
+        return max(round(max(in_rooms, *chains(self.crates, seconds).values()) / 60), 1)
+
+    def log(self, name):
+        return f"{self.logs}/{name}.log"
