@@ -1,0 +1,13 @@
+//! What the crates of worked examples share: formats, datagrams and texts of docs/EXAMPLES.md, the
+//! formulas of the processor, and calls whose growths are refused. What a test asserts stands in
+//! each of those crates, since only tests may end a process.
+#![tactic(auto)]
+
+pub mod camera;
+pub mod datagrams;
+pub mod formulas;
+pub mod generator;
+pub mod picture_values;
+pub mod sending;
+pub mod small_format;
+pub mod wanting;
