@@ -1,0 +1,94 @@
+pub use Rattle.st_format.specs.Cell
+pub use Rattle.st_format.specs.Device
+pub use Rattle.st_format.specs.Faults as FormatFaults
+pub use Rattle.st_format.specs.Fields as FormatFields
+pub use Rattle.st_format.specs.Fit
+pub use Rattle.st_format.specs.Limits
+pub use Rattle.st_format.specs.Member
+pub use Rattle.st_format.specs.Memory
+pub use Rattle.st_format.specs.Offer
+pub use Rattle.st_format.specs.Pgroup
+pub use Rattle.st_format.specs.Picture
+pub use Rattle.st_format.specs.Position
+pub use Rattle.st_format.specs.Raster
+pub use Rattle.st_format.specs.Rate
+pub use Rattle.st_format.specs.Reading as FormatReading
+pub use Rattle.st_format.specs.Samples
+pub use Rattle.st_format.specs.Text
+pub use Rattle.st_format.specs.Turns
+pub use Rattle.st_format.specs.Words
+pub use Rattle.pgroup_pack.specs.Groups
+pub use Rattle.pgroup_pack.specs.Packing
+pub use Rattle.rtp_header.specs.Faults as RtpFaults
+pub use Rattle.rtp_header.specs.Grammar as RtpGrammar
+pub use Rattle.rtp_header.specs.Reading as RtpReading
+pub use Rattle.rtp_header.specs.Views as RtpViews
+pub use Rattle.payload_header.specs.Faults as PayloadFaults
+pub use Rattle.payload_header.specs.Payload
+pub use Rattle.payload_header.specs.Reading as PayloadReading
+pub use Rattle.payload_header.specs.View
+pub use Rattle.payload_header.specs.Writing
+pub use Rattle.sdp_format.specs.Back
+pub use Rattle.sdp_format.specs.Bytes
+pub use Rattle.sdp_format.specs.Canonical
+pub use Rattle.sdp_format.specs.Faults as SdpFaults
+pub use Rattle.sdp_format.specs.Grammar as SdpGrammar
+pub use Rattle.sdp_format.specs.Naming
+pub use Rattle.sdp_format.specs.Places
+pub use Rattle.sdp_format.specs.Reading as SdpReading
+pub use Rattle.sdp_format.specs.Sections
+pub use Rattle.sdp_format.specs.Views as SdpViews
+pub use Rattle.frame_assembly.specs.Kinds
+pub use Rattle.frame_assembly.specs.Marks
+pub use Rattle.frame_assembly.specs.Rows
+pub use Rattle.frame_assembly.specs.Settled
+pub use Rattle.packet_plan.specs.Faults as PlanFaults
+pub use Rattle.packet_plan.specs.Greedy
+pub use Rattle.packet_plan.specs.Plan
+pub use Rattle.packet_plan.specs.Sender
+pub use Rattle.packet_plan.specs.Sending as PlanSending
+pub use Rattle.packet_plan.specs.Sent as PlanSent
+pub use Rattle.packet_numbers.specs.BitList
+pub use Rattle.packet_numbers.specs.Numbers
+pub use Rattle.path_merge.specs.Admitted
+pub use Rattle.path_merge.specs.Answers
+pub use Rattle.path_merge.specs.Frames
+pub use Rattle.path_merge.specs.Grammar as ReceiverGrammar
+pub use Rattle.path_merge.specs.Offers
+pub use Rattle.path_merge.specs.Opening
+pub use Rattle.path_merge.specs.PlayFault
+pub use Rattle.path_merge.specs.Played
+pub use Rattle.path_merge.specs.Reached
+pub use Rattle.path_merge.specs.Refused
+pub use Rattle.path_merge.specs.Sent as ReceiverSent
+pub use Rattle.path_merge.specs.Sliding
+pub use Rattle.path_merge.specs.Stays
+pub use Rattle.path_merge.specs.Took
+pub use Rattle.path_merge.specs.Unfit
+pub use Rattle.media_file.specs.Blocks
+pub use Rattle.media_file.specs.Capture
+pub use Rattle.media_file.specs.CaptureFaults
+pub use Rattle.media_file.specs.Faults as FileFaults
+pub use Rattle.media_file.specs.Fields as FileFields
+pub use Rattle.media_file.specs.Fronts
+pub use Rattle.media_file.specs.Migrated
+pub use Rattle.media_file.specs.PictureFaults
+pub use Rattle.media_file.specs.PictureFile
+pub use Rattle.media_file.specs.Reader
+pub use Rattle.media_file.specs.Reading as FileReading
+pub use Rattle.media_file.specs.Records
+pub use Rattle.media_file.specs.Source
+pub use Rattle.media_file.specs.StateFile
+pub use Rattle.media_file.specs.Writer
+pub use Rattle.receiver_file.specs.Saved
+pub use Rattle.receiver_file.specs.StateFaults
+pub use Rattle.receiver_file.specs.StateReading
+pub use Rattle.frame_report.specs.Contested
+pub use Rattle.frame_report.specs.Faults as ReportFaults
+pub use Rattle.frame_report.specs.Missing
+pub use Rattle.frame_report.specs.Report
+pub use Rattle.bt709_fixed.specs.Faults as ColourFaults
+pub use Rattle.bt709_fixed.specs.Operations
+pub use Rattle.key_mix.specs.Faults as JobFaults
+pub use Rattle.key_mix.specs.Jobs
+pub use Rattle.key_mix.specs.Sending as JobSending

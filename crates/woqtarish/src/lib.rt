@@ -1,0 +1,122 @@
+//! The door to the library: the names that its user needs, each in the module of its task.
+//!
+//! ```
+//! use anyhow::{Context, Result};
+//! use woqtarish::describe::read_sdp;
+//! use woqtarish::receive::{Path, Receiver};
+//!
+//! /// Prints which columns of which rows are missing of a picture that came by two paths.
+//! fn tell(rt: &HostRuntime, sdp: &[u8], timestamp: u32, came: &[(Path, &[u8])]) -> Result<()> {
+//!     let alloc = rt.alloc();
+//!     let sdp = read_sdp(alloc, sdp)?;
+//!     let mut receiver = Receiver::open(alloc, sdp.format, sdp.payload_type, None, &[timestamp])?;
+//!     for (path, datagram) in came {
+//!         if let Err(refusal) = receiver.take(*path, *datagram) {
+//!             println!(rt; "refused: {refusal}")?;
+//!         }
+//!     }
+//!     let frame = receiver.frame(timestamp).context("no such timestamp")?;
+//!     let format = frame.format();
+//!     for row in 0..format.height() {
+//!         for column in 0..format.width() {
+//!             if frame.cell(row, column, 0).is_missing() {
+//!                 println!(rt; "row {row} column {column} is missing")?;
+//!             }
+//!         }
+//!     }
+//!     Ok(())
+//! }
+//! ```
+//!
+//! A crate that calls it lists `woqtarish` in crates.txt. The program `receiver_example` is the
+//! same with a picture of its own. A clause that is written above it names the definitions as
+//! `Rattle.woqtarish.specs.Frames`; where several libraries have a file of one name, the file has
+//! the library's word before it, as `SdpGrammar` and `ReceiverGrammar`.
+#![tactic(auto)]
+
+/// What video is: its format, its samples in octets, and pictures.
+pub mod formats {
+    pub use pgroup_pack::{PackedPicture, pack, sample_at, unpack};
+    pub use st_format::{
+        Depth, Format, FormatFault, Pgroup, Picture, PictureFault, Sampling, fill_samples,
+    };
+}
+
+/// SDP texts: what one announces, where it is at fault, and the fmtp line of what was read.
+pub mod describe {
+    pub use sdp_format::{Located, Place, Range, Sdp, SdpFault, fmtp_text, read_located, read_sdp};
+}
+
+/// Receivers of two paths: opened, given datagrams one by one or from a source, merged, moved on;
+/// and their frames, which say what is known of each sample.
+pub mod receive {
+    pub use frame_assembly::{Base, Cell, Counts, Frame, GroupState};
+    pub use path_merge::{
+        Observer, OpenFault, OpenedUnlike, ReceiveFault, Received, Receiver, Refusal, SlideFault,
+        Taken, receive, receive_each,
+    };
+    pub use payload_header::PayloadFault;
+    pub use rtp_header::RtpFault;
+    pub use st_format::Path;
+}
+
+/// Which packet numbers came, and the runs of those that did not.
+pub mod numbers {
+    pub use path_merge::{MAX_COUNT, Noted, SeqMap, SeqMapFault};
+}
+
+/// Schedules of two paths, played before they happen.
+pub mod rehearse {
+    pub use path_merge::{Event, Handed, PlayFault, Played, play};
+}
+
+/// Pictures cut into packets, and sent.
+pub mod send {
+    pub use packet_plan::{PacketRun, Plan, PlanFault, Raster, SendFault, Stamp, send_frame};
+}
+
+/// Pictures made of pictures and of frames: range, gain, matrix, wipe and key.
+pub mod process {
+    pub use bt709_fixed::{
+        ColourFault, RangeKind, as_ycc422, as_ycc444, gain, gained_copy, limit, limited_copy,
+        scale_of, to_ycc422, to_ycc444,
+    };
+    pub use key_mix::{
+        Axis, Job, JobFault, JobInput, SendJobFault, WipeShape, key, run_job, send_job, wipe,
+    };
+}
+
+/// Captures, pictures and receivers as files.
+pub mod files {
+    pub use capture_file::{
+        Capture, CaptureReader, CaptureWriter, FileFault, Paths, Record, RecordHead, Standing,
+        Version, load_receiver, migrate_capture, read_capture, read_packed_picture, read_picture,
+        save_receiver, write_capture, write_picture, write_record,
+    };
+}
+
+/// A receiver's report as text.
+pub mod report {
+    pub use frame_report::{ReportFault, write_report};
+}
+
+/// What octets and datagrams come from and go to, and such devices in memory.
+pub mod devices {
+    pub use st_format::memory::{
+        MemoryDatagrams, MemorySink, MemorySource, MemoryTurn, MemoryTurns,
+    };
+    pub use st_format::{
+        ByteSink, ByteSource, DatagramSink, DatagramSource, DeviceFault, MOST_DATAGRAM, SinkFault,
+        SourceFault, Turn, read_whole, write_whole,
+    };
+}
+
+/// The laws of the definitions: what the contracts of the calls say together.
+pub mod laws {
+    pub use capture_file::laws as files;
+    pub use frame_report::laws as report;
+    pub use packet_plan::laws as send;
+    pub use path_merge::{laws as receive, number_laws as numbers};
+    pub use sdp_format::laws as describe;
+    pub use st_format::laws as formats;
+}
