@@ -1,4 +1,4 @@
--- The numbers of the refusals, and the names that `Display` prints (own).
+-- The numbers of the refusals, and their names, as `name` answers them (own).
 use Rattle.std.specs.Prelude.{ℕ, List, codes}
 use Rattle.bt709_fixed.specs.declared.faults.ColourFault.{ColourFault}
 use Rattle.bt709_fixed.specs.declared.faults.ColourFault.TheVariants.{NoMemory, NotRgb, NotYcc444}

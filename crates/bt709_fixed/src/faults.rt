@@ -3,22 +3,24 @@ ghost use Rattle.std.specs.Prelude.{◌≡◌};
 ghost use Rattle.bt709_fixed.specs.declared.faults.ColourFault.TheVariants.{NoMemory};
 
 use std::alloc::AllocError;
-use std::fmt;
 use thiserror::Error;
 
-/// Why there is no picture of other components. `Display` is the fault's name.
+/// Why there is no picture of other components.
 #[derive(Clone, Copy, Debug, PartialEq, Eq, Error)]
 pub enum ColourFault {
     /// The memory was refused.
+    #[error("the memory was refused")]
     NoMemory = 1,
     /// The picture isn't of R, G and B.
+    #[error("the picture isn't of R, G and B")]
     NotRgb,
     /// The picture isn't of Y, Cb and Cr at each column.
+    #[error("the picture isn't of Y, Cb and Cr at each column")]
     NotYcc444,
 }
 
 impl ColourFault {
-    ghost use Rattle.bt709_fixed.specs.Faults.{colour_fault_number};
+    ghost use Rattle.bt709_fixed.specs.Faults.{colour_fault_name, colour_fault_number};
 
     /// Its number: 1 to 3.
     pub fn number(self) -> u8
@@ -26,20 +28,16 @@ impl ColourFault {
     {
         self as u8
     }
-}
 
-impl fmt::Display for ColourFault {
-    ghost use Rattle.std.specs.Prelude.{Some};
-    ghost use Rattle.bt709_fixed.specs.Faults.{colour_fault_name};
-
-    ghost output = { λ fault. Some (colour_fault_name fault) };
-
-    fn fmt<W: fmt::Write>(&self, f: &mut fmt::Formatter<W>) -> fmt::Result {
-        f.write_str(match self {
+    /// Its bare name, as the texts of the program have it.
+    pub fn name(self) -> &'static str
+        ensures { result.now ≡ colour_fault_name self }
+    {
+        match self {
             ColourFault::NoMemory => "NoMemory",
             ColourFault::NotRgb => "NotRgb",
             ColourFault::NotYcc444 => "NotYcc444",
-        })
+        }
     }
 }
 

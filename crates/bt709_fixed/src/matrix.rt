@@ -161,11 +161,9 @@ fn join_components(y: &[u16], cb: &[u16], cr: &[u16], out: &mut [u16])
         ≡ of_component (component_in_row Ycc444 k) (slice_index y.now (k / 3))
         (slice_index cb.now (k / 3)) (slice_index cr.now (k / 3))) }
 {
-    for (k, sample) in out.iter_mut().enumerate() {
-        *sample = match Sampling::Ycc444.component_in_row(k) {
-            0 => y[k / 3],
-            1 => cb[k / 3],
-            _ => cr[k / 3],
-        };
+    for pixel in 0..y.len() {
+        out[3 * pixel] = cb[pixel];
+        out[3 * pixel + 1] = y[pixel];
+        out[3 * pixel + 2] = cr[pixel];
     }
 }

@@ -1,7 +1,6 @@
--- The numbers of the refusals, the names that `Display` prints, and what becomes of another crate's
--- fault (own).
-use Rattle.std.specs.Prelude.{ℕ, List, ◌++◌, codes}
-use Rattle.std.specs.Fmt.{decimal}
+-- The numbers of the refusals, their names, as `name` answers them, and what becomes of another
+-- crate's fault (own).
+use Rattle.std.specs.Prelude.{ℕ, List, codes}
 use Rattle.bt709_fixed.specs.declared.faults.ColourFault.{ColourFault}
 use Rattle.bt709_fixed.specs.declared.faults.ColourFault.TheVariants as colour
 use Rattle.packet_plan.specs.declared.plan.PlanFault.{PlanFault}
@@ -41,9 +40,9 @@ job_fault_name WrongInputCount = codes "WrongInputCount"
 job_fault_name BadGain = codes "BadGain"
 
 abbrev pub send_job_fault_name : SendJobFault → List ℕ
-send_job_fault_name (Job fault) = codes "Job " ++ job_fault_name fault
+send_job_fault_name (Job fault) = codes "Job"
 send_job_fault_name BadPacketSize = codes "BadPacketSize"
-send_job_fault_name (Sink sent) = codes "Sink " ++ decimal sent
+send_job_fault_name (Sink sent) = codes "Sink"
 
 -- a job's fault where a matrix has one
 abbrev pub colour_job_fault : ColourFault → JobFault

@@ -4,38 +4,61 @@ ghost use Rattle.std.specs.Prelude.{◌≡◌};
 use bt709_fixed::ColourFault;
 use packet_plan::{PlanFault, SendFault};
 use std::alloc::AllocError;
-use std::fmt;
 use thiserror::Error;
 
-/// Why there is no picture. `Display` is the fault's name.
+/// Why there is no picture.
 #[derive(Clone, Copy, Debug, PartialEq, Eq, Error)]
 pub enum JobFault {
     /// The memory was refused.
+    #[error("the memory was refused")]
     NoMemory = 1,
     /// The first two pictures have different formats, or the key has another size, depth or rate.
+    #[error("the first two pictures differ in format, or the key in size, depth or rate")]
     FormatsDiffer,
     /// The key is of R, G and B, and so has no luma.
+    #[error("the key is of R, G and B, and so has no luma")]
     KeyNotYcc,
     /// A wipe's position or softness is above the width or height that its axis names.
+    #[error("the wipe's position or softness is above the width or height that its axis names")]
     BadWipe,
     /// The picture isn't of R, G and B.
+    #[error("the picture isn't of R, G and B")]
     NotRgb,
     /// The picture isn't of Y, Cb and Cr at each column.
+    #[error("the picture isn't of Y, Cb and Cr at each column")]
     NotYcc444,
     /// There are more or fewer pictures than the job takes.
+    #[error("there are more or fewer pictures than the job takes")]
     WrongInputCount,
     /// The gain is above 16384.
+    #[error("the gain is above 16384")]
     BadGain,
 }
 
 impl JobFault {
-    ghost use Rattle.key_mix.specs.Faults.{job_fault_number};
+    ghost use Rattle.key_mix.specs.Faults.{job_fault_name, job_fault_number};
 
     /// Its number: 1 to 8.
     pub fn number(self) -> u8
         ensures { result ≡ job_fault_number self }
     {
         self as u8
+    }
+
+    /// Its bare name, as the texts of the program have it.
+    pub fn name(self) -> &'static str
+        ensures { result.now ≡ job_fault_name self }
+    {
+        match self {
+            JobFault::NoMemory => "NoMemory",
+            JobFault::FormatsDiffer => "FormatsDiffer",
+            JobFault::KeyNotYcc => "KeyNotYcc",
+            JobFault::BadWipe => "BadWipe",
+            JobFault::NotRgb => "NotRgb",
+            JobFault::NotYcc444 => "NotYcc444",
+            JobFault::WrongInputCount => "WrongInputCount",
+            JobFault::BadGain => "BadGain",
+        }
     }
 
     /// What was wanted where this fault comes, in words for a person.
@@ -52,26 +75,6 @@ impl JobFault {
             JobFault::WrongInputCount => "one receiver, for a wipe two and for key three",
             JobFault::BadGain => "a gain of at most 16384",
         }
-    }
-}
-
-impl fmt::Display for JobFault {
-    ghost use Rattle.std.specs.Prelude.{Some};
-    ghost use Rattle.key_mix.specs.Faults.{job_fault_name};
-
-    ghost output = { λ fault. Some (job_fault_name fault) };
-
-    fn fmt<W: fmt::Write>(&self, f: &mut fmt::Formatter<W>) -> fmt::Result {
-        f.write_str(match self {
-            JobFault::NoMemory => "NoMemory",
-            JobFault::FormatsDiffer => "FormatsDiffer",
-            JobFault::KeyNotYcc => "KeyNotYcc",
-            JobFault::BadWipe => "BadWipe",
-            JobFault::NotRgb => "NotRgb",
-            JobFault::NotYcc444 => "NotYcc444",
-            JobFault::WrongInputCount => "WrongInputCount",
-            JobFault::BadGain => "BadGain",
-        })
     }
 }
 
@@ -99,33 +102,35 @@ impl From<ColourFault> for JobFault {
     }
 }
 
-/// Why a job's picture wasn't sent. `Display` is the fault's name, and behind that of the job or
-/// the sink what it says.
+/// Why a job's picture wasn't sent.
 #[derive(Clone, Copy, Debug, PartialEq, Eq, Error)]
 pub enum SendJobFault {
     /// There is no picture.
+    #[error("there is no picture: {0}")]
     Job(JobFault),
     /// The greatest size of a packet is below 20 octets and a pgroup of the job's picture, or above
     /// 9000.
+    #[error("the greatest size of a packet is below 20 octets and a pgroup, or above 9000")]
     BadPacketSize,
     /// The sink failed: it took the first `sent` datagrams of the picture, and no more.
+    #[error("the sink failed after {sent} datagrams of the picture")]
     Sink {
         /// How many datagrams the sink took, fewer than the picture has.
         sent: u32,
     },
 }
 
-impl fmt::Display for SendJobFault {
-    ghost use Rattle.std.specs.Prelude.{Some};
+impl SendJobFault {
     ghost use Rattle.key_mix.specs.Faults.{send_job_fault_name};
 
-    ghost output = { λ fault. Some (send_job_fault_name fault) };
-
-    fn fmt<W: fmt::Write>(&self, f: &mut fmt::Formatter<W>) -> fmt::Result {
+    /// Its bare name, without what the job's or the sink's fault says.
+    pub fn name(self) -> &'static str
+        ensures { result.now ≡ send_job_fault_name self }
+    {
         match self {
-            SendJobFault::Job(fault) => write!(f, "Job {fault}"),
-            SendJobFault::BadPacketSize => f.write_str("BadPacketSize"),
-            SendJobFault::Sink { sent } => write!(f, "Sink {sent}"),
+            SendJobFault::Job(_) => "Job",
+            SendJobFault::BadPacketSize => "BadPacketSize",
+            SendJobFault::Sink { .. } => "Sink",
         }
     }
 }

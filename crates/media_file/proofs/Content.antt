@@ -4,7 +4,7 @@ use Rattle.media_file.specs.declared.fault.FileFault.TheVariants.{NoMemory, Devi
 use Rattle.media_file.specs.declared.fault.FileFault.TheVariants.{BadVersion, Truncated, BadField}
 use Rattle.media_file.specs.declared.fault.FileFault.TheVariants.{TrailingBytes, MixedGroup}
 use Rattle.media_file.specs.declared.fault.FileFault.TheVariants.{TooManyRecords}
-use Rattle.media_file.specs.Faults.{IfContent}
+use Rattle.media_file.specs.Faults.{IfContent, IsDevice}
 
 pub if_content : (f : FileFault) (P : Type 0) → P → IfContent f P
 if_content NoMemory P p = tt
@@ -27,3 +27,15 @@ if_content_weaker BadField P Q h p = h p
 if_content_weaker TrailingBytes P Q h p = h p
 if_content_weaker MixedGroup P Q h p = h p
 if_content_weaker TooManyRecords P Q h p = h p
+
+-- a fault of the device
+pub of_device : (f : FileFault) (P : Type 0) → IsDevice f → IfContent f P
+of_device NoMemory P device = tt
+of_device Device P device = tt
+of_device BadName P device = absurd device
+of_device BadVersion P device = absurd device
+of_device Truncated P device = absurd device
+of_device BadField P device = absurd device
+of_device TrailingBytes P device = absurd device
+of_device MixedGroup P device = absurd device
+of_device TooManyRecords P device = absurd device

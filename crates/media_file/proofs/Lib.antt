@@ -31,3 +31,4 @@ pub mod PictureFaults
 pub mod CutCaptures
 pub mod CutPictures
 pub mod Putting
+pub mod Givings

@@ -204,7 +204,8 @@ pub stops_device : (limit left : ℕ) (old now new held_old held_now : Option (L
     (s s' t h k : ℕ) (f : FileFault) → MovesSoFar limit left old now held_old held_now
     → IsDevice f → Keeps now new → s' ≡ s → CountsFault f s' t → k ≡ h
     → Stops (new_records limit) f (devices old s held_old h) (devices new t held_now k)
-stops_device limit left old now new held_old held_now s s' t h k Device m is keeps same counts works =
+stops_device limit left old now new held_old held_now s s' t h k Device m is keeps same counts
+    works =
     inl (stops_begin limit left old now new held_old held_now s t h k m keeps
     (subst (λ (n : ℕ). CountsOne n t) same counts) works)
 stops_device limit left old now new held_old held_now s s' t h k f m is keeps same counts works =

@@ -25,7 +25,7 @@ all_given : (o rest given : List ℕ) → o ≡ given ++ rest → rest ≡ [] �
 all_given o rest given p e = p ∙ ap (λ (xs : List ℕ). given ++ xs) e ∙ append-nil given
 
 -- fewer than ten octets are no head
-short_head : (first : ℕ) (given : List ℕ) → length given < 10
+pub short_head : (first : ℕ) (given : List ℕ) → length given < 10
     → rest_at first given ≡ Err Truncated
 unfolding rest_at
 short_head first given lt =
@@ -98,7 +98,7 @@ part_bad f first old new head p ten bad = record {
 }
 
 -- fewer octets than the head says
-short_octets : (first : ℕ) (head given : List ℕ) (h : RecordHead) → length head ≡ 10
+pub short_octets : (first : ℕ) (head given : List ℕ) (h : RecordHead) → length head ≡ 10
     → head_at first head ≡ Ok h → length given < h.length
     → rest_at first (head ++ given) ≡ Err Truncated
 short_octets first head given h ten is lt =

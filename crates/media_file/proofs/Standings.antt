@@ -38,7 +38,7 @@ one_record old new e read = record {
     joined (Some xs) (Some ys) given =
         given ∙ ap (λ (l : List ℕ). l ++ ys) (sym (append-nil (record_text e)))
 
-both_fit : (xs ys : List Entry) → AllFit xs → AllFit ys → AllFit (xs ++ ys)
+pub both_fit : (xs ys : List Entry) → AllFit xs → AllFit ys → AllFit (xs ++ ys)
 both_fit [] ys some more = more
 both_fit (x ∷ xs) ys some more = (some.0, both_fit xs ys some.1 more)
 

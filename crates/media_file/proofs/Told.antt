@@ -1,9 +1,11 @@
 -- The datagrams that a writer tells.
-use Rattle.std.proofs.Common.{◌≡◌, ℕ, ◌^◌, ◌<◌, false, List, [], ◌∷◌, ◌++◌, length, Option}
-use Rattle.std.proofs.Common.{None, Some, append-nil, refl, sym, ap, ◌∙◌, subst}
+use Rattle.std.proofs.Common.{◌≡◌, ℕ, ◌^◌, ◌<◌, true, false, List, [], ◌∷◌, ◌++◌, length, take}
+use Rattle.std.proofs.Common.{Option, None, Some, append-nil, refl, sym, ap, ◌∙◌, subst}
 use Rattle.std.specs.Io.KnownBytes.{Appends, IsAtEnd}
 use Rattle.std.specs.Prelude.{⊤, Result, Ok, Err, OnErr}
-use Rattle.st_format.specs.Device.{AppendsPrefix, StaysUntold, TakesOne, KeepsAll}
+use Rattle.st_format.specs.Device.{AppendsPrefix, GrowsPart, StaysUntold, TakesOne, KeepsAll}
+use Rattle.st_format.specs.History.{GrewFrom, since}
+use Rattle.st_format.proofs.Histories.{since_is, since_more}
 use Rattle.media_file.specs.declared.paths.Paths.{Paths}
 use Rattle.media_file.specs.declared.front.Version.TheVariants.{Two}
 use Rattle.media_file.specs.Fronts.{front_text}
@@ -12,7 +14,7 @@ use Rattle.media_file.specs.Source.{IfTold}
 use Rattle.media_file.specs.Writer.{IsShortEnough, IsWritten, WriterPlace, StandsWritten}
 use Rattle.media_file.specs.Writer.{datagrams_in}
 use Rattle.media_file.specs.Writer.{entries_of, moment_behind, place_behind, place_failed}
-use Rattle.media_file.specs.Writer.{taken_of}
+use Rattle.media_file.specs.Writer.{taken_of, took_of}
 use Rattle.media_file.proofs.Datagrams.{holds, keeps, takes, writes}
 
 -- a writer that wrote a datagram took it
@@ -93,3 +95,31 @@ takes_none paths text (Some o) None fits e a = absurd a
 takes_none paths text (Some o) (Some o2) fits e a =
     ap (λ (ds : List (List ℕ)). let r : Option (List (List ℕ)) = Some ds in r)
     (holds paths (length text) 0 o2 (is_new paths text o o2 fits e a))
+
+-- ---- by what the sink took since the writer began
+
+-- after a fault nothing is said
+pub stands_failed : (p : WriterPlace) (held : Option (List ℕ)) → p.failed ≡ true
+    → StandsWritten p held
+stands_failed p None is = tt
+stands_failed p (Some held) is = λ ok. absurd cc
+
+-- a first part, behind what was taken since
+pub prefix_since : (before old new octets : List ℕ) → GrewFrom before old → GrowsPart old new octets
+    → AppendsPrefix (Some (since before old)) (Some (since before new)) octets
+prefix_since before old new octets grew part = record {
+  count = part.count;
+  short = part.short;
+  taken = since_more before old new (take part.count octets) grew part.grown;
+}
+
+-- a new writer took a front
+pub front_since : (before new : List ℕ) (text : List ℕ) → new ≡ before ++ front_text Two text
+    → Appends (Some []) (Some (since before new)) (front_text Two text)
+front_since before new text took = since_is before new (front_text Two text) took
+
+pub takes_new : (paths : Paths) (text o : List ℕ) → length text < 2 ^ 16
+    → Appends (Some []) (Some o) (front_text Two text) → took_of (place_new paths text) o ≡ []
+unfolding is_new
+takes_new paths text o fits took =
+    holds paths (length text) 0 o (is_new paths text [] o fits refl took)

@@ -10,7 +10,7 @@ use Rattle.std.proofs.lemmas.List.{take_more}
 use Rattle.media_file.specs.declared.record.Record.{Record}
 use Rattle.media_file.specs.Capture.{entry_seen}
 use Rattle.media_file.specs.Records.{Entry, record_text, records_text}
-use Rattle.st_format.specs.Device.{AppendsPrefix}
+use Rattle.st_format.specs.Device.{AppendsPrefix, GrowsPart}
 
 -- what was cut within a text is cut within it and what follows
 pub prefix_first : (old new : Option (List ℕ)) (xs ys : List ℕ) → AppendsPrefix old new xs
@@ -78,3 +78,40 @@ texts_all {A} rs i r lt is =
     ∙ sym (records_append (map entry_seen (take (i + 1) rs)) (map entry_seen (drop (i + 1) rs)))
     ∙ ap records_text (sym (map-append entry_seen (take (i + 1) rs) (drop (i + 1) rs)))
     ∙ ap (λ (xs : List (Record A)). records_text (map entry_seen xs)) (take-append-drop (i + 1) rs)
+
+-- ---- the same of what a sink took
+
+pub part_first : (old new xs ys : List ℕ) → GrowsPart old new xs → GrowsPart old new (xs ++ ys)
+part_first old new xs ys p = record {
+  count = p.count;
+  short = let s : p.count < length xs = p.short in omega (arith, length-append xs ys);
+  grown = let s : p.count ≤ length xs =
+      omega (arith, p.short) in
+      p.grown ∙ ap (λ (l : List ℕ). old ++ l) (sym (take-append-le p.count xs ys s));
+}
+
+pub took_both : (old mid new xs ys : List ℕ) → mid ≡ old ++ xs → new ≡ mid ++ ys
+    → new ≡ old ++ (xs ++ ys)
+took_both old mid new xs ys p q =
+    q ∙ ap (λ (l : List ℕ). l ++ ys) p ∙ append_assoc old xs ys
+
+pub part_then : (old mid new xs ys : List ℕ) → mid ≡ old ++ xs → GrowsPart mid new ys
+    → GrowsPart old new (xs ++ ys)
+part_then old mid new xs ys p q = record {
+  count = length xs + q.count;
+  short = let s : q.count < length ys = q.short in omega (arith, length-append xs ys);
+  grown = took_both old mid new xs (take q.count ys) p q.grown
+      ∙ ap (λ (l : List ℕ). old ++ l) (sym (take-append-add xs ys q.count));
+}
+
+pub took_whole : (old mid new xs ys : List ℕ) → mid ≡ old ++ xs → new ≡ mid ++ ys
+    → new ≡ old ++ (xs ++ (ys ++ []))
+took_whole old mid new xs ys p q =
+    subst (λ (t : List ℕ). new ≡ old ++ (xs ++ t)) (sym (append-nil ys))
+    (took_both old mid new xs ys p q)
+
+pub took_cut : (old mid new xs ys : List ℕ) → mid ≡ old ++ xs → GrowsPart mid new ys
+    → GrowsPart old new (xs ++ (ys ++ []))
+took_cut old mid new xs ys p q =
+    subst (λ (t : List ℕ). GrowsPart old new (xs ++ t)) (sym (append-nil ys))
+    (part_then old mid new xs ys p q)

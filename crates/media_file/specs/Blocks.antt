@@ -50,5 +50,6 @@ block_of block =
     (slice_index block 10 ∷ slice_index block 11 ∷ slice_index block 12 ∷ slice_index block 13
     ∷ []))
 
+-- the format that the 14 octets of a block at the front say, and what stands behind it
 unfoldable pub block_at : List ℕ → Result (Fields × List ℕ) FileFault
 block_at octets = field_at 14 octets >>= λ x. with_rest (block_of x.0) x.1

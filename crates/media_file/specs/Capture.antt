@@ -36,6 +36,7 @@ pub record IsCapture (octets : List ℕ) (c : Content) : Type 0 where
 abbrev pub entry_seen : {A : Type 0} → Record A → Entry
 entry_seen r = record { path = r.path; moment = r.moment; octets = r.octets.items }
 
+-- a capture that was read, as the grammar says it: its text and its records
 abbrev pub capture_seen : {A : Type 0} → Capture A → Content
 capture_seen c = record { text = c.text.items; records = map entry_seen c.records.items }
 

@@ -19,7 +19,7 @@ file_fault_number TrailingBytes = 7
 file_fault_number MixedGroup = 8
 file_fault_number TooManyRecords = 9
 
--- their names, as `Display` prints them (own)
+-- their names, as `name` answers them (own)
 abbrev pub file_fault_name : FileFault → List ℕ
 file_fault_name NoMemory = codes "NoMemory"
 file_fault_name Device = codes "Device"

@@ -63,6 +63,7 @@ kind_of name octets =
 abbrev pub with_rest : {X : Type 0} → Result X FileFault → List ℕ → Result (X × List ℕ) FileFault
 with_rest r rest = r >>= λ x. Ok (x, rest)
 
+-- the version that name and digits at the front say of a kind of file, and what stands behind them
 unfoldable pub kind_at : List ℕ → List ℕ → Result (Version × List ℕ) FileFault
 kind_at name octets = field_at 8 octets >>= λ x. with_rest (kind_of name x.0) x.1
 

@@ -2,6 +2,7 @@ pub mod Faults
 pub mod Records
 pub mod Reading
 pub mod Source
+pub mod Given
 pub mod Reader
 pub mod Fields
 pub mod Fronts

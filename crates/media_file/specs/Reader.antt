@@ -37,6 +37,7 @@ abbrev pub source_fault : FileFault → SourceFault
 source_fault Device = FailedDevice
 source_fault f = Content (file_fault_number f)
 
+-- the fault that a reader of records stays at, where it came to one
 abbrev pub last_fault_of : Standing → Option SourceFault
 last_fault_of Reads = None
 last_fault_of Ended = None

@@ -87,9 +87,10 @@ place_behind p =
 abbrev pub place_failed : WriterPlace → WriterPlace
 place_failed p = record { paths = p.paths; text_len = p.text_len; moment = p.moment; failed = true }
 
--- what is seen of a writer
+-- what is seen of a writer: `before` is what its sink had taken when it began
 pub record Writer (K : Type 0) : Type 0 where
   pub sink : K
+  pub before : List ℕ
   pub place : WriterPlace
   pub failures : ℕ
 
@@ -118,6 +119,10 @@ StandsWritten p (Some held) = p.failed ≡ false → IsWritten p.paths p.text_le
 abbrev pub taken_of : WriterPlace → Option (List ℕ) → Option (List (List ℕ))
 taken_of p None = None
 taken_of p (Some held) = Some (datagrams_in p.paths p.text_len held)
+
+-- the datagrams that a writer took, by what its sink took since it began
+abbrev pub took_of : WriterPlace → List ℕ → List (List ℕ)
+took_of p octets = datagrams_in p.paths p.text_len octets
 
 -- ---- datagrams put into a writer
 

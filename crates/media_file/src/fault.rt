@@ -2,34 +2,41 @@
 ghost use Rattle.std.specs.Prelude.{◌≡◌, Some, IfSome};
 ghost use Rattle.media_file.specs.declared.fault.FileFault.{FileFault};
 ghost use Rattle.media_file.specs.declared.fault.FileFault.TheVariants.{NoMemory, Device};
-ghost use Rattle.media_file.specs.Faults.{file_fault_number};
+ghost use Rattle.media_file.specs.Faults.{file_fault_name, file_fault_number};
 
 use st_format::DeviceFault;
 use std::alloc::{AllocError, AllocFailed};
-use std::fmt;
 use thiserror::Error;
 
 /// The first fault in the order of a file's octets, or a fault of the machine that came before it.
-/// `Display` is the fault's name.
 #[derive(Clone, Copy, Debug, PartialEq, Eq, Error)]
 pub enum FileFault {
     /// A growth was refused.
+    #[error("the memory was refused")]
     NoMemory = 1,
     /// The device failed.
+    #[error("the device failed")]
     Device = 2,
     /// The first six octets aren't the name of such a file.
+    #[error("the first six octets aren't the name of such a file")]
     BadName = 3,
     /// The two octets behind the name are no version that is read.
+    #[error("the two octets behind the name are no version that is read")]
     BadVersion = 4,
     /// The octets end within the name, a field or what a field counts.
+    #[error("the octets end within the name, a field or what a field counts")]
     Truncated = 5,
     /// A field says what no such file says.
+    #[error("a field says what no such file says")]
     BadField = 6,
     /// An octet stands behind the file's last field.
+    #[error("an octet stands behind the file's last field")]
     TrailingBytes = 7,
     /// A contested group of samples is not spelled as one.
+    #[error("a contested group of samples is not spelled as one")]
     MixedGroup = 8,
     /// A record more than the limit begins.
+    #[error("there are more than 16777216 records")]
     TooManyRecords = 9,
 }
 
@@ -39,6 +46,23 @@ impl FileFault {
         ensures { result ≡ file_fault_number self }
     {
         self as u8
+    }
+
+    /// Its bare name, as the texts of the program have it.
+    pub fn name(self) -> &'static str
+        ensures { result.now ≡ file_fault_name self }
+    {
+        match self {
+            FileFault::NoMemory => "NoMemory",
+            FileFault::Device => "Device",
+            FileFault::BadName => "BadName",
+            FileFault::BadVersion => "BadVersion",
+            FileFault::Truncated => "Truncated",
+            FileFault::BadField => "BadField",
+            FileFault::TrailingBytes => "TrailingBytes",
+            FileFault::MixedGroup => "MixedGroup",
+            FileFault::TooManyRecords => "TooManyRecords",
+        }
     }
 
     /// The fault of a number, as a source of datagrams tells it; `None` where no fault has it.
@@ -58,27 +82,6 @@ impl FileFault {
             9 => Some(FileFault::TooManyRecords),
             _ => None,
         }
-    }
-}
-
-impl fmt::Display for FileFault {
-    ghost use Rattle.std.specs.Prelude.{Some};
-    ghost use Rattle.media_file.specs.Faults.{file_fault_name};
-
-    ghost output = { λ fault. Some (file_fault_name fault) };
-
-    fn fmt<W: fmt::Write>(&self, f: &mut fmt::Formatter<W>) -> fmt::Result {
-        f.write_str(match self {
-            FileFault::NoMemory => "NoMemory",
-            FileFault::Device => "Device",
-            FileFault::BadName => "BadName",
-            FileFault::BadVersion => "BadVersion",
-            FileFault::Truncated => "Truncated",
-            FileFault::BadField => "BadField",
-            FileFault::TrailingBytes => "TrailingBytes",
-            FileFault::MixedGroup => "MixedGroup",
-            FileFault::TooManyRecords => "TooManyRecords",
-        })
     }
 }
 

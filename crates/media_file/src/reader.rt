@@ -1,16 +1,18 @@
 //! A capture as a source of datagrams.
-ghost use Rattle.std.specs.Prelude.{◌≡◌, ◌≤◌, ◌<◌, Some, Ok, Err, length, take};
+ghost use Rattle.std.specs.Prelude.{◌≡◌, ◌≤◌, ◌<◌, ◌↔◌, ◌++◌, Some, Ok, Err, length, take};
 ghost use Rattle.std.specs.Prelude.{IfErr, IfOk, IfSome, OnErr, OnOk, MatchOption, MatchResult};
 ghost use Rattle.std.specs.Io.KnownBytes.{IsAtEnd};
 ghost use Rattle.st_format.specs.Device.{CountsFaults, CountsOne};
-ghost use Rattle.st_format.specs.Turns.{CountsTurn, IsWithin, TakesTurn};
+ghost use Rattle.st_format.specs.History.{since};
+ghost use Rattle.st_format.specs.Turns.{CountsTurn, IsEnd, IsWithin, TakesTurn, arrived, came_of};
 ghost use Rattle.media_file.specs.Faults.{CountsDevice, CountsFault, IsOfFront};
 ghost use Rattle.media_file.specs.Fields.{Fails, Takes};
 ghost use Rattle.media_file.specs.Fronts.{front_at};
+ghost use Rattle.media_file.specs.Given.{GivesNone, HasGiven};
 ghost use Rattle.media_file.specs.Reader.{CountsDeviceAt, GivesRecord, IsNewReader, StandsAfter};
 ghost use Rattle.media_file.specs.Reader.{StandsAtFault, StandsRight, last_fault_of};
-ghost use Rattle.media_file.specs.Reader.{source_fault, turns_of};
-ghost use Rattle.media_file.specs.Records.{entry_of};
+ghost use Rattle.media_file.specs.Reader.{dues_in, source_fault, turns_of};
+ghost use Rattle.media_file.specs.Records.{entry_of, record_text};
 ghost use Rattle.media_file.specs.Source.{FailsRecord, ReadsEnd, ReadsRecord};
 ghost use Rattle.media_file.specs.declared.fault.FileFault.{FileFault};
 ghost use Rattle.media_file.specs.declared.reader.Standing.TheVariants.{Reads, Ended, Failed};
@@ -53,14 +55,18 @@ pub struct CaptureReader<S: ByteSource> {
 impl<S: ByteSource> Model for CaptureReader<S> {
     ghost use Rattle.media_file.specs.Fields.{Fails, Takes};
     ghost use Rattle.media_file.specs.Fronts.{front_at};
+    ghost use Rattle.media_file.specs.Given.{HasGiven};
     ghost use Rattle.media_file.specs.Reader.{Reader, StandsRight};
 
     ghost Value = { Reader S };
 
     ghost view = { λ r. record {
       source = r.source;
-      before =
-          record { to_give = S.to_give r.opened.value; failures = S.failures r.opened.value };
+      before = record {
+        gave = S.gave r.opened.value;
+        to_give = S.to_give r.opened.value;
+        failures = S.failures r.opened.value;
+      };
       text_len = r.text_len;
       standing = r.standing;
       delivered = r.delivered;
@@ -68,8 +74,19 @@ impl<S: ByteSource> Model for CaptureReader<S> {
     } };
 
     ghost invariant = { λ r. StandsRight r.standing r.delivered
-        (record { to_give = S.to_give r.opened.value; failures = S.failures r.opened.value })
-        (S.to_give r.source) (S.failures r.source) };
+        (record {
+          gave = S.gave r.opened.value;
+          to_give = S.to_give r.opened.value;
+          failures = S.failures r.opened.value;
+        })
+        (S.to_give r.source) (S.failures r.source)
+        × HasGiven r.standing
+        (record {
+          gave = S.gave r.opened.value;
+          to_give = S.to_give r.opened.value;
+          failures = S.failures r.opened.value;
+        })
+        (S.to_give r.source) (S.gave r.source) (S.ended r.source) };
 }
 
 /// Reads the next record, or answers `None` at the end.
@@ -86,6 +103,12 @@ fn read_record<S: ByteSource>(
     ensures fault { IfErr result (λ f. FailsRecord f (S.to_give source.old)) }
     ensures counted { CountsDevice (S.failures source.old) (S.failures source.new) result }
     ensures names { S.names source.new ≡ S.names source.old }
+    ensures gave { IfOk result (λ r. MatchOption r
+        ((S.gave source.new ≡ S.gave source.old) × S.ended source.new)
+        (λ h. S.gave source.new ≡ S.gave source.old ++ record_text (entry_of h buf.new))) }
+    ensures wrong { IfErr result (λ f. GivesNone f (S.to_give source.old) (S.to_give source.new)
+        (S.gave source.old) (S.gave source.new)) }
+    ensures cut { IfErr result (λ f. f ≡ FileFault.Truncated → S.ended source.new) }
 {
     let Some(first) = record_begins(source)? else {
         return Ok(None);
@@ -120,8 +143,11 @@ impl<S: ByteSource> CaptureReader<S> {
         ensures counted { MatchResult result (λ r. S.failures r.source ≡ S.failures source)
             (λ e. CountsFault e.0 (S.failures source) (S.failures e.1)) }
         // The records begin where the text ends.
-        ensures before { IfOk result (λ r. r.before
-            ≡ record { to_give = S.to_give r.source; failures = S.failures r.source }) }
+        ensures before { IfOk result (λ r. r.before ≡ record {
+          gave = S.gave r.source;
+          to_give = S.to_give r.source;
+          failures = S.failures r.source;
+        }) }
         ensures names { MatchResult result (λ r. S.names r.source ≡ S.names source)
             (λ e. S.names e.1 ≡ S.names source) }
     {
@@ -150,10 +176,22 @@ impl<S: ByteSource> CaptureReader<S> {
 
     /// By where the reader stands, its source gave whole records up to here, up to its end, or up
     /// to a fault. A caller's proof learns it from here; nothing is done.
+    #[doc(hidden)]
     #[inline(always)]
     pub fn facts(&self)
         ensures { StandsRight self.now.standing self.now.delivered self.now.before
             (S.to_give self.now.source) (S.failures self.now.source) }
+    {
+        let _text_len = &self.text_len;
+    }
+
+    /// By where the reader stands, its source gave whole records since they began, and behind
+    /// them nothing, or after a fault what is no record. A caller's proof learns it from here;
+    /// nothing is done.
+    #[inline(always)]
+    pub fn history(&self)
+        ensures { HasGiven self.now.standing self.now.before (S.to_give self.now.source)
+            (S.gave self.now.source) (S.ended self.now.source) }
     {
         let _text_len = &self.text_len;
     }
@@ -164,6 +202,8 @@ impl<S: ByteSource> CaptureReader<S> {
         ensures source { result ≡ self.source }
         ensures stands { StandsRight self.standing self.delivered self.before (S.to_give result)
             (S.failures result) }
+        ensures gave { HasGiven self.standing self.before (S.to_give result) (S.gave result)
+            (S.ended result) }
     {
         self.source
     }
@@ -181,6 +221,10 @@ fn told(fault: FileFault) -> SourceFault
 
 impl<S: ByteSource> DatagramSource for CaptureReader<S> {
     ghost turns = { λ r. turns_of r.standing (S.to_give r.source) };
+
+    ghost came = { λ r. came_of (dues_in (since r.before.gave (S.gave r.source))) };
+
+    ghost ended = { λ r. r.standing ≡ Ended };
 
     ghost delivered = { λ r. r.delivered };
 
@@ -209,6 +253,14 @@ impl<S: ByteSource> DatagramSource for CaptureReader<S> {
             (last_fault_of self.new.standing ≡ last_fault_of self.old.standing) }
         ensures before { self.new.before ≡ self.old.before }
         ensures names { S.names self.new.source ≡ S.names self.old.source }
+        ensures came { IfOk result
+            (λ t. came_of (dues_in (since self.new.before.gave (S.gave self.new.source)))
+            ≡ came_of (dues_in (since self.old.before.gave (S.gave self.old.source)))
+            ++ arrived t buf.new) }
+        ensures told { IfOk result (λ t. (self.new.standing ≡ Ended) ↔ IsEnd t) }
+        ensures kept { OnErr result
+            (came_of (dues_in (since self.new.before.gave (S.gave self.new.source)))
+            ≡ came_of (dues_in (since self.old.before.gave (S.gave self.old.source)))) }
 
         // Each turn but the last is a record. The end comes only where no octet is left.
         ensures goes { IfOk result

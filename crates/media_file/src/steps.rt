@@ -1,10 +1,12 @@
 //! Reading a record in two steps, which are lent the source and take no memory.
-ghost use Rattle.std.specs.Prelude.{◌≡◌, ◌≤◌, ◌<◌, length, take, option_to_list, None, IfOk, IfErr};
+ghost use Rattle.std.specs.Prelude.{◌≡◌, ◌≤◌, ◌<◌, ◌++◌, length, take, option_to_list, None, IfOk};
+ghost use Rattle.std.specs.Prelude.{IfErr, OnErr};
 ghost use Rattle.std.specs.Io.KnownBytes.{Consumes, IsAtEnd, Keeps};
 ghost use Rattle.media_file.specs.Faults.{CountsDevice, IsDevice};
 ghost use Rattle.media_file.specs.Fields.{GivesPart};
+ghost use Rattle.media_file.specs.Given.{GivesWrong};
 ghost use Rattle.media_file.specs.Reading.{head_at, path_of, rest_at};
-ghost use Rattle.media_file.specs.Records.{IsRecordHead, entry_of, path_octet};
+ghost use Rattle.media_file.specs.Records.{IsRecordHead, entry_of, path_octet, rest_text};
 ghost use Rattle.media_file.specs.Source.{FailsRest, ReadsRest};
 
 use crate::fault::FileFault;
@@ -27,6 +29,10 @@ pub fn record_begins<S: ByteSource>(source: &mut S) -> Result<Option<u8>, FileFa
         (λ f. IsDevice f × Keeps (S.to_give source.old) (S.to_give source.new)) }
     ensures counted { CountsDevice (S.failures source.old) (S.failures source.new) result }
     ensures names { S.names source.new ≡ S.names source.old }
+    ensures gave { IfOk result
+        (λ first. S.gave source.new ≡ S.gave source.old ++ option_to_list first) }
+    ensures ended { IfOk result (λ first. first ≡ None → S.ended source.new) }
+    ensures kept { OnErr result (S.gave source.new ≡ S.gave source.old) }
 {
     let mut first = [0u8; 1];
     let n = source.read(&mut first)?;
@@ -94,6 +100,12 @@ pub fn record_rest<S: ByteSource>(
         (λ _. GivesPart (rest_at first) (S.to_give source.old) (S.to_give source.new)) }
     ensures counted { CountsDevice (S.failures source.old) (S.failures source.new) result }
     ensures names { S.names source.new ≡ S.names source.old }
+    // What it gave is the rest of the record, or what is none.
+    ensures gave { IfOk result
+        (λ r. S.gave source.new ≡ S.gave source.old ++ rest_text (entry_of r buf.new)) }
+    ensures wrong { IfErr result (λ f. GivesWrong (rest_at first) f (S.to_give source.old)
+        (S.to_give source.new) (S.gave source.old) (S.gave source.new)) }
+    ensures cut { IfErr result (λ f. f ≡ FileFault.Truncated → S.ended source.new) }
 {
     let mut rest = [0u8; REST];
     if read_whole(source, &mut rest)? < REST {

@@ -1,15 +1,16 @@
 //! A capture as a sink of datagrams.
-ghost use Rattle.std.specs.Prelude.{◌≡◌, ◌≤◌, ◌<◌, ◌+◌, ◌%◌, ◌^◌, [], Some, length, IfErr, IfOk};
-ghost use Rattle.std.specs.Prelude.{IsErr, OnErr, OnOk, MatchResult, false};
+ghost use Rattle.std.specs.Prelude.{◌≡◌, ◌≤◌, ◌<◌, ◌+◌, ◌%◌, ◌^◌, ◌++◌, ◌∷◌, [], Some, length};
+ghost use Rattle.std.specs.Prelude.{IfErr, IfOk, IsErr, OnErr, OnOk, MatchResult, false};
 ghost use Rattle.std.specs.Io.KnownBytes.{Appends, IsAtEnd, Keeps};
-ghost use Rattle.st_format.specs.Device.{AppendsPrefix, CountsFaults, CountsOne, KeepsAll};
-ghost use Rattle.st_format.specs.Device.{StaysUntold, TakesOne};
+ghost use Rattle.st_format.specs.Device.{AppendsPrefix, CountsFaults, CountsOne, GrowsPart};
+ghost use Rattle.st_format.specs.Device.{KeepsAll, StaysUntold, TakesOne};
+ghost use Rattle.st_format.specs.History.{GrewFrom, since};
 ghost use Rattle.media_file.specs.Faults.{CountsFault, IsDevice};
 ghost use Rattle.media_file.specs.Fronts.{front_text};
 ghost use Rattle.media_file.specs.Records.{records_text};
 ghost use Rattle.media_file.specs.Source.{IfTold};
 ghost use Rattle.media_file.specs.Writer.{FailsDatagram, StandsWritten, TakesDatagram};
-ghost use Rattle.media_file.specs.Writer.{entries_of, taken_of};
+ghost use Rattle.media_file.specs.Writer.{entries_of, taken_of, took_of};
 ghost use Rattle.media_file.specs.declared.front.Version.TheVariants.{Two};
 
 use crate::fault::FileFault;
@@ -17,6 +18,7 @@ use crate::paths::Paths;
 use crate::writing::{write_front, write_record};
 use st_format::{ByteSink, DatagramSink, DeviceFault, Path, SinkFault};
 use std::marker::Model;
+use std::snapshot::Snapshot;
 
 /// Writes a capture of the datagrams that it takes into a sink of octets, which it owns; of one
 /// that is lent, `&mut K`, it owns the loan. For each datagram it writes a record by each of its
@@ -26,6 +28,8 @@ use std::marker::Model;
 #[derive(Drop)]
 pub struct CaptureWriter<K: ByteSink> {
     sink: K,
+    /// The sink as it was before the capture. Only proofs see it.
+    opened: Snapshot<K>,
     paths: Paths,
     text_len: usize,
     moment: u64,
@@ -34,13 +38,15 @@ pub struct CaptureWriter<K: ByteSink> {
 }
 
 impl<K: ByteSink> Model for CaptureWriter<K> {
-    ghost use Rattle.std.specs.Prelude.{◌<◌, ◌^◌};
+    ghost use Rattle.std.specs.Prelude.{◌<◌, ◌^◌, Some};
+    ghost use Rattle.st_format.specs.History.{GrewFrom, since};
     ghost use Rattle.media_file.specs.Writer.{StandsWritten, Writer};
 
     ghost Value = { Writer K };
 
     ghost view = { λ w. record {
       sink = w.sink;
+      before = K.took w.opened.value;
       place =
           record { paths = w.paths; text_len = w.text_len; moment = w.moment; failed = w.failed };
       failures = w.failures;
@@ -49,7 +55,11 @@ impl<K: ByteSink> Model for CaptureWriter<K> {
     ghost invariant = { λ w. (w.moment < 2 ^ 64)
         × StandsWritten
         (record { paths = w.paths; text_len = w.text_len; moment = w.moment; failed = w.failed })
-        (K.held w.sink) };
+        (K.held w.sink)
+        × GrewFrom (K.took w.opened.value) (K.took w.sink)
+        × StandsWritten
+        (record { paths = w.paths; text_len = w.text_len; moment = w.moment; failed = w.failed })
+        (Some (since (K.took w.opened.value) (K.took w.sink))) };
 }
 
 /// Writes the records of a datagram, the first of this moment.
@@ -69,6 +79,10 @@ fn write_datagram<K: ByteSink>(
     ensures untold { StaysUntold (K.held sink.old) (K.held sink.new) }
     ensures counted { CountsFaults (K.failures sink.old) (K.failures sink.new) result }
     ensures names { K.names sink.new ≡ K.names sink.old }
+    ensures took { OnOk result (K.took sink.new
+        ≡ K.took sink.old ++ records_text (entries_of paths moment octets.now)) }
+    ensures part { OnErr result (GrowsPart (K.took sink.old) (K.took sink.new)
+        (records_text (entries_of paths moment octets.now))) }
 {
     match paths {
         Paths::OnlyA => write_record(sink, Path::A, moment, octets),
@@ -107,10 +121,17 @@ impl<K: ByteSink> CaptureWriter<K> {
             (λ e. CountsFault e.0 (K.failures sink) (K.failures e.1)) }
         ensures names { MatchResult result (λ w. K.names w.sink ≡ K.names sink)
             (λ e. K.names e.1 ≡ K.names sink) }
+        ensures took { MatchResult result
+            (λ w. K.took w.sink ≡ K.took sink ++ front_text Two text.now)
+            (λ e. GrowsPart (K.took sink) (K.took e.1) (front_text Two text.now)) }
+        ensures before { IfOk result (λ w. w.before ≡ K.took sink) }
+        ensures new { IfOk result (λ w. ⟦<CaptureWriter<K> as DatagramSink>⟧.took w ≡ []) }
     {
+        let opened = Snapshot::of(&sink);
         match write_front(&mut sink, text) {
             Ok(()) => Ok(CaptureWriter {
                 sink,
+                opened,
                 paths,
                 text_len: text.len(),
                 moment: 0,
@@ -126,6 +147,9 @@ impl<K: ByteSink> CaptureWriter<K> {
     pub fn into_inner(self) -> K
         ensures sink { result ≡ self.sink }
         ensures whole { StandsWritten self.place (K.held result) }
+        // The same holds of what the sink took since the writer began.
+        ensures grew { GrewFrom self.before (K.took result) }
+        ensures took { StandsWritten self.place (Some (since self.before (K.took result))) }
     {
         self.sink
     }
@@ -135,6 +159,7 @@ impl<K: ByteSink> CaptureWriter<K> {
         ensures fault { IsErr result }
         ensures sink { self.new.sink ≡ self.old.sink }
         ensures place { self.new.place ≡ self.old.place }
+        ensures before { self.new.before ≡ self.old.before }
         ensures counted { CountsOne self.old.failures self.new.failures }
     {
         self.failures = self.failures.saturating_add(1);
@@ -144,6 +169,8 @@ impl<K: ByteSink> CaptureWriter<K> {
 
 impl<K: ByteSink> DatagramSink for CaptureWriter<K> {
     ghost taken = { λ w. taken_of w.place (K.held w.sink) };
+
+    ghost took = { λ w. took_of w.place (since w.before (K.took w.sink)) };
 
     ghost failures = { λ w. w.failures };
 
@@ -161,6 +188,14 @@ impl<K: ByteSink> DatagramSink for CaptureWriter<K> {
             (KeepsAll (taken_of self.old.place (K.held self.old.sink))
             (taken_of self.new.place (K.held self.new.sink))) }
         ensures counted { CountsFaults self.old.failures self.new.failures result }
+        ensures took { OnOk result
+            (took_of self.new.place (since self.new.before (K.took self.new.sink))
+            ≡ took_of self.old.place (since self.old.before (K.took self.old.sink))
+            ++ octets.now ∷ []) }
+        ensures kept { OnErr result
+            (took_of self.new.place (since self.new.before (K.took self.new.sink))
+            ≡ took_of self.old.place (since self.old.before (K.took self.old.sink))) }
+        ensures before { self.new.before ≡ self.old.before }
         // What is written: all records of the datagram, or after a fault a first part of them. A
         // fault comes only where the sink failed in this call, or the writer had failed before.
         // After a fault nothing is written.

@@ -1,8 +1,8 @@
 //! Writing a capture.
-ghost use Rattle.std.specs.Prelude.{◌≡◌, ◌≤◌, ◌<◌, ◌^◌, ◌%◌, length, map, IfErr, OnErr, OnOk};
+ghost use Rattle.std.specs.Prelude.{◌≡◌, ◌≤◌, ◌<◌, ◌^◌, ◌%◌, ◌++◌, length, map, IfErr, OnErr, OnOk};
 ghost use Rattle.std.specs.Io.KnownBytes.{Appends};
 ghost use Rattle.std.specs.List.{All};
-ghost use Rattle.st_format.specs.Device.{AppendsPrefix, CountsFaults, StaysUntold};
+ghost use Rattle.st_format.specs.Device.{AppendsPrefix, CountsFaults, GrowsPart, StaysUntold};
 ghost use Rattle.media_file.specs.Capture.{capture_text, entry_seen};
 ghost use Rattle.media_file.specs.Faults.{CountsDevice, IsDevice};
 ghost use Rattle.media_file.specs.Fronts.{front_head, front_text};
@@ -41,6 +41,10 @@ pub fn write_record<K: ByteSink>(
     ensures untold { StaysUntold (K.held sink.old) (K.held sink.new) }
     ensures counted { CountsFaults (K.failures sink.old) (K.failures sink.new) result }
     ensures names { K.names sink.new ≡ K.names sink.old }
+    ensures took { OnOk result (K.took sink.new ≡ K.took sink.old
+        ++ record_text (record { path = path; moment = moment; octets = octets.now })) }
+    ensures part { OnErr result (GrowsPart (K.took sink.old) (K.took sink.new)
+        (record_text (record { path = path; moment = moment; octets = octets.now }))) }
 {
     let head = head_of(path, moment, octets.len() as u16);
     write_whole(sink, &head)?;
@@ -73,6 +77,9 @@ pub fn write_front<K: ByteSink>(sink: &mut K, text: &[u8]) -> Result<(), DeviceF
     ensures untold { StaysUntold (K.held sink.old) (K.held sink.new) }
     ensures counted { CountsFaults (K.failures sink.old) (K.failures sink.new) result }
     ensures names { K.names sink.new ≡ K.names sink.old }
+    ensures took { OnOk result (K.took sink.new ≡ K.took sink.old ++ front_text Two text.now) }
+    ensures part { OnErr result
+        (GrowsPart (K.took sink.old) (K.took sink.new) (front_text Two text.now)) }
 {
     let front = front_of(text.len() as u16);
     write_whole(sink, &front)?;

@@ -92,7 +92,7 @@ abbrev pub seq_map_fault_number : SeqMapFault → ℕ
 seq_map_fault_number NoMemory = 1
 seq_map_fault_number BadCount = 2
 
--- the names of the refusals, as `Display` prints them (own)
+-- the names of the refusals, as `name` answers them (own)
 abbrev pub seq_map_fault_name : SeqMapFault → List ℕ
 seq_map_fault_name NoMemory = codes "NoMemory"
 seq_map_fault_name BadCount = codes "BadCount"

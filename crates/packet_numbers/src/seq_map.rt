@@ -11,7 +11,6 @@ ghost use Rattle.packet_numbers.specs.declared.seq_map.SeqMapFault.TheVariants.{
 use crate::bit_list::BitList;
 use crate::unlike::OpenedUnlike;
 use std::alloc::{AllocError, Allocator, Global};
-use std::fmt;
 use std::marker::Model;
 use thiserror::Error;
 
@@ -19,13 +18,15 @@ use thiserror::Error;
 #[derive(Clone, Copy, Debug, PartialEq, Eq, Error)]
 pub enum SeqMapFault {
     /// The allocator refused the memory for the bits. Tested last.
+    #[error("the memory for the bits was refused")]
     NoMemory = 1,
     /// The count is 0 or above [`MAX_COUNT`].
+    #[error("the count is 0 or above 1048576")]
     BadCount,
 }
 
 impl SeqMapFault {
-    ghost use Rattle.packet_numbers.specs.Numbers.{seq_map_fault_number};
+    ghost use Rattle.packet_numbers.specs.Numbers.{seq_map_fault_name, seq_map_fault_number};
 
     /// The fault's number, 1 or 2.
     pub fn number(self) -> u8
@@ -34,25 +35,21 @@ impl SeqMapFault {
         self as u8
     }
 
+    /// Its bare name, as the texts of the program have it.
+    pub fn name(self) -> &'static str
+        ensures { result.now ≡ seq_map_fault_name self }
+    {
+        match self {
+            SeqMapFault::NoMemory => "NoMemory",
+            SeqMapFault::BadCount => "BadCount",
+        }
+    }
+
     /// What was wanted where this fault comes, in words for a person.
     pub fn wanted(self) -> &'static str {
         match self {
             SeqMapFault::NoMemory => "more memory than there is",
             SeqMapFault::BadCount => "a COUNT from 1 to 1048576",
-        }
-    }
-}
-
-impl fmt::Display for SeqMapFault {
-    ghost use Rattle.std.specs.Prelude.{Some};
-    ghost use Rattle.packet_numbers.specs.Numbers.{seq_map_fault_name};
-
-    ghost output = { λ fault. Some (seq_map_fault_name fault) };
-
-    fn fmt<W: fmt::Write>(&self, f: &mut fmt::Formatter<W>) -> fmt::Result {
-        match self {
-            SeqMapFault::NoMemory => f.write_str("NoMemory"),
-            SeqMapFault::BadCount => f.write_str("BadCount"),
         }
     }
 }

@@ -19,7 +19,6 @@ use arrayvec::ArrayVec;
 use pgroup_pack::PackedPicture;
 use st_format::{Format, Picture};
 use std::alloc::{AllocError, Allocator, Global};
-use std::fmt;
 use std::marker::Model;
 use thiserror::Error;
 
@@ -34,13 +33,15 @@ const MOST_OCTETS: u32 = 9000;
 #[derive(Clone, Copy, Debug, PartialEq, Eq, Error)]
 pub enum PlanFault {
     /// The memory was refused.
+    #[error("the memory was refused")]
     NoMemory = 1,
     /// The greatest size is below 20 octets and a pgroup, or above 9000.
+    #[error("the greatest size of a packet is below 20 octets and a pgroup, or above 9000")]
     BadPacketSize = 2,
 }
 
 impl PlanFault {
-    ghost use Rattle.packet_plan.specs.Faults.{plan_fault_number};
+    ghost use Rattle.packet_plan.specs.Faults.{plan_fault_name, plan_fault_number};
 
     /// Its number: 1 or 2.
     pub fn number(self) -> u8
@@ -49,25 +50,21 @@ impl PlanFault {
         self as u8
     }
 
+    /// Its bare name, as the texts of the program have it.
+    pub fn name(self) -> &'static str
+        ensures { result.now ≡ plan_fault_name self }
+    {
+        match self {
+            PlanFault::NoMemory => "NoMemory",
+            PlanFault::BadPacketSize => "BadPacketSize",
+        }
+    }
+
     /// What was wanted where this fault comes, in words for a person.
     pub fn wanted(self) -> &'static str {
         match self {
             PlanFault::NoMemory => "more memory than there is",
             PlanFault::BadPacketSize => "20 octets and a pgroup at least, and at most 9000",
-        }
-    }
-}
-
-impl fmt::Display for PlanFault {
-    ghost use Rattle.std.specs.Prelude.{Some};
-    ghost use Rattle.packet_plan.specs.Faults.{plan_fault_name};
-
-    ghost output = { λ fault. Some (plan_fault_name fault) };
-
-    fn fmt<W: fmt::Write>(&self, f: &mut fmt::Formatter<W>) -> fmt::Result {
-        match self {
-            PlanFault::NoMemory => f.write_str("NoMemory"),
-            PlanFault::BadPacketSize => f.write_str("BadPacketSize"),
         }
     }
 }
@@ -159,6 +156,7 @@ impl<A: Allocator> Plan<A> {
 
     /// What is so of every plan: it has a packet, and what [`new`](Plan::new) says of its packets.
     /// A caller's proof learns it from here; nothing is done.
+    #[doc(hidden)]
     #[inline(always)]
     pub fn facts(&self)
         ensures some { 0 < length self.now.packets }

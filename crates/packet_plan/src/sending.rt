@@ -9,24 +9,24 @@ use crate::raster::Raster;
 use crate::stamp::Stamp;
 use st_format::DatagramSink;
 use std::alloc::Allocator;
-use std::fmt;
 use thiserror::Error;
 
 /// The sink failed: it took the first `sent` datagrams of the picture, and no more.
 #[derive(Clone, Copy, Debug, PartialEq, Eq, Error)]
+#[error("the sink failed after {sent} datagrams of the picture")]
 pub struct SendFault {
     /// How many datagrams the sink took, fewer than the plan has.
     pub sent: u32,
 }
 
-impl fmt::Display for SendFault {
-    ghost use Rattle.std.specs.Prelude.{Some};
+impl SendFault {
     ghost use Rattle.packet_plan.specs.Faults.{send_fault_name};
 
-    ghost output = { λ _. Some send_fault_name };
-
-    fn fmt<W: fmt::Write>(&self, f: &mut fmt::Formatter<W>) -> fmt::Result {
-        f.write_str("SendFault")
+    /// Its bare name, as the texts of the program have it.
+    pub fn name(self) -> &'static str
+        ensures { result.now ≡ send_fault_name }
+    {
+        "SendFault"
     }
 }
 

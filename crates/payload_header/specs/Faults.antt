@@ -27,7 +27,7 @@ payload_fault_number RowOutside = 6
 payload_fault_number ColumnsOutside = 7
 payload_fault_number ShortData = 8
 
--- their names, as `Display` prints them (own)
+-- their names, as `name` answers them (own)
 abbrev pub payload_fault_name : PayloadFault → List ℕ
 payload_fault_name ShortPayloadHeader = codes "ShortPayloadHeader"
 payload_fault_name TooManySegments = codes "TooManySegments"

@@ -4,6 +4,7 @@ use Rattle.st_format.specs.Raster.{Segment}
 use Rattle.payload_header.specs.declared.payload.PayloadView.{PayloadView}
 use Rattle.payload_header.specs.Payload.{seen_segment}
 
+-- the segments of a payload that was read, in their order (RFC 4175, 4.2)
 abbrev pub segments_of : PayloadView → List Segment
 segments_of v = map seen_segment v.segments.items
 

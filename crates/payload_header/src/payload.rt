@@ -4,7 +4,6 @@ ghost use Rattle.payload_header.specs.Payload.{IsInside, seen_segment};
 
 use arrayvec::ArrayVec;
 use st_format::Format;
-use std::fmt;
 use thiserror::Error;
 
 /// What is wrong with a payload: the first fault.
@@ -15,34 +14,42 @@ use thiserror::Error;
 #[derive(Clone, Copy, Debug, PartialEq, Eq, Error)]
 pub enum PayloadFault {
     /// There aren't two octets of extended number, or a header isn't whole (RFC 4175, 4.2).
+    #[error("the payload header's extended number or the header of a segment isn't whole")]
     ShortPayloadHeader = 1,
 
     /// The third header says that another follows. RFC 4175 allows more headers; SMPTE ST 2110-20
     /// allows three, and so does this reader: a sender of plain RFC 4175 is refused here.
+    #[error("the third segment's header says that another follows")]
     TooManySegments = 2,
 
     /// F is set: the segment is of the second field of an interlaced frame.
+    #[error("a segment is of the second field of an interlaced frame")]
     SecondField = 3,
 
     /// Length is no whole number of pgroups.
+    #[error("a segment's length is no whole number of pgroups")]
     BadLength = 4,
 
     /// Offset isn't at the first pixel of a pgroup.
+    #[error("a segment's offset isn't at the first pixel of a pgroup")]
     BadOffset = 5,
 
     /// The row isn't below the height.
+    #[error("a segment's row isn't below the height")]
     RowOutside = 6,
 
     /// The pixels reach beyond the width.
+    #[error("a segment's pixels reach beyond the width")]
     ColumnsOutside = 7,
 
     /// Behind the headers there are fewer octets than the sum of their Lengths.
+    #[error("there are fewer octets behind the payload header than the segments' lengths in sum")]
     ShortData = 8,
 }
 
 impl PayloadFault {
     ghost use Rattle.std.specs.Prelude.{◌≡◌};
-    ghost use Rattle.payload_header.specs.Faults.{payload_fault_number};
+    ghost use Rattle.payload_header.specs.Faults.{payload_fault_name, payload_fault_number};
 
     /// The number of the fault: its place in the order of tests, from 1.
     pub fn number(self) -> u8
@@ -50,24 +57,20 @@ impl PayloadFault {
     {
         self as u8
     }
-}
 
-impl fmt::Display for PayloadFault {
-    ghost use Rattle.std.specs.Prelude.{Some};
-    ghost use Rattle.payload_header.specs.Faults.{payload_fault_name};
-
-    ghost output = { λ fault. Some (payload_fault_name fault) };
-
-    fn fmt<W: fmt::Write>(&self, f: &mut fmt::Formatter<W>) -> fmt::Result {
+    /// Its bare name, as the texts of the program have it.
+    pub fn name(self) -> &'static str
+        ensures { result.now ≡ payload_fault_name self }
+    {
         match self {
-            PayloadFault::ShortPayloadHeader => f.write_str("ShortPayloadHeader"),
-            PayloadFault::TooManySegments => f.write_str("TooManySegments"),
-            PayloadFault::SecondField => f.write_str("SecondField"),
-            PayloadFault::BadLength => f.write_str("BadLength"),
-            PayloadFault::BadOffset => f.write_str("BadOffset"),
-            PayloadFault::RowOutside => f.write_str("RowOutside"),
-            PayloadFault::ColumnsOutside => f.write_str("ColumnsOutside"),
-            PayloadFault::ShortData => f.write_str("ShortData"),
+            PayloadFault::ShortPayloadHeader => "ShortPayloadHeader",
+            PayloadFault::TooManySegments => "TooManySegments",
+            PayloadFault::SecondField => "SecondField",
+            PayloadFault::BadLength => "BadLength",
+            PayloadFault::BadOffset => "BadOffset",
+            PayloadFault::RowOutside => "RowOutside",
+            PayloadFault::ColumnsOutside => "ColumnsOutside",
+            PayloadFault::ShortData => "ShortData",
         }
     }
 }

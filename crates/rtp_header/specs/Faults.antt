@@ -14,7 +14,7 @@ rtp_fault_number BadVersion = 2
 rtp_fault_number ShortExtension = 3
 rtp_fault_number BadPadding = 4
 
--- their names, as `Display` prints them (own)
+-- their names, as `name` answers them (own)
 abbrev pub rtp_fault_name : RtpFault → List ℕ
 rtp_fault_name ShortHeader = codes "ShortHeader"
 rtp_fault_name BadVersion = codes "BadVersion"

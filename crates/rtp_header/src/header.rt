@@ -1,8 +1,7 @@
 //! What a header says, and what can be wrong with one.
 ghost use Rattle.std.specs.Prelude.{◌≡◌};
-ghost use Rattle.rtp_header.specs.Faults.{rtp_fault_number};
+ghost use Rattle.rtp_header.specs.Faults.{rtp_fault_name, rtp_fault_number};
 
-use std::fmt;
 use thiserror::Error;
 
 /// The octets of the fixed header (RFC 3550, 5.1).
@@ -11,17 +10,21 @@ pub(crate) const FIXED: usize = 12;
 /// The one version (RFC 3550, 5.1).
 pub(crate) const VERSION: u8 = 2;
 
-/// Why octets are no RTP datagram: the first fault, in this order. It displays as its name.
+/// Why octets are no RTP datagram: the first fault, in this order.
 #[derive(Clone, Copy, Debug, PartialEq, Eq, Error)]
 pub enum RtpFault {
     /// There are fewer than the 12 octets of the fixed header (RFC 3550, 5.1).
+    #[error("there are fewer than the 12 octets of an RTP header")]
     ShortHeader = 1,
     /// The version is not 2 (RFC 3550, 5.1).
+    #[error("the RTP version isn't 2")]
     BadVersion = 2,
     /// The list of contributing sources or the header extension isn't whole (RFC 3550, 5.1, 5.3.1).
+    #[error("the list of contributing sources or the header extension isn't whole")]
     ShortExtension = 3,
     /// P is set, and the last octet, which counts the padding, is 0 or more than the octets behind
     /// the headers (RFC 3550, 5.1).
+    #[error("the count of the padding is 0, or more than the octets behind the headers")]
     BadPadding = 4,
 }
 
@@ -32,20 +35,16 @@ impl RtpFault {
     {
         self as u8
     }
-}
 
-impl fmt::Display for RtpFault {
-    ghost use Rattle.std.specs.Prelude.{Some};
-    ghost use Rattle.rtp_header.specs.Faults.{rtp_fault_name};
-
-    ghost output = { λ fault. Some (rtp_fault_name fault) };
-
-    fn fmt<W: fmt::Write>(&self, f: &mut fmt::Formatter<W>) -> fmt::Result {
+    /// Its bare name, as the texts of the program have it.
+    pub fn name(self) -> &'static str
+        ensures { result.now ≡ rtp_fault_name self }
+    {
         match self {
-            RtpFault::ShortHeader => f.write_str("ShortHeader"),
-            RtpFault::BadVersion => f.write_str("BadVersion"),
-            RtpFault::ShortExtension => f.write_str("ShortExtension"),
-            RtpFault::BadPadding => f.write_str("BadPadding"),
+            RtpFault::ShortHeader => "ShortHeader",
+            RtpFault::BadVersion => "BadVersion",
+            RtpFault::ShortExtension => "ShortExtension",
+            RtpFault::BadPadding => "BadPadding",
         }
     }
 }

@@ -1,5 +1,5 @@
 -- The numbers and the names of the faults (own). The order of numbers is the order in which faults
--- are looked for. The names are what `Display` prints.
+-- are looked for. The names are what `name` answers.
 use Rattle.std.specs.Prelude.{ℕ, List, codes}
 use Rattle.sdp_format.specs.declared.fault.SdpFault.{SdpFault}
 use Rattle.sdp_format.specs.declared.fault.SdpFault.TheVariants.{NoMemory, NoVideo, TooManyLegs}

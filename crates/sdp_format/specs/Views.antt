@@ -36,6 +36,7 @@ is_met known others name =
     if is_known name.now then has_name (items_in known) name.now
     else contains slice_order others name
 
+-- what was read of an SDP text, as the grammar says it
 abbrev pub description : Sdp → Description
 description s = record {
   ports = s.ports.items;

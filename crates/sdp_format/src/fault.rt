@@ -4,45 +4,61 @@ ghost use Rattle.sdp_format.specs.declared.fault.SdpFault.TheVariants.{NoMemory}
 ghost use Rattle.sdp_format.specs.Faults.{sdp_fault_name, sdp_fault_number};
 
 use std::alloc::{AllocError, AllocFailed};
-use std::fmt;
 use thiserror::Error;
 
-/// The first fault of a text, or want of memory. `Display` is the fault's name.
+/// The first fault of a text, or want of memory.
 #[derive(Clone, Copy, Debug, PartialEq, Eq, Error)]
 pub enum SdpFault {
     /// A growth was refused.
+    #[error("the memory was refused")]
     NoMemory = 1,
     /// No media section is a video section.
+    #[error("no media section is a video section")]
     NoVideo = 2,
     /// More than two sections are.
+    #[error("there are more than two video sections")]
     TooManyLegs = 3,
     /// A section's first line isn't `m=video PORT RTP/AVP PT`.
+    #[error("a video section's first line isn't m=video PORT RTP/AVP PT")]
     BadMediaLine = 4,
     /// No line of the section begins `a=rtpmap:PT` and a space.
+    #[error("no line of the section begins a=rtpmap:PT and a space")]
     NoRtpmap = 5,
     /// The first such line doesn't say `raw/90000`.
+    #[error("the first line a=rtpmap:PT doesn't say raw/90000")]
     NotRaw90000 = 6,
     /// No line of the section begins `a=fmtp:PT` and a space.
+    #[error("no line of the section begins a=fmtp:PT and a space")]
     NoFmtp = 7,
     /// An item without a name, or a value that isn't of its name's form.
+    #[error("an item of a=fmtp:PT has no name, or a value that isn't of its name's form")]
     BadParameter = 8,
     /// Two items with one name.
+    #[error("two items of a=fmtp:PT have one name")]
     DoubleParameter = 9,
     /// One of the eight required names isn't there.
+    #[error("sampling, width, height, exactframerate, depth, colorimetry, PM or SSN is missing")]
     MissingParameter = 10,
     /// `sampling` is another than 4:2:2, 4:4:4 and RGB.
+    #[error("the sampling is another than 4:2:2, 4:4:4 and RGB")]
     UnsupportedSampling = 11,
     /// `depth` is another than 8, 10, 12 and 16.
+    #[error("the depth is another than 8, 10, 12 and 16")]
     UnsupportedDepth = 12,
     /// `interlace` or `segmented` is there.
+    #[error("interlace or segmented is there")]
     Interlaced = 13,
     /// `PM` is another than general packing mode.
+    #[error("the packing mode is another than general packing mode")]
     UnsupportedPacking = 14,
     /// `SSN` doesn't begin `ST2110-20:`.
+    #[error("the value of SSN doesn't begin ST2110-20 and a colon")]
     BadSsn = 15,
     /// No `Format` has this size and rate.
+    #[error("no format has this size and rate")]
     BadFormat = 16,
     /// Two sections differ in more than their ports.
+    #[error("two sections differ in more than their ports")]
     LegsDiffer = 17,
 }
 
@@ -52,6 +68,31 @@ impl SdpFault {
         ensures { result ≡ sdp_fault_number self }
     {
         self as u8
+    }
+
+    /// Its bare name, as the texts of the program have it.
+    pub fn name(self) -> &'static str
+        ensures { result.now ≡ sdp_fault_name self }
+    {
+        match self {
+            SdpFault::NoMemory => "NoMemory",
+            SdpFault::NoVideo => "NoVideo",
+            SdpFault::TooManyLegs => "TooManyLegs",
+            SdpFault::BadMediaLine => "BadMediaLine",
+            SdpFault::NoRtpmap => "NoRtpmap",
+            SdpFault::NotRaw90000 => "NotRaw90000",
+            SdpFault::NoFmtp => "NoFmtp",
+            SdpFault::BadParameter => "BadParameter",
+            SdpFault::DoubleParameter => "DoubleParameter",
+            SdpFault::MissingParameter => "MissingParameter",
+            SdpFault::UnsupportedSampling => "UnsupportedSampling",
+            SdpFault::UnsupportedDepth => "UnsupportedDepth",
+            SdpFault::Interlaced => "Interlaced",
+            SdpFault::UnsupportedPacking => "UnsupportedPacking",
+            SdpFault::BadSsn => "BadSsn",
+            SdpFault::BadFormat => "BadFormat",
+            SdpFault::LegsDiffer => "LegsDiffer",
+        }
     }
 
     /// What was wanted where this fault comes, in words for a person.
@@ -80,41 +121,6 @@ impl SdpFault {
                 "two sections with one payload type, format, range and colorimetry"
             }
         }
-    }
-}
-
-/// The fault's name.
-fn name(fault: SdpFault) -> &'static str
-    ensures { result.now ≡ sdp_fault_name fault }
-{
-    match fault {
-        SdpFault::NoMemory => "NoMemory",
-        SdpFault::NoVideo => "NoVideo",
-        SdpFault::TooManyLegs => "TooManyLegs",
-        SdpFault::BadMediaLine => "BadMediaLine",
-        SdpFault::NoRtpmap => "NoRtpmap",
-        SdpFault::NotRaw90000 => "NotRaw90000",
-        SdpFault::NoFmtp => "NoFmtp",
-        SdpFault::BadParameter => "BadParameter",
-        SdpFault::DoubleParameter => "DoubleParameter",
-        SdpFault::MissingParameter => "MissingParameter",
-        SdpFault::UnsupportedSampling => "UnsupportedSampling",
-        SdpFault::UnsupportedDepth => "UnsupportedDepth",
-        SdpFault::Interlaced => "Interlaced",
-        SdpFault::UnsupportedPacking => "UnsupportedPacking",
-        SdpFault::BadSsn => "BadSsn",
-        SdpFault::BadFormat => "BadFormat",
-        SdpFault::LegsDiffer => "LegsDiffer",
-    }
-}
-
-impl fmt::Display for SdpFault {
-    ghost use Rattle.std.specs.Prelude.{Some};
-
-    ghost output = { λ fault. Some (sdp_fault_name fault) };
-
-    fn fmt<W: fmt::Write>(&self, f: &mut fmt::Formatter<W>) -> fmt::Result {
-        f.write_str(name(*self))
     }
 }
 

@@ -8,6 +8,8 @@ use crate::item_at_fault::item_at_fault;
 use crate::lines::{attribute_line, media_of, next_line};
 use crate::sdp::{Stop, VideoSection};
 use crate::text::{after_last, octets_before};
+use std::error::Error;
+use std::fmt;
 
 /// Octets of one line of a text.
 #[derive(Clone, Copy, Debug, PartialEq, Eq)]
@@ -32,6 +34,19 @@ pub struct Located {
     /// wanted, or the text has no video section.
     pub place: Option<Place>,
 }
+
+impl fmt::Display for Located {
+    /// The fault in words, behind the number of its line where it has a place.
+    fn fmt<W: fmt::Write>(&self, f: &mut fmt::Formatter<W>) -> fmt::Result {
+        let fault = self.fault;
+        match self.place {
+            Some(place) => write!(f, "line {}: {fault}", place.line),
+            None => write!(f, "{fault}"),
+        }
+    }
+}
+
+impl Error for Located {}
 
 /// How many LFs a text has.
 fn line_feeds(text: &[u8]) -> usize

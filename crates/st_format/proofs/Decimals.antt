@@ -10,7 +10,7 @@ use Rattle.std.proofs.lemmas.Bool.Decides.{nat_tests}
 use Rattle.std.proofs.lemmas.Str.Parse.{IsNumeralModel, numerals_by_value}
 use Rattle.st_format.specs.Words.{IsNumber, is_number, number}
 
-digits : IsNumeralModel (λ ds. list_all is_ascii_digit ds ≡ true) (digits_value 10)
+pub digits : IsNumeralModel (λ ds. list_all is_ascii_digit ds ≡ true) (digits_value 10)
 digits = numerals_by_value _ (search rules)
 
 and_true : (a b : Bool) → a ≡ true → b ≡ true → (a && b) ≡ true
@@ -26,7 +26,7 @@ le_true m n h = grind (arith, nat_tests)
 le_from : (m n : ℕ) → nat_le m n ≡ true → m ≤ n
 le_from m n h = grind (arith, nat_tests)
 
-passes : (text : List ℕ) → IsNumber text → is_number text ≡ true
+pub passes : (text : List ℕ) → IsNumber text → is_number text ≡ true
 passes text is =
     let some : 1 ≤ length text = omega (arith, is.some) in
     let fits : digits_value 10 text ≤ 4294967295 = omega (arith, is.fits) in

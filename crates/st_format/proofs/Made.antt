@@ -21,7 +21,7 @@ good_width s b w h =
 good_height : (h : ℕ) → IsHeight h → is_bad_height h ≡ false
 good_height h i = rw (le-ltb h 1 i.least, le-ltb 8192 h i.most) refl
 
-good_rate : (n d : ℕ) → IsRate n d → is_bad_rate n d ≡ false
+pub good_rate : (n d : ℕ) → IsRate n d → is_bad_rate n d ≡ false
 good_rate n d r =
     rw (
       le-ltb n 1 r.some_n,

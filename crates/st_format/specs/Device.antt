@@ -57,12 +57,27 @@ KeepsAll None new = ⊤
 KeepsAll (Some old) None = ⊥
 KeepsAll (Some old) (Some new) = new ≡ old
 
--- What a source of octets told at some moment: what it was to give, and how often it had failed
--- (own).
+-- a history grew by some first part of these octets, and not by all (own)
+pub record GrowsPart (old new octets : List ℕ) : Type 0 where
+  pub count : ℕ
+  pub short : count < length octets
+  pub grown : new ≡ old ++ take count octets
+
+-- A source gave some first part of these octets, and not all: what it was to give and what it gave
+-- so far, `was` and `old` before, `left` and `new` after (own).
+pub record GivesPart (was left : Option (List ℕ)) (old new octets : List ℕ) : Type 0 where
+  pub count : ℕ
+  pub short : count < length octets
+  pub given : Consumes was left (take count octets)
+  pub grown : new ≡ old ++ take count octets
+
+-- What a source of octets told at some moment: what it had given, what it was to give, and how
+-- often it had failed (own).
 pub record Told : Type 0 where
+  pub gave : List ℕ
   pub to_give : Option (List ℕ)
   pub failures : ℕ
 
 -- where there is no source of octets, nothing was told (own)
 abbrev pub told_nothing : Told
-told_nothing = record { to_give = None; failures = 0 }
+told_nothing = record { gave = []; to_give = None; failures = 0 }

@@ -1,6 +1,5 @@
--- The numbers and the names of faults. A fault's name is what `Display` prints of it (own).
-use Rattle.std.specs.Prelude.{ℕ, List, ◌++◌, codes}
-use Rattle.std.specs.Fmt.{decimal}
+-- The numbers and the names of faults, as `number` and `name` answer them (own).
+use Rattle.std.specs.Prelude.{ℕ, List, codes}
 use Rattle.st_format.specs.declared.device.SourceFault.{SourceFault}
 use Rattle.st_format.specs.declared.device.SourceFault.TheVariants.{Device, Content}
 use Rattle.st_format.specs.declared.format.FormatFault.{FormatFault}
@@ -26,10 +25,10 @@ abbrev pub picture_fault_name : PictureFault → List ℕ
 picture_fault_name NoMemory = codes "NoMemory"
 picture_fault_name ValueTooLarge = codes "ValueTooLarge"
 
--- behind that of a fault of content its number
+-- of faults of content without their numbers
 abbrev pub source_fault_name : SourceFault → List ℕ
 source_fault_name Device = codes "Device"
-source_fault_name (Content number) = codes "Content " ++ decimal number
+source_fault_name (Content number) = codes "Content"
 
 -- of faults that are one value
 abbrev pub device_fault_name : List ℕ

@@ -20,6 +20,7 @@ pub record Fields : Type 0 where
   pub n : ℕ
   pub d : ℕ
 
+-- the fields of a format as one value
 abbrev pub fields_of : Format → Fields
 fields_of f =
     record {
@@ -32,14 +33,17 @@ fields_of f =
       d = f.d;
     }
 
--- tests of the limits
+-- Tests of the limits (own profile of SMPTE ST 2110-20): not from 2 to 8192 columns, or no multiple
+-- of 2 and of a pgroup's pixels
 abbrev pub is_bad_width : Sampling → Depth → ℕ → Bool
 is_bad_width s b w =
     nat_lt w 2 || nat_lt 8192 w || not (w % 2 == 0) || not (w % (pixel_group s b).pixels == 0)
 
+-- not from 1 to 8192 rows
 abbrev pub is_bad_height : ℕ → Bool
 is_bad_height h = nat_lt h 1 || nat_lt 8192 h
 
+-- n or d not from 1 to 1,000,000, or n / d not from 1 to 300 frames a second
 abbrev pub is_bad_rate : ℕ → ℕ → Bool
 is_bad_rate n d =
     nat_lt n 1 || nat_lt 1000000 n || nat_lt d 1 || nat_lt 1000000 d || nat_lt n d
@@ -66,13 +70,14 @@ abbrev pub made_fields : {E : Type 0} → Result Format E → Result Fields E
 made_fields (Ok f) = Ok (fields_of f)
 made_fields (Err e) = Err e
 
--- whether two say the same, as a test
+-- Whether two say the same, as a test: of samplings
 abbrev pub same_sampling : Sampling → Sampling → Bool
 same_sampling Ycc422 Ycc422 = true
 same_sampling Ycc444 Ycc444 = true
 same_sampling Rgb Rgb = true
 same_sampling a b = false
 
+-- of depths
 abbrev pub same_depth : Depth → Depth → Bool
 same_depth D8 D8 = true
 same_depth D10 D10 = true
@@ -80,6 +85,7 @@ same_depth D12 D12 = true
 same_depth D16 D16 = true
 same_depth a b = false
 
+-- of all fields
 abbrev pub same_fields : Fields → Fields → Bool
 same_fields f g =
     same_sampling f.sampling g.sampling && same_depth f.depth g.depth && f.width == g.width

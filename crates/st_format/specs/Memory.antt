@@ -1,7 +1,8 @@
 -- What contracts see of the devices in memory (own).
-use Rattle.std.specs.Prelude.{ℕ, ◌<◌, List, [], ◌∷◌, length, Option, Vec, ⊤}
+use Rattle.std.specs.Prelude.{Bool, ℕ, ◌<◌, List, [], ◌∷◌, length, Option, Vec, ⊤}
 use Rattle.st_format.specs.Turns.{Due, Comes, Nothing}
 use Rattle.st_format.specs.declared.device.SourceFault.{SourceFault}
+use Rattle.st_format.specs.declared.path.Path.{Path}
 use Rattle.st_format.specs.declared.memory.turns.MemoryTurn.{MemoryTurn}
 use Rattle.st_format.specs.declared.memory.turns.MemoryTurn.TheVariants.{Datagram, Quiet}
 
@@ -10,6 +11,8 @@ use Rattle.st_format.specs.declared.memory.turns.MemoryTurn.TheVariants.{Datagra
 -- a source in memory: a call gives at most `piece` octets
 pub record Source : Type 0 where
   pub to_give : List ℕ
+  pub gave : List ℕ
+  pub is_ended : Bool
   pub piece : ℕ
   pub fails_in : ℕ
   pub failures : ℕ
@@ -17,6 +20,7 @@ pub record Source : Type 0 where
 -- a sink in memory: it has room for `room` octets more, and a call takes at most `piece`
 pub record Sink : Type 0 where
   pub held : List ℕ
+  pub took : List ℕ
   pub room : ℕ
   pub piece : ℕ
   pub fails_in : ℕ
@@ -34,6 +38,8 @@ pub record Datagrams : Type 0 where
 -- a source of datagrams in memory
 pub record Turns : Type 0 where
   pub turns : List Due
+  pub came : List (Path × List ℕ)
+  pub is_ended : Bool
   pub fails_in : ℕ
   pub delivered : ℕ
   pub failures : ℕ

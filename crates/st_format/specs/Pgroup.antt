@@ -11,6 +11,7 @@ pub record Group : Type 0 where
   pub pixels : ℕ
   pub samples : ℕ
 
+-- the pgroup of a sampling at a depth, by the tables of SMPTE ST 2110-20
 abbrev pub pixel_group : Sampling → Depth → Group
 pixel_group Ycc422 D8 = record { octets = 4; pixels = 2; samples = 4 }
 pixel_group Ycc422 D10 = record { octets = 5; pixels = 2; samples = 4 }

@@ -1,6 +1,7 @@
 -- A reading from the left, step by step: each step answers a value or the first fault.
 use Rattle.std.specs.Prelude.{◌≡◌, Result, Ok, Err}
 
+-- the next step, of the value of the one before, where that gave one
 infixl 10 ◌>>=◌
 abbrev pub ◌>>=◌ : {E A B : Type 0} → Result A E → (A → Result B E) → Result B E
 (Ok x) >>= f = f x

@@ -45,3 +45,21 @@ abbrev pub IsWithin : Turn → Type 0
 IsWithin (Datagram path count) = count < 65536
 IsWithin Quiet = ⊤
 IsWithin End = ⊤
+
+-- the turn is the end
+abbrev pub IsEnd : Turn → Type 0
+IsEnd (Datagram path count) = ⊥
+IsEnd Quiet = ⊥
+IsEnd End = ⊤
+
+-- the datagram that came in a turn, if one did: its path, and the octets at the front of a buffer
+abbrev pub arrived : Turn → List ℕ → List (Path × List ℕ)
+arrived (Datagram path count) buf = (path, take count buf) ∷ []
+arrived Quiet buf = []
+arrived End buf = []
+
+-- the datagrams among turns, each with its path, in order
+abbrev pub came_of : List Due → List (Path × List ℕ)
+came_of [] = []
+came_of (Comes path octets ∷ due) = (path, octets) ∷ came_of due
+came_of (Nothing ∷ due) = came_of due

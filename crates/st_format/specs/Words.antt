@@ -28,11 +28,12 @@ pub record IsNumber (text : List ℕ) : Type 0 where
   pub few : length text ≤ 10
   pub fits : digits_value 10 text < 2 ^ 32
 
--- the same as a test, and the value of a text that passes it
+-- the same as a test
 abbrev pub is_number : List ℕ → Bool
 is_number text =
     nat_le 1 (length text) && nat_le (length text) 10 && list_all is_ascii_digit text
     && nat_le (digits_value 10 text) 4294967295
 
+-- the value of a text that passes it
 unfoldable pub number : List ℕ → Option ℕ
 number text = if is_number text then Some (digits_value 10 text) else None

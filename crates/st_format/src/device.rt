@@ -1,23 +1,23 @@
 //! What devices give and take, and loops over any of them.
 //!
-//! A device says what it does by ghost members, which only contracts see: the octets that it has
-//! still to give, those that it holds, the datagrams that it took, the turns that are to come, and
-//! how often it has failed. A device of this machine, as a file or a socket, can't say which octets
-//! it carries, so its list is `None`: then only the clauses on numbers of octets and on failures
-//! hold of it.
+//! A device says what it does by ghost members, which only contracts see. Some speak of what is to
+//! come and of what is there: the octets that it has still to give, those that it holds, the
+//! datagrams that it has, the turns that are to come. A device of this machine, as a file or a
+//! socket, can't say these, so its list is `None`. Others speak of what passed, and hold of every
+//! device: the octets and datagrams that its calls gave or took so far, whether it told its end,
+//! and how often it has failed.
 //!
 //! A device that is lent, `&mut S`, is a device too: what it says is what the lender's says.
 //!
 //! A count of failures or of datagrams stays at 2^64 - 1 once it is there.
-ghost use Rattle.std.specs.Prelude.{◌≡◌, ◌≤◌, ◌<◌, ℕ, List, [], ◌∷◌, Option, length, take, IfOk};
-ghost use Rattle.std.specs.Prelude.{OnOk, IfErr, OnErr, MatchResult, ⊤};
+ghost use Rattle.std.specs.Prelude.{◌≡◌, ◌≤◌, ◌<◌, ◌↔◌, ℕ, List, [], ◌∷◌, ◌++◌, Option, length};
+ghost use Rattle.std.specs.Prelude.{take, IfOk, OnOk, IfErr, OnErr, MatchResult, ⊤};
 ghost use Rattle.std.specs.Borrow.{GName};
 ghost use Rattle.std.specs.Io.KnownBytes.{Consumes, Appends, Keeps, IsAtEnd};
 ghost use Rattle.st_format.specs.Device.{CountsFaults, ConsumesPrefix, AppendsPrefix, StaysUntold};
-ghost use Rattle.st_format.specs.Device.{TakesOne, KeepsAll, TellsOctets};
+ghost use Rattle.st_format.specs.Device.{TakesOne, KeepsAll, TellsOctets, GivesPart, GrowsPart};
 
 use crate::Path;
-use std::fmt;
 use thiserror::Error;
 
 /// How many octets a datagram has at most, and the text of a capture: a length of 16 bits (UDP: RFC
@@ -26,31 +26,33 @@ pub const MOST_DATAGRAM: usize = 65_535;
 
 /// A source or a sink of octets failed. Why is the device's own matter.
 #[derive(Clone, Copy, Debug, PartialEq, Eq, Error)]
+#[error("a source or a sink of octets failed")]
 pub struct DeviceFault;
 
-impl fmt::Display for DeviceFault {
-    ghost use Rattle.std.specs.Prelude.{Some};
+impl DeviceFault {
     ghost use Rattle.st_format.specs.Faults.{device_fault_name};
 
-    ghost output = { λ _. Some device_fault_name };
-
-    fn fmt<W: fmt::Write>(&self, f: &mut fmt::Formatter<W>) -> fmt::Result {
-        f.write_str("DeviceFault")
+    /// Its bare name, as the texts of the program have it.
+    pub fn name(self) -> &'static str
+        ensures { result.now ≡ device_fault_name }
+    {
+        "DeviceFault"
     }
 }
 
 /// A sink of datagrams failed, and did not take the datagram.
 #[derive(Clone, Copy, Debug, PartialEq, Eq, Error)]
+#[error("a sink of datagrams failed, and did not take the datagram")]
 pub struct SinkFault;
 
-impl fmt::Display for SinkFault {
-    ghost use Rattle.std.specs.Prelude.{Some};
+impl SinkFault {
     ghost use Rattle.st_format.specs.Faults.{sink_fault_name};
 
-    ghost output = { λ _. Some sink_fault_name };
-
-    fn fmt<W: fmt::Write>(&self, f: &mut fmt::Formatter<W>) -> fmt::Result {
-        f.write_str("SinkFault")
+    /// Its bare name, as the texts of the program have it.
+    pub fn name(self) -> &'static str
+        ensures { result.now ≡ sink_fault_name }
+    {
+        "SinkFault"
     }
 }
 
@@ -58,22 +60,24 @@ impl fmt::Display for SinkFault {
 #[derive(Clone, Copy, Debug, PartialEq, Eq, Error)]
 pub enum SourceFault {
     /// The device failed. Why is its own matter.
+    #[error("the device failed")]
     Device,
     /// What the device carries is at fault, by the number that the source gives to faults of its
     /// content.
+    #[error("what the device carries is at fault: number {0} of the source's faults")]
     Content(u8),
 }
 
-impl fmt::Display for SourceFault {
-    ghost use Rattle.std.specs.Prelude.{Some};
+impl SourceFault {
     ghost use Rattle.st_format.specs.Faults.{source_fault_name};
 
-    ghost output = { λ fault. Some (source_fault_name fault) };
-
-    fn fmt<W: fmt::Write>(&self, f: &mut fmt::Formatter<W>) -> fmt::Result {
+    /// Its bare name, of a fault of content without the number.
+    pub fn name(self) -> &'static str
+        ensures { result.now ≡ source_fault_name self }
+    {
         match self {
-            SourceFault::Device => f.write_str("Device"),
-            SourceFault::Content(number) => write!(f, "Content {number}"),
+            SourceFault::Device => "Device",
+            SourceFault::Content(_) => "Content",
         }
     }
 }
@@ -95,6 +99,13 @@ pub enum Turn {
 pub trait ByteSource {
     /// The octets still to give, first one first; `None` where the device can't tell them.
     ghost to_give: { Self → Option (List ℕ) };
+
+    /// All octets that its calls gave so far, first one first.
+    ghost gave: { Self → List ℕ };
+
+    /// Its last call at a buffer with room told the end. Before such a call, and after one at an
+    /// empty buffer or one that failed, it is not said.
+    ghost ended: { Self → Type 0 };
 
     /// How often it has failed.
     ghost failures: { Self → ℕ };
@@ -122,7 +133,10 @@ pub trait ByteSource {
         ensures fault { OnErr result (Keeps (to_give self.old) (to_give self.new)) }
         ensures octets { TellsOctets (to_give self.old) }
         ensures counted { CountsFaults (failures self.old) (failures self.new) result }
-        ensures names { names self.new ≡ names self.old };
+        ensures names { names self.new ≡ names self.old }
+        ensures gave { IfOk result (λ n. gave self.new ≡ gave self.old ++ take n buf.new) }
+        ensures ended { IfOk result (λ n. 0 < length buf.old → (ended self.new ↔ (n ≡ 0))) }
+        ensures kept { OnErr result (gave self.new ≡ gave self.old) };
 }
 
 /// Takes octets, one piece after another.
@@ -132,6 +146,9 @@ pub trait ByteSink {
     /// The octets that it holds, in the order in which it took them; `None` where the device can't
     /// tell them.
     ghost held: { Self → Option (List ℕ) };
+
+    /// All octets that its calls took so far, first one first.
+    ghost took: { Self → List ℕ };
 
     /// How often it has failed.
     ghost failures: { Self → ℕ };
@@ -155,13 +172,18 @@ pub trait ByteSink {
         ensures fault { OnErr result (Keeps (held self.old) (held self.new)) }
         ensures untold { StaysUntold (held self.old) (held self.new) }
         ensures counted { CountsFaults (failures self.old) (failures self.new) result }
-        ensures names { names self.new ≡ names self.old };
+        ensures names { names self.new ≡ names self.old }
+        ensures took { IfOk result (λ n. took self.new ≡ took self.old ++ take n octets.now) }
+        ensures kept { OnErr result (took self.new ≡ took self.old) };
 }
 
 /// Takes datagrams, each whole or not at all.
 pub trait DatagramSink {
     /// The datagrams that it took, in order; `None` where the device can't tell them.
     ghost taken: { Self → Option (List (List ℕ)) };
+
+    /// All datagrams that its calls took so far, in order.
+    ghost took: { Self → List (List ℕ) };
 
     /// How often it has failed.
     ghost failures: { Self → ℕ };
@@ -183,19 +205,29 @@ pub trait DatagramSink {
         ensures fault { OnErr result (KeepsAll (taken self.old) (taken self.new)) }
         ensures counted { CountsFaults (failures self.old) (failures self.new) result }
         ensures takes { OnOk result (takes self.old octets.now self.new) }
-        ensures fails { OnErr result (fails self.old octets.now self.new) };
+        ensures fails { OnErr result (fails self.old octets.now self.new) }
+        ensures took { OnOk result (took self.new ≡ took self.old ++ octets.now ∷ []) }
+        ensures kept { OnErr result (took self.new ≡ took self.old) };
 }
 
 /// Gives datagrams that come by two paths, one turn after another, until its end.
 pub trait DatagramSource {
     ghost use Rattle.std.specs.Prelude.{Some};
     ghost use Rattle.st_format.specs.Device.{Told, told_nothing};
-    ghost use Rattle.st_format.specs.Turns.{CountsTurn, Due, IsWithin, TakesTurn};
+    ghost use Rattle.st_format.specs.Turns.{CountsTurn, Due, IsEnd, IsWithin, TakesTurn, arrived};
     ghost use Rattle.st_format.specs.declared.device.SourceFault.{SourceFault as Fault};
+    ghost use Rattle.st_format.specs.declared.path.Path.{Path as By};
 
     /// The turns to come, first one first: datagrams with their octets and paths, and turns without
     /// one; `None` where the device can't tell them.
     ghost turns: { Self → Option (List Due) };
+
+    /// All datagrams that its calls gave so far, each with its path, in order.
+    ghost came: { Self → List (By × List ℕ) };
+
+    /// Its last call told the end. Before the first call, and after one that failed, it is not
+    /// said.
+    ghost ended: { Self → Type 0 };
 
     /// How many datagrams it has delivered.
     ghost delivered: { Self → ℕ };
@@ -231,11 +263,18 @@ pub trait DatagramSource {
         ensures last { IfErr result (λ e. last_fault self.new ≡ Some e) }
         ensures blameless { OnOk result (last_fault self.new ≡ last_fault self.old) }
         ensures before { before self.new ≡ before self.old }
-        ensures names { names self.new ≡ names self.old };
+        ensures names { names self.new ≡ names self.old }
+        ensures came { IfOk result (λ t. came self.new ≡ came self.old ++ arrived t buf.new) }
+        ensures ended { IfOk result (λ t. ended self.new ↔ IsEnd t) }
+        ensures kept { OnErr result (came self.new ≡ came self.old) };
 }
 
 impl<S: ByteSource> ByteSource for &mut S {
     ghost to_give = { λ s. S.to_give s.now };
+
+    ghost gave = { λ s. S.gave s.now };
+
+    ghost ended = { λ s. S.ended s.now };
 
     ghost failures = { λ s. S.failures s.now };
 
@@ -249,6 +288,8 @@ impl<S: ByteSource> ByteSource for &mut S {
 impl<K: ByteSink> ByteSink for &mut K {
     ghost held = { λ k. K.held k.now };
 
+    ghost took = { λ k. K.took k.now };
+
     ghost failures = { λ k. K.failures k.now };
 
     ghost names = { λ k. k.ghost_name ∷ [] };
@@ -260,6 +301,8 @@ impl<K: ByteSink> ByteSink for &mut K {
 
 impl<K: DatagramSink> DatagramSink for &mut K {
     ghost taken = { λ k. K.taken k.now };
+
+    ghost took = { λ k. K.took k.now };
 
     ghost failures = { λ k. K.failures k.now };
 
@@ -274,6 +317,10 @@ impl<K: DatagramSink> DatagramSink for &mut K {
 
 impl<D: DatagramSource> DatagramSource for &mut D {
     ghost turns = { λ d. D.turns d.now };
+
+    ghost came = { λ d. D.came d.now };
+
+    ghost ended = { λ d. D.ended d.now };
 
     ghost delivered = { λ d. D.delivered d.now };
 
@@ -306,6 +353,11 @@ pub fn read_whole<S: ByteSource>(source: &mut S, buf: &mut [u8]) -> Result<usize
     ensures octets { 0 < length buf.old → TellsOctets (S.to_give source.old) }
     ensures counted { CountsFaults (S.failures source.old) (S.failures source.new) result }
     ensures names { S.names source.new ≡ S.names source.old }
+    ensures gave { IfOk result (λ n. S.gave source.new ≡ S.gave source.old ++ take n buf.new) }
+    ensures ended { IfOk result (λ n. n < length buf.new → S.ended source.new) }
+    // What was given, and what the source told of it, is one and the same part of `buf`.
+    ensures part { OnErr result (GivesPart (S.to_give source.old) (S.to_give source.new)
+        (S.gave source.old) (S.gave source.new) buf.new) }
 {
     let mut filled = 0;
     while filled < buf.len() {
@@ -328,6 +380,8 @@ pub fn write_whole<K: ByteSink>(sink: &mut K, octets: &[u8]) -> Result<(), Devic
     ensures untold { StaysUntold (K.held sink.old) (K.held sink.new) }
     ensures counted { CountsFaults (K.failures sink.old) (K.failures sink.new) result }
     ensures names { K.names sink.new ≡ K.names sink.old }
+    ensures took { OnOk result (K.took sink.new ≡ K.took sink.old ++ octets.now) }
+    ensures part { OnErr result (GrowsPart (K.took sink.old) (K.took sink.new) octets.now) }
 {
     let mut done = 0;
     while done < octets.len() {

@@ -9,7 +9,6 @@ ghost use Rattle.st_format.specs.declared.picture.PictureFault.TheVariants.{NoMe
 
 use crate::{Format, Sampling};
 use std::alloc::{AllocError, Allocator, Global};
-use std::fmt;
 use std::marker::Model;
 use thiserror::Error;
 
@@ -17,13 +16,15 @@ use thiserror::Error;
 #[derive(Clone, Copy, Debug, PartialEq, Eq, Error)]
 pub enum PictureFault {
     /// The memory was refused.
+    #[error("the memory was refused")]
     NoMemory = 4,
     /// A value has more bits than a sample of the format.
+    #[error("a value has more bits than a sample of the format")]
     ValueTooLarge,
 }
 
 impl PictureFault {
-    ghost use Rattle.st_format.specs.Faults.{picture_fault_number};
+    ghost use Rattle.st_format.specs.Faults.{picture_fault_name, picture_fault_number};
 
     /// Its number: 4 or 5. `ValueTooLarge` is tested first.
     pub fn number(self) -> u8
@@ -31,18 +32,14 @@ impl PictureFault {
     {
         self as u8
     }
-}
 
-impl fmt::Display for PictureFault {
-    ghost use Rattle.std.specs.Prelude.{Some};
-    ghost use Rattle.st_format.specs.Faults.{picture_fault_name};
-
-    ghost output = { λ fault. Some (picture_fault_name fault) };
-
-    fn fmt<W: fmt::Write>(&self, f: &mut fmt::Formatter<W>) -> fmt::Result {
+    /// Its bare name, as the texts of the program have it.
+    pub fn name(self) -> &'static str
+        ensures { result.now ≡ picture_fault_name self }
+    {
         match self {
-            PictureFault::NoMemory => f.write_str("NoMemory"),
-            PictureFault::ValueTooLarge => f.write_str("ValueTooLarge"),
+            PictureFault::NoMemory => "NoMemory",
+            PictureFault::ValueTooLarge => "ValueTooLarge",
         }
     }
 }

@@ -1,6 +1,7 @@
 //! A sink of datagrams over vectors that never grow.
-ghost use Rattle.std.specs.Prelude.{◌≡◌, ◌≤◌, ◌<◌, ◌+◌, ◌-◌, ◌↔◌, ◌⊎◌, if◌then◌else◌, is_ok};
-ghost use Rattle.std.specs.Prelude.{Some, [], length, drop, map, vec_capacity, OnOk, OnErr, IsErr};
+ghost use Rattle.std.specs.Prelude.{◌≡◌, ◌≤◌, ◌<◌, ◌+◌, ◌-◌, ◌↔◌, ◌⊎◌, ◌++◌, ◌∷◌, [], Some, is_ok};
+ghost use Rattle.std.specs.Prelude.{if◌then◌else◌, length, drop, map, vec_capacity};
+ghost use Rattle.std.specs.Prelude.{OnOk, OnErr, IsErr};
 ghost use Rattle.st_format.specs.Device.{CountsFaults, TakesOne, KeepsAll};
 ghost use Rattle.st_format.specs.Memory.{octets_of, capacity_of, HasNoRoom};
 
@@ -90,12 +91,16 @@ impl<A: Allocator> DatagramSink for MemoryDatagrams<A> {
 
     ghost failures = { λ s. s.failures };
 
+    ghost took = { λ s. s.taken };
+
     /// Takes the datagram into the next slot. One that fails leaves the slot for the next.
     fn put(&mut self, octets: &[u8]) -> Result<(), SinkFault>
         ensures taken { OnOk result
             (TakesOne (Some self.old.taken) (Some self.new.taken) octets.now) }
         ensures fault { OnErr result (KeepsAll (Some self.old.taken) (Some self.new.taken)) }
         ensures counted { CountsFaults self.old.failures self.new.failures result }
+        ensures took { OnOk result (self.new.taken ≡ self.old.taken ++ octets.now ∷ []) }
+        ensures kept { OnErr result (self.new.taken ≡ self.old.taken) }
 
         // It fails at the call named and where no room is, and takes one slot for each datagram.
         ensures when { IsErr result

@@ -1,6 +1,6 @@
 //! A sink of octets over a vector that never grows.
-ghost use Rattle.std.specs.Prelude.{◌≡◌, ◌≤◌, ◌<◌, ◌+◌, ◌-◌, ◌↔◌, ◌⊎◌, Some, length, take, min};
-ghost use Rattle.std.specs.Prelude.{vec_len, vec_capacity, IfOk, OnErr, IsErr};
+ghost use Rattle.std.specs.Prelude.{◌≡◌, ◌≤◌, ◌<◌, ◌+◌, ◌-◌, ◌↔◌, ◌⊎◌, ◌++◌, [], Some, length};
+ghost use Rattle.std.specs.Prelude.{take, min, vec_len, vec_capacity, IfOk, OnErr, IsErr};
 ghost use Rattle.std.specs.Io.KnownBytes.{Appends, Keeps};
 ghost use Rattle.st_format.specs.Device.{CountsFaults, StaysUntold};
 
@@ -13,6 +13,8 @@ use std::marker::Model;
 #[derive(Drop)]
 pub struct MemorySink<A: Allocator = Global> {
     octets: Vec<u8, A>,
+    // How many it held at first.
+    begun: usize,
     room: usize,
     piece: usize,
     fails_in: u64,
@@ -20,20 +22,23 @@ pub struct MemorySink<A: Allocator = Global> {
 }
 
 impl<A: Allocator> Model for MemorySink<A> {
-    ghost use Rattle.std.specs.Prelude.{◌≤◌, ◌<◌, ◌+◌, vec_len, vec_capacity};
+    ghost use Rattle.std.specs.Prelude.{◌≤◌, ◌<◌, ◌+◌, drop, vec_len, vec_capacity};
     ghost use Rattle.st_format.specs.Memory.{Sink};
 
     ghost Value = { Sink };
 
     ghost view = { λ s. record {
       held = s.octets.items;
+      took = drop s.begun s.octets.items;
       room = s.room;
       piece = s.piece;
       fails_in = s.fails_in;
       failures = s.failures;
     } };
 
-    ghost invariant = { λ s. (vec_len s.octets + s.room ≤ vec_capacity s.octets) × (0 < s.piece) };
+    ghost invariant = { λ s. (vec_len s.octets + s.room ≤ vec_capacity s.octets)
+        × (0 < s.piece)
+        × (s.begun ≤ vec_len s.octets) };
 }
 
 impl<A: Allocator> MemorySink<A> {
@@ -45,6 +50,7 @@ impl<A: Allocator> MemorySink<A> {
         ensures unfailed { ⟦<MemorySink<A> as ByteSink>⟧.failures result ≡ 0 }
         ensures value { result ≡ record {
           held = octets.items;
+          took = [];
           room = vec_capacity octets - vec_len octets;
           piece = piece;
           fails_in = fails_in;
@@ -52,8 +58,10 @@ impl<A: Allocator> MemorySink<A> {
         } }
     {
         let room = octets.capacity() - octets.len();
+        let begun = octets.len();
         MemorySink {
             octets,
+            begun,
             room,
             piece,
             fails_in,
@@ -81,6 +89,8 @@ impl<A: Allocator> ByteSink for MemorySink<A> {
 
     ghost failures = { λ s. s.failures };
 
+    ghost took = { λ s. s.took };
+
     /// Takes as many octets as the piece and the room allow.
     fn write(&mut self, octets: &[u8]) -> Result<usize, DeviceFault>
         ensures within { IfOk result (λ n. n ≤ length octets.now) }
@@ -90,6 +100,8 @@ impl<A: Allocator> ByteSink for MemorySink<A> {
         ensures fault { OnErr result (Keeps (Some self.old.held) (Some self.new.held)) }
         ensures untold { StaysUntold (Some self.old.held) (Some self.new.held) }
         ensures counted { CountsFaults self.old.failures self.new.failures result }
+        ensures took { IfOk result (λ n. self.new.took ≡ self.old.took ++ take n octets.now) }
+        ensures kept { OnErr result (self.new.took ≡ self.old.took) }
 
         // It fails at the call named and where it is full, and takes no less than it can.
         ensures when { IsErr result

@@ -1,6 +1,6 @@
 //! A source of octets over a vector.
-ghost use Rattle.std.specs.Prelude.{◌≡◌, ◌≤◌, ◌<◌, ◌+◌, ◌-◌, ◌↔◌, Some, length, take, drop, min};
-ghost use Rattle.std.specs.Prelude.{vec_len, IfOk, OnErr, IsErr};
+ghost use Rattle.std.specs.Prelude.{◌≡◌, ◌≤◌, ◌<◌, ◌+◌, ◌-◌, ◌↔◌, ◌++◌, [], true, false, Some};
+ghost use Rattle.std.specs.Prelude.{length, take, drop, min, vec_len, IfOk, OnErr, IsErr};
 ghost use Rattle.std.specs.Io.KnownBytes.{Consumes, Keeps, IsAtEnd};
 ghost use Rattle.st_format.specs.Device.{CountsFaults, TellsOctets};
 
@@ -13,19 +13,22 @@ use std::marker::Model;
 pub struct MemorySource<A: Allocator = Global> {
     octets: Vec<u8, A>,
     at: usize,
+    is_ended: bool,
     piece: usize,
     fails_in: u64,
     failures: u64,
 }
 
 impl<A: Allocator> Model for MemorySource<A> {
-    ghost use Rattle.std.specs.Prelude.{◌≤◌, ◌<◌, drop, vec_len};
+    ghost use Rattle.std.specs.Prelude.{◌≤◌, ◌<◌, take, drop, vec_len};
     ghost use Rattle.st_format.specs.Memory.{Source};
 
     ghost Value = { Source };
 
     ghost view = { λ s. record {
       to_give = drop s.at s.octets.items;
+      gave = take s.at s.octets.items;
+      is_ended = s.is_ended;
       piece = s.piece;
       fails_in = s.fails_in;
       failures = s.failures;
@@ -43,6 +46,8 @@ impl<A: Allocator> MemorySource<A> {
         ensures unfailed { ⟦<MemorySource<A> as ByteSource>⟧.failures result ≡ 0 }
         ensures value { result ≡ record {
           to_give = octets.items;
+          gave = [];
+          is_ended = false;
           piece = piece;
           fails_in = fails_in;
           failures = 0;
@@ -51,6 +56,7 @@ impl<A: Allocator> MemorySource<A> {
         MemorySource {
             octets,
             at: 0,
+            is_ended: false,
             piece,
             fails_in,
             failures: 0,
@@ -77,6 +83,10 @@ impl<A: Allocator> ByteSource for MemorySource<A> {
 
     ghost failures = { λ s. s.failures };
 
+    ghost gave = { λ s. s.gave };
+
+    ghost ended = { λ s. s.is_ended ≡ true };
+
     /// Gives as many octets as `buf`, the piece and the rest of them allow.
     fn read(&mut self, buf: &mut [u8]) -> Result<usize, DeviceFault>
         ensures room { length buf.new ≡ length buf.old }
@@ -88,6 +98,10 @@ impl<A: Allocator> ByteSource for MemorySource<A> {
         ensures fault { OnErr result (Keeps (Some self.old.to_give) (Some self.new.to_give)) }
         ensures octets { TellsOctets (Some self.old.to_give) }
         ensures counted { CountsFaults self.old.failures self.new.failures result }
+        ensures gave { IfOk result (λ n. self.new.gave ≡ self.old.gave ++ take n buf.new) }
+        ensures ended { IfOk result (λ n. 0 < length buf.old
+            → ((self.new.is_ended ≡ true) ↔ (n ≡ 0))) }
+        ensures kept { OnErr result (self.new.gave ≡ self.old.gave) }
 
         // It fails at the call named and at no other, and gives no less than it can.
         ensures when { IsErr result ↔ (self.old.fails_in ≡ 1) }
@@ -107,6 +121,7 @@ impl<A: Allocator> ByteSource for MemorySource<A> {
         let from = self.at;
         buf[..n].copy_from_slice(&self.octets[from..from + n]);
         self.at += n;
+        self.is_ended = n == 0;
         Ok(n)
     }
 }

@@ -1,9 +1,10 @@
 //! A source of datagrams over a vector of turns.
-ghost use Rattle.std.specs.Prelude.{◌≡◌, ◌≤◌, ◌+◌, ◌-◌, ◌^◌, ◌↔◌, ◌⊎◌, Some, None, Err, length};
+ghost use Rattle.std.specs.Prelude.{◌≡◌, ◌≤◌, ◌+◌, ◌-◌, ◌^◌, ◌↔◌, ◌⊎◌, ◌++◌, [], true, false};
+ghost use Rattle.std.specs.Prelude.{Some, None, Err, length};
 ghost use Rattle.std.specs.Prelude.{map, min, IfOk, IfErr, OnOk, OnErr, IsErr, IsTrue, MatchResult};
 ghost use Rattle.st_format.specs.Device.{CountsFaults};
 ghost use Rattle.st_format.specs.Memory.{IsTooLong, due_of};
-ghost use Rattle.st_format.specs.Turns.{CountsTurn, IsWithin, TakesTurn};
+ghost use Rattle.st_format.specs.Turns.{CountsTurn, IsEnd, IsWithin, TakesTurn, arrived};
 
 use crate::{DatagramSource, MOST_DATAGRAM, Path, SourceFault, Turn};
 use std::alloc::{Allocator, Global};
@@ -22,6 +23,7 @@ pub enum MemoryTurn<A: Allocator = Global> {
 pub struct MemoryTurns<A: Allocator = Global> {
     turns: Vec<MemoryTurn<A>, A>,
     at: usize,
+    is_ended: bool,
     fails_in: u64,
     delivered: u64,
     failures: u64,
@@ -29,13 +31,16 @@ pub struct MemoryTurns<A: Allocator = Global> {
 }
 
 impl<A: Allocator> Model for MemoryTurns<A> {
-    ghost use Rattle.std.specs.Prelude.{◌≤◌, vec_len, drop, map};
+    ghost use Rattle.std.specs.Prelude.{◌≤◌, vec_len, take, drop, map};
     ghost use Rattle.st_format.specs.Memory.{Turns, due_of};
+    ghost use Rattle.st_format.specs.Turns.{came_of};
 
     ghost Value = { Turns };
 
     ghost view = { λ s. record {
       turns = map due_of (drop s.at s.turns.items);
+      came = came_of (map due_of (take s.at s.turns.items));
+      is_ended = s.is_ended;
       fails_in = s.fails_in;
       delivered = s.delivered;
       failures = s.failures;
@@ -54,6 +59,8 @@ impl<A: Allocator> MemoryTurns<A> {
         ensures unfailed { ⟦<MemoryTurns<A> as DatagramSource>⟧.failures result ≡ 0 }
         ensures value { result ≡ record {
           turns = map due_of turns.items;
+          came = [];
+          is_ended = false;
           fails_in = fails_in;
           delivered = 0;
           failures = 0;
@@ -63,6 +70,7 @@ impl<A: Allocator> MemoryTurns<A> {
         MemoryTurns {
             turns,
             at: 0,
+            is_ended: false,
             fails_in,
             delivered: 0,
             failures: 0,
@@ -120,10 +128,14 @@ impl<A: Allocator> MemoryTurns<A> {
         ensures failures { self.new.failures ≡ self.old.failures }
         ensures last { self.new.last_fault ≡ self.old.last_fault }
         ensures fails_in { self.new.fails_in ≡ self.old.fails_in }
+        ensures came { self.new.came ≡ self.old.came ++ arrived result buf.new }
+        ensures ended { (self.new.is_ended ≡ true) ↔ IsEnd result }
     {
         if self.at == self.turns.len() {
+            self.is_ended = true;
             return Turn::End;
         }
+        self.is_ended = false;
         let at = self.at;
         self.at += 1;
         match &self.turns[at] {
@@ -145,6 +157,7 @@ impl<A: Allocator> MemoryTurns<A> {
         ensures turns { self.new.turns ≡ self.old.turns }
         ensures delivered { self.new.delivered ≡ self.old.delivered }
         ensures fails_in { self.new.fails_in ≡ self.old.fails_in }
+        ensures came { self.new.came ≡ self.old.came }
     {
         self.failures = self.failures.saturating_add(1);
         self.last_fault = Some(SourceFault::Device);
@@ -161,6 +174,10 @@ impl<A: Allocator> DatagramSource for MemoryTurns<A> {
 
     ghost last_fault = { λ s. s.last_fault };
 
+    ghost came = { λ s. s.came };
+
+    ghost ended = { λ s. s.is_ended ≡ true };
+
     /// Tells the next turn, or the end. One that fails leaves the turns.
     fn next(&mut self, buf: &mut [u8]) -> Result<Turn, SourceFault>
         requires { 65535 ≤ length buf.old }
@@ -174,6 +191,9 @@ impl<A: Allocator> DatagramSource for MemoryTurns<A> {
         ensures counted { CountsFaults self.old.failures self.new.failures result }
         ensures last { IfErr result (λ e. self.new.last_fault ≡ Some e) }
         ensures blameless { OnOk result (self.new.last_fault ≡ self.old.last_fault) }
+        ensures came { IfOk result (λ t. self.new.came ≡ self.old.came ++ arrived t buf.new) }
+        ensures kept { OnErr result (self.new.came ≡ self.old.came) }
+        ensures ended { IfOk result (λ t. (self.new.is_ended ≡ true) ↔ IsEnd t) }
 
         // It fails at the call named and where a datagram is too long, for the device's sake, and
         // keeps the turns then.

@@ -5,7 +5,9 @@ use Rattle.std.proofs.Common.{◌≡◌, ◌<◌, ◌≤◌, length, take, ◌�
 use Rattle.std.proofs.lemmas.List.{length-take, length-take-le}
 use Rattle.std.proofs.lemmas.Result.{err_from_is_err_and}
 use Rattle.media_file.proofs.Rests.{gave_all, cut_head, bad_head, cut_octets, part_bad}
+use Rattle.media_file.specs.declared.fault.FileFault.TheVariants.{Device, Truncated}
 use Rattle.media_file.proofs.Rests.{part_head, part_octets}
+use Rattle.media_file.proofs.Givings.{grew_all, wrong_head, wrong_octets, wrong_path}
 use Rattle.media_file.proofs.steps.record_rest.Goals as goal
 
 pub returns-then-branch-lt-REST-clause-fault : goal.returns-then-branch-lt-REST-clause-fault
@@ -178,3 +180,64 @@ slice_bounds-read_whole-end-3 g c =
 
 pub returns-clause-within : goal.returns-clause-within
 returns-clause-within g c = c.in_ok-head.ensures.spelled.length_fits
+
+pub returns-in_err-read_whole-clause-wrong : goal.returns-in_err-read_whole-clause-wrong
+returns-in_err-read_whole-clause-wrong g c =
+    let p = err_from_is_err_and c.from_residual.result c.from_residual.ensures.1 in
+    let e = c.in_err-read_whole.ensures.part in
+    let lt : e.count < 10 = omega (arith, e.short, c.read_whole.ensures.room) in
+    rw (p.1, p.2)
+    (wrong_head Device c.args.first _ _ _ _ (take e.count c.read_whole.new.buf) e.given e.grown
+    (omega (arith, length-take e.count c.read_whole.new.buf)) tt)
+
+pub returns-then-branch-lt-REST-clause-wrong : goal.returns-then-branch-lt-REST-clause-wrong
+returns-then-branch-lt-REST-clause-wrong g c =
+    let n = c.in_ok-read_whole.field-0 in
+    let e = c.in_ok-read_whole.ensures in
+    let lt : n < 10 = omega arith in
+    wrong_head Truncated c.args.first _ _ _ _ (take n c.read_whole.new.buf) e.given e.gave
+    (omega (arith, length-take n c.read_whole.new.buf)) refl
+
+pub returns-in_err-head-clause-wrong : goal.returns-in_err-head-clause-wrong
+returns-in_err-head-clause-wrong g c =
+    let p =
+    err_from_is_err_and c.from_residual-in_err-head.result
+    c.from_residual-in_err-head.ensures.1 in
+    let e = c.in_ok-read_whole.ensures in
+    let ten : length c.read_whole.new.buf ≤ c.in_ok-read_whole.field-0 = omega (arith, e.room) in
+    rw (p.1, p.2)
+    (wrong_path c.in_err-head.field-0.0 c.args.first _ _ _ _ c.read_whole.new.buf
+    (gave_all _ _ _ _ e.given ten) (grew_all _ _ _ _ e.gave ten) e.room
+    (sym c.in_err-head.ensures.exact))
+
+pub returns-in_err-read_whole-2-clause-wrong : goal.returns-in_err-read_whole-2-clause-wrong
+returns-in_err-read_whole-2-clause-wrong g c =
+    let p =
+    err_from_is_err_and c.from_residual-in_err-read_whole-2.result
+    c.from_residual-in_err-read_whole-2.ensures.1 in
+    let e = c.in_ok-read_whole.ensures in
+    let ten : length c.read_whole.new.buf ≤ c.in_ok-read_whole.field-0 = omega (arith, e.room) in
+    let e2 = c.in_err-read_whole-2.ensures.part in
+    let room : length c.read_whole-2.new.buf ≡ c.in_ok-head.head.length =
+    c.read_whole-2.ensures.room ∙ length-take-le c.in_ok-head.head.length c.args.buf.now
+    (omega (arith, c.in_ok-head.ensures.spelled.length_fits)) in
+    let lt : e2.count < c.in_ok-head.head.length = omega (arith, e2.short, room) in
+    rw (p.1, p.2)
+    (wrong_octets Device c.args.first _ _ _ _ _ _ c.read_whole.new.buf
+    (take e2.count c.read_whole-2.new.buf) c.in_ok-head.head
+    (gave_all _ _ _ _ e.given ten) (grew_all _ _ _ _ e.gave ten) e.room
+    (sym c.in_ok-head.ensures.exact) e2.given e2.grown
+    (omega (arith, length-take e2.count c.read_whole-2.new.buf)) tt)
+
+pub returns-then-branch-head-clause-wrong : goal.returns-then-branch-head-clause-wrong
+returns-then-branch-head-clause-wrong g c =
+    let e = c.in_ok-read_whole.ensures in
+    let ten : length c.read_whole.new.buf ≤ c.in_ok-read_whole.field-0 = omega (arith, e.room) in
+    let k = c.in_ok-read_whole-2.field-0 in
+    let e2 = c.in_ok-read_whole-2.ensures in
+    let lt : k < c.in_ok-head.head.length = omega arith in
+    wrong_octets Truncated c.args.first _ _ _ _ _ _ c.read_whole.new.buf
+    (take k c.read_whole-2.new.buf) c.in_ok-head.head (gave_all _ _ _ _ e.given ten)
+    (grew_all _ _ _ _ e.gave ten) e.room
+    (sym c.in_ok-head.ensures.exact) e2.given e2.gave
+    (omega (arith, length-take k c.read_whole-2.new.buf)) refl

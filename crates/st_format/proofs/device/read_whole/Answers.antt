@@ -1,9 +1,10 @@
 use Rattle.std.proofs.Common.{rules, arith, ◌≡◌, ◌+◌, ◌-◌, ◌^◌}
-use Rattle.std.proofs.Common.{ℕ, length, take, min, ap, ◌∙◌, subst}
+use Rattle.std.proofs.Common.{ℕ, List, ◌++◌, length, take, min, ap, sym, ◌∙◌, subst}
 use Rattle.std.proofs.lemmas.Result.{err_from_is_err_and}
 use Rattle.std.specs.Io.KnownBytes.{Consumes}
 use borrow.Rule.Slice.PartMut.{put_mid, same_len_mid}
-use Rattle.st_format.proofs.Octets.{reads_more, tells_before}
+use Rattle.std.proofs.KnownBytes.{Consumes-kept}
+use Rattle.st_format.proofs.Octets.{grows_in, kept_in, reads_more, tells_before}
 use Rattle.st_format.proofs.device.read_whole.Goals as goal
 
 pub returns-in_err-n-clause-room : goal.returns-in_err-n-clause-room
@@ -105,5 +106,41 @@ loop-filled-preserved g c =
           l.invariant.1 now.given,
       now.counted ∙ l.invariant.2,
       λ _. tells_before l.filled l.buf _ _ l.invariant.1 l.invariant.3 now.octets,
-      now.names ∙ l.invariant.4,
+      grows_in l.filled k c.in_ok-n.n l.buf c.read.new.buf _ _ _ l.invariant.0 now.within
+          l.invariant.4 now.gave,
+      now.names ∙ l.invariant.5,
     )
+
+pub returns-clause-gave : goal.returns-clause-gave
+returns-clause-gave g c = c.loop-filled.invariant.4
+
+pub returns-then-n-eq0-clause-gave : goal.returns-then-n-eq0-clause-gave
+returns-then-n-eq0-clause-gave g c =
+    let l = c.loop-filled in
+    let k = length l.buf - l.filled in
+    let now = c.in_ok-n.ensures in
+    let same : l.filled + c.in_ok-n.n ≡ l.filled = omega (arith, c.if-n-eq0.true) in
+    subst (λ (m : ℕ). g.S.ByteSource.gave c.read.new.self
+    ≡ g.S.ByteSource.gave c.args.source.now ++ take m (put_mid l.filled k l.buf c.read.new.buf))
+    same
+    (grows_in l.filled k c.in_ok-n.n l.buf c.read.new.buf _ _ _ l.invariant.0 now.within
+    l.invariant.4 now.gave)
+
+pub returns-in_err-n-clause-part : goal.returns-in_err-n-clause-part
+returns-in_err-n-clause-part g c =
+    let p = err_from_is_err_and c.from_residual.result c.from_residual.ensures.1 in
+    let l = c.loop-filled in
+    let k = length l.buf - l.filled in
+    let long : length (put_mid l.filled k l.buf c.read.new.buf) ≡ length l.buf =
+    same_len_mid l.filled k l.buf c.read.new.buf c.in_err-n.ensures.room in
+    rw (p.1) (record {
+      count = l.filled;
+      short = omega (arith, long, c.loop-filled-test.true);
+      given = subst (Consumes (g.S.ByteSource.to_give c.args.source.now)
+          (g.S.ByteSource.to_give c.read.new.self))
+          (sym (kept_in l.filled k l.buf c.read.new.buf l.invariant.0))
+          (Consumes-kept _ _ _ _ l.invariant.1 c.in_err-n.ensures.fault);
+      grown = c.in_err-n.ensures.kept ∙ l.invariant.4
+          ∙ ap (λ (ys : List ℕ). g.S.ByteSource.gave c.args.source.now ++ ys)
+          (sym (kept_in l.filled k l.buf c.read.new.buf l.invariant.0));
+    })

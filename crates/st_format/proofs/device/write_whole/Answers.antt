@@ -1,7 +1,7 @@
-use Rattle.std.proofs.Common.{rules, ◌≤◌, ◌+◌, List, ℕ, length, take, subst, ◌∙◌}
+use Rattle.std.proofs.Common.{rules, ◌≡◌, ◌≤◌, ◌+◌, ◌++◌, List, ℕ, length, take, subst, ◌∙◌}
 use Rattle.std.proofs.lemmas.List.{take_rest}
 use Rattle.std.specs.Io.KnownBytes.{Appends}
-use Rattle.st_format.proofs.Octets.{stays_untold, writes_more}
+use Rattle.st_format.proofs.Octets.{grows_more, stays_untold, writes_more}
 use Rattle.st_format.proofs.device.write_whole.Goals as goal
 
 pub loop-done-preserved : goal.loop-done-preserved
@@ -17,5 +17,8 @@ loop-done-preserved g c =
           (g.K.ByteSink.held c.write.new.self) (take n ys)) (take_rest xs l.done) now.taken),
       now.counted ∙ l.invariant.2,
       stays_untold _ _ _ l.invariant.3 now.untold,
-      now.names ∙ l.invariant.4,
+      grows_more l.done n xs _ _ _ l.invariant.4
+          (subst (λ (ys : List ℕ). g.K.ByteSink.took c.write.new.self
+          ≡ g.K.ByteSink.took l.sink ++ take n ys) (take_rest xs l.done) now.took),
+      now.names ∙ l.invariant.5,
     )

@@ -1,4 +1,4 @@
-use Rattle.std.proofs.Common.{◌≡◌, ◌≤◌, ◌-◌, length, take}
+use Rattle.std.proofs.Common.{◌≡◌, ◌≤◌, ◌-◌, ◌++◌, length, take}
 use Rattle.std.specs.Io.KnownBytes.{Appends}
 use Rattle.st_format.specs.Device.{StaysUntold}
 use Rattle.st_format.proofs.device.write_whole.Given as goal
@@ -12,4 +12,5 @@ invariant-loop-done g l =
     × Appends (g.K.ByteSink.held l.initial.sink) (g.K.ByteSink.held l.sink) (take l.done l.octets)
     × (g.K.ByteSink.failures l.sink ≡ g.K.ByteSink.failures l.initial.sink)
     × StaysUntold (g.K.ByteSink.held l.initial.sink) (g.K.ByteSink.held l.sink)
+    × (g.K.ByteSink.took l.sink ≡ g.K.ByteSink.took l.initial.sink ++ take l.done l.octets)
     × (g.K.ByteSink.names l.sink ≡ g.K.ByteSink.names l.initial.sink)

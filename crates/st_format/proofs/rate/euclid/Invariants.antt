@@ -1,6 +1,6 @@
 use Rattle.std.proofs.Common.{ℕ}
 use Rattle.std.specs.Int.{IsGcd}
-use Rattle.st_format.proofs.format.euclid.Given as goal
+use Rattle.st_format.proofs.rate.euclid.Given as goal
 
 abbrev pub invariant-loop-right : goal.invariant-loop-right
 invariant-loop-right l = (g : ℕ) → IsGcd l.left l.right g → IsGcd l.fn.n l.fn.d g

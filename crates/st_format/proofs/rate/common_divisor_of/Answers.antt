@@ -1,5 +1,5 @@
 use Rattle.st_format.proofs.Divisors.{common_divisor-is, gcd_pos}
-use Rattle.st_format.proofs.format.common_divisor_of.Goals as goal
+use Rattle.st_format.proofs.rate.common_divisor_of.Goals as goal
 
 pub returns-clause-value : goal.returns-clause-value
 returns-clause-value c =
