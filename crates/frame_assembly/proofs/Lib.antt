@@ -20,3 +20,8 @@ pub mod Absorbed
 pub mod MarkLemmas
 pub mod WholeGroups
 pub mod Positions
+pub mod MissingWalk
+pub mod MissingFlags
+pub mod MissingColumns
+pub mod Spots
+pub mod SpotMembers

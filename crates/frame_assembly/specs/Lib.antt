@@ -4,3 +4,6 @@ pub mod Marks
 pub mod Kinds
 pub mod Written
 pub mod Settled
+pub mod Missing
+pub mod ContestedSamples
+pub mod CountsText

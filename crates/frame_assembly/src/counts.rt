@@ -6,6 +6,7 @@ ghost use Rattle.st_format.specs.Cell.{is_contested, is_missing, is_present};
 use crate::state::PRESENT;
 use lane_kernels::count_marks;
 use st_format::Format;
+use std::fmt;
 
 /// How many samples of a frame are of each kind.
 #[derive(Clone, Copy, Debug, PartialEq, Eq)]
@@ -16,6 +17,22 @@ pub struct Counts {
     pub missing: u64,
     /// Samples for which two offers differ.
     pub contested: u64,
+}
+
+/// As lines of frames have it: `present P missing M contested C`.
+impl fmt::Display for Counts {
+    ghost use Rattle.std.specs.Prelude.{Some};
+    ghost use Rattle.frame_assembly.specs.CountsText.{counts_text};
+
+    ghost output = { λ counts. Some (counts_text counts) };
+
+    fn fmt<W: fmt::Write>(&self, f: &mut fmt::Formatter<W>) -> fmt::Result {
+        write!(
+            f,
+            "present {} missing {} contested {}",
+            self.present, self.missing, self.contested
+        )
+    }
 }
 
 /// How many cells of groups are of each kind, by lanes over the mark words alone.

@@ -2,8 +2,11 @@
 ghost use Rattle.std.specs.Prelude.{◌≡◌, ◌<◌, ◌≤◌, ◌↔◌, ℕ, IfOk, IsTrue, count_by, length, map};
 ghost use Rattle.std.specs.Prelude.{slice_index};
 ghost use Rattle.std.specs.Int.{bit_at};
+ghost use Rattle.frame_assembly.specs.ContestedSamples.{IsContestedSample};
+ghost use Rattle.frame_assembly.specs.ContestedSamples.{contested_spots};
 ghost use Rattle.frame_assembly.specs.Kinds.{AreCounts};
 ghost use Rattle.frame_assembly.specs.Marks.{state_of_mark};
+ghost use Rattle.frame_assembly.specs.Missing.{AreUnknownRuns, unknown_runs};
 ghost use Rattle.st_format.specs.Cell.{known_value, is_contested, is_missing, is_present, join};
 ghost use Rattle.frame_assembly.specs.Rows.{GroupsAreWhole, IsMarkOf, IsStateOf, given_cells};
 ghost use Rattle.frame_assembly.specs.Rows.{group_cells, replaced_cells, row_cells};
@@ -11,6 +14,7 @@ ghost use Rattle.frame_assembly.specs.Settled.{IsBaseOf, settled_picture};
 ghost use Rattle.pgroup_pack.specs.Groups.{blanked_samples};
 ghost use Rattle.payload_header.specs.View.{segments_of};
 ghost use Rattle.st_format.specs.Fit.{ValuesFit};
+ghost use Rattle.st_format.specs.Member.{IsMember};
 ghost use Rattle.st_format.specs.Offer.{cell_of};
 ghost use Rattle.st_format.specs.Picture.{IsPicture};
 ghost use Rattle.st_format.specs.Pgroup.{bits_of, pixel_group};
@@ -23,9 +27,11 @@ ghost use Rattle.st_format.specs.Raster.{offers_in_all};
 
 use crate::base::Base;
 use crate::cells::cell_in;
+use crate::contested_samples::ContestedSamples;
 use crate::counts::{Counts, count_cells};
 use crate::groups::{join_run, same_groups};
 use crate::joining::{group_total, join_segments};
+use crate::missing::MissingRuns;
 use crate::rows::{group_of, marks_of_row, octets_of_row, set_group_of};
 use crate::settling::settled_samples;
 use crate::state::GroupState;
@@ -95,6 +101,7 @@ impl<A: Allocator> Frame<A> {
 
     /// What is so of every frame: it has a cell for each position, values that fit the depth, and
     /// pgroups that are missing as wholes. A caller's proof learns it from here; nothing is done.
+    #[doc(hidden)]
     #[inline(always)]
     pub fn facts(&self)
         ensures whole { IsWhole self.now }
@@ -273,6 +280,34 @@ impl<A: Allocator> Frame<A> {
             self.octets.as_slice(),
             row,
         )
+    }
+
+    /// The runs of a row's columns of which nothing is known, from the left, each from its first
+    /// column to the one behind its last: `for columns in frame.missing_runs(row)`.
+    ///
+    /// They are maximal, and all of them. The samples of a pgroup come together (RFC 4175, 4.3), so
+    /// of each column all samples are missing or none is. No memory is taken.
+    pub fn missing_runs(&self, row: u32) -> MissingRuns<'_>
+        requires { row < self.now.format.height }
+        ensures maximal { AreUnknownRuns self.now row result }
+        ensures runs { result ≡ unknown_runs self.now row }
+        ensures whole { IsWhole self.now }
+    {
+        MissingRuns::of_marks(self.marks(row), self.format().pgroup().pixels)
+    }
+
+    /// The contested samples of a row, each by its column and its component, in the order in which
+    /// they are sent (RFC 4175, 4.3): `for (column, component) in frame.contested(row)`. No memory
+    /// is taken.
+    pub fn contested(&self, row: u32) -> ContestedSamples<'_>
+        requires { row < self.now.format.height }
+        ensures each { (column component : ℕ) → IsMember (column, component) result
+            ↔ IsContestedSample self.now row column component }
+        ensures samples { result ≡ contested_spots self.now row }
+        ensures whole { IsWhole self.now }
+    {
+        let format = self.format();
+        ContestedSamples::of_marks(format.sampling(), format.pgroup().samples, self.marks(row))
     }
 
     /// Copies the octets of a pgroup, with 0 for each sample that is missing or contested, and

@@ -3,4 +3,3 @@ pub mod Ranges
 pub mod ContestedTexts
 pub mod MissingTexts
 pub mod FrameTexts
-pub mod Maximal

@@ -1,10 +1,10 @@
 -- The lines of the contested samples of a frame (own).
-use Rattle.std.specs.Prelude.{ℕ, Bool, if◌then◌else◌, List, [], ◌∷◌, ◌++◌, codes, slice_index_or}
+use Rattle.std.specs.Prelude.{ℕ, if◌then◌else◌, List, [], ◌∷◌, ◌++◌, codes, slice_index_or}
 use Rattle.std.specs.List.{flat_map, range_with_len}
 use Rattle.st_format.specs.declared.sampling.Sampling.{Sampling}
 use Rattle.st_format.specs.declared.sampling.Sampling.TheVariants.{Ycc422, Ycc444, Rgb}
 use Rattle.st_format.specs.Cell.{is_contested}
-use Rattle.st_format.specs.Position.{Position, group_positions, place_in_row, row_groups}
+use Rattle.st_format.specs.Position.{Position, group_positions, row_groups}
 use Rattle.st_format.specs.Raster.{Raster, cell_at}
 use Rattle.frame_report.specs.Gathers.{numbered_word}
 
@@ -44,14 +44,6 @@ contested_in_row r row =
 abbrev pub contested_lines : Raster → List ℕ
 contested_lines r = flat_map (contested_in_row r) (range_with_len 0 r.format.height)
 
--- The same of a row's sample, counted from the row's first, for the code's own clauses: its
--- position, and its line where it is contested
-abbrev pub spot : Sampling → ℕ → ℕ → Position
-spot s row sample = record {
-  row = row;
-  column = (place_in_row s sample).0;
-  component = (place_in_row s sample).1;
-}
-
-abbrev pub line_where : Bool → Sampling → ℕ → ℕ → List ℕ
-line_where is s row sample = if is then contested_line s (spot s row sample) else []
+-- The same of a row's column and component, for the code's own clauses
+abbrev pub spot_line : Sampling → ℕ → (ℕ × ℕ) → List ℕ
+spot_line s row spot = sample_text row spot.0 (slice_index_or (component_names s) spot.1 [])

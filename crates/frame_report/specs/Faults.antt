@@ -1,4 +1,4 @@
--- The number and the name of the fault (own).
+-- The number and the name of the fault, as `number` and `name` answer them (own).
 use Rattle.std.specs.Prelude.{ℕ, List, codes}
 use Rattle.frame_report.specs.declared.fault.ReportFault.{ReportFault}
 use Rattle.frame_report.specs.declared.fault.ReportFault.TheVariants.{Device}

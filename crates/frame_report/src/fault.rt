@@ -3,18 +3,18 @@ ghost use Rattle.std.specs.Prelude.{◌≡◌};
 ghost use Rattle.frame_report.specs.declared.fault.ReportFault.TheVariants.{Device};
 
 use st_format::DeviceFault;
-use std::fmt;
 use thiserror::Error;
 
 /// Why a report was not written whole.
 #[derive(Clone, Copy, Debug, PartialEq, Eq, Error)]
 pub enum ReportFault {
     /// The sink failed. Why is its own matter.
+    #[error("the sink failed")]
     Device = 1,
 }
 
 impl ReportFault {
-    ghost use Rattle.frame_report.specs.Faults.{report_fault_number};
+    ghost use Rattle.frame_report.specs.Faults.{report_fault_name, report_fault_number};
 
     /// The fault's number: 1.
     pub fn number(self) -> u8
@@ -22,17 +22,13 @@ impl ReportFault {
     {
         self as u8
     }
-}
 
-impl fmt::Display for ReportFault {
-    ghost use Rattle.std.specs.Prelude.{Some};
-    ghost use Rattle.frame_report.specs.Faults.{report_fault_name};
-
-    ghost output = { λ fault. Some (report_fault_name fault) };
-
-    fn fmt<W: fmt::Write>(&self, f: &mut fmt::Formatter<W>) -> fmt::Result {
+    /// Its bare name, as the texts of the program have it.
+    pub fn name(self) -> &'static str
+        ensures { result.now ≡ report_fault_name self }
+    {
         match self {
-            ReportFault::Device => f.write_str("Device"),
+            ReportFault::Device => "Device",
         }
     }
 }

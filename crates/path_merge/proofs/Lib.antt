@@ -27,3 +27,4 @@ pub mod Blank
 pub mod Failed
 pub mod Lives
 pub mod CountingUp
+pub mod Listed

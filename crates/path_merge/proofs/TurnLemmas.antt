@@ -233,7 +233,8 @@ answers_more o (Comes p x ∷ due) path d =
     ap (λ (rest : List (Result Taken Refusal)). taken_at o x ∷ rest) (answers_more o due path d)
 answers_more o (Nothing ∷ due) path d = answers_more o due path d
 
-answers_quiet : (o : Opening) (due : List Due) → answers_to o (due ++ Nothing ∷ []) ≡ answers_to o due
+answers_quiet : (o : Opening) (due : List Due)
+    → answers_to o (due ++ Nothing ∷ []) ≡ answers_to o due
 answers_quiet o [] = refl
 answers_quiet o (Comes p x ∷ due) =
     ap (λ (rest : List (Result Taken Refusal)). taken_at o x ∷ rest) (answers_quiet o due)

@@ -1,9 +1,7 @@
 -- What the calls of a receiver answer.
 use Rattle.std.specs.Prelude.{ℕ, ◌+◌, ◌-◌, ◌==◌, if◌then◌else◌, List, [], ◌∷◌, ◌++◌, length, drop}
 use Rattle.std.specs.Prelude.{Result, Ok, Err, codes}
-use Rattle.std.specs.Fmt.{decimal}
 use Rattle.std.specs.List.{list_any}
-use Rattle.st_format.specs.Faults.{source_fault_name}
 use Rattle.st_format.specs.declared.path.Path.{Path}
 use Rattle.payload_header.specs.Faults.{payload_fault_name, payload_fault_number}
 use Rattle.rtp_header.specs.Faults.{rtp_fault_name, rtp_fault_number}
@@ -17,7 +15,6 @@ use Rattle.path_merge.specs.declared.fault.OpenFault.TheVariants.{NoMemory, BadW
 use Rattle.path_merge.specs.declared.fault.OpenFault.TheVariants.{DoubleTimestamp}
 use Rattle.path_merge.specs.declared.fault.SlideFault.{SlideFault}
 use Rattle.path_merge.specs.declared.fault.SlideFault.TheVariants.{InWindow, OtherFormat}
-use Rattle.path_merge.specs.declared.receiving.ReceiveFault.{ReceiveFault}
 use Rattle.path_merge.specs.Opening.{Opening}
 use Rattle.path_merge.specs.Grammar.{Datagram}
 use Rattle.path_merge.specs.Admission.{datagram_walk}
@@ -51,7 +48,7 @@ refusal_number WrongPayloadType = 5
 refusal_number WrongSource = 6
 refusal_number (Payload e) = 6 + payload_fault_number e
 
--- their names, as `Display` prints them (own)
+-- their names, as `name` answers them (own)
 abbrev pub refusal_name : Refusal → List ℕ
 refusal_name (Header e) = rtp_fault_name e
 refusal_name WrongPayloadType = codes "WrongPayloadType"
@@ -80,7 +77,6 @@ abbrev pub slide_fault_name : SlideFault → List ℕ
 slide_fault_name InWindow = codes "InWindow"
 slide_fault_name OtherFormat = codes "OtherFormat"
 
--- what is printed of a source that failed: its fault, and how many datagrams it had delivered (own)
-abbrev pub receive_fault_name : ReceiveFault → List ℕ
-receive_fault_name e =
-    source_fault_name e.fault ++ (codes " after " ++ (decimal e.delivered ++ codes " datagrams"))
+-- that of a source that failed (own)
+abbrev pub receive_fault_name : List ℕ
+receive_fault_name = codes "ReceiveFault"

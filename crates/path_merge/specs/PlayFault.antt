@@ -1,7 +1,6 @@
--- The numbers of the reasons why a schedule is not played, and the names that `Display` prints
+-- The numbers of the reasons why a schedule is not played, and their names, as `name` answers them
 -- (own).
-use Rattle.std.specs.Prelude.{ℕ, List, ◌++◌, codes}
-use Rattle.std.specs.Fmt.{decimal}
+use Rattle.std.specs.Prelude.{ℕ, List, codes}
 use Rattle.path_merge.specs.declared.schedule.play_fault.PlayFault.{PlayFault}
 use Rattle.path_merge.specs.declared.schedule.play_fault.PlayFault.TheVariants.{NoMemory, BadEvent}
 use Rattle.path_merge.specs.declared.schedule.play_fault.PlayFault.TheVariants.{BadWindow}
@@ -18,10 +17,10 @@ play_fault_number DoubleTimestamp = 4
 play_fault_number BadPictures = 5
 play_fault_number BadReceivers = 6
 
--- behind that of an event its place
+-- of an event without its place
 abbrev pub play_fault_name : PlayFault → List ℕ
 play_fault_name NoMemory = codes "NoMemory"
-play_fault_name (BadEvent place) = codes "BadEvent " ++ decimal place
+play_fault_name (BadEvent place) = codes "BadEvent"
 play_fault_name BadWindow = codes "BadWindow"
 play_fault_name DoubleTimestamp = codes "DoubleTimestamp"
 play_fault_name BadPictures = codes "BadPictures"

@@ -72,6 +72,7 @@ texts_behind plan stamp k index first (p ∷ ps) =
     ++ texts_from (sender_of plan stamp) plan.packets (k + 1)
     ((first + length plan.packets) % 2 ^ 32) ps
 
+-- the datagrams of pictures that a plan has still to send, in order
 abbrev pub to_come : RasterPlan → Stamp → List Values → Next → List (List ℕ)
 to_come plan stamp pictures next =
     texts_behind plan stamp next.picture next.index next.first (drop next.picture pictures)

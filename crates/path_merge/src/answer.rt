@@ -4,7 +4,6 @@ ghost use Rattle.path_merge.specs.declared.answer.Refusal.TheVariants.{Header, P
 
 use payload_header::PayloadFault;
 use rtp_header::RtpFault;
-use std::fmt;
 use thiserror::Error;
 
 /// What became of a datagram that was not refused.
@@ -22,17 +21,21 @@ pub enum Taken {
 #[derive(Clone, Copy, Debug, PartialEq, Eq, Error)]
 pub enum Refusal {
     /// 1 to 4: the RTP header is at fault (RFC 3550, 5.1).
+    #[error(transparent)]
     Header(RtpFault),
     /// 5: it has another payload type than the receiver.
+    #[error("the payload type is another than the receiver's")]
     WrongPayloadType,
     /// 6: a source is pinned, and it has another.
+    #[error("a source is pinned, and the datagram has another")]
     WrongSource,
     /// 7 to 14: the payload is at fault (RFC 4175, 4).
+    #[error(transparent)]
     Payload(PayloadFault),
 }
 
 impl Refusal {
-    ghost use Rattle.path_merge.specs.Answers.{refusal_number};
+    ghost use Rattle.path_merge.specs.Answers.{refusal_name, refusal_number};
 
     /// The refusal's number, 1 to 14.
     pub fn number(self) -> u8
@@ -45,20 +48,16 @@ impl Refusal {
             Refusal::Payload(fault) => 6 + fault.number(),
         }
     }
-}
 
-impl fmt::Display for Refusal {
-    ghost use Rattle.std.specs.Prelude.{Some};
-    ghost use Rattle.path_merge.specs.Answers.{refusal_name};
-
-    ghost output = { λ fault. Some (refusal_name fault) };
-
-    fn fmt<W: fmt::Write>(&self, f: &mut fmt::Formatter<W>) -> fmt::Result {
+    /// Its bare name, as the texts of the program have it; of a header or a payload its fault's.
+    pub fn name(self) -> &'static str
+        ensures { result.now ≡ refusal_name self }
+    {
         match self {
-            Refusal::Header(fault) => write!(f, "{fault}"),
-            Refusal::WrongPayloadType => f.write_str("WrongPayloadType"),
-            Refusal::WrongSource => f.write_str("WrongSource"),
-            Refusal::Payload(fault) => write!(f, "{fault}"),
+            Refusal::Header(fault) => fault.name(),
+            Refusal::WrongPayloadType => "WrongPayloadType",
+            Refusal::WrongSource => "WrongSource",
+            Refusal::Payload(fault) => fault.name(),
         }
     }
 }

@@ -3,22 +3,24 @@ ghost use Rattle.std.specs.Prelude.{◌≡◌};
 ghost use Rattle.path_merge.specs.declared.fault.OpenFault.TheVariants.{NoMemory};
 
 use std::alloc::{AllocError, AllocFailed};
-use std::fmt;
 use thiserror::Error;
 
 /// Why a receiver was not opened: the first reason, but `NoMemory` comes last.
 #[derive(Clone, Copy, Debug, PartialEq, Eq, Error)]
 pub enum OpenFault {
     /// The allocator refused the memory for the frames or for the list of refusals. Tested last.
+    #[error("the memory for the frames or for the list of refusals was refused")]
     NoMemory = 1,
     /// The window has no timestamp, or more than 16.
+    #[error("the window has no timestamp, or more than 16")]
     BadWindow = 2,
     /// A timestamp stands twice in the window.
+    #[error("a timestamp stands twice in the window")]
     DoubleTimestamp = 3,
 }
 
 impl OpenFault {
-    ghost use Rattle.path_merge.specs.Answers.{open_fault_number};
+    ghost use Rattle.path_merge.specs.Answers.{open_fault_name, open_fault_number};
 
     /// The fault's number, 1 to 3.
     pub fn number(self) -> u8
@@ -27,27 +29,23 @@ impl OpenFault {
         self as u8
     }
 
+    /// Its bare name, as the texts of the program have it.
+    pub fn name(self) -> &'static str
+        ensures { result.now ≡ open_fault_name self }
+    {
+        match self {
+            OpenFault::NoMemory => "NoMemory",
+            OpenFault::BadWindow => "BadWindow",
+            OpenFault::DoubleTimestamp => "DoubleTimestamp",
+        }
+    }
+
     /// What was wanted where this fault comes, in words for a person.
     pub fn wanted(self) -> &'static str {
         match self {
             OpenFault::NoMemory => "more memory than there is",
             OpenFault::BadWindow => "1 to 16 timestamps",
             OpenFault::DoubleTimestamp => "each timestamp once",
-        }
-    }
-}
-
-impl fmt::Display for OpenFault {
-    ghost use Rattle.std.specs.Prelude.{Some};
-    ghost use Rattle.path_merge.specs.Answers.{open_fault_name};
-
-    ghost output = { λ fault. Some (open_fault_name fault) };
-
-    fn fmt<W: fmt::Write>(&self, f: &mut fmt::Formatter<W>) -> fmt::Result {
-        match self {
-            OpenFault::NoMemory => f.write_str("NoMemory"),
-            OpenFault::BadWindow => f.write_str("BadWindow"),
-            OpenFault::DoubleTimestamp => f.write_str("DoubleTimestamp"),
         }
     }
 }
@@ -72,13 +70,15 @@ impl<T: Drop> From<AllocFailed<T>> for OpenFault {
 #[derive(Clone, Copy, Debug, PartialEq, Eq, Error)]
 pub enum SlideFault {
     /// The window has the timestamp already.
+    #[error("the window has the timestamp already")]
     InWindow = 1,
     /// The frame that is handed in has another format than the receiver.
+    #[error("the frame that is handed in has another format than the receiver")]
     OtherFormat = 2,
 }
 
 impl SlideFault {
-    ghost use Rattle.path_merge.specs.Answers.{slide_fault_number};
+    ghost use Rattle.path_merge.specs.Answers.{slide_fault_name, slide_fault_number};
 
     /// The fault's number, 1 or 2.
     pub fn number(self) -> u8
@@ -86,18 +86,14 @@ impl SlideFault {
     {
         self as u8
     }
-}
 
-impl fmt::Display for SlideFault {
-    ghost use Rattle.std.specs.Prelude.{Some};
-    ghost use Rattle.path_merge.specs.Answers.{slide_fault_name};
-
-    ghost output = { λ fault. Some (slide_fault_name fault) };
-
-    fn fmt<W: fmt::Write>(&self, f: &mut fmt::Formatter<W>) -> fmt::Result {
+    /// Its bare name, as the texts of the program have it.
+    pub fn name(self) -> &'static str
+        ensures { result.now ≡ slide_fault_name self }
+    {
         match self {
-            SlideFault::InWindow => f.write_str("InWindow"),
-            SlideFault::OtherFormat => f.write_str("OtherFormat"),
+            SlideFault::InWindow => "InWindow",
+            SlideFault::OtherFormat => "OtherFormat",
         }
     }
 }

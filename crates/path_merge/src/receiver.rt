@@ -3,6 +3,7 @@ ghost use Rattle.std.specs.Prelude.{◌≡◌, ◌≢◌, ◌↔◌, ◌≤◌, 
 ghost use Rattle.std.specs.Prelude.{length};
 ghost use Rattle.std.specs.Prelude.{IfOk, IsErr, IsErrOf, IsSome, IsTrue, OnErr, OnOk, Err, Ok};
 ghost use Rattle.std.specs.Prelude.{Some, slice_get};
+ghost use Rattle.std.specs.List.{zip};
 ghost use Rattle.std.specs.Option.{option_copied};
 ghost use Rattle.st_format.specs.Cell.{join};
 ghost use Rattle.st_format.specs.Member.{IsMember};
@@ -22,6 +23,7 @@ use crate::admitting::admit;
 use crate::answer::{Refusal, Taken};
 use crate::fault::{OpenFault, SlideFault};
 use crate::joining::{blank_frames, join_frames};
+use crate::listing::{Refusals, WindowFrames};
 use crate::window::{MOST_TIMESTAMPS, check_window, has_timestamp, place_of};
 use arrayvec::ArrayVec;
 use circular_buffer::HeapCircularBuffer;
@@ -150,6 +152,7 @@ impl<A: Allocator> Receiver<A> {
     /// What is so of every receiver: a payload type of 7 bits, a window of 1 to 16 timestamps that
     /// differ, a frame of its format for each, and at most 64 refusals. A caller's proof learns it
     /// from here; nothing is done.
+    #[doc(hidden)]
     #[inline(always)]
     pub fn facts(&self)
         ensures { IsReceiver self.now }
@@ -356,6 +359,24 @@ impl<A: Allocator> Receiver<A> {
             None => None,
             Some(place) => Some(&self.frames[place]),
         }
+    }
+
+    /// The frames, each with its timestamp, in window order:
+    /// `for (timestamp, frame) in receiver.frames()`.
+    pub fn frames(&self) -> WindowFrames<'_, A>
+        ensures frames { result ≡ zip self.now.opening.window self.now.frames }
+        ensures receiver { IsReceiver self.now }
+    {
+        WindowFrames::of(self.window.as_slice(), self.frames.as_slice())
+    }
+
+    /// The refusals that are kept, at most the last 64, each with its path, from the oldest on:
+    /// `for (path, refusal) in receiver.refusals()`.
+    pub fn refusals(&self) -> Refusals<'_>
+        ensures refusals { result ≡ self.now.refusals }
+        ensures receiver { IsReceiver self.now }
+    {
+        Refusals::of(self.refusals.iter())
     }
 
     /// How many refusals are kept: at most 64.

@@ -12,7 +12,6 @@ use crate::observer::{Observer, Unobserved};
 use crate::receiver::Receiver;
 use st_format::{DatagramSource, SourceFault, Turn};
 use std::alloc::Allocator;
-use std::fmt;
 use thiserror::Error;
 
 /// What came of the turns that were taken.
@@ -26,6 +25,7 @@ pub struct Received {
 
 /// The source failed.
 #[derive(Clone, Copy, Debug, PartialEq, Eq, Error)]
+#[error("the source failed after {delivered} datagrams: {fault}")]
 pub struct ReceiveFault {
     /// How many datagrams it had delivered in this call. They are taken.
     pub delivered: u64,
@@ -33,14 +33,14 @@ pub struct ReceiveFault {
     pub fault: SourceFault,
 }
 
-impl fmt::Display for ReceiveFault {
+impl ReceiveFault {
     ghost use Rattle.path_merge.specs.Answers.{receive_fault_name};
 
-    ghost output = { λ fault. Some (receive_fault_name fault) };
-
-    fn fmt<W: fmt::Write>(&self, f: &mut fmt::Formatter<W>) -> fmt::Result {
-        let ReceiveFault { delivered, fault } = self;
-        write!(f, "{fault} after {delivered} datagrams")
+    /// Its bare name, as the texts of the program have it.
+    pub fn name(self) -> &'static str
+        ensures { result.now ≡ receive_fault_name }
+    {
+        "ReceiveFault"
     }
 }
 

@@ -4,7 +4,6 @@ ghost use Rattle.path_merge.specs.declared.schedule.play_fault.Stop.TheVariants.
 
 use crate::fault::OpenFault;
 use std::alloc::{AllocError, AllocFailed};
-use std::fmt;
 use thiserror::Error;
 
 /// Why a schedule was not played: the first reason. The window, the pictures and the number of
@@ -13,21 +12,27 @@ use thiserror::Error;
 #[derive(Clone, Copy, Debug, PartialEq, Eq, Error)]
 pub enum PlayFault {
     /// 1: the memory was refused.
+    #[error("the memory was refused")]
     NoMemory,
     /// 2: the event at this place, counted from 0, is not admitted after those before it.
+    #[error("the event at place {0}, counted from 0, is not admitted after those before it")]
     BadEvent(usize),
     /// 3: the window has no timestamp, or more than 16.
+    #[error("the window has no timestamp, or more than 16")]
     BadWindow,
     /// 4: a timestamp stands twice in the window.
+    #[error("a timestamp stands twice in the window")]
     DoubleTimestamp,
     /// 5: there are more than 10,000 pictures, or one of another format than the plan's.
+    #[error("there are more than 10000 pictures, or one of another format than the plan's")]
     BadPictures,
     /// 6: there is no receiver, or there are more than 8.
+    #[error("there is no receiver, or there are more than 8")]
     BadReceivers,
 }
 
 impl PlayFault {
-    ghost use Rattle.path_merge.specs.PlayFault.{play_fault_number};
+    ghost use Rattle.path_merge.specs.PlayFault.{play_fault_name, play_fault_number};
 
     /// The fault's number, 1 to 6.
     pub fn number(self) -> u8
@@ -43,6 +48,20 @@ impl PlayFault {
         }
     }
 
+    /// Its bare name, of an event without its place.
+    pub fn name(self) -> &'static str
+        ensures { result.now ≡ play_fault_name self }
+    {
+        match self {
+            PlayFault::NoMemory => "NoMemory",
+            PlayFault::BadEvent(_) => "BadEvent",
+            PlayFault::BadWindow => "BadWindow",
+            PlayFault::DoubleTimestamp => "DoubleTimestamp",
+            PlayFault::BadPictures => "BadPictures",
+            PlayFault::BadReceivers => "BadReceivers",
+        }
+    }
+
     /// What was wanted where this fault comes, in words for a person.
     pub fn wanted(self) -> &'static str {
         match self {
@@ -52,24 +71,6 @@ impl PlayFault {
             PlayFault::DoubleTimestamp => OpenFault::DoubleTimestamp.wanted(),
             PlayFault::BadPictures => "at most 10000 pictures",
             PlayFault::BadReceivers => "1 to 8 receivers",
-        }
-    }
-}
-
-impl fmt::Display for PlayFault {
-    ghost use Rattle.std.specs.Prelude.{Some};
-    ghost use Rattle.path_merge.specs.PlayFault.{play_fault_name};
-
-    ghost output = { λ fault. Some (play_fault_name fault) };
-
-    fn fmt<W: fmt::Write>(&self, f: &mut fmt::Formatter<W>) -> fmt::Result {
-        match self {
-            PlayFault::NoMemory => f.write_str("NoMemory"),
-            PlayFault::BadEvent(place) => write!(f, "BadEvent {place}"),
-            PlayFault::BadWindow => f.write_str("BadWindow"),
-            PlayFault::DoubleTimestamp => f.write_str("DoubleTimestamp"),
-            PlayFault::BadPictures => f.write_str("BadPictures"),
-            PlayFault::BadReceivers => f.write_str("BadReceivers"),
         }
     }
 }

@@ -1,5 +1,6 @@
+use Rattle.std.proofs.Common.{List, ℕ, ap}
 use Rattle.std.proofs.lemmas.Result.{err_from_is_err_and}
-use Rattle.frame_report.proofs.ContestedTexts.{sample_line}
+use Rattle.frame_report.specs.Contested.{sample_text}
 use Rattle.frame_report.proofs.Gathering.{gathers_line, prefix_first}
 use Rattle.frame_report.proofs.contested.put_line.Goals as goal
 
@@ -11,5 +12,5 @@ returns-in_err-make_room-clause-fault g c =
 pub returns-clause-ok : goal.returns-clause-ok
 returns-clause-ok g c =
     gathers_line _ _ _ _ _ _ _ c.in_ok-make_room.ensures.ok c.add_line.ensures
-    (sample_line c.args.sampling c.args.row c.args.sample _ _ _ c.column_of-column.ensures
-    c.component_in_row.ensures.value c.component_name-name.ensures.name)
+    (ap (λ (name : List ℕ). sample_text c.args.row c.args.column name)
+    c.component_name-name.ensures.name)

@@ -9,4 +9,5 @@ returns c =
     (numbered_word (codes " columns ") c.args.first)
     (numbered_word (codes " to ") c.args.last)
     (codes "\n") (rw c.from.ensures at c.add_number.ensures.text)
-    c.add_number-2.ensures.text c.add_number-3.ensures.text c.add.ensures
+    (rw c.from-2.ensures at c.add_number-2.ensures.text)
+    (rw c.from-3.ensures at c.add_number-3.ensures.text) c.add.ensures
