@@ -12,3 +12,4 @@ pub mod Printed
 pub mod Leaving
 pub mod Passing
 pub mod Accounting
+pub mod Coming

@@ -10,3 +10,4 @@ pub mod Sent
 pub mod Sending
 pub mod Looping
 pub mod Looped
+pub mod Coming

@@ -72,6 +72,7 @@ impl<A: Allocator> Intake<A> {
         requires room { 65535 ≤ length buf.old }
         requires new { IsNewReader reader.old }
         requires before { reader.old.before ≡ record {
+          gave = S.gave reader.old.source;
           to_give = S.to_give reader.old.source;
           failures = S.failures reader.old.source;
         } }

@@ -2,8 +2,8 @@
 //! receiver, from an old version to the new one, and over a link instead.
 #![tactic(auto)]
 
+mod comings;
 mod intake;
-mod link;
 mod looping;
 mod memory_link;
 mod migrating;
@@ -13,7 +13,7 @@ mod sender;
 mod sending;
 mod tally;
 
-pub use link::DatagramLink;
+pub use datagram_link::DatagramLink;
 pub use looping::{Looping, loop_back};
 pub use memory_link::MemoryLink;
 pub use migrating::migrate;

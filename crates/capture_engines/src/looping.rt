@@ -9,7 +9,7 @@ ghost use Rattle.path_merge.specs.Took.{CountsAll};
 ghost use Rattle.capture_engines.specs.Looped.{IsLoopRefusal};
 ghost use Rattle.capture_engines.specs.Looping.{Came, Loops, Prints, loop_opening};
 
-use crate::link::DatagramLink;
+use datagram_link::DatagramLink;
 use packet_plan::{Plan, Stamp};
 use path_merge::{Receiver, receive};
 use run_outcome::{Fault, Line, print, read_unpacked, room};

@@ -1,7 +1,12 @@
 //! A link over vectors that never grow.
-ghost use Rattle.std.specs.Prelude.{◌≡◌, ◌+◌, ◌-◌, ◌^◌, ◌≤◌, [], length, min, None, Some, Err};
+ghost use Rattle.std.specs.Prelude.{◌≡◌, ◌+◌, ◌-◌, ◌^◌, ◌<◌, ◌≤◌, [], length, min, None, Some, Err};
+ghost use Rattle.std.specs.Prelude.{IsErr};
+ghost use Rattle.std.specs.List.{All};
+ghost use Rattle.st_format.specs.Device.{CountsOne};
+ghost use Rattle.capture_engines.specs.Coming.{at_places};
 
-use crate::link::DatagramLink;
+use crate::comings::Comings;
+use datagram_link::DatagramLink;
 use st_format::memory::MemoryDatagrams;
 use st_format::{DatagramSink, DatagramSource, MOST_DATAGRAM, Path, SinkFault, SourceFault, Turn};
 use std::alloc::{Allocator, Global};
@@ -12,12 +17,14 @@ use std::alloc::{Allocator, Global};
 #[derive(Drop)]
 pub struct MemoryLink<A: Allocator = Global> {
     puts: MemoryDatagrams<A>,
-    comes: Vec<Option<usize>, A>,
+    comings: Comings<A>,
     turns: usize,
     fails_in: u64,
     delivered: u64,
     failures: u64,
     last_fault: Option<SourceFault>,
+    // What came is there.
+    ghost there: { All (λ place. place < length puts.taken) comings.came },
 }
 
 impl<A: Allocator> MemoryLink<A> {
@@ -33,7 +40,7 @@ impl<A: Allocator> MemoryLink<A> {
     {
         MemoryLink {
             puts: MemoryDatagrams::new(slots, 0),
-            comes,
+            comings: Comings::new(comes),
             turns: 0,
             fails_in,
             delivered: 0,
@@ -57,6 +64,7 @@ impl<A: Allocator> MemoryLink<A> {
     /// Whether this call is the one that fails.
     fn fails_now(&mut self) -> bool
         ensures puts { self.new.puts ≡ self.old.puts }
+        ensures comings { self.new.comings ≡ self.old.comings }
         ensures failures { self.new.failures ≡ self.old.failures }
         ensures delivered { self.new.delivered ≡ self.old.delivered }
         ensures last { self.new.last_fault ≡ self.old.last_fault }
@@ -66,23 +74,23 @@ impl<A: Allocator> MemoryLink<A> {
         fails
     }
 
-    /// The datagram that comes in this turn, where one comes.
-    fn due(&self) -> Option<&[u8]> {
-        if self.turns >= self.comes.len() {
-            return None;
-        }
-        let place = self.comes[self.turns]?;
-        let taken = self.puts.taken();
-        if place < taken.len() {
-            Some(&taken[place])
-        } else {
-            None
-        }
+    /// One failure more, which is told of.
+    fn fail(&mut self) -> Result<(), SinkFault>
+        ensures fault { IsErr result }
+        ensures puts { self.new.puts ≡ self.old.puts }
+        ensures comings { self.new.comings ≡ self.old.comings }
+        ensures delivered { self.new.delivered ≡ self.old.delivered }
+        ensures counted { CountsOne self.old.failures self.new.failures }
+    {
+        self.failures = self.failures.saturating_add(1);
+        Err(SinkFault)
     }
 }
 
 impl<A: Allocator> DatagramSink for MemoryLink<A> {
     ghost taken = { λ l. Some l.puts.taken };
+
+    ghost took = { λ l. l.puts.taken };
 
     ghost failures = { λ l. l.failures };
 
@@ -93,6 +101,10 @@ impl<A: Allocator> DatagramSink for MemoryLink<A> {
 
 impl<A: Allocator> DatagramSource for MemoryLink<A> {
     ghost turns = { λ _. None };
+
+    ghost came = { λ l. at_places l.puts.taken l.comings.came };
+
+    ghost ended = { λ _. ⊥ };
 
     ghost delivered = { λ l. l.delivered };
 
@@ -108,17 +120,21 @@ impl<A: Allocator> DatagramSource for MemoryLink<A> {
             self.last_fault = Some(SourceFault::Device);
             return Err(SourceFault::Device);
         }
-        let turn = match self.due() {
-            Some(octets) if octets.len() <= MOST_DATAGRAM => {
-                let count = octets.len();
-                buf[..count].copy_from_slice(octets);
-                self.delivered = self.delivered.saturating_add(1);
-                Turn::Datagram(Path::A, count)
-            }
-            _ => Turn::Quiet,
-        };
         self.turns = self.turns.saturating_add(1);
-        Ok(turn)
+        let Some(place) = self.comings.due() else {
+            self.comings.skip();
+            return Ok(Turn::Quiet);
+        };
+        let taken = self.puts.taken();
+        if place >= taken.len() || taken[place].len() > MOST_DATAGRAM {
+            self.comings.skip();
+            return Ok(Turn::Quiet);
+        }
+        let count = taken[place].len();
+        buf[..count].copy_from_slice(&taken[place]);
+        self.delivered = self.delivered.saturating_add(1);
+        self.comings.come();
+        Ok(Turn::Datagram(Path::A, count))
     }
 }
 
@@ -128,10 +144,12 @@ impl<A: Allocator> DatagramLink for MemoryLink<A> {
     ghost one_count = { λ _. refl };
 
     fn send(&mut self, octets: &[u8]) -> Result<(), SinkFault> {
-        if !self.fails_now() && self.puts.put(octets).is_ok() {
-            return Ok(());
+        if self.fails_now() {
+            return self.fail();
         }
-        self.failures = self.failures.saturating_add(1);
-        Err(SinkFault)
+        match self.puts.put(octets) {
+            Ok(()) => Ok(()),
+            Err(_) => self.fail(),
+        }
     }
 }

@@ -18,6 +18,8 @@ mod devices;
 #[cfg(test)]
 mod engines;
 #[cfg(test)]
+mod faults;
+#[cfg(test)]
 mod file_devices;
 #[cfg(test)]
 mod file_growths;

@@ -5,6 +5,8 @@
 #[cfg(test)]
 mod checks;
 #[cfg(test)]
+mod faults;
+#[cfg(test)]
 mod groups;
 #[cfg(test)]
 mod held;
@@ -12,6 +14,8 @@ mod held;
 mod kernels;
 #[cfg(test)]
 mod last_samples;
+#[cfg(test)]
+mod listed;
 #[cfg(test)]
 mod packed_marks;
 #[cfg(test)]
@@ -26,6 +30,8 @@ mod receivers;
 mod rows;
 #[cfg(test)]
 mod sample_kernels;
+#[cfg(test)]
+mod texts;
 #[cfg(test)]
 mod turns;
 #[cfg(test)]

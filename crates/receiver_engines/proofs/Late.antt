@@ -15,9 +15,8 @@ use Rattle.key_mix.specs.declared.faults.SendJobFault.TheVariants as fault
 use Rattle.st_format.specs.Device.{CountsOne}
 use Rattle.st_format.specs.Puts.{TakesEach}
 use Rattle.st_format.specs.declared.path.Path.TheVariants.{A}
-use Rattle.receiver_engines.specs.Late.{FailsLate, TakesLate, late_octets, late_text}
+use Rattle.receiver_engines.specs.Late.{FailsLate, Late, TakesLate, late_octets, late_text}
 use Rattle.receiver_engines.specs.Processing.{WritesJob}
-use Rattle.receiver_engines.specs.declared.late_capture.LateCapture.{LateCapture}
 
 pub on_err : {V E : Type 0} {P : Type 0} (r : Result V E) → P → OnErr r P
 on_err (Ok v) p = tt
@@ -25,16 +24,16 @@ on_err (Err e) p = p
 
 -- what datagrams leave as it was
 pub record Stays {M : Type 0} (failures : M → ℕ) (names : M → List GName)
-    (old new : LateCapture M) : Type 0 where
+    (old new : Late M) : Type 0 where
   pub whole : new.is_cut ≡ false
   pub working : failures new.sink ≡ failures old.sink
   pub names_stay : names new.sink ≡ names old.sink
 
 stays : {M : Type 0} (held : M → Option (List ℕ)) (failures : M → ℕ) (names : M → List GName)
-    (old : LateCapture M) (ds : List (List ℕ)) (new : LateCapture M) → old.is_cut ≡ false
+    (old : Late M) (ds : List (List ℕ)) (new : Late M) → old.is_cut ≡ false
     → TakesEach (TakesLate held failures names) old ds new → Stays failures names old new
 stays {M} held failures names old [] new whole same =
-    subst (λ (c : LateCapture M). Stays failures names old c) (sym same)
+    subst (λ (c : Late M). Stays failures names old c) (sym same)
     (record { whole = whole; working = refl; names_stay = refl })
 stays {M} held failures names old (d ∷ ds) new whole taken =
     let one = taken.1 in
@@ -47,11 +46,11 @@ stays {M} held failures names old (d ∷ ds) new whole taken =
 
 -- a capture that is begun
 writes_more : {M : Type 0} (held : M → Option (List ℕ)) (failures : M → ℕ)
-    (names : M → List GName) (old : LateCapture M) (ds : List (List ℕ)) (new : LateCapture M)
+    (names : M → List GName) (old : Late M) (ds : List (List ℕ)) (new : Late M)
     → old.is_begun ≡ true → TakesEach (TakesLate held failures names) old ds new
     → Appends (held old.sink) (held new.sink) (records_text (entries_from OnlyA old.moment ds))
 writes_more {M} held failures names old [] new begun same =
-    subst (λ (c : LateCapture M). Appends (held old.sink) (held c.sink) []) (sym same)
+    subst (λ (c : Late M). Appends (held old.sink) (held c.sink) []) (sym same)
     (Appends-nil (held old.sink))
 writes_more {M} held failures names old (d ∷ ds) new begun taken =
     let one = taken.1 in
@@ -66,12 +65,12 @@ writes_more {M} held failures names old (d ∷ ds) new begun taken =
 
 -- one that isn't
 writes_late : {M : Type 0} (held : M → Option (List ℕ)) (failures : M → ℕ)
-    (names : M → List GName) (old : LateCapture M) (ds : List (List ℕ)) (new : LateCapture M)
+    (names : M → List GName) (old : Late M) (ds : List (List ℕ)) (new : Late M)
     → old.is_begun ≡ false → old.moment ≡ 0
     → TakesEach (TakesLate held failures names) old ds new
     → Appends (held old.sink) (held new.sink) (late_text ds)
 writes_late {M} held failures names old [] new fresh zero same =
-    subst (λ (c : LateCapture M). Appends (held old.sink) (held c.sink) []) (sym same)
+    subst (λ (c : Late M). Appends (held old.sink) (held c.sink) []) (sym same)
     (Appends-nil (held old.sink))
 writes_late {M} held failures names old (d ∷ ds) new fresh zero taken =
     let one = taken.1 in
@@ -95,7 +94,7 @@ writes_late {M} held failures names old (d ∷ ds) new fresh zero taken =
 -- the names stay
 pub job_names : {M : Type 0} (held : M → Option (List ℕ)) (failures : M → ℕ)
     (names : M → List GName) (Are : List (List ℕ) → Type 0) (first : ℕ)
-    (old new : LateCapture M) (result : Result ℕ SendJobFault) → old.is_cut ≡ false
+    (old new : Late M) (result : Result ℕ SendJobFault) → old.is_cut ≡ false
     → Puts (TakesLate held failures names) (λ o d n. FailsLate failures names o n) Are first old
     new result → names new.sink ≡ names old.sink
 job_names {M} held failures names Are first old new (Ok next) whole puts =
@@ -105,14 +104,14 @@ job_names {M} held failures names Are first old new (Err (fault.Sink sent)) whol
     at.failed.names_stay
     ∙ (stays held failures names old (take sent puts.0) at.last whole at.taken).names_stay
 job_names {M} held failures names Are first old new (Err (fault.Job e)) whole same =
-    ap (λ (c : LateCapture M). names c.sink) same
+    ap (λ (c : Late M). names c.sink) same
 job_names {M} held failures names Are first old new (Err fault.BadPacketSize) whole same =
-    ap (λ (c : LateCapture M). names c.sink) same
+    ap (λ (c : Late M). names c.sink) same
 
 -- a job's picture, put into a capture over a sink that is lent
 pub writes_job : {M K : Type 0} (value : M → K) (held : K → Option (List ℕ)) (failures : K → ℕ)
     (names : M → List GName) (Are : List (List ℕ) → Type 0) (first : ℕ)
-    (old new : LateCapture M) (result : Result ℕ SendJobFault) → old.is_cut ≡ false
+    (old new : Late M) (result : Result ℕ SendJobFault) → old.is_cut ≡ false
     → old.is_begun ≡ false → old.moment ≡ 0
     → Puts (TakesLate (λ m. held (value m)) (λ m. failures (value m)) names)
     (λ o d n. FailsLate (λ m. failures (value m)) names o n) Are first old new result
@@ -136,10 +135,10 @@ writes_job {M} {K} value held failures names Are first old new (Err (fault.Sink 
     (at.failed.counted kept.whole)
 writes_job {M} {K} value held failures names Are first old new (Err (fault.Job e)) whole fresh zero
     same =
-    ap (λ (c : LateCapture M). value c.sink) same
+    ap (λ (c : Late M). value c.sink) same
 writes_job {M} {K} value held failures names Are first old new (Err fault.BadPacketSize) whole fresh
     zero same =
-    ap (λ (c : LateCapture M). value c.sink) same
+    ap (λ (c : Late M). value c.sink) same
 
 -- the same of the sink that was lent
 pub writes_lent : {K : Type 0} (Are : List (List ℕ) → Type 0) (held : K → Option (List ℕ))

@@ -6,4 +6,5 @@ pub mod Settling
 pub mod Refusals
 pub mod FileRefusals
 pub mod Late
+pub mod LateTakings
 pub mod Meaning

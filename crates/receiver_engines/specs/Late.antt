@@ -1,15 +1,25 @@
 -- What a capture writes that is begun at its first datagram (own).
-use Rattle.std.specs.Prelude.{◌≡◌, ℕ, Bool, true, false, List, [], ◌∷◌, ◌++◌, Option}
+use Rattle.std.specs.Prelude.{◌≡◌, ℕ, ◌^◌, ◌<◌, Bool, true, false, List, [], ◌∷◌, ◌++◌, Option}
 use Rattle.std.specs.Borrow.{GName}
 use Rattle.std.specs.Io.KnownBytes.{Appends}
 use Rattle.media_file.specs.Fronts.{front_text}
 use Rattle.media_file.specs.Records.{record_text}
-use Rattle.media_file.specs.Writer.{entry, moment_behind, written_text}
+use Rattle.media_file.specs.Writer.{IsWritten, datagrams_in, entry, moment_behind, written_text}
 use Rattle.media_file.specs.declared.front.Version.TheVariants.{Two}
 use Rattle.media_file.specs.declared.paths.Paths.TheVariants.{OnlyA}
 use Rattle.st_format.specs.Device.{CountsOne}
+use Rattle.st_format.specs.History.{GrewFrom, since}
 use Rattle.st_format.specs.declared.path.Path.TheVariants.{A}
-use Rattle.receiver_engines.specs.declared.late_capture.LateCapture.{LateCapture}
+
+-- What is seen of such a capture: `before` is what its sink had taken when it was made, and the
+-- moment is that of the next record.
+pub record Late (K : Type 0) : Type 0 where
+  pub sink : K
+  pub before : List ℕ
+  pub is_begun : Bool
+  pub moment : ℕ
+  pub is_cut : Bool
+  pub failures : ℕ
 
 -- what stands before the first record, where it isn't written yet
 abbrev pub late_front : Bool → List ℕ
@@ -21,6 +31,23 @@ abbrev pub late_octets : Bool → ℕ → List ℕ → List ℕ
 late_octets is_begun moment octets =
     late_front is_begun ++ record_text (entry A moment octets)
 
+-- What a sink took of a capture that is whole: nothing before the first datagram, and then the
+-- capture of datagrams.
+abbrev pub IsLate : Bool → ℕ → List ℕ → Type 0
+IsLate false moment octets = (octets ≡ []) × (moment ≡ 0)
+IsLate true moment octets = IsWritten OnlyA 0 moment octets
+
+-- where a capture stands, by what its sink took, `before` before it was made and `took` so far
+pub record StandsLate (is_begun is_cut : Bool) (moment : ℕ) (before took : List ℕ) : Type 0 where
+  pub fits : moment < 2 ^ 64
+  pub grew : GrewFrom before took
+  pub whole : is_cut ≡ false → IsLate is_begun moment (since before took)
+
+-- The datagrams of a capture, by what its sink took since it was made: those whose records are
+-- whole.
+abbrev pub late_datagrams : List ℕ → List (List ℕ)
+late_datagrams octets = datagrams_in OnlyA 0 octets
+
 -- The capture of datagrams: path A, no text. It isn't begun where there are none.
 abbrev pub late_text : List (List ℕ) → List ℕ
 late_text [] = []
@@ -29,7 +56,7 @@ late_text (d ∷ ds) = written_text OnlyA [] (d ∷ ds)
 -- A capture that was whole took a datagram: its sink is written the record, behind the front where
 -- that wasn't written yet.
 pub record TakesLate {K : Type 0} (held : K → Option (List ℕ)) (failures : K → ℕ)
-    (names : K → List GName) (old : LateCapture K) (octets : List ℕ) (new : LateCapture K) :
+    (names : K → List GName) (old : Late K) (octets : List ℕ) (new : Late K) :
     Type 0 where
   pub whole : old.is_cut ≡ false
   pub stays : new.is_cut ≡ false
@@ -41,7 +68,7 @@ pub record TakesLate {K : Type 0} (held : K → Option (List ℕ)) (failures : K
 
 -- One that fails is cut. If it was whole, its sink failed once; else that is asked for nothing.
 pub record FailsLate {K : Type 0} (failures : K → ℕ) (names : K → List GName)
-    (old new : LateCapture K) : Type 0 where
+    (old new : Late K) : Type 0 where
   pub cut : new.is_cut ≡ true
   pub counted : old.is_cut ≡ false → CountsOne (failures old.sink) (failures new.sink)
   pub untouched : old.is_cut ≡ true → new.sink ≡ old.sink

@@ -58,8 +58,8 @@ pub record SendsJob (job : Job) (ts : ℕ) (fill_text : List ℕ) (size : ℕ) (
   pub sendable : IsSendable job (raster_formats frames) size
   pub takes : TakesJob job (settled_frames held fill frames) size stamp old new count
 
--- It was written that of the job that a text says, of the receivers and the held picture whose files
--- sources were to give.
+-- It was written that of the job that a text says, of the receivers and the held picture whose
+-- files sources were to give.
 pub record SendsFiles {S : Type 0} (to_give : S → Option (List ℕ)) (states : List S)
     (hold : Option S) (job_text : List ℕ) (ts : ℕ) (fill_text : List ℕ) (size : ℕ) (stamp : Stamp)
     (old new : Option (List ℕ)) (count : ℕ) : Type 0 where

@@ -1,11 +1,15 @@
 //! A capture that is begun at its first datagram, as a sink of datagrams. It tells no datagrams.
-ghost use Rattle.std.specs.Prelude.{◌≡◌, ◌≤◌, length, IsErr, None, OnOk, true, false};
+ghost use Rattle.std.specs.Prelude.{◌≡◌, ◌≤◌, ◌++◌, length, IsErr, None, OnErr, OnOk, true, false};
 ghost use Rattle.std.specs.Io.KnownBytes.{Appends};
-ghost use Rattle.receiver_engines.specs.Late.{FailsLate, TakesLate, late_front, late_octets};
-ghost use Rattle.st_format.specs.Device.{CountsFaults, CountsOne};
+ghost use Rattle.receiver_engines.specs.Late.{FailsLate, TakesLate, late_datagrams, late_front};
+ghost use Rattle.receiver_engines.specs.Late.{late_octets};
+ghost use Rattle.st_format.specs.Device.{CountsFaults, CountsOne, GrowsPart};
+ghost use Rattle.st_format.specs.History.{since};
 
 use media_file::{write_front, write_record};
 use st_format::{ByteSink, DatagramSink, DeviceFault, Path, SinkFault};
+use std::marker::Model;
+use std::snapshot::Snapshot;
 
 /// Writes a capture with an empty text, of records by path A, into a sink of octets. It is begun at
 /// the first datagram: a sink of which nothing is asked before isn't touched.
@@ -13,12 +17,32 @@ use st_format::{ByteSink, DatagramSink, DeviceFault, Path, SinkFault};
 /// After a fault it takes nothing more, and the sink is asked for nothing.
 #[derive(Drop)]
 pub(crate) struct LateCapture<K: ByteSink> {
-    pub(crate) sink: K,
-    pub(crate) is_begun: bool,
+    sink: K,
+    /// The sink as it was when the capture was made. Only proofs see it.
+    opened: Snapshot<K>,
+    is_begun: bool,
     /// The moment of the next record.
-    pub(crate) moment: u64,
-    pub(crate) is_cut: bool,
-    pub(crate) failures: u64,
+    moment: u64,
+    is_cut: bool,
+    failures: u64,
+}
+
+impl<K: ByteSink> Model for LateCapture<K> {
+    ghost use Rattle.receiver_engines.specs.Late.{Late, StandsLate};
+
+    ghost Value = { Late K };
+
+    ghost view = { λ c. record {
+      sink = c.sink;
+      before = K.took c.opened.value;
+      is_begun = c.is_begun;
+      moment = c.moment;
+      is_cut = c.is_cut;
+      failures = c.failures;
+    } };
+
+    ghost invariant = { λ c. StandsLate c.is_begun c.is_cut c.moment (K.took c.opened.value)
+        (K.took c.sink) };
 }
 
 impl<K: ByteSink> LateCapture<K> {
@@ -29,8 +53,10 @@ impl<K: ByteSink> LateCapture<K> {
         ensures moment { result.moment ≡ 0 }
         ensures cut { result.is_cut ≡ false }
     {
+        let opened = Snapshot::of(&sink);
         LateCapture {
             sink,
+            opened,
             is_begun: false,
             moment: 0,
             is_cut: false,
@@ -49,6 +75,7 @@ impl<K: ByteSink> LateCapture<K> {
     fn fail(&mut self) -> Result<(), SinkFault>
         ensures fault { IsErr result }
         ensures sink { self.new.sink ≡ self.old.sink }
+        ensures before { self.new.before ≡ self.old.before }
         ensures cut { self.new.is_cut ≡ self.old.is_cut }
         ensures counted { CountsOne self.old.failures self.new.failures }
     {
@@ -59,6 +86,8 @@ impl<K: ByteSink> LateCapture<K> {
 
 impl<K: ByteSink> DatagramSink for LateCapture<K> {
     ghost taken = { λ _. None };
+
+    ghost took = { λ c. late_datagrams (since c.before (K.took c.sink)) };
 
     ghost failures = { λ c. c.failures };
 
@@ -97,6 +126,10 @@ fn write_datagram<K: ByteSink>(
         (Appends (K.held sink.old) (K.held sink.new) (late_octets is_begun moment octets.now)) }
     ensures counted { CountsFaults (K.failures sink.old) (K.failures sink.new) result }
     ensures names { K.names sink.new ≡ K.names sink.old }
+    ensures took { OnOk result (K.took sink.new
+        ≡ K.took sink.old ++ late_octets is_begun moment octets.now) }
+    ensures part { OnErr result (GrowsPart (K.took sink.old) (K.took sink.new)
+        (late_octets is_begun moment octets.now)) }
 {
     begin(sink, is_begun)?;
     write_record(sink, Path::A, moment, octets)
@@ -107,6 +140,9 @@ fn begin<K: ByteSink>(sink: &mut K, is_begun: bool) -> Result<(), DeviceFault>
     ensures ok { OnOk result (Appends (K.held sink.old) (K.held sink.new) (late_front is_begun)) }
     ensures counted { CountsFaults (K.failures sink.old) (K.failures sink.new) result }
     ensures names { K.names sink.new ≡ K.names sink.old }
+    ensures took { OnOk result (K.took sink.new ≡ K.took sink.old ++ late_front is_begun) }
+    ensures part { OnErr result
+        (GrowsPart (K.took sink.old) (K.took sink.new) (late_front is_begun)) }
 {
     if is_begun {
         return Ok(());

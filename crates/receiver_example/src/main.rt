@@ -2,9 +2,9 @@
 //! those of path B, and after each path it is asked which columns of which rows are missing.
 #![tactic(auto)]
 
-use anyhow::{Context, Result};
+use anyhow::Result;
 use woqtarish::describe::read_sdp;
-use woqtarish::receive::{Frame, Path, Receiver};
+use woqtarish::receive::{Frame, Opening, Path};
 
 /// 4:2:2 of 8 bits, 8 columns by 2 rows, payload type 96.
 const SDP: &[u8] = b"m=video 5004 RTP/AVP 96\na=rtpmap:96 raw/90000\n\
@@ -30,29 +30,29 @@ const BY_B: [&[u8]; 3] = [
 fn main(rt: HostRuntime) -> Result<()> {
     let alloc = rt.alloc();
     let sdp = read_sdp(alloc, SDP)?;
-    let mut receiver = Receiver::open(alloc, sdp.format, sdp.payload_type, None, &[TIMESTAMP])?;
+    let mut receiver = Opening::new(sdp.format, sdp.payload_type)
+        .window(&[TIMESTAMP])
+        .open(alloc)?;
     for (path, datagrams) in [(Path::A, BY_A.as_slice()), (Path::B, BY_B.as_slice())] {
         for datagram in datagrams {
-            // One that is refused changes no frame, so it need not end the program.
             if let Err(refusal) = receiver.take(path, *datagram) {
                 println!(rt; "refused: {refusal}")?;
             }
         }
-        let frame = receiver.frame(TIMESTAMP).context("no such timestamp")?;
-        println!(rt; "after path {path:?}: {:?}", frame.counts())?;
-        print_missing(&rt, frame)?;
+        for (timestamp, frame) in receiver.frames() {
+            println!(rt; "frame {timestamp} after path {path}: {}", frame.counts())?;
+            print_missing(&rt, frame)?;
+        }
     }
     Ok(())
 }
 
-/// Prints the places of which nothing is known. Where a sample of a column is missing, all are.
+/// Prints the columns of which nothing is known, row by row.
 fn print_missing(rt: &HostRuntime, frame: &Frame) -> Result<()> {
-    let format = frame.format();
-    for row in 0..format.height() {
-        for column in 0..format.width() {
-            if frame.cell(row, column, 0).is_missing() {
-                println!(rt; "row {row} column {column} is missing")?;
-            }
+    for row in 0..frame.format().height() {
+        for columns in frame.missing_runs(row) {
+            let (first, last) = (columns.start, columns.end - 1);
+            println!(rt; "row {row} columns {first} to {last} are missing")?;
         }
     }
     Ok(())

@@ -62,7 +62,8 @@ fn write_front<A: Allocator, K: ByteSink>(
     ensures ok { OnOk result
         (Appends (K.held sink.old) (K.held sink.new) (kept_front_text (kept_of receiver.now))) }
     ensures fault { OnErr result
-        (AppendsPrefix (K.held sink.old) (K.held sink.new) (kept_front_text (kept_of receiver.now))) }
+        (AppendsPrefix (K.held sink.old) (K.held sink.new)
+        (kept_front_text (kept_of receiver.now))) }
     ensures counted { CountsFaults (K.failures sink.old) (K.failures sink.new) result }
 {
     write_whole(sink, RECEIVER_ONE)?;

@@ -48,6 +48,8 @@ abbrev pub sdp_fault : SdpFault → Refusal → Fault
 sdp_fault sdp.NoMemory refusal = Memory
 sdp_fault fault refusal = Refused refusal
 
+-- the fault of a run that stopped at a library's: want of memory is the run's own, a device's too,
+-- and all else a refusal
 abbrev pub of_sdp : Located → Fault
 of_sdp at = sdp_fault at.fault (Sdp at)
 

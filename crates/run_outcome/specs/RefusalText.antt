@@ -7,6 +7,8 @@ use Rattle.packet_numbers.specs.Numbers.{seq_map_fault_name, seq_map_fault_numbe
 use Rattle.packet_plan.specs.Faults.{plan_fault_name, plan_fault_number}
 use Rattle.path_merge.specs.Answers.{open_fault_name, open_fault_number}
 use Rattle.path_merge.specs.PlayFault.{play_fault_name, play_fault_number}
+use Rattle.path_merge.specs.declared.schedule.play_fault.PlayFault.{PlayFault}
+use Rattle.path_merge.specs.declared.schedule.play_fault.PlayFault.TheVariants as play
 use Rattle.sdp_format.specs.Faults.{sdp_fault_name, sdp_fault_number}
 use Rattle.st_format.specs.Faults.{format_fault_name, format_fault_number}
 use Rattle.run_outcome.specs.Telling.{numbered_name}
@@ -14,6 +16,12 @@ use Rattle.run_outcome.specs.declared.refusal.Refusal.{Refusal}
 use Rattle.run_outcome.specs.declared.refusal.Refusal.TheVariants as refusal
 use Rattle.run_outcome.specs.declared.script_line.LineFault.{LineFault}
 use Rattle.run_outcome.specs.declared.script_line.LineFault.TheVariants as line
+
+-- of a schedule: behind the name of an event its place
+abbrev pub play_text : PlayFault → List ℕ
+play_text (play.BadEvent place) =
+    numbered_name (codes "play ") 2 (codes "BadEvent " ++ decimal place)
+play_text f = numbered_name (codes "play ") (play_fault_number f) (play_fault_name f)
 
 -- of a line of a script, but for its number
 abbrev pub line_fault_text : LineFault → List ℕ
@@ -26,8 +34,7 @@ line_fault_text (line.Numbers f) =
     numbered_name (codes "numbers ") (seq_map_fault_number f) (seq_map_fault_name f)
 line_fault_text (line.Plan f) =
     numbered_name (codes "plan ") (plan_fault_number f) (plan_fault_name f)
-line_fault_text (line.Play f) =
-    numbered_name (codes "play ") (play_fault_number f) (play_fault_name f)
+line_fault_text (line.Play f) = play_text f
 
 -- of all commands
 abbrev pub refusal_text : Refusal → List ℕ

@@ -13,6 +13,7 @@ TellsLine status line result old new held held' =
     ((result ≡ status) × (new ≡ old) × Appends held held' line)
     ⊎ ((result ≡ Device) × Failed old new)
 
+-- the two lines without a number
 abbrev pub device_line : List ℕ
 device_line = codes "st2110: device\n"
 

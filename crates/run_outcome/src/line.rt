@@ -57,7 +57,8 @@ impl fmt::Display for Line {
             Line::Outside => f.write_str("outside"),
             Line::Refused(refusal) => {
                 let number = refusal.number();
-                write!(f, "refused {number} {refusal}")
+                let name = refusal.name();
+                write!(f, "refused {number} {name}")
             }
             Line::Missing => f.write_str("missing"),
             Line::Value(value) => write!(f, "value {value}"),
@@ -79,7 +80,8 @@ impl fmt::Display for Line {
             }
             Line::NotSlid(fault) => {
                 let number = fault.number();
-                write!(f, "refused slide {number} {fault}")
+                let name = fault.name();
+                write!(f, "refused slide {number} {name}")
             }
             Line::HandedOut(receiver, timestamp, counts) => {
                 write!(
@@ -95,7 +97,8 @@ impl fmt::Display for Line {
             Line::Delivered(count) => write!(f, "delivered {count}"),
             Line::RefusedCount(refusal, count) => {
                 let number = refusal.number();
-                write!(f, "refused {number} {refusal} {count}")
+                let name = refusal.name();
+                write!(f, "refused {number} {name} {count}")
             }
             Line::OutsideCount(count) => write!(f, "outside {count}"),
         }

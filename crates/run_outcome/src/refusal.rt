@@ -80,31 +80,38 @@ impl fmt::Display for Refusal {
             Refusal::Sdp(at) => {
                 let fault = at.fault;
                 let number = fault.number();
-                write!(f, "sdp {number} {fault}")
+                let name = fault.name();
+                write!(f, "sdp {number} {name}")
             }
             Refusal::Open(fault) => {
                 let number = fault.number();
-                write!(f, "open {number} {fault}")
+                let name = fault.name();
+                write!(f, "open {number} {name}")
             }
             Refusal::Plan(fault) => {
                 let number = fault.number();
-                write!(f, "plan {number} {fault}")
+                let name = fault.name();
+                write!(f, "plan {number} {name}")
             }
             Refusal::Job(fault) => {
                 let number = fault.number();
-                write!(f, "job {number} {fault}")
+                let name = fault.name();
+                write!(f, "job {number} {name}")
             }
             Refusal::Capture(fault) => {
                 let number = fault.number();
-                write!(f, "capture {number} {fault}")
+                let name = fault.name();
+                write!(f, "capture {number} {name}")
             }
             Refusal::Picture(fault) => {
                 let number = fault.number();
-                write!(f, "picture {number} {fault}")
+                let name = fault.name();
+                write!(f, "picture {number} {name}")
             }
             Refusal::State(fault) => {
                 let number = fault.number();
-                write!(f, "state {number} {fault}")
+                let name = fault.name();
+                write!(f, "state {number} {name}")
             }
         }
     }

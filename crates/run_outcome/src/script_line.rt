@@ -139,29 +139,38 @@ impl fmt::Display for LineFault {
 
     ghost output = { λ fault. Some (line_fault_text fault) };
 
-    /// The subject, the number and the name of a fault; of a form only that it is the script's.
+    /// The subject, the number and the name of a fault, and of an event its place; of a form only
+    /// that it is the script's.
     fn fmt<W: fmt::Write>(&self, f: &mut fmt::Formatter<W>) -> fmt::Result {
         match self {
             LineFault::Form(_) => f.write_str("script"),
             LineFault::Format(fault) => {
                 let number = fault.number();
-                write!(f, "format {number} {fault}")
+                let name = fault.name();
+                write!(f, "format {number} {name}")
             }
             LineFault::Open(fault) => {
                 let number = fault.number();
-                write!(f, "open {number} {fault}")
+                let name = fault.name();
+                write!(f, "open {number} {name}")
             }
             LineFault::Numbers(fault) => {
                 let number = fault.number();
-                write!(f, "numbers {number} {fault}")
+                let name = fault.name();
+                write!(f, "numbers {number} {name}")
             }
             LineFault::Plan(fault) => {
                 let number = fault.number();
-                write!(f, "plan {number} {fault}")
+                let name = fault.name();
+                write!(f, "plan {number} {name}")
             }
             LineFault::Play(fault) => {
                 let number = fault.number();
-                write!(f, "play {number} {fault}")
+                let name = fault.name();
+                match fault {
+                    PlayFault::BadEvent(place) => write!(f, "play {number} {name} {place}"),
+                    _ => write!(f, "play {number} {name}"),
+                }
             }
         }
     }

@@ -1,5 +1,5 @@
 //! What no script shows of schedules that are refused. The others are in the program's tests.
-use crate::checks::{is_named, met};
+use crate::checks::met;
 use crate::rehearsals::STAMP;
 use packet_plan::Plan;
 use path_merge::{PlayFault, play};
@@ -22,11 +22,4 @@ fn other_format(rt: HostRuntime) -> Result<(), Fail> {
     let fault = fault_of(rt.alloc(), &plan, other)?;
     met(&rt, fault == Some(PlayFault::BadPictures));
     Ok(())
-}
-
-/// The one fault that no script prints.
-#[test]
-fn no_memory(rt: HostRuntime) {
-    met(&rt, PlayFault::NoMemory.number() == 1);
-    met(&rt, is_named(rt.alloc(), &PlayFault::NoMemory, "NoMemory"));
 }

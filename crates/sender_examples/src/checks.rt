@@ -1,7 +1,5 @@
 //! What a test asserts: an assertion is proved with all that is known where it stands, so that here
 //! are the few.
-use std::alloc::Global;
-use std::fmt::Display;
 use std::process::Abort;
 
 /// The test is met.
@@ -12,12 +10,4 @@ pub fn met(rt: &impl Abort, is_met: bool) {
 /// No case of the test fails; else this is the place of the first that does.
 pub fn none_fails(rt: &impl Abort, failing: Option<u64>) {
     assert_eq!(rt; failing, None);
-}
-
-/// Whether a fault is printed as its name.
-pub fn is_named<F: Display>(alloc: Global, fault: &F, name: &str) -> bool {
-    match format!(in alloc; "{fault}") {
-        Ok(text) => text.as_str() == name,
-        Err(_) => false,
-    }
 }

@@ -10,6 +10,8 @@ mod checks;
 #[cfg(test)]
 mod cut_texts;
 #[cfg(test)]
+mod faults;
+#[cfg(test)]
 mod job_pictures;
 #[cfg(test)]
 mod job_sending;

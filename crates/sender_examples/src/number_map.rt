@@ -1,5 +1,5 @@
 //! *number-map*, and what else a map of packet numbers answers that no script prints.
-use crate::checks::{is_named, met};
+use crate::checks::met;
 use path_merge::{MAX_COUNT, Noted, OpenedUnlike, SeqMap, SeqMapFault};
 use refusing::Refusing;
 use std::alloc::{Allocator, Global};
@@ -85,20 +85,6 @@ fn counts(rt: HostRuntime) {
         met(&rt, is_noted(rt.alloc(), count, number, wanted));
     }
     met(&rt, MAX_COUNT == 1_048_576);
-}
-
-/// The faults that no script prints.
-#[test]
-fn faults(rt: HostRuntime) {
-    met(
-        &rt,
-        is_named(rt.alloc(), &SeqMapFault::NoMemory, "NoMemory"),
-    );
-    met(&rt, is_named(rt.alloc(), &OpenedUnlike, "OpenedUnlike"));
-    met(
-        &rt,
-        SeqMapFault::NoMemory.number() == 1 && OpenedUnlike.number() == 1,
-    );
 }
 
 /// The numbers of two paths.

@@ -1,5 +1,5 @@
 //! *camera-sdp*: the fields that `sdp` does not print. Its texts are among the program's tests.
-use crate::checks::{is_named, met};
+use crate::checks::met;
 use sdp_format::{Range, Sdp, SdpFault, fmtp_text, read_sdp};
 use st_format::{Depth, Sampling};
 use std::alloc::{Allocator, Global};
@@ -47,12 +47,10 @@ fn is_read(alloc: Global) -> bool {
     }
 }
 
-/// The fields of the camera; and the one fault that no text has.
+/// The fields of the camera.
 #[test]
 fn the_camera(rt: HostRuntime) {
     met(&rt, is_read(rt.alloc()));
-    met(&rt, SdpFault::NoMemory.number() == 1);
-    met(&rt, is_named(rt.alloc(), &SdpFault::NoMemory, "NoMemory"));
 }
 
 /// Whether `read_sdp` and `fmtp_text` give the camera's line over an allocator, or `None` where one

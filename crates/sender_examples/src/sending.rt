@@ -84,8 +84,8 @@ fn are_datagrams(alloc: Global, taken: &[Vec<u8>], datagrams: &[&str]) -> bool {
     agree
 }
 
-/// Whether a picture sent by a plan gives these datagrams to a sink that fails at one call, and this
-/// answer: a next number, or a fault of the sink.
+/// Whether a picture sent by a plan gives these datagrams to a sink that fails at one call, and
+/// this answer: a next number, or a fault of the sink.
 fn gives<A: Allocator, B: Allocator>(
     global: Global,
     plan: &Plan<A>,

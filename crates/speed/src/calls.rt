@@ -1,6 +1,7 @@
 //! The calls that are measured, and what they work on.
 use crate::fault::Fault;
-use crate::streams::{Discard, Stream, send_all};
+use crate::streams::{Stream, send_all};
+use devices::Discard;
 use frame_assembly::{Base, Frame};
 use frame_report::write_report;
 use path_merge::Receiver;
@@ -118,13 +119,13 @@ impl Room {
                 self.copy.clear();
                 self.copy.extend_from_slice(&self.octets)?;
             }
-            Call::Send => send_all(&streams.0.plan, &streams.0.picture, &mut Discard)?,
+            Call::Send => send_all(&streams.0.plan, &streams.0.picture, &mut Discard::new())?,
             Call::TakeFirst => take(&mut self.receiver, Path::A, streams.0, 0)?,
             Call::TakeSecond | Call::TakeLost | Call::Differ(_, _) => {
                 take(&mut self.receiver, Path::B, streams.1, 0)?
             }
             Call::MergeBlank | Call::MergeEqual => self.merge()?,
-            Call::Report => write_report(&self.receiver, &mut Discard)
+            Call::Report => write_report(&self.receiver, &mut Discard::new())
                 .ok()
                 .ok_or(Fault)?,
             _ => return look(alloc, call, self.whole.frame(900).ok_or(Fault)?),

@@ -6,7 +6,8 @@ ghost use Rattle.key_mix.specs.Sending.{HasBase};
 
 use crate::calls::{open, take};
 use crate::fault::Fault;
-use crate::streams::{Change, Discard, STAMP, Stream, send_all};
+use crate::streams::{Change, STAMP, Stream, send_all};
+use devices::Discard;
 use frame_assembly::Base;
 use key_mix::{Job, JobInput, run_job, send_job};
 use packet_plan::Plan;
@@ -99,7 +100,7 @@ fn send(alloc: Global, job: &Job, inputs: &[JobInput<'_>], is_whole: bool) -> Re
     if !is_whole {
         return send_by_parts(alloc, job, inputs);
     }
-    send_job(alloc, job, inputs, SIZE, STAMP, &mut Discard)
+    send_job(alloc, job, inputs, SIZE, STAMP, &mut Discard::new())
         .ok()
         .ok_or(Fault)?;
     Ok(())
@@ -115,5 +116,5 @@ fn send_by_parts(alloc: Global, job: &Job, inputs: &[JobInput<'_>]) -> Result<()
     }
     let picture = run_job(alloc, job, pictures.as_slice()).ok().ok_or(Fault)?;
     let plan = Plan::new(alloc, picture.format(), SIZE).ok().ok_or(Fault)?;
-    send_all(&plan, &picture, &mut Discard)
+    send_all(&plan, &picture, &mut Discard::new())
 }

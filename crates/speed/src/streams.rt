@@ -1,10 +1,8 @@
 //! Pictures whose values have no order, and their datagrams.
-ghost use Rattle.std.specs.Prelude.{None};
-
 use crate::fault::Fault;
 use packet_plan::{Plan, Stamp, send_frame};
 use st_format::memory::MemoryDatagrams;
-use st_format::{ByteSink, DatagramSink, DeviceFault, Format, Picture, SinkFault};
+use st_format::{DatagramSink, Format, Picture};
 use std::alloc::Global;
 
 /// What each picture is sent with.
@@ -121,28 +119,4 @@ pub fn send_all<K: DatagramSink>(
         .ok()
         .ok_or(Fault)?;
     Ok(())
-}
-
-/// A sink that takes each datagram, or all octets, and forgets them.
-#[derive(Drop)]
-pub struct Discard;
-
-impl DatagramSink for Discard {
-    ghost taken = { λ _. None };
-
-    ghost failures = { λ _. 0 };
-
-    fn put(&mut self, _octets: &[u8]) -> Result<(), SinkFault> {
-        Ok(())
-    }
-}
-
-impl ByteSink for Discard {
-    ghost held = { λ _. None };
-
-    ghost failures = { λ _. 0 };
-
-    fn write(&mut self, octets: &[u8]) -> Result<usize, DeviceFault> {
-        Ok(octets.len())
-    }
 }

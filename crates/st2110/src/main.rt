@@ -1,21 +1,11 @@
 //! The program `st2110`: words in, a status out.
 #![tactic(auto)]
 
-mod commands;
-mod ending;
-mod files;
-mod lines;
-mod link;
-mod places;
-mod runs;
-mod streams;
-mod words;
-
-use crate::runs::{
-    loop_back, merge, migrate, process, receive, rehearse, report, sdp, send, trace,
-};
-use crate::words::{Given, Words, WordsFault, given_words, read_words};
+use capture_runs::{loop_back, migrate, receive, send};
+use command_line::{Given, Words, WordsFault, given_words, read_words};
+use receiver_runs::{merge, process, report};
 use run_outcome::Status;
+use script_runs::{rehearse, sdp, trace};
 use std::fs::File;
 use std::process::ExitCode;
 
@@ -36,11 +26,11 @@ fn hold_stream(rt: &HostRuntime) -> Option<File> {
 fn run(rt: &HostRuntime) -> u8 {
     let words = match given_words(rt) {
         Ok(words) => words,
-        Err(fault) => return refuse(rt, &fault).number(),
+        Err(fault) => return refuse(rt, &fault),
     };
     match read_words(rt.alloc(), words.as_slice()) {
         Ok(given) => follow(rt, &given),
-        Err(fault) => refuse(rt, &fault).number(),
+        Err(fault) => refuse(rt, &fault),
     }
 }
 
@@ -61,20 +51,15 @@ fn follow(rt: &HostRuntime, given: &Given<'_>) -> u8 {
     }
 }
 
-/// Prints why the words are not followed: help and version to standard output, all else to standard
-/// error.
-fn refuse<R: Print + Eprint>(rt: &R, fault: &WordsFault) -> Status {
-    let (printed, status) = match fault {
-        WordsFault::NoMemory => (eprintln!(rt; "st2110: memory"), Status::Memory),
-        WordsFault::NoText => (
-            eprintln!(rt; "error: the command line is no UTF-8 text"),
-            Status::CommandLine,
-        ),
-        WordsFault::Shown(text) => (text.print(rt), Status::Done),
-        WordsFault::Refused(text) => (text.print(rt), Status::CommandLine),
+/// Prints why the words are not followed, and answers the status.
+fn refuse(rt: &HostRuntime, fault: &WordsFault) -> u8 {
+    let status = match fault {
+        WordsFault::NoMemory => Status::Memory,
+        WordsFault::NoText | WordsFault::Refused(_) => Status::CommandLine,
+        WordsFault::Shown(_) => Status::Done,
     };
-    match printed {
-        Ok(()) => status,
-        Err(_) => Status::Device,
+    match fault.print(rt) {
+        Ok(()) => status.number(),
+        Err(_) => Status::Device.number(),
     }
 }

@@ -1,6 +1,6 @@
 //! What the crates of worked examples share: formats, datagrams and texts of docs/EXAMPLES.md, the
-//! formulas of the processor, and calls whose growths are refused. What a test asserts stands in
-//! each of those crates, since only tests may end a process.
+//! formulas of the processor, calls whose growths are refused, and what a fault says. What a test
+//! asserts stands in each of those crates, since only tests may end a process.
 #![tactic(auto)]
 
 pub mod camera;
@@ -11,3 +11,4 @@ pub mod picture_values;
 pub mod sending;
 pub mod small_format;
 pub mod wanting;
+pub mod words;

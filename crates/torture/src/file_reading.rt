@@ -1,6 +1,6 @@
 //! A second reading of files, written apart from the libraries: what a capture says, and the number
 //! of the first fault in the order of the octets (docs/FORMATS.md, "Captures", "Picture files" and
-//! "A receiver's file").
+//! "A receiver's file"; docs/FAULTS.md, `FileFault`).
 
 /// Faults of files by their numbers.
 const BAD_NAME: u8 = 3;

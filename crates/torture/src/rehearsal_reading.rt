@@ -1,5 +1,5 @@
 //! A second reading of scripts of `rehearse`, written apart from the libraries: what is to be
-//! printed, and why the script ends (docs/FORMATS.md, "Scripts of `rehearse`").
+//! printed, and why the script ends (docs/FORMATS.md, "Scripts of `rehearse`"; docs/FAULTS.md).
 use crate::rehearsal_stage::{Event, Raster, SLIDE, Stage};
 use crate::script_reading::{is_small, read_format};
 use crate::script_text::{Fields, Lines, Window};

@@ -1,6 +1,6 @@
 //! A second reading of scripts of `trace`, written apart from the libraries: what is to be printed,
-//! and why the script ends (docs/FORMATS.md, "Scripts of `trace`"). The first line is that of
-//! `rehearse` too.
+//! and why the script ends (docs/FORMATS.md, "Scripts of `trace`"; docs/FAULTS.md). The first line
+//! is that of `rehearse` too.
 use crate::answers::OF_DATAGRAMS;
 use crate::cells::{CONTESTED, MISSING};
 use crate::file_reading::{group_of, is_height, is_rate, is_width};

@@ -3,6 +3,8 @@ pub use Rattle.st_format.specs.Device
 pub use Rattle.st_format.specs.Faults as FormatFaults
 pub use Rattle.st_format.specs.Fields as FormatFields
 pub use Rattle.st_format.specs.Fit
+pub use Rattle.st_format.specs.FormFaults
+pub use Rattle.st_format.specs.Forms
 pub use Rattle.st_format.specs.Limits
 pub use Rattle.st_format.specs.Member
 pub use Rattle.st_format.specs.Memory
@@ -38,8 +40,11 @@ pub use Rattle.sdp_format.specs.Places
 pub use Rattle.sdp_format.specs.Reading as SdpReading
 pub use Rattle.sdp_format.specs.Sections
 pub use Rattle.sdp_format.specs.Views as SdpViews
+pub use Rattle.frame_assembly.specs.ContestedSamples
+pub use Rattle.frame_assembly.specs.CountsText
 pub use Rattle.frame_assembly.specs.Kinds
 pub use Rattle.frame_assembly.specs.Marks
+pub use Rattle.frame_assembly.specs.Missing as FrameMissing
 pub use Rattle.frame_assembly.specs.Rows
 pub use Rattle.frame_assembly.specs.Settled
 pub use Rattle.packet_plan.specs.Faults as PlanFaults
@@ -85,7 +90,7 @@ pub use Rattle.receiver_file.specs.StateFaults
 pub use Rattle.receiver_file.specs.StateReading
 pub use Rattle.frame_report.specs.Contested
 pub use Rattle.frame_report.specs.Faults as ReportFaults
-pub use Rattle.frame_report.specs.Missing
+pub use Rattle.frame_report.specs.Missing as ReportMissing
 pub use Rattle.frame_report.specs.Report
 pub use Rattle.bt709_fixed.specs.Faults as ColourFaults
 pub use Rattle.bt709_fixed.specs.Operations

@@ -1,26 +1,27 @@
 //! The door to the library: the names that its user needs, each in the module of its task.
 //!
 //! ```
-//! use anyhow::{Context, Result};
+//! use anyhow::Result;
 //! use woqtarish::describe::read_sdp;
-//! use woqtarish::receive::{Path, Receiver};
+//! use woqtarish::receive::{Opening, Path};
 //!
 //! /// Prints which columns of which rows are missing of a picture that came by two paths.
 //! fn tell(rt: &HostRuntime, sdp: &[u8], timestamp: u32, came: &[(Path, &[u8])]) -> Result<()> {
 //!     let alloc = rt.alloc();
 //!     let sdp = read_sdp(alloc, sdp)?;
-//!     let mut receiver = Receiver::open(alloc, sdp.format, sdp.payload_type, None, &[timestamp])?;
+//!     let mut receiver = Opening::new(sdp.format, sdp.payload_type)
+//!         .window(&[timestamp])
+//!         .open(alloc)?;
 //!     for (path, datagram) in came {
 //!         if let Err(refusal) = receiver.take(*path, *datagram) {
 //!             println!(rt; "refused: {refusal}")?;
 //!         }
 //!     }
-//!     let frame = receiver.frame(timestamp).context("no such timestamp")?;
-//!     let format = frame.format();
-//!     for row in 0..format.height() {
-//!         for column in 0..format.width() {
-//!             if frame.cell(row, column, 0).is_missing() {
-//!                 println!(rt; "row {row} column {column} is missing")?;
+//!     for (timestamp, frame) in receiver.frames() {
+//!         for row in 0..frame.format().height() {
+//!             for columns in frame.missing_runs(row) {
+//!                 let (first, last) = (columns.start, columns.end - 1);
+//!                 println!(rt; "{timestamp}: row {row} columns {first} to {last} are missing")?;
 //!             }
 //!         }
 //!     }
@@ -38,7 +39,8 @@
 pub mod formats {
     pub use pgroup_pack::{PackedPicture, pack, sample_at, unpack};
     pub use st_format::{
-        Depth, Format, FormatFault, Pgroup, Picture, PictureFault, Sampling, fill_samples,
+        Depth, Format, FormatFault, FormatTextFault, Pgroup, Picture, PictureFault, Rate, Sampling,
+        WordFault, fill_samples,
     };
 }
 
@@ -48,12 +50,14 @@ pub mod describe {
 }
 
 /// Receivers of two paths: opened, given datagrams one by one or from a source, merged, moved on;
-/// and their frames, which say what is known of each sample.
+/// and their frames, which say what is known of each sample, and list what is missing or contested.
 pub mod receive {
-    pub use frame_assembly::{Base, Cell, Counts, Frame, GroupState};
+    pub use frame_assembly::{
+        Base, Cell, ContestedSamples, Counts, Frame, GroupState, MissingRuns,
+    };
     pub use path_merge::{
-        Observer, OpenFault, OpenedUnlike, ReceiveFault, Received, Receiver, Refusal, SlideFault,
-        Taken, receive, receive_each,
+        Observer, OpenFault, OpenedUnlike, Opening, ReceiveFault, Received, Receiver, Refusal,
+        Refusals, SlideFault, Taken, WindowFrames, receive, receive_each,
     };
     pub use payload_header::PayloadFault;
     pub use rtp_header::RtpFault;

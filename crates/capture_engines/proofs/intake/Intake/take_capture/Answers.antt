@@ -13,8 +13,11 @@ returns g c =
     let now = ran.new.source in
     let run = c.count in
     let failures = told_by.failures now.source in
-    let told : Told = record
-    { to_give = told_by.to_give reader.source; failures = told_by.failures reader.source } in
+    let told : Told = record {
+      gave = told_by.gave reader.source;
+      to_give = told_by.to_give reader.source;
+      failures = told_by.failures reader.source;
+    } in
     let came =
     reader_came ran.result run.result tt reader.standing now.standing
     (turns_of now.standing (told_by.to_give now.source)) c.args.self.now run.new.self

@@ -1,0 +1,391 @@
+//! The commands of the program and their words, with help for a person.
+use clap::builder::ValueParser;
+use clap::{Arg, ArgAction, Command};
+use std::alloc::{AllocError, Global};
+
+/// The version of the program, as the top heading of CHANGELOG.md has it.
+const VERSION: &str = "0.2.0";
+
+/// A command, and the words that may stand behind it.
+struct Said {
+    name: &'static str,
+    about: &'static str,
+    words: &'static [&'static [Word]],
+}
+
+/// An option of a command, or its files.
+struct Word {
+    name: &'static str,
+    usage: Usage,
+    help: &'static str,
+}
+
+/// How a word is given. The first text is what help calls its value.
+#[derive(Clone, Copy)]
+enum Usage {
+    /// An option without a value.
+    Flag,
+    /// An option with a value.
+    Optional(&'static str),
+    /// An option with a value that has to be given.
+    Required(&'static str),
+    /// An option with a value of a kind that has to be given.
+    Number(&'static str, ValueParser<'static>),
+    /// An option with a value of a kind, and the value where it isn't given.
+    Default(&'static str, ValueParser<'static>, &'static str),
+    /// One file.
+    File(&'static str),
+    /// One file or more.
+    Files(&'static str),
+}
+
+/// A number of 7 bits, 32 bits or 64 bits.
+const U7: ValueParser<'static> = ValueParser::Signed(0, 127);
+
+const U32: ValueParser<'static> = ValueParser::Signed(0, 4_294_967_295);
+
+const U64: ValueParser<'static> = ValueParser::Unsigned(0, 18_446_744_073_709_551_615);
+
+/// The words for the paths of a capture.
+const PATHS: ValueParser<'static> = ValueParser::Names(&["a", "b", "both"]);
+
+/// The commands, in the order of the help.
+const COMMANDS: &[Said] = &[
+    Said {
+        name: "trace",
+        about: "Runs a script of datagrams on standard input, and prints what a receiver makes of \
+            them",
+        words: &[],
+    },
+    Said {
+        name: "sdp",
+        about: "Reads an SDP text on standard input, and prints its canonical fmtp line or the \
+            first fault",
+        words: &[],
+    },
+    Said {
+        name: "rehearse",
+        about: "Plays a schedule of sends, arrivals, slides and merges on standard input, and \
+            prints what each receiver has",
+        words: &[],
+    },
+    Said {
+        name: "send",
+        about: "Sends pictures of one format into a capture, and prints how many datagrams that \
+            are",
+        words: &[SENT, STAMP, MAX, SENT_PICTURES],
+    },
+    Said {
+        name: "receive",
+        about: "Takes the datagrams of captures into one receiver, prints how many came and a \
+            line for each frame, and writes what is known of each sample",
+        words: &[RECEIVED],
+    },
+    Said {
+        name: "merge",
+        about: "Merges two receivers that were opened alike, prints a line for each frame, and \
+            writes what both know of each sample",
+        words: &[MERGED],
+    },
+    Said {
+        name: "process",
+        about: "Runs a job on the frames of one timestamp, sends its picture into a capture, and \
+            prints how many datagrams that are",
+        words: &[JOB, PROCESSED, STAMP, MAX],
+    },
+    Said {
+        name: "report",
+        about: "Prints what a receiver was opened with, and of each frame its counts, its missing \
+            pgroups and its contested samples",
+        words: &[REPORTED],
+    },
+    Said {
+        name: "loop",
+        about: "Sends a picture from one socket of this machine to another, and prints how many \
+            datagrams were sent, how many came, and a line for the frame",
+        words: &[LOOPED, MAX],
+    },
+    Said {
+        name: "migrate",
+        about: "Writes a capture of version 01 as one of version 02, with an SDP text, and prints \
+            how many records it has",
+        words: &[MIGRATED],
+    },
+];
+
+/// Where `send` writes, and its SDP.
+const SENT: &[Word] = &[
+    Word {
+        name: "out",
+        usage: Usage::Required("FILE"),
+        help: "Where the capture is written",
+    },
+    Word {
+        name: "sdp",
+        usage: Usage::Optional("FILE"),
+        help: "SDP text that the capture has; without it, its text is empty",
+    },
+];
+
+/// What `send` sends.
+const SENT_PICTURES: &[Word] = &[
+    Word {
+        name: "paths",
+        usage: Usage::Default("PATHS", PATHS, "a"),
+        help: "The paths by which each packet goes",
+    },
+    Word {
+        name: "pictures",
+        usage: Usage::Files("PICTURE"),
+        help: "Pictures, sent one after the other: the k-th is the k-th frame",
+    },
+];
+
+/// How long packets are.
+const MAX: &[Word] = &[Word {
+    name: "max",
+    usage: Usage::Default("OCTETS", U32, "1400"),
+    help: "The most octets of a packet, up to 9000",
+}];
+
+/// What the packets of a stream have in common, and where its numbers and timestamps begin.
+const STAMP: &[Word] = &[
+    Word {
+        name: "pt",
+        usage: Usage::Default("N", U7, "96"),
+        help: "The payload type, up to 127",
+    },
+    Word {
+        name: "first",
+        usage: Usage::Default("N", U32, "0"),
+        help: "The number of the first packet; numbers run on",
+    },
+    Word {
+        name: "base",
+        usage: Usage::Default("TS", U32, "0"),
+        help: "The timestamp of the first picture, in ticks of 90 kHz",
+    },
+    Word {
+        name: "ssrc",
+        usage: Usage::Default("N", U32, "1"),
+        help: "The synchronization source",
+    },
+];
+
+/// The words of `receive`.
+const RECEIVED: &[Word] = &[
+    Word {
+        name: "sdp",
+        usage: Usage::Optional("FILE"),
+        help: "SDP text that says format and payload type; without it, the text of the first \
+            capture",
+    },
+    Word {
+        name: "window",
+        usage: Usage::Required("TS[,TS..]"),
+        help: "Timestamps of the frames to receive, 1 to 16, with commas between",
+    },
+    Word {
+        name: "ssrc",
+        usage: Usage::Default("N", ValueParser::String, "any"),
+        help: "The one source to take datagrams of: a number, or any",
+    },
+    Word {
+        name: "state",
+        usage: Usage::Required("FILE"),
+        help: "Where the receiver is written",
+    },
+    Word {
+        name: "refusals",
+        usage: Usage::Flag,
+        help: "Also print how many datagrams were refused for which reason, and how many had \
+            other timestamps",
+    },
+    Word {
+        name: "captures",
+        usage: Usage::Files("CAPTURE"),
+        help: "Captures, taken one after the other",
+    },
+];
+
+/// The words of `merge`.
+const MERGED: &[Word] = &[
+    Word {
+        name: "state",
+        usage: Usage::Required("FILE"),
+        help: "Where the merged receiver is written",
+    },
+    Word {
+        name: "left",
+        usage: Usage::File("LEFT"),
+        help: "Receiver's file, as receive writes it",
+    },
+    Word {
+        name: "right",
+        usage: Usage::File("RIGHT"),
+        help: "The receiver's file that is merged into it",
+    },
+];
+
+/// The job of `process`.
+const JOB: &[Word] = &[
+    Word {
+        name: "job",
+        usage: Usage::Required("JOB"),
+        help: "limit:nominal, limit:video, gain:G (4096 is unity), ycc444, ycc422, \
+            wipe:columns:P:S, wipe:rows:P:S (position and softness) or key",
+    },
+    Word {
+        name: "ts",
+        usage: Usage::Number("TS", U32),
+        help: "The timestamp of the frames, in ticks of 90 kHz",
+    },
+    Word {
+        name: "fill",
+        usage: Usage::Required("A,B,C"),
+        help: "For a sample that is missing or contested, a value of each component",
+    },
+];
+
+/// The files of `process`.
+const PROCESSED: &[Word] = &[
+    Word {
+        name: "hold",
+        usage: Usage::Optional("FILE"),
+        help: "Picture whose values the first frame takes in place of the fill's",
+    },
+    Word {
+        name: "out",
+        usage: Usage::Required("FILE"),
+        help: "Where the capture is written",
+    },
+    Word {
+        name: "states",
+        usage: Usage::Files("STATE"),
+        help: "Receivers' files, one for each picture that the job takes",
+    },
+];
+
+/// The file of `report`.
+const REPORTED: &[Word] = &[Word {
+    name: "state",
+    usage: Usage::File("STATE"),
+    help: "Receiver's file, as receive writes it",
+}];
+
+/// The picture of `loop`, and how long it goes on.
+const LOOPED: &[Word] = &[
+    Word {
+        name: "limit",
+        usage: Usage::Default("TURNS", U64, "100000"),
+        help: "The most turns: in each a datagram is sent and one looked for, for a second",
+    },
+    Word {
+        name: "picture",
+        usage: Usage::File("PICTURE"),
+        help: "The picture that is sent",
+    },
+];
+
+/// The files of `migrate`.
+const MIGRATED: &[Word] = &[
+    Word {
+        name: "sdp",
+        usage: Usage::Required("FILE"),
+        help: "SDP text that the new capture has",
+    },
+    Word {
+        name: "out",
+        usage: Usage::Required("FILE"),
+        help: "Where the new capture is written",
+    },
+    Word {
+        name: "capture",
+        usage: Usage::File("CAPTURE"),
+        help: "Capture of version 01",
+    },
+];
+
+/// The program with its commands.
+pub fn program<'a>(alloc: Global) -> Result<Command<'a>, AllocError> {
+    let mut program = named(alloc)?;
+    for said in COMMANDS {
+        program = program.subcommand(command(alloc, said)?)?;
+    }
+    Ok(program)
+}
+
+/// The program without its commands.
+fn named<'a>(alloc: Global) -> Result<Command<'a>, AllocError> {
+    Command::new(alloc, "st2110")
+        .version(VERSION)
+        .about("Uncompressed studio video over redundant paths")
+        .bin_name("st2110")?
+        .arg(verbose(alloc))
+}
+
+/// `--verbose`, which every command takes.
+fn verbose<'a>(alloc: Global) -> Arg<'a> {
+    Arg::new(alloc, "verbose")
+        .long("verbose")
+        .short('v')
+        .action(ArgAction::SetTrue)
+        .global(true)
+        .help("Behind the line of a fault, also say where it is and what was wanted there")
+}
+
+/// A command with its words.
+fn command<'a>(alloc: Global, said: &Said) -> Result<Command<'a>, AllocError> {
+    let mut command = Command::new(alloc, said.name).about(said.about);
+    for words in said.words {
+        command = with_words(alloc, command, words)?;
+    }
+    Ok(command)
+}
+
+/// A command that takes these words too.
+fn with_words<'a>(
+    alloc: Global,
+    command: Command<'a>,
+    words: &[Word],
+) -> Result<Command<'a>, AllocError> {
+    let mut command = command;
+    for word in words {
+        command = command.arg(argument(alloc, word))?;
+    }
+    Ok(command)
+}
+
+/// A word of a command, with its help.
+fn argument<'a>(alloc: Global, word: &Word) -> Arg<'a> {
+    let argument = Arg::new(alloc, word.name).help(word.help);
+    formed(argument, word.name, word.usage)
+}
+
+/// Gives a word its form.
+fn formed<'a>(word: Arg<'a>, name: &'static str, form: Usage) -> Arg<'a> {
+    match form {
+        Usage::Flag => word.long(name).action(ArgAction::SetTrue),
+        Usage::Optional(value) => option(word, name, value),
+        Usage::Required(value) => option(word, name, value).required(true),
+        Usage::Number(value, kind) => option(word, name, value).required(true).value_parser(kind),
+        Usage::Default(value, kind, text) => with_default(option(word, name, value), kind, text),
+        Usage::File(value) => file(word, value),
+        Usage::Files(value) => file(word, value).num_args(1..),
+    }
+}
+
+/// An option with a value.
+fn option<'a>(word: Arg<'a>, name: &'static str, value: &'static str) -> Arg<'a> {
+    word.long(name).value_name(value)
+}
+
+/// An option of a kind of value that is this text where it isn't given.
+fn with_default<'a>(word: Arg<'a>, kind: ValueParser<'static>, text: &'static str) -> Arg<'a> {
+    word.value_parser(kind).default_value(text)
+}
+
+/// A word that is no option, and has to be given.
+fn file<'a>(word: Arg<'a>, value: &'static str) -> Arg<'a> {
+    word.value_name(value).required(true)
+}

@@ -1,0 +1,55 @@
+//! Why the words of the command line are not followed.
+use clap::Error;
+use clap::error::ErrorKind;
+use std::alloc::AllocError;
+use std::io;
+
+/// Why the words are not followed.
+#[derive(Drop)]
+pub enum WordsFault {
+    /// Memory was wanted.
+    NoMemory,
+    /// A word isn't UTF-8.
+    NoText,
+    /// Help or the version was asked for.
+    Shown(Error),
+    /// They are no command line of the program.
+    Refused(Error),
+}
+
+impl From<AllocError> for WordsFault {
+    fn from(_: AllocError) -> WordsFault {
+        WordsFault::NoMemory
+    }
+}
+
+impl From<io::Error> for WordsFault {
+    fn from(error: io::Error) -> WordsFault {
+        match error.kind() {
+            io::ErrorKind::OutOfMemory => WordsFault::NoMemory,
+            _ => WordsFault::NoText,
+        }
+    }
+}
+
+impl From<Error> for WordsFault {
+    fn from(error: Error) -> WordsFault {
+        match error.kind() {
+            ErrorKind::OutOfMemory => WordsFault::NoMemory,
+            ErrorKind::DisplayHelp | ErrorKind::DisplayVersion => WordsFault::Shown(error),
+            _ => WordsFault::Refused(error),
+        }
+    }
+}
+
+impl WordsFault {
+    /// Prints why the words are not followed: help and version to standard output, all else to
+    /// standard error.
+    pub fn print<R: Print + Eprint>(&self, rt: &R) -> io::Result<()> {
+        match self {
+            WordsFault::NoMemory => eprintln!(rt; "st2110: memory"),
+            WordsFault::NoText => eprintln!(rt; "error: the command line is no UTF-8 text"),
+            WordsFault::Shown(text) | WordsFault::Refused(text) => text.print(rt),
+        }
+    }
+}

@@ -1,0 +1,301 @@
+//! The words of the command line.
+ghost use Rattle.std.specs.Prelude.{◌≤◌};
+
+use crate::commands::program;
+use crate::fault::WordsFault;
+use clap::ArgMatches;
+use std::alloc::{AllocError, Global};
+use std::env;
+use std::rt::Env;
+
+/// What the command line asks for.
+#[derive(Drop)]
+pub struct Given<'a> {
+    pub words: Words<'a>,
+    /// Whether a fault's place is told behind its line.
+    pub is_verbose: bool,
+}
+
+/// A command, and what it is asked for.
+#[derive(Drop)]
+pub enum Words<'a> {
+    /// Run the script on standard input.
+    Trace,
+    /// Read the SDP text on standard input.
+    Sdp,
+    /// Play the schedule on standard input.
+    Rehearse,
+    /// Write a capture of version 01 as one of version 02.
+    Migrate(MigrateWords<'a>),
+    /// Send pictures into a capture.
+    Send(SendWords<'a>),
+    /// Take the datagrams of captures.
+    Receive(ReceiveWords<'a>),
+    /// Merge two receivers.
+    Merge(MergeWords<'a>),
+    /// Run a job on frames of receivers, and send its picture.
+    Process(ProcessWords<'a>),
+    /// Report what a receiver's file lacks, by its name.
+    Report(&'a str),
+    /// Send a picture over a link, and take what comes.
+    Loop(LoopWords<'a>),
+}
+
+/// The words behind `migrate`: names of files.
+#[derive(Clone, Copy)]
+pub struct MigrateWords<'a> {
+    pub sdp: &'a str,
+    pub out: &'a str,
+    pub capture: &'a str,
+}
+
+/// The words behind `send`.
+#[derive(Drop)]
+pub struct SendWords<'a> {
+    /// The SDP's file, where one is named.
+    pub sdp: Option<&'a str>,
+    /// The capture's file.
+    pub out: &'a str,
+    pub stamp: StampWords,
+    /// The most octets of a packet.
+    pub max_octets: u32,
+    pub paths: NamedPaths,
+    /// The pictures' files.
+    pub pictures: Vec<&'a str>,
+}
+
+/// What the packets of a stream have in common, and where its numbers and timestamps begin.
+#[derive(Clone, Copy)]
+pub struct StampWords {
+    pub payload_type: u8,
+    /// The number of the first packet.
+    pub first: u32,
+    /// The timestamp of the first picture, in ticks of a 90 kHz clock.
+    pub base: u32,
+    /// The synchronization source.
+    pub ssrc: u32,
+    // RFC 3550, 5.1: it has 7 bits.
+    pub ghost payload_type_bits: { payload_type ≤ 127 },
+}
+
+/// The paths by which packets go.
+#[derive(Clone, Copy)]
+pub enum NamedPaths {
+    OnlyA,
+    OnlyB,
+    Both,
+}
+
+/// The words behind `receive`.
+#[derive(Drop)]
+pub struct ReceiveWords<'a> {
+    /// The SDP's file, where one is named.
+    pub sdp: Option<&'a str>,
+    pub window: &'a str,
+    pub ssrc: &'a str,
+    /// The receiver's file.
+    pub state: &'a str,
+    /// Whether refusals are counted and told.
+    pub refusals: bool,
+    /// The captures' files.
+    pub captures: Vec<&'a str>,
+}
+
+/// The words behind `merge`: names of receivers' files.
+#[derive(Clone, Copy)]
+pub struct MergeWords<'a> {
+    pub state: &'a str,
+    pub left: &'a str,
+    pub right: &'a str,
+}
+
+/// The words behind `process`.
+#[derive(Drop)]
+pub struct ProcessWords<'a> {
+    pub job: &'a str,
+    /// The timestamp of the frames.
+    pub timestamp: u32,
+    pub fill: &'a str,
+    /// The held picture's file, where one is named.
+    pub hold: Option<&'a str>,
+    /// The capture's file.
+    pub out: &'a str,
+    pub stamp: StampWords,
+    /// The most octets of a packet.
+    pub max_octets: u32,
+    /// The receivers' files.
+    pub states: Vec<&'a str>,
+}
+
+/// The words behind `loop`.
+#[derive(Clone, Copy)]
+pub struct LoopWords<'a> {
+    /// The picture's file.
+    pub picture: &'a str,
+    /// The most octets of a packet.
+    pub max_octets: u32,
+    /// The most turns.
+    pub limit: u64,
+}
+
+/// The words that the program was called with, its own name first.
+pub fn given_words<R: Env + AllocGlobal>(rt: &R) -> Result<Vec<String>, WordsFault> {
+    Ok(env::args(rt)?.collect(rt.alloc())?)
+}
+
+/// Reads the words; without any behind the program's name the command is `trace`.
+pub fn read_words(alloc: Global, words: &[String]) -> Result<Given<'_>, WordsFault> {
+    let matches = program(alloc)?.try_get_matches_from(words)?;
+    Ok(Given {
+        words: command(alloc, &matches)?,
+        is_verbose: matches.get_flag("verbose"),
+    })
+}
+
+/// Reads the command.
+fn command<'a>(alloc: Global, matches: &ArgMatches<'a>) -> Result<Words<'a>, AllocError> {
+    match matches.subcommand() {
+        Some((name, given)) => command_words(alloc, name, given),
+        // clap lets no words through, as `trace`.
+        None => Ok(Words::Trace),
+    }
+}
+
+/// Reads the words of the command of this name.
+fn command_words<'a>(
+    alloc: Global,
+    name: &str,
+    given: &ArgMatches<'a>,
+) -> Result<Words<'a>, AllocError> {
+    match name {
+        "send" => Ok(Words::Send(send_words(alloc, given)?)),
+        "receive" => Ok(Words::Receive(receive_words(alloc, given)?)),
+        "process" => Ok(Words::Process(process_words(alloc, given)?)),
+        _ => Ok(plain_words(name, given)),
+    }
+}
+
+/// Reads the words of a command that takes no list of files.
+fn plain_words<'a>(name: &str, given: &ArgMatches<'a>) -> Words<'a> {
+    match name {
+        "sdp" => Words::Sdp,
+        "rehearse" => Words::Rehearse,
+        "migrate" => Words::Migrate(migrate_words(given)),
+        "merge" => Words::Merge(merge_words(given)),
+        "report" => Words::Report(word(given, "state")),
+        "loop" => Words::Loop(loop_words(given)),
+        // clap lets `trace` through, and nothing else.
+        _ => Words::Trace,
+    }
+}
+
+fn migrate_words<'a>(given: &ArgMatches<'a>) -> MigrateWords<'a> {
+    MigrateWords {
+        sdp: word(given, "sdp"),
+        out: word(given, "out"),
+        capture: word(given, "capture"),
+    }
+}
+
+fn send_words<'a>(alloc: Global, given: &ArgMatches<'a>) -> Result<SendWords<'a>, AllocError> {
+    Ok(SendWords {
+        sdp: given.get_str("sdp"),
+        out: word(given, "out"),
+        stamp: stamp_words(given),
+        max_octets: number(given, "max"),
+        paths: paths(given),
+        pictures: list(alloc, given, "pictures")?,
+    })
+}
+
+fn stamp_words(given: &ArgMatches<'_>) -> StampWords {
+    StampWords {
+        payload_type: payload_type(given),
+        first: number(given, "first"),
+        base: number(given, "base"),
+        ssrc: number(given, "ssrc"),
+    }
+}
+
+/// The payload type: clap lets none above 127 through.
+fn payload_type(given: &ArgMatches<'_>) -> u8
+    ensures { result ≤ 127 }
+{
+    match given.get_one::<u8>("pt") {
+        Some(payload_type) if payload_type <= 127 => payload_type,
+        _ => 96,
+    }
+}
+
+/// The paths that are named: clap lets `a`, `b` and `both` through.
+fn paths(given: &ArgMatches<'_>) -> NamedPaths {
+    match word(given, "paths") {
+        "b" => NamedPaths::OnlyB,
+        "both" => NamedPaths::Both,
+        _ => NamedPaths::OnlyA,
+    }
+}
+
+fn receive_words<'a>(
+    alloc: Global,
+    given: &ArgMatches<'a>,
+) -> Result<ReceiveWords<'a>, AllocError> {
+    Ok(ReceiveWords {
+        sdp: given.get_str("sdp"),
+        window: word(given, "window"),
+        ssrc: word(given, "ssrc"),
+        state: word(given, "state"),
+        refusals: given.get_flag("refusals"),
+        captures: list(alloc, given, "captures")?,
+    })
+}
+
+fn merge_words<'a>(given: &ArgMatches<'a>) -> MergeWords<'a> {
+    MergeWords {
+        state: word(given, "state"),
+        left: word(given, "left"),
+        right: word(given, "right"),
+    }
+}
+
+fn process_words<'a>(
+    alloc: Global,
+    given: &ArgMatches<'a>,
+) -> Result<ProcessWords<'a>, AllocError> {
+    Ok(ProcessWords {
+        job: word(given, "job"),
+        timestamp: number(given, "ts"),
+        fill: word(given, "fill"),
+        hold: given.get_str("hold"),
+        out: word(given, "out"),
+        stamp: stamp_words(given),
+        max_octets: number(given, "max"),
+        states: list(alloc, given, "states")?,
+    })
+}
+
+fn loop_words<'a>(given: &ArgMatches<'a>) -> LoopWords<'a> {
+    LoopWords {
+        picture: word(given, "picture"),
+        max_octets: number(given, "max"),
+        limit: given.get_one::<u64>("limit").unwrap_or(0),
+    }
+}
+
+/// The word of an option that has one: clap asks for it, or has a default.
+fn word<'a>(given: &ArgMatches<'a>, id: &str) -> &'a str {
+    given.get_str(id).unwrap_or("")
+}
+
+/// The number of an option that has one: clap reads it, or has a default.
+fn number(given: &ArgMatches<'_>, id: &str) -> u32 {
+    given.get_one::<u32>(id).unwrap_or(0)
+}
+
+/// The words of a list.
+fn list<'a>(alloc: Global, given: &ArgMatches<'a>, id: &str) -> Result<Vec<&'a str>, AllocError> {
+    match given.get_strs(id) {
+        Some(words) => words.to_vec(alloc),
+        None => Ok(Vec::new(alloc)),
+    }
+}

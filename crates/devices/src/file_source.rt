@@ -1,0 +1,130 @@
+//! A file that is read. It tells the octets that it gave, and not those that it will give.
+//!
+//! It is opened where its first octets are wanted and closed at its end, so that a long list of
+//! files has one open at a time, and one that is refused before it is read is not touched.
+ghost use Rattle.std.specs.Prelude.{◌≡◌, ◌≤◌, ◌<◌, ◌↔◌, ◌++◌, [], length, take, None, IfOk, OnErr};
+
+use crate::history::History;
+use crate::standing::Reading;
+use st_format::{ByteSource, DeviceFault};
+use std::fs::{self, File};
+use std::io::{self, BufReader, Read};
+
+/// How many octets a buffer before a file has.
+pub(crate) const BUFFER: usize = 1 << 18;
+
+/// A file that is read, by its name.
+#[derive(Drop)]
+pub struct FileSource<'a> {
+    rt: &'a HostRuntime,
+    name: &'a str,
+    progress: Progress,
+    gave: History,
+    failures: u64,
+    /// Whether its reading began.
+    is_begun: bool,
+    /// How many octets were read.
+    octet: u64,
+    /// Why it failed last.
+    fault: Option<io::Error>,
+}
+
+/// Where the reading of a file stands.
+#[derive(Drop)]
+enum Progress {
+    /// The file isn't open yet.
+    Front,
+    /// It is open.
+    Within(BufReader<File>),
+    /// It was read to its end, and closed.
+    Past,
+}
+
+impl<'a> FileSource<'a> {
+    /// The file of this name, which isn't looked at yet.
+    pub fn new(rt: &'a HostRuntime, name: &'a str) -> Self
+        ensures unfailed { ⟦<FileSource<'a> as ByteSource>⟧.failures result ≡ 0 }
+        ensures fresh { ⟦<FileSource<'a> as ByteSource>⟧.gave result ≡ [] }
+    {
+        FileSource {
+            rt,
+            name,
+            progress: Progress::Front,
+            gave: History::new(),
+            failures: 0,
+            is_begun: false,
+            octet: 0,
+            fault: None,
+        }
+    }
+
+    /// Where the reading stands, if it began.
+    pub fn begun(&self) -> Option<Reading<'a>> {
+        if self.is_begun {
+            Some(self.reading())
+        } else {
+            None
+        }
+    }
+
+    /// Where the reading stands.
+    pub fn reading(&self) -> Reading<'a> {
+        Reading {
+            name: self.name,
+            octet: self.octet,
+            fault: self.fault,
+        }
+    }
+
+    fn read_file(&mut self, buf: &mut [u8]) -> io::Result<usize>
+        ensures room { length buf.new ≡ length buf.old }
+        ensures within { IfOk result (λ n. n ≤ length buf.new) }
+        ensures failures { self.new.failures ≡ self.old.failures }
+        ensures gave { IfOk result
+            (λ n. self.new.gave.octets ≡ self.old.gave.octets ++ take n buf.new) }
+        ensures ended { IfOk result
+            (λ n. 0 < length buf.old → ((self.new.progress ≡ Progress.Past) ↔ (n ≡ 0))) }
+        ensures kept { OnErr result (self.new.gave.octets ≡ self.old.gave.octets) }
+    {
+        self.is_begun = true;
+        if let Progress::Front = self.progress {
+            let file = fs::open(self.rt, self.name)?;
+            let reader = BufReader::with_capacity(self.rt.alloc(), BUFFER, file)?;
+            self.progress = Progress::Within(reader);
+        }
+        let Progress::Within(file) = &mut self.progress else {
+            return Ok(0);
+        };
+        let n = file.read(buf)?;
+        self.gave.note(&buf[..n]);
+        self.octet = self.octet.saturating_add(n as u64);
+        if n == 0 && !buf.is_empty() {
+            self.progress = Progress::Past;
+        }
+        Ok(n)
+    }
+}
+
+impl<'a> ByteSource for FileSource<'a> {
+    ghost use Rattle.devices.specs.declared.file_source.Progress.TheVariants.{Past};
+
+    ghost to_give = { λ _. None };
+
+    ghost gave = { λ s. s.gave.octets };
+
+    ghost ended = { λ s. s.progress ≡ Past };
+
+    ghost failures = { λ s. s.failures };
+
+    /// A file that can't be opened, and a buffer for which there is no memory, are failures too.
+    fn read(&mut self, buf: &mut [u8]) -> Result<usize, DeviceFault> {
+        match self.read_file(buf) {
+            Ok(n) => Ok(n),
+            Err(fault) => {
+                self.fault = Some(fault);
+                self.failures = self.failures.saturating_add(1);
+                Err(DeviceFault)
+            }
+        }
+    }
+}

@@ -1,0 +1,57 @@
+//! Files that are read, by a name that may be absent, and by a list of names.
+ghost use Rattle.std.specs.Prelude.{◌≡◌, ◌↔◌, IfOk, IsSome, length, vec_len};
+
+use crate::file_source::FileSource;
+use crate::standing::Reading;
+use std::alloc::AllocError;
+
+/// The file of this name, where one is named, which isn't looked at yet.
+pub fn named_file<'a>(rt: &'a HostRuntime, name: Option<&'a str>) -> Option<FileSource<'a>>
+    ensures { IsSome result ↔ IsSome name.entry }
+{
+    match name {
+        Some(name) => Some(FileSource::new(rt, name)),
+        None => None,
+    }
+}
+
+/// The files of these names, in their order, none of which is looked at yet.
+pub fn named_files<'a>(
+    rt: &'a HostRuntime,
+    names: &[&'a str],
+) -> Result<Vec<FileSource<'a>>, AllocError>
+    ensures { IfOk result (λ files. vec_len files ≡ length names.now) }
+{
+    let mut files = Vec::new(rt.alloc());
+    for name in names {
+        files.push(FileSource::new(rt, name))?;
+    }
+    Ok(files)
+}
+
+/// Where the reading of a file stands, where one is named.
+pub fn reading_of<'a>(file: &Option<FileSource<'a>>) -> Option<Reading<'a>>
+    ensures { IsSome result ↔ IsSome file.now }
+{
+    match file {
+        Some(file) => Some(file.reading()),
+        None => None,
+    }
+}
+
+/// Where the reading of a file stands, where one is named and it began.
+pub fn reading_begun<'a>(file: &Option<FileSource<'a>>) -> Option<Reading<'a>> {
+    match file {
+        Some(file) => file.begun(),
+        None => None,
+    }
+}
+
+/// Where the reading of the last file of a list stands that was begun.
+pub fn last_begun<'a>(files: &[FileSource<'a>]) -> Option<Reading<'a>> {
+    let mut last = None;
+    for file in files {
+        last = file.begun().or(last);
+    }
+    last
+}

@@ -1,0 +1,24 @@
+//! Devices of this machine: files, standard input, output and error, and two sockets. Each is alone
+//! in its file, and none is changed but by its own calls. What a device gave and took is noted
+//! here, and nowhere else; each also says where it stands, for who wants to know why it failed.
+#![tactic(auto)]
+
+mod discard;
+mod file_sink;
+mod file_source;
+mod files;
+mod history;
+mod input;
+mod link;
+mod output;
+mod standing;
+
+pub use discard::Discard;
+pub use file_sink::FileSink;
+pub use file_source::FileSource;
+pub use files::{last_begun, named_file, named_files, reading_begun, reading_of};
+pub use history::{Arrivals, History, Sendings};
+pub use input::InputSource;
+pub use link::{UdpLink, unbound};
+pub use output::OutputSink;
+pub use standing::{Reading, Writing};

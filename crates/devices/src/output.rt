@@ -1,0 +1,67 @@
+//! Standard output and error as devices. They tell the octets that they took.
+ghost use Rattle.std.specs.Prelude.{◌≡◌, ◌+◌, ◌-◌, ◌^◌, ◌<◌, ◌↔◌, [], IsTrue, min, None};
+
+use crate::history::History;
+use crate::standing::Writing;
+use st_format::{ByteSink, DeviceFault};
+use std::io::{self, Write};
+
+/// Any writer, as standard output.
+#[derive(Drop)]
+pub struct OutputSink<W: Write + Drop> {
+    writer: W,
+    took: History,
+    failures: u64,
+    /// Why it failed last, where the system said so.
+    fault: Option<io::Error>,
+}
+
+impl<W: Write + Drop> OutputSink<W> {
+    /// A sink that passes on to a writer what comes.
+    pub fn new(writer: W) -> Self
+        ensures unfailed { ⟦<OutputSink<W> as ByteSink>⟧.failures result ≡ 0 }
+        ensures fresh { ⟦<OutputSink<W> as ByteSink>⟧.took result ≡ [] }
+    {
+        OutputSink {
+            writer,
+            took: History::new(),
+            failures: 0,
+            fault: None,
+        }
+    }
+
+    /// How the writing went.
+    pub fn writing(&self) -> Writing<'static>
+        ensures { IsTrue result.has_failed
+            ↔ (0 < ⟦<OutputSink<W> as ByteSink>⟧.failures self.now) }
+    {
+        Writing {
+            name: "standard output",
+            has_failed: self.failures > 0,
+            fault: self.fault,
+        }
+    }
+}
+
+impl<W: Write + Drop> ByteSink for OutputSink<W> {
+    ghost held = { λ _. None };
+
+    ghost took = { λ s. s.took.octets };
+
+    ghost failures = { λ s. s.failures };
+
+    /// A write of no octets of some is a failure.
+    fn write(&mut self, octets: &[u8]) -> Result<usize, DeviceFault> {
+        match self.writer.write(octets) {
+            Ok(n) if n > 0 || octets.is_empty() => {
+                self.took.note(&octets[..n]);
+                Ok(n)
+            }
+            outcome => {
+                self.fault = outcome.err();
+                self.failures = self.failures.saturating_add(1);
+                Err(DeviceFault)
+            }
+        }
+    }
+}
