@@ -1,0 +1,11 @@
+//! What a fault says.
+use std::alloc::Global;
+use std::fmt::Display;
+
+/// Whether a fault displays in these words.
+pub fn says<F: Display>(alloc: Global, fault: &F, words: &str) -> bool {
+    match format!(in alloc; "{fault}") {
+        Ok(text) => text.as_str() == words,
+        Err(_) => false,
+    }
+}
