@@ -21,19 +21,13 @@ import sys
 import tempfile
 import time
 
+from machine import GROUP, number_in, number_of_processors
 from proofs import PROGRAM, Proofs, changed, crates_of, say, show
 
 # The free memory for each room, in octets, and the most octets of standard input that are tried.
 ROOM_MEMORY = 4_000_000_000
 MOST_TRIED = 16 << 20
 SIGNALS = signal.SIGINT, signal.SIGTERM, signal.SIGHUP
-
-
-def number_in(file, pattern):
-    """The number that a pattern finds in a file of the system, or None."""
-    with contextlib.suppress(OSError), open(file, encoding="utf-8") as it:
-        found = re.search(pattern, it.read(), re.M)
-        return int(found[1]) if found else None
 
 
 def number_of_rooms():
@@ -44,12 +38,9 @@ def number_of_rooms():
     kept = os.path.realpath(f"{os.path.realpath(shutil.which('rt'))}/../../../rattle-kept")
     if not os.access(kept if os.path.exists(kept) else os.path.dirname(kept), os.W_OK):
         return 1
-    processors, group = len(os.sched_getaffinity(0)), "/sys/fs/cgroup"
-    quota, period = number_in(f"{group}/cpu.max", r"^(\d+)"), number_in(f"{group}/cpu.max", r"(\d+)$")
-    if quota and period:
-        processors = min(processors, quota // period)
+    processors = number_of_processors()
     memory = 1024 * (number_in("/proc/meminfo", r"^MemAvailable: *(\d+)") or 0)
-    memory = min(memory, number_in(f"{group}/memory.max", r"^(\d+)") or memory)
+    memory = min(memory, number_in(f"{GROUP}/memory.max", r"^(\d+)") or memory)
     return min(3 if processors >= 4 else 2 if processors >= 2 else 1, memory // ROOM_MEMORY)
 
 

@@ -5,13 +5,16 @@ import subprocess
 import sys
 import time
 
+from machine import number_of_processors
+
 PROGRAM = "st2110"
 # About how many seconds the first proof of each crate takes, measured on four processors.
 SECONDS = {
     "st_format": 88, "pgroup_pack": 78, "frame_assembly": 113, "path_merge": 250, "receiver_file": 86, "media_file": 100,
     "key_mix": 100, "sdp_format": 114, "packet_plan": 50, "payload_header": 40, "rtp_header": 20, "lane_kernels": 60,
     "bt709_fixed": 50, "packet_numbers": 25, "frame_report": 40, "run_outcome": 80, "script_engines": 120,
-    "capture_engines": 150, "receiver_engines": 100, "st2110": 300,
+    "capture_engines": 150, "receiver_engines": 100, "command_line": 60, "datagram_link": 8, "devices": 45,
+    "command_end": 35, "script_runs": 20, "capture_runs": 30, "receiver_runs": 25, "st2110": 70,
 }
 # What a crate takes that isn't named there.
 OTHER_SECONDS = 60
@@ -67,6 +70,13 @@ def chains(crates, seconds):
     return longest
 
 
+def jobs_of(is_last, beside):
+    """How many jobs a proof has while others run beside it: of the processors one, and of what they leave all where the
+    program waits for it the longest. More jobs take a third more processor time, since each reads all libraries."""
+    processors = number_of_processors()
+    return max(processors - beside, 1) if is_last else max(processors // (beside + 1), 1)
+
+
 class Proofs:
     """The proofs of some crates, each in a room, the lowest first. The program is proved and built in the checkout."""
 
@@ -84,7 +94,11 @@ class Proofs:
                 # (of crates that stand on one another, `rt` tells)
                 ready = ready or self.left
             if ready and room not in [it for _, it, _ in self.running.values()]:
-                self.begin(max(ready, key=chains(self.crates, self.seconds).get), room)
+                longest = chains(self.crates, self.seconds)
+                name = max(ready, key=longest.get)
+                beside = min(len(self.rooms), len(under_way) + len(ready)) - 1
+                is_last = all(longest[name] >= longest[it] for it in under_way)
+                self.begin(name, room, jobs_of(is_last, beside))
         for process in [it for it in self.running if it.poll() is not None]:
             name, _, begun = self.running.pop(process)
             took = time.time() - begun
@@ -95,9 +109,10 @@ class Proofs:
                 self.expected, self.measured = self.expected + self.seconds[name], self.measured + took
         return None
 
-    def begin(self, name, room):
+    def begin(self, name, room, jobs):
         self.left.remove(name)
-        at, verb = (self.checkout, ["run", "--", "--version"]) if name == PROGRAM else (room, ["lib"])
+        verb = ["lib", "--jobs", str(jobs)] if self.rooms[1:] else ["lib"]
+        at, verb = (self.checkout, ["run", "--", "--version"]) if name == PROGRAM else (room, verb)
         with open(self.log(name), "w", encoding="utf-8") as log:
             how = {"cwd": f"{at}/crates/{name}", "stdin": subprocess.DEVNULL, "stdout": log, "stderr": log}
             self.running[subprocess.Popen(["rt", *verb], **how)] = name, room, time.time()

@@ -15,10 +15,15 @@ says 'install: what it says' 0 "$room/a prefix/bin/st2110
 $room/a prefix/$page
 $room/a prefix/$words" "install: $room/a prefix/bin is not in PATH"
 alike 'install: the program' 'a prefix/bin/st2110' "$program"
-if [ "$(find 'a prefix' -type f | wc -l)" -eq 3 ] && [ "$('a prefix/bin/st2110' --version)" = 'st2110 0.1' ]; then
+if [ "$(find 'a prefix' -type f | wc -l)" -eq 3 ] && [ "$('a prefix/bin/st2110' --version)" = "st2110 $version" ]; then
     pass 'install: three files, and the program runs'
 else
     fail 'install: three files, and the program runs' "$(find 'a prefix')"
+fi
+if head -n 1 "a prefix/$page" | grep -q -F -e " \"st2110 $version\" "; then
+    pass 'install: the page says the version'
+else
+    fail 'install: the page says the version' "$(head -n 1 "a prefix/$page")"
 fi
 mkdir home
 HOME=$room/home install clone/install

@@ -82,7 +82,7 @@ rm -f refused
 says 'launcher: a build that fails' 125 '' ''
 logs=$(cd clone && pwd -P)/crates/st2110/out/launcher
 tells 'launcher: a build that fails, what it says' "$begins
-st2110: proving st2110, crate 1 of 1, 0 min so far, about 5 more
+st2110: proving st2110, crate 1 of 1, 0 min so far, about 1 more
 $(seq 11 30)
 st2110: the program was not built; the whole text of the build is in $logs/st2110.log"
 # Two first runs at once: one builds, and the other waits for it.
@@ -98,7 +98,7 @@ wait $!
 rm -f awaited
 says 'launcher: two first runs at once' 0 "kept 1
 $frame" ''
-if [ "$(wc -l <built)" -eq 1 ] && [ "$(tail -n 1 first)" = 'st2110 0.1' ]; then
+if [ "$(wc -l <built)" -eq 1 ] && [ "$(tail -n 1 first)" = "st2110 $version" ]; then
     pass 'launcher: two first runs at once, and one build'
 else
     fail 'launcher: two first runs at once, and one build' "$(cat built first)"
@@ -170,7 +170,7 @@ sleep 1
 touch clone/crates/st2110/src/main.rt
 launch clone/st2110 trace
 tells 'launcher: a newer source' "$begins
-st2110: proving st2110, crate 1 of 1, 0 min so far, about 5 more"
+st2110: proving st2110, crate 1 of 1, 0 min so far, about 1 more"
 for name in low left right other; do
     mkdir -p "clone/crates/$name/src"
     : >"clone/crates/$name/src/lib.rt"
@@ -180,18 +180,18 @@ printf '%s\n' low: 'other: low' 'st2110: left right clap # the program' 'right: 
     >clone/crates.txt
 launch clone/st2110 trace
 tells 'launcher: other crates' "$begins
-st2110: proving low, crate 1 of 4, 0 min so far, about 8 more
-st2110: proving left, crate 2 of 4, 0 min so far, about 7 more
-st2110: proving right, crate 3 of 4, 0 min so far, about 6 more
-st2110: proving st2110, crate 4 of 4, 0 min so far, about 5 more"
+st2110: proving low, crate 1 of 4, 0 min so far, about 4 more
+st2110: proving left, crate 2 of 4, 0 min so far, about 3 more
+st2110: proving right, crate 3 of 4, 0 min so far, about 2 more
+st2110: proving st2110, crate 4 of 4, 0 min so far, about 1 more"
 sleep 1
 touch clone/crates/other/src/lib.rt
 by 'a newer source that it does not stand on' clone/st2110 trace
 touch clone/crates/left/src/lib.rt
 launch clone/st2110 trace
 tells 'launcher: a newer source below it' "$begins
-st2110: proving left, crate 1 of 2, 0 min so far, about 6 more
-st2110: proving st2110, crate 2 of 2, 0 min so far, about 5 more"
+st2110: proving left, crate 1 of 2, 0 min so far, about 2 more
+st2110: proving st2110, crate 2 of 2, 0 min so far, about 1 more"
 
 # Side by side, each crate is proved in a room, and the program is built in the clone.
 ST2110_ROOMS=2
@@ -203,13 +203,13 @@ anew() {
 }
 anew
 launch clone/st2110 --version
-says 'launcher: in rooms' 0 'st2110 0.1' ''
+says 'launcher: in rooms' 0 "st2110 $version" ''
 tells 'launcher: in rooms, what it says' "$begins
-st2110: proving low, crate 1 of 4, 0 min so far, about 7 more
-st2110: proving left, crate 2 of 4, 0 min so far, about 6 more
-st2110: proving right, crate 3 of 4, 0 min so far, about 6 more
-st2110: proving st2110, crate 4 of 4, 0 min so far, about 5 more"
-sed 's,in .*/\([^/]*\)/crates/,in \1 ,' built | sort >order
+st2110: proving low, crate 1 of 4, 0 min so far, about 3 more
+st2110: proving left, crate 2 of 4, 0 min so far, about 2 more
+st2110: proving right, crate 3 of 4, 0 min so far, about 2 more
+st2110: proving st2110, crate 4 of 4, 0 min so far, about 1 more"
+sed 's,in .*/\([^/]*\)/crates/,in \1 ,; s/ --jobs [1-9][0-9]*//' built | sort >order
 expect 'lib in 1 left
 lib in 1 low
 lib in 2 right
@@ -338,6 +338,48 @@ launch clone/st2110 trace
 says 'launcher: one room' 0 "kept 1
 $frame" ''
 untried 'launcher: one room'
+
+# The version: with the commit where the clone is a repository, and a + where a file of its crates
+# isn't as the commit has it. Words beside it leave the line to the program.
+# version_is NAME WORD LINE: whether the launcher, asked for the version so, prints just this line.
+version_is() {
+    launch clone/st2110 "$2"
+    says "launcher: $1" 0 "$3" ''
+}
+version_is 'the version where there is no repository' --version "st2110 $version"
+if command -v git >/dev/null; then
+    in_clone() {
+        GIT_CONFIG_GLOBAL=/dev/null git -C clone -c user.name=n -c user.email=n -c commit.gpgsign=false "$@"
+    }
+    printf 'out/\n' >clone/.gitignore
+    in_clone init -q
+    in_clone add .
+    in_clone commit -q -m first
+    hash=$(in_clone rev-parse --short HEAD)
+    version_is 'the version and the commit' --version "st2110 $version ($hash)"
+    version_is 'the version and the commit, in short' -V "st2110 $version ($hash)"
+    launch elsewhere/link --version
+    says 'launcher: the version and the commit, by a link' 0 "st2110 $version ($hash)" ''
+    : >clone/notes
+    version_is 'the version, a file beside the crates is new' --version "st2110 $version ($hash)"
+    : >clone/crates/st2110/new
+    version_is 'the version, a file of a crate is new' --version "st2110 $version ($hash+)"
+    rm -f clone/crates/st2110/new
+    echo '# more' >>clone/crates.txt
+    version_is 'the version, a file differs' --version "st2110 $version ($hash+)"
+    in_clone checkout -q crates.txt
+    launch clone/st2110 --version --verbose
+    says 'launcher: the version with another word' 0 "st2110 $version" ''
+    PATH=$room/bare:$room/bin launch clone/st2110 --version
+    says 'launcher: the version without git' 0 "st2110 $version" ''
+    (clone/st2110 --version >/dev/full) 2>err
+    status=$?
+    : >out
+    says 'launcher: the version, on a full device' 3 '' ''
+    rm -rf clone/.git
+else
+    echo "skipped: the launcher's commit, since there is no git"
+fi
 
 # A file in the place of the folder `out`: that it can't be written to holds for root, too.
 rm -rf clone/crates/st2110/out

@@ -16,9 +16,13 @@ holds_words() {
     fi
 }
 
+# The version is that of the top heading of CHANGELOG.md.
+version=$(sed -n '/^## /{s/^## \([0-9.]*\), .*/\1/p;q;}' "$root/CHANGELOG.md")
 for asked in --version -V; do
     run $asked
-    says "$asked" 0 'st2110 0.1' ''
+    # (the launcher says the commit too: launcher.sh)
+    [ "$program" != "$root/st2110" ] || sed -i 's/ ([0-9a-f]*+\{0,1\})$//' out
+    says "$asked" 0 "st2110 $version" ''
 done
 for asked in --help -h help; do
     run $asked
