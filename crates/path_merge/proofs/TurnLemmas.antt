@@ -5,7 +5,7 @@ use Rattle.std.proofs.Common.{fold, length, map, take, drop, Option, Some, None,
 use Rattle.std.proofs.Common.{MatchResult, refl, sym, ap, ◌∙◌, subst, arith}
 use Rattle.std.specs.List.{AllByRecursion, flat_map}
 use Rattle.std.proofs.lemmas.List.{append-nil, append_assoc, length-append, length-drop, take_at}
-use Rattle.std.proofs.lemmas.List.{drop-append-le, drop-drop}
+use Rattle.std.proofs.lemmas.List.{drop-append-le, drop-drop, drop_at}
 use Rattle.std.proofs.lemmas.List.Concat.{flat_map-append}
 use Rattle.std.proofs.lemmas.List.Sums.{fold_push}
 use Rattle.std.proofs.lemmas.List.Elements.{recursion_from_All}
@@ -18,7 +18,7 @@ use Rattle.st_format.specs.Member.{SameDatagrams}
 use Rattle.st_format.specs.Position.{sample_count}
 use Rattle.st_format.specs.Raster.{Raster, IsWhole, cells_of, joined_cells, raster_of}
 use Rattle.st_format.specs.Turns.{Due, Comes, Nothing, GivesTurns, HasEnded, TakesTurn}
-use Rattle.st_format.specs.Turns.{datagrams_of}
+use Rattle.st_format.specs.Turns.{came_of, datagrams_of}
 use Rattle.st_format.proofs.Rasters.{joined_none}
 use Rattle.path_merge.specs.declared.answer.Refusal.{Refusal}
 use Rattle.path_merge.specs.declared.answer.Taken.{Taken}
@@ -27,8 +27,9 @@ use Rattle.path_merge.specs.declared.receiving.Received.{Received}
 use Rattle.path_merge.specs.Frames.{State, Holds, IsReceiver, frames_of, joined_frames}
 use Rattle.path_merge.specs.Answers.{last_64, refusals_after, taken_at}
 use Rattle.path_merge.specs.Opening.{Opening}
-use Rattle.path_merge.specs.Took.{CountsAll, HearsAll, TakesDue, Took, TookUpTo, answers_to}
-use Rattle.path_merge.specs.Took.{delivered_in, refusal_of, refused_by}
+use Rattle.path_merge.specs.Took.{ComesMore, CountsAll, HearsAll, TakesDue, Took, TookUpTo}
+use Rattle.path_merge.specs.Took.{answers_to, datagrams_since, delivered_in, refusal_of}
+use Rattle.path_merge.specs.Took.{refused_by}
 use Rattle.path_merge.proofs.Frames.{frames_of-append, frames_of-same}
 use Rattle.path_merge.proofs.MergeLemmas.{joined_frames-assoc}
 
@@ -78,6 +79,20 @@ datagrams_of-append [] ys = refl
 datagrams_of-append (Comes path octets ∷ xs) ys =
     ap (λ (ds : List (List ℕ)). octets ∷ ds) (datagrams_of-append xs ys)
 datagrams_of-append (Nothing ∷ xs) ys = datagrams_of-append xs ys
+
+came_of-append : (xs ys : List Due) → came_of (xs ++ ys) ≡ came_of xs ++ came_of ys
+came_of-append [] ys = refl
+came_of-append (Comes path octets ∷ xs) ys =
+    ap (λ (ds : List (Path × List ℕ)). (path, octets) ∷ ds) (came_of-append xs ys)
+came_of-append (Nothing ∷ xs) ys = came_of-append xs ys
+
+-- what came in turns, and in more
+comes_more : (xs ys : List Due) (old mid new : List (Path × List ℕ)) → ComesMore old mid xs
+    → new ≡ mid ++ came_of ys → ComesMore old new (xs ++ ys)
+comes_more xs ys old mid new first next =
+    next ∙ ap (λ (ds : List (Path × List ℕ)). ds ++ came_of ys) first
+    ∙ append_assoc old (came_of xs) (came_of ys)
+    ∙ ap (λ (ds : List (Path × List ℕ)). old ++ ds) (sym (came_of-append xs ys))
 
 gives_none : (old : Option (List Due)) → GivesTurns old old []
 gives_none None = tt
@@ -240,58 +255,65 @@ answers_quiet o (Comes p x ∷ due) =
     ap (λ (rest : List (Result Taken Refusal)). taken_at o x ∷ rest) (answers_quiet o due)
 answers_quiet o (Nothing ∷ due) = answers_quiet o due
 
--- what was taken in k turns, and an observer was told the answers
+-- what was taken in k turns, an observer was told the answers, and this came
 pub record Heard {O : Type 0} (after : O → Result Taken Refusal → O) (k delivered : ℕ)
-    (old now : Option (List Due)) (before later : State) (was is : O) : Type 0 where
+    (old now : Option (List Due)) (before later : State) (was is : O)
+    (first last : List (Path × List ℕ)) : Type 0 where
   pub so_far : SoFar k delivered old now before later
   pub heard : HearsAll after before.opening so_far.due was is
+  pub came : ComesMore first last so_far.due
 
 pub nothing_heard : {O : Type 0} (after : O → Result Taken Refusal → O) (old : Option (List Due))
-    (s : State) (o : O) → IsReceiver s → Heard after 0 0 old old s s o o
+    (s : State) (o : O) (c : List (Path × List ℕ)) → IsReceiver s
+    → Heard after 0 0 old old s s o o c c
 unfolding nothing_taken
-nothing_heard after old s o is = record { so_far = nothing_taken old s is; heard = refl }
+nothing_heard after old s o c is =
+    record { so_far = nothing_taken old s is; heard = refl; came = sym (append-nil c) }
 
 pub datagram_heard : {O : Type 0} (after : O → Result Taken Refusal → O) (k n count : ℕ)
     (path : Path) (buf : List ℕ) (r : Result Taken Refusal)
     (old mid new : Option (List Due)) (s t u : State) (was is now : O)
-    → Heard after k n old mid s t was is → IsReceiver t
+    (c d e : List (Path × List ℕ)) → Heard after k n old mid s t was is c d → IsReceiver t
     → TakesTurn mid new (Datagram path count) buf → u.opening ≡ t.opening
     → u.frames ≡ joined_frames t.frames (frames_of t.opening (take count buf ∷ []))
     → r ≡ taken_at t.opening (take count buf) → u.refusals ≡ refusals_after path r t.refusals
-    → now ≡ after is r → Heard after (k + 1) (n + 1) old new s u was now
+    → now ≡ after is r → e ≡ d ++ (path, take count buf) ∷ []
+    → Heard after (k + 1) (n + 1) old new s u was now c e
 unfolding datagram_taken
-datagram_heard {O} after k n count path buf r old mid new s t u was is now so receiver turn opening
-    frames answer refusals noted =
-    let d : List ℕ = take count buf in
+datagram_heard {O} after k n count path buf r old mid new s t u was is now c d e so receiver turn
+    opening frames answer refusals noted came =
+    let octets : List ℕ = take count buf in
     let due : List Due = so.so_far.due in
-    let said : r ≡ taken_at s.opening d =
-    answer ∙ ap (λ (o : Opening). taken_at o d) so.so_far.taken.opening in
+    let said : r ≡ taken_at s.opening octets =
+    answer ∙ ap (λ (o : Opening). taken_at o octets) so.so_far.taken.opening in
     record {
       so_far = datagram_taken k n count path buf r old mid new s t u so.so_far receiver turn opening
           frames answer refusals;
       heard = noted ∙ ap (λ (o : O). after o r) so.heard
           ∙ ap (after (fold after was (answers_to s.opening due))) said
-          ∙ sym (fold_push after was (answers_to s.opening due) (taken_at s.opening d))
-          ∙ ap (fold after was) (sym (answers_more s.opening due path d));
+          ∙ sym (fold_push after was (answers_to s.opening due) (taken_at s.opening octets))
+          ∙ ap (fold after was) (sym (answers_more s.opening due path octets));
+      came = comes_more due (Comes path octets ∷ []) c d e so.came came;
     }
 
 pub quiet_heard : {O : Type 0} (after : O → Result Taken Refusal → O) (k n : ℕ) (buf : List ℕ)
-    (old mid new : Option (List Due)) (s t : State) (was is : O)
-    → Heard after k n old mid s t was is → TakesTurn mid new Quiet buf
-    → Heard after (k + 1) n old new s t was is
+    (old mid new : Option (List Due)) (s t : State) (was is : O) (c d e : List (Path × List ℕ))
+    → Heard after k n old mid s t was is c d → TakesTurn mid new Quiet buf → e ≡ d ++ []
+    → Heard after (k + 1) n old new s t was is c e
 unfolding quiet_taken
-quiet_heard after k n buf old mid new s t was is so turn = record {
+quiet_heard after k n buf old mid new s t was is c d e so turn came = record {
   so_far = quiet_taken k n buf old mid new s t so.so_far turn;
   heard = so.heard ∙ ap (fold after was) (sym (answers_quiet s.opening so.so_far.due));
+  came = comes_more so.so_far.due (Nothing ∷ []) c d e so.came came;
 }
 
 -- up to the limit
 pub heard_limit : {O : Type 0} (after : O → Result Taken Refusal → O) (limit k n : ℕ)
-    (old now : Option (List Due)) (s t : State) (was is : O) → Heard after k n old now s t was is
-    → limit ≤ k → k ≤ limit
+    (old now : Option (List Due)) (s t : State) (was is : O) (c d : List (Path × List ℕ))
+    → Heard after k n old now s t was is c d → limit ≤ k → k ≤ limit
     → (took : Took limit (record { delivered = n; ended = false }) old now s t)
-    × HearsAll after s.opening took.due was is
-heard_limit after limit k n old now s t was is so most least = (
+    × HearsAll after s.opening took.due was is × ComesMore c d took.due
+heard_limit after limit k n old now s t was is c d so most least = (
   record {
     due = so.so_far.due;
     given = so.so_far.given;
@@ -300,6 +322,7 @@ heard_limit after limit k n old now s t was is so most least = (
     taken = so.so_far.taken;
   },
   so.heard,
+  so.came,
 )
   where
     never : (let none : Bool = false in none ≡ true) → ⊥
@@ -307,11 +330,12 @@ heard_limit after limit k n old now s t was is so most least = (
 
 -- up to the end
 pub heard_end : {O : Type 0} (after : O → Result Taken Refusal → O) (limit k n : ℕ)
-    (old mid new : Option (List Due)) (s t : State) (was is : O)
-    → Heard after k n old mid s t was is → k < limit → GivesTurns mid new [] → HasEnded new
+    (old mid new : Option (List Due)) (s t : State) (was is : O) (c d e : List (Path × List ℕ))
+    → Heard after k n old mid s t was is c d → k < limit → GivesTurns mid new [] → HasEnded new
+    → e ≡ d ++ []
     → (took : Took limit (record { delivered = n; ended = true }) old new s t)
-    × HearsAll after s.opening took.due was is
-heard_end after limit k n old mid new s t was is so below given end = (
+    × HearsAll after s.opening took.due was is × ComesMore c e took.due
+heard_end after limit k n old mid new s t was is c d e so below given end none = (
   record {
     due = so.so_far.due;
     given = subst (λ (due : List Due). GivesTurns old new due) (append-nil so.so_far.due)
@@ -321,14 +345,16 @@ heard_end after limit k n old mid new s t was is so below given end = (
     taken = so.so_far.taken;
   },
   so.heard,
+  none ∙ append-nil d ∙ so.came,
 )
 
 -- up to a fault
 pub heard_fault : {O : Type 0} (after : O → Result Taken Refusal → O) (limit k n : ℕ)
-    (old now : Option (List Due)) (s t : State) (was is : O) → Heard after k n old now s t was is
-    → k < limit
+    (old now : Option (List Due)) (s t : State) (was is : O) (c d e : List (Path × List ℕ))
+    → Heard after k n old now s t was is c d → k < limit → e ≡ d
     → (took : TookUpTo limit n old s t) × HearsAll after s.opening took.due was is
-heard_fault after limit k n old now s t was is so below = (
+    × ComesMore c e took.due
+heard_fault after limit k n old now s t was is c d e so below same = (
   record {
     due = so.so_far.due;
     rest = now;
@@ -337,6 +363,7 @@ heard_fault after limit k n old now s t was is so below = (
     taken = so.so_far.taken;
   },
   so.heard,
+  same ∙ so.came,
 )
 
 -- ---- counts
@@ -367,19 +394,47 @@ gave_first old (Some rest) due n given count =
     ∙ ap (take n) (datagrams_of-append due rest)
     ∙ take_at (datagrams_of due) (datagrams_of rest) n count
 
+-- of some datagrams, and of those among turns
+holds_taken : (due : List Due) (n : ℕ) (s t : State) (ds : List (List ℕ)) → TakesDue due n s t
+    → Holds s ds → Holds t (ds ++ datagrams_of due)
+holds_taken due n s t ds taken holds =
+    let xs : List (List ℕ) = datagrams_of due in
+    taken.frames ∙ ap (λ (rs : List Raster). joined_frames rs (frames_of s.opening xs)) holds
+    ∙ sym (frames_of-append s.opening ds xs)
+    ∙ ap (λ (o : Opening). frames_of o (ds ++ xs)) (sym taken.opening)
+
 holds_due : (old rest : Option (List Due)) (due turns : List Due) (n : ℕ) (s t : State)
     (ds : List (List ℕ)) → GivesTurns old rest due → TakesDue due n s t → old ≡ Some turns
     → Holds s ds
     → Holds t (ds ++ take n (datagrams_of turns))
 holds_due old rest due turns n s t ds given taken told holds =
-    let xs : List (List ℕ) = datagrams_of due in
-    let first : take n (datagrams_of turns) ≡ xs =
+    let first : take n (datagrams_of turns) ≡ datagrams_of due =
     gave_first turns rest due n
     (subst (λ (o : Option (List Due)). GivesTurns o rest due) told given) taken.count in
-    taken.frames ∙ ap (λ (rs : List Raster). joined_frames rs (frames_of s.opening xs)) holds
-    ∙ sym (frames_of-append s.opening ds xs)
-    ∙ ap (λ (o : Opening). frames_of o (ds ++ xs)) (sym taken.opening)
-    ∙ ap (λ (ys : List (List ℕ)). frames_of t.opening (ds ++ ys)) (sym first)
+    subst (λ (xs : List (List ℕ)). Holds t (ds ++ xs)) (sym first)
+    (holds_taken due n s t ds taken holds)
+
+-- what came in turns are their datagrams
+octets_came : (due : List Due)
+    → map (λ (d : Path × List ℕ). d.1) (came_of due) ≡ datagrams_of due
+octets_came [] = refl
+octets_came (Comes path octets ∷ due) =
+    ap (λ (ds : List (List ℕ)). octets ∷ ds) (octets_came due)
+octets_came (Nothing ∷ due) = octets_came due
+
+since_due : (due : List Due) (c d : List (Path × List ℕ)) → ComesMore c d due
+    → datagrams_since c d ≡ datagrams_of due
+since_due due c d came =
+    ap (λ (ds : List (Path × List ℕ)). map (λ (d : Path × List ℕ). d.1) ds)
+    (ap (drop (length c)) came ∙ drop_at c (came_of due) (length c) refl)
+    ∙ octets_came due
+
+holds_since : (due : List Due) (n : ℕ) (s t : State) (c d : List (Path × List ℕ))
+    (ds : List (List ℕ)) → TakesDue due n s t → ComesMore c d due → Holds s ds
+    → Holds t (ds ++ datagrams_since c d)
+holds_since due n s t c d ds taken came holds =
+    subst (λ (xs : List (List ℕ)). Holds t (ds ++ xs)) (sym (since_due due c d came))
+    (holds_taken due n s t ds taken holds)
 
 -- Where a receiver held the Frames of some datagrams, it then holds those of them and of what was
 -- delivered.
@@ -436,3 +491,49 @@ pub only_taken : {O : Type 0} (after : O → Result Taken Refusal → O) (limit 
     → MatchResult r (λ x. Took limit x old new s t) (λ e. TookUpTo limit e.delivered old s t)
 only_taken after limit (Ok x) old new s t was is (took, heard) = took
 only_taken after limit (Err e) old new s t was is (took, heard) = took
+
+-- ---- what came
+
+-- what was taken and heard, without what came
+pub only_heard : {O : Type 0} (after : O → Result Taken Refusal → O) (limit : ℕ)
+    (r : Result Received ReceiveFault) (old new : Option (List Due)) (s t : State) (was is : O)
+    (c d : List (Path × List ℕ))
+    → MatchResult r
+    (λ x. (took : Took limit x old new s t) × HearsAll after s.opening took.due was is
+    × ComesMore c d took.due)
+    (λ e. (took : TookUpTo limit e.delivered old s t) × HearsAll after s.opening took.due was is
+    × ComesMore c d took.due)
+    → MatchResult r
+    (λ x. (took : Took limit x old new s t) × HearsAll after s.opening took.due was is)
+    (λ e. (took : TookUpTo limit e.delivered old s t) × HearsAll after s.opening took.due was is)
+only_heard after limit (Ok x) old new s t was is c d (took, heard, came) = (took, heard)
+only_heard after limit (Err e) old new s t was is c d (took, heard, came) = (took, heard)
+
+-- what was taken and came, without what was heard
+pub only_came : {O : Type 0} (after : O → Result Taken Refusal → O) (limit : ℕ)
+    (r : Result Received ReceiveFault) (old new : Option (List Due)) (s t : State) (was is : O)
+    (c d : List (Path × List ℕ))
+    → MatchResult r
+    (λ x. (took : Took limit x old new s t) × HearsAll after s.opening took.due was is
+    × ComesMore c d took.due)
+    (λ e. (took : TookUpTo limit e.delivered old s t) × HearsAll after s.opening took.due was is
+    × ComesMore c d took.due)
+    → MatchResult r (λ x. (took : Took limit x old new s t) × ComesMore c d took.due)
+    (λ e. (took : TookUpTo limit e.delivered old s t) × ComesMore c d took.due)
+only_came after limit (Ok x) old new s t was is c d (took, heard, came) = (took, came)
+only_came after limit (Err e) old new s t was is c d (took, heard, came) = (took, came)
+
+-- Where a receiver held the Frames of some datagrams, it then holds those of them and of what came.
+pub holds_came : {O : Type 0} (after : O → Result Taken Refusal → O) (limit : ℕ)
+    (r : Result Received ReceiveFault) (old new : Option (List Due)) (s t : State) (was is : O)
+    (c d : List (Path × List ℕ))
+    → MatchResult r
+    (λ x. (took : Took limit x old new s t) × HearsAll after s.opening took.due was is
+    × ComesMore c d took.due)
+    (λ e. (took : TookUpTo limit e.delivered old s t) × HearsAll after s.opening took.due was is
+    × ComesMore c d took.due)
+    → (ds : List (List ℕ)) → Holds s ds → Holds t (ds ++ datagrams_since c d)
+holds_came after limit (Ok x) old new s t was is c d (took, heard, came) ds holds =
+    holds_since took.due x.delivered s t c d ds took.taken came holds
+holds_came after limit (Err e) old new s t was is c d (took, heard, came) ds holds =
+    holds_since took.due e.delivered s t c d ds took.taken came holds

@@ -1,9 +1,9 @@
 -- What `receive` does with the turns of a source (own).
 use Rattle.std.specs.Prelude.{◌≡◌, ℕ, ◌+◌, ◌-◌, ◌^◌, ◌<◌, ◌++◌, min, Bool, true, false, List, []}
-use Rattle.std.specs.Prelude.{◌∷◌, fold, length, map, Option, Result, Ok, Err}
+use Rattle.std.specs.Prelude.{◌∷◌, drop, fold, length, map, Option, Result, Ok, Err}
 use Rattle.std.specs.List.{flat_map}
 use Rattle.st_format.specs.declared.path.Path.{Path}
-use Rattle.st_format.specs.Turns.{Due, Comes, Nothing, GivesTurns, HasEnded, datagrams_of}
+use Rattle.st_format.specs.Turns.{Due, Comes, Nothing, GivesTurns, HasEnded, came_of, datagrams_of}
 use Rattle.path_merge.specs.declared.receiving.ReceiveFault.{ReceiveFault}
 use Rattle.path_merge.specs.declared.receiving.Received.{Received}
 use Rattle.path_merge.specs.declared.answer.Refusal.{Refusal}
@@ -66,6 +66,14 @@ answers_to opening due = map (taken_at opening) (datagrams_of due)
 abbrev pub HearsAll : {O : Type 0} → (O → Result Taken Refusal → O) → Opening → List Due → O → O
     → Type 0
 HearsAll after opening due old new = new ≡ fold after old (answers_to opening due)
+
+-- what came of a source so far grew by the datagrams among turns
+abbrev pub ComesMore : List (Path × List ℕ) → List (Path × List ℕ) → List Due → Type 0
+ComesMore old new due = new ≡ old ++ came_of due
+
+-- the datagrams that came of a source from one moment to the next, by what came so far
+abbrev pub datagrams_since : List (Path × List ℕ) → List (Path × List ℕ) → List (List ℕ)
+datagrams_since before now = map (λ (d : Path × List ℕ). d.1) (drop (length before) now)
 
 -- how many datagrams were delivered
 abbrev pub delivered_in : Result Received ReceiveFault → ℕ

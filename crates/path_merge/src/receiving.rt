@@ -1,9 +1,10 @@
 //! Taking what a source of datagrams gives.
 ghost use Rattle.std.specs.Prelude.{◌≡◌, ◌≤◌, ℕ, List, [], Some, ◌++◌, fold, length, map, take};
-ghost use Rattle.std.specs.Prelude.{IfErr, MatchResult, OnOk};
+ghost use Rattle.std.specs.Prelude.{IfErr, IfOk, MatchResult, OnOk, true};
 ghost use Rattle.path_merge.specs.Answers.{taken_at};
 ghost use Rattle.path_merge.specs.Frames.{Holds, IsReceiver};
-ghost use Rattle.path_merge.specs.Took.{CountsAll, HearsAll, Took, TookUpTo, delivered_in};
+ghost use Rattle.path_merge.specs.Took.{ComesMore, CountsAll, HearsAll, Took, TookUpTo};
+ghost use Rattle.path_merge.specs.Took.{datagrams_since, delivered_in};
 ghost use Rattle.st_format.specs.Device.{CountsFaults};
 ghost use Rattle.st_format.specs.Member.{SameDatagrams};
 ghost use Rattle.st_format.specs.Turns.{Due, datagrams_of};
@@ -64,6 +65,13 @@ pub fn receive<S: DatagramSource, A: Allocator>(
         (λ r. Took limit r (S.turns source.old) (S.turns source.new) receiver.old receiver.new)
         (λ e. TookUpTo limit e.delivered (S.turns source.old) receiver.old receiver.new) }
 
+    // What came of the source are the datagrams among these turns.
+    ensures came { MatchResult result
+        (λ r. (t : Took limit r (S.turns source.old) (S.turns source.new) receiver.old
+        receiver.new) × ComesMore (S.came source.old) (S.came source.new) t.due)
+        (λ e. (t : TookUpTo limit e.delivered (S.turns source.old) receiver.old receiver.new)
+        × ComesMore (S.came source.old) (S.came source.new) t.due) }
+
     // Where it held the Frames of some datagrams and the source tells its turns, it then holds
     // those of them and the first datagrams that were to come: as many as were delivered.
     ensures holds { (datagrams : List (List ℕ)) (due : List Due) →
@@ -76,6 +84,12 @@ pub fn receive<S: DatagramSource, A: Allocator>(
         S.turns source.old ≡ Some due → Holds receiver.old [] →
         SameDatagrams (take (delivered_in result) (datagrams_of due)) datagrams →
         Holds receiver.new datagrams }
+
+    // Of every source: it then holds those of them and of what came.
+    ensures holds_came { (datagrams : List (List ℕ)) → Holds receiver.old datagrams →
+        Holds receiver.new
+        (datagrams ++ datagrams_since (S.came source.old) (S.came source.new)) }
+    ensures ended { IfOk result (λ r. r.ended ≡ true → S.ended source.new) }
 
     // What the source counts, and its fault.
     ensures few { delivered_in result ≤ limit }
@@ -117,6 +131,14 @@ pub fn receive_each<S: DatagramSource, A: Allocator, O: Observer>(
         receiver.new) × HearsAll O.after receiver.old.opening t.due observer.old observer.new)
         (λ e. (t : TookUpTo limit e.delivered (S.turns source.old) receiver.old receiver.new)
         × HearsAll O.after receiver.old.opening t.due observer.old observer.new) }
+    // What came of the source are the datagrams among them.
+    ensures came { MatchResult result
+        (λ r. (t : Took limit r (S.turns source.old) (S.turns source.new) receiver.old
+        receiver.new) × HearsAll O.after receiver.old.opening t.due observer.old observer.new
+        × ComesMore (S.came source.old) (S.came source.new) t.due)
+        (λ e. (t : TookUpTo limit e.delivered (S.turns source.old) receiver.old receiver.new)
+        × HearsAll O.after receiver.old.opening t.due observer.old observer.new
+        × ComesMore (S.came source.old) (S.came source.new) t.due) }
     ensures answers { (due : List Due) → S.turns source.old ≡ Some due →
         observer.new ≡ fold O.after observer.old
         (map (taken_at receiver.old.opening) (take (delivered_in result) (datagrams_of due))) }
@@ -133,6 +155,12 @@ pub fn receive_each<S: DatagramSource, A: Allocator, O: Observer>(
         S.turns source.old ≡ Some due → Holds receiver.old [] →
         SameDatagrams (take (delivered_in result) (datagrams_of due)) datagrams →
         Holds receiver.new datagrams }
+
+    // Of every source: it then holds those of them and of what came.
+    ensures holds_came { (datagrams : List (List ℕ)) → Holds receiver.old datagrams →
+        Holds receiver.new
+        (datagrams ++ datagrams_since (S.came source.old) (S.came source.new)) }
+    ensures ended { IfOk result (λ r. r.ended ≡ true → S.ended source.new) }
 
     // What the source counts, and its fault.
     ensures few { delivered_in result ≤ limit }
@@ -165,11 +193,14 @@ fn take_turns<S: DatagramSource, A: Allocator, O: Observer>(
     requires room { 65535 ≤ length buf.old }
     requires receiver { IsReceiver receiver.old }
     ensures few { delivered_in result ≤ limit }
-    ensures heard { MatchResult result
+    ensures came { MatchResult result
         (λ r. (t : Took limit r (S.turns source.old) (S.turns source.new) receiver.old
-        receiver.new) × HearsAll O.after receiver.old.opening t.due observer.old observer.new)
+        receiver.new) × HearsAll O.after receiver.old.opening t.due observer.old observer.new
+        × ComesMore (S.came source.old) (S.came source.new) t.due)
         (λ e. (t : TookUpTo limit e.delivered (S.turns source.old) receiver.old receiver.new)
-        × HearsAll O.after receiver.old.opening t.due observer.old observer.new) }
+        × HearsAll O.after receiver.old.opening t.due observer.old observer.new
+        × ComesMore (S.came source.old) (S.came source.new) t.due) }
+    ensures ended { IfOk result (λ r. r.ended ≡ true → S.ended source.new) }
     ensures delivered { CountsAll (delivered_in result)
         (S.delivered source.old) (S.delivered source.new) }
     ensures counted { CountsFaults (S.failures source.old) (S.failures source.new) result }

@@ -12,7 +12,8 @@ invariant-loop g l = record {
   receiver : IsReceiver l.receiver;
   so_far : Heard g.O.Observer.after l.counter l.delivered
       (g.S.DatagramSource.turns l.initial.source) (g.S.DatagramSource.turns l.source)
-      l.initial.receiver l.receiver l.initial.observer l.observer;
+      l.initial.receiver l.receiver l.initial.observer l.observer
+      (g.S.DatagramSource.came l.initial.source) (g.S.DatagramSource.came l.source);
   delivered : CountsAll l.delivered (g.S.DatagramSource.delivered l.initial.source)
       (g.S.DatagramSource.delivered l.source);
   last : g.S.DatagramSource.last_fault l.source ≡ g.S.DatagramSource.last_fault l.initial.source;
