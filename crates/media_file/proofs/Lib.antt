@@ -31,4 +31,11 @@ pub mod PictureFaults
 pub mod CutCaptures
 pub mod CutPictures
 pub mod Putting
+pub mod Gave
+pub mod GaveFronts
+pub mod GavePictures
 pub mod Givings
+pub mod GaveParts
+pub mod GaveLoops
+pub mod MovedGave
+pub mod GaveCaptures

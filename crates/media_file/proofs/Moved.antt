@@ -47,13 +47,13 @@ record_given now mid new first e p is =
     subst (λ (n : ℕ). Consumes now new (n ∷ rest_text e)) is.first_is
     (Consumes-trans now mid new (first ∷ []) (rest_text e) p is.given)
 
-one_text : (es : List Entry) (e : Entry)
+pub one_text : (es : List Entry) (e : Entry)
     → records_text es ++ record_text e ≡ records_text (es ++ e ∷ [])
 one_text es e =
     sym (records_append es (e ∷ [])
     ∙ ap (λ (t : List ℕ). records_text es ++ t) (append-nil (record_text e)))
 
-fit_more : (es : List Entry) (e : Entry) → AllFit es → Fits e → AllFit (es ++ e ∷ [])
+pub fit_more : (es : List Entry) (e : Entry) → AllFit es → Fits e → AllFit (es ++ e ∷ [])
 fit_more [] e fit fits = (fits, tt)
 fit_more (d ∷ es) e fit fits = (fit.0, fit_more es e fit.1 fits)
 

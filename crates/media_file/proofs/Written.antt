@@ -1,7 +1,7 @@
 -- One text written after another.
 use Rattle.std.proofs.Common.{get_or, drop, map, ◌≡◌, ℕ, ◌+◌, ◌<◌, ◌≤◌, List, [], ◌∷◌, ◌++◌, length}
-use Rattle.std.proofs.Common.{take, Option, append_assoc, append-nil, refl, sym, ap, ◌∙◌, subst}
-use Rattle.std.proofs.Common.{arith}
+use Rattle.std.proofs.Common.{take, Option, Some, append_assoc, append-nil, refl, sym, ap, ◌∙◌}
+use Rattle.std.proofs.Common.{arith, subst}
 use Rattle.std.specs.Io.KnownBytes.{Appends}
 use Rattle.std.proofs.KnownBytes.{Appends-trans}
 use Rattle.std.proofs.Math.Seq.{take-append-add}
@@ -115,3 +115,12 @@ pub took_cut : (old mid new xs ys : List ℕ) → mid ≡ old ++ xs → GrowsPar
 took_cut old mid new xs ys p q =
     subst (λ (t : List ℕ). GrowsPart old new (xs ++ t)) (sym (append-nil ys))
     (part_then old mid new xs ys p q)
+
+-- what a sink took is as what one holds that tells it
+pub part_held : (old new xs : List ℕ) → GrowsPart old new xs
+    → AppendsPrefix (Some old) (Some new) xs
+part_held old new xs p = record { count = p.count; short = p.short; taken = p.grown }
+
+pub held_part : (old new xs : List ℕ) → AppendsPrefix (Some old) (Some new) xs
+    → GrowsPart old new xs
+held_part old new xs p = record { count = p.count; short = p.short; grown = p.taken }

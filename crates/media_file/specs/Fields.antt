@@ -1,9 +1,11 @@
 -- A file read from the left: a reading answers a value and the octets behind it, or the first
 -- fault. What a function does to a source is what a reading does to the octets that the source was
 -- to give.
-use Rattle.std.specs.Prelude.{◌≡◌, ℕ, nat_lt, if◌then◌else◌, List, [], ◌∷◌, length, take, drop}
+use Rattle.std.specs.Prelude.{◌≡◌, ℕ, nat_lt, if◌then◌else◌, List, [], ◌∷◌, ◌++◌, length, take}
+use Rattle.std.specs.Prelude.{drop}
 use Rattle.std.specs.Prelude.{⊤, Option, None, Some, Result, Ok, Err}
 use Rattle.std.specs.Io.KnownBytes.{Consumes}
+use Rattle.st_format.specs.Device.{AreOctets}
 use Rattle.media_file.specs.declared.fault.FileFault.{FileFault}
 use Rattle.media_file.specs.declared.fault.FileFault.TheVariants.{Truncated, TrailingBytes}
 use Rattle.media_file.specs.Faults.{IfContent}
@@ -41,5 +43,45 @@ pub record GivesPart {X : Type 0} (reading : List ℕ → Result (X × List ℕ)
     (old new : Option (List ℕ)) : Type 0 where
   pub part : List ℕ
   pub given : Consumes old new part
+  pub fault : FileFault
+  pub none : reading part ≡ Err fault
+
+-- A source gave octets of which the reading makes this value, whatever is behind them: what it gave
+-- so far was `before`, and is `now`.
+pub record GaveValue {X : Type 0} (reading : List ℕ → Result (X × List ℕ) FileFault)
+    (before now : List ℕ) (x : X) : Type 0 where
+  pub part : List ℕ
+  pub grown : now ≡ before ++ part
+  pub says : (behind : List ℕ) → reading (part ++ behind) ≡ Ok (x, behind)
+
+-- A source gave octets in which the reading finds this fault first, if it is one of the content:
+-- whatever is behind them, and nothing is where the source has ended.
+pub record GaveFault {X : Type 0} (reading : List ℕ → Result (X × List ℕ) FileFault)
+    (before now : List ℕ) (ended : Type 0) (f : FileFault) : Type 0 where
+  pub part : List ℕ
+  pub grown : now ≡ before ++ part
+  pub says : (behind : List ℕ) → (ended → behind ≡ [])
+      → IfContent f (reading (part ++ behind) ≡ Err f)
+
+-- A source gave octets of which the reading makes this value, all of them, and has ended.
+pub record GaveWhole {X : Type 0} (reading : List ℕ → Result (X × List ℕ) FileFault)
+    (before now : List ℕ) (ended : Type 0) (x : X) : Type 0 where
+  pub part : List ℕ
+  pub grown : now ≡ before ++ part
+  pub over : ended
+  pub says : reading part ≡ Ok (x, [])
+
+-- what a source gave are octets, numbers below 256
+pub record GaveOctets (before now : List ℕ) : Type 0 where
+  pub part : List ℕ
+  pub grown : now ≡ before ++ part
+  pub small : AreOctets part
+
+-- A source gave octets of which the reading makes no value, if nothing is behind them: a first part
+-- of one, or a wrong one.
+pub record GavePart {X : Type 0} (reading : List ℕ → Result (X × List ℕ) FileFault)
+    (before now : List ℕ) : Type 0 where
+  pub part : List ℕ
+  pub grown : now ≡ before ++ part
   pub fault : FileFault
   pub none : reading part ≡ Err fault

@@ -1,5 +1,6 @@
 -- A capture of version 01, written as one of version 02 (own).
-use Rattle.std.specs.Prelude.{◌≡◌, ℕ, List, [], ◌⊎◌, length, ⊤, Option, Result, Ok, Err}
+use Rattle.std.specs.Prelude.{◌≡◌, ℕ, List, [], ◌++◌, ◌⊎◌, length, ⊤, Option, Some, Result, Ok}
+use Rattle.std.specs.Prelude.{Err}
 use Rattle.std.specs.Io.KnownBytes.{Appends, Consumes}
 use Rattle.st_format.specs.Device.{AppendsPrefix, CountsOne}
 use Rattle.media_file.specs.declared.fault.FileFault.{FileFault}
@@ -8,7 +9,7 @@ use Rattle.media_file.specs.declared.fault.FileFault.TheVariants.{TrailingBytes,
 use Rattle.media_file.specs.declared.front.Version.{Version}
 use Rattle.media_file.specs.declared.front.Version.TheVariants.{One, Two}
 use Rattle.media_file.specs.Capture.{capture_text, records_at}
-use Rattle.media_file.specs.Fields.{Takes}
+use Rattle.media_file.specs.Fields.{GaveWhole, Takes}
 use Rattle.st_format.specs.Reading.{◌>>=◌}
 use Rattle.media_file.specs.Fronts.{capture_name, kind_at}
 use Rattle.media_file.specs.Reading.{entries_up_to}
@@ -55,6 +56,23 @@ pub record Migrated (limit count : ℕ) (text : List ℕ)
   pub read : Takes (old_at limit) source_old source_new entries
   pub counted : length entries ≡ count
   pub written : Appends held_old held_new (capture_text text entries)
+
+-- So it is of what a source gave and a sink took so far: records up to the end were written, and
+-- the source has ended.
+pub record MovesRead (limit count : ℕ) (before now : List ℕ) (ended : Type 0)
+    (took took' : List ℕ) : Type 0 where
+  pub entries : List Entry
+  pub read : GaveWhole (records_at limit) before now ended entries
+  pub counted : length entries ≡ count
+  pub written : took' ≡ took ++ records_text entries
+
+-- and a capture was
+pub record MigratedRead (limit count : ℕ) (text before now : List ℕ) (ended : Type 0)
+    (took took' : List ℕ) : Type 0 where
+  pub entries : List Entry
+  pub read : GaveWhole (old_at limit) before now ended entries
+  pub counted : length entries ≡ count
+  pub written : took' ≡ took ++ capture_text text entries
 
 -- one of two devices failed once where the fault is a device's, and else none
 abbrev pub CountsEither : FileFault → ℕ → ℕ → ℕ → ℕ → Type 0
@@ -104,6 +122,16 @@ pub record StopsWriting (written_of : List ℕ → List ℕ) (old new : Devices)
 abbrev pub Stops : (List ℕ → List ℕ) → FileFault → Devices → Devices → Type 0
 Stops written_of Device old new = StopsReading written_of old new ⊎ StopsWriting written_of old new
 Stops written_of fault old new = StopsAtFault written_of old new
+
+-- The same of what a source gave and a sink took so far: it is what a fault says of a source that
+-- was to give these octets, whatever is behind them, and of a sink that held what it took.
+pub record StopsRead (written_of : List ℕ → List ℕ) (f : FileFault) (before now : List ℕ)
+    (ended : Type 0) (s t : ℕ) (took took' : List ℕ) (h k : ℕ) : Type 0 where
+  pub part : List ℕ
+  pub grown : now ≡ before ++ part
+  pub stops : (behind : List ℕ) → (ended → behind ≡ []) → Stops written_of f
+      (devices (Some (part ++ behind)) s (Some took) h)
+      (devices (Some behind) t (Some took') k)
 
 -- the faults of a capture that is read without memory
 abbrev pub IsOfCapture : FileFault → Type 0

@@ -2,6 +2,7 @@
 -- one.
 use Rattle.std.specs.Prelude.{◌≡◌, ℕ, ◌*◌, ◌/◌, List, ◌++◌, Option, Result, Ok, Err}
 use Rattle.std.specs.Io.KnownBytes.{Consumes}
+use Rattle.st_format.specs.Device.{AreOctets}
 use Rattle.st_format.specs.Fields.{Fields, fields_of}
 use Rattle.st_format.specs.Pgroup.{bits_of, pixel_group}
 use Rattle.st_format.specs.Picture.{IsPicture, Values}
@@ -70,4 +71,12 @@ picture_walk octets =
 pub record GivesSpelled (bits : ℕ) (old new : Option (List ℕ)) (values : List ℕ) : Type 0 where
   pub octets : List ℕ
   pub given : Consumes old new octets
+  pub spelled : Spells bits octets values
+
+-- A source gave octets that spell these values of so many bits: what it gave so far was `before`,
+-- and is `now`.
+pub record GaveSpelled (bits : ℕ) (before now values : List ℕ) : Type 0 where
+  pub octets : List ℕ
+  pub grown : now ≡ before ++ octets
+  pub small : AreOctets octets
   pub spelled : Spells bits octets values

@@ -4,7 +4,7 @@ use Rattle.std.specs.Prelude.{length, drop, map, ⊤, Option, None, Some}
 use Rattle.std.specs.Borrow.{GName}
 use Rattle.std.specs.Io.KnownBytes.{Appends}
 use Rattle.std.specs.List.{AllByRecursion}
-use Rattle.st_format.specs.Device.{AppendsPrefix, CountsOne}
+use Rattle.st_format.specs.Device.{AppendsPrefix, CountsOne, GrowsPart}
 use Rattle.st_format.specs.declared.path.Path.{Path}
 use Rattle.st_format.specs.declared.path.Path.TheVariants.{A, B}
 use Rattle.media_file.specs.declared.paths.Paths.{Paths}
@@ -127,20 +127,26 @@ took_of p octets = datagrams_in p.paths p.text_len octets
 -- ---- datagrams put into a writer
 
 -- A writer that had not failed took a datagram: its sink took that datagram's records.
-pub record TakesDatagram {K : Type 0} (held : K → Option (List ℕ)) (failures : K → ℕ)
-    (names : K → List GName) (old : Writer K) (octets : List ℕ) (new : Writer K) : Type 0 where
+pub record TakesDatagram {K : Type 0} (held : K → Option (List ℕ)) (took : K → List ℕ)
+    (failures : K → ℕ) (names : K → List GName) (old : Writer K) (octets : List ℕ) (new : Writer K)
+    : Type 0 where
   pub stands : old.place.failed ≡ false
   pub written : Appends (held old.sink) (held new.sink)
       (records_text (entries_of old.place.paths old.place.moment octets))
+  pub grown : took new.sink ≡ took old.sink
+      ++ records_text (entries_of old.place.paths old.place.moment octets)
   pub place : new.place ≡ place_behind old.place
   pub faultless : failures new.sink ≡ failures old.sink
   pub lent : names new.sink ≡ names old.sink
 
 -- A writer failed at a datagram: its sink failed in this call, having taken a first part of that
 -- datagram's records; or the writer had failed before, and its sink stays.
-pub record FailsDatagram {K : Type 0} (held : K → Option (List ℕ)) (failures : K → ℕ)
-    (names : K → List GName) (old : Writer K) (octets : List ℕ) (new : Writer K) : Type 0 where
+pub record FailsDatagram {K : Type 0} (held : K → Option (List ℕ)) (took : K → List ℕ)
+    (failures : K → ℕ) (names : K → List GName) (old : Writer K) (octets : List ℕ) (new : Writer K)
+    : Type 0 where
   pub cut : old.place.failed ≡ false → AppendsPrefix (held old.sink) (held new.sink)
+      (records_text (entries_of old.place.paths old.place.moment octets))
+  pub part : old.place.failed ≡ false → GrowsPart (took old.sink) (took new.sink)
       (records_text (entries_of old.place.paths old.place.moment octets))
   pub device : old.place.failed ≡ false → CountsOne (failures old.sink) (failures new.sink)
   pub stays : old.place.failed ≡ true → new.sink ≡ old.sink
@@ -148,9 +154,9 @@ pub record FailsDatagram {K : Type 0} (held : K → Option (List ℕ)) (failures
   pub lent : names new.sink ≡ names old.sink
 
 -- a writer wrote the records of these datagrams
-pub record WritesDatagrams {K : Type 0} (held : K → Option (List ℕ)) (datagrams : List (List ℕ))
+pub record WritesDatagrams {K : Type 0} (took : K → List ℕ) (datagrams : List (List ℕ))
     (old new : Writer K) : Type 0 where
-  pub taken : Appends (held old.sink) (held new.sink)
-      (records_text (entries_from old.place.paths old.place.moment datagrams))
+  pub taken : took new.sink ≡ took old.sink
+      ++ records_text (entries_from old.place.paths old.place.moment datagrams)
   pub paths : new.place.paths ≡ old.place.paths
   pub moment : new.place.moment ≡ moment_after old.place.paths old.place.moment datagrams

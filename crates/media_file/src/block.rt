@@ -1,8 +1,8 @@
 //! Format blocks.
-ghost use Rattle.std.specs.Prelude.{◌≡◌, length, IfErr, IfOk};
+ghost use Rattle.std.specs.Prelude.{◌≡◌, length, IfErr, IfOk, OnOk};
 ghost use Rattle.media_file.specs.Blocks.{block_at, block_of, depth_of, sampling_of};
 ghost use Rattle.media_file.specs.Faults.{CountsDevice};
-ghost use Rattle.media_file.specs.Fields.{Fails, Takes};
+ghost use Rattle.media_file.specs.Fields.{Fails, GaveFault, GaveOctets, GaveValue, Takes};
 ghost use Rattle.media_file.specs.StateFile.{format_text, sampling_code};
 ghost use Rattle.st_format.specs.Fields.{fields_of, made_fields};
 
@@ -94,6 +94,11 @@ pub fn read_format<S: ByteSource>(source: &mut S) -> Result<Format, FileFault>
     ensures read { IfOk result
         (λ f. Takes block_at (S.to_give source.old) (S.to_give source.new) (fields_of f)) }
     ensures fault { IfErr result (λ f. Fails block_at (S.to_give source.old) f) }
+    ensures gave { IfOk result
+        (λ f. GaveValue block_at (S.gave source.old) (S.gave source.new) (fields_of f)) }
+    ensures gave_wrong { IfErr result (λ f. GaveFault block_at
+        (S.gave source.old) (S.gave source.new) (S.ended source.new) f) }
+    ensures bytes { OnOk result (GaveOctets (S.gave source.old) (S.gave source.new)) }
     ensures counted { CountsDevice (S.failures source.old) (S.failures source.new) result }
 {
     let mut block = [0u8; BLOCK];

@@ -6,8 +6,9 @@ ghost use Rattle.media_file.specs.Capture.{Content, IsCapture, capture_walk, cap
 ghost use Rattle.media_file.specs.Capture.{entry_seen, records_at};
 ghost use Rattle.media_file.specs.CaptureFaults.{IsCaptureFault};
 ghost use Rattle.media_file.specs.Faults.{CountsDevice, IfContent, IsMachine};
-ghost use Rattle.media_file.specs.Fields.{Fails, Takes};
+ghost use Rattle.media_file.specs.Fields.{Fails, GaveFault, GaveWhole, Takes};
 ghost use Rattle.st_format.specs.Device.{AreOctets, TellsOctets};
+ghost use Rattle.st_format.specs.History.{GrewFrom, IsRead};
 ghost use Rattle.std.specs.Io.KnownBytes.{IsAtEnd};
 
 use crate::fault::FileFault;
@@ -55,6 +56,20 @@ pub fn read_capture<A: Allocator + Copy, S: ByteSource>(
         (λ c. Takes (capture_walk limit) (S.to_give source.old) (S.to_give source.new)
         (capture_seen c)) }
     ensures fault { IfErr result (λ f. Fails (capture_walk limit) (S.to_give source.old) f) }
+    // The same of what was given, of every device: all of it was read, up to the source's end.
+    ensures gave { IfOk result (λ v. (octets : List ℕ)
+        → IsRead (S.gave source.old) (S.gave source.new) (S.ended source.new) octets
+        → AreOctets octets
+        → IsCapture octets (capture_seen v) × (length v.records.items ≤ limit)) }
+    ensures ended { OnOk result (S.ended source.new) }
+    ensures gave_wrong { IfErr result (λ f. (octets : List ℕ)
+        → IsRead (S.gave source.old) (S.gave source.new) (S.ended source.new) octets
+        → AreOctets octets → IfContent f (IsCaptureFault f limit octets)) }
+    ensures gave_only { (c : Content) (octets : List ℕ)
+        → IsRead (S.gave source.old) (S.gave source.new) (S.ended source.new) octets
+        → IsCapture octets c → length c.records ≤ limit
+        → MatchResult result (λ v. capture_seen v ≡ c) IsMachine }
+    ensures grown { GrewFrom (S.gave source.old) (S.gave source.new) }
 {
     read_whole_capture(alloc, source, limit)
 }
@@ -69,6 +84,10 @@ fn read_whole_capture<A: Allocator + Copy, S: ByteSource>(
         (λ c. Takes (capture_walk limit) (S.to_give source.old) (S.to_give source.new)
         (capture_seen c)) }
     ensures fault { IfErr result (λ f. Fails (capture_walk limit) (S.to_give source.old) f) }
+    ensures gave { IfOk result (λ c. GaveWhole (capture_walk limit)
+        (S.gave source.old) (S.gave source.new) (S.ended source.new) (capture_seen c)) }
+    ensures gave_wrong { IfErr result (λ f. GaveFault (capture_walk limit)
+        (S.gave source.old) (S.gave source.new) (S.ended source.new) f) }
     ensures octets { OnOk result (TellsOctets (S.to_give source.old)) }
     ensures counted { CountsDevice (S.failures source.old) (S.failures source.new) result }
 {
@@ -99,6 +118,10 @@ fn read_records<A: Allocator + Copy, S: ByteSource>(
         (λ v. Takes (records_at limit) (S.to_give source.old) (S.to_give source.new)
         (map entry_seen v.items)) }
     ensures fault { IfErr result (λ f. Fails (records_at limit) (S.to_give source.old) f) }
+    ensures gave { IfOk result (λ v. GaveWhole (records_at limit)
+        (S.gave source.old) (S.gave source.new) (S.ended source.new) (map entry_seen v.items)) }
+    ensures gave_wrong { IfErr result (λ f. GaveFault (records_at limit)
+        (S.gave source.old) (S.gave source.new) (S.ended source.new) f) }
     ensures counted { CountsDevice (S.failures source.old) (S.failures source.new) result }
 {
     let mut records = Vec::new(alloc);

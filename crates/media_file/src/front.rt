@@ -1,7 +1,9 @@
 //! The fields of a file, what stands at its front, and that nothing is behind it.
 ghost use Rattle.std.specs.Prelude.{◌≡◌, ◌≤◌, ◌<◌, codes, length, take, IfErr, IfOk, OnOk};
 ghost use Rattle.media_file.specs.Faults.{CountsDevice, IsOfField, IsOfFront};
-ghost use Rattle.media_file.specs.Fields.{Fails, GivesPart, Takes, field_at, nothing_at};
+ghost use Rattle.media_file.specs.Fields.{Fails, GaveFault, GaveOctets, GavePart, GaveValue};
+ghost use Rattle.media_file.specs.Fields.{GivesPart, Takes};
+ghost use Rattle.media_file.specs.Fields.{field_at, nothing_at};
 ghost use Rattle.media_file.specs.Fronts.{front_at, kind_at, kind_of, text_at, version_of};
 ghost use Rattle.st_format.specs.Device.{TellsOctets};
 
@@ -34,8 +36,15 @@ pub fn read_field<S: ByteSource>(source: &mut S, buf: &mut [u8]) -> Result<(), F
     ensures read { OnOk result
         (Takes (field_at (length buf.old)) (S.to_give source.old) (S.to_give source.new) buf.new) }
     ensures fault { IfErr result (λ f. Fails (field_at (length buf.old)) (S.to_give source.old) f) }
+    ensures gave { OnOk result
+        (GaveValue (field_at (length buf.old)) (S.gave source.old) (S.gave source.new) buf.new) }
+    ensures gave_wrong { IfErr result (λ f. GaveFault (field_at (length buf.old))
+        (S.gave source.old) (S.gave source.new) (S.ended source.new) f) }
+    ensures bytes { OnOk result (GaveOctets (S.gave source.old) (S.gave source.new)) }
     ensures part { IfErr result (λ _. GivesPart (field_at (length buf.old)) (S.to_give source.old)
         (S.to_give source.new)) }
+    ensures gave_part { IfErr result
+        (λ _. GavePart (field_at (length buf.old)) (S.gave source.old) (S.gave source.new)) }
     ensures octets { 0 < length buf.old → TellsOctets (S.to_give source.old) }
     ensures counted { CountsDevice (S.failures source.old) (S.failures source.new) result }
     ensures names { S.names source.new ≡ S.names source.old }
@@ -55,6 +64,10 @@ pub fn read_end<S: ByteSource>(source: &mut S) -> Result<(), FileFault>
     ensures read { OnOk result
         (Takes nothing_at (S.to_give source.old) (S.to_give source.new) tt) }
     ensures fault { IfErr result (λ f. Fails nothing_at (S.to_give source.old) f) }
+    ensures gave { OnOk result (S.gave source.new ≡ S.gave source.old) }
+    ensures ended { OnOk result (S.ended source.new) }
+    ensures gave_wrong { IfErr result (λ f. GaveFault nothing_at
+        (S.gave source.old) (S.gave source.new) (S.ended source.new) f) }
     ensures counted { CountsDevice (S.failures source.old) (S.failures source.new) result }
     ensures names { S.names source.new ≡ S.names source.old }
 {
@@ -102,8 +115,15 @@ pub fn read_kind<S: ByteSource>(source: &mut S, name: &[u8]) -> Result<Version, 
     ensures read { IfOk result
         (λ v. Takes (kind_at name.now) (S.to_give source.old) (S.to_give source.new) v) }
     ensures fault { IfErr result (λ f. Fails (kind_at name.now) (S.to_give source.old) f) }
+    ensures gave { IfOk result
+        (λ v. GaveValue (kind_at name.now) (S.gave source.old) (S.gave source.new) v) }
+    ensures gave_wrong { IfErr result (λ f. GaveFault (kind_at name.now)
+        (S.gave source.old) (S.gave source.new) (S.ended source.new) f) }
+    ensures bytes { OnOk result (GaveOctets (S.gave source.old) (S.gave source.new)) }
     ensures part { IfErr result
         (λ _. GivesPart (kind_at name.now) (S.to_give source.old) (S.to_give source.new)) }
+    ensures gave_part { IfErr result
+        (λ _. GavePart (kind_at name.now) (S.gave source.old) (S.gave source.new)) }
     ensures octets { TellsOctets (S.to_give source.old) }
     ensures counted { CountsDevice (S.failures source.old) (S.failures source.new) result }
     ensures names { S.names source.new ≡ S.names source.old }
@@ -123,6 +143,10 @@ pub(crate) fn read_front<S: ByteSource>(source: &mut S, text: &mut [u8]) -> Resu
     ensures read { IfOk result
         (λ n. Takes front_at (S.to_give source.old) (S.to_give source.new) (take n text.new)) }
     ensures fault { IfErr result (λ f. Fails front_at (S.to_give source.old) f) }
+    ensures gave { IfOk result
+        (λ n. GaveValue front_at (S.gave source.old) (S.gave source.new) (take n text.new)) }
+    ensures gave_wrong { IfErr result (λ f. GaveFault front_at
+        (S.gave source.old) (S.gave source.new) (S.ended source.new) f) }
     ensures octets { TellsOctets (S.to_give source.old) }
     ensures counted { CountsDevice (S.failures source.old) (S.failures source.new) result }
     ensures names { S.names source.new ≡ S.names source.old }
@@ -142,6 +166,10 @@ fn read_text<S: ByteSource>(source: &mut S, text: &mut [u8]) -> Result<usize, Fi
     ensures read { IfOk result
         (λ n. Takes text_at (S.to_give source.old) (S.to_give source.new) (take n text.new)) }
     ensures fault { IfErr result (λ f. Fails text_at (S.to_give source.old) f) }
+    ensures gave { IfOk result
+        (λ n. GaveValue text_at (S.gave source.old) (S.gave source.new) (take n text.new)) }
+    ensures gave_wrong { IfErr result (λ f. GaveFault text_at
+        (S.gave source.old) (S.gave source.new) (S.ended source.new) f) }
     ensures counted { CountsDevice (S.failures source.old) (S.failures source.new) result }
     ensures names { S.names source.new ≡ S.names source.old }
 {

@@ -1,9 +1,10 @@
 //! Writing a capture of version 01 as one of version 02.
 ghost use Rattle.std.specs.Prelude.{◌≡◌, ◌≤◌, length, IfErr, IfOk, MatchResult};
-ghost use Rattle.media_file.specs.Migrated.{CountsEither, IsOfCapture, Migrated, MovesAll, Stops};
-ghost use Rattle.media_file.specs.Migrated.{devices, new_records, new_text, old_at};
+ghost use Rattle.media_file.specs.Migrated.{CountsEither, IsOfCapture, Migrated, MigratedRead};
+ghost use Rattle.media_file.specs.Migrated.{MovesAll, MovesRead, Stops, StopsRead, devices};
+ghost use Rattle.media_file.specs.Migrated.{new_records, new_text, old_at};
 ghost use Rattle.media_file.specs.Capture.{records_at};
-ghost use Rattle.media_file.specs.Fields.{Fails};
+ghost use Rattle.media_file.specs.Fields.{Fails, GaveFault};
 
 use crate::fault::FileFault;
 use crate::front::{CAPTURE, Version, read_kind};
@@ -46,6 +47,16 @@ pub fn migrate_capture<S: ByteSource, K: ByteSink>(
         (K.held sink.old) (K.failures sink.old))
         (devices (S.to_give source.new) (S.failures source.new)
         (K.held sink.new) (K.failures sink.new))) }
+    // The same of what the source gave and the sink took, of every device.
+    ensures migrated_read { IfOk result (λ n. MigratedRead limit n text.now
+        (S.gave source.old) (S.gave source.new) (S.ended source.new)
+        (K.took sink.old) (K.took sink.new)) }
+    ensures gave_wrong { IfErr result (λ f. GaveFault (old_at limit)
+        (S.gave source.old) (S.gave source.new) (S.ended source.new) f) }
+    ensures stopped_read { IfErr result (λ f. StopsRead (new_text limit text.now) f
+        (S.gave source.old) (S.gave source.new) (S.ended source.new)
+        (S.failures source.old) (S.failures source.new) (K.took sink.old) (K.took sink.new)
+        (K.failures sink.old) (K.failures sink.new)) }
     ensures counted { MatchResult result
         (λ _. (S.failures source.new ≡ S.failures source.old)
         × (K.failures sink.new ≡ K.failures sink.old))
@@ -78,6 +89,16 @@ fn move_records<S: ByteSource, K: ByteSink>(
         (K.held sink.old) (K.failures sink.old))
         (devices (S.to_give source.new) (S.failures source.new)
         (K.held sink.new) (K.failures sink.new))) }
+    // The same of what the source gave and the sink took, of every device.
+    ensures moved_read { IfOk result (λ n. MovesRead limit n
+        (S.gave source.old) (S.gave source.new) (S.ended source.new)
+        (K.took sink.old) (K.took sink.new)) }
+    ensures gave_wrong { IfErr result (λ f. GaveFault (records_at limit)
+        (S.gave source.old) (S.gave source.new) (S.ended source.new) f) }
+    ensures stopped_read { IfErr result (λ f. StopsRead (new_records limit) f
+        (S.gave source.old) (S.gave source.new) (S.ended source.new)
+        (S.failures source.old) (S.failures source.new) (K.took sink.old) (K.took sink.new)
+        (K.failures sink.old) (K.failures sink.new)) }
     ensures counted { MatchResult result
         (λ _. (S.failures source.new ≡ S.failures source.old)
         × (K.failures sink.new ≡ K.failures sink.old))

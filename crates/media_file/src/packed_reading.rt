@@ -4,12 +4,14 @@ ghost use Rattle.std.specs.Io.KnownBytes.{IsAtEnd};
 ghost use Rattle.pgroup_pack.specs.Packing.{Agree};
 ghost use Rattle.st_format.specs.Device.{AreOctets, TellsOctets};
 ghost use Rattle.st_format.specs.Fields.{fields_of};
+ghost use Rattle.st_format.specs.History.{GrewFrom, IsRead};
 ghost use Rattle.st_format.specs.Pgroup.{bits_of};
 ghost use Rattle.st_format.specs.Picture.{IsPicture, Values};
 ghost use Rattle.st_format.specs.Position.{sample_count};
 ghost use Rattle.st_format.specs.Samples.{values_in};
 ghost use Rattle.media_file.specs.Faults.{CountsDevice, IfContent, IsMachine};
-ghost use Rattle.media_file.specs.Fields.{Fails, Takes};
+ghost use Rattle.media_file.specs.Fields.{Fails, GaveFault, GaveOctets, GaveValue, GaveWhole};
+ghost use Rattle.media_file.specs.Fields.{Takes};
 ghost use Rattle.media_file.specs.PictureFaults.{IsPictureFault};
 ghost use Rattle.media_file.specs.PictureFile.{IsPictureFile, picture_walk, raster_at, shown_of};
 
@@ -49,6 +51,19 @@ pub fn read_packed_picture<A: Allocator, S: ByteSource>(
     ensures read { IfOk result (λ p. Takes picture_walk
         (S.to_give source.old) (S.to_give source.new) (shown_of p)) }
     ensures fault { IfErr result (λ f. Fails picture_walk (S.to_give source.old) f) }
+    // The same of what was given, of every device: all of it was read, up to the source's end.
+    ensures gave { IfOk result (λ p. (octets : List ℕ)
+        → IsRead (S.gave source.old) (S.gave source.new) (S.ended source.new) octets
+        → IsPictureFile octets p) }
+    ensures ended { OnOk result (S.ended source.new) }
+    ensures gave_wrong { IfErr result (λ f. (octets : List ℕ)
+        → IsRead (S.gave source.old) (S.gave source.new) (S.ended source.new) octets
+        → AreOctets octets → IfContent f (IsPictureFault f octets)) }
+    ensures gave_only { (p : Values) (octets : List ℕ)
+        → IsRead (S.gave source.old) (S.gave source.new) (S.ended source.new) octets
+        → IsPictureFile octets p
+        → MatchResult result (λ q. shown_of q ≡ shown_of p) IsMachine }
+    ensures grown { GrewFrom (S.gave source.old) (S.gave source.new) }
 {
     read_all(source, room)
 }
@@ -62,6 +77,11 @@ fn read_all<A: Allocator, S: ByteSource>(
     ensures read { IfOk result (λ p. Takes picture_walk
         (S.to_give source.old) (S.to_give source.new) (shown_of p)) }
     ensures fault { IfErr result (λ f. Fails picture_walk (S.to_give source.old) f) }
+    ensures gave { IfOk result (λ p. GaveWhole picture_walk
+        (S.gave source.old) (S.gave source.new) (S.ended source.new) (shown_of p)) }
+    ensures gave_wrong { IfErr result (λ f. GaveFault picture_walk
+        (S.gave source.old) (S.gave source.new) (S.ended source.new) f) }
+    ensures bytes { OnOk result (GaveOctets (S.gave source.old) (S.gave source.new)) }
     ensures octets { OnOk result (TellsOctets (S.to_give source.old)) }
     ensures counted { CountsDevice (S.failures source.old) (S.failures source.new) result }
 {
@@ -85,6 +105,11 @@ fn read_groups<A: Allocator, S: ByteSource>(
         (values_in (bits_of format.now.depth) v.items)) }
     ensures fault { IfErr result (λ f.
         Fails (raster_at (fields_of format.now)) (S.to_give source.old) f) }
+    ensures gave { IfOk result (λ v. GaveValue (raster_at (fields_of format.now))
+        (S.gave source.old) (S.gave source.new) (values_in (bits_of format.now.depth) v.items)) }
+    ensures gave_wrong { IfErr result (λ f. GaveFault (raster_at (fields_of format.now))
+        (S.gave source.old) (S.gave source.new) (S.ended source.new) f) }
+    ensures bytes { OnOk result (GaveOctets (S.gave source.old) (S.gave source.new)) }
     ensures counted { CountsDevice (S.failures source.old) (S.failures source.new) result }
 {
     room.resize(raster_octets(format), 0)?;

@@ -5,14 +5,16 @@ ghost use Rattle.std.specs.Io.KnownBytes.{IsAtEnd};
 ghost use Rattle.pgroup_pack.specs.Packing.{Agree};
 ghost use Rattle.st_format.specs.Device.{AreOctets, TellsOctets};
 ghost use Rattle.st_format.specs.Fields.{fields_of};
+ghost use Rattle.st_format.specs.History.{GrewFrom, IsRead};
 ghost use Rattle.st_format.specs.Pgroup.{bits_of};
 ghost use Rattle.st_format.specs.Picture.{IsPicture, Values};
 ghost use Rattle.media_file.specs.declared.front.Version.TheVariants.{One};
 ghost use Rattle.media_file.specs.Faults.{CountsDevice, IfContent, IsMachine, IsOfField};
-ghost use Rattle.media_file.specs.Fields.{Fails, Takes, field_at};
+ghost use Rattle.media_file.specs.Fields.{Fails, GaveFault, GaveOctets, GaveValue, GaveWhole};
+ghost use Rattle.media_file.specs.Fields.{Takes, field_at};
 ghost use Rattle.media_file.specs.Fronts.{picture_name};
 ghost use Rattle.media_file.specs.PictureFaults.{IsPictureFault};
-ghost use Rattle.media_file.specs.PictureFile.{GivesSpelled, IsPictureFile, one_at};
+ghost use Rattle.media_file.specs.PictureFile.{GaveSpelled, GivesSpelled, IsPictureFile, one_at};
 ghost use Rattle.media_file.specs.PictureFile.{picture_walk, raster_at, shown_of};
 
 use crate::block::read_format;
@@ -49,6 +51,19 @@ pub fn read_picture<A: Allocator, S: ByteSource>(
     ensures read { IfOk result (λ p. Takes picture_walk
         (S.to_give source.old) (S.to_give source.new) (shown_of p)) }
     ensures fault { IfErr result (λ f. Fails picture_walk (S.to_give source.old) f) }
+    // The same of what was given, of every device: all of it was read, up to the source's end.
+    ensures gave { IfOk result (λ p. (octets : List ℕ)
+        → IsRead (S.gave source.old) (S.gave source.new) (S.ended source.new) octets
+        → IsPictureFile octets p) }
+    ensures ended { OnOk result (S.ended source.new) }
+    ensures gave_wrong { IfErr result (λ f. (octets : List ℕ)
+        → IsRead (S.gave source.old) (S.gave source.new) (S.ended source.new) octets
+        → AreOctets octets → IfContent f (IsPictureFault f octets)) }
+    ensures gave_only { (p : Values) (octets : List ℕ)
+        → IsRead (S.gave source.old) (S.gave source.new) (S.ended source.new) octets
+        → IsPictureFile octets p
+        → MatchResult result (λ q. shown_of q ≡ shown_of p) IsMachine }
+    ensures grown { GrewFrom (S.gave source.old) (S.gave source.new) }
 {
     read_whole_picture(alloc, source)
 }
@@ -62,6 +77,11 @@ fn read_whole_picture<A: Allocator, S: ByteSource>(
     ensures read { IfOk result (λ p. Takes picture_walk
         (S.to_give source.old) (S.to_give source.new) (shown_of p)) }
     ensures fault { IfErr result (λ f. Fails picture_walk (S.to_give source.old) f) }
+    ensures gave { IfOk result (λ p. GaveWhole picture_walk
+        (S.gave source.old) (S.gave source.new) (S.ended source.new) (shown_of p)) }
+    ensures gave_wrong { IfErr result (λ f. GaveFault picture_walk
+        (S.gave source.old) (S.gave source.new) (S.ended source.new) f) }
+    ensures bytes { OnOk result (GaveOctets (S.gave source.old) (S.gave source.new)) }
     ensures octets { OnOk result (TellsOctets (S.to_give source.old)) }
     ensures counted { CountsDevice (S.failures source.old) (S.failures source.new) result }
 {
@@ -77,6 +97,11 @@ pub(crate) fn read_version_one<S: ByteSource>(source: &mut S, name: &[u8]) -> Re
     ensures read { OnOk result (Takes (one_at name.now)
         (S.to_give source.old) (S.to_give source.new) One) }
     ensures fault { IfErr result (λ f. Fails (one_at name.now) (S.to_give source.old) f) }
+    ensures gave { OnOk result
+        (GaveValue (one_at name.now) (S.gave source.old) (S.gave source.new) One) }
+    ensures gave_wrong { IfErr result (λ f. GaveFault (one_at name.now)
+        (S.gave source.old) (S.gave source.new) (S.ended source.new) f) }
+    ensures bytes { OnOk result (GaveOctets (S.gave source.old) (S.gave source.new)) }
     ensures octets { TellsOctets (S.to_give source.old) }
     ensures counted { CountsDevice (S.failures source.old) (S.failures source.new) result }
 {
@@ -97,6 +122,11 @@ fn read_raster<A: Allocator, S: ByteSource>(
         (S.to_give source.old) (S.to_give source.new) v.items) }
     ensures fault { IfErr result (λ f.
         Fails (raster_at (fields_of format.now)) (S.to_give source.old) f) }
+    ensures gave { IfOk result (λ v. GaveValue (raster_at (fields_of format.now))
+        (S.gave source.old) (S.gave source.new) v.items) }
+    ensures gave_wrong { IfErr result (λ f. GaveFault (raster_at (fields_of format.now))
+        (S.gave source.old) (S.gave source.new) (S.ended source.new) f) }
+    ensures bytes { OnOk result (GaveOctets (S.gave source.old) (S.gave source.new)) }
     ensures counted { CountsDevice (S.failures source.old) (S.failures source.new) result }
 {
     let samples = read_samples(alloc, source, format, format.sample_count())?;
@@ -117,6 +147,11 @@ fn read_samples<A: Allocator, S: ByteSource>(
         (S.to_give source.old) (S.to_give source.new) v.items) }
     ensures fault { IfErr result (λ f.
         Fails (field_at (bits_of format.now.depth * count / 8)) (S.to_give source.old) f) }
+    ensures gave { IfOk result (λ v. GaveSpelled (bits_of format.now.depth)
+        (S.gave source.old) (S.gave source.new) v.items) }
+    ensures gave_wrong { IfErr result (λ f.
+        GaveFault (field_at (bits_of format.now.depth * count / 8))
+        (S.gave source.old) (S.gave source.new) (S.ended source.new) f) }
     ensures counted { CountsDevice (S.failures source.old) (S.failures source.new) result }
 {
     let mut samples = Vec::with_capacity(alloc, count)?;
@@ -146,6 +181,10 @@ fn read_piece<S: ByteSource>(
         (S.to_give source.old) (S.to_give source.new) samples.new) }
     ensures fault { IfErr result
         (λ f. Fails (field_at (length octets.old)) (S.to_give source.old) f) }
+    ensures gave { OnOk result (GaveSpelled (bits_of format.now.depth)
+        (S.gave source.old) (S.gave source.new) samples.new) }
+    ensures gave_wrong { IfErr result (λ f. GaveFault (field_at (length octets.old))
+        (S.gave source.old) (S.gave source.new) (S.ended source.new) f) }
     ensures named { IfErr result IsOfField }
     ensures counted { CountsDevice (S.failures source.old) (S.failures source.new) result }
 {

@@ -1,8 +1,8 @@
 //! Writing a picture's file.
-ghost use Rattle.std.specs.Prelude.{◌≡◌, ◌*◌, ◌%◌, length, IfErr, OnErr, OnOk};
+ghost use Rattle.std.specs.Prelude.{◌≡◌, ◌*◌, ◌%◌, ◌++◌, length, IfErr, OnErr, OnOk};
 ghost use Rattle.std.specs.Io.KnownBytes.{Appends};
 ghost use Rattle.pgroup_pack.specs.Packing.{Agree, Fit};
-ghost use Rattle.st_format.specs.Device.{AppendsPrefix, CountsFaults};
+ghost use Rattle.st_format.specs.Device.{AppendsPrefix, CountsFaults, GrowsPart};
 ghost use Rattle.st_format.specs.Fields.{fields_of};
 ghost use Rattle.st_format.specs.Pgroup.{bits_of};
 ghost use Rattle.st_format.specs.Samples.{octets_in};
@@ -31,6 +31,9 @@ pub fn write_picture<A: Allocator, K: ByteSink>(
     ensures fault { IfErr result (λ f. IsDevice f
         × AppendsPrefix (K.held sink.old) (K.held sink.new) (picture_text picture.now)) }
     ensures counted { CountsDevice (K.failures sink.old) (K.failures sink.new) result }
+    ensures took { OnOk result (K.took sink.new ≡ K.took sink.old ++ picture_text picture.now) }
+    ensures part { OnErr result
+        (GrowsPart (K.took sink.old) (K.took sink.new) (picture_text picture.now)) }
 {
     let format = picture.format();
     write_head(sink, &format)?;
@@ -46,6 +49,10 @@ fn write_head<K: ByteSink>(sink: &mut K, format: &Format) -> Result<(), DeviceFa
     ensures fault { OnErr result (AppendsPrefix (K.held sink.old) (K.held sink.new)
         (picture_head (fields_of format.now))) }
     ensures counted { CountsFaults (K.failures sink.old) (K.failures sink.new) result }
+    ensures took { OnOk result (K.took sink.new
+        ≡ K.took sink.old ++ picture_head (fields_of format.now)) }
+    ensures part { OnErr result (GrowsPart (K.took sink.old) (K.took sink.new)
+        (picture_head (fields_of format.now))) }
 {
     write_whole(sink, b"S20PIC01")?;
     write_whole(sink, &format_block(format))
@@ -66,6 +73,10 @@ fn write_samples<K: ByteSink>(
     ensures fault { OnErr result (AppendsPrefix (K.held sink.old) (K.held sink.new)
         (octets_in (bits_of format.now.depth) samples.now)) }
     ensures counted { CountsFaults (K.failures sink.old) (K.failures sink.new) result }
+    ensures took { OnOk result (K.took sink.new
+        ≡ K.took sink.old ++ octets_in (bits_of format.now.depth) samples.now) }
+    ensures part { OnErr result (GrowsPart (K.took sink.old) (K.took sink.new)
+        (octets_in (bits_of format.now.depth) samples.now)) }
 {
     let mut done = 0;
     while done < samples.len() {
@@ -92,6 +103,10 @@ fn write_piece<K: ByteSink>(
     ensures fault { OnErr result (AppendsPrefix (K.held sink.old) (K.held sink.new)
         (octets_in (bits_of format.now.depth) samples.now)) }
     ensures counted { CountsFaults (K.failures sink.old) (K.failures sink.new) result }
+    ensures took { OnOk result (K.took sink.new
+        ≡ K.took sink.old ++ octets_in (bits_of format.now.depth) samples.now) }
+    ensures part { OnErr result (GrowsPart (K.took sink.old) (K.took sink.new)
+        (octets_in (bits_of format.now.depth) samples.now)) }
 {
     pack(format, samples, octets);
     write_whole(sink, octets)

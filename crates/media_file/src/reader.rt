@@ -6,7 +6,7 @@ ghost use Rattle.st_format.specs.Device.{CountsFaults, CountsOne};
 ghost use Rattle.st_format.specs.History.{since};
 ghost use Rattle.st_format.specs.Turns.{CountsTurn, IsEnd, IsWithin, TakesTurn, arrived, came_of};
 ghost use Rattle.media_file.specs.Faults.{CountsDevice, CountsFault, IsOfFront};
-ghost use Rattle.media_file.specs.Fields.{Fails, Takes};
+ghost use Rattle.media_file.specs.Fields.{Fails, GaveFault, GaveValue, Takes};
 ghost use Rattle.media_file.specs.Fronts.{front_at};
 ghost use Rattle.media_file.specs.Given.{GivesNone, HasGiven};
 ghost use Rattle.media_file.specs.Reader.{CountsDeviceAt, GivesRecord, IsNewReader, StandsAfter};
@@ -140,6 +140,11 @@ impl<S: ByteSource> CaptureReader<S> {
             (λ r. Takes front_at (S.to_give source) (S.to_give r.source)
             (take r.text_len text.new)) }
         ensures fault { IfErr result (λ e. IsOfFront e.0 × Fails front_at (S.to_give source) e.0) }
+        // So it is of the octets that it gave, of every source, whatever is behind them.
+        ensures gave { IfOk result (λ r. GaveValue front_at (S.gave source) (S.gave r.source)
+            (take r.text_len text.new)) }
+        ensures gave_wrong { IfErr result
+            (λ e. GaveFault front_at (S.gave source) (S.gave e.1) (S.ended e.1) e.0) }
         ensures counted { MatchResult result (λ r. S.failures r.source ≡ S.failures source)
             (λ e. CountsFault e.0 (S.failures source) (S.failures e.1)) }
         // The records begin where the text ends.

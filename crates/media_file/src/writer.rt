@@ -174,9 +174,11 @@ impl<K: ByteSink> DatagramSink for CaptureWriter<K> {
 
     ghost failures = { λ w. w.failures };
 
-    ghost takes = { λ old octets new. TakesDatagram K.held K.failures K.names old octets new };
+    ghost takes = { λ old octets new.
+        TakesDatagram K.held K.took K.failures K.names old octets new };
 
-    ghost fails = { λ old octets new. FailsDatagram K.held K.failures K.names old octets new };
+    ghost fails = { λ old octets new.
+        FailsDatagram K.held K.took K.failures K.names old octets new };
 
     /// Writes the datagram's records.
     fn put(&mut self, octets: &[u8]) -> Result<(), SinkFault>
@@ -200,9 +202,9 @@ impl<K: ByteSink> DatagramSink for CaptureWriter<K> {
         // fault comes only where the sink failed in this call, or the writer had failed before.
         // After a fault nothing is written.
         ensures takes { OnOk result
-            (TakesDatagram K.held K.failures K.names self.old octets.now self.new) }
+            (TakesDatagram K.held K.took K.failures K.names self.old octets.now self.new) }
         ensures fails { OnErr result
-            (FailsDatagram K.held K.failures K.names self.old octets.now self.new) }
+            (FailsDatagram K.held K.took K.failures K.names self.old octets.now self.new) }
     {
         if self.failed {
             return self.fail();

@@ -117,6 +117,10 @@ pub fn write_capture<A: Allocator, K: ByteSink>(
         × AppendsPrefix (K.held sink.old) (K.held sink.new)
         (capture_text text.now (map entry_seen records.now))) }
     ensures counted { CountsDevice (K.failures sink.old) (K.failures sink.new) result }
+    ensures took { OnOk result (K.took sink.new
+        ≡ K.took sink.old ++ capture_text text.now (map entry_seen records.now)) }
+    ensures part { OnErr result (GrowsPart (K.took sink.old) (K.took sink.new)
+        (capture_text text.now (map entry_seen records.now))) }
 {
     write_front(sink, text)?;
     write_records(sink, records)?;
@@ -134,6 +138,10 @@ fn write_records<A: Allocator, K: ByteSink>(
         (AppendsPrefix (K.held sink.old) (K.held sink.new)
         (records_text (map entry_seen records.now))) }
     ensures counted { CountsFaults (K.failures sink.old) (K.failures sink.new) result }
+    ensures took { OnOk result (K.took sink.new
+        ≡ K.took sink.old ++ records_text (map entry_seen records.now)) }
+    ensures part { OnErr result (GrowsPart (K.took sink.old) (K.took sink.new)
+        (records_text (map entry_seen records.now))) }
 {
     for record in records {
         write_record(sink, record.path, record.moment, &record.octets)?;

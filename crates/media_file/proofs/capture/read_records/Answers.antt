@@ -5,6 +5,9 @@ use Rattle.std.proofs.Common.{ℕ, ◌-◌, ◌≡◌, ◌∙◌, ap, sym, subst
 use Rattle.std.proofs.lemmas.Result.{err_from_is_err_and}
 use Rattle.media_file.specs.Capture.{entry_seen}
 use Rattle.media_file.specs.Records.{Entry, entry_of}
+use Rattle.media_file.proofs.Gave.{fault_device}
+use Rattle.media_file.proofs.GaveLoops.{GoesGave, fault_memory, gave_end, gave_many, gave_record}
+use Rattle.media_file.proofs.GaveLoops.{gave_wrong}
 use Rattle.media_file.proofs.Loops.{GoesOn, goes_on_end, goes_on_fault, goes_on_many}
 use Rattle.media_file.proofs.Loops.{goes_on_more, none_left, one_less}
 use Rattle.media_file.proofs.capture.read_records.Goals as goal
@@ -46,6 +49,14 @@ loop-records-preserved g c =
           (goes_on_more c.args.limit _ _ _ _ _ first c.in-Some.first e
           (one_less c.args.limit _ _ _ _ c.if-left-eq0.false c.loop-records.invariant.goes)
           (rw c.in-Some.is at c.in_ok-first.ensures.given) c.in_ok-head.ensures.read);
+      gave =
+          subst (λ (es : List Entry). GoesGave c.args.limit
+          (g.S.ByteSource.gave c.args.source.now) (c.loop-records.left - 1) es
+          (g.S.ByteSource.gave c.record_rest.new.source)) (sym pushed)
+          (gave_record c.args.limit c.loop-records.left _ _ _ _ first c.in-Some.first e
+          c.if-left-eq0.false c.loop-records.invariant.gave
+          (rw c.in-Some.is at c.in_ok-first.ensures.gave) c.in_ok-head.ensures.gave
+          c.in_ok-head.ensures.read.fits c.in_ok-head.ensures.read.first_is);
       failures =
           c.in_ok-head.ensures.counted ∙ c.in_ok-first.ensures.counted
           ∙ c.loop-records.invariant.failures;
@@ -108,3 +119,28 @@ slice_bounds-from_slice-end-in-Some g c =
 
 pub returns-clause-counted : goal.returns-clause-counted
 returns-clause-counted g c = c.in_ok-first.ensures.counted ∙ c.loop-records.invariant.failures
+
+pub returns-then-left-eq0-clause-gave_wrong : goal.returns-then-left-eq0-clause-gave_wrong
+returns-then-left-eq0-clause-gave_wrong g c =
+    let l = c.loop-records in
+    gave_many c.args.limit _ _ _ (map entry_seen l.records.items) c.in-Some.first _
+    (rw c.if-left-eq0.true at l.invariant.gave) (rw c.in-Some.is at c.in_ok-first.ensures.gave)
+
+pub returns-in_err-head-clause-gave_wrong : goal.returns-in_err-head-clause-gave_wrong
+returns-in_err-head-clause-gave_wrong g c =
+    let l = c.loop-records in
+    let e = c.in_err-head.ensures in
+    let p =
+    err_from_is_err_and c.from_residual-in_err-head.result
+    c.from_residual-in_err-head.ensures.1 in
+    rw (p.1, p.2)
+    (gave_wrong c.args.limit l.left _ _ _ _ (map entry_seen l.records.items) c.in-Some.first
+    c.in_err-head.field-0.0 _ _ _ c.if-left-eq0.false l.invariant.gave
+    (rw c.in-Some.is at c.in_ok-first.ensures.gave) e.fault.named e.wrong e.cut)
+
+pub returns-clause-gave : goal.returns-clause-gave
+returns-clause-gave g c =
+    let none = none_left c.in_ok-first.field-0 c.in_default.not-Some in
+    gave_end c.args.limit c.loop-records.left _ _ _
+    (map entry_seen c.loop-records.records.items) _ c.loop-records.invariant.gave
+    (rw none at c.in_ok-first.ensures.gave) (c.in_ok-first.ensures.ended none)

@@ -7,9 +7,12 @@ use Rattle.std.proofs.lemmas.Result.{err_from_is_err_and}
 use Rattle.st_format.specs.Fields.{fields_of}
 use Rattle.st_format.specs.Pgroup.{bits_of}
 use Rattle.st_format.specs.Samples.{values_in}
-use Rattle.media_file.specs.Fields.{Fails, Takes, field_at}
+use Rattle.media_file.specs.Fields.{Fails, GaveFault, GaveValue, Takes, field_at}
 use Rattle.media_file.specs.PictureFile.{raster_at}
 use Rattle.media_file.proofs.PackedRaster.{groups_fail, groups_give}
+use Rattle.media_file.proofs.Gave.{fault_memory, fault_one}
+use Rattle.media_file.proofs.GavePictures.{groups_gave}
+use Rattle.st_format.proofs.Histories.{grew_none}
 use Rattle.media_file.proofs.packed_reading.read_groups.Goals as goal
 
 pub returns-in_err-read_field-clause-fault : goal.returns-in_err-read_field-clause-fault
@@ -65,3 +68,40 @@ returns-clause-size g c =
 
 pub returns-clause-counted : goal.returns-clause-counted
 returns-clause-counted g c = c.in_ok-read_field.ensures.counted
+
+pub returns-in_err-read_field-clause-gave_wrong : goal.returns-in_err-read_field-clause-gave_wrong
+returns-in_err-read_field-clause-gave_wrong g c =
+    let p =
+    err_from_is_err_and c.from_residual-in_err-read_field.result
+    c.from_residual-in_err-read_field.ensures.1 in
+    let f = c.in_err-read_field.field-0.0 in
+    let n : ℕ = c.raster_octets.result in
+    let size : length c.deref_mut.result.now ≡ n =
+    omega (arith, c.deref_mut.ensures.len, c.in_ok-resize.ensures.len) in
+    rw (p.1, p.2)
+    (fault_one (field_at n) (raster_at (fields_of c.args.format.now)) _ _ _ f
+    (λ was. groups_fail c.args.format.now was n f c.raster_octets.ensures)
+    (subst (λ (k : ℕ). GaveFault (field_at k) (g.S.ByteSource.gave c.args.source.now)
+    (g.S.ByteSource.gave c.read_field.new.source)
+    (g.S.ByteSource.ended c.read_field.new.source) f) size
+    c.in_err-read_field.ensures.gave_wrong))
+
+pub returns-clause-gave : goal.returns-clause-gave
+returns-clause-gave g c =
+    let buf : List ℕ = c.read_field.new.buf in
+    let rest : List ℕ = drop (length buf) c.resize.new.self.items in
+    let size : length c.deref_mut.result.now ≡ c.raster_octets.result =
+    omega (arith, c.deref_mut.ensures.len, c.in_ok-resize.ensures.len) in
+    let long : length buf ≡ c.resize.new.self.len =
+    omega (arith, size, c.in_ok-resize.ensures.len, c.read_field.ensures.room) in
+    subst (λ (os : List ℕ). GaveValue (raster_at (fields_of c.args.format.now))
+    (g.S.ByteSource.gave c.args.source.now) (g.S.ByteSource.gave c.read_field.new.source)
+    (values_in (bits_of c.args.format.now.depth) os))
+    (sym (take_at buf rest c.resize.new.self.len long))
+    (groups_gave c.args.format.now _ _ c.raster_octets.result buf c.raster_octets.ensures
+    (subst (λ (n : ℕ). GaveValue (field_at n) (g.S.ByteSource.gave c.args.source.now)
+    (g.S.ByteSource.gave c.read_field.new.source) buf) size
+    c.in_ok-read_field.ensures.gave))
+
+pub returns-clause-bytes : goal.returns-clause-bytes
+returns-clause-bytes g c = c.in_ok-read_field.ensures.bytes

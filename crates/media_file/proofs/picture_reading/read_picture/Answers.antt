@@ -1,5 +1,7 @@
 use Rattle.media_file.proofs.Seen.{found_picture, only_picture}
 use Rattle.media_file.proofs.PictureFaults.{picture_wrong}
+use Rattle.media_file.proofs.GavePictures.{gave_ended, gave_found, gave_grew, gave_once}
+use Rattle.media_file.proofs.GavePictures.{gave_refused}
 use Rattle.media_file.proofs.picture_reading.read_picture.Goals as goal
 
 pub returns-clause-found : goal.returns-clause-found
@@ -15,3 +17,26 @@ returns-clause-only g c p octets told is =
 pub returns-clause-wrong : goal.returns-clause-wrong
 returns-clause-wrong g c =
     picture_wrong _ c.read_whole_picture.result c.read_whole_picture.ensures.fault
+
+pub returns-clause-gave : goal.returns-clause-gave
+returns-clause-gave g c =
+    gave_found _ _ _ c.read_whole_picture.result c.read_whole_picture.ensures.gave
+    c.read_whole_picture.ensures.bytes c.read_whole_picture.ensures.whole
+
+pub returns-clause-ended : goal.returns-clause-ended
+returns-clause-ended g c =
+    gave_ended _ _ _ c.read_whole_picture.result c.read_whole_picture.ensures.gave
+
+pub returns-clause-gave_wrong : goal.returns-clause-gave_wrong
+returns-clause-gave_wrong g c =
+    gave_refused _ _ _ c.read_whole_picture.result c.read_whole_picture.ensures.gave_wrong
+
+pub returns-clause-gave_only : goal.returns-clause-gave_only
+returns-clause-gave_only g c p octets read is =
+    gave_once _ _ _ c.read_whole_picture.result c.read_whole_picture.ensures.gave
+    c.read_whole_picture.ensures.gave_wrong p octets read is
+
+pub returns-clause-grown : goal.returns-clause-grown
+returns-clause-grown g c =
+    gave_grew _ _ (g.S.ByteSource.ended c.read_whole_picture.new.source) c.read_whole_picture.result
+    c.read_whole_picture.ensures.gave c.read_whole_picture.ensures.gave_wrong

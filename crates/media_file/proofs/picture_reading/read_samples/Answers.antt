@@ -4,9 +4,12 @@ use Rattle.std.proofs.Common.{subst, sym, ap, arith}
 use Rattle.std.proofs.lemmas.List.{length-append, length-take-le, take_at}
 use Rattle.std.proofs.lemmas.Result.{err_from_is_err_and}
 use Rattle.st_format.specs.Pgroup.{bits_of}
-use Rattle.media_file.specs.Fields.{Fails, field_at}
-use Rattle.media_file.specs.PictureFile.{GivesSpelled}
+use Rattle.media_file.specs.Fields.{Fails, GaveFault, field_at}
+use Rattle.media_file.specs.PictureFile.{GaveSpelled, GivesSpelled}
 use Rattle.media_file.proofs.Spelt.{piece_fails, spelled_more, spelled_none}
+use Rattle.media_file.proofs.Gave.{fault_memory}
+use Rattle.media_file.proofs.GavePictures.{gave_cut, gave_no_samples, gave_samples, spelled_grew}
+use Rattle.st_format.proofs.Histories.{grew_none}
 use Rattle.media_file.proofs.picture_reading.read_samples.Goals as goal
 
 pub loop-octets-init : goal.loop-octets-init
@@ -21,6 +24,10 @@ loop-octets-init g c =
           subst (GivesSpelled b (g.S.ByteSource.to_give c.args.source.now)
           (g.S.ByteSource.to_give c.args.source.now)) (sym none)
           (spelled_none b (g.S.ByteSource.to_give c.args.source.now));
+      gave =
+          subst (GaveSpelled b (g.S.ByteSource.gave c.args.source.now)
+          (g.S.ByteSource.gave c.args.source.now)) (sym none)
+          (gave_no_samples b (g.S.ByteSource.gave c.args.source.now));
       failures = refl;
     }
 
@@ -49,6 +56,10 @@ loop-octets-preserved g c =
           subst (GivesSpelled b (g.S.ByteSource.to_give c.args.source.now)
           (g.S.ByteSource.to_give c.read_piece.new.source)) (sym items)
           (spelled_more b _ _ _ vs ws i.given r.read);
+      gave =
+          subst (GaveSpelled b (g.S.ByteSource.gave c.args.source.now)
+          (g.S.ByteSource.gave c.read_piece.new.source)) (sym items)
+          (gave_samples b _ _ _ vs ws i.gave r.gave);
       failures = r.counted ∙ i.failures;
     }
 
@@ -104,3 +115,31 @@ returns-clause-read g c = c.loop-octets.invariant.given
 
 pub returns-clause-counted : goal.returns-clause-counted
 returns-clause-counted g c = c.loop-octets.invariant.failures
+
+pub returns-in_err-read_piece-clause-gave_wrong : goal.returns-in_err-read_piece-clause-gave_wrong
+returns-in_err-read_piece-clause-gave_wrong g c =
+    let p =
+    err_from_is_err_and c.from_residual-in_err-read_piece.result
+    c.from_residual-in_err-read_piece.ensures.1 in
+    let i = c.loop-octets.invariant in
+    let e = c.piece_samples-n.ensures in
+    let r = c.in_err-read_piece.ensures in
+    let n : ℕ = c.piece_samples-n.result in
+    let size : ℕ = c.piece_octets-size.result in
+    let vs : List ℕ = c.loop-octets.samples.items in
+    let octets : List ℕ = c.loop-octets.octets in
+    let few : size ≤ 3600 = c.piece_octets-size.ensures.few in
+    let fits : size ≤ length octets = omega arith in
+    rw (p.1, p.2)
+    (gave_cut (bits_of c.args.format.now.depth) (length vs) n c.args.count size
+    (g.S.ByteSource.gave c.args.source.now) (g.S.ByteSource.gave c.loop-octets.source)
+    (g.S.ByteSource.gave c.read_piece.new.source)
+    (g.S.ByteSource.ended c.read_piece.new.source) vs c.in_err-read_piece.field-0.0
+    r.named (omega (arith, e.within)) c.piece_octets-size.ensures.exact refl i.gave
+    (subst (λ (k : ℕ). GaveFault (field_at k) (g.S.ByteSource.gave c.loop-octets.source)
+    (g.S.ByteSource.gave c.read_piece.new.source)
+    (g.S.ByteSource.ended c.read_piece.new.source) c.in_err-read_piece.field-0.0)
+    (length-take-le size octets fits) r.gave_wrong))
+
+pub returns-clause-gave : goal.returns-clause-gave
+returns-clause-gave g c = c.loop-octets.invariant.gave

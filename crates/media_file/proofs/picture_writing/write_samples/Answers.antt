@@ -3,11 +3,12 @@ use Rattle.std.proofs.lemmas.List.{take_all}
 use Rattle.std.specs.Io.KnownBytes.{Appends}
 use Rattle.st_format.specs.Device.{CountsOne}
 use Rattle.st_format.specs.Samples.{octets_in}
-use Rattle.std.proofs.Common.{◌≤◌, ◌∙◌, ℕ, List, length, drop, refl, arith}
+use Rattle.std.proofs.Common.{◌≤◌, ◌∙◌, ℕ, List, ◌++◌, length, drop, refl, arith, Some}
 use Rattle.std.proofs.lemmas.List.{length-append, length-drop, length-take-le}
 use Rattle.std.proofs.lemmas.Result.{err_from_is_err_and}
 use Rattle.st_format.specs.Pgroup.{bits_of}
 use Rattle.media_file.proofs.Spelt.{none_written, piece_cut, piece_whole}
+use Rattle.media_file.proofs.Written.{held_part, part_held}
 use Rattle.media_file.proofs.picture_writing.write_samples.Goals as goal
 
 pub loop-done-init : goal.loop-done-init
@@ -15,6 +16,8 @@ loop-done-init g c = record {
   within = omega arith;
   whole = omega arith;
   written = none_written (bits_of c.args.format.now.depth) (g.K.ByteSink.held c.args.sink.now);
+  taken =
+      none_written (bits_of c.args.format.now.depth) (Some (g.K.ByteSink.took c.args.sink.now));
   failures = refl;
   room = c.requires.room;
 }
@@ -34,6 +37,9 @@ loop-done-preserved g c =
       written =
           piece_whole (bits_of c.args.format.now.depth) c.loop-done.done c.piece_samples-n.result
           c.args.samples.now _ _ _ e.within i.whole e.whole i.written r.ok;
+      taken =
+          piece_whole (bits_of c.args.format.now.depth) c.loop-done.done c.piece_samples-n.result
+          c.args.samples.now (Some _) (Some _) (Some _) e.within i.whole e.whole i.taken r.took;
       failures = r.counted ∙ i.failures;
       room =
           omega (
@@ -121,3 +127,28 @@ returns-clause-ok g c =
 
 pub returns-clause-counted : goal.returns-clause-counted
 returns-clause-counted g c = c.loop-done.invariant.failures
+
+pub returns-in_err-write_piece-clause-part : goal.returns-in_err-write_piece-clause-part
+returns-in_err-write_piece-clause-part g c =
+    let p = err_from_is_err_and c.from_residual.result c.from_residual.ensures.1 in
+    let i = c.loop-done.invariant in
+    let e = c.piece_samples-n.ensures in
+    rw (p.1)
+    (held_part _ _ _
+    (piece_cut (bits_of c.args.format.now.depth) c.loop-done.done c.piece_samples-n.result
+    c.args.samples.now (Some _) (Some _) (Some _) e.within i.whole e.whole e.next
+    c.requires.whole i.taken (part_held _ _ _ c.in_err-write_piece.ensures.part)))
+
+pub returns-in_err-write_piece-clause-took : goal.returns-in_err-write_piece-clause-took
+returns-in_err-write_piece-clause-took g c =
+    let p =
+    err_from_is_err_and c.from_residual.result c.from_residual.ensures.1 in
+    rw (p.1) tt
+
+pub returns-clause-took : goal.returns-clause-took
+returns-clause-took g c =
+    subst
+    (λ (xs : List ℕ). g.K.ByteSink.took c.loop-done.sink
+    ≡ g.K.ByteSink.took c.args.sink.now ++ octets_in (bits_of c.args.format.now.depth) xs)
+    (take_all c.loop-done.done c.args.samples.now c.loop-done-test.false)
+    c.loop-done.invariant.taken

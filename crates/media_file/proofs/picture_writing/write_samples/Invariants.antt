@@ -1,13 +1,14 @@
-use Rattle.std.proofs.Common.{◌≡◌, ◌≤◌, ◌*◌, ◌%◌, ◌-◌, length, take}
+use Rattle.std.proofs.Common.{◌≡◌, ◌≤◌, ◌*◌, ◌%◌, ◌-◌, ◌++◌, length, take}
 use Rattle.std.specs.Io.KnownBytes.{Appends}
 use Rattle.st_format.specs.Pgroup.{bits_of}
 use Rattle.st_format.specs.Samples.{octets_in}
 use Rattle.media_file.proofs.picture_writing.write_samples.Given as goal
 
-pub record Writing (end eighths so_far count space : Type 0) : Type 0 where
+pub record Writing (end eighths so_far took count space : Type 0) : Type 0 where
   pub within : end
   pub whole : eighths
   pub written : so_far
+  pub taken : took
   pub failures : count
   pub room : space
 
@@ -17,6 +18,9 @@ invariant-loop-done g l = Writing
     (bits_of l.format.depth * l.done % 8 ≡ 0)
     (Appends (g.K.ByteSink.held l.initial.sink) (g.K.ByteSink.held l.sink)
     (octets_in (bits_of l.format.depth) (take l.done l.samples)))
+    (g.K.ByteSink.took l.sink
+    ≡ g.K.ByteSink.took l.initial.sink ++ octets_in (bits_of l.format.depth)
+    (take l.done l.samples))
     (g.K.ByteSink.failures l.sink ≡ g.K.ByteSink.failures l.initial.sink)
     (length l.piece ≡ 3600)
 

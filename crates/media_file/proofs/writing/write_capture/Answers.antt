@@ -7,7 +7,7 @@ use Rattle.media_file.specs.Capture.{entry_seen}
 use Rattle.media_file.specs.declared.front.Version.TheVariants.{Two}
 use Rattle.media_file.specs.Fronts.{front_text}
 use Rattle.media_file.specs.Records.{records_text}
-use Rattle.media_file.proofs.Written.{prefix_first, prefix_then}
+use Rattle.media_file.proofs.Written.{part_first, part_then, prefix_first, prefix_then, took_both}
 use Rattle.media_file.proofs.writing.write_capture.Goals as goal
 
 pub returns-in_err-write_front-clause-fault : goal.returns-in_err-write_front-clause-fault
@@ -74,3 +74,26 @@ returns-clause-ok g c =
 pub returns-clause-counted : goal.returns-clause-counted
 returns-clause-counted g c =
     c.in_ok-write_records.ensures.counted ∙ c.in_ok-write_front.ensures.counted
+
+pub returns-in_err-write_front-clause-part : goal.returns-in_err-write_front-clause-part
+returns-in_err-write_front-clause-part g c =
+    let p = err_from_is_err_and c.from_residual.result c.from_residual.ensures.1 in
+    rw (p.1)
+    (part_first _ _ (front_text Two c.args.text.now)
+    (records_text (map entry_seen c.args.records.now)) c.in_err-write_front.ensures.part)
+
+pub returns-in_err-write_records-clause-part : goal.returns-in_err-write_records-clause-part
+returns-in_err-write_records-clause-part g c =
+    let p =
+    err_from_is_err_and c.from_residual-in_err-write_records.result
+    c.from_residual-in_err-write_records.ensures.1 in
+    rw (p.1)
+    (part_then _ _ _ (front_text Two c.args.text.now)
+    (records_text (map entry_seen c.args.records.now)) c.in_ok-write_front.ensures.took
+    c.in_err-write_records.ensures.part)
+
+pub returns-clause-took : goal.returns-clause-took
+returns-clause-took g c =
+    took_both _ _ _ (front_text Two c.args.text.now)
+    (records_text (map entry_seen c.args.records.now)) c.in_ok-write_front.ensures.took
+    c.in_ok-write_records.ensures.took
