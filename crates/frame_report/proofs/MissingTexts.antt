@@ -1,6 +1,6 @@
 -- The lines of a row's missing runs, and of frames that miss nothing.
-use Rattle.std.proofs.Common.{◌≡◌, ℕ, zero, suc, ◌+◌, ◌-◌, ◌*◌, ◌<◌, ◌≤◌, Bool, true, false, not}
-use Rattle.std.proofs.Common.{List, [], ◌∷◌, ◌++◌, length, map, drop, get_or, refl, sym, ap, ◌∙◌}
+use Rattle.std.proofs.Common.{◌≡◌, ℕ, zero, suc, ◌+◌, ◌-◌, ◌<◌, Bool, true, false, not}
+use Rattle.std.proofs.Common.{List, [], ◌∷◌, ◌++◌, length, map, drop, get_or, refl, ap, ◌∙◌}
 use Rattle.std.proofs.Common.{cond, count_by, min, arith}
 use Rattle.std.specs.List.{flat_map, list_all}
 use Rattle.std.specs.declared.ops.Range.{Range}
@@ -10,11 +10,10 @@ use Rattle.std.proofs.lemmas.List.Sums.{sum_by-cons}
 use Rattle.st_format.specs.declared.cell.Cell.{Cell}
 use Rattle.st_format.specs.declared.cell.Cell.TheVariants.{Missing, Value, Contested}
 use Rattle.st_format.specs.Cell.{is_missing}
-use Rattle.st_format.specs.Member.{IsMember}
 use Rattle.st_format.specs.Pgroup.{pixel_group}
 use Rattle.st_format.specs.Position.{group_start, row_groups}
 use Rattle.st_format.specs.Raster.{IsWhole, Raster}
-use Rattle.frame_assembly.specs.Missing.{AreUnknownRuns, columns_of, known_groups, missing_runs_in}
+use Rattle.frame_assembly.specs.Missing.{columns_of, known_groups, missing_runs_in}
 use Rattle.frame_assembly.specs.Missing.{unknown_runs}
 use Rattle.frame_assembly.specs.Rows.{group_cells}
 use Rattle.frame_assembly.proofs.MissingFlags.{all_same, group_long}

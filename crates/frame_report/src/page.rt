@@ -1,7 +1,6 @@
 //! Text gathered on the stack, on its way to a sink.
 ghost use Rattle.std.specs.Prelude.{◌≡◌, ◌≤◌, ◌+◌, ◌++◌, [], OnErr, OnOk, length};
-ghost use Rattle.std.specs.Io.KnownBytes.{Appends};
-ghost use Rattle.st_format.specs.Device.{AppendsPrefix, CountsFaults};
+ghost use Rattle.st_format.specs.Device.{CountsFaults, GrowsPart};
 ghost use Rattle.frame_report.specs.Gathers.{Gathers, numbered_word};
 
 use itoa::Buffer;
@@ -48,9 +47,9 @@ impl Page {
     pub(crate) fn make_room<K: ByteSink>(&mut self, sink: &mut K) -> Result<(), DeviceFault>
         ensures room { OnOk result (length self.new + LINE ≤ GATHERED) }
         ensures ok { OnOk result
-            (Gathers (K.held sink.old) (K.held sink.new) self.old self.new []) }
+            (Gathers (K.took sink.old) (K.took sink.new) self.old self.new []) }
         ensures fault { OnErr result
-            (AppendsPrefix (K.held sink.old) (K.held sink.new) self.old) }
+            (GrowsPart (K.took sink.old) (K.took sink.new) self.old) }
         ensures counted { CountsFaults (K.failures sink.old) (K.failures sink.new) result }
     {
         if self.filled + LINE <= GATHERED {
@@ -62,9 +61,9 @@ impl Page {
     /// Writes what waits; then nothing does.
     pub(crate) fn write<K: ByteSink>(&mut self, sink: &mut K) -> Result<(), DeviceFault>
         ensures empty { OnOk result (self.new ≡ []) }
-        ensures ok { OnOk result (Appends (K.held sink.old) (K.held sink.new) self.old) }
+        ensures ok { OnOk result (K.took sink.new ≡ K.took sink.old ++ self.old) }
         ensures fault { OnErr result
-            (AppendsPrefix (K.held sink.old) (K.held sink.new) self.old) }
+            (GrowsPart (K.took sink.old) (K.took sink.new) self.old) }
         ensures counted { CountsFaults (K.failures sink.old) (K.failures sink.new) result }
     {
         write_whole(sink, &self.room[..self.filled])?;

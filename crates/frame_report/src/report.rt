@@ -1,7 +1,6 @@
 //! A receiver's report, to a sink.
 ghost use Rattle.std.specs.Prelude.{◌≡◌, ◌≤◌, ◌+◌, ◌++◌, OnErr, OnOk, codes, length};
-ghost use Rattle.std.specs.Io.KnownBytes.{Appends};
-ghost use Rattle.st_format.specs.Device.{AppendsPrefix, CountsFaults};
+ghost use Rattle.st_format.specs.Device.{CountsFaults, GrowsPart};
 ghost use Rattle.frame_report.specs.Gathers.{Gathers};
 ghost use Rattle.frame_report.specs.Report.{counts_line, frame_text, frames_text, report_text};
 
@@ -29,9 +28,9 @@ pub fn write_report<A: Allocator, K: ByteSink>(
     sink: &mut K,
 ) -> Result<(), ReportFault>
     ensures ok { OnOk result
-        (Appends (K.held sink.old) (K.held sink.new) (report_text receiver.now)) }
+        (K.took sink.new ≡ K.took sink.old ++ report_text receiver.now) }
     ensures fault { OnErr result
-        (AppendsPrefix (K.held sink.old) (K.held sink.new) (report_text receiver.now)) }
+        (GrowsPart (K.took sink.old) (K.took sink.new) (report_text receiver.now)) }
     ensures counted { CountsFaults (K.failures sink.old) (K.failures sink.new) result }
 {
     let mut page = opening_page(receiver);
@@ -43,9 +42,9 @@ pub fn write_report<A: Allocator, K: ByteSink>(
 /// Puts the last line, and writes what waits.
 fn write_end<K: ByteSink>(page: &mut Page, sink: &mut K) -> Result<(), DeviceFault>
     ensures ok { OnOk result
-        (Appends (K.held sink.old) (K.held sink.new) (page.old ++ codes "end\n")) }
+        (K.took sink.new ≡ K.took sink.old ++ (page.old ++ codes "end\n")) }
     ensures fault { OnErr result
-        (AppendsPrefix (K.held sink.old) (K.held sink.new) (page.old ++ codes "end\n")) }
+        (GrowsPart (K.took sink.old) (K.took sink.new) (page.old ++ codes "end\n")) }
     ensures counted { CountsFaults (K.failures sink.old) (K.failures sink.new) result }
 {
     page.make_room(sink)?;
@@ -60,10 +59,10 @@ fn put_frames<A: Allocator, K: ByteSink>(
     receiver: &Receiver<A>,
 ) -> Result<(), DeviceFault>
     ensures ok { OnOk result
-        (Gathers (K.held sink.old) (K.held sink.new) page.old page.new
+        (Gathers (K.took sink.old) (K.took sink.new) page.old page.new
         (frames_text receiver.now)) }
     ensures fault { OnErr result
-        (AppendsPrefix (K.held sink.old) (K.held sink.new)
+        (GrowsPart (K.took sink.old) (K.took sink.new)
         (page.old ++ frames_text receiver.now)) }
     ensures counted { CountsFaults (K.failures sink.old) (K.failures sink.new) result }
 {
@@ -81,10 +80,10 @@ fn put_frame<A: Allocator, K: ByteSink>(
     frame: &Frame<A>,
 ) -> Result<(), DeviceFault>
     ensures ok { OnOk result
-        (Gathers (K.held sink.old) (K.held sink.new) page.old page.new
+        (Gathers (K.took sink.old) (K.took sink.new) page.old page.new
         (frame_text timestamp frame.now)) }
     ensures fault { OnErr result
-        (AppendsPrefix (K.held sink.old) (K.held sink.new)
+        (GrowsPart (K.took sink.old) (K.took sink.new)
         (page.old ++ frame_text timestamp frame.now)) }
     ensures counted { CountsFaults (K.failures sink.old) (K.failures sink.new) result }
 {
@@ -102,10 +101,10 @@ fn put_counts<K: ByteSink>(
     counts: Counts,
 ) -> Result<(), DeviceFault>
     ensures ok { OnOk result
-        (Gathers (K.held sink.old) (K.held sink.new) page.old page.new
+        (Gathers (K.took sink.old) (K.took sink.new) page.old page.new
         (counts_line timestamp counts)) }
     ensures fault { OnErr result
-        (AppendsPrefix (K.held sink.old) (K.held sink.new)
+        (GrowsPart (K.took sink.old) (K.took sink.new)
         (page.old ++ counts_line timestamp counts)) }
     ensures counted { CountsFaults (K.failures sink.old) (K.failures sink.new) result }
 {

@@ -1,7 +1,7 @@
 //! Lines that are put row by row.
 ghost use Rattle.std.specs.Prelude.{◌≡◌, ℕ, List, ◌<◌, ◌++◌, OnErr, OnOk};
 ghost use Rattle.std.specs.List.{flat_map, range_with_len};
-ghost use Rattle.st_format.specs.Device.{AppendsPrefix, CountsFaults};
+ghost use Rattle.st_format.specs.Device.{CountsFaults, GrowsPart};
 ghost use Rattle.st_format.specs.Raster.{Raster};
 ghost use Rattle.frame_report.specs.Gathers.{Gathers};
 
@@ -23,9 +23,9 @@ pub(crate) trait RowLines {
     ) -> Result<(), DeviceFault>
         requires { row < frame.now.format.height }
         ensures ok { OnOk result
-            (Gathers (K.held sink.old) (K.held sink.new) page.old page.new (lines frame.now row)) }
+            (Gathers (K.took sink.old) (K.took sink.new) page.old page.new (lines frame.now row)) }
         ensures fault { OnErr result
-            (AppendsPrefix (K.held sink.old) (K.held sink.new)
+            (GrowsPart (K.took sink.old) (K.took sink.new)
             (page.old ++ lines frame.now row)) }
         ensures counted { CountsFaults (K.failures sink.old) (K.failures sink.new) result };
 }
@@ -37,10 +37,10 @@ pub(crate) fn put_rows<L: RowLines, A: Allocator, K: ByteSink>(
     frame: &Frame<A>,
 ) -> Result<(), DeviceFault>
     ensures ok { OnOk result
-        (Gathers (K.held sink.old) (K.held sink.new) page.old page.new
+        (Gathers (K.took sink.old) (K.took sink.new) page.old page.new
         (flat_map (L.lines frame.now) (range_with_len 0 frame.now.format.height))) }
     ensures fault { OnErr result
-        (AppendsPrefix (K.held sink.old) (K.held sink.new)
+        (GrowsPart (K.took sink.old) (K.took sink.new)
         (page.old ++ flat_map (L.lines frame.now) (range_with_len 0 frame.now.format.height))) }
     ensures counted { CountsFaults (K.failures sink.old) (K.failures sink.new) result }
 {

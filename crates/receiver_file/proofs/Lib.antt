@@ -1,4 +1,7 @@
 pub mod GroupRuns
+pub mod Growing
+pub mod Giving
+pub mod StateGave
 pub mod CutCells
 pub mod Spelling
 pub mod RowRuns

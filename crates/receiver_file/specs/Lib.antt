@@ -5,3 +5,4 @@ pub mod Front
 pub mod StateReading
 pub mod Marked
 pub mod StateFaults
+pub mod Giving

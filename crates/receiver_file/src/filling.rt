@@ -2,8 +2,9 @@
 ghost use Rattle.std.specs.Prelude.{◌≡◌, ◌<◌, ◌*◌, IfErr, OnOk, take};
 ghost use Rattle.st_format.specs.Position.{group_start, row_groups};
 ghost use Rattle.media_file.specs.Faults.{CountsDevice};
-ghost use Rattle.media_file.specs.Fields.{Fails, Takes};
+ghost use Rattle.media_file.specs.Fields.{Fails, GaveFault, Takes};
 ghost use Rattle.media_file.specs.Groups.{groups_at};
+ghost use Rattle.receiver_file.specs.Giving.{GaveOf};
 ghost use Rattle.receiver_file.specs.Known.{row_cut, rows_cut, shape_in};
 
 use crate::known::read_group;
@@ -26,6 +27,15 @@ pub(crate) fn read_rows<A: Allocator, S: ByteSource>(
         (λ f. Fails
         (groups_at (shape_in frame.old.format)
         (frame.old.format.height * row_groups frame.old.format)) (S.to_give source.old) f) }
+    ensures gave { OnOk result
+        (GaveOf (groups_at (shape_in frame.old.format)
+        (frame.old.format.height * row_groups frame.old.format)) (S.gave source.old)
+        (S.gave source.new) (rows_cut frame.new frame.old.format.height)) }
+    ensures gave_wrong { IfErr result
+        (λ f. GaveFault
+        (groups_at (shape_in frame.old.format)
+        (frame.old.format.height * row_groups frame.old.format))
+        (S.gave source.old) (S.gave source.new) (S.ended source.new) f) }
     ensures counted { CountsDevice (S.failures source.old) (S.failures source.new) result }
 {
     for row in 0..frame.format().height() {
@@ -50,6 +60,12 @@ fn read_row<A: Allocator, S: ByteSource>(
     ensures fault { IfErr result
         (λ f. Fails (groups_at (shape_in frame.old.format) (row_groups frame.old.format))
         (S.to_give source.old) f) }
+    ensures gave { OnOk result
+        (GaveOf (groups_at (shape_in frame.old.format) (row_groups frame.old.format))
+        (S.gave source.old) (S.gave source.new) (row_cut frame.new row)) }
+    ensures gave_wrong { IfErr result
+        (λ f. GaveFault (groups_at (shape_in frame.old.format) (row_groups frame.old.format))
+        (S.gave source.old) (S.gave source.new) (S.ended source.new) f) }
     ensures counted { CountsDevice (S.failures source.old) (S.failures source.new) result }
 {
     for group in 0..frame.format().row_groups() {

@@ -4,9 +4,10 @@ ghost use Rattle.st_format.specs.Fields.{fields_of};
 ghost use Rattle.path_merge.specs.Opening.{AreDifferent};
 ghost use Rattle.st_format.specs.Member.{IsMember};
 ghost use Rattle.media_file.specs.Faults.{CountsDevice};
-ghost use Rattle.media_file.specs.Fields.{Fails, Takes};
+ghost use Rattle.media_file.specs.Fields.{Fails, GaveFault, Takes};
 ghost use Rattle.media_file.specs.StateFile.{raster_groups};
 ghost use Rattle.media_file.specs.Groups.{groups_at};
+ghost use Rattle.receiver_file.specs.Giving.{GaveOf};
 ghost use Rattle.receiver_file.specs.Known.{shape_in};
 ghost use Rattle.receiver_file.specs.Saved.{cell_groups, kept_frames};
 ghost use Rattle.receiver_file.specs.StateReading.{all_held_at, new_of, timestamp_at};
@@ -46,6 +47,12 @@ pub(crate) fn read_frames<A: Allocator + Copy, S: ByteSource>(
         (S.to_give source.new) (kept_frames (fields_of format) it.window.items it.frames.items)) }
     ensures fault { IfErr result
         (λ f. Fails (all_held_at (fields_of format) count []) (S.to_give source.old) f) }
+    ensures gave { IfOk result
+        (λ it. GaveOf (all_held_at (fields_of format) count []) (S.gave source.old)
+        (S.gave source.new) (kept_frames (fields_of format) it.window.items it.frames.items)) }
+    ensures gave_wrong { IfErr result
+        (λ f. GaveFault (all_held_at (fields_of format) count [])
+        (S.gave source.old) (S.gave source.new) (S.ended source.new) f) }
     ensures counted { CountsDevice (S.failures source.old) (S.failures source.new) result }
 {
     let mut window = ArrayVec::new();
@@ -65,6 +72,11 @@ fn read_timestamp<S: ByteSource>(source: &mut S, before: &[u32]) -> Result<u32, 
     ensures read { IfOk result
         (λ t. Takes (timestamp_at before.now) (S.to_give source.old) (S.to_give source.new) t) }
     ensures fault { IfErr result (λ f. Fails (timestamp_at before.now) (S.to_give source.old) f) }
+    ensures gave { IfOk result
+        (λ t. GaveOf (timestamp_at before.now) (S.gave source.old) (S.gave source.new) t) }
+    ensures gave_wrong { IfErr result
+        (λ f. GaveFault (timestamp_at before.now)
+        (S.gave source.old) (S.gave source.new) (S.ended source.new) f) }
     ensures counted { CountsDevice (S.failures source.old) (S.failures source.new) result }
 {
     let timestamp = read_number(source)?;
@@ -93,6 +105,12 @@ fn read_frame<A: Allocator + Copy, S: ByteSource>(
     ensures fault { IfErr result
         (λ f. Fails (groups_at (shape_in format) (raster_groups (fields_of format)))
         (S.to_give source.old) f) }
+    ensures gave { IfOk result
+        (λ r. GaveOf (groups_at (shape_in format) (raster_groups (fields_of format)))
+        (S.gave source.old) (S.gave source.new) (cell_groups (fields_of format) r.cells)) }
+    ensures gave_wrong { IfErr result
+        (λ f. GaveFault (groups_at (shape_in format) (raster_groups (fields_of format)))
+        (S.gave source.old) (S.gave source.new) (S.ended source.new) f) }
     ensures counted { CountsDevice (S.failures source.old) (S.failures source.new) result }
 {
     let mut frame = Frame::new(alloc, format)?;

@@ -3,7 +3,8 @@
 ghost use Rattle.std.specs.Prelude.{◌≡◌, ◌<◌, ◌≤◌, IfErr, IfOk, OnOk};
 ghost use Rattle.st_format.specs.Device.{TellsOctets};
 ghost use Rattle.media_file.specs.Faults.{CountsDevice};
-ghost use Rattle.media_file.specs.Fields.{Fails, Takes};
+ghost use Rattle.media_file.specs.Fields.{Fails, GaveFault, Takes};
+ghost use Rattle.receiver_file.specs.Giving.{GaveOf};
 ghost use Rattle.receiver_file.specs.Front.{count_at, window_count, flag_at, flag_of, head_at};
 ghost use Rattle.receiver_file.specs.Front.{name_at};
 ghost use Rattle.receiver_file.specs.Front.{payload_type_at, payload_type_of, ssrc_at, ssrc_of};
@@ -29,6 +30,10 @@ pub(crate) struct Head {
 pub(crate) fn read_name<S: ByteSource>(source: &mut S) -> Result<(), FileFault>
     ensures read { OnOk result (Takes name_at (S.to_give source.old) (S.to_give source.new) tt) }
     ensures fault { IfErr result (λ f. Fails name_at (S.to_give source.old) f) }
+    ensures gave { OnOk result (GaveOf name_at (S.gave source.old) (S.gave source.new) tt) }
+    ensures gave_wrong { IfErr result
+        (λ f. GaveFault name_at
+        (S.gave source.old) (S.gave source.new) (S.ended source.new) f) }
     ensures octets { TellsOctets (S.to_give source.old) }
     ensures counted { CountsDevice (S.failures source.old) (S.failures source.new) result }
 {
@@ -46,6 +51,11 @@ pub(crate) fn read_head<S: ByteSource>(source: &mut S) -> Result<Head, FileFault
     ensures read { IfOk result
         (λ h. Takes head_at (S.to_give source.old) (S.to_give source.new) h) }
     ensures fault { IfErr result (λ f. Fails head_at (S.to_give source.old) f) }
+    ensures gave { IfOk result
+        (λ h. GaveOf head_at (S.gave source.old) (S.gave source.new) h) }
+    ensures gave_wrong { IfErr result
+        (λ f. GaveFault head_at
+        (S.gave source.old) (S.gave source.new) (S.ended source.new) f) }
     ensures counted { CountsDevice (S.failures source.old) (S.failures source.new) result }
 {
     let payload_type = read_payload_type(source)?;
@@ -63,6 +73,11 @@ fn read_payload_type<S: ByteSource>(source: &mut S) -> Result<u8, FileFault>
     ensures read { IfOk result
         (λ n. Takes payload_type_at (S.to_give source.old) (S.to_give source.new) n) }
     ensures fault { IfErr result (λ f. Fails payload_type_at (S.to_give source.old) f) }
+    ensures gave { IfOk result
+        (λ n. GaveOf payload_type_at (S.gave source.old) (S.gave source.new) n) }
+    ensures gave_wrong { IfErr result
+        (λ f. GaveFault payload_type_at
+        (S.gave source.old) (S.gave source.new) (S.ended source.new) f) }
     ensures counted { CountsDevice (S.failures source.old) (S.failures source.new) result }
 {
     let payload_type = read_octet(source)?;
@@ -77,6 +92,11 @@ fn read_ssrc<S: ByteSource>(source: &mut S) -> Result<Option<u32>, FileFault>
     ensures read { IfOk result
         (λ s. Takes ssrc_at (S.to_give source.old) (S.to_give source.new) s) }
     ensures fault { IfErr result (λ f. Fails ssrc_at (S.to_give source.old) f) }
+    ensures gave { IfOk result
+        (λ s. GaveOf ssrc_at (S.gave source.old) (S.gave source.new) s) }
+    ensures gave_wrong { IfErr result
+        (λ f. GaveFault ssrc_at
+        (S.gave source.old) (S.gave source.new) (S.ended source.new) f) }
     ensures counted { CountsDevice (S.failures source.old) (S.failures source.new) result }
 {
     let pinned = read_flag(source)?;
@@ -89,6 +109,11 @@ fn read_flag<S: ByteSource>(source: &mut S) -> Result<bool, FileFault>
     ensures read { IfOk result
         (λ b. Takes flag_at (S.to_give source.old) (S.to_give source.new) b) }
     ensures fault { IfErr result (λ f. Fails flag_at (S.to_give source.old) f) }
+    ensures gave { IfOk result
+        (λ b. GaveOf flag_at (S.gave source.old) (S.gave source.new) b) }
+    ensures gave_wrong { IfErr result
+        (λ f. GaveFault flag_at
+        (S.gave source.old) (S.gave source.new) (S.ended source.new) f) }
     ensures counted { CountsDevice (S.failures source.old) (S.failures source.new) result }
 {
     let code = read_octet(source)?;
@@ -123,6 +148,11 @@ fn read_count<S: ByteSource>(source: &mut S) -> Result<u8, FileFault>
     ensures read { IfOk result
         (λ n. Takes count_at (S.to_give source.old) (S.to_give source.new) n) }
     ensures fault { IfErr result (λ f. Fails count_at (S.to_give source.old) f) }
+    ensures gave { IfOk result
+        (λ n. GaveOf count_at (S.gave source.old) (S.gave source.new) n) }
+    ensures gave_wrong { IfErr result
+        (λ f. GaveFault count_at
+        (S.gave source.old) (S.gave source.new) (S.ended source.new) f) }
     ensures counted { CountsDevice (S.failures source.old) (S.failures source.new) result }
 {
     let count = read_octet(source)?;

@@ -7,8 +7,9 @@ ghost use Rattle.st_format.specs.Samples.{values_in};
 ghost use Rattle.st_format.specs.Position.{group_start, row_groups};
 ghost use Rattle.frame_assembly.specs.Rows.{group_cells};
 ghost use Rattle.media_file.specs.Faults.{CountsDevice};
-ghost use Rattle.media_file.specs.Fields.{Fails, Takes};
+ghost use Rattle.media_file.specs.Fields.{Fails, GaveFault, Takes};
 ghost use Rattle.media_file.specs.Groups.{are_zeroed, group_at};
+ghost use Rattle.receiver_file.specs.Giving.{GaveOf};
 ghost use Rattle.receiver_file.specs.Known.{IsKnown, cells_known, mixed_at, shape_in};
 
 use crate::octets::read_octet;
@@ -35,6 +36,12 @@ pub(crate) fn read_group<A: Allocator, S: ByteSource>(
         (group_cells frame.new row group)) }
     ensures fault { IfErr result
         (λ f. Fails (group_at (shape_in frame.old.format)) (S.to_give source.old) f) }
+    ensures gave { OnOk result
+        (GaveOf (group_at (shape_in frame.old.format)) (S.gave source.old) (S.gave source.new)
+        (group_cells frame.new row group)) }
+    ensures gave_wrong { IfErr result
+        (λ f. GaveFault (group_at (shape_in frame.old.format))
+        (S.gave source.old) (S.gave source.new) (S.ended source.new) f) }
     ensures counted { CountsDevice (S.failures source.old) (S.failures source.new) result }
 {
     let format = frame.format();
@@ -82,6 +89,12 @@ fn read_known<S: ByteSource>(
         (S.to_give source.new) (cells_known (shape_in format.now) state octets.new)) }
     ensures fault { IfErr result
         (λ f. Fails (group_at (shape_in format.now)) (S.to_give source.old) f) }
+    ensures gave { IfOk result
+        (λ state. GaveOf (group_at (shape_in format.now)) (S.gave source.old)
+        (S.gave source.new) (cells_known (shape_in format.now) state octets.new)) }
+    ensures gave_wrong { IfErr result
+        (λ f. GaveFault (group_at (shape_in format.now))
+        (S.gave source.old) (S.gave source.new) (S.ended source.new) f) }
     ensures counted { CountsDevice (S.failures source.old) (S.failures source.new) result }
 {
     match read_octet(source)? {
@@ -109,6 +122,12 @@ fn read_mixed<S: ByteSource>(
         (S.to_give source.new) (cells_known (shape_in format.now) state octets.new)) }
     ensures fault { IfErr result
         (λ f. Fails (mixed_at (shape_in format.now)) (S.to_give source.old) f) }
+    ensures gave { IfOk result
+        (λ state. GaveOf (mixed_at (shape_in format.now)) (S.gave source.old)
+        (S.gave source.new) (cells_known (shape_in format.now) state octets.new)) }
+    ensures gave_wrong { IfErr result
+        (λ f. GaveFault (mixed_at (shape_in format.now))
+        (S.gave source.old) (S.gave source.new) (S.ended source.new) f) }
     ensures counted { CountsDevice (S.failures source.old) (S.failures source.new) result }
 {
     let mut mask = [0u8; 2];

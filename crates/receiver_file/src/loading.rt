@@ -2,12 +2,14 @@
 ghost use Rattle.std.specs.Prelude.{◌≡◌, ℕ, ◌≤◌, ◌<◌, All, List, [], Some, length, IfErr, IfOk};
 ghost use Rattle.std.specs.Prelude.{OnOk, MatchResult};
 ghost use Rattle.std.specs.Io.KnownBytes.{IsAtEnd};
-ghost use Rattle.st_format.specs.Device.{TellsOctets};
+ghost use Rattle.st_format.specs.Device.{AreOctets, TellsOctets};
+ghost use Rattle.st_format.specs.History.{GrewFrom, IsRead};
 ghost use Rattle.path_merge.specs.Frames.{Holds, IsReceiver, State};
 ghost use Rattle.path_merge.specs.Opening.{AreDifferent};
 ghost use Rattle.media_file.specs.Faults.{CountsDevice, IfContent, IsMachine};
-ghost use Rattle.media_file.specs.Fields.{Fails, Takes};
+ghost use Rattle.media_file.specs.Fields.{Fails, GaveFault, Takes};
 ghost use Rattle.media_file.specs.StateFile.{Kept, state_text};
+ghost use Rattle.receiver_file.specs.Giving.{GaveAllOf};
 ghost use Rattle.receiver_file.specs.Saved.{IsReceiverFile, IsSaved, IsWritable, kept_of};
 ghost use Rattle.receiver_file.specs.StateFaults.{IsStateFault};
 ghost use Rattle.receiver_file.specs.StateReading.{state_walk};
@@ -64,6 +66,27 @@ pub fn load_receiver<A: Allocator + Copy, S: ByteSource>(
     ensures read { IfOk result
         (λ r. Takes state_walk (S.to_give source.old) (S.to_give source.new) (kept_of r)) }
     ensures fault { IfErr result (λ f. Fails state_walk (S.to_give source.old) f) }
+    // The same of what any source gave, whether it told its octets or not: all of it was read, up
+    // to its end, and is the file of the receiver that is answered.
+    ensures gave { IfOk result (λ r. (octets : List ℕ)
+        → IsRead (S.gave source.old) (S.gave source.new) (S.ended source.new) octets
+        → IsReceiverFile octets r × IsSaved (kept_of r)) }
+    ensures ended { OnOk result (S.ended source.new) }
+    ensures gave_wrong { IfErr result (λ f. (octets : List ℕ)
+        → IsRead (S.gave source.old) (S.gave source.new) (S.ended source.new) octets
+        → AreOctets octets → IfContent f (IsStateFault f octets)) }
+    ensures gave_only { (k : Kept)
+        → IsRead (S.gave source.old) (S.gave source.new) (S.ended source.new) (state_text k)
+        → IsSaved k → MatchResult result (λ r. kept_of r ≡ k) IsMachine }
+    ensures gave_same { (s : State)
+        → IsRead (S.gave source.old) (S.gave source.new) (S.ended source.new)
+        (state_text (kept_of s)) → IsWritable s
+        → IfOk result (λ r. (r.opening ≡ s.opening) × (r.frames ≡ s.frames)) }
+    ensures gave_holds { (s : State) (datagrams : List (List ℕ))
+        → IsRead (S.gave source.old) (S.gave source.new) (S.ended source.new)
+        (state_text (kept_of s)) → IsWritable s
+        → Holds s datagrams → IfOk result (λ r. Holds r datagrams) }
+    ensures grown { GrewFrom (S.gave source.old) (S.gave source.new) }
 {
     read_receiver(alloc, source)
 }
@@ -76,6 +99,10 @@ fn read_receiver<A: Allocator + Copy, S: ByteSource>(
     ensures read { IfOk result
         (λ r. Takes state_walk (S.to_give source.old) (S.to_give source.new) (kept_of r)) }
     ensures fault { IfErr result (λ f. Fails state_walk (S.to_give source.old) f) }
+    ensures gave { IfOk result (λ r. GaveAllOf state_walk
+        (S.gave source.old) (S.gave source.new) (S.ended source.new) (kept_of r)) }
+    ensures gave_wrong { IfErr result (λ f. GaveFault state_walk
+        (S.gave source.old) (S.gave source.new) (S.ended source.new) f) }
     ensures counted { CountsDevice (S.failures source.old) (S.failures source.new) result }
     ensures octets { TellsOctets (S.to_give source.old) }
     ensures receiver { IfOk result (λ r. IsReceiver r) }

@@ -1,7 +1,8 @@
 //! The pgroups of a frame, to a sink.
-ghost use Rattle.std.specs.Prelude.{◌≡◌, ◌<◌, ◌≤◌, ◌+◌, ◌*◌, IfOk, OnErr, OnOk, length, take};
+ghost use Rattle.std.specs.Prelude.{◌≡◌, ◌<◌, ◌≤◌, ◌+◌, ◌*◌, ◌++◌, Some, IfOk, OnErr, OnOk, length};
+ghost use Rattle.std.specs.Prelude.{take};
 ghost use Rattle.std.specs.Io.KnownBytes.{Appends};
-ghost use Rattle.st_format.specs.Device.{AppendsPrefix, CountsFaults};
+ghost use Rattle.st_format.specs.Device.{AppendsPrefix, CountsFaults, GrowsPart};
 ghost use Rattle.media_file.specs.Groups.{groups_text};
 ghost use Rattle.receiver_file.specs.Known.{row_cut, rows_cut, shape_in};
 ghost use Rattle.receiver_file.specs.Marked.{Passes, marked_text};
@@ -26,6 +27,13 @@ pub(crate) fn write_rows<A: Allocator, K: ByteSink>(
         (AppendsPrefix (K.held sink.old) (K.held sink.new)
         (groups_text (shape_in frame.now.format) (rows_cut frame.now frame.now.format.height))) }
     ensures counted { CountsFaults (K.failures sink.old) (K.failures sink.new) result }
+    ensures took { OnOk result
+        (K.took sink.new
+        ≡ K.took sink.old
+        ++ groups_text (shape_in frame.now.format) (rows_cut frame.now frame.now.format.height)) }
+    ensures took_part { OnErr result
+        (GrowsPart (K.took sink.old) (K.took sink.new)
+        (groups_text (shape_in frame.now.format) (rows_cut frame.now frame.now.format.height))) }
 {
     for row in 0..frame.format().height() {
         write_row(sink, frame, row)?;
@@ -46,6 +54,13 @@ fn write_row<A: Allocator, K: ByteSink>(
         (AppendsPrefix (K.held sink.old) (K.held sink.new)
         (groups_text (shape_in frame.now.format) (row_cut frame.now row))) }
     ensures counted { CountsFaults (K.failures sink.old) (K.failures sink.new) result }
+    ensures took { OnOk result
+        (K.took sink.new
+        ≡ K.took sink.old
+        ++ groups_text (shape_in frame.now.format) (row_cut frame.now row)) }
+    ensures took_part { OnErr result
+        (GrowsPart (K.took sink.old) (K.took sink.new)
+        (groups_text (shape_in frame.now.format) (row_cut frame.now row))) }
 {
     let mut room = [0u8; GATHERED];
     let marks = frame.marks(row);
@@ -76,6 +91,10 @@ fn write_marked<K: ByteSink>(
     ensures fault { OnErr result (AppendsPrefix (K.held sink.old) (K.held sink.new)
         (marked_text size marks.now octets.now)) }
     ensures counted { CountsFaults (K.failures sink.old) (K.failures sink.new) result }
+    ensures took { OnOk result
+        (K.took sink.new ≡ K.took sink.old ++ marked_text size marks.now octets.now) }
+    ensures took_part { OnErr result
+        (GrowsPart (K.took sink.old) (K.took sink.new) (marked_text size marks.now octets.now)) }
 {
     let mut filled = 0;
     for group in 0..marks.len() {
@@ -97,6 +116,10 @@ fn make_room<K: ByteSink>(sink: &mut K, room: &[u8], filled: usize) -> Result<us
     ensures fault { OnErr result (AppendsPrefix (K.held sink.old) (K.held sink.new)
         (take filled room.now)) }
     ensures counted { CountsFaults (K.failures sink.old) (K.failures sink.new) result }
+    ensures took_first { IfOk result (λ n. Passes (Some (K.took sink.old)) (Some (K.took sink.new))
+        (take filled room.now) (take n room.now)) }
+    ensures took_part { OnErr result
+        (GrowsPart (K.took sink.old) (K.took sink.new) (take filled room.now)) }
 {
     if filled + MOST_TEXT <= room.len() {
         return Ok(filled);

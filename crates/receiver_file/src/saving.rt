@@ -2,7 +2,7 @@
 ghost use Rattle.std.specs.Prelude.{◌≡◌, ◌∷◌, ◌++◌, [], IfErr, Ok, OnErr, OnOk};
 ghost use Rattle.std.specs.Int.{to_be_bytes};
 ghost use Rattle.std.specs.Io.KnownBytes.{Appends};
-ghost use Rattle.st_format.specs.Device.{AppendsPrefix, CountsFaults};
+ghost use Rattle.st_format.specs.Device.{AppendsPrefix, CountsFaults, GrowsPart};
 ghost use Rattle.path_merge.specs.Frames.{IsReceiver, State};
 ghost use Rattle.media_file.specs.Faults.{CountsDevice, IsDevice};
 ghost use Rattle.media_file.specs.StateFile.{opening_text, ssrc_text, state_text};
@@ -40,6 +40,11 @@ pub fn save_receiver<A: Allocator, K: ByteSink>(
         (λ f. IsDevice f
         × AppendsPrefix (K.held sink.old) (K.held sink.new) (state_text (kept_of receiver.now))) }
     ensures counted { CountsDevice (K.failures sink.old) (K.failures sink.new) result }
+    // What any sink took of it, whether it tells what it holds or not.
+    ensures took { OnOk result
+        (K.took sink.new ≡ K.took sink.old ++ state_text (kept_of receiver.now)) }
+    ensures took_part { OnErr result
+        (GrowsPart (K.took sink.old) (K.took sink.new) (state_text (kept_of receiver.now))) }
     // Each receiver can be written: its file is read, to its end, as what is kept of it,
     ensures writable { IsWritable receiver.now }
     ensures again { state_walk (state_text (kept_of receiver.now)) ≡ Ok (kept_of receiver.now, []) }
@@ -65,6 +70,10 @@ fn write_front<A: Allocator, K: ByteSink>(
         (AppendsPrefix (K.held sink.old) (K.held sink.new)
         (kept_front_text (kept_of receiver.now))) }
     ensures counted { CountsFaults (K.failures sink.old) (K.failures sink.new) result }
+    ensures took { OnOk result
+        (K.took sink.new ≡ K.took sink.old ++ kept_front_text (kept_of receiver.now)) }
+    ensures took_part { OnErr result
+        (GrowsPart (K.took sink.old) (K.took sink.new) (kept_front_text (kept_of receiver.now))) }
 {
     write_whole(sink, RECEIVER_ONE)?;
     write_whole(sink, &format_block(&receiver.format()))?;
@@ -104,6 +113,10 @@ fn write_frames<A: Allocator, K: ByteSink>(
         (AppendsPrefix (K.held sink.old) (K.held sink.new)
         (kept_frames_text (kept_of receiver.now))) }
     ensures counted { CountsFaults (K.failures sink.old) (K.failures sink.new) result }
+    ensures took { OnOk result
+        (K.took sink.new ≡ K.took sink.old ++ kept_frames_text (kept_of receiver.now)) }
+    ensures took_part { OnErr result
+        (GrowsPart (K.took sink.old) (K.took sink.new) (kept_frames_text (kept_of receiver.now))) }
 {
     for timestamp in receiver.window() {
         write_frame(sink, *timestamp, receiver.frame(*timestamp).unwrap())?;
@@ -121,6 +134,10 @@ fn write_frame<A: Allocator, K: ByteSink>(
     ensures fault { OnErr result
         (AppendsPrefix (K.held sink.old) (K.held sink.new) (kept_frame_text timestamp frame.now)) }
     ensures counted { CountsFaults (K.failures sink.old) (K.failures sink.new) result }
+    ensures took { OnOk result
+        (K.took sink.new ≡ K.took sink.old ++ kept_frame_text timestamp frame.now) }
+    ensures took_part { OnErr result
+        (GrowsPart (K.took sink.old) (K.took sink.new) (kept_frame_text timestamp frame.now)) }
 {
     write_whole(sink, &timestamp.to_be_bytes())?;
     write_rows(sink, frame)

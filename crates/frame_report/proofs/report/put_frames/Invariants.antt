@@ -10,6 +10,6 @@ pub record Putting (so_far count : Type 0) : Type 0 where
 
 abbrev pub invariant-loop-timestamp : goal.invariant-loop-timestamp
 invariant-loop-timestamp g l = Putting
-    (IsPut (g.K.ByteSink.held l.initial.sink) (g.K.ByteSink.held l.sink) l.initial.page l.page
+    (IsPut (g.K.ByteSink.took l.initial.sink) (g.K.ByteSink.took l.sink) l.initial.page l.page
     (frames_from l.receiver l.timestamp-index) (frames_text l.receiver))
     (g.K.ByteSink.failures l.sink ≡ g.K.ByteSink.failures l.initial.sink)

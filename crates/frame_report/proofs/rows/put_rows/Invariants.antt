@@ -10,7 +10,7 @@ pub record Putting (so_far count : Type 0) : Type 0 where
 
 abbrev pub invariant-loop-row : goal.invariant-loop-row
 invariant-loop-row g l = Putting
-    (IsPut (g.K.ByteSink.held l.initial.sink) (g.K.ByteSink.held l.sink) l.initial.page l.page
+    (IsPut (g.K.ByteSink.took l.initial.sink) (g.K.ByteSink.took l.sink) l.initial.page l.page
     (texts_from (g.L.RowLines.lines l.frame) l.row l.frame.format.height)
     (flat_map (g.L.RowLines.lines l.frame) (range_with_len 0 l.frame.format.height)))
     (g.K.ByteSink.failures l.sink ≡ g.K.ByteSink.failures l.initial.sink)

@@ -1,4 +1,5 @@
-use Rattle.std.proofs.Common.{◌≡◌, ◌<◌, ◌*◌, ◌∙◌, ap, refl, sym, subst, take, drop, ℕ, List, Option}
+use Rattle.std.proofs.Common.{◌≡◌, ◌<◌, ◌+◌, ◌*◌, ◌∙◌, ap, refl, sym, subst, take, drop, ℕ, List}
+use Rattle.std.proofs.Common.{Option}
 use Rattle.std.proofs.Common.{arith}
 use Rattle.std.proofs.lemmas.Result.{err_from_is_err_and}
 use Rattle.st_format.specs.declared.format.Format.{Format}
@@ -10,6 +11,10 @@ use Rattle.media_file.specs.Groups.{Shape, group_at, groups_at}
 use Rattle.media_file.specs.StateFile.{cut_cells}
 use Rattle.receiver_file.specs.Known.{row_cut, shape_in}
 use Rattle.receiver_file.proofs.RowReads.{read_next, read_none, read_stop, start_less, take_less}
+use Rattle.receiver_file.proofs.Giving.{fault_two, gave_none, gave_two}
+use Rattle.media_file.specs.Fields.{GaveFault}
+use Rattle.receiver_file.specs.Giving.{GaveOf}
+use Rattle.receiver_file.proofs.RowRuns.{row_from}
 use Rattle.receiver_file.proofs.filling.read_row.Goals as goal
 
 pub loop-group-init : goal.loop-group-init
@@ -19,6 +24,11 @@ loop-group-init g c =
       before = refl;
       goes =
           read_none (shape_in c.args.frame.now.format) _ _ _;
+      gave =
+          let s : Shape = shape_in c.args.frame.now.format in
+          let cells =
+          drop (group_start c.args.frame.now.format c.args.row 0) c.args.frame.now.cells in
+          gave_none (groups_at s 0) (cut_cells s.samples 0 cells) _ (read_none s s.samples cells);
       failures = refl;
     }
 
@@ -86,6 +96,26 @@ loop-group-preserved g c =
           now.cells;
     }) c.args.row c.loop-group.group)) c.in_ok-read_group.ensures.format
     c.in_ok-read_group.ensures.read) in
+    let gave : GaveOf (group_at s) (g.S.ByteSource.gave c.loop-group.source)
+    (g.S.ByteSource.gave c.read_group.new.source)
+    (group_cells (record { format = f; cells = now.cells }) c.args.row c.loop-group.group) =
+    subst (λ (h : Format). GaveOf (group_at (shape_in h))
+    (g.S.ByteSource.gave c.loop-group.source)
+    (g.S.ByteSource.gave c.read_group.new.source)
+    (group_cells (record {
+      format = h;
+      cells =
+          now.cells;
+    }) c.args.row c.loop-group.group)) c.loop-group.invariant.format
+    (subst (λ (h : Format). GaveOf (group_at (shape_in c.loop-group.frame.format))
+    (g.S.ByteSource.gave c.loop-group.source)
+    (g.S.ByteSource.gave c.read_group.new.source)
+    (group_cells (record {
+      format = h;
+      cells =
+          now.cells;
+    }) c.args.row c.loop-group.group)) c.in_ok-read_group.ensures.format
+    c.in_ok-read_group.ensures.gave) in
     record {
       format = format;
       before =
@@ -95,6 +125,15 @@ loop-group-preserved g c =
       goes =
           read_next s s.samples a c.loop-group.group c.loop-group.frame.cells now.cells _ _ _ stays
           c.loop-group.invariant.goes given;
+      gave =
+          gave_two (groups_at s c.loop-group.group) (group_at s)
+          (groups_at s (c.loop-group.group + 1))
+          (cut_cells s.samples c.loop-group.group (row_from s.samples a c.loop-group.frame.cells))
+          (group_cells (record { format = f; cells = now.cells }) c.args.row c.loop-group.group)
+          (cut_cells s.samples (c.loop-group.group + 1) (row_from s.samples a now.cells)) _ _ _
+          (λ was mid left. read_next s s.samples a c.loop-group.group c.loop-group.frame.cells
+          now.cells was mid left stays)
+          c.loop-group.invariant.gave gave;
       failures = c.in_ok-read_group.ensures.counted ∙ c.loop-group.invariant.failures;
     }
 
@@ -129,3 +168,44 @@ returns-clause-read g c =
     (subst (λ (k : ℕ). Takes (groups_at s k) old new
     (cut_cells s.samples k (drop (group_start f c.args.row 0) c.loop-group.frame.cells)))
     (same ∙ n) c.loop-group.invariant.goes)
+
+pub returns-in_err-read_group-clause-gave_wrong : goal.returns-in_err-read_group-clause-gave_wrong
+returns-in_err-read_group-clause-gave_wrong g c =
+    let p = err_from_is_err_and c.from_residual.result c.from_residual.ensures.1 in
+    let f : Format = c.args.frame.now.format in
+    let s : Shape = shape_in f in
+    let e = c.in_err-read_group.field-0.0 in
+    let gs =
+    cut_cells s.samples c.loop-group.group
+    (drop (group_start f c.args.row 0) c.loop-group.frame.cells) in
+    let n : c.row_groups-group-end.result ≡ row_groups f =
+    c.row_groups-group-end.ensures.value
+    ∙ ap (λ (x : Format). row_groups x) c.format.ensures.format in
+    let lt : c.loop-group.group < row_groups f =
+    subst (λ (k : ℕ). c.loop-group.group < k) n c.loop-group-test.true in
+    rw (p.1, p.2)
+    (fault_two (groups_at s c.loop-group.group) (group_at s) (groups_at s (row_groups f)) gs
+    _ _ _ _ e
+    (λ was mid. read_stop s c.loop-group.group (row_groups f) was mid gs e lt)
+    c.loop-group.invariant.gave
+    (subst (λ (h : Format). GaveFault (group_at (shape_in h))
+    (g.S.ByteSource.gave c.loop-group.source) (g.S.ByteSource.gave c.read_group.new.source)
+    (g.S.ByteSource.ended c.read_group.new.source) e)
+    c.loop-group.invariant.format c.in_err-read_group.ensures.gave_wrong))
+
+pub returns-clause-gave : goal.returns-clause-gave
+returns-clause-gave g c =
+    let f : Format = c.args.frame.now.format in
+    let s : Shape = shape_in f in
+    let old : List ℕ = g.S.ByteSource.gave c.args.source.now in
+    let new : List ℕ = g.S.ByteSource.gave c.loop-group.source in
+    let n : c.row_groups-group-end.result ≡ row_groups f =
+    c.row_groups-group-end.ensures.value
+    ∙ ap (λ (x : Format). row_groups x) c.format.ensures.format in
+    let same : c.loop-group.group ≡ c.row_groups-group-end.result = omega arith in
+    subst (λ (h : Format). GaveOf (groups_at s (row_groups f)) old new
+    (row_cut (record { format = h; cells = c.loop-group.frame.cells }) c.args.row))
+    (sym c.loop-group.invariant.format)
+    (subst (λ (k : ℕ). GaveOf (groups_at s k) old new
+    (cut_cells s.samples k (drop (group_start f c.args.row 0) c.loop-group.frame.cells)))
+    (same ∙ n) c.loop-group.invariant.gave)

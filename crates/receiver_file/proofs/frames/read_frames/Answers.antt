@@ -11,6 +11,15 @@ use Rattle.st_format.specs.Raster.{Raster}
 use Rattle.path_merge.specs.Opening.{AreDifferent}
 use Rattle.receiver_file.proofs.FrameReads.{frames_push, frames_start, groups_stop, stamp_stop}
 use Rattle.receiver_file.proofs.Stamped.{all_next, all_none, different_next}
+use Rattle.media_file.proofs.Gave.{fault_memory}
+use Rattle.receiver_file.proofs.Giving.{fault_three, fault_two, gave_none, gave_three}
+use Rattle.receiver_file.proofs.Giving.{three_grew}
+use Rattle.media_file.specs.Groups.{groups_at}
+use Rattle.media_file.specs.StateFile.{raster_groups}
+use Rattle.receiver_file.specs.Giving.{GaveOf}
+use Rattle.receiver_file.specs.Known.{shape_in}
+use Rattle.receiver_file.specs.Saved.{cell_groups}
+use Rattle.receiver_file.specs.StateReading.{timestamp_at}
 use Rattle.receiver_file.proofs.frames.read_frames.Goals as goal
 
 pub loop-init : goal.loop-init
@@ -24,6 +33,12 @@ loop-init g c =
       different = subst (λ (w : List ℕ). AreDifferent w) (sym c.new-window.ensures) tt;
       goes =
           frames_start _ c.new-window.result.items c.new-frames.result.items _ c.new-window.ensures;
+      gave =
+          gave_none (all_held_at (fields_of c.args.format) 0 [])
+          (kept_frames (fields_of c.args.format) c.new-window.result.items
+          c.new-frames.result.items) _
+          (λ known. frames_start (fields_of c.args.format) c.new-window.result.items
+          c.new-frames.result.items known c.new-window.ensures);
       failures = refl;
     }
 
@@ -74,6 +89,16 @@ loop-preserved g c =
           c.as_slice.result.now rs c.push-in-loop.new.self.items t r _ _ _ _ ws xs
           c.as_slice.ensures.value c.loop.invariant.one_each c.loop.invariant.goes
           c.in_ok-timestamp.ensures.read c.in_ok-frame.ensures.read;
+      gave =
+          let fs = fields_of c.args.format in
+          gave_three (all_held_at fs c.loop.counter []) (timestamp_at c.as_slice.result.now)
+          (groups_at (shape_in c.args.format) (raster_groups fs))
+          (all_held_at fs (c.loop.counter + 1) []) (kept_frames fs w rs) t (cell_groups fs r.cells)
+          (kept_frames fs c.push.new.self.items c.push-in-loop.new.self.items) _ _ _ _
+          (λ was mid next left. frames_push fs c.loop.counter w c.push.new.self.items
+          c.as_slice.result.now rs c.push-in-loop.new.self.items t r was mid next left ws xs
+          c.as_slice.ensures.value c.loop.invariant.one_each)
+          c.loop.invariant.gave c.in_ok-timestamp.ensures.gave c.in_ok-frame.ensures.gave;
       failures =
           c.in_ok-frame.ensures.counted ∙ c.in_ok-timestamp.ensures.counted
           ∙ c.loop.invariant.failures;
@@ -127,3 +152,64 @@ returns-clause-read g c =
 
 pub returns-clause-counted : goal.returns-clause-counted
 returns-clause-counted g c = c.loop.invariant.failures
+
+pub returns-in_err-timestamp-clause-gave_wrong : goal.returns-in_err-timestamp-clause-gave_wrong
+returns-in_err-timestamp-clause-gave_wrong g c =
+    let p =
+    err_from_is_err_and c.from_residual.result c.from_residual.ensures.1 in
+    let fs = fields_of c.args.format in
+    let i : ℕ = c.loop.counter in
+    let w : List ℕ = c.loop.window.items in
+    let b : List ℕ = c.as_slice.result.now in
+    let rs : List Raster = c.loop.frames.items in
+    let f = c.in_err-timestamp.field-0.0 in
+    rw (p.1, p.2)
+    (fault_two (all_held_at fs i []) (timestamp_at b) (all_held_at fs c.args.count [])
+    (kept_frames fs w rs) _ _ _ _ f
+    (λ was mid. stamp_stop fs i c.args.count w b rs was mid f c.as_slice.ensures.value
+    c.loop-test.true c.loop.invariant.one_each)
+    c.loop.invariant.gave c.in_err-timestamp.ensures.gave_wrong)
+
+pub returns-in_err-frame-clause-gave_wrong : goal.returns-in_err-frame-clause-gave_wrong
+returns-in_err-frame-clause-gave_wrong g c =
+    let p =
+    err_from_is_err_and c.from_residual-in_err-frame.result c.from_residual-in_err-frame.ensures.1
+    in
+    let fs = fields_of c.args.format in
+    let i : ℕ = c.loop.counter in
+    let w : List ℕ = c.loop.window.items in
+    let b : List ℕ = c.as_slice.result.now in
+    let rs : List Raster = c.loop.frames.items in
+    let t : ℕ = c.in_ok-timestamp.timestamp in
+    let f = c.in_err-frame.field-0.0 in
+    rw (p.1, p.2)
+    (fault_three (all_held_at fs i []) (timestamp_at b)
+    (groups_at (shape_in c.args.format) (raster_groups fs)) (all_held_at fs c.args.count [])
+    (kept_frames fs w rs) t _ _ _ _ _ f
+    (λ was mid next. groups_stop fs i c.args.count w b rs t was mid next f
+    c.as_slice.ensures.value c.loop-test.true c.loop.invariant.one_each)
+    c.loop.invariant.gave c.in_ok-timestamp.ensures.gave c.in_err-frame.ensures.gave_wrong)
+
+pub returns-clause-gave : goal.returns-clause-gave
+returns-clause-gave g c =
+    let done : c.loop.counter ≡ c.args.count =
+    omega (arith, c.loop-test.false, c.loop.auto.counter-end) in
+    subst
+    (λ (n : ℕ). GaveOf (all_held_at (fields_of c.args.format) n [])
+    (g.S.ByteSource.gave c.args.source.now) (g.S.ByteSource.gave c.loop.source)
+    (kept_frames (fields_of c.args.format) c.loop.window.items c.loop.frames.items))
+    done c.loop.invariant.gave
+
+pub returns-in_err-push-clause-gave_wrong : goal.returns-in_err-push-clause-gave_wrong
+returns-in_err-push-clause-gave_wrong g c =
+    let p =
+    err_from_is_err_and c.from_residual-in_err-push.result
+    c.from_residual-in_err-push.ensures.1 in
+    let fs = fields_of c.args.format in
+    rw (p.1, p.2)
+    (fault_memory (all_held_at fs c.args.count []) _ _ _
+    (three_grew (all_held_at fs c.loop.counter []) (timestamp_at c.as_slice.result.now)
+    (groups_at (shape_in c.args.format) (raster_groups fs))
+    (kept_frames fs c.loop.window.items c.loop.frames.items) c.in_ok-timestamp.timestamp
+    (cell_groups fs c.in_ok-frame.frame.cells) _ _ _ _
+    c.loop.invariant.gave c.in_ok-timestamp.ensures.gave c.in_ok-frame.ensures.gave))

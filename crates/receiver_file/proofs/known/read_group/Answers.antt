@@ -6,6 +6,8 @@ use Rattle.st_format.specs.Pgroup.{pixel_group}
 use Rattle.media_file.specs.Fields.{Fails, Takes}
 use Rattle.media_file.specs.Groups.{group_at}
 use Rattle.receiver_file.specs.Known.{IsKnown, cells_known, shape_in}
+use Rattle.media_file.specs.Fields.{GaveFault}
+use Rattle.receiver_file.specs.Giving.{GaveOf}
 use Rattle.receiver_file.proofs.known.read_group.Goals as goal
 
 pub slice_bounds-room-end : goal.slice_bounds-room-end
@@ -75,3 +77,23 @@ returns-clause-read g c =
 
 pub returns-clause-counted : goal.returns-clause-counted
 returns-clause-counted g c = c.in_ok-state.ensures.counted
+
+pub returns-in_err-state-clause-gave_wrong : goal.returns-in_err-state-clause-gave_wrong
+returns-in_err-state-clause-gave_wrong g c =
+    let p =
+    err_from_is_err_and c.from_residual.result c.from_residual.ensures.1 in
+    rw (p.1, p.2)
+    (subst
+    (λ (f : Format). GaveFault (group_at (shape_in f)) (g.S.ByteSource.gave c.args.source.now)
+    (g.S.ByteSource.gave c.read_known.new.source)
+    (g.S.ByteSource.ended c.read_known.new.source) c.in_err-state.field-0.0)
+    c.format-format.ensures.format c.in_err-state.ensures.gave_wrong)
+
+pub returns-clause-gave : goal.returns-clause-gave
+returns-clause-gave g c =
+    rw c.give_group.ensures.cells
+    (subst
+    (λ (f : Format). GaveOf (group_at (shape_in f)) (g.S.ByteSource.gave c.args.source.now)
+    (g.S.ByteSource.gave c.read_known.new.source)
+    (cells_known (shape_in f) c.in_ok-state.state c.read_known.new.octets))
+    c.format-format.ensures.format c.in_ok-state.ensures.gave)

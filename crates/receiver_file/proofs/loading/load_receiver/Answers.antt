@@ -4,6 +4,8 @@ use Rattle.receiver_file.proofs.SameKept.{loaded_holds, loaded_same}
 use Rattle.receiver_file.proofs.AtEnd.{loaded_end}
 use Rattle.receiver_file.proofs.Savable.{writable_saved}
 use Rattle.receiver_file.proofs.StateFaults.{wrong_state}
+use Rattle.receiver_file.proofs.StateGave.{gave_end, gave_found, gave_grew, gave_only, gave_same}
+use Rattle.receiver_file.proofs.StateGave.{gave_wrong}
 use Rattle.receiver_file.proofs.loading.load_receiver.Goals as goal
 
 pub returns-clause-end : goal.returns-clause-end
@@ -36,3 +38,38 @@ returns-clause-holds g c =
     (loaded_same _ _ c.read_receiver.result c.read_receiver.ensures.read
     c.read_receiver.ensures.fault c.read_receiver.ensures.receiver s told is.receiver
     (writable_saved s is))
+
+pub returns-clause-gave : goal.returns-clause-gave
+returns-clause-gave g c =
+    gave_found _ _ _ c.read_receiver.result c.read_receiver.ensures.gave
+    c.read_receiver.ensures.writable
+
+pub returns-clause-ended : goal.returns-clause-ended
+returns-clause-ended g c =
+    gave_end _ _ (g.S.ByteSource.ended c.read_receiver.new.source) c.read_receiver.result
+    c.read_receiver.ensures.gave
+
+pub returns-clause-gave_wrong : goal.returns-clause-gave_wrong
+returns-clause-gave_wrong g c =
+    gave_wrong _ _ _ c.read_receiver.result c.read_receiver.ensures.gave_wrong
+
+pub returns-clause-gave_only : goal.returns-clause-gave_only
+returns-clause-gave_only g c =
+    gave_only _ _ _ c.read_receiver.result c.read_receiver.ensures.gave
+    c.read_receiver.ensures.gave_wrong
+
+pub returns-clause-gave_same : goal.returns-clause-gave_same
+returns-clause-gave_same g c =
+    gave_same _ _ _ c.read_receiver.result c.read_receiver.ensures.gave
+    c.read_receiver.ensures.gave_wrong c.read_receiver.ensures.receiver
+
+pub returns-clause-gave_holds : goal.returns-clause-gave_holds
+returns-clause-gave_holds g c =
+    λ s datagrams q is h. loaded_holds c.read_receiver.result s datagrams h
+    (gave_same _ _ _ c.read_receiver.result c.read_receiver.ensures.gave
+    c.read_receiver.ensures.gave_wrong c.read_receiver.ensures.receiver s q is)
+
+pub returns-clause-grown : goal.returns-clause-grown
+returns-clause-grown g c =
+    gave_grew _ _ _ c.read_receiver.result c.read_receiver.ensures.gave
+    c.read_receiver.ensures.gave_wrong

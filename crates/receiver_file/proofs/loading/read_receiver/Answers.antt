@@ -4,6 +4,10 @@ use Rattle.std.proofs.lemmas.Result.{err_from_is_err_and}
 use Rattle.st_format.specs.Fields.{fields_of}
 use Rattle.receiver_file.proofs.StateRuns.{state_end, state_format, state_frames, state_gives}
 use Rattle.receiver_file.proofs.StateRuns.{state_head, state_made, state_memory, state_name}
+use Rattle.receiver_file.proofs.Giving.{gave_octets}
+use Rattle.media_file.specs.Blocks.{block_at}
+use Rattle.receiver_file.proofs.StateGave.{gave_all, gave_format, gave_frames, gave_head, gave_made}
+use Rattle.receiver_file.proofs.StateGave.{gave_memory, gave_more, gave_name}
 use Rattle.receiver_file.proofs.loading.read_receiver.Goals as goal
 
 pub returns-in_err-read_name-clause-fault : goal.returns-in_err-read_name-clause-fault
@@ -164,3 +168,72 @@ returns-clause-refusals g c = c.open_again.ensures.refusals
 
 pub returns-clause-writable : goal.returns-clause-writable
 returns-clause-writable g c = c.open_again.ensures.writable
+
+pub returns-in_err-read_name-clause-gave_wrong : goal.returns-in_err-read_name-clause-gave_wrong
+returns-in_err-read_name-clause-gave_wrong g c =
+    let p =
+    err_from_is_err_and c.from_residual.result c.from_residual.ensures.1 in
+    rw (p.1, p.2)
+    (gave_name _ _ _ c.in_err-read_name.field-0.0 c.in_err-read_name.ensures.gave_wrong)
+
+pub returns-in_err-format-clause-gave_wrong : goal.returns-in_err-format-clause-gave_wrong
+returns-in_err-format-clause-gave_wrong g c =
+    let p =
+    err_from_is_err_and c.from_residual-in_err-format.result c.from_residual-in_err-format.ensures.1
+    in
+    rw (p.1, p.2)
+    (gave_format _ _ _ _ c.in_err-format.field-0.0 c.in_ok-read_name.ensures.gave
+    c.in_err-format.ensures.gave_wrong)
+
+pub returns-in_err-head-clause-gave_wrong : goal.returns-in_err-head-clause-gave_wrong
+returns-in_err-head-clause-gave_wrong g c =
+    let p =
+    err_from_is_err_and c.from_residual-in_err-head.result c.from_residual-in_err-head.ensures.1 in
+    let f = fields_of c.in_ok-format.format in
+    rw (p.1, p.2)
+    (gave_head _ _ _ _ _ f c.in_err-head.field-0.0 c.in_ok-read_name.ensures.gave
+    (gave_octets block_at f _ _ c.in_ok-format.ensures.gave c.in_ok-format.ensures.bytes)
+    c.in_err-head.ensures.gave_wrong)
+
+pub returns-in_err-frames-clause-gave_wrong : goal.returns-in_err-frames-clause-gave_wrong
+returns-in_err-frames-clause-gave_wrong g c =
+    let p =
+    err_from_is_err_and c.from_residual-in_err-frames.result c.from_residual-in_err-frames.ensures.1
+    in
+    let f = fields_of c.in_ok-format.format in
+    rw (p.1, p.2)
+    (gave_frames _ _ _ _ _ _ f c.in_ok-head.head c.in_err-frames.field-0.0
+    c.in_ok-read_name.ensures.gave
+    (gave_octets block_at f _ _ c.in_ok-format.ensures.gave c.in_ok-format.ensures.bytes)
+    c.in_ok-head.ensures.gave c.in_err-frames.ensures.gave_wrong)
+
+pub returns-in_err-read_end-clause-gave_wrong : goal.returns-in_err-read_end-clause-gave_wrong
+returns-in_err-read_end-clause-gave_wrong g c =
+    let p =
+    err_from_is_err_and c.from_residual-in_err-read_end.result
+    c.from_residual-in_err-read_end.ensures.1 in
+    let f = fields_of c.in_ok-format.format in
+    rw (p.1, p.2)
+    (gave_more _ _ _ _ _ _ _ f c.in_ok-head.head _ c.in_err-read_end.field-0.0
+    c.in_ok-read_name.ensures.gave
+    (gave_octets block_at f _ _ c.in_ok-format.ensures.gave c.in_ok-format.ensures.bytes)
+    c.in_ok-head.ensures.gave c.in_ok-frames.ensures.gave c.in_err-read_end.ensures.gave_wrong)
+
+pub returns-clause-gave : goal.returns-clause-gave
+returns-clause-gave g c =
+    let f = fields_of c.in_ok-format.format in
+    gave_made _ _ _ c.in_ok-format.format c.in_ok-head.head _ _ c.open_again.result
+    (gave_all _ _ _ _ _ _ _ f c.in_ok-head.head _ c.in_ok-read_name.ensures.gave
+    (gave_octets block_at f _ _ c.in_ok-format.ensures.gave c.in_ok-format.ensures.bytes)
+    c.in_ok-head.ensures.gave c.in_ok-frames.ensures.gave c.in_ok-read_end.ensures.gave
+    c.in_ok-read_end.ensures.ended)
+    c.open_again.ensures.opening c.open_again.ensures.frames
+
+pub returns-clause-gave_wrong : goal.returns-clause-gave_wrong
+returns-clause-gave_wrong g c =
+    let f = fields_of c.in_ok-format.format in
+    gave_memory _ _ (g.S.ByteSource.ended c.read_end.new.source) _ c.open_again.result
+    (gave_all _ _ _ _ _ _ _ f c.in_ok-head.head _ c.in_ok-read_name.ensures.gave
+    (gave_octets block_at f _ _ c.in_ok-format.ensures.gave c.in_ok-format.ensures.bytes)
+    c.in_ok-head.ensures.gave c.in_ok-frames.ensures.gave c.in_ok-read_end.ensures.gave
+    c.in_ok-read_end.ensures.ended) c.open_again.ensures.memory

@@ -1,6 +1,10 @@
 use Rattle.std.proofs.Common.{refl}
 use Rattle.std.proofs.lemmas.Result.{err_from_is_err_and}
 use Rattle.receiver_file.proofs.Valued.{octet_cut, octet_gives}
+use Rattle.media_file.proofs.Gave.{fault_one}
+use Rattle.media_file.specs.Fields.{field_at}
+use Rattle.receiver_file.proofs.Giving.{gave_octets, gave_one}
+use Rattle.receiver_file.specs.Numbers.{octet_at}
 use Rattle.receiver_file.proofs.octets.read_octet.Goals as goal
 
 pub returns-in_err-read_field-clause-fault : goal.returns-in_err-read_field-clause-fault
@@ -11,3 +15,19 @@ returns-in_err-read_field-clause-fault g c =
 pub returns-clause-read : goal.returns-clause-read
 returns-clause-read g c =
     octet_gives _ _ c.read_field.new.buf _ refl c.in_ok-read_field.ensures.read
+
+pub returns-in_err-read_field-clause-gave_wrong : goal.returns-in_err-read_field-clause-gave_wrong
+returns-in_err-read_field-clause-gave_wrong g c =
+    let p =
+    err_from_is_err_and c.from_residual.result c.from_residual.ensures.1 in
+    let f = c.in_err-read_field.field-0.0 in
+    rw (p.1, p.2)
+    (fault_one (field_at 1) octet_at _ _ _ f (λ was. octet_cut was f)
+    c.in_err-read_field.ensures.gave_wrong)
+
+pub returns-clause-gave : goal.returns-clause-gave
+returns-clause-gave g c =
+    gave_one (field_at 1) octet_at c.read_field.new.buf _ _ _ (λ was left. octet_gives was left
+    c.read_field.new.buf _ refl)
+    (gave_octets (field_at 1) _ _ _ c.in_ok-read_field.ensures.gave
+    c.in_ok-read_field.ensures.bytes)

@@ -1,13 +1,19 @@
-use Rattle.std.proofs.Common.{ℕ, ◌∙◌, subst, sym}
+use Rattle.std.proofs.Common.{ℕ, ◌∙◌, Some, subst, sym}
 use Rattle.std.proofs.lemmas.List.{length-take-le}
 use Rattle.st_format.specs.Device.{CountsFaults, CountsOne}
 use Rattle.std.proofs.Common.{arith, refl}
 use Rattle.std.proofs.lemmas.Result.{err_from_is_err_and, on_err_weaker, on_ok_weaker}
+use Rattle.receiver_file.proofs.Growing.{held_part, took_part}
 use Rattle.receiver_file.proofs.MarkedRows.{passes_done, passes_group, passes_start, passes_stop}
 use Rattle.receiver_file.proofs.rows.write_marked.Goals as goal
 
 pub loop-group-init : goal.loop-group-init
-loop-group-init g c = record { passed = passes_start _ _ _; filled = omega arith; failures = refl }
+loop-group-init g c = record {
+  passed = passes_start _ _ _;
+  took = passes_start _ _ (Some _);
+  filled = omega arith;
+  failures = refl;
+}
 
 pub returns-in_err-at-clause-fault : goal.returns-in_err-at-clause-fault
 returns-in_err-at-clause-fault g c =
@@ -22,6 +28,11 @@ loop-group-preserved g c = record {
       passes_group c.args.size c.loop-group.group c.args.marks.now c.args.octets.now _
       c.loop-group.room c.in_ok-at.at c.put_group-filled.result _ _ _
       (omega arith) c.loop-group.invariant.passed c.in_ok-at.ensures.passed
+      c.put_group-filled.new.room c.put_group-filled.ensures.put;
+  took =
+      passes_group c.args.size c.loop-group.group c.args.marks.now c.args.octets.now _
+      c.loop-group.room c.in_ok-at.at c.put_group-filled.result (Some _) (Some _) (Some _)
+      (omega arith) c.loop-group.invariant.took c.in_ok-at.ensures.took_first
       c.put_group-filled.new.room c.put_group-filled.ensures.put;
   filled = omega (arith, c.put_group-filled.ensures.within, c.put_group-filled.ensures.length);
   failures = c.in_ok-at.ensures.counted ∙ c.loop-group.invariant.failures;
@@ -70,3 +81,25 @@ returns-clause-counted g c =
     (λ (n : ℕ). CountsFaults n (g.K.ByteSink.failures c.write_whole.new.sink)
     c.write_whole.result)
     c.loop-group.invariant.failures c.write_whole.ensures.counted
+
+pub returns-in_err-at-clause-took_part : goal.returns-in_err-at-clause-took_part
+returns-in_err-at-clause-took_part g c =
+    let p = err_from_is_err_and c.from_residual.result c.from_residual.ensures.1 in
+    rw (p.1)
+    (took_part _ _ _ (passes_stop c.args.size c.loop-group.group c.args.marks.now c.args.octets.now
+    _ (Some _) (Some _) (Some _)
+    c.loop-group.invariant.took (held_part _ _ _ c.in_err-at.ensures.took_part)))
+
+pub returns-clause-took : goal.returns-clause-took
+returns-clause-took g c =
+    on_ok_weaker c.write_whole.result
+    (λ q. passes_done c.args.size c.loop-group.group c.args.marks.now c.args.octets.now _ (Some _)
+    (Some _) (Some _)
+    (omega arith) c.loop-group.invariant.took q) c.write_whole.ensures.took
+
+pub returns-clause-took_part : goal.returns-clause-took_part
+returns-clause-took_part g c =
+    on_err_weaker c.write_whole.result
+    (λ q. took_part _ _ _ (passes_stop c.args.size c.loop-group.group c.args.marks.now
+    c.args.octets.now _ (Some _) (Some _) (Some _)
+    c.loop-group.invariant.took (held_part _ _ _ q))) c.write_whole.ensures.part

@@ -65,3 +65,31 @@ write_marked-requires-clause-room g c = refl
 
 pub returns-clause-counted : goal.returns-clause-counted
 returns-clause-counted g c = c.write_marked.ensures.counted
+
+pub returns-clause-took : goal.returns-clause-took
+returns-clause-took g c =
+    let r = c.args.frame.now in
+    let size : c.pgroup.result.octets ≡ (shape_in r.format).octets =
+    c.pgroup.ensures.octets
+    ∙ ap (λ (f : Format). (shape_in f).octets) c.format.ensures.format in
+    let e : marked_text c.pgroup.result.octets c.marks-marks.result.now
+    c.packed_row-octets.result.now ≡ groups_text (shape_in r.format) (row_cut r c.args.row) =
+    row_is r c.args.row c.pgroup.result.octets c.marks-marks.result.now
+    c.packed_row-octets.result.now c.format.ensures.whole c.requires size
+    c.marks-marks.ensures.long c.packed_row-octets.ensures.long c.marks-marks.ensures.states
+    c.are_octets.ensures.all c.packed_row-octets.ensures.spelled in
+    rw (← e) c.write_marked.ensures.took
+
+pub returns-clause-took_part : goal.returns-clause-took_part
+returns-clause-took_part g c =
+    let r = c.args.frame.now in
+    let size : c.pgroup.result.octets ≡ (shape_in r.format).octets =
+    c.pgroup.ensures.octets
+    ∙ ap (λ (f : Format). (shape_in f).octets) c.format.ensures.format in
+    let e : marked_text c.pgroup.result.octets c.marks-marks.result.now
+    c.packed_row-octets.result.now ≡ groups_text (shape_in r.format) (row_cut r c.args.row) =
+    row_is r c.args.row c.pgroup.result.octets c.marks-marks.result.now
+    c.packed_row-octets.result.now c.format.ensures.whole c.requires size
+    c.marks-marks.ensures.long c.packed_row-octets.ensures.long c.marks-marks.ensures.states
+    c.are_octets.ensures.all c.packed_row-octets.ensures.spelled in
+    rw (← e) c.write_marked.ensures.took_part

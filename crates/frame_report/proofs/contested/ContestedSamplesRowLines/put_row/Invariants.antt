@@ -13,6 +13,6 @@ invariant-loop-column g l =
     (goal.iterator-loop-column g).can_next l.column-iterator
     × (goal.iterator-loop-column g).is_finite l.column-iterator
     × Putting
-    (IsPut (g.K.ByteSink.held l.initial.sink) (g.K.ByteSink.held l.sink) l.initial.page l.page
+    (IsPut (g.K.ByteSink.took l.initial.sink) (g.K.ByteSink.took l.sink) l.initial.page l.page
     (flat_map (spot_line l.sampling l.row) l.column-iterator) (contested_in_row l.frame l.row))
     (g.K.ByteSink.failures l.sink ≡ g.K.ByteSink.failures l.initial.sink)

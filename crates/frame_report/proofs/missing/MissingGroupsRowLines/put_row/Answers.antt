@@ -1,4 +1,4 @@
-use Rattle.std.proofs.Common.{◌≡◌, ◌∙◌, ◌++◌, List, ℕ, ap, refl, rules}
+use Rattle.std.proofs.Common.{◌≡◌, ◌∙◌, List, ℕ, refl, rules}
 use Rattle.std.specs.List.{flat_map}
 use Rattle.std.specs.declared.ops.Range.{Range}
 use Rattle.std.proofs.lemmas.Result.{err_from_is_err_and}

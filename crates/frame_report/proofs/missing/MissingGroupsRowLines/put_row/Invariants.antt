@@ -13,6 +13,6 @@ invariant-loop-columns g l =
     (goal.iterator-loop-columns g).can_next l.columns-iterator
     × (goal.iterator-loop-columns g).is_finite l.columns-iterator
     × Putting
-    (IsPut (g.K.ByteSink.held l.initial.sink) (g.K.ByteSink.held l.sink) l.initial.page l.page
+    (IsPut (g.K.ByteSink.took l.initial.sink) (g.K.ByteSink.took l.sink) l.initial.page l.page
     (flat_map (columns_line l.row) l.columns-iterator) (missing_in_row l.frame l.row))
     (g.K.ByteSink.failures l.sink ≡ g.K.ByteSink.failures l.initial.sink)
