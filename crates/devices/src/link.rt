@@ -108,25 +108,8 @@ impl DatagramSource for UdpLink {
 
     ghost last_fault = { λ l. l.last_fault };
 
-    /// A turn in which none comes within a second is quiet.
     fn next(&mut self, buf: &mut [u8]) -> Result<Turn, SourceFault> {
-        let error = match self.to.recv_from(&mut buf[..MOST_DATAGRAM]) {
-            Ok((n, _)) => {
-                self.came.note(Path::A, &buf[..n]);
-                self.delivered = self.delivered.saturating_add(1);
-                return Ok(Turn::Datagram(Path::A, n));
-            }
-            Err(error) => error,
-        };
-        match error.kind() {
-            ErrorKind::WouldBlock | ErrorKind::TimedOut => Ok(Turn::Quiet),
-            _ => {
-                self.fault = Some(error);
-                self.failures = self.failures.saturating_add(1);
-                self.last_fault = Some(SourceFault::Device);
-                Err(SourceFault::Device)
-            }
-        }
+        self.turn(buf)
     }
 }
 
@@ -146,6 +129,27 @@ impl DatagramLink for UdpLink {
                 self.fault = outcome.err();
                 self.failures = self.failures.saturating_add(1);
                 Err(SinkFault)
+            }
+        }
+    }
+
+    /// A turn in which none comes within a second is quiet.
+    fn turn(&mut self, buf: &mut [u8]) -> Result<Turn, SourceFault> {
+        let error = match self.to.recv_from(&mut buf[..MOST_DATAGRAM]) {
+            Ok((n, _)) => {
+                self.came.note(Path::A, &buf[..n]);
+                self.delivered = self.delivered.saturating_add(1);
+                return Ok(Turn::Datagram(Path::A, n));
+            }
+            Err(error) => error,
+        };
+        match error.kind() {
+            ErrorKind::WouldBlock | ErrorKind::TimedOut => Ok(Turn::Quiet),
+            _ => {
+                self.fault = Some(error);
+                self.failures = self.failures.saturating_add(1);
+                self.last_fault = Some(SourceFault::Device);
+                Err(SourceFault::Device)
             }
         }
     }

@@ -1,6 +1,6 @@
 use Rattle.std.proofs.Common.{arith}
 use Rattle.std.proofs.lemmas.List.{length-take-le}
-use Rattle.devices.proofs.link.UdpLinkDatagramSource.next.Goals as goal
+use Rattle.devices.proofs.link.UdpLinkDatagramLink.turn.Goals as goal
 
 pub returns-in-Ok-clause-within : goal.returns-in-Ok-clause-within
 returns-in-Ok-clause-within c =
