@@ -2,17 +2,15 @@
 use Rattle.std.proofs.Common.{◌≡◌, ℕ, ◌+◌, ◌<◌, ◌≤◌, List, [], ◌∷◌, ◌++◌, length, take, drop, codes}
 use Rattle.std.proofs.Common.{get_or, count_by, Option, Some, ap, append-nil, subst, sym, ◌∙◌}
 use Rattle.std.proofs.Common.{Result, Ok, Err, OnErr, OnOk, arith}
-use Rattle.std.specs.Io.KnownBytes.{Appends}
 use Rattle.std.specs.List.{flat_map}
-use Rattle.std.proofs.KnownBytes.{Appends-nil, Appends-trans}
 use Rattle.std.proofs.lemmas.Grind.{flat_map-append}
 use Rattle.std.proofs.lemmas.List.{length-append, take_all, take_more, take-append-drop}
-use Rattle.media_file.proofs.Written.{prefix_first, prefix_then}
+pub use Rattle.media_file.proofs.Written.{part_first, part_then, took_both}
 use Rattle.frame_assembly.specs.declared.counts.Counts.{Counts}
 use Rattle.frame_assembly.specs.Kinds.{counts_of}
 use Rattle.path_merge.specs.Frames.{State, frame_at}
 use Rattle.st_format.specs.Cell.{is_contested, is_missing, is_present}
-use Rattle.st_format.specs.Device.{AppendsPrefix}
+use Rattle.st_format.specs.Device.{GrowsPart}
 use Rattle.st_format.specs.Raster.{Raster}
 use Rattle.run_outcome.specs.Frames.{counts_text, frame_line, frame_line_at}
 
@@ -28,43 +26,42 @@ next_text f xs i d x lt is =
     ∙ ap (λ (t : List ℕ). texts_before f xs i ++ t) (append-nil (f x))
 
 pub texts_more : {X : Type 0} (f : X → List ℕ) (xs : List X) (i : ℕ) (d x : X)
-    (old mid new : Option (List ℕ)) → i < length xs → x ≡ get_or xs i d
-    → Appends old mid (texts_before f xs i) → Appends mid new (f x)
-    → Appends old new (texts_before f xs (i + 1))
+    (old mid new : List ℕ) → i < length xs → x ≡ get_or xs i d
+    → mid ≡ old ++ texts_before f xs i → new ≡ mid ++ f x
+    → new ≡ old ++ texts_before f xs (i + 1)
 texts_more f xs i d x old mid new lt is p q =
-    subst (Appends old new) (sym (next_text f xs i d x lt is))
-    (Appends-trans old mid new (texts_before f xs i) (f x) p q)
+    subst (λ (t : List ℕ). new ≡ old ++ t) (sym (next_text f xs i d x lt is))
+    (took_both old mid new (texts_before f xs i) (f x) p q)
 
 -- what is cut within the text of an item is cut within the texts of all
 pub texts_cut : {X : Type 0} (f : X → List ℕ) (xs : List X) (i : ℕ) (d x : X)
-    (old mid new : Option (List ℕ)) → i < length xs → x ≡ get_or xs i d
-    → Appends old mid (texts_before f xs i) → AppendsPrefix mid new (f x)
-    → AppendsPrefix old new (flat_map f xs)
+    (old mid new : List ℕ) → i < length xs → x ≡ get_or xs i d
+    → mid ≡ old ++ texts_before f xs i → GrowsPart mid new (f x)
+    → GrowsPart old new (flat_map f xs)
 texts_cut f xs i d x old mid new lt is p q =
     let rest : List ℕ = flat_map f (drop (i + 1) xs) in
     let whole : flat_map f xs ≡ (texts_before f xs i ++ f x) ++ rest =
     ap (flat_map f) (sym (take-append-drop (i + 1) xs))
     ∙ flat_map-append f (take (i + 1) xs) (drop (i + 1) xs)
     ∙ ap (λ (t : List ℕ). t ++ rest) (next_text f xs i d x lt is) in
-    subst (AppendsPrefix old new) (sym whole)
-    (prefix_first old new (texts_before f xs i ++ f x) rest
-    (prefix_then old mid new (texts_before f xs i) (f x) p q))
+    subst (λ (t : List ℕ). GrowsPart old new t) (sym whole)
+    (part_first old new (texts_before f xs i ++ f x) rest
+    (part_then old mid new (texts_before f xs i) (f x) p q))
 
-pub texts_all : {X : Type 0} (f : X → List ℕ) (xs : List X) (i : ℕ) (old new : Option (List ℕ))
-    → length xs ≤ i → Appends old new (texts_before f xs i) → Appends old new (flat_map f xs)
+pub texts_all : {X : Type 0} (f : X → List ℕ) (xs : List X) (i : ℕ) (old new : List ℕ)
+    → length xs ≤ i → new ≡ old ++ texts_before f xs i → new ≡ old ++ flat_map f xs
 texts_all f xs i old new end p =
-    subst (λ (ys : List _). Appends old new (flat_map f ys)) (take_all i xs end) p
+    subst (λ (ys : List _). new ≡ old ++ flat_map f ys) (take_all i xs end) p
 
 some_left : (ys : List ℕ) (x : ℕ) → 0 < length (ys ++ x ∷ [])
 some_left ys x = omega (arith, length-append ys (x ∷ []))
 
 -- nothing was taken of a line
-pub none_taken : (known : Option (List ℕ)) (text : List ℕ) (end : ℕ)
-    → AppendsPrefix known known (text ++ end ∷ [])
-none_taken known text end = record {
+pub none_taken : (took text : List ℕ) (end : ℕ) → GrowsPart took took (text ++ end ∷ [])
+none_taken took text end = record {
   count = 0;
   short = some_left text end;
-  taken = Appends-nil known;
+  grown = sym (append-nil took);
 }
 
 abbrev counts : ℕ → ℕ → ℕ → Counts

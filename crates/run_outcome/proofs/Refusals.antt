@@ -1,9 +1,8 @@
 -- Which refusal ends a run, and that it is told.
-use Rattle.std.proofs.Common.{◌≡◌, ℕ, ◌≤◌, ◌⊎◌, inl, inr, List, [], ◌++◌, length, Option, None}
-use Rattle.std.proofs.Common.{Some, Result, Ok, Err, IfErr, refl, ap, append-nil, arith}
+use Rattle.std.proofs.Common.{◌≡◌, ℕ, ◌≤◌, ◌⊎◌, inl, inr, List, ◌++◌, length}
+use Rattle.std.proofs.Common.{Result, Ok, Err, IfErr, refl, ap, append-nil, arith}
 use Rattle.std.proofs.Common.{length-append, subst, sym, ◌∙◌}
 use Rattle.std.specs.Prelude.{⊤}
-use Rattle.std.specs.Io.KnownBytes.{Appends, Consumes, IsAtEnd}
 use Rattle.media_file.specs.Faults.{IfContent}
 use Rattle.media_file.specs.PictureFaults.{IsPictureFault}
 use Rattle.media_file.specs.declared.fault.FileFault.{FileFault}
@@ -12,6 +11,8 @@ use Rattle.media_file.specs.declared.fault.FileFault.TheVariants.{BadVersion, Tr
 use Rattle.media_file.specs.declared.fault.FileFault.TheVariants.{TrailingBytes, MixedGroup}
 use Rattle.media_file.specs.declared.fault.FileFault.TheVariants.{TooManyRecords}
 use Rattle.st_format.specs.Device.{AreOctets}
+use Rattle.st_format.specs.History.{IsRead}
+use Rattle.st_format.proofs.Histories.{since_is}
 use Rattle.sdp_format.specs.Bytes.{lines}
 use Rattle.sdp_format.specs.Grammar.{IsTextFault}
 use Rattle.sdp_format.specs.Sections.{video_sections}
@@ -68,48 +69,48 @@ any_refusal fault.Memory = tt
 
 -- at status 1 a line was told whole, which is that of the status
 pub line_told : (status : Status) (line : List ℕ) (result : Status) (old new : ℕ)
-    (held held' : Option (List ℕ)) → TellsLine status line result old new held held'
-    → status_number result ≡ 1 → (result ≡ status) × Appends held held' line
-line_told status line result old new held held' (inl is) one = (is.0, is.2)
-line_told status line result old new held held' (inr is) one =
+    (took took' : List ℕ) → TellsLine status line result old new took took'
+    → status_number result ≡ 1 → (result ≡ status) × (took' ≡ took ++ line)
+line_told status line result old new took took' (inl is) one = (is.0, is.2)
+line_told status line result old new took took' (inr is) one =
     let three : status_number result ≡ 3 = ap status_number is.0 in
     absurd (omega (arith, one, three))
 
 told_of_line : (Is : Refusal → Type 0) (r : Refusal) → Is r → (status : Status) (line : List ℕ)
-    (held held' : Option (List ℕ)) → IsRefusalLine (refusal_text r) status line
-    → status_number status ≡ 1 → Appends held held' line → TellsRefusal Is held held'
-told_of_line Is r is status line held held' (inl told) one taken = record {
+    (took took' : List ℕ) → IsRefusalLine (refusal_text r) status line
+    → status_number status ≡ 1 → took' ≡ took ++ line → TellsRefusal Is took took'
+told_of_line Is r is status line took took' (inl told) one taken = record {
   refusal = r;
   is = is;
-  told = subst (λ (l : List ℕ). Appends held held' l) told.1 taken;
+  told = subst (λ (l : List ℕ). took' ≡ took ++ l) told.1 taken;
 }
-told_of_line Is r is status line held held' (inr told) one taken =
+told_of_line Is r is status line took took' (inr told) one taken =
     let four : status_number status ≡ 4 = ap status_number told.0 in
     absurd (omega (arith, one, four))
 
 -- where a run ends with status 1, a refusal was told
 pub refusal_told : (Is : Refusal → Type 0) (f : Fault) (result : Status) (old new : ℕ)
-    (held held' : Option (List ℕ)) → TellsFault f result old new held held'
-    → OfRefusal f Is → status_number result ≡ 1 → TellsRefusal Is held held'
-refusal_told Is (fault.Refused r) result old new held held' tells is one =
-    let told = line_told tells.0 tells.1 result old new held held' tells.3 one in
-    told_of_line Is r is tells.0 tells.1 held held' tells.2
+    (took took' : List ℕ) → TellsFault f result old new took took'
+    → OfRefusal f Is → status_number result ≡ 1 → TellsRefusal Is took took'
+refusal_told Is (fault.Refused r) result old new took took' tells is one =
+    let told = line_told tells.0 tells.1 result old new took took' tells.3 one in
+    told_of_line Is r is tells.0 tells.1 took took' tells.2
     (sym (ap status_number told.0) ∙ one) told.1
-refusal_told Is fault.Device result old new held held' tells is one =
-    let told = line_told tells.0 tells.1 result old new held held' tells.3 one in
+refusal_told Is fault.Device result old new took took' tells is one =
+    let told = line_told tells.0 tells.1 result old new took took' tells.3 one in
     let three : status_number result ≡ 3 = ap status_number (told.0 ∙ tells.2.0) in
     absurd (omega (arith, one, three))
-refusal_told Is fault.Memory result old new held held' tells is one =
-    let told = line_told tells.0 tells.1 result old new held held' tells.3 one in
+refusal_told Is fault.Memory result old new took took' tells is one =
+    let told = line_told tells.0 tells.1 result old new took took' tells.3 one in
     let four : status_number result ≡ 4 = ap status_number (told.0 ∙ tells.2.0) in
     absurd (omega (arith, one, four))
 
 -- where memory was wanted the status isn't 1
 pub memory_told : (Is : Refusal → Type 0) (result : Status) (old new : ℕ)
-    (held held' : Option (List ℕ)) → TellsLine ended.Memory memory_line result old new held held'
-    → status_number result ≡ 1 → TellsRefusal Is held held'
-memory_told Is result old new held held' tells one =
-    let told = line_told ended.Memory memory_line result old new held held' tells one in
+    (took took' : List ℕ) → TellsLine ended.Memory memory_line result old new took took'
+    → status_number result ≡ 1 → TellsRefusal Is took took'
+memory_told Is result old new took took' tells one =
+    let told = line_told ended.Memory memory_line result old new took took' tells one in
     let four : status_number result ≡ 4 = ap status_number told.0 in
     absurd (omega (arith, one, four))
 
@@ -121,10 +122,10 @@ own_refusal fault.Memory = tt
 
 -- where what a run came to was told as a refusal, what holds of a refusal holds of that
 pub outcome_told : {V : Type 0} (Is : Refusal → Type 0) (r : Result V Fault)
-    (held held' : Option (List ℕ)) → TellsOutcome r held held' → IfErr r (λ f. OfRefusal f Is)
-    → TellsRefusal Is held held'
-outcome_told Is (Ok v) held held' told is = absurd told
-outcome_told Is (Err f) held held' told is = record {
+    (took took' : List ℕ) → TellsOutcome r took took' → IfErr r (λ f. OfRefusal f Is)
+    → TellsRefusal Is took took'
+outcome_told Is (Ok v) took took' told is = absurd told
+outcome_told Is (Err f) took took' told is = record {
   refusal = told.refusal;
   is = subst (λ (g : Fault). OfRefusal g Is) told.is is;
   told = told.told;
@@ -132,53 +133,50 @@ outcome_told Is (Err f) held held' told is = record {
 
 -- ---- migrate
 
-abbrev octets_or : List ℕ → Option (List ℕ) → List ℕ
-octets_or other None = other
-octets_or other (Some octets) = octets
+-- what begins with what a source gave
+read_parts : (before now : List ℕ) (ended : Type 0) (given octets : List ℕ) → now ≡ before ++ given
+    → (read : IsRead before now ended octets) → octets ≡ given ++ read.behind
+read_parts before now ended given octets gives read =
+    read.parts ∙ ap (λ (l : List ℕ). l ++ read.behind) (since_is before now given gives)
 
-no_octets : (octets : List ℕ) → (let o : Option (List ℕ) = None in o ≡ Some octets) → ⊥
-no_octets octets none = cc
+-- where the source has ended it is just that
+pub all_read : (before now : List ℕ) (ended : Type 0) (given octets : List ℕ)
+    → now ≡ before ++ given → ended → IsRead before now ended octets → octets ≡ given
+all_read before now ended given octets gives ends read =
+    read_parts before now ended given octets gives read
+    ∙ ap (λ (l : List ℕ). given ++ l) (read.all ends) ∙ append-nil given
 
--- what a source that tells its octets gave, up to its end, is all that it was to give
-pub all_given : (old new : Option (List ℕ)) (given octets : List ℕ) → Consumes old new given
-    → IsAtEnd new → old ≡ Some octets → octets ≡ given
-all_given None new given octets gives ends told = absurd (no_octets octets told)
-all_given (Some all) None given octets gives ends told = absurd gives
-all_given (Some all) (Some left) given octets gives ends told =
-    sym (ap (octets_or []) told) ∙ gives ∙ ap (λ l. given ++ l) ends ∙ append-nil given
-
--- and it was to give at least what it gave
-pub some_given : (old new : Option (List ℕ)) (given octets : List ℕ) → Consumes old new given
-    → old ≡ Some octets → length given ≤ length octets
-some_given None new given octets gives told = absurd (no_octets octets told)
-some_given (Some all) None given octets gives told = absurd gives
-some_given (Some all) (Some left) given octets gives told =
-    let counted : length octets ≡ length (given ++ left) =
-    ap length (sym (ap (octets_or []) told) ∙ gives) in
-    omega (arith, counted, length-append given left)
+-- and it is at least that
+pub some_read : (before now : List ℕ) (ended : Type 0) (given octets : List ℕ)
+    → now ≡ before ++ given → IsRead before now ended octets → length given ≤ length octets
+some_read before now ended given octets gives read =
+    let counted : length octets ≡ length (given ++ read.behind) =
+    ap length (read_parts before now ended given octets gives read) in
+    omega (arith, counted, length-append given read.behind)
 
 -- a text that is too long is refused so
-pub long_refused : (too_long : Refusal) (old new : Option (List ℕ)) → GivesMore 65535 old new
-    → IsTextRefusal too_long old too_long
-long_refused too_long old new gives = inl (
+pub long_refused : (too_long : Refusal) (before now : List ℕ) (ended : Type 0)
+    → GivesMore 65535 before now → IsTextRefusal too_long (IsRead before now ended) too_long
+long_refused too_long before now ended gives = inl (
   refl,
-  λ octets told.
-      let some = some_given old new gives.octets octets gives.given told in
+  λ octets read.
+      let some = some_read before now ended gives.octets octets gives.given read in
       omega (arith, some, gives.many),
 )
 
--- what is said of a text that was read is said of what the source was to give
-pub of_source : (Is : List ℕ → Type 0) (old new : Option (List ℕ)) (text : List ℕ)
-    → GivesText 65535 old new text → Is text → (octets : List ℕ) → old ≡ Some octets → Is octets
-of_source Is old new text gives is octets told =
-    subst Is (sym (all_given old new text octets gives.given gives.ended told)) is
+-- what is said of a text that was read is said of all that the source was read as
+pub of_source : (Is : List ℕ → Type 0) (before now : List ℕ) (ended : Type 0) (text : List ℕ)
+    → GivesText 65535 before now ended text → Is text → (octets : List ℕ)
+    → IsRead before now ended octets → Is octets
+of_source Is before now ended text gives is octets read =
+    subst Is (sym (all_read before now ended text octets gives.given gives.ended read)) is
 
 either : {X Y : Type 0} → (X → ⊥) → X ⊎ Y → Y
 either none (inl x) = absurd (none x)
 either none (inr y) = y
 
 -- a fault of an SDP text as a refusal
-sdp_refused : (told : Option (List ℕ)) (r : Refusal) (f : SdpFault)
+sdp_refused : (told : List ℕ → Type 0) (r : Refusal) (f : SdpFault)
     → (HasTextFault told f → IsSdpRefusal told r) → (f ≡ sdp.NoMemory) ⊎ HasTextFault told f
     → OfRefusal (sdp_fault f r) (IsSdpRefusal told)
 sdp_refused told r sdp.NoMemory so is = tt
@@ -216,24 +214,24 @@ sdp_refused told r sdp.LegsDiffer so is =
     so (either (λ memory. let e : sdp.LegsDiffer ≡ sdp.NoMemory = memory in cc) is)
 
 -- the same, of a text that was read to its end
-pub text_fault_refused : (too_long : Refusal) (old new : Option (List ℕ)) (text : List ℕ)
-    → GivesText 65535 old new text → (place : Located)
+pub text_fault_refused : (too_long : Refusal) (before now : List ℕ) (ended : Type 0)
+    (text : List ℕ) → GivesText 65535 before now ended text → (place : Located)
     → (place.fault ≡ sdp.NoMemory) ⊎ IsTextFault (video_sections (lines text)) place.fault
-    → OfRefusal (of_sdp place) (IsTextRefusal too_long old)
-text_fault_refused too_long old new text gives place is =
+    → OfRefusal (of_sdp place) (IsTextRefusal too_long (IsRead before now ended))
+text_fault_refused too_long before now ended text gives place is =
     of_refusal_map (of_sdp place) (λ r said. inr said)
-    (sdp_refused old (Sdp place) place.fault (λ said. said) (of_text is))
+    (sdp_refused (IsRead before now ended) (Sdp place) place.fault (λ said. said) (of_text is))
   where
     of_text : (place.fault ≡ sdp.NoMemory) ⊎ IsTextFault (video_sections (lines text)) place.fault
-        → (place.fault ≡ sdp.NoMemory) ⊎ HasTextFault old place.fault
+        → (place.fault ≡ sdp.NoMemory) ⊎ HasTextFault (IsRead before now ended) place.fault
     of_text (inl memory) = inl memory
-    of_text (inr fault) = inr (λ octets told.
+    of_text (inr fault) = inr (λ octets read.
         subst (λ (l : List ℕ). IsTextFault (video_sections (lines l)) place.fault)
-        (sym (all_given old new text octets gives.given gives.ended told)) fault)
+        (sym (all_read before now ended text octets gives.given gives.ended read)) fault)
 
 -- a fault of a picture's file as a refusal
-pub picture_refused : (told : Option (List ℕ)) (f : FileFault)
-    → ((octets : List ℕ) → told ≡ Some octets → AreOctets octets
+pub picture_refused : (told : List ℕ → Type 0) (f : FileFault)
+    → ((octets : List ℕ) → told octets → AreOctets octets
     → IfContent f (IsPictureFault f octets)) → OfRefusal (picture_fault f) (IsPictureRefusal told)
 picture_refused told NoMemory wrong = tt
 picture_refused told Device wrong = tt

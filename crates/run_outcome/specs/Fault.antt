@@ -52,10 +52,10 @@ IsLineOf Device status line = (status ≡ ended.Device) × (line ≡ device_line
 IsLineOf Memory status line = (status ≡ ended.Memory) × (line ≡ memory_line)
 
 -- a fault was told by such a line, or the sink failed
-abbrev pub TellsFault : Fault → Status → ℕ → ℕ → Option (List ℕ) → Option (List ℕ) → Type 0
-TellsFault f result old new held held' =
+abbrev pub TellsFault : Fault → Status → ℕ → ℕ → List ℕ → List ℕ → Type 0
+TellsFault f result old new took took' =
     (status : Status) × (line : List ℕ) × IsLineOf f status line
-    × TellsLine status line result old new held held'
+    × TellsLine status line result old new took took'
 
 -- where a run ends by a refusal, this holds
 abbrev pub IfRefused : Fault → Type 0 → Type 0

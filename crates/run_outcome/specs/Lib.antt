@@ -9,5 +9,6 @@ pub mod Refusing
 pub mod Frames
 pub mod Line
 pub mod Text
+pub mod Moments
 pub mod TextRefusals
 pub mod Pictures

@@ -1,5 +1,7 @@
--- What a picture's file says, and which refusal is one of it or of its plan (own).
-use Rattle.std.specs.Prelude.{◌≡◌, ℕ, ◌+◌, ◌<◌, ◌⊎◌, List, Option, Some}
+-- What a picture's file says, and which refusal is one of it or of its plan (own). The octets that
+-- were read are told by a predicate: it holds of any that begin with those, and of no other where
+-- the source has ended.
+use Rattle.std.specs.Prelude.{◌≡◌, ℕ, ◌+◌, ◌<◌, ◌⊎◌, List}
 use Rattle.st_format.specs.Device.{AreOctets}
 use Rattle.st_format.specs.Picture.{Values}
 use Rattle.st_format.specs.declared.format.Format.{Format}
@@ -11,19 +13,19 @@ use Rattle.packet_plan.specs.declared.plan.PlanFault.TheVariants.{NoMemory, BadP
 use Rattle.run_outcome.specs.declared.refusal.Refusal.{Refusal}
 use Rattle.run_outcome.specs.declared.refusal.Refusal.TheVariants as refusal
 
--- the refusal of a picture's file: the fault's condition holds of the octets, where they are told
-abbrev pub IsPictureRefusal : Option (List ℕ) → Refusal → Type 0
+-- the refusal of a picture's file: the fault's condition holds of what was read
+abbrev pub IsPictureRefusal : (List ℕ → Type 0) → Refusal → Type 0
 IsPictureRefusal told (refusal.Picture f) =
-    (octets : List ℕ) → told ≡ Some octets → AreOctets octets → IsPictureFault f octets
+    (octets : List ℕ) → told octets → AreOctets octets → IsPictureFault f octets
 IsPictureRefusal told r = ⊥
 
--- a source was to give the file of a picture
-abbrev pub SaysPicture : Option (List ℕ) → Values → Type 0
-SaysPicture told p = (octets : List ℕ) → told ≡ Some octets → IsPictureFile octets p
+-- what was read is the file of a picture
+abbrev pub SaysPicture : (List ℕ → Type 0) → Values → Type 0
+SaysPicture told p = (octets : List ℕ) → told octets → IsPictureFile octets p
 
--- a source was to give the file of a picture of this format, if it tells what it is to give
-abbrev pub SaysPictureOf : Option (List ℕ) → Format → Type 0
-SaysPictureOf told format = (octets : List ℕ) → told ≡ Some octets
+-- what was read is the file of a picture of this format
+abbrev pub SaysPictureOf : (List ℕ → Type 0) → Format → Type 0
+SaysPictureOf told format = (octets : List ℕ) → told octets
     → (p : Values) × (p.format ≡ format) × IsPictureFile octets p
 
 -- a format has no plan of packets of so many octets

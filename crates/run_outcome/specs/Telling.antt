@@ -1,16 +1,14 @@
 -- Lines that tell how a run ended.
-use Rattle.std.specs.Prelude.{◌≡◌, ℕ, ◌⊎◌, List, ◌++◌, codes, Option}
+use Rattle.std.specs.Prelude.{◌≡◌, ℕ, ◌⊎◌, List, ◌++◌, codes}
 use Rattle.std.specs.Fmt.{decimal}
-use Rattle.std.specs.Io.KnownBytes.{Appends}
 use Rattle.st_format.specs.Device.{Failed}
 use Rattle.run_outcome.specs.declared.status.Status.{Status}
 use Rattle.run_outcome.specs.declared.status.Status.TheVariants.{Refused, Device, Memory}
 
 -- A line was told: the sink took it whole, or it failed, and then the run ends by that
-abbrev pub TellsLine : Status → List ℕ → Status → ℕ → ℕ
-    → Option (List ℕ) → Option (List ℕ) → Type 0
-TellsLine status line result old new held held' =
-    ((result ≡ status) × (new ≡ old) × Appends held held' line)
+abbrev pub TellsLine : Status → List ℕ → Status → ℕ → ℕ → List ℕ → List ℕ → Type 0
+TellsLine status line result old new took took' =
+    ((result ≡ status) × (new ≡ old) × (took' ≡ took ++ line))
     ⊎ ((result ≡ Device) × Failed old new)
 
 -- the two lines without a number

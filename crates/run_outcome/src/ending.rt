@@ -1,6 +1,5 @@
 //! How a run ends: by a status, and where it came to a fault by a line.
-ghost use Rattle.std.specs.Prelude.{◌≡◌, ◌≢◌, ◌⊎◌};
-ghost use Rattle.std.specs.Io.KnownBytes.{Appends};
+ghost use Rattle.std.specs.Prelude.{◌≡◌, ◌≢◌, ◌⊎◌, ◌++◌};
 ghost use Rattle.st_format.specs.Device.{Failed};
 ghost use Rattle.run_outcome.specs.Fault.{EndsDone, EndsFailed, EndsRefused, EndsWorked};
 ghost use Rattle.run_outcome.specs.Fault.{IsLineOf, TellsFault};
@@ -26,12 +25,12 @@ pub fn end<F: ByteSink>(outcome: Result<(), Fault>, faults: &mut F) -> u8
     ensures done { result ≡ 0 → EndsDone outcome }
     ensures silent { result ≡ 0 → faults.new ≡ faults.old }
     ensures refused { result ≡ 1 → EndsRefused outcome }
-    ensures told { result ≡ 1 → TellsOutcome outcome (F.held faults.old) (F.held faults.new) }
+    ensures told { result ≡ 1 → TellsOutcome outcome (F.took faults.old) (F.took faults.new) }
     ensures failed { result ≡ 3
         → EndsFailed outcome ⊎ Failed (F.failures faults.old) (F.failures faults.new) }
     ensures worked { result ≢ 3 → EndsWorked outcome }
     ensures working { result ≢ 3 → F.failures faults.new ≡ F.failures faults.old }
-    ensures memory { result ≡ 4 → Appends (F.held faults.old) (F.held faults.new) memory_line }
+    ensures memory { result ≡ 4 → F.took faults.new ≡ F.took faults.old ++ memory_line }
 {
     match outcome {
         Ok(()) => Status::Done.number(),
@@ -42,7 +41,7 @@ pub fn end<F: ByteSink>(outcome: Result<(), Fault>, faults: &mut F) -> u8
 /// Tells a fault by its line, and answers how the run ends.
 fn tell<F: ByteSink>(fault: Fault, faults: &mut F) -> Status
     ensures { TellsFault fault result (F.failures faults.old) (F.failures faults.new)
-        (F.held faults.old) (F.held faults.new) }
+        (F.took faults.old) (F.took faults.new) }
 {
     match fault {
         Fault::Device => tell_device(faults),
@@ -53,7 +52,7 @@ fn tell<F: ByteSink>(fault: Fault, faults: &mut F) -> Status
 
 fn tell_refusal<F: ByteSink>(refusal: Refusal, faults: &mut F) -> Status
     ensures { TellsFault (Fault.Refused refusal) result (F.failures faults.old)
-        (F.failures faults.new) (F.held faults.old) (F.held faults.new) }
+        (F.failures faults.new) (F.took faults.old) (F.took faults.new) }
 {
     match line_of(Told(refusal)) {
         Some(line) => tell_line(Status::Refused, line.as_bytes(), faults),

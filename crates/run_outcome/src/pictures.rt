@@ -1,5 +1,6 @@
 //! Pictures' files, whose faults are told as an engine tells them.
-ghost use Rattle.std.specs.Prelude.{◌∷◌, [], IfErr, IfOk};
+ghost use Rattle.std.specs.Prelude.{◌∷◌, [], IfErr, IfOk, OnOk};
+ghost use Rattle.st_format.specs.History.{GrewFrom, IsRead};
 ghost use Rattle.run_outcome.specs.Fault.{Accounts, counts};
 ghost use Rattle.run_outcome.specs.Refusing.{OfRefusal};
 ghost use Rattle.run_outcome.specs.Pictures.{IsPictureRefusal, SaysPictureOf, SaysPicture};
@@ -20,8 +21,12 @@ pub fn read_unpacked<A: Allocator, S: ByteSource>(
     alloc: A,
     source: &mut S,
 ) -> Result<Picture<A>, Fault>
-    ensures says { IfOk result (λ p. SaysPicture (S.to_give source.old) p) }
-    ensures refusal { IfErr result (λ f. OfRefusal f (IsPictureRefusal (S.to_give source.old))) }
+    ensures says { IfOk result (λ p. SaysPicture
+        (IsRead (S.gave source.old) (S.gave source.new) (S.ended source.new)) p) }
+    ensures refusal { IfErr result (λ f. OfRefusal f (IsPictureRefusal
+        (IsRead (S.gave source.old) (S.gave source.new) (S.ended source.new)))) }
+    ensures ended { OnOk result (S.ended source.new) }
+    ensures grown { GrewFrom (S.gave source.old) (S.gave source.new) }
     ensures failures { Accounts result (counts (S.failures source.old) (S.failures source.new)
         ∷ []) }
 {
@@ -36,9 +41,14 @@ pub fn read_packed<A: Allocator, S: ByteSource>(
     source: &mut S,
     room: Vec<u8, A>,
 ) -> Result<PackedPicture<A>, Fault>
-    ensures shows { IfOk result (λ p. SaysPicture (S.to_give source.old) p) }
-    ensures says { IfOk result (λ p. SaysPictureOf (S.to_give source.old) p.format) }
-    ensures refusal { IfErr result (λ f. OfRefusal f (IsPictureRefusal (S.to_give source.old))) }
+    ensures shows { IfOk result (λ p. SaysPicture
+        (IsRead (S.gave source.old) (S.gave source.new) (S.ended source.new)) p) }
+    ensures says { IfOk result (λ p. SaysPictureOf
+        (IsRead (S.gave source.old) (S.gave source.new) (S.ended source.new)) p.format) }
+    ensures refusal { IfErr result (λ f. OfRefusal f (IsPictureRefusal
+        (IsRead (S.gave source.old) (S.gave source.new) (S.ended source.new)))) }
+    ensures ended { OnOk result (S.ended source.new) }
+    ensures grown { GrewFrom (S.gave source.old) (S.gave source.new) }
     ensures failures { Accounts result (counts (S.failures source.old) (S.failures source.new)
         ∷ []) }
 {

@@ -1,7 +1,6 @@
 //! Printing what a run says.
-ghost use Rattle.std.specs.Prelude.{◌++◌, ◌∷◌, [], IfErr, OnErr, OnOk};
-ghost use Rattle.std.specs.Io.KnownBytes.{Appends};
-ghost use Rattle.st_format.specs.Device.{AppendsPrefix};
+ghost use Rattle.std.specs.Prelude.{◌≡◌, ◌++◌, ◌∷◌, [], IfErr, OnErr, OnOk};
+ghost use Rattle.st_format.specs.Device.{GrowsPart};
 ghost use Rattle.run_outcome.specs.Fault.{Accounts, IfRefused, counts};
 ghost use Rattle.run_outcome.specs.Frames.{frame_line_at, frame_lines};
 ghost use Rattle.run_outcome.specs.Line.{line_text};
@@ -19,9 +18,9 @@ pub fn print_frames<A: Allocator, O: ByteSink>(
     output: &mut O,
 ) -> Result<(), Fault>
     ensures printed { OnOk result
-        (Appends (O.held output.old) (O.held output.new) (frame_lines receiver.now)) }
+        (O.took output.new ≡ O.took output.old ++ frame_lines receiver.now) }
     ensures cut { OnErr result
-        (AppendsPrefix (O.held output.old) (O.held output.new) (frame_lines receiver.now)) }
+        (GrowsPart (O.took output.old) (O.took output.new) (frame_lines receiver.now)) }
     ensures unrefused { IfErr result (λ f. IfRefused f ⊥) }
     ensures failures { Accounts result (counts (O.failures output.old) (O.failures output.new)
         ∷ []) }
@@ -39,9 +38,9 @@ fn print_frame<A: Allocator, O: ByteSink>(
     output: &mut O,
 ) -> Result<(), Fault>
     ensures printed { OnOk result
-        (Appends (O.held output.old) (O.held output.new) (frame_line_at receiver.now timestamp)) }
+        (O.took output.new ≡ O.took output.old ++ frame_line_at receiver.now timestamp) }
     ensures cut { OnErr result
-        (AppendsPrefix (O.held output.old) (O.held output.new)
+        (GrowsPart (O.took output.old) (O.took output.new)
         (frame_line_at receiver.now timestamp)) }
     ensures unrefused { IfErr result (λ f. IfRefused f ⊥) }
     ensures failures { Accounts result (counts (O.failures output.old) (O.failures output.new)
@@ -57,10 +56,10 @@ fn print_frame<A: Allocator, O: ByteSink>(
 /// Prints a line, and an end of line behind it.
 pub fn print<O: ByteSink>(line: Line, output: &mut O) -> Result<(), Fault>
     ensures printed { OnOk result
-        (Appends (O.held output.old) (O.held output.new) (line_text line ++ 10 ∷ [])) }
+        (O.took output.new ≡ O.took output.old ++ (line_text line ++ 10 ∷ [])) }
     // Where a device failed or memory was wanted, a first part of it.
     ensures cut { OnErr result
-        (AppendsPrefix (O.held output.old) (O.held output.new) (line_text line ++ 10 ∷ [])) }
+        (GrowsPart (O.took output.old) (O.took output.new) (line_text line ++ 10 ∷ [])) }
     ensures unrefused { IfErr result (λ f. IfRefused f ⊥) }
     ensures failures { Accounts result (counts (O.failures output.old) (O.failures output.new)
         ∷ []) }

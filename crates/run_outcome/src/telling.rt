@@ -14,7 +14,7 @@ const MEMORY_LINE: &[u8] = b"st2110: memory\n";
 /// Tells that memory was wanted.
 pub(crate) fn tell_memory<F: ByteSink>(faults: &mut F) -> Status
     ensures { TellsLine Memory memory_line result
-        (F.failures faults.old) (F.failures faults.new) (F.held faults.old) (F.held faults.new) }
+        (F.failures faults.old) (F.failures faults.new) (F.took faults.old) (F.took faults.new) }
 {
     tell_line(Status::Memory, MEMORY_LINE, faults)
 }
@@ -22,7 +22,7 @@ pub(crate) fn tell_memory<F: ByteSink>(faults: &mut F) -> Status
 /// Tells that a device failed.
 pub(crate) fn tell_device<F: ByteSink>(faults: &mut F) -> Status
     ensures { TellsLine Device device_line result
-        (F.failures faults.old) (F.failures faults.new) (F.held faults.old) (F.held faults.new) }
+        (F.failures faults.old) (F.failures faults.new) (F.took faults.old) (F.took faults.new) }
 {
     tell_line(Status::Device, DEVICE_LINE, faults)
 }
@@ -31,7 +31,7 @@ pub(crate) fn tell_device<F: ByteSink>(faults: &mut F) -> Status
 /// fails.
 pub(crate) fn tell_line<F: ByteSink>(status: Status, line: &[u8], faults: &mut F) -> Status
     ensures { TellsLine status line.now result
-        (F.failures faults.old) (F.failures faults.new) (F.held faults.old) (F.held faults.new) }
+        (F.failures faults.old) (F.failures faults.new) (F.took faults.old) (F.took faults.new) }
 {
     match write_whole(faults, line) {
         Ok(()) => status,

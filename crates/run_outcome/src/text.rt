@@ -1,7 +1,7 @@
 //! Texts that are read whole, and SDP among them.
-ghost use Rattle.std.specs.Prelude.{◌≡◌, ◌≤◌, ◌<◌, ◌∷◌, [], length, vec_len, IfErr, IfOk};
+ghost use Rattle.std.specs.Prelude.{◌≡◌, ◌≤◌, ◌<◌, ◌∷◌, ◌++◌, [], length, vec_len, IfErr, IfOk};
 ghost use Rattle.std.specs.Prelude.{MatchOption};
-ghost use Rattle.std.specs.Io.KnownBytes.{Consumes, IsAtEnd};
+ghost use Rattle.st_format.specs.History.{GrewFrom, IsRead};
 ghost use Rattle.run_outcome.specs.Fault.{Accounts, IfRefused, counts};
 ghost use Rattle.run_outcome.specs.TextRefusals.{IsTextRefusal, SaysCaptureText};
 ghost use Rattle.run_outcome.specs.Refusing.{OfRefusal};
@@ -20,11 +20,13 @@ pub fn read_checked<A: Allocator + Copy, S: ByteSource>(
     source: &mut S,
     too_long: Refusal,
 ) -> Result<Vec<u8, A>, Fault>
-    ensures read { IfOk result (λ said. GivesText 65535 (S.to_give source.old)
-        (S.to_give source.new) said.items) }
-    ensures says { IfOk result (λ _. SaysCaptureText (S.to_give source.old)) }
-    ensures refusal { IfErr result (λ f. OfRefusal f
-        (IsTextRefusal too_long (S.to_give source.old))) }
+    ensures read { IfOk result (λ said. GivesText 65535 (S.gave source.old) (S.gave source.new)
+        (S.ended source.new) said.items) }
+    ensures says { IfOk result (λ _. SaysCaptureText
+        (IsRead (S.gave source.old) (S.gave source.new) (S.ended source.new))) }
+    ensures refusal { IfErr result (λ f. OfRefusal f (IsTextRefusal too_long
+        (IsRead (S.gave source.old) (S.gave source.new) (S.ended source.new)))) }
+    ensures grown { GrewFrom (S.gave source.old) (S.gave source.new) }
     ensures failures { Accounts result (counts (S.failures source.old) (S.failures source.new)
         ∷ []) }
 {
@@ -44,8 +46,10 @@ pub fn read_text<A: Allocator, S: ByteSource>(
 ) -> Result<Option<Vec<u8, A>>, Fault>
     requires { most ≤ 16777216 }
     ensures read { IfOk result (λ said. MatchOption said
-        (GivesMore most (S.to_give source.old) (S.to_give source.new))
-        (λ text. GivesText most (S.to_give source.old) (S.to_give source.new) text.items)) }
+        (GivesMore most (S.gave source.old) (S.gave source.new))
+        (λ text. GivesText most (S.gave source.old) (S.gave source.new) (S.ended source.new)
+        text.items)) }
+    ensures grown { GrewFrom (S.gave source.old) (S.gave source.new) }
     ensures unrefused { IfErr result (λ f. IfRefused f ⊥) }
     ensures failures { Accounts result (counts (S.failures source.old) (S.failures source.new)
         ∷ []) }
@@ -65,10 +69,9 @@ pub fn read_past<A: Allocator, S: ByteSource>(
     most: usize,
 ) -> Result<Vec<u8, A>, Fault>
     requires { most ≤ 16777216 }
-    ensures given { IfOk result (λ octets. Consumes (S.to_give source.old)
-        (S.to_give source.new) octets.items) }
-    ensures whole { IfOk result (λ octets. length octets.items ≤ most
-        → IsAtEnd (S.to_give source.new)) }
+    ensures given { IfOk result (λ octets. S.gave source.new ≡ S.gave source.old ++ octets.items) }
+    ensures whole { IfOk result (λ octets. length octets.items ≤ most → S.ended source.new) }
+    ensures grown { GrewFrom (S.gave source.old) (S.gave source.new) }
     ensures unrefused { IfErr result (λ f. IfRefused f ⊥) }
     ensures failures { Accounts result (counts (S.failures source.old) (S.failures source.new)
         ∷ []) }

@@ -1,5 +1,5 @@
-use Rattle.std.proofs.Common.{◌<◌, ◌≤◌, ◌∙◌, ℕ, List, ap, get_or, length, refl, subst}
-use Rattle.std.proofs.KnownBytes.{Appends-nil}
+use Rattle.std.proofs.Common.{◌<◌, ◌≤◌, ◌∙◌, ℕ, List, ap, append-nil, get_or, length, refl}
+use Rattle.std.proofs.Common.{subst, sym}
 use Rattle.std.proofs.lemmas.Result.{err_from_is_err_and}
 use Rattle.path_merge.specs.Frames.{State}
 use Rattle.run_outcome.specs.Frames.{frame_line_at}
@@ -7,7 +7,7 @@ use Rattle.run_outcome.proofs.Printed.{texts_all, texts_cut, texts_more}
 use Rattle.run_outcome.proofs.printing.print_frames.Goals as goal
 
 pub loop-timestamp-init : goal.loop-timestamp-init
-loop-timestamp-init g c = record { printed = Appends-nil _; failures = refl }
+loop-timestamp-init g c = record { printed = sym (append-nil _); failures = refl }
 
 pub loop-timestamp-preserved : goal.loop-timestamp-preserved
 loop-timestamp-preserved g c =

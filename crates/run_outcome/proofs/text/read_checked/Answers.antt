@@ -13,9 +13,10 @@ use Rattle.run_outcome.proofs.text.read_checked.Goals as goal
 pub returns-in_err-read_located-clause-refusal : goal.returns-in_err-read_located-clause-refusal
 returns-in_err-read_located-clause-refusal g c =
     let said = c.in-Some.said.items in
-    let old = g.S.ByteSource.to_give c.args.source.now in
-    let new = g.S.ByteSource.to_give c.read_text.new.source in
-    let gives : GivesText 65535 old new said = search rules in
+    let old = g.S.ByteSource.gave c.args.source.now in
+    let new = g.S.ByteSource.gave c.read_text.new.source in
+    let ended = g.S.ByteSource.ended c.read_text.new.source in
+    let gives : GivesText 65535 old new ended said = search rules in
     let place = c.in_err-read_located.field-0.0 in
     let faulty : (place.fault ≡ NoMemory) ⊎ IsTextFault (video_sections (lines said)) place.fault =
     subst (λ (l : List ℕ). (place.fault ≡ NoMemory) ⊎ IsTextFault
@@ -24,16 +25,17 @@ returns-in_err-read_located-clause-refusal g c =
     let p =
     err_from_is_err_and c.from_residual-in_err-read_located.result
     c.from_residual-in_err-read_located.ensures.1 in
-    rw (p.1, p.2) (text_fault_refused c.args.too_long old new said gives place faulty)
+    rw (p.1, p.2) (text_fault_refused c.args.too_long old new ended said gives place faulty)
 
 pub returns-clause-says : goal.returns-clause-says
 returns-clause-says g c =
     let said = c.in-Some.said.items in
-    let old = g.S.ByteSource.to_give c.args.source.now in
-    let new = g.S.ByteSource.to_give c.read_text.new.source in
-    let gives : GivesText 65535 old new said = search rules in
+    let old = g.S.ByteSource.gave c.args.source.now in
+    let new = g.S.ByteSource.gave c.read_text.new.source in
+    let ended = g.S.ByteSource.ended c.read_text.new.source in
+    let gives : GivesText 65535 old new ended said = search rules in
     let sdp = description c.in_ok-read_located.field-0 in
-    of_source IsCaptureText old new said gives (record {
+    of_source IsCaptureText old new ended said gives (record {
       few = gives.few;
       description = sdp;
       described =

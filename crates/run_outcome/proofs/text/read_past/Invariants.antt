@@ -1,5 +1,4 @@
-use Rattle.std.proofs.Common.{◌≡◌, ◌-◌, length}
-use Rattle.std.specs.Io.KnownBytes.{Consumes}
+use Rattle.std.proofs.Common.{◌≡◌, ◌-◌, ◌++◌, length}
 use Rattle.run_outcome.proofs.text.read_past.Given as goal
 
 abbrev pub decreases-loop-piece : goal.decreases-loop-piece
@@ -7,7 +6,6 @@ decreases-loop-piece g l = 16777217 - length l.octets.items
 
 abbrev pub invariant-loop-piece : goal.invariant-loop-piece
 invariant-loop-piece g l = record {
-  given : Consumes (g.S.ByteSource.to_give l.initial.source)
-      (g.S.ByteSource.to_give l.source) l.octets.items;
+  given : g.S.ByteSource.gave l.source ≡ g.S.ByteSource.gave l.initial.source ++ l.octets.items;
   failures : g.S.ByteSource.failures l.source ≡ g.S.ByteSource.failures l.initial.source;
 }
