@@ -7,3 +7,5 @@ mod RehearsalLemmas
 mod FaultLemmas
 mod RehearsalReading
 mod RehearsedLemmas
+pub mod TraceLemmas
+mod UntracedLemmas

@@ -1,12 +1,8 @@
 -- What is played and printed of a rehearsal.
-use Rattle.std.proofs.Common.{◌≡◌, ◌⊎◌, inl, inr, Bool, ℕ, ◌+◌, ◌<◌, ◌≤◌, List, ◌++◌, length}
-use Rattle.std.proofs.Common.{get_or, take, Option, Result, Ok, Err, OnOk, OnErr, IfErr, ap}
-use Rattle.std.proofs.Common.{sym, subst, ◌∙◌, zero-add, arith}
-use Rattle.std.specs.Io.KnownBytes.{Appends}
+use Rattle.std.proofs.Common.{◌≡◌, ◌⊎◌, inl, inr, Bool, ℕ, ◌<◌, ◌≤◌, List, ◌++◌, length}
+use Rattle.std.proofs.Common.{get_or, Result, Ok, Err, OnOk, OnErr, IfErr, ap}
+use Rattle.std.proofs.Common.{sym, subst, ◌∙◌, zero-add}
 use Rattle.std.specs.List.{enumerate_from}
-use Rattle.std.proofs.KnownBytes.{Appends-trans}
-use Rattle.std.proofs.Math.Seq.{take-append-add}
-use Rattle.std.proofs.lemmas.List.{length-append, take-append-le}
 use Rattle.std.proofs.lemmas.List.FromFn.{get_or-enumerate_from, length-enumerate_from}
 use Rattle.packet_plan.specs.Plan.{IsFullPlan, RasterPlan}
 use Rattle.path_merge.specs.declared.schedule.event.Event.{Event}
@@ -15,8 +11,9 @@ use Rattle.path_merge.specs.declared.schedule.play_fault.PlayFault.TheVariants a
 use Rattle.path_merge.specs.declared.schedule.played.Handed.{Handed}
 use Rattle.path_merge.specs.declared.schedule.played.Played.{Played}
 use Rattle.path_merge.specs.Frames.{State}
-use Rattle.st_format.specs.Device.{AppendsPrefix}
+use Rattle.st_format.specs.Device.{GrowsPart}
 use Rattle.st_format.specs.Picture.{Values}
+use Rattle.run_outcome.proofs.Printed.{part_then, took_both}
 use Rattle.run_outcome.specs.declared.fault.Fault.{Fault}
 use Rattle.run_outcome.specs.declared.fault.Fault.TheVariants.{Refused, Device, Memory}
 use Rattle.script_engines.specs.declared.rehearsal.Rehearsal.{Rehearsal}
@@ -26,7 +23,7 @@ use Rattle.run_outcome.specs.declared.script_line.LineFault.TheVariants.{Play}
 use Rattle.run_outcome.specs.LowerFaults.{of_line}
 use Rattle.script_engines.specs.Rehearsal.{Heading, IsFaultyRehearsal, Said, SaysRehearsal, said_by}
 use Rattle.script_engines.specs.Rehearsed.{IsPlanOf, IsRefusedScript, IsUnplayed, IsUnplayedBy}
-use Rattle.script_engines.specs.Rehearsed.{PlaysSaid, Rehearses}
+use Rattle.script_engines.specs.Rehearsed.{PlaysSaid, Rehearses, RehearsesPart}
 use Rattle.script_engines.specs.Rehearsed.{handed_text, receivers_text}
 use Rattle.script_engines.specs.Script.{line_behind, numbered_lines}
 
@@ -49,67 +46,66 @@ numbered_end xs i end = subst (λ (n : ℕ). n ≤ i) (sym (length-enumerate_fro
 
 -- ---- one text behind another
 
--- what was cut within a text is cut within it and what follows
-pub cut_first : (old new : Option (List ℕ)) (xs ys : List ℕ) → AppendsPrefix old new xs
-    → AppendsPrefix old new (xs ++ ys)
-cut_first old new xs ys p = record {
-  count = p.count;
-  short = let s : p.count < length xs = p.short in omega (arith, length-append xs ys);
-  taken = let s : p.count ≤ length xs =
-      omega (arith, p.short) in subst (Appends old new)
-      (sym (take-append-le p.count xs ys s)) p.taken;
-}
-
--- what was cut behind a text
-pub cut_then : (old mid new : Option (List ℕ)) (xs ys : List ℕ) → Appends old mid xs
-    → AppendsPrefix mid new ys → AppendsPrefix old new (xs ++ ys)
-cut_then old mid new xs ys p q = record {
-  count = length xs + q.count;
-  short = let s : q.count < length ys = q.short in omega (arith, length-append xs ys);
-  taken =
-      subst (Appends old new) (sym (take-append-add xs ys q.count))
-      (Appends-trans old mid new xs (take q.count ys) p q.taken);
-}
-
 -- where the second of two texts was printed, both were
-pub both_printed : {V E : Type 0} (r : Result V E) (old mid new : Option (List ℕ))
-    (xs ys : List ℕ) → Appends old mid xs → OnOk r (Appends mid new ys)
-    → OnOk r (Appends old new (xs ++ ys))
-both_printed (Ok v) old mid new xs ys p q = Appends-trans old mid new xs ys p q
+pub both_printed : {V E : Type 0} (r : Result V E) (old mid new xs ys : List ℕ)
+    → mid ≡ old ++ xs → OnOk r (new ≡ mid ++ ys) → OnOk r (new ≡ old ++ (xs ++ ys))
+both_printed (Ok v) old mid new xs ys p q = took_both old mid new xs ys p q
 both_printed (Err e) old mid new xs ys p q = tt
 
-pub both_cut : {V E : Type 0} (r : Result V E) (old mid new : Option (List ℕ))
-    (xs ys : List ℕ) → Appends old mid xs → OnErr r (AppendsPrefix mid new ys)
-    → OnErr r (AppendsPrefix old new (xs ++ ys))
+pub both_cut : {V E : Type 0} (r : Result V E) (old mid new xs ys : List ℕ)
+    → mid ≡ old ++ xs → OnErr r (GrowsPart mid new ys) → OnErr r (GrowsPart old new (xs ++ ys))
 both_cut (Ok v) old mid new xs ys p q = tt
-both_cut (Err e) old mid new xs ys p q = cut_then old mid new xs ys p q
+both_cut (Err e) old mid new xs ys p q = part_then old mid new xs ys p q
 
 -- what is so where a run succeeds
 pub on_ok_map : {V E P Q : Type 0} (r : Result V E) → (P → Q) → OnOk r P → OnOk r Q
 on_ok_map (Ok v) f p = f p
 on_ok_map (Err e) f p = tt
 
+pub on_err_map : {V E P Q : Type 0} (r : Result V E) → (P → Q) → OnErr r P → OnErr r Q
+on_err_map (Ok v) f p = tt
+on_err_map (Err e) f p = f p
+
 -- ---- a script that is played, or refused
 
 pub rehearses : {A : Type 0} (script : List ℕ) (r : Rehearsal A) (played : Played A)
-    (handed : List (Handed A)) (receivers : List State) (old mid new : Option (List ℕ))
+    (handed : List (Handed A)) (receivers : List State) (old mid new : List ℕ)
     → handed ≡ played.handed.items → receivers ≡ played.receivers.items
     → SaysRehearsal (numbered_lines 0 script) (said_by r) → PlaysSaid played (said_by r)
-    → Appends old mid (handed_text handed) → Appends mid new (receivers_text receivers)
+    → mid ≡ old ++ handed_text handed → new ≡ mid ++ receivers_text receivers
     → Rehearses A script old new
 rehearses script r played handed receivers old mid new h e says plays p q =
-    let first : Appends old mid (handed_text played.handed.items) =
-    subst (λ (hs : List (Handed _)). Appends old mid (handed_text hs)) h p in
-    let last : Appends mid new (receivers_text played.receivers.items) =
-    subst (λ (rs : List State). Appends mid new (receivers_text rs)) e q in
+    let first : mid ≡ old ++ handed_text played.handed.items =
+    subst (λ (hs : List (Handed _)). mid ≡ old ++ handed_text hs) h p in
+    let last : new ≡ mid ++ receivers_text played.receivers.items =
+    subst (λ (rs : List State). new ≡ mid ++ receivers_text rs) e q in
     record {
       said = said_by r;
       says = says;
       played = played;
       plays = plays;
-      printed = Appends-trans old mid new (handed_text played.handed.items)
+      printed = took_both old mid new (handed_text played.handed.items)
           (receivers_text played.receivers.items) first last;
     }
+
+-- where the output failed, a first part of it was printed
+pub rehearses_part : {A : Type 0} (script : List ℕ) (r : Rehearsal A) (played : Played A)
+    (handed : List (Handed A)) (receivers : List State) (old new : List ℕ)
+    → handed ≡ played.handed.items → receivers ≡ played.receivers.items
+    → SaysRehearsal (numbered_lines 0 script) (said_by r) → PlaysSaid played (said_by r)
+    → GrowsPart old new (handed_text handed ++ receivers_text receivers)
+    → RehearsesPart A script old new
+rehearses_part script r played handed receivers old new h e says plays p = record {
+  said = said_by r;
+  says = says;
+  played = played;
+  plays = plays;
+  cut =
+      subst (λ (hs : List (Handed _)). GrowsPart old new
+      (handed_text hs ++ receivers_text played.receivers.items)) h
+      (subst (λ (rs : List State). GrowsPart old new
+      (handed_text handed ++ receivers_text rs)) e p);
+}
 
 -- a fault of the lines that were read, as one that a run ends by
 pub refused_read : (script : List ℕ) (is_cut : Bool) (f y : Fault) → y ≡ f

@@ -1,6 +1,6 @@
 -- What is printed of an SDP text, and why one is refused.
-use Rattle.std.specs.Prelude.{◌≡◌, ℕ, List, [], ◌∷◌, ◌++◌, Bool, true, false, Option, IfSome, ⊤}
-use Rattle.std.specs.Io.KnownBytes.{Appends}
+use Rattle.std.specs.Prelude.{◌≡◌, ℕ, List, [], ◌∷◌, ◌++◌, Bool, true, false, IfSome, ⊤}
+use Rattle.st_format.specs.Device.{GrowsPart}
 use Rattle.sdp_format.specs.Bytes.{lines}
 use Rattle.sdp_format.specs.Canonical.{canonical_line}
 use Rattle.sdp_format.specs.Grammar.{IsDescribed, IsTextFault}
@@ -20,10 +20,16 @@ pub record IsCanonicalOf (text line : List ℕ) : Type 0 where
   pub line_is : line ≡ canonical_line described.leg ++ 10 ∷ []
 
 -- the line of a text that describes a video was printed
-pub record Describes (text : List ℕ) (old new : Option (List ℕ)) : Type 0 where
+pub record Describes (text old new : List ℕ) : Type 0 where
   pub line : List ℕ
   pub is : IsCanonicalOf text line
-  pub printed : Appends old new line
+  pub printed : new ≡ old ++ line
+
+-- the line of a text that describes a video was printed in part
+pub record DescribesPart (text old new : List ℕ) : Type 0 where
+  pub line : List ℕ
+  pub is : IsCanonicalOf text line
+  pub cut : GrowsPart old new line
 
 -- why a text describes no video, and where in it; or that memory was wanted
 abbrev pub IsUndescribedText : List ℕ → Fault → Type 0

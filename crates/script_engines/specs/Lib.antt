@@ -3,6 +3,7 @@ pub mod Reading
 pub mod Forms
 pub mod FirstLines
 pub mod Session
+pub mod Traced
 pub mod Described
 pub mod RehearsalForms
 pub mod Rehearsal

@@ -1,7 +1,6 @@
 -- What is played of a rehearsal, what is printed of it, and why one is not played.
 use Rattle.std.specs.Prelude.{◌≡◌, ℕ, ◌+◌, ◌<◌, ◌⊎◌, List, [], ◌∷◌, ◌++◌, Bool, length}
-use Rattle.std.specs.Prelude.{Option, ⊤}
-use Rattle.std.specs.Io.KnownBytes.{Appends}
+use Rattle.std.specs.Prelude.{⊤}
 use Rattle.std.specs.List.{enumerate_from, flat_map}
 use Rattle.run_outcome.specs.Frames.{frame_lines}
 use Rattle.frame_assembly.specs.Kinds.{counts_of}
@@ -20,6 +19,7 @@ use Rattle.path_merge.specs.Played.{ArePictures, IsPlayed, IsReceiverCount}
 use Rattle.path_merge.specs.Reached.{IsFrameOf, Scene}
 use Rattle.path_merge.specs.Sent.{AreSentBy, IsSendersFrame, scene_of, sender_of}
 use Rattle.path_merge.specs.Stays.{Stay}
+use Rattle.st_format.specs.Device.{GrowsPart}
 use Rattle.st_format.specs.Raster.{Raster}
 use Rattle.run_outcome.specs.declared.line.Line.TheVariants.{HandedOut, Receiver}
 use Rattle.run_outcome.specs.declared.fault.Fault.{Fault}
@@ -126,9 +126,17 @@ abbrev pub played_text : {A : Type 0} → Played A → List ℕ
 played_text played = handed_text played.handed.items ++ receivers_text played.receivers.items
 
 -- A script says a rehearsal, which was played, and of which this was printed (own)
-pub record Rehearses (A : Type 0) (script : List ℕ) (old new : Option (List ℕ)) : Type 0 where
+pub record Rehearses (A : Type 0) (script old new : List ℕ) : Type 0 where
   pub said : Said
   pub says : SaysRehearsal (numbered_lines 0 script) said
   pub played : Played A
   pub plays : PlaysSaid played said
-  pub printed : Appends old new (played_text played)
+  pub printed : new ≡ old ++ played_text played
+
+-- A script says a rehearsal, which was played, and a first part of this was printed (own)
+pub record RehearsesPart (A : Type 0) (script old new : List ℕ) : Type 0 where
+  pub said : Said
+  pub says : SaysRehearsal (numbered_lines 0 script) said
+  pub played : Played A
+  pub plays : PlaysSaid played said
+  pub cut : GrowsPart old new (played_text played)

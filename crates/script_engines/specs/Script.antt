@@ -1,8 +1,7 @@
 -- Lines of a script.
-use Rattle.std.specs.Prelude.{◌≡◌, ℕ, ◌+◌, ◌-◌, ◌≤◌, ◌<◌, ◌==◌, not, Bool, true, false, Option}
-use Rattle.std.specs.Prelude.{List, length, take, drop, filter, slice_index, All, ◌≢◌, ◌⊎◌}
+use Rattle.std.specs.Prelude.{◌≡◌, ℕ, ◌+◌, ◌-◌, ◌≤◌, ◌<◌, ◌==◌, not, Bool, true, false}
+use Rattle.std.specs.Prelude.{List, ◌++◌, length, take, drop, filter, slice_index, All, ◌≢◌, ◌⊎◌}
 use Rattle.std.specs.List.{enumerate_from}
-use Rattle.std.specs.Io.KnownBytes.{Consumes, IsAtEnd}
 use Rattle.std.specs.Str.Lines.{lines}
 use Rattle.script_engines.specs.declared.script.TheConstants.{LIMIT}
 
@@ -31,16 +30,17 @@ IsCut given script true =
     (LIMIT < length given) × IsWholeLines (take LIMIT given) (length script)
     × (script ≡ take (length script) given)
 
--- a source gave such octets, and all that it had but where they pass the limit
-abbrev pub IsReadFrom : Option (List ℕ) → Option (List ℕ) → List ℕ → Bool → Type 0
-IsReadFrom old new script is_cut =
-    (given : List ℕ) × Consumes old new given × IsCut given script is_cut
-    × (length given ≤ LIMIT → IsAtEnd new)
+-- Between two moments a source gave such octets, and told its end but where they pass the limit.
+abbrev pub IsReadFrom : List ℕ → List ℕ → Type 0 → List ℕ → Bool → Type 0
+IsReadFrom before now ended script is_cut =
+    (given : List ℕ) × (now ≡ before ++ given) × IsCut given script is_cut
+    × (length given ≤ LIMIT → ended)
 
 -- a source gave a whole script
-abbrev pub GivesScript : Option (List ℕ) → Option (List ℕ) → Type 0
-GivesScript old new = (script : List ℕ) × IsReadFrom old new script false
+abbrev pub GivesScript : List ℕ → List ℕ → Type 0 → Type 0
+GivesScript before now ended = (script : List ℕ) × IsReadFrom before now ended script false
 
--- a source gave all that it had, or more than a script may have
-abbrev pub GivesAll : Option (List ℕ) → Option (List ℕ) → Type 0
-GivesAll old new = (script : List ℕ) × (is_cut : Bool) × IsReadFrom old new script is_cut
+-- a source gave octets up to its end, or more than a script may have
+abbrev pub GivesAll : List ℕ → List ℕ → Type 0 → Type 0
+GivesAll before now ended =
+    (script : List ℕ) × (is_cut : Bool) × IsReadFrom before now ended script is_cut

@@ -1,6 +1,6 @@
 -- What the lines of a script do to a receiver and to what stands beside it.
 use Rattle.std.specs.Prelude.{◌≡◌, ◌≢◌, ◌≤◌, ◌⊎◌, ℕ, false, length, List, [], ◌∷◌, replicate}
-use Rattle.std.specs.Prelude.{Option, Some, None, Result, Ok, Err, slice_get, ⊤}
+use Rattle.std.specs.Prelude.{Option, Some, None, Result, Ok, Err, slice_get}
 use Rattle.frame_assembly.specs.Kinds.{counts_of}
 use Rattle.path_merge.specs.declared.answer.Refusal.{Refusal}
 use Rattle.path_merge.specs.declared.answer.Taken.{Taken}
@@ -8,7 +8,7 @@ use Rattle.path_merge.specs.declared.answer.Taken.TheVariants as taken
 use Rattle.path_merge.specs.declared.fault.SlideFault.TheVariants.{InWindow}
 use Rattle.path_merge.specs.Answers.{refusals_after, taken_at}
 use Rattle.path_merge.specs.Frames.{State, cell_in, frames_of, joined_frames}
-use Rattle.path_merge.specs.Numbers.{Numbers, number_place, with_place}
+use Rattle.path_merge.specs.Numbers.{IsCount, Numbers, number_place, with_place}
 use Rattle.path_merge.specs.Sliding.{slid_state}
 use Rattle.st_format.specs.declared.cell.Cell.{Cell}
 use Rattle.st_format.specs.declared.cell.Cell.TheVariants as cell
@@ -25,10 +25,6 @@ use Rattle.script_engines.specs.declared.line.SamplePlace.{SamplePlace}
 use Rattle.script_engines.specs.declared.line.TraceLine.{TraceLine}
 use Rattle.script_engines.specs.declared.line.TraceLine.TheVariants.{Datagram, Slide}
 use Rattle.script_engines.specs.declared.line.TraceLine.TheVariants as line
-use Rattle.run_outcome.specs.declared.refusal.Refusal.{Refusal as CommandRefusal}
-use Rattle.run_outcome.specs.declared.refusal.Refusal.TheVariants as refusal
-use Rattle.run_outcome.specs.declared.script_line.LineFault.{LineFault}
-use Rattle.run_outcome.specs.declared.script_line.LineFault.TheVariants as fault
 use Rattle.script_engines.specs.Forms.{IsOctetsText, IsTraceLine}
 
 -- the answer to a datagram, by what the receiver says of it
@@ -101,6 +97,7 @@ pub record BeginsNumbers (first count : ℕ) (old new : State) (before after : O
     (answer : Option Line) : Type 0 where
   pub answer_is : answer ≡ None
   pub once : before ≡ None
+  pub size : IsCount count
   pub numbers : after ≡ Some (no_numbers first count)
   pub receiver : new ≡ old
 
@@ -113,11 +110,12 @@ pub record TellsCell (place : SamplePlace) (old new : State) (before after : Opt
   pub receiver : new ≡ old
   pub numbers : after ≡ before
 
--- What a line of `trace` does to the receiver and the numbers beside it, and what it answers (own)
+-- What a line of `trace` does to the receiver and the numbers beside it, and what it answers; the
+-- length of a UDP datagram has 16 bits (RFC 768), so one of more octets can't come (own)
 abbrev pub Follows : TraceLine → State → State → Option Numbers → Option Numbers → Option Line
     → Type 0
 Follows (Datagram path digits) old new before after answer =
-    (octets : List ℕ) × IsOctetsText digits.now octets
+    (octets : List ℕ) × (length octets ≤ 65535) × IsOctetsText digits.now octets
     × AnswersDatagram path octets old new before after answer
 Follows (Slide next) old new before after answer = SlidesTo next old new before after answer
 Follows (line.Numbers first count) old new before after answer =
@@ -132,20 +130,6 @@ IsUnfitLine (Datagram path digits) room numbers =
 IsUnfitLine (Slide next) room numbers = ⊥
 IsUnfitLine (line.Numbers first count) room numbers = numbers ≢ None
 IsUnfitLine (line.Cell place) room numbers = ⊥
-
--- The refusals of `trace`: of a line of the script by its form, by its format, by its opening, by
--- its numbers (own)
-abbrev pub IsTraceFault : LineFault → Type 0
-IsTraceFault (fault.Form form) = ⊤
-IsTraceFault (fault.Format f) = ⊤
-IsTraceFault (fault.Open f) = ⊤
-IsTraceFault (fault.Numbers f) = ⊤
-IsTraceFault (fault.Plan f) = ⊥
-IsTraceFault (fault.Play f) = ⊥
-
-abbrev pub IsTraceRefusal : CommandRefusal → Type 0
-IsTraceRefusal (refusal.Script number f) = IsTraceFault f
-IsTraceRefusal other = ⊥
 
 -- a line that is of no form, or an unfit one (own)
 abbrev pub IsAtFault : List ℕ → ℕ → Option Numbers → Type 0

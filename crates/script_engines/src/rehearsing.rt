@@ -1,12 +1,14 @@
 //! The engine of `rehearse`.
-ghost use Rattle.std.specs.Prelude.{◌≡◌, ◌≤◌, ◌∷◌, [], false, length, IfErr, IfOk, OnErr, OnOk};
-ghost use Rattle.std.specs.Io.KnownBytes.{Appends};
-ghost use Rattle.st_format.specs.Device.{AppendsPrefix, Failed};
+ghost use Rattle.std.specs.Prelude.{◌≡◌, ◌≤◌, ◌⊎◌, ◌∷◌, ◌++◌, [], false, length, IfErr, IfOk};
+ghost use Rattle.std.specs.Prelude.{OnErr, OnOk};
+ghost use Rattle.st_format.specs.Device.{GrowsPart};
+ghost use Rattle.st_format.specs.History.{GrewFrom};
 ghost use Rattle.run_outcome.specs.Fault.{Accounts, IfRefused, counts};
 ghost use Rattle.run_outcome.specs.Refusing.{OfRefusal};
 ghost use Rattle.script_engines.specs.Reading.{DoesScript, IsRefusedFor, Reads};
 ghost use Rattle.script_engines.specs.Rehearsal.{said_by};
 ghost use Rattle.script_engines.specs.Rehearsed.{IsRefusedScript, IsUnplayed, PlaysSaid, Rehearses};
+ghost use Rattle.script_engines.specs.Rehearsed.{RehearsesPart};
 ghost use Rattle.script_engines.specs.Rehearsed.{handed_line, handed_text, receiver_lines};
 ghost use Rattle.script_engines.specs.Rehearsed.{receivers_text};
 ghost use Rattle.run_outcome.specs.Telling.{memory_line};
@@ -37,12 +39,17 @@ where
     O: ByteSink,
     ensures failures { Accounts result (counts (S.failures source.old) (S.failures source.new)
         ∷ counts (O.failures output.old) (O.failures output.new) ∷ []) }
-    ensures read { Reads result (S.to_give source.old) (S.to_give source.new) }
-    ensures rehearses { OnOk result (DoesScript (Rehearses A)
-        (S.to_give source.old) (S.to_give source.new) (O.held output.old) (O.held output.new)) }
-    ensures refusal { IfErr result (λ f. OfRefusal f
-        (IsRefusedFor IsRefusedScript (S.to_give source.old) (S.to_give source.new))) }
-    ensures nothing { IfErr result (λ f. IfRefused f (O.held output.new ≡ O.held output.old)) }
+    ensures read { Reads result (S.gave source.old) (S.gave source.new) (S.ended source.new) }
+    ensures grown { GrewFrom (S.gave source.old) (S.gave source.new) }
+    ensures rehearses { OnOk result (DoesScript (Rehearses A) (S.gave source.old)
+        (S.gave source.new) (S.ended source.new) (O.took output.old) (O.took output.new)) }
+    ensures refusal { IfErr result (λ f. OfRefusal f (IsRefusedFor IsRefusedScript
+        (S.gave source.old) (S.gave source.new) (S.ended source.new))) }
+    ensures nothing { IfErr result (λ f. IfRefused f (O.took output.new ≡ O.took output.old)) }
+    // Where a device failed or memory was wanted, nothing or a first part of it is printed.
+    ensures cut { OnErr result ((O.took output.new ≡ O.took output.old)
+        ⊎ DoesScript (RehearsesPart A) (S.gave source.old) (S.gave source.new)
+        (S.ended source.new) (O.took output.old) (O.took output.new)) }
 {
     let script = read_script(alloc, source)?;
     rehearse_script(alloc, &script, output)
@@ -59,10 +66,13 @@ fn rehearse_script<A: Allocator + Copy, O: ByteSink>(
         ∷ []) }
     ensures whole { OnOk result (script.now.is_cut ≡ false) }
     ensures rehearses { OnOk result
-        (Rehearses A script.now.octets.items (O.held output.old) (O.held output.new)) }
+        (Rehearses A script.now.octets.items (O.took output.old) (O.took output.new)) }
     ensures refusal { IfErr result (λ f. OfRefusal f (λ r.
         IsRefusedScript script.now.octets.items script.now.is_cut (Fault.Refused r))) }
-    ensures nothing { IfErr result (λ f. IfRefused f (O.held output.new ≡ O.held output.old)) }
+    ensures nothing { IfErr result (λ f. IfRefused f (O.took output.new ≡ O.took output.old)) }
+    ensures cut { OnErr result ((O.took output.new ≡ O.took output.old)
+        ⊎ ((script.now.is_cut ≡ false)
+        × RehearsesPart A script.now.octets.items (O.took output.old) (O.took output.new))) }
 {
     let rehearsal = read_rehearsal(alloc, script)?;
     let played = play_rehearsal(alloc, &rehearsal)?;
@@ -110,9 +120,9 @@ fn print_handed<A: Allocator, O: ByteSink>(
         ∷ []) }
     ensures unrefused { IfErr result (λ f. IfRefused f ⊥) }
     ensures printed { OnOk result
-        (Appends (O.held output.old) (O.held output.new) (handed_text handed.now)) }
+        (O.took output.new ≡ O.took output.old ++ handed_text handed.now) }
     ensures cut { OnErr result
-        (AppendsPrefix (O.held output.old) (O.held output.new) (handed_text handed.now)) }
+        (GrowsPart (O.took output.old) (O.took output.new) (handed_text handed.now)) }
 {
     for out in handed {
         print_out(out, output)?;
@@ -126,9 +136,9 @@ fn print_out<A: Allocator, O: ByteSink>(out: &Handed<A>, output: &mut O) -> Resu
         ∷ []) }
     ensures unrefused { IfErr result (λ f. IfRefused f ⊥) }
     ensures printed { OnOk result
-        (Appends (O.held output.old) (O.held output.new) (handed_line out.now)) }
+        (O.took output.new ≡ O.took output.old ++ handed_line out.now) }
     ensures cut { OnErr result
-        (AppendsPrefix (O.held output.old) (O.held output.new) (handed_line out.now)) }
+        (GrowsPart (O.took output.old) (O.took output.new) (handed_line out.now)) }
 {
     let counts = out.frame.counts();
     print(Line::HandedOut(out.receiver, out.timestamp, counts), output)
@@ -143,9 +153,9 @@ fn print_receivers<A: Allocator, O: ByteSink>(
         ∷ []) }
     ensures unrefused { IfErr result (λ f. IfRefused f ⊥) }
     ensures printed { OnOk result
-        (Appends (O.held output.old) (O.held output.new) (receivers_text receivers.now)) }
+        (O.took output.new ≡ O.took output.old ++ receivers_text receivers.now) }
     ensures cut { OnErr result
-        (AppendsPrefix (O.held output.old) (O.held output.new) (receivers_text receivers.now)) }
+        (GrowsPart (O.took output.old) (O.took output.new) (receivers_text receivers.now)) }
 {
     for (number, receiver) in receivers.iter().enumerate() {
         print_receiver(number, receiver, output)?;
@@ -163,9 +173,9 @@ fn print_receiver<A: Allocator, O: ByteSink>(
         ∷ []) }
     ensures unrefused { IfErr result (λ f. IfRefused f ⊥) }
     ensures printed { OnOk result
-        (Appends (O.held output.old) (O.held output.new) (receiver_lines (number, receiver.now))) }
+        (O.took output.new ≡ O.took output.old ++ receiver_lines (number, receiver.now)) }
     ensures cut { OnErr result
-        (AppendsPrefix (O.held output.old) (O.held output.new)
+        (GrowsPart (O.took output.old) (O.took output.new)
         (receiver_lines (number, receiver.now))) }
 {
     print(Line::Receiver(number), output)?;

@@ -2,6 +2,7 @@
 ghost use Rattle.std.specs.Prelude.{◌≡◌, ◌≤◌, ◌<◌, ◌+◌, ◌∷◌, [], length, IfErr, IfNone, IfSome};
 ghost use Rattle.std.specs.Prelude.{IfOk, MatchOption};
 ghost use Rattle.std.specs.Str.Lines.{lines};
+ghost use Rattle.st_format.specs.History.{GrewFrom};
 ghost use Rattle.run_outcome.specs.Fault.{Accounts, IfRefused, counts};
 ghost use Rattle.run_outcome.specs.LowerFaults.{IsMisformed};
 ghost use Rattle.script_engines.specs.Script.{IsCut, IsReadFrom, IsWholeLines, line_behind};
@@ -33,7 +34,9 @@ where
         ∷ []) }
     ensures unrefused { IfErr result (λ f. IfRefused f ⊥) }
     ensures read { IfOk result (λ s.
-        IsReadFrom (S.to_give source.old) (S.to_give source.new) s.octets.items s.is_cut) }
+        IsReadFrom (S.gave source.old) (S.gave source.new) (S.ended source.new)
+        s.octets.items s.is_cut) }
+    ensures grown { GrewFrom (S.gave source.old) (S.gave source.new) }
 {
     Ok(cut_at_limit(read_past(alloc, source, LIMIT)?))
 }

@@ -1,10 +1,11 @@
 //! The engine of `sdp`.
-ghost use Rattle.std.specs.Prelude.{◌∷◌, [], IfErr, IfOk, OnOk};
-ghost use Rattle.run_outcome.specs.Fault.{Accounts, counts};
+ghost use Rattle.std.specs.Prelude.{◌≡◌, ◌⊎◌, ◌∷◌, [], IfErr, IfOk, OnErr, OnOk};
+ghost use Rattle.st_format.specs.History.{GrewFrom};
+ghost use Rattle.run_outcome.specs.Fault.{Accounts, IfRefused, counts};
 ghost use Rattle.run_outcome.specs.Refusing.{OfRefusal};
 ghost use Rattle.script_engines.specs.Reading.{DoesScript, IsRefusedFor, Reads};
-ghost use Rattle.script_engines.specs.Described.{Describes, IsCanonicalOf, IsUndescribedText};
-ghost use Rattle.script_engines.specs.Described.{IsUndescribed};
+ghost use Rattle.script_engines.specs.Described.{Describes, DescribesPart, IsCanonicalOf};
+ghost use Rattle.script_engines.specs.Described.{IsUndescribed, IsUndescribedText};
 
 use crate::script::read_script;
 use run_outcome::{Fault, Form};
@@ -24,13 +25,19 @@ where
     A: Allocator + Copy,
     S: ByteSource,
     O: ByteSink,
-    ensures read { Reads result (S.to_give source.old) (S.to_give source.new) }
+    ensures read { Reads result (S.gave source.old) (S.gave source.new) (S.ended source.new) }
+    ensures grown { GrewFrom (S.gave source.old) (S.gave source.new) }
     ensures failures { Accounts result (counts (S.failures source.old) (S.failures source.new)
         ∷ counts (O.failures output.old) (O.failures output.new) ∷ []) }
-    ensures printed { OnOk result (DoesScript Describes
-        (S.to_give source.old) (S.to_give source.new) (O.held output.old) (O.held output.new)) }
-    ensures refusal { IfErr result (λ f. OfRefusal f
-        (IsRefusedFor IsUndescribed (S.to_give source.old) (S.to_give source.new))) }
+    ensures printed { OnOk result (DoesScript Describes (S.gave source.old) (S.gave source.new)
+        (S.ended source.new) (O.took output.old) (O.took output.new)) }
+    ensures refusal { IfErr result (λ f. OfRefusal f (IsRefusedFor IsUndescribed
+        (S.gave source.old) (S.gave source.new) (S.ended source.new))) }
+    ensures nothing { IfErr result (λ f. IfRefused f (O.took output.new ≡ O.took output.old)) }
+    // Where a device failed or memory was wanted, nothing or a first part of it is printed.
+    ensures cut { OnErr result ((O.took output.new ≡ O.took output.old)
+        ⊎ DoesScript DescribesPart (S.gave source.old) (S.gave source.new)
+        (S.ended source.new) (O.took output.old) (O.took output.new)) }
 {
     let script = read_script(alloc, source)?;
     if script.is_cut {

@@ -1,6 +1,6 @@
 //! What the lines of a script are followed with.
-ghost use Rattle.std.specs.Prelude.{◌≡◌, ◌≢◌, ◌↔◌, ◌∷◌, [], ℕ, IfErr, IfOk, IfSome, IsErr, IsErrOf};
-ghost use Rattle.std.specs.Prelude.{None, Ok, OnOk, Some};
+ghost use Rattle.std.specs.Prelude.{◌≡◌, ◌≢◌, ◌↔◌, ◌⊎◌, ◌∷◌, [], ℕ, IfErr, IfOk, IfSome};
+ghost use Rattle.std.specs.Prelude.{IsErr, IsErrOf, None, Ok, OnOk, Some};
 ghost use Rattle.std.proofs.Props.{props};
 ghost use Rattle.path_merge.specs.Answers.{refusals_after, taken_at};
 ghost use Rattle.path_merge.specs.Frames.{cell_in, frames_of, joined_frames};
@@ -12,8 +12,7 @@ ghost use Rattle.run_outcome.specs.LowerFaults.{of_line, of_script};
 ghost use Rattle.run_outcome.specs.declared.script_line.Form.TheVariants as form;
 ghost use Rattle.run_outcome.specs.declared.script_line.LineFault.TheVariants as fault;
 ghost use Rattle.run_outcome.specs.declared.script_line.Form.{Form};
-ghost use Rattle.run_outcome.specs.Refusing.{OfRefusal};
-ghost use Rattle.script_engines.specs.Session.{IsSamplePlace, IsSlide, IsTraceRefusal};
+ghost use Rattle.script_engines.specs.Session.{IsSamplePlace, IsSlide};
 ghost use Rattle.script_engines.specs.Session.{cell_answer, datagram_answer};
 ghost use Rattle.script_engines.specs.Session.{no_numbers, numbers_after, position_of, with_number};
 
@@ -86,7 +85,9 @@ impl<A: Allocator> Session<A> {
         ensures count { IsErrOf result (of_line line (fault.Numbers SeqMapFault.BadCount))
             ↔ ((self.old.numbers ≡ None) × (IsCount count → ⊥)) }
         ensures failures { Accounts result [] }
-        ensures refusal { IfErr result (λ f. OfRefusal f IsTraceRefusal) }
+        ensures why { IfErr result (λ f. (f ≡ Fault.Memory) ⊎ ((f ≡ of_script line form.Numbers)
+            ⊎ (f ≡ of_line line (fault.Numbers SeqMapFault.BadCount)))) }
+        ensures size { OnOk result (IsCount count) }
         ensures opened { OnOk result (self.new.numbers ≡ Some (no_numbers first count)) }
         ensures receiver { self.new.receiver ≡ self.old.receiver }
     {

@@ -1,14 +1,20 @@
 //! The engine of `trace`.
-ghost use Rattle.std.specs.Prelude.{◌≡◌, ◌≤◌, ◌<◌, ◌↔◌, ◌∷◌, [], ℕ};
-ghost use Rattle.std.specs.Prelude.{false, length, Err, IfErr, IfOk, OnOk};
+ghost use Rattle.std.specs.Prelude.{◌≡◌, ◌≤◌, ◌<◌, ◌+◌, ◌↔◌, ◌⊎◌, ◌∷◌, ◌++◌, [], ℕ, Bool};
+ghost use Rattle.std.specs.Prelude.{None, false, length, Err, IfErr, IfOk, OnErr, OnOk};
 ghost use Rattle.path_merge.specs.Frames.{Holds};
-ghost use Rattle.script_engines.specs.FirstLines.{ReadsOpening, lines_left};
-ghost use Rattle.run_outcome.specs.Fault.{Accounts, counts};
+ghost use Rattle.path_merge.specs.Opening.{IsWindow};
+ghost use Rattle.st_format.specs.History.{GrewFrom};
+ghost use Rattle.script_engines.specs.FirstLines.{ReadsOpening, end_of, lines_left};
+ghost use Rattle.run_outcome.specs.Fault.{Accounts, IfRefused, counts};
 ghost use Rattle.run_outcome.specs.LowerFaults.{EndsMisformed};
 ghost use Rattle.run_outcome.specs.Refusing.{OfRefusal};
-ghost use Rattle.script_engines.specs.Reading.{Reads};
-ghost use Rattle.script_engines.specs.Forms.{IsTraceLine};
-ghost use Rattle.script_engines.specs.Session.{Follows, IsAtFault, IsTraceRefusal};
+ghost use Rattle.script_engines.specs.Reading.{DoesScript, IsRefusedFor, Reads};
+ghost use Rattle.script_engines.specs.Session.{IsAtFault};
+ghost use Rattle.script_engines.specs.Traced.{Answers, AnswersSome, FollowsLine, IsAnswered};
+ghost use Rattle.script_engines.specs.Traced.{IsFaultyOpening, IsFaultyStart, IsPartAnswered};
+ghost use Rattle.script_engines.specs.Traced.{IsUnfollowed, IsUntraced, OpensBy, PlaysLines};
+ghost use Rattle.script_engines.specs.Traced.{PrintsPart, StopsAt};
+ghost use Rattle.script_engines.specs.Traced.{Traces, TracesPart, TracesSome, absent_lines};
 
 use crate::first_lines::{next_line, read_format};
 use crate::line::{TraceLine, read_octets, read_open_line, read_trace_line, read_window};
@@ -37,8 +43,14 @@ where
     O: ByteSink,
     ensures failures { Accounts result (counts (S.failures source.old) (S.failures source.new)
         ∷ counts (O.failures output.old) (O.failures output.new) ∷ []) }
-    ensures read { Reads result (S.to_give source.old) (S.to_give source.new) }
-    ensures refusal { IfErr result (λ f. OfRefusal f IsTraceRefusal) }
+    ensures read { Reads result (S.gave source.old) (S.gave source.new) (S.ended source.new) }
+    ensures grown { GrewFrom (S.gave source.old) (S.gave source.new) }
+    ensures refusal { IfErr result (λ f. OfRefusal f (IsRefusedFor IsUntraced
+        (S.gave source.old) (S.gave source.new) (S.ended source.new))) }
+    ensures traces { OnOk result (DoesScript Traces (S.gave source.old) (S.gave source.new)
+        (S.ended source.new) (O.took output.old) (O.took output.new)) }
+    ensures part { OnErr result (TracesPart (S.gave source.old) (S.gave source.new)
+        (S.ended source.new) (O.took output.old) (O.took output.new)) }
 {
     let script = read_script(alloc, source)?;
     play(alloc, &script, output)
@@ -54,7 +66,12 @@ fn play<A: Allocator + Copy, O: ByteSink>(
     ensures failures { Accounts result (counts (O.failures output.old) (O.failures output.new)
         ∷ []) }
     ensures whole { OnOk result (script.now.is_cut ≡ false) }
-    ensures refusal { IfErr result (λ f. OfRefusal f IsTraceRefusal) }
+    ensures refusal { IfErr result (λ f. OfRefusal f (λ r.
+        IsUntraced script.now.octets.items script.now.is_cut (Fault.Refused r))) }
+    ensures traces { OnOk result
+        (Traces script.now.octets.items (O.took output.old) (O.took output.new)) }
+    ensures part { OnErr result ((O.took output.new ≡ O.took output.old)
+        ⊎ TracesSome script.now.octets.items (O.took output.old) (O.took output.new)) }
 {
     let mut lines = Lines::new(&script.octets, script.is_cut);
     let mut session = open_session(alloc, &mut lines)?;
@@ -64,7 +81,12 @@ fn play<A: Allocator + Copy, O: ByteSink>(
 /// Opens a receiver of the format of the first line, and begins a session with it.
 fn open_session<A: Allocator + Copy>(alloc: A, lines: &mut Lines<'_>) -> Result<Session<A>, Fault>
     ensures failures { Accounts result [] }
-    ensures refusal { IfErr result (λ f. OfRefusal f IsTraceRefusal) }
+    ensures refusal { IfErr result (λ f. OfRefusal f (λ r.
+        IsFaultyStart (lines_left lines.old) (end_of lines.old) (Fault.Refused r))) }
+    ensures end { end_of lines.new ≡ end_of lines.old }
+    ensures opens { IfOk result (λ session.
+        OpensBy (lines_left lines.old) (lines_left lines.new) session.receiver) }
+    ensures numbers { IfOk result (λ session. session.numbers ≡ None) }
 {
     let format = read_format(lines)?;
     let receiver = open_receiver(alloc, format, lines)?;
@@ -82,7 +104,12 @@ fn play_to_end<A: Allocator + Copy, O: ByteSink>(
     ensures failures { Accounts result (counts (O.failures output.old) (O.failures output.new)
         ∷ []) }
     ensures whole { OnOk result (is_cut ≡ false) }
-    ensures refusal { IfErr result (λ f. OfRefusal f IsTraceRefusal) }
+    ensures refusal { IfErr result (λ f. OfRefusal f (λ r. StopsAt (lines_left lines.old)
+        session.old.receiver session.old.numbers is_cut (end_of lines.old) (Fault.Refused r))) }
+    ensures plays { OnOk result (PlaysLines (lines_left lines.old) session.old.receiver
+        session.old.numbers (O.took output.old) (O.took output.new)) }
+    ensures part { OnErr result (AnswersSome (lines_left lines.old) session.old.receiver
+        session.old.numbers (O.took output.old) (O.took output.new)) }
 {
     play_lines(alloc, lines, session, output)?;
     if is_cut {
@@ -102,8 +129,11 @@ fn open_receiver<A: Allocator + Copy>(
     ensures opening { IfOk result (λ receiver.
         ReadsOpening (lines_left lines.old) (lines_left lines.new) format receiver.opening) }
     ensures holds { IfOk result (λ receiver. Holds receiver []) }
+    ensures window { IfOk result (λ receiver. IsWindow receiver.opening.window) }
     ensures failures { Accounts result [] }
-    ensures refusal { IfErr result (λ f. OfRefusal f IsTraceRefusal) }
+    ensures refusal { IfErr result (λ f. OfRefusal f (λ r.
+        IsFaultyOpening format (lines_left lines.old) (end_of lines.old) (Fault.Refused r))) }
+    ensures end { end_of lines.new ≡ end_of lines.old }
 {
     let line = next_line(lines, Form::Open)?;
     let Some(said) = read_open_line(line.text) else {
@@ -127,7 +157,16 @@ fn play_lines<A: Allocator + Copy, O: ByteSink>(
 ) -> Result<(), Fault>
     ensures failures { Accounts result (counts (O.failures output.old) (O.failures output.new)
         ∷ []) }
-    ensures refusal { IfErr result (λ f. OfRefusal f IsTraceRefusal) }
+    // Whatever is behind the last line, it isn't come to.
+    ensures refusal { IfErr result (λ f. OfRefusal f (λ r. (is_cut : Bool)
+        → StopsAt (lines_left lines.old) session.old.receiver session.old.numbers is_cut
+        (end_of lines.old) (Fault.Refused r))) }
+    ensures end { OnOk result (lines.new.passed + 1 ≡ end_of lines.old) }
+    ensures answers { OnOk result (Answers (lines_left lines.old) session.old.receiver
+        session.new.receiver session.old.numbers session.new.numbers
+        (O.took output.old) (O.took output.new)) }
+    ensures part { OnErr result (AnswersSome (lines_left lines.old) session.old.receiver
+        session.old.numbers (O.took output.old) (O.took output.new)) }
 {
     let mut octets = room(alloc)?;
     while let Some(line) = lines.next() {
@@ -144,9 +183,18 @@ fn play_line<A: Allocator + Copy, O: ByteSink>(
     octets: &mut [u8],
     output: &mut O,
 ) -> Result<(), Fault>
+    requires { length octets.old ≡ 65535 }
     ensures failures { Accounts result (counts (O.failures output.old) (O.failures output.new)
         ∷ []) }
-    ensures refusal { IfErr result (λ f. OfRefusal f IsTraceRefusal) }
+    ensures refusal { IfErr result (λ f. OfRefusal f (λ r. IsUnfollowed
+        (line.entry.number, line.entry.text.now) session.old.numbers (Fault.Refused r))) }
+    ensures room { length octets.new ≡ length octets.old }
+    ensures answered { OnOk result (IsAnswered line.entry.text.now session.old.receiver
+        session.new.receiver session.old.numbers session.new.numbers
+        (O.took output.old) (O.took output.new)) }
+    ensures part { OnErr result ((O.took output.new ≡ O.took output.old)
+        ⊎ IsPartAnswered line.entry.text.now session.old.receiver session.old.numbers
+        (O.took output.old) (O.took output.new)) }
 {
     match answer_to(alloc, line, session, octets)? {
         Some(answer) => print(answer, output),
@@ -161,15 +209,16 @@ fn answer_to<A: Allocator + Copy>(
     session: &mut Session<A>,
     octets: &mut [u8],
 ) -> Result<Option<Line>, Fault>
+    requires { length octets.old ≡ 65535 }
     ensures failures { Accounts result [] }
-    ensures follows { IfOk result (λ answer. (said : TraceLine)
-        × IsTraceLine line.entry.text.now said
-        × Follows said session.old.receiver session.new.receiver
-        session.old.numbers session.new.numbers answer) }
+    ensures follows { IfOk result (λ answer. FollowsLine line.entry.text.now
+        session.old.receiver session.new.receiver session.old.numbers session.new.numbers answer) }
     ensures script { (number : ℕ) → EndsMisformed result number
         ↔ ((number ≡ line.entry.number)
         × IsAtFault line.entry.text.now (length octets.old) session.old.numbers) }
-    ensures refusal { IfErr result (λ f. OfRefusal f IsTraceRefusal) }
+    ensures refusal { IfErr result (λ f. OfRefusal f (λ r. IsUnfollowed
+        (line.entry.number, line.entry.text.now) session.old.numbers (Fault.Refused r))) }
+    ensures room { length octets.new ≡ length octets.old }
 {
     let Some(said) = read_trace_line(line.text) else {
         return Err(traced_form(line.text).refused_at(line.number));
@@ -198,7 +247,11 @@ fn print_absent<A: Allocator + Copy, O: ByteSink>(
 ) -> Result<(), Fault>
     ensures failures { Accounts result (counts (O.failures output.old) (O.failures output.new)
         ∷ []) }
-    ensures refusal { IfErr result (λ f. OfRefusal f IsTraceRefusal) }
+    ensures unrefused { IfErr result (λ f. IfRefused f ⊥) }
+    ensures printed { OnOk result
+        (O.took output.new ≡ O.took output.old ++ absent_lines numbers.now) }
+    ensures part { OnErr result
+        (PrintsPart (absent_lines numbers.now) (O.took output.old) (O.took output.new)) }
 {
     let Some(numbers) = numbers else {
         return Ok(());

@@ -1,12 +1,11 @@
-use Rattle.std.proofs.Common.{◌∙◌, refl}
-use Rattle.std.proofs.KnownBytes.{Appends-nil}
+use Rattle.std.proofs.Common.{◌∙◌, append-nil, refl, sym}
 use Rattle.std.proofs.lemmas.Result.{err_from_is_err_and}
 use Rattle.run_outcome.proofs.Printed.{texts_all, texts_cut, texts_more}
 use Rattle.script_engines.specs.Rehearsed.{handed_line}
 use Rattle.script_engines.proofs.rehearsing.print_handed.Goals as goal
 
 pub loop-out-init : goal.loop-out-init
-loop-out-init g c = record { printed = Appends-nil _; failures = refl }
+loop-out-init g c = record { printed = sym (append-nil _); failures = refl }
 
 pub loop-out-preserved : goal.loop-out-preserved
 loop-out-preserved g c = record {

@@ -1,6 +1,5 @@
-use Rattle.std.proofs.Common.{◌∙◌, ◌<◌, ℕ, List, length, refl}
+use Rattle.std.proofs.Common.{◌∙◌, ◌<◌, ℕ, List, append-nil, length, refl, sym}
 use Rattle.std.specs.List.{enumerate_from}
-use Rattle.std.proofs.KnownBytes.{Appends-nil}
 use Rattle.std.proofs.lemmas.Result.{err_from_is_err_and}
 use Rattle.run_outcome.proofs.Printed.{texts_all, texts_cut, texts_more}
 use Rattle.path_merge.specs.Frames.{State}
@@ -9,7 +8,7 @@ use Rattle.script_engines.proofs.RehearsedLemmas.{numbered_before, numbered_end,
 use Rattle.script_engines.proofs.rehearsing.print_receivers.Goals as goal
 
 pub loop-number-init : goal.loop-number-init
-loop-number-init g c = record { printed = Appends-nil _; failures = refl }
+loop-number-init g c = record { printed = sym (append-nil _); failures = refl }
 
 pub loop-number-preserved : goal.loop-number-preserved
 loop-number-preserved g c =

@@ -1,15 +1,17 @@
-use Rattle.std.proofs.Common.{◌≡◌, refl, subst, sym}
+use Rattle.std.proofs.Common.{◌≡◌, inr, refl, subst, sym}
 use Rattle.std.proofs.lemmas.Result.{err_from_is_err_and}
 use Rattle.run_outcome.specs.declared.fault.Fault.{Fault}
 use Rattle.run_outcome.specs.declared.fault.Fault.TheVariants.{Refused}
 use Rattle.run_outcome.specs.declared.refusal.Refusal.{Refusal}
+use Rattle.run_outcome.proofs.Printed.{part_first}
 use Rattle.run_outcome.proofs.SetSums.{counted_by}
 use Rattle.run_outcome.proofs.Refusals.{if_none_refused, none_refused}
 use Rattle.script_engines.specs.Rehearsal.{said_by}
-use Rattle.script_engines.specs.Rehearsed.{IsRefusedScript, IsUnplayed}
+use Rattle.script_engines.specs.Rehearsed.{IsRefusedScript, IsUnplayed, handed_text, receivers_text}
 use Rattle.script_engines.proofs.FaultLemmas.{on_ok}
-use Rattle.script_engines.proofs.RehearsedLemmas.{none_holds, on_ok_map, refused_play, refused_read}
-use Rattle.script_engines.proofs.RehearsedLemmas.{rehearses}
+use Rattle.script_engines.proofs.RehearsedLemmas.{both_cut, none_holds, on_err_map, on_ok_map}
+use Rattle.script_engines.proofs.RehearsedLemmas.{refused_play, refused_read, rehearses}
+use Rattle.script_engines.proofs.RehearsedLemmas.{rehearses_part}
 use Rattle.script_engines.proofs.rehearsing.rehearse_script.Goals as goal
 
 pub returns-in_err-rehearsal-clause-refusal : goal.returns-in_err-rehearsal-clause-refusal
@@ -66,5 +68,40 @@ returns-clause-whole g c = on_ok c.print_receivers.result c.in_ok-rehearsal.ensu
 
 pub returns-clause-nothing : goal.returns-clause-nothing
 returns-clause-nothing g c =
-    none_holds c.print_receivers.result (g.O.ByteSink.held c.print_receivers.new.output
-    ≡ g.O.ByteSink.held c.args.output.now) c.print_receivers.ensures.unrefused
+    none_holds c.print_receivers.result (g.O.ByteSink.took c.print_receivers.new.output
+    ≡ g.O.ByteSink.took c.args.output.now) c.print_receivers.ensures.unrefused
+
+pub returns-clause-cut : goal.returns-clause-cut
+returns-clause-cut g c =
+    let old = g.O.ByteSink.took c.args.output.now in
+    let mid = g.O.ByteSink.took c.print_handed.new.output in
+    let new = g.O.ByteSink.took c.print_receivers.new.output in
+    on_err_map c.print_receivers.result
+    (λ part. inr (
+      c.in_ok-rehearsal.ensures.whole,
+      rehearses_part c.args.script.now.octets.items c.in_ok-rehearsal.rehearsal
+          c.in_ok-played.played c.as_slice.result.now c.as_slice-2.result.now old new
+          c.as_slice.ensures.value c.as_slice-2.ensures.value c.in_ok-rehearsal.ensures.says
+          c.in_ok-played.ensures.plays part,
+    ))
+    (both_cut c.print_receivers.result old mid new (handed_text c.as_slice.result.now)
+    (receivers_text c.as_slice-2.result.now) c.in_ok-print_handed.ensures.printed
+    c.print_receivers.ensures.cut)
+
+pub returns-in_err-print_handed-clause-cut : goal.returns-in_err-print_handed-clause-cut
+returns-in_err-print_handed-clause-cut g c =
+    let p = err_from_is_err_and c.from_residual-in_err-print_handed.result
+    c.from_residual-in_err-print_handed.ensures.1 in
+    let old = g.O.ByteSink.took c.args.output.now in
+    let new = g.O.ByteSink.took c.print_handed.new.output in
+    let handed = c.as_slice.result.now in
+    let receivers = c.in_ok-played.played.receivers.items in
+    rw (p.1)
+    (inr (
+      c.in_ok-rehearsal.ensures.whole,
+      rehearses_part c.args.script.now.octets.items c.in_ok-rehearsal.rehearsal
+          c.in_ok-played.played handed receivers old new c.as_slice.ensures.value refl
+          c.in_ok-rehearsal.ensures.says c.in_ok-played.ensures.plays
+          (part_first old new (handed_text handed) (receivers_text receivers)
+          c.in_err-print_handed.ensures.cut),
+    ))

@@ -9,6 +9,6 @@ returns-in_err-script-clause-refusal g c =
     let p = err_from_is_err_and c.from_residual.result c.from_residual.ensures.1 in
     rw (p.1, p.2)
     (none_refused
-    (IsRefusedFor IsUndescribed (g.S.ByteSource.to_give c.args.source.now)
-    (g.S.ByteSource.to_give c.read_script.new.source))
+    (IsRefusedFor IsUndescribed (g.S.ByteSource.gave c.args.source.now)
+    (g.S.ByteSource.gave c.read_script.new.source) (g.S.ByteSource.ended c.read_script.new.source))
     c.in_err-script.field-0.0 c.in_err-script.ensures.unrefused)
