@@ -1,15 +1,19 @@
 -- What came of the turns of a capture's reader: its end, more records than are taken, or a fault.
-use Rattle.std.proofs.Common.{◌≡◌, ℕ, zero, suc, ◌+◌, ◌-◌, ◌^◌, ◌<◌, ◌≤◌, ◌⊎◌, inl, inr, min, take}
-use Rattle.std.proofs.Common.{Bool, true, false}
-use Rattle.std.proofs.Common.{List, [], ◌∷◌, ◌++◌, length, map, Option, None, Some, Result, Ok, Err}
-use Rattle.std.proofs.Common.{MatchResult, refl, sym, ap, ◌∙◌, subst, arith}
+use Rattle.std.proofs.Common.{◌≡◌, ℕ, ◌+◌, ◌-◌, ◌^◌, ◌<◌, ◌≤◌, ◌⊎◌, inl, inr, min, take}
+use Rattle.std.proofs.Common.{Bool, true, false, List, [], ◌∷◌, ◌++◌, length, map, Option, None}
+use Rattle.std.proofs.Common.{Some}
+use Rattle.std.proofs.Common.{Result, Ok, Err, MatchResult, refl, sym, ap, ◌∙◌, subst, arith}
+use Rattle.std.proofs.Common.{append_assoc, append-nil}
 use Rattle.std.proofs.lemmas.Bool.{cases_lt}
-use Rattle.std.specs.Prelude.{IfErr, OnOk}
+use Rattle.std.specs.Prelude.{IfErr, IfOk, OnOk}
 use Rattle.st_format.specs.Device.{CountsOne, Failed as HasFailed, Told}
-use Rattle.st_format.specs.Turns.{Due, Comes, Nothing, GivesTurns, datagrams_of}
+use Rattle.st_format.specs.History.{GrewFrom, IsRead, since}
+use Rattle.st_format.specs.Turns.{Due, Comes, Nothing, came_of, datagrams_of}
 use Rattle.st_format.specs.declared.device.SourceFault.{SourceFault}
 use Rattle.st_format.specs.declared.device.SourceFault.TheVariants.{Content}
 use Rattle.st_format.specs.declared.device.SourceFault.TheVariants.{Device as FailedDevice}
+use Rattle.st_format.specs.declared.path.Path.{Path}
+use Rattle.st_format.proofs.Histories.{grew_by, since_is, since_none}
 use Rattle.media_file.specs.declared.fault.FileFault.{FileFault}
 use Rattle.media_file.specs.declared.fault.FileFault.TheVariants.{NoMemory, Device, BadName}
 use Rattle.media_file.specs.declared.fault.FileFault.TheVariants.{BadVersion, Truncated, BadField}
@@ -17,14 +21,18 @@ use Rattle.media_file.specs.declared.fault.FileFault.TheVariants.{TrailingBytes,
 use Rattle.media_file.specs.declared.fault.FileFault.TheVariants.{TooManyRecords}
 use Rattle.media_file.specs.declared.reader.Standing.{Standing}
 use Rattle.media_file.specs.declared.reader.Standing.TheVariants.{Reads, Ended, Failed}
-use Rattle.media_file.specs.Faults.{CountsFault, file_fault_number}
-use Rattle.media_file.specs.Reader.{FailsBehind, HasDelivered, StandsRight, due_of_entry, dues_in}
-use Rattle.media_file.specs.Reader.{last_fault_of, source_fault, turns_of}
+use Rattle.media_file.specs.Faults.{CountsFault, IfContent, file_fault_number}
+use Rattle.media_file.specs.Given.{GaveNone, GaveRecords, HasGiven}
+use Rattle.media_file.specs.Reader.{FailsBehind, StandsRight, due_of_entry, dues_in}
+use Rattle.media_file.specs.Reader.{last_fault_of, source_fault}
 use Rattle.media_file.specs.Reading.{entries_in, fault_at}
-use Rattle.media_file.specs.Records.{Entry}
-use Rattle.media_file.specs.Source.{GivesRecords, IfTold}
+use Rattle.media_file.specs.Records.{AllFit, Entry, records_text}
+use Rattle.media_file.specs.Source.{IsOfRecord}
+use Rattle.media_file.proofs.Cuts.{entries_front}
+use Rattle.media_file.proofs.Dues.{entries_none}
+use Rattle.media_file.proofs.GaveLoops.{front_fails}
 use Rattle.path_merge.specs.Frames.{Holds, State}
-use Rattle.path_merge.specs.Took.{CountsAll, HearsAll, Took, TookUpTo, delivered_in}
+use Rattle.path_merge.specs.Took.{ComesMore, HearsAll, TakesDue, Took, TookUpTo, delivered_in}
 use Rattle.path_merge.specs.declared.answer.Refusal.{Refusal}
 use Rattle.path_merge.specs.declared.answer.Taken.{Taken}
 use Rattle.path_merge.specs.declared.receiving.ReceiveFault.{ReceiveFault}
@@ -33,12 +41,13 @@ use Rattle.run_outcome.specs.Fault.{Accounts, Blames, counts}
 use Rattle.run_outcome.specs.LowerFaults.{capture_fault}
 use Rattle.capture_engines.specs.Received.{HasRecordFault, IsFileRefusal}
 use Rattle.run_outcome.specs.Refusing.{OfRefusal}
-use Rattle.capture_engines.specs.Taking.{TakesAllDue, TakesRecords}
+use Rattle.capture_engines.specs.Taking.{TakesRecords}
 use Rattle.run_outcome.specs.declared.fault.Fault.{Fault}
+use Rattle.run_outcome.specs.declared.fault.Fault.TheVariants as fault
 use Rattle.capture_engines.specs.declared.intake.Intake.{Intake}
 use Rattle.capture_engines.specs.declared.tally.Tally.{Tally}
 use Rattle.capture_engines.specs.Tallied.{tally_after}
-use Rattle.capture_engines.proofs.Taken.{all_given, records_taken}
+use Rattle.capture_engines.proofs.Taken.{holds_more, records_taken}
 
 -- ---- what a reader told
 
@@ -54,112 +63,144 @@ no_failure (Failed f) d told left failures none stands =
     absurd (none_some (source_fault f) (Some (source_fault f)) none refl)
 
 -- and gave whole records
-all_delivered : (s : Standing) (d : ℕ) (told : Told) (left : Option (List ℕ)) (failures : ℕ)
-    → last_fault_of s ≡ None → StandsRight s d told left failures
-    → HasDelivered d told.to_give left
-all_delivered Reads d told left failures none stands = stands.0
-all_delivered Ended d told left failures none stands = stands.0
-all_delivered (Failed f) d told left failures none stands =
+all_records : (s : Standing) (told : Told) (left : Option (List ℕ)) (gave : List ℕ)
+    (ended : Type 0) → last_fault_of s ≡ None → HasGiven s told left gave ended
+    → GaveRecords told left gave
+all_records Reads told left gave ended none given = given
+all_records Ended told left gave ended none given = given.0
+all_records (Failed f) told left gave ended none given =
     absurd (none_some (source_fault f) (Some (source_fault f)) none refl)
+
+-- however it stands, its source gave more
+pub gave_on : (s : Standing) (told : Told) (left : Option (List ℕ)) (gave : List ℕ)
+    (ended : Type 0) → HasGiven s told left gave ended → GrewFrom told.gave gave
+gave_on Reads told left gave ended given =
+    grew_by told.gave gave (records_text given.records) given.grown
+gave_on Ended told left gave ended given =
+    grew_by told.gave gave (records_text given.0.records) given.0.grown
+gave_on (Failed f) told left gave ended given =
+    grew_by told.gave gave (records_text given.records ++ given.part) given.grown
 
 some_same : {X : Type 0} (x y : X) → Some x ≡ Some y → x ≡ y
 some_same x y e = cc
 
 -- Where it told a fault, that is where it stands.
-pub record FaultTold (e : SourceFault) (told : Told) (failures : ℕ) : Type 0 where
+pub record FaultTold (e : SourceFault) (told : Told) (left : Option (List ℕ)) (gave : List ℕ)
+    (ended : Type 0) (failures : ℕ) : Type 0 where
   pub fault : FileFault
   pub is : e ≡ source_fault fault
-  pub behind : FailsBehind fault told.to_give
+  pub named : IsOfRecord fault
+  pub given : GaveNone fault told left gave ended
   pub counted : CountsFault fault told.failures failures
 
 the_fault : (s : Standing) (e : SourceFault) (d : ℕ) (told : Told) (left : Option (List ℕ))
-    (failures : ℕ) → last_fault_of s ≡ Some e → StandsRight s d told left failures
-    → FaultTold e told failures
-the_fault Reads e d told left failures last stands = absurd (none_some e None refl last)
-the_fault Ended e d told left failures last stands = absurd (none_some e None refl last)
-the_fault (Failed f) e d told left failures last stands = record {
+    (gave : List ℕ) (ended : Type 0) (failures : ℕ) → last_fault_of s ≡ Some e
+    → StandsRight s d told left failures → HasGiven s told left gave ended
+    → FaultTold e told left gave ended failures
+the_fault Reads e d told left gave ended failures last stands given =
+    absurd (none_some e None refl last)
+the_fault Ended e d told left gave ended failures last stands given =
+    absurd (none_some e None refl last)
+the_fault (Failed f) e d told left gave ended failures last stands given = record {
   fault = f;
   is = sym (some_same (source_fault f) e last);
-  behind = stands.0;
+  named = stands.0.fails.named;
+  given = given;
   counted = stands.1;
 }
 
--- ---- all turns of a capture are datagrams
+-- ---- what came
 
-first_is : {X : Type 0} (x y : X) (xs ys : List X) → x ∷ xs ≡ y ∷ ys → x ≡ y
-first_is x y xs ys e = cc
+abbrev pub Arrivals : Type 0
+Arrivals = List (Path × List ℕ)
 
-rest_is : {X : Type 0} (x y : X) (xs ys : List X) → x ∷ xs ≡ y ∷ ys → xs ≡ ys
-rest_is x y xs ys e = cc
+abbrev octets_of : Arrivals → List (List ℕ)
+octets_of came = map (λ (x : Path × List ℕ). x.1) came
 
-no_end : {X : Type 0} (y : X) (xs ys : List X) → xs ≡ [] → xs ≡ y ∷ ys → ⊥
-no_end y xs ys none some = cc
+came_octets : (due : List Due) → octets_of (came_of due) ≡ datagrams_of due
+came_octets [] = refl
+came_octets (Comes path octets ∷ due) =
+    ap (λ (rest : List (List ℕ)). octets ∷ rest) (came_octets due)
+came_octets (Nothing ∷ due) = came_octets due
 
-no_quiet : (x : Entry) (d : Due) → d ≡ due_of_entry x → d ≡ Nothing → ⊥
-no_quiet x d comes nothing = cc
+same_datagrams : (xs ys : List Due) → came_of xs ≡ came_of ys
+    → datagrams_of xs ≡ datagrams_of ys
+same_datagrams xs ys same = sym (came_octets xs) ∙ ap octets_of same ∙ came_octets ys
 
-all_come : (es : List Entry) (due rest : List Due) → map due_of_entry es ≡ due ++ rest
-    → length (datagrams_of due) ≡ length due
-all_come es [] rest e = refl
-all_come [] (d ∷ due) rest e = absurd (no_end d [] (due ++ rest) refl e)
-all_come (x ∷ es) (Comes path octets ∷ due) rest e =
-    let more : length (datagrams_of due) ≡ length due =
-    all_come es due rest
-    (rest_is (due_of_entry x) (Comes path octets) (map due_of_entry es) (due ++ rest) e) in
-    omega (arith, more)
-all_come (x ∷ es) (Nothing ∷ due) rest e =
-    absurd (no_quiet x (due_of_entry x) refl
-    (first_is (due_of_entry x) Nothing (map due_of_entry es) (due ++ rest) e))
+each_comes : (es : List Entry) → length (datagrams_of (map due_of_entry es)) ≡ length es
+each_comes [] = refl
+each_comes (e ∷ es) = let rest : length (datagrams_of (map due_of_entry es)) ≡ length es =
+    each_comes es in omega (arith, rest)
 
-turns_come : (octets : List ℕ) (new : Option (List Due)) (due : List Due)
-    → GivesTurns (turns_of Reads (Some octets)) new due → length (datagrams_of due) ≡ length due
-turns_come octets None due given = absurd given
-turns_come octets (Some rest) due given = all_come (entries_in octets) due rest given
+records_come : (es : List Entry) → AllFit es
+    → length (datagrams_of (dues_in (records_text es))) ≡ length es
+records_come es fit =
+    ap (λ (xs : List Entry). length (datagrams_of (map due_of_entry xs)))
+    (ap entries_in (sym (append-nil (records_text es))) ∙ entries_front es [] fit
+    ∙ ap (λ (xs : List Entry). es ++ xs) entries_none ∙ append-nil es)
+    ∙ each_comes es
+
+-- what was read, by what was given
+read_is : (before now part octets : List ℕ) (ended : Type 0) → now ≡ before ++ part
+    → (q : IsRead before now ended octets) → octets ≡ part ++ q.behind
+read_is before now part octets ended grown q =
+    q.parts ∙ ap (λ (l : List ℕ). l ++ q.behind) (since_is before now part grown)
+
+-- at the end it is all
+pub read_all : (before now octets : List ℕ) (ended : Type 0) → IsRead before now ended octets
+    → ended → octets ≡ since before now
+read_all before now octets ended q over =
+    q.parts ∙ ap (λ (l : List ℕ). since before now ++ l) (q.all over)
+    ∙ append-nil (since before now)
 
 -- ---- refusals
 
-many_records : (octets : List ℕ) (left : Option (List ℕ)) (delivered n : ℕ)
-    → HasDelivered delivered (Some octets) left → CountsAll n 0 delivered → n ≡ 16777216
+many_records : (told : Told) (left : Option (List ℕ)) (gave : List ℕ) (ended : Type 0)
+    (due : List Due) (n : ℕ) → GaveRecords told left gave
+    → came_of (dues_in (since told.gave gave)) ≡ came_of due → length (datagrams_of due) ≡ n
+    → n ≡ 16777216 → (octets : List ℕ) → IsRead told.gave gave ended octets
     → HasRecordFault octets TooManyRecords
-many_records octets None delivered n so counted is = absurd so.gave.given
-many_records octets (Some rest) delivered n so counted is =
-    let all : delivered ≡ min (0 + n) (2 ^ 64 - 1) = counted.some (omega (arith, is)) in
+many_records told left gave ended due n given came count is octets q =
+    let all : length given.records ≡ n =
+    sym (records_come given.records given.fit)
+    ∙ ap (λ (l : List ℕ). length (datagrams_of (dues_in l)))
+    (sym (since_is told.gave gave (records_text given.records) given.grown))
+    ∙ ap length (same_datagrams (dues_in (since told.gave gave)) due came) ∙ count in
     record {
-      records = so.gave.records;
-      behind = rest;
-      fit = so.gave.fit;
-      parts = so.gave.given;
-      fault = inr (refl, omega (arith, so.gave.counted, so.counted, all, is));
+      records = given.records;
+      behind = q.behind;
+      fit = given.fit;
+      parts = read_is told.gave gave (records_text given.records) octets ended given.grown q;
+      fault = inr (refl, all ∙ is);
     }
 
-wrong_record : (f : FileFault) (octets : List ℕ) (count : ℕ) (behind : Option (List ℕ))
-    → GivesRecords count (Some octets) behind → IfTold behind (λ o. fault_at o ≡ Some f)
+wrong_record : (f : FileFault) (told : Told) (left : Option (List ℕ)) (gave : List ℕ)
+    (ended : Type 0) → (given : GaveNone f told left gave ended) → (octets : List ℕ)
+    → (q : IsRead told.gave gave ended octets) → fault_at (given.part ++ q.behind) ≡ Some f
     → HasRecordFault octets f
-wrong_record f octets count None gave is = absurd gave.given
-wrong_record f octets count (Some rest) gave is = record {
-  records = gave.records;
-  behind = rest;
-  fit = gave.fit;
-  parts = gave.given;
+wrong_record f told left gave ended given octets q is = record {
+  records = given.records;
+  behind = given.part ++ q.behind;
+  fit = given.fit;
+  parts =
+      read_is told.gave gave (records_text given.records ++ given.part) octets ended given.grown q
+      ∙ append_assoc (records_text given.records) given.part q.behind;
   fault = inl is;
 }
 
 -- the fault of a capture refuses the run by it
-fault_refuses : (f : FileFault) (to_give : Option (List ℕ)) → FailsBehind f to_give
-    → OfRefusal (capture_fault f) (IsFileRefusal HasRecordFault to_give)
-fault_refuses NoMemory to_give fails = tt
-fault_refuses Device to_give fails = tt
-fault_refuses BadName to_give fails = absurd fails.fails.named
-fault_refuses BadVersion to_give fails = absurd fails.fails.named
-fault_refuses Truncated to_give fails = λ octets is.
-    let so : FailsBehind Truncated (Some octets) = subst (FailsBehind Truncated) is fails in
-    wrong_record Truncated octets so.count so.behind so.gave so.fails.content
-fault_refuses BadField to_give fails = λ octets is.
-    let so : FailsBehind BadField (Some octets) = subst (FailsBehind BadField) is fails in
-    wrong_record BadField octets so.count so.behind so.gave so.fails.content
-fault_refuses TrailingBytes to_give fails = absurd fails.fails.named
-fault_refuses MixedGroup to_give fails = absurd fails.fails.named
-fault_refuses TooManyRecords to_give fails = absurd fails.fails.named
+fault_refuses : (f : FileFault) (told : Told) (left : Option (List ℕ)) (gave : List ℕ)
+    (ended : Type 0) → IsOfRecord f → GaveNone f told left gave ended
+    → OfRefusal (capture_fault f) (IsFileRefusal HasRecordFault (IsRead told.gave gave ended))
+fault_refuses NoMemory told left gave ended named given = tt
+fault_refuses Device told left gave ended named given = tt
+fault_refuses Truncated told left gave ended named given = λ octets q.
+    wrong_record Truncated told left gave ended given octets q
+    (front_fails Truncated given.part q.behind ended named given.told given.cut q.all)
+fault_refuses BadField told left gave ended named given = λ octets q.
+    wrong_record BadField told left gave ended given octets q
+    (front_fails BadField given.part q.behind ended named given.told given.cut q.all)
+fault_refuses f told left gave ended named given = absurd named
 
 -- and blames the source where it is the source's
 failed_by : (old new : ℕ) → CountsOne old new → (old < 2 ^ 64 - 1) ⊎ (2 ^ 64 - 1 ≤ old)
@@ -185,222 +226,277 @@ fault_blames TooManyRecords old new count = count
 abbrev pub noted : Tally → Result Taken Refusal → Tally
 noted t answer = tally_after answer t
 
--- What the turns of a source came to for a receiver, whose answers a tally counted.
-abbrev pub Heard : Result Received ReceiveFault → Option (List Due) → Option (List Due) → State
-    → State → Tally → Tally → Type 0
-Heard received old new before after t u = MatchResult received
-    (λ r. (x : Took 16777216 r old new before after) × HearsAll noted before.opening x.due t u)
-    (λ e. (x : TookUpTo 16777216 e.delivered old before after)
-    × HearsAll noted before.opening x.due t u)
+-- Of what came of a source so far: a receiver took the datagrams that came in some turns, so many,
+-- and a tally noted the answers to them.
+pub record HeardCame (delivered : ℕ) (came came' : Arrivals) (before later : State)
+    (t u : Tally) : Type 0 where
+  pub due : List Due
+  pub came_is : ComesMore came came' due
+  pub taken : TakesDue due delivered before later
+  pub heard : HearsAll noted before.opening due t u
+
+pub heard_came : (limit : ℕ) (r : Result Received ReceiveFault) (old new : Option (List Due))
+    (before later : State) (t u : Tally) (came came' : Arrivals)
+    → MatchResult r
+    (λ x. (took : Took limit x old new before later) × HearsAll noted before.opening took.due t u
+    × ComesMore came came' took.due)
+    (λ e. (took : TookUpTo limit e.delivered old before later)
+    × HearsAll noted before.opening took.due t u × ComesMore came came' took.due)
+    → HeardCame (delivered_in r) came came' before later t u
+heard_came limit (Ok x) old new before later t u came came' (took, heard, more) =
+    record { due = took.due; came_is = more; taken = took.taken; heard = heard }
+heard_came limit (Err e) old new before later t u came came' (took, heard, more) =
+    record { due = took.due; came_is = more; taken = took.taken; heard = heard }
 
 -- What the turns of a reader came to, and where it stands behind them.
-pub record Ran {A : Type 0} (received : Result Received ReceiveFault) (old new : Option (List Due))
-    (b a : Intake A) (stands : Standing) (delivered : ℕ) (told : Told)
-    (left : Option (List ℕ)) (failures : ℕ) : Type 0 where
-  pub turns : old ≡ turns_of Reads told.to_give
-  pub heard : Heard received old new b.receiver a.receiver b.tally a.tally
+pub record Ran {A : Type 0} (received : Result Received ReceiveFault) (b a : Intake A)
+    (stands : Standing) (delivered : ℕ) (told : Told) (left : Option (List ℕ)) (gave : List ℕ)
+    (over : Type 0) (failures : ℕ) : Type 0 where
+  pub came : HeardCame (delivered_in received) [] (came_of (dues_in (since told.gave gave)))
+      b.receiver a.receiver b.tally a.tally
+  pub ended : IfOk received (λ r. r.ended ≡ true → stands ≡ Ended)
   pub fault : IfErr received (λ e. last_fault_of stands ≡ Some e.fault)
   pub blameless : OnOk received (last_fault_of stands ≡ None)
-  pub counted : CountsAll (delivered_in received) 0 delivered
   pub right : StandsRight stands delivered told left failures
+  pub given : HasGiven stands told left gave over
 
 -- What is answered to it, and what the count of datagrams then is.
 pub record Answers {V : Type 0} (received : Result Received ReceiveFault) (outcome : Result V Fault)
     (done : V) (was now : ℕ) : Type 0 where
   pub ended : (r : Received) → received ≡ Ok r → r.ended ≡ true
       → (outcome ≡ Ok done) × (now ≡ min (was + r.delivered) (2 ^ 64 - 1))
-  pub many : (r : Received) → received ≡ Ok r → r.ended ≡ false
+  pub many : (r : Received) → received ≡ Ok r → r.ended ≡ false → r.delivered ≡ 16777216
       → outcome ≡ Err (capture_fault TooManyRecords)
+  pub quiet : (r : Received) → received ≡ Ok r → r.ended ≡ false → (r.delivered ≡ 16777216 → ⊥)
+      → outcome ≡ Err fault.Memory
   pub fault : (e : ReceiveFault) (f : FileFault) → received ≡ Err e → e.fault ≡ source_fault f
       → outcome ≡ Err (capture_fault f)
 
--- the three ends
-pub record IsWhole {A V : Type 0} (outcome : Result V Fault) (done : V) (old : Option (List Due))
-    (b a : Intake A) (told : Told) (failures : ℕ) : Type 0 where
-  pub count : ℕ
+-- the ends
+pub record IsWhole {A V : Type 0} (outcome : Result V Fault) (done : V) (b a : Intake A)
+    (told : Told) (gave : List ℕ) (over : Type 0) (failures : ℕ) : Type 0 where
   pub is : outcome ≡ Ok done
-  pub now_is : a.delivered ≡ min (b.delivered + count) (2 ^ 64 - 1)
-  pub taken : TakesAllDue count old b a
+  pub taken : TakesRecords (IsRead told.gave gave over) b a
   pub worked : failures ≡ told.failures
 
-pub record IsTooLong {V : Type 0} (outcome : Result V Fault) (told : Told) (failures : ℕ) : Type 0
+pub record IsTooLong {V : Type 0} (outcome : Result V Fault) (told : Told) (gave : List ℕ)
+    (over : Type 0) (failures : ℕ) : Type 0 where
+  pub is : outcome ≡ Err (capture_fault TooManyRecords)
+  pub many : (octets : List ℕ) → IsRead told.gave gave over octets
+      → HasRecordFault octets TooManyRecords
+  pub worked : failures ≡ told.failures
+
+-- no reader comes to this
+pub record IsQuiet {V : Type 0} (outcome : Result V Fault) (told : Told) (failures : ℕ) : Type 0
   where
-    pub is : outcome ≡ Err (capture_fault TooManyRecords)
-    pub many : (octets : List ℕ) → told.to_give ≡ Some octets
-        → HasRecordFault octets TooManyRecords
+    pub is : outcome ≡ Err fault.Memory
     pub worked : failures ≡ told.failures
 
-pub record IsAtFault {V : Type 0} (outcome : Result V Fault) (told : Told) (failures : ℕ) : Type 0
+pub record IsAtFault {V : Type 0} (outcome : Result V Fault) (told : Told)
+    (left : Option (List ℕ)) (gave : List ℕ) (over : Type 0) (failures : ℕ) : Type 0 where
+  pub fault : FileFault
+  pub is : outcome ≡ Err (capture_fault fault)
+  pub named : IsOfRecord fault
+  pub given : GaveNone fault told left gave over
+  pub counted : CountsFault fault told.failures failures
+
+abbrev pub CameTo : {A V : Type 0} → Result V Fault → V → Intake A → Intake A
+    → Told → Option (List ℕ) → List ℕ → Type 0 → ℕ → Type 0
+CameTo outcome done b a told left gave over failures =
+    IsWhole outcome done b a told gave over failures
+    ⊎ (IsTooLong outcome told gave over failures
+    ⊎ (IsQuiet outcome told failures ⊎ IsAtFault outcome told left gave over failures))
+
+-- it ended
+whole_over : (s : Standing) (told : Told) (left : Option (List ℕ)) (gave : List ℕ) (over : Type 0)
+    → s ≡ Ended → HasGiven s told left gave over → over
+whole_over s told left gave over is given =
+    (subst (λ (x : Standing). HasGiven x told left gave over) is given).1
+
+is_or_not : (n m : ℕ) → (n ≡ m) ⊎ (n ≡ m → ⊥)
+is_or_not n m = by (cases_lt n m) (cases_lt m n)
   where
-    pub fault : FileFault
-    pub is : outcome ≡ Err (capture_fault fault)
-    pub behind : FailsBehind fault told.to_give
-    pub counted : CountsFault fault told.failures failures
+    by : (n < m) ⊎ (m ≤ n) → (m < n) ⊎ (n ≤ m) → (n ≡ m) ⊎ (n ≡ m → ⊥)
+    by (inl lt) other = inr (λ same. omega (arith, lt, same))
+    by (inr le) (inl lt) = inr (λ same. omega (arith, lt, same))
+    by (inr le) (inr ge) = inl (omega (arith, le, ge))
 
-abbrev pub CameTo : {A V : Type 0} → Result V Fault → V → Option (List Due) → Intake A → Intake A
-    → Told → ℕ → Type 0
-CameTo outcome done old b a told failures =
-    IsWhole outcome done old b a told failures
-    ⊎ (IsTooLong outcome told failures ⊎ IsAtFault outcome told failures)
-
--- as many turns as are taken
-too_many : (r : Received) (old new : Option (List Due)) (before after : State) (delivered : ℕ)
-    (to_give left : Option (List ℕ)) → r.ended ≡ false → old ≡ turns_of Reads to_give
-    → Took 16777216 r old new before after → CountsAll r.delivered 0 delivered
-    → HasDelivered delivered to_give left → (octets : List ℕ) → to_give ≡ Some octets
-    → HasRecordFault octets TooManyRecords
-too_many r old new before after delivered to_give left more turns took counted so octets is =
-    let given : GivesTurns (turns_of Reads (Some octets)) new took.due =
-    subst (λ (o : Option (List Due)). GivesTurns o new took.due)
-    (turns ∙ ap (turns_of Reads) is) took.given in
-    let all : length (datagrams_of took.due) ≡ length took.due =
-    turns_come octets new took.due given in
-    let long : length took.due ≡ 16777216 = rw more at took.turns in
-    many_records octets left delivered r.delivered
-    (subst (λ (o : Option (List ℕ)). HasDelivered delivered o left) is so) counted
-    (sym took.taken.count ∙ all ∙ long)
+ran_short : {A V : Type 0} (r : Received) (outcome : Result V Fault) (done : V)
+    (b a : Intake A) (stands : Standing) (delivered : ℕ) (told : Told) (left : Option (List ℕ))
+    (gave : List ℕ) (over : Type 0) (failures : ℕ) → r.ended ≡ false
+    → Ran (Ok r) b a stands delivered told left gave over failures
+    → Answers (Ok r) outcome done b.delivered a.delivered
+    → (r.delivered ≡ 16777216) ⊎ (r.delivered ≡ 16777216 → ⊥)
+    → CameTo outcome done b a told left gave over failures
+ran_short r outcome done b a stands delivered told left gave over failures e ran answers (inl is) =
+    inr (inl (record {
+      is = answers.many r refl e is;
+      many =
+          many_records told left gave over ran.came.due r.delivered
+          (all_records stands told left gave over ran.blameless ran.given) ran.came.came_is
+          ran.came.taken.count is;
+      worked = no_failure stands delivered told left failures ran.blameless ran.right;
+    }))
+ran_short r outcome done b a stands delivered told left gave over failures e ran answers (inr not) =
+    inr (inr (inl (record {
+      is = answers.quiet r refl e not;
+      worked = no_failure stands delivered told left failures ran.blameless ran.right;
+    })))
 
 ran_on : {A V : Type 0} (r : Received) (outcome : Result V Fault) (done : V)
-    (old new : Option (List Due)) (b a : Intake A) (stands : Standing)
-    (delivered : ℕ) (told : Told) (left : Option (List ℕ)) (failures : ℕ) (ended : Bool)
-    → r.ended ≡ ended → Ran (Ok r) old new b a stands delivered told left failures
+    (b a : Intake A) (stands : Standing) (delivered : ℕ) (told : Told) (left : Option (List ℕ))
+    (gave : List ℕ) (over : Type 0) (failures : ℕ) (ended : Bool) → r.ended ≡ ended
+    → Ran (Ok r) b a stands delivered told left gave over failures
     → Answers (Ok r) outcome done b.delivered a.delivered
-    → CameTo outcome done old b a told failures
-ran_on r outcome done old new b a stands delivered told left failures true e ran answers =
+    → CameTo outcome done b a told left gave over failures
+ran_on r outcome done b a stands delivered told left gave over failures true e ran answers =
     let so = answers.ended r refl e in
-    let took : Took 16777216 r old new b.receiver a.receiver = ran.heard.0 in
+    let ended : over = whole_over stands told left gave over (ran.ended e) ran.given in
     inl (record {
-      count = r.delivered;
       is = so.0;
-      now_is = so.1;
-      taken = record {
-        due = took.due;
-        all = all_given old new took.due took.given (took.ended e);
-        taken = took.taken;
-        heard = ran.heard.1;
-      };
+      taken =
+          records_taken b a r.delivered (IsRead told.gave gave over) ran.came.due
+          (λ octets q. ap (λ (l : List ℕ). datagrams_of (dues_in l))
+          (read_all told.gave gave octets over q ended)
+          ∙ same_datagrams (dues_in (since told.gave gave)) ran.came.due
+          ran.came.came_is) ran.came.taken ran.came.heard so.1;
       worked = no_failure stands delivered told left failures ran.blameless ran.right;
     })
-ran_on r outcome done old new b a stands delivered told left failures false e ran answers =
-    inr (inl (record {
-      is = answers.many r refl e;
-      many = too_many r old new b.receiver a.receiver delivered told.to_give left e ran.turns
-          ran.heard.0 ran.counted
-          (all_delivered stands delivered told left failures ran.blameless ran.right);
-      worked = no_failure stands delivered told left failures ran.blameless ran.right;
-    }))
+ran_on r outcome done b a stands delivered told left gave over failures false e ran answers =
+    ran_short r outcome done b a stands delivered told left gave over failures e ran answers
+    (is_or_not r.delivered 16777216)
 
-pub came_to : {A V : Type 0} (received : Result Received ReceiveFault) (outcome : Result V Fault)
-    (done : V) (old new : Option (List Due)) (b a : Intake A)
-    (stands : Standing) (delivered : ℕ) (told : Told) (left : Option (List ℕ)) (failures : ℕ)
-    → Ran received old new b a stands delivered told left failures
+came_to : {A V : Type 0} (received : Result Received ReceiveFault) (outcome : Result V Fault)
+    (done : V) (b a : Intake A) (stands : Standing) (delivered : ℕ) (told : Told)
+    (left : Option (List ℕ)) (gave : List ℕ) (over : Type 0) (failures : ℕ)
+    → Ran received b a stands delivered told left gave over failures
     → Answers received outcome done b.delivered a.delivered
-    → CameTo outcome done old b a told failures
-came_to (Ok r) outcome done old new b a stands delivered told left failures ran answers =
-    ran_on r outcome done old new b a stands delivered told left failures r.ended refl ran answers
-came_to (Err e) outcome done old new b a stands delivered told left failures ran answers =
-    let f = the_fault stands e.fault delivered told left failures ran.fault ran.right in
-    inr (inr (record {
+    → CameTo outcome done b a told left gave over failures
+came_to (Ok r) outcome done b a stands delivered told left gave over failures ran answers =
+    ran_on r outcome done b a stands delivered told left gave over failures r.ended refl ran answers
+came_to (Err e) outcome done b a stands delivered told left gave over failures ran answers =
+    let f =
+    the_fault stands e.fault delivered told left gave over failures ran.fault ran.right ran.given in
+    inr (inr (inr (record {
       fault = f.fault;
       is = answers.fault e f.fault refl f.is;
-      behind = f.behind;
+      named = f.named;
+      given = f.given;
       counted = f.counted;
-    }))
+    })))
 
 -- ---- what follows
 
 pub came_taken : {A V : Type 0} (b a : Intake A) (outcome : Result V Fault) (done : V)
-    (told : Told) (failures : ℕ)
-    → CameTo outcome done (turns_of Reads told.to_give) b a told failures
-    → OnOk outcome (TakesRecords told.to_give b a)
-came_taken b a outcome done told failures (inl whole) =
-    rw whole.is (records_taken b a whole.count told.to_give whole.taken whole.now_is)
-came_taken b a outcome done told failures (inr (inl long)) = rw long.is tt
-came_taken b a outcome done told failures (inr (inr fault)) = rw fault.is tt
+    (told : Told) (left : Option (List ℕ)) (gave : List ℕ) (over : Type 0) (failures : ℕ)
+    → CameTo outcome done b a told left gave over failures
+    → OnOk outcome (TakesRecords (IsRead told.gave gave over) b a)
+came_taken b a outcome done told left gave over failures (inl whole) = rw whole.is whole.taken
+came_taken b a outcome done told left gave over failures (inr (inl long)) = rw long.is tt
+came_taken b a outcome done told left gave over failures (inr (inr (inl quiet))) = rw quiet.is tt
+came_taken b a outcome done told left gave over failures (inr (inr (inr fault))) = rw fault.is tt
 
-pub came_refused : {A V : Type 0} (outcome : Result V Fault) (done : V) (old : Option (List Due))
-    (b a : Intake A) (told : Told) (failures : ℕ)
-    → CameTo outcome done old b a told failures
-    → IfErr outcome (λ f. OfRefusal f (IsFileRefusal HasRecordFault told.to_give))
-came_refused outcome done old b a told failures (inl whole) = rw whole.is tt
-came_refused outcome done old b a told failures (inr (inl long)) = rw long.is long.many
-came_refused outcome done old b a told failures (inr (inr fault)) =
-    rw fault.is (fault_refuses fault.fault told.to_give fault.behind)
+pub came_refused : {A V : Type 0} (outcome : Result V Fault) (done : V) (b a : Intake A)
+    (told : Told) (left : Option (List ℕ)) (gave : List ℕ) (over : Type 0) (failures : ℕ)
+    → CameTo outcome done b a told left gave over failures
+    → IfErr outcome (λ f. OfRefusal f (IsFileRefusal HasRecordFault (IsRead told.gave gave over)))
+came_refused outcome done b a told left gave over failures (inl whole) = rw whole.is tt
+came_refused outcome done b a told left gave over failures (inr (inl long)) = rw long.is long.many
+came_refused outcome done b a told left gave over failures (inr (inr (inl quiet))) =
+    rw quiet.is tt
+came_refused outcome done b a told left gave over failures (inr (inr (inr fault))) =
+    rw fault.is (fault_refuses fault.fault told left gave over fault.named fault.given)
 
-pub came_accounted : {A V : Type 0} (outcome : Result V Fault) (done : V) (old : Option (List Due))
-    (b a : Intake A) (told : Told) (failures : ℕ)
-    → CameTo outcome done old b a told failures
+pub came_accounted : {A V : Type 0} (outcome : Result V Fault) (done : V) (b a : Intake A)
+    (told : Told) (left : Option (List ℕ)) (gave : List ℕ) (over : Type 0) (failures : ℕ)
+    → CameTo outcome done b a told left gave over failures
     → Accounts outcome (counts told.failures failures ∷ [])
-came_accounted outcome done old b a told failures (inl whole) = rw whole.is whole.worked
-came_accounted outcome done old b a told failures (inr (inl long)) = rw long.is long.worked
-came_accounted outcome done old b a told failures (inr (inr fault)) =
+came_accounted outcome done b a told left gave over failures (inl whole) = rw whole.is whole.worked
+came_accounted outcome done b a told left gave over failures (inr (inl long)) =
+    rw long.is long.worked
+came_accounted outcome done b a told left gave over failures (inr (inr (inl quiet))) =
+    rw quiet.is quiet.worked
+came_accounted outcome done b a told left gave over failures (inr (inr (inr fault))) =
     rw fault.is (fault_blames fault.fault told.failures failures fault.counted)
 
 -- ---- a reader that was just opened
 
+-- nothing came of it yet
+none_yet : (gave : List ℕ) → came_of (dues_in (since gave gave)) ≡ []
+none_yet gave =
+    ap (λ (l : List ℕ). came_of (dues_in l)) (since_none gave)
+    ∙ ap (λ (es : List Entry). came_of (map due_of_entry es)) entries_none
+
 -- what was heard by a receiver and a tally that stay
-same_heard : (received : Result Received ReceiveFault) (s : Standing) (to_give : Option (List ℕ))
-    (new : Option (List Due)) (before mid after : State) (t u w : Tally) → s ≡ Reads
-    → after ≡ mid → w ≡ u → Heard received (turns_of s to_give) new before mid t u
-    → Heard received (turns_of Reads to_give) new before after t w
-same_heard received s to_give new before mid after t u w reads same tally heard =
-    subst (λ (x : Tally). Heard received (turns_of Reads to_give) new before after t x) (sym tally)
-    (subst (λ (x : State). Heard received (turns_of Reads to_give) new before x t u) (sym same)
-    (subst (λ (x : Standing). Heard received (turns_of x to_give) new before mid t u) reads heard))
+abbrev CameSo : ℕ → Told → Told → List ℕ → State → State → Tally → Tally → Type 0
+CameSo n opened kept gave before after t u =
+    HeardCame n (came_of (dues_in (since opened.gave opened.gave)))
+    (came_of (dues_in (since kept.gave gave))) before after t u
+
+same_came : (n : ℕ) (told kept : Told) (gave : List ℕ) (before mid after : State) (t u w : Tally)
+    → kept ≡ told → after ≡ mid → w ≡ u → CameSo n told kept gave before mid t u
+    → HeardCame n [] (came_of (dues_in (since told.gave gave))) before after t w
+same_came n told kept gave before mid after t u w stays same same_tally came =
+    let now : Told → Arrivals = λ (x : Told). came_of (dues_in (since x.gave gave)) in
+    subst (λ (x : Tally). HeardCame n [] (now told) before after t x) (sym same_tally)
+    (subst (λ (x : State). HeardCame n [] (now told) before x t u) (sym same)
+    (subst (λ (x : Told). HeardCame n [] (now x) before mid t u) stays
+    (subst (λ (x : Arrivals). HeardCame n x (now kept) before mid t u)
+    (none_yet told.gave) came)))
 
 pub reader_came : {A V : Type 0} (received : Result Received ReceiveFault)
-    (outcome : Result V Fault) (done : V) (s t : Standing) (new : Option (List Due))
-    (b a : Intake A) (mid : State)
-    (tally : Tally) (d e : ℕ) (opened kept told : Told) (left : Option (List ℕ)) (failures : ℕ)
-    → s ≡ Reads → d ≡ 0 → opened ≡ told → kept ≡ opened → a.receiver ≡ mid → a.tally ≡ tally
-    → Heard received (turns_of s told.to_give) new b.receiver mid b.tally tally
+    (outcome : Result V Fault) (done : V) (s t : Standing) (b a : Intake A) (mid : State)
+    (tally : Tally) (e : ℕ) (opened kept told : Told) (left : Option (List ℕ)) (gave : List ℕ)
+    (over : Type 0) (failures : ℕ) → s ≡ Reads → opened ≡ told → kept ≡ opened
+    → a.receiver ≡ mid → a.tally ≡ tally
+    → HeardCame (delivered_in received) (came_of (dues_in (since opened.gave told.gave)))
+    (came_of (dues_in (since kept.gave gave))) b.receiver mid b.tally tally
+    → IfOk received (λ r. r.ended ≡ true → t ≡ Ended)
     → IfErr received (λ x. last_fault_of t ≡ Some x.fault)
-    → OnOk received (last_fault_of t ≡ last_fault_of s)
-    → CountsAll (delivered_in received) d e → StandsRight t e kept left failures
-    → Answers received outcome done b.delivered a.delivered
-    → CameTo outcome done (turns_of Reads told.to_give) b a told failures
-reader_came received outcome done s t new b a mid tally d e opened kept told left failures
-    reads none is stays same same_tally heard fault blameless counted right answers =
-    came_to received outcome done (turns_of Reads told.to_give) new b a t e told left failures
-    (record {
-      turns = refl;
-      heard = same_heard received s told.to_give new b.receiver mid a.receiver b.tally tally
-          a.tally reads same same_tally heard;
+    → OnOk received (last_fault_of t ≡ last_fault_of s) → StandsRight t e kept left failures
+    → HasGiven t kept left gave over → Answers received outcome done b.delivered a.delivered
+    → CameTo outcome done b a told left gave over failures
+reader_came received outcome done s t b a mid tally e opened kept told left gave over failures reads
+    is stays same same_tally came ended fault blameless right given answers =
+    came_to received outcome done b a t e told left gave over failures (record {
+      came =
+          same_came (delivered_in received) told kept gave b.receiver mid a.receiver b.tally tally
+          a.tally (stays ∙ is) same same_tally
+          (subst (λ (x : Told). HeardCame (delivered_in received)
+          (came_of (dues_in (since x.gave told.gave))) (came_of (dues_in (since kept.gave gave)))
+          b.receiver mid b.tally tally) is came);
+      ended = ended;
       fault = fault;
       blameless = subst (λ (x : Standing). OnOk received (last_fault_of t ≡ last_fault_of x)) reads
           blameless;
-      counted = subst (λ (n : ℕ). CountsAll (delivered_in received) n e) none counted;
       right = subst (λ (x : Told). StandsRight t e x left failures) (stays ∙ is) right;
+      given = subst (λ (x : Told). HasGiven t x left gave over) (stays ∙ is) given;
     }) answers
 
 -- ---- what was delivered is held, however the turns ended
 
-turns_told : (s : Standing) (known : Option (List ℕ)) (octets : List ℕ) → s ≡ Reads
-    → known ≡ Some octets → turns_of s known ≡ Some (dues_in octets)
-turns_told s known octets reads is =
-    ap (λ (x : Standing). turns_of x known) reads ∙ ap (turns_of Reads) is
+pub delivered_held : {A : Type 0} (b a : Intake A) (mid : State) (n : ℕ) (t u : Tally)
+    (opened kept told : Told) (gave : List ℕ) → opened ≡ told → kept ≡ opened → a.receiver ≡ mid
+    → HeardCame n (came_of (dues_in (since opened.gave told.gave)))
+    (came_of (dues_in (since kept.gave gave))) b.receiver mid t u
+    → (datagrams : List (List ℕ)) → Holds b.receiver datagrams
+    → Holds a.receiver (datagrams ++ datagrams_of (dues_in (since told.gave gave)))
+delivered_held b a mid n t u opened kept told gave is stays same came datagrams held =
+    let so : HeardCame n [] (came_of (dues_in (since told.gave gave))) b.receiver a.receiver t
+    u =
+    same_came n told kept gave b.receiver mid a.receiver t u u (stays ∙ is) same refl
+    (subst (λ (x : Told). HeardCame n (came_of (dues_in (since x.gave told.gave)))
+    (came_of (dues_in (since kept.gave gave))) b.receiver mid t u) is came) in
+    holds_more n so.due b.receiver a.receiver (datagrams_of (dues_in (since told.gave gave)))
+    datagrams so.taken
+    (same_datagrams (dues_in (since told.gave gave)) so.due so.came_is) held
 
--- a reader that had delivered none counts what was delivered now
-count_is : (n old new : ℕ) → old ≡ 0 → n ≤ 16777216 → CountsAll n old new → n ≡ new
-count_is zero old new none few counted = sym (counted.none refl ∙ none)
-count_is (suc n) old new none few counted =
-    let more : new ≡ min (old + suc n) (2 ^ 64 - 1) = counted.some (omega arith) in
-    omega (arith, more, none, few)
-
-pub delivered_held : (s : Standing) (to_give : Option (List ℕ)) (before mid after : State)
-    (n old new : ℕ) → s ≡ Reads → old ≡ 0 → after ≡ mid → n ≤ 16777216 → CountsAll n old new
-    → ((datagrams : List (List ℕ)) (due : List Due) → turns_of s to_give ≡ Some due
-    → Holds before datagrams → Holds mid (datagrams ++ take n (datagrams_of due)))
-    → (datagrams : List (List ℕ)) (octets : List ℕ) → to_give ≡ Some octets
-    → Holds before datagrams
-    → Holds after (datagrams ++ take new (datagrams_of (dues_in octets)))
-delivered_held s to_give before mid after n old new reads none same few counted holds datagrams
-    octets is held =
-    let due : List Due = dues_in octets in
-    subst (λ (x : State). Holds x (datagrams ++ take new (datagrams_of due))) (sym same)
-    (subst (λ (m : ℕ). Holds mid (datagrams ++ take m (datagrams_of due)))
-    (count_is n old new none few counted)
-    (holds datagrams due (turns_told s to_give octets reads is) held))
+pub reader_grew : (s : Standing) (opened kept told : Told) (left : Option (List ℕ))
+    (gave : List ℕ) (over : Type 0) → opened ≡ told → kept ≡ opened
+    → HasGiven s kept left gave over → GrewFrom told.gave gave
+reader_grew s opened kept told left gave over is stays given =
+    gave_on s told left gave over
+    (subst (λ (x : Told). HasGiven s x left gave over) (stays ∙ is) given)
 
 -- ---- the number of a reader's fault
 

@@ -1,10 +1,12 @@
 -- Captures that are taken one after the other.
 use Rattle.std.proofs.Common.{◌≡◌, ℕ, ◌+◌, List, [], ◌∷◌, ◌++◌, length, Option, None, Some}
 use Rattle.std.proofs.Common.{Result, Ok, Err, refl, sym, ap, subst, ◌∙◌, arith, append_assoc}
-use Rattle.std.proofs.Common.{◌≤◌, append-nil, drop, drop-drop, length-drop}
+use Rattle.std.proofs.Common.{zero, suc, ◌≤◌, ◌<◌, append-nil, drop, get_or, set, take}
+use Rattle.std.proofs.lemmas.Grind.{flat_map-append}
+use Rattle.std.proofs.lemmas.List.{take_all}
 use Rattle.capture_engines.specs.Sent.{FirstIs}
+use Rattle.capture_engines.proofs.OneOf.{zip_drop}
 use Rattle.std.specs.List.{flat_map}
-use Rattle.std.specs.Io.KnownBytes.{Appends}
 use Rattle.std.specs.Prelude.{IfOk}
 use Rattle.media_file.specs.StateFile.{state_text}
 use Rattle.path_merge.specs.Frames.{Holds}
@@ -13,9 +15,10 @@ use Rattle.run_outcome.specs.Sources.{IsSourceText}
 use Rattle.run_outcome.specs.Timestamps.{AreTimestamps}
 use Rattle.capture_engines.specs.Printed.{received_text, tally_text}
 use Rattle.capture_engines.specs.Tallied.{Tallies}
-use Rattle.capture_engines.specs.Taking.{AllTell, AnnouncesStream, Begins, IsOpeningText, OpensBy}
+use Rattle.capture_engines.specs.Taking.{AreRead, AnnouncesStream, Begins, IsOpeningText, OpensBy}
 use Rattle.capture_engines.specs.Taking.{Receives}
 use Rattle.capture_engines.specs.Taking.{SavesHolding, Stands, TakesFile, TakesFiles}
+use Rattle.std.specs.List.{zip}
 use Rattle.capture_engines.specs.Taking.{capture_datagrams, said_behind}
 use Rattle.run_outcome.specs.declared.fault.Fault.{Fault}
 use Rattle.capture_engines.specs.declared.receiving.Asked.{Asked}
@@ -23,115 +26,154 @@ use Rattle.capture_engines.specs.declared.intake.Intake.{Intake}
 use Rattle.capture_engines.proofs.Printed.{received_text_is}
 use Rattle.std.proofs.Common.{Bool}
 
--- These captures are still to be taken: with the datagrams that are taken by now, theirs are all,
--- and behind them the receiver is open by this text.
-pub record Left {S A : Type 0} (o : Asked A) (f : S → Option (List ℕ)) (rest : List S)
-    (now : Option (Intake A)) (text : Option (List ℕ)) (all : List (List ℕ)) : Type 0 where
-  pub octets : List (List ℕ)
-  pub said : Option (List ℕ)
-  pub here : List (List ℕ)
-  pub tell : AllTell f rest octets
-  pub stands : Stands o now said here
-  pub behind : said_behind said octets ≡ text
-  pub whole : here ++ flat_map capture_datagrams octets ≡ all
+-- ---- captures that were taken so far
 
--- the first k captures were taken
-pub record SoFar {S A : Type 0} (o : Asked A) (f : S → Option (List ℕ)) (k : ℕ) (start : List S)
-    (before after : Option (Intake A)) : Type 0 where
-  pub left : (octets : List (List ℕ)) (said : Option (List ℕ)) (ds : List (List ℕ))
-      → AllTell f start octets → Stands o before said ds
-      → Left o f (drop k start) after (said_behind said octets)
-      (ds ++ flat_map capture_datagrams octets)
+pub none_taken : {S A : Type 0} (o : Asked A) (f : S → List ℕ → Type 0) (b : Option (Intake A))
+    → TakesFiles o f [] b b
+none_taken o f b = record { stands = λ octets said ds tell. none octets said ds tell }
+  where
+    said_none : (said : Option (List ℕ)) → said ≡ said_behind said []
+    said_none None = refl
+    said_none (Some text) = refl
 
-pub none_so_far : {S A : Type 0} (o : Asked A) (f : S → Option (List ℕ)) (xs : List S)
-    (b : Option (Intake A)) → SoFar o f 0 xs b b
-none_so_far o f xs b = record {
-  left = λ octets said ds tell stands. record {
-    octets = octets;
-    said = said;
-    here = ds;
-    tell = tell;
-    stands = stands;
-    behind = refl;
-    whole = refl;
-  };
-}
+    none : (octets : List (List ℕ)) (said : Option (List ℕ)) (ds : List (List ℕ))
+        → AreRead f [] octets → Stands o b said ds
+        → Stands o b (said_behind said octets) (ds ++ flat_map capture_datagrams octets)
+    none [] said ds tell stands =
+        subst (λ (t : Option (List ℕ)). Stands o b t (ds ++ [])) (said_none said)
+        (subst (λ (xs : List (List ℕ)). Stands o b said xs) (sym (append-nil ds)) stands)
+    none (p ∷ ps) said ds tell stands = absurd tell
 
--- the text is that behind one capture, and then behind the others
-said_then : (said : Option (List ℕ)) (p : List ℕ) (ps : List (List ℕ))
-    → said_behind (said_behind said (p ∷ [])) ps ≡ said_behind said (p ∷ ps)
-said_then None p ps = refl
-said_then (Some text) p ps = refl
+-- the octets of some sources and of one more
+record Split {S : Type 0} (f : S → List ℕ → Type 0) (xs : List S) (x : S)
+    (octets : List (List ℕ)) : Type 0 where
+  pub front : List (List ℕ)
+  pub last : List ℕ
+  pub whole : octets ≡ front ++ last ∷ []
+  pub tell : AreRead f xs front
+  pub one : f x last
 
-first_left : {S A : Type 0} (o : Asked A) (f : S → Option (List ℕ)) (x : S) (xs : List S)
-    (b a : Option (Intake A)) (text : Option (List ℕ)) (all octets : List (List ℕ))
-    (said : Option (List ℕ)) (here : List (List ℕ))
-    → AllTell f (x ∷ xs) octets
-    → Stands o b said here → said_behind said octets ≡ text
-    → here ++ flat_map capture_datagrams octets ≡ all → TakesFile o (f x) b a
-    → Left o f xs a text all
-first_left o f x xs b a text all [] said here tell stands behind whole taken = absurd tell
-first_left o f x xs b a text all (p ∷ ps) said here tell stands behind whole taken = record {
-  octets = ps;
-  said = said_behind said (p ∷ []);
-  here = here ++ capture_datagrams p;
-  tell = tell.1;
-  stands = taken.stands p said here tell.0 stands;
-  behind = said_then said p ps ∙ behind;
-  whole = append_assoc here (capture_datagrams p) (flat_map capture_datagrams ps) ∙ whole;
-}
+split_tell : {S : Type 0} (f : S → List ℕ → Type 0) (xs : List S) (x : S)
+    (octets : List (List ℕ)) → AreRead f (xs ++ x ∷ []) octets → Split f xs x octets
+split_tell f [] x [] tell = absurd tell
+split_tell f [] x (p ∷ []) tell =
+    record { front = []; last = p; whole = refl; tell = tt; one = tell.0 }
+split_tell f [] x (p ∷ (q ∷ ps)) tell = absurd tell.1
+split_tell f (y ∷ xs) x [] tell = absurd tell
+split_tell f (y ∷ xs) x (p ∷ ps) tell =
+    let rest : Split f xs x ps = split_tell f xs x ps tell.1 in
+    record {
+      front = p ∷ rest.front;
+      last = rest.last;
+      whole = ap (λ (l : List (List ℕ)). p ∷ l) rest.whole;
+      tell = (tell.0, rest.tell);
+      one = rest.one;
+    }
 
-next_left : {S A : Type 0} (o : Asked A) (f : S → Option (List ℕ)) (rest : List S)
-    (b a : Option (Intake A)) (text : Option (List ℕ)) (all : List (List ℕ))
-    → Left o f rest b text all → FirstIs (λ s. TakesFile o (f s) b a) rest
-    → Left o f (drop 1 rest) a text all
-next_left o f [] b a text all l taken = absurd taken
-next_left o f (x ∷ xs) b a text all l taken =
-    first_left o f x xs b a text all l.octets l.said l.here l.tell l.stands l.behind l.whole taken
+-- the text is that behind some captures, and then behind one more
+said_then : (said : Option (List ℕ)) (ps : List (List ℕ)) (p : List ℕ)
+    → said_behind (said_behind said ps) (p ∷ []) ≡ said_behind said (ps ++ p ∷ [])
+said_then None [] p = refl
+said_then None (q ∷ ps) p = refl
+said_then (Some text) ps p = refl
 
--- one more
-pub one_more : {S A : Type 0} (o : Asked A) (f : S → Option (List ℕ)) (k : ℕ)
-    (start rest : List S) (before b a : Option (Intake A)) → SoFar o f k start before b
-    → rest ≡ drop k start → FirstIs (λ s. TakesFile o (f s) b a) rest
-    → SoFar o f (k + 1) start before a
-one_more {S} o f k start rest before b a so_far behind taken = record {
-  left = λ octets said ds tell stands.
-      let text : Option (List ℕ) = said_behind said octets in
-      let all : List (List ℕ) = ds ++ flat_map capture_datagrams octets in
-      subst (λ (xs : List S). Left o f xs a text all) (drop-drop 1 k start)
-      (next_left o f (drop k start) b a text all (so_far.left octets said ds tell stands)
-      (subst (λ (xs : List S). FirstIs (λ s. TakesFile o (f s) b a) xs) behind taken));
-}
+datagrams_then : (ds : List (List ℕ)) (ps : List (List ℕ)) (p : List ℕ)
+    → (ds ++ flat_map capture_datagrams ps) ++ capture_datagrams p
+    ≡ ds ++ flat_map capture_datagrams (ps ++ p ∷ [])
+datagrams_then ds ps p =
+    append_assoc ds (flat_map capture_datagrams ps) (capture_datagrams p)
+    ∙ ap (λ (l : List (List ℕ)). ds ++ l)
+    (sym (flat_map-append capture_datagrams ps (p ∷ [])
+    ∙ ap (λ (l : List (List ℕ)). flat_map capture_datagrams ps ++ l)
+    (append-nil (capture_datagrams p))))
 
-said_none : (said : Option (List ℕ)) → said_behind said [] ≡ said
-said_none None = refl
-said_none (Some text) = refl
-
--- none is left
-none_left : {S A : Type 0} (o : Asked A) (f : S → Option (List ℕ)) (rest : List S)
-    (a : Option (Intake A)) (text : Option (List ℕ)) (all octets : List (List ℕ))
-    (said : Option (List ℕ)) (here : List (List ℕ))
-    → length rest ≡ 0 → AllTell f rest octets
-    → Stands o a said here → said_behind said octets ≡ text
-    → here ++ flat_map capture_datagrams octets ≡ all → Stands o a text all
-none_left o f (x ∷ xs) a text all octets said here none tell stands behind whole = absurd
-    (omega arith)
-none_left o f [] a text all (p ∷ ps) said here none tell stands behind whole = absurd tell
-none_left o f [] a text all [] said here none tell stands behind whole =
-    subst (λ (t : Option (List ℕ)). Stands o a t all) (sym (said_none said) ∙ behind)
-    (subst (λ (ds : List (List ℕ)). Stands o a said ds) (sym (append-nil here) ∙ whole) stands)
-
-pub all_taken : {S A : Type 0} (o : Asked A) (f : S → Option (List ℕ)) (k : ℕ) (start : List S)
-    (before after : Option (Intake A)) → SoFar o f k start before after → length start ≤ k
-    → TakesFiles o f start before after
-all_taken o f k start before after so_far end = record {
+pub one_more : {S A : Type 0} (o : Asked A) (f : S → List ℕ → Type 0) (xs : List S) (x : S)
+    (before b a : Option (Intake A)) → TakesFiles o f xs before b → TakesFile o (f x) b a
+    → TakesFiles o f (xs ++ x ∷ []) before a
+one_more o f xs x before b a files file = record {
   stands = λ octets said ds tell stands.
-      let text : Option (List ℕ) = said_behind said octets in
-      let whole : List (List ℕ) = ds ++ flat_map capture_datagrams octets in
-      let l : Left o f (drop k start) after text whole = so_far.left octets said ds tell stands in
-      none_left o f (drop k start) after text whole l.octets l.said l.here
-      (omega (arith, length-drop k start, end)) l.tell l.stands l.behind l.whole;
+      let s : Split f xs x octets = split_tell f xs x octets tell in
+      let all : List (List ℕ) = ds ++ flat_map capture_datagrams s.front in
+      subst (λ (l : List (List ℕ)). Stands o a (said_behind said l)
+      (ds ++ flat_map capture_datagrams l)) (sym s.whole)
+      (subst (λ (t : Option (List ℕ)). Stands o a t
+      (ds ++ flat_map capture_datagrams (s.front ++ s.last ∷ []))) (said_then said s.front s.last)
+      (subst (λ (l : List (List ℕ)). Stands o a
+      (said_behind (said_behind said s.front) (s.last ∷ [])) l)
+      (datagrams_then ds s.front s.last)
+      (file.stands s.last (said_behind said s.front) all s.one
+      (files.stands s.front said ds s.tell stands))));
 }
+
+-- ---- pairs of sources
+
+first_is : {X : Type 0} (x y : X) (xs ys : List X) → x ∷ xs ≡ y ∷ ys → x ≡ y
+first_is x y xs ys e = cc
+
+rest_is : {X : Type 0} (x y : X) (xs ys : List X) → x ∷ xs ≡ y ∷ ys → xs ≡ ys
+rest_is x y xs ys e = cc
+
+-- one source more, with what it is
+pub record NextPair {S : Type 0} (Is : S × S → Type 0) (start now : List S) (k : ℕ) : Type 0
+  where
+    pub next : S × S
+    pub is : Is next
+    pub whole : zip (take (suc k) start) (take (suc k) now)
+        ≡ zip (take k start) (take k now) ++ next ∷ []
+
+next_pair : {S : Type 0} (Is : S × S → Type 0) (start now : List S) (k : ℕ)
+    → FirstIs Is (zip (drop k start) (drop k now)) → NextPair Is start now k
+next_pair Is [] now zero is = absurd is
+next_pair Is (s ∷ ss) [] zero is = absurd is
+next_pair Is (s ∷ ss) (t ∷ ts) zero is = record { next = (s, t); is = is; whole = refl }
+next_pair Is [] now (suc k) is = absurd is
+next_pair Is (s ∷ ss) [] (suc k) is = absurd (no_pairs Is (drop k ss) is)
+  where
+    no_pairs : {S : Type 0} (Is : S × S → Type 0) (xs : List S) → FirstIs Is (zip xs []) → ⊥
+    no_pairs Is [] is = is
+    no_pairs Is (x ∷ xs) is = is
+next_pair {S} Is (s ∷ ss) (t ∷ ts) (suc k) is =
+    let n : NextPair Is ss ts k = next_pair Is ss ts k is in
+    record {
+      next = n.next;
+      is = n.is;
+      whole = ap (λ (l : List (S × S)). (s, t) ∷ l) n.whole;
+    }
+
+-- so the captures up to there were taken
+pub more_taken : {S A : Type 0} (o : Asked A) (f : S × S → List ℕ → Type 0)
+    (start now new : List S) (k : ℕ) (before b a : Option (Intake A))
+    → TakesFiles o f (zip (take k start) (take k now)) before b → take k new ≡ take k now
+    → drop k now ≡ drop k start
+    → FirstIs (λ s. TakesFile o (f s) b a) (zip (drop k now) (drop k new))
+    → TakesFiles o f (zip (take (k + 1) start) (take (k + 1) new)) before a
+more_taken {S} {A} o f start now new k before b a files front behind one =
+    let Is : S × S → Type 0 = λ s. TakesFile o (f s) b a in
+    let n : NextPair Is start new k =
+    next_pair Is start new k
+    (subst (λ (l : List S). FirstIs Is (zip l (drop k new))) behind one) in
+    let one_on : suc k ≡ k + 1 = omega arith in
+    subst (λ (m : ℕ). TakesFiles o f (zip (take m start) (take m new)) before a) one_on
+    (subst (λ (l : List (S × S)). TakesFiles o f l before a) (sym n.whole)
+    (subst (λ (l : List S). TakesFiles o f (zip (take k start) l ++ n.next ∷ []) before a)
+    (sym front)
+    (one_more o f (zip (take k start) (take k now)) n.next before b a files n.is)))
+
+-- all of them
+pub all_taken : {S A : Type 0} (o : Asked A) (f : S × S → List ℕ → Type 0)
+    (start now : List S) (k : ℕ) (before b : Option (Intake A))
+    → TakesFiles o f (zip (take k start) (take k now)) before b → length start ≤ k
+    → length now ≡ length start → TakesFiles o f (zip start now) before b
+all_taken {S} o f start now k before b files all same =
+    subst (λ (l : List S). TakesFiles o f (zip l now) before b) (take_all k start all)
+    (subst (λ (l : List S). TakesFiles o f (zip (take k start) l) before b)
+    (take_all k now (omega (arith, same, all))) files)
+
+-- those that are left are behind those that were taken
+pub pairs_left : {S : Type 0} (k : ℕ) (start now new : List S) → drop k now ≡ drop k start
+    → zip (drop k now) (drop k new) ≡ drop k (zip start new)
+pairs_left {S} k start now new behind =
+    ap (λ (l : List S). zip l (drop k new)) behind ∙ zip_drop k start new
 
 -- ---- the receiver that took them is written
 
@@ -140,11 +182,11 @@ some_is a b is = cc
 
 saves_held : {A : Type 0} (o : Asked A) (window source : List ℕ) (Is : List ℕ → Type 0)
     (said : Option (List ℕ)) (s : Intake A) (ds : List (List ℕ)) (wanted : Bool)
-    (shown shown' old new : Option (List ℕ))
+    (shown shown' old new : List ℕ)
     → AreTimestamps window o.window.items → IsSourceText source o.ssrc → Stands o (Some s) said ds
     → ((text : List ℕ) → Is text → said ≡ Some text)
-    → Appends shown shown' (received_text wanted s.delivered (tally_text s.tally) s.receiver)
-    → Appends old new (state_text (kept_of s.receiver))
+    → shown' ≡ shown ++ received_text wanted s.delivered (tally_text s.tally) s.receiver
+    → new ≡ old ++ state_text (kept_of s.receiver)
     → SavesHolding window source Is ds wanted shown shown' old new
 saves_held o window source Is None s ds wanted shown shown' old new is_window is_source stands opens
     printed taken = absurd stands
@@ -159,20 +201,21 @@ saves_held o window source Is (Some said) s ds wanted shown shown' old new is_wi
           (some_is said text (opens text is))
           stands.announced;
       holds = stands.holds;
-      printed = subst (Appends shown shown')
+      printed = printed
+          ∙ ap (λ (l : List ℕ). shown ++ l)
           (received_text_is wanted s.delivered s.tally s.receiver ds stands.delivered
-          stands.tallied) printed;
+          stands.tallied);
       taken = taken;
     }
 
 pub receives : {S A : Type 0} (o : Asked A) (window source : List ℕ) (sdp : Option S)
-    (f : S → Option (List ℕ)) (captures : List S)
+    (f : S → List ℕ → Type 0) (captures : List S)
     (begun : Option (Intake A)) (s : Intake A) (wanted : Bool)
-    (shown shown' old new : Option (List ℕ))
+    (shown shown' old new : List ℕ)
     → AreTimestamps window o.window.items → IsSourceText source o.ssrc → Begins o f sdp begun
     → TakesFiles o f captures begun (Some s)
-    → Appends shown shown' (received_text wanted s.delivered (tally_text s.tally) s.receiver)
-    → Appends old new (state_text (kept_of s.receiver))
+    → shown' ≡ shown ++ received_text wanted s.delivered (tally_text s.tally) s.receiver
+    → new ≡ old ++ state_text (kept_of s.receiver)
     → Receives window source sdp f captures wanted shown shown' old new
 receives o window source sdp f captures begun s wanted shown shown' old new is_window is_source
     begins files printed taken =
@@ -187,7 +230,7 @@ receives o window source sdp f captures begun s wanted shown shown' old new is_w
 -- ---- a run begins
 
 -- with no SDP's source
-pub none_begins : {S A : Type 0} (o : Asked A) (f : S → Option (List ℕ)) (sdp : Option S)
+pub none_begins : {S A : Type 0} (o : Asked A) (f : S → List ℕ → Type 0) (sdp : Option S)
     → sdp ≡ None → Begins {S = S} {A = A} o f sdp None
 none_begins {S} {A} o f sdp none =
     subst (λ (x : Option S). Begins {S = S} {A = A} o f x None) (sym none) (record {
@@ -197,7 +240,7 @@ none_begins {S} {A} o f sdp none =
     })
 
 -- by the SDP's source
-pub some_begins : {S A : Type 0} (o : Asked A) (f : S → Option (List ℕ)) (sdp : Option S)
+pub some_begins : {S A : Type 0} (o : Asked A) (f : S → List ℕ → Type 0) (sdp : Option S)
     (source : S) (s : Intake A) → sdp ≡ Some source → OpensBy o (f source) s
     → Begins o f sdp (Some s)
 some_begins {S} {A} o f sdp source s some opens =
@@ -209,15 +252,15 @@ some_begins {S} {A} o f sdp source s some opens =
 
 -- an intake that was opened by the text that the SDP's source gave
 pub opened_if : {A : Type 0} (o : Asked A) (r : Result (Intake A) Fault)
-    (to_give : Option (List ℕ)) (text window : List ℕ)
-    → ((octets : List ℕ) → to_give ≡ Some octets → octets ≡ text) → window ≡ o.window.items
+    (told : List ℕ → Type 0) (text window : List ℕ)
+    → ((octets : List ℕ) → told octets → octets ≡ text) → window ≡ o.window.items
     → IfOk r (λ s. s.receiver.opening.window ≡ window)
     → IfOk r (λ s. s.receiver.opening.ssrc ≡ o.ssrc)
     → IfOk r (λ s. AnnouncesStream text s.receiver.opening)
     → IfOk r (λ s. Holds s.receiver []) → IfOk r (λ s. Tallies s.tally [])
     → IfOk r (λ s. s.delivered ≡ 0)
-    → IfOk r (λ s. OpensBy o to_give s)
-opened_if o (Ok s) to_give text window is same of_window of_source announced holds tallied none =
+    → IfOk r (λ s. OpensBy o told s)
+opened_if o (Ok s) told text window is same of_window of_source announced holds tallied none =
     record {
       text = text;
       is = is;
@@ -230,5 +273,5 @@ opened_if o (Ok s) to_give text window is same of_window of_source announced hol
         delivered = omega (arith, none);
       };
     }
-opened_if o (Err f) to_give text window is same of_window of_source announced holds tallied none =
+opened_if o (Err f) told text window is same of_window of_source announced holds tallied none =
     tt

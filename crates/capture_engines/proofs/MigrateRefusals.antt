@@ -1,7 +1,9 @@
 -- Which refusal ends a run of `migrate`.
-use Rattle.std.proofs.Common.{◌≡◌, ℕ, inl, inr, List, Option, Some, Err, subst}
+use Rattle.std.proofs.Common.{◌≡◌, ℕ, inl, inr, List, Err}
+use Rattle.st_format.specs.History.{IsRead}
 use Rattle.media_file.specs.Faults.{IfContent}
-use Rattle.media_file.specs.Fields.{Fails}
+use Rattle.media_file.specs.Fields.{GaveFault}
+use Rattle.media_file.proofs.Gave.{fault_read}
 use Rattle.media_file.specs.Migrated.{old_at}
 use Rattle.media_file.specs.declared.fault.FileFault.{FileFault}
 use Rattle.media_file.specs.declared.fault.FileFault.TheVariants.{NoMemory, Device, BadName}
@@ -16,27 +18,30 @@ use Rattle.run_outcome.specs.Refusing.{OfRefusal}
 use Rattle.run_outcome.specs.declared.refusal.Refusal.{Refusal}
 use Rattle.run_outcome.specs.declared.refusal.Refusal.TheVariants as why
 
-told_octets : (told : Option (List ℕ)) (f : FileFault) → Fails (old_at 16777216) told f
-    → (octets : List ℕ) → told ≡ Some octets
-    → IfContent f (old_at 16777216 octets ≡ Err f)
-told_octets told f fails octets same =
-    subst (λ (t : Option (List ℕ)). Fails (old_at 16777216) t f) same fails
+told_octets : (before now : List ℕ) (ended : Type 0) (f : FileFault)
+    → GaveFault (old_at 16777216) before now ended f → (octets : List ℕ)
+    → IsRead before now ended octets → IfContent f (old_at 16777216 octets ≡ Err f)
+told_octets before now ended f fails octets read =
+    fault_read (old_at 16777216) before now ended f octets fails read
 
 -- a fault of a capture's file as a refusal
-pub capture_refused : (told : Option (List ℕ)) (f : FileFault) → Fails (old_at 16777216) told f
-    → OfRefusal (capture_fault f) (IsCaptureRefusal told)
-capture_refused told NoMemory fails = tt
-capture_refused told Device fails = tt
-capture_refused told BadName fails = told_octets told BadName fails
-capture_refused told BadVersion fails = told_octets told BadVersion fails
-capture_refused told Truncated fails = told_octets told Truncated fails
-capture_refused told BadField fails = told_octets told BadField fails
-capture_refused told TrailingBytes fails = told_octets told TrailingBytes fails
-capture_refused told MixedGroup fails = told_octets told MixedGroup fails
-capture_refused told TooManyRecords fails = told_octets told TooManyRecords fails
+pub capture_refused : (before now : List ℕ) (ended : Type 0) (f : FileFault)
+    → GaveFault (old_at 16777216) before now ended f
+    → OfRefusal (capture_fault f) (IsCaptureRefusal (IsRead before now ended))
+capture_refused before now ended NoMemory fails = tt
+capture_refused before now ended Device fails = tt
+capture_refused before now ended BadName fails = told_octets before now ended BadName fails
+capture_refused before now ended BadVersion fails = told_octets before now ended BadVersion fails
+capture_refused before now ended Truncated fails = told_octets before now ended Truncated fails
+capture_refused before now ended BadField fails = told_octets before now ended BadField fails
+capture_refused before now ended TrailingBytes fails =
+    told_octets before now ended TrailingBytes fails
+capture_refused before now ended MixedGroup fails = told_octets before now ended MixedGroup fails
+capture_refused before now ended TooManyRecords fails =
+    told_octets before now ended TooManyRecords fails
 
 -- the refusals of a text and of a capture are those of `migrate`
-pub text_refused : (sdp source : Option (List ℕ)) (r : Refusal)
+pub text_refused : (sdp source : List ℕ → Type 0) (r : Refusal)
     → IsTextRefusal why.MigrateSdp sdp r → IsMigrateRefusal sdp source r
 text_refused sdp source (why.Capture f) (inl is) = absurd (other is.0)
   where
@@ -45,7 +50,7 @@ text_refused sdp source (why.Capture f) (inl is) = absurd (other is.0)
 text_refused sdp source (why.Capture f) (inr is) = absurd is
 text_refused sdp source r is = is
 
-pub file_refused : (sdp source : Option (List ℕ)) → SaysCaptureText sdp → (r : Refusal)
+pub file_refused : (sdp source : List ℕ → Type 0) → SaysCaptureText sdp → (r : Refusal)
     → IsCaptureRefusal source r → IsMigrateRefusal sdp source r
 file_refused sdp source says (why.Capture f) is = (says, is)
 file_refused sdp source says r is = absurd is

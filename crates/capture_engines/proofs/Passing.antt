@@ -1,58 +1,65 @@
 -- What a receiver has of the turns of a link, one after the other.
-use Rattle.std.proofs.Common.{◌≡◌, ℕ, ◌+◌, ◌≤◌, Bool, true, false, List, [], ◌∷◌, ◌++◌, length}
-use Rattle.std.proofs.Common.{Option, zero, suc, refl, sym, ap, ◌∙◌, arith}
-use Rattle.std.proofs.lemmas.List.{length-append}
-use Rattle.st_format.specs.Raster.{Raster}
-use Rattle.st_format.specs.Turns.{Due, Comes, Nothing, datagrams_of}
-use Rattle.path_merge.specs.declared.receiving.Received.{Received}
-use Rattle.path_merge.specs.Frames.{Holds, State, frames_of, joined_frames}
-use Rattle.path_merge.specs.Opening.{Opening}
-use Rattle.path_merge.specs.Took.{AreTurns, CountsAll, Took}
-use Rattle.path_merge.proofs.Frames.{frames_of-append}
+use Rattle.std.proofs.Common.{◌≡◌, ℕ, ◌+◌, ◌≤◌, List, [], ◌∷◌, ◌++◌, length, map, zero, suc}
+use Rattle.std.proofs.Common.{refl, sym, ap, ◌∙◌, subst, arith, append-nil, append_assoc}
+use Rattle.std.proofs.lemmas.List.{length-append, map-append}
+use Rattle.st_format.specs.declared.path.Path.{Path}
+use Rattle.path_merge.specs.Frames.{Holds, State}
+use Rattle.path_merge.specs.Took.{CountsAll}
 use Rattle.capture_engines.specs.Looping.{Came}
 
-datagrams_of-append : (xs ys : List Due)
-    → datagrams_of (xs ++ ys) ≡ datagrams_of xs ++ datagrams_of ys
-datagrams_of-append [] ys = refl
-datagrams_of-append (Comes path octets ∷ xs) ys =
-    ap (λ (ds : List (List ℕ)). octets ∷ ds) (datagrams_of-append xs ys)
-datagrams_of-append (Nothing ∷ xs) ys = datagrams_of-append xs ys
+abbrev Arrivals : Type 0
+Arrivals = List (Path × List ℕ)
 
-at_most_one : (ended : Bool) (due : List Due) → AreTurns 1 ended due → length due ≤ 1
-at_most_one true due turns = omega (arith, turns)
-at_most_one false due turns = omega (arith, turns)
+abbrev octets_of : Arrivals → List (List ℕ)
+octets_of arrivals = map (λ (d : Path × List ℕ). d.1) arrivals
 
 -- what came before the first turn
-pub none_came : (s : State) → Holds s [] → Came 0 0 s
-none_came s holds = record { due = []; few = omega arith; count = refl; holds = holds }
+pub none_came : (s : State) (c : Arrivals) → Holds s [] → Came 0 0 c c s
+none_came s c holds = record {
+  arrivals = [];
+  came = sym (append-nil c);
+  count = refl;
+  few = omega arith;
+  holds = holds;
+}
 
--- what came in one turn more
-pub more_came : (turns before : ℕ) (r : Received) (old new : Option (List Due)) (s t : State)
-    → Took 1 r old new s t → Came turns before s → Came (turns + 1) (before + r.delivered) t
-more_came turns before r old new s t took came =
-    let ds : List (List ℕ) = datagrams_of came.due in
-    let xs : List (List ℕ) = datagrams_of took.due in
-    let all : datagrams_of (came.due ++ took.due) ≡ ds ++ xs =
-    datagrams_of-append came.due took.due in
+-- what came in a turn of a datagram
+pub one_came : (turns before : ℕ) (path : Path) (octets : List ℕ) (first old new : Arrivals)
+    (s t : State) → new ≡ old ++ (path, octets) ∷ []
+    → ((ds : List (List ℕ)) → Holds s ds → Holds t (ds ++ octets ∷ []))
+    → Came turns before first old s → Came (turns + 1) (before + 1) first new t
+one_came turns before path octets first old new s t more holds came =
+    let one : Arrivals = (path, octets) ∷ [] in
     record {
-      due = came.due ++ took.due;
-      few =
-          omega (
-            arith,
-            length-append came.due took.due,
-            came.few,
-            at_most_one r.ended took.due took.turns,
-          );
-      count =
-          ap length all
-          ∙ omega (arith, length-append ds xs, came.count, took.taken.count);
+      arrivals = came.arrivals ++ one;
+      came =
+          more ∙ ap (λ (ds : Arrivals). ds ++ one) came.came
+          ∙ append_assoc first came.arrivals one;
+      count = length-append came.arrivals one ∙ ap (λ (n : ℕ). n + 1) came.count;
+      few = omega (arith, came.few);
       holds =
-          took.taken.frames
-          ∙ ap (λ (rs : List Raster). joined_frames rs (frames_of s.opening xs)) came.holds
-          ∙ sym (frames_of-append s.opening ds xs)
-          ∙ ap (λ (o : Opening). frames_of o (ds ++ xs)) (sym took.taken.opening)
-          ∙ ap (frames_of t.opening) (sym all);
+          subst (Holds t)
+          (sym (map-append (λ (d : Path × List ℕ). d.1) came.arrivals one))
+          (holds (octets_of came.arrivals) came.holds);
     }
+
+-- what came in another turn
+pub still_came : (turns before : ℕ) (first old new : Arrivals) (s : State) → new ≡ old ++ []
+    → Came turns before first old s → Came (turns + 1) (before + 0) first new s
+still_came turns before first old new s none came = record {
+  arrivals = came.arrivals;
+  came = none ∙ append-nil old ∙ came.came;
+  count = came.count ∙ omega arith;
+  few = omega (arith, came.few);
+  holds = came.holds;
+}
+
+-- what was put into a link, and one datagram more
+pub put_more : (old mid new xs ys : List (List ℕ)) (d : List ℕ) → mid ≡ old ++ xs
+    → new ≡ mid ++ d ∷ [] → ys ≡ xs ++ d ∷ [] → new ≡ old ++ ys
+put_more old mid new xs ys d first then is =
+    then ∙ ap (λ (ds : List (List ℕ)). ds ++ d ∷ []) first ∙ append_assoc old xs (d ∷ [])
+    ∙ ap (λ (ds : List (List ℕ)). old ++ ds) (sym is)
 
 -- ---- what the link counts
 

@@ -1,12 +1,10 @@
 -- Lines that are printed one after the other.
 use Rattle.std.proofs.Common.{◌≡◌, ℕ, ◌+◌, ◌<◌, List, [], ◌∷◌, ◌++◌, length, get_or, count_by}
 use Rattle.std.proofs.Common.{Option, ap, subst, sym, ◌∙◌, ◌≢◌, zero, suc, Bool, Result, arith, map}
-use Rattle.std.proofs.Common.{refl, slice_index}
-use Rattle.std.specs.Io.KnownBytes.{Appends}
+use Rattle.std.proofs.Common.{append-nil, refl, slice_index}
 use Rattle.std.specs.List.{flat_map}
-use Rattle.std.proofs.KnownBytes.{Appends-nil}
 use Rattle.path_merge.specs.Frames.{State}
-use Rattle.st_format.specs.Device.{AppendsPrefix}
+use Rattle.st_format.specs.Device.{GrowsPart}
 use Rattle.path_merge.specs.Answers.{refusal_number, taken_at}
 use Rattle.path_merge.specs.declared.answer.Refusal.{Refusal}
 use Rattle.path_merge.specs.declared.answer.Refusal.TheVariants.{Header, WrongPayloadType}
@@ -64,33 +62,32 @@ line_at counts e i is =
     ap (λ (j : ℕ). counted_line (slice_index counts j) (RefusedCount e (slice_index counts j)))
     (sym (place_is e i is))
 
-pub refusals_more : (counts : List ℕ) (e : Refusal) (i : ℕ) (old mid new : Option (List ℕ))
+pub refusals_more : (counts : List ℕ) (e : Refusal) (i : ℕ) (old mid new : List ℕ)
     → refusal_number e ≡ i + 1 → i < 14
-    → Appends old mid (texts_before (refusal_line counts) refusals i)
-    → Appends mid new
-    (counted_line (slice_index counts i) (RefusedCount e (slice_index counts i)))
-    → Appends old new (texts_before (refusal_line counts) refusals (i + 1))
+    → mid ≡ old ++ texts_before (refusal_line counts) refusals i
+    → new ≡ mid ++ counted_line (slice_index counts i) (RefusedCount e (slice_index counts i))
+    → new ≡ old ++ texts_before (refusal_line counts) refusals (i + 1)
 refusals_more counts e i old mid new is lt p q =
     texts_more (refusal_line counts) refusals i e e old mid new lt
     (subst (λ (j : ℕ). e ≡ get_or refusals j e) (place_is e i is) (at_place e)) p
-    (subst (Appends mid new) (line_at counts e i is) q)
+    (subst (λ (t : List ℕ). new ≡ mid ++ t) (line_at counts e i is) q)
 
-pub refusals_cut : (counts : List ℕ) (e : Refusal) (i : ℕ) (old mid new : Option (List ℕ))
+pub refusals_cut : (counts : List ℕ) (e : Refusal) (i : ℕ) (old mid new : List ℕ)
     → refusal_number e ≡ i + 1 → i < 14
-    → Appends old mid (texts_before (refusal_line counts) refusals i)
-    → AppendsPrefix mid new
+    → mid ≡ old ++ texts_before (refusal_line counts) refusals i
+    → GrowsPart mid new
     (counted_line (slice_index counts i) (RefusedCount e (slice_index counts i)))
-    → AppendsPrefix old new (flat_map (refusal_line counts) refusals)
+    → GrowsPart old new (flat_map (refusal_line counts) refusals)
 refusals_cut counts e i old mid new is lt p q =
     texts_cut (refusal_line counts) refusals i e e old mid new lt
     (subst (λ (j : ℕ). e ≡ get_or refusals j e) (place_is e i is) (at_place e)) p
-    (subst (AppendsPrefix mid new) (line_at counts e i is) q)
+    (subst (λ (t : List ℕ). GrowsPart mid new t) (line_at counts e i is) q)
 
 -- a line of a count
-pub none_counted : (count : ℕ) (line : Line) (known : Option (List ℕ)) → count ≡ 0
-    → Appends known known (counted_line count line)
-none_counted zero line known is = Appends-nil known
-none_counted (suc n) line known is = absurd (omega (arith, is))
+pub none_counted : (count : ℕ) (line : Line) (took : List ℕ) → count ≡ 0
+    → took ≡ took ++ counted_line count line
+none_counted zero line took is = sym (append-nil took)
+none_counted (suc n) line took is = absurd (omega (arith, is))
 
 pub some_counted : (count : ℕ) (line : Line) → count ≢ 0
     → line_text line ++ 10 ∷ [] ≡ counted_line count line

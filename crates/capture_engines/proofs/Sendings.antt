@@ -2,13 +2,13 @@
 use Rattle.std.proofs.Common.{◌≡◌, ℕ, zero, suc, ◌+◌, ◌-◌, ◌%◌, ◌^◌, ◌<◌, ◌≤◌, List, [], ◌∷◌}
 use Rattle.std.proofs.Common.{false, drop, Option, None, Some, Result, Ok, Err, refl, sym, ap}
 use Rattle.std.proofs.Common.{◌++◌, length, subst, ◌∙◌, arith, inl, inr}
-use Rattle.std.proofs.Common.{append_assoc, append-nil, drop-drop, length-append, length-drop}
-use Rattle.std.proofs.KnownBytes.{Appends-trans}
+use Rattle.std.proofs.Common.{append_assoc, append-nil, length-append, length-drop, take}
+use Rattle.std.proofs.Math.Seq.{take-add}
 use Rattle.std.proofs.lemmas.Bool.{cases_lt}
-use Rattle.std.proofs.lemmas.Slice.Zip.{AllZip-long}
+use Rattle.std.proofs.lemmas.List.{drop-append-le, length-take-le, take_all}
 use Rattle.std.specs.Borrow.{GName}
-use Rattle.std.specs.Io.KnownBytes.{Appends}
-use Rattle.std.specs.Prelude.{OnOk}
+use Rattle.std.specs.List.{zip}
+use Rattle.std.specs.Prelude.{IfOk, OnOk}
 use Rattle.st_format.specs.Device.{CountsOne, Failed}
 use Rattle.st_format.specs.Picture.{Values}
 use Rattle.st_format.specs.declared.device.ByteSink.{Ghosts}
@@ -17,7 +17,7 @@ use Rattle.media_file.proofs.Putting.{each_written, fails_once}
 use Rattle.media_file.specs.Faults.{CountsFault, IsDevice}
 use Rattle.media_file.specs.declared.fault.FileFault.{FileFault}
 use Rattle.media_file.specs.declared.fault.FileFault.TheVariants.{Device}
-use Rattle.media_file.proofs.Written.{records_append}
+use Rattle.media_file.proofs.Written.{records_append, took_both}
 use Rattle.media_file.specs.Fronts.{front_text}
 use Rattle.media_file.specs.Records.{Entry, records_text}
 use Rattle.media_file.specs.Writer.{FailsDatagram, TakesDatagram, Writer, WriterPlace}
@@ -28,16 +28,19 @@ use Rattle.media_file.specs.declared.paths.Paths.{Paths}
 use Rattle.packet_plan.specs.Plan.{RasterPlan}
 use Rattle.packet_plan.specs.Sending.{PutsPart, PutsPicture}
 use Rattle.packet_plan.specs.Sender.{IsNext, SendsFrom, Sender, stamp_of}
-use Rattle.packet_plan.specs.Sent.{IsSentPicture}
+use Rattle.packet_plan.specs.Sent.{AreSent, IsSentPicture}
 use Rattle.packet_plan.specs.declared.run.PacketRun.{PacketRun}
 use Rattle.packet_plan.specs.declared.stamp.Stamp.{Stamp}
 use Rattle.capture_engines.specs.Sent.{FirstIs}
 use Rattle.run_outcome.specs.Pictures.{SaysPicture}
 use Rattle.run_outcome.specs.Text.{GivesText}
-use Rattle.run_outcome.proofs.Refusals.{all_given}
+use Rattle.run_outcome.specs.TextRefusals.{SaysCaptureText}
+use Rattle.st_format.specs.History.{IsRead, since}
+use Rattle.st_format.proofs.Histories.{since_is}
 use Rattle.capture_engines.specs.Sending.{HasSent, SayPictures, SendsFirstAndRest, SendsMore}
 use Rattle.capture_engines.specs.Sending.{SaysSdp, SendsNext, SendsPictures, SendsRest, SendsTo}
-use Rattle.capture_engines.specs.Sending.{run_sender}
+use Rattle.capture_engines.specs.Sending.{counted, run_sender}
+use Rattle.capture_engines.proofs.OneOf.{first_again}
 use Rattle.capture_engines.specs.Writing.{WritesPicture}
 use Rattle.capture_engines.specs.declared.sender.Sender.{Sender as Sends}
 use Rattle.capture_engines.specs.declared.sender.Sending.{Sending}
@@ -77,15 +80,15 @@ moment_both p q t u v ds es same at then =
 -- ---- a picture's datagrams put into a writer
 
 -- all of them: it wrote their records
-pub writes_picture : {K : Type 0} (held : K → Option (List ℕ)) (failures : K → ℕ)
-    (names : K → List GName) (p : Values) (stamp : Stamp) (plan : RasterPlan)
+pub writes_picture : {K : Type 0} (held : K → Option (List ℕ)) (took : K → List ℕ)
+    (failures : K → ℕ) (names : K → List GName) (p : Values) (stamp : Stamp) (plan : RasterPlan)
     (old new : Writer K)
-    → PutsPicture (TakesDatagram held failures names) p stamp plan old new
-    → WritesPicture held p stamp plan old new
-writes_picture held failures names p stamp plan old new puts = record {
+    → PutsPicture (TakesDatagram held took failures names) p stamp plan old new
+    → WritesPicture took p stamp plan old new
+writes_picture held took failures names p stamp plan old new puts = record {
   datagrams = puts.datagrams;
   sent = puts.sent;
-  written = each_written held failures names old puts.datagrams new puts.taken;
+  written = each_written held took failures names old puts.datagrams new puts.taken;
 }
 
 -- a failure that was counted
@@ -103,15 +106,16 @@ open_failed Device old now new is one same =
 open_failed f old now new is one same = absurd is
 
 -- not all of them: its sink failed
-pub fails_picture : {K : Type 0} (held : K → Option (List ℕ)) (failures : K → ℕ)
-    (names : K → List GName) (p : Values) (stamp : Stamp) (plan : RasterPlan) (count : ℕ)
+pub fails_picture : {K : Type 0} (held : K → Option (List ℕ)) (took : K → List ℕ)
+    (failures : K → ℕ) (names : K → List GName) (p : Values) (stamp : Stamp) (plan : RasterPlan)
+    (count : ℕ)
     (old new : Writer K) → old.place.failed ≡ false
-    → PutsPart (TakesDatagram held failures names) (FailsDatagram held failures names) p stamp plan
-    count old new
+    → PutsPart (TakesDatagram held took failures names) (FailsDatagram held took failures names)
+    p stamp plan count old new
     → Failed (failures old.sink) (failures new.sink)
-fails_picture held failures names p stamp plan count old new stands puts =
+fails_picture held took failures names p stamp plan count old new stands puts =
     counted_once (failures old.sink) (failures new.sink)
-    (fails_once held failures names old puts.datagrams count new stands puts.failed)
+    (fails_once held took failures names old puts.datagrams count new stands puts.failed)
 
 -- ---- datagrams of pictures
 
@@ -168,29 +172,43 @@ sends_from s k first next (p ∷ ps) ds to = record {
 -- ---- a sender
 
 -- it has begun
-pub none_sent : {A K : Type 0} {G : Ghosts K} (held : K → Option (List ℕ)) (wanted : Sending)
-    (text : List ℕ)
-    (start : Option (List ℕ)) (s : Sends A K G) → s.wanted ≡ wanted → s.next ≡ wanted.first
+pub none_sent : {A K : Type 0} {G : Ghosts K} (took : K → List ℕ) (wanted : Sending)
+    (text start : List ℕ) (s : Sends A K G) → s.wanted ≡ wanted → s.next ≡ wanted.first
     → s.writer.place.paths ≡ wanted.paths → s.writer.place.moment ≡ 0
-    → Appends start (held s.writer.sink) (front_text Two text)
-    → HasSent held wanted text start [] s
-none_sent held wanted text start s is next paths moment front = record {
+    → s.sent ≡ 0 → took s.writer.sink ≡ start ++ front_text Two text
+    → HasSent took wanted text start [] s
+none_sent took wanted text start s is next paths moment none front = record {
   datagrams = [];
   wanted_is = is;
   paths = paths;
   moment = moment;
   sent = (refl, next);
-  taken = subst (Appends start (held s.writer.sink)) (sym (append-nil (front_text Two text))) front;
+  count = none;
+  taken = front ∙ ap (λ (l : List ℕ). start ++ l) (sym (append-nil (front_text Two text)));
 }
 
+-- a datagram for each packet
+all_sent : (p : Values) (stamp : Stamp) (i : ℕ) (ds : List (List ℕ))
+    (packets : List (List PacketRun)) → AreSent ds p stamp i packets → length ds ≡ length packets
+all_sent p stamp i [] [] sent = refl
+all_sent p stamp i (d ∷ ds) [] sent = absurd sent
+all_sent p stamp i [] (q ∷ qs) sent = absurd sent
+all_sent p stamp i (d ∷ ds) (q ∷ qs) sent =
+    ap (λ (n : ℕ). suc n) (all_sent p stamp (i + 1) ds qs sent.1)
+
+count_more : (old packets new : ℕ) (ds es : List (List ℕ)) → old ≡ counted (length ds)
+    → length es ≡ packets → new ≡ counted (old + packets) → new ≡ counted (length (ds ++ es))
+count_more old packets new ds es is long more =
+    let both : length (ds ++ es) ≡ length ds + length es = length-append ds es in
+    omega (arith, is, long, more, both)
+
 -- one picture more
-pub has_more : {A K : Type 0} {G : Ghosts K} (held : K → Option (List ℕ)) (wanted : Sending)
-    (text : List ℕ)
-    (start : Option (List ℕ)) (ps : List Values) (p : Values) (k : ℕ) (old new : Sends A K G)
-    → length ps ≡ k → HasSent held wanted text start ps old → SendsNext held p k old new
-    → HasSent held wanted text start (ps ++ p ∷ []) new
-has_more held wanted text start ps p k old new count has sends =
-    let w : WritesPicture held p (stamp_of (run_sender old.plan.format old.wanted) k old.next)
+pub has_more : {A K : Type 0} {G : Ghosts K} (took : K → List ℕ) (wanted : Sending)
+    (text start : List ℕ) (ps : List Values) (p : Values) (k : ℕ) (old new : Sends A K G)
+    → length ps ≡ k → HasSent took wanted text start ps old → SendsNext took p k old new
+    → HasSent took wanted text start (ps ++ p ∷ []) new
+has_more took wanted text start ps p k old new count has sends =
+    let w : WritesPicture took p (stamp_of (run_sender old.plan.format old.wanted) k old.next)
     old.plan old.writer new.writer = sends.written in
     let same : old.plan.format ≡ new.plan.format =
     ap (λ (x : RasterPlan). x.format) (sym sends.plan) in
@@ -216,195 +234,270 @@ has_more held wanted text start ps p k old new count has sends =
           (has.datagrams ++ w.datagrams) n) (sym sends.next)
           (sends_more by 0 wanted.first old.next ps has.datagrams p old.plan.max_octets
           old.plan.packets w.datagrams has.sent sends.format picture));
-      taken = text_more (held old.writer.sink) (held new.writer.sink) old.writer.place.paths
+      count = count_more old.sent (length old.plan.packets) new.sent has.datagrams w.datagrams
+          has.count (all_sent p (stamp_of (run_sender old.plan.format old.wanted) k old.next) 0
+          w.datagrams old.plan.packets w.sent.sent) sends.count;
+      taken = text_more (took old.writer.sink) (took new.writer.sink) old.writer.place.paths
           old.writer.place.moment has.datagrams w.datagrams has.paths has.moment has.taken
           w.written.taken;
     }
   where
-    text_more : (m n : Option (List ℕ)) (q : Paths) (u : ℕ) (ds es : List (List ℕ))
+    text_more : (m n : List ℕ) (q : Paths) (u : ℕ) (ds es : List (List ℕ))
         → q ≡ wanted.paths → u ≡ moment_after wanted.paths 0 ds
-        → Appends start m (written_text wanted.paths text ds)
-        → Appends m n (records_text (entries_from q u es))
-        → Appends start n (written_text wanted.paths text (ds ++ es))
+        → m ≡ start ++ written_text wanted.paths text ds
+        → n ≡ m ++ records_text (entries_from q u es)
+        → n ≡ start ++ written_text wanted.paths text (ds ++ es)
     text_more m n q u ds es same at first then =
         let p : Paths = wanted.paths in
-        let behind : Appends m n (records_text (entries_from p (moment_after p 0 ds) es)) =
-        subst (λ (v : ℕ). Appends m n (records_text (entries_from p v es))) at
-        (subst (λ (x : Paths). Appends m n (records_text (entries_from x u es))) same then) in
-        subst (Appends start n)
+        let behind : n ≡ m ++ records_text (entries_from p (moment_after p 0 ds) es) =
+        subst (λ (v : ℕ). n ≡ m ++ records_text (entries_from p v es)) at
+        (subst (λ (x : Paths). n ≡ m ++ records_text (entries_from x u es)) same then) in
+        took_both start m n (written_text p text ds)
+        (records_text (entries_from p (moment_after p 0 ds) es)) first behind
+        ∙ ap (λ (l : List ℕ). start ++ l)
         (append_assoc (front_text Two text) (records_text (entries_from p 0 ds))
         (records_text (entries_from p (moment_after p 0 ds) es))
         ∙ ap (λ (l : List ℕ). front_text Two text ++ l) (records-append p 0 ds es))
-        (Appends-trans start m n (written_text p text ds)
-        (records_text (entries_from p (moment_after p 0 ds) es)) first behind)
 
 -- the first picture was sent into a capture that was begun
-pub first_sent : {A K : Type 0} {G : Ghosts K} (held : K → Option (List ℕ)) (wanted : Sending)
-    (text : List ℕ) (start : Option (List ℕ)) (p : Values) (opened : Writer K)
+pub first_sent : {A K : Type 0} {G : Ghosts K} (took : K → List ℕ) (wanted : Sending)
+    (text start : List ℕ) (p : Values) (opened : Writer K)
     (old new : Sends A K G)
     → opened.place ≡ record
     { paths = wanted.paths; text_len = length text; moment = 0; failed = false }
-    → Appends start (held opened.sink) (front_text Two text) → old.writer ≡ opened
-    → old.wanted ≡ wanted → old.next ≡ wanted.first → SendsNext held p 0 old new
-    → HasSent held wanted text start (p ∷ []) new
-first_sent {A} {K} {G} held wanted text start p opened old new place front writer is next sends =
-    has_more held wanted text start [] p 0 old new refl
-    (none_sent held wanted text start old is next
+    → took opened.sink ≡ start ++ front_text Two text → old.writer ≡ opened
+    → old.wanted ≡ wanted → old.next ≡ wanted.first → old.sent ≡ 0 → SendsNext took p 0 old new
+    → HasSent took wanted text start (p ∷ []) new
+first_sent {A} {K} {G} took wanted text start p opened old new place front writer is next none
+    sends =
+    has_more took wanted text start [] p 0 old new refl
+    (none_sent took wanted text start old is next
     (ap (λ (w : Writer K). w.place.paths) writer ∙ ap (λ (q : WriterPlace). q.paths) place)
     (ap (λ (w : Writer K). w.place.moment) writer ∙ ap (λ (q : WriterPlace). q.moment) place)
-    (subst (λ (w : Writer K). Appends start (held w.sink) (front_text Two text)) (sym writer)
+    none
+    (subst (λ (w : Writer K). took w.sink ≡ start ++ front_text Two text) (sym writer)
     front)) sends
 
 -- ---- pictures behind the first
 
--- of the sources behind the first, so many but one gave their pictures, which were sent
-pub record SoFar {S A K : Type 0} {G : Ghosts K} (f : S → Option (List ℕ))
-    (held : K → Option (List ℕ)) (k : ℕ)
-    (start : List S) (old now : Sends A K G) : Type 0 where
+-- Of the sources behind the first, so many but one gave their pictures, which were sent: what the
+-- sources were, and are here.
+pub record SoFar {S A K : Type 0} {G : Ghosts K} (told : S × S → List ℕ → Type 0)
+    (took : K → List ℕ) (k : ℕ) (start here : List S) (old now : Sends A K G) : Type 0 where
   pub pictures : List Values
   pub count : length pictures + 1 ≡ k
-  pub say : (rest : List Values) → SayPictures f (drop k start) rest
-      → SayPictures f (drop 1 start) (pictures ++ rest)
-  pub sent : SendsMore held 1 pictures old now
+  pub say : SayPictures told (drop 1 (take k start)) (drop 1 (take k here)) pictures
+  pub sent : SendsMore took 1 pictures old now
 
-pub none_so_far : {S A K : Type 0} {G : Ghosts K} (f : S → Option (List ℕ))
-    (held : K → Option (List ℕ))
-    (start : List S) (s : Sends A K G) → SoFar f held 1 start s s
-none_so_far f held start s = record {
+none_said : {S : Type 0} (told : S × S → List ℕ → Type 0) (xs : List S)
+    → SayPictures told (drop 1 (take 1 xs)) (drop 1 (take 1 xs)) []
+none_said told [] = tt
+none_said told (x ∷ xs) = tt
+
+pub none_so_far : {S A K : Type 0} {G : Ghosts K} (told : S × S → List ℕ → Type 0)
+    (took : K → List ℕ) (start : List S) (s : Sends A K G) → SoFar told took 1 start start s s
+none_so_far told took start s = record {
   pictures = [];
   count = refl;
-  say = λ rest say. say;
+  say = none_said told start;
   sent = record {
     sent = λ wanted text from ps count has.
-        subst (λ (l : List Values). HasSent held wanted text from l s) (sym (append-nil ps)) has;
+        subst (λ (l : List Values). HasSent took wanted text from l s) (sym (append-nil ps)) has;
   };
 }
 
-first_says : {S : Type 0} (f : S → Option (List ℕ)) (xs : List S) (p : Values) (rest : List Values)
-    → FirstIs (λ s. SaysPicture (f s) p) xs → SayPictures f (drop 1 xs) rest
-    → SayPictures f xs (p ∷ rest)
-first_says f [] p rest first say = absurd first
-first_says f (x ∷ xs) p rest first say = (first, say)
+-- the first of some sources, and those behind it
+first_said : {S : Type 0} (told : S × S → List ℕ → Type 0) (xs ys : List S) (p : Values)
+    (rest : List Values) → FirstIs (λ s. SaysPicture (told s) p) (zip xs ys)
+    → SayPictures told (drop 1 xs) (drop 1 ys) rest → SayPictures told xs ys (p ∷ rest)
+first_said told [] ys p rest first say = absurd first
+first_said told (x ∷ xs) [] p rest first say = absurd first
+first_said told (x ∷ xs) (y ∷ ys) p rest first say = (first, say)
 
-pub more_so_far : {S A K : Type 0} {G : Ghosts K} (f : S → Option (List ℕ))
-    (held : K → Option (List ℕ)) (k : ℕ)
-    (start here : List S) (p : Values) (old now new : Sends A K G) → SoFar f held k start old now
-    → here ≡ drop k start → FirstIs (λ s. SaysPicture (f s) p) here → SendsNext held p k now new
-    → SoFar f held (k + 1) start old new
-more_so_far {S} {A} {K} {G} f held k start here p old now new so_far is first sends = record {
-  pictures = so_far.pictures ++ p ∷ [];
-  count = omega (arith, so_far.count, length-append so_far.pictures (p ∷ []));
-  say = λ rest say.
-      let behind : SayPictures f (drop 1 (drop k start)) rest =
-      subst (λ (l : List S). SayPictures f l rest) (sym (drop-drop 1 k start)) say in
-      let here_says : FirstIs (λ s. SaysPicture (f s) p) (drop k start) =
-      subst (λ (l : List S). FirstIs (λ s. SaysPicture (f s) p) l) is first in
-      subst (λ (l : List Values). SayPictures f (drop 1 start) l)
-      (sym (append_assoc so_far.pictures (p ∷ []) rest))
-      (so_far.say (p ∷ rest) (first_says f (drop k start) p rest here_says behind));
-  sent = record {
-    sent = λ wanted text from ps count has.
-        let sent : HasSent held wanted text from (ps ++ so_far.pictures) now =
-        so_far.sent.sent wanted text from ps count has in
-        subst (λ (l : List Values). HasSent held wanted text from l new)
-        (append_assoc ps so_far.pictures (p ∷ []))
-        (has_more held wanted text from (ps ++ so_far.pictures) p k now new
-        (omega (arith, count, so_far.count, length-append ps so_far.pictures)) sent sends);
-  };
-}
+-- one more behind them
+said_more : {S : Type 0} (told : S × S → List ℕ → Type 0) (xs ys : List S) (ps : List Values)
+    (x y : S) (p : Values) → SayPictures told xs ys ps → SaysPicture (told (x, y)) p
+    → SayPictures told (xs ++ x ∷ []) (ys ++ y ∷ []) (ps ++ p ∷ [])
+said_more told [] [] [] x y p say one = (one, tt)
+said_more told [] [] (q ∷ qs) x y p say one = absurd say
+said_more told [] (b ∷ vs) ps x y p say one = absurd say
+said_more told (a ∷ us) [] ps x y p say one = absurd say
+said_more told (a ∷ us) (b ∷ vs) [] x y p say one = absurd say
+said_more told (a ∷ us) (b ∷ vs) (q ∷ qs) x y p say one =
+    (say.0, said_more told us vs qs x y p say.1 one)
 
-pub rest_sent : {S A K : Type 0} {G : Ghosts K} (f : S → Option (List ℕ))
-    (held : K → Option (List ℕ)) (k : ℕ)
-    (start : List S) (old now : Sends A K G) → SoFar f held k start old now → length start ≤ k
-    → SendsRest f held (drop 1 start) old now
-rest_sent {S} f held k start old now so_far all = record {
+said_long : {S : Type 0} (told : S × S → List ℕ → Type 0) (xs ys : List S) (ps : List Values)
+    → SayPictures told xs ys ps → length ps ≡ length xs
+said_long told [] [] [] say = refl
+said_long told [] [] (q ∷ qs) say = absurd say
+said_long told [] (b ∷ vs) ps say = absurd say
+said_long told (a ∷ us) [] ps say = absurd say
+said_long told (a ∷ us) (b ∷ vs) [] say = absurd say
+said_long told (a ∷ us) (b ∷ vs) (q ∷ qs) say =
+    ap (λ (n : ℕ). suc n) (said_long told us vs qs say.1)
+
+-- the items behind the first, up to one more
+taken_more : {S : Type 0} (xs : List S) (k : ℕ) (x : S) (rest : List S) → 0 < k
+    → x ∷ rest ≡ drop k xs → drop 1 (take (k + 1) xs) ≡ drop 1 (take k xs) ++ x ∷ []
+taken_more {S} xs k x rest some at =
+    let left : length (drop k xs) ≡ suc (length rest) = ap length (sym at) in
+    let long : length (take k xs) ≡ k =
+    length-take-le k xs (omega (arith, left, length-drop k xs)) in
+    ap (drop 1)
+    (take-add k 1 xs ∙ ap (λ (l : List S). take k xs ++ take 1 l) (sym at))
+    ∙ drop-append-le 1 (take k xs) (x ∷ []) (omega (arith, long, some))
+
+pub more_so_far : {S A K : Type 0} {G : Ghosts K} (told : S × S → List ℕ → Type 0)
+    (took : K → List ℕ) (k : ℕ) (start now here : List S) (p : Values) (old mid new : Sends A K G)
+    → SoFar told took k start now old mid → drop k now ≡ drop k start → take k here ≡ take k now
+    → FirstIs (λ s. SaysPicture (told s) p) (zip (drop k now) (drop k here))
+    → SendsNext took p k mid new → SoFar told took (k + 1) start here old new
+more_so_far {S} {A} {K} {G} told took k start now here p old mid new so_far behind before first
+    sends = record {
+      pictures = so_far.pictures ++ p ∷ [];
+      count = omega (arith, so_far.count, length-append so_far.pictures (p ∷ []));
+      say = at (drop k start) (drop k here) refl refl
+          (subst (λ (l : List S). FirstIs (λ s. SaysPicture (told s) p) (zip l (drop k here)))
+          behind
+          first);
+      sent = record {
+        sent = λ wanted text from ps count has.
+            let sent : HasSent took wanted text from (ps ++ so_far.pictures) mid =
+            so_far.sent.sent wanted text from ps count has in
+            subst (λ (l : List Values). HasSent took wanted text from l new)
+            (append_assoc ps so_far.pictures (p ∷ []))
+            (has_more took wanted text from (ps ++ so_far.pictures) p k mid new
+            (omega (arith, count, so_far.count, length-append ps so_far.pictures)) sent sends);
+      };
+    }
+  where
+    some : 0 < k
+    some = omega (arith, so_far.count)
+
+    at : (us vs : List S) → us ≡ drop k start → vs ≡ drop k here
+        → FirstIs (λ s. SaysPicture (told s) p) (zip us vs)
+        → SayPictures told (drop 1 (take (k + 1) start)) (drop 1 (take (k + 1) here))
+        (so_far.pictures ++ p ∷ [])
+    at [] vs is same one = absurd one
+    at (a ∷ us) [] is same one = absurd one
+    at (a ∷ us) (b ∷ vs) is same one =
+        subst (λ (l : List S). SayPictures told l (drop 1 (take (k + 1) here))
+        (so_far.pictures ++ p ∷ [])) (sym (taken_more start k a us some is))
+        (subst (λ (l : List S). SayPictures told (drop 1 (take k start) ++ a ∷ []) l
+        (so_far.pictures ++ p ∷ [])) (sym (taken_more here k b vs some same))
+        (said_more told (drop 1 (take k start)) (drop 1 (take k here)) so_far.pictures a b p
+        (subst (λ (l : List S). SayPictures told (drop 1 (take k start)) (drop 1 l)
+        so_far.pictures) (sym before) so_far.say) one))
+
+pub rest_sent : {S A K : Type 0} {G : Ghosts K} (told : S × S → List ℕ → Type 0)
+    (took : K → List ℕ) (k : ℕ) (start here : List S) (old now : Sends A K G)
+    → SoFar told took k start here old now → length start ≤ k → length here ≤ k
+    → SendsRest told took (drop 1 start) (drop 1 here) old now
+rest_sent {S} told took k start here old now so_far all whole = record {
   pictures = so_far.pictures;
   say =
-      subst (λ (l : List Values). SayPictures f (drop 1 start) l) (append-nil so_far.pictures)
-      (so_far.say [] (none_left (drop k start) (omega (arith, all, length-drop k start))));
+      subst (λ (l : List S). SayPictures told (drop 1 l) (drop 1 here) so_far.pictures)
+      (take_all k start all)
+      (subst (λ (l : List S). SayPictures told (drop 1 (take k start)) (drop 1 l)
+      so_far.pictures) (take_all k here whole) so_far.say);
   sent = so_far.sent;
 }
-  where
-    none_left : (xs : List S) → length xs ≡ 0 → SayPictures f xs []
-    none_left [] none = tt
-    none_left (x ∷ xs) none = absurd (omega arith)
 
 -- ---- a run
 
 -- the first picture, and those behind it
-pub first_and_rest_sent : {S A K : Type 0} {G : Ghosts K} (f : S → Option (List ℕ))
-    (held : K → Option (List ℕ)) (wanted : Sending) (text : List ℕ) (p : Values)
-    (sources : List S) (start last_held : Option (List ℕ)) (first last : Sends A K G)
-    → length sources < 10000 → HasSent held wanted text start (p ∷ []) first
-    → SendsRest f held sources first last → last_held ≡ held last.writer.sink
-    → SendsFirstAndRest f wanted text p sources start last_held
-first_and_rest_sent {S} {A} {K} {G} f held wanted text p sources start last_held first last few
-    begun rest same =
+pub first_and_rest_sent : {S A K : Type 0} {G : Ghosts K} (told : S × S → List ℕ → Type 0)
+    (took : K → List ℕ) (wanted : Sending) (text : List ℕ) (p : Values)
+    (sources later : List S) (start last_took : List ℕ) (count : ℕ) (first last : Sends A K G)
+    → length sources < 10000 → HasSent took wanted text start (p ∷ []) first
+    → SendsRest told took sources later first last → last_took ≡ took last.writer.sink
+    → count ≡ last.sent
+    → SendsFirstAndRest told wanted text p sources later start last_took count
+first_and_rest_sent {S} {A} {K} {G} told took wanted text p sources later start last_took count
+    first last few begun rest same counts =
     let ps : List Values = p ∷ rest.pictures in
-    let has : HasSent held wanted text start ps last =
+    let has : HasSent took wanted text start ps last =
     rest.sent.sent wanted text start (p ∷ []) refl begun in
     let format : p.format ≡ last.plan.format = has.sent.format in
-    let count : length rest.pictures ≡ length sources =
-    AllZip-long (λ s q. SaysPicture (f s) q) sources rest.pictures rest.say in
+    let long : length rest.pictures ≡ length sources =
+    said_long told sources later rest.pictures rest.say in
     record {
       rest = rest.pictures;
       say = rest.say;
       taken = record {
         datagrams = has.datagrams;
         sent = record {
-          few = omega (arith, few, count);
+          few = omega (arith, few, long);
           sent =
               subst (λ (x : Format). SendsFrom (run_sender x wanted) 0 ps wanted.first
               has.datagrams) (sym format)
               (sends_from (run_sender last.plan.format wanted) 0 wanted.first last.next ps
               has.datagrams has.sent);
         };
-        taken = subst
-            (λ (h : Option (List ℕ)). Appends start h
-            (written_text wanted.paths text has.datagrams)) (sym same) has.taken;
+        taken = same ∙ has.taken;
+        count_is = counts ∙ has.count;
       };
     }
 
 -- those of all sources
-pub pictures_sent : {S : Type 0} (f : S → Option (List ℕ)) (wanted : Sending) (text : List ℕ)
-    (p : Values) (sources others : List S) (old new : Option (List ℕ))
-    → FirstIs (λ s. SaysPicture (f s) p) sources → others ≡ drop 1 sources
-    → SendsFirstAndRest f wanted text p others old new
-    → SendsPictures f wanted text sources old new
-pictures_sent {S} f wanted text p sources others old new first behind sends = record {
-  pictures = p ∷ sends.rest;
-  say =
-      first_says f sources p sends.rest first
-      (subst (λ (l : List S). SayPictures f l sends.rest) behind sends.say);
-  taken = sends.taken;
-}
+pub pictures_sent : {S : Type 0} (told : S × S → List ℕ → Type 0) (wanted : Sending)
+    (text : List ℕ) (p : Values) (sources mid later : List S) (old new : List ℕ) (count : ℕ)
+    → FirstIs (λ s. SaysPicture (told s) p) (zip sources mid) → drop 1 mid ≡ drop 1 sources
+    → take 1 later ≡ take 1 mid
+    → SendsFirstAndRest told wanted text p (drop 1 mid) (drop 1 later) old new count
+    → SendsPictures told wanted text sources later old new count
+pictures_sent {S} told wanted text p sources mid later old new count first behind front sends =
+    record {
+      pictures = p ∷ sends.rest;
+      say =
+          first_said told sources later p sends.rest
+          (first_again (λ s. SaysPicture (told s) p) sources mid later front first)
+          (subst (λ (l : List S). SayPictures told l (drop 1 later) sends.rest) behind sends.say);
+      taken = sends.taken;
+    }
 
 -- ---- the text
 
 -- no SDP is given
-pub said_none : {S : Type 0} (f : S → Option (List ℕ)) (sdp : Option S) (text : List ℕ)
-    → sdp ≡ None → text ≡ [] → SaysSdp f sdp text
-said_none {S} f sdp text none empty =
-    subst (λ (x : Option S). SaysSdp f x text) (sym none) empty
+pub said_none : {S : Type 0} (gave : S → List ℕ) (ended : S → Type 0) (sdp later : Option S)
+    (text : List ℕ) → sdp ≡ None → text ≡ [] → SaysSdp gave ended sdp later text
+said_none {S} gave ended sdp later text none empty =
+    subst (λ (x : Option S). SaysSdp gave ended x later text) (sym none) empty
 
 -- it was read whole
-pub said_some : {S : Type 0} (f : S → Option (List ℕ)) (sdp : Option S) (source : S)
-    (new : Option (List ℕ)) (text : List ℕ) → sdp ≡ Some source
-    → GivesText 65535 (f source) new text → SaysSdp f sdp text
-said_some {S} f sdp source new text some gives =
-    subst (λ (x : Option S). SaysSdp f x text) (sym some)
-    (λ octets told. all_given (f source) new text octets gives.given gives.ended told)
+pub said_some : {S : Type 0} (gave : S → List ℕ) (ended : S → Type 0) (sdp : Option S)
+    (source now : S) (text : List ℕ) → sdp ≡ Some source
+    → GivesText 65535 (gave source) (gave now) (ended now) text
+    → SaysCaptureText (IsRead (gave source) (gave now) (ended now))
+    → SaysSdp gave ended sdp (Some now) text
+said_some {S} gave ended sdp source now text some gives says =
+    subst (λ (x : Option S). SaysSdp gave ended x (Some now) text) (sym some) (
+      gives.given,
+      gives.ended,
+      says text (record {
+        behind = [];
+        parts = sym (append-nil (since (gave source) (gave now))
+            ∙ since_is (gave source) (gave now) text gives.given);
+        all = λ over. refl;
+      }),
+    )
 
 -- ---- ends
 
 -- no picture
-pub no_pictures : {S : Type 0} (f : S → Option (List ℕ)) (wanted : Sending) (text : List ℕ)
-    (sources : List S) (held : Option (List ℕ)) → length sources ≡ 0
-    → SendsPictures f wanted text sources held held
-no_pictures f wanted text [] held none = record { pictures = []; say = tt; taken = refl }
-no_pictures f wanted text (x ∷ xs) held none = absurd (omega arith)
+pub no_pictures : {S : Type 0} (told : S × S → List ℕ → Type 0) (wanted : Sending)
+    (text : List ℕ) (sources : List S) (took : List ℕ) → length sources ≡ 0
+    → SendsPictures told wanted text sources sources took took 0
+no_pictures told wanted text [] took none =
+    record { pictures = []; say = tt; taken = (refl, refl) }
+no_pictures told wanted text (x ∷ xs) took none = absurd (omega arith)
 
 -- of a run that came to its end
+pub if_ok_both : {V E : Type 0} (r : Result V E) (P : Type 0) (Q R : V → Type 0)
+    → ((v : V) → P → Q v → R v) → OnOk r P → IfOk r Q → IfOk r R
+if_ok_both (Ok v) P Q R then p q = then v p q
+if_ok_both (Err e) P Q R then p q = tt
+
 pub of_ok : {V E : Type 0} (r : Result V E) (v : V) (P : Type 0) → r ≡ Ok v → OnOk r P → P
 of_ok {V} {E} r v P is on = subst (λ (x : Result V E). OnOk x P) is on
 

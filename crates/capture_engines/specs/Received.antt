@@ -1,7 +1,7 @@
--- Which refusal ends a run of `receive` (own).
+-- Which refusal ends a run of `receive` (own). What was read is told by a predicate: it holds of
+-- any octets that begin with it, and of no others where the source has ended.
 use Rattle.std.specs.Prelude.{◌≡◌, ℕ, ◌⊎◌, List, [], ◌∷◌, ◌++◌, length, MatchOption}
 use Rattle.std.specs.Prelude.{Option, None, Some, Ok, Err}
-use Rattle.media_file.specs.Fields.{Takes}
 use Rattle.media_file.specs.Fronts.{front_at}
 use Rattle.media_file.specs.Reading.{fault_at}
 use Rattle.media_file.specs.Records.{AllFit, Entry, records_text}
@@ -44,21 +44,20 @@ IsOpeningRefusal window text (refusal.Sdp at) = IsTextFault (video_sections (lin
 IsOpeningRefusal window text (refusal.Open e) = IsWindowFault window e
 IsOpeningRefusal window text r = ⊥
 
--- The refusals of an SDP text that a source was to give, if it tells what it is to give: that it is
--- too long; of opening by it.
-abbrev pub IsGivenRefusal : List ℕ → Option (List ℕ) → Refusal → Type 0
+-- The refusals of an SDP text that was read: that it is too long; of opening by it.
+abbrev pub IsGivenRefusal : List ℕ → (List ℕ → Type 0) → Refusal → Type 0
 IsGivenRefusal window told refusal.ReceiveSdp = GivesAbove 16777216 told
 IsGivenRefusal window told r =
-    (octets : List ℕ) → told ≡ Some octets → IsOpeningRefusal window octets r
+    (octets : List ℕ) → told octets → IsOpeningRefusal window octets r
 
 -- the refusals of opening by a capture's text: that there is none; of opening by it
 abbrev pub IsFrontRefusal : List ℕ → List ℕ → Refusal → Type 0
 IsFrontRefusal window text refusal.ReceiveNoSdp = text ≡ []
 IsFrontRefusal window text r = IsOpeningRefusal window text r
 
--- so of a capture that a source was to give
-abbrev pub IsOpenedRefusal : List ℕ → Option (List ℕ) → Refusal → Type 0
-IsOpenedRefusal window told r = (octets : List ℕ) → told ≡ Some octets
+-- so of a capture that was read
+abbrev pub IsOpenedRefusal : List ℕ → (List ℕ → Type 0) → Refusal → Type 0
+IsOpenedRefusal window told r = (octets : List ℕ) → told octets
     → (x : List ℕ × List ℕ) × (front_at octets ≡ Ok x) × IsFrontRefusal window x.0 r
 
 -- ---- a capture
@@ -77,32 +76,31 @@ abbrev pub HasCaptureFault : List ℕ → FileFault → Type 0
 HasCaptureFault octets f = (front_at octets ≡ Err f)
     ⊎ ((x : List ℕ × List ℕ) × (front_at octets ≡ Ok x) × HasRecordFault x.1 f)
 
--- the refusal of what a source was to give, if it tells it: this is wrong with it
-abbrev pub IsFileRefusal : (List ℕ → FileFault → Type 0) → Option (List ℕ) → Refusal → Type 0
-IsFileRefusal Has told (refusal.Capture f) = (octets : List ℕ) → told ≡ Some octets → Has octets f
+-- the refusal of a file that was read: this is wrong with it
+abbrev pub IsFileRefusal : (List ℕ → FileFault → Type 0) → (List ℕ → Type 0) → Refusal → Type 0
+IsFileRefusal Has told (refusal.Capture f) = (octets : List ℕ) → told octets → Has octets f
 IsFileRefusal Has told r = ⊥
 
 -- ---- captures
 
+-- a capture has this text at its front, and behind it what was read
+abbrev pub HasBehind : (List ℕ → Type 0) → List ℕ → List ℕ → Type 0
+HasBehind left text octets =
+    (rest : List ℕ) × left rest × (front_at octets ≡ Ok (text, rest))
+
 -- The refusals of a capture: of the file; and of opening by it, where no receiver is open yet.
-abbrev pub IsTakeRefusal : {X : Type 0} → List ℕ → Option X → Option (List ℕ) → Refusal → Type 0
+abbrev pub IsTakeRefusal : {X : Type 0} → List ℕ → Option X → (List ℕ → Type 0) → Refusal → Type 0
 IsTakeRefusal window begun told (refusal.Capture f) =
     IsFileRefusal HasCaptureFault told (refusal.Capture f)
 IsTakeRefusal window begun told r = (begun ≡ None) × IsOpenedRefusal window told r
 
--- a refusal of every capture whose front has this text, and behind it what a source was to give
-abbrev pub IsBehindRefusal : {X : Type 0} → List ℕ → Option X → Option (List ℕ) → List ℕ → Refusal
-    → Type 0
-IsBehindRefusal window begun left text r =
-    (told : Option (List ℕ)) → Takes front_at told left text → IsTakeRefusal window begun told r
-
 -- the refusals of opening by the first of some captures: there may be none
-abbrev pub FirstRefuses : {S : Type 0} → List ℕ → (S → Option (List ℕ)) → List S → Refusal → Type 0
+abbrev pub FirstRefuses : {S : Type 0} → List ℕ → (S → List ℕ → Type 0) → List S → Refusal → Type 0
 FirstRefuses window f [] r = r ≡ refusal.ReceiveNoSdp
 FirstRefuses window f (s ∷ ss) r = IsOpenedRefusal window (f s) r
 
 -- The refusals of captures: of a file; and of opening by the first, where no receiver is open yet.
-abbrev pub IsCapturesRefusal : {S X : Type 0} → List ℕ → Option X → (S → Option (List ℕ)) → List S
+abbrev pub IsCapturesRefusal : {S X : Type 0} → List ℕ → Option X → (S → List ℕ → Type 0) → List S
     → Refusal → Type 0
 IsCapturesRefusal window begun f captures (refusal.Capture e) =
     OneIs (λ s. IsFileRefusal HasCaptureFault (f s) (refusal.Capture e)) captures
@@ -111,14 +109,14 @@ IsCapturesRefusal window begun f captures r = (begun ≡ None) × FirstRefuses w
 -- ---- the run
 
 -- the refusals of the files, for a window: of the SDP text that is given; of the captures
-abbrev pub IsFilesRefusal : {S : Type 0} → List ℕ → Option S → (S → Option (List ℕ)) → List S
+abbrev pub IsFilesRefusal : {S : Type 0} → List ℕ → Option S → (S → List ℕ → Type 0) → List S
     → Refusal → Type 0
 IsFilesRefusal window sdp f captures r =
     MatchOption sdp ⊥ (λ s. IsGivenRefusal window (f s) r)
     ⊎ IsCapturesRefusal window sdp f captures r
 
 -- The refusals of `receive`: of the words; of the files, for the timestamps that are asked for.
-abbrev pub IsReceiveRefusal : {S : Type 0} → List ℕ → List ℕ → Option S → (S → Option (List ℕ))
+abbrev pub IsReceiveRefusal : {S : Type 0} → List ℕ → List ℕ → Option S → (S → List ℕ → Type 0)
     → List S → Refusal → Type 0
 IsReceiveRefusal window ssrc sdp f captures r = IsWordRefusal window ssrc r
     ⊎ ((ts : List ℕ) × AreTimestamps window ts × IsFilesRefusal ts sdp f captures r)

@@ -1,6 +1,5 @@
 -- Devices that may not be there, and what is written of a receiver.
-use Rattle.std.specs.Prelude.{ℕ, Bool, List, Option}
-use Rattle.std.specs.Io.KnownBytes.{Appends}
+use Rattle.std.specs.Prelude.{◌≡◌, ℕ, Bool, List, ◌++◌}
 use Rattle.media_file.specs.StateFile.{state_text}
 use Rattle.path_merge.specs.Frames.{State}
 use Rattle.receiver_file.specs.Saved.{IsWritable, kept_of}
@@ -9,10 +8,10 @@ use Rattle.capture_engines.specs.declared.tally.Tally.{Tally}
 
 -- the lines of a receiver were printed, with those of some counts, where these are wanted; and then
 -- a sink took the receiver's file, which can be written
-pub record SavesShown (wanted : Bool) (shown shown' old new : Option (List ℕ)) : Type 0 where
+pub record SavesShown (wanted : Bool) (shown shown' old new : List ℕ) : Type 0 where
   pub receiver : State
   pub delivered : ℕ
   pub tally : Tally
   pub writable : IsWritable receiver
-  pub printed : Appends shown shown' (received_text wanted delivered (tally_text tally) receiver)
-  pub taken : Appends old new (state_text (kept_of receiver))
+  pub printed : shown' ≡ shown ++ received_text wanted delivered (tally_text tally) receiver
+  pub taken : new ≡ old ++ state_text (kept_of receiver)

@@ -1,15 +1,17 @@
 -- What `send` writes.
-use Rattle.std.specs.Prelude.{◌≡◌, ℕ, ◌+◌, ◌%◌, ◌^◌, List, [], ◌∷◌, ◌++◌, length}
-use Rattle.std.specs.Prelude.{Option, None, Some}
-use Rattle.std.specs.Io.KnownBytes.{Appends}
-use Rattle.std.specs.List.{AllZip}
+use Rattle.std.specs.Prelude.{◌≡◌, ℕ, ◌+◌, ◌-◌, ◌%◌, ◌^◌, min, List, [], ◌∷◌, ◌++◌, length}
+use Rattle.std.specs.Prelude.{⊤, Option, None, Some}
+use Rattle.run_outcome.specs.Moments.{WasRead}
 use Rattle.st_format.specs.Picture.{Values}
 use Rattle.st_format.specs.declared.device.ByteSink.{Ghosts}
 use Rattle.st_format.specs.declared.format.Format.{Format}
 use Rattle.media_file.specs.Writer.{moment_after, written_text}
 use Rattle.packet_plan.specs.Plan.{RasterPlan}
 use Rattle.packet_plan.specs.Sender.{IsNext, IsSenderList, Sender, stamp_of}
+use Rattle.run_outcome.specs.Line.{line_text}
 use Rattle.run_outcome.specs.Pictures.{SaysPicture}
+use Rattle.run_outcome.specs.TextRefusals.{IsCaptureText}
+use Rattle.run_outcome.specs.declared.line.Line.TheVariants as line
 use Rattle.capture_engines.specs.Writing.{WritesPicture}
 use Rattle.capture_engines.specs.declared.sender.Sender.{Sender as Sends}
 use Rattle.capture_engines.specs.declared.sender.Sending.{Sending}
@@ -26,17 +28,22 @@ run_sender format wanted =
 
 -- ---- one picture
 
+-- a count of datagrams, which stays at 2^64 - 1 once it is there
+abbrev pub counted : ℕ → ℕ
+counted n = min n (2 ^ 64 - 1)
+
 -- the number of the packet behind those of a picture
 abbrev pub number_behind : ℕ → RasterPlan → ℕ
 number_behind first plan = (first + length plan.packets) % 2 ^ 32
 
 -- A sender sent a picture as frame k: its packets' numbers go on from the next one.
-pub record SendsNext {A K : Type 0} {G : Ghosts K} (held : K → Option (List ℕ)) (p : Values) (k : ℕ)
+pub record SendsNext {A K : Type 0} {G : Ghosts K} (took : K → List ℕ) (p : Values) (k : ℕ)
     (old new : Sends A K G) : Type 0 where
   pub format : p.format ≡ old.plan.format
-  pub written : WritesPicture held p (stamp_of (run_sender old.plan.format old.wanted) k old.next)
+  pub written : WritesPicture took p (stamp_of (run_sender old.plan.format old.wanted) k old.next)
       old.plan old.writer new.writer
   pub next : new.next ≡ number_behind old.next old.plan
+  pub count : new.sent ≡ counted (old.sent + length old.plan.packets)
   pub plan : new.plan ≡ old.plan
   pub wanted : new.wanted ≡ old.wanted
 
@@ -48,84 +55,98 @@ SendsTo s k [] first datagrams next = (datagrams ≡ []) × (next ≡ first)
 SendsTo s k (p ∷ ps) first datagrams next =
     IsNext s k first p (λ number others. SendsTo s (k + 1) ps number others next) datagrams
 
--- A sender put these pictures into a capture with this text, which it began in a sink that held
--- this.
-pub record HasSent {A K : Type 0} {G : Ghosts K} (held : K → Option (List ℕ)) (wanted : Sending)
-    (text : List ℕ) (start : Option (List ℕ)) (pictures : List Values) (s : Sends A K G)
+-- A sender put these pictures into a capture with this text, which it began in a sink that had
+-- taken this.
+pub record HasSent {A K : Type 0} {G : Ghosts K} (took : K → List ℕ) (wanted : Sending)
+    (text start : List ℕ) (pictures : List Values) (s : Sends A K G)
     : Type 0 where
   pub datagrams : List (List ℕ)
   pub wanted_is : s.wanted ≡ wanted
   pub paths : s.writer.place.paths ≡ wanted.paths
   pub moment : s.writer.place.moment ≡ moment_after wanted.paths 0 datagrams
   pub sent : SendsTo (run_sender s.plan.format wanted) 0 pictures wanted.first datagrams s.next
-  pub taken : Appends start (held s.writer.sink) (written_text wanted.paths text datagrams)
+  pub count : s.sent ≡ counted (length datagrams)
+  pub taken : took s.writer.sink ≡ start ++ written_text wanted.paths text datagrams
 
 -- a sender that had sent k pictures sent these behind them
-pub record SendsMore {A K : Type 0} {G : Ghosts K} (held : K → Option (List ℕ)) (k : ℕ)
+pub record SendsMore {A K : Type 0} {G : Ghosts K} (took : K → List ℕ) (k : ℕ)
     (more : List Values) (old new : Sends A K G) : Type 0 where
-  pub sent : (wanted : Sending) (text : List ℕ) (start : Option (List ℕ)) (pictures : List Values)
-      → length pictures ≡ k → HasSent held wanted text start pictures old
-      → HasSent held wanted text start (pictures ++ more) new
+  pub sent : (wanted : Sending) (text start : List ℕ) (pictures : List Values)
+      → length pictures ≡ k → HasSent took wanted text start pictures old
+      → HasSent took wanted text start (pictures ++ more) new
 
 -- ---- the run
 
--- sources were to give the files of these pictures, one each, where they tell what they are to give
-abbrev pub SayPictures : {S : Type 0} → (S → Option (List ℕ)) → List S → List Values → Type 0
-SayPictures to_give sources pictures = AllZip (λ s p. SaysPicture (to_give s) p) sources pictures
+-- what was read of sources are the files of these pictures, one each: the sources as they were, and
+-- as they are
+abbrev pub SayPictures : {S : Type 0} → (S × S → List ℕ → Type 0) → List S → List S → List Values
+    → Type 0
+SayPictures told [] [] [] = ⊤
+SayPictures told (s ∷ ss) (t ∷ ts) (p ∷ ps) =
+    SaysPicture (told (s, t)) p × SayPictures told ss ts ps
+SayPictures told olds news pictures = ⊥
 
--- a sender that had sent one picture sent those that sources were to give
-pub record SendsRest {S A K : Type 0} {G : Ghosts K} (to_give : S → Option (List ℕ))
-    (held : K → Option (List ℕ)) (sources : List S) (old new : Sends A K G) : Type 0 where
+-- a sender that had sent one picture sent those that were read of sources
+pub record SendsRest {S A K : Type 0} {G : Ghosts K} (told : S × S → List ℕ → Type 0)
+    (took : K → List ℕ) (sources later : List S) (old new : Sends A K G) : Type 0 where
   pub pictures : List Values
-  pub say : SayPictures to_give sources pictures
-  pub sent : SendsMore held 1 pictures old new
+  pub say : SayPictures told sources later pictures
+  pub sent : SendsMore took 1 pictures old new
 
--- a sender sent a picture as frame 0, and behind it those that sources were to give
-pub record SendsEach {S A K : Type 0} {G : Ghosts K} (to_give : S → Option (List ℕ))
-    (held : K → Option (List ℕ)) (first : Values) (sources : List S) (old new : Sends A K G)
+-- a sender sent a picture as frame 0, and behind it those that were read of sources
+pub record SendsEach {S A K : Type 0} {G : Ghosts K} (told : S × S → List ℕ → Type 0)
+    (took : K → List ℕ) (first : Values) (sources later : List S) (old new : Sends A K G)
     : Type 0 where
   pub between : Sends A K G
-  pub sent : SendsNext held first 0 old between
-  pub rest : SendsRest to_give held sources between new
+  pub sent : SendsNext took first 0 old between
+  pub rest : SendsRest told took sources later between new
 
--- A sink took the capture of a text and of the datagrams of pictures: of the k-th as frame k, all
--- by raster plans, the packets' numbers running on.
+-- A sink took the capture of a text and of the datagrams of pictures, which are so many: of the
+-- k-th as frame k, all by raster plans, the packets' numbers running on.
 pub record TakesCapture (wanted : Sending) (text : List ℕ) (format : Format)
-    (pictures : List Values) (old new : Option (List ℕ)) : Type 0 where
+    (pictures : List Values) (old new : List ℕ) (count : ℕ) : Type 0 where
   pub datagrams : List (List ℕ)
   pub sent : IsSenderList datagrams (run_sender format wanted) wanted.first pictures
-  pub taken : Appends old new (written_text wanted.paths text datagrams)
+  pub taken : new ≡ old ++ written_text wanted.paths text datagrams
+  pub count_is : count ≡ counted (length datagrams)
 
 -- so it is of pictures of the first one's format; where there is none, nothing is written
-abbrev pub TakesPictures : Sending → List ℕ → List Values → Option (List ℕ) → Option (List ℕ)
-    → Type 0
-TakesPictures wanted text [] old new = new ≡ old
-TakesPictures wanted text (p ∷ ps) old new = TakesCapture wanted text p.format (p ∷ ps) old new
+abbrev pub TakesPictures : Sending → List ℕ → List Values → List ℕ → List ℕ → ℕ → Type 0
+TakesPictures wanted text [] old new count = (new ≡ old) × (count ≡ 0)
+TakesPictures wanted text (p ∷ ps) old new count =
+    TakesCapture wanted text p.format (p ∷ ps) old new count
 
--- a sink took the capture of this picture and, behind it, of those that sources were to give
-pub record SendsFirstAndRest {S : Type 0} (to_give : S → Option (List ℕ)) (wanted : Sending)
-    (text : List ℕ) (first : Values) (sources : List S) (old new : Option (List ℕ))
+-- a sink took the capture of this picture and, behind it, of those that were read of sources
+pub record SendsFirstAndRest {S : Type 0} (told : S × S → List ℕ → Type 0) (wanted : Sending)
+    (text : List ℕ) (first : Values) (sources later : List S) (old new : List ℕ) (count : ℕ)
     : Type 0 where
   pub rest : List Values
-  pub say : SayPictures to_give sources rest
-  pub taken : TakesCapture wanted text first.format (first ∷ rest) old new
+  pub say : SayPictures told sources later rest
+  pub taken : TakesCapture wanted text first.format (first ∷ rest) old new count
 
--- a sink took the pictures whose files sources were to give
-pub record SendsPictures {S : Type 0} (to_give : S → Option (List ℕ)) (wanted : Sending)
-    (text : List ℕ) (sources : List S) (old new : Option (List ℕ)) : Type 0 where
+-- a sink took the pictures whose files were read of sources
+pub record SendsPictures {S : Type 0} (told : S × S → List ℕ → Type 0) (wanted : Sending)
+    (text : List ℕ) (sources later : List S) (old new : List ℕ) (count : ℕ) : Type 0 where
   pub pictures : List Values
-  pub say : SayPictures to_give sources pictures
-  pub taken : TakesPictures wanted text pictures old new
+  pub say : SayPictures told sources later pictures
+  pub taken : TakesPictures wanted text pictures old new count
 
--- the text of a capture: what the SDP's source was to give, if it tells it, or nothing where there
--- is none
-abbrev pub SaysSdp : {S : Type 0} → (S → Option (List ℕ)) → Option S → List ℕ → Type 0
-SaysSdp to_give None text = text ≡ []
-SaysSdp to_give (Some sdp) text = (octets : List ℕ) → to_give sdp ≡ Some octets → octets ≡ text
+-- the text of a capture: all that the SDP's source gave, up to its end, which describes a video; or
+-- nothing, where there is none
+abbrev pub SaysSdp : {S : Type 0} → (S → List ℕ) → (S → Type 0) → Option S → Option S → List ℕ
+    → Type 0
+SaysSdp gave ended None later text = text ≡ []
+SaysSdp gave ended (Some sdp) None text = ⊥
+SaysSdp gave ended (Some sdp) (Some later) text =
+    (gave later ≡ gave sdp ++ text) × ended later × IsCaptureText text
 
--- a sink took that text and those pictures
-pub record SendsAll {S : Type 0} (to_give : S → Option (List ℕ)) (wanted : Sending)
-    (sdp : Option S) (sources : List S) (old new : Option (List ℕ)) : Type 0 where
+-- A sink took that text and those pictures, and to the output it was printed how many datagrams
+-- they are.
+pub record SendsAll {S : Type 0} (gave : S → List ℕ) (ended : S → Type 0) (wanted : Sending)
+    (sdp sdp_later : Option S) (sources later : List S) (old new printed printed_new : List ℕ)
+    : Type 0 where
   pub text : List ℕ
-  pub says : SaysSdp to_give sdp text
-  pub pictures : SendsPictures to_give wanted text sources old new
+  pub says : SaysSdp gave ended sdp sdp_later text
+  pub count : ℕ
+  pub pictures : SendsPictures (WasRead gave ended) wanted text sources later old new count
+  pub line : printed_new ≡ printed ++ (line_text (line.Sent count) ++ 10 ∷ [])

@@ -1,6 +1,6 @@
 //! Taking the datagrams of captures into one receiver.
-ghost use Rattle.std.specs.Prelude.{◌≡◌, ◌≤◌, ◌+◌, ◌-◌, ◌^◌, ◌∷◌, ◌++◌, [], ℕ, List, Ok, Err, Some};
-ghost use Rattle.std.specs.Prelude.{true, false, length, take, min, IfErr, IfOk, OnOk};
+ghost use Rattle.std.specs.Prelude.{◌≡◌, ◌≢◌, ◌≤◌, ◌+◌, ◌-◌, ◌^◌, ◌∷◌, ◌++◌, [], ℕ, List, Ok, Err};
+ghost use Rattle.std.specs.Prelude.{true, false, length, min, IfErr, IfOk, OnOk};
 ghost use Rattle.media_file.specs.Reader.{IsNewReader, dues_in, source_fault};
 ghost use Rattle.media_file.specs.declared.fault.FileFault.{FileFault};
 ghost use Rattle.media_file.specs.declared.fault.FileFault.TheVariants.{TooManyRecords};
@@ -13,6 +13,7 @@ ghost use Rattle.capture_engines.specs.Tallied.{Tallies};
 ghost use Rattle.path_merge.specs.declared.receiving.ReceiveFault.{ReceiveFault};
 ghost use Rattle.path_merge.specs.declared.receiving.Received.{Received};
 ghost use Rattle.path_merge.specs.Frames.{Holds};
+ghost use Rattle.st_format.specs.History.{GrewFrom, IsRead, since};
 ghost use Rattle.st_format.specs.Turns.{datagrams_of};
 
 use crate::tally::Tally;
@@ -77,21 +78,23 @@ impl<A: Allocator> Intake<A> {
           failures = S.failures reader.old.source;
         } }
         ensures room { length buf.new ≡ length buf.old }
-        ensures taken { OnOk result
-            (TakesRecords (S.to_give reader.old.source) self.old self.new) }
-        // After a fault too, the receiver has the datagrams that were delivered.
-        ensures holds { (datagrams : List (List ℕ)) (octets : List ℕ) →
-            S.to_give reader.old.source ≡ Some octets → Holds self.old.receiver datagrams →
-            Holds self.new.receiver
-            (datagrams ++ take reader.new.delivered (datagrams_of (dues_in octets))) }
-        ensures refusal { IfErr result (λ f. OfRefusal f
-            (IsFileRefusal HasRecordFault (S.to_give reader.old.source))) }
+        ensures taken { OnOk result (TakesRecords (IsRead (S.gave reader.old.source)
+            (S.gave reader.new.source) (S.ended reader.new.source)) self.old self.new) }
+        // After a fault too, the receiver has the datagrams of the records that were read.
+        ensures holds { (datagrams : List (List ℕ)) → Holds self.old.receiver datagrams →
+            Holds self.new.receiver (datagrams ++ datagrams_of (dues_in
+            (since (S.gave reader.old.source) (S.gave reader.new.source)))) }
+        ensures refusal { IfErr result (λ f. OfRefusal f (IsFileRefusal HasRecordFault (IsRead
+            (S.gave reader.old.source) (S.gave reader.new.source)
+            (S.ended reader.new.source)))) }
+        ensures grown { GrewFrom (S.gave reader.old.source) (S.gave reader.new.source) }
         ensures failures { Accounts result (counts (S.failures reader.old.source)
             (S.failures reader.new.source) ∷ []) }
         ensures names { S.names reader.new.source ≡ S.names reader.old.source }
     {
         let received = receive_each(reader, &mut self.receiver, buf, TURNS, &mut self.tally);
         reader.facts();
+        reader.history();
         self.count(received)
     }
 
@@ -103,14 +106,16 @@ impl<A: Allocator> Intake<A> {
             → (result ≡ Ok tt)
             × (self.new.delivered ≡ min (self.old.delivered + r.delivered) (2 ^ 64 - 1)) }
         ensures many { (r : Received) → received ≡ Ok r → r.ended ≡ false
-            → result ≡ Err (capture_fault TooManyRecords) }
+            → r.delivered ≡ 16777216 → result ≡ Err (capture_fault TooManyRecords) }
+        ensures quiet { (r : Received) → received ≡ Ok r → r.ended ≡ false
+            → r.delivered ≢ 16777216 → result ≡ Err Fault.Memory }
         ensures fault { (e : ReceiveFault) (f : FileFault) → received ≡ Err e
             → e.fault ≡ source_fault f → result ≡ Err (capture_fault f) }
     {
         match received {
             Ok(received) => {
                 if !received.ended {
-                    return Err(of_capture(FileFault::TooManyRecords));
+                    return Err(unended(received.delivered));
                 }
                 self.delivered = self.delivered.saturating_add(received.delivered);
                 Ok(())
@@ -118,6 +123,18 @@ impl<A: Allocator> Intake<A> {
             Err(failed) => Err(reader_fault(failed.fault)),
         }
     }
+}
+
+/// What is wrong with a capture that has not ended, but delivered so many datagrams.
+fn unended(delivered: u64) -> Fault
+    ensures many { delivered ≡ 16777216 → result ≡ capture_fault TooManyRecords }
+    ensures quiet { delivered ≢ 16777216 → result ≡ Fault.Memory }
+{
+    if delivered == TURNS {
+        return of_capture(FileFault::TooManyRecords);
+    }
+    // No reader has a turn without a datagram.
+    Fault::Memory
 }
 
 /// A fault that a reader of a capture told.

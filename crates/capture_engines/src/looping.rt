@@ -1,9 +1,12 @@
 //! The engine of `loop`.
-ghost use Rattle.std.specs.Prelude.{◌≡◌, ◌≤◌, ◌<◌, ◌+◌, ◌∷◌, ℕ, [], min, length, IfErr, IfOk, OnOk};
-ghost use Rattle.std.specs.Prelude.{Some};
+ghost use Rattle.std.specs.Prelude.{◌≡◌, ◌≤◌, ◌<◌, ◌+◌, ◌==◌, ◌∷◌, ◌++◌, ℕ, List, [], min};
+ghost use Rattle.std.specs.Prelude.{IfErr, IfOk, OnOk, Some, length, take};
+ghost use Rattle.st_format.specs.History.{IsRead};
+ghost use Rattle.st_format.specs.declared.path.Path.{Path as By};
 ghost use Rattle.run_outcome.specs.Fault.{Accounts, IfRefused, counts};
 ghost use Rattle.run_outcome.specs.Refusing.{OfRefusal};
-ghost use Rattle.packet_plan.specs.Plan.{IsFullPlan};
+ghost use Rattle.packet_plan.specs.Plan.{IsFullPlan, packet_at};
+ghost use Rattle.packet_plan.specs.Text.{datagram_text, datagram_texts};
 ghost use Rattle.path_merge.specs.Frames.{Holds};
 ghost use Rattle.path_merge.specs.Took.{CountsAll};
 ghost use Rattle.capture_engines.specs.Looped.{IsLoopRefusal};
@@ -11,9 +14,9 @@ ghost use Rattle.capture_engines.specs.Looping.{Came, Loops, Prints, loop_openin
 
 use datagram_link::DatagramLink;
 use packet_plan::{Plan, Stamp};
-use path_merge::{Receiver, receive};
+use path_merge::Receiver;
 use run_outcome::{Fault, Line, print, read_unpacked, room};
-use st_format::{ByteSink, ByteSource, Picture};
+use st_format::{ByteSink, ByteSource, Picture, Turn};
 use std::alloc::Allocator;
 
 /// What the datagrams of the picture have in common (own).
@@ -65,11 +68,22 @@ where
     O: ByteSink,
     ensures turns { L.DatagramSource.delivered link.new
         ≤ L.DatagramSource.delivered link.old + wanted.limit }
+    // Of what was read, what was put into the link and came of it, and what was printed.
     ensures looped { OnOk result (Loops wanted.max_octets wanted.limit
-        (L.DatagramSource.delivered link.old) (L.DatagramSource.delivered link.new)
-        (S.to_give source.old) (O.held output.old) (O.held output.new)) }
-    ensures refusal { IfErr result (λ f. OfRefusal f
-        (IsLoopRefusal wanted.max_octets (S.to_give source.old))) }
+        (IsRead (S.gave source.old) (S.gave source.new) (S.ended source.new))
+        (record {
+          took = L.DatagramSink.took link.old;
+          came = L.DatagramSource.came link.old;
+          delivered = L.DatagramSource.delivered link.old;
+        })
+        (record {
+          took = L.DatagramSink.took link.new;
+          came = L.DatagramSource.came link.new;
+          delivered = L.DatagramSource.delivered link.new;
+        })
+        (O.took output.old) (O.took output.new)) }
+    ensures refusal { IfErr result (λ f. OfRefusal f (IsLoopRefusal wanted.max_octets
+        (IsRead (S.gave source.old) (S.gave source.new) (S.ended source.new)))) }
     ensures failures { Accounts result (counts (S.failures source.old) (S.failures source.new)
         ∷ counts (L.DatagramSink.failures link.old) (L.DatagramSink.failures link.new)
         ∷ counts (O.failures output.old) (O.failures output.new) ∷ []) }
@@ -108,7 +122,10 @@ fn pass<A: Allocator, L: DatagramLink>(
     requires room { length buf.old ≡ 65535 }
     requires holds { Holds receiver.old [] }
     ensures sent { IfOk result (λ p. p.sent ≡ min limit (length plan.now.packets)) }
-    ensures came { IfOk result (λ p. Came p.sent p.delivered receiver.new) }
+    ensures put { IfOk result (λ p. L.DatagramSink.took link.new ≡ L.DatagramSink.took link.old
+        ++ take p.sent (datagram_texts picture.now STAMP 0 plan.now.packets)) }
+    ensures came { IfOk result (λ p. Came p.sent p.delivered
+        (L.DatagramSource.came link.old) (L.DatagramSource.came link.new) receiver.new) }
     ensures counted { IfOk result (λ p. CountsAll p.delivered
         (L.DatagramSource.delivered link.old) (L.DatagramSource.delivered link.new)) }
     ensures plan { IsFullPlan plan.now.packets plan.now.format plan.now.max_octets }
@@ -149,8 +166,12 @@ fn pass_one<A: Allocator, L: DatagramLink>(
     requires room { length buf.old ≡ 65535 }
     ensures room { length buf.new ≡ 65535 }
     ensures few { IfOk result (λ n. n ≤ 1) }
-    ensures came { IfOk result (λ n. (turns before : ℕ) → Came turns before receiver.old
-        → Came (turns + 1) (before + n) receiver.new) }
+    ensures put { IfOk result (λ _. L.DatagramSink.took link.new ≡ L.DatagramSink.took link.old
+        ++ datagram_text picture.now STAMP index (index + 1 == length plan.now.packets)
+        (packet_at plan.now index) ∷ []) }
+    ensures came { IfOk result (λ n. (turns before : ℕ) (first : List (By × List ℕ))
+        → Came turns before first (L.DatagramSource.came link.old) receiver.old
+        → Came (turns + 1) (before + n) first (L.DatagramSource.came link.new) receiver.new) }
     ensures counted { IfOk result (λ n. CountsAll n
         (L.DatagramSource.delivered link.old) (L.DatagramSource.delivered link.new)) }
     ensures turns { L.DatagramSource.delivered link.new
@@ -164,8 +185,14 @@ fn pass_one<A: Allocator, L: DatagramLink>(
     let Ok(()) = link.send(&buf[..count]) else {
         return Err(Fault::Device);
     };
-    match receive(link, receiver, buf, 1) {
-        Ok(received) => Ok(received.delivered),
+    match link.turn(buf) {
+        Ok(Turn::Datagram(path, length)) => {
+            // (one that is refused came too)
+            let _ = receiver.take(path, &buf[..length]);
+            Ok(1)
+        }
+        Ok(Turn::Quiet) => Ok(0),
+        Ok(Turn::End) => Ok(0),
         Err(_) => Err(Fault::Device),
     }
 }
@@ -178,7 +205,7 @@ fn print_passed<A: Allocator, O: ByteSink>(
 ) -> Result<(), Fault>
     requires { receiver.now.opening.window ≡ STAMP.timestamp ∷ [] }
     ensures printed { OnOk result (Prints passed.sent passed.delivered receiver.now
-        (O.held output.old) (O.held output.new)) }
+        (O.took output.old) (O.took output.new)) }
     ensures unrefused { IfErr result (λ f. IfRefused f ⊥) }
     ensures failures { Accounts result (counts (O.failures output.old) (O.failures output.new)
         ∷ []) }

@@ -112,9 +112,29 @@ impl<A: Allocator> DatagramSource for MemoryLink<A> {
 
     ghost last_fault = { λ l. l.last_fault };
 
+    fn next(&mut self, buf: &mut [u8]) -> Result<Turn, SourceFault> {
+        self.turn(buf)
+    }
+}
+
+impl<A: Allocator> DatagramLink for MemoryLink<A> {
+    ghost use Rattle.std.specs.Prelude.{refl};
+
+    ghost one_count = { λ _. refl };
+
+    fn send(&mut self, octets: &[u8]) -> Result<(), SinkFault> {
+        if self.fails_now() {
+            return self.fail();
+        }
+        match self.puts.put(octets) {
+            Ok(()) => Ok(()),
+            Err(_) => self.fail(),
+        }
+    }
+
     /// What comes isn't told before, since it may still be put in. A datagram of more than 65,535
     /// octets is none.
-    fn next(&mut self, buf: &mut [u8]) -> Result<Turn, SourceFault> {
+    fn turn(&mut self, buf: &mut [u8]) -> Result<Turn, SourceFault> {
         if self.fails_now() {
             self.failures = self.failures.saturating_add(1);
             self.last_fault = Some(SourceFault::Device);
@@ -135,21 +155,5 @@ impl<A: Allocator> DatagramSource for MemoryLink<A> {
         self.delivered = self.delivered.saturating_add(1);
         self.comings.come();
         Ok(Turn::Datagram(Path::A, count))
-    }
-}
-
-impl<A: Allocator> DatagramLink for MemoryLink<A> {
-    ghost use Rattle.std.specs.Prelude.{refl};
-
-    ghost one_count = { λ _. refl };
-
-    fn send(&mut self, octets: &[u8]) -> Result<(), SinkFault> {
-        if self.fails_now() {
-            return self.fail();
-        }
-        match self.puts.put(octets) {
-            Ok(()) => Ok(()),
-            Err(_) => self.fail(),
-        }
     }
 }

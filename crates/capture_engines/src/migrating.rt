@@ -1,10 +1,12 @@
 //! The engine of `migrate`.
 ghost use Rattle.std.specs.Prelude.{◌≤◌, ◌∷◌, [], IfErr, IfOk, OnOk, length};
 ghost use Rattle.run_outcome.specs.Fault.{Accounts, counts};
-ghost use Rattle.capture_engines.specs.Migrating.{LeavesBy, Migrates, MovesBy};
+ghost use Rattle.capture_engines.specs.Migrating.{LeavesBy, MovesBy, PrintsMigrated, passed};
 ghost use Rattle.capture_engines.specs.MigrateRefused.{IsCaptureRefusal, IsMigrateRefusal};
 ghost use Rattle.run_outcome.specs.Refusing.{OfRefusal};
-ghost use Rattle.media_file.specs.Migrated.{Migrated, devices};
+ghost use Rattle.run_outcome.specs.Text.{GivesText};
+ghost use Rattle.media_file.specs.Migrated.{MigratedRead};
+ghost use Rattle.st_format.specs.History.{IsRead};
 
 use media_file::migrate_capture;
 use run_outcome::{Fault, Line, Refusal, of_capture, print, read_checked, room};
@@ -34,15 +36,21 @@ where
     S: ByteSource,
     K: ByteSink,
     O: ByteSink,
-    ensures migrated { OnOk result (Migrates (D.to_give sdp.old) (D.to_give sdp.new)
-        (S.to_give source.old) (S.to_give source.new) (K.held sink.old) (K.held sink.new)) }
-    ensures refusal { IfErr result (λ f. OfRefusal f
-        (IsMigrateRefusal (D.to_give sdp.old) (S.to_give source.old))) }
-    ensures left { IfErr result (λ f. LeavesBy f (D.to_give sdp.old) (D.to_give sdp.new)
-        (devices (S.to_give source.old) (S.failures source.old)
-        (K.held sink.old) (K.failures sink.old))
-        (devices (S.to_give source.new) (S.failures source.new)
-        (K.held sink.new) (K.failures sink.new))) }
+    // All that the text's source and the capture's gave was read, up to their ends.
+    ensures migrated { OnOk result (PrintsMigrated
+        (GivesText 65535 (D.gave sdp.old) (D.gave sdp.new) (D.ended sdp.new))
+        (S.gave source.old) (S.gave source.new) (S.ended source.new)
+        (K.took sink.old) (K.took sink.new) (O.took output.old) (O.took output.new)) }
+    ensures refusal { IfErr result (λ f. OfRefusal f (IsMigrateRefusal
+        (IsRead (D.gave sdp.old) (D.gave sdp.new) (D.ended sdp.new))
+        (IsRead (S.gave source.old) (S.gave source.new) (S.ended source.new)))) }
+    ensures left { IfErr result (λ f. LeavesBy f
+        (GivesText 65535 (D.gave sdp.old) (D.gave sdp.new) (D.ended sdp.new))
+        (S.ended source.new)
+        (passed (S.gave source.old) (S.failures source.old)
+        (K.took sink.old) (K.failures sink.old))
+        (passed (S.gave source.new) (S.failures source.new)
+        (K.took sink.new) (K.failures sink.new))) }
     ensures failures { Accounts result (counts (D.failures sdp.old) (D.failures sdp.new)
         ∷ counts (S.failures source.old) (S.failures source.new)
         ∷ counts (K.failures sink.old) (K.failures sink.new)
@@ -61,15 +69,15 @@ fn move_capture<A: Allocator, S: ByteSource, K: ByteSink>(
     said: &[u8],
 ) -> Result<u64, Fault>
     requires { length said.now ≤ 65535 }
-    ensures migrated { IfOk result (λ n. Migrated 16777216 n said.now (S.to_give source.old)
-        (S.to_give source.new) (K.held sink.old) (K.held sink.new)) }
-    ensures refusal { IfErr result (λ f. OfRefusal f
-        (IsCaptureRefusal (S.to_give source.old))) }
-    ensures moved { IfErr result (λ f. MovesBy f said.now
-        (devices (S.to_give source.old) (S.failures source.old)
-        (K.held sink.old) (K.failures sink.old))
-        (devices (S.to_give source.new) (S.failures source.new)
-        (K.held sink.new) (K.failures sink.new))) }
+    ensures migrated { IfOk result (λ n. MigratedRead 16777216 n said.now (S.gave source.old)
+        (S.gave source.new) (S.ended source.new) (K.took sink.old) (K.took sink.new)) }
+    ensures refusal { IfErr result (λ f. OfRefusal f (IsCaptureRefusal
+        (IsRead (S.gave source.old) (S.gave source.new) (S.ended source.new)))) }
+    ensures moved { IfErr result (λ f. MovesBy f said.now (S.ended source.new)
+        (passed (S.gave source.old) (S.failures source.old)
+        (K.took sink.old) (K.failures sink.old))
+        (passed (S.gave source.new) (S.failures source.new)
+        (K.took sink.new) (K.failures sink.new))) }
     ensures failures { Accounts result (counts (S.failures source.old) (S.failures source.new)
         ∷ counts (K.failures sink.old) (K.failures sink.new) ∷ []) }
 {

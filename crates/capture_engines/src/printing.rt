@@ -1,8 +1,7 @@
 //! Printing what a tally counts.
-ghost use Rattle.std.specs.Prelude.{◌∷◌, [], IfErr, OnErr, OnOk};
+ghost use Rattle.std.specs.Prelude.{◌≡◌, ◌∷◌, ◌++◌, [], IfErr, OnErr, OnOk};
 ghost use Rattle.std.specs.List.{flat_map};
-ghost use Rattle.std.specs.Io.KnownBytes.{Appends};
-ghost use Rattle.st_format.specs.Device.{AppendsPrefix};
+ghost use Rattle.st_format.specs.Device.{GrowsPart};
 ghost use Rattle.run_outcome.specs.Fault.{Accounts, IfRefused, counts};
 ghost use Rattle.capture_engines.specs.Printed.{counted_line, refusal_line, refusals, tally_text};
 
@@ -14,9 +13,9 @@ use st_format::ByteSink;
 /// window.
 pub(crate) fn print_tally<O: ByteSink>(tally: &Tally, output: &mut O) -> Result<(), Fault>
     ensures printed { OnOk result
-        (Appends (O.held output.old) (O.held output.new) (tally_text tally.now)) }
+        (O.took output.new ≡ O.took output.old ++ tally_text tally.now) }
     ensures cut { OnErr result
-        (AppendsPrefix (O.held output.old) (O.held output.new) (tally_text tally.now)) }
+        (GrowsPart (O.took output.old) (O.took output.new) (tally_text tally.now)) }
     ensures unrefused { IfErr result (λ f. IfRefused f ⊥) }
     ensures failures { Accounts result (counts (O.failures output.old) (O.failures output.new)
         ∷ []) }
@@ -27,9 +26,9 @@ pub(crate) fn print_tally<O: ByteSink>(tally: &Tally, output: &mut O) -> Result<
 
 /// Prints how often each refusal came that came, of the counts of all.
 fn print_refusals<O: ByteSink>(refused: &[u64; 14], output: &mut O) -> Result<(), Fault>
-    ensures printed { OnOk result (Appends (O.held output.old) (O.held output.new)
-        (flat_map (refusal_line refused.now) refusals)) }
-    ensures cut { OnErr result (AppendsPrefix (O.held output.old) (O.held output.new)
+    ensures printed { OnOk result (O.took output.new ≡ O.took output.old
+        ++ flat_map (refusal_line refused.now) refusals) }
+    ensures cut { OnErr result (GrowsPart (O.took output.old) (O.took output.new)
         (flat_map (refusal_line refused.now) refusals)) }
     ensures unrefused { IfErr result (λ f. IfRefused f ⊥) }
     ensures failures { Accounts result (counts (O.failures output.old) (O.failures output.new)
@@ -45,9 +44,9 @@ fn print_refusals<O: ByteSink>(refused: &[u64; 14], output: &mut O) -> Result<()
 /// Prints a line where what it counts came at all.
 fn print_counted<O: ByteSink>(line: Line, count: u64, output: &mut O) -> Result<(), Fault>
     ensures printed { OnOk result
-        (Appends (O.held output.old) (O.held output.new) (counted_line count line)) }
+        (O.took output.new ≡ O.took output.old ++ counted_line count line) }
     ensures cut { OnErr result
-        (AppendsPrefix (O.held output.old) (O.held output.new) (counted_line count line)) }
+        (GrowsPart (O.took output.old) (O.took output.new) (counted_line count line)) }
     ensures unrefused { IfErr result (λ f. IfRefused f ⊥) }
     ensures failures { Accounts result (counts (O.failures output.old) (O.failures output.new)
         ∷ []) }

@@ -1,22 +1,24 @@
 //! The engine of `receive`.
-ghost use Rattle.std.specs.Prelude.{◌≡◌, ◌≢◌, ◌≤◌, ◌<◌, ◌+◌, ◌∷◌, [], IfErr, IfOk, OnOk};
-ghost use Rattle.std.specs.Prelude.{MatchOption, Option, None, Some, drop, length, sum_by};
-ghost use Rattle.std.specs.Io.KnownBytes.{Appends};
+ghost use Rattle.std.specs.Prelude.{◌≡◌, ◌≢◌, ◌≤◌, ◌<◌, ◌+◌, ◌∷◌, ◌++◌, [], IfErr, IfOk, OnOk};
+ghost use Rattle.std.specs.Prelude.{MatchOption, Option, None, Some, drop, length, sum_by, take};
+ghost use Rattle.std.specs.List.{zip};
+ghost use Rattle.run_outcome.specs.Moments.{WasRead, pair};
 ghost use Rattle.media_file.specs.Reader.{IsNewReader};
 ghost use Rattle.media_file.specs.StateFile.{state_text};
 ghost use Rattle.run_outcome.specs.Fault.{Accounts, IfRefused, counts, failures_in};
 ghost use Rattle.capture_engines.specs.Printed.{if_wanted, received_text, tally_text};
-ghost use Rattle.capture_engines.specs.Received.{IsCapturesRefusal, IsFrontRefusal, IsGivenRefusal};
-ghost use Rattle.capture_engines.specs.Received.{IsReceiveRefusal, IsTakeRefusal, IsBehindRefusal};
+ghost use Rattle.capture_engines.specs.Received.{HasBehind, IsCapturesRefusal, IsFrontRefusal};
+ghost use Rattle.capture_engines.specs.Received.{IsGivenRefusal, IsReceiveRefusal, IsTakeRefusal};
 ghost use Rattle.capture_engines.specs.Received.{IsWordRefusal};
 ghost use Rattle.capture_engines.specs.Receiving.{SavesShown};
 ghost use Rattle.run_outcome.specs.Refusing.{OfRefusal};
 ghost use Rattle.capture_engines.specs.Sent.{FirstIs};
-ghost use Rattle.capture_engines.specs.Taking.{Begins, HoldsBy, OpensBy, Receives, TakesBehind};
-ghost use Rattle.capture_engines.specs.Taking.{TakesFile, TakesFiles};
+ghost use Rattle.capture_engines.specs.Taking.{Begins, HoldsBy, OpensBy, Receives, TakesFile};
+ghost use Rattle.capture_engines.specs.Taking.{TakesFiles};
 ghost use Rattle.receiver_file.specs.Saved.{IsWritable, kept_of};
 ghost use Rattle.run_outcome.specs.Sources.{IsSourceText};
 ghost use Rattle.run_outcome.specs.Timestamps.{AreTimestamps};
+ghost use Rattle.st_format.specs.History.{GrewFrom, IsRead};
 
 use crate::intake::Intake;
 use crate::printing::print_tally;
@@ -78,13 +80,17 @@ where
     K: ByteSink,
     O: ByteSink,
     ensures saved { OnOk result (SavesShown wanted.entry.tells_refusals
-        (O.held output.old) (O.held output.new) (K.held state.old) (K.held state.new)) }
-    ensures taken { OnOk result (Receives wanted.entry.window.now wanted.entry.ssrc.now sdp.old
-        S.to_give captures.old wanted.entry.tells_refusals
-        (O.held output.old) (O.held output.new) (K.held state.old) (K.held state.new)) }
+        (O.took output.old) (O.took output.new) (K.took state.old) (K.took state.new)) }
+    ensures len { length captures.new ≡ length captures.old }
+    // What was read of the captures is all of them, up to their ends.
+    ensures taken { OnOk result (Receives wanted.entry.window.now wanted.entry.ssrc.now
+        (pair sdp.old sdp.new) (WasRead S.gave S.ended) (zip captures.old captures.new)
+        wanted.entry.tells_refusals
+        (O.took output.old) (O.took output.new) (K.took state.old) (K.took state.new)) }
     ensures refused { IfErr result (λ f. IfRefused f (state.new ≡ state.old)) }
     ensures refusal { IfErr result (λ f. OfRefusal f (IsReceiveRefusal wanted.entry.window.now
-        wanted.entry.ssrc.now sdp.old S.to_give captures.old)) }
+        wanted.entry.ssrc.now (pair sdp.old sdp.new) (WasRead S.gave S.ended)
+        (zip captures.old captures.new))) }
     ensures failures { Accounts result (counts (failures_in S.failures sdp.old)
         (failures_in S.failures sdp.new) ∷ counts (sum_by S.failures captures.old)
         (sum_by S.failures captures.new)
@@ -100,8 +106,8 @@ where
 
 /// Writes a receiver's file.
 fn save<A: Allocator, K: ByteSink>(receiver: &Receiver<A>, state: &mut K) -> Result<(), Fault>
-    ensures whole { OnOk result (Appends (K.held state.old) (K.held state.new)
-        (state_text (kept_of receiver.now))) }
+    ensures whole { OnOk result
+        (K.took state.new ≡ K.took state.old ++ state_text (kept_of receiver.now)) }
     ensures writable { IsWritable receiver.now }
     ensures refused { IfErr result (λ f. IfRefused f (state.new ≡ state.old)) }
     ensures unrefused { IfErr result (λ f. IfRefused f ⊥) }
@@ -136,10 +142,11 @@ fn begin<A: Allocator + Copy, S: ByteSource>(
     opening: &Asked<A>,
     sdp: &mut Option<S>,
 ) -> Result<Option<Intake<A>>, Fault>
-    ensures begun { IfOk result (λ begun. Begins opening.now S.to_give sdp.old begun) }
+    ensures begun { IfOk result (λ begun. Begins opening.now (WasRead S.gave S.ended)
+        (pair sdp.old sdp.new) begun) }
     ensures none { IfOk result (λ begun. begun ≡ None → sdp.old ≡ None) }
-    ensures refusal { IfErr result (λ f. OfRefusal f (λ r. MatchOption sdp.old ⊥
-        (λ s. IsGivenRefusal opening.now.window.items (S.to_give s) r))) }
+    ensures refusal { IfErr result (λ f. OfRefusal f (λ r. MatchOption (pair sdp.old sdp.new) ⊥
+        (λ s. IsGivenRefusal opening.now.window.items (WasRead S.gave S.ended s) r))) }
     ensures failures { Accounts result (counts (failures_in S.failures sdp.old)
         (failures_in S.failures sdp.new) ∷ []) }
 {
@@ -158,9 +165,10 @@ fn open_by_sdp<A: Allocator + Copy, S: ByteSource>(
     opening: &Asked<A>,
     source: &mut S,
 ) -> Result<Intake<A>, Fault>
-    ensures opened { IfOk result (λ s. OpensBy opening.now (S.to_give source.old) s) }
-    ensures refusal { IfErr result (λ f. OfRefusal f
-        (IsGivenRefusal opening.now.window.items (S.to_give source.old))) }
+    ensures opened { IfOk result (λ s. OpensBy opening.now
+        (IsRead (S.gave source.old) (S.gave source.new) (S.ended source.new)) s) }
+    ensures refusal { IfErr result (λ f. OfRefusal f (IsGivenRefusal opening.now.window.items
+        (IsRead (S.gave source.old) (S.gave source.new) (S.ended source.new)))) }
     ensures failures { Accounts result (counts (S.failures source.old) (S.failures source.new)
         ∷ []) }
 {
@@ -177,10 +185,12 @@ fn take_captures<A: Allocator + Copy, S: ByteSource>(
     mut begun: Option<Intake<A>>,
     captures: &mut [S],
 ) -> Result<Intake<A>, Fault>
+    ensures len { length captures.new ≡ length captures.old }
     ensures taken { IfOk result
-        (λ s. TakesFiles opening.now S.to_give captures.old begun (Some s)) }
-    ensures refusal { IfErr result (λ f. OfRefusal f
-        (IsCapturesRefusal opening.now.window.items begun S.to_give captures.old)) }
+        (λ s. TakesFiles opening.now (WasRead S.gave S.ended) (zip captures.old captures.new)
+        begun (Some s)) }
+    ensures refusal { IfErr result (λ f. OfRefusal f (IsCapturesRefusal opening.now.window.items
+        begun (WasRead S.gave S.ended) (zip captures.old captures.new))) }
     ensures failures { Accounts result (counts (sum_by S.failures captures.old)
         (sum_by S.failures captures.new) ∷ []) }
 {
@@ -204,12 +214,13 @@ fn take_all<A: Allocator + Copy, S: ByteSource>(
 ) -> Result<(), Fault>
     requires text { 65535 ≤ length said.old }
     requires room { 65535 ≤ length buf.old }
-    ensures taken { OnOk result
-        (TakesFiles opening.now S.to_give captures.old begun.old begun.new) }
+    ensures len { length captures.new ≡ length captures.old }
+    ensures taken { OnOk result (TakesFiles opening.now (WasRead S.gave S.ended)
+        (zip captures.old captures.new) begun.old begun.new) }
     ensures none { OnOk result (begun.new ≡ None
         → (begun.old ≡ None) × (captures.old ≡ [])) }
-    ensures refusal { IfErr result (λ f. OfRefusal f
-        (IsCapturesRefusal opening.now.window.items begun.old S.to_give captures.old)) }
+    ensures refusal { IfErr result (λ f. OfRefusal f (IsCapturesRefusal opening.now.window.items
+        begun.old (WasRead S.gave S.ended) (zip captures.old captures.new))) }
     ensures failures { Accounts result (counts (sum_by S.failures captures.old)
         (sum_by S.failures captures.new) ∷ []) }
 {
@@ -235,14 +246,15 @@ fn take_at<A: Allocator + Copy, S: ByteSource>(
     ensures text { length said.new ≡ length said.old }
     ensures room { length buf.new ≡ length buf.old }
     ensures len { length captures.new ≡ length captures.old }
+    ensures front { take place captures.new ≡ take place captures.old }
     ensures behind { drop (place + 1) captures.new ≡ drop (place + 1) captures.old }
     ensures taken { OnOk result (FirstIs
-        (λ s. TakesFile opening.now (S.to_give s) begun.old begun.new)
-        (drop place captures.old)) }
+        (λ s. TakesFile opening.now (WasRead S.gave S.ended s) begun.old begun.new)
+        (zip (drop place captures.old) (drop place captures.new))) }
     ensures begun { OnOk result (begun.new ≢ None) }
     ensures refusal { IfErr result (λ f. OfRefusal f (λ r. FirstIs
-        (λ s. IsTakeRefusal opening.now.window.items begun.old (S.to_give s) r)
-        (drop place captures.old))) }
+        (λ s. IsTakeRefusal opening.now.window.items begun.old (WasRead S.gave S.ended s) r)
+        (zip (drop place captures.old) (drop place captures.new)))) }
     ensures failures { Accounts result (counts (sum_by S.failures captures.old)
         (sum_by S.failures captures.new) ∷ []) }
 {
@@ -262,11 +274,11 @@ fn take_one<A: Allocator + Copy, S: ByteSource>(
     requires room { 65535 ≤ length buf.old }
     ensures text { length said.new ≡ length said.old }
     ensures room { length buf.new ≡ length buf.old }
-    ensures taken { OnOk result
-        (TakesFile opening.now (S.to_give capture.old) begun.old begun.new) }
+    ensures taken { OnOk result (TakesFile opening.now (IsRead (S.gave capture.old)
+        (S.gave capture.new) (S.ended capture.new)) begun.old begun.new) }
     ensures begun { OnOk result (begun.new ≢ None) }
-    ensures refusal { IfErr result (λ f. OfRefusal f
-        (IsTakeRefusal opening.now.window.items begun.old (S.to_give capture.old))) }
+    ensures refusal { IfErr result (λ f. OfRefusal f (IsTakeRefusal opening.now.window.items
+        begun.old (IsRead (S.gave capture.old) (S.gave capture.new) (S.ended capture.new)))) }
     ensures failures { Accounts result (counts (S.failures capture.old) (S.failures capture.new)
         ∷ []) }
 {
@@ -298,11 +310,14 @@ fn take_opened<A: Allocator + Copy, S: ByteSource>(
       failures = S.failures reader.old.source;
     } }
     ensures room { length buf.new ≡ length buf.old }
-    ensures taken { OnOk result (TakesBehind opening.now (S.to_give reader.old.source) text.now
-        begun.old begun.new) }
+    ensures taken { OnOk result (TakesFile opening.now (HasBehind
+        (IsRead (S.gave reader.old.source) (S.gave reader.new.source)
+        (S.ended reader.new.source)) text.now) begun.old begun.new) }
     ensures begun { OnOk result (begun.new ≢ None) }
-    ensures refusal { IfErr result (λ f. OfRefusal f (IsBehindRefusal opening.now.window.items
-        begun.old (S.to_give reader.old.source) text.now)) }
+    ensures refusal { IfErr result (λ f. OfRefusal f (IsTakeRefusal opening.now.window.items
+        begun.old (HasBehind (IsRead (S.gave reader.old.source) (S.gave reader.new.source)
+        (S.ended reader.new.source)) text.now))) }
+    ensures grown { GrewFrom (S.gave reader.old.source) (S.gave reader.new.source) }
     ensures failures { Accounts result (counts (S.failures reader.old.source)
         (S.failures reader.new.source) ∷ []) }
     ensures names { S.names reader.new.source ≡ S.names reader.old.source }
@@ -339,9 +354,9 @@ fn print_intake<A: Allocator, O: ByteSink>(
     tells_refusals: bool,
     output: &mut O,
 ) -> Result<(), Fault>
-    ensures printed { OnOk result (Appends (O.held output.old) (O.held output.new)
-        (received_text tells_refusals intake.now.delivered (tally_text intake.now.tally)
-        intake.now.receiver)) }
+    ensures printed { OnOk result (O.took output.new ≡ O.took output.old
+        ++ received_text tells_refusals intake.now.delivered (tally_text intake.now.tally)
+        intake.now.receiver) }
     ensures unrefused { IfErr result (λ f. IfRefused f ⊥) }
     ensures failures { Accounts result (counts (O.failures output.old) (O.failures output.new)
         ∷ []) }
@@ -353,8 +368,8 @@ fn print_intake<A: Allocator, O: ByteSink>(
 
 /// Prints what a tally counts, where that is wanted.
 fn print_wanted<O: ByteSink>(tally: &Tally, is_wanted: bool, output: &mut O) -> Result<(), Fault>
-    ensures printed { OnOk result (Appends (O.held output.old) (O.held output.new)
-        (if_wanted is_wanted (tally_text tally.now))) }
+    ensures printed { OnOk result
+        (O.took output.new ≡ O.took output.old ++ if_wanted is_wanted (tally_text tally.now)) }
     ensures unrefused { IfErr result (λ f. IfRefused f ⊥) }
     ensures failures { Accounts result (counts (O.failures output.old) (O.failures output.new)
         ∷ []) }

@@ -52,6 +52,7 @@ impl<A: Allocator, K: ByteSink> Sender<A, K> {
         ensures plan { result.plan ≡ plan }
         ensures wanted { result.wanted ≡ wanted }
         ensures next { result.next ≡ wanted.first }
+        ensures sent { result.sent ≡ 0 }
     {
         Sender {
             plan,
@@ -76,7 +77,7 @@ impl<A: Allocator, K: ByteSink> Sender<A, K> {
         ensures plan { self.new.plan ≡ self.old.plan }
         // The capture has the records of the picture's datagrams, as frame `place`.
         ensures sent { OnOk result
-            (SendsNext K.held picture.now place self.old self.new) }
+            (SendsNext K.took picture.now place self.old self.new) }
         ensures refusal { IfErr result (λ f. OfRefusal f
             (λ r. (r ≡ SendFormats) × (picture.now.format ≡ self.old.plan.format → ⊥))) }
         ensures failures { Accounts result (counts (K.failures self.old.writer.sink)

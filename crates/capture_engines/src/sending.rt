@@ -1,7 +1,9 @@
 //! The engine of `send`.
 ghost use Rattle.std.specs.Prelude.{◌≡◌, ◌+◌, ◌≤◌, ◌<◌, ◌∷◌, [], false, IfErr, IfOk, OnOk, drop};
-ghost use Rattle.std.specs.Prelude.{length, sum_by, vec_len};
+ghost use Rattle.std.specs.Prelude.{length, sum_by, take, vec_len};
 ghost use Rattle.std.specs.Io.KnownBytes.{IsAtEnd};
+ghost use Rattle.std.specs.List.{zip};
+ghost use Rattle.run_outcome.specs.Moments.{WasRead};
 ghost use Rattle.run_outcome.specs.Fault.{Accounts, counts, failures_in};
 ghost use Rattle.run_outcome.specs.Refusing.{OfRefusal};
 ghost use Rattle.capture_engines.specs.Sent.{FirstIs, FirstSays, IsSaidRefusal, IsPicturesRefusal};
@@ -50,14 +52,19 @@ where
     O: ByteSink,
     requires payload_type { wanted.payload_type ≤ 127 }
     requires empty { IsAtEnd (K.held sink.old) }
-    ensures sent { OnOk result (SendsAll S.to_give wanted sdp.old pictures.old
-        (K.held sink.old) (K.held sink.new)) }
+    // What is written is the capture of the SDP text that was read, and of the datagrams of all
+    // pictures that were read, of which each source was read to its end; and it is printed how many
+    // those are.
+    ensures sent { OnOk result (SendsAll S.gave S.ended wanted sdp.old sdp.new
+        pictures.old pictures.new (K.took sink.old) (K.took sink.new)
+        (O.took output.old) (O.took output.new)) }
     ensures failures { Accounts result (counts (failures_in S.failures sdp.old)
         (failures_in S.failures sdp.new) ∷ counts (sum_by S.failures pictures.old)
         (sum_by S.failures pictures.new) ∷ counts (K.failures sink.old) (K.failures sink.new)
         ∷ counts (O.failures output.old) (O.failures output.new) ∷ []) }
     ensures refusal { IfErr result (λ f. OfRefusal f
-        (IsSendRefusal wanted.max_octets sdp.old S.to_give pictures.old)) }
+        (IsSendRefusal wanted.max_octets (length pictures.old) sdp.old sdp.new
+        (WasRead S.gave S.ended) (zip pictures.old pictures.new))) }
 {
     let said = read_said(alloc, sdp, pictures.len())?;
     let sent = send_pictures(alloc, wanted, &said, pictures, sink)?;
@@ -72,8 +79,9 @@ fn read_said<A: Allocator + Copy, S: ByteSource>(
 ) -> Result<Vec<u8, A>, Fault>
     ensures few { IfOk result (λ _. pictures ≤ 10000) }
     ensures text { IfOk result (λ said. vec_len said ≤ 65535) }
-    ensures says { IfOk result (λ said. SaysSdp S.to_give sdp.old said.items) }
-    ensures refusal { IfErr result (λ f. OfRefusal f (IsSaidRefusal pictures sdp.old S.to_give)) }
+    ensures says { IfOk result (λ said. SaysSdp S.gave S.ended sdp.old sdp.new said.items) }
+    ensures refusal { IfErr result (λ f. OfRefusal f
+        (IsSaidRefusal pictures sdp.old sdp.new (WasRead S.gave S.ended))) }
     ensures failures { Accounts result (counts (failures_in S.failures sdp.old)
         (failures_in S.failures sdp.new) ∷ []) }
 {
@@ -101,10 +109,11 @@ fn send_pictures<A: Allocator + Copy, S: ByteSource, K: ByteSink>(
     requires few { length pictures.old ≤ 10000 }
     requires payload_type { wanted.payload_type ≤ 127 }
     requires empty { IsAtEnd (K.held sink.old) }
-    ensures sent { OnOk result (SendsPictures S.to_give wanted said.now pictures.old
-        (K.held sink.old) (K.held sink.new)) }
+    ensures sent { IfOk result (λ n. SendsPictures (WasRead S.gave S.ended) wanted said.now
+        pictures.old pictures.new (K.took sink.old) (K.took sink.new) n) }
     ensures refusal { IfErr result (λ f. OfRefusal f
-        (IsPicturesRefusal wanted.max_octets S.to_give pictures.old)) }
+        (IsPicturesRefusal wanted.max_octets (WasRead S.gave S.ended)
+        (zip pictures.old pictures.new))) }
     ensures failures { Accounts result (counts (sum_by S.failures pictures.old)
         (sum_by S.failures pictures.new)
         ∷ counts (K.failures sink.old) (K.failures sink.new) ∷ []) }
@@ -134,10 +143,13 @@ fn send_first_and_rest<A: Allocator, S: ByteSource, K: ByteSink>(
     requires alike { picture.format ≡ plan.format }
     requires empty { IsAtEnd (K.held sink.old) }
     requires room { length buf.old ≡ 65535 }
-    ensures sent { OnOk result (SendsFirstAndRest S.to_give wanted said.now picture
-        (drop 1 pictures.old) (K.held sink.old) (K.held sink.new)) }
+    ensures front { take 1 pictures.new ≡ take 1 pictures.old }
+    ensures sent { IfOk result (λ n. SendsFirstAndRest (WasRead S.gave S.ended) wanted said.now
+        picture (drop 1 pictures.old) (drop 1 pictures.new) (K.took sink.old) (K.took sink.new)
+        n) }
     ensures refusal { IfErr result (λ f. OfRefusal f
-        (IsRestRefusal plan.format S.to_give (drop 1 pictures.old))) }
+        (IsRestRefusal plan.format (WasRead S.gave S.ended)
+        (zip (drop 1 pictures.old) (drop 1 pictures.new)))) }
     ensures failures { Accounts result (counts (sum_by S.failures pictures.old)
         (sum_by S.failures pictures.new)
         ∷ counts (K.failures sink.old) (K.failures sink.new) ∷ []) }
@@ -163,10 +175,13 @@ fn send_each<A: Allocator, S: ByteSource, K: ByteSink>(
     requires room { length buf.old ≡ 65535 }
     requires stands { sender.old.writer.place.failed ≡ false }
     requires alike { picture.format ≡ sender.old.plan.format }
-    ensures sent { OnOk result (SendsEach S.to_give K.held picture (drop 1 pictures.old)
-        sender.old sender.new) }
+    ensures front { take 1 pictures.new ≡ take 1 pictures.old }
+    ensures sent { OnOk result (SendsEach (WasRead S.gave S.ended) K.took picture
+        (drop 1 pictures.old) (drop 1 pictures.new) sender.old sender.new) }
+    ensures count { IfOk result (λ n. n ≡ sender.new.sent) }
     ensures refusal { IfErr result (λ f. OfRefusal f
-        (IsRestRefusal sender.old.plan.format S.to_give (drop 1 pictures.old))) }
+        (IsRestRefusal sender.old.plan.format (WasRead S.gave S.ended)
+        (zip (drop 1 pictures.old) (drop 1 pictures.new)))) }
     ensures failures { Accounts result (counts (sum_by S.failures pictures.old)
         (sum_by S.failures pictures.new) ∷ counts (K.failures sender.old.writer.sink)
         (K.failures sender.new.writer.sink) ∷ []) }
@@ -187,10 +202,13 @@ fn read_first<A: Allocator + Copy, S: ByteSource>(
     ensures behind { drop 1 pictures.new ≡ drop 1 pictures.old }
     ensures alike { IfOk result (λ first. first.0.format ≡ first.1.format) }
     ensures shows { IfOk result
-        (λ first. FirstIs (λ s. SaysPicture (S.to_give s) first.0) pictures.old) }
-    ensures says { IfOk result (λ first. FirstSays S.to_give first.1.format pictures.old) }
+        (λ first. FirstIs (λ s. SaysPicture (WasRead S.gave S.ended s) first.0)
+        (zip pictures.old pictures.new)) }
+    ensures says { IfOk result (λ first. FirstSays (WasRead S.gave S.ended) first.1.format
+        (zip pictures.old pictures.new)) }
     ensures refusal { IfErr result (λ f. OfRefusal f
-        (IsPicturesRefusal max_octets S.to_give pictures.old)) }
+        (IsPicturesRefusal max_octets (WasRead S.gave S.ended)
+        (zip pictures.old pictures.new))) }
     ensures failures { Accounts result (counts (sum_by S.failures pictures.old)
         (sum_by S.failures pictures.new) ∷ []) }
 {
@@ -210,10 +228,13 @@ fn send_rest<A: Allocator, S: ByteSource, K: ByteSink>(
     requires few { length pictures.old ≤ 10000 }
     requires room { length buf.old ≡ 65535 }
     requires stands { sender.old.writer.place.failed ≡ false }
-    ensures sent { OnOk result (SendsRest S.to_give K.held (drop 1 pictures.old)
-        sender.old sender.new) }
+    ensures front { take 1 pictures.new ≡ take 1 pictures.old }
+    ensures sent { OnOk result (SendsRest (WasRead S.gave S.ended) K.took
+        (drop 1 pictures.old) (drop 1 pictures.new) sender.old sender.new) }
+    ensures count { IfOk result (λ n. n ≡ sender.new.sent) }
     ensures refusal { IfErr result (λ f. OfRefusal f
-        (IsRestRefusal sender.old.plan.format S.to_give (drop 1 pictures.old))) }
+        (IsRestRefusal sender.old.plan.format (WasRead S.gave S.ended)
+        (zip (drop 1 pictures.old) (drop 1 pictures.new)))) }
     ensures failures { Accounts result (counts (sum_by S.failures pictures.old)
         (sum_by S.failures pictures.new) ∷ counts (K.failures sender.old.writer.sink)
         (K.failures sender.new.writer.sink) ∷ []) }
@@ -235,13 +256,16 @@ fn read_at<A: Allocator, S: ByteSource>(
 ) -> Result<PackedPicture<A>, Fault>
     requires { place < length pictures.old }
     ensures len { length pictures.new ≡ length pictures.old }
+    ensures before { take place pictures.new ≡ take place pictures.old }
     ensures behind { drop (place + 1) pictures.new ≡ drop (place + 1) pictures.old }
     ensures shows { IfOk result
-        (λ p. FirstIs (λ s. SaysPicture (S.to_give s) p) (drop place pictures.old)) }
-    ensures says { IfOk result
-        (λ p. FirstSays S.to_give p.format (drop place pictures.old)) }
+        (λ p. FirstIs (λ s. SaysPicture (WasRead S.gave S.ended s) p)
+        (zip (drop place pictures.old) (drop place pictures.new))) }
+    ensures says { IfOk result (λ p. FirstSays (WasRead S.gave S.ended) p.format
+        (zip (drop place pictures.old) (drop place pictures.new))) }
     ensures refusal { IfErr result (λ f. OfRefusal f
-        (λ r. FirstIs (λ s. IsPictureRefusal (S.to_give s) r) (drop place pictures.old))) }
+        (λ r. FirstIs (λ s. IsPictureRefusal (WasRead S.gave S.ended s) r)
+        (zip (drop place pictures.old) (drop place pictures.new)))) }
     ensures failures { Accounts result (counts (sum_by S.failures pictures.old)
         (sum_by S.failures pictures.new) ∷ []) }
 {

@@ -1,4 +1,4 @@
-use Rattle.std.proofs.Common.{ℕ, ◌∙◌, Err, ap, refl, subst, sym}
+use Rattle.std.proofs.Common.{◌≡◌, ℕ, ◌++◌, ◌∙◌, Err, ap, refl, subst, sym, take}
 use Rattle.std.proofs.lemmas.Result.{err_from_is_err_and}
 use Rattle.run_outcome.proofs.Printed.{on_ok}
 use Rattle.run_outcome.proofs.Refusals.{if_none_refused, none_refused}
@@ -7,14 +7,18 @@ use Rattle.packet_plan.specs.Plan.{IsFullPlan}
 use Rattle.path_merge.specs.Frames.{State}
 use Rattle.st_format.specs.declared.format.Format.{Format}
 use Rattle.capture_engines.specs.Looped.{IsLoopRefusal}
-use Rattle.capture_engines.specs.Looping.{Came, Loops, Prints}
+use Rattle.packet_plan.specs.Text.{datagram_texts}
+use Rattle.st_format.specs.History.{IsRead}
+use Rattle.capture_engines.specs.Looping.{Came, Link, Loops, Prints, loop_stamp}
 use Rattle.capture_engines.proofs.Accounting.{accounts_last, blamed_second}
 use Rattle.capture_engines.proofs.LoopRefusals.{plan_refused}
 use Rattle.capture_engines.proofs.looping.loop_back.Goals as goal
 
 pub returns-in_err-plan-clause-refusal : goal.returns-in_err-plan-clause-refusal
 returns-in_err-plan-clause-refusal g c =
-    let told = g.S.ByteSource.to_give c.args.source.now in
+    let told = (IsRead (g.S.ByteSource.gave c.args.source.now)
+    (g.S.ByteSource.gave c.read_unpacked.new.source) (g.S.ByteSource.ended
+    c.read_unpacked.new.source)) in
     let picture = c.in_ok-picture.picture in
     let p = err_from_is_err_and c.from_residual-in_err-plan.result
     c.from_residual-in_err-plan.ensures.1 in
@@ -25,7 +29,9 @@ returns-in_err-plan-clause-refusal g c =
 pub returns-in_err-passed-clause-refusal : goal.returns-in_err-passed-clause-refusal
 returns-in_err-passed-clause-refusal g c =
     let Is = IsLoopRefusal c.args.wanted.max_octets
-    (g.S.ByteSource.to_give c.args.source.now) in
+    ((IsRead (g.S.ByteSource.gave c.args.source.now)
+    (g.S.ByteSource.gave c.read_unpacked.new.source) (g.S.ByteSource.ended
+    c.read_unpacked.new.source))) in
     let p = err_from_is_err_and c.from_residual-in_err-passed.result
     c.from_residual-in_err-passed.ensures.1 in
     rw (p.1, p.2) (none_refused Is c.in_err-passed.field-0.0 c.in_err-passed.ensures.unrefused)
@@ -45,24 +51,39 @@ returns-in_err-passed-clause-failures g c =
 
 pub returns-clause-refusal : goal.returns-clause-refusal
 returns-clause-refusal g c =
-    if_none_refused (IsLoopRefusal c.args.wanted.max_octets
-    (g.S.ByteSource.to_give c.args.source.now)) c.print_passed.result
+    if_none_refused (IsLoopRefusal c.args.wanted.max_octets (IsRead (g.S.ByteSource.gave
+    c.args.source.now)
+    (g.S.ByteSource.gave c.read_unpacked.new.source) (g.S.ByteSource.ended
+    c.read_unpacked.new.source))) c.print_passed.result
     c.print_passed.ensures.unrefused
 
 pub returns-clause-looped : goal.returns-clause-looped
 returns-clause-looped g c =
-    let given = g.S.ByteSource.to_give c.args.source.now in
-    let old = g.O.ByteSink.held c.args.output.now in
-    let new = g.O.ByteSink.held c.print_passed.new.output in
+    let given =
+    (IsRead (g.S.ByteSource.gave c.args.source.now)
+    (g.S.ByteSource.gave c.read_unpacked.new.source) (g.S.ByteSource.ended
+    c.read_unpacked.new.source)) in
+    let old = g.O.ByteSink.took c.args.output.now in
+    let new = g.O.ByteSink.took c.print_passed.new.output in
     let passed = c.in_ok-passed.passed in
     let plan = c.in_ok-plan.plan in
     let receiver : State = c.pass.new.receiver in
     let max = c.args.wanted.max_octets in
     let sent = c.in_ok-passed.ensures.sent in
-    let before = g.L.DatagramSource.delivered c.args.link.now in
-    let after = g.L.DatagramSource.delivered c.pass.new.link in
+    let before : Link =
+    record {
+      took = g.L.DatagramSink.took c.args.link.now;
+      came = g.L.DatagramSource.came c.args.link.now;
+      delivered = g.L.DatagramSource.delivered c.args.link.now;
+    } in
+    let after : Link =
+    record {
+      took = g.L.DatagramSink.took c.pass.new.link;
+      came = g.L.DatagramSource.came c.pass.new.link;
+      delivered = g.L.DatagramSource.delivered c.pass.new.link;
+    } in
     on_ok c.print_passed.result (Prints passed.sent passed.delivered receiver old new)
-    (Loops max c.args.wanted.limit before after given old new)
+    (Loops max c.args.wanted.limit given before after old new)
     (λ printed. record {
       picture = c.in_ok-picture.picture;
       packets = plan.packets;
@@ -74,9 +95,14 @@ returns-clause-looped g c =
           c.in_ok-plan.ensures.made.1
           (subst (λ (f : Format). IsFullPlan plan.packets f plan.max_octets)
           (c.in_ok-plan.ensures.made.0 ∙ c.format.ensures.value) c.in_ok-passed.ensures.plan);
+      put =
+          subst (λ (n : ℕ). after.took ≡ before.took
+          ++ take n (datagram_texts c.in_ok-picture.picture loop_stamp 0 plan.packets)) sent
+          c.in_ok-passed.ensures.put;
       opening = c.in_ok-passed.ensures.opening ∙ c.in_ok-receiver.ensures.opening;
       came =
-          subst (λ (n : ℕ). Came n passed.delivered receiver) sent c.in_ok-passed.ensures.came;
+          subst (λ (n : ℕ). Came n passed.delivered before.came after.came receiver) sent
+          c.in_ok-passed.ensures.came;
       counted = c.in_ok-passed.ensures.counted;
       printed =
           subst (λ (n : ℕ). Prints n passed.delivered receiver old new) sent printed;

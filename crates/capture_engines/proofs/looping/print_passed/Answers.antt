@@ -1,6 +1,5 @@
-use Rattle.std.proofs.Common.{ℕ, ◌++◌, Option, subst, sym}
-use Rattle.std.specs.Io.KnownBytes.{Appends}
-use Rattle.std.proofs.KnownBytes.{Appends-trans}
+use Rattle.std.proofs.Common.{◌≡◌, ℕ, ◌++◌, Option, subst, sym}
+use Rattle.media_file.proofs.Givings.{grew_twice}
 use Rattle.run_outcome.proofs.Printed.{on_ok}
 use Rattle.run_outcome.specs.Line.{line_text}
 use Rattle.run_outcome.specs.declared.line.Line.TheVariants.{Sent, Delivered, Frame}
@@ -11,17 +10,17 @@ use Rattle.capture_engines.proofs.looping.print_passed.Goals as goal
 
 pub returns-clause-printed : goal.returns-clause-printed
 returns-clause-printed g c =
-    let held = g.O.ByteSink.held in
-    let old = held c.args.output.now in
-    let first = held c.print.new.output in
-    let second = held c.print-2.new.output in
-    let new = held c.print-3.new.output in
+    let took = g.O.ByteSink.took in
+    let old = took c.args.output.now in
+    let first = took c.print.new.output in
+    let second = took c.print-2.new.output in
+    let new = took c.print-3.new.output in
     let sent = ended_line (line_text (Sent c.from.result)) in
     let delivered = ended_line (line_text (Delivered c.args.passed.delivered)) in
     let frame = ended_line (line_text (Frame 0 c.counts.result)) in
     let at_zero : Option Raster =
     frame_at c.args.receiver.now.opening.window c.args.receiver.now.frames 0 in
-    on_ok c.print-3.result (Appends second new frame)
+    on_ok c.print-3.result (new ≡ second ++ frame)
     (Prints c.args.passed.sent c.args.passed.delivered c.args.receiver.now old new)
     (λ last. record {
       frame = c.in-Some.frame.now;
@@ -30,9 +29,9 @@ returns-clause-printed g c =
       counted = c.counts.ensures.positions;
       printed =
           subst
-          (λ (n : ℕ). Appends old new (loop_text n c.args.passed.delivered c.counts.result))
+          (λ (n : ℕ). new ≡ old ++ loop_text n c.args.passed.delivered c.counts.result)
           c.from.ensures
-          (Appends-trans old first new sent (delivered ++ frame) c.in_ok-print.ensures.printed
-          (Appends-trans first second new delivered frame c.in_ok-print-2.ensures.printed last));
+          (grew_twice old first new sent (delivered ++ frame) c.in_ok-print.ensures.printed
+          (grew_twice first second new delivered frame c.in_ok-print-2.ensures.printed last));
     })
     c.print-3.ensures.printed

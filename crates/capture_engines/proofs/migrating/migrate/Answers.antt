@@ -1,5 +1,10 @@
+use Rattle.std.proofs.Common.{◌≡◌, ℕ, List, ◌∷◌, ◌++◌, []}
 use Rattle.std.proofs.lemmas.Result.{err_from_is_err_and}
-use Rattle.media_file.specs.Migrated.{Devices, devices}
+use Rattle.run_outcome.specs.Line.{line_text}
+use Rattle.run_outcome.specs.Text.{GivesText}
+use Rattle.run_outcome.specs.declared.line.Line.TheVariants.{Records}
+use Rattle.run_outcome.proofs.Printed.{on_ok}
+use Rattle.capture_engines.specs.Migrating.{Passed, Migrates, PrintsMigrated, passed}
 use Rattle.capture_engines.proofs.Leaving.{moved_left, printed_left, untouched}
 use Rattle.capture_engines.proofs.migrating.migrate.Goals as goal
 
@@ -16,21 +21,50 @@ returns-in_err-records-clause-left g c =
     err_from_is_err_and c.from_residual-in_err-records.result
     c.from_residual-in_err-records.ensures.1 in
     rw (p.1, p.2)
-    (moved_left c.in_err-records.field-0.0 _ _ _ _ _ c.in_ok-said.ensures.read
-    (rw c.deref.ensures.value at c.in_err-records.ensures.moved))
+    (moved_left c.in_err-records.field-0.0 c.in_ok-said.said.items _ _ _ _
+    c.in_ok-said.ensures.read (rw c.deref.ensures.value at c.in_err-records.ensures.moved))
 
 pub returns-clause-left : goal.returns-clause-left
 returns-clause-left g c =
-    let old : Devices =
-    devices (g.S.ByteSource.to_give c.args.source.now) (g.S.ByteSource.failures c.args.source.now)
-    (g.K.ByteSink.held c.args.sink.now) (g.K.ByteSink.failures c.args.sink.now) in
-    let new : Devices =
-    devices (g.S.ByteSource.to_give c.move_capture.new.source)
-    (g.S.ByteSource.failures c.move_capture.new.source)
-    (g.K.ByteSink.held c.move_capture.new.sink) (g.K.ByteSink.failures c.move_capture.new.sink) in
-    printed_left c.print.result _ _ old new (record {
+    let told = g.S.ByteSource in
+    let sink = g.K.ByteSink in
+    let sdp = g.D.ByteSource in
+    let old : Passed =
+    passed (told.gave c.args.source.now) (told.failures c.args.source.now)
+    (sink.took c.args.sink.now) (sink.failures c.args.sink.now) in
+    let new : Passed =
+    passed (told.gave c.move_capture.new.source) (told.failures c.move_capture.new.source)
+    (sink.took c.move_capture.new.sink) (sink.failures c.move_capture.new.sink) in
+    printed_left c.print.result
+    (GivesText 65535 (sdp.gave c.args.sdp.now) (sdp.gave c.read_checked.new.source)
+    (sdp.ended c.read_checked.new.source)) (told.ended c.move_capture.new.source) old new (record {
       text = c.in_ok-said.said.items;
       count = c.in_ok-records.records;
       read = c.in_ok-said.ensures.read;
       written = rw c.deref.ensures.value at c.in_ok-records.ensures.migrated;
     }) c.print.ensures.unrefused
+
+pub returns-clause-migrated : goal.returns-clause-migrated
+returns-clause-migrated g c =
+    let told = g.S.ByteSource in
+    let sink = g.K.ByteSink in
+    let sdp = g.D.ByteSource in
+    let shown = g.O.ByteSink.took c.args.output.now in
+    let shown' = g.O.ByteSink.took c.print.new.output in
+    on_ok c.print.result
+    (shown' ≡ shown ++ (line_text (Records c.in_ok-records.records) ++ 10 ∷ []))
+    (PrintsMigrated (GivesText 65535 (sdp.gave c.args.sdp.now)
+    (sdp.gave c.read_checked.new.source) (sdp.ended c.read_checked.new.source))
+    (told.gave c.args.source.now) (told.gave c.move_capture.new.source)
+    (told.ended c.move_capture.new.source) (sink.took c.args.sink.now)
+    (sink.took c.move_capture.new.sink) shown shown')
+    (λ printed. record {
+      migrated = record {
+        text = c.in_ok-said.said.items;
+        count = c.in_ok-records.records;
+        read = c.in_ok-said.ensures.read;
+        written = rw c.deref.ensures.value at c.in_ok-records.ensures.migrated;
+      };
+      printed = printed;
+    })
+    c.print.ensures.printed

@@ -1,5 +1,4 @@
-use Rattle.std.proofs.Common.{◌∙◌, refl}
-use Rattle.std.proofs.KnownBytes.{Appends-nil}
+use Rattle.std.proofs.Common.{append-nil, ◌∙◌, refl, sym}
 use Rattle.std.proofs.lemmas.Result.{err_from_is_err_and}
 use Rattle.capture_engines.specs.Printed.{refusal_line, refusals}
 use Rattle.capture_engines.proofs.Printed.{refusals_cut, refusals_more}
@@ -7,7 +6,7 @@ use Rattle.run_outcome.proofs.Printed.{texts_all}
 use Rattle.capture_engines.proofs.printing.print_refusals.Goals as goal
 
 pub loop-place-init : goal.loop-place-init
-loop-place-init g c = record { printed = Appends-nil _; failures = refl }
+loop-place-init g c = record { printed = sym (append-nil _); failures = refl }
 
 pub loop-place-preserved : goal.loop-place-preserved
 loop-place-preserved g c =

@@ -1,10 +1,9 @@
-use Rattle.std.proofs.Common.{List, ℕ, [], ◌∷◌, ◌++◌}
-use Rattle.std.specs.Io.KnownBytes.{Appends}
-use Rattle.std.proofs.KnownBytes.{Appends-trans}
+use Rattle.std.proofs.Common.{◌≡◌, List, ℕ, [], ◌∷◌, ◌++◌}
 use Rattle.run_outcome.specs.Line.{line_text}
 use Rattle.run_outcome.specs.Frames.{frame_lines}
 use Rattle.capture_engines.specs.Printed.{if_wanted, received_text, tally_text}
 use Rattle.run_outcome.specs.declared.line.Line.TheVariants.{Delivered}
+use Rattle.media_file.proofs.Givings.{grew_twice}
 use Rattle.run_outcome.proofs.Printed.{on_ok}
 use Rattle.capture_engines.proofs.receiving.print_intake.Goals as goal
 
@@ -14,13 +13,13 @@ returns-clause-printed g c =
     let first : List ℕ = line_text (Delivered s.delivered) ++ 10 ∷ [] in
     let counts : List ℕ = if_wanted c.args.tells_refusals (tally_text s.tally) in
     let frames : List ℕ = frame_lines s.receiver in
-    let old = g.O.ByteSink.held c.args.output.now in
-    let begun = g.O.ByteSink.held c.print.new.output in
-    let told = g.O.ByteSink.held c.print_wanted.new.output in
-    let new = g.O.ByteSink.held c.print_frames.new.output in
-    on_ok c.print_frames.result (Appends told new frames)
-    (Appends old new
-    (received_text c.args.tells_refusals s.delivered (tally_text s.tally) s.receiver))
-    (λ last. Appends-trans old begun new first (counts ++ frames) c.in_ok-print.ensures.printed
-    (Appends-trans begun told new counts frames c.in_ok-print_wanted.ensures.printed last))
+    let old = g.O.ByteSink.took c.args.output.now in
+    let begun = g.O.ByteSink.took c.print.new.output in
+    let told = g.O.ByteSink.took c.print_wanted.new.output in
+    let new = g.O.ByteSink.took c.print_frames.new.output in
+    on_ok c.print_frames.result (new ≡ told ++ frames)
+    (new ≡ old
+    ++ received_text c.args.tells_refusals s.delivered (tally_text s.tally) s.receiver)
+    (λ last. grew_twice old begun new first (counts ++ frames) c.in_ok-print.ensures.printed
+    (grew_twice begun told new counts frames c.in_ok-print_wanted.ensures.printed last))
     c.print_frames.ensures.printed

@@ -1,10 +1,11 @@
-use Rattle.std.proofs.Common.{inr}
+use Rattle.std.proofs.Common.{◌≡◌, ◌++◌, ap, inr, Option}
 use Rattle.std.proofs.lemmas.Result.{err_from_is_err_and}
-use Rattle.std.specs.Io.KnownBytes.{Appends}
+use Rattle.run_outcome.specs.Moments.{WasRead, pair}
 use Rattle.media_file.specs.StateFile.{state_text}
 use Rattle.receiver_file.specs.Saved.{kept_of}
 use Rattle.capture_engines.specs.Receiving.{SavesShown}
 use Rattle.capture_engines.specs.Taking.{Receives}
+use Rattle.std.specs.List.{zip}
 use Rattle.run_outcome.proofs.Printed.{on_ok}
 use Rattle.capture_engines.proofs.ReceivedRefusals.{captures_refused}
 use Rattle.run_outcome.proofs.Refusals.{of_refusal_map}
@@ -13,12 +14,12 @@ use Rattle.capture_engines.proofs.receiving.receive.Goals as goal
 
 pub returns-clause-saved : goal.returns-clause-saved
 returns-clause-saved g c =
-    let old = g.K.ByteSink.held c.args.state.now in
-    let new = g.K.ByteSink.held c.save.new.state in
+    let old = g.K.ByteSink.took c.args.state.now in
+    let new = g.K.ByteSink.took c.save.new.state in
     let intake = c.in_ok-intake.intake in
-    on_ok c.save.result (Appends old new (state_text (kept_of intake.receiver)))
-    (SavesShown c.args.wanted.tells_refusals (g.O.ByteSink.held c.args.output.now)
-    (g.O.ByteSink.held c.print_intake.new.output) old new)
+    on_ok c.save.result (new ≡ old ++ state_text (kept_of intake.receiver))
+    (SavesShown c.args.wanted.tells_refusals (g.O.ByteSink.took c.args.output.now)
+    (g.O.ByteSink.took c.print_intake.new.output) old new)
     (λ taken. record {
       receiver = intake.receiver;
       delivered = intake.delivered;
@@ -31,19 +32,21 @@ returns-clause-saved g c =
 
 pub returns-clause-taken : goal.returns-clause-taken
 returns-clause-taken g c =
-    let to_give = g.S.ByteSource.to_give in
+    let told = g.S.ByteSource in
+    let read = WasRead told.gave told.ended in
+    let sdp = pair c.args.sdp.now c.begin.new.sdp in
     let window = c.args.wanted.window.now in
     let source = c.args.wanted.ssrc.now in
-    let captures = c.args.captures.now in
-    let shown = g.O.ByteSink.held c.args.output.now in
-    let shown' = g.O.ByteSink.held c.print_intake.new.output in
-    let old = g.K.ByteSink.held c.args.state.now in
-    let new = g.K.ByteSink.held c.save.new.state in
+    let captures = zip c.args.captures.now c.take_captures.new.captures in
+    let shown = g.O.ByteSink.took c.args.output.now in
+    let shown' = g.O.ByteSink.took c.print_intake.new.output in
+    let old = g.K.ByteSink.took c.args.state.now in
+    let new = g.K.ByteSink.took c.save.new.state in
     let intake = c.in_ok-intake.intake in
-    on_ok c.save.result (Appends old new (state_text (kept_of intake.receiver)))
-    (Receives window source c.args.sdp.now to_give captures c.args.wanted.tells_refusals shown
+    on_ok c.save.result (new ≡ old ++ state_text (kept_of intake.receiver))
+    (Receives window source sdp read captures c.args.wanted.tells_refusals shown
     shown' old new)
-    (receives c.in_ok-opening.opening window source c.args.sdp.now to_give captures
+    (receives c.in_ok-opening.opening window source sdp read captures
     c.in_ok-begun.begun intake c.args.wanted.tells_refusals shown shown' old new
     c.in_ok-opening.ensures.window c.in_ok-opening.ensures.source c.in_ok-begun.ensures.begun
     c.in_ok-intake.ensures.taken c.in_ok-print_intake.ensures.printed)
@@ -51,6 +54,7 @@ returns-clause-taken g c =
 
 pub returns-in_err-intake-clause-refusal : goal.returns-in_err-intake-clause-refusal
 returns-in_err-intake-clause-refusal g c =
+    let told = g.S.ByteSource in
     let window = c.in_ok-opening.opening.window.items in
     let p = err_from_is_err_and c.from_residual-in_err-intake.result
     c.from_residual-in_err-intake.ensures.1 in
@@ -59,7 +63,9 @@ returns-in_err-intake-clause-refusal g c =
       window,
       c.in_ok-opening.ensures.window,
       inr (captures_refused window
-          c.in_ok-begun.begun c.args.sdp.now g.S.ByteSource.to_give c.args.captures.now
-          c.in_ok-begun.ensures.none r is),
+          c.in_ok-begun.begun (pair c.args.sdp.now c.begin.new.sdp) (WasRead told.gave told.ended)
+          (zip c.args.captures.now c.take_captures.new.captures)
+          (λ none. ap (λ (s : Option _). pair s c.begin.new.sdp) (c.in_ok-begun.ensures.none none))
+          r is),
     ))
     c.in_err-intake.ensures.refusal)

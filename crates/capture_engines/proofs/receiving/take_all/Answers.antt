@@ -1,6 +1,8 @@
 use Rattle.std.proofs.Common.{ap, arith, drop, drop-drop, inl, inr, refl, sym, ◌∙◌}
 use Rattle.std.proofs.lemmas.Result.{err_from_is_err_and}
-use Rattle.capture_engines.proofs.InOrder.{all_taken, none_so_far, one_more}
+use Rattle.std.specs.List.{zip}
+use Rattle.run_outcome.specs.Moments.{WasRead}
+use Rattle.capture_engines.proofs.InOrder.{all_taken, more_taken, none_taken, pairs_left}
 use Rattle.capture_engines.proofs.ReceivedRefusals.{next_refuses, none_started}
 use Rattle.run_outcome.proofs.Refusals.{of_refusal_map}
 use Rattle.capture_engines.proofs.receiving.take_all.Goals as goal
@@ -11,7 +13,7 @@ loop-place-init g c = record {
   behind = refl;
   failures = refl;
   begun = inl (refl, refl);
-  taken = none_so_far c.args.opening.now g.S.ByteSource.to_give c.args.captures.now
+  taken = none_taken c.args.opening.now (WasRead g.S.ByteSource.gave g.S.ByteSource.ended)
       c.args.begun.now;
 }
 
@@ -25,18 +27,22 @@ loop-place-preserved g c =
           ∙ ap (drop 1) l.invariant.behind ∙ drop-drop 1 l.place c.args.captures.now;
       failures = at.failures ∙ l.invariant.failures;
       begun = inr at.begun;
-      taken = one_more c.args.opening.now g.S.ByteSource.to_give l.place c.args.captures.now
-          (drop l.place l.captures) c.args.begun.now l.begun c.take_at.new.begun l.invariant.taken
-          l.invariant.behind at.taken;
+      taken = more_taken c.args.opening.now (WasRead g.S.ByteSource.gave g.S.ByteSource.ended)
+          c.args.captures.now l.captures c.take_at.new.captures l.place c.args.begun.now l.begun
+          c.take_at.new.begun l.invariant.taken at.front l.invariant.behind at.taken;
     }
 
 pub returns-in_err-take_at-clause-refusal : goal.returns-in_err-take_at-clause-refusal
 returns-in_err-take_at-clause-refusal g c =
     let l = c.loop-place in
+    let now = c.take_at.new.captures in
     let p = err_from_is_err_and c.from_residual.result c.from_residual.ensures.1 in
     rw (p.1, p.2) (of_refusal_map c.in_err-take_at.field-0.0
-    (next_refuses c.args.opening.now.window.items g.S.ByteSource.to_give l.place
-    c.args.captures.now (drop l.place l.captures) c.args.begun.now l.begun l.invariant.behind
+    (next_refuses c.args.opening.now.window.items
+    (WasRead g.S.ByteSource.gave g.S.ByteSource.ended) l.place
+    (zip c.args.captures.now now) (zip (drop l.place l.captures) (drop l.place now))
+    c.args.begun.now l.begun (pairs_left l.place c.args.captures.now l.captures now
+    l.invariant.behind)
     l.invariant.begun)
     c.in_err-take_at.ensures.refusal)
 
@@ -48,5 +54,6 @@ returns-clause-none g c = λ none.
 pub returns-clause-taken : goal.returns-clause-taken
 returns-clause-taken g c =
     let l = c.loop-place in
-    all_taken c.args.opening.now g.S.ByteSource.to_give l.place c.args.captures.now
-    c.args.begun.now l.begun l.invariant.taken (omega (arith, l.invariant.len))
+    all_taken c.args.opening.now (WasRead g.S.ByteSource.gave g.S.ByteSource.ended)
+    c.args.captures.now l.captures l.place c.args.begun.now l.begun l.invariant.taken
+    (omega (arith, l.invariant.len)) l.invariant.len

@@ -1,6 +1,8 @@
-use Rattle.std.proofs.Common.{◌≡◌, drop, length}
+use Rattle.std.proofs.Common.{◌≡◌, drop, length, take}
 use Rattle.std.specs.List.{sum_by}
-use Rattle.capture_engines.proofs.InOrder.{SoFar}
+use Rattle.run_outcome.specs.Moments.{WasRead}
+use Rattle.capture_engines.specs.Taking.{TakesFiles}
+use Rattle.std.specs.List.{zip}
 use Rattle.capture_engines.proofs.ReceivedRefusals.{HasStarted}
 use Rattle.capture_engines.proofs.receiving.take_all.Given as goal
 
@@ -11,6 +13,6 @@ invariant-loop-place g l = record {
   failures : sum_by g.S.ByteSource.failures l.captures ≡ sum_by g.S.ByteSource.failures
       l.initial.captures;
   begun : HasStarted l.place l.initial.begun l.begun;
-  taken : SoFar l.fn.opening g.S.ByteSource.to_give l.place l.initial.captures l.initial.begun
-      l.begun;
+  taken : TakesFiles l.fn.opening (WasRead g.S.ByteSource.gave g.S.ByteSource.ended)
+      (zip (take l.place l.initial.captures) (take l.place l.captures)) l.initial.begun l.begun;
 }

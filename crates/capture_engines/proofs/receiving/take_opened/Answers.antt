@@ -2,12 +2,13 @@ use Rattle.std.proofs.lemmas.Result.{err_from_is_err_and}
 use Rattle.capture_engines.proofs.ReceivedRefusals.{records_refused, text_refused}
 use Rattle.run_outcome.proofs.Refusals.{if_err_map, of_refusal_map}
 use Rattle.capture_engines.proofs.Taken.{file_taken_if, first_taken_if, none_begun}
+use Rattle.st_format.proofs.Histories.{grew_none}
 use Rattle.capture_engines.proofs.receiving.take_opened.Goals as goal
 
 pub returns-in-Some-clause-taken : goal.returns-in-Some-clause-taken
 returns-in-Some-clause-taken g c =
     file_taken_if c.args.opening.now c.args.begun.now _ _
-    (g.S.ByteSource.to_give c.args.reader.now.source) c.args.text.now c.take_capture.result
+    _ c.args.text.now c.take_capture.result
     c.in-Some.is c.take_capture.ensures.taken
 
 pub returns-in-Some-clause-refusal : goal.returns-in-Some-clause-refusal
@@ -15,7 +16,7 @@ returns-in-Some-clause-refusal g c =
     if_err_map c.take_capture.result
     (λ e. of_refusal_map e
     (records_refused c.args.opening.now.window.items c.args.begun.now
-    (g.S.ByteSource.to_give c.args.reader.now.source) c.args.text.now))
+    _ c.args.text.now))
     c.take_capture.ensures.refusal
 
 pub returns-in_err-intake-clause-refusal : goal.returns-in_err-intake-clause-refusal
@@ -23,14 +24,14 @@ returns-in_err-intake-clause-refusal g c =
     let p = err_from_is_err_and c.from_residual.result c.from_residual.ensures.1 in
     rw (p.1, p.2) (of_refusal_map c.in_err-intake.field-0.0
     (text_refused c.args.opening.now.window.items c.args.begun.now
-    (g.S.ByteSource.to_give c.args.reader.now.source) c.args.text.now
+    _ c.args.text.now
     (none_begun c.args.begun.now c.in_default.not-Some))
     c.in_err-intake.ensures.refusal)
 
 pub returns-clause-taken : goal.returns-clause-taken
 returns-clause-taken g c =
     first_taken_if c.args.opening.now c.args.begun.now _ _
-    (g.S.ByteSource.to_give c.args.reader.now.source) c.args.text.now
+    _ c.args.text.now
     c.take_capture-taken.result (none_begun c.args.begun.now c.in_default.not-Some)
     c.in_ok-intake.ensures.opened c.take_capture-taken.ensures.taken
 
@@ -39,5 +40,8 @@ returns-clause-refusal g c =
     if_err_map c.take_capture-taken.result
     (λ e. of_refusal_map e
     (records_refused c.args.opening.now.window.items c.args.begun.now
-    (g.S.ByteSource.to_give c.args.reader.now.source) c.args.text.now))
+    _ c.args.text.now))
     c.take_capture-taken.ensures.refusal
+
+pub returns-in_err-intake-clause-grown : goal.returns-in_err-intake-clause-grown
+returns-in_err-intake-clause-grown g c = grew_none (g.S.ByteSource.gave c.args.reader.now.source)

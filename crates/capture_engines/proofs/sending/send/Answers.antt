@@ -1,13 +1,18 @@
 use Rattle.std.proofs.Common.{List, subst, sym, ℕ}
+use Rattle.run_outcome.proofs.Printed.{on_ok}
 use Rattle.capture_engines.specs.Sending.{SaysSdp}
-use Rattle.capture_engines.proofs.Sendings.{on_any}
 use Rattle.capture_engines.proofs.sending.send.Goals as goal
 
 pub returns-clause-sent : goal.returns-clause-sent
-returns-clause-sent g c = on_any c.print.result _ (record {
-  text = c.deref.result.now;
-  says =
-      subst (λ (l : List ℕ). SaysSdp g.S.ByteSource.to_give c.args.sdp.now l)
-      (sym c.deref.ensures.value) c.in_ok-said.ensures.says;
-  pictures = c.in_ok-sent.ensures.sent;
-})
+returns-clause-sent g c =
+    on_ok c.print.result _ _
+    (λ printed. record {
+      text = c.deref.result.now;
+      says =
+          subst (λ (l : List ℕ). SaysSdp g.S.ByteSource.gave g.S.ByteSource.ended
+          c.args.sdp.now c.read_said.new.sdp l)
+          (sym c.deref.ensures.value) c.in_ok-said.ensures.says;
+      count = c.in_ok-sent.sent;
+      pictures = c.in_ok-sent.ensures.sent;
+      line = printed;
+    }) c.print.ensures.printed

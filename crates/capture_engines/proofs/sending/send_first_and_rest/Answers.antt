@@ -1,22 +1,25 @@
 use Rattle.std.proofs.Common.{rules, ap, arith, drop, inr, sym, ◌∙◌, length-drop}
+use Rattle.run_outcome.specs.Moments.{WasRead}
 use Rattle.run_outcome.proofs.SetSums.{counted_behind}
-use Rattle.run_outcome.proofs.Printed.{on_ok}
-use Rattle.capture_engines.proofs.Sendings.{first_and_rest_sent, first_sent, open_failed}
+use Rattle.capture_engines.proofs.Sendings.{first_and_rest_sent, first_sent, if_ok_both}
+use Rattle.capture_engines.proofs.Sendings.{open_failed}
 use Rattle.capture_engines.proofs.sending.send_first_and_rest.Goals as goal
 
 pub returns-clause-sent : goal.returns-clause-sent
 returns-clause-sent g c =
     let pictures = c.args.pictures.now in
-    on_ok c.send_each-sent.result _ _
-    (λ each. first_and_rest_sent g.S.ByteSource.to_give (λ m. g.K.ByteSink.held m.now)
-    c.args.wanted c.args.said.now c.args.picture (drop 1 pictures)
-    (g.K.ByteSink.held c.args.sink.now) _ each.between c.send_each-sent.new.sender
+    if_ok_both c.send_each-sent.result _ _ _
+    (λ n each count. first_and_rest_sent (WasRead g.S.ByteSource.gave g.S.ByteSource.ended)
+    (λ m. g.K.ByteSink.took m.now)
+    c.args.wanted c.args.said.now c.args.picture (drop 1 pictures) _
+    (g.K.ByteSink.took c.args.sink.now) _ n each.between c.send_each-sent.new.sender
     (omega (arith, length-drop 1 pictures))
-    (first_sent (λ m. g.K.ByteSink.held m.now) c.args.wanted c.args.said.now
-    (g.K.ByteSink.held c.args.sink.now) c.args.picture c.in-Ok.writer c.new-sender.result
-    each.between c.in-Ok.ensures.place c.in-Ok.ensures.ok c.new-sender.ensures.writer
-    c.new-sender.ensures.wanted c.new-sender.ensures.next each.sent)
-    each.rest (search rules)) c.send_each-sent.ensures.sent
+    (first_sent (λ m. g.K.ByteSink.took m.now) c.args.wanted c.args.said.now
+    (g.K.ByteSink.took c.args.sink.now) c.args.picture c.in-Ok.writer c.new-sender.result
+    each.between c.in-Ok.ensures.place c.in-Ok.ensures.took c.new-sender.ensures.writer
+    c.new-sender.ensures.wanted c.new-sender.ensures.next c.new-sender.ensures.sent each.sent)
+    each.rest (search rules) count) c.send_each-sent.ensures.sent
+    c.send_each-sent.ensures.count
 
 pub returns-clause-failures : goal.returns-clause-failures
 returns-clause-failures g c =

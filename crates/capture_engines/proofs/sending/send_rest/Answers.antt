@@ -1,32 +1,34 @@
 use Rattle.std.proofs.Common.{ap, arith, drop, drop-drop, refl, sym, ◌∙◌}
 use Rattle.std.proofs.lemmas.Result.{err_from_is_err_and}
+use Rattle.run_outcome.specs.Moments.{WasRead}
 use Rattle.run_outcome.proofs.Refusals.{of_refusal_map}
+use Rattle.capture_engines.proofs.OneOf.{front_stays}
 use Rattle.capture_engines.proofs.SentRefusals.{next_refused, other_refused}
 use Rattle.capture_engines.proofs.Sendings.{more_so_far, none_so_far, rest_sent}
 use Rattle.capture_engines.proofs.sending.send_rest.Goals as goal
 
 pub returns-in_err-picture-clause-refusal : goal.returns-in_err-picture-clause-refusal
 returns-in_err-picture-clause-refusal g c =
-    let f = g.S.ByteSource.to_give in
+    let told = WasRead g.S.ByteSource.gave g.S.ByteSource.ended in
     let start = c.args.pictures.now in
     let now = c.loop-place.pictures in
     let p = err_from_is_err_and c.from_residual.result c.from_residual.ensures.1 in
     rw (p.1, p.2) (of_refusal_map c.in_err-picture.field-0.0
-    (next_refused c.args.sender.now.plan.format f c.loop-place.place start now
+    (next_refused c.args.sender.now.plan.format told c.loop-place.place start now _
     (omega (arith, c.loop-place.auto.place)) c.loop-place.invariant.behind)
     c.in_err-picture.ensures.refusal)
 
 pub returns-in_err-send-clause-refusal : goal.returns-in_err-send-clause-refusal
 returns-in_err-send-clause-refusal g c =
-    let f = g.S.ByteSource.to_give in
+    let told = WasRead g.S.ByteSource.gave g.S.ByteSource.ended in
     let start = c.args.pictures.now in
     let now = c.loop-place.pictures in
     let other = c.in_ok-picture.picture.format in
     let p = err_from_is_err_and c.from_residual-in_err-send.result
     c.from_residual-in_err-send.ensures.1 in
     rw (p.1, p.2) (of_refusal_map c.in_err-send.field-0.0
-    (other_refused c.args.sender.now.plan.format c.loop-place.sender.plan.format other f
-    c.loop-place.place start now (omega (arith, c.loop-place.auto.place))
+    (other_refused c.args.sender.now.plan.format c.loop-place.sender.plan.format other told
+    c.loop-place.place start now _ (omega (arith, c.loop-place.auto.place))
     c.loop-place.invariant.behind
     (ap (λ x. x.format) c.loop-place.invariant.plan) c.in_ok-picture.ensures.says)
     c.in_err-send.ensures.refusal)
@@ -38,11 +40,12 @@ loop-place-init g c = record {
   stands = c.requires.stands;
   plan = refl;
   behind = refl;
+  front = refl;
   pictures = refl;
   sink = refl;
   names = refl;
-  sent = none_so_far g.S.ByteSource.to_give g.K.ByteSink.held c.args.pictures.now
-      c.args.sender.now;
+  sent = none_so_far (WasRead g.S.ByteSource.gave g.S.ByteSource.ended) g.K.ByteSink.took
+      c.args.pictures.now c.args.sender.now;
 }
 
 pub loop-place-preserved : goal.loop-place-preserved
@@ -55,17 +58,33 @@ loop-place-preserved g c =
       plan = c.in_ok-send.ensures.plan ∙ l.invariant.plan;
       behind = c.in_ok-picture.ensures.behind ∙ sym (drop-drop 1 l.place l.pictures)
           ∙ ap (drop 1) l.invariant.behind ∙ drop-drop 1 l.place c.args.pictures.now;
+      front = front_stays l.place c.args.pictures.now l.pictures _
+          (omega (arith, l.auto.place)) c.in_ok-picture.ensures.before l.invariant.front;
       pictures = c.in_ok-picture.ensures.failures ∙ l.invariant.pictures;
       sink = c.in_ok-send.ensures.failures ∙ l.invariant.sink;
       names = c.in_ok-send.ensures.names ∙ l.invariant.names;
-      sent = more_so_far g.S.ByteSource.to_give g.K.ByteSink.held l.place c.args.pictures.now
-          (drop l.place l.pictures) c.in_ok-picture.picture c.args.sender.now l.sender
-          c.send.new.self l.invariant.sent l.invariant.behind c.in_ok-picture.ensures.shows
+      sent = more_so_far (WasRead g.S.ByteSource.gave g.S.ByteSource.ended) g.K.ByteSink.took
+          l.place c.args.pictures.now l.pictures _ c.in_ok-picture.picture c.args.sender.now
+          l.sender c.send.new.self l.invariant.sent l.invariant.behind
+          c.in_ok-picture.ensures.before c.in_ok-picture.ensures.shows
           c.in_ok-send.ensures.sent;
     }
 
 pub returns-clause-sent : goal.returns-clause-sent
 returns-clause-sent g c =
     let l = c.loop-place in
-    rest_sent g.S.ByteSource.to_give g.K.ByteSink.held l.place c.args.pictures.now
-    c.args.sender.now l.sender l.invariant.sent (omega (arith, l.invariant.len))
+    rest_sent (WasRead g.S.ByteSource.gave g.S.ByteSource.ended) g.K.ByteSink.took l.place
+    c.args.pictures.now l.pictures c.args.sender.now l.sender l.invariant.sent
+    (omega (arith, l.invariant.len)) (omega (arith, l.invariant.len))
+
+pub returns-in_err-picture-clause-front : goal.returns-in_err-picture-clause-front
+returns-in_err-picture-clause-front g c =
+    let l = c.loop-place in
+    front_stays l.place c.args.pictures.now l.pictures _ (omega (arith, l.auto.place))
+    c.in_err-picture.ensures.before l.invariant.front
+
+pub returns-in_err-send-clause-front : goal.returns-in_err-send-clause-front
+returns-in_err-send-clause-front g c =
+    let l = c.loop-place in
+    front_stays l.place c.args.pictures.now l.pictures _ (omega (arith, l.auto.place))
+    c.in_ok-picture.ensures.before l.invariant.front

@@ -10,29 +10,33 @@ use Rattle.capture_engines.proofs.sender.Sender.send.Goals as goal
 
 pub returns-in_default-clause-failures : goal.returns-in_default-clause-failures
 returns-in_default-clause-failures g c =
-    fails_picture g.K.ByteSink.held g.K.ByteSink.failures g.K.ByteSink.names c.args.picture.now
+    fails_picture g.K.ByteSink.held g.K.ByteSink.took g.K.ByteSink.failures
+    g.K.ByteSink.names c.args.picture.now
     c.stamp-stamp.result c.args.self.now.plan _ c.args.self.now.writer c.send_frame.new.sink
     c.requires.stands c.in_default.ensures.puts_part
 
 pub returns-in_default-clause-names : goal.returns-in_default-clause-names
 returns-in_default-clause-names g c =
     let part = c.in_default.ensures.puts_part in
-    fails_lent g.K.ByteSink.held g.K.ByteSink.failures g.K.ByteSink.names c.args.self.now.writer
+    fails_lent g.K.ByteSink.held g.K.ByteSink.took g.K.ByteSink.failures
+    g.K.ByteSink.names c.args.self.now.writer
     part.datagrams _ c.send_frame.new.sink part.failed
 
 pub returns-clause-sent : goal.returns-clause-sent
 returns-clause-sent g c = record {
   format = search rules;
   written =
-      subst (λ (s : Stamp). WritesPicture g.K.ByteSink.held c.args.picture.now s
+      subst (λ (s : Stamp). WritesPicture g.K.ByteSink.took c.args.picture.now s
       c.args.self.now.plan c.args.self.now.writer c.send_frame.new.sink)
       (c.stamp-stamp.ensures.value
       ∙ ap (λ (f : Format). stamp_of (run_sender f c.args.self.now.wanted) c.args.place
       c.args.self.now.next) c.format-format.ensures)
-      (writes_picture g.K.ByteSink.held g.K.ByteSink.failures g.K.ByteSink.names
+      (writes_picture g.K.ByteSink.held g.K.ByteSink.took g.K.ByteSink.failures
+      g.K.ByteSink.names
       c.args.picture.now c.stamp-stamp.result c.args.self.now.plan c.args.self.now.writer
       c.send_frame.new.sink c.in-Ok.ensures.puts);
   next = search rules;
+  count = search rules;
   plan = refl;
   wanted = refl;
 }
@@ -40,17 +44,20 @@ returns-clause-sent g c = record {
 pub returns-clause-stands : goal.returns-clause-stands
 returns-clause-stands g c =
     let puts = c.in-Ok.ensures.puts in
-    each_stands g.K.ByteSink.held g.K.ByteSink.failures g.K.ByteSink.names
+    each_stands g.K.ByteSink.held g.K.ByteSink.took g.K.ByteSink.failures
+    g.K.ByteSink.names
     c.args.self.now.writer puts.datagrams c.send_frame.new.sink puts.taken ∙ c.requires.stands
 
 pub returns-clause-failures : goal.returns-clause-failures
 returns-clause-failures g c =
     let puts = c.in-Ok.ensures.puts in
-    each_faultless g.K.ByteSink.held g.K.ByteSink.failures g.K.ByteSink.names
+    each_faultless g.K.ByteSink.held g.K.ByteSink.took g.K.ByteSink.failures
+    g.K.ByteSink.names
     c.args.self.now.writer puts.datagrams c.send_frame.new.sink puts.taken
 
 pub returns-clause-names : goal.returns-clause-names
 returns-clause-names g c =
     let puts = c.in-Ok.ensures.puts in
-    each_lent g.K.ByteSink.held g.K.ByteSink.failures g.K.ByteSink.names
+    each_lent g.K.ByteSink.held g.K.ByteSink.took g.K.ByteSink.failures
+    g.K.ByteSink.names
     c.args.self.now.writer puts.datagrams c.send_frame.new.sink puts.taken
