@@ -1,10 +1,15 @@
 -- Refusals of files.
 use Rattle.std.proofs.Common.{◌≡◌, ℕ, ◌<◌, zero, suc, List, [], ◌∷◌, length, take, get_or}
-use Rattle.std.proofs.Common.{Option, refl, arith, sym, ◌∙◌}
+use Rattle.std.proofs.Common.{ap, arith, refl, subst, sym, ◌∙◌}
+use Rattle.run_outcome.specs.Moments.{WasRead}
+use Rattle.std.specs.List.{zip}
 use Rattle.run_outcome.specs.Refusing.{OfRefusal}
 use Rattle.run_outcome.specs.declared.fault.Fault.{Fault}
 use Rattle.path_merge.specs.Frames.{State}
 use Rattle.receiver_engines.specs.Reading.{SayReceivers}
+use Rattle.receiver_engines.specs.Merging.{SaysReceiver}
+use Rattle.receiver_engines.specs.States.{IsStateRefusal}
+use Rattle.st_format.specs.History.{IsRead}
 use Rattle.receiver_engines.specs.Refused.{IsReceiversRefusal, IsRefusedAt}
 use Rattle.run_outcome.proofs.Refusals.{of_refusal_map}
 
@@ -15,21 +20,91 @@ same_at [] k d e some = absurd (omega (arith, some))
 same_at (x ∷ xs) zero d e some = refl
 same_at (x ∷ xs) (suc k) d e some = same_at xs k d e (omega (arith, some))
 
+-- what stands at a place of two lists
+pub zip_at : {S : Type 0} (old now : List S) (k : ℕ) (d : S × S) → length now ≡ length old
+    → k < length old → get_or (zip old now) k d ≡ (get_or old k d.0, get_or now k d.1)
+zip_at [] now k d same some = absurd (omega (arith, some))
+zip_at (s ∷ old) [] k d same some = absurd (omega (arith, same))
+zip_at (s ∷ old) (t ∷ now) zero d same some = refl
+zip_at (s ∷ old) (t ∷ now) (suc k) d same some =
+    zip_at old now k d (omega (arith, same)) (omega (arith, some))
+
+pub zip_length : {S : Type 0} (old now : List S) → length now ≡ length old
+    → length (zip old now) ≡ length old
+zip_length [] now same = refl
+zip_length (s ∷ old) [] same = absurd (omega (arith, same))
+zip_length (s ∷ old) (t ∷ now) same =
+    ap suc (zip_length old now (omega (arith, same)))
+
+-- before a place nothing changed
+pub zip_before : {S : Type 0} (old now new : List S) (place : ℕ) → length now ≡ length old
+    → length new ≡ length old → ((k : ℕ) (s : S) → k < place → get_or new k s ≡ get_or now k s)
+    → take place (zip old new) ≡ take place (zip old now)
+zip_before [] now new zero a b same = refl
+zip_before [] now new (suc place) a b same = refl
+zip_before (s ∷ old) [] new place a b same = absurd (omega (arith, a))
+zip_before (s ∷ old) (t ∷ now) [] place a b same = absurd (omega (arith, b))
+zip_before (s ∷ old) (t ∷ now) (u ∷ new) zero a b same = refl
+zip_before {S} (s ∷ old) (t ∷ now) (u ∷ new) (suc place) a b same =
+    ap (λ (x : S). (s, x) ∷ take place (zip old new)) (same 0 s (omega arith))
+    ∙ ap (λ (l : List (S × S)). (s, t) ∷ l)
+    (zip_before old now new place (omega (arith, a)) (omega (arith, b))
+    (λ k d lt. same (suc k) d (omega (arith, lt))))
+
+-- what was read of the source at a place, whatever stands for none
+pub one_said : {S : Type 0} (gave : S → List ℕ) (ended : S → Type 0) (first mid last : List S)
+    (place : ℕ) (d : S × S) (r : State) → length last ≡ length first → place < length first
+    → ((s : S) → get_or mid place s ≡ get_or first place s)
+    → ((s : S) → SaysReceiver (IsRead (gave (get_or mid place s)) (gave (get_or last place s))
+    (ended (get_or last place s))) r)
+    → SaysReceiver (WasRead gave ended (get_or (zip first last) place d)) r
+one_said gave ended first mid last place d r len within same says =
+    let some : place < length last = omega (arith, len, within) in
+    let now : get_or last place d.0 ≡ get_or last place d.1 = same_at last place d.0 d.1 some in
+    subst (λ p. SaysReceiver (WasRead gave ended p) r)
+    (sym (zip_at first last place d len within))
+    (subst (λ t. SaysReceiver (IsRead (gave (get_or first place d.0)) (gave t) (ended t)) r) now
+    (subst (λ s. SaysReceiver (IsRead (gave s) (gave (get_or last place d.0))
+    (ended (get_or last place d.0))) r) (same d.0) (says d.0)))
+
+refused_by : {S : Type 0} (gave : S → List ℕ) (ended : S → Type 0) (first mid last : List S)
+    (place : ℕ) (d : S) (f : Fault) → length last ≡ length first → place < length first
+    → ((s : S) → get_or mid place s ≡ get_or first place s)
+    → ((s : S) → OfRefusal f (IsStateRefusal (IsRead (gave (get_or mid place s))
+    (gave (get_or last place s)) (ended (get_or last place s)))))
+    → OfRefusal f (IsRefusedAt (WasRead gave ended) (zip first last) place)
+refused_by gave ended first mid last place d f len within same is =
+    let some : place < length last = omega (arith, len, within) in
+    of_refusal_map f (λ r refused. record {
+      source = (get_or first place d, get_or last place d);
+      at = λ s. zip_at first last place s len within
+          ∙ ap (λ x. (x, get_or last place s.1)) (same_at first place s.0 d within)
+          ∙ ap (λ x. (get_or first place d, x)) (same_at last place s.1 d some);
+      refused =
+          subst (λ x. IsStateRefusal (IsRead (gave x) (gave (get_or last place d))
+          (ended (get_or last place d))) r) (same d) refused;
+    }) (is d)
+
+pub refused_at : {S : Type 0} (gave : S → List ℕ) (ended : S → Type 0) (first mid last : List S)
+    (place : ℕ) (f : Fault) → length last ≡ length first → place < length first
+    → ((s : S) → get_or mid place s ≡ get_or first place s)
+    → ((s : S) → OfRefusal f (IsStateRefusal (IsRead (gave (get_or mid place s))
+    (gave (get_or last place s)) (ended (get_or last place s)))))
+    → OfRefusal f (IsRefusedAt (WasRead gave ended) (zip first last) place)
+refused_at gave ended [] mid last place f len within same is = absurd (omega (arith, within))
+refused_at gave ended (x ∷ xs) mid last place f len within same is =
+    refused_by gave ended (x ∷ xs) mid last place x f len within same is
+
 -- the refusal of a file whose place no earlier reading changed, where those before it were read
-pub first_refused : {S : Type 0} (to_give : S → Option (List ℕ)) (states left : List S) (place : ℕ)
+pub first_refused : {S : Type 0} (told : S → List ℕ → Type 0) (states : List S) (place : ℕ)
     (receivers : List State) (f : Fault) → place < length states
-    → SayReceivers to_give (take place states) receivers
-    → ((s : S) → get_or left place s ≡ get_or states place s)
-    → OfRefusal f (IsRefusedAt to_give left place) → OfRefusal f (IsReceiversRefusal to_give states)
-first_refused to_give states left place receivers f within say same is =
+    → SayReceivers told (take place states) receivers
+    → OfRefusal f (IsRefusedAt told states place) → OfRefusal f (IsReceiversRefusal told states)
+first_refused told states place receivers f within say is =
     of_refusal_map f (λ r refused. record {
       place = place;
       within = within;
       receivers = receivers;
       receivers_are = say;
-      refused = record {
-        source = refused.source;
-        at = λ s. sym (same s) ∙ refused.at s;
-        refused = refused.refused;
-      };
+      refused = refused;
     }) is

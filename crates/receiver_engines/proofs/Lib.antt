@@ -8,3 +8,4 @@ pub mod FileRefusals
 pub mod Late
 pub mod LateTakings
 pub mod Meaning
+pub mod Parts

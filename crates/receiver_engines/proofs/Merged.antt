@@ -1,6 +1,5 @@
 -- Two receivers that were read, merged and written.
-use Rattle.std.proofs.Common.{◌≡◌, ℕ, List, [], ◌++◌, Option, refl, sym, ap, subst, ◌∙◌}
-use Rattle.std.specs.Io.KnownBytes.{Appends}
+use Rattle.std.proofs.Common.{◌≡◌, ℕ, List, [], ◌++◌, refl, sym, ap, subst, ◌∙◌}
 use Rattle.st_format.specs.Raster.{Raster}
 use Rattle.media_file.specs.StateFile.{Kept, state_text}
 use Rattle.path_merge.specs.Frames.{Holds, State, frames_of, joined_frames}
@@ -8,7 +7,8 @@ use Rattle.path_merge.specs.Opening.{Opening}
 use Rattle.path_merge.proofs.Frames.{frames_of-append}
 use Rattle.receiver_file.specs.Saved.{kept_of}
 use Rattle.receiver_engines.specs.Merging.{IsAgain, JoinsFirst, MergesFiles, SavesMerged}
-use Rattle.receiver_engines.specs.Merging.{merged_state}
+use Rattle.receiver_engines.specs.Merging.{PrintsMerged, merged_state}
+use Rattle.run_outcome.specs.Frames.{frame_lines}
 
 -- a receiver is itself
 pub again : (s : State) → IsAgain s s
@@ -46,18 +46,18 @@ holds_both s t alike xs ys holds_xs holds_ys =
     ∙ sym (frames_of-append s.opening xs ys)
 
 -- what was merged is written
-saves : (s t : State) (old new : Option (List ℕ)) (m : State)
+saves : (s t : State) (old new : List ℕ) (m : State)
     → (s.opening ≡ t.opening) × IsAgain (merged_state s t) m
-    → Appends old new (state_text (kept_of m)) → SavesMerged s t old new
+    → new ≡ old ++ state_text (kept_of m) → SavesMerged s t old new
 saves s t old new m is taken = record {
   alike = is.0;
-  taken = subst (λ (k : Kept). Appends old new (state_text k))
+  taken = subst (λ (k : Kept). new ≡ old ++ state_text k)
       (same_kept (merged_state s t) m is.1) taken;
   holds = holds_both s t is.0;
 }
 
-pub merges : (left right old new : Option (List ℕ)) (m : State) → JoinsFirst left right m
-    → Appends old new (state_text (kept_of m)) → MergesFiles left right old new
+pub merges : (left right : List ℕ → Type 0) (old new : List ℕ) (m : State) → JoinsFirst left right m
+    → new ≡ old ++ state_text (kept_of m) → MergesFiles left right old new
 merges left right old new m joins taken = record {
   first = joins.first;
   second = joins.second;
@@ -65,4 +65,22 @@ merges left right old new m joins taken = record {
   second_is = joins.second_is;
   taken = saves joins.first joins.second old new m joins.both taken;
   saved = λ s t gives also_gives. saves s t old new m (joins.joined s t gives also_gives) taken;
+}
+
+-- and printed
+same_lines : (s r : State) → IsAgain s r → frame_lines r ≡ frame_lines s
+same_lines s r again =
+    ap (λ (o : Opening). frame_lines (receiver o r.frames)) again.opening
+    ∙ ap (λ (rs : List Raster). frame_lines (receiver s.opening rs)) again.frames
+
+pub prints : (left right : List ℕ → Type 0) (old new : List ℕ) (m : State) → JoinsFirst left right m
+    → new ≡ old ++ frame_lines m → PrintsMerged left right old new
+prints left right old new m joins taken = record {
+  first = joins.first;
+  second = joins.second;
+  first_is = joins.first_is;
+  second_is = joins.second_is;
+  alike = joins.both.0;
+  printed = subst (λ (l : List ℕ). new ≡ old ++ l)
+      (same_lines (merged_state joins.first joins.second) m joins.both.1) taken;
 }

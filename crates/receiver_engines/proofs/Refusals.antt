@@ -194,23 +194,23 @@ sent_refusal j w rs held r has = has
 
 -- ---- the run
 
-pub receivers_refused : {S : Type 0} (to_give : S → Option (List ℕ)) (states : List S)
+pub receivers_refused : {S : Type 0} (told : S → List ℕ → Type 0) (states : List S)
     (hold : Option S) (w : Processing) (r : Refusal) → SaysJob w
-    → IsReceiversRefusal to_give states r → IsRunRefusal to_give states hold w r
-receivers_refused to_give states hold w (why.State f) says is = (says, is)
-receivers_refused to_give states hold w r says is = absurd is.refused.refused
+    → IsReceiversRefusal told states r → IsRunRefusal told states hold w r
+receivers_refused told states hold w (why.State f) says is = (says, is)
+receivers_refused told states hold w r says is = absurd is.refused.refused
 
-pub held_refused : {S : Type 0} (to_give : S → Option (List ℕ)) (states : List S)
-    (hold : Option S) (w : Processing) (r : Refusal) → SaysJob w → AreReceivers to_give states
-    → IsHeldRefusal to_give hold r → IsRunRefusal to_give states hold w r
-held_refused to_give states hold w (why.Picture f) says are is = (says, are, is)
-held_refused to_give states None w r says are is = absurd is
-held_refused to_give states (Some s) w r says are is = absurd is
+pub held_refused : {S : Type 0} (told : S → List ℕ → Type 0) (states : List S)
+    (hold : Option S) (w : Processing) (r : Refusal) → SaysJob w → AreReceivers told states
+    → IsHeldRefusal told hold r → IsRunRefusal told states hold w r
+held_refused told states hold w (why.Picture f) says are is = (says, are, is)
+held_refused told states None w r says are is = absurd is
+held_refused told states (Some s) w r says are is = absurd is
 
-pub read_refused : {S : Type 0} (to_give : S → Option (List ℕ)) (states : List S)
+pub read_refused : {S : Type 0} (told : S → List ℕ → Type 0) (states : List S)
     (hold : Option S) (w : Processing) (r : Refusal)
-    → IsRefusalOfRead to_give states hold w r → IsRunRefusal to_give states hold w r
-read_refused to_give states hold w why.ProcessJob is = absurd is.refused.holds.holds
-read_refused to_give states hold w (why.State f) is = absurd is.refused.holds.holds
-read_refused to_give states hold w (why.Picture f) is = absurd is.refused.holds.holds
-read_refused to_give states hold w r is = is
+    → IsRefusalOfRead told states hold w r → IsRunRefusal told states hold w r
+read_refused told states hold w why.ProcessJob is = absurd is.refused.holds.holds
+read_refused told states hold w (why.State f) is = absurd is.refused.holds.holds
+read_refused told states hold w (why.Picture f) is = absurd is.refused.holds.holds
+read_refused told states hold w r is = is

@@ -1,5 +1,6 @@
 -- A fault of a receiver's file as a refusal.
-use Rattle.std.proofs.Common.{◌≡◌, ℕ, List, Option, Some}
+use Rattle.std.proofs.Common.{ℕ, List}
+use Rattle.st_format.specs.Device.{AreOctets}
 use Rattle.media_file.specs.Faults.{IfContent}
 use Rattle.media_file.specs.declared.fault.FileFault.{FileFault}
 use Rattle.media_file.specs.declared.fault.FileFault.TheVariants.{NoMemory, Device, BadName}
@@ -11,8 +12,9 @@ use Rattle.run_outcome.specs.LowerFaults.{state_fault}
 use Rattle.receiver_engines.specs.States.{IsStateRefusal}
 use Rattle.run_outcome.specs.Refusing.{OfRefusal}
 
-pub state_refused : (told : Option (List ℕ)) (f : FileFault)
-    → ((octets : List ℕ) → told ≡ Some octets → IfContent f (IsStateFault f octets))
+pub state_refused : (told : List ℕ → Type 0) (f : FileFault)
+    → ((octets : List ℕ) → told octets → AreOctets octets
+    → IfContent f (IsStateFault f octets))
     → OfRefusal (state_fault f) (IsStateRefusal told)
 state_refused told NoMemory wrong = tt
 state_refused told Device wrong = tt

@@ -1,13 +1,12 @@
 -- What a capture writes that is begun at its first datagram (own).
-use Rattle.std.specs.Prelude.{◌≡◌, ℕ, ◌^◌, ◌<◌, Bool, true, false, List, [], ◌∷◌, ◌++◌, Option}
+use Rattle.std.specs.Prelude.{◌≡◌, ℕ, ◌^◌, ◌<◌, Bool, true, false, List, [], ◌∷◌, ◌++◌}
 use Rattle.std.specs.Borrow.{GName}
-use Rattle.std.specs.Io.KnownBytes.{Appends}
 use Rattle.media_file.specs.Fronts.{front_text}
 use Rattle.media_file.specs.Records.{record_text}
 use Rattle.media_file.specs.Writer.{IsWritten, datagrams_in, entry, moment_behind, written_text}
 use Rattle.media_file.specs.declared.front.Version.TheVariants.{Two}
 use Rattle.media_file.specs.declared.paths.Paths.TheVariants.{OnlyA}
-use Rattle.st_format.specs.Device.{CountsOne}
+use Rattle.st_format.specs.Device.{CountsOne, GrowsPart}
 use Rattle.st_format.specs.History.{GrewFrom, since}
 use Rattle.st_format.specs.declared.path.Path.TheVariants.{A}
 
@@ -55,21 +54,24 @@ late_text (d ∷ ds) = written_text OnlyA [] (d ∷ ds)
 
 -- A capture that was whole took a datagram: its sink is written the record, behind the front where
 -- that wasn't written yet.
-pub record TakesLate {K : Type 0} (held : K → Option (List ℕ)) (failures : K → ℕ)
+pub record TakesLate {K : Type 0} (took : K → List ℕ) (failures : K → ℕ)
     (names : K → List GName) (old : Late K) (octets : List ℕ) (new : Late K) :
     Type 0 where
   pub whole : old.is_cut ≡ false
   pub stays : new.is_cut ≡ false
   pub begun : new.is_begun ≡ true
   pub moment : new.moment ≡ moment_behind OnlyA old.moment
-  pub written : Appends (held old.sink) (held new.sink) (late_octets old.is_begun old.moment octets)
+  pub written : took new.sink ≡ took old.sink ++ late_octets old.is_begun old.moment octets
   pub working : failures new.sink ≡ failures old.sink
   pub names_stay : names new.sink ≡ names old.sink
 
--- One that fails is cut. If it was whole, its sink failed once; else that is asked for nothing.
-pub record FailsLate {K : Type 0} (failures : K → ℕ) (names : K → List GName)
-    (old new : Late K) : Type 0 where
+-- One that fails is cut. If it was whole, its sink failed once, and took a first part of the record
+-- and not all; else that is asked for nothing.
+pub record FailsLate {K : Type 0} (took : K → List ℕ) (failures : K → ℕ)
+    (names : K → List GName) (old : Late K) (octets : List ℕ) (new : Late K) : Type 0 where
   pub cut : new.is_cut ≡ true
   pub counted : old.is_cut ≡ false → CountsOne (failures old.sink) (failures new.sink)
+  pub part : old.is_cut ≡ false → GrowsPart (took old.sink) (took new.sink)
+      (late_octets old.is_begun old.moment octets)
   pub untouched : old.is_cut ≡ true → new.sink ≡ old.sink
   pub names_stay : names new.sink ≡ names old.sink

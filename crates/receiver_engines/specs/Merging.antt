@@ -1,18 +1,20 @@
--- What `merge` writes.
-use Rattle.std.specs.Prelude.{◌≡◌, ℕ, List, [], ◌++◌, Option, Some}
-use Rattle.std.specs.Io.KnownBytes.{Appends}
+-- What `merge` writes. The octets that were read are told by a predicate: it holds of any that
+-- begin with those, and of no other where the source has ended.
+use Rattle.std.specs.Prelude.{◌≡◌, ℕ, List, [], ◌++◌, ◌⊎◌}
 use Rattle.media_file.specs.StateFile.{state_text}
 use Rattle.path_merge.specs.Frames.{Holds, State, joined_frames}
+use Rattle.run_outcome.specs.Frames.{frame_lines}
+use Rattle.st_format.specs.Device.{GrowsPart}
 use Rattle.receiver_file.specs.Saved.{IsReceiverFile, IsWritable, kept_of}
 
--- a source is to give the file of a receiver
-pub record GivesReceiver (to_give : Option (List ℕ)) (s : State) : Type 0 where
-  pub told : to_give ≡ Some (state_text (kept_of s))
+-- what was read can be the file of this receiver, which can be written
+pub record GivesReceiver (told : List ℕ → Type 0) (s : State) : Type 0 where
+  pub read : told (state_text (kept_of s))
   pub writable : IsWritable s
 
--- a source was to give the file of a receiver, which can be written, if it tells what it is to give
-abbrev pub SaysReceiver : Option (List ℕ) → State → Type 0
-SaysReceiver told r = (octets : List ℕ) → told ≡ Some octets → IsReceiverFile octets r
+-- what was read is the file of a receiver, which can be written
+abbrev pub SaysReceiver : (List ℕ → Type 0) → State → Type 0
+SaysReceiver told r = (octets : List ℕ) → told octets → IsReceiverFile octets r
 
 -- a receiver was opened as another, and has its frames
 pub record IsAgain (s r : State) : Type 0 where
@@ -26,14 +28,14 @@ merged_state s t =
 
 -- A sink took the file of two receivers merged, which are opened alike. So it is the file of one
 -- that holds the datagrams of both.
-pub record SavesMerged (s t : State) (old new : Option (List ℕ)) : Type 0 where
+pub record SavesMerged (s t : State) (old new : List ℕ) : Type 0 where
   pub alike : s.opening ≡ t.opening
-  pub taken : Appends old new (state_text (kept_of (merged_state s t)))
+  pub taken : new ≡ old ++ state_text (kept_of (merged_state s t))
   pub holds : (xs ys : List (List ℕ)) → Holds s xs → Holds t ys
       → Holds (merged_state s t) (xs ++ ys)
 
--- Two sources were to give the files of receivers, and a sink took that of the two merged.
-pub record MergesFiles (left right old new : Option (List ℕ)) : Type 0 where
+-- What was read of two sources are the files of receivers, and a sink took that of the two merged.
+pub record MergesFiles (left right : List ℕ → Type 0) (old new : List ℕ) : Type 0 where
   pub first : State
   pub second : State
   pub first_is : SaysReceiver left first
@@ -43,7 +45,7 @@ pub record MergesFiles (left right old new : Option (List ℕ)) : Type 0 where
   pub saved : (s t : State) → GivesReceiver left s → GivesReceiver right t → SavesMerged s t old new
 
 -- the same of a receiver that was not written yet
-pub record JoinsFirst (left right : Option (List ℕ)) (m : State) : Type 0 where
+pub record JoinsFirst (left right : List ℕ → Type 0) (m : State) : Type 0 where
   pub first : State
   pub second : State
   pub first_is : SaysReceiver left first
@@ -53,7 +55,22 @@ pub record JoinsFirst (left right : Option (List ℕ)) (m : State) : Type 0 wher
       → (s.opening ≡ t.opening) × IsAgain (merged_state s t) m
 
 -- a sink took the file of a receiver, which can be written
-pub record Saves (old new : Option (List ℕ)) : Type 0 where
+pub record Saves (old new : List ℕ) : Type 0 where
   pub receiver : State
   pub writable : IsWritable receiver
-  pub taken : Appends old new (state_text (kept_of receiver))
+  pub taken : new ≡ old ++ state_text (kept_of receiver)
+
+-- What was read of two sources are the files of receivers, and a line was printed for each frame of
+-- the two merged.
+pub record PrintsMerged (left right : List ℕ → Type 0) (old new : List ℕ) : Type 0 where
+  pub first : State
+  pub second : State
+  pub first_is : SaysReceiver left first
+  pub second_is : SaysReceiver right second
+  pub alike : first.opening ≡ second.opening
+  pub printed : new ≡ old ++ frame_lines (merged_state first second)
+
+-- a sink took nothing, or a first part of the file of a receiver, and not all
+abbrev pub SavesPart : List ℕ → List ℕ → Type 0
+SavesPart old new =
+    (new ≡ old) ⊎ ((receiver : State) × GrowsPart old new (state_text (kept_of receiver)))

@@ -1,7 +1,6 @@
 -- What `process` sends (own).
-use Rattle.std.specs.Prelude.{◌≡◌, ℕ, ◌+◌, ◌^◌, ◌%◌, List, [], ◌∷◌, ◌++◌, Option, length}
+use Rattle.std.specs.Prelude.{◌≡◌, ℕ, ◌+◌, ◌^◌, ◌%◌, List, [], ◌∷◌, ◌++◌, Option, length, take, ◌<◌}
 use Rattle.std.specs.Prelude.{Result, Ok, Err}
-use Rattle.std.specs.Io.KnownBytes.{Appends}
 use Rattle.run_outcome.specs.Line.{line_text}
 use Rattle.run_outcome.specs.declared.line.Line.TheVariants.{Sent}
 use Rattle.run_outcome.specs.LowerFaults.{of_job, of_plan}
@@ -14,7 +13,7 @@ use Rattle.key_mix.specs.Sending.{IsSendable, IsSentJob}
 use Rattle.key_mix.specs.declared.Job.{Job}
 use Rattle.packet_plan.specs.declared.stamp.Stamp.{Stamp}
 use Rattle.path_merge.specs.Frames.{State}
-use Rattle.st_format.specs.Device.{CountsOne}
+use Rattle.st_format.specs.Device.{CountsOne, GrowsPart}
 use Rattle.st_format.specs.Picture.{Values}
 use Rattle.st_format.specs.Raster.{Raster}
 use Rattle.receiver_engines.specs.Inputs.{AreFramesAt, IsFill, IsHeldFor, raster_formats}
@@ -26,30 +25,32 @@ use Rattle.receiver_engines.specs.Reading.{SayReceivers, SaysHeld}
 -- A sink of octets was written the capture of the datagrams of a job's picture of pictures; so many
 -- modulo 2^32.
 pub record TakesJob (job : Job) (pictures : List Values) (size : ℕ) (stamp : Stamp)
-    (old new : Option (List ℕ)) (count : ℕ) : Type 0 where
+    (old new : List ℕ) (count : ℕ) : Type 0 where
   pub datagrams : List (List ℕ)
   pub spell : IsSentJob datagrams job pictures size stamp
-  pub written : Appends old new (late_text datagrams)
+  pub written : new ≡ old ++ late_text datagrams
   pub count_is : count ≡ length datagrams % 2 ^ 32
 
 -- What became of a sink of octets: it was written the capture of such datagrams, and didn't fail;
--- or it failed once; and else it is as it was. The first packet has the number `first`.
-abbrev pub WritesJob : {K : Type 0} → (List (List ℕ) → Type 0) → (K → Option (List ℕ)) → (K → ℕ)
+-- or it failed once, and was written a first part of that and not all; and else it is as it was.
+-- The first packet has the number `first`.
+abbrev pub WritesJob : {K : Type 0} → (List (List ℕ) → Type 0) → (K → List ℕ) → (K → ℕ)
     → ℕ → K → K → Result ℕ SendJobFault → Type 0
-WritesJob Are held failures first old new (Ok next) =
+WritesJob Are took failures first old new (Ok next) =
     (datagrams : List (List ℕ)) × Are datagrams
-    × Appends (held old) (held new) (late_text datagrams) × (failures new ≡ failures old)
+    × (took new ≡ took old ++ late_text datagrams) × (failures new ≡ failures old)
     × (next ≡ (first + length datagrams) % 2 ^ 32)
-WritesJob Are held failures first old new (Err (sending.Sink sent)) =
+WritesJob Are took failures first old new (Err (sending.Sink sent)) =
     CountsOne (failures old) (failures new)
-WritesJob Are held failures first old new (Err (sending.Job e)) = new ≡ old
-WritesJob Are held failures first old new (Err sending.BadPacketSize) = new ≡ old
+    × ((datagrams : List (List ℕ)) × Are datagrams
+    × GrowsPart (took old) (took new) (late_text datagrams))
+WritesJob Are took failures first old new (Err (sending.Job e)) = new ≡ old
+WritesJob Are took failures first old new (Err sending.BadPacketSize) = new ≡ old
 
 -- It was written that of receivers' frames of a timestamp, each settled. Nothing speaks against the
 -- job, and the size is one for the format of its picture.
 pub record SendsJob (job : Job) (ts : ℕ) (fill_text : List ℕ) (size : ℕ) (stamp : Stamp)
-    (rs : List State) (held : Option Values) (old new : Option (List ℕ)) (count : ℕ) :
-    Type 0 where
+    (rs : List State) (held : Option Values) (old new : List ℕ) (count : ℕ) : Type 0 where
   pub frames : List Raster
   pub are : AreFramesAt frames rs ts
   pub fill : List ℕ
@@ -59,24 +60,34 @@ pub record SendsJob (job : Job) (ts : ℕ) (fill_text : List ℕ) (size : ℕ) (
   pub takes : TakesJob job (settled_frames held fill frames) size stamp old new count
 
 -- It was written that of the job that a text says, of the receivers and the held picture whose
--- files sources were to give.
-pub record SendsFiles {S : Type 0} (to_give : S → Option (List ℕ)) (states : List S)
+-- files were read.
+pub record SendsFiles {S : Type 0} (told : S → List ℕ → Type 0) (states : List S)
     (hold : Option S) (job_text : List ℕ) (ts : ℕ) (fill_text : List ℕ) (size : ℕ) (stamp : Stamp)
-    (old new : Option (List ℕ)) (count : ℕ) : Type 0 where
+    (old new : List ℕ) (count : ℕ) : Type 0 where
   pub job : Job
   pub job_is : IsJobText job_text job
   pub receivers : List State
-  pub receivers_are : SayReceivers to_give states receivers
+  pub receivers_are : SayReceivers told states receivers
   pub held : Option Values
-  pub held_is : SaysHeld to_give hold held
+  pub held_is : SaysHeld told hold held
   pub sends : SendsJob job ts fill_text size stamp receivers held old new count
 
 -- How many datagrams were sent is printed.
-abbrev pub PrintsSent : ℕ → Option (List ℕ) → Option (List ℕ) → Type 0
-PrintsSent count old new = Appends old new (line_text (Sent count) ++ 10 ∷ [])
+abbrev pub PrintsSent : ℕ → List ℕ → List ℕ → Type 0
+PrintsSent count old new = new ≡ old ++ (line_text (Sent count) ++ 10 ∷ [])
 
 -- a fault of a sending
 abbrev pub of_send_job : SendJobFault → Fault
 of_send_job (sending.Job e) = of_job e
 of_send_job sending.BadPacketSize = of_plan plan.BadPacketSize
 of_send_job (sending.Sink sent) = Device
+
+-- A sink of octets was written a first part of the capture of the datagrams of a job's picture:
+-- none of it, or all, or less.
+pub record SendsPart (size : ℕ) (stamp : Stamp) (old new : List ℕ) : Type 0 where
+  pub job : Job
+  pub pictures : List Values
+  pub datagrams : List (List ℕ)
+  pub count : ℕ
+  pub spell : 0 < count → IsSentJob datagrams job pictures size stamp
+  pub written : new ≡ old ++ take count (late_text datagrams)

@@ -68,41 +68,41 @@ IsJobRefusal job w rs held r =
 -- ---- words and files
 
 -- the refusal of the file of the picture that is held
-abbrev pub IsHeldRefusal : {S : Type 0} → (S → Option (List ℕ)) → Option S → Refusal → Type 0
-IsHeldRefusal to_give None r = ⊥
-IsHeldRefusal to_give (Some s) r = IsPictureRefusal (to_give s) r
+abbrev pub IsHeldRefusal : {S : Type 0} → (S → List ℕ → Type 0) → Option S → Refusal → Type 0
+IsHeldRefusal told None r = ⊥
+IsHeldRefusal told (Some s) r = IsPictureRefusal (told s) r
 
 -- the refusal of the receiver's file at a place
-pub record IsRefusedAt {S : Type 0} (to_give : S → Option (List ℕ)) (states : List S) (place : ℕ)
+pub record IsRefusedAt {S : Type 0} (told : S → List ℕ → Type 0) (states : List S) (place : ℕ)
     (r : Refusal) : Type 0 where
   pub source : S
   pub at : (s : S) → slice_index_or states place s ≡ source
-  pub refused : IsStateRefusal (to_give source) r
+  pub refused : IsStateRefusal (told source) r
 
 -- The refusal of the first receiver's file that is refused: those before it are receivers'.
-pub record IsReceiversRefusal {S : Type 0} (to_give : S → Option (List ℕ)) (states : List S)
+pub record IsReceiversRefusal {S : Type 0} (told : S → List ℕ → Type 0) (states : List S)
     (r : Refusal) : Type 0 where
   pub place : ℕ
   pub within : place < length states
   pub receivers : List State
-  pub receivers_are : SayReceivers to_give (take place states) receivers
-  pub refused : IsRefusedAt to_give states place r
+  pub receivers_are : SayReceivers told (take place states) receivers
+  pub refused : IsRefusedAt told states place r
 
 -- the files are those of receivers
-pub record AreReceivers {S : Type 0} (to_give : S → Option (List ℕ)) (states : List S)
+pub record AreReceivers {S : Type 0} (told : S → List ℕ → Type 0) (states : List S)
     : Type 0 where
   pub receivers : List State
-  pub receivers_are : SayReceivers to_give states receivers
+  pub receivers_are : SayReceivers told states receivers
 
 -- the words say a job, the files are read, and of what they say this is the refusal
-pub record IsRefusalOfRead {S : Type 0} (to_give : S → Option (List ℕ)) (states : List S)
+pub record IsRefusalOfRead {S : Type 0} (told : S → List ℕ → Type 0) (states : List S)
     (hold : Option S) (w : Processing) (r : Refusal) : Type 0 where
   pub job : Job
   pub job_is : IsJobText w.job.now job
   pub receivers : List State
-  pub receivers_are : SayReceivers to_give states receivers
+  pub receivers_are : SayReceivers told states receivers
   pub held : Option Values
-  pub held_is : SaysHeld to_give hold held
+  pub held_is : SaysHeld told hold held
   pub refused : IsJobRefusal job w receivers held r
 
 -- the words say a job
@@ -112,12 +112,12 @@ SaysJob w = (job : Job) × IsJobText w.job.now job
 -- The refusals of a run in their order: of the job's text; of the receivers' files; of the held
 -- picture's; of a timestamp that a window hasn't; of the fill; of the held picture's format; of the
 -- job; of the packets' size.
-abbrev pub IsRunRefusal : {S : Type 0} → (S → Option (List ℕ)) → List S → Option S → Processing
+abbrev pub IsRunRefusal : {S : Type 0} → (S → List ℕ → Type 0) → List S → Option S → Processing
     → Refusal → Type 0
-IsRunRefusal to_give states hold w refusal.ProcessJob =
+IsRunRefusal told states hold w refusal.ProcessJob =
     (job : Job) → IsJobText w.job.now job → ⊥
-IsRunRefusal to_give states hold w (refusal.State f) =
-    SaysJob w × IsReceiversRefusal to_give states (refusal.State f)
-IsRunRefusal to_give states hold w (refusal.Picture f) =
-    SaysJob w × AreReceivers to_give states × IsHeldRefusal to_give hold (refusal.Picture f)
-IsRunRefusal to_give states hold w r = IsRefusalOfRead to_give states hold w r
+IsRunRefusal told states hold w (refusal.State f) =
+    SaysJob w × IsReceiversRefusal told states (refusal.State f)
+IsRunRefusal told states hold w (refusal.Picture f) =
+    SaysJob w × AreReceivers told states × IsHeldRefusal told hold (refusal.Picture f)
+IsRunRefusal told states hold w r = IsRefusalOfRead told states hold w r

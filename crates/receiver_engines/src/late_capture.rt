@@ -1,6 +1,5 @@
 //! A capture that is begun at its first datagram, as a sink of datagrams. It tells no datagrams.
 ghost use Rattle.std.specs.Prelude.{◌≡◌, ◌≤◌, ◌++◌, length, IsErr, None, OnErr, OnOk, true, false};
-ghost use Rattle.std.specs.Io.KnownBytes.{Appends};
 ghost use Rattle.receiver_engines.specs.Late.{FailsLate, TakesLate, late_datagrams, late_front};
 ghost use Rattle.receiver_engines.specs.Late.{late_octets};
 ghost use Rattle.st_format.specs.Device.{CountsFaults, CountsOne, GrowsPart};
@@ -91,9 +90,9 @@ impl<K: ByteSink> DatagramSink for LateCapture<K> {
 
     ghost failures = { λ c. c.failures };
 
-    ghost takes = { λ old octets new. TakesLate K.held K.failures K.names old octets new };
+    ghost takes = { λ old octets new. TakesLate K.took K.failures K.names old octets new };
 
-    ghost fails = { λ old octets new. FailsLate K.failures K.names old new };
+    ghost fails = { λ old octets new. FailsLate K.took K.failures K.names old octets new };
 
     /// Writes the datagram's record, and before the first one the front.
     fn put(&mut self, octets: &[u8]) -> Result<(), SinkFault> {
@@ -122,8 +121,6 @@ fn write_datagram<K: ByteSink>(
     octets: &[u8],
 ) -> Result<(), DeviceFault>
     requires { length octets.now ≤ 65535 }
-    ensures ok { OnOk result
-        (Appends (K.held sink.old) (K.held sink.new) (late_octets is_begun moment octets.now)) }
     ensures counted { CountsFaults (K.failures sink.old) (K.failures sink.new) result }
     ensures names { K.names sink.new ≡ K.names sink.old }
     ensures took { OnOk result (K.took sink.new
@@ -137,7 +134,6 @@ fn write_datagram<K: ByteSink>(
 
 /// Writes the front, where the capture isn't begun.
 fn begin<K: ByteSink>(sink: &mut K, is_begun: bool) -> Result<(), DeviceFault>
-    ensures ok { OnOk result (Appends (K.held sink.old) (K.held sink.new) (late_front is_begun)) }
     ensures counted { CountsFaults (K.failures sink.old) (K.failures sink.new) result }
     ensures names { K.names sink.new ≡ K.names sink.old }
     ensures took { OnOk result (K.took sink.new ≡ K.took sink.old ++ late_front is_begun) }

@@ -1,7 +1,9 @@
 //! The engine of `merge`.
-ghost use Rattle.std.specs.Prelude.{◌≡◌, ◌∷◌, [], IfErr, IfOk, OnOk};
+ghost use Rattle.std.specs.Prelude.{◌≡◌, ◌∷◌, [], IfErr, IfOk, OnErr, OnOk};
+ghost use Rattle.st_format.specs.History.{IsRead};
 ghost use Rattle.run_outcome.specs.Fault.{Accounts, IfRefused, counts};
-ghost use Rattle.receiver_engines.specs.Merging.{JoinsFirst, MergesFiles, Saves};
+ghost use Rattle.receiver_engines.specs.Merging.{JoinsFirst, MergesFiles, PrintsMerged, Saves};
+ghost use Rattle.receiver_engines.specs.Merging.{SavesPart};
 ghost use Rattle.receiver_engines.specs.MergeRefused.{IsMergeRefusal};
 ghost use Rattle.run_outcome.specs.Refusing.{OfRefusal};
 
@@ -34,13 +36,23 @@ where
     R: ByteSource,
     K: ByteSink,
     O: ByteSink,
-    ensures saved { OnOk result (Saves (K.held state.old) (K.held state.new)) }
+    ensures saved { OnOk result (Saves (K.took state.old) (K.took state.new)) }
     ensures merged { OnOk result
-        (MergesFiles (L.to_give left.old) (R.to_give right.old) (K.held state.old)
-        (K.held state.new)) }
+        (MergesFiles (IsRead (L.gave left.old) (L.gave left.new) (L.ended left.new))
+        (IsRead (R.gave right.old) (R.gave right.new) (R.ended right.new))
+        (K.took state.old) (K.took state.new)) }
+    ensures printed { OnOk result
+        (PrintsMerged (IsRead (L.gave left.old) (L.gave left.new) (L.ended left.new))
+        (IsRead (R.gave right.old) (R.gave right.new) (R.ended right.new))
+        (O.took output.old) (O.took output.new)) }
+    // Where it fails, the merged receiver isn't all written.
+    ensures part { OnErr result (SavesPart (K.took state.old) (K.took state.new)) }
+    // All of each file was read, up to its end.
+    ensures ended { OnOk result (L.ended left.new × R.ended right.new) }
     ensures refused { IfErr result (λ f. IfRefused f (state.new ≡ state.old)) }
     ensures refusal { IfErr result (λ f. OfRefusal f
-        (IsMergeRefusal (L.to_give left.old) (R.to_give right.old))) }
+        (IsMergeRefusal (IsRead (L.gave left.old) (L.gave left.new) (L.ended left.new))
+        (IsRead (R.gave right.old) (R.gave right.new) (R.ended right.new)))) }
     ensures failures { Accounts result (counts (L.failures left.old) (L.failures left.new)
         ∷ counts (R.failures right.old) (R.failures right.new)
         ∷ counts (K.failures state.old) (K.failures state.new)
@@ -57,9 +69,13 @@ fn merge_both<A: Allocator + Copy, L: ByteSource, R: ByteSource>(
     left: &mut L,
     right: &mut R,
 ) -> Result<Receiver<A>, Fault>
-    ensures joined { IfOk result (λ m. JoinsFirst (L.to_give left.old) (R.to_give right.old) m) }
+    ensures joined { IfOk result (λ m. JoinsFirst
+        (IsRead (L.gave left.old) (L.gave left.new) (L.ended left.new))
+        (IsRead (R.gave right.old) (R.gave right.new) (R.ended right.new)) m) }
+    ensures ended { OnOk result (L.ended left.new × R.ended right.new) }
     ensures refusal { IfErr result (λ f. OfRefusal f
-        (IsMergeRefusal (L.to_give left.old) (R.to_give right.old))) }
+        (IsMergeRefusal (IsRead (L.gave left.old) (L.gave left.new) (L.ended left.new))
+        (IsRead (R.gave right.old) (R.gave right.new) (R.ended right.new)))) }
     ensures failures { Accounts result (counts (L.failures left.old) (L.failures left.new)
         ∷ counts (R.failures right.old) (R.failures right.new) ∷ []) }
 {

@@ -1,11 +1,14 @@
 //! The engine of `process`.
-ghost use Rattle.std.specs.Prelude.{◌≡◌, ◌≤◌, ◌∷◌, [], ◌-◌, ◌+◌, IfErr, IfOk, OnOk, sum_by, ℕ};
-ghost use Rattle.std.specs.List.{AllByRecursion};
+ghost use Rattle.std.specs.Prelude.{◌≡◌, ◌≤◌, ◌∷◌, [], ◌-◌, ◌+◌, IfErr, IfOk, OnErr, OnOk, length};
+ghost use Rattle.std.specs.Prelude.{ℕ, sum_by};
+ghost use Rattle.std.specs.List.{AllByRecursion, zip};
+ghost use Rattle.run_outcome.specs.Moments.{WasRead, pair};
 ghost use Rattle.run_outcome.specs.Fault.{Accounts, IfRefused, counts, failures_in};
 ghost use Rattle.run_outcome.specs.Refusing.{OfRefusal};
 ghost use Rattle.key_mix.specs.Sending.{HasBase, IsSendFault, IsSendable, IsSentJob, input_formats};
 ghost use Rattle.key_mix.specs.Sending.{settled_inputs};
-ghost use Rattle.receiver_engines.specs.Processing.{PrintsSent, SendsFiles, SendsJob, TakesJob};
+ghost use Rattle.receiver_engines.specs.Processing.{PrintsSent, SendsFiles, SendsJob, SendsPart};
+ghost use Rattle.receiver_engines.specs.Processing.{TakesJob};
 ghost use Rattle.receiver_engines.specs.Processing.{WritesJob, of_send_job};
 ghost use Rattle.receiver_engines.specs.Refused.{IsJobOrPlanRefusal, IsJobRefusal, IsRunRefusal};
 
@@ -65,13 +68,19 @@ where
     K: ByteSink,
     O: ByteSink,
     requires payload_type { wanted.stamp.payload_type ≤ 127 }
-    ensures sent { OnOk result ((count : ℕ) × SendsFiles S.to_give states.old hold.old
+    ensures len { length states.new ≡ length states.old }
+    ensures sent { OnOk result ((count : ℕ) × SendsFiles (WasRead S.gave S.ended)
+        (zip states.old states.new) (pair hold.old hold.new)
         wanted.entry.job.now wanted.entry.timestamp wanted.entry.fill.now wanted.entry.max_octets
-        wanted.entry.stamp (K.held sink.old) (K.held sink.new) count
-        × PrintsSent count (O.held output.old) (O.held output.new)) }
+        wanted.entry.stamp (K.took sink.old) (K.took sink.new) count
+        × PrintsSent count (O.took output.old) (O.took output.new)) }
+    // Where it fails, what was written is a first part of such a capture.
+    ensures part { OnErr result (SendsPart wanted.entry.max_octets wanted.entry.stamp
+        (K.took sink.old) (K.took sink.new)) }
     ensures refused { IfErr result (λ f. IfRefused f (sink.new ≡ sink.old)) }
     ensures refusal { IfErr result (λ f. OfRefusal f
-        (IsRunRefusal S.to_give states.old hold.old wanted.entry)) }
+        (IsRunRefusal (WasRead S.gave S.ended) (zip states.old states.new)
+        (pair hold.old hold.new) wanted.entry)) }
     ensures failures { Accounts result
         (counts (sum_by S.failures states.old) (sum_by S.failures states.new)
         ∷ counts (failures_in S.failures hold.old) (failures_in S.failures hold.new)
@@ -91,12 +100,17 @@ fn process_files<A: Allocator + Copy, S: ByteSource, K: ByteSink>(
     sink: &mut K,
 ) -> Result<u32, Fault>
     requires payload_type { wanted.stamp.payload_type ≤ 127 }
-    ensures sent { IfOk result (λ n. SendsFiles S.to_give states.old hold.old
+    ensures len { length states.new ≡ length states.old }
+    ensures sent { IfOk result (λ n. SendsFiles (WasRead S.gave S.ended)
+        (zip states.old states.new) (pair hold.old hold.new)
         wanted.entry.job.now wanted.entry.timestamp wanted.entry.fill.now wanted.entry.max_octets
-        wanted.entry.stamp (K.held sink.old) (K.held sink.new) n) }
+        wanted.entry.stamp (K.took sink.old) (K.took sink.new) n) }
+    ensures part { OnErr result (SendsPart wanted.entry.max_octets wanted.entry.stamp
+        (K.took sink.old) (K.took sink.new)) }
     ensures refused { IfErr result (λ f. IfRefused f (sink.new ≡ sink.old)) }
     ensures refusal { IfErr result (λ f. OfRefusal f
-        (IsRunRefusal S.to_give states.old hold.old wanted.entry)) }
+        (IsRunRefusal (WasRead S.gave S.ended) (zip states.old states.new)
+        (pair hold.old hold.new) wanted.entry)) }
     ensures failures { Accounts result
         (counts (sum_by S.failures states.old) (sum_by S.failures states.new)
         ∷ counts (failures_in S.failures hold.old) (failures_in S.failures hold.new)
@@ -120,10 +134,12 @@ fn send_frames<A: Allocator + Copy, K: ByteSink>(
     sink: &mut K,
 ) -> Result<u32, Fault>
     requires payload_type { wanted.stamp.payload_type ≤ 127 }
+    ensures part { OnErr result (SendsPart wanted.entry.max_octets wanted.entry.stamp
+        (K.took sink.old) (K.took sink.new)) }
     ensures refused { IfErr result (λ f. IfRefused f (sink.new ≡ sink.old)) }
     ensures sent { IfOk result (λ n. SendsJob job.now wanted.entry.timestamp wanted.entry.fill.now
         wanted.entry.max_octets wanted.entry.stamp receivers.now held.now
-        (K.held sink.old) (K.held sink.new) n) }
+        (K.took sink.old) (K.took sink.new) n) }
     ensures refusal { IfErr result (λ f. OfRefusal f
         (IsJobRefusal job.now wanted.entry receivers.now held.now)) }
     ensures failures { Accounts result (counts (K.failures sink.old) (K.failures sink.new) ∷ []) }
@@ -145,9 +161,11 @@ fn send<A: Allocator + Copy, K: ByteSink>(
 ) -> Result<u32, Fault>
     requires bases { AllByRecursion HasBase inputs.now }
     requires payload_type { wanted.stamp.payload_type ≤ 127 }
+    ensures part { OnErr result (SendsPart wanted.entry.max_octets wanted.entry.stamp
+        (K.took sink.old) (K.took sink.new)) }
     ensures refused { IfErr result (λ f. IfRefused f (sink.new ≡ sink.old)) }
     ensures sent { IfOk result (λ n. TakesJob job.now (settled_inputs inputs.now)
-        wanted.entry.max_octets wanted.entry.stamp (K.held sink.old) (K.held sink.new) n) }
+        wanted.entry.max_octets wanted.entry.stamp (K.took sink.old) (K.took sink.new) n) }
     ensures sendable { OnOk result
         (IsSendable job.now (input_formats inputs.now) wanted.entry.max_octets) }
     ensures refusal { IfErr result (λ f. OfRefusal f (λ r.
@@ -175,7 +193,7 @@ fn send_capture<A: Allocator + Copy, K: ByteSink>(
     requires payload_type { stamp.payload_type ≤ 127 }
     ensures written { WritesJob
         (λ ds. IsSentJob ds job.now (settled_inputs inputs.now) max_octets stamp)
-        K.held K.failures stamp.first sink.old sink.new result }
+        K.took K.failures stamp.first sink.old sink.new result }
     ensures sendable { OnOk result
         (IsSendable job.now (input_formats inputs.now) max_octets) }
     ensures fault { IfErr result

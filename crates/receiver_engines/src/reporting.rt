@@ -1,9 +1,10 @@
 //! The engine of `report`.
-ghost use Rattle.std.specs.Prelude.{◌≡◌, ◌∷◌, [], IfErr, OnOk};
+ghost use Rattle.std.specs.Prelude.{◌≡◌, ◌∷◌, [], IfErr, OnErr, OnOk};
+ghost use Rattle.st_format.specs.History.{IsRead};
 ghost use Rattle.run_outcome.specs.Fault.{Accounts, IfRefused, counts};
 ghost use Rattle.receiver_engines.specs.States.{IsStateRefusal};
 ghost use Rattle.run_outcome.specs.Refusing.{OfRefusal};
-ghost use Rattle.receiver_engines.specs.Reporting.{Reports};
+ghost use Rattle.receiver_engines.specs.Reporting.{Reports, ReportsPart};
 
 use crate::states::read_receiver;
 use frame_report::write_report;
@@ -22,10 +23,18 @@ where
     A: Allocator + Copy,
     S: ByteSource,
     O: ByteSink,
-    ensures reported { OnOk result
-        (Reports (S.to_give state.old) (O.held output.old) (O.held output.new)) }
+    ensures reported { OnOk result (Reports
+        (IsRead (S.gave state.old) (S.gave state.new) (S.ended state.new))
+        (O.took output.old) (O.took output.new)) }
+    // Where it fails, the report isn't all written.
+    ensures part { OnErr result (ReportsPart
+        (IsRead (S.gave state.old) (S.gave state.new) (S.ended state.new))
+        (O.took output.old) (O.took output.new)) }
+    // All of the file was read, up to its end.
+    ensures ended { OnOk result (S.ended state.new) }
     ensures refused { IfErr result (λ f. IfRefused f (output.new ≡ output.old)) }
-    ensures refusal { IfErr result (λ f. OfRefusal f (IsStateRefusal (S.to_give state.old))) }
+    ensures refusal { IfErr result (λ f. OfRefusal f (IsStateRefusal
+        (IsRead (S.gave state.old) (S.gave state.new) (S.ended state.new)))) }
     ensures failures { Accounts result (counts (S.failures state.old) (S.failures state.new)
         ∷ counts (O.failures output.old) (O.failures output.new) ∷ []) }
 {

@@ -1,17 +1,53 @@
-use Rattle.std.specs.Io.KnownBytes.{Appends}
+use Rattle.std.proofs.Common.{◌≡◌, ◌++◌, inr}
 use Rattle.media_file.specs.StateFile.{state_text}
-use Rattle.receiver_engines.specs.Merging.{MergesFiles}
+use Rattle.receiver_engines.specs.Merging.{MergesFiles, PrintsMerged, SavesPart}
 use Rattle.receiver_file.specs.Saved.{kept_of}
-use Rattle.run_outcome.proofs.Printed.{on_ok}
-use Rattle.receiver_engines.proofs.Merged.{merges}
+use Rattle.run_outcome.proofs.Printed.{on_err, on_ok}
+use Rattle.st_format.specs.Device.{GrowsPart}
+use Rattle.st_format.specs.History.{IsRead}
+use Rattle.receiver_engines.proofs.Merged.{merges, prints}
 use Rattle.receiver_engines.proofs.merging.merge.Goals as goal
 
 pub returns-clause-merged : goal.returns-clause-merged
 returns-clause-merged g c =
-    let left = g.L.ByteSource.to_give c.args.left.now in
-    let right = g.R.ByteSource.to_give c.args.right.now in
-    let old = g.K.ByteSink.held c.args.state.now in
-    let new = g.K.ByteSink.held c.save.new.state in
+    let one = c.merge_both.new.left in
+    let two = c.merge_both.new.right in
+    let left =
+    IsRead (g.L.ByteSource.gave c.args.left.now) (g.L.ByteSource.gave one)
+    (g.L.ByteSource.ended one) in
+    let right =
+    IsRead (g.R.ByteSource.gave c.args.right.now) (g.R.ByteSource.gave two)
+    (g.R.ByteSource.ended two) in
+    let old = g.K.ByteSink.took c.args.state.now in
+    let new = g.K.ByteSink.took c.save.new.state in
     let m = c.in_ok-merged.merged in
-    on_ok c.save.result (Appends old new (state_text (kept_of m))) (MergesFiles left right old new)
+    on_ok c.save.result (new ≡ old ++ state_text (kept_of m)) (MergesFiles left right old new)
     (merges left right old new m c.in_ok-merged.ensures.joined) c.save.ensures.whole
+
+pub returns-clause-printed : goal.returns-clause-printed
+returns-clause-printed g c =
+    let one = c.merge_both.new.left in
+    let two = c.merge_both.new.right in
+    let left =
+    IsRead (g.L.ByteSource.gave c.args.left.now) (g.L.ByteSource.gave one)
+    (g.L.ByteSource.ended one) in
+    let right =
+    IsRead (g.R.ByteSource.gave c.args.right.now) (g.R.ByteSource.gave two)
+    (g.R.ByteSource.ended two) in
+    let old = g.O.ByteSink.took c.args.output.now in
+    let new = g.O.ByteSink.took c.print_frames.new.output in
+    let m = c.in_ok-merged.merged in
+    on_ok c.save.result
+    (g.K.ByteSink.took c.save.new.state
+    ≡ g.K.ByteSink.took c.args.state.now ++ state_text (kept_of m))
+    (PrintsMerged left right old new)
+    (λ saved. prints left right old new m c.in_ok-merged.ensures.joined
+    c.in_ok-print_frames.ensures.printed) c.save.ensures.whole
+
+pub returns-clause-part : goal.returns-clause-part
+returns-clause-part g c =
+    let old = g.K.ByteSink.took c.args.state.now in
+    let new = g.K.ByteSink.took c.save.new.state in
+    let m = c.in_ok-merged.merged in
+    on_err c.save.result (GrowsPart old new (state_text (kept_of m))) (SavesPart old new)
+    (λ part. inr (m, part)) c.save.ensures.part

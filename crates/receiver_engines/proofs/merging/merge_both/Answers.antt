@@ -1,5 +1,6 @@
 use Rattle.std.proofs.lemmas.Result.{err_from_is_err_and}
 use Rattle.std.proofs.Common.{refl, sym, ◌∙◌}
+use Rattle.st_format.specs.History.{IsRead}
 use Rattle.receiver_engines.proofs.Merged.{again, joined}
 use Rattle.run_outcome.proofs.Refusals.{of_refusal_map}
 use Rattle.receiver_engines.proofs.MergeRefusals.{right_refused}
@@ -23,8 +24,14 @@ returns-in-Ok-clause-joined g c = record {
 
 pub returns-in_err-other-clause-refusal : goal.returns-in_err-other-clause-refusal
 returns-in_err-other-clause-refusal g c =
-    let left = g.L.ByteSource.to_give c.args.left.now in
-    let right = g.R.ByteSource.to_give c.args.right.now in
+    let one = c.read_receiver.new.source in
+    let two = c.read_receiver-2.new.source in
+    let left =
+    IsRead (g.L.ByteSource.gave c.args.left.now) (g.L.ByteSource.gave one)
+    (g.L.ByteSource.ended one) in
+    let right =
+    IsRead (g.R.ByteSource.gave c.args.right.now) (g.R.ByteSource.gave two)
+    (g.R.ByteSource.ended two) in
     let p =
     err_from_is_err_and c.from_residual-in_err-other.result
     c.from_residual-in_err-other.ensures.1 in

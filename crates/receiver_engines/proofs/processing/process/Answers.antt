@@ -1,19 +1,25 @@
 use Rattle.std.proofs.Common.{◌≡◌, ℕ, rules, subst}
+use Rattle.run_outcome.specs.Moments.{WasRead, pair}
+use Rattle.std.specs.List.{zip}
 use Rattle.run_outcome.proofs.Printed.{on_ok}
+use Rattle.receiver_engines.proofs.Late.{on_err}
+use Rattle.receiver_engines.proofs.Parts.{sends_all}
 use Rattle.receiver_engines.specs.Processing.{PrintsSent, SendsFiles}
 use Rattle.receiver_engines.proofs.processing.process.Goals as goal
 
 pub returns-clause-sent : goal.returns-clause-sent
 returns-clause-sent g c =
     let sent = c.in_ok-sent.sent in
-    let old = g.O.ByteSink.held c.args.output.now in
-    let new = g.O.ByteSink.held c.print.new.output in
+    let old = g.O.ByteSink.took c.args.output.now in
+    let new = g.O.ByteSink.took c.print.new.output in
     let wanted = c.args.wanted in
     let widened : c.from.result ≡ sent = search rules in
     on_ok c.print.result (PrintsSent c.from.result old new)
-    ((count : ℕ) × SendsFiles g.S.ByteSource.to_give c.args.states.now c.args.hold.now
+    ((count : ℕ) × SendsFiles (WasRead g.S.ByteSource.gave g.S.ByteSource.ended)
+    (zip c.args.states.now c.process_files.new.states)
+    (pair c.args.hold.now c.process_files.new.hold)
     wanted.job.now wanted.timestamp wanted.fill.now wanted.max_octets wanted.stamp
-    (g.K.ByteSink.held c.args.sink.now) (g.K.ByteSink.held c.process_files.new.sink)
+    (g.K.ByteSink.took c.args.sink.now) (g.K.ByteSink.took c.process_files.new.sink)
     count × PrintsSent count old new)
     (λ printed. (
       sent,
@@ -21,3 +27,8 @@ returns-clause-sent g c =
       subst (λ n. PrintsSent n old new) widened printed,
     ))
     c.print.ensures.printed
+
+pub returns-clause-part : goal.returns-clause-part
+returns-clause-part g c =
+    let sends = c.in_ok-sent.ensures.sent.sends in
+    on_err c.print.result (sends_all c.in_ok-sent.ensures.sent.job _ _ _ _ _ _ sends.takes)

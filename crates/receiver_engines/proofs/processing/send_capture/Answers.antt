@@ -8,17 +8,17 @@ returns-clause-written g c =
     let made = c.new-capture.ensures in
     let old = c.new-capture.result in
     let new = c.send_job-answer.new.sink in
-    let held = g.K.ByteSink.held in
+    let took = g.K.ByteSink.took in
     let failures = g.K.ByteSink.failures in
     let puts = c.send_job-answer.ensures.puts in
     let named =
-    job_names (λ m. held m.now) (λ m. failures m.now) (λ m. m.ghost_name ∷ [])
+    job_names (λ m. took m.now) (λ m. failures m.now) (λ m. m.ghost_name ∷ [])
     (λ (ds : List (List ℕ)). IsSentJob ds c.args.job.now (settled_inputs c.args.inputs.now)
     c.args.max_octets c.args.stamp) c.args.stamp.first old new c.send_job-answer.result made.cut
     puts in
     let name : new.sink.ghost_name ≡ old.sink.ghost_name = cc (named) in
-    writes_lent _ held failures c.args.stamp.first _ _ old.sink.now new.sink.now
+    writes_lent _ took failures c.args.stamp.first _ _ old.sink.now new.sink.now
     c.send_job-answer.result (search rules)
     (search rules)
-    (writes_job (λ m. m.now) held failures (λ m. m.ghost_name ∷ []) _ c.args.stamp.first old new
+    (writes_job (λ m. m.now) took failures (λ m. m.ghost_name ∷ []) _ c.args.stamp.first old new
     c.send_job-answer.result made.cut made.begun made.moment puts)

@@ -1,10 +1,11 @@
-use Rattle.std.proofs.Common.{◌≡◌, ap, rules, subst, ◌∙◌}
+use Rattle.std.proofs.Common.{◌≡◌, ap, refl, rules, subst, ◌∙◌}
 use Rattle.std.proofs.lemmas.Result.{err_from_is_err_and}
 use Rattle.key_mix.specs.Sending.{IsSendable, input_formats, settled_inputs}
 use Rattle.receiver_engines.specs.Inputs.{IsHeldFor, frames_lent, raster_formats, settled_frames}
 use Rattle.receiver_engines.specs.Processing.{TakesJob}
 use Rattle.receiver_engines.specs.Refused.{HasNoFill, IsJobOrPlanRefusal}
 use Rattle.run_outcome.proofs.Refusals.{if_err_map, of_refusal_map}
+use Rattle.receiver_engines.proofs.Parts.{sends_none}
 use Rattle.receiver_engines.proofs.Refusals.{fill_refused, hold_refused, if_ok_both, sent_refusal}
 use Rattle.receiver_engines.proofs.Settling.{fill_lent, some_lent}
 use Rattle.receiver_engines.proofs.processing.send_frames.Goals as goal
@@ -14,8 +15,8 @@ returns-clause-sent g c =
     let fs = c.in_ok-frames.frames.items in
     let fill = c.in_ok-fill.fill in
     let held = c.args.held.now in
-    let old = g.K.ByteSink.held c.args.sink.now in
-    let new = g.K.ByteSink.held c.send.new.sink in
+    let old = g.K.ByteSink.took c.args.sink.now in
+    let new = g.K.ByteSink.took c.send.new.sink in
     let first : c.deref.result.now ≡ fs = search rules in
     let second : c.deref-2.result.now ≡ fs = search rules in
     let third : c.deref-3.result.now ≡ fs = search rules in
@@ -99,3 +100,26 @@ returns-clause-refusal g c =
             refused;
       };
     })) is) c.send.ensures.refusal
+
+pub returns-in_err-frames-clause-part : goal.returns-in_err-frames-clause-part
+returns-in_err-frames-clause-part g c =
+    let p = err_from_is_err_and c.from_residual.result c.from_residual.ensures.1 in
+    rw (p.1) (sends_none c.args.job.now _ _ _ _ refl)
+
+pub returns-in_err-fill-clause-part : goal.returns-in_err-fill-clause-part
+returns-in_err-fill-clause-part g c =
+    let p = err_from_is_err_and c.from_residual-in_err-fill.result
+    c.from_residual-in_err-fill.ensures.1 in
+    rw (p.1) (sends_none c.args.job.now _ _ _ _ refl)
+
+pub returns-in_err-check_held-clause-part : goal.returns-in_err-check_held-clause-part
+returns-in_err-check_held-clause-part g c =
+    let p = err_from_is_err_and c.from_residual-in_err-check_held.result
+    c.from_residual-in_err-check_held.ensures.1 in
+    rw (p.1) (sends_none c.args.job.now _ _ _ _ refl)
+
+pub returns-in_err-inputs-clause-part : goal.returns-in_err-inputs-clause-part
+returns-in_err-inputs-clause-part g c =
+    let p = err_from_is_err_and c.from_residual-in_err-inputs.result
+    c.from_residual-in_err-inputs.ensures.1 in
+    rw (p.1) (sends_none c.args.job.now _ _ _ _ refl)

@@ -1,5 +1,7 @@
 use Rattle.std.proofs.Common.{◌≡◌, ℕ, ◌≤◌, length, take, get_or}
 use Rattle.std.specs.List.{sum_by}
+use Rattle.run_outcome.specs.Moments.{WasRead}
+use Rattle.std.specs.List.{zip}
 use Rattle.receiver_engines.specs.Reading.{SayReceivers}
 use Rattle.receiver_engines.proofs.reading.read_receivers.Given as goal
 
@@ -10,5 +12,6 @@ invariant-loop-place g l = record {
       ≡ sum_by g.S.ByteSource.failures l.initial.states;
   others : (k : ℕ) (s : g.row.S.Denot) → l.place ≤ k
       → get_or l.states k s ≡ get_or l.initial.states k s;
-  say : SayReceivers g.S.ByteSource.to_give (take l.place l.initial.states) l.receivers.items;
+  say : SayReceivers (WasRead g.S.ByteSource.gave g.S.ByteSource.ended)
+      (take l.place (zip l.initial.states l.states)) l.receivers.items;
 }

@@ -4,5 +4,5 @@ pub returns-in-Ok-clause-saved : goal.returns-in-Ok-clause-saved
 returns-in-Ok-clause-saved g c = record {
   receiver = c.args.receiver.now;
   writable = c.save_receiver.ensures.writable;
-  taken = c.in-Ok.ensures.ok;
+  taken = c.in-Ok.ensures.took;
 }

@@ -1,6 +1,7 @@
-use Rattle.std.proofs.Common.{◌≡◌, ◌∙◌, ap, arith, refl, subst, sym, ℕ, true}
+use Rattle.std.proofs.Common.{◌≡◌, ◌∙◌, ap, arith, refl, subst, sym, List, ℕ, true}
 use Rattle.std.proofs.lemmas.Bool.{false≢true}
-use Rattle.st_format.specs.Device.{CountsOne}
+use Rattle.st_format.specs.Device.{CountsOne, GrowsPart}
+use Rattle.receiver_engines.specs.Late.{late_octets}
 use Rattle.receiver_engines.proofs.Late.{on_err}
 use Rattle.receiver_engines.proofs.LateTakings.{stands_behind, stands_cut, took_none, took_one}
 use Rattle.receiver_engines.proofs.late_capture.LateCaptureDatagramSink.put.Goals as goal
@@ -12,6 +13,7 @@ returns-then-self-clause-fails g c =
     on_err c.fail.result (record {
       cut = c.fail.ensures.cut ∙ cut;
       counted = λ whole. absurd (false≢true (sym whole ∙ cut));
+      part = λ whole. absurd (false≢true (sym whole ∙ cut));
       untouched = λ _. c.fail.ensures.sink;
       names_stay = ap names c.fail.ensures.sink;
     })
@@ -23,7 +25,7 @@ returns-in-Ok-clause-takes g c =
       stays = c.if-self.false;
       begun = refl;
       moment = refl;
-      written = c.in-Ok.ensures.ok;
+      written = c.in-Ok.ensures.took;
       working = c.in-Ok.ensures.counted;
       names_stay = c.in-Ok.ensures.names;
     })
@@ -32,6 +34,7 @@ pub returns-in-Err-clause-fails : goal.returns-in-Err-clause-fails
 returns-in-Err-clause-fails g c =
     let names = g.K.ByteSink.names in
     let failures = g.K.ByteSink.failures in
+    let took = g.K.ByteSink.took in
     let same = c.fail-in-Err.ensures.sink in
     rw (← c.self.view_is)
     (on_err c.fail-in-Err.result (record {
@@ -39,6 +42,10 @@ returns-in-Err-clause-fails g c =
       counted =
           λ _. subst (λ (n : ℕ). CountsOne (failures c.self.inside.sink) n)
           (ap failures (sym same)) c.in-Err.ensures.counted;
+      part =
+          λ _. subst (λ (l : List ℕ). GrowsPart (took c.self.inside.sink) l
+          (late_octets c.self.inside.is_begun c.self.inside.moment c.args.octets.now))
+          (ap took (sym same)) c.in-Err.ensures.part;
       untouched = λ cut. absurd (false≢true (sym c.if-self.false ∙ cut));
       names_stay = ap names same ∙ c.in-Err.ensures.names;
     }))

@@ -1,0 +1,59 @@
+-- What a capture was written of a job's picture, where a run fails.
+use Rattle.std.proofs.Common.{◌≡◌, ℕ, List, [], ◌++◌, length, Err, append-nil}
+use Rattle.std.proofs.Common.{ap, arith, sym, ◌∙◌}
+use Rattle.std.proofs.lemmas.List.{take_all}
+use Rattle.key_mix.specs.Sending.{IsSentJob}
+use Rattle.key_mix.specs.declared.Job.{Job}
+use Rattle.key_mix.specs.declared.faults.SendJobFault.{SendJobFault}
+use Rattle.key_mix.specs.declared.faults.SendJobFault.TheVariants as fault
+use Rattle.packet_plan.specs.declared.stamp.Stamp.{Stamp}
+use Rattle.st_format.specs.Picture.{Values}
+use Rattle.receiver_engines.specs.Late.{late_text}
+use Rattle.receiver_engines.specs.Processing.{SendsPart, TakesJob, WritesJob}
+
+-- nothing
+pub sends_none : (job : Job) (size : ℕ) (stamp : Stamp) (old new : List ℕ) → new ≡ old
+    → SendsPart size stamp old new
+sends_none job size stamp old new same = record {
+  job = job;
+  pictures = [];
+  datagrams = [];
+  count = 0;
+  spell = λ some. absurd (omega (arith, some));
+  written = same ∙ sym (append-nil old);
+}
+
+-- all of it
+pub sends_all : (job : Job) (pictures : List Values) (size : ℕ) (stamp : Stamp)
+    (old new : List ℕ) (count : ℕ) → TakesJob job pictures size stamp old new count
+    → SendsPart size stamp old new
+sends_all job pictures size stamp old new count takes = record {
+  job = job;
+  pictures = pictures;
+  datagrams = takes.datagrams;
+  count = length (late_text takes.datagrams);
+  spell = λ some. takes.spell;
+  written =
+      takes.written
+      ∙ ap (λ (l : List ℕ). old ++ l)
+      (sym (take_all (length (late_text takes.datagrams)) (late_text takes.datagrams)
+      (omega arith)));
+}
+
+-- a part, where the sink failed
+pub sends_part : {K : Type 0} (job : Job) (pictures : List Values) (size : ℕ) (stamp : Stamp)
+    (took : K → List ℕ) (failures : K → ℕ) (first : ℕ) (old new : K) (e : SendJobFault)
+    → WritesJob (λ ds. IsSentJob ds job pictures size stamp) took failures first old new (Err e)
+    → SendsPart size stamp (took old) (took new)
+sends_part job pictures size stamp took failures first old new (fault.Sink sent) writes = record {
+  job = job;
+  pictures = pictures;
+  datagrams = writes.1.0;
+  count = writes.1.2.count;
+  spell = λ some. writes.1.1;
+  written = writes.1.2.grown;
+}
+sends_part {K} job pictures size stamp took failures first old new (fault.Job e) same =
+    sends_none job size stamp (took old) (took new) (ap took same)
+sends_part {K} job pictures size stamp took failures first old new fault.BadPacketSize same =
+    sends_none job size stamp (took old) (took new) (ap took same)
