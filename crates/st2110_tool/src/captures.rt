@@ -1,6 +1,10 @@
 //! The engines of captures, each with its status.
-ghost use Rattle.std.specs.Prelude.{◌≡◌, ◌≢◌, ◌+◌, ◌≤◌, ◌<◌, ◌⊎◌, ◌∷◌, [], sum_by, Option};
+ghost use Rattle.std.specs.Prelude.{◌≡◌, ◌≢◌, ◌+◌, ◌++◌, ◌≤◌, ◌<◌, ◌⊎◌, ◌∷◌, [], length, sum_by};
+ghost use Rattle.std.specs.Prelude.{Option};
 ghost use Rattle.std.specs.Io.KnownBytes.{Appends, IsAtEnd};
+ghost use Rattle.std.specs.List.{zip};
+ghost use Rattle.run_outcome.specs.Moments.{WasRead, pair};
+ghost use Rattle.st_format.specs.History.{IsRead};
 ghost use Rattle.run_outcome.specs.Fault.{StatusBlames, counts, failures_in};
 ghost use Rattle.run_outcome.specs.Refusing.{TellsRefusal};
 ghost use Rattle.capture_engines.specs.Sent.{IsSendRefusal};
@@ -9,9 +13,9 @@ ghost use Rattle.run_outcome.specs.Telling.{memory_line};
 ghost use Rattle.capture_engines.specs.Received.{IsReceiveRefusal};
 ghost use Rattle.capture_engines.specs.Receiving.{SavesShown};
 ghost use Rattle.capture_engines.specs.Taking.{Receives};
-ghost use Rattle.capture_engines.specs.Migrating.{LeavesOff, LeavesAt, Migrates};
+ghost use Rattle.capture_engines.specs.Migrating.{LeavesAt, LeavesOff, PrintsMigrated, passed};
 ghost use Rattle.capture_engines.specs.MigrateRefused.{IsMigrateRefusal};
-ghost use Rattle.media_file.specs.Migrated.{devices};
+ghost use Rattle.run_outcome.specs.Text.{GivesText};
 ghost use Rattle.capture_engines.specs.Looped.{IsLoopRefusal};
 ghost use Rattle.capture_engines.specs.Looping.{Loops};
 
@@ -57,16 +61,19 @@ where
         ∷ counts (K.failures sink.old) (K.failures sink.new)
         ∷ counts (O.failures output.old) (O.failures output.new)
         ∷ counts (F.failures faults.old) (F.failures faults.new) ∷ []) }
-    // What is written is the capture of the SDP text and of the datagrams of all pictures, in their
-    // order: of the k-th as frame k, the packets' numbers running on.
-    ensures sent { result ≡ 0 → SendsAll S.to_give wanted sdp.old pictures.old
-        (K.held sink.old) (K.held sink.new) }
+    // What is written is the capture of the SDP text that was read and of the datagrams of all
+    // pictures that were read, each source to its end, in their order: of the k-th as frame k, the
+    // packets' numbers running on. It is printed how many those are.
+    ensures sent { result ≡ 0 → SendsAll S.gave S.ended wanted sdp.old sdp.new
+        pictures.old pictures.new (K.took sink.old) (K.took sink.new)
+        (O.took output.old) (O.took output.new) }
     // At status 1 a refusal of the words or the files was told by its line.
     ensures told { result ≡ 1
-        → TellsRefusal (IsSendRefusal wanted.max_octets sdp.old S.to_give pictures.old)
-        (F.held faults.old) (F.held faults.new) }
+        → TellsRefusal (IsSendRefusal wanted.max_octets (length pictures.old) sdp.old sdp.new
+        (WasRead S.gave S.ended) (zip pictures.old pictures.new))
+        (F.took faults.old) (F.took faults.new) }
     ensures silent { result ≡ 0 → faults.new ≡ faults.old }
-    ensures memory { result ≡ 4 → Appends (F.held faults.old) (F.held faults.new) memory_line }
+    ensures memory { result ≡ 4 → F.took faults.new ≡ F.took faults.old ++ memory_line }
 {
     let outcome = send(alloc, wanted, sdp, pictures, sink, output);
     end(outcome, faults)
@@ -107,20 +114,22 @@ where
         ∷ counts (F.failures faults.old) (F.failures faults.new) ∷ []) }
     // What is printed is of the receiver that is written.
     ensures saved { result ≡ 0 → SavesShown wanted.entry.tells_refusals
-        (O.held output.old) (O.held output.new) (K.held state.old) (K.held state.new) }
-    // Where the captures tell their octets, what is written is the file of a receiver of the window
-    // and the source that are asked for, and of the format and the payload type that the SDP text
-    // says, which holds the Frames of all their datagrams; and what is printed counts those.
-    ensures taken { result ≡ 0 → Receives wanted.entry.window.now wanted.entry.ssrc.now sdp.old
-        S.to_give captures.old wanted.entry.tells_refusals
-        (O.held output.old) (O.held output.new) (K.held state.old) (K.held state.new) }
+        (O.took output.old) (O.took output.new) (K.took state.old) (K.took state.new) }
+    // What is written is the file of a receiver of the window and the source that are asked for,
+    // and of the format and the payload type that the SDP text says, which holds the Frames of all
+    // datagrams of the captures that were read; and what is printed counts those.
+    ensures taken { result ≡ 0 → Receives wanted.entry.window.now wanted.entry.ssrc.now
+        (pair sdp.old sdp.new) (WasRead S.gave S.ended) (zip captures.old captures.new)
+        wanted.entry.tells_refusals
+        (O.took output.old) (O.took output.new) (K.took state.old) (K.took state.new) }
     ensures refused { result ≡ 1 → state.new ≡ state.old }
     // At status 1 a refusal of the words or the files was told by its line.
     ensures told { result ≡ 1
-        → TellsRefusal (IsReceiveRefusal wanted.entry.window.now wanted.entry.ssrc.now sdp.old
-        S.to_give captures.old) (F.held faults.old) (F.held faults.new) }
+        → TellsRefusal (IsReceiveRefusal wanted.entry.window.now wanted.entry.ssrc.now
+        (pair sdp.old sdp.new) (WasRead S.gave S.ended) (zip captures.old captures.new))
+        (F.took faults.old) (F.took faults.new) }
     ensures silent { result ≡ 0 → faults.new ≡ faults.old }
-    ensures memory { result ≡ 4 → Appends (F.held faults.old) (F.held faults.new) memory_line }
+    ensures memory { result ≡ 4 → F.took faults.new ≡ F.took faults.old ++ memory_line }
 {
     let outcome = receive(alloc, wanted, sdp, captures, state, output);
     end(outcome, faults)
@@ -153,25 +162,32 @@ where
         ∷ counts (K.failures sink.old) (K.failures sink.new)
         ∷ counts (O.failures output.old) (O.failures output.new)
         ∷ counts (F.failures faults.old) (F.failures faults.new) ∷ []) }
-    ensures migrated { result ≡ 0 → Migrates (D.to_give sdp.old) (D.to_give sdp.new)
-        (S.to_give source.old) (S.to_give source.new) (K.held sink.old) (K.held sink.new) }
+    ensures migrated { result ≡ 0 → PrintsMigrated
+        (GivesText 65535 (D.gave sdp.old) (D.gave sdp.new) (D.ended sdp.new))
+        (S.gave source.old) (S.gave source.new) (S.ended source.new)
+        (K.took sink.old) (K.took sink.new) (O.took output.old) (O.took output.new) }
     // What is told is the first refusal that speaks against the text and the capture, and the
     // capture was written up to it.
     ensures told { result ≡ 1
-        → TellsRefusal (λ r. IsMigrateRefusal (D.to_give sdp.old) (S.to_give source.old) r
-        × LeavesAt r (D.to_give sdp.old) (D.to_give sdp.new)
-        (devices (S.to_give source.old) (S.failures source.old)
-        (K.held sink.old) (K.failures sink.old))
-        (devices (S.to_give source.new) (S.failures source.new)
-        (K.held sink.new) (K.failures sink.new)))
-        (F.held faults.old) (F.held faults.new) }
-    ensures left { result ≢ 0 → LeavesOff (D.to_give sdp.old) (D.to_give sdp.new)
-        (devices (S.to_give source.old) (S.failures source.old)
-        (K.held sink.old) (K.failures sink.old))
-        (devices (S.to_give source.new) (S.failures source.new)
-        (K.held sink.new) (K.failures sink.new)) }
+        → TellsRefusal (λ r. IsMigrateRefusal
+        (IsRead (D.gave sdp.old) (D.gave sdp.new) (D.ended sdp.new))
+        (IsRead (S.gave source.old) (S.gave source.new) (S.ended source.new)) r
+        × LeavesAt r (GivesText 65535 (D.gave sdp.old) (D.gave sdp.new) (D.ended sdp.new))
+        (S.ended source.new)
+        (passed (S.gave source.old) (S.failures source.old)
+        (K.took sink.old) (K.failures sink.old))
+        (passed (S.gave source.new) (S.failures source.new)
+        (K.took sink.new) (K.failures sink.new)))
+        (F.took faults.old) (F.took faults.new) }
+    ensures left { result ≢ 0
+        → LeavesOff (GivesText 65535 (D.gave sdp.old) (D.gave sdp.new) (D.ended sdp.new))
+        (S.ended source.new)
+        (passed (S.gave source.old) (S.failures source.old)
+        (K.took sink.old) (K.failures sink.old))
+        (passed (S.gave source.new) (S.failures source.new)
+        (K.took sink.new) (K.failures sink.new)) }
     ensures silent { result ≡ 0 → faults.new ≡ faults.old }
-    ensures memory { result ≡ 4 → Appends (F.held faults.old) (F.held faults.new) memory_line }
+    ensures memory { result ≡ 4 → F.took faults.new ≡ F.took faults.old ++ memory_line }
 {
     let outcome = migrate(alloc, sdp, source, sink, output);
     end(outcome, faults)
@@ -209,18 +225,27 @@ where
     // However it ends, no more turns are taken than the limit: the link delivers no more datagrams.
     ensures turns { L.DatagramSource.delivered link.new
         ≤ L.DatagramSource.delivered link.old + wanted.limit }
-    // What is printed is that of a receiver which holds the Frames of the datagrams that came in so
-    // many turns as datagrams were sent, of which there are no more than the limit; as many came as
-    // the link counts.
+    // The datagrams of the picture that was read were put into the link, up to the limit, and what
+    // is printed is that of a receiver which holds the Frames of what came of it.
     ensures looped { result ≡ 0 → Loops wanted.max_octets wanted.limit
-        (L.DatagramSource.delivered link.old) (L.DatagramSource.delivered link.new)
-        (S.to_give picture.old) (O.held output.old) (O.held output.new) }
+        (IsRead (S.gave picture.old) (S.gave picture.new) (S.ended picture.new))
+        (record {
+          took = L.DatagramSink.took link.old;
+          came = L.DatagramSource.came link.old;
+          delivered = L.DatagramSource.delivered link.old;
+        })
+        (record {
+          took = L.DatagramSink.took link.new;
+          came = L.DatagramSource.came link.new;
+          delivered = L.DatagramSource.delivered link.new;
+        })
+        (O.took output.old) (O.took output.new) }
     // At status 1 the picture's refusal, or that of its plan, was told by its line.
-    ensures told { result ≡ 1
-        → TellsRefusal (IsLoopRefusal wanted.max_octets (S.to_give picture.old))
-        (F.held faults.old) (F.held faults.new) }
+    ensures told { result ≡ 1 → TellsRefusal (IsLoopRefusal wanted.max_octets
+        (IsRead (S.gave picture.old) (S.gave picture.new) (S.ended picture.new)))
+        (F.took faults.old) (F.took faults.new) }
     ensures silent { result ≡ 0 → faults.new ≡ faults.old }
-    ensures memory { result ≡ 4 → Appends (F.held faults.old) (F.held faults.new) memory_line }
+    ensures memory { result ≡ 4 → F.took faults.new ≡ F.took faults.old ++ memory_line }
 {
     let outcome = loop_back(alloc, wanted, picture, link, output);
     end(outcome, faults)

@@ -1,8 +1,10 @@
 //! The engines of receivers' files, each with its status.
-ghost use Rattle.std.specs.Prelude.{◌≡◌, ◌⊎◌, ◌∷◌, [], ◌≤◌, ◌-◌, ◌+◌, sum_by, ℕ};
-ghost use Rattle.std.specs.Io.KnownBytes.{Appends};
+ghost use Rattle.std.specs.Prelude.{◌≡◌, ◌⊎◌, ◌∷◌, ◌++◌, [], ◌≤◌, ◌-◌, ◌+◌, length, sum_by, ℕ};
+ghost use Rattle.std.specs.List.{zip};
+ghost use Rattle.run_outcome.specs.Moments.{WasRead, pair};
+ghost use Rattle.st_format.specs.History.{IsRead};
 ghost use Rattle.run_outcome.specs.Fault.{StatusBlames, counts, failures_in};
-ghost use Rattle.receiver_engines.specs.Merging.{MergesFiles, Saves};
+ghost use Rattle.receiver_engines.specs.Merging.{MergesFiles, PrintsMerged, Saves};
 ghost use Rattle.receiver_engines.specs.MergeRefused.{IsMergeRefusal};
 ghost use Rattle.receiver_engines.specs.States.{IsStateRefusal};
 ghost use Rattle.run_outcome.specs.Refusing.{TellsRefusal};
@@ -46,18 +48,28 @@ where
         ∷ counts (K.failures state.old) (K.failures state.new)
         ∷ counts (O.failures output.old) (O.failures output.new)
         ∷ counts (F.failures faults.old) (F.failures faults.new) ∷ []) }
-    ensures saved { result ≡ 0 → Saves (K.held state.old) (K.held state.new) }
-    // The files are those of two receivers, and what is written is that of the two merged.
+    ensures saved { result ≡ 0 → Saves (K.took state.old) (K.took state.new) }
+    // What was read are the files of two receivers, and what is written is that of the two merged.
     ensures merged { result ≡ 0
-        → MergesFiles (L.to_give left.old) (R.to_give right.old) (K.held state.old)
-        (K.held state.new) }
+        → MergesFiles (IsRead (L.gave left.old) (L.gave left.new) (L.ended left.new))
+        (IsRead (R.gave right.old) (R.gave right.new) (R.ended right.new))
+        (K.took state.old) (K.took state.new) }
+    // A line is printed for each frame of the two merged.
+    ensures printed { result ≡ 0
+        → PrintsMerged (IsRead (L.gave left.old) (L.gave left.new) (L.ended left.new))
+        (IsRead (R.gave right.old) (R.gave right.new) (R.ended right.new))
+        (O.took output.old) (O.took output.new) }
+    // All of each file was read, up to its end.
+    ensures ended { result ≡ 0 → L.ended left.new × R.ended right.new }
     ensures refused { result ≡ 1 → state.new ≡ state.old }
     // What is told is the first refusal that speaks against the files.
     ensures told { result ≡ 1
-        → TellsRefusal (IsMergeRefusal (L.to_give left.old) (R.to_give right.old))
-        (F.held faults.old) (F.held faults.new) }
+        → TellsRefusal (IsMergeRefusal
+        (IsRead (L.gave left.old) (L.gave left.new) (L.ended left.new))
+        (IsRead (R.gave right.old) (R.gave right.new) (R.ended right.new)))
+        (F.took faults.old) (F.took faults.new) }
     ensures silent { result ≡ 0 → faults.new ≡ faults.old }
-    ensures memory { result ≡ 4 → Appends (F.held faults.old) (F.held faults.new) memory_line }
+    ensures memory { result ≡ 4 → F.took faults.new ≡ F.took faults.old ++ memory_line }
 {
     let outcome = merge(alloc, left, right, state, output);
     end(outcome, faults)
@@ -80,15 +92,19 @@ where
     ensures failures { StatusBlames result (counts (S.failures state.old) (S.failures state.new)
         ∷ counts (O.failures output.old) (O.failures output.new)
         ∷ counts (F.failures faults.old) (F.failures faults.new) ∷ []) }
-    // The file is that of a receiver, and what is written is its report.
+    // What was read is the file of a receiver, and what is written is its report.
     ensures reported { result ≡ 0
-        → Reports (S.to_give state.old) (O.held output.old) (O.held output.new) }
+        → Reports (IsRead (S.gave state.old) (S.gave state.new) (S.ended state.new))
+        (O.took output.old) (O.took output.new) }
+    // All of the file was read, up to its end.
+    ensures ended { result ≡ 0 → S.ended state.new }
     ensures refused { result ≡ 1 → output.new ≡ output.old }
     // What is told is the refusal of the file.
-    ensures told { result ≡ 1 → TellsRefusal (IsStateRefusal (S.to_give state.old))
-        (F.held faults.old) (F.held faults.new) }
+    ensures told { result ≡ 1 → TellsRefusal (IsStateRefusal
+        (IsRead (S.gave state.old) (S.gave state.new) (S.ended state.new)))
+        (F.took faults.old) (F.took faults.new) }
     ensures silent { result ≡ 0 → faults.new ≡ faults.old }
-    ensures memory { result ≡ 4 → Appends (F.held faults.old) (F.held faults.new) memory_line }
+    ensures memory { result ≡ 4 → F.took faults.new ≡ F.took faults.old ++ memory_line }
 {
     let outcome = report(alloc, state, output);
     end(outcome, faults)
@@ -133,17 +149,20 @@ where
         ∷ counts (F.failures faults.old) (F.failures faults.new) ∷ []) }
     // What is written is the capture of the datagrams of the job's picture, made of the receivers
     // and the held picture whose files were read; how many they are is printed.
-    ensures sent { result ≡ 0 → (count : ℕ) × SendsFiles S.to_give states.old hold.old
+    ensures len { length states.new ≡ length states.old }
+    ensures sent { result ≡ 0 → (count : ℕ) × SendsFiles (WasRead S.gave S.ended)
+        (zip states.old states.new) (pair hold.old hold.new)
         wanted.entry.job.now wanted.entry.timestamp wanted.entry.fill.now wanted.entry.max_octets
-        wanted.entry.stamp (K.held sink.old) (K.held sink.new) count
-        × PrintsSent count (O.held output.old) (O.held output.new) }
+        wanted.entry.stamp (K.took sink.old) (K.took sink.new) count
+        × PrintsSent count (O.took output.old) (O.took output.new) }
     ensures refused { result ≡ 1 → sink.new ≡ sink.old }
     // What is told is the first refusal that speaks against the words and files.
     ensures told { result ≡ 1
-        → TellsRefusal (IsRunRefusal S.to_give states.old hold.old wanted.entry)
-        (F.held faults.old) (F.held faults.new) }
+        → TellsRefusal (IsRunRefusal (WasRead S.gave S.ended) (zip states.old states.new)
+        (pair hold.old hold.new) wanted.entry)
+        (F.took faults.old) (F.took faults.new) }
     ensures silent { result ≡ 0 → faults.new ≡ faults.old }
-    ensures memory { result ≡ 4 → Appends (F.held faults.old) (F.held faults.new) memory_line }
+    ensures memory { result ≡ 4 → F.took faults.new ≡ F.took faults.old ++ memory_line }
 {
     let outcome = process(alloc, wanted, states, hold, sink, output);
     end(outcome, faults)

@@ -1,6 +1,6 @@
 //! The engines of texts, each with its status.
-ghost use Rattle.std.specs.Prelude.{◌≡◌, ◌⊎◌, ◌∷◌, []};
-ghost use Rattle.std.specs.Io.KnownBytes.{Appends};
+ghost use Rattle.std.specs.Prelude.{◌≡◌, ◌⊎◌, ◌∷◌, ◌++◌, []};
+ghost use Rattle.st_format.specs.History.{GrewFrom};
 ghost use Rattle.run_outcome.specs.Fault.{StatusBlames, counts};
 ghost use Rattle.run_outcome.specs.Refusing.{TellsRefusal};
 ghost use Rattle.run_outcome.specs.Telling.{memory_line};
@@ -8,7 +8,7 @@ ghost use Rattle.script_engines.specs.Described.{Describes, IsUndescribed};
 ghost use Rattle.script_engines.specs.Reading.{DoesScript, IsRefusedFor};
 ghost use Rattle.script_engines.specs.Rehearsed.{IsRefusedScript, Rehearses};
 ghost use Rattle.script_engines.specs.Script.{GivesAll, GivesScript};
-ghost use Rattle.script_engines.specs.Session.{IsTraceRefusal};
+ghost use Rattle.script_engines.specs.Traced.{IsUntraced, Traces};
 
 use run_outcome::end;
 use script_engines::{describe, rehearse, trace};
@@ -32,13 +32,21 @@ where
     ensures failures { StatusBlames result (counts (S.failures source.old) (S.failures source.new)
         ∷ counts (O.failures output.old) (O.failures output.new)
         ∷ counts (F.failures faults.old) (F.failures faults.new) ∷ []) }
-    ensures whole { result ≡ 0 → GivesScript (S.to_give source.old) (S.to_give source.new) }
-    ensures read { result ≡ 1 → GivesAll (S.to_give source.old) (S.to_give source.new) }
-    // At status 1 a refusal of the script was told by its line.
-    ensures told { result ≡ 1
-        → TellsRefusal IsTraceRefusal (F.held faults.old) (F.held faults.new) }
+    ensures whole { result ≡ 0 → GivesScript (S.gave source.old) (S.gave source.new)
+        (S.ended source.new) }
+    ensures read { result ≡ 1 → GivesAll (S.gave source.old) (S.gave source.new)
+        (S.ended source.new) }
+    ensures grown { GrewFrom (S.gave source.old) (S.gave source.new) }
+    // At status 1 why the script is refused was told by its line: which of its lines is at fault.
+    ensures told { result ≡ 1 → TellsRefusal
+        (IsRefusedFor IsUntraced (S.gave source.old) (S.gave source.new) (S.ended source.new))
+        (F.took faults.old) (F.took faults.new) }
     ensures silent { result ≡ 0 → faults.new ≡ faults.old }
-    ensures memory { result ≡ 4 → Appends (F.held faults.old) (F.held faults.new) memory_line }
+    ensures memory { result ≡ 4 → F.took faults.new ≡ F.took faults.old ++ memory_line }
+    // At 0 the script's lines were followed, and printed are their answers and what is known at the
+    // end.
+    ensures traces { result ≡ 0 → DoesScript Traces (S.gave source.old) (S.gave source.new)
+        (S.ended source.new) (O.took output.old) (O.took output.new) }
 {
     let outcome = trace(alloc, source, output);
     end(outcome, faults)
@@ -60,17 +68,21 @@ where
     ensures failures { StatusBlames result (counts (S.failures source.old) (S.failures source.new)
         ∷ counts (O.failures output.old) (O.failures output.new)
         ∷ counts (F.failures faults.old) (F.failures faults.new) ∷ []) }
-    ensures whole { result ≡ 0 → GivesScript (S.to_give source.old) (S.to_give source.new) }
-    ensures read { result ≡ 1 → GivesAll (S.to_give source.old) (S.to_give source.new) }
+    ensures whole { result ≡ 0 → GivesScript (S.gave source.old) (S.gave source.new)
+        (S.ended source.new) }
+    ensures read { result ≡ 1 → GivesAll (S.gave source.old) (S.gave source.new)
+        (S.ended source.new) }
+    ensures grown { GrewFrom (S.gave source.old) (S.gave source.new) }
     // At status 1 the first fault of the text was told by its line.
     ensures told { result ≡ 1 → TellsRefusal
-        (IsRefusedFor IsUndescribed (S.to_give source.old) (S.to_give source.new))
-        (F.held faults.old) (F.held faults.new) }
+        (IsRefusedFor IsUndescribed (S.gave source.old) (S.gave source.new) (S.ended source.new))
+        (F.took faults.old) (F.took faults.new) }
     ensures silent { result ≡ 0 → faults.new ≡ faults.old }
-    ensures memory { result ≡ 4 → Appends (F.held faults.old) (F.held faults.new) memory_line }
-    // At 0 the canonical line of the text is printed.
-    ensures printed { result ≡ 0 → DoesScript Describes
-        (S.to_give source.old) (S.to_give source.new) (O.held output.old) (O.held output.new) }
+    ensures memory { result ≡ 4 → F.took faults.new ≡ F.took faults.old ++ memory_line }
+    // At 0 the canonical line of the text is printed; at 1 nothing is.
+    ensures printed { result ≡ 0 → DoesScript Describes (S.gave source.old) (S.gave source.new)
+        (S.ended source.new) (O.took output.old) (O.took output.new) }
+    ensures nothing { result ≡ 1 → O.took output.new ≡ O.took output.old }
 {
     let outcome = describe(alloc, source, output);
     end(outcome, faults)
@@ -93,18 +105,21 @@ where
     ensures failures { StatusBlames result (counts (S.failures source.old) (S.failures source.new)
         ∷ counts (O.failures output.old) (O.failures output.new)
         ∷ counts (F.failures faults.old) (F.failures faults.new) ∷ []) }
-    ensures whole { result ≡ 0 → GivesScript (S.to_give source.old) (S.to_give source.new) }
-    ensures read { result ≡ 1 → GivesAll (S.to_give source.old) (S.to_give source.new) }
+    ensures whole { result ≡ 0 → GivesScript (S.gave source.old) (S.gave source.new)
+        (S.ended source.new) }
+    ensures read { result ≡ 1 → GivesAll (S.gave source.old) (S.gave source.new)
+        (S.ended source.new) }
+    ensures grown { GrewFrom (S.gave source.old) (S.gave source.new) }
     // At status 1 why the script is no rehearsal, or isn't played, was told by its line.
     ensures told { result ≡ 1 → TellsRefusal
-        (IsRefusedFor IsRefusedScript (S.to_give source.old) (S.to_give source.new))
-        (F.held faults.old) (F.held faults.new) }
+        (IsRefusedFor IsRefusedScript (S.gave source.old) (S.gave source.new) (S.ended source.new))
+        (F.took faults.old) (F.took faults.new) }
     ensures silent { result ≡ 0 → faults.new ≡ faults.old }
-    ensures memory { result ≡ 4 → Appends (F.held faults.old) (F.held faults.new) memory_line }
+    ensures memory { result ≡ 4 → F.took faults.new ≡ F.took faults.old ++ memory_line }
     // At 0 what the script says is played, and printed; at 1 nothing is printed.
-    ensures rehearses { result ≡ 0 → DoesScript (Rehearses A)
-        (S.to_give source.old) (S.to_give source.new) (O.held output.old) (O.held output.new) }
-    ensures nothing { result ≡ 1 → O.held output.new ≡ O.held output.old }
+    ensures rehearses { result ≡ 0 → DoesScript (Rehearses A) (S.gave source.old)
+        (S.gave source.new) (S.ended source.new) (O.took output.old) (O.took output.new) }
+    ensures nothing { result ≡ 1 → O.took output.new ≡ O.took output.old }
 {
     let outcome = rehearse(alloc, source, output);
     end(outcome, faults)

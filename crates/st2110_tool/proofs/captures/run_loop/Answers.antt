@@ -1,4 +1,5 @@
 use Rattle.std.proofs.Common.{List, [], ◌∷◌}
+use Rattle.st_format.specs.History.{IsRead}
 use Rattle.capture_engines.specs.Looped.{IsLoopRefusal}
 use Rattle.run_outcome.specs.Fault.{Failures, counts}
 use Rattle.run_outcome.proofs.Ended.{blamed, on_done}
@@ -26,6 +27,9 @@ returns-clause-looped g c =
 pub returns-clause-told : goal.returns-clause-told
 returns-clause-told g c =
     let run = c.loop_back-outcome in
-    let Is = IsLoopRefusal c.args.wanted.max_octets (g.S.ByteSource.to_give c.args.picture.now) in
-    λ one. outcome_told Is run.result (g.F.ByteSink.held c.args.faults.now)
-    (g.F.ByteSink.held c.end.new.faults) (c.end.ensures.told one) run.ensures.refusal
+    let Is =
+    IsLoopRefusal c.args.wanted.max_octets
+    (IsRead (g.S.ByteSource.gave c.args.picture.now) (g.S.ByteSource.gave run.new.source)
+    (g.S.ByteSource.ended run.new.source)) in
+    λ one. outcome_told Is run.result (g.F.ByteSink.took c.args.faults.now)
+    (g.F.ByteSink.took c.end.new.faults) (c.end.ensures.told one) run.ensures.refusal

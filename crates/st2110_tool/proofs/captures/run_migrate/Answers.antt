@@ -1,7 +1,8 @@
 use Rattle.std.proofs.Common.{List, [], ◌∷◌}
 use Rattle.run_outcome.specs.Fault.{Failures, counts}
-use Rattle.media_file.specs.Migrated.{Devices, devices}
-use Rattle.capture_engines.specs.Migrating.{LeavesAt}
+use Rattle.st_format.specs.History.{IsRead}
+use Rattle.run_outcome.specs.Text.{GivesText}
+use Rattle.capture_engines.specs.Migrating.{LeavesAt, Passed, passed}
 use Rattle.capture_engines.specs.MigrateRefused.{IsMigrateRefusal}
 use Rattle.run_outcome.specs.declared.refusal.Refusal.{Refusal}
 use Rattle.run_outcome.proofs.Ended.{blamed, on_done}
@@ -31,28 +32,41 @@ returns-clause-migrated g c =
 pub returns-clause-left : goal.returns-clause-left
 returns-clause-left g c =
     let run = c.migrate-outcome in
-    let old : Devices =
-    devices (g.S.ByteSource.to_give c.args.source.now) (g.S.ByteSource.failures c.args.source.now)
-    (g.K.ByteSink.held c.args.sink.now) (g.K.ByteSink.failures c.args.sink.now) in
-    let new : Devices =
-    devices (g.S.ByteSource.to_give run.new.source) (g.S.ByteSource.failures run.new.source)
-    (g.K.ByteSink.held run.new.sink) (g.K.ByteSink.failures run.new.sink) in
-    λ _. run_left run.result (g.D.ByteSource.to_give c.args.sdp.now)
-    (g.D.ByteSource.to_give run.new.sdp) old new run.ensures.migrated run.ensures.left
+    let told = g.S.ByteSource in
+    let sink = g.K.ByteSink in
+    let sdp = g.D.ByteSource in
+    let over = told.ended run.new.source in
+    let Said =
+    GivesText 65535 (sdp.gave c.args.sdp.now) (sdp.gave run.new.sdp) (sdp.ended run.new.sdp) in
+    let old : Passed =
+    passed (told.gave c.args.source.now) (told.failures c.args.source.now)
+    (sink.took c.args.sink.now) (sink.failures c.args.sink.now) in
+    let new : Passed =
+    passed (told.gave run.new.source) (told.failures run.new.source)
+    (sink.took run.new.sink) (sink.failures run.new.sink) in
+    λ _. run_left run.result Said over old new (g.O.ByteSink.took c.args.output.now)
+    (g.O.ByteSink.took run.new.output) run.ensures.migrated run.ensures.left
 
 pub returns-clause-told : goal.returns-clause-told
 returns-clause-told g c =
     let run = c.migrate-outcome in
-    let old : Devices =
-    devices (g.S.ByteSource.to_give c.args.source.now) (g.S.ByteSource.failures c.args.source.now)
-    (g.K.ByteSink.held c.args.sink.now) (g.K.ByteSink.failures c.args.sink.now) in
-    let new : Devices =
-    devices (g.S.ByteSource.to_give run.new.source) (g.S.ByteSource.failures run.new.source)
-    (g.K.ByteSink.held run.new.sink) (g.K.ByteSink.failures run.new.sink) in
-    let sdp_old = g.D.ByteSource.to_give c.args.sdp.now in
-    let sdp_new = g.D.ByteSource.to_give run.new.sdp in
-    let told = IsMigrateRefusal sdp_old (g.S.ByteSource.to_give c.args.source.now) in
-    λ one. outcome_told (λ (r : Refusal). told r × LeavesAt r sdp_old sdp_new old new) run.result
-    (g.F.ByteSink.held c.args.faults.now) (g.F.ByteSink.held c.end.new.faults)
+    let told = g.S.ByteSource in
+    let sink = g.K.ByteSink in
+    let sdp = g.D.ByteSource in
+    let over = told.ended run.new.source in
+    let Said =
+    GivesText 65535 (sdp.gave c.args.sdp.now) (sdp.gave run.new.sdp) (sdp.ended run.new.sdp) in
+    let old : Passed =
+    passed (told.gave c.args.source.now) (told.failures c.args.source.now)
+    (sink.took c.args.sink.now) (sink.failures c.args.sink.now) in
+    let new : Passed =
+    passed (told.gave run.new.source) (told.failures run.new.source)
+    (sink.took run.new.sink) (sink.failures run.new.sink) in
+    let Is =
+    IsMigrateRefusal
+    (IsRead (sdp.gave c.args.sdp.now) (sdp.gave run.new.sdp) (sdp.ended run.new.sdp))
+    (IsRead (told.gave c.args.source.now) (told.gave run.new.source) over) in
+    λ one. outcome_told (λ (r : Refusal). Is r × LeavesAt r Said over old new) run.result
+    (g.F.ByteSink.took c.args.faults.now) (g.F.ByteSink.took c.end.new.faults)
     (c.end.ensures.told one)
-    (refused_left told run.result sdp_old sdp_new old new run.ensures.refusal run.ensures.left)
+    (refused_left Is run.result Said over old new run.ensures.refusal run.ensures.left)

@@ -1,6 +1,8 @@
 use Rattle.std.proofs.Common.{List, [], ◌∷◌}
 use Rattle.std.specs.List.{sum_by}
+use Rattle.run_outcome.specs.Moments.{WasRead, pair}
 use Rattle.capture_engines.specs.Received.{IsReceiveRefusal}
+use Rattle.std.specs.List.{zip}
 use Rattle.run_outcome.specs.Fault.{Failures, counts, failures_in}
 use Rattle.run_outcome.proofs.Ended.{blamed, on_done, on_refused}
 use Rattle.run_outcome.proofs.Refusals.{outcome_told}
@@ -40,7 +42,9 @@ returns-clause-refused g c =
 pub returns-clause-told : goal.returns-clause-told
 returns-clause-told g c =
     let run = c.receive-outcome in
-    let Is = IsReceiveRefusal c.args.wanted.window.now c.args.wanted.ssrc.now c.args.sdp.now
-    g.S.ByteSource.to_give c.args.captures.now in
-    λ one. outcome_told Is run.result (g.F.ByteSink.held c.args.faults.now)
-    (g.F.ByteSink.held c.end.new.faults) (c.end.ensures.told one) run.ensures.refusal
+    let told = g.S.ByteSource in
+    let Is = IsReceiveRefusal c.args.wanted.window.now c.args.wanted.ssrc.now
+    (pair c.args.sdp.now run.new.sdp) (WasRead told.gave told.ended)
+    (zip c.args.captures.now run.new.captures) in
+    λ one. outcome_told Is run.result (g.F.ByteSink.took c.args.faults.now)
+    (g.F.ByteSink.took c.end.new.faults) (c.end.ensures.told one) run.ensures.refusal

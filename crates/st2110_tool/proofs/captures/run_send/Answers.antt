@@ -1,5 +1,6 @@
-use Rattle.std.proofs.Common.{List, [], ◌∷◌}
-use Rattle.std.specs.List.{sum_by}
+use Rattle.std.proofs.Common.{List, [], ◌∷◌, length}
+use Rattle.std.specs.List.{sum_by, zip}
+use Rattle.run_outcome.specs.Moments.{WasRead}
 use Rattle.capture_engines.specs.Sent.{IsSendRefusal}
 use Rattle.run_outcome.specs.Fault.{Failures, counts, failures_in}
 use Rattle.run_outcome.proofs.Ended.{blamed, on_done}
@@ -30,7 +31,9 @@ returns-clause-sent g c =
 pub returns-clause-told : goal.returns-clause-told
 returns-clause-told g c =
     let run = c.send-outcome in
-    let Is = IsSendRefusal c.args.wanted.max_octets c.args.sdp.now
-    g.S.ByteSource.to_give c.args.pictures.now in
-    λ one. outcome_told Is run.result (g.F.ByteSink.held c.args.faults.now)
-    (g.F.ByteSink.held c.end.new.faults) (c.end.ensures.told one) run.ensures.refusal
+    let Is =
+    IsSendRefusal c.args.wanted.max_octets (length c.args.pictures.now) c.args.sdp.now
+    run.new.sdp (WasRead g.S.ByteSource.gave g.S.ByteSource.ended)
+    (zip c.args.pictures.now run.new.pictures) in
+    λ one. outcome_told Is run.result (g.F.ByteSink.took c.args.faults.now)
+    (g.F.ByteSink.took c.end.new.faults) (c.end.ensures.told one) run.ensures.refusal

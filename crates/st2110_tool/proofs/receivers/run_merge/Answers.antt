@@ -3,6 +3,7 @@ use Rattle.receiver_engines.specs.MergeRefused.{IsMergeRefusal}
 use Rattle.run_outcome.specs.Fault.{Failures, counts}
 use Rattle.run_outcome.proofs.Ended.{blamed, on_done, on_refused}
 use Rattle.run_outcome.proofs.Refusals.{outcome_told}
+use Rattle.st_format.specs.History.{IsRead}
 use Rattle.st2110_tool.proofs.receivers.run_merge.Goals as goal
 
 pub returns-clause-failures : goal.returns-clause-failures
@@ -37,7 +38,22 @@ returns-clause-refused g c =
 pub returns-clause-told : goal.returns-clause-told
 returns-clause-told g c =
     let run = c.merge-outcome in
-    let Is = IsMergeRefusal (g.L.ByteSource.to_give c.args.left.now)
-    (g.R.ByteSource.to_give c.args.right.now) in
-    λ one. outcome_told Is run.result (g.F.ByteSink.held c.args.faults.now)
-    (g.F.ByteSink.held c.end.new.faults) (c.end.ensures.told one) run.ensures.refusal
+    let one = run.new.left in
+    let two = run.new.right in
+    let Is = IsMergeRefusal
+    (IsRead (g.L.ByteSource.gave c.args.left.now) (g.L.ByteSource.gave one)
+    (g.L.ByteSource.ended one))
+    (IsRead (g.R.ByteSource.gave c.args.right.now) (g.R.ByteSource.gave two)
+    (g.R.ByteSource.ended two)) in
+    λ told. outcome_told Is run.result (g.F.ByteSink.took c.args.faults.now)
+    (g.F.ByteSink.took c.end.new.faults) (c.end.ensures.told told) run.ensures.refusal
+
+pub returns-clause-ended : goal.returns-clause-ended
+returns-clause-ended g c =
+    let run = c.merge-outcome in
+    λ is. on_done run.result _ (c.end.ensures.done is) run.ensures.ended
+
+pub returns-clause-printed : goal.returns-clause-printed
+returns-clause-printed g c =
+    let run = c.merge-outcome in
+    λ is. on_done run.result _ (c.end.ensures.done is) run.ensures.printed

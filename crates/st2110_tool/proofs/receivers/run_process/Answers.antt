@@ -1,5 +1,7 @@
 use Rattle.std.proofs.Common.{List, [], ◌∷◌}
 use Rattle.std.specs.List.{sum_by}
+use Rattle.run_outcome.specs.Moments.{WasRead, pair}
+use Rattle.std.specs.List.{zip}
 use Rattle.receiver_engines.specs.Refused.{IsRunRefusal}
 use Rattle.run_outcome.specs.Fault.{Failures, counts, failures_in}
 use Rattle.run_outcome.proofs.Ended.{blamed, on_done, on_refused}
@@ -35,6 +37,8 @@ returns-clause-refused g c =
 pub returns-clause-told : goal.returns-clause-told
 returns-clause-told g c =
     let run = c.process-outcome in
-    let Is = IsRunRefusal g.S.ByteSource.to_give c.args.states.now c.args.hold.now c.args.wanted in
-    λ one. outcome_told Is run.result (g.F.ByteSink.held c.args.faults.now)
-    (g.F.ByteSink.held c.end.new.faults) (c.end.ensures.told one) run.ensures.refusal
+    let Is = IsRunRefusal (WasRead g.S.ByteSource.gave g.S.ByteSource.ended)
+    (zip c.args.states.now run.new.states) (pair c.args.hold.now run.new.hold)
+    c.args.wanted in
+    λ one. outcome_told Is run.result (g.F.ByteSink.took c.args.faults.now)
+    (g.F.ByteSink.took c.end.new.faults) (c.end.ensures.told one) run.ensures.refusal

@@ -3,6 +3,7 @@ use Rattle.receiver_engines.specs.States.{IsStateRefusal}
 use Rattle.run_outcome.specs.Fault.{Failures, counts}
 use Rattle.run_outcome.proofs.Ended.{blamed, on_done, on_refused}
 use Rattle.run_outcome.proofs.Refusals.{outcome_told}
+use Rattle.st_format.specs.History.{IsRead}
 use Rattle.st2110_tool.proofs.receivers.run_report.Goals as goal
 
 pub returns-clause-failures : goal.returns-clause-failures
@@ -30,6 +31,14 @@ returns-clause-refused g c =
 pub returns-clause-told : goal.returns-clause-told
 returns-clause-told g c =
     let run = c.report-outcome in
-    let Is = IsStateRefusal (g.S.ByteSource.to_give c.args.state.now) in
-    λ one. outcome_told Is run.result (g.F.ByteSink.held c.args.faults.now)
-    (g.F.ByteSink.held c.end.new.faults) (c.end.ensures.told one) run.ensures.refusal
+    let state = run.new.state in
+    let Is = IsStateRefusal
+    (IsRead (g.S.ByteSource.gave c.args.state.now) (g.S.ByteSource.gave state)
+    (g.S.ByteSource.ended state)) in
+    λ one. outcome_told Is run.result (g.F.ByteSink.took c.args.faults.now)
+    (g.F.ByteSink.took c.end.new.faults) (c.end.ensures.told one) run.ensures.refusal
+
+pub returns-clause-ended : goal.returns-clause-ended
+returns-clause-ended g c =
+    let run = c.report-outcome in
+    λ is. on_done run.result _ (c.end.ensures.done is) run.ensures.ended

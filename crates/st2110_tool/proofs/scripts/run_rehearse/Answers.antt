@@ -32,10 +32,10 @@ returns-clause-nothing g c =
 pub returns-clause-told : goal.returns-clause-told
 returns-clause-told g c =
     let run = c.rehearse-outcome in
-    let Is = IsRefusedFor IsRefusedScript (g.S.ByteSource.to_give c.args.source.now)
-    (g.S.ByteSource.to_give run.new.source) in
-    λ one. outcome_told Is run.result (g.F.ByteSink.held c.args.faults.now)
-    (g.F.ByteSink.held c.end.new.faults) (c.end.ensures.told one) run.ensures.refusal
+    let Is = IsRefusedFor IsRefusedScript (g.S.ByteSource.gave c.args.source.now)
+    (g.S.ByteSource.gave run.new.source) (g.S.ByteSource.ended run.new.source) in
+    λ one. outcome_told Is run.result (g.F.ByteSink.took c.args.faults.now)
+    (g.F.ByteSink.took c.end.new.faults) (c.end.ensures.told one) run.ensures.refusal
 
 pub returns-clause-whole : goal.returns-clause-whole
 returns-clause-whole g c =

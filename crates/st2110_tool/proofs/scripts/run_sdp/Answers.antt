@@ -3,7 +3,7 @@ use Rattle.script_engines.specs.Described.{IsUndescribed}
 use Rattle.script_engines.specs.Reading.{IsRefusedFor}
 use Rattle.st2110_tool.proofs.ReadScripts.{read_all, read_whole}
 use Rattle.run_outcome.specs.Fault.{Failures, counts}
-use Rattle.run_outcome.proofs.Ended.{blamed, on_done}
+use Rattle.run_outcome.proofs.Ended.{blamed, on_done, on_refused}
 use Rattle.run_outcome.proofs.Refusals.{outcome_told}
 use Rattle.st2110_tool.proofs.scripts.run_sdp.Goals as goal
 
@@ -24,13 +24,18 @@ returns-clause-printed g c =
     let run = c.describe-outcome in
     λ is. on_done run.result _ (c.end.ensures.done is) run.ensures.printed
 
+pub returns-clause-nothing : goal.returns-clause-nothing
+returns-clause-nothing g c =
+    let run = c.describe-outcome in
+    λ is. on_refused run.result _ (c.end.ensures.refused is) run.ensures.nothing
+
 pub returns-clause-told : goal.returns-clause-told
 returns-clause-told g c =
     let run = c.describe-outcome in
-    let Is = IsRefusedFor IsUndescribed (g.S.ByteSource.to_give c.args.source.now)
-    (g.S.ByteSource.to_give run.new.source) in
-    λ one. outcome_told Is run.result (g.F.ByteSink.held c.args.faults.now)
-    (g.F.ByteSink.held c.end.new.faults) (c.end.ensures.told one) run.ensures.refusal
+    let Is = IsRefusedFor IsUndescribed (g.S.ByteSource.gave c.args.source.now)
+    (g.S.ByteSource.gave run.new.source) (g.S.ByteSource.ended run.new.source) in
+    λ one. outcome_told Is run.result (g.F.ByteSink.took c.args.faults.now)
+    (g.F.ByteSink.took c.end.new.faults) (c.end.ensures.told one) run.ensures.refusal
 
 pub returns-clause-whole : goal.returns-clause-whole
 returns-clause-whole g c =

@@ -1,8 +1,9 @@
 use Rattle.std.proofs.Common.{List, [], ◌∷◌}
-use Rattle.script_engines.specs.Session.{IsTraceRefusal}
+use Rattle.script_engines.specs.Reading.{IsRefusedFor}
+use Rattle.script_engines.specs.Traced.{IsUntraced}
 use Rattle.st2110_tool.proofs.ReadScripts.{read_all, read_whole}
 use Rattle.run_outcome.specs.Fault.{Failures, counts}
-use Rattle.run_outcome.proofs.Ended.{blamed}
+use Rattle.run_outcome.proofs.Ended.{blamed, on_done}
 use Rattle.run_outcome.proofs.Refusals.{outcome_told}
 use Rattle.st2110_tool.proofs.scripts.run_trace.Goals as goal
 
@@ -18,12 +19,18 @@ returns-clause-failures g c =
     blamed run.result devices last c.end.result run.ensures.failures c.end.ensures.failed
     c.end.ensures.worked c.end.ensures.working
 
+pub returns-clause-traces : goal.returns-clause-traces
+returns-clause-traces g c =
+    let run = c.trace-outcome in
+    λ is. on_done run.result _ (c.end.ensures.done is) run.ensures.traces
+
 pub returns-clause-told : goal.returns-clause-told
 returns-clause-told g c =
     let run = c.trace-outcome in
-    let Is = IsTraceRefusal in
-    λ one. outcome_told Is run.result (g.F.ByteSink.held c.args.faults.now)
-    (g.F.ByteSink.held c.end.new.faults) (c.end.ensures.told one) run.ensures.refusal
+    let Is = IsRefusedFor IsUntraced (g.S.ByteSource.gave c.args.source.now)
+    (g.S.ByteSource.gave run.new.source) (g.S.ByteSource.ended run.new.source) in
+    λ one. outcome_told Is run.result (g.F.ByteSink.took c.args.faults.now)
+    (g.F.ByteSink.took c.end.new.faults) (c.end.ensures.told one) run.ensures.refusal
 
 pub returns-clause-whole : goal.returns-clause-whole
 returns-clause-whole g c =
