@@ -88,6 +88,25 @@ pub use Rattle.media_file.specs.Writer
 pub use Rattle.receiver_file.specs.Saved
 pub use Rattle.receiver_file.specs.StateFaults
 pub use Rattle.receiver_file.specs.StateReading
+pub use Rattle.pcap_file.specs.BlockReading
+pub use Rattle.pcap_file.specs.Blocks as RecordingBlocks
+pub use Rattle.pcap_file.specs.Datagram as RecordingDatagram
+pub use Rattle.pcap_file.specs.Fields as RecordingFields
+pub use Rattle.pcap_file.specs.Ip as RecordingIp
+pub use Rattle.pcap_file.specs.Link as RecordingLink
+pub use Rattle.pcap_file.specs.NgReading
+pub use Rattle.pcap_file.specs.NgSteps
+pub use Rattle.pcap_file.specs.Orders
+pub use Rattle.pcap_file.specs.Parts
+pub use Rattle.pcap_file.specs.Pcap
+pub use Rattle.pcap_file.specs.PcapReading
+pub use Rattle.pcap_file.specs.Reading as RecordingReading
+pub use Rattle.pcap_file.specs.Reasons
+pub use Rattle.pcap_file.specs.Recording
+pub use Rattle.pcap_file.specs.RecordingFaults
+pub use Rattle.pcap_file.specs.Udp as RecordingUdp
+pub use Rattle.pcap_file.specs.Views as RecordingViews
+pub use Rattle.pcap_file.specs.Writing as RecordingWriting
 pub use Rattle.frame_report.specs.Contested
 pub use Rattle.frame_report.specs.Faults as ReportFaults
 pub use Rattle.frame_report.specs.Missing as ReportMissing

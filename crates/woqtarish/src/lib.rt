@@ -99,6 +99,17 @@ pub mod files {
     };
 }
 
+/// Recordings of other tools, as pcap and pcapng: their packets, as datagrams of UDP.
+pub mod recordings {
+    pub use pcap_file::{
+        ByteOrder, DatagramView, Envelope, HEADS, INTERFACES, Interface, IpVersion, Link, LinkView,
+        NoDatagram, PCAP_HEAD, PacketHead, PacketView, PcapHead, RECORD_HEAD, RecordingFault,
+        Section, Step, next_block, next_record, read_datagram, read_first_section, read_link,
+        read_packet, read_pcap, read_pcap_head, read_record_head, read_udp, record_begins,
+        record_rest, write_pcap_head, write_record,
+    };
+}
+
 /// A receiver's report as text.
 pub mod report {
     pub use frame_report::{ReportFault, write_report};
@@ -121,6 +132,7 @@ pub mod laws {
     pub use frame_report::laws as report;
     pub use packet_plan::laws as send;
     pub use path_merge::{laws as receive, number_laws as numbers};
+    pub use pcap_file::laws as recordings;
     pub use sdp_format::laws as describe;
     pub use st_format::laws as formats;
 }

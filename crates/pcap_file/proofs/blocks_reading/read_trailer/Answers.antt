@@ -1,0 +1,54 @@
+use Rattle.std.proofs.lemmas.Result.{err_from_is_err_and}
+use Rattle.pcap_file.specs.NgReading.{again_of, trailer_at}
+use Rattle.pcap_file.proofs.FieldReads.{made_cut, made_fails, made_gives}
+use Rattle.pcap_file.specs.Fields.{field_at}
+use Rattle.pcap_file.proofs.Gave.{fault_made, fault_one, gave_made}
+use Rattle.pcap_file.proofs.blocks_reading.read_trailer.Goals as goal
+
+pub returns-in_err-read_field-clause-fault : goal.returns-in_err-read_field-clause-fault
+unfolding trailer_at
+returns-in_err-read_field-clause-fault g c =
+    let p = err_from_is_err_and c.from_residual.result c.from_residual.ensures.1 in
+    rw (p.1, p.2)
+    (made_cut 4 (again_of c.args.order c.args.total) _ c.in_err-read_field.field-0.0
+    c.in_err-read_field.ensures.fault)
+
+pub returns-clause-read : goal.returns-clause-read
+unfolding trailer_at
+returns-clause-read g c =
+    made_gives 4 (again_of c.args.order c.args.total) _ _ c.read_field.new.buf c.again_in.result
+    c.in_ok-read_field.ensures.read
+    c.again_in.ensures
+
+pub returns-clause-fault : goal.returns-clause-fault
+unfolding trailer_at
+returns-clause-fault g c =
+    made_fails 4 (again_of c.args.order c.args.total) _ _ c.read_field.new.buf c.again_in.result
+    c.in_ok-read_field.ensures.read
+    c.again_in.ensures
+
+pub returns-in_err-read_field-clause-gave_wrong : goal.returns-in_err-read_field-clause-gave_wrong
+unfolding trailer_at
+returns-in_err-read_field-clause-gave_wrong g c =
+    let p = err_from_is_err_and c.from_residual.result c.from_residual.ensures.1 in
+    rw (p.1, p.2)
+    (fault_one (field_at 4) (trailer_at c.args.order c.args.total) _ _ _
+    c.in_err-read_field.field-0.0
+    (λ was q. made_cut 4 (again_of c.args.order c.args.total) was
+    c.in_err-read_field.field-0.0 q) c.in_err-read_field.ensures.gave_wrong)
+
+pub returns-clause-gave : goal.returns-clause-gave
+unfolding trailer_at
+returns-clause-gave g c =
+    gave_made (field_at 4) (trailer_at c.args.order c.args.total) c.read_field.new.buf (λ x. x) _ _
+    c.again_in.result
+    (λ was left q. made_gives 4 (again_of c.args.order c.args.total) was left
+    c.read_field.new.buf c.again_in.result q c.again_in.ensures) c.in_ok-read_field.ensures.gave
+
+pub returns-clause-gave_wrong : goal.returns-clause-gave_wrong
+unfolding trailer_at
+returns-clause-gave_wrong g c =
+    fault_made (field_at 4) (trailer_at c.args.order c.args.total) c.read_field.new.buf _ _ _
+    c.again_in.result
+    (λ was left q. made_fails 4 (again_of c.args.order c.args.total) was left
+    c.read_field.new.buf c.again_in.result q c.again_in.ensures) c.in_ok-read_field.ensures.gave

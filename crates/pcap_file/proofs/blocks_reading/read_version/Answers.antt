@@ -1,0 +1,56 @@
+use Rattle.std.proofs.lemmas.Result.{err_from_is_err_and}
+use Rattle.pcap_file.specs.BlockReading.{section_of}
+use Rattle.pcap_file.specs.NgReading.{version_at}
+use Rattle.pcap_file.proofs.FieldReads.{made_cut, made_fails, made_gives}
+use Rattle.pcap_file.specs.Fields.{field_at}
+use Rattle.pcap_file.proofs.Gave.{fault_made, fault_one, gave_made}
+use Rattle.pcap_file.proofs.blocks_reading.read_version.Goals as goal
+
+pub returns-in_err-read_field-clause-fault : goal.returns-in_err-read_field-clause-fault
+unfolding version_at
+returns-in_err-read_field-clause-fault g c =
+    let p = err_from_is_err_and c.from_residual.result c.from_residual.ensures.1 in
+    rw (p.1, p.2)
+    (made_cut 12 (section_of c.args.order) _ c.in_err-read_field.field-0.0
+    c.in_err-read_field.ensures.fault)
+
+pub returns-clause-read : goal.returns-clause-read
+unfolding version_at
+returns-clause-read g c =
+    made_gives 12 (section_of c.args.order) _ _ c.read_field.new.buf c.read_section.result
+    c.in_ok-read_field.ensures.read
+    c.read_section.ensures.exact
+
+pub returns-clause-fault : goal.returns-clause-fault
+unfolding version_at
+returns-clause-fault g c =
+    made_fails 12 (section_of c.args.order) _ _ c.read_field.new.buf c.read_section.result
+    c.in_ok-read_field.ensures.read
+    c.read_section.ensures.exact
+
+pub returns-in_err-read_field-clause-gave_wrong : goal.returns-in_err-read_field-clause-gave_wrong
+unfolding version_at
+returns-in_err-read_field-clause-gave_wrong g c =
+    let p = err_from_is_err_and c.from_residual.result c.from_residual.ensures.1 in
+    rw (p.1, p.2)
+    (fault_one (field_at 12) (version_at c.args.order) _ _ _ c.in_err-read_field.field-0.0
+    (λ was q. made_cut 12 (section_of c.args.order) was
+    c.in_err-read_field.field-0.0 q) c.in_err-read_field.ensures.gave_wrong)
+
+pub returns-clause-gave : goal.returns-clause-gave
+unfolding version_at
+returns-clause-gave g c =
+    gave_made (field_at 12) (version_at c.args.order) c.read_field.new.buf (λ x. x) _ _
+    c.read_section.result
+    (λ was left q. made_gives 12 (section_of c.args.order) was left
+    c.read_field.new.buf c.read_section.result q c.read_section.ensures.exact)
+    c.in_ok-read_field.ensures.gave
+
+pub returns-clause-gave_wrong : goal.returns-clause-gave_wrong
+unfolding version_at
+returns-clause-gave_wrong g c =
+    fault_made (field_at 12) (version_at c.args.order) c.read_field.new.buf _ _ _
+    c.read_section.result
+    (λ was left q. made_fails 12 (section_of c.args.order) was left
+    c.read_field.new.buf c.read_section.result q c.read_section.ensures.exact)
+    c.in_ok-read_field.ensures.gave
