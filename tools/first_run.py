@@ -4,9 +4,9 @@
 usage: first_run.py CHECKOUT WORD..
 
 `rt` locks a crate's folder and each below it, so that proofs in one checkout run one after the other. Here each runs in a
-room: a folder of its own with a copy of the sources, in the person's folder for caches. What one room proved, `rt` gives to
-the others, and at the end to the checkout, where the program is built. The rooms stay until the program stands, so that a
-run after one that was stopped goes on. A command that reads standard input alone is meanwhile tried with no proof.
+room: a folder of its own with a copy of the sources, in the person's folder for caches. The library that one room proved is
+given to the others and to the checkout, where the program is built. The rooms stay until the program stands, so that a run
+after one that was stopped goes on. A command that reads standard input alone is meanwhile tried with no proof.
 """
 import contextlib
 import fcntl
@@ -34,10 +34,6 @@ def number_of_rooms():
     """How many proofs may run side by side: as ST2110_ROOMS says, or by the processors and the memory that are there."""
     if os.environ.get("ST2110_ROOMS", "").isdigit():
         return int(os.environ["ST2110_ROOMS"])
-    # `rt` gives what one checkout proved to another by a folder beside its kit.
-    kept = os.path.realpath(f"{os.path.realpath(shutil.which('rt'))}/../../../rattle-kept")
-    if not os.access(kept if os.path.exists(kept) else os.path.dirname(kept), os.W_OK):
-        return 1
     processors = number_of_processors()
     memory = 1024 * (number_in("/proc/meminfo", r"^MemAvailable: *(\d+)") or 0)
     memory = min(memory, number_in(f"{GROUP}/memory.max", r"^(\d+)") or memory)

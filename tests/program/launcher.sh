@@ -36,6 +36,8 @@ if [ "\$(cat "$room/refused" 2>/dev/null)" = "\$crate" ]; then
     exit 1
 fi
 mkdir -p out && : >out/proved
+[ "\$1" != lib ] || { mkdir -p out/rlib && echo "\$PWD" >out/rlib/stamp; }
+[ "\$crate" != right ] || [ -s ../low/out/rlib/stamp ] || echo "right without low" >>"$room/built"
 [ "\$1" != run ] || cp "$program" out/st2110
 END
 chmod +x bin/rt
@@ -218,6 +220,15 @@ if cmp -s order want.order; then
     pass 'launcher: in rooms, where each is proved'
 else
     fail 'launcher: in rooms, where each is proved' "$(cat built)"
+fi
+given=
+for it in low left right; do
+    given="$given$(sed 's,.*/crates/,,' clone/crates/$it/out/rlib/stamp) "
+done
+if [ "$given" = 'low left right ' ]; then
+    pass 'launcher: in rooms, what each proved is given to the clone'
+else
+    fail 'launcher: in rooms, what each proved is given to the clone' "$given"
 fi
 if [ -z "$(ls "$rooms")" ]; then
     pass 'launcher: the rooms are cleared'
