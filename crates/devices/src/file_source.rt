@@ -17,7 +17,10 @@ pub(crate) const BUFFER: usize = 1 << 18;
 #[derive(Drop)]
 pub struct FileSource<'a> {
     rt: &'a HostRuntime,
+    /// What it is called where its place is told.
     name: &'a str,
+    /// The name that it is opened by.
+    path: &'a str,
     progress: Progress,
     gave: History,
     failures: u64,
@@ -49,6 +52,7 @@ impl<'a> FileSource<'a> {
         FileSource {
             rt,
             name,
+            path: name,
             progress: Progress::Front,
             gave: History::new(),
             failures: 0,
@@ -56,6 +60,19 @@ impl<'a> FileSource<'a> {
             octet: 0,
             fault: None,
         }
+    }
+
+    /// The file of this name, or standard input where the name is `-`. It isn't looked at yet.
+    pub fn given(rt: &'a HostRuntime, name: &'a str) -> Self
+        ensures unfailed { ⟦<FileSource<'a> as ByteSource>⟧.failures result ≡ 0 }
+        ensures fresh { ⟦<FileSource<'a> as ByteSource>⟧.gave result ≡ [] }
+    {
+        let mut source = FileSource::new(rt, name);
+        if name == "-" {
+            source.name = "standard input";
+            source.path = "/dev/stdin";
+        }
+        source
     }
 
     /// Where the reading stands, if it began.
@@ -88,7 +105,7 @@ impl<'a> FileSource<'a> {
     {
         self.is_begun = true;
         if let Progress::Front = self.progress {
-            let file = fs::open(self.rt, self.name)?;
+            let file = fs::open(self.rt, self.path)?;
             let reader = BufReader::with_capacity(self.rt.alloc(), BUFFER, file)?;
             self.progress = Progress::Within(reader);
         }

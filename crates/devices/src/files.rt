@@ -29,6 +29,20 @@ pub fn named_files<'a>(
     Ok(files)
 }
 
+/// The files of these names, in their order, of which `-` is standard input. None is looked at yet.
+pub fn given_files<'a>(
+    rt: &'a HostRuntime,
+    names: &[&'a str],
+) -> Result<Vec<FileSource<'a>>, AllocError>
+    ensures { IfOk result (λ files. vec_len files ≡ length names.now) }
+{
+    let mut files = Vec::new(rt.alloc());
+    for name in names {
+        files.push(FileSource::given(rt, name))?;
+    }
+    Ok(files)
+}
+
 /// Where the reading of a file stands, where one is named.
 pub fn reading_of<'a>(file: &Option<FileSource<'a>>) -> Option<Reading<'a>>
     ensures { IsSome result ↔ IsSome file.now }

@@ -16,7 +16,7 @@ mod standing;
 pub use discard::Discard;
 pub use file_sink::FileSink;
 pub use file_source::FileSource;
-pub use files::{last_begun, named_file, named_files, reading_begun, reading_of};
+pub use files::{given_files, last_begun, named_file, named_files, reading_begun, reading_of};
 pub use history::{Arrivals, History, Sendings};
 pub use input::InputSource;
 pub use link::{UdpLink, unbound};
