@@ -133,9 +133,15 @@ pub fn read_kind<S: ByteSource>(source: &mut S, name: &[u8]) -> Result<Version, 
     version_in(name, &octets)
 }
 
-/// Reads what stands before the records of a capture. Its text then stands at the front of `text`,
-/// which has room for any; answers how many octets it has.
-pub(crate) fn read_front<S: ByteSource>(source: &mut S, text: &mut [u8]) -> Result<usize, FileFault>
+/// Reads what stands before the records of a capture of either version. Its text then stands at the
+/// front of `text`, which has room for any, 65,535 octets; answers how many octets it has. In
+/// version 01 it has none.
+///
+/// # Errors
+///
+/// `Truncated` where the octets end within name and version, or within the text; `BadName`,
+/// `BadVersion`, and `Device`.
+pub fn read_front<S: ByteSource>(source: &mut S, text: &mut [u8]) -> Result<usize, FileFault>
     requires { 65535 ≤ length text.old }
     ensures room { length text.new ≡ length text.old }
     ensures within { IfOk result (λ n. n < 65536) }

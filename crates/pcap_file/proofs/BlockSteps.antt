@@ -192,7 +192,7 @@ total_by t n false true false ea eb ec e =
       few = ltb-false most_octets t ec;
     }
 
-total_takes : (t n : ℕ) → body_of_total t ≡ number n → IsTotal t n
+pub total_takes : (t n : ℕ) → body_of_total t ≡ number n → IsTotal t n
 total_takes t n e =
     total_by t n (ltb t 12) (eqb (t % 4) 0) (ltb most_octets t) refl refl refl e
 
@@ -236,12 +236,12 @@ body_takes room count o xs rest e =
     cuts count o xs rest (body_by (ltb room count) (field_at count o) (xs, rest) e)
 
 -- a body, and the block's length again
-record Framed (order : ByteOrder) (total count : ℕ) (o body rest : List ℕ) : Type 0 where
-  four : List ℕ
-  body_octets : length body ≡ count
-  four_octets : length four ≡ 4
-  same : long_at order 0 four ≡ total
-  parts : o ≡ body ++ (four ++ rest)
+pub record Framed (order : ByteOrder) (total count : ℕ) (o body rest : List ℕ) : Type 0 where
+  pub four : List ℕ
+  pub body_octets : length body ≡ count
+  pub four_octets : length four ≡ 4
+  pub same : long_at order 0 four ≡ total
+  pub parts : o ≡ body ++ (four ++ rest)
 
 kept_takes : (order : ByteOrder) (total room count : ℕ) (o body rest : List ℕ)
     → kept_at order total room count o ≡ field (body, rest) → Framed order total count o body rest
@@ -267,7 +267,7 @@ kept_takes order total room count o body rest e =
           (t.parts ∙ ap (λ (y : List ℕ). t.four ++ y) same_rest);
     }
 
-passed_takes : (order : ByteOrder) (total count : ℕ) (o rest : List ℕ) (u : Nothing)
+pub passed_takes : (order : ByteOrder) (total count : ℕ) (o rest : List ℕ) (u : Nothing)
     → passed_at order total count o ≡ went (u, rest)
     → Framed order total count o (take count o) rest
 unfolding passed_at
@@ -389,7 +389,7 @@ no_step : (s : Option Recorded) → (let x : Stepped = None in x) ≡ Some s →
 no_step s e = cc
 
 -- the first eight octets of a block
-front_takes : (o front rest : List ℕ) → front_at o ≡ body_ok (Some front, rest)
+pub front_takes : (o front rest : List ℕ) → front_at o ≡ body_ok (Some front, rest)
     → Cuts 8 o front rest
 unfolding front_at
 front_takes [] front rest e =

@@ -5,6 +5,7 @@ use Rattle.pcap_file.specs.declared.fault.RecordingFault.TheVariants.{BadVersion
 use Rattle.pcap_file.specs.declared.fault.RecordingFault.TheVariants.{BadInterface, BadTime}
 use Rattle.pcap_file.specs.declared.fault.RecordingFault.TheVariants.{TooManyInterfaces}
 use Rattle.pcap_file.specs.declared.fault.RecordingFault.TheVariants.{PacketTooLong, Packed}
+use Rattle.pcap_file.specs.declared.fault.RecordingFault.TheVariants.{TooManyBlocks}
 use Rattle.pcap_file.specs.Fields.{IfContent}
 
 pub if_content : (f : RecordingFault) (P : Type 0) → P → IfContent f P
@@ -18,6 +19,7 @@ if_content TooManyInterfaces P p = p
 if_content BadTime P p = p
 if_content PacketTooLong P p = p
 if_content Packed P p = p
+if_content TooManyBlocks P p = p
 
 pub if_content_weaker : (f : RecordingFault) (P Q : Type 0) → (P → Q) → IfContent f P → IfContent f
     Q
@@ -31,3 +33,4 @@ if_content_weaker TooManyInterfaces P Q h p = h p
 if_content_weaker BadTime P Q h p = h p
 if_content_weaker PacketTooLong P Q h p = h p
 if_content_weaker Packed P Q h p = h p
+if_content_weaker TooManyBlocks P Q h p = h p

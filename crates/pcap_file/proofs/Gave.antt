@@ -14,7 +14,7 @@ abbrev Reading : Type 0 → Type 0
 Reading X = List ℕ → Result (X × List ℕ) RecordingFault
 
 -- one part behind another
-grew_twice : (old mid new xs ys : List ℕ) → mid ≡ old ++ xs → new ≡ mid ++ ys
+pub grew_twice : (old mid new xs ys : List ℕ) → mid ≡ old ++ xs → new ≡ mid ++ ys
     → new ≡ old ++ (xs ++ ys)
 grew_twice old mid new xs ys first then =
     then ∙ ap (λ (l : List ℕ). l ++ ys) first ∙ append_assoc old xs ys

@@ -16,6 +16,7 @@ pub mod FieldReads
 pub mod BlockReads
 pub mod Steps
 pub mod Writes
+pub mod Writes6
 pub mod Sums
 pub mod Recordings
 pub mod WholePcap
@@ -25,3 +26,9 @@ pub mod BlockSteps
 pub mod SectionSteps
 pub mod NextSteps
 pub mod WholeBlocks
+pub mod Openings
+pub mod Runs
+pub mod PacketDatagrams
+pub mod WholeRuns
+pub mod NextTakes
+pub mod WholeTakes

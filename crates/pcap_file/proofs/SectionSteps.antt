@@ -71,7 +71,7 @@ section_again order version is =
 abbrev pub Order : Type 0
 Order = Result (ByteOrder × List ℕ) RecordingFault
 
-abbrev order_ok : ByteOrder × List ℕ → Order
+abbrev pub order_ok : ByteOrder × List ℕ → Order
 order_ok x = Ok x
 
 count_again : (total n : ℕ) → IsTotal total (16 + n) → section_count total ≡ number n

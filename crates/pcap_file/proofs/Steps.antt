@@ -11,6 +11,7 @@ use Rattle.pcap_file.specs.declared.fault.RecordingFault.TheVariants.{BadVersion
 use Rattle.pcap_file.specs.declared.fault.RecordingFault.TheVariants.{BadInterface, BadTime}
 use Rattle.pcap_file.specs.declared.fault.RecordingFault.TheVariants.{TooManyInterfaces}
 use Rattle.pcap_file.specs.declared.fault.RecordingFault.TheVariants.{PacketTooLong, Packed}
+use Rattle.pcap_file.specs.declared.fault.RecordingFault.TheVariants.{TooManyBlocks}
 use Rattle.pcap_file.specs.declared.order.ByteOrder.{ByteOrder}
 use Rattle.pcap_file.specs.declared.section.Step.{Step}
 use Rattle.pcap_file.specs.declared.section.Step.TheVariants.{End, Passed, Packet}
@@ -45,6 +46,7 @@ counts_content TooManyInterfaces old new is e = e
 counts_content BadTime old new is e = e
 counts_content PacketTooLong old new is e = e
 counts_content Packed old new is e = e
+counts_content TooManyBlocks old new is e = e
 
 pub counts_pure : {V : Type 0} (r : Result V RecordingFault) (old new : ℕ) → IfErr r IsContent
     → new ≡ old → CountsDevice old new r

@@ -34,14 +34,14 @@ octets_behind : (xs ys : List ℕ) → AreOctets (xs ++ ys) → AreOctets ys
 octets_behind xs ys fit =
     subst AreOctets (drop_at xs ys (length xs) refl) (AreOctets-drop (length xs) (xs ++ ys) fit)
 
-block_behind : (order : ByteOrder) (o : List ℕ) (type : ℕ) (body rest : List ℕ)
+pub block_behind : (order : ByteOrder) (o : List ℕ) (type : ℕ) (body rest : List ℕ)
     → IsBlock order o type body rest → AreOctets o → AreOctets rest
 block_behind order o type body rest is fit =
     octets_behind is.trailer rest
     (octets_behind body (is.trailer ++ rest)
     (octets_behind is.front (body ++ (is.trailer ++ rest)) (subst AreOctets is.whole fit)))
 
-section_behind : (o : List ℕ) (order : ByteOrder) (rest : List ℕ) → IsSectionBlock o order rest
+pub section_behind : (o : List ℕ) (order : ByteOrder) (rest : List ℕ) → IsSectionBlock o order rest
     → AreOctets o → AreOctets rest
 section_behind o order rest is fit =
     octets_behind is.trailer rest
@@ -51,14 +51,15 @@ section_behind o order rest is fit =
     (octets_behind is.front (is.four ++ (is.version ++ (is.options ++ (is.trailer ++ rest))))
     (subst AreOctets is.whole fit)))))
 
-next_behind : (k after : Known) (o rest : List ℕ) (s : Option Recorded) → IsNext k o after s rest
+pub next_behind : (k after : Known) (o rest : List ℕ) (s : Option Recorded)
+    → IsNext k o after s rest
     → AreOctets o → AreOctets rest
 next_behind k after o rest s (inl b) fit = section_behind o b.order rest b.is fit
 next_behind k after o rest s (inr b) fit = block_behind k.order o b.type b.body rest b.is fit
 
 -- ---- the steps
 
-no_more : (room : ℕ) (k : Known) → step_at room k [] ≡ Ok ((k, None), [])
+pub no_more : (room : ℕ) (k : Known) → step_at room k [] ≡ Ok ((k, None), [])
 unfolding step_at front_at
 no_more room k = refl
 
@@ -79,7 +80,7 @@ steps_again room k o (s ∷ ss) large fit is = (
 
 -- ---- the whole
 
-first_again : (o : List ℕ) (order : ByteOrder) (rest : List ℕ) → AreOctets o
+pub first_again : (o : List ℕ) (order : ByteOrder) (rest : List ℕ) → AreOctets o
     → IsSectionBlock o order rest → first_at o ≡ Ok (fresh order, rest)
 unfolding first_at
 first_again octets order rest fit is =

@@ -89,7 +89,7 @@ front_again o h fit is =
 
 -- ---- the records
 
-end_at : (room : ℕ) (file : PcapHead) → record_at room file [] ≡ Ok (None, [])
+pub end_at : (room : ℕ) (file : PcapHead) → record_at room file [] ≡ Ok (None, [])
 unfolding record_at head_at
 end_at room file = refl
 
@@ -106,15 +106,15 @@ same_step : (a b : Option Recorded × List ℕ) → step a ≡ step b → a ≡ 
 same_step a b e = cc
 
 -- a packet that begins is one, or a fault
-no_end : (room : ℕ) (h : PacketHead) (r : List ℕ) → packet_behind room (Some h) r ≡ step (None, [])
-    → ⊥
-no_end room h r e =
+no_end : (room : ℕ) (h : PacketHead) (r rest : List ℕ)
+    → packet_behind room (Some h) r ≡ step (None, rest) → ⊥
+no_end room h r rest e =
     let b =
     bind_ok (octets_at room h r) (λ y. step (Some (record { head = h; octets = y.0 }), y.1))
-    (None, []) e in
+    (None, rest) e in
     some_recorded (record { head = h; octets = b.0.0 })
     (ap (λ (y : Option Recorded × List ℕ). y.0)
-    (same_step (Some (record { head = h; octets = b.0.0 }), b.0.1) (None, []) b.2))
+    (same_step (Some (record { head = h; octets = b.0.0 }), b.0.1) (None, rest) b.2))
 
 abbrev Heads : Type 0
 Heads = Result (Option PacketHead × List ℕ) RecordingFault
@@ -128,23 +128,24 @@ same_heads a b e = cc
 some_head : (h : PacketHead) → (let x : Option PacketHead = Some h in x) ≡ None → ⊥
 some_head h e = cc
 
-begun : (room : ℕ) (file : PcapHead) (front rest : List ℕ) (z : Option PacketHead × List ℕ)
-    → head_by file front rest ≡ Ok z → packet_behind room z.0 z.1 ≡ step (None, []) → ⊥
-begun room file front rest (None, r) e h =
+begun : (room : ℕ) (file : PcapHead) (front rest left : List ℕ) (z : Option PacketHead × List ℕ)
+    → head_by file front rest ≡ Ok z → packet_behind room z.0 z.1 ≡ step (None, left) → ⊥
+begun room file front rest left (None, r) e h =
     some_head (record_head_of file front)
     (ap (λ (y : Option PacketHead × List ℕ). y.0)
     (same_heads (Some (record_head_of file front), rest) (None, r) e))
-begun room file front rest (Some p, r) e h = no_end room p r h
+begun room file front rest left (Some p, r) e h = no_end room p r left h
 
-ends : (room : ℕ) (file : PcapHead) (o : List ℕ) → record_at room file o ≡ Ok (None, []) → o ≡ []
+pub ends : (room : ℕ) (file : PcapHead) (o rest : List ℕ)
+    → record_at room file o ≡ Ok (None, rest) → o ≡ []
 unfolding record_at head_at
-ends room file [] e = refl
-ends room file (x ∷ xs) e =
+ends room file [] rest e = refl
+ends room file (x ∷ xs) rest e =
     let b =
     bind_ok (field_at 16 (x ∷ xs) >>= λ y. head_by file y.0 y.1)
-    (λ z. packet_behind room z.0 z.1) (None, []) e in
+    (λ z. packet_behind room z.0 z.1) (None, rest) e in
     let d = bind_ok (field_at 16 (x ∷ xs)) (λ y. head_by file y.0 y.1) b.0 b.1 in
-    absurd (begun room file d.0.0 d.0.1 b.0 d.2 b.2)
+    absurd (begun room file d.0.0 d.0.1 rest b.0 d.2 b.2)
 
 pub records_again : (room : ℕ) (file : PcapHead) (o : List ℕ) (ps : List Recorded)
     → AreRecords file o ps → HaveRoom room ps → GivesRecords room file o ps
@@ -159,7 +160,7 @@ records_again room file o (p ∷ ps) is fits =
 
 pub records_take : (room : ℕ) (file : PcapHead) (o : List ℕ) (ps : List Recorded)
     → GivesRecords room file o ps → AreRecords file o ps
-records_take room file o [] read = ends room file o read
+records_take room file o [] read = ends room file o [] read
 records_take room file o (p ∷ ps) read =
     let t = record_takes room file o p read.0 read.1 in
     (t.text, read.0, t.is, t.parts, records_take room file read.0 ps read.2)

@@ -16,4 +16,8 @@ pub mod PcapReading
 pub mod NgReading
 pub mod NgSteps
 pub mod Writing
+pub mod Writing6
 pub mod Recording
+pub mod Runs
+pub mod Openings
+pub mod PacketDatagram

@@ -6,6 +6,7 @@ use Rattle.pcap_file.specs.declared.fault.RecordingFault.TheVariants.{BadVersion
 use Rattle.pcap_file.specs.declared.fault.RecordingFault.TheVariants.{BadInterface, BadTime}
 use Rattle.pcap_file.specs.declared.fault.RecordingFault.TheVariants.{TooManyInterfaces}
 use Rattle.pcap_file.specs.declared.fault.RecordingFault.TheVariants.{PacketTooLong, Packed}
+use Rattle.pcap_file.specs.declared.fault.RecordingFault.TheVariants.{TooManyBlocks}
 
 -- the numbers of the faults
 abbrev pub recording_fault_number : RecordingFault → ℕ
@@ -19,6 +20,7 @@ recording_fault_number TooManyInterfaces = 7
 recording_fault_number BadTime = 8
 recording_fault_number PacketTooLong = 9
 recording_fault_number Packed = 10
+recording_fault_number TooManyBlocks = 11
 
 -- their names, as `name` answers them (own)
 abbrev pub recording_fault_name : RecordingFault → List ℕ
@@ -32,3 +34,4 @@ recording_fault_name TooManyInterfaces = codes "TooManyInterfaces"
 recording_fault_name BadTime = codes "BadTime"
 recording_fault_name PacketTooLong = codes "PacketTooLong"
 recording_fault_name Packed = codes "Packed"
+recording_fault_name TooManyBlocks = codes "TooManyBlocks"

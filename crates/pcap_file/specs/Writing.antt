@@ -43,11 +43,15 @@ ip_front_text total checksum =
 abbrev pub ip_text : Envelope → ℕ → ℕ → List ℕ
 ip_text e total checksum = ip_front_text total checksum ++ (e.source ++ e.destination)
 
--- a header of UDP, for so many octets with it, with this checksum
-abbrev pub udp_text : Envelope → ℕ → ℕ → List ℕ
-udp_text e count checksum =
-    (to_be_bytes w16 e.source_port ++ to_be_bytes w16 e.destination_port)
+-- a header of UDP from one port to another, for so many octets with it, with this checksum
+abbrev pub udp_head_text : ℕ → ℕ → ℕ → ℕ → List ℕ
+udp_head_text from to count checksum =
+    (to_be_bytes w16 from ++ to_be_bytes w16 to)
     ++ (to_be_bytes w16 count ++ to_be_bytes w16 checksum)
+
+-- of an envelope's ports
+abbrev pub udp_text : Envelope → ℕ → ℕ → List ℕ
+udp_text e count checksum = udp_head_text e.source_port e.destination_port count checksum
 
 -- an address of a group: its highest four bits are 1110. RFC 1112, 4
 abbrev pub is_group : List ℕ → Bool

@@ -31,6 +31,7 @@ pub(crate) fn skip<S: ByteSource>(
     ensures gave_wrong { IfErr result (λ f. GaveFault (skip_at count) (S.gave source.old)
         (S.gave source.new) (S.ended source.new) f) }
     ensures counted { CountsDevice (S.failures source.old) (S.failures source.new) result }
+    ensures names { S.names source.new ≡ S.names source.old }
 {
     let mut done = 0;
     while done < count {
@@ -62,6 +63,7 @@ pub(crate) fn read_order<S: ByteSource>(source: &mut S) -> Result<ByteOrder, Rec
     ensures gave_wrong { IfErr result (λ f. GaveFault order_at (S.gave source.old)
         (S.gave source.new) (S.ended source.new) f) }
     ensures counted { CountsDevice (S.failures source.old) (S.failures source.new) result }
+    ensures names { S.names source.new ≡ S.names source.old }
 {
     let mut octets = [0u8; 4];
     read_field(source, &mut octets)?;
@@ -78,6 +80,7 @@ fn read_version<S: ByteSource>(source: &mut S, order: ByteOrder) -> Result<(), R
     ensures gave_wrong { IfErr result (λ f. GaveFault (version_at order) (S.gave source.old)
         (S.gave source.new) (S.ended source.new) f) }
     ensures counted { CountsDevice (S.failures source.old) (S.failures source.new) result }
+    ensures names { S.names source.new ≡ S.names source.old }
 {
     let mut octets = [0u8; 12];
     read_field(source, &mut octets)?;
@@ -109,6 +112,7 @@ fn read_trailer<S: ByteSource>(
     ensures gave_wrong { IfErr result (λ f. GaveFault (trailer_at order total) (S.gave source.old)
         (S.gave source.new) (S.ended source.new) f) }
     ensures counted { CountsDevice (S.failures source.old) (S.failures source.new) result }
+    ensures names { S.names source.new ≡ S.names source.old }
 {
     let mut octets = [0u8; 4];
     read_field(source, &mut octets)?;
@@ -134,6 +138,7 @@ fn pass<S: ByteSource>(
     ensures gave_wrong { IfErr result (λ f. GaveFault (passed_at order total count)
         (S.gave source.old) (S.gave source.new) (S.ended source.new) f) }
     ensures counted { CountsDevice (S.failures source.old) (S.failures source.new) result }
+    ensures names { S.names source.new ≡ S.names source.old }
 {
     skip(source, count, buf)?;
     read_trailer(source, order, total)
@@ -159,6 +164,7 @@ fn read_section_rest<S: ByteSource>(
     ensures gave_wrong { IfErr result (λ f. GaveFault (section_rest_at order total count)
         (S.gave source.old) (S.gave source.new) (S.ended source.new) f) }
     ensures counted { CountsDevice (S.failures source.old) (S.failures source.new) result }
+    ensures names { S.names source.new ≡ S.names source.old }
 {
     read_version(source, order)?;
     pass(source, order, total, count, buf)
@@ -182,6 +188,7 @@ fn read_body<S: ByteSource>(
     ensures gave_wrong { IfErr result (λ f. GaveFault (body_at (length buf.old) count)
         (S.gave source.old) (S.gave source.new) (S.ended source.new) f) }
     ensures counted { CountsDevice (S.failures source.old) (S.failures source.new) result }
+    ensures names { S.names source.new ≡ S.names source.old }
 {
     if buf.len() < count {
         return Err(RecordingFault::PacketTooLong);
@@ -209,6 +216,7 @@ fn keep<S: ByteSource>(
     ensures gave_wrong { IfErr result (λ f. GaveFault (kept_at order total (length buf.old) count)
         (S.gave source.old) (S.gave source.new) (S.ended source.new) f) }
     ensures counted { CountsDevice (S.failures source.old) (S.failures source.new) result }
+    ensures names { S.names source.new ≡ S.names source.old }
 {
     read_body(source, count, buf)?;
     read_trailer(source, order, total)
@@ -243,6 +251,7 @@ fn read_section_by<S: ByteSource>(
     ensures gave_wrong { IfErr result (λ f. GaveFault (section_by order front.now)
         (S.gave source.old) (S.gave source.new) (S.ended source.new) f) }
     ensures counted { CountsDevice (S.failures source.old) (S.failures source.new) result }
+    ensures names { S.names source.new ≡ S.names source.old }
 {
     let total = long_at(order, front, 4);
     match section_count(total) {
@@ -268,6 +277,7 @@ pub(crate) fn read_section_block<S: ByteSource>(
     ensures gave_wrong { IfErr result (λ f. GaveFault (section_at front.now) (S.gave source.old)
         (S.gave source.new) (S.ended source.new) f) }
     ensures counted { CountsDevice (S.failures source.old) (S.failures source.new) result }
+    ensures names { S.names source.new ≡ S.names source.old }
 {
     let order = read_order(source)?;
     read_section_by(source, order, front, buf)?;
@@ -304,6 +314,7 @@ fn read_block_by<S: ByteSource>(
     ensures gave_wrong { IfErr result (λ f. GaveFault (block_by order kind total (length buf.old)
         count) (S.gave source.old) (S.gave source.new) (S.ended source.new) f) }
     ensures counted { CountsDevice (S.failures source.old) (S.failures source.new) result }
+    ensures names { S.names source.new ≡ S.names source.old }
 {
     if is_read(kind) {
         keep(source, order, total, count, buf)?;
@@ -335,6 +346,7 @@ pub(crate) fn read_block<S: ByteSource>(
     ensures gave_wrong { IfErr result (λ f. GaveFault (block_at order (length buf.old) front.now)
         (S.gave source.old) (S.gave source.new) (S.ended source.new) f) }
     ensures counted { CountsDevice (S.failures source.old) (S.failures source.new) result }
+    ensures names { S.names source.new ≡ S.names source.old }
 {
     let total = long_at(order, front, 4);
     match body_of_total(total) {
@@ -358,6 +370,7 @@ pub(crate) fn read_front<S: ByteSource>(
     ensures gave_wrong { IfErr result (λ f. GaveFault front_at (S.gave source.old)
         (S.gave source.new) (S.ended source.new) f) }
     ensures counted { CountsDevice (S.failures source.old) (S.failures source.new) result }
+    ensures names { S.names source.new ≡ S.names source.old }
 {
     let count = read_whole(source, front)?;
     if count == 0 {

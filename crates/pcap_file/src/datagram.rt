@@ -4,6 +4,8 @@ ghost use Rattle.std.specs.Prelude.{IsErrOf};
 ghost use Rattle.std.specs.Prelude.{IsOkAnd, Err};
 ghost use Rattle.st_format.specs.Reading.{Gives};
 ghost use Rattle.pcap_file.specs.Datagram.{IsDatagram};
+ghost use Rattle.pcap_file.specs.Link.{link_of};
+ghost use Rattle.pcap_file.specs.PacketDatagram.{HasDatagram, LacksDatagram, walk_of};
 ghost use Rattle.pcap_file.specs.Reading.{datagram_walk};
 ghost use Rattle.pcap_file.specs.Reasons.{IsNoDatagram, reason_name, reason_number};
 ghost use Rattle.pcap_file.specs.Udp.{Datagram};
@@ -12,6 +14,7 @@ ghost use Rattle.pcap_file.specs.declared.datagram.NoDatagram.{NoDatagram as Rea
 
 use crate::ip::read_packet;
 use crate::link::{Link, read_link};
+use crate::pcap::PacketHead;
 use crate::udp::read_udp;
 use thiserror::Error;
 
@@ -83,6 +86,7 @@ pub struct DatagramView<'a> {
 #[tactic(auto, unfolding(crate::specs::Reading::datagram_walk))]
 fn read(link: Link, octets: &[u8]) -> Result<DatagramView<'_>, NoDatagram>
     ensures exact { Gives seen_datagram result (datagram_walk link octets.now) }
+    ensures few { IfOk result (λ v. length v.payload.now ≤ 65535) }
 {
     let inner = read_link(link, octets)?;
     let packet = read_packet(inner.version, inner.packet)?;
@@ -108,6 +112,39 @@ pub fn read_datagram(link: Link, octets: &[u8]) -> Result<DatagramView<'_>, NoDa
         (result ≡ Err reason) ↔ IsNoDatagram link octets.now reason }
     // The answer as a walk over the octets.
     ensures exact { Gives seen_datagram result (datagram_walk link octets.now) }
+    // It has no more octets than its length can say.
+    ensures few { IfOk result (λ v. length v.payload.now ≤ 65535) }
 {
     read(link, octets)
+}
+
+/// Reads the octets of a packet of a recording as a UDP datagram, by the link layer that its head
+/// says, or the reason why it is none.
+///
+/// # Errors
+///
+/// `NotIp` where the link layer is not read ([`Link::from_number`]), and the reasons of
+/// [`read_datagram`].
+pub fn packet_datagram<'a>(
+    packet: &PacketHead,
+    octets: &'a [u8],
+) -> Result<DatagramView<'a>, NoDatagram>
+    // What is read is in the grammar.
+    ensures found { IfOk result
+        (λ v. HasDatagram packet.now.link octets.now (seen_datagram v)) }
+    // What is in the grammar is read so.
+    ensures only { (d : Datagram) → HasDatagram packet.now.link octets.now d
+        → IsOkAnd result (λ v. seen_datagram v ≡ d) }
+    // Each reason comes exactly where its condition holds.
+    ensures refused { (reason : Reason) →
+        (result ≡ Err reason) ↔ LacksDatagram packet.now.link octets.now reason }
+    // The answer as a walk over the octets.
+    ensures exact { Gives seen_datagram result (walk_of (link_of packet.now.link) octets.now) }
+    // It has no more octets than its length can say.
+    ensures few { IfOk result (λ v. length v.payload.now ≤ 65535) }
+{
+    match Link::from_number(packet.link) {
+        Some(link) => read_datagram(link, octets),
+        None => Err(NoDatagram::NotIp),
+    }
 }

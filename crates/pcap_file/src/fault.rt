@@ -40,10 +40,13 @@ pub enum RecordingFault {
     /// The octets begin a file that gzip has packed.
     #[error("the octets begin a file that gzip has packed")]
     Packed = 10,
+    /// There are 2^64 - 1 records or blocks, or more.
+    #[error("there are 2^64 - 1 records or blocks, or more")]
+    TooManyBlocks = 11,
 }
 
 impl RecordingFault {
-    /// The fault's number, 1 to 10.
+    /// The fault's number, 1 to 11.
     pub fn number(self) -> u8
         ensures { result ≡ recording_fault_number self }
     {
@@ -65,6 +68,7 @@ impl RecordingFault {
             RecordingFault::BadTime => "BadTime",
             RecordingFault::PacketTooLong => "PacketTooLong",
             RecordingFault::Packed => "Packed",
+            RecordingFault::TooManyBlocks => "TooManyBlocks",
         }
     }
 }

@@ -25,6 +25,7 @@ pub(crate) fn read_field<S: ByteSource>(
     ensures gave_wrong { IfErr result (λ f. GaveFault (field_at (length buf.old))
         (S.gave source.old) (S.gave source.new) (S.ended source.new) f) }
     ensures counted { CountsDevice (S.failures source.old) (S.failures source.new) result }
+    ensures names { S.names source.new ≡ S.names source.old }
 {
     if read_whole(source, buf)? < buf.len() {
         return Err(RecordingFault::Truncated);

@@ -1,6 +1,7 @@
 //! What holds of the definitions themselves. Each law is a function's contract; the functions do
 //! nothing.
-ghost use Rattle.std.specs.Prelude.{◌≡◌, ◌⊎◌, ◌↔◌, ◌+◌, ◌%◌, ◌≤◌, ◌++◌, ℕ, List, length, Ok, Err};
+ghost use Rattle.std.specs.Prelude.{◌≡◌, ◌⊎◌, ◌↔◌, ◌+◌, ◌%◌, ◌^◌, ◌<◌, ◌≤◌, ◌++◌, ℕ, List, length};
+ghost use Rattle.std.specs.Prelude.{Ok, Err};
 ghost use Rattle.std.specs.Prelude.{Some, Option, true};
 ghost use Rattle.pcap_file.specs.Blocks.{IsBlock, IsSectionBlock, most_octets};
 ghost use Rattle.pcap_file.specs.NgReading.{is_read};
@@ -8,7 +9,8 @@ ghost use Rattle.pcap_file.specs.NgSteps.{Known, Stepped, body_read, entered, se
 ghost use Rattle.pcap_file.specs.NgSteps.{step_at};
 ghost use Rattle.pcap_file.specs.Orders.{long_at};
 ghost use Rattle.pcap_file.specs.NgSteps.{fresh};
-ghost use Rattle.pcap_file.specs.Recording.{GivesBlocks, IsBlocks, IsNext};
+ghost use Rattle.pcap_file.specs.Recording.{GivesBlocks, IsBlocks, IsNext, IsRecording};
+ghost use Rattle.pcap_file.specs.Runs.{fault_in, packets_in};
 ghost use Rattle.pcap_file.specs.declared.order.ByteOrder.{ByteOrder};
 ghost use Rattle.st_format.specs.Device.{AreOctets};
 ghost use Rattle.std.specs.Prelude.{None};
@@ -23,7 +25,9 @@ ghost use Rattle.pcap_file.specs.declared.datagram.NoDatagram.{NoDatagram};
 ghost use Rattle.pcap_file.specs.declared.link.Link.{Link};
 ghost use Rattle.pcap_file.specs.Writing.{ip_checksum, ip_text, pseudo_sum, udp_checksum, udp_text};
 ghost use Rattle.pcap_file.specs.Writing.{word_sum};
+ghost use Rattle.pcap_file.specs.Writing6.{ends_of, udp6_text};
 ghost use Rattle.pcap_file.specs.declared.writing.Envelope.{Envelope};
+ghost use Rattle.pcap_file.specs.declared.writing6.Envelope6.{Envelope6};
 
 /// A recorded packet is one datagram at most.
 pub fn one_reading()
@@ -50,6 +54,9 @@ pub fn right_checksums()
     ensures udp { (e : Envelope) (payload : List ℕ) →
         (pseudo_sum e (8 + length payload)
         + word_sum (udp_text e (8 + length payload) (udp_checksum e payload))
+        + word_sum payload) % 65535 ≡ 0 }
+    ensures udp6 { (e : Envelope6) (payload : List ℕ) →
+        (pseudo_sum (ends_of e) (8 + length payload) + word_sum (udp6_text e payload)
         + word_sum payload) % 65535 ≡ 0 }
 {}
 
@@ -109,4 +116,16 @@ pub fn next_read()
 pub fn whole_blocks()
     ensures { (room : ℕ) (octets : List ℕ) (packets : List Recorded) → most_octets ≤ room
         → AreOctets octets → IsBlocks octets packets → GivesBlocks room octets packets }
+{}
+
+/// A recording of either layout is read as its packets, if there is room for the greatest block and
+/// the octets of each packet; and what is read without a fault is a recording of what is read.
+pub fn recording_read()
+    ensures again { (room : ℕ) (octets : List ℕ) (packets : List Recorded) → most_octets ≤ room
+        → HaveRoom room packets → AreOctets octets → length octets < 2 ^ 64
+        → IsRecording octets packets
+        → (packets_in room octets ≡ packets) × (fault_in room octets ≡ None) }
+    ensures takes { (room : ℕ) (octets : List ℕ) (packets : List Recorded) → AreOctets octets
+        → packets_in room octets ≡ packets → fault_in room octets ≡ None
+        → IsRecording octets packets }
 {}

@@ -18,23 +18,27 @@ mod numbers;
 mod order;
 mod pcap;
 mod pcap_reading;
+mod recording;
 mod section;
 #[cfg(test)]
 mod tests;
 mod udp;
 mod writing;
+mod writing6;
 
 pub use blocks::{
     ENHANCED, INTERFACE, Interface, OBSOLETE, SECTION, SIMPLE, body_of_total, order_of,
     read_enhanced, read_interface, read_obsolete, read_section, read_simple,
 };
-pub use datagram::{DatagramView, NoDatagram, read_datagram};
+pub use datagram::{DatagramView, NoDatagram, packet_datagram, read_datagram};
 pub use fault::RecordingFault;
 pub use ip::{PacketView, read_packet};
 pub use link::{IpVersion, Link, LinkView, read_link};
 pub use order::ByteOrder;
 pub use pcap::{PCAP_HEAD, PacketHead, PcapHead, RECORD_HEAD, read_pcap_head, read_record_head};
 pub use pcap_reading::{next_record, read_pcap, record_begins, record_rest};
+pub use recording::{Layout, Packet, next_packet, open_recording};
 pub use section::{INTERFACES, Section, Step, next_block, read_first_section};
 pub use udp::read_udp;
 pub use writing::{Envelope, HEADS, write_pcap_head, write_record};
+pub use writing6::{Envelope6, HEADS6, write_record6};

@@ -53,8 +53,8 @@ pub struct PacketHead {
 }
 
 /// The order and the unit of time that a file's first four octets say.
-fn magic_of(octets: &[u8]) -> Option<(ByteOrder, bool)>
-    requires { length octets.now ≡ 24 }
+pub(crate) fn magic_of(octets: &[u8]) -> Option<(ByteOrder, bool)>
+    requires { 4 ≤ length octets.now }
     ensures { result ≡ magic_of octets.now }
 {
     let big = long_at(ByteOrder::Big, octets, 0);

@@ -25,6 +25,7 @@ pub fn read_pcap<S: ByteSource>(source: &mut S) -> Result<PcapHead, RecordingFau
     ensures gave_wrong { IfErr result (λ f. GaveFault pcap_at (S.gave source.old)
         (S.gave source.new) (S.ended source.new) f) }
     ensures counted { CountsDevice (S.failures source.old) (S.failures source.new) result }
+    ensures names { S.names source.new ≡ S.names source.old }
 {
     let mut octets = [0u8; 24];
     read_field(source, &mut octets)?;
@@ -48,6 +49,7 @@ pub fn record_begins<S: ByteSource>(
     ensures gave_wrong { IfErr result (λ f. GaveFault (head_at file.now) (S.gave source.old)
         (S.gave source.new) (S.ended source.new) f) }
     ensures counted { CountsDevice (S.failures source.old) (S.failures source.new) result }
+    ensures names { S.names source.new ≡ S.names source.old }
 {
     let mut octets = [0u8; 16];
     let count = read_whole(source, &mut octets)?;
@@ -84,6 +86,7 @@ pub fn record_rest<S: ByteSource>(
     ensures gave_wrong { IfErr result (λ f. GaveFault (octets_at (length buf.old) packet.now)
         (S.gave source.old) (S.gave source.new) (S.ended source.new) f) }
     ensures counted { CountsDevice (S.failures source.old) (S.failures source.new) result }
+    ensures names { S.names source.new ≡ S.names source.old }
 {
     let count = packet.captured as usize;
     if buf.len() < count {
@@ -115,6 +118,7 @@ pub fn next_record<S: ByteSource>(
     ensures gave_wrong { IfErr result (λ f. GaveFault (record_at (length buf.old) file.now)
         (S.gave source.old) (S.gave source.new) (S.ended source.new) f) }
     ensures counted { CountsDevice (S.failures source.old) (S.failures source.new) result }
+    ensures names { S.names source.new ≡ S.names source.old }
 {
     let Some(packet) = record_begins(source, file)? else {
         return Ok(None);

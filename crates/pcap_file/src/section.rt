@@ -110,6 +110,7 @@ fn next_section<S: ByteSource>(
     ensures gave_wrong { IfErr result (λ f. GaveFault (section_step front.now) (S.gave source.old)
         (S.gave source.new) (S.ended source.new) f) }
     ensures counted { CountsDevice (S.failures source.old) (S.failures source.new) result }
+    ensures names { S.names source.new ≡ S.names source.old }
 {
     let order = read_section_block(source, front, buf)?;
     *section = Section::new(order);
@@ -141,6 +142,7 @@ fn next_other<S: ByteSource>(
         (known section.old) front.now) (S.gave source.old) (S.gave source.new) (S.ended source.new)
         f) }
     ensures counted { CountsDevice (S.failures source.old) (S.failures source.new) result }
+    ensures names { S.names source.new ≡ S.names source.old }
 {
     let order = section.order;
     match read_block(source, order, front, buf) {
@@ -181,6 +183,7 @@ pub fn next_block<S: ByteSource>(
     ensures gave_wrong { IfErr result (λ f. GaveFault (step_at (length buf.old)
         (known section.old)) (S.gave source.old) (S.gave source.new) (S.ended source.new) f) }
     ensures counted { CountsDevice (S.failures source.old) (S.failures source.new) result }
+    ensures names { S.names source.new ≡ S.names source.old }
 {
     let mut front = [0u8; 8];
     if !read_front(source, &mut front)? {
@@ -213,6 +216,7 @@ pub fn read_first_section<S: ByteSource>(
     ensures gave_wrong { IfErr result (λ f. GaveFault first_at (S.gave source.old)
         (S.gave source.new) (S.ended source.new) f) }
     ensures counted { CountsDevice (S.failures source.old) (S.failures source.new) result }
+    ensures names { S.names source.new ≡ S.names source.old }
 {
     let mut front = [0u8; 8];
     read_field(source, &mut front)?;

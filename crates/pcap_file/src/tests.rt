@@ -1,14 +1,15 @@
 //! Packets and recordings built by hand, octet by octet. Each table has what is changed in one, and
 //! what is then answered.
 use crate::{
-    Envelope, Link, NoDatagram, PacketHead, RecordingFault, Step, next_block, next_record,
-    read_datagram, read_first_section, read_pcap, write_pcap_head, write_record,
+    Envelope, Envelope6, Link, NoDatagram, Packet, PacketHead, RecordingFault, Step, next_block,
+    next_packet, next_record, open_recording, packet_datagram, read_datagram, read_first_section,
+    read_pcap, write_pcap_head, write_record, write_record6,
 };
 use st_format::memory::MemorySource;
 use std::alloc::Global;
 use std::test::Fail;
 
-const FAULTS: [(RecordingFault, u8, &str, &str); 10] = [
+const FAULTS: [(RecordingFault, u8, &str, &str); 11] = [
     (RecordingFault::Device, 1, "Device", "the device failed"),
     (
         RecordingFault::Truncated,
@@ -63,6 +64,12 @@ const FAULTS: [(RecordingFault, u8, &str, &str); 10] = [
         10,
         "Packed",
         "the octets begin a file that gzip has packed",
+    ),
+    (
+        RecordingFault::TooManyBlocks,
+        11,
+        "TooManyBlocks",
+        "there are 2^64 - 1 records or blocks, or more",
     ),
 ];
 
@@ -571,6 +578,144 @@ fn faults_of_blocks(rt: HostRuntime) -> Result<(), Fail> {
             _ => Some(RecordingFault::Truncated),
         };
         assert!(rt; fault_of_blocks(rt.alloc(), &BLOCKS[..cut], 32)? == wanted);
+    }
+    Ok(())
+}
+
+/// The same packets in the classic layout, most significant octet first, in microseconds.
+const RECORDS: [u8; 24 + 18 + 17] = [
+    0xa1, 0xb2, 0xc3, 0xd4, 0, 2, 0, 4, 0, 0, 0, 0, 0, 0, 0, 0, 0, 0, 0, 9, 0, 0, 0, 101, // file
+    0, 0, 0, 1, 0, 0, 0, 7, 0, 0, 0, 2, 0, 0, 0, 3, 8, 9, // a packet
+    0, 0, 0, 2, 0, 0, 0, 0, 0, 0, 0, 1, 0, 0, 0, 5, 6, // another
+];
+
+/// Whether a packet is the first of them, or the second.
+fn is_in_turn(count: usize, packet: &Packet, buffer: &[u8; 36]) -> bool {
+    let head = &packet.head;
+    let end = packet.place.saturating_add(head.captured as usize);
+    let octets = buffer.get(packet.place..end);
+    let wanted: &[u8] = if count == 0 { &[8, 9] } else { &[6] };
+    let original = if count == 0 { 3 } else { 5 };
+    octets == Some(wanted) && head.original == original && head.link == 101
+}
+
+/// How many packets are read of a recording, in pieces of five octets, and the fault behind them.
+/// The call `fails_in` of the source fails.
+fn packets_of(
+    alloc: Global,
+    text: &[u8],
+    fails_in: u64,
+) -> Result<(usize, Option<RecordingFault>), Fail> {
+    let mut source = MemorySource::new(text.to_vec(alloc)?, 5, fails_in);
+    let mut buffer = [0u8; 36];
+    let mut layout = match open_recording(&mut source, &mut buffer) {
+        Ok(layout) => layout,
+        Err(fault) => return Ok((0, Some(fault))),
+    };
+    for count in 0..3usize {
+        match next_packet(&mut source, &mut layout, &mut buffer) {
+            Ok(Some(packet)) => {
+                if !is_in_turn(count, &packet, &buffer) {
+                    return Err("another packet".into());
+                }
+            }
+            Ok(None) => return Ok((count, None)),
+            Err(fault) => return Ok((count, Some(fault))),
+        }
+    }
+    Err("a third packet".into())
+}
+
+/// Either layout is read packet by packet, and cut after each of its octets.
+#[test]
+fn recordings_of_either_layout(rt: HostRuntime) -> Result<(), Fail> {
+    for cut in 0..60usize {
+        let wanted = match cut {
+            24 => (0, None),
+            42 => (1, None),
+            59 => (2, None),
+            _ => (usize::from(cut > 42), Some(RecordingFault::Truncated)),
+        };
+        assert!(rt; packets_of(rt.alloc(), &RECORDS[..cut], 0)? == wanted);
+    }
+    for cut in 0..141usize {
+        let wanted = match cut {
+            28 | 72 | 84 => (0, None),
+            120 => (1, None),
+            140 => (2, None),
+            _ => (usize::from(cut > 120), Some(RecordingFault::Truncated)),
+        };
+        assert!(rt; packets_of(rt.alloc(), &BLOCKS[..cut], 0)? == wanted);
+    }
+    let foreign = [0u8; 4];
+    assert!(rt; packets_of(rt.alloc(), &foreign, 0)? == (0, Some(RecordingFault::BadMagic)));
+    let packed = [0x1f, 0x8b, 8, 0];
+    assert!(rt; packets_of(rt.alloc(), &packed, 0)? == (0, Some(RecordingFault::Packed)));
+    Ok(())
+}
+
+/// One call of the source fails: a call of four octets, four of twenty, four of a record's head,
+/// one of its octets, and the last, which tells the end.
+#[test]
+fn recordings_of_a_failing_device(rt: HostRuntime) -> Result<(), Fail> {
+    for call in 1..18u64 {
+        let wanted = match call {
+            1..=10 => (0, Some(RecordingFault::Device)),
+            11..=15 => (1, Some(RecordingFault::Device)),
+            16 => (2, Some(RecordingFault::Device)),
+            _ => (2, None),
+        };
+        assert!(rt; packets_of(rt.alloc(), &RECORDS, call)? == wanted);
+    }
+    Ok(())
+}
+
+/// A packet is dissected by the number of its link layer.
+#[test]
+fn datagrams_by_number(rt: HostRuntime) {
+    match packet_datagram(&STAMPED, &IP4) {
+        Ok(d) => assert_eq!(rt; d.payload, [7u8, 8, 9].as_slice()),
+        Err(_) => assert!(rt; false),
+    }
+    let unknown = PacketHead {
+        link: 147,
+        ..STAMPED
+    };
+    assert!(rt; matches!(packet_datagram(&unknown, &IP4), Err(NoDatagram::NotIp)));
+}
+
+/// A group of IPv6 to the others of its link.
+const SIX: Envelope6 = Envelope6 {
+    source: [0x20, 1, 0xd, 0xb8, 0, 0, 0, 0, 0, 0, 0, 0, 0, 0, 0, 1],
+    destination: [0xff, 2, 0, 0, 0, 0, 0, 0, 0, 0, 0, 1, 2, 3, 4, 5],
+    source_port: 5004,
+    destination_port: 5006,
+};
+
+/// A record of IPv6, read back, with its checksum by hand: the sum of 2001, db8, 1; ff02, 1, 203,
+/// 405; b, 11; 138c, 138e, b; 6162 and 6300 is 21e68, so that of ones' complements is 1e6a.
+#[test]
+fn written_of_6(rt: HostRuntime) -> Result<(), Fail> {
+    let mut text = [0u8; 110];
+    write_pcap_head(&mut text);
+    assert_eq!(rt; write_record6(&mut text[24..], &SIX, 7, b"abc"), 81);
+    assert_eq!(rt; &text[40..46], [0x33u8, 0x33, 2, 3, 4, 5].as_slice());
+    assert_eq!(rt; &text[100..102], [0xe1u8, 0x95].as_slice());
+    let mut source = MemorySource::new(text[..105].to_vec(rt.alloc())?, 7, 0);
+    let mut buffer = [0u8; 100];
+    let Ok(mut layout) = open_recording(&mut source, &mut buffer) else {
+        return Err("no file".into());
+    };
+    let Ok(Some(packet)) = next_packet(&mut source, &mut layout, &mut buffer) else {
+        return Err("no packet".into());
+    };
+    assert_eq!(rt; packet.head.captured, 65);
+    let Some(octets) = buffer.get(..65) else {
+        return Err("no octets".into());
+    };
+    match packet_datagram(&packet.head, octets) {
+        Ok(d) => assert_eq!(rt; d.payload, b"abc".as_slice()),
+        Err(_) => assert!(rt; false),
     }
     Ok(())
 }

@@ -32,6 +32,7 @@ fn reason_udp(header: &[u8], there: usize) -> Option<NoDatagram>
 #[tactic(auto, unfolding(crate::specs::Reading::udp_at))]
 fn read<'a>(packet: &PacketView<'a>) -> Result<DatagramView<'a>, NoDatagram>
     ensures exact { Gives seen_datagram result (udp_at (seen_packet packet.now)) }
+    ensures few { IfOk result (λ v. length v.payload.now ≤ 65535) }
 {
     let octets = packet.carried;
     if octets.len() < HEADER {
@@ -69,6 +70,8 @@ pub fn read_udp<'a>(packet: &PacketView<'a>) -> Result<DatagramView<'a>, NoDatag
         (result ≡ Err reason) ↔ IsNoUdp packet.now.carried.now reason }
     // The answer as a walk over the octets, for the walks that go on from it.
     ensures exact { Gives seen_datagram result (udp_at (seen_packet packet.now)) }
+    // It has no more octets than its length can say.
+    ensures few { IfOk result (λ v. length v.payload.now ≤ 65535) }
 {
     read(packet)
 }

@@ -3,7 +3,8 @@ ghost use Rattle.std.specs.Prelude.{◌≡◌, ◌≤◌, ◌<◌, ◌+◌, ◌*
 ghost use Rattle.pcap_file.specs.Writing.{complement_of, folded, heads_text, ip_checksum};
 ghost use Rattle.pcap_file.specs.Writing.{ip_front_text};
 ghost use Rattle.pcap_file.specs.Writing.{ethernet_of, ethernet_text, ip_text, pseudo_sum};
-ghost use Rattle.pcap_file.specs.Writing.{record_text, sent_sum, udp_checksum, udp_text, word_sum};
+ghost use Rattle.pcap_file.specs.Writing.{record_text, sent_sum, udp_checksum, udp_head_text};
+ghost use Rattle.pcap_file.specs.Writing.{udp_text, word_sum};
 ghost use Rattle.pcap_file.specs.Writing.{datagram_of, datagram_text, file_text, frame_text};
 ghost use Rattle.pcap_file.specs.Writing.{recorded_of, written_file};
 ghost use Rattle.pcap_file.specs.Datagram.{IsDatagram};
@@ -25,7 +26,7 @@ pub struct Envelope {
 }
 
 /// The sum of the numbers of 16 bits that octets are.
-fn word_sum(octets: &[u8]) -> u64
+pub(crate) fn word_sum(octets: &[u8]) -> u64
     requires { length octets.now ≤ 65535 }
     ensures value { result ≡ word_sum octets.now }
     ensures few { result ≤ 65535 * length octets.now }
@@ -43,7 +44,7 @@ fn word_sum(octets: &[u8]) -> u64
 }
 
 /// The complement of a sum of ones' complements.
-fn complement_of(sum: u64) -> u16
+pub(crate) fn complement_of(sum: u64) -> u16
     ensures { result ≡ complement_of sum }
 {
     if sum == 0 {
@@ -53,7 +54,7 @@ fn complement_of(sum: u64) -> u16
 }
 
 /// Writes the 16 octets before a packet's own.
-fn write_record_head(buf: &mut [u8], time: u64, count: u32)
+pub(crate) fn write_record_head(buf: &mut [u8], time: u64, count: u32)
     requires room { length buf.old ≡ 16 }
     requires time { time < 2 ^ 32 * 1000000000 }
     ensures { buf.new ≡ record_text time count }
@@ -96,12 +97,18 @@ fn ip_checksum(envelope: &Envelope, total: u16) -> u16
 }
 
 /// Writes a header of UDP.
-fn write_udp(buf: &mut [u8], envelope: &Envelope, count: u16, checksum: u16)
+pub(crate) fn write_udp(
+    buf: &mut [u8],
+    source_port: u16,
+    destination_port: u16,
+    count: u16,
+    checksum: u16,
+)
     requires { length buf.old ≡ 8 }
-    ensures { buf.new ≡ udp_text envelope.now count checksum }
+    ensures { buf.new ≡ udp_head_text source_port destination_port count checksum }
 {
-    BigEndian::write_u16(buf, envelope.source_port);
-    BigEndian::write_u16(&mut buf[2..], envelope.destination_port);
+    BigEndian::write_u16(buf, source_port);
+    BigEndian::write_u16(&mut buf[2..], destination_port);
     BigEndian::write_u16(&mut buf[4..], count);
     BigEndian::write_u16(&mut buf[6..], checksum);
 }
@@ -121,7 +128,13 @@ fn udp_checksum(envelope: &Envelope, payload: &[u8]) -> u16
 {
     let count = 8 + payload.len() as u16;
     let mut header = [0u8; 8];
-    write_udp(&mut header, envelope, count, 0);
+    write_udp(
+        &mut header,
+        envelope.source_port,
+        envelope.destination_port,
+        count,
+        0,
+    );
     let checksum = complement_of(
         pseudo_sum(envelope, count) + word_sum(&header) + word_sum(payload),
     );
@@ -168,7 +181,8 @@ fn write_heads(buf: &mut [u8], envelope: &Envelope, time: u64, payload: &[u8])
     write_ip(ip, envelope, total, checksum);
     write_udp(
         udp,
-        envelope,
+        envelope.source_port,
+        envelope.destination_port,
         8 + count as u16,
         udp_checksum(envelope, payload),
     );

@@ -14,6 +14,7 @@ loop-done-init g c = (
   skip_none _,
   gave_none (skip_at 0) tt _ _ (λ known. skip_none known) refl,
   refl,
+  refl,
 )
 
 pub returns-in_err-read_field-clause-fault : goal.returns-in_err-read_field-clause-fault
@@ -65,4 +66,5 @@ loop-done-preserved g c =
           (field_as (length (take k l.buf)) k mid left c.read_field.new.buf count q))
           l.invariant.2 c.in_ok-read_field.ensures.gave,
       c.in_ok-read_field.ensures.counted ∙ l.invariant.3,
+      c.in_ok-read_field.ensures.names ∙ l.invariant.4,
     )

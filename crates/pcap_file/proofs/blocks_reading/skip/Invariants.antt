@@ -14,3 +14,4 @@ invariant-loop-done g l =
     × GaveValue (skip_at l.done) (g.S.ByteSource.gave l.initial.source)
     (g.S.ByteSource.gave l.source) tt
     × (g.S.ByteSource.failures l.source ≡ g.S.ByteSource.failures l.initial.source)
+    × (g.S.ByteSource.names l.source ≡ g.S.ByteSource.names l.initial.source)
