@@ -17,3 +17,4 @@ pub mod SectionFaults
 pub mod TextFaults
 pub mod BackAgain
 pub mod Places
+pub mod Destined

@@ -9,3 +9,5 @@ pub mod Views
 pub mod Canonical
 pub mod Back
 pub mod Places
+pub mod FlowsFaults
+pub mod Destinations

@@ -4,6 +4,8 @@
 
 mod canonical;
 mod fault;
+mod flows;
+mod flows_fault;
 mod item_at_fault;
 mod items;
 pub mod laws;
@@ -17,6 +19,8 @@ mod text;
 
 pub use canonical::fmtp_text;
 pub use fault::SdpFault;
+pub use flows::read_flows;
+pub use flows_fault::FlowsFault;
 pub use place::{Located, Place};
 pub use read::{read_located, read_sdp};
 pub use sdp::{Range, Sdp};

@@ -4,7 +4,7 @@ use bt709_fixed::ColourFault;
 use key_mix::{JobFault, SendJobFault};
 use packet_plan::{PlanFault, SendFault};
 use path_merge::PlayFault;
-use sdp_format::{Located, Place, SdpFault};
+use sdp_format::{FlowsFault, Located, Place, SdpFault};
 use test_kit::words::says;
 
 const OF_TEXTS: [(SdpFault, u8, &str, &str); 17] = [
@@ -140,6 +140,41 @@ const PLACED: [(Located, &str); 2] = [
 #[test]
 fn of_places(rt: HostRuntime) {
     for (fault, words) in &PLACED {
+        met(&rt, says(rt.alloc(), fault, words));
+    }
+}
+
+const OF_FLOWS: [(FlowsFault, u8, &str, &str); 4] = [
+    (
+        FlowsFault::NoVideo,
+        1,
+        "NoVideo",
+        "no media section is a video section",
+    ),
+    (
+        FlowsFault::TooManyLegs,
+        2,
+        "TooManyLegs",
+        "there are more than two video sections",
+    ),
+    (
+        FlowsFault::BadMediaLine,
+        3,
+        "BadMediaLine",
+        "a video section's first line isn't m=video PORT RTP/AVP PT",
+    ),
+    (
+        FlowsFault::BadConnection,
+        4,
+        "BadConnection",
+        "a section's c= line isn't c=IN IP4 ADDRESS or c=IN IP6 ADDRESS",
+    ),
+];
+
+#[test]
+fn of_flows(rt: HostRuntime) {
+    for (fault, number, name, words) in &OF_FLOWS {
+        met(&rt, fault.number() == *number && fault.name() == *name);
         met(&rt, says(rt.alloc(), fault, words));
     }
 }

@@ -1,6 +1,6 @@
-//! What no text of the program shows of the worked examples of docs/EXAMPLES.md, of SDP texts,
-//! plans and what is sent, packet numbers, schedules, and the processor and its jobs. Tests, with
-//! values that are worked out by hand.
+//! What no text of the program shows of the worked examples of docs/EXAMPLES.md, of SDP texts and
+//! flows, plans and what is sent, packet numbers, schedules, and the processor and its jobs. Tests,
+//! with values that are worked out by hand.
 #![tactic(auto)]
 
 #[cfg(test)]
@@ -11,6 +11,8 @@ mod checks;
 mod cut_texts;
 #[cfg(test)]
 mod faults;
+#[cfg(test)]
+mod flows;
 #[cfg(test)]
 mod job_pictures;
 #[cfg(test)]

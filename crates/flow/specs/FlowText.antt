@@ -1,0 +1,49 @@
+-- The texts of flows: PORT, or ADDRESS:PORT.
+use Rattle.std.specs.Prelude.{◌≡◌, ◌≢◌, ◌≤◌, ◌↔◌, ℕ, List, ◌++◌, codes, decimal, Option, Some, None}
+use Rattle.std.specs.declared.net.ip_addr.IpAddr.{IpAddr}
+use Rattle.std.specs.declared.net.ip_addr.IpAddr.TheVariants.{V4, V6}
+use Rattle.std.specs.Net.Addr.{ipv4_octets, ipv6_segments}
+use Rattle.std.specs.Net.Grammar.{IsIpv4Text, IsIpv6Text}
+use Rattle.std.specs.Net.Text.{ipv4_text, ipv6_text}
+use Rattle.st_format.specs.Words.{number}
+use Rattle.flow.specs.declared.flows.Flow.{Flow}
+
+-- a port: a number of 16 bits in one to ten decimal digits (RFC 768; leading zeros: own)
+abbrev pub IsPort : List ℕ → ℕ → Type 0
+IsPort text port = (number text ≡ Some port) × (port ≤ 65535)
+
+-- an address as it stands before a port: IPv6 in square brackets, without a zone (RFC 3986, 3.2.2)
+abbrev pub IsHost : List ℕ → IpAddr → Type 0
+IsHost text (V4 a) = IsIpv4Text text a
+IsHost text (V6 a) =
+    (inside : List ℕ) × (text ≡ codes "[" ++ inside ++ codes "]") × IsIpv6Text inside a
+
+-- a text spells a flow
+abbrev pub IsPlaceText : List ℕ → Option IpAddr → ℕ → Type 0
+IsPlaceText text None port = IsPort text port
+IsPlaceText text (Some a) port =
+    (host digits : List ℕ) × (text ≡ host ++ (codes ":" ++ digits)) × IsHost host a
+    × IsPort digits port
+
+abbrev pub IsFlowText : List ℕ → Flow → Type 0
+IsFlowText text f = IsPlaceText text f.address f.port
+
+-- What was found is what a text spells: it spells that value, and no other; or it spells none.
+abbrev pub Finds : {X : Type 0} → (List ℕ → X → Type 0) → List ℕ → Option X → Type 0
+Finds {X} Spells text found = (x : X) → (Spells text x ↔ (found ≡ Some x))
+
+-- the text that is written of a flow, IPv6 addresses as RFC 5952 has them
+abbrev pub host_text : IpAddr → List ℕ
+host_text (V4 a) = ipv4_text (ipv4_octets a)
+host_text (V6 a) = codes "[" ++ ipv6_text (ipv6_segments a) ++ codes "]"
+
+abbrev pub place_text : Option IpAddr → ℕ → List ℕ
+place_text None port = decimal port
+place_text (Some a) port = host_text a ++ codes ":" ++ decimal port
+
+abbrev pub flow_text : Flow → List ℕ
+flow_text f = place_text f.address f.port
+
+-- an octet that is no colon
+abbrev pub IsNoColon : ℕ → Type 0
+IsNoColon octet = octet ≢ 58

@@ -1,0 +1,150 @@
+//! Where the video of an SDP text is sent to, flows as texts, and the path of a datagram.
+use crate::checks::{met, none_fails};
+use flow::{Flows, read_flow};
+use sdp_format::read_flows;
+use st_format::Path;
+use std::alloc::{AllocError, Global};
+use std::process::Abort;
+use std::test::Fail;
+
+/// SDP texts, and the flows of each or its fault.
+const TEXTS: [(&str, &str); 12] = [
+    (
+        "m=video 5004 RTP/AVP 96\nc=IN IP4 239.1.1.1/64\nm=video 5006 RTP/AVP 96\n\
+         c=IN IP4 239.1.1.2/64/2\nc=IN IP4 239.1.1.3\n",
+        "239.1.1.1:5004 239.1.1.2:5006",
+    ),
+    (
+        "v=0\r\nc=IN IP4 239.2.2.2/32\r\nm=video 5004 RTP/AVP 96\r\nm=video 5004 RTP/AVP 96\r\n\
+         c=IN IP6 FF15::101/3 \r\n",
+        "239.2.2.2:5004 [ff15::101]:5004",
+    ),
+    (
+        "m=audio 5002 RTP/AVP 97\nc=IN IP4 239.9.9.9/32\nm=video 5004 RTP/AVP 96\n\
+         m=audio 5002 RTP/AVP 97\nc=IN IP4 239.9.9.9/32\n",
+        "5004",
+    ),
+    ("m=audio 5002 RTP/AVP 97\n", "NoVideo"),
+    (
+        "c=x\nm=video 1 RTP/AVP 96\nm=video 2 RTP/AVP 96\nm=video 3 RTP/AVP 96\n",
+        "TooManyLegs",
+    ),
+    ("m=video x\nc=IN IP4 x\n", "BadMediaLine"),
+    ("m=video 1 RTP/AVP 96\nm=video 2\n", "BadMediaLine"),
+    (
+        "m=video 1 RTP/AVP 96\nc=IN IP4 x\nm=video 2\n",
+        "BadConnection",
+    ),
+    (
+        "c=IN IP4 studio.example\nm=video 1 RTP/AVP 96\n",
+        "BadConnection",
+    ),
+    (
+        "c=IN IP6 239.1.1.1\nm=video 1 RTP/AVP 96\n",
+        "BadConnection",
+    ),
+    (
+        "c=IN IP4 ff15::101\nm=video 1 RTP/AVP 96\n",
+        "BadConnection",
+    ),
+    (
+        "c=IN IP6 fe80::1%eth0\nm=video 1 RTP/AVP 96\n",
+        "BadConnection",
+    ),
+];
+
+/// Texts of flows, and how each is displayed again, or `-` where it is none.
+const FLOWS: [(&str, &str); 14] = [
+    ("5004", "5004"),
+    ("0065535", "65535"),
+    ("239.1.1.1:5004", "239.1.1.1:5004"),
+    ("[FF3E:0:0::1]:05004", "[ff3e::1]:5004"),
+    ("[::ffff:10.0.0.1]:0", "[::ffff:10.0.0.1]:0"),
+    ("65536", "-"),
+    ("", "-"),
+    (":5004", "-"),
+    ("239.1.1.1", "-"),
+    ("239.1.1.01:5004", "-"),
+    ("ff3e::1:5004", "-"),
+    ("[239.1.1.1]:5004", "-"),
+    ("[fe80::1%0]:5004", "-"),
+    ("studio:5004", "-"),
+];
+
+/// The flows of an SDP text, or its fault's name.
+fn told(alloc: Global, text: &str) -> Result<String, AllocError> {
+    match read_flows(text.as_bytes()) {
+        Ok(flows) => match flows.as_slice() {
+            [a, b] => format!(in alloc; "{a} {b}"),
+            [a] => format!(in alloc; "{a}"),
+            _ => format!(in alloc; "-"),
+        },
+        Err(fault) => format!(in alloc; "{}", fault.name()),
+    }
+}
+
+/// How the flow of a text is displayed.
+fn shown(alloc: Global, text: &str) -> Result<String, AllocError> {
+    match read_flow(text.as_bytes()) {
+        Some(flow) => format!(in alloc; "{flow}"),
+        None => format!(in alloc; "-"),
+    }
+}
+
+/// The place of the first SDP text that is told as another.
+fn told_as_another(alloc: Global) -> Result<Option<u64>, AllocError> {
+    let mut place = 0u64;
+    for (text, wanted) in &TEXTS {
+        if told(alloc, text)?.as_str() != *wanted {
+            return Ok(Some(place));
+        }
+        place = place.wrapping_add(1);
+    }
+    Ok(None)
+}
+
+/// The place of the first text of a flow that is displayed as another.
+fn shown_as_another(alloc: Global) -> Result<Option<u64>, AllocError> {
+    let mut place = 0u64;
+    for (text, wanted) in &FLOWS {
+        if shown(alloc, text)?.as_str() != *wanted {
+            return Ok(Some(place));
+        }
+        place = place.wrapping_add(1);
+    }
+    Ok(None)
+}
+
+#[test]
+fn flows_of_texts(rt: HostRuntime) -> Result<(), Fail> {
+    none_fails(&rt, told_as_another(rt.alloc())?);
+    none_fails(&rt, shown_as_another(rt.alloc())?);
+    Ok(())
+}
+
+/// The flows of two texts.
+fn flows_of(a: &str, b: &str) -> Flows {
+    Flows {
+        a: read_flow(a.as_bytes()),
+        b: read_flow(b.as_bytes()),
+    }
+}
+
+/// Datagrams to 239.1.1.1, 239.1.1.2 and ff3e::1.
+#[test]
+fn paths_of_datagrams(rt: HostRuntime) {
+    let any = flows_of("5004", "239.1.1.2:5006");
+    met(&rt, any.path_of(&[239, 1, 1, 1], 5004) == Some(Path::A));
+    met(&rt, any.path_of(&[239, 1, 1, 2], 5006) == Some(Path::B));
+    met(&rt, any.path_of(&[239, 1, 1, 1], 5006) == None);
+    let six = flows_of("[ff3e::1]:5004", "5004");
+    let octets = [0xff, 0x3e, 0, 0, 0, 0, 0, 0, 0, 0, 0, 0, 0, 0, 0, 1];
+    met(&rt, six.path_of(&octets, 5004) == Some(Path::A));
+    met(&rt, six.path_of(&octets[..15], 5004) == Some(Path::B));
+    met(&rt, !six.is_one_place() && !any.is_one_place());
+    met(
+        &rt,
+        flows_of("[ff3e::1]:5004", "[FF3E:0::1]:5004").is_one_place(),
+    );
+    met(&rt, !flows_of("x", "x").is_one_place());
+}
