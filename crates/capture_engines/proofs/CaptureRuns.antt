@@ -5,7 +5,7 @@ use Rattle.std.proofs.Common.{Some}
 use Rattle.std.proofs.Common.{Result, Ok, Err, MatchResult, refl, sym, ap, ◌∙◌, subst, arith}
 use Rattle.std.proofs.Common.{append_assoc, append-nil}
 use Rattle.std.proofs.lemmas.Bool.{cases_lt}
-use Rattle.std.specs.Prelude.{IfErr, IfOk, OnOk}
+use Rattle.std.specs.Prelude.{IfErr, IfOk, IsErrOf, OnOk, ◌↔◌}
 use Rattle.st_format.specs.Device.{CountsOne, Failed as HasFailed, Told}
 use Rattle.st_format.specs.History.{GrewFrom, IsRead, since}
 use Rattle.st_format.specs.Turns.{Due, Comes, Nothing, came_of, datagrams_of}
@@ -32,14 +32,17 @@ use Rattle.media_file.proofs.Cuts.{entries_front}
 use Rattle.media_file.proofs.Dues.{entries_none}
 use Rattle.media_file.proofs.GaveLoops.{front_fails}
 use Rattle.path_merge.specs.Frames.{Holds, State}
+use Rattle.path_merge.specs.Opening.{AreDifferent, IsWindowSize}
+use Rattle.path_merge.specs.declared.fault.OpenFault.{OpenFault}
+use Rattle.path_merge.specs.declared.fault.OpenFault.TheVariants as open_fault
 use Rattle.path_merge.specs.Took.{ComesMore, HearsAll, TakesDue, Took, TookUpTo, delivered_in}
 use Rattle.path_merge.specs.declared.answer.Refusal.{Refusal}
 use Rattle.path_merge.specs.declared.answer.Taken.{Taken}
 use Rattle.path_merge.specs.declared.receiving.ReceiveFault.{ReceiveFault}
 use Rattle.path_merge.specs.declared.receiving.Received.{Received}
 use Rattle.run_outcome.specs.Fault.{Accounts, Blames, counts}
-use Rattle.run_outcome.specs.LowerFaults.{capture_fault}
-use Rattle.capture_engines.specs.Received.{HasRecordFault, IsFileRefusal}
+use Rattle.run_outcome.specs.LowerFaults.{capture_fault, of_open}
+use Rattle.capture_engines.specs.Received.{HasRecordFault, IsFileRefusal, IsOpeningRefusal}
 use Rattle.run_outcome.specs.Refusing.{OfRefusal}
 use Rattle.capture_engines.specs.Taking.{TakesRecords}
 use Rattle.run_outcome.specs.declared.fault.Fault.{Fault}
@@ -521,3 +524,49 @@ has_number TooManyRecords e n is none same = absurd (none TooManyRecords (number
 
 pub no_fault : (f : FileFault) (r : Option FileFault) → r ≡ None → r ≡ Some f → ⊥
 no_fault f r none some = cc
+
+-- a fault that a reader told by a number is the one of that number
+same_some : (r : Option FileFault) (g h : FileFault) → r ≡ Some g → r ≡ Some h → g ≡ h
+same_some r g h is same = cc
+
+told_again : (r : Option FileFault) (g h : FileFault) (out : Fault) → r ≡ Some g
+    → out ≡ capture_fault g → r ≡ Some h → out ≡ capture_fault h
+told_again r g h out is told same =
+    told ∙ ap (λ (f : FileFault). capture_fault f) (same_some r g h is same)
+
+pub told_same : (f g : FileFault) (e : SourceFault) (n : ℕ) (r : Option FileFault) (out : Fault)
+    → e ≡ Content n → ((h : FileFault) → file_fault_number h ≡ n → r ≡ Some h) → r ≡ Some g
+    → out ≡ capture_fault g → e ≡ source_fault f → out ≡ capture_fault f
+told_same NoMemory g e n r out is known some told same =
+    told_again r g NoMemory out some told (known NoMemory (number_is e n 1 is same))
+told_same Device g e n r out is known some told same = absurd (no_device e n is same)
+told_same BadName g e n r out is known some told same =
+    told_again r g BadName out some told (known BadName (number_is e n 3 is same))
+told_same BadVersion g e n r out is known some told same =
+    told_again r g BadVersion out some told (known BadVersion (number_is e n 4 is same))
+told_same Truncated g e n r out is known some told same =
+    told_again r g Truncated out some told (known Truncated (number_is e n 5 is same))
+told_same BadField g e n r out is known some told same =
+    told_again r g BadField out some told (known BadField (number_is e n 6 is same))
+told_same TrailingBytes g e n r out is known some told same =
+    told_again r g TrailingBytes out some told (known TrailingBytes (number_is e n 7 is same))
+told_same MixedGroup g e n r out is known some told same =
+    told_again r g MixedGroup out some told (known MixedGroup (number_is e n 8 is same))
+told_same TooManyRecords g e n r out is known some told same =
+    told_again r g TooManyRecords out some told (known TooManyRecords (number_is e n 9 is same))
+
+-- ---- opening a receiver
+
+-- a window by which no receiver is opened is refused
+pub window_refused : {V : Type 0} (r : Result V OpenFault) (why : OpenFault) (f : Fault)
+    (window text : List ℕ) → r ≡ Err why
+    → IsErrOf r open_fault.BadWindow ↔ (IsWindowSize (length window) → ⊥)
+    → IsErrOf r open_fault.DoubleTimestamp
+    ↔ (IsWindowSize (length window) × (AreDifferent window → ⊥))
+    → f ≡ of_open why → OfRefusal f (IsOpeningRefusal window text)
+window_refused r open_fault.NoMemory f window text err size double is =
+    subst (λ (g : Fault). OfRefusal g (IsOpeningRefusal window text)) (sym is) tt
+window_refused r open_fault.BadWindow f window text err size double is =
+    subst (λ (g : Fault). OfRefusal g (IsOpeningRefusal window text)) (sym is) (size.0 err)
+window_refused r open_fault.DoubleTimestamp f window text err size double is =
+    subst (λ (g : Fault). OfRefusal g (IsOpeningRefusal window text)) (sym is) (double.0 err)

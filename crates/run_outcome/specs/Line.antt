@@ -28,6 +28,11 @@ line_text (line.Receiver number) = codes "receiver " ++ decimal number
 line_text (line.Absent first count) =
     codes "absent " ++ (decimal first ++ (codes " " ++ decimal count))
 line_text (line.Records count) = codes "records " ++ decimal count
+line_text (line.Recorded a b left_out) =
+    codes "recorded A " ++ (decimal a ++ (codes " B " ++ (decimal b ++ (codes " left out "
+    ++ decimal left_out))))
+line_text (line.Exported count left_out) =
+    codes "exported " ++ (decimal count ++ (codes " left out " ++ decimal left_out))
 line_text (line.Sent count) = codes "sent " ++ decimal count
 line_text (line.Delivered count) = codes "delivered " ++ decimal count
 line_text (line.RefusedCount refusal count) =

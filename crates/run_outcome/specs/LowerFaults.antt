@@ -11,15 +11,18 @@ use Rattle.packet_plan.specs.declared.plan.PlanFault.TheVariants as plan
 use Rattle.path_merge.specs.declared.fault.OpenFault.{OpenFault}
 use Rattle.path_merge.specs.declared.fault.OpenFault.TheVariants as open_fault
 use Rattle.path_merge.specs.declared.schedule.play_fault.PlayFault.TheVariants as play
+use Rattle.pcap_file.specs.declared.fault.RecordingFault.{RecordingFault}
+use Rattle.pcap_file.specs.declared.fault.RecordingFault.TheVariants as recording
 use Rattle.sdp_format.specs.declared.fault.SdpFault.{SdpFault}
 use Rattle.sdp_format.specs.declared.fault.SdpFault.TheVariants as sdp
+use Rattle.sdp_format.specs.declared.flows_fault.FlowsFault.{FlowsFault}
 use Rattle.sdp_format.specs.declared.place.Located.{Located}
 use Rattle.run_outcome.specs.declared.fault.Fault.{Fault}
 use Rattle.run_outcome.specs.declared.fault.Fault.TheVariants.{Refused, Device, Memory}
 use Rattle.run_outcome.specs.declared.refusal.Refusal.{Refusal}
 use Rattle.run_outcome.specs.declared.refusal.Refusal.TheVariants.{Script}
 use Rattle.run_outcome.specs.declared.refusal.Refusal.TheVariants.{Sdp, Open, Plan, Job, Capture}
-use Rattle.run_outcome.specs.declared.refusal.Refusal.TheVariants.{Picture, State}
+use Rattle.run_outcome.specs.declared.refusal.Refusal.TheVariants.{Picture, State, Flows, Recording}
 use Rattle.run_outcome.specs.declared.script_line.Form.{Form}
 use Rattle.run_outcome.specs.declared.script_line.LineFault.{LineFault}
 use Rattle.run_outcome.specs.declared.script_line.LineFault.TheVariants as line
@@ -53,6 +56,9 @@ sdp_fault fault refusal = Refused refusal
 abbrev pub of_sdp : Located → Fault
 of_sdp at = sdp_fault at.fault (Sdp at)
 
+abbrev pub of_flows : FlowsFault → Fault
+of_flows refusal = Refused (Flows refusal)
+
 abbrev pub of_open : OpenFault → Fault
 of_open open_fault.NoMemory = Memory
 of_open refusal = Refused (Open refusal)
@@ -78,3 +84,7 @@ picture_fault fault = file_fault fault (Picture fault)
 
 abbrev pub state_fault : FileFault → Fault
 state_fault fault = file_fault fault (State fault)
+
+abbrev pub of_recording : RecordingFault → Fault
+of_recording recording.Device = Device
+of_recording refusal = Refused (Recording refusal)

@@ -9,7 +9,9 @@ use Rattle.path_merge.specs.Answers.{open_fault_name, open_fault_number}
 use Rattle.path_merge.specs.PlayFault.{play_fault_name, play_fault_number}
 use Rattle.path_merge.specs.declared.schedule.play_fault.PlayFault.{PlayFault}
 use Rattle.path_merge.specs.declared.schedule.play_fault.PlayFault.TheVariants as play
+use Rattle.pcap_file.specs.RecordingFaults.{recording_fault_name, recording_fault_number}
 use Rattle.sdp_format.specs.Faults.{sdp_fault_name, sdp_fault_number}
+use Rattle.sdp_format.specs.FlowsFaults.{flows_fault_name, flows_fault_number}
 use Rattle.st_format.specs.Faults.{format_fault_name, format_fault_number}
 use Rattle.run_outcome.specs.Telling.{numbered_name}
 use Rattle.run_outcome.specs.declared.refusal.Refusal.{Refusal}
@@ -41,6 +43,7 @@ abbrev pub refusal_text : Refusal → List ℕ
 refusal_text (refusal.Script number (line.Form form)) = codes "script " ++ decimal number
 refusal_text (refusal.Script number fault) = line_fault_text fault
 refusal_text refusal.MigrateSdp = codes "migrate 1 SdpTooLong"
+refusal_text refusal.ExportFlow = codes "export 1 BadFlow"
 refusal_text refusal.ReceiveWindow = codes "receive 1 BadWindowText"
 refusal_text refusal.ReceiveSource = codes "receive 2 BadSource"
 refusal_text refusal.ReceiveSdp = codes "receive 3 SdpTooLong"
@@ -53,8 +56,14 @@ refusal_text refusal.ProcessJob = codes "process 1 BadJob"
 refusal_text refusal.ProcessFrame = codes "process 2 NoFrame"
 refusal_text refusal.ProcessFill = codes "process 3 BadFill"
 refusal_text refusal.ProcessHold = codes "process 4 HoldDiffers"
+refusal_text refusal.ImportSdp = codes "import 1 SdpTooLong"
+refusal_text refusal.ImportFlow = codes "import 2 BadFlow"
+refusal_text refusal.ImportPlaces = codes "import 3 OnePlace"
+refusal_text refusal.ImportRecords = codes "import 4 TooManyRecords"
 refusal_text (refusal.Sdp at) =
     numbered_name (codes "sdp ") (sdp_fault_number at.fault) (sdp_fault_name at.fault)
+refusal_text (refusal.Flows f) =
+    numbered_name (codes "flows ") (flows_fault_number f) (flows_fault_name f)
 refusal_text (refusal.Open f) =
     numbered_name (codes "open ") (open_fault_number f) (open_fault_name f)
 refusal_text (refusal.Plan f) =
@@ -66,3 +75,5 @@ refusal_text (refusal.Picture f) =
     numbered_name (codes "picture ") (file_fault_number f) (file_fault_name f)
 refusal_text (refusal.State f) =
     numbered_name (codes "state ") (file_fault_number f) (file_fault_name f)
+refusal_text (refusal.Recording f) =
+    numbered_name (codes "recording ") (recording_fault_number f) (recording_fault_name f)

@@ -8,7 +8,8 @@ use key_mix::JobFault;
 use media_file::FileFault;
 use packet_plan::PlanFault;
 use path_merge::OpenFault;
-use sdp_format::{Located, SdpFault};
+use pcap_file::RecordingFault;
+use sdp_format::{FlowsFault, Located, SdpFault};
 use st_format::DeviceFault;
 use std::alloc::AllocError;
 
@@ -59,6 +60,17 @@ impl From<Located> for Fault {
     }
 }
 
+impl From<FlowsFault> for Fault {
+    ghost use Rattle.std.specs.Prelude.{◌≡◌};
+    ghost use Rattle.run_outcome.specs.LowerFaults.{of_flows};
+
+    ghost from_gives = { λ refusal fault. fault ≡ of_flows refusal };
+
+    fn from(refusal: FlowsFault) -> Fault {
+        Fault::Refused(Refusal::Flows(refusal))
+    }
+}
+
 impl From<OpenFault> for Fault {
     ghost use Rattle.std.specs.Prelude.{◌≡◌};
     ghost use Rattle.run_outcome.specs.LowerFaults.{of_open};
@@ -97,6 +109,20 @@ impl From<JobFault> for Fault {
         match refusal {
             JobFault::NoMemory => Fault::Memory,
             refusal => Fault::Refused(Refusal::Job(refusal)),
+        }
+    }
+}
+
+impl From<RecordingFault> for Fault {
+    ghost use Rattle.std.specs.Prelude.{◌≡◌};
+    ghost use Rattle.run_outcome.specs.LowerFaults.{of_recording};
+
+    ghost from_gives = { λ refusal fault. fault ≡ of_recording refusal };
+
+    fn from(refusal: RecordingFault) -> Fault {
+        match refusal {
+            RecordingFault::Device => Fault::Device,
+            refusal => Fault::Refused(Refusal::Recording(refusal)),
         }
     }
 }

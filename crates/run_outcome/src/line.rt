@@ -35,6 +35,10 @@ pub enum Line {
     Absent(u32, u32),
     /// How many records were written.
     Records(u64),
+    /// How many records were written of A and of B, and how many packets were left out.
+    Recorded(u64, u64, u64),
+    /// How many datagrams were exported, and how many were left out.
+    Exported(u64, u64),
     /// How many datagrams were sent.
     Sent(u64),
     /// How many datagrams were delivered.
@@ -93,6 +97,10 @@ impl fmt::Display for Line {
             Line::Receiver(number) => write!(f, "receiver {number}"),
             Line::Absent(first, count) => write!(f, "absent {first} {count}"),
             Line::Records(count) => write!(f, "records {count}"),
+            Line::Recorded(a, b, left_out) => {
+                write!(f, "recorded A {a} B {b} left out {left_out}")
+            }
+            Line::Exported(count, left_out) => write!(f, "exported {count} left out {left_out}"),
             Line::Sent(count) => write!(f, "sent {count}"),
             Line::Delivered(count) => write!(f, "delivered {count}"),
             Line::RefusedCount(refusal, count) => {

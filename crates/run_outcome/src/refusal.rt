@@ -4,7 +4,8 @@ use key_mix::JobFault;
 use media_file::FileFault;
 use packet_plan::PlanFault;
 use path_merge::OpenFault;
-use sdp_format::Located;
+use pcap_file::RecordingFault;
+use sdp_format::{FlowsFault, Located};
 use std::fmt;
 
 /// Why words, a text or files are refused.
@@ -14,6 +15,8 @@ pub enum Refusal {
     Script(usize, LineFault),
     /// The text for a capture is longer than a capture's text may be.
     MigrateSdp,
+    /// The words for a path are no flow to an address of IPv4.
+    ExportFlow,
     /// The window is no text of timestamps.
     ReceiveWindow,
     /// The source is neither a number nor `any`.
@@ -38,8 +41,18 @@ pub enum Refusal {
     ProcessFill,
     /// The held picture's format is not that of the first frame.
     ProcessHold,
+    /// The text for a capture is longer than a capture's text may be.
+    ImportSdp,
+    /// A flow's words aren't a port, or an address and a port.
+    ImportFlow,
+    /// Both paths have one address and port, and there aren't two recordings to tell them by.
+    ImportPlaces,
+    /// Recordings have too many datagrams of the flows.
+    ImportRecords,
     /// The SDP is refused, in a place of it where that is one's.
     Sdp(Located),
+    /// The SDP doesn't say where its video is sent to.
+    Flows(FlowsFault),
     /// There is no such receiver.
     Open(OpenFault),
     /// There is no such plan.
@@ -52,6 +65,8 @@ pub enum Refusal {
     Picture(FileFault),
     /// A receiver's file is refused.
     State(FileFault),
+    /// A recording of another tool is refused.
+    Recording(RecordingFault),
 }
 
 impl fmt::Display for Refusal {
@@ -65,6 +80,7 @@ impl fmt::Display for Refusal {
             Refusal::Script(line, LineFault::Form(_)) => write!(f, "script {line}"),
             Refusal::Script(_, fault) => write!(f, "{fault}"),
             Refusal::MigrateSdp => f.write_str("migrate 1 SdpTooLong"),
+            Refusal::ExportFlow => f.write_str("export 1 BadFlow"),
             Refusal::ReceiveWindow => f.write_str("receive 1 BadWindowText"),
             Refusal::ReceiveSource => f.write_str("receive 2 BadSource"),
             Refusal::ReceiveSdp => f.write_str("receive 3 SdpTooLong"),
@@ -77,11 +93,20 @@ impl fmt::Display for Refusal {
             Refusal::ProcessFrame => f.write_str("process 2 NoFrame"),
             Refusal::ProcessFill => f.write_str("process 3 BadFill"),
             Refusal::ProcessHold => f.write_str("process 4 HoldDiffers"),
+            Refusal::ImportSdp => f.write_str("import 1 SdpTooLong"),
+            Refusal::ImportFlow => f.write_str("import 2 BadFlow"),
+            Refusal::ImportPlaces => f.write_str("import 3 OnePlace"),
+            Refusal::ImportRecords => f.write_str("import 4 TooManyRecords"),
             Refusal::Sdp(at) => {
                 let fault = at.fault;
                 let number = fault.number();
                 let name = fault.name();
                 write!(f, "sdp {number} {name}")
+            }
+            Refusal::Flows(fault) => {
+                let number = fault.number();
+                let name = fault.name();
+                write!(f, "flows {number} {name}")
             }
             Refusal::Open(fault) => {
                 let number = fault.number();
@@ -112,6 +137,11 @@ impl fmt::Display for Refusal {
                 let number = fault.number();
                 let name = fault.name();
                 write!(f, "state {number} {name}")
+            }
+            Refusal::Recording(fault) => {
+                let number = fault.number();
+                let name = fault.name();
+                write!(f, "recording {number} {name}")
             }
         }
     }

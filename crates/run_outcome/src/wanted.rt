@@ -1,13 +1,16 @@
 //! What was wanted where words or files are refused.
 use crate::refusal::Refusal;
 use media_file::FileFault;
+use pcap_file::RecordingFault;
+use sdp_format::FlowsFault;
 
 impl Refusal {
     /// What was wanted where this refusal comes, in words for a person.
     pub fn wanted(self) -> &'static str {
         match self {
             Refusal::Script(_, fault) => fault.wanted(),
-            Refusal::MigrateSdp | Refusal::SendSdp => "at most 65535 octets",
+            Refusal::MigrateSdp | Refusal::SendSdp | Refusal::ImportSdp => "at most 65535 octets",
+            Refusal::ExportFlow => "an address of IPv4, a colon and a port, as 239.1.1.1:5004",
             Refusal::ReceiveWindow => "timestamps with commas between",
             Refusal::ReceiveSource => "a number or any",
             Refusal::ReceiveSdp => "at most 16777216 octets",
@@ -24,13 +27,18 @@ impl Refusal {
                 "three numbers with commas between, none above the greatest value of a frame"
             }
             Refusal::ProcessHold => "a picture of the first frame's format",
+            Refusal::ImportFlow => "a port, or an address, a colon and a port",
+            Refusal::ImportPlaces => "two recordings, the first of path A",
+            Refusal::ImportRecords => "at most 16777216 datagrams of the flows",
             Refusal::Sdp(at) => at.fault.wanted(),
+            Refusal::Flows(fault) => of_flows(fault),
             Refusal::Open(fault) => fault.wanted(),
             Refusal::Plan(fault) => fault.wanted(),
             Refusal::Job(fault) => fault.wanted(),
             Refusal::Capture(fault) => of_capture(fault),
             Refusal::Picture(fault) => of_kind(fault, "a picture, which begins S20PIC"),
             Refusal::State(fault) => of_kind(fault, "a receiver, which begins S20RCV"),
+            Refusal::Recording(fault) => of_recording(fault),
         }
     }
 }
@@ -56,5 +64,32 @@ fn of_kind(fault: FileFault, kind: &'static str) -> &'static str {
         FileFault::TrailingBytes => "the end",
         FileFault::MixedGroup => "a mask of some of the pgroup's samples, each of them 0",
         FileFault::TooManyRecords => "the end, after at most 16777216 records",
+    }
+}
+
+/// What was wanted of where an SDP's video is sent to.
+fn of_flows(fault: FlowsFault) -> &'static str {
+    match fault {
+        FlowsFault::NoVideo => "a section m=video",
+        FlowsFault::TooManyLegs => "at most two sections m=video",
+        FlowsFault::BadMediaLine => "m=video PORT RTP/AVP PT",
+        FlowsFault::BadConnection => "c=IN IP4 ADDRESS or c=IN IP6 ADDRESS",
+    }
+}
+
+/// What was wanted of a recording of another tool.
+fn of_recording(fault: RecordingFault) -> &'static str {
+    match fault {
+        RecordingFault::Device => "a device that works",
+        RecordingFault::Truncated => "more octets: the recording ends before it is whole",
+        RecordingFault::BadMagic => "a recording, which begins as pcap or pcapng",
+        RecordingFault::BadVersion => "version 2.4 of pcap, or 1.0 of pcapng",
+        RecordingFault::BadBlock => "a block whose lengths fit what it holds",
+        RecordingFault::BadInterface => "an interface that the section describes",
+        RecordingFault::TooManyInterfaces => "at most 64 interfaces of a section",
+        RecordingFault::BadTime => "a time from 1970 on, below 2^64 ns",
+        RecordingFault::PacketTooLong => "a packet of at most 1048576 octets",
+        RecordingFault::TooManyBlocks => "the end, before the 2^64th record or block",
+        RecordingFault::Packed => "a recording that gzip hasn't packed; zcat unpacks it",
     }
 }

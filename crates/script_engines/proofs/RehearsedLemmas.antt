@@ -131,6 +131,12 @@ none_holds (Err (Refused r)) P none = absurd none
 none_holds (Err Device) P none = tt
 none_holds (Err Memory) P none = tt
 
+-- so of one fault
+pub none_holds_of : (f : Fault) (P : Type 0) → IfRefused f ⊥ → IfRefused f P
+none_holds_of (Refused r) P none = absurd none
+none_holds_of Device P none = tt
+none_holds_of Memory P none = tt
+
 -- so of a rehearsal that is not played
 pub refused_play : (script : List ℕ) (is_cut : Bool) (f : Fault) (said : Said)
     → SaysRehearsal (numbered_lines 0 script) said → IsUnplayed f said

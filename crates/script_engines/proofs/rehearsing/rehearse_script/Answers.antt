@@ -9,7 +9,8 @@ use Rattle.run_outcome.proofs.Refusals.{if_none_refused, none_refused}
 use Rattle.script_engines.specs.Rehearsal.{said_by}
 use Rattle.script_engines.specs.Rehearsed.{IsRefusedScript, IsUnplayed, handed_text, receivers_text}
 use Rattle.script_engines.proofs.FaultLemmas.{on_ok}
-use Rattle.script_engines.proofs.RehearsedLemmas.{both_cut, none_holds, on_err_map, on_ok_map}
+use Rattle.script_engines.proofs.RehearsedLemmas.{both_cut, none_holds, none_holds_of}
+use Rattle.script_engines.proofs.RehearsedLemmas.{on_err_map, on_ok_map}
 use Rattle.script_engines.proofs.RehearsedLemmas.{refused_play, refused_read, rehearses}
 use Rattle.script_engines.proofs.RehearsedLemmas.{rehearses_part}
 use Rattle.script_engines.proofs.rehearsing.rehearse_script.Goals as goal
@@ -39,6 +40,15 @@ returns-in_err-print_handed-clause-refusal g c =
     c.args.script.now.is_cut (Refused r) in
     rw (p.1, p.2)
     (none_refused Is c.in_err-print_handed.field-0.0 c.in_err-print_handed.ensures.unrefused)
+
+pub returns-in_err-print_handed-clause-nothing : goal.returns-in_err-print_handed-clause-nothing
+returns-in_err-print_handed-clause-nothing g c =
+    let p = err_from_is_err_and c.from_residual-in_err-print_handed.result
+    c.from_residual-in_err-print_handed.ensures.1 in
+    rw (p.1, p.2)
+    (none_holds_of c.in_err-print_handed.field-0.0
+    (g.O.ByteSink.took c.print_handed.new.output ≡ g.O.ByteSink.took c.args.output.now)
+    c.in_err-print_handed.ensures.unrefused)
 
 pub returns-clause-rehearses : goal.returns-clause-rehearses
 returns-clause-rehearses g c =

@@ -1,7 +1,9 @@
 use Rattle.std.proofs.Common.{ap}
+use Rattle.std.proofs.lemmas.Result.{err_from_is_err_and}
 use Rattle.sdp_format.specs.Views.{description}
 use Rattle.st_format.specs.Fields.{fields_of}
 use Rattle.path_merge.specs.Opening.{Opening}
+use Rattle.capture_engines.proofs.CaptureRuns.{window_refused}
 use Rattle.capture_engines.proofs.intake.Intake.open.Goals as goal
 
 pub returns-clause-announced : goal.returns-clause-announced
@@ -11,3 +13,12 @@ returns-clause-announced g c = record {
   format = ap (λ (o : Opening). fields_of o.format) c.in_ok-receiver.ensures.opening;
   payload_type = ap (λ (o : Opening). o.payload_type) c.in_ok-receiver.ensures.opening;
 }
+
+pub returns-in_err-receiver-clause-refusal : goal.returns-in_err-receiver-clause-refusal
+returns-in_err-receiver-clause-refusal g c =
+    let p = err_from_is_err_and c.from_residual-in_err-receiver.result
+    c.from_residual-in_err-receiver.ensures.1 in
+    rw (p.1)
+    (window_refused c.open.result c.in_err-receiver.field-0.0 p.0 c.args.window.now
+    c.args.sdp.now c.in_err-receiver.was c.open.ensures.size
+    c.open.ensures.double p.2)
