@@ -1,0 +1,11 @@
+pub mod Joined
+pub mod Standing
+pub mod Passing
+pub mod Going
+pub mod Earliest
+pub mod Found
+pub mod Written
+pub mod Openings
+pub mod Lengths
+pub mod Endings
+pub mod SaidFlows

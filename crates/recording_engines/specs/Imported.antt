@@ -1,0 +1,144 @@
+-- What `import` writes (own). What was read is told by a predicate: it holds of any octets that
+-- begin with it, and of no others where the source has ended. A list of sources is one of pairs:
+-- each source as it was before the run, and as it is behind it.
+use Rattle.std.specs.Prelude.{◌≡◌, ◌≢◌, ℕ, ◌⊎◌, List, [], ◌∷◌, ◌++◌, length, Option, None, Some, ⊤}
+use Rattle.std.specs.List.{AllByRecursion, Any}
+use Rattle.flow.specs.Flow.{IsOnePlace}
+use Rattle.flow.specs.FlowText.{IsFlowText}
+use Rattle.flow.specs.declared.flows.Flow.{Flow}
+use Rattle.flow.specs.declared.flows.Flows.{Flows}
+use Rattle.media_file.specs.Fronts.{front_text}
+use Rattle.media_file.specs.Records.{Entry, records_text}
+use Rattle.media_file.specs.declared.front.Version.TheVariants.{Two}
+use Rattle.run_outcome.specs.Line.{line_text}
+use Rattle.run_outcome.specs.TextRefusals.{IsTextRefusal}
+use Rattle.run_outcome.specs.declared.line.Line.TheVariants as line
+use Rattle.run_outcome.specs.declared.refusal.Refusal.{Refusal}
+use Rattle.run_outcome.specs.declared.refusal.Refusal.TheVariants as refusal
+use Rattle.sdp_format.specs.Bytes.{lines}
+use Rattle.sdp_format.specs.Destinations.{AreFlows, IsFlowsFault}
+use Rattle.st_format.specs.declared.path.Path.TheVariants.{A, B}
+use Rattle.recording_engines.specs.Joining.{IsOver, JoinsTo, OneAt, OneHasMore, Strand}
+use Rattle.recording_engines.specs.Opened.{IsStopRefusal}
+use Rattle.recording_engines.specs.Progress.{count_of}
+use Rattle.recording_engines.specs.Strands.{TellsPaths, counted, left_out_in, strands_in}
+
+-- ---- what was read
+
+-- these octets were read, one list of each source
+abbrev pub AreRead : {S : Type 0} → (S → List ℕ → Type 0) → List S → List (List ℕ) → Type 0
+AreRead told [] [] = ⊤
+AreRead told [] (o ∷ os) = ⊥
+AreRead told (s ∷ ss) [] = ⊥
+AreRead told (s ∷ ss) (o ∷ os) = told s o × AreRead told ss os
+
+-- ---- the flows
+
+-- the flow of a path by its word, where there is one
+abbrev pub IsAsked : Option (List ℕ) → Option Flow → Type 0
+IsAsked None None = ⊤
+IsAsked None (Some f) = ⊥
+IsAsked (Some text) None = ⊥
+IsAsked (Some text) (Some f) = IsFlowText text f
+
+-- the flows of an SDP's one or two sections: the first is path A's, the second path B's
+abbrev pub AreOf : List Flow → Flows → Type 0
+AreOf [] flows = ⊥
+AreOf (f ∷ []) flows = flows ≡ record { a = Some f; b = None }
+AreOf (f ∷ g ∷ hs) flows = flows ≡ record { a = Some f; b = Some g }
+
+-- where an SDP says that its video is sent to
+abbrev pub SaysFlows : List ℕ → Flows → Type 0
+SaysFlows said flows = (fs : List Flow) × AreFlows (lines said) fs × AreOf fs flows
+
+-- The flows of a run: by its words, where there are any, and else those of the SDP.
+abbrev pub AsksFlows : Option (List ℕ) → Option (List ℕ) → List ℕ → Flows → Type 0
+AsksFlows None None said flows = SaysFlows said flows
+AsksFlows None (Some text) said flows = (flows.a ≡ None) × IsAsked (Some text) flows.b
+AsksFlows (Some text) b said flows = IsAsked (Some text) flows.a × IsAsked b flows.b
+
+-- ---- the run
+
+-- nothing is left of any
+abbrev pub AreOver : List Strand → Type 0
+AreOver left = AllByRecursion IsOver left
+
+-- A text was read whole, and it was written, and behind it the records of recordings by the flows
+-- that were asked for, joined so; and how many they are was printed.
+pub record Imports {S : Type 0} (a b : Option (List ℕ)) (Said : List ℕ → Type 0)
+    (told : S → List ℕ → Type 0) (recordings : List S) (took took' shown shown' : List ℕ) : Type 0
+  where
+    pub text : List ℕ
+    pub flows : Flows
+    pub each : List Flows
+    pub entries : List Entry
+    pub said : Said text
+    pub asked : AsksFlows a b text flows
+    pub tells : TellsPaths flows (length recordings) each
+    pub joined : (octets : List (List ℕ)) → AreRead told recordings octets
+        → JoinsTo AreOver (strands_in each octets) entries
+    pub taken : took' ≡ took ++ (front_text Two text ++ records_text entries)
+    pub printed : (octets : List (List ℕ)) → AreRead told recordings octets → shown' ≡ shown
+        ++ (line_text (line.Recorded (count_of A entries) (count_of B entries)
+        (counted (left_out_in each octets))) ++ 10 ∷ [])
+
+-- ---- refusals
+
+-- a word is no flow's
+abbrev pub IsWordRefusal : Option (List ℕ) → Refusal → Type 0
+IsWordRefusal None r = ⊥
+IsWordRefusal (Some text) r = (r ≡ refusal.ImportFlow) × ((f : Flow) → IsFlowText text f → ⊥)
+
+-- the SDP's flows have this fault
+abbrev pub IsSaidRefusal : List ℕ → Refusal → Type 0
+IsSaidRefusal said (refusal.Flows f) = IsFlowsFault (lines said) f
+IsSaidRefusal said r = ⊥
+
+-- The refusals of flows: of a word; where there is none, of the SDP's.
+abbrev pub IsFlowsRefusal : Option (List ℕ) → Option (List ℕ) → List ℕ → Refusal → Type 0
+IsFlowsRefusal None None said r = IsSaidRefusal said r
+IsFlowsRefusal a b said r = IsWordRefusal a r ⊎ IsWordRefusal b r
+
+-- both paths have one place, and there aren't two recordings
+abbrev pub IsPlacesRefusal : Flows → ℕ → Refusal → Type 0
+IsPlacesRefusal flows count r = (r ≡ refusal.ImportPlaces) × IsOnePlace flows × (count ≢ 2)
+
+-- Records were joined and written behind the text, and it ended so.
+pub record StopsImport {S : Type 0} (Ends : List Strand → Type 0) (Number : ℕ → Type 0)
+    (told : S → List ℕ → Type 0) (each : List Flows) (text : List ℕ) (recordings : List S)
+    (took took' : List ℕ) : Type 0 where
+  pub entries : List Entry
+  pub joined : (octets : List (List ℕ)) → AreRead told recordings octets
+      → JoinsTo Ends (strands_in each octets) entries
+  pub number : Number (length entries)
+  pub taken : took' ≡ took ++ (front_text Two text ++ records_text entries)
+
+-- the refusal of recordings that are written: at the fault of one; where there are too many records
+abbrev pub IsJoinRefusal : {S : Type 0} → (S → List ℕ → Type 0) → List Flows → List ℕ → List S
+    → List ℕ → List ℕ → Refusal → Type 0
+IsJoinRefusal told each text recordings took took' (refusal.Recording f) =
+    StopsImport (OneAt f) (λ n. ⊤) told each text recordings took took'
+IsJoinRefusal told each text recordings took took' refusal.ImportRecords =
+    StopsImport OneHasMore (λ n. n ≡ 16777216) told each text recordings took took'
+IsJoinRefusal told each text recordings took took' r = ⊥
+
+-- The refusals of recordings by these flows: that the flows don't tell the paths; the fault of one
+-- before its first record, and then nothing is written; a refusal behind that.
+abbrev pub IsRecordingsRefusal : {S : Type 0} → (S → List ℕ → Type 0) → Flows → List ℕ → List S
+    → List ℕ → List ℕ → Refusal → Type 0
+IsRecordingsRefusal told flows text recordings took took' r =
+    ((took' ≡ took) × IsPlacesRefusal flows (length recordings) r)
+    ⊎ (((took' ≡ took) × Any (λ z. IsStopRefusal (told z) r) recordings)
+    ⊎ ((each : List Flows) × TellsPaths flows (length recordings) each
+    × IsJoinRefusal told each text recordings took took' r))
+
+-- The refusals of `import`, in their order: of the SDP text; of the flows; of the recordings.
+abbrev pub IsImportRefusal : {S : Type 0} → Option (List ℕ) → Option (List ℕ)
+    → (List ℕ → Type 0) → (List ℕ → Type 0) → (S → List ℕ → Type 0) → List S → List ℕ → List ℕ
+    → Refusal → Type 0
+IsImportRefusal a b sdp Said told recordings took took' r =
+    ((took' ≡ took) × IsTextRefusal refusal.ImportSdp sdp r)
+    ⊎ ((text : List ℕ) × Said text
+    × (((took' ≡ took) × IsFlowsRefusal a b text r)
+    ⊎ ((flows : Flows) × AsksFlows a b text flows
+    × IsRecordingsRefusal told flows text recordings took took' r)))

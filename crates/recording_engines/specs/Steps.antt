@@ -1,0 +1,111 @@
+-- How far a run of `import` has joined recordings, whatever is still to come of them.
+use Rattle.std.specs.Prelude.{◌≡◌, ℕ, ◌<◌, ◌≤◌, ◌⊎◌, List, [], ◌∷◌, ◌++◌, Option, None, Some, ⊤}
+use Rattle.std.specs.List.{AllByRecursion}
+use Rattle.st_format.specs.History.{IsRead}
+use Rattle.flow.specs.declared.flows.Flows.{Flows}
+use Rattle.media_file.specs.Records.{Entry}
+use Rattle.pcap_file.specs.declared.fault.RecordingFault.{RecordingFault}
+use Rattle.recording_engines.specs.Joining.{Joins, Strand}
+use Rattle.recording_engines.specs.Strands.{strand_in}
+
+-- what comes next of a recording: this record; or its end, or its fault
+pub data Ahead : Type 0 where
+  Coming : Entry → Ahead
+  Over : Option RecordingFault → Ahead
+
+abbrev pub record_ahead : Ahead → Option Entry
+record_ahead (Coming e) = Some e
+record_ahead (Over f) = None
+
+-- the records of a recording that were read, that which comes next among them, and how many packets
+-- were left out
+pub record Standing : Type 0 where
+  pub entries : List Entry
+  pub ahead : Ahead
+  pub left : ℕ
+
+-- it is at a fault
+abbrev pub stopped_at : RecordingFault → Standing → Standing
+stopped_at f s = record { entries = s.entries; ahead = Over (Some f); left = s.left }
+
+-- all of a recording, where this is still to come of it behind what was read
+abbrev pub whole_by : List Entry → Ahead → Strand → Strand
+whole_by es (Coming e) r = record { entries = es ++ r.entries; fault = r.fault }
+whole_by es (Over f) r = record { entries = es; fault = f }
+
+abbrev pub whole : Standing → Strand → Strand
+whole s r = whole_by s.entries s.ahead r
+
+-- what is left of it from the next record on
+abbrev pub left_by : Ahead → Strand → Strand
+left_by (Coming e) r = record { entries = e ∷ r.entries; fault = r.fault }
+left_by (Over f) r = record { entries = []; fault = f }
+
+abbrev pub left_of : Standing → Strand → Strand
+left_of s r = left_by s.ahead r
+
+abbrev pub nothing : Strand
+nothing = record { entries = []; fault = None }
+
+-- the same of recordings
+abbrev pub wholes : List Standing → List Strand → List Strand
+wholes [] rs = []
+wholes (s ∷ ss) [] = whole s nothing ∷ wholes ss []
+wholes (s ∷ ss) (r ∷ rs) = whole s r ∷ wholes ss rs
+
+abbrev pub lefts : List Standing → List Strand → List Strand
+lefts [] rs = []
+lefts (s ∷ ss) [] = left_of s nothing ∷ lefts ss []
+lefts (s ∷ ss) (r ∷ rs) = left_of s r ∷ lefts ss rs
+
+-- recordings are joined to these records so far, whatever is still to come
+pub record HasJoined (ss : List Standing) (entries : List Entry) : Type 0 where
+  pub joins : (rs : List Strand) → Joins (wholes ss rs) entries (lefts ss rs)
+
+-- of a recording nothing was read but what comes next
+abbrev pub IsFresh : Standing → Type 0
+IsFresh s = (r : Strand) → whole s r ≡ left_of s r
+
+abbrev pub AllFresh : List Standing → Type 0
+AllFresh ss = AllByRecursion IsFresh ss
+
+-- ---- a record more
+
+-- what comes next of a recording comes later than this moment; not before it
+abbrev pub IsLater : ℕ → Ahead → Type 0
+IsLater moment (Coming e) = moment < e.moment
+IsLater moment (Over None) = ⊤
+IsLater moment (Over (Some f)) = ⊥
+
+abbrev pub IsNoSooner : ℕ → Ahead → Type 0
+IsNoSooner moment (Coming e) = moment ≤ e.moment
+IsNoSooner moment (Over None) = ⊤
+IsNoSooner moment (Over (Some f)) = ⊥
+
+-- behind these records one more was read, if one comes
+abbrev pub ReadsMore : List Entry → Ahead → List Entry → Type 0
+ReadsMore es (Coming e) es' = es' ≡ es ++ e ∷ []
+ReadsMore es (Over f) es' = es' ≡ es
+
+-- this record was the earliest next, and its recording was read on
+abbrev pub Takes : List Standing → Entry → List Standing → Type 0
+Takes [] e ss' = ⊥
+Takes (s ∷ ss) e [] = ⊥
+Takes (s ∷ ss) e (s' ∷ ss') =
+    ((s.ahead ≡ Coming e) × ReadsMore s.entries s'.ahead s'.entries × (ss' ≡ ss)
+    × AllByRecursion (λ t. IsNoSooner e.moment t.ahead) ss)
+    ⊎ ((s' ≡ s) × IsLater e.moment s.ahead × Takes ss e ss')
+
+-- ---- what was read
+
+-- whatever a source gives, its recording is what was read and something behind it
+pub record Lays (before now : List ℕ) (ended : Type 0) (flows : Flows) (s : Standing) : Type 0 where
+  pub says : (octets : List ℕ) → IsRead before now ended octets
+      → (r : Strand) × (strand_in flows octets ≡ whole s r)
+
+abbrev pub AllLay : {S : Type 0} → (S → List ℕ) → (S → Type 0) → List (S × S) → List Flows
+    → List Standing → Type 0
+AllLay gave ended [] [] [] = ⊤
+AllLay gave ended (z ∷ zs) (f ∷ fs) (s ∷ ss) =
+    Lays (gave z.0) (gave z.1) (ended z.1) f s × AllLay gave ended zs fs ss
+AllLay gave ended zs fs ss = ⊥

@@ -1,0 +1,83 @@
+-- What `import` takes of recordings: the records of their datagrams (own).
+use Rattle.std.specs.Prelude.{◌≡◌, ℕ, ◌+◌, ◌-◌, ◌^◌, min, ◌⊎◌, List, [], ◌∷◌, Option, None, Some}
+use Rattle.std.specs.Prelude.{Result, Ok, Err, is_none, replicate}
+use Rattle.std.specs.List.{count_by, filter_map}
+use Rattle.flow.specs.Flow.{IsOnePlace, path_to}
+use Rattle.flow.specs.declared.flows.Flows.{Flows}
+use Rattle.media_file.specs.Records.{Entry}
+use Rattle.pcap_file.specs.declared.datagram.NoDatagram.{NoDatagram}
+use Rattle.pcap_file.specs.PcapReading.{Recorded}
+use Rattle.pcap_file.specs.Udp.{Datagram}
+use Rattle.st_format.specs.declared.path.Path.{Path}
+use Rattle.recording_engines.specs.Joining.{Strand}
+use Rattle.pcap_file.specs.PacketDatagram.{datagram_in}
+use Rattle.pcap_file.specs.Runs.{fault_in, packets_in}
+
+-- the octets of a packet or a block that there is room for
+abbrev pub room : ℕ
+room = 1048576
+
+-- a packet's moment: its time in nanoseconds since 1970, or 0 where the recording doesn't say one
+abbrev pub moment_of : Option ℕ → ℕ
+moment_of None = 0
+moment_of (Some time) = time
+
+-- the record of octets that came by a path, if they came by one
+abbrev pub entry_by : Option Path → ℕ → List ℕ → Option Entry
+entry_by None moment octets = None
+entry_by (Some path) moment octets =
+    Some (record { path = path; moment = moment; octets = octets })
+
+abbrev pub entry_of : Flows → ℕ → Result Datagram NoDatagram → Option Entry
+entry_of flows moment (Err reason) = None
+entry_of flows moment (Ok d) =
+    entry_by (path_to flows d.destination d.destination_port) moment d.payload
+
+-- the record of a packet: that of its datagram, where it has one of the flows
+abbrev pub record_of : Flows → Recorded → Option Entry
+record_of flows p = entry_of flows (moment_of p.head.time) (datagram_in p)
+
+-- the records of packets, and how many packets are left out
+abbrev pub records_of : Flows → List Recorded → List Entry
+records_of flows packets = filter_map (record_of flows) packets
+
+abbrev pub left_out : Flows → List Recorded → ℕ
+left_out flows packets = count_by (λ p. is_none (record_of flows p)) packets
+
+-- a count, which stays at 2^64 - 1 once it is there
+abbrev pub counted : ℕ → ℕ
+counted n = min n (2 ^ 64 - 1)
+
+-- the records of a recording's octets, up to their end or their fault
+abbrev pub strand_in : Flows → List ℕ → Strand
+strand_in flows octets =
+    record {
+      entries = records_of flows (packets_in room octets);
+      fault = fault_in room octets;
+    }
+
+-- those of recordings, each by flows of its own
+abbrev pub strands_in : List Flows → List (List ℕ) → List Strand
+strands_in [] octets = []
+strands_in (f ∷ fs) [] = []
+strands_in (f ∷ fs) (o ∷ os) = strand_in f o ∷ strands_in fs os
+
+-- how many packets of recordings are left out
+abbrev pub left_out_in : List Flows → List (List ℕ) → ℕ
+left_out_in [] octets = 0
+left_out_in (f ∷ fs) [] = 0
+left_out_in (f ∷ fs) (o ∷ os) = left_out f (packets_in room o) + left_out_in fs os
+
+-- the flow of one path alone
+abbrev pub only_a : Flows → Flows
+only_a flows = record { a = flows.a; b = None }
+
+abbrev pub only_b : Flows → Flows
+only_b flows = record { a = None; b = flows.b }
+
+-- The flows by which so many recordings are taken: all flows for each of them; or where both paths
+-- have one place, A's for the first of two, and B's for the second.
+abbrev pub TellsPaths : Flows → ℕ → List Flows → Type 0
+TellsPaths flows n each =
+    (IsOnePlace flows × (n ≡ 2) × (each ≡ only_a flows ∷ only_b flows ∷ []))
+    ⊎ ((IsOnePlace flows → ⊥) × (each ≡ replicate n flows))

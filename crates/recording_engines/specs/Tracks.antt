@@ -1,0 +1,138 @@
+-- What a run of `import` knows of each recording while it reads them.
+use Rattle.std.specs.Prelude.{◌≡◌, ℕ, zero, suc, ◌+◌, ◌<◌, ◌≤◌, ◌⊎◌, List, [], ◌∷◌, ◌++◌, Option, None, Some}
+use Rattle.std.specs.Prelude.{⊤}
+use Rattle.std.specs.List.{AllByRecursion}
+use Rattle.flow.specs.declared.flows.Flows.{Flows}
+use Rattle.media_file.specs.Records.{Entry}
+use Rattle.pcap_file.specs.Fields.{IfContent}
+use Rattle.pcap_file.specs.PcapReading.{Recorded}
+use Rattle.pcap_file.specs.declared.fault.RecordingFault.{RecordingFault}
+use Rattle.pcap_file.specs.Runs.{HasFailed, HasRead, HasReadAll, layout_seen, packet_seen}
+use Rattle.recording_engines.specs.Strands.{counted, left_out, moment_of, record_of, records_of}
+use Rattle.recording_engines.specs.Strands.{room}
+use Rattle.recording_engines.specs.Steps.{Ahead, Coming, IsFresh, Lays, Over, ReadsMore, Standing}
+use Rattle.recording_engines.specs.Steps.{record_ahead, stopped_at}
+use Rattle.recording_engines.specs.declared.record.RecordView.{RecordView}
+use Rattle.pcap_file.specs.declared.recording.Packet.{Packet}
+use Rattle.pcap_file.specs.declared.recording.Layout.{Layout}
+use Rattle.recording_engines.specs.declared.track.Track.{Track}
+
+-- the record of what was found in a packet of this moment
+abbrev pub entry_seen : ℕ → Option RecordView → Option Entry
+entry_seen moment None = None
+entry_seen moment (Some r) =
+    Some (record { path = r.path; moment = moment; octets = r.octets.now })
+
+-- packets were read of a source, and then a next one that has a record, or the end
+abbrev pub HasReadTo : Flows → Option Packet → List ℕ → List ℕ → List ℕ → Type 0 → Layout
+    → List Recorded → Ahead → Type 0
+HasReadTo flows None buffer before now ended layout packets ahead =
+    HasReadAll room before now ended packets × (ahead ≡ Over None)
+HasReadTo flows (Some p) buffer before now ended layout packets ahead =
+    HasRead room before now (layout_seen layout) packets
+    × ((e : Entry) × (record_of flows (packet_seen p buffer) ≡ Some e) × (ahead ≡ Coming e))
+
+-- A recording was read so far. The source gave `before` when that began, and `now` since.
+pub record StandsBy (before now : List ℕ) (ended : Type 0) (flows : Flows) (next : Option Packet)
+    (buffer : List ℕ) (layout : Layout) (count : ℕ) (s : Standing) : Type 0 where
+  pub packets : List Recorded
+  pub entries : s.entries ≡ records_of flows packets
+  pub left : s.left ≡ left_out flows packets
+  pub left_out : count ≡ counted s.left
+  pub read : HasReadTo flows next buffer before now ended layout packets s.ahead
+
+-- so it was by a track
+abbrev pub StandsAt : {A : Type 0} → List ℕ → List ℕ → Type 0 → Track A → Standing → Type 0
+StandsAt before now ended t s =
+    StandsBy before now ended t.flows t.next t.room.items t.layout t.left_out s
+
+-- so it is of each recording
+abbrev pub AllStand : {A S : Type 0} → (S → List ℕ) → (S → Type 0) → List (S × S)
+    → List (Track A) → List Standing → Type 0
+AllStand gave ended [] [] [] = ⊤
+AllStand gave ended (z ∷ zs) (t ∷ ts) (s ∷ ss) =
+    StandsAt (gave z.0) (gave z.1) (ended z.1) t s × AllStand gave ended zs ts ss
+AllStand gave ended zs ts ss = ⊥
+
+-- ---- reading on
+
+-- Packets behind those that were read: no record but that of the last one, which is `e`, if any is.
+abbrev pub AddsOnly : Flows → List Recorded → Option Entry → Type 0
+AddsOnly flows more None = records_of flows more ≡ []
+AddsOnly flows more (Some e) = records_of flows more ≡ e ∷ []
+
+-- what a track has read, whatever it was before, it has read on: to the next packet that has a
+-- record; to the end
+abbrev pub ReadsToNext : Flows → Option Packet → List ℕ → List ℕ → List ℕ → Type 0 → Layout → Layout
+    → ℕ → ℕ → Type 0
+ReadsToNext flows next buffer old new ended was layout left left' =
+    (before : List ℕ) (packets : List Recorded)
+    → HasRead room before old (layout_seen was) packets → left ≡ counted (left_out flows packets)
+    → (more : List Recorded) × (ahead : Ahead)
+    × HasReadTo flows next buffer before new ended layout (packets ++ more) ahead
+    × (left' ≡ counted (left_out flows (packets ++ more)))
+    × AddsOnly flows more (record_ahead ahead)
+
+-- the same, to a fault
+abbrev pub StopsAt : Flows → List ℕ → List ℕ → Type 0 → Layout → ℕ → RecordingFault → Type 0
+StopsAt flows old new ended was left f =
+    (before : List ℕ) (packets : List Recorded)
+    → HasRead room before old (layout_seen was) packets → left ≡ counted (left_out flows packets)
+    → (more : List Recorded) × HasFailed room before new ended f (packets ++ more)
+    × AddsOnly flows more None
+
+-- A track read on from a record that came next, whatever it had read before.
+abbrev pub GoesOn : {A : Type 0} → List ℕ → List ℕ → Type 0 → Type 0 → Track A → Track A → Type 0
+GoesOn old new was ended t t' =
+    (before : List ℕ) (s : Standing) (e : Entry) → StandsAt before old was t s
+    → s.ahead ≡ Coming e
+    → (s' : Standing) × StandsAt before new ended t' s' × ReadsMore s.entries s'.ahead s'.entries
+
+-- the same, to a fault
+abbrev pub StopsBehind : {A : Type 0} → List ℕ → List ℕ → Type 0 → Type 0 → Track A
+    → RecordingFault → Type 0
+StopsBehind old new was ended t f =
+    (before : List ℕ) (s : Standing) (e : Entry) → StandsAt before old was t s
+    → s.ahead ≡ Coming e
+    → IfContent f (Lays before new ended t.flows (stopped_at f s))
+
+-- a track that has read nothing but what comes next
+abbrev pub BeginsAt : {A : Type 0} → List ℕ → List ℕ → Type 0 → Track A → Type 0
+BeginsAt before now ended t = (s : Standing) × StandsAt before now ended t s × IsFresh s
+
+-- ---- the earliest
+
+-- the moment of a next packet
+abbrev pub NextAt : Option Packet → Option ℕ → Type 0
+NextAt None found = found ≡ None
+NextAt (Some p) found = found ≡ Some (moment_of p.head.time)
+
+abbrev pub NextIsLater : ℕ → Option Packet → Type 0
+NextIsLater moment None = ⊤
+NextIsLater moment (Some p) = moment < moment_of p.head.time
+
+abbrev pub NextIsNoSooner : ℕ → Option Packet → Type 0
+NextIsNoSooner moment None = ⊤
+NextIsNoSooner moment (Some p) = moment ≤ moment_of p.head.time
+
+-- The track of a place comes next, at this moment: it is before those before it, and not behind
+-- those behind it.
+abbrev pub Leads : {A : Type 0} → ℕ → ℕ → List (Track A) → Type 0
+Leads k moment [] = ⊥
+Leads zero moment (t ∷ ts) =
+    ((p : Packet) × (t.next ≡ Some p) × (moment_of p.head.time ≡ moment))
+    × AllByRecursion (λ u. NextIsNoSooner moment u.next) ts
+Leads (suc k) moment (t ∷ ts) = NextIsLater moment t.next × Leads k moment ts
+
+abbrev pub IsEarliest : {A : Type 0} → List (Track A) → Option (ℕ × ℕ) → Type 0
+IsEarliest ts None = AllByRecursion (λ t. t.next ≡ None) ts
+IsEarliest ts (Some x) = Leads x.0 x.1 ts
+
+-- the sooner of a first one's moment, and of the place and moment of the one behind it that comes
+-- next
+abbrev pub IsSooner : Option ℕ → Option (ℕ × ℕ) → Option (ℕ × ℕ) → Type 0
+IsSooner None None found = found ≡ None
+IsSooner None (Some x) found = found ≡ Some (x.0 + 1, x.1)
+IsSooner (Some m) None found = found ≡ Some (0, m)
+IsSooner (Some m) (Some x) found =
+    ((x.1 < m) × (found ≡ Some (x.0 + 1, x.1))) ⊎ ((m ≤ x.1) × (found ≡ Some (0, m)))

@@ -1,0 +1,200 @@
+//! The engine of `import`.
+ghost use Rattle.std.specs.Prelude.{◌≡◌, ◌∷◌, [], length, map, slice_get, IfErr, IfOk, OnOk};
+ghost use Rattle.std.specs.List.{sum_by, zip};
+ghost use Rattle.std.specs.Option.{option_copied};
+ghost use Rattle.run_outcome.specs.Fault.{Accounts, counts};
+ghost use Rattle.run_outcome.specs.Moments.{WasRead};
+ghost use Rattle.run_outcome.specs.Refusing.{OfRefusal};
+ghost use Rattle.run_outcome.specs.Text.{GivesText};
+ghost use Rattle.st_format.specs.History.{IsRead};
+ghost use Rattle.recording_engines.specs.Imported.{AsksFlows, Imports, IsAsked, IsFlowsRefusal};
+ghost use Rattle.recording_engines.specs.Imported.{IsImportRefusal, IsPlacesRefusal};
+ghost use Rattle.recording_engines.specs.Imported.{IsSaidRefusal, IsWordRefusal, SaysFlows};
+ghost use Rattle.recording_engines.specs.Progress.{JoinsAll, StopsJoining};
+ghost use Rattle.recording_engines.specs.Strands.{TellsPaths, counted};
+
+use crate::joining::{Written, join};
+use crate::opening::open_all;
+use crate::track::Track;
+use crate::tracks::left_out;
+use flow::{Flow, Flows, read_flow};
+use media_file::write_front;
+use run_outcome::{Fault, Line, Refusal, print, read_checked};
+use sdp_format::read_flows;
+use st_format::{ByteSink, ByteSource};
+use std::alloc::Allocator;
+
+/// What `import` is asked for, beside its files: the texts of the paths' flows. Where there is
+/// any, a path without one is not taken; and where there is none, the SDP says the flows.
+#[derive(Clone, Copy)]
+pub struct Importing<'a> {
+    pub a: Option<&'a [u8]>,
+    pub b: Option<&'a [u8]>,
+}
+
+/// Makes a capture of recordings of other tools.
+///
+/// The SDP text is read first, of at most 65,535 octets, and becomes the capture's text. The flows
+/// of the paths are those that `wanted` names, or else those of the SDP's video sections, one or
+/// two, the first path A's. Where both have one address and port, the first of two recordings is
+/// path A's, and the second path B's. A record is a UDP datagram to a flow: its path, when it came,
+/// in nanoseconds since 1970, or 0 where the recording doesn't say, and its octets. Each recording
+/// is read once, and its order is kept; always the earliest of the next records is written, of
+/// equally early ones the first recording's. All else is left out.
+///
+/// Behind the last record `recorded A N B M left out K` is printed to `output`.
+///
+/// # Errors
+///
+/// A refusal where the SDP, a word for a flow, the flows or a recording is refused, or where there
+/// are more than 16,777,216 records; nothing is written to `capture` before each recording was read
+/// as far as its first record. And else that a device failed or memory was wanted.
+pub fn import<A, D, S, K, O>(
+    alloc: A,
+    wanted: Importing<'_>,
+    sdp: &mut D,
+    recordings: &mut [S],
+    capture: &mut K,
+    output: &mut O,
+) -> Result<(), Fault>
+where
+    A: Allocator + Copy,
+    D: ByteSource,
+    S: ByteSource,
+    K: ByteSink,
+    O: ByteSink,
+    ensures len { length recordings.new ≡ length recordings.old }
+    // What was read of the recordings is all of them, up to their ends.
+    ensures imported { OnOk result (Imports
+        (option_copied wanted.entry.a) (option_copied wanted.entry.b)
+        (GivesText 65535 (D.gave sdp.old) (D.gave sdp.new) (D.ended sdp.new))
+        (WasRead S.gave S.ended) (zip recordings.old recordings.new)
+        (K.took capture.old) (K.took capture.new) (O.took output.old) (O.took output.new)) }
+    ensures refusal { IfErr result (λ f. OfRefusal f (IsImportRefusal
+        (option_copied wanted.entry.a) (option_copied wanted.entry.b)
+        (IsRead (D.gave sdp.old) (D.gave sdp.new) (D.ended sdp.new))
+        (GivesText 65535 (D.gave sdp.old) (D.gave sdp.new) (D.ended sdp.new))
+        (WasRead S.gave S.ended) (zip recordings.old recordings.new)
+        (K.took capture.old) (K.took capture.new))) }
+    ensures failures { Accounts result (counts (D.failures sdp.old) (D.failures sdp.new)
+        ∷ counts (sum_by S.failures recordings.old) (sum_by S.failures recordings.new)
+        ∷ counts (K.failures capture.old) (K.failures capture.new)
+        ∷ counts (O.failures output.old) (O.failures output.new) ∷ []) }
+{
+    let said = read_checked(alloc, sdp, Refusal::ImportSdp)?;
+    let flows = flows_of(wanted, &said)?;
+    let each = flows_each(alloc, flows, recordings.len())?;
+    let mut tracks = open_all(alloc, &each, recordings)?;
+    write_front(capture, &said)?;
+    let sums = join_all(&mut tracks, recordings, capture)?;
+    print(
+        Line::Recorded(sums.written.a, sums.written.b, sums.left_out),
+        output,
+    )
+}
+
+/// How many records were written of each path, and how many packets were left out.
+#[derive(Clone, Copy)]
+struct Sums {
+    written: Written,
+    left_out: u64,
+}
+
+/// Writes all records of recordings as [`join`] does, and counts what was left out too.
+fn join_all<A: Allocator, S: ByteSource, K: ByteSink>(
+    tracks: &mut [Track<A>],
+    recordings: &mut [S],
+    capture: &mut K,
+) -> Result<Sums, Fault>
+    requires { length tracks.old ≡ length recordings.old }
+    ensures flows { map (λ t. t.flows) tracks.new ≡ map (λ t. t.flows) tracks.old }
+    ensures recordings { length recordings.new ≡ length recordings.old }
+    ensures joined { IfOk result (λ s. JoinsAll S.gave S.ended tracks.old tracks.new
+        recordings.old recordings.new (K.took capture.old) (K.took capture.new) s.written) }
+    ensures left { IfOk result (λ s. s.left_out ≡ counted (sum_by (λ t. t.left_out) tracks.new)) }
+    ensures stopped { IfErr result (λ f. OfRefusal f (λ r. StopsJoining S.gave S.ended r
+        tracks.old recordings.old recordings.new (K.took capture.old) (K.took capture.new))) }
+    ensures failures { Accounts result (counts (sum_by S.failures recordings.old)
+        (sum_by S.failures recordings.new)
+        ∷ counts (K.failures capture.old) (K.failures capture.new) ∷ []) }
+{
+    let written = join(tracks, recordings, capture)?;
+    Ok(Sums {
+        written,
+        left_out: left_out(tracks),
+    })
+}
+
+/// The flow of a path by its word, where there is one.
+fn flow_of(word: Option<&[u8]>) -> Result<Option<Flow>, Fault>
+    ensures asked { IfOk result (λ f. IsAsked (option_copied word.entry) f) }
+    ensures refusal { IfErr result (λ f. OfRefusal f (IsWordRefusal (option_copied word.entry))) }
+    ensures failures { Accounts result [] }
+{
+    let Some(text) = word else {
+        return Ok(None);
+    };
+    match read_flow(text) {
+        Some(flow) => Ok(Some(flow)),
+        None => Err(Fault::Refused(Refusal::ImportFlow)),
+    }
+}
+
+/// The flows that the words ask for, or else those of the SDP.
+fn flows_of(wanted: Importing<'_>, said: &[u8]) -> Result<Flows, Fault>
+    ensures asked { IfOk result (λ f. AsksFlows (option_copied wanted.entry.a)
+        (option_copied wanted.entry.b) said.now f) }
+    ensures refusal { IfErr result (λ f. OfRefusal f (IsFlowsRefusal
+        (option_copied wanted.entry.a) (option_copied wanted.entry.b) said.now)) }
+    ensures failures { Accounts result [] }
+{
+    if wanted.a.is_none() && wanted.b.is_none() {
+        return said_flows(said);
+    }
+    let a = flow_of(wanted.a)?;
+    let b = flow_of(wanted.b)?;
+    Ok(Flows { a, b })
+}
+
+/// The flows of an SDP: the first video section's is path A's, the second's path B's.
+fn said_flows(said: &[u8]) -> Result<Flows, Fault>
+    ensures said { IfOk result (λ f. SaysFlows said.now f) }
+    ensures refusal { IfErr result (λ f. OfRefusal f (IsSaidRefusal said.now)) }
+    ensures failures { Accounts result [] }
+{
+    let flows = read_flows(said)?;
+    Ok(Flows {
+        a: flow_at(flows.as_slice(), 0),
+        b: flow_at(flows.as_slice(), 1),
+    })
+}
+
+/// The flow of a place, where there is one.
+fn flow_at(flows: &[Flow], place: usize) -> Option<Flow>
+    ensures { result ≡ slice_get flows.now place }
+{
+    flows.get(place).copied()
+}
+
+/// The flows by which each of so many recordings is taken.
+fn flows_each<A: Allocator>(alloc: A, flows: Flows, count: usize) -> Result<Vec<Flows, A>, Fault>
+    ensures tells { IfOk result (λ each. TellsPaths flows count each.items) }
+    ensures refusal { IfErr result (λ f. OfRefusal f (IsPlacesRefusal flows count)) }
+    ensures failures { Accounts result [] }
+{
+    if !flows.is_one_place() {
+        return Ok(vec![in alloc; flows; count]?);
+    }
+    if count != 2 {
+        return Err(Fault::Refused(Refusal::ImportPlaces));
+    }
+    let a = Flows {
+        a: flows.a,
+        b: None,
+    };
+    let b = Flows {
+        a: None,
+        b: flows.b,
+    };
+    Ok(Vec::from_slice(alloc, &[a, b])?)
+}
