@@ -1,0 +1,5 @@
+pub mod PacketTexts
+pub mod PacketLoops
+pub mod Recordings
+pub mod ExportRefusals
+pub mod Rereading

@@ -1,0 +1,65 @@
+use Rattle.std.proofs.Common.{◌≡◌, ◌∷◌, ◌++◌, []}
+use Rattle.std.specs.Option.{option_copied}
+use Rattle.std.proofs.lemmas.Result.{err_from_is_err_and}
+use Rattle.run_outcome.specs.Line.{line_text}
+use Rattle.run_outcome.specs.declared.line.Line.TheVariants.{Exported}
+use Rattle.run_outcome.proofs.Printed.{on_ok}
+use Rattle.export_engine.specs.Exported.{PrintsExported}
+use Rattle.export_engine.proofs.ExportRefusals.{run_left, run_refused, unsaid_left}
+use Rattle.export_engine.proofs.exporting.export.Goals as goal
+
+pub returns-in_err-counts-clause-refusal : goal.returns-in_err-counts-clause-refusal
+returns-in_err-counts-clause-refusal g c =
+    let p =
+    err_from_is_err_and c.from_residual.result c.from_residual.ensures.1 in
+    rw (p.1, p.2)
+    (run_refused c.args.wanted.a.now (option_copied c.args.wanted.b) _ c.in-Some.envelopes
+    c.in-Some.ensures c.in_err-counts.field-0.0 c.in_err-counts.ensures.refusal)
+
+pub returns-in_err-counts-clause-left : goal.returns-in_err-counts-clause-left
+returns-in_err-counts-clause-left g c =
+    let p =
+    err_from_is_err_and c.from_residual.result c.from_residual.ensures.1 in
+    rw (p.1, p.2)
+    (run_left c.args.wanted.a.now (option_copied c.args.wanted.b) c.in-Some.envelopes
+    c.in-Some.ensures _ _ _ _ _ c.in_err-counts.field-0.0 c.in_err-counts.ensures.left)
+
+pub returns-clause-exported : goal.returns-clause-exported
+returns-clause-exported g c =
+    let told = g.S.ByteSource in
+    let sink = g.K.ByteSink in
+    let a = c.args.wanted.a.now in
+    let b = option_copied c.args.wanted.b in
+    let n = c.in_ok-counts.counts in
+    let shown = g.O.ByteSink.took c.args.output.now in
+    let shown' = g.O.ByteSink.took c.print.new.output in
+    on_ok c.print.result
+    (shown' ≡ shown ++ (line_text (Exported n.written n.left_out) ++ 10 ∷ []))
+    (PrintsExported a b (told.gave c.args.capture.now) (told.gave c.export_capture.new.capture)
+    (told.ended c.export_capture.new.capture) (sink.took c.args.sink.now)
+    (sink.took c.export_capture.new.sink) shown shown')
+    (λ printed. record {
+      counts = n;
+      exported = record {
+        envelopes = c.in-Some.envelopes;
+        are = c.in-Some.ensures;
+        exported = c.in_ok-counts.ensures.exported;
+      };
+      printed = printed;
+    })
+    c.print.ensures.printed
+
+pub returns-clause-left : goal.returns-clause-left
+returns-clause-left g c =
+    let told = g.S.ByteSource in
+    let sink = g.K.ByteSink in
+    unsaid_left c.print.result c.args.wanted.a.now (option_copied c.args.wanted.b)
+    c.in_ok-counts.counts (told.gave c.args.capture.now)
+    (told.gave c.export_capture.new.capture) (told.ended c.export_capture.new.capture)
+    (sink.took c.args.sink.now) (sink.took c.export_capture.new.sink)
+    (record {
+      envelopes = c.in-Some.envelopes;
+      are = c.in-Some.ensures;
+      exported = c.in_ok-counts.ensures.exported;
+    })
+    c.print.ensures.unrefused

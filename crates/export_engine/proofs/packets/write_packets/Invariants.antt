@@ -1,0 +1,22 @@
+use Rattle.std.proofs.Common.{◌≡◌, ◌≤◌, length}
+use Rattle.export_engine.proofs.PacketLoops.{PacketsSoFar}
+use Rattle.export_engine.proofs.packets.write_packets.Given as goal
+
+abbrev pub decreases-loop-first : goal.decreases-loop-first
+decreases-loop-first g l = l.left
+
+pub record Exporting (so_far count counts size more : Type 0) : Type 0 where
+  pub packets : so_far
+  pub source_failures : count
+  pub sink_failures : counts
+  pub room : size
+  pub packet : more
+
+abbrev pub invariant-loop-first : goal.invariant-loop-first
+invariant-loop-first g l = Exporting
+    (PacketsSoFar l.limit l.left l.written l.envelopes (g.S.ByteSource.gave l.initial.source)
+    (g.S.ByteSource.gave l.source) (g.K.ByteSink.took l.initial.sink) (g.K.ByteSink.took l.sink))
+    (g.S.ByteSource.failures l.source ≡ g.S.ByteSource.failures l.initial.source)
+    (g.K.ByteSink.failures l.sink ≡ g.K.ByteSink.failures l.initial.sink)
+    (65535 ≤ length l.buf)
+    (65565 ≤ length l.packet)

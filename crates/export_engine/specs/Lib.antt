@@ -1,0 +1,4 @@
+pub mod Packets
+pub mod Exported
+pub mod ExportRefused
+pub mod Reread

@@ -1,0 +1,108 @@
+//! The engine of `export`.
+ghost use Rattle.std.specs.Prelude.{◌≡◌, ◌∷◌, [], IfErr, IfOk, OnOk, vec_len};
+ghost use Rattle.std.specs.Option.{option_copied};
+ghost use Rattle.st_format.specs.History.{IsRead};
+ghost use Rattle.run_outcome.specs.Fault.{Accounts, counts};
+ghost use Rattle.run_outcome.specs.Refusing.{OfRefusal};
+ghost use Rattle.export_engine.specs.ExportRefused.{IsExportRefusal, IsReadRefusal};
+ghost use Rattle.export_engine.specs.Exported.{ExportsCapture, LeavesExport, LeavesRecording};
+ghost use Rattle.export_engine.specs.Exported.{PrintsExported};
+
+use crate::packets::{ExportCounts, PACKET, write_recording};
+use crate::places::Envelopes;
+use run_outcome::{Fault, Line, Refusal, of_capture, print, room};
+use st_format::{ByteSink, ByteSource};
+use std::alloc::{AllocError, Allocator};
+
+/// The greatest number of records of a capture (own).
+const RECORDS: u64 = 16_777_216;
+
+/// What `export` is asked for, beside its files: the texts of the flows of the paths, each to an
+/// address of IPv4, as `239.1.1.1:5004`.
+#[derive(Clone, Copy)]
+pub struct Exporting<'a> {
+    pub a: &'a [u8],
+    pub b: Option<&'a [u8]>,
+}
+
+/// Writes a capture, of either version, as a recording of pcap in nanoseconds: a packet of
+/// Ethernet, IPv4 and UDP for each record, at the record's moment, which is taken for nanoseconds
+/// since 1970. The packet goes to the flow of the record's path, from 192.0.2.1 and the flow's own
+/// port.
+///
+/// A record is left out whose path has no flow, which has more than 65,507 octets, or whose moment
+/// is 2^32 seconds or later. `exported N left out K` is printed to `output`.
+///
+/// # Errors
+///
+/// A refusal: `ExportFlow` where a text is no flow to an address of IPv4, before anything is read;
+/// then the first fault of the capture, which has at most 16,777,216 records. And else that a
+/// device failed or memory was wanted. Nothing is written before the capture's front was read;
+/// where a record is at fault, the packets of those before it are.
+pub fn export<A, S, K, O>(
+    alloc: A,
+    wanted: Exporting<'_>,
+    capture: &mut S,
+    sink: &mut K,
+    output: &mut O,
+) -> Result<(), Fault>
+where
+    A: Allocator + Copy,
+    S: ByteSource,
+    K: ByteSink,
+    O: ByteSink,
+    // All that the capture's source gave was read, up to its end.
+    ensures exported { OnOk result (PrintsExported
+        wanted.entry.a.now (option_copied wanted.entry.b)
+        (S.gave capture.old) (S.gave capture.new) (S.ended capture.new)
+        (K.took sink.old) (K.took sink.new) (O.took output.old) (O.took output.new)) }
+    ensures refusal { IfErr result (λ f. OfRefusal f (IsExportRefusal
+        wanted.entry.a.now (option_copied wanted.entry.b)
+        (IsRead (S.gave capture.old) (S.gave capture.new) (S.ended capture.new)))) }
+    ensures left { IfErr result (λ f. LeavesExport f
+        wanted.entry.a.now (option_copied wanted.entry.b)
+        (S.gave capture.old) (S.gave capture.new) (S.ended capture.new)
+        (K.took sink.old) (K.took sink.new)) }
+    ensures failures { Accounts result (counts (S.failures capture.old) (S.failures capture.new)
+        ∷ counts (K.failures sink.old) (K.failures sink.new)
+        ∷ counts (O.failures output.old) (O.failures output.new) ∷ []) }
+{
+    let Some(envelopes) = Envelopes::read(&wanted) else {
+        return Err(Fault::Refused(Refusal::ExportFlow));
+    };
+    let counts = export_capture(alloc, &envelopes, capture, sink)?;
+    print(Line::Exported(counts.written, counts.left_out), output)
+}
+
+/// Writes the recording of a capture, and answers how many records have a packet there.
+fn export_capture<A: Allocator + Copy, S: ByteSource, K: ByteSink>(
+    alloc: A,
+    envelopes: &Envelopes,
+    capture: &mut S,
+    sink: &mut K,
+) -> Result<ExportCounts, Fault>
+    ensures exported { IfOk result (λ n. ExportsCapture 16777216 envelopes.now n
+        (S.gave capture.old) (S.gave capture.new) (S.ended capture.new)
+        (K.took sink.old) (K.took sink.new)) }
+    ensures refusal { IfErr result (λ f. OfRefusal f (IsReadRefusal
+        (IsRead (S.gave capture.old) (S.gave capture.new) (S.ended capture.new)))) }
+    ensures left { IfErr result (λ f. LeavesRecording f envelopes.now
+        (S.gave capture.old) (S.gave capture.new) (S.ended capture.new)
+        (K.took sink.old) (K.took sink.new)) }
+    ensures failures { Accounts result (counts (S.failures capture.old) (S.failures capture.new)
+        ∷ counts (K.failures sink.old) (K.failures sink.new) ∷ []) }
+{
+    let mut buf = room(alloc)?;
+    let mut packet = packet_room(alloc)?;
+    match write_recording(envelopes, capture, sink, &mut buf, &mut packet, RECORDS) {
+        Ok(counts) => Ok(counts),
+        Err(fault) => Err(of_capture(fault)),
+    }
+}
+
+/// Room for any packet.
+fn packet_room<A: Allocator>(alloc: A) -> Result<Vec<u8, A>, AllocError>
+    ensures { IfOk result (λ room. vec_len room ≡ 65565) }
+{
+    vec![in alloc; 0u8; PACKET]
+}

@@ -1,0 +1,13 @@
+//! The engine of the program that writes a capture as a recording of pcap, for other tools.
+#![tactic(auto)]
+
+mod exporting;
+pub mod laws;
+mod packets;
+mod places;
+#[cfg(test)]
+mod tests;
+
+pub use exporting::{Exporting, export};
+pub use packets::ExportCounts;
+pub use places::Envelopes;
