@@ -1,0 +1,4 @@
+pub mod Flows
+pub mod Counts
+pub mod Places
+pub mod Lines

@@ -1,0 +1,110 @@
+-- What is noted of recordings, and what is told of them (own).
+use Rattle.std.specs.Prelude.{◌≡◌, ℕ, Bool, true, false, List, ◌++◌, codes, Option, Some, None, if◌then◌else◌}
+use Rattle.std.specs.Prelude.{length}
+use Rattle.std.specs.Fmt.{decimal}
+use Rattle.std.specs.List.{AllZip, flat_map, list_all, list_any}
+use Rattle.st_format.specs.History.{IsRead}
+use Rattle.flow_counts.specs.Counts.{flow_counts}
+use Rattle.flow_counts.specs.Flows.{Arrival}
+use Rattle.flow_counts.specs.Lines.{count_text}
+use Rattle.pcap_file.specs.declared.datagram.NoDatagram.{NoDatagram}
+use Rattle.pcap_file.specs.declared.fault.RecordingFault.{RecordingFault}
+use Rattle.pcap_file.specs.declared.fault.RecordingFault.TheVariants.{Truncated}
+use Rattle.pcap_file.specs.Fields.{CountsFault, IfContent}
+use Rattle.pcap_file.specs.PcapReading.{Recorded}
+use Rattle.pcap_file.specs.Runs.{HasFailed, HasRead, HasReadAll, Seen, fault_in, packets_in}
+use Rattle.inspect_engine.specs.Arrivals.{arrivals_of, reasons_of}
+use Rattle.inspect_engine.specs.LeftOut.{left_out_of, left_out_text}
+use Rattle.flow_counts.specs.declared.count.FlowCount.{FlowCount}
+use Rattle.run_outcome.specs.declared.refusal.Refusal.{Refusal}
+use Rattle.run_outcome.specs.declared.refusal.Refusal.TheVariants.{Recording}
+use Rattle.inspect_engine.specs.declared.left_out.LeftOut.{LeftOut}
+use Rattle.inspect_engine.specs.declared.inspection.Inspection.{Inspection}
+
+-- Packets were noted: the flows are then those of the datagrams before and of theirs, and so are
+-- the reasons.
+pub record Notes {A : Type 0} (packets : List Recorded) (old new : Inspection A) : Type 0 where
+  pub flows : (arrivals : List Arrival) → old.flows ≡ flow_counts arrivals
+      → new.flows ≡ flow_counts (arrivals ++ arrivals_of packets)
+  pub left_out : (reasons : List NoDatagram) → old.left_out ≡ left_out_of reasons
+      → new.left_out ≡ left_out_of (reasons ++ reasons_of packets)
+
+-- a source gave all of a recording of these packets, or as far as a fault
+abbrev pub HasStopped : ℕ → List ℕ → List ℕ → Type 0 → Option RecordingFault → List Recorded
+    → Type 0
+HasStopped room before now ended None packets = HasReadAll room before now ended packets
+HasStopped room before now ended (Some f) packets = HasFailed room before now ended f packets
+
+-- A recording was noted up to its end, or up to its fault: its packets are those of the octets that
+-- were read, and so is the fault.
+pub record NotesOctets {A : Type 0} (room : ℕ) (told : List ℕ → Type 0)
+    (end : Option RecordingFault) (old new : Inspection A) : Type 0 where
+  pub noted : (octets : List ℕ) → told octets → Notes (packets_in room octets) old new
+  pub ends : (octets : List ℕ) → told octets → fault_in room octets ≡ end
+
+-- the same, unless the source failed
+abbrev pub NotesUnless : {A : Type 0} → ℕ → (List ℕ → Type 0) → Option RecordingFault
+    → Inspection A → Inspection A → Type 0
+NotesUnless room told None old new = NotesOctets room told None old new
+NotesUnless room told (Some f) old new = IfContent f (NotesOctets room told (Some f) old new)
+
+abbrev pub NotesRecording : {A : Type 0} → ℕ → List ℕ → List ℕ → Type 0
+    → Option RecordingFault → Inspection A → Inspection A → Type 0
+NotesRecording room before now ended end old new =
+    NotesUnless room (IsRead before now ended) end old new
+
+-- Of a recording of which this was seen, packets were noted, up to its end or up to a fault, whatever
+-- was read before.
+pub record NotesBehind {A : Type 0} (room : ℕ) (seen : Seen) (read now : List ℕ) (ended : Type 0)
+    (end : Option RecordingFault) (old new : Inspection A) : Type 0 where
+  pub packets : List Recorded
+  pub noted : Notes packets old new
+  pub stops : (before : List ℕ) (earlier : List Recorded) → HasRead room before read seen earlier
+      → HasStopped room before now ended end (earlier ++ packets)
+
+-- a device's fault is one failure more, and any other end none
+abbrev pub counts_end : Option RecordingFault → ℕ → ℕ → Type 0
+counts_end None old new = new ≡ old
+counts_end (Some f) old new = CountsFault f old new
+
+-- how the reading of a recording ended that was told, by whether it was cut short
+abbrev pub end_of : Bool → Option RecordingFault
+end_of cut = if cut then Some Truncated else None
+
+-- Recordings were noted, one after the other, each up to its end or to where it was cut short; and
+-- whether one was cut short.
+abbrev pub is_cut : Option RecordingFault → Bool
+is_cut (Some Truncated) = true
+is_cut _ = false
+
+abbrev pub is_told : Option RecordingFault → Bool
+is_told None = true
+is_told f = is_cut f
+
+pub record NotesAll {S A : Type 0} (room : ℕ) (told : S → List ℕ → Type 0) (recordings : List S)
+    (cut : Bool) (old new : Inspection A) : Type 0 where
+  pub noted : (octets : List (List ℕ)) → AllZip told recordings octets
+      → Notes (flat_map (packets_in room) octets) old new
+  pub ends : (octets : List (List ℕ)) → AllZip told recordings octets
+      → list_all (λ o. is_told (fault_in room o)) octets ≡ true
+  pub cuts : (octets : List (List ℕ)) → AllZip told recordings octets
+      → cut ≡ list_any (λ o. is_cut (fault_in room o)) octets
+
+-- what is told of flows and of packets left out: each flow's lines, how many flows there are, and
+-- a line for each reason
+abbrev pub count_lines : FlowCount → List ℕ
+count_lines c = count_text c ++ codes "\n"
+
+abbrev pub end_text : ℕ → LeftOut → List ℕ
+end_text flows l = codes "flows " ++ (decimal flows ++ left_out_text l)
+
+abbrev pub end_lines : List FlowCount → LeftOut → List ℕ
+end_lines counts l = end_text (length counts) l ++ codes "\n"
+
+abbrev pub inspection_text : List FlowCount → LeftOut → List ℕ
+inspection_text counts l = flat_map count_lines counts ++ end_lines counts l
+
+-- by how a run ends: one that was cut short is told all the same, and at another refusal nothing is
+abbrev pub IfCut : Refusal → Type 0 → Type 0 → Type 0
+IfCut (Recording Truncated) P Q = P
+IfCut _ P Q = Q

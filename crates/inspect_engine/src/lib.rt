@@ -1,0 +1,15 @@
+//! Which flows recordings of other tools have: their packets noted, and what was noted printed.
+#![tactic(auto)]
+
+mod destination;
+mod inspection;
+mod left_out;
+mod printing;
+mod recording;
+mod recordings;
+
+pub use inspection::Inspection;
+pub use left_out::LeftOut;
+pub use printing::print_inspection;
+pub use recording::note_recording;
+pub use recordings::note_recordings;
