@@ -109,14 +109,22 @@ fn blamed_by(refusal: Refusal) -> Blamed {
         Refusal::Job(_) | Refusal::ProcessJob => Blamed::Word("--job"),
         Refusal::ProcessFrame => Blamed::Word("--ts"),
         Refusal::ProcessFill => Blamed::Word("--fill"),
-        Refusal::SendSdp | Refusal::MigrateSdp | Refusal::ReceiveSdp => Blamed::Sdp,
+        Refusal::ExportFlow | Refusal::ImportFlow => Blamed::Word("--a or --b"),
+        Refusal::ImportPlaces => Blamed::Word("the recordings"),
+        Refusal::SendSdp
+        | Refusal::MigrateSdp
+        | Refusal::ReceiveSdp
+        | Refusal::ImportSdp
+        | Refusal::Flows(_) => Blamed::Sdp,
         Refusal::ReceiveNoSdp
         | Refusal::SendFormats
         | Refusal::MergeUnlike
         | Refusal::ProcessHold
+        | Refusal::ImportRecords
         | Refusal::Capture(_)
         | Refusal::Picture(_)
-        | Refusal::State(_) => Blamed::Read,
+        | Refusal::State(_)
+        | Refusal::Recording(_) => Blamed::Read,
     }
 }
 

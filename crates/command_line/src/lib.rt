@@ -8,6 +8,6 @@ mod words;
 
 pub use fault::WordsFault;
 pub use words::{
-    Given, LoopWords, MergeWords, MigrateWords, NamedPaths, ProcessWords, ReceiveWords, SendWords,
-    StampWords, Words, given_words, read_words,
+    ExportWords, Given, ImportWords, LoopWords, MergeWords, MigrateWords, NamedPaths, ProcessWords,
+    ReceiveWords, SendWords, StampWords, Words, given_words, read_words,
 };

@@ -39,6 +39,12 @@ pub enum Words<'a> {
     Report(&'a str),
     /// Send a picture over a link, and take what comes.
     Loop(LoopWords<'a>),
+    /// Make a capture of recordings of other tools.
+    Import(ImportWords<'a>),
+    /// Write a capture as a recording for other tools.
+    Export(ExportWords<'a>),
+    /// Tell which streams recordings of other tools have, by their files' names.
+    Inspect(Vec<&'a str>),
 }
 
 /// The words behind `migrate`: names of files.
@@ -138,6 +144,34 @@ pub struct LoopWords<'a> {
     pub limit: u64,
 }
 
+/// The words behind `import`.
+#[derive(Drop)]
+pub struct ImportWords<'a> {
+    /// The SDP's file.
+    pub sdp: &'a str,
+    /// Where the datagrams of path A go, where that is said.
+    pub a: Option<&'a str>,
+    /// Where those of path B go, likewise.
+    pub b: Option<&'a str>,
+    /// The capture's file.
+    pub out: &'a str,
+    /// The recordings' files.
+    pub recordings: Vec<&'a str>,
+}
+
+/// The words behind `export`.
+#[derive(Clone, Copy)]
+pub struct ExportWords<'a> {
+    /// Where the datagrams of path A go.
+    pub a: &'a str,
+    /// Where those of path B go, where that is said.
+    pub b: Option<&'a str>,
+    /// The recording's file.
+    pub out: &'a str,
+    /// The capture's file.
+    pub capture: &'a str,
+}
+
 /// The words that the program was called with, its own name first.
 pub fn given_words<R: Env + AllocGlobal>(rt: &R) -> Result<Vec<String>, WordsFault> {
     Ok(env::args(rt)?.collect(rt.alloc())?)
@@ -171,6 +205,8 @@ fn command_words<'a>(
         "send" => Ok(Words::Send(send_words(alloc, given)?)),
         "receive" => Ok(Words::Receive(receive_words(alloc, given)?)),
         "process" => Ok(Words::Process(process_words(alloc, given)?)),
+        "import" => Ok(Words::Import(import_words(alloc, given)?)),
+        "inspect" => Ok(Words::Inspect(list(alloc, given, "recordings")?)),
         _ => Ok(plain_words(name, given)),
     }
 }
@@ -184,6 +220,7 @@ fn plain_words<'a>(name: &str, given: &ArgMatches<'a>) -> Words<'a> {
         "merge" => Words::Merge(merge_words(given)),
         "report" => Words::Report(word(given, "state")),
         "loop" => Words::Loop(loop_words(given)),
+        "export" => Words::Export(export_words(given)),
         // clap lets `trace` through, and nothing else.
         _ => Words::Trace,
     }
@@ -272,6 +309,25 @@ fn process_words<'a>(
         max_octets: number(given, "max"),
         states: list(alloc, given, "states")?,
     })
+}
+
+fn import_words<'a>(alloc: Global, given: &ArgMatches<'a>) -> Result<ImportWords<'a>, AllocError> {
+    Ok(ImportWords {
+        sdp: word(given, "sdp"),
+        a: given.get_str("a"),
+        b: given.get_str("b"),
+        out: word(given, "out"),
+        recordings: list(alloc, given, "recordings")?,
+    })
+}
+
+fn export_words<'a>(given: &ArgMatches<'a>) -> ExportWords<'a> {
+    ExportWords {
+        a: word(given, "a"),
+        b: given.get_str("b"),
+        out: word(given, "out"),
+        capture: word(given, "capture"),
+    }
 }
 
 fn loop_words<'a>(given: &ArgMatches<'a>) -> LoopWords<'a> {

@@ -4,6 +4,7 @@
 use capture_runs::{loop_back, migrate, receive, send};
 use command_line::{Given, Words, WordsFault, given_words, read_words};
 use receiver_runs::{merge, process, report};
+use recording_runs::{export, import, inspect};
 use run_outcome::Status;
 use script_runs::{rehearse, sdp, trace};
 use std::fs::File;
@@ -48,6 +49,9 @@ fn follow(rt: &HostRuntime, given: &Given<'_>) -> u8 {
         Words::Process(words) => process(rt, words, is_verbose),
         Words::Report(state) => report(rt, state, is_verbose),
         Words::Loop(words) => loop_back(rt, words, is_verbose),
+        Words::Import(words) => import(rt, words, is_verbose),
+        Words::Export(words) => export(rt, words, is_verbose),
+        Words::Inspect(recordings) => inspect(rt, recordings.as_slice(), is_verbose),
     }
 }
 

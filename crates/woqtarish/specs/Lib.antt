@@ -30,10 +30,14 @@ pub use Rattle.payload_header.specs.Payload
 pub use Rattle.payload_header.specs.Reading as PayloadReading
 pub use Rattle.payload_header.specs.View
 pub use Rattle.payload_header.specs.Writing
+pub use Rattle.flow.specs.Flow
+pub use Rattle.flow.specs.FlowText
 pub use Rattle.sdp_format.specs.Back
 pub use Rattle.sdp_format.specs.Bytes
 pub use Rattle.sdp_format.specs.Canonical
+pub use Rattle.sdp_format.specs.Destinations
 pub use Rattle.sdp_format.specs.Faults as SdpFaults
+pub use Rattle.sdp_format.specs.FlowsFaults
 pub use Rattle.sdp_format.specs.Grammar as SdpGrammar
 pub use Rattle.sdp_format.specs.Naming
 pub use Rattle.sdp_format.specs.Places
@@ -107,6 +111,10 @@ pub use Rattle.pcap_file.specs.RecordingFaults
 pub use Rattle.pcap_file.specs.Udp as RecordingUdp
 pub use Rattle.pcap_file.specs.Views as RecordingViews
 pub use Rattle.pcap_file.specs.Writing as RecordingWriting
+pub use Rattle.flow_counts.specs.Counts as FlowCounts
+pub use Rattle.flow_counts.specs.Flows
+pub use Rattle.flow_counts.specs.Lines as FlowLines
+pub use Rattle.flow_counts.specs.Places as FlowPlaces
 pub use Rattle.frame_report.specs.Contested
 pub use Rattle.frame_report.specs.Faults as ReportFaults
 pub use Rattle.frame_report.specs.Missing as ReportMissing

@@ -46,7 +46,10 @@ pub mod formats {
 
 /// SDP texts: what one announces, where it is at fault, and the fmtp line of what was read.
 pub mod describe {
-    pub use sdp_format::{Located, Place, Range, Sdp, SdpFault, fmtp_text, read_located, read_sdp};
+    pub use sdp_format::{
+        FlowsFault, Located, Place, Range, Sdp, SdpFault, fmtp_text, read_flows, read_located,
+        read_sdp,
+    };
 }
 
 /// Receivers of two paths: opened, given datagrams one by one or from a source, merged, moved on;
@@ -99,15 +102,23 @@ pub mod files {
     };
 }
 
-/// Recordings of other tools, as pcap and pcapng: their packets, as datagrams of UDP.
+/// Recordings of other tools, as pcap and pcapng: their packets, as datagrams of UDP, and the flows
+/// of the two paths.
 pub mod recordings {
+    pub use flow::{Flow, Flows, read_flow};
     pub use pcap_file::{
-        ByteOrder, DatagramView, Envelope, HEADS, INTERFACES, Interface, IpVersion, Link, LinkView,
-        NoDatagram, PCAP_HEAD, PacketHead, PacketView, PcapHead, RECORD_HEAD, RecordingFault,
-        Section, Step, next_block, next_record, read_datagram, read_first_section, read_link,
-        read_packet, read_pcap, read_pcap_head, read_record_head, read_udp, record_begins,
-        record_rest, write_pcap_head, write_record,
+        ByteOrder, DatagramView, Envelope, Envelope6, HEADS, HEADS6, INTERFACES, Interface,
+        IpVersion, Layout, Link, LinkView, NoDatagram, PCAP_HEAD, Packet, PacketHead, PacketView,
+        PcapHead, RECORD_HEAD, RecordingFault, Section, Step, next_block, next_packet, next_record,
+        open_recording, packet_datagram, read_datagram, read_first_section, read_link, read_packet,
+        read_pcap, read_pcap_head, read_record_head, read_udp, record_begins, record_rest,
+        write_pcap_head, write_record, write_record6,
     };
+}
+
+/// Which flows of UDP datagrams have, and that as text.
+pub mod flows {
+    pub use flow_counts::{FlowCount, FlowTable, MOST_SEEN, Noted, RtpCount, Seen, Times};
 }
 
 /// A receiver's report as text.
@@ -129,6 +140,7 @@ pub mod devices {
 /// The laws of the definitions: what the contracts of the calls say together.
 pub mod laws {
     pub use capture_file::laws as files;
+    pub use flow::laws as flows;
     pub use frame_report::laws as report;
     pub use packet_plan::laws as send;
     pub use path_merge::{laws as receive, number_laws as numbers};
