@@ -1,6 +1,7 @@
 #!/bin/sh
 # Starts the built program, ./st2110 at the root or the one that is named, and compares status, output, faults and
-# written files with what they must be. Prints a line for each test, and last 'N passed, M failed'.
+# written files with what they must be. Prints a line for each test, and last 'N passed, M failed'. A second word names
+# parts that are run alone.
 root=$(CDPATH='' cd -- "$(dirname -- "$0")/.." && pwd) || exit 125
 program=${1:-$root/st2110}
 case $program in
@@ -159,8 +160,8 @@ octets "$old_head $d1" >old.cap
 
 # The parts, in the order in which they are run: later ones use files and words of earlier ones.
 parts='text examples forms windows rehearsals descriptions limits migrate receive tallies send kinds
-    merge process report loop words devices verbose faults launcher install'
-for part in $parts; do
+    merge process report loop recordings words devices verbose faults launcher install'
+for part in ${2:-$parts}; do
     counted=$((passed + failed))
     if [ ! -f "$root/tests/program/$part.sh" ]; then
         fail "$part.sh" 'it is missing'

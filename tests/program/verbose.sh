@@ -219,3 +219,33 @@ adds 'a full output' 3 '' device 'standard output; wanted to write there: No spa
 "$program" trace -v <. >out 2>err
 status=$?
 adds 'a folder as input' 3 '' device 'standard input, octet 0; wanted to read there: Is a directory (os error 21)'
+
+# Recordings: the words, the SDP, and the file where it is at fault.
+recorded=$root/examples/recordings
+run import -v --sdp q.sdp --b 5x --out v.cap "$recorded/loopback.pcap"
+adds 'a flow' 1 '' 'import 2 BadFlow' '--a or --b; wanted a port, or an address, a colon and a port'
+run import -v --sdp "$recorded/alike.sdp" --out v.cap "$recorded/alike-a.pcap"
+adds 'one place' 1 '' 'import 3 OnePlace' 'the recordings; wanted two recordings, the first of path A'
+run import -v --sdp long.sdp --out v.cap "$recorded/loopback.pcap"
+adds 'a long SDP, imported' 1 '' 'import 1 SdpTooLong' 'long.sdp, octet 65536; wanted at most 65535 octets'
+{
+    echo 'c=IN IP4 host'
+    cat q.sdp
+} >host.sdp
+run import -v --sdp host.sdp --out v.cap "$recorded/loopback.pcap"
+adds "a host's name" 1 '' 'flows 4 BadConnection' \
+    "host.sdp, octet $(wc -c <host.sdp); wanted c=IN IP4 ADDRESS or c=IN IP6 ADDRESS"
+cp "$recorded/loopback.pcap.gz" packed.pcap.gz
+run import -v --sdp q.sdp --out v.cap packed.pcap.gz
+adds 'a packed recording' 1 '' 'recording 10 Packed' \
+    "packed.pcap.gz, octet 4; wanted a recording that gzip hasn't packed; zcat unpacks it"
+run inspect -v q.sdp
+adds 'no recording' 1 '' 'recording 3 BadMagic' \
+    'q.sdp, octet 4; wanted a recording, which begins as pcap or pcapng'
+cp "$recorded/cut.pcap" cut.pcap
+run import -v --sdp q.sdp --out v.cap cut.pcap
+adds 'a cut recording' 1 '' 'recording 2 Truncated' \
+    "cut.pcap, octet $(wc -c <cut.pcap); wanted more octets: the recording ends before it is whole"
+run export -v --a 5004 --out v.pcap old.cap
+adds 'a flow without an address' 1 '' 'export 1 BadFlow' \
+    '--a or --b; wanted an address of IPv4, a colon and a port, as 239.1.1.1:5004'

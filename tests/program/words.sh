@@ -27,7 +27,7 @@ done
 for asked in --help -h help; do
     run $asked
     holds_words "$asked" 'Usage: st2110' trace sdp rehearse migrate send receive merge process report loop \
-        --verbose --help --version
+        import inspect export --verbose --help --version
 done
 
 # Of each command the help has every option and file.
@@ -49,6 +49,9 @@ merge --state <LEFT> <RIGHT>
 process --job --ts --fill --hold --out --pt --first --base --ssrc --max 96 1400 <STATE>...
 report <STATE>
 loop --max --limit 1400 100000 <PICTURE>
+import --sdp --a --b --out [ADDR:]PORT <RECORDING>...
+inspect <RECORDING>...
+export --a ADDR:PORT --b --out FILE <CAPTURE>
 END
 
 # Words that are refused: status 2, nothing on standard output, and nothing is written.
@@ -125,6 +128,20 @@ loop --max 4294967296 p.pic
 loop --limit x p.pic
 loop --limit 18446744073709551616 p.pic
 loop --out no-words.cap p.pic
+import
+import r.pcap
+import --sdp q.sdp r.pcap
+import --out no-words.cap r.pcap
+import --sdp q.sdp --out no-words.cap
+import --sdp q.sdp --out no-words.cap --window 900 r.pcap
+import --sdp q.sdp --out no-words.cap --a r.pcap
+inspect
+inspect --sdp q.sdp r.pcap
+export
+export --a 239.1.1.1:5004 old.cap
+export --out no-words.pcap old.cap
+export --a 239.1.1.1:5004 --out no-words.pcap
+export --a 239.1.1.1:5004 --out no-words.pcap old.cap old.cap
 trace --version
 sdp --version
 rehearse --version
@@ -135,6 +152,9 @@ merge --version
 process --version
 report --version
 loop --version
+import --version
+inspect --version
+export --version
 END
 # Of each kind of refused words the whole text, as the Rust crate clap has it, version 4: the words,
 # and on standard input what stands between `error: ` and the last two lines, which are alike.

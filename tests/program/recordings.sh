@@ -1,0 +1,426 @@
+# import: recordings of real senders by real recorders, as examples/recordings/README.md tells them. Wanted is what tshark
+# says of each (NAME.txt) and what follows from how the streams were made. RECORDINGS names another folder of them.
+recordings=${RECORDINGS:-$root/examples/recordings}
+
+# wanted SDP A B TEXT..: `want.cap` is the capture of the datagrams in tshark's texts that go to A or B, each ADDRESS,PORT,
+# or -, or FILE where the first text is of A and the second of B; those of several texts joined by time. `left` is how many
+# packets are none of these, `counts` what import says then. A datagram's octets are as many as UDP says, and it is neither
+# quoted by ICMP nor cut short.
+wanted() {
+    text=$1
+    a=$2
+    b=$3
+    shift 3
+    number=0
+    for name; do
+        number=$((number + 1))
+        told=$recordings/$name.txt
+        [ -e "$told" ] || told=$name.txt
+        awk -v number="$number" '{ print number "\t" $0 }' "$told"
+    done >said.lines
+    [ $# = 1 ] || LC_ALL=C sort -s -t "$(printf '\t')" -k 2,2 -o said.lines said.lines
+    awk -F '\t' -v a="$a" -v b="$b" '
+        # A decimal number as hexadecimal digits.
+        function digits(number, width,    out, place, rest, next_number) {
+            for (out = ""; width > 0; width--) {
+                next_number = ""
+                rest = 0
+                for (place = 1; place <= length(number); place++) {
+                    rest = 10 * rest + substr(number, place, 1)
+                    next_number = next_number int(rest / 16)
+                    rest %= 16
+                }
+                out = substr("0123456789ABCDEF", rest + 1, 1) out
+                number = next_number
+            }
+            return out
+        }
+        {
+            to = ($6 == "" ? $7 : $6) "," $8
+            path = ""
+            if ($5 !~ /:icmp/ && $9 != "" && length($10) == 2 * ($9 - 8))
+                path = to == a || a == "FILE" && $1 == 1 ? "A" : to == b || b == "FILE" && $1 == 2 ? "B" : ""
+            if (path == "") {
+                left++
+                next
+            }
+            sub(/[.]/, "", $2)
+            count[path]++
+            print (path == "A" ? "00" : "01") digits($2, 16) digits($9 - 8, 4) $10 >"said.records"
+        }
+        BEGIN { printf "" >"said.records" }
+        END { printf "recorded A %d B %d left out %d\n", count["A"], count["B"], left }
+    ' said.lines >said.counts
+    counts=$(cat said.counts)
+    {
+        octets "5332304341503032$(printf %04X "$(wc -c <"$recordings/$text.sdp")")"
+        cat "$recordings/$text.sdp"
+        octets "$(cat said.records)"
+    } >want.cap
+}
+
+# comes A B SDP TO_A TO_B RECORDING..: whether import makes of recordings just the capture that tshark's texts of them
+# come to, with so many records by A and by B; `options` stand before them.
+options=
+comes() {
+    by_a=$1
+    by_b=$2
+    sdp=$3
+    to_a=$4
+    to_b=$5
+    shift 5
+    texts=
+    files=
+    for recording; do
+        texts="$texts ${recording%%.*}"
+        files="$files $recordings/$recording"
+    done
+    # shellcheck disable=SC2086
+    wanted "$sdp" "$to_a" "$to_b" $texts
+    said="import: $options $*"
+    case $counts in
+        "recorded A $by_a B $by_b left out "*) pass "$said: tshark's text" ;;
+        *) fail "$said: tshark's text" "it comes to '$counts' in place of A $by_a, B $by_b" ;;
+    esac
+    # shellcheck disable=SC2086
+    run import --sdp "$recordings/$sdp.sdp" $options --out recorded.cap $files
+    says "$said" 0 "$counts" ''
+    alike "$said: the capture" recorded.cap want.cap
+}
+
+# gives NAME WINDOW LINES: whether receive prints this of the last capture.
+gives() {
+    run receive --window "$2" --state recorded.rcv --refusals recorded.cap
+    says "received: $1" 0 "$3" ''
+}
+
+# What a picture of 8 by 8 comes to, of two components for a pixel and of three.
+two_values='frame 900 present 128 missing 0 contested 0
+frame 4500 present 128 missing 0 contested 0'
+three_values='frame 900 present 192 missing 0 contested 0
+frame 4500 present 192 missing 0 contested 0'
+
+# Pcap in microseconds and in nanoseconds. A frame at 30000/1001 has 3003 ticks, and GStreamer sends 3002.
+comes 6 0 loopback 127.0.0.1,5004 - loopback.pcap
+gives 'microseconds' 900,4500 "delivered 6
+$two_values"
+comes 6 0 nanoseconds 127.0.0.1,5004 - nanoseconds.pcap
+gives 'nanoseconds' 900,3902 'delivered 6
+frame 900 present 128 missing 0 contested 0
+frame 3902 present 128 missing 0 contested 0'
+
+# Pcapng of two cards, in which each one's packets stand in runs. Each path lacks four packets of twelve, of 192 samples,
+# and never the same: the frames are whole, and GStreamer's own.
+cards='frame 900 present 1152 missing 0 contested 0
+frame 4500 present 1152 missing 0 contested 0'
+comes 8 8 two-cards 239.1.1.1,5004 239.1.1.2,5006 two-cards.pcapng
+gives 'two cards' 900,4500 "delivered 16
+$cards"
+picture() {
+    od -An -v -tx1 "$recordings/two-cards.raw" | tr -d ' \n' | cut -c "$1" | sed 's/......../01&/g'
+}
+holds "received: two cards: GStreamer's pictures" recorded.rcv "5332305243563031 0008002000120000001900000001 60 00 00000000
+    02 00000384 $(picture 1-2304) 00001194 $(picture 2305-4608)"
+options='--a 239.1.1.1:5004'
+comes 8 0 two-cards 239.1.1.1,5004 - two-cards.pcapng
+gives 'path A alone' 900,4500 'delivered 8
+frame 900 present 768 missing 384 contested 0
+frame 4500 present 768 missing 384 contested 0'
+options='--b 5006'
+comes 0 8 two-cards - 239.1.1.2,5006 two-cards.pcapng
+gives 'path B alone' 900,4500 'delivered 8
+frame 900 present 768 missing 384 contested 0
+frame 4500 present 768 missing 384 contested 0'
+options='--b 239.1.1.1:5004 --a 239.1.1.2:5006'
+comes 8 8 two-cards 239.1.1.2,5006 239.1.1.1,5004 two-cards.pcapng
+gives 'the paths exchanged' 900,4500 "delivered 16
+$cards"
+options=
+
+# A recording for each path, joined by time; that of B begins with the third frame. A in microseconds, B in
+# nanoseconds. Then both of them merged into one, whose cards have units of time of their own.
+for recording in 'late-a.pcap late-b.pcap' 'late-b.pcap late-a.pcap' merged.pcapng; do
+    # shellcheck disable=SC2086
+    comes 10 4 late 239.1.1.1,5004 239.1.1.2,5004 $recording
+    gives "$recording" 900,4500,8100,11700 "delivered 14
+$two_values
+frame 8100 present 128 missing 0 contested 0
+frame 11700 present 128 missing 0 contested 0"
+done
+comes 10 0 late 239.1.1.1,5004 239.1.1.2,5004 late-a.pcap
+gives 'late-a.pcap' 8100,11700 'delivered 10
+outside 6
+frame 8100 present 80 missing 48 contested 0
+frame 11700 present 80 missing 48 contested 0'
+
+# Both paths have one address and port: the first recording is of A.
+comes 5 5 alike FILE FILE alike-a.pcap alike-b.pcap
+gives 'one address and port' 900,4500 "delivered 10
+$two_values"
+comes 5 5 alike FILE FILE alike-b.pcap alike-a.pcap
+rm -f one-place.cap
+run import --sdp "$recordings/alike.sdp" --out one-place.cap "$recordings/alike-a.pcap"
+says 'import: one address and port, one recording' 1 '' 'st2110: import 3 OnePlace'
+run import --sdp "$recordings/alike.sdp" --out one-place.cap "$recordings/alike-a.pcap" "$recordings/alike-b.pcap" \
+    "$recordings/alike-a.pcap"
+says 'import: one address and port, three recordings' 1 '' 'st2110: import 3 OnePlace'
+none 'import: one address and port, no capture' one-place.cap
+
+# Of all devices at once, with both headers of Linux; in the second each packet is there twice.
+comes 6 0 group 239.1.1.1,5004 - cooked.pcap
+gives 'cooked' 900,4500 "delivered 6
+$two_values"
+comes 12 0 group 239.1.1.1,5004 - cooked2.pcap
+gives 'cooked, version 2' 900,4500 "delivered 12
+$two_values"
+
+# One tag of IEEE 802.1Q by path A and two by path B.
+comes 5 5 tagged 239.1.1.1,5004 239.1.1.2,5006 tagged.pcap
+gives 'tags' 900,4500 "delivered 10
+$two_values"
+
+# IPv6, and a device without a link layer.
+comes 6 0 ipv6 ff3e::8000:1,5004 - ipv6.pcap
+gives 'IPv6' 900,4500 "delivered 6
+$three_values"
+options='--a [FF3E:0::8000:1]:5004'
+comes 6 0 ipv6 ff3e::8000:1,5004 - ipv6.pcap
+options=
+comes 6 0 raw 192.0.2.18,5004 - raw.pcap
+gives 'no link layer' 900,4500 "delivered 6
+$two_values"
+
+# Of each frame two packets are cut short, or come in fragments; the last, of two rows, is whole.
+for recording in snapped fragments; do
+    comes 2 0 group 239.1.1.1,5004 - $recording.pcap
+    gives "$recording" 900,4500 'delivered 2
+frame 900 present 32 missing 96 contested 0
+frame 4500 present 32 missing 96 contested 0'
+done
+
+# ARP, DNS, TCP, another stream, ICMP that quotes this one; among it an empty datagram, which is a record. The connection of
+# the sound is not that of the session.
+comes 7 0 foreign 192.0.2.2,5004 - foreign.pcapng
+gives 'others' 900,4500 "delivered 7
+refused 1 ShortHeader 1
+$three_values"
+
+# FFmpeg, whose timestamps begin anywhere, and a packet of RTCP to the same port.
+comes 7 0 ffmpeg 127.0.0.1,5004 - ffmpeg.pcap
+began=$(awk -F '\t' '$4 !~ /rtcp/ { print "0x" substr($9, 9, 8); exit }' "$recordings/ffmpeg.txt")
+gives 'FFmpeg' "$((began)),$(((began + 3600) % 4294967296))" "delivered 7
+refused 5 WrongPayloadType 1
+frame $((began)) present 256 missing 0 contested 0
+frame $(((began + 3600) % 4294967296)) present 256 missing 0 contested 0"
+
+# From standard input, unpacked.
+wanted loopback 127.0.0.1,5004 - loopback
+gzip -d -c "$recordings/loopback.pcap.gz" >unpacked.recording
+"$program" import --sdp "$recordings/loopback.sdp" --out recorded.cap - <unpacked.recording >out 2>err
+status=$?
+says 'import: standard input' 0 "$counts" ''
+alike 'import: standard input: the capture' recorded.cap want.cap
+
+# Two recordings of blocks, one behind the other: the first interface of each section has a unit of time of its own.
+cat "$recordings/foreign.pcapng" "$recordings/merged.pcapng" >sections.recording
+cat "$recordings/foreign.txt" "$recordings/merged.txt" >sections.txt
+wanted foreign 192.0.2.2,5004 239.1.1.1,5004 sections
+run import --sdp "$recordings/foreign.sdp" --a 192.0.2.2:5004 --b 239.1.1.1:5004 --out recorded.cap sections.recording
+says 'import: two sections' 0 "$counts" ''
+alike 'import: two sections: the capture' recorded.cap want.cap
+
+# Where the last packet isn't whole, what came before it is recorded.
+for recording in cut.pcap cut-block.pcapng; do
+    case $recording in
+        cut.pcap) wanted loopback 127.0.0.1,5004 - cut ;;
+        *) wanted two-cards 239.1.1.1,5004 239.1.1.2,5006 cut-block ;;
+    esac
+    run import --sdp "$recordings/$text.sdp" --out recorded.cap "$recordings/$recording"
+    says "import: $recording" 1 '' 'st2110: recording 2 Truncated'
+    alike "import: $recording: the capture" recorded.cap want.cap
+    [ $recording = cut-block.pcapng ] || gives 'cut.pcap' 900,4500 'delivered 5
+frame 900 present 128 missing 0 contested 0
+frame 4500 present 96 missing 32 contested 0'
+done
+
+# A recording cut at each octet of its first part: where a packet or block ends it is whole, else Truncated; either way what
+# came before is recorded. `bounds` has where it may end, and how many datagrams then came.
+cut_at_each() {
+    wanted "$2" "$3" "$4" "${1%%.*}"
+    whole_to=
+    came=
+    cut=0
+    wrong=
+    front=$((10 + $(wc -c <"$recordings/$2.sdp")))
+    while read -r next further; do
+        # Up to the end of the next packet or block.
+        while [ "$cut" -lt "$next" ]; do
+            head -c "$cut" "$recordings/$1" >cut.recording
+            : >recorded.cap
+            run import --sdp "$recordings/$2.sdp" --out recorded.cap cut.recording
+            line=
+            read -r line <out
+            fault=
+            read -r fault <err
+            case "$status $line $fault" in
+                "0 recorded $came left out 0 ") [ "$cut" = "$whole_to" ] || wrong="$wrong $cut: status 0;" ;;
+                '1  st2110: recording 2 Truncated') [ "$cut" != "$whole_to" ] || wrong="$wrong $cut: it is whole;" ;;
+                *) wrong="$wrong $cut: $status $line $fault;" ;;
+            esac
+            # Before the first datagram there may be no capture yet.
+            [ -z "$whole_to" ] || cmp -s part.cap recorded.cap || { [ "$had" = 0 ] && [ ! -s recorded.cap ]; } ||
+                wrong="$wrong $cut: its capture;"
+            cut=$((cut + 1))
+        done
+        whole_to=$next
+        had=${further%% *}
+        came=${further#* }
+        head -c "$((front + had))" want.cap >part.cap
+    done <"$5"
+    if [ -z "$wrong" ] && [ "$cut" -gt 500 ]; then
+        pass "import: $1 cut at each of $cut octets"
+    else
+        fail "import: $1 cut at each of $cut octets" "$(printf '%s' "$wrong" | head -c 300)"
+    fi
+}
+# The head has 24 octets, and each packet's 16. A record of a capture has 11 before the datagram's.
+awk -F '\t' '
+    BEGIN { place = 24; print place, 0, "A 0 B 0" }
+    { place += 16 + $2; octets += 11 + $8 - 8; print place, octets, "A " NR " B 0" }
+' "$recordings/loopback.txt" >bounds
+cut_at_each loopback.pcap loopback 127.0.0.1,5004 - bounds
+# A block says its length behind its type, least octet first as this recorder wrote it; packets are blocks of type 6.
+place=0
+number=0
+: >blocks
+while [ "$place" -lt 1000 ]; do
+    # shellcheck disable=SC2046
+    set -- $(od -An -v -tu1 -j "$place" -N 8 "$recordings/two-cards.pcapng")
+    [ "$1" != 6 ] || number=$((number + 1))
+    place=$((place + $5 + 256 * $6))
+    echo "$place $number" >>blocks
+done
+awk -F '\t' '
+    NR == FNR { octets[NR] = octets[NR - 1] + 11 + $8 - 8; a[NR] = a[NR - 1] + ($5 == "239.1.1.1"); next }
+    { split($0, block, " "); n = block[2]; print block[1], octets[n] + 0, "A " a[n] + 0 " B " n - a[n] }
+' "$recordings/two-cards.txt" blocks >bounds
+[ $number -ge 1 ] || fail 'two-cards.pcapng' 'no packet is among its first octets'
+cut_at_each two-cards.pcapng two-cards 239.1.1.1,5004 239.1.1.2,5006 bounds
+
+# What is no recording. A section, an interface of Ethernet, a packet without octets; a head of pcap.
+section='0A0D0D0A 0000001C 1A2B3C4D 0001 0000 FFFFFFFFFFFFFFFF 0000001C'
+interface='00000001 00000014 0001 0000 00000000 00000014'
+packet='00000006 00000020 00000000 00000000 00000000 00000000 00000000 00000020'
+pcap_head='A1B2C3D4 0002 0004 00000000 00000000 00040000 00000001'
+i=0
+many=
+while [ $i -lt 64 ]; do
+    many="$many $interface"
+    i=$((i + 1))
+done
+while IFS='|' read -r fault digits; do
+    octets "$digits" >hand.recording
+    run import --sdp "$recordings/loopback.sdp" --out no-import.cap hand.recording
+    says "import: $fault: $(printf '%s' "$digits" | head -c 60)" 1 '' "st2110: recording $fault"
+done <<END
+2 Truncated|
+2 Truncated|A1B2C3
+2 Truncated|$pcap_head 00000000 00000000 00000001 00000001
+2 Truncated|$section 00000006
+3 BadMagic|A1B2C3D5 0002 0004 00000000 00000000 00040000 00000001
+3 BadMagic|0A0D0D0A 0000001C 1A2B3C4E 0001 0000 FFFFFFFFFFFFFFFF 0000001C
+4 BadVersion|A1B2C3D4 0002 0003 00000000 00000000 00040000 00000001
+4 BadVersion|0A0D0D0A 0000001C 1A2B3C4D 0002 0000 FFFFFFFFFFFFFFFF 0000001C
+5 BadBlock|0A0D0D0A 0000001C 1A2B3C4D 0001 0000 FFFFFFFFFFFFFFFF 00000020
+5 BadBlock|$section 00000005 FFFFFFFC
+6 BadInterface|$section $packet
+7 TooManyInterfaces|$section $many $interface
+8 BadTime|$section 00000001 00000024 0001 0000 00000000 000E 0008 FFFFFFFFFFFFFFFF 0000 0000 00000024 $packet
+9 PacketTooLong|$pcap_head 00000000 00000000 FFFFFFFF FFFFFFFF
+10 Packed|1F8B0800
+END
+# The last of 64 interfaces has an empty datagram to the stream's port, at 2^32 microseconds.
+octets "$section $many 00000006 0000004C 0000003F 00000001 00000000 0000002A 0000002A 000000000000 000000000000 0800
+    4500001C 00004000 40110000 7F000001 7F000001 1388 138C 0008 0000 0000 0000004C" >hand.recording
+run import --sdp "$recordings/loopback.sdp" --out recorded.cap hand.recording
+says 'import: 64 interfaces' 0 'recorded A 1 B 0 left out 0' ''
+{
+    octets "5332304341503032$(printf %04X "$(wc -c <"$recordings/loopback.sdp")")"
+    cat "$recordings/loopback.sdp"
+    octets '00 000003E800000000 0000'
+} >want.cap
+alike 'import: 64 interfaces: the capture' recorded.cap want.cap
+for recording in '10 Packed|loopback.pcap.gz' '3 BadMagic|loopback.sdp'; do
+    run import --sdp "$recordings/loopback.sdp" --out no-import.cap "$recordings/${recording#*|}"
+    says "import: ${recording#*|}" 1 '' "st2110: recording ${recording%|*}"
+done
+
+# inspect: the flows of a recording in the order of their first coming. Each card brought 8 datagrams of 224 octets, from
+# source 7; 1792 octets in 45.6 and 45.4 ms are 0.31 Mbit/s.
+run inspect "$recordings/two-cards.pcapng"
+says 'inspect: two cards' 0 'flow 239.1.1.1:5004
+  datagrams 8, octets 1792, RTP 8
+  payload types 96; sources 7
+  from 1795698902.376560750 to 1795698902.422140336, 0.31 Mbit/s
+flow 239.1.1.2:5006
+  datagrams 8, octets 1792, RTP 8
+  payload types 96; sources 7
+  from 1795698902.378472575 to 1795698902.423861109, 0.31 Mbit/s
+flows 2' ''
+"$program" inspect - <"$recordings/two-cards.pcapng" >again 2>err
+status=$?
+: >again.err
+if [ "$status" = 0 ] && cmp -s out again && cmp -s err again.err; then
+    pass 'inspect: standard input'
+else
+    fail 'inspect: standard input' "status $status: $(head -c 200 err)"
+fi
+run inspect "$recordings/loopback.sdp"
+says 'inspect: no recording' 1 '' 'st2110: recording 3 BadMagic'
+run inspect "$recordings/loopback.pcap" "$recordings/loopback.pcap.gz"
+says 'inspect: packed' 1 '' 'st2110: recording 10 Packed'
+run inspect no-such-file
+says 'inspect: no such file' 3 '' 'st2110: device'
+
+# import of standard input, words that are refused, and an SDP that is.
+"$program" import --sdp "$recordings/two-cards.sdp" --out piped.cap - <"$recordings/two-cards.pcapng" >out 2>err
+status=$?
+says 'import: standard input' 0 'recorded A 8 B 8 left out 0' ''
+run import --sdp "$recordings/two-cards.sdp" --out again.cap "$recordings/two-cards.pcapng"
+alike 'import: standard input, the capture' piped.cap again.cap
+for words in '--a 500x4' '--b 239.1.1.256:5006' '--a 239.1.1.1' '--b 65536'; do
+    # shellcheck disable=SC2086
+    run import --sdp "$recordings/two-cards.sdp" $words --out no-import.cap "$recordings/two-cards.pcapng"
+    says "import: $words" 1 '' 'st2110: import 2 BadFlow'
+done
+head -c 65536 /dev/zero >long.sdp
+run import --sdp long.sdp --out no-import.cap "$recordings/two-cards.pcapng"
+says 'import: a long SDP' 1 '' 'st2110: import 1 SdpTooLong'
+none 'import: nothing is written after a refusal' no-import.cap
+
+# export: what was imported comes back, octet for octet and to the nanosecond, by both paths or by one.
+run export --a 239.1.1.1:5004 --b 239.1.1.2:5006 --out exported.pcap again.cap
+says 'export: both paths' 0 'exported 16 left out 0' ''
+run import --sdp "$recordings/two-cards.sdp" --out back.cap exported.pcap
+says 'export, and import again' 0 'recorded A 8 B 8 left out 0' ''
+alike 'export, and import again: the capture' back.cap again.cap
+run export --a 239.1.1.1:5004 --out exported.pcap again.cap
+says 'export: path A alone' 0 'exported 8 left out 8' ''
+for words in '--a 5004' '--a [ff3e::1]:5004' '--a 239.1.1.1:5004 --b 239.1.1.2'; do
+    # shellcheck disable=SC2086
+    run export $words --out no-export.pcap again.cap
+    says "export: $words" 1 '' 'st2110: export 1 BadFlow'
+done
+run export --a 239.1.1.1:5004 --out no-export.pcap "$recordings/two-cards.pcapng"
+says 'export: no capture' 1 '' 'st2110: capture 3 BadName'
+none 'export: nothing is written after a refusal' no-export.pcap
+
+# No recording goes stale.
+for file in "$recordings"/*.pcap*; do
+    name=${file##*/}
+    if grep -q -w -F -e "${name%%.*}" "$root/tests/program/recordings.sh"; then
+        pass "$name is in a test"
+    else
+        fail "$name" 'no test runs it'
+    fi
+done
