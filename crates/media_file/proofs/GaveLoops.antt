@@ -10,12 +10,13 @@ use Rattle.media_file.specs.declared.fault.FileFault.TheVariants.{NoMemory, Devi
 use Rattle.media_file.specs.declared.fault.FileFault.TheVariants.{BadField, TooManyRecords}
 use Rattle.media_file.specs.declared.record.RecordHead.{RecordHead}
 use Rattle.media_file.specs.Capture.{records_at}
-use Rattle.media_file.specs.Faults.{IfContent}
+use Rattle.media_file.specs.Faults.{IfContent, IsDevice}
 use Rattle.media_file.specs.Fields.{Fails, GaveFault, GaveWhole, Takes}
 use Rattle.media_file.specs.Given.{GivesWrong}
 use Rattle.media_file.specs.Reading.{fault_at, fault_by, head_at, octets_at, rest_at}
 use Rattle.media_file.specs.Records.{Entry, Fits, entry_of, path_octet, rest_text}
 use Rattle.media_file.specs.Source.{FailsRest, IsOfRecord, ReadsRest}
+use Rattle.media_file.proofs.Content.{of_device}
 use Rattle.media_file.proofs.Givings.{grew_twice}
 use Rattle.media_file.proofs.Loops.{GoesOn, Many, goes_on_end, goes_on_fault, goes_on_many}
 use Rattle.media_file.proofs.Loops.{goes_on_more, one_less, with_front}
@@ -215,6 +216,12 @@ pub fails_memory : {X : Type 0} (r : List ℕ → Result (X × List ℕ) FileFau
 fails_memory r None = tt
 fails_memory r (Some o) = tt
 
+-- the device failed
+pub fails_device : {X : Type 0} (r : List ℕ → Result (X × List ℕ) FileFault)
+    (known : Option (List ℕ)) (f : FileFault) → IsDevice f → Fails r known f
+fails_device r None f device = tt
+fails_device r (Some o) f device = of_device f (r o ≡ Err f) device
+
 pub fault_memory : {X : Type 0} (r : List ℕ → Result (X × List ℕ) FileFault)
     (before now part : List ℕ) (ended : Type 0) → now ≡ before ++ part
     → GaveFault r before now ended NoMemory
@@ -223,6 +230,15 @@ fault_memory r before now part ended grown = record {
   grown = grown;
   says = λ behind all. tt;
 }
+
+-- the memory was refused for a record that was given
+pub no_record : (limit left : ℕ) (before now mid new : List ℕ) (so_far : List Entry)
+    (first rest : List ℕ) (ended : Type 0) → GoesGave limit before left so_far now
+    → mid ≡ now ++ first → new ≡ mid ++ rest → GaveFault (records_at limit) before new ended NoMemory
+no_record limit left before now mid new so_far first rest ended g begun given =
+    fault_memory (records_at limit) before new ((g.part ++ first) ++ rest) ended
+    (grew_twice before mid new (g.part ++ first) rest
+    (grew_twice before now mid g.part first g.grown begun) given)
 
 -- ---- what is wrong at the front of octets
 

@@ -4,9 +4,11 @@ use Rattle.std.proofs.lemmas.List.{map-append}
 use Rattle.std.proofs.Common.{ℕ, ◌-◌, ◌≡◌, ◌∙◌, ap, sym, subst, List, ◌++◌, ◌∷◌, [], map, arith}
 use Rattle.std.proofs.lemmas.Result.{err_from_is_err_and}
 use Rattle.media_file.specs.Capture.{entry_seen}
-use Rattle.media_file.specs.Records.{Entry, entry_of}
+use Rattle.media_file.specs.Records.{Entry, entry_of, rest_text}
+use Rattle.std.specs.Prelude.{option_to_list}
 use Rattle.media_file.proofs.Gave.{fault_device}
-use Rattle.media_file.proofs.GaveLoops.{GoesGave, fault_memory, gave_end, gave_many, gave_record}
+use Rattle.media_file.proofs.GaveLoops.{GoesGave, fails_device, fails_memory, gave_end, no_record}
+use Rattle.media_file.proofs.GaveLoops.{gave_many, gave_record}
 use Rattle.media_file.proofs.GaveLoops.{gave_wrong}
 use Rattle.media_file.proofs.Loops.{GoesOn, goes_on_end, goes_on_fault, goes_on_many}
 use Rattle.media_file.proofs.Loops.{goes_on_more, none_left, one_less}
@@ -144,3 +146,130 @@ returns-clause-gave g c =
     gave_end c.args.limit c.loop-records.left _ _ _
     (map entry_seen c.loop-records.records.items) _ c.loop-records.invariant.gave
     (rw none at c.in_ok-first.ensures.gave) (c.in_ok-first.ensures.ended none)
+
+-- the device failed before a record
+
+pub returns-in_err-first-clause-read : goal.returns-in_err-first-clause-read
+returns-in_err-first-clause-read g c =
+    let p = err_from_is_err_and c.from_residual.result c.from_residual.ensures.1 in
+    rw p.1 tt
+
+pub returns-in_err-first-clause-gave : goal.returns-in_err-first-clause-gave
+returns-in_err-first-clause-gave g c =
+    let p = err_from_is_err_and c.from_residual.result c.from_residual.ensures.1 in
+    rw p.1 tt
+
+pub returns-in_err-first-clause-fault : goal.returns-in_err-first-clause-fault
+returns-in_err-first-clause-fault g c =
+    let p = err_from_is_err_and c.from_residual.result c.from_residual.ensures.1 in
+    rw (p.1, p.2) (fails_device _ _ c.in_err-first.field-0.0 c.in_err-first.ensures.fault.0)
+
+pub returns-in_err-first-clause-gave_wrong : goal.returns-in_err-first-clause-gave_wrong
+returns-in_err-first-clause-gave_wrong g c =
+    let p = err_from_is_err_and c.from_residual.result c.from_residual.ensures.1 in
+    let so_far = c.loop-records.invariant.gave in
+    rw (p.1, p.2)
+    (fault_device _ _ _ so_far.part _ c.in_err-first.field-0.0 c.in_err-first.ensures.fault.0
+    (c.in_err-first.ensures.kept ∙ so_far.grown))
+
+-- a record is at fault
+
+pub returns-in_err-head-clause-read : goal.returns-in_err-head-clause-read
+returns-in_err-head-clause-read g c =
+    let p =
+    err_from_is_err_and c.from_residual-in_err-head.result
+    c.from_residual-in_err-head.ensures.1 in
+    rw p.1 tt
+
+pub returns-in_err-head-clause-gave : goal.returns-in_err-head-clause-gave
+returns-in_err-head-clause-gave g c =
+    let p =
+    err_from_is_err_and c.from_residual-in_err-head.result
+    c.from_residual-in_err-head.ensures.1 in
+    rw p.1 tt
+
+-- the memory was refused
+
+pub returns-in_err-octets-clause-read : goal.returns-in_err-octets-clause-read
+returns-in_err-octets-clause-read g c =
+    let p =
+    err_from_is_err_and c.from_residual-in_err-octets.result
+    c.from_residual-in_err-octets.ensures.1 in
+    rw p.1 tt
+
+pub returns-in_err-octets-clause-gave : goal.returns-in_err-octets-clause-gave
+returns-in_err-octets-clause-gave g c =
+    let p =
+    err_from_is_err_and c.from_residual-in_err-octets.result
+    c.from_residual-in_err-octets.ensures.1 in
+    rw p.1 tt
+
+pub returns-in_err-octets-clause-fault : goal.returns-in_err-octets-clause-fault
+returns-in_err-octets-clause-fault g c =
+    let p =
+    err_from_is_err_and c.from_residual-in_err-octets.result
+    c.from_residual-in_err-octets.ensures.1 in
+    rw (p.1, p.2) (fails_memory _ _)
+
+pub returns-in_err-octets-clause-gave_wrong : goal.returns-in_err-octets-clause-gave_wrong
+returns-in_err-octets-clause-gave_wrong g c =
+    let p =
+    err_from_is_err_and c.from_residual-in_err-octets.result
+    c.from_residual-in_err-octets.ensures.1 in
+    rw (p.1, p.2)
+    (no_record c.args.limit c.loop-records.left _ _ _ _ (map entry_seen c.loop-records.records.items)
+    (option_to_list c.in_ok-first.field-0)
+    (rest_text (entry_of c.in_ok-head.head c.record_rest.new.buf)) _
+    c.loop-records.invariant.gave c.in_ok-first.ensures.gave c.in_ok-head.ensures.gave)
+
+pub returns-in_err-octets-clause-counted : goal.returns-in_err-octets-clause-counted
+returns-in_err-octets-clause-counted g c =
+    let p =
+    err_from_is_err_and c.from_residual-in_err-octets.result
+    c.from_residual-in_err-octets.ensures.1 in
+    rw (p.1, p.2)
+    (c.in_ok-head.ensures.counted ∙ c.in_ok-first.ensures.counted
+    ∙ c.loop-records.invariant.failures)
+
+-- the memory was refused
+
+pub returns-in_err-push-clause-read : goal.returns-in_err-push-clause-read
+returns-in_err-push-clause-read g c =
+    let p =
+    err_from_is_err_and c.from_residual-in_err-push.result
+    c.from_residual-in_err-push.ensures.1 in
+    rw p.1 tt
+
+pub returns-in_err-push-clause-gave : goal.returns-in_err-push-clause-gave
+returns-in_err-push-clause-gave g c =
+    let p =
+    err_from_is_err_and c.from_residual-in_err-push.result
+    c.from_residual-in_err-push.ensures.1 in
+    rw p.1 tt
+
+pub returns-in_err-push-clause-fault : goal.returns-in_err-push-clause-fault
+returns-in_err-push-clause-fault g c =
+    let p =
+    err_from_is_err_and c.from_residual-in_err-push.result
+    c.from_residual-in_err-push.ensures.1 in
+    rw (p.1, p.2) (fails_memory _ _)
+
+pub returns-in_err-push-clause-gave_wrong : goal.returns-in_err-push-clause-gave_wrong
+returns-in_err-push-clause-gave_wrong g c =
+    let p =
+    err_from_is_err_and c.from_residual-in_err-push.result
+    c.from_residual-in_err-push.ensures.1 in
+    rw (p.1, p.2)
+    (no_record c.args.limit c.loop-records.left _ _ _ _ (map entry_seen c.loop-records.records.items)
+    (option_to_list c.in_ok-first.field-0)
+    (rest_text (entry_of c.in_ok-head.head c.record_rest.new.buf)) _
+    c.loop-records.invariant.gave c.in_ok-first.ensures.gave c.in_ok-head.ensures.gave)
+
+pub returns-in_err-push-clause-counted : goal.returns-in_err-push-clause-counted
+returns-in_err-push-clause-counted g c =
+    let p =
+    err_from_is_err_and c.from_residual-in_err-push.result
+    c.from_residual-in_err-push.ensures.1 in
+    rw (p.1, p.2)
+    (c.in_ok-head.ensures.counted ∙ c.in_ok-first.ensures.counted
+    ∙ c.loop-records.invariant.failures)

@@ -77,3 +77,83 @@ returns-clause-gave g c =
     (record { text = t; records = records })) (sym text)
     (capture_gave c.args.limit _ _ _ _ _ records c.in_ok-text_len.ensures.gave
     c.in_ok-records.ensures.gave)
+
+-- where a call failed, what succeeds says nothing
+
+pub returns-in_err-buf-clause-read : goal.returns-in_err-buf-clause-read
+returns-in_err-buf-clause-read g c =
+    let p = err_from_is_err_and c.from_residual.result c.from_residual.ensures.1 in
+    rw p.1 tt
+
+pub returns-in_err-buf-clause-gave : goal.returns-in_err-buf-clause-gave
+returns-in_err-buf-clause-gave g c =
+    let p = err_from_is_err_and c.from_residual.result c.from_residual.ensures.1 in
+    rw p.1 tt
+
+pub returns-in_err-buf-clause-octets : goal.returns-in_err-buf-clause-octets
+returns-in_err-buf-clause-octets g c =
+    let p = err_from_is_err_and c.from_residual.result c.from_residual.ensures.1 in
+    rw p.1 tt
+
+pub returns-in_err-text_len-clause-read : goal.returns-in_err-text_len-clause-read
+returns-in_err-text_len-clause-read g c =
+    let p =
+    err_from_is_err_and c.from_residual-in_err-text_len.result
+    c.from_residual-in_err-text_len.ensures.1 in
+    rw p.1 tt
+
+pub returns-in_err-text_len-clause-gave : goal.returns-in_err-text_len-clause-gave
+returns-in_err-text_len-clause-gave g c =
+    let p =
+    err_from_is_err_and c.from_residual-in_err-text_len.result
+    c.from_residual-in_err-text_len.ensures.1 in
+    rw p.1 tt
+
+pub returns-in_err-text_len-clause-octets : goal.returns-in_err-text_len-clause-octets
+returns-in_err-text_len-clause-octets g c =
+    let p =
+    err_from_is_err_and c.from_residual-in_err-text_len.result
+    c.from_residual-in_err-text_len.ensures.1 in
+    rw p.1 tt
+
+pub returns-in_err-text-clause-read : goal.returns-in_err-text-clause-read
+returns-in_err-text-clause-read g c =
+    let p =
+    err_from_is_err_and c.from_residual-in_err-text.result
+    c.from_residual-in_err-text.ensures.1 in
+    rw p.1 tt
+
+pub returns-in_err-text-clause-gave : goal.returns-in_err-text-clause-gave
+returns-in_err-text-clause-gave g c =
+    let p =
+    err_from_is_err_and c.from_residual-in_err-text.result
+    c.from_residual-in_err-text.ensures.1 in
+    rw p.1 tt
+
+pub returns-in_err-text-clause-octets : goal.returns-in_err-text-clause-octets
+returns-in_err-text-clause-octets g c =
+    let p =
+    err_from_is_err_and c.from_residual-in_err-text.result
+    c.from_residual-in_err-text.ensures.1 in
+    rw p.1 tt
+
+pub returns-in_err-records-clause-read : goal.returns-in_err-records-clause-read
+returns-in_err-records-clause-read g c =
+    let p =
+    err_from_is_err_and c.from_residual-in_err-records.result
+    c.from_residual-in_err-records.ensures.1 in
+    rw p.1 tt
+
+pub returns-in_err-records-clause-gave : goal.returns-in_err-records-clause-gave
+returns-in_err-records-clause-gave g c =
+    let p =
+    err_from_is_err_and c.from_residual-in_err-records.result
+    c.from_residual-in_err-records.ensures.1 in
+    rw p.1 tt
+
+pub returns-in_err-records-clause-octets : goal.returns-in_err-records-clause-octets
+returns-in_err-records-clause-octets g c =
+    let p =
+    err_from_is_err_and c.from_residual-in_err-records.result
+    c.from_residual-in_err-records.ensures.1 in
+    rw p.1 tt

@@ -209,3 +209,44 @@ returns-in_err-write_record-clause-gave_wrong g c =
     (c.in_ok-head.ensures.counted ∙ c.in_ok-first.ensures.counted ∙ i.source_failures)
     (subst (λ (n : ℕ). CountsOne n (g.K.ByteSink.failures c.write_record.new.sink))
     i.sink_failures c.in_err-write_record.ensures.counted)))
+
+-- where a call failed, what succeeds says nothing
+
+pub returns-in_err-first-clause-moved : goal.returns-in_err-first-clause-moved
+returns-in_err-first-clause-moved g c =
+    let p = err_from_is_err_and c.from_residual.result c.from_residual.ensures.1 in
+    rw p.1 tt
+
+pub returns-in_err-first-clause-moved_read : goal.returns-in_err-first-clause-moved_read
+returns-in_err-first-clause-moved_read g c =
+    let p = err_from_is_err_and c.from_residual.result c.from_residual.ensures.1 in
+    rw p.1 tt
+
+pub returns-in_err-head-clause-moved : goal.returns-in_err-head-clause-moved
+returns-in_err-head-clause-moved g c =
+    let p =
+    err_from_is_err_and c.from_residual-in_err-head.result
+    c.from_residual-in_err-head.ensures.1 in
+    rw p.1 tt
+
+pub returns-in_err-head-clause-moved_read : goal.returns-in_err-head-clause-moved_read
+returns-in_err-head-clause-moved_read g c =
+    let p =
+    err_from_is_err_and c.from_residual-in_err-head.result
+    c.from_residual-in_err-head.ensures.1 in
+    rw p.1 tt
+
+pub returns-in_err-write_record-clause-moved : goal.returns-in_err-write_record-clause-moved
+returns-in_err-write_record-clause-moved g c =
+    let p =
+    err_from_is_err_and c.from_residual-in_err-write_record.result
+    c.from_residual-in_err-write_record.ensures.1 in
+    rw p.1 tt
+
+pub returns-in_err-write_record-clause-moved_read :
+    goal.returns-in_err-write_record-clause-moved_read
+returns-in_err-write_record-clause-moved_read g c =
+    let p =
+    err_from_is_err_and c.from_residual-in_err-write_record.result
+    c.from_residual-in_err-write_record.ensures.1 in
+    rw p.1 tt

@@ -1,3 +1,6 @@
+use Rattle.std.proofs.Common.{◌∙◌}
+use Rattle.std.proofs.Common.{ℕ}
+use Rattle.media_file.specs.Faults.{CountsFault}
 use Rattle.std.proofs.Common.{subst, sym}
 use Rattle.std.proofs.lemmas.Result.{err_from_is_err_and}
 use Rattle.st_format.specs.Fields.{fields_of}
@@ -125,3 +128,178 @@ returns-clause-bytes g c =
     (octets_both _ _ _
     (octets_both _ _ _ c.in_ok-read_version_one.ensures.bytes c.in_ok-format.ensures.bytes)
     c.in_ok-octets.ensures.bytes) c.in_ok-read_end.ensures.gave
+
+-- where a call failed, what succeeds says nothing
+
+pub returns-in_err-read_version_one-clause-whole : goal.returns-in_err-read_version_one-clause-whole
+returns-in_err-read_version_one-clause-whole g c =
+    let p = err_from_is_err_and c.from_residual.result c.from_residual.ensures.1 in
+    rw p.1 tt
+
+pub returns-in_err-read_version_one-clause-read : goal.returns-in_err-read_version_one-clause-read
+returns-in_err-read_version_one-clause-read g c =
+    let p = err_from_is_err_and c.from_residual.result c.from_residual.ensures.1 in
+    rw p.1 tt
+
+pub returns-in_err-read_version_one-clause-gave : goal.returns-in_err-read_version_one-clause-gave
+returns-in_err-read_version_one-clause-gave g c =
+    let p = err_from_is_err_and c.from_residual.result c.from_residual.ensures.1 in
+    rw p.1 tt
+
+pub returns-in_err-read_version_one-clause-bytes : goal.returns-in_err-read_version_one-clause-bytes
+returns-in_err-read_version_one-clause-bytes g c =
+    let p = err_from_is_err_and c.from_residual.result c.from_residual.ensures.1 in
+    rw p.1 tt
+
+pub returns-in_err-read_version_one-clause-octets :
+    goal.returns-in_err-read_version_one-clause-octets
+returns-in_err-read_version_one-clause-octets g c =
+    let p = err_from_is_err_and c.from_residual.result c.from_residual.ensures.1 in
+    rw p.1 tt
+
+pub returns-in_err-format-clause-whole : goal.returns-in_err-format-clause-whole
+returns-in_err-format-clause-whole g c =
+    let p =
+    err_from_is_err_and c.from_residual-in_err-format.result
+    c.from_residual-in_err-format.ensures.1 in
+    rw p.1 tt
+
+pub returns-in_err-format-clause-read : goal.returns-in_err-format-clause-read
+returns-in_err-format-clause-read g c =
+    let p =
+    err_from_is_err_and c.from_residual-in_err-format.result
+    c.from_residual-in_err-format.ensures.1 in
+    rw p.1 tt
+
+pub returns-in_err-format-clause-gave : goal.returns-in_err-format-clause-gave
+returns-in_err-format-clause-gave g c =
+    let p =
+    err_from_is_err_and c.from_residual-in_err-format.result
+    c.from_residual-in_err-format.ensures.1 in
+    rw p.1 tt
+
+pub returns-in_err-format-clause-bytes : goal.returns-in_err-format-clause-bytes
+returns-in_err-format-clause-bytes g c =
+    let p =
+    err_from_is_err_and c.from_residual-in_err-format.result
+    c.from_residual-in_err-format.ensures.1 in
+    rw p.1 tt
+
+pub returns-in_err-format-clause-octets : goal.returns-in_err-format-clause-octets
+returns-in_err-format-clause-octets g c =
+    let p =
+    err_from_is_err_and c.from_residual-in_err-format.result
+    c.from_residual-in_err-format.ensures.1 in
+    rw p.1 tt
+
+pub returns-in_err-octets-clause-whole : goal.returns-in_err-octets-clause-whole
+returns-in_err-octets-clause-whole g c =
+    let p =
+    err_from_is_err_and c.from_residual-in_err-octets.result
+    c.from_residual-in_err-octets.ensures.1 in
+    rw p.1 tt
+
+pub returns-in_err-octets-clause-read : goal.returns-in_err-octets-clause-read
+returns-in_err-octets-clause-read g c =
+    let p =
+    err_from_is_err_and c.from_residual-in_err-octets.result
+    c.from_residual-in_err-octets.ensures.1 in
+    rw p.1 tt
+
+pub returns-in_err-octets-clause-gave : goal.returns-in_err-octets-clause-gave
+returns-in_err-octets-clause-gave g c =
+    let p =
+    err_from_is_err_and c.from_residual-in_err-octets.result
+    c.from_residual-in_err-octets.ensures.1 in
+    rw p.1 tt
+
+pub returns-in_err-octets-clause-bytes : goal.returns-in_err-octets-clause-bytes
+returns-in_err-octets-clause-bytes g c =
+    let p =
+    err_from_is_err_and c.from_residual-in_err-octets.result
+    c.from_residual-in_err-octets.ensures.1 in
+    rw p.1 tt
+
+pub returns-in_err-octets-clause-octets : goal.returns-in_err-octets-clause-octets
+returns-in_err-octets-clause-octets g c =
+    let p =
+    err_from_is_err_and c.from_residual-in_err-octets.result
+    c.from_residual-in_err-octets.ensures.1 in
+    rw p.1 tt
+
+pub returns-in_err-read_end-clause-whole : goal.returns-in_err-read_end-clause-whole
+returns-in_err-read_end-clause-whole g c =
+    let p =
+    err_from_is_err_and c.from_residual-in_err-read_end.result
+    c.from_residual-in_err-read_end.ensures.1 in
+    rw p.1 tt
+
+pub returns-in_err-read_end-clause-read : goal.returns-in_err-read_end-clause-read
+returns-in_err-read_end-clause-read g c =
+    let p =
+    err_from_is_err_and c.from_residual-in_err-read_end.result
+    c.from_residual-in_err-read_end.ensures.1 in
+    rw p.1 tt
+
+pub returns-in_err-read_end-clause-gave : goal.returns-in_err-read_end-clause-gave
+returns-in_err-read_end-clause-gave g c =
+    let p =
+    err_from_is_err_and c.from_residual-in_err-read_end.result
+    c.from_residual-in_err-read_end.ensures.1 in
+    rw p.1 tt
+
+pub returns-in_err-read_end-clause-bytes : goal.returns-in_err-read_end-clause-bytes
+returns-in_err-read_end-clause-bytes g c =
+    let p =
+    err_from_is_err_and c.from_residual-in_err-read_end.result
+    c.from_residual-in_err-read_end.ensures.1 in
+    rw p.1 tt
+
+pub returns-in_err-read_end-clause-octets : goal.returns-in_err-read_end-clause-octets
+returns-in_err-read_end-clause-octets g c =
+    let p =
+    err_from_is_err_and c.from_residual-in_err-read_end.result
+    c.from_residual-in_err-read_end.ensures.1 in
+    rw p.1 tt
+
+-- failures are counted once
+
+pub returns-in_err-read_version_one-clause-counted : goal.returns-in_err-read_version_one-clause-counted
+returns-in_err-read_version_one-clause-counted g c =
+    let p = err_from_is_err_and c.from_residual.result c.from_residual.ensures.1 in
+    rw (p.1, p.2) c.in_err-read_version_one.ensures.counted
+
+pub returns-in_err-format-clause-counted : goal.returns-in_err-format-clause-counted
+returns-in_err-format-clause-counted g c =
+    let p = err_from_is_err_and c.from_residual-in_err-format.result c.from_residual-in_err-format.ensures.1 in
+    rw (p.1, p.2)
+    (subst
+    (λ (n : ℕ). CountsFault c.in_err-format.field-0.0 n
+    (g.S.ByteSource.failures c.read_format.new.source))
+    c.in_ok-read_version_one.ensures.counted
+    c.in_err-format.ensures.counted)
+
+pub returns-in_err-octets-clause-counted : goal.returns-in_err-octets-clause-counted
+returns-in_err-octets-clause-counted g c =
+    let p = err_from_is_err_and c.from_residual-in_err-octets.result c.from_residual-in_err-octets.ensures.1 in
+    rw (p.1, p.2)
+    (subst
+    (λ (n : ℕ). CountsFault c.in_err-octets.field-0.0 n
+    (g.S.ByteSource.failures c.read_groups.new.source))
+    (c.in_ok-format.ensures.counted ∙ c.in_ok-read_version_one.ensures.counted)
+    c.in_err-octets.ensures.counted)
+
+pub returns-in_err-read_end-clause-counted : goal.returns-in_err-read_end-clause-counted
+returns-in_err-read_end-clause-counted g c =
+    let p = err_from_is_err_and c.from_residual-in_err-read_end.result c.from_residual-in_err-read_end.ensures.1 in
+    rw (p.1, p.2)
+    (subst
+    (λ (n : ℕ). CountsFault c.in_err-read_end.field-0.0 n
+    (g.S.ByteSource.failures c.read_end.new.source))
+    (c.in_ok-octets.ensures.counted ∙ c.in_ok-format.ensures.counted ∙ c.in_ok-read_version_one.ensures.counted)
+    c.in_err-read_end.ensures.counted)
+
+pub returns-clause-counted : goal.returns-clause-counted
+returns-clause-counted g c =
+    c.in_ok-read_end.ensures.counted ∙ c.in_ok-octets.ensures.counted
+    ∙ c.in_ok-format.ensures.counted ∙ c.in_ok-read_version_one.ensures.counted

@@ -1,4 +1,4 @@
-use Rattle.std.proofs.Common.{◌∙◌, ap}
+use Rattle.std.proofs.Common.{◌∙◌, ap, refl}
 use Rattle.st_format.specs.Position.{sample_count}
 use Rattle.pgroup_pack.specs.Packing.{Agree}
 use Rattle.std.proofs.Common.{◌≡◌, ℕ, List, length, drop, subst, sym, arith}
@@ -11,6 +11,7 @@ use Rattle.media_file.specs.Fields.{Fails, GaveFault, GaveValue, Takes, field_at
 use Rattle.media_file.specs.PictureFile.{raster_at}
 use Rattle.media_file.proofs.PackedRaster.{groups_fail, groups_give}
 use Rattle.media_file.proofs.Gave.{fault_memory, fault_one}
+use Rattle.media_file.proofs.GaveLoops.{fails_memory}
 use Rattle.media_file.proofs.GavePictures.{groups_gave}
 use Rattle.st_format.proofs.Histories.{grew_none}
 use Rattle.media_file.proofs.packed_reading.read_groups.Goals as goal
@@ -105,3 +106,84 @@ returns-clause-gave g c =
 
 pub returns-clause-bytes : goal.returns-clause-bytes
 returns-clause-bytes g c = c.in_ok-read_field.ensures.bytes
+
+-- the memory was refused
+
+pub returns-in_err-resize-clause-size : goal.returns-in_err-resize-clause-size
+returns-in_err-resize-clause-size g c =
+    let p =
+    err_from_is_err_and c.from_residual.result
+    c.from_residual.ensures.1 in
+    rw p.1 tt
+
+pub returns-in_err-resize-clause-read : goal.returns-in_err-resize-clause-read
+returns-in_err-resize-clause-read g c =
+    let p =
+    err_from_is_err_and c.from_residual.result
+    c.from_residual.ensures.1 in
+    rw p.1 tt
+
+pub returns-in_err-resize-clause-gave : goal.returns-in_err-resize-clause-gave
+returns-in_err-resize-clause-gave g c =
+    let p =
+    err_from_is_err_and c.from_residual.result
+    c.from_residual.ensures.1 in
+    rw p.1 tt
+
+pub returns-in_err-resize-clause-bytes : goal.returns-in_err-resize-clause-bytes
+returns-in_err-resize-clause-bytes g c =
+    let p =
+    err_from_is_err_and c.from_residual.result
+    c.from_residual.ensures.1 in
+    rw p.1 tt
+
+pub returns-in_err-resize-clause-fault : goal.returns-in_err-resize-clause-fault
+returns-in_err-resize-clause-fault g c =
+    let p =
+    err_from_is_err_and c.from_residual.result
+    c.from_residual.ensures.1 in
+    rw (p.1, p.2) (fails_memory _ _)
+
+pub returns-in_err-resize-clause-gave_wrong : goal.returns-in_err-resize-clause-gave_wrong
+returns-in_err-resize-clause-gave_wrong g c =
+    let p =
+    err_from_is_err_and c.from_residual.result
+    c.from_residual.ensures.1 in
+    rw (p.1, p.2) (fault_memory _ _ _ _ (grew_none _))
+
+pub returns-in_err-resize-clause-counted : goal.returns-in_err-resize-clause-counted
+returns-in_err-resize-clause-counted g c =
+    let p =
+    err_from_is_err_and c.from_residual.result
+    c.from_residual.ensures.1 in
+    rw (p.1, p.2) refl
+
+-- the source failed
+
+pub returns-in_err-read_field-clause-size : goal.returns-in_err-read_field-clause-size
+returns-in_err-read_field-clause-size g c =
+    let p =
+    err_from_is_err_and c.from_residual-in_err-read_field.result
+    c.from_residual-in_err-read_field.ensures.1 in
+    rw p.1 tt
+
+pub returns-in_err-read_field-clause-read : goal.returns-in_err-read_field-clause-read
+returns-in_err-read_field-clause-read g c =
+    let p =
+    err_from_is_err_and c.from_residual-in_err-read_field.result
+    c.from_residual-in_err-read_field.ensures.1 in
+    rw p.1 tt
+
+pub returns-in_err-read_field-clause-gave : goal.returns-in_err-read_field-clause-gave
+returns-in_err-read_field-clause-gave g c =
+    let p =
+    err_from_is_err_and c.from_residual-in_err-read_field.result
+    c.from_residual-in_err-read_field.ensures.1 in
+    rw p.1 tt
+
+pub returns-in_err-read_field-clause-bytes : goal.returns-in_err-read_field-clause-bytes
+returns-in_err-read_field-clause-bytes g c =
+    let p =
+    err_from_is_err_and c.from_residual-in_err-read_field.result
+    c.from_residual-in_err-read_field.ensures.1 in
+    rw p.1 tt

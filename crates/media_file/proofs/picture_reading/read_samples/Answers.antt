@@ -8,6 +8,7 @@ use Rattle.media_file.specs.Fields.{Fails, GaveFault, field_at}
 use Rattle.media_file.specs.PictureFile.{GaveSpelled, GivesSpelled}
 use Rattle.media_file.proofs.Spelt.{piece_fails, spelled_more, spelled_none}
 use Rattle.media_file.proofs.Gave.{fault_memory}
+use Rattle.media_file.proofs.GaveLoops.{fails_memory}
 use Rattle.media_file.proofs.GavePictures.{gave_cut, gave_no_samples, gave_samples, spelled_grew}
 use Rattle.st_format.proofs.Histories.{grew_none}
 use Rattle.media_file.proofs.picture_reading.read_samples.Goals as goal
@@ -143,3 +144,116 @@ returns-in_err-read_piece-clause-gave_wrong g c =
 
 pub returns-clause-gave : goal.returns-clause-gave
 returns-clause-gave g c = c.loop-octets.invariant.gave
+
+-- the memory was refused
+
+pub returns-in_err-samples-clause-size : goal.returns-in_err-samples-clause-size
+returns-in_err-samples-clause-size g c =
+    let p =
+    err_from_is_err_and c.from_residual.result
+    c.from_residual.ensures.1 in
+    rw p.1 tt
+
+pub returns-in_err-samples-clause-read : goal.returns-in_err-samples-clause-read
+returns-in_err-samples-clause-read g c =
+    let p =
+    err_from_is_err_and c.from_residual.result
+    c.from_residual.ensures.1 in
+    rw p.1 tt
+
+pub returns-in_err-samples-clause-gave : goal.returns-in_err-samples-clause-gave
+returns-in_err-samples-clause-gave g c =
+    let p =
+    err_from_is_err_and c.from_residual.result
+    c.from_residual.ensures.1 in
+    rw p.1 tt
+
+pub returns-in_err-samples-clause-fault : goal.returns-in_err-samples-clause-fault
+returns-in_err-samples-clause-fault g c =
+    let p =
+    err_from_is_err_and c.from_residual.result
+    c.from_residual.ensures.1 in
+    rw (p.1, p.2) (fails_memory _ _)
+
+pub returns-in_err-samples-clause-gave_wrong : goal.returns-in_err-samples-clause-gave_wrong
+returns-in_err-samples-clause-gave_wrong g c =
+    let p =
+    err_from_is_err_and c.from_residual.result
+    c.from_residual.ensures.1 in
+    rw (p.1, p.2) (fault_memory _ _ _ _ (grew_none _))
+
+pub returns-in_err-samples-clause-counted : goal.returns-in_err-samples-clause-counted
+returns-in_err-samples-clause-counted g c =
+    let p =
+    err_from_is_err_and c.from_residual.result
+    c.from_residual.ensures.1 in
+    rw (p.1, p.2) refl
+
+pub returns-in_err-extend_from_slice-clause-size : goal.returns-in_err-extend_from_slice-clause-size
+returns-in_err-extend_from_slice-clause-size g c =
+    let p =
+    err_from_is_err_and c.from_residual-in_err-extend_from_slice.result
+    c.from_residual-in_err-extend_from_slice.ensures.1 in
+    rw p.1 tt
+
+pub returns-in_err-extend_from_slice-clause-read : goal.returns-in_err-extend_from_slice-clause-read
+returns-in_err-extend_from_slice-clause-read g c =
+    let p =
+    err_from_is_err_and c.from_residual-in_err-extend_from_slice.result
+    c.from_residual-in_err-extend_from_slice.ensures.1 in
+    rw p.1 tt
+
+pub returns-in_err-extend_from_slice-clause-gave : goal.returns-in_err-extend_from_slice-clause-gave
+returns-in_err-extend_from_slice-clause-gave g c =
+    let p =
+    err_from_is_err_and c.from_residual-in_err-extend_from_slice.result
+    c.from_residual-in_err-extend_from_slice.ensures.1 in
+    rw p.1 tt
+
+pub returns-in_err-extend_from_slice-clause-fault : goal.returns-in_err-extend_from_slice-clause-fault
+returns-in_err-extend_from_slice-clause-fault g c =
+    let p =
+    err_from_is_err_and c.from_residual-in_err-extend_from_slice.result
+    c.from_residual-in_err-extend_from_slice.ensures.1 in
+    rw (p.1, p.2) (fails_memory _ _)
+
+pub returns-in_err-extend_from_slice-clause-gave_wrong : goal.returns-in_err-extend_from_slice-clause-gave_wrong
+returns-in_err-extend_from_slice-clause-gave_wrong g c =
+    let p =
+    err_from_is_err_and c.from_residual-in_err-extend_from_slice.result
+    c.from_residual-in_err-extend_from_slice.ensures.1 in
+    rw (p.1, p.2)
+    (fault_memory _ _ _ _
+    (spelled_grew (bits_of c.args.format.now.depth) _ _ _
+    (gave_samples (bits_of c.args.format.now.depth) _ _ _ c.loop-octets.samples.items
+    c.read_piece.new.samples c.loop-octets.invariant.gave c.in_ok-read_piece.ensures.gave)))
+
+pub returns-in_err-extend_from_slice-clause-counted : goal.returns-in_err-extend_from_slice-clause-counted
+returns-in_err-extend_from_slice-clause-counted g c =
+    let p =
+    err_from_is_err_and c.from_residual-in_err-extend_from_slice.result
+    c.from_residual-in_err-extend_from_slice.ensures.1 in
+    rw (p.1, p.2) (c.in_ok-read_piece.ensures.counted ∙ c.loop-octets.invariant.failures)
+
+-- the source failed
+
+pub returns-in_err-read_piece-clause-size : goal.returns-in_err-read_piece-clause-size
+returns-in_err-read_piece-clause-size g c =
+    let p =
+    err_from_is_err_and c.from_residual-in_err-read_piece.result
+    c.from_residual-in_err-read_piece.ensures.1 in
+    rw p.1 tt
+
+pub returns-in_err-read_piece-clause-read : goal.returns-in_err-read_piece-clause-read
+returns-in_err-read_piece-clause-read g c =
+    let p =
+    err_from_is_err_and c.from_residual-in_err-read_piece.result
+    c.from_residual-in_err-read_piece.ensures.1 in
+    rw p.1 tt
+
+pub returns-in_err-read_piece-clause-gave : goal.returns-in_err-read_piece-clause-gave
+returns-in_err-read_piece-clause-gave g c =
+    let p =
+    err_from_is_err_and c.from_residual-in_err-read_piece.result
+    c.from_residual-in_err-read_piece.ensures.1 in
+    rw p.1 tt

@@ -241,3 +241,62 @@ returns-then-branch-head-clause-wrong g c =
     (grew_all _ _ _ _ e.gave ten) e.room
     (sym c.in_ok-head.ensures.exact) e2.given e2.gave
     (omega (arith, length-take k c.read_whole-2.new.buf)) refl
+
+-- where a call failed, what succeeds says nothing
+
+pub returns-in_err-read_whole-clause-within : goal.returns-in_err-read_whole-clause-within
+returns-in_err-read_whole-clause-within g c =
+    let p = err_from_is_err_and c.from_residual.result c.from_residual.ensures.1 in
+    rw p.1 tt
+
+pub returns-in_err-read_whole-clause-read : goal.returns-in_err-read_whole-clause-read
+returns-in_err-read_whole-clause-read g c =
+    let p = err_from_is_err_and c.from_residual.result c.from_residual.ensures.1 in
+    rw p.1 tt
+
+pub returns-in_err-read_whole-clause-gave : goal.returns-in_err-read_whole-clause-gave
+returns-in_err-read_whole-clause-gave g c =
+    let p = err_from_is_err_and c.from_residual.result c.from_residual.ensures.1 in
+    rw p.1 tt
+
+pub returns-in_err-head-clause-within : goal.returns-in_err-head-clause-within
+returns-in_err-head-clause-within g c =
+    let p =
+    err_from_is_err_and c.from_residual-in_err-head.result
+    c.from_residual-in_err-head.ensures.1 in
+    rw p.1 tt
+
+pub returns-in_err-head-clause-read : goal.returns-in_err-head-clause-read
+returns-in_err-head-clause-read g c =
+    let p =
+    err_from_is_err_and c.from_residual-in_err-head.result
+    c.from_residual-in_err-head.ensures.1 in
+    rw p.1 tt
+
+pub returns-in_err-head-clause-gave : goal.returns-in_err-head-clause-gave
+returns-in_err-head-clause-gave g c =
+    let p =
+    err_from_is_err_and c.from_residual-in_err-head.result
+    c.from_residual-in_err-head.ensures.1 in
+    rw p.1 tt
+
+pub returns-in_err-read_whole-2-clause-within : goal.returns-in_err-read_whole-2-clause-within
+returns-in_err-read_whole-2-clause-within g c =
+    let p =
+    err_from_is_err_and c.from_residual-in_err-read_whole-2.result
+    c.from_residual-in_err-read_whole-2.ensures.1 in
+    rw p.1 tt
+
+pub returns-in_err-read_whole-2-clause-read : goal.returns-in_err-read_whole-2-clause-read
+returns-in_err-read_whole-2-clause-read g c =
+    let p =
+    err_from_is_err_and c.from_residual-in_err-read_whole-2.result
+    c.from_residual-in_err-read_whole-2.ensures.1 in
+    rw p.1 tt
+
+pub returns-in_err-read_whole-2-clause-gave : goal.returns-in_err-read_whole-2-clause-gave
+returns-in_err-read_whole-2-clause-gave g c =
+    let p =
+    err_from_is_err_and c.from_residual-in_err-read_whole-2.result
+    c.from_residual-in_err-read_whole-2.ensures.1 in
+    rw p.1 tt
