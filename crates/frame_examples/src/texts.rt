@@ -1,4 +1,5 @@
-//! Samplings, depths, paths, rates, formats and counts as texts, and what is read of texts.
+//! Samplings, depths, paths, rates, formats and counts as texts, and read of these texts. Which
+//! other texts are read, and which are refused, clauses say.
 use crate::checks::met;
 use frame_assembly::Counts;
 use st_format::{Depth, Format, FormatFault, FormatTextFault, Path, Rate, Sampling, WordFault};
@@ -6,6 +7,7 @@ use std::alloc::{AllocError, Global};
 use std::fmt::Display;
 use std::str::FromStr;
 use std::test::Fail;
+use test_kit::words::all_say;
 
 /// Whether a value is written as this text.
 fn is_written<T: Display>(alloc: Global, value: &T, text: &str) -> Result<bool, AllocError> {
@@ -50,43 +52,6 @@ fn each_word(rt: HostRuntime) -> Result<(), Fail> {
     Ok(())
 }
 
-/// Texts that are no word for a sampling, a depth or a path.
-const NO_WORDS: [&str; 15] = [
-    "",
-    " ",
-    "rgb",
-    "RGB ",
-    " RGB",
-    "YCbCr-4:2:0",
-    "YCbCr-4:2:2\n",
-    "08",
-    "+8",
-    "-8",
-    "8.0",
-    "9",
-    "a",
-    "AB",
-    "A ",
-];
-
-/// Numbers of bits that no depth has.
-const NO_DEPTHS: [u32; 6] = [0, 1, 9, 11, 14, u32::MAX];
-
-#[test]
-fn no_word(rt: HostRuntime) {
-    for text in &NO_WORDS {
-        met(
-            &rt,
-            read::<_, Sampling>(*text) == Err(WordFault::UnknownSampling),
-        );
-        met(&rt, read::<_, Depth>(*text) == Err(WordFault::UnknownDepth));
-        met(&rt, read::<_, Path>(*text) == Err(WordFault::UnknownPath));
-    }
-    for bits in &NO_DEPTHS {
-        met(&rt, Depth::try_from(*bits) == Err(WordFault::UnknownDepth));
-    }
-}
-
 /// Rates as they are given, and their texts in lowest terms.
 const RATES: [(u32, u32, &str); 8] = [
     (60, 1, "60"),
@@ -110,50 +75,6 @@ fn each_rate(rt: HostRuntime) -> Result<(), Fail> {
         met(&rt, read(*text) == Ok(rate));
     }
     Ok(())
-}
-
-const BAD_RATE: FormatTextFault = FormatTextFault::Refused(FormatFault::BadRate);
-
-/// Texts, and the numbers of the rate that they say.
-const RATE_TEXTS: [(&str, Result<(u32, u32), FormatTextFault>); 27] = [
-    ("60/1", Ok((60, 1))),
-    ("120/2", Ok((60, 1))),
-    ("060", Ok((60, 1))),
-    ("0000000060/0000000001", Ok((60, 1))),
-    ("00000000060", Err(FormatTextFault::NotRate)),
-    ("", Err(FormatTextFault::NotRate)),
-    ("/", Err(FormatTextFault::NotRate)),
-    ("60/", Err(FormatTextFault::NotRate)),
-    ("/1", Err(FormatTextFault::NotRate)),
-    ("60//1", Err(FormatTextFault::NotRate)),
-    ("60000/1001/1", Err(FormatTextFault::NotRate)),
-    ("+60", Err(FormatTextFault::NotRate)),
-    ("-60", Err(FormatTextFault::NotRate)),
-    (" 60", Err(FormatTextFault::NotRate)),
-    ("60 ", Err(FormatTextFault::NotRate)),
-    ("60 /1", Err(FormatTextFault::NotRate)),
-    ("60.0", Err(FormatTextFault::NotRate)),
-    ("0x3C", Err(FormatTextFault::NotRate)),
-    ("4294967296", Err(FormatTextFault::NotRate)),
-    ("60/4294967296", Err(FormatTextFault::NotRate)),
-    ("4294967295", Err(BAD_RATE)),
-    ("0", Err(BAD_RATE)),
-    ("60/0", Err(BAD_RATE)),
-    ("0/0", Err(BAD_RATE)),
-    ("301", Err(BAD_RATE)),
-    ("1001/60000", Err(BAD_RATE)),
-    ("1000001/1000000", Err(BAD_RATE)),
-];
-
-#[test]
-fn rate_texts(rt: HostRuntime) {
-    for (text, numbers) in &RATE_TEXTS {
-        let said = match read::<_, Rate>(*text) {
-            Ok(rate) => Ok((rate.n, rate.d)),
-            Err(fault) => Err(fault),
-        };
-        met(&rt, said == *numbers);
-    }
 }
 
 /// A format as it is given, and its text.
@@ -186,114 +107,34 @@ fn each_format(rt: HostRuntime) -> Result<(), Fail> {
     Ok(())
 }
 
-/// Texts that say the format `RGB 8 2 1 60`.
-const SAME_FORMATS: [&str; 3] = ["RGB 8 2 1 60/1", "RGB 8 02 01 060", "RGB 8 2 1 120/2"];
-
-/// Texts that are no format.
-const NO_FORMATS: [&str; 23] = [
-    "",
-    "RGB",
-    "RGB 8 2 1",
-    "RGB 8 2 1 ",
-    "    ",
-    "RGB  8 2 1 60",
-    "RGB 8  2 1 60",
-    "RGB 8 2 1  60",
-    " RGB 8 2 1 60",
-    "RGB 8 2 1 60 ",
-    "RGB 8 2 1 60\n",
-    "RGB\t8 2 1 60",
-    "RGB 8 2 1 60 1",
-    "RGB 8 2 1 60/",
-    "RGB 8 2 1 60000/1001/1",
-    "RGB 08 2 1 60",
-    "RGB 9 2 1 60",
-    "rgb 8 2 1 60",
-    "8 RGB 2 1 60",
-    "RGB 8 +2 1 60",
-    "RGB 8 2 -1 60",
-    "RGB 8 4294967298 1 60",
-    "format RGB 8 2 1 60",
-];
-
-/// Texts of formats that there aren't.
-const REFUSED: [(&str, FormatFault); 6] = [
-    ("RGB 8 3 1 60", FormatFault::BadWidth),
-    ("RGB 10 2 1 60", FormatFault::BadWidth),
-    ("RGB 8 0 0 0", FormatFault::BadWidth),
-    ("RGB 8 2 0 0", FormatFault::BadHeight),
-    ("RGB 8 2 1 301", FormatFault::BadRate),
-    ("RGB 8 2 1 60/0", FormatFault::BadRate),
-];
-
-#[test]
-fn format_texts(rt: HostRuntime) {
-    let Ok(format) = Format::new(Sampling::Rgb, Depth::D8, 2, 1, 60, 1) else {
-        met(&rt, false);
-        return;
-    };
-    for text in &SAME_FORMATS {
-        met(&rt, read(*text) == Ok(format));
-    }
-    for text in &NO_FORMATS {
-        met(
-            &rt,
-            read::<_, Format>(*text) == Err(FormatTextFault::NotFormat),
-        );
-    }
-    for (text, fault) in &REFUSED {
-        met(
-            &rt,
-            read::<_, Format>(*text) == Err(FormatTextFault::Refused(*fault)),
-        );
-    }
-}
-
-const OF_WORDS: [(WordFault, u8, &str, &str); 3] = [
+const OF_WORDS: [(WordFault, &str); 3] = [
     (
         WordFault::UnknownSampling,
-        1,
-        "UnknownSampling",
         "a sampling is YCbCr-4:2:2, YCbCr-4:4:4 or RGB",
     ),
-    (
-        WordFault::UnknownDepth,
-        2,
-        "UnknownDepth",
-        "a depth is 8, 10, 12 or 16",
-    ),
-    (WordFault::UnknownPath, 3, "UnknownPath", "a path is A or B"),
+    (WordFault::UnknownDepth, "a depth is 8, 10, 12 or 16"),
+    (WordFault::UnknownPath, "a path is A or B"),
 ];
 
-const OF_TEXTS: [(FormatTextFault, u8, &str, &str); 2] = [
+const OF_TEXTS: [(FormatTextFault, &str); 3] = [
     (
         FormatTextFault::NotFormat,
-        4,
-        "NotFormat",
         "a format is S B W H N/D, as YCbCr-4:2:2 10 1920 1080 60000/1001",
     ),
     (
         FormatTextFault::NotRate,
-        5,
-        "NotRate",
         "a rate is N or N/D, as 60 or 60000/1001",
+    ),
+    (
+        FormatTextFault::Refused(FormatFault::BadRate),
+        "the rate's N or D isn't from 1 to 1000000, or N/D isn't from 1 to 300",
     ),
 ];
 
 #[test]
-fn faults_of_texts(rt: HostRuntime) -> Result<(), Fail> {
-    for (fault, number, name, words) in &OF_WORDS {
-        met(&rt, fault.number() == *number && fault.name() == *name);
-        met(&rt, is_written(rt.alloc(), fault, *words)?);
-    }
-    for (fault, number, name, words) in &OF_TEXTS {
-        met(&rt, fault.number() == *number && fault.name() == *name);
-        met(&rt, is_written(rt.alloc(), fault, *words)?);
-    }
-    met(&rt, BAD_RATE.number() == 3 && BAD_RATE.name() == "BadRate");
-    let words = FormatFault::BadRate.to_string(rt.alloc())?;
-    met(&rt, is_written(rt.alloc(), &BAD_RATE, words.as_str())?);
-    Ok(())
+fn faults_of_texts(rt: HostRuntime) {
+    met(&rt, all_say(rt.alloc(), &OF_WORDS));
+    met(&rt, all_say(rt.alloc(), &OF_TEXTS));
 }
 
 #[test]

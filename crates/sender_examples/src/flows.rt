@@ -1,10 +1,9 @@
 //! Where the video of an SDP text is sent to, flows as texts, and the path of a datagram.
-use crate::checks::{met, none_fails};
+use crate::checks::none_fails;
 use flow::{Flows, read_flow};
 use sdp_format::read_flows;
 use st_format::Path;
 use std::alloc::{AllocError, Global};
-use std::process::Abort;
 use std::test::Fail;
 
 /// SDP texts, and the flows of each or its fault.
@@ -122,6 +121,47 @@ fn flows_of_texts(rt: HostRuntime) -> Result<(), Fail> {
     Ok(())
 }
 
+/// Texts of two flows, the address and the port that a datagram was sent to, and its path.
+const SENT: [(&str, &str, &[u8], u16, Option<Path>); 5] = [
+    (
+        "5004",
+        "239.1.1.2:5006",
+        &[239, 1, 1, 1],
+        5004,
+        Some(Path::A),
+    ),
+    (
+        "5004",
+        "239.1.1.2:5006",
+        &[239, 1, 1, 2],
+        5006,
+        Some(Path::B),
+    ),
+    ("5004", "239.1.1.2:5006", &[239, 1, 1, 1], 5006, None),
+    (
+        "[ff3e::1]:5004",
+        "5004",
+        &[0xff, 0x3e, 0, 0, 0, 0, 0, 0, 0, 0, 0, 0, 0, 0, 0, 1],
+        5004,
+        Some(Path::A),
+    ),
+    (
+        "[ff3e::1]:5004",
+        "5004",
+        &[0xff, 0x3e, 0, 0, 0, 0, 0, 0, 0, 0, 0, 0, 0, 0, 0],
+        5004,
+        Some(Path::B),
+    ),
+];
+
+/// Texts of two flows, and whether both are one place.
+const PLACES: [(&str, &str, bool); 4] = [
+    ("[ff3e::1]:5004", "[FF3E:0::1]:5004", true),
+    ("[ff3e::1]:5004", "5004", false),
+    ("5004", "239.1.1.2:5006", false),
+    ("x", "x", false),
+];
+
 /// The flows of two texts.
 fn flows_of(a: &str, b: &str) -> Flows {
     Flows {
@@ -130,21 +170,32 @@ fn flows_of(a: &str, b: &str) -> Flows {
     }
 }
 
-/// Datagrams to 239.1.1.1, 239.1.1.2 and ff3e::1.
+/// The place of the first datagram that comes by another path.
+fn comes_otherwise() -> Option<u64> {
+    let mut place = 0u64;
+    for (a, b, address, port, path) in &SENT {
+        if flows_of(a, b).path_of(address, *port) != *path {
+            return Some(place);
+        }
+        place = place.wrapping_add(1);
+    }
+    None
+}
+
+/// The place of the first two flows that are otherwise one place or two.
+fn stands_otherwise() -> Option<u64> {
+    let mut place = 0u64;
+    for (a, b, is_one) in &PLACES {
+        if flows_of(a, b).is_one_place() != *is_one {
+            return Some(place);
+        }
+        place = place.wrapping_add(1);
+    }
+    None
+}
+
 #[test]
 fn paths_of_datagrams(rt: HostRuntime) {
-    let any = flows_of("5004", "239.1.1.2:5006");
-    met(&rt, any.path_of(&[239, 1, 1, 1], 5004) == Some(Path::A));
-    met(&rt, any.path_of(&[239, 1, 1, 2], 5006) == Some(Path::B));
-    met(&rt, any.path_of(&[239, 1, 1, 1], 5006) == None);
-    let six = flows_of("[ff3e::1]:5004", "5004");
-    let octets = [0xff, 0x3e, 0, 0, 0, 0, 0, 0, 0, 0, 0, 0, 0, 0, 0, 1];
-    met(&rt, six.path_of(&octets, 5004) == Some(Path::A));
-    met(&rt, six.path_of(&octets[..15], 5004) == Some(Path::B));
-    met(&rt, !six.is_one_place() && !any.is_one_place());
-    met(
-        &rt,
-        flows_of("[ff3e::1]:5004", "[FF3E:0::1]:5004").is_one_place(),
-    );
-    met(&rt, !flows_of("x", "x").is_one_place());
+    none_fails(&rt, comes_otherwise());
+    none_fails(&rt, stands_otherwise());
 }

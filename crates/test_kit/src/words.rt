@@ -9,3 +9,13 @@ pub fn says<F: Display>(alloc: Global, fault: &F, words: &str) -> bool {
         Err(_) => false,
     }
 }
+
+/// Whether each fault displays in the words beside it.
+pub fn all_say<F: Display>(alloc: Global, faults: &[(F, &str)]) -> bool {
+    for (fault, words) in faults {
+        if !says(alloc, fault, words) {
+            return false;
+        }
+    }
+    true
+}
