@@ -32,3 +32,4 @@ pub mod PacketDatagrams
 pub mod WholeRuns
 pub mod NextTakes
 pub mod WholeTakes
+pub mod Entering

@@ -73,10 +73,19 @@ with_interface k i =
 abbrev pub with_packet : Known → ℕ → List ℕ → PacketHead → Result (Known × Stepped) RecordingFault
 with_packet k at body p = Ok (k, Some (Some (recorded_at p at body)))
 
+-- what the body of a block does that describes an interface
+abbrev pub describe_of : Known → List ℕ → Result (Known × Stepped) RecordingFault
+describe_of k body = interface_of k.order body >>= λ i. with_interface k i
+
+-- the step of a packet that was read, or the fault
+abbrev pub packet_step : Result PacketHead RecordingFault → ℕ → Result Step RecordingFault
+packet_step (Ok p) at = Ok (Packet p at)
+packet_step (Err f) at = Err f
+
 -- what a block's body does
 unfoldable pub enter_of : Known → ℕ → List ℕ → Result (Known × Stepped) RecordingFault
 enter_of k type body =
-    if type == 1 then (interface_of k.order body >>= λ i. with_interface k i) else
+    if type == 1 then describe_of k body else
     (if type == 2
     then (obsolete_of k.order k.interfaces body >>= λ p. with_packet k 20 body p) else
     (if type == 3

@@ -48,7 +48,7 @@ const RESOLUTION: u16 = 9;
 const OFFSET: u16 = 14;
 
 /// An interface, as a section describes it.
-#[derive(Clone, Copy, Debug, Default, PartialEq, Eq)]
+#[derive(Clone, Copy, Default)]
 pub struct Interface {
     /// The number of the link layer.
     pub link: u16,

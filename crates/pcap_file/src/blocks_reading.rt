@@ -247,7 +247,8 @@ fn read_section_by<S: ByteSource>(
         (λ v. Takes (section_by order front.now) (S.to_give source.old) (S.to_give source.new) v) }
     ensures gave { IfOk result (λ v. GaveValue (section_by order front.now) (S.gave source.old)
         (S.gave source.new) v) }
-    ensures fault { IfErr result (λ f. Fails (section_by order front.now) (S.to_give source.old) f) }
+    ensures fault { IfErr result
+        (λ f. Fails (section_by order front.now) (S.to_give source.old) f) }
     ensures gave_wrong { IfErr result (λ f. GaveFault (section_by order front.now)
         (S.gave source.old) (S.gave source.new) (S.ended source.new) f) }
     ensures counted { CountsDevice (S.failures source.old) (S.failures source.new) result }

@@ -70,7 +70,7 @@ impl NoDatagram {
 }
 
 /// What a datagram says: addresses and octets are parts of the octets that were read.
-#[derive(Clone, Copy, Debug, PartialEq, Eq)]
+#[derive(Clone, Copy)]
 pub struct DatagramView<'a> {
     /// Whence: 4 octets of IPv4, or 16 of IPv6.
     pub source: &'a [u8],

@@ -27,7 +27,7 @@ const UDP: u8 = 17;
 const FRAGMENT: u8 = 44;
 
 /// What a packet says: each is a part of the octets that were read.
-#[derive(Clone, Copy, Debug, PartialEq, Eq)]
+#[derive(Clone, Copy)]
 pub struct PacketView<'a> {
     /// Whence: 4 octets, or 16.
     pub source: &'a [u8],

@@ -20,8 +20,6 @@ mod pcap;
 mod pcap_reading;
 mod recording;
 mod section;
-#[cfg(test)]
-mod tests;
 mod udp;
 mod writing;
 mod writing6;

@@ -17,7 +17,7 @@ use crate::datagram::NoDatagram;
 use crate::numbers::number_16;
 
 /// A version of IP.
-#[derive(Clone, Copy, Debug, PartialEq, Eq)]
+#[derive(Clone, Copy)]
 pub enum IpVersion {
     V4,
     V6,
@@ -25,7 +25,7 @@ pub enum IpVersion {
 
 /// A link layer: what stands before a packet in a recording. The numbers are those of the registry
 /// of link-layer header types.
-#[derive(Clone, Copy, Debug, PartialEq, Eq)]
+#[derive(Clone, Copy)]
 pub enum Link {
     /// 0: the family of addresses in four octets, in the order of the machine that recorded.
     Null,
@@ -46,7 +46,7 @@ pub enum Link {
 }
 
 /// What stands behind the header of a link layer: a part of the octets that were read.
-#[derive(Clone, Copy, Debug, PartialEq, Eq)]
+#[derive(Clone, Copy)]
 pub struct LinkView<'a> {
     /// The version of IP that the header says.
     pub version: IpVersion,

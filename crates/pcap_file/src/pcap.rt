@@ -27,7 +27,7 @@ const NANOSECONDS: u32 = 0xa1b2_3c4d;
 const GZIP: u16 = 0x1f8b;
 
 /// What stands before the packets of a file.
-#[derive(Clone, Copy, Debug, PartialEq, Eq)]
+#[derive(Clone, Copy)]
 pub struct PcapHead {
     /// The order of all numbers of the file.
     pub order: ByteOrder,

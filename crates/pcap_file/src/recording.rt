@@ -30,7 +30,7 @@ pub enum Layout {
 
 /// A packet that was read. Its octets stand in the buffer behind `place` others, as many as its
 /// head says were captured.
-#[derive(Clone, Copy, Debug, PartialEq, Eq)]
+#[derive(Clone, Copy)]
 pub struct Packet {
     pub head: PacketHead,
     pub place: usize,

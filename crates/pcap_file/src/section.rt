@@ -4,7 +4,8 @@ ghost use Rattle.std.specs.Prelude.{◌≡◌, ◌≤◌, ◌<◌, ◌+◌, leng
 ghost use Rattle.std.specs.Prelude.{Ok, Err};
 ghost use Rattle.pcap_file.specs.Fields.{CountsDevice, Fails, GaveFault, GaveValue, IsContent};
 ghost use Rattle.pcap_file.specs.Fields.{Takes};
-ghost use Rattle.pcap_file.specs.NgSteps.{GaveStep, GoesOn, IsWithin, enter_of, first_at, fresh};
+ghost use Rattle.pcap_file.specs.NgSteps.{GaveStep, GoesOn, IsWithin, describe_of, enter_of, first_at};
+ghost use Rattle.pcap_file.specs.NgSteps.{fresh, packet_step};
 ghost use Rattle.pcap_file.specs.NgSteps.{known, other_step};
 ghost use Rattle.pcap_file.specs.NgSteps.{section_step};
 ghost use Rattle.pcap_file.specs.NgSteps.{step_at, step_seen};
@@ -56,8 +57,37 @@ impl Section {
     }
 }
 
+/// Describes one more interface, by the body of its block.
+fn describe(section: &mut Section, body: &[u8]) -> Result<Step, RecordingFault>
+    ensures ok { IfOk result (λ s. describe_of (known section.old) body.now
+        ≡ Ok (known section.new, step_seen s body.now)) }
+    ensures within { IfOk result (λ s. IsWithin s (length body.now)) }
+    ensures goes_on { IfOk result (λ s. GoesOn s) }
+    ensures fault { IfErr result (λ f. describe_of (known section.old) body.now ≡ Err f) }
+    ensures named { IfErr result IsContent }
+{
+    let interface = read_interface(section.order, body)?;
+    if section.interfaces.len() >= INTERFACES {
+        return Err(RecordingFault::TooManyInterfaces);
+    }
+    section.interfaces.push(interface);
+    Ok(Step::Passed)
+}
+
+/// The step of a packet that was read, whose octets stand behind so many others.
+fn packet_step(
+    read: Result<PacketHead, RecordingFault>,
+    place: usize,
+) -> Result<Step, RecordingFault>
+    ensures { result ≡ packet_step read place }
+{
+    match read {
+        Ok(packet) => Ok(Step::Packet(packet, place)),
+        Err(fault) => Err(fault),
+    }
+}
+
 /// What the body of a block does.
-#[tactic(auto, unfolding(crate::specs::NgSteps::enter_of))]
 fn enter(section: &mut Section, kind: u32, body: &[u8]) -> Result<Step, RecordingFault>
     ensures ok { IfOk result (λ s. enter_of (known section.old) kind body.now
         ≡ Ok (known section.new, step_seen s body.now)) }
@@ -67,24 +97,17 @@ fn enter(section: &mut Section, kind: u32, body: &[u8]) -> Result<Step, Recordin
     ensures named { IfErr result IsContent }
 {
     if kind == INTERFACE {
-        let interface = read_interface(section.order, body)?;
-        if section.interfaces.len() >= INTERFACES {
-            return Err(RecordingFault::TooManyInterfaces);
-        }
-        section.interfaces.push(interface);
-        return Ok(Step::Passed);
+        return describe(section, body);
     }
+    let interfaces = section.interfaces.as_slice();
     if kind == OBSOLETE {
-        let packet = read_obsolete(section.order, section.interfaces.as_slice(), body)?;
-        return Ok(Step::Packet(packet, 20));
+        return packet_step(read_obsolete(section.order, interfaces, body), 20);
     }
     if kind == SIMPLE {
-        let packet = read_simple(section.order, section.interfaces.as_slice(), body)?;
-        return Ok(Step::Packet(packet, 4));
+        return packet_step(read_simple(section.order, interfaces, body), 4);
     }
     if kind == ENHANCED {
-        let packet = read_enhanced(section.order, section.interfaces.as_slice(), body)?;
-        return Ok(Step::Packet(packet, 20));
+        return packet_step(read_enhanced(section.order, interfaces, body), 20);
     }
     Ok(Step::Passed)
 }

@@ -15,7 +15,7 @@ use crate::link::Link;
 use byteorder::{BigEndian, ByteOrder};
 
 /// Whence a datagram comes and where to it goes.
-#[derive(Clone, Copy, Debug, PartialEq, Eq)]
+#[derive(Clone, Copy)]
 pub struct Envelope {
     /// The address of IPv4 that sends it.
     pub source: [u8; 4],

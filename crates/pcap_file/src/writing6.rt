@@ -12,7 +12,7 @@ use crate::link::Link;
 use crate::writing::{complement_of, word_sum, write_record_head, write_udp};
 
 /// Whence a datagram of IPv6 comes and where to it goes.
-#[derive(Clone, Copy, Debug, PartialEq, Eq)]
+#[derive(Clone, Copy)]
 pub struct Envelope6 {
     /// The address of IPv6 that sends it.
     pub source: [u8; 16],
