@@ -1,0 +1,7 @@
+mod RunLaws
+mod CountLaws
+mod Different
+mod Tables
+mod Keys
+mod BothLaws
+mod StreamLaws
