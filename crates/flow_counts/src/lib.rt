@@ -10,8 +10,6 @@ mod noted;
 mod rtp_count;
 mod seen;
 mod table;
-#[cfg(test)]
-mod tests;
 mod times;
 
 pub use count::FlowCount;

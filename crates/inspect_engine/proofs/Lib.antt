@@ -1,2 +1,2 @@
 pub mod Noting
-pub mod Reasons
+pub mod Telling

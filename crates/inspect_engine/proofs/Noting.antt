@@ -25,11 +25,13 @@ use Rattle.pcap_file.specs.declared.fault.RecordingFault.TheVariants.{BadInterfa
 use Rattle.pcap_file.specs.declared.fault.RecordingFault.TheVariants.{TooManyInterfaces}
 use Rattle.pcap_file.specs.declared.fault.RecordingFault.TheVariants.{PacketTooLong, Packed}
 use Rattle.pcap_file.specs.declared.fault.RecordingFault.TheVariants.{TooManyBlocks}
-use Rattle.inspect_engine.specs.Arrivals.{IsAddress, arrival_by, arrivals_of, reason_by, reasons_of}
+use Rattle.inspect_engine.specs.Arrivals.{IsAddress, arrival_by, arrivals_of, omission_by, omissions_of}
 use Rattle.inspect_engine.specs.Inspected.{HasStopped, Notes, NotesAll, NotesBehind, NotesOctets}
 use Rattle.inspect_engine.specs.Inspected.{NotesUnless}
 use Rattle.inspect_engine.specs.Inspected.{end_of, is_cut, is_told}
-use Rattle.inspect_engine.specs.LeftOut.{left_out_of}
+use Rattle.left_out_counts.specs.LeftOut.{left_out_of}
+use Rattle.left_out_counts.specs.declared.omission.Omission.{Omission}
+use Rattle.left_out_counts.specs.declared.omission.Omission.TheVariants as by
 use Rattle.inspect_engine.specs.declared.inspection.Inspection.{Inspection}
 use Rattle.pcap_file.specs.PacketDatagram.{HasDatagram, datagram_in}
 
@@ -38,13 +40,13 @@ use Rattle.pcap_file.specs.PacketDatagram.{HasDatagram, datagram_in}
 abbrev here : Recorded → List Arrival
 here p = arrival_by p (datagram_in p)
 
-abbrev why : Recorded → List NoDatagram
-why p = reason_by (datagram_in p)
+abbrev why : Recorded → List Omission
+why p = omission_by (datagram_in p)
 
 pub notes_none : {A : Type 0} (s : Inspection A) → Notes [] s s
 notes_none s = record {
   flows = λ arrivals e. e ∙ ap flow_counts (sym (append-nil arrivals));
-  left_out = λ reasons e. e ∙ ap left_out_of (sym (append-nil reasons));
+  left_out = λ omissions e. e ∙ ap left_out_of (sym (append-nil omissions));
 }
 
 pub notes_then : {A : Type 0} (p q : List Recorded) (old mid new : Inspection A)
@@ -55,11 +57,11 @@ notes_then p q old mid new first second = record {
       ∙ ap flow_counts
       (append_assoc arrivals (arrivals_of p) (arrivals_of q)
       ∙ ap (λ (x : List Arrival). arrivals ++ x) (sym (flat_map-append here p q)));
-  left_out = λ reasons e.
-      second.left_out (reasons ++ reasons_of p) (first.left_out reasons e)
+  left_out = λ omissions e.
+      second.left_out (omissions ++ omissions_of p) (first.left_out omissions e)
       ∙ ap left_out_of
-      (append_assoc reasons (reasons_of p) (reasons_of q)
-      ∙ ap (λ (x : List NoDatagram). reasons ++ x) (sym (flat_map-append why p q)));
+      (append_assoc omissions (omissions_of p) (omissions_of q)
+      ∙ ap (λ (x : List Omission). omissions ++ x) (sym (flat_map-append why p q)));
 }
 
 pub notes_datagram : {A : Type 0} (p : Recorded) (d : Datagram) (a : Arrival)
@@ -73,17 +75,17 @@ notes_datagram p d a old new e is flows same = record {
       ∙ ap (λ (x : List Arrival). flow_counts (arrivals ++ x))
       (sym (ap (λ (r : Result Datagram NoDatagram). arrival_by p r ++ []) e
       ∙ ap (λ (x : List Arrival). x ++ []) is));
-  left_out = λ reasons was.
+  left_out = λ omissions was.
       same ∙ was
       ∙ ap left_out_of
-      (sym (ap (λ (r : Result Datagram NoDatagram). reasons ++ (reason_by r ++ [])) e
-      ∙ append-nil reasons));
+      (sym (ap (λ (r : Result Datagram NoDatagram). omissions ++ (omission_by r ++ [])) e
+      ∙ append-nil omissions));
 }
 
 pub notes_reason : {A : Type 0} (p : Recorded) (reason : NoDatagram) (old new : Inspection A)
     → datagram_in p ≡ Err reason → new.flows ≡ old.flows
-    → ((reasons : List NoDatagram) → old.left_out ≡ left_out_of reasons
-    → new.left_out ≡ left_out_of (reasons ++ reason ∷ []))
+    → ((omissions : List Omission) → old.left_out ≡ left_out_of omissions
+    → new.left_out ≡ left_out_of (omissions ++ by.NoDatagram reason ∷ []))
     → Notes (p ∷ []) old new
 notes_reason p reason old new e same left_out = record {
   flows = λ arrivals was.
@@ -91,10 +93,10 @@ notes_reason p reason old new e same left_out = record {
       ∙ ap flow_counts
       (sym (ap (λ (r : Result Datagram NoDatagram). arrivals ++ (arrival_by p r ++ [])) e
       ∙ append-nil arrivals));
-  left_out = λ reasons was.
-      left_out reasons was
-      ∙ ap (λ (x : List NoDatagram). left_out_of (reasons ++ x))
-      (sym (ap (λ (r : Result Datagram NoDatagram). reason_by r ++ []) e));
+  left_out = λ omissions was.
+      left_out omissions was
+      ∙ ap (λ (x : List Omission). left_out_of (omissions ++ x))
+      (sym (ap (λ (r : Result Datagram NoDatagram). omission_by r ++ []) e));
 }
 
 -- the address of a datagram

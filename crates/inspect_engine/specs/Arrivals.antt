@@ -5,6 +5,8 @@ use Rattle.std.specs.declared.net.socket_addr.SocketAddr.{SocketAddr}
 use Rattle.std.specs.declared.net.socket_addr.SocketAddr.TheVariants.{V4, V6}
 use Rattle.std.specs.Net.Addr.{segments_of}
 use Rattle.flow_counts.specs.Flows.{Arrival}
+use Rattle.left_out_counts.specs.declared.omission.Omission.{Omission}
+use Rattle.left_out_counts.specs.declared.omission.Omission.TheVariants as by
 use Rattle.pcap_file.specs.declared.datagram.NoDatagram.{NoDatagram}
 use Rattle.pcap_file.specs.declared.pcap.PacketHead.{PacketHead}
 use Rattle.pcap_file.specs.PacketDatagram.{datagram_in}
@@ -45,9 +47,9 @@ abbrev pub arrivals_of : List Recorded → List Arrival
 arrivals_of packets = flat_map (λ p. arrival_by p (datagram_in p)) packets
 
 -- the reason why a packet has none
-abbrev pub reason_by : Result Datagram NoDatagram → List NoDatagram
-reason_by (Ok d) = []
-reason_by (Err reason) = reason ∷ []
+abbrev pub omission_by : Result Datagram NoDatagram → List Omission
+omission_by (Ok d) = []
+omission_by (Err reason) = by.NoDatagram reason ∷ []
 
-abbrev pub reasons_of : List Recorded → List NoDatagram
-reasons_of packets = flat_map (λ p. reason_by (datagram_in p)) packets
+abbrev pub omissions_of : List Recorded → List Omission
+omissions_of packets = flat_map (λ p. omission_by (datagram_in p)) packets

@@ -7,18 +7,18 @@ use Rattle.st_format.specs.History.{IsRead}
 use Rattle.flow_counts.specs.Counts.{flow_counts}
 use Rattle.flow_counts.specs.Flows.{Arrival}
 use Rattle.flow_counts.specs.Lines.{count_text}
-use Rattle.pcap_file.specs.declared.datagram.NoDatagram.{NoDatagram}
 use Rattle.pcap_file.specs.declared.fault.RecordingFault.{RecordingFault}
 use Rattle.pcap_file.specs.declared.fault.RecordingFault.TheVariants.{Truncated}
 use Rattle.pcap_file.specs.Fields.{CountsFault, IfContent}
 use Rattle.pcap_file.specs.PcapReading.{Recorded}
 use Rattle.pcap_file.specs.Runs.{HasFailed, HasRead, HasReadAll, Seen, fault_in, packets_in}
-use Rattle.inspect_engine.specs.Arrivals.{arrivals_of, reasons_of}
-use Rattle.inspect_engine.specs.LeftOut.{left_out_of, left_out_text}
+use Rattle.inspect_engine.specs.Arrivals.{arrivals_of, omissions_of}
+use Rattle.left_out_counts.specs.LeftOut.{left_out_of, left_out_text}
 use Rattle.flow_counts.specs.declared.count.FlowCount.{FlowCount}
 use Rattle.run_outcome.specs.declared.refusal.Refusal.{Refusal}
 use Rattle.run_outcome.specs.declared.refusal.Refusal.TheVariants.{Recording}
-use Rattle.inspect_engine.specs.declared.left_out.LeftOut.{LeftOut}
+use Rattle.left_out_counts.specs.declared.left_out.LeftOut.{LeftOut}
+use Rattle.left_out_counts.specs.declared.omission.Omission.{Omission}
 use Rattle.inspect_engine.specs.declared.inspection.Inspection.{Inspection}
 
 -- Packets were noted: the flows are then those of the datagrams before and of theirs, and so are
@@ -26,8 +26,8 @@ use Rattle.inspect_engine.specs.declared.inspection.Inspection.{Inspection}
 pub record Notes {A : Type 0} (packets : List Recorded) (old new : Inspection A) : Type 0 where
   pub flows : (arrivals : List Arrival) → old.flows ≡ flow_counts arrivals
       → new.flows ≡ flow_counts (arrivals ++ arrivals_of packets)
-  pub left_out : (reasons : List NoDatagram) → old.left_out ≡ left_out_of reasons
-      → new.left_out ≡ left_out_of (reasons ++ reasons_of packets)
+  pub left_out : (omissions : List Omission) → old.left_out ≡ left_out_of omissions
+      → new.left_out ≡ left_out_of (omissions ++ omissions_of packets)
 
 -- a source gave all of a recording of these packets, or as far as a fault
 abbrev pub HasStopped : ℕ → List ℕ → List ℕ → Type 0 → Option RecordingFault → List Recorded
@@ -104,7 +104,9 @@ end_lines counts l = end_text (length counts) l ++ codes "\n"
 abbrev pub inspection_text : List FlowCount → LeftOut → List ℕ
 inspection_text counts l = flat_map count_lines counts ++ end_lines counts l
 
--- by how a run ends: one that was cut short is told all the same, and at another refusal nothing is
-abbrev pub IfCut : Refusal → Type 0 → Type 0 → Type 0
-IfCut (Recording Truncated) P Q = P
-IfCut _ P Q = Q
+-- the refusal of a recording that was read: its first fault, which isn't that it was cut short
+abbrev pub IsFaultOf : ℕ → (List ℕ → Type 0) → Refusal → Type 0
+IsFaultOf room told (Recording Truncated) = ⊥
+IsFaultOf room told (Recording f) =
+    (octets : List ℕ) → told octets → fault_in room octets ≡ Some f
+IsFaultOf room told r = ⊥

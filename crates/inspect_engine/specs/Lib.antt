@@ -1,3 +1,3 @@
 pub mod Arrivals
-pub mod LeftOut
 pub mod Inspected
+pub mod Told

@@ -2,12 +2,12 @@
 ghost use Rattle.std.specs.Prelude.{◌≡◌, [], ◌∷◌, OnOk};
 ghost use Rattle.flow_counts.specs.Counts.{flow_counts};
 ghost use Rattle.inspect_engine.specs.Arrivals.{captured};
-ghost use Rattle.inspect_engine.specs.LeftOut.{left_out_of};
+ghost use Rattle.left_out_counts.specs.LeftOut.{left_out_of};
 ghost use Rattle.inspect_engine.specs.Inspected.{Notes};
 
 use crate::destination::destination_of;
-use crate::left_out::LeftOut;
 use flow_counts::{FlowTable, Noted};
+use left_out_counts::{LeftOut, Omission};
 use pcap_file::{PacketHead, packet_datagram};
 use std::alloc::{AllocError, Allocator};
 
@@ -50,7 +50,7 @@ impl<A: Allocator + Copy> Inspection<A> {
                 })
             }
             Err(reason) => {
-                self.left_out.note(reason);
+                self.left_out.note(Omission::NoDatagram(reason));
                 Ok(())
             }
         }

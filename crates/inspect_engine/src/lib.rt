@@ -2,14 +2,14 @@
 #![tactic(auto)]
 
 mod destination;
+mod inspecting;
 mod inspection;
-mod left_out;
 mod printing;
 mod recording;
 mod recordings;
 
+pub use inspecting::inspect;
 pub use inspection::Inspection;
-pub use left_out::LeftOut;
 pub use printing::print_inspection;
 pub use recording::note_recording;
 pub use recordings::note_recordings;

@@ -4,9 +4,9 @@ ghost use Rattle.run_outcome.specs.Fault.{Accounts, IfRefused, counts};
 ghost use Rattle.inspect_engine.specs.Inspected.{inspection_text};
 
 use crate::inspection::Inspection;
-use crate::left_out::LeftOut;
 use arrayvec::ArrayString;
 use flow_counts::FlowCount;
+use left_out_counts::LeftOut;
 use run_outcome::Fault;
 use st_format::{ByteSink, write_whole};
 use std::alloc::Allocator;

@@ -1,11 +1,14 @@
 use Rattle.std.proofs.Common.{◌≡◌, ◌∙◌, ◌<◌, ◌+◌, ◌||◌, Bool, Ok, ap, arith, drop, length, set, subst, sym, take}
 use Rattle.std.proofs.Math.ListN.{length-set}
 use Rattle.std.proofs.lemmas.List.{drop-drop, drop-set-lt}
+use Rattle.std.proofs.lemmas.Result.{err_from_is_err_and}
 use Rattle.std.specs.List.{zip}
 use Rattle.run_outcome.specs.Moments.{WasRead}
 use Rattle.run_outcome.proofs.SetSums.{set_counted}
-use Rattle.inspect_engine.specs.Inspected.{NotesAll, NotesOctets, end_of}
+use Rattle.run_outcome.proofs.Refusals.{of_refusal_map}
+use Rattle.inspect_engine.specs.Inspected.{IsFaultOf, NotesAll, NotesOctets, end_of}
 use Rattle.inspect_engine.proofs.Noting.{more_noted}
+use Rattle.inspect_engine.proofs.Telling.{one_of}
 use Rattle.inspect_engine.proofs.recordings.note_recordings.Goals as goal
 use Rattle.inspect_engine.proofs.recordings.note_recordings.Goals.{then-cut, else-cut}
 
@@ -47,3 +50,21 @@ loop-place-preserved g c =
           c.note_one.new.inspection) (sym c.index-recordings-place.is)
           c.in_ok-short.ensures.noted)));
     }
+
+pub returns-in_err-short-clause-refusal : goal.returns-in_err-short-clause-refusal
+returns-in_err-short-clause-refusal g c =
+    let l = c.loop-place in
+    let i = l.invariant in
+    let told = WasRead g.S.ByteSource.gave g.S.ByteSource.ended in
+    let d = c.index-recordings-place.result in
+    let y = c.note_one.new.recording in
+    let lt : l.place < length l.recordings = omega (arith, c.loop-place-test.true, i.len) in
+    let p = err_from_is_err_and c.from_residual.result c.from_residual.ensures.1 in
+    rw (p.1, p.2)
+    (of_refusal_map c.in_err-short.field-0.0
+    (λ r is.
+    one_of (λ z. IsFaultOf (length c.args.buf.now) (told z) r) c.args.recordings.now l.recordings
+    l.place d y i.behind i.len lt c.index-recordings-place.is
+    (subst (λ (n : _). IsFaultOf n (told (d, y)) r) l.auto.buf
+    (subst (λ (s : _). IsFaultOf (length l.buf) (told (s, y)) r)
+    (sym c.index-recordings-place.is) is))) c.in_err-short.ensures.refusal)

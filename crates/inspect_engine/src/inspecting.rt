@@ -1,0 +1,60 @@
+//! The engine of `inspect`.
+ghost use Rattle.std.specs.Prelude.{◌≡◌, ◌∷◌, [], IfErr, IfOk, OnOk, false, length, sum_by, vec_len};
+ghost use Rattle.std.specs.List.{zip};
+ghost use Rattle.run_outcome.specs.Fault.{Accounts, counts};
+ghost use Rattle.run_outcome.specs.Moments.{WasRead};
+ghost use Rattle.run_outcome.specs.Refusing.{OfRefusal};
+ghost use Rattle.inspect_engine.specs.Told.{IsInspectRefusal, Tells};
+
+use crate::inspection::Inspection;
+use crate::printing::print_inspection;
+use crate::recordings::note_recordings;
+use pcap_file::RecordingFault;
+use run_outcome::{Fault, Refusal};
+use st_format::{ByteSink, ByteSource};
+use std::alloc::{AllocError, Allocator};
+
+/// How many octets a packet or a block of a recording may have (own).
+const ROOM: usize = 1_048_576;
+
+/// Room for a packet or a block.
+fn room<A: Allocator>(alloc: A) -> Result<Vec<u8, A>, AllocError>
+    ensures { IfOk result (λ buf. vec_len buf ≡ 1048576) }
+{
+    vec![in alloc; 0u8; ROOM]
+}
+
+/// Prints which flows of UDP recordings have, in the order in which they first came: of each the
+/// datagrams, octets, payload types, sources and times. Then how many flows there are, and how many
+/// packets have no datagram, by the reason.
+///
+/// Each recording is read once, one after the other.
+///
+/// # Errors
+///
+/// The refusal of the first recording that has a fault but `Truncated`, and then nothing is printed.
+/// Where some were only cut short all is printed that was read, and `Truncated` is the refusal. Else
+/// that a device failed, or that memory was wanted.
+pub fn inspect<A, S, O>(alloc: A, recordings: &mut [S], output: &mut O) -> Result<(), Fault>
+where
+    A: Allocator + Copy,
+    S: ByteSource,
+    O: ByteSink,
+    ensures len { length recordings.new ≡ length recordings.old }
+    ensures told { OnOk result (Tells (WasRead S.gave S.ended)
+        (zip recordings.old recordings.new) false (O.took output.old) (O.took output.new)) }
+    ensures refusal { IfErr result (λ f. OfRefusal f (IsInspectRefusal (WasRead S.gave S.ended)
+        (zip recordings.old recordings.new) (O.took output.old) (O.took output.new))) }
+    ensures failures { Accounts result (counts (sum_by S.failures recordings.old)
+        (sum_by S.failures recordings.new) ∷ counts (O.failures output.old) (O.failures output.new)
+        ∷ []) }
+{
+    let mut inspection = Inspection::new(alloc);
+    let mut buf = room(alloc)?;
+    let is_cut = note_recordings(&mut inspection, recordings, &mut buf)?;
+    print_inspection(&inspection, output)?;
+    if is_cut {
+        return Err(Fault::Refused(Refusal::Recording(RecordingFault::Truncated)));
+    }
+    Ok(())
+}
