@@ -1,12 +1,17 @@
 -- What was written of recordings, by what was read of them.
 use Rattle.std.proofs.Common.{◌≡◌, ℕ, ◌+◌, inl, inr, List, [], ◌∷◌, ◌++◌, Option, None}
 use Rattle.std.proofs.Common.{refl, sym, ap, subst, ◌∙◌, append_assoc, append-nil, arith, map}
-use Rattle.std.proofs.Common.{length}
+use Rattle.std.proofs.Common.{Bool, Err, Ok, Result, Some, cond, length}
+use Rattle.std.specs.Prelude.{is_none, is_some}
+use Rattle.std.specs.List.{cons_option}
+use Rattle.std.proofs.lemmas.List.{length-append}
 use Rattle.std.proofs.lemmas.List.Sums.{sum_by-cons}
-use Rattle.std.specs.List.{AllByRecursion, sum_by, zip}
+use Rattle.std.specs.List.{AllByRecursion, AllZip, zip}
 use Rattle.st_format.specs.History.{IsRead}
 use Rattle.st_format.proofs.Histories.{since_is}
 use Rattle.flow.specs.declared.flows.Flows.{Flows}
+use Rattle.left_out_counts.specs.LeftOut.{counted, left_out_of}
+use Rattle.left_out_counts.specs.declared.omission.Omission.{Omission}
 use Rattle.media_file.specs.Fronts.{front_text}
 use Rattle.media_file.specs.Records.{Entry, records_text}
 use Rattle.media_file.specs.declared.front.Version.TheVariants.{Two}
@@ -19,8 +24,15 @@ use Rattle.run_outcome.specs.declared.line.Line.{Line}
 use Rattle.run_outcome.specs.declared.line.Line.TheVariants as line
 use Rattle.run_outcome.specs.declared.refusal.Refusal.{Refusal}
 use Rattle.run_outcome.specs.declared.refusal.Refusal.TheVariants as refusal
+use Rattle.st_format.specs.declared.path.Path.{Path}
 use Rattle.st_format.specs.declared.path.Path.TheVariants.{A, B}
-use Rattle.recording_engines.specs.Imported.{AreOver, AreRead, AsksFlows, Imports}
+use Rattle.flow.specs.Flow.{path_to}
+use Rattle.pcap_file.specs.PacketDatagram.{datagram_in}
+use Rattle.pcap_file.specs.PcapReading.{Recorded}
+use Rattle.pcap_file.specs.Udp.{Datagram}
+use Rattle.pcap_file.specs.declared.datagram.NoDatagram.{NoDatagram}
+use Rattle.recording_engines.specs.Strands.{moment_of}
+use Rattle.recording_engines.specs.Imported.{AreOver, AsksFlows, Imports}
 use Rattle.recording_engines.specs.Imported.{IsJoinRefusal}
 use Rattle.recording_engines.specs.Joining.{Joins, JoinsTo, OneAt, OneHasMore, Strand}
 use Rattle.recording_engines.specs.Opened.{AllOpened}
@@ -29,9 +41,11 @@ use Rattle.recording_engines.specs.Progress.{count_of}
 use Rattle.recording_engines.specs.declared.joining.Written.{Written}
 use Rattle.recording_engines.specs.Steps.{Ahead, AllLay, Coming, HasJoined, Standing, left_by}
 use Rattle.recording_engines.specs.Steps.{lefts, nothing, whole, wholes}
-use Rattle.recording_engines.specs.Strands.{counted, left_out, left_out_in, room, strand_in}
-use Rattle.recording_engines.specs.Strands.{TellsPaths, strands_in}
-use Rattle.recording_engines.specs.Tracks.{AllStand, HasReadTo, StandsAt}
+use Rattle.recording_engines.specs.Strands.{TellsPaths, entry_by, left_out, left_out_in, omission_by}
+use Rattle.recording_engines.specs.Strands.{entry_of, omission_of, omissions_in, omissions_of, other_by}
+use Rattle.recording_engines.specs.Strands.{record_of, room, strand_in, strands_in}
+use Rattle.recording_engines.specs.Tracks.{AllStand, AreLeftOut, HasReadTo, StandsAt}
+use Rattle.recording_engines.specs.declared.importing.ImportCounts.{ImportCounts}
 use Rattle.recording_engines.specs.declared.track.Track.{Track}
 use Rattle.recording_engines.proofs.Joined.{all_over}
 use Rattle.recording_engines.proofs.Standing.{all_lay, over_all}
@@ -44,7 +58,7 @@ pub record IsWhole (strands : List Strand) (ss : List Standing) : Type 0 where
 
 pub strands_whole : {S : Type 0} (gave : S → List ℕ) (ended : S → Type 0) (zs : List (S × S))
     (fs : List Flows) (ss : List Standing) (octets : List (List ℕ)) → AllLay gave ended zs fs ss
-    → AreRead (WasRead gave ended) zs octets → IsWhole (strands_in fs octets) ss
+    → AllZip (WasRead gave ended) zs octets → IsWhole (strands_in fs octets) ss
 strands_whole gave ended [] [] [] octets lay read = record { rs = []; same = refl }
 strands_whole gave ended [] [] (s ∷ ss) octets lay read = absurd lay
 strands_whole gave ended [] (f ∷ fs) ss octets lay read = absurd lay
@@ -98,7 +112,7 @@ has_more (s ∷ ss) (inr one) (r ∷ rs) = inr (has_more ss one rs)
 left_one : {A : Type 0} (before now : List ℕ) (ended : Type 0) (t : Track A) (s : Standing)
     (octets : List ℕ) → StandsAt before now ended t s → t.next ≡ None
     → IsRead before now ended octets
-    → t.left_out ≡ counted (left_out t.flows (packets_in room octets))
+    → t.left_out ≡ left_out_of (omissions_of t.flows (packets_in room octets))
 left_one before now ended t s octets stands none read =
     let all = subst (λ (n : Option Packet). HasReadTo t.flows n t.room.items before now ended
     t.layout stands.packets s.ahead) none stands.read in
@@ -109,30 +123,62 @@ left_one before now ended t s octets stands none read =
     ∙ ap (λ (l : List ℕ). had.part ++ l) (read.all had.over) ∙ append-nil had.part in
     let packets : packets_in room octets ≡ stands.packets =
     ap (packets_in room) part ∙ had.packets_are in
-    stands.left_out ∙ ap counted (stands.left ∙ ap (left_out t.flows) (sym packets))
-
-add_counted : (n m a b : ℕ) → a ≡ counted n → counted m ≡ counted b
-    → counted (n + m) ≡ counted (a + b)
-add_counted n m a b first others = omega (arith, first, others)
+    stands.left_out ∙ ap left_out_of (stands.left ∙ ap (omissions_of t.flows) (sym packets))
 
 pub left_all : {A S : Type 0} (gave : S → List ℕ) (ended : S → Type 0) (zs : List (S × S))
     (ts : List (Track A)) (ss : List Standing) (octets : List (List ℕ))
     → AllStand gave ended zs ts ss → AllByRecursion (λ t. t.next ≡ None) ts
-    → AreRead (WasRead gave ended) zs octets
-    → counted (left_out_in (map (λ t. t.flows) ts) octets)
-    ≡ counted (sum_by (λ t. t.left_out) ts)
+    → AllZip (WasRead gave ended) zs octets
+    → AreLeftOut ts (omissions_in (map (λ t. t.flows) ts) octets)
 left_all gave ended [] [] [] octets all none read = refl
 left_all gave ended [] [] (s ∷ ss) octets all none read = absurd all
 left_all gave ended [] (t ∷ ts) ss octets all none read = absurd all
 left_all gave ended (z ∷ zs) [] ss octets all none read = absurd all
 left_all gave ended (z ∷ zs) (t ∷ ts) [] octets all none read = absurd all
 left_all gave ended (z ∷ zs) (t ∷ ts) (s ∷ ss) [] all none read = absurd read
-left_all gave ended (z ∷ zs) (t ∷ ts) (s ∷ ss) (o ∷ os) all none read =
-    let rest = left_all gave ended zs ts ss os all.1 none.1 read.1 in
-    let one = left_one (gave z.0) (gave z.1) (ended z.1) t s o all.0 none.0 read.0 in
-    add_counted (left_out t.flows (packets_in room o)) (left_out_in (map (λ u. u.flows) ts) os)
-    t.left_out (sum_by (λ u. u.left_out) ts) one rest
-    ∙ ap counted (sym (sum_by-cons (λ (u : Track _). u.left_out) t ts))
+left_all gave ended (z ∷ zs) (t ∷ ts) (s ∷ ss) (o ∷ os) all none read = (
+  omissions_of t.flows (packets_in room o),
+  omissions_in (map (λ u. u.flows) ts) os,
+  left_one (gave z.0) (gave z.1) (ended z.1) t s o all.0 none.0 read.0,
+  left_all gave ended zs ts ss os all.1 none.1 read.1,
+  refl,
+)
+
+-- a packet is left out where it has no record
+omitted_by : (flows : Flows) (moment : ℕ) (octets : List ℕ) (o : Option Path)
+    → is_some (other_by o) ≡ is_none (entry_by o moment octets)
+omitted_by flows moment octets None = refl
+omitted_by flows moment octets (Some path) = refl
+
+omitted : (flows : Flows) (moment : ℕ) (r : Result Datagram NoDatagram)
+    → is_some (omission_by flows r) ≡ is_none (entry_of flows moment r)
+omitted flows moment (Err reason) = refl
+omitted flows moment (Ok d) =
+    omitted_by flows moment d.payload (path_to flows d.destination d.destination_port)
+
+one_longer : (o : Option Omission) (xs : List Omission)
+    → length (cons_option o xs) ≡ cond (is_some o) 1 0 + length xs
+one_longer None xs = omega arith
+one_longer (Some w) xs = omega arith
+
+omitted_in : (flows : Flows) (ps : List Recorded)
+    → length (omissions_of flows ps) ≡ left_out flows ps
+omitted_in flows [] = refl
+omitted_in flows (p ∷ ps) =
+    one_longer (omission_of flows p) (omissions_of flows ps)
+    ∙ ap (λ (b : Bool). cond b 1 0 + length (omissions_of flows ps))
+    (omitted flows (moment_of p.head.time) (datagram_in p))
+    ∙ ap (λ (n : ℕ). cond (is_none (record_of flows p)) 1 0 + n) (omitted_in flows ps)
+    ∙ sym (sum_by-cons (λ (q : Recorded). cond (is_none (record_of flows q)) 1 0) p ps)
+
+all_omitted : (each : List Flows) (octets : List (List ℕ))
+    → length (omissions_in each octets) ≡ left_out_in each octets
+all_omitted [] octets = refl
+all_omitted (f ∷ fs) [] = refl
+all_omitted (f ∷ fs) (o ∷ os) =
+    length-append (omissions_of f (packets_in room o)) (omissions_in fs os)
+    ∙ ap (λ (n : ℕ). n + length (omissions_in fs os)) (omitted_in f (packets_in room o))
+    ∙ ap (λ (n : ℕ). left_out f (packets_in room o) + n) (all_omitted fs os)
 
 -- ---- the run
 
@@ -141,10 +187,10 @@ pub record HasImported {X S : Type 0} (told : S × S → List ℕ → Type 0) (z
     (each : List Flows) (ts : List (Track X)) (text took took' : List ℕ) (w : Written) : Type 0
   where
     pub entries : List Entry
-    pub joined : (octets : List (List ℕ)) → AreRead told zs octets
+    pub joined : (octets : List (List ℕ)) → AllZip told zs octets
         → JoinsTo AreOver (strands_in each octets) entries
-    pub left : (octets : List (List ℕ)) → AreRead told zs octets
-        → counted (left_out_in each octets) ≡ counted (sum_by (λ t. t.left_out) ts)
+    pub left : (octets : List (List ℕ)) → AllZip told zs octets
+        → AreLeftOut ts (omissions_in each octets)
     pub taken : took' ≡ took ++ (front_text Two text ++ records_text entries)
     pub a : w.a ≡ count_of A entries
     pub b : w.b ≡ count_of B entries
@@ -172,8 +218,7 @@ has_imported gave ended begun rs rs' ts ts' each text took mid took' w opened fl
           (strands_whole gave ended (zip begun rs') each had.standing octets lay read) had.joined
           (λ left. all_over had.standing left over);
       left = λ octets read.
-          subst (λ (fs : List Flows). counted (left_out_in fs octets)
-          ≡ counted (sum_by (λ t. t.left_out) ts')) flows
+          subst (λ (fs : List Flows). AreLeftOut ts' (omissions_in fs octets)) flows
           (left_all gave ended (zip begun rs') ts' had.standing octets had.stand joins.over read);
       taken =
           behind_front took mid took' (front_text Two text) (records_text had.entries) front
@@ -289,13 +334,15 @@ tells_of flows xs ys n each count same tells =
 
 pub imports : {X S : Type 0} (a b : Option (List ℕ)) (Said : List ℕ → Type 0)
     (told : S × S → List ℕ → Type 0) (zs : List (S × S)) (each : List Flows) (ts : List (Track X))
-    (flows : Flows) (text took took' shown shown' : List ℕ) (w : Written) (n : ℕ)
-    → HasImported told zs each ts text took took' w → Said text → AsksFlows a b text flows
-    → TellsPaths flows (length zs) each → n ≡ counted (sum_by (λ t. t.left_out) ts)
-    → shown' ≡ shown ++ (line_text (line.Recorded w.a w.b n) ++ 10 ∷ [])
-    → Imports a b Said told zs took took' shown shown'
-imports a b Said told zs each ts flows text took took' shown shown' w n has said asked tells left
-    printed = record {
+    (flows : Flows) (text took took' shown shown' : List ℕ) (r : ImportCounts) (n : ℕ)
+    → HasImported told zs each ts text took took' (record { a = r.a; b = r.b }) → Said text
+    → AsksFlows a b text flows → TellsPaths flows (length zs) each
+    → ((os : List Omission) → AreLeftOut ts os → r.left_out ≡ left_out_of os)
+    → ((os : List Omission) → r.left_out ≡ left_out_of os → n ≡ counted (length os))
+    → shown' ≡ shown ++ (line_text (line.Recorded r.a r.b n) ++ 10 ∷ [])
+    → Imports a b Said told zs took took' shown shown' r
+imports a b Said told zs each ts flows text took took' shown shown' r n has said asked tells left
+    total printed = record {
       text = text;
       flows = flows;
       each = each;
@@ -305,10 +352,15 @@ imports a b Said told zs each ts flows text took took' shown shown' w n has said
       tells = tells;
       joined = has.joined;
       taken = has.taken;
+      by_a = has.a;
+      by_b = has.b;
+      left_out = λ octets read. left (omissions_in each octets) (has.left octets read);
       printed = λ octets read.
-          let count : n ≡ counted (left_out_in each octets) = left ∙ sym (has.left octets read) in
+          let count : n ≡ counted (left_out_in each octets) =
+          total (omissions_in each octets) (left (omissions_in each octets) (has.left octets read))
+          ∙ ap counted (all_omitted each octets) in
           printed ∙ ap (λ (l : Line). shown ++ (line_text l ++ 10 ∷ []))
-          (ap (λ (k : ℕ). line.Recorded k w.b n) has.a
+          (ap (λ (k : ℕ). line.Recorded k r.b n) has.a
           ∙ ap (λ (k : ℕ). line.Recorded (count_of A has.entries) k n) has.b
           ∙ ap (λ (k : ℕ). line.Recorded (count_of A has.entries) (count_of B has.entries) k)
           count);

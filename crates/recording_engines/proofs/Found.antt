@@ -1,9 +1,8 @@
 -- The record that is found in a packet.
 use Rattle.std.proofs.Common.{◌≡◌, ℕ, ◌+◌, ◌-◌, List, Option, sym, ap, ◌∙◌, arith, take, drop}
-use Rattle.std.proofs.Common.{Result, Ok, Some, None}
+use Rattle.std.proofs.Common.{Result, Ok}
 use Rattle.flow.specs.Flow.{path_to}
 use Rattle.flow.specs.declared.flows.Flows.{Flows}
-use Rattle.media_file.specs.Records.{Entry}
 use Rattle.pcap_file.specs.Link.{link_of}
 use Rattle.pcap_file.specs.PacketDatagram.{walk_of}
 use Rattle.pcap_file.specs.Runs.{packet_seen}
@@ -11,10 +10,8 @@ use Rattle.pcap_file.specs.Udp.{Datagram}
 use Rattle.pcap_file.specs.declared.datagram.NoDatagram.{NoDatagram}
 use Rattle.pcap_file.specs.declared.recording.Packet.{Packet}
 use Rattle.st_format.specs.declared.path.Path.{Path}
-use Rattle.recording_engines.specs.Strands.{entry_by, entry_of, moment_of, record_of}
-use Rattle.recording_engines.specs.Tracks.{entry_seen}
-use Rattle.recording_engines.specs.declared.record.RecordView.{RecordView}
-use Rattle.std.specs.Prelude.{is_some, true, false}
+use Rattle.recording_engines.specs.Strands.{entry_by, entry_of, moment_of, omission_by, omission_of}
+use Rattle.recording_engines.specs.Strands.{other_by, record_of}
 
 -- the octets of a packet, as a part of a buffer
 abbrev pub part_of : Packet → List ℕ → List ℕ
@@ -41,13 +38,18 @@ record_to flows p buffer d path read is =
     record_by flows p buffer (Ok d) read
     ∙ ap (λ (o : Option Path). entry_by o (moment_of p.head.time) d.payload) (sym is)
 
--- whether one is found
-pub found_in : (moment : ℕ) (found : Option RecordView) (o : Option Entry)
-    → entry_seen moment found ≡ o → is_some found ≡ true → (e : Entry) × (o ≡ Some e)
-found_in moment None o is some = absurd cc
-found_in moment (Some r) o is some = (_, sym is)
+-- why there is none
+pub omission_at : (flows : Flows) (p : Packet) (buffer : List ℕ) (d : Result Datagram NoDatagram)
+    → walk_of (link_of p.head.link) (part_of p buffer) ≡ d
+    → omission_of flows (packet_seen p buffer) ≡ omission_by flows d
+omission_at flows p buffer d read =
+    ap (λ (o : List ℕ). omission_by flows (walk_of (link_of p.head.link) o))
+    (part_is p.place p.head.captured buffer)
+    ∙ ap (omission_by flows) read
 
-pub none_in : (moment : ℕ) (found : Option RecordView) (o : Option Entry)
-    → entry_seen moment found ≡ o → is_some found ≡ false → o ≡ None
-none_in moment None o is some = sym is
-none_in moment (Some r) o is some = absurd cc
+pub omission_to : (flows : Flows) (p : Packet) (buffer : List ℕ) (d : Datagram) (path : Option Path)
+    → walk_of (link_of p.head.link) (part_of p buffer) ≡ Ok d
+    → path ≡ path_to flows d.destination d.destination_port
+    → omission_of flows (packet_seen p buffer) ≡ other_by path
+omission_to flows p buffer d path read is =
+    omission_at flows p buffer (Ok d) read ∙ ap other_by (sym is)

@@ -3,6 +3,8 @@ use Rattle.std.proofs.Common.{◌≡◌, ℕ, List, [], ◌∷◌, ◌++◌, Opt
 use Rattle.std.proofs.Common.{◌∙◌, append-nil, arith, length, suc, take, zero}
 use Rattle.std.proofs.lemmas.List.Elements.{filter_map-append}
 use Rattle.flow.specs.declared.flows.Flows.{Flows}
+use Rattle.left_out_counts.specs.LeftOut.{left_out_of}
+use Rattle.left_out_counts.specs.declared.left_out.LeftOut.{LeftOut}
 use Rattle.media_file.specs.Records.{Entry}
 use Rattle.pcap_file.specs.PcapReading.{Recorded}
 use Rattle.pcap_file.specs.declared.fault.RecordingFault.{RecordingFault}
@@ -10,7 +12,7 @@ use Rattle.pcap_file.specs.Runs.{HasRead, layout_seen}
 use Rattle.recording_engines.specs.Steps.{Ahead, Coming, IsFresh, Over, ReadsMore, Standing}
 use Rattle.recording_engines.specs.Joining.{Strand}
 use Rattle.recording_engines.specs.Steps.{left_by, record_ahead, stopped_at, whole_by}
-use Rattle.recording_engines.specs.Strands.{counted, left_out, record_of, records_of, room}
+use Rattle.recording_engines.specs.Strands.{omissions_of, record_of, records_of, room}
 use Rattle.recording_engines.specs.Tracks.{AddsOnly, HasReadTo, ReadsToNext, StandsAt}
 use Rattle.recording_engines.specs.Tracks.{StandsBy}
 use Rattle.recording_engines.specs.Tracks.{StopsAt, StopsBehind}
@@ -42,7 +44,7 @@ adds flows packets more (Over f) is =
     ∙ ap (λ (l : List Entry). records_of flows packets ++ l) is ∙ append-nil _
 
 pub goes_on : {A : Type 0} (old new : List ℕ) (was ended : Type 0) (t : Track A)
-    (next : Option Packet) (buffer : List ℕ) (layout : Layout) (count : ℕ)
+    (next : Option Packet) (buffer : List ℕ) (layout : Layout) (count : LeftOut)
     → ReadsToNext t.flows next buffer old new ended t.layout layout t.left_out count
     → (before : List ℕ) (s : Standing) (e : Entry) → StandsAt before old was t s
     → s.ahead ≡ Coming e
@@ -52,13 +54,13 @@ goes_on {A} old new was ended t next buffer layout count reads before s e stands
     let packets = stands.packets in
     let had = read_next t.flows t.next t.room.items before old was t.layout packets s.ahead e
     stands.read coming in
-    let on = reads before packets had (stands.left_out ∙ ap counted stands.left) in
+    let on = reads before packets had (stands.left_out ∙ ap left_out_of stands.left) in
     let all = packets ++ on.0 in
     let s' : Standing =
     record {
       entries = records_of t.flows all;
       ahead = on.1;
-      left = left_out t.flows all;
+      left = omissions_of t.flows all;
     } in (
       s',
       record {
@@ -79,7 +81,7 @@ stops_behind {A} old new was ended t f stops before s e stands coming =
     let packets = stands.packets in
     let had = read_next t.flows t.next t.room.items before old was t.layout packets s.ahead e
     stands.read coming in
-    let at = stops before packets had (stands.left_out ∙ ap counted stands.left) in
+    let at = stops before packets had (stands.left_out ∙ ap left_out_of stands.left) in
     lays_fault t.flows before new ended f (packets ++ at.0) (stopped_at f s) at.1 refl
     (stands.entries ∙ sym (adds t.flows packets at.0 (Over None) at.2))
 
@@ -93,16 +95,16 @@ fresh flows more (Over f) r is =
 
 -- a track that begins
 pub begins_by : (before now new : List ℕ) (ended : Type 0) (was : Layout) (flows : Flows)
-    (next : Option Packet) (buffer : List ℕ) (layout : Layout) (count : ℕ)
-    → HasRead room before now (layout_seen was) []
-    → ReadsToNext flows next buffer now new ended was layout 0 count
+    (next : Option Packet) (buffer : List ℕ) (layout : Layout) (none count : LeftOut)
+    → HasRead room before now (layout_seen was) [] → none ≡ left_out_of []
+    → ReadsToNext flows next buffer now new ended was layout none count
     → (s : Standing) × StandsBy before new ended flows next buffer layout count s × IsFresh s
-begins_by before now new ended was flows next buffer layout count read reads =
-    let on = reads before [] read refl in (
+begins_by before now new ended was flows next buffer layout none count read is reads =
+    let on = reads before [] read is in (
       record {
         entries = records_of flows on.0;
         ahead = on.1;
-        left = left_out flows on.0;
+        left = omissions_of flows on.0;
       },
       record {
         packets = on.0;

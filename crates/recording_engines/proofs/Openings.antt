@@ -9,6 +9,8 @@ use Rattle.std.specs.Prelude.{⊤}
 use Rattle.st_format.specs.History.{IsRead}
 use Rattle.st_format.proofs.Histories.{since_is}
 use Rattle.flow.specs.declared.flows.Flows.{Flows}
+use Rattle.left_out_counts.specs.LeftOut.{left_out_of}
+use Rattle.left_out_counts.specs.declared.left_out.LeftOut.{LeftOut}
 use Rattle.pcap_file.specs.PcapReading.{Recorded}
 use Rattle.pcap_file.specs.Runs.{HasFailed, HasRead, fault_in, layout_seen}
 use Rattle.pcap_file.specs.declared.fault.RecordingFault.{RecordingFault}
@@ -151,11 +153,11 @@ stop_refused before now ended f packets failed =
         ∙ ap (λ (l : List ℕ). l ++ told.behind) (since_is before now failed.part failed.grown)
 
 pub read_refused : (flows : Flows) (before now new : List ℕ) (ended : Type 0) (was : Layout)
-    (f : RecordingFault) → HasRead room before now (layout_seen was) []
-    → StopsAt flows now new ended was 0 f
+    (none : LeftOut) (f : RecordingFault) → HasRead room before now (layout_seen was) []
+    → none ≡ left_out_of [] → StopsAt flows now new ended was none f
     → OfRefusal (of_recording f) (IsStopRefusal (IsRead before new ended))
-read_refused flows before now new ended was f read stops =
-    let at = stops before [] read refl in
+read_refused flows before now new ended was none f read is stops =
+    let at = stops before [] read is in
     stop_refused before new ended f at.0 at.1
 
 -- ---- one more

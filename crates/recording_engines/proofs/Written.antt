@@ -60,7 +60,7 @@ writes_more es fs old now new w w' w'' first more = record {
 -- ---- one record
 
 nowhere : Standing
-nowhere = record { entries = []; ahead = Over None; left = 0 }
+nowhere = record { entries = []; ahead = Over None; left = [] }
 
 leads_next : {X : Type 0} (ts : List (Track X)) (k moment : ℕ) (d : Track X) → Leads k moment ts
     → (p : Packet) × ((get_or ts k d).next ≡ Some p)

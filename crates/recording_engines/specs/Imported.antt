@@ -2,11 +2,12 @@
 -- begin with it, and of no others where the source has ended. A list of sources is one of pairs:
 -- each source as it was before the run, and as it is behind it.
 use Rattle.std.specs.Prelude.{◌≡◌, ◌≢◌, ℕ, ◌⊎◌, List, [], ◌∷◌, ◌++◌, length, Option, None, Some, ⊤}
-use Rattle.std.specs.List.{AllByRecursion, Any}
+use Rattle.std.specs.List.{AllByRecursion, AllZip, Any}
 use Rattle.flow.specs.Flow.{IsOnePlace}
 use Rattle.flow.specs.FlowText.{IsFlowText}
 use Rattle.flow.specs.declared.flows.Flow.{Flow}
 use Rattle.flow.specs.declared.flows.Flows.{Flows}
+use Rattle.left_out_counts.specs.LeftOut.{counted, left_out_of}
 use Rattle.media_file.specs.Fronts.{front_text}
 use Rattle.media_file.specs.Records.{Entry, records_text}
 use Rattle.media_file.specs.declared.front.Version.TheVariants.{Two}
@@ -21,16 +22,8 @@ use Rattle.st_format.specs.declared.path.Path.TheVariants.{A, B}
 use Rattle.recording_engines.specs.Joining.{IsOver, JoinsTo, OneAt, OneHasMore, Strand}
 use Rattle.recording_engines.specs.Opened.{IsStopRefusal}
 use Rattle.recording_engines.specs.Progress.{count_of}
-use Rattle.recording_engines.specs.Strands.{TellsPaths, counted, left_out_in, strands_in}
-
--- ---- what was read
-
--- these octets were read, one list of each source
-abbrev pub AreRead : {S : Type 0} → (S → List ℕ → Type 0) → List S → List (List ℕ) → Type 0
-AreRead told [] [] = ⊤
-AreRead told [] (o ∷ os) = ⊥
-AreRead told (s ∷ ss) [] = ⊥
-AreRead told (s ∷ ss) (o ∷ os) = told s o × AreRead told ss os
+use Rattle.recording_engines.specs.Strands.{TellsPaths, left_out_in, omissions_in, strands_in}
+use Rattle.recording_engines.specs.declared.importing.ImportCounts.{ImportCounts}
 
 -- ---- the flows
 
@@ -64,9 +57,11 @@ abbrev pub AreOver : List Strand → Type 0
 AreOver left = AllByRecursion IsOver left
 
 -- A text was read whole, and it was written, and behind it the records of recordings by the flows
--- that were asked for, joined so; and how many they are was printed.
+-- that were asked for, joined so; how many they are was answered, and why packets were left out; and
+-- it was printed.
 pub record Imports {S : Type 0} (a b : Option (List ℕ)) (Said : List ℕ → Type 0)
-    (told : S → List ℕ → Type 0) (recordings : List S) (took took' shown shown' : List ℕ) : Type 0
+    (told : S → List ℕ → Type 0) (recordings : List S) (took took' shown shown' : List ℕ)
+    (counts : ImportCounts) : Type 0
   where
     pub text : List ℕ
     pub flows : Flows
@@ -75,10 +70,14 @@ pub record Imports {S : Type 0} (a b : Option (List ℕ)) (Said : List ℕ → T
     pub said : Said text
     pub asked : AsksFlows a b text flows
     pub tells : TellsPaths flows (length recordings) each
-    pub joined : (octets : List (List ℕ)) → AreRead told recordings octets
+    pub joined : (octets : List (List ℕ)) → AllZip told recordings octets
         → JoinsTo AreOver (strands_in each octets) entries
     pub taken : took' ≡ took ++ (front_text Two text ++ records_text entries)
-    pub printed : (octets : List (List ℕ)) → AreRead told recordings octets → shown' ≡ shown
+    pub by_a : counts.a ≡ count_of A entries
+    pub by_b : counts.b ≡ count_of B entries
+    pub left_out : (octets : List (List ℕ)) → AllZip told recordings octets
+        → counts.left_out ≡ left_out_of (omissions_in each octets)
+    pub printed : (octets : List (List ℕ)) → AllZip told recordings octets → shown' ≡ shown
         ++ (line_text (line.Recorded (count_of A entries) (count_of B entries)
         (counted (left_out_in each octets))) ++ 10 ∷ [])
 
@@ -108,7 +107,7 @@ pub record StopsImport {S : Type 0} (Ends : List Strand → Type 0) (Number : �
     (told : S → List ℕ → Type 0) (each : List Flows) (text : List ℕ) (recordings : List S)
     (took took' : List ℕ) : Type 0 where
   pub entries : List Entry
-  pub joined : (octets : List (List ℕ)) → AreRead told recordings octets
+  pub joined : (octets : List (List ℕ)) → AllZip told recordings octets
       → JoinsTo Ends (strands_in each octets) entries
   pub number : Number (length entries)
   pub taken : took' ≡ took ++ (front_text Two text ++ records_text entries)

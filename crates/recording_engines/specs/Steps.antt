@@ -3,6 +3,7 @@ use Rattle.std.specs.Prelude.{◌≡◌, ℕ, ◌<◌, ◌≤◌, ◌⊎◌, Lis
 use Rattle.std.specs.List.{AllByRecursion}
 use Rattle.st_format.specs.History.{IsRead}
 use Rattle.flow.specs.declared.flows.Flows.{Flows}
+use Rattle.left_out_counts.specs.declared.omission.Omission.{Omission}
 use Rattle.media_file.specs.Records.{Entry}
 use Rattle.pcap_file.specs.declared.fault.RecordingFault.{RecordingFault}
 use Rattle.recording_engines.specs.Joining.{Joins, Strand}
@@ -17,12 +18,12 @@ abbrev pub record_ahead : Ahead → Option Entry
 record_ahead (Coming e) = Some e
 record_ahead (Over f) = None
 
--- the records of a recording that were read, that which comes next among them, and how many packets
--- were left out
+-- the records of a recording that were read, that which comes next among them, and why packets were
+-- left out
 pub record Standing : Type 0 where
   pub entries : List Entry
   pub ahead : Ahead
-  pub left : ℕ
+  pub left : List Omission
 
 -- it is at a fault
 abbrev pub stopped_at : RecordingFault → Standing → Standing

@@ -1,9 +1,11 @@
 -- What `import` takes of recordings: the records of their datagrams (own).
-use Rattle.std.specs.Prelude.{◌≡◌, ℕ, ◌+◌, ◌-◌, ◌^◌, min, ◌⊎◌, List, [], ◌∷◌, Option, None, Some}
+use Rattle.std.specs.Prelude.{◌≡◌, ℕ, ◌+◌, ◌⊎◌, List, [], ◌∷◌, ◌++◌, Option, None, Some}
 use Rattle.std.specs.Prelude.{Result, Ok, Err, is_none, replicate}
 use Rattle.std.specs.List.{count_by, filter_map}
 use Rattle.flow.specs.Flow.{IsOnePlace, path_to}
 use Rattle.flow.specs.declared.flows.Flows.{Flows}
+use Rattle.left_out_counts.specs.declared.omission.Omission.{Omission}
+use Rattle.left_out_counts.specs.declared.omission.Omission.TheVariants as by
 use Rattle.media_file.specs.Records.{Entry}
 use Rattle.pcap_file.specs.declared.datagram.NoDatagram.{NoDatagram}
 use Rattle.pcap_file.specs.PcapReading.{Recorded}
@@ -44,9 +46,21 @@ records_of flows packets = filter_map (record_of flows) packets
 abbrev pub left_out : Flows → List Recorded → ℕ
 left_out flows packets = count_by (λ p. is_none (record_of flows p)) packets
 
--- a count, which stays at 2^64 - 1 once it is there
-abbrev pub counted : ℕ → ℕ
-counted n = min n (2 ^ 64 - 1)
+-- why a packet has no record: it is no datagram, or one of another flow
+abbrev pub other_by : Option Path → Option Omission
+other_by None = Some by.OtherFlow
+other_by (Some path) = None
+
+abbrev pub omission_by : Flows → Result Datagram NoDatagram → Option Omission
+omission_by flows (Err reason) = Some (by.NoDatagram reason)
+omission_by flows (Ok d) = other_by (path_to flows d.destination d.destination_port)
+
+abbrev pub omission_of : Flows → Recorded → Option Omission
+omission_of flows p = omission_by flows (datagram_in p)
+
+-- the reasons for which packets are left out
+abbrev pub omissions_of : Flows → List Recorded → List Omission
+omissions_of flows packets = filter_map (omission_of flows) packets
 
 -- the records of a recording's octets, up to their end or their fault
 abbrev pub strand_in : Flows → List ℕ → Strand
@@ -67,6 +81,12 @@ abbrev pub left_out_in : List Flows → List (List ℕ) → ℕ
 left_out_in [] octets = 0
 left_out_in (f ∷ fs) [] = 0
 left_out_in (f ∷ fs) (o ∷ os) = left_out f (packets_in room o) + left_out_in fs os
+
+-- and why they are
+abbrev pub omissions_in : List Flows → List (List ℕ) → List Omission
+omissions_in [] octets = []
+omissions_in (f ∷ fs) [] = []
+omissions_in (f ∷ fs) (o ∷ os) = omissions_of f (packets_in room o) ++ omissions_in fs os
 
 -- the flow of one path alone
 abbrev pub only_a : Flows → Flows

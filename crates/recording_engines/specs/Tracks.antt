@@ -1,15 +1,17 @@
 -- What a run of `import` knows of each recording while it reads them.
 use Rattle.std.specs.Prelude.{◌≡◌, ℕ, zero, suc, ◌+◌, ◌<◌, ◌≤◌, ◌⊎◌, List, [], ◌∷◌, ◌++◌, Option, None, Some}
-use Rattle.std.specs.Prelude.{⊤}
+use Rattle.std.specs.Prelude.{⊤, Result, Ok, Err}
 use Rattle.std.specs.List.{AllByRecursion}
 use Rattle.flow.specs.declared.flows.Flows.{Flows}
+use Rattle.left_out_counts.specs.LeftOut.{left_out_of}
+use Rattle.left_out_counts.specs.declared.left_out.LeftOut.{LeftOut}
+use Rattle.left_out_counts.specs.declared.omission.Omission.{Omission}
 use Rattle.media_file.specs.Records.{Entry}
 use Rattle.pcap_file.specs.Fields.{IfContent}
 use Rattle.pcap_file.specs.PcapReading.{Recorded}
 use Rattle.pcap_file.specs.declared.fault.RecordingFault.{RecordingFault}
 use Rattle.pcap_file.specs.Runs.{HasFailed, HasRead, HasReadAll, layout_seen, packet_seen}
-use Rattle.recording_engines.specs.Strands.{counted, left_out, moment_of, record_of, records_of}
-use Rattle.recording_engines.specs.Strands.{room}
+use Rattle.recording_engines.specs.Strands.{moment_of, omissions_of, record_of, records_of, room}
 use Rattle.recording_engines.specs.Steps.{Ahead, Coming, IsFresh, Lays, Over, ReadsMore, Standing}
 use Rattle.recording_engines.specs.Steps.{record_ahead, stopped_at}
 use Rattle.recording_engines.specs.declared.record.RecordView.{RecordView}
@@ -17,11 +19,15 @@ use Rattle.pcap_file.specs.declared.recording.Packet.{Packet}
 use Rattle.pcap_file.specs.declared.recording.Layout.{Layout}
 use Rattle.recording_engines.specs.declared.track.Track.{Track}
 
--- the record of what was found in a packet of this moment
-abbrev pub entry_seen : ℕ → Option RecordView → Option Entry
-entry_seen moment None = None
-entry_seen moment (Some r) =
+-- the record of what was found in a packet of this moment; why there is none
+abbrev pub entry_seen : ℕ → Result RecordView Omission → Option Entry
+entry_seen moment (Err omission) = None
+entry_seen moment (Ok r) =
     Some (record { path = r.path; moment = moment; octets = r.octets.now })
+
+abbrev pub omission_seen : Result RecordView Omission → Option Omission
+omission_seen (Err omission) = Some omission
+omission_seen (Ok r) = None
 
 -- packets were read of a source, and then a next one that has a record, or the end
 abbrev pub HasReadTo : Flows → Option Packet → List ℕ → List ℕ → List ℕ → Type 0 → Layout
@@ -34,11 +40,11 @@ HasReadTo flows (Some p) buffer before now ended layout packets ahead =
 
 -- A recording was read so far. The source gave `before` when that began, and `now` since.
 pub record StandsBy (before now : List ℕ) (ended : Type 0) (flows : Flows) (next : Option Packet)
-    (buffer : List ℕ) (layout : Layout) (count : ℕ) (s : Standing) : Type 0 where
+    (buffer : List ℕ) (layout : Layout) (count : LeftOut) (s : Standing) : Type 0 where
   pub packets : List Recorded
   pub entries : s.entries ≡ records_of flows packets
-  pub left : s.left ≡ left_out flows packets
-  pub left_out : count ≡ counted s.left
+  pub left : s.left ≡ omissions_of flows packets
+  pub left_out : count ≡ left_out_of s.left
   pub read : HasReadTo flows next buffer before now ended layout packets s.ahead
 
 -- so it was by a track
@@ -64,20 +70,22 @@ AddsOnly flows more (Some e) = records_of flows more ≡ e ∷ []
 -- what a track has read, whatever it was before, it has read on: to the next packet that has a
 -- record; to the end
 abbrev pub ReadsToNext : Flows → Option Packet → List ℕ → List ℕ → List ℕ → Type 0 → Layout → Layout
-    → ℕ → ℕ → Type 0
+    → LeftOut → LeftOut → Type 0
 ReadsToNext flows next buffer old new ended was layout left left' =
     (before : List ℕ) (packets : List Recorded)
-    → HasRead room before old (layout_seen was) packets → left ≡ counted (left_out flows packets)
+    → HasRead room before old (layout_seen was) packets
+    → left ≡ left_out_of (omissions_of flows packets)
     → (more : List Recorded) × (ahead : Ahead)
     × HasReadTo flows next buffer before new ended layout (packets ++ more) ahead
-    × (left' ≡ counted (left_out flows (packets ++ more)))
+    × (left' ≡ left_out_of (omissions_of flows (packets ++ more)))
     × AddsOnly flows more (record_ahead ahead)
 
 -- the same, to a fault
-abbrev pub StopsAt : Flows → List ℕ → List ℕ → Type 0 → Layout → ℕ → RecordingFault → Type 0
+abbrev pub StopsAt : Flows → List ℕ → List ℕ → Type 0 → Layout → LeftOut → RecordingFault → Type 0
 StopsAt flows old new ended was left f =
     (before : List ℕ) (packets : List Recorded)
-    → HasRead room before old (layout_seen was) packets → left ≡ counted (left_out flows packets)
+    → HasRead room before old (layout_seen was) packets
+    → left ≡ left_out_of (omissions_of flows packets)
     → (more : List Recorded) × HasFailed room before new ended f (packets ++ more)
     × AddsOnly flows more None
 
@@ -99,6 +107,13 @@ StopsBehind old new was ended t f =
 -- a track that has read nothing but what comes next
 abbrev pub BeginsAt : {A : Type 0} → List ℕ → List ℕ → Type 0 → Track A → Type 0
 BeginsAt before now ended t = (s : Standing) × StandsAt before now ended t s × IsFresh s
+
+-- why packets were left out of what tracks read
+abbrev pub AreLeftOut : {A : Type 0} → List (Track A) → List Omission → Type 0
+AreLeftOut [] omissions = omissions ≡ []
+AreLeftOut (t ∷ ts) omissions =
+    (some more : List Omission) × (t.left_out ≡ left_out_of some) × AreLeftOut ts more
+    × (omissions ≡ some ++ more)
 
 -- ---- the earliest
 

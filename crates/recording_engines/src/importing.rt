@@ -1,7 +1,9 @@
 //! The engine of `import`.
-ghost use Rattle.std.specs.Prelude.{◌≡◌, ◌∷◌, [], length, map, slice_get, IfErr, IfOk, OnOk};
+ghost use Rattle.std.specs.Prelude.{◌≡◌, ◌∷◌, [], length, map, slice_get, IfErr, IfOk, List};
 ghost use Rattle.std.specs.List.{sum_by, zip};
 ghost use Rattle.std.specs.Option.{option_copied};
+ghost use Rattle.left_out_counts.specs.LeftOut.{left_out_of};
+ghost use Rattle.left_out_counts.specs.declared.omission.Omission.{Omission as Reason};
 ghost use Rattle.run_outcome.specs.Fault.{Accounts, counts};
 ghost use Rattle.run_outcome.specs.Moments.{WasRead};
 ghost use Rattle.run_outcome.specs.Refusing.{OfRefusal};
@@ -11,13 +13,15 @@ ghost use Rattle.recording_engines.specs.Imported.{AsksFlows, Imports, IsAsked, 
 ghost use Rattle.recording_engines.specs.Imported.{IsImportRefusal, IsPlacesRefusal};
 ghost use Rattle.recording_engines.specs.Imported.{IsSaidRefusal, IsWordRefusal, SaysFlows};
 ghost use Rattle.recording_engines.specs.Progress.{JoinsAll, StopsJoining};
-ghost use Rattle.recording_engines.specs.Strands.{TellsPaths, counted};
+ghost use Rattle.recording_engines.specs.Strands.{TellsPaths};
+ghost use Rattle.recording_engines.specs.Tracks.{AreLeftOut};
 
-use crate::joining::{Written, join};
+use crate::joining::join;
 use crate::opening::open_all;
 use crate::track::Track;
 use crate::tracks::left_out;
 use flow::{Flow, Flows, read_flow};
+use left_out_counts::LeftOut;
 use media_file::write_front;
 use run_outcome::{Fault, Line, Refusal, print, read_checked};
 use sdp_format::read_flows;
@@ -42,7 +46,8 @@ pub struct Importing<'a> {
 /// is read once, and its order is kept; always the earliest of the next records is written, of
 /// equally early ones the first recording's. All else is left out.
 ///
-/// Behind the last record `recorded A N B M left out K` is printed to `output`.
+/// Behind the last record `recorded A N B M left out K` is printed to `output`, and these numbers
+/// are answered, what was left out by the reason; K is their sum.
 ///
 /// # Errors
 ///
@@ -56,7 +61,7 @@ pub fn import<A, D, S, K, O>(
     recordings: &mut [S],
     capture: &mut K,
     output: &mut O,
-) -> Result<(), Fault>
+) -> Result<ImportCounts, Fault>
 where
     A: Allocator + Copy,
     D: ByteSource,
@@ -65,7 +70,7 @@ where
     O: ByteSink,
     ensures len { length recordings.new ≡ length recordings.old }
     // What was read of the recordings is all of them, up to their ends.
-    ensures imported { OnOk result (Imports
+    ensures imported { IfOk result (Imports
         (option_copied wanted.entry.a) (option_copied wanted.entry.b)
         (GivesText 65535 (D.gave sdp.old) (D.gave sdp.new) (D.ended sdp.new))
         (WasRead S.gave S.ended) (zip recordings.old recordings.new)
@@ -86,18 +91,23 @@ where
     let each = flows_each(alloc, flows, recordings.len())?;
     let mut tracks = open_all(alloc, &each, recordings)?;
     write_front(capture, &said)?;
-    let sums = join_all(&mut tracks, recordings, capture)?;
+    let counts = join_all(&mut tracks, recordings, capture)?;
     print(
-        Line::Recorded(sums.written.a, sums.written.b, sums.left_out),
+        Line::Recorded(counts.a, counts.b, counts.left_out.total()),
         output,
-    )
+    )?;
+    Ok(counts)
 }
 
-/// How many records were written of each path, and how many packets were left out.
+/// What became of the packets of recordings.
 #[derive(Clone, Copy)]
-struct Sums {
-    written: Written,
-    left_out: u64,
+pub struct ImportCounts {
+    /// How many records were written of path A.
+    pub a: u64,
+    /// And how many of path B.
+    pub b: u64,
+    /// The packets of which no record was made.
+    pub left_out: LeftOut,
 }
 
 /// Writes all records of recordings as [`join`] does, and counts what was left out too.
@@ -105,13 +115,15 @@ fn join_all<A: Allocator, S: ByteSource, K: ByteSink>(
     tracks: &mut [Track<A>],
     recordings: &mut [S],
     capture: &mut K,
-) -> Result<Sums, Fault>
+) -> Result<ImportCounts, Fault>
     requires { length tracks.old ≡ length recordings.old }
     ensures flows { map (λ t. t.flows) tracks.new ≡ map (λ t. t.flows) tracks.old }
     ensures recordings { length recordings.new ≡ length recordings.old }
-    ensures joined { IfOk result (λ s. JoinsAll S.gave S.ended tracks.old tracks.new
-        recordings.old recordings.new (K.took capture.old) (K.took capture.new) s.written) }
-    ensures left { IfOk result (λ s. s.left_out ≡ counted (sum_by (λ t. t.left_out) tracks.new)) }
+    ensures joined { IfOk result (λ r. JoinsAll S.gave S.ended tracks.old tracks.new
+        recordings.old recordings.new (K.took capture.old) (K.took capture.new)
+        (record { a = r.a; b = r.b })) }
+    ensures left { IfOk result (λ r. (omissions : List Reason) → AreLeftOut tracks.new omissions
+        → r.left_out ≡ left_out_of omissions) }
     ensures stopped { IfErr result (λ f. OfRefusal f (λ r. StopsJoining S.gave S.ended r
         tracks.old recordings.old recordings.new (K.took capture.old) (K.took capture.new))) }
     ensures failures { Accounts result (counts (sum_by S.failures recordings.old)
@@ -119,8 +131,9 @@ fn join_all<A: Allocator, S: ByteSource, K: ByteSink>(
         ∷ counts (K.failures capture.old) (K.failures capture.new) ∷ []) }
 {
     let written = join(tracks, recordings, capture)?;
-    Ok(Sums {
-        written,
+    Ok(ImportCounts {
+        a: written.a,
+        b: written.b,
         left_out: left_out(tracks),
     })
 }
@@ -140,8 +153,12 @@ fn flow_of(word: Option<&[u8]>) -> Result<Option<Flow>, Fault>
     }
 }
 
-/// The flows that the words ask for, or else those of the SDP.
-fn flows_of(wanted: Importing<'_>, said: &[u8]) -> Result<Flows, Fault>
+/// The flows that the words ask for, or else those of the SDP text `said`.
+///
+/// # Errors
+///
+/// `ImportFlow` where a word is no flow's; where there is no word, the SDP's fault.
+pub fn flows_of(wanted: Importing<'_>, said: &[u8]) -> Result<Flows, Fault>
     ensures asked { IfOk result (λ f. AsksFlows (option_copied wanted.entry.a)
         (option_copied wanted.entry.b) said.now f) }
     ensures refusal { IfErr result (λ f. OfRefusal f (IsFlowsRefusal
@@ -176,8 +193,18 @@ fn flow_at(flows: &[Flow], place: usize) -> Option<Flow>
     flows.get(place).copied()
 }
 
-/// The flows by which each of so many recordings is taken.
-fn flows_each<A: Allocator>(alloc: A, flows: Flows, count: usize) -> Result<Vec<Flows, A>, Fault>
+/// The flows by which each of so many recordings is taken: all of `flows` for each; or, where both
+/// paths have one address and port, path A's for the first of two, and path B's for the second.
+///
+/// # Errors
+///
+/// `ImportPlaces` where both paths have one address and port, and there aren't two recordings; and
+/// that memory was wanted.
+pub fn flows_each<A: Allocator>(
+    alloc: A,
+    flows: Flows,
+    count: usize,
+) -> Result<Vec<Flows, A>, Fault>
     ensures tells { IfOk result (λ each. TellsPaths flows count each.items) }
     ensures refusal { IfErr result (λ f. OfRefusal f (IsPlacesRefusal flows count)) }
     ensures failures { Accounts result [] }

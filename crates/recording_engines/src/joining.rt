@@ -56,7 +56,7 @@ fn write_next<A: Allocator, K: ByteSink>(
     let Some(packet) = track.next else {
         return Ok(());
     };
-    let Some(record) = record_of(&track.flows, &packet, &track.room) else {
+    let Ok(record) = record_of(&track.flows, &packet, &track.room) else {
         return Ok(());
     };
     write_record(capture, record.path, moment_of(&packet), record.octets)?;

@@ -11,6 +11,7 @@ ghost use Rattle.st_format.specs.History.{IsRead};
 use crate::reading::read_on;
 use crate::track::Track;
 use flow::Flows;
+use left_out_counts::LeftOut;
 use pcap_file::open_recording;
 use run_outcome::Fault;
 use st_format::ByteSource;
@@ -26,8 +27,13 @@ fn room<A: Allocator>(alloc: A) -> Result<Vec<u8, A>, AllocError>
     vec![in alloc; 0u8; ROOM]
 }
 
-/// Opens a recording, and reads on to its first record.
-fn open_track<A: Allocator, S: ByteSource>(
+/// Opens a recording, and reads on to its first record of the flows. Takes room for a packet.
+///
+/// # Errors
+///
+/// The recording's fault, where it has one before that record; and else that the source failed or
+/// memory was wanted.
+pub fn open_track<A: Allocator, S: ByteSource>(
     alloc: A,
     flows: Flows,
     source: &mut S,
@@ -39,10 +45,11 @@ fn open_track<A: Allocator, S: ByteSource>(
         (IsRead (S.gave source.old) (S.gave source.new) (S.ended source.new)))) }
     ensures failures { Accounts result (counts (S.failures source.old) (S.failures source.new)
         ∷ []) }
+    ensures names { S.names source.new ≡ S.names source.old }
 {
     let mut room = room(alloc)?;
     let mut layout = open_recording(source, &mut room)?;
-    let mut left_out = 0;
+    let mut left_out = LeftOut::new();
     let next = read_on(source, &flows, &mut layout, &mut room, &mut left_out)?;
     Ok(Track {
         flows,

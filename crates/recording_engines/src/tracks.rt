@@ -1,11 +1,12 @@
 //! Which of some recordings comes next.
-ghost use Rattle.std.specs.Prelude.{◌≡◌, ◌≤◌, ◌+◌, IfSome};
-ghost use Rattle.std.specs.List.{sum_by};
-ghost use Rattle.recording_engines.specs.Strands.{counted};
-ghost use Rattle.recording_engines.specs.Tracks.{IsEarliest, IsSooner};
+ghost use Rattle.std.specs.Prelude.{◌≡◌, ◌≤◌, ◌+◌, IfSome, List};
+ghost use Rattle.left_out_counts.specs.LeftOut.{left_out_of};
+ghost use Rattle.left_out_counts.specs.declared.omission.Omission.{Omission as Reason};
+ghost use Rattle.recording_engines.specs.Tracks.{AreLeftOut, IsEarliest, IsSooner};
 
 use crate::reading::next_moment;
 use crate::track::Track;
+use left_out_counts::LeftOut;
 use std::alloc::Allocator;
 
 /// The place of the recording that comes next, the first of those of one moment, and the moment.
@@ -38,13 +39,15 @@ fn sooner(first: Option<u64>, later: Option<(usize, u64)>, _count: usize) -> Opt
     }
 }
 
-/// How many packets of recordings were left out, 2^64 - 1 at most.
-pub(crate) fn left_out<A: Allocator>(tracks: &[Track<A>]) -> u64
-    ensures { result ≡ counted (sum_by (λ t. t.left_out) tracks.now) }
+/// The packets that were left out of recordings.
+pub(crate) fn left_out<A: Allocator>(tracks: &[Track<A>]) -> LeftOut
+    ensures { (omissions : List Reason) → AreLeftOut tracks.now omissions
+        → result ≡ left_out_of omissions }
 {
-    let mut total: u64 = 0;
-    for track in tracks {
-        total = total.saturating_add(track.left_out);
-    }
+    let Some((first, rest)) = tracks.split_first() else {
+        return LeftOut::new();
+    };
+    let mut total = first.left_out;
+    total.add(&left_out(rest));
     total
 }

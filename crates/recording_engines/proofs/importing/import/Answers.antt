@@ -1,15 +1,12 @@
-use Rattle.std.proofs.Common.{inl, inr, ◌≡◌, ℕ, List, ◌∷◌, ◌++◌, [], length, map, ap, sym, subst, refl, ◌∙◌}
+use Rattle.std.proofs.Common.{inl, inr, ℕ, List, ◌++◌, length, map, ap, sym, subst, refl, ◌∙◌}
 use Rattle.std.specs.List.{zip}
 use Rattle.std.specs.Option.{option_copied}
 use Rattle.flow.specs.declared.flows.Flows.{Flows}
 use Rattle.media_file.specs.Fronts.{front_text}
 use Rattle.media_file.specs.declared.front.Version.TheVariants.{Two}
-use Rattle.run_outcome.specs.Line.{line_text}
 use Rattle.run_outcome.specs.Moments.{WasRead}
 use Rattle.run_outcome.specs.Text.{GivesText}
-use Rattle.run_outcome.specs.declared.line.Line.TheVariants as line
-use Rattle.run_outcome.proofs.Printed.{on_ok}
-use Rattle.recording_engines.specs.Imported.{AsksFlows, Imports}
+use Rattle.recording_engines.specs.Imported.{AsksFlows}
 use Rattle.recording_engines.specs.Opened.{AllOpened}
 use Rattle.recording_engines.specs.declared.track.Track.{Track}
 use Rattle.run_outcome.proofs.Refusals.{of_refusal_map}
@@ -41,12 +38,12 @@ returns-clause-imported g c =
     let ts' = c.join_all.new.tracks in
     let each = c.in_ok-each.each.items in
     let text = c.in_ok-said.said.items in
-    let w = c.in_ok-sums.sums.written in
+    let r = c.in_ok-counts.counts in
     let opened =
     subst (λ (l : List (Track g.row.A.Denot)). AllOpened gave ended (zip begun rs) l)
     (sym c.deref_mut.ensures.value) c.in_ok-tracks.ensures.opened in
     let flows =
-    c.in_ok-sums.ensures.flows
+    c.in_ok-counts.ensures.flows
     ∙ ap (λ (l : List (Track g.row.A.Denot)). map (λ t. t.flows) l) c.deref_mut.ensures.value
     ∙ c.in_ok-tracks.ensures.flows ∙ c.deref-2.ensures.value in
     let front =
@@ -54,8 +51,9 @@ returns-clause-imported g c =
     ∙ ap (λ (l : List ℕ). took c.args.capture.now ++ front_text Two l) c.deref-3.ensures.value in
     let has =
     has_imported gave ended begun rs rs' ts ts' each text (took c.args.capture.now)
-    (took c.write_front.new.sink) (took c.join_all.new.capture) w opened flows front
-    c.in_ok-sums.ensures.joined in
+    (took c.write_front.new.sink) (took c.join_all.new.capture) (record { a = r.a; b = r.b })
+    opened flows front
+    c.in_ok-counts.ensures.joined in
     let a = option_copied c.args.wanted.a in
     let b = option_copied c.args.wanted.b in
     let asked =
@@ -63,21 +61,16 @@ returns-clause-imported g c =
     c.in_ok-flows.ensures.asked in
     let tells =
     tells_of c.in_ok-flows.flows begun rs' (length begun) each refl
-    (c.in_ok-sums.ensures.recordings ∙ c.in_ok-tracks.ensures.len) c.in_ok-each.ensures.tells in
+    (c.in_ok-counts.ensures.recordings ∙ c.in_ok-tracks.ensures.len) c.in_ok-each.ensures.tells in
     let Said =
     GivesText 65535 (g.D.ByteSource.gave c.args.sdp.now)
     (g.D.ByteSource.gave c.read_checked.new.source)
     (g.D.ByteSource.ended c.read_checked.new.source) in
     let told = WasRead gave ended in
-    on_ok c.print.result
-    (shown c.print.new.output ≡ shown c.args.output.now
-    ++ (line_text (line.Recorded w.a w.b c.in_ok-sums.sums.left_out) ++ 10 ∷ []))
-    (Imports a b Said told (zip begun rs') (took c.args.capture.now) (took c.join_all.new.capture)
-    (shown c.args.output.now) (shown c.print.new.output))
-    (λ printed. imports a b Said told (zip begun rs') each ts' c.in_ok-flows.flows text
+    imports a b Said told (zip begun rs') each ts' c.in_ok-flows.flows text
     (took c.args.capture.now) (took c.join_all.new.capture) (shown c.args.output.now)
-    (shown c.print.new.output) w c.in_ok-sums.sums.left_out has c.in_ok-said.ensures.read asked
-    tells c.in_ok-sums.ensures.left printed) c.print.ensures.printed
+    (shown c.print.new.output) r c.total.result has c.in_ok-said.ensures.read asked tells
+    c.in_ok-counts.ensures.left c.total.ensures.all c.in_ok-print.ensures.printed
 
 pub returns-in_err-each-clause-refusal : goal.returns-in_err-each-clause-refusal
 returns-in_err-each-clause-refusal g c =
@@ -121,8 +114,8 @@ returns-in_err-tracks-clause-refusal g c =
     ))
     c.in_err-tracks.ensures.refusal)
 
-pub returns-in_err-sums-clause-refusal : goal.returns-in_err-sums-clause-refusal
-returns-in_err-sums-clause-refusal g c =
+pub returns-in_err-counts-clause-refusal : goal.returns-in_err-counts-clause-refusal
+returns-in_err-counts-clause-refusal g c =
     let gave = g.S.ByteSource.gave in
     let ended = g.S.ByteSource.ended in
     let took = g.K.ByteSink.took in
@@ -147,11 +140,11 @@ returns-in_err-sums-clause-refusal g c =
     ∙ ap (λ (l : List ℕ). took c.args.capture.now ++ front_text Two l) c.deref-3.ensures.value in
     let tells =
     tells_of flows begun rs' (length begun) each refl
-    (c.in_err-sums.ensures.recordings ∙ c.in_ok-tracks.ensures.len) c.in_ok-each.ensures.tells in
-    let p = err_from_is_err_and c.from_residual-in_err-sums.result
-    c.from_residual-in_err-sums.ensures.1 in
+    (c.in_err-counts.ensures.recordings ∙ c.in_ok-tracks.ensures.len) c.in_ok-each.ensures.tells in
+    let p = err_from_is_err_and c.from_residual-in_err-counts.result
+    c.from_residual-in_err-counts.ensures.1 in
     rw (p.1, p.2)
-    (of_refusal_map c.in_err-sums.field-0.0
+    (of_refusal_map c.in_err-counts.field-0.0
     (λ r is. inr (
       text,
       c.in_ok-said.ensures.read,
@@ -166,4 +159,4 @@ returns-in_err-sums-clause-refusal g c =
         )),
       ),
     ))
-    c.in_err-sums.ensures.stopped)
+    c.in_err-counts.ensures.stopped)

@@ -32,10 +32,11 @@ returns-in_err-next-clause-refusal g c =
     let same : length c.deref_mut.result.now ≡ room = c.deref_mut.ensures.len ∙ c.in_ok-room.ensures in
     rw (p.1, p.2)
     (read_refused c.args.flows (told.gave c.args.source.now) (told.gave c.open_recording.new.source)
-    (told.gave c.read_on.new.source) (told.ended c.read_on.new.source) c.in_ok-layout.layout f
+    (told.gave c.read_on.new.source) (told.ended c.read_on.new.source) c.in_ok-layout.layout
+    c.new-left_out.result f
     (subst (λ (n : ℕ). HasRead n (told.gave c.args.source.now)
     (told.gave c.open_recording.new.source) (layout_seen c.in_ok-layout.layout) []) same
-    c.in_ok-layout.ensures.read) c.in_err-next.ensures.fault)
+    c.in_ok-layout.ensures.read) c.new-left_out.ensures c.in_err-next.ensures.fault)
 
 pub returns-clause-begins : goal.returns-clause-begins
 returns-clause-begins g c =
@@ -50,11 +51,13 @@ returns-clause-begins g c =
     take_front put (drop (length put) items) n (c.in_ok-next.ensures.room ∙ c.deref_mut-2.ensures.len) in
     begins_by (told.gave c.args.source.now) (told.gave c.open_recording.new.source)
     (told.gave c.read_on.new.source) (told.ended c.read_on.new.source) c.in_ok-layout.layout
-    c.args.flows c.in_ok-next.next buffer c.read_on.new.layout c.read_on.new.left_out
+    c.args.flows c.in_ok-next.next buffer c.read_on.new.layout c.new-left_out.result
+    c.read_on.new.left_out
     (subst (λ (k : ℕ). HasRead k (told.gave c.args.source.now)
     (told.gave c.open_recording.new.source) (layout_seen c.in_ok-layout.layout) []) same
     c.in_ok-layout.ensures.read)
+    c.new-left_out.ensures
     (subst (λ (b : List ℕ). ReadsToNext c.args.flows c.in_ok-next.next b
     (told.gave c.open_recording.new.source) (told.gave c.read_on.new.source)
-    (told.ended c.read_on.new.source) c.in_ok-layout.layout c.read_on.new.layout 0
+    (told.ended c.read_on.new.source) c.in_ok-layout.layout c.read_on.new.layout c.new-left_out.result
     c.read_on.new.left_out) (sym held) c.in_ok-next.ensures.read)

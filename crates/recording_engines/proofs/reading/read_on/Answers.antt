@@ -1,10 +1,9 @@
 use Rattle.std.proofs.Common.{◌≡◌, ◌∙◌, ℕ, sym, subst, length}
 use Rattle.std.proofs.lemmas.Result.{err_from_is_err_and}
 use Rattle.pcap_file.specs.Runs.{ReadsEnd, ReadsFault, ReadsPacket, layout_seen, packet_seen}
-use Rattle.recording_engines.specs.Strands.{record_of, room}
+use Rattle.recording_engines.specs.Strands.{room}
 use Rattle.recording_engines.proofs.Passing.{none_left, passed_end, passed_fault}
 use Rattle.recording_engines.proofs.Passing.{passed_found, passed_more}
-use Rattle.recording_engines.proofs.Found.{found_in, none_in}
 use Rattle.recording_engines.proofs.reading.read_on.Goals as goal
 
 pub returns-in_err-packet-clause-fault : goal.returns-in_err-packet-clause-fault
@@ -22,22 +21,21 @@ returns-in_err-packet-clause-fault g c =
     (told.ended c.next_packet.new.source) (layout_seen l.layout) f) same
     c.in_err-packet.ensures.fault))
 
-pub returns-then-is_some-clause-read : goal.returns-then-is_some-clause-read
-returns-then-is_some-clause-read g c =
+pub returns-in-Ok-clause-read : goal.returns-in-Ok-clause-read
+returns-in-Ok-clause-read g c =
     let l = c.loop-packet in
     let told = g.S.ByteSource in
     let q = packet_seen c.in-Some.packet c.next_packet.new.buf in
     let same : length l.buf ≡ room = l.invariant.room ∙ sym c.requires in
-    let e =
-    found_in _ c.record_of.result (record_of c.args.flows.now q) c.record_of.ensures.is
-    (sym c.is_some.ensures ∙ c.if-is_some.true) in
     passed_found c.args.flows.now (told.gave c.args.source.now) (told.gave l.source)
     (told.gave c.next_packet.new.source) (told.ended c.next_packet.new.source) c.args.layout.now
     c.next_packet.new.layout (layout_seen l.layout) c.args.left_out.now l.left_out
-    c.in-Some.packet c.next_packet.new.buf e.0 l.invariant.passed
+    c.in-Some.packet c.next_packet.new.buf _ l.invariant.passed
     (subst (λ (n : ℕ). ReadsPacket n (told.gave l.source) (told.gave c.next_packet.new.source)
     (layout_seen l.layout) (layout_seen c.next_packet.new.layout) q) same
-    (rw c.in-Some.is at c.in_ok-packet.ensures.read)) e.1
+    (rw c.in-Some.is at c.in_ok-packet.ensures.read))
+    (sym (rw c.in-Ok.is at c.record_of.ensures.is))
+    (sym (rw c.in-Ok.is at c.record_of.ensures.why))
 
 pub loop-packet-preserved : goal.loop-packet-preserved
 loop-packet-preserved g c =
@@ -48,17 +46,18 @@ loop-packet-preserved g c =
     record {
       room = c.in_ok-packet.ensures.room ∙ l.invariant.room;
       failures = c.in_ok-packet.ensures.counted ∙ l.invariant.failures;
+      names = c.in_ok-packet.ensures.names ∙ l.invariant.names;
       passed =
           passed_more c.args.flows.now (told.gave c.args.source.now) (told.gave l.source)
           (told.gave c.next_packet.new.source) (layout_seen c.args.layout.now)
           (layout_seen l.layout) (layout_seen c.next_packet.new.layout) c.args.left_out.now
-          l.left_out c.saturating_add.result q l.invariant.passed
+          l.left_out c.note.new.self q c.in-Err.omission l.invariant.passed
           (subst (λ (n : ℕ). ReadsPacket n (told.gave l.source)
           (told.gave c.next_packet.new.source) (layout_seen l.layout)
           (layout_seen c.next_packet.new.layout) q) same
           (rw c.in-Some.is at c.in_ok-packet.ensures.read))
-          (none_in _ c.record_of.result (record_of c.args.flows.now q) c.record_of.ensures.is
-          (sym c.is_some.ensures ∙ c.if-is_some.false)) c.saturating_add.ensures;
+          (sym (rw c.in-Err.is at c.record_of.ensures.is))
+          (sym (rw c.in-Err.is at c.record_of.ensures.why)) c.note.ensures;
     }
 
 pub returns-clause-read : goal.returns-clause-read
