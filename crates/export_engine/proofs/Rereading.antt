@@ -1,105 +1,163 @@
 -- The recording that is written is one of the records' packets.
-use Rattle.std.proofs.Common.{◌≡◌, ℕ, ◌*◌, ◌^◌, ◌<◌, ◌≤◌, Bool, true, false, cond, List}
+use Rattle.std.proofs.Common.{◌≡◌, ℕ, ◌-◌, ◌*◌, ◌^◌, ◌<◌, ◌≤◌, Bool, true, false, cond, List}
 use Rattle.std.proofs.Common.{[], ◌∷◌, ◌++◌, length, Option, Some, None, refl, sym, ap, ◌∙◌, subst}
-use Rattle.std.proofs.Common.{arith}
+use Rattle.std.proofs.Common.{arith, inl, inr, replicate}
 use Rattle.std.specs.List.{cons_option}
-use Rattle.std.specs.Net.Addr.{ipv4_octets}
+use Rattle.std.specs.Net.Addr.{octets_of}
+use Rattle.std.specs.Net.Grammar.{IsColonHex}
+use Rattle.std.specs.declared.net.ip_addr.IpAddr.{IpAddr}
+use Rattle.std.specs.declared.net.ip_addr.IpAddr.TheVariants as ip
 use Rattle.std.proofs.lemmas.Bool.Decides.{nat_tests}
+use Rattle.std.proofs.lemmas.List.{length-append, length-replicate}
 use Rattle.st_format.specs.declared.path.Path.{Path}
 use Rattle.st_format.specs.declared.path.Path.TheVariants.{A, B}
+use Rattle.flow.specs.FlowText.{IsHost}
 use Rattle.media_file.specs.Records.{Entry}
 use Rattle.pcap_file.specs.Datagram.{IsDatagram}
-use Rattle.pcap_file.specs.PcapReading.{AreRecords, IsPcap, Recorded}
-use Rattle.pcap_file.specs.Writing.{EnvelopeFits, datagram_of, datagram_text, file_text}
-use Rattle.pcap_file.specs.Writing.{frame_text, written_file}
+use Rattle.pcap_file.specs.PcapReading.{AreRecords, IsPcap, IsRecord, Recorded}
+use Rattle.pcap_file.specs.Writing.{EnvelopeFits, file_text, written_file}
+use Rattle.pcap_file.specs.Writing6.{EnvelopeFits6}
 use Rattle.pcap_file.specs.declared.link.Link.TheVariants.{Ethernet}
-use Rattle.pcap_file.specs.declared.writing.Envelope.{Envelope}
 use Rattle.pcap_file.proofs.Writes.{is_datagram, is_record}
+use Rattle.pcap_file.proofs.Writes6.{is_datagram6, is_record6}
 use Rattle.export_engine.specs.Packets.{AreEnvelopes, IsEnvelopeText, IsSecondText, can_say}
-use Rattle.export_engine.specs.Packets.{envelope_of, packet_by}
-use Rattle.export_engine.specs.Packets.{packets_text, pcap_text, sent_by}
-use Rattle.export_engine.specs.Reread.{packet_of, packets_of}
+use Rattle.export_engine.specs.Packets.{datagram_by, envelope_of, envelope_to, if_said}
+use Rattle.export_engine.specs.Packets.{most_payload, packet_by, packets_text, pcap_text, sent_by}
+use Rattle.export_engine.specs.Reread.{datagram_in, frame_by, packet_of, packets_of, recorded_by}
 use Rattle.export_engine.specs.declared.places.Envelopes.{Envelopes}
+use Rattle.export_engine.specs.declared.places.IpEnvelope.{IpEnvelope}
+use Rattle.export_engine.specs.declared.places.IpEnvelope.TheVariants.{V4, V6}
 
 -- ---- envelopes fit
 
-text_fits : (text : List ℕ) (e : Envelope) → IsEnvelopeText text e → EnvelopeFits e
-text_fits text e is =
-    let dotted = is.flow.3 in
-    let port : is.port ≤ 65535 = is.flow.4.1 in
-    let four : length (ipv4_octets is.address) ≡ 4 =
-    ap (λ (o : List ℕ). length o) dotted.value in
-    subst EnvelopeFits (sym is.envelope)
-    (record {
-      source = refl;
-      destination = four;
-      source_port = omega (arith, port);
-      destination_port = omega (arith, port);
-    })
+-- numbers and addresses have their octets
+abbrev Fits : IpEnvelope → Type 0
+Fits (V4 e) = EnvelopeFits e
+Fits (V6 e) = EnvelopeFits6 e
 
-some_is : (x y : Envelope) → Some x ≡ Some y → x ≡ y
+two_each : (segments : List ℕ) → length (octets_of segments) ≡ 2 * length segments
+two_each [] = refl
+two_each (s ∷ segments) = omega (arith, two_each segments)
+
+eight : (text segments : List ℕ) → IsColonHex text segments → length segments ≡ 8
+eight text segments (inl is) = is.1
+eight text segments (inr is) =
+    let zeros : List ℕ = replicate (8 - length is.head - length is.tail) 0 in
+    ap (λ (l : List ℕ). length l) is.value
+    ∙ omega (
+      arith,
+      length-append (is.head ++ zeros) is.tail,
+      length-append is.head zeros,
+      length-replicate {A = ℕ} (8 - length is.head - length is.tail) 0,
+      is.room,
+    )
+
+to_fits : (host : List ℕ) (address : IpAddr) (port : ℕ) → IsHost host address → port ≤ 65535
+    → Fits (envelope_to address port)
+to_fits host (ip.V4 a) port is small = record {
+  source = refl;
+  destination = ap (λ (o : List ℕ). length o) is.value;
+  source_port = omega (arith, small);
+  destination_port = omega (arith, small);
+}
+to_fits host (ip.V6 a) port is small = record {
+  source = refl;
+  destination =
+      two_each a.segments
+      ∙ ap (λ (n : ℕ). 2 * n) (eight is.0 a.segments is.2);
+  source_port = omega (arith, small);
+  destination_port = omega (arith, small);
+}
+
+text_fits : (text : List ℕ) (e : IpEnvelope) → IsEnvelopeText text e → Fits e
+text_fits text e is =
+    subst Fits (sym is.envelope) (to_fits is.flow.0 is.address is.port is.flow.3 is.flow.4.1)
+
+some_is : (x y : IpEnvelope) → Some x ≡ Some y → x ≡ y
 some_is x y same = cc
 
-second_fits : (b : Option (List ℕ)) (o : Option Envelope) (e : Envelope) → IsSecondText b o
-    → o ≡ Some e → EnvelopeFits e
+second_fits : (b : Option (List ℕ)) (o : Option IpEnvelope) (e : IpEnvelope) → IsSecondText b o
+    → o ≡ Some e → Fits e
 second_fits None o e is same = absurd (none (sym is ∙ same))
   where
-    none : {x : Envelope} → None ≡ Some x → ⊥
+    none : {x : IpEnvelope} → None ≡ Some x → ⊥
     none bad = cc
 second_fits (Some text) None e is same = absurd is
 second_fits (Some text) (Some d) e is same =
-    subst EnvelopeFits (some_is d e same) (text_fits text d is)
+    subst Fits (some_is d e same) (text_fits text d is)
 
 path_fits : (a : List ℕ) (b : Option (List ℕ)) (es : Envelopes) → AreEnvelopes a b es
-    → (path : Path) (e : Envelope) → envelope_of es path ≡ Some e → EnvelopeFits e
+    → (path : Path) (e : IpEnvelope) → envelope_of es path ≡ Some e → Fits e
 path_fits a b es are A e same =
-    subst EnvelopeFits (some_is es.a e same) (text_fits a es.a are.first)
+    subst Fits (some_is es.a e same) (text_fits a es.a are.first)
 path_fits a b es are B e same = second_fits b es.b e are.second same
 
 -- ---- what is sent
 
-record Sent (es : Envelopes) (e : Entry) (envelope : Envelope) : Type 0 where
-  few : length e.octets ≤ 65507
+record Sent (es : Envelopes) (e : Entry) (envelope : IpEnvelope) : Type 0 where
+  few : length e.octets ≤ most_payload envelope
   time : e.moment < 2 ^ 32 * 1000000000
   from : envelope_of es e.path ≡ Some envelope
 
-said : (moment count : ℕ) → can_say moment count ≡ true
-    → (count ≤ 65507) × (moment < 2 ^ 32 * 1000000000)
-said moment count is = (grind (arith, nat_tests), grind (arith, nat_tests))
+said : (w : IpEnvelope) (moment count : ℕ) → can_say w moment count ≡ true
+    → (count ≤ most_payload w) × (moment < 2 ^ 32 * 1000000000)
+said w moment count is = (grind (arith, nat_tests), grind (arith, nat_tests))
 
-sent : (es : Envelopes) (e : Entry) (envelope : Envelope) → sent_by es e ≡ Some envelope
+sent : (es : Envelopes) (e : Entry) (envelope : IpEnvelope) → sent_by es e ≡ Some envelope
     → Sent es e envelope
-sent es e envelope is = by (can_say e.moment (length e.octets)) refl is
+sent es e envelope is = of (envelope_of es e.path) refl is
   where
-    by : (t : Bool) → can_say e.moment (length e.octets) ≡ t
-        → cond t (envelope_of es e.path) None ≡ Some envelope → Sent es e envelope
-    by true can same =
-        let both = said e.moment (length e.octets) can in
-        record { few = both.0; time = both.1; from = same }
-    by false can same = absurd (none same)
+    by : (w : IpEnvelope) → envelope_of es e.path ≡ Some w → (t : Bool)
+        → can_say w e.moment (length e.octets) ≡ t → cond t (Some w) None ≡ Some envelope
+        → Sent es e envelope
+    by w from true can same =
+        let is_it : w ≡ envelope = some_is w envelope same in
+        let both = said w e.moment (length e.octets) can in
+        subst (λ (x : IpEnvelope). Sent es e x) is_it
+        (record { few = both.0; time = both.1; from = from })
+    by w from false can same = absurd (none same)
       where
-        none : {x : Envelope} → None ≡ Some x → ⊥
+        none : {x : IpEnvelope} → None ≡ Some x → ⊥
         none bad = cc
+
+    of : (o : Option IpEnvelope) → envelope_of es e.path ≡ o
+        → if_said o e.moment (length e.octets) ≡ Some envelope → Sent es e envelope
+    of None from same = absurd (none same)
+      where
+        none : {x : IpEnvelope} → None ≡ Some x → ⊥
+        none bad = cc
+    of (Some w) from same = by w from (can_say w e.moment (length e.octets)) refl same
 
 -- ---- the recording
 
+one_datagram : (w : IpEnvelope) → Fits w → (payload : List ℕ) → length payload ≤ most_payload w
+    → IsDatagram Ethernet (frame_by w payload) (datagram_in w payload)
+one_datagram (V4 w) fits payload few = is_datagram w fits payload few
+one_datagram (V6 w) fits payload few = is_datagram6 w fits payload few
+
+one_record : (w : IpEnvelope) → Fits w → (payload : List ℕ) → length payload ≤ most_payload w
+    → (time : ℕ) → time < 2 ^ 32 * 1000000000
+    → IsRecord written_file (datagram_by w time payload) (recorded_by w time payload)
+one_record (V4 w) fits payload few time small = is_record w fits payload few time small
+one_record (V6 w) fits payload few time small = is_record6 w fits payload few time small
+
 module _ (a : List ℕ) (b : Option (List ℕ)) (es : Envelopes) (are : AreEnvelopes a b es) where
-  fits : (e : Entry) (envelope : Envelope) → sent_by es e ≡ Some envelope → EnvelopeFits envelope
+  fits : (e : Entry) (envelope : IpEnvelope) → sent_by es e ≡ Some envelope → Fits envelope
   fits e envelope is = path_fits a b es are e.path envelope (sent es e envelope is).from
 
-  pub are_datagrams : (e : Entry) (envelope : Envelope) → sent_by es e ≡ Some envelope
-      → IsDatagram Ethernet (frame_text envelope e.octets) (datagram_of envelope e.octets)
+  pub are_datagrams : (e : Entry) (envelope : IpEnvelope) → sent_by es e ≡ Some envelope
+      → IsDatagram Ethernet (frame_by envelope e.octets) (datagram_in envelope e.octets)
   are_datagrams e envelope is =
-      is_datagram envelope (fits e envelope is) e.octets (sent es e envelope is).few
+      one_datagram envelope (fits e envelope is) e.octets (sent es e envelope is).few
 
-  one_more : (e : Entry) (o : Option Envelope) → sent_by es e ≡ o → (text : List ℕ)
+  one_more : (e : Entry) (o : Option IpEnvelope) → sent_by es e ≡ o → (text : List ℕ)
       (packets : List Recorded) → AreRecords written_file text packets
       → AreRecords written_file (packet_by o e ++ text) (cons_option (packet_of o e) packets)
   one_more e None is text packets all = all
   one_more e (Some envelope) is text packets all = (
-    datagram_text envelope e.moment e.octets,
+    datagram_by envelope e.moment e.octets,
     text,
-    is_record envelope (fits e envelope is) e.octets (sent es e envelope is).few e.moment
+    one_record envelope (fits e envelope is) e.octets (sent es e envelope is).few e.moment
         (sent es e envelope is).time,
     refl,
     all,

@@ -15,8 +15,7 @@ IsReadRefusal told (refusal.Capture f) =
     (octets : List ℕ) → told octets → AreOctets octets → IsCaptureFault f 16777216 octets
 IsReadRefusal told r = ⊥
 
--- The refusals of `export` in their order: the texts are no flows to addresses of IPv4; of the
--- capture.
+-- The refusals of `export` in their order: the texts are no flows to addresses; of the capture.
 abbrev pub IsExportRefusal : List ℕ → Option (List ℕ) → (List ℕ → Type 0) → Refusal → Type 0
 IsExportRefusal a b told refusal.ExportFlow = (es : Envelopes) → AreEnvelopes a b es → ⊥
 IsExportRefusal a b told r =

@@ -3,46 +3,52 @@ use Rattle.std.specs.Prelude.{◌≡◌, ℕ, ◌*◌, ◌^◌, ◌&&◌, nat_le
 use Rattle.std.specs.Prelude.{if◌then◌else◌, List, [], ◌∷◌, ◌++◌, length, Option, None, Some}
 use Rattle.std.specs.Prelude.{count_by}
 use Rattle.std.specs.List.{flat_map}
-use Rattle.std.specs.Net.Addr.{ipv4_octets}
+use Rattle.std.specs.Net.Addr.{ipv4_octets, ipv6_octets}
 use Rattle.std.specs.declared.net.ip_addr.IpAddr.{IpAddr}
-use Rattle.std.specs.declared.net.ip_addr.IpAddr.TheVariants.{V4, V6}
-use Rattle.std.specs.declared.net.ipv4_addr.Ipv4Addr.{Ipv4Addr}
+use Rattle.std.specs.declared.net.ip_addr.IpAddr.TheVariants as ip
 use Rattle.st_format.specs.declared.path.Path.{Path}
 use Rattle.st_format.specs.declared.path.Path.TheVariants.{A, B}
 use Rattle.media_file.specs.Records.{Entry}
 use Rattle.flow.specs.FlowText.{IsFlowText}
 use Rattle.pcap_file.specs.Writing.{datagram_text, file_text}
-use Rattle.pcap_file.specs.declared.writing.Envelope.{Envelope}
+use Rattle.pcap_file.specs.Writing6.{datagram6_text}
 use Rattle.export_engine.specs.declared.places.Envelopes.{Envelopes}
+use Rattle.export_engine.specs.declared.places.IpEnvelope.{IpEnvelope}
+use Rattle.export_engine.specs.declared.places.IpEnvelope.TheVariants.{V4, V6}
 
--- the address that sends: one for documentation. RFC 5737, 3
+-- the address that sends, of IPv4 and of IPv6: one for documentation. RFC 5737, 3; RFC 3849, 2
 abbrev pub sender : List ℕ
 sender = 192 ∷ 0 ∷ 2 ∷ 1 ∷ []
 
--- to an address and a port, from the sender and the same port
-abbrev pub envelope_to : List ℕ → ℕ → Envelope
-envelope_to address port = record {
-  source = sender;
-  destination = address;
-  source_port = port;
-  destination_port = port;
-}
+abbrev pub sender6 : List ℕ
+sender6 = 0x20 ∷ 0x01 ∷ 0x0d ∷ 0xb8 ∷ 0 ∷ 0 ∷ 0 ∷ 0 ∷ 0 ∷ 0 ∷ 0 ∷ 0 ∷ 0 ∷ 0 ∷ 0 ∷ 1 ∷ []
 
--- the address of IPv4 that is named
-abbrev pub ipv4_in : Option IpAddr → Option Ipv4Addr
-ipv4_in None = None
-ipv4_in (Some (V4 a)) = Some a
-ipv4_in (Some (V6 a)) = None
+-- to an address and a port, from the sender of the address's version and the same port
+abbrev pub envelope_to : IpAddr → ℕ → IpEnvelope
+envelope_to (ip.V4 a) port =
+    V4 (record {
+      source = sender;
+      destination = ipv4_octets a;
+      source_port = port;
+      destination_port = port;
+    })
+envelope_to (ip.V6 a) port =
+    V6 (record {
+      source = sender6;
+      destination = ipv6_octets a;
+      source_port = port;
+      destination_port = port;
+    })
 
--- A text is a flow to an address of IPv4, and so its datagrams are sent.
-pub record IsEnvelopeText (text : List ℕ) (e : Envelope) : Type 0 where
-  pub address : Ipv4Addr
+-- A text is a flow to an address, and so its datagrams are sent.
+pub record IsEnvelopeText (text : List ℕ) (e : IpEnvelope) : Type 0 where
+  pub address : IpAddr
   pub port : ℕ
-  pub flow : IsFlowText text (record { address = Some (V4 address); port = port })
-  pub envelope : e ≡ envelope_to (ipv4_octets address) port
+  pub flow : IsFlowText text (record { address = Some address; port = port })
+  pub envelope : e ≡ envelope_to address port
 
 -- so of the text of path B, where there is one
-abbrev pub IsSecondText : Option (List ℕ) → Option Envelope → Type 0
+abbrev pub IsSecondText : Option (List ℕ) → Option IpEnvelope → Type 0
 IsSecondText None e = e ≡ None
 IsSecondText (Some text) None = ⊥
 IsSecondText (Some text) (Some e) = IsEnvelopeText text e
@@ -53,24 +59,39 @@ pub record AreEnvelopes (a : List ℕ) (b : Option (List ℕ)) (es : Envelopes) 
   pub second : IsSecondText b es.b
 
 -- how the datagrams of a path are sent
-abbrev pub envelope_of : Envelopes → Path → Option Envelope
+abbrev pub envelope_of : Envelopes → Path → Option IpEnvelope
 envelope_of es A = Some es.a
 envelope_of es B = es.b
 
--- The datagram fits a packet: 65,535 octets without the 20 of a header of IPv4 (RFC 791, 3.1) and
--- the 8 of one of UDP (RFC 768). And its moment in nanoseconds is a time that pcap can say: 32 bits
--- of seconds.
-abbrev pub can_say : ℕ → ℕ → Bool
-can_say moment count = nat_le count 65507 && nat_lt moment (2 ^ 32 * 1000000000)
+-- The octets that a datagram has at most: a packet of IPv4 has 65,535 with its header of 20 (RFC
+-- 791, 3.1), one of IPv6 has them behind its header (RFC 8200, 3); 8 are the header of UDP (RFC
+-- 768).
+abbrev pub most_payload : IpEnvelope → ℕ
+most_payload (V4 e) = 65507
+most_payload (V6 e) = 65527
+
+-- The datagram fits a packet. And its moment in nanoseconds is a time that pcap can say: 32 bits of
+-- seconds.
+abbrev pub can_say : IpEnvelope → ℕ → ℕ → Bool
+can_say e moment count = nat_le count (most_payload e) && nat_lt moment (2 ^ 32 * 1000000000)
 
 -- how a record's datagram is sent; none where it is left out
-abbrev pub sent_by : Envelopes → Entry → Option Envelope
-sent_by es e = if can_say e.moment (length e.octets) then envelope_of es e.path else None
+abbrev pub if_said : Option IpEnvelope → ℕ → ℕ → Option IpEnvelope
+if_said None moment count = None
+if_said (Some e) moment count = if can_say e moment count then Some e else None
+
+abbrev pub sent_by : Envelopes → Entry → Option IpEnvelope
+sent_by es e = if_said (envelope_of es e.path) e.moment (length e.octets)
+
+-- a datagram, as a record of pcap
+abbrev pub datagram_by : IpEnvelope → ℕ → List ℕ → List ℕ
+datagram_by (V4 e) time payload = datagram_text e time payload
+datagram_by (V6 e) time payload = datagram6_text e time payload
 
 -- a packet, at the record's moment
-abbrev pub packet_by : Option Envelope → Entry → List ℕ
+abbrev pub packet_by : Option IpEnvelope → Entry → List ℕ
 packet_by None e = []
-packet_by (Some envelope) e = datagram_text envelope e.moment e.octets
+packet_by (Some envelope) e = datagram_by envelope e.moment e.octets
 
 abbrev pub packet_text : Envelopes → Entry → List ℕ
 packet_text es e = packet_by (sent_by es e) e
@@ -84,7 +105,7 @@ abbrev pub pcap_text : Envelopes → List Entry → List ℕ
 pcap_text es entries = file_text ++ packets_text es entries
 
 -- a record has a packet
-abbrev pub is_there : Option Envelope → Bool
+abbrev pub is_there : Option IpEnvelope → Bool
 is_there None = false
 is_there (Some envelope) = true
 

@@ -4,16 +4,32 @@ use Rattle.std.specs.List.{filter_map}
 use Rattle.media_file.specs.Records.{Entry}
 use Rattle.pcap_file.specs.Datagram.{IsDatagram}
 use Rattle.pcap_file.specs.PcapReading.{IsPcap, Recorded}
+use Rattle.pcap_file.specs.Udp.{Datagram}
 use Rattle.pcap_file.specs.Writing.{datagram_of, frame_text, recorded_of}
+use Rattle.pcap_file.specs.Writing6.{ends_of, frame6_text, recorded6_of}
 use Rattle.pcap_file.specs.declared.link.Link.TheVariants.{Ethernet}
-use Rattle.pcap_file.specs.declared.writing.Envelope.{Envelope}
 use Rattle.export_engine.specs.Packets.{AreEnvelopes, pcap_text, sent_by}
 use Rattle.export_engine.specs.declared.places.Envelopes.{Envelopes}
+use Rattle.export_engine.specs.declared.places.IpEnvelope.{IpEnvelope}
+use Rattle.export_engine.specs.declared.places.IpEnvelope.TheVariants.{V4, V6}
+
+-- a datagram so sent: the packet at this time, its octets, and the datagram that these are
+abbrev pub recorded_by : IpEnvelope → ℕ → List ℕ → Recorded
+recorded_by (V4 e) time payload = recorded_of e time payload
+recorded_by (V6 e) time payload = recorded6_of e time payload
+
+abbrev pub frame_by : IpEnvelope → List ℕ → List ℕ
+frame_by (V4 e) payload = frame_text e payload
+frame_by (V6 e) payload = frame6_text e payload
+
+abbrev pub datagram_in : IpEnvelope → List ℕ → Datagram
+datagram_in (V4 e) payload = datagram_of e payload
+datagram_in (V6 e) payload = datagram_of (ends_of e) payload
 
 -- the packet that a record has: at its moment
-abbrev pub packet_of : Option Envelope → Entry → Option Recorded
+abbrev pub packet_of : Option IpEnvelope → Entry → Option Recorded
 packet_of None e = None
-packet_of (Some envelope) e = Some (recorded_of envelope e.moment e.octets)
+packet_of (Some envelope) e = Some (recorded_by envelope e.moment e.octets)
 
 -- the packets of records, in their order
 abbrev pub packets_of : Envelopes → List Entry → List Recorded
@@ -27,5 +43,5 @@ IsReread = (a : List ℕ) (b : Option (List ℕ)) (es : Envelopes) → AreEnvelo
 -- And each packet's octets are the record's datagram, to where it is sent.
 abbrev pub AreDatagrams : Type 0
 AreDatagrams = (a : List ℕ) (b : Option (List ℕ)) (es : Envelopes) → AreEnvelopes a b es
-    → (e : Entry) (envelope : Envelope) → sent_by es e ≡ Some envelope
-    → IsDatagram Ethernet (frame_text envelope e.octets) (datagram_of envelope e.octets)
+    → (e : Entry) (envelope : IpEnvelope) → sent_by es e ≡ Some envelope
+    → IsDatagram Ethernet (frame_by envelope e.octets) (datagram_in envelope e.octets)

@@ -18,7 +18,7 @@ use std::alloc::{AllocError, Allocator};
 const RECORDS: u64 = 16_777_216;
 
 /// What `export` is asked for, beside its files: the texts of the flows of the paths, each to an
-/// address of IPv4, as `239.1.1.1:5004`.
+/// address, as `239.1.1.1:5004` or `[ff3e::1]:5004`.
 #[derive(Clone, Copy)]
 pub struct Exporting<'a> {
     pub a: &'a [u8],
@@ -26,16 +26,16 @@ pub struct Exporting<'a> {
 }
 
 /// Writes a capture, of either version, as a recording of pcap in nanoseconds: a packet of
-/// Ethernet, IPv4 and UDP for each record, at the record's moment, which is taken for nanoseconds
-/// since 1970. The packet goes to the flow of the record's path, from 192.0.2.1 and the flow's own
-/// port.
+/// Ethernet, IPv4 or IPv6, and UDP for each record, at the record's moment, which is taken for
+/// nanoseconds since 1970. The packet goes to the flow of the record's path, from 192.0.2.1 or
+/// 2001:db8::1 and the flow's own port.
 ///
-/// A record is left out whose path has no flow, which has more than 65,507 octets, or whose moment
-/// is 2^32 seconds or later. `exported N left out K` is printed to `output`.
+/// A record is left out whose path has no flow, which has more than 65,507 octets, or 65,527 over
+/// IPv6, or whose moment is 2^32 seconds or later. `exported N left out K` is printed to `output`.
 ///
 /// # Errors
 ///
-/// A refusal: `ExportFlow` where a text is no flow to an address of IPv4, before anything is read;
+/// A refusal: `ExportFlow` where a text is no flow to an address, before anything is read;
 /// then the first fault of the capture, which has at most 16,777,216 records. And else that a
 /// device failed or memory was wanted. Nothing is written before the capture's front was read;
 /// where a record is at fault, the packets of those before it are.
@@ -102,7 +102,7 @@ fn export_capture<A: Allocator + Copy, S: ByteSource, K: ByteSink>(
 
 /// Room for any packet.
 fn packet_room<A: Allocator>(alloc: A) -> Result<Vec<u8, A>, AllocError>
-    ensures { IfOk result (λ room. vec_len room ≡ 65565) }
+    ensures { IfOk result (λ room. vec_len room ≡ 65605) }
 {
     vec![in alloc; 0u8; PACKET]
 }

@@ -5,9 +5,7 @@ mod exporting;
 pub mod laws;
 mod packets;
 mod places;
-#[cfg(test)]
-mod tests;
 
 pub use exporting::{Exporting, export};
 pub use packets::ExportCounts;
-pub use places::Envelopes;
+pub use places::{Envelopes, IpEnvelope};

@@ -1,22 +1,23 @@
 //! Packets of a capture's records.
-ghost use Rattle.std.specs.Prelude.{◌≡◌, ◌≤◌, ◌++◌, [], ◌∷◌, length, IfErr, IfOk, OnErr, OnOk};
-ghost use Rattle.std.specs.Prelude.{MatchResult};
+ghost use Rattle.std.specs.Prelude.{◌≡◌, ◌≤◌, ◌<◌, ◌*◌, ◌^◌, ◌++◌, [], ◌∷◌, length, take};
+ghost use Rattle.std.specs.Prelude.{IfErr, IfOk, MatchResult, OnErr, OnOk};
 ghost use Rattle.st_format.specs.Device.{CountsOne, GrowsPart};
 ghost use Rattle.media_file.specs.Capture.{capture_walk, records_at};
 ghost use Rattle.media_file.specs.Fields.{GaveFault};
 ghost use Rattle.media_file.specs.Migrated.{CountsEither, IsOfCapture};
 ghost use Rattle.pcap_file.specs.Writing.{file_text};
-ghost use Rattle.export_engine.specs.Packets.{packet_count, packet_text};
+ghost use Rattle.export_engine.specs.Packets.{datagram_by, most_payload, packet_count};
+ghost use Rattle.export_engine.specs.Packets.{packet_text};
 ghost use Rattle.export_engine.specs.Exported.{ExportsCapture, ExportsRecords, StopsExport};
 ghost use Rattle.export_engine.specs.Exported.{StopsPackets};
 
-use crate::places::{Envelopes, MOST_PAYLOAD};
+use crate::places::{Envelopes, IpEnvelope, MOST_PAYLOAD6};
 use media_file::{FileFault, RecordHead, read_front, record_begins, record_rest};
-use pcap_file::{HEADS, write_pcap_head, write_record};
+use pcap_file::{HEADS6, write_pcap_head, write_record, write_record6};
 use st_format::{ByteSink, ByteSource, DeviceFault, write_whole};
 
 /// Room for the greatest packet.
-pub(crate) const PACKET: usize = HEADS + MOST_PAYLOAD;
+pub(crate) const PACKET: usize = HEADS6 + MOST_PAYLOAD6;
 
 /// How many octets stand before the packets of a recording.
 const HEAD: usize = 24;
@@ -28,6 +29,21 @@ pub struct ExportCounts {
     pub left_out: u64,
 }
 
+/// Writes a datagram's packet over the first octets of `packet`, and answers how many.
+fn write_datagram(packet: &mut [u8], envelope: &IpEnvelope, time: u64, payload: &[u8]) -> usize
+    requires few { length payload.now ≤ most_payload envelope.now }
+    requires room { 65605 ≤ length packet.old }
+    requires time { time < 2 ^ 32 * 1000000000 }
+    ensures room { length packet.new ≡ length packet.old }
+    ensures count { result ≤ length packet.new }
+    ensures written { take result packet.new ≡ datagram_by envelope.now time payload.now }
+{
+    match envelope {
+        IpEnvelope::V4(envelope) => write_record(packet, envelope, time, payload),
+        IpEnvelope::V6(envelope) => write_record6(packet, envelope, time, payload),
+    }
+}
+
 /// Writes the packet of a record's datagram, where it has one, and answers how many it wrote.
 fn write_packet<K: ByteSink>(
     envelopes: &Envelopes,
@@ -36,7 +52,7 @@ fn write_packet<K: ByteSink>(
     sink: &mut K,
     packet: &mut [u8],
 ) -> Result<u64, DeviceFault>
-    requires { 65565 ≤ length packet.old }
+    requires { 65605 ≤ length packet.old }
     ensures room { length packet.new ≡ length packet.old }
     ensures counts { IfOk result (λ n. n ≡ packet_count envelopes.now (record {
       path = head.path;
@@ -61,14 +77,14 @@ fn write_packet<K: ByteSink>(
     let Some(envelope) = envelopes.sent(head, octets) else {
         return Ok(0);
     };
-    let count = write_record(packet, &envelope, head.moment, octets);
+    let count = write_datagram(packet, &envelope, head.moment, octets);
     write_whole(sink, &packet[..count])?;
     Ok(1)
 }
 
 /// Writes what stands before the packets of a recording.
 fn write_head<K: ByteSink>(sink: &mut K, packet: &mut [u8]) -> Result<(), DeviceFault>
-    requires { 65565 ≤ length packet.old }
+    requires { 65605 ≤ length packet.old }
     ensures room { length packet.new ≡ length packet.old }
     ensures took { OnOk result (K.took sink.new ≡ K.took sink.old ++ file_text) }
     ensures part { OnErr result (GrowsPart (K.took sink.old) (K.took sink.new) file_text) }
@@ -95,7 +111,7 @@ pub(crate) fn write_recording<S: ByteSource, K: ByteSink>(
     limit: u64,
 ) -> Result<ExportCounts, FileFault>
     requires room { 65535 ≤ length buf.old }
-    requires packet { 65565 ≤ length packet.old }
+    requires packet { 65605 ≤ length packet.old }
     ensures exported { IfOk result (λ counts. ExportsCapture limit envelopes.now counts
         (S.gave source.old) (S.gave source.new) (S.ended source.new)
         (K.took sink.old) (K.took sink.new)) }
@@ -126,7 +142,7 @@ fn write_packets<S: ByteSource, K: ByteSink>(
     limit: u64,
 ) -> Result<ExportCounts, FileFault>
     requires room { 65535 ≤ length buf.old }
-    requires packet { 65565 ≤ length packet.old }
+    requires packet { 65605 ≤ length packet.old }
     ensures exported { IfOk result (λ counts. ExportsRecords limit envelopes.now counts
         (S.gave source.old) (S.gave source.new) (S.ended source.new)
         (K.took sink.old) (K.took sink.new)) }

@@ -1,61 +1,79 @@
 //! Where the datagrams of the paths are sent.
 ghost use Rattle.std.specs.Prelude.{◌≡◌, ◌≤◌, ◌<◌, ◌*◌, ◌^◌, IfSome, MatchOption, length};
 ghost use Rattle.std.specs.Option.{option_copied};
-ghost use Rattle.pcap_file.specs.declared.writing.Envelope.{Envelope};
 ghost use Rattle.export_engine.specs.Packets.{AreEnvelopes, IsEnvelopeText, can_say};
-ghost use Rattle.export_engine.specs.Packets.{envelope_of, ipv4_in, sent_by};
+ghost use Rattle.export_engine.specs.Packets.{envelope_of, envelope_to, most_payload, sent_by};
 
 use crate::exporting::Exporting;
 use flow::read_flow;
 use media_file::RecordHead;
-use pcap_file::Envelope;
+use pcap_file::{Envelope, Envelope6};
 use st_format::Path;
-use std::net::{IpAddr, Ipv4Addr};
+use std::net::IpAddr;
 
-/// The address that sends: one for documentation (RFC 5737, 3).
+/// The address of IPv4 that sends: one for documentation (RFC 5737, 3).
 const SENDER: [u8; 4] = [192, 0, 2, 1];
 
-/// How many octets a datagram has at most: a packet of IPv4 has 65,535 with its header and that of
-/// UDP (RFC 791, 3.1; RFC 768).
-pub(crate) const MOST_PAYLOAD: usize = 65_507;
+/// The address of IPv6 that sends, 2001:db8::1: one for documentation (RFC 3849, 2).
+const SENDER6: [u8; 16] = [0x20, 0x01, 0x0d, 0xb8, 0, 0, 0, 0, 0, 0, 0, 0, 0, 0, 0, 1];
+
+/// How many octets a datagram over IPv4 has at most: a packet has 65,535 with its header and that
+/// of UDP (RFC 791, 3.1; RFC 768).
+const MOST_PAYLOAD: usize = 65_507;
+
+/// How many octets a datagram over IPv6 has at most: a packet has 65,535 behind its header, with
+/// that of UDP (RFC 8200, 3; RFC 768).
+pub(crate) const MOST_PAYLOAD6: usize = 65_527;
 
 /// The first time in nanoseconds that pcap can't say: its seconds have 32 bits.
 const TIMES: u64 = 4_294_967_296_000_000_000;
 
+/// Whence a datagram comes and where to it goes, by the version of IP.
+#[derive(Clone, Copy)]
+pub enum IpEnvelope {
+    V4(Envelope),
+    V6(Envelope6),
+}
+
 /// How the datagrams of the two paths are sent; those of B where that is said.
 #[derive(Clone, Copy)]
 pub struct Envelopes {
-    pub a: Envelope,
-    pub b: Option<Envelope>,
+    pub a: IpEnvelope,
+    pub b: Option<IpEnvelope>,
 }
 
-/// Reads a flow to an address of IPv4.
-fn read_envelope(text: &[u8]) -> Option<Envelope>
-    ensures { MatchOption result ((e : Envelope) → IsEnvelopeText text.now e → ⊥)
+/// To an address and a port, from the sender of the address's version and the same port.
+fn envelope_to(address: IpAddr, port: u16) -> IpEnvelope
+    ensures { result ≡ envelope_to address port }
+{
+    match address {
+        IpAddr::V4(address) => IpEnvelope::V4(Envelope {
+            source: SENDER,
+            destination: address.octets(),
+            source_port: port,
+            destination_port: port,
+        }),
+        IpAddr::V6(address) => IpEnvelope::V6(Envelope6 {
+            source: SENDER6,
+            destination: address.octets(),
+            source_port: port,
+            destination_port: port,
+        }),
+    }
+}
+
+/// Reads a flow to an address.
+fn read_envelope(text: &[u8]) -> Option<IpEnvelope>
+    ensures { MatchOption result ((e : IpEnvelope) → IsEnvelopeText text.now e → ⊥)
         (IsEnvelopeText text.now) }
 {
     let Some(flow) = read_flow(text) else {
         return None;
     };
-    let Some(address) = ipv4_in(flow.address) else {
+    let Some(address) = flow.address else {
         return None;
     };
-    Some(Envelope {
-        source: SENDER,
-        destination: address.octets(),
-        source_port: flow.port,
-        destination_port: flow.port,
-    })
-}
-
-/// The address of IPv4 that is named.
-fn ipv4_in(address: Option<IpAddr>) -> Option<Ipv4Addr>
-    ensures { result ≡ ipv4_in address }
-{
-    match address {
-        Some(IpAddr::V4(address)) => Some(address),
-        _ => None,
-    }
+    Some(envelope_to(address, flow.port))
 }
 
 impl Envelopes {
@@ -75,7 +93,7 @@ impl Envelopes {
         }
     }
 
-    fn of(&self, path: Path) -> Option<Envelope>
+    fn of(&self, path: Path) -> Option<IpEnvelope>
         ensures { result ≡ envelope_of self.now path }
     {
         match path {
@@ -85,27 +103,37 @@ impl Envelopes {
     }
 
     /// How a record's datagram is sent; none where it is left out: its path has no flow, it has
-    /// more than 65,507 octets, or pcap can't say its moment.
-    pub(crate) fn sent(&self, head: RecordHead, octets: &[u8]) -> Option<Envelope>
+    /// more octets than a packet has room for, or pcap can't say its moment.
+    pub(crate) fn sent(&self, head: RecordHead, octets: &[u8]) -> Option<IpEnvelope>
         ensures sent { result ≡ sent_by self.now (record {
           path = head.path;
           moment = head.moment;
           octets = octets.now;
         }) }
-        ensures few { IfSome result (λ _. length octets.now ≤ 65507) }
+        ensures few { IfSome result (λ e. length octets.now ≤ most_payload e) }
         ensures time { IfSome result (λ _. head.moment < 2 ^ 32 * 1000000000) }
     {
-        if can_say(head.moment, octets.len()) {
-            self.of(head.path)
-        } else {
-            None
+        match self.of(head.path) {
+            Some(envelope) if envelope.can_say(head.moment, octets.len()) => Some(envelope),
+            _ => None,
         }
     }
 }
 
-/// Whether a datagram of so many octets at this moment has a packet.
-fn can_say(moment: u64, count: usize) -> bool
-    ensures { result ≡ can_say moment count }
-{
-    count <= MOST_PAYLOAD && moment < TIMES
+impl IpEnvelope {
+    fn most_payload(&self) -> usize
+        ensures { result ≡ most_payload self.now }
+    {
+        match self {
+            IpEnvelope::V4(_) => MOST_PAYLOAD,
+            IpEnvelope::V6(_) => MOST_PAYLOAD6,
+        }
+    }
+
+    /// Whether a datagram of so many octets at this moment has a packet.
+    fn can_say(&self, moment: u64, count: usize) -> bool
+        ensures { result ≡ can_say self.now moment count }
+    {
+        count <= self.most_payload() && moment < TIMES
+    }
 }

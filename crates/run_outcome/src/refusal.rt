@@ -15,7 +15,7 @@ pub enum Refusal {
     Script(usize, LineFault),
     /// The text for a capture is longer than a capture's text may be.
     MigrateSdp,
-    /// The words for a path are no flow to an address of IPv4.
+    /// The words for a path are no flow to an address.
     ExportFlow,
     /// The window is no text of timestamps.
     ReceiveWindow,

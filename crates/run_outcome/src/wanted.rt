@@ -10,7 +10,7 @@ impl Refusal {
         match self {
             Refusal::Script(_, fault) => fault.wanted(),
             Refusal::MigrateSdp | Refusal::SendSdp | Refusal::ImportSdp => "at most 65535 octets",
-            Refusal::ExportFlow => "an address of IPv4, a colon and a port, as 239.1.1.1:5004",
+            Refusal::ExportFlow => "an address, a colon and a port, as 239.1.1.1:5004",
             Refusal::ReceiveWindow => "timestamps with commas between",
             Refusal::ReceiveSource => "a number or any",
             Refusal::ReceiveSdp => "at most 16777216 octets",

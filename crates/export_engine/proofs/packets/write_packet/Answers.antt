@@ -1,4 +1,4 @@
-use Rattle.std.proofs.Common.{◌++◌, List, ℕ, ap, arith, subst, ◌∙◌}
+use Rattle.std.proofs.Common.{◌++◌, ◌∙◌, List, ℕ, ap, subst}
 use Rattle.std.proofs.lemmas.Result.{err_from_is_err_and}
 use Rattle.st_format.specs.Device.{GrowsPart}
 use Rattle.media_file.specs.Records.{Entry}
@@ -16,10 +16,8 @@ returns-in_err-write_whole-clause-part g c =
     rw p.1
     (subst (λ (t : List ℕ). GrowsPart (g.K.ByteSink.took c.args.sink.now)
     (g.K.ByteSink.took c.write_whole.new.sink) t)
-    (packet_taken c.args.envelopes.now e c.in-Some.envelope c.write_record-count.result
-    c.args.packet.now c.write_record-count.new.buf c.in-Some.ensures.sent
-    c.write_record-count.ensures.value c.write_record-count.ensures.written
-    c.write_record-count.auto.buf (omega (arith, c.requires, c.in-Some.ensures.few)))
+    (packet_taken c.args.envelopes.now e c.in-Some.envelope _ c.in-Some.ensures.sent
+    c.write_datagram-count.ensures.written)
     c.in_err-write_whole.ensures.part)
 
 pub returns-clause-took : goal.returns-clause-took
@@ -31,7 +29,5 @@ returns-clause-took g c =
     } in
     c.in_ok-write_whole.ensures.took
     ∙ ap (λ (t : List ℕ). g.K.ByteSink.took c.args.sink.now ++ t)
-    (packet_taken c.args.envelopes.now e c.in-Some.envelope c.write_record-count.result
-    c.args.packet.now c.write_record-count.new.buf c.in-Some.ensures.sent
-    c.write_record-count.ensures.value c.write_record-count.ensures.written
-    c.write_record-count.auto.buf (omega (arith, c.requires, c.in-Some.ensures.few)))
+    (packet_taken c.args.envelopes.now e c.in-Some.envelope _ c.in-Some.ensures.sent
+    c.write_datagram-count.ensures.written)

@@ -19,4 +19,4 @@ invariant-loop-first g l = Exporting
     (g.S.ByteSource.failures l.source ≡ g.S.ByteSource.failures l.initial.source)
     (g.K.ByteSink.failures l.sink ≡ g.K.ByteSink.failures l.initial.sink)
     (65535 ≤ length l.buf)
-    (65565 ≤ length l.packet)
+    (65605 ≤ length l.packet)
