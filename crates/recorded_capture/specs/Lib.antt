@@ -1,0 +1,9 @@
+pub mod Kinds
+pub mod Begun
+pub mod Plain
+pub mod Piece
+pub mod Pieces
+pub mod Recorded
+pub mod Said
+pub mod Source
+pub mod Ways

@@ -1,0 +1,20 @@
+//! Recordings of other tools read as captures: a source of octets over another one. What begins as
+//! a recording becomes, packet by packet, the capture that `import` makes of it, with an empty
+//! text; all else is passed on as it is.
+#![tactic(auto)]
+
+mod begun;
+mod giving;
+mod history;
+mod kinds;
+mod piece;
+mod pieces;
+mod plain;
+mod pouring;
+mod recorded;
+mod said;
+mod source;
+mod ways;
+
+pub use source::CaptureSource;
+pub use ways::ways_each;
