@@ -7,11 +7,15 @@ use capture_engines::{Looping, Sending, Wanted};
 use command_end::{Devices, end_run, end_without_memory};
 use command_line::{LoopWords, MigrateWords, NamedPaths, ReceiveWords, SendWords};
 use devices::{
-    FileSink, FileSource, OutputSink, UdpLink, last_begun, named_file, named_files, reading_of,
-    unbound,
+    FileSink, FileSource, OutputSink, Reading, UdpLink, last_begun, named_file, named_files,
+    reading_of, unbound,
 };
 use media_file::Paths;
-use run_outcome::Fault;
+use recorded_capture::{CaptureSource, ways_each};
+use recording_engines::Importing;
+use run_outcome::{Fault, Refusal, read_text};
+use st_format::ByteSink;
+use std::alloc::Global;
 
 /// Writes a capture of version 01 as one of version 02.
 pub fn migrate(rt: &HostRuntime, words: &MigrateWords<'_>, is_verbose: bool) -> u8 {
@@ -85,30 +89,181 @@ fn paths(named: NamedPaths) -> Paths {
     }
 }
 
-/// Takes the datagrams of captures into one receiver.
+/// Takes the datagrams of captures and recordings into one receiver.
 pub fn receive<'a>(rt: &'a HostRuntime, words: &ReceiveWords<'a>, is_verbose: bool) -> u8 {
     let mut output = OutputSink::new(rt.stdout());
-    let Ok(mut captures) = named_files(rt, words.captures.as_slice()) else {
-        return end_without_memory(rt, is_verbose, &output);
-    };
-    let mut sdp = named_file(rt, words.sdp);
     let mut state = FileSink::new(rt, words.state);
-    let outcome = capture_engines::receive(
-        rt.alloc(),
-        wanted(words),
-        &mut sdp,
-        captures.as_mut_slice(),
-        &mut state,
-        &mut output,
-    );
+    let mut files = Files {
+        unread: None,
+        sdp: None,
+        captures: Vec::new(rt.alloc()),
+    };
+    let outcome = match open_files(rt, words, &mut files) {
+        Ok(()) => take_files(rt, words, &mut files, &mut state, &mut output),
+        Err(fault) => Err(words_before(rt, words, fault, &mut state, &mut output)),
+    };
     let is_whole = state.finish();
     let devices = Devices {
-        sdp: reading_of(&sdp),
-        read: last_begun(&captures),
+        sdp: sdp_reading(&files),
+        read: last_read(files.captures.as_slice()),
         written: Some(state.writing()),
         output: output.writing(),
     };
     end_run(rt, is_verbose, outcome, is_whole, &devices, None)
+}
+
+/// A file that is read as a capture, or whose text was read as the SDP.
+type Source<'a> = CaptureSource<Global, FileSource<'a>>;
+
+/// What `receive` reads.
+#[derive(Drop)]
+struct Files<'a> {
+    /// The SDP's file, where its text could not be read.
+    unread: Option<FileSource<'a>>,
+    /// The SDP's text, where one is named.
+    sdp: Option<Source<'a>>,
+    captures: Vec<Source<'a>>,
+}
+
+/// The greatest number of octets of an SDP's file.
+const SDP: usize = 16_777_216;
+
+/// Reads the SDP where one is named, and finds by which flows each file is taken that is a
+/// recording. No such file is looked at yet.
+fn open_files<'a>(
+    rt: &'a HostRuntime,
+    words: &ReceiveWords<'a>,
+    files: &mut Files<'a>,
+) -> Result<(), Fault> {
+    if let Some(name) = words.sdp {
+        let mut file = FileSource::new(rt, name);
+        let said = match read_text(rt.alloc(), &mut file, SDP) {
+            Ok(Some(said)) => said,
+            Ok(None) => {
+                files.unread = Some(file);
+                return Err(Fault::Refused(Refusal::ReceiveSdp));
+            }
+            Err(fault) => {
+                files.unread = Some(file);
+                return Err(fault);
+            }
+        };
+        files.sdp = Some(CaptureSource::said(rt.alloc(), file, said));
+    }
+    open_captures(rt, words, files)
+}
+
+/// The text of the SDP, where one was read.
+fn text_of<'s>(sdp: &'s Option<Source<'_>>) -> Option<&'s [u8]> {
+    match sdp {
+        Some(source) => source.text(),
+        None => None,
+    }
+}
+
+/// The files of captures and recordings, each with the flows that it is taken by if it is a
+/// recording.
+fn open_captures<'a>(
+    rt: &'a HostRuntime,
+    words: &ReceiveWords<'a>,
+    files: &mut Files<'a>,
+) -> Result<(), Fault> {
+    let names = words.recordings.as_slice();
+    let wanted = Importing {
+        a: octets(words.a),
+        b: octets(words.b),
+    };
+    let ways = ways_each(rt.alloc(), wanted, text_of(&files.sdp), names.len())?;
+    for (name, way) in names.iter().zip(ways.iter()) {
+        let file = FileSource::given(rt, name);
+        let capture = CaptureSource::new(rt.alloc(), *way, file);
+        if files.captures.push(capture).is_err() {
+            return Err(Fault::Memory);
+        }
+    }
+    Ok(())
+}
+
+/// The octets of a text, where there is one.
+fn octets(text: Option<&str>) -> Option<&[u8]> {
+    match text {
+        Some(text) => Some(text.as_bytes()),
+        None => None,
+    }
+}
+
+/// Receives, and tells a fault of what was read in place of a device's.
+fn take_files<'a, K: ByteSink, O: ByteSink>(
+    rt: &'a HostRuntime,
+    words: &ReceiveWords<'a>,
+    files: &mut Files<'a>,
+    state: &mut K,
+    output: &mut O,
+) -> Result<(), Fault> {
+    let outcome = capture_engines::receive(
+        rt.alloc(),
+        wanted(words),
+        &mut files.sdp,
+        files.captures.as_mut_slice(),
+        state,
+        output,
+    );
+    match outcome {
+        Err(Fault::Device) => Err(fault_in(files.captures.as_slice())),
+        outcome => outcome,
+    }
+}
+
+/// The fault of the first file that ended by one; else a device failed.
+fn fault_in(captures: &[Source<'_>]) -> Fault {
+    for capture in captures {
+        if let Some(fault) = capture.fault() {
+            return fault;
+        }
+    }
+    Fault::Device
+}
+
+/// What a run ends by whose files could not be opened: a refusal of `--window` or `--ssrc`, which
+/// comes first, or else this fault.
+fn words_before<'a, K: ByteSink, O: ByteSink>(
+    rt: &'a HostRuntime,
+    words: &ReceiveWords<'a>,
+    fault: Fault,
+    state: &mut K,
+    output: &mut O,
+) -> Fault {
+    let mut sdp: Option<Source<'_>> = None;
+    let mut captures: [Source<'_>; 0] = [];
+    match capture_engines::receive(
+        rt.alloc(),
+        wanted(words),
+        &mut sdp,
+        &mut captures,
+        state,
+        output,
+    ) {
+        Err(Fault::Refused(Refusal::ReceiveWindow)) => Fault::Refused(Refusal::ReceiveWindow),
+        Err(Fault::Refused(Refusal::ReceiveSource)) => Fault::Refused(Refusal::ReceiveSource),
+        _ => fault,
+    }
+}
+
+/// Where the reading of the SDP stands, where one is named.
+fn sdp_reading<'a>(files: &Files<'a>) -> Option<Reading<'a>> {
+    match &files.sdp {
+        Some(source) => Some(source.source().reading()),
+        None => reading_of(&files.unread),
+    }
+}
+
+/// Where the reading of the last file stands that was begun.
+fn last_read<'a>(captures: &[Source<'a>]) -> Option<Reading<'a>> {
+    let mut last = None;
+    for capture in captures {
+        last = capture.source().begun().or(last);
+    }
+    last
 }
 
 /// What `receive` is asked for, beside its files.

@@ -103,8 +103,8 @@ const SEND: Said = Said {
 
 const RECEIVE: Said = Said {
     name: "receive",
-    about: "Takes the datagrams of captures into one receiver, prints how many came and a \
-        line for each frame, and writes what is known of each sample",
+    about: "Takes the datagrams of captures and recordings into one receiver, prints how many \
+        came and a line for each frame, and writes what is known of each sample",
     words: &[RECEIVED],
 };
 
@@ -227,8 +227,19 @@ const RECEIVED: &[Word] = &[
     Word {
         name: "sdp",
         usage: Usage::Optional("FILE"),
-        help: "SDP text that says format and payload type; without it, the text of the first \
-            capture",
+        help: "SDP text that says format and payload type, and where the datagrams of each path \
+            go; without it, the text of the first capture",
+    },
+    Word {
+        name: "a",
+        usage: Usage::Optional("[ADDR:]PORT"),
+        help: "Where the datagrams of path A go in recordings of other tools, in place of what the \
+            SDP says of both paths",
+    },
+    Word {
+        name: "b",
+        usage: Usage::Optional("[ADDR:]PORT"),
+        help: "Where those of path B go, likewise",
     },
     Word {
         name: "window",
@@ -252,9 +263,10 @@ const RECEIVED: &[Word] = &[
             other timestamps",
     },
     Word {
-        name: "captures",
-        usage: Usage::Files("CAPTURE"),
-        help: "Captures, taken one after the other",
+        name: "recordings",
+        usage: Usage::Files("RECORDING"),
+        help: "Captures, and recordings of other tools, pcap or pcapng, taken one after the other; \
+            - is standard input",
     },
 ];
 
@@ -389,7 +401,7 @@ const EXPORTED: &[Word] = &[
     Word {
         name: "a",
         usage: Usage::Required("ADDR:PORT"),
-        help: "Where the datagrams of path A go, an address of IPv4",
+        help: "Where the datagrams of path A go, as 239.1.1.1:5004 or [ff3e::1]:5004",
     },
     Word {
         name: "b",

@@ -29,7 +29,7 @@ pub enum Words<'a> {
     Migrate(MigrateWords<'a>),
     /// Send pictures into a capture.
     Send(SendWords<'a>),
-    /// Take the datagrams of captures.
+    /// Take the datagrams of captures and recordings.
     Receive(ReceiveWords<'a>),
     /// Merge two receivers.
     Merge(MergeWords<'a>),
@@ -97,14 +97,18 @@ pub enum NamedPaths {
 pub struct ReceiveWords<'a> {
     /// The SDP's file, where one is named.
     pub sdp: Option<&'a str>,
+    /// Where the datagrams of path A go in recordings of other tools, where that is said.
+    pub a: Option<&'a str>,
+    /// Where those of path B go, likewise.
+    pub b: Option<&'a str>,
     pub window: &'a str,
     pub ssrc: &'a str,
     /// The receiver's file.
     pub state: &'a str,
     /// Whether refusals are counted and told.
     pub refusals: bool,
-    /// The captures' files.
-    pub captures: Vec<&'a str>,
+    /// The files of captures and recordings.
+    pub recordings: Vec<&'a str>,
 }
 
 /// The words behind `merge`: names of receivers' files.
@@ -279,11 +283,13 @@ fn receive_words<'a>(
 ) -> Result<ReceiveWords<'a>, AllocError> {
     Ok(ReceiveWords {
         sdp: given.get_str("sdp"),
+        a: given.get_str("a"),
+        b: given.get_str("b"),
         window: word(given, "window"),
         ssrc: word(given, "ssrc"),
         state: word(given, "state"),
         refusals: given.get_flag("refusals"),
-        captures: list(alloc, given, "captures")?,
+        recordings: list(alloc, given, "recordings")?,
     })
 }
 

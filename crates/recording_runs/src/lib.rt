@@ -1,20 +1,17 @@
 //! The commands that read or write recordings of other tools, over the devices of this machine.
 #![tactic(auto)]
 
-ghost use Rattle.std.specs.Prelude.{◌≡◌, IfOk, vec_len};
-
 use command_end::{Devices, end_run, end_without_memory};
 use command_line::{ExportWords, ImportWords};
 use devices::{FileSink, FileSource, OutputSink, given_files, last_begun};
 use export_engine::Exporting;
-use inspect_engine::{Inspection, note_recordings, print_inspection};
-use pcap_file::RecordingFault;
-use recording_engines::Importing;
+use left_out_counts::LeftOut;
+use recording_engines::{ImportCounts, Importing};
 use run_outcome::Fault;
-use st_format::ByteSink;
-use std::alloc::AllocError;
+use st_format::{ByteSink, write_whole};
 
-/// Makes a capture of recordings.
+/// Makes a capture of recordings. Where nothing was recorded, the flows that the recordings have are
+/// told.
 pub fn import<'a>(rt: &'a HostRuntime, words: &ImportWords<'a>, is_verbose: bool) -> u8 {
     let mut output = OutputSink::new(rt.stdout());
     let Ok(mut recordings) = given_files(rt, words.recordings.as_slice()) else {
@@ -31,6 +28,10 @@ pub fn import<'a>(rt: &'a HostRuntime, words: &ImportWords<'a>, is_verbose: bool
         &mut output,
     );
     let is_whole = out.finish();
+    let outcome = match outcome {
+        Ok(counts) => tell_counts(rt, words, &counts, is_verbose, &mut output),
+        Err(fault) => Err(fault),
+    };
     let devices = Devices {
         sdp: Some(sdp.reading()),
         read: last_begun(&recordings),
@@ -39,6 +40,59 @@ pub fn import<'a>(rt: &'a HostRuntime, words: &ImportWords<'a>, is_verbose: bool
     };
     end_run(rt, is_verbose, outcome, is_whole, &devices, None)
 }
+
+/// Tells more of what was recorded: why packets were left out, where that is asked for; and where
+/// nothing was recorded, which flows the recordings have.
+fn tell_counts<K: ByteSink>(
+    rt: &HostRuntime,
+    words: &ImportWords<'_>,
+    counts: &ImportCounts,
+    is_verbose: bool,
+    output: &mut K,
+) -> Result<(), Fault> {
+    if is_verbose {
+        tell_left_out(rt, &counts.left_out);
+    }
+    if counts.a > 0 || counts.b > 0 {
+        return Ok(());
+    }
+    tell_flows(rt, words.recordings.as_slice(), output)
+}
+
+/// Tells how many packets were left out, by the reason. That standard error may fail changes
+/// nothing.
+fn tell_left_out(rt: &HostRuntime, left_out: &LeftOut) {
+    for (omission, count) in left_out.each() {
+        if count > 0 {
+            let _ = eprintln!(rt; "  left out {count} {}", omission.name());
+        }
+    }
+}
+
+/// Tells which flows recordings have, which are read once more. Standard input can't be, and this is
+/// said.
+fn tell_flows<'a, K: ByteSink>(
+    rt: &'a HostRuntime,
+    names: &[&'a str],
+    output: &mut K,
+) -> Result<(), Fault> {
+    let mut files = Vec::new(rt.alloc());
+    for name in names {
+        if *name != "-" && files.push(FileSource::new(rt, name)).is_err() {
+            return Err(Fault::Memory);
+        }
+    }
+    if files.len() < names.len() {
+        write_whole(output, READ_ONCE)?;
+    }
+    if files.is_empty() {
+        return Ok(());
+    }
+    inspect_engine::inspect(rt.alloc(), files.as_mut_slice(), output)
+}
+
+/// What is said of standard input where nothing was recorded.
+const READ_ONCE: &[u8] = b"standard input is read once; inspect tells its flows\n";
 
 /// What `import` is asked for, beside its files.
 fn importing<'a>(words: &ImportWords<'a>) -> Importing<'a> {
@@ -86,16 +140,13 @@ fn exporting<'a>(words: &ExportWords<'a>) -> Exporting<'a> {
     }
 }
 
-/// How many octets a packet or a block of a recording may have.
-const ROOM: usize = 1_048_576;
-
 /// Tells which streams recordings have.
 pub fn inspect<'a>(rt: &'a HostRuntime, names: &[&'a str], is_verbose: bool) -> u8 {
     let mut output = OutputSink::new(rt.stdout());
     let Ok(mut recordings) = given_files(rt, names) else {
         return end_without_memory(rt, is_verbose, &output);
     };
-    let outcome = inspect_all(rt, recordings.as_mut_slice(), &mut output);
+    let outcome = inspect_engine::inspect(rt.alloc(), recordings.as_mut_slice(), &mut output);
     let devices = Devices {
         sdp: None,
         read: last_begun(&recordings),
@@ -103,28 +154,4 @@ pub fn inspect<'a>(rt: &'a HostRuntime, names: &[&'a str], is_verbose: bool) -> 
         output: output.writing(),
     };
     end_run(rt, is_verbose, outcome, true, &devices, None)
-}
-
-/// Notes the packets of recordings, and prints what was noted. One that is cut short is told as far
-/// as it goes, and then refused.
-fn inspect_all<K: ByteSink>(
-    rt: &HostRuntime,
-    recordings: &mut [FileSource<'_>],
-    output: &mut K,
-) -> Result<(), Fault> {
-    let mut inspection = Inspection::new(rt.alloc());
-    let mut buf = room(rt)?;
-    let is_cut = note_recordings(&mut inspection, recordings, &mut buf)?;
-    print_inspection(&inspection, output)?;
-    if is_cut {
-        return Err(Fault::from(RecordingFault::Truncated));
-    }
-    Ok(())
-}
-
-/// Room for a packet or a block.
-fn room(rt: &HostRuntime) -> Result<Vec<u8>, AllocError>
-    ensures { IfOk result (λ buf. vec_len buf ≡ 1048576) }
-{
-    vec![in rt.alloc(); 0u8; ROOM]
 }
