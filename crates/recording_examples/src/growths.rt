@@ -1,0 +1,50 @@
+//! The engines of recordings with each growth refused in turn: nothing is then written or printed;
+//! and then the same run with memory.
+use crate::checks::met;
+use crate::export::is_exported;
+use crate::import::is_imported;
+use crate::inspect::are_told;
+use refusing::Refusing;
+use std::alloc::Global;
+use std::process::Abort;
+use std::test::Fail;
+use test_kit::wanting::{Wanting, grows, growths};
+
+/// An engine, run once.
+#[derive(Clone, Copy)]
+enum Engine {
+    Import,
+    Inspect,
+    Export,
+}
+
+impl Wanting for Engine {
+    fn answer(&self, global: Global, refusing: &Refusing<Global>) -> Result<Option<bool>, Fail> {
+        Ok(match self {
+            Engine::Import => is_imported(global, refusing)?,
+            Engine::Inspect => are_told(global, refusing)?,
+            Engine::Export => is_exported(global, refusing)?,
+        })
+    }
+}
+
+/// For the text, for the flows of each recording, for the packets of both and for a list of them.
+#[test]
+fn of_import(rt: HostRuntime) -> Result<(), Fail> {
+    met(&rt, grows(rt.alloc(), &Engine::Import, 5)?);
+    Ok(())
+}
+
+/// For a packet, and for the table of flows and its index.
+#[test]
+fn of_inspect(rt: HostRuntime) -> Result<(), Fail> {
+    met(&rt, grows(rt.alloc(), &Engine::Inspect, 6)?);
+    Ok(())
+}
+
+/// For a record, and for a packet.
+#[test]
+fn of_export(rt: HostRuntime) -> Result<(), Fail> {
+    met(&rt, growths(rt.alloc(), &Engine::Export)? == Some(2));
+    Ok(())
+}
