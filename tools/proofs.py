@@ -11,12 +11,13 @@ from machine import number_of_processors
 PROGRAM = "st2110"
 # About how many seconds the first proof of each crate takes, measured on four processors.
 SECONDS = {
-    "st_format": 88, "pgroup_pack": 78, "frame_assembly": 113, "path_merge": 250, "receiver_file": 86, "media_file": 100,
-    "key_mix": 100, "sdp_format": 114, "packet_plan": 50, "payload_header": 40, "rtp_header": 20, "lane_kernels": 60,
-    "bt709_fixed": 50, "packet_numbers": 25, "frame_report": 40, "flow": 20, "flow_counts": 45, "run_outcome": 80,
-    "script_engines": 120, "capture_engines": 150, "receiver_engines": 100, "inspect_engine": 60, "recording_engines": 120,
-    "export_engine": 60, "command_line": 60, "datagram_link": 8, "devices": 45,
-    "command_end": 35, "script_runs": 20, "capture_runs": 30, "receiver_runs": 25, "st2110": 70,
+    "st_format": 88, "pgroup_pack": 78, "frame_assembly": 113, "path_merge": 200, "receiver_file": 86, "media_file": 110,
+    "pcap_file": 110, "key_mix": 70, "sdp_format": 110, "packet_plan": 50, "payload_header": 40, "rtp_header": 20,
+    "lane_kernels": 50, "bt709_fixed": 50, "packet_numbers": 25, "frame_report": 40, "flow": 20, "flow_counts": 45,
+    "run_outcome": 110, "script_engines": 160, "capture_engines": 180, "receiver_engines": 100, "inspect_engine": 45,
+    "recording_engines": 100, "export_engine": 35, "command_line": 70, "datagram_link": 8, "devices": 45, "command_end": 35,
+    "script_runs": 40, "capture_runs": 50, "receiver_runs": 45, "recording_runs": 60,
+    "recorded_capture": 60, "st2110": 200,
 }
 # What a crate takes that isn't named there.
 OTHER_SECONDS = 60

@@ -84,7 +84,7 @@ rm -f refused
 says 'launcher: a build that fails' 125 '' ''
 logs=$(cd clone && pwd -P)/crates/st2110/out/launcher
 tells 'launcher: a build that fails, what it says' "$begins
-st2110: proving st2110, crate 1 of 1, 0 min so far, about 1 more
+st2110: proving st2110, crate 1 of 1, 0 min so far, about 3 more
 $(seq 11 30)
 st2110: the program was not built; the whole text of the build is in $logs/st2110.log"
 # Two first runs at once: one builds, and the other waits for it.
@@ -172,7 +172,7 @@ sleep 1
 touch clone/crates/st2110/src/main.rt
 launch clone/st2110 trace
 tells 'launcher: a newer source' "$begins
-st2110: proving st2110, crate 1 of 1, 0 min so far, about 1 more"
+st2110: proving st2110, crate 1 of 1, 0 min so far, about 3 more"
 for name in low left right other; do
     mkdir -p "clone/crates/$name/src"
     : >"clone/crates/$name/src/lib.rt"
@@ -182,18 +182,18 @@ printf '%s\n' low: 'other: low' 'st2110: left right clap # the program' 'right: 
     >clone/crates.txt
 launch clone/st2110 trace
 tells 'launcher: other crates' "$begins
-st2110: proving low, crate 1 of 4, 0 min so far, about 4 more
-st2110: proving left, crate 2 of 4, 0 min so far, about 3 more
-st2110: proving right, crate 3 of 4, 0 min so far, about 2 more
-st2110: proving st2110, crate 4 of 4, 0 min so far, about 1 more"
+st2110: proving low, crate 1 of 4, 0 min so far, about 6 more
+st2110: proving left, crate 2 of 4, 0 min so far, about 5 more
+st2110: proving right, crate 3 of 4, 0 min so far, about 4 more
+st2110: proving st2110, crate 4 of 4, 0 min so far, about 3 more"
 sleep 1
 touch clone/crates/other/src/lib.rt
 by 'a newer source that it does not stand on' clone/st2110 trace
 touch clone/crates/left/src/lib.rt
 launch clone/st2110 trace
 tells 'launcher: a newer source below it' "$begins
-st2110: proving left, crate 1 of 2, 0 min so far, about 2 more
-st2110: proving st2110, crate 2 of 2, 0 min so far, about 1 more"
+st2110: proving left, crate 1 of 2, 0 min so far, about 4 more
+st2110: proving st2110, crate 2 of 2, 0 min so far, about 3 more"
 
 # Side by side, each crate is proved in a room, and the program is built in the clone.
 ST2110_ROOMS=2
@@ -207,10 +207,10 @@ anew
 launch clone/st2110 --version
 says 'launcher: in rooms' 0 "st2110 $version" ''
 tells 'launcher: in rooms, what it says' "$begins
-st2110: proving low, crate 1 of 4, 0 min so far, about 3 more
-st2110: proving left, crate 2 of 4, 0 min so far, about 2 more
-st2110: proving right, crate 3 of 4, 0 min so far, about 2 more
-st2110: proving st2110, crate 4 of 4, 0 min so far, about 1 more"
+st2110: proving low, crate 1 of 4, 0 min so far, about 5 more
+st2110: proving left, crate 2 of 4, 0 min so far, about 4 more
+st2110: proving right, crate 3 of 4, 0 min so far, about 4 more
+st2110: proving st2110, crate 4 of 4, 0 min so far, about 3 more"
 sed 's,in .*/\([^/]*\)/crates/,in \1 ,; s/ --jobs [1-9][0-9]*//' built | sort >order
 expect 'lib in 1 left
 lib in 1 low

@@ -88,10 +88,17 @@ comes() {
     alike "$said: the capture" recorded.cap want.cap
 }
 
-# gives NAME WINDOW LINES: whether receive prints this of the last capture.
+# gives NAME WINDOW LINES: whether receive prints this of the last capture; and of the recordings themselves, the last ones
+# that import read, of which it writes the same receiver. Where `files` is empty it is given none.
+files=
 gives() {
     run receive --window "$2" --state recorded.rcv --refusals recorded.cap
     says "received: $1" 0 "$3" ''
+    [ -n "$files" ] || return 0
+    # shellcheck disable=SC2086
+    run receive --sdp "$recordings/$sdp.sdp" $options --window "$2" --state direct.rcv --refusals $files
+    says "received without import: $1" 0 "$3" ''
+    alike "received without import: $1: the receiver" direct.rcv recorded.rcv
 }
 
 # What a picture of 8 by 8 comes to, of two components for a pixel and of three.
@@ -229,7 +236,39 @@ run import --sdp "$recordings/foreign.sdp" --a 192.0.2.2:5004 --b 239.1.1.1:5004
 says 'import: two sections' 0 "$counts" ''
 alike 'import: two sections: the capture' recorded.cap want.cap
 
+# Captures and recordings, one after the other, standard input among them.
+comes 6 0 loopback 127.0.0.1,5004 - loopback.pcap
+"$program" receive --sdp "$recordings/loopback.sdp" --window 900,4500 --state direct.rcv recorded.cap \
+    "$recordings/loopback.pcap" - <unpacked.recording >out 2>err
+status=$?
+says 'received: captures and recordings' 0 "delivered 18
+$two_values" ''
+
+# What is refused: one that is cut short, or packed; one without flows or without an SDP; flows that don't tell the paths.
+refuses_recording() {
+    name=$1
+    fault=$2
+    shift 2
+    rm -f refused.rcv
+    run receive --window 900 --state refused.rcv "$@"
+    says "received: $name" 1 '' "st2110: $fault"
+    none "received: $name: no receiver" refused.rcv
+}
+refuses_recording 'cut short' 'recording 2 Truncated' --sdp "$recordings/loopback.sdp" "$recordings/cut.pcap"
+refuses_recording 'a block cut short' 'recording 2 Truncated' --sdp "$recordings/two-cards.sdp" "$recordings/cut-block.pcapng"
+head -c 23 "$recordings/loopback.pcap" >short.recording
+refuses_recording 'a short head' 'recording 2 Truncated' --sdp "$recordings/loopback.sdp" short.recording
+head -c 3 "$recordings/loopback.pcap" >short.recording
+refuses_recording 'three octets' 'capture 5 Truncated' --sdp "$recordings/loopback.sdp" short.recording
+refuses_recording 'packed' 'capture 3 BadName' --sdp "$recordings/loopback.sdp" "$recordings/loopback.pcap.gz"
+refuses_recording 'no flows' 'receive 4 NoSdp' "$recordings/loopback.pcap"
+refuses_recording 'no SDP' 'receive 4 NoSdp' --a 5004 "$recordings/loopback.pcap"
+refuses_recording 'a flow that is none' 'import 2 BadFlow' --sdp "$recordings/loopback.sdp" --a 127.0.0.1 \
+    "$recordings/loopback.pcap"
+refuses_recording 'one place, one recording' 'import 3 OnePlace' --sdp "$recordings/alike.sdp" "$recordings/alike-a.pcap"
+
 # Where the last packet isn't whole, what came before it is recorded.
+files=
 for recording in cut.pcap cut-block.pcapng; do
     case $recording in
         cut.pcap) wanted loopback 127.0.0.1,5004 - cut ;;
@@ -382,6 +421,25 @@ says 'inspect: packed' 1 '' 'st2110: recording 10 Packed'
 run inspect no-such-file
 says 'inspect: no such file' 3 '' 'st2110: device'
 
+# Where nothing was recorded, import tells the flows that there are; not of standard input, which it has read.
+run inspect "$recordings/two-cards.pcapng"
+cp out flows.said
+run import --sdp "$recordings/two-cards.sdp" --a 239.1.1.1:5006 --out none.cap "$recordings/two-cards.pcapng"
+says 'import: nothing is recorded' 0 "recorded A 0 B 0 left out 16
+$(cat flows.said)" ''
+read_once='standard input is read once; inspect tells its flows'
+"$program" import --sdp "$recordings/two-cards.sdp" --a 239.1.1.1:5006 --out none.cap - \
+    <"$recordings/two-cards.pcapng" >out 2>err
+status=$?
+says 'import: nothing is recorded of standard input' 0 "recorded A 0 B 0 left out 16
+$read_once" ''
+"$program" import --sdp "$recordings/two-cards.sdp" --a 239.1.1.1:5006 --out none.cap - \
+    "$recordings/two-cards.pcapng" <"$recordings/loopback.pcap" >out 2>err
+status=$?
+says 'import: nothing is recorded of standard input and a file' 0 "recorded A 0 B 0 left out 22
+$read_once
+$(cat flows.said)" ''
+
 # import of standard input, words that are refused, and an SDP that is.
 "$program" import --sdp "$recordings/two-cards.sdp" --out piped.cap - <"$recordings/two-cards.pcapng" >out 2>err
 status=$?
@@ -406,7 +464,29 @@ says 'export, and import again' 0 'recorded A 8 B 8 left out 0' ''
 alike 'export, and import again: the capture' back.cap again.cap
 run export --a 239.1.1.1:5004 --out exported.pcap again.cap
 says 'export: path A alone' 0 'exported 8 left out 8' ''
-for words in '--a 5004' '--a [ff3e::1]:5004' '--a 239.1.1.1:5004 --b 239.1.1.2'; do
+# To IPv6, both paths or one of them: what comes back is the same capture.
+while read -r a b; do
+    run export --a "$a" --b "$b" --out exported.pcap again.cap
+    says "export: to $a and $b" 0 'exported 16 left out 0' ''
+    run import --sdp "$recordings/two-cards.sdp" --a "$a" --b "$b" --out back.cap exported.pcap
+    says "export to $a and $b, and import again" 0 'recorded A 8 B 8 left out 0' ''
+    alike "export to $a and $b, and import again: the capture" back.cap again.cap
+done <<END
+[ff3e::1]:5004 [ff3e::2]:5006
+239.1.1.1:5004 [2001:db8::5]:5004
+[ff3e::1]:5004 239.1.1.1:5004
+END
+# The longest datagrams that a packet has room for: 65,507 octets over IPv4, and 65,527 over IPv6.
+octets "5332304341503032 0000" >long.cap
+for size in 65507 65508 65527 65528; do
+    octets "00 0000000000000000 $(printf %04X $size)" >>long.cap
+    head -c $size /dev/zero >>long.cap
+done
+run export --a 239.1.1.1:5004 --out exported.pcap long.cap
+says 'export: the longest datagram' 0 'exported 1 left out 3' ''
+run export --a '[ff3e::1]:5004' --out exported.pcap long.cap
+says 'export: the longest datagram over IPv6' 0 'exported 3 left out 1' ''
+for words in '--a 5004' '--a ff3e::1:5004' '--a [ff3e::1]:5004 --b 5004' '--a 239.1.1.1:5004 --b 239.1.1.2'; do
     # shellcheck disable=SC2086
     run export $words --out no-export.pcap again.cap
     says "export: $words" 1 '' 'st2110: export 1 BadFlow'

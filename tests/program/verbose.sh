@@ -246,6 +246,30 @@ cp "$recorded/cut.pcap" cut.pcap
 run import -v --sdp q.sdp --out v.cap cut.pcap
 adds 'a cut recording' 1 '' 'recording 2 Truncated' \
     "cut.pcap, octet $(wc -c <cut.pcap); wanted more octets: the recording ends before it is whole"
+# Why packets are left out: of two-cards one card's are another flow's. In the others is what the recordings are of.
+run import -v --sdp "$recorded/two-cards.sdp" --a 239.1.1.1:5004 --out v.cap "$recorded/two-cards.pcapng"
+says 'verbose: packets of another flow' 0 'recorded A 8 B 0 left out 8' '  left out 8 of another flow'
+run import --verbose --sdp "$recorded/two-cards.sdp" --out v.cap "$recorded/two-cards.pcapng"
+says 'verbose: no packet is left out' 0 'recorded A 8 B 8 left out 0' ''
+run import -v --sdp "$recorded/foreign.sdp" --out v.cap "$recorded/foreign.pcapng"
+says 'verbose: packets of other kinds' 0 'recorded A 7 B 0 left out 14' '  left out 2 NotIp
+  left out 10 NotUdp
+  left out 2 of another flow'
+run import -v --sdp "$recorded/group.sdp" --out v.cap "$recorded/snapped.pcap" "$recorded/fragments.pcap"
+says 'verbose: packets that are not whole' 0 'recorded A 4 B 0 left out 12' '  left out 4 CutShort
+  left out 8 Fragment'
+# A header of IPv4 of fewer than five words, and a length of UDP below that of its header.
+octets 'A1B2C3D4 0002 0004 00000000 00000000 00040000 00000001
+    00000000 00000000 0000002A 0000002A 000000000000 000000000000 0800 4400001C 00004000 40110000 7F000001 7F000001
+    1388 138C 0008 0000
+    00000000 00000000 0000002A 0000002A 000000000000 000000000000 0800 4500001C 00004000 40110000 7F000001 7F000001
+    1388 138C 0007 0000' >bad.pcap
+run import -v --sdp "$recorded/loopback.sdp" --out v.cap bad.pcap
+says 'verbose: packets with wrong headers' 0 'recorded A 0 B 0 left out 2
+flows 0
+left out 1 BadIpHeader
+left out 1 BadUdpLength' '  left out 1 BadIpHeader
+  left out 1 BadUdpLength'
 run export -v --a 5004 --out v.pcap old.cap
 adds 'a flow without an address' 1 '' 'export 1 BadFlow' \
-    '--a or --b; wanted an address of IPv4, a colon and a port, as 239.1.1.1:5004'
+    '--a or --b; wanted an address, a colon and a port, as 239.1.1.1:5004'
