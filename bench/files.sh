@@ -1,6 +1,6 @@
 #!/bin/sh
-# Measures `receive` and `send` on real files, as ratios to `cat` of the same capture into a null device, and the
-# memory of `receive` at two lengths of a capture. Wants about 1.3 GB below TMPDIR (/tmp), best a folder in memory, as
+# Measures `receive` and `send` on real files, as ratios to `cat` of the same capture into a null device, `inspect`, `import`
+# and `receive` of it as a recording, and the memory of `receive` at two lengths of a capture. Wants about 1.6 GB below TMPDIR (/tmp), best a folder in memory, as
 # TMPDIR=/dev/shm. Words: how many rounds (5); the best one counts.
 root=$(CDPATH='' cd -- "$(dirname -- "$0")/.." && pwd) || exit 1
 rounds=${1:-5}
@@ -71,6 +71,18 @@ line "cat of $frames frames" "$copied" "$copied"
 line "receive, window of 1" "$(best receive 0 long)" "$copied"
 line "receive, window of 16" "$(best receive "$window" long)" "$copied"
 line "send --paths a" "$(best send "$folder/out" "$frames")" "$copied"
+
+# The same as a recording: each beside `cat` of it.
+flow=239.1.1.1:5004
+"$program" export --a $flow --out "$folder/recording" "$folder/long" >/dev/null || exit 1
+import() { "$program" import --sdp "$sdp" --a $flow --out /dev/null "$folder/recording"; }
+record() { "$program" receive --sdp "$sdp" --a $flow --window "$1" --state /dev/null "$folder/recording"; }
+recorded=$(best cat "$folder/recording")
+line "cat of a recording of $frames frames" "$recorded" "$recorded"
+line "inspect" "$(best "$program" inspect "$folder/recording")" "$recorded"
+line "import" "$(best import)" "$recorded"
+line "receive of the recording, window of 1" "$(best record 0)" "$recorded"
+line "receive of the recording, window of 16" "$(best record "$window")" "$recorded"
 if [ -x /usr/bin/time ]; then
     for capture in short long; do
         echo "memory of receive, window of 16, $capture:" \
