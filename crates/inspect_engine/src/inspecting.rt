@@ -1,5 +1,6 @@
 //! The engine of `inspect`.
-ghost use Rattle.std.specs.Prelude.{◌≡◌, ◌∷◌, [], IfErr, IfOk, OnOk, false, length, sum_by, vec_len};
+ghost use Rattle.std.specs.Prelude.{◌≡◌, ◌∷◌, [], IfErr, IfOk, OnOk, false, length, sum_by};
+ghost use Rattle.std.specs.Prelude.{vec_len};
 ghost use Rattle.std.specs.List.{zip};
 ghost use Rattle.run_outcome.specs.Fault.{Accounts, counts};
 ghost use Rattle.run_outcome.specs.Moments.{WasRead};
@@ -32,9 +33,9 @@ fn room<A: Allocator>(alloc: A) -> Result<Vec<u8, A>, AllocError>
 ///
 /// # Errors
 ///
-/// The refusal of the first recording that has a fault but `Truncated`, and then nothing is printed.
-/// Where some were only cut short all is printed that was read, and `Truncated` is the refusal. Else
-/// that a device failed, or that memory was wanted.
+/// The refusal of the first recording that has a fault but `Truncated`, and then nothing is
+/// printed. Where some were only cut short all is printed that was read, and `Truncated` is the
+/// refusal. Else that a device failed, or that memory was wanted.
 pub fn inspect<A, S, O>(alloc: A, recordings: &mut [S], output: &mut O) -> Result<(), Fault>
 where
     A: Allocator + Copy,

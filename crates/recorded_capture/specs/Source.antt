@@ -94,6 +94,11 @@ abbrev pub TellsText : Place → List ℕ → Type 0
 TellsText (Text said at over) text = text ≡ said
 TellsText place text = ⊥
 
+-- there is no text that was read before
+abbrev pub TellsNoText : Place → Type 0
+TellsNoText (Text text at over) = ⊥
+TellsNoText place = ⊤
+
 -- so much of a text was given, and all where the end was told
 pub record IsPart (text : List ℕ) (at : ℕ) (over : Bool) (gave : List ℕ) : Type 0 where
   pub given : gave ≡ take at text

@@ -1,12 +1,12 @@
 //! A capture or a recording as a source of a capture's octets.
-ghost use Rattle.std.specs.Prelude.{◌≡◌, ◌≢◌, ◌≤◌, ◌<◌, ◌↔◌, ◌⊎◌, ◌∷◌, ◌++◌, [], ⊤, ℕ, List};
+ghost use Rattle.std.specs.Prelude.{◌≡◌, ◌≢◌, ◌≤◌, ◌<◌, ◌↔◌, ◌⊎◌, ◌∷◌, ◌++◌, [], ℕ, List};
 ghost use Rattle.std.specs.Prelude.{None, Ok, Err, false};
 ghost use Rattle.std.specs.Prelude.{IfErr, IfOk, MatchOption, OnErr, OnOk, length, take};
 ghost use Rattle.recorded_capture.specs.Source.{Fresh, GivesBy, GivesByAny, HasBegun, IsEnded};
 ghost use Rattle.recorded_capture.specs.Source.{IsOpen, IsOver, IsStanding, KeepsBy, KeepsByAny};
 ghost use Rattle.recorded_capture.specs.Source.{Passes, Says, Stands};
 ghost use Rattle.recorded_capture.specs.Source.{FailsBy, FailsFirst, StandsFailed, Stops};
-ghost use Rattle.recorded_capture.specs.Source.{Stopped, TellsText, Text, fault_of, place_of};
+ghost use Rattle.recorded_capture.specs.Source.{Stopped, TellsNoText, TellsText, Text, fault_of, place_of};
 ghost use Rattle.run_outcome.specs.Fault.{Accounts, Blames, counts};
 ghost use Rattle.run_outcome.specs.Refusing.{OfRefusal};
 ghost use Rattle.st_format.specs.Device.{CountsFaults};
@@ -288,7 +288,8 @@ impl<A: Allocator + Copy, S: ByteSource> CaptureSource<A, S> {
 
     /// The text that is given, where that was read before.
     pub fn text(&self) -> Option<&[u8]>
-        ensures { MatchOption result ⊤ (λ text. TellsText self.now.place text.now) }
+        ensures { MatchOption result (TellsNoText self.now.place)
+            (λ text. TellsText self.now.place text.now) }
     {
         match &self.standing {
             Standing::Said(said) => Some(said.text.as_slice()),

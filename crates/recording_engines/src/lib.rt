@@ -1,6 +1,6 @@
-//! The engine of `import`: recordings of other tools become a capture. What it is made of is public,
-//! for what reads a recording as a capture in other ways: the flows, and a recording's records, one
-//! after the other.
+//! The engine of `import`: recordings of other tools become a capture. What it is made of is
+//! public, for what reads a recording as a capture in other ways: the flows, and a recording's
+//! records, one after the other.
 #![tactic(auto)]
 
 mod importing;

@@ -10,8 +10,8 @@ use recording_engines::{ImportCounts, Importing};
 use run_outcome::Fault;
 use st_format::{ByteSink, write_whole};
 
-/// Makes a capture of recordings. Where nothing was recorded, the flows that the recordings have are
-/// told.
+/// Makes a capture of recordings. Where nothing was recorded, the flows that the recordings have
+/// are told.
 pub fn import<'a>(rt: &'a HostRuntime, words: &ImportWords<'a>, is_verbose: bool) -> u8 {
     let mut output = OutputSink::new(rt.stdout());
     let Ok(mut recordings) = given_files(rt, words.recordings.as_slice()) else {
@@ -69,8 +69,8 @@ fn tell_left_out(rt: &HostRuntime, left_out: &LeftOut) {
     }
 }
 
-/// Tells which flows recordings have, which are read once more. Standard input can't be, and this is
-/// said.
+/// Tells which flows recordings have, which are read once more. Standard input can't be, and this
+/// is said.
 fn tell_flows<'a, K: ByteSink>(
     rt: &'a HostRuntime,
     names: &[&'a str],
