@@ -25,6 +25,7 @@ pub mod Filled
 pub mod GroupsFound
 pub mod Found
 pub mod MarkedRows
+pub mod Placed
 pub mod GroupFaults
 pub mod FrameFaults
 pub mod FieldFaults

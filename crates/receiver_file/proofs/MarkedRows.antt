@@ -8,7 +8,7 @@ use Rattle.std.specs.Io.KnownBytes.{Appends}
 use Rattle.std.proofs.KnownBytes.{Appends-trans}
 use Rattle.std.proofs.lemmas.List.{drop-map, drop-take, length-drop, length-map}
 use Rattle.std.proofs.lemmas.List.{length-take-le, take-map, take-take, take_all}
-use Rattle.std.proofs.Math.Nat.{mul-add, mul_comm}
+use Rattle.std.proofs.Math.Nat.{mul_comm}
 use Rattle.st_format.specs.declared.cell.Cell.{Cell}
 use Rattle.st_format.specs.declared.format.Format.{Format}
 use Rattle.st_format.specs.Pgroup.{bits_of}
@@ -207,27 +207,48 @@ passes_stop size g marks octets kept old mid new p q =
     marked_cut size g marks octets old new
     (passes_cut old mid new (marked_text size (take g marks) octets) kept p q)
 
--- one group more, which is cut out of all octets
-pub passes_group : (size g : ℕ) (marks octets kept room : List ℕ) (at end : ℕ)
-    (old mid new : Option (List ℕ)) → g < length marks
+-- a slice of all behind the first
+pub slice_rest : (n : ℕ) (xs : List ℕ) → take (length xs - n) (drop n xs) ≡ drop n xs
+slice_rest n xs = take_all (length xs - n) (drop n xs) (omega (arith, length-drop n xs))
+
+pub marked_more : (size g count : ℕ) (marks octets : List ℕ)
+    → marked_text size (take (g + count) marks) octets
+    ≡ marked_text size (take g marks) octets ++ marked_text size (take count (drop g marks))
+    (drop (size * g) octets)
+marked_more size g count marks octets =
+    marked_split size g (take (g + count) marks) octets
+    ∙ ap
+    (λ (ms : List ℕ). marked_text size ms octets ++ marked_text size
+    (drop g (take (g + count) marks)) (drop (size * g) octets))
+    (take-take g (g + count) marks (omega arith))
+    ∙ ap
+    (λ (ms : List ℕ). marked_text size (take g marks) octets ++ marked_text size ms
+    (drop (size * g) octets))
+    (drop-take g count marks)
+
+-- more groups, which are cut out of all
+pub passes_groups : (size g count : ℕ) (marks octets kept room : List ℕ) (at end : ℕ)
+    (old mid new : Option (List ℕ))
     → Passes old mid (marked_text size (take g marks) octets) kept
     → Passes mid new kept (take at room)
     → (later : List ℕ)
     → take end later
-    ≡ take at room ++ known_text (state_of_mark (get_or marks g 0))
-    (take (size * (g + 1) - size * g) (drop (size * g) octets))
-    → Passes old new (marked_text size (take (g + 1) marks) octets) (take end later)
-passes_group size g marks octets kept room at end old mid new lt p q later put =
-    let e : size * (g + 1) - size * g ≡ size = omega (arith, mul-add size g 1) in
-    let t : List ℕ =
-    known_text (state_of_mark (get_or marks g 0)) (take size (drop (size * g) octets)) in
+    ≡ take at room ++ marked_text size (take count (take (length marks - g) (drop g marks)))
+    (take (length octets - size * g) (drop (size * g) octets))
+    → Passes old new (marked_text size (take (g + count) marks) octets) (take end later)
+passes_groups size g count marks octets kept room at end old mid new p q later put =
+    let t : List ℕ = marked_text size (take count (drop g marks)) (drop (size * g) octets) in
     passes_more old new (marked_text size (take g marks) octets) (take at room) t
-    (marked_text size (take (g + 1) marks) octets) (take end later)
+    (marked_text size (take (g + count) marks) octets) (take end later)
     (passes_then old mid new (marked_text size (take g marks) octets) kept (take at room) p q)
-    (marked_next size g marks octets lt)
-    (put ∙ ap
-    (λ (k : ℕ). take at room ++ known_text (state_of_mark (get_or marks g 0))
-    (take k (drop (size * g) octets))) e)
+    (marked_more size g count marks octets)
+    (put
+    ∙ ap
+    (λ (ms : List ℕ). take at room ++ marked_text size (take count ms)
+    (take (length octets - size * g) (drop (size * g) octets)))
+    (slice_rest g marks)
+    ∙ ap (λ (o : List ℕ). take at room ++ marked_text size (take count (drop g marks)) o)
+    (slice_rest (size * g) octets))
 
 -- ---- the groups of a frame's row
 

@@ -7,7 +7,7 @@ ghost use Rattle.media_file.specs.Groups.{groups_text};
 ghost use Rattle.receiver_file.specs.Known.{row_cut, rows_cut, shape_in};
 ghost use Rattle.receiver_file.specs.Marked.{Passes, marked_text};
 
-use crate::groups::{MOST_TEXT, put_group};
+use crate::groups::{MOST_TEXT, put_groups};
 use frame_assembly::{Frame, MOST_GROUP_OCTETS};
 use st_format::{ByteSink, DeviceFault, are_octets, write_whole};
 use std::alloc::Allocator;
@@ -35,18 +35,22 @@ pub(crate) fn write_rows<A: Allocator, K: ByteSink>(
         (GrowsPart (K.took sink.old) (K.took sink.new)
         (groups_text (shape_in frame.now.format) (rows_cut frame.now frame.now.format.height))) }
 {
+    let mut room = [0u8; GATHERED];
     for row in 0..frame.format().height() {
-        write_row(sink, frame, row)?;
+        write_row(sink, frame, row, &mut room)?;
     }
     Ok(())
 }
 
+/// Writes the groups of a row by way of a room, which is of no use behind that.
 fn write_row<A: Allocator, K: ByteSink>(
     sink: &mut K,
     frame: &Frame<A>,
     row: u32,
+    room: &mut [u8],
 ) -> Result<(), DeviceFault>
-    requires { row < frame.now.format.height }
+    requires row { row < frame.now.format.height }
+    requires room { length room.old ≡ GATHERED }
     ensures ok { OnOk result
         (Appends (K.held sink.old) (K.held sink.new)
         (groups_text (shape_in frame.now.format) (row_cut frame.now row))) }
@@ -62,17 +66,10 @@ fn write_row<A: Allocator, K: ByteSink>(
         (GrowsPart (K.took sink.old) (K.took sink.new)
         (groups_text (shape_in frame.now.format) (row_cut frame.now row))) }
 {
-    let mut room = [0u8; GATHERED];
     let marks = frame.marks(row);
     let octets = frame.packed_row(row);
     are_octets(octets);
-    write_marked(
-        sink,
-        frame.format().pgroup().octets,
-        marks,
-        octets,
-        &mut room,
-    )
+    write_marked(sink, frame.format().pgroup().octets, marks, octets, room)
 }
 
 /// Writes groups of so many octets each by way of a room.
@@ -97,10 +94,13 @@ fn write_marked<K: ByteSink>(
         (GrowsPart (K.took sink.old) (K.took sink.new) (marked_text size marks.now octets.now)) }
 {
     let mut filled = 0;
-    for group in 0..marks.len() {
+    let mut group = 0;
+    while group < marks.len() {
         let at = make_room(sink, room, filled)?;
-        let octets = &octets[size * group..size * (group + 1)];
-        filled = put_group(room, at, marks[group], octets);
+        let octets = &octets[size * group..];
+        let (count, end) = put_groups(room, at, size, &marks[group..], octets);
+        group += count;
+        filled = end;
     }
     write_whole(sink, &room[..filled])
 }

@@ -1,16 +1,19 @@
-use Rattle.std.proofs.Common.{ℕ, ◌∙◌, Some, subst, sym}
-use Rattle.std.proofs.lemmas.List.{length-take-le}
+use Rattle.std.proofs.Common.{ℕ, ◌*◌, ◌∙◌, Some, ap, length, subst, sym}
+use Rattle.std.proofs.lemmas.List.{length-drop, length-take-le}
 use Rattle.st_format.specs.Device.{CountsFaults, CountsOne}
 use Rattle.std.proofs.Common.{arith, refl}
 use Rattle.std.proofs.lemmas.Result.{err_from_is_err_and, on_err_weaker, on_ok_weaker}
 use Rattle.receiver_file.proofs.Growing.{held_part, took_part}
-use Rattle.receiver_file.proofs.MarkedRows.{passes_done, passes_group, passes_start, passes_stop}
+use Rattle.receiver_file.proofs.MarkedRows.{passes_done, passes_groups, passes_start, passes_stop}
+use Rattle.receiver_file.proofs.MarkedRows.{slice_rest}
+use Rattle.receiver_file.proofs.Placed.{groups_sized}
 use Rattle.receiver_file.proofs.rows.write_marked.Goals as goal
 
 pub loop-group-init : goal.loop-group-init
 loop-group-init g c = record {
   passed = passes_start _ _ _;
   took = passes_start _ _ (Some _);
+  groups = omega arith;
   filled = omega arith;
   failures = refl;
 }
@@ -25,18 +28,33 @@ returns-in_err-at-clause-fault g c =
 pub loop-group-preserved : goal.loop-group-preserved
 loop-group-preserved g c = record {
   passed =
-      passes_group c.args.size c.loop-group.group c.args.marks.now c.args.octets.now _
-      c.loop-group.room c.in_ok-at.at c.put_group-filled.result _ _ _
-      (omega arith) c.loop-group.invariant.passed c.in_ok-at.ensures.passed
-      c.put_group-filled.new.room c.put_group-filled.ensures.put;
+      passes_groups c.args.size c.loop-group.group c.put_groups-count.result.0 c.args.marks.now
+      c.args.octets.now _ c.loop-group.room c.in_ok-at.at c.put_groups-count.result.1 _ _ _
+      c.loop-group.invariant.passed c.in_ok-at.ensures.passed
+      c.put_groups-count.new.room c.put_groups-count.ensures.put;
   took =
-      passes_group c.args.size c.loop-group.group c.args.marks.now c.args.octets.now _
-      c.loop-group.room c.in_ok-at.at c.put_group-filled.result (Some _) (Some _) (Some _)
-      (omega arith) c.loop-group.invariant.took c.in_ok-at.ensures.took_first
-      c.put_group-filled.new.room c.put_group-filled.ensures.put;
-  filled = omega (arith, c.put_group-filled.ensures.within, c.put_group-filled.ensures.length);
+      passes_groups c.args.size c.loop-group.group c.put_groups-count.result.0 c.args.marks.now
+      c.args.octets.now _ c.loop-group.room c.in_ok-at.at c.put_groups-count.result.1 (Some _)
+      (Some _) (Some _)
+      c.loop-group.invariant.took c.in_ok-at.ensures.took_first
+      c.put_groups-count.new.room c.put_groups-count.ensures.put;
+  groups =
+      omega (
+        arith,
+        c.put_groups-count.ensures.count,
+        c.loop-group.invariant.groups,
+        ap length (slice_rest c.loop-group.group c.args.marks.now),
+        length-drop c.loop-group.group c.args.marks.now,
+      );
+  filled =
+      omega (arith, c.put_groups-count.ensures.within, c.put_groups-count.ensures.length);
   failures = c.in_ok-at.ensures.counted ∙ c.loop-group.invariant.failures;
 }
+
+pub put_groups-count-requires-clause-octets : goal.put_groups-count-requires-clause-octets
+put_groups-count-requires-clause-octets g c =
+    groups_sized c.args.size c.loop-group.group (c.args.size * c.loop-group.group) c.args.marks.now
+    c.args.octets.now refl c.loop-group.invariant.groups c.requires.octets
 
 pub returns-clause-ok : goal.returns-clause-ok
 returns-clause-ok g c =

@@ -1,4 +1,4 @@
-use Rattle.std.proofs.Common.{ℕ, ◌*◌, refl, sym}
+use Rattle.std.proofs.Common.{ℕ, ◌*◌, sym}
 use Rattle.std.proofs.Math.Nat.{mul_comm}
 use Rattle.st_format.specs.Position.{row_groups}
 use Rattle.std.proofs.Common.{◌≡◌, ◌∙◌, ap}
@@ -18,7 +18,7 @@ returns-clause-ok g c =
     let e : marked_text c.pgroup.result.octets c.marks-marks.result.now
     c.packed_row-octets.result.now ≡ groups_text (shape_in r.format) (row_cut r c.args.row) =
     row_is r c.args.row c.pgroup.result.octets c.marks-marks.result.now
-    c.packed_row-octets.result.now c.format.ensures.whole c.requires size
+    c.packed_row-octets.result.now c.format.ensures.whole c.requires.row size
     c.marks-marks.ensures.long c.packed_row-octets.ensures.long c.marks-marks.ensures.states
     c.are_octets.ensures.all c.packed_row-octets.ensures.spelled in
     rw (← e) c.write_marked.ensures.ok
@@ -32,19 +32,16 @@ returns-clause-fault g c =
     let e : marked_text c.pgroup.result.octets c.marks-marks.result.now
     c.packed_row-octets.result.now ≡ groups_text (shape_in r.format) (row_cut r c.args.row) =
     row_is r c.args.row c.pgroup.result.octets c.marks-marks.result.now
-    c.packed_row-octets.result.now c.format.ensures.whole c.requires size
+    c.packed_row-octets.result.now c.format.ensures.whole c.requires.row size
     c.marks-marks.ensures.long c.packed_row-octets.ensures.long c.marks-marks.ensures.states
     c.are_octets.ensures.all c.packed_row-octets.ensures.spelled in
     rw (← e) c.write_marked.ensures.fault
 
 pub marks-marks-requires : goal.marks-marks-requires
-marks-marks-requires g c = c.requires
+marks-marks-requires g c = c.requires.row
 
 pub packed_row-octets-requires : goal.packed_row-octets-requires
-packed_row-octets-requires g c = c.requires
-
-pub slice_bounds-write_marked-end : goal.slice_bounds-write_marked-end
-slice_bounds-write_marked-end g c = refl
+packed_row-octets-requires g c = c.requires.row
 
 pub write_marked-requires-clause-few : goal.write_marked-requires-clause-few
 write_marked-requires-clause-few g c = c.pgroup.ensures.most.0
@@ -61,7 +58,7 @@ write_marked-requires-clause-octets g c =
     ∙ ap (λ (n : ℕ). c.pgroup.result.octets * n) (sym c.marks-marks.ensures.long)
 
 pub write_marked-requires-clause-room : goal.write_marked-requires-clause-room
-write_marked-requires-clause-room g c = refl
+write_marked-requires-clause-room g c = c.requires.room
 
 pub returns-clause-counted : goal.returns-clause-counted
 returns-clause-counted g c = c.write_marked.ensures.counted
@@ -75,7 +72,7 @@ returns-clause-took g c =
     let e : marked_text c.pgroup.result.octets c.marks-marks.result.now
     c.packed_row-octets.result.now ≡ groups_text (shape_in r.format) (row_cut r c.args.row) =
     row_is r c.args.row c.pgroup.result.octets c.marks-marks.result.now
-    c.packed_row-octets.result.now c.format.ensures.whole c.requires size
+    c.packed_row-octets.result.now c.format.ensures.whole c.requires.row size
     c.marks-marks.ensures.long c.packed_row-octets.ensures.long c.marks-marks.ensures.states
     c.are_octets.ensures.all c.packed_row-octets.ensures.spelled in
     rw (← e) c.write_marked.ensures.took
@@ -89,7 +86,7 @@ returns-clause-took_part g c =
     let e : marked_text c.pgroup.result.octets c.marks-marks.result.now
     c.packed_row-octets.result.now ≡ groups_text (shape_in r.format) (row_cut r c.args.row) =
     row_is r c.args.row c.pgroup.result.octets c.marks-marks.result.now
-    c.packed_row-octets.result.now c.format.ensures.whole c.requires size
+    c.packed_row-octets.result.now c.format.ensures.whole c.requires.row size
     c.marks-marks.ensures.long c.packed_row-octets.ensures.long c.marks-marks.ensures.states
     c.are_octets.ensures.all c.packed_row-octets.ensures.spelled in
     rw (← e) c.write_marked.ensures.took_part
