@@ -55,15 +55,33 @@ fn contest_few(format: &Format, octets: &mut [u8], others: &[u8], marks: &mut [u
         (values_in (bits_of format.now.depth) octets.new) }
 {
     let samples = format.pgroup().samples;
-    let are_eight = samples == 4 && marks.len() == 8 && octets.len() == others.len();
-    // Eight pgroups of 4:2:2 at 8 and 10 bits as literals: the compiler then unrolls all that is
-    // done.
+    let groups = marks.len();
+    let are_alike = octets.len() == others.len();
+    // The sizes of each format as literals: the compiler then unrolls all that is done.
     match format.depth {
-        Depth::D8 if are_eight && octets.len() == 32 => {
+        Depth::D8 if are_alike && samples == 4 && groups == 8 && octets.len() == 32 => {
             contest_lanes(format, Depth::D8, 4, octets, others, marks)
         }
-        Depth::D10 if are_eight && octets.len() == 40 => {
+        Depth::D8 if are_alike && samples == 3 && groups == 8 && octets.len() == 24 => {
+            contest_lanes(format, Depth::D8, 3, octets, others, marks)
+        }
+        Depth::D10 if are_alike && samples == 4 && groups == 8 && octets.len() == 40 => {
             contest_lanes(format, Depth::D10, 4, octets, others, marks)
+        }
+        Depth::D10 if are_alike && samples == 12 && groups == 4 && octets.len() == 60 => {
+            contest_lanes(format, Depth::D10, 12, octets, others, marks)
+        }
+        Depth::D12 if are_alike && samples == 4 && groups == 8 && octets.len() == 48 => {
+            contest_lanes(format, Depth::D12, 4, octets, others, marks)
+        }
+        Depth::D12 if are_alike && samples == 6 && groups == 8 && octets.len() == 72 => {
+            contest_lanes(format, Depth::D12, 6, octets, others, marks)
+        }
+        Depth::D16 if are_alike && samples == 4 && groups == 8 && octets.len() == 64 => {
+            contest_lanes(format, Depth::D16, 4, octets, others, marks)
+        }
+        Depth::D16 if are_alike && samples == 3 && groups == 8 && octets.len() == 48 => {
+            contest_lanes(format, Depth::D16, 3, octets, others, marks)
         }
         depth => contest_lanes(format, depth, samples, octets, others, marks),
     }

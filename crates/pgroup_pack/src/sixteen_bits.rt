@@ -6,6 +6,7 @@ ghost use Rattle.st_format.specs.Samples.{Spells, values_in};
 use std::simd::prelude::*;
 
 /// Most octets go sixteen at a time, as eight lanes, and the last few two at a time.
+#[inline(always)]
 pub(crate) fn unpack(octets: &[u8], samples: &mut [u16])
     requires { 8 * length octets.now ≡ 16 * length samples.old }
     ensures { Spells 16 octets.now samples.new }
@@ -19,6 +20,7 @@ pub(crate) fn unpack(octets: &[u8], samples: &mut [u16])
 }
 
 /// Two octets for each sample, the high one first.
+#[inline(always)]
 pub(crate) fn pack(samples: &[u16], octets: &mut [u8])
     requires lengths { 8 * length octets.old ≡ 16 * length samples.now }
     requires fit { Fit 16 samples.now }
@@ -50,6 +52,7 @@ fn samples_of(octets: u8x16) -> u16x8
 }
 
 /// A sample of each two octets.
+#[inline(always)]
 fn unpack_twos(octets: &[u8], samples: &mut [u16])
     requires { 8 * length octets.now ≡ 16 * length samples.old }
     ensures { Spells 16 octets.now samples.new }

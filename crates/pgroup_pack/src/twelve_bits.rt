@@ -6,6 +6,7 @@ ghost use Rattle.st_format.specs.Samples.{Spells, values_in};
 use std::simd::prelude::*;
 
 /// Most octets go twelve at a time, as eight lanes, and the last few three at a time.
+#[inline(always)]
 pub(crate) fn unpack(octets: &[u8], samples: &mut [u16])
     requires { 8 * length octets.now ≡ 12 * length samples.old }
     ensures { Spells 12 octets.now samples.new }
@@ -20,6 +21,7 @@ pub(crate) fn unpack(octets: &[u8], samples: &mut [u16])
 }
 
 /// Most samples go eight at a time, as lanes, and the last few two at a time.
+#[inline(always)]
 pub(crate) fn pack(samples: &[u16], octets: &mut [u8])
     requires lengths { 8 * length octets.old ≡ 12 * length samples.now }
     requires fit { Fit 12 samples.now }
@@ -75,6 +77,7 @@ fn octets_of(samples: u16x8) -> u8x16
 }
 
 /// Two samples of each three octets.
+#[inline(always)]
 fn unpack_threes(octets: &[u8], samples: &mut [u16])
     requires { 8 * length octets.now ≡ 12 * length samples.old }
     ensures { Spells 12 octets.now samples.new }
@@ -89,6 +92,7 @@ fn unpack_threes(octets: &[u8], samples: &mut [u16])
 }
 
 /// Three octets of each two samples.
+#[inline(always)]
 fn pack_twos(samples: &[u16], octets: &mut [u8])
     requires lengths { 8 * length octets.old ≡ 12 * length samples.now }
     requires fit { Fit 12 samples.now }
