@@ -5,12 +5,14 @@ use Rattle.std.proofs.Common.{
   zero,
   suc,
   ◌+◌,
+  ◌-◌,
   ◌*◌,
   ◌/◌,
   ◌%◌,
   ◌<◌,
   ◌≤◌,
   inl,
+  inr,
   List,
   length,
   take,
@@ -31,6 +33,8 @@ use Rattle.std.proofs.lemmas.Nat.{
 }
 use Rattle.std.proofs.lemmas.List.{length-take, length-drop}
 use Rattle.std.proofs.Math.Nat.{mul_comm}
+use Rattle.std.proofs.lemmas.Bool.{cases_lt}
+use Rattle.lane_kernels.specs.Pixels.{pair_luma}
 use Rattle.st_format.specs.declared.format.Format.{Format}
 use Rattle.st_format.specs.declared.sampling.Sampling.{Sampling}
 use Rattle.st_format.specs.declared.sampling.Sampling.TheVariants.{Ycc422, Ycc444, Rgb}
@@ -194,3 +198,21 @@ whole_row f =
     let n : ℕ = run_samples f.sampling in
     let is : runs * n ≡ runs * n + 0 = omega arith in
     ap (λ m. m % n) is ∙ mod-mul-add runs n 0 (some_samples f.sampling)
+
+-- the luma of the column of each sample of pairs
+pub pair_luma_is : (j : ℕ) → pair_luma j ≡ number_in_row Ycc422 (place_in_row Ycc422 j).0 0
+pair_luma_is j =
+    let c : ℕ = j / 4 * 2 + j % 4 / 3 in
+    let is : pair_luma j ≡ 2 * c + 1 = omega arith in
+    is ∙ luma_pairs c ∙ ap (λ x. number_in_row Ycc422 x 0) (column_pairs j)
+
+-- a row that has the luma of the last of whole pairs has all samples of theirs
+pub lumas_reach : (keys row : List ℕ) → length keys % 4 ≡ 0
+    → ((j : ℕ) → j < length keys → number_in_row Ycc422 (place_in_row Ycc422 j).0 0 < length row)
+    → length keys ≤ length row
+lumas_reach keys row whole reach = elim (cases_lt 0 (length keys)) [
+  | inl some ↦
+      let j : ℕ = length keys - 1 in
+      omega (arith, reach j (omega arith), pair_luma_is j)
+  | inr none ↦ omega arith
+]

@@ -189,9 +189,29 @@ fn keys_from(sampling: Sampling, of_key: Sampling, scale: u16, row: &[u16], keys
     }
 }
 
-/// The keys of pairs of columns: of Cb, Y, Cr and Y three are at the first column.
+/// The keys of pairs of columns: of Cb, Y, Cr and Y three are at the first column. Pairs that have
+/// the lumas of pairs go by lanes.
 #[inline(always)]
 fn pair_keys(of_key: Sampling, scale: u16, row: &[u16], keys: &mut [u16])
+    requires few { length keys.old ≤ 32768 }
+    requires whole { length keys.old % 4 ≡ 0 }
+    requires most { scale ≤ 256 }
+    requires lumas { EachIndex keys.old (λ j.
+        number_in_row of_key (place_in_row Ycc422 j).0 0 < length row.now) }
+    ensures long { length keys.new ≡ length keys.old }
+    ensures each { EachIndex keys.new (λ j. slice_index keys.new j
+        ≡ column_key of_key scale row.now (place_in_row Ycc422 j).0) }
+{
+    match of_key {
+        Sampling::Ycc422 => lane_kernels::pair_keys(row, 16 * scale, 219 * scale, keys),
+        Sampling::Ycc444 => pixel_pair_keys(Sampling::Ycc444, scale, row, keys),
+        Sampling::Rgb => pixel_pair_keys(Sampling::Rgb, scale, row, keys),
+    }
+}
+
+/// The same, pair after pair.
+#[inline(always)]
+fn pixel_pair_keys(of_key: Sampling, scale: u16, row: &[u16], keys: &mut [u16])
     requires few { length keys.old ≤ 32768 }
     requires whole { length keys.old % 4 ≡ 0 }
     requires most { scale ≤ 256 }

@@ -1,5 +1,5 @@
 -- A number brought to a range.
-use Rattle.std.proofs.Common.{◌≡◌, ℕ, ◌+◌, ◌-◌, ◌*◌, ◌%◌, ◌<◌, ◌≤◌, min, max, cond, ltb, arith, ap}
+use Rattle.std.proofs.Common.{◌≡◌, ℕ, ◌+◌, ◌-◌, ◌*◌, ◌%◌, ◌^◌, ◌<◌, ◌≤◌, min, max, cond, ltb, arith, ap}
 use Rattle.std.proofs.Common.{◌∙◌}
 use Rattle.std.specs.Prelude.{ℤ, pos, negsuc, ◌+ℤ◌}
 use Rattle.std.proofs.lemmas.Bool.Decides.{nat_tests}
@@ -46,3 +46,20 @@ clip_lanes t low high k q m z h room same e =
     ∙ ap (λ x. (x + (t - k)) % t) (chosen m (low + k) (high + k))
     ∙ ap (λ y. y % t) turns ∙ mod-mul-add 1 t (x - k) (omega arith)
     ∙ clip_raised low high k m z h e
+
+-- what a value has above the low end, up to most, by lanes of 16 bits
+abbrev above_low : ℕ → ℕ → ℕ
+above_low y low = (cond (ltb y low) low y + (2 ^ 16 - low)) % 2 ^ 16
+
+greater : (y low : ℕ) → cond (ltb y low) low y ≡ max low y
+greater y low = grind (arith, nat_tests)
+
+lesser : (x most : ℕ) → cond (ltb x most) x most ≡ min most x
+lesser x most = grind (arith, nat_tests)
+
+pub key_lane : (y low most : ℕ) → y < 65536 → low < 65536
+    → cond (ltb (above_low y low) most) (above_low y low) most ≡ min most (y - low)
+key_lane y low most h k =
+    let is : (max low y + (2 ^ 16 - low)) % 2 ^ 16 ≡ y - low = omega arith in
+    lesser (above_low y low) most
+    ∙ ap (λ x. min most ((x + (2 ^ 16 - low)) % 2 ^ 16)) (greater y low) ∙ ap (min most) is

@@ -14,7 +14,7 @@ use Rattle.lane_kernels.proofs.Gaining.{times}
 use Rattle.lane_kernels.proofs.Scales.{centre_is, whole_is, scale_least, scale_narrow, scale_most}
 
 -- the number that is divided by the divisor, and by lanes that wrap at t
-abbrev raised : Coefficients → ℕ → ℕ → ℕ → ℕ → ℕ
+abbrev pub raised : Coefficients → ℕ → ℕ → ℕ → ℕ → ℕ
 raised k s x y z =
     x * (112 * k.main) + (k.divisor / 2 + k.divisor * 131 * s)
     - (y * (112 * k.first) + z * (112 * k.second))

@@ -4,8 +4,10 @@ pub mod Floor
 pub mod Gaining
 pub mod Luma
 pub mod Mixing
+pub mod Narrow
 pub mod Ones
 pub mod Saturated
 pub mod Scales
 pub mod Selecting
 pub mod Stored
+pub mod Turns

@@ -3,3 +3,4 @@ pub mod Formulas
 pub mod Lanes
 pub mod Marks
 pub mod Octets
+pub mod Pixels

@@ -9,7 +9,7 @@ use std::simd::prelude::*;
 
 /// The scale of a depth against 8 bits.
 #[inline(always)]
-fn scale(bits: u32) -> u32
+pub(crate) fn scale(bits: u32) -> u32
     requires { (8 ≤ bits) × (bits ≤ 16) }
     ensures value { result ≡ scale bits }
     ensures least { 1 ≤ result }
@@ -20,7 +20,7 @@ fn scale(bits: u32) -> u32
 
 /// A colour difference: of which component it tells the distance to luma.
 #[derive(Clone, Copy)]
-enum Difference {
+pub(crate) enum Difference {
     /// Blue; the two others are red and green.
     Cb,
     /// Red; the two others are green and blue.
@@ -60,7 +60,7 @@ fn coefficients_of(colour: Difference) -> Coefficients
 
 /// The luma of each triple of lanes, from `low` to `high`.
 #[inline(always)]
-fn luma_lanes(red: u16x8, green: u16x8, blue: u16x8, low: u32, high: u32) -> u32x8
+pub(crate) fn luma_lanes(red: u16x8, green: u16x8, blue: u16x8, low: u32, high: u32) -> u32x8
     ensures { HasLanes 8 result (λ k.
         clip low high (luma (slice_index red k) (slice_index green k) (slice_index blue k))) }
 {
@@ -75,7 +75,7 @@ fn luma_lanes(red: u16x8, green: u16x8, blue: u16x8, low: u32, high: u32) -> u32
 
 /// The luma of one pixel, from `low` to `high`.
 #[inline(always)]
-fn luma_of(red: u16, green: u16, blue: u16, low: u32, high: u32) -> u16
+pub(crate) fn luma_of(red: u16, green: u16, blue: u16, low: u32, high: u32) -> u16
     requires range { low ≤ high }
     requires most { high < 65536 }
     ensures { result ≡ clip low high (luma red green blue) }
@@ -141,7 +141,7 @@ fn colour_lanes(colour: Difference, main: u16x8, first: u16x8, second: u16x8, bi
 
 /// Cb or Cr of the triples of lanes, of up to 16 bits, brought to video data.
 #[inline(always)]
-fn colour_wide_lanes(
+pub(crate) fn colour_wide_lanes(
     colour: Difference,
     main: u16x8,
     first: u16x8,
@@ -191,7 +191,7 @@ fn colour_block(colour: Difference, main: u16x8, first: u16x8, second: u16x8, bi
 
 /// Cb or Cr of one pixel, as of eight that are alike, brought to video data.
 #[inline(always)]
-fn colour_of(colour: Difference, main: u16, first: u16, second: u16, bits: u32) -> u16
+pub(crate) fn colour_of(colour: Difference, main: u16, first: u16, second: u16, bits: u32) -> u16
     requires depth { (8 ≤ bits) × (bits ≤ 16) }
     requires of_main { main < 2 ^ bits }
     requires of_first { first < 2 ^ bits }
