@@ -1,3 +1,6 @@
+mod MaskLemmas
+mod LaneLemmas
+mod DigitLemmas
 mod LineLemmas
 mod FrameLemmas
 mod FormLemmas

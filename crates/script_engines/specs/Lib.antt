@@ -1,3 +1,4 @@
+pub mod Digits
 pub mod Script
 pub mod Reading
 pub mod Forms

@@ -1,8 +1,10 @@
 //! The engines of the program that read texts: scripts that are followed or rehearsed, and SDP.
 #![tactic(auto)]
 
+mod digits;
 mod first_lines;
 mod line;
+mod line_end;
 mod picture_text;
 mod rehearsal;
 mod rehearsal_line;

@@ -1,7 +1,6 @@
 //! What a line of a script says.
-ghost use Rattle.std.specs.Prelude.{◌≡◌, ◌≤◌, ◌<◌, ℕ, List, Ok, Option, length, take, IfNone};
-ghost use Rattle.std.specs.Prelude.{IfOk, IfSome, IsFalse, IsTrue};
-ghost use Rattle.hex.specs.Hex.{decode_of};
+ghost use Rattle.std.specs.Prelude.{◌≡◌, ◌≤◌, ◌<◌, ℕ, List, Option, length, take, IfNone};
+ghost use Rattle.std.specs.Prelude.{IfOk, IfSome};
 ghost use Rattle.script_engines.specs.Forms.{AreFormat, AreFour, AreHeightAndRate, AreOpening};
 ghost use Rattle.script_engines.specs.Forms.{AreTwo};
 ghost use Rattle.script_engines.specs.Forms.{IsFormatLine, IsOctetsText, IsOpenLine, IsRateText};
@@ -9,6 +8,7 @@ ghost use Rattle.script_engines.specs.Forms.{IsWindowText, IsTraceLine};
 ghost use Rattle.run_outcome.specs.Timestamps.{IsNumberOf};
 ghost use Rattle.st_format.specs.Pgroup.{bits_of};
 
+use crate::digits::decodes;
 use run_outcome::{after_word, read_source, read_timestamps};
 use st_format::{Depth, Path, Sampling, read_number, split_once};
 use std::alloc::{AllocError, Allocator};
@@ -237,15 +237,4 @@ pub(crate) fn read_octets(text: &[u8], octets: &mut [u8]) -> Option<usize>
     } else {
         None
     }
-}
-
-/// Decodes hexadecimal digits, and tells whether they are those of just as many octets as there is
-/// room for.
-pub(crate) fn decodes(text: &[u8], octets: &mut [u8]) -> bool
-    ensures room { length octets.new ≡ length octets.old }
-    ensures is { IsTrue result → decode_of text.now ≡ Ok octets.new }
-    ensures none { IsFalse result → (said : List ℕ) → length said ≡ length octets.old
-        → decode_of text.now ≡ Ok said → ⊥ }
-{
-    hex::decode_to_slice(text, octets).is_ok()
 }

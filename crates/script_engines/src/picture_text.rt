@@ -8,7 +8,7 @@ ghost use Rattle.st_format.specs.Position.{sample_count};
 ghost use Rattle.st_format.specs.Samples.{Spells};
 ghost use Rattle.script_engines.specs.RehearsalForms.{IsPictureText};
 
-use crate::line::decodes;
+use crate::digits::decodes;
 use pgroup_pack::unpack;
 use st_format::{Depth, Format, Picture};
 use std::alloc::{AllocError, Allocator};

@@ -8,8 +8,9 @@ ghost use Rattle.run_outcome.specs.LowerFaults.{IsMisformed};
 ghost use Rattle.script_engines.specs.Script.{IsCut, IsReadFrom, IsWholeLines, line_behind};
 ghost use Rattle.script_engines.specs.Script.{numbered_lines};
 
+use crate::line_end::line_end;
 use run_outcome::{Fault, Form, read_past};
-use st_format::{ByteSource, split_once, without_carriage_return};
+use st_format::{ByteSource, without_carriage_return};
 use std::alloc::Allocator;
 
 /// The greatest number of octets of a script (own).
@@ -165,8 +166,9 @@ fn split_line(text: &[u8]) -> Option<(&[u8], &[u8])>
     if text.is_empty() {
         return None;
     }
-    match split_once(text, b'\n') {
-        Some((line, rest)) => Some((without_carriage_return(line), rest)),
-        None => Some((text, &[])),
+    let end = line_end(text);
+    if end == text.len() {
+        return Some((text, &[]));
     }
+    Some((without_carriage_return(&text[..end]), &text[end + 1..]))
 }
