@@ -20,7 +20,7 @@ use Rattle.frame_assembly.proofs.PackedLemmas.{one_long, packed_cells-append}
 use Rattle.frame_assembly.proofs.GroupJoins.{known_blanked, marked_seen, one_cells, seen}
 use Rattle.frame_assembly.proofs.GroupCells.{split_cells}
 use Rattle.frame_assembly.proofs.Kept.{zero_cells, zero_packed}
-use Rattle.frame_assembly.proofs.Runs.{set_split}
+use Rattle.frame_assembly.proofs.Runs.{IsPart, set_split}
 
 -- what one group's replacement leaves
 pub record IsReplaced (n size samples at mark : ℕ)
@@ -90,6 +90,70 @@ group_replaced n size samples at mark z from marks octets part is lt packed one 
     (subst (λ (os : List ℕ). IsReplaced n size samples at mark from marks octets
     (take at marks ++ mark ∷ drop 1 (drop at marks))
     (put_mid (size * at) (size * 1) octets os)) (sym is_from) here)))
+
+-- ---- groups that are replaced
+
+-- what the replacement of groups by those of given marks and octets leaves
+pub record AreReplaced (n size samples at : ℕ)
+    (given from marks octets new_marks new_octets : List ℕ) : Type 0 where
+  pub packed : IsPacked n size samples new_marks new_octets
+  pub cells : packed_cells n size new_marks new_octets
+      ≡ replaced_cells (samples * at) (packed_cells n size given from)
+      (packed_cells n size marks octets)
+
+replaced_run : (n size samples at count : ℕ) (given from marks octets : List ℕ)
+    → AreSizes n size samples → at + count ≤ length marks → length given ≡ count
+    → IsPacked n size samples marks octets → IsPacked n size samples given from
+    → AreReplaced n size samples at given from marks octets (put_mid at count marks given)
+    (put_mid (size * at) (size * count) octets from)
+replaced_run n size samples at count given from marks octets is le long packed new_packed =
+    let are = split_cells n size samples at count marks octets is le packed in
+    let am : List ℕ = take at marks in
+    let ao : List ℕ = take (size * at) octets in
+    let cm : List ℕ = drop count (drop at marks) in
+    let co : List ℕ = drop (size * count) (drop (size * at) octets) in
+    let xs : List Cell = packed_cells n size am ao in
+    let bs : List Cell =
+    packed_cells n size (take count (drop at marks))
+    (take (size * count) (drop (size * at) octets)) in
+    let cs : List Cell = packed_cells n size cm co in
+    let new : List Cell = packed_cells n size given from in
+    let new_long : length new ≡ samples * count =
+    length-packed_cells n size samples given from is new_packed.long
+    ∙ ap (λ (k : ℕ). samples * k) long in
+    let tail : IsPacked n size samples (given ++ cm) (from ++ co) =
+    IsPacked-append n size samples given from cm co is new_packed are.behind_packed in
+    record {
+      packed =
+          IsPacked-append n size samples am ao (given ++ cm) (from ++ co) is
+          are.before_packed tail;
+      cells =
+          packed_cells-append n size am ao (given ++ cm) (from ++ co) are.before_packed.long
+          ∙ ap (λ (zs : List Cell). xs ++ zs)
+          (packed_cells-append n size given from cm co new_packed.long)
+          ∙ replaced_here xs new bs cs (packed_cells n size marks octets) (samples * at)
+          are.split are.before (are.here ∙ sym new_long);
+    }
+
+-- the same in the numbers of the code's slices, and of what was written to them
+pub run_replaced : (n size samples at count a c oa oc : ℕ)
+    (given from marks octets part_marks part_octets : List ℕ)
+    → IsPart size at count a c oa oc → AreSizes n size samples → at + count ≤ length marks
+    → length given ≡ count → IsPacked n size samples marks octets
+    → IsPacked n size samples given from → part_marks ≡ given → part_octets ≡ from
+    → AreReplaced n size samples at given from marks octets (put_mid a c marks part_marks)
+    (put_mid oa oc octets part_octets)
+run_replaced n size samples at count a c oa oc given from marks octets part_marks part_octets here
+    is le long packed new_packed same_marks same_octets =
+    rw (
+      here.marks_at_is,
+      here.marks_count_is,
+      here.octets_at_is,
+      here.octets_count_is,
+      same_marks,
+      same_octets,
+    )
+    (replaced_run n size samples at count given from marks octets is le long packed new_packed)
 
 -- ---- a group of given values
 

@@ -1,12 +1,13 @@
 //! A frame: what is known of each sample of a raster.
-ghost use Rattle.std.specs.Prelude.{◌≡◌, ◌<◌, ◌≤◌, ◌↔◌, ℕ, IfOk, IsTrue, count_by, length, map};
-ghost use Rattle.std.specs.Prelude.{slice_index};
+ghost use Rattle.std.specs.Prelude.{◌≡◌, ◌<◌, ◌≤◌, ◌↔◌, ◌+◌, ◌*◌, ℕ, IfOk, IsTrue, count_by};
+ghost use Rattle.std.specs.Prelude.{length, map, slice_index};
 ghost use Rattle.std.specs.Int.{bit_at};
 ghost use Rattle.frame_assembly.specs.ContestedSamples.{IsContestedSample};
 ghost use Rattle.frame_assembly.specs.ContestedSamples.{contested_spots};
 ghost use Rattle.frame_assembly.specs.Kinds.{AreCounts};
 ghost use Rattle.frame_assembly.specs.Marks.{state_of_mark};
 ghost use Rattle.frame_assembly.specs.Missing.{AreUnknownRuns, unknown_runs};
+ghost use Rattle.st_format.specs.declared.cell.Cell.TheVariants.{Value};
 ghost use Rattle.st_format.specs.Cell.{known_value, is_contested, is_missing, is_present, join};
 ghost use Rattle.frame_assembly.specs.Rows.{GroupsAreWhole, IsMarkOf, IsStateOf, given_cells};
 ghost use Rattle.frame_assembly.specs.Rows.{group_cells, replaced_cells, row_cells};
@@ -18,8 +19,8 @@ ghost use Rattle.st_format.specs.Member.{IsMember};
 ghost use Rattle.st_format.specs.Offer.{cell_of};
 ghost use Rattle.st_format.specs.Picture.{IsPicture};
 ghost use Rattle.st_format.specs.Pgroup.{bits_of, pixel_group};
-ghost use Rattle.st_format.specs.Position.{IsPosition, Position, group_start, row_groups};
-ghost use Rattle.st_format.specs.Position.{row_octets};
+ghost use Rattle.st_format.specs.Position.{IsPosition, Position, group_count, group_start};
+ghost use Rattle.st_format.specs.Position.{row_groups, row_octets};
 ghost use Rattle.st_format.specs.Samples.{Spells, values_in};
 ghost use Rattle.st_format.specs.Raster.{IsWhole, blank, cell_at, cells_of, joined_cells};
 ghost use Rattle.st_format.specs.Raster.{joined_rasters};
@@ -32,7 +33,7 @@ use crate::counts::{Counts, count_cells};
 use crate::groups::{join_run, same_groups};
 use crate::joining::{group_total, join_segments};
 use crate::missing::MissingRuns;
-use crate::rows::{group_of, marks_of_row, octets_of_row, set_group_of};
+use crate::rows::{group_of, marks_of_row, octets_of_row, set_group_of, set_groups_of};
 use crate::settling::settled_samples;
 use crate::state::GroupState;
 use payload_header::PayloadView;
@@ -363,6 +364,32 @@ impl<A: Allocator> Frame<A> {
             octets,
             contested,
             present,
+        );
+    }
+
+    /// Makes consecutive pgroups, from the one of number `first` in raster order, those that the
+    /// octets spell: each sample has its value, none is missing or contested. No other sample
+    /// changes. No memory is taken.
+    pub fn set_groups(&mut self, first: usize, count: usize, octets: &[u8])
+        requires inside { first + count ≤ group_count self.old.format }
+        requires octets { length octets.now
+            ≡ (pixel_group self.old.format.sampling self.old.format.depth).octets * count }
+        ensures format { self.new.format ≡ self.old.format }
+        ensures cells { self.new.cells
+            ≡ replaced_cells
+            ((pixel_group self.old.format.sampling self.old.format.depth).samples * first)
+            (map Value (values_in (bits_of self.old.format.depth) octets.now)) self.old.cells }
+        ensures whole { IsWhole self.new }
+        ensures fit { ValuesFit self.new }
+        ensures groups { GroupsAreWhole self.new }
+    {
+        set_groups_of(
+            &self.format,
+            self.marks.as_mut_slice(),
+            self.octets.as_mut_slice(),
+            first,
+            count,
+            octets,
         );
     }
 

@@ -1,13 +1,13 @@
 //! Joining pgroups as a frame keeps them: packed octets, and a mark word for each group.
 ghost use Rattle.std.specs.Prelude.{◌≡◌, ◌<◌, ◌≤◌, ◌*◌, ◌↔◌, ℕ, [], ◌∷◌, IsTrue, length};
-ghost use Rattle.std.specs.Prelude.{slice_index};
+ghost use Rattle.std.specs.Prelude.{EachIndex, bit_or, slice_index};
 ghost use Rattle.frame_assembly.specs.Packed.{AreJoined, ArePacked, cells_in, marked};
 ghost use Rattle.st_format.specs.Pgroup.{pixel_group};
 
 use crate::state::PRESENT;
-use lane_kernels::or_marks;
 use pgroup_pack::{blank, contest, differing};
 use st_format::{Cell, Format};
+use std::simd::prelude::*;
 
 /// How many groups are compared or copied at once.
 pub const BLOCK: usize = 64;
@@ -78,10 +78,15 @@ fn join_block(
         octets.copy_from_slice(others);
         return;
     }
-    // The sizes of 4:2:2 at 8 and 10 bits as literals: the compiler then unrolls what is compared.
+    // The sizes of each format as literals: the compiler then unrolls what is compared.
     match format.pgroup().octets {
+        3 => join_chunks(format, 3, marks, octets, other_marks, others),
         4 => join_chunks(format, 4, marks, octets, other_marks, others),
         5 => join_chunks(format, 5, marks, octets, other_marks, others),
+        6 => join_chunks(format, 6, marks, octets, other_marks, others),
+        8 => join_chunks(format, 8, marks, octets, other_marks, others),
+        9 => join_chunks(format, 9, marks, octets, other_marks, others),
+        15 => join_chunks(format, 15, marks, octets, other_marks, others),
         size => join_chunks(format, size, marks, octets, other_marks, others),
     }
 }
@@ -205,6 +210,23 @@ fn join_present(
     contest(format, octets, others, marks);
 }
 
+/// Sets in each of a few words the bits that are set in the other.
+///
+/// Eight words are stored at once: what is read back in parts of another size waits for the stores.
+#[inline(always)]
+fn or_marks(into: &mut [u16], from: &[u16])
+    requires { length from.now ≡ length into.old }
+    ensures { EachIndex into.new (λ k.
+        slice_index into.new k ≡ bit_or (slice_index into.old k) (slice_index from.now k)) }
+{
+    if into.len() != CHUNK {
+        lane_kernels::or_marks(into, from);
+        return;
+    }
+    let both = u16x8::from_slice(into) | u16x8::from_slice(from);
+    both.copy_to_slice(into);
+}
+
 /// Joins other groups one by one.
 fn join_groups(
     format: &Format,
@@ -255,10 +277,13 @@ fn join_group(format: &Format, mark: u16, octets: &mut [u8], other_mark: u16, ot
     joined
 }
 
-/// Whether all groups are missing.
+/// Whether all groups are missing: the first mostly tells that they aren't.
 pub fn are_missing(marks: &[u16]) -> bool
     ensures { IsTrue result → (k : ℕ) → k < length marks.now → slice_index marks.now k < 32768 }
 {
+    if !marks.is_empty() && marks[0] >= PRESENT {
+        return false;
+    }
     let mut most = 0;
     for mark in marks {
         most = most.max(*mark);
@@ -322,13 +347,15 @@ pub fn same_groups(
     same_words(marks, other_marks) && same_octets(octets, others)
 }
 
-fn same_words(left: &[u16], right: &[u16]) -> bool
+/// Whether mark words are the same.
+pub fn same_words(left: &[u16], right: &[u16]) -> bool
     ensures { IsTrue result ↔ (left.now ≡ right.now) }
 {
     left == right
 }
 
-fn same_octets(left: &[u8], right: &[u8]) -> bool
+/// Whether octets are the same.
+pub fn same_octets(left: &[u8], right: &[u8]) -> bool
     ensures { IsTrue result ↔ (left.now ≡ right.now) }
 {
     left == right
