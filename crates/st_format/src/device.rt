@@ -137,6 +137,16 @@ pub trait ByteSource {
         ensures gave { IfOk result (λ n. gave self.new ≡ gave self.old ++ take n buf.new) }
         ensures ended { IfOk result (λ n. 0 < length buf.old → (ended self.new ↔ (n ≡ 0))) }
         ensures kept { OnErr result (gave self.new ≡ gave self.old) };
+
+    /// Is told that a fault was found before the last `_count` octets given, of which nothing was
+    /// asked. Where it tells how far it was read, it leaves them out. They stay given.
+    fn discount(&mut self, _count: usize)
+        ensures given { to_give self.new ≡ to_give self.old }
+        ensures gave { gave self.new ≡ gave self.old }
+        ensures ended { ended self.new ↔ ended self.old }
+        ensures failures { failures self.new ≡ failures self.old }
+        ensures names { names self.new ≡ names self.old }
+    {}
 }
 
 /// Takes octets, one piece after another.
@@ -282,6 +292,10 @@ impl<S: ByteSource> ByteSource for &mut S {
 
     fn read(&mut self, buf: &mut [u8]) -> Result<usize, DeviceFault> {
         ByteSource::read(&mut **self, buf)
+    }
+
+    fn discount(&mut self, count: usize) {
+        ByteSource::discount(&mut **self, count);
     }
 }
 
