@@ -36,6 +36,8 @@ mod picture_files;
 #[cfg(test)]
 mod receiver_files;
 #[cfg(test)]
+mod receiver_pieces;
+#[cfg(test)]
 mod rehearsal_scripts;
 #[cfg(test)]
 mod report;

@@ -1,6 +1,6 @@
 -- A group of cells that is read.
-use Rattle.std.proofs.Common.{◌≡◌, ℕ, zero, suc, ◌+◌, ◌/◌, ◌%◌, ◌≤◌, Bool, true, false, cond, not}
-use Rattle.std.proofs.Common.{◌||◌, eqb, List, [], ◌∷◌, ◌++◌, length, get_or, map, replicate, take}
+use Rattle.std.proofs.Common.{◌≡◌, ℕ, suc, ◌+◌, ◌/◌, ◌%◌, ◌≤◌, Bool, true, false, cond, not}
+use Rattle.std.proofs.Common.{◌||◌, eqb, List, [], ◌∷◌, ◌++◌, length, get_or, take}
 use Rattle.std.proofs.Common.{drop, refl, sym, ap, ◌∙◌, inl, inr, arith}
 use Rattle.std.specs.Int.{bit_at}
 use Rattle.std.proofs.lemmas.Bool.{and_from, and_parts, cases_Bool, cases_eq, eq-eqb, eqb-true}
@@ -8,7 +8,7 @@ use Rattle.std.proofs.lemmas.Bool.{ne_eqb}
 use Rattle.std.proofs.lemmas.List.{length-take-le, take_at, drop_at}
 use Rattle.std.proofs.lemmas.Nat.Bits.{bit_at-suc, bit_at-zero, bit_at_lowest, same_from_bits}
 use Rattle.st_format.specs.declared.cell.Cell.{Cell}
-use Rattle.st_format.specs.declared.cell.Cell.TheVariants.{Missing, Value, Contested}
+use Rattle.st_format.specs.declared.cell.Cell.TheVariants.{Value, Contested}
 use Rattle.frame_assembly.specs.Rows.{given_cells, given_from, replaced_cells}
 use Rattle.pgroup_pack.specs.Groups.{blanked_samples, blanked_from, differs_at}
 use Rattle.pgroup_pack.proofs.GroupLemmas.{length-blanked_from}
@@ -138,28 +138,6 @@ given_mixed mask (v ∷ vs) =
     (bit_at_lowest mask)
     ∙ ap (λ (t : List Cell). cond (eqb (mask % 2) 1) Contested (Value v) ∷ t)
     (given_next mask 0 vs ∙ given_mixed (mask / 2) vs)
-
-by_none : (vs : List ℕ) → cells_by 0 vs ≡ map Value vs
-unfolding cells_by
-by_none [] = refl
-by_none (v ∷ vs) = ap (λ (t : List Cell). Value v ∷ t) (by_none vs)
-
-pub given_whole : (vs : List ℕ) → given_cells true 0 vs ≡ map Value vs
-given_whole vs = given_mixed 0 vs ∙ by_none vs
-
-length-given : (mask i : ℕ) (vs : List ℕ) → length (given_from mask i vs) ≡ length vs
-unfolding given_from
-length-given mask i [] = refl
-length-given mask i (v ∷ vs) = ap suc (length-given mask (i + 1) vs)
-
-pub length-given_cells : (present : Bool) (mask : ℕ) (vs : List ℕ)
-    → length (given_cells present mask vs) ≡ length vs
-length-given_cells true mask vs = length-given mask 0 vs
-length-given_cells false mask vs = length_missing (length vs)
-  where
-    length_missing : (n : ℕ) → length (replicate n Missing) ≡ n
-    length_missing zero = refl
-    length_missing (suc n) = ap suc (length_missing n)
 
 -- cells before those that are replaced, and those in their place
 pub replaced_before : (k : ℕ) (new cells : List Cell) → k ≤ length cells

@@ -8,10 +8,13 @@ pub mod RowRuns
 pub mod KeptRuns
 pub mod Valued
 pub mod Knowing
-pub mod RowReads
 pub mod Fronting
 pub mod MixedReads
 pub mod KnownReads
+pub mod TakenGroups
+pub mod WholeRuns
+pub mod FrameFills
+pub mod FoundFaults
 pub mod FrameRuns
 pub mod Stamped
 pub mod FrameReads

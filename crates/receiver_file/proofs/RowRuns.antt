@@ -1,5 +1,5 @@
 -- The groups of a row, and the rows of a frame, one after the other.
-use Rattle.std.proofs.Common.{◌≡◌, ℕ, ◌+◌, ◌-◌, ◌*◌, ◌<◌, ◌≤◌, List, [], ◌∷◌, ◌++◌, length, take}
+use Rattle.std.proofs.Common.{◌≡◌, ℕ, ◌+◌, ◌-◌, ◌*◌, ◌<◌, List, [], ◌∷◌, ◌++◌, length, take}
 use Rattle.std.proofs.Common.{drop, Option, None, Some, append-nil, sym, ap, ◌∙◌, subst, arith}
 use Rattle.std.specs.Io.KnownBytes.{Appends}
 use Rattle.std.proofs.lemmas.List.{length-drop, length-take-le}
@@ -115,20 +115,3 @@ group_long r row group whole lt below =
     whole ∙ sym (sample_count_groups r.format) ∙ ap (λ (n : ℕ). size * n) all ∙ split in
     length-take-le size (drop (group_start r.format row group) r.cells)
     (omega (arith, length-drop (group_start r.format row group) r.cells, total))
-
--- a group begins within the cells
-pub start_within : (r : Raster) (row group : ℕ) → IsWhole r → row < r.format.height
-    → group < row_groups r.format → group_start r.format row group ≤ length r.cells
-start_within r row group whole lt below =
-    let h : ℕ = r.format.height in
-    let size : ℕ = (shape_in r.format).samples in
-    let per : ℕ = row_groups r.format in
-    let d : ℕ = h - (row + 1) in
-    let e : ℕ = (per - group) + d * per in
-    let rows : (row * per + per) + d * per ≡ h * per = sum_rows per row h d (omega arith) in
-    let all : h * per ≡ (row * per + group) + e = omega (arith, rows, below) in
-    let split : size * ((row * per + group) + e) ≡ size * (row * per + group) + size * e =
-    omega arith in
-    let total : length r.cells ≡ size * (row * per + group) + size * e =
-    whole ∙ sym (sample_count_groups r.format) ∙ ap (λ (n : ℕ). size * n) all ∙ split in
-    omega (arith, total)

@@ -6,3 +6,4 @@ pub mod StateReading
 pub mod Marked
 pub mod StateFaults
 pub mod Giving
+pub mod Taking

@@ -209,7 +209,7 @@ fn put_behind(room: &mut [u8], at: usize, head: &[u8], octets: &[u8]) -> usize
 
 /// Puts octets behind the first `at`, and answers where they end.
 #[inline(always)]
-fn put_octets(room: &mut [u8], at: usize, octets: &[u8]) -> usize
+pub(crate) fn put_octets(room: &mut [u8], at: usize, octets: &[u8]) -> usize
     requires { at + length octets.now ≤ length room.old }
     ensures length { length room.new ≡ length room.old }
     ensures value { result ≡ at + length octets.now }

@@ -12,8 +12,10 @@ mod known;
 pub mod laws;
 mod loading;
 mod octets;
+mod packing;
 mod rows;
 mod saving;
+mod taking;
 mod telling;
 
 pub use loading::load_receiver;
