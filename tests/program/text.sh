@@ -27,6 +27,26 @@ for parted in 's/../&:/g; s/:$//' ''; do
     says "digits of a recording '$parted'" 0 "kept 1
 $frame" ''
 done
+# Lines of more octets than are gathered before they go out.
+{
+    printf '%b\n' 'format YCbCr-4:2:2 8 4 2 60/1\nopen 96 any 900' "A $d1"
+    yes 'cell 900 0 0 0' | head -n 20000
+} >in
+"$program" trace <in >out 2>err
+status=$?
+{
+    echo 'kept 1'
+    yes 'value 16' | head -n 20000
+} >want
+says 'as many lines as are asked for' 0 "$(cat want)
+$frame" ''
+"$program" trace <in 2>err | head -n 15000 >out
+head -n 15000 want >part
+if cmp -s out part; then
+    pass 'a reader of the first lines alone'
+else
+    fail 'a reader of the first lines alone' "$(head -c 300 out)"
+fi
 run frobnicate
 if [ "$status" = 2 ] && [ -s err ] && [ ! -s out ]; then
     pass 'a word that is no command'

@@ -156,6 +156,14 @@ head -c 37 p.pic >cut.pic
 head -c 40 both.cap >cut.cap
 octets "$opened 00 00000000 01 00000384 01 80108011" >cut.rcv
 octets "$opened 00 00000000 01 00000384 02 0000 80108011 01 80128013 00 00" >mixed.rcv
+octets "$opened 00 00000000 01 00000384 01 80108011 02 0000 80108011 01 80128013 00" >later.rcv
+octets "$opened 00 00000000 01 00000384 00 01 80108011 03 80128013 00" >state.rcv
+# 3000 whole groups of 960 by 4, one of a state that there is not, and some behind.
+{
+    octets '5332305243563031 0008078000040000003C00000001 60 00 00000000 01 00000384'
+    octets "$(yes 0180108011 | head -n 3000)"
+    octets "03 $(yes 0180108011 | head -n 839)"
+} >wide.rcv
 while IFS='|' read -r words status_wanted fault place; do
     # shellcheck disable=SC2086
     run $words --verbose
@@ -183,6 +191,9 @@ merge --state v.rcv cut.rcv g.rcv|1|state 5 Truncated|cut.rcv, octet 38; wanted 
 merge --state v.rcv g.rcv name.cap|1|state 3 BadName|name.cap, octet 8; wanted a receiver, which begins S20RCV
 merge --state v.rcv g.rcv no-such-file|3|device|no-such-file, octet 0; wanted to read there: No such file or directory (os error 2)
 merge --state v.rcv mixed.rcv g.rcv|1|state 8 MixedGroup|mixed.rcv, octet 40; wanted a mask of some of the pgroup's samples, each of them 0
+merge --state v.rcv later.rcv g.rcv|1|state 8 MixedGroup|later.rcv, octet 45; wanted a mask of some of the pgroup's samples, each of them 0
+merge --state v.rcv g.rcv state.rcv|1|state 6 BadField|state.rcv, octet 40; wanted a field with a value that there is
+report wide.rcv|1|state 6 BadField|wide.rcv, octet 15034; wanted a field with a value that there is
 receive --state v.rcv --window 9 --sdp no-such-file old.cap|3|device|no-such-file, octet 0; wanted to read there: No such file or directory (os error 2)
 process --job limit --ts 900 --fill 0,0,0 --out v.cap g.rcv|1|process 1 BadJob|--job; wanted limit:nominal, limit:video, gain:G, ycc444, ycc422, wipe:columns:P:S, wipe:rows:P:S or key
 process --job gain:1 --ts 901 --fill 0,0,0 --out v.cap g.rcv|1|process 2 NoFrame|--ts; wanted a timestamp of each receiver's window
@@ -216,6 +227,15 @@ adds 'a full file' 3 "$frame" device '/dev/full; wanted to write there: No space
 status=$?
 : >out
 adds 'a full output' 3 '' device 'standard output; wanted to write there: No space left on device (os error 28)'
+printf '%b' "$open\nA $d1\ncell 900 0 0 0\nA 8G\n" >in
+"$program" trace -v <in >out 2>err
+status=$?
+adds 'a fault behind what is printed' 1 'kept 1
+value 16' 'script 5' "$here 5, 'A 8G'; wanted $datagram_form"
+"$program" trace -v <in >/dev/full 2>err
+status=$?
+: >out
+adds 'a full output before a fault' 3 '' device 'standard output; wanted to write there: No space left on device (os error 28)'
 "$program" trace -v <. >out 2>err
 status=$?
 adds 'a folder as input' 3 '' device 'standard input, octet 0; wanted to read there: Is a directory (os error 21)'

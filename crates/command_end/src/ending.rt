@@ -1,8 +1,11 @@
 //! How a command ends: by a status, by a line where it came to a fault, and, where that is asked
 //! for, by one more line that says where the fault is and what was wanted there.
+ghost use Rattle.std.specs.Prelude.{◌≡◌, Err, OnErr, OnOk};
+
 use crate::places::{Devices, explain};
 use devices::OutputSink;
 use run_outcome::{Fault, Status, end};
+use st_format::DeviceFault;
 use std::io::Write;
 
 /// Ends a command, and answers its status. Where what it wrote is not written out whole, which its
@@ -25,6 +28,18 @@ pub fn end_run(
     let status = end(cut, &mut faults);
     tell_more(rt, is_verbose, cut, devices, kept);
     status
+}
+
+/// The outcome of a run whose output was gathered: the device's fault where what was gathered could
+/// not be passed on, else what its engine came to.
+pub fn passed_on(outcome: Result<(), Fault>, finished: Result<(), DeviceFault>) -> Result<(), Fault>
+    ensures same { OnOk finished (result ≡ outcome) }
+    ensures failed { OnErr finished (result ≡ Err Fault.Device) }
+{
+    match finished {
+        Ok(()) => outcome,
+        Err(_) => Err(Fault::Device),
+    }
 }
 
 /// Says where the fault of a run is, if it came to one, and if that is asked for.

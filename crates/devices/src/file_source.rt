@@ -144,4 +144,8 @@ impl<'a> ByteSource for FileSource<'a> {
             }
         }
     }
+
+    fn discount(&mut self, count: usize) {
+        self.octet = self.octet.saturating_sub(count as u64);
+    }
 }

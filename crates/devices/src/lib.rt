@@ -20,5 +20,5 @@ pub use files::{given_files, last_begun, named_file, named_files, reading_begun,
 pub use history::{Arrivals, History, Sendings};
 pub use input::InputSource;
 pub use link::{UdpLink, unbound};
-pub use output::OutputSink;
+pub use output::{OutputSink, gathered_output};
 pub use standing::{Reading, Writing};
