@@ -38,3 +38,5 @@ mod turns;
 mod two_paths;
 #[cfg(test)]
 mod value_growths;
+#[cfg(test)]
+mod whole_groups;

@@ -135,7 +135,14 @@ fn has_bits_below(mask: u16, count: usize) -> bool
 }
 
 /// Sets a group, where the place, the mask and the octets are such that it can be set.
-fn set(frame: &mut Frame, row: u32, place: u32, octets: &[u8], mask: u16, present: bool) -> bool {
+pub fn set(
+    frame: &mut Frame,
+    row: u32,
+    place: u32,
+    octets: &[u8],
+    mask: u16,
+    present: bool,
+) -> bool {
     let format = frame.format();
     let group = format.pgroup();
     let mut room = [0; MOST_GROUP_OCTETS];

@@ -16,6 +16,9 @@ const BITS: [u32; 4] = [8, 10, 12, 16];
 /// More than sixteen times eight lanes.
 const MOST: usize = 130;
 
+/// How many samples so many pixels have.
+const ALL: usize = 3 * MOST;
+
 /// What stands behind the values that a kernel writes.
 const BEHIND: u16 = 7;
 
@@ -213,6 +216,42 @@ fn crs(rgb: &[Row; 3], bits: u32, n: usize) -> bool {
     out == wanted
 }
 
+/// `ycc709` of the first `n` pixels.
+fn pixels(rgb: &[Row; 3], bits: u32, n: usize) -> bool {
+    let (mut given, mut out, mut wanted) = ([0; ALL], [BEHIND; ALL], [BEHIND; ALL]);
+    if n > MOST || bits < 8 || bits > 16 {
+        return false;
+    }
+    for i in 0..n {
+        let [r, g, b] = rgb;
+        let pixel = [r[i], g[i], b[i]];
+        given[3 * i..3 * i + 3].copy_from_slice(&pixel);
+        wanted[3 * i] = cb(pixel, bits);
+        wanted[3 * i + 1] = luma(pixel, bits);
+        wanted[3 * i + 2] = cr(pixel, bits);
+    }
+    if !fit(&given[..3 * n], bits) {
+        return false;
+    }
+    lane_kernels::ycc709(&given[..3 * n], bits, &mut out[..3 * n]);
+    out == wanted
+}
+
+/// `pair_keys` of the first `n` pairs of columns: Cb, Y and Cr have the key of the first one's luma.
+fn pairs(row: &Row, low: u16, most: u16, n: usize) -> bool {
+    let (mut out, mut wanted) = ([BEHIND; MOST], [BEHIND; MOST]);
+    if n > MOST / 4 {
+        return false;
+    }
+    lane_kernels::pair_keys(&row[..4 * n], low, most, &mut out[..4 * n]);
+    for i in 0..n {
+        let first = row[4 * i + 1].saturating_sub(low).min(most);
+        let second = row[4 * i + 3].saturating_sub(low).min(most);
+        wanted[4 * i..4 * i + 4].copy_from_slice(&[first, first, first, second]);
+    }
+    out == wanted
+}
+
 /// The kernels of the matrix at one length, with R, G and B of these kinds.
 fn matrices_agree(generator: &mut Generator, kinds: [u32; 3], bits: u32, n: usize) -> bool {
     let most = scale(bits).wrapping_mul(256).wrapping_sub(1);
@@ -220,7 +259,7 @@ fn matrices_agree(generator: &mut Generator, kinds: [u32; 3], bits: u32, n: usiz
     for i in 0..3usize {
         fill(generator, kinds[i], most, &mut rgb[i]);
     }
-    lumas(&rgb, bits, n) & cbs(&rgb, bits, n) & crs(&rgb, bits, n)
+    lumas(&rgb, bits, n) & cbs(&rgb, bits, n) & crs(&rgb, bits, n) & pixels(&rgb, bits, n)
 }
 
 /// R, G and B: no order, the least and greatest, and the ends of Cb and Cr.
@@ -272,7 +311,9 @@ fn mixes_agree(generator: &mut Generator, kinds: [u32; 3], bits: u32, n: usize) 
     fill(generator, kinds[1], most, &mut b);
     fill(generator, kinds[2], 256, &mut w);
     fill(generator, kinds[2], p, &mut k);
-    mixes(&a, &b, &w, n) & keys(&a, &b, &k, p, n)
+    mixes(&a, &b, &w, n)
+        & keys(&a, &b, &k, p, n)
+        & pairs(&a, scale(bits).wrapping_mul(16), p, n / 4)
 }
 
 /// The kernels over one or two rows at one length and each depth.
@@ -314,6 +355,7 @@ fn grid_agrees(corners: &[u16; CORNERS], green: u16, bits: u32) -> bool {
     for red in corners {
         let rgb = [[*red; MOST], [green; MOST], repeated(corners, 1)];
         agree &= lumas(&rgb, bits, CORNERS) & cbs(&rgb, bits, CORNERS) & crs(&rgb, bits, CORNERS);
+        agree &= pixels(&rgb, bits, CORNERS);
     }
     agree
 }
