@@ -27,6 +27,9 @@ use crate::faults::ColourFault;
 use st_format::{Depth, Format, Picture, Sampling};
 use std::alloc::{AllocError, Allocator};
 
+/// How many samples are made at a time: those of 64 times eight pixels.
+const BLOCK: usize = 1536;
+
 /// The format with Y, Cb and Cr in place of R, G and B: that of what [`to_ycc444`] gives.
 pub fn as_ycc444(format: Format) -> Format
     requires { format.sampling ≡ Rgb }
@@ -79,10 +82,10 @@ fn matrixed_samples<B: Allocator>(
 {
     let bits = depth.bits();
     let mut samples = Vec::with_capacity(alloc, rgb.len())?;
-    let mut block = [0u16; 1536];
+    let mut block = [0u16; BLOCK];
     let mut done = 0;
     while done < rgb.len() {
-        let some = (rgb.len() - done).min(1536);
+        let some = (rgb.len() - done).min(BLOCK);
         let matrixed = &mut block[..some];
         lane_kernels::ycc709(&rgb[done..done + some], bits, matrixed);
         samples.extend_from_slice(matrixed)?;
