@@ -158,12 +158,23 @@ octets "$opened 00 00000000 01 00000384 01 80108011" >cut.rcv
 octets "$opened 00 00000000 01 00000384 02 0000 80108011 01 80128013 00 00" >mixed.rcv
 octets "$opened 00 00000000 01 00000384 01 80108011 02 0000 80108011 01 80128013 00" >later.rcv
 octets "$opened 00 00000000 01 00000384 00 01 80108011 03 80128013 00" >state.rcv
-# 3000 whole groups of 960 by 4, one of a state that there is not, and some behind.
+# Frames of 7680 groups, 1920 by 8: many whole ones, one of a state that there is not or of a mask
+# that is wrong, and some behind; the second with a whole frame before.
+wide='5332305243563031 0008078000080000003C00000001 60 00 00000000'
+whole() {
+    yes 0180108011 | head -n "$1"
+}
 {
-    octets '5332305243563031 0008078000040000003C00000001 60 00 00000000 01 00000384'
-    octets "$(yes 0180108011 | head -n 3000)"
-    octets "03 $(yes 0180108011 | head -n 839)"
+    octets "$wide 01 00000384"
+    octets "$(whole 6000)"
+    octets "03 $(whole 1679)"
 } >wide.rcv
+{
+    octets "$wide 02 00000384"
+    octets "$(whole 7680)"
+    octets "00000960 $(whole 5000)"
+    octets "02 0000 80108011 $(whole 2679)"
+} >second.rcv
 while IFS='|' read -r words status_wanted fault place; do
     # shellcheck disable=SC2086
     run $words --verbose
@@ -193,7 +204,8 @@ merge --state v.rcv g.rcv no-such-file|3|device|no-such-file, octet 0; wanted to
 merge --state v.rcv mixed.rcv g.rcv|1|state 8 MixedGroup|mixed.rcv, octet 40; wanted a mask of some of the pgroup's samples, each of them 0
 merge --state v.rcv later.rcv g.rcv|1|state 8 MixedGroup|later.rcv, octet 45; wanted a mask of some of the pgroup's samples, each of them 0
 merge --state v.rcv g.rcv state.rcv|1|state 6 BadField|state.rcv, octet 40; wanted a field with a value that there is
-report wide.rcv|1|state 6 BadField|wide.rcv, octet 15034; wanted a field with a value that there is
+report wide.rcv|1|state 6 BadField|wide.rcv, octet 30034; wanted a field with a value that there is
+report second.rcv|1|state 8 MixedGroup|second.rcv, octet 63444; wanted a mask of some of the pgroup's samples, each of them 0
 receive --state v.rcv --window 9 --sdp no-such-file old.cap|3|device|no-such-file, octet 0; wanted to read there: No such file or directory (os error 2)
 process --job limit --ts 900 --fill 0,0,0 --out v.cap g.rcv|1|process 1 BadJob|--job; wanted limit:nominal, limit:video, gain:G, ycc444, ycc422, wipe:columns:P:S, wipe:rows:P:S or key
 process --job gain:1 --ts 901 --fill 0,0,0 --out v.cap g.rcv|1|process 2 NoFrame|--ts; wanted a timestamp of each receiver's window

@@ -1,11 +1,10 @@
 //! How a command ends: by a status, by a line where it came to a fault, and, where that is asked
 //! for, by one more line that says where the fault is and what was wanted there.
-ghost use Rattle.std.specs.Prelude.{◌≡◌, Err, OnErr, OnOk};
+ghost use Rattle.std.specs.Prelude.{◌≡◌, ◌⊎◌, [], Err, OnOk};
 
 use crate::places::{Devices, explain};
-use devices::OutputSink;
+use devices::{GatheringSink, OutputSink};
 use run_outcome::{Fault, Status, end};
-use st_format::DeviceFault;
 use std::io::Write;
 
 /// Ends a command, and answers its status. Where what it wrote is not written out whole, which its
@@ -30,13 +29,19 @@ pub fn end_run(
     status
 }
 
-/// The outcome of a run whose output was gathered: the device's fault where what was gathered could
-/// not be passed on, else what its engine came to.
-pub fn passed_on(outcome: Result<(), Fault>, finished: Result<(), DeviceFault>) -> Result<(), Fault>
-    ensures same { OnOk finished (result ≡ outcome) }
-    ensures failed { OnErr finished (result ≡ Err Fault.Device) }
+/// Has all go out that the output of a run gathered, unless a device failed: what the run came to,
+/// or the device's fault where it can't go out.
+pub fn finish_output<W: Write + Drop>(
+    outcome: Result<(), Fault>,
+    output: &mut GatheringSink<W>,
+) -> Result<(), Fault>
+    ensures either { (result ≡ outcome) ⊎ (result ≡ Err Fault.Device) }
+    ensures out { OnOk result (output.new.held.items ≡ []) }
 {
-    match finished {
+    if let Err(Fault::Device) = outcome {
+        return outcome;
+    }
+    match output.finish() {
         Ok(()) => outcome,
         Err(_) => Err(Fault::Device),
     }

@@ -26,7 +26,7 @@ pub struct FileSource<'a> {
     failures: u64,
     /// Whether its reading began.
     is_begun: bool,
-    /// How many octets were read.
+    /// How many octets were read, without those behind what showed a fault.
     octet: u64,
     /// Why it failed last.
     fault: Option<io::Error>,

@@ -1,14 +1,10 @@
 //! Standard output and error as devices. They tell the octets that they took.
-ghost use Rattle.std.specs.Prelude.{◌≡◌, ◌+◌, ◌-◌, ◌^◌, ◌<◌, ◌↔◌, [], IsTrue, min, None, IfSome};
-ghost use Rattle.st_format.specs.Device.{CountsFaults};
+ghost use Rattle.std.specs.Prelude.{◌≡◌, ◌+◌, ◌-◌, ◌^◌, ◌<◌, ◌↔◌, [], IsTrue, min, None};
 
 use crate::history::History;
 use crate::standing::Writing;
 use st_format::{ByteSink, DeviceFault};
-use std::io::{self, BufWriter, Stdout, Write};
-
-/// How many octets are gathered before they go out.
-const GATHERED: usize = 1 << 16;
+use std::io::{self, Write};
 
 /// Any writer, as standard output.
 #[derive(Drop)]
@@ -34,23 +30,6 @@ impl<W: Write + Drop> OutputSink<W> {
         }
     }
 
-    /// Passes on what the writer gathered, if it is one that does.
-    pub fn finish(&mut self) -> Result<(), DeviceFault>
-        ensures counted { CountsFaults (⟦<OutputSink<W> as ByteSink>⟧.failures self.old)
-            (⟦<OutputSink<W> as ByteSink>⟧.failures self.new) result }
-        ensures took { ⟦<OutputSink<W> as ByteSink>⟧.took self.new
-            ≡ ⟦<OutputSink<W> as ByteSink>⟧.took self.old }
-    {
-        match self.writer.flush() {
-            Ok(()) => Ok(()),
-            Err(fault) => {
-                self.fault = Some(fault);
-                self.failures = self.failures.saturating_add(1);
-                Err(DeviceFault)
-            }
-        }
-    }
-
     /// How the writing went.
     pub fn writing(&self) -> Writing<'static>
         ensures { IsTrue result.has_failed
@@ -61,20 +40,6 @@ impl<W: Write + Drop> OutputSink<W> {
             has_failed: self.failures > 0,
             fault: self.fault,
         }
-    }
-}
-
-/// Standard output, for what is written line by line: it gathers what comes, which has gone out once
-/// [`OutputSink::finish`] has succeeded. None where there is no memory for that.
-pub fn gathered_output(rt: &HostRuntime) -> Option<OutputSink<BufWriter<Stdout>>>
-    ensures unfailed { IfSome result
-        (λ s. ⟦<OutputSink<BufWriter<Stdout>> as ByteSink>⟧.failures s ≡ 0) }
-    ensures fresh { IfSome result
-        (λ s. ⟦<OutputSink<BufWriter<Stdout>> as ByteSink>⟧.took s ≡ []) }
-{
-    match BufWriter::with_capacity(rt.alloc(), GATHERED, rt.stdout()) {
-        Ok(writer) => Some(OutputSink::new(writer)),
-        Err(_) => None,
     }
 }
 

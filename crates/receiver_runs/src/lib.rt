@@ -3,15 +3,14 @@
 
 ghost use Rattle.std.specs.Prelude.{◌≤◌};
 
-use command_end::{Devices, end_run, end_without_memory, passed_on};
+use command_end::{Devices, end_run, end_without_memory, finish_output};
 use command_line::{MergeWords, ProcessWords};
 use devices::{
-    FileSink, FileSource, OutputSink, gathered_output, last_begun, named_file, named_files,
+    FileSink, FileSource, GatheringSink, OutputSink, last_begun, named_file, named_files,
     reading_begun,
 };
 use packet_plan::Stamp;
 use receiver_engines::Processing;
-use std::io::Write;
 
 /// Merges two receivers that were written as files.
 pub fn merge(rt: &HostRuntime, words: &MergeWords<'_>, is_verbose: bool) -> u8 {
@@ -83,22 +82,10 @@ fn processing<'a>(words: &ProcessWords<'a>) -> Processing<'a>
 /// Prints what a receiver lacks that was written as a file. What it prints is gathered, since the
 /// file is read whole before the first line.
 pub fn report(rt: &HostRuntime, name: &str, is_verbose: bool) -> u8 {
-    match gathered_output(rt) {
-        Some(output) => report_to(rt, name, output, is_verbose),
-        None => report_to(rt, name, OutputSink::new(rt.stdout()), is_verbose),
-    }
-}
-
-/// The same, printed by this output.
-fn report_to<W: Write + Drop>(
-    rt: &HostRuntime,
-    name: &str,
-    mut output: OutputSink<W>,
-    is_verbose: bool,
-) -> u8 {
     let mut state = FileSource::new(rt, name);
+    let mut output = GatheringSink::new(rt.alloc(), rt.stdout());
     let outcome = receiver_engines::report(rt.alloc(), &mut state, &mut output);
-    let outcome = passed_on(outcome, output.finish());
+    let outcome = finish_output(outcome, &mut output);
     let devices = Devices {
         sdp: None,
         read: state.begun(),

@@ -1,24 +1,16 @@
 //! The commands that read standard input alone, over the devices of this machine.
 #![tactic(auto)]
 
-use command_end::{Devices, end_run, passed_on};
-use devices::{InputSource, OutputSink, gathered_output};
-use std::io::Write;
+use command_end::{Devices, end_run, finish_output};
+use devices::{GatheringSink, InputSource, OutputSink};
 
 /// Runs the script on standard input. What it prints is gathered, since the script is read whole
 /// before the first line of it.
 pub fn trace(rt: &HostRuntime, is_verbose: bool) -> u8 {
-    match gathered_output(rt) {
-        Some(output) => trace_to(rt, output, is_verbose),
-        None => trace_to(rt, OutputSink::new(rt.stdout()), is_verbose),
-    }
-}
-
-/// The same, printed by this output.
-fn trace_to<W: Write + Drop>(rt: &HostRuntime, mut output: OutputSink<W>, is_verbose: bool) -> u8 {
     let mut input = InputSource::new(rt.stdin(), kept(rt, is_verbose));
+    let mut output = GatheringSink::new(rt.alloc(), rt.stdout());
     let outcome = script_engines::trace(rt.alloc(), &mut input, &mut output);
-    let outcome = passed_on(outcome, output.finish());
+    let outcome = finish_output(outcome, &mut output);
     let devices = Devices {
         sdp: None,
         read: Some(input.reading()),
@@ -44,21 +36,10 @@ pub fn sdp(rt: &HostRuntime, is_verbose: bool) -> u8 {
 
 /// Plays the schedule on standard input, and gathers what it prints as [`trace`] does.
 pub fn rehearse(rt: &HostRuntime, is_verbose: bool) -> u8 {
-    match gathered_output(rt) {
-        Some(output) => rehearse_to(rt, output, is_verbose),
-        None => rehearse_to(rt, OutputSink::new(rt.stdout()), is_verbose),
-    }
-}
-
-/// The same, printed by this output.
-fn rehearse_to<W: Write + Drop>(
-    rt: &HostRuntime,
-    mut output: OutputSink<W>,
-    is_verbose: bool,
-) -> u8 {
     let mut input = InputSource::new(rt.stdin(), kept(rt, is_verbose));
+    let mut output = GatheringSink::new(rt.alloc(), rt.stdout());
     let outcome = script_engines::rehearse(rt.alloc(), &mut input, &mut output);
-    let outcome = passed_on(outcome, output.finish());
+    let outcome = finish_output(outcome, &mut output);
     let devices = Devices {
         sdp: None,
         read: Some(input.reading()),
