@@ -1,4 +1,7 @@
 //! Runs of pgroups that a frame is given at once, against the same given one by one.
+ghost use Rattle.std.specs.Prelude.{◌≡◌};
+ghost use Rattle.st_format.specs.Position.{group_count};
+
 use crate::checks::met;
 use crate::rows::{part, set};
 use frame_assembly::Frame;
@@ -15,32 +18,45 @@ const MOST_GROUPS: usize = 48;
 const MOST_OCTETS: usize = 15 * MOST_GROUPS;
 
 /// How many groups the frames of a format have.
-fn group_count(format: &Format) -> usize {
+fn groups_of(format: &Format) -> usize
+    ensures { result ≡ group_count format.now }
+{
     format.height() as usize * format.row_groups() as usize
 }
 
 /// Gives a frame so many groups, the first of which has a number, and tells whether there are such.
 fn give_run(frame: &mut Frame, first: usize, count: usize, octets: &[u8]) -> bool {
     let format = frame.format();
-    let groups = group_count(&format);
-    if first > groups || count > groups - first || octets.len() != format.pgroup().octets * count {
+    let groups = groups_of(&format);
+    let Some(size) = format.pgroup().octets.checked_mul(count) else {
+        return false;
+    };
+    if first > groups || count > groups - first || octets.len() != size {
         return false;
     }
     frame.set_groups(first, count, octets);
     true
 }
 
+/// Gives a frame the group of a number, and tells whether there is one.
+fn give_one(frame: &mut Frame, number: usize, octets: &[u8]) -> bool {
+    let per_row = frame.format().row_groups() as usize;
+    match (
+        u32::try_from(number / per_row),
+        u32::try_from(number % per_row),
+    ) {
+        (Ok(row), Ok(place)) => set(frame, row, place, octets, 0, true),
+        _ => false,
+    }
+}
+
 /// Gives a frame the same one by one.
 fn give_each(frame: &mut Frame, first: usize, count: usize, octets: &[u8]) -> bool {
-    let format = frame.format();
-    let size = format.pgroup().octets;
-    let per_row = format.row_groups() as usize;
+    let size = frame.format().pgroup().octets;
     let mut can_be = true;
     for i in 0..count {
-        let number = first.wrapping_add(i);
         let group = part(octets, i.wrapping_mul(size), size);
-        let (row, place) = ((number / per_row) as u32, (number % per_row) as u32);
-        can_be &= set(frame, row, place, group, 0, true);
+        can_be &= give_one(frame, first.wrapping_add(i), group);
     }
     can_be
 }
@@ -79,7 +95,7 @@ fn runs_agree(
     format: Format,
     generator: &mut Generator,
 ) -> Result<bool, AllocError> {
-    let groups = group_count(&format);
+    let groups = groups_of(&format);
     let mut octets = [0; MOST_OCTETS];
     generator.fill_octets(&mut octets);
     let mut agree = true;
