@@ -5,7 +5,7 @@
 //! came is looked at before the source is asked again.
 ghost use Rattle.std.specs.Prelude.{◌≡◌, ◌<◌, ◌≤◌, ◌+◌, ◌-◌, ◌*◌, ◌++◌, IfErr, IfOk, OnErr};
 ghost use Rattle.std.specs.Prelude.{OnOk, drop, length, take};
-ghost use Rattle.std.specs.Io.KnownBytes.{Consumes, IsAtEnd};
+ghost use Rattle.std.specs.Io.KnownBytes.{Consumes};
 ghost use Rattle.st_format.specs.Position.{group_count, row_groups};
 ghost use Rattle.st_format.specs.Raster.{blank};
 ghost use Rattle.media_file.specs.Faults.{CountsDevice, IfContent};

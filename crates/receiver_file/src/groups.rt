@@ -18,7 +18,7 @@ const WHOLE: u16 = 0x8000;
 
 /// How many octets are copied at once, of which a group has the first: a copy of a length that is
 /// known here is no call.
-const WIDE: usize = 16;
+pub(crate) const WIDE: usize = 16;
 
 /// How many groups are put without a look at each where all of them are whole, as most are.
 const BLOCK: usize = 8;
@@ -166,7 +166,7 @@ fn put_wide_behind(room: &mut [u8], at: usize, head: &[u8], size: usize, octets:
 /// Puts the first `size` octets behind the first `at`, and others behind their end. Answers where
 /// they end.
 #[inline(always)]
-fn put_wide(room: &mut [u8], at: usize, size: usize, octets: &[u8]) -> usize
+pub(crate) fn put_wide(room: &mut [u8], at: usize, size: usize, octets: &[u8]) -> usize
     requires few { size ≤ WIDE }
     requires octets { WIDE ≤ length octets.now }
     requires room { at + WIDE ≤ length room.old }

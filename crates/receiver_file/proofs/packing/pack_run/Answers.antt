@@ -4,19 +4,27 @@ use Rattle.std.proofs.lemmas.List.{length-drop, length-take-le}
 use Rattle.media_file.proofs.Once.{shape_is}
 use Rattle.receiver_file.specs.Known.{shape_in}
 use Rattle.receiver_file.specs.Taking.{AreGroups}
-use Rattle.receiver_file.proofs.TakenGroups.{groups_zero}
 use Rattle.receiver_file.proofs.WholeRuns.{valued_cells, whole_next}
 use Rattle.receiver_file.proofs.packing.pack_run.Goals as goal
 
 pub loop-count-init : goal.loop-count-init
-loop-count-init c = record {
-  most = omega arith;
-  at = omega arith;
-  end = omega arith;
-  inside = omega arith;
-  room = refl;
-  groups = groups_zero (shape_in c.args.format.now) _;
-}
+loop-count-init c =
+    let wide = c.pack_wide-count.ensures in
+    let s = shape_in c.args.format.now in
+    let size : ℕ = c.pgroup-size.result.octets in
+    let same : size ≡ s.octets = c.pgroup-size.ensures.octets in
+    let n : ℕ = c.pack_wide-count.result in
+    let packed : List ℕ = c.pack_wide-count.new.packed in
+    record {
+      most = wide.most;
+      at = refl;
+      end = refl;
+      inside = subst (λ (k : ℕ). (1 + k) * n ≤ length c.args.octets.now) (sym same) wide.within;
+      room = refl;
+      groups =
+          subst (λ (k : ℕ). AreGroups s n (take ((1 + k) * n) c.args.octets.now)
+          (valued_cells s (take (k * n) packed))) (sym same) wide.groups;
+    }
 
 pub loop-count-preserved : goal.loop-count-preserved
 loop-count-preserved c =
@@ -37,6 +45,7 @@ loop-count-preserved c =
       i.invariant.at,
       i.invariant.inside,
       i.invariant.room,
+      c.pack_wide-count.ensures.room,
       wide,
       c.requires,
     ) in
