@@ -1,11 +1,11 @@
 -- The runs of a row's columns are the maximal ones.
-use Rattle.std.proofs.Common.{◌≡◌, ◌↔◌, ℕ, zero, suc, ◌+◌, ◌-◌, ◌*◌, ◌/◌, ◌%◌, ◌^◌, ◌<◌, ◌≤◌, Bool}
+use Rattle.std.proofs.Common.{◌≡◌, ℕ, zero, suc, ◌+◌, ◌-◌, ◌*◌, ◌/◌, ◌%◌, ◌^◌, ◌<◌, ◌≤◌, Bool}
 use Rattle.std.proofs.Common.{true, false, not, List, [], ◌∷◌, length, map, drop, get_or, refl, sym}
 use Rattle.std.proofs.Common.{ap, ◌∙◌, inl, inr, subst, arith}
 use Rattle.std.specs.List.{list_all, range_with_len}
 use Rattle.std.specs.List.Sorted.{IsStrictlyIncreasing}
 use Rattle.std.specs.declared.ops.Range.{Range}
-use Rattle.std.proofs.lemmas.Bool.{cases_eq, cases_lt}
+use Rattle.std.proofs.lemmas.Bool.{cases_eq}
 use Rattle.std.proofs.lemmas.List.{get_or-drop, get_or-map, get_or-take, length-map}
 use Rattle.std.proofs.lemmas.List.FromFn.{get_or-map-range_with_len, length-map-range_with_len}
 use Rattle.st_format.specs.declared.cell.Cell.{Cell}
@@ -18,7 +18,7 @@ use Rattle.st_format.specs.declared.sampling.Depth.TheVariants.{D8, D10, D12, D1
 use Rattle.st_format.specs.Cell.{is_missing}
 use Rattle.st_format.specs.Member.{IsMember}
 use Rattle.st_format.specs.Pgroup.{pixel_group}
-use Rattle.st_format.specs.Position.{HasComponent, IsPosition, Position, group_start, number_of}
+use Rattle.st_format.specs.Position.{HasComponent, IsPosition, Position, group_start}
 use Rattle.st_format.specs.Position.{place, row_groups}
 use Rattle.st_format.specs.Raster.{IsWhole, Raster, cell_at}
 use Rattle.st_format.proofs.Columns.{member-group_positions}

@@ -1,10 +1,9 @@
 -- The flags of a row's mark words are those of its pgroups' cells.
 use Rattle.std.proofs.Common.{◌≡◌, ℕ, suc, ◌+◌, ◌-◌, ◌*◌, ◌/◌, ◌%◌, ◌^◌, ◌<◌, ◌≤◌}
 use Rattle.std.proofs.Common.{Bool, true, false}
-use Rattle.std.proofs.Common.{not, List, [], ◌∷◌, ◌++◌, ◌&&◌, length, map, drop, get_or, refl, sym}
+use Rattle.std.proofs.Common.{not, List, [], ◌∷◌, ◌++◌, ◌&&◌, length, map, drop, get_or, sym}
 use Rattle.std.proofs.Common.{ap, ◌∙◌, inl, inr, arith}
 use Rattle.std.specs.List.{list_all}
-use Rattle.std.specs.declared.ops.Range.{Range}
 use Rattle.std.proofs.lemmas.Bool.{cases_lt}
 use Rattle.std.proofs.lemmas.List.{get_or-map, length-drop, length-map, length-take-le}
 use Rattle.std.proofs.lemmas.List.{map-append, same_lists}

@@ -1,7 +1,7 @@
 -- The contested samples of a row are the positions of which the cell is contested.
-use Rattle.std.proofs.Common.{◌≡◌, ◌↔◌, ℕ, ◌+◌, ◌/◌, ◌<◌, ◌≤◌, Bool, true, List, map, sym, ap}
+use Rattle.std.proofs.Common.{◌≡◌, ◌↔◌, ℕ, ◌+◌, ◌/◌, ◌<◌, ◌≤◌, Bool, true, List, sym, ap}
 use Rattle.std.proofs.Common.{◌∙◌, subst, arith}
-use Rattle.std.specs.List.{filter, flat_map, range_with_len}
+use Rattle.std.specs.List.{filter, range_with_len}
 use Rattle.st_format.specs.declared.format.Format.{Format}
 use Rattle.st_format.specs.Cell.{is_contested}
 use Rattle.st_format.specs.Member.{IsMember}

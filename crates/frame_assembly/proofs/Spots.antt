@@ -9,8 +9,6 @@ use Rattle.std.proofs.lemmas.List.{drop_all, drop_more, map-append}
 use Rattle.std.proofs.lemmas.List.Elements.{filter-append}
 use Rattle.std.proofs.lemmas.Nat.{div-mul-add, mod-mul-add}
 use Rattle.std.proofs.lemmas.Nat.Bits.{bit_at-pow_other, bit_at-zero}
-use Rattle.st_format.specs.declared.cell.Cell.{Cell}
-use Rattle.st_format.specs.declared.cell.Cell.TheVariants.{Missing}
 use Rattle.st_format.specs.declared.format.Format.{Format}
 use Rattle.st_format.specs.declared.sampling.Sampling.{Sampling}
 use Rattle.st_format.specs.Cell.{is_contested}
@@ -20,7 +18,7 @@ use Rattle.st_format.specs.Position.{component_in_row, row_groups, row_samples}
 use Rattle.st_format.specs.Raster.{IsWhole, Raster, cell_at}
 use Rattle.st_format.proofs.Columns.{row_samples_groups}
 use Rattle.frame_assembly.specs.ContestedSamples.{AreEven, HasContested, IsNextSet}
-use Rattle.frame_assembly.specs.ContestedSamples.{contested_spots, row_positions, spot_of}
+use Rattle.frame_assembly.specs.ContestedSamples.{contested_spots, spot_of}
 use Rattle.frame_assembly.specs.ContestedSamples.{spots_of_mark, spots_of_marks}
 use Rattle.frame_assembly.specs.Rows.{IsMarkOf, group_cells}
 use Rattle.frame_assembly.proofs.MissingColumns.{cell_is}

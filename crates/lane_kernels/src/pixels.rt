@@ -1,9 +1,9 @@
 //! The matrix from R, G, B to Y, Cb, Cr (ITU-R BT.709) of whole pixels, as they lie in a picture.
-ghost use Rattle.std.specs.Prelude.{◌≡◌, ◌<◌, ◌≤◌, ◌+◌, ◌*◌, ◌/◌, ◌%◌, ◌^◌};
+ghost use Rattle.std.specs.Prelude.{◌≡◌, ◌<◌, ◌≤◌, ◌*◌, ◌/◌, ◌%◌, ◌^◌};
 ghost use Rattle.std.specs.Prelude.{length, slice_index, EachIndex};
 ghost use Rattle.lane_kernels.specs.Lanes.{HasLanes};
 ghost use Rattle.lane_kernels.specs.Differences.{difference};
-ghost use Rattle.lane_kernels.specs.Formulas.{clip, luma, scale, video_data};
+ghost use Rattle.lane_kernels.specs.Formulas.{clip, luma, video_data};
 ghost use Rattle.lane_kernels.specs.Pixels.{in_turn, narrow_of, near_lanes, ycc_at};
 
 use crate::matrix::{Difference, colour_of, colour_wide_lanes, luma_lanes, luma_of, scale};
@@ -207,12 +207,12 @@ pub fn ycc709(rgb: &[u16], bits: u32, out: &mut [u16])
 {
     let mut at = 0;
     while out.len() - at >= 24 {
-        let a = u16x8::from_slice(&rgb[at..]);
-        let b = u16x8::from_slice(&rgb[at + 8..]);
-        let c = u16x8::from_slice(&rgb[at + 16..]);
-        let red = in_turns(a, b, c).swizzle([0, 3, 6, 1, 4, 7, 2, 5]);
-        let green = in_turns(c, a, b).swizzle([1, 4, 7, 2, 5, 0, 3, 6]);
-        let blue = in_turns(b, c, a).swizzle([2, 5, 0, 3, 6, 1, 4, 7]);
+        let first = u16x8::from_slice(&rgb[at..]);
+        let second = u16x8::from_slice(&rgb[at + 8..]);
+        let third = u16x8::from_slice(&rgb[at + 16..]);
+        let red = in_turns(first, second, third).swizzle([0, 3, 6, 1, 4, 7, 2, 5]);
+        let green = in_turns(third, first, second).swizzle([1, 4, 7, 2, 5, 0, 3, 6]);
+        let blue = in_turns(second, third, first).swizzle([2, 5, 0, 3, 6, 1, 4, 7]);
         let y = pixel_luma(red, green, blue, bits).swizzle([5, 0, 3, 6, 1, 4, 7, 2]);
         let cb = pixel_colour(Difference::Cb, blue, red, green, bits).swizzle([
             0, 3, 6, 1, 4, 7, 2, 5,

@@ -1,6 +1,6 @@
 use Rattle.std.proofs.Common.{◌≡◌, ◌≤◌, ◌*◌, ◌∙◌, ℕ, List, ap, length, refl, replicate, take, sym}
 use Rattle.std.proofs.lemmas.List.{length-replicate, take-replicate}
-use Rattle.st_format.specs.Pgroup.{bits_of, pixel_group}
+use Rattle.st_format.specs.Pgroup.{pixel_group}
 use Rattle.st_format.specs.declared.format.Format.{Format}
 use Rattle.frame_assembly.specs.Packed.{ArePacked, whole_marks}
 use Rattle.frame_assembly.proofs.GroupJoins.{copy_joined, same_joined}

@@ -1,4 +1,4 @@
-use Rattle.std.proofs.Common.{◌≡◌, ℕ, ◌+◌, ◌-◌, ◌*◌, ◌≤◌, List, drop, length, map, replicate, take}
+use Rattle.std.proofs.Common.{◌≡◌, ℕ, ◌+◌, ◌-◌, ◌*◌, ◌≤◌, List, drop, length, replicate, take}
 use Rattle.std.proofs.Common.{refl, ap, ◌∙◌, arith}
 use Rattle.std.proofs.lemmas.List.{length-drop, length-replicate, length-take-le}
 use Rattle.st_format.specs.declared.cell.Cell.{Cell}
@@ -8,7 +8,6 @@ use Rattle.frame_assembly.specs.Packed.{ArePacked, cells_in, whole_marks}
 use Rattle.frame_assembly.specs.Rows.{replaced_cells}
 use Rattle.frame_assembly.proofs.GivenLemmas.{AreReplaced, run_replaced}
 use Rattle.frame_assembly.proofs.PackedLemmas.{sizes}
-use Rattle.frame_assembly.proofs.RowLemmas.{octets_inside}
 use Rattle.frame_assembly.proofs.Runs.{part_between}
 use Rattle.frame_assembly.proofs.Segments.{whole_cells, whole_packed}
 use borrow.Rule.Slice.PartMut.{put_mid}

@@ -1,4 +1,4 @@
-use Rattle.std.proofs.Common.{◌≡◌, ◌∷◌, ◌++◌, ◌+◌, ◌*◌, ◌<◌, ◌≤◌, ℕ, List, ◌-◌, ◌∙◌, ap, arith}
+use Rattle.std.proofs.Common.{◌+◌, ◌*◌, ◌<◌, ◌≤◌, ℕ, List, ◌-◌, ◌∙◌, ap, arith}
 use Rattle.std.proofs.Common.{drop, length, refl, rules, sym, take}
 use Rattle.std.proofs.lemmas.List.{take_rest}
 use Rattle.frame_assembly.specs.ContestedSamples.{spots_of_marks}

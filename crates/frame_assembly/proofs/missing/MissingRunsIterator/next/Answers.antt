@@ -1,4 +1,4 @@
-use Rattle.std.proofs.Common.{◌≡◌, ◌∷◌, ◌+◌, ◌*◌, ℕ, List, ◌-◌, ◌∙◌, ap, arith, drop, length, rules}
+use Rattle.std.proofs.Common.{◌+◌, ℕ, List, ◌-◌, ◌∙◌, ap, arith, drop, length, rules}
 use Rattle.std.proofs.Common.{sym, take}
 use Rattle.std.proofs.lemmas.List.{take_rest}
 use Rattle.frame_assembly.proofs.MissingWalk.{none_here, run_here}
