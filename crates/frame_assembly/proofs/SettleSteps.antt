@@ -213,7 +213,7 @@ part_agrees s at count a c oa oc marks xs here le long =
     ∙ ap (λ (k : ℕ). s * k) (sym (part_count s at count a c oa oc marks here le))
 
 -- a part is within the whole
-pub within : (s from to many long : ℕ) → long ≡ s * many → from ≤ to → to ≤ many
+pub within : (s from to many long : ℕ) → s * many ≤ long → from ≤ to → to ≤ many
     → s * from + s * (to - from) ≤ long
 within s from to many long is order inside =
     let end : from + (to - from) ≡ to = omega arith in

@@ -1,6 +1,6 @@
 //! A frame: what is known of each sample of a raster.
 ghost use Rattle.std.specs.Prelude.{◌≡◌, ◌<◌, ◌≤◌, ◌↔◌, ◌+◌, ◌*◌, ℕ, IfOk, IsTrue, count_by};
-ghost use Rattle.std.specs.Prelude.{length, map, slice_index};
+ghost use Rattle.std.specs.Prelude.{drop, length, map, slice_index, take};
 ghost use Rattle.std.specs.Int.{bit_at};
 ghost use Rattle.frame_assembly.specs.ContestedSamples.{IsContestedSample};
 ghost use Rattle.frame_assembly.specs.ContestedSamples.{contested_spots};
@@ -34,7 +34,7 @@ use crate::groups::{join_run, same_groups};
 use crate::joining::{group_total, join_segments};
 use crate::missing::MissingRuns;
 use crate::rows::{group_of, marks_of_row, octets_of_row, set_group_of, set_groups_of};
-use crate::settling::settled_samples;
+use crate::settling::{base_facts, settle_run, settled_samples};
 use crate::state::GroupState;
 use payload_header::PayloadView;
 use st_format::{Cell, Format, Picture};
@@ -228,6 +228,50 @@ impl<A: Allocator> Frame<A> {
             base,
         )?;
         Ok(Picture::from_samples(self.format, samples))
+    }
+
+    /// The samples of consecutive pgroups of the settled picture, from the one of number `first` in
+    /// raster order, in the order in which they are sent: as [`settle`](Frame::settle) gives them
+    /// with this base. No memory is taken.
+    ///
+    /// `samples` has just as many as `count` pgroups; a base is one as for `settle`.
+    pub fn settle_groups<C: Allocator>(
+        &self,
+        first: usize,
+        count: usize,
+        base: Base<'_, C>,
+        samples: &mut [u16],
+    )
+        requires base { IsBaseOf base self.now.format }
+        requires inside { first + count ≤ group_count self.now.format }
+        requires room { length samples.old
+            ≡ (pixel_group self.now.format.sampling self.now.format.depth).samples * count }
+        ensures settled { samples.new
+            ≡ take ((pixel_group self.now.format.sampling self.now.format.depth).samples * count)
+            (drop ((pixel_group self.now.format.sampling self.now.format.depth).samples * first)
+            (settled_picture self.now base.entry).samples) }
+    {
+        settle_run(
+            &self.format,
+            self.marks.as_slice(),
+            self.octets.as_slice(),
+            first,
+            count,
+            base,
+            samples,
+        );
+    }
+
+    /// What is so of every settled frame: it is a picture. A caller's proof learns it from here;
+    /// nothing is done.
+    #[doc(hidden)]
+    #[inline(always)]
+    pub fn settled_facts<C: Allocator>(&self, base: Base<'_, C>)
+        requires { IsBaseOf base self.now.format }
+        ensures { IsPicture (settled_picture self.now base.entry) }
+    {
+        let _format = &self.format;
+        base_facts(base);
     }
 
     /// A copy of its own, over another allocator.

@@ -1,23 +1,27 @@
 //! Settling cells: a value for each sample.
 ghost use Rattle.std.specs.Prelude.{◌≡◌, ◌<◌, ◌≤◌, ◌+◌, ◌-◌, ◌*◌, ◌%◌, ◌↔◌, ℕ, List, IfOk, IsTrue};
-ghost use Rattle.std.specs.Prelude.{length, slice_index};
+ghost use Rattle.std.specs.Prelude.{drop, length, map, slice_index, take};
+ghost use Rattle.std.specs.List.{range_with_len};
 ghost use Rattle.frame_assembly.specs.Packed.{ArePacked, cells_in, marked};
 ghost use Rattle.frame_assembly.specs.Settled.{HoldsPicture, IsBaseOf, IsSettledTo, base_number};
 ghost use Rattle.frame_assembly.specs.Settled.{settled_cell, settled_numbers};
 ghost use Rattle.pgroup_pack.specs.Packing.{Agree};
 ghost use Rattle.st_format.specs.Pgroup.{bits_of, pixel_group};
-ghost use Rattle.st_format.specs.Position.{group_count};
+ghost use Rattle.st_format.specs.Position.{component_in_row, group_count};
 ghost use Rattle.st_format.specs.Samples.{values_in};
 
 use crate::base::Base;
 use crate::groups::{BLOCK, are_missing, marked_cell};
 use crate::state::PRESENT;
 use pgroup_pack::unpack;
-use st_format::{Cell, Format, fill_samples};
+use st_format::{Cell, Format, Sampling, fill_samples};
 use std::alloc::{AllocError, Allocator};
 
 /// How many samples a block of groups has at most: a group has 12 or fewer.
 const BLOCK_SAMPLES: usize = 768;
+
+/// Samples after which the components of each sampling come again.
+const TURN: usize = 12;
 
 /// How many samples are unpacked at a time.
 const UNPACKED: usize = 3072;
@@ -42,8 +46,56 @@ pub fn settled_samples<B: Allocator, C: Allocator>(
 {
     let count = format.pgroup().samples * marks.len();
     let mut samples = unpacked_samples(alloc, format, octets, count)?;
-    settle_over(format, marks, base, samples.as_mut_slice());
+    settle_over(format, marks, 0, base, samples.as_mut_slice());
     Ok(samples)
+}
+
+/// The same of the cells of `count` groups, from the one of number `first` on.
+pub fn settle_run<C: Allocator>(
+    format: &Format,
+    marks: &[u16],
+    octets: &[u8],
+    first: usize,
+    count: usize,
+    base: Base<'_, C>,
+    samples: &mut [u16],
+)
+    requires packed { ArePacked format.now marks.now octets.now }
+    requires few { length marks.now ≤ 8192 * 8192 }
+    requires groups { length marks.now ≡ group_count format.now }
+    requires base { IsBaseOf base format.now }
+    requires inside { first + count ≤ length marks.now }
+    requires samples { length samples.old
+        ≡ (pixel_group format.now.sampling format.now.depth).samples * count }
+    ensures settled { samples.new
+        ≡ take ((pixel_group format.now.sampling format.now.depth).samples * count)
+        (drop ((pixel_group format.now.sampling format.now.depth).samples * first)
+        (settled_numbers (cells_in format.now marks.now octets.now)
+        (base_number format.now.sampling base.entry))) }
+{
+    let size = format.pgroup().octets;
+    unpack(
+        format,
+        &octets[size * first..size * (first + count)],
+        samples,
+    );
+    let of_run = &marks[first..first + count];
+    if !are_whole(of_run) {
+        settle_over(format, of_run, first, base, samples);
+    }
+}
+
+/// What a base holds is a picture. A caller's proof learns it from here; nothing is done.
+#[inline(always)]
+pub fn base_facts<C: Allocator>(base: Base<'_, C>)
+    ensures { HoldsPicture base.entry }
+{
+    match base {
+        Base::Fill(_) => {}
+        Base::Hold(picture) => {
+            let _format = picture.format();
+        }
+    }
 }
 
 /// The `count` samples that the octets spell, block after block, each while it is near, into memory
@@ -73,27 +125,54 @@ fn unpacked_samples<B: Allocator>(
     Ok(samples)
 }
 
-/// Gives each sample the base's value where its cell has none.
-fn settle_over<C: Allocator>(format: &Format, marks: &[u16], base: Base<'_, C>, samples: &mut [u16])
-    requires groups { length marks.now ≡ group_count format.now }
+/// Gives each sample the base's value where its cell has none. The groups are those from the one of
+/// number `first` on.
+fn settle_over<C: Allocator>(
+    format: &Format,
+    marks: &[u16],
+    first: usize,
+    base: Base<'_, C>,
+    samples: &mut [u16],
+)
+    requires few { length marks.now ≤ 8192 * 8192 }
+    requires groups { first + length marks.now ≤ group_count format.now }
     requires base { IsBaseOf base format.now }
     requires samples { length samples.old
         ≡ (pixel_group format.now.sampling format.now.depth).samples * length marks.now }
     ensures settled { IsSettledTo (pixel_group format.now.sampling format.now.depth).samples
         (length marks.now) marks.now
-        (base_number format.now.sampling base.entry) samples.old samples.new }
+        (λ k. base_number format.now.sampling base.entry
+        ((pixel_group format.now.sampling format.now.depth).samples * first + k))
+        samples.old samples.new }
     ensures held { HoldsPicture base.entry }
 {
     let of_group = format.pgroup().samples;
     match base {
         Base::Fill(fill) => {
             let mut pattern = [0; BLOCK_SAMPLES];
-            fill_samples(format.sampling, fill, &mut pattern);
+            fill_pattern(format.sampling, fill, &mut pattern);
             settle_over_pattern(of_group, marks, &pattern, samples);
         }
         Base::Hold(picture) => {
-            settle_over_held(of_group, marks, picture.samples(), samples);
+            let held = &picture.samples()[of_group * first..];
+            settle_over_held(of_group, marks, held, samples);
         }
+    }
+}
+
+/// Gives each sample of a block the value of its component. Those of the first pixels come again, so
+/// all that were made are copied behind them.
+fn fill_pattern(sampling: Sampling, fill: [u16; 3], pattern: &mut [u16])
+    requires { length pattern.old ≡ 768 }
+    ensures { pattern.new
+        ≡ map (λ k. slice_index fill (component_in_row sampling k)) (range_with_len 0 768) }
+{
+    fill_samples(sampling, fill, &mut pattern[..TURN]);
+    let mut made = TURN;
+    while made < pattern.len() {
+        let more = made.min(pattern.len() - made);
+        pattern.copy_within(..more, made);
+        made += more;
     }
 }
 
@@ -131,7 +210,7 @@ fn settle_over_pattern(of_group: usize, marks: &[u16], pattern: &[u16], samples:
 /// Settles over the values of a picture, a block after the other.
 fn settle_over_held(of_group: usize, marks: &[u16], held: &[u16], samples: &mut [u16])
     requires few { of_group ≤ 12 }
-    requires held { length held.now ≡ of_group * length marks.now }
+    requires held { of_group * length marks.now ≤ length held.now }
     requires samples { length samples.old ≡ of_group * length marks.now }
     ensures { IsSettledTo of_group (length marks.now) marks.now
         (λ k. slice_index held.now k) samples.old samples.new }

@@ -1,24 +1,82 @@
-use Rattle.std.proofs.Common.{ℕ, ◌*◌, List, length, get_or, sym, ap, ◌∙◌, subst}
+use Rattle.std.proofs.Common.{◌≡◌, ℕ, ◌+◌, ◌-◌, ◌*◌, ◌≤◌, List, length, get_or, take, drop, refl}
+use Rattle.std.proofs.Common.{sym, ap, ◌∙◌, subst, arith}
+use Rattle.std.proofs.lemmas.List.{length-drop, length-take-le}
+use Rattle.std.proofs.Math.Nat.{mul-add}
+use Rattle.st_format.specs.Pgroup.{pixel_group}
+use Rattle.st_format.specs.Position.{component_in_row, group_count}
 use Rattle.frame_assembly.specs.Settled.{IsSettledTo}
-use Rattle.frame_assembly.proofs.SettleSteps.{pattern_settled}
+use Rattle.frame_assembly.proofs.Runs.{times_le}
+use Rattle.frame_assembly.proofs.SettleSteps.{pattern_settled, same_base}
+use Rattle.frame_assembly.proofs.SettledRuns.{component_on, held_on}
 use Rattle.frame_assembly.proofs.SettledLemmas.{held_long}
 use Rattle.frame_assembly.proofs.settling.settle_over.Goals as goal
 
+-- what is held from the first group on has enough values
+held_room : (z first count groups long : ℕ) → long ≡ z * groups → first + count ≤ groups
+    → z * first + z * count ≤ long
+held_room z first count groups long is le =
+    omega (arith, is, times_le z (first + count) groups le, mul-add z first count)
+
 pub settle_over_held-requires-clause-held : goal.settle_over_held-requires-clause-held
 settle_over_held-requires-clause-held g c =
-    held_long c.args.format.now c.in-Hold.picture.now c.pgroup-of_group.result.samples
-    (length c.args.marks.now) c.samples.result.now (rw c.in-Hold.is at c.requires.base)
-    c.samples.ensures.whole c.samples.ensures.value c.pgroup-of_group.ensures.samples
-    c.requires.groups
+    let xs : List ℕ = c.samples.result.now in
+    let z : ℕ = c.pgroup-of_group.result.samples in
+    let a : ℕ = z * c.args.first in
+    let long : length xs ≡ z * group_count c.args.format.now =
+    held_long c.args.format.now c.in-Hold.picture.now z (group_count c.args.format.now) xs
+    (rw c.in-Hold.is at c.requires.base) c.samples.ensures.whole c.samples.ensures.value
+    c.pgroup-of_group.ensures.samples refl in
+    omega (
+      arith,
+      held_room z c.args.first (length c.args.marks.now) (group_count c.args.format.now)
+          (length xs) long c.requires.groups,
+      length-take-le (length xs - a) (drop a xs) (omega (arith, length-drop a xs)),
+    )
+
+pub slice_bounds-held-count : goal.slice_bounds-held-count
+slice_bounds-held-count g c =
+    let xs : List ℕ = c.samples.result.now in
+    let z : ℕ = c.pgroup-of_group.result.samples in
+    let long : length xs ≡ z * group_count c.args.format.now =
+    held_long c.args.format.now c.in-Hold.picture.now z (group_count c.args.format.now) xs
+    (rw c.in-Hold.is at c.requires.base) c.samples.ensures.whole c.samples.ensures.value
+    c.pgroup-of_group.ensures.samples refl in
+    omega (
+      arith,
+      held_room z c.args.first (length c.args.marks.now) (group_count c.args.format.now)
+          (length xs) long c.requires.groups,
+    )
+
+pub slice_bounds-held-start : goal.slice_bounds-held-start
+slice_bounds-held-start g c =
+    let xs : List ℕ = c.samples.result.now in
+    let z : ℕ = c.pgroup-of_group.result.samples in
+    let long : length xs ≡ z * group_count c.args.format.now =
+    held_long c.args.format.now c.in-Hold.picture.now z (group_count c.args.format.now) xs
+    (rw c.in-Hold.is at c.requires.base) c.samples.ensures.whole c.samples.ensures.value
+    c.pgroup-of_group.ensures.samples refl in
+    omega (
+      arith,
+      held_room z c.args.first (length c.args.marks.now) (group_count c.args.format.now)
+          (length xs) long c.requires.groups,
+    )
 
 pub returns-in-Fill-clause-settled : goal.returns-in-Fill-clause-settled
 returns-in-Fill-clause-settled g c =
+    let f = c.args.format.now in
+    let s : ℕ = (pixel_group f.sampling f.depth).samples in
+    let fill : List ℕ = c.in-Fill.fill in
     rw c.in-Fill.is
+    (same_base s (length c.args.marks.now) c.args.marks.now
+    (λ (k : ℕ). get_or fill (component_in_row f.sampling k) 0)
+    (λ (k : ℕ). get_or fill (component_in_row f.sampling (s * c.args.first + k)) 0)
+    c.args.samples.now c.settle_over_pattern.new.samples
+    (λ k. ap (λ (x : ℕ). get_or fill x 0) (sym (component_on f.sampling f.depth c.args.first k)))
     (pattern_settled c.args.format.now c.pgroup-of_group.result.samples
-    (length c.args.marks.now) c.args.marks.now c.in-Fill.fill c.fill_samples.new.samples
+    (length c.args.marks.now) c.args.marks.now c.in-Fill.fill c.fill_pattern.new.pattern
     c.args.samples.now
-    c.settle_over_pattern.new.samples c.pgroup-of_group.ensures.samples c.fill_samples.ensures
-    c.settle_over_pattern.ensures)
+    c.settle_over_pattern.new.samples c.pgroup-of_group.ensures.samples c.fill_pattern.ensures
+    c.settle_over_pattern.ensures))
 
 pub settle_over_pattern-requires-clause-few : goal.settle_over_pattern-requires-clause-few
 settle_over_pattern-requires-clause-few g c =
@@ -48,10 +106,22 @@ returns-in-Hold-clause-held g c =
 
 pub returns-in-Hold-clause-settled : goal.returns-in-Hold-clause-settled
 returns-in-Hold-clause-settled g c =
+    let f = c.args.format.now in
+    let s : ℕ = (pixel_group f.sampling f.depth).samples in
+    let xs : List ℕ = c.samples.result.now in
+    let z : ℕ = c.pgroup-of_group.result.samples in
+    let first : ℕ = c.args.first in
+    let held : List ℕ = take (length xs - z * first) (drop (z * first) xs) in
     rw c.in-Hold.is
-    (subst (λ (z : ℕ). IsSettledTo z (length c.args.marks.now) c.args.marks.now
-    (λ k. get_or c.in-Hold.picture.now.samples k 0) c.args.samples.now
+    (same_base s (length c.args.marks.now) c.args.marks.now
+    (λ (k : ℕ). get_or held k 0)
+    (λ (k : ℕ). get_or c.in-Hold.picture.now.samples (s * first + k) 0)
+    c.args.samples.now c.settle_over_held.new.samples
+    (λ k. held_on (z * first) k xs
+    ∙ ap (λ (ys : List ℕ). get_or ys (z * first + k) 0) c.samples.ensures.value
+    ∙ ap (λ (y : ℕ). get_or c.in-Hold.picture.now.samples (y * first + k) 0)
+    c.pgroup-of_group.ensures.samples)
+    (subst (λ (y : ℕ). IsSettledTo y (length c.args.marks.now) c.args.marks.now
+    (λ k. get_or held k 0) c.args.samples.now
     c.settle_over_held.new.samples) c.pgroup-of_group.ensures.samples
-    (subst (λ (xs : List ℕ). IsSettledTo c.pgroup-of_group.result.samples
-    (length c.args.marks.now) c.args.marks.now (λ k. get_or xs k 0) c.args.samples.now
-    c.settle_over_held.new.samples) c.samples.ensures.value c.settle_over_held.ensures))
+    c.settle_over_held.ensures))
