@@ -39,7 +39,7 @@ of_turn (suc (suc zero)) x y z h = refl
 of_turn (suc (suc (suc t))) x y z h = absurd (omega arith)
 
 -- Cb, Y and Cr come in this order
-ycc_matrixed : (n : ℕ) (rgb : List ℕ) (k : ℕ) → ycc_at n rgb k ≡ matrixed_at n rgb k
+pub ycc_matrixed : (n : ℕ) (rgb : List ℕ) (k : ℕ) → ycc_at n rgb k ≡ matrixed_at n rgb k
 ycc_matrixed n rgb k = of_turn (k % 3) _ _ _ (omega arith)
 
 -- d samples are made, and ws is made of the s samples behind them

@@ -8,3 +8,5 @@ pub mod Sent
 pub mod Refused
 pub mod Steps
 pub mod Alone
+pub mod MadeParts
+pub mod MadePictures

@@ -29,7 +29,7 @@ use Rattle.key_mix.specs.declared.Axis.TheVariants.{Columns, Rows}
 use Rattle.key_mix.specs.declared.WipeShape.{WipeShape}
 use Rattle.key_mix.proofs.InRow.{place-in_row}
 
-part_at : (at m : ℕ) (xs : List ℕ) (i : ℕ) → i < m
+pub part_at : (at m : ℕ) (xs : List ℕ) (i : ℕ) → i < m
     → get_or (take m (drop at xs)) i 0 ≡ get_or xs (at + i) 0
 part_at at m xs i h = get_or-take m (drop at xs) i 0 h ∙ get_or-drop at xs i 0
 

@@ -2,3 +2,4 @@ pub mod Faults
 pub mod Jobs
 pub mod Sending
 pub mod Rows
+pub mod Made

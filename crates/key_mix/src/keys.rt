@@ -153,7 +153,13 @@ fn key_rows(
 }
 
 /// The keys of the samples of a row: each is that of its column in `row`.
-fn row_keys(sampling: Sampling, of_key: Sampling, scale: u16, row: &[u16], keys: &mut [u16])
+pub(crate) fn row_keys(
+    sampling: Sampling,
+    of_key: Sampling,
+    scale: u16,
+    row: &[u16],
+    keys: &mut [u16],
+)
     requires few { length keys.old ≤ 32768 }
     requires whole { length keys.old % run_samples sampling ≡ 0 }
     requires most { scale ≤ 256 }

@@ -5,6 +5,7 @@ mod faults;
 mod formats;
 mod jobs;
 mod keys;
+mod making;
 mod rows;
 mod sending;
 mod wipes;

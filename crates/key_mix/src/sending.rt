@@ -19,9 +19,10 @@ ghost use Rattle.key_mix.specs.Sending.{
 ghost use Rattle.key_mix.specs.declared.faults.JobFault.TheVariants.{NoMemory};
 
 use crate::formats::{format_of_one, format_of_three, format_of_two};
+use crate::making::MadePicture;
 use crate::{Job, JobFault, SendJobFault, run_job};
 use frame_assembly::{Base, Frame};
-use packet_plan::{Plan, Stamp, send_frame};
+use packet_plan::{Plan, Raster, Stamp, send_frame};
 use st_format::{DatagramSink, Format, Picture};
 use std::alloc::{AllocError, Allocator, Global};
 
@@ -39,7 +40,9 @@ pub struct JobInput<'a, A: Allocator = Global> {
 /// the number of packets, modulo 2^32.
 ///
 /// Each input's base is a fill that fits the depth or a picture of the frame's format, and the
-/// payload type is at most 127.
+/// payload type is at most 127. A key of inputs of one format, and Y, Cb and Cr of R, G and B, are
+/// made as they are sent: no memory is taken for pictures, but where packets have fewer than 512
+/// octets or rows fewer than 256 samples.
 ///
 /// # Errors
 ///
@@ -72,8 +75,25 @@ pub fn send_job<A: Allocator, C: Allocator + Copy, S: DatagramSink>(
     ensures counted { CountsSink (S.failures sink.old) (S.failures sink.new) result }
 {
     let plan = job_plan(alloc, job, inputs, max_octets)?;
+    if has_long_runs(&plan) {
+        if let Some(made) = MadePicture::of(job, inputs, plan.format()) {
+            return send_picture(alloc, &plan, &made, stamp, sink);
+        }
+    }
     let picture = job_picture(alloc, job, inputs)?;
     send_picture(alloc, &plan, &picture, stamp, sink)
+}
+
+/// From how many octets on packets are long.
+const LONG_PACKET: u32 = 512;
+
+/// From how many samples on rows are long.
+const LONG_ROW: usize = 256;
+
+/// Whether the packets and the rows of a plan are long, so that samples are made faster as they are
+/// sent than in a picture before: what each run costs is little beside what it saves.
+fn has_long_runs<A: Allocator>(plan: &Plan<A>) -> bool {
+    plan.max_octets() >= LONG_PACKET && plan.format().row_samples() >= LONG_ROW
 }
 
 /// A plan for the job's picture.
@@ -110,20 +130,20 @@ fn job_picture<A: Allocator, C: Allocator + Copy>(
     run_job(alloc, job, pictures.as_slice())
 }
 
-fn send_picture<A: Allocator, B: Allocator, C: Allocator, S: DatagramSink>(
+fn send_picture<A: Allocator, R: Raster, C: Allocator, S: DatagramSink>(
     alloc: C,
     plan: &Plan<A>,
-    picture: &Picture<B>,
+    picture: &R,
     stamp: Stamp,
     sink: &mut S,
 ) -> Result<u32, SendJobFault>
-    requires format { picture.now.format ≡ plan.now.format }
+    requires format { (R.values picture.now).format ≡ plan.now.format }
     requires payload_type { stamp.payload_type ≤ 127 }
     ensures sent { Sends
-        (λ ds. IsSentPicture ds picture.now stamp plan.now.max_octets plan.now.packets)
+        (λ ds. IsSentPicture ds (R.values picture.now) stamp plan.now.max_octets plan.now.packets)
         stamp.first (S.taken sink.old) (S.taken sink.new) result }
     ensures puts { Puts S.takes S.fails
-        (λ ds. IsSentPicture ds picture.now stamp plan.now.max_octets plan.now.packets)
+        (λ ds. IsSentPicture ds (R.values picture.now) stamp plan.now.max_octets plan.now.packets)
         stamp.first sink.old sink.new result }
     ensures late { IfErr result IsLate }
     ensures counted { CountsSink (S.failures sink.old) (S.failures sink.new) result }

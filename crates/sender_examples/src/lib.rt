@@ -20,6 +20,8 @@ mod job_sending;
 #[cfg(test)]
 mod lossy_paths;
 #[cfg(test)]
+mod made_pictures;
+#[cfg(test)]
 mod number_map;
 #[cfg(test)]
 mod processing;

@@ -7,7 +7,7 @@ pub returns-clause-sent : goal.returns-clause-sent
 returns-clause-sent g c =
     let s = c.in_ok-send_frame.ensures.sent in
     let long =
-    length-sent c.args.picture.now c.args.stamp 0 c.args.plan.now.packets s.datagrams
+    length-sent (g.R.Raster.values c.args.picture.now) c.args.stamp 0 c.args.plan.now.packets s.datagrams
     s.sent.sent in (
       s.datagrams,
       s.sent,
@@ -20,7 +20,7 @@ pub returns-clause-puts : goal.returns-clause-puts
 returns-clause-puts g c =
     let s = c.in_ok-send_frame.ensures.puts in
     let long =
-    length-sent c.args.picture.now c.args.stamp 0 c.args.plan.now.packets s.datagrams
+    length-sent (g.R.Raster.values c.args.picture.now) c.args.stamp 0 c.args.plan.now.packets s.datagrams
     s.sent.sent in
     let some : 0 < length s.datagrams = omega (arith, long, c.facts.ensures.some) in (
       s.datagrams,
