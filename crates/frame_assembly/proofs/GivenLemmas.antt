@@ -101,7 +101,7 @@ pub record AreReplaced (n size samples at : ℕ)
       ≡ replaced_cells (samples * at) (packed_cells n size given from)
       (packed_cells n size marks octets)
 
-replaced_run : (n size samples at count : ℕ) (given from marks octets : List ℕ)
+pub replaced_run : (n size samples at count : ℕ) (given from marks octets : List ℕ)
     → AreSizes n size samples → at + count ≤ length marks → length given ≡ count
     → IsPacked n size samples marks octets → IsPacked n size samples given from
     → AreReplaced n size samples at given from marks octets (put_mid at count marks given)

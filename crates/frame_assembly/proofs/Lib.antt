@@ -19,6 +19,7 @@ pub mod SettledLemmas
 pub mod Absorbed
 pub mod MarkLemmas
 pub mod WholeGroups
+pub mod GrowingLemmas
 pub mod SettledRuns
 pub mod Positions
 pub mod MissingWalk

@@ -7,3 +7,4 @@ pub mod Settled
 pub mod Missing
 pub mod ContestedSamples
 pub mod CountsText
+pub mod Growing

@@ -9,6 +9,8 @@ ghost use Rattle.frame_assembly.specs.Marks.{state_of_mark};
 ghost use Rattle.frame_assembly.specs.Missing.{AreUnknownRuns, unknown_runs};
 ghost use Rattle.st_format.specs.declared.cell.Cell.TheVariants.{Value};
 ghost use Rattle.st_format.specs.Cell.{known_value, is_contested, is_missing, is_present, join};
+ghost use Rattle.frame_assembly.specs.Growing.{raster_in};
+ghost use Rattle.frame_assembly.specs.Packed.{HasAllGroups};
 ghost use Rattle.frame_assembly.specs.Rows.{GroupsAreWhole, IsMarkOf, IsStateOf, given_cells};
 ghost use Rattle.frame_assembly.specs.Rows.{group_cells, replaced_cells, row_cells};
 ghost use Rattle.frame_assembly.specs.Settled.{IsBaseOf, settled_picture};
@@ -90,6 +92,18 @@ impl<A: Allocator + Copy> Frame<A> {
 }
 
 impl<A: Allocator> Frame<A> {
+    /// The frame that keeps these mark words and octets.
+    pub(crate) fn of_groups(format: Format, marks: Vec<u16, A>, octets: Vec<u8, A>) -> Frame<A>
+        requires { HasAllGroups format marks.items octets.items }
+        ensures { result ≡ raster_in format marks.items octets.items }
+    {
+        Frame {
+            format,
+            marks,
+            octets,
+        }
+    }
+
     /// The format that the frame was made with.
     pub fn format(&self) -> Format
         ensures format { result ≡ self.now.format }
