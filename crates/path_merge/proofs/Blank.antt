@@ -1,6 +1,6 @@
 -- A receiver that has taken nothing is one.
 use Rattle.std.proofs.Common.{◌≡◌, ℕ, ◌≤◌, List, [], length, replicate, Option, arith, rules, sym}
-use Rattle.std.proofs.Common.{refl, subst}
+use Rattle.std.proofs.Common.{All, refl, subst}
 use Rattle.std.proofs.lemmas.List.{length-replicate}
 use Rattle.std.proofs.lemmas.List.Elements.{All-replicate}
 use Rattle.st_format.specs.declared.cell.Cell.TheVariants.{Missing}
@@ -43,3 +43,21 @@ receiver_blank f p s w ts frames refusals few is of_window are_blank none =
     (subst (λ (xs : List (Path × Refusal)). IsReceiver
     (state f p s w (replicate (length w) (blank f)) xs)) (sym none)
     (blank_state f p s w few is)))
+
+-- one that holds frames
+pub receiver_of : (f : Format) (p : ℕ) (s : Option ℕ) (w ts : List ℕ) (frames : List Raster)
+    (refusals : List (Path × Refusal)) → p ≤ 127 → IsWindow w → ts ≡ w
+    → length frames ≡ length w → All (λ r. r.format ≡ f) frames → All IsWhole frames
+    → refusals ≡ []
+    → IsReceiver (state f p s ts frames refusals)
+receiver_of f p s w ts frames refusals few is of_window each alike whole none =
+    subst (λ (v : List ℕ). IsReceiver (state f p s v frames refusals)) (sym of_window)
+    (subst (λ (xs : List (Path × Refusal)). IsReceiver (state f p s w frames xs)) (sym none)
+    (record {
+      payload_type = omega (arith, few);
+      window = is;
+      one_each = each;
+      of_format = alike;
+      whole = whole;
+      few_refusals = search rules;
+    }))
