@@ -60,7 +60,7 @@ pub record Grown (f : Format) (first count mark : ℕ)
   pub long : length new_octets ≡ (pixel_group f.sampling f.depth).octets * length new_marks
   pub grew : Grew f first count mark from marks octets new_marks new_octets
 
-pub grown : (f : Format) (first count mark a b : ℕ) (from marks octets : List ℕ)
+grown : (f : Format) (first count mark a b : ℕ) (from marks octets : List ℕ)
     (marks_room octets_room : ℕ) → IsGrowing f marks_room octets_room marks octets
     → length marks ≤ first → first + count ≤ group_count f
     → ArePacked f (replicate count mark) from
@@ -140,6 +140,24 @@ grown f first count mark a b from marks octets marks_room octets_room is told in
           ∙ ap (λ (k : ℕ). size * k) (sym told_now);
       grew = record { told = told_now; cells = here.cells };
     }))
+
+-- the same of lists that were filled up and added to one after the other
+pub grown_by : {f : Format} {first count mark m k a b : ℕ}
+    {from marks octets filled new_marks spread new_octets : List ℕ} {marks_room octets_room : ℕ}
+    → IsGrowing f marks_room octets_room marks octets
+    → length marks ≤ first → first + count ≤ group_count f
+    → ArePacked f (replicate count mark) from
+    → m ≡ length marks → k ≡ length octets
+    → a ≡ count → b ≡ (pixel_group f.sampling f.depth).octets * first
+    → filled ≡ marks ++ replicate (first - m) 0 → new_marks ≡ filled ++ replicate a mark
+    → spread ≡ octets ++ replicate (b - k) 0 → new_octets ≡ spread ++ from
+    → Grown f first count mark from marks octets new_marks new_octets
+grown_by {f} {first} {count} {mark} {m} {k} {a} {b} {from} {marks} {octets} {filled} {new_marks}
+    {spread} {new_octets} {marks_room} {octets_room} is told inside packed many long same_count
+    same_octets is_filled is_marks is_spread is_octets =
+    rw (is_marks, is_filled, many, is_octets, is_spread, long)
+    (grown f first count mark a b from marks octets marks_room octets_room is told inside packed
+    same_count same_octets)
 
 -- ---- nothing is told
 

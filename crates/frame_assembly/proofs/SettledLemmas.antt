@@ -1,7 +1,9 @@
 -- Settled cells, by position and by number.
-use Rattle.std.proofs.Common.{◌≡◌, ℕ, ◌*◌, List, sym, ap, ◌∙◌, subst, length, get_or, map}
+use Rattle.std.proofs.Common.{◌≡◌, ℕ, ◌+◌, ◌*◌, ◌≤◌, List, sym, ap, ◌∙◌, subst, length, get_or}
+use Rattle.std.proofs.Common.{arith, map}
 use Rattle.std.specs.List.{range_with_len}
 use Rattle.std.proofs.lemmas.List.FromFn.{length-map-range_with_len}
+use Rattle.std.proofs.Math.Nat.{mul-add}
 use Rattle.st_format.specs.declared.cell.Cell.{Cell}
 use Rattle.st_format.specs.declared.cell.Cell.TheVariants.{Missing, Value, Contested}
 use Rattle.st_format.specs.declared.format.Format.{Format}
@@ -20,6 +22,7 @@ use Rattle.frame_assembly.specs.Settled.{HoldsPicture, IsBaseOf, base_number, ba
 use Rattle.frame_assembly.specs.Settled.{settled_picture}
 use Rattle.frame_assembly.specs.Settled.{settled_cell, settled_numbers}
 use Rattle.frame_assembly.proofs.Kept.{frame_view}
+use Rattle.frame_assembly.proofs.Runs.{times_le}
 use Rattle.frame_assembly.proofs.Segments.{sample_count_groups}
 
 -- ---- by number
@@ -97,14 +100,15 @@ settled-is_picture r base frame is held =
           (base_fits r.format base p is held));
     }
 
--- how many values are held for groups
-pub held_long : (f : Format) (v : Values) (z groups : ℕ) (xs : List ℕ) → v.format ≡ f → IsPicture v
-    → xs ≡ v.samples → z ≡ (pixel_group f.sampling f.depth).samples → groups ≡ group_count f
-    → length xs ≡ z * groups
-held_long f v z groups xs same is are of_group many =
+-- what is held from a group on has enough values for those behind it
+pub held_room : {f : Format} {v : Values} {z : ℕ} {xs : List ℕ} (first count : ℕ)
+    → v.format ≡ f → IsPicture v → xs ≡ v.samples → z ≡ (pixel_group f.sampling f.depth).samples
+    → first + count ≤ group_count f → z * first + z * count ≤ length xs
+held_room {f} {v} {z} {xs} first count same is are of_group le =
+    let long : length xs ≡ z * group_count f =
     ap length are ∙ is.whole ∙ ap sample_count same ∙ sym (sample_count_groups f)
-    ∙ ap (λ (k : ℕ). (pixel_group f.sampling f.depth).samples * k) (sym many)
-    ∙ ap (λ (k : ℕ). k * groups) (sym of_group)
+    ∙ ap (λ (k : ℕ). k * group_count f) (sym of_group) in
+    omega (arith, long, times_le z (first + count) (group_count f) le, mul-add z first count)
 
 -- What settling the cells of a frame gives, over plain variables
 pub settled_as : {A : Type 0} (f : Format) (items cells : List Cell) (xs : List ℕ) (base : Base A)

@@ -160,8 +160,8 @@ fn settle_over<C: Allocator>(
     }
 }
 
-/// Gives each sample of a block the value of its component. Those of the first pixels come again, so
-/// all that were made are copied behind them.
+/// Gives each sample of a block the value of its component. Those of the first pixels come again,
+/// so all that were made are copied behind them.
 fn fill_pattern(sampling: Sampling, fill: [u16; 3], pattern: &mut [u16])
     requires { length pattern.old ≡ 768 }
     ensures { pattern.new
@@ -286,7 +286,7 @@ fn settle_block(of_group: usize, marks: &[u16], base: &[u16], samples: &mut [u16
         samples.copy_from_slice(&base[..count]);
         return;
     }
-    settle_groups(of_group, marks, base, samples);
+    settle_each(of_group, marks, base, samples);
 }
 
 /// Whether each group has all its values.
@@ -303,7 +303,7 @@ fn are_whole(marks: &[u16]) -> bool
 }
 
 /// Settles groups one by one.
-fn settle_groups(of_group: usize, marks: &[u16], base: &[u16], samples: &mut [u16])
+fn settle_each(of_group: usize, marks: &[u16], base: &[u16], samples: &mut [u16])
     requires few { of_group ≤ 12 }
     requires base { of_group * length marks.now ≤ length base.now }
     requires samples { length samples.old ≡ of_group * length marks.now }

@@ -9,6 +9,8 @@ mod faults;
 #[cfg(test)]
 mod groups;
 #[cfg(test)]
+mod growing;
+#[cfg(test)]
 mod held;
 #[cfg(test)]
 mod kernels;
@@ -38,5 +40,3 @@ mod turns;
 mod two_paths;
 #[cfg(test)]
 mod value_growths;
-#[cfg(test)]
-mod whole_groups;

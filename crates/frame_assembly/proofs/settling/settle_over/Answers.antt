@@ -1,64 +1,44 @@
-use Rattle.std.proofs.Common.{◌≡◌, ℕ, ◌+◌, ◌-◌, ◌*◌, ◌≤◌, List, length, get_or, take, drop, refl}
+use Rattle.std.proofs.Common.{ℕ, ◌+◌, ◌-◌, ◌*◌, List, length, get_or, take, drop}
 use Rattle.std.proofs.Common.{sym, ap, ◌∙◌, subst, arith}
 use Rattle.std.proofs.lemmas.List.{length-drop, length-take-le}
-use Rattle.std.proofs.Math.Nat.{mul-add}
 use Rattle.st_format.specs.Pgroup.{pixel_group}
-use Rattle.st_format.specs.Position.{component_in_row, group_count}
+use Rattle.st_format.specs.Position.{component_in_row}
 use Rattle.frame_assembly.specs.Settled.{IsSettledTo}
-use Rattle.frame_assembly.proofs.Runs.{times_le}
 use Rattle.frame_assembly.proofs.SettleSteps.{pattern_settled, same_base}
 use Rattle.frame_assembly.proofs.SettledRuns.{component_on, held_on}
-use Rattle.frame_assembly.proofs.SettledLemmas.{held_long}
+use Rattle.frame_assembly.proofs.SettledLemmas.{held_room}
 use Rattle.frame_assembly.proofs.settling.settle_over.Goals as goal
-
--- what is held from the first group on has enough values
-held_room : (z first count groups long : ℕ) → long ≡ z * groups → first + count ≤ groups
-    → z * first + z * count ≤ long
-held_room z first count groups long is le =
-    omega (arith, is, times_le z (first + count) groups le, mul-add z first count)
 
 pub settle_over_held-requires-clause-held : goal.settle_over_held-requires-clause-held
 settle_over_held-requires-clause-held g c =
     let xs : List ℕ = c.samples.result.now in
-    let z : ℕ = c.pgroup-of_group.result.samples in
-    let a : ℕ = z * c.args.first in
-    let long : length xs ≡ z * group_count c.args.format.now =
-    held_long c.args.format.now c.in-Hold.picture.now z (group_count c.args.format.now) xs
-    (rw c.in-Hold.is at c.requires.base) c.samples.ensures.whole c.samples.ensures.value
-    c.pgroup-of_group.ensures.samples refl in
+    let a : ℕ = c.pgroup-of_group.result.samples * c.args.first in
+    let room =
+    held_room c.args.first (length c.args.marks.now) (rw c.in-Hold.is at c.requires.base)
+    c.samples.ensures.whole c.samples.ensures.value c.pgroup-of_group.ensures.samples
+    c.requires.groups in
     omega (
       arith,
-      held_room z c.args.first (length c.args.marks.now) (group_count c.args.format.now)
-          (length xs) long c.requires.groups,
+      room,
       length-take-le (length xs - a) (drop a xs) (omega (arith, length-drop a xs)),
     )
 
 pub slice_bounds-held-count : goal.slice_bounds-held-count
 slice_bounds-held-count g c =
-    let xs : List ℕ = c.samples.result.now in
-    let z : ℕ = c.pgroup-of_group.result.samples in
-    let long : length xs ≡ z * group_count c.args.format.now =
-    held_long c.args.format.now c.in-Hold.picture.now z (group_count c.args.format.now) xs
-    (rw c.in-Hold.is at c.requires.base) c.samples.ensures.whole c.samples.ensures.value
-    c.pgroup-of_group.ensures.samples refl in
     omega (
       arith,
-      held_room z c.args.first (length c.args.marks.now) (group_count c.args.format.now)
-          (length xs) long c.requires.groups,
+      held_room c.args.first (length c.args.marks.now) (rw c.in-Hold.is at c.requires.base)
+          c.samples.ensures.whole c.samples.ensures.value c.pgroup-of_group.ensures.samples
+          c.requires.groups,
     )
 
 pub slice_bounds-held-start : goal.slice_bounds-held-start
 slice_bounds-held-start g c =
-    let xs : List ℕ = c.samples.result.now in
-    let z : ℕ = c.pgroup-of_group.result.samples in
-    let long : length xs ≡ z * group_count c.args.format.now =
-    held_long c.args.format.now c.in-Hold.picture.now z (group_count c.args.format.now) xs
-    (rw c.in-Hold.is at c.requires.base) c.samples.ensures.whole c.samples.ensures.value
-    c.pgroup-of_group.ensures.samples refl in
     omega (
       arith,
-      held_room z c.args.first (length c.args.marks.now) (group_count c.args.format.now)
-          (length xs) long c.requires.groups,
+      held_room c.args.first (length c.args.marks.now) (rw c.in-Hold.is at c.requires.base)
+          c.samples.ensures.whole c.samples.ensures.value c.pgroup-of_group.ensures.samples
+          c.requires.groups,
     )
 
 pub returns-in-Fill-clause-settled : goal.returns-in-Fill-clause-settled

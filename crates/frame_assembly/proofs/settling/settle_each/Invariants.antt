@@ -1,6 +1,6 @@
 use Rattle.std.proofs.Common.{get_or}
 use Rattle.frame_assembly.specs.Settled.{IsSettledTo}
-use Rattle.frame_assembly.proofs.settling.settle_groups.Given as goal
+use Rattle.frame_assembly.proofs.settling.settle_each.Given as goal
 
 -- the groups so far are settled
 abbrev pub invariant-loop-i : goal.invariant-loop-i

@@ -3,7 +3,7 @@ use Rattle.std.proofs.Common.{refl, ◌∙◌, arith}
 use Rattle.frame_assembly.proofs.Runs.{part_between}
 use Rattle.frame_assembly.proofs.SettleSteps.{none_settled, part_settled, part_held, part_long}
 use Rattle.frame_assembly.proofs.SettleSteps.{one_mark, group_settled, settled_end}
-use Rattle.frame_assembly.proofs.settling.settle_groups.Goals as goal
+use Rattle.frame_assembly.proofs.settling.settle_each.Goals as goal
 
 pub loop-i-init : goal.loop-i-init
 loop-i-init c = none_settled _ _ (λ (k : ℕ). get_or c.args.base.now k 0) _
