@@ -68,7 +68,7 @@ matrixed_made rgb f is_rgb resampled picture =
 -- ---- parts
 
 -- what is made of the inputs' groups is the part of the picture that they are
-pub made_part : {A : Type 0} (m : Making A) (f : Format) (s first count : ℕ) (out : List ℕ)
+made_part : {A : Type 0} (m : Making A) (f : Format) (s first count : ℕ) (out : List ℕ)
     → s ≡ (pixel_group f.sampling f.depth).samples
     → first + count ≤ group_count f
     → length out ≡ (pixel_group f.sampling f.depth).samples * count
@@ -85,6 +85,23 @@ made_part m f s first count out same le long each =
     made_here (made_number m) (sample_count f) (z * first) (z * count) out long
     (omega (arith, all, both, whole))
     (λ k lt. each k lt ∙ ap (λ (x : ℕ). made_number m (x * first + k)) same)
+
+-- the same where the picture is seen as its values, and what it is made of was told apart
+pub made_as : {A : Type 0} {m q : Making A} {p : Values} {s : ℕ} {out : List ℕ} (f : Format)
+    (first count : ℕ) (old : List ℕ) → made_picture f q ≡ p → q ≡ m → s ≡ (pixel_group f.sampling f.depth).samples
+    → first + count ≤ group_count p.format
+    → length old ≡ (pixel_group p.format.sampling p.format.depth).samples * count
+    → length out ≡ length old
+    → ((k : ℕ) → k < length out → get_or out k 0 ≡ made_number m (s * first + k))
+    → out ≡ take ((pixel_group p.format.sampling p.format.depth).samples * count)
+    (drop ((pixel_group p.format.sampling p.format.depth).samples * first) p.samples)
+made_as {A} {m} {q} {p} {s} {out} f first count old view is same le room long each =
+    subst (λ (v : Values). first + count ≤ group_count v.format
+    → length old ≡ (pixel_group v.format.sampling v.format.depth).samples * count
+    → out ≡ take ((pixel_group v.format.sampling v.format.depth).samples * count)
+    (drop ((pixel_group v.format.sampling v.format.depth).samples * first) v.samples)) view
+    (λ inside has_room. made_part q f s first count out same inside (long ∙ has_room)
+    (λ k lt. each k lt ∙ ap (λ (x : Making A). made_number x (s * first + k)) (sym is))) le room
 
 by_depth : (d : Depth) → (pixel_group Rgb d).samples ≡ (pixel_group Ycc444 d).samples
 by_depth D8 = refl

@@ -13,6 +13,7 @@ pub mod MixedReads
 pub mod KnownReads
 pub mod TakenGroups
 pub mod WholeRuns
+pub mod PackedRuns
 pub mod FrameFills
 pub mod FoundFaults
 pub mod FrameRuns

@@ -1,11 +1,13 @@
-use Rattle.std.proofs.Common.{◌≡◌, ℕ, List, subst}
+use Rattle.std.proofs.Common.{◌≡◌, ℕ, List, Option, Result, subst}
 use Rattle.st_format.specs.Picture.{Values}
+use Rattle.packet_plan.specs.Plan.{RasterPlan}
 use Rattle.packet_plan.specs.Sent.{IsSentPicture}
 use Rattle.packet_plan.specs.declared.run.PacketRun.{PacketRun}
 use Rattle.packet_plan.specs.declared.stamp.Stamp.{Stamp}
 use Rattle.key_mix.specs.Jobs.{IsJobFormat, IsJobPicture}
-use Rattle.key_mix.specs.Sending.{IsSentJob, input_formats, settled_inputs}
+use Rattle.key_mix.specs.Sending.{IsSentJob, Puts, Sends, input_formats, settled_inputs}
 use Rattle.key_mix.specs.declared.Job.{Job}
+use Rattle.key_mix.specs.declared.faults.SendJobFault.{SendJobFault}
 use Rattle.key_mix.proofs.Resampled.{job_format_once}
 use Rattle.key_mix.proofs.Sent.{picture_format, puts_as, sends_as, settled_formats}
 use Rattle.key_mix.proofs.sending.send_job.Goals as goal
@@ -22,32 +24,37 @@ of_job j vs p packets planned size stamp made same ds sent = record {
   sent = subst (λ n. IsSentPicture ds p stamp n packets) same sent;
 }
 
+-- and so are the answers
+job_sends : (j : Job) (vs : List Values) (p : Values) (plan : RasterPlan) (size : ℕ) (stamp : Stamp)
+    (old new : Option (List (List ℕ))) (r : Result ℕ SendJobFault) → IsJobPicture p j vs
+    → plan.max_octets ≡ size
+    → Sends (λ ds. IsSentPicture ds p stamp plan.max_octets plan.packets) stamp.first old new r
+    → Sends (λ ds. IsSentJob ds j vs size stamp) stamp.first old new r
+job_sends j vs p plan size stamp old new r made same =
+    sends_as (λ ds. IsSentJob ds j vs size stamp)
+    (λ ds. IsSentPicture ds p stamp plan.max_octets plan.packets) stamp.first old new r
+    (of_job j vs p plan.packets plan.max_octets size stamp made same)
+
+job_puts : {S : Type 0} (takes fails : S → List ℕ → S → Type 0) (j : Job) (vs : List Values)
+    (p : Values) (plan : RasterPlan) (size : ℕ) (stamp : Stamp) (old new : S)
+    (r : Result ℕ SendJobFault) → IsJobPicture p j vs → plan.max_octets ≡ size
+    → Puts takes fails (λ ds. IsSentPicture ds p stamp plan.max_octets plan.packets) stamp.first
+    old new r
+    → Puts takes fails (λ ds. IsSentJob ds j vs size stamp) stamp.first old new r
+job_puts takes fails j vs p plan size stamp old new r made same =
+    puts_as takes fails (λ ds. IsSentJob ds j vs size stamp)
+    (λ ds. IsSentPicture ds p stamp plan.max_octets plan.packets) stamp.first old new r
+    (of_job j vs p plan.packets plan.max_octets size stamp made same)
+
 pub returns-in-Some-clause-sent : goal.returns-in-Some-clause-sent
 returns-in-Some-clause-sent g c =
-    let p = c.in-Some.made in
-    let plan = c.in_ok-plan.plan in
-    let stamp = c.args.stamp in
-    sends_as
-    (λ ds. IsSentJob ds c.args.job.now (settled_inputs c.args.inputs.now) c.args.max_octets stamp)
-    (λ ds. IsSentPicture ds p stamp plan.max_octets plan.packets) stamp.first
-    (g.S.DatagramSink.taken c.args.sink.now) (g.S.DatagramSink.taken c.send_picture.new.sink)
-    c.send_picture.result
-    (of_job c.args.job.now (settled_inputs c.args.inputs.now) p plan.packets plan.max_octets
-    c.args.max_octets stamp c.in-Some.ensures.made c.in_ok-plan.ensures.octets)
+    job_sends _ _ _ c.in_ok-plan.plan _ _ _ _ _ c.in-Some.ensures.made c.in_ok-plan.ensures.octets
     c.send_picture.ensures.sent
 
 pub returns-in-Some-clause-puts : goal.returns-in-Some-clause-puts
 returns-in-Some-clause-puts g c =
-    let p = c.in-Some.made in
-    let plan = c.in_ok-plan.plan in
-    let stamp = c.args.stamp in
-    puts_as g.S.DatagramSink.takes g.S.DatagramSink.fails
-    (λ ds. IsSentJob ds c.args.job.now (settled_inputs c.args.inputs.now) c.args.max_octets stamp)
-    (λ ds. IsSentPicture ds p stamp plan.max_octets plan.packets) stamp.first c.args.sink.now
-    c.send_picture.new.sink c.send_picture.result
-    (of_job c.args.job.now (settled_inputs c.args.inputs.now) p plan.packets plan.max_octets
-    c.args.max_octets stamp c.in-Some.ensures.made c.in_ok-plan.ensures.octets)
-    c.send_picture.ensures.puts
+    job_puts g.S.DatagramSink.takes g.S.DatagramSink.fails _ _ _ c.in_ok-plan.plan _ _ _ _ _
+    c.in-Some.ensures.made c.in_ok-plan.ensures.octets c.send_picture.ensures.puts
 
 pub send_picture-requires-2-clause-format : goal.send_picture-requires-2-clause-format
 send_picture-requires-2-clause-format g c =
@@ -61,27 +68,10 @@ send_picture-requires-2-clause-format g c =
 
 pub returns-clause-sent : goal.returns-clause-sent
 returns-clause-sent g c =
-    let p = c.in_ok-picture.picture in
-    let plan = c.in_ok-plan.plan in
-    let stamp = c.args.stamp in
-    sends_as
-    (λ ds. IsSentJob ds c.args.job.now (settled_inputs c.args.inputs.now) c.args.max_octets stamp)
-    (λ ds. IsSentPicture ds p stamp plan.max_octets plan.packets) stamp.first
-    (g.S.DatagramSink.taken c.args.sink.now) (g.S.DatagramSink.taken c.send_picture-2.new.sink)
-    c.send_picture-2.result
-    (of_job c.args.job.now (settled_inputs c.args.inputs.now) p plan.packets plan.max_octets
-    c.args.max_octets stamp c.in_ok-picture.ensures.made c.in_ok-plan.ensures.octets)
+    job_sends _ _ _ c.in_ok-plan.plan _ _ _ _ _ c.in_ok-picture.ensures.made c.in_ok-plan.ensures.octets
     c.send_picture-2.ensures.sent
 
 pub returns-clause-puts : goal.returns-clause-puts
 returns-clause-puts g c =
-    let p = c.in_ok-picture.picture in
-    let plan = c.in_ok-plan.plan in
-    let stamp = c.args.stamp in
-    puts_as g.S.DatagramSink.takes g.S.DatagramSink.fails
-    (λ ds. IsSentJob ds c.args.job.now (settled_inputs c.args.inputs.now) c.args.max_octets stamp)
-    (λ ds. IsSentPicture ds p stamp plan.max_octets plan.packets) stamp.first c.args.sink.now
-    c.send_picture-2.new.sink c.send_picture-2.result
-    (of_job c.args.job.now (settled_inputs c.args.inputs.now) p plan.packets plan.max_octets
-    c.args.max_octets stamp c.in_ok-picture.ensures.made c.in_ok-plan.ensures.octets)
-    c.send_picture-2.ensures.puts
+    job_puts g.S.DatagramSink.takes g.S.DatagramSink.fails _ _ _ c.in_ok-plan.plan _ _ _ _ _
+    c.in_ok-picture.ensures.made c.in_ok-plan.ensures.octets c.send_picture-2.ensures.puts
