@@ -137,15 +137,8 @@ impl<A: Allocator + Copy> Receiver<A> {
         ensures memory { OnErr result (result ≡ Err OpenFault.NoMemory) }
     {
         let frames = blank_frames(alloc, format, window.len())?;
-        let refusals = HeapCircularBuffer::with_capacity(alloc, MOST_REFUSALS)?;
-        Ok(Receiver {
-            format,
-            payload_type,
-            ssrc,
-            window: timestamps(window),
-            frames,
-            refusals,
-        })
+        let receiver = Receiver::of_frames(alloc, format, payload_type, ssrc, window, frames)?;
+        Ok(receiver)
     }
 }
 
