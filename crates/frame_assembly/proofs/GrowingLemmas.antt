@@ -48,7 +48,11 @@ pad_add : (n a m : ℕ) (xs ys : List ℕ) → length xs ≤ a → length ys ≡
 pad_add n a m xs ys le more most =
     let filled : List ℕ = xs ++ replicate (a - length xs) 0 in
     let long : length filled ≡ a =
-    omega (arith, length-append xs (replicate (a - length xs) 0), length-replicate {A = ℕ} (a - length xs) 0) in
+    omega (
+      arith,
+      length-append xs (replicate (a - length xs) 0),
+      length-replicate {A = ℕ} (a - length xs) 0,
+    ) in
     pad_put n a m filled ys long more most
     ∙ ap (λ (zs : List ℕ). put_mid a m zs ys) (pad_fill n a xs le (omega arith))
 
@@ -166,7 +170,7 @@ no_more n xs none =
     let all : n - 0 ≡ n = omega arith in
     ap (padded n) none ∙ ap (λ (k : ℕ). replicate {A = ℕ} k 0) all
 
-pub none_told : (f : Format) (marks octets : List ℕ) → marks ≡ [] → octets ≡ []
+none_told : (f : Format) (marks octets : List ℕ) → marks ≡ [] → octets ≡ []
     → HasAllGroups f (all_marks f marks) (all_octets f octets)
 none_told f marks octets no_marks no_octets =
     blank_kept f (all_marks f marks) (all_octets f octets) (group_count f) refl

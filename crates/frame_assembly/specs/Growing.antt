@@ -8,19 +8,15 @@ use Rattle.st_format.specs.Raster.{Raster}
 use Rattle.frame_assembly.specs.Packed.{HasAllGroups, cells_in}
 use Rattle.frame_assembly.specs.Rows.{replaced_cells}
 
--- a raster, and up to which group it was told: from there on all are missing
+-- a raster, and up to which group it was told: none was from there on
 pub record GrowingRaster : Type 0 where
   pub format : Format
   pub cells : List Cell
   pub told : ℕ
 
 -- the raster
-abbrev pub raster_of : GrowingRaster → Raster
-raster_of g = record { format = g.format; cells = g.cells }
-
--- the raster that mark words and octets keep
-abbrev pub raster_in : Format → List ℕ → List ℕ → Raster
-raster_in f marks octets = record { format = f; cells = cells_in f marks octets }
+abbrev pub raster_so_far : GrowingRaster → Raster
+raster_so_far g = record { format = g.format; cells = g.cells }
 
 -- a list filled up with 0
 abbrev pub padded : ℕ → List ℕ → List ℕ
@@ -43,7 +39,8 @@ growing f marks octets =
     }
 
 -- What a growing frame keeps: mark words and octets of the groups that were told, and room for all
-pub record IsGrowing (f : Format) (marks_room octets_room : ℕ) (marks octets : List ℕ) : Type 0 where
+pub record IsGrowing (f : Format) (marks_room octets_room : ℕ) (marks octets : List ℕ)
+    : Type 0 where
   pub told : length marks ≤ group_count f
   pub long : length octets ≡ (pixel_group f.sampling f.depth).octets * length marks
   pub marks_fit : group_count f ≤ marks_room

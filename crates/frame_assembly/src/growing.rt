@@ -9,7 +9,7 @@ ghost use Rattle.st_format.specs.Position.{group_count};
 ghost use Rattle.st_format.specs.Raster.{IsWhole, blank};
 ghost use Rattle.st_format.specs.Samples.{values_in};
 ghost use Rattle.pgroup_pack.specs.Groups.{blanked_samples};
-ghost use Rattle.frame_assembly.specs.Growing.{Grew, IsGrowing, raster_of};
+ghost use Rattle.frame_assembly.specs.Growing.{Grew, IsGrowing, raster_so_far};
 ghost use Rattle.frame_assembly.specs.Packed.{ArePacked};
 ghost use Rattle.frame_assembly.specs.Rows.{given_cells, replaced_cells};
 
@@ -20,8 +20,8 @@ use st_format::Format;
 use std::alloc::{AllocError, Allocator, Global};
 use std::marker::Model;
 
-/// A frame of which nothing is known from some pgroup on, in raster order: those before it were
-/// told. Its memory is taken when it is made, and each octet of it is written once.
+/// A frame that is told in raster order: nothing was told of it from some pgroup on. Its memory is
+/// taken when it is made, and each octet of it is written once.
 #[derive(Drop)]
 pub struct GrowingFrame<A: Allocator = Global> {
     format: Format,
@@ -47,7 +47,7 @@ impl<A: Allocator + Copy> GrowingFrame<A> {
     ///
     /// `AllocError` comes only where the allocator refused the memory for the cells.
     pub fn new(alloc: A, format: Format) -> Result<GrowingFrame<A>, AllocError>
-        ensures blank { IfOk result (λ f. raster_of f ≡ blank format) }
+        ensures blank { IfOk result (λ f. raster_so_far f ≡ blank format) }
         ensures none { IfOk result (λ f. f.told ≡ 0) }
     {
         let groups = group_total(&format);
@@ -74,7 +74,7 @@ impl<A: Allocator> GrowingFrame<A> {
     #[doc(hidden)]
     #[inline(always)]
     pub fn facts(&self)
-        ensures { IsWhole (raster_of self.now) }
+        ensures { IsWhole (raster_so_far self.now) }
     {
         let _format = &self.format;
     }
@@ -145,7 +145,7 @@ impl<A: Allocator> GrowingFrame<A> {
 
     /// The frame. No memory is taken.
     pub fn into_frame(self) -> Frame<A>
-        ensures { result ≡ raster_of self }
+        ensures { result ≡ raster_so_far self }
     {
         let GrowingFrame {
             format,

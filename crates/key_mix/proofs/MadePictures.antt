@@ -1,6 +1,6 @@
 -- What is made sample by sample is the job's picture.
-use Rattle.std.proofs.Common.{◌≡◌, ℕ, ◌+◌, ◌*◌, ◌<◌, ◌≤◌, List, get_or, length, map, take, drop, refl}
-use Rattle.std.proofs.Common.{arith, sym, ap, subst, ◌∙◌}
+use Rattle.std.proofs.Common.{◌≡◌, ℕ, ◌+◌, ◌*◌, ◌<◌, ◌≤◌, List, get_or, length, map, take, drop}
+use Rattle.std.proofs.Common.{arith, refl, sym, ap, subst, ◌∙◌}
 use Rattle.std.proofs.lemmas.Nat.{mul-le}
 use Rattle.std.proofs.Math.Nat.{mul_comm}
 use Rattle.std.specs.List.{range_with_len}
@@ -88,7 +88,8 @@ made_part m f s first count out same le long each =
 
 -- the same where the picture is seen as its values, and what it is made of was told apart
 pub made_as : {A : Type 0} {m q : Making A} {p : Values} {s : ℕ} {out : List ℕ} (f : Format)
-    (first count : ℕ) (old : List ℕ) → made_picture f q ≡ p → q ≡ m → s ≡ (pixel_group f.sampling f.depth).samples
+    (first count : ℕ) (old : List ℕ) → made_picture f q ≡ p → q ≡ m
+    → s ≡ (pixel_group f.sampling f.depth).samples
     → first + count ≤ group_count p.format
     → length old ≡ (pixel_group p.format.sampling p.format.depth).samples * count
     → length out ≡ length old

@@ -146,8 +146,9 @@ impl<A: Allocator> Receiver<A> {
     /// A receiver that holds these frames, one for each timestamp of its window, and has refused
     /// nothing.
     ///
-    /// The window is one, each frame has the format, and the payload type has 7 bits (RFC 3550,
-    /// 5.1). `AllocError` comes only where the allocator refused the memory for the refusals.
+    /// The window has 1 to 16 timestamps, none twice, each frame has the format, and the payload
+    /// type has 7 bits (RFC 3550, 5.1). `AllocError` comes only where the allocator refused the
+    /// memory for the refusals; the frames are let go then.
     pub fn of_frames(
         alloc: A,
         format: Format,

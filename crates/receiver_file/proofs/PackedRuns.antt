@@ -1,6 +1,6 @@
 -- Whole groups whose octets are put side by side.
-use Rattle.std.proofs.Common.{◌≡◌, ℕ, ◌+◌, ◌*◌, ◌<◌, ◌≤◌, ◌∙◌, List, ◌++◌, length, take, drop, get_or}
-use Rattle.std.proofs.Common.{ap, arith, sym, subst}
+use Rattle.std.proofs.Common.{◌≡◌, ℕ, ◌+◌, ◌*◌, ◌<◌, ◌≤◌, ◌∙◌, List, ◌++◌, length, take, drop}
+use Rattle.std.proofs.Common.{ap, arith, get_or, sym, subst}
 use Rattle.std.proofs.lemmas.List.{length-take-le}
 use Rattle.st_format.specs.declared.format.Format.{Format}
 use Rattle.media_file.specs.Groups.{Shape}

@@ -6,7 +6,7 @@
 ghost use Rattle.std.specs.Prelude.{◌≡◌, ◌<◌, ◌≤◌, ◌+◌, ◌-◌, ◌*◌, ◌++◌, IfErr, IfOk, OnErr};
 ghost use Rattle.std.specs.Prelude.{OnOk, drop, length, take};
 ghost use Rattle.std.specs.Io.KnownBytes.{Consumes};
-ghost use Rattle.frame_assembly.specs.Growing.{raster_of};
+ghost use Rattle.frame_assembly.specs.Growing.{raster_so_far};
 ghost use Rattle.st_format.specs.Position.{group_count, row_groups};
 ghost use Rattle.st_format.specs.Raster.{blank};
 ghost use Rattle.media_file.specs.Faults.{CountsDevice, IfContent};
@@ -31,13 +31,13 @@ pub(crate) fn read_rows<A: Allocator, S: ByteSource>(
     source: &mut S,
     frame: &mut GrowingFrame<A>,
 ) -> Result<(), FileFault>
-    requires blank { raster_of frame.old ≡ blank frame.old.format }
+    requires blank { raster_so_far frame.old ≡ blank frame.old.format }
     requires told { frame.old.told ≡ 0 }
     ensures format { frame.new.format ≡ frame.old.format }
     ensures read { OnOk result
         (Takes (groups_at (shape_in frame.old.format)
         (frame.old.format.height * row_groups frame.old.format)) (S.to_give source.old)
-        (S.to_give source.new) (rows_cut (raster_of frame.new) frame.old.format.height)) }
+        (S.to_give source.new) (rows_cut (raster_so_far frame.new) frame.old.format.height)) }
     ensures fault { IfErr result
         (λ f. Fails
         (groups_at (shape_in frame.old.format)
@@ -45,7 +45,7 @@ pub(crate) fn read_rows<A: Allocator, S: ByteSource>(
     ensures gave { OnOk result
         (GaveOf (groups_at (shape_in frame.old.format)
         (frame.old.format.height * row_groups frame.old.format)) (S.gave source.old)
-        (S.gave source.new) (rows_cut (raster_of frame.new) frame.old.format.height)) }
+        (S.gave source.new) (rows_cut (raster_so_far frame.new) frame.old.format.height)) }
     ensures gave_wrong { IfErr result
         (λ f. GaveFault
         (groups_at (shape_in frame.old.format)

@@ -68,8 +68,8 @@ send_picture-requires-2-clause-format g c =
 
 pub returns-clause-sent : goal.returns-clause-sent
 returns-clause-sent g c =
-    job_sends _ _ _ c.in_ok-plan.plan _ _ _ _ _ c.in_ok-picture.ensures.made c.in_ok-plan.ensures.octets
-    c.send_picture-2.ensures.sent
+    job_sends _ _ _ c.in_ok-plan.plan _ _ _ _ _ c.in_ok-picture.ensures.made
+    c.in_ok-plan.ensures.octets c.send_picture-2.ensures.sent
 
 pub returns-clause-puts : goal.returns-clause-puts
 returns-clause-puts g c =

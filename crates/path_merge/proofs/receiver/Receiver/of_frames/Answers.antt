@@ -1,4 +1,4 @@
-use Rattle.std.proofs.Common.{◌≡◌, All, List, [], length, sym, ap, ◌∙◌, subst, rules}
+use Rattle.std.proofs.Common.{◌≡◌, All, List, [], subst, rules}
 use Rattle.st_format.specs.Raster.{IsWhole, Raster}
 use Rattle.path_merge.proofs.Blank.{receiver_of}
 use Rattle.path_merge.proofs.receiver.Receiver.of_frames.Goals as goal
