@@ -20,7 +20,7 @@ use Rattle.frame_assembly.proofs.PackedLemmas.{one_long, packed_cells-append}
 use Rattle.frame_assembly.proofs.GroupJoins.{known_blanked, marked_seen, one_cells, seen}
 use Rattle.frame_assembly.proofs.GroupCells.{split_cells}
 use Rattle.frame_assembly.proofs.Kept.{zero_cells, zero_packed}
-use Rattle.frame_assembly.proofs.Runs.{set_split}
+use Rattle.frame_assembly.proofs.Runs.{IsPart, set_split}
 
 -- what one group's replacement leaves
 pub record IsReplaced (n size samples at mark : ℕ)
@@ -101,7 +101,7 @@ pub record AreReplaced (n size samples at : ℕ)
       ≡ replaced_cells (samples * at) (packed_cells n size given from)
       (packed_cells n size marks octets)
 
-pub replaced_run : (n size samples at count : ℕ) (given from marks octets : List ℕ)
+replaced_run : (n size samples at count : ℕ) (given from marks octets : List ℕ)
     → AreSizes n size samples → at + count ≤ length marks → length given ≡ count
     → IsPacked n size samples marks octets → IsPacked n size samples given from
     → AreReplaced n size samples at given from marks octets (put_mid at count marks given)
@@ -134,6 +134,26 @@ replaced_run n size samples at count given from marks octets is le long packed n
           ∙ replaced_here xs new bs cs (packed_cells n size marks octets) (samples * at)
           are.split are.before (are.here ∙ sym new_long);
     }
+
+-- the same in the numbers of the code's slices, and of what was written to them
+pub run_replaced : (n size samples at count a c oa oc : ℕ)
+    (given from marks octets part_marks part_octets : List ℕ)
+    → IsPart size at count a c oa oc → AreSizes n size samples → at + count ≤ length marks
+    → length given ≡ count → IsPacked n size samples marks octets
+    → IsPacked n size samples given from → part_marks ≡ given → part_octets ≡ from
+    → AreReplaced n size samples at given from marks octets (put_mid a c marks part_marks)
+    (put_mid oa oc octets part_octets)
+run_replaced n size samples at count a c oa oc given from marks octets part_marks part_octets here
+    is le long packed new_packed same_marks same_octets =
+    rw (
+      here.marks_at_is,
+      here.marks_count_is,
+      here.octets_at_is,
+      here.octets_count_is,
+      same_marks,
+      same_octets,
+    )
+    (replaced_run n size samples at count given from marks octets is le long packed new_packed)
 
 -- ---- a group of given values
 

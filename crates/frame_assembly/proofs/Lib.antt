@@ -19,7 +19,6 @@ pub mod SettledLemmas
 pub mod Absorbed
 pub mod MarkLemmas
 pub mod WholeGroups
-pub mod GrowingLemmas
 pub mod SettledRuns
 pub mod Positions
 pub mod MissingWalk

@@ -6,8 +6,9 @@ use Rattle.std.proofs.Math.Nat.{mul-add}
 use Rattle.st_format.specs.declared.format.Format.{Format}
 use Rattle.st_format.specs.Pgroup.{bits_of, pixel_group}
 use Rattle.st_format.specs.Position.{row_groups, row_samples, group_count}
+use Rattle.st_format.specs.Raster.{Raster}
 use Rattle.st_format.specs.Samples.{Spells}
-use Rattle.frame_assembly.specs.Packed.{ArePacked, cells_in, raster_in}
+use Rattle.frame_assembly.specs.Packed.{ArePacked, cells_in}
 use Rattle.st_format.specs.Cell.{known_value}
 use Rattle.frame_assembly.specs.Rows.{IsMarkOf, group_cells, row_cells}
 use Rattle.frame_assembly.proofs.PackedLemmas.{sizes}
@@ -15,6 +16,9 @@ use Rattle.frame_assembly.proofs.Runs.{times_le}
 use Rattle.st_format.proofs.Columns.{row_samples_groups}
 use Rattle.frame_assembly.proofs.Segments.{row_ends, swap_first}
 use Rattle.frame_assembly.proofs.GroupCells.{group_mark, part_spelled}
+
+abbrev pub raster_in : Format → List ℕ → List ℕ → Raster
+raster_in f marks octets = record { format = f; cells = cells_in f marks octets }
 
 -- a row, or a group of it, ends in the raster
 pub row_inside : (f : Format) (marks : List ℕ) (row : ℕ) → length marks ≡ group_count f

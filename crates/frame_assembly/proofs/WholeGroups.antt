@@ -7,9 +7,9 @@ use Rattle.st_format.specs.declared.cell.Cell.TheVariants.{Missing}
 use Rattle.st_format.specs.declared.format.Format.{Format}
 use Rattle.st_format.specs.Cell.{is_missing}
 use Rattle.st_format.specs.Position.{row_groups}
-use Rattle.frame_assembly.specs.Packed.{HasAllGroups, raster_in}
+use Rattle.frame_assembly.specs.Packed.{HasAllGroups}
 use Rattle.frame_assembly.specs.Rows.{GroupsAreWhole, IsAllOrNone, IsMarkOf, group_cells}
-use Rattle.frame_assembly.proofs.RowLemmas.{group_marks}
+use Rattle.frame_assembly.proofs.RowLemmas.{group_marks, raster_in}
 
 alike : (b : Bool) (cells : List Cell)
     → ((i : ℕ) → i < length cells → is_missing (get_or cells i Missing) ≡ b) → IsAllOrNone cells

@@ -7,4 +7,3 @@ pub mod Settled
 pub mod Missing
 pub mod ContestedSamples
 pub mod CountsText
-pub mod Growing

@@ -10,7 +10,7 @@ use Rattle.st_format.specs.Cell.{known_value}
 use Rattle.st_format.specs.Fit.{IsFrame}
 use Rattle.st_format.specs.Pgroup.{bits_of, pixel_group}
 use Rattle.st_format.specs.Position.{group_count}
-use Rattle.st_format.specs.Raster.{Raster, joined_cells}
+use Rattle.st_format.specs.Raster.{joined_cells}
 use Rattle.st_format.specs.Samples.{values_in}
 
 -- Of a mark word, bit 15 says that the group has no missing sample, and bit i that its sample i is
@@ -55,10 +55,6 @@ pub record Joins (n size samples : ℕ)
 abbrev pub cells_in : Format → List ℕ → List ℕ → List Cell
 cells_in f marks octets =
     packed_cells (bits_of f.depth) (pixel_group f.sampling f.depth).octets marks octets
-
--- the raster that they keep
-abbrev pub raster_in : Format → List ℕ → List ℕ → Raster
-raster_in f marks octets = record { format = f; cells = cells_in f marks octets }
 
 abbrev pub ArePacked : Format → List ℕ → List ℕ → Type 0
 ArePacked f marks octets =

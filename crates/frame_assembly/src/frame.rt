@@ -7,8 +7,8 @@ ghost use Rattle.frame_assembly.specs.ContestedSamples.{contested_spots};
 ghost use Rattle.frame_assembly.specs.Kinds.{AreCounts};
 ghost use Rattle.frame_assembly.specs.Marks.{state_of_mark};
 ghost use Rattle.frame_assembly.specs.Missing.{AreUnknownRuns, unknown_runs};
+ghost use Rattle.st_format.specs.declared.cell.Cell.TheVariants.{Value};
 ghost use Rattle.st_format.specs.Cell.{known_value, is_contested, is_missing, is_present, join};
-ghost use Rattle.frame_assembly.specs.Packed.{HasAllGroups, raster_in};
 ghost use Rattle.frame_assembly.specs.Rows.{GroupsAreWhole, IsMarkOf, IsStateOf, given_cells};
 ghost use Rattle.frame_assembly.specs.Rows.{group_cells, replaced_cells, row_cells};
 ghost use Rattle.frame_assembly.specs.Settled.{IsBaseOf, settled_picture};
@@ -33,7 +33,7 @@ use crate::counts::{Counts, count_cells};
 use crate::groups::{join_run, same_groups};
 use crate::joining::{group_total, join_segments};
 use crate::missing::MissingRuns;
-use crate::rows::{group_of, marks_of_row, octets_of_row, set_group_of};
+use crate::rows::{group_of, marks_of_row, octets_of_row, set_group_of, set_groups_of};
 use crate::settling::{base_facts, settle_run, settled_samples};
 use crate::state::GroupState;
 use payload_header::PayloadView;
@@ -90,18 +90,6 @@ impl<A: Allocator + Copy> Frame<A> {
 }
 
 impl<A: Allocator> Frame<A> {
-    /// The frame that keeps these mark words and octets.
-    pub(crate) fn of_groups(format: Format, marks: Vec<u16, A>, octets: Vec<u8, A>) -> Frame<A>
-        requires { HasAllGroups format marks.items octets.items }
-        ensures { result ≡ raster_in format marks.items octets.items }
-    {
-        Frame {
-            format,
-            marks,
-            octets,
-        }
-    }
-
     /// The format that the frame was made with.
     pub fn format(&self) -> Format
         ensures format { result ≡ self.now.format }
@@ -420,6 +408,32 @@ impl<A: Allocator> Frame<A> {
             octets,
             contested,
             present,
+        );
+    }
+
+    /// Makes consecutive pgroups, from the one of number `first` in raster order, those that the
+    /// octets spell: each sample has its value, none is missing or contested. No other sample
+    /// changes. No memory is taken.
+    pub fn set_groups(&mut self, first: usize, count: usize, octets: &[u8])
+        requires inside { first + count ≤ group_count self.old.format }
+        requires octets { length octets.now
+            ≡ (pixel_group self.old.format.sampling self.old.format.depth).octets * count }
+        ensures format { self.new.format ≡ self.old.format }
+        ensures cells { self.new.cells
+            ≡ replaced_cells
+            ((pixel_group self.old.format.sampling self.old.format.depth).samples * first)
+            (map Value (values_in (bits_of self.old.format.depth) octets.now)) self.old.cells }
+        ensures whole { IsWhole self.new }
+        ensures fit { ValuesFit self.new }
+        ensures groups { GroupsAreWhole self.new }
+    {
+        set_groups_of(
+            &self.format,
+            self.marks.as_mut_slice(),
+            self.octets.as_mut_slice(),
+            first,
+            count,
+            octets,
         );
     }
 

@@ -7,12 +7,13 @@ ghost use Rattle.frame_assembly.specs.Packed.{ArePacked, cells_in};
 ghost use Rattle.st_format.specs.Cell.{known_value};
 ghost use Rattle.frame_assembly.specs.Rows.{IsMarkOf, IsStateOf, given_cells, group_cells};
 ghost use Rattle.frame_assembly.specs.Rows.{replaced_cells, row_cells};
+ghost use Rattle.st_format.specs.declared.cell.Cell.TheVariants.{Value};
 ghost use Rattle.pgroup_pack.specs.Groups.{blanked_samples};
 ghost use Rattle.st_format.specs.Pgroup.{bits_of, pixel_group};
 ghost use Rattle.st_format.specs.Position.{group_start, row_groups, row_octets, group_count};
 ghost use Rattle.st_format.specs.Samples.{Spells, values_in};
 
-use crate::state::GroupState;
+use crate::state::{GroupState, PRESENT};
 use st_format::Format;
 
 /// The most octets that a pgroup has: four pixels of 4:4:4 or RGB at 10 bits (RFC 4175, 4.3).
@@ -172,4 +173,29 @@ fn put_group(
     let size = format.pgroup().octets;
     marks[at] = mark;
     octets[size * at..size * (at + 1)].copy_from_slice(from);
+}
+
+/// Makes consecutive groups, from the one of this number on, those that the octets spell.
+pub fn set_groups_of(
+    format: &Format,
+    marks: &mut [u16],
+    octets: &mut [u8],
+    first: usize,
+    count: usize,
+    from: &[u8],
+)
+    requires packed { ArePacked format.now marks.old octets.old }
+    requires inside { first + count ≤ length marks.old }
+    requires octets { length from.now
+        ≡ (pixel_group format.now.sampling format.now.depth).octets * count }
+    ensures packed { ArePacked format.now marks.new octets.new }
+    ensures cells { cells_in format.now marks.new octets.new
+        ≡ replaced_cells ((pixel_group format.now.sampling format.now.depth).samples * first)
+        (map Value (values_in (bits_of format.now.depth) from.now))
+        (cells_in format.now marks.old octets.old) }
+{
+    let size = format.pgroup().octets;
+    let end = first + count;
+    marks[first..end].fill(PRESENT);
+    octets[size * first..size * end].copy_from_slice(from);
 }

@@ -9,8 +9,6 @@ mod faults;
 #[cfg(test)]
 mod groups;
 #[cfg(test)]
-mod growing;
-#[cfg(test)]
 mod held;
 #[cfg(test)]
 mod kernels;
@@ -40,3 +38,5 @@ mod turns;
 mod two_paths;
 #[cfg(test)]
 mod value_growths;
+#[cfg(test)]
+mod whole_groups;

@@ -128,7 +128,7 @@ pub fn rows_agree(frame: &Frame, cells: &[Cell]) -> bool {
 }
 
 /// Whether a mask has no bit from a number on.
-pub fn has_bits_below(mask: u16, count: usize) -> bool
+fn has_bits_below(mask: u16, count: usize) -> bool
     ensures { IsTrue result → (i : ℕ) → count ≤ i → bit_at mask i ≡ 0 }
 {
     count < 16 && mask < 1 << count

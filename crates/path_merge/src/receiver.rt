@@ -2,14 +2,13 @@
 ghost use Rattle.std.specs.Prelude.{◌≡◌, ◌≢◌, ◌↔◌, ◌≤◌, ◌<◌, ◌+◌, ◌*◌, ◌++◌, ◌∷◌, ℕ, List, []};
 ghost use Rattle.std.specs.Prelude.{length};
 ghost use Rattle.std.specs.Prelude.{IfOk, IsErr, IsErrOf, IsSome, IsTrue, OnErr, OnOk, Err, Ok};
-ghost use Rattle.std.specs.Prelude.{All, Some, slice_get};
+ghost use Rattle.std.specs.Prelude.{Some, slice_get};
 ghost use Rattle.std.specs.List.{zip};
 ghost use Rattle.std.specs.Option.{option_copied};
 ghost use Rattle.st_format.specs.Cell.{join};
 ghost use Rattle.st_format.specs.Member.{IsMember};
 ghost use Rattle.st_format.specs.Offer.{cell_of};
 ghost use Rattle.st_format.specs.Position.{IsPosition, Position};
-ghost use Rattle.st_format.specs.Raster.{IsWhole};
 ghost use Rattle.path_merge.specs.Answers.{refusals_after, taken_at};
 ghost use Rattle.path_merge.specs.Frames.{Holds, IsReceiver, cell_in, frame_at, frames_of};
 ghost use Rattle.path_merge.specs.Frames.{joined_frames};
@@ -31,7 +30,7 @@ use circular_buffer::HeapCircularBuffer;
 use frame_assembly::Frame;
 use packet_numbers::OpenedUnlike;
 use st_format::{Format, Path};
-use std::alloc::{AllocError, Allocator, Global};
+use std::alloc::{Allocator, Global};
 use std::marker::Model;
 use std::mem;
 
@@ -137,41 +136,6 @@ impl<A: Allocator + Copy> Receiver<A> {
         ensures memory { OnErr result (result ≡ Err OpenFault.NoMemory) }
     {
         let frames = blank_frames(alloc, format, window.len())?;
-        let receiver = Receiver::of_frames(alloc, format, payload_type, ssrc, window, frames)?;
-        Ok(receiver)
-    }
-}
-
-impl<A: Allocator> Receiver<A> {
-    /// A receiver that holds these frames, one for each timestamp of its window, and has refused
-    /// nothing.
-    ///
-    /// The window has 1 to 16 timestamps, none twice, each frame has the format, and the payload
-    /// type has 7 bits (RFC 3550, 5.1). `AllocError` comes only where the allocator refused the
-    /// memory for the refusals; the frames are let go then.
-    pub fn of_frames(
-        alloc: A,
-        format: Format,
-        payload_type: u8,
-        ssrc: Option<u32>,
-        window: &[u32],
-        frames: Vec<Frame<A>, A>,
-    ) -> Result<Receiver<A>, AllocError>
-        requires payload_type { payload_type ≤ 127 }
-        requires window { IsWindow window.now }
-        requires one_each { length frames.items ≡ length window.now }
-        requires of_format { All (λ r. r.format ≡ format) frames.items }
-        ensures opening { IfOk result (λ r. r.opening ≡ record {
-          format = format;
-          payload_type = payload_type;
-          ssrc = ssrc;
-          window = window.now;
-        }) }
-        ensures frames { IfOk result (λ r. r.frames ≡ frames.items) }
-        ensures refusals { IfOk result (λ r. r.refusals ≡ []) }
-        ensures receiver { IfOk result (λ r. IsReceiver r) }
-    {
-        frames_facts(frames.as_slice());
         let refusals = HeapCircularBuffer::with_capacity(alloc, MOST_REFUSALS)?;
         Ok(Receiver {
             format,
@@ -182,7 +146,9 @@ impl<A: Allocator> Receiver<A> {
             refusals,
         })
     }
+}
 
+impl<A: Allocator> Receiver<A> {
     /// What is so of every receiver: a payload type of 7 bits, a window of 1 to 16 timestamps that
     /// differ, a frame of its format for each, and at most 64 refusals. A caller's proof learns it
     /// from here; nothing is done.
@@ -471,15 +437,6 @@ fn packet_number(extended: u16, sequence: u16) -> u32
     ensures { result ≡ 65536 * extended + sequence }
 {
     65536 * u32::from(extended) + u32::from(sequence)
-}
-
-/// What is so of every frame: it has a cell for each position. Nothing is done.
-fn frames_facts<A: Allocator>(frames: &[Frame<A>])
-    ensures { All IsWhole frames.now }
-{
-    for frame in frames {
-        frame.facts();
-    }
 }
 
 fn timestamps(window: &[u32]) -> ArrayVec<u32, MOST_TIMESTAMPS>

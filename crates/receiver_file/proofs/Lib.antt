@@ -21,6 +21,7 @@ pub mod Stamped
 pub mod FrameReads
 pub mod StateRuns
 pub mod Again
+pub mod Exchanged
 pub mod SameKept
 pub mod Savable
 pub mod AtEnd

@@ -6,7 +6,6 @@
 ghost use Rattle.std.specs.Prelude.{◌≡◌, ◌<◌, ◌≤◌, ◌+◌, ◌-◌, ◌*◌, ◌++◌, IfErr, IfOk, OnErr};
 ghost use Rattle.std.specs.Prelude.{OnOk, drop, length, take};
 ghost use Rattle.std.specs.Io.KnownBytes.{Consumes};
-ghost use Rattle.frame_assembly.specs.Growing.{raster_so_far};
 ghost use Rattle.st_format.specs.Position.{group_count, row_groups};
 ghost use Rattle.st_format.specs.Raster.{blank};
 ghost use Rattle.media_file.specs.Faults.{CountsDevice, IfContent};
@@ -18,7 +17,7 @@ ghost use Rattle.receiver_file.specs.Known.{rows_cut, shape_in};
 ghost use Rattle.receiver_file.specs.Taking.{AreBlank, IsCut, size_by};
 
 use crate::taking::take_some;
-use frame_assembly::GrowingFrame;
+use frame_assembly::Frame;
 use media_file::FileFault;
 use st_format::{ByteSource, Format, are_octets};
 use std::alloc::Allocator;
@@ -29,15 +28,14 @@ const ROOM: usize = 4096;
 /// Reads the groups of a frame of which nothing is known, in raster order.
 pub(crate) fn read_rows<A: Allocator, S: ByteSource>(
     source: &mut S,
-    frame: &mut GrowingFrame<A>,
+    frame: &mut Frame<A>,
 ) -> Result<(), FileFault>
-    requires blank { raster_so_far frame.old ≡ blank frame.old.format }
-    requires told { frame.old.told ≡ 0 }
+    requires { frame.old ≡ blank frame.old.format }
     ensures format { frame.new.format ≡ frame.old.format }
     ensures read { OnOk result
         (Takes (groups_at (shape_in frame.old.format)
         (frame.old.format.height * row_groups frame.old.format)) (S.to_give source.old)
-        (S.to_give source.new) (rows_cut (raster_so_far frame.new) frame.old.format.height)) }
+        (S.to_give source.new) (rows_cut frame.new frame.old.format.height)) }
     ensures fault { IfErr result
         (λ f. Fails
         (groups_at (shape_in frame.old.format)
@@ -45,7 +43,7 @@ pub(crate) fn read_rows<A: Allocator, S: ByteSource>(
     ensures gave { OnOk result
         (GaveOf (groups_at (shape_in frame.old.format)
         (frame.old.format.height * row_groups frame.old.format)) (S.gave source.old)
-        (S.gave source.new) (rows_cut (raster_so_far frame.new) frame.old.format.height)) }
+        (S.gave source.new) (rows_cut frame.new frame.old.format.height)) }
     ensures gave_wrong { IfErr result
         (λ f. GaveFault
         (groups_at (shape_in frame.old.format)
@@ -64,7 +62,7 @@ pub(crate) fn read_rows<A: Allocator, S: ByteSource>(
 /// between two readings.
 fn fill<A: Allocator, S: ByteSource>(
     source: &mut S,
-    frame: &mut GrowingFrame<A>,
+    frame: &mut Frame<A>,
     format: &Format,
     groups: usize,
     room: &mut [u8],
@@ -73,7 +71,6 @@ fn fill<A: Allocator, S: ByteSource>(
     requires format { frame.old.format ≡ format.now }
     requires groups { groups ≡ group_count format.now }
     requires blank { AreBlank (shape_in format.now) 0 groups frame.old.cells }
-    requires told { frame.old.told ≡ 0 }
     requires room { length room.old ≡ ROOM }
     requires packed { length packed.old ≡ ROOM }
     ensures format { frame.new.format ≡ format.now }

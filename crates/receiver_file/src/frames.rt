@@ -15,7 +15,7 @@ ghost use Rattle.receiver_file.specs.StateReading.{all_held_at, new_of, timestam
 use crate::filling::read_rows;
 use crate::octets::read_number;
 use arrayvec::ArrayVec;
-use frame_assembly::{Frame, GrowingFrame};
+use frame_assembly::Frame;
 use media_file::FileFault;
 use st_format::{ByteSource, Format};
 use std::alloc::Allocator;
@@ -113,7 +113,7 @@ fn read_frame<A: Allocator + Copy, S: ByteSource>(
         (S.gave source.old) (S.gave source.new) (S.ended source.new) f) }
     ensures counted { CountsDevice (S.failures source.old) (S.failures source.new) result }
 {
-    let mut frame = GrowingFrame::new(alloc, format)?;
+    let mut frame = Frame::new(alloc, format)?;
     read_rows(source, &mut frame)?;
-    Ok(frame.into_frame())
+    Ok(frame)
 }

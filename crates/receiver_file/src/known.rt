@@ -1,5 +1,5 @@
 //! What is known of a pgroup some of whose samples are contested, into a frame.
-ghost use Rattle.std.specs.Prelude.{◌≡◌, ◌<◌, ◌≤◌, ◌+◌, ◌*◌, ◌^◌, ◌==◌, ◌||◌, length, nat_lt, not};
+ghost use Rattle.std.specs.Prelude.{◌≡◌, ◌<◌, ◌*◌, ◌^◌, ◌==◌, ◌||◌, length, nat_lt, not};
 ghost use Rattle.st_format.specs.Pgroup.{bits_of, pixel_group};
 ghost use Rattle.st_format.specs.Position.{group_count};
 ghost use Rattle.st_format.specs.Samples.{values_in};
@@ -8,14 +8,14 @@ ghost use Rattle.frame_assembly.specs.declared.state.GroupState.TheVariants.{Mix
 ghost use Rattle.media_file.specs.Groups.{are_zeroed, cells_by};
 ghost use Rattle.receiver_file.specs.Known.{IsKnown, shape_in};
 
-use frame_assembly::{GrowingFrame, MOST_GROUP_OCTETS};
+use frame_assembly::{Frame, MOST_GROUP_OCTETS};
 use pgroup_pack::{blank, differing};
 use st_format::Format;
 use std::alloc::Allocator;
 
 /// Gives a frame the group of a number, some of whose samples are contested.
 pub(crate) fn give_mixed<A: Allocator>(
-    frame: &mut GrowingFrame<A>,
+    frame: &mut Frame<A>,
     format: &Format,
     number: usize,
     octets: &[u8],
@@ -23,16 +23,17 @@ pub(crate) fn give_mixed<A: Allocator>(
 )
     requires format { frame.old.format ≡ format.now }
     requires number { number < group_count format.now }
-    requires told { frame.old.told ≤ number }
     requires octets { length octets.now ≡ (shape_in format.now).octets }
     requires known { IsKnown (shape_in format.now) (Mixed mask) octets.now }
     ensures format { frame.new.format ≡ format.now }
     ensures cells { frame.new.cells
         ≡ replaced_cells ((shape_in format.now).samples * number)
         (cells_by mask (values_in (shape_in format.now).bits octets.now)) frame.old.cells }
-    ensures told { frame.new.told ≡ number + 1 }
 {
-    frame.set_group(number, octets, mask);
+    let per_row = format.row_groups() as usize;
+    let row = (number / per_row) as u32;
+    let group = (number % per_row) as u32;
+    frame.set_group(row, group, octets, mask, true);
 }
 
 /// Whether a mask names some of a group's samples and no others, and those are 0.

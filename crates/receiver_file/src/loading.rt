@@ -17,6 +17,7 @@ ghost use Rattle.receiver_file.specs.StateReading.{state_walk};
 use crate::frames::{Frames, read_frames};
 use crate::front::{Head, read_head, read_name};
 use crate::telling::tell_receiver;
+use frame_assembly::Frame;
 use media_file::{FileFault, read_end, read_format};
 use path_merge::Receiver;
 use st_format::{ByteSource, Format};
@@ -145,15 +146,33 @@ fn open_again<A: Allocator + Copy>(
     ensures refusals { IfOk result (λ r. r.refusals ≡ []) }
     ensures writable { IfOk result (λ r. IsWritable r) }
 {
-    let Frames { window, frames } = frames;
-    let receiver = Receiver::of_frames(
+    let Frames { window, mut frames } = frames;
+    let opened = Receiver::open(
         alloc,
         format,
         head.payload_type,
         head.ssrc,
         window.as_slice(),
-        frames,
-    )?;
+    );
+    let Ok(mut receiver) = opened else {
+        return Err(FileFault::NoMemory);
+    };
+    set_frames(&mut receiver, frames.as_mut_slice());
     tell_receiver(&receiver);
     Ok(receiver)
+}
+
+/// Gives a receiver its frames, and takes those that it had.
+fn set_frames<A: Allocator>(receiver: &mut Receiver<A>, frames: &mut [Frame<A>])
+    requires receiver { IsReceiver receiver.old }
+    requires one_each { length frames.old ≡ length receiver.old.opening.window }
+    requires of_format { All (λ r. r.format ≡ receiver.old.opening.format) frames.old }
+    ensures opening { receiver.new.opening ≡ receiver.old.opening }
+    ensures frames { receiver.new.frames ≡ frames.old }
+    ensures refusals { receiver.new.refusals ≡ receiver.old.refusals }
+    ensures receiver { IsReceiver receiver.new }
+{
+    for place in 0..frames.len() {
+        receiver.set_frame(place, &mut frames[place]);
+    }
 }

@@ -9,14 +9,14 @@ ghost use Rattle.receiver_file.specs.Taking.{AreGroups, AreTaken};
 
 use crate::groups::{WIDE, put_octets, put_wide};
 use crate::taking::Taken;
-use frame_assembly::GrowingFrame;
+use frame_assembly::Frame;
 use st_format::Format;
 use std::alloc::Allocator;
 
 /// Takes the groups that octets begin with and that have all their values, as many as are there
 /// whole.
 pub(crate) fn take_whole<A: Allocator>(
-    frame: &mut GrowingFrame<A>,
+    frame: &mut Frame<A>,
     format: &Format,
     first: usize,
     groups: usize,
@@ -26,7 +26,6 @@ pub(crate) fn take_whole<A: Allocator>(
     requires format { frame.old.format ≡ format.now }
     requires groups { groups ≡ group_count format.now }
     requires first { first < groups }
-    requires told { frame.old.told ≤ first }
     requires some { 0 < length octets.now }
     requires state { slice_index octets.now 0 ≡ 1 }
     requires room { length octets.now ≤ length packed.old }
@@ -34,7 +33,6 @@ pub(crate) fn take_whole<A: Allocator>(
     ensures room { length packed.new ≡ length packed.old }
     ensures taken { AreTaken (shape_in format.now) first groups result.groups result.octets
         octets.now frame.old.cells frame.new.cells }
-    ensures told { frame.new.told ≤ first + result.groups }
     ensures none { result.groups ≡ 0 → result.octets ≡ 0 }
     ensures cut { result.groups ≡ 0 → length octets.now ≤ (shape_in format.now).octets }
 {
@@ -56,7 +54,7 @@ pub(crate) fn take_whole<A: Allocator>(
 
 /// Takes the one group that octets are, of which each sample has a value.
 pub(crate) fn take_single<A: Allocator>(
-    frame: &mut GrowingFrame<A>,
+    frame: &mut Frame<A>,
     format: &Format,
     first: usize,
     groups: usize,
@@ -65,13 +63,11 @@ pub(crate) fn take_single<A: Allocator>(
     requires format { frame.old.format ≡ format.now }
     requires groups { groups ≡ group_count format.now }
     requires first { first < groups }
-    requires told { frame.old.told ≤ first }
     requires whole { length octets.now ≡ 1 + (shape_in format.now).octets }
     requires state { slice_index octets.now 0 ≡ 1 }
     ensures format { frame.new.format ≡ format.now }
     ensures taken { AreTaken (shape_in format.now) first groups result.groups result.octets
         octets.now frame.old.cells frame.new.cells }
-    ensures told { frame.new.told ≤ first + result.groups }
     ensures all { result.octets ≡ length octets.now }
 {
     frame.facts();

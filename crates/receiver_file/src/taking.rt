@@ -8,7 +8,7 @@ ghost use Rattle.receiver_file.specs.Taking.{AreBlank, AreTaken, FoundIn};
 
 use crate::known::{give_mixed, is_mixed};
 use crate::packing::{take_single, take_whole};
-use frame_assembly::GrowingFrame;
+use frame_assembly::Frame;
 use media_file::FileFault;
 use st_format::Format;
 use std::alloc::Allocator;
@@ -31,7 +31,7 @@ pub(crate) struct Found {
 /// gives few octets a call has them taken, isn't looked for runs.
 #[inline(always)]
 pub(crate) fn take_some<A: Allocator>(
-    frame: &mut GrowingFrame<A>,
+    frame: &mut Frame<A>,
     format: &Format,
     first: usize,
     groups: usize,
@@ -41,7 +41,6 @@ pub(crate) fn take_some<A: Allocator>(
     requires format { frame.old.format ≡ format.now }
     requires groups { groups ≡ group_count format.now }
     requires first { first < groups }
-    requires told { frame.old.told ≤ first }
     requires some { 0 < length octets.now }
     requires blank { AreBlank (shape_in format.now) first groups frame.old.cells }
     requires room { length octets.now ≤ length packed.old }
@@ -50,7 +49,6 @@ pub(crate) fn take_some<A: Allocator>(
     ensures taken { IfOk result
         (λ t. AreTaken (shape_in format.now) first groups t.groups t.octets octets.now
         frame.old.cells frame.new.cells) }
-    ensures told { IfOk result (λ t. frame.new.told ≤ first + t.groups) }
     ensures rest { IfOk result
         (λ t. (first + t.groups ≡ groups)
         ⊎ IsCutGroup (drop t.octets octets.now) (shape_in format.now)) }
@@ -76,7 +74,7 @@ pub(crate) fn take_some<A: Allocator>(
 ///
 /// The first fault in the octets.
 fn take_groups<A: Allocator>(
-    frame: &mut GrowingFrame<A>,
+    frame: &mut Frame<A>,
     format: &Format,
     first: usize,
     groups: usize,
@@ -86,7 +84,6 @@ fn take_groups<A: Allocator>(
     requires format { frame.old.format ≡ format.now }
     requires groups { groups ≡ group_count format.now }
     requires first { first ≤ groups }
-    requires told { frame.old.told ≤ first }
     requires blank { AreBlank (shape_in format.now) first groups frame.old.cells }
     requires room { length octets.now ≤ length packed.old }
     ensures format { frame.new.format ≡ format.now }
@@ -94,7 +91,6 @@ fn take_groups<A: Allocator>(
     ensures taken { IfOk result
         (λ t. AreTaken (shape_in format.now) first groups t.groups t.octets octets.now
         frame.old.cells frame.new.cells) }
-    ensures told { IfOk result (λ t. frame.new.told ≤ first + t.groups) }
     ensures rest { IfOk result
         (λ t. (first + t.groups ≡ groups)
         ⊎ IsCutGroup (drop t.octets octets.now) (shape_in format.now)) }
@@ -127,7 +123,7 @@ fn take_groups<A: Allocator>(
 
 /// Takes the groups of one state that octets begin with; none where the first isn't there whole.
 fn take_run<A: Allocator>(
-    frame: &mut GrowingFrame<A>,
+    frame: &mut Frame<A>,
     format: &Format,
     first: usize,
     groups: usize,
@@ -137,7 +133,6 @@ fn take_run<A: Allocator>(
     requires format { frame.old.format ≡ format.now }
     requires groups { groups ≡ group_count format.now }
     requires first { first < groups }
-    requires told { frame.old.told ≤ first }
     requires some { 0 < length octets.now }
     requires blank { AreBlank (shape_in format.now) first groups frame.old.cells }
     requires room { length octets.now ≤ length packed.old }
@@ -146,7 +141,6 @@ fn take_run<A: Allocator>(
     ensures taken { IfOk result
         (λ t. AreTaken (shape_in format.now) first groups t.groups t.octets octets.now
         frame.old.cells frame.new.cells) }
-    ensures told { IfOk result (λ t. frame.new.told ≤ first + t.groups) }
     ensures rest { IfOk result
         (λ t. t.groups ≡ 0 → (t.octets ≡ 0) × IsCutGroup octets.now (shape_in format.now)) }
     ensures fault { IfErr result
@@ -184,7 +178,7 @@ fn take_missing(octets: &[u8], most: usize) -> Taken
 
 /// Takes a group some of whose samples are contested, if octets begin with a whole one.
 fn take_mixed<A: Allocator>(
-    frame: &mut GrowingFrame<A>,
+    frame: &mut Frame<A>,
     format: &Format,
     first: usize,
     groups: usize,
@@ -193,14 +187,12 @@ fn take_mixed<A: Allocator>(
     requires format { frame.old.format ≡ format.now }
     requires groups { groups ≡ group_count format.now }
     requires first { first < groups }
-    requires told { frame.old.told ≤ first }
     requires some { 0 < length octets.now }
     requires state { slice_index octets.now 0 ≡ 2 }
     ensures format { frame.new.format ≡ format.now }
     ensures taken { IfOk result
         (λ t. AreTaken (shape_in format.now) first groups t.groups t.octets octets.now
         frame.old.cells frame.new.cells) }
-    ensures told { IfOk result (λ t. frame.new.told ≤ first + t.groups) }
     ensures rest { IfOk result
         (λ t. t.groups ≡ 0 → (t.octets ≡ 0) × IsCutGroup octets.now (shape_in format.now)) }
     ensures fault { IfErr result

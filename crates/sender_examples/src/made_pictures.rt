@@ -5,7 +5,7 @@ ghost use Rattle.st_format.specs.Position.{group_count};
 ghost use Rattle.key_mix.specs.Sending.{HasBase};
 
 use crate::checks::met;
-use frame_assembly::{Base, Frame, GrowingFrame};
+use frame_assembly::{Base, Frame};
 use key_mix::{Job, JobFault, JobInput, SendJobFault, run_job, send_job};
 use packet_plan::{Plan, send_frame};
 use refusing::Refusing;
@@ -35,30 +35,16 @@ fn groups_of(format: &Format) -> usize
     format.height() as usize * format.row_groups() as usize
 }
 
-/// A frame that has groups from the one of a number on, of which these are the octets, where there
-/// are so many.
-fn run(
-    alloc: Global,
-    format: Format,
-    first: usize,
-    count: usize,
-    octets: &[u8; MOST],
-) -> Result<Frame, AllocError> {
-    let mut frame = GrowingFrame::new(alloc, format)?;
+/// Gives a frame groups from the one of a number on, of which these are the octets, where it has
+/// so many.
+fn give(frame: &mut Frame, first: usize, count: usize, octets: &[u8; MOST]) {
     let format = frame.format();
     let groups = groups_of(&format);
-    if let Some(size) = format.pgroup().octets.checked_mul(count) {
-        if size <= MOST && first <= groups && count <= groups - first {
-            frame.set_groups(first, count, &octets[..size]);
-        }
-    }
-    Ok(frame.into_frame())
-}
-
-/// Joins a frame into another of its format.
-fn join(frame: &mut Frame, other: &Frame) {
-    if other.format().same(&frame.format()) {
-        frame.absorb(other);
+    let Some(size) = format.pgroup().octets.checked_mul(count) else {
+        return;
+    };
+    if size <= MOST && first <= groups && count <= groups - first {
+        frame.set_groups(first, count, &octets[..size]);
     }
 }
 
@@ -70,7 +56,7 @@ fn given(alloc: Global, format: Format, generator: &mut Generator) -> Result<Fra
     for _ in 0..40 {
         let count = generator.below(17) as usize;
         generator.fill_octets(&mut octets);
-        join(&mut frame, &run(alloc, format, first, count, &octets)?);
+        give(&mut frame, first, count, &octets);
         first = first
             .wrapping_add(count)
             .wrapping_add(generator.below(3) as usize);
@@ -81,7 +67,10 @@ fn given(alloc: Global, format: Format, generator: &mut Generator) -> Result<Fra
 /// A frame of two rows, some of whose groups are missing, and some contested.
 fn known(alloc: Global, format: Format, generator: &mut Generator) -> Result<Frame, AllocError> {
     let mut frame = given(alloc, format, generator)?;
-    join(&mut frame, &given(alloc, format, generator)?);
+    let other = given(alloc, format, generator)?;
+    if other.format().same(&frame.format()) {
+        frame.absorb(&other);
+    }
     Ok(frame)
 }
 

@@ -4,7 +4,7 @@ use Rattle.st_format.specs.Samples.{Spells}
 use Rattle.st_format.specs.Cell.{known_value}
 use Rattle.frame_assembly.specs.Rows.{group_cells}
 use Rattle.frame_assembly.proofs.RowLemmas.{group_few, group_marks, group_spelled, octets_inside}
-use Rattle.frame_assembly.specs.Packed.{raster_in}
+use Rattle.frame_assembly.proofs.RowLemmas.{raster_in}
 use Rattle.frame_assembly.proofs.rows.group_of.Goals as goal
 
 pub returns-clause-spelled : goal.returns-clause-spelled

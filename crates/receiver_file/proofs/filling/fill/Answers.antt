@@ -20,7 +20,6 @@ loop-done-init g c = record {
   room = refl;
   packed = refl;
   within = omega arith;
-  told = omega (arith, c.requires.told);
   inside = omega arith;
   cut = omega arith;
   full = λ e. refl;
@@ -120,7 +119,6 @@ loop-done-preserved-then-end-first_size g c =
       room = c.in_ok-end.ensures.length ∙ i.invariant.room;
       packed = i.invariant.packed;
       within = i.invariant.within;
-      told = i.invariant.told;
       inside = c.in_ok-end.ensures.within;
       cut = omega (arith, long, c.if-end-first_size.true, c.first_size.ensures);
       full = λ all. absurd (omega (arith, lt, all));
@@ -205,7 +203,6 @@ loop-done-preserved g c =
       room = c.keep_rest-held.ensures.length ∙ c.in_ok-end.ensures.length ∙ i.invariant.room;
       packed = c.in-Ok.ensures.room ∙ i.invariant.packed;
       within = taken.within;
-      told = c.in-Ok.ensures.told;
       inside =
           omega (
             arith,

@@ -4,12 +4,11 @@ use Rattle.receiver_file.specs.Taking.{size_by}
 use Rattle.receiver_file.proofs.FrameFills.{Filling}
 use Rattle.receiver_file.proofs.filling.fill.Given as goal
 
-pub record Reading (same long wide few known part begun over so_far count : Type 0) : Type 0 where
+pub record Reading (same long wide few part begun over so_far count : Type 0) : Type 0 where
   pub format : same
   pub room : long
   pub packed : wide
   pub within : few
-  pub told : known
   pub inside : part
   pub cut : begun
   pub full : over
@@ -22,7 +21,6 @@ invariant-loop-done g l = Reading
     (length l.room ≡ length l.initial.room)
     (length l.packed ≡ length l.initial.packed)
     (l.done ≤ l.groups)
-    (l.frame.told ≤ l.done)
     (l.held ≤ length l.room)
     (length (take l.held l.room) < size_by l.size (take l.held l.room))
     (l.done ≡ l.groups → take l.held l.room ≡ [])

@@ -5,7 +5,6 @@ use Rattle.st_format.specs.declared.cell.Cell.{Cell}
 use Rattle.st_format.specs.declared.format.Format.{Format}
 use Rattle.frame_assembly.specs.Rows.{replaced_cells}
 use Rattle.media_file.proofs.Once.{shape_is}
-use Rattle.frame_assembly.specs.Growing.{raster_so_far}
 use Rattle.receiver_file.specs.Known.{shape_in}
 use Rattle.receiver_file.specs.Taking.{AreGroups, size_of_group}
 use Rattle.receiver_file.proofs.TakenGroups.{start_inside, took_given, took_none}
@@ -62,6 +61,6 @@ returns-clause-taken g c =
       took =
           took_given s first n (take ((1 + size) * n) octets) (valued_cells s p) old new groups
           (valued_long s n p (shape_is f.sampling f.depth) long)
-          (start_inside (raster_so_far c.args.frame.now) f first c.facts.ensures c.requires.format
+          (start_inside c.args.frame.now f first c.facts.ensures.whole c.requires.format
           (omega (arith, c.requires.first, c.requires.groups))) cells;
     }

@@ -1,4 +1,4 @@
-use Rattle.std.proofs.Common.{◌+◌, ◌-◌, ◌∙◌, ℕ, List, arith, refl, subst, take}
+use Rattle.std.proofs.Common.{◌+◌, ◌-◌, ◌∙◌, ℕ, List, refl, subst, take}
 use Rattle.std.proofs.lemmas.List.{take_rest}
 use Rattle.receiver_file.specs.Known.{shape_in}
 use Rattle.receiver_file.specs.Taking.{AreTaken, FoundIn}
@@ -10,7 +10,6 @@ pub loop-at-init : goal.loop-at-init
 loop-at-init g c = record {
   format = c.requires.format;
   room = refl;
-  told = omega (arith, c.requires.told);
   taken =
       taken_none (shape_in c.args.format.now) c.args.first c.args.groups c.args.octets.now
       c.args.frame.now.cells c.requires.first;
@@ -41,7 +40,6 @@ loop-at-preserved g c =
     record {
       format = c.in-Ok.ensures.format;
       room = c.in-Ok.ensures.room ∙ i.invariant.room;
-      told = omega (arith, c.in-Ok.ensures.told);
       taken =
           taken_more (shape_in c.args.format.now) c.args.first c.args.groups i.done run.groups
           i.at run.octets c.args.octets.now c.args.frame.now.cells i.frame.cells

@@ -6,7 +6,6 @@ use Rattle.st_format.specs.declared.format.Format.{Format}
 use Rattle.st_format.specs.Samples.{values_in}
 use Rattle.media_file.specs.Groups.{cells_by}
 use Rattle.media_file.proofs.Once.{shape_is}
-use Rattle.frame_assembly.specs.Growing.{raster_so_far}
 use Rattle.receiver_file.specs.Known.{shape_in}
 use Rattle.receiver_file.specs.Taking.{AreGroups, size_of_group}
 use Rattle.receiver_file.proofs.GroupsFound.{values_long}
@@ -75,7 +74,6 @@ returns-clause-taken g c =
       took =
           took_given s c.args.first 1 (take (3 + size) octets) (cells_by m vs) old new groups
           (omega (arith, many))
-          (start_inside (raster_so_far c.args.frame.now) f c.args.first c.facts.ensures
-          c.requires.format (omega (arith, c.requires.first, c.requires.groups)))
-          c.give_mixed.ensures.cells;
+          (start_inside c.args.frame.now f c.args.first c.facts.ensures.whole c.requires.format
+          (omega (arith, c.requires.first, c.requires.groups))) c.give_mixed.ensures.cells;
     }
