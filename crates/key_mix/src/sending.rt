@@ -42,7 +42,7 @@ pub struct JobInput<'a, A: Allocator = Global> {
 /// Each input's base is a fill that fits the depth or a picture of the frame's format, and the
 /// payload type is at most 127. A key of inputs of one format, and Y, Cb and Cr of R, G and B, are
 /// made as they are sent: no memory is taken for pictures, but where packets have fewer than 512
-/// octets or rows fewer than 256 samples.
+/// octets or rows fewer than 512 samples.
 ///
 /// # Errors
 ///
@@ -88,7 +88,7 @@ pub fn send_job<A: Allocator, C: Allocator + Copy, S: DatagramSink>(
 const LONG_PACKET: u32 = 512;
 
 /// From how many samples on rows are long.
-const LONG_ROW: usize = 256;
+const LONG_ROW: usize = 512;
 
 /// Whether the packets and the rows of a plan are long, so that samples are made faster as they are
 /// sent than in a picture before: what each run costs is little beside what it saves.

@@ -20,7 +20,7 @@ use test_kit::wanting::{Wanting, growths};
 
 /// Columns and most octets of a packet: a picture is made as it is sent at the last two alone,
 /// since its rows or its packets are too short before. At the last, runs are made in parts.
-const SIZES: [(u32, u32); 4] = [(64, 1400), (256, 511), (256, 512), (640, 1400)];
+const SIZES: [(u32, u32); 4] = [(168, 1400), (256, 511), (256, 512), (640, 1400)];
 
 /// What a sample without a value gets, where no picture is held.
 const FILL: [u16; 3] = [16, 200, 128];
