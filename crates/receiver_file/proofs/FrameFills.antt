@@ -15,12 +15,11 @@ use Rattle.st_format.specs.Device.{AreOctets}
 use Rattle.media_file.specs.declared.fault.FileFault.{FileFault}
 use Rattle.media_file.specs.declared.fault.FileFault.TheVariants.{Truncated}
 use Rattle.media_file.specs.Faults.{IfContent}
-use Rattle.media_file.specs.Fields.{Fails, GaveFault, Takes}
+use Rattle.media_file.specs.Fields.{Fails, GaveFault}
 use Rattle.media_file.specs.Groups.{Shape, groups_at}
 use Rattle.media_file.specs.StateFile.{cut_cells}
 use Rattle.media_file.proofs.Content.{if_content_weaker}
 use Rattle.media_file.proofs.Gave.{octets_append}
-use Rattle.receiver_file.specs.Giving.{GaveOf}
 use Rattle.receiver_file.specs.StateFaults.{IsCutGroup}
 use Rattle.receiver_file.specs.Taking.{AreTaken, FaultIn, IsCut, Took, size_of_group}
 use Rattle.receiver_file.proofs.GroupFaults.{group_cut}
@@ -87,25 +86,6 @@ all_cells s n part behind old new took =
     let none : s.samples * 0 ≡ 0 = omega arith in
     took.says.says behind
     ∙ ap (λ (k : ℕ). let r : Many = Ok (cut_cells s.samples n (drop k new), behind) in r) none
-
-pub fill_read : (s : Shape) (n : ℕ) (a b : List ℕ) (was left : Option (List ℕ))
-    (old new : List Cell) → Filling s n a b was left old new []
-    → Takes (groups_at s n) was left (cut_cells s.samples n new)
-fill_read s n a b None left old new f = tt
-fill_read s n a b (Some o) None old new f = absurd f.told
-fill_read s n a b (Some o) (Some rest) old new f =
-    ap (groups_at s n) (f.told ∙ ap (λ (t : List ℕ). t ++ rest) (append-nil f.part))
-    ∙ all_cells s n f.part rest old new f.took
-
-pub fill_gave : (s : Shape) (n : ℕ) (a b : List ℕ) (was left : Option (List ℕ))
-    (old new : List Cell) → Filling s n a b was left old new []
-    → GaveOf (groups_at s n) a b (cut_cells s.samples n new)
-fill_gave s n a b was left old new f = record {
-  part = f.part;
-  bytes = f.bytes;
-  grown = f.grown ∙ ap (λ (t : List ℕ). a ++ t) (append-nil f.part);
-  says = λ behind. all_cells s n f.part behind old new f.took;
-}
 
 -- ---- a source that has ended
 

@@ -1,5 +1,5 @@
 -- The groups of a row, and the rows of a frame, one after the other.
-use Rattle.std.proofs.Common.{◌≡◌, ℕ, ◌+◌, ◌-◌, ◌*◌, ◌<◌, List, [], ◌∷◌, ◌++◌, length, take}
+use Rattle.std.proofs.Common.{◌≡◌, ℕ, ◌+◌, ◌-◌, ◌*◌, ◌<◌, List, ◌++◌, length}
 use Rattle.std.proofs.Common.{drop, Option, None, Some, append-nil, sym, ap, ◌∙◌, subst, arith}
 use Rattle.std.specs.Io.KnownBytes.{Appends}
 use Rattle.std.proofs.lemmas.List.{length-drop, length-take-le}
@@ -12,23 +12,12 @@ use Rattle.st_format.specs.Device.{AppendsPrefix}
 use Rattle.st_format.specs.Position.{group_start, row_groups}
 use Rattle.media_file.specs.Groups.{Shape, groups_text}
 use Rattle.media_file.specs.StateFile.{cut_cells}
-use Rattle.receiver_file.proofs.CutCells.{cut_add, cut_place, cut_three}
+use Rattle.receiver_file.proofs.CutCells.{cut_add, cut_three}
 use Rattle.receiver_file.proofs.GroupRuns.{texts_cut, texts_more}
 
--- the cells of a row, and one group of it
+-- the cells of a row
 abbrev pub row_from : ℕ → ℕ → List Cell → List Cell
 row_from size a cells = drop (size * (a + 0)) cells
-
-abbrev pub group_from : ℕ → ℕ → ℕ → List Cell → List Cell
-group_from size a g cells = take size (drop (size * (a + g)) cells)
-
-pub cut_next : (size a g : ℕ) (cells : List Cell)
-    → cut_cells size (g + 1) (row_from size a cells)
-    ≡ cut_cells size g (row_from size a cells) ++ group_from size a g cells ∷ []
-cut_next size a g cells =
-    cut_add size g 1 (row_from size a cells)
-    ∙ ap (λ (t : List (List Cell)). cut_cells size g (row_from size a cells) ++ t)
-    (cut_place size a g cells)
 
 -- ---- written
 

@@ -2,7 +2,7 @@
 use Rattle.std.proofs.Common.{◌≡◌, ℕ, zero, suc, ◌+◌, ◌*◌, ◌/◌, ◌<◌, ◌≤◌, List, [], ◌∷◌, ◌++◌}
 use Rattle.std.proofs.Common.{length, take, drop, map, get_or, replicate, Some, Ok, Err}
 use Rattle.std.proofs.Common.{append_assoc, drop-cons, refl, sym, ap, ◌∙◌, subst, arith}
-use Rattle.std.proofs.Common.{cond, eqb, false, inl, inr, take-append-drop, true}
+use Rattle.std.proofs.Common.{cond, eqb, false, take-append-drop, true}
 use Rattle.std.specs.Int.{w16, from_be_bytes}
 use Rattle.std.proofs.lemmas.List.{drop_at, length-drop, length-map, length-take-le}
 use Rattle.std.proofs.lemmas.List.{map-append, take-append-le}
@@ -17,7 +17,6 @@ use Rattle.media_file.specs.declared.fault.FileFault.TheVariants.{BadField, Mixe
 use Rattle.media_file.specs.Groups.{IsShape, Shape, cells_by, group_at}
 use Rattle.media_file.proofs.Parsing.{gives_field}
 use Rattle.receiver_file.specs.Known.{mixed_at}
-use Rattle.receiver_file.specs.StateFaults.{IsCutGroup}
 use Rattle.receiver_file.specs.Taking.{AreGroups, size_of_group}
 use Rattle.receiver_file.proofs.GroupFaults.{group_state}
 use Rattle.receiver_file.proofs.GroupsFound.{values_long}
@@ -137,18 +136,6 @@ pub sized_run : (size n : ℕ) → 0 < n → (1 + size) + n ≤ (1 + size) * n +
 sized_run size zero some = absurd (omega (arith, some))
 sized_run size (suc n) some =
     let e : (1 + size) * suc n ≡ 1 + size + (n + size * n) = omega arith in omega (arith, e)
-
--- ---- groups that octets lack a part of
-
-pub whole_cut : (s : Shape) (octets : List ℕ) → get_or octets 0 0 ≡ 1 → length octets ≤ s.octets
-    → IsCutGroup octets s
-whole_cut s [] e le = tt
-whole_cut s (state ∷ octets) e le = inl (e, omega (arith, le))
-
-pub mixed_cut : (s : Shape) (octets : List ℕ) → get_or octets 0 0 ≡ 2
-    → length octets < 3 + s.octets → IsCutGroup octets s
-mixed_cut s [] e lt = tt
-mixed_cut s (state ∷ octets) e lt = inr (e, omega (arith, lt))
 
 -- ---- a group some of whose samples are contested
 

@@ -52,7 +52,7 @@ pub record FaultIn (s : Shape) (n : ℕ) (octets : List ℕ) (f : FileFault) : T
   pub content : IsDevice f → ⊥
   pub says : (behind : List ℕ) → IfContent f (groups_at s n (octets ++ behind) ≡ Err f)
 
--- It finds it in the first `shown` of octets, and not in fewer: of those it finds that they are cut.
+-- It finds it in the first `shown` of octets, and not in fewer: those it finds to be cut.
 pub record FoundIn (s : Shape) (n : ℕ) (octets : List ℕ) (shown : ℕ) (f : FileFault) : Type 0 where
   pub some : 0 < shown
   pub inside : shown ≤ length octets
