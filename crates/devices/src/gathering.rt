@@ -1,7 +1,7 @@
 //! Standard output that gathers what comes, for what is written line by line. It tells the octets
 //! that it took.
-ghost use Rattle.std.specs.Prelude.{◌≡◌, ◌+◌, ◌-◌, ◌^◌, ◌<◌, ◌↔◌, ◌++◌, [], length, min, None, IsTrue};
-ghost use Rattle.std.specs.Prelude.{◌≤◌, drop, vec_len, IsFalse, OnOk};
+ghost use Rattle.std.specs.Prelude.{◌≡◌, ◌+◌, ◌-◌, ◌^◌, ◌<◌, ◌↔◌, ◌++◌, [], length, min, None};
+ghost use Rattle.std.specs.Prelude.{◌≤◌, drop, vec_len, IsFalse, IsTrue, OnOk};
 ghost use Rattle.st_format.specs.Device.{CountsFaults};
 
 use crate::output::OutputSink;
