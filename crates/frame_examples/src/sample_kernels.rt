@@ -237,7 +237,7 @@ fn pixels(rgb: &[Row; 3], bits: u32, n: usize) -> bool {
     out == wanted
 }
 
-/// `pair_keys` of the first `n` pairs of columns: Cb, Y and Cr have the key of their first luma.
+/// `pair_keys` of the first `n` pairs of columns: the first three have the key of the first luma.
 fn pairs(row: &Row, low: u16, most: u16, n: usize) -> bool {
     let (mut out, mut wanted) = ([BEHIND; MOST], [BEHIND; MOST]);
     if n > MOST / 4 {

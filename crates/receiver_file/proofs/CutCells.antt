@@ -49,10 +49,6 @@ pub cut_one : (size : ℕ) (cells : List Cell) → cut_cells size 1 cells ≡ ta
 unfolding cut_cells
 cut_one size cells = refl
 
-pub cut_none : (size : ℕ) (cells : List Cell) → cut_cells size 0 cells ≡ []
-unfolding cut_cells
-cut_none size cells = refl
-
 -- groups, so many behind them, and the rest
 pub cut_three : (size a b c n : ℕ) (cells : List Cell) → (a + b) + c ≡ n
     → cut_cells size n cells
@@ -62,13 +58,3 @@ cut_three size a b c n cells e =
     cut_at size n ((a + b) + c) cells (sym e) ∙ cut_add size (a + b) c cells
     ∙ ap (λ (t : List (List Cell)). t ++ cut_cells size c (drop (size * (a + b)) cells))
     (cut_add size a b cells)
-
--- the group at a place behind others
-pub cut_place : (size a g : ℕ) (cells : List Cell)
-    → cut_cells size 1 (drop (size * g) (drop (size * (a + 0)) cells))
-    ≡ take size (drop (size * (a + g)) cells) ∷ []
-cut_place size a g cells =
-    let z : size * (a + 0) + size * g ≡ size * (a + g) = omega arith in
-    cut_one size (drop (size * g) (drop (size * (a + 0)) cells))
-    ∙ ap (λ (t : List Cell). take size t ∷ [])
-    (drop-drop (size * g) (size * (a + 0)) cells ∙ ap (λ (n : ℕ). drop n cells) z)

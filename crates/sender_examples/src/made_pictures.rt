@@ -19,7 +19,8 @@ use test_kit::small_format::KINDS;
 use test_kit::wanting::{Wanting, growths};
 
 /// Columns and most octets of a packet: a picture is made as it is sent at the last two alone,
-/// since its rows or its packets are too short before. At the last, runs are made in parts.
+/// since its rows or its packets are too short before. At the last, runs are made in parts, but at
+/// 16 bits.
 const SIZES: [(u32, u32); 4] = [(168, 1400), (256, 511), (256, 512), (640, 1400)];
 
 /// What a sample without a value gets, where no picture is held.
