@@ -5,10 +5,8 @@ ghost use Rattle.std.specs.List.{range_with_len};
 ghost use Rattle.frame_assembly.specs.Packed.{ArePacked, cells_in, marked};
 ghost use Rattle.frame_assembly.specs.Settled.{HoldsPicture, IsBaseOf, IsSettledTo, base_number};
 ghost use Rattle.frame_assembly.specs.Settled.{settled_cell, settled_numbers};
-ghost use Rattle.pgroup_pack.specs.Packing.{Agree};
-ghost use Rattle.st_format.specs.Pgroup.{bits_of, pixel_group};
+ghost use Rattle.st_format.specs.Pgroup.{pixel_group};
 ghost use Rattle.st_format.specs.Position.{component_in_row, group_count};
-ghost use Rattle.st_format.specs.Samples.{values_in};
 
 use crate::base::Base;
 use crate::groups::{BLOCK, are_missing, marked_cell};
@@ -22,9 +20,6 @@ const BLOCK_SAMPLES: usize = 768;
 
 /// Samples after which the components of each sampling come again.
 const TURN: usize = 12;
-
-/// How many samples are unpacked at a time.
-const UNPACKED: usize = 3072;
 
 /// The value of each cell, or the base's value where it has none.
 pub fn settled_samples<B: Allocator, C: Allocator>(
@@ -45,9 +40,32 @@ pub fn settled_samples<B: Allocator, C: Allocator>(
     ensures held { IfOk result (λ v. HoldsPicture base.entry) }
 {
     let count = format.pgroup().samples * marks.len();
-    let mut samples = unpacked_samples(alloc, format, octets, count)?;
-    settle_over(format, marks, 0, base, samples.as_mut_slice());
+    let mut samples = Vec::from_elem(alloc, 0, count)?;
+    read_settled(format, marks, octets, base, samples.as_mut_slice());
     Ok(samples)
+}
+
+/// Reads the samples, and gives each the base's value where its cell has none.
+fn read_settled<C: Allocator>(
+    format: &Format,
+    marks: &[u16],
+    octets: &[u8],
+    base: Base<'_, C>,
+    samples: &mut [u16],
+)
+    requires packed { ArePacked format.now marks.now octets.now }
+    requires few { length marks.now ≤ 8192 * 8192 }
+    requires groups { length marks.now ≡ group_count format.now }
+    requires base { IsBaseOf base format.now }
+    requires samples { length samples.old
+        ≡ (pixel_group format.now.sampling format.now.depth).samples * length marks.now }
+    ensures settled { samples.new
+        ≡ settled_numbers (cells_in format.now marks.now octets.now)
+        (base_number format.now.sampling base.entry) }
+    ensures held { HoldsPicture base.entry }
+{
+    unpack(format, octets, samples);
+    settle_over(format, marks, 0, base, samples);
 }
 
 /// The same of the cells of `count` groups, from the one of number `first` on.
@@ -96,33 +114,6 @@ pub fn base_facts<C: Allocator>(base: Base<'_, C>)
             let _format = picture.format();
         }
     }
-}
-
-/// The `count` samples that the octets spell, block after block, each while it is near, into memory
-/// that wasn't written before.
-fn unpacked_samples<B: Allocator>(
-    alloc: B,
-    format: &Format,
-    octets: &[u8],
-    count: usize,
-) -> Result<Vec<u16, B>, AllocError>
-    requires { Agree format.now (length octets.now) count }
-    ensures { IfOk result (λ v. v.items ≡ values_in (bits_of format.now.depth) octets.now) }
-{
-    // The octets of a block, which are of whole pgroups at each depth and sampling.
-    let size = UNPACKED / 8 * format.depth.bits() as usize;
-    let mut samples = Vec::with_capacity(alloc, count)?;
-    let mut block = [0; UNPACKED];
-    let mut at = 0;
-    while octets.len() - at >= size {
-        unpack(format, &octets[at..at + size], &mut block);
-        samples.extend_from_slice(&block)?;
-        at += size;
-    }
-    let last = &mut block[..count - samples.len()];
-    unpack(format, &octets[at..], last);
-    samples.extend_from_slice(last)?;
-    Ok(samples)
 }
 
 /// Gives each sample the base's value where its cell has none. The groups are those from the one of
