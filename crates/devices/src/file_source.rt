@@ -8,7 +8,7 @@ use crate::history::History;
 use crate::standing::Reading;
 use st_format::{ByteSource, DeviceFault};
 use std::fs::{self, File};
-use std::io::{self, BufReader, Read};
+use std::io::{self, BufRead, BufReader, Read};
 
 /// How many octets a buffer before a file has.
 pub(crate) const BUFFER: usize = 1 << 18;
@@ -26,7 +26,7 @@ pub struct FileSource<'a> {
     failures: u64,
     /// Whether its reading began.
     is_begun: bool,
-    /// How many octets were read, without those behind what showed a fault.
+    /// How many octets were read.
     octet: u64,
     /// Why it failed last.
     fault: Option<io::Error>,
@@ -124,6 +124,8 @@ impl<'a> FileSource<'a> {
 
 impl<'a> ByteSource for FileSource<'a> {
     ghost use Rattle.devices.specs.declared.file_source.Progress.TheVariants.{Past};
+    ghost use Rattle.devices.specs.Held.{held_in};
+    ghost use Rattle.st_format.specs.Device.{BeginsWith};
 
     ghost to_give = { λ _. None };
 
@@ -132,6 +134,8 @@ impl<'a> ByteSource for FileSource<'a> {
     ghost ended = { λ s. s.progress ≡ Past };
 
     ghost failures = { λ s. s.failures };
+
+    ghost at_hand = { λ s. held_in s.progress };
 
     /// A file that can't be opened, and a buffer for which there is no memory, are failures too.
     fn read(&mut self, buf: &mut [u8]) -> Result<usize, DeviceFault> {
@@ -145,7 +149,30 @@ impl<'a> ByteSource for FileSource<'a> {
         }
     }
 
-    fn discount(&mut self, count: usize) {
-        self.octet = self.octet.saturating_sub(count as u64);
+    /// Lends what the buffer before the file holds.
+    fn peek(&self) -> &[u8]
+        ensures held { result.now ≡ take (length result.now) (held_in self.now.progress) }
+        ensures next { BeginsWith None result.now }
+
+        // It lends all of it.
+        ensures all { result.now ≡ held_in self.now.progress }
+    {
+        match &self.progress {
+            Progress::Within(file) => file.buffer(),
+            _ => &[],
+        }
+    }
+
+    fn pass(&mut self, count: usize) -> bool {
+        let Progress::Within(file) = &mut self.progress else {
+            return false;
+        };
+        if count > file.buffer().len() {
+            return false;
+        }
+        self.gave.note(&file.buffer()[..count]);
+        file.consume(count);
+        self.octet = self.octet.saturating_add(count as u64);
+        true
     }
 }

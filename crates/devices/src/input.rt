@@ -14,7 +14,7 @@ pub struct InputSource<R: Read + Drop> {
     is_ended: bool,
     gave: History,
     failures: u64,
-    /// How many octets were read, without those behind what showed a fault.
+    /// How many octets were read.
     octet: u64,
     /// Why it failed last.
     fault: Option<io::Error>,
@@ -94,9 +94,5 @@ impl<R: Read + Drop> ByteSource for InputSource<R> {
                 Err(DeviceFault)
             }
         }
-    }
-
-    fn discount(&mut self, count: usize) {
-        self.octet = self.octet.saturating_sub(count as u64);
     }
 }

@@ -6,7 +6,7 @@ use std::io;
 #[derive(Clone, Copy)]
 pub struct Reading<'a> {
     pub name: &'a str,
-    /// How many octets were read, without those behind what showed a fault.
+    /// How many octets were read.
     pub octet: u64,
     /// Why it failed, where it did.
     pub fault: Option<io::Error>,

@@ -1,6 +1,6 @@
 -- What a device tells of itself from one call to the next. A list that is `None` is not told.
 use Rattle.std.specs.Prelude.{◌≡◌, ℕ, ◌+◌, ◌-◌, ◌^◌, ◌<◌, ◌≤◌, ◌⊎◌, min, List, [], ◌∷◌, ◌++◌}
-use Rattle.std.specs.Prelude.{length, slice_index, take, ⊤, Option, None, Some, Result, MatchResult}
+use Rattle.std.specs.Prelude.{length, slice_index, drop, take, ⊤, Option, None, Some, Result, MatchResult}
 use Rattle.std.specs.Io.KnownBytes.{Consumes, Appends}
 
 -- one more, but at most 2^64 - 1 (own)
@@ -23,6 +23,11 @@ AreOctets octets = (i : ℕ) → slice_index octets i < 256
 abbrev pub TellsOctets : Option (List ℕ) → Type 0
 TellsOctets None = ⊤
 TellsOctets (Some octets) = AreOctets octets
+
+-- a device that tells what it is to give tells these first (own)
+abbrev pub BeginsWith : Option (List ℕ) → List ℕ → Type 0
+BeginsWith None octets = ⊤
+BeginsWith (Some all) octets = all ≡ octets ++ drop (length octets) all
 
 -- a device that didn't tell octets goes on telling none (own)
 abbrev pub StaysUntold : Option (List ℕ) → Option (List ℕ) → Type 0

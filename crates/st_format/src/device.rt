@@ -16,6 +16,8 @@ ghost use Rattle.std.specs.Borrow.{GName};
 ghost use Rattle.std.specs.Io.KnownBytes.{Consumes, Appends, Keeps, IsAtEnd};
 ghost use Rattle.st_format.specs.Device.{CountsFaults, ConsumesPrefix, AppendsPrefix, StaysUntold};
 ghost use Rattle.st_format.specs.Device.{TakesOne, KeepsAll, TellsOctets, GivesPart, GrowsPart};
+ghost use Rattle.st_format.specs.Device.{BeginsWith};
+ghost use Rattle.std.specs.Prelude.{IsTrue, IsFalse};
 
 use crate::Path;
 use thiserror::Error;
@@ -110,6 +112,9 @@ pub trait ByteSource {
     /// How often it has failed.
     ghost failures: { Self → ℕ };
 
+    /// The octets to come that it holds already, first one first. None where it doesn't say so.
+    ghost at_hand: { Self → List ℕ } = { λ _. [] };
+
     /// The references by which it reaches what it reads from, which stay. None where it owns that.
     ghost names: { Self → List GName } = { λ _. [] };
 
@@ -138,15 +143,38 @@ pub trait ByteSource {
         ensures ended { IfOk result (λ n. 0 < length buf.old → (ended self.new ↔ (n ≡ 0))) }
         ensures kept { OnErr result (gave self.new ≡ gave self.old) };
 
-    /// Is told that a fault was found before the last `_count` octets given, of which nothing was
-    /// asked. Where it tells how far it was read, it leaves them out. They stay given.
-    fn discount(&mut self, _count: usize)
-        ensures given { to_give self.new ≡ to_give self.old }
-        ensures gave { gave self.new ≡ gave self.old }
-        ensures ended { ended self.new ↔ ended self.old }
+    /// Lends octets to come that it holds already: those at hand, or a first part of them. It asks
+    /// for none, and gives none: a later call gives these first. Where a source doesn't say what it
+    /// holds they are none, whatever is to come.
+    fn peek(&self) -> &[u8]
+        ensures held { result.now ≡ take (length result.now) (at_hand self.now) }
+        ensures next { BeginsWith (to_give self.now) result.now }
+    {
+        &[]
+    }
+
+    /// Gives the first `count` of the octets at hand, as a call of [`ByteSource::read`] gives
+    /// octets, but puts them nowhere, and answers whether it did: all of them or none. It asks for
+    /// no octet, and never fails.
+    ///
+    /// A source that lends octets passes as many of them. One that doesn't say what it holds passes
+    /// none, and stays as it is.
+    fn pass(&mut self, _count: usize) -> bool
+        ensures within { IsTrue result → _count ≤ length (at_hand self.old) }
+        ensures given { IsTrue result
+            → Consumes (to_give self.old) (to_give self.new) (take _count (at_hand self.old)) }
+        ensures gave { IsTrue result
+            → gave self.new ≡ gave self.old ++ take _count (at_hand self.old) }
+        ensures ended { IsTrue result
+            → (ended self.new ↔ ((_count ≡ 0) × ended self.old)) }
+        ensures kept { IsFalse result → to_give self.new ≡ to_give self.old }
+        ensures none { IsFalse result → gave self.new ≡ gave self.old }
+        ensures still { IsFalse result → (ended self.new ↔ ended self.old) }
         ensures failures { failures self.new ≡ failures self.old }
         ensures names { names self.new ≡ names self.old }
-    {}
+    {
+        false
+    }
 }
 
 /// Takes octets, one piece after another.
@@ -288,14 +316,20 @@ impl<S: ByteSource> ByteSource for &mut S {
 
     ghost failures = { λ s. S.failures s.now };
 
+    ghost at_hand = { λ s. S.at_hand s.now };
+
     ghost names = { λ s. s.ghost_name ∷ [] };
 
     fn read(&mut self, buf: &mut [u8]) -> Result<usize, DeviceFault> {
         ByteSource::read(&mut **self, buf)
     }
 
-    fn discount(&mut self, count: usize) {
-        ByteSource::discount(&mut **self, count);
+    fn peek(&self) -> &[u8] {
+        ByteSource::peek(&**self)
+    }
+
+    fn pass(&mut self, count: usize) -> bool {
+        ByteSource::pass(&mut **self, count)
     }
 }
 

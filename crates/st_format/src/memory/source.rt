@@ -2,7 +2,8 @@
 ghost use Rattle.std.specs.Prelude.{◌≡◌, ◌≤◌, ◌<◌, ◌+◌, ◌-◌, ◌↔◌, ◌++◌, [], true, false, Some};
 ghost use Rattle.std.specs.Prelude.{length, take, drop, min, vec_len, IfOk, OnErr, IsErr};
 ghost use Rattle.std.specs.Io.KnownBytes.{Consumes, Keeps, IsAtEnd};
-ghost use Rattle.st_format.specs.Device.{CountsFaults, TellsOctets};
+ghost use Rattle.st_format.specs.Device.{BeginsWith, CountsFaults, TellsOctets};
+ghost use Rattle.std.specs.Prelude.{◌==◌, if◌then◌else◌, IsTrue, IsFalse};
 
 use crate::{ByteSource, DeviceFault, are_octets};
 use std::alloc::{Allocator, Global};
@@ -70,6 +71,18 @@ impl<A: Allocator> MemorySource<A> {
         &self.octets[self.at..]
     }
 
+    /// What a call would give, where no call is to fail.
+    fn at_hand(&self) -> &[u8]
+        ensures { result.now
+            ≡ (if self.now.fails_in == 0 then take self.now.piece self.now.to_give else []) }
+    {
+        if self.fails_in > 0 {
+            return &[];
+        }
+        let rest = &self.octets[self.at..];
+        &rest[..self.piece.min(rest.len())]
+    }
+
     /// How often it has failed.
     pub fn failures(&self) -> u64
         ensures tells { result ≡ ⟦<MemorySource<A> as ByteSource>⟧.failures self.now }
@@ -86,6 +99,9 @@ impl<A: Allocator> ByteSource for MemorySource<A> {
     ghost gave = { λ s. s.gave };
 
     ghost ended = { λ s. s.is_ended ≡ true };
+
+    // What a call would give, where no call is to fail.
+    ghost at_hand = { λ s. if s.fails_in == 0 then take s.piece s.to_give else [] };
 
     /// Gives as many octets as `buf`, the piece and the rest of them allow.
     fn read(&mut self, buf: &mut [u8]) -> Result<usize, DeviceFault>
@@ -123,5 +139,53 @@ impl<A: Allocator> ByteSource for MemorySource<A> {
         self.at += n;
         self.is_ended = n == 0;
         Ok(n)
+    }
+
+    /// Lends what a call would give. Nothing, if one is to fail: then its calls count.
+    fn peek(&self) -> &[u8]
+        ensures held { result.now
+            ≡ take (length result.now)
+            (if self.now.fails_in == 0 then take self.now.piece self.now.to_give else []) }
+        ensures next { BeginsWith (Some self.now.to_give) result.now }
+
+        // It lends all that is at hand.
+        ensures all { result.now
+            ≡ (if self.now.fails_in == 0 then take self.now.piece self.now.to_give else []) }
+    {
+        self.at_hand()
+    }
+
+    fn pass(&mut self, count: usize) -> bool
+        ensures within { IsTrue result → count
+            ≤ length
+            (if self.old.fails_in == 0 then take self.old.piece self.old.to_give else []) }
+        ensures given { IsTrue result
+            → Consumes (Some self.old.to_give) (Some self.new.to_give)
+            (take count
+            (if self.old.fails_in == 0 then take self.old.piece self.old.to_give else [])) }
+        ensures gave { IsTrue result
+            → self.new.gave
+            ≡ self.old.gave
+            ++ take count
+            (if self.old.fails_in == 0 then take self.old.piece self.old.to_give else []) }
+        ensures ended { IsTrue result
+            → ((self.new.is_ended ≡ true) ↔ ((count ≡ 0) × (self.old.is_ended ≡ true))) }
+        ensures kept { IsFalse result → Some self.new.to_give ≡ Some self.old.to_give }
+        ensures none { IsFalse result → self.new.gave ≡ self.old.gave }
+        ensures still { IsFalse result
+            → ((self.new.is_ended ≡ true) ↔ (self.old.is_ended ≡ true)) }
+        ensures failures { self.new.failures ≡ self.old.failures }
+
+        // It passes all that it lends.
+        ensures when { IsTrue result
+            ↔ (count
+            ≤ length (if self.old.fails_in == 0 then take self.old.piece self.old.to_give else [])) }
+    {
+        if count > self.at_hand().len() {
+            return false;
+        }
+        self.at += count;
+        self.is_ended = self.is_ended && count == 0;
+        true
     }
 }
