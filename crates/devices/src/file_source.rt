@@ -165,7 +165,7 @@ impl<'a> ByteSource for FileSource<'a> {
 
     fn pass(&mut self, count: usize) -> bool {
         let Progress::Within(file) = &mut self.progress else {
-            return false;
+            return count == 0;
         };
         if count > file.buffer().len() {
             return false;

@@ -136,6 +136,25 @@ fault_both p q s x y (Ok z) a b c ended step g h = tt
 fault_both p q s x y (Err f) a b c ended step g h =
     fault_both_so p q s x y a b c ended f step g h
 
+-- where the call read the second value
+pub gave_next : {X Y V : Type 0} (p : Reading X) (q s : Reading Y) (x : X) (of : V → Y)
+    (r : Result V FileFault) (a b c : List ℕ)
+    → ((was mid left : Option (List ℕ)) → Takes p was mid x
+    → IfOk r (λ v. Takes q mid left (of v)) → IfOk r (λ v. Takes s was left (of v)))
+    → GaveOf p a b x → IfOk r (λ v. GaveOf q b c (of v))
+    → IfOk r (λ v. GaveOf s a c (of v))
+gave_next p q s x of (Ok v) a b c step g h = gave_two p q s x (of v) (of v) a b c step g h
+gave_next p q s x of (Err f) a b c step g h = tt
+
+pub fault_next : {X Y V : Type 0} (p : Reading X) (q s : Reading Y) (x : X) (r : Result V FileFault)
+    (a b c : List ℕ) (ended : Type 0)
+    → ((was mid : Option (List ℕ)) → Takes p was mid x
+    → IfErr r (λ f. Fails q mid f) → IfErr r (λ f. Fails s was f))
+    → GaveOf p a b x → IfErr r (λ f. GaveFault q b c ended f)
+    → IfErr r (λ f. GaveFault s a c ended f)
+fault_next p q s x (Ok v) a b c ended step g h = tt
+fault_next p q s x (Err f) a b c ended step g h = fault_two p q s x a b c ended f step g h
+
 -- ---- three of them
 
 order : (a b c d : List ℕ) → ((a ++ b) ++ c) ++ d ≡ a ++ (b ++ (c ++ d))

@@ -4,7 +4,7 @@ use Rattle.std.proofs.Common.{replicate, take, drop, Option, None, Some, Result,
 use Rattle.std.proofs.Common.{ap, ◌∙◌, subst, arith}
 use Rattle.std.specs.Prelude.{IfErr, IfOk}
 use Rattle.std.specs.Int.{bit_at}
-use Rattle.std.proofs.lemmas.Bool.{le-ltb}
+use Rattle.std.proofs.lemmas.Bool.{le-ltb, ne_eqb}
 use Rattle.std.proofs.lemmas.Nat.Bits.{bit_at-zero, bit_at_above}
 use Rattle.std.proofs.lemmas.Result.{IfErr-weaker, IfOk-weaker}
 use Rattle.st_format.specs.declared.cell.Cell.{Cell}
@@ -20,12 +20,12 @@ use Rattle.st_format.specs.Reading.{◌>>=◌}
 use Rattle.media_file.specs.Fronts.{with_rest}
 use Rattle.media_file.specs.Groups.{Shape, group_at}
 use Rattle.media_file.proofs.Content.{if_content_weaker}
-use Rattle.media_file.proofs.Parsing.{fails_then, gives_then, then_reads}
+use Rattle.media_file.proofs.Parsing.{fails_first, fails_then, gives_pure, gives_then, then_reads}
 use Rattle.frame_assembly.specs.Marks.{contested_mask}
 use Rattle.receiver_file.specs.Known.{IsKnown, cells_known, mixed_at}
 use Rattle.receiver_file.specs.Numbers.{octet_at}
 use Rattle.receiver_file.proofs.Knowing.{none_zeroed, zeroed_same}
-use Rattle.receiver_file.proofs.Valued.{value_gives, valued}
+use Rattle.receiver_file.proofs.Valued.{value_cut, value_gives, valued}
 
 abbrev Cells : Type 0
 Cells = Result (List Cell × List ℕ) FileFault
@@ -103,6 +103,18 @@ group_fails s old mid n m f e p q =
     (fails_then octet_at (group_by s) old mid m f
     (subst (λ (k : ℕ). Takes octet_at old mid k) e p) q)
 
+pub group_cut : (s : Shape) (old : Option (List ℕ)) (f : FileFault) → Fails octet_at old f
+    → Fails (group_at s) old f
+group_cut s old f p =
+    fails_alike (then_reads octet_at (group_by s)) (group_at s) (group_is s) old f
+    (fails_first octet_at (group_by s) old f p)
+
+pub gone_gives : (s : Shape) (old mid : Option (List ℕ)) (n : ℕ) → n ≡ 0 → Takes octet_at old mid n
+    → Takes (group_at s) old mid (replicate s.samples Missing)
+gone_gives s old mid n e p =
+    group_gives s old mid mid n 0 (replicate s.samples Missing) e p
+    (gives_pure (ok_cells (replicate s.samples Missing)) mid (replicate s.samples Missing) refl)
+
 pub whole_gives : (s : Shape) (old mid new : Option (List ℕ)) (n : ℕ) (octets : List ℕ) → n ≡ 1
     → Takes octet_at old mid n → Takes (field_at s.octets) mid new octets
     → Takes (group_at s) old new (map Value (values_in s.bits octets))
@@ -110,6 +122,11 @@ whole_gives s old mid new n octets e p q =
     group_gives s old mid new n 1 (map Value (values_in s.bits octets)) e p
     (value_gives (field_at s.octets) (whole_by s) mid new octets
     (map Value (values_in s.bits octets)) q refl)
+
+pub whole_short : (s : Shape) (old mid : Option (List ℕ)) (n : ℕ) (f : FileFault) → n ≡ 1
+    → Takes octet_at old mid n → Fails (field_at s.octets) mid f → Fails (group_at s) old f
+whole_short s old mid n f e p q =
+    group_fails s old mid n 1 f e p (value_cut (field_at s.octets) (whole_by s) mid f q)
 
 pub mixed_then : (s : Shape) (old mid new : Option (List ℕ)) (n : ℕ) (octets : List ℕ)
     (r : Result GroupState FileFault) → n ≡ 2 → Takes octet_at old mid n
@@ -126,6 +143,21 @@ pub mixed_fault : (s : Shape) (old mid : Option (List ℕ)) (n : ℕ) (r : Resul
 mixed_fault s old mid n r e p q =
     IfErr-weaker r (λ f. Fails (mixed_at s) mid f) (λ f. Fails (group_at s) old f)
     (λ f known. group_fails s old mid n 2 f e p known) q
+
+pub state_bad : (s : Shape) (old mid : Option (List ℕ)) (n : ℕ) → (n ≡ 0 → ⊥) → (n ≡ 1 → ⊥)
+    → (n ≡ 2 → ⊥) → Takes octet_at old mid n → Fails (group_at s) old BadField
+state_bad s old mid n none one two p = group_fails s old mid n n BadField refl p (other mid)
+  where
+    other : (known : Option (List ℕ)) → Fails (group_by s n) known BadField
+    other None = tt
+    other (Some o) =
+        ap (λ (b : Bool). cond b (with_rest (ok_cells (replicate s.samples Missing)) o)
+        (cond (eqb n 1) (valued (field_at s.octets) (whole_by s) o)
+        (cond (eqb n 2) (mixed_at s o) bad))) (ne_eqb n 0 none)
+        ∙ ap
+        (λ (b : Bool). cond b (valued (field_at s.octets) (whole_by s) o)
+        (cond (eqb n 2) (mixed_at s o) bad)) (ne_eqb n 1 one)
+        ∙ ap (λ (b : Bool). cond b (mixed_at s o) bad) (ne_eqb n 2 two)
 
 -- ---- what a frame is given
 

@@ -14,8 +14,6 @@ pub mod KnownReads
 pub mod TakenGroups
 pub mod WholeRuns
 pub mod PackedRuns
-pub mod FrameFills
-pub mod FoundFaults
 pub mod FrameRuns
 pub mod Stamped
 pub mod FrameReads

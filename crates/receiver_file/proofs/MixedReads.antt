@@ -8,7 +8,7 @@ use Rattle.media_file.specs.declared.fault.FileFault.{FileFault}
 use Rattle.media_file.specs.declared.fault.FileFault.TheVariants.{MixedGroup}
 use Rattle.media_file.specs.Fields.{Fails, Takes, field_at}
 use Rattle.media_file.specs.Groups.{Shape, are_zeroed, cells_by, mixed_by}
-use Rattle.media_file.proofs.Parsing.{fails_then, gives_then, then_reads}
+use Rattle.media_file.proofs.Parsing.{fails_first, fails_then, gives_then, then_reads}
 use Rattle.receiver_file.specs.Known.{mixed_at}
 
 abbrev Cells : Type 0
@@ -24,6 +24,19 @@ behind s m octets =
 abbrev pub is_other : Shape → ℕ → List ℕ → Bool
 is_other s mask values =
     eqb mask 0 || not (ltb mask (2 ^ s.samples)) || not (are_zeroed mask values)
+
+pub mixed_cut : (s : Shape) (old : Option (List ℕ)) (f : FileFault) → Fails (field_at 2) old f
+    → Fails (mixed_at s) old f
+unfolding mixed_at
+mixed_cut s old f p = fails_first (field_at 2) (behind s) old f p
+
+pub mixed_short : (s : Shape) (old mid : Option (List ℕ)) (m : List ℕ) (f : FileFault)
+    → Takes (field_at 2) old mid m → Fails (field_at s.octets) mid f → Fails (mixed_at s) old f
+unfolding mixed_at
+mixed_short s old mid m f p q =
+    fails_then (field_at 2) (behind s) old mid m f p
+    (fails_first (field_at s.octets)
+    (λ x rest. mixed_by s (from_be_bytes w16 m) (values_in s.bits x) rest) mid f q)
 
 other_fails : (s : Shape) (mask : ℕ) (values : List ℕ) (known : Option (List ℕ))
     → is_other s mask values ≡ true → Fails (mixed_by s mask values) known MixedGroup

@@ -1,13 +1,13 @@
--- Groups that are taken from octets into cells, some behind others.
+-- Groups that are taken from a source into cells, some behind others.
 use Rattle.std.proofs.Common.{◌≡◌, ℕ, zero, suc, ◌+◌, ◌-◌, ◌*◌, ◌<◌, ◌≤◌, List, [], ◌∷◌, ◌++◌}
-use Rattle.std.proofs.Common.{length, take, drop, replicate, drop-drop, Some, Result, Ok, Err}
-use Rattle.std.proofs.Common.{append_assoc, refl, sym, ap, ◌∙◌, subst, arith}
-use Rattle.std.proofs.Common.{inl, inr}
-use Rattle.std.specs.Prelude.{◌⊎◌}
-use Rattle.std.proofs.lemmas.List.{drop_at, drop-replicate, drop-take, length-drop, length-take-le}
+use Rattle.std.proofs.Common.{length, take, drop, replicate, drop-drop, Option, None, Some, Result}
+use Rattle.std.proofs.Common.{Ok, Err, append_assoc, get_or, refl, sym, ap, ◌∙◌, subst, arith}
+use Rattle.std.specs.Io.KnownBytes.{Consumes}
+use Rattle.std.proofs.lemmas.List.{drop_at, drop-replicate, drop-take, length-take-le}
 use Rattle.std.proofs.lemmas.List.{take-replicate, take-take}
 use Rattle.std.proofs.Math.Nat.{mul-le-mul_left}
-use Rattle.std.proofs.Math.Seq.{take-add, take-length}
+use Rattle.std.proofs.Math.Seq.{take-length}
+use Rattle.st_format.specs.Device.{AreOctets}
 use Rattle.st_format.specs.declared.cell.Cell.{Cell}
 use Rattle.st_format.specs.declared.cell.Cell.TheVariants.{Missing}
 use Rattle.st_format.specs.declared.format.Format.{Format}
@@ -17,14 +17,14 @@ use Rattle.frame_assembly.specs.Rows.{replaced_cells}
 use Rattle.frame_assembly.proofs.Segments.{sample_count_groups}
 use Rattle.st_format.specs.Reading.{◌>>=◌}
 use Rattle.media_file.specs.declared.fault.FileFault.{FileFault}
-use Rattle.media_file.specs.Faults.{IsDevice}
-use Rattle.media_file.specs.Fields.{Fails}
+use Rattle.media_file.specs.Fields.{Fails, GaveFault, Takes}
 use Rattle.media_file.specs.Groups.{Shape, group_at, groups_at}
 use Rattle.media_file.specs.StateFile.{cut_cells}
-use Rattle.media_file.proofs.Content.{if_content}
+use Rattle.receiver_file.specs.Giving.{GaveOf}
 use Rattle.receiver_file.specs.Known.{shape_in}
-use Rattle.receiver_file.specs.Taking.{AreBlank, AreGroups, AreTaken, FaultIn, Took, size_of_group}
+use Rattle.receiver_file.specs.Taking.{AreBlank, AreGroups, Gained, IsGiven}
 use Rattle.receiver_file.proofs.CutCells.{cut_add, cut_alike, cut_one}
+use Rattle.receiver_file.proofs.Giving.{fault_two, gave_none, gave_one, gave_two}
 use Rattle.receiver_file.proofs.GroupRuns.{groups_more, groups_none, groups_one, groups_one_fault}
 use Rattle.receiver_file.proofs.GroupRuns.{groups_stop}
 use Rattle.receiver_file.proofs.Knowing.{replaced_at, replaced_before}
@@ -98,11 +98,7 @@ groups_missing s (suc n) (suc d) le =
           (take s.samples (replicate m Missing) ∷ cut_cells s.samples n t)) (sym rest);
     }
 
--- ---- groups that were taken
-
-pub took_none : (s : Shape) (first : ℕ) (cells : List Cell) → Took s first 0 [] cells cells
-took_none s first cells =
-    record { says = groups_zero s (drop (s.samples * first) cells); before = refl; behind = refl }
+-- ---- where groups stand
 
 -- what is alike as far as some place is alike as far as an earlier one
 take_less : (m n : ℕ) (xs ys : List Cell) → m ≤ n → take n xs ≡ take n ys
@@ -120,106 +116,239 @@ alike_part k f a xs ys e =
     ∙ drop-take (k * f) (k * a) ys
 
 -- the cells behind groups, and behind those behind them
-pub drop_part : (k f a : ℕ) (cells : List Cell)
+drop_part : (k f a : ℕ) (cells : List Cell)
     → drop (k * a) (drop (k * f) cells) ≡ drop (k * (f + a)) cells
 drop_part k f a cells =
     let z : k * f + k * a ≡ k * (f + a) = omega arith in
     drop-drop (k * a) (k * f) cells ∙ ap (λ (m : ℕ). drop m cells) z
 
-pub took_more : (s : Shape) (first a b : ℕ) (x y : List ℕ) (old mid new : List Cell)
-    → Took s first a x old mid → Took s (first + a) b y mid new
-    → Took s first (a + b) (x ++ y) old new
-took_more s first a b x y old mid new p q =
-    let k : ℕ = s.samples in
-    let le : k * first ≤ k * (first + a) =
-    (let z : k * (first + a) ≡ k * first + k * a = omega arith in omega (arith, z)) in
-    let same : (first + a) + b ≡ first + (a + b) = omega arith in
-    record {
-      says =
-          groups_both s a b x y (drop (k * first) new)
-          (groups_alike s a x (drop (k * first) mid) (drop (k * first) new)
-          (sym (alike_part k first a new mid q.before)) p.says)
-          (subst (AreGroups s b y) (sym (drop_part k first a new)) q.says);
-      before = take_less (k * first) (k * (first + a)) new mid le q.before ∙ p.before;
-      behind =
-          ap (λ (m : ℕ). drop (k * m) new) (sym same) ∙ q.behind
-          ∙ sym (drop_part k (first + a) b mid) ∙ ap (drop (k * b)) p.behind
-          ∙ drop_part k (first + a) b old ∙ ap (λ (m : ℕ). drop (k * m) old) same;
-    }
+-- ---- cells that a source gave the groups of
 
--- cells that groups were replaced by
-pub took_given : (s : Shape) (first n : ℕ) (octets : List ℕ) (cells old new : List Cell)
-    → AreGroups s n octets cells → length cells ≡ s.samples * n → s.samples * first ≤ length old
-    → new ≡ replaced_cells (s.samples * first) cells old → Took s first n octets old new
-took_given s first n octets cells old new p long le e =
+-- the cells of groups
+abbrev cells_from : Shape → ℕ → ℕ → List Cell → List (List Cell)
+cells_from s first n cells = cut_cells s.samples n (drop (s.samples * first) cells)
+
+none_taken : (s : Shape) (cells : List Cell) (known : Option (List ℕ))
+    → Takes (groups_at s 0) known known (cut_cells s.samples 0 cells)
+unfolding cut_cells
+none_taken s cells known = groups_none s known
+
+pub gained_none : (s : Shape) (first : ℕ) (gave : List ℕ) (known : Option (List ℕ))
+    (cells : List Cell) → Gained s first 0 gave gave known known cells cells
+gained_none s first gave known cells = record {
+  read = none_taken s (drop (s.samples * first) cells) known;
+  gave =
+      gave_none (groups_at s 0) (cells_from s first 0 cells) gave
+      (none_taken s (drop (s.samples * first) cells));
+  before = refl;
+  behind = refl;
+}
+
+-- what octets say, a source says that was to give them first
+takes_octets : (s : Shape) (n : ℕ) (x : List ℕ) (gs : List (List Cell))
+    (was left : Option (List ℕ)) → Consumes was left x
+    → ((behind : List ℕ) → groups_at s n (x ++ behind) ≡ Ok (gs, behind))
+    → Takes (groups_at s n) was left gs
+takes_octets s n x gs None left e says = tt
+takes_octets s n x gs (Some o) None e says = absurd e
+takes_octets s n x gs (Some o) (Some rest) e says = ap (groups_at s n) e ∙ says rest
+
+-- octets that a source gave, and the cells that they say
+gained_octets : (s : Shape) (first n : ℕ) (x a b : List ℕ) (was left : Option (List ℕ))
+    (old new : List Cell) → b ≡ a ++ x → Consumes was left x → AreOctets x
+    → AreGroups s n x (drop (s.samples * first) new)
+    → take (s.samples * first) new ≡ take (s.samples * first) old
+    → drop (s.samples * (first + n)) new ≡ drop (s.samples * (first + n)) old
+    → Gained s first n a b was left old new
+gained_octets s first n x a b was left old new grown told bytes groups before behind = record {
+  read = takes_octets s n x (cells_from s first n new) was left told groups.says;
+  gave = record { part = x; bytes = bytes; grown = grown; says = groups.says };
+  before = before;
+  behind = behind;
+}
+
+-- of missing groups, where nothing is known
+octets_zero : (n i : ℕ) → get_or (replicate n 0) i 0 < 256
+octets_zero zero i = omega arith
+octets_zero (suc n) zero = omega arith
+octets_zero (suc n) (suc i) = octets_zero n i
+
+pub gained_missing : (s : Shape) (first groups n : ℕ) (a b : List ℕ) (was left : Option (List ℕ))
+    (cells : List Cell) → first + n ≤ groups → AreBlank s first groups cells
+    → b ≡ a ++ replicate n 0 → Consumes was left (replicate n 0)
+    → Gained s first n a b was left cells cells
+gained_missing s first groups n a b was left cells le blank grown told =
+    let d : ℕ = groups - first in
+    gained_octets s first n (replicate n 0) a b was left cells cells grown told (octets_zero n)
+    (subst (AreGroups s n (replicate n 0)) (sym (blank d (omega (arith, le))))
+    (groups_missing s n d (omega (arith, le)))) refl refl
+
+-- of groups whose cells take the place of others
+replaced_behind : (k f n : ℕ) (cells old : List Cell) → length cells ≡ k * n → k * f ≤ length old
+    → drop (k * (f + n)) (replaced_cells (k * f) cells old) ≡ drop (k * (f + n)) old
+replaced_behind k f n cells old long le =
+    sym (drop_part k f n (replaced_cells (k * f) cells old))
+    ∙ ap (drop (k * n))
+    (drop_at (take (k * f) old) (cells ++ drop (length cells) (drop (k * f) old)) (k * f)
+    (length-take-le (k * f) old le))
+    ∙ drop_at cells (drop (length cells) (drop (k * f) old)) (k * n) long
+    ∙ ap (λ (m : ℕ). drop m (drop (k * f) old)) long ∙ drop_part k f n old
+
+pub gained_replaced : (s : Shape) (first n : ℕ) (x a b : List ℕ) (was left : Option (List ℕ))
+    (cells old new : List Cell) → b ≡ a ++ x → Consumes was left x → AreOctets x
+    → AreGroups s n x cells → length cells ≡ s.samples * n → s.samples * first ≤ length old
+    → new ≡ replaced_cells (s.samples * first) cells old
+    → Gained s first n a b was left old new
+gained_replaced s first n x a b was left cells old new grown told bytes p long le e =
     let k : ℕ = s.samples in
     let all : List Cell = replaced_cells (k * first) cells old in
     let at : take (k * n) (drop (k * first) all) ≡ cells =
     replaced_at (k * first) (k * n) cells old le long in
     let whole : take (k * n) cells ≡ cells =
     ap (λ (m : ℕ). take m cells) (sym long) ∙ take-length cells in
-    subst (Took s first n octets old) (sym e) (record {
-      says = groups_alike s n octets cells (drop (k * first) all) (whole ∙ sym at) p;
-      before = replaced_before (k * first) cells old le;
-      behind =
-          sym (drop_part k first n all)
-          ∙ ap (drop (k * n))
-          (drop_at (take (k * first) old) (cells ++ drop (length cells) (drop (k * first) old))
-          (k * first) (length-take-le (k * first) old le))
-          ∙ drop_at cells (drop (length cells) (drop (k * first) old)) (k * n) long
-          ∙ ap (λ (m : ℕ). drop m (drop (k * first) old)) long ∙ drop_part k first n old;
-    })
+    subst (Gained s first n a b was left old) (sym e)
+    (gained_octets s first n x a b was left old all grown told bytes
+    (groups_alike s n x cells (drop (k * first) all) (whole ∙ sym at) p)
+    (replaced_before (k * first) cells old le)
+    (replaced_behind k first n cells old long le))
 
--- ---- groups of which nothing is known
-
-pub took_missing : (s : Shape) (first groups n : ℕ) (cells : List Cell) → first + n ≤ groups
-    → AreBlank s first groups cells → Took s first n (replicate n 0) cells cells
-took_missing s first groups n cells le blank =
-    let d : ℕ = groups - first in
+-- of one group that was read
+pub gained_one : (s : Shape) (number : ℕ) (cells : List Cell) (a b : List ℕ)
+    (was left : Option (List ℕ)) (old new : List Cell) → Takes (group_at s) was left cells
+    → GaveOf (group_at s) a b cells → IsGiven s number cells old new
+    → Gained s number 1 a b was left old new
+gained_one s number cells a b was left old new read gave given =
+    let same : cells ∷ [] ≡ cells_from s number 1 new =
+    ap (λ (t : List Cell). let gs : List (List Cell) = t ∷ [] in gs) (sym given.is)
+    ∙ sym (cut_one s.samples (drop (s.samples * number) new)) in
     record {
-      says =
-          subst (AreGroups s n (replicate n 0)) (sym (blank d (omega (arith, le))))
-          (groups_missing s n d (omega (arith, le)));
-      before = refl;
-      behind = refl;
+      read = subst (Takes (groups_at s 1) was left) same (groups_one s was left cells read);
+      gave =
+          subst (GaveOf (groups_at s 1) a b) same
+          (gave_one (group_at s) (groups_at s 1) cells (cells ∷ []) a b
+          (λ u v. groups_one s u v cells) gave);
+      before = given.before;
+      behind = given.behind;
     }
 
-pub blank_behind : (s : Shape) (first groups n : ℕ) (octets : List ℕ) (old new : List Cell)
-    → Took s first n octets old new → AreBlank s first groups old
+-- groups, and those behind them
+pub gained_more : (s : Shape) (first n m : ℕ) (a b c : List ℕ) (was mid left : Option (List ℕ))
+    (old between new : List Cell) → Gained s first n a b was mid old between
+    → Gained s (first + n) m b c mid left between new
+    → Gained s first (n + m) a c was left old new
+gained_more s first n m a b c was mid left old between new p q =
+    let k : ℕ = s.samples in
+    let le : k * first ≤ k * (first + n) =
+    (let z : k * (first + n) ≡ k * first + k * n = omega arith in omega (arith, z)) in
+    let same : (first + n) + m ≡ first + (n + m) = omega arith in
+    let xs : List (List Cell) = cells_from s first n between in
+    let ys : List (List Cell) = cells_from s (first + n) m new in
+    let join : xs ++ ys ≡ cells_from s first (n + m) new =
+    sym (cut_add k n m (drop (k * first) new)
+    ∙ ap (λ (t : List (List Cell)). t ++ cut_cells k m (drop (k * n) (drop (k * first) new)))
+    (cut_alike k n (drop (k * first) new) (drop (k * first) between)
+    (alike_part k first n new between q.before))
+    ∙ ap (λ (t : List Cell). xs ++ cut_cells k m t) (drop_part k first n new)) in
+    record {
+      read =
+          subst (Takes (groups_at s (n + m)) was left) join
+          (groups_more s n m was mid left xs ys p.read q.read);
+      gave =
+          subst (GaveOf (groups_at s (n + m)) a c) join
+          (gave_two (groups_at s n) (groups_at s m) (groups_at s (n + m)) xs ys (xs ++ ys) a b c
+          (λ u v w. groups_more s n m u v w xs ys) p.gave q.gave);
+      before = take_less (k * first) (k * (first + n)) new between le q.before ∙ p.before;
+      behind =
+          ap (λ (j : ℕ). drop (k * j) new) (sym same) ∙ q.behind
+          ∙ sym (drop_part k (first + n) m between) ∙ ap (drop (k * m)) p.behind
+          ∙ drop_part k (first + n) m old ∙ ap (λ (j : ℕ). drop (k * j) old) same;
+    }
+
+-- nothing is known behind groups that were gained
+pub gained_blank : (s : Shape) (first groups n : ℕ) (a b : List ℕ) (was left : Option (List ℕ))
+    (old new : List Cell) → Gained s first n a b was left old new → AreBlank s first groups old
     → AreBlank s (first + n) groups new
-blank_behind s first groups n octets old new took blank d e =
+gained_blank s first groups n a b was left old new p blank d e =
     let k : ℕ = s.samples in
     let z : k * (n + d) - k * n ≡ k * d =
     (let y : k * (n + d) ≡ k * n + k * d = omega arith in omega (arith, y)) in
-    took.behind ∙ sym (drop_part k first n old)
+    p.behind ∙ sym (drop_part k first n old)
     ∙ ap (drop (k * n)) (blank (n + d) (omega (arith, e)))
     ∙ drop-replicate (k * n) (k * (n + d)) Missing ∙ ap (λ (m : ℕ). replicate m Missing) z
 
--- ---- faults
+-- ---- all groups from the first one on
 
-pub fault_first : (s : Shape) (n : ℕ) (octets : List ℕ) (f : FileFault) → 0 < n
-    → (IsDevice f → ⊥) → ((behind : List ℕ) → group_at s (octets ++ behind) ≡ Err f)
-    → FaultIn s n octets f
-fault_first s n octets f some content h = record {
-  content = content;
-  says = λ behind.
-      let o : List ℕ = octets ++ behind in
-      groups_stop s 0 1 (n - 1) n (Some o) (Some o) [] f (omega (arith, some))
-      (groups_none s (Some o))
-      (groups_one_fault s (Some o) f (if_content f (group_at s o ≡ Err f) (h behind)));
-}
+all_cells : (s : Shape) (n : ℕ) (cells : List Cell)
+    → cells_from s 0 n cells ≡ cut_cells s.samples n cells
+all_cells s n cells =
+    let none : s.samples * 0 ≡ 0 = omega arith in
+    ap (λ (k : ℕ). cut_cells s.samples n (drop k cells)) none
 
-pub fault_behind : (s : Shape) (first a b n : ℕ) (x y : List ℕ) (old mid : List Cell)
-    (f : FileFault) → a + b ≡ n → Took s first a x old mid → FaultIn s b y f
-    → FaultIn s n (x ++ y) f
-fault_behind s first a b n x y old mid f e took h = record {
-  content = h.content;
-  says = λ behind.
-      subst (λ (o : List ℕ). Fails (groups_at s n) (Some o) f) (sym (append_assoc x y behind))
-      (groups_stop s a b 0 n (Some (x ++ (y ++ behind))) (Some (y ++ behind))
-      (cut_cells s.samples a (drop (s.samples * first) mid)) f (omega (arith, e))
-      (took.says.says (y ++ behind)) (h.says behind));
-}
+pub all_read : (s : Shape) (n : ℕ) (a b : List ℕ) (was left : Option (List ℕ))
+    (old new : List Cell) → Gained s 0 n a b was left old new
+    → Takes (groups_at s n) was left (cut_cells s.samples n new)
+all_read s n a b was left old new p =
+    subst (Takes (groups_at s n) was left) (all_cells s n new) p.read
+
+pub all_gave : (s : Shape) (n : ℕ) (a b : List ℕ) (was left : Option (List ℕ))
+    (old new : List Cell) → Gained s 0 n a b was left old new
+    → GaveOf (groups_at s n) a b (cut_cells s.samples n new)
+all_gave s n a b was left old new p =
+    subst (GaveOf (groups_at s n) a b) (all_cells s n new) p.gave
+
+-- a fault of the group behind those that were gained
+next_fails : (s : Shape) (done n : ℕ) (was mid : Option (List ℕ)) (gs : List (List Cell))
+    (f : FileFault) → done < n → Takes (groups_at s done) was mid gs → Fails (group_at s) mid f
+    → Fails (groups_at s n) was f
+next_fails s done n was mid gs f lt p q =
+    groups_stop s done 1 (n - (done + 1)) n was mid gs f (omega (arith, lt)) p
+    (groups_one_fault s mid f q)
+
+pub gained_fails : (s : Shape) (done n : ℕ) (a b : List ℕ) (was mid : Option (List ℕ))
+    (old new : List Cell) (f : FileFault) → done < n → Gained s 0 done a b was mid old new
+    → Fails (group_at s) mid f → Fails (groups_at s n) was f
+gained_fails s done n a b was mid old new f lt p q =
+    next_fails s done n was mid (cells_from s 0 done new) f lt p.read q
+
+pub gained_wrong : (s : Shape) (done n : ℕ) (a b d : List ℕ) (was mid : Option (List ℕ))
+    (old new : List Cell) (ended : Type 0) (f : FileFault) → done < n
+    → Gained s 0 done a b was mid old new → GaveFault (group_at s) b d ended f
+    → GaveFault (groups_at s n) a d ended f
+gained_wrong s done n a b d was mid old new ended f lt p q =
+    fault_two (groups_at s done) (group_at s) (groups_at s n) (cells_from s 0 done new) a b d ended
+    f (λ u v. next_fails s done n u v (cells_from s 0 done new) f lt) p.gave q
+
+-- ---- a group of which nothing was known
+
+pub given_replaced : (s : Shape) (number : ℕ) (cells old new : List Cell)
+    → length cells ≡ s.samples → s.samples * number ≤ length old
+    → new ≡ replaced_cells (s.samples * number) cells old → IsGiven s number cells old new
+given_replaced s number cells old new long le e =
+    let k : ℕ = s.samples in
+    let one : length cells ≡ k * 1 = omega (arith, long) in
+    subst (IsGiven s number cells old) (sym e) (record {
+      is = replaced_at (k * number) k cells old le long;
+      before = replaced_before (k * number) cells old le;
+      behind = replaced_behind k number 1 cells old one le;
+    })
+
+pub given_missing : (s : Shape) (number groups : ℕ) (cells : List Cell) → number < groups
+    → AreBlank s number groups cells
+    → IsGiven s number (replicate s.samples Missing) cells cells
+given_missing s number groups cells lt blank =
+    let d : ℕ = groups - number in
+    let some : s.samples ≤ s.samples * d =
+    (let z : s.samples * (1 + (d - 1)) ≡ s.samples + s.samples * (d - 1) = omega arith in
+    let y : 1 + (d - 1) ≡ d = omega (arith, lt) in
+    let x : s.samples * d ≡ s.samples + s.samples * (d - 1) =
+    ap (λ (m : ℕ). s.samples * m) (sym y) ∙ z in omega (arith, x)) in
+    record {
+      is =
+          ap (take s.samples) (blank d (omega (arith, lt)))
+          ∙ take-replicate s.samples (s.samples * d) Missing some;
+      before = refl;
+      behind = refl;
+    }
 
 -- ---- a frame's cells
 
@@ -231,75 +360,3 @@ start_inside r f first whole e le =
     whole ∙ ap sample_count e ∙ sym (sample_count_groups f) in
     omega (arith, total, mul-le-mul_left k le)
 
--- ---- with the octets that they were taken from
-
-pub taken_none : (s : Shape) (first groups : ℕ) (octets : List ℕ) (cells : List Cell)
-    → first ≤ groups → AreTaken s first groups 0 0 octets cells cells
-taken_none s first groups octets cells le = record {
-  within = omega (arith, le);
-  inside = omega arith;
-  each = omega arith;
-  none = λ e. refl;
-  sized = inl refl;
-  took = took_none s first cells;
-}
-
-sized_more : (s : Shape) (n m at used : ℕ) (octets : List ℕ) → n ≤ at → m ≤ used
-    → (at ≡ 0) ⊎ (size_of_group s octets + n ≤ at + 1)
-    → (used ≡ 0) ⊎ (size_of_group s (drop at octets) + m ≤ used + 1)
-    → (at + used ≡ 0) ⊎ (size_of_group s octets + (n + m) ≤ (at + used) + 1)
-sized_more s n m at used octets each next (inr le) q = inr (omega (arith, each, next, le))
-sized_more s n m at used octets each next (inl none) (inl nothing) =
-    inl (omega (arith, none, nothing))
-sized_more s n m at used octets each next (inl none) (inr le) =
-    let e : size_of_group s (drop at octets) ≡ size_of_group s octets =
-    ap (λ (k : ℕ). size_of_group s (drop k octets)) none in
-    inr (omega (arith, each, next, none, le, e))
-
-pub taken_more : (s : Shape) (first groups n m at used : ℕ) (octets : List ℕ)
-    (old mid new : List Cell) → AreTaken s first groups n at octets old mid
-    → AreTaken s (first + n) groups m used (drop at octets) mid new
-    → AreTaken s first groups (n + m) (at + used) octets old new
-taken_more s first groups n m at used octets old mid new p q =
-    let long : length (drop at octets) ≡ length octets - at = length-drop at octets in
-    record {
-      within = omega (arith, q.within);
-      inside = omega (arith, p.inside, q.inside, long);
-      each = omega (arith, p.each, q.each);
-      none = λ e.
-          let a : at ≡ 0 = p.none (omega (arith, e)) in
-          let b : used ≡ 0 = q.none (omega (arith, e)) in omega (arith, a, b);
-      sized = sized_more s n m at used octets p.each q.each p.sized q.sized;
-      took =
-          subst (λ (t : List ℕ). Took s first (n + m) t old new) (sym (take-add at used octets))
-          (took_more s first n m (take at octets) (take used (drop at octets)) old mid new p.took
-          q.took);
-    }
-
--- where none were taken behind others
-pub taken_same : (s : Shape) (first groups n m at used : ℕ) (octets : List ℕ)
-    (old mid new : List Cell) → m ≡ 0 → used ≡ 0 → AreTaken s first groups n at octets old mid
-    → AreTaken s (first + n) groups m used (drop at octets) mid new
-    → AreTaken s first groups n at octets old new
-taken_same s first groups n m at used octets old mid new none nothing p q =
-    let a : n + m ≡ n = omega (arith, none) in
-    let b : at + used ≡ at = omega (arith, nothing) in
-    subst (λ (k : ℕ). AreTaken s first groups k at octets old new) a
-    (subst (λ (k : ℕ). AreTaken s first groups (n + m) k octets old new) b
-    (taken_more s first groups n m at used octets old mid new p q))
-
-pub taken_missing : (s : Shape) (first groups n used : ℕ) (octets : List ℕ) (cells : List Cell)
-    → first < groups → n ≤ groups - first → n ≤ length octets → used ≡ n
-    → take n octets ≡ replicate n 0 → size_of_group s octets ≡ 1
-    → AreBlank s first groups cells → AreTaken s first groups n used octets cells cells
-taken_missing s first groups n used octets cells some most within each zeros size blank = record {
-  within = omega (arith, some, most);
-  inside = omega (arith, within, each);
-  each = omega (arith, each);
-  none = λ e. omega (arith, each, e);
-  sized = inr (omega (arith, each, size));
-  took =
-      subst (λ (t : List ℕ). Took s first n t cells cells)
-      (sym (ap (λ (k : ℕ). take k octets) each ∙ zeros))
-      (took_missing s first groups n cells (omega (arith, some, most)) blank);
-}

@@ -14,6 +14,7 @@ ghost use Rattle.receiver_file.specs.StateReading.{all_held_at, new_of, timestam
 
 use crate::filling::read_rows;
 use crate::octets::read_number;
+use crate::taking::ROOM;
 use arrayvec::ArrayVec;
 use frame_assembly::Frame;
 use media_file::FileFault;
@@ -57,9 +58,10 @@ pub(crate) fn read_frames<A: Allocator + Copy, S: ByteSource>(
 {
     let mut window = ArrayVec::new();
     let mut frames = Vec::new(alloc);
+    let mut packed = [0u8; ROOM];
     for _ in 0..count {
         let timestamp = read_timestamp(source, window.as_slice())?;
-        let frame = read_frame(alloc, source, format)?;
+        let frame = read_frame(alloc, source, format, &mut packed)?;
         window.push(timestamp);
         frames.push(frame)?;
     }
@@ -93,11 +95,15 @@ fn new_in(before: &[u32], timestamp: u32) -> Result<u32, FileFault>
     Ok(timestamp)
 }
 
+/// Reads a frame by way of a room.
 fn read_frame<A: Allocator + Copy, S: ByteSource>(
     alloc: A,
     source: &mut S,
     format: Format,
+    packed: &mut [u8],
 ) -> Result<Frame<A>, FileFault>
+    requires { length packed.old ≡ ROOM }
+    ensures room { length packed.new ≡ length packed.old }
     ensures format { IfOk result (λ r. r.format ≡ format) }
     ensures read { IfOk result
         (λ r. Takes (groups_at (shape_in format) (raster_groups (fields_of format)))
@@ -114,6 +120,6 @@ fn read_frame<A: Allocator + Copy, S: ByteSource>(
     ensures counted { CountsDevice (S.failures source.old) (S.failures source.new) result }
 {
     let mut frame = Frame::new(alloc, format)?;
-    read_rows(source, &mut frame)?;
+    read_rows(source, &mut frame, packed)?;
     Ok(frame)
 }

@@ -32,8 +32,7 @@ use std::alloc::Allocator;
 /// none, a payload type above 127, a flag above 1, a source other than 0 where none is pinned, 0 or
 /// more than 16 timestamps, one that stood before, or a state of a group above 2), `MixedGroup` (a
 /// mask of 0, a bit beyond the group's samples, or a contested sample that isn't 0), or
-/// `TrailingBytes` where an octet stands behind the last group. At a fault in the groups of a frame
-/// the source may have given octets behind it, none of them behind the frame.
+/// `TrailingBytes` where an octet stands behind the last group.
 pub fn load_receiver<A: Allocator + Copy, S: ByteSource>(
     alloc: A,
     source: &mut S,

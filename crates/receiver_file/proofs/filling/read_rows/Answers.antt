@@ -19,7 +19,7 @@ fill-requires-clause-blank g c = λ d e.
     ∙ ap (λ (k : ℕ). f.height * k) c.row_groups.ensures.value in
     let many : d ≡ group_count f = (let z : 0 + d ≡ d = omega arith in sym z ∙ e ∙ all) in
     let cells : c.args.frame.now.cells ≡ replicate (sample_count was) Missing =
-    ap (λ (r : Raster). r.cells) c.requires in
+    ap (λ (r : Raster). r.cells) c.requires.blank in
     ap (λ (k : ℕ). drop k c.args.frame.now.cells) none ∙ cells
     ∙ ap (λ (h : Format). replicate (sample_count h) Missing) (sym same)
     ∙ ap (λ (k : ℕ). replicate k Missing)

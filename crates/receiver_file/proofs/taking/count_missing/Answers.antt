@@ -1,6 +1,6 @@
 use Rattle.std.proofs.Common.{arith}
 use Rattle.receiver_file.proofs.WholeRuns.{zeros_next}
-use Rattle.receiver_file.proofs.taking.take_missing.Goals as goal
+use Rattle.receiver_file.proofs.taking.count_missing.Goals as goal
 
 pub loop-count-preserved : goal.loop-count-preserved
 loop-count-preserved c =

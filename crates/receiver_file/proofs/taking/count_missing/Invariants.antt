@@ -1,5 +1,5 @@
 use Rattle.std.proofs.Common.{◌≡◌, ◌-◌, ◌≤◌, length, replicate, take}
-use Rattle.receiver_file.proofs.taking.take_missing.Given as goal
+use Rattle.receiver_file.proofs.taking.count_missing.Given as goal
 
 pub record Counting (fewer part zero : Type 0) : Type 0 where
   pub most : fewer
