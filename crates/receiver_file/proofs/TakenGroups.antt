@@ -1,7 +1,7 @@
 -- Groups that are taken from a source into cells, some behind others.
 use Rattle.std.proofs.Common.{◌≡◌, ℕ, zero, suc, ◌+◌, ◌-◌, ◌*◌, ◌<◌, ◌≤◌, List, [], ◌∷◌, ◌++◌}
 use Rattle.std.proofs.Common.{length, take, drop, replicate, drop-drop, Option, None, Some, Result}
-use Rattle.std.proofs.Common.{Ok, Err, append_assoc, get_or, refl, sym, ap, ◌∙◌, subst, arith}
+use Rattle.std.proofs.Common.{Ok, append_assoc, get_or, refl, sym, ap, ◌∙◌, subst, arith}
 use Rattle.std.specs.Io.KnownBytes.{Consumes}
 use Rattle.std.proofs.lemmas.List.{drop_at, drop-replicate, drop-take, length-take-le}
 use Rattle.std.proofs.lemmas.List.{take-replicate, take-take}
@@ -276,25 +276,7 @@ gained_blank s first groups n a b was left old new p blank d e =
     ∙ ap (drop (k * n)) (blank (n + d) (omega (arith, e)))
     ∙ drop-replicate (k * n) (k * (n + d)) Missing ∙ ap (λ (m : ℕ). replicate m Missing) z
 
--- ---- all groups from the first one on
-
-all_cells : (s : Shape) (n : ℕ) (cells : List Cell)
-    → cells_from s 0 n cells ≡ cut_cells s.samples n cells
-all_cells s n cells =
-    let none : s.samples * 0 ≡ 0 = omega arith in
-    ap (λ (k : ℕ). cut_cells s.samples n (drop k cells)) none
-
-pub all_read : (s : Shape) (n : ℕ) (a b : List ℕ) (was left : Option (List ℕ))
-    (old new : List Cell) → Gained s 0 n a b was left old new
-    → Takes (groups_at s n) was left (cut_cells s.samples n new)
-all_read s n a b was left old new p =
-    subst (Takes (groups_at s n) was left) (all_cells s n new) p.read
-
-pub all_gave : (s : Shape) (n : ℕ) (a b : List ℕ) (was left : Option (List ℕ))
-    (old new : List Cell) → Gained s 0 n a b was left old new
-    → GaveOf (groups_at s n) a b (cut_cells s.samples n new)
-all_gave s n a b was left old new p =
-    subst (GaveOf (groups_at s n) a b) (all_cells s n new) p.gave
+-- ---- faults
 
 -- a fault of the group behind those that were gained
 next_fails : (s : Shape) (done n : ℕ) (was mid : Option (List ℕ)) (gs : List (List Cell))
@@ -359,4 +341,3 @@ start_inside r f first whole e le =
     let total : length r.cells ≡ k * group_count f =
     whole ∙ ap sample_count e ∙ sym (sample_count_groups f) in
     omega (arith, total, mul-le-mul_left k le)
-

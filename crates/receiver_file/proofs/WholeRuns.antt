@@ -1,8 +1,7 @@
 -- Runs of groups of one state, and single groups, in octets.
 use Rattle.std.proofs.Common.{◌≡◌, ℕ, zero, suc, ◌+◌, ◌*◌, ◌/◌, ◌<◌, ◌≤◌, List, [], ◌∷◌, ◌++◌}
-use Rattle.std.proofs.Common.{length, take, drop, map, get_or, replicate, Some, Ok, Err}
-use Rattle.std.proofs.Common.{append_assoc, drop-cons, refl, sym, ap, ◌∙◌, subst, arith}
-use Rattle.std.proofs.Common.{cond, eqb, false, take-append-drop, true}
+use Rattle.std.proofs.Common.{length, take, drop, map, get_or, replicate, Some}
+use Rattle.std.proofs.Common.{drop-cons, refl, sym, ap, ◌∙◌, subst, arith}
 use Rattle.std.proofs.lemmas.List.{drop_at, length-drop, length-map, length-take-le}
 use Rattle.std.proofs.lemmas.List.{map-append, take-append-le}
 use Rattle.std.proofs.Math.Nat.{mul-div_right}

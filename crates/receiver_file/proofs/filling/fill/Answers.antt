@@ -1,8 +1,8 @@
-use Rattle.std.proofs.Common.{◌≡◌, ◌+◌, ◌<◌, ◌≤◌, ◌∙◌, ℕ, arith, refl, subst, sym}
+use Rattle.std.proofs.Common.{◌≡◌, ◌+◌, ◌∙◌, ℕ, arith, refl, subst}
 use Rattle.std.proofs.lemmas.Result.{err_from_is_err_and}
 use Rattle.receiver_file.specs.Known.{shape_in}
 use Rattle.receiver_file.specs.Taking.{AreBlank, Gained}
-use Rattle.receiver_file.proofs.TakenGroups.{all_gave, all_read, gained_blank, gained_fails}
+use Rattle.receiver_file.proofs.TakenGroups.{gained_blank, gained_fails}
 use Rattle.receiver_file.proofs.TakenGroups.{gained_more, gained_none, gained_wrong}
 use Rattle.receiver_file.proofs.filling.fill.Goals as goal
 

@@ -1,4 +1,4 @@
-use Rattle.std.proofs.Common.{◌≡◌, ◌+◌, ◌*◌, ◌∙◌, ℕ, List, ap, arith, length, subst, sym}
+use Rattle.std.proofs.Common.{◌≡◌, ◌*◌, ◌∙◌, ℕ, List, arith, length, subst, sym}
 use Rattle.st_format.specs.declared.cell.Cell.{Cell}
 use Rattle.st_format.specs.declared.format.Format.{Format}
 use Rattle.st_format.specs.Samples.{values_in}

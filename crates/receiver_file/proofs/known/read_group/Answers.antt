@@ -1,4 +1,3 @@
-use Rattle.std.proofs.Common.{arith}
 use Rattle.receiver_file.specs.Known.{cells_known, shape_in}
 use Rattle.receiver_file.proofs.TakenGroups.{gained_one}
 use Rattle.receiver_file.proofs.known.read_group.Goals as goal

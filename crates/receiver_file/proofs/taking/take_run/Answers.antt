@@ -1,4 +1,4 @@
-use Rattle.std.proofs.Common.{◌-◌, ◌+◌, ◌≤◌, arith}
+use Rattle.std.proofs.Common.{arith}
 use Rattle.receiver_file.specs.Known.{shape_in}
 use Rattle.receiver_file.proofs.TakenGroups.{gained_missing}
 use Rattle.receiver_file.proofs.taking.take_run.Goals as goal

@@ -48,8 +48,14 @@ returns-clause-gained g c =
     let within : (1 + size) * n ≤ length octets =
     subst (λ (k : ℕ). (1 + k) * n ≤ length octets) same c.pack_run-count.ensures.within in
     let fits : size * n ≤ length c.pack_run-count.new.packed =
-    omega (arith, within, wide, c.pack_run-count.ensures.room, c.requires.room,
-    c.lent-octets.ensures.few) in
+    omega (
+      arith,
+      within,
+      wide,
+      c.pack_run-count.ensures.room,
+      c.requires.room,
+      c.lent-octets.ensures.few,
+    ) in
     let long : length p ≡ s.octets * n =
     length-take-le (size * n) c.pack_run-count.new.packed fits
     ∙ ap (λ (k : ℕ). k * n) (sym same) in
