@@ -126,6 +126,8 @@ impl<'a> ByteSource for FileSource<'a> {
     ghost use Rattle.devices.specs.declared.file_source.Progress.TheVariants.{Past};
     ghost use Rattle.devices.specs.Held.{held_in};
     ghost use Rattle.st_format.specs.Device.{BeginsWith};
+    ghost use Rattle.std.specs.Io.KnownBytes.{Consumes};
+    ghost use Rattle.std.specs.Prelude.{IsFalse, IsTrue, drop};
 
     ghost to_give = { λ _. None };
 
@@ -163,7 +165,26 @@ impl<'a> ByteSource for FileSource<'a> {
         }
     }
 
-    fn pass(&mut self, count: usize) -> bool {
+    /// Passes as many as it lends.
+    fn pass(&mut self, count: usize) -> bool
+        ensures within { IsTrue result → count ≤ length (held_in self.old.progress) }
+        ensures given { IsTrue result
+            → Consumes None None (take count (held_in self.old.progress)) }
+        ensures gave { IsTrue result
+            → self.new.gave.octets
+            ≡ self.old.gave.octets ++ take count (held_in self.old.progress) }
+        ensures ended { IsTrue result
+            → ((self.new.progress ≡ Past) ↔ ((count ≡ 0) × (self.old.progress ≡ Past))) }
+        ensures none { IsFalse result → self.new.gave.octets ≡ self.old.gave.octets }
+        ensures still { IsFalse result
+            → ((self.new.progress ≡ Past) ↔ (self.old.progress ≡ Past)) }
+        ensures failures { self.new.failures ≡ self.old.failures }
+
+        // It passes all that it lends, and holds the others still.
+        ensures when { IsTrue result ↔ (count ≤ length (held_in self.old.progress)) }
+        ensures rest { IsTrue result
+            → held_in self.new.progress ≡ drop count (held_in self.old.progress) }
+    {
         let Progress::Within(file) = &mut self.progress else {
             return count == 0;
         };

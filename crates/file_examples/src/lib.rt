@@ -34,6 +34,8 @@ mod looping;
 #[cfg(test)]
 mod picture_files;
 #[cfg(test)]
+mod receiver_asking;
+#[cfg(test)]
 mod receiver_files;
 #[cfg(test)]
 mod receiver_pieces;

@@ -75,11 +75,11 @@ fn has_fault(
     alloc: Global,
     octets: &[u8],
     fault: FileFault,
-    left: Option<usize>,
+    left: usize,
 ) -> Result<bool, AllocError> {
     for piece in PIECES {
         let (receiver, behind) = load(alloc, octets, piece)?;
-        if receiver.err() != Some(fault) || left.is_some_and(|left| left != behind) {
+        if receiver.err() != Some(fault) || behind != left {
             return Ok(false);
         }
     }
@@ -103,26 +103,28 @@ fn changed(
 
 /// Whether a state that no group has is the fault, whatever is behind it, and not before it.
 fn has_bad_state(alloc: Global, file: &[u8], at: usize) -> Result<bool, AllocError> {
+    let behind = file.len().saturating_sub(at.saturating_add(1));
     let whole = changed(alloc, file, file.len(), at, 3)?;
     let first = changed(alloc, file, at.saturating_add(1), at, 3)?;
     let before = changed(alloc, file, at, at, 3)?;
     Ok(
-        has_fault(alloc, &whole, FileFault::BadField, None)?
-            && has_fault(alloc, &first, FileFault::BadField, Some(0))?
-            && has_fault(alloc, &before, FileFault::Truncated, Some(0))?,
+        has_fault(alloc, &whole, FileFault::BadField, behind)?
+            && has_fault(alloc, &first, FileFault::BadField, 0)?
+            && has_fault(alloc, &before, FileFault::Truncated, 0)?,
     )
 }
 
 /// Whether a mask that names no sample is the fault, once its group is whole.
 fn has_bad_mask(alloc: Global, file: &[u8], at: usize, end: usize) -> Result<bool, AllocError> {
     let mask = at.saturating_add(2);
+    let behind = file.len().saturating_sub(end);
     let whole = changed(alloc, file, file.len(), mask, 0)?;
     let group = changed(alloc, file, end, mask, 0)?;
     let part = changed(alloc, file, end.saturating_sub(1), mask, 0)?;
     Ok(
-        has_fault(alloc, &whole, FileFault::MixedGroup, None)?
-            && has_fault(alloc, &group, FileFault::MixedGroup, Some(0))?
-            && has_fault(alloc, &part, FileFault::Truncated, Some(0))?,
+        has_fault(alloc, &whole, FileFault::MixedGroup, behind)?
+            && has_fault(alloc, &group, FileFault::MixedGroup, 0)?
+            && has_fault(alloc, &part, FileFault::Truncated, 0)?,
     )
 }
 
@@ -143,7 +145,7 @@ fn receivers_with_more_behind(rt: HostRuntime) -> Result<(), Fail> {
         octets.extend_from_slice(&[0, 1, 2])?;
         met(
             &rt,
-            has_fault(rt.alloc(), &octets, FileFault::TrailingBytes, Some(2))?,
+            has_fault(rt.alloc(), &octets, FileFault::TrailingBytes, 2)?,
         );
     }
     Ok(())
@@ -156,7 +158,7 @@ fn receivers_that_are_cut(rt: HostRuntime) -> Result<(), Fail> {
             let octets = &table.file[..end];
             met(
                 &rt,
-                has_fault(rt.alloc(), octets, FileFault::Truncated, Some(0))?,
+                has_fault(rt.alloc(), octets, FileFault::Truncated, 0)?,
             );
         }
     }
