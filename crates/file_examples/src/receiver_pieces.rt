@@ -156,10 +156,7 @@ fn receivers_that_are_cut(rt: HostRuntime) -> Result<(), Fail> {
     for table in [&YCC, &RGB] {
         for end in 0..table.file.len() {
             let octets = &table.file[..end];
-            met(
-                &rt,
-                has_fault(rt.alloc(), octets, FileFault::Truncated, 0)?,
-            );
+            met(&rt, has_fault(rt.alloc(), octets, FileFault::Truncated, 0)?);
         }
     }
     Ok(())

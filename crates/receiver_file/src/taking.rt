@@ -41,11 +41,17 @@ pub(crate) fn take_run<A: Allocator, S: ByteSource>(
     ensures kept { result ≡ 0 → frame.new ≡ frame.old }
     ensures failures { S.failures source.new ≡ S.failures source.old }
 {
-    let missing = take_missing(source, groups - first);
-    if missing > 0 {
-        return missing;
+    match next_state(source) {
+        Some(0) => take_missing(source, groups - first),
+        Some(1) => take_whole(source, frame, format, first, groups, packed),
+        _ => 0,
     }
-    take_whole(source, frame, format, first, groups, packed)
+}
+
+/// The state of the next group, where the source lends it.
+#[inline(always)]
+fn next_state<S: ByteSource>(source: &S) -> Option<u8> {
+    source.peek().first().copied()
 }
 
 /// Takes the missing groups that a source lends, at most so many, and answers how many.
@@ -94,6 +100,9 @@ fn take_whole<A: Allocator, S: ByteSource>(
 {
     let size = format.pgroup().octets;
     let octets = lent(source);
+    if octets.len() <= size {
+        return 0;
+    }
     let count = pack_run(format, octets, groups - first, packed);
     if count == 0 {
         return 0;

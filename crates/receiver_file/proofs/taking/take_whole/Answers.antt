@@ -79,3 +79,7 @@ returns-clause-gained g c =
     (valued_long s n p (shape_is f.sampling f.depth) long)
     (start_inside c.args.frame.now f first c.facts.ensures.whole c.requires.format
     (omega (arith, c.requires.first, c.requires.groups))) cells
+
+pub returns-then-octets-size-clause-gained : goal.returns-then-octets-size-clause-gained
+returns-then-octets-size-clause-gained g c =
+    gained_none (shape_in c.args.format.now) c.args.first _ _ c.args.frame.now.cells
