@@ -74,6 +74,8 @@ impl Digest {
     }
 }
 
+/// A sum with one more word in it. The multiplier is that of rrmxmx (Pelle Evensen, 2018), which
+/// XXH3 has too.
 fn mixed(sum: u64, word: u64) -> u64 {
     (sum ^ word)
         .wrapping_mul(0x9FB2_1C65_1E98_DF25)
