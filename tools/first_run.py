@@ -4,8 +4,8 @@
 usage: first_run.py CHECKOUT WORD..
 
 `rt` locks a crate's folder and each below it, so that proofs in one checkout run one after the other. Here each runs in a
-room: a folder of its own with a copy of the sources, in the person's folder for caches. What one room proved `rt` takes over in
-the others, and in the checkout, where the program is built, by itself. The rooms stay until the program stands, so that a run
+room: a folder of its own with a copy of the sources, in the person's folder for caches. The library that one room proved is
+given to the others and to the checkout, where the program is built. The rooms stay until the program stands, so that a run
 after one that was stopped goes on. A command that reads standard input alone is meanwhile tried with no proof.
 """
 import contextlib

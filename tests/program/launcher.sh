@@ -37,7 +37,7 @@ if [ "\$(cat "$room/refused" 2>/dev/null)" = "\$crate" ]; then
 fi
 mkdir -p out && : >out/proved
 [ "\$1" != lib ] || { mkdir -p out/rlib && echo "\$PWD" >out/rlib/stamp; }
-[ "\$crate" != right ] || [ ! -e ../low/out ] || echo "right with a copy of low" >>"$room/built"
+[ "\$crate" != right ] || [ -s ../low/out/rlib/stamp ] || echo "right without low" >>"$room/built"
 [ "\$1" != run ] || cp "$program" out/st2110
 END
 chmod +x bin/rt
@@ -221,11 +221,14 @@ if cmp -s order want.order; then
 else
     fail 'launcher: in rooms, where each is proved' "$(cat built)"
 fi
-given=$(find clone/crates/low clone/crates/left clone/crates/right -name out)
-if [ -z "$given" ]; then
-    pass 'launcher: in rooms, nothing that the kit keeps there is copied'
+given=
+for it in low left right; do
+    given="$given$(sed 's,.*/crates/,,' clone/crates/$it/out/rlib/stamp) "
+done
+if [ "$given" = 'low left right ' ]; then
+    pass 'launcher: in rooms, what each proved is given to the clone'
 else
-    fail 'launcher: in rooms, nothing that the kit keeps there is copied' "$given"
+    fail 'launcher: in rooms, what each proved is given to the clone' "$given"
 fi
 if [ -z "$(ls "$rooms")" ]; then
     pass 'launcher: the rooms are cleared'
