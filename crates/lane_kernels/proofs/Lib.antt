@@ -6,6 +6,7 @@ pub mod Luma
 pub mod Mixing
 pub mod Narrow
 pub mod Ones
+pub mod Parts
 pub mod Saturated
 pub mod Scales
 pub mod Selecting

@@ -75,7 +75,7 @@ pub(crate) fn luma_lanes(red: u16x8, green: u16x8, blue: u16x8, low: u32, high: 
 
 /// The luma of one pixel, from `low` to `high`.
 #[inline(always)]
-pub(crate) fn luma_of(red: u16, green: u16, blue: u16, low: u32, high: u32) -> u16
+fn luma_of(red: u16, green: u16, blue: u16, low: u32, high: u32) -> u16
     requires range { low ≤ high }
     requires most { high < 65536 }
     ensures { result ≡ clip low high (luma red green blue) }
@@ -191,7 +191,7 @@ fn colour_block(colour: Difference, main: u16x8, first: u16x8, second: u16x8, bi
 
 /// Cb or Cr of one pixel, as of eight that are alike, brought to video data.
 #[inline(always)]
-pub(crate) fn colour_of(colour: Difference, main: u16, first: u16, second: u16, bits: u32) -> u16
+fn colour_of(colour: Difference, main: u16, first: u16, second: u16, bits: u32) -> u16
     requires depth { (8 ≤ bits) × (bits ≤ 16) }
     requires of_main { main < 2 ^ bits }
     requires of_first { first < 2 ^ bits }

@@ -6,7 +6,7 @@ ghost use Rattle.lane_kernels.specs.Differences.{difference};
 ghost use Rattle.lane_kernels.specs.Formulas.{clip, luma, video_data};
 ghost use Rattle.lane_kernels.specs.Pixels.{in_turn, narrow_of, near_lanes, ycc_at};
 
-use crate::matrix::{Difference, colour_of, colour_wide_lanes, luma_lanes, luma_of, scale};
+use crate::matrix::{Difference, colour_wide_lanes, luma_lanes, scale};
 use crate::narrowing::{narrowed, narrowed_wide};
 use std::simd::prelude::*;
 
@@ -193,10 +193,51 @@ fn in_turns(first: u16x8, second: u16x8, third: u16x8) -> u16x8
         .shuffle(third, [0, 1, 10, 3, 4, 13, 6, 7])
 }
 
-/// The samples of Cb, Y and Cr of pixels of R, G and B, each of `bits` bits and brought to video
-/// data. Both slices are whole pixels.
+/// The samples of Cb, Y and Cr of eight pixels of R, G and B, each of `bits` bits and brought to
+/// video data.
 ///
 /// Three vectors have eight pixels: their lanes are taken in turn, and put in order.
+#[inline(always)]
+fn eight_pixels(rgb: &[u16], bits: u32, out: &mut [u16])
+    requires depth { (8 ≤ bits) × (bits ≤ 16) }
+    requires lengths { length rgb.now ≡ length out.old }
+    requires eight { length out.old ≡ 24 }
+    requires fit { EachIndex rgb.now (λ k. slice_index rgb.now k < 2 ^ bits) }
+    ensures long { length out.new ≡ length out.old }
+    ensures each { EachIndex out.new (λ k. slice_index out.new k ≡ ycc_at bits rgb.now k) }
+{
+    let first = u16x8::from_slice(&rgb[0..]);
+    let second = u16x8::from_slice(&rgb[8..]);
+    let third = u16x8::from_slice(&rgb[16..]);
+    let red = in_turns(first, second, third).swizzle([0, 3, 6, 1, 4, 7, 2, 5]);
+    let green = in_turns(third, first, second).swizzle([1, 4, 7, 2, 5, 0, 3, 6]);
+    let blue = in_turns(second, third, first).swizzle([2, 5, 0, 3, 6, 1, 4, 7]);
+    let y = pixel_luma(red, green, blue, bits).swizzle([5, 0, 3, 6, 1, 4, 7, 2]);
+    let cb = pixel_colour(Difference::Cb, blue, red, green, bits).swizzle([0, 3, 6, 1, 4, 7, 2, 5]);
+    let cr = pixel_colour(Difference::Cr, red, green, blue, bits).swizzle([2, 5, 0, 3, 6, 1, 4, 7]);
+    in_turns(cb, y, cr).copy_to_slice(&mut out[0..]);
+    in_turns(cr, cb, y).copy_to_slice(&mut out[8..]);
+    in_turns(y, cr, cb).copy_to_slice(&mut out[16..]);
+}
+
+/// The same of fewer than eight pixels, as the first of eight of which the others are black.
+fn last_pixels(rgb: &[u16], bits: u32, out: &mut [u16])
+    requires depth { (8 ≤ bits) × (bits ≤ 16) }
+    requires lengths { length rgb.now ≡ length out.old }
+    requires whole { length out.old % 3 ≡ 0 }
+    requires few { length out.old < 24 }
+    requires fit { EachIndex rgb.now (λ k. slice_index rgb.now k < 2 ^ bits) }
+    ensures long { length out.new ≡ length out.old }
+    ensures each { EachIndex out.new (λ k. slice_index out.new k ≡ ycc_at bits rgb.now k) }
+{
+    let (mut given, mut made) = ([0; 24], [0; 24]);
+    given[..rgb.len()].copy_from_slice(rgb);
+    eight_pixels(&given, bits, &mut made);
+    out.copy_from_slice(&made[..out.len()]);
+}
+
+/// The samples of Cb, Y and Cr of pixels of R, G and B, each of `bits` bits and brought to video
+/// data. Both slices are whole pixels.
 pub fn ycc709(rgb: &[u16], bits: u32, out: &mut [u16])
     requires depth { (8 ≤ bits) × (bits ≤ 16) }
     requires lengths { length rgb.now ≡ length out.old }
@@ -207,29 +248,10 @@ pub fn ycc709(rgb: &[u16], bits: u32, out: &mut [u16])
 {
     let mut at = 0;
     while out.len() - at >= 24 {
-        let first = u16x8::from_slice(&rgb[at..]);
-        let second = u16x8::from_slice(&rgb[at + 8..]);
-        let third = u16x8::from_slice(&rgb[at + 16..]);
-        let red = in_turns(first, second, third).swizzle([0, 3, 6, 1, 4, 7, 2, 5]);
-        let green = in_turns(third, first, second).swizzle([1, 4, 7, 2, 5, 0, 3, 6]);
-        let blue = in_turns(second, third, first).swizzle([2, 5, 0, 3, 6, 1, 4, 7]);
-        let y = pixel_luma(red, green, blue, bits).swizzle([5, 0, 3, 6, 1, 4, 7, 2]);
-        let cb = pixel_colour(Difference::Cb, blue, red, green, bits).swizzle([
-            0, 3, 6, 1, 4, 7, 2, 5,
-        ]);
-        let cr = pixel_colour(Difference::Cr, red, green, blue, bits).swizzle([
-            2, 5, 0, 3, 6, 1, 4, 7,
-        ]);
-        in_turns(cb, y, cr).copy_to_slice(&mut out[at..]);
-        in_turns(cr, cb, y).copy_to_slice(&mut out[at + 8..]);
-        in_turns(y, cr, cb).copy_to_slice(&mut out[at + 16..]);
+        eight_pixels(&rgb[at..at + 24], bits, &mut out[at..at + 24]);
         at += 24;
     }
-    for pixel in at / 3..out.len() / 3 {
-        let (r, g, b) = (rgb[3 * pixel], rgb[3 * pixel + 1], rgb[3 * pixel + 2]);
-        let low = scale(bits);
-        out[3 * pixel] = colour_of(Difference::Cb, b, r, g, bits);
-        out[3 * pixel + 1] = luma_of(r, g, b, low, 255 * low - 1);
-        out[3 * pixel + 2] = colour_of(Difference::Cr, r, g, b, bits);
+    if at < out.len() {
+        last_pixels(&rgb[at..], bits, &mut out[at..]);
     }
 }

@@ -1,4 +1,4 @@
-use Rattle.std.proofs.Common.{◌≡◌, ◌-◌, ◌*◌, ◌%◌, ◌≤◌, length}
+use Rattle.std.proofs.Common.{◌≡◌, ◌-◌, ◌%◌, ◌≤◌, length}
 use Rattle.lane_kernels.specs.Pixels.{ycc_at}
 use Rattle.lane_kernels.proofs.Stored.{Below}
 use Rattle.lane_kernels.proofs.pixels.ycc709.Given as goal
@@ -13,9 +13,3 @@ invariant-loop-out l = record {
 
 abbrev pub decreases-loop-out : goal.decreases-loop-out
 decreases-loop-out l = length l.out - l.at
-
-abbrev pub invariant-loop-pixel : goal.invariant-loop-pixel
-invariant-loop-pixel l = record {
-  long : length l.out ≡ length l.rgb;
-  done : Below (λ k. ycc_at l.bits l.rgb k) (3 * l.pixel) l.out;
-}
