@@ -1,6 +1,7 @@
 pub mod PackedLemmas
 pub mod Runs
 pub mod GroupJoins
+pub mod FrontJoins
 pub mod Equal
 pub mod Contested
 pub mod CellLemmas

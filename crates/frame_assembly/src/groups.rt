@@ -12,10 +12,13 @@ use std::simd::prelude::*;
 /// How many groups are compared or copied at once.
 pub const BLOCK: usize = 64;
 
+/// How many groups are first compared or copied together: two blocks.
+const SPAN: usize = 128;
+
 /// How many groups of a block that is neither the same nor missing are looked at together.
 const CHUNK: usize = 8;
 
-/// Joins other groups, a block after the other.
+/// Joins other groups, a span after the other.
 pub fn join_run(
     format: &Format,
     marks: &mut [u16],
@@ -30,13 +33,13 @@ pub fn join_run(
         octets.new }
 {
     let size = format.pgroup().octets;
-    let blocks = marks.len() / BLOCK;
-    for i in 0..blocks {
-        let from = BLOCK * i;
-        let to = BLOCK * (i + 1);
+    let spans = marks.len() / SPAN;
+    for i in 0..spans {
+        let from = SPAN * i;
+        let to = SPAN * (i + 1);
         let start = size * from;
         let end = size * to;
-        join_block(
+        join_span(
             format,
             &mut marks[from..to],
             &mut octets[start..end],
@@ -44,9 +47,9 @@ pub fn join_run(
             &others[start..end],
         );
     }
-    let from = BLOCK * blocks;
+    let from = SPAN * spans;
     let start = size * from;
-    join_block(
+    join_span(
         format,
         &mut marks[from..],
         &mut octets[start..],
@@ -55,9 +58,9 @@ pub fn join_run(
     );
 }
 
-/// Joins other groups: at once where they are the same or all of these are missing, else a few at a
-/// time.
-fn join_block(
+/// Joins other groups of a span: at once where they are the same or all of these are missing, else
+/// a block after the other. So groups that differ are compared twice only within their span.
+fn join_span(
     format: &Format,
     marks: &mut [u16],
     octets: &mut [u8],
@@ -70,7 +73,53 @@ fn join_block(
     ensures { AreJoined format.now marks.old octets.old other_marks.now others.now marks.new
         octets.new }
 {
-    if same_words(marks, other_marks) && same_octets(octets, others) {
+    let has_marks = same_words(marks, other_marks);
+    if has_marks && same_octets(octets, others) {
+        return;
+    }
+    if are_missing(marks) {
+        marks.copy_from_slice(other_marks);
+        octets.copy_from_slice(others);
+        return;
+    }
+    let middle = marks.len().min(BLOCK);
+    let start = format.pgroup().octets * middle;
+    join_block(
+        format,
+        &mut marks[..middle],
+        &mut octets[..start],
+        &other_marks[..middle],
+        &others[..start],
+        has_marks,
+    );
+    join_block(
+        format,
+        &mut marks[middle..],
+        &mut octets[start..],
+        &other_marks[middle..],
+        &others[start..],
+        has_marks,
+    );
+}
+
+/// Joins other groups, of which the marks may be known to be the same: at once where the groups are
+/// the same or all of these are missing, else a few at a time.
+fn join_block(
+    format: &Format,
+    marks: &mut [u16],
+    octets: &mut [u8],
+    other_marks: &[u16],
+    others: &[u8],
+    has_marks: bool,
+)
+    requires packed { ArePacked format.now marks.old octets.old }
+    requires other { ArePacked format.now other_marks.now others.now }
+    requires alike { length other_marks.now ≡ length marks.old }
+    requires marks { IsTrue has_marks → other_marks.now ≡ marks.old }
+    ensures { AreJoined format.now marks.old octets.old other_marks.now others.now marks.new
+        octets.new }
+{
+    if are_same(has_marks, marks, octets, other_marks, others) {
         return;
     }
     if are_missing(marks) {
@@ -89,6 +138,22 @@ fn join_block(
         15 => join_chunks(format, 15, marks, octets, other_marks, others),
         size => join_chunks(format, size, marks, octets, other_marks, others),
     }
+}
+
+/// Whether groups have the same marks, which may be known, and the same octets.
+#[inline(always)]
+fn are_same(
+    has_marks: bool,
+    marks: &[u16],
+    octets: &[u8],
+    other_marks: &[u16],
+    others: &[u8],
+) -> bool
+    requires { IsTrue has_marks → other_marks.now ≡ marks.now }
+    ensures marks { IsTrue result → marks.now ≡ other_marks.now }
+    ensures octets { IsTrue result → octets.now ≡ others.now }
+{
+    (has_marks || same_words(marks, other_marks)) && same_octets(octets, others)
 }
 
 /// Joins other groups, of `size` octets each, a chunk after the other.
@@ -348,14 +413,14 @@ pub fn same_groups(
 }
 
 /// Whether mark words are the same.
-pub fn same_words(left: &[u16], right: &[u16]) -> bool
+fn same_words(left: &[u16], right: &[u16]) -> bool
     ensures { IsTrue result ↔ (left.now ≡ right.now) }
 {
     left == right
 }
 
 /// Whether octets are the same.
-pub fn same_octets(left: &[u8], right: &[u8]) -> bool
+fn same_octets(left: &[u8], right: &[u8]) -> bool
     ensures { IsTrue result ↔ (left.now ≡ right.now) }
 {
     left == right

@@ -7,7 +7,7 @@ ghost use Rattle.payload_header.specs.Payload.{IsInside, seen_segment};
 ghost use Rattle.st_format.specs.Pgroup.{pixel_group};
 ghost use Rattle.st_format.specs.Raster.{cells_of, joined_cells, offers_in, offers_in_all};
 
-use crate::groups::{are_missing, join_run, same_octets, same_words};
+use crate::groups::join_run;
 use crate::state::PRESENT;
 use payload_header::Segment;
 use st_format::Format;
@@ -87,8 +87,7 @@ fn join_segment(format: &Format, marks: &mut [u16], octets: &mut [u8], segment: 
     );
 }
 
-/// Joins groups of which each sample is offered: at once where all of these are missing, as where
-/// their datagram is the first, or they are the same, as where it came by another path.
+/// Joins groups of which each sample is offered.
 fn join_whole(format: &Format, marks: &mut [u16], octets: &mut [u8], others: &[u8])
     requires few { length marks.old ≤ MOST_GROUPS }
     requires packed { ArePacked format.now marks.old octets.old }
@@ -96,14 +95,6 @@ fn join_whole(format: &Format, marks: &mut [u16], octets: &mut [u8], others: &[u
     ensures { AreJoined format.now marks.old octets.old
         (whole_marks (length marks.old)) others.now marks.new octets.new }
 {
-    let whole = &WHOLE[..marks.len()];
-    if are_missing(marks) {
-        marks.copy_from_slice(whole);
-        octets.copy_from_slice(others);
-        return;
-    }
-    if same_octets(octets, others) && same_words(marks, whole) {
-        return;
-    }
-    join_run(format, marks, octets, whole, others);
+    let count = marks.len();
+    join_run(format, marks, octets, &WHOLE[..count], others);
 }

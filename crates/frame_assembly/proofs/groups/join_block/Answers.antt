@@ -3,10 +3,10 @@ use Rattle.frame_assembly.proofs.PackedLemmas.{sizes}
 use Rattle.frame_assembly.proofs.GroupJoins.{same_joined, copy_joined}
 use Rattle.frame_assembly.proofs.groups.join_block.Goals as goal
 
-pub returns-then-same_octets : goal.returns-then-same_octets
-returns-then-same_octets c =
+pub returns-then-are_same : goal.returns-then-are_same
+returns-then-are_same c =
     same_joined _ _ _ c.args.marks.now c.args.octets.now c.args.other_marks.now c.args.others.now
-    c.requires.packed (c.if-same_words.ensures.0 refl) (c.if-same_octets.ensures.0 refl)
+    c.requires.packed (c.if-are_same.ensures.marks refl) (c.if-are_same.ensures.octets refl)
 
 pub returns-then-are_missing : goal.returns-then-are_missing
 returns-then-are_missing c =

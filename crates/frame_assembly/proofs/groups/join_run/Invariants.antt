@@ -7,5 +7,5 @@ use Rattle.frame_assembly.proofs.groups.join_run.Given as goal
 abbrev pub invariant-loop-i : goal.invariant-loop-i
 invariant-loop-i l =
     JoinedTo (bits_of l.format.depth) (pixel_group l.format.sampling l.format.depth).octets
-    (pixel_group l.format.sampling l.format.depth).samples (64 * l.i)
+    (pixel_group l.format.sampling l.format.depth).samples (128 * l.i)
     l.initial.marks l.initial.octets l.other_marks l.others l.marks l.octets
