@@ -1,4 +1,5 @@
-//! Runs of pgroups that a frame is given at once, against the same given one by one.
+//! Runs of pgroups that a frame is given at once, against the same given one by one: over missing
+//! groups, over values and over contested samples.
 ghost use Rattle.std.specs.Prelude.{◌≡◌};
 ghost use Rattle.st_format.specs.Position.{group_count};
 
@@ -61,13 +62,21 @@ fn give_each(frame: &mut Frame, first: usize, count: usize, octets: &[u8]) -> bo
     can_be
 }
 
-/// A frame some of whose groups are missing, and some have all their values.
+/// The octets of a group whose first sample is 0, at their end.
+const CONTESTED: [u8; 15] = [0, 0, 0, 0, 0, 0, 0, 0, 0, 0, 0, 0, 0, 0, 9];
+
+/// A frame whose groups have all their values, are missing, and have a contested sample by turns.
 fn begun(alloc: Global, format: Format, octets: &[u8]) -> Result<Frame, AllocError> {
     let mut frame = Frame::new(alloc, format)?;
     let size = format.pgroup().octets;
-    for place in 0..format.row_groups() {
-        if place % 3 != 1 {
-            set(&mut frame, 0, place, part(octets, 0, size), 0, true);
+    let contested = part(&CONTESTED, 15usize.saturating_sub(size), size);
+    for row in 0..format.height() {
+        for place in 0..format.row_groups() {
+            match place % 3 {
+                0 => set(&mut frame, row, place, part(octets, 0, size), 0, true),
+                1 => false,
+                _ => set(&mut frame, row, place, contested, 1, true),
+            };
         }
     }
     Ok(frame)
@@ -98,7 +107,7 @@ fn runs_agree(
     let groups = groups_of(&format);
     let mut octets = [0; MOST_OCTETS];
     generator.fill_octets(&mut octets);
-    let mut agree = true;
+    let mut agree = begun(alloc, format, &octets)?.counts().contested > 0;
     for first in 0..groups {
         for count in 0..groups - first + 1 {
             agree &= run_agrees(alloc, format, first, count, &octets)?;
