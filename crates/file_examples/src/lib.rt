@@ -38,7 +38,11 @@ mod receiver_asking;
 #[cfg(test)]
 mod receiver_files;
 #[cfg(test)]
+mod receiver_made;
+#[cfg(test)]
 mod receiver_pieces;
+#[cfg(test)]
+mod receiver_writes;
 #[cfg(test)]
 mod rehearsal_scripts;
 #[cfg(test)]

@@ -1,10 +1,11 @@
 //! Receivers' files are read as they were before runs of groups were taken: the same fault first, by
-//! the same calls of a source that lends nothing, and with as much left of one that lends. The
-//! reading group by group stands here as it was.
+//! the same calls of a source that lends nothing, and with as much left of one that lends, itself
+//! lent or not. The reading group by group stands here as it was.
 ghost use Rattle.std.specs.Prelude.{◌≡◌, true, None, length};
 ghost use Rattle.st_format.specs.Pgroup.{pixel_group};
 
 use crate::checks::met;
+use crate::receiver_made::{FRONT, Kind, OTHERS, YCC, made};
 use media_file::{FileFault, read_end, read_field, read_format};
 use pgroup_pack::{blank, differing};
 use receiver_file::load_receiver;
@@ -17,9 +18,11 @@ use std::test::Fail;
 /// How many octets a source gives at most in a call.
 const PIECES: [usize; 8] = [1, 2, 3, 1021, 4095, 4096, 4097, 1 << 20];
 
-/// The octet at which a call is refused that reaches it: none of these files has so many as the
-/// last.
-const REFUSED: [usize; 8] = [33, 35, 38, 43, 4096, 4100, 4131, 1 << 20];
+/// The octet at which a call is refused that reaches it.
+const REFUSED: [usize; 7] = [33, 35, 38, 43, 4096, 4100, 4131];
+
+/// The same, counted from where the wrong group begins: none of these files has so many as the last.
+const NEAR: [usize; 7] = [0, 1, 2, 3, 5, 8, 1 << 20];
 
 /// The call that fails of a source in memory; 0 is none.
 const FAILING: [u64; 8] = [0, 7, 8, 9, 10, 11, 900, 2500];
@@ -63,6 +66,51 @@ impl ByteSource for Asked {
             }
         }
     }
+}
+
+/// The same source, which lends what it holds.
+#[derive(Drop)]
+struct Lending {
+    asked: Asked,
+}
+
+impl ByteSource for Lending {
+    ghost to_give = { λ _. None };
+
+    ghost gave = { λ s. s.asked.inner.gave };
+
+    ghost ended = { λ s. s.asked.inner.is_ended ≡ true };
+
+    ghost failures = { λ s. s.asked.failures };
+
+    ghost at_hand = { λ s. ⟦<MemorySource as ByteSource>⟧.at_hand s.asked.inner };
+
+    fn read(&mut self, buf: &mut [u8]) -> Result<usize, DeviceFault> {
+        self.asked.read(buf)
+    }
+
+    fn peek(&self) -> &[u8] {
+        self.asked.inner.peek()
+    }
+
+    fn pass(&mut self, count: usize) -> bool {
+        if !self.asked.inner.pass(count) {
+            return false;
+        }
+        self.asked.at = self.asked.at.saturating_add(count);
+        true
+    }
+}
+
+/// How a file is read.
+#[derive(Clone, Copy)]
+enum Reading {
+    /// As it was.
+    Before,
+    /// As it is, of a source that lends nothing.
+    Now,
+    /// As it is, of one that lends what it holds, which is nothing from the refused octet on.
+    Lending,
 }
 
 /// What a reading came to, and what it asked.
@@ -136,76 +184,65 @@ fn is_mixed(format: &Format, octets: &[u8], mask: u16) -> bool
     differing(format, octets, blanked) == 0
 }
 
-/// A group of 4:2:2 and 8 bits: missing, whole or contested, or one that is wrong.
-fn group_of(code: u8) -> &'static [u8] {
-    match code {
-        0 => &[0],
-        1 => &[1, 5, 6, 7, 8],
-        2 => &[2, 0, 1, 0, 9, 9, 9],
-        3 => &[3, 5, 6, 7, 8],
-        4 => &[2, 0, 0, 0, 9, 9, 9],
-        5 => &[2, 0, 0x10, 0, 9, 9, 9],
-        _ => &[2, 0, 1, 1, 9, 9, 9],
-    }
-}
-
-/// The code of a group that isn't wrong, by one of three patterns.
-fn code_of(pattern: u8, group: usize) -> u8 {
-    match pattern {
-        0 => 1,
-        1 => (group % 3) as u8,
-        _ => { if group % 50 < 44 { 1 } else { 0 } }
-    }
-}
-
-/// A file of one frame, 64 by 52, of which one group has this code.
-fn made(alloc: Global, pattern: u8, at: usize, code: u8) -> Result<Vec<u8>, AllocError> {
-    let front = b"S20RCV01\0\x08\0\x40\0\x34\0\0\0\x3C\0\0\0\x01\x60\0\0\0\0\0\x01\0\0\x03\x84";
-    let mut octets = Vec::from_slice(alloc, front)?;
-    for group in 0..1664usize {
-        let code = if group == at {
-            code
-        } else {
-            code_of(pattern, group)
-        };
-        octets.extend_from_slice(group_of(code))?;
-    }
-    Ok(octets)
-}
-
-/// What octets come to, read as they are now or as they were.
+/// What octets come to.
 fn outcome_of(
     alloc: Global,
     octets: &[u8],
     piece: usize,
     refused: usize,
-    is_now: bool,
+    reading: Reading,
 ) -> Result<Outcome, AllocError> {
-    let octets = Vec::from_slice(alloc, octets)?;
-    let mut source = Asked {
-        inner: MemorySource::new(octets, piece.max(1), 0),
+    let held = match reading {
+        Reading::Lending => &octets[..refused.min(octets.len())],
+        _ => octets,
+    };
+    let mut asked = Asked {
+        inner: MemorySource::new(Vec::from_slice(alloc, held)?, piece.max(1), 0),
         refused,
         at: 0,
         farthest: 0,
         calls: 0,
         failures: 0,
     };
-    let fault = if is_now {
-        load_receiver(alloc, &mut source).err()
-    } else {
-        read_singly(&mut source).err()
+    let fault = match reading {
+        Reading::Before => read_singly(&mut asked).err(),
+        Reading::Now => load_receiver(alloc, &mut asked).err(),
+        Reading::Lending => {
+            let mut lending = Lending { asked };
+            let fault = load_receiver(alloc, &mut lending).err();
+            asked = lending.asked;
+            fault
+        }
     };
     Ok(Outcome {
         fault,
-        at: source.at,
-        farthest: source.farthest,
-        calls: source.calls,
-        failures: source.failures,
+        at: asked.at,
+        farthest: asked.farthest,
+        calls: asked.calls,
+        failures: asked.failures,
     })
 }
 
-/// The same of a source in memory, of which a call may fail: the fault, how many octets are left,
-/// and how often it failed.
+/// Whether octets are read as they were, where each call is refused that reaches an octet.
+fn is_refused_alike(
+    alloc: Global,
+    octets: &[u8],
+    piece: usize,
+    refused: usize,
+) -> Result<bool, AllocError> {
+    let before = outcome_of(alloc, octets, piece, refused, Reading::Before)?;
+    let now = outcome_of(alloc, octets, piece, refused, Reading::Now)?;
+    let lending = outcome_of(alloc, octets, piece, refused, Reading::Lending)?;
+    Ok(
+        now == before
+            && lending.fault == before.fault
+            && lending.at == before.at
+            && lending.failures == before.failures,
+    )
+}
+
+/// What octets come to of a source in memory that is itself lent, of which a call may fail: the
+/// fault, how many octets are left, and how often it failed.
 fn lent(
     alloc: Global,
     octets: &[u8],
@@ -216,27 +253,30 @@ fn lent(
     let octets = Vec::from_slice(alloc, octets)?;
     let mut source = MemorySource::new(octets, piece.max(1), failing);
     let fault = if is_now {
-        load_receiver(alloc, &mut source).err()
+        load_receiver(alloc, &mut &mut source).err()
     } else {
         read_singly(&mut source).err()
     };
     Ok((fault, source.to_give().len(), source.failures()))
 }
 
-/// Whether octets are read as they were, by pieces of each size, where no call fails and where one
-/// does.
-fn is_alike(alloc: Global, octets: &[u8]) -> Result<bool, AllocError> {
+/// Whether octets are read as they were, by pieces of each size: where a call is refused that
+/// reaches each of these octets, and where each of these calls fails.
+fn is_alike(
+    alloc: Global,
+    octets: &[u8],
+    refused: &[usize],
+    failing: &[u64],
+) -> Result<bool, AllocError> {
     for piece in PIECES {
-        for refused in REFUSED {
-            if outcome_of(alloc, octets, piece, refused, true)?
-                != outcome_of(alloc, octets, piece, refused, false)?
-            {
+        for octet in refused {
+            if !is_refused_alike(alloc, octets, piece, *octet)? {
                 return Ok(false);
             }
         }
-        for failing in FAILING {
-            if lent(alloc, octets, piece, failing, true)?
-                != lent(alloc, octets, piece, failing, false)?
+        for call in failing {
+            if lent(alloc, octets, piece, *call, true)?
+                != lent(alloc, octets, piece, *call, false)?
             {
                 return Ok(false);
             }
@@ -245,17 +285,59 @@ fn is_alike(alloc: Global, octets: &[u8]) -> Result<bool, AllocError> {
     Ok(true)
 }
 
+/// The same at many octets, some of them counted from where the wrong group begins.
+fn is_alike_at(alloc: Global, octets: &[u8], place: usize) -> Result<bool, AllocError> {
+    let mut near = NEAR;
+    for octet in near.iter_mut() {
+        *octet = octet.saturating_add(place);
+    }
+    Ok(is_alike(alloc, octets, &REFUSED, &FAILING)? && is_alike(alloc, octets, &near, &[])?)
+}
+
 /// Whether files of a pattern are read as they were, with each wrong group at each of these places.
 fn are_alike(alloc: Global, pattern: u8) -> Result<bool, AllocError> {
     for at in [0usize, 812, 1663] {
         for code in [0u8, 3, 4, 5, 6] {
-            let octets = made(alloc, pattern, at, code)?;
-            if !is_alike(alloc, &octets)? {
+            let (octets, place) = made(alloc, YCC, (32, 52), pattern, (at, code))?;
+            if !is_alike_at(alloc, &octets, place)? {
                 return Ok(false);
             }
         }
     }
     Ok(true)
+}
+
+/// Whether files of so many rows of two groups are read as they were, by each pattern and with each
+/// wrong group at each of these places, and cut in the last group.
+fn rows_alike(alloc: Global, kind: Kind, rows: usize) -> Result<bool, AllocError> {
+    let last = rows.wrapping_mul(2).wrapping_sub(1);
+    for pattern in 0..4u8 {
+        for at in [0, rows, last] {
+            for code in [1u8, 3, 255, 4, 5, 6] {
+                let (octets, place) = made(alloc, kind, (2, rows), pattern, (at, code))?;
+                let refused = [place.wrapping_add(1), place.wrapping_add(4), 1 << 20];
+                let cut = &octets[..octets.len().saturating_sub(2)];
+                let is_read = is_alike(alloc, &octets, &refused, &[0])?
+                    && is_alike(alloc, cut, &[1 << 20], &[0])?;
+                if !is_read {
+                    return Ok(false);
+                }
+            }
+        }
+    }
+    Ok(true)
+}
+
+/// The same of frames on both sides of the octets that are looked at at once, and of more than two
+/// times as many.
+fn kind_alike(alloc: Global, kind: Kind) -> Result<bool, AllocError> {
+    let both = kind.octets.wrapping_add(1).wrapping_mul(2);
+    let rows = 4096usize.checked_div(both).unwrap_or(1).max(1).min(4096);
+    Ok(
+        rows_alike(alloc, kind, rows)?
+            && rows_alike(alloc, kind, rows.wrapping_add(1))?
+            && rows_alike(alloc, kind, rows.wrapping_mul(2).wrapping_add(3))?,
+    )
 }
 
 #[test]
@@ -277,16 +359,30 @@ fn runs_of_groups_as_before(rt: HostRuntime) -> Result<(), Fail> {
 }
 
 #[test]
+fn usual_groups_as_before(rt: HostRuntime) -> Result<(), Fail> {
+    met(&rt, kind_alike(rt.alloc(), YCC)?);
+    Ok(())
+}
+
+#[test]
+fn other_groups_as_before(rt: HostRuntime) -> Result<(), Fail> {
+    for kind in OTHERS {
+        met(&rt, kind_alike(rt.alloc(), kind)?);
+    }
+    Ok(())
+}
+
+#[test]
 fn cut_as_before(rt: HostRuntime) -> Result<(), Fail> {
     for pattern in 0..3u8 {
-        let octets = made(rt.alloc(), pattern, 0, 2)?;
-        for end in [33usize, 34, 40, 4095, 4096, 4097, 4128, 4129, 4130] {
-            met(&rt, is_alike(rt.alloc(), &octets[..end.min(octets.len())])?);
+        let (octets, _) = made(rt.alloc(), YCC, (32, 52), pattern, (0, 2))?;
+        let most = octets.len().saturating_sub(1);
+        for end in [33usize, 34, 40, 4095, 4096, 4097, 4128, 4129, 4130, 1 << 20] {
+            met(
+                &rt,
+                is_alike_at(rt.alloc(), &octets[..end.min(most)], FRONT)?,
+            );
         }
-        met(
-            &rt,
-            is_alike(rt.alloc(), &octets[..octets.len().saturating_sub(1)])?,
-        );
     }
     Ok(())
 }
@@ -294,9 +390,9 @@ fn cut_as_before(rt: HostRuntime) -> Result<(), Fail> {
 #[test]
 fn more_behind_as_before(rt: HostRuntime) -> Result<(), Fail> {
     for pattern in 0..3u8 {
-        let mut octets = made(rt.alloc(), pattern, 0, 2)?;
+        let (mut octets, place) = made(rt.alloc(), YCC, (32, 52), pattern, (0, 2))?;
         octets.extend_from_slice(&[0, 1, 2])?;
-        met(&rt, is_alike(rt.alloc(), &octets)?);
+        met(&rt, is_alike_at(rt.alloc(), &octets, place)?);
     }
     Ok(())
 }
