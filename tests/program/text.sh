@@ -27,7 +27,7 @@ for parted in 's/../&:/g; s/:$//' ''; do
     says "digits of a recording '$parted'" 0 "kept 1
 $frame" ''
 done
-# Lines of more octets than are gathered before they go out.
+# Lines of more octets than a page or a pipe holds.
 {
     printf '%b\n' 'format YCbCr-4:2:2 8 4 2 60/1\nopen 96 any 900' "A $d1"
     yes 'cell 900 0 0 0' | head -n 20000

@@ -1,12 +1,8 @@
 //! How a command ends: by a status, by a line where it came to a fault, and, where that is asked
 //! for, by one more line that says where the fault is and what was wanted there.
-ghost use Rattle.std.specs.Prelude.{◌≡◌, ◌⊎◌, [], Err};
-ghost use Rattle.st_format.specs.Device.{CountsOne};
-
 use crate::places::{Devices, explain};
-use devices::{GatheringSink, OutputSink};
+use devices::OutputSink;
 use run_outcome::{Fault, Status, end};
-use st_format::ByteSink;
 use std::io::Write;
 
 /// Ends a command, and answers its status. Where what it wrote is not written out whole, which its
@@ -29,28 +25,6 @@ pub fn end_run(
     let status = end(cut, &mut faults);
     tell_more(rt, is_verbose, cut, devices, kept);
     status
-}
-
-/// Has all go out that the output of a run gathered, unless a device failed: what the run came to,
-/// or the device's fault where it can't go out.
-pub fn finish_output<W: Write + Drop>(
-    outcome: Result<(), Fault>,
-    output: &mut GatheringSink<W>,
-) -> Result<(), Fault>
-    ensures out { (output.new.held.items ≡ []) ⊎ (result ≡ Err Fault.Device) }
-    ensures same { (result ≡ outcome) ⊎ ((result ≡ Err Fault.Device)
-        × CountsOne (⟦<GatheringSink<W> as ByteSink>⟧.failures output.old)
-        (⟦<GatheringSink<W> as ByteSink>⟧.failures output.new)) }
-    ensures took { ⟦<GatheringSink<W> as ByteSink>⟧.took output.new
-        ≡ ⟦<GatheringSink<W> as ByteSink>⟧.took output.old }
-{
-    if let Err(Fault::Device) = outcome {
-        return outcome;
-    }
-    match output.finish() {
-        Ok(()) => outcome,
-        Err(_) => Err(Fault::Device),
-    }
 }
 
 /// Says where the fault of a run is, if it came to one, and if that is asked for.

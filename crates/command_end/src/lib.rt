@@ -6,5 +6,5 @@ mod ending;
 mod lines;
 mod places;
 
-pub use ending::{end_run, end_without_memory, finish_output};
+pub use ending::{end_run, end_without_memory};
 pub use places::Devices;

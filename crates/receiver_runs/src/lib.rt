@@ -3,11 +3,10 @@
 
 ghost use Rattle.std.specs.Prelude.{◌≤◌};
 
-use command_end::{Devices, end_run, end_without_memory, finish_output};
+use command_end::{Devices, end_run, end_without_memory};
 use command_line::{MergeWords, ProcessWords};
 use devices::{
-    FileSink, FileSource, GatheringSink, OutputSink, last_begun, named_file, named_files,
-    reading_begun,
+    FileSink, FileSource, OutputSink, last_begun, named_file, named_files, reading_begun,
 };
 use packet_plan::Stamp;
 use receiver_engines::Processing;
@@ -79,13 +78,11 @@ fn processing<'a>(words: &ProcessWords<'a>) -> Processing<'a>
     }
 }
 
-/// Prints what a receiver lacks that was written as a file. What it prints is gathered, since the
-/// file is read whole before the first line.
+/// Prints what a receiver lacks that was written as a file.
 pub fn report(rt: &HostRuntime, name: &str, is_verbose: bool) -> u8 {
     let mut state = FileSource::new(rt, name);
-    let mut output = GatheringSink::new(rt.alloc(), rt.stdout());
+    let mut output = OutputSink::new(rt.stdout());
     let outcome = receiver_engines::report(rt.alloc(), &mut state, &mut output);
-    let outcome = finish_output(outcome, &mut output);
     let devices = Devices {
         sdp: None,
         read: state.begun(),

@@ -1,16 +1,14 @@
 //! The commands that read standard input alone, over the devices of this machine.
 #![tactic(auto)]
 
-use command_end::{Devices, end_run, finish_output};
-use devices::{GatheringSink, InputSource, OutputSink};
+use command_end::{Devices, end_run};
+use devices::{InputSource, OutputSink};
 
-/// Runs the script on standard input. What it prints is gathered, since the script is read whole
-/// before the first line of it.
+/// Runs the script on standard input.
 pub fn trace(rt: &HostRuntime, is_verbose: bool) -> u8 {
     let mut input = InputSource::new(rt.stdin(), kept(rt, is_verbose));
-    let mut output = GatheringSink::new(rt.alloc(), rt.stdout());
+    let mut output = OutputSink::new(rt.stdout());
     let outcome = script_engines::trace(rt.alloc(), &mut input, &mut output);
-    let outcome = finish_output(outcome, &mut output);
     let devices = Devices {
         sdp: None,
         read: Some(input.reading()),
@@ -34,12 +32,11 @@ pub fn sdp(rt: &HostRuntime, is_verbose: bool) -> u8 {
     end_run(rt, is_verbose, outcome, true, &devices, input.kept())
 }
 
-/// Plays the schedule on standard input, and gathers what it prints as [`trace`] does.
+/// Plays the schedule on standard input.
 pub fn rehearse(rt: &HostRuntime, is_verbose: bool) -> u8 {
     let mut input = InputSource::new(rt.stdin(), kept(rt, is_verbose));
-    let mut output = GatheringSink::new(rt.alloc(), rt.stdout());
+    let mut output = OutputSink::new(rt.stdout());
     let outcome = script_engines::rehearse(rt.alloc(), &mut input, &mut output);
-    let outcome = finish_output(outcome, &mut output);
     let devices = Devices {
         sdp: None,
         read: Some(input.reading()),
