@@ -2,13 +2,12 @@
 use Rattle.std.proofs.Common.{◌≡◌, ℕ, suc, ◌+◌, ◌-◌, ◌*◌, ◌%◌, ◌<◌, ◌≤◌, List, [], ◌∷◌, true, false}
 use Rattle.std.proofs.Common.{cond, ltb}
 use Rattle.std.proofs.Common.{length, get_or, refl, sym, ap, subst, ◌∙◌, arith, Ok, None, is_some}
-use Rattle.std.proofs.Common.{true≢false, Fits, w8, inl, inr, ◌≢◌, set}
+use Rattle.std.proofs.Common.{true≢false, Fits, w8, inl, inr}
 use Rattle.std.proofs.lemmas.Bool.Decides.{nat_tests}
 use Rattle.hex.specs.Hex.{decode_of, decode_pairs, hex_digit_value, is_hex_digit, pair_value}
 use Rattle.std.proofs.lemmas.Bool.{cases_lt}
 use Rattle.std.proofs.lemmas.Simd.{Each1-get_or, get_or-chunk, get_or-put_chunk_at}
 use Rattle.std.proofs.lemmas.Simd.{get_or-put_chunk_below}
-use Rattle.std.proofs.lemmas.List.{get_or-set_other, get_or-set_same}
 use Rattle.std.proofs.lemmas.List.Elements.{All-get_or}
 use lib.Lanes.{Each1, chunk, put_chunk}
 use Rattle.hex.proofs.HexLemmas.{decode_of-even, decode_of-ok}
@@ -52,13 +51,13 @@ not_decoded_at text k v within is great said h =
     let passes = All-get_or (λ c. is_hex_digit c ≡ true) text k 0 within all in
     true≢false (sym passes ∙ none_is_no_digit (get_or text k 0) (is.none great))
 
-at_next : (a b : ℕ) (text : List ℕ) (k : ℕ)
+pub at_next : (a b : ℕ) (text : List ℕ) (k : ℕ)
     → get_or (a ∷ b ∷ text) (2 * suc k) 0 ≡ get_or text (2 * k) 0
 at_next a b text k =
     let e : 2 * suc k ≡ suc (suc (2 * k)) = omega arith in
     ap (λ j. get_or (a ∷ b ∷ text) j 0) e
 
-behind_next : (a b : ℕ) (text : List ℕ) (k : ℕ)
+pub behind_next : (a b : ℕ) (text : List ℕ) (k : ℕ)
     → get_or (a ∷ b ∷ text) (2 * suc k + 1) 0 ≡ get_or text (2 * k + 1) 0
 behind_next a b text k =
     let e : 2 * suc k + 1 ≡ suc (suc (2 * k + 1)) = omega arith in
@@ -92,23 +91,6 @@ whole_decoded text octets n long all each =
     let at : 0 + 2 * k ≡ 2 * k = omega arith in
     ap (pair_value (get_or text (2 * k) 0) (get_or text (2 * k + 1) 0)) at
     ∙ each k (omega arith))
-
--- an octet more is decoded
-pub one_more : (text octets : List ℕ) (i high low : ℕ) → i < length octets
-    → IsDigitValue (get_or text (2 * i) 0) high → IsDigitValue (get_or text (2 * i + 1) 0) low
-    → high < 16 → low < 16 → AreDecoded text i octets
-    → AreDecoded text (i + 1) (set octets i (high * 16 + low))
-one_more text octets i high low within p q x y done k h = elim (cases_lt k i) [
-  | inl l ↦
-      let other : k ≢ i = omega arith in
-      done k l ∙ ap Ok (sym (get_or-set_other octets i k (high * 16 + low) 0 other))
-  | inr g ↦
-      let same : i ≡ k = omega arith in
-      subst (λ j. pair_value (get_or text (2 * j) 0) (get_or text (2 * j + 1) 0) (2 * j)
-      ≡ Ok (get_or (set octets i (high * 16 + low)) j 0)) same
-      (pair_is (get_or text (2 * i) 0) (get_or text (2 * i + 1) 0) high low (2 * i) p q x y
-      ∙ ap Ok (sym (get_or-set_same octets i (high * 16 + low) 0 within)))
-]
 
 -- what is loaded at i holds values that a text's octets have
 pub value_at_place : (text values : List ℕ) (i k : ℕ) → k < 32

@@ -1,6 +1,7 @@
 mod MaskLemmas
 mod LaneLemmas
 mod DigitLemmas
+mod RestLemmas
 mod LineLemmas
 mod FrameLemmas
 mod FormLemmas

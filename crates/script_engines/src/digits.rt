@@ -1,50 +1,49 @@
-//! Octets as hexadecimal digits: many are read at a time, since most of a long script is digits.
+//! Octets as hexadecimal digits: `hex` reads them, behind whole blocks that are read at a time,
+//! since most of a long script is digits.
 ghost use Rattle.std.specs.Prelude.{◌≡◌, ◌≤◌, ◌<◌, ◌+◌, ◌*◌, ◌/◌, ℕ, List, Ok, IsFalse, IsTrue};
 ghost use Rattle.std.specs.Prelude.{length, slice_index};
 ghost use Rattle.hex.specs.Hex.{decode_of};
-ghost use Rattle.script_engines.specs.Digits.{AreDecoded, AreDigitValues, IsDigitValue};
-ghost use Rattle.script_engines.specs.Digits.{IsNotDecoded};
+ghost use Rattle.script_engines.specs.Digits.{AreDecoded, AreDigitValues, IsNotDecoded};
 
 use std::simd::prelude::*;
 
 /// Decodes hexadecimal digits, and tells whether they are those of just as many octets as there is
 /// room for.
 ///
-/// The last sixteen octets are a block too, of which some were decoded before.
+/// The blocks of digits that a text begins with are read at a time; `hex` reads all that is behind
+/// them, and is what says of a text that it isn't one of digits.
 pub(crate) fn decodes(text: &[u8], octets: &mut [u8]) -> bool
     ensures room { length octets.new ≡ length octets.old }
     ensures is { IsTrue result → decode_of text.now ≡ Ok octets.new }
     ensures none { IsFalse result → (said : List ℕ) → length said ≡ length octets.old
         → decode_of text.now ≡ Ok said → ⊥ }
 {
-    if text.len() % 2 != 0 {
-        return false;
-    }
-    if text.len() / 2 != octets.len() {
-        return false;
-    }
-    if octets.len() < 16 {
-        return decode_few(text, octets);
-    }
-    decode_blocks(text, octets) && decode_block(text, octets, octets.len() - 16)
+    let done = decode_blocks(text, octets);
+    hex::decode_to_slice(&text[2 * done..], &mut octets[done..]).is_ok()
 }
 
-/// Decodes sixteen octets at a time, as many as there are, and tells whether all are digits.
-fn decode_blocks(text: &[u8], octets: &mut [u8]) -> bool
-    requires { length text.now ≡ 2 * length octets.old }
+/// Decodes sixteen octets at a time, up to the first of these blocks with an octet that is no
+/// digit, and answers how many octets those are: none of a text that isn't twice as long as the
+/// room.
+fn decode_blocks(text: &[u8], octets: &mut [u8]) -> usize
+    ensures within { result ≤ length octets.old }
+    ensures twice { 2 * result ≤ length text.now }
     ensures room { length octets.new ≡ length octets.old }
-    ensures is { IsTrue result → AreDecoded text.now (length octets.old / 16 * 16) octets.new }
-    ensures none { IsFalse result → IsNotDecoded text.now }
+    ensures is { AreDecoded text.now result octets.new }
 {
+    if text.len() % 2 != 0 || text.len() / 2 != octets.len() {
+        return 0;
+    }
     for i in 0..octets.len() / 16 {
         if !decode_block(text, octets, 16 * i) {
-            return false;
+            return 16 * i;
         }
     }
-    true
+    octets.len() / 16 * 16
 }
 
-/// Decodes the sixteen octets from an index on, and tells whether all are digits.
+/// Decodes the sixteen octets from an index on, and tells whether all are digits. Where they aren't
+/// it writes none.
 #[inline(always)]
 fn decode_block(text: &[u8], octets: &mut [u8], at: usize) -> bool
     requires long { length text.now ≡ 2 * length octets.old }
@@ -53,6 +52,7 @@ fn decode_block(text: &[u8], octets: &mut [u8], at: usize) -> bool
     ensures is { IsTrue result → AreDecoded text.now at octets.old
         → AreDecoded text.now (at + 16) octets.new }
     ensures none { IsFalse result → IsNotDecoded text.now }
+    ensures same { IsFalse result → octets.new ≡ octets.old }
 {
     let values = digit_values(u8x32::from_slice(&text[2 * at..]));
     if !are_values(values) {
@@ -60,39 +60,6 @@ fn decode_block(text: &[u8], octets: &mut [u8], at: usize) -> bool
     }
     octets_of(values).copy_to_slice(&mut octets[at..]);
     true
-}
-
-/// Decodes octet by octet, and tells whether all are digits.
-fn decode_few(text: &[u8], octets: &mut [u8]) -> bool
-    requires { length text.now ≡ 2 * length octets.old }
-    ensures room { length octets.new ≡ length octets.old }
-    ensures is { IsTrue result → AreDecoded text.now (length octets.old) octets.new }
-    ensures none { IsFalse result → IsNotDecoded text.now }
-{
-    for i in 0..octets.len() {
-        let high = digit_value(text[2 * i]);
-        let low = digit_value(text[2 * i + 1]);
-        if high.max(low) >= 16 {
-            return false;
-        }
-        octets[i] = high * 16 + low;
-    }
-    true
-}
-
-/// The value of a digit, in either case; 16 or more of what is none.
-///
-/// What isn't decimal is taken for a letter, by how far it stands behind the A of the nearer case:
-/// at six and more it is no digit.
-#[inline(always)]
-fn digit_value(digit: u8) -> u8
-    ensures { IsDigitValue digit result }
-{
-    let decimal = digit.wrapping_sub(b'0');
-    let upper = digit.wrapping_sub(b'A');
-    let lower = digit.wrapping_sub(b'a');
-    let letter = upper.min(lower).wrapping_add(10);
-    if decimal < 10 { decimal } else { letter }
 }
 
 /// The values of 32 digits.

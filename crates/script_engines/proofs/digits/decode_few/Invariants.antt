@@ -1,5 +1,0 @@
-use Rattle.script_engines.specs.Digits.{AreDecoded}
-use Rattle.script_engines.proofs.digits.decode_few.Given as goal
-
-abbrev pub invariant-loop-i : goal.invariant-loop-i
-invariant-loop-i l = AreDecoded l.text l.i l.octets
