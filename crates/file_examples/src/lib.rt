@@ -34,6 +34,8 @@ mod looping;
 #[cfg(test)]
 mod picture_files;
 #[cfg(test)]
+mod printed_writes;
+#[cfg(test)]
 mod receiver_asking;
 #[cfg(test)]
 mod receiver_files;
@@ -51,3 +53,5 @@ mod report;
 mod running;
 #[cfg(test)]
 mod sdp_runs;
+#[cfg(test)]
+mod traced_lines;
