@@ -4,6 +4,7 @@ pub mod Marks
 pub mod Kinds
 pub mod Written
 pub mod Settled
+pub mod Patterns
 pub mod Missing
 pub mod ContestedSamples
 pub mod CountsText

@@ -11,6 +11,7 @@ ghost use Rattle.st_format.specs.declared.cell.Cell.TheVariants.{Value};
 ghost use Rattle.st_format.specs.Cell.{known_value, is_contested, is_missing, is_present, join};
 ghost use Rattle.frame_assembly.specs.Rows.{GroupsAreWhole, IsMarkOf, IsStateOf, given_cells};
 ghost use Rattle.frame_assembly.specs.Rows.{group_cells, replaced_cells, row_cells};
+ghost use Rattle.frame_assembly.specs.Patterns.{IsPatternOf};
 ghost use Rattle.frame_assembly.specs.Settled.{IsBaseOf, settled_picture};
 ghost use Rattle.pgroup_pack.specs.Groups.{blanked_samples};
 ghost use Rattle.payload_header.specs.View.{segments_of};
@@ -34,7 +35,7 @@ use crate::groups::{join_run, same_groups};
 use crate::joining::{group_total, join_segments};
 use crate::missing::MissingRuns;
 use crate::rows::{group_of, marks_of_row, octets_of_row, set_group_of, set_groups_of};
-use crate::settling::{base_facts, settle_run, settled_samples};
+use crate::settling::{base_facts, base_pattern, settle_run, settle_run_over, settled_samples};
 use crate::state::GroupState;
 use payload_header::PayloadView;
 use st_format::{Cell, Format, Picture};
@@ -258,6 +259,48 @@ impl<A: Allocator> Frame<A> {
             first,
             count,
             base,
+            samples,
+        );
+    }
+
+    /// Makes the pattern of a base for [`settle_groups_over`](Frame::settle_groups_over): it is made
+    /// once for any number of calls. `pattern` has 768 samples; it stays where the base is a picture
+    /// that is held.
+    pub fn base_pattern<C: Allocator>(&self, base: Base<'_, C>, pattern: &mut [u16])
+        requires { length pattern.old ≡ 768 }
+        ensures { IsPatternOf base.entry self.now.format.sampling pattern.new }
+    {
+        base_pattern(self.format.sampling, base, pattern);
+    }
+
+    /// The same as [`settle_groups`](Frame::settle_groups), over a base whose pattern was made.
+    pub fn settle_groups_over<C: Allocator>(
+        &self,
+        first: usize,
+        count: usize,
+        base: Base<'_, C>,
+        pattern: &[u16],
+        samples: &mut [u16],
+    )
+        requires base { IsBaseOf base self.now.format }
+        requires pattern { IsPatternOf base self.now.format.sampling pattern.now }
+        requires long { length pattern.now ≡ 768 }
+        requires inside { first + count ≤ group_count self.now.format }
+        requires room { length samples.old
+            ≡ (pixel_group self.now.format.sampling self.now.format.depth).samples * count }
+        ensures settled { samples.new
+            ≡ take ((pixel_group self.now.format.sampling self.now.format.depth).samples * count)
+            (drop ((pixel_group self.now.format.sampling self.now.format.depth).samples * first)
+            (settled_picture self.now base.entry).samples) }
+    {
+        settle_run_over(
+            &self.format,
+            self.marks.as_slice(),
+            self.octets.as_slice(),
+            first,
+            count,
+            base,
+            pattern,
             samples,
         );
     }

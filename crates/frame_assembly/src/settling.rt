@@ -3,6 +3,7 @@ ghost use Rattle.std.specs.Prelude.{◌≡◌, ◌<◌, ◌≤◌, ◌+◌, ◌-
 ghost use Rattle.std.specs.Prelude.{drop, length, map, slice_index, take};
 ghost use Rattle.std.specs.List.{range_with_len};
 ghost use Rattle.frame_assembly.specs.Packed.{ArePacked, cells_in, marked};
+ghost use Rattle.frame_assembly.specs.Patterns.{IsPatternOf};
 ghost use Rattle.frame_assembly.specs.Settled.{HoldsPicture, IsBaseOf, IsSettledTo, base_number};
 ghost use Rattle.frame_assembly.specs.Settled.{settled_cell, settled_numbers};
 ghost use Rattle.st_format.specs.Pgroup.{pixel_group};
@@ -15,7 +16,7 @@ use pgroup_pack::unpack;
 use st_format::{Cell, Format, Sampling, fill_samples};
 use std::alloc::{AllocError, Allocator};
 
-/// How many samples a block of groups has at most: a group has 12 or fewer.
+/// How many samples a block of groups has at most, and a pattern: a group has 12 or fewer.
 const BLOCK_SAMPLES: usize = 768;
 
 /// Samples after which the components of each sampling come again.
@@ -65,7 +66,9 @@ fn read_settled<C: Allocator>(
     ensures held { HoldsPicture base.entry }
 {
     unpack(format, octets, samples);
-    settle_over(format, marks, 0, base, samples);
+    let mut pattern = [0; BLOCK_SAMPLES];
+    base_pattern(format.sampling, base, &mut pattern);
+    settle_over(format, marks, 0, base, &pattern, samples);
 }
 
 /// The same of the cells of `count` groups, from the one of number `first` on.
@@ -91,6 +94,37 @@ pub fn settle_run<C: Allocator>(
         (settled_numbers (cells_in format.now marks.now octets.now)
         (base_number format.now.sampling base.entry))) }
 {
+    let mut pattern = [0; BLOCK_SAMPLES];
+    base_pattern(format.sampling, base, &mut pattern);
+    settle_run_over(format, marks, octets, first, count, base, &pattern, samples);
+}
+
+/// The same over a base whose pattern was made.
+pub fn settle_run_over<C: Allocator>(
+    format: &Format,
+    marks: &[u16],
+    octets: &[u8],
+    first: usize,
+    count: usize,
+    base: Base<'_, C>,
+    pattern: &[u16],
+    samples: &mut [u16],
+)
+    requires packed { ArePacked format.now marks.now octets.now }
+    requires few { length marks.now ≤ 8192 * 8192 }
+    requires groups { length marks.now ≡ group_count format.now }
+    requires base { IsBaseOf base format.now }
+    requires pattern { IsPatternOf base format.now.sampling pattern.now }
+    requires long { length pattern.now ≡ 768 }
+    requires inside { first + count ≤ length marks.now }
+    requires samples { length samples.old
+        ≡ (pixel_group format.now.sampling format.now.depth).samples * count }
+    ensures settled { samples.new
+        ≡ take ((pixel_group format.now.sampling format.now.depth).samples * count)
+        (drop ((pixel_group format.now.sampling format.now.depth).samples * first)
+        (settled_numbers (cells_in format.now marks.now octets.now)
+        (base_number format.now.sampling base.entry))) }
+{
     let size = format.pgroup().octets;
     unpack(
         format,
@@ -99,7 +133,7 @@ pub fn settle_run<C: Allocator>(
     );
     let of_run = &marks[first..first + count];
     if !are_whole(of_run) {
-        settle_over(format, of_run, first, base, samples);
+        settle_over(format, of_run, first, base, pattern, samples);
     }
 }
 
@@ -123,11 +157,14 @@ fn settle_over<C: Allocator>(
     marks: &[u16],
     first: usize,
     base: Base<'_, C>,
+    pattern: &[u16],
     samples: &mut [u16],
 )
     requires few { length marks.now ≤ 8192 * 8192 }
     requires groups { first + length marks.now ≤ group_count format.now }
     requires base { IsBaseOf base format.now }
+    requires pattern { IsPatternOf base format.now.sampling pattern.now }
+    requires long { length pattern.now ≡ 768 }
     requires samples { length samples.old
         ≡ (pixel_group format.now.sampling format.now.depth).samples * length marks.now }
     ensures settled { IsSettledTo (pixel_group format.now.sampling format.now.depth).samples
@@ -139,15 +176,23 @@ fn settle_over<C: Allocator>(
 {
     let of_group = format.pgroup().samples;
     match base {
-        Base::Fill(fill) => {
-            let mut pattern = [0; BLOCK_SAMPLES];
-            fill_pattern(format.sampling, fill, &mut pattern);
-            settle_over_pattern(of_group, marks, &pattern, samples);
-        }
+        Base::Fill(_fill) => settle_over_pattern(of_group, marks, pattern, samples),
         Base::Hold(picture) => {
             let held = &picture.samples()[of_group * first..];
             settle_over_held(of_group, marks, held, samples);
         }
+    }
+}
+
+/// Makes the pattern of a base: a fill's value for each sample of a block. A picture that is held
+/// has its own, and `pattern` stays.
+pub fn base_pattern<C: Allocator>(sampling: Sampling, base: Base<'_, C>, pattern: &mut [u16])
+    requires { length pattern.old ≡ 768 }
+    ensures { IsPatternOf base.entry sampling pattern.new }
+{
+    match base {
+        Base::Fill(fill) => fill_pattern(sampling, fill, pattern),
+        Base::Hold(_) => {}
     }
 }
 

@@ -45,7 +45,7 @@ pub returns-in-Fill-clause-settled : goal.returns-in-Fill-clause-settled
 returns-in-Fill-clause-settled g c =
     let f = c.args.format.now in
     let s : ℕ = (pixel_group f.sampling f.depth).samples in
-    let fill : List ℕ = c.in-Fill.fill in
+    let fill : List ℕ = c.in-Fill._fill in
     rw c.in-Fill.is
     (same_base s (length c.args.marks.now) c.args.marks.now
     (λ (k : ℕ). get_or fill (component_in_row f.sampling k) 0)
@@ -53,9 +53,10 @@ returns-in-Fill-clause-settled g c =
     c.args.samples.now c.settle_over_pattern.new.samples
     (λ k. ap (λ (x : ℕ). get_or fill x 0) (sym (component_on f.sampling f.depth c.args.first k)))
     (pattern_settled c.args.format.now c.pgroup-of_group.result.samples
-    (length c.args.marks.now) c.args.marks.now c.in-Fill.fill c.fill_pattern.new.pattern
+    (length c.args.marks.now) c.args.marks.now fill c.args.pattern.now
     c.args.samples.now
-    c.settle_over_pattern.new.samples c.pgroup-of_group.ensures.samples c.fill_pattern.ensures
+    c.settle_over_pattern.new.samples c.pgroup-of_group.ensures.samples
+    (c.requires.pattern fill c.in-Fill.is)
     c.settle_over_pattern.ensures))
 
 pub settle_over_pattern-requires-clause-few : goal.settle_over_pattern-requires-clause-few

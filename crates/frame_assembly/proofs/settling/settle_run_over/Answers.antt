@@ -4,7 +4,7 @@ use Rattle.frame_assembly.specs.Settled.{base_number}
 use Rattle.frame_assembly.proofs.PackedLemmas.{sizes}
 use Rattle.frame_assembly.proofs.SettleSteps.{whole_settled}
 use Rattle.frame_assembly.proofs.SettledRuns.{run_settled}
-use Rattle.frame_assembly.proofs.settling.settle_run.Goals as goal
+use Rattle.frame_assembly.proofs.settling.settle_run_over.Goals as goal
 
 pub returns-then-not-are_whole : goal.returns-then-not-are_whole
 returns-then-not-are_whole g c =
