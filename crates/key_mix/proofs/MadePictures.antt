@@ -25,16 +25,22 @@ use Rattle.key_mix.specs.Rows.{keyed_at}
 use Rattle.key_mix.specs.declared.making.Making.{Making}
 use Rattle.key_mix.specs.declared.making.Making.TheVariants.{Keyed, Matrixed}
 use Rattle.key_mix.specs.declared.sending.JobInput.{JobInput}
+use Rattle.key_mix.specs.declared.source.Source.{Source}
 use Rattle.key_mix.proofs.MadeParts.{made_here}
 use Rattle.key_mix.proofs.Pictures.{keyed_picture}
 
-pub keyed_made : {A : Type 0} (a b by : JobInput A) (f : Format) → f ≡ a.frame.now.format
-    → f ≡ b.frame.now.format → f ≡ by.frame.now.format → IsPicture (settled a)
-    → IsPicture (settled b)
-    → IsPicture (made_picture f (Keyed a b by))
-    × IsOf a.frame.now.format (key_value (settled a) (settled b) (settled by))
-    (made_picture f (Keyed a b by))
-keyed_made a b by f of_a of_b of_by pa pb =
+-- what is made of a source's input is what is made of the input
+keyed_sources : {A : Type 0} (x y z : Source A) (f : Format) → f ≡ x.input.frame.now.format
+    → f ≡ y.input.frame.now.format → f ≡ z.input.frame.now.format → IsPicture (settled x.input)
+    → IsPicture (settled y.input)
+    → IsPicture (made_picture f (Keyed x y z))
+    × IsOf x.input.frame.now.format
+    (key_value (settled x.input) (settled y.input) (settled z.input))
+    (made_picture f (Keyed x y z))
+keyed_sources {A} x y z f of_a of_b of_by pa pb =
+    let a : JobInput A = x.input in
+    let b : JobInput A = y.input in
+    let by : JobInput A = z.input in
     let new : List ℕ = map (keyed_number a b by) (range_with_len 0 (sample_count f)) in
     let long : length new ≡ sample_count f =
     length-map-range_with_len (keyed_number a b by) 0 (sample_count f) in
@@ -51,12 +57,31 @@ keyed_made a b by f of_a of_b of_by pa pb =
     × IsOf a.frame.now.format (key_value (settled a) (settled b) (settled by))
     (record { format = h; samples = new })) (sym of_a) is
 
-pub matrixed_made : {A : Type 0} (rgb : JobInput A) (f : Format)
-    → rgb.frame.now.format.sampling ≡ Rgb
-    → IsResampled f rgb.frame.now.format Ycc444 → IsPicture (settled rgb)
-    → IsPicture (made_picture f (Matrixed rgb))
-    × IsOf f (ycc444_value (settled rgb)) (made_picture f (Matrixed rgb))
-matrixed_made rgb f is_rgb resampled picture =
+pub keyed_made : {A : Type 0} (x y z : Source A) (a b by : JobInput A) (f : Format)
+    → x.input ≡ a → y.input ≡ b → z.input ≡ by → f ≡ a.frame.now.format
+    → f ≡ b.frame.now.format → f ≡ by.frame.now.format → IsPicture (settled a)
+    → IsPicture (settled b)
+    → IsPicture (made_picture f (Keyed x y z))
+    × IsOf a.frame.now.format (key_value (settled a) (settled b) (settled by))
+    (made_picture f (Keyed x y z))
+keyed_made {A} x y z a b by f is_a is_b is_by =
+    let m : Values = made_picture f (Keyed x y z) in
+    let Made : JobInput A → JobInput A → JobInput A → Type 0 = λ p q r. f ≡ p.frame.now.format
+    → f ≡ q.frame.now.format → f ≡ r.frame.now.format → IsPicture (settled p)
+    → IsPicture (settled q)
+    → IsPicture m
+    × IsOf p.frame.now.format (key_value (settled p) (settled q) (settled r)) m in
+    subst (λ (p : JobInput A). Made p b by) is_a
+    (subst (λ (q : JobInput A). Made x.input q by) is_b
+    (subst (λ (r : JobInput A). Made x.input y.input r) is_by (keyed_sources x y z f)))
+
+matrixed_source : {A : Type 0} (x : Source A) (f : Format)
+    → x.input.frame.now.format.sampling ≡ Rgb
+    → IsResampled f x.input.frame.now.format Ycc444 → IsPicture (settled x.input)
+    → IsPicture (made_picture f (Matrixed x))
+    × IsOf f (ycc444_value (settled x.input)) (made_picture f (Matrixed x))
+matrixed_source {A} x f is_rgb resampled picture =
+    let rgb : JobInput A = x.input in
     let new : List ℕ = map (matrixed_number rgb) (range_with_len 0 (sample_count f)) in
     let long : length new ≡ sample_count f =
     length-map-range_with_len (matrixed_number rgb) 0 (sample_count f) in
@@ -64,6 +89,17 @@ matrixed_made rgb f is_rgb resampled picture =
     (long ∙ sym (picture.whole ∙ sym (count_same rgb.frame.now.format f is_rgb resampled)))
     (λ k h. get_or-map-range_with_len (matrixed_number rgb) 0 (sample_count f) k k 0
     (omega (arith, h, long)) (omega arith))
+
+pub matrixed_made : {A : Type 0} (x : Source A) (rgb : JobInput A) (f : Format) → x.input ≡ rgb
+    → rgb.frame.now.format.sampling ≡ Rgb
+    → IsResampled f rgb.frame.now.format Ycc444 → IsPicture (settled rgb)
+    → IsPicture (made_picture f (Matrixed x))
+    × IsOf f (ycc444_value (settled rgb)) (made_picture f (Matrixed x))
+matrixed_made {A} x rgb f is =
+    subst (λ (p : JobInput A). p.frame.now.format.sampling ≡ Rgb
+    → IsResampled f p.frame.now.format Ycc444 → IsPicture (settled p)
+    → IsPicture (made_picture f (Matrixed x))
+    × IsOf f (ycc444_value (settled p)) (made_picture f (Matrixed x))) is (matrixed_source x f)
 
 -- ---- parts
 

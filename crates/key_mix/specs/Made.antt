@@ -30,8 +30,8 @@ matrixed_number rgb k = matrixed_at (bits_of rgb.frame.now.format.depth) (settle
 
 -- sample number k of what is made
 abbrev pub made_number : {A : Type 0} → Making A → ℕ → ℕ
-made_number (Keyed a b by) k = keyed_number a b by k
-made_number (Matrixed rgb) k = matrixed_number rgb k
+made_number (Keyed a b by) k = keyed_number a.input b.input by.input k
+made_number (Matrixed rgb) k = matrixed_number rgb.input k
 
 -- the picture of a format that is made
 abbrev pub made_picture : {A : Type 0} → Format → Making A → Values
@@ -56,8 +56,8 @@ pub record IsMatrixedOf {A : Type 0} (f : Format) (rgb : JobInput A) : Type 0 wh
 
 -- inputs of which a picture of the format is made
 abbrev pub AreInputs : {A : Type 0} → Format → Making A → Type 0
-AreInputs f (Keyed a b by) = AreMadeOf f a b by
-AreInputs f (Matrixed rgb) = IsMatrixedOf f rgb
+AreInputs f (Keyed a b by) = AreMadeOf f a.input b.input by.input
+AreInputs f (Matrixed rgb) = IsMatrixedOf f rgb.input
 
 -- What is made is a picture
 pub record IsMade {A : Type 0} (f : Format) (m : Making A) : Type 0 where

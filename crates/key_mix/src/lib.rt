@@ -8,6 +8,7 @@ mod keys;
 mod making;
 mod rows;
 mod sending;
+mod source;
 mod wipes;
 
 use bt709_fixed::RangeKind;

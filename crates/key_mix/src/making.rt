@@ -14,6 +14,7 @@ ghost use Rattle.key_mix.specs.Sending.{HasBase, input_formats, settled_inputs};
 ghost use Rattle.key_mix.specs.declared.Job.TheVariants.{Key, ToYcc444};
 
 use crate::keys::row_keys;
+use crate::source::Source;
 use crate::{Job, JobInput};
 use bt709_fixed::scale_of;
 use packet_plan::{PacketRun, Raster};
@@ -25,13 +26,22 @@ use std::marker::Model;
 /// How many samples are made at a time: a pgroup has 12 or fewer.
 const PART: usize = 768;
 
+/// Room for the samples of a part of each of four kinds: two inputs, keys, and what is made.
+const ROOM: usize = 3072;
+
+/// How many samples a short part has at most: room for it is made in a third of the time.
+const SHORT_PART: usize = 256;
+
+/// Room for those.
+const SHORT_ROOM: usize = 1024;
+
 /// What the samples of a picture are made of.
 #[derive(Drop)]
 enum Making<'a, A: Allocator> {
     /// Two inputs, mixed by the lumas of a third: all of one format.
-    Keyed(JobInput<'a, A>, JobInput<'a, A>, JobInput<'a, A>),
+    Keyed(Source<'a, A>, Source<'a, A>, Source<'a, A>),
     /// An input of R, G and B, which become Y, Cb and Cr.
-    Matrixed(JobInput<'a, A>),
+    Matrixed(Source<'a, A>),
 }
 
 /// A job's picture whose samples are made of its inputs' frames where they are asked for. Contracts
@@ -74,9 +84,11 @@ impl<'a, A: Allocator> MadePicture<'a, A> {
     }
 
     /// Makes the samples of `count` pgroups, from the one of number `first` in raster order.
-    fn make(&self, first: usize, count: usize, out: &mut [u16])
+    /// `rooms` has room for three times as many.
+    fn make(&self, first: usize, count: usize, rooms: &mut [u16], out: &mut [u16])
         requires inside { first + count ≤ group_count self.now.format }
         requires few { length out.old ≤ 768 }
+        requires rooms { 3 * length out.old ≤ length rooms.old }
         requires room { length out.old
             ≡ (pixel_group self.now.format.sampling self.now.format.depth).samples * count }
         ensures { out.new
@@ -85,12 +97,32 @@ impl<'a, A: Allocator> MadePicture<'a, A> {
             self.now.samples) }
     {
         match &self.making {
-            Making::Keyed(a, b, by) => make_keyed(a, b, by, first, count, out),
-            Making::Matrixed(rgb) => make_matrixed(rgb, first, count, out),
+            Making::Keyed(a, b, by) => make_keyed(a, b, by, first, count, rooms, out),
+            Making::Matrixed(rgb) => make_matrixed(rgb, first, count, rooms, out),
         }
     }
 
-    /// Writes the octets of the same pgroups.
+    /// Writes the octets of the same pgroups. `rooms` has room for four times as many samples.
+    #[inline(always)]
+    fn write_part_in(&self, first: usize, count: usize, rooms: &mut [u16], octets: &mut [u8])
+        requires inside { first + count ≤ group_count self.now.format }
+        requires few { (pixel_group self.now.format.sampling self.now.format.depth).samples * count
+            ≤ 768 }
+        requires rooms { 4 * ((pixel_group self.now.format.sampling self.now.format.depth).samples
+            * count) ≤ length rooms.old }
+        requires room { length octets.old
+            ≡ (pixel_group self.now.format.sampling self.now.format.depth).octets * count }
+        ensures { Spells (bits_of self.now.format.depth) octets.new
+            (take ((pixel_group self.now.format.sampling self.now.format.depth).samples * count)
+            (drop ((pixel_group self.now.format.sampling self.now.format.depth).samples * first)
+            self.now.samples)) }
+    {
+        let (made, rest) = rooms.split_at_mut(self.format.pgroup().samples * count);
+        self.make(first, count, rest, made);
+        pack(&self.format, made, octets);
+    }
+
+    /// The same in room of its own.
     fn write_part(&self, first: usize, count: usize, octets: &mut [u8])
         requires inside { first + count ≤ group_count self.now.format }
         requires few { (pixel_group self.now.format.sampling self.now.format.depth).samples * count
@@ -102,10 +134,13 @@ impl<'a, A: Allocator> MadePicture<'a, A> {
             (drop ((pixel_group self.now.format.sampling self.now.format.depth).samples * first)
             self.now.samples)) }
     {
-        let mut room = [0; PART];
-        let made = &mut room[..self.format.pgroup().samples * count];
-        self.make(first, count, made);
-        pack(&self.format, made, octets);
+        if self.format.pgroup().samples * count <= SHORT_PART {
+            let mut rooms = [0; SHORT_ROOM];
+            self.write_part_in(first, count, &mut rooms, octets);
+        } else {
+            let mut rooms = [0; ROOM];
+            self.write_part_in(first, count, &mut rooms, octets);
+        }
     }
 
     /// The same of any number of pgroups, part after part.
@@ -172,7 +207,7 @@ fn keyed<'a, A: Allocator>(
     by.frame.settled_facts(by.base);
     Some(MadePicture {
         format,
-        making: Making::Keyed(*a, *b, *by),
+        making: Making::Keyed(Source::new(a), Source::new(b), Source::new(by)),
     })
 }
 
@@ -189,62 +224,69 @@ fn matrixed<'a, A: Allocator>(rgb: &JobInput<'a, A>, format: Format) -> Option<M
     rgb.frame.settled_facts(rgb.base);
     Some(MadePicture {
         format,
-        making: Making::Matrixed(*rgb),
+        making: Making::Matrixed(Source::new(rgb)),
     })
 }
 
 /// Makes keyed samples. The lumas of the third input stand in `out` before they are mixed over.
 fn make_keyed<A: Allocator>(
-    a: &JobInput<'_, A>,
-    b: &JobInput<'_, A>,
-    by: &JobInput<'_, A>,
+    a: &Source<'_, A>,
+    b: &Source<'_, A>,
+    by: &Source<'_, A>,
     first: usize,
     count: usize,
+    rooms: &mut [u16],
     out: &mut [u16],
 )
-    requires inputs { AreMadeOf a.now.frame.now.format a.now b.now by.now }
-    requires inside { first + count ≤ group_count a.now.frame.now.format }
+    requires inputs { AreMadeOf a.now.input.frame.now.format a.now.input b.now.input by.now.input }
+    requires inside { first + count ≤ group_count a.now.input.frame.now.format }
     requires few { length out.old ≤ 768 }
+    requires rooms { 3 * length out.old ≤ length rooms.old }
     requires room { length out.old
-        ≡ (pixel_group a.now.frame.now.format.sampling a.now.frame.now.format.depth).samples
-        * count }
+        ≡ (pixel_group a.now.input.frame.now.format.sampling
+        a.now.input.frame.now.format.depth).samples * count }
     ensures long { length out.new ≡ length out.old }
     ensures each { EachIndex out.new (λ k. slice_index out.new k
-        ≡ keyed_number a.now b.now by.now
-        ((pixel_group a.now.frame.now.format.sampling a.now.frame.now.format.depth).samples
-        * first + k)) }
+        ≡ keyed_number a.now.input b.now.input by.now.input
+        ((pixel_group a.now.input.frame.now.format.sampling
+        a.now.input.frame.now.format.depth).samples * first + k)) }
 {
-    let format = a.frame.format();
+    let format = a.input.frame.format();
     let scale = scale_of(format.depth());
-    let (mut of_a, mut of_b, mut of_keys) = ([0; PART], [0; PART], [0; PART]);
-    let from = &mut of_a[..out.len()];
-    let to = &mut of_b[..out.len()];
-    let keys = &mut of_keys[..out.len()];
-    a.frame.settle_groups(first, count, a.base, from);
-    b.frame.settle_groups(first, count, b.base, to);
-    by.frame.settle_groups(first, count, by.base, out);
+    let long = out.len();
+    let (from, rest) = rooms.split_at_mut(long);
+    let (to, rest) = rest.split_at_mut(long);
+    let keys = &mut rest[..long];
+    a.settle(first, count, from);
+    b.settle(first, count, to);
+    by.settle(first, count, out);
     row_keys(format.sampling(), format.sampling(), scale, out, keys);
     lane_kernels::key_mix(from, to, keys, 219 * scale, out);
 }
 
 /// Makes samples of Y, Cb and Cr.
-fn make_matrixed<A: Allocator>(rgb: &JobInput<'_, A>, first: usize, count: usize, out: &mut [u16])
-    requires base { HasBase rgb.now }
-    requires rgb { rgb.now.frame.now.format.sampling ≡ Rgb }
-    requires picture { IsPicture (settled rgb.now) }
-    requires inside { first + count ≤ group_count rgb.now.frame.now.format }
-    requires few { length out.old ≤ 768 }
+fn make_matrixed<A: Allocator>(
+    rgb: &Source<'_, A>,
+    first: usize,
+    count: usize,
+    rooms: &mut [u16],
+    out: &mut [u16],
+)
+    requires base { HasBase rgb.now.input }
+    requires rgb { rgb.now.input.frame.now.format.sampling ≡ Rgb }
+    requires picture { IsPicture (settled rgb.now.input) }
+    requires inside { first + count ≤ group_count rgb.now.input.frame.now.format }
+    requires rooms { 3 * length out.old ≤ length rooms.old }
     requires room { length out.old
-        ≡ (pixel_group rgb.now.frame.now.format.sampling rgb.now.frame.now.format.depth).samples
-        * count }
+        ≡ (pixel_group rgb.now.input.frame.now.format.sampling
+        rgb.now.input.frame.now.format.depth).samples * count }
     ensures long { length out.new ≡ length out.old }
     ensures each { EachIndex out.new (λ k. slice_index out.new k
-        ≡ matrixed_number rgb.now
-        ((pixel_group rgb.now.frame.now.format.sampling rgb.now.frame.now.format.depth).samples
-        * first + k)) }
+        ≡ matrixed_number rgb.now.input
+        ((pixel_group rgb.now.input.frame.now.format.sampling
+        rgb.now.input.frame.now.format.depth).samples * first + k)) }
 {
-    let mut room = [0; PART];
-    let pixels = &mut room[..out.len()];
-    rgb.frame.settle_groups(first, count, rgb.base, pixels);
-    lane_kernels::ycc709(pixels, rgb.frame.format().depth().bits(), out);
+    let pixels = &mut rooms[..out.len()];
+    rgb.settle(first, count, pixels);
+    lane_kernels::ycc709(pixels, rgb.input.frame.format().depth().bits(), out);
 }

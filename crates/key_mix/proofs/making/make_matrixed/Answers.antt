@@ -9,7 +9,7 @@ use Rattle.key_mix.proofs.making.make_matrixed.Goals as goal
 
 pub returns-clause-each : goal.returns-clause-each
 returns-clause-each g c = λ i lt.
-    let rgb = c.args.rgb.now in
+    let rgb = c.args.rgb.now.input in
     let f : Format = rgb.frame.now.format in
     let n : ℕ = (pixel_group f.sampling f.depth).samples * c.args.count in
     let below : i < n = omega (arith, lt, c.ycc709.ensures.long, c.requires.room) in
@@ -17,5 +17,5 @@ returns-clause-each g c = λ i lt.
     c.bits.ensures ∙ ap bits_of (c.depth.ensures
     ∙ ap (λ (h : Format). h.depth) c.format.ensures.format) in
     c.ycc709.ensures.each i lt
-    ∙ (λ j. ycc_at (bits j) (c.settle_groups.ensures.settled j) i)
+    ∙ (λ j. ycc_at (bits j) (c.settle.ensures.settled j) i)
     ∙ matrixed_here f (settled rgb).samples c.args.first c.args.count i c.requires.rgb below

@@ -18,6 +18,6 @@ returns-in-Matrixed g c =
     let f : Format = c.self.inside.format in
     let are = subst (AreInputs f) c.in-Matrixed.is c.self.invariant.inputs in
     made_as f c.args.first c.args.count c.args.out.now c.self.view_is c.in-Matrixed.is
-    (same_size f c.in-Matrixed.rgb.frame.now.format are.format.sampling are.is_rgb
+    (same_size f c.in-Matrixed.rgb.input.frame.now.format are.format.sampling are.is_rgb
     are.format.depth)
     c.requires.inside c.requires.room c.make_matrixed.ensures.long c.make_matrixed.ensures.each
