@@ -132,9 +132,7 @@ pub fn settle_run_over<C: Allocator>(
         samples,
     );
     let of_run = &marks[first..first + count];
-    if !are_whole(of_run) {
-        settle_over(format, of_run, first, base, pattern, samples);
-    }
+    settle_over(format, of_run, first, base, pattern, samples);
 }
 
 /// What a base holds is a picture. A caller's proof learns it from here; nothing is done.
