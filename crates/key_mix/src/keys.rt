@@ -152,7 +152,9 @@ fn key_rows(
     }
 }
 
-/// The keys of the samples of a row: each is that of its column in `row`.
+/// The keys of the samples of a row: each is that of its column in `row`. Inlined where the two
+/// slices are known to lie apart, its loops go by vectors.
+#[inline(always)]
 pub(crate) fn row_keys(
     sampling: Sampling,
     of_key: Sampling,

@@ -41,8 +41,8 @@ pub struct JobInput<'a, A: Allocator = Global> {
 ///
 /// Each input's base is a fill that fits the depth or a picture of the frame's format, and the
 /// payload type is at most 127. A key of inputs of one format, and Y, Cb and Cr of R, G and B, are
-/// made as they are sent: no memory is taken for pictures, but where packets have fewer than 512
-/// octets or rows fewer than 512 samples.
+/// made as they are sent: no memory is taken for pictures, but where they have fewer than 393,216
+/// samples, or a row or a packet fewer than 240.
 ///
 /// # Errors
 ///
@@ -84,16 +84,24 @@ pub fn send_job<A: Allocator, C: Allocator + Copy, S: DatagramSink>(
     send_picture(alloc, &plan, &picture, stamp, sink)
 }
 
-/// From how many octets on packets are long.
-const LONG_PACKET: u32 = 512;
+/// From how many samples on a picture is large: a job of three pictures would keep 3 MB and more,
+/// while those of a smaller one stay in a processor's caches.
+const LARGE_PICTURE: usize = 393_216;
 
-/// From how many samples on rows are long.
-const LONG_ROW: usize = 512;
+/// From how many samples on a run is long: what it costs to make is little beside what that saves.
+const LONG_RUN: usize = 240;
 
-/// Whether the packets and the rows of a plan are long, so that samples are made faster as they are
-/// sent than in a picture before: what each run costs is little beside what it saves.
+/// How many octets stand before the samples of a packet of one run (RFC 3550, 5.1; RFC 4175, 4.1).
+const HEADS: usize = 20;
+
+/// Whether a plan's picture is large and its runs are long, so that samples are made faster as they
+/// are sent than in a picture before.
 fn has_long_runs<A: Allocator>(plan: &Plan<A>) -> bool {
-    plan.max_octets() >= LONG_PACKET && plan.format().row_samples() >= LONG_ROW
+    let format = plan.format();
+    let group = format.pgroup();
+    let room = (plan.max_octets() as usize).saturating_sub(HEADS);
+    let run = room / group.octets * group.samples;
+    run.min(format.row_samples()) >= LONG_RUN && format.sample_count() >= LARGE_PICTURE
 }
 
 /// A plan for the job's picture.
