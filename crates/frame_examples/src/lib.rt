@@ -31,6 +31,8 @@ mod rows;
 #[cfg(test)]
 mod sample_kernels;
 #[cfg(test)]
+mod settled_groups;
+#[cfg(test)]
 mod texts;
 #[cfg(test)]
 mod turns;

@@ -19,14 +19,14 @@ const MOST_GROUPS: usize = 48;
 const MOST_OCTETS: usize = 15 * MOST_GROUPS;
 
 /// How many groups the frames of a format have.
-fn groups_of(format: &Format) -> usize
+pub fn groups_of(format: &Format) -> usize
     ensures { result ≡ group_count format.now }
 {
     format.height() as usize * format.row_groups() as usize
 }
 
 /// Gives a frame so many groups, the first of which has a number, and tells whether there are such.
-fn give_run(frame: &mut Frame, first: usize, count: usize, octets: &[u8]) -> bool {
+pub fn give_run(frame: &mut Frame, first: usize, count: usize, octets: &[u8]) -> bool {
     let format = frame.format();
     let groups = groups_of(&format);
     let Some(size) = format.pgroup().octets.checked_mul(count) else {
