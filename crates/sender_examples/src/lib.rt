@@ -18,6 +18,10 @@ mod job_pictures;
 #[cfg(test)]
 mod job_sending;
 #[cfg(test)]
+mod kept_loops;
+#[cfg(test)]
+mod known_frames;
+#[cfg(test)]
 mod lossy_paths;
 #[cfg(test)]
 mod made_pictures;

@@ -1,10 +1,11 @@
-//! Pictures of jobs that are made as they are sent, against those of frames that are settled, and
-//! then made and sent; and with each growth refused.
-ghost use Rattle.std.specs.Prelude.{◌≡◌};
-ghost use Rattle.st_format.specs.Position.{group_count};
+//! Pictures of jobs that are made as they are sent, against those that the loops kept in
+//! `kept_loops` make of settled frames; with a sink that fails at each put, and with each growth
+//! refused.
 ghost use Rattle.key_mix.specs.Sending.{HasBase};
 
 use crate::checks::met;
+use crate::kept_loops::{key_rows, matrix_samples};
+use crate::known_frames::known;
 use frame_assembly::{Base, Frame};
 use key_mix::{Job, JobFault, JobInput, SendJobFault, run_job, send_job};
 use packet_plan::{Plan, send_frame};
@@ -14,66 +15,41 @@ use st_format::{Depth, Format, Picture, Sampling};
 use std::alloc::{AllocError, Allocator, Global};
 use std::test::Fail;
 use test_kit::generator::Generator;
-use test_kit::sending::{STAMP, sink};
-use test_kit::small_format::KINDS;
+use test_kit::sending::{STAMP, sink_of};
 use test_kit::wanting::{Wanting, growths};
 
-/// Columns and most octets of a packet: a picture is made as it is sent at the last two alone,
-/// since its rows or its packets are too short before. At the last, runs are made in parts, but at
-/// 16 bits.
-const SIZES: [(u32, u32); 4] = [(168, 1400), (256, 511), (256, 512), (640, 1400)];
+/// Columns, rows and most octets of a packet.
+type Case = (u32, u32, u32);
+
+/// Cases of 4:2:2: rows of 780 and of 2400 samples, which packets of 9000 octets send in runs of
+/// two parts and of four; a picture of one row fewer, which is too small to be made as it is sent;
+/// runs that are just long enough at 16 bits, and that aren't; and rows that are, and that aren't.
+const PAIRS: [Case; 7] = [
+    (390, 505, 9000),
+    (1200, 164, 9000),
+    (1200, 163, 9000),
+    (640, 308, 500),
+    (640, 308, 499),
+    (120, 1639, 1400),
+    (118, 1667, 1400),
+];
+
+/// The same of 4:4:4.
+const PIXELS: [Case; 7] = [
+    (260, 505, 9000),
+    (800, 164, 9000),
+    (800, 163, 9000),
+    (640, 205, 500),
+    (640, 205, 499),
+    (80, 1639, 1400),
+    (76, 1725, 1400),
+];
+
+/// A case of a made key of 4:2:2.
+const MADE: Case = (1200, 164, 9000);
 
 /// What a sample without a value gets, where no picture is held.
 const FILL: [u16; 3] = [16, 200, 128];
-
-/// How many octets of groups are given at once.
-const MOST: usize = 240;
-
-/// How many groups the frames of a format have.
-fn groups_of(format: &Format) -> usize
-    ensures { result ≡ group_count format.now }
-{
-    format.height() as usize * format.row_groups() as usize
-}
-
-/// Gives a frame groups from the one of a number on, of which these are the octets, where it has
-/// so many.
-fn give(frame: &mut Frame, first: usize, count: usize, octets: &[u8; MOST]) {
-    let format = frame.format();
-    let groups = groups_of(&format);
-    let Some(size) = format.pgroup().octets.checked_mul(count) else {
-        return;
-    };
-    if size <= MOST && first <= groups && count <= groups - first {
-        frame.set_groups(first, count, &octets[..size]);
-    }
-}
-
-/// A frame of two rows, some of whose groups were given, without order.
-fn given(alloc: Global, format: Format, generator: &mut Generator) -> Result<Frame, AllocError> {
-    let mut frame = Frame::new(alloc, format)?;
-    let mut octets = [0; MOST];
-    let mut first = 0usize;
-    for _ in 0..40 {
-        let count = generator.below(17) as usize;
-        generator.fill_octets(&mut octets);
-        give(&mut frame, first, count, &octets);
-        first = first
-            .wrapping_add(count)
-            .wrapping_add(generator.below(3) as usize);
-    }
-    Ok(frame)
-}
-
-/// A frame of two rows, some of whose groups are missing, and some contested.
-fn known(alloc: Global, format: Format, generator: &mut Generator) -> Result<Frame, AllocError> {
-    let mut frame = given(alloc, format, generator)?;
-    let other = given(alloc, format, generator)?;
-    if other.format().same(&frame.format()) {
-        frame.absorb(&other);
-    }
-    Ok(frame)
-}
 
 /// An input of a frame, over a fill.
 fn input(frame: &Frame) -> JobInput<'_>
@@ -113,130 +89,204 @@ fn settled(alloc: Global, frames: &[Frame], picture: &Picture) -> Result<Vec<Pic
     Ok(pictures)
 }
 
-/// What is sent of a job's picture that is kept.
+/// Whether a picture has the samples that the kept loops make of one picture or three.
+fn is_of_loops(alloc: Global, pictures: &[Picture], made: &Picture) -> Result<bool, AllocError> {
+    let mut samples = Vec::from_elem(alloc, 0, made.samples().len())?;
+    let out = samples.as_mut_slice();
+    match pictures {
+        [rgb] => matrix_samples(rgb.format().depth().bits(), rgb.samples(), out),
+        [a, b, by] => {
+            let mut keys = Vec::from_elem(alloc, 0, a.format().row_samples())?;
+            let inputs = [a.samples(), b.samples(), by.samples()];
+            key_rows(&a.format(), &by.format(), inputs, keys.as_mut_slice(), out);
+        }
+        _ => return Ok(false),
+    }
+    Ok(samples.as_slice() == made.samples())
+}
+
+/// A sink of so many datagrams as a format's picture has, that fails at one put.
+fn sink(alloc: Global, format: Format, size: u32, fails_in: u64) -> Result<MemoryDatagrams, Fail> {
+    let plan = Plan::new(alloc, format, size)?;
+    Ok(sink_of(alloc, plan.len(), size as usize, fails_in)?)
+}
+
+/// The job of so many frames: the matrix of one, or a key.
+fn job_of(frames: &[Frame]) -> Job {
+    if frames.len() == 1 {
+        Job::ToYcc444
+    } else {
+        Job::Key
+    }
+}
+
+/// What is sent of a job's picture that is kept, where it has the samples that the loops make.
 fn sent_of_kept(
     alloc: Global,
-    job: &Job,
     frames: &[Frame],
     picture: &Picture,
     size: u32,
-) -> Result<Option<MemoryDatagrams>, AllocError> {
+) -> Result<Option<MemoryDatagrams>, Fail> {
     let pictures = settled(alloc, frames, picture)?;
-    let Ok(picture) = run_job(alloc, job, pictures.as_slice()) else {
-        return Ok(None);
-    };
-    let Ok(plan) = Plan::new(alloc, picture.format(), size) else {
-        return Ok(None);
-    };
-    let (mut sink, mut buf) = (sink(alloc, 0)?, [0; 1400]);
+    let made = run_job(alloc, &job_of(frames), pictures.as_slice())?;
+    let plan = Plan::new(alloc, made.format(), size)?;
+    let mut sink = sink(alloc, made.format(), size, 0)?;
+    let mut buf = [0; 9000];
     let has_room = plan.max_octets() as usize <= buf.len();
-    if !has_room || !picture.format().same(&plan.format()) {
+    if !has_room || !made.format().same(&plan.format()) {
         return Ok(None);
     }
-    Ok(
-        match send_frame(&plan, &picture, STAMP, &mut buf, &mut sink) {
-            Ok(_) => Some(sink),
-            Err(_) => None,
-        },
-    )
+    send_frame(&plan, &made, STAMP, &mut buf, &mut sink)?;
+    Ok(is_of_loops(alloc, pictures.as_slice(), &made)?.then_some(sink))
 }
 
 /// The answer for a job of one frame or three, in memory of an allocator.
 fn send<C: Allocator + Copy>(
     alloc: C,
-    job: &Job,
     frames: &[Frame],
     picture: &Picture,
     size: u32,
     sink: &mut MemoryDatagrams,
 ) -> Result<u32, SendJobFault> {
+    let job = job_of(frames);
     match frames {
-        [a] => send_job(alloc, job, &[input(a)], size, STAMP, sink),
+        [a] => send_job(alloc, &job, &[input(a)], size, STAMP, sink),
         [a, b, by] => {
             let inputs = [input(a), held(b, picture), input(by)];
-            send_job(alloc, job, &inputs, size, STAMP, sink)
+            send_job(alloc, &job, &inputs, size, STAMP, sink)
         }
         _ => Err(SendJobFault::Job(JobFault::WrongInputCount)),
     }
 }
 
-/// Whether two sinks have taken the same, one datagram at least.
-fn took_same(one: &MemoryDatagrams, other: &MemoryDatagrams) -> bool {
+/// Whether a sink has taken the first datagrams of another one, so many.
+fn took_first(one: &MemoryDatagrams, other: &MemoryDatagrams, count: usize) -> bool {
     let (ours, theirs) = (one.taken(), other.taken());
-    let mut same = !ours.is_empty() && ours.len() == theirs.len();
+    let mut same = ours.len() == count && count <= theirs.len();
     for i in 0..ours.len().min(theirs.len()) {
         same &= ours[i].as_slice() == theirs[i].as_slice();
     }
     same
 }
 
+/// What the second input is held over: the middle frame over a fill.
+fn base(alloc: Global, frames: &[Frame]) -> Result<Picture, Fail> {
+    let middle = frames.get(frames.len() / 2).ok_or("no frame")?;
+    Ok(middle.settle(alloc, Base::<Global>::Fill(FILL))?)
+}
+
 /// Whether a job sends what it sends of the kept picture; `None` where memory was wanted.
 fn agrees<C: Allocator + Copy>(
     alloc: C,
     global: Global,
-    job: &Job,
     frames: &[Frame],
     size: u32,
-) -> Result<Option<bool>, AllocError> {
-    let mut sink = sink(global, 0)?;
-    let Some(last) = frames.last() else {
+) -> Result<Option<bool>, Fail> {
+    let picture = base(global, frames)?;
+    let Some(wanted) = sent_of_kept(global, frames, &picture, size)? else {
         return Ok(Some(false));
     };
-    let picture = last.settle(global, Base::<Global>::Fill(FILL))?;
-    match send(alloc, job, frames, &picture, size, &mut sink) {
-        Err(SendJobFault::Job(JobFault::NoMemory)) if sink.taken().is_empty() => Ok(None),
-        Err(_) => Ok(Some(false)),
-        Ok(_) => Ok(Some(match sent_of_kept(global, job, frames, &picture, size)? {
-            Some(kept) => took_same(&sink, &kept),
-            None => false,
-        })),
-    }
+    let mut sink = sink(global, picture.format(), size, 0)?;
+    let answer = send(alloc, frames, &picture, size, &mut sink);
+    let all = wanted.taken().len();
+    Ok(match answer {
+        Err(SendJobFault::Job(JobFault::NoMemory)) if sink.taken().is_empty() => None,
+        Err(_) => Some(false),
+        Ok(_) => Some(all > 0 && took_first(&sink, &wanted, all)),
+    })
 }
 
-/// So many frames of a sampling and a depth.
+/// Whether a sink that fails at a put has the datagrams before it, and that is told.
+fn fails_at(
+    alloc: Global,
+    frames: &[Frame],
+    size: u32,
+    sent: u32,
+    wanted: &MemoryDatagrams,
+) -> Result<bool, Fail> {
+    let picture = base(alloc, frames)?;
+    let mut sink = sink(alloc, picture.format(), size, u64::from(sent) + 1)?;
+    let answer = send(alloc, frames, &picture, size, &mut sink);
+    Ok(
+        answer == Err(SendJobFault::Sink { sent })
+            && sink.failures() == 1
+            && took_first(&sink, wanted, sent as usize),
+    )
+}
+
+/// Frames of some samplings, all of one depth.
 fn frames(
     alloc: Global,
-    kind: (Sampling, Depth),
-    width: u32,
-    count: u64,
+    samplings: &[Sampling],
+    depth: Depth,
+    case: Case,
 ) -> Result<Vec<Frame>, Fail> {
-    let format = Format::new(kind.0, kind.1, width, 2, 60, 1)?;
-    let mut generator = Generator::new(u64::from(width));
+    let mut generator = Generator::new(u64::from(case.0));
     let mut all = Vec::new(alloc);
-    for _ in 0..count {
+    for sampling in samplings {
+        let format = Format::new(*sampling, depth, case.0, case.1, 60, 1)?;
         all.push(known(alloc, format, &mut generator)?)?;
     }
     Ok(all)
 }
 
-/// Whether a job of so many such frames agrees at each size.
-fn job_agrees(alloc: Global, job: &Job, kind: (Sampling, Depth), count: u64) -> Result<bool, Fail> {
+/// Whether a job of such frames agrees at each depth in each case.
+fn job_agrees(alloc: Global, samplings: &[Sampling], cases: &[Case]) -> Result<bool, Fail> {
     let mut agree = true;
-    for (width, size) in SIZES {
-        let all = frames(alloc, kind, width, count)?;
-        agree &= agrees(alloc, alloc, job, all.as_slice(), size)? == Some(true);
+    for depth in [Depth::D8, Depth::D10, Depth::D12, Depth::D16] {
+        for case in cases {
+            let all = frames(alloc, samplings, depth, *case)?;
+            agree &= agrees(alloc, alloc, all.as_slice(), case.2)? == Some(true);
+        }
     }
     Ok(agree)
 }
 
 #[test]
-fn keys(rt: HostRuntime) -> Result<(), Fail> {
-    for (sampling, depth) in KINDS {
-        if sampling != Sampling::Rgb {
-            met(
-                &rt,
-                job_agrees(rt.alloc(), &Job::Key, (sampling, depth), 3)?,
-            );
-        }
-    }
+fn keys_of_pairs(rt: HostRuntime) -> Result<(), Fail> {
+    met(&rt, job_agrees(rt.alloc(), &[Sampling::Ycc422; 3], &PAIRS)?);
+    Ok(())
+}
+
+#[test]
+fn keys_of_pixels(rt: HostRuntime) -> Result<(), Fail> {
+    met(
+        &rt,
+        job_agrees(rt.alloc(), &[Sampling::Ycc444; 3], &PIXELS)?,
+    );
+    Ok(())
+}
+
+/// A key of 4:2:2 by 4:4:4, which is never made as it is sent.
+#[test]
+fn keys_of_pairs_by_pixels(rt: HostRuntime) -> Result<(), Fail> {
+    let samplings = [Sampling::Ycc422, Sampling::Ycc422, Sampling::Ycc444];
+    met(
+        &rt,
+        job_agrees(rt.alloc(), &samplings, &[(1200, 164, 9000)])?,
+    );
     Ok(())
 }
 
 #[test]
 fn matrices(rt: HostRuntime) -> Result<(), Fail> {
-    for depth in [Depth::D8, Depth::D10, Depth::D12, Depth::D16] {
-        let kind = (Sampling::Rgb, depth);
-        met(&rt, job_agrees(rt.alloc(), &Job::ToYcc444, kind, 1)?);
+    met(&rt, job_agrees(rt.alloc(), &[Sampling::Rgb], &PIXELS)?);
+    Ok(())
+}
+
+/// A made key, and a sink that fails at each put.
+#[test]
+fn failing_sinks(rt: HostRuntime) -> Result<(), Fail> {
+    let all = frames(rt.alloc(), &[Sampling::Ycc422; 3], Depth::D8, MADE)?;
+    let picture = base(rt.alloc(), all.as_slice())?;
+    let wanted = sent_of_kept(rt.alloc(), all.as_slice(), &picture, MADE.2)?.ok_or("none")?;
+    let count = u32::try_from(wanted.taken().len())?;
+    met(&rt, count > 40);
+    for sent in 0..count {
+        met(
+            &rt,
+            fails_at(rt.alloc(), all.as_slice(), MADE.2, sent, &wanted)?,
+        );
     }
     Ok(())
 }
@@ -246,8 +296,8 @@ struct MadeKey;
 
 impl Wanting for MadeKey {
     fn answer(&self, global: Global, refusing: &Refusing<Global>) -> Result<Option<bool>, Fail> {
-        let all = frames(global, (Sampling::Ycc422, Depth::D10), 256, 3)?;
-        Ok(agrees(refusing, global, &Job::Key, all.as_slice(), 1400)?)
+        let all = frames(global, &[Sampling::Ycc422; 3], Depth::D10, MADE)?;
+        agrees(refusing, global, all.as_slice(), MADE.2)
     }
 }
 
