@@ -1,5 +1,5 @@
-//! By which writes `trace`, `rehearse` and `report` print: a line in each, or a page of whole lines.
-//! Where one of them fails, those before it stand and nothing else.
+//! By which writes `trace`, `rehearse` and `report` print: a line in each, or a page of whole
+//! lines. Where one of them fails, those before it stand and nothing else.
 ghost use Rattle.std.specs.Prelude.{Some};
 
 use crate::checks::met;

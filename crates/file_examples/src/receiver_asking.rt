@@ -1,5 +1,5 @@
-//! Receivers' files are read as they were before runs of groups were taken: the same fault first, by
-//! the same calls of a source that lends nothing, and with as much left of one that lends, itself
+//! Receivers' files are read as they were before runs of groups were taken: the same fault first,
+//! by the same calls of a source that lends nothing, and with as much left of one that lends, itself
 //! lent or not. The reading group by group stands here as it was.
 ghost use Rattle.std.specs.Prelude.{◌≡◌, true, None, length};
 ghost use Rattle.st_format.specs.Pgroup.{pixel_group};
@@ -21,7 +21,8 @@ const PIECES: [usize; 8] = [1, 2, 3, 1021, 4095, 4096, 4097, 1 << 20];
 /// The octet at which a call is refused that reaches it.
 const REFUSED: [usize; 7] = [33, 35, 38, 43, 4096, 4100, 4131];
 
-/// The same, counted from where the wrong group begins: none of these files has so many as the last.
+/// The same, counted from where the wrong group begins: none of these files has so many as the
+/// last.
 const NEAR: [usize; 7] = [0, 1, 2, 3, 5, 8, 1 << 20];
 
 /// The call that fails of a source in memory; 0 is none.

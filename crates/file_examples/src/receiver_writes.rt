@@ -1,5 +1,5 @@
-//! A receiver's file is written by the pieces that it was written by before rows were put by blocks:
-//! the rule of the rows stands here as it was.
+//! A receiver's file is written by the pieces that it was written by before rows were put by
+//! blocks: the rule of the rows stands here as it was.
 ghost use Rattle.std.specs.Prelude.{None};
 
 use crate::checks::met;

@@ -263,9 +263,9 @@ impl<A: Allocator> Frame<A> {
         );
     }
 
-    /// Makes the pattern of a base for [`settle_groups_over`](Frame::settle_groups_over): it is made
-    /// once for any number of calls. `pattern` has 768 samples; it stays where the base is a picture
-    /// that is held.
+    /// Makes the pattern of a base for [`settle_groups_over`](Frame::settle_groups_over): it is
+    /// made once for any number of calls. `pattern` has 768 samples; it stays where the base is a
+    /// picture that is held.
     pub fn base_pattern<C: Allocator>(&self, base: Base<'_, C>, pattern: &mut [u16])
         requires { length pattern.old ≡ 768 }
         ensures { IsPatternOf base.entry self.now.format.sampling pattern.new }

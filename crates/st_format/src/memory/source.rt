@@ -179,7 +179,8 @@ impl<A: Allocator> ByteSource for MemorySource<A> {
         // It passes all that it lends.
         ensures when { IsTrue result
             ↔ (count
-            ≤ length (if self.old.fails_in == 0 then take self.old.piece self.old.to_give else [])) }
+            ≤ length
+            (if self.old.fails_in == 0 then take self.old.piece self.old.to_give else [])) }
     {
         if count > self.at_hand().len() {
             return false;
