@@ -20,7 +20,6 @@ pub(crate) fn unpack(octets: &[u8], samples: &mut [u16])
 }
 
 /// Two octets for each sample, the high one first.
-#[inline(always)]
 pub(crate) fn pack(samples: &[u16], octets: &mut [u8])
     requires lengths { 8 * length octets.old ≡ 16 * length samples.now }
     requires fit { Fit 16 samples.now }
