@@ -19,7 +19,9 @@ pub(crate) fn unpack(octets: &[u8], samples: &mut [u16])
     unpack_twos(&octets[16 * blocks..], &mut samples[8 * blocks..]);
 }
 
-/// Two octets for each sample, the high one first.
+/// Two octets for each sample, the high one first. In a function of its own the loop goes by
+/// vectors, wherever the two slices come from.
+#[inline(never)]
 pub(crate) fn pack(samples: &[u16], octets: &mut [u8])
     requires lengths { 8 * length octets.old ≡ 16 * length samples.now }
     requires fit { Fit 16 samples.now }
