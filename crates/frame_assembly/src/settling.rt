@@ -275,6 +275,7 @@ fn settle_over_held(of_group: usize, marks: &[u16], held: &[u16], samples: &mut 
 /// Settles the groups numbered `from` to `to`, over the values of the base for as many groups, from
 /// its group `base_from` on. Where those before were settled over values that the base has here,
 /// all up to `to` are.
+#[inline(always)]
 fn settle_part(
     of_group: usize,
     from: usize,
@@ -305,6 +306,7 @@ fn settle_part(
 
 /// Settles a block over its values of the base: where each cell has a value, the samples stay as
 /// they were read, and where none has, they are the base's.
+#[inline(always)]
 fn settle_block(of_group: usize, marks: &[u16], base: &[u16], samples: &mut [u16])
     requires few { of_group ≤ 12 }
     requires base { of_group * length marks.now ≤ length base.now }
@@ -337,6 +339,7 @@ fn are_whole(marks: &[u16]) -> bool
 }
 
 /// Settles groups one by one.
+#[inline(always)]
 fn settle_each(of_group: usize, marks: &[u16], base: &[u16], samples: &mut [u16])
     requires few { of_group ≤ 12 }
     requires base { of_group * length marks.now ≤ length base.now }
@@ -354,6 +357,7 @@ fn settle_each(of_group: usize, marks: &[u16], base: &[u16], samples: &mut [u16]
 }
 
 /// Gives each sample of a group the base's value where its cell has none.
+#[inline(always)]
 fn settle_group(mark: u16, base: &[u16], samples: &mut [u16])
     requires few { length samples.old ≤ 12 }
     requires base { length base.now ≡ length samples.old }
