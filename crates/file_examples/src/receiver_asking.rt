@@ -1,6 +1,6 @@
 //! Receivers' files are read as they were before runs of groups were taken: the same fault first,
-//! by the same calls of a source that lends nothing, and with as much left of one that lends, itself
-//! lent or not. The reading group by group stands here as it was.
+//! by the same calls of a source that lends nothing, and with as much left of one that lends,
+//! itself lent or not. The reading group by group stands here as it was.
 ghost use Rattle.std.specs.Prelude.{◌≡◌, true, None, length};
 ghost use Rattle.st_format.specs.Pgroup.{pixel_group};
 
@@ -370,6 +370,15 @@ fn other_groups_as_before(rt: HostRuntime) -> Result<(), Fail> {
     for kind in OTHERS {
         met(&rt, kind_alike(rt.alloc(), kind)?);
     }
+    Ok(())
+}
+
+/// Of missing groups more than two times as many as are looked at at once.
+#[test]
+fn missing_groups_as_before(rt: HostRuntime) -> Result<(), Fail> {
+    let (octets, place) = made(rt.alloc(), YCC, (2, 4200), 3, (8399, 3))?;
+    let refused = [place.wrapping_add(1), 1 << 20];
+    met(&rt, is_alike(rt.alloc(), &octets, &refused, &[0])?);
     Ok(())
 }
 

@@ -59,7 +59,8 @@ pub fn join_run(
 }
 
 /// Joins other groups of a span: at once where they are the same or all of these are missing, else
-/// a block after the other. So groups that differ are compared twice only within their span.
+/// a block after the other. So what stands before a difference is compared once more within its
+/// span alone.
 fn join_span(
     format: &Format,
     marks: &mut [u16],

@@ -42,7 +42,7 @@ pub struct JobInput<'a, A: Allocator = Global> {
 /// Each input's base is a fill that fits the depth or a picture of the frame's format, and the
 /// payload type is at most 127. A key of inputs of one format, and Y, Cb and Cr of R, G and B, are
 /// made as they are sent: no memory is taken for pictures, but where they have fewer than 393,216
-/// samples, or a row or a packet fewer than 240.
+/// samples, a row fewer than 480, or a packet fewer than 240.
 ///
 /// # Errors
 ///
@@ -91,6 +91,10 @@ const LARGE_PICTURE: usize = 393_216;
 /// From how many samples on a run is long: what it costs to make is little beside what that saves.
 const LONG_RUN: usize = 240;
 
+/// From how many samples on a row is long: where it ends it cuts a run, so of a shorter one many
+/// runs are short.
+const LONG_ROW: usize = 480;
+
 /// How many octets stand before the samples of a packet of one run (RFC 3550, 5.1; RFC 4175, 4.1).
 const HEADS: usize = 20;
 
@@ -101,7 +105,7 @@ fn has_long_runs<A: Allocator>(plan: &Plan<A>) -> bool {
     let group = format.pgroup();
     let room = (plan.max_octets() as usize).saturating_sub(HEADS);
     let run = room / group.octets * group.samples;
-    run.min(format.row_samples()) >= LONG_RUN && format.sample_count() >= LARGE_PICTURE
+    run >= LONG_RUN && format.row_samples() >= LONG_ROW && format.sample_count() >= LARGE_PICTURE
 }
 
 /// A plan for the job's picture.

@@ -23,15 +23,18 @@ type Case = (u32, u32, u32);
 
 /// Cases of 4:2:2: rows of 780 and of 2400 samples, which packets of 9000 octets send in runs of
 /// two parts and of four; a picture of one row fewer, which is too small to be made as it is sent;
-/// runs that are just long enough at 16 bits, and that aren't; and rows that are, and that aren't.
-const PAIRS: [Case; 7] = [
+/// runs that are just long enough at 16 bits, and that aren't; runs of 256 samples at 16 bits, for
+/// which there is less room, and of 260; and rows that are just long enough, and that aren't.
+const PAIRS: [Case; 9] = [
     (390, 505, 9000),
     (1200, 164, 9000),
     (1200, 163, 9000),
     (640, 308, 500),
     (640, 308, 499),
-    (120, 1639, 1400),
-    (118, 1667, 1400),
+    (640, 308, 532),
+    (640, 308, 540),
+    (240, 820, 1400),
+    (238, 827, 1400),
 ];
 
 /// The same of 4:4:4.
@@ -41,8 +44,8 @@ const PIXELS: [Case; 7] = [
     (800, 163, 9000),
     (640, 205, 500),
     (640, 205, 499),
-    (80, 1639, 1400),
-    (76, 1725, 1400),
+    (160, 820, 1400),
+    (156, 841, 1400),
 ];
 
 /// A case of a made key of 4:2:2.
