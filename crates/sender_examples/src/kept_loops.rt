@@ -156,11 +156,12 @@ fn matrix_block(bits: u32, rgb: &[u16], out: &mut [u16]) {
 
 /// Y, Cb and Cr of R, G and B, in the order in which 4:4:4 sends them. Each slice is whole pixels.
 pub fn matrix_samples(bits: u32, rgb: &[u16], out: &mut [u16]) {
-    let mut at = 0usize;
-    while at < out.len() {
-        let end = out.len().min(at + 192);
+    let blocks = out.len() / 192;
+    for i in 0..blocks {
+        let (at, end) = (192 * i, 192 * (i + 1));
         let block = rgb.get(at..end).unwrap_or(&[]);
         matrix_block(bits, block, &mut out[at..end]);
-        at = end;
     }
+    let at = 192 * blocks;
+    matrix_block(bits, rgb.get(at..).unwrap_or(&[]), &mut out[at..]);
 }

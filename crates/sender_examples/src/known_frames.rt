@@ -54,7 +54,10 @@ fn given(
     let mut octets = [0; OCTETS];
     generator.fill_octets(&mut octets);
     let mut first = gap(generator, most);
-    while first < groups {
+    for _ in 0..groups {
+        if first >= groups {
+            break;
+        }
         let count = 1 + generator.below(16) as usize;
         let from = generator.below((OCTETS - MOST) as u32) as usize;
         give(
@@ -63,7 +66,9 @@ fn given(
             count.min(groups - first),
             &octets[from..],
         );
-        first = first + count + gap(generator, most);
+        first = first
+            .saturating_add(count)
+            .saturating_add(gap(generator, most));
     }
     Ok(frame)
 }
