@@ -304,8 +304,26 @@ impl Wanting for MadeKey {
     }
 }
 
+/// The plan of that key.
+struct MadePlan;
+
+impl Wanting for MadePlan {
+    fn answer(&self, _: Global, refusing: &Refusing<Global>) -> Result<Option<bool>, Fail> {
+        let format = Format::new(Sampling::Ycc422, Depth::D10, MADE.0, MADE.1, 60, 1)?;
+        Ok(match Plan::new(refusing, format, MADE.2) {
+            Ok(plan) => Some(plan.len() > 40),
+            Err(_) => None,
+        })
+    }
+}
+
+/// No picture is kept: there is one growth more than those of the plan.
 #[test]
 fn memory_of_a_plan_and_a_packet(rt: HostRuntime) -> Result<(), Fail> {
-    met(&rt, growths(rt.alloc(), &MadeKey)? == Some(2));
+    let of_plan = growths(rt.alloc(), &MadePlan)?.ok_or("no plan")?;
+    met(
+        &rt,
+        growths(rt.alloc(), &MadeKey)? == Some(of_plan.saturating_add(1)),
+    );
     Ok(())
 }
