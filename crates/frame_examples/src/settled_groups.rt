@@ -1,4 +1,8 @@
 //! Runs of pgroups that are settled without a picture, against the settled picture.
+ghost use Rattle.std.specs.Prelude.{◌≡◌, ◌≤◌, ◌+◌, ◌*◌, IfSome};
+ghost use Rattle.st_format.specs.Pgroup.{pixel_group};
+ghost use Rattle.st_format.specs.Position.{group_count};
+
 use crate::checks::met;
 use crate::rows::part;
 use crate::whole_groups::{give_run, groups_of};
@@ -23,13 +27,17 @@ fn given(alloc: Global, format: Format, generator: &mut Generator) -> Result<Fra
     let mut frame = Frame::new(alloc, format)?;
     let groups = groups_of(&format);
     let mut octets = [0; RUN];
-    let mut first = 0;
-    while first < groups {
+    let mut first = 0usize;
+    for _ in 0..groups {
+        if first >= groups {
+            break;
+        }
         let count = (generator.below(17) as usize).min(groups - first);
         generator.fill_octets(&mut octets);
         let size = format.pgroup().octets.wrapping_mul(count);
         give_run(&mut frame, first, count, part(&octets, 0, size));
-        first += count + 1 + generator.below(40) as usize % 41;
+        let behind = 1 + generator.below(40) as usize;
+        first = first.saturating_add(count).saturating_add(behind);
     }
     Ok(frame)
 }
@@ -47,14 +55,22 @@ fn known(alloc: Global, format: Format, generator: &mut Generator) -> Result<Fra
 }
 
 /// The number of samples of so many groups, where a frame has those from a number on.
-fn samples_of(frame: &Frame, first: usize, count: usize) -> Option<usize> {
+fn samples_of(frame: &Frame, first: usize, count: usize) -> Option<usize>
+    ensures inside { IfSome result (λ _. first + count ≤ group_count frame.now.format) }
+    ensures few { IfSome result (λ n. n ≤ MOST) }
+    ensures room { IfSome result (λ n. n
+        ≡ (pixel_group frame.now.format.sampling frame.now.format.depth).samples * count) }
+{
     let format = frame.format();
     let groups = groups_of(&format);
-    let is_inside = first <= groups && count <= groups - first;
-    match format.pgroup().samples.checked_mul(count) {
-        Some(samples) if is_inside && samples <= MOST => Some(samples),
-        _ => None,
+    if first > groups || count > groups - first {
+        return None;
     }
+    let samples = format.pgroup().samples.checked_mul(count)?;
+    if samples > MOST {
+        return None;
+    }
+    Some(samples)
 }
 
 /// Whether a run over a fill is a part of these samples, by a pattern made for it or before.
