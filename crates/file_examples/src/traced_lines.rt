@@ -2,6 +2,7 @@
 //! whichever octet stands at whichever place, and of each length.
 use crate::checks::met;
 use crate::running::{Ran, SOUND, run_on};
+use frame_assembly::Frame;
 use path_merge::{Receiver, Taken};
 use st_format::{Cell, Depth, Format, Path, Sampling};
 use std::alloc::{AllocError, Global};
@@ -55,6 +56,16 @@ fn put_frame(text: &mut Vec<u8>, receiver: &Receiver) -> Result<(), Fail> {
     Ok(())
 }
 
+/// What is known of a sample of the upper row, where there is one.
+fn upper_cell(frame: &Frame, column: u32, component: u8) -> Option<Cell> {
+    let format = frame.format();
+    if format.has_position(0, column, component) {
+        Some(frame.cell(0, column, component))
+    } else {
+        None
+    }
+}
+
 /// Puts lines that ask for each sample of the upper row behind a script, and what is known of it
 /// behind a text.
 fn put_cells(script: &mut Vec<u8>, text: &mut Vec<u8>, receiver: &Receiver) -> Result<(), Fail> {
@@ -64,14 +75,11 @@ fn put_cells(script: &mut Vec<u8>, text: &mut Vec<u8>, receiver: &Receiver) -> R
     for column in 0..8u32 {
         for component in 0..3u8 {
             write!(script, "cell 900 0 {column} {component}\n")?;
-            if !receiver.format().has_position(0, column, component) {
-                text.extend_from_slice(b"none\n")?;
-                continue;
-            }
-            match frame.cell(0, column, component) {
-                Cell::Missing => text.extend_from_slice(b"missing\n")?,
-                Cell::Value(value) => write!(text, "value {value}\n")?,
-                Cell::Contested => text.extend_from_slice(b"contested\n")?,
+            match upper_cell(frame, column, component) {
+                None => text.extend_from_slice(b"none\n")?,
+                Some(Cell::Missing) => text.extend_from_slice(b"missing\n")?,
+                Some(Cell::Value(value)) => write!(text, "value {value}\n")?,
+                Some(Cell::Contested) => text.extend_from_slice(b"contested\n")?,
             }
         }
     }
