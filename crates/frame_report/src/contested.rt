@@ -2,8 +2,8 @@
 ghost use Rattle.std.specs.Prelude.{◌≡◌, ◌≤◌, ◌<◌, ◌+◌, ◌++◌, [], OnErr, OnOk, count_by};
 ghost use Rattle.std.specs.Prelude.{length, slice_index_or};
 ghost use Rattle.st_format.specs.Cell.{is_contested};
-ghost use Rattle.st_format.specs.Device.{CountsFaults, GrowsPart};
-ghost use Rattle.frame_report.specs.Gathers.{Gathers};
+ghost use Rattle.st_format.specs.Device.{CountsFaults};
+ghost use Rattle.frame_report.specs.Gathers.{Gathers, TakesPart, told_of};
 ghost use Rattle.frame_report.specs.Contested.{component_names, contested_in_row, contested_lines};
 ghost use Rattle.frame_report.specs.Contested.{sample_text, spot_line};
 
@@ -23,10 +23,10 @@ pub(crate) fn put_contested<A: Allocator, K: ByteSink>(
 ) -> Result<(), DeviceFault>
     requires { contested ≡ count_by is_contested frame.now.cells }
     ensures ok { OnOk result
-        (Gathers (K.took sink.old) (K.took sink.new) page.old page.new
+        (Gathers (told_of K.took K.held sink.old) (told_of K.took K.held sink.new) page.old page.new
         (contested_lines frame.now)) }
     ensures fault { OnErr result
-        (GrowsPart (K.took sink.old) (K.took sink.new)
+        (TakesPart (told_of K.took K.held sink.old) (told_of K.took K.held sink.new)
         (page.old ++ contested_lines frame.now)) }
     ensures counted { CountsFaults (K.failures sink.old) (K.failures sink.new) result }
 {
@@ -67,10 +67,10 @@ fn put_line<K: ByteSink>(
 ) -> Result<(), DeviceFault>
     requires { component < 3 }
     ensures ok { OnOk result
-        (Gathers (K.took sink.old) (K.took sink.new) page.old page.new
+        (Gathers (told_of K.took K.held sink.old) (told_of K.took K.held sink.new) page.old page.new
         (spot_line sampling row (column, component))) }
     ensures fault { OnErr result
-        (GrowsPart (K.took sink.old) (K.took sink.new)
+        (TakesPart (told_of K.took K.held sink.old) (told_of K.took K.held sink.new)
         (page.old ++ spot_line sampling row (column, component))) }
     ensures counted { CountsFaults (K.failures sink.old) (K.failures sink.new) result }
 {

@@ -2,8 +2,8 @@
 ghost use Rattle.std.specs.Prelude.{◌≡◌, ◌≤◌, ◌<◌, ◌+◌, ◌++◌, OnErr, OnOk};
 ghost use Rattle.std.specs.Prelude.{count_by, length};
 ghost use Rattle.st_format.specs.Cell.{is_missing};
-ghost use Rattle.st_format.specs.Device.{CountsFaults, GrowsPart};
-ghost use Rattle.frame_report.specs.Gathers.{Gathers};
+ghost use Rattle.st_format.specs.Device.{CountsFaults};
+ghost use Rattle.frame_report.specs.Gathers.{Gathers, TakesPart, told_of};
 ghost use Rattle.frame_report.specs.Missing.{columns_line, missing_in_row, missing_lines};
 ghost use Rattle.frame_report.specs.Missing.{run_text};
 
@@ -24,10 +24,10 @@ pub(crate) fn put_missing<A: Allocator, K: ByteSink>(
 ) -> Result<(), DeviceFault>
     requires { missing ≡ count_by is_missing frame.now.cells }
     ensures ok { OnOk result
-        (Gathers (K.took sink.old) (K.took sink.new) page.old page.new
+        (Gathers (told_of K.took K.held sink.old) (told_of K.took K.held sink.new) page.old page.new
         (missing_lines frame.now)) }
     ensures fault { OnErr result
-        (GrowsPart (K.took sink.old) (K.took sink.new)
+        (TakesPart (told_of K.took K.held sink.old) (told_of K.took K.held sink.new)
         (page.old ++ missing_lines frame.now)) }
     ensures counted { CountsFaults (K.failures sink.old) (K.failures sink.new) result }
 {
@@ -66,9 +66,10 @@ fn put_run<K: ByteSink>(
 ) -> Result<(), DeviceFault>
     requires { columns.start < columns.end }
     ensures ok { OnOk result
-        (Gathers (K.took sink.old) (K.took sink.new) page.old page.new (columns_line row columns)) }
+        (Gathers (told_of K.took K.held sink.old) (told_of K.took K.held sink.new) page.old page.new
+        (columns_line row columns)) }
     ensures fault { OnErr result
-        (GrowsPart (K.took sink.old) (K.took sink.new)
+        (TakesPart (told_of K.took K.held sink.old) (told_of K.took K.held sink.new)
         (page.old ++ columns_line row columns)) }
     ensures counted { CountsFaults (K.failures sink.old) (K.failures sink.new) result }
 {

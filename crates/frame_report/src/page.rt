@@ -1,7 +1,7 @@
 //! Text gathered on the stack, on its way to a sink.
 ghost use Rattle.std.specs.Prelude.{◌≡◌, ◌≤◌, ◌+◌, ◌++◌, [], OnErr, OnOk, length};
-ghost use Rattle.st_format.specs.Device.{CountsFaults, GrowsPart};
-ghost use Rattle.frame_report.specs.Gathers.{Gathers, numbered_word};
+ghost use Rattle.st_format.specs.Device.{CountsFaults};
+ghost use Rattle.frame_report.specs.Gathers.{Gathers, TakesPart, TakesText, numbered_word, told_of};
 
 use itoa::Buffer;
 use st_format::{ByteSink, DeviceFault, write_whole};
@@ -47,9 +47,10 @@ impl Page {
     pub(crate) fn make_room<K: ByteSink>(&mut self, sink: &mut K) -> Result<(), DeviceFault>
         ensures room { OnOk result (length self.new + LINE ≤ GATHERED) }
         ensures ok { OnOk result
-            (Gathers (K.took sink.old) (K.took sink.new) self.old self.new []) }
+            (Gathers (told_of K.took K.held sink.old) (told_of K.took K.held sink.new) self.old
+            self.new []) }
         ensures fault { OnErr result
-            (GrowsPart (K.took sink.old) (K.took sink.new) self.old) }
+            (TakesPart (told_of K.took K.held sink.old) (told_of K.took K.held sink.new) self.old) }
         ensures counted { CountsFaults (K.failures sink.old) (K.failures sink.new) result }
     {
         if self.filled + LINE <= GATHERED {
@@ -61,9 +62,10 @@ impl Page {
     /// Writes what waits; then nothing does.
     pub(crate) fn write<K: ByteSink>(&mut self, sink: &mut K) -> Result<(), DeviceFault>
         ensures empty { OnOk result (self.new ≡ []) }
-        ensures ok { OnOk result (K.took sink.new ≡ K.took sink.old ++ self.old) }
+        ensures ok { OnOk result
+            (TakesText (told_of K.took K.held sink.old) (told_of K.took K.held sink.new) self.old) }
         ensures fault { OnErr result
-            (GrowsPart (K.took sink.old) (K.took sink.new) self.old) }
+            (TakesPart (told_of K.took K.held sink.old) (told_of K.took K.held sink.new) self.old) }
         ensures counted { CountsFaults (K.failures sink.old) (K.failures sink.new) result }
     {
         write_whole(sink, &self.room[..self.filled])?;

@@ -1,7 +1,8 @@
 //! A receiver's report, to a sink.
 ghost use Rattle.std.specs.Prelude.{◌≡◌, ◌≤◌, ◌+◌, ◌++◌, OnErr, OnOk, codes, length};
-ghost use Rattle.st_format.specs.Device.{CountsFaults, GrowsPart};
-ghost use Rattle.frame_report.specs.Gathers.{Gathers};
+ghost use Rattle.std.specs.Io.KnownBytes.{Appends};
+ghost use Rattle.st_format.specs.Device.{AppendsPrefix, CountsFaults, GrowsPart};
+ghost use Rattle.frame_report.specs.Gathers.{Gathers, TakesPart, TakesText, told_of};
 ghost use Rattle.frame_report.specs.Report.{counts_line, frame_text, frames_text, report_text};
 
 use crate::contested::put_contested;
@@ -32,6 +33,11 @@ pub fn write_report<A: Allocator, K: ByteSink>(
     ensures fault { OnErr result
         (GrowsPart (K.took sink.old) (K.took sink.new) (report_text receiver.now)) }
     ensures counted { CountsFaults (K.failures sink.old) (K.failures sink.new) result }
+    // What a sink holds that tells it grows by the same.
+    ensures held { OnOk result
+        (Appends (K.held sink.old) (K.held sink.new) (report_text receiver.now)) }
+    ensures held_part { OnErr result
+        (AppendsPrefix (K.held sink.old) (K.held sink.new) (report_text receiver.now)) }
 {
     let mut page = opening_page(receiver);
     put_frames(&mut page, sink, receiver)?;
@@ -42,9 +48,11 @@ pub fn write_report<A: Allocator, K: ByteSink>(
 /// Puts the last line, and writes what waits.
 fn write_end<K: ByteSink>(page: &mut Page, sink: &mut K) -> Result<(), DeviceFault>
     ensures ok { OnOk result
-        (K.took sink.new ≡ K.took sink.old ++ (page.old ++ codes "end\n")) }
+        (TakesText (told_of K.took K.held sink.old) (told_of K.took K.held sink.new)
+        (page.old ++ codes "end\n")) }
     ensures fault { OnErr result
-        (GrowsPart (K.took sink.old) (K.took sink.new) (page.old ++ codes "end\n")) }
+        (TakesPart (told_of K.took K.held sink.old) (told_of K.took K.held sink.new)
+        (page.old ++ codes "end\n")) }
     ensures counted { CountsFaults (K.failures sink.old) (K.failures sink.new) result }
 {
     page.make_room(sink)?;
@@ -59,10 +67,10 @@ fn put_frames<A: Allocator, K: ByteSink>(
     receiver: &Receiver<A>,
 ) -> Result<(), DeviceFault>
     ensures ok { OnOk result
-        (Gathers (K.took sink.old) (K.took sink.new) page.old page.new
+        (Gathers (told_of K.took K.held sink.old) (told_of K.took K.held sink.new) page.old page.new
         (frames_text receiver.now)) }
     ensures fault { OnErr result
-        (GrowsPart (K.took sink.old) (K.took sink.new)
+        (TakesPart (told_of K.took K.held sink.old) (told_of K.took K.held sink.new)
         (page.old ++ frames_text receiver.now)) }
     ensures counted { CountsFaults (K.failures sink.old) (K.failures sink.new) result }
 {
@@ -80,10 +88,10 @@ fn put_frame<A: Allocator, K: ByteSink>(
     frame: &Frame<A>,
 ) -> Result<(), DeviceFault>
     ensures ok { OnOk result
-        (Gathers (K.took sink.old) (K.took sink.new) page.old page.new
+        (Gathers (told_of K.took K.held sink.old) (told_of K.took K.held sink.new) page.old page.new
         (frame_text timestamp frame.now)) }
     ensures fault { OnErr result
-        (GrowsPart (K.took sink.old) (K.took sink.new)
+        (TakesPart (told_of K.took K.held sink.old) (told_of K.took K.held sink.new)
         (page.old ++ frame_text timestamp frame.now)) }
     ensures counted { CountsFaults (K.failures sink.old) (K.failures sink.new) result }
 {
@@ -101,10 +109,10 @@ fn put_counts<K: ByteSink>(
     counts: Counts,
 ) -> Result<(), DeviceFault>
     ensures ok { OnOk result
-        (Gathers (K.took sink.old) (K.took sink.new) page.old page.new
+        (Gathers (told_of K.took K.held sink.old) (told_of K.took K.held sink.new) page.old page.new
         (counts_line timestamp counts)) }
     ensures fault { OnErr result
-        (GrowsPart (K.took sink.old) (K.took sink.new)
+        (TakesPart (told_of K.took K.held sink.old) (told_of K.took K.held sink.new)
         (page.old ++ counts_line timestamp counts)) }
     ensures counted { CountsFaults (K.failures sink.old) (K.failures sink.new) result }
 {

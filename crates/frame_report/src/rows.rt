@@ -1,9 +1,9 @@
 //! Lines that are put row by row.
 ghost use Rattle.std.specs.Prelude.{◌≡◌, ℕ, List, ◌<◌, ◌++◌, OnErr, OnOk};
 ghost use Rattle.std.specs.List.{flat_map, range_with_len};
-ghost use Rattle.st_format.specs.Device.{CountsFaults, GrowsPart};
+ghost use Rattle.st_format.specs.Device.{CountsFaults};
 ghost use Rattle.st_format.specs.Raster.{Raster};
-ghost use Rattle.frame_report.specs.Gathers.{Gathers};
+ghost use Rattle.frame_report.specs.Gathers.{Gathers, TakesPart, told_of};
 
 use crate::page::Page;
 use frame_assembly::Frame;
@@ -23,9 +23,10 @@ pub(crate) trait RowLines {
     ) -> Result<(), DeviceFault>
         requires { row < frame.now.format.height }
         ensures ok { OnOk result
-            (Gathers (K.took sink.old) (K.took sink.new) page.old page.new (lines frame.now row)) }
+            (Gathers (told_of K.took K.held sink.old) (told_of K.took K.held sink.new) page.old
+            page.new (lines frame.now row)) }
         ensures fault { OnErr result
-            (GrowsPart (K.took sink.old) (K.took sink.new)
+            (TakesPart (told_of K.took K.held sink.old) (told_of K.took K.held sink.new)
             (page.old ++ lines frame.now row)) }
         ensures counted { CountsFaults (K.failures sink.old) (K.failures sink.new) result };
 }
@@ -37,10 +38,10 @@ pub(crate) fn put_rows<L: RowLines, A: Allocator, K: ByteSink>(
     frame: &Frame<A>,
 ) -> Result<(), DeviceFault>
     ensures ok { OnOk result
-        (Gathers (K.took sink.old) (K.took sink.new) page.old page.new
+        (Gathers (told_of K.took K.held sink.old) (told_of K.took K.held sink.new) page.old page.new
         (flat_map (L.lines frame.now) (range_with_len 0 frame.now.format.height))) }
     ensures fault { OnErr result
-        (GrowsPart (K.took sink.old) (K.took sink.new)
+        (TakesPart (told_of K.took K.held sink.old) (told_of K.took K.held sink.new)
         (page.old ++ flat_map (L.lines frame.now) (range_with_len 0 frame.now.format.height))) }
     ensures counted { CountsFaults (K.failures sink.old) (K.failures sink.new) result }
 {

@@ -1,4 +1,5 @@
 use Rattle.std.proofs.Common.{◌≡◌}
+use Rattle.frame_report.specs.Gathers.{told_of}
 use Rattle.frame_report.specs.Report.{frames_text}
 use Rattle.frame_report.proofs.FrameTexts.{frames_from}
 use Rattle.frame_report.proofs.Gathering.{IsPut}
@@ -10,6 +11,7 @@ pub record Putting (so_far count : Type 0) : Type 0 where
 
 abbrev pub invariant-loop-timestamp : goal.invariant-loop-timestamp
 invariant-loop-timestamp g l = Putting
-    (IsPut (g.K.ByteSink.took l.initial.sink) (g.K.ByteSink.took l.sink) l.initial.page l.page
+    (IsPut (told_of g.K.ByteSink.took g.K.ByteSink.held l.initial.sink)
+    (told_of g.K.ByteSink.took g.K.ByteSink.held l.sink) l.initial.page l.page
     (frames_from l.receiver l.timestamp-index) (frames_text l.receiver))
     (g.K.ByteSink.failures l.sink ≡ g.K.ByteSink.failures l.initial.sink)
