@@ -70,9 +70,10 @@ fn ip_front(total: u16, checksum: u16) -> [u8; 12]
     ensures text { result ≡ ip_front_text total checksum }
     ensures length { length result ≡ 12 }
 {
-    let t = total.to_be_bytes();
-    let c = checksum.to_be_bytes();
-    [0x45, 0, t[0], t[1], 0, 0, 0x40, 0, 64, 17, c[0], c[1]]
+    let mut front = [0x45, 0, 0, 0, 0, 0, 0x40, 0, 64, 17, 0, 0];
+    BigEndian::write_u16(&mut front[2..], total);
+    BigEndian::write_u16(&mut front[10..], checksum);
+    front
 }
 
 /// Writes a header of IPv4.

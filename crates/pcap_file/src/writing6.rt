@@ -10,6 +10,7 @@ ghost use Rattle.pcap_file.specs.Writing6.{recorded6_of, udp6_text};
 
 use crate::link::Link;
 use crate::writing::{complement_of, word_sum, write_record_head, write_udp};
+use byteorder::{BigEndian, ByteOrder};
 
 /// Whence a datagram of IPv6 comes and where to it goes.
 #[derive(Clone, Copy)]
@@ -27,8 +28,9 @@ fn ip6_front(count: u16) -> [u8; 8]
     ensures text { result ≡ ip6_front_text count }
     ensures length { length result ≡ 8 }
 {
-    let c = count.to_be_bytes();
-    [0x60, 0, 0, 0, c[0], c[1], 17, 64]
+    let mut front = [0x60, 0, 0, 0, 0, 0, 17, 64];
+    BigEndian::write_u16(&mut front[4..], count);
+    front
 }
 
 /// Writes a header of IPv6.

@@ -1,6 +1,6 @@
 //! A receiver to a sink.
 ghost use Rattle.std.specs.Prelude.{◌≡◌, ◌∷◌, ◌++◌, [], IfErr, Ok, OnErr, OnOk};
-ghost use Rattle.std.specs.Int.{to_be_bytes};
+ghost use Rattle.std.specs.Int.{w32, to_be_bytes};
 ghost use Rattle.std.specs.Io.KnownBytes.{Appends};
 ghost use Rattle.st_format.specs.Device.{AppendsPrefix, CountsFaults, GrowsPart};
 ghost use Rattle.path_merge.specs.Frames.{IsReceiver, State};
@@ -124,6 +124,16 @@ fn write_frames<A: Allocator, K: ByteSink>(
     Ok(())
 }
 
+/// A timestamp, as it stands before its frame.
+fn timestamp_octets(timestamp: u32) -> [u8; 4]
+    ensures { result ≡ to_be_bytes w32 timestamp }
+{
+    let mut octets = [0u8; 4];
+    BigEndian::write_u32(&mut octets, timestamp);
+    octets
+}
+
+/// Writes a timestamp and its frame.
 fn write_frame<A: Allocator, K: ByteSink>(
     sink: &mut K,
     timestamp: u32,
@@ -139,6 +149,6 @@ fn write_frame<A: Allocator, K: ByteSink>(
     ensures took_part { OnErr result
         (GrowsPart (K.took sink.old) (K.took sink.new) (kept_frame_text timestamp frame.now)) }
 {
-    write_whole(sink, &timestamp.to_be_bytes())?;
+    write_whole(sink, &timestamp_octets(timestamp))?;
     write_rows(sink, frame)
 }

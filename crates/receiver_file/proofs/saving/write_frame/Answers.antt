@@ -13,7 +13,7 @@ returns-in_err-write_whole-clause-fault g c =
     rw (p.1)
     (prefix_first _ _ (to_be_bytes w32 c.args.timestamp)
     (groups_text (shape_in f) (rows_cut c.args.frame.now f.height))
-    (rw c.to_be_bytes.ensures at c.in_err-write_whole.ensures.fault))
+    (rw c.timestamp_octets.ensures at c.in_err-write_whole.ensures.fault))
 
 pub returns-clause-fault : goal.returns-clause-fault
 returns-clause-fault g c =
@@ -21,7 +21,7 @@ returns-clause-fault g c =
     on_err_weaker c.write_rows.result
     (λ q. prefix_then _ _ _ (to_be_bytes w32 c.args.timestamp)
     (groups_text (shape_in f) (rows_cut c.args.frame.now f.height))
-    (rw c.to_be_bytes.ensures at c.in_ok-write_whole.ensures.ok) q) c.write_rows.ensures.fault
+    (rw c.timestamp_octets.ensures at c.in_ok-write_whole.ensures.ok) q) c.write_rows.ensures.fault
 
 pub returns-in_err-write_whole-clause-took_part : goal.returns-in_err-write_whole-clause-took_part
 returns-in_err-write_whole-clause-took_part g c =
@@ -30,7 +30,7 @@ returns-in_err-write_whole-clause-took_part g c =
     rw (p.1)
     (part_first _ _ (to_be_bytes w32 c.args.timestamp)
     (groups_text (shape_in f) (rows_cut c.args.frame.now f.height))
-    (rw c.to_be_bytes.ensures at c.in_err-write_whole.ensures.part))
+    (rw c.timestamp_octets.ensures at c.in_err-write_whole.ensures.part))
 
 pub returns-clause-took_part : goal.returns-clause-took_part
 returns-clause-took_part g c =
@@ -38,4 +38,4 @@ returns-clause-took_part g c =
     on_err_weaker c.write_rows.result
     (λ q. part_then _ _ _ (to_be_bytes w32 c.args.timestamp)
     (groups_text (shape_in f) (rows_cut c.args.frame.now f.height))
-    (rw c.to_be_bytes.ensures at c.in_ok-write_whole.ensures.took) q) c.write_rows.ensures.took_part
+    (rw c.timestamp_octets.ensures at c.in_ok-write_whole.ensures.took) q) c.write_rows.ensures.took_part
