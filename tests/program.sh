@@ -61,6 +61,20 @@ expect() {
     [ -z "$1" ] || printf '%s\n' "$1"
 }
 
+# misworded NAME TEXT USAGE: whether the words of the last run were refused by the whole text that the Rust crate clap,
+# version 4, has for them: what stands behind `error: `, with backslashes as for printf, and what behind `Usage: st2110`,
+# or - for a text without usage. The text of missing words begins with `$missing`.
+misworded() {
+    shown=
+    [ "$3" = - ] || shown="
+
+Usage: st2110 $3"
+    says "$1" 2 '' "error: $(printf '%b' "$2")$shown
+
+For more information, try '--help'."
+}
+missing='the following required arguments were not provided:'
+
 # holds NAME FILE DIGITS: whether a file has just these octets.
 holds() {
     octets "$3" >want.file

@@ -64,11 +64,7 @@ cat g.rcv | "$program" merge --state h.rcv /dev/stdin g.rcv >out 2>err
 status=$?
 says 'merge: a pipe' 0 "$frame" ''
 run merge --state h.rcv g.rcv
-if [ "$status" = 2 ] && [ -s err ] && [ ! -s out ]; then
-    pass 'merge: one file alone'
-else
-    fail 'merge: one file alone' "status $status"
-fi
+misworded 'merge: one file alone' "$missing\n  <RIGHT>" 'merge --state <FILE> <LEFT> <RIGHT>'
 
 # The README's two captures, of which each has one of a picture's two datagrams.
 run receive --window 900 --state a.rcv "$root/examples/path-a.cap"

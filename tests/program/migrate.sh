@@ -62,8 +62,4 @@ says 'migrate: a pipe' 0 'records 1' ''
 holds 'migrate: a pipe, the file' piped.cap "$migrated"
 
 run migrate --sdp q.sdp old.cap
-if [ "$status" = 2 ] && [ -s err ] && [ ! -s out ]; then
-    pass 'migrate: without --out'
-else
-    fail 'migrate: without --out' "status $status"
-fi
+misworded 'migrate: without --out' "$missing\n  --out <FILE>" 'migrate --sdp <FILE> --out <FILE> <CAPTURE>'

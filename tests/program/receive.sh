@@ -166,8 +166,5 @@ run receive --state no-such-folder/g.rcv --sdp q.sdp --window 900 old.cap
 says 'receive: a receiver file that cannot be made' 3 "delivered 1
 $frame" 'st2110: device'
 run receive --sdp q.sdp --window 900 old.cap
-if [ "$status" = 2 ] && [ -s err ] && [ ! -s out ]; then
-    pass 'receive: without --state'
-else
-    fail 'receive: without --state' "status $status"
-fi
+misworded 'receive: without --state' "$missing\n  --state <FILE>" \
+    'receive --window <TS[,TS..]> --state <FILE> --sdp <FILE> <RECORDING>...'

@@ -180,21 +180,17 @@ says 'send: a pipe' 0 'sent 1' ''
 holds 'send: a pipe, the file' f.cap "$one"
 
 # Words that the command line refuses.
-refused() {
-    name=$1
-    shift
-    run send "$@"
-    if [ "$status" = 2 ] && [ -s err ] && [ ! -s out ]; then
-        pass "send: $name"
-    else
-        fail "send: $name" "status $status"
-    fi
-}
-refused 'without --out' p.pic
-refused 'without pictures' --out f.cap
-refused 'a payload type of 128' --out f.cap --pt 128 p.pic
-refused 'a number of 33 bits' --out f.cap --first 4294967296 p.pic
-refused 'a path C' --out f.cap --paths c p.pic
+run send p.pic
+misworded 'send: without --out' "$missing\n  --out <FILE>" 'send --out <FILE> <PICTURE>...'
+run send --out f.cap
+misworded 'send: without pictures' "$missing\n  <PICTURE>..." 'send --out <FILE> <PICTURE>...'
+run send --out f.cap --pt 128 p.pic
+misworded 'send: a payload type of 128' "invalid value '128' for '--pt <N>': 128 is not in 0..=127" -
+run send --out f.cap --first 4294967296 p.pic
+misworded 'send: a number of 33 bits' \
+    "invalid value '4294967296' for '--first <N>': 4294967296 is not in 0..=4294967295" -
+run send --out f.cap --paths c p.pic
+misworded 'send: a path C' "invalid value 'c' for '--paths <PATHS>'\n  [possible values: a, b, both]" -
 
 # The commands of README's first page.
 run send --sdp "$root/examples/four-by-two.sdp" --base 900 --max 40 --paths both --out sent.cap "$root/examples/four-by-two.pic"

@@ -48,8 +48,4 @@ else
     fail 'a reader of the first lines alone' "$(head -c 300 out)"
 fi
 run frobnicate
-if [ "$status" = 2 ] && [ -s err ] && [ ! -s out ]; then
-    pass 'a word that is no command'
-else
-    fail 'a word that is no command' "status $status"
-fi
+misworded 'a word that is no command' "unrecognized subcommand 'frobnicate'" '[OPTIONS] [COMMAND]'

@@ -54,238 +54,127 @@ inspect <RECORDING>...
 export --a ADDR:PORT --b --out FILE <CAPTURE>
 END
 
-# Words that are refused: status 2, nothing on standard output, and nothing is written.
-while read -r words; do
+# Words that are refused, and nothing is written: rows are WORDS|TEXT|USAGE, as `misworded` has them.
+twice='cannot be used multiple times'
+no_value='but none was supplied'
+digit='invalid digit found in string'
+process='process --job <JOB> --ts <TS> --fill <A,B,C> --out <FILE>'
+while IFS='|' read -r words text usage; do
     # shellcheck disable=SC2086
     run $words
-    if [ "$status" = 2 ] && [ -s err ] && [ ! -s out ]; then
-        pass "refused: $words"
-    else
-        fail "refused: $words" "status $status: $(head -c 200 out)"
-    fi
-done <<'END'
-frobnicate
-Trace
-trase
---frobnicate
--x
-trace examples
-trace sdp
-trace --out f.cap
-trace --verbose --verbose
-sdp q.sdp
-sdp --sdp q.sdp
-rehearse --max 40
-migrate
-migrate old.cap
-migrate --sdp q.sdp --out no-words.cap
-migrate --sdp q.sdp old.cap
-migrate --out no-words.cap old.cap
-migrate --sdp q.sdp --out no-words.cap old.cap old.cap
-migrate --sdp q.sdp --out no-words.cap --out no-words.cap old.cap
-migrate --sdp q.sdp old.cap --out
-send
-send --out no-words.cap
-send p.pic
-send --out no-words.cap --pt 128 p.pic
-send --out no-words.cap --pt 256 p.pic
-send --out no-words.cap --pt -1 p.pic
-send --out no-words.cap --pt x p.pic
-send --out no-words.cap --first 4294967296 p.pic
-send --out no-words.cap --base 4294967296 p.pic
-send --out no-words.cap --ssrc any p.pic
-send --out no-words.cap --max 4294967296 p.pic
-send --out no-words.cap --paths c p.pic
-send --out no-words.cap --paths A p.pic
-send --out no-words.cap --window 900 p.pic
-receive
-receive --window 900 --state no-words.rcv
-receive --window 900 old.cap
-receive --state no-words.rcv old.cap
-receive --window 900 --state no-words.rcv --refusals=yes old.cap
-receive --window 900 --state no-words.rcv --pt 96 old.cap
-merge
-merge --state no-words.rcv
-merge --state no-words.rcv g.rcv
-merge --state no-words.rcv g.rcv g.rcv g.rcv
-merge g.rcv g.rcv
-process
-process --job gain:1 --ts 900 --fill 0,0,0 --out no-words.cap
-process --ts 900 --fill 0,0,0 --out no-words.cap g.rcv
-process --job gain:1 --fill 0,0,0 --out no-words.cap g.rcv
-process --job gain:1 --ts 900 --out no-words.cap g.rcv
-process --job gain:1 --ts 900 --fill 0,0,0 g.rcv
-process --job gain:1 --ts x --fill 0,0,0 --out no-words.cap g.rcv
-process --job gain:1 --ts 4294967296 --fill 0,0,0 --out no-words.cap g.rcv
-process --job gain:1 --ts 900 --fill 0,0,0 --pt 128 --out no-words.cap g.rcv
-process --job gain:1 --ts 900 --fill 0,0,0 --paths b --out no-words.cap g.rcv
-report
-report g.rcv g.rcv
-report --state g.rcv
-loop
-loop p.pic p.pic
-loop --max 4294967296 p.pic
-loop --limit x p.pic
-loop --limit 18446744073709551616 p.pic
-loop --out no-words.cap p.pic
-import
-import r.pcap
-import --sdp q.sdp r.pcap
-import --out no-words.cap r.pcap
-import --sdp q.sdp --out no-words.cap
-import --sdp q.sdp --out no-words.cap --window 900 r.pcap
-import --sdp q.sdp --out no-words.cap --a r.pcap
-inspect
-inspect --sdp q.sdp r.pcap
-export
-export --a 239.1.1.1:5004 old.cap
-export --out no-words.pcap old.cap
-export --a 239.1.1.1:5004 --out no-words.pcap
-export --a 239.1.1.1:5004 --out no-words.pcap old.cap old.cap
-trace --version
-sdp --version
-rehearse --version
-migrate --version
-send --version
-receive --version
-merge --version
-process --version
-report --version
-loop --version
-import --version
-inspect --version
-export --version
+    misworded "refused: $words" "$text" "$usage"
+done <<END
+frobnicate|unrecognized subcommand 'frobnicate'|[OPTIONS] [COMMAND]
+help frobnicate|unrecognized subcommand 'frobnicate'|[OPTIONS] [COMMAND]
+Trace|unrecognized subcommand 'Trace'\n\n  tip: a similar subcommand exists: 'trace'|[OPTIONS] [COMMAND]
+trase|unrecognized subcommand 'trase'\n\n  tip: a similar subcommand exists: 'trace'|[OPTIONS] [COMMAND]
+--frobnicate|unexpected argument '--frobnicate' found|[OPTIONS] [COMMAND]
+-x|unexpected argument '-x' found|[OPTIONS] [COMMAND]
+trace examples|unexpected argument 'examples' found|trace [OPTIONS]
+trace sdp|unexpected argument 'sdp' found|trace [OPTIONS]
+trace --out f.cap|unexpected argument '--out' found|trace [OPTIONS]
+trace --verbose --verbose|the argument '--verbose' $twice|trace [OPTIONS]
+sdp q.sdp|unexpected argument 'q.sdp' found|sdp [OPTIONS]
+sdp --sdp q.sdp|unexpected argument '--sdp' found|sdp [OPTIONS]
+rehearse --max 40|unexpected argument '--max' found|rehearse [OPTIONS]
+migrate|$missing\n  --sdp <FILE>\n  --out <FILE>\n  <CAPTURE>|migrate --sdp <FILE> --out <FILE> <CAPTURE>
+migrate old.cap|$missing\n  --sdp <FILE>\n  --out <FILE>|migrate --sdp <FILE> --out <FILE> <CAPTURE>
+migrate --sdp q.sdp --out no-words.cap|$missing\n  <CAPTURE>|migrate --sdp <FILE> --out <FILE> <CAPTURE>
+migrate --sdp q.sdp old.cap|$missing\n  --out <FILE>|migrate --sdp <FILE> --out <FILE> <CAPTURE>
+migrate --out no-words.cap old.cap|$missing\n  --sdp <FILE>|migrate --sdp <FILE> --out <FILE> <CAPTURE>
+migrate --sdp q.sdp --out no-words.cap old.cap old.cap|unexpected argument 'old.cap' found|migrate [OPTIONS] --sdp <FILE> --out <FILE> <CAPTURE>
+migrate --sdp q.sdp --out no-words.cap --out no-words.cap old.cap|the argument '--out <FILE>' $twice|migrate [OPTIONS] --sdp <FILE> --out <FILE> <CAPTURE>
+migrate --sdp q.sdp old.cap --out|a value is required for '--out <FILE>' $no_value|-
+send|$missing\n  --out <FILE>\n  <PICTURE>...|send --out <FILE> <PICTURE>...
+send --out no-words.cap|$missing\n  <PICTURE>...|send --out <FILE> <PICTURE>...
+send p.pic|$missing\n  --out <FILE>|send --out <FILE> <PICTURE>...
+send p.pic --out|a value is required for '--out <FILE>' $no_value|-
+send p.pic --paths|a value is required for '--paths <PATHS>' $no_value\n  [possible values: a, b, both]|-
+send --ou no-words.cap p.pic|unexpected argument '--ou' found\n\n  tip: a similar argument exists: '--out'|send --out <FILE> <PICTURE>...
+send --out no-words.cap --out no-words.cap p.pic|the argument '--out <FILE>' $twice|send [OPTIONS] --out <FILE> <PICTURE>...
+send --out no-words.cap --pt 128 p.pic|invalid value '128' for '--pt <N>': 128 is not in 0..=127|-
+send --out no-words.cap --pt 256 p.pic|invalid value '256' for '--pt <N>': 256 is not in 0..=127|-
+send --out no-words.cap --pt -1 p.pic|unexpected argument '-1' found\n\n  tip: to pass '-1' as a value, use '-- -1'|send [OPTIONS] --out <FILE> <PICTURE>...
+send --out no-words.cap --pt x p.pic|invalid value 'x' for '--pt <N>': $digit|-
+send --out no-words.cap --first 4294967296 p.pic|invalid value '4294967296' for '--first <N>': 4294967296 is not in 0..=4294967295|-
+send --out no-words.cap --base 4294967296 p.pic|invalid value '4294967296' for '--base <TS>': 4294967296 is not in 0..=4294967295|-
+send --out no-words.cap --ssrc any p.pic|invalid value 'any' for '--ssrc <N>': $digit|-
+send --out no-words.cap --max 4294967296 p.pic|invalid value '4294967296' for '--max <OCTETS>': 4294967296 is not in 0..=4294967295|-
+send --out no-words.cap --paths c p.pic|invalid value 'c' for '--paths <PATHS>'\n  [possible values: a, b, both]|-
+send --out no-words.cap --paths A p.pic|invalid value 'A' for '--paths <PATHS>'\n  [possible values: a, b, both]|-
+send --out no-words.cap --paths bot p.pic|invalid value 'bot' for '--paths <PATHS>'\n  [possible values: a, b, both]\n\n  tip: a similar value exists: 'both'|-
+send --out no-words.cap --window 900 p.pic|unexpected argument '--window' found\n\n  tip: to pass '--window' as a value, use '-- --window'|send --out <FILE> <PICTURE>...
+receive|$missing\n  --window <TS[,TS..]>\n  --state <FILE>\n  <RECORDING>...|receive --window <TS[,TS..]> --state <FILE> <RECORDING>...
+receive --window 900 --state no-words.rcv|$missing\n  <RECORDING>...|receive --window <TS[,TS..]> --state <FILE> <RECORDING>...
+receive --window 900 old.cap|$missing\n  --state <FILE>|receive --window <TS[,TS..]> --state <FILE> <RECORDING>...
+receive --state no-words.rcv old.cap|$missing\n  --window <TS[,TS..]>|receive --window <TS[,TS..]> --state <FILE> <RECORDING>...
+receive --window 900 --state no-words.rcv --refusals=yes old.cap|unexpected value 'yes' for '--refusals' found; no more were expected|receive --window <TS[,TS..]> --state <FILE> --refusals <RECORDING>...
+receive --window 900 --state no-words.rcv --pt 96 old.cap|unexpected argument '--pt' found\n\n  tip: to pass '--pt' as a value, use '-- --pt'|receive --window <TS[,TS..]> --state <FILE> <RECORDING>...
+merge|$missing\n  --state <FILE>\n  <LEFT>\n  <RIGHT>|merge --state <FILE> <LEFT> <RIGHT>
+merge --state no-words.rcv|$missing\n  <LEFT>\n  <RIGHT>|merge --state <FILE> <LEFT> <RIGHT>
+merge --state no-words.rcv g.rcv|$missing\n  <RIGHT>|merge --state <FILE> <LEFT> <RIGHT>
+merge --state no-words.rcv g.rcv g.rcv g.rcv|unexpected argument 'g.rcv' found|merge [OPTIONS] --state <FILE> <LEFT> <RIGHT>
+merge g.rcv g.rcv|$missing\n  --state <FILE>|merge --state <FILE> <LEFT> <RIGHT>
+process|$missing\n  --job <JOB>\n  --ts <TS>\n  --fill <A,B,C>\n  --out <FILE>\n  <STATE>...|$process <STATE>...
+process --job gain:1 --ts 900 --fill 0,0,0 --out no-words.cap|$missing\n  <STATE>...|$process <STATE>...
+process --ts 900 --fill 0,0,0 --out no-words.cap g.rcv|$missing\n  --job <JOB>|$process <STATE>...
+process --job gain:1 --fill 0,0,0 --out no-words.cap g.rcv|$missing\n  --ts <TS>|$process <STATE>...
+process --job gain:1 --ts 900 --out no-words.cap g.rcv|$missing\n  --fill <A,B,C>|$process <STATE>...
+process --job gain:1 --ts 900 --fill 0,0,0 g.rcv|$missing\n  --out <FILE>|$process <STATE>...
+process --job gain:1 --ts x --fill 0,0,0 --out no-words.cap g.rcv|invalid value 'x' for '--ts <TS>': $digit|-
+process --job gain:1 --ts 4294967296 --fill 0,0,0 --out no-words.cap g.rcv|invalid value '4294967296' for '--ts <TS>': 4294967296 is not in 0..=4294967295|-
+process --job gain:1 --ts 900 --fill 0,0,0 --pt 128 --out no-words.cap g.rcv|invalid value '128' for '--pt <N>': 128 is not in 0..=127|-
+process --job gain:1 --ts 900 --fill 0,0,0 --paths b --out no-words.cap g.rcv|unexpected argument '--paths' found\n\n  tip: a similar argument exists: '--pt'|$process --pt <N> <STATE>...
+report|$missing\n  <STATE>|report <STATE>
+report g.rcv g.rcv|unexpected argument 'g.rcv' found|report [OPTIONS] <STATE>
+report --state g.rcv|unexpected argument '--state' found\n\n  tip: to pass '--state' as a value, use '-- --state'|report [OPTIONS] <STATE>
+loop|$missing\n  <PICTURE>|loop <PICTURE>
+loop p.pic p.pic|unexpected argument 'p.pic' found|loop [OPTIONS] <PICTURE>
+loop --max 4294967296 p.pic|invalid value '4294967296' for '--max <OCTETS>': 4294967296 is not in 0..=4294967295|-
+loop --limit x p.pic|invalid value 'x' for '--limit <TURNS>': $digit|-
+loop --limit 18446744073709551616 p.pic|invalid value '18446744073709551616' for '--limit <TURNS>': number too large to fit in target type|-
+loop --out no-words.cap p.pic|unexpected argument '--out' found\n\n  tip: to pass '--out' as a value, use '-- --out'|loop [OPTIONS] <PICTURE>
+import|$missing\n  --sdp <FILE>\n  --out <FILE>\n  <RECORDING>...|import --sdp <FILE> --out <FILE> <RECORDING>...
+import r.pcap|$missing\n  --sdp <FILE>\n  --out <FILE>|import --sdp <FILE> --out <FILE> <RECORDING>...
+import --sdp q.sdp r.pcap|$missing\n  --out <FILE>|import --sdp <FILE> --out <FILE> <RECORDING>...
+import --out no-words.cap r.pcap|$missing\n  --sdp <FILE>|import --sdp <FILE> --out <FILE> <RECORDING>...
+import --sdp q.sdp --out no-words.cap|$missing\n  <RECORDING>...|import --sdp <FILE> --out <FILE> <RECORDING>...
+import --sdp q.sdp --out no-words.cap --window 900 r.pcap|unexpected argument '--window' found\n\n  tip: to pass '--window' as a value, use '-- --window'|import --sdp <FILE> --out <FILE> <RECORDING>...
+import --sdp q.sdp --out no-words.cap --a r.pcap|$missing\n  <RECORDING>...|import --sdp <FILE> --out <FILE> --a <[ADDR:]PORT> <RECORDING>...
+inspect|$missing\n  <RECORDING>...|inspect <RECORDING>...
+inspect --sdp q.sdp r.pcap|unexpected argument '--sdp' found\n\n  tip: to pass '--sdp' as a value, use '-- --sdp'|inspect [OPTIONS] <RECORDING>...
+export|$missing\n  --a <ADDR:PORT>\n  --out <FILE>\n  <CAPTURE>|export --a <ADDR:PORT> --out <FILE> <CAPTURE>
+export --a 239.1.1.1:5004 old.cap|$missing\n  --out <FILE>|export --a <ADDR:PORT> --out <FILE> <CAPTURE>
+export --out no-words.pcap old.cap|$missing\n  --a <ADDR:PORT>|export --a <ADDR:PORT> --out <FILE> <CAPTURE>
+export --a 239.1.1.1:5004 --out no-words.pcap|$missing\n  <CAPTURE>|export --a <ADDR:PORT> --out <FILE> <CAPTURE>
+export --a 239.1.1.1:5004 --out no-words.pcap old.cap old.cap|unexpected argument 'old.cap' found|export [OPTIONS] --a <ADDR:PORT> --out <FILE> <CAPTURE>
 END
-# Of each kind of refused words the whole text, as the Rust crate clap has it, version 4: the words,
-# and on standard input what stands between `error: ` and the last two lines, which are alike.
-refused_text() {
-    {
-        echo "error: $(cat)"
-        printf '\nFor more information, try %s.\n' "'--help'"
-    } >want.err
-    # shellcheck disable=SC2086
-    run $1
-    if [ "$status" = 2 ] && [ ! -s out ] && cmp -s err want.err; then
-        pass "refused, its text: $1"
-    else
-        fail "refused, its text: $1" "status $status: $(cat err)"
-    fi
-}
-refused_text frobnicate <<'END'
-unrecognized subcommand 'frobnicate'
 
-Usage: st2110 [OPTIONS] [COMMAND]
-END
-refused_text trase <<'END'
-unrecognized subcommand 'trase'
-
-  tip: a similar subcommand exists: 'trace'
-
-Usage: st2110 [OPTIONS] [COMMAND]
-END
-refused_text 'help frobnicate' <<'END'
-unrecognized subcommand 'frobnicate'
-
-Usage: st2110 [OPTIONS] [COMMAND]
-END
-refused_text --frobnicate <<'END'
-unexpected argument '--frobnicate' found
-
-Usage: st2110 [OPTIONS] [COMMAND]
-END
-refused_text -x <<'END'
-unexpected argument '-x' found
-
-Usage: st2110 [OPTIONS] [COMMAND]
-END
-refused_text 'sdp --sdp q.sdp' <<'END'
-unexpected argument '--sdp' found
-
-Usage: st2110 sdp [OPTIONS]
-END
-refused_text 'sdp q.sdp' <<'END'
-unexpected argument 'q.sdp' found
-
-Usage: st2110 sdp [OPTIONS]
-END
-refused_text 'send --ou no-words.cap p.pic' <<'END'
-unexpected argument '--ou' found
-
-  tip: a similar argument exists: '--out'
-
-Usage: st2110 send --out <FILE> <PICTURE>...
-END
-refused_text 'send --out no-words.cap --window 900 p.pic' <<'END'
-unexpected argument '--window' found
-
-  tip: to pass '--window' as a value, use '-- --window'
-
-Usage: st2110 send --out <FILE> <PICTURE>...
-END
-refused_text 'send p.pic --out' <<'END'
-a value is required for '--out <FILE>' but none was supplied
-END
-refused_text 'send p.pic --paths' <<'END'
-a value is required for '--paths <PATHS>' but none was supplied
-  [possible values: a, b, both]
-END
-refused_text 'send --out no-words.cap --paths c p.pic' <<'END'
-invalid value 'c' for '--paths <PATHS>'
-  [possible values: a, b, both]
-END
-refused_text 'send --out no-words.cap --paths bot p.pic' <<'END'
-invalid value 'bot' for '--paths <PATHS>'
-  [possible values: a, b, both]
-
-  tip: a similar value exists: 'both'
-END
-refused_text 'send --out no-words.cap --pt 128 p.pic' <<'END'
-invalid value '128' for '--pt <N>': 128 is not in 0..=127
-END
-refused_text 'send --out no-words.cap --base 4294967296 p.pic' <<'END'
-invalid value '4294967296' for '--base <TS>': 4294967296 is not in 0..=4294967295
-END
-refused_text 'send --out no-words.cap --pt x p.pic' <<'END'
-invalid value 'x' for '--pt <N>': invalid digit found in string
-END
-refused_text 'loop --limit 18446744073709551616 p.pic' <<'END'
-invalid value '18446744073709551616' for '--limit <TURNS>': number too large to fit in target type
-END
-refused_text send <<'END'
-the following required arguments were not provided:
-  --out <FILE>
-  <PICTURE>...
-
-Usage: st2110 send --out <FILE> <PICTURE>...
-END
-refused_text 'merge --state no-words.rcv g.rcv' <<'END'
-the following required arguments were not provided:
-  <RIGHT>
-
-Usage: st2110 merge --state <FILE> <LEFT> <RIGHT>
-END
-refused_text 'report g.rcv g.rcv' <<'END'
-unexpected argument 'g.rcv' found
-
-Usage: st2110 report [OPTIONS] <STATE>
-END
-refused_text 'send --out no-words.cap --out no-words.cap p.pic' <<'END'
-the argument '--out <FILE>' cannot be used multiple times
-
-Usage: st2110 send [OPTIONS] --out <FILE> <PICTURE>...
-END
-refused_text 'trace --verbose --verbose' <<'END'
-the argument '--verbose' cannot be used multiple times
-
-Usage: st2110 trace [OPTIONS]
-END
-refused_text 'receive --window 900 --state no-words.rcv --refusals=yes old.cap' <<'END'
-unexpected value 'yes' for '--refusals' found; no more were expected
-
-Usage: st2110 receive --window <TS[,TS..]> --state <FILE> --refusals <RECORDING>...
+# No command has a version of its own. The usage has what is always needed, and the option that the
+# tip names.
+while IFS='|' read -r command options files; do
+    run "$command" --version
+    misworded "refused: $command --version" \
+        "unexpected argument '--version' found\n\n  tip: a similar argument exists: '--verbose'" \
+        "$command$options --verbose$files"
+done <<END
+trace||
+sdp||
+rehearse||
+migrate| --sdp <FILE> --out <FILE>| <CAPTURE>
+send| --out <FILE>| <PICTURE>...
+receive| --window <TS[,TS..]> --state <FILE>| <RECORDING>...
+merge| --state <FILE>| <LEFT> <RIGHT>
+process|${process#process}| <STATE>...
+report|| <STATE>
+loop|| <PICTURE>
+import| --sdp <FILE> --out <FILE>| <RECORDING>...
+inspect|| <RECORDING>...
+export| --a <ADDR:PORT> --out <FILE>| <CAPTURE>
 END
 "$program" "$(printf '\377')" >out 2>err </dev/null
 status=$?
 says 'a word that is no text' 2 '' 'error: the command line is no UTF-8 text'
 none 'refused words write no capture' no-words.cap
 none 'refused words write no receiver' no-words.rcv
+none 'refused words write no recording' no-words.pcap
