@@ -126,3 +126,52 @@ for command in 'send --out dev.cap no-such-file' \
     status=$?
     ends "$command, standard error is full" 3
 done
+
+# Own refusals that come before any file is read: a file that nobody writes to isn't waited for.
+mkfifo never
+never() {
+    timeout 30 "$program" "$@" >out 2>err </dev/null
+    status=$?
+}
+never receive --state dev.rcv --sdp never --window x never
+says 'before any file: --window' 1 '' 'st2110: receive 1 BadWindowText'
+never receive --state dev.rcv --sdp never --window 900 --ssrc x never
+says 'before any file: --ssrc' 1 '' 'st2110: receive 2 BadSource'
+never receive --state dev.rcv --sdp never --window x --ssrc x --a x never
+says 'before any file: --window, --ssrc and --a' 1 '' 'st2110: receive 1 BadWindowText'
+never process --job none --ts 900 --fill 16,128,128 --hold never --out dev.cap never never
+says 'before any file: --job' 1 '' 'st2110: process 1 BadJob'
+never export --a x --out dev.cap never
+says 'before any file: --a of export' 1 '' 'st2110: export 1 BadFlow'
+# shellcheck disable=SC2046
+never send --sdp never --out dev.cap $(awk 'BEGIN { for (i = 0; i < 10001; i++) print "never" }')
+says 'before any file: 10,001 pictures' 1 '' 'st2110: send 2 TooManyPictures'
+rm never
+
+# Want of memory is told as that, also where it is for a file's buffer: from the least memory in
+# which the program starts up to where all is done a run ends by status 4, and by no other.
+lacking() {
+    name=$1
+    shift
+    limit=1000
+    told=0
+    other=
+    status=9
+    while [ "$status" != 0 ] && [ "$limit" -lt 16000 ]; do
+        status=$( (ulimit -v "$limit"; "$program" "$@" >out 2>err </dev/null; echo $?) 2>/dev/null)
+        case $status:$(head -c 100 err) in
+            '4:st2110: memory') told=$((told + 1)) ;;
+            0:* | 1??:*) ;;
+            *) other="status $status: $(head -c 100 err) at $limit KiB" ;;
+        esac
+        limit=$((limit + 16))
+    done
+    if [ "$told" = 0 ] || [ -n "$other" ] || [ "$status" != 0 ]; then
+        fail "$name" "told $told times, and ${other:-no other way}, at last status $status"
+    else
+        pass "$name"
+    fi
+}
+lacking 'want of memory: report' report one.rcv
+lacking 'want of memory: send' send --max 40 --out dev.cap "$files/four-by-two.pic"
+lacking 'want of memory: merge' merge --state dev.rcv one.rcv one.rcv

@@ -17,6 +17,6 @@ pub use datagram_link::DatagramLink;
 pub use looping::{Looping, loop_back};
 pub use memory_link::MemoryLink;
 pub use migrating::migrate;
-pub use receiving::{Wanted, receive};
+pub use receiving::{Wanted, check_words, receive};
 pub use sender::Sending;
 pub use sending::send;

@@ -1,5 +1,6 @@
 //! The engine of `receive`.
-ghost use Rattle.std.specs.Prelude.{◌≡◌, ◌≢◌, ◌≤◌, ◌<◌, ◌+◌, ◌∷◌, ◌++◌, [], IfErr, IfOk, OnOk};
+ghost use Rattle.std.specs.Prelude.{◌≡◌, ◌≢◌, ◌≤◌, ◌<◌, ◌+◌, ◌∷◌, ◌++◌, ℕ, List, []};
+ghost use Rattle.std.specs.Prelude.{IfErr, IfOk, OnOk};
 ghost use Rattle.std.specs.Prelude.{MatchOption, Option, None, Some, drop, length, sum_by, take};
 ghost use Rattle.std.specs.List.{zip};
 ghost use Rattle.run_outcome.specs.Moments.{WasRead, pair};
@@ -52,6 +53,24 @@ pub struct Wanted<'a> {
 struct Asked<A: Allocator> {
     window: Vec<u32, A>,
     ssrc: Option<u32>,
+}
+
+/// Refuses the words that a receiver is opened by, its timestamps and its source, where they are
+/// none. No file is looked at.
+///
+/// # Errors
+///
+/// `ReceiveWindow` where the window lists no timestamps, and else `ReceiveSource` where the source
+/// is neither a number nor `any`; and that memory was wanted.
+pub fn check_words<A: Allocator + Copy>(alloc: A, wanted: Wanted<'_>) -> Result<(), Fault>
+    ensures window { OnOk result ((ts : List ℕ) × AreTimestamps wanted.entry.window.now ts) }
+    ensures source { OnOk result ((pin : Option ℕ) × IsSourceText wanted.entry.ssrc.now pin) }
+    ensures refusal { IfErr result (λ f. OfRefusal f
+        (IsWordRefusal wanted.entry.window.now wanted.entry.ssrc.now)) }
+    ensures failures { Accounts result [] }
+{
+    let _opening = read_opening(alloc, wanted)?;
+    Ok(())
 }
 
 /// Takes the datagrams of captures into one receiver.

@@ -3,7 +3,7 @@
 
 ghost use Rattle.std.specs.Prelude.{◌≤◌};
 
-use capture_engines::{Looping, Sending, Wanted};
+use capture_engines::{Looping, Sending, Wanted, check_words};
 use command_end::{Devices, end_run, end_without_memory};
 use command_line::{LoopWords, MigrateWords, NamedPaths, ReceiveWords, SendWords};
 use devices::{
@@ -100,7 +100,7 @@ pub fn receive<'a>(rt: &'a HostRuntime, words: &ReceiveWords<'a>, is_verbose: bo
     };
     let outcome = match open_files(rt, words, &mut files) {
         Ok(()) => take_files(rt, words, &mut files, &mut state, &mut output),
-        Err(fault) => Err(words_before(rt, words, fault, &mut state, &mut output)),
+        Err(fault) => Err(fault),
     };
     let is_whole = state.finish();
     let devices = Devices {
@@ -128,13 +128,14 @@ struct Files<'a> {
 /// The greatest number of octets of an SDP's file.
 const SDP: usize = 16_777_216;
 
-/// Reads the SDP where one is named, and finds by which flows each file is taken that is a
+/// Looks at the words, reads the SDP where one is named, and finds by which flows each file is taken that is a
 /// recording. No such file is looked at yet.
 fn open_files<'a>(
     rt: &'a HostRuntime,
     words: &ReceiveWords<'a>,
     files: &mut Files<'a>,
 ) -> Result<(), Fault> {
+    check_words(rt.alloc(), wanted(words))?;
     if let Some(name) = words.sdp {
         let mut file = FileSource::new(rt, name);
         let said = match read_text(rt.alloc(), &mut file, SDP) {
@@ -222,31 +223,6 @@ fn fault_in(captures: &[Source<'_>]) -> Fault {
         }
     }
     Fault::Device
-}
-
-/// What a run ends by whose files could not be opened: a refusal of `--window` or `--ssrc`, which
-/// comes first, or else this fault.
-fn words_before<'a, K: ByteSink, O: ByteSink>(
-    rt: &'a HostRuntime,
-    words: &ReceiveWords<'a>,
-    fault: Fault,
-    state: &mut K,
-    output: &mut O,
-) -> Fault {
-    let mut sdp: Option<Source<'_>> = None;
-    let mut captures: [Source<'_>; 0] = [];
-    match capture_engines::receive(
-        rt.alloc(),
-        wanted(words),
-        &mut sdp,
-        &mut captures,
-        state,
-        output,
-    ) {
-        Err(Fault::Refused(Refusal::ReceiveWindow)) => Fault::Refused(Refusal::ReceiveWindow),
-        Err(Fault::Refused(Refusal::ReceiveSource)) => Fault::Refused(Refusal::ReceiveSource),
-        _ => fault,
-    }
 }
 
 /// Where the reading of the SDP stands, where one is named.

@@ -16,6 +16,7 @@ pub fn end_run(
     kept: Option<&[u8]>,
 ) -> u8 {
     let mut faults = OutputSink::new(rt.stderr());
+    let outcome = blamed(outcome, devices);
     let status = end(outcome, &mut faults);
     if is_whole || status == Status::Device.number() {
         tell_more(rt, is_verbose, outcome, devices, kept);
@@ -25,6 +26,15 @@ pub fn end_run(
     let status = end(cut, &mut faults);
     tell_more(rt, is_verbose, cut, devices, kept);
     status
+}
+
+/// An outcome by what the devices say: where one of them failed for want of memory, memory was
+/// wanted.
+fn blamed(outcome: Result<(), Fault>, devices: &Devices<'_>) -> Result<(), Fault> {
+    match outcome {
+        Err(Fault::Device) if devices.want_memory() => Err(Fault::Memory),
+        outcome => outcome,
+    }
 }
 
 /// Says where the fault of a run is, if it came to one, and if that is asked for.

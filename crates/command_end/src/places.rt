@@ -3,6 +3,7 @@ use crate::lines::{line_at, shown};
 use devices::{Reading, Writing};
 use run_outcome::{Fault, Form, LineFault, Refusal};
 use sdp_format::Located;
+use std::io::{self, ErrorKind};
 
 /// The devices that a command worked on.
 #[derive(Clone, Copy)]
@@ -15,6 +16,28 @@ pub struct Devices<'a> {
     pub written: Option<Writing<'a>>,
     /// Standard output.
     pub output: Writing<'a>,
+}
+
+impl Devices<'_> {
+    /// Whether one of them failed since there was no memory, as for the buffer of a file.
+    pub(crate) fn want_memory(&self) -> bool {
+        let read = [fault_of(self.sdp), fault_of(self.read)];
+        let written = [self.written.and_then(|it| it.fault), self.output.fault];
+        read.iter().chain(written.iter()).any(|it| wants_memory(it))
+    }
+}
+
+/// Why a reading failed, where there is one that did.
+fn fault_of(reading: Option<Reading<'_>>) -> Option<io::Error> {
+    reading?.fault
+}
+
+/// Whether that is why something failed that there was no memory.
+fn wants_memory(fault: &Option<io::Error>) -> bool {
+    match fault {
+        Some(fault) => fault.kind() == ErrorKind::OutOfMemory,
+        None => false,
+    }
 }
 
 // That standard error may fail too changes nothing, here and below: the status is the fault's.
