@@ -1,36 +1,46 @@
 //! How a command ends: by a status, by a line where it came to a fault, and, where that is asked
 //! for, by one more line that says where the fault is and what was wanted there.
+ghost use Rattle.std.specs.Prelude.{◌≡◌, ◌⊎◌, Err};
+ghost use Rattle.command_end.specs.Ended.{TellsEnd};
+ghost use Rattle.devices.specs.Passed.{output_failures, output_took};
+
+use crate::command::Ran;
 use crate::places::{Devices, explain};
 use devices::OutputSink;
 use run_outcome::{Fault, Status, end};
-use std::io::Write;
+use std::io::Stderr;
 
-/// Ends a command, and answers its status. Where what it wrote is not written out whole, which its
-/// engine can't know, that is one fault more. `kept` is what was read of standard input.
-pub fn end_run(
+/// Ends a command that came to this, and answers its status. Where what it wrote is not written out
+/// whole, that is one fault more.
+pub(crate) fn end_run(
     rt: &HostRuntime,
     is_verbose: bool,
-    outcome: Result<(), Fault>,
-    is_whole: bool,
+    ran: Ran,
     devices: &Devices<'_>,
-    kept: Option<&[u8]>,
-) -> u8 {
-    let mut faults = OutputSink::new(rt.stderr());
-    let outcome = blamed(outcome, devices);
-    let status = end(outcome, &mut faults);
-    if is_whole || status == Status::Device.number() {
-        tell_more(rt, is_verbose, outcome, devices, kept);
+    faults: &mut OutputSink<Stderr>,
+) -> u8
+    ensures { TellsEnd ran.outcome ran.is_whole result
+        (output_took faults.old) (output_took faults.new)
+        (output_failures faults.old) (output_failures faults.new) }
+{
+    let outcome = blamed(ran.outcome, devices);
+    let status = end(outcome, faults);
+    tell_more(rt, is_verbose, outcome, devices);
+    if ran.is_whole || status == Status::Device.number() {
         return status;
     }
     let cut = Err(Fault::Device);
-    let status = end(cut, &mut faults);
-    tell_more(rt, is_verbose, cut, devices, kept);
+    let status = end(cut, faults);
+    tell_more(rt, is_verbose, cut, devices);
     status
 }
 
 /// An outcome by what the devices say: where one of them failed for want of memory, memory was
 /// wanted.
-fn blamed(outcome: Result<(), Fault>, devices: &Devices<'_>) -> Result<(), Fault> {
+fn blamed(outcome: Result<(), Fault>, devices: &Devices<'_>) -> Result<(), Fault>
+    ensures { (result ≡ outcome)
+        ⊎ ((outcome ≡ Err Fault.Device) × (result ≡ Err Fault.Memory)) }
+{
     match outcome {
         Err(Fault::Device) if devices.want_memory() => Err(Fault::Memory),
         outcome => outcome,
@@ -43,25 +53,9 @@ fn tell_more(
     is_verbose: bool,
     outcome: Result<(), Fault>,
     devices: &Devices<'_>,
-    kept: Option<&[u8]>,
 ) {
     match outcome {
-        Err(fault) if is_verbose => explain(rt, fault, devices, kept),
+        Err(fault) if is_verbose => explain(rt, fault, devices),
         _ => {}
     }
-}
-
-/// Ends a run whose list of files there was no memory for.
-pub fn end_without_memory<W: Write + Drop>(
-    rt: &HostRuntime,
-    is_verbose: bool,
-    output: &OutputSink<W>,
-) -> u8 {
-    let devices = Devices {
-        sdp: None,
-        read: None,
-        written: None,
-        output: output.writing(),
-    };
-    end_run(rt, is_verbose, Err(Fault::Memory), true, &devices, None)
 }

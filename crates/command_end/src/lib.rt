@@ -2,9 +2,10 @@
 //! where that is asked for, one more line that says where the fault is and what was wanted there.
 #![tactic(auto)]
 
+mod command;
 mod ending;
 mod lines;
 mod places;
 
-pub use ending::{end_run, end_without_memory};
+pub use command::{Command, Ended, Ran, end_without_memory, run_command};
 pub use places::Devices;

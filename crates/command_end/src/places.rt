@@ -16,6 +16,8 @@ pub struct Devices<'a> {
     pub written: Option<Writing<'a>>,
     /// Standard output.
     pub output: Writing<'a>,
+    /// The script or the SDP that was read from standard input, where it was kept.
+    pub kept: Option<&'a [u8]>,
 }
 
 impl Devices<'_> {
@@ -151,25 +153,24 @@ fn blamed_by(refusal: Refusal) -> Blamed {
     }
 }
 
-/// Says where the fault of a run is, and what was wanted there; `kept` is the script or the SDP
-/// that was read from standard input, where it was kept.
-pub fn explain(rt: &HostRuntime, fault: Fault, devices: &Devices<'_>, kept: Option<&[u8]>) {
+/// Says where the fault of a run is, and what was wanted there.
+pub(crate) fn explain(rt: &HostRuntime, fault: Fault, devices: &Devices<'_>) {
     match fault {
         Fault::Device => tell_device(rt, devices),
         Fault::Memory => tell_memory(rt, devices),
-        Fault::Refused(refusal) => tell_refusal(rt, refusal, devices, kept),
+        Fault::Refused(refusal) => tell_refusal(rt, refusal, devices),
     }
 }
 
 /// Says where a refusal is, and what was wanted there.
-fn tell_refusal(rt: &HostRuntime, refusal: Refusal, devices: &Devices<'_>, kept: Option<&[u8]>) {
+fn tell_refusal(rt: &HostRuntime, refusal: Refusal, devices: &Devices<'_>) {
     let wanted = refusal.wanted();
     match blamed_by(refusal) {
         Blamed::Word(name) => tell_name(rt, name, wanted),
         Blamed::Read => tell_reading(rt, devices.read, wanted),
         Blamed::Sdp => tell_reading(rt, devices.sdp.or(devices.read), wanted),
-        Blamed::Line(line) => tell_script(rt, devices.read, kept, line, wanted),
-        Blamed::Described(at) => tell_sdp(rt, devices, kept, at, wanted),
+        Blamed::Line(line) => tell_script(rt, devices.read, devices.kept, line, wanted),
+        Blamed::Described(at) => tell_sdp(rt, devices, at, wanted),
     }
 }
 
@@ -199,18 +200,12 @@ fn tell_script(
 
 /// Says that in a place of an SDP something else was wanted. One without a file of its own is that
 /// of the first capture.
-fn tell_sdp(
-    rt: &HostRuntime,
-    devices: &Devices<'_>,
-    kept: Option<&[u8]>,
-    at: Located,
-    wanted: &str,
-) {
+fn tell_sdp(rt: &HostRuntime, devices: &Devices<'_>, at: Located, wanted: &str) {
     let Some(place) = at.place else {
         return tell_reading(rt, devices.sdp.or(devices.read), wanted);
     };
     match (devices.sdp, devices.read) {
-        (Some(sdp), _) => match part_of(kept, place.start, place.end) {
+        (Some(sdp), _) => match part_of(devices.kept, place.start, place.end) {
             Some(text) => tell_text(rt, sdp.name, place.line, text, wanted),
             None => tell_line(rt, sdp.name, place.line, "", wanted),
         },

@@ -1,5 +1,6 @@
 //! Files that are read, by a name that may be absent, and by a list of names.
-ghost use Rattle.std.specs.Prelude.{◌≡◌, ◌↔◌, IfOk, IsSome, length, vec_len};
+ghost use Rattle.std.specs.Prelude.{◌≡◌, ◌↔◌, [], All, IfOk, IfSome, IsSome, length, vec_len};
+ghost use Rattle.devices.specs.Passed.{file_gave};
 
 use crate::file_source::FileSource;
 use crate::standing::Reading;
@@ -7,7 +8,8 @@ use std::alloc::AllocError;
 
 /// The file of this name, where one is named, which isn't looked at yet.
 pub fn named_file<'a>(rt: &'a HostRuntime, name: Option<&'a str>) -> Option<FileSource<'a>>
-    ensures { IsSome result ↔ IsSome name.entry }
+    ensures named { IsSome result ↔ IsSome name.entry }
+    ensures fresh { IfSome result (λ f. file_gave f ≡ []) }
 {
     match name {
         Some(name) => Some(FileSource::new(rt, name)),
@@ -20,7 +22,8 @@ pub fn named_files<'a>(
     rt: &'a HostRuntime,
     names: &[&'a str],
 ) -> Result<Vec<FileSource<'a>>, AllocError>
-    ensures { IfOk result (λ files. vec_len files ≡ length names.now) }
+    ensures len { IfOk result (λ files. vec_len files ≡ length names.now) }
+    ensures fresh { IfOk result (λ files. All (λ f. file_gave f ≡ []) files.items) }
 {
     let mut files = Vec::new(rt.alloc());
     for name in names {
@@ -34,7 +37,8 @@ pub fn given_files<'a>(
     rt: &'a HostRuntime,
     names: &[&'a str],
 ) -> Result<Vec<FileSource<'a>>, AllocError>
-    ensures { IfOk result (λ files. vec_len files ≡ length names.now) }
+    ensures len { IfOk result (λ files. vec_len files ≡ length names.now) }
+    ensures fresh { IfOk result (λ files. All (λ f. file_gave f ≡ []) files.items) }
 {
     let mut files = Vec::new(rt.alloc());
     for name in names {

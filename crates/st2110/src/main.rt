@@ -1,12 +1,19 @@
 //! The program `st2110`: words in, a status out.
 #![tactic(auto)]
 
-use capture_runs::{loop_back, migrate, receive, send};
+ghost use Rattle.std.specs.Result.{ForOk};
+
+mod importing;
+
+use capture_runs::{LoopCommand, MigrateCommand, ReceiveCommand, SendCommand};
+use command_end::{Command, end_without_memory, run_command};
 use command_line::{Given, Words, WordsFault, given_words, read_words};
-use receiver_runs::{merge, process, report};
-use recording_runs::{export, import, inspect};
+use importing::import;
+use receiver_runs::{MergeCommand, ProcessCommand, ReportCommand};
+use recording_runs::{ExportCommand, InspectCommand};
 use run_outcome::Status;
-use script_runs::{rehearse, sdp, trace};
+use script_runs::{RehearseCommand, SdpCommand, TraceCommand};
+use std::alloc::AllocError;
 use std::fs::File;
 use std::process::ExitCode;
 
@@ -35,23 +42,48 @@ fn run(rt: &HostRuntime) -> u8 {
     }
 }
 
-/// Runs the command.
+/// Runs the command, and answers the exit status.
 fn follow(rt: &HostRuntime, given: &Given<'_>) -> u8 {
     let is_verbose = given.is_verbose;
     match &given.words {
-        Words::Trace => trace(rt, is_verbose),
-        Words::Sdp => sdp(rt, is_verbose),
-        Words::Rehearse => rehearse(rt, is_verbose),
-        Words::Migrate(words) => migrate(rt, words, is_verbose),
-        Words::Send(words) => send(rt, words, is_verbose),
-        Words::Receive(words) => receive(rt, words, is_verbose),
-        Words::Merge(words) => merge(rt, words, is_verbose),
-        Words::Process(words) => process(rt, words, is_verbose),
-        Words::Report(state) => report(rt, state, is_verbose),
-        Words::Loop(words) => loop_back(rt, words, is_verbose),
+        Words::Trace => run_command(rt, is_verbose, TraceCommand::new(rt, is_verbose)).status,
+        Words::Sdp => run_command(rt, is_verbose, SdpCommand::new(rt, is_verbose)).status,
+        Words::Rehearse => run_command(rt, is_verbose, RehearseCommand::new(rt, is_verbose)).status,
+        Words::Migrate(words) => {
+            run_command(rt, is_verbose, MigrateCommand::new(rt, words)).status
+        }
+        Words::Send(words) => run_made(rt, is_verbose, SendCommand::new(rt, words)),
+        Words::Receive(words) => {
+            run_command(rt, is_verbose, ReceiveCommand::new(rt, words)).status
+        }
+        Words::Merge(words) => run_command(rt, is_verbose, MergeCommand::new(rt, words)).status,
+        Words::Process(words) => run_made(rt, is_verbose, ProcessCommand::new(rt, words)),
+        Words::Report(state) => run_command(rt, is_verbose, ReportCommand::new(rt, state)).status,
+        Words::Loop(words) => run_command(rt, is_verbose, LoopCommand::new(rt, words)).status,
         Words::Import(words) => import(rt, words, is_verbose),
-        Words::Export(words) => export(rt, words, is_verbose),
-        Words::Inspect(recordings) => inspect(rt, recordings.as_slice(), is_verbose),
+        Words::Export(words) => run_command(rt, is_verbose, ExportCommand::new(rt, words)).status,
+        Words::Inspect(recordings) => {
+            run_made(
+                rt,
+                is_verbose,
+                InspectCommand::new(rt, recordings.as_slice()),
+            )
+        }
+    }
+}
+
+/// Runs a command, or ends where there was no memory for its list of files, and answers the exit
+/// status.
+fn run_made<C: Command + Drop>(
+    rt: &HostRuntime,
+    is_verbose: bool,
+    made: Result<C, AllocError>,
+) -> u8
+    requires { ForOk made C.is_new }
+{
+    match made {
+        Ok(command) => run_command(rt, is_verbose, command).status,
+        Err(_) => end_without_memory(rt, is_verbose),
     }
 }
 

@@ -1,0 +1,38 @@
+-- What is told of an outcome by the files that were read.
+use Rattle.std.proofs.Common.{◌≡◌, ◌⊎◌, inl, inr, List, Result, Ok, Err, subst, sym}
+use Rattle.std.specs.Prelude.{Any, IfErr, OnOk}
+use Rattle.run_outcome.specs.Refusing.{OfRefusal}
+use Rattle.run_outcome.specs.declared.fault.Fault.{Fault}
+use Rattle.run_outcome.specs.declared.fault.Fault.TheVariants.{Refused, Device, Memory}
+use Rattle.run_outcome.specs.declared.refusal.Refusal.{Refusal}
+use Rattle.capture_runs.specs.Opened.{Source}
+use Rattle.capture_runs.specs.Received.{EndsRecording, IsErrOf}
+
+-- where it is no fault it is the outcome
+pub told_ok : (o r : Result (Unit {0}) Fault) (cs : List Source) (P : Type 0)
+    → (r ≡ o) ⊎ ((o ≡ Err Device) × IsErrOf cs r) → OnOk o P → OnOk r P
+told_ok o r cs P (inl e) p = subst (λ (x : Result (Unit {0}) Fault). OnOk x P) (sym e) p
+told_ok o (Ok v) cs P (inr q) p = absurd q.1
+told_ok o (Err f) cs P (inr q) p = tt
+
+widen : (o : Result (Unit {0}) Fault) (cs : List Source) (P : Refusal → Type 0)
+    → IfErr o (λ f. OfRefusal f P)
+    → IfErr o (λ f. OfRefusal f (λ x. P x ⊎ Any (EndsRecording x) cs))
+widen (Ok v) cs P p = tt
+widen (Err (Refused r)) cs P p = inl p
+widen (Err Device) cs P p = tt
+widen (Err Memory) cs P p = tt
+
+-- and where it is a refusal, the outcome's or that of a recording
+pub told_refused : (o r : Result (Unit {0}) Fault) (cs : List Source) (P : Refusal → Type 0)
+    → (r ≡ o) ⊎ ((o ≡ Err Device) × IsErrOf cs r) → IfErr o (λ f. OfRefusal f P)
+    → IfErr r (λ f. OfRefusal f (λ x. P x ⊎ Any (EndsRecording x) cs))
+told_refused o r cs P (inl e) p =
+    subst
+    (λ (y : Result (Unit {0}) Fault).
+    IfErr y (λ f. OfRefusal f (λ x. P x ⊎ Any (EndsRecording x) cs)))
+    (sym e) (widen o cs P p)
+told_refused o (Ok v) cs P (inr q) p = absurd q.1
+told_refused o (Err (Refused r)) cs P (inr q) p = inr q.1
+told_refused o (Err Device) cs P (inr q) p = tt
+told_refused o (Err Memory) cs P (inr q) p = tt

@@ -1,0 +1,200 @@
+//! `receive` over the devices of this machine.
+ghost use Rattle.std.specs.Prelude.{◌≡◌, ◌⊎◌, ◌∷◌, [], Any, Err, IfErr, OnOk, sum_by};
+ghost use Rattle.std.specs.List.{zip};
+ghost use Rattle.std.specs.Option.{option_copied};
+ghost use Rattle.capture_engines.specs.Received.{IsReceiveRefusal};
+ghost use Rattle.capture_engines.specs.Taking.{Receives};
+ghost use Rattle.capture_runs.specs.Opened.{AreUnread, IsOpeningRefusal};
+ghost use Rattle.capture_runs.specs.Received.{AccountsFiles, EndsRecording, IsErrOf};
+ghost use Rattle.devices.specs.Passed.{file_took, output_failures, output_took, writing_failures};
+ghost use Rattle.run_outcome.specs.Fault.{counts, failures_in};
+ghost use Rattle.run_outcome.specs.Moments.{WasRead, pair};
+ghost use Rattle.run_outcome.specs.Refusing.{OfRefusal};
+ghost use Rattle.run_outcome.specs.declared.fault.Fault.TheVariants.{Refused};
+ghost use Rattle.recorded_capture.specs.Source.{IsOver};
+
+use crate::opening::{Asked, Files, Source};
+use capture_engines::Wanted;
+use command_end::{Command, Devices, Ran};
+use command_line::ReceiveWords;
+use devices::{FileSink, OutputSink};
+use recording_engines::Importing;
+use run_outcome::Fault;
+use std::io::Stdout;
+
+/// Takes the datagrams of captures and recordings into one receiver.
+#[derive(Drop)]
+pub struct ReceiveCommand<'a> {
+    rt: &'a HostRuntime,
+    pub asked: Asked<'a>,
+    /// Whether the words are refused, or the SDP could not be read.
+    pub opened: Result<(), Fault>,
+    pub files: Files<'a>,
+    pub state: FileSink<'a>,
+    pub output: OutputSink<Stdout>,
+}
+
+impl<'a> ReceiveCommand<'a> {
+    /// The command of these words, of which nothing is done yet but that the SDP is read.
+    pub fn new(rt: &'a HostRuntime, words: &'a ReceiveWords<'a>) -> Self
+        ensures { ⟦<ReceiveCommand<'a> as Command>⟧.is_new result }
+    {
+        let asked = asked(words);
+        let mut files = Files::new(rt);
+        let opened = files.open(rt, asked);
+        ReceiveCommand {
+            rt,
+            asked,
+            opened,
+            files,
+            state: FileSink::new(rt, words.state),
+            output: OutputSink::new(rt.stdout()),
+        }
+    }
+}
+
+/// Receives, and tells a fault of what was read in place of a device's.
+fn take(
+    rt: &HostRuntime,
+    wanted: Wanted<'_>,
+    files: &mut Files<'_>,
+    state: &mut FileSink<'_>,
+    output: &mut OutputSink<Stdout>,
+) -> Result<(), Fault>
+    ensures taken { OnOk result (Receives wanted.entry.window.now wanted.entry.ssrc.now
+        (pair files.old.sdp files.new.sdp) (WasRead (λ s. s.gave) (λ s. IsOver s.place))
+        (zip files.old.captures.items files.new.captures.items) wanted.entry.tells_refusals
+        (output_took output.old) (output_took output.new)
+        (file_took state.old) (file_took state.new)) }
+    ensures refusal { IfErr result (λ f. OfRefusal f (λ r.
+        IsReceiveRefusal wanted.entry.window.now wanted.entry.ssrc.now
+        (pair files.old.sdp files.new.sdp) (WasRead (λ s. s.gave) (λ s. IsOver s.place))
+        (zip files.old.captures.items files.new.captures.items) r
+        ⊎ Any (EndsRecording r) files.new.captures.items)) }
+    ensures owed { AccountsFiles result
+        (counts (failures_in (λ s. s.failures) files.old.sdp)
+        (failures_in (λ s. s.failures) files.new.sdp)
+        ∷ counts (sum_by (λ s. s.failures) files.old.captures.items)
+        (sum_by (λ s. s.failures) files.new.captures.items)
+        ∷ counts (writing_failures state.old) (writing_failures state.new)
+        ∷ counts (output_failures output.old) (output_failures output.new) ∷ []) }
+{
+    let outcome = capture_engines::receive(
+        rt.alloc(),
+        wanted,
+        &mut files.sdp,
+        files.captures.as_mut_slice(),
+        state,
+        output,
+    );
+    told_by(outcome, files.captures.as_slice())
+}
+
+/// An outcome, or in place of a device's fault that of the first file that ended by one.
+fn told_by(outcome: Result<(), Fault>, captures: &[Source<'_>]) -> Result<(), Fault>
+    ensures { (result ≡ outcome)
+        ⊎ ((outcome ≡ Err Fault.Device) × IsErrOf captures.now result) }
+{
+    match outcome {
+        Err(Fault::Device) => Err(fault_in(captures)),
+        outcome => outcome,
+    }
+}
+
+/// The fault of the first file that ended by one; else a device failed.
+fn fault_in(captures: &[Source<'_>]) -> Fault
+    ensures { OfRefusal result (λ r. Any (EndsRecording r) captures.now) }
+{
+    for capture in captures {
+        if let Some(fault) = capture.fault() {
+            return fault;
+        }
+    }
+    Fault::Device
+}
+
+/// What `receive` is asked for.
+fn asked<'a>(words: &'a ReceiveWords<'a>) -> Asked<'a> {
+    Asked {
+        wanted: Wanted {
+            window: words.window.as_bytes(),
+            ssrc: words.ssrc.as_bytes(),
+            tells_refusals: words.refusals,
+        },
+        flows: Importing {
+            a: octets(words.a),
+            b: octets(words.b),
+        },
+        sdp: words.sdp,
+        recordings: words.recordings.as_slice(),
+    }
+}
+
+/// The octets of a text, where there is one.
+fn octets(text: Option<&str>) -> Option<&[u8]> {
+    match text {
+        Some(text) => Some(text.as_bytes()),
+        None => None,
+    }
+}
+
+impl<'a> Command for ReceiveCommand<'a> {
+    // (the SDP was read, which the flows of recordings wait for)
+    ghost is_new = { λ c. AreUnread c.files.sdp c.files.captures.items
+        × (file_took c.state ≡ []) × (output_took c.output ≡ [])
+        × IfErr c.opened (λ f. OfRefusal f (IsOpeningRefusal c.asked.wanted.window.now
+        c.asked.wanted.ssrc.now (option_copied c.asked.flows.a) (option_copied c.asked.flows.b)
+        c.files.unread)) };
+
+    // What is written is the file of a receiver of the window and the source that are asked for,
+    // and of what the SDP text says, which holds the Frames of all datagrams of the captures and
+    // recordings that were read; and what is printed counts those.
+    ghost does = { λ old new. Receives old.asked.wanted.window.now old.asked.wanted.ssrc.now
+        (pair old.files.sdp new.files.sdp) (WasRead (λ s. s.gave) (λ s. IsOver s.place))
+        (zip old.files.captures.items new.files.captures.items)
+        old.asked.wanted.tells_refusals (output_took old.output) (output_took new.output)
+        (file_took old.state) (file_took new.state) };
+
+    // A refusal before datagrams were taken, one of the words or of what was read, or the fault of
+    // a recording.
+    ghost is_refused = { λ old new r. (old.opened ≡ Err (Refused r))
+        ⊎ IsReceiveRefusal old.asked.wanted.window.now old.asked.wanted.ssrc.now
+        (pair old.files.sdp new.files.sdp) (WasRead (λ s. s.gave) (λ s. IsOver s.place))
+        (zip old.files.captures.items new.files.captures.items) r
+        ⊎ Any (EndsRecording r) new.files.captures.items };
+
+    ghost owes = { λ old new outcome. (outcome ≡ old.opened) ⊎ AccountsFiles outcome
+        (counts (failures_in (λ s. s.failures) old.files.sdp)
+        (failures_in (λ s. s.failures) new.files.sdp)
+        ∷ counts (sum_by (λ s. s.failures) old.files.captures.items)
+        (sum_by (λ s. s.failures) new.files.captures.items)
+        ∷ counts (writing_failures old.state) (writing_failures new.state)
+        ∷ counts (output_failures old.output) (output_failures new.output) ∷ []) };
+
+    fn run(&mut self) -> Ran {
+        let outcome = match self.opened {
+            Ok(()) => take(
+                self.rt,
+                self.asked.wanted,
+                &mut self.files,
+                &mut self.state,
+                &mut self.output,
+            ),
+            Err(fault) => Err(fault),
+        };
+        Ran {
+            outcome,
+            is_whole: self.state.finish(),
+        }
+    }
+
+    fn devices(&self) -> Devices<'_> {
+        Devices {
+            sdp: self.files.sdp_reading(),
+            read: self.files.last_read(),
+            written: Some(self.state.writing()),
+            output: self.output.writing(),
+            kept: None,
+        }
+    }
+}

@@ -1,0 +1,61 @@
+-- What the devices of this machine gave and took so far, and how often each failed (own).
+use Rattle.std.specs.Prelude.{◌≡◌, ℕ, List, true}
+use Rattle.st_format.specs.History.{IsRead}
+use Rattle.st_format.specs.declared.path.Path.{Path}
+use Rattle.devices.specs.declared.file_sink.FileSink.{FileSink}
+use Rattle.devices.specs.declared.file_source.FileSource.{FileSource}
+use Rattle.devices.specs.declared.file_source.Progress.TheVariants.{Past}
+use Rattle.devices.specs.declared.input.InputSource.{InputSource}
+use Rattle.devices.specs.declared.link.UdpLink.{UdpLink}
+use Rattle.devices.specs.declared.output.OutputSink.{OutputSink}
+
+-- a file that is read: what it gave, whether it told its end
+abbrev pub file_gave : FileSource → List ℕ
+file_gave f = f.gave.octets
+
+abbrev pub file_ended : FileSource → Type 0
+file_ended f = f.progress ≡ Past
+
+abbrev pub file_failures : FileSource → ℕ
+file_failures f = f.failures
+
+-- what was read of it from one moment to the next
+abbrev pub FileRead : FileSource → FileSource → List ℕ → Type 0
+FileRead old new octets = IsRead (file_gave old) (file_gave new) (file_ended new) octets
+
+-- a file that is written: what it took
+abbrev pub file_took : FileSink → List ℕ
+file_took f = f.took.octets
+
+abbrev pub writing_failures : FileSink → ℕ
+writing_failures f = f.failures
+
+-- standard input: what it gave, whether it told its end
+abbrev pub input_gave : {R : Type 0} → InputSource R → List ℕ
+input_gave s = s.gave.octets
+
+abbrev pub input_ended : {R : Type 0} → InputSource R → Type 0
+input_ended s = s.is_ended ≡ true
+
+abbrev pub input_failures : {R : Type 0} → InputSource R → ℕ
+input_failures s = s.failures
+
+-- standard output and error: what they took
+abbrev pub output_took : {W : Type 0} → OutputSink W → List ℕ
+output_took s = s.took.octets
+
+abbrev pub output_failures : {W : Type 0} → OutputSink W → ℕ
+output_failures s = s.failures
+
+-- two sockets: the datagrams that they took, those that came, how many they count
+abbrev pub link_took : UdpLink → List (List ℕ)
+link_took l = l.took.datagrams
+
+abbrev pub link_came : UdpLink → List (Path × List ℕ)
+link_came l = l.came.came
+
+abbrev pub link_delivered : UdpLink → ℕ
+link_delivered l = l.delivered
+
+abbrev pub link_failures : UdpLink → ℕ
+link_failures l = l.failures

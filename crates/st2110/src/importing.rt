@@ -1,0 +1,51 @@
+//! `import`, and what it tells behind its counts.
+use crate::run_made;
+use command_end::{Command, end_without_memory, run_command};
+use command_line::ImportWords;
+use left_out_counts::LeftOut;
+use recording_engines::ImportCounts;
+use recording_runs::{FlowsCommand, ImportCommand};
+
+/// Makes a capture of recordings, and answers the exit status. Where nothing was recorded, the flows
+/// that the recordings have are told by one command more.
+pub fn import(rt: &HostRuntime, words: &ImportWords<'_>, is_verbose: bool) -> u8 {
+    let (status, counts) = match ImportCommand::new(rt, words) {
+        Ok(command) => record(rt, command, is_verbose),
+        Err(_) => (end_without_memory(rt, is_verbose), None),
+    };
+    match counts {
+        Some(counts) if status == 0 && counts.a == 0 && counts.b == 0 => {
+            let names = words.recordings.as_slice();
+            run_made(rt, is_verbose, FlowsCommand::new(rt, names))
+        }
+        _ => status,
+    }
+}
+
+/// Runs the command, and answers the exit status, and what was recorded if all was. Why packets were
+/// left out is told where that is asked for.
+fn record<'a>(
+    rt: &HostRuntime,
+    command: ImportCommand<'a>,
+    is_verbose: bool,
+) -> (u8, Option<ImportCounts>)
+    requires { ⟦<ImportCommand<'a> as Command>⟧.is_new command }
+{
+    let ended = run_command(rt, is_verbose, command);
+    if let Some(counts) = &ended.command.counts {
+        if is_verbose {
+            tell_left_out(rt, &counts.left_out);
+        }
+    }
+    (ended.status, ended.command.counts)
+}
+
+/// Tells how many packets were left out, by the reason. That standard error may fail changes
+/// nothing.
+fn tell_left_out(rt: &HostRuntime, left_out: &LeftOut) {
+    for (omission, count) in left_out.each() {
+        if count > 0 {
+            let _ = eprintln!(rt; "  left out {count} {}", omission.name());
+        }
+    }
+}
