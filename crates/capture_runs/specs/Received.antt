@@ -18,9 +18,9 @@ IsErrOf captures (Err Device) = ⊤
 IsErrOf captures (Err Memory) = ⊤
 IsErrOf captures (Ok v) = ⊥
 
--- What the end of a run over files says of devices: where it ended well that none failed, and where
--- by a device's fault that one did. (A recording that is refused fails as a source, so where it ends
--- by a refusal or want of memory nothing is said.)
+-- What the end of a run over files says of devices: where it ended well that none failed, and
+-- where by a device's fault that one did. (A recording that is refused fails as a source, so where
+-- it ends by a refusal or want of memory nothing is said.)
 abbrev pub AccountsFiles : Result (Unit {0}) Fault → List Failures → Type 0
 AccountsFiles (Err Device) devices = OneFailed devices
 AccountsFiles (Err Memory) devices = ⊤

@@ -1,5 +1,5 @@
 //! `receive` over the devices of this machine.
-ghost use Rattle.std.specs.Prelude.{◌≡◌, ◌⊎◌, ◌∷◌, [], Any, Err, IfErr, OnOk, sum_by};
+ghost use Rattle.std.specs.Prelude.{◌≡◌, ◌⊎◌, ◌∷◌, [], Any, Err, IfErr, IsErr, OnOk, sum_by};
 ghost use Rattle.std.specs.List.{zip};
 ghost use Rattle.std.specs.Option.{option_copied};
 ghost use Rattle.capture_engines.specs.Received.{IsReceiveRefusal};
@@ -163,7 +163,9 @@ impl<'a> Command for ReceiveCommand<'a> {
         (zip old.files.captures.items new.files.captures.items) r
         ⊎ Any (EndsRecording r) new.files.captures.items };
 
-    ghost owes = { λ old new outcome. (outcome ≡ old.opened) ⊎ AccountsFiles outcome
+    // (where it could not begin, it came to what stopped it)
+    ghost owes = { λ old new outcome. (IsErr old.opened × (outcome ≡ old.opened))
+        ⊎ AccountsFiles outcome
         (counts (failures_in (λ s. s.failures) old.files.sdp)
         (failures_in (λ s. s.failures) new.files.sdp)
         ∷ counts (sum_by (λ s. s.failures) old.files.captures.items)

@@ -16,5 +16,5 @@ pub vec_back : {A : Type 0} (len : ℕ) (items lent : List A) → len ≡ length
     → length lent ≡ length items → take len (lent ++ drop (length lent) items) ≡ lent
 vec_back len items lent e f =
     let none : drop (length lent) items ≡ [] = drop_all (length lent) items (omega arith) in
-    ap (λ (t : List _). take len (lent ++ t)) none ∙ ap (λ (t : List _). take len t) (append-nil lent)
-    ∙ take_all len lent (omega arith)
+    ap (λ (t : List _). take len (lent ++ t)) none
+    ∙ ap (λ (t : List _). take len t) (append-nil lent) ∙ take_all len lent (omega arith)

@@ -21,9 +21,9 @@ pub record TellsEnd (outcome : Result (Unit {0}) Fault) (whole : Bool) (status :
   pub working : status ≢ 3 → failed' ≡ failed
 
 -- A command came to an end from when it was new: `Does`, `IsRefused` and `Owes` are what it does,
--- which refusals speak against it, and which devices failed, each from when it was new. At 0 all was
--- done and written out, no device failed and nothing was told; at 1 a refusal was told that speaks
--- against it; at 3 a device failed; at 4 memory was wanted.
+-- which refusals speak against it, and which devices failed, each from when it was new. At 0 all
+-- was done and written out, no device failed and nothing was told; at 1 a refusal was told that
+-- speaks against it; at 3 a device failed; at 4 memory was wanted.
 pub record EndsBy {C : Type 0} (IsNew : C → Type 0) (Does : C → C → Type 0)
     (IsRefused : C → C → Refusal → Type 0) (Owes : C → C → Result (Unit {0}) Fault → Type 0)
     (status : ℕ) (whole : Bool) (command : C) (told : List ℕ) (failed : ℕ) : Type 0 where

@@ -6,8 +6,8 @@ use left_out_counts::LeftOut;
 use recording_engines::ImportCounts;
 use recording_runs::{FlowsCommand, ImportCommand};
 
-/// Makes a capture of recordings, and answers the exit status. Where nothing was recorded, the flows
-/// that the recordings have are told by one command more.
+/// Makes a capture of recordings, and answers the exit status. Where nothing was recorded, the
+/// flows that the recordings have are told by one command more.
 pub fn import(rt: &HostRuntime, words: &ImportWords<'_>, is_verbose: bool) -> u8 {
     let (status, counts) = match ImportCommand::new(rt, words) {
         Ok(command) => record(rt, command, is_verbose),
@@ -22,8 +22,8 @@ pub fn import(rt: &HostRuntime, words: &ImportWords<'_>, is_verbose: bool) -> u8
     }
 }
 
-/// Runs the command, and answers the exit status, and what was recorded if all was. Why packets were
-/// left out is told where that is asked for.
+/// Runs the command, and answers the exit status, and what was recorded if all was. Why packets
+/// were left out is told where that is asked for.
 fn record<'a>(
     rt: &HostRuntime,
     command: ImportCommand<'a>,
