@@ -19,4 +19,4 @@ pub use memory_link::MemoryLink;
 pub use migrating::migrate;
 pub use receiving::{Wanted, check_words, receive};
 pub use sender::Sending;
-pub use sending::send;
+pub use sending::{check_pictures, send};

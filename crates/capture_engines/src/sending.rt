@@ -6,6 +6,7 @@ ghost use Rattle.std.specs.List.{zip};
 ghost use Rattle.run_outcome.specs.Moments.{WasRead};
 ghost use Rattle.run_outcome.specs.Fault.{Accounts, counts, failures_in};
 ghost use Rattle.run_outcome.specs.Refusing.{OfRefusal};
+ghost use Rattle.run_outcome.specs.declared.refusal.Refusal.TheVariants.{SendPictures};
 ghost use Rattle.capture_engines.specs.Sent.{FirstIs, FirstSays, IsSaidRefusal, IsPicturesRefusal};
 ghost use Rattle.capture_engines.specs.Sent.{IsRestRefusal, IsSendRefusal};
 ghost use Rattle.run_outcome.specs.Pictures.{IsPictureRefusal, SaysPicture};
@@ -71,6 +72,23 @@ where
     print(Line::Sent(sent), output)
 }
 
+/// Refuses more pictures than are sent. No file is looked at.
+///
+/// # Errors
+///
+/// `SendPictures` where there are more than 10,000.
+pub fn check_pictures(pictures: usize) -> Result<(), Fault>
+    ensures few { OnOk result (pictures ≤ 10000) }
+    ensures refusal { IfErr result (λ f. OfRefusal f
+        (λ r. (r ≡ SendPictures) × (10000 < pictures))) }
+    ensures failures { Accounts result [] }
+{
+    if pictures > PICTURES {
+        return Err(Fault::Refused(Refusal::SendPictures));
+    }
+    Ok(())
+}
+
 /// Finds that there are few pictures, and reads the capture's text.
 fn read_said<A: Allocator + Copy, S: ByteSource>(
     alloc: A,
@@ -85,9 +103,7 @@ fn read_said<A: Allocator + Copy, S: ByteSource>(
     ensures failures { Accounts result (counts (failures_in S.failures sdp.old)
         (failures_in S.failures sdp.new) ∷ []) }
 {
-    if pictures > PICTURES {
-        return Err(Fault::Refused(Refusal::SendPictures));
-    }
+    check_pictures(pictures)?;
     match sdp {
         None => Ok(Vec::new(alloc)),
         Some(source) => match read_checked(alloc, source, Refusal::SendSdp) {

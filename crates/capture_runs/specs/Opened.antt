@@ -1,5 +1,5 @@
 -- What `receive` has opened before it takes datagrams, and what may be refused until then (own).
-use Rattle.std.specs.Prelude.{◌≡◌, ◌⊎◌, ℕ, List, [], Option, None, Some, All, false, ⊤}
+use Rattle.std.specs.Prelude.{◌≡◌, ◌⊎◌, ℕ, List, [], Bool, Option, None, Some, All, false, true, ⊤}
 use Rattle.std.specs.declared.alloc.Global.{Global}
 use Rattle.capture_engines.specs.Received as words
 use Rattle.devices.specs.Passed.{file_ended, file_gave}
@@ -8,7 +8,8 @@ use Rattle.recorded_capture.specs.Source.{CaptureView, Fresh, Text}
 use Rattle.recording_engines.specs.Imported as flows
 use Rattle.run_outcome.specs.Text.{GivesMore, GivesText}
 use Rattle.run_outcome.specs.declared.refusal.Refusal.{Refusal}
-use Rattle.run_outcome.specs.declared.refusal.Refusal.TheVariants.{ReceiveSdp}
+use Rattle.run_outcome.specs.declared.refusal.Refusal.TheVariants.{OutputIsInput, ReceiveSdp}
+use Rattle.run_outcome.specs.declared.refusal.Writer.TheVariants as writer
 
 -- a file that is read as a capture, or whose text was read as the SDP
 abbrev pub Source : Type 0
@@ -47,9 +48,10 @@ IsTooLong (Some file) r = (r ≡ ReceiveSdp) × GivesMore 16777216 [] (file_gave
 abbrev pub IsFlowRefusal : Option (List ℕ) → Option (List ℕ) → Refusal → Type 0
 IsFlowRefusal a b r = flows.IsWordRefusal a r ⊎ flows.IsWordRefusal b r
 
--- The refusals before datagrams are taken: of the window and the source; of the SDP's length; of
--- the words for flows.
-abbrev pub IsOpeningRefusal : List ℕ → List ℕ → Option (List ℕ) → Option (List ℕ)
+-- The refusals before datagrams are taken: of the window and the source; that what is to be written
+-- is read; of the SDP's length; of the words for flows.
+abbrev pub IsOpeningRefusal : List ℕ → List ℕ → Bool → Option (List ℕ) → Option (List ℕ)
     → Option FileSource → Refusal → Type 0
-IsOpeningRefusal window ssrc a b unread r = words.IsWordRefusal window ssrc r
+IsOpeningRefusal window ssrc is_input a b unread r = words.IsWordRefusal window ssrc r
+    ⊎ (r ≡ OutputIsInput writer.Receive) × (is_input ≡ true)
     ⊎ IsTooLong unread r ⊎ IsFlowRefusal a b r

@@ -1,16 +1,20 @@
 //! `migrate` over the devices of this machine.
-ghost use Rattle.std.specs.Prelude.{◌≡◌, ◌∷◌, []};
+ghost use Rattle.std.specs.Prelude.{◌≡◌, ◌∷◌, ◌⊎◌, [], IfErr, IsFalse, IsTrue, OnOk};
 ghost use Rattle.capture_engines.specs.MigrateRefused.{IsMigrateRefusal};
 ghost use Rattle.capture_engines.specs.Migrating.{PrintsMigrated};
 ghost use Rattle.devices.specs.Passed.{FileRead, file_ended, file_failures, file_gave, file_took};
-ghost use Rattle.devices.specs.Passed.{output_failures, output_took, writing_failures};
+ghost use Rattle.devices.specs.Passed.{IsPlaced, IsUnplaced, output_failures, output_took};
+ghost use Rattle.devices.specs.Passed.{writing_failures};
 ghost use Rattle.run_outcome.specs.Fault.{Accounts, counts};
+ghost use Rattle.run_outcome.specs.Refusing.{OfRefusal};
 ghost use Rattle.run_outcome.specs.Text.{GivesText};
+ghost use Rattle.run_outcome.specs.declared.refusal.Refusal.TheVariants.{OutputIsInput};
+ghost use Rattle.run_outcome.specs.declared.refusal.Writer.TheVariants.{Migrate};
 
-use command_end::{Command, Devices, Ran};
+use command_end::{Command, Devices, Ran, find_output};
 use command_line::MigrateWords;
-use devices::{FileSink, FileSource, OutputSink};
-use std::io::Stdout;
+use devices::{FileOutput, FileSource, OutputSink, Printer, Rest};
+use run_outcome::{Fault, Writer};
 
 /// Writes a capture of version 01 as one of version 02.
 #[derive(Drop)]
@@ -18,8 +22,10 @@ pub struct MigrateCommand<'a> {
     rt: &'a HostRuntime,
     pub sdp: FileSource<'a>,
     pub capture: FileSource<'a>,
-    pub out: FileSink<'a>,
-    pub output: OutputSink<Stdout>,
+    pub out: FileOutput<'a>,
+    /// Whether that is one of the files that are read.
+    pub is_input: bool,
+    pub output: OutputSink<Printer>,
 }
 
 impl<'a> MigrateCommand<'a> {
@@ -27,19 +33,59 @@ impl<'a> MigrateCommand<'a> {
     pub fn new(rt: &'a HostRuntime, words: &MigrateWords<'a>) -> Self
         ensures { ⟦<MigrateCommand<'a> as Command>⟧.is_new result }
     {
+        let sdp = FileSource::new(rt, words.sdp);
+        let capture = FileSource::new(rt, words.capture);
+        let out = FileOutput::new(rt, words.out, Rest::Stays);
+        let is_input = is_read(&out, &sdp, &capture);
         MigrateCommand {
             rt,
-            sdp: FileSource::new(rt, words.sdp),
-            capture: FileSource::new(rt, words.capture),
-            out: FileSink::new(rt, words.out),
-            output: OutputSink::new(rt.stdout()),
+            sdp,
+            capture,
+            out,
+            is_input,
+            output: OutputSink::beside(rt, words.out),
         }
     }
 }
 
+/// Whether the new capture is one of the files that are read.
+fn is_read(out: &FileOutput<'_>, sdp: &FileSource<'_>, capture: &FileSource<'_>) -> bool {
+    let file = out.identity();
+    sdp.is(file) || capture.is(file)
+}
+
+/// Looks at the place of the new capture, before anything is read, and migrates.
+fn migrate<'a>(
+    rt: &HostRuntime,
+    sdp: &mut FileSource<'a>,
+    capture: &mut FileSource<'a>,
+    out: &mut FileOutput<'_>,
+    is_input: bool,
+    output: &mut OutputSink<Printer>,
+) -> Result<(), Fault>
+    requires unplaced { IsUnplaced out.old }
+    ensures migrated { OnOk result (PrintsMigrated
+        (GivesText 65535 (file_gave sdp.old) (file_gave sdp.new) (file_ended sdp.new))
+        (file_gave capture.old) (file_gave capture.new) (file_ended capture.new)
+        (file_took out.old) (file_took out.new) (output_took output.old)
+        (output_took output.new)) }
+    ensures unplaced { IsUnplaced out.new }
+    ensures apart { OnOk result (IsFalse is_input) }
+    ensures refusal { IfErr result (λ f. OfRefusal f (λ r.
+        IsMigrateRefusal (FileRead sdp.old sdp.new) (FileRead capture.old capture.new) r
+        ⊎ (r ≡ OutputIsInput Migrate) × IsTrue is_input)) }
+    ensures owed { Accounts result (counts (file_failures sdp.old) (file_failures sdp.new)
+        ∷ counts (file_failures capture.old) (file_failures capture.new)
+        ∷ counts (writing_failures out.old) (writing_failures out.new)
+        ∷ counts (output_failures output.old) (output_failures output.new) ∷ []) }
+{
+    find_output(out, is_input, Writer::Migrate)?;
+    capture_engines::migrate(rt.alloc(), sdp, capture, &mut out.sink, output)
+}
+
 impl<'a> Command for MigrateCommand<'a> {
     ghost is_new = { λ c. (file_gave c.sdp ≡ []) × (file_gave c.capture ≡ [])
-        × (file_took c.out ≡ []) × (output_took c.output ≡ []) };
+        × (file_took c.out ≡ []) × IsUnplaced c.out × (output_took c.output ≡ []) };
 
     // What is written is the capture that was read, with the text that was read, and it is printed
     // how many records it has.
@@ -49,8 +95,13 @@ impl<'a> Command for MigrateCommand<'a> {
         (file_took old.out) (file_took new.out) (output_took old.output)
         (output_took new.output) };
 
-    ghost is_refused = { λ old new.
-        IsMigrateRefusal (FileRead old.sdp new.sdp) (FileRead old.capture new.capture) };
+    ghost is_refused = { λ old new r.
+        IsMigrateRefusal (FileRead old.sdp new.sdp) (FileRead old.capture new.capture) r
+        ⊎ (r ≡ OutputIsInput Migrate) × IsTrue old.is_input };
+
+    ghost is_placed = { λ c. IsPlaced c.out × IsFalse c.is_input };
+
+    ghost is_unplaced = { λ c. IsUnplaced c.out };
 
     ghost owes = { λ old new outcome. Accounts outcome
         (counts (file_failures old.sdp) (file_failures new.sdp)
@@ -59,16 +110,17 @@ impl<'a> Command for MigrateCommand<'a> {
         ∷ counts (output_failures old.output) (output_failures new.output) ∷ []) };
 
     fn run(&mut self) -> Ran {
-        let outcome = capture_engines::migrate(
-            self.rt.alloc(),
+        let outcome = migrate(
+            self.rt,
             &mut self.sdp,
             &mut self.capture,
             &mut self.out,
+            self.is_input,
             &mut self.output,
         );
         Ran {
             outcome,
-            is_whole: self.out.finish(),
+            is_whole: self.out.settle(outcome.is_ok()),
         }
     }
 

@@ -1,17 +1,18 @@
 //! What `receive` reads: the SDP, where one is named, and captures and recordings.
-ghost use Rattle.std.specs.Prelude.{◌≡◌, [], All, IfErr, IfOk, Some};
+ghost use Rattle.std.specs.Prelude.{◌≡◌, [], All, IfErr, IfOk, IsFalse, OnOk, Some};
 ghost use Rattle.std.specs.Option.{option_copied};
 ghost use Rattle.capture_runs.specs.Opened.{AreUnread, IsFlowRefusal, IsOpeningRefusal, IsTooLong};
 ghost use Rattle.capture_runs.specs.Opened.{IsUnread};
-ghost use Rattle.devices.specs.Passed.{file_ended, file_gave};
+ghost use Rattle.devices.specs.Passed.{IsUnplaced, file_ended, file_gave, file_took};
 ghost use Rattle.run_outcome.specs.Refusing.{OfRefusal};
 ghost use Rattle.run_outcome.specs.Text.{GivesText};
 
 use capture_engines::{Wanted, check_words};
-use devices::{FileSource, Reading, reading_of};
+use command_end::find_output;
+use devices::{FileOutput, FileSource, Identity, Reading, reading_of};
 use recorded_capture::{CaptureSource, ways_each};
 use recording_engines::Importing;
-use run_outcome::{Fault, Refusal, read_text};
+use run_outcome::{Fault, Refusal, Writer, read_text};
 use std::alloc::Global;
 
 /// A file that is read as a capture, or whose text was read as the SDP.
@@ -54,17 +55,27 @@ impl<'a> Files<'a> {
         }
     }
 
-    /// Looks at the words, reads the SDP where one is named, and finds by which flows each file is
+    /// Looks at the words, and at the place of the receiver's file, reads the SDP where one is named, and finds by which flows each file is
     /// taken that is a recording. No such file is looked at yet.
-    pub(crate) fn open(&mut self, rt: &'a HostRuntime, asked: Asked<'a>) -> Result<(), Fault>
+    pub(crate) fn open(
+        &mut self,
+        rt: &'a HostRuntime,
+        asked: Asked<'a>,
+        state: &mut FileOutput<'_>,
+        is_input: bool,
+    ) -> Result<(), Fault>
         requires { AreUnread self.old.sdp self.old.captures.items }
         ensures unread { AreUnread self.new.sdp self.new.captures.items }
+        ensures took { file_took state.new ≡ file_took state.old }
+        ensures unplaced { IsUnplaced state.old → IsUnplaced state.new }
+        ensures apart { OnOk result (IsFalse is_input) }
         ensures refusal { IfErr result (λ f. OfRefusal f (IsOpeningRefusal
-            asked.entry.wanted.window.now asked.entry.wanted.ssrc.now
+            asked.entry.wanted.window.now asked.entry.wanted.ssrc.now is_input
             (option_copied asked.entry.flows.a) (option_copied asked.entry.flows.b)
             self.new.unread)) }
     {
         check_words(rt.alloc(), asked.wanted)?;
+        find_output(state, is_input, Writer::Receive)?;
         self.read_sdp(rt, asked.sdp)?;
         self.open_captures(rt, asked)
     }
@@ -120,6 +131,25 @@ impl<'a> Files<'a> {
         }
         last
     }
+}
+
+/// Whether one of the files that are to be read is this one.
+pub(crate) fn is_asked(rt: &HostRuntime, asked: Asked<'_>, file: Option<Identity>) -> bool {
+    let is_sdp = match asked.sdp {
+        Some(name) => FileSource::new(rt, name).is(file),
+        None => false,
+    };
+    is_sdp || is_recording(rt, asked.recordings, file)
+}
+
+/// Whether one of the files of these names is this one.
+fn is_recording(rt: &HostRuntime, names: &[&str], file: Option<Identity>) -> bool {
+    for name in names {
+        if FileSource::given(rt, name).is(file) {
+            return true;
+        }
+    }
+    false
 }
 
 /// The files of captures and recordings, none of which is looked at yet, each with the flows that

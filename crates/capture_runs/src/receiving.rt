@@ -1,37 +1,40 @@
 //! `receive` over the devices of this machine.
-ghost use Rattle.std.specs.Prelude.{◌≡◌, ◌⊎◌, ◌∷◌, [], Any, Err, IfErr, IsErr, OnOk, sum_by};
+ghost use Rattle.std.specs.Prelude.{◌≡◌, ◌⊎◌, ◌∷◌, [], Any, Err, IfErr, IsErr, IsFalse, OnOk};
+ghost use Rattle.std.specs.Prelude.{sum_by};
 ghost use Rattle.std.specs.List.{zip};
 ghost use Rattle.std.specs.Option.{option_copied};
 ghost use Rattle.capture_engines.specs.Received.{IsReceiveRefusal};
 ghost use Rattle.capture_engines.specs.Taking.{Receives};
 ghost use Rattle.capture_runs.specs.Opened.{AreUnread, IsOpeningRefusal};
 ghost use Rattle.capture_runs.specs.Received.{AccountsFiles, EndsRecording, IsErrOf};
-ghost use Rattle.devices.specs.Passed.{file_took, output_failures, output_took, writing_failures};
+ghost use Rattle.devices.specs.Passed.{IsPlaced, IsUnplaced, file_took, output_failures};
+ghost use Rattle.devices.specs.Passed.{output_took, sink_failures, sink_took, writing_failures};
 ghost use Rattle.run_outcome.specs.Fault.{counts, failures_in};
 ghost use Rattle.run_outcome.specs.Moments.{WasRead, pair};
 ghost use Rattle.run_outcome.specs.Refusing.{OfRefusal};
 ghost use Rattle.run_outcome.specs.declared.fault.Fault.TheVariants.{Refused};
 ghost use Rattle.recorded_capture.specs.Source.{IsOver};
 
-use crate::opening::{Asked, Files, Source};
+use crate::opening::{Asked, Files, Source, is_asked};
 use capture_engines::Wanted;
 use command_end::{Command, Devices, Ran};
 use command_line::ReceiveWords;
-use devices::{FileSink, OutputSink};
+use devices::{FileOutput, FileSink, OutputSink, Printer, Rest};
 use recording_engines::Importing;
 use run_outcome::Fault;
-use std::io::Stdout;
 
 /// Takes the datagrams of captures and recordings into one receiver.
 #[derive(Drop)]
 pub struct ReceiveCommand<'a> {
     rt: &'a HostRuntime,
     pub asked: Asked<'a>,
-    /// Whether the words are refused, or the SDP could not be read.
+    /// Whether the words are refused, the receiver's file can't be written, or the SDP not be read.
     pub opened: Result<(), Fault>,
     pub files: Files<'a>,
-    pub state: FileSink<'a>,
-    pub output: OutputSink<Stdout>,
+    pub state: FileOutput<'a>,
+    /// Whether that is one of the files that are read.
+    pub is_input: bool,
+    pub output: OutputSink<Printer>,
 }
 
 impl<'a> ReceiveCommand<'a> {
@@ -41,14 +44,17 @@ impl<'a> ReceiveCommand<'a> {
     {
         let asked = asked(words);
         let mut files = Files::new(rt);
-        let opened = files.open(rt, asked);
+        let mut state = FileOutput::new(rt, words.state, Rest::Goes);
+        let is_input = is_asked(rt, asked, state.identity());
+        let opened = files.open(rt, asked, &mut state, is_input);
         ReceiveCommand {
             rt,
             asked,
             opened,
             files,
-            state: FileSink::new(rt, words.state),
-            output: OutputSink::new(rt.stdout()),
+            state,
+            is_input,
+            output: OutputSink::beside(rt, words.state),
         }
     }
 }
@@ -59,13 +65,13 @@ fn take(
     wanted: Wanted<'_>,
     files: &mut Files<'_>,
     state: &mut FileSink<'_>,
-    output: &mut OutputSink<Stdout>,
+    output: &mut OutputSink<Printer>,
 ) -> Result<(), Fault>
     ensures taken { OnOk result (Receives wanted.entry.window.now wanted.entry.ssrc.now
         (pair files.old.sdp files.new.sdp) (WasRead (λ s. s.gave) (λ s. IsOver s.place))
         (zip files.old.captures.items files.new.captures.items) wanted.entry.tells_refusals
         (output_took output.old) (output_took output.new)
-        (file_took state.old) (file_took state.new)) }
+        (sink_took state.old) (sink_took state.new)) }
     ensures refusal { IfErr result (λ f. OfRefusal f (λ r.
         IsReceiveRefusal wanted.entry.window.now wanted.entry.ssrc.now
         (pair files.old.sdp files.new.sdp) (WasRead (λ s. s.gave) (λ s. IsOver s.place))
@@ -76,7 +82,7 @@ fn take(
         (failures_in (λ s. s.failures) files.new.sdp)
         ∷ counts (sum_by (λ s. s.failures) files.old.captures.items)
         (sum_by (λ s. s.failures) files.new.captures.items)
-        ∷ counts (writing_failures state.old) (writing_failures state.new)
+        ∷ counts (sink_failures state.old) (sink_failures state.new)
         ∷ counts (output_failures output.old) (output_failures output.new) ∷ []) }
 {
     let outcome = capture_engines::receive(
@@ -141,9 +147,9 @@ fn octets(text: Option<&str>) -> Option<&[u8]> {
 impl<'a> Command for ReceiveCommand<'a> {
     // (the SDP was read, which the flows of recordings wait for)
     ghost is_new = { λ c. AreUnread c.files.sdp c.files.captures.items
-        × (file_took c.state ≡ []) × (output_took c.output ≡ [])
-        × IfErr c.opened (λ f. OfRefusal f (IsOpeningRefusal c.asked.wanted.window.now
-        c.asked.wanted.ssrc.now (option_copied c.asked.flows.a) (option_copied c.asked.flows.b)
+        × (file_took c.state ≡ []) × IsUnplaced c.state × (output_took c.output ≡ [])
+        × OnOk c.opened (IsFalse c.is_input) × IfErr c.opened (λ f. OfRefusal f (IsOpeningRefusal c.asked.wanted.window.now
+        c.asked.wanted.ssrc.now c.is_input (option_copied c.asked.flows.a) (option_copied c.asked.flows.b)
         c.files.unread)) };
 
     // What is written is the file of a receiver of the window and the source that are asked for,
@@ -163,6 +169,10 @@ impl<'a> Command for ReceiveCommand<'a> {
         (zip old.files.captures.items new.files.captures.items) r
         ⊎ Any (EndsRecording r) new.files.captures.items };
 
+    ghost is_placed = { λ c. IsPlaced c.state × IsFalse c.is_input };
+
+    ghost is_unplaced = { λ c. IsUnplaced c.state };
+
     // (where it could not begin, it came to what stopped it)
     ghost owes = { λ old new outcome. (IsErr old.opened × (outcome ≡ old.opened))
         ⊎ AccountsFiles outcome
@@ -179,14 +189,14 @@ impl<'a> Command for ReceiveCommand<'a> {
                 self.rt,
                 self.asked.wanted,
                 &mut self.files,
-                &mut self.state,
+                &mut self.state.sink,
                 &mut self.output,
             ),
             Err(fault) => Err(fault),
         };
         Ran {
             outcome,
-            is_whole: self.state.finish(),
+            is_whole: self.state.settle(outcome.is_ok()),
         }
     }
 

@@ -1,20 +1,28 @@
 //! `send` over the devices of this machine.
-ghost use Rattle.std.specs.Prelude.{◌≡◌, ◌∷◌, ◌≤◌, [], All, IfOk, IfSome, length, sum_by};
+ghost use Rattle.std.specs.Prelude.{◌≡◌, ◌∷◌, ◌⊎◌, ◌≤◌, ◌<◌, [], All, IfErr, IfOk, IfSome, IsFalse};
+ghost use Rattle.std.specs.Prelude.{IsTrue, OnOk, length, sum_by};
 ghost use Rattle.std.specs.List.{zip};
 ghost use Rattle.capture_engines.specs.Sending.{SendsAll};
 ghost use Rattle.capture_engines.specs.Sent.{IsSendRefusal};
 ghost use Rattle.devices.specs.Passed.{file_ended, file_failures, file_gave, file_took};
-ghost use Rattle.devices.specs.Passed.{output_failures, output_took, writing_failures};
+ghost use Rattle.devices.specs.Passed.{IsPlaced, IsUnplaced, output_failures, output_took};
+ghost use Rattle.devices.specs.Passed.{writing_failures};
 ghost use Rattle.run_outcome.specs.Fault.{Accounts, counts, failures_in};
 ghost use Rattle.run_outcome.specs.Moments.{WasRead};
+ghost use Rattle.run_outcome.specs.Refusing.{OfRefusal};
+ghost use Rattle.run_outcome.specs.declared.refusal.Refusal.TheVariants.{OutputIsInput};
+ghost use Rattle.run_outcome.specs.declared.refusal.Writer.TheVariants.{Send};
 
-use capture_engines::Sending;
-use command_end::{Command, Devices, Ran};
+use capture_engines::{Sending, check_pictures};
+use command_end::{Command, Devices, Ran, find_output};
 use command_line::{NamedPaths, SendWords};
-use devices::{FileSink, FileSource, OutputSink, last_begun, named_file, named_files, reading_of};
+use devices::{
+    FileOutput, FileSource, OutputSink, Printer, Rest, any_is, last_begun, named_file, named_files,
+    one_is, reading_of,
+};
 use media_file::Paths;
+use run_outcome::{Fault, Writer};
 use std::alloc::AllocError;
-use std::io::Stdout;
 
 /// Sends pictures into a capture.
 #[derive(Drop)]
@@ -23,8 +31,10 @@ pub struct SendCommand<'a> {
     pub wanted: Sending,
     pub sdp: Option<FileSource<'a>>,
     pub pictures: Vec<FileSource<'a>>,
-    pub out: FileSink<'a>,
-    pub output: OutputSink<Stdout>,
+    pub out: FileOutput<'a>,
+    /// Whether that is one of the files that are read.
+    pub is_input: bool,
+    pub output: OutputSink<Printer>,
     ghost payload_type_bits: { wanted.payload_type ≤ 127 },
 }
 
@@ -34,13 +44,18 @@ impl<'a> SendCommand<'a> {
     pub fn new(rt: &'a HostRuntime, words: &SendWords<'a>) -> Result<Self, AllocError>
         ensures { IfOk result ⟦<SendCommand<'a> as Command>⟧.is_new }
     {
+        let sdp = named_file(rt, words.sdp);
+        let pictures = named_files(rt, words.pictures.as_slice())?;
+        let out = FileOutput::new(rt, words.out, Rest::Stays);
+        let is_input = is_read(&out, &sdp, pictures.as_slice());
         Ok(SendCommand {
             rt,
             wanted: sending(words),
-            sdp: named_file(rt, words.sdp),
-            pictures: named_files(rt, words.pictures.as_slice())?,
-            out: FileSink::new(rt, words.out),
-            output: OutputSink::new(rt.stdout()),
+            sdp,
+            pictures,
+            out,
+            is_input,
+            output: OutputSink::beside(rt, words.out),
         })
     }
 }
@@ -68,10 +83,52 @@ fn paths(named: NamedPaths) -> Paths {
     }
 }
 
+/// Whether the capture is one of the files that are read.
+fn is_read(
+    out: &FileOutput<'_>,
+    sdp: &Option<FileSource<'_>>,
+    pictures: &[FileSource<'_>],
+) -> bool {
+    let file = out.identity();
+    one_is(sdp, file) || any_is(pictures, file)
+}
+
+/// Looks at the words, and at the place of the capture, before anything is read, and sends.
+fn send<'a>(
+    rt: &HostRuntime,
+    wanted: Sending,
+    sdp: &mut Option<FileSource<'a>>,
+    pictures: &mut [FileSource<'a>],
+    out: &mut FileOutput<'_>,
+    is_input: bool,
+    output: &mut OutputSink<Printer>,
+) -> Result<(), Fault>
+    requires payload_type { wanted.payload_type ≤ 127 }
+    requires unplaced { IsUnplaced out.old }
+    ensures len { length pictures.new ≡ length pictures.old }
+    ensures sent { OnOk result (SendsAll file_gave file_ended wanted sdp.old sdp.new
+        pictures.old pictures.new (file_took out.old) (file_took out.new)
+        (output_took output.old) (output_took output.new)) }
+    ensures unplaced { IsUnplaced out.new }
+    ensures apart { OnOk result (IsFalse is_input) }
+    ensures refusal { IfErr result (λ f. OfRefusal f (λ r. IsSendRefusal wanted.max_octets
+        (length pictures.old) sdp.old sdp.new (WasRead file_gave file_ended)
+        (zip pictures.old pictures.new) r ⊎ (r ≡ OutputIsInput Send) × IsTrue is_input)) }
+    ensures owed { Accounts result
+        (counts (failures_in file_failures sdp.old) (failures_in file_failures sdp.new)
+        ∷ counts (sum_by file_failures pictures.old) (sum_by file_failures pictures.new)
+        ∷ counts (writing_failures out.old) (writing_failures out.new)
+        ∷ counts (output_failures output.old) (output_failures output.new) ∷ []) }
+{
+    check_pictures(pictures.len())?;
+    find_output(out, is_input, Writer::Send)?;
+    capture_engines::send(rt.alloc(), wanted, sdp, pictures, &mut out.sink, output)
+}
+
 impl<'a> Command for SendCommand<'a> {
     ghost is_new = { λ c. IfSome c.sdp (λ f. file_gave f ≡ [])
         × All (λ f. file_gave f ≡ []) c.pictures.items
-        × (file_took c.out ≡ []) × (output_took c.output ≡ []) };
+        × (file_took c.out ≡ []) × IsUnplaced c.out × (output_took c.output ≡ []) };
 
     // What is written is the capture of the SDP text that was read and of the datagrams of all
     // pictures that were read, and it is printed how many those are.
@@ -79,9 +136,14 @@ impl<'a> Command for SendCommand<'a> {
         old.pictures.items new.pictures.items (file_took old.out) (file_took new.out)
         (output_took old.output) (output_took new.output) };
 
-    ghost is_refused = { λ old new. IsSendRefusal old.wanted.max_octets
+    ghost is_refused = { λ old new r. IsSendRefusal old.wanted.max_octets
         (length old.pictures.items) old.sdp new.sdp (WasRead file_gave file_ended)
-        (zip old.pictures.items new.pictures.items) };
+        (zip old.pictures.items new.pictures.items) r
+        ⊎ (r ≡ OutputIsInput Send) × IsTrue old.is_input };
+
+    ghost is_placed = { λ c. IsPlaced c.out × IsFalse c.is_input };
+
+    ghost is_unplaced = { λ c. IsUnplaced c.out };
 
     ghost owes = { λ old new outcome. Accounts outcome
         (counts (failures_in file_failures old.sdp) (failures_in file_failures new.sdp)
@@ -91,17 +153,18 @@ impl<'a> Command for SendCommand<'a> {
         ∷ counts (output_failures old.output) (output_failures new.output) ∷ []) };
 
     fn run(&mut self) -> Ran {
-        let outcome = capture_engines::send(
-            self.rt.alloc(),
+        let outcome = send(
+            self.rt,
             self.wanted,
             &mut self.sdp,
             self.pictures.as_mut_slice(),
             &mut self.out,
+            self.is_input,
             &mut self.output,
         );
         Ran {
             outcome,
-            is_whole: self.out.finish(),
+            is_whole: self.out.settle(outcome.is_ok()),
         }
     }
 

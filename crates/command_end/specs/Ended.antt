@@ -14,6 +14,7 @@ pub record TellsEnd (outcome : Result (Unit {0}) Fault) (whole : Bool) (status :
     (took took' : List ℕ) (failed failed' : ℕ) : Type 0 where
   pub range : (status ≡ 0) ⊎ (status ≡ 1) ⊎ (status ≡ 3) ⊎ (status ≡ 4)
   pub done : status ≡ 0 → EndsDone outcome × (whole ≡ true)
+  pub finished : EndsDone outcome → whole ≡ true → status ≡ 0
   pub silent : status ≡ 0 → took' ≡ took
   pub told : status ≡ 1 → TellsOutcome outcome took took'
   pub failure : status ≡ 3 → EndsFailed outcome ⊎ (whole ≡ false) ⊎ Failed failed failed'

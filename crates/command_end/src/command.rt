@@ -1,5 +1,5 @@
 //! A command over its devices: what it does, and how it ends.
-ghost use Rattle.std.specs.Prelude.{◌≡◌, ◌⊎◌, IfErr, OnOk, Result};
+ghost use Rattle.std.specs.Prelude.{◌≡◌, ◌≢◌, ◌⊎◌, IfErr, IsErr, IsFalse, IsTrue, OnOk, Result, ⊤};
 ghost use Rattle.command_end.specs.Ended.{EndsBy};
 ghost use Rattle.devices.specs.Passed.{output_failures, output_took};
 ghost use Rattle.run_outcome.specs.Refusing.{OfRefusal};
@@ -35,12 +35,22 @@ pub trait Command {
     /// Which devices failed, by what the run came to.
     ghost owes: { Self → Self → Result (Unit {0}) Cause → Type 0 };
 
+    /// The file that it writes has its name, all of it.
+    ghost is_placed: { Self → Type 0 } = { λ _. ⊤ };
+
+    /// What stood under that name stands there.
+    ghost is_unplaced: { Self → Type 0 } = { λ _. ⊤ };
+
     /// Reads and writes all that the command does.
     fn run(&mut self) -> Ran
+        requires { is_new self.old }
         ensures done { OnOk result.outcome (does self.old self.new) }
         ensures refusal { IfErr result.outcome
             (λ f. OfRefusal f (is_refused self.old self.new)) }
-        ensures owed { owes self.old self.new result.outcome };
+        ensures owed { owes self.old self.new result.outcome }
+        ensures placed { OnOk result.outcome (IsTrue result.is_whole → is_placed self.new) }
+        ensures unplaced { IsErr result.outcome ⊎ IsFalse result.is_whole
+            → is_unplaced self.new };
 
     /// The devices, where a fault is explained.
     fn devices(&self) -> Devices<'_>;
@@ -61,14 +71,17 @@ pub struct Ended<C> {
 
 /// Runs a command, and ends it.
 ///
-/// The status is 0 where all was done; 1 where the words or what was read are refused; 3 where a
+/// The status is 0 where all was done, and what was written has the name that it is to have; else
+/// what stood there stands there still. It is 1 where the words or what was read are refused; 3 where a
 /// device failed, also standard error, or what was written could not be written out; and 4 where
 /// memory was wanted, also for a file's buffer. Of 1, 3 and 4 standard error is told by a line, and
 /// where that is asked for by one more, which says where the fault is and what was wanted there.
 pub fn run_command<C: Command + Drop>(rt: &HostRuntime, is_verbose: bool, command: C) -> Ended<C>
     requires { C.is_new command }
-    ensures { EndsBy C.is_new C.does C.is_refused C.owes result.status result.is_whole
+    ensures ends { EndsBy C.is_new C.does C.is_refused C.owes result.status result.is_whole
         result.command (output_took result.faults) (output_failures result.faults) }
+    ensures placed { result.status ≡ 0 → C.is_placed result.command }
+    ensures unplaced { result.status ≢ 0 → C.is_unplaced result.command }
 {
     let mut command = command;
     let mut faults = OutputSink::new(rt.stderr());

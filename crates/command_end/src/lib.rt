@@ -5,7 +5,9 @@
 mod command;
 mod ending;
 mod lines;
+mod output;
 mod places;
 
 pub use command::{Command, Ended, Ran, end_without_memory, run_command};
+pub use output::find_output;
 pub use places::Devices;

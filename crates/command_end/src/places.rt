@@ -1,8 +1,9 @@
 //! Where a fault is: what `--verbose` adds behind its line.
 use crate::lines::{line_at, shown};
 use devices::{Reading, Writing};
-use run_outcome::{Fault, Form, LineFault, Refusal};
+use run_outcome::{Fault, Form, LineFault, Refusal, Writer};
 use sdp_format::Located;
+use std::fmt;
 use std::io::{self, ErrorKind};
 
 /// The devices that a command worked on.
@@ -42,66 +43,88 @@ fn wants_memory(fault: &Option<io::Error>) -> bool {
     }
 }
 
-// That standard error may fail too changes nothing, here and below: the status is the fault's.
-
-/// Says that at this place of a file something else was wanted.
-fn tell_octet(rt: &HostRuntime, reading: &Reading<'_>, wanted: &str) {
-    let _ = eprintln!(rt;
-        "  at {}, octet {}; wanted {wanted}",
-        reading.name, reading.octet
-    );
+/// Where a fault is, and what was wanted there.
+#[derive(Clone, Copy)]
+enum Said<'a> {
+    /// At something with a name.
+    Name(&'a str, &'static str),
+    /// Where the reading of a file stands.
+    Octet(Reading<'a>, &'static str),
+    /// In a line of a text, or in this part of it.
+    Text(&'a str, usize, &'a [u8], &'static str),
+    /// In a line of a text that isn't shown, or of one that is in a file.
+    Line(&'a str, usize, &'static str, &'static str),
+    /// Where a reading failed.
+    Unread(Reading<'a>, io::Error),
+    /// Where a writing failed.
+    Unwritten(Writing<'a>),
 }
 
-/// Says that at something with a name something else was wanted.
-fn tell_name(rt: &HostRuntime, name: &str, wanted: &str) {
-    let _ = eprintln!(rt; "  at {name}; wanted {wanted}");
-}
-
-/// Says which device failed, and why.
-fn tell_device(rt: &HostRuntime, devices: &Devices<'_>) {
-    if tell_failed_reading(rt, devices.sdp) || tell_failed_reading(rt, devices.read) {
-        return;
-    }
-    if let Some(written) = devices.written {
-        if written.has_failed {
-            return tell_writing(rt, &written);
+impl fmt::Display for Said<'_> {
+    fn fmt<W: fmt::Write>(&self, f: &mut fmt::Formatter<W>) -> fmt::Result {
+        match self {
+            Said::Name(name, wanted) => write!(f, "  at {name}; wanted {wanted}"),
+            Said::Octet(reading, wanted) => {
+                let (name, octet) = (reading.name, reading.octet);
+                write!(f, "  at {name}, octet {octet}; wanted {wanted}")
+            }
+            Said::Text(name, line, text, wanted) => {
+                let (front, dots) = shown(text);
+                let text = front.escape_ascii();
+                write!(
+                    f,
+                    "  at {name}, line {line}, '{text}{dots}'; wanted {wanted}"
+                )
+            }
+            Said::Line(name, line, of, wanted) => {
+                write!(f, "  at {name}, line {line}{of}; wanted {wanted}")
+            }
+            Said::Unread(reading, fault) => {
+                let (name, octet) = (reading.name, reading.octet);
+                write!(
+                    f,
+                    "  at {name}, octet {octet}; wanted to read there: {fault}"
+                )
+            }
+            Said::Unwritten(writing) => {
+                let name = writing.name;
+                match writing.fault {
+                    Some(fault) => write!(f, "  at {name}; wanted to write there: {fault}"),
+                    None => write!(f, "  at {name}; wanted to write there"),
+                }
+            }
         }
     }
-    if devices.output.has_failed {
-        tell_writing(rt, &devices.output);
+}
+
+/// Which device failed, and why.
+fn of_device<'a>(devices: &Devices<'a>) -> Option<Said<'a>> {
+    let read = of_reading(devices.sdp).or(of_reading(devices.read));
+    read.or(of_writing(devices.written))
+        .or(of_writing(Some(devices.output)))
+}
+
+/// Why a reading failed, if it did.
+fn of_reading<'a>(reading: Option<Reading<'a>>) -> Option<Said<'a>> {
+    let reading = reading?;
+    let fault = reading.fault?;
+    Some(Said::Unread(reading, fault))
+}
+
+/// Why a writing failed, if it did.
+fn of_writing<'a>(writing: Option<Writing<'a>>) -> Option<Said<'a>> {
+    match writing {
+        Some(writing) if writing.has_failed => Some(Said::Unwritten(writing)),
+        _ => None,
     }
 }
 
-/// Says why a reading failed, and tells whether it did.
-fn tell_failed_reading(rt: &HostRuntime, reading: Option<Reading<'_>>) -> bool {
-    let Some(reading) = reading else {
-        return false;
-    };
-    let Some(fault) = reading.fault else {
-        return false;
-    };
-    let octet = reading.octet;
-    let _ = eprintln!(rt;
-        "  at {}, octet {octet}; wanted to read there: {fault}",
-        reading.name
-    );
-    true
-}
-
-/// Says why a writing failed.
-fn tell_writing(rt: &HostRuntime, writing: &Writing<'_>) {
-    let _ = match writing.fault {
-        Some(fault) => eprintln!(rt; "  at {}; wanted to write there: {fault}", writing.name),
-        None => eprintln!(rt; "  at {}; wanted to write there", writing.name),
-    };
-}
-
-/// Says how far the reading had come when memory was wanted.
-fn tell_memory(rt: &HostRuntime, devices: &Devices<'_>) {
+/// How far the reading had come when memory was wanted.
+fn of_memory<'a>(devices: &Devices<'a>) -> Said<'a> {
     let wanted = "more memory than there is";
-    match (devices.read, devices.sdp) {
-        (Some(reading), _) | (None, Some(reading)) => tell_octet(rt, &reading, wanted),
-        (None, None) => tell_name(rt, "the words", wanted),
+    match devices.read.or(devices.sdp) {
+        Some(reading) => Said::Octet(reading, wanted),
+        None => Said::Name("the words", wanted),
     }
 }
 
@@ -136,6 +159,8 @@ fn blamed_by(refusal: Refusal) -> Blamed {
         Refusal::ProcessFill => Blamed::Word("--fill"),
         Refusal::ExportFlow | Refusal::ImportFlow => Blamed::Word("--a or --b"),
         Refusal::ImportPlaces => Blamed::Word("the recordings"),
+        Refusal::OutputIsInput(Writer::Receive) => Blamed::Word("--state"),
+        Refusal::OutputIsInput(_) => Blamed::Word("--out"),
         Refusal::SendSdp
         | Refusal::MigrateSdp
         | Refusal::ReceiveSdp
@@ -153,80 +178,63 @@ fn blamed_by(refusal: Refusal) -> Blamed {
     }
 }
 
-/// Says where the fault of a run is, and what was wanted there.
+/// Says where the fault of a run is, what was wanted there, and where what was written stays. That
+/// standard error may fail too changes nothing: the status is the fault's.
 pub(crate) fn explain(rt: &HostRuntime, fault: Fault, devices: &Devices<'_>) {
-    match fault {
-        Fault::Device => tell_device(rt, devices),
-        Fault::Memory => tell_memory(rt, devices),
-        Fault::Refused(refusal) => tell_refusal(rt, refusal, devices),
-    }
+    let said = match fault {
+        Fault::Device => of_device(devices),
+        Fault::Memory => Some(of_memory(devices)),
+        Fault::Refused(refusal) => of_refusal(refusal, devices),
+    };
+    let _ = match (said, left_by(devices)) {
+        (Some(said), Some(left)) => { eprintln!(rt; "{said}; what was written stays as {left}") }
+        (Some(said), None) => eprintln!(rt; "{said}"),
+        (None, Some(left)) => eprintln!(rt; "  what was written stays as {left}"),
+        (None, None) => Ok(()),
+    };
 }
 
-/// Says where a refusal is, and what was wanted there.
-fn tell_refusal(rt: &HostRuntime, refusal: Refusal, devices: &Devices<'_>) {
+/// The file that holds what was written and is not whole, if one does.
+fn left_by<'a>(devices: &Devices<'a>) -> Option<&'a str> {
+    devices.written?.left
+}
+
+/// Where a refusal is, and what was wanted there.
+fn of_refusal<'a>(refusal: Refusal, devices: &Devices<'a>) -> Option<Said<'a>> {
     let wanted = refusal.wanted();
     match blamed_by(refusal) {
-        Blamed::Word(name) => tell_name(rt, name, wanted),
-        Blamed::Read => tell_reading(rt, devices.read, wanted),
-        Blamed::Sdp => tell_reading(rt, devices.sdp.or(devices.read), wanted),
-        Blamed::Line(line) => tell_script(rt, devices.read, devices.kept, line, wanted),
-        Blamed::Described(at) => tell_sdp(rt, devices, at, wanted),
+        Blamed::Word(name) => Some(Said::Name(name, wanted)),
+        Blamed::Read => Some(Said::Octet(devices.read?, wanted)),
+        Blamed::Sdp => Some(Said::Octet(devices.sdp.or(devices.read)?, wanted)),
+        Blamed::Line(line) => of_script(devices, line, wanted),
+        Blamed::Described(at) => of_sdp(devices, at, wanted),
     }
 }
 
-/// Says that where a reading stands something else was wanted.
-fn tell_reading(rt: &HostRuntime, reading: Option<Reading<'_>>, wanted: &str) {
-    if let Some(reading) = reading {
-        tell_octet(rt, &reading, wanted);
-    }
+/// A line of a script.
+fn of_script<'a>(devices: &Devices<'a>, line: usize, wanted: &'static str) -> Option<Said<'a>> {
+    let name = devices.read?.name;
+    Some(match devices.kept {
+        Some(kept) => Said::Text(name, line, line_at(kept, line), wanted),
+        None => Said::Line(name, line, "", wanted),
+    })
 }
 
-/// Says that in the place of a line of a script something else was wanted.
-fn tell_script(
-    rt: &HostRuntime,
-    reading: Option<Reading<'_>>,
-    kept: Option<&[u8]>,
-    line: usize,
-    wanted: &str,
-) {
-    let Some(reading) = reading else {
-        return;
-    };
-    match kept {
-        Some(kept) => tell_text(rt, reading.name, line, line_at(kept, line), wanted),
-        None => tell_line(rt, reading.name, line, "", wanted),
-    }
-}
-
-/// Says that in a place of an SDP something else was wanted. One without a file of its own is that
-/// of the first capture.
-fn tell_sdp(rt: &HostRuntime, devices: &Devices<'_>, at: Located, wanted: &str) {
+/// A place of an SDP. One without a file of its own is that of the first capture.
+fn of_sdp<'a>(devices: &Devices<'a>, at: Located, wanted: &'static str) -> Option<Said<'a>> {
     let Some(place) = at.place else {
-        return tell_reading(rt, devices.sdp.or(devices.read), wanted);
+        return Some(Said::Octet(devices.sdp.or(devices.read)?, wanted));
     };
-    match (devices.sdp, devices.read) {
-        (Some(sdp), _) => match part_of(devices.kept, place.start, place.end) {
-            Some(text) => tell_text(rt, sdp.name, place.line, text, wanted),
-            None => tell_line(rt, sdp.name, place.line, "", wanted),
-        },
-        (None, Some(capture)) => tell_line(rt, capture.name, place.line, " of its SDP", wanted),
-        (None, None) => {}
-    }
+    let Some(sdp) = devices.sdp else {
+        return Some(Said::Line(devices.read?.name, place.line, " of its SDP", wanted));
+    };
+    Some(match part_of(devices.kept, place.start, place.end) {
+        Some(text) => Said::Text(sdp.name, place.line, text, wanted),
+        None => Said::Line(sdp.name, place.line, "", wanted),
+    })
 }
 
 /// A part of a text, where that is kept.
 fn part_of(text: Option<&[u8]>, start: usize, end: usize) -> Option<&[u8]> {
     text?.get(start..end)
-}
-
-/// Says that in the place of a line, or of this part of it, something else was wanted.
-fn tell_text(rt: &HostRuntime, name: &str, line: usize, text: &[u8], wanted: &str) {
-    let (front, dots) = shown(text);
-    let text = front.escape_ascii();
-    let _ = eprintln!(rt; "  at {name}, line {line}, '{text}{dots}'; wanted {wanted}");
-}
-
-/// Says that in the place of a line that isn't shown something else was wanted.
-fn tell_line(rt: &HostRuntime, name: &str, line: usize, of: &str, wanted: &str) {
-    let _ = eprintln!(rt; "  at {name}, line {line}{of}; wanted {wanted}");
 }

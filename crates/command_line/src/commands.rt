@@ -168,7 +168,7 @@ const SENT: &[Word] = &[
     Word {
         name: "out",
         usage: Usage::Required("FILE"),
-        help: "Where the capture is written",
+        help: "Where the capture is written; - is standard output",
     },
     Word {
         name: "sdp",
@@ -254,7 +254,7 @@ const RECEIVED: &[Word] = &[
     Word {
         name: "state",
         usage: Usage::Required("FILE"),
-        help: "Where the receiver is written",
+        help: "Where the receiver is written; - is standard output",
     },
     Word {
         name: "refusals",
@@ -275,7 +275,7 @@ const MERGED: &[Word] = &[
     Word {
         name: "state",
         usage: Usage::Required("FILE"),
-        help: "Where the merged receiver is written",
+        help: "Where the merged receiver is written; - is standard output",
     },
     Word {
         name: "left",
@@ -319,7 +319,7 @@ const PROCESSED: &[Word] = &[
     Word {
         name: "out",
         usage: Usage::Required("FILE"),
-        help: "Where the capture is written",
+        help: "Where the capture is written; - is standard output",
     },
     Word {
         name: "states",
@@ -359,7 +359,7 @@ const MIGRATED: &[Word] = &[
     Word {
         name: "out",
         usage: Usage::Required("FILE"),
-        help: "Where the new capture is written",
+        help: "Where the new capture is written; - is standard output",
     },
     Word {
         name: "capture",
@@ -388,7 +388,7 @@ const IMPORTED: &[Word] = &[
     Word {
         name: "out",
         usage: Usage::Required("FILE"),
-        help: "Where the capture is written",
+        help: "Where the capture is written; - is standard output",
     },
     RECORDINGS,
 ];
@@ -411,7 +411,7 @@ const EXPORTED: &[Word] = &[
     Word {
         name: "out",
         usage: Usage::Required("FILE"),
-        help: "Where the recording is written",
+        help: "Where the recording is written; - is standard output",
     },
     Word {
         name: "capture",
@@ -442,7 +442,8 @@ fn named<'a>(alloc: Global) -> Result<Command<'a>, AllocError> {
         .version(VERSION)
         .about("Uncompressed studio video over redundant paths")
         .bin_name("st2110")?
-        .arg(verbose(alloc))
+        .arg(verbose(alloc))?
+        .arg(quiet(alloc))
 }
 
 /// `--verbose`, which every command takes.
@@ -453,6 +454,16 @@ fn verbose<'a>(alloc: Global) -> Arg<'a> {
         .action(ArgAction::SetTrue)
         .global(true)
         .help("Behind the line of a fault, also say where it is and what was wanted there")
+}
+
+/// `--quiet`, which every command takes.
+fn quiet<'a>(alloc: Global) -> Arg<'a> {
+    Arg::new(alloc, "quiet")
+        .long("quiet")
+        .short('q')
+        .action(ArgAction::SetTrue)
+        .global(true)
+        .help("Leave that out also where standard error is a terminal")
 }
 
 /// A command with its words.

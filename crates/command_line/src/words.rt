@@ -14,6 +14,8 @@ pub struct Given<'a> {
     pub words: Words<'a>,
     /// Whether a fault's place is told behind its line.
     pub is_verbose: bool,
+    /// Whether it is not told by itself where standard error is a terminal.
+    pub is_quiet: bool,
 }
 
 /// A command, and what it is asked for.
@@ -187,6 +189,7 @@ pub fn read_words(alloc: Global, words: &[String]) -> Result<Given<'_>, WordsFau
     Ok(Given {
         words: command(alloc, &matches)?,
         is_verbose: matches.get_flag("verbose"),
+        is_quiet: matches.get_flag("quiet"),
     })
 }
 

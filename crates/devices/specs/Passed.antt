@@ -1,7 +1,9 @@
 -- What the devices of this machine gave and took so far, and how often each failed (own).
-use Rattle.std.specs.Prelude.{◌≡◌, ℕ, List, true}
+use Rattle.std.specs.Prelude.{◌≡◌, ℕ, List, None, true}
 use Rattle.st_format.specs.History.{IsRead}
 use Rattle.st_format.specs.declared.path.Path.{Path}
+use Rattle.devices.specs.Written.{IsWhole, taken_by, took_in}
+use Rattle.devices.specs.declared.file_output.FileOutput.{FileOutput}
 use Rattle.devices.specs.declared.file_sink.FileSink.{FileSink}
 use Rattle.devices.specs.declared.file_source.FileSource.{FileSource}
 use Rattle.devices.specs.declared.file_source.Progress.TheVariants.{Past}
@@ -23,12 +25,27 @@ file_failures f = f.failures
 abbrev pub FileRead : FileSource → FileSource → List ℕ → Type 0
 FileRead old new octets = IsRead (file_gave old) (file_gave new) (file_ended new) octets
 
--- a file that is written: what it took
-abbrev pub file_took : FileSink → List ℕ
-file_took f = f.took.octets
+-- what the octets of a file go to: what it took
+abbrev pub sink_took : FileSink → List ℕ
+sink_took s = taken_by s.progress
 
-abbrev pub writing_failures : FileSink → ℕ
-writing_failures f = f.failures
+abbrev pub sink_failures : FileSink → ℕ
+sink_failures s = s.failures
+
+-- a file that is written: what it took
+abbrev pub file_took : FileOutput → List ℕ
+file_took f = took_in f.placed f.sink.progress
+
+abbrev pub writing_failures : FileOutput → ℕ
+writing_failures f = f.sink.failures
+
+-- all that it took is in the file that has the name, or went into the stream that it is
+abbrev pub IsPlaced : FileOutput → Type 0
+IsPlaced f = IsWhole f.placed f.sink.progress
+
+-- what stood under its name stands there
+abbrev pub IsUnplaced : FileOutput → Type 0
+IsUnplaced f = f.placed ≡ None
 
 -- standard input: what it gave, whether it told its end
 abbrev pub input_gave : {R : Type 0} → InputSource R → List ℕ

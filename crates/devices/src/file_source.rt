@@ -5,6 +5,7 @@
 ghost use Rattle.std.specs.Prelude.{◌≡◌, ◌≤◌, ◌<◌, ◌↔◌, ◌++◌, [], length, take, None, IfOk, OnErr};
 
 use crate::history::History;
+use crate::identity::{Identity, identity_of};
 use crate::standing::Reading;
 use st_format::{ByteSource, DeviceFault};
 use std::fs::{self, File};
@@ -73,6 +74,11 @@ impl<'a> FileSource<'a> {
             source.path = "/dev/stdin";
         }
         source
+    }
+
+    /// Whether it is this plain file.
+    pub fn is(&self, file: Option<Identity>) -> bool {
+        file.is_some() && identity_of(self.rt, self.path) == file
     }
 
     /// Where the reading stands, if it began.

@@ -3,6 +3,7 @@ ghost use Rattle.std.specs.Prelude.{◌≡◌, ◌↔◌, [], All, IfOk, IfSome,
 ghost use Rattle.devices.specs.Passed.{file_gave};
 
 use crate::file_source::FileSource;
+use crate::identity::Identity;
 use crate::standing::Reading;
 use std::alloc::AllocError;
 
@@ -72,4 +73,17 @@ pub fn last_begun<'a>(files: &[FileSource<'a>]) -> Option<Reading<'a>> {
         last = file.begun().or(last);
     }
     last
+}
+
+/// Whether one of these files is this one.
+pub fn any_is(files: &[FileSource<'_>], file: Option<Identity>) -> bool {
+    files.iter().any(|it| it.is(file))
+}
+
+/// Whether this file, where one is named, is this one.
+pub fn one_is(named: &Option<FileSource<'_>>, file: Option<Identity>) -> bool {
+    match named {
+        Some(named) => named.is(file),
+        None => false,
+    }
 }

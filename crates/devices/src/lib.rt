@@ -4,21 +4,33 @@
 #![tactic(auto)]
 
 mod discard;
+mod draft;
+#[cfg(test)]
+mod failing;
+mod file_output;
 mod file_sink;
 mod file_source;
 mod files;
 mod history;
+mod identity;
 mod input;
 mod link;
+mod noted;
 mod output;
+mod place;
 mod standing;
+mod stream;
 
 pub use discard::Discard;
+pub use file_output::{FileOutput, Rest};
 pub use file_sink::FileSink;
 pub use file_source::FileSource;
-pub use files::{given_files, last_begun, named_file, named_files, reading_begun, reading_of};
+pub use files::{
+    any_is, given_files, last_begun, named_file, named_files, one_is, reading_begun, reading_of,
+};
 pub use history::{Arrivals, History, Sendings};
+pub use identity::Identity;
 pub use input::InputSource;
 pub use link::{UdpLink, unbound};
-pub use output::OutputSink;
+pub use output::{OutputSink, Printer};
 pub use standing::{Reading, Writing};

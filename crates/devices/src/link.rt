@@ -67,6 +67,7 @@ impl UdpLink {
             name: SOCKETS,
             has_failed: self.failures > 0,
             fault: self.fault,
+            left: None,
         }
     }
 }
@@ -79,6 +80,7 @@ pub fn unbound(fault: io::Error) -> Writing<'static>
         name: SOCKETS,
         has_failed: true,
         fault: Some(fault),
+        left: None,
     }
 }
 

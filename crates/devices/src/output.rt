@@ -3,13 +3,39 @@ ghost use Rattle.std.specs.Prelude.{◌≡◌, ◌+◌, ◌-◌, ◌^◌, ◌<�
 
 use crate::history::History;
 use crate::standing::Writing;
+use crate::stream::OUTPUT;
 use st_format::{ByteSink, DeviceFault};
-use std::io::{self, Write};
+use std::io::{self, Stderr, Stdout, Write};
+
+/// What lines are printed to.
+#[derive(Drop)]
+pub enum Printer {
+    Output(Stdout),
+    /// Standard error, where a file takes standard output.
+    Error(Stderr),
+}
+
+impl Write for Printer {
+    fn write(&mut self, octets: &[u8]) -> io::Result<usize> {
+        match self {
+            Printer::Output(output) => output.write(octets),
+            Printer::Error(error) => error.write(octets),
+        }
+    }
+
+    fn flush(&mut self) -> io::Result<()> {
+        match self {
+            Printer::Output(output) => output.flush(),
+            Printer::Error(error) => error.flush(),
+        }
+    }
+}
 
 /// Any writer, as standard output.
 #[derive(Drop)]
 pub struct OutputSink<W: Write + Drop> {
     writer: W,
+    name: &'static str,
     took: History,
     failures: u64,
     /// Why it failed last, where the system said so.
@@ -24,6 +50,7 @@ impl<W: Write + Drop> OutputSink<W> {
     {
         OutputSink {
             writer,
+            name: "standard output",
             took: History::new(),
             failures: 0,
             fault: None,
@@ -36,9 +63,27 @@ impl<W: Write + Drop> OutputSink<W> {
             ↔ (0 < ⟦<OutputSink<W> as ByteSink>⟧.failures self.now) }
     {
         Writing {
-            name: "standard output",
+            name: self.name,
             has_failed: self.failures > 0,
             fault: self.fault,
+            left: None,
+        }
+    }
+}
+
+impl OutputSink<Printer> {
+    /// What lines are printed to where a command writes this file: standard output, or where that
+    /// is the file standard error.
+    pub fn beside(rt: &HostRuntime, file: &str) -> Self
+        ensures unfailed { ⟦<OutputSink<Printer> as ByteSink>⟧.failures result ≡ 0 }
+        ensures fresh { ⟦<OutputSink<Printer> as ByteSink>⟧.took result ≡ [] }
+    {
+        if file == OUTPUT {
+            let mut sink = OutputSink::new(Printer::Error(rt.stderr()));
+            sink.name = "standard error";
+            sink
+        } else {
+            OutputSink::new(Printer::Output(rt.stdout()))
         }
     }
 }

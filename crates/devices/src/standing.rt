@@ -19,4 +19,6 @@ pub struct Writing<'a> {
     pub has_failed: bool,
     /// Why it failed, where the system said so.
     pub fault: Option<io::Error>,
+    /// The file that holds what was written and is not whole, if one does.
+    pub left: Option<&'a str>,
 }

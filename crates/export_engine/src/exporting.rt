@@ -4,6 +4,9 @@ ghost use Rattle.std.specs.Option.{option_copied};
 ghost use Rattle.st_format.specs.History.{IsRead};
 ghost use Rattle.run_outcome.specs.Fault.{Accounts, counts};
 ghost use Rattle.run_outcome.specs.Refusing.{OfRefusal};
+ghost use Rattle.run_outcome.specs.declared.refusal.Refusal.TheVariants.{ExportFlow};
+ghost use Rattle.export_engine.specs.Packets.{AreEnvelopes};
+ghost use Rattle.export_engine.specs.declared.places.Envelopes.{Envelopes};
 ghost use Rattle.export_engine.specs.ExportRefused.{IsExportRefusal, IsReadRefusal};
 ghost use Rattle.export_engine.specs.Exported.{ExportsCapture, LeavesExport, LeavesRecording};
 ghost use Rattle.export_engine.specs.Exported.{PrintsExported};
@@ -72,6 +75,24 @@ where
     };
     let counts = export_capture(alloc, &envelopes, capture, sink)?;
     print(Line::Exported(counts.written, counts.left_out), output)
+}
+
+/// Refuses words for the paths that are no flows to addresses. No file is looked at.
+///
+/// # Errors
+///
+/// `ExportFlow` where one is none.
+pub fn check_flows(wanted: Exporting<'_>) -> Result<(), Fault>
+    ensures flows { OnOk result ((es : Envelopes)
+        × AreEnvelopes wanted.entry.a.now (option_copied wanted.entry.b) es) }
+    ensures refusal { IfErr result (λ f. OfRefusal f (λ r. (r ≡ ExportFlow) × ((es : Envelopes)
+        → AreEnvelopes wanted.entry.a.now (option_copied wanted.entry.b) es → ⊥))) }
+    ensures failures { Accounts result [] }
+{
+    match Envelopes::read(&wanted) {
+        Some(_) => Ok(()),
+        None => Err(Fault::Refused(Refusal::ExportFlow)),
+    }
 }
 
 /// Writes the recording of a capture, and answers how many records have a packet there.

@@ -6,6 +6,6 @@ pub mod laws;
 mod packets;
 mod places;
 
-pub use exporting::{Exporting, export};
+pub use exporting::{Exporting, check_flows, export};
 pub use packets::ExportCounts;
 pub use places::{Envelopes, IpEnvelope};

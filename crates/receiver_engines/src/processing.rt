@@ -7,6 +7,9 @@ ghost use Rattle.run_outcome.specs.Fault.{Accounts, IfRefused, counts, failures_
 ghost use Rattle.run_outcome.specs.Refusing.{OfRefusal};
 ghost use Rattle.key_mix.specs.Sending.{HasBase, IsSendFault, IsSendable, IsSentJob, input_formats};
 ghost use Rattle.key_mix.specs.Sending.{settled_inputs};
+ghost use Rattle.key_mix.specs.declared.Job.{Job};
+ghost use Rattle.run_outcome.specs.declared.refusal.Refusal.TheVariants.{ProcessJob};
+ghost use Rattle.receiver_engines.specs.JobText.{IsJobText};
 ghost use Rattle.receiver_engines.specs.Processing.{PrintsSent, SendsFiles, SendsJob, SendsPart};
 ghost use Rattle.receiver_engines.specs.Processing.{TakesJob};
 ghost use Rattle.receiver_engines.specs.Processing.{WritesJob, of_send_job};
@@ -89,6 +92,23 @@ where
 {
     let sent = process_files(alloc, wanted, states, hold, sink)?;
     print(Line::Sent(u64::from(sent)), output)
+}
+
+/// Refuses a text that is that of no job. No file is looked at.
+///
+/// # Errors
+///
+/// `ProcessJob` where it is none.
+pub fn check_job(text: &[u8]) -> Result<(), Fault>
+    ensures job { OnOk result ((job : Job) × IsJobText text.now job) }
+    ensures refusal { IfErr result (λ f. OfRefusal f
+        (λ r. (r ≡ ProcessJob) × ((job : Job) → IsJobText text.now job → ⊥))) }
+    ensures failures { Accounts result [] }
+{
+    match read_job(text) {
+        Some(_) => Ok(()),
+        None => Err(Fault::Refused(Refusal::ProcessJob)),
+    }
 }
 
 /// Reads the job and the files, sends the job's picture, and answers how many datagrams that is.

@@ -1,15 +1,17 @@
 //! `merge` over the devices of this machine.
-ghost use Rattle.std.specs.Prelude.{◌≡◌, ◌∷◌, []};
+ghost use Rattle.std.specs.Prelude.{◌≡◌, ◌∷◌, [], IfErr, OnOk};
 ghost use Rattle.devices.specs.Passed.{FileRead, file_ended, file_failures, file_gave, file_took};
-ghost use Rattle.devices.specs.Passed.{output_failures, output_took, writing_failures};
+ghost use Rattle.devices.specs.Passed.{IsPlaced, IsUnplaced, output_failures, output_took};
+ghost use Rattle.devices.specs.Passed.{writing_failures};
 ghost use Rattle.receiver_engines.specs.MergeRefused.{IsMergeRefusal};
 ghost use Rattle.receiver_engines.specs.Merging.{MergesFiles, PrintsMerged};
 ghost use Rattle.run_outcome.specs.Fault.{Accounts, counts};
+ghost use Rattle.run_outcome.specs.Refusing.{OfRefusal};
 
 use command_end::{Command, Devices, Ran};
 use command_line::MergeWords;
-use devices::{FileSink, FileSource, OutputSink};
-use std::io::Stdout;
+use devices::{FileOutput, FileSource, OutputSink, Printer, Rest};
+use run_outcome::Fault;
 
 /// Merges two receivers that were written as files.
 #[derive(Drop)]
@@ -17,8 +19,8 @@ pub struct MergeCommand<'a> {
     rt: &'a HostRuntime,
     pub left: FileSource<'a>,
     pub right: FileSource<'a>,
-    pub state: FileSink<'a>,
-    pub output: OutputSink<Stdout>,
+    pub state: FileOutput<'a>,
+    pub output: OutputSink<Printer>,
 }
 
 impl<'a> MergeCommand<'a> {
@@ -30,15 +32,42 @@ impl<'a> MergeCommand<'a> {
             rt,
             left: FileSource::new(rt, words.left),
             right: FileSource::new(rt, words.right),
-            state: FileSink::new(rt, words.state),
-            output: OutputSink::new(rt.stdout()),
+            state: FileOutput::new(rt, words.state, Rest::Goes),
+            output: OutputSink::beside(rt, words.state),
         }
     }
 }
 
+/// Looks at the place of the merged receiver, which may be one of those that are read, before
+/// anything is read, and merges.
+fn merge<'a>(
+    rt: &HostRuntime,
+    left: &mut FileSource<'a>,
+    right: &mut FileSource<'a>,
+    state: &mut FileOutput<'_>,
+    output: &mut OutputSink<Printer>,
+) -> Result<(), Fault>
+    requires unplaced { IsUnplaced state.old }
+    ensures merged { OnOk result (MergesFiles (FileRead left.old left.new)
+        (FileRead right.old right.new) (file_took state.old) (file_took state.new)) }
+    ensures printed { OnOk result (PrintsMerged (FileRead left.old left.new)
+        (FileRead right.old right.new) (output_took output.old) (output_took output.new)) }
+    ensures ended { OnOk result (file_ended left.new × file_ended right.new) }
+    ensures unplaced { IsUnplaced state.new }
+    ensures refusal { IfErr result (λ f. OfRefusal f
+        (IsMergeRefusal (FileRead left.old left.new) (FileRead right.old right.new))) }
+    ensures owed { Accounts result (counts (file_failures left.old) (file_failures left.new)
+        ∷ counts (file_failures right.old) (file_failures right.new)
+        ∷ counts (writing_failures state.old) (writing_failures state.new)
+        ∷ counts (output_failures output.old) (output_failures output.new) ∷ []) }
+{
+    state.find()?;
+    receiver_engines::merge(rt.alloc(), left, right, &mut state.sink, output)
+}
+
 impl<'a> Command for MergeCommand<'a> {
     ghost is_new = { λ c. (file_gave c.left ≡ []) × (file_gave c.right ≡ [])
-        × (file_took c.state ≡ []) × (output_took c.output ≡ []) };
+        × (file_took c.state ≡ []) × IsUnplaced c.state × (output_took c.output ≡ []) };
 
     // What was read are the files of two receivers, what is written is that of the two merged, and
     // a line is printed for each of its frames.
@@ -52,6 +81,10 @@ impl<'a> Command for MergeCommand<'a> {
     ghost is_refused = { λ old new.
         IsMergeRefusal (FileRead old.left new.left) (FileRead old.right new.right) };
 
+    ghost is_placed = { λ c. IsPlaced c.state };
+
+    ghost is_unplaced = { λ c. IsUnplaced c.state };
+
     ghost owes = { λ old new outcome. Accounts outcome
         (counts (file_failures old.left) (file_failures new.left)
         ∷ counts (file_failures old.right) (file_failures new.right)
@@ -59,8 +92,8 @@ impl<'a> Command for MergeCommand<'a> {
         ∷ counts (output_failures old.output) (output_failures new.output) ∷ []) };
 
     fn run(&mut self) -> Ran {
-        let outcome = receiver_engines::merge(
-            self.rt.alloc(),
+        let outcome = merge(
+            self.rt,
             &mut self.left,
             &mut self.right,
             &mut self.state,
@@ -68,7 +101,7 @@ impl<'a> Command for MergeCommand<'a> {
         );
         Ran {
             outcome,
-            is_whole: self.state.finish(),
+            is_whole: self.state.settle(outcome.is_ok()),
         }
     }
 

@@ -1,22 +1,28 @@
 //! `process` over the devices of this machine.
-ghost use Rattle.std.specs.Prelude.{◌≡◌, ◌∷◌, ◌≤◌, ℕ, [], All, IfOk, IfSome, sum_by};
+ghost use Rattle.std.specs.Prelude.{◌≡◌, ◌∷◌, ◌⊎◌, ◌≤◌, ℕ, [], All, IfErr, IfOk, IfSome};
+ghost use Rattle.std.specs.Prelude.{IsFalse, IsTrue, OnOk, length, sum_by};
 ghost use Rattle.std.specs.List.{zip};
 ghost use Rattle.devices.specs.Passed.{file_ended, file_failures, file_gave, file_took};
-ghost use Rattle.devices.specs.Passed.{output_failures, output_took, writing_failures};
+ghost use Rattle.devices.specs.Passed.{IsPlaced, IsUnplaced, output_failures, output_took};
+ghost use Rattle.devices.specs.Passed.{writing_failures};
 ghost use Rattle.receiver_engines.specs.Processing.{PrintsSent, SendsFiles};
 ghost use Rattle.receiver_engines.specs.Refused.{IsRunRefusal};
 ghost use Rattle.run_outcome.specs.Fault.{Accounts, counts, failures_in};
 ghost use Rattle.run_outcome.specs.Moments.{WasRead, pair};
+ghost use Rattle.run_outcome.specs.Refusing.{OfRefusal};
+ghost use Rattle.run_outcome.specs.declared.refusal.Refusal.TheVariants.{OutputIsInput};
+ghost use Rattle.run_outcome.specs.declared.refusal.Writer.TheVariants.{Process};
 
-use command_end::{Command, Devices, Ran};
+use command_end::{Command, Devices, Ran, find_output};
 use command_line::ProcessWords;
 use devices::{
-    FileSink, FileSource, OutputSink, last_begun, named_file, named_files, reading_begun,
+    FileOutput, FileSource, OutputSink, Printer, Rest, any_is, last_begun, named_file, named_files,
+    one_is, reading_begun,
 };
 use packet_plan::Stamp;
-use receiver_engines::Processing;
+use receiver_engines::{Processing, check_job};
+use run_outcome::{Fault, Writer};
 use std::alloc::AllocError;
-use std::io::Stdout;
 
 /// Runs a job on frames of receivers, and sends its picture into a capture.
 #[derive(Drop)]
@@ -25,8 +31,10 @@ pub struct ProcessCommand<'a> {
     pub wanted: Processing<'a>,
     pub states: Vec<FileSource<'a>>,
     pub hold: Option<FileSource<'a>>,
-    pub out: FileSink<'a>,
-    pub output: OutputSink<Stdout>,
+    pub out: FileOutput<'a>,
+    /// Whether that is one of the files that are read.
+    pub is_input: bool,
+    pub output: OutputSink<Printer>,
     ghost payload_type_bits: { wanted.stamp.payload_type ≤ 127 },
 }
 
@@ -36,13 +44,18 @@ impl<'a> ProcessCommand<'a> {
     pub fn new(rt: &'a HostRuntime, words: &ProcessWords<'a>) -> Result<Self, AllocError>
         ensures { IfOk result ⟦<ProcessCommand<'a> as Command>⟧.is_new }
     {
+        let states = named_files(rt, words.states.as_slice())?;
+        let hold = named_file(rt, words.hold);
+        let out = FileOutput::new(rt, words.out, Rest::Stays);
+        let is_input = is_read(&out, &hold, states.as_slice());
         Ok(ProcessCommand {
             rt,
             wanted: processing(words),
-            states: named_files(rt, words.states.as_slice())?,
-            hold: named_file(rt, words.hold),
-            out: FileSink::new(rt, words.out),
-            output: OutputSink::new(rt.stdout()),
+            states,
+            hold,
+            out,
+            is_input,
+            output: OutputSink::beside(rt, words.out),
         })
     }
 }
@@ -65,10 +78,51 @@ fn processing<'a>(words: &ProcessWords<'a>) -> Processing<'a>
     }
 }
 
+/// Whether the capture is one of the files that are read.
+fn is_read(out: &FileOutput<'_>, hold: &Option<FileSource<'_>>, states: &[FileSource<'_>]) -> bool {
+    let file = out.identity();
+    one_is(hold, file) || any_is(states, file)
+}
+
+/// Looks at the words, and at the place of the capture, before anything is read, and runs the job.
+fn process<'a>(
+    rt: &HostRuntime,
+    wanted: Processing<'_>,
+    states: &mut [FileSource<'a>],
+    hold: &mut Option<FileSource<'a>>,
+    out: &mut FileOutput<'_>,
+    is_input: bool,
+    output: &mut OutputSink<Printer>,
+) -> Result<(), Fault>
+    requires payload_type { wanted.stamp.payload_type ≤ 127 }
+    requires unplaced { IsUnplaced out.old }
+    ensures len { length states.new ≡ length states.old }
+    ensures sent { OnOk result ((count : ℕ) × SendsFiles (WasRead file_gave file_ended)
+        (zip states.old states.new) (pair hold.old hold.new)
+        wanted.entry.job.now wanted.entry.timestamp wanted.entry.fill.now wanted.entry.max_octets
+        wanted.entry.stamp (file_took out.old) (file_took out.new) count
+        × PrintsSent count (output_took output.old) (output_took output.new)) }
+    ensures unplaced { IsUnplaced out.new }
+    ensures apart { OnOk result (IsFalse is_input) }
+    ensures refusal { IfErr result (λ f. OfRefusal f (λ r.
+        IsRunRefusal (WasRead file_gave file_ended) (zip states.old states.new)
+        (pair hold.old hold.new) wanted.entry r
+        ⊎ (r ≡ OutputIsInput Process) × IsTrue is_input)) }
+    ensures owed { Accounts result
+        (counts (sum_by file_failures states.old) (sum_by file_failures states.new)
+        ∷ counts (failures_in file_failures hold.old) (failures_in file_failures hold.new)
+        ∷ counts (writing_failures out.old) (writing_failures out.new)
+        ∷ counts (output_failures output.old) (output_failures output.new) ∷ []) }
+{
+    check_job(wanted.job)?;
+    find_output(out, is_input, Writer::Process)?;
+    receiver_engines::process(rt.alloc(), wanted, states, hold, &mut out.sink, output)
+}
+
 impl<'a> Command for ProcessCommand<'a> {
     ghost is_new = { λ c. All (λ f. file_gave f ≡ []) c.states.items
         × IfSome c.hold (λ f. file_gave f ≡ [])
-        × (file_took c.out ≡ []) × (output_took c.output ≡ []) };
+        × (file_took c.out ≡ []) × IsUnplaced c.out × (output_took c.output ≡ []) };
 
     // What is written is the capture of the datagrams of the job's picture, made of the receivers
     // and the held picture whose files were read, and it is printed how many they are.
@@ -78,8 +132,13 @@ impl<'a> Command for ProcessCommand<'a> {
         old.wanted.stamp (file_took old.out) (file_took new.out) count
         × PrintsSent count (output_took old.output) (output_took new.output) };
 
-    ghost is_refused = { λ old new. IsRunRefusal (WasRead file_gave file_ended)
-        (zip old.states.items new.states.items) (pair old.hold new.hold) old.wanted };
+    ghost is_refused = { λ old new r. IsRunRefusal (WasRead file_gave file_ended)
+        (zip old.states.items new.states.items) (pair old.hold new.hold) old.wanted r
+        ⊎ (r ≡ OutputIsInput Process) × IsTrue old.is_input };
+
+    ghost is_placed = { λ c. IsPlaced c.out × IsFalse c.is_input };
+
+    ghost is_unplaced = { λ c. IsUnplaced c.out };
 
     ghost owes = { λ old new outcome. Accounts outcome
         (counts (sum_by file_failures old.states.items) (sum_by file_failures new.states.items)
@@ -88,17 +147,18 @@ impl<'a> Command for ProcessCommand<'a> {
         ∷ counts (output_failures old.output) (output_failures new.output) ∷ []) };
 
     fn run(&mut self) -> Ran {
-        let outcome = receiver_engines::process(
-            self.rt.alloc(),
+        let outcome = process(
+            self.rt,
             self.wanted,
             self.states.as_mut_slice(),
             &mut self.hold,
             &mut self.out,
+            self.is_input,
             &mut self.output,
         );
         Ran {
             outcome,
-            is_whole: self.out.finish(),
+            is_whole: self.out.settle(outcome.is_ok()),
         }
     }
 

@@ -300,6 +300,8 @@ has_stopped gave ended begun rs rs' ts each text took mid took' refusal.ExportFl
     front stops = absurd stops
 has_stopped gave ended begun rs rs' ts each text took mid took' refusal.ImportPlaces opened flows
     front stops = absurd stops
+has_stopped gave ended begun rs rs' ts each text took mid took' (refusal.OutputIsInput by) opened flows
+    front stops = absurd stops
 has_stopped gave ended begun rs rs' ts each text took mid took' (refusal.Sdp f) opened flows
     front stops = absurd stops
 has_stopped gave ended begun rs rs' ts each text took mid took' (refusal.Flows f) opened flows

@@ -337,6 +337,8 @@ stops_joining gave ended ts0 ts rs0 rs rs' old now new w w' n k moment refusal.I
     flows leads stops = absurd stops
 stops_joining gave ended ts0 ts rs0 rs rs' old now new w w' n k moment refusal.ImportRecords writes
     flows leads stops = absurd stops
+stops_joining gave ended ts0 ts rs0 rs rs' old now new w w' n k moment (refusal.OutputIsInput by)
+    writes flows leads stops = absurd stops
 stops_joining gave ended ts0 ts rs0 rs rs' old now new w w' n k moment (refusal.Sdp f) writes
     flows leads stops = absurd stops
 stops_joining gave ended ts0 ts rs0 rs rs' old now new w w' n k moment (refusal.Flows f) writes

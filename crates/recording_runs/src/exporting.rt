@@ -1,18 +1,22 @@
 //! `export` over the devices of this machine.
-ghost use Rattle.std.specs.Prelude.{◌≡◌, ◌∷◌, []};
+ghost use Rattle.std.specs.Prelude.{◌≡◌, ◌∷◌, ◌⊎◌, [], IfErr, IsFalse, IsTrue, OnOk};
 ghost use Rattle.std.specs.Option.{option_copied};
 ghost use Rattle.devices.specs.Passed.{FileRead, file_ended, file_failures, file_gave, file_took};
-ghost use Rattle.devices.specs.Passed.{output_failures, output_took, writing_failures};
+ghost use Rattle.devices.specs.Passed.{IsPlaced, IsUnplaced, output_failures, output_took};
+ghost use Rattle.devices.specs.Passed.{writing_failures};
 ghost use Rattle.export_engine.specs.ExportRefused.{IsExportRefusal};
 ghost use Rattle.export_engine.specs.Exported.{PrintsExported};
 ghost use Rattle.run_outcome.specs.Fault.{Accounts, counts};
+ghost use Rattle.run_outcome.specs.Refusing.{OfRefusal};
+ghost use Rattle.run_outcome.specs.declared.refusal.Refusal.TheVariants.{OutputIsInput};
+ghost use Rattle.run_outcome.specs.declared.refusal.Writer.TheVariants.{Export};
 
 use crate::importing::octets;
-use command_end::{Command, Devices, Ran};
+use command_end::{Command, Devices, Ran, find_output};
 use command_line::ExportWords;
-use devices::{FileSink, FileSource, OutputSink};
-use export_engine::Exporting;
-use std::io::Stdout;
+use devices::{FileOutput, FileSource, OutputSink, Printer, Rest};
+use export_engine::{Exporting, check_flows};
+use run_outcome::{Fault, Writer};
 
 /// Writes a capture as a recording.
 #[derive(Drop)]
@@ -20,8 +24,10 @@ pub struct ExportCommand<'a> {
     rt: &'a HostRuntime,
     pub wanted: Exporting<'a>,
     pub capture: FileSource<'a>,
-    pub out: FileSink<'a>,
-    pub output: OutputSink<Stdout>,
+    pub out: FileOutput<'a>,
+    /// Whether that is one of the files that are read.
+    pub is_input: bool,
+    pub output: OutputSink<Printer>,
 }
 
 impl<'a> ExportCommand<'a> {
@@ -29,12 +35,16 @@ impl<'a> ExportCommand<'a> {
     pub fn new(rt: &'a HostRuntime, words: &ExportWords<'a>) -> Self
         ensures { ⟦<ExportCommand<'a> as Command>⟧.is_new result }
     {
+        let capture = FileSource::new(rt, words.capture);
+        let out = FileOutput::new(rt, words.out, Rest::Stays);
+        let is_input = capture.is(out.identity());
         ExportCommand {
             rt,
             wanted: exporting(words),
-            capture: FileSource::new(rt, words.capture),
-            out: FileSink::new(rt, words.out),
-            output: OutputSink::new(rt.stdout()),
+            capture,
+            out,
+            is_input,
+            output: OutputSink::beside(rt, words.out),
         }
     }
 }
@@ -47,9 +57,39 @@ fn exporting<'a>(words: &ExportWords<'a>) -> Exporting<'a> {
     }
 }
 
+/// Looks at the words, and at the place of the recording, before anything is read, and exports.
+fn export(
+    rt: &HostRuntime,
+    wanted: Exporting<'_>,
+    capture: &mut FileSource<'_>,
+    out: &mut FileOutput<'_>,
+    is_input: bool,
+    output: &mut OutputSink<Printer>,
+) -> Result<(), Fault>
+    requires unplaced { IsUnplaced out.old }
+    ensures exported { OnOk result (PrintsExported
+        wanted.entry.a.now (option_copied wanted.entry.b)
+        (file_gave capture.old) (file_gave capture.new) (file_ended capture.new)
+        (file_took out.old) (file_took out.new) (output_took output.old)
+        (output_took output.new)) }
+    ensures unplaced { IsUnplaced out.new }
+    ensures apart { OnOk result (IsFalse is_input) }
+    ensures refusal { IfErr result (λ f. OfRefusal f (λ r.
+        IsExportRefusal wanted.entry.a.now (option_copied wanted.entry.b)
+        (FileRead capture.old capture.new) r
+        ⊎ (r ≡ OutputIsInput Export) × IsTrue is_input)) }
+    ensures owed { Accounts result (counts (file_failures capture.old) (file_failures capture.new)
+        ∷ counts (writing_failures out.old) (writing_failures out.new)
+        ∷ counts (output_failures output.old) (output_failures output.new) ∷ []) }
+{
+    check_flows(wanted)?;
+    find_output(out, is_input, Writer::Export)?;
+    export_engine::export(rt.alloc(), wanted, capture, &mut out.sink, output)
+}
+
 impl<'a> Command for ExportCommand<'a> {
     ghost is_new = { λ c. (file_gave c.capture ≡ []) × (file_took c.out ≡ [])
-        × (output_took c.output ≡ []) };
+        × IsUnplaced c.out × (output_took c.output ≡ []) };
 
     // What is written is a recording of the capture that was read, and what is printed counts it.
     ghost does = { λ old new. PrintsExported old.wanted.a.now (option_copied old.wanted.b)
@@ -57,8 +97,13 @@ impl<'a> Command for ExportCommand<'a> {
         (file_took old.out) (file_took new.out) (output_took old.output)
         (output_took new.output) };
 
-    ghost is_refused = { λ old new. IsExportRefusal old.wanted.a.now
-        (option_copied old.wanted.b) (FileRead old.capture new.capture) };
+    ghost is_refused = { λ old new r. IsExportRefusal old.wanted.a.now
+        (option_copied old.wanted.b) (FileRead old.capture new.capture) r
+        ⊎ (r ≡ OutputIsInput Export) × IsTrue old.is_input };
+
+    ghost is_placed = { λ c. IsPlaced c.out × IsFalse c.is_input };
+
+    ghost is_unplaced = { λ c. IsUnplaced c.out };
 
     ghost owes = { λ old new outcome. Accounts outcome
         (counts (file_failures old.capture) (file_failures new.capture)
@@ -66,16 +111,17 @@ impl<'a> Command for ExportCommand<'a> {
         ∷ counts (output_failures old.output) (output_failures new.output) ∷ []) };
 
     fn run(&mut self) -> Ran {
-        let outcome = export_engine::export(
-            self.rt.alloc(),
+        let outcome = export(
+            self.rt,
             self.wanted,
             &mut self.capture,
             &mut self.out,
+            self.is_input,
             &mut self.output,
         );
         Ran {
             outcome,
-            is_whole: self.out.finish(),
+            is_whole: self.out.settle(outcome.is_ok()),
         }
     }
 

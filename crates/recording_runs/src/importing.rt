@@ -1,21 +1,26 @@
 //! `import` over the devices of this machine.
-ghost use Rattle.std.specs.Prelude.{◌≡◌, ◌∷◌, [], All, IfOk, Some, sum_by};
+ghost use Rattle.std.specs.Prelude.{◌≡◌, ◌∷◌, ◌⊎◌, [], All, IfErr, IfOk, IsFalse, IsTrue, OnOk, Some};
+ghost use Rattle.std.specs.Prelude.{length, sum_by};
 ghost use Rattle.std.specs.List.{zip};
 ghost use Rattle.std.specs.Option.{option_copied};
 ghost use Rattle.devices.specs.Passed.{FileRead, file_ended, file_failures, file_gave, file_took};
-ghost use Rattle.devices.specs.Passed.{output_failures, output_took, writing_failures};
+ghost use Rattle.devices.specs.Passed.{IsPlaced, IsUnplaced, output_failures, output_took};
+ghost use Rattle.devices.specs.Passed.{writing_failures};
 ghost use Rattle.recording_engines.specs.Imported.{Imports, IsImportRefusal};
 ghost use Rattle.recording_engines.specs.declared.importing.ImportCounts.{ImportCounts as Sums};
 ghost use Rattle.run_outcome.specs.Fault.{Accounts, counts};
 ghost use Rattle.run_outcome.specs.Moments.{WasRead};
+ghost use Rattle.run_outcome.specs.Refusing.{OfRefusal};
 ghost use Rattle.run_outcome.specs.Text.{GivesText};
+ghost use Rattle.run_outcome.specs.declared.refusal.Refusal.TheVariants.{OutputIsInput};
+ghost use Rattle.run_outcome.specs.declared.refusal.Writer.TheVariants.{Import};
 
-use command_end::{Command, Devices, Ran};
+use command_end::{Command, Devices, Ran, find_output};
 use command_line::ImportWords;
-use devices::{FileSink, FileSource, OutputSink, given_files, last_begun};
+use devices::{FileOutput, FileSource, OutputSink, Printer, Rest, any_is, given_files, last_begun};
 use recording_engines::{ImportCounts, Importing};
+use run_outcome::{Fault, Writer};
 use std::alloc::AllocError;
-use std::io::Stdout;
 
 /// Makes a capture of recordings.
 #[derive(Drop)]
@@ -24,8 +29,10 @@ pub struct ImportCommand<'a> {
     pub wanted: Importing<'a>,
     pub sdp: FileSource<'a>,
     pub recordings: Vec<FileSource<'a>>,
-    pub out: FileSink<'a>,
-    pub output: OutputSink<Stdout>,
+    pub out: FileOutput<'a>,
+    /// Whether that is one of the files that are read.
+    pub is_input: bool,
+    pub output: OutputSink<Printer>,
     /// What was recorded, once it is.
     pub counts: Option<ImportCounts>,
 }
@@ -36,13 +43,18 @@ impl<'a> ImportCommand<'a> {
     pub fn new(rt: &'a HostRuntime, words: &ImportWords<'a>) -> Result<Self, AllocError>
         ensures { IfOk result ⟦<ImportCommand<'a> as Command>⟧.is_new }
     {
+        let sdp = FileSource::new(rt, words.sdp);
+        let recordings = given_files(rt, words.recordings.as_slice())?;
+        let out = FileOutput::new(rt, words.out, Rest::Stays);
+        let is_input = is_read(&out, &sdp, recordings.as_slice());
         Ok(ImportCommand {
             rt,
             wanted: importing(words),
-            sdp: FileSource::new(rt, words.sdp),
-            recordings: given_files(rt, words.recordings.as_slice())?,
-            out: FileSink::new(rt, words.out),
-            output: OutputSink::new(rt.stdout()),
+            sdp,
+            recordings,
+            out,
+            is_input,
+            output: OutputSink::beside(rt, words.out),
             counts: None,
         })
     }
@@ -64,10 +76,88 @@ pub(crate) fn octets(text: Option<&str>) -> Option<&[u8]> {
     }
 }
 
+/// Whether the capture is one of the files that are read.
+fn is_read(out: &FileOutput<'_>, sdp: &FileSource<'_>, recordings: &[FileSource<'_>]) -> bool {
+    let file = out.identity();
+    sdp.is(file) || any_is(recordings, file)
+}
+
+/// Looks at the place of the capture, before anything is read, and imports.
+fn import<'a>(
+    rt: &HostRuntime,
+    wanted: Importing<'_>,
+    sdp: &mut FileSource<'a>,
+    recordings: &mut [FileSource<'a>],
+    out: &mut FileOutput<'_>,
+    is_input: bool,
+    output: &mut OutputSink<Printer>,
+) -> Result<ImportCounts, Fault>
+    requires unplaced { IsUnplaced out.old }
+    ensures len { length recordings.new ≡ length recordings.old }
+    ensures imported { IfOk result (λ sums. Imports
+        (option_copied wanted.entry.a) (option_copied wanted.entry.b)
+        (GivesText 65535 (file_gave sdp.old) (file_gave sdp.new) (file_ended sdp.new))
+        (WasRead file_gave file_ended) (zip recordings.old recordings.new)
+        (file_took out.old) (file_took out.new) (output_took output.old)
+        (output_took output.new) sums) }
+    ensures unplaced { IsUnplaced out.new }
+    ensures apart { OnOk result (IsFalse is_input) }
+    ensures refusal { IfErr result (λ f. OfRefusal f (λ r. IsImportRefusal
+        (option_copied wanted.entry.a) (option_copied wanted.entry.b) (FileRead sdp.old sdp.new)
+        (GivesText 65535 (file_gave sdp.old) (file_gave sdp.new) (file_ended sdp.new))
+        (WasRead file_gave file_ended) (zip recordings.old recordings.new)
+        (file_took out.old) (file_took out.new) r
+        ⊎ (r ≡ OutputIsInput Import) × IsTrue is_input)) }
+    ensures owed { Accounts result (counts (file_failures sdp.old) (file_failures sdp.new)
+        ∷ counts (sum_by file_failures recordings.old) (sum_by file_failures recordings.new)
+        ∷ counts (writing_failures out.old) (writing_failures out.new)
+        ∷ counts (output_failures output.old) (output_failures output.new) ∷ []) }
+{
+    find_output(out, is_input, Writer::Import)?;
+    recording_engines::import(rt.alloc(), wanted, sdp, recordings, &mut out.sink, output)
+}
+
+/// Imports, and keeps what was recorded.
+fn record<'a>(
+    rt: &HostRuntime,
+    wanted: Importing<'_>,
+    sdp: &mut FileSource<'a>,
+    recordings: &mut [FileSource<'a>],
+    out: &mut FileOutput<'_>,
+    is_input: bool,
+    output: &mut OutputSink<Printer>,
+    recorded: &mut Option<ImportCounts>,
+) -> Result<(), Fault>
+    requires unplaced { IsUnplaced out.old }
+    ensures len { length recordings.new ≡ length recordings.old }
+    ensures imported { OnOk result ((sums : Sums) × (recorded.new ≡ Some sums) × Imports
+        (option_copied wanted.entry.a) (option_copied wanted.entry.b)
+        (GivesText 65535 (file_gave sdp.old) (file_gave sdp.new) (file_ended sdp.new))
+        (WasRead file_gave file_ended) (zip recordings.old recordings.new)
+        (file_took out.old) (file_took out.new) (output_took output.old)
+        (output_took output.new) sums) }
+    ensures unplaced { IsUnplaced out.new }
+    ensures apart { OnOk result (IsFalse is_input) }
+    ensures refusal { IfErr result (λ f. OfRefusal f (λ r. IsImportRefusal
+        (option_copied wanted.entry.a) (option_copied wanted.entry.b) (FileRead sdp.old sdp.new)
+        (GivesText 65535 (file_gave sdp.old) (file_gave sdp.new) (file_ended sdp.new))
+        (WasRead file_gave file_ended) (zip recordings.old recordings.new)
+        (file_took out.old) (file_took out.new) r
+        ⊎ (r ≡ OutputIsInput Import) × IsTrue is_input)) }
+    ensures owed { Accounts result (counts (file_failures sdp.old) (file_failures sdp.new)
+        ∷ counts (sum_by file_failures recordings.old) (sum_by file_failures recordings.new)
+        ∷ counts (writing_failures out.old) (writing_failures out.new)
+        ∷ counts (output_failures output.old) (output_failures output.new) ∷ []) }
+{
+    let sums = import(rt, wanted, sdp, recordings, out, is_input, output)?;
+    *recorded = Some(sums);
+    Ok(())
+}
+
 impl<'a> Command for ImportCommand<'a> {
     ghost is_new = { λ c. (file_gave c.sdp ≡ [])
         × All (λ f. file_gave f ≡ []) c.recordings.items
-        × (file_took c.out ≡ []) × (output_took c.output ≡ []) };
+        × (file_took c.out ≡ []) × IsUnplaced c.out × (output_took c.output ≡ []) };
 
     // What is written is the capture of the recordings that were read, by the flows of the words or
     // of the SDP text that was read, and what is printed counts it.
@@ -78,11 +168,16 @@ impl<'a> Command for ImportCommand<'a> {
         (file_took old.out) (file_took new.out) (output_took old.output)
         (output_took new.output) sums };
 
-    ghost is_refused = { λ old new. IsImportRefusal (option_copied old.wanted.a)
+    ghost is_refused = { λ old new r. IsImportRefusal (option_copied old.wanted.a)
         (option_copied old.wanted.b) (FileRead old.sdp new.sdp)
         (GivesText 65535 (file_gave old.sdp) (file_gave new.sdp) (file_ended new.sdp))
         (WasRead file_gave file_ended) (zip old.recordings.items new.recordings.items)
-        (file_took old.out) (file_took new.out) };
+        (file_took old.out) (file_took new.out) r
+        ⊎ (r ≡ OutputIsInput Import) × IsTrue old.is_input };
+
+    ghost is_placed = { λ c. IsPlaced c.out × IsFalse c.is_input };
+
+    ghost is_unplaced = { λ c. IsUnplaced c.out };
 
     ghost owes = { λ old new outcome. Accounts outcome
         (counts (file_failures old.sdp) (file_failures new.sdp)
@@ -92,27 +187,19 @@ impl<'a> Command for ImportCommand<'a> {
         ∷ counts (output_failures old.output) (output_failures new.output) ∷ []) };
 
     fn run(&mut self) -> Ran {
-        let imported = recording_engines::import(
-            self.rt.alloc(),
+        let outcome = record(
+            self.rt,
             self.wanted,
             &mut self.sdp,
             self.recordings.as_mut_slice(),
             &mut self.out,
+            self.is_input,
             &mut self.output,
+            &mut self.counts,
         );
-        let is_whole = self.out.finish();
-        match imported {
-            Ok(counts) => {
-                self.counts = Some(counts);
-                Ran {
-                    outcome: Ok(()),
-                    is_whole,
-                }
-            }
-            Err(fault) => Ran {
-                outcome: Err(fault),
-                is_whole,
-            },
+        Ran {
+            outcome,
+            is_whole: self.out.settle(outcome.is_ok()),
         }
     }
 

@@ -16,6 +16,8 @@ use Rattle.st_format.specs.Faults.{format_fault_name, format_fault_number}
 use Rattle.run_outcome.specs.Telling.{numbered_name}
 use Rattle.run_outcome.specs.declared.refusal.Refusal.{Refusal}
 use Rattle.run_outcome.specs.declared.refusal.Refusal.TheVariants as refusal
+use Rattle.run_outcome.specs.declared.refusal.Writer.{Writer}
+use Rattle.run_outcome.specs.declared.refusal.Writer.TheVariants as writer
 use Rattle.run_outcome.specs.declared.script_line.LineFault.{LineFault}
 use Rattle.run_outcome.specs.declared.script_line.LineFault.TheVariants as line
 
@@ -37,6 +39,15 @@ line_fault_text (line.Numbers f) =
 line_fault_text (line.Plan f) =
     numbered_name (codes "plan ") (plan_fault_number f) (plan_fault_name f)
 line_fault_text (line.Play f) = play_text f
+
+-- of a command whose output is one of its inputs
+abbrev pub output_text : Writer → List ℕ
+output_text writer.Migrate = codes "migrate 2 OutputIsInput"
+output_text writer.Send = codes "send 4 OutputIsInput"
+output_text writer.Receive = codes "receive 5 OutputIsInput"
+output_text writer.Process = codes "process 5 OutputIsInput"
+output_text writer.Import = codes "import 5 OutputIsInput"
+output_text writer.Export = codes "export 2 OutputIsInput"
 
 -- of all commands
 abbrev pub refusal_text : Refusal → List ℕ
@@ -60,6 +71,7 @@ refusal_text refusal.ImportSdp = codes "import 1 SdpTooLong"
 refusal_text refusal.ImportFlow = codes "import 2 BadFlow"
 refusal_text refusal.ImportPlaces = codes "import 3 OnePlace"
 refusal_text refusal.ImportRecords = codes "import 4 TooManyRecords"
+refusal_text (refusal.OutputIsInput by) = output_text by
 refusal_text (refusal.Sdp at) =
     numbered_name (codes "sdp ") (sdp_fault_number at.fault) (sdp_fault_name at.fault)
 refusal_text (refusal.Flows f) =

@@ -23,6 +23,7 @@ use std::fmt;
 pub fn end<F: ByteSink>(outcome: Result<(), Fault>, faults: &mut F) -> u8
     ensures range { (result ≡ 0) ⊎ (result ≡ 1) ⊎ (result ≡ 3) ⊎ (result ≡ 4) }
     ensures done { result ≡ 0 → EndsDone outcome }
+    ensures finished { EndsDone outcome → result ≡ 0 }
     ensures silent { result ≡ 0 → faults.new ≡ faults.old }
     ensures refused { result ≡ 1 → EndsRefused outcome }
     ensures told { result ≡ 1 → TellsOutcome outcome (F.took faults.old) (F.took faults.new) }

@@ -23,7 +23,7 @@ pub use fault::{Fault, of_capture, of_picture, of_state};
 pub use line::Line;
 pub use pictures::{read_packed, read_unpacked};
 pub use printing::{print, print_frames};
-pub use refusal::Refusal;
+pub use refusal::{Refusal, Writer};
 pub use script_line::{Form, LineFault};
 pub use sources::read_source;
 pub use status::Status;

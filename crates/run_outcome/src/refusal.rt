@@ -1,4 +1,7 @@
 //! Why a run is refused.
+ghost use Rattle.std.specs.Prelude.{◌≡◌};
+ghost use Rattle.run_outcome.specs.RefusalText.{output_text};
+
 use crate::script_line::LineFault;
 use key_mix::JobFault;
 use media_file::FileFault;
@@ -7,6 +10,17 @@ use path_merge::OpenFault;
 use pcap_file::RecordingFault;
 use sdp_format::{FlowsFault, Located};
 use std::fmt;
+
+/// A command that writes a file, which may be none of those that it reads.
+#[derive(Clone, Copy)]
+pub enum Writer {
+    Migrate,
+    Send,
+    Receive,
+    Process,
+    Import,
+    Export,
+}
 
 /// Why words, a text or files are refused.
 #[derive(Clone, Copy)]
@@ -49,6 +63,8 @@ pub enum Refusal {
     ImportPlaces,
     /// Recordings have too many datagrams of the flows.
     ImportRecords,
+    /// The file that this command is to write is one of those that it is to read.
+    OutputIsInput(Writer),
     /// The SDP is refused, in a place of it where that is one's.
     Sdp(Located),
     /// The SDP doesn't say where its video is sent to.
@@ -97,6 +113,7 @@ impl fmt::Display for Refusal {
             Refusal::ImportFlow => f.write_str("import 2 BadFlow"),
             Refusal::ImportPlaces => f.write_str("import 3 OnePlace"),
             Refusal::ImportRecords => f.write_str("import 4 TooManyRecords"),
+            Refusal::OutputIsInput(writer) => f.write_str(of_output(*writer)),
             Refusal::Sdp(at) => {
                 let fault = at.fault;
                 let number = fault.number();
@@ -144,5 +161,19 @@ impl fmt::Display for Refusal {
                 write!(f, "recording {number} {name}")
             }
         }
+    }
+}
+
+/// What is printed where this command's output is one of its inputs.
+fn of_output(writer: Writer) -> &'static str
+    ensures { result.now ≡ output_text writer }
+{
+    match writer {
+        Writer::Migrate => "migrate 2 OutputIsInput",
+        Writer::Send => "send 4 OutputIsInput",
+        Writer::Receive => "receive 5 OutputIsInput",
+        Writer::Process => "process 5 OutputIsInput",
+        Writer::Import => "import 5 OutputIsInput",
+        Writer::Export => "export 2 OutputIsInput",
     }
 }

@@ -8,15 +8,15 @@ use recording_runs::{FlowsCommand, ImportCommand};
 
 /// Makes a capture of recordings, and answers the exit status. Where nothing was recorded, the
 /// flows that the recordings have are told by one command more.
-pub fn import(rt: &HostRuntime, words: &ImportWords<'_>, is_verbose: bool) -> u8 {
+pub fn import(rt: &HostRuntime, words: &ImportWords<'_>, explains: bool, is_verbose: bool) -> u8 {
     let (status, counts) = match ImportCommand::new(rt, words) {
-        Ok(command) => record(rt, command, is_verbose),
-        Err(_) => (end_without_memory(rt, is_verbose), None),
+        Ok(command) => record(rt, command, explains, is_verbose),
+        Err(_) => (end_without_memory(rt, explains), None),
     };
     match counts {
         Some(counts) if status == 0 && counts.a == 0 && counts.b == 0 => {
             let names = words.recordings.as_slice();
-            run_made(rt, is_verbose, FlowsCommand::new(rt, names))
+            run_made(rt, explains, FlowsCommand::new(rt, names))
         }
         _ => status,
     }
@@ -27,11 +27,12 @@ pub fn import(rt: &HostRuntime, words: &ImportWords<'_>, is_verbose: bool) -> u8
 fn record<'a>(
     rt: &HostRuntime,
     command: ImportCommand<'a>,
+    explains: bool,
     is_verbose: bool,
 ) -> (u8, Option<ImportCounts>)
     requires { ⟦<ImportCommand<'a> as Command>⟧.is_new command }
 {
-    let ended = run_command(rt, is_verbose, command);
+    let ended = run_command(rt, explains, command);
     if let Some(counts) = &ended.command.counts {
         if is_verbose {
             tell_left_out(rt, &counts.left_out);

@@ -15,6 +15,7 @@ use run_outcome::Status;
 use script_runs::{RehearseCommand, SdpCommand, TraceCommand};
 use std::alloc::AllocError;
 use std::fs::File;
+use std::io::IsTerminal;
 use std::process::ExitCode;
 
 fn main(rt: HostRuntime) -> ExitCode {
@@ -44,46 +45,43 @@ fn run(rt: &HostRuntime) -> u8 {
 
 /// Runs the command, and answers the exit status.
 fn follow(rt: &HostRuntime, given: &Given<'_>) -> u8 {
-    let is_verbose = given.is_verbose;
+    let explains = explains_faults(rt, given);
     match &given.words {
-        Words::Trace => run_command(rt, is_verbose, TraceCommand::new(rt, is_verbose)).status,
-        Words::Sdp => run_command(rt, is_verbose, SdpCommand::new(rt, is_verbose)).status,
-        Words::Rehearse => run_command(rt, is_verbose, RehearseCommand::new(rt, is_verbose)).status,
+        Words::Trace => run_command(rt, explains, TraceCommand::new(rt, explains)).status,
+        Words::Sdp => run_command(rt, explains, SdpCommand::new(rt, explains)).status,
+        Words::Rehearse => run_command(rt, explains, RehearseCommand::new(rt, explains)).status,
         Words::Migrate(words) => {
-            run_command(rt, is_verbose, MigrateCommand::new(rt, words)).status
+            run_command(rt, explains, MigrateCommand::new(rt, words)).status
         }
-        Words::Send(words) => run_made(rt, is_verbose, SendCommand::new(rt, words)),
+        Words::Send(words) => run_made(rt, explains, SendCommand::new(rt, words)),
         Words::Receive(words) => {
-            run_command(rt, is_verbose, ReceiveCommand::new(rt, words)).status
+            run_command(rt, explains, ReceiveCommand::new(rt, words)).status
         }
-        Words::Merge(words) => run_command(rt, is_verbose, MergeCommand::new(rt, words)).status,
-        Words::Process(words) => run_made(rt, is_verbose, ProcessCommand::new(rt, words)),
-        Words::Report(state) => run_command(rt, is_verbose, ReportCommand::new(rt, state)).status,
-        Words::Loop(words) => run_command(rt, is_verbose, LoopCommand::new(rt, words)).status,
-        Words::Import(words) => import(rt, words, is_verbose),
-        Words::Export(words) => run_command(rt, is_verbose, ExportCommand::new(rt, words)).status,
+        Words::Merge(words) => run_command(rt, explains, MergeCommand::new(rt, words)).status,
+        Words::Process(words) => run_made(rt, explains, ProcessCommand::new(rt, words)),
+        Words::Report(state) => run_command(rt, explains, ReportCommand::new(rt, state)).status,
+        Words::Loop(words) => run_command(rt, explains, LoopCommand::new(rt, words)).status,
+        Words::Import(words) => import(rt, words, explains, given.is_verbose),
+        Words::Export(words) => run_command(rt, explains, ExportCommand::new(rt, words)).status,
         Words::Inspect(recordings) => {
-            run_made(
-                rt,
-                is_verbose,
-                InspectCommand::new(rt, recordings.as_slice()),
-            )
+            run_made(rt, explains, InspectCommand::new(rt, recordings.as_slice()))
         }
     }
 }
 
+/// Whether a fault's place is told: where that is asked for, and by itself at a terminal.
+fn explains_faults(rt: &HostRuntime, given: &Given<'_>) -> bool {
+    given.is_verbose || !given.is_quiet && rt.stderr().is_terminal()
+}
+
 /// Runs a command, or ends where there was no memory for its list of files, and answers the exit
 /// status.
-fn run_made<C: Command + Drop>(
-    rt: &HostRuntime,
-    is_verbose: bool,
-    made: Result<C, AllocError>,
-) -> u8
+fn run_made<C: Command + Drop>(rt: &HostRuntime, explains: bool, made: Result<C, AllocError>) -> u8
     requires { ForOk made C.is_new }
 {
     match made {
-        Ok(command) => run_command(rt, is_verbose, command).status,
-        Err(_) => end_without_memory(rt, is_verbose),
+        Ok(command) => run_command(rt, explains, command).status,
+        Err(_) => end_without_memory(rt, explains),
     }
 }
 

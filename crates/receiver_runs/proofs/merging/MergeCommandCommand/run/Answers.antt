@@ -3,6 +3,6 @@ use Rattle.receiver_runs.proofs.merging.MergeCommandCommand.run.Goals as goal
 
 pub returns-clause-done : goal.returns-clause-done
 returns-clause-done c =
-    rw c.finish.ensures.took
+    rw c.settle.ensures.took
     (on_ok_all _ _ _ _ _ c.merge-outcome.ensures.merged c.merge-outcome.ensures.printed
     c.merge-outcome.ensures.ended)

@@ -1,5 +1,14 @@
-use Rattle.std.proofs.Common.{◌≡◌, ◌∙◌, ap, length, sym}
+use Rattle.std.proofs.Common.{◌≡◌, ◌⊎◌, ◌∙◌, List, ap, length, subst, sym}
+use Rattle.std.specs.Prelude.{IfErr, IsTrue}
+use Rattle.std.specs.List.{zip}
 use Rattle.command_end.proofs.Outcomes.{vec_back}
+use Rattle.devices.specs.Passed.{file_ended, file_gave}
+use Rattle.devices.specs.declared.file_source.FileSource.{FileSource}
+use Rattle.receiver_engines.specs.Refused.{IsRunRefusal}
+use Rattle.run_outcome.specs.Moments.{WasRead, pair}
+use Rattle.run_outcome.specs.Refusing.{OfRefusal}
+use Rattle.run_outcome.specs.declared.refusal.Refusal.TheVariants.{OutputIsInput}
+use Rattle.run_outcome.specs.declared.refusal.Writer.TheVariants.{Process}
 use Rattle.receiver_runs.proofs.processing.ProcessCommandCommand.run.Goals as goal
 
 pub returns-clause-done : goal.returns-clause-done
@@ -9,7 +18,7 @@ returns-clause-done c =
     rw (
       vec_back c.args.self.now.states.len items c.process-outcome.new.states
           (sym c.as_mut_slice.ensures.len ∙ same) (c.process-outcome.ensures.len ∙ same),
-      c.finish.ensures.took,
+      c.settle.ensures.took,
     )
     (rw c.as_mut_slice.ensures.value at c.process-outcome.ensures.sent)
 
@@ -17,6 +26,11 @@ pub returns-clause-refusal : goal.returns-clause-refusal
 returns-clause-refusal c =
     let items = c.args.self.now.states.items in
     let same = ap length c.as_mut_slice.ensures.value in
-    rw (vec_back c.args.self.now.states.len items c.process-outcome.new.states
-    (sym c.as_mut_slice.ensures.len ∙ same) (c.process-outcome.ensures.len ∙ same))
+    let back =
+    vec_back c.args.self.now.states.len items c.process-outcome.new.states
+    (sym c.as_mut_slice.ensures.len ∙ same) (c.process-outcome.ensures.len ∙ same) in
+    subst (λ (ss : List FileSource). IfErr c.process-outcome.result (λ f. OfRefusal f (λ r.
+    IsRunRefusal (WasRead file_gave file_ended) (zip items ss)
+    (pair c.args.self.now.hold c.process-outcome.new.hold) c.args.self.now.wanted r
+    ⊎ (r ≡ OutputIsInput Process) × IsTrue c.args.self.now.is_input))) (sym back)
     (rw c.as_mut_slice.ensures.value at c.process-outcome.ensures.refusal)

@@ -1,28 +1,52 @@
-use Rattle.std.proofs.Common.{◌≡◌, ◌∙◌, ap, length, refl, sym}
+use Rattle.std.proofs.Common.{◌≡◌, ℕ, ◌⊎◌, ◌∙◌, List, ap, length, subst, sym}
+use Rattle.std.specs.Prelude.{IfErr, IsTrue}
+use Rattle.std.specs.List.{zip}
+use Rattle.std.specs.Option.{option_copied}
 use Rattle.command_end.proofs.Outcomes.{vec_back}
+use Rattle.devices.specs.Passed.{FileRead, file_ended, file_gave, file_took}
+use Rattle.devices.specs.declared.file_source.FileSource.{FileSource}
+use Rattle.recording_engines.specs.Imported.{IsImportRefusal}
+use Rattle.run_outcome.specs.Moments.{WasRead}
+use Rattle.run_outcome.specs.Refusing.{OfRefusal}
+use Rattle.run_outcome.specs.Text.{GivesText}
+use Rattle.run_outcome.specs.declared.refusal.Refusal.TheVariants.{OutputIsInput}
+use Rattle.run_outcome.specs.declared.refusal.Writer.TheVariants.{Import}
 use Rattle.recording_runs.proofs.importing.ImportCommandCommand.run.Goals as goal
 
-pub returns-in-Ok-clause-done : goal.returns-in-Ok-clause-done
-returns-in-Ok-clause-done c =
-    let items = c.args.self.now.recordings.items in
-    let same = ap length c.as_mut_slice.ensures.value in (
-      c.in-Ok.counts,
-      refl,
-      rw (
-        vec_back c.args.self.now.recordings.len items c.import-imported.new.recordings
-            (sym c.as_mut_slice.ensures.len ∙ same) (c.import-imported.ensures.len ∙ same),
-        c.finish-is_whole.ensures.took,
-      )
-          (rw c.as_mut_slice.ensures.value at c.in-Ok.ensures.imported),
-    )
-
-pub returns-in-Err-clause-refusal : goal.returns-in-Err-clause-refusal
-returns-in-Err-clause-refusal c =
+pub returns-clause-done : goal.returns-clause-done
+returns-clause-done c =
     let items = c.args.self.now.recordings.items in
     let same = ap length c.as_mut_slice.ensures.value in
     rw (
-      vec_back c.args.self.now.recordings.len items c.import-imported.new.recordings
-          (sym c.as_mut_slice.ensures.len ∙ same) (c.import-imported.ensures.len ∙ same),
-      c.finish-is_whole.ensures.took,
+      vec_back c.args.self.now.recordings.len items c.record-outcome.new.recordings
+          (sym c.as_mut_slice.ensures.len ∙ same) (c.record-outcome.ensures.len ∙ same),
+      c.settle.ensures.took,
     )
-    (rw c.as_mut_slice.ensures.value at c.in-Err.ensures.refusal)
+    (rw c.as_mut_slice.ensures.value at c.record-outcome.ensures.imported)
+
+pub returns-clause-refusal : goal.returns-clause-refusal
+returns-clause-refusal c =
+    let items = c.args.self.now.recordings.items in
+    let same = ap length c.as_mut_slice.ensures.value in
+    let back =
+    vec_back c.args.self.now.recordings.len items c.record-outcome.new.recordings
+    (sym c.as_mut_slice.ensures.len ∙ same) (c.record-outcome.ensures.len ∙ same) in
+    let sdp = c.args.self.now.sdp in
+    let sdp' = c.record-outcome.new.sdp in
+    let settled =
+    subst (λ (took : List ℕ). IfErr c.record-outcome.result (λ f. OfRefusal f (λ r.
+    IsImportRefusal (option_copied c.args.self.now.wanted.a)
+    (option_copied c.args.self.now.wanted.b) (FileRead sdp sdp')
+    (GivesText 65535 (file_gave sdp) (file_gave sdp') (file_ended sdp'))
+    (WasRead file_gave file_ended) (zip items c.record-outcome.new.recordings)
+    (file_took c.args.self.now.out) took r
+    ⊎ (r ≡ OutputIsInput Import) × IsTrue c.args.self.now.is_input)))
+    (sym c.settle.ensures.took)
+    (rw c.as_mut_slice.ensures.value at c.record-outcome.ensures.refusal) in
+    subst (λ (ss : List FileSource). IfErr c.record-outcome.result (λ f. OfRefusal f (λ r.
+    IsImportRefusal (option_copied c.args.self.now.wanted.a)
+    (option_copied c.args.self.now.wanted.b) (FileRead sdp sdp')
+    (GivesText 65535 (file_gave sdp) (file_gave sdp') (file_ended sdp'))
+    (WasRead file_gave file_ended) (zip items ss)
+    (file_took c.args.self.now.out) (file_took c.settle.new.self) r
+    ⊎ (r ≡ OutputIsInput Import) × IsTrue c.args.self.now.is_input))) (sym back) settled

@@ -1,0 +1,40 @@
+//! What takes octets as they come: a device, a pipe, or standard output.
+use std::fs::{self, File};
+use std::io::{self, Stdout, Write};
+
+/// The name of standard output.
+pub(crate) const OUTPUT: &str = "-";
+
+/// A stream that is written.
+#[derive(Drop)]
+pub(crate) enum Stream {
+    Named(File),
+    Output(Stdout),
+}
+
+impl Stream {
+    /// The stream of this name.
+    pub(crate) fn open(rt: &HostRuntime, name: &str) -> io::Result<Stream> {
+        if name == OUTPUT {
+            Ok(Stream::Output(rt.stdout()))
+        } else {
+            Ok(Stream::Named(fs::create(rt, name)?))
+        }
+    }
+}
+
+impl Write for Stream {
+    fn write(&mut self, octets: &[u8]) -> io::Result<usize> {
+        match self {
+            Stream::Named(file) => file.write(octets),
+            Stream::Output(output) => output.write(octets),
+        }
+    }
+
+    fn flush(&mut self) -> io::Result<()> {
+        match self {
+            Stream::Named(file) => file.flush(),
+            Stream::Output(output) => output.flush(),
+        }
+    }
+}
