@@ -99,7 +99,7 @@ def is_tried(words):
     """Whether a command reads standard input alone, and that is there and no terminal."""
     with contextlib.suppress(OSError):
         os.fstat(0)
-        named = [it for it in words if it not in ("-v", "--verbose")]
+        named = [it for it in words if it not in ("-v", "--verbose", "-q", "--quiet")]
         return named in ([], ["trace"], ["sdp"], ["rehearse"]) and not os.isatty(0)
     return False
 

@@ -416,5 +416,25 @@ esac
 (ulimit -f 1 && clone/st2110 send --out large.cap large.pic) >out 2>err
 status=$?
 says 'launcher: the greatest size of a file' 3 '' 'st2110: device'
+
+# Ctrl-C, which ends what records into a pipe, lets the program finish with what came.
+mkfifo recorder
+interrupted() {
+    { cat "$root/examples/$1" && sleep 1; } >recorder &
+    shift
+    timeout -s INT 0.3 "$@" <recorder >out 2>err
+    wait
+}
+interrupted path-a.cap clone/st2110 receive --window 900 --state recorded.rcv -
+status=0
+says 'launcher: Ctrl-C of a pipe that receive reads' 0 'delivered 1
+frame 900 present 12 missing 4 contested 0' ''
+interrupted recordings/loopback.pcap clone/st2110 -v inspect -
+grep -q '^flows 1' out && pass 'launcher: Ctrl-C of a pipe that inspect reads' ||
+    fail 'launcher: Ctrl-C of a pipe that inspect reads' "$(cat out err)"
+interrupted path-a.cap clone/st2110 receive --window 900 --state - /dev/stdin
+: >out
+says 'launcher: Ctrl-C of a pipe that is no recorder' 0 '' ''
+rm -f recorder recorded.rcv
 PATH=$wide
 unset ST2110_ROOMS XDG_CACHE_HOME

@@ -59,7 +59,7 @@ none 'merge: nothing is written after a refusal' no-merge.rcv
 run merge --state /dev/full g.rcv g.rcv
 says 'merge: a full file' 3 "$frame" 'st2110: device'
 run merge --state no-such-folder/h.rcv g.rcv g.rcv
-says 'merge: a file that cannot be made' 3 "$frame" 'st2110: device'
+says 'merge: a file that cannot be made' 3 '' 'st2110: device'
 cat g.rcv | "$program" merge --state h.rcv /dev/stdin g.rcv >out 2>err
 status=$?
 says 'merge: a pipe' 0 "$frame" ''

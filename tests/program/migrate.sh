@@ -29,7 +29,8 @@ none 'migrate: an empty capture, nothing written' no.cap
 head -c 46 old.cap >cut.cap
 run migrate --sdp q.sdp --out cut-new.cap cut.cap
 says 'migrate: a cut capture' 1 '' 'st2110: capture 5 Truncated'
-holds 'migrate: a cut capture, its front is written' cut-new.cap "5332304341503032 $q_length $q_digits"
+none 'migrate: a cut capture, no capture' cut-new.cap
+holds 'migrate: a cut capture, its front is written' cut-new.cap.partial "5332304341503032 $q_length $q_digits"
 octets '5332304341503031 02 0000000000000000 001C' "$d1" >path.cap
 run migrate --sdp q.sdp --out no.cap path.cap
 says 'migrate: a third path' 1 '' 'st2110: capture 6 BadField'

@@ -163,8 +163,7 @@ run receive --state /dev/full --sdp q.sdp --window 900 old.cap
 says 'receive: a full receiver file' 3 "delivered 1
 $frame" 'st2110: device'
 run receive --state no-such-folder/g.rcv --sdp q.sdp --window 900 old.cap
-says 'receive: a receiver file that cannot be made' 3 "delivered 1
-$frame" 'st2110: device'
+says 'receive: a receiver file that cannot be made' 3 '' 'st2110: device'
 run receive --sdp q.sdp --window 900 old.cap
 misworded 'receive: without --state' "$missing\n  --state <FILE>" \
     'receive --window <TS[,TS..]> --state <FILE> --sdp <FILE> <RECORDING>...'

@@ -276,6 +276,7 @@ for recording in cut.pcap cut-block.pcapng; do
     esac
     run import --sdp "$recordings/$text.sdp" --out recorded.cap "$recordings/$recording"
     says "import: $recording" 1 '' 'st2110: recording 2 Truncated'
+    mv -f recorded.cap.partial recorded.cap
     alike "import: $recording: the capture" recorded.cap want.cap
     [ $recording = cut-block.pcapng ] || gives 'cut.pcap' 900,4500 'delivered 5
 frame 900 present 128 missing 0 contested 0
@@ -297,6 +298,7 @@ cut_at_each() {
             head -c "$cut" "$recordings/$1" >cut.recording
             : >recorded.cap
             run import --sdp "$recordings/$2.sdp" --out recorded.cap cut.recording
+            [ ! -e recorded.cap.partial ] || mv -f recorded.cap.partial recorded.cap
             line=
             read -r line <out
             fault=

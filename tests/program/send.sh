@@ -14,9 +14,9 @@ holds 'sent-capture: both paths, the file' f.cap "$one 01 0000000000000001 002A 
 run send --out f.cap --max 42 --paths b p.pic
 says 'sent-capture: path B' 0 'sent 1' ''
 holds 'sent-capture: path B, the file' f.cap "5332304341503032 0000 01 0000000000000000 002A $sent"
-run send --out f.cap --max 42 p.pic row.pic
+run send --out unlike.cap --max 42 p.pic row.pic
 says 'sent-capture: a picture of 4 by 1' 1 '' 'st2110: send 1 FormatsDiffer'
-holds 'sent-capture: a picture of 4 by 1, what was sent' f.cap "$one"
+holds 'sent-capture: a picture of 4 by 1, what was sent' unlike.cap.partial "$one"
 
 # Numbers and timestamps run on, and the stamp's other fields are as they were asked for.
 behind="0008 0000 8000 0008 0001 0000 $u$l"
@@ -163,9 +163,9 @@ octets "5332305049433031 000E000400020000003C00000001 $u$l" >bad.pic
 run send --out no-send.cap bad.pic
 says 'send: a depth of 14 bits' 1 '' 'st2110: picture 6 BadField'
 none 'send: nothing is written after a refusal' no-send.cap
-run send --out f.cap --max 42 p.pic no-such-file
+run send --out fewer.cap --max 42 p.pic no-such-file
 says 'send: no such second picture' 3 '' 'st2110: device'
-holds 'send: no such second picture, what was sent' f.cap "$one"
+holds 'send: no such second picture, what was sent' fewer.cap.partial "$one"
 run send --out /dev/full p.pic
 says 'send: a full file' 3 'sent 1' 'st2110: device'
 run send --out no-such-folder/f.cap p.pic

@@ -186,7 +186,7 @@ send --out v.cap --sdp no-such-file p.pic|3|device|no-such-file, octet 0; wanted
 send --out no-folder/v.cap p.pic|3|device|no-folder/v.cap; wanted to write there: No such file or directory (os error 2)
 send --out v.cap cut.pic|1|picture 5 Truncated|cut.pic, octet 37; wanted more octets: the file ends before it is whole
 send --out v.cap x.pic|1|picture 3 BadName|x.pic, octet 8; wanted a picture, which begins S20PIC
-send --out v.cap p.pic row.pic p.pic|1|send 1 FormatsDiffer|row.pic, octet 30; wanted a picture of the first one's format
+send --out v.cap p.pic row.pic p.pic|1|send 1 FormatsDiffer|row.pic, octet 30; wanted a picture of the first one's format; what was written stays as v.cap.partial
 send --out v.cap --max 23 p.pic|1|plan 2 BadPacketSize|--max; wanted 20 octets and a pgroup at least, and at most 9000
 send --out v.cap --sdp empty p.pic|1|sdp 2 NoVideo|empty, octet 0; wanted a line that begins m=video and a space
 receive --state v.rcv --window - old.cap|1|receive 1 BadWindowText|--window; wanted timestamps with commas between
@@ -275,9 +275,9 @@ run inspect -v q.sdp
 adds 'no recording' 1 '' 'recording 3 BadMagic' \
     'q.sdp, octet 4; wanted a recording, which begins as pcap or pcapng'
 cp "$recorded/cut.pcap" cut.pcap
-run import -v --sdp q.sdp --out v.cap cut.pcap
+run import -v --sdp q.sdp --out cut-v.cap cut.pcap
 adds 'a cut recording' 1 '' 'recording 2 Truncated' \
-    "cut.pcap, octet $(wc -c <cut.pcap); wanted more octets: the recording ends before it is whole"
+    "cut.pcap, octet $(wc -c <cut.pcap); wanted more octets: the recording ends before it is whole; what was written stays as cut-v.cap.partial"
 # Why packets are left out: of two-cards one card's are another flow's. In the others is what the recordings are of.
 run import -v --sdp "$recorded/two-cards.sdp" --a 239.1.1.1:5004 --out v.cap "$recorded/two-cards.pcapng"
 says 'verbose: packets of another flow' 0 'recorded A 8 B 0 left out 8' '  left out 8 of another flow'
@@ -305,3 +305,25 @@ left out 1 BadUdpLength' '  left out 1 BadIpHeader
 run export -v --a 5004 --out v.pcap old.cap
 adds 'a flow without an address' 1 '' 'export 1 BadFlow' \
     '--a or --b; wanted an address, a colon and a port, as 239.1.1.1:5004'
+
+# At a terminal the line comes by itself, and --quiet leaves it out.
+if command -v script >/dev/null; then
+    # at_terminal COMMAND..: what a command says where standard error is a terminal.
+    at_terminal() {
+        printf '"%s" %s' "$program" "$*" >command
+        said=$(script -q -e -c 'sh ./command </dev/null' /dev/null </dev/null | tr -d '\r')
+    }
+    for words in '' '--quiet' '-q' '--verbose --quiet'; do
+        at_terminal "$words report no-such-file"
+        case $words in
+            --quiet | -q) want='st2110: device' ;;
+            *) want='st2110: device
+  at no-such-file, octet 0; wanted to read there: No such file or directory (os error 2)' ;;
+        esac
+        if [ "$said" = "$want" ]; then
+            pass "at a terminal, with '$words'"
+        else
+            fail "at a terminal, with '$words'" "'$said'"
+        fi
+    done
+fi

@@ -27,7 +27,7 @@ done
 for asked in --help -h help; do
     run $asked
     holds_words "$asked" 'Usage: st2110' trace sdp rehearse migrate send receive merge process report loop \
-        import inspect export --verbose --help --version
+        import inspect export --verbose --quiet --help --version
 done
 
 # Of each command the help has every option and file.
@@ -36,7 +36,7 @@ while read -r command options; do
         # shellcheck disable=SC2086
         run $asked
         # shellcheck disable=SC2086
-        holds_words "$asked" "Usage: st2110 $command" --help --verbose $options
+        holds_words "$asked" "Usage: st2110 $command" --help --verbose --quiet $options
     done
 done <<'END'
 trace
