@@ -3,7 +3,7 @@ ghost use Rattle.std.specs.Prelude.{◌≡◌, ◌∷◌, ◌⊎◌, [], IfErr, 
 ghost use Rattle.capture_engines.specs.MigrateRefused.{IsMigrateRefusal};
 ghost use Rattle.capture_engines.specs.Migrating.{PrintsMigrated};
 ghost use Rattle.devices.specs.Passed.{FileRead, file_ended, file_failures, file_gave, file_took};
-ghost use Rattle.devices.specs.Passed.{IsPlaced, IsUnplaced, output_failures, output_took};
+ghost use Rattle.devices.specs.Passed.{IsInPlace, IsUnplaced, output_failures, output_took};
 ghost use Rattle.devices.specs.Passed.{writing_failures};
 ghost use Rattle.run_outcome.specs.Fault.{Accounts, counts};
 ghost use Rattle.run_outcome.specs.Refusing.{OfRefusal};
@@ -13,7 +13,7 @@ ghost use Rattle.run_outcome.specs.declared.refusal.Writer.TheVariants.{Migrate}
 
 use command_end::{Command, Devices, Ran, find_output};
 use command_line::MigrateWords;
-use devices::{FileOutput, FileSource, OutputSink, Printer, Rest};
+use devices::{FileOutput, FileSource, OutputSink, Rest, Stream};
 use run_outcome::{Fault, Writer};
 
 /// Writes a capture of version 01 as one of version 02.
@@ -25,7 +25,7 @@ pub struct MigrateCommand<'a> {
     pub out: FileOutput<'a>,
     /// Whether that is one of the files that are read.
     pub is_input: bool,
-    pub output: OutputSink<Printer>,
+    pub output: OutputSink<Stream>,
 }
 
 impl<'a> MigrateCommand<'a> {
@@ -61,7 +61,7 @@ fn migrate<'a>(
     capture: &mut FileSource<'a>,
     out: &mut FileOutput<'_>,
     is_input: bool,
-    output: &mut OutputSink<Printer>,
+    output: &mut OutputSink<Stream>,
 ) -> Result<(), Fault>
     requires unplaced { IsUnplaced out.old }
     ensures migrated { OnOk result (PrintsMigrated
@@ -99,7 +99,7 @@ impl<'a> Command for MigrateCommand<'a> {
         IsMigrateRefusal (FileRead old.sdp new.sdp) (FileRead old.capture new.capture) r
         ⊎ (r ≡ OutputIsInput Migrate) × IsTrue old.is_input };
 
-    ghost is_placed = { λ c. IsPlaced c.out × IsFalse c.is_input };
+    ghost is_placed = { λ c. IsInPlace c.out × IsFalse c.is_input };
 
     ghost is_unplaced = { λ c. IsUnplaced c.out };
 

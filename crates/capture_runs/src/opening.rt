@@ -3,7 +3,8 @@ ghost use Rattle.std.specs.Prelude.{◌≡◌, [], All, IfErr, IfOk, IsFalse, On
 ghost use Rattle.std.specs.Option.{option_copied};
 ghost use Rattle.capture_runs.specs.Opened.{AreUnread, IsFlowRefusal, IsOpeningRefusal, IsTooLong};
 ghost use Rattle.capture_runs.specs.Opened.{IsUnread};
-ghost use Rattle.devices.specs.Passed.{IsUnplaced, file_ended, file_gave, file_took};
+ghost use Rattle.devices.specs.Passed.{IsUnplaced, LeavesNoPart, file_ended, file_gave};
+ghost use Rattle.devices.specs.Passed.{file_took};
 ghost use Rattle.run_outcome.specs.Refusing.{OfRefusal};
 ghost use Rattle.run_outcome.specs.Text.{GivesText};
 
@@ -55,8 +56,9 @@ impl<'a> Files<'a> {
         }
     }
 
-    /// Looks at the words, and at the place of the receiver's file, reads the SDP where one is named, and finds by which flows each file is
-    /// taken that is a recording. No such file is looked at yet.
+    /// Looks at the words, and at the place of the receiver's file, reads the SDP where one is
+    /// named, and finds by which flows each file is taken that is a recording. No such file is
+    /// looked at yet.
     pub(crate) fn open(
         &mut self,
         rt: &'a HostRuntime,
@@ -68,6 +70,7 @@ impl<'a> Files<'a> {
         ensures unread { AreUnread self.new.sdp self.new.captures.items }
         ensures took { file_took state.new ≡ file_took state.old }
         ensures unplaced { IsUnplaced state.old → IsUnplaced state.new }
+        ensures rest { LeavesNoPart state.old → LeavesNoPart state.new }
         ensures apart { OnOk result (IsFalse is_input) }
         ensures refusal { IfErr result (λ f. OfRefusal f (IsOpeningRefusal
             asked.entry.wanted.window.now asked.entry.wanted.ssrc.now is_input

@@ -7,7 +7,7 @@ ghost use Rattle.capture_engines.specs.Received.{IsReceiveRefusal};
 ghost use Rattle.capture_engines.specs.Taking.{Receives};
 ghost use Rattle.capture_runs.specs.Opened.{AreUnread, IsOpeningRefusal};
 ghost use Rattle.capture_runs.specs.Received.{AccountsFiles, EndsRecording, IsErrOf};
-ghost use Rattle.devices.specs.Passed.{IsPlaced, IsUnplaced, file_took, output_failures};
+ghost use Rattle.devices.specs.Passed.{IsInPlace, IsUnplaced, file_took, output_failures};
 ghost use Rattle.devices.specs.Passed.{output_took, sink_failures, sink_took, writing_failures};
 ghost use Rattle.run_outcome.specs.Fault.{counts, failures_in};
 ghost use Rattle.run_outcome.specs.Moments.{WasRead, pair};
@@ -19,7 +19,7 @@ use crate::opening::{Asked, Files, Source, is_asked};
 use capture_engines::Wanted;
 use command_end::{Command, Devices, Ran};
 use command_line::ReceiveWords;
-use devices::{FileOutput, FileSink, OutputSink, Printer, Rest};
+use devices::{FileOutput, FileSink, OutputSink, Rest, Stream};
 use recording_engines::Importing;
 use run_outcome::Fault;
 
@@ -34,7 +34,7 @@ pub struct ReceiveCommand<'a> {
     pub state: FileOutput<'a>,
     /// Whether that is one of the files that are read.
     pub is_input: bool,
-    pub output: OutputSink<Printer>,
+    pub output: OutputSink<Stream>,
 }
 
 impl<'a> ReceiveCommand<'a> {
@@ -65,7 +65,7 @@ fn take(
     wanted: Wanted<'_>,
     files: &mut Files<'_>,
     state: &mut FileSink<'_>,
-    output: &mut OutputSink<Printer>,
+    output: &mut OutputSink<Stream>,
 ) -> Result<(), Fault>
     ensures taken { OnOk result (Receives wanted.entry.window.now wanted.entry.ssrc.now
         (pair files.old.sdp files.new.sdp) (WasRead (λ s. s.gave) (λ s. IsOver s.place))
@@ -147,10 +147,11 @@ fn octets(text: Option<&str>) -> Option<&[u8]> {
 impl<'a> Command for ReceiveCommand<'a> {
     // (the SDP was read, which the flows of recordings wait for)
     ghost is_new = { λ c. AreUnread c.files.sdp c.files.captures.items
-        × (file_took c.state ≡ []) × IsUnplaced c.state × (output_took c.output ≡ [])
-        × OnOk c.opened (IsFalse c.is_input) × IfErr c.opened (λ f. OfRefusal f (IsOpeningRefusal c.asked.wanted.window.now
-        c.asked.wanted.ssrc.now c.is_input (option_copied c.asked.flows.a) (option_copied c.asked.flows.b)
-        c.files.unread)) };
+        × (file_took c.state ≡ []) × IsUnplaced c.state × LeavesNoPart c.state
+        × (output_took c.output ≡ []) × OnOk c.opened (IsFalse c.is_input)
+        × IfErr c.opened (λ f. OfRefusal f (IsOpeningRefusal c.asked.wanted.window.now
+        c.asked.wanted.ssrc.now c.is_input (option_copied c.asked.flows.a)
+        (option_copied c.asked.flows.b) c.files.unread)) };
 
     // What is written is the file of a receiver of the window and the source that are asked for,
     // and of what the SDP text says, which holds the Frames of all datagrams of the captures and
@@ -169,9 +170,9 @@ impl<'a> Command for ReceiveCommand<'a> {
         (zip old.files.captures.items new.files.captures.items) r
         ⊎ Any (EndsRecording r) new.files.captures.items };
 
-    ghost is_placed = { λ c. IsPlaced c.state × IsFalse c.is_input };
+    ghost is_placed = { λ c. IsInPlace c.state × IsFalse c.is_input };
 
-    ghost is_unplaced = { λ c. IsUnplaced c.state };
+    ghost is_unplaced = { λ c. IsUnplaced c.state × HasNoPart c.state };
 
     // (where it could not begin, it came to what stopped it)
     ghost owes = { λ old new outcome. (IsErr old.opened × (outcome ≡ old.opened))

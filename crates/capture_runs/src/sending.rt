@@ -5,7 +5,7 @@ ghost use Rattle.std.specs.List.{zip};
 ghost use Rattle.capture_engines.specs.Sending.{SendsAll};
 ghost use Rattle.capture_engines.specs.Sent.{IsSendRefusal};
 ghost use Rattle.devices.specs.Passed.{file_ended, file_failures, file_gave, file_took};
-ghost use Rattle.devices.specs.Passed.{IsPlaced, IsUnplaced, output_failures, output_took};
+ghost use Rattle.devices.specs.Passed.{IsInPlace, IsUnplaced, output_failures, output_took};
 ghost use Rattle.devices.specs.Passed.{writing_failures};
 ghost use Rattle.run_outcome.specs.Fault.{Accounts, counts, failures_in};
 ghost use Rattle.run_outcome.specs.Moments.{WasRead};
@@ -17,7 +17,7 @@ use capture_engines::{Sending, check_pictures};
 use command_end::{Command, Devices, Ran, find_output};
 use command_line::{NamedPaths, SendWords};
 use devices::{
-    FileOutput, FileSource, OutputSink, Printer, Rest, any_is, last_begun, named_file, named_files,
+    FileOutput, FileSource, OutputSink, Rest, Stream, any_is, last_begun, named_file, named_files,
     one_is, reading_of,
 };
 use media_file::Paths;
@@ -34,7 +34,7 @@ pub struct SendCommand<'a> {
     pub out: FileOutput<'a>,
     /// Whether that is one of the files that are read.
     pub is_input: bool,
-    pub output: OutputSink<Printer>,
+    pub output: OutputSink<Stream>,
     ghost payload_type_bits: { wanted.payload_type ≤ 127 },
 }
 
@@ -101,7 +101,7 @@ fn send<'a>(
     pictures: &mut [FileSource<'a>],
     out: &mut FileOutput<'_>,
     is_input: bool,
-    output: &mut OutputSink<Printer>,
+    output: &mut OutputSink<Stream>,
 ) -> Result<(), Fault>
     requires payload_type { wanted.payload_type ≤ 127 }
     requires unplaced { IsUnplaced out.old }
@@ -141,7 +141,7 @@ impl<'a> Command for SendCommand<'a> {
         (zip old.pictures.items new.pictures.items) r
         ⊎ (r ≡ OutputIsInput Send) × IsTrue old.is_input };
 
-    ghost is_placed = { λ c. IsPlaced c.out × IsFalse c.is_input };
+    ghost is_placed = { λ c. IsInPlace c.out × IsFalse c.is_input };
 
     ghost is_unplaced = { λ c. IsUnplaced c.out };
 

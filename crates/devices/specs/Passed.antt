@@ -2,8 +2,9 @@
 use Rattle.std.specs.Prelude.{◌≡◌, ℕ, List, None, true}
 use Rattle.st_format.specs.History.{IsRead}
 use Rattle.st_format.specs.declared.path.Path.{Path}
-use Rattle.devices.specs.Written.{IsWhole, taken_by, took_in}
+use Rattle.devices.specs.Written.{IsWithout, IsWrittenOut, taken_by, took_in}
 use Rattle.devices.specs.declared.file_output.FileOutput.{FileOutput}
+use Rattle.devices.specs.declared.file_output.Rest.TheVariants.{Goes}
 use Rattle.devices.specs.declared.file_sink.FileSink.{FileSink}
 use Rattle.devices.specs.declared.file_source.FileSource.{FileSource}
 use Rattle.devices.specs.declared.file_source.Progress.TheVariants.{Past}
@@ -40,12 +41,20 @@ abbrev pub writing_failures : FileOutput → ℕ
 writing_failures f = f.sink.failures
 
 -- all that it took is in the file that has the name, or went into the stream that it is
-abbrev pub IsPlaced : FileOutput → Type 0
-IsPlaced f = IsWhole f.placed f.sink.progress
+abbrev pub IsInPlace : FileOutput → Type 0
+IsInPlace f = IsWrittenOut f.placed f.sink.progress
 
 -- what stood under its name stands there
 abbrev pub IsUnplaced : FileOutput → Type 0
 IsUnplaced f = f.placed ≡ None
+
+-- nothing of it stays where it is not whole
+abbrev pub LeavesNoPart : FileOutput → Type 0
+LeavesNoPart f = f.rest ≡ Goes
+
+-- no part of it stands beside its name
+abbrev pub HasNoPart : FileOutput → Type 0
+HasNoPart f = IsWithout f.sink.progress
 
 -- standard input: what it gave, whether it told its end
 abbrev pub input_gave : {R : Type 0} → InputSource R → List ℕ

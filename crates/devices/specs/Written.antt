@@ -28,12 +28,12 @@ took_in (Some file) p = file.octets
 took_in None p = taken_by p
 
 -- all that was taken is in the file that took the name, or went into a stream
-abbrev pub IsWhole : Option History → Progress → Type 0
-IsWhole (Some file) p = ⊤
-IsWhole None Front = ⊤
-IsWhole None (Direct w) = writer_buffer w ≡ []
-IsWhole None (Beside d) = ⊥
-IsWhole None (Removed d) = ⊥
+abbrev pub IsWrittenOut : Option History → Progress → Type 0
+IsWrittenOut (Some file) p = ⊤
+IsWrittenOut None Front = ⊤
+IsWrittenOut None (Direct w) = writer_buffer w ≡ []
+IsWrittenOut None (Beside d) = ⊥
+IsWrittenOut None (Removed d) = ⊥
 
 -- no file stands beside the name
 abbrev pub IsWithout : Progress → Type 0

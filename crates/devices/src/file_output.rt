@@ -2,10 +2,11 @@
 //!
 //! What was written takes the name only once all is, by one renaming; so what stood there is lost by
 //! no run that fails, and nobody finds a part of a file under the name.
-ghost use Rattle.std.specs.Prelude.{◌≡◌, ◌<◌, ◌⊎◌, [], None, IsFalse, IsNone, IsSome, IsTrue};
+ghost use Rattle.std.specs.Prelude.{◌≡◌, ◌<◌, ◌↔◌, ◌⊎◌, [], None, IsFalse, IsNone, IsSome, IsTrue};
 ghost use Rattle.std.specs.Prelude.{OnErr, OnOk};
-ghost use Rattle.devices.specs.Passed.{IsPlaced, IsUnplaced, file_took, writing_failures};
-ghost use Rattle.devices.specs.Written.{IsWhole, IsWithout, draft_took, stream_took, taken_by};
+ghost use Rattle.devices.specs.Passed.{HasNoPart, IsInPlace, IsUnplaced, LeavesNoPart, file_took};
+ghost use Rattle.devices.specs.Passed.{writing_failures};
+ghost use Rattle.devices.specs.Written.{IsWithout, IsWrittenOut, draft_took, stream_took, taken_by};
 ghost use Rattle.devices.specs.Written.{took_in};
 ghost use Rattle.st_format.specs.Device.{Failed};
 ghost use Rattle.devices.specs.declared.file_output.Rest.TheVariants.{Goes};
@@ -62,6 +63,7 @@ impl<'a> FileOutput<'a> {
         ensures unfailed { writing_failures result ≡ 0 }
         ensures fresh { file_took result ≡ [] }
         ensures unplaced { IsUnplaced result }
+        ensures rest { result.rest ≡ rest }
     {
         FileOutput {
             rt,
@@ -90,6 +92,7 @@ impl<'a> FileOutput<'a> {
             ≡ writing_failures self.old) }
         ensures counted { OnErr result (Failed (writing_failures self.old)
             (writing_failures self.new)) }
+        ensures rest { self.new.rest ≡ self.old.rest }
     {
         self.sink.find()
     }
@@ -102,10 +105,11 @@ impl<'a> FileOutput<'a> {
         ensures counted { writing_failures self.new
             ≡ writing_failures self.old }
         ensures took { file_took self.new ≡ file_took self.old }
-        ensures placed { IsTrue result → IsTrue is_done → IsPlaced self.new }
+        ensures placed { IsTrue result → IsTrue is_done → IsInPlace self.new }
         ensures undone { IsFalse is_done → IsUnplaced self.new }
         ensures cut { IsFalse result → IsUnplaced self.new }
-        ensures gone { self.old.rest ≡ Goes → IsWithout self.new.sink.progress }
+        ensures gone { LeavesNoPart self.old → HasNoPart self.new }
+        ensures told { IsFalse result → IsTrue self.new.is_cut }
     {
         let progress = mem::replace(&mut self.sink.progress, Progress::Front);
         let settled = self.settled(progress, is_done);
@@ -120,7 +124,7 @@ impl<'a> FileOutput<'a> {
     fn settled(&self, progress: Progress<'a>, is_done: bool) -> Settled<'a>
         ensures took { took_in result.placed result.progress ≡ taken_by progress.entry }
         ensures whole { IsNone result.fault → IsTrue is_done
-            → IsWhole result.placed result.progress }
+            → IsWrittenOut result.placed result.progress }
         ensures undone { IsFalse is_done → IsNone result.placed }
         ensures cut { IsSome result.fault → IsNone result.placed }
         ensures gone { self.now.rest ≡ Goes → IsWithout result.progress }
@@ -142,7 +146,7 @@ impl<'a> FileOutput<'a> {
     /// What becomes of a file that is to take the name.
     fn placed(&self, draft: Draft<'a, HostRuntime>) -> Settled<'a>
         ensures took { took_in result.placed result.progress ≡ draft_took draft.entry }
-        ensures whole { IsNone result.fault → IsWhole result.placed result.progress }
+        ensures whole { IsNone result.fault → IsWrittenOut result.placed result.progress }
         ensures cut { IsSome result.fault → IsNone result.placed }
         ensures gone { self.now.rest ≡ Goes → IsWithout result.progress }
     {
@@ -183,8 +187,8 @@ impl<'a> FileOutput<'a> {
 
     /// How the writing went.
     pub fn writing(&self) -> Writing<'_>
-        ensures { 0 < writing_failures self.now
-            → IsTrue result.has_failed }
+        ensures { IsTrue result.has_failed
+            ↔ (0 < writing_failures self.now ⊎ IsTrue self.now.is_cut) }
     {
         Writing {
             name: self.sink.name(),
@@ -206,7 +210,7 @@ impl<'a> FileOutput<'a> {
 /// What becomes of a stream: it takes what waits for it.
 fn flushed<'a>(stream: BufWriter<Noted<Stream>>) -> Settled<'a>
     ensures took { taken_by result.progress ≡ stream_took stream }
-    ensures whole { IsNone result.fault → IsWhole result.placed result.progress }
+    ensures whole { IsNone result.fault → IsWrittenOut result.placed result.progress }
     ensures unplaced { IsNone result.placed }
     ensures gone { IsWithout result.progress }
 {

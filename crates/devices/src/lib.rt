@@ -32,5 +32,6 @@ pub use history::{Arrivals, History, Sendings};
 pub use identity::Identity;
 pub use input::InputSource;
 pub use link::{UdpLink, unbound};
-pub use output::{OutputSink, Printer};
+pub use output::OutputSink;
 pub use standing::{Reading, Writing};
+pub use stream::Stream;

@@ -3,33 +3,9 @@ ghost use Rattle.std.specs.Prelude.{◌≡◌, ◌+◌, ◌-◌, ◌^◌, ◌<�
 
 use crate::history::History;
 use crate::standing::Writing;
-use crate::stream::OUTPUT;
+use crate::stream::{OUTPUT, Stream};
 use st_format::{ByteSink, DeviceFault};
-use std::io::{self, Stderr, Stdout, Write};
-
-/// What lines are printed to.
-#[derive(Drop)]
-pub enum Printer {
-    Output(Stdout),
-    /// Standard error, where a file takes standard output.
-    Error(Stderr),
-}
-
-impl Write for Printer {
-    fn write(&mut self, octets: &[u8]) -> io::Result<usize> {
-        match self {
-            Printer::Output(output) => output.write(octets),
-            Printer::Error(error) => error.write(octets),
-        }
-    }
-
-    fn flush(&mut self) -> io::Result<()> {
-        match self {
-            Printer::Output(output) => output.flush(),
-            Printer::Error(error) => error.flush(),
-        }
-    }
-}
+use std::io::{self, Write};
 
 /// Any writer, as standard output.
 #[derive(Drop)]
@@ -71,19 +47,19 @@ impl<W: Write + Drop> OutputSink<W> {
     }
 }
 
-impl OutputSink<Printer> {
+impl OutputSink<Stream> {
     /// What lines are printed to where a command writes this file: standard output, or where that
     /// is the file standard error.
     pub fn beside(rt: &HostRuntime, file: &str) -> Self
-        ensures unfailed { ⟦<OutputSink<Printer> as ByteSink>⟧.failures result ≡ 0 }
-        ensures fresh { ⟦<OutputSink<Printer> as ByteSink>⟧.took result ≡ [] }
+        ensures unfailed { ⟦<OutputSink<Stream> as ByteSink>⟧.failures result ≡ 0 }
+        ensures fresh { ⟦<OutputSink<Stream> as ByteSink>⟧.took result ≡ [] }
     {
         if file == OUTPUT {
-            let mut sink = OutputSink::new(Printer::Error(rt.stderr()));
+            let mut sink = OutputSink::new(Stream::Error(rt.stderr()));
             sink.name = "standard error";
             sink
         } else {
-            OutputSink::new(Printer::Output(rt.stdout()))
+            OutputSink::new(Stream::Output(rt.stdout()))
         }
     }
 }

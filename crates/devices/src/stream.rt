@@ -1,15 +1,16 @@
 //! What takes octets as they come: a device, a pipe, or standard output.
 use std::fs::{self, File};
-use std::io::{self, Stdout, Write};
+use std::io::{self, Stderr, Stdout, Write};
 
 /// The name of standard output.
 pub(crate) const OUTPUT: &str = "-";
 
 /// A stream that is written.
 #[derive(Drop)]
-pub(crate) enum Stream {
+pub enum Stream {
     Named(File),
     Output(Stdout),
+    Error(Stderr),
 }
 
 impl Stream {
@@ -28,6 +29,7 @@ impl Write for Stream {
         match self {
             Stream::Named(file) => file.write(octets),
             Stream::Output(output) => output.write(octets),
+            Stream::Error(error) => error.write(octets),
         }
     }
 
@@ -35,6 +37,7 @@ impl Write for Stream {
         match self {
             Stream::Named(file) => file.flush(),
             Stream::Output(output) => output.flush(),
+            Stream::Error(error) => error.flush(),
         }
     }
 }

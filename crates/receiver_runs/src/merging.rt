@@ -1,8 +1,8 @@
 //! `merge` over the devices of this machine.
 ghost use Rattle.std.specs.Prelude.{◌≡◌, ◌∷◌, [], IfErr, OnOk};
 ghost use Rattle.devices.specs.Passed.{FileRead, file_ended, file_failures, file_gave, file_took};
-ghost use Rattle.devices.specs.Passed.{IsPlaced, IsUnplaced, output_failures, output_took};
-ghost use Rattle.devices.specs.Passed.{writing_failures};
+ghost use Rattle.devices.specs.Passed.{HasNoPart, IsInPlace, IsUnplaced, LeavesNoPart};
+ghost use Rattle.devices.specs.Passed.{output_failures, output_took, writing_failures};
 ghost use Rattle.receiver_engines.specs.MergeRefused.{IsMergeRefusal};
 ghost use Rattle.receiver_engines.specs.Merging.{MergesFiles, PrintsMerged};
 ghost use Rattle.run_outcome.specs.Fault.{Accounts, counts};
@@ -10,7 +10,7 @@ ghost use Rattle.run_outcome.specs.Refusing.{OfRefusal};
 
 use command_end::{Command, Devices, Ran};
 use command_line::MergeWords;
-use devices::{FileOutput, FileSource, OutputSink, Printer, Rest};
+use devices::{FileOutput, FileSource, OutputSink, Rest, Stream};
 use run_outcome::Fault;
 
 /// Merges two receivers that were written as files.
@@ -20,7 +20,7 @@ pub struct MergeCommand<'a> {
     pub left: FileSource<'a>,
     pub right: FileSource<'a>,
     pub state: FileOutput<'a>,
-    pub output: OutputSink<Printer>,
+    pub output: OutputSink<Stream>,
 }
 
 impl<'a> MergeCommand<'a> {
@@ -45,7 +45,7 @@ fn merge<'a>(
     left: &mut FileSource<'a>,
     right: &mut FileSource<'a>,
     state: &mut FileOutput<'_>,
-    output: &mut OutputSink<Printer>,
+    output: &mut OutputSink<Stream>,
 ) -> Result<(), Fault>
     requires unplaced { IsUnplaced state.old }
     ensures merged { OnOk result (MergesFiles (FileRead left.old left.new)
@@ -54,6 +54,7 @@ fn merge<'a>(
         (FileRead right.old right.new) (output_took output.old) (output_took output.new)) }
     ensures ended { OnOk result (file_ended left.new × file_ended right.new) }
     ensures unplaced { IsUnplaced state.new }
+    ensures rest { LeavesNoPart state.old → LeavesNoPart state.new }
     ensures refusal { IfErr result (λ f. OfRefusal f
         (IsMergeRefusal (FileRead left.old left.new) (FileRead right.old right.new))) }
     ensures owed { Accounts result (counts (file_failures left.old) (file_failures left.new)
@@ -67,7 +68,8 @@ fn merge<'a>(
 
 impl<'a> Command for MergeCommand<'a> {
     ghost is_new = { λ c. (file_gave c.left ≡ []) × (file_gave c.right ≡ [])
-        × (file_took c.state ≡ []) × IsUnplaced c.state × (output_took c.output ≡ []) };
+        × (file_took c.state ≡ []) × IsUnplaced c.state × LeavesNoPart c.state
+        × (output_took c.output ≡ []) };
 
     // What was read are the files of two receivers, what is written is that of the two merged, and
     // a line is printed for each of its frames.
@@ -81,9 +83,9 @@ impl<'a> Command for MergeCommand<'a> {
     ghost is_refused = { λ old new.
         IsMergeRefusal (FileRead old.left new.left) (FileRead old.right new.right) };
 
-    ghost is_placed = { λ c. IsPlaced c.state };
+    ghost is_placed = { λ c. IsInPlace c.state };
 
-    ghost is_unplaced = { λ c. IsUnplaced c.state };
+    ghost is_unplaced = { λ c. IsUnplaced c.state × HasNoPart c.state };
 
     ghost owes = { λ old new outcome. Accounts outcome
         (counts (file_failures old.left) (file_failures new.left)

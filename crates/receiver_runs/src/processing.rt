@@ -3,7 +3,7 @@ ghost use Rattle.std.specs.Prelude.{◌≡◌, ◌∷◌, ◌⊎◌, ◌≤◌, 
 ghost use Rattle.std.specs.Prelude.{IsFalse, IsTrue, OnOk, length, sum_by};
 ghost use Rattle.std.specs.List.{zip};
 ghost use Rattle.devices.specs.Passed.{file_ended, file_failures, file_gave, file_took};
-ghost use Rattle.devices.specs.Passed.{IsPlaced, IsUnplaced, output_failures, output_took};
+ghost use Rattle.devices.specs.Passed.{IsInPlace, IsUnplaced, output_failures, output_took};
 ghost use Rattle.devices.specs.Passed.{writing_failures};
 ghost use Rattle.receiver_engines.specs.Processing.{PrintsSent, SendsFiles};
 ghost use Rattle.receiver_engines.specs.Refused.{IsRunRefusal};
@@ -16,7 +16,7 @@ ghost use Rattle.run_outcome.specs.declared.refusal.Writer.TheVariants.{Process}
 use command_end::{Command, Devices, Ran, find_output};
 use command_line::ProcessWords;
 use devices::{
-    FileOutput, FileSource, OutputSink, Printer, Rest, any_is, last_begun, named_file, named_files,
+    FileOutput, FileSource, OutputSink, Rest, Stream, any_is, last_begun, named_file, named_files,
     one_is, reading_begun,
 };
 use packet_plan::Stamp;
@@ -34,7 +34,7 @@ pub struct ProcessCommand<'a> {
     pub out: FileOutput<'a>,
     /// Whether that is one of the files that are read.
     pub is_input: bool,
-    pub output: OutputSink<Printer>,
+    pub output: OutputSink<Stream>,
     ghost payload_type_bits: { wanted.stamp.payload_type ≤ 127 },
 }
 
@@ -92,7 +92,7 @@ fn process<'a>(
     hold: &mut Option<FileSource<'a>>,
     out: &mut FileOutput<'_>,
     is_input: bool,
-    output: &mut OutputSink<Printer>,
+    output: &mut OutputSink<Stream>,
 ) -> Result<(), Fault>
     requires payload_type { wanted.stamp.payload_type ≤ 127 }
     requires unplaced { IsUnplaced out.old }
@@ -136,7 +136,7 @@ impl<'a> Command for ProcessCommand<'a> {
         (zip old.states.items new.states.items) (pair old.hold new.hold) old.wanted r
         ⊎ (r ≡ OutputIsInput Process) × IsTrue old.is_input };
 
-    ghost is_placed = { λ c. IsPlaced c.out × IsFalse c.is_input };
+    ghost is_placed = { λ c. IsInPlace c.out × IsFalse c.is_input };
 
     ghost is_unplaced = { λ c. IsUnplaced c.out };
 

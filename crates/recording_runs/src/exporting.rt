@@ -2,7 +2,7 @@
 ghost use Rattle.std.specs.Prelude.{◌≡◌, ◌∷◌, ◌⊎◌, [], IfErr, IsFalse, IsTrue, OnOk};
 ghost use Rattle.std.specs.Option.{option_copied};
 ghost use Rattle.devices.specs.Passed.{FileRead, file_ended, file_failures, file_gave, file_took};
-ghost use Rattle.devices.specs.Passed.{IsPlaced, IsUnplaced, output_failures, output_took};
+ghost use Rattle.devices.specs.Passed.{IsInPlace, IsUnplaced, output_failures, output_took};
 ghost use Rattle.devices.specs.Passed.{writing_failures};
 ghost use Rattle.export_engine.specs.ExportRefused.{IsExportRefusal};
 ghost use Rattle.export_engine.specs.Exported.{PrintsExported};
@@ -14,7 +14,7 @@ ghost use Rattle.run_outcome.specs.declared.refusal.Writer.TheVariants.{Export};
 use crate::importing::octets;
 use command_end::{Command, Devices, Ran, find_output};
 use command_line::ExportWords;
-use devices::{FileOutput, FileSource, OutputSink, Printer, Rest};
+use devices::{FileOutput, FileSource, OutputSink, Rest, Stream};
 use export_engine::{Exporting, check_flows};
 use run_outcome::{Fault, Writer};
 
@@ -27,7 +27,7 @@ pub struct ExportCommand<'a> {
     pub out: FileOutput<'a>,
     /// Whether that is one of the files that are read.
     pub is_input: bool,
-    pub output: OutputSink<Printer>,
+    pub output: OutputSink<Stream>,
 }
 
 impl<'a> ExportCommand<'a> {
@@ -64,7 +64,7 @@ fn export(
     capture: &mut FileSource<'_>,
     out: &mut FileOutput<'_>,
     is_input: bool,
-    output: &mut OutputSink<Printer>,
+    output: &mut OutputSink<Stream>,
 ) -> Result<(), Fault>
     requires unplaced { IsUnplaced out.old }
     ensures exported { OnOk result (PrintsExported
@@ -101,7 +101,7 @@ impl<'a> Command for ExportCommand<'a> {
         (option_copied old.wanted.b) (FileRead old.capture new.capture) r
         ⊎ (r ≡ OutputIsInput Export) × IsTrue old.is_input };
 
-    ghost is_placed = { λ c. IsPlaced c.out × IsFalse c.is_input };
+    ghost is_placed = { λ c. IsInPlace c.out × IsFalse c.is_input };
 
     ghost is_unplaced = { λ c. IsUnplaced c.out };
 

@@ -1,10 +1,10 @@
 //! `import` over the devices of this machine.
-ghost use Rattle.std.specs.Prelude.{◌≡◌, ◌∷◌, ◌⊎◌, [], All, IfErr, IfOk, IsFalse, IsTrue, OnOk, Some};
-ghost use Rattle.std.specs.Prelude.{length, sum_by};
+ghost use Rattle.std.specs.Prelude.{◌≡◌, ◌∷◌, ◌⊎◌, [], All, IfErr, IfOk, IsFalse};
+ghost use Rattle.std.specs.Prelude.{IsTrue, OnOk, Some, length, sum_by};
 ghost use Rattle.std.specs.List.{zip};
 ghost use Rattle.std.specs.Option.{option_copied};
 ghost use Rattle.devices.specs.Passed.{FileRead, file_ended, file_failures, file_gave, file_took};
-ghost use Rattle.devices.specs.Passed.{IsPlaced, IsUnplaced, output_failures, output_took};
+ghost use Rattle.devices.specs.Passed.{IsInPlace, IsUnplaced, output_failures, output_took};
 ghost use Rattle.devices.specs.Passed.{writing_failures};
 ghost use Rattle.recording_engines.specs.Imported.{Imports, IsImportRefusal};
 ghost use Rattle.recording_engines.specs.declared.importing.ImportCounts.{ImportCounts as Sums};
@@ -17,7 +17,7 @@ ghost use Rattle.run_outcome.specs.declared.refusal.Writer.TheVariants.{Import};
 
 use command_end::{Command, Devices, Ran, find_output};
 use command_line::ImportWords;
-use devices::{FileOutput, FileSource, OutputSink, Printer, Rest, any_is, given_files, last_begun};
+use devices::{FileOutput, FileSource, OutputSink, Rest, Stream, any_is, given_files, last_begun};
 use recording_engines::{ImportCounts, Importing};
 use run_outcome::{Fault, Writer};
 use std::alloc::AllocError;
@@ -32,7 +32,7 @@ pub struct ImportCommand<'a> {
     pub out: FileOutput<'a>,
     /// Whether that is one of the files that are read.
     pub is_input: bool,
-    pub output: OutputSink<Printer>,
+    pub output: OutputSink<Stream>,
     /// What was recorded, once it is.
     pub counts: Option<ImportCounts>,
 }
@@ -82,7 +82,8 @@ fn is_read(out: &FileOutput<'_>, sdp: &FileSource<'_>, recordings: &[FileSource<
     sdp.is(file) || any_is(recordings, file)
 }
 
-/// Looks at the place of the capture, before anything is read, and imports.
+/// Looks at the place of the capture, before anything is read, imports, and keeps what was
+/// recorded.
 fn import<'a>(
     rt: &HostRuntime,
     wanted: Importing<'_>,
@@ -90,42 +91,7 @@ fn import<'a>(
     recordings: &mut [FileSource<'a>],
     out: &mut FileOutput<'_>,
     is_input: bool,
-    output: &mut OutputSink<Printer>,
-) -> Result<ImportCounts, Fault>
-    requires unplaced { IsUnplaced out.old }
-    ensures len { length recordings.new ≡ length recordings.old }
-    ensures imported { IfOk result (λ sums. Imports
-        (option_copied wanted.entry.a) (option_copied wanted.entry.b)
-        (GivesText 65535 (file_gave sdp.old) (file_gave sdp.new) (file_ended sdp.new))
-        (WasRead file_gave file_ended) (zip recordings.old recordings.new)
-        (file_took out.old) (file_took out.new) (output_took output.old)
-        (output_took output.new) sums) }
-    ensures unplaced { IsUnplaced out.new }
-    ensures apart { OnOk result (IsFalse is_input) }
-    ensures refusal { IfErr result (λ f. OfRefusal f (λ r. IsImportRefusal
-        (option_copied wanted.entry.a) (option_copied wanted.entry.b) (FileRead sdp.old sdp.new)
-        (GivesText 65535 (file_gave sdp.old) (file_gave sdp.new) (file_ended sdp.new))
-        (WasRead file_gave file_ended) (zip recordings.old recordings.new)
-        (file_took out.old) (file_took out.new) r
-        ⊎ (r ≡ OutputIsInput Import) × IsTrue is_input)) }
-    ensures owed { Accounts result (counts (file_failures sdp.old) (file_failures sdp.new)
-        ∷ counts (sum_by file_failures recordings.old) (sum_by file_failures recordings.new)
-        ∷ counts (writing_failures out.old) (writing_failures out.new)
-        ∷ counts (output_failures output.old) (output_failures output.new) ∷ []) }
-{
-    find_output(out, is_input, Writer::Import)?;
-    recording_engines::import(rt.alloc(), wanted, sdp, recordings, &mut out.sink, output)
-}
-
-/// Imports, and keeps what was recorded.
-fn record<'a>(
-    rt: &HostRuntime,
-    wanted: Importing<'_>,
-    sdp: &mut FileSource<'a>,
-    recordings: &mut [FileSource<'a>],
-    out: &mut FileOutput<'_>,
-    is_input: bool,
-    output: &mut OutputSink<Printer>,
+    output: &mut OutputSink<Stream>,
     recorded: &mut Option<ImportCounts>,
 ) -> Result<(), Fault>
     requires unplaced { IsUnplaced out.old }
@@ -149,7 +115,10 @@ fn record<'a>(
         ∷ counts (writing_failures out.old) (writing_failures out.new)
         ∷ counts (output_failures output.old) (output_failures output.new) ∷ []) }
 {
-    let sums = import(rt, wanted, sdp, recordings, out, is_input, output)?;
+    find_output(out, is_input, Writer::Import)?;
+    let alloc = rt.alloc();
+    let file = &mut out.sink;
+    let sums = recording_engines::import(alloc, wanted, sdp, recordings, file, output)?;
     *recorded = Some(sums);
     Ok(())
 }
@@ -175,7 +144,7 @@ impl<'a> Command for ImportCommand<'a> {
         (file_took old.out) (file_took new.out) r
         ⊎ (r ≡ OutputIsInput Import) × IsTrue old.is_input };
 
-    ghost is_placed = { λ c. IsPlaced c.out × IsFalse c.is_input };
+    ghost is_placed = { λ c. IsInPlace c.out × IsFalse c.is_input };
 
     ghost is_unplaced = { λ c. IsUnplaced c.out };
 
@@ -187,7 +156,7 @@ impl<'a> Command for ImportCommand<'a> {
         ∷ counts (output_failures old.output) (output_failures new.output) ∷ []) };
 
     fn run(&mut self) -> Ran {
-        let outcome = record(
+        let outcome = import(
             self.rt,
             self.wanted,
             &mut self.sdp,

@@ -18,32 +18,32 @@ returns-clause-done c =
     let items = c.args.self.now.recordings.items in
     let same = ap length c.as_mut_slice.ensures.value in
     rw (
-      vec_back c.args.self.now.recordings.len items c.record-outcome.new.recordings
-          (sym c.as_mut_slice.ensures.len ∙ same) (c.record-outcome.ensures.len ∙ same),
+      vec_back c.args.self.now.recordings.len items c.import-outcome.new.recordings
+          (sym c.as_mut_slice.ensures.len ∙ same) (c.import-outcome.ensures.len ∙ same),
       c.settle.ensures.took,
     )
-    (rw c.as_mut_slice.ensures.value at c.record-outcome.ensures.imported)
+    (rw c.as_mut_slice.ensures.value at c.import-outcome.ensures.imported)
 
 pub returns-clause-refusal : goal.returns-clause-refusal
 returns-clause-refusal c =
     let items = c.args.self.now.recordings.items in
     let same = ap length c.as_mut_slice.ensures.value in
     let back =
-    vec_back c.args.self.now.recordings.len items c.record-outcome.new.recordings
-    (sym c.as_mut_slice.ensures.len ∙ same) (c.record-outcome.ensures.len ∙ same) in
+    vec_back c.args.self.now.recordings.len items c.import-outcome.new.recordings
+    (sym c.as_mut_slice.ensures.len ∙ same) (c.import-outcome.ensures.len ∙ same) in
     let sdp = c.args.self.now.sdp in
-    let sdp' = c.record-outcome.new.sdp in
+    let sdp' = c.import-outcome.new.sdp in
     let settled =
-    subst (λ (took : List ℕ). IfErr c.record-outcome.result (λ f. OfRefusal f (λ r.
+    subst (λ (took : List ℕ). IfErr c.import-outcome.result (λ f. OfRefusal f (λ r.
     IsImportRefusal (option_copied c.args.self.now.wanted.a)
     (option_copied c.args.self.now.wanted.b) (FileRead sdp sdp')
     (GivesText 65535 (file_gave sdp) (file_gave sdp') (file_ended sdp'))
-    (WasRead file_gave file_ended) (zip items c.record-outcome.new.recordings)
+    (WasRead file_gave file_ended) (zip items c.import-outcome.new.recordings)
     (file_took c.args.self.now.out) took r
     ⊎ (r ≡ OutputIsInput Import) × IsTrue c.args.self.now.is_input)))
     (sym c.settle.ensures.took)
-    (rw c.as_mut_slice.ensures.value at c.record-outcome.ensures.refusal) in
-    subst (λ (ss : List FileSource). IfErr c.record-outcome.result (λ f. OfRefusal f (λ r.
+    (rw c.as_mut_slice.ensures.value at c.import-outcome.ensures.refusal) in
+    subst (λ (ss : List FileSource). IfErr c.import-outcome.result (λ f. OfRefusal f (λ r.
     IsImportRefusal (option_copied c.args.self.now.wanted.a)
     (option_copied c.args.self.now.wanted.b) (FileRead sdp sdp')
     (GivesText 65535 (file_gave sdp) (file_gave sdp') (file_ended sdp'))
