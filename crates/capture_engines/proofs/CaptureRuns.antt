@@ -5,7 +5,7 @@ use Rattle.std.proofs.Common.{Some}
 use Rattle.std.proofs.Common.{Result, Ok, Err, MatchResult, refl, sym, ap, ◌∙◌, subst, arith}
 use Rattle.std.proofs.Common.{append_assoc, append-nil}
 use Rattle.std.proofs.lemmas.Bool.{cases_lt}
-use Rattle.std.specs.Prelude.{IfErr, IfOk, IsErrOf, OnOk, ◌↔◌}
+use Rattle.std.specs.Prelude.{IfErr, IfOk, IsErrOf, OnOk, ◌↔◌, ⊤}
 use Rattle.st_format.specs.Device.{CountsOne, Failed as HasFailed, Told}
 use Rattle.st_format.specs.History.{GrewFrom, IsRead, since}
 use Rattle.st_format.specs.Turns.{Due, Comes, Nothing, came_of, datagrams_of}
@@ -477,6 +477,25 @@ reader_came received outcome done s t b a mid tally e opened kept told left gave
     }) answers
 
 -- ---- what was delivered is held, however the turns ended
+
+pub sound_taken : {A : Type 0} (b a : Intake A) (mid : State) (n : ℕ) (u : Tally)
+    (opened kept told : Told) (gave : List ℕ) → opened ≡ told → kept ≡ opened → a.receiver ≡ mid
+    → a.tally ≡ u
+    → HeardCame n (came_of (dues_in (since opened.gave told.gave)))
+    (came_of (dues_in (since kept.gave gave))) b.receiver mid b.tally u
+    → a.delivered ≡ min (b.delivered + n) (2 ^ 64 - 1)
+    → TakesRecords (IsRead told.gave gave ⊤) b a
+sound_taken b a mid n u opened kept told gave is stays same same_tally came counted =
+    let so : HeardCame n [] (came_of (dues_in (since told.gave gave))) b.receiver a.receiver
+    b.tally a.tally =
+    same_came n told kept gave b.receiver mid a.receiver b.tally u a.tally (stays ∙ is) same
+    same_tally
+    (subst (λ (x : Told). HeardCame n (came_of (dues_in (since x.gave told.gave)))
+    (came_of (dues_in (since kept.gave gave))) b.receiver mid b.tally u) is came) in
+    records_taken b a n (IsRead told.gave gave ⊤) so.due
+    (λ octets q. ap (λ (l : List ℕ). datagrams_of (dues_in l))
+    (read_all told.gave gave octets ⊤ q tt)
+    ∙ same_datagrams (dues_in (since told.gave gave)) so.due so.came_is) so.taken so.heard counted
 
 pub delivered_held : {A : Type 0} (b a : Intake A) (mid : State) (n : ℕ) (t u : Tally)
     (opened kept told : Told) (gave : List ℕ) → opened ≡ told → kept ≡ opened → a.receiver ≡ mid

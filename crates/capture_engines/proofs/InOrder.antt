@@ -71,13 +71,13 @@ split_tell f (y ∷ xs) x (p ∷ ps) tell =
     }
 
 -- the text is that behind some captures, and then behind one more
-said_then : (said : Option (List ℕ)) (ps : List (List ℕ)) (p : List ℕ)
+pub said_then : (said : Option (List ℕ)) (ps : List (List ℕ)) (p : List ℕ)
     → said_behind (said_behind said ps) (p ∷ []) ≡ said_behind said (ps ++ p ∷ [])
 said_then None [] p = refl
 said_then None (q ∷ ps) p = refl
 said_then (Some text) ps p = refl
 
-datagrams_then : (ds : List (List ℕ)) (ps : List (List ℕ)) (p : List ℕ)
+pub datagrams_then : (ds : List (List ℕ)) (ps : List (List ℕ)) (p : List ℕ)
     → (ds ++ flat_map capture_datagrams ps) ++ capture_datagrams p
     ≡ ds ++ flat_map capture_datagrams (ps ++ p ∷ [])
 datagrams_then ds ps p =
@@ -177,10 +177,10 @@ pairs_left {S} k start now new behind =
 
 -- ---- the receiver that took them is written
 
-some_is : (a b : List ℕ) → Some a ≡ Some b → a ≡ b
+pub some_is : (a b : List ℕ) → Some a ≡ Some b → a ≡ b
 some_is a b is = cc
 
-saves_held : {A : Type 0} (o : Asked A) (window source : List ℕ) (Is : List ℕ → Type 0)
+pub saves_held : {A : Type 0} (o : Asked A) (window source : List ℕ) (Is : List ℕ → Type 0)
     (said : Option (List ℕ)) (s : Intake A) (ds : List (List ℕ)) (wanted : Bool)
     (shown shown' old new : List ℕ)
     → AreTimestamps window o.window.items → IsSourceText source o.ssrc → Stands o (Some s) said ds

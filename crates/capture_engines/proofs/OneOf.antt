@@ -20,7 +20,7 @@ no_first (x ∷ xs) is = is
 
 -- ---- of a list of pairs
 
-zip_none : {S : Type 0} (xs : List S) → let none : List S = [] in zip xs none ≡ []
+pub zip_none : {S : Type 0} (xs : List S) → let none : List S = [] in zip xs none ≡ []
 zip_none [] = refl
 zip_none (x ∷ xs) = refl
 

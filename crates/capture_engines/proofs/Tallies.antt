@@ -18,8 +18,8 @@ use Rattle.payload_header.specs.declared.payload.PayloadFault.TheVariants as pay
 use Rattle.rtp_header.specs.Faults.{rtp_fault_number}
 use Rattle.rtp_header.specs.declared.header.RtpFault.{RtpFault}
 use Rattle.rtp_header.specs.declared.header.RtpFault.TheVariants as rtp
-use Rattle.capture_engines.specs.Tallied.{Tallies, TalliesMore, count_after, fitting, is_outside}
-use Rattle.capture_engines.specs.Tallied.{is_refusal, place_of, tally_after}
+use Rattle.capture_engines.specs.Tallied.{Tallies, TalliesMore, count_after, fitting, is_kept}
+use Rattle.capture_engines.specs.Tallied.{is_outside, is_refusal, place_of, tally_after}
 use Rattle.capture_engines.specs.declared.tally.Tally.{Tally}
 
 -- ---- numbers of refusals
@@ -129,6 +129,9 @@ tallied_more t (Ok (Kept number)) answers before = record {
   outside = before.outside
       ∙ ap (λ (n : ℕ). fitting n)
       (sym (none_counted is_outside answers (Ok (Kept number)) refl));
+  kept = fitting_more t.kept (count_by is_kept answers)
+      (count_by is_kept (answers ++ Ok (Kept number) ∷ [])) before.kept
+      (one_counted is_kept answers (Ok (Kept number)) refl);
 }
 tallied_more t (Ok Outside) answers before = record {
   places = before.places;
@@ -137,6 +140,8 @@ tallied_more t (Ok Outside) answers before = record {
   outside = fitting_more t.outside (count_by is_outside answers)
       (count_by is_outside (answers ++ Ok Outside ∷ [])) before.outside
       (one_counted is_outside answers (Ok Outside) refl);
+  kept = before.kept
+      ∙ ap (λ (n : ℕ). fitting n) (sym (none_counted is_kept answers (Ok Outside) refl));
 }
 tallied_more t (Err f) answers before = record {
   places = length-set t.refused (place_of f) (count_after (get_or t.refused (place_of f) 0))
@@ -144,6 +149,7 @@ tallied_more t (Err f) answers before = record {
   refused = λ e. refused_more f e t.refused answers before.places (before.refused e);
   outside = before.outside
       ∙ ap (λ (n : ℕ). fitting n) (sym (none_counted is_outside answers (Err f) refl));
+  kept = before.kept ∙ ap (λ (n : ℕ). fitting n) (sym (none_counted is_kept answers (Err f) refl));
 }
 
 pub tallies_more : (old new : Tally) (answer : Result Taken Refusal) → new ≡ tally_after answer old
@@ -164,11 +170,12 @@ tallies_all t answers (x ∷ xs) before =
 
 -- nothing was counted
 pub tallies_none : (t : Tally) → length t.refused ≡ 14
-    → AllByRecursion (λ count. count ≡ 0) t.refused → t.outside ≡ 0 → Tallies t []
-tallies_none t places none outside = record {
+    → AllByRecursion (λ count. count ≡ 0) t.refused → t.outside ≡ 0 → t.kept ≡ 0 → Tallies t []
+tallies_none t places none outside kept = record {
   places = places;
   refused = λ e. zero_at t.refused (place_of e) none;
   outside = outside;
+  kept = kept;
 }
   where
     zero_at : (counts : List ℕ) (i : ℕ) → AllByRecursion (λ count. count ≡ 0) counts

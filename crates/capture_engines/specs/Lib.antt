@@ -11,3 +11,5 @@ pub mod Sending
 pub mod Looping
 pub mod Looped
 pub mod Coming
+pub mod Counted
+pub mod Rescued

@@ -1,6 +1,6 @@
 //! Taking the datagrams of captures into one receiver.
 ghost use Rattle.std.specs.Prelude.{◌≡◌, ◌≢◌, ◌≤◌, ◌+◌, ◌-◌, ◌^◌, ◌∷◌, ◌++◌, [], ℕ, List, Ok, Err};
-ghost use Rattle.std.specs.Prelude.{true, false, length, min, IfErr, IfOk, OnOk};
+ghost use Rattle.std.specs.Prelude.{true, false, ⊤, length, min, IfErr, IfOk, OnOk};
 ghost use Rattle.media_file.specs.Reader.{IsNewReader, dues_in, source_fault};
 ghost use Rattle.media_file.specs.declared.fault.FileFault.{FileFault};
 ghost use Rattle.media_file.specs.declared.fault.FileFault.TheVariants.{TooManyRecords};
@@ -13,6 +13,7 @@ ghost use Rattle.capture_engines.specs.Tallied.{Tallies};
 ghost use Rattle.path_merge.specs.declared.receiving.ReceiveFault.{ReceiveFault};
 ghost use Rattle.path_merge.specs.declared.receiving.Received.{Received};
 ghost use Rattle.path_merge.specs.Frames.{Holds};
+ghost use Rattle.path_merge.specs.Took.{delivered_in};
 ghost use Rattle.st_format.specs.History.{GrewFrom, IsRead, since};
 ghost use Rattle.st_format.specs.Turns.{datagrams_of};
 
@@ -80,7 +81,9 @@ impl<A: Allocator> Intake<A> {
         ensures room { length buf.new ≡ length buf.old }
         ensures taken { OnOk result (TakesRecords (IsRead (S.gave reader.old.source)
             (S.gave reader.new.source) (S.ended reader.new.source)) self.old self.new) }
-        // After a fault too, the receiver has the datagrams of the records that were read.
+        // After a fault too: the receiver has the datagrams of the records that were read.
+        ensures sound { TakesRecords (IsRead (S.gave reader.old.source)
+            (S.gave reader.new.source) ⊤) self.old self.new }
         ensures holds { (datagrams : List (List ℕ)) → Holds self.old.receiver datagrams →
             Holds self.new.receiver (datagrams ++ datagrams_of (dues_in
             (since (S.gave reader.old.source) (S.gave reader.new.source)))) }
@@ -98,13 +101,16 @@ impl<A: Allocator> Intake<A> {
         self.count(received)
     }
 
-    /// Counts what a capture delivered. One that has not ended, or is at fault, is refused.
+    /// Counts what a capture delivered, whatever it came to. One that has not ended, or is at fault,
+    /// is refused.
     fn count(&mut self, received: Result<Received, ReceiveFault>) -> Result<(), Fault>
         ensures receiver { self.new.receiver ≡ self.old.receiver }
         ensures tally { self.new.tally ≡ self.old.tally }
         ensures ended { (r : Received) → received ≡ Ok r → r.ended ≡ true
             → (result ≡ Ok tt)
             × (self.new.delivered ≡ min (self.old.delivered + r.delivered) (2 ^ 64 - 1)) }
+        ensures delivered { self.new.delivered
+            ≡ min (self.old.delivered + delivered_in received) (2 ^ 64 - 1) }
         ensures many { (r : Received) → received ≡ Ok r → r.ended ≡ false
             → r.delivered ≡ 16777216 → result ≡ Err (capture_fault TooManyRecords) }
         ensures quiet { (r : Received) → received ≡ Ok r → r.ended ≡ false
@@ -114,13 +120,16 @@ impl<A: Allocator> Intake<A> {
     {
         match received {
             Ok(received) => {
+                self.delivered = self.delivered.saturating_add(received.delivered);
                 if !received.ended {
                     return Err(unended(received.delivered));
                 }
-                self.delivered = self.delivered.saturating_add(received.delivered);
                 Ok(())
             }
-            Err(failed) => Err(reader_fault(failed.fault)),
+            Err(failed) => {
+                self.delivered = self.delivered.saturating_add(failed.delivered);
+                Err(reader_fault(failed.fault))
+            }
         }
     }
 }

@@ -1,11 +1,13 @@
 //! The engine of `receive`.
 ghost use Rattle.std.specs.Prelude.{◌≡◌, ◌≢◌, ◌≤◌, ◌<◌, ◌+◌, ◌∷◌, ◌++◌, ℕ, List, []};
-ghost use Rattle.std.specs.Prelude.{IfErr, IfOk, OnOk};
+ghost use Rattle.std.specs.Prelude.{◌⊎◌, ⊤, IfErr, IfOk, OnErr, OnOk};
 ghost use Rattle.std.specs.Prelude.{MatchOption, Option, None, Some, drop, length, sum_by, take};
 ghost use Rattle.std.specs.List.{zip};
 ghost use Rattle.run_outcome.specs.Moments.{WasRead, pair};
 ghost use Rattle.media_file.specs.Reader.{IsNewReader};
 ghost use Rattle.media_file.specs.StateFile.{state_text};
+ghost use Rattle.capture_engines.specs.Counted.{CountsReceived};
+ghost use Rattle.capture_engines.specs.Rescued.{TakesPart, TakesUpTo};
 ghost use Rattle.run_outcome.specs.Fault.{Accounts, IfRefused, counts, failures_in};
 ghost use Rattle.capture_engines.specs.Printed.{if_wanted, received_text, tally_text};
 ghost use Rattle.capture_engines.specs.Received.{HasBehind, IsCapturesRefusal, IsFrontRefusal};
@@ -22,15 +24,9 @@ ghost use Rattle.run_outcome.specs.Timestamps.{AreTimestamps};
 ghost use Rattle.st_format.specs.History.{GrewFrom, IsRead};
 
 use crate::intake::Intake;
-use crate::printing::print_tally;
-use crate::tally::Tally;
+use crate::rescuing::receive_files;
 use media_file::CaptureReader;
-use path_merge::Receiver;
-use receiver_file::save_receiver;
-use run_outcome::{
-    Fault, Line, Refusal, of_capture, of_state, print, print_frames, read_source, read_text,
-    read_timestamps, room,
-};
+use run_outcome::{Fault, Refusal, of_capture, read_source, read_text, read_timestamps};
 use st_format::{ByteSink, ByteSource};
 use std::alloc::Allocator;
 
@@ -50,9 +46,9 @@ pub struct Wanted<'a> {
 
 /// What is received with: the timestamps and the source that are asked for.
 #[derive(Drop)]
-struct Asked<A: Allocator> {
-    window: Vec<u32, A>,
-    ssrc: Option<u32>,
+pub(crate) struct Asked<A: Allocator> {
+    pub(crate) window: Vec<u32, A>,
+    pub(crate) ssrc: Option<u32>,
 }
 
 /// Refuses the words that a receiver is opened by, its timestamps and its source, where they are
@@ -116,30 +112,24 @@ where
         ∷ counts (K.failures state.old) (K.failures state.new)
         ∷ counts (O.failures output.old) (O.failures output.new) ∷ []) }
 {
-    let opening = read_opening(alloc, wanted)?;
-    let begun = begin(alloc, &opening, sdp)?;
-    let intake = take_captures(alloc, &opening, begun, captures)?;
-    print_intake(&intake, wanted.tells_refusals, output)?;
-    save(&intake.receiver, state)
-}
-
-/// Writes a receiver's file.
-fn save<A: Allocator, K: ByteSink>(receiver: &Receiver<A>, state: &mut K) -> Result<(), Fault>
-    ensures whole { OnOk result
-        (K.took state.new ≡ K.took state.old ++ state_text (kept_of receiver.now)) }
-    ensures writable { IsWritable receiver.now }
-    ensures refused { IfErr result (λ f. IfRefused f (state.new ≡ state.old)) }
-    ensures unrefused { IfErr result (λ f. IfRefused f ⊥) }
-    ensures failures { Accounts result (counts (K.failures state.old) (K.failures state.new) ∷ []) }
-{
-    match save_receiver(state, receiver) {
-        Ok(()) => Ok(()),
-        Err(fault) => Err(of_state(fault)),
-    }
+    let mut reception = None;
+    receive_files(
+        alloc,
+        wanted,
+        false,
+        sdp,
+        captures,
+        state,
+        output,
+        &mut reception,
+    )
 }
 
 /// Reads the words that a receiver is opened by: its timestamps and its source.
-fn read_opening<A: Allocator + Copy>(alloc: A, wanted: Wanted<'_>) -> Result<Asked<A>, Fault>
+pub(crate) fn read_opening<A: Allocator + Copy>(
+    alloc: A,
+    wanted: Wanted<'_>,
+) -> Result<Asked<A>, Fault>
     ensures window { IfOk result (λ o. AreTimestamps wanted.entry.window.now o.window.items) }
     ensures source { IfOk result (λ o. IsSourceText wanted.entry.ssrc.now o.ssrc) }
     ensures refusal { IfErr result (λ f. OfRefusal f
@@ -156,7 +146,7 @@ fn read_opening<A: Allocator + Copy>(alloc: A, wanted: Wanted<'_>) -> Result<Ask
 }
 
 /// Opens a receiver by the SDP, where there is one.
-fn begin<A: Allocator + Copy, S: ByteSource>(
+pub(crate) fn begin<A: Allocator + Copy, S: ByteSource>(
     alloc: A,
     opening: &Asked<A>,
     sdp: &mut Option<S>,
@@ -197,33 +187,8 @@ fn open_by_sdp<A: Allocator + Copy, S: ByteSource>(
     Intake::open(alloc, &said, opening.ssrc, &opening.window)
 }
 
-/// Takes the datagrams of each capture, one capture after the other.
-fn take_captures<A: Allocator + Copy, S: ByteSource>(
-    alloc: A,
-    opening: &Asked<A>,
-    mut begun: Option<Intake<A>>,
-    captures: &mut [S],
-) -> Result<Intake<A>, Fault>
-    ensures len { length captures.new ≡ length captures.old }
-    ensures taken { IfOk result
-        (λ s. TakesFiles opening.now (WasRead S.gave S.ended) (zip captures.old captures.new)
-        begun (Some s)) }
-    ensures refusal { IfErr result (λ f. OfRefusal f (IsCapturesRefusal opening.now.window.items
-        begun (WasRead S.gave S.ended) (zip captures.old captures.new))) }
-    ensures failures { Accounts result (counts (sum_by S.failures captures.old)
-        (sum_by S.failures captures.new) ∷ []) }
-{
-    let mut buf = room(alloc)?;
-    let mut said = room(alloc)?;
-    take_all(alloc, opening, &mut begun, captures, &mut said, &mut buf)?;
-    match begun {
-        Some(intake) => Ok(intake),
-        None => Err(Fault::Refused(Refusal::ReceiveNoSdp)),
-    }
-}
-
 /// Takes all captures, each by way of the two rooms: one for its text, and one for its datagrams.
-fn take_all<A: Allocator + Copy, S: ByteSource>(
+pub(crate) fn take_all<A: Allocator + Copy, S: ByteSource>(
     alloc: A,
     opening: &Asked<A>,
     begun: &mut Option<Intake<A>>,
@@ -235,6 +200,8 @@ fn take_all<A: Allocator + Copy, S: ByteSource>(
     requires room { 65535 ≤ length buf.old }
     ensures len { length captures.new ≡ length captures.old }
     ensures taken { OnOk result (TakesFiles opening.now (WasRead S.gave S.ended)
+        (zip captures.old captures.new) begun.old begun.new) }
+    ensures sound { OnErr result (TakesUpTo opening.now S.gave S.ended
         (zip captures.old captures.new) begun.old begun.new) }
     ensures none { OnOk result (begun.new ≡ None
         → (begun.old ≡ None) × (captures.old ≡ [])) }
@@ -270,6 +237,8 @@ fn take_at<A: Allocator + Copy, S: ByteSource>(
     ensures taken { OnOk result (FirstIs
         (λ s. TakesFile opening.now (WasRead S.gave S.ended s) begun.old begun.new)
         (zip (drop place captures.old) (drop place captures.new))) }
+    ensures sound { FirstIs (TakesPart opening.now S.gave begun.old begun.new)
+        (zip (drop place captures.old) (drop place captures.new)) }
     ensures begun { OnOk result (begun.new ≢ None) }
     ensures refusal { IfErr result (λ f. OfRefusal f (λ r. FirstIs
         (λ s. IsTakeRefusal opening.now.window.items begun.old (WasRead S.gave S.ended s) r)
@@ -295,6 +264,7 @@ fn take_one<A: Allocator + Copy, S: ByteSource>(
     ensures room { length buf.new ≡ length buf.old }
     ensures taken { OnOk result (TakesFile opening.now (IsRead (S.gave capture.old)
         (S.gave capture.new) (S.ended capture.new)) begun.old begun.new) }
+    ensures sound { TakesPart opening.now S.gave begun.old begun.new (capture.old, capture.new) }
     ensures begun { OnOk result (begun.new ≢ None) }
     ensures refusal { IfErr result (λ f. OfRefusal f (IsTakeRefusal opening.now.window.items
         begun.old (IsRead (S.gave capture.old) (S.gave capture.new) (S.ended capture.new)))) }
@@ -332,6 +302,8 @@ fn take_opened<A: Allocator + Copy, S: ByteSource>(
     ensures taken { OnOk result (TakesFile opening.now (HasBehind
         (IsRead (S.gave reader.old.source) (S.gave reader.new.source)
         (S.ended reader.new.source)) text.now) begun.old begun.new) }
+    ensures sound { TakesFile opening.now (HasBehind (IsRead (S.gave reader.old.source)
+        (S.gave reader.new.source) ⊤) text.now) begun.old begun.new ⊎ (begun.new ≡ begun.old) }
     ensures begun { OnOk result (begun.new ≢ None) }
     ensures refusal { IfErr result (λ f. OfRefusal f (IsTakeRefusal opening.now.window.items
         begun.old (HasBehind (IsRead (S.gave reader.old.source) (S.gave reader.new.source)
@@ -365,36 +337,4 @@ fn open_by_text<A: Allocator + Copy>(
         return Err(Fault::Refused(Refusal::ReceiveNoSdp));
     }
     Intake::open(alloc, said, opening.ssrc, &opening.window)
-}
-
-/// Prints what was delivered, and what is then known.
-fn print_intake<A: Allocator, O: ByteSink>(
-    intake: &Intake<A>,
-    tells_refusals: bool,
-    output: &mut O,
-) -> Result<(), Fault>
-    ensures printed { OnOk result (O.took output.new ≡ O.took output.old
-        ++ received_text tells_refusals intake.now.delivered (tally_text intake.now.tally)
-        intake.now.receiver) }
-    ensures unrefused { IfErr result (λ f. IfRefused f ⊥) }
-    ensures failures { Accounts result (counts (O.failures output.old) (O.failures output.new)
-        ∷ []) }
-{
-    print(Line::Delivered(intake.delivered), output)?;
-    print_wanted(&intake.tally, tells_refusals, output)?;
-    print_frames(&intake.receiver, output)
-}
-
-/// Prints what a tally counts, where that is wanted.
-fn print_wanted<O: ByteSink>(tally: &Tally, is_wanted: bool, output: &mut O) -> Result<(), Fault>
-    ensures printed { OnOk result
-        (O.took output.new ≡ O.took output.old ++ if_wanted is_wanted (tally_text tally.now)) }
-    ensures unrefused { IfErr result (λ f. IfRefused f ⊥) }
-    ensures failures { Accounts result (counts (O.failures output.old) (O.failures output.new)
-        ∷ []) }
-{
-    if !is_wanted {
-        return Ok(());
-    }
-    print_tally(tally, output)
 }

@@ -26,20 +26,21 @@ const REFUSALS: [Refusal; 14] = [
 ];
 
 /// The refusal whose count stands at this place of a tally: that of the next number.
-pub(crate) fn refusal_at(place: usize) -> Refusal
+pub fn refusal_at(place: usize) -> Refusal
     requires { place < 14 }
     ensures { refusal_number result ≡ place + 1 }
 {
     REFUSALS[place]
 }
 
-/// How many datagrams were refused, for which reason, and how many had timestamps outside the
-/// window.
+/// How many datagrams were refused, for which reason, how many had timestamps outside the window,
+/// and how many were kept. A count stays at 2^64 - 1 once it is there.
 #[derive(Drop)]
-pub(crate) struct Tally {
+pub struct Tally {
     /// The count of the refusal of number n stands at n - 1.
     pub refused: [u64; 14],
     pub outside: u64,
+    pub kept: u64,
 }
 
 impl Tally {
@@ -50,6 +51,7 @@ impl Tally {
         Tally {
             refused: [0; 14],
             outside: 0,
+            kept: 0,
         }
     }
 
@@ -58,7 +60,7 @@ impl Tally {
         ensures { self.new ≡ tally_after answer self.old }
     {
         match answer {
-            Ok(Taken::Kept(_)) => {}
+            Ok(Taken::Kept(_)) => self.kept = self.kept.saturating_add(1),
             Ok(Taken::Outside) => self.outside = self.outside.saturating_add(1),
             Err(refusal) => self.note_refusal(refusal),
         }

@@ -5,6 +5,7 @@ mod looping;
 mod migrating;
 mod opening;
 mod receiving;
+mod room;
 mod sending;
 
 pub use looping::LoopCommand;

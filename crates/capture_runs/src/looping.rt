@@ -10,7 +10,7 @@ ghost use Rattle.run_outcome.specs.Moments.{pair};
 ghost use Rattle.run_outcome.specs.declared.fault.Fault.TheVariants.{Device};
 
 use capture_engines::Looping;
-use command_end::{Command, Devices, Ran};
+use command_end::{Command, Devices, Hints, Ran};
 use command_line::LoopWords;
 use devices::{FileSource, OutputSink, UdpLink, Writing, unbound};
 use run_outcome::Fault;
@@ -111,6 +111,7 @@ impl<'a> Command for LoopCommand<'a> {
             written: self.sockets(),
             output: self.output.writing(),
             kept: None,
+            hints: Hints::none(),
         }
     }
 }

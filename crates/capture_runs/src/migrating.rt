@@ -11,7 +11,7 @@ ghost use Rattle.run_outcome.specs.Text.{GivesText};
 ghost use Rattle.run_outcome.specs.declared.refusal.Refusal.TheVariants.{OutputIsInput};
 ghost use Rattle.run_outcome.specs.declared.refusal.Writer.TheVariants.{Migrate};
 
-use command_end::{Command, Devices, Ran, find_output};
+use command_end::{Command, Devices, Hints, Ran, find_output};
 use command_line::MigrateWords;
 use devices::{FileOutput, FileSource, OutputSink, Rest, Stream};
 use run_outcome::{Fault, Writer};
@@ -131,6 +131,7 @@ impl<'a> Command for MigrateCommand<'a> {
             written: Some(self.out.writing()),
             output: self.output.writing(),
             kept: None,
+            hints: Hints::none(),
         }
     }
 }

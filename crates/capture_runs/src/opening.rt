@@ -11,7 +11,7 @@ ghost use Rattle.run_outcome.specs.Text.{GivesText};
 use capture_engines::{Wanted, check_words};
 use command_end::find_output;
 use devices::{FileOutput, FileSource, Identity, Reading, reading_of};
-use recorded_capture::{CaptureSource, ways_each};
+use recorded_capture::{CaptureSource, Seen, ways_each};
 use recording_engines::Importing;
 use run_outcome::{Fault, Refusal, Writer, read_text};
 use std::alloc::Global;
@@ -118,12 +118,26 @@ impl<'a> Files<'a> {
         Ok(())
     }
 
+    /// The text of the SDP, where one was read.
+    pub(crate) fn said(&self) -> Option<&[u8]> {
+        text_of(&self.sdp)
+    }
+
     /// Where the reading of the SDP stands, where one is named.
     pub(crate) fn sdp_reading(&self) -> Option<Reading<'a>> {
         match &self.sdp {
             Some(source) => Some(source.source().reading()),
             None => reading_of(&self.unread),
         }
+    }
+
+    /// What was seen of the packets of the recordings among the files. It is for a person.
+    pub fn seen(&self) -> Seen {
+        let mut seen = Seen::new();
+        for capture in &self.captures {
+            seen.add(&capture.seen());
+        }
+        seen
     }
 
     /// Where the reading of the last file stands that was begun.

@@ -4,6 +4,8 @@ ghost use Rattle.std.specs.Prelude.{sum_by};
 ghost use Rattle.std.specs.List.{zip};
 ghost use Rattle.std.specs.Option.{option_copied};
 ghost use Rattle.capture_engines.specs.Received.{IsReceiveRefusal};
+ghost use Rattle.capture_engines.specs.Counted.{CountsReceived};
+ghost use Rattle.capture_engines.specs.Rescued.{Rescues};
 ghost use Rattle.capture_engines.specs.Taking.{Receives};
 ghost use Rattle.capture_runs.specs.Opened.{AreUnread, IsOpeningRefusal};
 ghost use Rattle.capture_runs.specs.Received.{AccountsFiles, EndsRecording, IsErrOf};
@@ -16,8 +18,9 @@ ghost use Rattle.run_outcome.specs.declared.fault.Fault.TheVariants.{Refused};
 ghost use Rattle.recorded_capture.specs.Source.{IsOver};
 
 use crate::opening::{Asked, Files, Source, is_asked};
-use capture_engines::Wanted;
-use command_end::{Command, Devices, Ran};
+use crate::room::room_of;
+use capture_engines::{Reception, Wanted};
+use command_end::{Command, Devices, Hints, Ran};
 use command_line::ReceiveWords;
 use devices::{FileOutput, FileSink, OutputSink, Rest, Stream};
 use recording_engines::Importing;
@@ -35,6 +38,12 @@ pub struct ReceiveCommand<'a> {
     /// Whether that is one of the files that are read.
     pub is_input: bool,
     pub output: OutputSink<Stream>,
+    /// Whether what came before a file's fault is saved.
+    pub is_sound: bool,
+    /// What the receiver was given, once it is written.
+    pub reception: Option<Reception>,
+    /// Whether memory was wanted.
+    pub wants_memory: bool,
 }
 
 impl<'a> ReceiveCommand<'a> {
@@ -55,6 +64,31 @@ impl<'a> ReceiveCommand<'a> {
             state,
             is_input,
             output: OutputSink::beside(rt, words.state),
+            is_sound: words.is_sound,
+            reception: None,
+            wants_memory: false,
+        }
+    }
+}
+
+impl ReceiveCommand<'_> {
+    /// What tells more of a fault.
+    fn hints(&self) -> Hints {
+        let sound = if self.reception.is_some() {
+            Some("what came before that is saved")
+        } else if self.is_sound {
+            None
+        } else {
+            Some("--sound saves what came before that")
+        };
+        Hints {
+            takes_recordings: true,
+            sound,
+            room: if self.wants_memory {
+                room_of(self.rt, self.asked, self.files.said())
+            } else {
+                None
+            },
         }
     }
 }
@@ -63,15 +97,28 @@ impl<'a> ReceiveCommand<'a> {
 fn take(
     rt: &HostRuntime,
     wanted: Wanted<'_>,
+    is_sound: bool,
     files: &mut Files<'_>,
     state: &mut FileSink<'_>,
     output: &mut OutputSink<Stream>,
+    reception: &mut Option<Reception>,
 ) -> Result<(), Fault>
+    requires { reception.old ≡ None }
     ensures taken { OnOk result (Receives wanted.entry.window.now wanted.entry.ssrc.now
         (pair files.old.sdp files.new.sdp) (WasRead (λ s. s.gave) (λ s. IsOver s.place))
         (zip files.old.captures.items files.new.captures.items) wanted.entry.tells_refusals
         (output_took output.old) (output_took output.new)
         (sink_took state.old) (sink_took state.new)) }
+    ensures counted { OnOk result (MatchOption reception.new ⊥
+        (CountsReceived wanted.entry.window.now wanted.entry.ssrc.now
+        (pair files.old.sdp files.new.sdp) (WasRead (λ s. s.gave) (λ s. IsOver s.place))
+        (zip files.old.captures.items files.new.captures.items))) }
+    ensures rescued { OnErr result (MatchOption reception.new ⊤ (λ r. IsTrue is_sound
+        × Rescues wanted.entry.window.now wanted.entry.ssrc.now
+        (pair files.old.sdp files.new.sdp) (λ s. s.gave) (λ s. IsOver s.place)
+        (zip files.old.captures.items files.new.captures.items) wanted.entry.tells_refusals
+        (output_took output.old) (output_took output.new)
+        (sink_took state.old) (sink_took state.new) r)) }
     ensures refusal { IfErr result (λ f. OfRefusal f (λ r.
         IsReceiveRefusal wanted.entry.window.now wanted.entry.ssrc.now
         (pair files.old.sdp files.new.sdp) (WasRead (λ s. s.gave) (λ s. IsOver s.place))
@@ -85,15 +132,25 @@ fn take(
         ∷ counts (sink_failures state.old) (sink_failures state.new)
         ∷ counts (output_failures output.old) (output_failures output.new) ∷ []) }
 {
-    let outcome = capture_engines::receive(
+    let outcome = capture_engines::receive_files(
         rt.alloc(),
         wanted,
+        is_sound,
         &mut files.sdp,
         files.captures.as_mut_slice(),
         state,
         output,
+        reception,
     );
     told_by(outcome, files.captures.as_slice())
+}
+
+/// Whether memory was wanted.
+fn is_memory(outcome: Result<(), Fault>) -> bool {
+    match outcome {
+        Err(Fault::Memory) => true,
+        _ => false,
+    }
 }
 
 /// An outcome, or in place of a device's fault that of the first file that ended by one.
@@ -146,7 +203,7 @@ fn octets(text: Option<&str>) -> Option<&[u8]> {
 
 impl<'a> Command for ReceiveCommand<'a> {
     // (the SDP was read, which the flows of recordings wait for)
-    ghost is_new = { λ c. AreUnread c.files.sdp c.files.captures.items
+    ghost is_new = { λ c. AreUnread c.files.sdp c.files.captures.items × (c.reception ≡ None)
         × (file_took c.state ≡ []) × IsUnplaced c.state × LeavesNoPart c.state
         × (output_took c.output ≡ []) × OnOk c.opened (IsFalse c.is_input)
         × IfErr c.opened (λ f. OfRefusal f (IsOpeningRefusal c.asked.wanted.window.now
@@ -155,12 +212,16 @@ impl<'a> Command for ReceiveCommand<'a> {
 
     // What is written is the file of a receiver of the window and the source that are asked for,
     // and of what the SDP text says, which holds the Frames of all datagrams of the captures and
-    // recordings that were read; and what is printed counts those.
+    // recordings that were read; what is printed counts those, and so does what is kept.
     ghost does = { λ old new. Receives old.asked.wanted.window.now old.asked.wanted.ssrc.now
         (pair old.files.sdp new.files.sdp) (WasRead (λ s. s.gave) (λ s. IsOver s.place))
         (zip old.files.captures.items new.files.captures.items)
         old.asked.wanted.tells_refusals (output_took old.output) (output_took new.output)
-        (file_took old.state) (file_took new.state) };
+        (file_took old.state) (file_took new.state)
+        × MatchOption new.reception ⊥ (CountsReceived old.asked.wanted.window.now
+        old.asked.wanted.ssrc.now (pair old.files.sdp new.files.sdp)
+        (WasRead (λ s. s.gave) (λ s. IsOver s.place))
+        (zip old.files.captures.items new.files.captures.items)) };
 
     // A refusal before datagrams were taken, one of the words or of what was read, or the fault of
     // a recording.
@@ -172,7 +233,16 @@ impl<'a> Command for ReceiveCommand<'a> {
 
     ghost is_placed = { λ c. IsInPlace c.state × IsFalse c.is_input };
 
-    ghost is_unplaced = { λ c. IsUnplaced c.state × HasNoPart c.state };
+    ghost is_unplaced = { λ c. (IsUnplaced c.state
+        ⊎ (IsTrue c.is_sound × IsSome c.reception × IsInPlace c.state)) × HasNoPart c.state };
+
+    // Where what came before a fault was saved, that is what was read up to it.
+    ghost leaves = { λ old new. MatchOption new.reception ⊤ (λ r. IsTrue old.is_sound
+        × Rescues old.asked.wanted.window.now old.asked.wanted.ssrc.now
+        (pair old.files.sdp new.files.sdp) (λ s. s.gave) (λ s. IsOver s.place)
+        (zip old.files.captures.items new.files.captures.items)
+        old.asked.wanted.tells_refusals (output_took old.output) (output_took new.output)
+        (file_took old.state) (file_took new.state) r) };
 
     // (where it could not begin, it came to what stopped it)
     ghost owes = { λ old new outcome. (IsErr old.opened × (outcome ≡ old.opened))
@@ -189,15 +259,19 @@ impl<'a> Command for ReceiveCommand<'a> {
             Ok(()) => take(
                 self.rt,
                 self.asked.wanted,
+                self.is_sound,
                 &mut self.files,
                 &mut self.state.sink,
                 &mut self.output,
+                &mut self.reception,
             ),
             Err(fault) => Err(fault),
         };
+        let is_saved = self.reception.is_some();
+        self.wants_memory = is_memory(outcome);
         Ran {
             outcome,
-            is_whole: self.state.settle(outcome.is_ok()),
+            is_whole: self.state.settle(is_saved),
         }
     }
 
@@ -208,6 +282,7 @@ impl<'a> Command for ReceiveCommand<'a> {
             written: Some(self.state.writing()),
             output: self.output.writing(),
             kept: None,
+            hints: self.hints(),
         }
     }
 }

@@ -14,7 +14,7 @@ ghost use Rattle.run_outcome.specs.declared.refusal.Refusal.TheVariants.{OutputI
 ghost use Rattle.run_outcome.specs.declared.refusal.Writer.TheVariants.{Send};
 
 use capture_engines::{Sending, check_pictures};
-use command_end::{Command, Devices, Ran, find_output};
+use command_end::{Command, Devices, Hints, Ran, find_output};
 use command_line::{NamedPaths, SendWords};
 use devices::{
     FileOutput, FileSource, OutputSink, Rest, Stream, any_is, last_begun, named_file, named_files,
@@ -175,6 +175,7 @@ impl<'a> Command for SendCommand<'a> {
             written: Some(self.out.writing()),
             output: self.output.writing(),
             kept: None,
+            hints: Hints::none(),
         }
     }
 }

@@ -21,13 +21,14 @@ pub record TellsEnd (outcome : Result (Unit {0}) Fault) (whole : Bool) (status :
   pub memory : status ≡ 4 → took' ≡ took ++ memory_line
   pub working : status ≢ 3 → failed' ≡ failed
 
--- A command came to an end from when it was new: `Does`, `IsRefused` and `Owes` are what it does,
--- which refusals speak against it, and which devices failed, each from when it was new. At 0 all
--- was done and written out, no device failed and nothing was told; at 1 a refusal was told that
--- speaks against it; at 3 a device failed; at 4 memory was wanted.
+-- A command came to an end from when it was new: `Does`, `IsRefused`, `Owes` and `Leaves` are what
+-- it does, which refusals speak against it, which devices failed, and what it has written for good
+-- where it ends by a fault, each from when it was new. At 0 all was done and written out, no device
+-- failed and nothing was told; at 1 a refusal was told that speaks against it; at 3 a device
+-- failed; at 4 memory was wanted.
 pub record EndsBy {C : Type 0} (IsNew : C → Type 0) (Does : C → C → Type 0)
     (IsRefused : C → C → Refusal → Type 0) (Owes : C → C → Result (Unit {0}) Fault → Type 0)
-    (status : ℕ) (whole : Bool) (command : C) (told : List ℕ) (failed : ℕ) : Type 0 where
+    (Leaves : C → C → Type 0) (status : ℕ) (whole : Bool) (command : C) (told : List ℕ) (failed : ℕ) : Type 0 where
   pub new : C
   pub is_new : IsNew new
   pub range : (status ≡ 0) ⊎ (status ≡ 1) ⊎ (status ≡ 3) ⊎ (status ≡ 4)
@@ -39,3 +40,4 @@ pub record EndsBy {C : Type 0} (IsNew : C → Type 0) (Does : C → C → Type 0
       → Owes new command (Err Device) ⊎ (whole ≡ false) ⊎ Failed 0 failed
   pub memory : status ≡ 4 → told ≡ memory_line
   pub working : status ≢ 3 → failed ≡ 0
+  pub left : status ≢ 0 → whole ≡ true → Leaves new command

@@ -1,5 +1,5 @@
 //! A command over its devices: what it does, and how it ends.
-ghost use Rattle.std.specs.Prelude.{◌≡◌, ◌≢◌, ◌⊎◌, IfErr, IsErr, IsFalse, IsTrue, OnOk, Result, ⊤};
+ghost use Rattle.std.specs.Prelude.{◌≡◌, ◌≢◌, ◌⊎◌, IfErr, IsErr, IsFalse, IsTrue, OnErr, OnOk, Result, ⊤};
 ghost use Rattle.command_end.specs.Ended.{EndsBy};
 ghost use Rattle.devices.specs.Passed.{output_failures, output_took};
 ghost use Rattle.run_outcome.specs.Refusing.{OfRefusal};
@@ -7,6 +7,7 @@ ghost use Rattle.run_outcome.specs.declared.fault.Fault.{Fault as Cause};
 ghost use Rattle.run_outcome.specs.declared.refusal.Refusal.{Refusal as Reason};
 
 use crate::ending::end_run;
+use crate::hints::Hints;
 use crate::places::Devices;
 use devices::OutputSink;
 use run_outcome::Fault;
@@ -38,8 +39,11 @@ pub trait Command {
     /// The file that it writes has its name, all of it.
     ghost is_placed: { Self → Type 0 } = { λ _. ⊤ };
 
-    /// What stood under that name stands there.
+    /// What stood under that name stands there, or what the command leaves where it ends by a fault.
     ghost is_unplaced: { Self → Type 0 } = { λ _. ⊤ };
+
+    /// What a run that ends by a fault has written for good: the command before it, and after.
+    ghost leaves: { Self → Self → Type 0 } = { λ _ _. ⊤ };
 
     /// Reads and writes all that the command does.
     fn run(&mut self) -> Ran
@@ -50,7 +54,8 @@ pub trait Command {
         ensures owed { owes self.old self.new result.outcome }
         ensures placed { OnOk result.outcome (IsTrue result.is_whole → is_placed self.new) }
         ensures unplaced { IsErr result.outcome ⊎ IsFalse result.is_whole
-            → is_unplaced self.new };
+            → is_unplaced self.new }
+        ensures left { OnErr result.outcome (leaves self.old self.new) };
 
     /// The devices, where a fault is explained.
     fn devices(&self) -> Devices<'_>;
@@ -78,8 +83,9 @@ pub struct Ended<C> {
 /// where that is asked for by one more, which says where the fault is and what was wanted there.
 pub fn run_command<C: Command + Drop>(rt: &HostRuntime, is_verbose: bool, command: C) -> Ended<C>
     requires { C.is_new command }
-    ensures ends { EndsBy C.is_new C.does C.is_refused C.owes result.status result.is_whole
-        result.command (output_took result.faults) (output_failures result.faults) }
+    ensures ends { EndsBy C.is_new C.does C.is_refused C.owes C.leaves result.status
+        result.is_whole result.command (output_took result.faults)
+        (output_failures result.faults) }
     ensures placed { result.status ≡ 0 → C.is_placed result.command }
     ensures unplaced { result.status ≢ 0 → C.is_unplaced result.command }
 {
@@ -117,5 +123,6 @@ fn no_devices(rt: &HostRuntime) -> Devices<'static> {
         written: None,
         output: OutputSink::new(rt.stdout()).writing(),
         kept: None,
+        hints: Hints::none(),
     }
 }

@@ -1,4 +1,5 @@
 //! Where a fault is: what `--verbose` adds behind its line.
+use crate::hints::{Hints, Room};
 use crate::lines::{line_at, shown};
 use devices::{Reading, Writing};
 use run_outcome::{Fault, Form, LineFault, Refusal, Writer};
@@ -19,6 +20,7 @@ pub struct Devices<'a> {
     pub output: Writing<'a>,
     /// The script or the SDP that was read from standard input, where it was kept.
     pub kept: Option<&'a [u8]>,
+    pub hints: Hints,
 }
 
 impl Devices<'_> {
@@ -50,6 +52,10 @@ enum Said<'a> {
     Name(&'a str, &'static str),
     /// Where the reading of a file stands.
     Octet(Reading<'a>, &'static str),
+    /// Where that of one stands that is of another kind than these.
+    Other(Reading<'a>, &'static str),
+    /// A receiver for which there is no memory.
+    Room(Room),
     /// In a line of a text, or in this part of it.
     Text(&'a str, usize, &'a [u8], &'static str),
     /// In a line of a text that isn't shown, or of one that is in a file.
@@ -67,6 +73,19 @@ impl fmt::Display for Said<'_> {
             Said::Octet(reading, wanted) => {
                 let (name, octet) = (reading.name, reading.octet);
                 write!(f, "  at {name}, octet {octet}; wanted {wanted}")
+            }
+            Said::Other(reading, kinds) => {
+                let (name, octet, why) = (reading.name, reading.octet, why_other(reading));
+                write!(f, "  at {name}, octet {octet}; wanted {kinds}{why}")
+            }
+            Said::Room(room) => {
+                let (frames, octets) = (room.frames, room.octets);
+                let needed = frames as u64 * (octets / 1000) / 1000;
+                write!(
+                    f,
+                    "  at --window; wanted {needed} MB of memory for {frames} frames of {octets} \
+                     octets each"
+                )
             }
             Said::Text(name, line, text, wanted) => {
                 let (front, dots) = shown(text);
@@ -97,6 +116,17 @@ impl fmt::Display for Said<'_> {
     }
 }
 
+/// What is said of a file that is of another kind.
+fn why_other(reading: &Reading<'_>) -> &'static str {
+    if reading.octet == 0 {
+        "; the file is empty"
+    } else if reading.is_packed {
+        "; gzip has packed the file, and zcat unpacks it"
+    } else {
+        ""
+    }
+}
+
 /// Which device failed, and why.
 fn of_device<'a>(devices: &Devices<'a>) -> Option<Said<'a>> {
     let read = of_reading(devices.sdp).or(of_reading(devices.read));
@@ -121,6 +151,9 @@ fn of_writing<'a>(writing: Option<Writing<'a>>) -> Option<Said<'a>> {
 
 /// How far the reading had come when memory was wanted.
 fn of_memory<'a>(devices: &Devices<'a>) -> Said<'a> {
+    if let Some(room) = devices.hints.room {
+        return Said::Room(room);
+    }
     let wanted = "more memory than there is";
     match devices.read.or(devices.sdp) {
         Some(reading) => Said::Octet(reading, wanted),
@@ -178,20 +211,57 @@ fn blamed_by(refusal: Refusal) -> Blamed {
     }
 }
 
-/// Says where the fault of a run is, what was wanted there, and where what was written stays. That
+/// Says where the fault of a run is, what was wanted there, and what stays of what was written. That
 /// standard error may fail too changes nothing: the status is the fault's.
 pub(crate) fn explain(rt: &HostRuntime, fault: Fault, devices: &Devices<'_>) {
-    let said = match fault {
-        Fault::Device => of_device(devices),
-        Fault::Memory => Some(of_memory(devices)),
-        Fault::Refused(refusal) => of_refusal(refusal, devices),
+    let told = Told {
+        said: match fault {
+            Fault::Device => of_device(devices),
+            Fault::Memory => Some(of_memory(devices)),
+            Fault::Refused(refusal) => of_refusal(refusal, devices),
+        },
+        left: left_by(devices),
+        sound: sound_of(fault, devices),
     };
-    let _ = match (said, left_by(devices)) {
-        (Some(said), Some(left)) => { eprintln!(rt; "{said}; what was written stays as {left}") }
-        (Some(said), None) => eprintln!(rt; "{said}"),
-        (None, Some(left)) => eprintln!(rt; "  what was written stays as {left}"),
-        (None, None) => Ok(()),
-    };
+    if told.is_some() {
+        let _ = eprintln!(rt; "{told}");
+    }
+}
+
+/// What is told of a fault.
+#[derive(Clone, Copy)]
+struct Told<'a> {
+    /// Where it is, and what was wanted there.
+    said: Option<Said<'a>>,
+    /// The file that holds what was written and is not whole.
+    left: Option<&'a str>,
+    /// What is said of what came before it.
+    sound: Option<&'static str>,
+}
+
+impl Told<'_> {
+    /// Whether anything is told.
+    fn is_some(&self) -> bool {
+        self.said.is_some() || self.left.is_some() || self.sound.is_some()
+    }
+}
+
+impl fmt::Display for Told<'_> {
+    fn fmt<W: fmt::Write>(&self, f: &mut fmt::Formatter<W>) -> fmt::Result {
+        let mut between = "  ";
+        if let Some(said) = self.said {
+            write!(f, "{said}")?;
+            between = "; ";
+        }
+        if let Some(left) = self.left {
+            write!(f, "{between}what was written stays as {left}")?;
+            between = "; ";
+        }
+        if let Some(sound) = self.sound {
+            write!(f, "{between}{sound}")?;
+        }
+        Ok(())
+    }
 }
 
 /// The file that holds what was written and is not whole, if one does.
@@ -199,15 +269,36 @@ fn left_by<'a>(devices: &Devices<'a>) -> Option<&'a str> {
     devices.written?.left
 }
 
+/// What is said of what came before the fault of a capture or a recording.
+fn sound_of(fault: Fault, devices: &Devices<'_>) -> Option<&'static str> {
+    match fault {
+        Fault::Refused(Refusal::Capture(_) | Refusal::Recording(_)) => devices.hints.sound,
+        _ => None,
+    }
+}
+
 /// Where a refusal is, and what was wanted there.
 fn of_refusal<'a>(refusal: Refusal, devices: &Devices<'a>) -> Option<Said<'a>> {
     let wanted = refusal.wanted();
     match blamed_by(refusal) {
         Blamed::Word(name) => Some(Said::Name(name, wanted)),
-        Blamed::Read => Some(Said::Octet(devices.read?, wanted)),
+        Blamed::Read => Some(of_file(refusal, devices.read?, devices, wanted)),
         Blamed::Sdp => Some(Said::Octet(devices.sdp.or(devices.read)?, wanted)),
         Blamed::Line(line) => of_script(devices, line, wanted),
         Blamed::Described(at) => of_sdp(devices, at, wanted),
+    }
+}
+
+/// The place of a file that is refused.
+fn of_file<'a>(
+    refusal: Refusal,
+    reading: Reading<'a>,
+    devices: &Devices<'a>,
+    wanted: &'static str,
+) -> Said<'a> {
+    match devices.hints.kinds(refusal, reading.octet) {
+        Some(kinds) => Said::Other(reading, kinds),
+        None => Said::Octet(reading, wanted),
     }
 }
 

@@ -263,6 +263,12 @@ const RECEIVED: &[Word] = &[
             other timestamps",
     },
     Word {
+        name: "sound",
+        usage: Usage::Flag,
+        help: "Where a file is at fault, print and save the frames of what came before that too; \
+            the status is the fault's",
+    },
+    Word {
         name: "recordings",
         usage: Usage::Files("RECORDING"),
         help: "Captures, and recordings of other tools, pcap or pcapng, taken one after the other; \

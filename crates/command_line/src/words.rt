@@ -109,6 +109,8 @@ pub struct ReceiveWords<'a> {
     pub state: &'a str,
     /// Whether refusals are counted and told.
     pub refusals: bool,
+    /// Whether what came before a file's fault is saved.
+    pub is_sound: bool,
     /// The files of captures and recordings.
     pub recordings: Vec<&'a str>,
 }
@@ -292,6 +294,7 @@ fn receive_words<'a>(
         ssrc: word(given, "ssrc"),
         state: word(given, "state"),
         refusals: given.get_flag("refusals"),
+        is_sound: given.get_flag("sound"),
         recordings: list(alloc, given, "recordings")?,
     })
 }

@@ -29,6 +29,8 @@ pub struct FileSource<'a> {
     is_begun: bool,
     /// How many octets were read.
     octet: u64,
+    /// Whether it begins as what gzip packs.
+    is_packed: bool,
     /// Why it failed last.
     fault: Option<io::Error>,
 }
@@ -59,6 +61,7 @@ impl<'a> FileSource<'a> {
             failures: 0,
             is_begun: false,
             octet: 0,
+            is_packed: false,
             fault: None,
         }
     }
@@ -95,6 +98,7 @@ impl<'a> FileSource<'a> {
         Reading {
             name: self.name,
             octet: self.octet,
+            is_packed: self.is_packed,
             fault: self.fault,
         }
     }
@@ -120,12 +124,18 @@ impl<'a> FileSource<'a> {
         };
         let n = file.read(buf)?;
         self.gave.note(&buf[..n]);
+        self.is_packed = self.is_packed || is_packed(self.octet, &buf[..n]);
         self.octet = self.octet.saturating_add(n as u64);
         if n == 0 && !buf.is_empty() {
             self.progress = Progress::Past;
         }
         Ok(n)
     }
+}
+
+/// Whether octets that were read at a place are the first ones of what gzip packs (RFC 1952, 2.3).
+fn is_packed(octet: u64, octets: &[u8]) -> bool {
+    octet == 0 && octets.starts_with(&[0x1f, 0x8b])
 }
 
 impl<'a> ByteSource for FileSource<'a> {

@@ -52,6 +52,7 @@ impl<R: Read + Drop> InputSource<R> {
         Reading {
             name: "standard input",
             octet: self.octet,
+            is_packed: false,
             fault: self.fault,
         }
     }

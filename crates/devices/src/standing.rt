@@ -8,6 +8,8 @@ pub struct Reading<'a> {
     pub name: &'a str,
     /// How many octets were read.
     pub octet: u64,
+    /// Whether it begins as what gzip packs.
+    pub is_packed: bool,
     /// Why it failed, where it did.
     pub fault: Option<io::Error>,
 }

@@ -8,7 +8,7 @@ ghost use Rattle.receiver_engines.specs.Merging.{MergesFiles, PrintsMerged};
 ghost use Rattle.run_outcome.specs.Fault.{Accounts, counts};
 ghost use Rattle.run_outcome.specs.Refusing.{OfRefusal};
 
-use command_end::{Command, Devices, Ran};
+use command_end::{Command, Devices, Hints, Ran};
 use command_line::MergeWords;
 use devices::{FileOutput, FileSource, OutputSink, Rest, Stream};
 use run_outcome::Fault;
@@ -114,6 +114,7 @@ impl<'a> Command for MergeCommand<'a> {
             written: Some(self.state.writing()),
             output: self.output.writing(),
             kept: None,
+            hints: Hints::none(),
         }
     }
 }

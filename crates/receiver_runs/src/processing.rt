@@ -13,7 +13,7 @@ ghost use Rattle.run_outcome.specs.Refusing.{OfRefusal};
 ghost use Rattle.run_outcome.specs.declared.refusal.Refusal.TheVariants.{OutputIsInput};
 ghost use Rattle.run_outcome.specs.declared.refusal.Writer.TheVariants.{Process};
 
-use command_end::{Command, Devices, Ran, find_output};
+use command_end::{Command, Devices, Hints, Ran, find_output};
 use command_line::ProcessWords;
 use devices::{
     FileOutput, FileSource, OutputSink, Rest, Stream, any_is, last_begun, named_file, named_files,
@@ -169,6 +169,7 @@ impl<'a> Command for ProcessCommand<'a> {
             written: Some(self.out.writing()),
             output: self.output.writing(),
             kept: None,
+            hints: Hints::none(),
         }
     }
 }

@@ -6,7 +6,7 @@ ghost use Rattle.receiver_engines.specs.Reporting.{Reports};
 ghost use Rattle.receiver_engines.specs.States.{IsStateRefusal};
 ghost use Rattle.run_outcome.specs.Fault.{Accounts, counts};
 
-use command_end::{Command, Devices, Ran};
+use command_end::{Command, Devices, Hints, Ran};
 use devices::{FileSource, OutputSink};
 use std::io::Stdout;
 
@@ -59,6 +59,7 @@ impl<'a> Command for ReportCommand<'a> {
             written: None,
             output: self.output.writing(),
             kept: None,
+            hints: Hints::none(),
         }
     }
 }

@@ -13,8 +13,10 @@ mod plain;
 mod pouring;
 mod recorded;
 mod said;
+mod seen;
 mod source;
 mod ways;
 
+pub use seen::Seen;
 pub use source::CaptureSource;
 pub use ways::ways_each;

@@ -16,6 +16,7 @@ use crate::kinds::is_magic;
 use crate::plain::Plain;
 use crate::recorded::{Recorded, open_recorded};
 use crate::said::Said;
+use crate::seen::Seen;
 use flow::Flows;
 use run_outcome::{Fault, Refusal};
 use st_format::{ByteSource, DeviceFault, read_whole};
@@ -53,6 +54,8 @@ pub struct CaptureSource<A: Allocator, S: ByteSource> {
     standing: Standing<A>,
     gave: History,
     failures: u64,
+    /// What was seen of a recording's packets, which is for a person.
+    seen: Seen,
 }
 
 impl<A: Allocator, S: ByteSource> Model for CaptureSource<A, S> {
@@ -145,6 +148,7 @@ fn step<A: Allocator, S: ByteSource>(
 fn give_begun<A: Allocator, S: ByteSource>(
     source: &mut S,
     standing: &mut Standing<A>,
+    seen: &mut Seen,
     buf: &mut [u8],
 ) -> Result<usize, DeviceFault>
     requires some { 0 < length buf.old }
@@ -160,7 +164,9 @@ fn give_begun<A: Allocator, S: ByteSource>(
     ensures told { OnErr result (FailsBy (place_of standing.old) (place_of standing.new)
         (S.failures source.old) (S.failures source.new)) }
 {
-    match step(source, standing, buf) {
+    let stepped = step(source, standing, buf);
+    seen.note(standing);
+    match stepped {
         Ok(0) => {
             *standing = Standing::Ended;
             Ok(0)
@@ -179,6 +185,7 @@ fn give_fresh<A: Allocator, S: ByteSource>(
     ways: &Result<Flows, Refusal>,
     source: &mut S,
     standing: &mut Standing<A>,
+    seen: &mut Seen,
     buf: &mut [u8],
 ) -> Result<usize, DeviceFault>
     requires some { 0 < length buf.old }
@@ -195,8 +202,9 @@ fn give_fresh<A: Allocator, S: ByteSource>(
 {
     match begin(alloc, ways, source) {
         Ok(begun) => {
+            seen.begin(&begun);
             *standing = begun;
-            give_begun(source, standing, buf)
+            give_begun(source, standing, seen, buf)
         }
         Err(fault) => {
             *standing = Standing::Failed(fault);
@@ -211,6 +219,7 @@ fn give<A: Allocator, S: ByteSource>(
     ways: &Result<Flows, Refusal>,
     source: &mut S,
     standing: &mut Standing<A>,
+    seen: &mut Seen,
     buf: &mut [u8],
 ) -> Result<usize, DeviceFault>
     requires some { 0 < length buf.old }
@@ -228,8 +237,8 @@ fn give<A: Allocator, S: ByteSource>(
 {
     match standing {
         Standing::Said(said) => Ok(said.give(buf)),
-        Standing::Fresh => give_fresh(alloc, ways, source, standing, buf),
-        _ => give_begun(source, standing, buf),
+        Standing::Fresh => give_fresh(alloc, ways, source, standing, seen, buf),
+        _ => give_begun(source, standing, seen, buf),
     }
 }
 
@@ -253,6 +262,7 @@ impl<A: Allocator + Copy, S: ByteSource> CaptureSource<A, S> {
             standing: Standing::Fresh,
             gave: History::new(),
             failures: 0,
+            seen: Seen::new(),
         }
     }
 
@@ -273,6 +283,7 @@ impl<A: Allocator + Copy, S: ByteSource> CaptureSource<A, S> {
             }),
             gave: History::new(),
             failures: 0,
+            seen: Seen::new(),
         }
     }
 
@@ -302,6 +313,12 @@ impl<A: Allocator + Copy, S: ByteSource> CaptureSource<A, S> {
         ensures { result.now ≡ self.now.source }
     {
         &self.source
+    }
+
+    /// What was seen of a recording's packets so far; of a capture nothing. It is for a person, and
+    /// no clause speaks of it.
+    pub fn seen(&self) -> Seen {
+        self.seen
     }
 
     /// The fault by which it ended, if it did.
@@ -346,6 +363,7 @@ impl<A: Allocator + Copy, S: ByteSource> ByteSource for CaptureSource<A, S> {
             &self.ways,
             &mut self.source,
             &mut self.standing,
+            &mut self.seen,
             buf,
         ) {
             Ok(n) => {

@@ -1,4 +1,4 @@
--- What `import` tells where nothing was recorded (own).
+-- What `import` and `receive` tell where nothing came of a flow (own).
 use Rattle.std.specs.Prelude.{◌≡◌, ◌⊎◌, ℕ, List, [], ◌++◌, Bool, true, false, codes}
 use Rattle.inspect_engine.specs.Told.{IsInspectRefusal, Tells}
 use Rattle.run_outcome.specs.declared.refusal.Refusal.{Refusal}

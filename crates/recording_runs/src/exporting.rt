@@ -12,7 +12,7 @@ ghost use Rattle.run_outcome.specs.declared.refusal.Refusal.TheVariants.{OutputI
 ghost use Rattle.run_outcome.specs.declared.refusal.Writer.TheVariants.{Export};
 
 use crate::importing::octets;
-use command_end::{Command, Devices, Ran, find_output};
+use command_end::{Command, Devices, Hints, Ran, find_output};
 use command_line::ExportWords;
 use devices::{FileOutput, FileSource, OutputSink, Rest, Stream};
 use export_engine::{Exporting, check_flows};
@@ -132,6 +132,7 @@ impl<'a> Command for ExportCommand<'a> {
             written: Some(self.out.writing()),
             output: self.output.writing(),
             kept: None,
+            hints: Hints::none(),
         }
     }
 }

@@ -15,7 +15,7 @@ ghost use Rattle.run_outcome.specs.Text.{GivesText};
 ghost use Rattle.run_outcome.specs.declared.refusal.Refusal.TheVariants.{OutputIsInput};
 ghost use Rattle.run_outcome.specs.declared.refusal.Writer.TheVariants.{Import};
 
-use command_end::{Command, Devices, Ran, find_output};
+use command_end::{Command, Devices, Hints, Ran, find_output};
 use command_line::ImportWords;
 use devices::{FileOutput, FileSource, OutputSink, Rest, Stream, any_is, given_files, last_begun};
 use recording_engines::{ImportCounts, Importing};
@@ -179,6 +179,7 @@ impl<'a> Command for ImportCommand<'a> {
             written: Some(self.out.writing()),
             output: self.output.writing(),
             kept: None,
+            hints: Hints::none(),
         }
     }
 }

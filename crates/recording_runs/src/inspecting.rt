@@ -7,7 +7,7 @@ ghost use Rattle.inspect_engine.specs.Told.{IsInspectRefusal, Tells};
 ghost use Rattle.run_outcome.specs.Fault.{Accounts, counts};
 ghost use Rattle.run_outcome.specs.Moments.{WasRead};
 
-use command_end::{Command, Devices, Ran};
+use command_end::{Command, Devices, Hints, Ran};
 use devices::{FileSource, OutputSink, given_files, last_begun};
 use std::alloc::AllocError;
 use std::io::Stdout;
@@ -71,6 +71,7 @@ impl<'a> Command for InspectCommand<'a> {
             written: None,
             output: self.output.writing(),
             kept: None,
+            hints: Hints::none(),
         }
     }
 }

@@ -1,4 +1,4 @@
-//! What `import` tells where nothing was recorded.
+//! What `import` and `receive` tell where nothing came of a flow.
 ghost use Rattle.std.specs.Prelude.{◌≡◌, ◌∷◌, ◌++◌, [], All, IfErr, IfOk, OnOk, sum_by};
 ghost use Rattle.std.specs.List.{zip};
 ghost use Rattle.devices.specs.Passed.{file_ended, file_failures, file_gave};
@@ -9,12 +9,11 @@ ghost use Rattle.run_outcome.specs.Moments.{WasRead};
 ghost use Rattle.run_outcome.specs.Refusing.{OfRefusal};
 ghost use Rattle.st_format.specs.Device.{CountsFaults};
 
-use command_end::{Command, Devices, Ran};
-use devices::{FileSource, OutputSink, last_begun};
+use command_end::{Command, Devices, Hints, Ran};
+use devices::{FileSource, OutputSink, Stream, last_begun};
 use run_outcome::Fault;
 use st_format::{DeviceFault, write_whole};
 use std::alloc::AllocError;
-use std::io::Stdout;
 
 /// Tells which flows recordings have, which are read once more. Standard input can't be, and this
 /// is said.
@@ -25,16 +24,16 @@ pub struct FlowsCommand<'a> {
     pub recordings: Vec<FileSource<'a>>,
     /// Whether standard input was among them.
     pub has_input: bool,
-    pub output: OutputSink<Stdout>,
+    pub output: OutputSink<Stream>,
 }
 
-/// What is said of standard input where nothing was recorded.
+/// What is said of standard input.
 const READ_ONCE: &[u8] = b"standard input is read once; inspect tells its flows\n";
 
 impl<'a> FlowsCommand<'a> {
-    /// The command for files of these names, of which nothing is done yet, or that there is no
-    /// memory for their list.
-    pub fn new(rt: &'a HostRuntime, names: &[&'a str]) -> Result<Self, AllocError>
+    /// The command for files of these names, which tells a stream, of which nothing is done yet, or
+    /// that there is no memory for their list.
+    pub fn new(rt: &'a HostRuntime, names: &[&'a str], stream: Stream) -> Result<Self, AllocError>
         ensures { IfOk result ⟦<FlowsCommand<'a> as Command>⟧.is_new }
     {
         let recordings = named_but_input(rt, names)?;
@@ -42,7 +41,7 @@ impl<'a> FlowsCommand<'a> {
             rt,
             has_input: recordings.len() < names.len(),
             recordings,
-            output: OutputSink::new(rt.stdout()),
+            output: OutputSink::new(stream),
         })
     }
 
@@ -88,7 +87,7 @@ fn named_but_input<'a>(
 }
 
 /// Says what is said of standard input, where it was among the recordings.
-fn say_once(has_input: bool, output: &mut OutputSink<Stdout>) -> Result<(), DeviceFault>
+fn say_once(has_input: bool, output: &mut OutputSink<Stream>) -> Result<(), DeviceFault>
     ensures said { OnOk result
         (output_took output.new ≡ output_took output.old ++ notice_if has_input) }
     ensures counted { CountsFaults (output_failures output.old) (output_failures output.new)
@@ -132,6 +131,7 @@ impl<'a> Command for FlowsCommand<'a> {
             written: None,
             output: self.output.writing(),
             kept: None,
+            hints: Hints::none(),
         }
     }
 }

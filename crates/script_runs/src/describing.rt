@@ -7,7 +7,7 @@ ghost use Rattle.script_engines.specs.Described.{Describes, IsUndescribed};
 ghost use Rattle.script_engines.specs.Reading.{DoesScript, IsRefusedFor};
 
 use crate::streams::Streams;
-use command_end::{Command, Devices, Ran};
+use command_end::{Command, Devices, Hints, Ran};
 
 /// Tells the canonical line of the SDP on standard input.
 #[derive(Drop)]
@@ -65,6 +65,7 @@ impl<'a> Command for SdpCommand<'a> {
             written: None,
             output: self.streams.output.writing(),
             kept: self.streams.input.kept(),
+            hints: Hints::none(),
         }
     }
 }

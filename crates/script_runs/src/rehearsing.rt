@@ -8,7 +8,7 @@ ghost use Rattle.script_engines.specs.Reading.{DoesScript, IsRefusedFor};
 ghost use Rattle.script_engines.specs.Rehearsed.{IsRefusedScript, Rehearses};
 
 use crate::streams::Streams;
-use command_end::{Command, Devices, Ran};
+use command_end::{Command, Devices, Hints, Ran};
 
 /// Plays the schedule on standard input.
 #[derive(Drop)]
@@ -66,6 +66,7 @@ impl<'a> Command for RehearseCommand<'a> {
             written: None,
             output: self.streams.output.writing(),
             kept: self.streams.input.kept(),
+            hints: Hints::none(),
         }
     }
 }

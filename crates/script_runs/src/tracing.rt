@@ -7,7 +7,7 @@ ghost use Rattle.script_engines.specs.Reading.{DoesScript, IsRefusedFor};
 ghost use Rattle.script_engines.specs.Traced.{IsUntraced, Traces};
 
 use crate::streams::Streams;
-use command_end::{Command, Devices, Ran};
+use command_end::{Command, Devices, Hints, Ran};
 
 /// Runs the script on standard input.
 #[derive(Drop)]
@@ -65,6 +65,7 @@ impl<'a> Command for TraceCommand<'a> {
             written: None,
             output: self.streams.output.writing(),
             kept: self.streams.input.kept(),
+            hints: Hints::none(),
         }
     }
 }

@@ -2,6 +2,7 @@
 use crate::run_made;
 use command_end::{Command, end_without_memory, run_command};
 use command_line::ImportWords;
+use devices::Stream;
 use left_out_counts::LeftOut;
 use recording_engines::ImportCounts;
 use recording_runs::{FlowsCommand, ImportCommand};
@@ -16,14 +17,15 @@ pub fn import(rt: &HostRuntime, words: &ImportWords<'_>, explains: bool, is_verb
     match counts {
         Some(counts) if status == 0 && counts.a == 0 && counts.b == 0 => {
             let names = words.recordings.as_slice();
-            run_made(rt, explains, FlowsCommand::new(rt, names))
+            let stream = Stream::Output(rt.stdout());
+            run_made(rt, explains, FlowsCommand::new(rt, names, stream))
         }
         _ => status,
     }
 }
 
 /// Runs the command, and answers the exit status, and what was recorded if all was. Why packets
-/// were left out is told where that is asked for.
+/// were left out is told where that is asked for, and where nothing was recorded.
 fn record<'a>(
     rt: &HostRuntime,
     command: ImportCommand<'a>,
@@ -34,7 +36,7 @@ fn record<'a>(
 {
     let ended = run_command(rt, explains, command);
     if let Some(counts) = &ended.command.counts {
-        if is_verbose {
+        if is_verbose || counts.a == 0 && counts.b == 0 {
             tell_left_out(rt, &counts.left_out);
         }
     }

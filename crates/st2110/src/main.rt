@@ -4,12 +4,14 @@
 ghost use Rattle.std.specs.Result.{ForOk};
 
 mod importing;
+mod receiving;
 
-use capture_runs::{LoopCommand, MigrateCommand, ReceiveCommand, SendCommand};
+use capture_runs::{LoopCommand, MigrateCommand, SendCommand};
 use command_end::{Command, end_without_memory, run_command};
 use command_line::{Given, Words, WordsFault, given_words, read_words};
 use importing::import;
 use receiver_runs::{MergeCommand, ProcessCommand, ReportCommand};
+use receiving::receive;
 use recording_runs::{ExportCommand, InspectCommand};
 use run_outcome::Status;
 use script_runs::{RehearseCommand, SdpCommand, TraceCommand};
@@ -54,9 +56,7 @@ fn follow(rt: &HostRuntime, given: &Given<'_>) -> u8 {
             run_command(rt, explains, MigrateCommand::new(rt, words)).status
         }
         Words::Send(words) => run_made(rt, explains, SendCommand::new(rt, words)),
-        Words::Receive(words) => {
-            run_command(rt, explains, ReceiveCommand::new(rt, words)).status
-        }
+        Words::Receive(words) => receive(rt, words, explains),
         Words::Merge(words) => run_command(rt, explains, MergeCommand::new(rt, words)).status,
         Words::Process(words) => run_made(rt, explains, ProcessCommand::new(rt, words)),
         Words::Report(state) => run_command(rt, explains, ReportCommand::new(rt, state)).status,

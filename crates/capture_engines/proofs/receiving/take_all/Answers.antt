@@ -4,6 +4,7 @@ use Rattle.std.specs.List.{zip}
 use Rattle.run_outcome.specs.Moments.{WasRead}
 use Rattle.capture_engines.proofs.InOrder.{all_taken, more_taken, none_taken, pairs_left}
 use Rattle.capture_engines.proofs.ReceivedRefusals.{next_refuses, none_started}
+use Rattle.capture_engines.proofs.Rescues.{taken_up_to}
 use Rattle.run_outcome.proofs.Refusals.{of_refusal_map}
 use Rattle.capture_engines.proofs.receiving.take_all.Goals as goal
 
@@ -57,3 +58,12 @@ returns-clause-taken g c =
     all_taken c.args.opening.now (WasRead g.S.ByteSource.gave g.S.ByteSource.ended)
     c.args.captures.now l.captures l.place c.args.begun.now l.begun l.invariant.taken
     (omega (arith, l.invariant.len)) l.invariant.len
+
+pub returns-in_err-take_at-clause-sound : goal.returns-in_err-take_at-clause-sound
+returns-in_err-take_at-clause-sound g c =
+    let l = c.loop-place in
+    let at = c.take_at.ensures in
+    let p = err_from_is_err_and c.from_residual.result c.from_residual.ensures.1 in
+    rw (p.1) (taken_up_to c.args.opening.now g.S.ByteSource.gave g.S.ByteSource.ended
+    c.args.captures.now l.captures c.take_at.new.captures l.place c.args.begun.now l.begun
+    c.take_at.new.begun l.invariant.taken at.front l.invariant.behind at.sound)

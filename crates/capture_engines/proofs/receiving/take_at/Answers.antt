@@ -3,6 +3,7 @@ use Rattle.run_outcome.proofs.Printed.{on_ok}
 use Rattle.run_outcome.proofs.Refusals.{if_err_map, of_refusal_map}
 use Rattle.run_outcome.proofs.SetSums.{set_counted}
 use Rattle.capture_engines.specs.Received.{IsTakeRefusal}
+use Rattle.capture_engines.specs.Rescued.{TakesPart}
 use Rattle.capture_engines.specs.Taking.{TakesFile}
 use Rattle.capture_engines.proofs.OneOf.{first_at}
 use Rattle.capture_engines.proofs.receiving.take_at.Goals as goal
@@ -33,3 +34,9 @@ returns-clause-failures g c =
     set_counted g.S.ByteSource.failures c.args.captures.now c.args.place
     c.index-captures-place.result c.take_one.new.capture c.take_one.result c.requires.place
     c.take_one.ensures.failures
+
+pub returns-clause-sound : goal.returns-clause-sound
+returns-clause-sound g c =
+    first_at (TakesPart c.args.opening.now g.S.ByteSource.gave c.args.begun.now c.take_one.new.begun)
+    c.args.captures.now c.args.place c.index-captures-place.result c.take_one.new.capture
+    c.requires.place c.take_one.ensures.sound

@@ -1,6 +1,8 @@
 use Rattle.std.proofs.lemmas.Result.{err_from_is_err_and}
 use Rattle.capture_engines.proofs.ReceivedRefusals.{records_refused, text_refused}
 use Rattle.run_outcome.proofs.Refusals.{if_err_map, of_refusal_map}
+use Rattle.std.proofs.Common.{inl}
+use Rattle.capture_engines.proofs.Rescues.{file_part, first_part}
 use Rattle.capture_engines.proofs.Taken.{file_taken_if, first_taken_if, none_begun}
 use Rattle.st_format.proofs.Histories.{grew_none}
 use Rattle.capture_engines.proofs.receiving.take_opened.Goals as goal
@@ -45,3 +47,14 @@ returns-clause-refusal g c =
 
 pub returns-in_err-intake-clause-grown : goal.returns-in_err-intake-clause-grown
 returns-in_err-intake-clause-grown g c = grew_none (g.S.ByteSource.gave c.args.reader.now.source)
+
+pub returns-in-Some-clause-sound : goal.returns-in-Some-clause-sound
+returns-in-Some-clause-sound g c =
+    inl (file_part c.args.opening.now c.args.begun.now _ _ _ c.args.text.now c.in-Some.is
+    c.take_capture.ensures.sound)
+
+pub returns-clause-sound : goal.returns-clause-sound
+returns-clause-sound g c =
+    inl (first_part c.args.opening.now c.args.begun.now _ _ _ c.args.text.now
+    (none_begun c.args.begun.now c.in_default.not-Some) c.in_ok-intake.ensures.opened
+    c.take_capture-taken.ensures.sound)

@@ -4,6 +4,7 @@ use Rattle.st_format.specs.History.{since}
 use Rattle.st_format.specs.Turns.{came_of}
 use Rattle.media_file.specs.Reader.{dues_in, turns_of}
 use Rattle.capture_engines.proofs.CaptureRuns.{delivered_held, heard_came, reader_came, reader_grew}
+use Rattle.capture_engines.proofs.CaptureRuns.{sound_taken}
 use Rattle.capture_engines.proofs.intake.Intake.take_capture.Goals as goal
 
 pub returns : goal.returns
@@ -43,6 +44,9 @@ returns g c =
       room = ran.ensures.room;
       taken = came_taken c.args.self.now run.new.self run.result tt told left gave over failures
           came;
+      sound = sound_taken c.args.self.now run.new.self ran.new.receiver _ ran.new.observer
+          reader.before now.before told gave c.requires.before ran.ensures.before
+          run.ensures.receiver run.ensures.tally heard run.ensures.delivered;
       holds = delivered_held c.args.self.now run.new.self ran.new.receiver _ c.args.self.now.tally
           ran.new.observer reader.before now.before told gave c.requires.before ran.ensures.before
           run.ensures.receiver heard;

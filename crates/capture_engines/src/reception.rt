@@ -1,0 +1,11 @@
+//! What a receiver was given.
+use crate::tally::Tally;
+
+/// What a receiver was given.
+#[derive(Drop)]
+pub struct Reception {
+    /// How many datagrams were delivered.
+    pub delivered: u64,
+    /// What it answered to them.
+    pub tally: Tally,
+}

@@ -1,0 +1,252 @@
+//! Captures that are taken into one receiver, all or up to a fault.
+ghost use Rattle.std.specs.Prelude.{◌≡◌, ◌≢◌, ◌⊎◌, ◌∷◌, ◌++◌, [], ⊤, IfErr, IfOk, IsErr, MatchOption, MatchResult, None};
+ghost use Rattle.std.specs.Prelude.{OnErr, OnOk, Some, IsSome, length, sum_by};
+ghost use Rattle.std.specs.List.{zip};
+ghost use Rattle.capture_engines.specs.Counted.{CountsReceived};
+ghost use Rattle.capture_engines.specs.Received.{IsCapturesRefusal, IsReceiveRefusal};
+ghost use Rattle.capture_engines.specs.Rescued.{IsRescue, RescueAccounts, Rescues};
+ghost use Rattle.capture_engines.specs.Taking.{Receives};
+ghost use Rattle.media_file.specs.StateFile.{state_text};
+ghost use Rattle.receiver_file.specs.Saved.{kept_of};
+ghost use Rattle.run_outcome.specs.Fault.{Accounts, Blames, Failures, IfRefused, counts};
+ghost use Rattle.run_outcome.specs.Fault.{failures_in};
+ghost use Rattle.run_outcome.specs.declared.fault.Fault.TheVariants.{Device};
+ghost use Rattle.capture_engines.specs.Printed.{received_text, tally_text};
+ghost use Rattle.run_outcome.specs.Moments.{WasRead, pair};
+ghost use Rattle.run_outcome.specs.Refusing.{OfRefusal};
+
+use crate::intake::Intake;
+use crate::printing::print_tally;
+use crate::receiving::{Asked, Wanted, begin, read_opening, take_all};
+use crate::reception::Reception;
+use crate::tally::Tally;
+use path_merge::Receiver;
+use receiver_file::save_receiver;
+use run_outcome::{Fault, Line, Refusal, of_state, print, print_frames, room};
+use st_format::{ByteSink, ByteSource};
+use std::alloc::Allocator;
+
+/// What was taken of captures.
+#[derive(Drop)]
+pub(crate) enum Rescue<A: Allocator> {
+    /// All.
+    Whole(Intake<A>),
+    /// What was read up to a fault.
+    Part(Intake<A>, Fault),
+}
+
+/// Takes the datagrams of captures into one receiver, as [`crate::receive`] does. Where `is_sound`,
+/// what came before a capture's fault is printed and saved too, and no capture behind that one is
+/// read.
+///
+/// What a receiver was given is answered by `reception` once the receiver is written: where the run
+/// ends well, or where `is_sound` and a capture's fault alone ends it.
+///
+/// # Errors
+///
+/// As those of [`crate::receive`]; where `is_sound`, a capture's fault comes behind what is printed
+/// and saved.
+pub fn receive_files<A, S, K, O>(
+    alloc: A,
+    wanted: Wanted<'_>,
+    is_sound: bool,
+    sdp: &mut Option<S>,
+    captures: &mut [S],
+    state: &mut K,
+    output: &mut O,
+    reception: &mut Option<Reception>,
+) -> Result<(), Fault>
+where
+    A: Allocator + Copy,
+    S: ByteSource,
+    K: ByteSink,
+    O: ByteSink,
+    requires { reception.old ≡ None }
+    ensures saved { OnOk result (SavesShown wanted.entry.tells_refusals
+        (O.took output.old) (O.took output.new) (K.took state.old) (K.took state.new)) }
+    ensures len { length captures.new ≡ length captures.old }
+    ensures taken { OnOk result (Receives wanted.entry.window.now wanted.entry.ssrc.now
+        (pair sdp.old sdp.new) (WasRead S.gave S.ended) (zip captures.old captures.new)
+        wanted.entry.tells_refusals
+        (O.took output.old) (O.took output.new) (K.took state.old) (K.took state.new)) }
+    ensures counted { OnOk result (MatchOption reception.new ⊥
+        (CountsReceived wanted.entry.window.now wanted.entry.ssrc.now
+        (pair sdp.old sdp.new) (WasRead S.gave S.ended) (zip captures.old captures.new))) }
+    // Where it ends by a fault behind what it saved, that is what was read before the fault.
+    ensures rescued { OnErr result (MatchOption reception.new ⊤ (λ r. IsTrue is_sound
+        × Rescues wanted.entry.window.now wanted.entry.ssrc.now
+        (pair sdp.old sdp.new) S.gave S.ended (zip captures.old captures.new)
+        wanted.entry.tells_refusals
+        (O.took output.old) (O.took output.new) (K.took state.old) (K.took state.new) r)) }
+    ensures refused { IfErr result (λ f. IfRefused f (IsFalse is_sound
+        → state.new ≡ state.old)) }
+    ensures refusal { IfErr result (λ f. OfRefusal f (IsReceiveRefusal wanted.entry.window.now
+        wanted.entry.ssrc.now (pair sdp.old sdp.new) (WasRead S.gave S.ended)
+        (zip captures.old captures.new))) }
+    ensures failures { Accounts result (counts (failures_in S.failures sdp.old)
+        (failures_in S.failures sdp.new) ∷ counts (sum_by S.failures captures.old)
+        (sum_by S.failures captures.new)
+        ∷ counts (K.failures state.old) (K.failures state.new)
+        ∷ counts (O.failures output.old) (O.failures output.new) ∷ []) }
+{
+    let opening = read_opening(alloc, wanted)?;
+    let begun = begin(alloc, &opening, sdp)?;
+    let tells = wanted.tells_refusals;
+    match rescue_captures(alloc, &opening, begun, captures)? {
+        Rescue::Whole(intake) => put_out(intake, tells, state, output, reception),
+        Rescue::Part(intake, fault) if is_sound => {
+            put_part(intake, fault, tells, state, output, reception)
+        }
+        Rescue::Part(_, fault) => Err(fault),
+    }
+}
+
+/// Prints what a receiver was given and has, and writes its file.
+fn put_out<A: Allocator, K: ByteSink, O: ByteSink>(
+    intake: Intake<A>,
+    tells_refusals: bool,
+    state: &mut K,
+    output: &mut O,
+    reception: &mut Option<Reception>,
+) -> Result<(), Fault>
+    ensures printed { OnOk result (O.took output.new ≡ O.took output.old
+        ++ received_text tells_refusals intake.delivered (tally_text intake.tally)
+        intake.receiver) }
+    ensures whole { OnOk result
+        (K.took state.new ≡ K.took state.old ++ state_text (kept_of intake.receiver)) }
+    ensures writable { OnOk result (IsWritable intake.receiver) }
+    ensures counted { OnOk result (reception.new
+        ≡ Some (record { delivered = intake.delivered; tally = intake.tally })) }
+    ensures none { OnErr result (reception.new ≡ reception.old) }
+    ensures refused { IfErr result (λ f. IfRefused f (state.new ≡ state.old)) }
+    ensures unrefused { IfErr result (λ f. IfRefused f ⊥) }
+    ensures failures { Accounts result (counts (K.failures state.old) (K.failures state.new)
+        ∷ counts (O.failures output.old) (O.failures output.new) ∷ []) }
+{
+    print_intake(&intake, tells_refusals, output)?;
+    save(&intake.receiver, state)?;
+    *reception = Some(Reception {
+        delivered: intake.delivered,
+        tally: intake.tally,
+    });
+    Ok(())
+}
+
+/// Prints what a receiver was given up to a fault, and has, writes its file, and ends by the fault;
+/// where a device fails then, by that.
+fn put_part<A: Allocator, K: ByteSink, O: ByteSink>(
+    intake: Intake<A>,
+    fault: Fault,
+    tells_refusals: bool,
+    state: &mut K,
+    output: &mut O,
+    reception: &mut Option<Reception>,
+) -> Result<(), Fault>
+    requires { reception.old ≡ None }
+    ensures fault { IsErr result }
+    ensures printed { MatchOption reception.new ⊤ (λ _. O.took output.new ≡ O.took output.old
+        ++ received_text tells_refusals intake.delivered (tally_text intake.tally)
+        intake.receiver) }
+    ensures whole { MatchOption reception.new ⊤
+        (λ _. K.took state.new ≡ K.took state.old ++ state_text (kept_of intake.receiver)) }
+    ensures counted { MatchOption reception.new ⊤
+        (λ r. r ≡ record { delivered = intake.delivered; tally = intake.tally }) }
+    ensures refused { IfErr result (λ f. IfRefused f (f ≡ fault)) }
+    ensures failures { (captures : Failures) → Blames (captures ∷ []) fault
+        → Accounts result (captures ∷ counts (K.failures state.old) (K.failures state.new)
+        ∷ counts (O.failures output.old) (O.failures output.new) ∷ []) }
+{
+    match put_out(intake, tells_refusals, state, output, reception) {
+        Ok(()) => Err(fault),
+        Err(more) => Err(worse(fault, more)),
+    }
+}
+
+/// The fault of two by which a run ends: a device's, else the second.
+fn worse(fault: Fault, more: Fault) -> Fault
+    ensures { ((fault ≡ Device) × (result ≡ Device)) ⊎ ((fault ≢ Device) × (result ≡ more)) }
+{
+    match fault {
+        Fault::Device => fault,
+        _ => more,
+    }
+}
+
+/// Takes the datagrams of each capture, one capture after the other, up to a fault.
+fn rescue_captures<A: Allocator + Copy, S: ByteSource>(
+    alloc: A,
+    opening: &Asked<A>,
+    mut begun: Option<Intake<A>>,
+    captures: &mut [S],
+) -> Result<Rescue<A>, Fault>
+    ensures len { length captures.new ≡ length captures.old }
+    ensures taken { IfOk result (IsRescue opening.now S.gave S.ended
+        (zip captures.old captures.new) begun) }
+    ensures refusal { IfErr result (λ f. OfRefusal f (IsCapturesRefusal opening.now.window.items
+        begun (WasRead S.gave S.ended) (zip captures.old captures.new))) }
+    ensures failures { MatchResult result
+        (λ r. RescueAccounts r (counts (sum_by S.failures captures.old)
+        (sum_by S.failures captures.new) ∷ []))
+        (Blames (counts (sum_by S.failures captures.old) (sum_by S.failures captures.new)
+        ∷ [])) }
+{
+    let mut buf = room(alloc)?;
+    let mut said = room(alloc)?;
+    match take_all(alloc, opening, &mut begun, captures, &mut said, &mut buf) {
+        Ok(()) => match begun {
+            Some(intake) => Ok(Rescue::Whole(intake)),
+            None => Err(Fault::Refused(Refusal::ReceiveNoSdp)),
+        },
+        Err(fault) => match begun {
+            Some(intake) => Ok(Rescue::Part(intake, fault)),
+            None => Err(fault),
+        },
+    }
+}
+
+/// Writes a receiver's file.
+fn save<A: Allocator, K: ByteSink>(receiver: &Receiver<A>, state: &mut K) -> Result<(), Fault>
+    ensures whole { OnOk result
+        (K.took state.new ≡ K.took state.old ++ state_text (kept_of receiver.now)) }
+    ensures writable { IsWritable receiver.now }
+    ensures refused { IfErr result (λ f. IfRefused f (state.new ≡ state.old)) }
+    ensures unrefused { IfErr result (λ f. IfRefused f ⊥) }
+    ensures failures { Accounts result (counts (K.failures state.old) (K.failures state.new) ∷ []) }
+{
+    match save_receiver(state, receiver) {
+        Ok(()) => Ok(()),
+        Err(fault) => Err(of_state(fault)),
+    }
+}
+
+/// Prints what was delivered, and what is then known.
+fn print_intake<A: Allocator, O: ByteSink>(
+    intake: &Intake<A>,
+    tells_refusals: bool,
+    output: &mut O,
+) -> Result<(), Fault>
+    ensures printed { OnOk result (O.took output.new ≡ O.took output.old
+        ++ received_text tells_refusals intake.now.delivered (tally_text intake.now.tally)
+        intake.now.receiver) }
+    ensures unrefused { IfErr result (λ f. IfRefused f ⊥) }
+    ensures failures { Accounts result (counts (O.failures output.old) (O.failures output.new)
+        ∷ []) }
+{
+    print(Line::Delivered(intake.delivered), output)?;
+    print_wanted(&intake.tally, tells_refusals, output)?;
+    print_frames(&intake.receiver, output)
+}
+
+/// Prints what a tally counts, where that is wanted.
+fn print_wanted<O: ByteSink>(tally: &Tally, is_wanted: bool, output: &mut O) -> Result<(), Fault>
+    ensures printed { OnOk result
+        (O.took output.new ≡ O.took output.old ++ if_wanted is_wanted (tally_text tally.now)) }
+    ensures unrefused { IfErr result (λ f. IfRefused f ⊥) }
+    ensures failures { Accounts result (counts (O.failures output.old) (O.failures output.new)
+        ∷ []) }
+{
+    if !is_wanted {
+        return Ok(());
+    }
+    print_tally(tally, output)
+}
