@@ -122,6 +122,12 @@ stops() {
     says "$2" 1 '' "st2110: $4"
 }
 
+# untold: takes what is told of lost datagrams out of the last run's faults.
+untold() {
+    sed '/^  kept [0-9]* of [0-9]* datagrams/d' err >err.rest
+    mv err.rest err
+}
+
 # COMMAND NAME, and a table on standard input, of which each row is a test: a script, and before it what it comes to.
 # Rows of `prints` are OUTPUT|SCRIPT, of `refuses` FAULT|OUTPUT|SCRIPT, of `at_fault` LINE|SCRIPT.
 prints() {
@@ -174,7 +180,7 @@ octets "$old_head $d1" >old.cap
 
 # The parts, in the order in which they are run: later ones use files and words of earlier ones.
 parts='text examples forms windows rehearsals descriptions limits migrate receive tallies send kinds
-    merge process report loop recordings words devices outputs verbose faults
+    merge process report loop recordings words lost devices outputs verbose faults
     launcher install'
 for part in ${2:-$parts}; do
     counted=$((passed + failed))

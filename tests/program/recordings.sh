@@ -97,6 +97,7 @@ gives() {
     [ -n "$files" ] || return 0
     # shellcheck disable=SC2086
     run receive --sdp "$recordings/$sdp.sdp" $options --window "$2" --state direct.rcv --refusals $files
+    untold
     says "received without import: $1" 0 "$3" ''
     alike "received without import: $1: the receiver" direct.rcv recorded.rcv
 }
@@ -428,19 +429,19 @@ run inspect "$recordings/two-cards.pcapng"
 cp out flows.said
 run import --sdp "$recordings/two-cards.sdp" --a 239.1.1.1:5006 --out none.cap "$recordings/two-cards.pcapng"
 says 'import: nothing is recorded' 0 "recorded A 0 B 0 left out 16
-$(cat flows.said)" ''
+$(cat flows.said)" '  left out 16 of another flow'
 read_once='standard input is read once; inspect tells its flows'
 "$program" import --sdp "$recordings/two-cards.sdp" --a 239.1.1.1:5006 --out none.cap - \
     <"$recordings/two-cards.pcapng" >out 2>err
 status=$?
 says 'import: nothing is recorded of standard input' 0 "recorded A 0 B 0 left out 16
-$read_once" ''
+$read_once" '  left out 16 of another flow'
 "$program" import --sdp "$recordings/two-cards.sdp" --a 239.1.1.1:5006 --out none.cap - \
     "$recordings/two-cards.pcapng" <"$recordings/loopback.pcap" >out 2>err
 status=$?
 says 'import: nothing is recorded of standard input and a file' 0 "recorded A 0 B 0 left out 22
 $read_once
-$(cat flows.said)" ''
+$(cat flows.said)" '  left out 22 of another flow'
 
 # import of standard input, words that are refused, and an SDP that is.
 "$program" import --sdp "$recordings/two-cards.sdp" --out piped.cap - <"$recordings/two-cards.pcapng" >out 2>err

@@ -21,9 +21,13 @@ while IFS='|' read -r line datagram; do
         copies "${line##* }" "$datagram"
     } >tally.cap
     run receive --state tally.rcv --sdp q.sdp --window 900 --ssrc 1 --refusals tally.cap
+    case $line in
+        outside*) told="outside the window ${line##* }" ;;
+        *) told="refused ${line##* } ($(echo "$line" | cut -d ' ' -f 4,3 | awk '{ print $2, $1 }'))" ;;
+    esac
     says "tally: $line alone" 0 "delivered ${line##* }
 $line
-$blank" ''
+$blank" "  kept 0 of ${line##* } datagrams; $told"
 done <<END
 refused 1 ShortHeader 1001|
 refused 2 BadVersion 1002|40E00001 $head 0008 0000 0000 $u
@@ -68,5 +72,5 @@ refused 2 BadVersion 70
 refused 12 RowOutside 300
 refused 14 ShortData 1060
 outside 2
-$frame" ''
+$frame" '  kept 1 of 1436 datagrams; outside the window 2; refused 1433 (1060 ShortData, 300 RowOutside, 70 BadVersion)'
 rm -f tally.cap other.cap copies.rec

@@ -193,9 +193,12 @@ receive --state v.rcv --window - old.cap|1|receive 1 BadWindowText|--window; wan
 receive --state v.rcv --window 9 --ssrc x old.cap|1|receive 2 BadSource|--ssrc; wanted a number or any
 receive --state v.rcv --window 9 old.cap|1|receive 4 NoSdp|old.cap, octet 8; wanted an SDP in the capture, or --sdp
 receive --state v.rcv --window 9,9 --sdp q.sdp old.cap|1|open 3 DoubleTimestamp|--window; wanted each timestamp once
-receive --state v.rcv --window 9 --sdp q.sdp old.cap cut.cap old.cap|1|capture 5 Truncated|cut.cap, octet 40; wanted more octets: the file ends before it is whole
-receive --state v.rcv --window 9 --sdp q.sdp old.cap path.cap|1|capture 6 BadField|path.cap, octet 19; wanted a path of 0 or 1
-receive --state v.rcv --window 9 --sdp q.sdp name.cap|1|capture 3 BadName|name.cap, octet 8; wanted a capture, which begins S20CAP
+receive --state v.rcv --window 9 --sdp q.sdp old.cap cut.cap old.cap|1|capture 5 Truncated|cut.cap, octet 40; wanted more octets: the file ends before it is whole; --sound saves what came before that
+receive --state v.rcv --window 9 --sdp q.sdp old.cap path.cap|1|capture 6 BadField|path.cap, octet 19; wanted a path of 0 or 1; --sound saves what came before that
+receive --state v.rcv --window 9 --sdp q.sdp name.cap|1|capture 3 BadName|name.cap, octet 8; wanted a capture, which begins S20CAP, or a recording, which begins as pcap or pcapng
+receive --state v.rcv --window 9 --sdp q.sdp empty|1|capture 5 Truncated|empty, octet 0; wanted a capture, which begins S20CAP, or a recording, which begins as pcap or pcapng; the file is empty
+merge --state v.rcv empty g.rcv|1|state 5 Truncated|empty, octet 0; wanted a receiver, which begins S20RCV; the file is empty
+send --out v.cap empty|1|picture 5 Truncated|empty, octet 0; wanted a picture, which begins S20PIC; the file is empty
 receive --state v.rcv --window 9 --sdp q.sdp old.cap no-such-file|3|device|no-such-file, octet 0; wanted to read there: No such file or directory (os error 2)
 merge --state v.rcv g.rcv other.rcv|1|merge 1 OpenedUnlike|other.rcv, octet 45; wanted a receiver that was opened as the left one
 merge --state v.rcv cut.rcv g.rcv|1|state 5 Truncated|cut.rcv, octet 38; wanted more octets: the file ends before it is whole
@@ -270,7 +273,16 @@ adds "a host's name" 1 '' 'flows 4 BadConnection' \
 cp "$recorded/loopback.pcap.gz" packed.pcap.gz
 run import -v --sdp q.sdp --out v.cap packed.pcap.gz
 adds 'a packed recording' 1 '' 'recording 10 Packed' \
-    "packed.pcap.gz, octet 4; wanted a recording that gzip hasn't packed; zcat unpacks it"
+    'packed.pcap.gz, octet 4; wanted a recording, which begins as pcap or pcapng; gzip has packed the file, and zcat unpacks it'
+run receive -v --sdp q.sdp --window 9 --state v.rcv packed.pcap.gz
+adds 'a packed recording, received' 1 '' 'capture 3 BadName' \
+    'packed.pcap.gz, octet 8; wanted a capture, which begins S20CAP, or a recording, which begins as pcap or pcapng; gzip has packed the file, and zcat unpacks it'
+run report -v packed.pcap.gz
+adds 'a packed recording, reported' 1 '' 'state 3 BadName' \
+    'packed.pcap.gz, octet 8; wanted a receiver, which begins S20RCV; gzip has packed the file, and zcat unpacks it'
+run inspect -v empty
+adds 'an empty recording' 1 "$(cat out)" 'recording 2 Truncated' \
+    'empty, octet 0; wanted a recording, which begins as pcap or pcapng; the file is empty'
 run inspect -v q.sdp
 adds 'no recording' 1 '' 'recording 3 BadMagic' \
     'q.sdp, octet 4; wanted a recording, which begins as pcap or pcapng'

@@ -19,3 +19,12 @@ pub blamed_second : (f : Fault) (first second last : Failures) → first.after �
 blamed_second (Refused e) first second last one three is = (one, (is, three))
 blamed_second Memory first second last one three is = (one, (is, three))
 blamed_second Device first second last one three is = inr (inl is)
+
+-- all but the first
+pub accounts_front : {V : Type 0} (r : Result V Fault) (first second third last : Failures)
+    → first.after ≡ first.before → Accounts r (second ∷ third ∷ last ∷ [])
+    → Accounts r (first ∷ second ∷ third ∷ last ∷ [])
+accounts_front (Ok v) first second third last one is = (one, is)
+accounts_front (Err (Refused e)) first second third last one is = (one, is)
+accounts_front (Err Memory) first second third last one is = (one, is)
+accounts_front (Err Device) first second third last one is = inr is

@@ -3,15 +3,20 @@ use Rattle.std.proofs.Common.{◌≡◌, ℕ, zero, suc, ◌+◌, ◌⊎◌, inl
 use Rattle.std.proofs.Common.{None, Some, refl, sym, ap, subst, ◌∙◌, append-nil, append_assoc, drop}
 use Rattle.std.proofs.Common.{take, Bool, arith}
 use Rattle.std.specs.List.{flat_map, zip}
-use Rattle.std.specs.Prelude.{MatchOption, OnOk, Result, Ok, Err, ⊤}
+use Rattle.std.specs.Prelude.{IfErr, MatchOption, OnErr, OnOk, Result, Ok, Err, ⊤}
 use Rattle.st_format.specs.History.{GrewFrom, IsRead, since}
 use Rattle.media_file.specs.Fields.{GaveValue}
 use Rattle.media_file.specs.Fronts.{front_at}
 use Rattle.media_file.specs.StateFile.{state_text}
 use Rattle.receiver_file.specs.Saved.{kept_of}
+use Rattle.run_outcome.specs.Fault.{IfRefused}
 use Rattle.run_outcome.specs.Moments.{WasRead}
+use Rattle.run_outcome.specs.Refusing.{OfRefusal}
 use Rattle.run_outcome.specs.Sources.{IsSourceText}
 use Rattle.run_outcome.specs.Timestamps.{AreTimestamps}
+use Rattle.run_outcome.specs.declared.fault.Fault.{Fault}
+use Rattle.run_outcome.specs.declared.fault.Fault.TheVariants.{Refused, Device, Memory}
+use Rattle.run_outcome.specs.declared.refusal.Refusal.{Refusal}
 use Rattle.capture_engines.specs.Counted.{CountsHolding, CountsReceived}
 use Rattle.capture_engines.specs.Printed.{received_text, tally_text}
 use Rattle.capture_engines.specs.Received.{HasBehind}
@@ -45,6 +50,22 @@ pub counted_if : {V E X : Type 0} (r : Result V E) (o : Option X) (x : X) (Is : 
 counted_if {X = X} (Ok v) o x Is is same =
     subst (λ (y : Option X). MatchOption y ⊥ Is) (sym same) is
 counted_if (Err e) o x Is is same = tt
+
+pub rescued_if : {V E X : Type 0} (r : Result V E) (o : Option X) (P Q : Type 0) (x : X)
+    (Is : X → Type 0) → (P → Q → (y : X) → y ≡ x → Is y) → MatchOption o ⊤ (λ _. P)
+    → MatchOption o ⊤ (λ _. Q) → MatchOption o ⊤ (λ y. y ≡ x) → OnErr r (MatchOption o ⊤ Is)
+rescued_if (Ok v) o P Q x Is then p q is = tt
+rescued_if (Err e) None P Q x Is then p q is = tt
+rescued_if (Err e) (Some y) P Q x Is then p q is = then p q y is
+
+-- a fault that came behind others, where it is a refusal the first
+pub part_refused : {V : Type 0} (r : Result V Fault) (fault : Fault) (P : Refusal → Type 0)
+    → OfRefusal fault P → IfErr r (λ f. IfRefused f (f ≡ fault))
+    → IfErr r (λ f. OfRefusal f P)
+part_refused (Ok v) fault P of is = tt
+part_refused (Err (Refused x)) fault P of is = subst (λ (f : Fault). OfRefusal f P) (sym is) of
+part_refused (Err Device) fault P of is = tt
+part_refused (Err Memory) fault P of is = tt
 
 -- ---- one capture
 

@@ -1,19 +1,21 @@
 //! Captures that are taken into one receiver, all or up to a fault.
-ghost use Rattle.std.specs.Prelude.{◌≡◌, ◌≢◌, ◌⊎◌, ◌∷◌, ◌++◌, [], ⊤, IfErr, IfOk, IsErr, MatchOption, MatchResult, None};
-ghost use Rattle.std.specs.Prelude.{OnErr, OnOk, Some, IsSome, length, sum_by};
+ghost use Rattle.std.specs.Prelude.{◌≡◌, ◌≢◌, ◌⊎◌, ◌∷◌, ◌++◌, [], ⊤, IfErr, IfOk, IsErr, IsFalse};
+ghost use Rattle.std.specs.Prelude.{IsTrue, MatchOption, MatchResult, None, OnErr, OnOk, Some};
+ghost use Rattle.std.specs.Prelude.{length, sum_by};
 ghost use Rattle.std.specs.List.{zip};
 ghost use Rattle.capture_engines.specs.Counted.{CountsReceived};
+ghost use Rattle.capture_engines.specs.Printed.{if_wanted, received_text, tally_text};
 ghost use Rattle.capture_engines.specs.Received.{IsCapturesRefusal, IsReceiveRefusal};
+ghost use Rattle.capture_engines.specs.Receiving.{SavesShown};
 ghost use Rattle.capture_engines.specs.Rescued.{IsRescue, RescueAccounts, Rescues};
 ghost use Rattle.capture_engines.specs.Taking.{Receives};
 ghost use Rattle.media_file.specs.StateFile.{state_text};
-ghost use Rattle.receiver_file.specs.Saved.{kept_of};
+ghost use Rattle.receiver_file.specs.Saved.{IsWritable, kept_of};
 ghost use Rattle.run_outcome.specs.Fault.{Accounts, Blames, Failures, IfRefused, counts};
 ghost use Rattle.run_outcome.specs.Fault.{failures_in};
-ghost use Rattle.run_outcome.specs.declared.fault.Fault.TheVariants.{Device};
-ghost use Rattle.capture_engines.specs.Printed.{received_text, tally_text};
 ghost use Rattle.run_outcome.specs.Moments.{WasRead, pair};
 ghost use Rattle.run_outcome.specs.Refusing.{OfRefusal};
+ghost use Rattle.run_outcome.specs.declared.fault.Fault.TheVariants.{Device};
 
 use crate::intake::Intake;
 use crate::printing::print_tally;

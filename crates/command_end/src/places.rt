@@ -269,10 +269,21 @@ fn left_by<'a>(devices: &Devices<'a>) -> Option<&'a str> {
     devices.written?.left
 }
 
-/// What is said of what came before the fault of a capture or a recording.
+/// What is said of what came before the fault of a capture or a recording, where it is one.
 fn sound_of(fault: Fault, devices: &Devices<'_>) -> Option<&'static str> {
+    let octet = devices.read?.octet;
     match fault {
-        Fault::Refused(Refusal::Capture(_) | Refusal::Recording(_)) => devices.hints.sound,
+        Fault::Refused(refusal) if devices.hints.kinds(refusal, octet).is_none() => {
+            of_records(refusal, devices.hints.sound)
+        }
+        _ => None,
+    }
+}
+
+/// What is said where a capture's or a recording's fault is the refusal.
+fn of_records(refusal: Refusal, said: Option<&'static str>) -> Option<&'static str> {
+    match refusal {
+        Refusal::Capture(_) | Refusal::Recording(_) => said,
         _ => None,
     }
 }

@@ -1,17 +1,20 @@
 use Rattle.std.proofs.Common.{ap, inr, Option, refl}
 use Rattle.std.proofs.lemmas.Result.{err_from_is_err_and}
-use Rattle.run_outcome.specs.Moments.{WasRead, pair}
 use Rattle.std.specs.List.{zip}
-use Rattle.capture_engines.specs.Counted.{CountsReceived}
-use Rattle.capture_engines.proofs.Rescues.{counted_if, counts, on_ok_both, on_ok_each}
-use Rattle.capture_engines.proofs.ReceivedRefusals.{captures_refused}
+use Rattle.run_outcome.specs.Moments.{WasRead, pair}
 use Rattle.run_outcome.proofs.Refusals.{of_refusal_map}
+use Rattle.capture_engines.specs.Counted.{CountsReceived}
+use Rattle.capture_engines.specs.Received.{IsReceiveRefusal}
+use Rattle.capture_engines.proofs.Accounting.{accounts_front}
 use Rattle.capture_engines.proofs.InOrder.{receives}
+use Rattle.capture_engines.proofs.ReceivedRefusals.{captures_refused}
+use Rattle.capture_engines.proofs.Rescues.{counted_if, counts, on_ok_both, on_ok_each}
+use Rattle.capture_engines.proofs.Rescues.{part_refused, rescued_if, rescues}
 use Rattle.capture_engines.proofs.rescuing.receive_files.Goals as goal
 
-pub returns-clause-saved : goal.returns-clause-saved
-returns-clause-saved g c =
-    let intake = c.in_ok-intake.intake in
+pub returns-in-Whole-clause-saved : goal.returns-in-Whole-clause-saved
+returns-in-Whole-clause-saved g c =
+    let intake = c.in-Whole.intake in
     on_ok_each c.put_out.result _ _ _ _
     (λ writable printed taken. record {
       receiver = intake.receiver;
@@ -23,31 +26,88 @@ returns-clause-saved g c =
     })
     c.put_out.ensures.writable c.put_out.ensures.printed c.put_out.ensures.whole
 
-pub returns-clause-taken : goal.returns-clause-taken
-returns-clause-taken g c =
+pub returns-in-Whole-clause-taken : goal.returns-in-Whole-clause-taken
+returns-in-Whole-clause-taken g c =
     let told = g.S.ByteSource in
     on_ok_both c.put_out.result _ _ _
     (receives c.in_ok-opening.opening c.args.wanted.window.now c.args.wanted.ssrc.now
     (pair c.args.sdp.now c.begin.new.sdp) (WasRead told.gave told.ended)
-    (zip c.args.captures.now c.take_captures.new.captures) c.in_ok-begun.begun
-    c.in_ok-intake.intake c.args.wanted.tells_refusals _ _ _ _ c.in_ok-opening.ensures.window
-    c.in_ok-opening.ensures.source c.in_ok-begun.ensures.begun c.in_ok-intake.ensures.taken)
+    (zip c.args.captures.now c.rescue_captures.new.captures) c.in_ok-begun.begun
+    c.in-Whole.intake c.args.wanted.tells_refusals _ _ _ _ c.in_ok-opening.ensures.window
+    c.in_ok-opening.ensures.source c.in_ok-begun.ensures.begun
+    (rw c.in-Whole.is at c.in_ok-intake.ensures.taken))
     c.put_out.ensures.printed c.put_out.ensures.whole
 
-pub returns-clause-counted : goal.returns-clause-counted
-returns-clause-counted g c =
+pub returns-in-Whole-clause-counted : goal.returns-in-Whole-clause-counted
+returns-in-Whole-clause-counted g c =
     let told = g.S.ByteSource in
     let window = c.args.wanted.window.now in
     let source = c.args.wanted.ssrc.now in
     let sdp = pair c.args.sdp.now c.begin.new.sdp in
     let read = WasRead told.gave told.ended in
-    let captures = zip c.args.captures.now c.take_captures.new.captures in
+    let captures = zip c.args.captures.now c.rescue_captures.new.captures in
     counted_if c.put_out.result c.put_out.new.reception _
     (CountsReceived window source sdp read captures)
     (counts c.in_ok-opening.opening window source sdp read captures c.in_ok-begun.begun
-    c.in_ok-intake.intake _ c.in_ok-opening.ensures.window c.in_ok-opening.ensures.source
-    c.in_ok-begun.ensures.begun c.in_ok-intake.ensures.taken refl)
+    c.in-Whole.intake _ c.in_ok-opening.ensures.window c.in_ok-opening.ensures.source
+    c.in_ok-begun.ensures.begun (rw c.in-Whole.is at c.in_ok-intake.ensures.taken) refl)
     c.put_out.ensures.counted
+
+pub returns-in-Part-clause-rescued : goal.returns-in-Part-clause-rescued
+returns-in-Part-clause-rescued g c =
+    let told = g.S.ByteSource in
+    let taken = rw c.in-Part.is at c.in_ok-intake.ensures.taken in
+    rescued_if c.put_part.result c.put_part.new.reception _ _ _ _
+    (λ printed whole r is. (
+      c.if-is_sound.true,
+      rescues c.in_ok-opening.opening c.args.wanted.window.now c.args.wanted.ssrc.now
+          (pair c.args.sdp.now c.begin.new.sdp) told.gave told.ended
+          (zip c.args.captures.now c.rescue_captures.new.captures) c.in_ok-begun.begun
+          c.in-Part.intake c.args.wanted.tells_refusals _ _ _ _ r c.in_ok-opening.ensures.window
+          c.in_ok-opening.ensures.source c.in_ok-begun.ensures.begun taken.0 printed whole is,
+    ))
+    c.put_part.ensures.printed c.put_part.ensures.whole c.put_part.ensures.counted
+
+pub returns-in-Part-clause-refusal : goal.returns-in-Part-clause-refusal
+returns-in-Part-clause-refusal g c =
+    let told = g.S.ByteSource in
+    let window = c.in_ok-opening.opening.window.items in
+    let taken = rw c.in-Part.is at c.in_ok-intake.ensures.taken in
+    part_refused c.put_part.result c.in-Part.fault _
+    (of_refusal_map c.in-Part.fault
+    (λ r is. inr (
+      window,
+      c.in_ok-opening.ensures.window,
+      inr (captures_refused window
+          c.in_ok-begun.begun (pair c.args.sdp.now c.begin.new.sdp) (WasRead told.gave told.ended)
+          (zip c.args.captures.now c.rescue_captures.new.captures)
+          (λ none. ap (λ (s : Option _). pair s c.begin.new.sdp) (c.in_ok-begun.ensures.none none))
+          r is),
+    ))
+    taken.1)
+    c.put_part.ensures.refused
+
+pub returns-in-Part-clause-failures : goal.returns-in-Part-clause-failures
+returns-in-Part-clause-failures g c =
+    accounts_front c.put_part.result _ _ _ _ c.in_ok-begun.ensures.failures
+    (c.put_part.ensures.failures _ (rw c.in-Part.is at c.in_ok-intake.ensures.failures))
+
+pub returns-clause-refusal : goal.returns-clause-refusal
+returns-clause-refusal g c =
+    let told = g.S.ByteSource in
+    let window = c.in_ok-opening.opening.window.items in
+    let taken = rw c.in-Part.is at c.in_ok-intake.ensures.taken in
+    of_refusal_map c.in-Part.fault
+    (λ r is. inr (
+      window,
+      c.in_ok-opening.ensures.window,
+      inr (captures_refused window
+          c.in_ok-begun.begun (pair c.args.sdp.now c.begin.new.sdp) (WasRead told.gave told.ended)
+          (zip c.args.captures.now c.rescue_captures.new.captures)
+          (λ none. ap (λ (s : Option _). pair s c.begin.new.sdp) (c.in_ok-begun.ensures.none none))
+          r is),
+    ))
+    taken.1
 
 pub returns-in_err-intake-clause-refusal : goal.returns-in_err-intake-clause-refusal
 returns-in_err-intake-clause-refusal g c =
@@ -61,7 +121,7 @@ returns-in_err-intake-clause-refusal g c =
       c.in_ok-opening.ensures.window,
       inr (captures_refused window
           c.in_ok-begun.begun (pair c.args.sdp.now c.begin.new.sdp) (WasRead told.gave told.ended)
-          (zip c.args.captures.now c.take_captures.new.captures)
+          (zip c.args.captures.now c.rescue_captures.new.captures)
           (λ none. ap (λ (s : Option _). pair s c.begin.new.sdp) (c.in_ok-begun.ensures.none none))
           r is),
     ))

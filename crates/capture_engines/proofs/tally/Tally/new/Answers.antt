@@ -3,4 +3,4 @@ use Rattle.capture_engines.proofs.Tallies.{tallies_none}
 use Rattle.capture_engines.proofs.tally.Tally.new.Goals as goal
 
 pub returns : goal.returns
-returns c = tallies_none _ refl (search rules) refl
+returns c = tallies_none _ refl (search rules) refl refl
