@@ -1,6 +1,6 @@
 -- What is told of an outcome by the files that were read.
 use Rattle.std.proofs.Common.{◌≡◌, ◌⊎◌, inl, inr, List, Result, Ok, Err, subst, sym}
-use Rattle.std.specs.Prelude.{Any, IfErr, OnOk}
+use Rattle.std.specs.Prelude.{Any, IfErr, OnErr, OnOk}
 use Rattle.run_outcome.specs.Refusing.{OfRefusal}
 use Rattle.run_outcome.specs.declared.fault.Fault.{Fault}
 use Rattle.run_outcome.specs.declared.fault.Fault.TheVariants.{Refused, Device, Memory}
@@ -14,6 +14,13 @@ pub told_ok : (o r : Result (Unit {0}) Fault) (cs : List Source) (P : Type 0)
 told_ok o r cs P (inl e) p = subst (λ (x : Result (Unit {0}) Fault). OnOk x P) (sym e) p
 told_ok o (Ok v) cs P (inr q) p = absurd q.1
 told_ok o (Err f) cs P (inr q) p = tt
+
+-- where it is one, the outcome is one
+pub told_err : (o r : Result (Unit {0}) Fault) (cs : List Source) (P : Type 0)
+    → (r ≡ o) ⊎ ((o ≡ Err Device) × IsErrOf cs r) → OnErr o P → OnErr r P
+told_err o r cs P (inl e) p = subst (λ (x : Result (Unit {0}) Fault). OnErr x P) (sym e) p
+told_err o (Ok v) cs P (inr q) p = tt
+told_err o (Err f) cs P (inr q) p = subst (λ (x : Result (Unit {0}) Fault). OnErr x P) q.0 p
 
 widen : (o : Result (Unit {0}) Fault) (cs : List Source) (P : Refusal → Type 0)
     → IfErr o (λ f. OfRefusal f P)

@@ -1,5 +1,6 @@
 //! What `receive` reads: the SDP, where one is named, and captures and recordings.
-ghost use Rattle.std.specs.Prelude.{◌≡◌, [], All, IfErr, IfOk, IsFalse, OnOk, Some};
+ghost use Rattle.std.specs.Prelude.{◌≡◌, ◌∷◌, ◌++◌, [], All, IfErr, IfOk, IsFalse, MatchResult};
+ghost use Rattle.std.specs.Prelude.{OnOk, Some};
 ghost use Rattle.std.specs.Option.{option_copied};
 ghost use Rattle.capture_runs.specs.Opened.{AreUnread, IsFlowRefusal, IsOpeningRefusal, IsTooLong};
 ghost use Rattle.capture_runs.specs.Opened.{IsUnread};
@@ -7,10 +8,12 @@ ghost use Rattle.devices.specs.Passed.{IsUnplaced, LeavesNoPart, file_ended, fil
 ghost use Rattle.devices.specs.Passed.{file_took};
 ghost use Rattle.run_outcome.specs.Refusing.{OfRefusal};
 ghost use Rattle.run_outcome.specs.Text.{GivesText};
+ghost use Rattle.run_outcome.specs.declared.fault.Fault.TheVariants.{Memory};
 
 use capture_engines::{Wanted, check_words};
 use command_end::find_output;
 use devices::{FileOutput, FileSource, Identity, Reading, reading_of};
+use flow::Flows;
 use recorded_capture::{CaptureSource, Seen, ways_each};
 use recording_engines::Importing;
 use run_outcome::{Fault, Refusal, Writer, read_text};
@@ -184,12 +187,28 @@ fn captures_of<'a>(
     let ways = ways_each(rt.alloc(), asked.flows, said, names.len())?;
     let mut captures = Vec::new(rt.alloc());
     for (name, way) in names.iter().zip(ways.iter()) {
-        let capture = CaptureSource::new(rt.alloc(), *way, FileSource::given(rt, name));
-        if captures.push(capture).is_err() {
-            return Err(Fault::Memory);
-        }
+        add(&mut captures, unread(rt, name, *way))?;
     }
     Ok(captures)
+}
+
+/// A file that isn't looked at yet, with the flows that it is taken by if it is a recording.
+fn unread<'a>(rt: &'a HostRuntime, name: &'a str, way: Result<Flows, Refusal>) -> Source<'a>
+    ensures { IsUnread result }
+{
+    CaptureSource::new(rt.alloc(), way, FileSource::given(rt, name))
+}
+
+/// Adds a file to others. None of them is looked at yet.
+fn add<'a>(captures: &mut Vec<Source<'a>>, capture: Source<'a>) -> Result<(), Fault>
+    requires unread { All IsUnread captures.old.items }
+    requires more { IsUnread capture }
+    ensures { MatchResult result (λ _. All IsUnread captures.new.items) (λ f. f ≡ Memory) }
+{
+    match captures.push(capture) {
+        Ok(()) => Ok(()),
+        Err(_) => Err(Fault::Memory),
+    }
 }
 
 /// Reads an SDP's file.

@@ -1,16 +1,17 @@
 //! `receive` over the devices of this machine.
-ghost use Rattle.std.specs.Prelude.{◌≡◌, ◌⊎◌, ◌∷◌, [], Any, Err, IfErr, IsErr, IsFalse, OnOk};
-ghost use Rattle.std.specs.Prelude.{sum_by};
+ghost use Rattle.std.specs.Prelude.{◌≡◌, ◌⊎◌, ◌∷◌, [], ⊤, Any, Err, IfErr, IsErr, IsFalse, IsSome};
+ghost use Rattle.std.specs.Prelude.{IsTrue, MatchOption, None, OnErr, OnOk, sum_by};
 ghost use Rattle.std.specs.List.{zip};
 ghost use Rattle.std.specs.Option.{option_copied};
-ghost use Rattle.capture_engines.specs.Received.{IsReceiveRefusal};
 ghost use Rattle.capture_engines.specs.Counted.{CountsReceived};
+ghost use Rattle.capture_engines.specs.Received.{IsReceiveRefusal};
 ghost use Rattle.capture_engines.specs.Rescued.{Rescues};
 ghost use Rattle.capture_engines.specs.Taking.{Receives};
 ghost use Rattle.capture_runs.specs.Opened.{AreUnread, IsOpeningRefusal};
 ghost use Rattle.capture_runs.specs.Received.{AccountsFiles, EndsRecording, IsErrOf};
-ghost use Rattle.devices.specs.Passed.{IsInPlace, IsUnplaced, file_took, output_failures};
-ghost use Rattle.devices.specs.Passed.{output_took, sink_failures, sink_took, writing_failures};
+ghost use Rattle.devices.specs.Passed.{HasNoPart, IsInPlace, IsUnplaced, LeavesNoPart};
+ghost use Rattle.devices.specs.Passed.{file_took, output_failures, output_took, sink_failures};
+ghost use Rattle.devices.specs.Passed.{sink_took, writing_failures};
 ghost use Rattle.run_outcome.specs.Fault.{counts, failures_in};
 ghost use Rattle.run_outcome.specs.Moments.{WasRead, pair};
 ghost use Rattle.run_outcome.specs.Refusing.{OfRefusal};

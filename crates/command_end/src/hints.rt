@@ -23,6 +23,13 @@ pub struct Room {
     pub octets: u64,
 }
 
+impl Room {
+    /// How many octets it takes in all, in millions, rounded down.
+    pub(crate) fn megabytes(&self) -> u64 {
+        self.octets.saturating_mul(self.frames as u64) / 1_000_000
+    }
+}
+
 impl Hints {
     /// Where nothing is known.
     pub fn none() -> Hints {

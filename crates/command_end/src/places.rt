@@ -79,8 +79,7 @@ impl fmt::Display for Said<'_> {
                 write!(f, "  at {name}, octet {octet}; wanted {kinds}{why}")
             }
             Said::Room(room) => {
-                let (frames, octets) = (room.frames, room.octets);
-                let needed = frames as u64 * (octets / 1000) / 1000;
+                let (frames, octets, needed) = (room.frames, room.octets, room.megabytes());
                 write!(
                     f,
                     "  at --window; wanted {needed} MB of memory for {frames} frames of {octets} \

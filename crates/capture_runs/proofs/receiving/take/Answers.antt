@@ -1,5 +1,5 @@
 use Rattle.std.proofs.Common.{◌≡◌, ◌∙◌, ap, length, sym}
-use Rattle.capture_runs.proofs.Told.{told_ok, told_refused}
+use Rattle.capture_runs.proofs.Told.{told_err, told_ok, told_refused}
 use Rattle.command_end.proofs.Outcomes.{vec_back}
 use Rattle.capture_runs.proofs.receiving.take.Goals as goal
 
@@ -7,18 +7,36 @@ pub returns-clause-taken : goal.returns-clause-taken
 returns-clause-taken c =
     let same = ap length c.as_mut_slice.ensures.value in
     rw (vec_back c.args.files.now.captures.len c.args.files.now.captures.items
-    c.receive-outcome.new.captures (sym c.as_mut_slice.ensures.len ∙ same)
-    (c.receive-outcome.ensures.len ∙ same))
-    (told_ok c.receive-outcome.result c.told_by.result _ _ c.told_by.ensures
-    (rw c.as_mut_slice.ensures.value at c.receive-outcome.ensures.taken))
+    c.receive_files-outcome.new.captures (sym c.as_mut_slice.ensures.len ∙ same)
+    (c.receive_files-outcome.ensures.len ∙ same))
+    (told_ok c.receive_files-outcome.result c.told_by.result _ _ c.told_by.ensures
+    (rw c.as_mut_slice.ensures.value at c.receive_files-outcome.ensures.taken))
 
 pub returns-clause-refusal : goal.returns-clause-refusal
 returns-clause-refusal c =
     let same = ap length c.as_mut_slice.ensures.value in
     let back = vec_back c.args.files.now.captures.len c.args.files.now.captures.items
-    c.receive-outcome.new.captures (sym c.as_mut_slice.ensures.len ∙ same)
-    (c.receive-outcome.ensures.len ∙ same) in
+    c.receive_files-outcome.new.captures (sym c.as_mut_slice.ensures.len ∙ same)
+    (c.receive_files-outcome.ensures.len ∙ same) in
     rw back
-    (told_refused c.receive-outcome.result c.told_by.result c.receive-outcome.new.captures _
+    (told_refused c.receive_files-outcome.result c.told_by.result c.receive_files-outcome.new.captures _
     (rw (c.as_slice.ensures.value, back) at c.told_by.ensures)
-    (rw c.as_mut_slice.ensures.value at c.receive-outcome.ensures.refusal))
+    (rw c.as_mut_slice.ensures.value at c.receive_files-outcome.ensures.refusal))
+
+pub returns-clause-counted : goal.returns-clause-counted
+returns-clause-counted c =
+    let same = ap length c.as_mut_slice.ensures.value in
+    rw (vec_back c.args.files.now.captures.len c.args.files.now.captures.items
+    c.receive_files-outcome.new.captures (sym c.as_mut_slice.ensures.len ∙ same)
+    (c.receive_files-outcome.ensures.len ∙ same))
+    (told_ok c.receive_files-outcome.result c.told_by.result _ _ c.told_by.ensures
+    (rw c.as_mut_slice.ensures.value at c.receive_files-outcome.ensures.counted))
+
+pub returns-clause-rescued : goal.returns-clause-rescued
+returns-clause-rescued c =
+    let same = ap length c.as_mut_slice.ensures.value in
+    rw (vec_back c.args.files.now.captures.len c.args.files.now.captures.items
+    c.receive_files-outcome.new.captures (sym c.as_mut_slice.ensures.len ∙ same)
+    (c.receive_files-outcome.ensures.len ∙ same))
+    (told_err c.receive_files-outcome.result c.told_by.result _ _ c.told_by.ensures
+    (rw c.as_mut_slice.ensures.value at c.receive_files-outcome.ensures.rescued))
