@@ -222,3 +222,91 @@ if [ -z "$amiss" ]; then
 else
     fail 'the camera cut at each octet' "another answer at$amiss"
 fi
+
+# A text in a file.
+run sdp camera.sdp
+says 'a text in a file' 0 "$line" ''
+"$program" sdp - <camera.sdp >out 2>err
+status=$?
+says 'a text on standard input, by the name -' 0 "$line" ''
+for file in no-such-file .; do
+    run sdp "$file"
+    says "a text that can't be read: $file" 3 '' 'st2110: device'
+done
+
+# Texts that are written, octet for octet, and read again. leg PORT CONNECTION PT ITEMS NAME: the lines of a section.
+leg() {
+    printf '%s\r\n' "m=video $1 RTP/AVP $3" ${2:+"$2"} "a=rtpmap:$3 raw/90000" "a=fmtp:$3 $4" "a=mid:$5"
+}
+items='sampling=YCbCr-4:2:2; width=1920; height=1080; exactframerate=60000/1001; depth=10'$end
+front() {
+    printf '%s\r\n' v=0 'o=- 0 0 IN IP4 127.0.0.1' s=- 't=0 0'
+}
+# writes NAME PT LEGS WORD..: whether the words have just the text that want.sdp holds, which reads back.
+writes() {
+    name=$1
+    pt=$2
+    legs=$3
+    shift 3
+    run sdp --write "$@"
+    cp out written.sdp
+    alike "written: $name" written.sdp want.sdp
+    run sdp --verbose written.sdp
+    says "written, and read: $name" 0 "a=fmtp:$pt $items" "$legs"
+}
+video='YCbCr-4:2:2 10 1920 1080 60000/1001'
+{
+    front
+    printf 'a=group:DUP A B\r\n'
+    leg 5004 'c=IN IP4 239.1.1.1/64' 112 "$items" A
+    leg 5006 'c=IN IP4 239.1.1.2/64' 112 "$items" B
+} >want.sdp
+writes 'two legs' 112 '  path A goes to 239.1.1.1:5004
+  path B goes to 239.1.1.2:5006' "$video" --a 239.1.1.1:5004 --b 239.1.1.2:5006 --pt 112
+{
+    front
+    leg 0 'c=IN IP4 192.0.2.7' 96 "$items" A
+} >want.sdp
+writes 'one leg, not multicast' 96 '  path A goes to 192.0.2.7:0' "$video" --a 192.0.2.7:0
+{
+    front
+    printf 'a=group:DUP A B\r\n'
+    leg 65535 'c=IN IP6 ff3e::1' 96 "$items" A
+    leg 5004 'c=IN IP4 240.0.0.1' 96 "$items" B
+} >want.sdp
+writes 'IPv6 and IPv4' 96 '  path A goes to [ff3e::1]:65535
+  path B goes to 240.0.0.1:5004' "$video" --a '[FF3E:0::1]:65535' --b 240.0.0.1:05004
+items='sampling=RGB; width=4; height=2; exactframerate=60; depth=8'$end
+{
+    front
+    leg 5004 'c=IN IP6 ::ffff:192.0.2.7' 0 "$items" A
+} >want.sdp
+writes 'a rate not in lowest terms, IPv4 in IPv6' 0 '  path A goes to [::ffff:192.0.2.7]:5004' \
+    'RGB 8 4 2 120/2' --a '[::ffff:192.0.2.7]:5004' --pt 0
+
+# Formats that there aren't, and words that aren't of their form: OPTION|VALUE|WANTED.
+run sdp --write 'RGB 8 4 2 0/1' --a 10.0.0.1:5004
+says 'written: no such format' 1 '' 'st2110: format 3 BadRate'
+place='an address, a colon and a port, as 239.1.1.1:5004 or [ff3e::1]:5004'
+while IFS='|' read -r option value text; do
+    format='RGB 8 4 2 60'
+    a=10.0.0.1:5004
+    b=10.0.0.2:5004
+    case $option in
+        --write*) format=$value ;;
+        --a*) a=$value ;;
+        *) b=$value ;;
+    esac
+    run sdp --write "$format" --a "$a" --b "$b"
+    misworded "written: $option, $value" "invalid value '$value' for '$option': $text" -
+done <<END
+--write <S B W H N/D>|RGB 9 4 2 60|sampling, depth, width, height and rate, as $video
+--write <S B W H N/D>|RGB 8 4 2|sampling, depth, width, height and rate, as $video
+--write <S B W H N/D>||sampling, depth, width, height and rate, as $video
+--a <ADDR:PORT>|5004|$place
+--a <ADDR:PORT>|10.0.0.1|$place
+--a <ADDR:PORT>|10.0.0.1:65536|$place
+--a <ADDR:PORT>|ff3e::1:5004|$place
+--b <ADDR:PORT>|camera.example:5004|$place
+--b <ADDR:PORT>|5004|$place
+END

@@ -465,6 +465,10 @@ says 'export: both paths' 0 'exported 16 left out 0' ''
 run import --sdp "$recordings/two-cards.sdp" --out back.cap exported.pcap
 says 'export, and import again' 0 'recorded A 8 B 8 left out 0' ''
 alike 'export, and import again: the capture' back.cap again.cap
+run sdp --write 'YCbCr-4:2:2 8 32 18 25' --a 239.1.1.1:5004 --b 239.1.1.2:5006
+cp out written.sdp
+run import --sdp written.sdp --out back.cap exported.pcap
+says 'export, and import again by an SDP that is written' 0 'recorded A 8 B 8 left out 0' ''
 run export --a 239.1.1.1:5004 --out exported.pcap again.cap
 says 'export: path A alone' 0 'exported 8 left out 8' ''
 # To IPv6, both paths or one of them: what comes back is the same capture.

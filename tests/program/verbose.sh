@@ -111,7 +111,10 @@ sdp_places '' "$camera" <<END
 8 BadParameter|BT709|BT 709|9, 'colorimetry=BT 709'|$bad_item
 8 BadParameter|TCS=SDR|RANGE=full|9, 'RANGE=full'|$bad_item
 9 DoubleParameter|TCS=SDR|TP=SDR|9, 'TP=2110TPN'|in a=fmtp:PT each name once
-10 MissingParameter|PM=2110GPM; ||${fmtp_front}1920; height=1080; ex..'|sampling, width, height, exactframerate, depth, colorimetry, PM and SSN in a=fmtp:PT
+10 MissingParameter|PM=2110GPM; ||${fmtp_front}1920; height=1080; ex..'|PM in a=fmtp:PT
+10 MissingParameter|depth=10; TCS=SDR; |TCS; |${fmtp_front}1920; height=1080; ex..'|depth in a=fmtp:PT
+10 MissingParameter| colorimetry=BT709; PM=2110GPM; SSN=ST2110-20:2017;| depths=8; colorimetry = BT709; p; |${fmtp_front}1920; height=1080; ex..'|PM and SSN in a=fmtp:PT
+10 MissingParameter|sampling=YCbCr-4:2:2; width=1920; height=1080; exactframerate=60000/1001; depth=10;|depth\t=10;|9, 'a=fmtp:112 depth\t=10; TCS=SDR; colorimetry=BT709; PM=2110G..'|sampling, width, height and exactframerate in a=fmtp:PT
 11 UnsupportedSampling|sampling=YCbCr-4:2:2|sampling=KEY|9, 'sampling=KEY'|sampling=YCbCr-4:2:2, YCbCr-4:4:4 or RGB
 12 UnsupportedDepth|depth=10|depth=9|9, 'depth=9'|depth=8, 10, 12 or 16
 13 Interlaced|TCS=SDR|interlace|9, 'interlace'|neither interlace nor segmented
@@ -134,6 +137,28 @@ status=$?
 adds 'sdp: no video' 1 '' 'sdp 2 NoVideo' \
     "standard input, octet $(($(wc -c <in))); wanted a line that begins m=video and a space"
 
+# Of an SDP that was read well it is told where each path goes, and the edition where that is 2022.
+reads_so() {
+    printf '%b' "$2" >in
+    "$program" sdp --verbose <in >out 2>err
+    status=$?
+    says "verbose: $1" 0 "$line" "$3"
+}
+reads_so 'two legs' "$camera" '  path A goes to 239.0.0.1:5004
+  path B goes to 239.0.0.2:5006'
+reads_so 'one leg' "$session$second" '  path A goes to 239.0.0.2:5006'
+turn "$second" 'c=IN IP4 239.0.0.2/32' i=
+reads_so 'a leg without an address' "$session$first$turned" '  path A goes to 239.0.0.1:5004
+  path B goes to port 5006, no address'
+turn "$first" 239.0.0.1/32 camera.example
+reads_so 'a name in place of an address' "$session$turned" \
+    "  where the video goes isn't told: flows 4 BadConnection"
+turn "$first" ST2110-20:2017 ST2110-20:2022
+reads_so 'the edition of 2022' "$session$turned" '  path A goes to 239.0.0.1:5004
+  the text says SSN=ST2110-20:2022'
+turn "$first" ST2110-20:2017 ST2110-20:20220
+reads_so 'another edition' "$session$turned" '  path A goes to 239.0.0.1:5004'
+
 # An SDP in a file, and one in a capture.
 turn "$camera" depth=10 depth=9
 printf '%b' "$turned" >depth.sdp
@@ -141,6 +166,13 @@ printf '%b' "$turned" >depth.sdp
     octets 5332304341503032 "$(printf '%04X' "$(wc -c <depth.sdp)")"
     cat depth.sdp
 } >depth.cap
+run -v sdp depth.sdp
+adds 'an SDP in a file, read' 1 '' 'sdp 12 UnsupportedDepth' "depth.sdp, line 9, 'depth=9'; wanted depth=8, 10, 12 or 16"
+run -v sdp no-such-file
+adds 'an SDP that is not there' 3 '' device \
+    'no-such-file, octet 0; wanted to read there: No such file or directory (os error 2)'
+run -v sdp --write 'RGB 8 3 2 60' --a 10.0.0.1:5004
+adds 'an SDP of no format' 1 '' 'format 1 BadWidth' '--write; wanted an even width from 2 to 8192, of whole pgroups'
 run -v send --out v.cap --sdp depth.sdp p.pic
 adds 'an SDP in a file' 1 '' 'sdp 12 UnsupportedDepth' 'depth.sdp, line 9; wanted depth=8, 10, 12 or 16'
 run -v migrate --sdp depth.sdp --out v.cap old.cap
@@ -336,6 +368,18 @@ if command -v script >/dev/null; then
             pass "at a terminal, with '$words'"
         else
             fail "at a terminal, with '$words'" "'$said'"
+        fi
+    done
+    for words in '' --quiet; do
+        at_terminal "$words sdp camera.sdp"
+        want=$line
+        [ -n "$words" ] || want="$line
+  path A goes to 239.0.0.1:5004
+  path B goes to 239.0.0.2:5006"
+        if [ "$said" = "$want" ]; then
+            pass "at a terminal, an SDP that was read well, with '$words'"
+        else
+            fail "at a terminal, an SDP that was read well, with '$words'" "'$said'"
         fi
     done
 fi

@@ -40,7 +40,7 @@ while read -r command options; do
     done
 done <<'END'
 trace
-sdp
+sdp --write --a --b --pt 96 ADDR:PORT [FILE]
 rehearse
 migrate --sdp --out FILE <CAPTURE>
 send --out --pt --first --base --ssrc --max --paths --sdp 96 1400 <PICTURE>...
@@ -74,8 +74,16 @@ trace examples|unexpected argument 'examples' found|trace [OPTIONS]
 trace sdp|unexpected argument 'sdp' found|trace [OPTIONS]
 trace --out f.cap|unexpected argument '--out' found|trace [OPTIONS]
 trace --verbose --verbose|the argument '--verbose' $twice|trace [OPTIONS]
-sdp q.sdp|unexpected argument 'q.sdp' found|sdp [OPTIONS]
-sdp --sdp q.sdp|unexpected argument '--sdp' found|sdp [OPTIONS]
+sdp q.sdp q.sdp|unexpected argument 'q.sdp' found|sdp [OPTIONS] [FILE]
+sdp --sdp q.sdp|unexpected argument '--sdp' found\n\n  tip: to pass '--sdp' as a value, use '-- --sdp'|sdp [OPTIONS] [FILE]
+sdp --write|a value is required for '--write <S B W H N/D>' $no_value|-
+sdp --write RGB|$missing\n  --a <ADDR:PORT>|sdp --write <S B W H N/D> --a <ADDR:PORT> [FILE]
+sdp --a 10.0.0.1:5004|$missing\n  --write <S B W H N/D>|sdp --a <ADDR:PORT> --write <S B W H N/D> [FILE]
+sdp --b 10.0.0.1:5004|$missing\n  --a <ADDR:PORT>\n  --write <S B W H N/D>|sdp --a <ADDR:PORT> --write <S B W H N/D> --b <ADDR:PORT> [FILE]
+sdp --pt 97 q.sdp|$missing\n  --a <ADDR:PORT>\n  --write <S B W H N/D>|sdp --a <ADDR:PORT> --write <S B W H N/D> --pt <N> [FILE]
+sdp --write RGB --a 10.0.0.1:5004 q.sdp|the argument '--write <S B W H N/D>' cannot be used with '[FILE]'|sdp --write <S B W H N/D> --a <ADDR:PORT> [FILE]
+sdp --write RGB --a 10.0.0.1:5004 --pt 128|invalid value '128' for '--pt <N>': 128 is not in 0..=127|-
+sdp --write RGB --a 10.0.0.1:5004|invalid value 'RGB' for '--write <S B W H N/D>': sampling, depth, width, height and rate, as YCbCr-4:2:2 10 1920 1080 60000/1001|-
 rehearse --max 40|unexpected argument '--max' found|rehearse [OPTIONS]
 migrate|$missing\n  --sdp <FILE>\n  --out <FILE>\n  <CAPTURE>|migrate --sdp <FILE> --out <FILE> <CAPTURE>
 migrate old.cap|$missing\n  --sdp <FILE>\n  --out <FILE>|migrate --sdp <FILE> --out <FILE> <CAPTURE>
@@ -159,7 +167,7 @@ while IFS='|' read -r command options files; do
         "$command$options --verbose$files"
 done <<END
 trace||
-sdp||
+sdp|| [FILE]
 rehearse||
 migrate| --sdp <FILE> --out <FILE>| <CAPTURE>
 send| --out <FILE>| <PICTURE>...

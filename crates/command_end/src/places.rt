@@ -1,9 +1,10 @@
 //! Where a fault is: what `--verbose` adds behind its line.
+use crate::fmtp::Missing;
 use crate::hints::{Hints, Room};
 use crate::lines::{line_at, shown};
 use devices::{Reading, Writing};
 use run_outcome::{Fault, Form, LineFault, Refusal, Writer};
-use sdp_format::Located;
+use sdp_format::{Located, SdpFault};
 use std::fmt;
 use std::io::{self, ErrorKind};
 
@@ -45,6 +46,24 @@ fn wants_memory(fault: &Option<io::Error>) -> bool {
     }
 }
 
+/// What was wanted in a line.
+#[derive(Clone, Copy)]
+enum Wanted<'a> {
+    /// What these words say.
+    Words(&'static str),
+    /// The names that are missing.
+    Names(Missing<'a>),
+}
+
+impl fmt::Display for Wanted<'_> {
+    fn fmt<W: fmt::Write>(&self, f: &mut fmt::Formatter<W>) -> fmt::Result {
+        match self {
+            Wanted::Words(words) => f.write_str(words),
+            Wanted::Names(missing) => write!(f, "{missing}"),
+        }
+    }
+}
+
 /// Where a fault is, and what was wanted there.
 #[derive(Clone, Copy)]
 enum Said<'a> {
@@ -57,7 +76,7 @@ enum Said<'a> {
     /// A receiver for which there is no memory.
     Room(Room),
     /// In a line of a text, or in this part of it.
-    Text(&'a str, usize, &'a [u8], &'static str),
+    Text(&'a str, usize, &'a [u8], Wanted<'a>),
     /// In a line of a text that isn't shown, or of one that is in a file.
     Line(&'a str, usize, &'static str, &'static str),
     /// Where a reading failed.
@@ -312,11 +331,14 @@ fn of_file<'a>(
     }
 }
 
-/// A line of a script.
+/// A line of a script; where none is read, the word that says in one line what `sdp` writes.
 fn of_script<'a>(devices: &Devices<'a>, line: usize, wanted: &'static str) -> Option<Said<'a>> {
-    let name = devices.read?.name;
+    let Some(script) = devices.read else {
+        return Some(Said::Name("--write", wanted));
+    };
+    let name = script.name;
     Some(match devices.kept {
-        Some(kept) => Said::Text(name, line, line_at(kept, line), wanted),
+        Some(kept) => Said::Text(name, line, line_at(kept, line), Wanted::Words(wanted)),
         None => Said::Line(name, line, "", wanted),
     })
 }
@@ -330,9 +352,22 @@ fn of_sdp<'a>(devices: &Devices<'a>, at: Located, wanted: &'static str) -> Optio
         return Some(Said::Line(devices.read?.name, place.line, " of its SDP", wanted));
     };
     Some(match part_of(devices.kept, place.start, place.end) {
-        Some(text) => Said::Text(sdp.name, place.line, text, wanted),
+        Some(text) => {
+            let wanted = wanted_in(text, at.fault, wanted);
+            Said::Text(sdp.name, place.line, text, wanted)
+        }
         None => Said::Line(sdp.name, place.line, "", wanted),
     })
+}
+
+/// What was wanted in a line of an SDP that has a fault, or in a part of it.
+fn wanted_in<'a>(text: &'a [u8], fault: SdpFault, wanted: &'static str) -> Wanted<'a> {
+    if fault == SdpFault::MissingParameter {
+        if let Some(missing) = Missing::of(text) {
+            return Wanted::Names(missing);
+        }
+    }
+    Wanted::Words(wanted)
 }
 
 /// A part of a text, where that is kept.

@@ -34,8 +34,15 @@ enum Usage {
     Number(&'static str, ValueParser<'static>),
     /// An option with a value of a kind, and the value where it isn't given.
     Default(&'static str, ValueParser<'static>, &'static str),
+    /// An option with a value, beside which the word of this name has to be given.
+    Beside(&'static str, &'static str),
+    /// An option with a value of a kind, the value where it isn't given, and the word of this name,
+    /// beside which alone it may be.
+    DefaultBeside(&'static str, ValueParser<'static>, &'static str, &'static str),
     /// One file.
     File(&'static str),
+    /// One file, which may be left out, and which the word of this name leaves no place for.
+    FileUnless(&'static str, &'static str),
     /// One file or more.
     Files(&'static str),
 }
@@ -82,9 +89,9 @@ const TRACE: Said = Said {
 
 const SDP: Said = Said {
     name: "sdp",
-    about: "Reads an SDP text on standard input, and prints its canonical fmtp line or the \
-        first fault",
-    words: &[],
+    about: "Reads an SDP text, and prints its canonical fmtp line or the first fault; or writes \
+        one",
+    words: &[DESCRIBED],
 };
 
 const REHEARSE: Said = Said {
@@ -162,6 +169,36 @@ const MIGRATE: Said = Said {
         how many records it has",
     words: &[MIGRATED],
 };
+
+/// The words of `sdp`.
+const DESCRIBED: &[Word] = &[
+    Word {
+        name: "write",
+        usage: Usage::Beside("S B W H N/D", "a"),
+        help: "Write the SDP text of a stream of this format, one word as 'YCbCr-4:2:2 10 1920 \
+            1080 60000/1001'",
+    },
+    Word {
+        name: "a",
+        usage: Usage::Beside("ADDR:PORT", "write"),
+        help: "Where the datagrams of path A go, as 239.1.1.1:5004 or [ff3e::1]:5004",
+    },
+    Word {
+        name: "b",
+        usage: Usage::Beside("ADDR:PORT", "write"),
+        help: "Where those of path B go, likewise; without it the text has one leg",
+    },
+    Word {
+        name: "pt",
+        usage: Usage::DefaultBeside("N", U7, "96", "write"),
+        help: "The payload type, up to 127",
+    },
+    Word {
+        name: "file",
+        usage: Usage::FileUnless("FILE", "write"),
+        help: "The SDP text that is read; without it, and for -, standard input",
+    },
+];
 
 /// Where `send` writes, and its SDP.
 const SENT: &[Word] = &[
@@ -489,15 +526,22 @@ fn with_words<'a>(
 ) -> Result<Command<'a>, AllocError> {
     let mut command = command;
     for word in words {
-        command = command.arg(argument(alloc, word))?;
+        command = command.arg(argument(alloc, word)?)?;
     }
     Ok(command)
 }
 
 /// A word of a command, with its help.
-fn argument<'a>(alloc: Global, word: &Word) -> Arg<'a> {
+fn argument<'a>(alloc: Global, word: &Word) -> Result<Arg<'a>, AllocError> {
     let argument = Arg::new(alloc, word.name).help(word.help);
-    formed(argument, word.name, word.usage)
+    let formed = formed(argument, word.name, word.usage);
+    match word.usage {
+        Usage::Beside(_, other) | Usage::DefaultBeside(_, _, _, other) => {
+            formed.requires_arg(other)
+        }
+        Usage::FileUnless(_, other) => formed.conflicts_with(other),
+        _ => Ok(formed),
+    }
 }
 
 /// Gives a word its form.
@@ -505,10 +549,15 @@ fn formed<'a>(word: Arg<'a>, name: &'static str, form: Usage) -> Arg<'a> {
     match form {
         Usage::Flag => word.long(name).action(ArgAction::SetTrue),
         Usage::Optional(value) => option(word, name, value),
+        Usage::Beside(value, _) => option(word, name, value),
         Usage::Required(value) => option(word, name, value).required(true),
         Usage::Number(value, kind) => option(word, name, value).required(true).value_parser(kind),
         Usage::Default(value, kind, text) => with_default(option(word, name, value), kind, text),
+        Usage::DefaultBeside(value, kind, text, _) => {
+            with_default(option(word, name, value), kind, text)
+        }
         Usage::File(value) => file(word, value),
+        Usage::FileUnless(value, _) => word.value_name(value),
         Usage::Files(value) => file(word, value).num_args(1..),
     }
 }

@@ -53,3 +53,22 @@ impl WordsFault {
         }
     }
 }
+
+/// A value of an option that isn't of its form, which is found where it is read.
+#[derive(Clone, Copy)]
+pub struct BadValue<'a> {
+    /// The option and what its value is called, as `--a <ADDR:PORT>`.
+    pub option: &'static str,
+    pub value: &'a str,
+    /// What was wanted, for a person.
+    pub wanted: &'static str,
+}
+
+impl BadValue<'_> {
+    /// Prints it to standard error, as clap does of values that it reads.
+    pub fn print<R: Eprint>(&self, rt: &R) -> io::Result<()> {
+        let (option, value, wanted) = (self.option, self.value, self.wanted);
+        eprintln!(rt; "error: invalid value '{value}' for '{option}': {wanted}")?;
+        eprintln!(rt; "\nFor more information, try '--help'.")
+    }
+}

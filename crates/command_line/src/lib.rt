@@ -6,8 +6,8 @@ mod commands;
 mod fault;
 mod words;
 
-pub use fault::WordsFault;
+pub use fault::{BadValue, WordsFault};
 pub use words::{
     ExportWords, Given, ImportWords, LoopWords, MergeWords, MigrateWords, NamedPaths, ProcessWords,
-    ReceiveWords, SendWords, StampWords, Words, given_words, read_words,
+    ReceiveWords, SdpWords, SendWords, StampWords, Words, WriteWords, given_words, read_words,
 };

@@ -23,8 +23,8 @@ pub struct Given<'a> {
 pub enum Words<'a> {
     /// Run the script on standard input.
     Trace,
-    /// Read the SDP text on standard input.
-    Sdp,
+    /// Read an SDP text, or write one.
+    Sdp(SdpWords<'a>),
     /// Play the schedule on standard input.
     Rehearse,
     /// Write a capture of version 01 as one of version 02.
@@ -47,6 +47,30 @@ pub enum Words<'a> {
     Export(ExportWords<'a>),
     /// Tell which streams recordings of other tools have, by their files' names.
     Inspect(Vec<&'a str>),
+}
+
+/// The words behind `sdp`.
+#[derive(Clone, Copy)]
+pub enum SdpWords<'a> {
+    /// Read the text of the file of this name, where one is named that isn't `-`, else that on
+    /// standard input.
+    Read(Option<&'a str>),
+    /// Write the text of a stream.
+    Write(WriteWords<'a>),
+}
+
+/// The words behind `sdp --write`.
+#[derive(Clone, Copy)]
+pub struct WriteWords<'a> {
+    /// The format.
+    pub format: &'a str,
+    /// Where the datagrams of path A go.
+    pub a: &'a str,
+    /// Where those of path B go, where that is said.
+    pub b: Option<&'a str>,
+    pub payload_type: u8,
+    // RFC 3550, 5.1: it has 7 bits.
+    pub ghost payload_type_bits: { payload_type ≤ 127 },
 }
 
 /// The words behind `migrate`: names of files.
@@ -223,7 +247,7 @@ fn command_words<'a>(
 /// Reads the words of a command that takes no list of files.
 fn plain_words<'a>(name: &str, given: &ArgMatches<'a>) -> Words<'a> {
     match name {
-        "sdp" => Words::Sdp,
+        "sdp" => Words::Sdp(sdp_words(given)),
         "rehearse" => Words::Rehearse,
         "migrate" => Words::Migrate(migrate_words(given)),
         "merge" => Words::Merge(merge_words(given)),
@@ -232,6 +256,18 @@ fn plain_words<'a>(name: &str, given: &ArgMatches<'a>) -> Words<'a> {
         "export" => Words::Export(export_words(given)),
         // clap lets `trace` through, and nothing else.
         _ => Words::Trace,
+    }
+}
+
+fn sdp_words<'a>(given: &ArgMatches<'a>) -> SdpWords<'a> {
+    match given.get_str("write") {
+        Some(format) => SdpWords::Write(WriteWords {
+            format,
+            a: word(given, "a"),
+            b: given.get_str("b"),
+            payload_type: payload_type(given),
+        }),
+        None => SdpWords::Read(given.get_str("file").filter(|name| *name != "-")),
     }
 }
 

@@ -1,12 +1,20 @@
-//! The commands that read standard input alone, over the devices of this machine.
+//! The commands of scripts and SDP texts, over the devices of this machine.
 #![tactic(auto)]
 
+mod announced;
 mod describing;
 mod rehearsing;
+mod stream_words;
 mod streams;
+mod text_reader;
 mod tracing;
+mod writing;
 
+pub use announced::AnnouncedStream;
 pub use describing::SdpCommand;
 pub use rehearsing::RehearseCommand;
+pub use stream_words::read_stream;
 pub use streams::Streams;
+pub use text_reader::TextReader;
 pub use tracing::TraceCommand;
+pub use writing::SdpWriteCommand;

@@ -27,7 +27,7 @@ impl Streams {
 }
 
 /// Memory for what is read of a script or an SDP text, where a fault's place is told.
-fn kept(rt: &HostRuntime, is_verbose: bool) -> Option<Vec<u8>> {
+pub(crate) fn kept(rt: &HostRuntime, is_verbose: bool) -> Option<Vec<u8>> {
     if is_verbose {
         Some(Vec::new(rt.alloc()))
     } else {

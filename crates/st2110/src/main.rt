@@ -3,18 +3,20 @@
 
 ghost use Rattle.std.specs.Result.{ForOk};
 
+mod describing;
 mod importing;
 mod receiving;
 
 use capture_runs::{LoopCommand, MigrateCommand, SendCommand};
 use command_end::{Command, end_without_memory, run_command};
 use command_line::{Given, Words, WordsFault, given_words, read_words};
+use describing::sdp;
 use importing::import;
 use receiver_runs::{MergeCommand, ProcessCommand, ReportCommand};
 use receiving::receive;
 use recording_runs::{ExportCommand, InspectCommand};
 use run_outcome::Status;
-use script_runs::{RehearseCommand, SdpCommand, TraceCommand};
+use script_runs::{RehearseCommand, TraceCommand};
 use std::alloc::AllocError;
 use std::fs::File;
 use std::io::IsTerminal;
@@ -50,7 +52,7 @@ fn follow(rt: &HostRuntime, given: &Given<'_>) -> u8 {
     let explains = explains_faults(rt, given);
     match &given.words {
         Words::Trace => run_command(rt, explains, TraceCommand::new(rt, explains)).status,
-        Words::Sdp => run_command(rt, explains, SdpCommand::new(rt, explains)).status,
+        Words::Sdp(words) => sdp(rt, words, explains),
         Words::Rehearse => run_command(rt, explains, RehearseCommand::new(rt, explains)).status,
         Words::Migrate(words) => {
             run_command(rt, explains, MigrateCommand::new(rt, words)).status

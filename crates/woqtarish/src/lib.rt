@@ -44,12 +44,14 @@ pub mod formats {
     };
 }
 
-/// SDP texts: what one announces, where it is at fault, and the fmtp line of what was read.
+/// SDP texts: what one announces, where it is at fault, and the fmtp line of what was read; and texts
+/// that are written of a stream.
 pub mod describe {
     pub use sdp_format::{
         FlowsFault, Located, Place, Range, Sdp, SdpFault, fmtp_text, read_flows, read_located,
         read_sdp,
     };
+    pub use sdp_writing::{usual_sdp, write_sdp};
 }
 
 /// Receivers of two paths: opened, given datagrams one by one or from a source, merged, moved on;

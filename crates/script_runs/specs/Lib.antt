@@ -1,0 +1,2 @@
+pub mod StreamWords
+pub mod Announced

@@ -1,0 +1,254 @@
+-- The sections of a text that is written: each has the line of the parameters, and names its leg.
+use Rattle.std.proofs.Common.{◌≡◌, ℕ, ◌<◌, ◌≤◌, ◌^◌, false, List, [], ◌∷◌, ◌++◌}
+use Rattle.std.proofs.Common.{get_or, refl, ap, ◌∙◌, sym, subst, arith, codes, decimal}
+use Rattle.std.proofs.Common.{append_assoc, Option, Some, None}
+use Rattle.std.specs.Prelude.{IfSome}
+use Rattle.std.specs.List.{AllZip}
+use Rattle.std.specs.Option.{option_or}
+use Rattle.std.proofs.lemmas.List.{append-nil}
+use Rattle.std.proofs.lemmas.List.Elements.{All-nil, All-cons}
+use Rattle.std.specs.declared.net.ip_addr.IpAddr.{IpAddr}
+use Rattle.std.specs.declared.net.ip_addr.IpAddr.TheVariants.{V4, V6}
+use Rattle.flow.specs.declared.flows.Flow.{Flow}
+use Rattle.flow.specs.Flow.{IsFlow}
+use Rattle.sdp_format.specs.Back.{HasLine}
+use Rattle.sdp_format.specs.Bytes.{begins_with, trimmed}
+use Rattle.sdp_format.specs.Destinations.{AreFlows, IsAddressOf, IsFlowOf, SectionsFlows}
+use Rattle.sdp_format.specs.Destinations.{first_connection}
+use Rattle.sdp_format.specs.Grammar.{HasNone, IsAttribute, IsMediaLine}
+use Rattle.sdp_format.specs.Sections.{Section, section_lines, video_sections}
+use Rattle.sdp_format.proofs.Again.{number_decimal}
+use Rattle.sdp_writing.specs.Written.{connection_line, connection_lines, leg_lines, legs, map_line}
+use Rattle.sdp_writing.specs.Written.{media_line, ports, sdp_lines}
+use Rattle.sdp_writing.proofs.Connections.{IsAddress, connection_named}
+
+-- ---- lines that begin no section
+
+abbrev pub IsOther : List ℕ → Type 0
+IsOther line =
+    (begins_with (codes "m=") line ≡ false) × (begins_with (codes "m=video ") line ≡ false)
+
+abbrev pub AreOther : List (List ℕ) → Type 0
+AreOther [] = Unit {0}
+AreOther (l ∷ ls) = IsOther l × AreOther ls
+
+section_lines-others : (ls more : List (List ℕ)) → AreOther ls
+    → section_lines (ls ++ more) ≡ ls ++ section_lines more
+section_lines-others [] more h = refl
+section_lines-others (l ∷ ls) more h =
+    rw h.0.0 (ap (λ z. l ∷ z) (section_lines-others ls more h.1))
+
+video_sections-others : (ls more : List (List ℕ)) → AreOther ls
+    → video_sections (ls ++ more) ≡ video_sections more
+video_sections-others [] more h = refl
+video_sections-others (l ∷ ls) more h = rw h.0.1 (video_sections-others ls more h.1)
+
+-- ---- the section of a leg, with a line of parameters
+
+module _ (payload_type : ℕ) (rest : List ℕ) where
+  abbrev parameters : List ℕ
+  parameters = codes "a=fmtp:" ++ rest
+
+  abbrev named_lines : List ℕ → List (List ℕ)
+  named_lines name = map_line payload_type ∷ parameters ∷ (codes "a=mid:" ++ name) ∷ []
+
+  -- a section, and what stands behind it up to the next one
+  abbrev section_of : Flow → List ℕ → List (List ℕ) → Section
+  section_of leg name behind = record {
+    media = media_line payload_type leg.port;
+    lines = (connection_lines leg.address ++ named_lines name) ++ behind;
+  }
+
+  are_other : (address : Option IpAddr) (name : List ℕ)
+      → AreOther (connection_lines address ++ named_lines name)
+  are_other None name = ((refl, refl), ((refl, refl), ((refl, refl), tt)))
+  are_other (Some (V4 a)) name =
+      ((refl, refl), ((refl, refl), ((refl, refl), ((refl, refl), tt))))
+  are_other (Some (V6 a)) name =
+      ((refl, refl), ((refl, refl), ((refl, refl), ((refl, refl), tt))))
+
+  leg_section : (leg : Flow) (name : List ℕ) (more : List (List ℕ))
+      → video_sections (leg_lines payload_type parameters leg name ++ more)
+      ≡ section_of leg name (section_lines more) ∷ video_sections more
+  leg_section leg name more =
+      let others = are_other leg.address name in
+      let behind = connection_lines leg.address ++ named_lines name in
+      ap (λ (ls : List (List ℕ)).
+      record { media = media_line payload_type leg.port; lines = ls }
+      ∷ video_sections (behind ++ more)) (section_lines-others behind more others)
+      ∙ ap (λ (ss : List Section). section_of leg name (section_lines more) ∷ ss)
+      (video_sections-others behind more others)
+
+  -- ---- what the section says
+
+  is_media : (leg : Flow) → payload_type ≤ 127 → leg.port < 2 ^ 16
+      → IsMediaLine (media_line payload_type leg.port) leg.port payload_type
+  is_media leg few small = record {
+    port_text = decimal leg.port;
+    type_text = decimal payload_type;
+    spaces = [];
+    whole = sym (append-nil (media_line payload_type leg.port));
+    is_port = number_decimal leg.port (omega arith);
+    most_port = omega arith;
+    is_type = number_decimal payload_type (omega arith);
+    most_type = few;
+    blank = refl;
+  }
+
+  -- a line of an address is no attribute, and that of the payload type none of parameters
+  abbrev IsNone : List ℕ → List ℕ → Type 0
+  IsNone word line = (text : List ℕ) → IsAttribute line word payload_type text → ⊥
+
+  connection_none : (address : Option IpAddr)
+      → HasNone (connection_lines address) (codes "a=rtpmap:") payload_type
+  connection_none None = All-nil (IsNone (codes "a=rtpmap:"))
+  connection_none (Some a) =
+      All-cons (IsNone (codes "a=rtpmap:")) (connection_line a) [] (no_map a)
+      (All-nil (IsNone (codes "a=rtpmap:")))
+    where
+      no_map : (a : IpAddr) → IsNone (codes "a=rtpmap:") (connection_line a)
+      no_map (V4 a) text h =
+          let e : 99 ≡ 97 = ap (λ (l : List ℕ). get_or l 0 0) h.whole in omega (arith, e)
+      no_map (V6 a) text h =
+          let e : 99 ≡ 97 = ap (λ (l : List ℕ). get_or l 0 0) h.whole in omega (arith, e)
+
+  map_no_parameters : IsNone (codes "a=fmtp:") (map_line payload_type)
+  map_no_parameters text h =
+      let e : 114 ≡ 102 = ap (λ (l : List ℕ). get_or l 2 0) h.whole in omega (arith, e)
+
+  map_none : HasNone (map_line payload_type ∷ []) (codes "a=fmtp:") payload_type
+  map_none =
+      All-cons (IsNone (codes "a=fmtp:")) (map_line payload_type) [] map_no_parameters
+      (All-nil (IsNone (codes "a=fmtp:")))
+
+  before_none : (address : Option IpAddr)
+      → HasNone (connection_lines address ++ map_line payload_type ∷ []) (codes "a=fmtp:")
+      payload_type
+  before_none None = map_none
+  before_none (Some a) =
+      All-cons (IsNone (codes "a=fmtp:")) (connection_line a) (map_line payload_type ∷ [])
+      (no_parameters a) map_none
+    where
+      no_parameters : (a : IpAddr) → IsNone (codes "a=fmtp:") (connection_line a)
+      no_parameters (V4 a) text h =
+          let e : 99 ≡ 97 = ap (λ (l : List ℕ). get_or l 0 0) h.whole in omega (arith, e)
+      no_parameters (V6 a) text h =
+          let e : 99 ≡ 97 = ap (λ (l : List ℕ). get_or l 0 0) h.whole in omega (arith, e)
+
+  has_line : (leg : Flow) (name : List ℕ) (behind : List (List ℕ)) → payload_type ≤ 127
+      → leg.port < 2 ^ 16 → HasLine (section_of leg name behind) parameters payload_type leg.port
+  unfolding trimmed
+  has_line leg name behind few small =
+      let before = connection_lines leg.address in
+      record {
+        media = is_media leg few small;
+        map = codes "raw/90000";
+        rtpmap =
+            record {
+              before = connection_lines leg.address;
+              line = map_line payload_type;
+              after = parameters ∷ (codes "a=mid:" ++ name) ∷ behind;
+              whole = append_assoc before (named_lines name) behind;
+              none = connection_none leg.address;
+              first =
+                  record {
+                    digits = decimal payload_type;
+                    whole = refl;
+                    is_type = number_decimal payload_type (omega arith);
+                  };
+            };
+        raw = refl;
+        before = connection_lines leg.address ++ map_line payload_type ∷ [];
+        after = (codes "a=mid:" ++ name) ∷ behind;
+        whole =
+            append_assoc before (named_lines name) behind
+            ∙ sym (append_assoc before (map_line payload_type ∷ [])
+            (parameters ∷ (codes "a=mid:" ++ name) ∷ behind));
+        none = before_none leg.address;
+      }
+
+  -- ---- where the section is sent to
+
+  is_address : (ls : List (List ℕ)) (address : Option IpAddr) (name : List ℕ)
+      (behind : List (List ℕ)) → first_connection (section_lines ls) ≡ None
+      → first_connection behind ≡ None → IfSome address IsAddress
+      → IsAddressOf
+      (option_or (first_connection ((connection_lines address ++ named_lines name) ++ behind))
+      (first_connection (section_lines ls))) address
+  is_address ls None name behind session none is = rw (none, session) tt
+  is_address ls (Some (V4 a)) name behind session none is = connection_named (V4 a) is
+  is_address ls (Some (V6 a)) name behind session none is = connection_named (V6 a) is
+
+  is_flow : (ls : List (List ℕ)) (leg : Flow) (name : List ℕ) (behind : List (List ℕ))
+      → first_connection (section_lines ls) ≡ None → first_connection behind ≡ None
+      → payload_type ≤ 127 → IsFlow leg → IsFlowOf ls (section_of leg name behind) leg
+  is_flow ls leg name behind session none few is = (
+    (payload_type, is_media leg few is.1),
+    is_address ls leg.address name behind session none is.0,
+  )
+
+  -- ---- the sections of a text
+
+  -- the lines of a text, with the empty one behind its last line end
+  abbrev read_lines : Flow → Option Flow → List (List ℕ)
+  read_lines a b = sdp_lines payload_type parameters a b ++ [] ∷ []
+
+  abbrev sections_of : Flow → Option Flow → List Section
+  sections_of a None = section_of a (codes "A") ([] ∷ []) ∷ []
+  sections_of a (Some b) =
+      section_of a (codes "A") [] ∷ section_of b (codes "B") ([] ∷ []) ∷ []
+
+  sections_read : (a : Flow) (b : Option Flow) → video_sections (read_lines a b) ≡ sections_of a b
+  sections_read a None = leg_section a (codes "A") ([] ∷ [])
+  sections_read a (Some b) =
+      ap video_sections
+      (append_assoc (leg_lines payload_type parameters a (codes "A"))
+      (leg_lines payload_type parameters b (codes "B")) ([] ∷ []))
+      ∙ leg_section a (codes "A") (leg_lines payload_type parameters b (codes "B") ++ [] ∷ [])
+      ∙ ap (λ (ss : List Section). section_of a (codes "A") [] ∷ ss)
+      (leg_section b (codes "B") ([] ∷ []))
+
+  lines_had : (a : Flow) (b : Option Flow) → payload_type ≤ 127 → IsFlow a → IfSome b IsFlow
+      → AllZip (λ s port. HasLine s parameters payload_type port) (sections_of a b) (ports a b)
+  lines_had a None few is second = (has_line a (codes "A") ([] ∷ []) few is.1, tt)
+  lines_had a (Some b) few is second = (
+    has_line a (codes "A") [] few is.1,
+    (has_line b (codes "B") ([] ∷ []) few second.1, tt),
+  )
+
+  flows_had : (a : Flow) (b : Option Flow) → payload_type ≤ 127 → IsFlow a → IfSome b IsFlow
+      → SectionsFlows (read_lines a b) (sections_of a b) (legs a b)
+  flows_had a None few is second =
+      is_flow (read_lines a None) a (codes "A") ([] ∷ []) refl refl few is
+  flows_had a (Some b) few is second = (
+    is_flow (read_lines a (Some b)) a (codes "A") [] refl refl few is,
+    is_flow (read_lines a (Some b)) b (codes "B") ([] ∷ []) refl refl few second,
+  )
+
+-- ---- of any line of parameters that begins so
+
+module _ (payload_type : ℕ) (line rest : List ℕ) (begins : line ≡ codes "a=fmtp:" ++ rest)
+    (a : Flow) (b : Option Flow) (few : payload_type ≤ 127) (is : IsFlow a)
+    (second : IfSome b IsFlow) where
+  pub all_have_line : AllZip (λ s port. HasLine s line payload_type port)
+      (video_sections (sdp_lines payload_type line a b ++ [] ∷ [])) (ports a b)
+  all_have_line =
+      subst
+      (λ (p : List ℕ). AllZip (λ s port. HasLine s p payload_type port)
+      (video_sections (sdp_lines payload_type p a b ++ [] ∷ [])) (ports a b))
+      (sym begins)
+      (subst
+      (λ (ss : List Section). AllZip (λ s port. HasLine s (codes "a=fmtp:" ++ rest) payload_type port)
+      ss (ports a b)) (sym (sections_read payload_type rest a b))
+      (lines_had payload_type rest a b few is second))
+
+  pub all_sent : AreFlows (sdp_lines payload_type line a b ++ [] ∷ []) (legs a b)
+  all_sent =
+      subst
+      (λ (p : List ℕ). AreFlows (sdp_lines payload_type p a b ++ [] ∷ []) (legs a b))
+      (sym begins)
+      (subst
+      (λ (ss : List Section). SectionsFlows
+      (sdp_lines payload_type (codes "a=fmtp:" ++ rest) a b ++ [] ∷ []) ss (legs a b))
+      (sym (sections_read payload_type rest a b))
+      (flows_had payload_type rest a b few is second))
