@@ -32,8 +32,12 @@ enum Usage {
     Required(&'static str),
     /// An option with a value of a kind that has to be given.
     Number(&'static str, ValueParser<'static>),
+    /// An option with a value, which wants another option: this one.
+    With(&'static str, &'static str),
     /// An option with a value of a kind, and the value where it isn't given.
     Default(&'static str, ValueParser<'static>, &'static str),
+    /// So a payload type, or `sdp`, which wants the option of that name; words.rt reads it.
+    Type(&'static str, &'static str),
     /// One file.
     File(&'static str),
     /// One file or more.
@@ -98,7 +102,7 @@ const SEND: Said = Said {
     name: "send",
     about: "Sends pictures of one format into a capture, and prints how many datagrams that \
         are",
-    words: &[SENT, STAMP, MAX, SENT_PICTURES],
+    words: &[SENT, SENT_TYPE, STAMP, MAX, SENT_PICTURES],
 };
 
 const RECEIVE: Said = Said {
@@ -119,7 +123,7 @@ const PROCESS: Said = Said {
     name: "process",
     about: "Runs a job on the frames of one timestamp, sends its picture into a capture, and \
         prints how many datagrams that are",
-    words: &[JOB, PROCESSED, STAMP, MAX],
+    words: &[JOB, PROCESSED, TYPE, STAMP, MAX],
 };
 
 const REPORT: Said = Said {
@@ -198,13 +202,22 @@ const MAX: &[Word] = &[Word {
     help: "The most octets of a packet, up to 9000",
 }];
 
-/// What the packets of a stream have in common, and where its numbers and timestamps begin.
+/// The payload type of what is sent.
+const SENT_TYPE: &[Word] = &[Word {
+    name: "pt",
+    usage: Usage::Type("N", "96"),
+    help: "The payload type, up to 127; or sdp, that which the SDP says",
+}];
+
+/// The payload type.
+const TYPE: &[Word] = &[Word {
+    name: "pt",
+    usage: Usage::Default("N", U7, "96"),
+    help: "The payload type, up to 127",
+}];
+
+/// What else the packets of a stream have in common, and where its numbers and timestamps begin.
 const STAMP: &[Word] = &[
-    Word {
-        name: "pt",
-        usage: Usage::Default("N", U7, "96"),
-        help: "The payload type, up to 127",
-    },
     Word {
         name: "first",
         usage: Usage::Default("N", U32, "0"),
@@ -294,8 +307,9 @@ const JOB: &[Word] = &[
     Word {
         name: "job",
         usage: Usage::Required("JOB"),
-        help: "limit:nominal, limit:video, gain:G (4096 is unity), ycc444, ycc422, \
-            wipe:columns:P:S, wipe:rows:P:S (position and softness) or key",
+        help: "limit:nominal, limit:video, gain:G (in 4096ths, up to 16384: 4096 is unity), \
+            ycc444, ycc422, wipe:columns:P:S, wipe:rows:P:S (position and softness, in \
+            columns or rows) or key",
     },
     Word {
         name: "ts",
@@ -305,7 +319,8 @@ const JOB: &[Word] = &[
     Word {
         name: "fill",
         usage: Usage::Required("A,B,C"),
-        help: "For a sample that is missing or contested, a value of each component",
+        help: "For a sample that is missing or contested, a value of each component: Y, Cb and Cr, \
+            or R, G and B of RGB",
     },
 ];
 
@@ -315,6 +330,11 @@ const PROCESSED: &[Word] = &[
         name: "hold",
         usage: Usage::Optional("FILE"),
         help: "Picture whose values the first frame takes in place of the fill's",
+    },
+    Word {
+        name: "sdp",
+        usage: Usage::Optional("FILE"),
+        help: "SDP text that the capture has; without it, its text is empty",
     },
     Word {
         name: "out",
@@ -414,6 +434,18 @@ const EXPORTED: &[Word] = &[
         help: "Where the recording is written; - is standard output",
     },
     Word {
+        name: "paced",
+        usage: Usage::Flag,
+        help: "Give each packet the moment that a sender has for it at the frame rate of the \
+            capture's SDP, in place of its record's; the capture is read twice",
+    },
+    Word {
+        name: "start",
+        usage: Usage::With("SECONDS", "paced"),
+        help: "When the first frame begins, in seconds since 1970, with up to nine digits behind a \
+            point [without it: 0]",
+    },
+    Word {
         name: "capture",
         usage: Usage::File("CAPTURE"),
         help: "The capture that is read",
@@ -483,25 +515,37 @@ fn with_words<'a>(
 ) -> Result<Command<'a>, AllocError> {
     let mut command = command;
     for word in words {
-        command = command.arg(argument(alloc, word))?;
+        command = command.arg(argument(alloc, word)?)?;
     }
     Ok(command)
 }
 
 /// A word of a command, with its help.
-fn argument<'a>(alloc: Global, word: &Word) -> Arg<'a> {
+fn argument<'a>(alloc: Global, word: &Word) -> Result<Arg<'a>, AllocError> {
     let argument = Arg::new(alloc, word.name).help(word.help);
     formed(argument, word.name, word.usage)
 }
 
 /// Gives a word its form.
-fn formed<'a>(word: Arg<'a>, name: &'static str, form: Usage) -> Arg<'a> {
+fn formed<'a>(word: Arg<'a>, name: &'static str, form: Usage) -> Result<Arg<'a>, AllocError> {
+    match form {
+        Usage::With(value, other) => option(word, name, value).requires_arg(other),
+        Usage::Type(value, text) => typed(option(word, name, value), text),
+        form => Ok(plain(word, name, form)),
+    }
+}
+
+/// Gives a word its form, where it wants no other one.
+fn plain<'a>(word: Arg<'a>, name: &'static str, form: Usage) -> Arg<'a> {
     match form {
         Usage::Flag => word.long(name).action(ArgAction::SetTrue),
-        Usage::Optional(value) => option(word, name, value),
+        Usage::Optional(value) | Usage::With(value, _) => option(word, name, value),
         Usage::Required(value) => option(word, name, value).required(true),
         Usage::Number(value, kind) => option(word, name, value).required(true).value_parser(kind),
         Usage::Default(value, kind, text) => with_default(option(word, name, value), kind, text),
+        Usage::Type(value, text) => {
+            with_default(option(word, name, value), ValueParser::String, text)
+        }
         Usage::File(value) => file(word, value),
         Usage::Files(value) => file(word, value).num_args(1..),
     }
@@ -515,6 +559,11 @@ fn option<'a>(word: Arg<'a>, name: &'static str, value: &'static str) -> Arg<'a>
 /// An option of a kind of value that is this text where it isn't given.
 fn with_default<'a>(word: Arg<'a>, kind: ValueParser<'static>, text: &'static str) -> Arg<'a> {
     word.value_parser(kind).default_value(text)
+}
+
+/// A payload type, or `sdp`, with the option of that name.
+fn typed<'a>(word: Arg<'a>, text: &'static str) -> Result<Arg<'a>, AllocError> {
+    with_default(word, ValueParser::String, text).requires_if("sdp", "sdp")
 }
 
 /// A word that is no option, and has to be given.

@@ -4,10 +4,11 @@
 
 mod commands;
 mod fault;
+mod numbers;
 mod words;
 
 pub use fault::WordsFault;
 pub use words::{
     ExportWords, Given, ImportWords, LoopWords, MergeWords, MigrateWords, NamedPaths, ProcessWords,
-    ReceiveWords, SendWords, StampWords, Words, given_words, read_words,
+    ReceiveWords, SendWords, StampWords, StartWords, Words, given_words, read_words,
 };
