@@ -13,3 +13,4 @@ pub mod Leaving
 pub mod Passing
 pub mod Accounting
 pub mod Coming
+pub mod TypedTexts

@@ -12,6 +12,7 @@ mod receiving;
 mod sender;
 mod sending;
 mod tally;
+mod typed;
 
 pub use datagram_link::DatagramLink;
 pub use looping::{Looping, loop_back};
@@ -20,3 +21,4 @@ pub use migrating::migrate;
 pub use receiving::{Wanted, check_words, receive};
 pub use sender::Sending;
 pub use sending::{check_pictures, send};
+pub use typed::send_typed;
