@@ -3,16 +3,20 @@
 
 ghost use Rattle.std.specs.Result.{ForOk};
 
+mod exporting;
 mod importing;
+mod sending;
 
-use capture_runs::{LoopCommand, MigrateCommand, ReceiveCommand, SendCommand};
+use capture_runs::{LoopCommand, MigrateCommand, ReceiveCommand};
 use command_end::{Command, end_without_memory, run_command};
 use command_line::{Given, Words, WordsFault, given_words, read_words};
+use exporting::export;
 use importing::import;
 use receiver_runs::{MergeCommand, ProcessCommand, ReportCommand};
-use recording_runs::{ExportCommand, InspectCommand};
+use recording_runs::InspectCommand;
 use run_outcome::Status;
 use script_runs::{RehearseCommand, SdpCommand, TraceCommand};
+use sending::send;
 use std::alloc::AllocError;
 use std::fs::File;
 use std::io::IsTerminal;
@@ -53,7 +57,7 @@ fn follow(rt: &HostRuntime, given: &Given<'_>) -> u8 {
         Words::Migrate(words) => {
             run_command(rt, explains, MigrateCommand::new(rt, words)).status
         }
-        Words::Send(words) => run_made(rt, explains, SendCommand::new(rt, words)),
+        Words::Send(words) => send(rt, words, explains),
         Words::Receive(words) => {
             run_command(rt, explains, ReceiveCommand::new(rt, words)).status
         }
@@ -62,7 +66,7 @@ fn follow(rt: &HostRuntime, given: &Given<'_>) -> u8 {
         Words::Report(state) => run_command(rt, explains, ReportCommand::new(rt, state)).status,
         Words::Loop(words) => run_command(rt, explains, LoopCommand::new(rt, words)).status,
         Words::Import(words) => import(rt, words, explains, given.is_verbose),
-        Words::Export(words) => run_command(rt, explains, ExportCommand::new(rt, words)).status,
+        Words::Export(words) => export(rt, words, explains),
         Words::Inspect(recordings) => {
             run_made(rt, explains, InspectCommand::new(rt, recordings.as_slice()))
         }
@@ -86,10 +90,13 @@ fn run_made<C: Command + Drop>(rt: &HostRuntime, explains: bool, made: Result<C,
 }
 
 /// Prints why the words are not followed, and answers the status.
-fn refuse(rt: &HostRuntime, fault: &WordsFault) -> u8 {
+pub(crate) fn refuse(rt: &HostRuntime, fault: &WordsFault) -> u8 {
     let status = match fault {
         WordsFault::NoMemory => Status::Memory,
-        WordsFault::NoText | WordsFault::Refused(_) => Status::CommandLine,
+        WordsFault::NoText
+        | WordsFault::NotPlain
+        | WordsFault::Misworded(_)
+        | WordsFault::Refused(_) => Status::CommandLine,
         WordsFault::Shown(_) => Status::Done,
     };
     match fault.print(rt) {
