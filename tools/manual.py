@@ -26,6 +26,20 @@ class Help:
                 # (else the man page and the completions would lack what it tells)
                 sys.exit(f"manual.py: the help of {' '.join(['st2110', *command])} has a line of another form: {line}")
 
+    def values(self):
+        """The values of each option that names them: those that are possible, and the fronts of jobs."""
+        named = {}
+        for name, text in self.below["Options"]:
+            for option in re.findall(r"(?<!\S)--\w[\w-]*(?= <)", name):
+                possible = re.search(r"\[possible values: (.*?)\]", text)
+                if possible:
+                    named[option] = possible[1].split(", ")
+                elif option == "--job":
+                    # (a job's numbers are the caller's)
+                    jobs = re.split(r",? or |, ", re.sub(r" \(.*?\)", "", text))
+                    named[option] = [re.sub(r"(:[A-Z])+$", ":", job) for job in jobs]
+        return named
+
     def options(self):
         """The options, as they are written."""
         return [it for name, _ in self.below["Options"] for it in re.findall(r"(?<!\S)--?\w[\w-]*", name)]
@@ -60,6 +74,13 @@ def bash(whole, commands):
         "# The words of st2110, for bash. Where none is offered, files are.",
         "_st2110() {",
         "    local word=${COMP_WORDS[COMP_CWORD]} command= given",
+        "    # (bash parts words at : and = too)",
+        "    local line=${COMP_LINE:0:COMP_POINT}",
+        "    local last=${line##* } option= values=",
+        "    case $last in",
+        "        --*=*) option=${last%%=*} last=${last#*=} ;;",
+        "        *) option=${line% *} option=${option##* } ;;",
+        "    esac",
         '    for given in "${COMP_WORDS[@]:1:COMP_CWORD-1}"; do',
         '        [ -n "$command" ] || [ "${given#-}" != "$given" ] || command=$given',
         "    done",
@@ -70,8 +91,22 @@ def bash(whole, commands):
     ]
     for name, it in commands.items():
         offered = f"compgen -W '{' '.join(it.options())}' -- \"$word\""
-        lines += [f"        {name}) [ \"${{word#-}}\" = \"$word\" ] || COMPREPLY=($({offered})) ;;"]
-    return [*lines, "    esac", "}", "complete -o default -F _st2110 st2110"]
+        valued = [f"{option}) values='{' '.join(values)}' ;;" for option, values in it.values().items()]
+        lines += [f"        {name})"]
+        if valued:
+            lines += ["            case $option in", *(f"                {one}" for one in valued), "            esac"]
+        lines += [f"            [ \"${{word#-}}\" = \"$word\" ] || COMPREPLY=($({offered}))", "            ;;"]
+    return [
+        *lines,
+        "    esac",
+        "    if [ -n \"$values\" ]; then",
+        "        COMPREPLY=($(compgen -W \"$values\" -- \"$last\"))",
+        "        [ \"${COMP_WORDBREAKS#*:}\" = \"$COMP_WORDBREAKS\" ] ||",
+        "            COMPREPLY=(\"${COMPREPLY[@]#\"${last%\"${last##*:}\"}\"}\")",
+        "    fi",
+        "}",
+        "complete -o default -F _st2110 st2110",
+    ]
 
 
 def main(program, form):

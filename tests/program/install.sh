@@ -46,6 +46,13 @@ offer() {
     bash -c '. "$0" && COMP_WORDS=("$@") COMP_CWORD=$(($# - 1)) && _st2110 && printf "%s\n" "${COMPREPLY[@]}"' \
         "a prefix/$words" st2110 "$@"
 }
+# offer_at LINE: what it offers at the end of a line of words.
+offer_at() {
+    # shellcheck disable=SC2016
+    bash -c '. "$0" && COMP_LINE=$1 COMP_POINT=${#1} && read -r -a COMP_WORDS <<<"$1." &&
+        COMP_CWORD=$((${#COMP_WORDS[@]} - 1)) && COMP_WORDS[COMP_CWORD]=${COMP_WORDS[COMP_CWORD]%.} &&
+        _st2110 && printf "%s\n" "${COMPREPLY[@]}"' "a prefix/$words" "$1" | paste -s -d ' '
+}
 commands=$("$program" --help | sed -n '/^Commands:/,/^$/s/^  \([a-z]*\) .*/\1/p')
 for command in '' $commands; do
     [ "$command" != help ] || continue
@@ -81,6 +88,27 @@ if command -v bash >/dev/null; then
     else
         fail 'install: the commands, and files behind one' "it lacks $lacks"
     fi
+fi
+
+# Behind some options their values are offered; bash puts behind a colon what follows it.
+if command -v bash >/dev/null; then
+    while IFS='|' read -r line wanted; do
+        offered=$(offer_at "$line")
+        if [ "$offered" = "$wanted" ]; then
+            pass "install: what is offered behind '$line'"
+        else
+            fail "install: what is offered behind '$line'" "'$offered' in place of '$wanted'"
+        fi
+    done <<'END'
+st2110 send --out f.cap --paths |a b both
+st2110 send --paths b|b both
+st2110 send --paths=bo|both
+st2110 process --job |limit:nominal limit:video gain: ycc444 ycc422 wipe:columns: wipe:rows: key
+st2110 process --job ycc|ycc444 ycc422
+st2110 process --job limit:v|video
+st2110 process --job wipe:|columns: rows:
+st2110 send --pa|--paths
+END
 fi
 
 # Words that it doesn't know, and a prefix that can't be written to: a file is in its place.

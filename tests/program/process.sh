@@ -54,6 +54,32 @@ run process --job gain:4096 --ts 900 --fill 0,0,0 --out j.cap both.rcv
 says 'with defaults' 0 'sent 1' ''
 holds 'with defaults: the capture' j.cap "$one 80E00000 00000000 00000001 0000 0008 0000 8000 0008 0001 0000 $u$l"
 
+# With an SDP the capture has its text; it is read behind the job, and before the receivers' files.
+text=$(od -An -v -tx1 q.sdp | tr -d ' \n')
+# shellcheck disable=SC2086
+run process --job gain:4096 $processed --sdp q.sdp both.rcv
+says 'with an SDP' 0 'sent 1' ''
+holds 'with an SDP: the capture' j.cap "5332304341503032 $(printf %04x "$(wc -c <q.sdp)") $text
+    00 0000000000000000 002A $sent $u$l"
+rm -f j.cap
+head -c 65536 /dev/zero >long.sdp
+printf 'v=0\n' >none.sdp
+while IFS='|' read -r fault words; do
+    # shellcheck disable=SC2086
+    run process $processed $words
+    says "refused: $words" 1 '' "st2110: $fault"
+done <<'END'
+process 1 BadJob|--job gains:1 --sdp none.sdp both.rcv
+send 3 SdpTooLong|--job gain:4096 --sdp long.sdp no-such-file
+sdp 1 NoVideo|--job gain:4096 --sdp none.sdp no-such-file
+state 5 Truncated|--job gain:4096 --sdp q.sdp empty.rcv
+END
+none 'with an SDP: nothing is written' j.cap
+cp q.sdp same.sdp
+run process --job gain:4096 --ts 900 --fill 0,0,0 --sdp same.sdp --out same.sdp both.rcv
+says 'with an SDP that is the output' 1 '' 'st2110: process 5 OutputIsInput'
+alike 'with an SDP that is the output: the SDP' same.sdp q.sdp
+
 # Refusals, and nothing is written: FAULT|WORDS.
 rm -f j.cap
 while IFS='|' read -r fault words; do

@@ -179,6 +179,42 @@ status=$?
 says 'send: a pipe' 0 'sent 1' ''
 holds 'send: a pipe, the file' f.cap "$one"
 
+# The payload type that the SDP says, 100 here (and the marker with it: E4), and what it says otherwise.
+cat >typed.sdp <<'END'
+v=0
+m=video 5004 RTP/AVP 100
+a=rtpmap:100 raw/90000
+a=fmtp:100 sampling=YCbCr-4:2:2; width=4; height=2; exactframerate=60; depth=8; colorimetry=BT709; PM=2110GPM; SSN=ST2110-20:2017
+END
+typed=$(od -An -v -tx1 typed.sdp | tr -d ' \n')
+head="5332304341503032 $(printf %04x "$(wc -c <typed.sdp)") $typed 00 0000000000000000 002A"
+body="00000000 00000001 0000 0008 0000 8000 0008 0001 0000 $u$l"
+run send --sdp typed.sdp --pt sdp --out f.cap p.pic
+says 'send: the payload type of the SDP' 0 'sent 1' ''
+holds 'send: the payload type of the SDP, the capture' f.cap "$head 80E40000 $body"
+run send --verbose --sdp typed.sdp --pt sdp --out f.cap p.pic
+says 'send: nothing is otherwise' 0 'sent 1' ''
+run send --verbose --sdp typed.sdp --out f.cap p.pic
+says 'send: another payload type than the SDP says' 0 'sent 1' \
+    '  the SDP says YCbCr-4:2:2 8 4 2 60/1 pt 100, sent was YCbCr-4:2:2 8 4 2 60/1 pt 96'
+holds 'send: another payload type, the capture' f.cap "$head 80E00000 $body"
+sed 's/depth=8/depth=10/; s/exactframerate=60/exactframerate=30000\/1001/' typed.sdp >other.sdp
+run send --verbose --sdp other.sdp --pt sdp --out f.cap p.pic
+says 'send: another format than the SDP says' 0 'sent 1' \
+    '  the SDP says YCbCr-4:2:2 10 4 2 30000/1001 pt 100, sent was YCbCr-4:2:2 8 4 2 60/1 pt 100'
+run send --sdp other.sdp --out f.cap p.pic
+says 'send: that is told where faults are explained' 0 'sent 1' ''
+run send --verbose --sdp typed.sdp --out /dev/full p.pic
+if [ "$status" = 3 ] && ! grep -q 'the SDP says' err; then
+    pass 'send: nor behind a fault'
+else
+    fail 'send: nor behind a fault' "status $status: $(cat err)"
+fi
+printf 'v=0\n' >none.sdp
+run send --sdp none.sdp --pt sdp --out no-send.cap no-such-file
+says 'send: the payload type of a text that is no SDP' 1 '' 'st2110: sdp 1 NoVideo'
+none 'send: nothing is written for such a text' no-send.cap
+
 # Words that the command line refuses.
 run send p.pic
 misworded 'send: without --out' "$missing\n  --out <FILE>" 'send --out <FILE> <PICTURE>...'

@@ -46,18 +46,20 @@ migrate --sdp --out FILE <CAPTURE>
 send --out --pt --first --base --ssrc --max --paths --sdp 96 1400 <PICTURE>...
 receive --sdp --a --b --window --ssrc --state --refusals any [ADDR:]PORT <RECORDING>...
 merge --state <LEFT> <RIGHT>
-process --job --ts --fill --hold --out --pt --first --base --ssrc --max 96 1400 <STATE>...
+process --job --ts --fill --hold --sdp --out --pt --first --base --ssrc --max 96 1400 <STATE>...
 report <STATE>
 loop --max --limit 1400 100000 <PICTURE>
 import --sdp --a --b --out [ADDR:]PORT <RECORDING>...
 inspect <RECORDING>...
-export --a ADDR:PORT --b --out FILE <CAPTURE>
+export --a ADDR:PORT --b --out --paced --start SECONDS FILE <CAPTURE>
 END
 
 # Words that are refused, and nothing is written: rows are WORDS|TEXT|USAGE, as `misworded` has them.
 twice='cannot be used multiple times'
 no_value='but none was supplied'
 digit='invalid digit found in string'
+start='invalid value'
+seconds="for '--start <SECONDS>': it isn't seconds below 4294967296, with up to nine digits behind a point"
 process='process --job <JOB> --ts <TS> --fill <A,B,C> --out <FILE>'
 while IFS='|' read -r words text usage; do
     # shellcheck disable=SC2086
@@ -104,6 +106,8 @@ send --out no-words.cap --pt 128 p.pic|invalid value '128' for '--pt <N>': 128 i
 send --out no-words.cap --pt 256 p.pic|invalid value '256' for '--pt <N>': 256 is not in 0..=127|-
 send --out no-words.cap --pt -1 p.pic|unexpected argument '-1' found\n\n  tip: to pass '-1' as a value, use '-- -1'|send [OPTIONS] --out <FILE> <PICTURE>...
 send --out no-words.cap --pt x p.pic|invalid value 'x' for '--pt <N>': $digit|-
+send --out no-words.cap --pt SDP --sdp q.sdp p.pic|invalid value 'SDP' for '--pt <N>': $digit|-
+send --out no-words.cap --pt sdp p.pic|$missing\n  --sdp <FILE>|send --out <FILE> --sdp <FILE> <PICTURE>...
 send --out no-words.cap --first 4294967296 p.pic|invalid value '4294967296' for '--first <N>': 4294967296 is not in 0..=4294967295|-
 send --out no-words.cap --base 4294967296 p.pic|invalid value '4294967296' for '--base <TS>': 4294967296 is not in 0..=4294967295|-
 send --out no-words.cap --ssrc any p.pic|invalid value 'any' for '--ssrc <N>': $digit|-
@@ -131,6 +135,13 @@ process --job gain:1 --ts 900 --out no-words.cap g.rcv|$missing\n  --fill <A,B,C
 process --job gain:1 --ts 900 --fill 0,0,0 g.rcv|$missing\n  --out <FILE>|$process <STATE>...
 process --job gain:1 --ts x --fill 0,0,0 --out no-words.cap g.rcv|invalid value 'x' for '--ts <TS>': $digit|-
 process --job gain:1 --ts 4294967296 --fill 0,0,0 --out no-words.cap g.rcv|invalid value '4294967296' for '--ts <TS>': 4294967296 is not in 0..=4294967295|-
+process --job gain:1 --ts 900 --fill 0,0,0 --pt sdp --out no-words.cap g.rcv|invalid value 'sdp' for '--pt <N>': $digit|-
+export --a 239.1.1.1:5004 --out no-words.pcap --start 5 old.cap|$missing\n  --paced|export --a <ADDR:PORT> --out <FILE> --paced --start <SECONDS> <CAPTURE>
+export --a 239.1.1.1:5004 --out no-words.pcap --paced --start 1.0000000000 old.cap|$start '1.0000000000' $seconds|-
+export --a 239.1.1.1:5004 --out no-words.pcap --paced --start 4294967296 old.cap|$start '4294967296' $seconds|-
+export --a 239.1.1.1:5004 --out no-words.pcap --paced --start 1. old.cap|$start '1.' $seconds|-
+export --a 239.1.1.1:5004 --out no-words.pcap --paced --start +1 old.cap|$start '+1' $seconds|-
+export --a 239.1.1.1:5004 --out no-words.pcap --paced --start 1.-1 old.cap|$start '1.-1' $seconds|-
 process --job gain:1 --ts 900 --fill 0,0,0 --pt 128 --out no-words.cap g.rcv|invalid value '128' for '--pt <N>': 128 is not in 0..=127|-
 process --job gain:1 --ts 900 --fill 0,0,0 --paths b --out no-words.cap g.rcv|unexpected argument '--paths' found\n\n  tip: a similar argument exists: '--pt'|$process --pt <N> <STATE>...
 report|$missing\n  <STATE>|report <STATE>

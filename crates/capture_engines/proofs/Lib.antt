@@ -14,3 +14,4 @@ pub mod Passing
 pub mod Accounting
 pub mod Coming
 pub mod Rescues
+pub mod TypedTexts

@@ -8,6 +8,7 @@ pub mod Taking
 pub mod Writing
 pub mod Sent
 pub mod Sending
+pub mod Typed
 pub mod Looping
 pub mod Looped
 pub mod Coming

@@ -14,6 +14,7 @@ mod rescuing;
 mod sender;
 mod sending;
 mod tally;
+mod typed;
 
 pub use datagram_link::DatagramLink;
 pub use looping::{Looping, loop_back};
@@ -25,3 +26,4 @@ pub use rescuing::receive_files;
 pub use sender::Sending;
 pub use sending::{check_pictures, send};
 pub use tally::{Tally, refusal_at};
+pub use typed::send_typed;

@@ -90,7 +90,7 @@ pub fn check_pictures(pictures: usize) -> Result<(), Fault>
 }
 
 /// Finds that there are few pictures, and reads the capture's text.
-fn read_said<A: Allocator + Copy, S: ByteSource>(
+pub(crate) fn read_said<A: Allocator + Copy, S: ByteSource>(
     alloc: A,
     sdp: &mut Option<S>,
     pictures: usize,
@@ -114,7 +114,7 @@ fn read_said<A: Allocator + Copy, S: ByteSource>(
 }
 
 /// Sends all pictures, and answers how many datagrams that are.
-fn send_pictures<A: Allocator + Copy, S: ByteSource, K: ByteSink>(
+pub(crate) fn send_pictures<A: Allocator + Copy, S: ByteSource, K: ByteSink>(
     alloc: A,
     wanted: Sending,
     said: &[u8],

@@ -1,8 +1,8 @@
 //! `send` over the devices of this machine.
 ghost use Rattle.std.specs.Prelude.{◌≡◌, ◌∷◌, ◌⊎◌, ◌≤◌, ◌<◌, [], All, IfErr, IfOk, IfSome, IsFalse};
-ghost use Rattle.std.specs.Prelude.{IsTrue, OnOk, length, sum_by};
+ghost use Rattle.std.specs.Prelude.{IsTrue, OnOk, ◌&&◌, is_some, length, sum_by};
 ghost use Rattle.std.specs.List.{zip};
-ghost use Rattle.capture_engines.specs.Sending.{SendsAll};
+ghost use Rattle.capture_engines.specs.Typed.{SendsBy};
 ghost use Rattle.capture_engines.specs.Sent.{IsSendRefusal};
 ghost use Rattle.devices.specs.Passed.{file_ended, file_failures, file_gave, file_took};
 ghost use Rattle.devices.specs.Passed.{IsInPlace, IsUnplaced, output_failures, output_took};
@@ -13,7 +13,7 @@ ghost use Rattle.run_outcome.specs.Refusing.{OfRefusal};
 ghost use Rattle.run_outcome.specs.declared.refusal.Refusal.TheVariants.{OutputIsInput};
 ghost use Rattle.run_outcome.specs.declared.refusal.Writer.TheVariants.{Send};
 
-use capture_engines::{Sending, check_pictures};
+use capture_engines::{Sending, check_pictures, send_typed};
 use command_end::{Command, Devices, Hints, Ran, find_output};
 use command_line::{NamedPaths, SendWords};
 use devices::{
@@ -29,6 +29,8 @@ use std::alloc::AllocError;
 pub struct SendCommand<'a> {
     rt: &'a HostRuntime,
     pub wanted: Sending,
+    /// Whether the payload type is that which the SDP says, where there is one.
+    pub by_sdp: bool,
     pub sdp: Option<FileSource<'a>>,
     pub pictures: Vec<FileSource<'a>>,
     pub out: FileOutput<'a>,
@@ -51,6 +53,7 @@ impl<'a> SendCommand<'a> {
         Ok(SendCommand {
             rt,
             wanted: sending(words),
+            by_sdp: words.by_sdp,
             sdp,
             pictures,
             out,
@@ -93,10 +96,18 @@ fn is_read(
     one_is(sdp, file) || any_is(pictures, file)
 }
 
+/// Whether the payload type is that of the SDP.
+fn is_typed(by_sdp: bool, sdp: &Option<FileSource<'_>>) -> bool
+    ensures { result ≡ (by_sdp && is_some sdp.now) }
+{
+    by_sdp && sdp.is_some()
+}
+
 /// Looks at the words, and at the place of the capture, before anything is read, and sends.
 fn send<'a>(
     rt: &HostRuntime,
     wanted: Sending,
+    by_sdp: bool,
     sdp: &mut Option<FileSource<'a>>,
     pictures: &mut [FileSource<'a>],
     out: &mut FileOutput<'_>,
@@ -106,8 +117,8 @@ fn send<'a>(
     requires payload_type { wanted.payload_type ≤ 127 }
     requires unplaced { IsUnplaced out.old }
     ensures len { length pictures.new ≡ length pictures.old }
-    ensures sent { OnOk result (SendsAll file_gave file_ended wanted sdp.old sdp.new
-        pictures.old pictures.new (file_took out.old) (file_took out.new)
+    ensures sent { OnOk result (SendsBy (by_sdp && is_some sdp.old) file_gave file_ended wanted
+        sdp.old sdp.new pictures.old pictures.new (file_took out.old) (file_took out.new)
         (output_took output.old) (output_took output.new)) }
     ensures unplaced { IsUnplaced out.new }
     ensures apart { OnOk result (IsFalse is_input) }
@@ -122,6 +133,9 @@ fn send<'a>(
 {
     check_pictures(pictures.len())?;
     find_output(out, is_input, Writer::Send)?;
+    if is_typed(by_sdp, sdp) {
+        return send_typed(rt.alloc(), wanted, sdp, pictures, &mut out.sink, output);
+    }
     capture_engines::send(rt.alloc(), wanted, sdp, pictures, &mut out.sink, output)
 }
 
@@ -131,10 +145,12 @@ impl<'a> Command for SendCommand<'a> {
         × (file_took c.out ≡ []) × IsUnplaced c.out × (output_took c.output ≡ []) };
 
     // What is written is the capture of the SDP text that was read and of the datagrams of all
-    // pictures that were read, and it is printed how many those are.
-    ghost does = { λ old new. SendsAll file_gave file_ended old.wanted old.sdp new.sdp
-        old.pictures.items new.pictures.items (file_took old.out) (file_took new.out)
-        (output_took old.output) (output_took new.output) };
+    // pictures that were read, with the payload type that is asked for or that the text says, and
+    // it is printed how many those are.
+    ghost does = { λ old new. SendsBy (old.by_sdp && is_some old.sdp) file_gave file_ended
+        old.wanted old.sdp new.sdp old.pictures.items new.pictures.items
+        (file_took old.out) (file_took new.out) (output_took old.output)
+        (output_took new.output) };
 
     ghost is_refused = { λ old new r. IsSendRefusal old.wanted.max_octets
         (length old.pictures.items) old.sdp new.sdp (WasRead file_gave file_ended)
@@ -156,6 +172,7 @@ impl<'a> Command for SendCommand<'a> {
         let outcome = send(
             self.rt,
             self.wanted,
+            self.by_sdp,
             &mut self.sdp,
             self.pictures.as_mut_slice(),
             &mut self.out,

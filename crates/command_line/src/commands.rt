@@ -39,6 +39,8 @@ enum Usage {
     /// An option with a value of a kind, the value where it isn't given, and the word of this name,
     /// beside which alone it may be.
     DefaultBeside(&'static str, ValueParser<'static>, &'static str, &'static str),
+    /// So a payload type, or `sdp`, which wants the option of that name; words.rt reads it.
+    Type(&'static str, &'static str),
     /// One file.
     File(&'static str),
     /// One file, which may be left out, and which the word of this name leaves no place for.
@@ -105,7 +107,7 @@ const SEND: Said = Said {
     name: "send",
     about: "Sends pictures of one format into a capture, and prints how many datagrams that \
         are",
-    words: &[SENT, STAMP, MAX, SENT_PICTURES],
+    words: &[SENT, SENT_TYPE, STAMP, MAX, SENT_PICTURES],
 };
 
 const RECEIVE: Said = Said {
@@ -126,7 +128,7 @@ const PROCESS: Said = Said {
     name: "process",
     about: "Runs a job on the frames of one timestamp, sends its picture into a capture, and \
         prints how many datagrams that are",
-    words: &[JOB, PROCESSED, STAMP, MAX],
+    words: &[JOB, PROCESSED, TYPE, STAMP, MAX],
 };
 
 const REPORT: Said = Said {
@@ -235,13 +237,22 @@ const MAX: &[Word] = &[Word {
     help: "The most octets of a packet, up to 9000",
 }];
 
-/// What the packets of a stream have in common, and where its numbers and timestamps begin.
+/// The payload type of what is sent.
+const SENT_TYPE: &[Word] = &[Word {
+    name: "pt",
+    usage: Usage::Type("N", "96"),
+    help: "The payload type, up to 127; or sdp, that which the SDP says",
+}];
+
+/// The payload type.
+const TYPE: &[Word] = &[Word {
+    name: "pt",
+    usage: Usage::Default("N", U7, "96"),
+    help: "The payload type, up to 127",
+}];
+
+/// What else the packets of a stream have in common, and where its numbers and timestamps begin.
 const STAMP: &[Word] = &[
-    Word {
-        name: "pt",
-        usage: Usage::Default("N", U7, "96"),
-        help: "The payload type, up to 127",
-    },
     Word {
         name: "first",
         usage: Usage::Default("N", U32, "0"),
@@ -337,8 +348,9 @@ const JOB: &[Word] = &[
     Word {
         name: "job",
         usage: Usage::Required("JOB"),
-        help: "limit:nominal, limit:video, gain:G (4096 is unity), ycc444, ycc422, \
-            wipe:columns:P:S, wipe:rows:P:S (position and softness) or key",
+        help: "limit:nominal, limit:video, gain:G (in 4096ths, up to 16384: 4096 is unity), \
+            ycc444, ycc422, wipe:columns:P:S, wipe:rows:P:S (position and softness, in \
+            columns or rows) or key",
     },
     Word {
         name: "ts",
@@ -348,7 +360,8 @@ const JOB: &[Word] = &[
     Word {
         name: "fill",
         usage: Usage::Required("A,B,C"),
-        help: "For a sample that is missing or contested, a value of each component",
+        help: "For a sample that is missing or contested, a value of each component: Y, Cb and Cr, \
+            or R, G and B of RGB",
     },
 ];
 
@@ -358,6 +371,11 @@ const PROCESSED: &[Word] = &[
         name: "hold",
         usage: Usage::Optional("FILE"),
         help: "Picture whose values the first frame takes in place of the fill's",
+    },
+    Word {
+        name: "sdp",
+        usage: Usage::Optional("FILE"),
+        help: "SDP text that the capture has; without it, its text is empty",
     },
     Word {
         name: "out",
@@ -457,6 +475,18 @@ const EXPORTED: &[Word] = &[
         help: "Where the recording is written; - is standard output",
     },
     Word {
+        name: "paced",
+        usage: Usage::Flag,
+        help: "Give each packet the moment that a sender has for it at the frame rate of the \
+            capture's SDP, in place of its record's; the capture is read twice",
+    },
+    Word {
+        name: "start",
+        usage: Usage::Beside("SECONDS", "paced"),
+        help: "When the first frame begins, in seconds since 1970, with up to nine digits behind a \
+            point [without it: 0]",
+    },
+    Word {
         name: "capture",
         usage: Usage::File("CAPTURE"),
         help: "The capture that is read",
@@ -540,6 +570,7 @@ fn argument<'a>(alloc: Global, word: &Word) -> Result<Arg<'a>, AllocError> {
             formed.requires_arg(other)
         }
         Usage::FileUnless(_, other) => formed.conflicts_with(other),
+        Usage::Type(..) => formed.requires_if("sdp", "sdp"),
         _ => Ok(formed),
     }
 }
@@ -555,6 +586,9 @@ fn formed<'a>(word: Arg<'a>, name: &'static str, form: Usage) -> Arg<'a> {
         Usage::Default(value, kind, text) => with_default(option(word, name, value), kind, text),
         Usage::DefaultBeside(value, kind, text, _) => {
             with_default(option(word, name, value), kind, text)
+        }
+        Usage::Type(value, text) => {
+            with_default(option(word, name, value), ValueParser::String, text)
         }
         Usage::File(value) => file(word, value),
         Usage::FileUnless(value, _) => word.value_name(value),

@@ -11,6 +11,10 @@ pub enum WordsFault {
     NoMemory,
     /// A word isn't UTF-8.
     NoText,
+    /// What is to be read twice is no plain file.
+    NotPlain,
+    /// A word is none of its option's, for this reason.
+    Misworded(String),
     /// Help or the version was asked for.
     Shown(Error),
     /// They are no command line of the program.
@@ -49,6 +53,14 @@ impl WordsFault {
         match self {
             WordsFault::NoMemory => eprintln!(rt; "st2110: memory"),
             WordsFault::NoText => eprintln!(rt; "error: the command line is no UTF-8 text"),
+            WordsFault::NotPlain => {
+                eprintln!(rt;
+                    "error: --paced reads the capture twice, so it has to be a plain file"
+                )
+            }
+            WordsFault::Misworded(text) => {
+                eprintln!(rt; "error: {text}\n\nFor more information, try '--help'.")
+            }
             WordsFault::Shown(text) | WordsFault::Refused(text) => text.print(rt),
         }
     }

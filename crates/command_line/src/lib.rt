@@ -4,10 +4,12 @@
 
 mod commands;
 mod fault;
+mod numbers;
 mod words;
 
 pub use fault::{BadValue, WordsFault};
 pub use words::{
     ExportWords, Given, ImportWords, LoopWords, MergeWords, MigrateWords, NamedPaths, ProcessWords,
-    ReceiveWords, SdpWords, SendWords, StampWords, Words, WriteWords, given_words, read_words,
+    ReceiveWords, SdpWords, SendWords, StampWords, StartWords, Words, WriteWords, given_words,
+    read_words,
 };

@@ -1,8 +1,9 @@
 //! The words of the command line.
-ghost use Rattle.std.specs.Prelude.{◌≤◌};
+ghost use Rattle.std.specs.Prelude.{◌≤◌, ◌<◌, ◌*◌, ◌^◌};
 
 use crate::commands::program;
 use crate::fault::WordsFault;
+use crate::numbers::{is_type_of_sdp, read_start};
 use clap::ArgMatches;
 use std::alloc::{AllocError, Global};
 use std::env;
@@ -89,6 +90,8 @@ pub struct SendWords<'a> {
     /// The capture's file.
     pub out: &'a str,
     pub stamp: StampWords,
+    /// Whether the payload type is that which the SDP says, in place of the stamp's.
+    pub by_sdp: bool,
     /// The most octets of a packet.
     pub max_octets: u32,
     pub paths: NamedPaths,
@@ -156,6 +159,8 @@ pub struct ProcessWords<'a> {
     pub fill: &'a str,
     /// The held picture's file, where one is named.
     pub hold: Option<&'a str>,
+    /// The SDP's file, where one is named.
+    pub sdp: Option<&'a str>,
     /// The capture's file.
     pub out: &'a str,
     pub stamp: StampWords,
@@ -202,6 +207,17 @@ pub struct ExportWords<'a> {
     pub out: &'a str,
     /// The capture's file.
     pub capture: &'a str,
+    /// When the first frame begins, where packets are paced.
+    pub paced: Option<StartWords>,
+}
+
+/// When packets that are paced begin.
+#[derive(Clone, Copy)]
+pub struct StartWords {
+    /// In nanoseconds since 1970.
+    pub start: u64,
+    // pcap has 32 bits for the seconds.
+    pub ghost early: { start < 2 ^ 32 * 1000000000 },
 }
 
 /// The words that the program was called with, its own name first.
@@ -220,7 +236,7 @@ pub fn read_words(alloc: Global, words: &[String]) -> Result<Given<'_>, WordsFau
 }
 
 /// Reads the command.
-fn command<'a>(alloc: Global, matches: &ArgMatches<'a>) -> Result<Words<'a>, AllocError> {
+fn command<'a>(alloc: Global, matches: &ArgMatches<'a>) -> Result<Words<'a>, WordsFault> {
     match matches.subcommand() {
         Some((name, given)) => command_words(alloc, name, given),
         // clap lets no words through, as `trace`.
@@ -233,9 +249,10 @@ fn command_words<'a>(
     alloc: Global,
     name: &str,
     given: &ArgMatches<'a>,
-) -> Result<Words<'a>, AllocError> {
+) -> Result<Words<'a>, WordsFault> {
     match name {
         "send" => Ok(Words::Send(send_words(alloc, given)?)),
+        "export" => Ok(Words::Export(export_words(alloc, given)?)),
         "receive" => Ok(Words::Receive(receive_words(alloc, given)?)),
         "process" => Ok(Words::Process(process_words(alloc, given)?)),
         "import" => Ok(Words::Import(import_words(alloc, given)?)),
@@ -253,7 +270,6 @@ fn plain_words<'a>(name: &str, given: &ArgMatches<'a>) -> Words<'a> {
         "merge" => Words::Merge(merge_words(given)),
         "report" => Words::Report(word(given, "state")),
         "loop" => Words::Loop(loop_words(given)),
-        "export" => Words::Export(export_words(given)),
         // clap lets `trace` through, and nothing else.
         _ => Words::Trace,
     }
@@ -279,11 +295,12 @@ fn migrate_words<'a>(given: &ArgMatches<'a>) -> MigrateWords<'a> {
     }
 }
 
-fn send_words<'a>(alloc: Global, given: &ArgMatches<'a>) -> Result<SendWords<'a>, AllocError> {
+fn send_words<'a>(alloc: Global, given: &ArgMatches<'a>) -> Result<SendWords<'a>, WordsFault> {
     Ok(SendWords {
         sdp: given.get_str("sdp"),
         out: word(given, "out"),
         stamp: stamp_words(given),
+        by_sdp: is_type_of_sdp(alloc, word(given, "pt"))?,
         max_octets: number(given, "max"),
         paths: paths(given),
         pictures: list(alloc, given, "pictures")?,
@@ -352,6 +369,7 @@ fn process_words<'a>(
         timestamp: number(given, "ts"),
         fill: word(given, "fill"),
         hold: given.get_str("hold"),
+        sdp: given.get_str("sdp"),
         out: word(given, "out"),
         stamp: stamp_words(given),
         max_octets: number(given, "max"),
@@ -369,13 +387,23 @@ fn import_words<'a>(alloc: Global, given: &ArgMatches<'a>) -> Result<ImportWords
     })
 }
 
-fn export_words<'a>(given: &ArgMatches<'a>) -> ExportWords<'a> {
-    ExportWords {
+fn export_words<'a>(alloc: Global, given: &ArgMatches<'a>) -> Result<ExportWords<'a>, WordsFault> {
+    Ok(ExportWords {
         a: word(given, "a"),
         b: given.get_str("b"),
         out: word(given, "out"),
         capture: word(given, "capture"),
+        paced: start_words(alloc, given)?,
+    })
+}
+
+/// When packets begin that are paced; clap lets `--start` through with `--paced` alone.
+fn start_words(alloc: Global, given: &ArgMatches<'_>) -> Result<Option<StartWords>, WordsFault> {
+    if !given.get_flag("paced") {
+        return Ok(None);
     }
+    let start = read_start(alloc, given.get_str("start").unwrap_or("0"))?;
+    Ok(Some(start))
 }
 
 fn loop_words<'a>(given: &ArgMatches<'a>) -> LoopWords<'a> {

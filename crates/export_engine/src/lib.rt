@@ -7,5 +7,5 @@ mod packets;
 mod places;
 
 pub use exporting::{Exporting, check_flows, export};
-pub use packets::ExportCounts;
+pub use packets::{ExportCounts, PACKET, write_head, write_packet};
 pub use places::{Envelopes, IpEnvelope};

@@ -16,8 +16,8 @@ use media_file::{FileFault, RecordHead, read_front, record_begins, record_rest};
 use pcap_file::{HEADS6, write_pcap_head, write_record, write_record6};
 use st_format::{ByteSink, ByteSource, DeviceFault, write_whole};
 
-/// Room for the greatest packet.
-pub(crate) const PACKET: usize = HEADS6 + MOST_PAYLOAD6;
+/// Room for the greatest packet, in octets.
+pub const PACKET: usize = HEADS6 + MOST_PAYLOAD6;
 
 /// How many octets stand before the packets of a recording.
 const HEAD: usize = 24;
@@ -45,7 +45,12 @@ fn write_datagram(packet: &mut [u8], envelope: &IpEnvelope, time: u64, payload: 
 }
 
 /// Writes the packet of a record's datagram, where it has one, and answers how many it wrote.
-fn write_packet<K: ByteSink>(
+/// `packet` has room for any packet.
+///
+/// # Errors
+///
+/// That the sink failed. It then has a first part of the packet.
+pub fn write_packet<K: ByteSink>(
     envelopes: &Envelopes,
     head: RecordHead,
     octets: &[u8],
@@ -82,8 +87,12 @@ fn write_packet<K: ByteSink>(
     Ok(1)
 }
 
-/// Writes what stands before the packets of a recording.
-fn write_head<K: ByteSink>(sink: &mut K, packet: &mut [u8]) -> Result<(), DeviceFault>
+/// Writes what stands before the packets of a recording. `packet` has room for any packet.
+///
+/// # Errors
+///
+/// That the sink failed. It then has a first part of that.
+pub fn write_head<K: ByteSink>(sink: &mut K, packet: &mut [u8]) -> Result<(), DeviceFault>
     requires { 65605 ≤ length packet.old }
     ensures room { length packet.new ≡ length packet.old }
     ensures took { OnOk result (K.took sink.new ≡ K.took sink.old ++ file_text) }

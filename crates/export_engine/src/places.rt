@@ -77,8 +77,8 @@ fn read_envelope(text: &[u8]) -> Option<IpEnvelope>
 }
 
 impl Envelopes {
-    /// Reads the flows of the paths.
-    pub(crate) fn read(wanted: &Exporting<'_>) -> Option<Envelopes>
+    /// Reads the flows of the paths; none where a text is no flow to an address.
+    pub fn read(wanted: &Exporting<'_>) -> Option<Envelopes>
         ensures { MatchOption result
             ((es : Envelopes) → AreEnvelopes wanted.now.a.now (option_copied wanted.now.b) es → ⊥)
             (AreEnvelopes wanted.now.a.now (option_copied wanted.now.b)) }

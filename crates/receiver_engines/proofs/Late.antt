@@ -58,7 +58,8 @@ writes_more {M} took failures names old (d ∷ ds) new begun taken =
     grew_twice (took old.sink) (took taken.0.sink) (took new.sink)
     (record_text (entry A old.moment d))
     (records_text (entries_from OnlyA (moment_behind OnlyA old.moment) ds))
-    (subst (λ (b : Bool). took taken.0.sink ≡ took old.sink ++ (late_octets b old.moment d))
+    (subst (λ (b : Bool). took taken.0.sink ≡ took old.sink
+    ++ (late_octets b old.text old.moment d))
     begun one.written)
     (subst (λ (m : ℕ). took new.sink ≡ took taken.0.sink ++
     (records_text (entries_from OnlyA m ds))) one.moment
@@ -69,16 +70,16 @@ writes_late : {M : Type 0} (took : M → List ℕ) (failures : M → ℕ)
     (names : M → List GName) (old : Late M) (ds : List (List ℕ)) (new : Late M)
     → old.is_begun ≡ false → old.moment ≡ 0
     → TakesEach (TakesLate took failures names) old ds new
-    → took new.sink ≡ took old.sink ++ (late_text ds)
+    → took new.sink ≡ took old.sink ++ (late_text old.text ds)
 writes_late {M} took failures names old [] new fresh zero same =
     subst (λ (c : Late M). took c.sink ≡ took old.sink ++ []) (sym same)
     (sym (append-nil (took old.sink)))
 writes_late {M} took failures names old (d ∷ ds) new fresh zero taken =
     let one = taken.1 in
-    let first : took taken.0.sink ≡ took old.sink ++ (late_octets false 0 d) =
-    subst (λ (m : ℕ). took taken.0.sink ≡ took old.sink ++ (late_octets false m d)) zero
+    let first : took taken.0.sink ≡ took old.sink ++ (late_octets false old.text 0 d) =
+    subst (λ (m : ℕ). took taken.0.sink ≡ took old.sink ++ (late_octets false old.text m d)) zero
     (subst (λ (b : Bool). took taken.0.sink ≡ took old.sink ++
-    (late_octets b old.moment d)) fresh one.written) in
+    (late_octets b old.text old.moment d)) fresh one.written) in
     let behind : taken.0.moment ≡ moment_behind OnlyA 0
     = one.moment ∙ ap (λ (m : ℕ). moment_behind OnlyA m) zero in
     let rest : took new.sink ≡ took taken.0.sink ++
@@ -87,9 +88,9 @@ writes_late {M} took failures names old (d ∷ ds) new fresh zero taken =
     (records_text (entries_from OnlyA m ds))) behind
     (writes_more took failures names taken.0 ds new one.begun taken.2) in
     subst (λ (octets : List ℕ). took new.sink ≡ took old.sink ++ octets)
-    (append_assoc (front_text Two []) (record_text (entry A 0 d))
+    (append_assoc (front_text Two old.text) (record_text (entry A 0 d))
     (records_text (entries_from OnlyA (moment_behind OnlyA 0) ds)))
-    (grew_twice (took old.sink) (took taken.0.sink) (took new.sink) (late_octets false 0 d)
+    (grew_twice (took old.sink) (took taken.0.sink) (took new.sink) (late_octets false old.text 0 d)
     (records_text (entries_from OnlyA (moment_behind OnlyA 0) ds)) first rest)
 
 -- ---- one that is cut at a datagram
@@ -99,22 +100,23 @@ cut_more : {M : Type 0} (took : M → List ℕ) (failures : M → ℕ)
     (names : M → List GName) (old : Late M) (ds : List (List ℕ)) (last new : Late M)
     (d : List ℕ) (more : List (List ℕ)) → old.is_begun ≡ true
     → TakesEach (TakesLate took failures names) old ds last
-    → GrowsPart (took last.sink) (took new.sink) (late_octets last.is_begun last.moment d)
+    → GrowsPart (took last.sink) (took new.sink) (late_octets last.is_begun last.text last.moment d)
     → GrowsPart (took old.sink) (took new.sink)
     (records_text (entries_from OnlyA old.moment (ds ++ d ∷ more)))
 cut_more {M} took failures names old [] last new d more begun same part =
     part_first (took old.sink) (took new.sink) (record_text (entry A old.moment d))
     (records_text (entries_from OnlyA (moment_behind OnlyA old.moment) more))
     (subst (λ (b : Bool). GrowsPart (took old.sink) (took new.sink)
-    (late_octets b old.moment d)) begun
+    (late_octets b old.text old.moment d)) begun
     (subst (λ (c : Late M). GrowsPart (took c.sink) (took new.sink)
-    (late_octets c.is_begun c.moment d)) same part))
+    (late_octets c.is_begun c.text c.moment d)) same part))
 cut_more {M} took failures names old (x ∷ ds) last new d more begun taken part =
     let one = taken.1 in
     part_then (took old.sink) (took taken.0.sink) (took new.sink)
     (record_text (entry A old.moment x))
     (records_text (entries_from OnlyA (moment_behind OnlyA old.moment) (ds ++ d ∷ more)))
-    (subst (λ (b : Bool). took taken.0.sink ≡ took old.sink ++ (late_octets b old.moment x))
+    (subst (λ (b : Bool). took taken.0.sink ≡ took old.sink
+    ++ (late_octets b old.text old.moment x))
     begun one.written)
     (subst (λ (m : ℕ). GrowsPart (took taken.0.sink) (took new.sink)
     (records_text (entries_from OnlyA m (ds ++ d ∷ more)))) one.moment
@@ -125,32 +127,33 @@ cut_late : {M : Type 0} (took : M → List ℕ) (failures : M → ℕ)
     (names : M → List GName) (old : Late M) (ds : List (List ℕ)) (last new : Late M)
     (d : List ℕ) (more : List (List ℕ)) → old.is_begun ≡ false → old.moment ≡ 0
     → TakesEach (TakesLate took failures names) old ds last
-    → GrowsPart (took last.sink) (took new.sink) (late_octets last.is_begun last.moment d)
-    → GrowsPart (took old.sink) (took new.sink) (late_text (ds ++ d ∷ more))
+    → GrowsPart (took last.sink) (took new.sink) (late_octets last.is_begun last.text last.moment d)
+    → GrowsPart (took old.sink) (took new.sink) (late_text old.text (ds ++ d ∷ more))
 cut_late {M} took failures names old [] last new d more fresh zero same part =
     let rest : List ℕ = records_text (entries_from OnlyA (moment_behind OnlyA 0) more) in
     subst (λ (octets : List ℕ). GrowsPart (took old.sink) (took new.sink) octets)
-    (append_assoc (front_text Two []) (record_text (entry A 0 d)) rest)
-    (part_first (took old.sink) (took new.sink) (late_octets false 0 d) rest
-    (subst (λ (m : ℕ). GrowsPart (took old.sink) (took new.sink) (late_octets false m d)) zero
+    (append_assoc (front_text Two old.text) (record_text (entry A 0 d)) rest)
+    (part_first (took old.sink) (took new.sink) (late_octets false old.text 0 d) rest
+    (subst (λ (m : ℕ). GrowsPart (took old.sink) (took new.sink)
+    (late_octets false old.text m d)) zero
     (subst (λ (b : Bool). GrowsPart (took old.sink) (took new.sink)
-    (late_octets b old.moment d)) fresh
+    (late_octets b old.text old.moment d)) fresh
     (subst (λ (c : Late M). GrowsPart (took c.sink) (took new.sink)
-    (late_octets c.is_begun c.moment d)) same part))))
+    (late_octets c.is_begun c.text c.moment d)) same part))))
 cut_late {M} took failures names old (x ∷ ds) last new d more fresh zero taken part =
     let one = taken.1 in
-    let first : took taken.0.sink ≡ took old.sink ++ (late_octets false 0 x) =
-    subst (λ (m : ℕ). took taken.0.sink ≡ took old.sink ++ (late_octets false m x)) zero
+    let first : took taken.0.sink ≡ took old.sink ++ (late_octets false old.text 0 x) =
+    subst (λ (m : ℕ). took taken.0.sink ≡ took old.sink ++ (late_octets false old.text m x)) zero
     (subst (λ (b : Bool). took taken.0.sink ≡ took old.sink ++
-    (late_octets b old.moment x)) fresh one.written) in
+    (late_octets b old.text old.moment x)) fresh one.written) in
     let behind : taken.0.moment ≡ moment_behind OnlyA 0
     = one.moment ∙ ap (λ (m : ℕ). moment_behind OnlyA m) zero in
     let rest : List ℕ =
     records_text (entries_from OnlyA (moment_behind OnlyA 0) (ds ++ d ∷ more)) in
     subst (λ (octets : List ℕ). GrowsPart (took old.sink) (took new.sink) octets)
-    (append_assoc (front_text Two []) (record_text (entry A 0 x)) rest)
-    (part_then (took old.sink) (took taken.0.sink) (took new.sink) (late_octets false 0 x) rest
-    first
+    (append_assoc (front_text Two old.text) (record_text (entry A 0 x)) rest)
+    (part_then (took old.sink) (took taken.0.sink) (took new.sink)
+    (late_octets false old.text 0 x) rest first
     (subst (λ (m : ℕ). GrowsPart (took taken.0.sink) (took new.sink)
     (records_text (entries_from OnlyA m (ds ++ d ∷ more)))) behind
     (cut_more took failures names taken.0 ds last new d more one.begun taken.2 part)))
@@ -179,7 +182,7 @@ pub writes_job : {M K : Type 0} (value : M → K) (took : K → List ℕ) (failu
     → old.is_begun ≡ false → old.moment ≡ 0
     → Puts (TakesLate (λ m. took (value m)) (λ m. failures (value m)) names)
     (FailsLate (λ m. took (value m)) (λ m. failures (value m)) names) Are first old new result
-    → WritesJob Are took failures first (value old.sink) (value new.sink) result
+    → WritesJob Are took failures old.text first (value old.sink) (value new.sink) result
 writes_job {M} {K} value took failures names Are first old new (Ok next) whole fresh zero puts = (
   puts.0,
   puts.1,
@@ -201,7 +204,8 @@ writes_job {M} {K} value took failures names Are first old new (Err (fault.Sink 
         puts.0,
         puts.1,
         subst (λ (ds : List (List ℕ)). GrowsPart (took (value old.sink)) (took (value new.sink))
-            (late_text ds)) (ap (λ (ds : List (List ℕ)). take sent puts.0 ++ ds) (sym at.behind)
+            (late_text old.text ds))
+            (ap (λ (ds : List (List ℕ)). take sent puts.0 ++ ds) (sym at.behind)
             ∙ take-append-drop sent puts.0)
             (cut_late (λ (m : M). took (value m)) (λ (m : M). failures (value m)) names old
             (take sent puts.0) at.last new at.datagram at.more fresh zero at.taken
@@ -217,10 +221,10 @@ writes_job {M} {K} value took failures names Are first old new (Err fault.BadPac
 
 -- the same of the sink that was lent
 pub writes_lent : {K : Type 0} (Are : List (List ℕ) → Type 0) (took : K → List ℕ)
-    (failures : K → ℕ) (first : ℕ) (old new old_lent new_lent : K)
+    (failures : K → ℕ) (text : List ℕ) (first : ℕ) (old new old_lent new_lent : K)
     (result : Result ℕ SendJobFault) → old_lent ≡ old → new ≡ new_lent
-    → WritesJob Are took failures first old_lent new_lent result
-    → WritesJob Are took failures first old new result
-writes_lent {K} Are took failures first old new old_lent new_lent result same again writes =
-    subst (λ (s : K). WritesJob Are took failures first s new result) same
-    (subst (λ (s : K). WritesJob Are took failures first old_lent s result) (sym again) writes)
+    → WritesJob Are took failures text first old_lent new_lent result
+    → WritesJob Are took failures text first old new result
+writes_lent {K} Are took failures text first old new old_lent new_lent result same again writes =
+    subst (λ (s : K). WritesJob Are took failures text first s new result) same
+    (subst (λ (s : K). WritesJob Are took failures text first old_lent s result) (sym again) writes)

@@ -9,3 +9,4 @@ pub mod Late
 pub mod LateTakings
 pub mod Meaning
 pub mod Parts
+pub mod SaidRuns

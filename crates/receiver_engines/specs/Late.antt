@@ -1,5 +1,5 @@
 -- What a capture writes that is begun at its first datagram (own).
-use Rattle.std.specs.Prelude.{◌≡◌, ℕ, ◌^◌, ◌<◌, Bool, true, false, List, [], ◌∷◌, ◌++◌}
+use Rattle.std.specs.Prelude.{◌≡◌, ℕ, ◌^◌, ◌<◌, Bool, true, false, List, [], ◌∷◌, ◌++◌, length}
 use Rattle.std.specs.Borrow.{GName}
 use Rattle.media_file.specs.Fronts.{front_text}
 use Rattle.media_file.specs.Records.{record_text}
@@ -10,10 +10,11 @@ use Rattle.st_format.specs.Device.{CountsOne, GrowsPart}
 use Rattle.st_format.specs.History.{GrewFrom, since}
 use Rattle.st_format.specs.declared.path.Path.TheVariants.{A}
 
--- What is seen of such a capture: `before` is what its sink had taken when it was made, and the
--- moment is that of the next record.
+-- What is seen of such a capture: its text; `before` is what its sink had taken when it was made,
+-- and the moment is that of the next record.
 pub record Late (K : Type 0) : Type 0 where
   pub sink : K
+  pub text : List ℕ
   pub before : List ℕ
   pub is_begun : Bool
   pub moment : ℕ
@@ -21,36 +22,38 @@ pub record Late (K : Type 0) : Type 0 where
   pub failures : ℕ
 
 -- what stands before the first record, where it isn't written yet
-abbrev pub late_front : Bool → List ℕ
-late_front true = []
-late_front false = front_text Two []
+abbrev pub late_front : Bool → List ℕ → List ℕ
+late_front true text = []
+late_front false text = front_text Two text
 
 -- what is written for a datagram
-abbrev pub late_octets : Bool → ℕ → List ℕ → List ℕ
-late_octets is_begun moment octets =
-    late_front is_begun ++ record_text (entry A moment octets)
+abbrev pub late_octets : Bool → List ℕ → ℕ → List ℕ → List ℕ
+late_octets is_begun text moment octets =
+    late_front is_begun text ++ record_text (entry A moment octets)
 
--- What a sink took of a capture that is whole: nothing before the first datagram, and then the
--- capture of datagrams.
-abbrev pub IsLate : Bool → ℕ → List ℕ → Type 0
-IsLate false moment octets = (octets ≡ []) × (moment ≡ 0)
-IsLate true moment octets = IsWritten OnlyA 0 moment octets
+-- What a sink took of a capture that is whole, of a text of this length: nothing before the first
+-- datagram, and then the capture of datagrams.
+abbrev pub IsLate : Bool → ℕ → ℕ → List ℕ → Type 0
+IsLate false text_len moment octets = (octets ≡ []) × (moment ≡ 0)
+IsLate true text_len moment octets = IsWritten OnlyA text_len moment octets
 
 -- where a capture stands, by what its sink took, `before` before it was made and `took` so far
-pub record StandsLate (is_begun is_cut : Bool) (moment : ℕ) (before took : List ℕ) : Type 0 where
+pub record StandsLate (is_begun is_cut : Bool) (text : List ℕ) (moment : ℕ)
+    (before took : List ℕ) : Type 0 where
   pub fits : moment < 2 ^ 64
+  pub few : length text < 2 ^ 16
   pub grew : GrewFrom before took
-  pub whole : is_cut ≡ false → IsLate is_begun moment (since before took)
+  pub whole : is_cut ≡ false → IsLate is_begun (length text) moment (since before took)
 
--- The datagrams of a capture, by what its sink took since it was made: those whose records are
--- whole.
-abbrev pub late_datagrams : List ℕ → List (List ℕ)
-late_datagrams octets = datagrams_in OnlyA 0 octets
+-- The datagrams of a capture of a text of this length, by what its sink took since it was made:
+-- those whose records are whole.
+abbrev pub late_datagrams : ℕ → List ℕ → List (List ℕ)
+late_datagrams text_len octets = datagrams_in OnlyA text_len octets
 
--- The capture of datagrams: path A, no text. It isn't begun where there are none.
-abbrev pub late_text : List (List ℕ) → List ℕ
-late_text [] = []
-late_text (d ∷ ds) = written_text OnlyA [] (d ∷ ds)
+-- The capture of a text and datagrams: path A. It isn't begun where there are none.
+abbrev pub late_text : List ℕ → List (List ℕ) → List ℕ
+late_text text [] = []
+late_text text (d ∷ ds) = written_text OnlyA text (d ∷ ds)
 
 -- A capture that was whole took a datagram: its sink is written the record, behind the front where
 -- that wasn't written yet.
@@ -61,7 +64,8 @@ pub record TakesLate {K : Type 0} (took : K → List ℕ) (failures : K → ℕ)
   pub stays : new.is_cut ≡ false
   pub begun : new.is_begun ≡ true
   pub moment : new.moment ≡ moment_behind OnlyA old.moment
-  pub written : took new.sink ≡ took old.sink ++ late_octets old.is_begun old.moment octets
+  pub written : took new.sink
+      ≡ took old.sink ++ late_octets old.is_begun old.text old.moment octets
   pub working : failures new.sink ≡ failures old.sink
   pub names_stay : names new.sink ≡ names old.sink
 
@@ -72,6 +76,6 @@ pub record FailsLate {K : Type 0} (took : K → List ℕ) (failures : K → ℕ)
   pub cut : new.is_cut ≡ true
   pub counted : old.is_cut ≡ false → CountsOne (failures old.sink) (failures new.sink)
   pub part : old.is_cut ≡ false → GrowsPart (took old.sink) (took new.sink)
-      (late_octets old.is_begun old.moment octets)
+      (late_octets old.is_begun old.text old.moment octets)
   pub untouched : old.is_cut ≡ true → new.sink ≡ old.sink
   pub names_stay : names new.sink ≡ names old.sink

@@ -1,9 +1,10 @@
 -- What `process` sends (own).
 use Rattle.std.specs.Prelude.{◌≡◌, ℕ, ◌+◌, ◌^◌, ◌%◌, List, [], ◌∷◌, ◌++◌, Option, length, take, ◌<◌}
-use Rattle.std.specs.Prelude.{Result, Ok, Err}
+use Rattle.std.specs.Prelude.{Result, Ok, Err, None, Some}
 use Rattle.run_outcome.specs.Line.{line_text}
 use Rattle.run_outcome.specs.declared.line.Line.TheVariants.{Sent}
 use Rattle.run_outcome.specs.LowerFaults.{of_job, of_plan}
+use Rattle.run_outcome.specs.TextRefusals.{IsCaptureText}
 use Rattle.run_outcome.specs.declared.fault.Fault.{Fault}
 use Rattle.run_outcome.specs.declared.fault.Fault.TheVariants.{Device}
 use Rattle.key_mix.specs.declared.faults.SendJobFault.{SendJobFault}
@@ -22,55 +23,62 @@ use Rattle.receiver_engines.specs.JobText.{IsJobText}
 use Rattle.receiver_engines.specs.Late.{late_text}
 use Rattle.receiver_engines.specs.Reading.{SayReceivers, SaysHeld}
 
--- A sink of octets was written the capture of the datagrams of a job's picture of pictures; so many
--- modulo 2^32.
-pub record TakesJob (job : Job) (pictures : List Values) (size : ℕ) (stamp : Stamp)
+-- A sink of octets was written the capture of a text and of the datagrams of a job's picture of
+-- pictures; so many modulo 2^32.
+pub record TakesSaid (text : List ℕ) (job : Job) (pictures : List Values) (size : ℕ) (stamp : Stamp)
     (old new : List ℕ) (count : ℕ) : Type 0 where
   pub datagrams : List (List ℕ)
   pub spell : IsSentJob datagrams job pictures size stamp
-  pub written : new ≡ old ++ late_text datagrams
+  pub written : new ≡ old ++ late_text text datagrams
   pub count_is : count ≡ length datagrams % 2 ^ 32
 
--- What became of a sink of octets: it was written the capture of such datagrams, and didn't fail;
--- or it failed once, and was written a first part of that and not all; and else it is as it was.
--- The first packet has the number `first`.
+-- What became of a sink of octets: it was written the capture of a text and such datagrams, and
+-- didn't fail; or it failed once, and was written a first part of that and not all; and else it is
+-- as it was. The first packet has the number `first`.
 abbrev pub WritesJob : {K : Type 0} → (List (List ℕ) → Type 0) → (K → List ℕ) → (K → ℕ)
-    → ℕ → K → K → Result ℕ SendJobFault → Type 0
-WritesJob Are took failures first old new (Ok next) =
+    → List ℕ → ℕ → K → K → Result ℕ SendJobFault → Type 0
+WritesJob Are took failures text first old new (Ok next) =
     (datagrams : List (List ℕ)) × Are datagrams
-    × (took new ≡ took old ++ late_text datagrams) × (failures new ≡ failures old)
+    × (took new ≡ took old ++ late_text text datagrams) × (failures new ≡ failures old)
     × (next ≡ (first + length datagrams) % 2 ^ 32)
-WritesJob Are took failures first old new (Err (sending.Sink sent)) =
+WritesJob Are took failures text first old new (Err (sending.Sink sent)) =
     CountsOne (failures old) (failures new)
     × ((datagrams : List (List ℕ)) × Are datagrams
-    × GrowsPart (took old) (took new) (late_text datagrams))
-WritesJob Are took failures first old new (Err (sending.Job e)) = new ≡ old
-WritesJob Are took failures first old new (Err sending.BadPacketSize) = new ≡ old
+    × GrowsPart (took old) (took new) (late_text text datagrams))
+WritesJob Are took failures text first old new (Err (sending.Job e)) = new ≡ old
+WritesJob Are took failures text first old new (Err sending.BadPacketSize) = new ≡ old
 
 -- It was written that of receivers' frames of a timestamp, each settled. Nothing speaks against the
 -- job, and the size is one for the format of its picture.
-pub record SendsJob (job : Job) (ts : ℕ) (fill_text : List ℕ) (size : ℕ) (stamp : Stamp)
-    (rs : List State) (held : Option Values) (old new : List ℕ) (count : ℕ) : Type 0 where
+pub record SendsSaidJob (text : List ℕ) (job : Job) (ts : ℕ) (fill_text : List ℕ) (size : ℕ)
+    (stamp : Stamp) (rs : List State) (held : Option Values) (old new : List ℕ) (count : ℕ)
+    : Type 0 where
   pub frames : List Raster
   pub are : AreFramesAt frames rs ts
   pub fill : List ℕ
   pub fill_is : IsFill fill fill_text frames
   pub held_is : IsHeldFor held frames
   pub sendable : IsSendable job (raster_formats frames) size
-  pub takes : TakesJob job (settled_frames held fill frames) size stamp old new count
+  pub takes : TakesSaid text job (settled_frames held fill frames) size stamp old new count
 
 -- It was written that of the job that a text says, of the receivers and the held picture whose
 -- files were read.
-pub record SendsFiles {S : Type 0} (told : S → List ℕ → Type 0) (states : List S)
-    (hold : Option S) (job_text : List ℕ) (ts : ℕ) (fill_text : List ℕ) (size : ℕ) (stamp : Stamp)
-    (old new : List ℕ) (count : ℕ) : Type 0 where
+pub record SendsSaidFiles {S : Type 0} (text : List ℕ) (told : S → List ℕ → Type 0)
+    (states : List S) (hold : Option S) (job_text : List ℕ) (ts : ℕ) (fill_text : List ℕ) (size : ℕ)
+    (stamp : Stamp) (old new : List ℕ) (count : ℕ) : Type 0 where
   pub job : Job
   pub job_is : IsJobText job_text job
   pub receivers : List State
   pub receivers_are : SayReceivers told states receivers
   pub held : Option Values
   pub held_is : SaysHeld told hold held
-  pub sends : SendsJob job ts fill_text size stamp receivers held old new count
+  pub sends : SendsSaidJob text job ts fill_text size stamp receivers held old new count
+
+-- so with an empty text
+abbrev pub SendsFiles : {S : Type 0} → (S → List ℕ → Type 0) → List S → Option S → List ℕ → ℕ
+    → List ℕ → ℕ → Stamp → List ℕ → List ℕ → ℕ → Type 0
+SendsFiles told states hold job_text ts fill_text size stamp old new count =
+    SendsSaidFiles [] told states hold job_text ts fill_text size stamp old new count
 
 -- How many datagrams were sent is printed.
 abbrev pub PrintsSent : ℕ → List ℕ → List ℕ → Type 0
@@ -82,12 +90,28 @@ of_send_job (sending.Job e) = of_job e
 of_send_job sending.BadPacketSize = of_plan plan.BadPacketSize
 of_send_job (sending.Sink sent) = Device
 
--- A sink of octets was written a first part of the capture of the datagrams of a job's picture:
--- none of it, or all, or less.
-pub record SendsPart (size : ℕ) (stamp : Stamp) (old new : List ℕ) : Type 0 where
+-- A sink of octets was written a first part of the capture of a text and of the datagrams of a
+-- job's picture: none of it, or all, or less.
+pub record SendsSaidPart (text : List ℕ) (size : ℕ) (stamp : Stamp) (old new : List ℕ)
+    : Type 0 where
   pub job : Job
   pub pictures : List Values
   pub datagrams : List (List ℕ)
   pub count : ℕ
   pub spell : 0 < count → IsSentJob datagrams job pictures size stamp
-  pub written : new ≡ old ++ take count (late_text datagrams)
+  pub written : new ≡ old ++ take count (late_text text datagrams)
+
+-- so with an empty text
+abbrev pub SendsPart : ℕ → Stamp → List ℕ → List ℕ → Type 0
+SendsPart size stamp old new = SendsSaidPart [] size stamp old new
+
+-- ---- with a text
+
+-- the text of a capture: all that the SDP's source gave, up to its end, which describes a video; or
+-- nothing, where there is none
+abbrev pub SaysText : {S : Type 0} → (S → List ℕ) → (S → Type 0) → Option S → Option S → List ℕ
+    → Type 0
+SaysText gave ended None later text = text ≡ []
+SaysText gave ended (Some sdp) None text = ⊥
+SaysText gave ended (Some sdp) (Some later) text =
+    (gave later ≡ gave sdp ++ text) × ended later × IsCaptureText text

@@ -1,6 +1,7 @@
 -- Which refusal ends a run of `process`: the first in one order of those that speak against its
 -- words and files (own). Each is said to stand only where none before it does.
-use Rattle.std.specs.Prelude.{◌≡◌, ℕ, ◌<◌, List, length, take, slice_index_or, Option, None, Some}
+use Rattle.std.specs.Prelude.{◌≡◌, ℕ, ◌<◌, ◌⊎◌, List, length, take, slice_index_or, Option, None}
+use Rattle.std.specs.Prelude.{Some}
 use Rattle.receiver_engines.specs.States.{IsStateRefusal}
 use Rattle.run_outcome.specs.Pictures.{IsPictureRefusal}
 use Rattle.run_outcome.specs.declared.refusal.Refusal.{Refusal}
@@ -18,6 +19,7 @@ use Rattle.receiver_engines.specs.declared.processing.Processing.{Processing}
 use Rattle.receiver_engines.specs.Inputs.{AreFramesAt, IsFill, IsHeldFor, raster_formats}
 use Rattle.receiver_engines.specs.JobText.{IsJobText}
 use Rattle.receiver_engines.specs.Reading.{SayReceivers, SaysHeld}
+use Rattle.run_outcome.specs.TextRefusals.{IsTextRefusal}
 
 -- ---- what the job is given
 
@@ -121,3 +123,15 @@ IsRunRefusal told states hold w (refusal.State f) =
 IsRunRefusal told states hold w (refusal.Picture f) =
     SaysJob w × AreReceivers told states × IsHeldRefusal told hold (refusal.Picture f)
 IsRunRefusal told states hold w r = IsRefusalOfRead told states hold w r
+
+-- the refusals of the text for a capture, where one is given
+abbrev pub IsTextOfRun : {S : Type 0} → (S × S → List ℕ → Type 0) → Option S → Option S → Refusal
+    → Type 0
+IsTextOfRun {S} told old new r = (was : S) × (now : S) × (old ≡ Some was) × (new ≡ Some now)
+    × IsTextRefusal refusal.SendSdp (told (was, now)) r
+
+-- so of a run with a text, which is read behind the job's: of those, and of the run
+abbrev pub IsSaidRunRefusal : {S : Type 0} → (S × S → List ℕ → Type 0) → Option S → Option S
+    → List (S × S) → Option (S × S) → Processing → Refusal → Type 0
+IsSaidRunRefusal told old new states hold w r =
+    (SaysJob w × IsTextOfRun told old new r) ⊎ IsRunRefusal told states hold w r

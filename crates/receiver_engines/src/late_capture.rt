@@ -1,5 +1,6 @@
 //! A capture that is begun at its first datagram, as a sink of datagrams. It tells no datagrams.
-ghost use Rattle.std.specs.Prelude.{◌≡◌, ◌≤◌, ◌++◌, length, IsErr, None, OnErr, OnOk, true, false};
+ghost use Rattle.std.specs.Prelude.{◌≡◌, ◌≤◌, ◌<◌, ◌^◌, ◌++◌, length, IsErr, None, OnErr, OnOk};
+ghost use Rattle.std.specs.Prelude.{true, false};
 ghost use Rattle.receiver_engines.specs.Late.{FailsLate, TakesLate, late_datagrams, late_front};
 ghost use Rattle.receiver_engines.specs.Late.{late_octets};
 ghost use Rattle.st_format.specs.Device.{CountsFaults, CountsOne, GrowsPart};
@@ -10,13 +11,14 @@ use st_format::{ByteSink, DatagramSink, DeviceFault, Path, SinkFault};
 use std::marker::Model;
 use std::snapshot::Snapshot;
 
-/// Writes a capture with an empty text, of records by path A, into a sink of octets. It is begun at
-/// the first datagram: a sink of which nothing is asked before isn't touched.
+/// Writes a capture with a text, of records by path A, into a sink of octets. It is begun at the
+/// first datagram: a sink of which nothing is asked before isn't touched.
 ///
 /// After a fault it takes nothing more, and the sink is asked for nothing.
 #[derive(Drop)]
-pub(crate) struct LateCapture<K: ByteSink> {
+pub(crate) struct LateCapture<'t, K: ByteSink> {
     sink: K,
+    text: &'t [u8],
     /// The sink as it was when the capture was made. Only proofs see it.
     opened: Snapshot<K>,
     is_begun: bool,
@@ -26,13 +28,14 @@ pub(crate) struct LateCapture<K: ByteSink> {
     failures: u64,
 }
 
-impl<K: ByteSink> Model for LateCapture<K> {
+impl<'t, K: ByteSink> Model for LateCapture<'t, K> {
     ghost use Rattle.receiver_engines.specs.Late.{Late, StandsLate};
 
     ghost Value = { Late K };
 
     ghost view = { λ c. record {
       sink = c.sink;
+      text = c.text.now;
       before = K.took c.opened.value;
       is_begun = c.is_begun;
       moment = c.moment;
@@ -40,14 +43,16 @@ impl<K: ByteSink> Model for LateCapture<K> {
       failures = c.failures;
     } };
 
-    ghost invariant = { λ c. StandsLate c.is_begun c.is_cut c.moment (K.took c.opened.value)
-        (K.took c.sink) };
+    ghost invariant = { λ c. StandsLate c.is_begun c.is_cut c.text.now c.moment
+        (K.took c.opened.value) (K.took c.sink) };
 }
 
-impl<K: ByteSink> LateCapture<K> {
-    /// A capture that isn't begun.
-    pub(crate) fn new(sink: K) -> Self
+impl<'t, K: ByteSink> LateCapture<'t, K> {
+    /// A capture with this text that isn't begun.
+    pub(crate) fn new(sink: K, text: &'t [u8]) -> Self
+        requires few { length text.now ≤ 65535 }
         ensures sink { result.sink ≡ sink }
+        ensures text { result.text ≡ text.now }
         ensures begun { result.is_begun ≡ false }
         ensures moment { result.moment ≡ 0 }
         ensures cut { result.is_cut ≡ false }
@@ -55,6 +60,7 @@ impl<K: ByteSink> LateCapture<K> {
         let opened = Snapshot::of(&sink);
         LateCapture {
             sink,
+            text,
             opened,
             is_begun: false,
             moment: 0,
@@ -65,7 +71,7 @@ impl<K: ByteSink> LateCapture<K> {
 
     /// Gives the sink back, as it then is.
     pub(crate) fn into_inner(self) -> K
-        ensures { result ≡ self.sink }
+        ensures { result ≡ self.entry.sink }
     {
         self.sink
     }
@@ -74,6 +80,7 @@ impl<K: ByteSink> LateCapture<K> {
     fn fail(&mut self) -> Result<(), SinkFault>
         ensures fault { IsErr result }
         ensures sink { self.new.sink ≡ self.old.sink }
+        ensures text { self.new.text ≡ self.old.text }
         ensures before { self.new.before ≡ self.old.before }
         ensures cut { self.new.is_cut ≡ self.old.is_cut }
         ensures counted { CountsOne self.old.failures self.new.failures }
@@ -83,10 +90,10 @@ impl<K: ByteSink> LateCapture<K> {
     }
 }
 
-impl<K: ByteSink> DatagramSink for LateCapture<K> {
+impl<'t, K: ByteSink> DatagramSink for LateCapture<'t, K> {
     ghost taken = { λ _. None };
 
-    ghost took = { λ c. late_datagrams (since c.before (K.took c.sink)) };
+    ghost took = { λ c. late_datagrams (length c.text) (since c.before (K.took c.sink)) };
 
     ghost failures = { λ c. c.failures };
 
@@ -99,7 +106,13 @@ impl<K: ByteSink> DatagramSink for LateCapture<K> {
         if self.is_cut {
             return self.fail();
         }
-        match write_datagram(&mut self.sink, self.is_begun, self.moment, octets) {
+        match write_datagram(
+            &mut self.sink,
+            self.text,
+            self.is_begun,
+            self.moment,
+            octets,
+        ) {
             Ok(()) => {
                 self.is_begun = true;
                 self.moment = self.moment.wrapping_add(1);
@@ -116,32 +129,35 @@ impl<K: ByteSink> DatagramSink for LateCapture<K> {
 /// Writes a datagram's record of this moment, behind the front where the capture isn't begun.
 fn write_datagram<K: ByteSink>(
     sink: &mut K,
+    text: &[u8],
     is_begun: bool,
     moment: u64,
     octets: &[u8],
 ) -> Result<(), DeviceFault>
-    requires { length octets.now ≤ 65535 }
+    requires few { length text.now ≤ 65535 }
+    requires octets { length octets.now ≤ 65535 }
     ensures counted { CountsFaults (K.failures sink.old) (K.failures sink.new) result }
     ensures names { K.names sink.new ≡ K.names sink.old }
     ensures took { OnOk result (K.took sink.new
-        ≡ K.took sink.old ++ late_octets is_begun moment octets.now) }
+        ≡ K.took sink.old ++ late_octets is_begun text.now moment octets.now) }
     ensures part { OnErr result (GrowsPart (K.took sink.old) (K.took sink.new)
-        (late_octets is_begun moment octets.now)) }
+        (late_octets is_begun text.now moment octets.now)) }
 {
-    begin(sink, is_begun)?;
+    begin(sink, text, is_begun)?;
     write_record(sink, Path::A, moment, octets)
 }
 
 /// Writes the front, where the capture isn't begun.
-fn begin<K: ByteSink>(sink: &mut K, is_begun: bool) -> Result<(), DeviceFault>
+fn begin<K: ByteSink>(sink: &mut K, text: &[u8], is_begun: bool) -> Result<(), DeviceFault>
+    requires { length text.now ≤ 65535 }
     ensures counted { CountsFaults (K.failures sink.old) (K.failures sink.new) result }
     ensures names { K.names sink.new ≡ K.names sink.old }
-    ensures took { OnOk result (K.took sink.new ≡ K.took sink.old ++ late_front is_begun) }
+    ensures took { OnOk result (K.took sink.new ≡ K.took sink.old ++ late_front is_begun text.now) }
     ensures part { OnErr result
-        (GrowsPart (K.took sink.old) (K.took sink.new) (late_front is_begun)) }
+        (GrowsPart (K.took sink.old) (K.took sink.new) (late_front is_begun text.now)) }
 {
     if is_begun {
         return Ok(());
     }
-    write_front(sink, &[])
+    write_front(sink, text)
 }

@@ -15,5 +15,5 @@ mod states;
 
 pub use job_offers::offered_by_job;
 pub use merging::merge;
-pub use processing::{Processing, check_job, process};
+pub use processing::{Processing, check_job, process, process_said};
 pub use reporting::report;

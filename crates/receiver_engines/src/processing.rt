@@ -1,6 +1,6 @@
 //! The engine of `process`.
 ghost use Rattle.std.specs.Prelude.{◌≡◌, ◌≤◌, ◌∷◌, [], ◌-◌, ◌+◌, IfErr, IfOk, OnErr, OnOk, length};
-ghost use Rattle.std.specs.Prelude.{ℕ, sum_by};
+ghost use Rattle.std.specs.Prelude.{ℕ, List, sum_by, vec_len};
 ghost use Rattle.std.specs.List.{AllByRecursion, zip};
 ghost use Rattle.run_outcome.specs.Moments.{WasRead, pair};
 ghost use Rattle.run_outcome.specs.Fault.{Accounts, IfRefused, counts, failures_in};
@@ -10,10 +10,11 @@ ghost use Rattle.key_mix.specs.Sending.{settled_inputs};
 ghost use Rattle.key_mix.specs.declared.Job.{Job};
 ghost use Rattle.run_outcome.specs.declared.refusal.Refusal.TheVariants.{ProcessJob};
 ghost use Rattle.receiver_engines.specs.JobText.{IsJobText};
-ghost use Rattle.receiver_engines.specs.Processing.{PrintsSent, SendsFiles, SendsJob, SendsPart};
-ghost use Rattle.receiver_engines.specs.Processing.{TakesJob};
-ghost use Rattle.receiver_engines.specs.Processing.{WritesJob, of_send_job};
+ghost use Rattle.receiver_engines.specs.Processing.{PrintsSent, SaysText, SendsFiles, SendsPart};
+ghost use Rattle.receiver_engines.specs.Processing.{SendsSaidFiles, SendsSaidJob, SendsSaidPart};
+ghost use Rattle.receiver_engines.specs.Processing.{TakesSaid, WritesJob, of_send_job};
 ghost use Rattle.receiver_engines.specs.Refused.{IsJobOrPlanRefusal, IsJobRefusal, IsRunRefusal};
+ghost use Rattle.receiver_engines.specs.Refused.{IsSaidRunRefusal, IsTextOfRun};
 
 use crate::inputs::{check_held, fill_for, frames_at, inputs_of};
 use crate::job_text::read_job;
@@ -22,7 +23,7 @@ use crate::reading::{read_held, read_receivers};
 use key_mix::{Job, JobInput, SendJobFault, send_job};
 use packet_plan::{PlanFault, Stamp};
 use path_merge::Receiver;
-use run_outcome::{Fault, Line, Refusal, print};
+use run_outcome::{Fault, Line, Refusal, print, read_checked};
 use st_format::{ByteSink, ByteSource, Picture};
 use std::alloc::Allocator;
 
@@ -43,7 +44,7 @@ pub struct Processing<'a> {
 }
 
 /// Runs a job on the frames of a timestamp, one of each receiver, writes the capture of the job's
-/// picture to `sink`, by path A and with no text, and prints `sent N` to `output`, how many
+/// picture to `sink`, by path A and with an empty text, and prints `sent N` to `output`, how many
 /// datagrams that are.
 ///
 /// The receivers' files are read in their order, and then the picture of `hold`, where there is
@@ -90,7 +91,7 @@ where
         ∷ counts (K.failures sink.old) (K.failures sink.new)
         ∷ counts (O.failures output.old) (O.failures output.new) ∷ []) }
 {
-    let sent = process_files(alloc, wanted, states, hold, sink)?;
+    let sent = process_files(alloc, wanted, &[], states, hold, sink)?;
     print(Line::Sent(u64::from(sent)), output)
 }
 
@@ -111,22 +112,95 @@ pub fn check_job(text: &[u8]) -> Result<(), Fault>
     }
 }
 
-/// Reads the job and the files, sends the job's picture, and answers how many datagrams that is.
+/// Does what [`process`] does, but the capture's text is the SDP text of `sdp`, where there is one.
+/// It is read behind the job's text and before the receivers' files.
+///
+/// # Errors
+///
+/// As [`process`]; and a refusal where the SDP is longer than 65,535 octets or refused. `sink`
+/// isn't touched then.
+pub fn process_said<A, S, K, O>(
+    alloc: A,
+    wanted: Processing<'_>,
+    sdp: &mut Option<S>,
+    states: &mut [S],
+    hold: &mut Option<S>,
+    sink: &mut K,
+    output: &mut O,
+) -> Result<(), Fault>
+where
+    A: Allocator + Copy,
+    S: ByteSource,
+    K: ByteSink,
+    O: ByteSink,
+    requires payload_type { wanted.stamp.payload_type ≤ 127 }
+    ensures len { length states.new ≡ length states.old }
+    ensures sent { OnOk result ((text : List ℕ) × SaysText S.gave S.ended sdp.old sdp.new text
+        × ((count : ℕ) × SendsSaidFiles text (WasRead S.gave S.ended)
+        (zip states.old states.new) (pair hold.old hold.new)
+        wanted.entry.job.now wanted.entry.timestamp wanted.entry.fill.now wanted.entry.max_octets
+        wanted.entry.stamp (K.took sink.old) (K.took sink.new) count
+        × PrintsSent count (O.took output.old) (O.took output.new))) }
+    // Where it fails, what was written is a first part of a capture of a text.
+    ensures part { OnErr result ((text : List ℕ) × SendsSaidPart text wanted.entry.max_octets
+        wanted.entry.stamp (K.took sink.old) (K.took sink.new)) }
+    ensures refused { IfErr result (λ f. IfRefused f (sink.new ≡ sink.old)) }
+    ensures refusal { IfErr result (λ f. OfRefusal f
+        (IsSaidRunRefusal (WasRead S.gave S.ended) sdp.old sdp.new (zip states.old states.new)
+        (pair hold.old hold.new) wanted.entry)) }
+    ensures failures { Accounts result
+        (counts (failures_in S.failures sdp.old) (failures_in S.failures sdp.new)
+        ∷ counts (sum_by S.failures states.old) (sum_by S.failures states.new)
+        ∷ counts (failures_in S.failures hold.old) (failures_in S.failures hold.new)
+        ∷ counts (K.failures sink.old) (K.failures sink.new)
+        ∷ counts (O.failures output.old) (O.failures output.new) ∷ []) }
+{
+    check_job(wanted.job)?;
+    let said = read_said(alloc, sdp)?;
+    let sent = process_files(alloc, wanted, &said, states, hold, sink)?;
+    print(Line::Sent(u64::from(sent)), output)
+}
+
+/// Reads the capture's text, where there is one; else it is empty.
+fn read_said<A: Allocator + Copy, S: ByteSource>(
+    alloc: A,
+    sdp: &mut Option<S>,
+) -> Result<Vec<u8, A>, Fault>
+    ensures few { IfOk result (λ said. vec_len said ≤ 65535) }
+    ensures says { IfOk result (λ said. SaysText S.gave S.ended sdp.old sdp.new said.items) }
+    ensures refusal { IfErr result (λ f. OfRefusal f
+        (IsTextOfRun (WasRead S.gave S.ended) sdp.old sdp.new)) }
+    ensures failures { Accounts result (counts (failures_in S.failures sdp.old)
+        (failures_in S.failures sdp.new) ∷ []) }
+{
+    match sdp {
+        None => Ok(Vec::new(alloc)),
+        Some(source) => match read_checked(alloc, source, Refusal::SendSdp) {
+            Ok(said) => Ok(said),
+            Err(fault) => Err(fault),
+        },
+    }
+}
+
+/// Reads the job and the files, sends the job's picture into a capture of this text, and answers
+/// how many datagrams that is.
 fn process_files<A: Allocator + Copy, S: ByteSource, K: ByteSink>(
     alloc: A,
     wanted: Processing<'_>,
+    said: &[u8],
     states: &mut [S],
     hold: &mut Option<S>,
     sink: &mut K,
 ) -> Result<u32, Fault>
     requires payload_type { wanted.stamp.payload_type ≤ 127 }
+    requires text { length said.now ≤ 65535 }
     ensures len { length states.new ≡ length states.old }
-    ensures sent { IfOk result (λ n. SendsFiles (WasRead S.gave S.ended)
+    ensures sent { IfOk result (λ n. SendsSaidFiles said.now (WasRead S.gave S.ended)
         (zip states.old states.new) (pair hold.old hold.new)
         wanted.entry.job.now wanted.entry.timestamp wanted.entry.fill.now wanted.entry.max_octets
         wanted.entry.stamp (K.took sink.old) (K.took sink.new) n) }
-    ensures part { OnErr result (SendsPart wanted.entry.max_octets wanted.entry.stamp
-        (K.took sink.old) (K.took sink.new)) }
+    ensures part { OnErr result (SendsSaidPart said.now wanted.entry.max_octets
+        wanted.entry.stamp (K.took sink.old) (K.took sink.new)) }
     ensures refused { IfErr result (λ f. IfRefused f (sink.new ≡ sink.old)) }
     ensures refusal { IfErr result (λ f. OfRefusal f
         (IsRunRefusal (WasRead S.gave S.ended) (zip states.old states.new)
@@ -141,7 +215,7 @@ fn process_files<A: Allocator + Copy, S: ByteSource, K: ByteSink>(
     };
     let receivers = read_receivers(alloc, states)?;
     let held = read_held(alloc, hold)?;
-    send_frames(alloc, &job, wanted, &receivers, &held, sink)
+    send_frames(alloc, &job, wanted, said, &receivers, &held, sink)
 }
 
 /// Sends the job's picture of the receivers' frames, and answers how many datagrams that is.
@@ -149,16 +223,18 @@ fn send_frames<A: Allocator + Copy, K: ByteSink>(
     alloc: A,
     job: &Job,
     wanted: Processing<'_>,
+    said: &[u8],
     receivers: &[Receiver<A>],
     held: &Option<Picture<A>>,
     sink: &mut K,
 ) -> Result<u32, Fault>
     requires payload_type { wanted.stamp.payload_type ≤ 127 }
-    ensures part { OnErr result (SendsPart wanted.entry.max_octets wanted.entry.stamp
-        (K.took sink.old) (K.took sink.new)) }
+    requires text { length said.now ≤ 65535 }
+    ensures part { OnErr result (SendsSaidPart said.now wanted.entry.max_octets
+        wanted.entry.stamp (K.took sink.old) (K.took sink.new)) }
     ensures refused { IfErr result (λ f. IfRefused f (sink.new ≡ sink.old)) }
-    ensures sent { IfOk result (λ n. SendsJob job.now wanted.entry.timestamp wanted.entry.fill.now
-        wanted.entry.max_octets wanted.entry.stamp receivers.now held.now
+    ensures sent { IfOk result (λ n. SendsSaidJob said.now job.now wanted.entry.timestamp
+        wanted.entry.fill.now wanted.entry.max_octets wanted.entry.stamp receivers.now held.now
         (K.took sink.old) (K.took sink.new) n) }
     ensures refusal { IfErr result (λ f. OfRefusal f
         (IsJobRefusal job.now wanted.entry receivers.now held.now)) }
@@ -168,7 +244,7 @@ fn send_frames<A: Allocator + Copy, K: ByteSink>(
     let fill = fill_for(wanted.fill, &frames)?;
     check_held(held, &frames)?;
     let inputs = inputs_of(alloc, &frames, fill, held)?;
-    send(alloc, job, &inputs, wanted, sink)
+    send(alloc, job, &inputs, wanted, said, sink)
 }
 
 /// Writes the capture of the job's picture, and answers how many datagrams that is.
@@ -177,14 +253,16 @@ fn send<A: Allocator + Copy, K: ByteSink>(
     job: &Job,
     inputs: &[JobInput<'_, A>],
     wanted: Processing<'_>,
+    said: &[u8],
     sink: &mut K,
 ) -> Result<u32, Fault>
     requires bases { AllByRecursion HasBase inputs.now }
     requires payload_type { wanted.stamp.payload_type ≤ 127 }
-    ensures part { OnErr result (SendsPart wanted.entry.max_octets wanted.entry.stamp
-        (K.took sink.old) (K.took sink.new)) }
+    requires text { length said.now ≤ 65535 }
+    ensures part { OnErr result (SendsSaidPart said.now wanted.entry.max_octets
+        wanted.entry.stamp (K.took sink.old) (K.took sink.new)) }
     ensures refused { IfErr result (λ f. IfRefused f (sink.new ≡ sink.old)) }
-    ensures sent { IfOk result (λ n. TakesJob job.now (settled_inputs inputs.now)
+    ensures sent { IfOk result (λ n. TakesSaid said.now job.now (settled_inputs inputs.now)
         wanted.entry.max_octets wanted.entry.stamp (K.took sink.old) (K.took sink.new) n) }
     ensures sendable { OnOk result
         (IsSendable job.now (input_formats inputs.now) wanted.entry.max_octets) }
@@ -193,33 +271,35 @@ fn send<A: Allocator + Copy, K: ByteSink>(
     ensures failures { Accounts result (counts (K.failures sink.old) (K.failures sink.new) ∷ []) }
 {
     let stamp = wanted.stamp;
-    match send_capture(alloc, job, inputs, wanted.max_octets, stamp, sink) {
+    match send_capture(alloc, job, inputs, wanted.max_octets, stamp, said, sink) {
         Ok(next) => Ok(next.wrapping_sub(stamp.first)),
         Err(fault) => Err(send_job_fault(fault)),
     }
 }
 
-/// Sends the job's picture into a capture, which is begun at the first datagram: a run that is
-/// refused doesn't touch the sink. Answers as [`send_job`] does.
+/// Sends the job's picture into a capture of this text, which is begun at the first datagram: a run
+/// that is refused doesn't touch the sink. Answers as [`send_job`] does.
 fn send_capture<A: Allocator + Copy, K: ByteSink>(
     alloc: A,
     job: &Job,
     inputs: &[JobInput<'_, A>],
     max_octets: u32,
     stamp: Stamp,
+    said: &[u8],
     sink: &mut K,
 ) -> Result<u32, SendJobFault>
     requires bases { AllByRecursion HasBase inputs.now }
     requires payload_type { stamp.payload_type ≤ 127 }
+    requires text { length said.now ≤ 65535 }
     ensures written { WritesJob
         (λ ds. IsSentJob ds job.now (settled_inputs inputs.now) max_octets stamp)
-        K.took K.failures stamp.first sink.old sink.new result }
+        K.took K.failures said.now stamp.first sink.old sink.new result }
     ensures sendable { OnOk result
         (IsSendable job.now (input_formats inputs.now) max_octets) }
     ensures fault { IfErr result
         (λ e. IsSendFault e job.now (input_formats inputs.now) max_octets) }
 {
-    let mut capture = LateCapture::new(&mut *sink);
+    let mut capture = LateCapture::new(&mut *sink, said);
     let answer = send_job(alloc, job, inputs, max_octets, stamp, &mut capture);
     let _ = capture.into_inner();
     answer

@@ -1,12 +1,12 @@
 //! `process` over the devices of this machine.
-ghost use Rattle.std.specs.Prelude.{◌≡◌, ◌∷◌, ◌⊎◌, ◌≤◌, ℕ, [], All, IfErr, IfOk, IfSome};
+ghost use Rattle.std.specs.Prelude.{◌≡◌, ◌∷◌, ◌⊎◌, ◌≤◌, ℕ, List, [], All, IfErr, IfOk, IfSome};
 ghost use Rattle.std.specs.Prelude.{IsFalse, IsTrue, OnOk, length, sum_by};
 ghost use Rattle.std.specs.List.{zip};
 ghost use Rattle.devices.specs.Passed.{file_ended, file_failures, file_gave, file_took};
 ghost use Rattle.devices.specs.Passed.{IsInPlace, IsUnplaced, output_failures, output_took};
 ghost use Rattle.devices.specs.Passed.{writing_failures};
-ghost use Rattle.receiver_engines.specs.Processing.{PrintsSent, SendsFiles};
-ghost use Rattle.receiver_engines.specs.Refused.{IsRunRefusal};
+ghost use Rattle.receiver_engines.specs.Processing.{PrintsSent, SaysText, SendsSaidFiles};
+ghost use Rattle.receiver_engines.specs.Refused.{IsSaidRunRefusal};
 ghost use Rattle.run_outcome.specs.Fault.{Accounts, counts, failures_in};
 ghost use Rattle.run_outcome.specs.Moments.{WasRead, pair};
 ghost use Rattle.run_outcome.specs.Refusing.{OfRefusal};
@@ -17,10 +17,10 @@ use command_end::{Command, Devices, Hints, Ran, find_output};
 use command_line::ProcessWords;
 use devices::{
     FileOutput, FileSource, OutputSink, Rest, Stream, any_is, last_begun, named_file, named_files,
-    one_is, reading_begun,
+    one_is, reading_begun, reading_of,
 };
 use packet_plan::Stamp;
-use receiver_engines::{Processing, check_job};
+use receiver_engines::{Processing, check_job, process_said};
 use run_outcome::{Fault, Writer};
 use std::alloc::AllocError;
 
@@ -29,6 +29,8 @@ use std::alloc::AllocError;
 pub struct ProcessCommand<'a> {
     rt: &'a HostRuntime,
     pub wanted: Processing<'a>,
+    /// The SDP's file, where one is named.
+    pub sdp: Option<FileSource<'a>>,
     pub states: Vec<FileSource<'a>>,
     pub hold: Option<FileSource<'a>>,
     pub out: FileOutput<'a>,
@@ -44,13 +46,15 @@ impl<'a> ProcessCommand<'a> {
     pub fn new(rt: &'a HostRuntime, words: &ProcessWords<'a>) -> Result<Self, AllocError>
         ensures { IfOk result ⟦<ProcessCommand<'a> as Command>⟧.is_new }
     {
+        let sdp = named_file(rt, words.sdp);
         let states = named_files(rt, words.states.as_slice())?;
         let hold = named_file(rt, words.hold);
         let out = FileOutput::new(rt, words.out, Rest::Stays);
-        let is_input = is_read(&out, &hold, states.as_slice());
+        let is_input = is_read(&out, &sdp, &hold, states.as_slice());
         Ok(ProcessCommand {
             rt,
             wanted: processing(words),
+            sdp,
             states,
             hold,
             out,
@@ -79,15 +83,21 @@ fn processing<'a>(words: &ProcessWords<'a>) -> Processing<'a>
 }
 
 /// Whether the capture is one of the files that are read.
-fn is_read(out: &FileOutput<'_>, hold: &Option<FileSource<'_>>, states: &[FileSource<'_>]) -> bool {
+fn is_read(
+    out: &FileOutput<'_>,
+    sdp: &Option<FileSource<'_>>,
+    hold: &Option<FileSource<'_>>,
+    states: &[FileSource<'_>],
+) -> bool {
     let file = out.identity();
-    one_is(hold, file) || any_is(states, file)
+    one_is(sdp, file) || one_is(hold, file) || any_is(states, file)
 }
 
 /// Looks at the words, and at the place of the capture, before anything is read, and runs the job.
 fn process<'a>(
     rt: &HostRuntime,
     wanted: Processing<'_>,
+    sdp: &mut Option<FileSource<'a>>,
     states: &mut [FileSource<'a>],
     hold: &mut Option<FileSource<'a>>,
     out: &mut FileOutput<'_>,
@@ -97,43 +107,51 @@ fn process<'a>(
     requires payload_type { wanted.stamp.payload_type ≤ 127 }
     requires unplaced { IsUnplaced out.old }
     ensures len { length states.new ≡ length states.old }
-    ensures sent { OnOk result ((count : ℕ) × SendsFiles (WasRead file_gave file_ended)
+    ensures sent { OnOk result ((text : List ℕ)
+        × SaysText file_gave file_ended sdp.old sdp.new text
+        × ((count : ℕ) × SendsSaidFiles text (WasRead file_gave file_ended)
         (zip states.old states.new) (pair hold.old hold.new)
         wanted.entry.job.now wanted.entry.timestamp wanted.entry.fill.now wanted.entry.max_octets
         wanted.entry.stamp (file_took out.old) (file_took out.new) count
-        × PrintsSent count (output_took output.old) (output_took output.new)) }
+        × PrintsSent count (output_took output.old) (output_took output.new))) }
     ensures unplaced { IsUnplaced out.new }
     ensures apart { OnOk result (IsFalse is_input) }
     ensures refusal { IfErr result (λ f. OfRefusal f (λ r.
-        IsRunRefusal (WasRead file_gave file_ended) (zip states.old states.new)
-        (pair hold.old hold.new) wanted.entry r
+        IsSaidRunRefusal (WasRead file_gave file_ended) sdp.old sdp.new
+        (zip states.old states.new) (pair hold.old hold.new) wanted.entry r
         ⊎ (r ≡ OutputIsInput Process) × IsTrue is_input)) }
     ensures owed { Accounts result
-        (counts (sum_by file_failures states.old) (sum_by file_failures states.new)
+        (counts (failures_in file_failures sdp.old) (failures_in file_failures sdp.new)
+        ∷ counts (sum_by file_failures states.old) (sum_by file_failures states.new)
         ∷ counts (failures_in file_failures hold.old) (failures_in file_failures hold.new)
         ∷ counts (writing_failures out.old) (writing_failures out.new)
         ∷ counts (output_failures output.old) (output_failures output.new) ∷ []) }
 {
     check_job(wanted.job)?;
     find_output(out, is_input, Writer::Process)?;
-    receiver_engines::process(rt.alloc(), wanted, states, hold, &mut out.sink, output)
+    process_said(rt.alloc(), wanted, sdp, states, hold, &mut out.sink, output)
 }
 
 impl<'a> Command for ProcessCommand<'a> {
-    ghost is_new = { λ c. All (λ f. file_gave f ≡ []) c.states.items
+    ghost is_new = { λ c. IfSome c.sdp (λ f. file_gave f ≡ [])
+        × All (λ f. file_gave f ≡ []) c.states.items
         × IfSome c.hold (λ f. file_gave f ≡ [])
         × (file_took c.out ≡ []) × IsUnplaced c.out × (output_took c.output ≡ []) };
 
-    // What is written is the capture of the datagrams of the job's picture, made of the receivers
-    // and the held picture whose files were read, and it is printed how many they are.
-    ghost does = { λ old new. (count : ℕ) × SendsFiles (WasRead file_gave file_ended)
+    // What is written is the capture of the SDP text that was read and of the datagrams of the
+    // job's picture, made of the receivers and the held picture whose files were read, and it is
+    // printed how many they are.
+    ghost does = { λ old new. (text : List ℕ)
+        × SaysText file_gave file_ended old.sdp new.sdp text
+        × ((count : ℕ) × SendsSaidFiles text (WasRead file_gave file_ended)
         (zip old.states.items new.states.items) (pair old.hold new.hold)
         old.wanted.job.now old.wanted.timestamp old.wanted.fill.now old.wanted.max_octets
         old.wanted.stamp (file_took old.out) (file_took new.out) count
-        × PrintsSent count (output_took old.output) (output_took new.output) };
+        × PrintsSent count (output_took old.output) (output_took new.output)) };
 
-    ghost is_refused = { λ old new r. IsRunRefusal (WasRead file_gave file_ended)
-        (zip old.states.items new.states.items) (pair old.hold new.hold) old.wanted r
+    ghost is_refused = { λ old new r. IsSaidRunRefusal (WasRead file_gave file_ended)
+        old.sdp new.sdp (zip old.states.items new.states.items) (pair old.hold new.hold)
+        old.wanted r
         ⊎ (r ≡ OutputIsInput Process) × IsTrue old.is_input };
 
     ghost is_placed = { λ c. IsInPlace c.out × IsFalse c.is_input };
@@ -141,7 +159,8 @@ impl<'a> Command for ProcessCommand<'a> {
     ghost is_unplaced = { λ c. IsUnplaced c.out };
 
     ghost owes = { λ old new outcome. Accounts outcome
-        (counts (sum_by file_failures old.states.items) (sum_by file_failures new.states.items)
+        (counts (failures_in file_failures old.sdp) (failures_in file_failures new.sdp)
+        ∷ counts (sum_by file_failures old.states.items) (sum_by file_failures new.states.items)
         ∷ counts (failures_in file_failures old.hold) (failures_in file_failures new.hold)
         ∷ counts (writing_failures old.out) (writing_failures new.out)
         ∷ counts (output_failures old.output) (output_failures new.output) ∷ []) };
@@ -150,6 +169,7 @@ impl<'a> Command for ProcessCommand<'a> {
         let outcome = process(
             self.rt,
             self.wanted,
+            &mut self.sdp,
             self.states.as_mut_slice(),
             &mut self.hold,
             &mut self.out,
@@ -164,7 +184,7 @@ impl<'a> Command for ProcessCommand<'a> {
 
     fn devices(&self) -> Devices<'_> {
         Devices {
-            sdp: None,
+            sdp: reading_of(&self.sdp),
             read: reading_begun(&self.hold).or(last_begun(&self.states)),
             written: Some(self.out.writing()),
             output: self.output.writing(),

@@ -50,7 +50,7 @@ impl<'a> ExportCommand<'a> {
 }
 
 /// What `export` is asked for, beside its files.
-fn exporting<'a>(words: &ExportWords<'a>) -> Exporting<'a> {
+pub(crate) fn exporting<'a>(words: &ExportWords<'a>) -> Exporting<'a> {
     Exporting {
         a: words.a.as_bytes(),
         b: octets(words.b),

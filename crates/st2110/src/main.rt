@@ -4,19 +4,23 @@
 ghost use Rattle.std.specs.Result.{ForOk};
 
 mod describing;
+mod exporting;
 mod importing;
 mod receiving;
+mod sending;
 
-use capture_runs::{LoopCommand, MigrateCommand, SendCommand};
+use capture_runs::{LoopCommand, MigrateCommand};
 use command_end::{Command, end_without_memory, run_command};
 use command_line::{Given, Words, WordsFault, given_words, read_words};
 use describing::sdp;
+use exporting::export;
 use importing::import;
 use receiver_runs::{MergeCommand, ProcessCommand, ReportCommand};
 use receiving::receive;
-use recording_runs::{ExportCommand, InspectCommand};
+use recording_runs::InspectCommand;
 use run_outcome::Status;
 use script_runs::{RehearseCommand, TraceCommand};
+use sending::send;
 use std::alloc::AllocError;
 use std::fs::File;
 use std::io::IsTerminal;
@@ -57,14 +61,14 @@ fn follow(rt: &HostRuntime, given: &Given<'_>) -> u8 {
         Words::Migrate(words) => {
             run_command(rt, explains, MigrateCommand::new(rt, words)).status
         }
-        Words::Send(words) => run_made(rt, explains, SendCommand::new(rt, words)),
+        Words::Send(words) => send(rt, words, explains),
         Words::Receive(words) => receive(rt, words, explains),
         Words::Merge(words) => run_command(rt, explains, MergeCommand::new(rt, words)).status,
         Words::Process(words) => run_made(rt, explains, ProcessCommand::new(rt, words)),
         Words::Report(state) => run_command(rt, explains, ReportCommand::new(rt, state)).status,
         Words::Loop(words) => run_command(rt, explains, LoopCommand::new(rt, words)).status,
         Words::Import(words) => import(rt, words, explains, given.is_verbose),
-        Words::Export(words) => run_command(rt, explains, ExportCommand::new(rt, words)).status,
+        Words::Export(words) => export(rt, words, explains),
         Words::Inspect(recordings) => {
             run_made(rt, explains, InspectCommand::new(rt, recordings.as_slice()))
         }
@@ -88,10 +92,13 @@ fn run_made<C: Command + Drop>(rt: &HostRuntime, explains: bool, made: Result<C,
 }
 
 /// Prints why the words are not followed, and answers the status.
-fn refuse(rt: &HostRuntime, fault: &WordsFault) -> u8 {
+pub(crate) fn refuse(rt: &HostRuntime, fault: &WordsFault) -> u8 {
     let status = match fault {
         WordsFault::NoMemory => Status::Memory,
-        WordsFault::NoText | WordsFault::Refused(_) => Status::CommandLine,
+        WordsFault::NoText
+        | WordsFault::NotPlain
+        | WordsFault::Misworded(_)
+        | WordsFault::Refused(_) => Status::CommandLine,
         WordsFault::Shown(_) => Status::Done,
     };
     match fault.print(rt) {

@@ -9,6 +9,6 @@ use Rattle.receiver_engines.proofs.late_capture.write_datagram.Goals as goal
 pub returns-clause-part : goal.returns-clause-part
 returns-clause-part g c =
     on_err_weaker c.write_record.result
-    (λ q. part_then _ _ _ (late_front c.args.is_begun)
+    (λ q. part_then _ _ _ (late_front c.args.is_begun c.args.text.now)
     (record_text (entry A c.args.moment c.args.octets.now)) c.in_ok-begin.ensures.took q)
     c.write_record.ensures.part

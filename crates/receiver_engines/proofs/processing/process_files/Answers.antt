@@ -65,13 +65,13 @@ returns-in_err-held-clause-refusal g c =
 pub returns-in_err-receivers-clause-part : goal.returns-in_err-receivers-clause-part
 returns-in_err-receivers-clause-part g c =
     let p = err_from_is_err_and c.from_residual.result c.from_residual.ensures.1 in
-    rw (p.1) (sends_none c.in-Some.job _ _ _ _ refl)
+    rw (p.1) (sends_none c.args.said.now c.in-Some.job _ _ _ _ refl)
 
 pub returns-in_err-held-clause-part : goal.returns-in_err-held-clause-part
 returns-in_err-held-clause-part g c =
     let p = err_from_is_err_and c.from_residual-in_err-held.result
     c.from_residual-in_err-held.ensures.1 in
-    rw (p.1) (sends_none c.in-Some.job _ _ _ _ refl)
+    rw (p.1) (sends_none c.args.said.now c.in-Some.job _ _ _ _ refl)
 
 pub returns-in_default-clause-part : goal.returns-in_default-clause-part
-returns-in_default-clause-part g c = sends_none Key _ _ _ _ refl
+returns-in_default-clause-part g c = sends_none c.args.said.now Key _ _ _ _ refl

@@ -18,6 +18,7 @@ returns-in-Err-clause-refusal g c =
 
 pub returns-in-Err-clause-part : goal.returns-in-Err-clause-part
 returns-in-Err-clause-part g c =
-    sends_part c.args.job.now (settled_inputs c.args.inputs.now) c.args.wanted.max_octets
-    c.args.wanted.stamp g.K.ByteSink.took g.K.ByteSink.failures c.args.wanted.stamp.first
+    sends_part c.args.said.now c.args.job.now (settled_inputs c.args.inputs.now)
+    c.args.wanted.max_octets c.args.wanted.stamp
+    g.K.ByteSink.took g.K.ByteSink.failures c.args.wanted.stamp.first
     c.args.sink.now c.send_capture.new.sink c.in-Err.fault c.in-Err.ensures.written

@@ -2,7 +2,7 @@ use Rattle.std.proofs.Common.{◌≡◌, ap, refl, rules, subst, ◌∙◌}
 use Rattle.std.proofs.lemmas.Result.{err_from_is_err_and}
 use Rattle.key_mix.specs.Sending.{IsSendable, input_formats, settled_inputs}
 use Rattle.receiver_engines.specs.Inputs.{IsHeldFor, frames_lent, raster_formats, settled_frames}
-use Rattle.receiver_engines.specs.Processing.{TakesJob}
+use Rattle.receiver_engines.specs.Processing.{TakesSaid}
 use Rattle.receiver_engines.specs.Refused.{HasNoFill, IsJobOrPlanRefusal}
 use Rattle.run_outcome.proofs.Refusals.{if_err_map, of_refusal_map}
 use Rattle.receiver_engines.proofs.Parts.{sends_none}
@@ -36,8 +36,8 @@ returns-clause-sent g c =
           c.in_ok-fill.ensures.is c.in_ok-fill.ensures.values c.in_ok-fill.ensures.fits;
       held_is = subst (λ l. IsHeldFor held (frames_lent l)) second c.in_ok-check_held.ensures.is;
       sendable = subst (λ l. IsSendable c.args.job.now l c.args.wanted.max_octets) formats sendable;
-      takes = subst (λ ps. TakesJob c.args.job.now ps c.args.wanted.max_octets c.args.wanted.stamp
-          old new n) settled takes;
+      takes = subst (λ ps. TakesSaid c.args.said.now c.args.job.now ps c.args.wanted.max_octets
+          c.args.wanted.stamp old new n) settled takes;
     }) c.send.ensures.sent c.send.ensures.sendable
 
 pub returns-in_err-fill-clause-refusal : goal.returns-in_err-fill-clause-refusal
@@ -104,22 +104,22 @@ returns-clause-refusal g c =
 pub returns-in_err-frames-clause-part : goal.returns-in_err-frames-clause-part
 returns-in_err-frames-clause-part g c =
     let p = err_from_is_err_and c.from_residual.result c.from_residual.ensures.1 in
-    rw (p.1) (sends_none c.args.job.now _ _ _ _ refl)
+    rw (p.1) (sends_none c.args.said.now c.args.job.now _ _ _ _ refl)
 
 pub returns-in_err-fill-clause-part : goal.returns-in_err-fill-clause-part
 returns-in_err-fill-clause-part g c =
     let p = err_from_is_err_and c.from_residual-in_err-fill.result
     c.from_residual-in_err-fill.ensures.1 in
-    rw (p.1) (sends_none c.args.job.now _ _ _ _ refl)
+    rw (p.1) (sends_none c.args.said.now c.args.job.now _ _ _ _ refl)
 
 pub returns-in_err-check_held-clause-part : goal.returns-in_err-check_held-clause-part
 returns-in_err-check_held-clause-part g c =
     let p = err_from_is_err_and c.from_residual-in_err-check_held.result
     c.from_residual-in_err-check_held.ensures.1 in
-    rw (p.1) (sends_none c.args.job.now _ _ _ _ refl)
+    rw (p.1) (sends_none c.args.said.now c.args.job.now _ _ _ _ refl)
 
 pub returns-in_err-inputs-clause-part : goal.returns-in_err-inputs-clause-part
 returns-in_err-inputs-clause-part g c =
     let p = err_from_is_err_and c.from_residual-in_err-inputs.result
     c.from_residual-in_err-inputs.ensures.1 in
-    rw (p.1) (sends_none c.args.job.now _ _ _ _ refl)
+    rw (p.1) (sends_none c.args.said.now c.args.job.now _ _ _ _ refl)

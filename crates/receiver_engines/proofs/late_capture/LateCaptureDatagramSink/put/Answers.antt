@@ -44,7 +44,8 @@ returns-in-Err-clause-fails g c =
           (ap failures (sym same)) c.in-Err.ensures.counted;
       part =
           λ _. subst (λ (l : List ℕ). GrowsPart (took c.self.inside.sink) l
-          (late_octets c.self.inside.is_begun c.self.inside.moment c.args.octets.now))
+          (late_octets c.self.inside.is_begun c.self.inside.text.now c.self.inside.moment
+          c.args.octets.now))
           (ap took (sym same)) c.in-Err.ensures.part;
       untouched = λ cut. absurd (false≢true (sym c.if-self.false ∙ cut));
       names_stay = ap names same ∙ c.in-Err.ensures.names;
@@ -52,22 +53,27 @@ returns-in-Err-clause-fails g c =
 
 pub invariant_of-self : goal.invariant_of-self
 invariant_of-self g c =
-    stands_behind _ _ _ _ _ _ _ c.args.octets.now c.if-self.false c.self.invariant
+    stands_behind _ _ _ _ _ _ _ _ c.args.octets.now c.if-self.false c.self.invariant
     (omega (arith, c.requires)) refl c.in-Ok.ensures.took
 
 pub invariant_of-self-in-Err : goal.invariant_of-self-in-Err
 invariant_of-self-in-Err g c =
-    stands_cut _ _ _ _ _ _ _ c.self.invariant c.in-Err.ensures.part
+    stands_cut _ _ _ _ _ _ _ _ c.self.invariant c.in-Err.ensures.part
 
 pub returns-in-Ok-clause-took : goal.returns-in-Ok-clause-took
 returns-in-Ok-clause-took g c =
     rw (← c.self.view_is)
-    (took_one _ _ _ _ _ _ c.args.octets.now c.if-self.false c.self.invariant
+    (took_one _ _ _ _ _ _ _ c.args.octets.now c.if-self.false c.self.invariant
     (omega (arith, c.requires)) c.in-Ok.ensures.took)
 
 pub returns-in-Err-clause-kept : goal.returns-in-Err-clause-kept
 returns-in-Err-clause-kept g c =
-    rw (← c.self.view_is, c.fail-in-Err.ensures.sink, c.fail-in-Err.ensures.before)
+    rw (
+      ← c.self.view_is,
+      c.fail-in-Err.ensures.sink,
+      c.fail-in-Err.ensures.before,
+      c.fail-in-Err.ensures.text,
+    )
     (on_err c.fail-in-Err.result
-    (took_none _ _ _ _ _ _ c.args.octets.now c.if-self.false c.self.invariant
+    (took_none _ _ _ _ _ _ _ c.args.octets.now c.if-self.false c.self.invariant
     (omega (arith, c.requires)) c.in-Err.ensures.part))

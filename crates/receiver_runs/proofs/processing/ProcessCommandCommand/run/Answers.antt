@@ -4,7 +4,7 @@ use Rattle.std.specs.List.{zip}
 use Rattle.command_end.proofs.Outcomes.{vec_back}
 use Rattle.devices.specs.Passed.{file_ended, file_gave}
 use Rattle.devices.specs.declared.file_source.FileSource.{FileSource}
-use Rattle.receiver_engines.specs.Refused.{IsRunRefusal}
+use Rattle.receiver_engines.specs.Refused.{IsSaidRunRefusal}
 use Rattle.run_outcome.specs.Moments.{WasRead, pair}
 use Rattle.run_outcome.specs.Refusing.{OfRefusal}
 use Rattle.run_outcome.specs.declared.refusal.Refusal.TheVariants.{OutputIsInput}
@@ -30,7 +30,8 @@ returns-clause-refusal c =
     vec_back c.args.self.now.states.len items c.process-outcome.new.states
     (sym c.as_mut_slice.ensures.len ∙ same) (c.process-outcome.ensures.len ∙ same) in
     subst (λ (ss : List FileSource). IfErr c.process-outcome.result (λ f. OfRefusal f (λ r.
-    IsRunRefusal (WasRead file_gave file_ended) (zip items ss)
+    IsSaidRunRefusal (WasRead file_gave file_ended) c.args.self.now.sdp c.process-outcome.new.sdp
+    (zip items ss)
     (pair c.args.self.now.hold c.process-outcome.new.hold) c.args.self.now.wanted r
     ⊎ (r ≡ OutputIsInput Process) × IsTrue c.args.self.now.is_input))) (sym back)
     (rw c.as_mut_slice.ensures.value at c.process-outcome.ensures.refusal)

@@ -1,0 +1,49 @@
+use Rattle.std.proofs.Common.{◌∙◌, List, inr, subst, sym, ℕ}
+use Rattle.std.proofs.lemmas.Result.{err_from_is_err_and}
+use Rattle.std.specs.List.{zip}
+use Rattle.run_outcome.specs.Moments.{WasRead}
+use Rattle.run_outcome.proofs.Refusals.{of_refusal_map}
+use Rattle.capture_engines.specs.Sent.{IsPicturesRefusal}
+use Rattle.run_outcome.proofs.Printed.{on_ok}
+use Rattle.capture_engines.specs.Sending.{SaysSdp}
+use Rattle.run_outcome.specs.TextRefusals.{IsCaptureText}
+use Rattle.capture_engines.specs.Typed.{IsTypedBy}
+use Rattle.capture_engines.proofs.TypedTexts.{text_given}
+use Rattle.capture_engines.proofs.typed.send_typed.Goals as goal
+
+pub returns-clause-sent : goal.returns-clause-sent
+returns-clause-sent g c =
+    on_ok c.print.result _ _
+    (λ printed. record {
+      text = c.deref-2.result.now;
+      says =
+          subst (λ (l : List ℕ). SaysSdp g.S.ByteSource.gave g.S.ByteSource.ended
+          c.args.sdp.now c.read_said.new.sdp l)
+          (sym c.deref-2.ensures.value) c.in_ok-said.ensures.says;
+      typed = c.in_ok-typed.typed;
+      typed_is = subst (λ (l : List ℕ). IsTypedBy c.args.wanted l c.in_ok-typed.typed)
+          (c.deref.ensures.value ∙ sym c.deref-2.ensures.value) c.in_ok-typed.ensures.typed;
+      count = c.in_ok-sent.sent;
+      pictures = c.in_ok-sent.ensures.sent;
+      line = printed;
+    }) c.print.ensures.printed
+
+pub typed_by-requires : goal.typed_by-requires
+typed_by-requires g c =
+    subst IsCaptureText (sym c.deref.ensures.value)
+    (text_given g.S.ByteSource.gave g.S.ByteSource.ended c.args.sdp.now c.read_said.new.sdp _
+    c.requires.given c.in_ok-said.ensures.says)
+
+pub returns-in_err-sent-clause-refusal : goal.returns-in_err-sent-clause-refusal
+returns-in_err-sent-clause-refusal g c =
+    let f = c.in_err-sent.field-0.0 in
+    let told = WasRead g.S.ByteSource.gave g.S.ByteSource.ended in
+    let pictures = zip c.args.pictures.now c.send_pictures.new.pictures in
+    let p =
+    err_from_is_err_and c.from_residual-in_err-sent.result
+    c.from_residual-in_err-sent.ensures.1 in
+    rw (p.1, p.2)
+    (of_refusal_map f (λ r is. inr (
+      c.in_ok-said.ensures.few,
+      subst (λ (n : ℕ). IsPicturesRefusal n told pictures r) c.in_ok-typed.ensures.size is,
+    )) c.in_err-sent.ensures.refusal)

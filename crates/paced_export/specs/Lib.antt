@@ -1,0 +1,5 @@
+pub mod Pacing
+pub mod Counts
+pub mod Paced
+pub mod PacedExported
+pub mod PacedRefused
