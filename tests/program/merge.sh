@@ -1,4 +1,4 @@
-# merge: two receivers' files as one.
+# merge: receivers' files as one.
 run receive --state g.rcv --sdp q.sdp --window 900 old.cap
 run merge --state h.rcv g.rcv g.rcv
 says 'received-capture: merged with itself' 0 "$frame" ''
@@ -65,6 +65,85 @@ status=$?
 says 'merge: a pipe' 0 "$frame" ''
 run merge --state h.rcv g.rcv
 misworded 'merge: one file alone' "$missing\n  <RIGHT>" 'merge --state <FILE> <LEFT> <RIGHT>'
+
+# Any number of receivers: what they give two by two.
+run merge --state h.rcv g.rcv second.rcv
+run merge --state by-hand.rcv h.rcv differ.rcv
+contested='frame 900 present 15 missing 0 contested 1'
+says 'three receivers, by hand' 0 "$contested" ''
+run merge --state h.rcv g.rcv second.rcv differ.rcv
+says 'three receivers' 0 "$contested" ''
+alike 'three receivers: the receiver' h.rcv by-hand.rcv
+run merge --state h.rcv differ.rcv second.rcv g.rcv
+says 'three receivers, the last first' 0 "$contested" ''
+cp differ.rcv third.rcv
+run merge --state third.rcv g.rcv second.rcv third.rcv
+says 'three receivers: into the third' 0 "$contested" ''
+alike 'three receivers: into the third, the receiver' third.rcv by-hand.rcv
+joined=
+lines=
+window=900,901,902,903,904
+for at in 900 901 902 903 904; do
+    run send --sdp "$root/examples/four-by-two.sdp" --base "$at" --max 40 --out "of-$at.cap" "$root/examples/four-by-two.pic"
+    run receive --window "$window" --state "of-$at.rcv" "of-$at.cap"
+    if [ -z "$joined" ]; then
+        cp "of-$at.rcv" by-hand.rcv
+    else
+        run merge --state by-hand.rcv by-hand.rcv "of-$at.rcv"
+    fi
+    joined="$joined of-$at.rcv"
+    lines="$lines${lines:+
+}frame $at present 16 missing 0 contested 0"
+done
+says 'five receivers, by hand' 0 "$lines" ''
+# shellcheck disable=SC2086
+run merge --state five.rcv $joined
+says 'five receivers' 0 "$lines" ''
+alike 'five receivers: the receiver' five.rcv by-hand.rcv
+run receive --window "$window" --state five.rcv of-900.cap of-901.cap of-902.cap of-903.cap of-904.cap
+alike 'five receivers: what their captures give one' five.rcv by-hand.rcv
+
+# Of more than two the first that is refused is told, its file before its opening.
+octets "$state 01 80108011 01 80128013 00" >cut.rcv
+run merge --state no-merge.rcv g.rcv second.rcv other.rcv
+says 'the third is opened unlike' 1 '' 'st2110: merge 1 OpenedUnlike'
+run merge --state no-merge.rcv g.rcv second.rcv cut.rcv
+says 'the third is cut' 1 '' 'st2110: state 5 Truncated'
+run merge --state no-merge.rcv g.rcv second.rcv other.rcv cut.rcv
+says 'the third is opened unlike, and the fourth is cut' 1 '' 'st2110: merge 1 OpenedUnlike'
+run merge --state no-merge.rcv g.rcv second.rcv cut.rcv other.rcv
+says 'the third is cut, and the fourth is opened unlike' 1 '' 'st2110: state 5 Truncated'
+run merge --state no-merge.rcv g.rcv other.rcv g.rcv no-such-file
+says 'the second is opened unlike, and the fourth is missing' 1 '' 'st2110: merge 1 OpenedUnlike'
+run merge --state no-merge.rcv g.rcv second.rcv no-such-file
+says 'the third is missing' 3 '' 'st2110: device'
+none 'nothing is written where one of three is refused' no-merge.rcv
+
+# Ten receivers of a large frame take about the memory of two.
+sed 's/width=4; height=2/width=1920; height=1080/' q.sdp >large.sdp
+large='frame 900 present 8 missing 4147192 contested 0'
+run receive --state large.rcv --sdp large.sdp --window 900 old.cap
+says 'a large frame' 0 "delivered 1
+$large" ''
+# within KIB FILE..: merges the files in so much memory.
+within() {
+    limit=$1
+    shift
+    status=$( (ulimit -v "$limit"; "$program" merge --state ten.rcv "$@" >out 2>err </dev/null; echo $?) 2>/dev/null)
+}
+room_of_two=4000
+within "$room_of_two" large.rcv large.rcv
+while [ "$status" != 0 ] && [ "$room_of_two" -lt 200000 ]; do
+    room_of_two=$((room_of_two + 1000))
+    within "$room_of_two" large.rcv large.rcv
+done
+says 'two large receivers' 0 "$large" ''
+within "$((room_of_two + 1000))" large.rcv large.rcv large.rcv large.rcv large.rcv large.rcv large.rcv large.rcv \
+    large.rcv large.rcv
+says 'ten large receivers, in the memory of two' 0 "$large" ''
+within "$((room_of_two * 2 / 3))" large.rcv large.rcv
+says 'two large receivers, in too little memory' 4 '' 'st2110: memory'
+rm -f large.rcv ten.rcv
 
 # The README's two captures, of which each has one of a picture's two datagrams.
 run receive --window 900 --state a.rcv "$root/examples/path-a.cap"

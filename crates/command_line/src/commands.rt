@@ -47,6 +47,8 @@ enum Usage {
     FileUnless(&'static str, &'static str),
     /// One file or more.
     Files(&'static str),
+    /// Any number of files, or none.
+    More(&'static str),
 }
 
 /// A number of 7 bits, 32 bits or 64 bits.
@@ -119,8 +121,8 @@ const RECEIVE: Said = Said {
 
 const MERGE: Said = Said {
     name: "merge",
-    about: "Merges two receivers that were opened alike, prints a line for each frame, and \
-        writes what both know of each sample",
+    about: "Merges receivers that were opened alike, prints a line for each frame, and writes what \
+        all know of each sample",
     words: &[MERGED],
 };
 
@@ -340,6 +342,11 @@ const MERGED: &[Word] = &[
         name: "right",
         usage: Usage::File("RIGHT"),
         help: "The receiver's file that is merged into it",
+    },
+    Word {
+        name: "more",
+        usage: Usage::More("MORE"),
+        help: "Further receivers' files, which are merged into it one after the other",
     },
 ];
 
@@ -593,6 +600,7 @@ fn formed<'a>(word: Arg<'a>, name: &'static str, form: Usage) -> Arg<'a> {
         Usage::File(value) => file(word, value),
         Usage::FileUnless(value, _) => word.value_name(value),
         Usage::Files(value) => file(word, value).num_args(1..),
+        Usage::More(value) => word.value_name(value).num_args(1..),
     }
 }
 

@@ -34,7 +34,7 @@ pub enum Words<'a> {
     Send(SendWords<'a>),
     /// Take the datagrams of captures and recordings.
     Receive(ReceiveWords<'a>),
-    /// Merge two receivers.
+    /// Merge receivers.
     Merge(MergeWords<'a>),
     /// Run a job on frames of receivers, and send its picture.
     Process(ProcessWords<'a>),
@@ -143,11 +143,12 @@ pub struct ReceiveWords<'a> {
 }
 
 /// The words behind `merge`: names of receivers' files.
-#[derive(Clone, Copy)]
+#[derive(Drop)]
 pub struct MergeWords<'a> {
     pub state: &'a str,
     pub left: &'a str,
-    pub right: &'a str,
+    /// Those that are merged into it, one at least.
+    pub others: Vec<&'a str>,
 }
 
 /// The words behind `process`.
@@ -254,6 +255,7 @@ fn command_words<'a>(
         "send" => Ok(Words::Send(send_words(alloc, given)?)),
         "export" => Ok(Words::Export(export_words(alloc, given)?)),
         "receive" => Ok(Words::Receive(receive_words(alloc, given)?)),
+        "merge" => Ok(Words::Merge(merge_words(alloc, given)?)),
         "process" => Ok(Words::Process(process_words(alloc, given)?)),
         "import" => Ok(Words::Import(import_words(alloc, given)?)),
         "inspect" => Ok(Words::Inspect(list(alloc, given, "recordings")?)),
@@ -267,7 +269,6 @@ fn plain_words<'a>(name: &str, given: &ArgMatches<'a>) -> Words<'a> {
         "sdp" => Words::Sdp(sdp_words(given)),
         "rehearse" => Words::Rehearse,
         "migrate" => Words::Migrate(migrate_words(given)),
-        "merge" => Words::Merge(merge_words(given)),
         "report" => Words::Report(word(given, "state")),
         "loop" => Words::Loop(loop_words(given)),
         // clap lets `trace` through, and nothing else.
@@ -352,12 +353,14 @@ fn receive_words<'a>(
     })
 }
 
-fn merge_words<'a>(given: &ArgMatches<'a>) -> MergeWords<'a> {
-    MergeWords {
+fn merge_words<'a>(alloc: Global, given: &ArgMatches<'a>) -> Result<MergeWords<'a>, AllocError> {
+    let mut others = list(alloc, given, "more")?;
+    others.insert(0, word(given, "right"))?;
+    Ok(MergeWords {
         state: word(given, "state"),
         left: word(given, "left"),
-        right: word(given, "right"),
-    }
+        others,
+    })
 }
 
 fn process_words<'a>(

@@ -1,10 +1,13 @@
 -- Refusals of files.
 use Rattle.std.proofs.Common.{◌≡◌, ℕ, ◌<◌, zero, suc, List, [], ◌∷◌, length, take, get_or}
-use Rattle.std.proofs.Common.{ap, arith, refl, subst, sym, ◌∙◌}
+use Rattle.std.proofs.Common.{ap, arith, refl, set, subst, sym, ◌∙◌}
+use Rattle.std.proofs.lemmas.List.{get_or-set_same}
 use Rattle.run_outcome.specs.Moments.{WasRead}
 use Rattle.std.specs.List.{zip}
 use Rattle.run_outcome.specs.Refusing.{OfRefusal}
 use Rattle.run_outcome.specs.declared.fault.Fault.{Fault}
+use Rattle.run_outcome.specs.declared.fault.Fault.TheVariants as fault
+use Rattle.run_outcome.specs.declared.refusal.Refusal.{Refusal}
 use Rattle.path_merge.specs.Frames.{State}
 use Rattle.receiver_engines.specs.Reading.{SayReceivers}
 use Rattle.receiver_engines.specs.Merging.{SaysReceiver}
@@ -108,3 +111,32 @@ first_refused told states place receivers f within say is =
       receivers_are = say;
       refused = refused;
     }) is
+
+-- ---- of one place, whatever is said of it
+
+-- what is said of a source that is used where it stands
+pub set_so : {S : Type 0} (P : S × S → Type 0) (xs : List S) (place : ℕ) (none now : S)
+    → place < length xs → P (get_or xs place none, now)
+    → (s : S) → P (get_or xs place s, get_or (set xs place now) place s)
+set_so {S} P xs place none now within so s =
+    subst (λ (y : S). P (get_or xs place s, y)) (sym (get_or-set_same xs place now s within))
+    (subst (λ (x : S). P (x, now)) (same_at xs place none s within) so)
+
+-- what is said of the source at a place that nothing changed before
+pub one_so : {S : Type 0} (P : S × S → Type 0) (first mid last : List S) (place : ℕ) (d : S × S)
+    → length last ≡ length first → place < length first
+    → ((s : S) → get_or mid place s ≡ get_or first place s)
+    → ((s : S) → P (get_or mid place s, get_or last place s))
+    → P (get_or (zip first last) place d)
+one_so {S} P first mid last place d len within same so =
+    let some : place < length last = omega (arith, len, within) in
+    subst P (sym (zip_at first last place d len within))
+    (subst (λ (t : S). P (get_or first place d.0, t)) (same_at last place d.0 d.1 some)
+    (subst (λ (s : S). P (s, get_or last place d.0)) (same d.0) (so d.0)))
+
+-- what is refused whatever stands for none
+pub refused_each : {S : Type 0} (f : Fault) (P : S → Refusal → Type 0)
+    → ((s : S) → OfRefusal f (P s)) → OfRefusal f (λ r. (s : S) → P s r)
+refused_each (fault.Refused r) P is = is
+refused_each fault.Device P is = tt
+refused_each fault.Memory P is = tt

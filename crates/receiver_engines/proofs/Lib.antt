@@ -1,6 +1,7 @@
 pub mod StateRefusals
 pub mod Merged
 pub mod MergeRefusals
+pub mod JoinedAll
 pub mod Lists
 pub mod Settling
 pub mod Refusals

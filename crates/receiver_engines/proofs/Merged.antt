@@ -36,7 +36,7 @@ same_kept s r again =
     ap (λ (o : Opening). kept_of (receiver o r.frames)) again.opening
     ∙ ap (λ (rs : List Raster). kept_of (receiver s.opening rs)) again.frames
 
-holds_both : (s t : State) → s.opening ≡ t.opening → (xs ys : List (List ℕ)) → Holds s xs
+pub holds_both : (s t : State) → s.opening ≡ t.opening → (xs ys : List (List ℕ)) → Holds s xs
     → Holds t ys
     → Holds (merged_state s t) (xs ++ ys)
 holds_both s t alike xs ys holds_xs holds_ys =
@@ -68,7 +68,7 @@ merges left right old new m joins taken = record {
 }
 
 -- and printed
-same_lines : (s r : State) → IsAgain s r → frame_lines r ≡ frame_lines s
+pub same_lines : (s r : State) → IsAgain s r → frame_lines r ≡ frame_lines s
 same_lines s r again =
     ap (λ (o : Opening). frame_lines (receiver o r.frames)) again.opening
     ∙ ap (λ (rs : List Raster). frame_lines (receiver s.opening rs)) again.frames

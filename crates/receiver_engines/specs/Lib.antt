@@ -6,6 +6,8 @@ pub mod JobText
 pub mod FillText
 pub mod Inputs
 pub mod Reading
+pub mod MergedAll
+pub mod MergeAllRefused
 pub mod Late
 pub mod Processing
 pub mod Refused

@@ -1,4 +1,4 @@
-//! The engines of the program that read receivers' files: two are merged, one is reported, and
+//! The engines of the program that read receivers' files: some are merged, one is reported, and
 //! frames of some are processed.
 #![tactic(auto)]
 
@@ -8,6 +8,7 @@ mod job_offers;
 mod job_text;
 mod late_capture;
 mod merging;
+mod merging_all;
 mod processing;
 mod reading;
 mod reporting;
@@ -15,5 +16,6 @@ mod states;
 
 pub use job_offers::offered_by_job;
 pub use merging::merge;
+pub use merging_all::merge_all;
 pub use processing::{Processing, check_job, process, process_said};
 pub use reporting::report;

@@ -1,4 +1,4 @@
-//! The engine of `merge`.
+//! The engine of `merge` for two receivers' files, whose devices may be of two kinds.
 ghost use Rattle.std.specs.Prelude.{◌≡◌, ◌∷◌, [], IfErr, IfOk, OnErr, OnOk};
 ghost use Rattle.st_format.specs.History.{IsRead};
 ghost use Rattle.run_outcome.specs.Fault.{Accounts, IfRefused, counts};
@@ -7,9 +7,10 @@ ghost use Rattle.receiver_engines.specs.Merging.{SavesPart};
 ghost use Rattle.receiver_engines.specs.MergeRefused.{IsMergeRefusal};
 ghost use Rattle.run_outcome.specs.Refusing.{OfRefusal};
 
+use crate::merging_all::join;
 use crate::states::{read_receiver, save};
 use path_merge::Receiver;
-use run_outcome::{Fault, Refusal, print_frames};
+use run_outcome::{Fault, print_frames};
 use st_format::{ByteSink, ByteSource};
 use std::alloc::Allocator;
 
@@ -80,9 +81,6 @@ fn merge_both<A: Allocator + Copy, L: ByteSource, R: ByteSource>(
         ∷ counts (R.failures right.old) (R.failures right.new) ∷ []) }
 {
     let mut merged = read_receiver(alloc, left)?;
-    let other = read_receiver(alloc, right)?;
-    match merged.merge(&other) {
-        Ok(()) => Ok(merged),
-        Err(_) => Err(Fault::Refused(Refusal::MergeUnlike)),
-    }
+    join(alloc, &mut merged, right)?;
+    Ok(merged)
 }

@@ -63,7 +63,7 @@ fn follow(rt: &HostRuntime, given: &Given<'_>) -> u8 {
         }
         Words::Send(words) => send(rt, words, explains),
         Words::Receive(words) => receive(rt, words, explains),
-        Words::Merge(words) => run_command(rt, explains, MergeCommand::new(rt, words)).status,
+        Words::Merge(words) => run_made(rt, explains, MergeCommand::new(rt, words)),
         Words::Process(words) => run_made(rt, explains, ProcessCommand::new(rt, words)),
         Words::Report(state) => run_command(rt, explains, ReportCommand::new(rt, state)).status,
         Words::Loop(words) => run_command(rt, explains, LoopCommand::new(rt, words)).status,

@@ -1,0 +1,37 @@
+use Rattle.std.proofs.Common.{◌∙◌, refl, sym}
+use Rattle.std.proofs.lemmas.Result.{err_from_is_err_and}
+use Rattle.run_outcome.proofs.Refusals.{of_refusal_map}
+use Rattle.st_format.specs.History.{IsRead}
+use Rattle.receiver_engines.proofs.MergeRefusals.{file_refused}
+use Rattle.receiver_engines.proofs.merging_all.join.Goals as goal
+
+pub returns-in-Ok-clause-joined : goal.returns-in-Ok-clause-joined
+returns-in-Ok-clause-joined g c = record {
+  other = c.in_ok-other.other;
+  other_is = record {
+    says = c.in_ok-other.ensures.found;
+    same = c.in_ok-other.ensures.same;
+  };
+  alike = c.in-Ok.ensures.alike;
+  joined = record { opening = c.merge.ensures.opening; frames = c.in-Ok.ensures.frames };
+}
+
+pub returns-in_err-other-clause-refusal : goal.returns-in_err-other-clause-refusal
+returns-in_err-other-clause-refusal g c =
+    let now = c.read_receiver.new.source in
+    let told =
+    IsRead (g.S.ByteSource.gave c.args.source.now) (g.S.ByteSource.gave now)
+    (g.S.ByteSource.ended now) in
+    let p = err_from_is_err_and c.from_residual.result c.from_residual.ensures.1 in
+    rw (p.1, p.2)
+    (of_refusal_map c.in_err-other.field-0.0 (file_refused c.args.merged.now told)
+    c.in_err-other.ensures.refused)
+
+pub returns-clause-refusal : goal.returns-clause-refusal
+returns-clause-refusal g c = record {
+  other = c.in_ok-other.other;
+  other_is = c.in_ok-other.ensures.found;
+  unlike = λ t gives alike.
+      c.in-Err.ensures.unlike.0 refl
+      (alike ∙ sym (c.in_ok-other.ensures.same t gives).opening);
+}

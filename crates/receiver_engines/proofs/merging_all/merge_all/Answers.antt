@@ -1,0 +1,52 @@
+use Rattle.std.proofs.Common.{◌≡◌, ◌++◌, inr}
+use Rattle.std.specs.List.{zip}
+use Rattle.media_file.specs.StateFile.{state_text}
+use Rattle.receiver_engines.specs.MergedAll.{MergesAll, PrintsAll}
+use Rattle.receiver_engines.specs.Merging.{SavesPart}
+use Rattle.receiver_file.specs.Saved.{kept_of}
+use Rattle.run_outcome.proofs.Printed.{on_err, on_ok}
+use Rattle.run_outcome.specs.Moments.{WasRead}
+use Rattle.st_format.specs.Device.{GrowsPart}
+use Rattle.st_format.specs.History.{IsRead}
+use Rattle.receiver_engines.proofs.JoinedAll.{merges_all, prints_all}
+use Rattle.receiver_engines.proofs.merging_all.merge_all.Goals as goal
+
+pub returns-clause-merged : goal.returns-clause-merged
+returns-clause-merged g c =
+    let now = c.join_all.new.first in
+    let first =
+    IsRead (g.S.ByteSource.gave c.args.first.now) (g.S.ByteSource.gave now)
+    (g.S.ByteSource.ended now) in
+    let told = WasRead g.S.ByteSource.gave g.S.ByteSource.ended in
+    let others = zip c.args.others.now c.join_all.new.others in
+    let old = g.K.ByteSink.took c.args.state.now in
+    let new = g.K.ByteSink.took c.save.new.state in
+    let m = c.in_ok-merged.merged in
+    on_ok c.save.result (new ≡ old ++ state_text (kept_of m)) (MergesAll first told others old new)
+    (merges_all first told others old new m c.in_ok-merged.ensures.joined) c.save.ensures.whole
+
+pub returns-clause-printed : goal.returns-clause-printed
+returns-clause-printed g c =
+    let now = c.join_all.new.first in
+    let first =
+    IsRead (g.S.ByteSource.gave c.args.first.now) (g.S.ByteSource.gave now)
+    (g.S.ByteSource.ended now) in
+    let told = WasRead g.S.ByteSource.gave g.S.ByteSource.ended in
+    let others = zip c.args.others.now c.join_all.new.others in
+    let old = g.O.ByteSink.took c.args.output.now in
+    let new = g.O.ByteSink.took c.print_frames.new.output in
+    let m = c.in_ok-merged.merged in
+    on_ok c.save.result
+    (g.K.ByteSink.took c.save.new.state
+    ≡ g.K.ByteSink.took c.args.state.now ++ state_text (kept_of m))
+    (PrintsAll first told others old new)
+    (λ saved. prints_all first told others old new m c.in_ok-merged.ensures.joined
+    c.in_ok-print_frames.ensures.printed) c.save.ensures.whole
+
+pub returns-clause-part : goal.returns-clause-part
+returns-clause-part g c =
+    let old = g.K.ByteSink.took c.args.state.now in
+    let new = g.K.ByteSink.took c.save.new.state in
+    let m = c.in_ok-merged.merged in
+    on_err c.save.result (GrowsPart old new (state_text (kept_of m))) (SavesPart old new)
+    (λ part. inr (m, part)) c.save.ensures.part
