@@ -5,10 +5,15 @@ mod looping;
 mod migrating;
 mod opening;
 mod receiving;
+mod replayed;
+mod replaying;
 mod sending;
+mod window;
 
 pub use looping::LoopCommand;
 pub use migrating::MigrateCommand;
 pub use opening::Files;
 pub use receiving::ReceiveCommand;
+pub use replayed::{Keeping, Replayed};
 pub use sending::SendCommand;
+pub use window::Found;

@@ -5,8 +5,10 @@ ghost use Rattle.std.specs.List.{zip};
 ghost use Rattle.std.specs.Option.{option_copied};
 ghost use Rattle.capture_engines.specs.Received.{IsReceiveRefusal};
 ghost use Rattle.capture_engines.specs.Taking.{Receives};
-ghost use Rattle.capture_runs.specs.Opened.{AreUnread, IsOpeningRefusal};
+ghost use Rattle.capture_runs.specs.Opened.{AreUnread};
 ghost use Rattle.capture_runs.specs.Received.{AccountsFiles, EndsRecording, IsErrOf};
+ghost use Rattle.capture_runs.specs.Refused.{IsOpeningRefusal};
+ghost use Rattle.capture_runs.specs.Window.{IsWindow, said_text, window_text};
 ghost use Rattle.devices.specs.Passed.{IsInPlace, IsUnplaced, file_took, output_failures};
 ghost use Rattle.devices.specs.Passed.{output_took, sink_failures, sink_took, writing_failures};
 ghost use Rattle.run_outcome.specs.Fault.{counts, failures_in};
@@ -16,6 +18,7 @@ ghost use Rattle.run_outcome.specs.declared.fault.Fault.TheVariants.{Refused};
 ghost use Rattle.recorded_capture.specs.Source.{IsOver};
 
 use crate::opening::{Asked, Files, Source, is_asked};
+use crate::window::window_of;
 use capture_engines::Wanted;
 use command_end::{Command, Devices, Ran};
 use command_line::ReceiveWords;
@@ -67,14 +70,14 @@ fn take(
     state: &mut FileSink<'_>,
     output: &mut OutputSink<Stream>,
 ) -> Result<(), Fault>
-    ensures taken { OnOk result (Receives wanted.entry.window.now wanted.entry.ssrc.now
-        (pair files.old.sdp files.new.sdp) (WasRead (λ s. s.gave) (λ s. IsOver s.place))
+    ensures taken { OnOk result (Receives (window_text files.old.found wanted.entry.window.now)
+        wanted.entry.ssrc.now (pair files.old.sdp files.new.sdp) (WasRead (λ s. s.gave) (λ s. IsOver s.place))
         (zip files.old.captures.items files.new.captures.items) wanted.entry.tells_refusals
         (output_took output.old) (output_took output.new)
         (sink_took state.old) (sink_took state.new)) }
     ensures refusal { IfErr result (λ f. OfRefusal f (λ r.
-        IsReceiveRefusal wanted.entry.window.now wanted.entry.ssrc.now
-        (pair files.old.sdp files.new.sdp) (WasRead (λ s. s.gave) (λ s. IsOver s.place))
+        IsReceiveRefusal (window_text files.old.found wanted.entry.window.now)
+        wanted.entry.ssrc.now (pair files.old.sdp files.new.sdp) (WasRead (λ s. s.gave) (λ s. IsOver s.place))
         (zip files.old.captures.items files.new.captures.items) r
         ⊎ Any (EndsRecording r) files.new.captures.items)) }
     ensures owed { AccountsFiles result
@@ -85,6 +88,10 @@ fn take(
         ∷ counts (sink_failures state.old) (sink_failures state.new)
         ∷ counts (output_failures output.old) (output_failures output.new) ∷ []) }
 {
+    let wanted = Wanted {
+        window: window_of(&files.found, wanted.window),
+        ..wanted
+    };
     let outcome = capture_engines::receive(
         rt.alloc(),
         wanted,
@@ -108,7 +115,7 @@ fn told_by(outcome: Result<(), Fault>, captures: &[Source<'_>]) -> Result<(), Fa
 }
 
 /// The fault of the first file that ended by one; else a device failed.
-fn fault_in(captures: &[Source<'_>]) -> Fault
+pub(crate) fn fault_in(captures: &[Source<'_>]) -> Fault
     ensures { OfRefusal result (λ r. Any (EndsRecording r) captures.now) }
 {
     for capture in captures {
@@ -149,14 +156,18 @@ impl<'a> Command for ReceiveCommand<'a> {
     ghost is_new = { λ c. AreUnread c.files.sdp c.files.captures.items
         × (file_took c.state ≡ []) × IsUnplaced c.state × LeavesNoPart c.state
         × (output_took c.output ≡ []) × OnOk c.opened (IsFalse c.is_input)
+        × OnOk c.opened (IsWindow c.asked.wanted.window.now c.asked.wanted.ssrc.now
+        (said_text c.files.sdp) c.files.found)
         × IfErr c.opened (λ f. OfRefusal f (IsOpeningRefusal c.asked.wanted.window.now
         c.asked.wanted.ssrc.now c.is_input (option_copied c.asked.flows.a)
-        (option_copied c.asked.flows.b) c.files.unread)) };
+        (option_copied c.asked.flows.b) c.files)) };
 
     // What is written is the file of a receiver of the window and the source that are asked for,
     // and of what the SDP text says, which holds the Frames of all datagrams of the captures and
-    // recordings that were read; and what is printed counts those.
-    ghost does = { λ old new. Receives old.asked.wanted.window.now old.asked.wanted.ssrc.now
+    // recordings that were read; and what is printed counts those. The window is that of the words,
+    // or, where they ask for the first timestamps, of these, as `is_new` says.
+    ghost does = { λ old new. Receives (window_text old.files.found old.asked.wanted.window.now)
+        old.asked.wanted.ssrc.now
         (pair old.files.sdp new.files.sdp) (WasRead (λ s. s.gave) (λ s. IsOver s.place))
         (zip old.files.captures.items new.files.captures.items)
         old.asked.wanted.tells_refusals (output_took old.output) (output_took new.output)
@@ -165,7 +176,8 @@ impl<'a> Command for ReceiveCommand<'a> {
     // A refusal before datagrams were taken, one of the words or of what was read, or the fault of
     // a recording.
     ghost is_refused = { λ old new r. (old.opened ≡ Err (Refused r))
-        ⊎ IsReceiveRefusal old.asked.wanted.window.now old.asked.wanted.ssrc.now
+        ⊎ IsReceiveRefusal (window_text old.files.found old.asked.wanted.window.now)
+        old.asked.wanted.ssrc.now
         (pair old.files.sdp new.files.sdp) (WasRead (λ s. s.gave) (λ s. IsOver s.place))
         (zip old.files.captures.items new.files.captures.items) r
         ⊎ Any (EndsRecording r) new.files.captures.items };
