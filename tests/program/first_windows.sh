@@ -21,17 +21,17 @@ octets 5332304341503031 "$(rtp 1 1 97)" "$record_a" "40${d1#80}" "$(rtp 2 2 96)"
 # first NAME WORD LISTED LINES WORDS..: what a window of the first timestamps prints, and that it writes the receiver of
 # these that are listed.
 first() {
-    name=$1
+    window=$1
     word=$2
     listed=$3
     lines=$4
     shift 4
     rm -f first.rcv
     run receive --window "$word" --state first.rcv "$@"
-    says "first timestamps: $name" 0 "$lines" ''
+    says "first timestamps: $window" 0 "$lines" ''
     run receive --window "$listed" --state listed.rcv "$@"
-    says "first timestamps: $name, listed" 0 "$lines" ''
-    alike "first timestamps: $name: the receiver" first.rcv listed.rcv
+    says "first timestamps: $window, listed" 0 "$lines" ''
+    alike "first timestamps: $window: the receiver" first.rcv listed.rcv
 }
 first 'all of a source' all 900,2400,5,3900 "delivered 8
 $(rows 900 2400)
@@ -81,45 +81,50 @@ first 'sixteen of twenty, by their number' first:16 "${listed#,}" "delivered 20$
 
 # What can be read only once: a pipe by its name and as standard input, before and behind files, and a FIFO. A plain file
 # as standard input can be read twice.
+# given NAME: whether the last run wrote the receiver that is wanted.
+given() {
+    says "first timestamps: $1" 0 "$lines" ''
+    alike "first timestamps: $1: the receiver" given.rcv first.rcv
+    rm -f given.rcv
+}
+# piped NAME FILE WORDS..: the same of a run over a pipe that gives a file.
 piped() {
     name=$1
-    shift
-    rm -f piped.rcv
-    "$program" receive --sdp q.sdp --state piped.rcv "$@" >out 2>err
+    file=$2
+    shift 2
+    cat "$file" | "$program" receive --state given.rcv "$@" >out 2>err
     status=$?
-    says "first timestamps: $name" 0 "$lines" ''
-    alike "first timestamps: $name: the receiver" piped.rcv first.rcv
+    given "$name"
 }
 lines="delivered 8
 $(rows 900 2400)"
 first 'two, of a file' first:2 900,2400 "$lines" --sdp q.sdp --ssrc 1 mixed.cap
-cat mixed.cap | piped 'two, of a pipe' --window first:2 --ssrc 1 -
-cat mixed.cap | piped 'two, of a pipe by its name' --window first:2 --ssrc 1 /dev/stdin
-piped 'two, of a file as standard input' --window first:2 --ssrc 1 - <mixed.cap
+piped 'two, of a pipe' mixed.cap --sdp q.sdp --window first:2 --ssrc 1 -
+piped 'two, of a pipe by its name' mixed.cap --sdp q.sdp --window first:2 --ssrc 1 /dev/stdin
+"$program" receive --sdp q.sdp --state given.rcv --window first:2 --ssrc 1 - <mixed.cap >out 2>err
+status=$?
+given 'two, of a file as standard input'
 mkfifo fifo.cap
 cat mixed.cap >fifo.cap &
-piped 'two, of a FIFO' --window first:2 --ssrc 1 fifo.cap
+run receive --sdp q.sdp --state given.rcv --window first:2 --ssrc 1 fifo.cap
 wait
+given 'two, of a FIFO'
 rm -f fifo.cap
 lines="delivered 20$shown"
 first 'sixteen, of a file' all "${listed#,}" "$lines" --sdp q.sdp twenty.cap
-cat twenty.cap | piped 'sixteen, of a pipe' --window all -
+piped 'sixteen, of a pipe' twenty.cap --sdp q.sdp --window all -
 lines="delivered 5
 $(rows 900 4294967295 0 2400)"
 first 'all, of two files' all 900,4294967295,0,2400 "$lines" --sdp q.sdp wrapped.cap later.cap
-cat wrapped.cap | piped 'all, of a pipe and a file' --window all - later.cap
-cat later.cap | piped 'all, of a file and a pipe' --window all wrapped.cap -
+piped 'all, of a pipe and a file' wrapped.cap --sdp q.sdp --window all - later.cap
+piped 'all, of a file and a pipe' later.cap --sdp q.sdp --window all wrapped.cap -
 lines="delivered 3
 $(rows 900 2400 3900)"
 octets "5332304341503032 $q_length" >own.cap
 cat q.sdp >>own.cap
 octets "$(rtp 900 1 96)" "$(rtp 2400 1 96)" "$(rtp 3900 1 96)" >>own.cap
 first 'all, by the text of a file' all 900,2400,3900 "$lines" own.cap
-rm -f piped.rcv
-cat own.cap | "$program" receive --window all --state piped.rcv - >out 2>err
-status=$?
-says 'first timestamps: all, by the text of a pipe' 0 "$lines" ''
-alike 'first timestamps: all, by the text of a pipe: the receiver' piped.rcv first.rcv
+piped 'all, by the text of a pipe' own.cap --window all -
 
 # A recording, also as a pipe.
 recordings=${RECORDINGS:-$root/examples/recordings}
@@ -127,14 +132,10 @@ lines='delivered 6
 frame 900 present 128 missing 0 contested 0
 frame 4500 present 128 missing 0 contested 0'
 first 'a recording' all 900,4500 "$lines" --sdp "$recordings/loopback.sdp" "$recordings/loopback.pcap"
-cat "$recordings/loopback.pcap" \
-    | "$program" receive --sdp "$recordings/loopback.sdp" --window all --state piped.rcv - >out 2>err
-status=$?
-says 'first timestamps: a recording of a pipe' 0 "$lines" ''
-alike 'first timestamps: a recording of a pipe: the receiver' piped.rcv first.rcv
+piped 'a recording of a pipe' "$recordings/loopback.pcap" --sdp "$recordings/loopback.sdp" --window all -
 
 # Words that are refused before any file is read.
-for word in first: first:0 first:17 first:x first:1,2 first:-1 first:4294967297 First:1 first:1: first 'first: 1' ALL all, 'all ' \
+for word in first: first:0 first:17 first:x first:1,2 first:-1 first:4294967297 First:1 first:1: first 'first: 1' ALL 'all,' 'all ' \
     900,all; do
     run receive --state none.rcv --sdp no-such-file --window "$word" no-such-file
     says "first timestamps: the window '$word'" 1 '' 'st2110: receive 1 BadWindowText'
@@ -146,13 +147,13 @@ done
 
 # None comes, or what is read on the way is refused.
 refuses_first() {
-    name=$1
+    refused=$1
     fault=$2
     shift 2
     rm -f none.rcv
     run receive --state none.rcv --window all "$@"
-    says "first timestamps: $name" 1 '' "st2110: $fault"
-    none "first timestamps: $name: no receiver" none.rcv
+    says "first timestamps: $refused" 1 '' "st2110: $fault"
+    none "first timestamps: $refused: no receiver" none.rcv
 }
 head -c 85 both.cap >short.cap
 refuses_first 'none of a source' 'open 2 BadWindow' --sdp q.sdp --ssrc 7 mixed.cap

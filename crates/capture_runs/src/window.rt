@@ -4,8 +4,10 @@ ghost use Rattle.std.specs.List.{zip};
 ghost use Rattle.std.specs.Option.{option_copied};
 ghost use Rattle.capture_runs.specs.Opened.{IsUnread};
 ghost use Rattle.capture_runs.specs.Window.{IsAsked, IsFound, IsLookedRefusal, IsWordRefusal};
-ghost use Rattle.capture_runs.specs.Window.{window_text};
+ghost use Rattle.capture_runs.specs.Received.{EndsRecording};
+ghost use Rattle.capture_runs.specs.Window.{SourceRead, window_text};
 ghost use Rattle.run_outcome.specs.Refusing.{OfRefusal};
+ghost use Rattle.window_finding.specs.Finding.{FindsFirst, IsFindRefusal};
 
 use crate::opening::Source;
 use crate::receiving::fault_in;
@@ -64,14 +66,34 @@ pub(crate) fn find_in<'a>(
         wanted.entry.ssrc.now (option_copied said.entry) captures.new.items)) }
 {
     let fresh = Snapshot::of(captures);
+    let window = find_told(rt, sought, said, captures)?;
+    Ok(Found {
+        window: spell_timestamps(rt.alloc(), &window)?,
+        fresh,
+        read: Snapshot::of(captures),
+    })
+}
+
+/// Finds the first timestamps of captures, and tells a fault of what was read in place of a
+/// device's.
+fn find_told<'a>(
+    rt: &HostRuntime,
+    sought: Sought,
+    said: Option<&[u8]>,
+    captures: &mut Vec<Source<'a>>,
+) -> Result<Vec<u32>, Fault>
+    ensures len { length captures.new.items ≡ length captures.old.items }
+    ensures found { IfOk result (λ window. FindsFirst sought.count sought.ssrc
+        (option_copied said.entry) SourceRead (zip captures.old.items captures.new.items)
+        window.items) }
+    ensures some { IfOk result (λ window. 0 < length window.items) }
+    ensures refusal { IfErr result (λ f. OfRefusal f (λ r. IsFindRefusal sought.count sought.ssrc
+        (option_copied said.entry) SourceRead (zip captures.old.items captures.new.items) r
+        ⊎ Any (EndsRecording r) captures.new.items)) }
+{
     match find_window(rt.alloc(), sought, said, captures.as_mut_slice()) {
-        Ok(window) => Ok(Found {
-            window: spell_timestamps(rt.alloc(), &window)?,
-            fresh,
-            read: Snapshot::of(captures),
-        }),
         Err(Fault::Device) => Err(fault_in(captures)),
-        Err(fault) => Err(fault),
+        found => found,
     }
 }
 
