@@ -1,5 +1,5 @@
 //! What `receive` reads: the SDP, where one is named, and captures and recordings.
-ghost use Rattle.std.specs.Prelude.{◌≡◌, [], All, IfErr, IfOk, IsFalse, None, OnOk, Some};
+ghost use Rattle.std.specs.Prelude.{◌≡◌, ◌⊎◌, [], All, IfErr, IfOk, IsFalse, None, OnOk, Some};
 ghost use Rattle.std.specs.Option.{option_copied};
 ghost use Rattle.capture_runs.specs.Opened.{AreUnread, IsUnread};
 ghost use Rattle.capture_runs.specs.Refused.{IsFlowRefusal, IsOpeningRefusal, IsTooLong};
@@ -148,8 +148,7 @@ impl<'a> Files<'a> {
         sought: Sought,
     ) -> Result<(), Fault>
         requires unread { AreUnread self.old.sdp self.old.captures.items }
-        requires asked { IsAsked asked.entry.wanted.window.now asked.entry.wanted.ssrc.now
-            (Some sought) }
+        requires asked { IsAsked asked.wanted.window.now asked.wanted.ssrc.now (Some sought) }
         ensures unread { AreUnread self.new.sdp self.new.captures.items }
         ensures kept { self.new.unread ≡ self.old.unread }
         ensures found { OnOk result (IsWindow asked.entry.wanted.window.now
@@ -265,16 +264,33 @@ fn again<'a>(rt: &'a HostRuntime, looked: Vec<Source<'a>>) -> Result<Vec<Source<
 {
     let mut captures = Vec::new(rt.alloc());
     for capture in looked {
-        let (way, file) = capture.into_parts();
-        let file = file.again()?;
-        if captures
-            .push(CaptureSource::new(rt.alloc(), way, file))
-            .is_err()
-        {
-            return Err(Fault::Memory);
-        }
+        let capture = fresh_of(rt, capture)?;
+        push_capture(&mut captures, capture)?;
     }
     Ok(captures)
+}
+
+/// Puts one more file behind some of which nothing was looked at.
+fn push_capture<'a>(captures: &mut Vec<Source<'a>>, capture: Source<'a>) -> Result<(), Fault>
+    requires unread { All IsUnread captures.old.items }
+    requires one { IsUnread capture }
+    ensures unread { OnOk result (All IsUnread captures.new.items) }
+    ensures unrefused { IfErr result (λ f. IfRefused f ⊥) }
+{
+    match captures.push(capture) {
+        Ok(()) => Ok(()),
+        Err(_) => Err(Fault::Memory),
+    }
+}
+
+/// A file that was read, to be read from its front again.
+fn fresh_of<'a>(rt: &'a HostRuntime, capture: Source<'a>) -> Result<Source<'a>, Fault>
+    ensures unread { IfOk result IsUnread }
+    ensures unrefused { IfErr result (λ f. IfRefused f ⊥) }
+{
+    let (way, file) = capture.into_parts();
+    let file = file.again()?;
+    Ok(CaptureSource::new(rt.alloc(), way, file))
 }
 
 /// Reads an SDP's file.

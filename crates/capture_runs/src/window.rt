@@ -1,5 +1,5 @@
 //! The window of the first timestamps that come of captures and recordings.
-ghost use Rattle.std.specs.Prelude.{◌≡◌, ◌<◌, ◌⊎◌, ℕ, All, Any, IfErr, IfOk, length};
+ghost use Rattle.std.specs.Prelude.{◌≡◌, ◌<◌, ◌⊎◌, All, Any, Err, IfErr, IfOk, Ok, Some, length};
 ghost use Rattle.std.specs.List.{zip};
 ghost use Rattle.std.specs.Option.{option_copied};
 ghost use Rattle.capture_runs.specs.Opened.{IsUnread};
@@ -59,7 +59,7 @@ pub(crate) fn find_in<'a>(
     captures: &mut Vec<Source<'a>>,
 ) -> Result<Found<'a>, Fault>
     requires unread { All IsUnread captures.old.items }
-    requires asked { IsAsked wanted.entry.window.now wanted.entry.ssrc.now (Some sought) }
+    requires asked { IsAsked wanted.window.now wanted.ssrc.now (Some sought) }
     ensures found { IfOk result (IsFound wanted.entry.window.now wanted.entry.ssrc.now
         (option_copied said.entry)) }
     ensures refusal { IfErr result (λ f. OfRefusal f (IsLookedRefusal wanted.entry.window.now
@@ -91,9 +91,20 @@ fn find_told<'a>(
         (option_copied said.entry) SourceRead (zip captures.old.items captures.new.items) r
         ⊎ Any (EndsRecording r) captures.new.items)) }
 {
-    match find_window(rt.alloc(), sought, said, captures.as_mut_slice()) {
+    let outcome = find_window(rt.alloc(), sought, said, captures.as_mut_slice());
+    told_found(outcome, captures.as_slice())
+}
+
+/// What was found, or in place of a device's fault that of the first file that ended by one.
+fn told_found(outcome: Result<Vec<u32>, Fault>, captures: &[Source<'_>]) -> Result<Vec<u32>, Fault>
+    ensures ok { IfOk result (λ window. outcome ≡ Ok window) }
+    ensures err { IfErr result (λ f. (outcome ≡ Err f)
+        ⊎ OfRefusal f (λ r. Any (EndsRecording r) captures.now)) }
+{
+    match outcome {
+        Ok(window) => Ok(window),
         Err(Fault::Device) => Err(fault_in(captures)),
-        found => found,
+        Err(fault) => Err(fault),
     }
 }
 

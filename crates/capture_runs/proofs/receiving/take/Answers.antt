@@ -10,7 +10,7 @@ returns-clause-taken c =
     c.receive-outcome.new.captures (sym c.as_mut_slice.ensures.len ∙ same)
     (c.receive-outcome.ensures.len ∙ same))
     (told_ok c.receive-outcome.result c.told_by.result _ _ c.told_by.ensures
-    (rw c.as_mut_slice.ensures.value at c.receive-outcome.ensures.taken))
+    (rw (c.as_mut_slice.ensures.value, c.window_of.ensures) at c.receive-outcome.ensures.taken))
 
 pub returns-clause-refusal : goal.returns-clause-refusal
 returns-clause-refusal c =
@@ -21,4 +21,4 @@ returns-clause-refusal c =
     rw back
     (told_refused c.receive-outcome.result c.told_by.result c.receive-outcome.new.captures _
     (rw (c.as_slice.ensures.value, back) at c.told_by.ensures)
-    (rw c.as_mut_slice.ensures.value at c.receive-outcome.ensures.refusal))
+    (rw (c.as_mut_slice.ensures.value, c.window_of.ensures) at c.receive-outcome.ensures.refusal))
