@@ -179,7 +179,7 @@ END
 octets "$old_head $d1" >old.cap
 
 # The parts, in the order in which they are run: later ones use files and words of earlier ones.
-parts='text examples forms windows rehearsals descriptions limits migrate receive tallies send kinds
+parts='text examples forms windows rehearsals descriptions limits migrate receive first_windows tallies send kinds
     merge process report loop recordings words lost devices outputs verbose faults
     launcher install'
 for part in ${2:-$parts}; do

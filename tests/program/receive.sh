@@ -166,4 +166,4 @@ run receive --state no-such-folder/g.rcv --sdp q.sdp --window 900 old.cap
 says 'receive: a receiver file that cannot be made' 3 '' 'st2110: device'
 run receive --sdp q.sdp --window 900 old.cap
 misworded 'receive: without --state' "$missing\n  --state <FILE>" \
-    'receive --window <TS[,TS..]> --state <FILE> --sdp <FILE> <RECORDING>...'
+    'receive --window <TS[,TS..]|all|first:N> --state <FILE> --sdp <FILE> <RECORDING>...'

@@ -6,12 +6,17 @@ mod looping;
 mod migrating;
 mod opening;
 mod receiving;
+mod replayed;
+mod replaying;
 mod room;
 mod sending;
+mod window;
 
 pub use differing::{StreamFormat, said_otherwise};
 pub use looping::LoopCommand;
 pub use migrating::MigrateCommand;
 pub use opening::Files;
 pub use receiving::ReceiveCommand;
+pub use replayed::{Keeping, Replayed};
 pub use sending::SendCommand;
+pub use window::Found;

@@ -7,8 +7,10 @@ ghost use Rattle.capture_engines.specs.Counted.{CountsReceived};
 ghost use Rattle.capture_engines.specs.Received.{IsReceiveRefusal};
 ghost use Rattle.capture_engines.specs.Rescued.{Rescues};
 ghost use Rattle.capture_engines.specs.Taking.{Receives};
-ghost use Rattle.capture_runs.specs.Opened.{AreUnread, IsOpeningRefusal};
+ghost use Rattle.capture_runs.specs.Opened.{AreUnread};
 ghost use Rattle.capture_runs.specs.Received.{AccountsFiles, EndsRecording, IsErrOf};
+ghost use Rattle.capture_runs.specs.Refused.{IsOpeningRefusal};
+ghost use Rattle.capture_runs.specs.Window.{IsWindow, said_text, window_text};
 ghost use Rattle.devices.specs.Passed.{HasNoPart, IsInPlace, IsUnplaced, LeavesNoPart};
 ghost use Rattle.devices.specs.Passed.{file_took, output_failures, output_took, sink_failures};
 ghost use Rattle.devices.specs.Passed.{sink_took, writing_failures};
@@ -20,6 +22,7 @@ ghost use Rattle.recorded_capture.specs.Source.{IsOver};
 
 use crate::opening::{Asked, Files, Source, is_asked};
 use crate::room::room_of;
+use crate::window::window_of;
 use capture_engines::{Reception, Wanted};
 use command_end::{Command, Devices, Hints, Ran};
 use command_line::ReceiveWords;
@@ -86,7 +89,12 @@ impl ReceiveCommand<'_> {
             takes_recordings: true,
             sound,
             room: if self.wants_memory {
-                room_of(self.rt, self.asked, self.files.said())
+                room_of(
+                    self.rt,
+                    window_of(&self.files.found, self.asked.wanted.window),
+                    self.asked.recordings,
+                    self.files.said(),
+                )
             } else {
                 None
             },
@@ -105,23 +113,27 @@ fn take(
     reception: &mut Option<Reception>,
 ) -> Result<(), Fault>
     requires { reception.old ≡ None }
-    ensures taken { OnOk result (Receives wanted.entry.window.now wanted.entry.ssrc.now
+    ensures taken { OnOk result (Receives (window_text files.old.found wanted.entry.window.now)
+        wanted.entry.ssrc.now
         (pair files.old.sdp files.new.sdp) (WasRead (λ s. s.gave) (λ s. IsOver s.place))
         (zip files.old.captures.items files.new.captures.items) wanted.entry.tells_refusals
         (output_took output.old) (output_took output.new)
         (sink_took state.old) (sink_took state.new)) }
     ensures counted { OnOk result (MatchOption reception.new ⊥
-        (CountsReceived wanted.entry.window.now wanted.entry.ssrc.now
+        (CountsReceived (window_text files.old.found wanted.entry.window.now)
+        wanted.entry.ssrc.now
         (pair files.old.sdp files.new.sdp) (WasRead (λ s. s.gave) (λ s. IsOver s.place))
         (zip files.old.captures.items files.new.captures.items))) }
     ensures rescued { OnErr result (MatchOption reception.new ⊤ (λ r. IsTrue is_sound
-        × Rescues wanted.entry.window.now wanted.entry.ssrc.now
+        × Rescues (window_text files.old.found wanted.entry.window.now)
+        wanted.entry.ssrc.now
         (pair files.old.sdp files.new.sdp) (λ s. s.gave) (λ s. IsOver s.place)
         (zip files.old.captures.items files.new.captures.items) wanted.entry.tells_refusals
         (output_took output.old) (output_took output.new)
         (sink_took state.old) (sink_took state.new) r)) }
     ensures refusal { IfErr result (λ f. OfRefusal f (λ r.
-        IsReceiveRefusal wanted.entry.window.now wanted.entry.ssrc.now
+        IsReceiveRefusal (window_text files.old.found wanted.entry.window.now)
+        wanted.entry.ssrc.now
         (pair files.old.sdp files.new.sdp) (WasRead (λ s. s.gave) (λ s. IsOver s.place))
         (zip files.old.captures.items files.new.captures.items) r
         ⊎ Any (EndsRecording r) files.new.captures.items)) }
@@ -133,6 +145,10 @@ fn take(
         ∷ counts (sink_failures state.old) (sink_failures state.new)
         ∷ counts (output_failures output.old) (output_failures output.new) ∷ []) }
 {
+    let wanted = Wanted {
+        window: window_of(&files.found, wanted.window),
+        ..wanted
+    };
     let outcome = capture_engines::receive_files(
         rt.alloc(),
         wanted,
@@ -166,7 +182,7 @@ fn told_by(outcome: Result<(), Fault>, captures: &[Source<'_>]) -> Result<(), Fa
 }
 
 /// The fault of the first file that ended by one; else a device failed.
-fn fault_in(captures: &[Source<'_>]) -> Fault
+pub(crate) fn fault_in(captures: &[Source<'_>]) -> Fault
     ensures { OfRefusal result (λ r. Any (EndsRecording r) captures.now) }
 {
     for capture in captures {
@@ -207,27 +223,32 @@ impl<'a> Command for ReceiveCommand<'a> {
     ghost is_new = { λ c. AreUnread c.files.sdp c.files.captures.items × (c.reception ≡ None)
         × (file_took c.state ≡ []) × IsUnplaced c.state × LeavesNoPart c.state
         × (output_took c.output ≡ []) × OnOk c.opened (IsFalse c.is_input)
+        × OnOk c.opened (IsWindow c.asked.wanted.window.now c.asked.wanted.ssrc.now
+        (said_text c.files.sdp) c.files.found)
         × IfErr c.opened (λ f. OfRefusal f (IsOpeningRefusal c.asked.wanted.window.now
         c.asked.wanted.ssrc.now c.is_input (option_copied c.asked.flows.a)
-        (option_copied c.asked.flows.b) c.files.unread)) };
+        (option_copied c.asked.flows.b) c.files)) };
 
     // What is written is the file of a receiver of the window and the source that are asked for,
     // and of what the SDP text says, which holds the Frames of all datagrams of the captures and
-    // recordings that were read; what is printed counts those, and so does what is kept.
-    ghost does = { λ old new. Receives old.asked.wanted.window.now old.asked.wanted.ssrc.now
+    // recordings that were read; what is printed counts those, and so does what is kept. The window
+    // is that of the words, or, where they ask for the first timestamps, of these, as `is_new` says.
+    ghost does = { λ old new. Receives (window_text old.files.found old.asked.wanted.window.now)
+        old.asked.wanted.ssrc.now
         (pair old.files.sdp new.files.sdp) (WasRead (λ s. s.gave) (λ s. IsOver s.place))
         (zip old.files.captures.items new.files.captures.items)
         old.asked.wanted.tells_refusals (output_took old.output) (output_took new.output)
         (file_took old.state) (file_took new.state)
-        × MatchOption new.reception ⊥ (CountsReceived old.asked.wanted.window.now
-        old.asked.wanted.ssrc.now (pair old.files.sdp new.files.sdp)
+        × MatchOption new.reception ⊥ (CountsReceived
+        (window_text old.files.found old.asked.wanted.window.now) old.asked.wanted.ssrc.now (pair old.files.sdp new.files.sdp)
         (WasRead (λ s. s.gave) (λ s. IsOver s.place))
         (zip old.files.captures.items new.files.captures.items)) };
 
     // A refusal before datagrams were taken, one of the words or of what was read, or the fault of
     // a recording.
     ghost is_refused = { λ old new r. (old.opened ≡ Err (Refused r))
-        ⊎ IsReceiveRefusal old.asked.wanted.window.now old.asked.wanted.ssrc.now
+        ⊎ IsReceiveRefusal (window_text old.files.found old.asked.wanted.window.now)
+        old.asked.wanted.ssrc.now
         (pair old.files.sdp new.files.sdp) (WasRead (λ s. s.gave) (λ s. IsOver s.place))
         (zip old.files.captures.items new.files.captures.items) r
         ⊎ Any (EndsRecording r) new.files.captures.items };
@@ -239,7 +260,8 @@ impl<'a> Command for ReceiveCommand<'a> {
 
     // Where what came before a fault was saved, that is what was read up to it.
     ghost leaves = { λ old new. MatchOption new.reception ⊤ (λ r. IsTrue old.is_sound
-        × Rescues old.asked.wanted.window.now old.asked.wanted.ssrc.now
+        × Rescues (window_text old.files.found old.asked.wanted.window.now)
+        old.asked.wanted.ssrc.now
         (pair old.files.sdp new.files.sdp) (λ s. s.gave) (λ s. IsOver s.place)
         (zip old.files.captures.items new.files.captures.items)
         old.asked.wanted.tells_refusals (output_took old.output) (output_took new.output)

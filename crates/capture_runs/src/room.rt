@@ -1,5 +1,4 @@
 //! How much memory a receiver asks for. It is told to a person where there is none.
-use crate::opening::Asked;
 use command_end::Room;
 use devices::FileSource;
 use media_file::CaptureReader;
@@ -13,13 +12,16 @@ const TEXT: usize = 65_535;
 
 /// What is asked of memory for the frames of the window, where it can be found: the format is said
 /// by the SDP's text, or else by that of the first capture, which is read once more.
-pub(crate) fn room_of(rt: &HostRuntime, asked: Asked<'_>, said: Option<&[u8]>) -> Option<Room> {
-    let frames = read_timestamps(rt.alloc(), asked.wanted.window)
-        .ok()??
-        .len();
+pub(crate) fn room_of(
+    rt: &HostRuntime,
+    window: &[u8],
+    recordings: &[&str],
+    said: Option<&[u8]>,
+) -> Option<Room> {
+    let frames = read_timestamps(rt.alloc(), window).ok()??.len();
     let octets = match said {
         Some(said) => frame_octets(rt.alloc(), said)?,
-        None => first_octets(rt, asked.recordings)?,
+        None => first_octets(rt, recordings)?,
     };
     Some(Room { frames, octets })
 }

@@ -293,8 +293,9 @@ const RECEIVED: &[Word] = &[
     },
     Word {
         name: "window",
-        usage: Usage::Required("TS[,TS..]"),
-        help: "Timestamps of the frames to receive, 1 to 16, with commas between",
+        usage: Usage::Required("TS[,TS..]|all|first:N"),
+        help: "Timestamps of the frames to receive, in ticks of 90 kHz, 1 to 16, with commas \
+            between; or the first N that come, 1 to 16; or all, but at most the first 16",
     },
     Word {
         name: "ssrc",

@@ -321,6 +321,13 @@ impl<A: Allocator + Copy, S: ByteSource> CaptureSource<A, S> {
         self.seen
     }
 
+    /// The flows by which it takes a recording, and the source that it reads, as that then is.
+    pub fn into_parts(self) -> (Result<Flows, Refusal>, S)
+        ensures { result ≡ (self.ways, self.source) }
+    {
+        (self.ways, self.source)
+    }
+
     /// The fault by which it ended, if it did.
     pub fn fault(&self) -> Option<Fault>
         ensures { result ≡ fault_of self.now.place }

@@ -1,0 +1,12 @@
+-- What a file that is read twice gave so far (own).
+use Rattle.std.specs.Prelude.{◌≡◌, ℕ, List, true}
+use Rattle.capture_runs.specs.Replaying.{replay_gave}
+use Rattle.capture_runs.specs.declared.replayed.Replayed.{Replayed}
+use Rattle.devices.specs.Passed.{file_gave}
+
+abbrev pub replayed_gave : Replayed → List ℕ
+replayed_gave r = replay_gave (file_gave r.file) r.memory.items r.at
+
+-- its last call told the end
+abbrev pub replayed_ended : Replayed → Type 0
+replayed_ended r = r.is_ended ≡ true

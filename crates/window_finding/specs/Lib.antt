@@ -1,0 +1,4 @@
+pub mod Words
+pub mod First
+pub mod Turns
+pub mod Finding
