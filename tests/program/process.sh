@@ -71,7 +71,7 @@ while IFS='|' read -r fault words; do
 done <<'END'
 process 1 BadJob|--job gains:1 --sdp none.sdp both.rcv
 send 3 SdpTooLong|--job gain:4096 --sdp long.sdp no-such-file
-sdp 1 NoVideo|--job gain:4096 --sdp none.sdp no-such-file
+sdp 2 NoVideo|--job gain:4096 --sdp none.sdp no-such-file
 state 5 Truncated|--job gain:4096 --sdp q.sdp empty.rcv
 END
 none 'with an SDP: nothing is written' j.cap

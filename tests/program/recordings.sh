@@ -559,7 +559,7 @@ moments 'export --paced: its times from 0' paced.pcap \
 run export --paced --start 4294967295.98 --a 239.1.1.1:5004 --out paced.pcap paced.cap
 says 'export --paced: where pcap has no more seconds' 0 'exported 2 left out 6' ''
 run export --paced --a 239.1.1.1:5004 --out no-export.pcap old.cap
-says 'export --paced: a capture without a text' 1 '' 'st2110: sdp 1 NoVideo'
+says 'export --paced: a capture without a text' 1 '' 'st2110: sdp 2 NoVideo'
 run export --paced --a 239.1.1 --out no-export.pcap old.cap
 says 'export --paced: no flow' 1 '' 'st2110: export 1 BadFlow'
 head -c -1 paced.cap >cut.cap

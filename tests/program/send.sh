@@ -212,7 +212,7 @@ else
 fi
 printf 'v=0\n' >none.sdp
 run send --sdp none.sdp --pt sdp --out no-send.cap no-such-file
-says 'send: the payload type of a text that is no SDP' 1 '' 'st2110: sdp 1 NoVideo'
+says 'send: the payload type of a text that is no SDP' 1 '' 'st2110: sdp 2 NoVideo'
 none 'send: nothing is written for such a text' no-send.cap
 
 # Words that the command line refuses.

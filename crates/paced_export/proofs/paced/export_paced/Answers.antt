@@ -65,7 +65,7 @@ returns-clause-exported g c =
     on_ok c.print.result
     (shown' ≡ shown ++ (line_text (Exported n.written n.left_out) ++ 10 ∷ []))
     (PrintsPaced c.args.wanted.start a b (source.gave c.args.ahead.now)
-    (source.gave c.read_ahead.new.ahead) (source.ended c.read_ahead.new.ahead)
+    (source.gave c.read_ahead.new.source) (source.ended c.read_ahead.new.source)
     (source.gave c.args.capture.now) (source.gave c.export_capture.new.capture)
     (source.ended c.export_capture.new.capture) (sink.took c.args.sink.now)
     (sink.took c.export_capture.new.sink) shown shown')
