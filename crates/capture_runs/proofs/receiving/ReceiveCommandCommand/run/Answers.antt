@@ -1,5 +1,4 @@
-use Rattle.std.proofs.Common.{◌∙◌, ap, inl, inr, rules}
-use Rattle.std.proofs.Common.{Err}
+use Rattle.std.proofs.Common.{◌∙◌, Err, ap, inl, inr}
 use Rattle.run_outcome.proofs.Refusals.{if_err_map, of_refusal_map, own_refusal}
 use Rattle.capture_runs.proofs.receiving.ReceiveCommandCommand.run.Goals as goal
 use Rattle.capture_runs.proofs.receiving.ReceiveCommandCommand.run.Goals.{in-Ok, in-Err}
