@@ -1,6 +1,5 @@
 -- What `receive` has opened before it takes datagrams (own).
 use Rattle.std.specs.Prelude.{◌≡◌, List, ℕ, [], Option, None, Some, All, false, ⊤}
-use Rattle.std.specs.declared.alloc.Global.{Global}
 use Rattle.capture_runs.specs.Replayed.{replayed_ended, replayed_gave}
 use Rattle.capture_runs.specs.declared.replayed.Replayed.{Replayed}
 use Rattle.recorded_capture.specs.Source.{CaptureView, Fresh, Text}

@@ -1,4 +1,4 @@
-use Rattle.std.proofs.Common.{◌≡◌, ◌∙◌, ap, length, sym}
+use Rattle.std.proofs.Common.{◌∙◌, ap, length, sym}
 use Rattle.capture_runs.proofs.Told.{told_err, told_ok, told_refused}
 use Rattle.command_end.proofs.Outcomes.{vec_back}
 use Rattle.capture_runs.proofs.receiving.take.Goals as goal

@@ -1,7 +1,6 @@
 -- What is printed is a text that says the stream.
 use Rattle.std.proofs.Common.{◌≡◌, ℕ, List, ◌++◌, subst, ap, ◌∙◌}
 use Rattle.devices.specs.Passed.{output_took}
-use Rattle.st_format.specs.Fields.{fields_of}
 use Rattle.sdp_format.specs.Sections.{Description}
 use Rattle.sdp_writing.specs.Written.{IsTextOf, legs}
 use Rattle.script_runs.proofs.writing.announce.Goals as goal
