@@ -138,8 +138,8 @@ while [ "$status" != 0 ] && [ "$room_of_two" -lt 200000 ]; do
     within "$room_of_two" large.rcv large.rcv
 done
 says 'two large receivers' 0 "$large" ''
-within "$((room_of_two + 1000))" large.rcv large.rcv large.rcv large.rcv large.rcv large.rcv large.rcv large.rcv \
-    large.rcv large.rcv
+within "$((room_of_two * 5 / 4))" large.rcv large.rcv large.rcv large.rcv large.rcv large.rcv large.rcv \
+    large.rcv large.rcv large.rcv
 says 'ten large receivers, in the memory of two' 0 "$large" ''
 within "$((room_of_two * 2 / 3))" large.rcv large.rcv
 says 'two large receivers, in too little memory' 4 '' 'st2110: memory'
