@@ -64,7 +64,7 @@ cat g.rcv | "$program" merge --state h.rcv /dev/stdin g.rcv >out 2>err
 status=$?
 says 'merge: a pipe' 0 "$frame" ''
 run merge --state h.rcv g.rcv
-misworded 'merge: one file alone' "$missing\n  <RIGHT>" 'merge --state <FILE> <LEFT> <RIGHT>'
+misworded 'merge: one file alone' "$missing\n  <RIGHT>" 'merge --state <FILE> <LEFT> <RIGHT> [MORE]...'
 
 # Any number of receivers: what they give two by two.
 run merge --state h.rcv g.rcv second.rcv
