@@ -64,7 +64,7 @@ cat g.rcv | "$program" merge --state h.rcv /dev/stdin g.rcv >out 2>err
 status=$?
 says 'merge: a pipe' 0 "$frame" ''
 run merge --state h.rcv g.rcv
-misworded 'merge: one file alone' "$missing\n  <RIGHT>" 'merge --state <FILE> <LEFT> <RIGHT>'
+misworded 'merge: one file alone' "$missing\n  <RIGHT>" 'merge --state <FILE> <LEFT> <RIGHT> [MORE]...'
 
 # Any number of receivers: what they give two by two.
 run merge --state h.rcv g.rcv second.rcv
@@ -138,8 +138,8 @@ while [ "$status" != 0 ] && [ "$room_of_two" -lt 200000 ]; do
     within "$room_of_two" large.rcv large.rcv
 done
 says 'two large receivers' 0 "$large" ''
-within "$((room_of_two + 1000))" large.rcv large.rcv large.rcv large.rcv large.rcv large.rcv large.rcv large.rcv \
-    large.rcv large.rcv
+within "$((room_of_two * 5 / 4))" large.rcv large.rcv large.rcv large.rcv large.rcv large.rcv large.rcv \
+    large.rcv large.rcv large.rcv
 says 'ten large receivers, in the memory of two' 0 "$large" ''
 within "$((room_of_two * 2 / 3))" large.rcv large.rcv
 says 'two large receivers, in too little memory' 4 '' 'st2110: memory'

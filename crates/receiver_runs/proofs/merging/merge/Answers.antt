@@ -1,4 +1,4 @@
-use Rattle.std.proofs.Common.{◌≡◌, sym}
+use Rattle.std.proofs.Common.{sym}
 use Rattle.receiver_runs.proofs.merging.merge.Goals as goal
 
 pub returns-clause-merged : goal.returns-clause-merged
