@@ -140,8 +140,8 @@ impl<'a> Files<'a> {
         Ok(())
     }
 
-    /// Finds the first timestamps in the files of captures and recordings, which are then to be read
-    /// again.
+    /// Finds the first timestamps in the files of captures and recordings, which are then to be
+    /// read again.
     fn open_found(
         &mut self,
         rt: &'a HostRuntime,

@@ -232,7 +232,8 @@ impl<'a> Command for ReceiveCommand<'a> {
     // What is written is the file of a receiver of the window and the source that are asked for,
     // and of what the SDP text says, which holds the Frames of all datagrams of the captures and
     // recordings that were read; what is printed counts those, and so does what is kept. The window
-    // is that of the words, or, where they ask for the first timestamps, of these, as `is_new` says.
+    // is that of the words, or, where they ask for the first timestamps, of these, as `is_new`
+    // says.
     ghost does = { λ old new. Receives (window_text old.files.found old.asked.wanted.window.now)
         old.asked.wanted.ssrc.now
         (pair old.files.sdp new.files.sdp) (WasRead (λ s. s.gave) (λ s. IsOver s.place))
@@ -240,7 +241,8 @@ impl<'a> Command for ReceiveCommand<'a> {
         old.asked.wanted.tells_refusals (output_took old.output) (output_took new.output)
         (file_took old.state) (file_took new.state)
         × MatchOption new.reception ⊥ (CountsReceived
-        (window_text old.files.found old.asked.wanted.window.now) old.asked.wanted.ssrc.now (pair old.files.sdp new.files.sdp)
+        (window_text old.files.found old.asked.wanted.window.now) old.asked.wanted.ssrc.now
+        (pair old.files.sdp new.files.sdp)
         (WasRead (λ s. s.gave) (λ s. IsOver s.place))
         (zip old.files.captures.items new.files.captures.items)) };
 

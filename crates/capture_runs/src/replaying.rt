@@ -1,6 +1,6 @@
 //! Reading a file twice, also where the system gives its octets only once.
-ghost use Rattle.std.specs.Prelude.{◌≡◌, ◌≤◌, ◌<◌, ◌++◌, ◌↔◌, [], None, IfOk, IfErr, OnErr, drop, length, min};
-ghost use Rattle.std.specs.Prelude.{take};
+ghost use Rattle.std.specs.Prelude.{◌≡◌, ◌≤◌, ◌<◌, ◌++◌, ◌↔◌, [], None, IfOk, IfErr, OnErr, drop};
+ghost use Rattle.std.specs.Prelude.{length, min, take};
 ghost use Rattle.capture_runs.specs.Replayed.{replayed_gave};
 ghost use Rattle.devices.specs.Passed.{file_gave};
 ghost use Rattle.run_outcome.specs.Fault.{IfRefused};
@@ -27,8 +27,8 @@ impl<'a> Replayed<'a> {
         Replayed::over(rt, name, FileSource::new(rt, name), Keeping::No)
     }
 
-    /// The same as [`Replayed::once`] to be read twice: what is read of it is remembered, unless it is a plain file, which
-    /// can be opened again.
+    /// The same as [`Replayed::once`] to be read twice: what is read of it is remembered, unless it
+    /// is a plain file, which can be opened again.
     pub fn first(rt: &'a HostRuntime, name: &'a str) -> Self
         ensures { replayed_gave result ≡ [] }
     {
