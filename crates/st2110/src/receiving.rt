@@ -126,9 +126,10 @@ fn tell_refused<W: fmt::Write>(tally: &Tally, f: &mut fmt::Formatter<W>) -> fmt:
     let mut told = [false; 14];
     let mut between = " (";
     for _ in 0..NAMED {
-        let Some(place) = most_frequent(tally, &told) else {
+        let place = most_frequent(tally, &told);
+        if place >= 14 {
             break;
-        };
+        }
         told[place] = true;
         let (count, name) = (tally.refused[place], refusal_at(place).name());
         write!(f, "{between}{count} {name}")?;
@@ -137,15 +138,15 @@ fn tell_refused<W: fmt::Write>(tally: &Tally, f: &mut fmt::Formatter<W>) -> fmt:
     write!(f, ")")
 }
 
-/// The place of the refusal that came most often of those that are not told yet; of equally many
-/// the first.
-fn most_frequent(tally: &Tally, told: &[bool; 14]) -> Option<usize> {
-    let mut most = None;
+/// The place of the refusal that came most often of those that are not told yet, of equally many
+/// the first; 14 where none came.
+fn most_frequent(tally: &Tally, told: &[bool; 14]) -> usize {
+    let mut most = 14;
     let mut greatest = 0;
     for place in 0..14 {
         let count = tally.refused[place];
         if !told[place] && count > greatest {
-            most = Some(place);
+            most = place;
             greatest = count;
         }
     }
