@@ -289,15 +289,15 @@ run sdp --write 'RGB 8 4 2 0/1' --a 10.0.0.1:5004
 says 'written: no such format' 1 '' 'st2110: format 3 BadRate'
 place='an address, a colon and a port, as 239.1.1.1:5004 or [ff3e::1]:5004'
 while IFS='|' read -r option value text; do
-    format='RGB 8 4 2 60'
+    stream='RGB 8 4 2 60'
     a=10.0.0.1:5004
     b=10.0.0.2:5004
     case $option in
-        --write*) format=$value ;;
+        --write*) stream=$value ;;
         --a*) a=$value ;;
         *) b=$value ;;
     esac
-    run sdp --write "$format" --a "$a" --b "$b"
+    run sdp --write "$stream" --a "$a" --b "$b"
     misworded "written: $option, $value" "invalid value '$value' for '$option': $text" -
 done <<END
 --write <S B W H N/D>|RGB 9 4 2 60|sampling, depth, width, height and rate, as $video

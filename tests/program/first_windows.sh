@@ -28,8 +28,10 @@ first() {
     shift 4
     rm -f first.rcv
     run receive --window "$word" --state first.rcv "$@"
+    untold
     says "first timestamps: $window" 0 "$lines" ''
     run receive --window "$listed" --state listed.rcv "$@"
+    untold
     says "first timestamps: $window, listed" 0 "$lines" ''
     alike "first timestamps: $window: the receiver" first.rcv listed.rcv
 }
@@ -64,25 +66,26 @@ says 'first timestamps: no such capture' 3 '' 'st2110: device'
 
 # More than sixteen.
 octets 5332304341503031 >twenty.cap
-listed=
+sixteen=
 shown=
 i=1
 while [ $i -le 20 ]; do
     octets "$(rtp $((7 * i)) 1 96)" >>twenty.cap
     if [ $i -le 16 ]; then
-        listed=$listed,$((7 * i))
+        sixteen=$sixteen,$((7 * i))
         shown="$shown
 $(rows $((7 * i)))"
     fi
     i=$((i + 1))
 done
-first 'sixteen of twenty' all "${listed#,}" "delivered 20$shown" --sdp q.sdp twenty.cap
-first 'sixteen of twenty, by their number' first:16 "${listed#,}" "delivered 20$shown" --sdp q.sdp twenty.cap
+first 'sixteen of twenty' all "${sixteen#,}" "delivered 20$shown" --sdp q.sdp twenty.cap
+first 'sixteen of twenty, by their number' first:16 "${sixteen#,}" "delivered 20$shown" --sdp q.sdp twenty.cap
 
 # What can be read only once: a pipe by its name and as standard input, before and behind files, and a FIFO. A plain file
 # as standard input can be read twice.
 # given NAME: whether the last run wrote the receiver that is wanted.
 given() {
+    untold
     says "first timestamps: $1" 0 "$lines" ''
     alike "first timestamps: $1: the receiver" given.rcv first.rcv
     rm -f given.rcv
@@ -111,7 +114,7 @@ wait
 given 'two, of a FIFO'
 rm -f fifo.cap
 lines="delivered 20$shown"
-first 'sixteen, of a file' all "${listed#,}" "$lines" --sdp q.sdp twenty.cap
+first 'sixteen, of a file' all "${sixteen#,}" "$lines" --sdp q.sdp twenty.cap
 piped 'sixteen, of a pipe' twenty.cap --sdp q.sdp --window all -
 lines="delivered 5
 $(rows 900 4294967295 0 2400)"

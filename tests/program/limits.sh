@@ -77,7 +77,7 @@ head -c 65535 /dev/zero >>refused.cap
 run receive --state long.rcv --sdp q.sdp --window 900 --refusals refused.cap
 says 'a record of 65,535 octets, refused' 0 "delivered 1
 refused 2 BadVersion 1
-$blank" ''
+$blank" '  kept 0 of 1 datagrams; refused 1 (1 BadVersion)'
 octets 5332304341503031 '00 0000000000000000 FFFF' "$d1" >kept.cap
 head -c 65507 /dev/zero >>kept.cap
 run receive --state long.rcv --sdp q.sdp --window 900 --refusals kept.cap

@@ -37,7 +37,7 @@ lost 'of four refusals' 8 "$frame" \
     '  kept 1 of 8 datagrams; refused 7 (3 ShortHeader, 2 ShortData, 1 WrongPayloadType)' lost.cap
 
 # Recordings: packets that are left out, with their reasons; and where a flow is missing, those that there are.
-two=$recorded/two-cards
+two=$recordings/two-cards
 run inspect "$two.pcapng"
 cp out flows.said
 run receive --state lost.rcv --sdp "$two.sdp" --a 239.1.1.1:5006 --window 900 "$two.pcapng"
@@ -55,10 +55,10 @@ cp out path-a.out
 run receive --state lost.rcv --sdp "$two.sdp" --a 239.1.1.1:5004 --b 239.1.1.2:5007 --window 900,4500 "$two.pcapng"
 says 'lost: one of two flows' 0 "$(cat path-a.out)" "$(cat flows.said)"
 # (Each of two files has one flow alone, and none is missing.)
-run receive --state lost.rcv --sdp "$recorded/late.sdp" --window 900,4500 "$recorded/late-a.pcap" "$recorded/late-b.pcap"
-cp err lost.err
+run receive --state lost.rcv --sdp "$recordings/late.sdp" --window 900,4500 "$recordings/late-a.pcap" "$recordings/late-b.pcap"
+grep '^flow' err >lost.err
 : >want.err
-alike 'lost: no flow, of a file for each' lost.err want.err
+alike 'lost: no flow is missing of a file for each' lost.err want.err
 run receive --state - --sdp "$two.sdp" --a 239.1.1.1:5006 --window 900 "$two.pcapng"
 cp err lost.err
 run receive --state lost.rcv --sdp "$two.sdp" --a 239.1.1.1:5006 --window 900 "$two.pcapng"
@@ -120,10 +120,10 @@ says 'sound: a full output' 3 '' 'st2110: device'
 none 'sound: a full output, no receiver' full.rcv
 
 # A recording that is cut short: what import has of it.
-run import --sdp "$recorded/loopback.sdp" --out cut-import.cap "$recorded/cut.pcap"
+run import --sdp "$recordings/loopback.sdp" --out cut-import.cap "$recordings/cut.pcap"
 run receive --state same.rcv --window 900,4500 cut-import.cap.partial
 cp out same.out
-run receive --sound --sdp "$recorded/loopback.sdp" --state sound.rcv --window 900,4500 "$recorded/cut.pcap"
+run receive --sound --sdp "$recordings/loopback.sdp" --state sound.rcv --window 900,4500 "$recordings/cut.pcap"
 says 'sound: a recording that is cut short' 1 "$(cat same.out)" 'st2110: recording 2 Truncated'
 alike 'sound: a recording that is cut short, the receiver' sound.rcv same.rcv
 rm -f cut-import.cap.partial

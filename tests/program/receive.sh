@@ -33,11 +33,11 @@ frame 900 present 8 missing 8 contested 0' ''
 holds 'two timestamps: the receiver' g.rcv "$opened 00 00000000 02 00000385 00 00 00 00 00000384 00 00 01 80148015 01 80168017"
 run receive --state g.rcv --sdp q.sdp --window 900 --ssrc 2 old.cap
 says 'another source' 0 'delivered 1
-frame 900 present 0 missing 16 contested 0' ''
+frame 900 present 0 missing 16 contested 0' '  kept 0 of 1 datagrams; refused 1 (1 WrongSource)'
 octets 5332304341503031 >none.cap
 run receive --state g.rcv --sdp q.sdp --window 900 none.cap
 says 'a capture of no records' 0 'delivered 0
-frame 900 present 0 missing 16 contested 0' ''
+frame 900 present 0 missing 16 contested 0' '  kept 0 of 0 datagrams'
 
 # Two values for the first luma sample.
 octets 5332304341503031 "$record_a" "$d1" "$record_b" "80E00001000003840000000100000008000000008020801180128013" >differ.cap
@@ -56,10 +56,10 @@ says 'refusals' 0 "delivered 6
 refused 2 BadVersion 1
 refused 10 BadLength 2
 outside 1
-$frame" ''
+$frame" '  kept 2 of 6 datagrams; outside the window 1; refused 3 (2 BadLength, 1 BadVersion)'
 run receive --state g.rcv --sdp q.sdp --window 900 bad.cap
 says 'refusals that are not asked for' 0 "delivered 6
-$frame" ''
+$frame" '  kept 2 of 6 datagrams; outside the window 1; refused 3 (2 BadLength, 1 BadVersion)'
 run receive --state g.rcv --sdp q.sdp --window 900 --refusals old.cap
 says 'no refusals' 0 "delivered 1
 $frame" ''
@@ -73,7 +73,7 @@ done
 run receive --state g.rcv --sdp q.sdp --window 900 --refusals many.cap
 says 'a hundred refusals, which is more than are kept' 0 'delivered 100
 refused 10 BadLength 100
-frame 900 present 0 missing 16 contested 0' ''
+frame 900 present 0 missing 16 contested 0' '  kept 0 of 100 datagrams; refused 100 (100 BadLength)'
 
 # Words that are refused before any file is read.
 run receive --state g.rcv --sdp no-such-file --window - no-such-file
@@ -129,9 +129,13 @@ cuts() {
             [ "$status" = 1 ] && [ ! -s out ] && [ "$(cat err)" = 'st2110: capture 5 Truncated' ] || amiss="$amiss $n"
         else
             shown=$frame
-            [ $records != 0 ] || shown=$blank
+            told=
+            [ $records != 0 ] || {
+                shown=$blank
+                told='  kept 0 of 0 datagrams'
+            }
             says "$cut: $n octets" 0 "delivered $records
-$shown" ''
+$shown" "$told"
             records=$((records + 1))
             shift
         fi

@@ -93,6 +93,7 @@ comes() {
 files=
 gives() {
     run receive --window "$2" --state recorded.rcv --refusals recorded.cap
+    untold
     says "received: $1" 0 "$3" ''
     [ -n "$files" ] || return 0
     # shellcheck disable=SC2086

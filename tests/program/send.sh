@@ -196,12 +196,12 @@ run send --verbose --sdp typed.sdp --pt sdp --out f.cap p.pic
 says 'send: nothing is otherwise' 0 'sent 1' ''
 run send --verbose --sdp typed.sdp --out f.cap p.pic
 says 'send: another payload type than the SDP says' 0 'sent 1' \
-    '  the SDP says YCbCr-4:2:2 8 4 2 60/1 pt 100, sent was YCbCr-4:2:2 8 4 2 60/1 pt 96'
+    '  the SDP says YCbCr-4:2:2 8 4 2 60 pt 100, sent was YCbCr-4:2:2 8 4 2 60 pt 96'
 holds 'send: another payload type, the capture' f.cap "$head 80E00000 $body"
 sed 's/depth=8/depth=10/; s/exactframerate=60/exactframerate=30000\/1001/' typed.sdp >other.sdp
 run send --verbose --sdp other.sdp --pt sdp --out f.cap p.pic
 says 'send: another format than the SDP says' 0 'sent 1' \
-    '  the SDP says YCbCr-4:2:2 10 4 2 30000/1001 pt 100, sent was YCbCr-4:2:2 8 4 2 60/1 pt 100'
+    '  the SDP says YCbCr-4:2:2 10 4 2 30000/1001 pt 100, sent was YCbCr-4:2:2 8 4 2 60 pt 100'
 run send --sdp other.sdp --out f.cap p.pic
 says 'send: that is told where faults are explained' 0 'sent 1' ''
 run send --verbose --sdp typed.sdp --out /dev/full p.pic

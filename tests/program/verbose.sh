@@ -114,7 +114,7 @@ sdp_places '' "$camera" <<END
 10 MissingParameter|PM=2110GPM; ||${fmtp_front}1920; height=1080; ex..'|PM in a=fmtp:PT
 10 MissingParameter|depth=10; TCS=SDR; |TCS; |${fmtp_front}1920; height=1080; ex..'|depth in a=fmtp:PT
 10 MissingParameter| colorimetry=BT709; PM=2110GPM; SSN=ST2110-20:2017;| depths=8; colorimetry = BT709; p; |${fmtp_front}1920; height=1080; ex..'|PM and SSN in a=fmtp:PT
-10 MissingParameter|sampling=YCbCr-4:2:2; width=1920; height=1080; exactframerate=60000/1001; depth=10;|depth\t=10;|9, 'a=fmtp:112 depth\t=10; TCS=SDR; colorimetry=BT709; PM=2110G..'|sampling, width, height and exactframerate in a=fmtp:PT
+10 MissingParameter|sampling=YCbCr-4:2:2; width=1920; height=1080; exactframerate=60000/1001; depth=10;|depth\t=10;|9, 'a=fmtp:112 depth\t=10; TCS=SDR; colorimetry=BT709; PM=2110GPM..'|sampling, width, height and exactframerate in a=fmtp:PT
 11 UnsupportedSampling|sampling=YCbCr-4:2:2|sampling=KEY|9, 'sampling=KEY'|sampling=YCbCr-4:2:2, YCbCr-4:4:4 or RGB
 12 UnsupportedDepth|depth=10|depth=9|9, 'depth=9'|depth=8, 10, 12 or 16
 13 Interlaced|TCS=SDR|interlace|9, 'interlace'|neither interlace nor segmented
@@ -138,11 +138,12 @@ adds 'sdp: no video' 1 '' 'sdp 2 NoVideo' \
     "standard input, octet $(($(wc -c <in))); wanted a line that begins m=video and a space"
 
 # Of an SDP that was read well it is told where each path goes, and the edition where that is 2022.
+read_line='a=fmtp:112 sampling=YCbCr-4:2:2; width=1920; height=1080; exactframerate=60000/1001; depth=10; colorimetry=BT709; PM=2110GPM; SSN=ST2110-20:2017'
 reads_so() {
     printf '%b' "$2" >in
     "$program" sdp --verbose <in >out 2>err
     status=$?
-    says "verbose: $1" 0 "$line" "$3"
+    says "verbose: $1" 0 "$read_line" "$3"
 }
 reads_so 'two legs' "$camera" '  path A goes to 239.0.0.1:5004
   path B goes to 239.0.0.2:5006'
@@ -372,8 +373,8 @@ if command -v script >/dev/null; then
     done
     for words in '' --quiet; do
         at_terminal "$words sdp camera.sdp"
-        want=$line
-        [ -n "$words" ] || want="$line
+        want=$read_line
+        [ -n "$words" ] || want="$read_line
   path A goes to 239.0.0.1:5004
   path B goes to 239.0.0.2:5006"
         if [ "$said" = "$want" ]; then

@@ -82,7 +82,7 @@ sdp --write|a value is required for '--write <S B W H N/D>' $no_value|-
 sdp --write RGB|$missing\n  --a <ADDR:PORT>|sdp --write <S B W H N/D> --a <ADDR:PORT> [FILE]
 sdp --a 10.0.0.1:5004|$missing\n  --write <S B W H N/D>|sdp --a <ADDR:PORT> --write <S B W H N/D> [FILE]
 sdp --b 10.0.0.1:5004|$missing\n  --a <ADDR:PORT>\n  --write <S B W H N/D>|sdp --a <ADDR:PORT> --write <S B W H N/D> --b <ADDR:PORT> [FILE]
-sdp --pt 97 q.sdp|$missing\n  --a <ADDR:PORT>\n  --write <S B W H N/D>|sdp --a <ADDR:PORT> --write <S B W H N/D> --pt <N> [FILE]
+sdp --pt 97 q.sdp|$missing\n  --a <ADDR:PORT>\n  --write <S B W H N/D>|sdp --a <ADDR:PORT> --write <S B W H N/D> --pt <N> <FILE>
 sdp --write RGB --a 10.0.0.1:5004 q.sdp|the argument '--write <S B W H N/D>' cannot be used with '[FILE]'|sdp --write <S B W H N/D> --a <ADDR:PORT> [FILE]
 sdp --write RGB --a 10.0.0.1:5004 --pt 128|invalid value '128' for '--pt <N>': 128 is not in 0..=127|-
 sdp --write RGB --a 10.0.0.1:5004|invalid value 'RGB' for '--write <S B W H N/D>': sampling, depth, width, height and rate, as YCbCr-4:2:2 10 1920 1080 60000/1001|-
@@ -107,7 +107,7 @@ send --out no-words.cap --pt 256 p.pic|invalid value '256' for '--pt <N>': 256 i
 send --out no-words.cap --pt -1 p.pic|unexpected argument '-1' found\n\n  tip: to pass '-1' as a value, use '-- -1'|send [OPTIONS] --out <FILE> <PICTURE>...
 send --out no-words.cap --pt x p.pic|invalid value 'x' for '--pt <N>': $digit|-
 send --out no-words.cap --pt SDP --sdp q.sdp p.pic|invalid value 'SDP' for '--pt <N>': $digit|-
-send --out no-words.cap --pt sdp p.pic|$missing\n  --sdp <FILE>|send --out <FILE> --sdp <FILE> <PICTURE>...
+send --out no-words.cap --pt sdp p.pic|$missing\n  --sdp <FILE>|send --out <FILE> --sdp <FILE> --pt <N> <PICTURE>...
 send --out no-words.cap --first 4294967296 p.pic|invalid value '4294967296' for '--first <N>': 4294967296 is not in 0..=4294967295|-
 send --out no-words.cap --base 4294967296 p.pic|invalid value '4294967296' for '--base <TS>': 4294967296 is not in 0..=4294967295|-
 send --out no-words.cap --ssrc any p.pic|invalid value 'any' for '--ssrc <N>': $digit|-
