@@ -136,3 +136,44 @@ run receive -v --sound --state v.rcv --sdp q.sdp --window 900 cut.cap
 says 'sound: what was done' 1 "delivered 1
 $frame" 'st2110: capture 5 Truncated
   at cut.cap, octet 60; wanted more octets: the file ends before it is whole; what came before that is saved'
+run receive -v --sound --state /dev/full --sdp q.sdp --window 900 cut.cap
+says 'sound: what could not be saved' 3 "delivered 1
+$frame" 'st2110: capture 5 Truncated
+  at cut.cap, octet 60; wanted more octets: the file ends before it is whole
+st2110: device
+  at /dev/full; wanted to write there: No space left on device (os error 28)'
+
+# Where the first timestamps are looked for, what comes before a fault is saved if they were found there.
+for word in '' --sound; do
+    # shellcheck disable=SC2086
+    run receive -v $word --state none.rcv --sdp q.sdp --window all cut.cap
+    says "sound: no sixteen timestamps before a fault, $word" 1 '' 'st2110: capture 5 Truncated
+  at cut.cap, octet 60; wanted more octets: the file ends before it is whole'
+    none "sound: no sixteen timestamps before a fault, $word, no receiver" none.rcv
+done
+run receive --sound --state sound.rcv --sdp q.sdp --window first:1 cut.cap
+says 'sound: a timestamp before a fault' 1 "delivered 1
+$frame" 'st2110: capture 5 Truncated'
+run receive --state same.rcv --sdp q.sdp --window 900 first.cap
+alike 'sound: a timestamp before a fault, the receiver' sound.rcv same.rcv
+
+# Want of memory for frames: a row of 1920 pgroups of 5 octets and two more for each, and 2160 rows. The format is said by
+# --sdp, or by the first capture.
+run sdp --write 'YCbCr-4:2:2 10 3840 2160 60' --a 239.1.1.1:5004
+cp out large.sdp
+{
+    octets "5332304341503032$(printf '%04X' "$(wc -c <large.sdp)")"
+    cat large.sdp
+} >large.cap
+for words in '--sdp large.sdp' ''; do
+    (
+        ulimit -v 200000
+        # shellcheck disable=SC2086
+        "$program" receive -v $words --window 1,2,3,4,5,6,7,8,9,10,11,12,13,14,15,16 --state large.rcv large.cap \
+            >out 2>err </dev/null
+    )
+    status=$?
+    says "no memory for sixteen frames, $words" 4 '' 'st2110: memory
+  at --window; wanted 464 MB of memory for 16 frames of 29030400 octets each'
+done
+rm -f large.cap

@@ -78,12 +78,12 @@ impl<'a> ReceiveCommand<'a> {
 impl ReceiveCommand<'_> {
     /// What tells more of a fault.
     fn hints(&self) -> Hints {
-        let sound = if self.reception.is_some() {
-            Some("what came before that is saved")
-        } else if self.is_sound {
-            None
-        } else {
-            Some("--sound saves what came before that")
+        let sound = match &self.reception {
+            Some(_) if self.state.writing().has_failed => None,
+            Some(_) => Some("what came before that is saved"),
+            // (a fault that comes where the first timestamps are looked for refuses both)
+            None if self.is_sound || self.opened.is_err() => None,
+            None => Some("--sound saves what came before that"),
         };
         Hints {
             takes_recordings: true,
