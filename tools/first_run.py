@@ -4,9 +4,10 @@
 usage: first_run.py CHECKOUT WORD..
 
 `rt` locks a crate's folder and each below it, so that proofs in one checkout run one after the other. Here each runs in a
-room: a folder of its own with a copy of the sources, in the person's folder for caches. The library that one room proved is
-given to the others and to the checkout, where the program is built. The rooms stay until the program stands, so that a run
-after one that was stopped goes on. A command that reads standard input alone is meanwhile tried with no proof.
+room: a folder of its own with a copy of the sources, in the person's folder for caches. What one room proved `rt` takes in the
+others and in the checkout, where the program is built; by kits that don't, the crates are proved in the checkout, one after the
+other. The rooms stay until the program stands, so that a run after one that was stopped goes on. A command that reads standard
+input alone is meanwhile tried with no proof.
 """
 import contextlib
 import fcntl
@@ -24,6 +25,8 @@ import time
 from machine import GROUP, number_in, number_of_processors
 from proofs import PROGRAM, Proofs, changed, crates_of, say, show
 
+# The first kit that was seen to take in one copy of the sources what another proved.
+SHARING_KIT = 13, "f"
 # The free memory for each room, in octets, and the most octets of standard input that are tried.
 ROOM_MEMORY = 4_000_000_000
 MOST_TRIED = 16 << 20
@@ -38,6 +41,15 @@ def number_of_rooms():
     memory = 1024 * (number_in("/proc/meminfo", r"^MemAvailable: *(\d+)") or 0)
     memory = min(memory, number_in(f"{GROUP}/memory.max", r"^(\d+)") or memory)
     return min(3 if processors >= 4 else 2 if processors >= 2 else 1, memory // ROOM_MEMORY)
+
+
+def is_sharing():
+    """Whether the kit takes in one copy of the sources what another proved, by the name that it has for itself."""
+    with contextlib.suppress(OSError):
+        told = subprocess.run(["rt", "version"], stdin=subprocess.DEVNULL, capture_output=True, text=True).stdout
+        kit = re.match(r"rattle-kit-(\d+)([a-z]*)", told)
+        return bool(kit) and (int(kit[1]), kit[2]) >= SHARING_KIT
+    return False
 
 
 def furnish(room, checkout):
@@ -112,15 +124,17 @@ def stop(number, _):
 
 
 def rooms_at(folder, checkout):
-    """The rooms in a folder, or the checkout alone where there is no place for two."""
+    """The rooms in a folder, or the checkout alone where there is no place for two, or nothing would be gained."""
     rooms = [f"{folder}/{it + 1}" for it in range(number_of_rooms())]
+    if not (rooms[1:] and is_sharing()):
+        return [checkout]
     try:
-        for it in rooms[1:] and rooms:
+        for it in rooms:
             furnish(it, checkout)
     except OSError as fault:
         say(f"{folder} can't be used, so the crates are proved one after the other: {fault.strerror or fault}")
         return [checkout]
-    return rooms if rooms[1:] else [checkout]
+    return rooms
 
 
 def build(checkout, logs, words):

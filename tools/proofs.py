@@ -1,7 +1,6 @@
 """The proofs of the crates that the program stands on, side by side in rooms (see first_run.py), the lowest first."""
 import contextlib
 import os
-import shutil
 import subprocess
 import sys
 import time
@@ -80,14 +79,6 @@ def jobs_of(is_last, beside):
     return max(processors - beside, 1) if is_last else max(processors // (beside + 1), 1)
 
 
-def linked(file, there):
-    """Makes a link to a file, or a copy where none can be made."""
-    try:
-        os.link(file, there)
-    except OSError:
-        shutil.copy2(file, there)
-
-
 class Proofs:
     """The proofs of some crates, each in a room, the lowest first. The program is proved and built in the checkout."""
 
@@ -111,11 +102,10 @@ class Proofs:
                 is_last = all(longest[name] >= longest[it] for it in under_way)
                 self.begin(name, room, jobs_of(is_last, beside))
         for process in [it for it in self.running if it.poll() is not None]:
-            name, room, begun = self.running.pop(process)
+            name, _, begun = self.running.pop(process)
             took = time.time() - begun
             if process.returncode:
                 return self.log(name)
-            self.give(name, room)
             # (what takes less was proved before)
             if took > self.seconds[name] / 8:
                 self.expected, self.measured = self.expected + self.seconds[name], self.measured + took
@@ -130,16 +120,6 @@ class Proofs:
             self.running[subprocess.Popen(["rt", *verb], **how)] = name, room, time.time()
         place, spent = self.count - len(self.left), round((time.time() - self.start) / 60)
         say(f"proving {name}, crate {place} of {self.count}, {spent} min so far, about {self.more()} more")
-
-    def give(self, name, room):
-        """Gives the library that a room made of a crate to the other rooms and to the checkout, by links where those can be.
-        `rt` takes it there for the same sources alone, by the sum that lies beside it; some kits give it by themselves."""
-        made = f"{room}/crates/{name}/out/rlib"
-        for it in {*self.rooms, self.checkout} - {room} if os.path.isdir(made) else ():
-            there = f"{it}/crates/{name}/out/rlib"
-            shutil.rmtree(there, ignore_errors=True)
-            with contextlib.suppress(OSError):
-                shutil.copytree(made, there, copy_function=linked)
 
     def more(self):
         """In how many minutes the program stands, if the proofs take as much of what is expected as those before them."""
