@@ -128,6 +128,24 @@ untold() {
     mv err.rest err
 }
 
+# round_trip: sends a picture by both paths into trip.cap, eight records of 35 octets. Of these lossy3.cap lacks each third
+# and lossy4.cap each fourth.
+round_trip() {
+    run send --out trip.cap --sdp q.sdp --base 900 --max 24 --paths both p.pic
+    says 'a round trip: sent' 0 'sent 4' ''
+    front=$((10 + $(wc -c <q.sdp)))
+    for every in 3 4; do
+        head -c "$front" trip.cap >"lossy$every.cap"
+        i=0
+        while [ $i -lt 8 ]; do
+            if [ $(((i + 1) % every)) != 0 ]; then
+                tail -c +$((front + 35 * i + 1)) trip.cap | head -c 35 >>"lossy$every.cap"
+            fi
+            i=$((i + 1))
+        done
+    done
+}
+
 # COMMAND NAME, and a table on standard input, of which each row is a test: a script, and before it what it comes to.
 # Rows of `prints` are OUTPUT|SCRIPT, of `refuses` FAULT|OUTPUT|SCRIPT, of `at_fault` LINE|SCRIPT.
 prints() {
@@ -164,32 +182,90 @@ turn() {
     turned=$turned$rest
 }
 
+# What two parts or more use.
 u=8010801180128013
 l=8014801580168017
 d1="80E00001000003840000000100000008000000008010801180128013"
-old_head="5332304341503031 00 0000000000000000 001C"
+d2="80E00002000003840000000100000008000100008014801580168017"
+record_a='00 0000000000000000 001C'
+record_b='01 0000000000000001 001C'
+old_head="5332304341503031 $record_a"
 frame='frame 900 present 8 missing 8 contested 0'
+blank='frame 900 present 0 missing 16 contested 0'
+whole='frame 900 present 16 missing 0 contested 0'
+# The first lines of a script, and a schedule of two pictures, of two packets each, and of two receivers.
+format='format YCbCr-4:2:2 8 4 2 60/1'
+open="$format\nopen 96 any 900"
+two="$format\nstamp 96 0 0 1\nmax 40\nwindow 0\nreceivers 2\npicture $u$l\npicture $u$l"
+# What a receiver's file begins with, and what is known of one frame, whose second row is missing.
+opened='5332305243563031 0008000400020000003C00000001 60'
+known='01 80108011 01 80128013 00 00'
+picture="5332305049433031 0008000400020000003C00000001 $u$l"
+# The lines of the camera's text: five of a session, and two sections of five; with printf's backslashes.
+lines_of() {
+    sed -n "$1p" "$root/examples/camera.sdp" | sed 's/$/\\n/' | tr -d '\n'
+}
+session=$(lines_of 1,5)
+first=$(lines_of 6,10)
+second=$(lines_of 11,15)
+camera=$session$first$second
+read_once='standard input is read once; inspect tells its flows'
+# What --version says, and where the recordings of real senders are.
+version=$(sed -n '/^## /{s/^## \([0-9.]*\), .*/\1/p;q;}' "$root/CHANGELOG.md")
+recordings=${RECORDINGS:-$root/examples/recordings}
 
-# The SDP text Q of the worked examples, and a capture of version 01 of one record, d1 by path A.
+# Files that each part has: the SDP text Q of the worked examples, and a longer one of the camera; captures of version 01
+# of d1 by path A, of d2 by path B, of d1 by both, of a third path; one of version 02 with Q; pictures of two rows and of
+# one; the receivers of d1, and of nothing in another window; and what is no capture, and nothing.
+mkdir files && cd files || exit 125
 cat >q.sdp <<'END'
 m=video 5004 RTP/AVP 96
 a=rtpmap:96 raw/90000
 a=fmtp:96 sampling=YCbCr-4:2:2; width=4; height=2; exactframerate=60; depth=8; colorimetry=BT709; PM=2110GPM; SSN=ST2110-20:2017
 END
+cp "$root/examples/camera.sdp" camera.sdp
+q_digits=$(od -An -v -tx1 q.sdp | tr -d ' \n')
+q_length=$(printf '%04x' "$(wc -c <q.sdp)")
 octets "$old_head $d1" >old.cap
+octets 5332304341503031 "$record_b" "$d2" >second.cap
+octets "$old_head $d1 $record_b $d1" >both.cap
+octets '5332304341503031 02 0000000000000000 001C' "$d1" >path.cap
+octets "5332304341503032 $q_length $q_digits $record_a $d1" >new.cap
+octets "$picture" >p.pic
+octets "5332305049433031 0008000400010000003C00000001 $u" >row.pic
+octets "$opened 00 00000000 01 00000384 $known" >g.rcv
+octets "$opened 00 00000000 01 00000385 00 00 00 00" >other.rcv
+octets '5332305049433031' >name.cap
+: >empty
+cd "$room" || exit 125
 
-# The parts, in the order in which they are run: later ones use files and words of earlier ones.
+# The parts. Each is run by itself, in a folder of its own, which `room` then names.
 parts='text examples forms windows rehearsals descriptions limits migrate receive first_windows tallies send kinds
     merge process report loop recordings words lost devices outputs verbose faults
     launcher install'
+counts=$room/counts
 for part in ${2:-$parts}; do
-    counted=$((passed + failed))
     if [ ! -f "$root/tests/program/$part.sh" ]; then
         fail "$part.sh" 'it is missing'
         continue
     fi
-    . "$root/tests/program/$part.sh"
-    [ $((passed + failed)) -gt "$counted" ] || fail "$part.sh" 'it tests nothing'
+    rm -f "$counts"
+    (
+        passed=0
+        failed=0
+        cp -R files "$part" && room=$room/$part && cd "$room" || exit 125
+        . "$root/tests/program/$part.sh"
+        echo "$passed $failed" >"$counts"
+    )
+    if [ ! -s "$counts" ]; then
+        fail "$part.sh" 'it ended before its end'
+        continue
+    fi
+    read -r more amiss <"$counts"
+    passed=$((passed + more))
+    failed=$((failed + amiss))
+    [ $((more + amiss)) -gt 0 ] || fail "$part.sh" 'it tests nothing'
+    rm -rf "$part"
 done
 for file in "$root"/tests/program/*; do
     name=${file##*/}

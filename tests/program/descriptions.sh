@@ -1,12 +1,4 @@
-# sdp: texts that are read, with their canonical line, and texts that are refused. The camera's text has five lines of a
-# session and two sections of five lines; backslashes are printf's.
-lines_of() {
-    sed -n "$1p" "$root/examples/camera.sdp" | sed 's/$/\\n/' | tr -d '\n'
-}
-session=$(lines_of 1,5)
-first=$(lines_of 6,10)
-second=$(lines_of 11,15)
-camera=$session$first$second
+# sdp: texts that are read, with their canonical line, and texts that are refused.
 line=$(cat "$root/examples/camera.out")
 
 # reads NAME TEXT LINE, unread NAME TEXT FAULT: whether a text has this line, or this fault.

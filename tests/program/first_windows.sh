@@ -130,7 +130,6 @@ first 'all, by the text of a file' all 900,2400,3900 "$lines" own.cap
 piped 'all, by the text of a pipe' own.cap --window all -
 
 # A recording, also as a pipe.
-recordings=${RECORDINGS:-$root/examples/recordings}
 lines='delivered 6
 frame 900 present 128 missing 0 contested 0
 frame 4500 present 128 missing 0 contested 0'
@@ -160,6 +159,7 @@ refuses_first() {
 }
 head -c 85 both.cap >short.cap
 refuses_first 'none of a source' 'open 2 BadWindow' --sdp q.sdp --ssrc 7 mixed.cap
+octets 5332304341503031 >none.cap
 refuses_first 'no records' 'open 2 BadWindow' --sdp q.sdp none.cap
 refuses_first 'no SDP' 'receive 4 NoSdp' old.cap
 refuses_first 'an empty SDP' 'sdp 2 NoVideo' --sdp empty old.cap

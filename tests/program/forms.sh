@@ -1,9 +1,5 @@
 # The forms of a script's lines: what is of its form, and which line is at fault where one is not. `format` and `open`
 # are the first lines of most of these scripts.
-format='format YCbCr-4:2:2 8 4 2 60/1'
-open="$format\nopen 96 any 900"
-blank='frame 900 present 0 missing 16 contested 0'
-
 # Where one line is not of its form, and nothing is printed: the line at fault, and the script.
 at_fault trace 'a script ends before its first lines' <<END
 1|

@@ -1,6 +1,12 @@
-# `install`, in the clone of launcher.sh, whose `rt` has the built program: the three files, of which
-# two have every word that --help tells.
-cp "$root/install" clone/install
+# `install`, in a clone whose `rt` has the built program: the three files, of which two have every word that --help tells.
+mkdir -p clone/crates/st2110/src bin
+cp -R "$root/st2110" "$root/tools" "$root/install" clone
+echo 'st2110:' >clone/crates.txt
+cat >bin/rt <<END
+#!/bin/sh
+[ "\$1" != run ] || { mkdir -p out && cp "$program" out/st2110; }
+END
+chmod +x bin/rt
 install() {
     PATH=$room/bin:$PATH ST2110_ROOMS=1 "$@" >out 2>err
     status=$?

@@ -11,11 +11,14 @@ run merge --state g.rcv g.rcv second.rcv
 says 'merge-two-halves: into its own file' 0 "$whole" ''
 holds 'merge-two-halves: into its own file, the receiver' g.rcv "$opened 00 00000000 01 00000384 01 80108011 01 80128013 01 80148015 01 80168017"
 run receive --state g.rcv --sdp q.sdp --window 900 old.cap
+octets 5332304341503031 "$record_a" "$d1" "$record_b" "80E00001000003840000000100000008000000008020801180128013" >differ.cap
 run receive --state differ.rcv --sdp q.sdp --window 900 differ.cap
 run merge --state h.rcv g.rcv differ.rcv
 says 'a contested sample stays so' 0 'frame 900 present 7 missing 8 contested 1' ''
 
 # The round trip: what two lossy captures give each by itself and then merged is what both give one receiver.
+round_trip
+run receive --state lossy.rcv --window 900 lossy3.cap lossy4.cap
 run receive --state lossy3.rcv --window 900 lossy3.cap
 run receive --state lossy4.rcv --window 900 lossy4.cap
 run merge --state merged.rcv lossy3.rcv lossy4.rcv

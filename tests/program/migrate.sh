@@ -1,6 +1,4 @@
 # migrate: captures of version 01 as captures of version 02.
-q_digits=$(od -An -v -tx1 q.sdp | tr -d ' \n')
-q_length=$(printf '%04x' "$(wc -c <q.sdp)")
 migrated="5332304341503032 $q_length $q_digits 00 0000000000000000 001C $d1"
 
 run migrate --sdp q.sdp --out new.cap old.cap
@@ -19,7 +17,6 @@ says 'migrate: no such SDP' 3 '' 'st2110: device'
 run migrate --sdp q.sdp --out no.cap .
 says 'migrate: a folder' 3 '' 'st2110: device'
 
-: >empty
 run migrate --sdp empty --out no.cap old.cap
 says 'migrate: an empty SDP' 1 '' 'st2110: sdp 2 NoVideo'
 run migrate --sdp q.sdp --out no.cap empty
@@ -31,7 +28,6 @@ run migrate --sdp q.sdp --out cut-new.cap cut.cap
 says 'migrate: a cut capture' 1 '' 'st2110: capture 5 Truncated'
 none 'migrate: a cut capture, no capture' cut-new.cap
 holds 'migrate: a cut capture, its front is written' cut-new.cap.partial "5332304341503032 $q_length $q_digits"
-octets '5332304341503031 02 0000000000000000 001C' "$d1" >path.cap
 run migrate --sdp q.sdp --out no.cap path.cap
 says 'migrate: a third path' 1 '' 'st2110: capture 6 BadField'
 octets '5332304341503131' >name.cap

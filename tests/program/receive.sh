@@ -1,13 +1,4 @@
 # receive: the datagrams of captures, taken into one receiver.
-whole='frame 900 present 16 missing 0 contested 0'
-d2="80E00002000003840000000100000008000100008014801580168017"
-record_a='00 0000000000000000 001C'
-record_b='01 0000000000000001 001C'
-octets 5332304341503031 "$record_b" "$d2" >second.cap
-
-# What a receiver's file begins with, and what is known of one frame, whose second row is missing.
-opened='5332305243563031 0008000400020000003C00000001 60'
-known='01 80108011 01 80128013 00 00'
 run receive --state g.rcv --sdp q.sdp --window 900 old.cap
 says received-capture 0 "delivered 1
 $frame" ''
@@ -104,7 +95,6 @@ run receive --state g.rcv --sdp q.sdp --window 900 .
 says 'receive: a folder' 3 '' 'st2110: device'
 run receive --state g.rcv --sdp q.sdp --window 900 empty
 says 'receive: an empty capture' 1 '' 'st2110: capture 5 Truncated'
-octets 5332304341503031 "$record_a" "$d1" "$record_b" "$d1" >both.cap
 head -c 85 both.cap >cut.cap
 run receive --state none.rcv --sdp q.sdp --window 900 cut.cap
 says cut-capture 1 '' 'st2110: capture 5 Truncated'

@@ -1,6 +1,5 @@
 # import: recordings of real senders by real recorders, as examples/recordings/README.md tells them. Wanted is what tshark
 # says of each (NAME.txt) and what follows from how the streams were made. RECORDINGS names another folder of them.
-recordings=${RECORDINGS:-$root/examples/recordings}
 
 # wanted SDP A B TEXT..: `want.cap` is the capture of the datagrams in tshark's texts that go to A or B, each ADDRESS,PORT,
 # or -, or FILE where the first text is of A and the second of B; those of several texts joined by time. `left` is how many
@@ -431,7 +430,6 @@ cp out flows.said
 run import --sdp "$recordings/two-cards.sdp" --a 239.1.1.1:5006 --out none.cap "$recordings/two-cards.pcapng"
 says 'import: nothing is recorded' 0 "recorded A 0 B 0 left out 16
 $(cat flows.said)" '  left out 16 of another flow'
-read_once='standard input is read once; inspect tells its flows'
 "$program" import --sdp "$recordings/two-cards.sdp" --a 239.1.1.1:5006 --out none.cap - \
     <"$recordings/two-cards.pcapng" >out 2>err
 status=$?

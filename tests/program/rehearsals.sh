@@ -1,6 +1,4 @@
-# rehearse: schedules as scripts. `two` is of two pictures, of two packets each, and of two receivers; `show` are the
-# events of the example rehearsal.
-two="$format\nstamp 96 0 0 1\nmax 40\nwindow 0\nreceivers 2\npicture $u$l\npicture $u$l"
+# rehearse: schedules as scripts. `show` are the events of the example rehearsal.
 show='send\nsend\narrive 0 A 0\nmerge 1 0\narrive 0 B 1\nslide 0 1500\narrive 0 A 1'
 shows rehearse 'a timestamp that comes back' "$two
 send

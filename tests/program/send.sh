@@ -1,7 +1,4 @@
 # send: pictures as captures of datagrams.
-picture="5332305049433031 0008000400020000003C00000001 $u$l"
-octets "$picture" >p.pic
-octets "5332305049433031 0008000400010000003C00000001 $u" >row.pic
 sent="80E00000 00000000 00000001 0000 0008 0000 8000 0008 0001 0000 $u$l"
 one="5332304341503032 0000 00 0000000000000000 002A $sent"
 
@@ -86,24 +83,11 @@ holds 'five pictures: the receiver' five.rcv "5332305243563031 $raster 60 00 000
     000005E0 $(pgroups "$4") 00000BBE $(pgroups "$5")"
 
 # A round trip: the capture's text opens the receiver, and what is known of the frame is the picture.
-run send --out trip.cap --sdp q.sdp --base 900 --max 24 --paths both p.pic
-says 'a round trip: sent' 0 'sent 4' ''
+round_trip
 run receive --state trip.rcv --window 900 trip.cap
 says 'a round trip: received' 0 "delivered 8
 $whole" ''
 holds 'a round trip: the receiver' trip.rcv "$opened 00 00000000 01 00000384 01 80108011 01 80128013 01 80148015 01 80168017"
-# Its eight records have 35 octets each. A capture lacks every third, another every fourth.
-front=$((10 + $(wc -c <q.sdp)))
-for every in 3 4; do
-    head -c "$front" trip.cap >"lossy$every.cap"
-    i=0
-    while [ $i -lt 8 ]; do
-        if [ $(((i + 1) % every)) != 0 ]; then
-            tail -c +$((front + 35 * i + 1)) trip.cap | head -c 35 >>"lossy$every.cap"
-        fi
-        i=$((i + 1))
-    done
-done
 run receive --state lossy.rcv --window 900 lossy3.cap lossy4.cap
 says 'a round trip: what two captures lack' 0 "delivered 12
 $whole" ''

@@ -185,6 +185,7 @@ adds 'an SDP in a capture' 1 '' 'sdp 12 UnsupportedDepth' \
 
 # Files: COMMAND|STATUS|FAULT|PLACE. What is said of a file is how many of its octets were read.
 octets "5332305043503031" >x.pic
+octets "5332305243563031 02 08000400020000003C00000001 60 00 00000000 01 00000384 0000000000000000" >rgb.rcv
 head -c 37 p.pic >cut.pic
 head -c 40 both.cap >cut.cap
 octets "$opened 00 00000000 01 00000384 01 80108011" >cut.rcv

@@ -17,7 +17,6 @@ holds_words() {
 }
 
 # The version is that of the top heading of CHANGELOG.md.
-version=$(sed -n '/^## /{s/^## \([0-9.]*\), .*/\1/p;q;}' "$root/CHANGELOG.md")
 for asked in --version -V; do
     run $asked
     # (the launcher says the commit too: launcher.sh)
