@@ -240,9 +240,8 @@ octets '5332305049433031' >name.cap
 cd "$room" || exit 125
 
 # The parts. Each is run by itself, in a folder of its own, which `room` then names.
-parts='text examples forms windows rehearsals descriptions limits migrate receive first_windows tallies send kinds
-    merge process report loop recordings words lost devices outputs verbose faults
-    launcher install'
+parts='text examples trace-forms trace-windows rehearse sdp limits send receive receive-first receive-refusals receive-lost
+    merge report process loop migrate recordings kinds words devices outputs verbose faults launcher install'
 counts=$room/counts
 for part in ${2:-$parts}; do
     if [ ! -f "$root/tests/program/$part.sh" ]; then
