@@ -146,6 +146,23 @@ round_trip() {
     done
 }
 
+# zeros COUNT: so many digits 0.
+zeros() {
+    head -c "$1" /dev/zero | tr '\0' 0
+}
+
+# words COUNT: so many names of a file that is not there.
+words() {
+    yes no-such-file | head -n "$1"
+}
+
+# pictures COUNT: the script of a rehearsal of so many pictures, of one packet each.
+pictures() {
+    printf 'format YCbCr-4:2:2 8 2 1 60/1\nstamp 96 0 0 1\nmax 40\nwindow 0\nreceivers 1\n'
+    yes 'picture 80108011' | head -n "$1"
+    printf 'send\narrive 0 A 0\n'
+}
+
 # COMMAND NAME, and a table on standard input, of which each row is a test: a script, and before it what it comes to.
 # Rows of `prints` are OUTPUT|SCRIPT, of `refuses` FAULT|OUTPUT|SCRIPT, of `at_fault` LINE|SCRIPT.
 prints() {
@@ -216,7 +233,7 @@ recordings=${RECORDINGS:-$root/examples/recordings}
 
 # Files that each part has: the SDP text Q of the worked examples, and a longer one of the camera; captures of version 01
 # of d1 by path A, of d2 by path B, of d1 by both, of a third path; one of version 02 with Q; pictures of two rows and of
-# one; the receivers of d1, and of nothing in another window; and what is no capture, and nothing.
+# one; the receivers of d1, of any source and of source 1; and what is no capture, and nothing.
 mkdir files && cd files || exit 125
 cat >q.sdp <<'END'
 m=video 5004 RTP/AVP 96
@@ -234,7 +251,7 @@ octets "5332304341503032 $q_length $q_digits $record_a $d1" >new.cap
 octets "$picture" >p.pic
 octets "5332305049433031 0008000400010000003C00000001 $u" >row.pic
 octets "$opened 00 00000000 01 00000384 $known" >g.rcv
-octets "$opened 00 00000000 01 00000385 00 00 00 00" >other.rcv
+octets "$opened 01 00000001 01 00000384 $known" >other.rcv
 octets '5332305049433031' >name.cap
 : >empty
 cd "$room" || exit 125
@@ -242,25 +259,25 @@ cd "$room" || exit 125
 # The parts. Each is run by itself, in a folder of its own, which `room` then names.
 parts='text examples trace-forms trace-windows rehearse sdp limits send receive receive-first receive-refusals receive-lost
     merge report process loop migrate recordings kinds words devices outputs verbose faults launcher install'
-counts=$room/counts
+tally=$room/tally
 for part in ${2:-$parts}; do
     if [ ! -f "$root/tests/program/$part.sh" ]; then
         fail "$part.sh" 'it is missing'
         continue
     fi
-    rm -f "$counts"
+    rm -f "$tally"
     (
         passed=0
         failed=0
         cp -R files "$part" && room=$room/$part && cd "$room" || exit 125
         . "$root/tests/program/$part.sh"
-        echo "$passed $failed" >"$counts"
+        echo "$passed $failed" >"$tally"
     )
-    if [ ! -s "$counts" ]; then
+    if [ ! -s "$tally" ]; then
         fail "$part.sh" 'it ended before its end'
         continue
     fi
-    read -r more amiss <"$counts"
+    read -r more amiss <"$tally"
     passed=$((passed + more))
     failed=$((failed + amiss))
     [ $((more + amiss)) -gt 0 ] || fail "$part.sh" 'it tests nothing'

@@ -1,8 +1,4 @@
 # The greatest scripts, datagrams and lists.
-zeros() {
-    head -c "$1" /dev/zero | tr '\0' 0
-}
-
 # A datagram's line `A HEX` of so many octets, all 0.
 long_line() {
     printf 'A '
@@ -60,11 +56,6 @@ zeros 16777216 >in
 limit sdp 'sdp: 16,777,216 octets' 1 '' 'st2110: sdp 2 NoVideo'
 
 # Pictures of one packet each.
-pictures() {
-    printf 'format YCbCr-4:2:2 8 2 1 60/1\nstamp 96 0 0 1\nmax 40\nwindow 0\nreceivers 1\n'
-    yes 'picture 80108011' | head -n "$1"
-    printf 'send\narrive 0 A 0\n'
-}
 pictures 10000 >in
 limit rehearse 'rehearse: ten thousand pictures' 0 'receiver 0
 frame 0 present 4 missing 0 contested 0' ''

@@ -101,13 +101,6 @@ says 'a capture with a text' 0 'sent 1' ''
 holds 'a capture with a text: the file' text.cap "5332304341503032 $q_length $q_digits 00 0000000000000000 002A $sent"
 
 # What is refused before a picture is read, and then nothing is written.
-words() {
-    i=0
-    while [ $i -lt "$1" ]; do
-        echo no-such-file
-        i=$((i + 1))
-    done
-}
 run send --out no-send.cap --sdp no-such-file $(words 10001)
 says 'ten thousand pictures and one' 1 '' 'st2110: send 2 TooManyPictures'
 run send --out no-send.cap $(words 10000)
