@@ -3,8 +3,8 @@ use Rattle.std.proofs.Common.{ℕ, List, [], ◌++◌, refl, sym, ap, ◌∙◌,
 use Rattle.flow.specs.declared.flows.Flows.{Flows}
 use Rattle.run_outcome.specs.declared.refusal.Refusal.{Refusal}
 use Rattle.recorded_capture.specs.Source.{Says, Stands, capture_of, place_of}
-use Rattle.recorded_capture.specs.declared.source.Standing.{Standing}
-use Rattle.recorded_capture.specs.declared.source.Standing.TheVariants as are
+use Rattle.recorded_capture.specs.declared.giver.Standing.{Standing}
+use Rattle.recorded_capture.specs.declared.giver.Standing.TheVariants as are
 use Rattle.recorded_capture.proofs.Converting.{recorded_leads}
 use Rattle.recorded_capture.proofs.Fronts.{begun_recording, plain_read, plain_recording}
 use Rattle.recorded_capture.proofs.Passing.{capture_plain, capture_recorded}

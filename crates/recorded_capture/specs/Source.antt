@@ -6,8 +6,8 @@ use Rattle.recorded_capture.specs.Kinds.{is_recording}
 use Rattle.recorded_capture.specs.Plain.{IsPlain, plain_gave}
 use Rattle.recorded_capture.specs.Recorded.{HasFault, IsRecorded, converted}
 use Rattle.recorded_capture.specs.Said.{IsSaid}
-use Rattle.recorded_capture.specs.declared.source.Standing.{Standing}
-use Rattle.recorded_capture.specs.declared.source.Standing.TheVariants as are
+use Rattle.recorded_capture.specs.declared.giver.Standing.{Standing}
+use Rattle.recorded_capture.specs.declared.giver.Standing.TheVariants as are
 use Rattle.run_outcome.specs.Fault.{Blames, counts}
 use Rattle.run_outcome.specs.declared.fault.Fault.{Fault}
 use Rattle.run_outcome.specs.declared.fault.Fault.TheVariants as fault

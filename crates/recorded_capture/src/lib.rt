@@ -4,8 +4,8 @@
 #![tactic(auto)]
 
 mod begun;
+mod giver;
 mod giving;
-mod history;
 mod kinds;
 mod piece;
 mod pieces;

@@ -1,7 +1,7 @@
 //! What was seen of the packets of a recording that is given as a capture. It is told to a person;
 //! what is given has no part of it.
+use crate::giver::Standing;
 use crate::recorded::Recorded;
-use crate::source::Standing;
 use flow::Flow;
 use left_out_counts::LeftOut;
 use recording_engines::record_of;

@@ -6,8 +6,8 @@ use Rattle.recorded_capture.proofs.source.CaptureSource.history.Goals as goal
 pub returns : goal.returns
 returns g c =
     let told = g.S.ByteSource in
-    let was = c.self.inside in
+    let was = c.self.inside.noted in
     subst (λ (v : CaptureView _). Says v.ways (told.gave v.source) (told.ended v.source) v.place v.gave)
     c.self.view_is
-    (says_of was.ways (told.gave was.source) (told.ended was.source) was.standing was.gave.octets
-    c.self.invariant)
+    (says_of was.giver.ways (told.gave was.giver.source) (told.ended was.giver.source)
+    was.giver.standing was.gave c.facts.ensures)

@@ -1,6 +1,6 @@
 use Rattle.std.proofs.lemmas.Result.{err_from_is_err_and}
 use Rattle.recorded_capture.proofs.Passing.{plain_passes, recorded_passes, recorded_stops}
-use Rattle.recorded_capture.proofs.source.step.Goals as goal
+use Rattle.recorded_capture.proofs.giver.step.Goals as goal
 
 pub returns-in_ok-give-in-Plain-clause-given : goal.returns-in_ok-give-in-Plain-clause-given
 returns-in_ok-give-in-Plain-clause-given g c = λ ways gave stands.

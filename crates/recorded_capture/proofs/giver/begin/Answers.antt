@@ -1,5 +1,5 @@
 use Rattle.recorded_capture.proofs.Passing.{opening_failed}
-use Rattle.recorded_capture.proofs.source.begin.Goals as goal
+use Rattle.recorded_capture.proofs.giver.begin.Goals as goal
 
 pub returns-in-Err-clause-fault : goal.returns-in-Err-clause-fault
 returns-in-Err-clause-fault g c =
