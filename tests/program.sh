@@ -180,7 +180,7 @@ octets "$old_head $d1" >old.cap
 
 # The parts, in the order in which they are run: later ones use files and words of earlier ones.
 parts='text examples forms windows rehearsals descriptions limits migrate receive first_windows tallies send kinds
-    merge process report loop recordings words lost devices outputs verbose faults
+    merge wholes process report loop recordings words lost devices outputs verbose faults
     launcher install'
 for part in ${2:-$parts}; do
     counted=$((passed + failed))
