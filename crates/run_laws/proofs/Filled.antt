@@ -1,6 +1,6 @@
 -- Rasters of offers of whole groups, whose values fit, are what a receiver's file can say.
-use Rattle.std.proofs.Common.{◌≡◌, ℕ, ◌+◌, ◌*◌, ◌<◌, ◌^◌, ◌⊎◌, Bool, true, false, List, [], ◌∷◌}
-use Rattle.std.proofs.Common.{◌++◌, inl, inr, length, get_or, take, drop, map, refl, sym, ap, ◌∙◌}
+use Rattle.std.proofs.Common.{◌≡◌, ℕ, ◌+◌, ◌*◌, ◌<◌, Bool, true, false, List, [], ◌∷◌}
+use Rattle.std.proofs.Common.{◌++◌, inl, inr, length, get_or, drop, map, sym, ap, ◌∙◌}
 use Rattle.std.proofs.Common.{subst, arith}
 use Rattle.std.specs.List.{AllByRecursion, filter}
 use Rattle.std.proofs.lemmas.List.{get_or-drop, get_or-take, length-drop, length-take}
@@ -11,10 +11,10 @@ use Rattle.st_format.specs.Cell.{IsCellOf, is_missing}
 use Rattle.st_format.specs.Fit.{CellFits}
 use Rattle.st_format.specs.Member.{IsMember}
 use Rattle.st_format.specs.Offer.{Offer, cell_of, is_for, values_for}
-use Rattle.st_format.specs.Pgroup.{bits_of, pixel_group}
+use Rattle.st_format.specs.Pgroup.{bits_of}
 use Rattle.st_format.specs.Picture.{FitsDepth}
-use Rattle.st_format.specs.Position.{Position, group_start, place, places, row_groups, sample_count}
-use Rattle.st_format.specs.Raster.{Raster, Segment, cells_of, first_number, offers_from, offers_in}
+use Rattle.st_format.specs.Position.{Position, group_start, place, places, row_groups}
+use Rattle.st_format.specs.Raster.{Segment, cells_of, first_number, offers_from, offers_in}
 use Rattle.st_format.specs.Raster.{offers_in_all, raster_of}
 use Rattle.st_format.specs.Samples.{values_in}
 use Rattle.st_format.proofs.Cells.{is_cell}

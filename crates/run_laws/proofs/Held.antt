@@ -14,7 +14,6 @@ use Rattle.payload_header.specs.Payload.{Header, IsInside, most_segments}
 use Rattle.payload_header.specs.Reading.{counted_octets, data_at, fault_or, headers_at}
 use Rattle.payload_header.specs.Reading.{headers_fault, number_at, payload_walk, segments_at}
 use Rattle.payload_header.proofs.Grammar.{all_described, all_inside}
-use Rattle.rtp_header.specs.Grammar.{Rtp}
 use Rattle.rtp_header.specs.Reading.{rtp_walk}
 use Rattle.path_merge.specs.declared.answer.Refusal.{Refusal}
 use Rattle.path_merge.specs.Admission.{by_header, by_payload, datagram_walk, datagram_with}

@@ -6,13 +6,11 @@ use Rattle.std.specs.Str.Parse.{digits_value}
 use Rattle.std.proofs.lemmas.Option.{some_pair_parts}
 use Rattle.std.proofs.lemmas.Str.Parse.{digit_at}
 use Rattle.st_format.specs.declared.format.Format.{Format}
-use Rattle.st_format.specs.Fields.{Fields, fields_of}
 use Rattle.st_format.specs.Text.{parted}
 use Rattle.st_format.proofs.SameFields.{same_format}
 use Rattle.sdp_format.specs.declared.fault.SdpFault.{SdpFault}
 use Rattle.sdp_format.specs.Bytes.{lines}
 use Rattle.sdp_format.specs.Grammar.{IsDescribed}
-use Rattle.sdp_format.specs.Reading.{text_walk}
 use Rattle.sdp_format.specs.Sections.{Description, video_sections}
 use Rattle.sdp_format.proofs.TextFaults.{text_said}
 use Rattle.path_merge.specs.Opening.{Opening}

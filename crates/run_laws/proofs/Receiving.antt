@@ -1,8 +1,7 @@
 -- What a run of `receive` wrote is a received file, and there is one.
-use Rattle.std.proofs.Common.{◌≡◌, ℕ, List, [], ◌∷◌, ◌++◌, Bool, Option, None, Some, append-nil}
+use Rattle.std.proofs.Common.{◌≡◌, ℕ, List, [], ◌∷◌, Bool, Option, None, Some, append-nil}
 use Rattle.std.proofs.Common.{refl, sym, ap, ◌∙◌, subst}
-use Rattle.std.specs.List.{flat_map}
-use Rattle.st_format.specs.History.{IsRead, since}
+use Rattle.st_format.specs.History.{since}
 use Rattle.st_format.specs.Member.{SameDatagrams}
 use Rattle.st_format.proofs.Histories.{since_is}
 use Rattle.path_merge.specs.Frames.{State, frames_of}
@@ -16,7 +15,7 @@ use Rattle.run_outcome.specs.Timestamps.{AreTimestamps}
 use Rattle.run_outcome.specs.Sources.{IsSourceText}
 use Rattle.capture_engines.specs.Receiving.{SavesShown}
 use Rattle.capture_engines.specs.Taking.{AnnouncesStream, AreRead, IsOpeningText, Receives}
-use Rattle.capture_engines.specs.Taking.{SavesHolding, capture_datagrams}
+use Rattle.capture_engines.specs.Taking.{SavesHolding}
 use Rattle.run_laws.specs.Received.{IsReceivedFile, all_read, datagrams_read, read_of, text_read}
 use Rattle.run_laws.proofs.Opened.{one_opening, source_fits, window_fits}
 use Rattle.run_laws.proofs.Writable.{same_as_written}
