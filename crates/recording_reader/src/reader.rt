@@ -45,8 +45,8 @@ pub enum Standing {
 /// the next one and copies nothing: what it found is borrowed where it lies, until the next call.
 ///
 /// After the end it answers the end, and after a fault that fault: it then asks the source for
-/// nothing more. To a source of datagrams' reader a fault of the recording is the content's, by its
-/// number.
+/// nothing more. As a source of datagrams it tells a fault of the recording as one of the content,
+/// by its number.
 #[derive(Drop)]
 pub struct RecordingReader<A: Allocator, S: ByteSource> {
     source: S,
