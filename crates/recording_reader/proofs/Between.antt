@@ -1,10 +1,9 @@
 -- What was read of a recording between two of its packets.
 use Rattle.std.proofs.Common.{◌≡◌, ℕ, zero, suc, List, [], ◌++◌, refl, sym, ap, ◌∙◌, append-nil}
-use Rattle.flow.specs.declared.flows.Flows.{Flows}
 use Rattle.pcap_file.specs.NgReading.{front_at}
 use Rattle.pcap_file.specs.NgSteps.{step_at}
 use Rattle.pcap_file.specs.PcapReading.{Recorded, head_at, record_at}
-use Rattle.pcap_file.specs.Runs.{HasRead, HasReadAll, InBlocks, InPcap, Laid, Seen, laid_step}
+use Rattle.pcap_file.specs.Runs.{HasRead, InBlocks, InPcap, Laid, Seen, laid_step}
 use Rattle.pcap_file.specs.Runs.{packets_behind, packets_in, run_at}
 use Rattle.st_format.specs.History.{since}
 use Rattle.st_format.proofs.Histories.{since_is}

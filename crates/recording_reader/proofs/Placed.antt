@@ -1,11 +1,10 @@
 -- Where a datagram's octets stand in those of its packet.
 use Rattle.std.proofs.Common.{◌≡◌, ℕ, zero, suc, ◌+◌, ◌-◌, ◌*◌, ◌%◌, ◌≤◌, inl, inr, List, [], ◌∷◌}
-use Rattle.std.proofs.Common.{◌++◌, length, take, drop, slice_index, append_assoc, length-append}
+use Rattle.std.proofs.Common.{◌++◌, length, slice_index, append_assoc, length-append}
 use Rattle.std.proofs.Common.{append-nil, refl, sym, ap, ◌∙◌, arith}
 use Rattle.std.specs.List.{concat}
 use Rattle.pcap_file.specs.Ip.{IsPacket, IsPacket4, IsPacket6, Packet, header_octets}
-use Rattle.pcap_file.specs.Ip.{payload_octets}
-use Rattle.pcap_file.specs.Link.{IsFramed, IsHeaded, IsLinked, IsType, IsTyped}
+use Rattle.pcap_file.specs.Link.{IsFramed, IsLinked, IsTyped}
 use Rattle.pcap_file.specs.Parts.{number_16}
 use Rattle.pcap_file.specs.Udp.{Datagram, IsUdp}
 use Rattle.pcap_file.specs.declared.link.IpVersion.{IpVersion}

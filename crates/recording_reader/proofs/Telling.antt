@@ -1,15 +1,14 @@
 -- What a reader of a recording tells as a source of datagrams.
-use Rattle.std.proofs.Common.{◌≡◌, ℕ, ◌<◌, ◌↔◌, Bool, true, false, List, [], ◌∷◌, ◌++◌, length, map}
-use Rattle.std.proofs.Common.{append-nil, take, Option, None, Some, refl, sym, ap, subst, ◌∙◌}
-use Rattle.media_file.specs.Reader.{due_of_entry}
+use Rattle.std.proofs.Common.{◌≡◌, ℕ, ◌↔◌, Bool, true, false, List, [], ◌∷◌, ◌++◌}
+use Rattle.std.proofs.Common.{append-nil, Option, None, Some, refl, sym, ap, subst, ◌∙◌}
 use Rattle.media_file.specs.Records.{Entry}
-use Rattle.st_format.specs.Turns.{CountsTurn, IsEnd, IsWithin, TakesTurn, arrived, came_of}
+use Rattle.st_format.specs.Turns.{CountsTurn, IsEnd, IsWithin, TakesTurn, arrived}
 use Rattle.st_format.specs.declared.device.Turn.{Turn}
 use Rattle.st_format.specs.declared.device.Turn.TheVariants.{Datagram, Quiet, End}
 use Rattle.st_format.specs.declared.path.Path.{Path}
 use Rattle.recording_reader.specs.Reader.{Finds, FindsNone, FindsOne, Reader, TellsTurn}
 use Rattle.recording_reader.specs.Reader.{datagrams_of}
-use Rattle.recording_reader.specs.declared.reader.Standing.TheVariants.{Reads, Ended, Failed}
+use Rattle.recording_reader.specs.declared.reader.Standing.TheVariants.{Reads, Ended}
 
 -- one record more is one datagram more
 pub datagrams_more : (es : List Entry) (e : Entry)

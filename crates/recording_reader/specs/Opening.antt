@@ -1,9 +1,7 @@
 -- Why a file of datagrams was not opened.
 use Rattle.std.specs.Prelude.{◌≡◌, ℕ, List, [], Some}
-use Rattle.media_file.specs.declared.fault.FileFault.{FileFault}
 use Rattle.pcap_file.specs.Fields.{CountsFault, IfContent}
 use Rattle.pcap_file.specs.Runs.{fault_in, packets_in}
-use Rattle.pcap_file.specs.declared.fault.RecordingFault.{RecordingFault}
 use Rattle.recording_reader.specs.Records.{room}
 use Rattle.recording_reader.specs.declared.opening.OpeningFault.{OpeningFault}
 use Rattle.recording_reader.specs.declared.opening.OpeningFault.TheVariants as opening

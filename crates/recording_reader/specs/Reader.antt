@@ -1,5 +1,5 @@
 -- A reader of a recording as a source of datagrams (own).
-use Rattle.std.specs.Prelude.{◌≡◌, ℕ, ◌<◌, ⊤, Bool, true, false, List, [], ◌∷◌, ◌++◌, length, take}
+use Rattle.std.specs.Prelude.{◌≡◌, ℕ, ◌<◌, ⊤, Bool, true, false, List, [], ◌∷◌, ◌++◌, take}
 use Rattle.std.specs.Prelude.{map, Option, None, Some}
 use Rattle.flow.specs.declared.flows.Flows.{Flows}
 use Rattle.left_out_counts.specs.LeftOut.{left_out_of}
@@ -26,7 +26,7 @@ use Rattle.st_format.specs.declared.device.SourceFault.{SourceFault}
 use Rattle.st_format.specs.declared.device.SourceFault.TheVariants.{Content}
 use Rattle.st_format.specs.declared.device.SourceFault.TheVariants.{Device as FailedDevice}
 use Rattle.st_format.specs.declared.device.Turn.{Turn}
-use Rattle.st_format.specs.declared.device.Turn.TheVariants.{Datagram, Quiet, End}
+use Rattle.st_format.specs.declared.device.Turn.TheVariants.{Datagram, End}
 use Rattle.st_format.specs.declared.path.Path.{Path}
 
 -- What is seen of a reader: `before` is what its source told when it was opened, `records` those

@@ -1,4 +1,4 @@
-use Rattle.std.proofs.Common.{◌∙◌, ◌+◌, ◌-◌, ◌≤◌, Err, arith, length, refl, sym}
+use Rattle.std.proofs.Common.{◌∙◌, ◌+◌, ◌-◌, Err, arith, length, refl, sym}
 use Rattle.pcap_file.specs.Views.{seen_datagram}
 use Rattle.recording_reader.proofs.Findings.{found_is, omission_at, omission_to, part_of}
 use Rattle.recording_reader.proofs.Findings.{placed_within, record_by, record_to}

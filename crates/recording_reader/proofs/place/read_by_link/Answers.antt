@@ -1,4 +1,4 @@
-use Rattle.std.proofs.Common.{◌+◌, ◌-◌, ◌≤◌, arith, length}
+use Rattle.std.proofs.Common.{arith, length}
 use Rattle.pcap_file.specs.Views.{seen_datagram, seen_packet}
 use Rattle.recording_reader.specs.Found.{carried_place}
 use Rattle.recording_reader.proofs.Placed.{datagram_stands, linked_shorter, packet_carries}

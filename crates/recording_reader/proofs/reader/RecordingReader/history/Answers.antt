@@ -1,7 +1,6 @@
 use Rattle.std.proofs.Common.{◌≡◌, subst}
 use Rattle.st_format.specs.History.{since}
 use Rattle.recording_reader.specs.Reader.{HasGiven, HaveRecords, Reader}
-use Rattle.recording_reader.specs.declared.reader.Standing.{Standing}
 use Rattle.recording_reader.specs.declared.reader.Standing.TheVariants.{Reads}
 use Rattle.recording_reader.proofs.Known.{between, known}
 use Rattle.recording_reader.proofs.reader.RecordingReader.history.Goals as goal
