@@ -22,7 +22,8 @@ use Rattle.recording_engines.specs.Joining.{Strand}
 use Rattle.recording_engines.specs.Steps.{Ahead, Coming, Lays, Over, ReadsMore, Standing}
 use Rattle.recording_engines.specs.Steps.{left_by, nothing, record_ahead, stopped_at, whole}
 use Rattle.recording_engines.specs.Steps.{whole_by}
-use Rattle.recording_engines.specs.Strands.{room, strand_in}
+use Rattle.recording_engines.specs.Strands.{strand_in}
+use Rattle.recording_reader.specs.Records.{room}
 use Rattle.recording_engines.specs.Tracks.{BeginsAt, GoesOn as TrackGoesOn, HasReadTo, StandsAt}
 use Rattle.recording_engines.specs.Tracks.{StopsBehind}
 use Rattle.recording_engines.specs.declared.track.Track.{Track}

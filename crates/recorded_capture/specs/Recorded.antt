@@ -11,7 +11,8 @@ use Rattle.recorded_capture.specs.Kinds.{is_recording}
 use Rattle.recorded_capture.specs.Pieces.{entry_next, front_octets, next_text}
 use Rattle.recorded_capture.specs.declared.recorded.Recorded.{Recorded}
 use Rattle.recording_engines.specs.Steps.{Standing}
-use Rattle.recording_engines.specs.Strands.{room, strand_in}
+use Rattle.recording_engines.specs.Strands.{strand_in}
+use Rattle.recording_reader.specs.Records.{room}
 use Rattle.recording_engines.specs.Tracks.{StandsAt}
 use Rattle.run_outcome.specs.declared.fault.Fault.{Fault}
 use Rattle.run_outcome.specs.Refusing.{OfRefusal}

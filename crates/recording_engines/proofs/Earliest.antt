@@ -4,7 +4,7 @@ use Rattle.std.proofs.Common.{Option, None, Some, refl, sym, subst, arith, add-o
 use Rattle.std.specs.List.{AllByRecursion}
 use Rattle.std.specs.Prelude.{IfSome}
 use Rattle.pcap_file.specs.declared.recording.Packet.{Packet}
-use Rattle.recording_engines.specs.Strands.{moment_of}
+use Rattle.recording_reader.specs.Records.{moment_of}
 use Rattle.recording_engines.specs.Tracks.{IsEarliest, IsSooner, Leads, NextAt, NextIsLater}
 use Rattle.recording_engines.specs.Tracks.{NextIsNoSooner}
 use Rattle.recording_engines.specs.declared.track.Track.{Track}

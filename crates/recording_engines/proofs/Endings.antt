@@ -31,7 +31,7 @@ use Rattle.pcap_file.specs.PacketDatagram.{datagram_in}
 use Rattle.pcap_file.specs.PcapReading.{Recorded}
 use Rattle.pcap_file.specs.Udp.{Datagram}
 use Rattle.pcap_file.specs.declared.datagram.NoDatagram.{NoDatagram}
-use Rattle.recording_engines.specs.Strands.{moment_of}
+use Rattle.recording_reader.specs.Records.{moment_of}
 use Rattle.recording_engines.specs.Imported.{AreOver, AsksFlows, Imports}
 use Rattle.recording_engines.specs.Imported.{IsJoinRefusal}
 use Rattle.recording_engines.specs.Joining.{Joins, JoinsTo, OneAt, OneHasMore, Strand}
@@ -41,9 +41,12 @@ use Rattle.recording_engines.specs.Progress.{count_of}
 use Rattle.recording_engines.specs.declared.joining.Written.{Written}
 use Rattle.recording_engines.specs.Steps.{Ahead, AllLay, Coming, HasJoined, Standing, left_by}
 use Rattle.recording_engines.specs.Steps.{lefts, nothing, whole, wholes}
-use Rattle.recording_engines.specs.Strands.{TellsPaths, entry_by, left_out, left_out_in, omission_by}
-use Rattle.recording_engines.specs.Strands.{entry_of, omission_of, omissions_in, omissions_of, other_by}
-use Rattle.recording_engines.specs.Strands.{record_of, room, strand_in, strands_in}
+use Rattle.recording_engines.specs.Strands.{TellsPaths, left_out_in}
+use Rattle.recording_reader.specs.Records.{entry_by, left_out, omission_by}
+use Rattle.recording_engines.specs.Strands.{omissions_in}
+use Rattle.recording_reader.specs.Records.{entry_of, omission_of, omissions_of, other_by}
+use Rattle.recording_engines.specs.Strands.{strand_in, strands_in}
+use Rattle.recording_reader.specs.Records.{record_of, room}
 use Rattle.recording_engines.specs.Tracks.{AllStand, AreLeftOut, HasReadTo, StandsAt}
 use Rattle.recording_engines.specs.declared.importing.ImportCounts.{ImportCounts}
 use Rattle.recording_engines.specs.declared.track.Track.{Track}

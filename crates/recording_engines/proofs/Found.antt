@@ -10,8 +10,8 @@ use Rattle.pcap_file.specs.Udp.{Datagram}
 use Rattle.pcap_file.specs.declared.datagram.NoDatagram.{NoDatagram}
 use Rattle.pcap_file.specs.declared.recording.Packet.{Packet}
 use Rattle.st_format.specs.declared.path.Path.{Path}
-use Rattle.recording_engines.specs.Strands.{entry_by, entry_of, moment_of, omission_by, omission_of}
-use Rattle.recording_engines.specs.Strands.{other_by, record_of}
+use Rattle.recording_reader.specs.Records.{entry_by, entry_of, moment_of, omission_by, omission_of}
+use Rattle.recording_reader.specs.Records.{other_by, record_of}
 
 -- the octets of a packet, as a part of a buffer
 abbrev pub part_of : Packet → List ℕ → List ℕ

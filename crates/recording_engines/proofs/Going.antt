@@ -12,7 +12,7 @@ use Rattle.pcap_file.specs.Runs.{HasRead, layout_seen}
 use Rattle.recording_engines.specs.Steps.{Ahead, Coming, IsFresh, Over, ReadsMore, Standing}
 use Rattle.recording_engines.specs.Joining.{Strand}
 use Rattle.recording_engines.specs.Steps.{left_by, record_ahead, stopped_at, whole_by}
-use Rattle.recording_engines.specs.Strands.{omissions_of, record_of, records_of, room}
+use Rattle.recording_reader.specs.Records.{omissions_of, record_of, records_of, room}
 use Rattle.recording_engines.specs.Tracks.{AddsOnly, HasReadTo, ReadsToNext, StandsAt}
 use Rattle.recording_engines.specs.Tracks.{StandsBy}
 use Rattle.recording_engines.specs.Tracks.{StopsAt, StopsBehind}

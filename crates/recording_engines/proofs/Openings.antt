@@ -19,7 +19,7 @@ use Rattle.run_outcome.specs.LowerFaults.{of_recording}
 use Rattle.run_outcome.specs.Refusing.{OfRefusal}
 use Rattle.recording_engines.proofs.Standing.{content_all, content_map}
 use Rattle.recording_engines.proofs.Written.{content_refused}
-use Rattle.recording_engines.specs.Strands.{room}
+use Rattle.recording_reader.specs.Records.{room}
 use Rattle.recording_engines.specs.Opened.{AllOpened, IsStopRefusal}
 use Rattle.recording_engines.specs.Steps.{AllFresh, IsFresh, Standing}
 use Rattle.recording_engines.specs.Tracks.{AllStand, BeginsAt, StandsAt, StopsAt}

@@ -13,7 +13,7 @@ use Rattle.pcap_file.specs.declared.fault.RecordingFault.{RecordingFault}
 use Rattle.pcap_file.specs.Runs.{HasRead, ReadsEnd, ReadsFault}
 use Rattle.pcap_file.specs.Runs.{ReadsPacket, Seen, layout_seen, packet_seen}
 use Rattle.recording_engines.specs.Steps.{Coming, Over}
-use Rattle.recording_engines.specs.Strands.{omission_of, omissions_of, record_of, records_of, room}
+use Rattle.recording_reader.specs.Records.{omission_of, omissions_of, record_of, records_of, room}
 use Rattle.recording_engines.specs.Tracks.{ReadsToNext, StopsAt}
 use Rattle.pcap_file.specs.declared.recording.Layout.{Layout}
 use Rattle.pcap_file.specs.declared.recording.Packet.{Packet}

@@ -20,8 +20,9 @@ use Rattle.pcap_file.specs.Runs.{HasFailed, HasRead, HasReadAll, Seen, fault_beh
 use Rattle.pcap_file.specs.Runs.{packet_seen, packets_behind, packets_in}
 use Rattle.recording_engines.specs.Steps.{AllLay, IsLater, IsNoSooner, Lays, ReadsMore, Takes}
 use Rattle.recording_engines.specs.Steps.{whole_by}
-use Rattle.recording_engines.specs.Strands.{entry_by, entry_of, moment_of, record_of}
-use Rattle.recording_engines.specs.Strands.{records_of, room, strand_in}
+use Rattle.recording_reader.specs.Records.{entry_by, entry_of, moment_of, record_of}
+use Rattle.recording_engines.specs.Strands.{strand_in}
+use Rattle.recording_reader.specs.Records.{records_of, room}
 use Rattle.recording_engines.specs.Tracks.{Leads, NextIsLater, NextIsNoSooner}
 use Rattle.recording_engines.specs.Tracks.{AllStand, HasReadTo, StandsAt}
 use Rattle.recording_engines.specs.Steps.{Ahead, Coming, Over, Standing}

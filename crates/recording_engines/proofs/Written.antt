@@ -21,7 +21,7 @@ use Rattle.run_outcome.specs.declared.refusal.Refusal.TheVariants as refusal
 use Rattle.recording_engines.specs.Progress.{HasEnded, HasMore, HasStopped, HasWritten, OneComes}
 use Rattle.recording_engines.specs.Progress.{OneStopped, StopsOne}
 use Rattle.pcap_file.specs.Runs.{packet_seen}
-use Rattle.recording_engines.specs.Strands.{record_of}
+use Rattle.recording_reader.specs.Records.{record_of}
 use Rattle.recording_engines.specs.Progress.{CountsPath, StopsAtPlace, StopsJoining, TakesAt}
 use Rattle.recording_engines.specs.Progress.{TakesOne, Writes, WritesNext, WritesOn, count_of}
 use Rattle.recording_engines.specs.Progress.{is_of}

@@ -4,7 +4,7 @@ use Rattle.pcap_file.specs.Runs.{fault_in}
 use Rattle.run_outcome.specs.declared.refusal.Refusal.{Refusal}
 use Rattle.run_outcome.specs.declared.refusal.Refusal.TheVariants as refusal
 use Rattle.recording_engines.specs.Steps.{AllFresh, Standing}
-use Rattle.recording_engines.specs.Strands.{room}
+use Rattle.recording_reader.specs.Records.{room}
 use Rattle.recording_engines.specs.Tracks.{AllStand}
 use Rattle.recording_engines.specs.declared.track.Track.{Track}
 

@@ -11,7 +11,7 @@ use Rattle.run_outcome.specs.declared.refusal.Refusal.{Refusal}
 use Rattle.run_outcome.specs.declared.refusal.Refusal.TheVariants as refusal
 use Rattle.pcap_file.specs.Runs.{packet_seen}
 use Rattle.recording_engines.specs.Steps.{AllFresh, AllLay, Coming, HasJoined, Over, Standing, Takes}
-use Rattle.recording_engines.specs.Strands.{record_of}
+use Rattle.recording_reader.specs.Records.{record_of}
 use Rattle.recording_engines.specs.Tracks.{AllStand, Leads}
 use Rattle.recording_engines.specs.declared.joining.Written.{Written}
 use Rattle.pcap_file.specs.declared.recording.Packet.{Packet}

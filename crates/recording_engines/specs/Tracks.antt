@@ -11,7 +11,7 @@ use Rattle.pcap_file.specs.Fields.{IfContent}
 use Rattle.pcap_file.specs.PcapReading.{Recorded}
 use Rattle.pcap_file.specs.declared.fault.RecordingFault.{RecordingFault}
 use Rattle.pcap_file.specs.Runs.{HasFailed, HasRead, HasReadAll, layout_seen, packet_seen}
-use Rattle.recording_engines.specs.Strands.{moment_of, omissions_of, record_of, records_of, room}
+use Rattle.recording_reader.specs.Records.{moment_of, omissions_of, record_of, records_of, room}
 use Rattle.recording_engines.specs.Steps.{Ahead, Coming, IsFresh, Lays, Over, ReadsMore, Standing}
 use Rattle.recording_engines.specs.Steps.{record_ahead, stopped_at}
 use Rattle.recording_engines.specs.declared.record.RecordView.{RecordView}

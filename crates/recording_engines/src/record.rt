@@ -2,7 +2,7 @@
 ghost use Rattle.std.specs.Prelude.{◌≡◌, ◌≤◌, ◌+◌, length, IfOk};
 ghost use Rattle.pcap_file.specs.PcapReading.{Recorded};
 ghost use Rattle.pcap_file.specs.Runs.{packet_seen};
-ghost use Rattle.recording_engines.specs.Strands.{entry_of, moment_of, omission_of, record_of};
+ghost use Rattle.recording_reader.specs.Records.{entry_of, moment_of, omission_of, record_of};
 ghost use Rattle.recording_engines.specs.Tracks.{entry_seen, omission_seen};
 
 use flow::Flows;

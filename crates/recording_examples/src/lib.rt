@@ -28,6 +28,8 @@ mod packets;
 #[cfg(test)]
 mod pcap;
 #[cfg(test)]
+mod reading;
+#[cfg(test)]
 mod recordings;
 #[cfg(test)]
 mod written;

@@ -105,9 +105,10 @@ pub mod files {
 }
 
 /// Recordings of other tools, as pcap and pcapng: their packets, as datagrams of UDP, and the flows
-/// of the two paths.
+/// of the two paths; and a reader that gives the datagrams of these to a receiver.
 pub mod recordings {
     pub use flow::{Flow, Flows, read_flow};
+    pub use left_out_counts::{LeftOut, Omission};
     pub use pcap_file::{
         ByteOrder, DatagramView, Envelope, Envelope6, HEADS, HEADS6, INTERFACES, Interface,
         IpVersion, Layout, Link, LinkView, NoDatagram, PCAP_HEAD, Packet, PacketHead, PacketView,
@@ -116,6 +117,7 @@ pub mod recordings {
         read_pcap, read_pcap_head, read_record_head, read_udp, record_begins, record_rest,
         write_pcap_head, write_record, write_record6,
     };
+    pub use recording_reader::{OpeningFault, RecordView, RecordingReader, Standing};
 }
 
 /// Which flows of UDP datagrams have, and that as text.

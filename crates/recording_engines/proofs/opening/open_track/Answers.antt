@@ -1,7 +1,7 @@
 use Rattle.std.proofs.Common.{◌≡◌, ◌∙◌, ◌++◌, ℕ, List, [], drop, length, subst, sym, take}
 use Rattle.std.proofs.lemmas.Result.{err_from_is_err_and}
 use Rattle.pcap_file.specs.Runs.{HasFailed, HasRead, layout_seen}
-use Rattle.recording_engines.specs.Strands.{room}
+use Rattle.recording_reader.specs.Records.{room}
 use Rattle.recording_engines.specs.Tracks.{ReadsToNext}
 use Rattle.recording_engines.proofs.Going.{begins_by, take_front}
 use Rattle.recording_engines.proofs.Openings.{read_refused, stop_refused}

@@ -1,7 +1,7 @@
 use Rattle.std.proofs.Common.{◌≡◌, ◌∙◌, ℕ, sym, subst, length}
 use Rattle.std.proofs.lemmas.Result.{err_from_is_err_and}
 use Rattle.pcap_file.specs.Runs.{ReadsEnd, ReadsFault, ReadsPacket, layout_seen, packet_seen}
-use Rattle.recording_engines.specs.Strands.{room}
+use Rattle.recording_reader.specs.Records.{room}
 use Rattle.recording_engines.proofs.Passing.{none_left, passed_end, passed_fault}
 use Rattle.recording_engines.proofs.Passing.{passed_found, passed_more}
 use Rattle.recording_engines.proofs.reading.read_on.Goals as goal

@@ -1,0 +1,208 @@
+//! A recording read as a source of datagrams: cut at each octet, from a source that fails, and
+//! without memory.
+use crate::checks::met;
+use crate::engines::source;
+use flow::{Flow, Flows};
+use pcap_file::RecordingFault;
+use recording_reader::{OpeningFault, RecordView, RecordingReader};
+use refusing::Refusing;
+use st_format::memory::MemorySource;
+use st_format::{DatagramSource, Path, SourceFault, Turn};
+use std::alloc::{AllocError, Allocator, Global};
+use std::process::Abort;
+use std::test::Fail;
+use test_kit::wanting::{Wanting, growths};
+
+/// A file of pcap in microseconds and of raw IP. At 0.000005 seconds a datagram of three octets by
+/// IPv4 to port 5006, and a packet of TCP; at 0.000006 a datagram of one octet by IPv6, behind a
+/// header of options, to port 5004, and two octets behind it; and at 1.000007 one of no octets to
+/// port 5008, and one of two to port 5006.
+pub const RECORDING: &[u8] = b"\xa1\xb2\xc3\xd4\x00\x02\x00\x04\
+    \x00\x00\x00\x00\x00\x00\x00\x00\x00\x04\x00\x00\x00\x00\x00\x65\
+    \x00\x00\x00\x00\x00\x00\x00\x05\x00\x00\x00\x1f\x00\x00\x00\x1f\
+    \x45\x00\x00\x1f\x00\x00\x40\x00\x40\x11\x00\x00\xc0\x00\x02\x01\xc0\x00\x02\x02\
+    \x13\x8c\x13\x8e\x00\x0b\x00\x00\x07\x08\x09\
+    \x00\x00\x00\x00\x00\x00\x00\x05\x00\x00\x00\x14\x00\x00\x00\x14\
+    \x45\x00\x00\x14\x00\x00\x40\x00\x40\x06\x00\x00\xc0\x00\x02\x01\xc0\x00\x02\x02\
+    \x00\x00\x00\x00\x00\x00\x00\x06\x00\x00\x00\x3b\x00\x00\x00\x3b\
+    \x60\x00\x00\x00\x00\x11\x00\x40\
+    \x20\x01\x0d\xb8\x00\x00\x00\x00\x00\x00\x00\x00\x00\x00\x00\x01\
+    \xff\x02\x00\x00\x00\x00\x00\x00\x00\x00\x00\x00\x00\x00\x00\x01\
+    \x11\x00\x01\x04\x00\x00\x00\x00\
+    \x13\x8c\x13\x8c\x00\x09\x00\x00\x06\x00\x00\
+    \x00\x00\x00\x01\x00\x00\x00\x07\x00\x00\x00\x1c\x00\x00\x00\x1c\
+    \x45\x00\x00\x1c\x00\x00\x40\x00\x40\x11\x00\x00\xc0\x00\x02\x01\xc0\x00\x02\x02\
+    \x13\x8c\x13\x90\x00\x08\x00\x00\
+    \x00\x00\x00\x01\x00\x00\x00\x07\x00\x00\x00\x1e\x00\x00\x00\x1e\
+    \x45\x00\x00\x1e\x00\x00\x40\x00\x40\x11\x00\x00\xc0\x00\x02\x01\xc0\x00\x02\x02\
+    \x13\x8c\x13\x8e\x00\x0a\x00\x00\x04\x05";
+
+/// The datagrams of the flows: path, moment in nanoseconds and octets.
+pub const DATAGRAMS: [(Path, u64, &[u8]); 3] = [
+    (Path::B, 5_000, &[7, 8, 9]),
+    (Path::A, 6_000, &[6]),
+    (Path::B, 1_000_007_000, &[4, 5]),
+];
+
+/// Path A by port 5004 and path B by port 5006, of any address.
+pub const FLOWS: Flows = Flows {
+    a: Some(Flow {
+        address: None,
+        port: 5004,
+    }),
+    b: Some(Flow {
+        address: None,
+        port: 5006,
+    }),
+};
+
+/// How many datagrams came, and the fault behind them; `None` where another one came.
+pub type Came = Option<(usize, Option<SourceFault>)>;
+
+/// Whether a datagram is the one of this place.
+pub fn is_datagram(place: usize, path: Path, octets: &[u8]) -> bool {
+    match DATAGRAMS.get(place) {
+        Some((by, _, wanted)) => *by == path && *wanted == octets,
+        None => false,
+    }
+}
+
+/// Whether a record is the one of this place, with its moment.
+pub fn is_record(place: usize, record: &RecordView<'_>) -> bool {
+    let moment = DATAGRAMS.get(place).map(|datagram| datagram.1);
+    moment == Some(record.moment) && is_datagram(place, record.path, record.octets)
+}
+
+/// What comes of a source of datagrams that is `DATAGRAMS` or a first part of them. The end or the
+/// fault comes twice.
+pub fn came<D: DatagramSource>(source: &mut D, buf: &mut [u8]) -> Came {
+    for place in 0..4usize {
+        match source.next(buf) {
+            Ok(Turn::Datagram(path, count)) if is_datagram(place, path, &buf[..count]) => {}
+            Ok(Turn::End) if source.next(buf) == Ok(Turn::End) => return Some((place, None)),
+            Err(fault) if source.next(buf) == Err(fault) => return Some((place, Some(fault))),
+            _ => return None,
+        }
+    }
+    None
+}
+
+/// What comes of octets as a recording in pieces of five, where a call of the source fails, which
+/// is lent.
+fn read(alloc: Global, octets: &[u8], fails_in: u64) -> Result<Came, AllocError> {
+    let mut buf = vec![in alloc; 0u8; 65535]?;
+    let mut source = MemorySource::new(Vec::from_slice(alloc, octets)?, 5, fails_in);
+    let mut reader = match RecordingReader::open(alloc, FLOWS, &mut source) {
+        Ok(reader) => reader,
+        Err((OpeningFault::Recording(RecordingFault::Device), _)) => {
+            return Ok(Some((0, Some(SourceFault::Device))));
+        }
+        Err((OpeningFault::Recording(fault), _)) => {
+            return Ok(Some((0, Some(SourceFault::Content(fault.number())))));
+        }
+        Err((OpeningFault::NoMemory, _)) => return Err(AllocError),
+    };
+    let came = came(&mut reader, &mut buf);
+    Ok(if reader.into_inner().failures() < 2 {
+        came
+    } else {
+        None
+    })
+}
+
+/// How many octets of it there are, how many datagrams then come, and whether it ends there: none,
+/// and fewer than a file's head; the head alone; within a packet's head and its octets; up to each
+/// packet's end, and one fewer.
+const CUTS: [(usize, usize, bool); 14] = [
+    (0, 0, false),
+    (23, 0, false),
+    (24, 0, true),
+    (39, 0, false),
+    (70, 0, false),
+    (71, 1, true),
+    (106, 1, false),
+    (107, 1, true),
+    (181, 1, false),
+    (182, 2, true),
+    (225, 2, false),
+    (226, 2, true),
+    (271, 2, false),
+    (272, 3, true),
+];
+
+#[test]
+fn cut(rt: HostRuntime) -> Result<(), Fail> {
+    for (count, datagrams, is_end) in &CUTS {
+        let fault = (!*is_end).then_some(SourceFault::Content(2));
+        let came = read(rt.alloc(), &RECORDING[..*count], 0)?;
+        met(&rt, came == Some((*datagrams, fault)));
+    }
+    Ok(())
+}
+
+/// One call of the source fails. Five are of the file's head; each packet has four of its head and
+/// one for each five of its octets; the last one tells the end.
+#[test]
+fn failing_device(rt: HostRuntime) -> Result<(), Fail> {
+    let failed = Some(SourceFault::Device);
+    met(&rt, read(rt.alloc(), RECORDING, 5)? == Some((0, failed)));
+    met(&rt, read(rt.alloc(), RECORDING, 16)? == Some((0, failed)));
+    met(&rt, read(rt.alloc(), RECORDING, 24)? == Some((1, failed)));
+    met(&rt, read(rt.alloc(), RECORDING, 60)? == Some((2, failed)));
+    met(&rt, read(rt.alloc(), RECORDING, 61)? == Some((3, failed)));
+    met(&rt, read(rt.alloc(), RECORDING, 62)? == Some((3, None)));
+    Ok(())
+}
+
+/// Reading one without copying.
+#[derive(Clone, Copy)]
+struct Borrowing;
+
+/// Whether the datagrams come so where they are borrowed, and others are counted by why; `None`
+/// where memory is wanted.
+fn is_borrowed<A: Allocator>(global: Global, alloc: A) -> Result<Option<bool>, AllocError> {
+    let mut reader = match RecordingReader::open(alloc, FLOWS, source(global, RECORDING)?) {
+        Ok(reader) => reader,
+        Err((OpeningFault::NoMemory, source)) if source.to_give() == RECORDING => {
+            return Ok(None);
+        }
+        Err(_) => return Ok(Some(false)),
+    };
+    let mut place = 0;
+    while let Ok(true) = reader.advance() {
+        let is_next = match reader.datagram() {
+            Some(record) => is_record(place, &record) && reader.octets() == record.octets,
+            None => false,
+        };
+        if !is_next || place >= 3 {
+            return Ok(Some(false));
+        }
+        place += 1;
+    }
+    let left_out = reader.left_out();
+    Ok(Some(
+        place == 3
+            && reader.advance() == Ok(false)
+            && reader.datagram().is_none()
+            && reader.path().is_none()
+            && reader.moment().is_none()
+            && reader.octets().is_empty()
+            && left_out.not_udp == 1
+            && left_out.other_flow == 1
+            && left_out.total() == 2,
+    ))
+}
+
+impl Wanting for Borrowing {
+    fn answer(&self, global: Global, refusing: &Refusing<Global>) -> Result<Option<bool>, Fail> {
+        Ok(is_borrowed(global, refusing)?)
+    }
+}
+
+/// For a packet, and for nothing else.
+#[test]
+fn borrowed(rt: HostRuntime) -> Result<(), Fail> {
+    met(&rt, is_borrowed(rt.alloc(), rt.alloc())? == Some(true));
+    met(&rt, growths(rt.alloc(), &Borrowing)? == Some(1));
+    Ok(())
+}

@@ -1,0 +1,41 @@
+//! Reading a recording from one record of the flows to the next.
+ghost use Rattle.std.specs.Prelude.{◌≡◌, ◌≤◌, ◌-◌, length, IfErr, IfOk, IfSome};
+ghost use Rattle.pcap_file.specs.Fields.{CountsDevice};
+ghost use Rattle.recording_reader.specs.Reading.{FailsNext, ReadsToNext};
+
+use crate::found::{Found, find};
+use flow::Flows;
+use left_out_counts::LeftOut;
+use pcap_file::{Layout, RecordingFault, next_packet};
+use st_format::ByteSource;
+
+/// Reads on to the next packet that has a record, and finds that in `buf`, or reads on to the end;
+/// and counts the packets before it by why they have none.
+pub(crate) fn read_on<S: ByteSource>(
+    source: &mut S,
+    flows: &Flows,
+    layout: &mut Layout,
+    buf: &mut [u8],
+    left_out: &mut LeftOut,
+) -> Result<Option<Found>, RecordingFault>
+    requires { 1048576 ≡ length buf.old }
+    ensures room { length buf.new ≡ length buf.old }
+    ensures read { IfOk result (λ r. ReadsToNext flows.now r buf.new
+        (S.gave source.old) (S.gave source.new) (S.ended source.new)
+        layout.old layout.new left_out.old left_out.new) }
+    ensures fault { IfErr result (λ f. FailsNext flows.now (S.gave source.old) (S.gave source.new)
+        (S.ended source.new) layout.old f left_out.old left_out.new) }
+    ensures counted { CountsDevice (S.failures source.old) (S.failures source.new) result }
+    ensures names { S.names source.new ≡ S.names source.old }
+    ensures forward { IfOk result (λ r. IfSome r (λ f. f.start ≤ f.end)) }
+    ensures inside { IfOk result (λ r. IfSome r (λ f. f.end ≤ length buf.new)) }
+    ensures few { IfOk result (λ r. IfSome r (λ f. f.end - f.start ≤ 65535)) }
+{
+    while let Some(packet) = next_packet(source, layout, buf)? {
+        match find(flows, &packet, buf) {
+            Ok(found) => return Ok(Some(found)),
+            Err(omission) => left_out.note(omission),
+        }
+    }
+    Ok(None)
+}
