@@ -291,10 +291,10 @@ fn push_capture<'a>(captures: &mut Vec<Source<'a>>, capture: Source<'a>) -> Resu
     ensures unrefused { IfErr result (λ f. IfRefused f ⊥) }
     ensures memory { IfErr result (λ f. f ≡ Memory) }
 {
-    match captures.push(capture) {
-        Ok(()) => Ok(()),
-        Err(_) => Err(Fault::Memory),
+    if captures.push(capture).is_err() {
+        return Err(Fault::Memory);
     }
+    Ok(())
 }
 
 /// A file that was read, to be read from its front again.
