@@ -59,6 +59,14 @@ run receive --state lost.rcv --sdp "$recordings/late.sdp" --window 900,4500 "$re
 grep '^flow' err >lost.err
 : >want.err
 alike 'lost: no flow is missing of a file for each' lost.err want.err
+# What was left out is told where that is asked for, also where more is kept: two packets of IGMP.
+for word in '' -v; do
+    # shellcheck disable=SC2086
+    run receive $word --state lost.rcv --sdp "$recordings/group.sdp" --window 900,4500 "$recordings/cooked.pcap"
+    says "lost: less than is kept, $word" 0 'delivered 6
+frame 900 present 128 missing 0 contested 0
+frame 4500 present 128 missing 0 contested 0' "${word:+  left out 2 NotUdp}"
+done
 run receive --state - --sdp "$two.sdp" --a 239.1.1.1:5006 --window 900 "$two.pcapng"
 cp err lost.err
 run receive --state lost.rcv --sdp "$two.sdp" --a 239.1.1.1:5006 --window 900 "$two.pcapng"

@@ -463,7 +463,14 @@ const IMPORTED: &[Word] = &[
 ];
 
 /// The words of `inspect`.
-const INSPECTED: &[Word] = &[RECORDINGS];
+const INSPECTED: &[Word] = &[
+    Word {
+        name: "json",
+        usage: Usage::Flag,
+        help: "Print objects of JSON for other tools, one in a line",
+    },
+    RECORDINGS,
+];
 
 /// The words of `export`.
 const EXPORTED: &[Word] = &[

@@ -46,8 +46,8 @@ pub enum Words<'a> {
     Import(ImportWords<'a>),
     /// Write a capture as a recording for other tools.
     Export(ExportWords<'a>),
-    /// Tell which streams recordings of other tools have, by their files' names.
-    Inspect(Vec<&'a str>),
+    /// Tell which streams recordings of other tools have.
+    Inspect(InspectWords<'a>),
 }
 
 /// The words behind `sdp`.
@@ -197,6 +197,15 @@ pub struct ImportWords<'a> {
     pub recordings: Vec<&'a str>,
 }
 
+/// The words behind `inspect`.
+#[derive(Drop)]
+pub struct InspectWords<'a> {
+    /// Whether it is told as objects of JSON.
+    pub is_json: bool,
+    /// The recordings' files.
+    pub recordings: Vec<&'a str>,
+}
+
 /// The words behind `export`.
 #[derive(Clone, Copy)]
 pub struct ExportWords<'a> {
@@ -258,7 +267,7 @@ fn command_words<'a>(
         "merge" => Ok(Words::Merge(merge_words(alloc, given)?)),
         "process" => Ok(Words::Process(process_words(alloc, given)?)),
         "import" => Ok(Words::Import(import_words(alloc, given)?)),
-        "inspect" => Ok(Words::Inspect(list(alloc, given, "recordings")?)),
+        "inspect" => Ok(Words::Inspect(inspect_words(alloc, given)?)),
         _ => Ok(plain_words(name, given)),
     }
 }
@@ -386,6 +395,16 @@ fn import_words<'a>(alloc: Global, given: &ArgMatches<'a>) -> Result<ImportWords
         a: given.get_str("a"),
         b: given.get_str("b"),
         out: word(given, "out"),
+        recordings: list(alloc, given, "recordings")?,
+    })
+}
+
+fn inspect_words<'a>(
+    alloc: Global,
+    given: &ArgMatches<'a>,
+) -> Result<InspectWords<'a>, AllocError> {
+    Ok(InspectWords {
+        is_json: given.get_flag("json"),
         recordings: list(alloc, given, "recordings")?,
     })
 }

@@ -1,96 +1,146 @@
 -- Times, and what is said as RTP, where one more datagram comes.
-use Rattle.std.proofs.Common.{◌≡◌, ℕ, ◌+◌, ◌-◌, ◌^◌, min, List, [], ◌∷◌, ◌++◌, Option, Some, None, Ok}
-use Rattle.std.proofs.Common.{length, map, refl, ap, sym, ◌∙◌, arith, append-nil}
-use Rattle.std.proofs.lemmas.List.{length-append, map-append}
+use Rattle.std.proofs.Common.{◌≡◌, ℕ, ◌+◌, ◌-◌, ◌^◌, min, max, Bool, true, false, cond, List, [], ◌∷◌}
+use Rattle.std.proofs.Common.{◌++◌, Option, Some, None, Ok, Err, Result, length, count_by}
+use Rattle.std.proofs.Common.{refl, ap, sym, ◌∙◌, arith, append-nil}
+use Rattle.std.proofs.lemmas.List.{length-append}
 use Rattle.std.proofs.lemmas.List.Concat.{flat_map-append}
-use Rattle.std.specs.Option.{option_or}
+use Rattle.std.proofs.lemmas.List.Elements.{filter_map-append}
+use Rattle.std.proofs.lemmas.List.Sums.{sum_by-append}
+use Rattle.std.specs.Option.{option_map_or}
 use Rattle.rtp_header.specs.Grammar.{Rtp}
 use Rattle.rtp_header.specs.Reading.{rtp_walk}
+use Rattle.rtp_header.specs.declared.header.RtpFault.{RtpFault}
+use Rattle.stream_counts.specs.Numbering.{capped, highest_of, lowest_of}
+use Rattle.stream_counts.proofs.CountLaws.{highest_more, lowest_more}
 use Rattle.flow_counts.specs.declared.rtp_count.RtpCount.{RtpCount}
-use Rattle.flow_counts.specs.declared.seen.Seen.{Seen}
+use Rattle.flow_counts.specs.declared.streams.Streams.{Streams}
 use Rattle.flow_counts.specs.declared.times.Times.{Times}
-use Rattle.flow_counts.specs.Counts.{capped, first_time, if_read, last_time, rtp_of, rtp_said}
-use Rattle.flow_counts.specs.Counts.{seen_of, times_of}
+use Rattle.flow_counts.specs.Counts.{if_read, is_rtcp, known, rtp_of, rtp_said, said_by, times_of}
+use Rattle.flow_counts.specs.Streams.{streams_of}
+use Rattle.flow_counts.proofs.Kept.{capped_more}
 
 -- ---- times
-
-or_none : (t : Option ℕ) → option_or t None ≡ t
-or_none None = refl
-or_none (Some x) = refl
-
-or_or : (t u v : Option ℕ) → option_or (option_or t u) v ≡ option_or t (option_or u v)
-or_or None u v = refl
-or_or (Some x) u v = refl
-
-first_more : (times : List (Option ℕ)) (t : Option ℕ)
-    → first_time (times ++ t ∷ []) ≡ option_or (first_time times) t
-first_more [] t = or_none t
-first_more (u ∷ times) t =
-    ap (option_or u) (first_more times t) ∙ sym (or_or u (first_time times) t)
-
-last_more : (times : List (Option ℕ)) (t : Option ℕ)
-    → last_time (times ++ t ∷ []) ≡ option_or t (last_time times)
-last_more [] t = sym (or_none t)
-last_more (u ∷ times) t =
-    ap (λ (v : Option ℕ). option_or v u) (last_more times t) ∙ or_or t (last_time times) u
 
 abbrev span : Option ℕ → Option ℕ → Times
 span first last = record { first = first; last = last }
 
-pub times_more : (times : List (Option ℕ)) (s : Times) (t first last : Option ℕ)
-    → s ≡ times_of times → first ≡ option_or s.first t → last ≡ option_or t s.last
-    → ◌≡◌ {A = Times} (record { first = first; last = last }) (times_of (times ++ t ∷ []))
-times_more times s t first last e p q =
-    ap (λ (x : Option ℕ). span x last)
-    (p ∙ ap (λ (x : Times). option_or x.first t) e ∙ sym (first_more times t))
-    ∙ ap (span (first_time (times ++ t ∷ [])))
-    (q ∙ ap (λ (x : Times). option_or t x.last) e ∙ sym (last_more times t))
+abbrev spanned : List ℕ → Times
+spanned ns = span (lowest_of ns) (highest_of ns)
+
+pub times_none : (times : List (Option ℕ)) (s : Times) (t : Option ℕ) → s ≡ times_of times
+    → t ≡ None → s ≡ times_of (times ++ t ∷ [])
+times_none times s t e n =
+    e
+    ∙ ap spanned
+    (sym
+    (ap (λ (x : Option ℕ). known (times ++ x ∷ [])) n
+    ∙ filter_map-append (λ (x : Option ℕ). x) times (None ∷ [])
+    ∙ append-nil (known times)))
+
+pub times_some : (times : List (Option ℕ)) (s : Times) (t : Option ℕ) (time first last : ℕ)
+    → s ≡ times_of times → t ≡ Some time
+    → first ≡ option_map_or (λ l. min l time) s.first time
+    → last ≡ option_map_or (λ h. max h time) s.last time
+    → ◌≡◌ {A = Times} (record { first = Some first; last = Some last })
+    (times_of (times ++ t ∷ []))
+times_some times s t time first last e n p q =
+    let ns : List ℕ = known times in
+    let more : known (times ++ t ∷ []) ≡ ns ++ time ∷ [] =
+    ap (λ (x : Option ℕ). known (times ++ x ∷ [])) n
+    ∙ filter_map-append (λ (x : Option ℕ). x) times (Some time ∷ []) in
+    let f : Some first ≡ lowest_of (ns ++ time ∷ []) =
+    ap (λ (x : ℕ). Some x)
+    (p ∙ ap (λ (x : Times). option_map_or (λ l. min l time) x.first time) e)
+    ∙ sym (lowest_more ns time) in
+    let l : Some last ≡ highest_of (ns ++ time ∷ []) =
+    ap (λ (x : ℕ). Some x)
+    (q ∙ ap (λ (x : Times). option_map_or (λ h. max h time) x.last time) e)
+    ∙ sym (highest_more ns time) in
+    ap (λ (x : Option ℕ). span x (Some last)) f
+    ∙ ap (span (lowest_of (ns ++ time ∷ []))) l ∙ ap spanned (sym more)
 
 -- ---- what is said
 
-abbrev said : List ℕ → List Rtp
-said octets = if_read (rtp_walk octets)
+abbrev counted : ℕ → ℕ → Streams → RtpCount
+counted datagrams rtcp streams =
+    record { datagrams = datagrams; rtcp = rtcp; streams = streams }
 
-rtp_more : (all : List (List ℕ)) (octets : List ℕ) (r : Rtp) → rtp_walk octets ≡ Ok r
-    → rtp_said (all ++ octets ∷ []) ≡ rtp_said all ++ r ∷ []
-rtp_more all octets r e =
-    flat_map-append said all (octets ∷ [])
-    ∙ ap (λ (x : List Rtp). rtp_said all ++ x) (append-nil (said octets) ∙ ap if_read e)
+abbrev told : List Rtp → ℕ → RtpCount
+told said n = counted (capped (length said)) (capped n) (streams_of said)
 
-abbrev counted : ℕ → Seen → Seen → RtpCount
-counted datagrams types sources =
-    record { datagrams = datagrams; payload_types = types; sources = sources }
+said_more : (all : List (List ℕ)) (octets : List ℕ) (rs : List Rtp) → said_by octets ≡ rs
+    → rtp_said (all ++ octets ∷ []) ≡ rtp_said all ++ rs
+said_more all octets rs e =
+    flat_map-append said_by all (octets ∷ [])
+    ∙ ap (λ (x : List Rtp). rtp_said all ++ x) (append-nil (said_by octets) ∙ e)
 
-capped_more : (n : ℕ) → min (capped n + 1) (2 ^ 64 - 1) ≡ capped (n + 1)
-capped_more n = omega arith
+plus_none : (n : ℕ) → n + 0 ≡ n
+plus_none n = omega arith
 
-pub said_more : (all : List (List ℕ)) (octets : List ℕ) (s : RtpCount) (r : Rtp) (d : ℕ)
-    (types sources : Seen) → s ≡ rtp_of all → rtp_walk octets ≡ Ok r
+none_plus : (n : ℕ) → 0 + n ≡ n
+none_plus n = omega arith
+
+counted_more : (all : List (List ℕ)) (octets : List ℕ) (b : Bool) → is_rtcp octets ≡ b
+    → count_by is_rtcp (all ++ octets ∷ []) ≡ count_by is_rtcp all + cond b 1 0
+counted_more all octets b e =
+    sum_by-append (λ (o : List ℕ). cond (is_rtcp o) 1 0) all (octets ∷ [])
+    ∙ ap (λ (n : ℕ). count_by is_rtcp all + n)
+    (none_plus (cond (is_rtcp octets) 1 0) ∙ ap (λ (x : Bool). cond x 1 0) e)
+
+-- a datagram of RTCP
+pub said_rtcp : (all : List (List ℕ)) (octets : List ℕ) (s : RtpCount) (c : ℕ)
+    → s ≡ rtp_of all → is_rtcp octets ≡ true → c ≡ min (s.rtcp + 1) (2 ^ 64 - 1)
+    → counted s.datagrams c s.streams ≡ rtp_of (all ++ octets ∷ [])
+said_rtcp all octets s c e is p =
+    let n : ℕ = count_by is_rtcp all in
+    let none : said_by octets ≡ [] =
+    ap (λ (b : Bool). cond b [] (if_read (rtp_walk octets))) is in
+    let said : rtp_said (all ++ octets ∷ []) ≡ rtp_said all =
+    said_more all octets [] none ∙ append-nil (rtp_said all) in
+    let c_is : c ≡ capped (count_by is_rtcp (all ++ octets ∷ [])) =
+    p ∙ ap (λ (x : RtpCount). min (x.rtcp + 1) (2 ^ 64 - 1)) e ∙ capped_more n
+    ∙ ap capped (sym (counted_more all octets true is)) in
+    ap (λ (x : RtpCount). counted x.datagrams c x.streams) e
+    ∙ ap (λ (x : ℕ). counted (capped (length (rtp_said all))) x (streams_of (rtp_said all))) c_is
+    ∙ ap (λ (x : List Rtp). told x (count_by is_rtcp (all ++ octets ∷ []))) (sym said)
+
+-- no datagram of RTCP counts no more of these
+same_count : (all : List (List ℕ)) (octets : List ℕ) → is_rtcp octets ≡ false
+    → count_by is_rtcp all ≡ count_by is_rtcp (all ++ octets ∷ [])
+same_count all octets apart =
+    sym (counted_more all octets false apart ∙ plus_none (count_by is_rtcp all))
+
+-- one that is no RTP either
+pub said_none : (all : List (List ℕ)) (octets : List ℕ) (s : RtpCount) (f : RtpFault)
+    → s ≡ rtp_of all → is_rtcp octets ≡ false → rtp_walk octets ≡ Err f
+    → s ≡ rtp_of (all ++ octets ∷ [])
+said_none all octets s f e apart w =
+    let none : said_by octets ≡ [] =
+    ap (λ (b : Bool). cond b [] (if_read (rtp_walk octets))) apart ∙ ap if_read w in
+    let said : rtp_said (all ++ octets ∷ []) ≡ rtp_said all =
+    said_more all octets [] none ∙ append-nil (rtp_said all) in
+    e ∙ ap (told (rtp_said all)) (same_count all octets apart)
+    ∙ ap (λ (x : List Rtp). told x (count_by is_rtcp (all ++ octets ∷ []))) (sym said)
+
+-- one of RTP
+pub said_rtp : (all : List (List ℕ)) (octets : List ℕ) (s : RtpCount) (r : Rtp) (d : ℕ)
+    (streams : Streams) → s ≡ rtp_of all → is_rtcp octets ≡ false → rtp_walk octets ≡ Ok r
     → d ≡ min (s.datagrams + 1) (2 ^ 64 - 1)
-    → ((values : List ℕ) → s.payload_types ≡ seen_of values
-    → types ≡ seen_of (values ++ r.payload_type ∷ []))
-    → ((values : List ℕ) → s.sources ≡ seen_of values
-    → sources ≡ seen_of (values ++ r.ssrc ∷ []))
-    → ◌≡◌ {A = RtpCount}
-    (record { datagrams = d; payload_types = types; sources = sources })
-    (rtp_of (all ++ octets ∷ []))
-said_more all octets s r d types sources e w p q u =
+    → ((said : List Rtp) → s.streams ≡ streams_of said
+    → streams ≡ streams_of (said ++ r ∷ []))
+    → counted d s.rtcp streams ≡ rtp_of (all ++ octets ∷ [])
+said_rtp all octets s r d streams e apart w p q =
     let xs : List Rtp = rtp_said all in
-    let more : rtp_said (all ++ octets ∷ []) ≡ xs ++ r ∷ [] = rtp_more all octets r w in
-    let n : d ≡ capped (length (xs ++ r ∷ [])) =
-    p ∙ ap (λ (x : RtpCount). min (x.datagrams + 1) (2 ^ 64 - 1)) e
-    ∙ capped_more (length xs) ∙ ap capped (sym (length-append xs (r ∷ []))) in
-    let ts : types ≡ seen_of (map (λ x. x.payload_type) (xs ++ r ∷ [])) =
-    q (map (λ x. x.payload_type) xs) (ap (λ (x : RtpCount). x.payload_types) e)
-    ∙ ap seen_of (sym (map-append (λ (x : Rtp). x.payload_type) xs (r ∷ []))) in
-    let ss : sources ≡ seen_of (map (λ x. x.ssrc) (xs ++ r ∷ [])) =
-    u (map (λ x. x.ssrc) xs) (ap (λ (x : RtpCount). x.sources) e)
-    ∙ ap seen_of (sym (map-append (λ (x : Rtp). x.ssrc) xs (r ∷ []))) in
-    ap (λ (x : ℕ). counted x types sources) n
-    ∙ ap (λ (x : Seen). counted (capped (length (xs ++ r ∷ []))) x sources) ts
-    ∙ ap
-    (λ (x : Seen). counted (capped (length (xs ++ r ∷ [])))
-    (seen_of (map (λ y. y.payload_type) (xs ++ r ∷ []))) x) ss
-    ∙ ap
-    (λ (x : List Rtp). counted (capped (length x)) (seen_of (map (λ y. y.payload_type) x))
-    (seen_of (map (λ y. y.ssrc) x))) (sym more)
+    let one : said_by octets ≡ r ∷ [] =
+    ap (λ (b : Bool). cond b [] (if_read (rtp_walk octets))) apart ∙ ap if_read w in
+    let said : rtp_said (all ++ octets ∷ []) ≡ xs ++ r ∷ [] = said_more all octets (r ∷ []) one in
+    let d_is : d ≡ capped (length (xs ++ r ∷ [])) =
+    p ∙ ap (λ (x : RtpCount). min (x.datagrams + 1) (2 ^ 64 - 1)) e ∙ capped_more (length xs)
+    ∙ ap capped (sym (length-append xs (r ∷ []))) in
+    let s_is : streams ≡ streams_of (xs ++ r ∷ []) =
+    q xs (ap (λ (x : RtpCount). x.streams) e) in
+    ap (λ (x : ℕ). counted x s.rtcp streams) d_is
+    ∙ ap (λ (x : RtpCount). counted (capped (length (xs ++ r ∷ []))) x.rtcp streams) e
+    ∙ ap (counted (capped (length (xs ++ r ∷ []))) (capped (count_by is_rtcp all))) s_is
+    ∙ ap (λ (n : ℕ). told (xs ++ r ∷ []) n) (same_count all octets apart)
+    ∙ ap (λ (x : List Rtp). told x (count_by is_rtcp (all ++ octets ∷ []))) (sym said)

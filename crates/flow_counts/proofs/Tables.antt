@@ -14,9 +14,10 @@ use Rattle.std.specs.declared.net.socket_addr.SocketAddr.{SocketAddr}
 use Rattle.std.specs.Net.Socket.{socket_ip, socket_port}
 use Rattle.flow_counts.specs.declared.count.FlowCount.{FlowCount}
 use Rattle.flow_counts.specs.Counts.{count_of, flow_counts}
-use Rattle.flow_counts.specs.Flows.{Arrival, different, flows_of, ip_octets, is_same, of_flow}
+use Rattle.flow_counts.specs.Flows.{Arrival, flows_of, ip_octets, is_same, of_flow}
+use Rattle.stream_counts.specs.Tables.{different}
 use Rattle.flow_counts.specs.Places.{key_of, place_of}
-use Rattle.flow_counts.proofs.Different.{added, different_more, without}
+use Rattle.stream_counts.proofs.Different.{added, different_more, without}
 
 -- ---- destinations that are the same
 

@@ -1,59 +1,53 @@
 -- What is counted of datagrams.
-use Rattle.std.specs.Prelude.{ℕ, ◌-◌, ◌^◌, ◌==◌, min, nat_lt, List, [], ◌∷◌, Option, None}
-use Rattle.std.specs.Prelude.{Result, Ok, Err, length, map, take, sum_by}
-use Rattle.std.specs.List.{flat_map}
-use Rattle.std.specs.Option.{option_or}
+use Rattle.std.specs.Prelude.{ℕ, ◌/◌, ◌==◌, ◌&&◌, Bool, nat_le, if◌then◌else◌, List, [], ◌∷◌, Option}
+use Rattle.std.specs.Prelude.{Result, Ok, Err, length, map, sum_by, count_by, slice_index}
+use Rattle.std.specs.List.{filter_map, flat_map}
 use Rattle.std.specs.declared.net.socket_addr.SocketAddr.{SocketAddr}
 use Rattle.rtp_header.specs.Grammar.{Rtp}
 use Rattle.rtp_header.specs.Reading.{rtp_walk}
 use Rattle.rtp_header.specs.declared.header.RtpFault.{RtpFault}
+use Rattle.stream_counts.specs.Numbering.{capped, highest_of, lowest_of}
 use Rattle.flow_counts.specs.declared.count.FlowCount.{FlowCount}
 use Rattle.flow_counts.specs.declared.rtp_count.RtpCount.{RtpCount}
-use Rattle.flow_counts.specs.declared.seen.Seen.{Seen}
 use Rattle.flow_counts.specs.declared.times.Times.{Times}
-use Rattle.flow_counts.specs.Flows.{Arrival, different, flows_of, of_flow}
+use Rattle.flow_counts.specs.Flows.{Arrival, flows_of, of_flow}
+use Rattle.flow_counts.specs.Streams.{streams_of}
 
--- a count stays at its greatest (own)
-abbrev pub capped : ℕ → ℕ
-capped n = min n (2 ^ 64 - 1)
-
--- the different numbers of a list: the first 16 of them, and whether there are others (own)
-abbrev pub seen_of : List ℕ → Seen
-seen_of values =
-    record {
-      values = record { items = take 16 (different (λ x y. x == y) values) };
-      others = nat_lt 16 (length (different (λ x y. x == y) values));
-    }
+-- A datagram on a stream's port is of RTCP: version 2, and a packet type of 200 to 204, where RTP
+-- would have the marker and a payload type of 72 to 76. RFC 5761, section 4; RFC 3550, 6.4.1
+abbrev pub is_rtcp : List ℕ → Bool
+is_rtcp octets =
+    nat_le 2 (length octets)
+    && (slice_index octets 0 / 64 == 2
+    && (nat_le 200 (slice_index octets 1) && nat_le (slice_index octets 1) 204))
 
 -- what a datagram says as RTP, if it is such. RFC 3550, 5.1
 abbrev pub if_read : Result Rtp RtpFault → List Rtp
 if_read (Ok r) = r ∷ []
 if_read (Err f) = []
 
+abbrev pub said_by : List ℕ → List Rtp
+said_by octets = if is_rtcp octets then [] else if_read (rtp_walk octets)
+
 -- what datagrams say as RTP: those of them that are such, in their order
 abbrev pub rtp_said : List (List ℕ) → List Rtp
-rtp_said payloads = flat_map (λ octets. if_read (rtp_walk octets)) payloads
+rtp_said payloads = flat_map said_by payloads
 
--- how many are RTP, their payload types and their sources. RFC 3550, 5.1
+-- how many are RTP, how many RTCP, and the streams of RTP. RFC 3550, 5.1
 abbrev pub rtp_of : List (List ℕ) → RtpCount
 rtp_of payloads =
     record {
       datagrams = capped (length (rtp_said payloads));
-      payload_types = seen_of (map (λ r. r.payload_type) (rtp_said payloads));
-      sources = seen_of (map (λ r. r.ssrc) (rtp_said payloads));
+      rtcp = capped (count_by is_rtcp payloads);
+      streams = streams_of (rtp_said payloads);
     }
 
--- the first and the last of the times that are there
-abbrev pub first_time : List (Option ℕ) → Option ℕ
-first_time [] = None
-first_time (t ∷ times) = option_or t (first_time times)
-
-abbrev pub last_time : List (Option ℕ) → Option ℕ
-last_time [] = None
-last_time (t ∷ times) = option_or (last_time times) t
+-- the times that are there, and the least and the greatest of them
+abbrev pub known : List (Option ℕ) → List ℕ
+known times = filter_map (λ t. t) times
 
 abbrev pub times_of : List (Option ℕ) → Times
-times_of times = record { first = first_time times; last = last_time times }
+times_of times = record { first = lowest_of (known times); last = highest_of (known times) }
 
 -- what is counted of the datagrams to a destination
 abbrev pub count_of : SocketAddr → List Arrival → FlowCount

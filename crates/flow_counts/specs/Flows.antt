@@ -1,11 +1,12 @@
 -- Datagrams that arrived, and the flows among them.
-use Rattle.std.specs.Prelude.{ℕ, Bool, ◌==◌, ◌&&◌, not, List, [], ◌∷◌, Option, bytes_eq, map}
+use Rattle.std.specs.Prelude.{ℕ, Bool, ◌==◌, ◌&&◌, List, Option, bytes_eq, map}
 use Rattle.std.specs.List.{filter}
 use Rattle.std.specs.declared.net.ip_addr.IpAddr.{IpAddr}
 use Rattle.std.specs.declared.net.ip_addr.IpAddr.TheVariants.{V4, V6}
 use Rattle.std.specs.declared.net.socket_addr.SocketAddr.{SocketAddr}
 use Rattle.std.specs.Net.Addr.{ipv4_octets, ipv6_octets}
 use Rattle.std.specs.Net.Socket.{socket_ip, socket_port}
+use Rattle.stream_counts.specs.Tables.{different}
 use Rattle.flow_counts.specs.declared.noted.Noted.{Noted}
 
 -- A UDP datagram that arrived: when it was recorded, if that is known, where it was sent to, and its
@@ -35,11 +36,6 @@ is_same d e =
 -- the datagrams of a flow: those to its destination, in their order
 abbrev pub of_flow : SocketAddr → List Arrival → List Arrival
 of_flow d arrivals = filter (λ a. is_same d a.destination) arrivals
-
--- the different ones of a list, each where it comes first
-abbrev pub different : {X : Type 0} → (X → X → Bool) → List X → List X
-different same [] = []
-different same (x ∷ xs) = x ∷ filter (λ y. not (same y x)) (different same xs)
 
 -- the flows of datagrams: their destinations, in the order of their first coming
 abbrev pub flows_of : List Arrival → List SocketAddr

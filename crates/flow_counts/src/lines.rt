@@ -1,25 +1,27 @@
 //! What is counted of a flow, as text for a person.
-ghost use Rattle.std.specs.Prelude.{Some};
-ghost use Rattle.flow_counts.specs.Lines.{count_text, listed_text, moment_text, nine_digits};
-ghost use Rattle.flow_counts.specs.Lines.{others_text, rate_text, rtp_text, times_text, two_digits};
+ghost use Rattle.std.specs.Prelude.{◌≡◌, ◌<◌, Some};
+ghost use Rattle.flow_counts.specs.Lines.{count_text, moment_text, nine_digits, others_text};
+ghost use Rattle.flow_counts.specs.Lines.{rate_text, rtcp_text, stream_text, streams_text};
+ghost use Rattle.flow_counts.specs.Lines.{hundredths, hundredths_text, times_text, two_digits};
 
 use crate::count::FlowCount;
-use crate::rtp_count::RtpCount;
-use crate::seen::Seen;
+use crate::rtp_stream::RtpStream;
+use crate::streams::Streams;
 use crate::times::Times;
 use std::fmt;
 
-/// A flow in two to four lines, the last without an end of line:
+/// A flow in lines, the last without an end of line:
 ///
 /// ```text
 /// flow 239.20.0.1:5004
-///   datagrams 18000, octets 25920000, RTP 18000
-///   payload types 96; sources 439041101
+///   datagrams 18004, octets 25920112, RTP 18000, RTCP 4
+///   payload type 96, source 439041101: datagrams 18000, timestamps 900 to 89100
 ///   from 1732600000.000000000 to 1732600001.000000000, 207.36 Mbit/s
 /// ```
 ///
-/// The third line is there where a datagram reads as RTP, and the fourth where one has a time. A
-/// rate is told where the last time is behind the first.
+/// RTCP is told where a datagram is such. A line is there for each stream of RTP, and one that there
+/// are others where there are. The last one is there where a datagram has a time. A rate is told
+/// where the last time is behind the first.
 impl fmt::Display for FlowCount {
     ghost output = { λ c. Some (count_text c) };
 
@@ -28,45 +30,43 @@ impl fmt::Display for FlowCount {
         let datagrams = self.datagrams;
         let octets = self.octets;
         let rtp = self.rtp.datagrams;
-        let said = RtpLine(&self.rtp);
+        let rtcp = Rtcp(self.rtp.rtcp);
+        let streams = StreamLines(&self.rtp.streams);
         let times = TimesLine(self.times, octets);
         write!(
             f,
-            "flow {destination}\n  datagrams {datagrams}, octets {octets}, RTP {rtp}{said}{times}"
+            "flow {destination}\n  datagrams {datagrams}, octets {octets}, RTP {rtp}{rtcp}{streams}{times}"
         )
     }
 }
 
-/// The payload types and the sources, where a datagram reads as RTP.
+/// How many datagrams are of RTCP, where there are such.
 #[derive(Clone, Copy)]
-struct RtpLine<'a>(&'a RtpCount);
+struct Rtcp(u64);
 
-impl fmt::Display for RtpLine<'_> {
-    ghost output = { λ l. Some (rtp_text l.0.now) };
+impl fmt::Display for Rtcp {
+    ghost output = { λ r. Some (rtcp_text r.0) };
 
     fn fmt<W: fmt::Write>(&self, f: &mut fmt::Formatter<W>) -> fmt::Result {
-        let rtp = self.0;
-        if rtp.datagrams == 0 {
+        let count = self.0;
+        if count == 0 {
             return Ok(());
         }
-        let types = Listed(&rtp.payload_types);
-        let sources = Listed(&rtp.sources);
-        write!(f, "\n  payload types {types}; sources {sources}")
+        write!(f, ", RTCP {count}")
     }
 }
 
-/// The different values of a list, and whether there are others.
+/// A line for each stream, and one that there are others, where there are.
 #[derive(Clone, Copy)]
-struct Listed<'a>(&'a Seen);
+struct StreamLines<'a>(&'a Streams);
 
-impl fmt::Display for Listed<'_> {
-    ghost output = { λ l. Some (listed_text l.0.now) };
+impl fmt::Display for StreamLines<'_> {
+    ghost output = { λ l. Some (streams_text l.0.now) };
 
     fn fmt<W: fmt::Write>(&self, f: &mut fmt::Formatter<W>) -> fmt::Result {
-        let seen = self.0;
-        let values = Values(seen.values.as_slice());
-        let others = Others(seen.others);
-        write!(f, "{values}{others}")
+        let kept = EachStream(self.0.kept.as_slice());
+        let others = Others(self.0.others);
+        write!(f, "{kept}{others}")
     }
 }
 
@@ -79,34 +79,51 @@ impl fmt::Display for Others {
 
     fn fmt<W: fmt::Write>(&self, f: &mut fmt::Formatter<W>) -> fmt::Result {
         if self.0 {
-            f.write_str(" and others")
+            f.write_str("\n  and others")
         } else {
             Ok(())
         }
     }
 }
 
-/// Numbers with commas between.
+/// A line for each stream.
 #[derive(Clone, Copy)]
-struct Values<'a>(&'a [u32]);
+struct EachStream<'a>(&'a [RtpStream]);
 
-impl fmt::Display for Values<'_> {
-    ghost use Rattle.flow_counts.specs.Lines.{values_text};
+impl fmt::Display for EachStream<'_> {
+    ghost use Rattle.std.specs.List.{flat_map};
 
-    ghost output = { λ v. Some (values_text v.0.now) };
+    ghost output = { λ e. Some (flat_map stream_text e.0.now) };
 
     fn fmt<W: fmt::Write>(&self, f: &mut fmt::Formatter<W>) -> fmt::Result {
-        if let [first, rest @ ..] = self.0 {
-            write!(f, "{first}")?;
-            for value in rest {
-                write!(f, ", {value}")?;
-            }
+        for stream in self.0 {
+            write!(f, "{}", StreamLine(*stream))?;
         }
         Ok(())
     }
 }
 
-/// The first and the last time, where there are such, and the rate of so many octets between them.
+/// The line of a stream.
+#[derive(Clone, Copy)]
+struct StreamLine(RtpStream);
+
+impl fmt::Display for StreamLine {
+    ghost output = { λ l. Some (stream_text l.0) };
+
+    fn fmt<W: fmt::Write>(&self, f: &mut fmt::Formatter<W>) -> fmt::Result {
+        let payload_type = self.0.payload_type;
+        let source = self.0.ssrc;
+        let datagrams = self.0.datagrams;
+        let first = self.0.first;
+        let last = self.0.last;
+        write!(
+            f,
+            "\n  payload type {payload_type}, source {source}: datagrams {datagrams}, timestamps {first} to {last}"
+        )
+    }
+}
+
+/// The least and the greatest time, where there are such, and the rate of so many octets between them.
 #[derive(Clone, Copy)]
 struct TimesLine(Times, u64);
 
@@ -131,7 +148,7 @@ impl fmt::Display for TimesLine {
 
 /// A time in seconds since 1970, with nine digits behind the point.
 #[derive(Clone, Copy)]
-struct Moment(u64);
+pub(crate) struct Moment(pub u64);
 
 impl fmt::Display for Moment {
     ghost output = { λ m. Some (moment_text m.0) };
@@ -143,7 +160,8 @@ impl fmt::Display for Moment {
     }
 }
 
-/// How many octets came between two times, in nanoseconds, in Mbit/s, down to hundredths.
+/// How many octets came between two times, in nanoseconds, in Mbit/s, where the last is behind the
+/// first.
 #[derive(Clone, Copy)]
 struct Rate {
     octets: u64,
@@ -158,10 +176,30 @@ impl fmt::Display for Rate {
         if self.last <= self.first {
             return Ok(());
         }
-        let hundredths = u128::from(self.octets) * 800_000 / u128::from(self.last - self.first);
-        let whole = hundredths / 100;
-        let rest = Two((hundredths % 100) as u64);
-        write!(f, ", {whole}.{rest} Mbit/s")
+        let rate = Hundredths(rate_of(self.octets, self.last - self.first));
+        write!(f, ", {rate} Mbit/s")
+    }
+}
+
+/// So many octets in so many nanoseconds, in hundredths of Mbit/s, rounded down.
+pub(crate) fn rate_of(octets: u64, nanoseconds: u64) -> u128
+    requires { 0 < nanoseconds }
+    ensures { result ≡ hundredths octets nanoseconds }
+{
+    u128::from(octets) * 800_000 / u128::from(nanoseconds)
+}
+
+/// A number of hundredths, with two digits behind the point.
+#[derive(Clone, Copy)]
+pub(crate) struct Hundredths(pub u128);
+
+impl fmt::Display for Hundredths {
+    ghost output = { λ h. Some (hundredths_text h.0) };
+
+    fn fmt<W: fmt::Write>(&self, f: &mut fmt::Formatter<W>) -> fmt::Result {
+        let whole = self.0 / 100;
+        let rest = Two((self.0 % 100) as u64);
+        write!(f, "{whole}.{rest}")
     }
 }
 

@@ -1,20 +1,21 @@
 //! What the datagrams of a flow read as RTP.
 ghost use Rattle.std.specs.Prelude.{◌≡◌, ◌++◌, ◌∷◌, ℕ, List, []};
 ghost use Rattle.rtp_header.specs.Grammar.{Rtp};
-ghost use Rattle.flow_counts.specs.Counts.{rtp_said, rtp_of};
+ghost use Rattle.flow_counts.specs.Counts.{is_rtcp, rtp_said, rtp_of};
 
-use crate::seen::Seen;
+use crate::streams::Streams;
 use rtp_header::read_rtp;
 
-/// How many datagrams read as RTP (RFC 3550, 5.1), and what those say.
+/// How many datagrams read as RTP (RFC 3550, 5.1), and what those say. A count stays at 2^64 - 1
+/// once it is there.
 #[derive(Drop)]
 pub struct RtpCount {
-    /// How many. It stays at 2^64 - 1 once it is there.
+    /// How many read as RTP.
     pub datagrams: u64,
-    /// Their payload types.
-    pub payload_types: Seen,
-    /// Their synchronization sources (SSRC).
-    pub sources: Seen,
+    /// How many are of RTCP, none of which is among those.
+    pub rtcp: u64,
+    /// The streams of those that read as RTP.
+    pub streams: Streams,
 }
 
 impl RtpCount {
@@ -24,8 +25,8 @@ impl RtpCount {
     {
         RtpCount {
             datagrams: 0,
-            payload_types: Seen::new(),
-            sources: Seen::new(),
+            rtcp: 0,
+            streams: Streams::new(),
         }
     }
 
@@ -34,10 +35,26 @@ impl RtpCount {
         ensures { (all : List (List ℕ)) → self.old ≡ rtp_of all
             → self.new ≡ rtp_of (all ++ payload.now ∷ []) }
     {
-        if let Ok(rtp) = read_rtp(payload) {
-            self.datagrams = self.datagrams.saturating_add(1);
-            self.payload_types.note(u32::from(rtp.payload_type));
-            self.sources.note(rtp.ssrc);
+        if is_rtcp(payload) {
+            let rtcp = self.rtcp.saturating_add(1);
+            self.rtcp = rtcp;
+            return;
+        }
+        match read_rtp(payload) {
+            Ok(rtp) => {
+                let datagrams = self.datagrams.saturating_add(1);
+                self.datagrams = datagrams;
+                self.streams.note(&rtp);
+            }
+            Err(_) => {}
         }
     }
+}
+
+/// Whether a datagram on the port of a stream is of RTCP: version 2 and a packet type of 200 to 204
+/// (RFC 5761, 4).
+pub fn is_rtcp(datagram: &[u8]) -> bool
+    ensures { result ≡ is_rtcp datagram.now }
+{
+    datagram.len() >= 2 && datagram[0] / 64 == 2 && datagram[1] >= 200 && datagram[1] <= 204
 }

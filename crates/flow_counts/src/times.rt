@@ -1,9 +1,10 @@
 //! When the datagrams of a flow came.
-ghost use Rattle.std.specs.Prelude.{◌≡◌, ◌++◌, ◌∷◌, ℕ, List, [], Option};
+ghost use Rattle.std.specs.Prelude.{◌≡◌, ◌++◌, ◌∷◌, ℕ, List, [], Option, max, min};
+ghost use Rattle.std.specs.Option.{option_map_or};
 ghost use Rattle.flow_counts.specs.Counts.{times_of};
 
-/// The times of the first and of the last datagram that has one, as they stand in the recording, in
-/// nanoseconds since 1970. They rise, unless the recorder's clock was set back.
+/// The least and the greatest of the times of datagrams, of those that have one, in nanoseconds
+/// since 1970.
 #[derive(Clone, Copy, Debug, PartialEq, Eq)]
 pub struct Times {
     pub first: Option<u64>,
@@ -26,7 +27,34 @@ impl Times {
         ensures { (all : List (Option ℕ)) → self.old ≡ times_of all
             → self.new ≡ times_of (all ++ time ∷ []) }
     {
-        self.first = self.first.or(time);
-        self.last = time.or(self.last);
+        match time {
+            Some(moment) => {
+                let first = least(self.first, moment);
+                let last = greatest(self.last, moment);
+                self.first = Some(first);
+                self.last = Some(last);
+            }
+            None => {}
+        }
+    }
+}
+
+/// The lesser one of a time and the least before it, if there is one.
+fn least(lowest: Option<u64>, time: u64) -> u64
+    ensures { result ≡ option_map_or (λ l. min l time) lowest time }
+{
+    match lowest {
+        Some(lowest) => lowest.min(time),
+        None => time,
+    }
+}
+
+/// The greater one of a time and the greatest before it, if there is one.
+fn greatest(highest: Option<u64>, time: u64) -> u64
+    ensures { result ≡ option_map_or (λ h. max h time) highest time }
+{
+    match highest {
+        Some(highest) => highest.max(time),
+        None => time,
     }
 }

@@ -21,20 +21,21 @@ use Rattle.inspect_engine.specs.Inspected.{inspection_text}
 use Rattle.left_out_counts.specs.LeftOut.{left_out_of}
 use Rattle.left_out_counts.specs.declared.left_out.LeftOut.{LeftOut}
 use Rattle.inspect_engine.specs.Told.{Tells, room}
+use Rattle.inspect_engine.specs.declared.form.Form.{Form}
 use Rattle.inspect_engine.specs.declared.inspection.Inspection.{Inspection}
 
 -- what is printed of what was noted, from nothing on, is told of all packets
-pub tells_noted : {S A : Type 0} (told : S → List ℕ → Type 0) (recordings : List S) (cut : Bool)
+pub tells_noted : {S A : Type 0} (form : Form) (told : S → List ℕ → Type 0) (recordings : List S) (cut : Bool)
     (old new : Inspection A) (shown shown' : List ℕ) → old.flows ≡ flow_counts []
     → old.left_out ≡ left_out_of [] → NotesAll room told recordings cut old new
-    → shown' ≡ shown ++ inspection_text new.flows new.left_out
-    → Tells told recordings cut shown shown'
-tells_noted told recordings cut old new shown shown' counted reasons notes printed = record {
+    → shown' ≡ shown ++ inspection_text form new.flows new.left_out
+    → Tells form told recordings cut shown shown'
+tells_noted form told recordings cut old new shown shown' counted reasons notes printed = record {
   printed = λ octets read.
       let n = notes.noted octets read in
       printed
-      ∙ ap (λ (f : List FlowCount). shown ++ inspection_text f new.left_out) (n.flows [] counted)
-      ∙ ap (λ (l : LeftOut). shown ++ inspection_text (flow_counts (arrivals_of (flat_map (packets_in room) octets))) l)
+      ∙ ap (λ (f : List FlowCount). shown ++ inspection_text form f new.left_out) (n.flows [] counted)
+      ∙ ap (λ (l : LeftOut). shown ++ inspection_text form (flow_counts (arrivals_of (flat_map (packets_in room) octets))) l)
       (n.left_out [] reasons);
   ends = notes.ends;
   cuts = notes.cuts;

@@ -6,6 +6,7 @@ use Rattle.std.specs.List.{AllZip, flat_map, list_all, list_any}
 use Rattle.st_format.specs.History.{IsRead}
 use Rattle.flow_counts.specs.Counts.{flow_counts}
 use Rattle.flow_counts.specs.Flows.{Arrival}
+use Rattle.flow_counts.specs.Json.{count_json}
 use Rattle.flow_counts.specs.Lines.{count_text}
 use Rattle.pcap_file.specs.declared.fault.RecordingFault.{RecordingFault}
 use Rattle.pcap_file.specs.declared.fault.RecordingFault.TheVariants.{Truncated}
@@ -19,6 +20,8 @@ use Rattle.run_outcome.specs.declared.refusal.Refusal.{Refusal}
 use Rattle.run_outcome.specs.declared.refusal.Refusal.TheVariants.{Recording}
 use Rattle.left_out_counts.specs.declared.left_out.LeftOut.{LeftOut}
 use Rattle.left_out_counts.specs.declared.omission.Omission.{Omission}
+use Rattle.inspect_engine.specs.declared.form.Form.{Form}
+use Rattle.inspect_engine.specs.declared.form.Form.TheVariants.{Json, Lines}
 use Rattle.inspect_engine.specs.declared.inspection.Inspection.{Inspection}
 
 -- Packets were noted: the flows are then those of the datagrams before and of theirs, and so are
@@ -90,19 +93,47 @@ pub record NotesAll {S A : Type 0} (room : ℕ) (told : S → List ℕ → Type 
   pub cuts : (octets : List (List ℕ)) → AllZip told recordings octets
       → cut ≡ list_any (λ o. is_cut (fault_in room o)) octets
 
--- what is told of flows and of packets left out: each flow's lines, how many flows there are, and
--- a line for each reason
-abbrev pub count_lines : FlowCount → List ℕ
-count_lines c = count_text c ++ codes "\n"
+-- what is told of a flow, and of how many flows there are and of packets left out: lines for a
+-- person, or objects of JSON (RFC 8259)
+abbrev pub count_told : Form → FlowCount → List ℕ
+count_told Lines c = count_text c
+count_told Json c = count_json c
 
 abbrev pub end_text : ℕ → LeftOut → List ℕ
 end_text flows l = codes "flows " ++ (decimal flows ++ left_out_text l)
 
-abbrev pub end_lines : List FlowCount → LeftOut → List ℕ
-end_lines counts l = end_text (length counts) l ++ codes "\n"
+abbrev pub first_reasons_json : LeftOut → List ℕ
+first_reasons_json l =
+    codes "\"CutShort\":" ++ (decimal l.cut_short
+    ++ (codes ",\"NotIp\":" ++ (decimal l.not_ip
+    ++ (codes ",\"BadIpHeader\":" ++ decimal l.bad_ip_header))))
 
-abbrev pub inspection_text : List FlowCount → LeftOut → List ℕ
-inspection_text counts l = flat_map count_lines counts ++ end_lines counts l
+abbrev pub left_out_json : LeftOut → List ℕ
+left_out_json l =
+    codes "{" ++ (first_reasons_json l
+    ++ (codes ",\"NotUdp\":" ++ (decimal l.not_udp
+    ++ (codes ",\"Fragment\":" ++ (decimal l.fragment
+    ++ (codes ",\"BadUdpLength\":" ++ (decimal l.bad_udp_length ++ codes "}")))))))
+
+abbrev pub end_json : ℕ → LeftOut → List ℕ
+end_json flows l =
+    codes "{\"flows\":" ++ (decimal flows
+    ++ (codes ",\"left_out\":" ++ (left_out_json l ++ codes "}")))
+
+abbrev pub end_told : Form → ℕ → LeftOut → List ℕ
+end_told Lines flows l = end_text flows l
+end_told Json flows l = end_json flows l
+
+-- what is told of flows and of packets left out: of each flow, and then how many flows there are
+-- and how many packets are left out, by the reason
+abbrev pub count_lines : Form → FlowCount → List ℕ
+count_lines form c = count_told form c ++ codes "\n"
+
+abbrev pub end_lines : Form → List FlowCount → LeftOut → List ℕ
+end_lines form counts l = end_told form (length counts) l ++ codes "\n"
+
+abbrev pub inspection_text : Form → List FlowCount → LeftOut → List ℕ
+inspection_text form counts l = flat_map (count_lines form) counts ++ end_lines form counts l
 
 -- the refusal of a recording that was read: its first fault, which isn't that it was cut short
 abbrev pub IsFaultOf : ℕ → (List ℕ → Type 0) → Refusal → Type 0

@@ -9,6 +9,7 @@ use Rattle.run_outcome.specs.declared.refusal.Refusal.{Refusal}
 use Rattle.run_outcome.specs.declared.refusal.Refusal.TheVariants.{Recording}
 use Rattle.inspect_engine.specs.Arrivals.{arrivals_of, omissions_of}
 use Rattle.inspect_engine.specs.Inspected.{IsFaultOf, inspection_text, is_cut, is_told}
+use Rattle.inspect_engine.specs.declared.form.Form.{Form}
 use Rattle.left_out_counts.specs.LeftOut.{left_out_of}
 
 -- the octets of a packet or a block that there is room for
@@ -16,16 +17,16 @@ abbrev pub room : ℕ
 room = 1048576
 
 -- what is told of packets: their flows, and the packets without a datagram
-abbrev pub told_text : List Recorded → List ℕ
-told_text packets =
-    inspection_text (flow_counts (arrivals_of packets)) (left_out_of (omissions_of packets))
+abbrev pub told_text : Form → List Recorded → List ℕ
+told_text form packets =
+    inspection_text form (flow_counts (arrivals_of packets)) (left_out_of (omissions_of packets))
 
 -- What was printed is what is told of all packets of the octets that were read, one recording's
 -- behind the other's; each ended, or was cut short; and whether one was.
-pub record Tells {S : Type 0} (told : S → List ℕ → Type 0) (recordings : List S) (cut : Bool)
-    (shown shown' : List ℕ) : Type 0 where
+pub record Tells {S : Type 0} (form : Form) (told : S → List ℕ → Type 0) (recordings : List S)
+    (cut : Bool) (shown shown' : List ℕ) : Type 0 where
   pub printed : (octets : List (List ℕ)) → AllZip told recordings octets
-      → shown' ≡ shown ++ told_text (flat_map (packets_in room) octets)
+      → shown' ≡ shown ++ told_text form (flat_map (packets_in room) octets)
   pub ends : (octets : List (List ℕ)) → AllZip told recordings octets
       → list_all (λ o. is_told (fault_in room o)) octets ≡ true
   pub cuts : (octets : List (List ℕ)) → AllZip told recordings octets
@@ -33,8 +34,8 @@ pub record Tells {S : Type 0} (told : S → List ℕ → Type 0) (recordings : L
 
 -- The refusals of `inspect`: that a recording was cut short, and then all was printed; the fault of
 -- a recording, and then nothing was.
-abbrev pub IsInspectRefusal : {S : Type 0} → (S → List ℕ → Type 0) → List S → List ℕ → List ℕ
-    → Refusal → Type 0
-IsInspectRefusal told recordings shown shown' r =
-    ((r ≡ Recording Truncated) × Tells told recordings true shown shown')
+abbrev pub IsInspectRefusal : {S : Type 0} → Form → (S → List ℕ → Type 0) → List S → List ℕ
+    → List ℕ → Refusal → Type 0
+IsInspectRefusal form told recordings shown shown' r =
+    ((r ≡ Recording Truncated) × Tells form told recordings true shown shown')
     ⊎ ((shown' ≡ shown) × Any (λ z. IsFaultOf room (told z) r) recordings)

@@ -7,6 +7,7 @@ ghost use Rattle.run_outcome.specs.Moments.{WasRead};
 ghost use Rattle.run_outcome.specs.Refusing.{OfRefusal};
 ghost use Rattle.inspect_engine.specs.Told.{IsInspectRefusal, Tells};
 
+use crate::form::Form;
 use crate::inspection::Inspection;
 use crate::printing::print_inspection;
 use crate::recordings::note_recordings;
@@ -26,8 +27,8 @@ fn room<A: Allocator>(alloc: A) -> Result<Vec<u8, A>, AllocError>
 }
 
 /// Prints which flows of UDP recordings have, in the order in which they first came: of each the
-/// datagrams, octets, payload types, sources and times. Then how many flows there are, and how many
-/// packets have no datagram, by the reason.
+/// datagrams, octets, streams of RTP and times. Then how many flows there are, and how many packets
+/// have no datagram, by the reason.
 ///
 /// Each recording is read once, one after the other.
 ///
@@ -36,15 +37,20 @@ fn room<A: Allocator>(alloc: A) -> Result<Vec<u8, A>, AllocError>
 /// The refusal of the first recording that has a fault but `Truncated`, and then nothing is
 /// printed. Where some were only cut short all is printed that was read, and `Truncated` is the
 /// refusal. Else that a device failed, or that memory was wanted.
-pub fn inspect<A, S, O>(alloc: A, recordings: &mut [S], output: &mut O) -> Result<(), Fault>
+pub fn inspect<A, S, O>(
+    alloc: A,
+    recordings: &mut [S],
+    form: Form,
+    output: &mut O,
+) -> Result<(), Fault>
 where
     A: Allocator + Copy,
     S: ByteSource,
     O: ByteSink,
     ensures len { length recordings.new ≡ length recordings.old }
-    ensures told { OnOk result (Tells (WasRead S.gave S.ended)
+    ensures told { OnOk result (Tells form (WasRead S.gave S.ended)
         (zip recordings.old recordings.new) false (O.took output.old) (O.took output.new)) }
-    ensures refusal { IfErr result (λ f. OfRefusal f (IsInspectRefusal (WasRead S.gave S.ended)
+    ensures refusal { IfErr result (λ f. OfRefusal f (IsInspectRefusal form (WasRead S.gave S.ended)
         (zip recordings.old recordings.new) (O.took output.old) (O.took output.new))) }
     ensures failures { Accounts result (counts (sum_by S.failures recordings.old)
         (sum_by S.failures recordings.new) ∷ counts (O.failures output.old) (O.failures output.new)
@@ -53,7 +59,7 @@ where
     let mut inspection = Inspection::new(alloc);
     let mut buf = room(alloc)?;
     let is_cut = note_recordings(&mut inspection, recordings, &mut buf)?;
-    print_inspection(&inspection, output)?;
+    print_inspection(&inspection, form, output)?;
     if is_cut {
         return Err(Fault::Refused(Refusal::Recording(RecordingFault::Truncated)));
     }

@@ -2,12 +2,14 @@
 #![tactic(auto)]
 
 mod destination;
+mod form;
 mod inspecting;
 mod inspection;
 mod printing;
 mod recording;
 mod recordings;
 
+pub use form::Form;
 pub use inspecting::inspect;
 pub use inspection::Inspection;
 pub use printing::print_inspection;

@@ -4,7 +4,7 @@ use crate::engines::{Run, sink, source};
 use crate::export::RECORDING;
 use crate::import::OTHER;
 use crate::written::envelope_to;
-use inspect_engine::{Inspection, inspect, note_recording};
+use inspect_engine::{Form, Inspection, inspect, note_recording};
 use pcap_file::{Envelope, RecordingFault, write_pcap_head, write_record};
 use run_outcome::{Fault, Refusal};
 use std::alloc::{AllocError, Allocator, Global};
@@ -18,26 +18,47 @@ const LINES: &[u8] = b"flow 239.1.1.1:5004\n  datagrams 1, octets 2, RTP 0\n  \
     from 0.000005000 to 0.000005000\n\
     flows 2\nleft out 1 NotUdp\n";
 
+/// The same as objects of JSON.
+const OBJECTS: &[u8] =
+    b"{\"flow\":\"239.1.1.1:5004\",\"datagrams\":1,\"octets\":2,\"rtp\":0,\"rtcp\":0,\
+    \"streams\":[],\"other_streams\":false,\
+    \"first\":1.000000001,\"last\":1.000000001,\"mbit_per_second\":null}\n\
+    {\"flow\":\"192.0.2.2:5006\",\"datagrams\":1,\"octets\":3,\"rtp\":0,\"rtcp\":0,\
+    \"streams\":[],\"other_streams\":false,\
+    \"first\":0.000005000,\"last\":0.000005000,\"mbit_per_second\":null}\n\
+    {\"flows\":2,\"left_out\":{\"CutShort\":0,\"NotIp\":0,\"BadIpHeader\":0,\"NotUdp\":1,\
+    \"Fragment\":0,\"BadUdpLength\":0}}\n";
+
 /// Two recordings, of which the second has only so many octets: whether it is cut short then, and
-/// what is told is this.
-fn is_told(alloc: Global, octets: usize, is_cut: bool, lines: &[u8]) -> Result<bool, AllocError> {
+/// what is told in this form is this.
+fn is_told(
+    alloc: Global,
+    octets: usize,
+    is_cut: bool,
+    form: Form,
+    told: &[u8],
+) -> Result<bool, AllocError> {
     let other = &OTHER[..octets.min(OTHER.len())];
     let mut recordings = [source(alloc, RECORDING)?, source(alloc, other)?];
     let mut printed = sink(alloc)?;
-    let ended = match inspect(alloc, &mut recordings, &mut printed) {
+    let ended = match inspect(alloc, &mut recordings, form, &mut printed) {
         Ok(()) => !is_cut,
         Err(Fault::Refused(Refusal::Recording(RecordingFault::Truncated))) => is_cut,
         Err(_) => false,
     };
-    Ok(ended && printed.held() == lines)
+    Ok(ended && printed.held() == told)
 }
 
 /// A recording is told as far as it goes.
 #[test]
 fn flows_of_two(rt: HostRuntime) -> Result<(), Fail> {
-    met(&rt, is_told(rt.alloc(), 107, false, LINES)?);
-    let without_last = LINES.len().saturating_sub(18);
-    met(&rt, is_told(rt.alloc(), 106, true, &LINES[..without_last])?);
+    met(&rt, is_told(rt.alloc(), 107, false, Form::Lines, LINES)?);
+    let without_last = &LINES[..LINES.len().saturating_sub(18)];
+    met(
+        &rt,
+        is_told(rt.alloc(), 106, true, Form::Lines, without_last)?,
+    );
+    met(&rt, is_told(rt.alloc(), 107, false, Form::Json, OBJECTS)?);
     Ok(())
 }
 
@@ -95,7 +116,7 @@ fn lines_of_many(global: Global) -> Result<String, AllocError> {
 pub fn are_told<A: Allocator + Copy>(global: Global, alloc: A) -> Result<Option<bool>, AllocError> {
     let mut recordings = [source(global, &many(global)?)?];
     let mut printed = sink(global)?;
-    let outcome = inspect(alloc, &mut recordings, &mut printed);
+    let outcome = inspect(alloc, &mut recordings, Form::Lines, &mut printed);
     let run = Run {
         outcome,
         written: sink(global)?,

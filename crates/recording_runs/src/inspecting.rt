@@ -1,5 +1,5 @@
 //! `inspect` over the devices of this machine.
-ghost use Rattle.std.specs.Prelude.{◌≡◌, ◌∷◌, [], All, IfOk, false, sum_by};
+ghost use Rattle.std.specs.Prelude.{◌≡◌, ◌∷◌, [], All, IfOk, false, if◌then◌else◌, sum_by};
 ghost use Rattle.std.specs.List.{zip};
 ghost use Rattle.devices.specs.Passed.{file_ended, file_failures, file_gave};
 ghost use Rattle.devices.specs.Passed.{output_failures, output_took};
@@ -8,7 +8,9 @@ ghost use Rattle.run_outcome.specs.Fault.{Accounts, counts};
 ghost use Rattle.run_outcome.specs.Moments.{WasRead};
 
 use command_end::{Command, Devices, Hints, Ran};
+use command_line::InspectWords;
 use devices::{FileSource, OutputSink, given_files, last_begun};
+use inspect_engine::Form;
 use std::alloc::AllocError;
 use std::io::Stdout;
 
@@ -16,22 +18,32 @@ use std::io::Stdout;
 #[derive(Drop)]
 pub struct InspectCommand<'a> {
     rt: &'a HostRuntime,
+    /// How it is told.
+    pub form: Form,
     pub recordings: Vec<FileSource<'a>>,
     pub output: OutputSink<Stdout>,
 }
 
 impl<'a> InspectCommand<'a> {
-    /// The command for files of these names, of which nothing is done yet, or that there is no
-    /// memory for their list.
-    pub fn new(rt: &'a HostRuntime, names: &[&'a str]) -> Result<Self, AllocError>
+    /// The command for these words, of whose files nothing is done yet, or that there is no memory
+    /// for their list.
+    pub fn new(rt: &'a HostRuntime, words: &InspectWords<'a>) -> Result<Self, AllocError>
         ensures { IfOk result ⟦<InspectCommand<'a> as Command>⟧.is_new }
     {
         Ok(InspectCommand {
             rt,
-            recordings: given_files(rt, names)?,
+            form: form_of(words.is_json),
+            recordings: given_files(rt, words.recordings.as_slice())?,
             output: OutputSink::new(rt.stdout()),
         })
     }
+}
+
+/// The form that is asked for.
+fn form_of(is_json: bool) -> Form
+    ensures { result ≡ (if is_json then Form.Json else Form.Lines) }
+{
+    if is_json { Form::Json } else { Form::Lines }
 }
 
 impl<'a> Command for InspectCommand<'a> {
@@ -39,11 +51,11 @@ impl<'a> Command for InspectCommand<'a> {
         × (output_took c.output ≡ []) };
 
     // What is printed are the flows of the recordings that were read.
-    ghost does = { λ old new. Tells (WasRead file_gave file_ended)
+    ghost does = { λ old new. Tells old.form (WasRead file_gave file_ended)
         (zip old.recordings.items new.recordings.items) false
         (output_took old.output) (output_took new.output) };
 
-    ghost is_refused = { λ old new. IsInspectRefusal (WasRead file_gave file_ended)
+    ghost is_refused = { λ old new. IsInspectRefusal old.form (WasRead file_gave file_ended)
         (zip old.recordings.items new.recordings.items)
         (output_took old.output) (output_took new.output) };
 
@@ -56,6 +68,7 @@ impl<'a> Command for InspectCommand<'a> {
         let outcome = inspect_engine::inspect(
             self.rt.alloc(),
             self.recordings.as_mut_slice(),
+            self.form,
             &mut self.output,
         );
         Ran {

@@ -11,6 +11,7 @@ ghost use Rattle.st_format.specs.Device.{CountsFaults};
 
 use command_end::{Command, Devices, Hints, Ran};
 use devices::{FileSource, OutputSink, Stream, last_begun};
+use inspect_engine::Form;
 use run_outcome::Fault;
 use st_format::{DeviceFault, write_whole};
 use std::alloc::AllocError;
@@ -65,6 +66,7 @@ impl<'a> FlowsCommand<'a> {
         inspect_engine::inspect(
             self.rt.alloc(),
             self.recordings.as_mut_slice(),
+            Form::Lines,
             &mut self.output,
         )
     }

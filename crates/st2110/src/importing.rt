@@ -45,7 +45,7 @@ fn record<'a>(
 
 /// Tells how many packets were left out, by the reason. That standard error may fail changes
 /// nothing.
-fn tell_left_out(rt: &HostRuntime, left_out: &LeftOut) {
+pub(crate) fn tell_left_out(rt: &HostRuntime, left_out: &LeftOut) {
     for (omission, count) in left_out.each() {
         if count > 0 {
             let _ = eprintln!(rt; "  left out {count} {}", omission.name());

@@ -62,16 +62,14 @@ fn follow(rt: &HostRuntime, given: &Given<'_>) -> u8 {
             run_command(rt, explains, MigrateCommand::new(rt, words)).status
         }
         Words::Send(words) => send(rt, words, explains),
-        Words::Receive(words) => receive(rt, words, explains),
+        Words::Receive(words) => receive(rt, words, explains, given.is_verbose),
         Words::Merge(words) => run_made(rt, explains, MergeCommand::new(rt, words)),
         Words::Process(words) => run_made(rt, explains, ProcessCommand::new(rt, words)),
         Words::Report(state) => run_command(rt, explains, ReportCommand::new(rt, state)).status,
         Words::Loop(words) => run_command(rt, explains, LoopCommand::new(rt, words)).status,
         Words::Import(words) => import(rt, words, explains, given.is_verbose),
         Words::Export(words) => export(rt, words, explains),
-        Words::Inspect(recordings) => {
-            run_made(rt, explains, InspectCommand::new(rt, recordings.as_slice()))
-        }
+        Words::Inspect(words) => run_made(rt, explains, InspectCommand::new(rt, words)),
     }
 }
 

@@ -1,4 +1,5 @@
 //! `receive`, and what it tells where little or nothing was kept.
+use crate::importing::tell_left_out;
 use crate::run_made;
 use capture_engines::{Reception, Tally, refusal_at};
 use capture_runs::{Files, ReceiveCommand};
@@ -15,15 +16,16 @@ use std::fmt;
 const NAMED: usize = 3;
 
 /// Takes the datagrams of captures and recordings into one receiver, and answers the exit status.
-/// Where none was kept, or more came to nothing than were kept, one line more says so and why; and
-/// where a flow was asked for of which no datagram came, standard error is told the flows that the
-/// recordings have. That this may fail changes nothing.
-pub fn receive(rt: &HostRuntime, words: &ReceiveWords<'_>, explains: bool) -> u8 {
+/// Where none was kept, or more came to nothing than were kept, one line more says so and why; else
+/// packets that were left out are told by the reason where that is asked for. Where a flow was asked
+/// for of which no datagram came, standard error is told the flows that the recordings have. That
+/// this may fail changes nothing.
+pub fn receive(rt: &HostRuntime, words: &ReceiveWords<'_>, explains: bool, is_verbose: bool) -> u8 {
     let ended = run_command(rt, explains, ReceiveCommand::new(rt, words));
     let files = &ended.command.files;
     let seen = files.seen();
     if let Some(reception) = &ended.command.reception {
-        tell_lost(rt, reception, &seen);
+        tell_lost(rt, reception, &seen, is_verbose);
         if ended.status == 0 && seen.lacks_flow() {
             tell_flows(rt, words, files, explains);
         }
@@ -59,8 +61,9 @@ fn recordings<'a>(
 }
 
 /// Says how many datagrams were kept and what became of the others, where none was kept or more
-/// came to nothing. That standard error may fail changes nothing.
-fn tell_lost(rt: &HostRuntime, reception: &Reception, seen: &Seen) {
+/// came to nothing; else, where that is asked for, how many packets were left out, by the reason.
+/// That standard error may fail changes nothing.
+fn tell_lost(rt: &HostRuntime, reception: &Reception, seen: &Seen, is_verbose: bool) {
     let lost = Lost {
         delivered: reception.delivered,
         tally: &reception.tally,
@@ -68,6 +71,8 @@ fn tell_lost(rt: &HostRuntime, reception: &Reception, seen: &Seen) {
     };
     if lost.is_told() {
         let _ = eprintln!(rt; "{lost}");
+    } else if is_verbose {
+        tell_left_out(rt, &seen.left_out);
     }
 }
 
@@ -115,7 +120,7 @@ impl fmt::Display for Lost<'_> {
         let left_out = self.left_out.total();
         if left_out > 0 {
             write!(f, "; left out {left_out} packets")?;
-            tell_left_out(self.left_out, f)?;
+            name_left_out(self.left_out, f)?;
         }
         Ok(())
     }
@@ -154,7 +159,7 @@ fn most_frequent(tally: &Tally, told: &[bool; 14]) -> usize {
 }
 
 /// Says of each reason for which packets were left out how many were. There is one.
-fn tell_left_out<W: fmt::Write>(left_out: &LeftOut, f: &mut fmt::Formatter<W>) -> fmt::Result {
+fn name_left_out<W: fmt::Write>(left_out: &LeftOut, f: &mut fmt::Formatter<W>) -> fmt::Result {
     let mut between = " (";
     for (omission, count) in left_out.each() {
         if count > 0 {

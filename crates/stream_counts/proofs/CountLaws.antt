@@ -67,7 +67,7 @@ pub highest_more : (ns : List ℕ) (n : ℕ)
     → highest_of (ns ++ n ∷ []) ≡ Some (option_map_or (λ h. max h n) (highest_of ns) n)
 highest_more ns n = joined_more max max_assoc ns n
 
-lowest_more : (ns : List ℕ) (n : ℕ)
+pub lowest_more : (ns : List ℕ) (n : ℕ)
     → lowest_of (ns ++ n ∷ []) ≡ Some (option_map_or (λ l. min l n) (lowest_of ns) n)
 lowest_more ns n = joined_more min min_assoc ns n
 

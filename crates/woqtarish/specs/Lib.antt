@@ -117,8 +117,14 @@ pub use Rattle.recording_reader.specs.Reader as RecordingReader
 pub use Rattle.recording_reader.specs.Records as RecordingRecords
 pub use Rattle.flow_counts.specs.Counts as FlowCounts
 pub use Rattle.flow_counts.specs.Flows
+pub use Rattle.flow_counts.specs.Json as FlowJson
 pub use Rattle.flow_counts.specs.Lines as FlowLines
 pub use Rattle.flow_counts.specs.Places as FlowPlaces
+pub use Rattle.flow_counts.specs.Streams as FlowStreams
+pub use Rattle.stream_counts.specs.Numbering as StreamNumbers
+pub use Rattle.stream_counts.specs.Streams as StreamKeys
+pub use Rattle.stream_counts.specs.Tables as StreamTables
+pub use Rattle.stream_counts.specs.Timestamps as StreamTimestamps
 pub use Rattle.frame_report.specs.Contested
 pub use Rattle.frame_report.specs.Faults as ReportFaults
 pub use Rattle.frame_report.specs.Missing as ReportMissing

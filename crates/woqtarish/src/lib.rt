@@ -122,7 +122,10 @@ pub mod recordings {
 
 /// Which flows of UDP datagrams have, and that as text.
 pub mod flows {
-    pub use flow_counts::{FlowCount, FlowTable, MOST_SEEN, Noted, RtpCount, Seen, Times};
+    pub use flow_counts::{
+        CountJson, FlowCount, FlowTable, MOST_STREAMS, Noted, RtpCount, RtpStream, Streams, Times,
+        is_rtcp,
+    };
 }
 
 /// A receiver's report as text.

@@ -30,7 +30,7 @@ returns-then-is_cut-clause-refusal g c =
     let new = c.note_recordings.new.inspection in
     inl (
       refl,
-      tells_noted told pairs _ old new _ _ c.new-inspection.ensures.flows
+      tells_noted c.args.form told pairs _ old new _ _ c.new-inspection.ensures.flows
           c.new-inspection.ensures.left_out
           (subst (λ (b : Bool). NotesAll room told pairs b old new) c.if-is_cut.true
           (subst (λ (n : ℕ). NotesAll n told pairs c.in_ok-is_cut.is_cut old new) same
@@ -44,7 +44,7 @@ returns-clause-told g c =
     let same : length c.deref_mut.result.now ≡ room = c.deref_mut.ensures.len ∙ c.in_ok-buf.ensures in
     let old = c.new-inspection.result in
     let new = c.note_recordings.new.inspection in
-    tells_noted told pairs _ old new _ _ c.new-inspection.ensures.flows
+    tells_noted c.args.form told pairs _ old new _ _ c.new-inspection.ensures.flows
     c.new-inspection.ensures.left_out
     (subst (λ (b : Bool). NotesAll room told pairs b old new) c.if-is_cut.false
     (subst (λ (n : ℕ). NotesAll n told pairs c.in_ok-is_cut.is_cut old new) same

@@ -10,5 +10,5 @@ pub record Printing (so_far count : Type 0) : Type 0 where
 abbrev pub invariant-loop-count : goal.invariant-loop-count
 invariant-loop-count g l = Printing
     (g.O.ByteSink.took l.output ≡ g.O.ByteSink.took l.initial.output
-    ++ texts_before count_lines l.flows l.count-index)
+    ++ texts_before (count_lines l.form) l.flows l.count-index)
     (g.O.ByteSink.failures l.output ≡ g.O.ByteSink.failures l.initial.output)
