@@ -5,7 +5,7 @@ set -u
 usage='usage: tests/interop.sh [FOLDER [PROGRAM]]
 
 Writes the recordings and what tshark says of them into FOLDER, or a temporary one, and runs the cases of
-tests/program/recordings.sh on them, by PROGRAM or ./st2110. Then what `export` writes is read by tshark. Nothing is sent but
+the parts import and export of tests/program on them, by PROGRAM or ./st2110. Then what `export` writes is read by tshark. Nothing is sent but
 within a network that is made for it.'
 root=$(CDPATH='' cd -- "$(dirname -- "$0")/.." && pwd) || exit 125
 case ${1-} in
@@ -63,7 +63,7 @@ echo "recorded: $(find "$folder" -name '*.pcap*' | wc -l) files in $folder"
 # The cases, with the new recordings in place of the old.
 passed=0
 failed=0
-RECORDINGS=$folder "$root/tests/program.sh" "$program" recordings >"$room/cases"
+RECORDINGS=$folder "$root/tests/program.sh" "$program" "import export" >"$room/cases"
 grep -v '^passed: ' "$room/cases" | sed '$d'
 counts=$(tail -n 1 "$room/cases")
 passed=${counts%% passed*}

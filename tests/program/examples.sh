@@ -34,3 +34,13 @@ for file in "$root"/examples/*; do
         fail "$name" 'no test runs it'
     fi
 done
+
+# Nor does a recording: each has a test.
+for file in "$recordings"/*.pcap*; do
+    name=${file##*/}
+    if grep -q -w -F -e "${name%%.*}" "$root/tests/program/import.sh" "$root/tests/program/inspect.sh"; then
+        pass "$name is in a test"
+    else
+        fail "$name" 'no test runs it'
+    fi
+done
