@@ -4,9 +4,9 @@
 set -u
 usage='usage: tests/interop.sh [FOLDER [PROGRAM]]
 
-Writes the recordings and what tshark says of them into FOLDER, or a temporary one, and runs the cases of
-the parts import and export of tests/program on them, by PROGRAM or ./st2110. Then what `export` writes is read by tshark. Nothing is sent but
-within a network that is made for it.'
+Writes the recordings and what tshark says of them into FOLDER, or a temporary one, and runs the cases of tests/program/import.sh
+and export.sh on them, by PROGRAM or ./st2110. Then what `export` writes is read by tshark. Nothing is sent but within a network
+that is made for it.'
 root=$(CDPATH='' cd -- "$(dirname -- "$0")/.." && pwd) || exit 125
 case ${1-} in
     -h | --help)
