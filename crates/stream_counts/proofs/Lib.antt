@@ -1,7 +1,7 @@
 mod RunLaws
 mod CountLaws
 mod Different
-mod Tables
-mod Keys
+pub mod Tables
+pub mod Keys
 mod BothLaws
 mod StreamLaws
