@@ -30,4 +30,6 @@ mod pcap;
 #[cfg(test)]
 mod recordings;
 #[cfg(test)]
+mod streams;
+#[cfg(test)]
 mod written;
