@@ -8,7 +8,8 @@ use Rattle.media_file.specs.Records.{Entry}
 use Rattle.rtp_header.specs.Grammar.{Rtp}
 use Rattle.rtp_header.specs.Reading.{rtp_walk}
 use Rattle.rtp_header.specs.declared.header.RtpFault.{RtpFault}
-use Rattle.path_merge.specs.Admission.{datagram_walk}
+use Rattle.path_merge.specs.Admission.{by_payload, datagram_walk, datagram_with, header_for}
+use Rattle.payload_header.specs.Reading.{payload_walk}
 use Rattle.path_merge.specs.declared.answer.Refusal.{Refusal}
 use Rattle.path_merge.specs.declared.answer.Taken.{Taken}
 use Rattle.path_merge.specs.declared.answer.Taken.TheVariants.{Kept}
@@ -59,6 +60,14 @@ packet_by t path (Err fault) = None
 abbrev pub answer_at : Target → List ℕ → Result Taken Refusal
 answer_at t octets =
     datagram_walk t.format t.payload_type None octets >>= λ d. Ok (Kept d.number)
+
+-- the same of a header that was read
+abbrev pub answer_by : Target → Rtp → Result Taken Refusal
+answer_by t rtp =
+    (header_for t.payload_type None rtp
+    >>= λ own. by_payload (payload_walk t.format own.payload)
+    >>= λ payload. Ok (datagram_with own payload))
+    >>= λ d. Ok (Kept d.number)
 
 pub record Looks (t : Target) (path : Path) (octets : List ℕ) (look : Look) : Type 0 where
   pub answer : look.answer ≡ answer_at t octets

@@ -47,9 +47,9 @@ pub record NotesPacket {A : Type 0} (t : Target) (a : Arrival) (old new : Inspec
   where
     pub streams : (ps : List Packet) → old.streams ≡ streams_of ps
         → new.streams ≡ streams_of (ps ++ a.packet ∷ [])
-    pub timestamps : (as : List Arrival) → old.timestamps ≡ timestamps_of (packets as)
-        → new.timestamps ≡ timestamps_of (packets (as ++ video_in t a))
-    pub probes : (as : List Arrival) → AreProbes old.probes as
-        → AreProbes new.probes (as ++ video_in t a)
+    pub timestamps : (arrivals : List Arrival) → old.timestamps ≡ timestamps_of (packets arrivals)
+        → new.timestamps ≡ timestamps_of (packets (arrivals ++ video_in t a))
+    pub probes : (arrivals : List Arrival) → AreProbes old.probes arrivals
+        → AreProbes new.probes (arrivals ++ video_in t a)
     pub tally : new.tally ≡ old.tally
     pub controls : new.controls ≡ old.controls

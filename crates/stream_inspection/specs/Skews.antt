@@ -23,7 +23,7 @@ first_known None moment = if moment == 0 then None else Some moment
 -- the first moment of packets that is known, behind what is known
 abbrev pub moment_after : Option ℕ → List Arrival → Option ℕ
 moment_after known [] = known
-moment_after known (a ∷ as) = moment_after (first_known known a.moment) as
+moment_after known (a ∷ later) = moment_after (first_known known a.moment) later
 
 -- the packets with this number that came by A, and by B
 abbrev pub by_a_with : ℕ → Arrival → Bool

@@ -59,14 +59,14 @@ told_text form payload_type video streams counts sorted refused controls =
 
 -- The text of records, by what is looked for: of the streams of all packets; of the timestamps of
 -- those with the payload type, and their skews in order; and of what a receiver answers.
-pub record IsText {A : Type 0} (form : Form) (t : Target) (records : List Entry) (text : List ℕ)
+pub record IsText (form : Form) (t : Target) (records : List Entry) (text : List ℕ)
     : Type 0 where
   pub sorted : List ℕ
   pub ordered : IsOrderOf sorted
       (skews_in (video_of t records) (timestamps_of (packets (video_of t records))))
   pub tally : Tally
   pub answers : Tallies tally (answers_of t records)
-  pub is : text ≡ told_text {A} form t.payload_type (video_of t records)
+  pub is : text ≡ told_text {Unit {0}} form t.payload_type (video_of t records)
       (streams_of (packets (arrivals_of t records)))
       (timestamps_of (packets (video_of t records))) sorted tally.refused (controls_of records)
 
@@ -78,7 +78,7 @@ pub record Tells {S : Type 0} (w : Wanted) (form : Form) (told : S → List ℕ 
     pub printed : (octets : List (List ℕ)) → AllZip told captures octets
         → (t : Target) × IsTarget w told sdp octets t
         × (records : List Entry) × HaveRecords octets records end
-        × (text : List ℕ) × IsText {A = Unit {0}} form t records text × (shown' ≡ shown ++ text)
+        × (text : List ℕ) × IsText form t records text × (shown' ≡ shown ++ text)
 
 -- what is begun with, where something is
 abbrev pub begins : {S : Type 0} → Wanted → Option S → Option (Unit {0})

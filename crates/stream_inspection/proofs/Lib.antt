@@ -1,0 +1,6 @@
+mod Looking
+mod Noting
+mod Reading
+mod Files
+mod Told
+mod Moments
