@@ -4,3 +4,5 @@ mod Reading
 mod Files
 mod Told
 mod Moments
+mod Lasts
+mod Refusals

@@ -40,9 +40,13 @@ settled : (octets : List (List ℕ)) (after : Option Target) (t : Target)
     → let none : Option Target = None in Settles none octets after → after ≡ Some t
     → (o : List ℕ) × (os : List (List ℕ)) × (octets ≡ o ∷ os) × Announces (capture_said o) t
 settled [] after t settles is = absurd (none_some t after settles is)
-settled (o ∷ os) after t settles is =
-    (o, os, refl, subst (λ (u : Target). Announces (capture_said o) u)
-    (some_one settles.0 t (sym settles.1 ∙ is)) settles.2)
+settled (o ∷ os) after t settles is = (
+  o,
+  os,
+  refl,
+  subst (λ (u : Target). Announces (capture_said o) u)
+      (some_one settles.0 t (sym settles.1 ∙ is)) settles.2,
+)
 
 is_target : {S : Type 0} (w : Wanted) (told : S → List ℕ → Type 0) (sdp : Option S)
     (begun after : Option Target) (octets : List (List ℕ)) (t : Target)
@@ -73,19 +77,19 @@ begun_none Said told (Some s) begun is none = absurd (none_some is.0 begun none 
 
 -- a text speaks of no allocator
 each_line : {A : Type 0} (form : Form) (ps : List Packet) (ks : List StreamKey)
-    → flat_map (stream_lines {A} form)
+    → flat_map (stream_lines {A = A} form)
     (map (λ k. stream_of k (of_key is_same key_of k ps)) ks)
-    ≡ flat_map (stream_lines {Unit {0}} form)
+    ≡ flat_map (stream_lines {A = Unit {0}} form)
     (map (λ k. stream_of k (of_key is_same key_of k ps)) ks)
 each_line form ps [] = refl
-each_line {A} form ps (k ∷ ks) =
-    ap (λ (l : List ℕ). stream_lines {Unit {0}} form (stream_of k (of_key is_same key_of k ps))
-    ++ l) (each_line {A} form ps ks)
+each_line {A = A} form ps (k ∷ ks) =
+    ap (λ (l : List ℕ). stream_lines {A = Unit {0}} form (stream_of k (of_key is_same key_of k ps))
+    ++ l) (each_line {A = A} form ps ks)
 
 lines_same : {A : Type 0} (form : Form) (ps : List Packet)
-    → flat_map (stream_lines {A} form) (streams_of ps)
-    ≡ flat_map (stream_lines {Unit {0}} form) (streams_of ps)
-lines_same {A} form ps = each_line {A} form ps (different is_same (map key_of ps))
+    → flat_map (stream_lines {A = A} form) (streams_of ps)
+    ≡ flat_map (stream_lines {A = Unit {0}} form) (streams_of ps)
+lines_same {A = A} form ps = each_line {A = A} form ps (different is_same (map key_of ps))
 
 pub tells : {S A : Type 0} (w : Wanted) (form : Form) (told : S → List ℕ → Type 0)
     (sdp : Option S) (captures : List S) (end : Option FileFault) (begun after : Option Target)
@@ -96,19 +100,19 @@ pub tells : {S A : Type 0} (w : Wanted) (form : Form) (told : S → List ℕ →
     → shown' ≡ shown ++ text → Tells w form told sdp captures end shown shown'
 tells w form told sdp captures end begun after t old new text shown shown' begins fresh notes is
     texts printed = record {
-  printed = λ octets read.
-      let n =
-      notes.noted octets read t (subst (λ (o : Option Target). MayBe o t) (sym is) refl) []
-      (fresh t) in (
-        t,
-        is_target w told sdp begun after octets t begins (notes.settles octets read) is,
-        n.0,
-        n.1,
-        text,
-        texts n.0 n.2,
-        printed,
-      );
-}
+      printed = λ octets read.
+          let n =
+          notes.noted octets read t (subst (λ (o : Option Target). MayBe o t) (sym is) refl) []
+          (fresh t) in (
+            t,
+            is_target w told sdp begun after octets t begins (notes.settles octets read) is,
+            n.0,
+            n.1,
+            text,
+            texts n.0 n.2,
+            printed,
+          );
+    }
 
 -- the refusal of the first fault of a record
 pub cut_refused : (f : FileFault) (P : Type 0) (Is : Refusal → Type 0) → IfContent f P

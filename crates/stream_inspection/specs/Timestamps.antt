@@ -1,5 +1,5 @@
 -- What is told of timestamps (own).
-use Rattle.std.specs.Prelude.{◌≡◌, ℕ, ◌==◌, not, List, [], ◌∷◌, ◌++◌, codes, map, take, Option, None, Some}
+use Rattle.std.specs.Prelude.{◌≡◌, ℕ, List, [], ◌∷◌, ◌++◌, codes, map, take, Option, None, Some}
 use Rattle.std.specs.BTreeMap.{get}
 use Rattle.std.specs.Fmt.{decimal}
 use Rattle.std.specs.List.{filter}
@@ -15,6 +15,7 @@ use Rattle.stream_inspection.specs.declared.rows.Row.TheVariants.{Timestamp}
 use Rattle.stream_inspection.specs.declared.rows.TimestampRow.{TimestampRow}
 use Rattle.stream_inspection.specs.declared.text.Form.{Form}
 use Rattle.stream_inspection.specs.declared.timestamps.Lasts.{Lasts}
+use Rattle.window_finding.specs.First.{distinct}
 
 -- the last of numbers behind one that may be there
 abbrev pub last_after : Option ℕ → List ℕ → Option ℕ
@@ -65,11 +66,6 @@ heading_text payload_type =
 abbrev pub timestamps_text : Form → ℕ → List Arrival → List TimestampCount → List ℕ
 timestamps_text form payload_type arrivals counts =
     heading_lines form (heading_text payload_type) ++ timestamps_behind form arrivals [] counts
-
--- each number once, in the place where it stands first
-abbrev pub distinct : List ℕ → List ℕ
-distinct [] = []
-distinct (t ∷ ts) = t ∷ filter (λ u. not (t == u)) (distinct ts)
 
 -- the first different timestamps, at most sixteen
 abbrev pub window_of : List TimestampCount → List ℕ

@@ -66,7 +66,7 @@ pub record IsText (form : Form) (t : Target) (records : List Entry) (text : List
       (skews_in (video_of t records) (timestamps_of (packets (video_of t records))))
   pub tally : Tally
   pub answers : Tallies tally (answers_of t records)
-  pub is : text ≡ told_text {Unit {0}} form t.payload_type (video_of t records)
+  pub is : text ≡ told_text {A = Unit {0}} form t.payload_type (video_of t records)
       (streams_of (packets (arrivals_of t records)))
       (timestamps_of (packets (video_of t records))) sorted tally.refused (controls_of records)
 

@@ -1,11 +1,12 @@
 //! What is told of timestamps.
-ghost use Rattle.std.specs.Prelude.{◌≡◌, ◌++◌, ◌∷◌, ◌≤◌, [], List, Some, IfOk, OnOk, length, take};
+ghost use Rattle.std.specs.Prelude.{◌≡◌, ◌++◌, ◌∷◌, [], ℕ, List, Some, IfOk, OnOk, take};
 ghost use Rattle.stream_counts.specs.declared.timestamp.TimestampCount.{TimestampCount as Count};
 ghost use Rattle.stream_inspection.specs.Arrivals.{Arrival};
 ghost use Rattle.stream_inspection.specs.Skews.{AreProbes, skew_by};
 ghost use Rattle.stream_inspection.specs.Timestamps.{AreLasts, heading_text, last_of, ticks_behind};
 ghost use Rattle.stream_inspection.specs.Timestamps.{timestamp_line, timestamps_behind};
 ghost use Rattle.stream_inspection.specs.Timestamps.{window_of};
+ghost use Rattle.window_finding.specs.First.{distinct};
 
 use crate::probes::ProbeTable;
 use crate::rows::{Row, TimestampRow};
@@ -152,8 +153,8 @@ pub(crate) fn window_of<A: Allocator>(
 
 /// Adds a timestamp to a window that hasn't it and has room.
 fn add<A: Allocator>(window: &mut Vec<u32, A>, timestamp: u32) -> Result<(), AllocError>
-    ensures { OnOk result ((counts : List ℕ) → window.old.items ≡ take 16 (distinct counts)
-        → window.new.items ≡ take 16 (distinct (counts ++ timestamp ∷ []))) }
+    ensures { OnOk result ((earlier : List ℕ) → window.old.items ≡ take 16 (distinct earlier)
+        → window.new.items ≡ take 16 (distinct (earlier ++ timestamp ∷ []))) }
 {
     if window.len() >= MOST || window.contains(&timestamp) {
         return Ok(());
