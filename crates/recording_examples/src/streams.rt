@@ -1,11 +1,11 @@
 //! The streams of captures inspected, against texts by hand.
 use crate::checks::met;
-use crate::engines::{sink, source};
+use crate::engines::{Run, sink, source};
 use media_file::{FileFault, write_front, write_record};
 use run_outcome::{Fault, Refusal};
+use st_format::Path;
 use st_format::memory::MemorySource;
-use st_format::{DeviceFault, Path};
-use std::alloc::{AllocError, Allocator, Global};
+use std::alloc::{Allocator, Global};
 use std::test::Fail;
 use stream_inspection::{Form, Wanted, inspect_streams};
 
@@ -137,4 +137,103 @@ fn streams_of_a_capture(rt: HostRuntime) -> Result<(), Fail> {
         met(&rt, ended.is_ok() && printed.held() == text);
     }
     Ok(())
+}
+
+/// The paths one after the other, a capture each: B's numbers are those of A, however far A has come
+/// meanwhile. By A 65534 and 200000 came, by B 65534.
+const AFTER: &[u8] = b"\
+{\"kind\":\"path\",\"payload_type\":96,\"ssrc\":7,\"path\":\"A\",\"datagrams\":2,\"lowest\":65534,\
+\"highest\":200000,\"lost\":134465,\"repeated\":0,\"late\":0}
+{\"kind\":\"path\",\"payload_type\":96,\"ssrc\":7,\"path\":\"B\",\"datagrams\":1,\"lowest\":65534,\
+\"highest\":65534,\"lost\":0,\"repeated\":0,\"late\":0}
+{\"kind\":\"together\",\"payload_type\":96,\"ssrc\":7,\"both\":1,\"lost_by_a\":134465,\
+\"lost_by_b\":134466,\"lost_by_both\":134465}
+{\"kind\":\"timestamp\",\"payload_type\":96,\"ssrc\":7,\"timestamp\":900,\"a\":1,\"b\":1,\
+\"marker\":false,\"ticks\":null,\"skew\":null}
+{\"kind\":\"timestamp\",\"payload_type\":96,\"ssrc\":7,\"timestamp\":2400,\"a\":1,\"b\":0,\
+\"marker\":false,\"ticks\":1500,\"skew\":null}
+{\"kind\":\"skew\",\"timestamps\":0,\"least\":null,\"middle\":null,\"greatest\":null}
+{\"kind\":\"window\",\"timestamps\":[900,2400]}
+";
+
+/// The captures of the two paths, the second with so many octets of its own; the front of the first
+/// has no text. Nothing is known of moments.
+fn paths(global: Global, octets: usize) -> Result<[MemorySource; 2], Fail> {
+    let mut a = sink(global)?;
+    write_front(&mut a, b"")?;
+    let first = datagram(96, Sent(65534, 900, false));
+    write_record(&mut a, Path::A, 0, &first)?;
+    let second = datagram(96, Sent(200_000, 2400, false));
+    write_record(&mut a, Path::A, 0, &second)?;
+    let mut b = sink(global)?;
+    write_front(&mut b, b"")?;
+    write_record(&mut b, Path::B, 0, &first)?;
+    write_record(&mut b, Path::B, 0, &second)?;
+    let held = b.held();
+    Ok([
+        source(global, a.held())?,
+        source(global, &held[..octets.min(held.len())])?,
+    ])
+}
+
+/// An SDP text that is given, and a second capture that is cut within its second record.
+#[test]
+fn paths_after_each_other(rt: HostRuntime) -> Result<(), Fail> {
+    let mut captures = paths(rt.alloc(), 49 + 30)?;
+    let mut sdp = Some(source(rt.alloc(), SDP)?);
+    let mut printed = sink(rt.alloc())?;
+    let ended = inspect_streams(
+        rt.alloc(),
+        Wanted::Said,
+        Form::Json,
+        &mut sdp,
+        &mut captures,
+        &mut printed,
+    );
+    let is_cut = matches!(
+        ended,
+        Err(Fault::Refused(Refusal::Capture(FileFault::Truncated)))
+    );
+    met(&rt, is_cut && printed.held() == AFTER);
+    Ok(())
+}
+
+/// Without an SDP text nothing is printed.
+#[test]
+fn no_text(rt: HostRuntime) -> Result<(), Fail> {
+    let mut captures = paths(rt.alloc(), 100)?;
+    let mut sdp = None;
+    let mut printed = sink(rt.alloc())?;
+    let ended = inspect_streams(
+        rt.alloc(),
+        Wanted::Said,
+        Form::Json,
+        &mut sdp,
+        &mut captures,
+        &mut printed,
+    );
+    let is_refused = matches!(ended, Err(Fault::Refused(Refusal::ReceiveNoSdp)));
+    met(&rt, is_refused && printed.held().is_empty());
+    Ok(())
+}
+
+/// Whether the streams of a capture are told, or `None` where memory is wanted.
+pub fn are_told<A: Allocator + Copy>(global: Global, alloc: A) -> Result<Option<bool>, Fail> {
+    let mut captures = [capture(global, SDP)?];
+    let mut sdp = None;
+    let mut printed = sink(global)?;
+    let outcome = inspect_streams(
+        alloc,
+        Wanted::Said,
+        Form::Columns,
+        &mut sdp,
+        &mut captures,
+        &mut printed,
+    );
+    let run = Run {
+        outcome,
+        written: sink(global)?,
+        printed,
+    };
+    Ok(run.answered(b"", COLUMNS))
 }
