@@ -6,3 +6,5 @@ mod Told
 mod Moments
 mod Lasts
 mod Refusals
+mod Wide
+mod Texts

@@ -86,7 +86,7 @@ each_line {A = A} form ps (k ∷ ks) =
     ap (λ (l : List ℕ). stream_lines {A = Unit {0}} form (stream_of k (of_key is_same key_of k ps))
     ++ l) (each_line {A = A} form ps ks)
 
-lines_same : {A : Type 0} (form : Form) (ps : List Packet)
+pub lines_same : {A : Type 0} (form : Form) (ps : List Packet)
     → flat_map (stream_lines {A = A} form) (streams_of ps)
     ≡ flat_map (stream_lines {A = Unit {0}} form) (streams_of ps)
 lines_same {A = A} form ps = each_line {A = A} form ps (different is_same (map key_of ps))
