@@ -131,7 +131,7 @@ end_device MixedGroup P is = absurd is
 end_device TooManyRecords P is = absurd is
 
 -- a fault of a record
-content_both : (f : FileFault) (P Q : Type 0) → (P → Q) → IfContent f P → IfContent f Q
+pub content_both : (f : FileFault) (P Q : Type 0) → (P → Q) → IfContent f P → IfContent f Q
 content_both NoMemory P Q then is = tt
 content_both Device P Q then is = tt
 content_both BadName P Q then is = then is
