@@ -5,7 +5,7 @@ use Rattle.std.proofs.Common.{Result, Ok, Err, refl, ap, sym, subst, arith, appe
 use Rattle.std.proofs.lemmas.Bool.{cases_lt}
 use Rattle.std.proofs.lemmas.List.{take_all}
 use Rattle.std.specs.List.{AllZip, zip}
-use Rattle.std.specs.Prelude.{MatchOption}
+use Rattle.std.specs.Prelude.{IfOk, MatchOption}
 use Rattle.capture_engines.specs.Received.{IsFrontRefusal, IsTakeRefusal}
 use Rattle.capture_engines.specs.Sent.{FirstIs}
 use Rattle.capture_engines.specs.Taking.{capture_said, said_before}
@@ -75,11 +75,11 @@ settles_one None after t octets text is kept says said =
 some_one : {X : Type 0} (x y : X) → Some x ≡ Some y → x ≡ y
 some_one x y e = cc
 
+none_some : {X : Type 0} (x : X) (o : Option X) → o ≡ None → o ≡ Some x → ⊥
+none_some x o none some = cc
+
 may_be : (after : Option Target) (t u : Target) → after ≡ Some t → MayBe after u → u ≡ t
-may_be None t u is may = absurd (none_some is)
-  where
-    none_some : {X : Type 0} {x : X} → let o : Option X = None in o ≡ Some x → ⊥
-    none_some e = cc
+may_be None t u is may = absurd (none_some t None refl is)
 may_be (Some s) t u is may = may ∙ some_one s t is
 
 pub file_noted : {A : Type 0} (told left : List ℕ → Type 0) (text : List ℕ) (t : Target)
@@ -247,24 +247,24 @@ next_pair {S} Is (s ∷ ss) (t ∷ ts) (suc k) is =
 
 -- so the captures up to there were noted
 pub more_noted : {S A : Type 0} (told : S × S → List ℕ → Type 0) (start now new : List S) (k : ℕ)
-    (end : Option FileFault) (before b a : Option Target) (old mid then' : Inspection A)
+    (end : Option FileFault) (before b a : Option Target) (old mid newer : Inspection A)
     → NotesFiles told (zip (take k start) (take k now)) None before b old mid
     → take k new ≡ take k now → drop k now ≡ drop k start
-    → FirstIs (λ s. NotesFile (told s) end b a mid then') (zip (drop k now) (drop k new))
-    → NotesFiles told (zip (take (k + 1) start) (take (k + 1) new)) end before a old then'
-more_noted {S} told start now new k end before b a old mid then' files front behind one =
-    let Is : S × S → Type 0 = λ s. NotesFile (told s) end b a mid then' in
+    → FirstIs (λ s. NotesFile (told s) end b a mid newer) (zip (drop k now) (drop k new))
+    → NotesFiles told (zip (take (k + 1) start) (take (k + 1) new)) end before a old newer
+more_noted {S} told start now new k end before b a old mid newer files front behind one =
+    let Is : S × S → Type 0 = λ s. NotesFile (told s) end b a mid newer in
     let n : NextPair Is start new k =
     next_pair Is start new k
     (subst (λ (l : List S). FirstIs Is (zip l (drop k new))) behind one) in
     let one_on : suc k ≡ k + 1 = omega arith in
-    subst (λ (m : ℕ). NotesFiles told (zip (take m start) (take m new)) end before a old then')
+    subst (λ (m : ℕ). NotesFiles told (zip (take m start) (take m new)) end before a old newer)
     one_on
-    (subst (λ (l : List (S × S)). NotesFiles told l end before a old then') (sym n.whole)
+    (subst (λ (l : List (S × S)). NotesFiles told l end before a old newer) (sym n.whole)
     (subst
     (λ (l : List S). NotesFiles told (zip (take k start) l ++ n.next ∷ []) end before a old
-    then') (sym front)
-    (one_more told (zip (take k start) (take k now)) n.next end before b a old mid then' files
+    newer) (sym front)
+    (one_more told (zip (take k start) (take k now)) n.next end before b a old mid newer files
     n.is)))
 
 -- all of them
@@ -288,21 +288,27 @@ take_zip {S} (suc n) (x ∷ xs) (y ∷ ys) =
     ap (λ (l : List (S × S)). (x, y) ∷ l) (take_zip n xs ys)
 
 pub up_to : {S A : Type 0} (told : S × S → List ℕ → Type 0) (start now new : List S) (k : ℕ)
-    (f : FileFault) (before b a : Option Target) (old mid then' : Inspection A)
+    (f : FileFault) (before b a : Option Target) (old mid newer : Inspection A)
     → NotesFiles told (zip (take k start) (take k now)) None before b old mid
     → take k new ≡ take k now → drop k now ≡ drop k start
-    → IfEnd (Some f) (FirstIs (λ s. NotesFile (told s) (Some f) b a mid then')
+    → IfEnd (Some f) (FirstIs (λ s. NotesFile (told s) (Some f) b a mid newer)
     (zip (drop k now) (drop k new)))
-    → IfEnd (Some f) (NotesUpTo told (zip start new) (Some f) before a old then')
-up_to {S} told start now new k f before b a old mid then' files front behind one =
+    → IfEnd (Some f) (NotesUpTo told (zip start new) (Some f) before a old newer)
+up_to {S} told start now new k f before b a old mid newer files front behind one =
     if_end (Some f)
-    (FirstIs (λ s. NotesFile (told s) (Some f) b a mid then') (zip (drop k now) (drop k new)))
-    (NotesUpTo told (zip start new) (Some f) before a old then')
+    (FirstIs (λ s. NotesFile (told s) (Some f) b a mid newer) (zip (drop k now) (drop k new)))
+    (NotesUpTo told (zip start new) (Some f) before a old newer)
     (λ is. (
       k + 1,
-      subst (λ (l : List (S × S)). NotesFiles told l (Some f) before a old then')
+      subst (λ (l : List (S × S)). NotesFiles told l (Some f) before a old newer)
           (sym (take_zip (k + 1) start new))
-          (more_noted told start now new k (Some f) before b a old mid then' files front behind
+          (more_noted told start now new k (Some f) before b a old mid newer files front behind
           is),
     ))
     one
+
+-- of what went well
+pub if_ok : {V E : Type 0} {P Q : V → Type 0} (r : Result V E) → ((v : V) → P v → Q v)
+    → IfOk r P → IfOk r Q
+if_ok (Ok v) then is = then v is
+if_ok (Err e) then is = tt

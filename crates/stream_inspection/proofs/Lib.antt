@@ -1,4 +1,4 @@
-mod Looking
+mod Answering
 mod Noting
 mod Reading
 mod Files

@@ -24,10 +24,10 @@ use Rattle.stream_inspection.specs.declared.probes.ProbeTable.{ProbeTable}
 -- ---- one probe
 
 -- the moment behind one packet more
-moment_more : (known : Option ℕ) (as' : List Arrival) (a : Arrival)
-    → moment_after known (as' ++ a ∷ []) ≡ first_known (moment_after known as') a.moment
+moment_more : (known : Option ℕ) (later : List Arrival) (a : Arrival)
+    → moment_after known (later ++ a ∷ []) ≡ first_known (moment_after known later) a.moment
 moment_more known [] a = refl
-moment_more known (b ∷ as') a = moment_more (first_known known b.moment) as' a
+moment_more known (b ∷ later) a = moment_more (first_known known b.moment) later a
 
 -- of the packets that pass a test
 passes : (test : Arrival → Bool) (own : List Arrival) (a : Arrival) → test a ≡ true

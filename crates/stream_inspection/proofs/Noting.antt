@@ -26,6 +26,9 @@ use Rattle.stream_inspection.specs.declared.target.Target.{Target}
 
 -- ---- one more of a list
 
+abbrev packet_in : Arrival → Packet
+packet_in a = a.packet
+
 one_behind : {X Y : Type 0} (f : X → List Y) (xs : List X) (x : X)
     → flat_map f (xs ++ x ∷ []) ≡ flat_map f xs ++ f x
 one_behind {Y = Y} f xs x =
@@ -157,7 +160,7 @@ notes_one t e p old mid new is some streams timestamps probes tally controls pac
             packet.streams (packets (arrivals_of t before)) (streams ∙ i.streams)
             ∙ ap streams_of
             (sym (ap packets all
-            ∙ map-append (λ x. x.packet) (arrivals_of t before) (a ∷ [])));
+            ∙ map-append packet_in (arrivals_of t before) (a ∷ [])));
         timestamps =
             packet.timestamps (video_of t before) (timestamps ∙ i.timestamps)
             ∙ ap (λ (l : List Arrival). timestamps_of (packets l)) (sym video);
@@ -200,14 +203,14 @@ pub packet_other : {A : Type 0} (t : Target) (a : Arrival) (old new : Inspection
     → NotesPacket t a old new
 packet_other t a old new none streams timestamps probes tally controls = record {
   streams = streams;
-  timestamps = λ as' e.
+  timestamps = λ earlier e.
       timestamps ∙ e
       ∙ ap (λ (l : List Arrival). timestamps_of (packets l))
-      (sym (ap (λ (l : List Arrival). as' ++ l) none ∙ append-nil as'));
-  probes = λ as' are.
-      subst (λ (p : _). AreProbes p (as' ++ video_in t a)) (sym probes)
+      (sym (ap (λ (l : List Arrival). earlier ++ l) none ∙ append-nil earlier));
+  probes = λ earlier are.
+      subst (λ (p : _). AreProbes p (earlier ++ video_in t a)) (sym probes)
       (subst (λ (l : List Arrival). AreProbes old.probes l)
-      (sym (ap (λ (l : List Arrival). as' ++ l) none ∙ append-nil as')) are);
+      (sym (ap (λ (l : List Arrival). earlier ++ l) none ∙ append-nil earlier)) are);
   tally = tally;
   controls = controls;
 }
@@ -223,13 +226,13 @@ pub packet_video : {A : Type 0} (t : Target) (a : Arrival) (old new : Inspection
     → new.tally ≡ old.tally → new.controls ≡ old.controls → NotesPacket t a old new
 packet_video t a old new one streams timestamps probes tally controls = record {
   streams = streams;
-  timestamps = λ as' e.
-      timestamps (packets as') e
+  timestamps = λ earlier e.
+      timestamps (packets earlier) e
       ∙ ap timestamps_of
-      (sym (ap (λ (l : List Arrival). packets (as' ++ l)) one
-      ∙ map-append (λ x. x.packet) as' (a ∷ [])));
-  probes = λ as' are.
-      subst (λ (l : List Arrival). AreProbes new.probes (as' ++ l)) (sym one) (probes as' are);
+      (sym (ap (λ (l : List Arrival). packets (earlier ++ l)) one
+      ∙ map-append packet_in earlier (a ∷ [])));
+  probes = λ earlier are.
+      subst (λ (l : List Arrival). AreProbes new.probes (earlier ++ l)) (sym one) (probes earlier are);
   tally = tally;
   controls = controls;
 }

@@ -36,35 +36,23 @@ none_some : {X : Type 0} (x : X) (o : Option X) → o ≡ None → o ≡ Some x 
 none_some x o none some = cc
 
 -- what is looked for is what is wanted
-settled : (octets : List (List ℕ)) (after : Option Target) (t : Target)
-    → let none : Option Target = None in Settles none octets after → after ≡ Some t
-    → (o : List ℕ) × (os : List (List ℕ)) × (octets ≡ o ∷ os) × Announces (capture_said o) t
-settled [] after t settles is = absurd (none_some t after settles is)
-settled (o ∷ os) after t settles is = (
-  o,
-  os,
-  refl,
-  subst (λ (u : Target). Announces (capture_said o) u)
-      (some_one settles.0 t (sym settles.1 ∙ is)) settles.2,
-)
-
 is_target : {S : Type 0} (w : Wanted) (told : S → List ℕ → Type 0) (sdp : Option S)
     (begun after : Option Target) (octets : List (List ℕ)) (t : Target)
     → IsBegun w told sdp begun → Settles begun octets after → after ≡ Some t
     → IsTarget w told sdp octets t
-is_target (Given u) told sdp begun after octets t begins settles is =
+is_target (Given u) told sdp begun after octets t opens settles is =
     some_one t u
-    (sym is ∙ subst (λ (b : Option Target). Settles b octets after) begins settles)
-is_target Said told (Some s) begun after octets t begins settles is =
+    (sym is ∙ subst (λ (b : Option Target). Settles b octets after) opens settles)
+is_target Said told (Some s) begun after octets t opens settles is =
     subst (λ (u : Target). ReadsTarget (told s) u)
-    (some_one begins.0 t
-    (sym (subst (λ (b : Option Target). Settles b octets after) begins.1 settles) ∙ is))
-    begins.2
-is_target Said told None begun after [] t begins settles is =
+    (some_one opens.0 t
+    (sym (subst (λ (b : Option Target). Settles b octets after) opens.1 settles) ∙ is))
+    opens.2
+is_target Said told None begun after [] t opens settles is =
     absurd (none_some t after
-    (subst (λ (b : Option Target). Settles b [] after) begins settles) is)
-is_target Said told None begun after (o ∷ os) t begins settles is =
-    let first = subst (λ (b : Option Target). Settles b (o ∷ os) after) begins settles in
+    (subst (λ (b : Option Target). Settles b [] after) opens settles) is)
+is_target Said told None begun after (o ∷ os) t opens settles is =
+    let first = subst (λ (b : Option Target). Settles b (o ∷ os) after) opens settles in
     subst (λ (u : Target). Announces (capture_said o) u)
     (some_one first.0 t (sym first.1 ∙ is)) first.2
 
@@ -98,14 +86,14 @@ pub tells : {S A : Type 0} (w : Wanted) (form : Form) (told : S → List ℕ →
     → NotesFiles told captures end begun after old new → after ≡ Some t
     → ((entries : List Entry) → IsInspected t new entries → IsText form t entries text)
     → shown' ≡ shown ++ text → Tells w form told sdp captures end shown shown'
-tells w form told sdp captures end begun after t old new text shown shown' begins fresh notes is
+tells w form told sdp captures end begun after t old new text shown shown' opens fresh notes is
     texts printed = record {
       printed = λ octets read.
           let n =
           notes.noted octets read t (subst (λ (o : Option Target). MayBe o t) (sym is) refl) []
           (fresh t) in (
             t,
-            is_target w told sdp begun after octets t begins (notes.settles octets read) is,
+            is_target w told sdp begun after octets t opens (notes.settles octets read) is,
             n.0,
             n.1,
             text,
