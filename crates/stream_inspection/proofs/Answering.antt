@@ -18,7 +18,7 @@ use Rattle.stream_inspection.specs.declared.looking.Look.{Look}
 use Rattle.stream_inspection.specs.declared.target.Target.{Target}
 
 -- the answer by what reading the header gave
-answer_from : Target → Result Rtp RtpFault → Result Taken Refusal
+abbrev answer_from : Target → Result Rtp RtpFault → Result Taken Refusal
 answer_from t read =
     (by_header read
     >>= λ header. header_for t.payload_type None header
@@ -27,7 +27,7 @@ answer_from t read =
     >>= λ d. Ok (Kept d.number)
 
 answered : (t : Target) (octets : List ℕ) → answer_at t octets ≡ answer_from t (rtp_walk octets)
-unfolding datagram_walk
+unfolding datagram_walk rtp_walk
 answered t octets = refl
 
 from_ok : (t : Target) (rtp : Rtp) → answer_from t (Ok rtp) ≡ answer_by t rtp

@@ -45,9 +45,9 @@ last_same k front c is =
 
 last_other : (k : StreamKey) (front : List TimestampCount) (c : TimestampCount)
     → is_same k c.key.stream ≡ false → last_of k (front ++ c ∷ []) ≡ last_of k front
-last_other k front c no =
+last_other k front c isnt =
     ap (last_after None)
-    (own_more k front c false no
+    (own_more k front c false isnt
     ∙ append-nil (map time (filter (λ x. is_same k x.key.stream) front)))
 
 is_equal : (o : Ordering) → is_eq o ≡ true → o ≡ Equal

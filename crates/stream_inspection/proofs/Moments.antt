@@ -54,13 +54,13 @@ with_moments sequence a b = record { sequence = sequence; a = a; b = b }
 probe_other : (sequence : ℕ) (own : List Arrival) (a : Arrival)
     → eqb a.packet.sequence sequence ≡ false
     → probe_with sequence (own ++ a ∷ []) ≡ probe_with sequence own
-probe_other sequence own a no =
+probe_other sequence own a isnt =
     ap (λ (m : Option ℕ). with_moments sequence m
     (moment_after None (filter (by_b_with sequence) (own ++ a ∷ []))))
-    (fails (by_a_with sequence) own a (ap (λ (b : Bool). b && is_a a.packet.path) no))
+    (fails (by_a_with sequence) own a (ap (λ (b : Bool). b && is_a a.packet.path) isnt))
     ∙ ap (λ (m : Option ℕ). with_moments sequence
     (moment_after None (filter (by_a_with sequence) own)) m)
-    (fails (by_b_with sequence) own a (ap (λ (b : Bool). b && not (is_a a.packet.path)) no))
+    (fails (by_b_with sequence) own a (ap (λ (b : Bool). b && not (is_a a.packet.path)) isnt))
 
 probe_a : (sequence : ℕ) (own : List Arrival) (a : Arrival)
     → eqb a.packet.sequence sequence ≡ true → is_a a.packet.path ≡ true
@@ -68,30 +68,30 @@ probe_a : (sequence : ℕ) (own : List Arrival) (a : Arrival)
     ≡ with_moments sequence
     (first_known (moment_after None (filter (by_a_with sequence) own)) a.moment)
     (moment_after None (filter (by_b_with sequence) own))
-probe_a sequence own a yes by =
+probe_a sequence own a is_it by =
     ap (λ (m : Option ℕ). with_moments sequence m
     (moment_after None (filter (by_b_with sequence) (own ++ a ∷ []))))
     (passes (by_a_with sequence) own a
-    (ap (λ (b : Bool). b && is_a a.packet.path) yes ∙ by))
+    (ap (λ (b : Bool). b && is_a a.packet.path) is_it ∙ by))
     ∙ ap (λ (m : Option ℕ). with_moments sequence
     (first_known (moment_after None (filter (by_a_with sequence) own)) a.moment) m)
     (fails (by_b_with sequence) own a
-    (ap (λ (b : Bool). b && not (is_a a.packet.path)) yes ∙ ap not by))
+    (ap (λ (b : Bool). b && not (is_a a.packet.path)) is_it ∙ ap not by))
 
 probe_b : (sequence : ℕ) (own : List Arrival) (a : Arrival)
     → eqb a.packet.sequence sequence ≡ true → is_a a.packet.path ≡ false
     → probe_with sequence (own ++ a ∷ [])
     ≡ with_moments sequence (moment_after None (filter (by_a_with sequence) own))
     (first_known (moment_after None (filter (by_b_with sequence) own)) a.moment)
-probe_b sequence own a yes by =
+probe_b sequence own a is_it by =
     ap (λ (m : Option ℕ). with_moments sequence m
     (moment_after None (filter (by_b_with sequence) (own ++ a ∷ []))))
     (fails (by_a_with sequence) own a
-    (ap (λ (b : Bool). b && is_a a.packet.path) yes ∙ by))
+    (ap (λ (b : Bool). b && is_a a.packet.path) is_it ∙ by))
     ∙ ap (λ (m : Option ℕ). with_moments sequence
     (moment_after None (filter (by_a_with sequence) own)) m)
     (passes (by_b_with sequence) own a
-    (ap (λ (b : Bool). b && not (is_a a.packet.path)) yes ∙ ap not by))
+    (ap (λ (b : Bool). b && not (is_a a.packet.path)) is_it ∙ ap not by))
 
 -- a probe of packets is that of the first one's number
 some_probe : (p q : Probe) → Some p ≡ Some q → p ≡ q
@@ -121,10 +121,10 @@ is_probe p (a ∷ own) next e =
 pub noted_other : (p q : Probe) (own : List Arrival) (a : Arrival)
     → eqb a.packet.sequence p.sequence ≡ false → q ≡ p → Some p ≡ probe_of own
     → Some q ≡ probe_of (own ++ a ∷ [])
-noted_other p q own a no same e =
+noted_other p q own a isnt same e =
     let i : IsProbe p own a = is_probe p own a e in
     ap (λ (x : Probe). Some x)
-    (same ∙ i.is ∙ sym (probe_other p.sequence own a no))
+    (same ∙ i.is ∙ sym (probe_other p.sequence own a isnt))
     ∙ sym i.then_is
 
 -- one of its number by A, and by B
@@ -132,24 +132,24 @@ pub noted_a : (p q : Probe) (own : List Arrival) (a : Arrival)
     → eqb a.packet.sequence p.sequence ≡ true → is_a a.packet.path ≡ true
     → q ≡ with_moments p.sequence (first_known p.a a.moment) p.b → Some p ≡ probe_of own
     → Some q ≡ probe_of (own ++ a ∷ [])
-noted_a p q own a yes by same e =
+noted_a p q own a is_it by same e =
     let i : IsProbe p own a = is_probe p own a e in
     ap (λ (x : Probe). Some x)
     (same
     ∙ ap (λ (x : Probe). with_moments p.sequence (first_known x.a a.moment) x.b) i.is
-    ∙ sym (probe_a p.sequence own a yes by))
+    ∙ sym (probe_a p.sequence own a is_it by))
     ∙ sym i.then_is
 
 pub noted_b : (p q : Probe) (own : List Arrival) (a : Arrival)
     → eqb a.packet.sequence p.sequence ≡ true → is_a a.packet.path ≡ false
     → q ≡ with_moments p.sequence p.a (first_known p.b a.moment) → Some p ≡ probe_of own
     → Some q ≡ probe_of (own ++ a ∷ [])
-noted_b p q own a yes by same e =
+noted_b p q own a is_it by same e =
     let i : IsProbe p own a = is_probe p own a e in
     ap (λ (x : Probe). Some x)
     (same
     ∙ ap (λ (x : Probe). with_moments p.sequence x.a (first_known x.b a.moment)) i.is
-    ∙ sym (probe_b p.sequence own a yes by))
+    ∙ sym (probe_b p.sequence own a is_it by))
     ∙ sym i.then_is
 
 -- ---- the table
@@ -164,9 +164,9 @@ own_same k arrivals a is =
 own_other : (k : TimestampKey) (arrivals : List Arrival) (a : Arrival)
     → is_same_timestamp k (timestamp_key_of a.packet) ≡ false
     → own_of k (arrivals ++ a ∷ []) ≡ own_of k arrivals
-own_other k arrivals a no =
+own_other k arrivals a isnt =
     filter-append (λ x. is_same_timestamp k (timestamp_key_of x.packet)) arrivals (a ∷ [])
-    ∙ ap (λ (b : Bool). own_of k arrivals ++ cond b (a ∷ []) []) no
+    ∙ ap (λ (b : Bool). own_of k arrivals ++ cond b (a ∷ []) []) isnt
     ∙ append-nil (own_of k arrivals)
 
 is_equal : (o : Ordering) → is_eq o ≡ true → o ≡ Equal

@@ -68,7 +68,7 @@ is_text {A} form t i entries counts sorted t1 t2 t3 t4 t5 t6 are is ordered p q 
           ++ (refusals_text form i.tally.refused
           ++ (ends i.controls ++ window_line form t.payload_type (window_of counts))))))
           (ap (flat_map (stream_lines {A = A} form)) is.streams
-          ∙ lines_same {A = A} form (packets (arrivals_of t entries)))
+          ∙ lines_same A form (packets (arrivals_of t entries)))
           ∙ ap (λ (l : List TimestampCount). flat_map (stream_lines {A = Unit {0}} form)
           (streams_of (packets (arrivals_of t entries)))
           ++ (timestamps_text form t.payload_type video l

@@ -64,20 +64,20 @@ begun_none Said told None begun is none = refl
 begun_none Said told (Some s) begun is none = absurd (none_some is.0 begun none is.1)
 
 -- a text speaks of no allocator
-each_line : {A : Type 0} (form : Form) (ps : List Packet) (ks : List StreamKey)
+each_line : (A : Type 0) (form : Form) (ps : List Packet) (ks : List StreamKey)
     → flat_map (stream_lines {A = A} form)
     (map (λ k. stream_of k (of_key is_same key_of k ps)) ks)
     ≡ flat_map (stream_lines {A = Unit {0}} form)
     (map (λ k. stream_of k (of_key is_same key_of k ps)) ks)
-each_line form ps [] = refl
-each_line {A = A} form ps (k ∷ ks) =
+each_line A form ps [] = refl
+each_line A form ps (k ∷ ks) =
     ap (λ (l : List ℕ). stream_lines {A = Unit {0}} form (stream_of k (of_key is_same key_of k ps))
-    ++ l) (each_line {A = A} form ps ks)
+    ++ l) (each_line A form ps ks)
 
-pub lines_same : {A : Type 0} (form : Form) (ps : List Packet)
+pub lines_same : (A : Type 0) (form : Form) (ps : List Packet)
     → flat_map (stream_lines {A = A} form) (streams_of ps)
     ≡ flat_map (stream_lines {A = Unit {0}} form) (streams_of ps)
-lines_same {A = A} form ps = each_line {A = A} form ps (different is_same (map key_of ps))
+lines_same A form ps = each_line A form ps (different is_same (map key_of ps))
 
 pub tells : {S A : Type 0} (w : Wanted) (form : Form) (told : S → List ℕ → Type 0)
     (sdp : Option S) (captures : List S) (end : Option FileFault) (begun after : Option Target)
@@ -114,3 +114,9 @@ cut_refused BadField P Is is then = then is
 cut_refused TrailingBytes P Is is then = then is
 cut_refused MixedGroup P Is is then = then is
 cut_refused TooManyRecords P Is is then = then is
+
+-- begun with by an SDP text
+pub some_begun : {S : Type 0} (told : S → List ℕ → Type 0) (sdp : Option S) (s : S) (t : Target)
+    → sdp ≡ Some s → ReadsTarget (told s) t → IsBegun Said told sdp (Some t)
+some_begun told sdp s t is read =
+    subst (λ (o : Option _). IsBegun Said told o (Some t)) (sym is) (t, refl, read)

@@ -1,6 +1,7 @@
 -- The skew of the paths: by how much later one packet number came by B than by A (own).
 use Rattle.std.specs.Prelude.{◌≡◌, ℕ, zero, suc, ◌+◌, ◌-◌, ◌/◌, ◌^◌, ◌==◌, Bool, not, ◌&&◌, List, []}
-use Rattle.std.specs.Prelude.{◌∷◌, length, slice_get, Option, None, Some, option_to_list}
+use Rattle.std.specs.Prelude.{◌∷◌, length, slice_get, if◌then◌else◌, Option, None, Some}
+use Rattle.std.specs.Prelude.{option_to_list}
 use Rattle.std.specs.BTreeMap.{get}
 use Rattle.std.specs.List.{filter, flat_map}
 use Rattle.std.specs.List.Sorted.{IsPermutation, IsSorted}

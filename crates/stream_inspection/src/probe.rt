@@ -1,7 +1,7 @@
 //! A packet of a timestamp by which the skew of the paths is told.
-ghost use Rattle.std.specs.Prelude.{◌≡◌, ◌++◌, ◌∷◌, ◌≢◌, List, [], Some};
+ghost use Rattle.std.specs.Prelude.{◌≡◌, ◌++◌, ◌∷◌, List, [], Some};
 ghost use Rattle.stream_inspection.specs.Arrivals.{Arrival, arrival};
-ghost use Rattle.stream_inspection.specs.Skews.{first_known, known, probe_of, skew_of};
+ghost use Rattle.stream_inspection.specs.Skews.{first_known, probe_of, skew_of};
 
 use st_format::Path;
 use stream_counts::Packet;

@@ -42,7 +42,8 @@ pub(crate) fn put<D: Display + Drop, A: Allocator>(
     let Some(line) = line_of(value) else {
         return Err(AllocError);
     };
-    text.extend_from_slice(line.as_bytes())
+    text.extend_from_slice(line.as_bytes())?;
+    Ok(())
 }
 
 /// Puts a row behind a text.

@@ -2,9 +2,9 @@
 ghost use Rattle.std.specs.Prelude.{◌≡◌, ◌++◌, ◌∷◌, [], ℕ, List, Some, IfOk, OnOk, take};
 ghost use Rattle.stream_counts.specs.declared.timestamp.TimestampCount.{TimestampCount as Count};
 ghost use Rattle.stream_inspection.specs.Arrivals.{Arrival};
-ghost use Rattle.stream_inspection.specs.Skews.{AreProbes, skew_by};
-ghost use Rattle.stream_inspection.specs.Timestamps.{AreLasts, heading_text, last_of, ticks_behind};
-ghost use Rattle.stream_inspection.specs.Timestamps.{timestamp_line, timestamps_behind};
+ghost use Rattle.stream_inspection.specs.Skews.{AreProbes};
+ghost use Rattle.stream_inspection.specs.Timestamps.{AreLasts, heading_text, ticks_behind};
+ghost use Rattle.stream_inspection.specs.Timestamps.{timestamp_line, timestamps_behind, timestamps_text};
 ghost use Rattle.stream_inspection.specs.Timestamps.{window_of};
 ghost use Rattle.window_finding.specs.First.{distinct};
 
@@ -156,7 +156,10 @@ fn add<A: Allocator>(window: &mut Vec<u32, A>, timestamp: u32) -> Result<(), All
     ensures { OnOk result ((earlier : List ℕ) → window.old.items ≡ take 16 (distinct earlier)
         → window.new.items ≡ take 16 (distinct (earlier ++ timestamp ∷ []))) }
 {
-    if window.len() >= MOST || window.contains(&timestamp) {
+    if window.len() >= MOST {
+        return Ok(());
+    }
+    if window.contains(&timestamp) {
         return Ok(());
     }
     window.push(timestamp)?;

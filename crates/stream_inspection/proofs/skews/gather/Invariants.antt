@@ -5,5 +5,5 @@ use Rattle.stream_inspection.proofs.skews.gather.Given as goal
 
 abbrev pub invariant-loop-count : goal.invariant-loop-count
 invariant-loop-count g l =
-    (arrivals : List Arrival) → AreProbes l.fn.probes.now arrivals
+    (arrivals : List Arrival) → AreProbes l.fn.probes arrivals
     → l.skews.items ≡ skews_in arrivals (take l.count-index l.counts)

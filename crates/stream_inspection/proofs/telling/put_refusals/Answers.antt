@@ -14,8 +14,8 @@ loop-place-preserved g c =
     refusals_more c.args.form c.args.refused.now c.refusal_at.result l.place _ _ _
     c.refusal_at.ensures c.loop-place-test.true l.invariant c.in_ok-put_counted.ensures
 
-pub returns-clause : goal.returns-clause
-returns-clause g c =
+pub returns : goal.returns
+returns g c =
     let l = c.loop-place in
     texts_all (refused_line c.args.form c.args.refused.now) refusals l.place _ _
     c.loop-place-test.false l.invariant
