@@ -1,9 +1,9 @@
 -- Timestamps where one more comes.
 use Rattle.std.proofs.Common.{◌≡◌, ◌∙◌, ℕ, Bool, true, false, cond, List, [], ◌∷◌, ◌++◌, map}
 use Rattle.std.proofs.Common.{Option, None, Some, refl, ap, sym, subst, append-nil, append_assoc}
-use Rattle.std.proofs.Common.{⊎_elim}
+use Rattle.std.proofs.Common.{⊎_elim, ◌+◌, ◌<◌, get_or, length, take}
 use Rattle.std.proofs.lemmas.Bool.{both_ways, cases_Bool, false_from_ne_true}
-use Rattle.std.proofs.lemmas.List.{map-append}
+use Rattle.std.proofs.lemmas.List.{map-append, take_more}
 use Rattle.std.proofs.lemmas.List.Elements.{filter-append}
 use Rattle.std.specs.BTreeMap.{Updates, get, is_at}
 use Rattle.std.specs.List.{filter}
@@ -95,3 +95,23 @@ behind_more form arrivals front (x ∷ xs) c =
     ∙ ap (λ (l : List TimestampCount). (timestamp_line form arrivals front x
     ++ timestamps_behind form arrivals (front ++ x ∷ []) xs) ++ timestamp_line form arrivals l c)
     (append_assoc front (x ∷ []) xs)
+
+pub take_on : (xs : List TimestampCount) (i : ℕ) (d c : TimestampCount) → i < length xs
+    → c ≡ get_or xs i d → take (i + 1) xs ≡ take i xs ++ c ∷ []
+take_on xs i d c lt is =
+    take_more xs i d lt ∙ ap (λ (y : TimestampCount). take i xs ++ y ∷ []) (sym is)
+
+pub lines_on : (form : Form) (arrivals : List Arrival) (t0 t1 t2 : List ℕ)
+    (xs : List TimestampCount) (i : ℕ) (c : TimestampCount)
+    → t1 ≡ t0 ++ timestamps_behind form arrivals [] (take i xs)
+    → t2 ≡ t1 ++ timestamp_line form arrivals (take i xs) c
+    → take (i + 1) xs ≡ take i xs ++ c ∷ []
+    → t2 ≡ t0 ++ timestamps_behind form arrivals [] (take (i + 1) xs)
+lines_on form arrivals t0 t1 t2 xs i c p q more =
+    let front : List TimestampCount = take i xs in
+    q
+    ∙ ap (λ (l : List ℕ). l ++ timestamp_line form arrivals front c) p
+    ∙ append_assoc t0 (timestamps_behind form arrivals [] front)
+    (timestamp_line form arrivals front c)
+    ∙ ap (λ (l : List ℕ). t0 ++ l) (sym (behind_more form arrivals [] front c))
+    ∙ ap (λ (l : List TimestampCount). t0 ++ timestamps_behind form arrivals [] l) (sym more)

@@ -1,7 +1,7 @@
 -- Probes where one more packet comes.
 use Rattle.std.proofs.Common.{◌≡◌, ◌∙◌, ℕ, Bool, true, false, cond, not, ◌&&◌, List, [], ◌∷◌, ◌++◌}
 use Rattle.std.proofs.Common.{Option, None, Some, refl, ap, sym, subst, append-nil, eqb}
-use Rattle.std.proofs.lemmas.Bool.{both_ways, cases_Bool, false_from_ne_true}
+use Rattle.std.proofs.lemmas.Bool.{both_ways, cases_Bool, eq-eqb, false_from_ne_true}
 use Rattle.std.proofs.lemmas.List.Elements.{filter-append}
 use Rattle.std.proofs.Common.{⊎_elim}
 use Rattle.std.specs.BTreeMap.{BTreeMap, Updates, get, is_at}
@@ -47,7 +47,7 @@ fails test own a is =
     ∙ ap (λ (b : Bool). filter test own ++ cond b (a ∷ []) []) is
     ∙ append-nil (filter test own))
 
-abbrev with_moments : ℕ → Option ℕ → Option ℕ → Probe
+abbrev pub with_moments : ℕ → Option ℕ → Option ℕ → Probe
 with_moments sequence a b = record { sequence = sequence; a = a; b = b }
 
 -- what a probe is behind one packet more: nothing changes by one of another number
@@ -129,7 +129,7 @@ noted_other p q own a isnt same e =
 
 -- one of its number by A, and by B
 pub noted_a : (p q : Probe) (own : List Arrival) (a : Arrival)
-    → eqb a.packet.sequence p.sequence ≡ true → is_a a.packet.path ≡ true
+    → a.packet.sequence ≡ p.sequence → is_a a.packet.path ≡ true
     → q ≡ with_moments p.sequence (first_known p.a a.moment) p.b → Some p ≡ probe_of own
     → Some q ≡ probe_of (own ++ a ∷ [])
 noted_a p q own a is_it by same e =
@@ -137,11 +137,11 @@ noted_a p q own a is_it by same e =
     ap (λ (x : Probe). Some x)
     (same
     ∙ ap (λ (x : Probe). with_moments p.sequence (first_known x.a a.moment) x.b) i.is
-    ∙ sym (probe_a p.sequence own a is_it by))
+    ∙ sym (probe_a p.sequence own a (eq-eqb a.packet.sequence p.sequence is_it) by))
     ∙ sym i.then_is
 
 pub noted_b : (p q : Probe) (own : List Arrival) (a : Arrival)
-    → eqb a.packet.sequence p.sequence ≡ true → is_a a.packet.path ≡ false
+    → a.packet.sequence ≡ p.sequence → is_a a.packet.path ≡ false
     → q ≡ with_moments p.sequence p.a (first_known p.b a.moment) → Some p ≡ probe_of own
     → Some q ≡ probe_of (own ++ a ∷ [])
 noted_b p q own a is_it by same e =
@@ -149,8 +149,25 @@ noted_b p q own a is_it by same e =
     ap (λ (x : Probe). Some x)
     (same
     ∙ ap (λ (x : Probe). with_moments p.sequence x.a (first_known x.b a.moment)) i.is
-    ∙ sym (probe_b p.sequence own a is_it by))
+    ∙ sym (probe_b p.sequence own a (eq-eqb a.packet.sequence p.sequence is_it) by))
     ∙ sym i.then_is
+
+-- the first packet came by A, and by B
+pub begun_a : (p : Probe) (a : Arrival) → is_a a.packet.path ≡ true
+    → p ≡ with_moments a.packet.sequence (first_known None a.moment) None
+    → Some p ≡ probe_of (a ∷ [])
+begun_a p a by same =
+    ap (λ (x : Probe). Some x)
+    (same
+    ∙ sym (probe_a a.packet.sequence [] a (eq-eqb a.packet.sequence a.packet.sequence refl) by))
+
+pub begun_b : (p : Probe) (a : Arrival) → is_a a.packet.path ≡ false
+    → p ≡ with_moments a.packet.sequence None (first_known None a.moment)
+    → Some p ≡ probe_of (a ∷ [])
+begun_b p a by same =
+    ap (λ (x : Probe). Some x)
+    (same
+    ∙ sym (probe_b a.packet.sequence [] a (eq-eqb a.packet.sequence a.packet.sequence refl) by))
 
 -- ---- the table
 

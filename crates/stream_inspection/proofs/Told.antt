@@ -1,7 +1,8 @@
 -- What was printed is the text of what was read.
 use Rattle.std.proofs.Common.{◌≡◌, ◌∙◌, ℕ, List, [], ◌∷◌, ◌++◌, take, Option, None, Some, refl, ap, sym, subst}
 use Rattle.std.proofs.Common.{map, inl, inr}
-use Rattle.std.specs.List.{AllZip, flat_map}
+use Rattle.std.specs.List.{AllZip, flat_map, zip}
+use Rattle.std.proofs.Common.{Result, Ok, Err}
 use Rattle.capture_engines.specs.Taking.{capture_said}
 use Rattle.media_file.specs.Faults.{IfContent}
 use Rattle.media_file.specs.Records.{Entry}
@@ -10,6 +11,9 @@ use Rattle.media_file.specs.declared.fault.FileFault.TheVariants.{NoMemory, Devi
 use Rattle.media_file.specs.declared.fault.FileFault.TheVariants.{BadVersion, Truncated, BadField}
 use Rattle.media_file.specs.declared.fault.FileFault.TheVariants.{TrailingBytes, MixedGroup}
 use Rattle.media_file.specs.declared.fault.FileFault.TheVariants.{TooManyRecords}
+use Rattle.capture_engines.specs.Received.{FirstRefuses}
+use Rattle.run_outcome.specs.Fault.{Accounts, Blames, Failures}
+use Rattle.run_outcome.specs.declared.fault.Fault.TheVariants.{Memory}
 use Rattle.run_outcome.specs.LowerFaults.{capture_fault}
 use Rattle.run_outcome.specs.Refusing.{OfRefusal}
 use Rattle.run_outcome.specs.declared.refusal.Refusal.{Refusal}
@@ -20,9 +24,9 @@ use Rattle.stream_counts.specs.declared.packet.Packet.{Packet}
 use Rattle.stream_counts.specs.declared.packet.StreamKey.{StreamKey}
 use Rattle.stream_inspection.specs.Aim.{Announces, IsBegun, IsTarget, ReadsTarget}
 use Rattle.stream_inspection.specs.Inspected.{IsInspected}
-use Rattle.stream_inspection.specs.Read.{HaveRecords, MayBe, NotesFiles, Settles}
+use Rattle.stream_inspection.specs.Read.{HaveRecords, MayBe, NotesFiles, Settles, ended_by}
 use Rattle.stream_inspection.specs.Streams.{stream_lines}
-use Rattle.stream_inspection.specs.Told.{IsText, Tells, begins, told_text}
+use Rattle.stream_inspection.specs.Told.{IsContent, IsEndRefusal, IsText, Prints, Tells, begins}
 use Rattle.stream_inspection.specs.declared.inspection.Inspection.{Inspection}
 use Rattle.stream_inspection.specs.declared.target.Target.{Target}
 use Rattle.stream_inspection.specs.declared.target.Wanted.{Wanted}
@@ -102,18 +106,74 @@ tells w form told sdp captures end begun after t old new text shown shown' opens
           );
     }
 
--- the refusal of the first fault of a record
-pub cut_refused : (f : FileFault) (P : Type 0) (Is : Refusal → Type 0) → IfContent f P
-    → (P → Is (refusal.Capture f)) → OfRefusal (capture_fault f) Is
-cut_refused NoMemory P Is is then = tt
-cut_refused Device P Is is then = tt
-cut_refused BadName P Is is then = then is
-cut_refused BadVersion P Is is then = then is
-cut_refused Truncated P Is is then = then is
-cut_refused BadField P Is is then = then is
-cut_refused TrailingBytes P Is is then = then is
-cut_refused MixedGroup P Is is then = then is
-cut_refused TooManyRecords P Is is then = then is
+-- the fault of a record refuses
+pub end_refused : {A : Type 0} (form : Form) (t : Target) (i : Inspection A) (f : FileFault)
+    (end : Option FileFault) (shown shown' : List ℕ) → end ≡ Some f → Prints form t i shown shown'
+    → OfRefusal (capture_fault f) (IsEndRefusal form t i end shown shown')
+end_refused form t i NoMemory end shown shown' is prints = tt
+end_refused form t i Device end shown shown' is prints = tt
+end_refused form t i BadName end shown shown' is prints =
+    record { fault = BadName; ended = is; content = tt; is = refl; printed = prints }
+end_refused form t i BadVersion end shown shown' is prints =
+    record { fault = BadVersion; ended = is; content = tt; is = refl; printed = prints }
+end_refused form t i Truncated end shown shown' is prints =
+    record { fault = Truncated; ended = is; content = tt; is = refl; printed = prints }
+end_refused form t i BadField end shown shown' is prints =
+    record { fault = BadField; ended = is; content = tt; is = refl; printed = prints }
+end_refused form t i TrailingBytes end shown shown' is prints =
+    record { fault = TrailingBytes; ended = is; content = tt; is = refl; printed = prints }
+end_refused form t i MixedGroup end shown shown' is prints =
+    record { fault = MixedGroup; ended = is; content = tt; is = refl; printed = prints }
+end_refused form t i TooManyRecords end shown shown' is prints =
+    record { fault = TooManyRecords; ended = is; content = tt; is = refl; printed = prints }
+
+pub content_of : (f : FileFault) (P : Type 0) → IsContent f → IfContent f P → P
+content_of NoMemory P content is = absurd content
+content_of Device P content is = absurd content
+content_of BadName P content is = is
+content_of BadVersion P content is = is
+content_of Truncated P content is = is
+content_of BadField P content is = is
+content_of TrailingBytes P content is = is
+content_of MixedGroup P content is = is
+content_of TooManyRecords P content is = is
+
+-- want of memory behind an end that is no device's
+pub memory_blames : (end : Option FileFault) (d e f : Failures) → (end ≡ Some Device → ⊥)
+    → d.after ≡ d.before → Accounts (ended_by (Ok end)) (e ∷ []) → f.after ≡ f.before
+    → Blames (d ∷ e ∷ f ∷ []) Memory
+memory_blames None d e f isnt first second third = (first, second, third)
+memory_blames (Some NoMemory) d e f isnt first second third = (first, second, third)
+memory_blames (Some Device) d e f isnt first second third = absurd (isnt refl)
+memory_blames (Some BadName) d e f isnt first second third = (first, second, third)
+memory_blames (Some BadVersion) d e f isnt first second third = (first, second, third)
+memory_blames (Some Truncated) d e f isnt first second third = (first, second, third)
+memory_blames (Some BadField) d e f isnt first second third = (first, second, third)
+memory_blames (Some TrailingBytes) d e f isnt first second third = (first, second, third)
+memory_blames (Some MixedGroup) d e f isnt first second third = (first, second, third)
+memory_blames (Some TooManyRecords) d e f isnt first second third = (first, second, third)
+
+-- the end of a run whose output didn't fail
+pub end_accounts : (end : Option FileFault) (d e f : Failures) → d.after ≡ d.before
+    → Accounts (ended_by (Ok end)) (e ∷ []) → f.after ≡ f.before
+    → Accounts (ended_by (Ok end)) (d ∷ e ∷ f ∷ [])
+end_accounts None d e f first second third = (first, second, third)
+end_accounts (Some NoMemory) d e f first second third = (first, second, third)
+end_accounts (Some Device) d e f first second third = inr (inl second)
+end_accounts (Some BadName) d e f first second third = (first, second, third)
+end_accounts (Some BadVersion) d e f first second third = (first, second, third)
+end_accounts (Some Truncated) d e f first second third = (first, second, third)
+end_accounts (Some BadField) d e f first second third = (first, second, third)
+end_accounts (Some TrailingBytes) d e f first second third = (first, second, third)
+end_accounts (Some MixedGroup) d e f first second third = (first, second, third)
+end_accounts (Some TooManyRecords) d e f first second third = (first, second, third)
+
+-- a run with no capture
+pub no_captures : {S : Type 0} (told : S × S → List ℕ → Type 0) (old new : List S) → old ≡ []
+    → FirstRefuses (0 ∷ []) told (zip old new) refusal.ReceiveNoSdp
+no_captures told old new none =
+    subst (λ (l : List _). FirstRefuses (0 ∷ []) told (zip l new) refusal.ReceiveNoSdp)
+    (sym none) refl
 
 -- begun with by an SDP text
 pub some_begun : {S : Type 0} (told : S → List ℕ → Type 0) (sdp : Option S) (s : S) (t : Target)

@@ -1,5 +1,5 @@
 -- What is told of captures (own).
-use Rattle.std.specs.Prelude.{◌≡◌, ℕ, ◌⊎◌, List, [], ◌∷◌, ◌++◌, slice_index, take, Option, None, Some}
+use Rattle.std.specs.Prelude.{◌≡◌, ℕ, ◌⊎◌, ⊤, List, [], ◌∷◌, ◌++◌, slice_index, take, Option, None, Some}
 use Rattle.std.specs.List.{AllZip, flat_map}
 use Rattle.capture_engines.specs.Printed.{refusals}
 use Rattle.capture_engines.specs.Received.{IsCapturesRefusal}
@@ -7,6 +7,7 @@ use Rattle.capture_engines.specs.Tallied.{Tallies, place_of}
 use Rattle.capture_engines.specs.declared.tally.Tally.{Tally}
 use Rattle.media_file.specs.Records.{Entry}
 use Rattle.media_file.specs.declared.fault.FileFault.{FileFault}
+use Rattle.media_file.specs.declared.fault.FileFault.TheVariants as file
 use Rattle.path_merge.specs.declared.answer.Refusal.{Refusal as Reason}
 use Rattle.run_outcome.specs.declared.refusal.Refusal.{Refusal}
 use Rattle.run_outcome.specs.declared.refusal.Refusal.TheVariants as refusal
@@ -17,13 +18,14 @@ use Rattle.stream_counts.specs.declared.timestamp.TimestampCount.{TimestampCount
 use Rattle.stream_inspection.specs.Aim.{IsBeginRefusal, IsTarget}
 use Rattle.stream_inspection.specs.Arrivals.{Arrival, answers_of, arrivals_of, video_of}
 use Rattle.stream_inspection.specs.Columns.{window_column}
-use Rattle.stream_inspection.specs.Inspected.{controls_of, packets}
+use Rattle.stream_inspection.specs.Inspected.{IsInspected, controls_of, packets}
 use Rattle.stream_inspection.specs.Json.{window_json}
 use Rattle.stream_inspection.specs.Lines.{counted_line, row_line}
 use Rattle.stream_inspection.specs.Read.{HaveRecords}
 use Rattle.stream_inspection.specs.Skews.{IsOrderOf, skew_row, skews_in}
 use Rattle.stream_inspection.specs.Streams.{stream_lines}
 use Rattle.stream_inspection.specs.Timestamps.{timestamps_text, window_of}
+use Rattle.stream_inspection.specs.declared.inspection.Inspection.{Inspection}
 use Rattle.stream_inspection.specs.declared.rows.Row.TheVariants.{Control, Nothing, Refused, Skew}
 use Rattle.stream_inspection.specs.declared.target.Target.{Target}
 use Rattle.stream_inspection.specs.declared.target.Wanted.{Wanted}
@@ -95,3 +97,27 @@ IsStreamsRefusal w form told sdp captures shown shown' r =
     ⊎ IsCapturesRefusal (0 ∷ []) (begins w sdp) told captures r))
     ⊎ ((f : FileFault) × (count : ℕ) × (r ≡ refusal.Capture f)
     × Tells w form told sdp (take count captures) (Some f) shown shown')
+
+-- ---- on the way there
+
+-- the text of an inspection was printed: that of any records that it is of
+pub record Prints {A : Type 0} (form : Form) (t : Target) (i : Inspection A)
+    (shown shown' : List ℕ) : Type 0 where
+  pub text : List ℕ
+  pub is : (entries : List Entry) → IsInspected t i entries → IsText form t entries text
+  pub printed : shown' ≡ shown ++ text
+
+-- a fault is the content's
+abbrev pub IsContent : FileFault → Type 0
+IsContent file.NoMemory = ⊥
+IsContent file.Device = ⊥
+IsContent _ = ⊤
+
+-- the refusal of an end: the fault of a record, and the text was printed
+pub record IsEndRefusal {A : Type 0} (form : Form) (t : Target) (i : Inspection A)
+    (end : Option FileFault) (shown shown' : List ℕ) (r : Refusal) : Type 0 where
+  pub fault : FileFault
+  pub ended : end ≡ Some fault
+  pub content : IsContent fault
+  pub is : r ≡ refusal.Capture fault
+  pub printed : Prints form t i shown shown'

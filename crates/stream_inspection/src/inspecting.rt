@@ -1,16 +1,19 @@
 //! The engine of `inspect` with a format.
-ghost use Rattle.std.specs.Prelude.{◌≡◌, ◌∷◌, [], IfErr, OnOk, None, length, sum_by};
+ghost use Rattle.std.specs.Prelude.{◌≡◌, ◌∷◌, [], IfErr, OnOk, None, Ok, length, sum_by};
 ghost use Rattle.std.specs.List.{zip};
-ghost use Rattle.run_outcome.specs.Fault.{Accounts, counts, failures_in};
+ghost use Rattle.run_outcome.specs.Fault.{Accounts, Blames, Failures, IfRefused, counts};
+ghost use Rattle.run_outcome.specs.Fault.{failures_in};
 ghost use Rattle.run_outcome.specs.Moments.{WasRead, pair};
 ghost use Rattle.run_outcome.specs.Refusing.{OfRefusal};
-ghost use Rattle.stream_inspection.specs.Told.{IsStreamsRefusal, Tells};
+ghost use Rattle.stream_inspection.specs.Read.{ended_by};
+ghost use Rattle.stream_inspection.specs.Told.{IsEndRefusal, IsStreamsRefusal, Prints, Tells};
 
 use crate::captures::note_captures;
 use crate::inspection::Inspection;
-use crate::target::{Wanted, begin};
+use crate::target::{Target, Wanted, begin};
 use crate::telling::text_of;
 use crate::text::Form;
+use media_file::FileFault;
 use run_outcome::{Fault, Refusal, of_capture, room};
 use st_format::{ByteSink, ByteSource, write_whole};
 use std::alloc::Allocator;
@@ -71,10 +74,49 @@ where
     let Some(target) = begun else {
         return Err(Fault::Refused(Refusal::ReceiveNoSdp));
     };
-    let text = text_of(alloc, form, &target, &inspection)?;
-    write_whole(output, &text)?;
+    finish(alloc, form, &target, &inspection, end, output)
+}
+
+/// Prints the text of what was counted, and answers the fault that ended the reading.
+fn finish<A: Allocator + Copy, O: ByteSink>(
+    alloc: A,
+    form: Form,
+    target: &Target,
+    inspection: &Inspection<A>,
+    end: Option<FileFault>,
+    output: &mut O,
+) -> Result<(), Fault>
+    ensures whole { OnOk result (end ≡ None) }
+    ensures printed { OnOk result (Prints form target.now inspection.now (O.took output.old)
+        (O.took output.new)) }
+    ensures refusal { IfErr result (λ f. OfRefusal f (IsEndRefusal form target.now inspection.now
+        end (O.took output.old) (O.took output.new))) }
+    ensures failures { (d e : Failures) → d.after ≡ d.before
+        → Accounts (ended_by (Ok end)) (e ∷ []) → Accounts result (d ∷ e
+        ∷ counts (O.failures output.old) (O.failures output.new) ∷ []) }
+{
+    let text = match text_of(alloc, form, target, inspection) {
+        Ok(text) => text,
+        Err(_) => return Err(wanting(end)),
+    };
+    if write_whole(output, &text).is_err() {
+        return Err(Fault::Device);
+    }
     match end {
         None => Ok(()),
         Some(fault) => Err(of_capture(fault)),
+    }
+}
+
+/// What ends a run that wants memory behind this end: that a device failed, where one did.
+fn wanting(end: Option<FileFault>) -> Fault
+    ensures unrefused { IfRefused result ⊥ }
+    ensures blames { (d e f : Failures) → d.after ≡ d.before
+        → Accounts (ended_by (Ok end)) (e ∷ []) → f.after ≡ f.before
+        → Blames (d ∷ e ∷ f ∷ []) result }
+{
+    match end {
+        Some(FileFault::Device) => Fault::Device,
+        _ => Fault::Memory,
     }
 }

@@ -20,13 +20,19 @@ impl Probe {
     pub(crate) fn new(packet: &Packet, moment: u64) -> Probe
         ensures { Some result ≡ probe_of (arrival packet.now moment ∷ []) }
     {
-        let mut probe = Probe {
-            sequence: packet.sequence,
-            a: None,
-            b: None,
-        };
-        probe.note(packet, moment);
-        probe
+        let known = first_known(None, moment);
+        match packet.path {
+            Path::A => Probe {
+                sequence: packet.sequence,
+                a: known,
+                b: None,
+            },
+            Path::B => Probe {
+                sequence: packet.sequence,
+                a: None,
+                b: known,
+            },
+        }
     }
 
     /// Notes one more packet of the timestamp.
@@ -51,7 +57,7 @@ impl Probe {
         let (Some(a), Some(b)) = (self.a, self.b) else {
             return None;
         };
-        Some((1 << 64) + u128::from(b) - u128::from(a))
+        Some(((1 << 64) + u128::from(b)).saturating_sub(u128::from(a)))
     }
 }
 

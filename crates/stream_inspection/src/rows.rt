@@ -149,6 +149,114 @@ impl fmt::Display for Columns {
     }
 }
 
+/// The stream of a row, as members of a JSON object.
+#[derive(Clone, Copy)]
+struct JsonKey(StreamKey);
+
+impl fmt::Display for JsonKey {
+    ghost use Rattle.stream_inspection.specs.Json.{key_json};
+
+    ghost output = { λ k. Some (key_json k.0) };
+
+    fn fmt<W: fmt::Write>(&self, f: &mut fmt::Formatter<W>) -> fmt::Result {
+        write!(
+            f,
+            "\"payload_type\":{},\"ssrc\":{}",
+            self.0.payload_type, self.0.ssrc
+        )
+    }
+}
+
+/// How many datagrams came by a path and between which numbers, as members.
+#[derive(Clone, Copy)]
+struct JsonRange(PathRow);
+
+impl fmt::Display for JsonRange {
+    ghost use Rattle.stream_inspection.specs.Json.{range_json};
+
+    ghost output = { λ r. Some (range_json r.0) };
+
+    fn fmt<W: fmt::Write>(&self, f: &mut fmt::Formatter<W>) -> fmt::Result {
+        let lowest = Null(self.0.lowest);
+        let highest = Null(self.0.highest);
+        write!(
+            f,
+            "\"datagrams\":{},\"lowest\":{lowest},\"highest\":{highest}",
+            self.0.datagrams
+        )
+    }
+}
+
+/// What is wrong on a path, as members.
+#[derive(Clone, Copy)]
+struct JsonWrong(PathRow);
+
+impl fmt::Display for JsonWrong {
+    ghost use Rattle.stream_inspection.specs.Json.{wrong_json};
+
+    ghost output = { λ w. Some (wrong_json w.0) };
+
+    fn fmt<W: fmt::Write>(&self, f: &mut fmt::Formatter<W>) -> fmt::Result {
+        write!(
+            f,
+            "\"lost\":{},\"repeated\":{},\"late\":{}",
+            self.0.lost, self.0.repeated, self.0.late
+        )
+    }
+}
+
+/// What never came of a stream, as members.
+#[derive(Clone, Copy)]
+struct JsonLost(TogetherRow);
+
+impl fmt::Display for JsonLost {
+    ghost use Rattle.stream_inspection.specs.Json.{lost_json};
+
+    ghost output = { λ l. Some (lost_json l.0) };
+
+    fn fmt<W: fmt::Write>(&self, f: &mut fmt::Formatter<W>) -> fmt::Result {
+        write!(
+            f,
+            "\"lost_by_a\":{},\"lost_by_b\":{},\"lost_by_both\":{}",
+            self.0.lost_by_a, self.0.lost_by_b, self.0.lost_by_both
+        )
+    }
+}
+
+/// What came of a timestamp, as members.
+#[derive(Clone, Copy)]
+struct JsonCame(TimestampRow);
+
+impl fmt::Display for JsonCame {
+    ghost use Rattle.stream_inspection.specs.Json.{came_json};
+
+    ghost output = { λ c. Some (came_json c.0) };
+
+    fn fmt<W: fmt::Write>(&self, f: &mut fmt::Formatter<W>) -> fmt::Result {
+        write!(
+            f,
+            "\"timestamp\":{},\"a\":{},\"b\":{}",
+            self.0.key.timestamp, self.0.by_a, self.0.by_b
+        )
+    }
+}
+
+/// A reason for which datagrams are refused, as members.
+#[derive(Clone, Copy)]
+struct JsonReason(Refusal);
+
+impl fmt::Display for JsonReason {
+    ghost use Rattle.stream_inspection.specs.Json.{reason_json};
+
+    ghost output = { λ r. Some (reason_json r.0) };
+
+    fn fmt<W: fmt::Write>(&self, f: &mut fmt::Formatter<W>) -> fmt::Result {
+        let number = self.0.number();
+        let name = self.0.name();
+        write!(f, "\"number\":{number},\"name\":\"{name}\"")
+    }
+}
+
 /// A row as a JSON object.
 #[derive(Clone, Copy)]
 pub(crate) struct Json(pub(crate) Row);
@@ -159,48 +267,34 @@ impl fmt::Display for Json {
     fn fmt<W: fmt::Write>(&self, f: &mut fmt::Formatter<W>) -> fmt::Result {
         match self.0 {
             Row::Path(row) => {
+                let key = JsonKey(row.key);
                 let path = Letter(row.path);
-                let lowest = Null(row.lowest);
-                let highest = Null(row.highest);
+                let range = JsonRange(row);
+                let wrong = JsonWrong(row);
                 write!(
                     f,
-                    "{{\"kind\":\"path\",\"payload_type\":{},\"ssrc\":{},\"path\":\"{path}\",\
-                     \"datagrams\":{},\"lowest\":{lowest},\"highest\":{highest},\"lost\":{},\
-                     \"repeated\":{},\"late\":{}}}",
-                    row.key.payload_type,
-                    row.key.ssrc,
-                    row.datagrams,
-                    row.lost,
-                    row.repeated,
-                    row.late
+                    "{{\"kind\":\"path\",{key},\"path\":\"{path}\",{range},{wrong}}}"
                 )
             }
             Row::Together(row) => {
+                let key = JsonKey(row.key);
+                let lost = JsonLost(row);
                 write!(
                     f,
-                    "{{\"kind\":\"together\",\"payload_type\":{},\"ssrc\":{},\"both\":{},\
-                     \"lost_by_a\":{},\"lost_by_b\":{},\"lost_by_both\":{}}}",
-                    row.key.payload_type,
-                    row.key.ssrc,
-                    row.both,
-                    row.lost_by_a,
-                    row.lost_by_b,
-                    row.lost_by_both
+                    "{{\"kind\":\"together\",{key},\"both\":{},{lost}}}",
+                    row.both
                 )
             }
             Row::Timestamp(row) => {
+                let key = JsonKey(row.key.stream);
+                let came = JsonCame(row);
                 let marker = Truth(row.marker);
                 let ticks = Null(row.ticks);
                 let skew = NullSkew(row.skew);
                 write!(
                     f,
-                    "{{\"kind\":\"timestamp\",\"payload_type\":{},\"ssrc\":{},\"timestamp\":{},\
-                     \"a\":{},\"b\":{},\"marker\":{marker},\"ticks\":{ticks},\"skew\":{skew}}}",
-                    row.key.stream.payload_type,
-                    row.key.stream.ssrc,
-                    row.key.timestamp,
-                    row.by_a,
-                    row.by_b
+                    "{{\"kind\":\"timestamp\",{key},{came},\"marker\":{marker},\
+                     \"ticks\":{ticks},\"skew\":{skew}}}"
                 )
             }
             Row::Skew(row) => {
@@ -215,13 +309,8 @@ impl fmt::Display for Json {
                 )
             }
             Row::Refused(refusal, count) => {
-                let number = refusal.number();
-                let name = refusal.name();
-                write!(
-                    f,
-                    "{{\"kind\":\"refused\",\"number\":{number},\"name\":\"{name}\",\
-                     \"datagrams\":{count}}}"
-                )
+                let reason = JsonReason(refusal);
+                write!(f, "{{\"kind\":\"refused\",{reason},\"datagrams\":{count}}}")
             }
             Row::Control(count) => write!(f, "{{\"kind\":\"rtcp\",\"datagrams\":{count}}}"),
             Row::Nothing(payload_type) => {
