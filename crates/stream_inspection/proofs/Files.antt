@@ -43,6 +43,9 @@ failed_by : (old new : ℕ) → CountsOne old new → (old < 2 ^ 64 - 1) ⊎ (2 
 failed_by old new one (inl below) = inl (omega (arith, one, below))
 failed_by old new one (inr most) = inr most
 
+pub counts_failed : (old new : ℕ) → CountsOne old new → HasFailed old new
+counts_failed old new one = failed_by old new one (cases_lt old (2 ^ 64 - 1))
+
 fault_blames : (f : FileFault) (old new : ℕ) → CountsFault f old new
     → Blames (counts old new ∷ []) (capture_fault f)
 fault_blames NoMemory old new count = count

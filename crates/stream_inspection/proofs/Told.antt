@@ -2,7 +2,7 @@
 use Rattle.std.proofs.Common.{◌≡◌, ◌∙◌, ℕ, List, [], ◌∷◌, ◌++◌, take, Option, None, Some, refl, ap, sym, subst}
 use Rattle.std.proofs.Common.{map, inl, inr}
 use Rattle.std.specs.List.{AllZip, flat_map, zip}
-use Rattle.std.proofs.Common.{Result, Ok, Err}
+use Rattle.std.proofs.Common.{Result, Ok, Err, OnOk}
 use Rattle.capture_engines.specs.Taking.{capture_said}
 use Rattle.media_file.specs.Faults.{IfContent}
 use Rattle.media_file.specs.Records.{Entry}
@@ -13,6 +13,7 @@ use Rattle.media_file.specs.declared.fault.FileFault.TheVariants.{TrailingBytes,
 use Rattle.media_file.specs.declared.fault.FileFault.TheVariants.{TooManyRecords}
 use Rattle.capture_engines.specs.Received.{FirstRefuses}
 use Rattle.run_outcome.specs.Fault.{Accounts, Blames, Failures}
+use Rattle.run_outcome.specs.declared.fault.Fault.{Fault}
 use Rattle.run_outcome.specs.declared.fault.Fault.TheVariants.{Memory}
 use Rattle.run_outcome.specs.LowerFaults.{capture_fault}
 use Rattle.run_outcome.specs.Refusing.{OfRefusal}
@@ -24,9 +25,11 @@ use Rattle.stream_counts.specs.declared.packet.Packet.{Packet}
 use Rattle.stream_counts.specs.declared.packet.StreamKey.{StreamKey}
 use Rattle.stream_inspection.specs.Aim.{Announces, IsBegun, IsTarget, ReadsTarget}
 use Rattle.stream_inspection.specs.Inspected.{IsInspected}
-use Rattle.stream_inspection.specs.Read.{HaveRecords, MayBe, NotesFiles, Settles, ended_by}
+use Rattle.stream_inspection.specs.Read.{HaveRecords, IfEnd, MayBe, NotesFiles, NotesUpTo}
+use Rattle.stream_inspection.specs.Read.{Settles, ended_by}
 use Rattle.stream_inspection.specs.Streams.{stream_lines}
-use Rattle.stream_inspection.specs.Told.{IsContent, IsEndRefusal, IsText, Prints, Tells, begins}
+use Rattle.stream_inspection.specs.Told.{IsContent, IsEndRefusal, IsStreamsRefusal, IsText}
+use Rattle.stream_inspection.specs.Told.{Prints, Tells, begins}
 use Rattle.stream_inspection.specs.declared.inspection.Inspection.{Inspection}
 use Rattle.stream_inspection.specs.declared.target.Target.{Target}
 use Rattle.stream_inspection.specs.declared.target.Wanted.{Wanted}
@@ -180,3 +183,41 @@ pub some_begun : {S : Type 0} (told : S → List ℕ → Type 0) (sdp : Option S
     → sdp ≡ Some s → ReadsTarget (told s) t → IsBegun Said told sdp (Some t)
 some_begun told sdp s t is read =
     subst (λ (o : Option _). IsBegun Said told o (Some t)) (sym is) (t, refl, read)
+
+-- ---- the run
+
+module _ {S A : Type 0} (w : Wanted) (form : Form) (told : S → List ℕ → Type 0) (sdp : Option S)
+    (captures : List S) (end : Option FileFault) (begun after : Option Target) (t : Target)
+    (old new : Inspection A) (shown shown' : List ℕ) (opens : IsBegun w told sdp begun)
+    (fresh : (u : Target) → IsInspected u old [])
+    (notes : IfEnd end (NotesUpTo told captures end begun after old new))
+    (is : after ≡ Some t) where
+  tells_whole : end ≡ None → Prints form t new shown shown'
+      → Tells w form told sdp captures None shown shown'
+  tells_whole none prints =
+      tells w form told sdp captures None begun after t old new prints.text shown shown' opens
+      fresh
+      (subst (λ (e : Option FileFault). IfEnd e (NotesUpTo told captures e begun after old new))
+      none notes)
+      is prints.is prints.printed
+
+  pub told_if : {V : Type 0} (r : Result V Fault) → OnOk r (end ≡ None)
+      → OnOk r (Prints form t new shown shown')
+      → OnOk r (Tells w form told sdp captures None shown shown')
+  told_if (Ok v) none prints = tells_whole none prints
+  told_if (Err f) none prints = tt
+
+  pub streams_refused : (r : Refusal) → IsEndRefusal form t new end shown shown' r
+      → IsStreamsRefusal w form told sdp captures shown shown' r
+  streams_refused r e =
+      let n =
+      content_of e.fault (NotesUpTo told captures (Some e.fault) begun after old new) e.content
+      (subst (λ (x : Option FileFault). IfEnd x (NotesUpTo told captures x begun after old new))
+      e.ended notes) in
+      inr (
+        e.fault,
+        n.0,
+        e.is,
+        tells w form told sdp (take n.0 captures) (Some e.fault) begun after t old new
+            e.printed.text shown shown' opens fresh n.1 is e.printed.is e.printed.printed,
+      )

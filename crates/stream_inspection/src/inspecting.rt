@@ -99,8 +99,9 @@ fn finish<A: Allocator + Copy, O: ByteSink>(
         Ok(text) => text,
         Err(_) => return Err(wanting(end)),
     };
-    if write_whole(output, &text).is_err() {
-        return Err(Fault::Device);
+    match write_whole(output, &text) {
+        Ok(()) => {}
+        Err(_) => return Err(Fault::Device),
     }
     match end {
         None => Ok(()),
