@@ -145,31 +145,31 @@ content_of TooManyRecords P content is = is
 pub memory_blames : (end : Option FileFault) (d e f : Failures) → (end ≡ Some Device → ⊥)
     → d.after ≡ d.before → Accounts (ended_by (Ok end)) (e ∷ []) → f.after ≡ f.before
     → Blames (d ∷ e ∷ f ∷ []) Memory
-memory_blames None d e f isnt first second third = (first, second, third)
-memory_blames (Some NoMemory) d e f isnt first second third = (first, second, third)
+memory_blames None d e f isnt first second third = (first, (second, third))
+memory_blames (Some NoMemory) d e f isnt first second third = (first, (second, third))
 memory_blames (Some Device) d e f isnt first second third = absurd (isnt refl)
-memory_blames (Some BadName) d e f isnt first second third = (first, second, third)
-memory_blames (Some BadVersion) d e f isnt first second third = (first, second, third)
-memory_blames (Some Truncated) d e f isnt first second third = (first, second, third)
-memory_blames (Some BadField) d e f isnt first second third = (first, second, third)
-memory_blames (Some TrailingBytes) d e f isnt first second third = (first, second, third)
-memory_blames (Some MixedGroup) d e f isnt first second third = (first, second, third)
-memory_blames (Some TooManyRecords) d e f isnt first second third = (first, second, third)
+memory_blames (Some BadName) d e f isnt first second third = (first, (second, third))
+memory_blames (Some BadVersion) d e f isnt first second third = (first, (second, third))
+memory_blames (Some Truncated) d e f isnt first second third = (first, (second, third))
+memory_blames (Some BadField) d e f isnt first second third = (first, (second, third))
+memory_blames (Some TrailingBytes) d e f isnt first second third = (first, (second, third))
+memory_blames (Some MixedGroup) d e f isnt first second third = (first, (second, third))
+memory_blames (Some TooManyRecords) d e f isnt first second third = (first, (second, third))
 
 -- the end of a run whose output didn't fail
 pub end_accounts : (end : Option FileFault) (d e f : Failures) → d.after ≡ d.before
     → Accounts (ended_by (Ok end)) (e ∷ []) → f.after ≡ f.before
     → Accounts (ended_by (Ok end)) (d ∷ e ∷ f ∷ [])
-end_accounts None d e f first second third = (first, second, third)
-end_accounts (Some NoMemory) d e f first second third = (first, second, third)
+end_accounts None d e f first second third = (first, (second, third))
+end_accounts (Some NoMemory) d e f first second third = (first, (second, third))
 end_accounts (Some Device) d e f first second third = inr (inl second)
-end_accounts (Some BadName) d e f first second third = (first, second, third)
-end_accounts (Some BadVersion) d e f first second third = (first, second, third)
-end_accounts (Some Truncated) d e f first second third = (first, second, third)
-end_accounts (Some BadField) d e f first second third = (first, second, third)
-end_accounts (Some TrailingBytes) d e f first second third = (first, second, third)
-end_accounts (Some MixedGroup) d e f first second third = (first, second, third)
-end_accounts (Some TooManyRecords) d e f first second third = (first, second, third)
+end_accounts (Some BadName) d e f first second third = (first, (second, third))
+end_accounts (Some BadVersion) d e f first second third = (first, (second, third))
+end_accounts (Some Truncated) d e f first second third = (first, (second, third))
+end_accounts (Some BadField) d e f first second third = (first, (second, third))
+end_accounts (Some TrailingBytes) d e f first second third = (first, (second, third))
+end_accounts (Some MixedGroup) d e f first second third = (first, (second, third))
+end_accounts (Some TooManyRecords) d e f first second third = (first, (second, third))
 
 -- a run with no capture
 pub no_captures : {S : Type 0} (told : S × S → List ℕ → Type 0) (old new : List S) → old ≡ []

@@ -105,10 +105,27 @@ fn put_all<A: Allocator + Copy>(
 {
     let mut lasts = Lasts::new(alloc);
     for count in counts {
-        put_one(text, form, count, &lasts, probes)?;
-        lasts.add(count)?;
+        put_next(text, form, count, &mut lasts, probes)?;
     }
     Ok(())
+}
+
+/// Puts the row of a timestamp, and takes it as the last of its stream.
+fn put_next<A: Allocator + Copy>(
+    text: &mut Vec<u8, A>,
+    form: Form,
+    count: &TimestampCount,
+    lasts: &mut Lasts<A>,
+    probes: &ProbeTable<A>,
+) -> Result<(), AllocError>
+    ensures lasts { OnOk result ((front : List Count) → AreLasts lasts.old front
+        → AreLasts lasts.new (front ++ count.now ∷ [])) }
+    ensures printed { OnOk result ((arrivals : List Arrival) (front : List Count)
+        → AreProbes probes.now arrivals → AreLasts lasts.old front
+        → text.new.items ≡ text.old.items ++ timestamp_line form arrivals front count.now) }
+{
+    put_one(text, form, count, lasts, probes)?;
+    lasts.add(count)
 }
 
 /// Puts the row of a timestamp.

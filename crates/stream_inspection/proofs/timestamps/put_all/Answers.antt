@@ -10,10 +10,10 @@ loop-count-preserved g c =
     let x = c.count-item.result in
     let more = take_on xs l.count-index x x c.loop-count-test.true c.count-item.is in
     record {
-      lasts = subst (λ (ys : _). AreLasts c.add.new.self ys) (sym more)
-          (c.in_ok-add.ensures (take l.count-index xs) l.invariant.lasts);
+      lasts = subst (λ (ys : _). AreLasts c.put_next.new.lasts ys) (sym more)
+          (c.in_ok-put_next.ensures.lasts (take l.count-index xs) l.invariant.lasts);
       printed = λ arrivals are.
           lines_on c.args.form arrivals _ _ _ xs l.count-index x
           (l.invariant.printed arrivals are)
-          (c.in_ok-put_one.ensures arrivals (take l.count-index xs) are l.invariant.lasts) more;
+          (c.in_ok-put_next.ensures.printed arrivals (take l.count-index xs) are l.invariant.lasts) more;
     }
