@@ -96,12 +96,12 @@ behind_more form arrivals front (x ∷ xs) c =
     ++ timestamps_behind form arrivals (front ++ x ∷ []) xs) ++ timestamp_line form arrivals l c)
     (append_assoc front (x ∷ []) xs)
 
-pub take_on : (xs : List TimestampCount) (i : ℕ) (d c : TimestampCount) → i < length xs
+take_on : (xs : List TimestampCount) (i : ℕ) (d c : TimestampCount) → i < length xs
     → c ≡ get_or xs i d → take (i + 1) xs ≡ take i xs ++ c ∷ []
 take_on xs i d c lt is =
     take_more xs i d lt ∙ ap (λ (y : TimestampCount). take i xs ++ y ∷ []) (sym is)
 
-pub lines_on : (form : Form) (arrivals : List Arrival) (t0 t1 t2 : List ℕ)
+lines_on : (form : Form) (arrivals : List Arrival) (t0 t1 t2 : List ℕ)
     (xs : List TimestampCount) (i : ℕ) (c : TimestampCount)
     → t1 ≡ t0 ++ timestamps_behind form arrivals [] (take i xs)
     → t2 ≡ t1 ++ timestamp_line form arrivals (take i xs) c
@@ -115,3 +115,20 @@ lines_on form arrivals t0 t1 t2 xs i c p q more =
     (timestamp_line form arrivals front c)
     ∙ ap (λ (l : List ℕ). t0 ++ l) (sym (behind_more form arrivals [] front c))
     ∙ ap (λ (l : List TimestampCount). t0 ++ timestamps_behind form arrivals [] l) (sym more)
+
+-- the same of the item of a place
+pub lasts_next : {A : Type 0} (table : Lasts A) (xs : List TimestampCount) (i : ℕ)
+    (d : TimestampCount) → i < length xs → AreLasts table (take i xs ++ get_or xs i d ∷ [])
+    → AreLasts table (take (i + 1) xs)
+lasts_next table xs i d lt are =
+    subst (λ (ys : List TimestampCount). AreLasts table ys)
+    (sym (take_on xs i d (get_or xs i d) lt refl)) are
+
+pub lines_next : (form : Form) (arrivals : List Arrival) (t0 t1 t2 : List ℕ)
+    (xs : List TimestampCount) (i : ℕ) (d : TimestampCount) → i < length xs
+    → t1 ≡ t0 ++ timestamps_behind form arrivals [] (take i xs)
+    → t2 ≡ t1 ++ timestamp_line form arrivals (take i xs) (get_or xs i d)
+    → t2 ≡ t0 ++ timestamps_behind form arrivals [] (take (i + 1) xs)
+lines_next form arrivals t0 t1 t2 xs i d lt p q =
+    lines_on form arrivals t0 t1 t2 xs i (get_or xs i d) p q
+    (take_on xs i d (get_or xs i d) lt refl)
