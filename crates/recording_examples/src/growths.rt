@@ -4,6 +4,7 @@ use crate::checks::met;
 use crate::export::is_exported;
 use crate::import::is_imported;
 use crate::inspect::are_told;
+use crate::streams::are_told as streams_are_told;
 use refusing::Refusing;
 use std::alloc::Global;
 use std::process::Abort;
@@ -16,6 +17,7 @@ enum Engine {
     Import,
     Inspect,
     Export,
+    Streams,
 }
 
 impl Wanting for Engine {
@@ -24,6 +26,7 @@ impl Wanting for Engine {
             Engine::Import => is_imported(global, refusing)?,
             Engine::Inspect => are_told(global, refusing)?,
             Engine::Export => is_exported(global, refusing)?,
+            Engine::Streams => streams_are_told(global, refusing)?,
         })
     }
 }
@@ -46,5 +49,12 @@ fn of_inspect(rt: HostRuntime) -> Result<(), Fail> {
 #[test]
 fn of_export(rt: HostRuntime) -> Result<(), Fail> {
     met(&rt, growths(rt.alloc(), &Engine::Export)? == Some(2));
+    Ok(())
+}
+
+/// For the SDP text, the rooms, the tables and their indexes, and the text.
+#[test]
+fn of_streams(rt: HostRuntime) -> Result<(), Fail> {
+    met(&rt, grows(rt.alloc(), &Engine::Streams, 10)?);
     Ok(())
 }

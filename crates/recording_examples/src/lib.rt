@@ -32,4 +32,6 @@ mod reading;
 #[cfg(test)]
 mod recordings;
 #[cfg(test)]
+mod streams;
+#[cfg(test)]
 mod written;

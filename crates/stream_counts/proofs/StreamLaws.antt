@@ -136,7 +136,7 @@ module _ {A : Type 0} where
 
   module _ (k : StreamKey) (own : List Packet) (p : Packet) (old : StreamCount A) (n hi both : ℕ)
       (how : Came) (there : Bool) (e : old ≡ stream_of k own)
-      (n_is : n ≡ number_after old.highest p.sequence)
+      (n_is : n ≡ number_after old.highest p)
       (hi_is : hi ≡ option_map_or (λ h. max h n) old.highest n)
       (both_is : both ≡ one_more old.both (not (is_repeated how) && there)) where
     abbrev ns : List Numbered
@@ -149,7 +149,7 @@ module _ {A : Type 0} where
     all = ns ++ m ∷ []
 
     same_number : n ≡ m.number
-    same_number = n_is ∙ ap (λ (x : StreamCount A). number_after x.highest p.sequence) e
+    same_number = n_is ∙ ap (λ (x : StreamCount A). number_after x.highest p) e
 
     highest_is : Some hi ≡ highest_of (map number all)
     highest_is =

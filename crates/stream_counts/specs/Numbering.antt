@@ -1,37 +1,49 @@
--- Numbers of packets over more than one round of the 16 bits of a sequence number.
-use Rattle.std.specs.Prelude.{◌≡◌, ℕ, ◌+◌, ◌-◌, ◌%◌, ◌^◌, ◌<◌, ◌≤◌, min, max, nat_lt}
+-- Numbers of packets over more than one round of the bits that packets say of them.
+use Rattle.std.specs.Prelude.{◌≡◌, ℕ, ◌+◌, ◌-◌, ◌*◌, ◌/◌, ◌%◌, ◌^◌, ◌<◌, ◌≤◌, min, max, nat_lt}
 use Rattle.std.specs.Prelude.{if◌then◌else◌}
 use Rattle.std.specs.Prelude.{List, [], ◌∷◌, ◌++◌, map, Option, Some, None}
 use Rattle.std.specs.Option.{option_map_or}
 use Rattle.st_format.specs.declared.path.Path.{Path}
 use Rattle.stream_counts.specs.declared.packet.Packet.{Packet}
 
--- The number has these 16 low bits, and lies less than half a round from another one. RFC 3550, A.1
-pub record IsNearest (highest sequence number : ℕ) : Type 0 where
-  pub bits : number % 2 ^ 16 ≡ sequence
-  pub above : highest ≤ number + 2 ^ 15
-  pub below : number < highest + 2 ^ 15
+-- The number has these low bits, of as many as a round has numbers, and lies at most half a round
+-- from another one. RFC 3550, A.1
+pub record IsNearest (round highest low number : ℕ) : Type 0 where
+  pub bits : number % round ≡ low
+  pub above : highest ≤ number + round / 2
+  pub below : number < highest + round / 2
 
 -- a count and a number stay at their greatest (own)
 abbrev pub capped : ℕ → ℕ
 capped n = min n (2 ^ 64 - 1)
 
--- how far a sequence number is ahead of a number's 16 low bits
-abbrev pub ahead : ℕ → ℕ → ℕ
-ahead number sequence = (sequence + 2 ^ 16 - number % 2 ^ 16) % 2 ^ 16
+-- how far low bits are ahead of a number's
+abbrev pub ahead : ℕ → ℕ → ℕ → ℕ
+ahead round number low = (low + round - number % round) % round
 
--- the number with these 16 low bits that is nearest to the highest so far
-abbrev pub nearest : ℕ → ℕ → ℕ
-nearest highest sequence =
-    if nat_lt (ahead highest sequence) (2 ^ 15)
-    then capped (highest + ahead highest sequence)
-    else highest - (2 ^ 16 - ahead highest sequence)
+-- the number with these low bits that is nearest to the highest so far
+abbrev pub nearest : ℕ → ℕ → ℕ → ℕ
+nearest round highest low =
+    if nat_lt (ahead round highest low) (round / 2)
+    then capped (highest + ahead round highest low)
+    else highest - (round - ahead round highest low)
 
--- The number of a packet behind others, of which this is the highest. The first one's is its
--- sequence number and a round, so that others have place below it (own).
-abbrev pub number_after : Option ℕ → ℕ → ℕ
-number_after None sequence = 2 ^ 16 + sequence
-number_after (Some highest) sequence = nearest highest sequence
+-- what packets say of their number: 16 bits, and 16 more above them where the payload has these.
+-- RFC 4175, 4.2
+abbrev pub low_bits : Option ℕ → ℕ → ℕ
+low_bits None sequence = sequence
+low_bits (Some extended) sequence = 65536 * extended + sequence
+
+abbrev pub nearest_by : Option ℕ → ℕ → ℕ → ℕ
+nearest_by None highest sequence = nearest (2 ^ 16) highest sequence
+nearest_by (Some extended) highest sequence =
+    nearest (2 ^ 32) highest (low_bits (Some extended) sequence)
+
+-- The number of a packet behind others, of which this is the highest. The first one's is what it
+-- says and a round of 32 bits, so that others have place below it (own).
+abbrev pub number_after : Option ℕ → Packet → ℕ
+number_after None p = 2 ^ 32 + low_bits p.extended p.sequence
+number_after (Some highest) p = nearest_by p.extended highest p.sequence
 
 -- the first of a list joined with the others, if there are such
 abbrev pub joined : (ℕ → ℕ → ℕ) → List ℕ → Option ℕ
@@ -55,7 +67,7 @@ abbrev pub numbered_behind : List Numbered → Packet → Numbered
 numbered_behind before p =
     record {
       path = p.path;
-      number = number_after (highest_of (map (λ n. n.number) before)) p.sequence;
+      number = number_after (highest_of (map (λ n. n.number) before)) p;
     }
 
 -- the packets of a stream with their numbers, in the order of their coming

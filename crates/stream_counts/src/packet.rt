@@ -15,6 +15,9 @@ pub struct Packet {
     pub ssrc: u32,
     /// The sequence number.
     pub sequence: u16,
+    /// The extended number, the upper 16 bits of the packet's number, where its payload has one
+    /// (RFC 4175, 4.2).
+    pub extended: Option<u16>,
     /// The time that the payload belongs to, for video in ticks of a 90 kHz clock.
     pub timestamp: u32,
     /// M. For video it is set on the last packet of a frame.

@@ -50,7 +50,7 @@ impl<A: Allocator + Copy> StreamCount<A> {
         ensures same { self.new.key ≡ self.old.key }
         ensures kept { OnErr result (self.new ≡ self.old) }
     {
-        let number = number_after(self.highest, packet.sequence);
+        let number = number_after(self.highest, packet);
         if is_a(packet.path) {
             self.note_by_a(number)
         } else {
@@ -62,7 +62,7 @@ impl<A: Allocator + Copy> StreamCount<A> {
     fn note_by_a(&mut self, number: u64) -> Result<(), AllocError>
         ensures counted { OnOk result ((key : KeyValue) (own : List PacketValue) (p : PacketValue)
             → self.old ≡ stream_of key own → is_a p.path ≡ true
-            → number ≡ number_after self.old.highest p.sequence
+            → number ≡ number_after self.old.highest p
             → self.new ≡ stream_of key (own ++ p ∷ [])) }
         ensures same { self.new.key ≡ self.old.key }
         ensures kept { OnErr result (self.new ≡ self.old) }
@@ -78,7 +78,7 @@ impl<A: Allocator + Copy> StreamCount<A> {
     fn note_by_b(&mut self, number: u64) -> Result<(), AllocError>
         ensures counted { OnOk result ((key : KeyValue) (own : List PacketValue) (p : PacketValue)
             → self.old ≡ stream_of key own → is_a p.path ≡ false
-            → number ≡ number_after self.old.highest p.sequence
+            → number ≡ number_after self.old.highest p
             → self.new ≡ stream_of key (own ++ p ∷ [])) }
         ensures same { self.new.key ≡ self.old.key }
         ensures kept { OnErr result (self.new ≡ self.old) }

@@ -1,0 +1,10 @@
+mod Answering
+mod Noting
+mod Reading
+mod Files
+mod Told
+mod Moments
+mod Lasts
+mod Refusals
+mod Wide
+mod Texts

@@ -1,0 +1,238 @@
+-- One more record in an inspection.
+use Rattle.std.proofs.Common.{◌≡◌, ◌∙◌, ℕ, ◌+◌, ◌-◌, ◌^◌, Bool, true, false, cond, min, List, []}
+use Rattle.std.proofs.Common.{◌∷◌, ◌++◌, map, Option, None, Some, Result, refl, ap, sym, subst, arith}
+use Rattle.std.proofs.Common.{append_assoc, append-nil}
+use Rattle.std.proofs.lemmas.Grind.{flat_map-append}
+use Rattle.std.proofs.lemmas.List.{map-append}
+use Rattle.std.proofs.lemmas.List.Sums.{sum_by-append}
+use Rattle.std.specs.List.{count_by, flat_map}
+use Rattle.media_file.specs.Records.{Entry}
+use Rattle.capture_engines.specs.Tallied.{Tallies, TalliesMore}
+use Rattle.capture_engines.specs.declared.tally.Tally.{Tally}
+use Rattle.path_merge.specs.declared.answer.Refusal.{Refusal}
+use Rattle.path_merge.specs.declared.answer.Taken.{Taken}
+use Rattle.rtp_header.specs.Reading.{rtp_walk}
+use Rattle.stream_counts.specs.Numbering.{capped}
+use Rattle.stream_counts.specs.Streams.{streams_of}
+use Rattle.stream_counts.specs.Timestamps.{timestamps_of}
+use Rattle.stream_counts.specs.declared.packet.Packet.{Packet}
+use Rattle.stream_inspection.specs.Arrivals.{Arrival, answer_at, answers_in, answers_of, arrival}
+use Rattle.stream_inspection.specs.Arrivals.{arrival_if, arrivals_in, arrivals_of, is_control}
+use Rattle.stream_inspection.specs.Arrivals.{packet_by, video_in, video_of}
+use Rattle.stream_inspection.specs.Inspected.{IsInspected, Notes, NotesPacket, controls_of, packets}
+use Rattle.stream_inspection.specs.Skews.{AreProbes}
+use Rattle.stream_inspection.specs.declared.inspection.Inspection.{Inspection}
+use Rattle.stream_inspection.specs.declared.target.Target.{Target}
+
+-- ---- one more of a list
+
+abbrev packet_in : Arrival → Packet
+packet_in a = a.packet
+
+one_behind : {X Y : Type 0} (f : X → List Y) (xs : List X) (x : X)
+    → flat_map f (xs ++ x ∷ []) ≡ flat_map f xs ++ f x
+one_behind {Y = Y} f xs x =
+    flat_map-append f xs (x ∷ [])
+    ∙ ap (λ (l : List Y). flat_map f xs ++ l) (append-nil (f x))
+
+counted : {X : Type 0} (p : X → Bool) (xs : List X) (x : X) (b : Bool) → p x ≡ b
+    → count_by p (xs ++ x ∷ []) ≡ count_by p xs + cond b 1 0
+counted p xs x b is =
+    sum_by-append (λ y. cond (p y) 1 0) xs (x ∷ [])
+    ∙ ap (λ (c : Bool). count_by p xs + (0 + cond c 1 0)) is ∙ omega arith
+
+controls_more : (es : List Entry) (e : Entry) → is_control e.octets ≡ true
+    → controls_of (es ++ e ∷ []) ≡ min (controls_of es + 1) (2 ^ 64 - 1)
+controls_more es e is =
+    ap capped (counted (λ x. is_control x.octets) es e true is)
+    ∙ omega arith
+
+controls_same : (es : List Entry) (e : Entry) → is_control e.octets ≡ false
+    → controls_of (es ++ e ∷ []) ≡ controls_of es
+controls_same es e is =
+    ap capped (counted (λ x. is_control x.octets) es e false is)
+    ∙ omega arith
+
+-- ---- what a record adds
+
+-- one of RTCP
+module _ (t : Target) (es : List Entry) (e : Entry) (is : is_control e.octets ≡ true) where
+  control_arrivals : arrivals_of t (es ++ e ∷ []) ≡ arrivals_of t es
+  control_arrivals =
+      one_behind (arrivals_in t) es e
+      ∙ ap (λ (b : Bool). arrivals_of t es
+      ++ cond b [] (arrival_if (packet_by t e.path (rtp_walk e.octets)) e.moment)) is
+      ∙ append-nil (arrivals_of t es)
+
+  control_answers : answers_of t (es ++ e ∷ []) ≡ answers_of t es
+  control_answers =
+      one_behind (answers_in t) es e
+      ∙ ap (λ (b : Bool). answers_of t es ++ cond b [] (answer_at t e.octets ∷ [])) is
+      ∙ append-nil (answers_of t es)
+
+-- one of another kind
+module _ (t : Target) (es : List Entry) (e : Entry) (is : is_control e.octets ≡ false) where
+  other_arrivals : (o : Option Packet) → packet_by t e.path (rtp_walk e.octets) ≡ o
+      → arrivals_of t (es ++ e ∷ []) ≡ arrivals_of t es ++ arrival_if o e.moment
+  other_arrivals o read =
+      one_behind (arrivals_in t) es e
+      ∙ ap (λ (b : Bool). arrivals_of t es
+      ++ cond b [] (arrival_if (packet_by t e.path (rtp_walk e.octets)) e.moment)) is
+      ∙ ap (λ (p : Option Packet). arrivals_of t es ++ arrival_if p e.moment) read
+
+  other_answers : answers_of t (es ++ e ∷ []) ≡ answers_of t es ++ answer_at t e.octets ∷ []
+  other_answers =
+      one_behind (answers_in t) es e
+      ∙ ap (λ (b : Bool). answers_of t es ++ cond b [] (answer_at t e.octets ∷ [])) is
+
+-- ---- an inspection behind a record
+
+-- of the same packets and answers
+inspected_as : {A : Type 0} (t : Target) (old new : Inspection A) (es fs : List Entry)
+    → arrivals_of t fs ≡ arrivals_of t es → new.streams ≡ old.streams
+    → new.timestamps ≡ old.timestamps → new.probes ≡ old.probes
+    → Tallies new.tally (answers_of t fs) → new.controls ≡ controls_of fs
+    → IsInspected t old es → IsInspected t new fs
+inspected_as {A} t old new es fs same streams timestamps probes tally controls i = record {
+  streams = streams ∙ i.streams
+      ∙ ap (λ (l : List Arrival). streams_of (packets l)) (sym same);
+  timestamps = timestamps ∙ i.timestamps
+      ∙ ap (λ (l : List Arrival). timestamps_of (packets (flat_map (video_in t) l))) (sym same);
+  probes = subst (λ (p : _). AreProbes p (video_of t fs)) (sym probes)
+      (subst (λ (l : List Arrival). AreProbes old.probes (flat_map (video_in t) l)) (sym same)
+      i.probes);
+  tally = tally;
+  controls = controls;
+}
+
+-- one of RTCP was noted
+pub notes_control : {A : Type 0} (t : Target) (e : Entry) (old new : Inspection A)
+    → is_control e.octets ≡ true → new.streams ≡ old.streams → new.timestamps ≡ old.timestamps
+    → new.probes ≡ old.probes → new.tally ≡ old.tally
+    → new.controls ≡ min (old.controls + 1) (2 ^ 64 - 1) → Notes t (e ∷ []) old new
+notes_control t e old new is streams timestamps probes tally controls = record {
+  counted = λ before i.
+      inspected_as t old new before (before ++ e ∷ []) (control_arrivals t before e is) streams
+      timestamps probes
+      (subst (λ (y : Tally). Tallies y (answers_of t (before ++ e ∷ []))) (sym tally)
+      (subst (λ (l : List (Result Taken Refusal)). Tallies old.tally l)
+      (sym (control_answers t before e is)) i.tally))
+      (controls ∙ ap (λ (n : ℕ). min (n + 1) (2 ^ 64 - 1)) i.controls
+      ∙ sym (controls_more before e is))
+      i;
+}
+
+-- one without a header was
+pub notes_other : {A : Type 0} (t : Target) (e : Entry) (old new : Inspection A)
+    → is_control e.octets ≡ false → packet_by t e.path (rtp_walk e.octets) ≡ None
+    → new.streams ≡ old.streams → new.timestamps ≡ old.timestamps
+    → new.probes ≡ old.probes
+    → TalliesMore old.tally new.tally (answer_at t e.octets)
+    → new.controls ≡ old.controls → Notes t (e ∷ []) old new
+notes_other t e old new is none streams timestamps probes tally controls = record {
+  counted = λ before i.
+      inspected_as t old new before (before ++ e ∷ [])
+      (other_arrivals t before e is None none ∙ append-nil (arrivals_of t before)) streams
+      timestamps probes
+      (subst (λ (l : List (Result Taken Refusal)). Tallies new.tally l)
+      (sym (other_answers t before e is)) (tally (answers_of t before) i.tally))
+      (controls ∙ i.controls ∙ sym (controls_same before e is))
+      i;
+}
+
+-- one with a header was: its answer, and then its packet
+pub notes_one : {A : Type 0} (t : Target) (e : Entry) (p : Packet) (old mid new : Inspection A)
+    → is_control e.octets ≡ false → packet_by t e.path (rtp_walk e.octets) ≡ Some p
+    → mid.streams ≡ old.streams → mid.timestamps ≡ old.timestamps → mid.probes ≡ old.probes
+    → TalliesMore old.tally mid.tally (answer_at t e.octets)
+    → mid.controls ≡ old.controls
+    → NotesPacket t (arrival p e.moment) mid new → Notes t (e ∷ []) old new
+notes_one t e p old mid new is some streams timestamps probes tally controls packet = record {
+  counted = λ before i.
+      let a : Arrival = arrival p e.moment in
+      let es : List Entry = before ++ e ∷ [] in
+      let all : arrivals_of t es ≡ arrivals_of t before ++ a ∷ [] =
+      other_arrivals t before e is (Some p) some in
+      let video : video_of t es ≡ video_of t before ++ video_in t a =
+      ap (flat_map (video_in t)) all ∙ one_behind (video_in t) (arrivals_of t before) a in
+      record {
+        streams =
+            packet.streams (packets (arrivals_of t before)) (streams ∙ i.streams)
+            ∙ ap streams_of
+            (sym (ap packets all
+            ∙ map-append packet_in (arrivals_of t before) (a ∷ [])));
+        timestamps =
+            packet.timestamps (video_of t before) (timestamps ∙ i.timestamps)
+            ∙ ap (λ (l : List Arrival). timestamps_of (packets l)) (sym video);
+        probes =
+            subst (λ (l : List Arrival). AreProbes new.probes l) (sym video)
+            (packet.probes (video_of t before)
+            (subst (λ (q : _). AreProbes q (video_of t before)) (sym probes) i.probes));
+        tally =
+            subst (λ (y : Tally). Tallies y (answers_of t es)) (sym packet.tally)
+            (subst (λ (l : List (Result Taken Refusal)). Tallies mid.tally l)
+            (sym (other_answers t before e is)) (tally (answers_of t before) i.tally));
+        controls =
+            packet.controls ∙ controls ∙ i.controls ∙ sym (controls_same before e is);
+      };
+}
+
+-- ---- several records
+
+pub notes_none : {A : Type 0} (t : Target) (s : Inspection A) → Notes t [] s s
+notes_none t s = record {
+  counted = λ before i.
+      subst (λ (l : List Entry). IsInspected t s l) (sym (append-nil before)) i;
+}
+
+pub notes_then : {A : Type 0} (t : Target) (es fs : List Entry) (old mid new : Inspection A)
+    → Notes t es old mid → Notes t fs mid new → Notes t (es ++ fs) old new
+notes_then t es fs old mid new first second = record {
+  counted = λ before i.
+      subst (λ (l : List Entry). IsInspected t new l) (append_assoc before es fs)
+      (second.counted (before ++ es) (first.counted before i));
+}
+
+-- ---- one more packet
+
+-- one of another payload type
+pub packet_other : {A : Type 0} (t : Target) (a : Arrival) (old new : Inspection A)
+    → video_in t a ≡ [] → ((ps : List Packet) → old.streams ≡ streams_of ps
+    → new.streams ≡ streams_of (ps ++ a.packet ∷ [])) → new.timestamps ≡ old.timestamps
+    → new.probes ≡ old.probes → new.tally ≡ old.tally → new.controls ≡ old.controls
+    → NotesPacket t a old new
+packet_other t a old new none streams timestamps probes tally controls = record {
+  streams = streams;
+  timestamps = λ earlier e.
+      timestamps ∙ e
+      ∙ ap (λ (l : List Arrival). timestamps_of (packets l))
+      (sym (ap (λ (l : List Arrival). earlier ++ l) none ∙ append-nil earlier));
+  probes = λ earlier are.
+      subst (λ (p : _). AreProbes p (earlier ++ video_in t a)) (sym probes)
+      (subst (λ (l : List Arrival). AreProbes old.probes l)
+      (sym (ap (λ (l : List Arrival). earlier ++ l) none ∙ append-nil earlier)) are);
+  tally = tally;
+  controls = controls;
+}
+
+-- one of the payload type
+pub packet_video : {A : Type 0} (t : Target) (a : Arrival) (old new : Inspection A)
+    → video_in t a ≡ a ∷ [] → ((ps : List Packet) → old.streams ≡ streams_of ps
+    → new.streams ≡ streams_of (ps ++ a.packet ∷ []))
+    → ((ps : List Packet) → old.timestamps ≡ timestamps_of ps
+    → new.timestamps ≡ timestamps_of (ps ++ a.packet ∷ []))
+    → ((arrivals : List Arrival) → AreProbes old.probes arrivals
+    → AreProbes new.probes (arrivals ++ a ∷ []))
+    → new.tally ≡ old.tally → new.controls ≡ old.controls → NotesPacket t a old new
+packet_video t a old new one streams timestamps probes tally controls = record {
+  streams = streams;
+  timestamps = λ earlier e.
+      timestamps (packets earlier) e
+      ∙ ap timestamps_of
+      (sym (ap (λ (l : List Arrival). packets (earlier ++ l)) one
+      ∙ map-append packet_in earlier (a ∷ [])));
+  probes = λ earlier are.
+      subst (λ (l : List Arrival). AreProbes new.probes (earlier ++ l)) (sym one) (probes earlier are);
+  tally = tally;
+  controls = controls;
+}

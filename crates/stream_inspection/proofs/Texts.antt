@@ -1,0 +1,85 @@
+-- Texts that are put one behind the other.
+use Rattle.std.proofs.Common.{◌≡◌, ◌∙◌, ℕ, List, [], ◌++◌, ap, append_assoc, subst, sym}
+use Rattle.std.specs.List.{flat_map}
+use Rattle.capture_engines.specs.declared.tally.Tally.{Tally}
+use Rattle.media_file.specs.Records.{Entry}
+use Rattle.stream_counts.specs.Streams.{streams_of}
+use Rattle.stream_counts.specs.Timestamps.{timestamps_of}
+use Rattle.stream_counts.specs.declared.stream.StreamCount.{StreamCount}
+use Rattle.stream_counts.specs.declared.timestamp.TimestampCount.{TimestampCount}
+use Rattle.stream_inspection.specs.Arrivals.{Arrival, arrivals_of, video_of}
+use Rattle.stream_inspection.specs.Inspected.{IsInspected, controls_of, packets}
+use Rattle.stream_inspection.specs.Lines.{counted_line, row_line}
+use Rattle.stream_inspection.specs.Skews.{AreProbes, IsOrderOf, skew_row, skews_in}
+use Rattle.stream_inspection.specs.Streams.{stream_lines}
+use Rattle.stream_inspection.specs.Timestamps.{timestamps_text, window_of}
+use Rattle.stream_inspection.specs.Told.{IsText, refusals_text, window_line}
+use Rattle.stream_inspection.specs.declared.inspection.Inspection.{Inspection}
+use Rattle.stream_inspection.specs.declared.rows.Row.TheVariants.{Control, Skew}
+use Rattle.stream_inspection.specs.declared.target.Target.{Target}
+use Rattle.stream_inspection.specs.declared.text.Form.{Form}
+use Rattle.stream_inspection.proofs.Told.{lines_same}
+
+-- one text behind another
+back : (t s u x y : List ℕ) → s ≡ t ++ x → u ≡ s ++ y → u ≡ t ++ (x ++ y)
+back t s u x y p q = q ∙ ap (λ (l : List ℕ). l ++ y) p ∙ append_assoc t x y
+
+-- six texts behind another
+pub six : (t t1 t2 t3 t4 t5 t6 a b c d e f : List ℕ) → t1 ≡ t ++ a → t2 ≡ t1 ++ b → t3 ≡ t2 ++ c
+    → t4 ≡ t3 ++ d → t5 ≡ t4 ++ e → t6 ≡ t5 ++ f
+    → t6 ≡ t ++ (a ++ (b ++ (c ++ (d ++ (e ++ f)))))
+six t t1 t2 t3 t4 t5 t6 a b c d e f p q r s u v =
+    back t t1 t6 a (b ++ (c ++ (d ++ (e ++ f)))) p
+    (back t1 t2 t6 b (c ++ (d ++ (e ++ f))) q
+    (back t2 t3 t6 c (d ++ (e ++ f)) r (back t3 t4 t6 d (e ++ f) s (back t4 t5 t6 e f u v))))
+
+-- the text of an inspection is that of its records
+pub is_text : {A : Type 0} (form : Form) (t : Target) (i : Inspection A) (entries : List Entry)
+    (counts : List TimestampCount) (sorted t1 t2 t3 t4 t5 t6 : List ℕ) → counts ≡ i.timestamps
+    → IsInspected t i entries
+    → ((arrivals : List Arrival) → AreProbes i.probes arrivals
+    → IsOrderOf sorted (skews_in arrivals counts))
+    → t1 ≡ flat_map (stream_lines form) i.streams
+    → ((arrivals : List Arrival) → AreProbes i.probes arrivals
+    → t2 ≡ t1 ++ timestamps_text form t.payload_type arrivals counts)
+    → t3 ≡ t2 ++ row_line form (Skew (skew_row sorted))
+    → t4 ≡ t3 ++ refusals_text form i.tally.refused
+    → t5 ≡ t4 ++ counted_line form (Control i.controls) i.controls
+    → t6 ≡ t5 ++ window_line form t.payload_type (window_of counts) → IsText form t entries t6
+is_text {A} form t i entries counts sorted t1 t2 t3 t4 t5 t6 are is ordered p q r s u v =
+    let video : List Arrival = video_of t entries in
+    let stamps : counts ≡ timestamps_of (packets video) = are ∙ is.timestamps in
+    let ends : ℕ → List ℕ = λ n. counted_line form (Control n) n in
+    record {
+      sorted = sorted;
+      ordered =
+          subst (λ (l : List TimestampCount). IsOrderOf sorted (skews_in video l)) stamps
+          (ordered video is.probes);
+      tally = i.tally;
+      answers = is.tally;
+      is =
+          six [] t1 t2 t3 t4 t5 t6 (flat_map (stream_lines form) i.streams)
+          (timestamps_text form t.payload_type video counts)
+          (row_line form (Skew (skew_row sorted))) (refusals_text form i.tally.refused)
+          (ends i.controls) (window_line form t.payload_type (window_of counts)) p
+          (q video is.probes) r s u v
+          ∙ ap (λ (l : List ℕ). l ++ (timestamps_text form t.payload_type video counts
+          ++ (row_line form (Skew (skew_row sorted))
+          ++ (refusals_text form i.tally.refused
+          ++ (ends i.controls ++ window_line form t.payload_type (window_of counts))))))
+          (ap (flat_map (stream_lines {A = A} form)) is.streams
+          ∙ lines_same A form (packets (arrivals_of t entries)))
+          ∙ ap (λ (l : List TimestampCount). flat_map (stream_lines {A = Unit {0}} form)
+          (streams_of (packets (arrivals_of t entries)))
+          ++ (timestamps_text form t.payload_type video l
+          ++ (row_line form (Skew (skew_row sorted))
+          ++ (refusals_text form i.tally.refused
+          ++ (ends i.controls ++ window_line form t.payload_type (window_of l)))))) stamps
+          ∙ ap (λ (n : ℕ). flat_map (stream_lines {A = Unit {0}} form)
+          (streams_of (packets (arrivals_of t entries)))
+          ++ (timestamps_text form t.payload_type video (timestamps_of (packets video))
+          ++ (row_line form (Skew (skew_row sorted))
+          ++ (refusals_text form i.tally.refused
+          ++ (ends n ++ window_line form t.payload_type
+          (window_of (timestamps_of (packets video)))))))) is.controls;
+    }

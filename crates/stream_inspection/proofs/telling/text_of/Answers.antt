@@ -1,0 +1,28 @@
+use Rattle.std.proofs.Common.{◌≡◌, ◌∙◌, ◌++◌, [], List, ap, rules}
+use Rattle.std.specs.List.{flat_map}
+use Rattle.stream_inspection.specs.Lines.{row_line}
+use Rattle.stream_inspection.specs.Skews.{skew_row}
+use Rattle.stream_inspection.specs.Streams.{stream_lines}
+use Rattle.stream_inspection.specs.Told.{window_line}
+use Rattle.stream_inspection.specs.declared.rows.Row.TheVariants.{Skew}
+use Rattle.stream_inspection.proofs.Texts.{is_text}
+use Rattle.stream_inspection.proofs.telling.text_of.Goals as goal
+
+pub returns : goal.returns
+returns g c = λ entries is.
+    let form = c.args.form in
+    let none : c.new-text.result.items ≡ [] = search rules in
+    is_text form c.args.target.now c.args.inspection.now entries c.timestamps-counts.result.now
+    c.in_ok-skews.skews.items _ _ _ _ _ _ c.timestamps-counts.ensures is c.in_ok-skews.ensures
+    (c.in_ok-put_streams.ensures
+    ∙ ap (λ (l : List _). l ++ flat_map (stream_lines form) c.streams.result.now) none
+    ∙ ap (flat_map (stream_lines form)) c.streams.ensures)
+    c.in_ok-put_timestamps.ensures
+    (c.in_ok-put_skews.ensures
+    ∙ ap (λ (l : List _). c.put_timestamps.new.text.items ++ row_line form (Skew (skew_row l)))
+    c.deref.ensures.value)
+    c.in_ok-put_refusals.ensures c.in_ok-put_counted.ensures
+    (c.in_ok-put_window.ensures
+    ∙ ap (λ (l : List _). c.put_counted.new.text.items
+    ++ window_line form c.args.target.now.payload_type l)
+    (c.deref-2.ensures.value ∙ c.in_ok-window.ensures))

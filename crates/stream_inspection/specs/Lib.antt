@@ -1,0 +1,12 @@
+pub mod Aim
+pub mod Arrivals
+pub mod Skews
+pub mod Inspected
+pub mod Read
+pub mod Values
+pub mod Columns
+pub mod Json
+pub mod Lines
+pub mod Streams
+pub mod Timestamps
+pub mod Told

@@ -1,0 +1,49 @@
+-- Values as text (own).
+use Rattle.std.specs.Prelude.{ℕ, ◌-◌, ◌^◌, Bool, true, false, nat_lt, if◌then◌else◌, List, [], ◌∷◌, ◌++◌}
+use Rattle.std.specs.Prelude.{codes, length, replicate, Option, None, Some}
+use Rattle.std.specs.Fmt.{decimal}
+use Rattle.std.specs.List.{flat_map}
+use Rattle.st_format.specs.declared.path.Path.{Path}
+use Rattle.st_format.specs.declared.path.Path.TheVariants.{A, B}
+
+-- a number in a column of thirteen, or a dash where there is none
+abbrev pub wide : ℕ → List ℕ
+wide n = replicate (13 - length (decimal n)) 32 ++ decimal n
+
+abbrev pub wide_text : Option ℕ → List ℕ
+wide_text None = codes "            -"
+wide_text (Some n) = wide n
+
+-- a number, or `null` where there is none
+abbrev pub null_text : Option ℕ → List ℕ
+null_text None = codes "null"
+null_text (Some n) = decimal n
+
+-- a number less 2^64
+abbrev pub signed_text : ℕ → List ℕ
+signed_text n =
+    if nat_lt n (2 ^ 64) then codes "-" ++ decimal (2 ^ 64 - n) else decimal (n - 2 ^ 64)
+
+abbrev pub wide_signed : Option ℕ → List ℕ
+wide_signed None = codes " -"
+wide_signed (Some n) = codes " " ++ signed_text n
+
+abbrev pub null_signed : Option ℕ → List ℕ
+null_signed None = codes "null"
+null_signed (Some n) = signed_text n
+
+abbrev pub path_text : Path → List ℕ
+path_text A = codes "A"
+path_text B = codes "B"
+
+-- whether it is so, in a column, and as JSON says it
+abbrev pub yes_text : Bool → List ℕ
+yes_text b = if b then codes "          yes" else codes "           no"
+
+abbrev pub bool_text : Bool → List ℕ
+bool_text b = if b then codes "true" else codes "false"
+
+-- numbers with commas between
+abbrev pub commas_text : List ℕ → List ℕ
+commas_text [] = []
+commas_text (x ∷ xs) = decimal x ++ flat_map (λ y. codes "," ++ decimal y) xs

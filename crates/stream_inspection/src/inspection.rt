@@ -1,0 +1,90 @@
+//! What is counted of captures.
+ghost use Rattle.std.specs.Prelude.{◌≡◌, ◌∷◌, [], OnOk};
+ghost use Rattle.stream_inspection.specs.Inspected.{IsInspected, Notes, NotesPacket, entry};
+ghost use Rattle.stream_inspection.specs.Arrivals.{arrival};
+ghost use Rattle.stream_inspection.specs.declared.target.Target.{Target as TargetValue};
+
+use crate::looking::{Look, is_control, look_at};
+use crate::probes::ProbeTable;
+use crate::target::Target;
+use capture_engines::Tally;
+use path_merge::Observer;
+use st_format::Path;
+use std::alloc::{AllocError, Allocator};
+use stream_counts::{Packet, StreamTable, TimestampTable};
+
+/// What is counted of the datagrams of captures.
+#[derive(Drop)]
+pub struct Inspection<A: Allocator> {
+    /// The streams of RTP.
+    pub streams: StreamTable<A>,
+    /// The timestamps of the packets with the payload type.
+    pub timestamps: TimestampTable<A>,
+    /// By which the skew of the paths is told, of the same packets.
+    pub probes: ProbeTable<A>,
+    /// What a receiver of the format answers to the datagrams that aren't RTCP.
+    pub tally: Tally,
+    /// How many datagrams are RTCP. It stays at 2^64 - 1 once it is there.
+    pub controls: u64,
+}
+
+impl<A: Allocator + Copy> Inspection<A> {
+    /// Of no datagrams.
+    pub(crate) fn new(alloc: A) -> Inspection<A>
+        ensures { (t : TargetValue) → IsInspected t result [] }
+    {
+        Inspection {
+            streams: StreamTable::new(alloc),
+            timestamps: TimestampTable::new(alloc),
+            probes: ProbeTable::new(alloc),
+            tally: Tally::new(),
+            controls: 0,
+        }
+    }
+
+    /// Notes one more datagram, by the path by which it came and the moment, in nanoseconds, 0 where
+    /// none is known.
+    ///
+    /// # Errors
+    ///
+    /// That memory was wanted.
+    pub(crate) fn note(
+        &mut self,
+        target: &Target,
+        path: Path,
+        moment: u64,
+        octets: &[u8],
+    ) -> Result<(), AllocError>
+        ensures { OnOk result (Notes target.now (entry path moment octets.now ∷ []) self.old
+            self.new) }
+    {
+        if is_control(octets) {
+            self.controls = self.controls.saturating_add(1);
+            return Ok(());
+        }
+        let Look { answer, packet } = look_at(target, path, octets);
+        self.tally.note(answer);
+        match packet {
+            Some(packet) => self.note_packet(target, &packet, moment),
+            None => Ok(()),
+        }
+    }
+
+    /// Notes one more packet.
+    fn note_packet(
+        &mut self,
+        target: &Target,
+        packet: &Packet,
+        moment: u64,
+    ) -> Result<(), AllocError>
+        ensures { OnOk result (NotesPacket target.now (arrival packet.now moment) self.old
+            self.new) }
+    {
+        self.streams.note(packet)?;
+        if packet.payload_type != target.payload_type {
+            return Ok(());
+        }
+        self.timestamps.note(packet)?;
+        self.probes.note(packet, moment)
+    }
+}

@@ -1,0 +1,85 @@
+//! What a datagram is counted as.
+ghost use Rattle.std.specs.Prelude.{◌≡◌};
+ghost use Rattle.stream_inspection.specs.Arrivals.{Looks, answer_by, extended_in, is_control};
+ghost use Rattle.stream_inspection.specs.Arrivals.{packet_of};
+ghost use Rattle.rtp_header.specs.Views.{seen_rtp};
+
+use crate::target::Target;
+use path_merge::{Refusal, Taken};
+use payload_header::read_payload;
+use rtp_header::{RtpView, read_rtp};
+use st_format::Path;
+use stream_counts::Packet;
+
+/// What a receiver of a format and a payload type, whatever the source and the timestamp, answers
+/// to a datagram, and the packet that it is where it has a header (RFC 3550, 5.1).
+#[derive(Clone, Copy)]
+pub(crate) struct Look {
+    pub(crate) answer: Result<Taken, Refusal>,
+    pub(crate) packet: Option<Packet>,
+}
+
+/// Whether a datagram is one of RTCP: of version 2, and with a packet type from 200 to 204 where RTP
+/// has the marker and the payload type (RFC 5761, 4).
+pub(crate) fn is_control(octets: &[u8]) -> bool
+    ensures { result ≡ is_control octets.now }
+{
+    octets.len() >= 2 && octets[0] / 64 == 2 && octets[1] >= 200 && octets[1] <= 204
+}
+
+/// What a datagram that came by a path is.
+pub(crate) fn look_at(target: &Target, path: Path, octets: &[u8]) -> Look
+    ensures { Looks target.now path octets.now result }
+{
+    let header = match read_rtp(octets) {
+        Ok(header) => header,
+        Err(fault) => {
+            return Look {
+                answer: Err(Refusal::Header(fault)),
+                packet: None,
+            };
+        }
+    };
+    Look {
+        answer: answer(target, &header),
+        packet: Some(packet(target, path, &header)),
+    }
+}
+
+/// What a receiver answers to a datagram with this header.
+fn answer(target: &Target, header: &RtpView<'_>) -> Result<Taken, Refusal>
+    ensures { result ≡ answer_by target.now (seen_rtp header.now) }
+{
+    if header.payload_type != target.payload_type {
+        return Err(Refusal::WrongPayloadType);
+    }
+    let payload = read_payload(&target.format, header.payload)?;
+    Ok(Taken::Kept(65536 * u32::from(payload.extended) + u32::from(header.sequence)))
+}
+
+/// The packet with this header.
+fn packet(target: &Target, path: Path, header: &RtpView<'_>) -> Packet
+    ensures { result ≡ packet_of target.now path (seen_rtp header.now) }
+{
+    let is_video = header.payload_type == target.payload_type;
+    Packet {
+        path,
+        payload_type: header.payload_type,
+        ssrc: header.ssrc,
+        sequence: header.sequence,
+        extended: extended(is_video, header.payload),
+        timestamp: header.timestamp,
+        marker: header.marker,
+    }
+}
+
+/// The extended number in front of a payload of video (RFC 4175, 4.2).
+fn extended(is_video: bool, payload: &[u8]) -> Option<u16>
+    ensures { result ≡ extended_in is_video payload.now }
+{
+    if is_video && payload.len() >= 2 {
+        Some(256 * u16::from(payload[0]) + u16::from(payload[1]))
+    } else {
+        None
+    }
+}
