@@ -1,5 +1,5 @@
 -- What a datagram is, by its header.
-use Rattle.std.proofs.Common.{◌≡◌, ◌∙◌, ℕ, List, Result, Ok, Err, Option, None, Some, refl, ap, sym}
+use Rattle.std.proofs.Common.{◌≡◌, ◌∙◌, ℕ, List, Result, Ok, Err, None, Some, refl, ap, sym}
 use Rattle.st_format.specs.declared.path.Path.{Path}
 use Rattle.st_format.specs.Reading.{◌>>=◌}
 use Rattle.rtp_header.specs.Grammar.{Rtp}
@@ -12,7 +12,6 @@ use Rattle.path_merge.specs.declared.answer.Refusal.TheVariants.{Header}
 use Rattle.path_merge.specs.declared.answer.Taken.{Taken}
 use Rattle.path_merge.specs.declared.answer.Taken.TheVariants.{Kept}
 use Rattle.payload_header.specs.Reading.{payload_walk}
-use Rattle.stream_counts.specs.declared.packet.Packet.{Packet}
 use Rattle.stream_inspection.specs.Arrivals.{Looks, answer_at, answer_by, packet_by, packet_of}
 use Rattle.stream_inspection.specs.declared.looking.Look.{Look}
 use Rattle.stream_inspection.specs.declared.target.Target.{Target}

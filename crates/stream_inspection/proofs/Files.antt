@@ -11,8 +11,7 @@ use Rattle.capture_engines.specs.Sent.{FirstIs}
 use Rattle.capture_engines.specs.Taking.{capture_said, said_before}
 use Rattle.capture_engines.proofs.Taken.{HasText}
 use Rattle.capture_engines.proofs.ReceivedRefusals.{read_refused, text_refused}
-use Rattle.media_file.specs.Faults.{CountsFault, IfContent}
-use Rattle.media_file.specs.Fronts.{front_at}
+use Rattle.media_file.specs.Faults.{CountsFault}
 use Rattle.media_file.specs.Records.{Entry}
 use Rattle.media_file.specs.declared.fault.FileFault.{FileFault}
 use Rattle.media_file.specs.declared.fault.FileFault.TheVariants.{NoMemory, Device, BadName}

@@ -4,18 +4,16 @@ use Rattle.std.proofs.Common.{Option, None, Some, refl, ap, sym, subst, append-n
 use Rattle.std.proofs.lemmas.Bool.{both_ways, cases_Bool, eq-eqb, false_from_ne_true}
 use Rattle.std.proofs.lemmas.List.Elements.{filter-append}
 use Rattle.std.proofs.Common.{⊎_elim}
-use Rattle.std.specs.BTreeMap.{BTreeMap, Updates, get, is_at}
+use Rattle.std.specs.BTreeMap.{Updates, get, is_at}
 use Rattle.std.specs.List.{filter}
 use Rattle.std.specs.Ordering.{is_eq}
 use Rattle.std.specs.declared.cmp.Ordering.{Ordering}
 use Rattle.std.specs.declared.cmp.Ordering.TheVariants.{Less, Equal, Greater}
 use Rattle.stream_counts.specs.Streams.{is_a}
-use Rattle.stream_counts.specs.Tables.{of_key}
 use Rattle.stream_counts.specs.Timestamps.{is_same_timestamp, timestamp_cmp, timestamp_key_of}
-use Rattle.stream_counts.specs.declared.packet.Packet.{Packet}
 use Rattle.stream_counts.specs.declared.packet.TimestampKey.{TimestampKey}
 use Rattle.stream_counts.proofs.Keys.{exact_timestamps, timestamp_keys}
-use Rattle.stream_inspection.specs.Arrivals.{Arrival, arrival}
+use Rattle.stream_inspection.specs.Arrivals.{Arrival}
 use Rattle.stream_inspection.specs.Skews.{AreProbes, by_a_with, by_b_with, first_known}
 use Rattle.stream_inspection.specs.Skews.{moment_after, own_of, probe_of, probe_with}
 use Rattle.stream_inspection.specs.declared.probe.Probe.{Probe}

@@ -1,6 +1,6 @@
 -- One more record in an inspection.
 use Rattle.std.proofs.Common.{◌≡◌, ◌∙◌, ℕ, ◌+◌, ◌-◌, ◌^◌, Bool, true, false, cond, min, List, []}
-use Rattle.std.proofs.Common.{◌∷◌, ◌++◌, map, Option, None, Some, Result, refl, ap, sym, subst, arith}
+use Rattle.std.proofs.Common.{◌∷◌, ◌++◌, Option, None, Some, Result, ap, sym, subst, arith}
 use Rattle.std.proofs.Common.{append_assoc, append-nil}
 use Rattle.std.proofs.lemmas.Grind.{flat_map-append}
 use Rattle.std.proofs.lemmas.List.{map-append}

@@ -1,6 +1,6 @@
 -- Records that are read and noted, one after the other.
-use Rattle.std.proofs.Common.{◌≡◌, ◌∙◌, ℕ, ◌+◌, ◌-◌, ◌^◌, ◌⊎◌, inl, inr, List, [], ◌∷◌, ◌++◌, length}
-use Rattle.std.proofs.Common.{Option, None, Some, Result, Ok, Err, refl, ap, sym, subst, arith}
+use Rattle.std.proofs.Common.{◌≡◌, ◌∙◌, ℕ, ◌+◌, ◌-◌, ◌^◌, inl, inr, List, [], ◌∷◌, ◌++◌, length}
+use Rattle.std.proofs.Common.{Option, None, Some, Err, refl, ap, sym, arith}
 use Rattle.std.proofs.Common.{append_assoc, append-nil}
 use Rattle.std.proofs.lemmas.Grind.{flat_map-append}
 use Rattle.std.proofs.lemmas.List.{length-append}
@@ -16,7 +16,7 @@ use Rattle.media_file.specs.declared.fault.FileFault.TheVariants.{BadVersion, Tr
 use Rattle.media_file.specs.declared.fault.FileFault.TheVariants.{TrailingBytes, MixedGroup}
 use Rattle.media_file.specs.declared.fault.FileFault.TheVariants.{TooManyRecords}
 use Rattle.media_file.proofs.GaveLoops.{front_fails}
-use Rattle.st_format.specs.History.{GrewFrom, IsRead, since}
+use Rattle.st_format.specs.History.{GrewFrom, IsRead}
 use Rattle.st_format.proofs.Histories.{grew_by, since_is}
 use Rattle.stream_inspection.specs.Inspected.{Notes}
 use Rattle.stream_inspection.specs.Read.{HasRecords, IfEnd, NotesRecords}

@@ -1,5 +1,5 @@
 -- The lines of refusals.
-use Rattle.std.proofs.Common.{◌≡◌, ◌∙◌, ℕ, ◌+◌, ◌<◌, List, ◌++◌, get_or, slice_index, refl, ap, sym, subst}
+use Rattle.std.proofs.Common.{◌≡◌, ℕ, ◌+◌, ◌<◌, List, ◌++◌, get_or, slice_index, refl, ap, sym, subst}
 use Rattle.std.proofs.Common.{arith}
 use Rattle.capture_engines.specs.Printed.{refusals}
 use Rattle.capture_engines.specs.Tallied.{place_of}

@@ -1,14 +1,12 @@
 -- Texts that are put one behind the other.
-use Rattle.std.proofs.Common.{◌≡◌, ◌∙◌, ℕ, List, [], ◌++◌, ap, append_assoc, subst, sym}
+use Rattle.std.proofs.Common.{◌≡◌, ◌∙◌, ℕ, List, [], ◌++◌, ap, append_assoc, subst}
 use Rattle.std.specs.List.{flat_map}
-use Rattle.capture_engines.specs.declared.tally.Tally.{Tally}
 use Rattle.media_file.specs.Records.{Entry}
 use Rattle.stream_counts.specs.Streams.{streams_of}
 use Rattle.stream_counts.specs.Timestamps.{timestamps_of}
-use Rattle.stream_counts.specs.declared.stream.StreamCount.{StreamCount}
 use Rattle.stream_counts.specs.declared.timestamp.TimestampCount.{TimestampCount}
 use Rattle.stream_inspection.specs.Arrivals.{Arrival, arrivals_of, video_of}
-use Rattle.stream_inspection.specs.Inspected.{IsInspected, controls_of, packets}
+use Rattle.stream_inspection.specs.Inspected.{IsInspected, packets}
 use Rattle.stream_inspection.specs.Lines.{counted_line, row_line}
 use Rattle.stream_inspection.specs.Skews.{AreProbes, IsOrderOf, skew_row, skews_in}
 use Rattle.stream_inspection.specs.Streams.{stream_lines}

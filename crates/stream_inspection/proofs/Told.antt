@@ -1,7 +1,7 @@
 -- What was printed is the text of what was read.
 use Rattle.std.proofs.Common.{◌≡◌, ◌∙◌, ℕ, List, [], ◌∷◌, ◌++◌, take, Option, None, Some, refl, ap, sym, subst}
 use Rattle.std.proofs.Common.{map, inl, inr}
-use Rattle.std.specs.List.{AllZip, flat_map, zip}
+use Rattle.std.specs.List.{flat_map, zip}
 use Rattle.std.proofs.Common.{Result, Ok, Err, OnOk}
 use Rattle.capture_engines.specs.Taking.{capture_said}
 use Rattle.media_file.specs.Faults.{IfContent}
@@ -25,7 +25,7 @@ use Rattle.stream_counts.specs.declared.packet.Packet.{Packet}
 use Rattle.stream_counts.specs.declared.packet.StreamKey.{StreamKey}
 use Rattle.stream_inspection.specs.Aim.{Announces, IsBegun, IsTarget, ReadsTarget}
 use Rattle.stream_inspection.specs.Inspected.{IsInspected}
-use Rattle.stream_inspection.specs.Read.{HaveRecords, IfEnd, MayBe, NotesFiles, NotesUpTo}
+use Rattle.stream_inspection.specs.Read.{IfEnd, MayBe, NotesFiles, NotesUpTo}
 use Rattle.stream_inspection.specs.Read.{Settles, ended_by}
 use Rattle.stream_inspection.specs.Streams.{stream_lines}
 use Rattle.stream_inspection.specs.Told.{IsContent, IsEndRefusal, IsStreamsRefusal, IsText}

@@ -3,7 +3,7 @@ use Rattle.std.proofs.Common.{◌≡◌, ◌∙◌, ℕ, zero, suc, ◌-◌, ◌
 use Rattle.std.proofs.Common.{replicate, refl, ap, append-nil, arith}
 use Rattle.std.specs.Char.{encode_utf8}
 use Rattle.std.specs.List.{repeat}
-use Rattle.std.specs.Fmt.{char_count, fill_text, format_spec, padded_integral}
+use Rattle.std.specs.Fmt.{char_count, format_spec, padded_integral}
 
 spaces : (n : ℕ) → repeat {A = ℕ} n (32 ∷ []) ≡ replicate n 32
 spaces zero = refl

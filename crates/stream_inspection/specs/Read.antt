@@ -2,10 +2,10 @@
 -- with it, and of no others where the source has ended (own).
 use Rattle.std.specs.Prelude.{◌≡◌, ℕ, ◌-◌, ◌^◌, ◌⊎◌, ⊤, List, [], ◌∷◌, ◌++◌, length, take, Option, None, Some}
 use Rattle.std.specs.Prelude.{Result, Ok, Err}
-use Rattle.std.specs.List.{AllZip, flat_map}
+use Rattle.std.specs.List.{AllZip}
 use Rattle.media_file.specs.Faults.{CountsFault, IfContent}
 use Rattle.media_file.specs.Fronts.{front_at}
-use Rattle.media_file.specs.Reading.{entries_in, fault_at}
+use Rattle.media_file.specs.Reading.{fault_at}
 use Rattle.media_file.specs.Records.{AllFit, Entry, records_text}
 use Rattle.media_file.specs.declared.fault.FileFault.{FileFault}
 use Rattle.media_file.specs.declared.fault.FileFault.TheVariants.{TooManyRecords}

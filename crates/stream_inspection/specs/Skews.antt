@@ -1,5 +1,5 @@
 -- The skew of the paths: by how much later one packet number came by B than by A (own).
-use Rattle.std.specs.Prelude.{◌≡◌, ℕ, zero, suc, ◌+◌, ◌-◌, ◌/◌, ◌^◌, ◌==◌, Bool, not, ◌&&◌, List, []}
+use Rattle.std.specs.Prelude.{◌≡◌, ℕ, ◌+◌, ◌-◌, ◌/◌, ◌^◌, ◌==◌, Bool, not, ◌&&◌, List, []}
 use Rattle.std.specs.Prelude.{◌∷◌, length, slice_get, if◌then◌else◌, Option, None, Some}
 use Rattle.std.specs.Prelude.{option_to_list}
 use Rattle.std.specs.BTreeMap.{get}
