@@ -87,12 +87,9 @@ pub fn came<D: DatagramSource>(source: &mut D, buf: &mut [u8]) -> Came {
     None
 }
 
-/// What comes of octets as a recording in pieces of five, where a call of the source fails, which
-/// is lent.
-fn read(alloc: Global, octets: &[u8], fails_in: u64) -> Result<Came, AllocError> {
-    let mut buf = vec![in alloc; 0u8; 65535]?;
-    let mut source = MemorySource::new(Vec::from_slice(alloc, octets)?, 5, fails_in);
-    let mut reader = match RecordingReader::open(alloc, FLOWS, &mut source) {
+/// What comes of a source of octets as a recording; the source is lent.
+fn read_lent(alloc: Global, source: &mut MemorySource, buf: &mut [u8]) -> Result<Came, AllocError> {
+    let mut reader = match RecordingReader::open(alloc, FLOWS, source) {
         Ok(reader) => reader,
         Err((OpeningFault::Recording(RecordingFault::Device), _)) => {
             return Ok(Some((0, Some(SourceFault::Device))));
@@ -102,12 +99,17 @@ fn read(alloc: Global, octets: &[u8], fails_in: u64) -> Result<Came, AllocError>
         }
         Err((OpeningFault::NoMemory, _)) => return Err(AllocError),
     };
-    let came = came(&mut reader, &mut buf);
-    Ok(if reader.into_inner().failures() < 2 {
-        came
-    } else {
-        None
-    })
+    Ok(came(&mut reader, buf))
+}
+
+/// What comes of octets as a recording in pieces of five, where a call of the source fails: it fails
+/// once at most.
+fn read(alloc: Global, octets: &[u8], fails_in: u64) -> Result<Came, AllocError> {
+    let mut buf = vec![in alloc; 0u8; 65535]?;
+    let mut source = MemorySource::new(Vec::from_slice(alloc, octets)?, 5, fails_in);
+    let came = read_lent(alloc, &mut source, &mut buf)?;
+    let failures = source.failures();
+    Ok(if failures < 2 { came } else { None })
 }
 
 /// How many octets of it there are, how many datagrams then come, and whether it ends there: none,
