@@ -89,7 +89,7 @@ pub fn came<D: DatagramSource>(source: &mut D) -> Came {
 }
 
 /// What comes of a source of octets as a recording; the source is lent.
-fn read_lent(alloc: Global, source: &mut MemorySource, buf: &mut [u8]) -> Result<Came, AllocError> {
+fn read_lent(alloc: Global, source: &mut MemorySource) -> Result<Came, AllocError> {
     let mut reader = match RecordingReader::open(alloc, FLOWS, &mut *source) {
         Ok(reader) => reader,
         Err((OpeningFault::Recording(RecordingFault::Device), _)) => {
