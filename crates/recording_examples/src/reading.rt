@@ -75,12 +75,13 @@ pub fn is_record(place: usize, record: &RecordView<'_>) -> bool {
 
 /// What comes of a source of datagrams that is `DATAGRAMS` or a first part of them. The end or the
 /// fault comes twice.
-pub fn came<D: DatagramSource>(source: &mut D, buf: &mut [u8]) -> Came {
+pub fn came<D: DatagramSource>(source: &mut D) -> Came {
+    let mut buf = [0u8; 65535];
     for place in 0..4usize {
-        match source.next(buf) {
+        match source.next(&mut buf) {
             Ok(Turn::Datagram(path, count)) if is_datagram(place, path, &buf[..count]) => {}
-            Ok(Turn::End) if source.next(buf) == Ok(Turn::End) => return Some((place, None)),
-            Err(fault) if source.next(buf) == Err(fault) => return Some((place, Some(fault))),
+            Ok(Turn::End) if source.next(&mut buf) == Ok(Turn::End) => return Some((place, None)),
+            Err(fault) if source.next(&mut buf) == Err(fault) => return Some((place, Some(fault))),
             _ => return None,
         }
     }
@@ -88,8 +89,8 @@ pub fn came<D: DatagramSource>(source: &mut D, buf: &mut [u8]) -> Came {
 }
 
 /// What comes of a source of octets as a recording; the source is lent.
-fn read_lent(alloc: Global, source: &mut MemorySource, buf: &mut [u8]) -> Result<Came, AllocError> {
-    let mut reader = match RecordingReader::open(alloc, FLOWS, source) {
+fn read_lent(alloc: Global, source: &mut MemorySource) -> Result<Came, AllocError> {
+    let mut reader = match RecordingReader::open(alloc, FLOWS, &mut *source) {
         Ok(reader) => reader,
         Err((OpeningFault::Recording(RecordingFault::Device), _)) => {
             return Ok(Some((0, Some(SourceFault::Device))));
@@ -99,15 +100,14 @@ fn read_lent(alloc: Global, source: &mut MemorySource, buf: &mut [u8]) -> Result
         }
         Err((OpeningFault::NoMemory, _)) => return Err(AllocError),
     };
-    Ok(came(&mut reader, buf))
+    Ok(came(&mut reader))
 }
 
 /// What comes of octets as a recording in pieces of five, where a call of the source fails: it fails
 /// once at most.
 fn read(alloc: Global, octets: &[u8], fails_in: u64) -> Result<Came, AllocError> {
-    let mut buf = vec![in alloc; 0u8; 65535]?;
     let mut source = MemorySource::new(Vec::from_slice(alloc, octets)?, 5, fails_in);
-    let came = read_lent(alloc, &mut source, &mut buf)?;
+    let came = read_lent(alloc, &mut source)?;
     let failures = source.failures();
     Ok(if failures < 2 { came } else { None })
 }
