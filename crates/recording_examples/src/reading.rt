@@ -90,17 +90,20 @@ pub fn came<D: DatagramSource>(source: &mut D) -> Came {
 
 /// What comes of a source of octets as a recording; the source is lent.
 fn read_lent(alloc: Global, source: &mut MemorySource) -> Result<Came, AllocError> {
-    let mut reader = match RecordingReader::open(alloc, FLOWS, &mut *source) {
-        Ok(reader) => reader,
-        Err((OpeningFault::Recording(RecordingFault::Device), _)) => {
-            return Ok(Some((0, Some(SourceFault::Device))));
-        }
-        Err((OpeningFault::Recording(fault), _)) => {
-            return Ok(Some((0, Some(SourceFault::Content(fault.number())))));
-        }
-        Err((OpeningFault::NoMemory, _)) => return Err(AllocError),
+    match RecordingReader::open(alloc, FLOWS, source) {
+        Ok(mut reader) => Ok(came(&mut reader)),
+        Err(failed) => unopened(failed.0),
+    }
+}
+
+/// What comes of a recording that isn't opened.
+fn unopened(fault: OpeningFault) -> Result<Came, AllocError> {
+    let told = match fault {
+        OpeningFault::NoMemory => return Err(AllocError),
+        OpeningFault::Recording(RecordingFault::Device) => SourceFault::Device,
+        OpeningFault::Recording(fault) => SourceFault::Content(fault.number()),
     };
-    Ok(came(&mut reader))
+    Ok(Some((0, Some(told))))
 }
 
 /// What comes of octets as a recording in pieces of five, where a call of the source fails: it fails
@@ -170,20 +173,22 @@ fn is_borrowed<A: Allocator>(global: Global, alloc: A) -> Result<Option<bool>, A
         }
         Err(_) => return Ok(Some(false)),
     };
-    let mut place = 0;
-    while let Ok(true) = reader.advance() {
+    for place in 0..3usize {
+        if reader.advance() != Ok(true) {
+            return Ok(Some(false));
+        }
         let is_next = match reader.datagram() {
             Some(record) => is_record(place, &record) && reader.octets() == record.octets,
             None => false,
         };
-        if !is_next || place >= 3 {
+        if !is_next {
             return Ok(Some(false));
         }
-        place += 1;
     }
+    let is_over = reader.advance() == Ok(false);
     let left_out = reader.left_out();
     Ok(Some(
-        place == 3
+        is_over
             && reader.advance() == Ok(false)
             && reader.datagram().is_none()
             && reader.path().is_none()

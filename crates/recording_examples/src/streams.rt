@@ -56,7 +56,7 @@ fn datagram(payload_type: u8, sent: Sent) -> [u8; 28] {
 /// RTCP and one of five octets.
 fn capture(global: Global, text: &[u8]) -> Result<MemorySource, Fail> {
     let mut sink = sink(global)?;
-    write_front(&mut sink, text)?;
+    write_front(&mut sink, &text[..text.len().min(65535)])?;
     for (path, moment, sent) in SENT {
         write_record(&mut sink, path, moment, &datagram(96, sent))?;
     }
