@@ -83,7 +83,7 @@ says 'export --paced' 0 'exported 8 left out 0' ''
 moments 'export --paced: the times' paced.pcap \
     '0000000500000000 0000000500000000 000000050124f800 0000000502625a00 0000000500c35000 0000000501315867 000000050186a000 00000005002b671c '
 run inspect paced.pcap
-if grep -q 'from 5.000000000 to 5.020011111,' out; then
+if grep -q 'from 5.000000000 to 5.040000000,' out; then
     pass 'export --paced: what inspect tells'
 else
     fail 'export --paced: what inspect tells' "$(cat out)"

@@ -64,6 +64,7 @@ if [ "$status" = 1 ] && [ "$(cat err)" = 'st2110: recording 2 Truncated' ] && [ 
 else
     fail 'inspect --json: a recording that is cut short' "status $status: $(cat err): $says_last"
 fi
+run inspect "$recordings/two-cards.pcapng"
 "$program" inspect - <"$recordings/two-cards.pcapng" >again 2>err
 status=$?
 : >again.err
