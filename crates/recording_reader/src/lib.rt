@@ -1,6 +1,5 @@
-//! Readers of files that hold datagrams, as sources of these: recordings of other tools, of which
-//! the datagrams of two flows are taken, and files of either kind, which are such a recording or a
-//! capture.
+//! Readers of recordings of other tools (pcap, pcapng) as sources of datagrams: of the packets of a
+//! recording those that are datagrams of two flows are taken.
 #![tactic(auto)]
 
 mod found;
