@@ -12,6 +12,10 @@ use Rattle.devices.specs.declared.input.InputSource.{InputSource}
 use Rattle.devices.specs.declared.link.UdpLink.{UdpLink}
 use Rattle.devices.specs.declared.output.OutputSink.{OutputSink}
 
+-- the name that a file is opened by where it is read
+abbrev pub file_path : FileSource → List ℕ
+file_path f = f.path.now
+
 -- a file that is read: what it gave, whether it told its end
 abbrev pub file_gave : FileSource → List ℕ
 file_gave f = f.gave.octets
@@ -32,6 +36,10 @@ sink_took s = taken_by s.progress
 
 abbrev pub sink_failures : FileSink → ℕ
 sink_failures s = s.failures
+
+-- the name that a file has once it is written
+abbrev pub written_name : FileOutput → List ℕ
+written_name f = f.sink.name.now
 
 -- a file that is written: what it took
 abbrev pub file_took : FileOutput → List ℕ

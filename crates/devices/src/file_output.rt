@@ -5,7 +5,7 @@
 ghost use Rattle.std.specs.Prelude.{◌≡◌, ◌<◌, ◌↔◌, ◌⊎◌, [], None, IsFalse, IsNone, IsSome, IsTrue};
 ghost use Rattle.std.specs.Prelude.{OnErr, OnOk};
 ghost use Rattle.devices.specs.Passed.{HasNoPart, IsInPlace, IsUnplaced, LeavesNoPart, file_took};
-ghost use Rattle.devices.specs.Passed.{writing_failures};
+ghost use Rattle.devices.specs.Passed.{writing_failures, written_name};
 ghost use Rattle.devices.specs.Written.{IsWithout, IsWrittenOut, draft_took, stream_took, taken_by};
 ghost use Rattle.devices.specs.Written.{took_in};
 ghost use Rattle.st_format.specs.Device.{Failed};
@@ -60,6 +60,7 @@ impl<'a> FileOutput<'a> {
     /// The file of this name, which isn't looked at yet, and what becomes of it where it is not
     /// written whole.
     pub fn new(rt: &'a HostRuntime, name: &'a str, rest: Rest) -> Self
+        ensures named { written_name result ≡ name.now }
         ensures unfailed { writing_failures result ≡ 0 }
         ensures fresh { file_took result ≡ [] }
         ensures unplaced { IsUnplaced result }

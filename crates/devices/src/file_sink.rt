@@ -45,6 +45,7 @@ pub(crate) enum Progress<'a> {
 impl<'a> FileSink<'a> {
     /// The file of this name, which isn't looked at yet.
     pub(crate) fn new(rt: &'a HostRuntime, name: &'a str) -> Self
+        ensures named { result.name.now ≡ name.now }
         ensures unfailed { ⟦<FileSink<'a> as ByteSink>⟧.failures result ≡ 0 }
         ensures fresh { ⟦<FileSink<'a> as ByteSink>⟧.took result ≡ [] }
     {

@@ -3,6 +3,7 @@
 //! It is opened where its first octets are wanted and closed at its end, so that a long list of
 //! files has one open at a time, and one that is refused before it is read is not touched.
 ghost use Rattle.std.specs.Prelude.{◌≡◌, ◌≤◌, ◌<◌, ◌↔◌, ◌++◌, [], length, take, None, IfOk, OnErr};
+ghost use Rattle.devices.specs.Passed.{file_path};
 
 use crate::history::History;
 use crate::identity::{Identity, identity_of};
@@ -49,6 +50,7 @@ enum Progress {
 impl<'a> FileSource<'a> {
     /// The file of this name, which isn't looked at yet.
     pub fn new(rt: &'a HostRuntime, name: &'a str) -> Self
+        ensures named { file_path result ≡ name.now }
         ensures unfailed { ⟦<FileSource<'a> as ByteSource>⟧.failures result ≡ 0 }
         ensures fresh { ⟦<FileSource<'a> as ByteSource>⟧.gave result ≡ [] }
     {

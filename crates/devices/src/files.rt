@@ -1,6 +1,7 @@
 //! Files that are read, by a name that may be absent, and by a list of names.
-ghost use Rattle.std.specs.Prelude.{◌≡◌, ◌↔◌, [], All, IfOk, IfSome, IsSome, length, vec_len};
-ghost use Rattle.devices.specs.Passed.{file_gave};
+ghost use Rattle.std.specs.Prelude.{◌≡◌, ◌↔◌, [], All, IfOk, IfSome, IsSome, length, map};
+ghost use Rattle.std.specs.Prelude.{option_map, vec_len};
+ghost use Rattle.devices.specs.Passed.{file_gave, file_path};
 
 use crate::file_source::FileSource;
 use crate::identity::Identity;
@@ -10,6 +11,7 @@ use std::alloc::AllocError;
 /// The file of this name, where one is named, which isn't looked at yet.
 pub fn named_file<'a>(rt: &'a HostRuntime, name: Option<&'a str>) -> Option<FileSource<'a>>
     ensures named { IsSome result ↔ IsSome name.entry }
+    ensures path { option_map file_path result ≡ option_map (λ n. n.now) name.entry }
     ensures fresh { IfSome result (λ f. file_gave f ≡ []) }
 {
     match name {
@@ -24,6 +26,8 @@ pub fn named_files<'a>(
     names: &[&'a str],
 ) -> Result<Vec<FileSource<'a>>, AllocError>
     ensures len { IfOk result (λ files. vec_len files ≡ length names.now) }
+    ensures paths { IfOk result (λ files. map file_path files.items
+        ≡ map (λ n. n.now) names.now) }
     ensures fresh { IfOk result (λ files. All (λ f. file_gave f ≡ []) files.items) }
 {
     let mut files = Vec::new(rt.alloc());

@@ -22,8 +22,8 @@ use std::alloc::Allocator;
 ///
 /// # Errors
 ///
-/// A refusal where a file is refused or the two are opened unlike, before anything is written to
-/// `state`; and else that a device failed or memory was wanted.
+/// A refusal where a file is refused or the two are opened unlike, before anything is printed
+/// or written to `state`; and else that a device failed or memory was wanted.
 pub fn merge<A, L, R, K, O>(
     alloc: A,
     left: &mut L,
@@ -51,6 +51,7 @@ where
     // All of each file was read, up to its end.
     ensures ended { OnOk result (L.ended left.new × R.ended right.new) }
     ensures refused { IfErr result (λ f. IfRefused f (state.new ≡ state.old)) }
+    ensures quiet { IfErr result (λ f. IfRefused f (output.new ≡ output.old)) }
     ensures refusal { IfErr result (λ f. OfRefusal f
         (IsMergeRefusal (IsRead (L.gave left.old) (L.gave left.new) (L.ended left.new))
         (IsRead (R.gave right.old) (R.gave right.new) (R.ended right.new)))) }

@@ -26,7 +26,7 @@ use std::alloc::Allocator;
 /// # Errors
 ///
 /// The first refusal, where a file is refused or is opened unlike the first, before anything is
-/// written to `state`; and else that a device failed or memory was wanted.
+/// printed or written to `state`; and else that a device failed or memory was wanted.
 pub fn merge_all<A, S, K, O>(
     alloc: A,
     first: &mut S,
@@ -54,6 +54,7 @@ where
     // All of each file was read, up to its end.
     ensures ended { OnOk result (S.ended first.new × All S.ended others.new) }
     ensures refused { IfErr result (λ f. IfRefused f (state.new ≡ state.old)) }
+    ensures quiet { IfErr result (λ f. IfRefused f (output.new ≡ output.old)) }
     ensures refusal { IfErr result (λ f. OfRefusal f
         (IsMergeAllRefusal (IsRead (S.gave first.old) (S.gave first.new) (S.ended first.new))
         (WasRead S.gave S.ended) (zip others.old others.new))) }

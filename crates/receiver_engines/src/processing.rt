@@ -56,8 +56,8 @@ pub struct Processing<'a> {
 /// A refusal where the job's text is none (before any file is read), a file is refused, a
 /// receiver's window hasn't the timestamp, the fill's text is none or has a value above the
 /// greatest of a frame's depth, the held picture has another format than the first frame, or, in
-/// this order, the job is refused or there is no such plan: `sink` isn't touched then. Else that a
-/// device failed or memory was wanted.
+/// this order, the job is refused or there is no such plan: neither `sink` nor `output` is touched
+/// then. Else that a device failed or memory was wanted.
 pub fn process<A, S, K, O>(
     alloc: A,
     wanted: Processing<'_>,
@@ -82,6 +82,7 @@ where
     ensures part { OnErr result (SendsPart wanted.entry.max_octets wanted.entry.stamp
         (K.took sink.old) (K.took sink.new)) }
     ensures refused { IfErr result (λ f. IfRefused f (sink.new ≡ sink.old)) }
+    ensures quiet { IfErr result (λ f. IfRefused f (output.new ≡ output.old)) }
     ensures refusal { IfErr result (λ f. OfRefusal f
         (IsRunRefusal (WasRead S.gave S.ended) (zip states.old states.new)
         (pair hold.old hold.new) wanted.entry)) }
@@ -117,8 +118,8 @@ pub fn check_job(text: &[u8]) -> Result<(), Fault>
 ///
 /// # Errors
 ///
-/// As [`process`]; and a refusal where the SDP is longer than 65,535 octets or refused. `sink`
-/// isn't touched then.
+/// As [`process`]; and a refusal where the SDP is longer than 65,535 octets or refused. Neither
+/// `sink` nor `output` is touched then.
 pub fn process_said<A, S, K, O>(
     alloc: A,
     wanted: Processing<'_>,
@@ -145,6 +146,7 @@ where
     ensures part { OnErr result ((text : List ℕ) × SendsSaidPart text wanted.entry.max_octets
         wanted.entry.stamp (K.took sink.old) (K.took sink.new)) }
     ensures refused { IfErr result (λ f. IfRefused f (sink.new ≡ sink.old)) }
+    ensures quiet { IfErr result (λ f. IfRefused f (output.new ≡ output.old)) }
     ensures refusal { IfErr result (λ f. OfRefusal f
         (IsSaidRunRefusal (WasRead S.gave S.ended) sdp.old sdp.new (zip states.old states.new)
         (pair hold.old hold.new) wanted.entry)) }

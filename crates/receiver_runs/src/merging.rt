@@ -6,9 +6,11 @@ ghost use Rattle.devices.specs.Passed.{HasNoPart, IsInPlace, IsUnplaced, LeavesN
 ghost use Rattle.devices.specs.Passed.{output_failures, output_took, writing_failures};
 ghost use Rattle.receiver_engines.specs.MergeAllRefused.{IsMergeAllRefusal};
 ghost use Rattle.receiver_engines.specs.MergedAll.{MergesAll, PrintsAll};
-ghost use Rattle.run_outcome.specs.Fault.{Accounts, counts};
+ghost use Rattle.run_outcome.specs.Fault.{Accounts, IfRefused, counts};
 ghost use Rattle.run_outcome.specs.Moments.{WasRead};
 ghost use Rattle.run_outcome.specs.Refusing.{OfRefusal};
+ghost use Rattle.receiver_runs.specs.Asked.{IsMergeOf};
+ghost use Rattle.receiver_runs.specs.Untouched.{AreUntouched};
 
 use command_end::{Command, Devices, Hints, Ran};
 use command_line::MergeWords;
@@ -30,7 +32,8 @@ impl<'a> MergeCommand<'a> {
     /// The command of these words, of which nothing is done yet, or that there is no memory for its
     /// list of files.
     pub fn new(rt: &'a HostRuntime, words: &MergeWords<'a>) -> Result<Self, AllocError>
-        ensures { IfOk result ⟦<MergeCommand<'a> as Command>⟧.is_new }
+        ensures new { IfOk result ⟦<MergeCommand<'a> as Command>⟧.is_new }
+        ensures asked { IfOk result (λ c. IsMergeOf words.now c.left c.others.items c.state) }
     {
         let others = named_files(rt, words.others.as_slice())?;
         Ok(MergeCommand {
@@ -61,6 +64,8 @@ fn merge<'a>(
         (WasRead file_gave file_ended) (zip others.old others.new)
         (output_took output.old) (output_took output.new)) }
     ensures ended { OnOk result (file_ended left.new × All file_ended others.new) }
+    ensures quiet { IfErr result (λ f. IfRefused f
+        (AreUntouched state.old state.new output.old output.new)) }
     ensures unplaced { IsUnplaced state.new }
     ensures rest { LeavesNoPart state.old → LeavesNoPart state.new }
     ensures refusal { IfErr result (λ f. OfRefusal f (IsMergeAllRefusal
@@ -90,9 +95,11 @@ impl<'a> Command for MergeCommand<'a> {
         (zip old.others.items new.others.items) (output_took old.output) (output_took new.output)
         × file_ended new.left × All file_ended new.others.items };
 
-    ghost is_refused = { λ old new.
+    // Then nothing is printed or written.
+    ghost is_refused = { λ old new r.
         IsMergeAllRefusal (FileRead old.left new.left) (WasRead file_gave file_ended)
-        (zip old.others.items new.others.items) };
+        (zip old.others.items new.others.items) r
+        × AreUntouched old.state new.state old.output new.output };
 
     ghost is_placed = { λ c. IsInPlace c.state };
 

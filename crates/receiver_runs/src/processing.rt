@@ -7,11 +7,13 @@ ghost use Rattle.devices.specs.Passed.{IsInPlace, IsUnplaced, output_failures, o
 ghost use Rattle.devices.specs.Passed.{writing_failures};
 ghost use Rattle.receiver_engines.specs.Processing.{PrintsSent, SaysText, SendsSaidFiles};
 ghost use Rattle.receiver_engines.specs.Refused.{IsSaidRunRefusal};
-ghost use Rattle.run_outcome.specs.Fault.{Accounts, counts, failures_in};
+ghost use Rattle.run_outcome.specs.Fault.{Accounts, IfRefused, counts, failures_in};
 ghost use Rattle.run_outcome.specs.Moments.{WasRead, pair};
 ghost use Rattle.run_outcome.specs.Refusing.{OfRefusal};
 ghost use Rattle.run_outcome.specs.declared.refusal.Refusal.TheVariants.{OutputIsInput};
 ghost use Rattle.run_outcome.specs.declared.refusal.Writer.TheVariants.{Process};
+ghost use Rattle.receiver_runs.specs.Asked.{IsProcessOf, IsProcessingOf};
+ghost use Rattle.receiver_runs.specs.Untouched.{AreUntouched};
 
 use command_end::{Command, Devices, Hints, Ran, find_output};
 use command_line::ProcessWords;
@@ -44,7 +46,9 @@ impl<'a> ProcessCommand<'a> {
     /// The command of these words, of which nothing is done yet, or that there is no memory for its
     /// list of files.
     pub fn new(rt: &'a HostRuntime, words: &ProcessWords<'a>) -> Result<Self, AllocError>
-        ensures { IfOk result ⟦<ProcessCommand<'a> as Command>⟧.is_new }
+        ensures new { IfOk result ⟦<ProcessCommand<'a> as Command>⟧.is_new }
+        ensures asked { IfOk result (λ c. IsProcessOf words.now c.wanted c.sdp
+            c.states.items c.hold c.out) }
     {
         let sdp = named_file(rt, words.sdp);
         let states = named_files(rt, words.states.as_slice())?;
@@ -66,7 +70,7 @@ impl<'a> ProcessCommand<'a> {
 
 /// What `process` is asked for, beside its files.
 fn processing<'a>(words: &ProcessWords<'a>) -> Processing<'a>
-    ensures { result.stamp.payload_type ≤ 127 }
+    ensures { IsProcessingOf words.now result }
 {
     Processing {
         job: words.job.as_bytes(),
@@ -114,6 +118,8 @@ fn process<'a>(
         wanted.entry.job.now wanted.entry.timestamp wanted.entry.fill.now wanted.entry.max_octets
         wanted.entry.stamp (file_took out.old) (file_took out.new) count
         × PrintsSent count (output_took output.old) (output_took output.new))) }
+    ensures quiet { IfErr result (λ f. IfRefused f
+        (AreUntouched out.old out.new output.old output.new)) }
     ensures unplaced { IsUnplaced out.new }
     ensures apart { OnOk result (IsFalse is_input) }
     ensures refusal { IfErr result (λ f. OfRefusal f (λ r.
@@ -149,10 +155,12 @@ impl<'a> Command for ProcessCommand<'a> {
         old.wanted.stamp (file_took old.out) (file_took new.out) count
         × PrintsSent count (output_took old.output) (output_took new.output)) };
 
-    ghost is_refused = { λ old new r. IsSaidRunRefusal (WasRead file_gave file_ended)
+    // Then nothing is printed or written.
+    ghost is_refused = { λ old new r. (IsSaidRunRefusal (WasRead file_gave file_ended)
         old.sdp new.sdp (zip old.states.items new.states.items) (pair old.hold new.hold)
         old.wanted r
-        ⊎ (r ≡ OutputIsInput Process) × IsTrue old.is_input };
+        ⊎ (r ≡ OutputIsInput Process) × IsTrue old.is_input)
+        × AreUntouched old.out new.out old.output new.output };
 
     ghost is_placed = { λ c. IsInPlace c.out × IsFalse c.is_input };
 

@@ -1,6 +1,7 @@
 //! `report` over the devices of this machine.
 ghost use Rattle.std.specs.Prelude.{◌≡◌, ◌∷◌, []};
 ghost use Rattle.devices.specs.Passed.{FileRead, file_ended, file_failures, file_gave};
+ghost use Rattle.devices.specs.Passed.{file_path};
 ghost use Rattle.devices.specs.Passed.{output_failures, output_took};
 ghost use Rattle.receiver_engines.specs.Reporting.{Reports};
 ghost use Rattle.receiver_engines.specs.States.{IsStateRefusal};
@@ -21,7 +22,8 @@ pub struct ReportCommand<'a> {
 impl<'a> ReportCommand<'a> {
     /// The command for the receiver's file of this name, of which nothing is done yet.
     pub fn new(rt: &'a HostRuntime, name: &'a str) -> Self
-        ensures { ⟦<ReportCommand<'a> as Command>⟧.is_new result }
+        ensures new { ⟦<ReportCommand<'a> as Command>⟧.is_new result }
+        ensures asked { file_path result.state ≡ name.now }
     {
         ReportCommand {
             rt,
@@ -38,7 +40,9 @@ impl<'a> Command for ReportCommand<'a> {
     ghost does = { λ old new. Reports (FileRead old.state new.state)
         (output_took old.output) (output_took new.output) × file_ended new.state };
 
-    ghost is_refused = { λ old new. IsStateRefusal (FileRead old.state new.state) };
+    // Then nothing is printed.
+    ghost is_refused = { λ old new r. IsStateRefusal (FileRead old.state new.state) r
+        × (output_took new.output ≡ output_took old.output) };
 
     ghost owes = { λ old new outcome. Accounts outcome
         (counts (file_failures old.state) (file_failures new.state)

@@ -26,7 +26,7 @@ use std::alloc::Allocator;
 ///
 /// The status is 0; or 1 where a file is refused or the two are opened unlike (`merge 1`), 3 where
 /// a device failed, and 4 where the allocator refused memory. `faults` is told of it by one line.
-/// Nothing is written to `state` where the status is 1.
+/// Nothing is printed or written to `state` where the status is 1.
 pub fn run_merge<A, L, R, K, O, F>(
     alloc: A,
     left: &mut L,
@@ -62,6 +62,7 @@ where
     // All of each file was read, up to its end.
     ensures ended { result ≡ 0 → L.ended left.new × R.ended right.new }
     ensures refused { result ≡ 1 → state.new ≡ state.old }
+    ensures quiet { result ≡ 1 → output.new ≡ output.old }
     // What is told is the first refusal that speaks against the files.
     ensures told { result ≡ 1
         → TellsRefusal (IsMergeRefusal
@@ -123,7 +124,8 @@ where
 /// or has a value above the greatest of a frame's depth (`process 3`), the held picture has another
 /// format than the first frame (`process 4`), or, in this order, the job is refused (`job`) or
 /// there is no such plan (`plan`); 3 where a device failed, and 4 where the allocator refused
-/// memory. `faults` is told of it by one line. `sink` isn't touched where the status is 1.
+/// memory. `faults` is told of it by one line. Where the status is 1 neither `sink` nor `output` is
+/// touched.
 pub fn run_process<A, S, K, O, F>(
     alloc: A,
     wanted: Processing<'_>,
@@ -156,6 +158,7 @@ where
         wanted.entry.stamp (K.took sink.old) (K.took sink.new) count
         × PrintsSent count (O.took output.old) (O.took output.new) }
     ensures refused { result ≡ 1 → sink.new ≡ sink.old }
+    ensures quiet { result ≡ 1 → output.new ≡ output.old }
     // What is told is the first refusal that speaks against the words and files.
     ensures told { result ≡ 1
         → TellsRefusal (IsRunRefusal (WasRead S.gave S.ended) (zip states.old states.new)

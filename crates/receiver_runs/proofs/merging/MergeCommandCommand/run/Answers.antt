@@ -7,6 +7,7 @@ use Rattle.devices.specs.declared.file_source.FileSource.{FileSource}
 use Rattle.receiver_engines.specs.MergeAllRefused.{IsMergeAllRefusal}
 use Rattle.run_outcome.specs.Moments.{WasRead}
 use Rattle.run_outcome.specs.Refusing.{OfRefusal}
+use Rattle.receiver_runs.proofs.Quiet.{refused_both}
 use Rattle.receiver_runs.proofs.merging.MergeCommandCommand.run.Goals as goal
 
 pub returns-clause-done : goal.returns-clause-done
@@ -29,7 +30,10 @@ returns-clause-refusal c =
     let back =
     vec_back c.args.self.now.others.len items c.merge-outcome.new.others
     (sym c.as_mut_slice.ensures.len ∙ same) (c.merge-outcome.ensures.len ∙ same) in
+    let said =
     subst (λ (ss : List FileSource). IfErr c.merge-outcome.result (λ f. OfRefusal f
     (IsMergeAllRefusal (FileRead c.args.self.now.left c.merge-outcome.new.left)
     (WasRead file_gave file_ended) (zip items ss)))) (sym back)
-    (rw c.as_mut_slice.ensures.value at c.merge-outcome.ensures.refusal)
+    (rw c.as_mut_slice.ensures.value at c.merge-outcome.ensures.refusal) in
+    refused_both _ _ c.merge-outcome.result said
+    (rw (sym c.settle.ensures.took) at c.merge-outcome.ensures.quiet)

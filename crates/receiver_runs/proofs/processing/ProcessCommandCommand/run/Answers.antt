@@ -9,6 +9,7 @@ use Rattle.run_outcome.specs.Moments.{WasRead, pair}
 use Rattle.run_outcome.specs.Refusing.{OfRefusal}
 use Rattle.run_outcome.specs.declared.refusal.Refusal.TheVariants.{OutputIsInput}
 use Rattle.run_outcome.specs.declared.refusal.Writer.TheVariants.{Process}
+use Rattle.receiver_runs.proofs.Quiet.{refused_both}
 use Rattle.receiver_runs.proofs.processing.ProcessCommandCommand.run.Goals as goal
 
 pub returns-clause-done : goal.returns-clause-done
@@ -29,9 +30,12 @@ returns-clause-refusal c =
     let back =
     vec_back c.args.self.now.states.len items c.process-outcome.new.states
     (sym c.as_mut_slice.ensures.len ∙ same) (c.process-outcome.ensures.len ∙ same) in
+    let said =
     subst (λ (ss : List FileSource). IfErr c.process-outcome.result (λ f. OfRefusal f (λ r.
     IsSaidRunRefusal (WasRead file_gave file_ended) c.args.self.now.sdp c.process-outcome.new.sdp
     (zip items ss)
     (pair c.args.self.now.hold c.process-outcome.new.hold) c.args.self.now.wanted r
     ⊎ (r ≡ OutputIsInput Process) × IsTrue c.args.self.now.is_input))) (sym back)
-    (rw c.as_mut_slice.ensures.value at c.process-outcome.ensures.refusal)
+    (rw c.as_mut_slice.ensures.value at c.process-outcome.ensures.refusal) in
+    refused_both _ _ c.process-outcome.result said
+    (rw (sym c.settle.ensures.took) at c.process-outcome.ensures.quiet)
