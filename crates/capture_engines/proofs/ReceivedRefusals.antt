@@ -9,7 +9,8 @@ use Rattle.media_file.specs.declared.fault.FileFault.{FileFault}
 use Rattle.media_file.specs.declared.fault.FileFault.TheVariants.{Device, BadName}
 use Rattle.media_file.specs.declared.fault.FileFault.TheVariants.{BadVersion, Truncated}
 use Rattle.media_file.specs.Faults.{IsOfFront}
-use Rattle.media_file.specs.Fields.{GaveFault, GaveValue}
+use Rattle.media_file.specs.Fields.{GaveFault}
+use Rattle.st_format.specs.Given.{GaveValue}
 use Rattle.media_file.proofs.Gave.{fault_read}
 use Rattle.run_outcome.specs.LowerFaults.{capture_fault}
 use Rattle.run_outcome.specs.Refusing.{OfRefusal}

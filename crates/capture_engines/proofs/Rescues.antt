@@ -5,7 +5,7 @@ use Rattle.std.proofs.Common.{take, Bool, arith}
 use Rattle.std.specs.List.{flat_map, zip}
 use Rattle.std.specs.Prelude.{IfErr, MatchOption, OnErr, OnOk, Result, Ok, Err, ⊤}
 use Rattle.st_format.specs.History.{GrewFrom, IsRead, since}
-use Rattle.media_file.specs.Fields.{GaveValue}
+use Rattle.st_format.specs.Given.{GaveValue}
 use Rattle.media_file.specs.Fronts.{front_at}
 use Rattle.media_file.specs.StateFile.{state_text}
 use Rattle.receiver_file.specs.Saved.{kept_of}

@@ -17,7 +17,6 @@ use Rattle.media_file.specs.Given.{GivesWrong}
 use Rattle.media_file.specs.Reading.{entries_by, entries_in, entries_up_to, rest_at}
 use Rattle.media_file.specs.Records.{AllFit, Entry, Fits, path_octet, record_text, records_text}
 use Rattle.media_file.specs.Records.{rest_text}
-use Rattle.media_file.proofs.Givings.{grew_twice}
 use Rattle.media_file.proofs.Moved.{fit_more, one_text}
 use Rattle.media_file.proofs.Gave.{fault_device}
 use Rattle.media_file.proofs.GaveLoops.{GoesGave, gave_end, gave_first, gave_record}
@@ -26,6 +25,7 @@ use Rattle.media_file.proofs.Written.{part_then, took_both}
 use Rattle.export_engine.specs.Packets.{has_packet, packet_count, packet_text, packets_text}
 use Rattle.export_engine.specs.Exported.{ExportsRecords, StopsPackets, TakesUpTo}
 use Rattle.export_engine.specs.declared.places.Envelopes.{Envelopes}
+use Rattle.st_format.proofs.Gave.{grew_twice}
 
 -- what was written of a record more
 more_packets : (es : Envelopes) (xs : List Entry) (e : Entry)

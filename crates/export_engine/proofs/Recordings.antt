@@ -7,7 +7,8 @@ use Rattle.pcap_file.specs.Writing.{file_text}
 use Rattle.media_file.specs.declared.fault.FileFault.{FileFault}
 use Rattle.media_file.specs.declared.fault.FileFault.TheVariants as file
 use Rattle.media_file.specs.Capture.{capture_walk, records_at}
-use Rattle.media_file.specs.Fields.{GaveFault, GaveValue}
+use Rattle.media_file.specs.Fields.{GaveFault}
+use Rattle.st_format.specs.Given.{GaveValue}
 use Rattle.media_file.specs.Fronts.{front_at}
 use Rattle.media_file.proofs.Gave.{fault_device}
 use Rattle.media_file.proofs.GaveCaptures.{capture_gave, capture_gave_wrong}

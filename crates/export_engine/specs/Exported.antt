@@ -2,7 +2,8 @@
 use Rattle.std.specs.Prelude.{◌≡◌, ℕ, ◌+◌, ◌⊎◌, List, [], ◌∷◌, ◌++◌, length, Option}
 use Rattle.st_format.specs.Device.{GrowsPart}
 use Rattle.media_file.specs.Capture.{Content, capture_walk, records_at}
-use Rattle.media_file.specs.Fields.{GaveFault, GaveValue, GaveWhole}
+use Rattle.media_file.specs.Fields.{GaveFault}
+use Rattle.st_format.specs.Given.{GaveValue, GaveWhole}
 use Rattle.media_file.specs.Fronts.{front_at}
 use Rattle.media_file.specs.Reading.{entries_in}
 use Rattle.media_file.specs.Records.{AllFit, Entry, records_text}

@@ -20,7 +20,7 @@ use Rattle.media_file.specs.declared.fault.FileFault.TheVariants.{BadField}
 use Rattle.media_file.specs.Blocks.{block_at, block_of, depth_of, lowest, sampling_of}
 use Rattle.media_file.specs.Fields.{field_at}
 use Rattle.st_format.specs.Reading.{◌>>=◌}
-use Rattle.media_file.specs.Fronts.{with_rest}
+use Rattle.st_format.specs.Given.{with_rest}
 use Rattle.media_file.specs.PictureFaults.{IsFormat}
 use Rattle.media_file.specs.StateFile.{format_text, sampling_code}
 use Rattle.media_file.proofs.Blocked.{block_parts, lowest_good}

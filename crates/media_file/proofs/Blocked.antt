@@ -13,10 +13,11 @@ use Rattle.media_file.specs.declared.fault.FileFault.{FileFault}
 use Rattle.media_file.specs.declared.fault.FileFault.TheVariants.{BadField}
 use Rattle.media_file.specs.Blocks.{block_at, block_of, depth_of, lowest}
 use Rattle.media_file.specs.Blocks.{sampling_of}
-use Rattle.media_file.specs.Fields.{Fails, Takes, field_at}
+use Rattle.media_file.specs.Fields.{Fails, field_at}
+use Rattle.st_format.specs.Given.{Takes, with_rest}
 use Rattle.st_format.specs.Reading.{◌>>=◌}
-use Rattle.media_file.specs.Fronts.{with_rest}
-use Rattle.media_file.proofs.Parsing.{fails_first, fails_pure, fails_then, gives_pure, gives_then}
+use Rattle.st_format.proofs.Parsing.{fails_first, fails_pure, fails_then, gives_pure, gives_then}
+use Rattle.media_file.specs.Faults.{file_fault_origin}
 
 abbrev Read : Type 0
 Read = Result Fields FileFault
@@ -100,10 +101,12 @@ pub block_fails : (old mid : Option (List ℕ)) (block : List ℕ) (r : Result F
 unfolding block_at
 block_fails old mid block (Ok f) p e = tt
 block_fails old mid block (Err f) p e =
-    fails_then (field_at 14) (λ x rest. with_rest (block_of x) rest) old mid block f p
-    (fails_pure (block_of block) mid f (sym e))
+    fails_then file_fault_origin (field_at 14) (λ x rest. with_rest (block_of x) rest) old mid block
+    f p
+    (fails_pure file_fault_origin (block_of block) mid f (sym e))
 
 pub block_cut : (old : Option (List ℕ)) (f : FileFault) → Fails (field_at 14) old f
     → Fails block_at old f
 unfolding block_at
-block_cut old f p = fails_first (field_at 14) (λ x rest. with_rest (block_of x) rest) old f p
+block_cut old f p =
+    fails_first file_fault_origin (field_at 14) (λ x rest. with_rest (block_of x) rest) old f p

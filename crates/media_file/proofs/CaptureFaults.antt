@@ -19,13 +19,12 @@ use Rattle.media_file.specs.Capture.{Content, IsCapture, capture_walk, records_a
 use Rattle.media_file.specs.CaptureFaults.{IsCaptureFault, HasBadRecord, HasBehind, HasCutText}
 use Rattle.media_file.specs.CaptureFaults.{HasRecordMore, IsCutCapture, IsRecordFault}
 use Rattle.media_file.specs.CaptureFaults.IsCutCapture.{Kind, Text, Record}
-use Rattle.media_file.specs.Faults.{IfContent}
+use Rattle.media_file.specs.Faults.{IfContent, file_fault_origin}
 use Rattle.media_file.specs.Fields.{Fails, field_at}
 use Rattle.st_format.specs.Reading.{◌>>=◌}
 use Rattle.media_file.specs.Fronts.{HasFront, capture_name, counted_text, front_at, front_text}
 use Rattle.media_file.specs.Fronts.{kind_at, kind_text, text_at, text_by}
 use Rattle.media_file.specs.Records.{Entry, records_text}
-use Rattle.media_file.proofs.Content.{if_content_weaker}
 use Rattle.media_file.proofs.Failing.{Short, answered, field_fails, field_short, field_whole}
 use Rattle.media_file.proofs.Failing.{less, not_both, same_fault, short_with, split_fails}
 use Rattle.media_file.proofs.Found.{capture_found, field_takes, given, kind_takes, split_then}
@@ -36,6 +35,7 @@ use Rattle.media_file.proofs.RecordFaults.{IsStop, Stops, full_tells, records_fa
 use Rattle.media_file.proofs.RecordFaults.IsStop.{Full, Wrong}
 use Rattle.media_file.proofs.Splits.{AreOctets-back, below_16, field_again}
 use Rattle.st_format.proofs.Octets.{AreOctets-take}
+use Rattle.st_format.proofs.Origins.{if_content_weaker}
 
 abbrev Part : Type 0
 Part = List ℕ × List ℕ
@@ -373,6 +373,6 @@ pub capture_wrong : {X : Type 0} (limit : ℕ) (told : Option (List ℕ)) (r : R
     → IfContent f (IsCaptureFault f limit octets))
 capture_wrong limit told (Ok x) fails = tt
 capture_wrong limit told (Err f) fails =
-    λ octets is bytes. if_content_weaker f (capture_walk limit octets ≡ Err f)
+    λ octets is bytes. if_content_weaker file_fault_origin f (capture_walk limit octets ≡ Err f)
     (IsCaptureFault f limit octets) (capture_fails limit f octets bytes)
     (subst (λ (o : Option (List ℕ)). Fails (capture_walk limit) o f) is fails)

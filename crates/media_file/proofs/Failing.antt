@@ -9,6 +9,7 @@ use Rattle.std.proofs.lemmas.Slice.Eq.{bytes_eq-Decides}
 use Rattle.media_file.specs.declared.fault.FileFault.{FileFault}
 use Rattle.media_file.specs.declared.fault.FileFault.TheVariants.{Truncated}
 use Rattle.media_file.specs.Fields.{field_at}
+use Rattle.st_format.specs.Given.{field_by}
 use Rattle.st_format.specs.Reading.{◌>>=◌}
 use Rattle.media_file.proofs.Entries.{chosen}
 use Rattle.media_file.proofs.Found.{failed}
@@ -49,7 +50,7 @@ pub record Short (n : ℕ) (octets : List ℕ) (e : FileFault) : Type 0 where
 
 pub field_fails : (n : ℕ) (octets : List ℕ) (e : FileFault) → field_at n octets ≡ Err e
     → Short n octets e
-unfolding field_at
+unfolding field_by
 field_fails n octets e h =
     elim (chosen (ltb (length octets) n) (failed Field Truncated)
     (answered Field (take n octets, drop n octets)) (failed Field e) h) [
@@ -61,14 +62,14 @@ field_fails n octets e h =
     ]
 
 pub field_short : (n : ℕ) (octets : List ℕ) → length octets < n → field_at n octets ≡ Err Truncated
-unfolding field_at
+unfolding field_by
 field_short n octets lt
     = ap (λ (b : Bool). cond b (failed Field Truncated)
     (answered Field (take n octets, drop n octets))) (lt-ltb (length octets) n lt)
 
 pub field_whole : (n : ℕ) (octets : List ℕ) → n ≤ length octets
     → field_at n octets ≡ Ok (take n octets, drop n octets)
-unfolding field_at
+unfolding field_by
 field_whole n octets le
     = ap (λ (b : Bool). cond b (failed Field Truncated)
     (answered Field (take n octets, drop n octets))) (le-ltb (length octets) n le)

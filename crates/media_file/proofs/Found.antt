@@ -19,11 +19,11 @@ use Rattle.std.specs.Io.KnownBytes.{IsAtEnd}
 use Rattle.media_file.specs.declared.capture.Capture.{Capture}
 use Rattle.media_file.specs.Capture.{Content, IsCapture, capture_walk, capture_seen, entry_seen}
 use Rattle.media_file.specs.Capture.{records_at}
-use Rattle.media_file.specs.Fields.{Takes, Leaves, field_at}
+use Rattle.media_file.specs.Fields.{field_at}
+use Rattle.st_format.specs.Given.{Leaves, Takes, field_by, with_rest}
 use Rattle.st_format.specs.Reading.{◌>>=◌}
 use Rattle.media_file.specs.Fronts.{HasFront, capture_name, counted_text, front_at, front_text}
 use Rattle.media_file.specs.Fronts.{kind_at, kind_of, kind_text, text_at, text_by, version_of}
-use Rattle.media_file.specs.Fronts.{with_rest}
 use Rattle.media_file.specs.Reading.{rest_at}
 use Rattle.media_file.specs.Records.{AllFit, Entry, path_octet, records_text, rest_text}
 use Rattle.st_format.specs.Device.{AreOctets, TellsOctets}
@@ -68,7 +68,7 @@ pub record Field (n : ℕ) (octets : List ℕ) (x : List ℕ × List ℕ) : Type
 
 pub field_takes : (n : ℕ) (octets : List ℕ) (x : List ℕ × List ℕ) → field_at n octets ≡ Ok x
     → Field n octets x
-unfolding field_at
+unfolding field_by
 field_takes n octets x e =
     elim (chosen (ltb (length octets) n) (failed (List ℕ × List ℕ) Truncated)
     (Ok (take n octets, drop n octets)) (Ok x) e) [

@@ -6,10 +6,11 @@ use Rattle.std.specs.Int.{w16, from_be_bytes}
 use Rattle.media_file.specs.declared.fault.FileFault.{FileFault}
 use Rattle.media_file.specs.declared.front.Version.{Version}
 use Rattle.media_file.specs.declared.front.Version.TheVariants.{One, Two}
-use Rattle.media_file.specs.Fields.{field_at, Takes, Fails}
+use Rattle.media_file.specs.Fields.{field_at, Fails}
+use Rattle.st_format.specs.Given.{Takes, with_rest}
 use Rattle.media_file.specs.Fronts.{capture_name, front_at, kind_at, kind_of, text_at, text_by}
-use Rattle.media_file.specs.Fronts.{with_rest}
-use Rattle.media_file.proofs.Parsing.{gives_then, fails_first, fails_then, gives_pure, fails_pure}
+use Rattle.st_format.proofs.Parsing.{gives_then, fails_first, fails_then, gives_pure, fails_pure}
+use Rattle.media_file.specs.Faults.{file_fault_origin}
 
 -- a name and a version
 pub kind_gives : (name : List ℕ) (old mid : Option (List ℕ)) (octets : List ℕ)
@@ -27,13 +28,15 @@ pub kind_fails : (name : List ℕ) (old mid : Option (List ℕ)) (octets : List 
 unfolding kind_at
 kind_fails name old mid octets (Ok v) p e = tt
 kind_fails name old mid octets (Err f) p e =
-    fails_then (field_at 8) (λ x rest. with_rest (kind_of name x) rest) old mid octets f p
-    (fails_pure (kind_of name octets) mid f (sym e))
+    fails_then file_fault_origin (field_at 8) (λ x rest. with_rest (kind_of name x) rest) old mid
+    octets f p
+    (fails_pure file_fault_origin (kind_of name octets) mid f (sym e))
 
 pub kind_cut : (name : List ℕ) (old : Option (List ℕ)) (f : FileFault) → Fails (field_at 8) old f
     → Fails (kind_at name) old f
 unfolding kind_at
-kind_cut name old f p = fails_first (field_at 8) (λ x rest. with_rest (kind_of name x) rest) old f p
+kind_cut name old f p =
+    fails_first file_fault_origin (field_at 8) (λ x rest. with_rest (kind_of name x) rest) old f p
 
 -- a text behind its length
 pub text_gives : (old mid new : Option (List ℕ)) (octets text : List ℕ) (n : ℕ)
@@ -50,13 +53,16 @@ pub text_fails : (old mid : Option (List ℕ)) (octets : List ℕ) (n : ℕ) (f 
     → Fails text_at old f
 unfolding text_at
 text_fails old mid octets n f is p q =
-    fails_then (field_at 2) (λ x rest. field_at (from_be_bytes w16 x) rest) old mid octets f p
+    fails_then file_fault_origin (field_at 2) (λ x rest. field_at (from_be_bytes w16 x) rest) old
+    mid octets f p
     (subst (λ (k : ℕ). Fails (field_at k) mid f) is q)
 
 pub text_cut : (old : Option (List ℕ)) (f : FileFault) → Fails (field_at 2) old f
     → Fails text_at old f
 unfolding text_at
-text_cut old f p = fails_first (field_at 2) (λ x rest. field_at (from_be_bytes w16 x) rest) old f p
+text_cut old f p =
+    fails_first file_fault_origin (field_at 2) (λ x rest. field_at (from_be_bytes w16 x) rest) old f
+    p
 
 -- the front of a capture
 pub front_gives : (old mid new : Option (List ℕ)) (v : Version) (text : List ℕ)
@@ -69,12 +75,13 @@ front_gives old mid new v text p q =
 pub front_fails : (old mid : Option (List ℕ)) (v : Version) (f : FileFault)
     → Takes (kind_at capture_name) old mid v → Fails (text_by v) mid f → Fails front_at old f
 unfolding front_at
-front_fails old mid v f p q = fails_then (kind_at capture_name) text_by old mid v f p q
+front_fails old mid v f p q =
+    fails_then file_fault_origin (kind_at capture_name) text_by old mid v f p q
 
 pub front_cut : (old : Option (List ℕ)) (f : FileFault) → Fails (kind_at capture_name) old f
     → Fails front_at old f
 unfolding front_at
-front_cut old f p = fails_first (kind_at capture_name) text_by old f p
+front_cut old f p = fails_first file_fault_origin (kind_at capture_name) text_by old f p
 
 pub front_gives_two : (old mid new : Option (List ℕ)) (v : Version) (buf : List ℕ)
     (r : Result ℕ FileFault) → v ≡ Two → Takes (kind_at capture_name) old mid v

@@ -2,97 +2,25 @@
 -- to give, whatever is behind them. So each step from a reading to the next is one of both.
 use Rattle.std.proofs.Common.{◌≡◌, ℕ, zero, suc, ◌<◌, List, [], ◌∷◌, ◌++◌, length, Option, Some}
 use Rattle.std.proofs.Common.{Result, Ok, Err}
-use Rattle.std.proofs.Common.{append_assoc, append-nil, refl, sym, ap, subst, ◌∙◌}
+use Rattle.std.proofs.Common.{append-nil, refl, sym, ap, subst, ◌∙◌}
 use Rattle.media_file.specs.declared.fault.FileFault.{FileFault}
 use Rattle.media_file.specs.declared.fault.FileFault.TheVariants.{NoMemory, Truncated}
 use Rattle.media_file.specs.declared.fault.FileFault.TheVariants.{TrailingBytes}
-use Rattle.media_file.specs.Faults.{IsDevice}
-use Rattle.media_file.specs.Fields.{Fails, GaveFault, GaveOctets, GaveValue, GaveWhole, Takes}
+use Rattle.media_file.specs.Faults.{IsDevice, file_fault_origin}
+use Rattle.media_file.specs.Fields.{Fails, GaveFault}
+use Rattle.st_format.specs.Given.{GaveOctets, GaveValue, GaveWhole, Takes}
 use Rattle.media_file.specs.Fields.{field_at, nothing_at}
 use Rattle.std.specs.Prelude.{OnOk, slice_index}
 use Rattle.st_format.specs.Device.{AreOctets}
 use Rattle.st_format.specs.History.{GrewFrom, IsRead, since}
 use Rattle.st_format.proofs.Histories.{since_is}
 use Rattle.media_file.proofs.Content.{of_device}
-use Rattle.media_file.proofs.Givings.{grew_twice}
-use Rattle.media_file.proofs.Parsing.{fails_field, gives_field}
 use Rattle.media_file.proofs.Raster.{not_end}
+use Rattle.st_format.proofs.Gave.{grew_twice}
+use Rattle.st_format.proofs.Parsing.{fails_field, gives_field}
 
 abbrev Reading : Type 0 → Type 0
 Reading X = List ℕ → Result (X × List ℕ) FileFault
-
--- ---- from readings to a reading
-
--- of one value
-pub gave_one : {X Z : Type 0} (p : Reading X) (r : Reading Z) (x : X) (z : Z) (a b : List ℕ)
-    → ((was left : Option (List ℕ)) → Takes p was left x → Takes r was left z)
-    → GaveValue p a b x → GaveValue r a b z
-gave_one p r x z a b step g = record {
-  part = g.part;
-  grown = g.grown;
-  says = λ behind. step (Some (g.part ++ behind)) (Some behind) (g.says behind);
-}
-
--- of two values, one behind the other
-pub gave_two : {X Y Z : Type 0} (p : Reading X) (q : Reading Y) (r : Reading Z) (x : X) (y : Y)
-    (z : Z) (a b c : List ℕ)
-    → ((was mid left : Option (List ℕ)) → Takes p was mid x → Takes q mid left y
-    → Takes r was left z) → GaveValue p a b x → GaveValue q b c y → GaveValue r a c z
-gave_two p q r x y z a b c step g h = record {
-  part = g.part ++ h.part;
-  grown = grew_twice a b c g.part h.part g.grown h.grown;
-  says = λ behind.
-      subst (λ (o : List ℕ). Takes r (Some o) (Some behind) z)
-      (sym (append_assoc g.part h.part behind))
-      (step (Some (g.part ++ (h.part ++ behind))) (Some (h.part ++ behind)) (Some behind)
-      (g.says (h.part ++ behind)) (h.says behind));
-}
-
--- of what was read already, which took no octet
-pub gave_none : {Z : Type 0} (r : Reading Z) (z : Z) (a b : List ℕ)
-    → ((known : Option (List ℕ)) → Takes r known known z) → b ≡ a → GaveValue r a b z
-gave_none r z a b step same = record {
-  part = [];
-  grown = same ∙ sym (append-nil a);
-  says = λ behind. step (Some behind);
-}
-
--- ---- from a fault to a fault
-
--- of the first reading
-pub fault_one : {X Z : Type 0} (p : Reading X) (r : Reading Z) (a b : List ℕ) (ended : Type 0)
-    (f : FileFault) → ((was : Option (List ℕ)) → Fails p was f → Fails r was f)
-    → GaveFault p a b ended f → GaveFault r a b ended f
-fault_one p r a b ended f step g = record {
-  part = g.part;
-  grown = g.grown;
-  says = λ behind all. step (Some (g.part ++ behind)) (g.says behind all);
-}
-
--- of a value that was read
-pub fault_of : {X Z : Type 0} (p : Reading X) (r : Reading Z) (x : X) (a b : List ℕ)
-    (ended : Type 0) (f : FileFault)
-    → ((was left : Option (List ℕ)) → Takes p was left x → Fails r was f)
-    → GaveValue p a b x → GaveFault r a b ended f
-fault_of p r x a b ended f step g = record {
-  part = g.part;
-  grown = g.grown;
-  says = λ behind all. step (Some (g.part ++ behind)) (Some behind) (g.says behind);
-}
-
--- of the second reading
-pub fault_two : {X Y Z : Type 0} (p : Reading X) (q : Reading Y) (r : Reading Z) (x : X)
-    (a b c : List ℕ) (ended : Type 0) (f : FileFault)
-    → ((was mid : Option (List ℕ)) → Takes p was mid x → Fails q mid f → Fails r was f)
-    → GaveValue p a b x → GaveFault q b c ended f → GaveFault r a c ended f
-fault_two p q r x a b c ended f step g h = record {
-  part = g.part ++ h.part;
-  grown = grew_twice a b c g.part h.part g.grown h.grown;
-  says = λ behind all.
-      subst (λ (o : List ℕ). Fails r (Some o) f) (sym (append_assoc g.part h.part behind))
-      (step (Some (g.part ++ (h.part ++ behind))) (Some (h.part ++ behind))
-      (g.says (h.part ++ behind)) (h.says behind all));
-}
 
 -- ---- fields
 
@@ -102,7 +30,7 @@ pub gave_field : (n : ℕ) (a b octets : List ℕ) → length octets ≡ n → b
 gave_field n a b octets size grown = record {
   part = octets;
   grown = grown;
-  says = λ behind. gives_field n (Some (octets ++ behind)) (Some behind) octets size refl;
+  says = λ behind. gives_field Truncated n (Some (octets ++ behind)) (Some behind) octets size refl;
 }
 
 -- fewer were, and then the end
@@ -112,7 +40,8 @@ cut_field n a b part ended lt grown over = record {
   part = part;
   grown = grown;
   says = λ behind all.
-      fails_field n (Some (part ++ behind)) (Some behind) part lt refl (all over);
+      fails_field file_fault_origin Truncated n (Some (part ++ behind)) (Some behind) part lt refl
+      (all over);
 }
 
 -- the device failed: nothing is said of the content

@@ -1,5 +1,5 @@
 -- A capture that was read as one value, by what its source gave.
-use Rattle.std.proofs.Common.{◌≡◌, ℕ, ◌≤◌, List, [], ◌++◌, length, map, Some, Result, Ok, Err}
+use Rattle.std.proofs.Common.{◌≡◌, ℕ, ◌≤◌, List, [], ◌++◌, length, Some, Result, Ok, Err}
 use Rattle.std.proofs.Common.{refl}
 use Rattle.std.specs.Prelude.{IfErr, IfOk, MatchResult, OnOk}
 use Rattle.st_format.specs.Device.{AreOctets}
@@ -7,21 +7,22 @@ use Rattle.st_format.specs.History.{GrewFrom, IsRead}
 use Rattle.media_file.specs.declared.capture.Capture.{Capture}
 use Rattle.media_file.specs.declared.fault.FileFault.{FileFault}
 use Rattle.media_file.specs.declared.fault.FileFault.TheVariants.{NoMemory}
-use Rattle.media_file.specs.Capture.{Content, IsCapture, capture_seen, capture_walk, entry_seen}
+use Rattle.media_file.specs.Capture.{Content, IsCapture, capture_seen, capture_walk}
 use Rattle.media_file.specs.Capture.{records_at}
 use Rattle.media_file.specs.CaptureFaults.{IsCaptureFault}
-use Rattle.media_file.specs.Faults.{IfContent, IsMachine}
-use Rattle.media_file.specs.Fields.{Fails, GaveFault, GaveValue, GaveWhole, Takes}
+use Rattle.media_file.specs.Faults.{IfContent, IsMachine, file_fault_origin}
+use Rattle.media_file.specs.Fields.{GaveFault}
+use Rattle.st_format.specs.Given.{GaveValue, GaveWhole}
 use Rattle.media_file.specs.Fronts.{front_at}
 use Rattle.media_file.specs.Records.{Entry}
 use Rattle.media_file.proofs.CaptureFaults.{capture_wrong}
 use Rattle.media_file.proofs.Found.{found_read}
-use Rattle.media_file.proofs.Gave.{fault_grew, fault_of, fault_one, fault_read, fault_two}
+use Rattle.media_file.proofs.Gave.{fault_grew, fault_read}
 use Rattle.media_file.proofs.Gave.{whole_grew, whole_read}
 use Rattle.media_file.proofs.GaveLoops.{fails_memory}
-use Rattle.media_file.proofs.Givings.{grew_twice}
 use Rattle.media_file.proofs.Loops.{capture_cut, capture_fails, capture_gives}
 use Rattle.media_file.proofs.Splits.{only_read}
+use Rattle.st_format.proofs.Gave.{fault_of, fault_one, fault_two, grew_twice}
 
 -- ---- its front and its records
 
@@ -40,20 +41,21 @@ capture_gave limit a b c text ended es g h = record {
 pub capture_gave_cut : (limit : ℕ) (a b : List ℕ) (ended : Type 0) (f : FileFault)
     → GaveFault front_at a b ended f → GaveFault (capture_walk limit) a b ended f
 capture_gave_cut limit a b ended f g =
-    fault_one front_at (capture_walk limit) a b ended f (λ was p. capture_cut limit was f p) g
+    fault_one file_fault_origin front_at (capture_walk limit) a b ended f
+    (λ was p. capture_cut limit was f p) g
 
 pub capture_gave_wrong : (limit : ℕ) (a b c text : List ℕ) (ended : Type 0) (f : FileFault)
     → GaveValue front_at a b text → GaveFault (records_at limit) b c ended f
     → GaveFault (capture_walk limit) a c ended f
 capture_gave_wrong limit a b c text ended f g h =
-    fault_two front_at (records_at limit) (capture_walk limit) text a b c ended f
+    fault_two file_fault_origin front_at (records_at limit) (capture_walk limit) text a b c ended f
     (λ was mid p q. capture_fails limit was mid text f p q) g h
 
 -- the memory failed behind its front
 pub capture_gave_memory : (limit : ℕ) (a b text : List ℕ) (ended : Type 0)
     → GaveValue front_at a b text → GaveFault (capture_walk limit) a b ended NoMemory
 capture_gave_memory limit a b text ended g =
-    fault_of front_at (capture_walk limit) text a b ended NoMemory
+    fault_of file_fault_origin front_at (capture_walk limit) text a b ended NoMemory
     (λ was left p. fails_memory (capture_walk limit) was) g
 
 -- ---- what was read

@@ -8,12 +8,14 @@ use Rattle.media_file.specs.declared.fault.FileFault.{FileFault}
 use Rattle.media_file.specs.declared.front.Version.{Version}
 use Rattle.media_file.specs.declared.front.Version.TheVariants.{One, Two}
 use Rattle.media_file.specs.Blocks.{block_at, block_of}
-use Rattle.media_file.specs.Fields.{GaveFault, GaveValue, field_at}
+use Rattle.media_file.specs.Fields.{GaveFault, field_at}
+use Rattle.st_format.specs.Given.{GaveValue}
 use Rattle.media_file.specs.Fronts.{capture_name, front_at, kind_at, kind_of, text_at}
 use Rattle.media_file.proofs.Blocked.{block_fails, block_gives}
 use Rattle.media_file.proofs.Fronted.{front_fails, front_gives, front_gives_one, kind_fails}
 use Rattle.media_file.proofs.Fronted.{kind_gives, text_fails, text_gives}
-use Rattle.media_file.proofs.Gave.{fault_of, fault_two, gave_one, gave_two}
+use Rattle.st_format.proofs.Gave.{fault_of, fault_two, gave_one, gave_two}
+use Rattle.media_file.specs.Faults.{file_fault_origin}
 
 -- a name and a version
 pub kind_gave : (name a b octets : List ℕ) (r : Result Version FileFault)
@@ -29,7 +31,7 @@ pub kind_gave_wrong : (name a b : List ℕ) (ended : Type 0) (octets : List ℕ)
     → r ≡ kind_of name octets → IfErr r (λ f. GaveFault (kind_at name) a b ended f)
 kind_gave_wrong name a b ended octets (Ok v) p e = tt
 kind_gave_wrong name a b ended octets (Err f) p e =
-    fault_of (field_at 8) (kind_at name) octets a b ended f
+    fault_of file_fault_origin (field_at 8) (kind_at name) octets a b ended f
     (λ was left q. kind_fails name was left octets (Err f) q e) p
 
 -- a text behind its length
@@ -44,7 +46,7 @@ pub text_gave_wrong : (a b c : List ℕ) (ended : Type 0) (octets : List ℕ) (n
     → n ≡ from_be_bytes w16 octets → GaveValue (field_at 2) a b octets
     → GaveFault (field_at n) b c ended f → GaveFault text_at a c ended f
 text_gave_wrong a b c ended octets n f is p q =
-    fault_two (field_at 2) (field_at n) text_at octets a b c ended f
+    fault_two file_fault_origin (field_at 2) (field_at n) text_at octets a b c ended f
     (λ was mid. text_fails was mid octets n f is) p q
 
 -- the front of a capture
@@ -69,7 +71,7 @@ pub front_gave_wrong : (a b c : List ℕ) (ended : Type 0) (v : Version) (r : Re
     → IfErr r (λ f. GaveFault text_at b c ended f) → IfErr r (λ f. GaveFault front_at a c ended f)
 front_gave_wrong a b c ended v (Ok n) e p q = tt
 front_gave_wrong a b c ended v (Err f) e p q =
-    fault_two (kind_at capture_name) text_at front_at Two a b c ended f
+    fault_two file_fault_origin (kind_at capture_name) text_at front_at Two a b c ended f
     (λ was mid. front_fails was mid Two f) (subst (GaveValue (kind_at capture_name) a b) e p) q
 
 -- a format block
@@ -86,5 +88,5 @@ pub block_gave_wrong : (a b : List ℕ) (ended : Type 0) (octets : List ℕ)
     → made_fields r ≡ block_of octets → IfErr r (λ f. GaveFault block_at a b ended f)
 block_gave_wrong a b ended octets (Ok f) p e = tt
 block_gave_wrong a b ended octets (Err f) p e =
-    fault_of (field_at 14) block_at octets a b ended f
+    fault_of file_fault_origin (field_at 14) block_at octets a b ended f
     (λ was left q. block_fails was left octets (Err f) q e) p

@@ -4,7 +4,8 @@ use Rattle.std.proofs.Common.{append-nil, refl, sym, ap, ◌∙◌}
 use Rattle.std.specs.Prelude.{IfErr}
 use Rattle.media_file.specs.declared.fault.FileFault.{FileFault}
 use Rattle.media_file.specs.declared.front.Version.{Version}
-use Rattle.media_file.specs.Fields.{GavePart, GaveValue, GivesPart, field_at}
+use Rattle.media_file.specs.Fields.{GivesPart, field_at}
+use Rattle.st_format.specs.Given.{GavePart, GaveValue}
 use Rattle.media_file.specs.Fronts.{kind_at, kind_of}
 use Rattle.media_file.proofs.Parsing.{part_field}
 use Rattle.media_file.proofs.Parts.{kind_part, kind_part_cut}

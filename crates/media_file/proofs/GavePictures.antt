@@ -14,24 +14,24 @@ use Rattle.st_format.specs.Samples.{Spells, values_in}
 use Rattle.st_format.specs.declared.format.Format.{Format}
 use Rattle.st_format.proofs.Histories.{grew_by, since_is}
 use Rattle.media_file.specs.declared.fault.FileFault.{FileFault}
-use Rattle.media_file.specs.declared.front.Version.{Version}
 use Rattle.media_file.specs.declared.front.Version.TheVariants.{One}
 use Rattle.media_file.specs.Blocks.{block_at}
 use Rattle.media_file.specs.Faults.{IfContent, IsMachine, IsOfField}
-use Rattle.media_file.specs.Fields.{Fails, GaveFault, GaveOctets, GaveValue, GaveWhole, Takes}
+use Rattle.media_file.specs.Fields.{Fails, GaveFault}
+use Rattle.st_format.specs.Given.{GaveOctets, GaveValue, GaveWhole, Takes}
 use Rattle.media_file.specs.Fields.{field_at, nothing_at}
 use Rattle.media_file.specs.Fronts.{picture_name}
 use Rattle.media_file.specs.PictureFaults.{IsPictureFault}
 use Rattle.media_file.specs.PictureFile.{GaveSpelled, GivesSpelled, IsPictureFile, one_at}
 use Rattle.media_file.specs.PictureFile.{picture_walk, raster_at, shown_by, shown_of}
-use Rattle.media_file.proofs.Gave.{fault_grew, fault_read, gave_one, octets_append, octets_read}
+use Rattle.media_file.proofs.Gave.{fault_grew, fault_read, octets_append, octets_read}
 use Rattle.media_file.proofs.Gave.{whole_grew, whole_read}
-use Rattle.media_file.proofs.Givings.{grew_twice}
 use Rattle.media_file.proofs.PackedRaster.{groups_give}
 use Rattle.media_file.proofs.PictureFaults.{picture_wrong}
 use Rattle.media_file.proofs.Raster.{body_fails, end_fails, picture_gives, raster_gives}
 use Rattle.media_file.proofs.Seen.{found_picture, only_picture}
 use Rattle.media_file.proofs.Spelt.{field_given, piece_fails}
+use Rattle.st_format.proofs.Gave.{gave_one, grew_twice}
 
 -- three texts, and what is behind them
 three : (x y z w : List ℕ) → (x ++ (y ++ z)) ++ w ≡ x ++ (y ++ (z ++ w))

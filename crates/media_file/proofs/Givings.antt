@@ -1,46 +1,36 @@
 -- What a source gave of a capture, piece by piece.
-use Rattle.std.proofs.Common.{◌≡◌, ℕ, ◌<◌, ◌≤◌, List, [], ◌∷◌, ◌++◌, length, map, take, Option}
-use Rattle.std.proofs.Common.{None, Some, Result, Ok, Err, append_assoc, append-nil, refl, sym, ap}
+use Rattle.std.proofs.Common.{◌≡◌, ℕ, ◌<◌, List, [], ◌∷◌, ◌++◌, length, map, Option}
+use Rattle.std.proofs.Common.{Some, Result, Ok, Err, append-nil, refl, sym, ap}
 use Rattle.std.proofs.Common.{◌∙◌, subst}
 use Rattle.std.specs.Io.KnownBytes.{Consumes, Keeps}
 use Rattle.std.proofs.KnownBytes.{Consumes-kept, Consumes-nil, Consumes-trans}
-use Rattle.std.proofs.lemmas.List.{take_all}
 use Rattle.st_format.specs.Device.{Told}
 use Rattle.st_format.specs.History.{since}
 use Rattle.st_format.specs.Turns.{came_of}
 use Rattle.st_format.specs.declared.path.Path.{Path}
 use Rattle.st_format.proofs.Histories.{since_is}
 use Rattle.media_file.specs.declared.fault.FileFault.{FileFault}
-use Rattle.media_file.specs.declared.fault.FileFault.TheVariants.{Device, Truncated}
+use Rattle.media_file.specs.declared.fault.FileFault.TheVariants.{Truncated}
 use Rattle.media_file.specs.declared.reader.Standing.{Standing}
 use Rattle.media_file.specs.declared.reader.Standing.TheVariants.{Reads, Ended, Failed}
 use Rattle.media_file.specs.declared.record.RecordHead.{RecordHead}
-use Rattle.media_file.specs.Faults.{IfContent, IsDevice}
-use Rattle.media_file.specs.Given.{GaveNone, GaveRecords, GivesNone, GivesWrong, HasGiven}
+use Rattle.media_file.specs.Faults.{IfContent, IsDevice, file_fault_origin}
+use Rattle.media_file.specs.Given.{GaveRecords, GivesNone, GivesWrong, HasGiven}
 use Rattle.media_file.specs.Reader.{due_of_entry, dues_in}
 use Rattle.media_file.specs.Reading.{entries_by, entries_in, entries_up_to, fault_at, fault_by}
 use Rattle.media_file.specs.Reading.{head_at, octets_at, rest_at}
 use Rattle.media_file.specs.Records.{AllFit, Entry, Fits, record_text, records_text}
 use Rattle.media_file.specs.Source.{ReadsEnd, ReadsRecord}
-use Rattle.media_file.proofs.Content.{if_content, if_content_weaker, of_device}
+use Rattle.media_file.proofs.Content.{of_device}
 use Rattle.media_file.proofs.Cuts.{entries_front}
 use Rattle.media_file.proofs.Dues.{entries_first, entries_none}
 use Rattle.media_file.proofs.Rests.{behind_head, short_head, short_octets}
 use Rattle.media_file.proofs.Standings.{both_fit}
 use Rattle.media_file.proofs.Written.{records_append}
+use Rattle.st_format.proofs.Gave.{grew_twice}
+use Rattle.st_format.proofs.Origins.{if_content, if_content_weaker}
 
 -- ---- the rest of a record that an octet begins
-
--- a source gave all of a list
-pub grew_all : (old new : List ℕ) (n : ℕ) (given : List ℕ) → new ≡ old ++ take n given
-    → length given ≤ n → new ≡ old ++ given
-grew_all old new n given is le = is ∙ ap (λ (l : List ℕ). old ++ l) (take_all n given le)
-
--- one list, and then another
-pub grew_twice : (old mid new xs ys : List ℕ) → mid ≡ old ++ xs → new ≡ mid ++ ys
-    → new ≡ old ++ (xs ++ ys)
-grew_twice old mid new xs ys first then =
-    then ∙ ap (λ (l : List ℕ). l ++ ys) first ∙ append_assoc old xs ys
 
 -- fewer than ten octets
 pub wrong_head : (f : FileFault) (first : ℕ) (was left : Option (List ℕ)) (old new given : List ℕ)
@@ -66,7 +56,7 @@ wrong_path f first was left old new head p grown ten bad = record {
   fault = f;
   none = ap (rest_at first) (sym (append-nil head)) ∙ behind_head first head [] ten
       ∙ ap (λ (r : Result RecordHead FileFault). octets_at r []) bad;
-  told = if_content f (f ≡ f) refl;
+  told = if_content file_fault_origin f (f ≡ f) refl;
 }
 
 -- a head, and fewer octets than it says
@@ -102,7 +92,8 @@ none_behind f first was mid left old between new p grown wrong = record {
   none = ap (λ (r : Result (Entry × List ℕ) FileFault). entries_by r
       (entries_up_to (length wrong.part))) wrong.none;
   told =
-      if_content_weaker f (wrong.fault ≡ f) (fault_at (first ∷ wrong.part) ≡ Some f)
+      if_content_weaker file_fault_origin f (wrong.fault ≡ f)
+      (fault_at (first ∷ wrong.part) ≡ Some f)
       (λ e. ap fault_by wrong.none ∙ ap some_fault e) wrong.told;
 }
 

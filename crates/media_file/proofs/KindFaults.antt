@@ -12,7 +12,8 @@ use Rattle.media_file.specs.declared.front.Version.{Version}
 use Rattle.media_file.specs.declared.front.Version.TheVariants.{One, Two}
 use Rattle.media_file.specs.Fields.{field_at}
 use Rattle.st_format.specs.Reading.{◌>>=◌}
-use Rattle.media_file.specs.Fronts.{kind_at, kind_of, version_of, version_text, with_rest}
+use Rattle.media_file.specs.Fronts.{kind_at, kind_of, version_of, version_text}
+use Rattle.st_format.specs.Given.{with_rest}
 use Rattle.media_file.specs.KindFaults.{HasKind, HasOtherName, HasOtherVersion, IsCutKind}
 use Rattle.media_file.proofs.Entries.{chosen}
 use Rattle.media_file.proofs.Failing.{answered, apart, differ, field_fails, field_short, itself}

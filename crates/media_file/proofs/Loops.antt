@@ -7,15 +7,17 @@ use Rattle.std.specs.Io.KnownBytes.{Consumes, IsAtEnd}
 use Rattle.media_file.specs.declared.fault.FileFault.{FileFault}
 use Rattle.media_file.specs.declared.fault.FileFault.TheVariants.{TooManyRecords}
 use Rattle.media_file.specs.Capture.{Content, capture_walk, records_at}
-use Rattle.media_file.specs.Fields.{Takes, Fails}
+use Rattle.media_file.specs.Fields.{Fails}
+use Rattle.st_format.specs.Given.{Takes}
 use Rattle.st_format.specs.Reading.{◌>>=◌}
 use Rattle.media_file.specs.Fronts.{front_at}
 use Rattle.media_file.specs.Reading.{rest_at}
 use Rattle.media_file.specs.Records.{Entry, Fits, path_octet, rest_text}
 use Rattle.media_file.specs.Source.{FailsRest, ReadsRest}
-use Rattle.media_file.proofs.Content.{if_content_weaker}
 use Rattle.media_file.proofs.Entries.{rest_again}
-use Rattle.media_file.proofs.Parsing.{gives_then, fails_first, fails_then}
+use Rattle.st_format.proofs.Origins.{if_content_weaker}
+use Rattle.st_format.proofs.Parsing.{gives_then, fails_first, fails_then}
+use Rattle.media_file.specs.Faults.{file_fault_origin}
 
 abbrev pub Many : Type 0
 Many = Result (List Entry × List ℕ) FileFault
@@ -101,7 +103,7 @@ goes_on_fault limit left None now mid so_far first f p q is = tt
 goes_on_fault limit left (Some o) None mid so_far first f p q is = absurd p
 goes_on_fault limit left (Some o) (Some n) None so_far first f p q is = absurd q
 goes_on_fault limit left (Some o) (Some n) (Some m) so_far first f p q is =
-    if_content_weaker f (rest_at first m ≡ Err f) (records_at limit o ≡ Err f)
+    if_content_weaker file_fault_origin f (rest_at first m ≡ Err f) (records_at limit o ≡ Err f)
     (λ e. p ∙ ap (λ (t : List ℕ). with_front so_far (records_at (suc left) t)) q
     ∙ one_fault left so_far first m f e) is.content
 
@@ -143,7 +145,8 @@ records_fails : (limit : ℕ) (text : List ℕ) (mid : Option (List ℕ)) (f : F
     → Fails (records_at limit) mid f → Fails (records_of limit text) mid f
 records_fails limit text None f p = tt
 records_fails limit text (Some m) f p =
-    if_content_weaker f (records_at limit m ≡ Err f) (records_of limit text m ≡ Err f)
+    if_content_weaker file_fault_origin f (records_at limit m ≡ Err f)
+    (records_of limit text m ≡ Err f)
     (λ e. ap
     (λ (r : Many). r >>= λ y. let q : Result (Content × List ℕ) FileFault =
     Ok (record { text = text; records = y.0 }, y.1) in q) e) p
@@ -162,9 +165,10 @@ pub capture_fails : (limit : ℕ) (old mid : Option (List ℕ)) (text : List ℕ
     → Fails (capture_walk limit) old f
 unfolding capture_walk
 capture_fails limit old mid text f p q =
-    fails_then front_at (records_of limit) old mid text f p (records_fails limit text mid f q)
+    fails_then file_fault_origin front_at (records_of limit) old mid text f p
+    (records_fails limit text mid f q)
 
 pub capture_cut : (limit : ℕ) (old : Option (List ℕ)) (f : FileFault) → Fails front_at old f
     → Fails (capture_walk limit) old f
 unfolding capture_walk
-capture_cut limit old f p = fails_first front_at (records_of limit) old f p
+capture_cut limit old f p = fails_first file_fault_origin front_at (records_of limit) old f p

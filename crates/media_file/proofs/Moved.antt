@@ -14,8 +14,9 @@ use Rattle.media_file.specs.declared.fault.FileFault.{FileFault}
 use Rattle.media_file.specs.declared.fault.FileFault.TheVariants.{Device, BadName}
 use Rattle.media_file.specs.declared.fault.FileFault.TheVariants.{BadVersion, Truncated, BadField}
 use Rattle.media_file.specs.declared.fault.FileFault.TheVariants.{TooManyRecords}
-use Rattle.media_file.specs.Faults.{CountsFault, IfContent, IsDevice, IsOfFront}
-use Rattle.media_file.specs.Fields.{Fails, GivesPart, Takes}
+use Rattle.media_file.specs.Faults.{CountsFault, IfContent, IsDevice, IsOfFront, file_fault_origin}
+use Rattle.media_file.specs.Fields.{Fails, GivesPart}
+use Rattle.st_format.specs.Given.{Takes}
 use Rattle.media_file.specs.Fronts.{capture_name, front_text, kind_at, kind_text}
 use Rattle.media_file.specs.Migrated.{IsOfCapture, Migrated, MovesAll, Stops}
 use Rattle.media_file.specs.Migrated.{StopsAtFault, StopsReading, StopsWriting, devices}
@@ -23,13 +24,13 @@ use Rattle.media_file.specs.Migrated.{new_behind, new_by, new_records, new_text,
 use Rattle.media_file.specs.Reading.{entries_by, entries_up_to, rest_at}
 use Rattle.media_file.specs.Records.{AllFit, Entry, Fits, record_text, records_text, rest_text}
 use Rattle.media_file.specs.Source.{FailsRest, IfTold, IsOfRecord, ReadsRest}
-use Rattle.media_file.proofs.Content.{if_content}
 use Rattle.media_file.proofs.Entries.{rest_again}
 use Rattle.media_file.proofs.Found.{kind_takes}
 use Rattle.media_file.proofs.Loops.{GoesOn, goes_on_end, goes_on_more, one_less}
-use Rattle.media_file.proofs.Parsing.{fails_first, fails_then, gives_then}
 use Rattle.media_file.proofs.Splits.{kind_again}
 use Rattle.media_file.proofs.Written.{prefix_first, prefix_then, records_append}
+use Rattle.st_format.proofs.Origins.{if_content}
+use Rattle.st_format.proofs.Parsing.{fails_first, fails_then, gives_then}
 
 pub record MovesSoFar (limit left : ℕ)
     (source_old source_now held_old held_now : Option (List ℕ)) : Type 0 where
@@ -303,7 +304,7 @@ pub old_fails : (limit : ℕ) (old mid : Option (List ℕ)) (f : FileFault)
     → Fails (old_at limit) old f
 unfolding old_at
 old_fails limit old mid f p q =
-    fails_then (kind_at capture_name) (λ v. old_by v limit) old mid One f p q
+    fails_then file_fault_origin (kind_at capture_name) (λ v. old_by v limit) old mid One f p q
 
 pub old_fails_all : (limit : ℕ) (old mid : Option (List ℕ)) (r : Result ℕ FileFault)
     → Takes (kind_at capture_name) old mid One → IfErr r (λ f. Fails (records_at limit) mid f)
@@ -321,7 +322,8 @@ old_gives limit old mid new es p q =
 pub old_cut : (limit : ℕ) (old : Option (List ℕ)) (f : FileFault)
     → Fails (kind_at capture_name) old f → Fails (old_at limit) old f
 unfolding old_at
-old_cut limit old f p = fails_first (kind_at capture_name) (λ v. old_by v limit) old f p
+old_cut limit old f p =
+    fails_first file_fault_origin (kind_at capture_name) (λ v. old_by v limit) old f p
 
 newer : (limit : ℕ) (mid : Option (List ℕ)) → Fails (old_by Two limit) mid BadVersion
 newer limit None = tt
@@ -331,7 +333,8 @@ pub old_newer : (limit : ℕ) (old mid : Option (List ℕ)) → Takes (kind_at c
     → Fails (old_at limit) old BadVersion
 unfolding old_at
 old_newer limit old mid p =
-    fails_then (kind_at capture_name) (λ v. old_by v limit) old mid Two BadVersion p
+    fails_then file_fault_origin (kind_at capture_name) (λ v. old_by v limit) old mid Two BadVersion
+    p
     (newer limit mid)
 
 -- ---- what is written, with the front
@@ -388,7 +391,7 @@ stops_kind limit text old new held s t h f front fails part counts = by f front 
 
     content : (old : Option (List ℕ)) (f : FileFault) → Fails (kind_at capture_name) old f
         → IfContent f (IfTold old (λ octets. kind_at capture_name octets ≡ Err f))
-    content None f p = if_content f ⊤ tt
+    content None f p = if_content file_fault_origin f ⊤ tt
     content (Some o) f p = p
 
     by : (f : FileFault) → IsOfFront f → Fails (kind_at capture_name) old f → CountsFault f s t

@@ -11,9 +11,9 @@ use Rattle.media_file.specs.declared.fault.FileFault.{FileFault}
 use Rattle.media_file.specs.declared.fault.FileFault.TheVariants.{Device, BadVersion, Truncated}
 use Rattle.media_file.specs.declared.fault.FileFault.TheVariants.{TooManyRecords}
 use Rattle.media_file.specs.Capture.{records_at}
-use Rattle.media_file.specs.Faults.{CountsFault, IsDevice, IsOfFront}
-use Rattle.media_file.specs.Fields.{Fails, GaveFault, GavePart, GaveValue, GaveWhole}
-use Rattle.media_file.specs.Fields.{Takes}
+use Rattle.media_file.specs.Faults.{CountsFault, IsDevice, IsOfFront, file_fault_origin}
+use Rattle.media_file.specs.Fields.{Fails, GaveFault}
+use Rattle.st_format.specs.Given.{GavePart, GaveValue}
 use Rattle.media_file.specs.Fronts.{capture_name, front_text, kind_at}
 use Rattle.media_file.specs.Given.{GivesWrong}
 use Rattle.media_file.specs.Migrated.{MigratedRead, MovesRead, Stops, StopsRead, devices}
@@ -21,17 +21,17 @@ use Rattle.media_file.specs.Migrated.{new_records, new_text, old_at}
 use Rattle.media_file.specs.Reading.{rest_at}
 use Rattle.media_file.specs.Records.{AllFit, Entry, Fits, path_octet, record_text, records_text}
 use Rattle.media_file.specs.Records.{rest_text}
-use Rattle.media_file.specs.Source.{IsOfRecord, ReadsRest}
+use Rattle.media_file.specs.Source.{IsOfRecord}
 use Rattle.media_file.proofs.GaveLoops.{GoesGave, gave_end, gave_many, gave_record}
 use Rattle.media_file.proofs.GaveLoops.{gave_wrong, goes_first, rest_fails}
-use Rattle.media_file.proofs.Gave.{fault_device, fault_of, fault_one, fault_two}
+use Rattle.media_file.proofs.Gave.{fault_device}
 use Rattle.media_file.proofs.GaveParts.{behind_part}
-use Rattle.media_file.proofs.Givings.{grew_twice}
 use Rattle.media_file.proofs.Loops.{GoesOn}
-use Rattle.media_file.proofs.Moved.{MovesSoFar, fit_more, migrates, old_cut, old_fails, old_gives}
+use Rattle.media_file.proofs.Moved.{MovesSoFar, fit_more, old_cut, old_fails, old_gives}
 use Rattle.media_file.proofs.Moved.{old_newer, one_text, stops_behind_front, stops_device}
 use Rattle.media_file.proofs.Moved.{stops_front, stops_full, stops_kind, stops_newer, stops_record}
 use Rattle.media_file.proofs.Moved.{stops_write}
+use Rattle.st_format.proofs.Gave.{fault_of, fault_one, fault_two, grew_twice}
 
 -- two parts of what was given are one
 one_part : (a b x y : List ℕ) → b ≡ a ++ x → b ≡ a ++ y → x ≡ y
@@ -327,14 +327,14 @@ pub kind_wrong : (limit : ℕ) (before now : List ℕ) (ended : Type 0) (f : Fil
     → GaveFault (kind_at capture_name) before now ended f
     → GaveFault (old_at limit) before now ended f
 kind_wrong limit before now ended f g =
-    fault_one (kind_at capture_name) (old_at limit) before now ended f
+    fault_one file_fault_origin (kind_at capture_name) (old_at limit) before now ended f
     (λ was p. old_cut limit was f p) g
 
 pub newer_wrong : (limit : ℕ) (before now : List ℕ) (ended : Type 0)
     → GaveValue (kind_at capture_name) before now Two
     → GaveFault (old_at limit) before now ended BadVersion
 newer_wrong limit before now ended g =
-    fault_of (kind_at capture_name) (old_at limit) Two before now ended BadVersion
+    fault_of file_fault_origin (kind_at capture_name) (old_at limit) Two before now ended BadVersion
     (λ was left p. old_newer limit was left p) g
 
 pub records_wrong : (limit : ℕ) (before mid now : List ℕ) (ended : Type 0) (r : Result ℕ FileFault)
@@ -343,7 +343,8 @@ pub records_wrong : (limit : ℕ) (before mid now : List ℕ) (ended : Type 0) (
     → IfErr r (λ f. GaveFault (old_at limit) before now ended f)
 records_wrong limit before mid now ended (Ok n) g is = tt
 records_wrong limit before mid now ended (Err f) g is =
-    fault_two (kind_at capture_name) (records_at limit) (old_at limit) One before mid now ended f
+    fault_two file_fault_origin (kind_at capture_name) (records_at limit) (old_at limit) One before
+    mid now ended f
     (λ was left p q. old_fails limit was left f p q) g is
 
 pub migrates_all : (limit : ℕ) (text before mid now took took' took'' : List ℕ) (ended : Type 0)

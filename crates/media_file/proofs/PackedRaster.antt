@@ -8,11 +8,12 @@ use Rattle.st_format.specs.Position.{sample_count}
 use Rattle.st_format.specs.Samples.{values_in}
 use Rattle.pgroup_pack.specs.Packing.{Agree}
 use Rattle.media_file.specs.declared.fault.FileFault.{FileFault}
-use Rattle.media_file.specs.Fields.{Fails, Takes, field_at}
-use Rattle.media_file.specs.Fronts.{with_rest}
+use Rattle.media_file.specs.Fields.{Fails, field_at}
+use Rattle.st_format.specs.Given.{Takes, with_rest}
 use Rattle.media_file.specs.PictureFile.{raster_at, raster_octets}
-use Rattle.media_file.proofs.Parsing.{fails_first, gives_pure, gives_then}
 use Rattle.media_file.proofs.Raster.{raster_bits}
+use Rattle.st_format.proofs.Parsing.{fails_first, gives_pure, gives_then}
+use Rattle.media_file.specs.Faults.{file_fault_origin}
 
 abbrev values : ℕ → List ℕ → Result (List ℕ) FileFault
 values n octets = Ok (values_in n octets)
@@ -45,7 +46,7 @@ unfolding raster_at
 groups_fail f old n e agree p =
     let b : ℕ = bits_of f.depth in
     let k : ℕ = raster_octets (fields_of f) in
-    fails_first (field_at k) (λ x rest. with_rest (values b x) rest) old e
+    fails_first file_fault_origin (field_at k) (λ x rest. with_rest (values b x) rest) old e
     (subst (λ (m : ℕ). Fails (field_at m) old e) (size_is f n agree) p)
 
 eighths : (a b k : ℕ) → a ≡ b → b ≡ 8 * k → 8 * (a / 8) ≡ b

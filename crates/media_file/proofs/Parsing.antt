@@ -1,92 +1,25 @@
--- One reading after another.
-use Rattle.std.proofs.Common.{◌≡◌, ℕ, ◌<◌, Bool, false, cond, ltb, List, ◌++◌, length, take, drop}
-use Rattle.std.proofs.Common.{Option, None, Some, Result, Ok, Err, append-nil, sym, ap, ◌∙◌, subst}
-use Rattle.std.proofs.Common.{arith}
-use Rattle.std.specs.Io.KnownBytes.{Consumes, IsAtEnd}
-use Rattle.std.proofs.lemmas.Bool.{lt-ltb, le-ltb}
-use Rattle.std.proofs.lemmas.List.{length-append, take_at, drop_at}
+-- What was given of a reading that made no value.
+use Rattle.std.proofs.Common.{ℕ, ◌<◌, Bool, cond, List, length, take, drop}
+use Rattle.std.proofs.Common.{Option, Result, Ok, Err, ap}
+use Rattle.std.specs.Io.KnownBytes.{Consumes}
+use Rattle.std.proofs.lemmas.Bool.{lt-ltb}
 use Rattle.media_file.specs.declared.fault.FileFault.{FileFault}
 use Rattle.media_file.specs.declared.fault.FileFault.TheVariants.{Truncated}
-use Rattle.media_file.specs.Fields.{field_at, Leaves, GivesPart, Takes, Fails}
+use Rattle.media_file.specs.Fields.{field_at, GivesPart}
+use Rattle.st_format.specs.Given.{field_by}
 use Rattle.st_format.specs.Reading.{◌>>=◌}
-use Rattle.media_file.specs.Fronts.{with_rest}
-use Rattle.media_file.proofs.Content.{if_content, if_content_weaker}
+use Rattle.st_format.proofs.Parsing.{then_reads}
 
 abbrev Reading : Type 0 → Type 0
 Reading X = List ℕ → Result (X × List ℕ) FileFault
 
-abbrev pub then_reads : {A B : Type 0} → Reading A → (A → Reading B) → Reading B
-then_reads first next octets = first octets >>= λ x. next x.0 x.1
-
-pub gives_then : {A B : Type 0} (first : Reading A) (next : A → Reading B)
-    (old mid new : Option (List ℕ)) (x : A) (y : B) → Takes first old mid x
-    → Takes (next x) mid new y → Takes (then_reads first next) old new y
-gives_then first next None mid new x y p q = tt
-gives_then first next (Some o) None new x y p q = absurd p
-gives_then {A} {B} first next (Some o) (Some m) new x y p q =
-    subst (λ (r : Result (A × List ℕ) FileFault). Leaves (r >>= λ z. next z.0 z.1) y new) (sym p) q
-
-pub fails_first : {A B : Type 0} (first : Reading A) (next : A → Reading B) (old : Option (List ℕ))
-    (f : FileFault) → Fails first old f → Fails (then_reads first next) old f
-fails_first first next None f p = tt
-fails_first {A} {B} first next (Some o) f p =
-    if_content_weaker f (first o ≡ Err f) (then_reads first next o ≡ Err f)
-    (λ e. ap (λ (r : Result (A × List ℕ) FileFault). r >>= λ z. next z.0 z.1) e) p
-
-pub fails_then : {A B : Type 0} (first : Reading A) (next : A → Reading B)
-    (old mid : Option (List ℕ)) (x : A) (f : FileFault) → Takes first old mid x
-    → Fails (next x) mid f → Fails (then_reads first next) old f
-fails_then first next None mid x f p q = tt
-fails_then first next (Some o) None x f p q = absurd p
-fails_then {A} {B} first next (Some o) (Some m) x f p q =
-    if_content_weaker f (next x m ≡ Err f) (then_reads first next o ≡ Err f)
-    (λ e. ap (λ (r : Result (A × List ℕ) FileFault). r >>= λ z. next z.0 z.1) p ∙ e) q
-
--- what is made of values that were read takes no octet
-pub gives_pure : {A : Type 0} (r : Result A FileFault) (known : Option (List ℕ)) (x : A) → r ≡ Ok x
-    → Takes (with_rest r) known known x
-gives_pure r None x e = tt
-gives_pure {A} r (Some o) x e = ap (λ (q : Result A FileFault). with_rest q o) e
-
-pub fails_pure : {A : Type 0} (r : Result A FileFault) (known : Option (List ℕ)) (f : FileFault)
-    → r ≡ Err f → Fails (with_rest r) known f
-fails_pure r None f e = tt
-fails_pure {A} r (Some o) f e =
-    if_content f (with_rest r o ≡ Err f) (ap (λ (q : Result A FileFault). with_rest q o) e)
-
 abbrev cut : Result (List ℕ × List ℕ) FileFault
 cut = Err Truncated
-
--- a field that a source gave whole
-pub gives_field : (n : ℕ) (old new : Option (List ℕ)) (given : List ℕ) → length given ≡ n
-    → Consumes old new given → Takes (field_at n) old new given
-unfolding field_at
-gives_field n None new given len p = tt
-gives_field n (Some o) None given len p = absurd p
-gives_field n (Some o) (Some rest) given len p =
-    let long : ltb (length o) n ≡ false =
-    le-ltb (length o) n (omega (arith, ap length p, length-append given rest)) in
-    ap (λ (b : Bool). cond b cut (Ok (take n o, drop n o))) long
-    ∙ ap (λ (xs : List ℕ). let r : Result (List ℕ × List ℕ) FileFault = Ok (xs, drop n o) in r)
-    (ap (take n) p ∙ take_at given rest n len)
-    ∙ ap (λ (xs : List ℕ). let r : Result (List ℕ × List ℕ) FileFault = Ok (given, xs) in r)
-    (ap (drop n) p ∙ drop_at given rest n len)
-
--- one that isn't whole
-pub fails_field : (n : ℕ) (old new : Option (List ℕ)) (given : List ℕ) → length given < n
-    → Consumes old new given → IsAtEnd new → Fails (field_at n) old Truncated
-unfolding field_at
-fails_field n None new given short p e = tt
-fails_field n (Some o) None given short p e = absurd p
-fails_field n (Some o) (Some rest) given short p e =
-    let all : o ≡ given = p ∙ ap (λ (xs : List ℕ). given ++ xs) e ∙ append-nil given in
-    ap (λ (b : Bool). cond b cut (Ok (take n o, drop n o)))
-    (lt-ltb (length o) n (omega (arith, ap length all)))
 
 -- what was given of one that isn't whole
 pub part_field : (n : ℕ) (old new : Option (List ℕ)) (given : List ℕ) → length given < n
     → Consumes old new given → GivesPart (field_at n) old new
-unfolding field_at
+unfolding field_by
 part_field n old new given short p = record {
   part = given;
   given = p;

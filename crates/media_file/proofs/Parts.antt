@@ -5,9 +5,10 @@ use Rattle.std.specs.Prelude.{IfErr}
 use Rattle.std.specs.Io.KnownBytes.{Consumes}
 use Rattle.media_file.specs.declared.fault.FileFault.{FileFault}
 use Rattle.media_file.specs.declared.front.Version.{Version}
-use Rattle.media_file.specs.Fields.{GivesPart, Takes, field_at}
+use Rattle.media_file.specs.Fields.{GivesPart, field_at}
+use Rattle.st_format.specs.Given.{Takes, with_rest}
 use Rattle.st_format.specs.Reading.{◌>>=◌}
-use Rattle.media_file.specs.Fronts.{kind_at, kind_of, with_rest}
+use Rattle.media_file.specs.Fronts.{kind_at, kind_of}
 use Rattle.media_file.proofs.Found.{field_takes}
 use Rattle.media_file.proofs.Parsing.{part_first}
 use Rattle.media_file.proofs.Splits.{field_again}

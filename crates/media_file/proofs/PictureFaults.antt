@@ -18,10 +18,11 @@ use Rattle.media_file.specs.declared.fault.FileFault.TheVariants.{TooManyRecords
 use Rattle.media_file.specs.declared.front.Version.{Version}
 use Rattle.media_file.specs.declared.front.Version.TheVariants.{One, Two}
 use Rattle.media_file.specs.Blocks.{block_at, block_of}
-use Rattle.media_file.specs.Faults.{IfContent}
+use Rattle.media_file.specs.Faults.{IfContent, file_fault_origin}
 use Rattle.media_file.specs.Fields.{Fails, field_at, nothing_at}
 use Rattle.st_format.specs.Reading.{◌>>=◌}
-use Rattle.media_file.specs.Fronts.{kind_at, kind_text, picture_name, version_text, with_rest}
+use Rattle.media_file.specs.Fronts.{kind_at, kind_text, picture_name, version_text}
+use Rattle.st_format.specs.Given.{with_rest}
 use Rattle.media_file.specs.PictureFaults.{HasCutGroups, HasPictureHead, HasNoFormat}
 use Rattle.media_file.specs.PictureFaults.{HasOtherThanOne}
 use Rattle.media_file.specs.PictureFaults.{HasTrailing, IsCutPicture, IsFormat, IsPictureFault}
@@ -31,7 +32,6 @@ use Rattle.media_file.specs.PictureFile.{raster_at}
 use Rattle.media_file.specs.PictureFile.{raster_octets, shown_by}
 use Rattle.media_file.specs.StateFile.{format_text}
 use Rattle.media_file.proofs.BlockFaults.{block_again, block_fails, block_read}
-use Rattle.media_file.proofs.Content.{if_content_weaker}
 use Rattle.media_file.proofs.Failing.{differ, field_fails, field_short, field_whole, not_both}
 use Rattle.media_file.proofs.Failing.{same_fault, split_fails}
 use Rattle.media_file.proofs.Found.{failed, field_takes, given, kind_takes, split_then}
@@ -40,6 +40,7 @@ use Rattle.media_file.proofs.KindFaults.{version_tells}
 use Rattle.media_file.proofs.KindFaults.KindFails.{Cut, Name, Digits}
 use Rattle.media_file.proofs.Splits.{AreOctets-back, field_again}
 use Rattle.st_format.proofs.Octets.{AreOctets-take}
+use Rattle.st_format.proofs.Origins.{if_content_weaker}
 
 abbrev Part : Type 0
 Part = List ℕ × List ℕ
@@ -457,6 +458,7 @@ pub picture_wrong : {X : Type 0} (told : Option (List ℕ)) (r : Result X FileFa
     → IfContent f (IsPictureFault f octets))
 picture_wrong told (Ok x) fails = tt
 picture_wrong told (Err f) fails =
-    λ octets is bytes. if_content_weaker f (picture_walk octets ≡ Err f) (IsPictureFault f octets)
+    λ octets is bytes. if_content_weaker file_fault_origin f (picture_walk octets ≡ Err f)
+    (IsPictureFault f octets)
     (picture_fails f octets bytes)
     (subst (λ (o : Option (List ℕ)). Fails picture_walk o f) is fails)

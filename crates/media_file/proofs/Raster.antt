@@ -20,19 +20,21 @@ use Rattle.st_format.specs.Samples.{octets_in, values_in}
 use Rattle.st_format.proofs.Spelled.{values_in-spelled}
 use Rattle.pgroup_pack.proofs.Values.{bits_of_pos}
 use Rattle.media_file.specs.declared.fault.FileFault.{FileFault}
-use Rattle.media_file.specs.declared.fault.FileFault.TheVariants.{TrailingBytes}
+use Rattle.media_file.specs.declared.fault.FileFault.TheVariants.{TrailingBytes, Truncated}
 use Rattle.media_file.specs.declared.front.Version.{Version}
 use Rattle.media_file.specs.declared.front.Version.TheVariants.{One}
 use Rattle.media_file.specs.Blocks.{block_at}
-use Rattle.media_file.specs.Fields.{Fails, Takes, field_at, nothing_at}
-use Rattle.media_file.specs.Fronts.{picture_name, with_rest}
+use Rattle.media_file.specs.Fields.{Fails, field_at, nothing_at}
+use Rattle.st_format.specs.Given.{Takes, with_rest}
+use Rattle.media_file.specs.Fronts.{picture_name}
 use Rattle.media_file.specs.PictureFile.{GivesSpelled, Shown, picture_head, one_at}
 use Rattle.media_file.specs.PictureFile.{picture_walk, picture_text, raster_at, raster_octets}
 use Rattle.media_file.specs.PictureFile.{shown_by}
-use Rattle.media_file.proofs.Parsing.{fails_first, fails_then, gives_field, gives_pure}
-use Rattle.media_file.proofs.Parsing.{gives_then, then_reads}
 use Rattle.media_file.proofs.Spelt.{spelled_size}
 use Rattle.media_file.proofs.Written.{prefix_first, prefix_then}
+use Rattle.st_format.proofs.Parsing.{fails_first, fails_then, gives_field, gives_pure, gives_then}
+use Rattle.st_format.proofs.Parsing.{then_reads}
+use Rattle.media_file.specs.Faults.{file_fault_origin}
 
 -- a row's samples have as many bits as its octets
 row_bits : (s : Sampling) (b : Depth) (w : ℕ) → IsWidth s b w
@@ -140,7 +142,7 @@ raster_gives f old new vs size p =
     let is : values_in b p.octets ≡ vs =
     values_in-spelled b p.octets vs (bits_of_pos f.depth) p.spelled in
     gives_then (field_at n) (λ x rest. with_rest (read_values b x) rest) old new new p.octets vs
-    (gives_field n old new p.octets len p.given)
+    (gives_field Truncated n old new p.octets len p.given)
     (gives_pure (read_values b p.octets) new vs
     (ap (λ (xs : List ℕ). let r : Result (List ℕ) FileFault = Ok xs in r) is))
 
@@ -152,7 +154,7 @@ raster_fails f old n e size p =
     let b : ℕ = bits_of f.depth in
     let k : ℕ = raster_octets (fields_of f) in
     let is : b * n / 8 ≡ k = eighth (b * n) k (ap (λ (m : ℕ). b * m) size ∙ raster_bits f) in
-    fails_first (field_at k) (λ x rest. with_rest (read_values b x) rest) old e
+    fails_first file_fault_origin (field_at k) (λ x rest. with_rest (read_values b x) rest) old e
     (subst (λ (m : ℕ). Fails (field_at m) old e) is p)
 
 -- an octet behind the last
@@ -187,32 +189,33 @@ behind_version v = then_reads block_at behind_block
 pub version_fails : (old : Option (List ℕ)) (e : FileFault) → Fails (one_at picture_name) old e
     → Fails picture_walk old e
 unfolding picture_walk
-version_fails old e p = fails_first (one_at picture_name) behind_version old e p
+version_fails old e p = fails_first file_fault_origin (one_at picture_name) behind_version old e p
 
 pub block_fails : (old a : Option (List ℕ)) (e : FileFault) → Takes (one_at picture_name) old a One
     → Fails block_at a e → Fails picture_walk old e
 unfolding picture_walk
 block_fails old a e p q =
-    fails_then (one_at picture_name) behind_version old a One e p
-    (fails_first block_at behind_block a e q)
+    fails_then file_fault_origin (one_at picture_name) behind_version old a One e p
+    (fails_first file_fault_origin block_at behind_block a e q)
 
 pub body_fails : (old a b : Option (List ℕ)) (f : Fields) (e : FileFault)
     → Takes (one_at picture_name) old a One → Takes block_at a b f → Fails (raster_at f) b e
     → Fails picture_walk old e
 unfolding picture_walk
 body_fails old a b f e p q r =
-    fails_then (one_at picture_name) behind_version old a One e p
-    (fails_then block_at behind_block a b f e q (fails_first (raster_at f) (behind_raster f) b e r))
+    fails_then file_fault_origin (one_at picture_name) behind_version old a One e p
+    (fails_then file_fault_origin block_at behind_block a b f e q
+    (fails_first file_fault_origin (raster_at f) (behind_raster f) b e r))
 
 pub end_fails : (old a b c : Option (List ℕ)) (f : Fields) (vs : List ℕ) (e : FileFault)
     → Takes (one_at picture_name) old a One → Takes block_at a b f → Takes (raster_at f) b c vs
     → Fails nothing_at c e → Fails picture_walk old e
 unfolding picture_walk
 end_fails old a b c f vs e p q r s =
-    fails_then (one_at picture_name) behind_version old a One e p
-    (fails_then block_at behind_block a b f e q
-    (fails_then (raster_at f) (behind_raster f) b c vs e r
-    (fails_first nothing_at (λ _ rest. with_rest (shown f vs) rest) c e s)))
+    fails_then file_fault_origin (one_at picture_name) behind_version old a One e p
+    (fails_then file_fault_origin block_at behind_block a b f e q
+    (fails_then file_fault_origin (raster_at f) (behind_raster f) b c vs e r
+    (fails_first file_fault_origin nothing_at (λ _ rest. with_rest (shown f vs) rest) c e s)))
 
 pub picture_gives : (old a b c new : Option (List ℕ)) (f : Fields) (vs : List ℕ)
     → Takes (one_at picture_name) old a One → Takes block_at a b f → Takes (raster_at f) b c vs

@@ -1,21 +1,21 @@
 -- The rest of a record, read from a source.
-use Rattle.std.proofs.Common.{◌≡◌, ℕ, ◌<◌, ◌≤◌, Bool, false, cond, ltb, List, [], ◌∷◌, ◌++◌}
+use Rattle.std.proofs.Common.{◌≡◌, ℕ, ◌<◌, Bool, false, cond, ltb, List, [], ◌∷◌, ◌++◌}
 use Rattle.std.proofs.Common.{length, take, drop, Option, None, Some, Result, Ok, Err, append-nil}
 use Rattle.std.proofs.Common.{sym, ap, ◌∙◌, subst, arith}
 use Rattle.std.specs.Prelude.{⊤}
 use Rattle.std.specs.Io.KnownBytes.{Consumes, IsAtEnd}
 use Rattle.std.proofs.KnownBytes.{Consumes-trans}
 use Rattle.std.proofs.lemmas.Bool.{lt-ltb, le-ltb}
-use Rattle.std.proofs.lemmas.List.{length-append, take_all, take_at, drop_at}
+use Rattle.std.proofs.lemmas.List.{length-append, take_at, drop_at}
 use Rattle.media_file.specs.declared.fault.FileFault.{FileFault}
 use Rattle.media_file.specs.declared.fault.FileFault.TheVariants.{Truncated, BadField}
 use Rattle.media_file.specs.declared.record.RecordHead.{RecordHead}
 use Rattle.media_file.specs.Fields.{GivesPart}
 use Rattle.media_file.specs.Reading.{fault_at, fault_by, head_at, octets_at, rest_at}
 use Rattle.media_file.specs.Records.{Entry, entry_of}
-use Rattle.media_file.specs.Faults.{IfContent}
-use Rattle.media_file.proofs.Content.{if_content, if_content_weaker}
+use Rattle.media_file.specs.Faults.{IfContent, file_fault_origin}
 use Rattle.media_file.specs.Source.{FailsRecord, FailsRest, IsOfRecord}
+use Rattle.st_format.proofs.Origins.{if_content, if_content_weaker}
 
 abbrev truncated : Result (Entry × List ℕ) FileFault
 truncated = Err Truncated
@@ -46,11 +46,6 @@ cut_head first (Some o) (Some rest) given p e lt =
       named = tt;
       content = ap (rest_at first) (all_given o rest given p e) ∙ short_head first given lt;
     }
-
--- a source gave all of a list
-pub gave_all : (old new : Option (List ℕ)) (n : ℕ) (given : List ℕ)
-    → Consumes old new (take n given) → length given ≤ n → Consumes old new given
-gave_all old new n given p le = subst (Consumes old new) (take_all n given le) p
 
 -- ten octets are a head, and what follows them has its octets
 pub behind_head : (first : ℕ) (head rest : List ℕ) → length head ≡ 10
@@ -83,7 +78,7 @@ bad_head f first (Some o) (Some rest) head p ten bad is =
     record {
       named = subst IsOfRecord (sym is) tt;
       content =
-          if_content f (rest_at first o ≡ Err f) at;
+          if_content file_fault_origin f (rest_at first o ≡ Err f) at;
     }
 
 pub part_bad : (f : FileFault) (first : ℕ) (old new : Option (List ℕ)) (head : List ℕ)
@@ -136,11 +131,12 @@ cut_octets first (Some o) (Some m) (Some rest) head given h p ten is q e lt =
 pub fails_from : (f : FileFault) (first : ℕ) (old mid : Option (List ℕ))
     → Consumes old mid (first ∷ []) → FailsRest f first mid → FailsRecord f old
 unfolding fault_at
-fails_from f first None mid p is = record { named = is.named; content = if_content f ⊤ tt }
+fails_from f first None mid p is =
+    record { named = is.named; content = if_content file_fault_origin f ⊤ tt }
 fails_from f first (Some o) None p is = absurd p
 fails_from f first (Some o) (Some m) p is = record {
   named = is.named;
   content =
-      if_content_weaker f (rest_at first m ≡ Err f) (fault_at o ≡ Some f)
+      if_content_weaker file_fault_origin f (rest_at first m ≡ Err f) (fault_at o ≡ Some f)
       (λ e. ap fault_at p ∙ ap fault_by e) is.content;
 }

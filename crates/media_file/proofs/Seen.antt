@@ -38,9 +38,10 @@ use Rattle.media_file.specs.declared.front.Version.{Version}
 use Rattle.media_file.specs.declared.front.Version.TheVariants.{One, Two}
 use Rattle.media_file.specs.Blocks.{block_at, block_of, depth_of, lowest, sampling_of}
 use Rattle.media_file.specs.Faults.{IfContent, IsMachine}
-use Rattle.media_file.specs.Fields.{Fails, Takes, Leaves, field_at, nothing_at}
+use Rattle.media_file.specs.Fields.{Fails, field_at, nothing_at}
+use Rattle.st_format.specs.Given.{Leaves, Takes, with_rest}
 use Rattle.st_format.specs.Reading.{◌>>=◌}
-use Rattle.media_file.specs.Fronts.{kind_at, kind_of, kind_text, picture_name, with_rest}
+use Rattle.media_file.specs.Fronts.{kind_at, kind_of, kind_text, picture_name}
 use Rattle.media_file.specs.PictureFile.{IsPictureFile, Shown, one_at, one_by, picture_walk}
 use Rattle.media_file.specs.PictureFile.{picture_text, raster_at, raster_octets, shown_of}
 use Rattle.media_file.specs.PictureFile.{shown_by}

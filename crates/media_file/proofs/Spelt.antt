@@ -21,7 +21,8 @@ use Rattle.media_file.specs.declared.fault.FileFault.TheVariants.{BadVersion, Tr
 use Rattle.media_file.specs.declared.fault.FileFault.TheVariants.{TrailingBytes, MixedGroup}
 use Rattle.media_file.specs.declared.fault.FileFault.TheVariants.{TooManyRecords}
 use Rattle.media_file.specs.Faults.{IsOfField}
-use Rattle.media_file.specs.Fields.{Fails, Takes, field_at}
+use Rattle.media_file.specs.Fields.{Fails, field_at}
+use Rattle.st_format.specs.Given.{Takes, field_by}
 use Rattle.media_file.specs.PictureFile.{GivesSpelled}
 use Rattle.media_file.proofs.Entries.{chosen}
 use Rattle.media_file.proofs.Written.{prefix_first, prefix_then}
@@ -46,7 +47,7 @@ rest_in (Err f) = []
 -- a source that gave a field gave its octets
 pub field_given : (n : ℕ) (old new : Option (List ℕ)) (buf : List ℕ)
     → Takes (field_at n) old new buf → Consumes old new buf
-unfolding field_at
+unfolding field_by
 field_given n None new buf p = tt
 field_given n (Some o) None buf p = absurd p
 field_given n (Some o) (Some rest) buf p =
@@ -60,7 +61,7 @@ field_given n (Some o) (Some rest) buf p =
 
 -- octets that are no field are too few
 short_of : (n : ℕ) (o : List ℕ) → field_at n o ≡ Err Truncated → length o < n
-unfolding field_at
+unfolding field_by
 short_of n o e =
     elim (chosen (ltb (length o) n) cut (part (take n o) (drop n o)) cut e) [
       | inl w ↦ ltb-true (length o) n w.0
@@ -68,7 +69,7 @@ short_of n o e =
     ]
 
 field_short : (n : ℕ) (o : List ℕ) → length o < n → field_at n o ≡ Err Truncated
-unfolding field_at
+unfolding field_by
 field_short n o lt =
     ap (λ (b : Bool). cond b cut (part (take n o) (drop n o))) (lt-ltb (length o) n lt)
 

@@ -20,13 +20,14 @@ use Rattle.media_file.specs.declared.front.Version.{Version}
 use Rattle.media_file.specs.declared.front.Version.TheVariants.{One, Two}
 use Rattle.media_file.specs.declared.record.RecordHead.{RecordHead}
 use Rattle.media_file.specs.Capture.{Content, IsCapture, capture_walk, capture_seen, records_at}
-use Rattle.media_file.specs.Fields.{Fails, Takes, Leaves, field_at}
+use Rattle.media_file.specs.Fields.{Fails, field_at}
+use Rattle.st_format.specs.Given.{Leaves, Takes, field_by, with_rest}
 use Rattle.st_format.specs.Reading.{◌>>=◌}
 use Rattle.media_file.specs.Faults.{IfContent, IsMachine}
 use Rattle.media_file.specs.declared.capture.Capture.{Capture}
 use Rattle.std.specs.Prelude.{IfOk, IfErr, MatchResult}
 use Rattle.media_file.specs.Fronts.{HasFront, capture_name, counted_text, front_at, front_text}
-use Rattle.media_file.specs.Fronts.{kind_at, kind_of, kind_text, text_at, text_by, with_rest}
+use Rattle.media_file.specs.Fronts.{kind_at, kind_of, kind_text, text_at, text_by}
 use Rattle.media_file.specs.Reading.{entries_by, entries_in, entries_up_to, path_of, rest_at}
 use Rattle.media_file.specs.Records.{AllFit, Entry, Fits, entry_of, path_octet, record_text}
 use Rattle.media_file.specs.Records.{records_text, rest_text}
@@ -243,7 +244,7 @@ records_again (suc limit) (e ∷ es) fit le =
 
 pub field_again : (n : ℕ) (front rest : List ℕ) → length front ≡ n
     → field_at n (front ++ rest) ≡ Ok (front, rest)
-unfolding field_at
+unfolding field_by
 field_again n front rest len =
     let long : ltb (length (front ++ rest)) n ≡ false =
     le-ltb (length (front ++ rest)) n (omega (arith, length-append front rest)) in

@@ -4,15 +4,17 @@ use Rattle.media_file.specs.declared.fault.FileFault.{FileFault}
 use Rattle.media_file.specs.declared.fault.FileFault.TheVariants.{BadVersion}
 use Rattle.media_file.specs.declared.front.Version.{Version}
 use Rattle.media_file.specs.declared.front.Version.TheVariants.{One, Two}
-use Rattle.media_file.specs.Fields.{Fails, Takes}
+use Rattle.media_file.specs.Fields.{Fails}
+use Rattle.st_format.specs.Given.{Takes}
 use Rattle.media_file.specs.Fronts.{kind_at}
 use Rattle.media_file.specs.PictureFile.{one_at, one_by}
-use Rattle.media_file.proofs.Parsing.{fails_first, fails_then, gives_then}
+use Rattle.st_format.proofs.Parsing.{fails_first, fails_then, gives_then}
+use Rattle.media_file.specs.Faults.{file_fault_origin}
 
 pub one_cut : (name : List ℕ) (old : Option (List ℕ)) (f : FileFault) → Fails (kind_at name) old f
     → Fails (one_at name) old f
 unfolding one_at
-one_cut name old f p = fails_first (kind_at name) one_by old f p
+one_cut name old f p = fails_first file_fault_origin (kind_at name) one_by old f p
 
 one_given : (known : Option (List ℕ)) → Takes (one_by One) known known One
 one_given None = tt
@@ -33,5 +35,5 @@ pub one_fails : (name : List ℕ) (old new : Option (List ℕ)) (v : Version) �
     → Takes (kind_at name) old new v → Fails (one_at name) old BadVersion
 unfolding one_at
 one_fails name old new v e p =
-    fails_then (kind_at name) one_by old new Two BadVersion
+    fails_then file_fault_origin (kind_at name) one_by old new Two BadVersion
     (subst (Takes (kind_at name) old new) e p) (two_fails new)

@@ -1,6 +1,7 @@
 -- The numbers of the faults, and what a function owes that answers one.
-use Rattle.std.specs.Prelude.{◌≡◌, ℕ, ⊤, List, Result, Ok, Err, codes}
-use Rattle.st_format.specs.Device.{CountsOne}
+use Rattle.std.specs.Prelude.{ℕ, ⊤, List, Result, codes}
+use Rattle.st_format.specs.Given.{CountsDeviceBy, CountsFaultBy, IfContentBy}
+use Rattle.st_format.specs.Given.{Origin, OfContent, OfDevice, OfMemory}
 use Rattle.media_file.specs.declared.fault.FileFault.{FileFault}
 use Rattle.media_file.specs.declared.fault.FileFault.TheVariants.{NoMemory, Device, BadName}
 use Rattle.media_file.specs.declared.fault.FileFault.TheVariants.{BadVersion, Truncated, BadField}
@@ -36,22 +37,23 @@ abbrev pub IsDevice : FileFault → Type 0
 IsDevice Device = ⊤
 IsDevice _ = ⊥
 
--- The fault is the content's: then this holds. One of memory or of the device says nothing of the
--- content.
+-- where each comes from
+abbrev pub file_fault_origin : FileFault → Origin
+file_fault_origin NoMemory = OfMemory
+file_fault_origin Device = OfDevice
+file_fault_origin _ = OfContent
+
+-- the fault is the content's: then this holds
 abbrev pub IfContent : FileFault → Type 0 → Type 0
-IfContent NoMemory P = ⊤
-IfContent Device P = ⊤
-IfContent _ P = P
+IfContent f P = IfContentBy file_fault_origin f P
 
 -- a fault of the device is one failure more, and any other none (own)
 abbrev pub CountsFault : FileFault → ℕ → ℕ → Type 0
-CountsFault Device old new = CountsOne old new
-CountsFault _ old new = new ≡ old
+CountsFault f old new = CountsFaultBy file_fault_origin f old new
 
 -- what is answered without a fault is none either
 abbrev pub CountsDevice : {V : Type 0} → ℕ → ℕ → Result V FileFault → Type 0
-CountsDevice old new (Ok v) = new ≡ old
-CountsDevice old new (Err f) = CountsFault f old new
+CountsDevice old new result = CountsDeviceBy file_fault_origin old new result
 
 -- the faults of a field
 abbrev pub IsOfField : FileFault → Type 0

@@ -9,6 +9,7 @@ use Rattle.media_file.specs.declared.fault.FileFault.TheVariants.{BadName, BadVe
 use Rattle.media_file.specs.declared.front.Version.{Version}
 use Rattle.media_file.specs.declared.front.Version.TheVariants.{One, Two}
 use Rattle.media_file.specs.Fields.{field_at}
+use Rattle.st_format.specs.Given.{with_rest}
 use Rattle.st_format.specs.Reading.{◌>>=◌}
 
 -- the names
@@ -58,10 +59,6 @@ version_of octets =
 abbrev pub kind_of : List ℕ → List ℕ → Result Version FileFault
 kind_of name octets =
     if bytes_eq (take 6 octets) name then version_of (drop 6 octets) else Err BadName
-
--- with what is behind
-abbrev pub with_rest : {X : Type 0} → Result X FileFault → List ℕ → Result (X × List ℕ) FileFault
-with_rest r rest = r >>= λ x. Ok (x, rest)
 
 -- the version that name and digits at the front say of a kind of file, and what stands behind them
 unfoldable pub kind_at : List ℕ → List ℕ → Result (Version × List ℕ) FileFault

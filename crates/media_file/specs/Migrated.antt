@@ -9,7 +9,7 @@ use Rattle.media_file.specs.declared.fault.FileFault.TheVariants.{TrailingBytes,
 use Rattle.media_file.specs.declared.front.Version.{Version}
 use Rattle.media_file.specs.declared.front.Version.TheVariants.{One, Two}
 use Rattle.media_file.specs.Capture.{capture_text, records_at}
-use Rattle.media_file.specs.Fields.{GaveWhole, Takes}
+use Rattle.st_format.specs.Given.{GaveWhole, Takes}
 use Rattle.st_format.specs.Reading.{◌>>=◌}
 use Rattle.media_file.specs.Fronts.{capture_name, kind_at}
 use Rattle.media_file.specs.Reading.{entries_up_to}

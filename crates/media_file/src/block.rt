@@ -2,7 +2,8 @@
 ghost use Rattle.std.specs.Prelude.{◌≡◌, length, IfErr, IfOk, OnOk};
 ghost use Rattle.media_file.specs.Blocks.{block_at, block_of, depth_of, sampling_of};
 ghost use Rattle.media_file.specs.Faults.{CountsDevice};
-ghost use Rattle.media_file.specs.Fields.{Fails, GaveFault, GaveOctets, GaveValue, Takes};
+ghost use Rattle.media_file.specs.Fields.{Fails, GaveFault};
+ghost use Rattle.st_format.specs.Given.{GaveOctets, GaveValue, Takes};
 ghost use Rattle.media_file.specs.StateFile.{format_text, sampling_code};
 ghost use Rattle.st_format.specs.Fields.{fields_of, made_fields};
 

@@ -6,7 +6,8 @@ ghost use Rattle.media_file.specs.Capture.{Content, IsCapture, capture_walk, cap
 ghost use Rattle.media_file.specs.Capture.{entry_seen, records_at};
 ghost use Rattle.media_file.specs.CaptureFaults.{IsCaptureFault};
 ghost use Rattle.media_file.specs.Faults.{CountsDevice, IfContent, IsMachine};
-ghost use Rattle.media_file.specs.Fields.{Fails, GaveFault, GaveWhole, Takes};
+ghost use Rattle.media_file.specs.Fields.{Fails, GaveFault};
+ghost use Rattle.st_format.specs.Given.{GaveWhole, Takes};
 ghost use Rattle.st_format.specs.Device.{AreOctets, TellsOctets};
 ghost use Rattle.st_format.specs.History.{GrewFrom, IsRead};
 ghost use Rattle.std.specs.Io.KnownBytes.{IsAtEnd};

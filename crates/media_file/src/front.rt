@@ -1,8 +1,9 @@
 //! The fields of a file, what stands at its front, and that nothing is behind it.
 ghost use Rattle.std.specs.Prelude.{◌≡◌, ◌≤◌, ◌<◌, codes, length, take, IfErr, IfOk, OnOk};
 ghost use Rattle.media_file.specs.Faults.{CountsDevice, IsOfField, IsOfFront};
-ghost use Rattle.media_file.specs.Fields.{Fails, GaveFault, GaveOctets, GavePart, GaveValue};
-ghost use Rattle.media_file.specs.Fields.{GivesPart, Takes};
+ghost use Rattle.media_file.specs.Fields.{Fails, GaveFault};
+ghost use Rattle.st_format.specs.Given.{GaveOctets, GavePart, GaveValue, Takes};
+ghost use Rattle.media_file.specs.Fields.{GivesPart};
 ghost use Rattle.media_file.specs.Fields.{field_at, nothing_at};
 ghost use Rattle.media_file.specs.Fronts.{front_at, kind_at, kind_of, text_at, version_of};
 ghost use Rattle.st_format.specs.Device.{TellsOctets};

@@ -10,8 +10,8 @@ ghost use Rattle.st_format.specs.Picture.{IsPicture, Values};
 ghost use Rattle.st_format.specs.Position.{sample_count};
 ghost use Rattle.st_format.specs.Samples.{values_in};
 ghost use Rattle.media_file.specs.Faults.{CountsDevice, IfContent, IsMachine};
-ghost use Rattle.media_file.specs.Fields.{Fails, GaveFault, GaveOctets, GaveValue, GaveWhole};
-ghost use Rattle.media_file.specs.Fields.{Takes};
+ghost use Rattle.media_file.specs.Fields.{Fails, GaveFault};
+ghost use Rattle.st_format.specs.Given.{GaveOctets, GaveValue, GaveWhole, Takes};
 ghost use Rattle.media_file.specs.PictureFaults.{IsPictureFault};
 ghost use Rattle.media_file.specs.PictureFile.{IsPictureFile, picture_walk, raster_at, shown_of};
 

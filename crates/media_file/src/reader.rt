@@ -6,7 +6,8 @@ ghost use Rattle.st_format.specs.Device.{CountsFaults, CountsOne};
 ghost use Rattle.st_format.specs.History.{since};
 ghost use Rattle.st_format.specs.Turns.{CountsTurn, IsEnd, IsWithin, TakesTurn, arrived, came_of};
 ghost use Rattle.media_file.specs.Faults.{CountsDevice, CountsFault, IsOfFront};
-ghost use Rattle.media_file.specs.Fields.{Fails, GaveFault, GaveValue, Takes};
+ghost use Rattle.media_file.specs.Fields.{Fails, GaveFault};
+ghost use Rattle.st_format.specs.Given.{GaveValue, Takes};
 ghost use Rattle.media_file.specs.Fronts.{front_at};
 ghost use Rattle.media_file.specs.Given.{GivesNone, HasGiven};
 ghost use Rattle.media_file.specs.Reader.{CountsDeviceAt, GivesRecord, IsNewReader, StandsAfter};
@@ -53,7 +54,8 @@ pub struct CaptureReader<S: ByteSource> {
 }
 
 impl<S: ByteSource> Model for CaptureReader<S> {
-    ghost use Rattle.media_file.specs.Fields.{Fails, Takes};
+    ghost use Rattle.media_file.specs.Fields.{Fails};
+    ghost use Rattle.st_format.specs.Given.{Takes};
     ghost use Rattle.media_file.specs.Fronts.{front_at};
     ghost use Rattle.media_file.specs.Given.{HasGiven};
     ghost use Rattle.media_file.specs.Reader.{Reader, StandsRight};

@@ -18,7 +18,6 @@ use Rattle.media_file.specs.Given.{GivesWrong}
 use Rattle.media_file.specs.Reading.{entries_by, entries_in, entries_up_to, rest_at}
 use Rattle.media_file.specs.Records.{AllFit, Entry, Fits, path_octet, record_text, records_text}
 use Rattle.media_file.specs.Records.{rest_text}
-use Rattle.media_file.proofs.Givings.{grew_twice}
 use Rattle.media_file.proofs.Moved.{fit_more, one_text}
 use Rattle.media_file.proofs.Gave.{fault_device}
 use Rattle.media_file.proofs.GaveLoops.{GoesGave, gave_end, gave_first, gave_record, no_record}
@@ -35,6 +34,7 @@ use Rattle.paced_export.specs.declared.pace.Pace.{Pace}
 use Rattle.paced_export.specs.declared.tally.FrameCounts.{FrameCounts}
 use Rattle.paced_export.proofs.CountLemmas.{counted_few}
 use Rattle.paced_export.proofs.PacedLists.{paced_length, paced_more}
+use Rattle.st_format.proofs.Gave.{grew_twice}
 
 -- what was written of a record more
 more_packets : (es : Envelopes) (xs : List Entry) (e : Entry)

@@ -3,7 +3,7 @@ use Rattle.std.proofs.Common.{◌≡◌, ℕ, List, Option, inl, inr, Result, Ok
 use Rattle.std.proofs.Common.{refl, subst}
 use Rattle.std.specs.Prelude.{OnErr, unwrap_or}
 use Rattle.st_format.specs.History.{IsRead}
-use Rattle.media_file.specs.Fields.{GaveValue}
+use Rattle.st_format.specs.Given.{GaveValue}
 use Rattle.media_file.specs.Fronts.{front_at}
 use Rattle.media_file.specs.Records.{Entry}
 use Rattle.media_file.specs.declared.fault.FileFault.{FileFault}

@@ -1,7 +1,8 @@
 -- What a run of `export --paced` read, wrote and printed (own).
 use Rattle.std.specs.Prelude.{◌≡◌, ℕ, List, [], ◌∷◌, ◌++◌, Option, unwrap_or}
 use Rattle.media_file.specs.Capture.{Content, capture_walk, records_at}
-use Rattle.media_file.specs.Fields.{GaveFault, GaveValue, GaveWhole}
+use Rattle.media_file.specs.Fields.{GaveFault}
+use Rattle.st_format.specs.Given.{GaveValue, GaveWhole}
 use Rattle.media_file.specs.Fronts.{front_at}
 use Rattle.media_file.specs.Reading.{entries_in}
 use Rattle.media_file.specs.Records.{AllFit, Entry, records_text}

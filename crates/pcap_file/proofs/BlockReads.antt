@@ -9,7 +9,8 @@ use Rattle.std.proofs.lemmas.Bool.{lt-ltb, le-ltb}
 use Rattle.pcap_file.specs.declared.fault.RecordingFault.{RecordingFault}
 use Rattle.pcap_file.specs.declared.fault.RecordingFault.TheVariants.{PacketTooLong, Truncated}
 use Rattle.pcap_file.specs.declared.order.ByteOrder.{ByteOrder}
-use Rattle.pcap_file.specs.Fields.{Fails, Takes, field_at}
+use Rattle.pcap_file.specs.Fields.{Fails, field_at, recording_fault_origin}
+use Rattle.st_format.specs.Given.{Takes}
 use Rattle.pcap_file.specs.NgReading.{block_at, block_by, body_at, body_in, front_at, is_read}
 use Rattle.pcap_file.specs.NgReading.{kept_at, order_at, passed_at, section_at, section_by}
 use Rattle.pcap_file.specs.NgReading.{section_count, section_rest_at, trailer_at}
@@ -17,9 +18,9 @@ use Rattle.pcap_file.specs.BlockReading.{body_of_total}
 use Rattle.pcap_file.specs.Orders.{long_at}
 use Rattle.pcap_file.proofs.FieldReads.{mapped, mapped_fails, mapped_gives, pure_cut, pure_fails_if}
 use Rattle.pcap_file.proofs.FieldReads.{pure_gives_if}
-use Rattle.pcap_file.proofs.Content.{if_content_weaker}
-use Rattle.pcap_file.proofs.Parsing.{fails_field, fails_first, fails_then, gives_field, gives_then}
-use Rattle.pcap_file.proofs.Parsing.{then_reads}
+use Rattle.st_format.proofs.Origins.{if_content_weaker}
+use Rattle.st_format.proofs.Parsing.{fails_field, fails_first, fails_then, gives_field, gives_then}
+use Rattle.st_format.proofs.Parsing.{then_reads}
 
 body_fit : (room count : ℕ) (o : List ℕ) → count ≤ room → body_at room count o ≡ field_at count o
 unfolding body_at
@@ -39,7 +40,7 @@ body_fails : (room n count : ℕ) (old : Option (List ℕ)) (f : RecordingFault)
     → n ≡ count → Fails (field_at n) old f → Fails (body_at room count) old f
 body_fails room n count None f fits is fails = tt
 body_fails room n count (Some o) f fits is fails =
-    if_content_weaker f (field_at n o ≡ Err f) (body_at room count o ≡ Err f)
+    if_content_weaker recording_fault_origin f (field_at n o ≡ Err f) (body_at room count o ≡ Err f)
     (λ e. body_fit room count o fits ∙ ap (λ (k : ℕ). field_at k o) (sym is) ∙ e) fails
 
 pub body_gives_if : (room n count : ℕ) (old new : Option (List ℕ)) (xs ys : List ℕ)
@@ -82,7 +83,7 @@ module _ (order : ByteOrder) (total room count : ℕ) where
   pub kept_cut : (old : Option (List ℕ)) (f : RecordingFault) → Fails (body_at room count) old f
       → Fails (kept_at order total room count) old f
   unfolding kept_at
-  kept_cut old f fails = fails_first (body_at room count) behind old f fails
+  kept_cut old f fails = fails_first recording_fault_origin (body_at room count) behind old f fails
 
   pub kept_gives : (old mid new : Option (List ℕ)) (body : List ℕ)
       (r : Result (Unit {0}) RecordingFault) → Takes (body_at room count) old mid body
@@ -102,8 +103,8 @@ module _ (order : ByteOrder) (total room count : ℕ) where
   unfolding kept_at
   kept_fails old mid body (Ok u) p q = tt
   kept_fails old mid body (Err f) p q =
-      fails_then (body_at room count) behind old mid body f p
-      (fails_first (trailer_at order total) (with_body body) mid f q)
+      fails_then recording_fault_origin (body_at room count) behind old mid body f p
+      (fails_first recording_fault_origin (trailer_at order total) (with_body body) mid f q)
 
 -- ---- a section's block
 
@@ -158,14 +159,14 @@ module _ (front : List ℕ) where
   pub order_cut : (old : Option (List ℕ)) (f : RecordingFault) → Fails order_at old f
       → Fails (section_at front) old f
   unfolding section_at
-  order_cut old f p = fails_first order_at behind_order old f p
+  order_cut old f p = fails_first recording_fault_origin order_at behind_order old f p
 
   pub order_fails : (old mid : Option (List ℕ)) (order : ByteOrder) (f : RecordingFault)
       → Takes order_at old mid order → Fails (section_by order front) mid f
       → Fails (section_at front) old f
   unfolding section_at
   order_fails old mid order f p q =
-      fails_then order_at behind_order old mid order f p
+      fails_then recording_fault_origin order_at behind_order old mid order f p
       (mapped_fails (of_order order) (section_by order front) mid f q)
 
   pub order_gives : (old mid new : Option (List ℕ)) (order : ByteOrder)
@@ -317,7 +318,7 @@ front_gives (Some o) None given eight p = absurd p
 front_gives (Some o) (Some rest) given eight p =
     front_some o (omega (arith, ap (λ (x : List ℕ). length x) p, length-append given rest))
     ∙ mapped_gives some_front (field_at 8) (Some o) (Some rest) given
-    (gives_field 8 (Some o) (Some rest) given eight p)
+    (gives_field Truncated 8 (Some o) (Some rest) given eight p)
 
 pub front_cut : (old new : Option (List ℕ)) (given : List ℕ) → 0 < length given
     → length given < 8 → Consumes old new given → IsAtEnd new → Fails front_at old Truncated
@@ -326,4 +327,4 @@ front_cut (Some o) None given some short p e = absurd p
 front_cut (Some o) (Some rest) given some short p e =
     front_some o (omega (arith, ap (λ (x : List ℕ). length x) p, length-append given rest))
     ∙ mapped_fails some_front (field_at 8) (Some o) Truncated
-    (fails_field 8 (Some o) (Some rest) given short p e)
+    (fails_field recording_fault_origin Truncated 8 (Some o) (Some rest) given short p e)

@@ -14,7 +14,8 @@ use Rattle.pcap_file.specs.declared.order.ByteOrder.{ByteOrder}
 use Rattle.pcap_file.specs.Orders.{long_at, number_by}
 use Rattle.pcap_file.specs.Blocks.{IsBlock, IsTotal, most_octets}
 use Rattle.pcap_file.specs.BlockReading.{body_of_total}
-use Rattle.pcap_file.specs.Fields.{field_at, with_rest}
+use Rattle.pcap_file.specs.Fields.{field_at}
+use Rattle.st_format.specs.Given.{with_rest}
 use Rattle.pcap_file.specs.PcapReading.{Recorded}
 use Rattle.pcap_file.specs.NgReading.{again_of, block_at, block_by, body_at, front_at, is_read}
 use Rattle.pcap_file.specs.NgReading.{kept_at, passed_at, skip_at, trailer_at}

@@ -1,18 +1,19 @@
 -- A field of so many octets, and what is made of it.
 use Rattle.std.proofs.Common.{◌≡◌, ℕ, ◌+◌, ◌<◌, ◌≤◌, Bool, true, false, cond, ltb, List, length}
 use Rattle.std.proofs.Common.{take, drop, Option, None, Some, Result, Ok, Err, refl, sym, ap, ◌∙◌}
-use Rattle.std.proofs.Common.{arith}
+use Rattle.std.proofs.Common.{arith, subst}
 use Rattle.std.specs.Prelude.{IfOk, IfErr}
 use Rattle.std.proofs.lemmas.Bool.{ltb-true, ltb-false, lt-ltb, le-ltb}
 use Rattle.std.proofs.lemmas.List.{drop-drop, length-drop}
 use Rattle.st_format.specs.Reading.{◌>>=◌}
 use Rattle.pcap_file.specs.declared.fault.RecordingFault.{RecordingFault}
 use Rattle.pcap_file.specs.declared.fault.RecordingFault.TheVariants.{Truncated}
-use Rattle.pcap_file.specs.Fields.{Fails, Takes, field_at, with_rest}
+use Rattle.pcap_file.specs.Fields.{Fails, field_at, recording_fault_origin}
+use Rattle.st_format.specs.Given.{Takes, with_rest, field_by}
 use Rattle.pcap_file.specs.NgReading.{skip_at}
-use Rattle.pcap_file.proofs.Content.{if_content, if_content_weaker}
-use Rattle.pcap_file.proofs.Parsing.{fails_first, fails_pure, fails_then, gives_pure, gives_then}
-use Rattle.pcap_file.proofs.Parsing.{then_reads}
+use Rattle.st_format.proofs.Origins.{if_content, if_content_weaker}
+use Rattle.st_format.proofs.Parsing.{fails_first, fails_pure, fails_then, gives_pure, gives_then}
+use Rattle.st_format.proofs.Parsing.{then_reads}
 
 -- ---- a field, and a function of it
 
@@ -24,7 +25,8 @@ pub made_cut : {X : Type 0} (n : ℕ) (pure : List ℕ → Result X RecordingFau
     (old : Option (List ℕ)) (f : RecordingFault) → Fails (field_at n) old f
     → Fails (made_of n pure) old f
 made_cut n pure old f fails =
-    fails_first (field_at n) (λ front rest. with_rest (pure front) rest) old f fails
+    fails_first recording_fault_origin (field_at n) (λ front rest. with_rest (pure front) rest) old
+    f fails
 
 pub made_gives : {X : Type 0} (n : ℕ) (pure : List ℕ → Result X RecordingFault)
     (old new : Option (List ℕ)) (front : List ℕ) (r : Result X RecordingFault)
@@ -41,8 +43,9 @@ pub made_fails : {X : Type 0} (n : ℕ) (pure : List ℕ → Result X RecordingF
     → IfErr r (λ f. Fails (made_of n pure) old f)
 made_fails n pure old new front (Ok x) takes e = tt
 made_fails n pure old new front (Err f) takes e =
-    fails_then (field_at n) (λ front rest. with_rest (pure front) rest) old new front f takes
-    (fails_pure (pure front) new f (sym e))
+    fails_then recording_fault_origin (field_at n) (λ front rest. with_rest (pure front) rest) old
+    new front f takes
+    (fails_pure recording_fault_origin (pure front) new f (sym e))
 
 -- ---- octets that are passed over
 
@@ -110,7 +113,7 @@ was_field_at n o xs rest false e h =
 
 was_field : (n : ℕ) (o xs rest : List ℕ) → field_at n o ≡ field_ok (xs, rest)
     → WasField n o xs rest
-unfolding field_at
+unfolding field_by
 was_field n o xs rest h = was_field_at n o xs rest (ltb (length o) n) refl h
 
 pub skip_more : (d n : ℕ) (old mid new : Option (List ℕ)) (xs : List ℕ)
@@ -135,7 +138,7 @@ no_field_at n o f false e h = absurd cc
 
 no_field : (n : ℕ) (o : List ℕ) (f : RecordingFault) → field_at n o ≡ Err f
     → (length o < n) × (f ≡ Truncated)
-unfolding field_at
+unfolding field_by
 no_field n o f h = no_field_at n o f (ltb (length o) n) refl h
 
 no_skip : (n : ℕ) (o : List ℕ) (f : RecordingFault) → length o < n → f ≡ Truncated
@@ -154,7 +157,7 @@ skip_cut d n count (Some o) None f fits p q = absurd p
 skip_cut d n count (Some o) (Some m) f fits p q =
     let s = was_skipped d o m p in
     let count_m : length m ≡ length (drop d o) = ap (λ (x : List ℕ). length x) s.rest_is in
-    if_content_weaker f (field_at n m ≡ Err f) (skip_at count o ≡ Err f)
+    if_content_weaker recording_fault_origin f (field_at n m ≡ Err f) (skip_at count o ≡ Err f)
     (λ e. let h = no_field n m f e in
     no_skip count o f (omega (arith, h.0, length-drop d o)) h.1) q
 
@@ -172,7 +175,8 @@ pub two_fails : {A B : Type 0} (first : List ℕ → Result (A × List ℕ) Reco
     (r : Result B RecordingFault) → Takes first old mid x → IfErr r (λ f. Fails (next x) mid f)
     → IfErr r (λ f. Fails (then_reads first next) old f)
 two_fails first next old mid x (Ok y) p q = tt
-two_fails first next old mid x (Err f) p q = fails_then first next old mid x f p q
+two_fails first next old mid x (Err f) p q =
+    fails_then recording_fault_origin first next old mid x f p q
 
 -- ---- a value that takes no octets, and a reading by it
 
@@ -186,7 +190,7 @@ pub pure_cut : {A B : Type 0} (r : Result A RecordingFault)
     (f : RecordingFault) → r ≡ Err f → Fails (pure_reads r next) old f
 pure_cut r next None f e = tt
 pure_cut {A} {B} r next (Some o) f e =
-    if_content f (pure_reads r next o ≡ Err f)
+    if_content recording_fault_origin f (pure_reads r next o ≡ Err f)
     (ap (λ (q : Result A RecordingFault). q >>= λ x. next x o) e)
 
 pub pure_gives : {A B : Type 0} (r : Result A RecordingFault)
@@ -202,7 +206,7 @@ pub pure_fails : {A B : Type 0} (r : Result A RecordingFault)
     (f : RecordingFault) → r ≡ Ok x → Fails (next x) old f → Fails (pure_reads r next) old f
 pure_fails r next None x f e p = tt
 pure_fails {A} {B} r next (Some o) x f e p =
-    if_content_weaker f (next x o ≡ Err f) (pure_reads r next o ≡ Err f)
+    if_content_weaker recording_fault_origin f (next x o ≡ Err f) (pure_reads r next o ≡ Err f)
     (λ h. ap (λ (q : Result A RecordingFault). q >>= λ z. next z o) e ∙ h) p
 
 pub pure_gives_if : {A B C : Type 0} (view : C → B) (r : Result A RecordingFault)
@@ -237,4 +241,10 @@ mapped_gives {A} {B} make first (Some o) (Some rest) x p =
 pub mapped_fails : {A B : Type 0} (make : A → B)
     (first : List ℕ → Result (A × List ℕ) RecordingFault) (old : Option (List ℕ))
     (f : RecordingFault) → Fails first old f → Fails (mapped make first) old f
-mapped_fails make first old f p = fails_first first (λ x rest. Ok (make x, rest)) old f p
+mapped_fails make first old f p =
+    fails_first recording_fault_origin first (λ x rest. Ok (make x, rest)) old f p
+
+-- a field of as many octets
+pub field_as : (m n : ℕ) (old new : Option (List ℕ)) (given : List ℕ) → m ≡ n
+    → Takes (field_at m) old new given → Takes (field_at n) old new given
+field_as m n old new given e p = subst (λ (k : ℕ). Takes (field_at k) old new given) e p

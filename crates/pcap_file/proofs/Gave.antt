@@ -8,21 +8,12 @@ use Rattle.std.specs.Io.KnownBytes.{Consumes, IsAtEnd}
 use Rattle.std.proofs.lemmas.List.{take_all}
 use Rattle.pcap_file.specs.declared.fault.RecordingFault.{RecordingFault}
 use Rattle.pcap_file.specs.declared.fault.RecordingFault.TheVariants.{Device}
-use Rattle.pcap_file.specs.Fields.{Fails, GaveFault, GaveValue, GaveWhole, Takes}
+use Rattle.pcap_file.specs.Fields.{Fails, GaveFault, recording_fault_origin}
+use Rattle.st_format.specs.Given.{GaveValue, GaveWhole, Takes}
+use Rattle.st_format.proofs.Gave.{gave_one, gave_two, fault_one, fault_of, fault_two}
 
 abbrev Reading : Type 0 → Type 0
 Reading X = List ℕ → Result (X × List ℕ) RecordingFault
-
--- one part behind another
-pub grew_twice : (old mid new xs ys : List ℕ) → mid ≡ old ++ xs → new ≡ mid ++ ys
-    → new ≡ old ++ (xs ++ ys)
-grew_twice old mid new xs ys first then =
-    then ∙ ap (λ (l : List ℕ). l ++ ys) first ∙ append_assoc old xs ys
-
--- a source gave all of a list
-pub grew_all : (old new : List ℕ) (n : ℕ) (given : List ℕ) → new ≡ old ++ take n given
-    → length given ≤ n → new ≡ old ++ given
-grew_all old new n given is le = is ∙ ap (λ (l : List ℕ). old ++ l) (take_all n given le)
 
 -- ---- what was given
 
@@ -66,40 +57,6 @@ fault_device r a b part ended grown =
 
 -- ---- from readings to a reading
 
--- of one value
-pub gave_one : {X Z : Type 0} (p : Reading X) (r : Reading Z) (x : X) (z : Z) (a b : List ℕ)
-    → ((was left : Option (List ℕ)) → Takes p was left x → Takes r was left z)
-    → GaveValue p a b x → GaveValue r a b z
-gave_one p r x z a b step g = record {
-  part = g.part;
-  grown = g.grown;
-  says = λ behind. step (Some (g.part ++ behind)) (Some behind) (g.says behind);
-}
-
--- of two values, one behind the other
-pub gave_two : {X Y Z : Type 0} (p : Reading X) (q : Reading Y) (r : Reading Z) (x : X) (y : Y)
-    (z : Z) (a b c : List ℕ)
-    → ((was mid left : Option (List ℕ)) → Takes p was mid x → Takes q mid left y
-    → Takes r was left z) → GaveValue p a b x → GaveValue q b c y → GaveValue r a c z
-gave_two p q r x y z a b c step g h = record {
-  part = g.part ++ h.part;
-  grown = grew_twice a b c g.part h.part g.grown h.grown;
-  says = λ behind.
-      subst (λ (o : List ℕ). Takes r (Some o) (Some behind) z)
-      (sym (append_assoc g.part h.part behind))
-      (step (Some (g.part ++ (h.part ++ behind))) (Some (h.part ++ behind)) (Some behind)
-      (g.says (h.part ++ behind)) (h.says behind));
-}
-
--- of what was read already, which took no octet
-pub gave_none : {Z : Type 0} (r : Reading Z) (z : Z) (a b : List ℕ)
-    → ((known : Option (List ℕ)) → Takes r known known z) → b ≡ a → GaveValue r a b z
-gave_none r z a b step same = record {
-  part = [];
-  grown = same ∙ sym (append-nil a);
-  says = λ behind. step (Some behind);
-}
-
 -- of the end
 pub whole_one : {X Z : Type 0} (p : Reading X) (r : Reading Z) (x : X) (z : Z) (a b : List ℕ)
     (ended : Type 0) → ((was left : Option (List ℕ)) → Takes p was left x → Takes r was left z)
@@ -112,41 +69,6 @@ whole_one p r x z a b ended step g = record {
 }
 
 -- ---- from a fault to a fault
-
--- of the first reading
-pub fault_one : {X Z : Type 0} (p : Reading X) (r : Reading Z) (a b : List ℕ) (ended : Type 0)
-    (f : RecordingFault) → ((was : Option (List ℕ)) → Fails p was f → Fails r was f)
-    → GaveFault p a b ended f → GaveFault r a b ended f
-fault_one p r a b ended f step g = record {
-  part = g.part;
-  grown = g.grown;
-  says = λ behind all. step (Some (g.part ++ behind)) (g.says behind all);
-}
-
--- of a value that was read
-pub fault_of : {X Z : Type 0} (p : Reading X) (r : Reading Z) (x : X) (a b : List ℕ)
-    (ended : Type 0) (f : RecordingFault)
-    → ((was left : Option (List ℕ)) → Takes p was left x → Fails r was f)
-    → GaveValue p a b x → GaveFault r a b ended f
-fault_of p r x a b ended f step g = record {
-  part = g.part;
-  grown = g.grown;
-  says = λ behind all. step (Some (g.part ++ behind)) (Some behind) (g.says behind);
-}
-
--- of the second reading
-pub fault_two : {X Y Z : Type 0} (p : Reading X) (q : Reading Y) (r : Reading Z) (x : X)
-    (a b c : List ℕ) (ended : Type 0) (f : RecordingFault)
-    → ((was mid : Option (List ℕ)) → Takes p was mid x → Fails q mid f → Fails r was f)
-    → GaveValue p a b x → GaveFault q b c ended f → GaveFault r a c ended f
-fault_two p q r x a b c ended f step g h = record {
-  part = g.part ++ h.part;
-  grown = grew_twice a b c g.part h.part g.grown h.grown;
-  says = λ behind all.
-      subst (λ (o : List ℕ). Fails r (Some o) f) (sym (append_assoc g.part h.part behind))
-      (step (Some (g.part ++ (h.part ++ behind))) (Some (h.part ++ behind))
-      (g.says (h.part ++ behind)) (h.says behind all));
-}
 
 -- before any octet
 pub fault_none : {Z : Type 0} (r : Reading Z) (a b : List ℕ) (ended : Type 0)
@@ -173,7 +95,7 @@ pub fault_made : {C X Z : Type 0} (p : Reading X) (r : Reading Z) (x : X) (a b :
     → ((was left : Option (List ℕ)) → Takes p was left x → IfErr q (λ f. Fails r was f))
     → GaveValue p a b x → IfErr q (λ f. GaveFault r a b ended f)
 fault_made p r x a b ended (Ok y) step g = tt
-fault_made p r x a b ended (Err f) step g = fault_of p r x a b ended f step g
+fault_made p r x a b ended (Err f) step g = fault_of recording_fault_origin p r x a b ended f step g
 
 -- what is read behind it
 pub gave_tail : {C X Y Z : Type 0} (p : Reading X) (s : Reading Y) (r : Reading Z) (x : X)
@@ -190,7 +112,8 @@ pub fault_tail : {C X Y Z : Type 0} (p : Reading X) (s : Reading Y) (r : Reading
     → Fails r was f) → GaveValue p a b x → IfErr q (λ f. GaveFault s b c ended f)
     → IfErr q (λ f. GaveFault r a c ended f)
 fault_tail p s r x a b c ended (Ok y) step g h = tt
-fault_tail p s r x a b c ended (Err f) step g h = fault_two p s r x a b c ended f (step f) g h
+fault_tail p s r x a b c ended (Err f) step g h =
+    fault_two recording_fault_origin p s r x a b c ended f (step f) g h
 
 -- the same octets, by another reading
 pub gave_as : {C Y Z : Type 0} (s : Reading Y) (r : Reading Z) (v : C → Y) (w : C → Z)
@@ -205,4 +128,4 @@ pub fault_as : {C Y Z : Type 0} (s : Reading Y) (r : Reading Z) (a b : List ℕ)
     → ((f : RecordingFault) (was : Option (List ℕ)) → Fails s was f → Fails r was f)
     → IfErr q (λ f. GaveFault s a b ended f) → IfErr q (λ f. GaveFault r a b ended f)
 fault_as s r a b ended (Ok y) step h = tt
-fault_as s r a b ended (Err f) step h = fault_one s r a b ended f (step f) h
+fault_as s r a b ended (Err f) step h = fault_one recording_fault_origin s r a b ended f (step f) h

@@ -7,8 +7,6 @@ pub mod Udps
 pub mod Whole
 pub mod Pcaps
 pub mod Options
-pub mod Content
-pub mod Parsing
 pub mod Gave
 pub mod PcapReads
 pub mod Packets

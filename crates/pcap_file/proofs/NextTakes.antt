@@ -20,7 +20,8 @@ use Rattle.pcap_file.specs.Blocks.{IsSection, IsSectionBlock, IsTotal, long_numb
 use Rattle.pcap_file.specs.Blocks.{order_number, short_number}
 use Rattle.pcap_file.specs.BlockReading.{body_of_total, enhanced_of, interface_of, obsolete_of}
 use Rattle.pcap_file.specs.BlockReading.{order_of, section_of, simple_of}
-use Rattle.pcap_file.specs.Fields.{field_at, with_rest}
+use Rattle.pcap_file.specs.Fields.{field_at}
+use Rattle.st_format.specs.Given.{with_rest}
 use Rattle.pcap_file.specs.NgReading.{block_at, front_at, is_read, order_at, order_or}
 use Rattle.pcap_file.specs.NgReading.{passed_at, section_at}
 use Rattle.pcap_file.specs.NgReading.{section_by, section_count, section_rest_at, version_at}

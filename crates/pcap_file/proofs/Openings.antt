@@ -14,7 +14,8 @@ use Rattle.pcap_file.specs.declared.order.ByteOrder.{ByteOrder}
 use Rattle.pcap_file.specs.declared.order.ByteOrder.TheVariants.{Big}
 use Rattle.pcap_file.specs.declared.pcap.PcapHead.{PcapHead}
 use Rattle.pcap_file.specs.Orders.{long_at}
-use Rattle.pcap_file.specs.Fields.{Fails, GaveFault, GaveValue, Takes, field_at, with_rest}
+use Rattle.pcap_file.specs.Fields.{Fails, GaveFault, field_at, recording_fault_origin}
+use Rattle.st_format.specs.Given.{GaveValue, Takes, with_rest, field_by}
 use Rattle.pcap_file.specs.NgReading.{section_at}
 use Rattle.pcap_file.specs.NgSteps.{Known, first_at, first_by, fresh, section_type}
 use Rattle.pcap_file.specs.Openings.{behind_at, blocks_laid, laid_behind, pcap_laid, pcap_laid_if}
@@ -22,11 +23,11 @@ use Rattle.pcap_file.specs.Pcap.{foreign_of, magic_of, pcap_head_of}
 use Rattle.pcap_file.specs.PcapReading.{pcap_at}
 use Rattle.pcap_file.specs.Runs.{InBlocks, InPcap, Laid, blocks_begun, laid_by, opened_at}
 use Rattle.pcap_file.specs.Runs.{pcap_begun, pcap_if}
-use Rattle.pcap_file.proofs.Content.{if_content, if_content_weaker}
 use Rattle.pcap_file.proofs.FieldReads.{mapped, mapped_fails, mapped_gives}
-use Rattle.pcap_file.proofs.Gave.{fault_one, gave_one}
-use Rattle.pcap_file.proofs.Parsing.{fails_first, fails_then, gives_then}
 use Rattle.pcap_file.proofs.Recordings.{Cuts, Field, cuts, field, field_whole}
+use Rattle.st_format.proofs.Gave.{fault_one, gave_one}
+use Rattle.st_format.proofs.Origins.{if_content, if_content_weaker}
+use Rattle.st_format.proofs.Parsing.{fails_first, fails_then, gives_then}
 
 abbrev Laying : Type 0
 Laying = Result (Laid × List ℕ) RecordingFault
@@ -50,7 +51,7 @@ with_front front r = r >>= λ x. field (front ++ x.0, x.1)
 
 behind_by : (a b n : ℕ) (front m : List ℕ) (c : Bool) → length front ≡ a → n ≡ a + b
     → ltb (length m) b ≡ c → field_at n (front ++ m) ≡ behind_at front b m
-unfolding field_at behind_at
+unfolding field_by behind_at
 behind_by a b n front m true count total e =
     ap (λ (x : Bool). cond x cut (field (take n (front ++ m), drop n (front ++ m))))
     (lt-ltb (length (front ++ m)) n
@@ -168,7 +169,7 @@ pub opened_cut : (was : Option (List ℕ)) (f : RecordingFault) → Fails (field
 unfolding opened_at
 opened_cut None f p = tt
 opened_cut (Some o) f p =
-    if_content_weaker f (field_at 4 o ≡ Err f) (opened_at o ≡ no_laying f)
+    if_content_weaker recording_fault_origin f (field_at 4 o ≡ Err f) (opened_at o ≡ no_laying f)
     (λ e. ap (λ (r : Field). r >>= λ x. laid_by x.0 o) e) p
 
 pub opened_gives : (four : List ℕ) (laid : Laid) (was mid left : Option (List ℕ))
@@ -184,7 +185,8 @@ pub opened_fails : (four : List ℕ) (f : RecordingFault) (was mid : Option (Lis
 opened_fails four f None mid p q = tt
 opened_fails four f (Some o) None p q = absurd p
 opened_fails four f (Some o) (Some m) p q =
-    if_content_weaker f (laid_behind four m ≡ no_laying f) (opened_at o ≡ no_laying f)
+    if_content_weaker recording_fault_origin f (laid_behind four m ≡ no_laying f)
+    (opened_at o ≡ no_laying f)
     (λ e. opened_same o four m p ∙ e) q
 
 -- ---- by the first four octets
@@ -211,7 +213,7 @@ module _ (four : List ℕ) where
       → Fails (laid_behind four) was f
   foreign_fails f e other is None = tt
   foreign_fails f e other is (Some o) =
-      if_content f (laid_behind four o ≡ no_laying f)
+      if_content recording_fault_origin f (laid_behind four o ≡ no_laying f)
       (as_magic o None other is ∙ ap (λ (x : RecordingFault). no_laying x) (sym e))
 
 -- the same reading of what a source gave
@@ -233,7 +235,8 @@ fault_like p r a b ended (Err f) same g = record {
   part = g.part;
   grown = g.grown;
   says = λ behind all.
-      if_content_weaker f (p (g.part ++ behind) ≡ Err f) (r (g.part ++ behind) ≡ Err f)
+      if_content_weaker recording_fault_origin f (p (g.part ++ behind) ≡ Err f)
+      (r (g.part ++ behind) ≡ Err f)
       (λ e. same (g.part ++ behind) ∙ e) (g.says behind all);
 }
 
@@ -246,7 +249,7 @@ module _ (four : List ℕ) where
   pub pcap_cut : (f : RecordingFault) (was : Option (List ℕ)) → Fails (behind_at four 20) was f
       → Fails (pcap_laid four) was f
   unfolding pcap_laid
-  pcap_cut f was p = fails_first (behind_at four 20) heading was f p
+  pcap_cut f was p = fails_first recording_fault_origin (behind_at four 20) heading was f p
 
   head_gives : (front : List ℕ) (h : PcapHead) (known : Option (List ℕ)) → pcap_head_of front ≡ Ok h
       → Takes (heading front) known known (InPcap h)
@@ -257,9 +260,10 @@ module _ (four : List ℕ) where
       → pcap_head_of front ≡ Err f → Fails (heading front) known f
   head_fails front f None e = tt
   head_fails front f (Some o) e =
-      if_content_weaker f (pcap_head_of front ≡ Err f) (heading front o ≡ no_laying f)
+      if_content_weaker recording_fault_origin f (pcap_head_of front ≡ Err f)
+      (heading front o ≡ no_laying f)
       (λ e. ap (λ (r : Front). r >>= λ file. laid_ok (InPcap file, o)) e)
-      (if_content f (pcap_head_of front ≡ Err f) e)
+      (if_content recording_fault_origin f (pcap_head_of front ≡ Err f) e)
 
   pub pcap_gives : (front : List ℕ) (h : PcapHead) (was left : Option (List ℕ))
       → pcap_head_of front ≡ Ok h → Takes (behind_at four 20) was left front
@@ -274,7 +278,8 @@ module _ (four : List ℕ) where
       → Fails (pcap_laid four) was f
   unfolding pcap_laid
   pcap_fails front f was left e p =
-      fails_then (behind_at four 20) heading was left front f p (head_fails front f left e)
+      fails_then recording_fault_origin (behind_at four 20) heading was left front f p
+      (head_fails front f left e)
 
 -- ---- blocks
 
@@ -285,7 +290,7 @@ module _ (four : List ℕ) where
   pub blocks_cut : (f : RecordingFault) (was : Option (List ℕ)) → Fails (behind_at four 4) was f
       → Fails (blocks_laid four) was f
   unfolding blocks_laid
-  blocks_cut f was p = fails_first (behind_at four 4) begins was f p
+  blocks_cut f was p = fails_first recording_fault_origin (behind_at four 4) begins was f p
 
   pub blocks_gives : (front : List ℕ) (order : ByteOrder) (k : Known)
       (was mid left : Option (List ℕ)) → k ≡ fresh order → Takes (behind_at four 4) was mid front
@@ -301,7 +306,7 @@ module _ (four : List ℕ) where
       → Fails (blocks_laid four) was f
   unfolding blocks_laid
   blocks_fails front f was mid p q =
-      fails_then (behind_at four 4) begins was mid front f p
+      fails_then recording_fault_origin (behind_at four 4) begins was mid front f p
       (mapped_fails (λ (o : ByteOrder). InBlocks (fresh o)) (section_at front) mid f q)
 
 -- ---- four octets, and those behind them
@@ -335,7 +340,8 @@ pub behind_gave_wrong : (four : List ℕ) (m n : ℕ) (a b : List ℕ) (ended : 
 behind_gave_wrong four m n a b ended (Ok u) e g = tt
 behind_gave_wrong four m n a b ended (Err f) e g =
     subst (λ (k : ℕ). GaveFault (behind_at four k) a b ended f) e
-    (fault_one (field_at m) (behind_at four m) a b ended f (behind_fails four m f) g)
+    (fault_one recording_fault_origin (field_at m) (behind_at four m) a b ended f
+    (behind_fails four m f) g)
 
 -- as many octets
 pub behind_as : (four xs : List ℕ) (m n : ℕ) (a b : List ℕ) → m ≡ n

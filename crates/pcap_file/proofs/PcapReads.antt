@@ -10,14 +10,15 @@ use Rattle.pcap_file.specs.declared.fault.RecordingFault.{RecordingFault}
 use Rattle.pcap_file.specs.declared.fault.RecordingFault.TheVariants.{Truncated, PacketTooLong}
 use Rattle.pcap_file.specs.declared.pcap.PacketHead.{PacketHead}
 use Rattle.pcap_file.specs.declared.pcap.PcapHead.{PcapHead}
-use Rattle.pcap_file.specs.Fields.{Fails, Takes, field_at, with_rest}
+use Rattle.pcap_file.specs.Fields.{Fails, field_at, recording_fault_origin}
+use Rattle.st_format.specs.Given.{Takes, with_rest}
 use Rattle.pcap_file.specs.Pcap.{pcap_head_of, record_head_of}
 use Rattle.pcap_file.specs.PcapReading.{Recorded, head_at, head_by, octets_at, packet_behind}
 use Rattle.pcap_file.specs.PcapReading.{pcap_at}
 use Rattle.pcap_file.specs.PcapReading.{record_at}
-use Rattle.pcap_file.proofs.Content.{if_content_weaker}
-use Rattle.pcap_file.proofs.Parsing.{fails_field, fails_first, fails_pure, fails_then, gives_field}
-use Rattle.pcap_file.proofs.Parsing.{gives_pure, gives_then, then_reads}
+use Rattle.st_format.proofs.Origins.{if_content_weaker}
+use Rattle.st_format.proofs.Parsing.{fails_field, fails_first, fails_pure, fails_then, gives_field}
+use Rattle.st_format.proofs.Parsing.{gives_pure, gives_then, then_reads}
 
 -- ---- the head of a file
 
@@ -27,7 +28,7 @@ head_rest front rest = with_rest (pcap_head_of front) rest
 pub pcap_cut : (old : Option (List ℕ)) (f : RecordingFault) → Fails (field_at 24) old f
     → Fails pcap_at old f
 unfolding pcap_at
-pcap_cut old f fails = fails_first (field_at 24) head_rest old f fails
+pcap_cut old f fails = fails_first recording_fault_origin (field_at 24) head_rest old f fails
 
 pub pcap_gives : (old new : Option (List ℕ)) (front : List ℕ) (r : Result PcapHead RecordingFault)
     → Takes (field_at 24) old new front → r ≡ pcap_head_of front
@@ -44,8 +45,8 @@ pub pcap_fails : (old new : Option (List ℕ)) (front : List ℕ) (r : Result Pc
 unfolding pcap_at
 pcap_fails old new front (Ok h) takes e = tt
 pcap_fails old new front (Err f) takes e =
-    fails_then (field_at 24) head_rest old new front f takes
-    (fails_pure (pcap_head_of front) new f (sym e))
+    fails_then recording_fault_origin (field_at 24) head_rest old new front f takes
+    (fails_pure recording_fault_origin (pcap_head_of front) new f (sym e))
 
 -- ---- the head of a record
 
@@ -77,7 +78,8 @@ head_gives file (Some o) None given sixteen p = absurd p
 head_gives file (Some o) (Some rest) given sixteen p =
     head_some file o (omega (arith, ap (λ (x : List ℕ). length x) p, length-append given rest))
     ∙ gives_then (field_at 16) (head_by file) (Some o) (Some rest) (Some rest) given
-    (Some (record_head_of file given)) (gives_field 16 (Some o) (Some rest) given sixteen p) refl
+    (Some (record_head_of file given))
+    (gives_field Truncated 16 (Some o) (Some rest) given sixteen p) refl
 
 pub head_cut : (file : PcapHead) (old new : Option (List ℕ)) (given : List ℕ) → 0 < length given
     → length given < 16 → Consumes old new given → IsAtEnd new
@@ -86,8 +88,8 @@ head_cut file None new given some short p e = tt
 head_cut file (Some o) None given some short p e = absurd p
 head_cut file (Some o) (Some rest) given some short p e =
     head_some file o (omega (arith, ap (λ (x : List ℕ). length x) p, length-append given rest))
-    ∙ fails_first (field_at 16) (head_by file) (Some o) Truncated
-    (fails_field 16 (Some o) (Some rest) given short p e)
+    ∙ fails_first recording_fault_origin (field_at 16) (head_by file) (Some o) Truncated
+    (fails_field recording_fault_origin Truncated 16 (Some o) (Some rest) given short p e)
 
 -- ---- the octets of a packet
 
@@ -112,7 +114,7 @@ rest_fails : (room n : ℕ) (p : PacketHead) (old : Option (List ℕ)) (f : Reco
     → Fails (octets_at room p) old f
 rest_fails room n p None f fits is fails = tt
 rest_fails room n p (Some o) f fits is fails =
-    if_content_weaker f (field_at n o ≡ Err f) (octets_at room p o ≡ Err f)
+    if_content_weaker recording_fault_origin f (field_at n o ≡ Err f) (octets_at room p o ≡ Err f)
     (λ e. octets_fit room p o fits ∙ ap (λ (k : ℕ). field_at k o) (sym is) ∙ e) fails
 
 pub rest_gives_if : (room n : ℕ) (p : PacketHead) (old new : Option (List ℕ)) (xs ys : List ℕ)
@@ -158,7 +160,8 @@ given_so p xs (Some o) = refl
 pub record_cut : (room : ℕ) (file : PcapHead) (old : Option (List ℕ)) (f : RecordingFault)
     → Fails (head_at file) old f → Fails (record_at room file) old f
 unfolding record_at
-record_cut room file old f fails = fails_first (head_at file) (packet_behind room) old f fails
+record_cut room file old f fails =
+    fails_first recording_fault_origin (head_at file) (packet_behind room) old f fails
 
 pub record_end : (room : ℕ) (file : PcapHead) (old new : Option (List ℕ))
     → Takes (head_at file) old new None → Takes (record_at room file) old new None
@@ -181,5 +184,5 @@ pub record_fails : (room : ℕ) (file : PcapHead) (p : PacketHead) (old mid : Op
     → Fails (octets_at room p) mid f → Fails (record_at room file) old f
 unfolding record_at
 record_fails room file p old mid f head fails =
-    fails_then (head_at file) (packet_behind room) old mid (Some p) f head
-    (fails_first (octets_at room p) (behind_octets p) mid f fails)
+    fails_then recording_fault_origin (head_at file) (packet_behind room) old mid (Some p) f head
+    (fails_first recording_fault_origin (octets_at room p) (behind_octets p) mid f fails)

@@ -14,6 +14,7 @@ use Rattle.pcap_file.specs.declared.pcap.PacketHead.{PacketHead}
 use Rattle.pcap_file.specs.declared.pcap.PcapHead.{PcapHead}
 use Rattle.pcap_file.specs.Orders.{long_at}
 use Rattle.pcap_file.specs.Fields.{field_at}
+use Rattle.st_format.specs.Given.{field_by}
 use Rattle.pcap_file.specs.Pcap.{IsRecordHead, record_head_of, unit_of}
 use Rattle.pcap_file.specs.PcapReading.{IsRecord, Recorded, head_at, head_by, octets_at}
 use Rattle.pcap_file.specs.PcapReading.{packet_behind, record_at}
@@ -43,7 +44,7 @@ heads x = Ok x
 
 pub field_whole : (n : ℕ) (xs rest : List ℕ) → length xs ≡ n → field_at n (xs ++ rest) ≡ field
     (xs, rest)
-unfolding field_at
+unfolding field_by
 field_whole n xs rest count =
     let o : List ℕ = xs ++ rest in
     ap (λ (b : Bool). cond b cut (field (take n o, drop n o)))
@@ -75,7 +76,7 @@ cuts_at n o xs rest false e h =
     }
 
 pub cuts : (n : ℕ) (o xs rest : List ℕ) → field_at n o ≡ field (xs, rest) → Cuts n o xs rest
-unfolding field_at
+unfolding field_by
 cuts n o xs rest h = cuts_at n o xs rest (ltb (length o) n) refl h
 
 -- ---- the head of a record

@@ -9,8 +9,8 @@ use Rattle.pcap_file.specs.declared.pcap.PcapHead.{PcapHead}
 use Rattle.pcap_file.specs.declared.recording.Layout.{Layout}
 use Rattle.pcap_file.specs.declared.section.Step.{Step}
 use Rattle.pcap_file.specs.declared.section.Step.TheVariants.{End, Passed, Packet}
-use Rattle.pcap_file.specs.Fields.{Fails, GaveFault, GaveValue, GaveWhole, IfContent}
-use Rattle.pcap_file.specs.Fields.{Takes}
+use Rattle.pcap_file.specs.Fields.{Fails, GaveFault, IfContent, recording_fault_origin}
+use Rattle.st_format.specs.Given.{GaveValue, GaveWhole, Takes}
 use Rattle.pcap_file.specs.NgSteps.{GaveStep, Known, Stepped, recorded_at, step_at, step_seen}
 use Rattle.pcap_file.specs.PcapReading.{Recorded, record_at, recorded_in}
 use Rattle.pcap_file.specs.Runs.{HasFailed, HasRead, HasReadAll, InBlocks, InPcap, Laid, ReadsEnd}
@@ -20,9 +20,10 @@ use Rattle.pcap_file.specs.Runs.{fault_in, in_blocks, in_pcap, laid_step, layout
 use Rattle.pcap_file.specs.Runs.{most_blocks}
 use Rattle.pcap_file.specs.Runs.{opened_at, packets_behind, packets_in, run_at, run_behind, run_by}
 use Rattle.pcap_file.specs.Runs.{step_of, stopped_by}
-use Rattle.pcap_file.proofs.Content.{if_content_weaker}
 use Rattle.pcap_file.proofs.FieldReads.{mapped_fails, mapped_gives}
-use Rattle.pcap_file.proofs.Gave.{fault_one, gave_one, grew_twice, whole_one}
+use Rattle.pcap_file.proofs.Gave.{whole_one}
+use Rattle.st_format.proofs.Gave.{fault_one, gave_one, grew_twice}
+use Rattle.st_format.proofs.Origins.{if_content_weaker}
 
 abbrev pub Laying : Type 0
 Laying = Result (Laid × List ℕ) RecordingFault
@@ -61,7 +62,7 @@ has_not_opened room a b ended f g = record {
   grown = g.grown;
   begins = λ behind. (packets_in room (g.part ++ behind), refl);
   says = λ behind all.
-      if_content_weaker f (opened_at (g.part ++ behind) ≡ Err f)
+      if_content_weaker recording_fault_origin f (opened_at (g.part ++ behind) ≡ Err f)
       ((packets_in room (g.part ++ behind) ≡ []) × (fault_in room (g.part ++ behind) ≡ Some f))
       (λ e. (
         ap (λ (r : Laying). (run_behind room r).packets) e,
@@ -141,7 +142,7 @@ module _ (room : ℕ) (before a : List ℕ) (seen : Seen) (packets : List Record
     grown = grew_twice before a b h.part xs h.grown grown;
     begins = λ behind. (packets_behind room seen (xs ++ behind), packets_more xs behind);
     says = λ behind all.
-        if_content_weaker f
+        if_content_weaker recording_fault_origin f
         (run_at seen.left room seen.laid (xs ++ behind) ≡ stopped_by (Some f))
         ((packets_in room ((h.part ++ xs) ++ behind) ≡ packets)
         × (fault_in room ((h.part ++ xs) ++ behind) ≡ Some f))
@@ -199,7 +200,7 @@ pub reads_fault : (m n room : ℕ) (laid : Laid) (a b : List ℕ) (ended : Type 
 reads_fault m n room laid a b ended f is g = λ before packets h.
     failed room before a (seen_as laid m) packets h b g.part ended f g.grown
     (λ behind all.
-    if_content_weaker f (laid_step room laid (g.part ++ behind) ≡ no_step f)
+    if_content_weaker recording_fault_origin f (laid_step room laid (g.part ++ behind) ≡ no_step f)
     (run_at m room laid (g.part ++ behind) ≡ stopped_by (Some f))
     (λ e. ap (λ (k : ℕ). run_at k room laid (g.part ++ behind)) is
     ∙ run_fails n room laid (g.part ++ behind) f e) (g.says behind all))
@@ -272,7 +273,8 @@ module _ (room : ℕ) (file : PcapHead) where
       → ReadsFault room a b ended (in_pcap file m) f
   pcap_fault m n a b ended f is g =
       reads_fault m n room (InPcap file) a b ended f is
-      (fault_one (record_at room file) (laid_step room (InPcap file)) a b ended f
+      (fault_one recording_fault_origin (record_at room file) (laid_step room (InPcap file)) a b
+      ended f
       (pcap_fails f) g)
 
 -- ---- blocks
@@ -317,4 +319,5 @@ module _ (room : ℕ) (k : Known) where
   block_faults m n a b ended (Ok s) is g = tt
   block_faults m n a b ended (Err f) is g =
       reads_fault m n room (InBlocks k) a b ended f is
-      (fault_one (step_at room k) (laid_step room (InBlocks k)) a b ended f (block_fails f) g)
+      (fault_one recording_fault_origin (step_at room k) (laid_step room (InBlocks k)) a b ended f
+      (block_fails f) g)

@@ -17,7 +17,7 @@ use Rattle.pcap_file.specs.declared.order.ByteOrder.TheVariants.{Big, Little}
 use Rattle.pcap_file.specs.Orders.{long_at, short_at}
 use Rattle.pcap_file.specs.Blocks.{IsSection, IsSectionBlock, IsTotal, order_number}
 use Rattle.pcap_file.specs.BlockReading.{order_of, section_of}
-use Rattle.pcap_file.specs.Fields.{with_rest}
+use Rattle.st_format.specs.Given.{with_rest}
 use Rattle.pcap_file.specs.NgReading.{order_at, order_or, passed_at, section_at, section_by}
 use Rattle.pcap_file.specs.NgReading.{section_count, section_rest_at, version_at, front_at}
 use Rattle.pcap_file.specs.NgSteps.{Known, fresh, other_step, section_step, section_type}

@@ -15,12 +15,12 @@ use Rattle.pcap_file.specs.declared.fault.RecordingFault.TheVariants.{TooManyBlo
 use Rattle.pcap_file.specs.declared.order.ByteOrder.{ByteOrder}
 use Rattle.pcap_file.specs.declared.section.Step.{Step}
 use Rattle.pcap_file.specs.declared.section.Step.TheVariants.{End, Passed, Packet}
-use Rattle.pcap_file.specs.Fields.{CountsDevice, CountsFault, Fails, GaveValue, IsContent, Takes}
+use Rattle.pcap_file.specs.Fields.{CountsDevice, CountsFault, Fails, IsContent}
+use Rattle.pcap_file.specs.Fields.{recording_fault_origin}
+use Rattle.st_format.specs.Given.{GaveValue, Takes, with_rest}
 use Rattle.pcap_file.specs.Fields.{field_at}
-use Rattle.pcap_file.specs.Fields.{with_rest}
 use Rattle.pcap_file.specs.Orders.{long_at}
 use Rattle.pcap_file.specs.Pcap.{foreign_of}
-use Rattle.pcap_file.proofs.Content.{if_content}
 use Rattle.pcap_file.specs.NgReading.{block_at, front_at, section_at}
 use Rattle.pcap_file.specs.declared.order.ByteOrder.TheVariants.{Big}
 use Rattle.pcap_file.specs.NgSteps.{GaveStep, GoesOn}
@@ -30,8 +30,9 @@ use Rattle.pcap_file.specs.NgSteps.{other_step}
 use Rattle.pcap_file.specs.NgSteps.{section_step, section_type, step_at, step_by}
 use Rattle.pcap_file.specs.NgSteps.{step_seen}
 use Rattle.pcap_file.proofs.FieldReads.{mapped, mapped_fails, mapped_gives}
-use Rattle.pcap_file.proofs.Parsing.{fails_first, fails_pure, fails_then, gives_pure, gives_then}
-use Rattle.pcap_file.proofs.Parsing.{then_reads}
+use Rattle.st_format.proofs.Origins.{if_content}
+use Rattle.st_format.proofs.Parsing.{fails_first, fails_pure, fails_then, gives_pure, gives_then}
+use Rattle.st_format.proofs.Parsing.{then_reads}
 
 -- a fault that is the recording's is no failure of the device
 pub counts_content : (f : RecordingFault) (old new : ℕ) → IsContent f → new ≡ old
@@ -101,7 +102,8 @@ module _ (room : ℕ) (k : Known) (front : List ℕ) where
   pub other_cut : (old : Option (List ℕ)) (f : RecordingFault)
       → Fails (block_at k.order room front) old f → Fails (other_step room k front) old f
   unfolding other_step
-  other_cut old f p = fails_first (block_at k.order room front) entering old f p
+  other_cut old f p =
+      fails_first recording_fault_origin (block_at k.order room front) entering old f p
 
   pub other_none : (old new : Option (List ℕ)) → Takes (block_at k.order room front) old new None
       → Takes (other_step room k front) old new (k, Some None)
@@ -135,8 +137,9 @@ module _ (room : ℕ) (k : Known) (front : List ℕ) where
   unfolding other_step
   other_fails old new type body (Ok s) e p is = tt
   other_fails old new type body (Err f) e p is =
-      fails_then (block_at k.order room front) entering old new (Some body) f p
-      (fails_pure (enter_of k type_of body) new f
+      fails_then recording_fault_origin (block_at k.order room front) entering old new (Some body) f
+      p
+      (fails_pure recording_fault_origin (enter_of k type_of body) new f
       (ap (λ (n : ℕ). enter_of k n body) (sym e) ∙ is))
 
 pub within_front : (q : Result Step RecordingFault) (count : ℕ) (buf : List ℕ)
@@ -153,7 +156,7 @@ module _ (room : ℕ) (k : Known) where
   pub step_cut : (old : Option (List ℕ)) (f : RecordingFault) → Fails front_at old f
       → Fails (step_at room k) old f
   unfolding step_at
-  step_cut old f p = fails_first front_at (step_by room k) old f p
+  step_cut old f p = fails_first recording_fault_origin front_at (step_by room k) old f p
 
   ends_so : (new : Option (List ℕ)) → Takes (step_by room k None) new new (k, None)
   ends_so None = tt
@@ -199,7 +202,7 @@ module _ (room : ℕ) (k : Known) where
   unfolding step_at
   step_section_fails front old mid (Ok s) e p is = tt
   step_section_fails front old mid (Err f) e p is =
-      fails_then front_at (step_by room k) old mid (Some front) f p
+      fails_then recording_fault_origin front_at (step_by room k) old mid (Some front) f p
       (subst (λ (b : Bool). Fails (either front b) mid f)
       (sym (eq-eqb (long_at k.order 0 front) section_type e)) is)
 
@@ -210,7 +213,7 @@ module _ (room : ℕ) (k : Known) where
   unfolding step_at
   step_other_fails front old mid (Ok s) e p is = tt
   step_other_fails front old mid (Err f) e p is =
-      fails_then front_at (step_by room k) old mid (Some front) f p
+      fails_then recording_fault_origin front_at (step_by room k) old mid (Some front) f p
       (subst (λ (b : Bool). Fails (either front b) mid f)
       (sym (ne_eqb (long_at k.order 0 front) section_type e)) is)
 
@@ -228,7 +231,7 @@ chosen front b o = cond (not b) (no_first (foreign_of front)) (begins front o)
 pub first_cut : (old : Option (List ℕ)) (f : RecordingFault) → Fails (field_at 8) old f
     → Fails first_at old f
 unfolding first_at
-first_cut old f p = fails_first (field_at 8) first_by old f p
+first_cut old f p = fails_first recording_fault_origin (field_at 8) first_by old f p
 
 -- the fault of octets that begin no recording, by whether gzip has packed them
 abbrev pub by_packed : Bool → RecordingFault
@@ -238,14 +241,14 @@ bad_at : (front : List ℕ) (known : Option (List ℕ)) (f : RecordingFault) →
     → Fails (chosen front false) known f
 bad_at front None f e = tt
 bad_at front (Some o) f e =
-    if_content f (no_first (foreign_of front) ≡ no_first f) (ap no_first e)
+    if_content recording_fault_origin f (no_first (foreign_of front) ≡ no_first f) (ap no_first e)
 
 pub first_other : (old mid : Option (List ℕ)) (front : List ℕ) (f : RecordingFault)
     → foreign_of front ≡ f → (long_at Big 0 front ≡ section_type → ⊥)
     → Takes (field_at 8) old mid front → Fails first_at old f
 unfolding first_at
 first_other old mid front f is e p =
-    fails_then (field_at 8) first_by old mid front f p
+    fails_then recording_fault_origin (field_at 8) first_by old mid front f p
     (subst (λ (b : Bool). Fails (chosen front b) mid f)
     (sym (ne_eqb (long_at Big 0 front) section_type e)) (bad_at front mid f is))
 
@@ -254,7 +257,7 @@ pub first_fails : (old mid : Option (List ℕ)) (front : List ℕ) (f : Recordin
     → Fails (section_at front) mid f → Fails first_at old f
 unfolding first_at
 first_fails old mid front f e p q =
-    fails_then (field_at 8) first_by old mid front f p
+    fails_then recording_fault_origin (field_at 8) first_by old mid front f p
     (subst (λ (b : Bool). Fails (chosen front b) mid f)
     (sym (eq-eqb (long_at Big 0 front) section_type e))
     (mapped_fails (λ (order : ByteOrder). fresh order) (section_at front) mid f q))

@@ -12,7 +12,8 @@ use Rattle.pcap_file.specs.declared.fault.RecordingFault.{RecordingFault}
 use Rattle.pcap_file.specs.declared.pcap.PacketHead.{PacketHead}
 use Rattle.pcap_file.specs.declared.pcap.PcapHead.{PcapHead}
 use Rattle.pcap_file.specs.Orders.{long_at, short_at}
-use Rattle.pcap_file.specs.Fields.{field_at, with_rest}
+use Rattle.pcap_file.specs.Fields.{field_at}
+use Rattle.st_format.specs.Given.{with_rest}
 use Rattle.pcap_file.specs.Pcap.{IsPcapHead, magic_number, magic_of, pcap_head_by, pcap_head_of}
 use Rattle.pcap_file.specs.Pcap.{record_head_of}
 use Rattle.pcap_file.specs.PcapReading.{AreRecords, GivesPcap, GivesRecords, HaveRoom, IsPcap}

@@ -9,7 +9,8 @@ use Rattle.pcap_file.specs.declared.fault.RecordingFault.TheVariants.{PacketTooL
 use Rattle.pcap_file.specs.declared.order.ByteOrder.{ByteOrder}
 use Rattle.pcap_file.specs.Orders.{long_at}
 use Rattle.pcap_file.specs.BlockReading.{body_of_total, order_of, section_of}
-use Rattle.pcap_file.specs.Fields.{field_at, with_rest}
+use Rattle.pcap_file.specs.Fields.{field_at}
+use Rattle.st_format.specs.Given.{with_rest}
 
 -- so many octets that are passed over
 unfoldable pub skip_at : ℕ → List ℕ → Result (Unit {0} × List ℕ) RecordingFault

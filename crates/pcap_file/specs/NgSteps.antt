@@ -13,7 +13,8 @@ use Rattle.pcap_file.specs.declared.section.Step.{Step}
 use Rattle.pcap_file.specs.declared.section.Step.TheVariants.{End, Passed, Packet}
 use Rattle.pcap_file.specs.Orders.{long_at}
 use Rattle.pcap_file.specs.BlockReading.{enhanced_of, interface_of, obsolete_of, simple_of}
-use Rattle.pcap_file.specs.Fields.{GaveValue, GaveWhole, field_at, with_rest}
+use Rattle.pcap_file.specs.Fields.{field_at}
+use Rattle.st_format.specs.Given.{GaveValue, GaveWhole, with_rest}
 use Rattle.pcap_file.specs.NgReading.{block_at, front_at, is_read, section_at}
 use Rattle.pcap_file.specs.Pcap.{foreign_of}
 use Rattle.pcap_file.specs.PcapReading.{Recorded}

@@ -7,7 +7,8 @@ use Rattle.pcap_file.specs.declared.fault.RecordingFault.{RecordingFault}
 use Rattle.pcap_file.specs.declared.fault.RecordingFault.TheVariants.{PacketTooLong}
 use Rattle.pcap_file.specs.declared.pcap.PacketHead.{PacketHead}
 use Rattle.pcap_file.specs.declared.pcap.PcapHead.{PcapHead}
-use Rattle.pcap_file.specs.Fields.{field_at, with_rest}
+use Rattle.pcap_file.specs.Fields.{field_at}
+use Rattle.st_format.specs.Given.{with_rest}
 use Rattle.pcap_file.specs.Pcap.{IsPcapHead, IsRecordHead, pcap_head_of, record_head_of}
 
 -- ---- what a recording is

@@ -1,7 +1,7 @@
 //! Reading the parts of blocks from a source, step by step.
 ghost use Rattle.std.specs.Prelude.{◌≡◌, ◌≤◌, ◌<◌, length, take, IfErr, IfOk, IfSome, OnOk};
-ghost use Rattle.pcap_file.specs.Fields.{CountsDevice, Fails, GaveFault, GaveNext, GaveValue};
-ghost use Rattle.pcap_file.specs.Fields.{Takes};
+ghost use Rattle.pcap_file.specs.Fields.{CountsDevice, Fails, GaveFault};
+ghost use Rattle.st_format.specs.Given.{GaveNext, GaveValue, Takes};
 ghost use Rattle.pcap_file.specs.NgReading.{again_of, body_at, kept_at, order_at, order_or};
 ghost use Rattle.pcap_file.specs.NgReading.{passed_at, section_rest_at, skip_at, trailer_at};
 ghost use Rattle.pcap_file.specs.NgReading.{block_at, block_by, body_in, front_at, front_in};

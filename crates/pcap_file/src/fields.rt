@@ -1,7 +1,8 @@
 //! So many octets of a source. This is all that the readers know of devices.
 ghost use Rattle.std.specs.Prelude.{◌≡◌, ◌≤◌, ◌<◌, length, take, IfErr, IfOk, OnOk};
 ghost use Rattle.st_format.specs.Device.{TellsOctets};
-ghost use Rattle.pcap_file.specs.Fields.{CountsDevice, Fails, GaveFault, GaveValue, Takes};
+ghost use Rattle.pcap_file.specs.Fields.{CountsDevice, Fails, GaveFault};
+ghost use Rattle.st_format.specs.Given.{GaveValue, Takes};
 ghost use Rattle.pcap_file.specs.Fields.{field_at};
 
 use crate::fault::RecordingFault;

@@ -1,8 +1,8 @@
 //! Reading a recording of the classic layout, step by step. A step takes the source and a buffer,
 //! and no memory.
 ghost use Rattle.std.specs.Prelude.{◌≡◌, ◌≤◌, ◌<◌, length, take, IfErr, IfOk, IfSome, OnOk};
-ghost use Rattle.pcap_file.specs.Fields.{CountsDevice, Fails, GaveFault, GaveNext, GaveValue};
-ghost use Rattle.pcap_file.specs.Fields.{Takes};
+ghost use Rattle.pcap_file.specs.Fields.{CountsDevice, Fails, GaveFault};
+ghost use Rattle.st_format.specs.Given.{GaveNext, GaveValue, Takes};
 ghost use Rattle.pcap_file.specs.PcapReading.{head_at, octets_at, option_recorded, pcap_at};
 ghost use Rattle.pcap_file.specs.PcapReading.{record_at};
 

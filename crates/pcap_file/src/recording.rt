@@ -1,7 +1,8 @@
 //! Reading a recording of either layout, packet by packet. Its first octets say which it is; none
 //! is read twice.
 ghost use Rattle.std.specs.Prelude.{◌≡◌, ◌≤◌, ◌<◌, ◌+◌, ◌-◌, [], length, IfErr, IfOk, IfSome, OnOk};
-ghost use Rattle.pcap_file.specs.Fields.{CountsDevice, GaveFault, GaveValue};
+ghost use Rattle.pcap_file.specs.Fields.{CountsDevice, GaveFault};
+ghost use Rattle.st_format.specs.Given.{GaveValue};
 ghost use Rattle.pcap_file.specs.NgSteps.{IsWithin, known};
 ghost use Rattle.pcap_file.specs.Openings.{behind_at, blocks_laid, laid_behind, pcap_laid};
 ghost use Rattle.pcap_file.specs.Pcap.{foreign_of};

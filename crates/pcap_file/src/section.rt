@@ -2,9 +2,10 @@
 //! memory.
 ghost use Rattle.std.specs.Prelude.{◌≡◌, ◌≤◌, ◌<◌, ◌+◌, length, take, IfErr, IfOk, IfSome, OnOk};
 ghost use Rattle.std.specs.Prelude.{Ok, Err};
-ghost use Rattle.pcap_file.specs.Fields.{CountsDevice, Fails, GaveFault, GaveValue, IsContent};
-ghost use Rattle.pcap_file.specs.Fields.{Takes};
-ghost use Rattle.pcap_file.specs.NgSteps.{GaveStep, GoesOn, IsWithin, describe_of, enter_of, first_at};
+ghost use Rattle.pcap_file.specs.Fields.{CountsDevice, Fails, GaveFault, IsContent};
+ghost use Rattle.st_format.specs.Given.{GaveValue, Takes};
+ghost use Rattle.pcap_file.specs.NgSteps.{GaveStep, GoesOn, IsWithin, describe_of, enter_of};
+ghost use Rattle.pcap_file.specs.NgSteps.{first_at};
 ghost use Rattle.pcap_file.specs.NgSteps.{fresh, packet_step};
 ghost use Rattle.pcap_file.specs.NgSteps.{known, other_step};
 ghost use Rattle.pcap_file.specs.NgSteps.{section_step};

@@ -3,7 +3,6 @@ use Rattle.std.proofs.Common.{◌≡◌, ℕ, Bool, true, false, List, [], ◌�
 use Rattle.std.proofs.Common.{append_assoc, subst, ◌∙◌, ap, take, Ok, Err, Result, OnErr}
 use Rattle.std.specs.Borrow.{GName}
 use Rattle.media_file.specs.Fronts.{front_text}
-use Rattle.media_file.proofs.Givings.{grew_twice}
 use Rattle.media_file.specs.Records.{record_text, records_text}
 use Rattle.media_file.specs.Writer.{entries_from, entry, moment_behind}
 use Rattle.media_file.specs.declared.front.Version.TheVariants.{Two}
@@ -18,6 +17,7 @@ use Rattle.st_format.specs.Puts.{TakesEach}
 use Rattle.st_format.specs.declared.path.Path.TheVariants.{A}
 use Rattle.receiver_engines.specs.Late.{FailsLate, Late, TakesLate, late_octets, late_text}
 use Rattle.receiver_engines.specs.Processing.{WritesJob}
+use Rattle.st_format.proofs.Gave.{grew_twice}
 
 pub on_err : {V E : Type 0} {P : Type 0} (r : Result V E) → P → OnErr r P
 on_err (Ok v) p = tt

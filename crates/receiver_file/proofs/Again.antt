@@ -22,9 +22,10 @@ use Rattle.media_file.specs.declared.fault.FileFault.TheVariants.{TooManyRecords
 use Rattle.media_file.specs.declared.front.Version.TheVariants.{One}
 use Rattle.media_file.specs.Blocks.{block_at}
 use Rattle.media_file.specs.Faults.{IfContent, IsMachine}
-use Rattle.media_file.specs.Fields.{Fails, Takes, Leaves, nothing_at}
+use Rattle.media_file.specs.Fields.{Fails, nothing_at}
+use Rattle.st_format.specs.Given.{Leaves, Takes, with_rest}
 use Rattle.st_format.specs.Reading.{◌>>=◌}
-use Rattle.media_file.specs.Fronts.{kind_at, kind_of, kind_text, receiver_name, with_rest}
+use Rattle.media_file.specs.Fronts.{kind_at, kind_of, kind_text, receiver_name}
 use Rattle.media_file.specs.Groups.{Shape, groups_at, groups_text, shape_of}
 use Rattle.media_file.specs.PictureFaults.{IsFormat}
 use Rattle.media_file.specs.StateFile.{Held, IsHeld, Kept, SsrcFits, format_text, raster_groups}

@@ -7,7 +7,8 @@ use Rattle.std.proofs.lemmas.Result.{IfOk-weaker}
 use Rattle.path_merge.specs.Frames.{State}
 use Rattle.media_file.specs.declared.fault.FileFault.{FileFault}
 use Rattle.media_file.specs.Blocks.{block_at}
-use Rattle.media_file.specs.Fields.{Takes, nothing_at}
+use Rattle.media_file.specs.Fields.{nothing_at}
+use Rattle.st_format.specs.Given.{Takes}
 use Rattle.st_format.specs.Reading.{◌>>=◌}
 use Rattle.media_file.specs.StateFile.{Kept}
 use Rattle.receiver_file.specs.Front.{head_at, name_at}

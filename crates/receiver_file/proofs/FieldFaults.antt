@@ -13,7 +13,7 @@ use Rattle.media_file.specs.declared.fault.FileFault.TheVariants.{BadField, Trun
 use Rattle.media_file.specs.Blocks.{block_at, block_of}
 use Rattle.media_file.specs.Fields.{field_at}
 use Rattle.st_format.specs.Reading.{◌>>=◌}
-use Rattle.media_file.specs.Fronts.{with_rest}
+use Rattle.st_format.specs.Given.{with_rest, field_by}
 use Rattle.media_file.specs.StateFile.{SsrcFits}
 use Rattle.media_file.proofs.BlockFaults.{block_again, block_fails}
 use Rattle.media_file.proofs.Entries.{chosen}
@@ -82,7 +82,7 @@ octet_fails octets e h =
     ]
 
 octet_none : octet_at [] ≡ Err Truncated
-unfolding octet_at field_at
+unfolding octet_at field_by
 octet_none = refl
 
 octet_gone : (octets : List ℕ) → octets ≡ [] → octet_at octets ≡ Err Truncated

@@ -17,9 +17,10 @@ use Rattle.media_file.specs.declared.fault.FileFault.TheVariants.{TrailingBytes}
 use Rattle.media_file.specs.declared.front.Version.{Version}
 use Rattle.media_file.specs.declared.front.Version.TheVariants.{One, Two}
 use Rattle.media_file.specs.Blocks.{block_at}
-use Rattle.media_file.specs.Fields.{Takes, Leaves, field_at, nothing_at}
+use Rattle.media_file.specs.Fields.{field_at, nothing_at}
+use Rattle.st_format.specs.Given.{Leaves, Takes, with_rest}
 use Rattle.st_format.specs.Reading.{◌>>=◌}
-use Rattle.media_file.specs.Fronts.{kind_at, kind_text, receiver_name, with_rest}
+use Rattle.media_file.specs.Fronts.{kind_at, kind_text, receiver_name}
 use Rattle.media_file.specs.Groups.{Shape, groups_at, groups_text, shape_of}
 use Rattle.media_file.specs.StateFile.{Held, Kept, format_text, raster_groups, held_text}
 use Rattle.media_file.specs.StateFile.{opening_text, ssrc_text, state_text}

@@ -15,7 +15,7 @@ use Rattle.media_file.specs.declared.fault.FileFault.{FileFault}
 use Rattle.media_file.specs.declared.fault.FileFault.TheVariants.{BadField, Truncated}
 use Rattle.media_file.specs.Fields.{field_at}
 use Rattle.st_format.specs.Reading.{◌>>=◌}
-use Rattle.media_file.specs.Fronts.{with_rest}
+use Rattle.st_format.specs.Given.{with_rest}
 use Rattle.media_file.specs.Groups.{IsGroup, Shape, group_at, groups_at, groups_text}
 use Rattle.media_file.specs.StateFile.{Held, IsHeld, raster_groups, held_text}
 use Rattle.media_file.proofs.Entries.{chosen}

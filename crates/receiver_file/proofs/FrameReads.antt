@@ -4,7 +4,8 @@ use Rattle.std.proofs.Common.{sym, subst, arith}
 use Rattle.st_format.specs.Fields.{Fields}
 use Rattle.st_format.specs.Raster.{Raster}
 use Rattle.media_file.specs.declared.fault.FileFault.{FileFault}
-use Rattle.media_file.specs.Fields.{Fails, Takes}
+use Rattle.media_file.specs.Fields.{Fails}
+use Rattle.st_format.specs.Given.{Takes}
 use Rattle.media_file.specs.Groups.{groups_at, shape_of}
 use Rattle.media_file.specs.StateFile.{Held, raster_groups, held_of}
 use Rattle.receiver_file.specs.Saved.{cell_groups, kept_frames, timestamp_in}

@@ -5,15 +5,16 @@ use Rattle.std.proofs.Common.{arith}
 use Rattle.st_format.specs.declared.cell.Cell.{Cell}
 use Rattle.st_format.specs.Fields.{Fields}
 use Rattle.media_file.specs.declared.fault.FileFault.{FileFault}
-use Rattle.media_file.specs.Fields.{Fails, Takes}
+use Rattle.media_file.specs.Fields.{Fails}
+use Rattle.st_format.specs.Given.{Takes, with_rest}
 use Rattle.st_format.specs.Reading.{◌>>=◌}
-use Rattle.media_file.specs.Fronts.{with_rest}
 use Rattle.media_file.specs.Groups.{groups_at, shape_of}
 use Rattle.media_file.specs.StateFile.{Held, raster_groups}
-use Rattle.media_file.proofs.Content.{if_content_weaker}
-use Rattle.media_file.proofs.Parsing.{fails_first, fails_then, gives_pure, gives_then, then_reads}
 use Rattle.receiver_file.specs.Saved.{timestamp_in}
 use Rattle.receiver_file.specs.StateReading.{all_held_at, held_at, timestamp_at}
+use Rattle.st_format.proofs.Origins.{if_content_weaker}
+use Rattle.st_format.proofs.Parsing.{fails_first, fails_then, gives_pure, gives_then, then_reads}
+use Rattle.media_file.specs.Faults.{file_fault_origin}
 
 abbrev Many : Type 0
 Many = Result (List Held × List ℕ) FileFault
@@ -100,7 +101,7 @@ frames_fault : (f : Fields) (a : ℕ) (old mid : Option (List ℕ)) (hs : List H
 frames_fault f a None mid hs e p q = tt
 frames_fault f a (Some o) None hs e p q = absurd p
 frames_fault f a (Some o) (Some m) hs e p q =
-    if_content_weaker e (held_at f (map timestamp_in hs) m ≡ Err e)
+    if_content_weaker file_fault_origin e (held_at f (map timestamp_in hs) m ≡ Err e)
     (all_held_at f (a + 1) [] o ≡ Err e)
     (λ bad. all_held_add f a 1 [] o ∙ ap (after f 1 []) p
     ∙ ap (λ (r : Many). r >>= λ y. ok_many (hs ++ y.0) y.1)
@@ -111,7 +112,8 @@ frames_cut : (f : Fields) (a b : ℕ) (old : Option (List ℕ)) (e : FileFault)
     → Fails (all_held_at f a []) old e → Fails (all_held_at f (a + b) []) old e
 frames_cut f a b None e p = tt
 frames_cut f a b (Some o) e p =
-    if_content_weaker e (all_held_at f a [] o ≡ Err e) (all_held_at f (a + b) [] o ≡ Err e)
+    if_content_weaker file_fault_origin e (all_held_at f a [] o ≡ Err e)
+    (all_held_at f (a + b) [] o ≡ Err e)
     (λ bad. all_held_add f a b [] o ∙ ap (after f b []) bad) p
 
 -- a fault of a frame, before some that weren't read
@@ -146,7 +148,8 @@ held_gives f before old mid new t gs p q =
 pub held_cut : (f : Fields) (before : List ℕ) (old : Option (List ℕ)) (e : FileFault)
     → Fails (timestamp_at before) old e → Fails (held_at f before) old e
 unfolding held_at
-held_cut f before old e p = fails_first (timestamp_at before) (with_groups f) old e p
+held_cut f before old e p =
+    fails_first file_fault_origin (timestamp_at before) (with_groups f) old e p
 
 pub held_fails : (f : Fields) (before : List ℕ) (old mid : Option (List ℕ)) (t : ℕ) (e : FileFault)
     → Takes (timestamp_at before) old mid t
@@ -154,6 +157,6 @@ pub held_fails : (f : Fields) (before : List ℕ) (old mid : Option (List ℕ)) 
     → Fails (held_at f before) old e
 unfolding held_at
 held_fails f before old mid t e p q =
-    fails_then (timestamp_at before) (with_groups f) old mid t e p
-    (fails_first (groups_at (shape_of f.sampling f.depth) (raster_groups f))
+    fails_then file_fault_origin (timestamp_at before) (with_groups f) old mid t e p
+    (fails_first file_fault_origin (groups_at (shape_of f.sampling f.depth) (raster_groups f))
     (λ g rest. with_rest (Ok (made t g)) rest) mid e q)

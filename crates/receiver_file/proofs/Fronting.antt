@@ -7,15 +7,17 @@ use Rattle.media_file.specs.declared.fault.FileFault.{FileFault}
 use Rattle.media_file.specs.declared.fault.FileFault.TheVariants.{BadField, BadVersion}
 use Rattle.media_file.specs.declared.front.Version.{Version}
 use Rattle.media_file.specs.declared.front.Version.TheVariants.{One, Two}
-use Rattle.media_file.specs.Fields.{Fails, Takes}
+use Rattle.media_file.specs.Fields.{Fails}
+use Rattle.st_format.specs.Given.{Takes}
 use Rattle.media_file.specs.Fronts.{kind_at, receiver_name}
-use Rattle.media_file.proofs.Parsing.{fails_first, fails_then, gives_then, then_reads}
 use Rattle.receiver_file.specs.declared.front.Head.{Head}
 use Rattle.receiver_file.specs.Front.{count_at, window_count, flag_at, flag_of, head_at, name_at}
 use Rattle.receiver_file.specs.Front.{only_one, payload_type_at, payload_type_of, ssrc_at, ssrc_of}
 use Rattle.receiver_file.specs.Numbers.{number_at, octet_at}
 use Rattle.receiver_file.proofs.Valued.{call_fails, call_gives, value_cut, value_fails, value_gives}
 use Rattle.receiver_file.proofs.Valued.{valued}
+use Rattle.st_format.proofs.Parsing.{fails_first, fails_then, gives_then, then_reads}
+use Rattle.media_file.specs.Faults.{file_fault_origin}
 
 abbrev ok : ℕ → Result ℕ FileFault
 ok n = Ok n
@@ -109,13 +111,14 @@ behind_flag b octets = valued number_at (ssrc_of b) octets
 
 pub ssrc_cut : (old : Option (List ℕ)) (f : FileFault) → Fails flag_at old f → Fails ssrc_at old f
 unfolding ssrc_at
-ssrc_cut old f p = fails_first flag_at behind_flag old f p
+ssrc_cut old f p = fails_first file_fault_origin flag_at behind_flag old f p
 
 pub ssrc_short : (old mid : Option (List ℕ)) (b : Bool) (f : FileFault) → Takes flag_at old mid b
     → Fails number_at mid f → Fails ssrc_at old f
 unfolding ssrc_at
 ssrc_short old mid b f p q =
-    fails_then flag_at behind_flag old mid b f p (value_cut number_at (ssrc_of b) mid f q)
+    fails_then file_fault_origin flag_at behind_flag old mid b f p
+    (value_cut number_at (ssrc_of b) mid f q)
 
 pub ssrc_gives : (old mid new : Option (List ℕ)) (b : Bool) (n : ℕ)
     (r : Result (Option ℕ) FileFault) → Takes flag_at old mid b → Takes number_at mid new n
@@ -132,7 +135,7 @@ pub ssrc_fails : (old mid new : Option (List ℕ)) (b : Bool) (n : ℕ)
 unfolding ssrc_at
 ssrc_fails old mid new b n (Ok s) p q e = tt
 ssrc_fails old mid new b n (Err f) p q e =
-    fails_then flag_at behind_flag old mid b f p
+    fails_then file_fault_origin flag_at behind_flag old mid b f p
     (value_fails number_at (ssrc_of b) mid new n f q (sym e))
 
 -- ---- all of them
@@ -149,22 +152,22 @@ behind_type p octets = then_reads ssrc_at (behind_ssrc p) octets
 pub head_first : (old : Option (List ℕ)) (f : FileFault) → Fails payload_type_at old f
     → Fails head_at old f
 unfolding head_at
-head_first old f p = fails_first payload_type_at behind_type old f p
+head_first old f p = fails_first file_fault_origin payload_type_at behind_type old f p
 
 pub head_second : (old mid : Option (List ℕ)) (n : ℕ) (f : FileFault)
     → Takes payload_type_at old mid n → Fails ssrc_at mid f → Fails head_at old f
 unfolding head_at
 head_second old mid n f p q =
-    fails_then payload_type_at behind_type old mid n f p
-    (fails_first ssrc_at (behind_ssrc n) mid f q)
+    fails_then file_fault_origin payload_type_at behind_type old mid n f p
+    (fails_first file_fault_origin ssrc_at (behind_ssrc n) mid f q)
 
 pub head_third : (old mid next : Option (List ℕ)) (n : ℕ) (s : Option ℕ) (f : FileFault)
     → Takes payload_type_at old mid n → Takes ssrc_at mid next s → Fails count_at next f
     → Fails head_at old f
 unfolding head_at
 head_third old mid next n s f p q r =
-    fails_then payload_type_at behind_type old mid n f p
-    (fails_then ssrc_at (behind_ssrc n) mid next s f q
+    fails_then file_fault_origin payload_type_at behind_type old mid n f p
+    (fails_then file_fault_origin ssrc_at (behind_ssrc n) mid next s f q
     (value_cut count_at (head_made n s) next f r))
 
 pub head_gives : (old mid next new : Option (List ℕ)) (n : ℕ) (s : Option ℕ) (count : ℕ)

@@ -3,14 +3,16 @@ use Rattle.std.proofs.Common.{◌≡◌, ℕ, List, [], ◌++◌, Option, Some, 
 use Rattle.std.proofs.Common.{append-nil, arith, ap, refl, sym, subst, ◌∙◌}
 use Rattle.std.specs.Prelude.{IfErr, IfOk}
 use Rattle.media_file.specs.declared.fault.FileFault.{FileFault}
-use Rattle.media_file.specs.Fields.{Fails, GaveFault, GaveOctets, GaveValue, Takes, nothing_at}
-use Rattle.media_file.proofs.Gave.{fault_one, octets_append}
-use Rattle.media_file.proofs.Givings.{grew_twice}
+use Rattle.media_file.specs.Fields.{Fails, GaveFault, nothing_at}
+use Rattle.st_format.specs.Given.{GaveOctets, GaveValue, Takes}
+use Rattle.media_file.proofs.Gave.{octets_append}
 use Rattle.st_format.specs.Device.{AreOctets}
 use Rattle.st_format.specs.History.{GrewFrom, IsRead, since}
 use Rattle.st_format.proofs.Histories.{grew_by, since_is}
 use Rattle.receiver_file.specs.Giving.{GaveAllOf, GaveOf}
-use Rattle.media_file.proofs.Parsing.{fails_first, fails_then, gives_then, then_reads}
+use Rattle.st_format.proofs.Gave.{fault_one, grew_twice}
+use Rattle.st_format.proofs.Parsing.{fails_first, fails_then, gives_then, then_reads}
+use Rattle.media_file.specs.Faults.{file_fault_origin}
 
 abbrev Reading : Type 0 → Type 0
 Reading X = List ℕ → Result (X × List ℕ) FileFault
@@ -203,14 +205,15 @@ pub fault_first : {A X : Type 0} (first : Reading A) (then : A → Reading X) (a
     (ended : Type 0) (f : FileFault) → GaveFault first a b ended f
     → GaveFault (then_reads first then) a b ended f
 fault_first first then a b ended f g =
-    fault_one first (then_reads first then) a b ended f (λ was. fails_first first then was f) g
+    fault_one file_fault_origin first (then_reads first then) a b ended f
+    (λ was. fails_first file_fault_origin first then was f) g
 
 pub fault_then : {A X : Type 0} (first : Reading A) (then : A → Reading X) (v : A) (a b c : List ℕ)
     (ended : Type 0) (f : FileFault) → GaveOf first a b v → GaveFault (then v) b c ended f
     → GaveFault (then_reads first then) a c ended f
 fault_then first then v a b c ended f g h =
     fault_two first (then v) (then_reads first then) v a b c ended f
-    (λ was mid. fails_then first then was mid v f) g h
+    (λ was mid. fails_then file_fault_origin first then was mid v f) g h
 
 pub whole_then : {A X : Type 0} (first : Reading A) (then : A → Reading X) (v : A) (x : X)
     (a b c : List ℕ) (ended : Type 0) → GaveOf first a b v → GaveAllOf (then v) b c ended x

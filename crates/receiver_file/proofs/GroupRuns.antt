@@ -7,11 +7,13 @@ use Rattle.std.proofs.lemmas.Grind.{flat_map-append}
 use Rattle.st_format.specs.declared.cell.Cell.{Cell}
 use Rattle.st_format.specs.Device.{AppendsPrefix}
 use Rattle.media_file.specs.declared.fault.FileFault.{FileFault}
-use Rattle.media_file.specs.Fields.{Fails, Takes}
+use Rattle.media_file.specs.Fields.{Fails}
+use Rattle.st_format.specs.Given.{Takes}
 use Rattle.st_format.specs.Reading.{◌>>=◌}
 use Rattle.media_file.specs.Groups.{Shape, group_at, group_text, groups_at, groups_text}
-use Rattle.media_file.proofs.Content.{if_content_weaker}
 use Rattle.media_file.proofs.Written.{prefix_first, prefix_then}
+use Rattle.st_format.proofs.Origins.{if_content_weaker}
+use Rattle.media_file.specs.Faults.{file_fault_origin}
 
 abbrev Many : Type 0
 Many = Result (List (List Cell) × List ℕ) FileFault
@@ -72,7 +74,7 @@ groups_fault : (s : Shape) (a b : ℕ) (old mid : Option (List ℕ)) (gs : List 
 groups_fault s a b None mid gs f p q = tt
 groups_fault s a b (Some o) None gs f p q = absurd p
 groups_fault s a b (Some o) (Some m) gs f p q =
-    if_content_weaker f (groups_at s b m ≡ Err f) (groups_at s (a + b) o ≡ Err f)
+    if_content_weaker file_fault_origin f (groups_at s b m ≡ Err f) (groups_at s (a + b) o ≡ Err f)
     (λ e. groups_add s a b o ∙ ap (both s b) p
     ∙ ap (λ (r : Many). r >>= λ y. ok_many (gs ++ y.0) y.1) e) q
 
@@ -80,7 +82,7 @@ groups_cut : (s : Shape) (a b : ℕ) (old : Option (List ℕ)) (f : FileFault)
     → Fails (groups_at s a) old f → Fails (groups_at s (a + b)) old f
 groups_cut s a b None f p = tt
 groups_cut s a b (Some o) f p =
-    if_content_weaker f (groups_at s a o ≡ Err f) (groups_at s (a + b) o ≡ Err f)
+    if_content_weaker file_fault_origin f (groups_at s a o ≡ Err f) (groups_at s (a + b) o ≡ Err f)
     (λ e. groups_add s a b o ∙ ap (both s b) e) p
 
 -- a fault behind groups that were read, before some that weren't
@@ -110,7 +112,7 @@ pub groups_one_fault : (s : Shape) (old : Option (List ℕ)) (f : FileFault)
 unfolding groups_at
 groups_one_fault s None f p = tt
 groups_one_fault s (Some o) f p =
-    if_content_weaker f (group_at s o ≡ Err f) (groups_at s 1 o ≡ Err f)
+    if_content_weaker file_fault_origin f (group_at s o ≡ Err f) (groups_at s 1 o ≡ Err f)
     (λ e. ap
     (λ (r : Result (List Cell × List ℕ) FileFault). r >>= λ x. ok_many (x.0 ∷ []) x.1) e) p
 

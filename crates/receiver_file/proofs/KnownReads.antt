@@ -15,17 +15,18 @@ use Rattle.frame_assembly.specs.declared.state.GroupState.TheVariants.{Gone, Who
 use Rattle.pgroup_pack.specs.Groups.{blanked_samples}
 use Rattle.media_file.specs.declared.fault.FileFault.{FileFault}
 use Rattle.media_file.specs.declared.fault.FileFault.TheVariants.{BadField, Truncated}
-use Rattle.media_file.specs.Fields.{Fails, Takes, field_at}
+use Rattle.media_file.specs.Fields.{Fails, field_at}
+use Rattle.st_format.specs.Given.{Takes, field_by, with_rest}
 use Rattle.st_format.specs.Reading.{◌>>=◌}
-use Rattle.media_file.specs.Fronts.{with_rest}
 use Rattle.media_file.specs.Groups.{Shape, group_at}
-use Rattle.media_file.proofs.Content.{if_content_weaker}
-use Rattle.media_file.proofs.Parsing.{fails_first, fails_then, gives_pure, gives_then, then_reads}
 use Rattle.frame_assembly.specs.Marks.{contested_mask}
 use Rattle.receiver_file.specs.Known.{IsKnown, cells_known, mixed_at}
 use Rattle.receiver_file.specs.Numbers.{octet_at}
 use Rattle.receiver_file.proofs.Knowing.{none_zeroed, zeroed_same}
 use Rattle.receiver_file.proofs.Valued.{value_cut, value_gives, valued}
+use Rattle.st_format.proofs.Origins.{if_content_weaker}
+use Rattle.st_format.proofs.Parsing.{fails_first, fails_then, gives_pure, gives_then, then_reads}
+use Rattle.media_file.specs.Faults.{file_fault_origin}
 
 abbrev Cells : Type 0
 Cells = Result (List Cell × List ℕ) FileFault
@@ -50,7 +51,7 @@ abbrev short : Result (List ℕ × List ℕ) FileFault
 short = Err Truncated
 
 pub octet_is : (x : ℕ) (xs : List ℕ) → octet_at (x ∷ xs) ≡ Ok (x, xs)
-unfolding octet_at field_at
+unfolding octet_at field_by
 octet_is x xs =
     let long : 1 ≤ length (x ∷ xs) = omega arith in
     ap (λ (b : Bool). cond b short (Ok (take 1 (x ∷ xs), drop 1 (x ∷ xs))) >>=
@@ -58,7 +59,7 @@ octet_is x xs =
     (le-ltb (length (x ∷ xs)) 1 long)
 
 group_none : (s : Shape) → group_at s [] ≡ then_reads octet_at (group_by s) []
-unfolding group_at octet_at field_at
+unfolding group_at octet_at field_by
 group_none s = refl
 
 group_some : (s : Shape) (x : ℕ) (xs : List ℕ) → group_at s (x ∷ xs) ≡ group_by s x xs
@@ -85,7 +86,7 @@ fails_alike : {A : Type 0} (r q : List ℕ → Result (A × List ℕ) FileFault)
     → Fails q old f
 fails_alike r q e None f p = tt
 fails_alike {A} r q e (Some o) f p =
-    if_content_weaker f (r o ≡ Err f) (q o ≡ Err f) (λ h. e o ∙ h) p
+    if_content_weaker file_fault_origin f (r o ≡ Err f) (q o ≡ Err f) (λ h. e o ∙ h) p
 
 -- a state, and what is behind it
 group_gives : (s : Shape) (old mid new : Option (List ℕ)) (n m : ℕ) (cells : List Cell) → n ≡ m
@@ -100,14 +101,14 @@ group_fails : (s : Shape) (old mid : Option (List ℕ)) (n m : ℕ) (f : FileFau
     → Takes octet_at old mid n → Fails (group_by s m) mid f → Fails (group_at s) old f
 group_fails s old mid n m f e p q =
     fails_alike (then_reads octet_at (group_by s)) (group_at s) (group_is s) old f
-    (fails_then octet_at (group_by s) old mid m f
+    (fails_then file_fault_origin octet_at (group_by s) old mid m f
     (subst (λ (k : ℕ). Takes octet_at old mid k) e p) q)
 
 pub group_cut : (s : Shape) (old : Option (List ℕ)) (f : FileFault) → Fails octet_at old f
     → Fails (group_at s) old f
 group_cut s old f p =
     fails_alike (then_reads octet_at (group_by s)) (group_at s) (group_is s) old f
-    (fails_first octet_at (group_by s) old f p)
+    (fails_first file_fault_origin octet_at (group_by s) old f p)
 
 pub gone_gives : (s : Shape) (old mid : Option (List ℕ)) (n : ℕ) → n ≡ 0 → Takes octet_at old mid n
     → Takes (group_at s) old mid (replicate s.samples Missing)

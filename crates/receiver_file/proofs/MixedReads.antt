@@ -6,10 +6,12 @@ use Rattle.st_format.specs.declared.cell.Cell.{Cell}
 use Rattle.st_format.specs.Samples.{values_in}
 use Rattle.media_file.specs.declared.fault.FileFault.{FileFault}
 use Rattle.media_file.specs.declared.fault.FileFault.TheVariants.{MixedGroup}
-use Rattle.media_file.specs.Fields.{Fails, Takes, field_at}
+use Rattle.media_file.specs.Fields.{Fails, field_at}
+use Rattle.st_format.specs.Given.{Takes}
 use Rattle.media_file.specs.Groups.{Shape, are_zeroed, cells_by, mixed_by}
-use Rattle.media_file.proofs.Parsing.{fails_first, fails_then, gives_then, then_reads}
 use Rattle.receiver_file.specs.Known.{mixed_at}
+use Rattle.st_format.proofs.Parsing.{fails_first, fails_then, gives_then, then_reads}
+use Rattle.media_file.specs.Faults.{file_fault_origin}
 
 abbrev Cells : Type 0
 Cells = Result (List Cell × List ℕ) FileFault
@@ -28,14 +30,14 @@ is_other s mask values =
 pub mixed_cut : (s : Shape) (old : Option (List ℕ)) (f : FileFault) → Fails (field_at 2) old f
     → Fails (mixed_at s) old f
 unfolding mixed_at
-mixed_cut s old f p = fails_first (field_at 2) (behind s) old f p
+mixed_cut s old f p = fails_first file_fault_origin (field_at 2) (behind s) old f p
 
 pub mixed_short : (s : Shape) (old mid : Option (List ℕ)) (m : List ℕ) (f : FileFault)
     → Takes (field_at 2) old mid m → Fails (field_at s.octets) mid f → Fails (mixed_at s) old f
 unfolding mixed_at
 mixed_short s old mid m f p q =
-    fails_then (field_at 2) (behind s) old mid m f p
-    (fails_first (field_at s.octets)
+    fails_then file_fault_origin (field_at 2) (behind s) old mid m f p
+    (fails_first file_fault_origin (field_at s.octets)
     (λ x rest. mixed_by s (from_be_bytes w16 m) (values_in s.bits x) rest) mid f q)
 
 other_fails : (s : Shape) (mask : ℕ) (values : List ℕ) (known : Option (List ℕ))
@@ -57,8 +59,8 @@ pub mixed_other : (s : Shape) (old mid new : Option (List ℕ)) (m octets : List
     → Fails (mixed_at s) old MixedGroup
 unfolding mixed_at
 mixed_other s old mid new m octets p q e =
-    fails_then (field_at 2) (behind s) old mid m MixedGroup p
-    (fails_then (field_at s.octets)
+    fails_then file_fault_origin (field_at 2) (behind s) old mid m MixedGroup p
+    (fails_then file_fault_origin (field_at s.octets)
     (λ x rest. mixed_by s (from_be_bytes w16 m)
     (values_in s.bits x) rest) mid new octets MixedGroup q
     (other_fails s (from_be_bytes w16 m) (values_in s.bits octets) new e))

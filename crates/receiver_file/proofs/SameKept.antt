@@ -11,7 +11,8 @@ use Rattle.frame_assembly.proofs.Segments.{sample_count_groups}
 use Rattle.path_merge.specs.Frames.{Holds, IsReceiver, State, frames_of}
 use Rattle.path_merge.specs.Opening.{Opening}
 use Rattle.media_file.specs.declared.fault.FileFault.{FileFault}
-use Rattle.media_file.specs.Fields.{Fails, Takes}
+use Rattle.media_file.specs.Fields.{Fails}
+use Rattle.st_format.specs.Given.{Takes}
 use Rattle.media_file.specs.StateFile.{Held, Kept, raster_groups, state_text}
 use Rattle.media_file.proofs.Once.{cells_once}
 use Rattle.receiver_file.specs.Known.{shape_in}

@@ -14,7 +14,8 @@ use Rattle.path_merge.specs.Opening.{AreDifferent}
 use Rattle.path_merge.proofs.Answered.{any_from_member}
 use Rattle.media_file.specs.declared.fault.FileFault.{FileFault}
 use Rattle.media_file.specs.declared.fault.FileFault.TheVariants.{BadField}
-use Rattle.media_file.specs.Fields.{Fails, Takes}
+use Rattle.media_file.specs.Fields.{Fails}
+use Rattle.st_format.specs.Given.{Takes}
 use Rattle.media_file.specs.StateFile.{Held, held_of}
 use Rattle.receiver_file.specs.Saved.{kept_frames, timestamp_in}
 use Rattle.receiver_file.specs.Numbers.{number_at}

@@ -17,13 +17,13 @@ use Rattle.media_file.specs.declared.fault.FileFault.TheVariants.{TooManyRecords
 use Rattle.media_file.specs.declared.front.Version.{Version}
 use Rattle.media_file.specs.declared.front.Version.TheVariants.{One, Two}
 use Rattle.media_file.specs.Blocks.{block_at}
-use Rattle.media_file.specs.Faults.{IfContent}
+use Rattle.media_file.specs.Faults.{IfContent, file_fault_origin}
 use Rattle.media_file.specs.Fields.{Fails, nothing_at}
 use Rattle.st_format.specs.Reading.{◌>>=◌}
-use Rattle.media_file.specs.Fronts.{kind_at, kind_text, receiver_name, with_rest}
+use Rattle.media_file.specs.Fronts.{kind_at, kind_text, receiver_name}
+use Rattle.st_format.specs.Given.{with_rest}
 use Rattle.media_file.specs.PictureFaults.{HasOtherThanOne, IsFormat}
 use Rattle.media_file.specs.StateFile.{Held, Kept, format_text, state_text}
-use Rattle.media_file.proofs.Content.{if_content_weaker}
 use Rattle.media_file.proofs.Failing.{differ, not_both, same_fault, split_fails}
 use Rattle.media_file.proofs.Found.{given, kind_takes, split_then}
 use Rattle.media_file.proofs.KindFaults.{KindFails, kind_cut, kind_fails, kind_tells, name_tells}
@@ -50,6 +50,7 @@ use Rattle.receiver_file.proofs.PlaceFaults.{PlaceFails, Reached, bad_at, cut_at
 use Rattle.receiver_file.proofs.PlaceFaults.{head_reach, mixed_at_place, place_fails, place_faults}
 use Rattle.receiver_file.proofs.PlaceFaults.{reached}
 use Rattle.receiver_file.proofs.PlaceFaults.PlaceFails.{IsCut, IsBad, IsMixed}
+use Rattle.st_format.proofs.Origins.{if_content_weaker}
 
 abbrev Named : Type 0
 Named = Result (Unit {0} × List ℕ) FileFault
@@ -394,6 +395,7 @@ pub wrong_state : (old : Option (List ℕ)) (r : Result State FileFault) → Tel
     → IfErr r (λ f. (octets : List ℕ) → old ≡ Some octets → IfContent f (IsStateFault f octets))
 wrong_state old (Ok s) bytes p = tt
 wrong_state old (Err f) bytes p =
-    λ octets told. if_content_weaker f (state_walk octets ≡ Err f) (IsStateFault f octets)
+    λ octets told. if_content_weaker file_fault_origin f (state_walk octets ≡ Err f)
+    (IsStateFault f octets)
     (λ e. state_fails f octets (subst TellsOctets told bytes) e)
     (subst (λ (o : Option (List ℕ)). Fails state_walk o f) told p)

@@ -11,11 +11,11 @@ use Rattle.path_merge.specs.Opening.{Opening}
 use Rattle.media_file.specs.declared.fault.FileFault.{FileFault}
 use Rattle.media_file.specs.declared.fault.FileFault.TheVariants.{NoMemory}
 use Rattle.media_file.specs.Blocks.{block_at}
-use Rattle.media_file.specs.Faults.{IfContent, IsMachine}
-use Rattle.media_file.specs.Fields.{Fails, GaveFault, Takes, nothing_at}
+use Rattle.media_file.specs.Faults.{IfContent, IsMachine, file_fault_origin}
+use Rattle.media_file.specs.Fields.{Fails, GaveFault, nothing_at}
+use Rattle.st_format.specs.Given.{Takes}
 use Rattle.media_file.specs.StateFile.{Held, Kept, state_text}
-use Rattle.media_file.proofs.Gave.{fault_grew, fault_memory, fault_one, fault_read}
-use Rattle.media_file.proofs.Parsing.{gives_then, then_reads}
+use Rattle.media_file.proofs.Gave.{fault_grew, fault_memory, fault_read}
 use Rattle.receiver_file.specs.declared.front.Head.{Head}
 use Rattle.receiver_file.specs.Front.{head_at, name_at}
 use Rattle.receiver_file.specs.Giving.{GaveAllOf, GaveOf}
@@ -30,6 +30,8 @@ use Rattle.receiver_file.proofs.SameKept.{loaded_same}
 use Rattle.receiver_file.proofs.Savable.{writable_saved}
 use Rattle.receiver_file.proofs.StateFaults.{wrong_state}
 use Rattle.receiver_file.proofs.Valued.{value_cut, value_gives, valued}
+use Rattle.st_format.proofs.Gave.{fault_one}
+use Rattle.st_format.proofs.Parsing.{gives_then, then_reads}
 
 -- ---- the parts
 
@@ -90,7 +92,7 @@ gave_more a b c d x y ended f h hs e n m k l p =
     (fault_then block_at behind_format f b c y ended e m
     (fault_then head_at (behind_head f) h c d y ended e k
     (fault_then (all_held_at f h.count []) (behind_frames f h) hs d x y ended e l
-    (fault_one nothing_at (behind_frames f h hs) x y ended e
+    (fault_one file_fault_origin nothing_at (behind_frames f h hs) x y ended e
     (λ was. value_cut nothing_at (kept f h hs) was e) p))))
 
 pub gave_all : (a b c d x y : List ℕ) (ended : Type 0) (f : Fields) (h : Head) (hs : List Held)

@@ -10,14 +10,16 @@ use Rattle.path_merge.specs.Opening.{Opening}
 use Rattle.media_file.specs.declared.fault.FileFault.{FileFault}
 use Rattle.media_file.specs.declared.fault.FileFault.TheVariants.{NoMemory}
 use Rattle.media_file.specs.Blocks.{block_at}
-use Rattle.media_file.specs.Fields.{Fails, Takes, nothing_at}
+use Rattle.media_file.specs.Fields.{Fails, nothing_at}
+use Rattle.st_format.specs.Given.{Takes}
 use Rattle.media_file.specs.StateFile.{Held, Kept}
-use Rattle.media_file.proofs.Parsing.{fails_first, fails_then, gives_then, then_reads}
 use Rattle.receiver_file.specs.declared.front.Head.{Head}
 use Rattle.receiver_file.specs.Front.{head_at, name_at}
 use Rattle.receiver_file.specs.Saved.{kept_frames, kept_of}
 use Rattle.receiver_file.specs.StateReading.{all_held_at, state_walk}
 use Rattle.receiver_file.proofs.Valued.{memory_fails, value_cut, value_gives, valued}
+use Rattle.st_format.proofs.Parsing.{fails_first, fails_then, gives_then, then_reads}
+use Rattle.media_file.specs.Faults.{file_fault_origin}
 
 -- ---- the parts
 
@@ -40,40 +42,42 @@ behind_name u octets = then_reads block_at behind_format octets
 pub state_name : (old : Option (List ℕ)) (e : FileFault) → Fails name_at old e
     → Fails state_walk old e
 unfolding state_walk
-state_name old e p = fails_first name_at behind_name old e p
+state_name old e p = fails_first file_fault_origin name_at behind_name old e p
 
 pub state_format : (old a : Option (List ℕ)) (e : FileFault) → Takes name_at old a tt
     → Fails block_at a e → Fails state_walk old e
 unfolding state_walk
 state_format old a e n p =
-    fails_then name_at behind_name old a tt e n (fails_first block_at behind_format a e p)
+    fails_then file_fault_origin name_at behind_name old a tt e n
+    (fails_first file_fault_origin block_at behind_format a e p)
 
 pub state_head : (old a b : Option (List ℕ)) (f : Fields) (e : FileFault) → Takes name_at old a tt
     → Takes block_at a b f → Fails head_at b e → Fails state_walk old e
 unfolding state_walk
 state_head old a b f e n m p =
-    fails_then name_at behind_name old a tt e n
-    (fails_then block_at behind_format a b f e m (fails_first head_at (behind_head f) b e p))
+    fails_then file_fault_origin name_at behind_name old a tt e n
+    (fails_then file_fault_origin block_at behind_format a b f e m
+    (fails_first file_fault_origin head_at (behind_head f) b e p))
 
 pub state_frames : (old a b c : Option (List ℕ)) (f : Fields) (h : Head) (e : FileFault)
     → Takes name_at old a tt → Takes block_at a b f → Takes head_at b c h
     → Fails (all_held_at f h.count []) c e → Fails state_walk old e
 unfolding state_walk
 state_frames old a b c f h e n m k p =
-    fails_then name_at behind_name old a tt e n
-    (fails_then block_at behind_format a b f e m
-    (fails_then head_at (behind_head f) b c h e k
-    (fails_first (all_held_at f h.count []) (behind_frames f h) c e p)))
+    fails_then file_fault_origin name_at behind_name old a tt e n
+    (fails_then file_fault_origin block_at behind_format a b f e m
+    (fails_then file_fault_origin head_at (behind_head f) b c h e k
+    (fails_first file_fault_origin (all_held_at f h.count []) (behind_frames f h) c e p)))
 
 pub state_end : (old a b c d : Option (List ℕ)) (f : Fields) (h : Head) (hs : List Held)
     (e : FileFault) → Takes name_at old a tt → Takes block_at a b f → Takes head_at b c h
     → Takes (all_held_at f h.count []) c d hs → Fails nothing_at d e → Fails state_walk old e
 unfolding state_walk
 state_end old a b c d f h hs e n m k l p =
-    fails_then name_at behind_name old a tt e n
-    (fails_then block_at behind_format a b f e m
-    (fails_then head_at (behind_head f) b c h e k
-    (fails_then (all_held_at f h.count []) (behind_frames f h) c d hs e l
+    fails_then file_fault_origin name_at behind_name old a tt e n
+    (fails_then file_fault_origin block_at behind_format a b f e m
+    (fails_then file_fault_origin head_at (behind_head f) b c h e k
+    (fails_then file_fault_origin (all_held_at f h.count []) (behind_frames f h) c d hs e l
     (value_cut nothing_at (kept f h hs) d e p))))
 
 pub state_gives : (old a b c d new : Option (List ℕ)) (f : Fields) (h : Head) (hs : List Held)

@@ -17,7 +17,8 @@ use Rattle.frame_assembly.specs.Rows.{replaced_cells}
 use Rattle.frame_assembly.proofs.Segments.{sample_count_groups}
 use Rattle.st_format.specs.Reading.{◌>>=◌}
 use Rattle.media_file.specs.declared.fault.FileFault.{FileFault}
-use Rattle.media_file.specs.Fields.{Fails, GaveFault, Takes}
+use Rattle.media_file.specs.Fields.{Fails, GaveFault}
+use Rattle.st_format.specs.Given.{Takes}
 use Rattle.media_file.specs.Groups.{Shape, group_at, groups_at}
 use Rattle.media_file.specs.StateFile.{cut_cells}
 use Rattle.receiver_file.specs.Giving.{GaveOf}

@@ -4,11 +4,12 @@ use Rattle.std.specs.Prelude.{IfErr, IfOk}
 use Rattle.media_file.specs.declared.fault.FileFault.{FileFault}
 use Rattle.media_file.specs.declared.fault.FileFault.TheVariants.{NoMemory}
 use Rattle.std.specs.Int.{w32, from_be_bytes}
-use Rattle.media_file.specs.Fields.{Fails, Takes, field_at}
-use Rattle.media_file.specs.Fronts.{with_rest}
-use Rattle.media_file.proofs.Parsing.{fails_first, fails_pure, fails_then, gives_pure, gives_then}
-use Rattle.media_file.proofs.Parsing.{then_reads}
+use Rattle.media_file.specs.Fields.{Fails, field_at}
+use Rattle.st_format.specs.Given.{Takes, with_rest}
 use Rattle.receiver_file.specs.Numbers.{number_at, octet_at}
+use Rattle.st_format.proofs.Parsing.{fails_first, fails_pure, fails_then, gives_pure, gives_then}
+use Rattle.st_format.proofs.Parsing.{then_reads}
+use Rattle.media_file.specs.Faults.{file_fault_origin}
 
 abbrev Reading : Type 0 → Type 0
 Reading X = List ℕ → Result (X × List ℕ) FileFault
@@ -28,7 +29,8 @@ pub value_fails : {A X : Type 0} (first : Reading A) (make : A → Result X File
     (old mid : Option (List ℕ)) (a : A) (f : FileFault) → Takes first old mid a → make a ≡ Err f
     → Fails (valued first make) old f
 value_fails first make old mid a f p e =
-    fails_then first (λ b rest. with_rest (make b) rest) old mid a f p (fails_pure (make a) mid f e)
+    fails_then file_fault_origin first (λ b rest. with_rest (make b) rest) old mid a f p
+    (fails_pure file_fault_origin (make a) mid f e)
 
 -- where a call made it
 pub call_gives : {A X : Type 0} (first : Reading A) (make : A → Result X FileFault)
@@ -46,7 +48,8 @@ call_fails first make old mid a (Err f) p e = value_fails first make old mid a f
 -- a reading whose first part fails
 pub value_cut : {A X : Type 0} (first : Reading A) (make : A → Result X FileFault)
     (old : Option (List ℕ)) (f : FileFault) → Fails first old f → Fails (valued first make) old f
-value_cut first make old f p = fails_first first (λ b rest. with_rest (make b) rest) old f p
+value_cut first make old f p =
+    fails_first file_fault_origin first (λ b rest. with_rest (make b) rest) old f p
 
 -- the memory's fault says nothing of the content
 pub memory_fails : {A : Type 0} (reading : Reading A) (old : Option (List ℕ))

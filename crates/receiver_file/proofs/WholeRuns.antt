@@ -11,10 +11,11 @@ use Rattle.st_format.specs.declared.cell.Cell.{Cell}
 use Rattle.st_format.specs.declared.cell.Cell.TheVariants.{Value}
 use Rattle.st_format.specs.Samples.{values_in}
 use Rattle.media_file.specs.Groups.{IsShape, Shape, cells_by}
-use Rattle.media_file.proofs.Parsing.{gives_field}
 use Rattle.receiver_file.specs.Taking.{AreGroups}
 use Rattle.receiver_file.proofs.KnownReads.{octet_is, whole_gives}
 use Rattle.receiver_file.proofs.TakenGroups.{groups_alike, groups_both, groups_single}
+use Rattle.st_format.proofs.Parsing.{gives_field}
+use Rattle.media_file.specs.declared.fault.FileFault.TheVariants.{Truncated}
 
 -- the cells of groups of which each sample has a value
 abbrev pub valued_cells : Shape → List ℕ → List Cell
@@ -55,7 +56,7 @@ whole_single s octets is long =
     (λ behind.
     whole_gives s (Some (1 ∷ (octets ++ behind))) (Some (octets ++ behind)) (Some behind) 1 octets
     refl (octet_is 1 (octets ++ behind))
-    (gives_field s.octets (Some (octets ++ behind)) (Some behind) octets long refl))
+    (gives_field Truncated s.octets (Some (octets ++ behind)) (Some behind) octets long refl))
 
 -- a group more of which each sample has a value
 whole_more : (s : Shape) (n : ℕ) (x p o : List ℕ) → IsShape s → length p ≡ s.octets * n

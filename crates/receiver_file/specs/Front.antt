@@ -6,7 +6,8 @@ use Rattle.media_file.specs.declared.fault.FileFault.TheVariants.{BadField, BadV
 use Rattle.media_file.specs.declared.front.Version.{Version}
 use Rattle.media_file.specs.declared.front.Version.TheVariants.{One, Two}
 use Rattle.st_format.specs.Reading.{◌>>=◌}
-use Rattle.media_file.specs.Fronts.{kind_at, receiver_name, with_rest}
+use Rattle.media_file.specs.Fronts.{kind_at, receiver_name}
+use Rattle.st_format.specs.Given.{with_rest}
 use Rattle.receiver_file.specs.declared.front.Head.{Head}
 use Rattle.receiver_file.specs.Numbers.{number_at, octet_at}
 

@@ -7,7 +7,7 @@ use Rattle.media_file.specs.declared.fault.FileFault.{FileFault}
 use Rattle.media_file.specs.declared.fault.FileFault.TheVariants.{BadField}
 use Rattle.media_file.specs.Blocks.{block_at}
 use Rattle.st_format.specs.Reading.{◌>>=◌}
-use Rattle.media_file.specs.Fronts.{with_rest}
+use Rattle.st_format.specs.Given.{with_rest}
 use Rattle.media_file.specs.Groups.{groups_at, shape_of}
 use Rattle.media_file.specs.Fields.{nothing_at}
 use Rattle.media_file.specs.StateFile.{Held, Kept, raster_groups}

@@ -2,7 +2,7 @@
 use Rattle.std.specs.Prelude.{◌≡◌, ℕ, ◌+◌, ◌*◌, List, ◌++◌, take, drop, replicate, Option, Ok}
 use Rattle.st_format.specs.declared.cell.Cell.{Cell}
 use Rattle.st_format.specs.declared.cell.Cell.TheVariants.{Missing}
-use Rattle.media_file.specs.Fields.{Takes}
+use Rattle.st_format.specs.Given.{Takes}
 use Rattle.media_file.specs.Groups.{Shape, groups_at}
 use Rattle.media_file.specs.StateFile.{cut_cells}
 use Rattle.receiver_file.specs.Giving.{GaveOf}

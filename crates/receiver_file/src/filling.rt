@@ -7,7 +7,8 @@ ghost use Rattle.std.specs.Prelude.{◌≡◌, ◌<◌, ◌≤◌, ◌+◌, ◌*
 ghost use Rattle.st_format.specs.Position.{group_count, row_groups};
 ghost use Rattle.st_format.specs.Raster.{blank};
 ghost use Rattle.media_file.specs.Faults.{CountsDevice};
-ghost use Rattle.media_file.specs.Fields.{Fails, GaveFault, Takes};
+ghost use Rattle.media_file.specs.Fields.{Fails, GaveFault};
+ghost use Rattle.st_format.specs.Given.{Takes};
 ghost use Rattle.media_file.specs.Groups.{group_at, groups_at};
 ghost use Rattle.media_file.specs.StateFile.{cut_cells};
 ghost use Rattle.receiver_file.specs.Giving.{GaveOf};

@@ -3,7 +3,8 @@
 ghost use Rattle.std.specs.Prelude.{◌≡◌, ◌<◌, ◌≤◌, IfErr, IfOk, OnOk};
 ghost use Rattle.st_format.specs.Device.{TellsOctets};
 ghost use Rattle.media_file.specs.Faults.{CountsDevice};
-ghost use Rattle.media_file.specs.Fields.{Fails, GaveFault, Takes};
+ghost use Rattle.media_file.specs.Fields.{Fails, GaveFault};
+ghost use Rattle.st_format.specs.Given.{Takes};
 ghost use Rattle.receiver_file.specs.Giving.{GaveOf};
 ghost use Rattle.receiver_file.specs.Front.{count_at, window_count, flag_at, flag_of, head_at};
 ghost use Rattle.receiver_file.specs.Front.{name_at};

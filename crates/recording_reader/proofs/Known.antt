@@ -10,7 +10,6 @@ use Rattle.pcap_file.specs.PcapReading.{Recorded}
 use Rattle.pcap_file.specs.Runs.{HasFailed, fault_in, layout_seen, packets_behind, packets_in}
 use Rattle.pcap_file.specs.declared.fault.RecordingFault.{RecordingFault}
 use Rattle.pcap_file.specs.declared.recording.Layout.{Layout}
-use Rattle.pcap_file.proofs.Content.{if_content_weaker}
 use Rattle.st_format.specs.History.{IsRead, since}
 use Rattle.st_format.proofs.Histories.{since_is}
 use Rattle.recording_reader.specs.Opening.{StopsOpening}
@@ -20,6 +19,8 @@ use Rattle.recording_reader.specs.declared.opening.OpeningFault.TheVariants as o
 use Rattle.recording_reader.specs.declared.reader.Standing.{Standing}
 use Rattle.recording_reader.specs.declared.reader.Standing.TheVariants.{Reads, Ended, Failed}
 use Rattle.recording_reader.proofs.Between.{packets_now}
+use Rattle.st_format.proofs.Origins.{if_content_weaker}
+use Rattle.pcap_file.specs.Fields.{recording_fault_origin}
 
 -- octets that begin with a part that was read
 pub read_part : (before now part : List ℕ) (ended : Type 0) (octets : List ℕ)
@@ -68,7 +69,7 @@ known_by flows (Failed f) layout before now ended packets records left read are 
     let part = read_part before now read.part ended octets read.grown told in
     let begins = read.begins told.behind in (
       are_first flows octets packets begins.0 records (ap (packets_in room) part ∙ begins.1) are,
-      if_content_weaker f _ _
+      if_content_weaker recording_fault_origin f _ _
           (λ says. (
             have_records flows octets packets records left (ap (packets_in room) part ∙ says.0) are
                 why,
@@ -112,6 +113,6 @@ pub stops_opening : (before now : List ℕ) (ended : Type 0) (f : RecordingFault
     → StopsOpening before now ended (opening.Recording f)
 stops_opening before now ended f failed octets told =
     let part = read_part before now failed.part ended octets failed.grown told in
-    if_content_weaker f _ _
+    if_content_weaker recording_fault_origin f _ _
     (λ says. (ap (packets_in room) part ∙ says.0, ap (fault_in room) part ∙ says.1))
     (failed.says told.behind told.all)

@@ -9,7 +9,7 @@ use Rattle.capture_engines.specs.Taking.{said_before, said_behind}
 use Rattle.capture_engines.proofs.CaptureRuns.{read_all}
 use Rattle.capture_engines.proofs.Taken.{HasText}
 use Rattle.capture_engines.proofs.ReceivedRefusals.{text_read}
-use Rattle.media_file.specs.Fields.{GaveValue}
+use Rattle.st_format.specs.Given.{GaveValue}
 use Rattle.media_file.specs.Fronts.{front_at}
 use Rattle.media_file.specs.Given.{HasGiven}
 use Rattle.media_file.specs.Reader.{dues_in}

@@ -3,9 +3,9 @@ use Rattle.run_outcome.specs.Line.{line_text}
 use Rattle.run_outcome.specs.Frames.{frame_lines}
 use Rattle.capture_engines.specs.Printed.{if_wanted, received_text, tally_text}
 use Rattle.run_outcome.specs.declared.line.Line.TheVariants.{Delivered}
-use Rattle.media_file.proofs.Givings.{grew_twice}
 use Rattle.run_outcome.proofs.Printed.{on_ok}
 use Rattle.capture_engines.proofs.rescuing.print_intake.Goals as goal
+use Rattle.st_format.proofs.Gave.{grew_twice}
 
 pub returns-clause-printed : goal.returns-clause-printed
 returns-clause-printed g c =

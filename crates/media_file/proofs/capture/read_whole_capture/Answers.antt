@@ -1,14 +1,12 @@
 use Rattle.std.proofs.Common.{◌≡◌, ◌∙◌, ap, sym, subst, ℕ, List, map, take}
 use Rattle.media_file.specs.Capture.{capture_walk, entry_seen}
-use Rattle.media_file.specs.Fields.{Takes}
+use Rattle.st_format.specs.Given.{GaveWhole, Takes}
 use Rattle.media_file.specs.Records.{Entry}
 use Rattle.std.proofs.lemmas.List.{take_at}
 use Rattle.std.proofs.lemmas.Result.{err_from_is_err_and}
 use Rattle.media_file.proofs.Loops.{capture_cut, capture_fails, capture_gives}
-use Rattle.media_file.specs.Fields.{GaveWhole}
-use Rattle.media_file.proofs.GaveCaptures.{capture_gave, capture_gave_cut, capture_gave_memory}
+use Rattle.media_file.proofs.GaveCaptures.{capture_gave, capture_gave_cut}
 use Rattle.media_file.proofs.GaveCaptures.{capture_gave_wrong}
-use Rattle.media_file.proofs.GaveLoops.{fault_memory}
 use Rattle.media_file.proofs.capture.read_whole_capture.Goals as goal
 
 pub returns-in_err-text_len-clause-fault : goal.returns-in_err-text_len-clause-fault

@@ -3,24 +3,27 @@ use Rattle.std.proofs.lemmas.List.{length-take}
 use Rattle.std.proofs.lemmas.Result.{err_from_is_err_and}
 use Rattle.media_file.proofs.Gave.{cut_field, gave_field}
 use Rattle.media_file.proofs.GaveParts.{field_gave_part}
-use Rattle.media_file.proofs.Givings.{grew_all}
-use Rattle.media_file.proofs.Parsing.{fails_field, gives_field, part_field}
-use Rattle.media_file.proofs.Rests.{gave_all}
+use Rattle.media_file.proofs.Parsing.{part_field}
 use Rattle.media_file.proofs.front.read_field.Goals as goal
+use Rattle.st_format.proofs.Gave.{grew_all}
+use Rattle.st_format.proofs.Parsing.{fails_field, gives_field, gave_all}
+use Rattle.media_file.specs.Faults.{file_fault_origin}
+use Rattle.media_file.specs.declared.fault.FileFault.TheVariants.{Truncated}
 
 pub returns-then-branch-buf-clause-fault : goal.returns-then-branch-buf-clause-fault
 returns-then-branch-buf-clause-fault g c =
     let n = c.in_ok-read_whole.field-0 in
     let e = c.in_ok-read_whole.ensures in
     let lt : n < length c.args.buf.now = omega (arith, e.room) in
-    fails_field _ _ _ (take n c.read_whole.new.buf)
+    fails_field file_fault_origin Truncated _ _ _ (take n c.read_whole.new.buf)
     (omega (arith, length-take n c.read_whole.new.buf)) e.given
     (e.short (omega (arith, e.room)))
 
 pub returns-clause-read : goal.returns-clause-read
 returns-clause-read g c =
     let e = c.in_ok-read_whole.ensures in
-    gives_field _ _ _ c.read_whole.new.buf e.room (gave_all _ _ _ _ e.given (omega (arith, e.room)))
+    gives_field Truncated _ _ _ c.read_whole.new.buf e.room
+    (gave_all _ _ _ _ e.given (omega (arith, e.room)))
 
 pub returns-in_err-read_whole-clause-part : goal.returns-in_err-read_whole-clause-part
 returns-in_err-read_whole-clause-part g c =

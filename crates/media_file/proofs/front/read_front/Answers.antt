@@ -2,9 +2,10 @@ use Rattle.std.proofs.lemmas.Result.{err_from_is_err_and}
 use Rattle.media_file.proofs.Fronted.{front_gives_one, front_gives_two, front_fails_two}
 use Rattle.media_file.proofs.Fronted.{front_cut}
 use Rattle.media_file.specs.Fronts.{capture_name, front_at, kind_at}
-use Rattle.media_file.proofs.Gave.{fault_one}
 use Rattle.media_file.proofs.GaveFronts.{front_gave_one, front_gave_two, front_gave_wrong}
 use Rattle.media_file.proofs.front.read_front.Goals as goal
+use Rattle.st_format.proofs.Gave.{fault_one}
+use Rattle.media_file.specs.Faults.{file_fault_origin}
 
 pub returns-in_err-read_kind-clause-fault : goal.returns-in_err-read_kind-clause-fault
 returns-in_err-read_kind-clause-fault g c =
@@ -29,7 +30,7 @@ returns-in_err-read_kind-clause-gave_wrong g c =
     let p = err_from_is_err_and c.from_residual.result c.from_residual.ensures.1 in
     let f = c.in_err-read_kind.field-0.0 in
     rw (p.1, p.2)
-    (fault_one (kind_at capture_name) front_at _ _ _ f (λ was. front_cut was f)
+    (fault_one file_fault_origin (kind_at capture_name) front_at _ _ _ f (λ was. front_cut was f)
     c.in_err-read_kind.ensures.gave_wrong)
 
 pub returns-in-One-clause-gave : goal.returns-in-One-clause-gave

@@ -3,11 +3,12 @@ use Rattle.media_file.specs.Fields.{field_at}
 use Rattle.media_file.specs.Fronts.{kind_at}
 use Rattle.media_file.proofs.Gave.{on_any}
 use Rattle.media_file.proofs.Fronted.{kind_gives, kind_fails, kind_cut}
-use Rattle.media_file.proofs.Gave.{fault_one}
 use Rattle.media_file.proofs.GaveFronts.{kind_gave, kind_gave_wrong}
 use Rattle.media_file.proofs.GaveParts.{kind_gave_cut, kind_gave_part}
 use Rattle.media_file.proofs.Parts.{kind_part, kind_part_cut}
 use Rattle.media_file.proofs.front.read_kind.Goals as goal
+use Rattle.st_format.proofs.Gave.{fault_one}
+use Rattle.media_file.specs.Faults.{file_fault_origin}
 
 pub returns-in_err-read_field-clause-fault : goal.returns-in_err-read_field-clause-fault
 returns-in_err-read_field-clause-fault g c =
@@ -39,7 +40,8 @@ pub returns-in_err-read_field-clause-gave_wrong : goal.returns-in_err-read_field
 returns-in_err-read_field-clause-gave_wrong g c =
     let p = err_from_is_err_and c.from_residual.result c.from_residual.ensures.1 in
     rw (p.1, p.2)
-    (fault_one (field_at 8) (kind_at c.args.name.now) _ _ _ c.in_err-read_field.field-0.0
+    (fault_one file_fault_origin (field_at 8) (kind_at c.args.name.now) _ _ _
+    c.in_err-read_field.field-0.0
     (λ was. kind_cut c.args.name.now was c.in_err-read_field.field-0.0)
     c.in_err-read_field.ensures.gave_wrong)
 

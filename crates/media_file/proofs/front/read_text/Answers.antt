@@ -4,9 +4,10 @@ use Rattle.std.proofs.lemmas.Result.{err_from_is_err_and}
 use Rattle.media_file.proofs.Fronted.{text_gives, text_fails, text_cut}
 use Rattle.media_file.specs.Fields.{field_at}
 use Rattle.media_file.specs.Fronts.{text_at}
-use Rattle.media_file.proofs.Gave.{fault_one}
 use Rattle.media_file.proofs.GaveFronts.{text_gave, text_gave_wrong}
 use Rattle.media_file.proofs.front.read_text.Goals as goal
+use Rattle.st_format.proofs.Gave.{fault_one}
+use Rattle.media_file.specs.Faults.{file_fault_origin}
 
 pub returns-in_err-read_field-clause-fault : goal.returns-in_err-read_field-clause-fault
 returns-in_err-read_field-clause-fault g c =
@@ -41,7 +42,7 @@ returns-in_err-read_field-clause-gave_wrong g c =
     let p = err_from_is_err_and c.from_residual.result c.from_residual.ensures.1 in
     let f = c.in_err-read_field.field-0.0 in
     rw (p.1, p.2)
-    (fault_one (field_at 2) text_at _ _ _ f (λ was. text_cut was f)
+    (fault_one file_fault_origin (field_at 2) text_at _ _ _ f (λ was. text_cut was f)
     c.in_err-read_field.ensures.gave_wrong)
 
 pub returns-in_err-read_field-2-clause-gave_wrong :

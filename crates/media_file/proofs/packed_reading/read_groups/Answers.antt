@@ -7,14 +7,17 @@ use Rattle.std.proofs.lemmas.Result.{err_from_is_err_and}
 use Rattle.st_format.specs.Fields.{fields_of}
 use Rattle.st_format.specs.Pgroup.{bits_of}
 use Rattle.st_format.specs.Samples.{values_in}
-use Rattle.media_file.specs.Fields.{Fails, GaveFault, GaveValue, Takes, field_at}
+use Rattle.media_file.specs.Fields.{Fails, GaveFault, field_at}
+use Rattle.st_format.specs.Given.{GaveValue, Takes}
 use Rattle.media_file.specs.PictureFile.{raster_at}
 use Rattle.media_file.proofs.PackedRaster.{groups_fail, groups_give}
-use Rattle.media_file.proofs.Gave.{fault_memory, fault_one}
+use Rattle.media_file.proofs.Gave.{fault_memory}
 use Rattle.media_file.proofs.GaveLoops.{fails_memory}
 use Rattle.media_file.proofs.GavePictures.{groups_gave}
 use Rattle.st_format.proofs.Histories.{grew_none}
 use Rattle.media_file.proofs.packed_reading.read_groups.Goals as goal
+use Rattle.st_format.proofs.Gave.{fault_one}
+use Rattle.media_file.specs.Faults.{file_fault_origin}
 
 pub returns-in_err-read_field-clause-fault : goal.returns-in_err-read_field-clause-fault
 returns-in_err-read_field-clause-fault g c =
@@ -80,7 +83,7 @@ returns-in_err-read_field-clause-gave_wrong g c =
     let size : length c.deref_mut.result.now ≡ n =
     omega (arith, c.deref_mut.ensures.len, c.in_ok-resize.ensures.len) in
     rw (p.1, p.2)
-    (fault_one (field_at n) (raster_at (fields_of c.args.format.now)) _ _ _ f
+    (fault_one file_fault_origin (field_at n) (raster_at (fields_of c.args.format.now)) _ _ _ f
     (λ was. groups_fail c.args.format.now was n f c.raster_octets.ensures)
     (subst (λ (k : ℕ). GaveFault (field_at k) (g.S.ByteSource.gave c.args.source.now)
     (g.S.ByteSource.gave c.read_field.new.source)

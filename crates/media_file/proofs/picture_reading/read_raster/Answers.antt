@@ -5,9 +5,10 @@ use Rattle.st_format.specs.Fields.{fields_of}
 use Rattle.st_format.specs.Pgroup.{bits_of}
 use Rattle.media_file.specs.Fields.{field_at}
 use Rattle.media_file.specs.PictureFile.{raster_at}
-use Rattle.media_file.proofs.Gave.{fault_one}
 use Rattle.media_file.proofs.GavePictures.{raster_gave, spelled_octets}
 use Rattle.media_file.proofs.picture_reading.read_raster.Goals as goal
+use Rattle.st_format.proofs.Gave.{fault_one}
+use Rattle.media_file.specs.Faults.{file_fault_origin}
 
 pub read_samples-requires : goal.read_samples-requires
 read_samples-requires g c =
@@ -30,7 +31,8 @@ returns-in_err-samples-clause-gave_wrong g c =
     let p = err_from_is_err_and c.from_residual.result c.from_residual.ensures.1 in
     let f = c.in_err-samples.field-0.0 in
     rw (p.1, p.2)
-    (fault_one (field_at (bits_of c.args.format.now.depth * c.sample_count.result / 8))
+    (fault_one file_fault_origin
+    (field_at (bits_of c.args.format.now.depth * c.sample_count.result / 8))
     (raster_at (fields_of c.args.format.now)) _ _ _ f
     (λ was. raster_fails c.args.format.now was c.sample_count.result f
     c.sample_count.ensures.value) c.in_err-samples.ensures.gave_wrong)

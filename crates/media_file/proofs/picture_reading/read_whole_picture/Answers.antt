@@ -2,16 +2,18 @@ use Rattle.std.proofs.Common.{subst, sym}
 use Rattle.std.proofs.lemmas.Result.{err_from_is_err_and}
 use Rattle.st_format.specs.Fields.{fields_of}
 use Rattle.st_format.specs.Picture.{Values}
-use Rattle.media_file.specs.Fields.{GaveWhole, Takes}
+use Rattle.st_format.specs.Given.{GaveWhole, Takes}
 use Rattle.media_file.specs.PictureFile.{one_at, picture_walk, shown_of}
 use Rattle.media_file.proofs.Raster.{block_fails, body_fails, end_fails, picture_gives}
 use Rattle.media_file.proofs.Raster.{version_fails}
 use Rattle.media_file.specs.declared.front.Version.TheVariants.{One}
 use Rattle.media_file.specs.Blocks.{block_at}
 use Rattle.media_file.specs.Fronts.{picture_name}
-use Rattle.media_file.proofs.Gave.{fault_one, fault_two, octets_both, octets_same}
+use Rattle.media_file.proofs.Gave.{octets_both, octets_same}
 use Rattle.media_file.proofs.GavePictures.{body_gave, end_gave, picture_gave}
 use Rattle.media_file.proofs.picture_reading.read_whole_picture.Goals as goal
+use Rattle.st_format.proofs.Gave.{fault_one, fault_two}
+use Rattle.media_file.specs.Faults.{file_fault_origin}
 
 pub returns-in_err-read_version_one-clause-fault : goal.returns-in_err-read_version_one-clause-fault
 returns-in_err-read_version_one-clause-fault g c =
@@ -67,7 +69,8 @@ returns-in_err-read_version_one-clause-gave_wrong g c =
     let p = err_from_is_err_and c.from_residual.result c.from_residual.ensures.1 in
     let f = c.in_err-read_version_one.field-0.0 in
     rw (p.1, p.2)
-    (fault_one (one_at picture_name) picture_walk _ _ _ f (λ was. version_fails was f)
+    (fault_one file_fault_origin (one_at picture_name) picture_walk _ _ _ f
+    (λ was. version_fails was f)
     c.in_err-read_version_one.ensures.gave_wrong)
 
 pub returns-in_err-format-clause-gave_wrong : goal.returns-in_err-format-clause-gave_wrong
@@ -77,7 +80,7 @@ returns-in_err-format-clause-gave_wrong g c =
     c.from_residual-in_err-format.ensures.1 in
     let f = c.in_err-format.field-0.0 in
     rw (p.1, p.2)
-    (fault_two (one_at picture_name) block_at picture_walk One _ _ _ _ f
+    (fault_two file_fault_origin (one_at picture_name) block_at picture_walk One _ _ _ _ f
     (λ was mid. block_fails was mid f) c.in_ok-read_version_one.ensures.gave
     c.in_err-format.ensures.gave_wrong)
 

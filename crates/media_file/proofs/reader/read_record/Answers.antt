@@ -1,9 +1,10 @@
 use Rattle.std.proofs.Common.{ℕ, [], ◌∷◌, ◌++◌, ap, ◌∙◌}
 use Rattle.std.proofs.lemmas.Result.{err_from_is_err_and}
 use Rattle.media_file.specs.Records.{Entry, entry_of, rest_text}
-use Rattle.media_file.proofs.Givings.{grew_twice, none_behind, none_first}
+use Rattle.media_file.proofs.Givings.{none_behind, none_first}
 use Rattle.media_file.proofs.Rests.{fails_from}
 use Rattle.media_file.proofs.reader.read_record.Goals as goal
+use Rattle.st_format.proofs.Gave.{grew_twice}
 
 pub returns-in_err-record_rest-clause-fault : goal.returns-in_err-record_rest-clause-fault
 returns-in_err-record_rest-clause-fault g c =

@@ -4,11 +4,13 @@ use Rattle.st_format.specs.Device.{CountsOne}
 use Rattle.std.proofs.Common.{◌≡◌, ◌<◌, ◌≤◌, length, take, ◌∙◌, sym, arith}
 use Rattle.std.proofs.lemmas.List.{length-take, length-take-le}
 use Rattle.std.proofs.lemmas.Result.{err_from_is_err_and}
-use Rattle.media_file.proofs.Rests.{gave_all, cut_head, bad_head, cut_octets, part_bad}
+use Rattle.media_file.proofs.Rests.{cut_head, bad_head, cut_octets, part_bad}
 use Rattle.media_file.specs.declared.fault.FileFault.TheVariants.{Device, Truncated}
 use Rattle.media_file.proofs.Rests.{part_head, part_octets}
-use Rattle.media_file.proofs.Givings.{grew_all, wrong_head, wrong_octets, wrong_path}
+use Rattle.media_file.proofs.Givings.{wrong_head, wrong_octets, wrong_path}
 use Rattle.media_file.proofs.steps.record_rest.Goals as goal
+use Rattle.st_format.proofs.Gave.{grew_all}
+use Rattle.st_format.proofs.Parsing.{gave_all}
 
 pub returns-then-branch-lt-REST-clause-fault : goal.returns-then-branch-lt-REST-clause-fault
 returns-then-branch-lt-REST-clause-fault g c =

@@ -3,8 +3,10 @@ use Rattle.std.proofs.lemmas.Result.{err_from_is_err_and}
 use Rattle.pcap_file.proofs.BlockReads.{kept_cut, kept_fails, kept_gives}
 use Rattle.std.proofs.Common.{Ok, Err}
 use Rattle.pcap_file.specs.NgReading.{body_at, kept_at, trailer_at}
-use Rattle.pcap_file.proofs.Gave.{fault_one, fault_tail, gave_tail}
+use Rattle.pcap_file.proofs.Gave.{fault_tail, gave_tail}
 use Rattle.pcap_file.proofs.blocks_reading.keep.Goals as goal
+use Rattle.st_format.proofs.Gave.{fault_one}
+use Rattle.pcap_file.specs.Fields.{recording_fault_origin}
 
 pub returns-in_err-read_body-clause-fault : goal.returns-in_err-read_body-clause-fault
 returns-in_err-read_body-clause-fault g c =
@@ -29,7 +31,7 @@ pub returns-in_err-read_body-clause-gave_wrong : goal.returns-in_err-read_body-c
 returns-in_err-read_body-clause-gave_wrong g c =
     let p = err_from_is_err_and c.from_residual.result c.from_residual.ensures.1 in
     rw (p.1, p.2)
-    (fault_one (body_at (length c.args.buf.now) c.args.count)
+    (fault_one recording_fault_origin (body_at (length c.args.buf.now) c.args.count)
     (kept_at c.args.order c.args.total (length c.args.buf.now) c.args.count) _ _ _
     c.in_err-read_body.field-0.0
     (λ was q. kept_cut c.args.order c.args.total (length c.args.buf.now) c.args.count was

@@ -1,17 +1,20 @@
 use Rattle.std.proofs.lemmas.Result.{err_from_is_err_and}
 use Rattle.pcap_file.specs.NgReading.{passed_at, skip_at, trailer_at}
 use Rattle.pcap_file.proofs.FieldReads.{two_fails, two_gives}
-use Rattle.pcap_file.proofs.Parsing.{fails_first}
 use Rattle.std.proofs.Common.{Ok, Err}
-use Rattle.pcap_file.proofs.Gave.{fault_one, fault_tail, gave_tail}
+use Rattle.pcap_file.proofs.Gave.{fault_tail, gave_tail}
 use Rattle.pcap_file.proofs.blocks_reading.pass.Goals as goal
+use Rattle.st_format.proofs.Gave.{fault_one}
+use Rattle.st_format.proofs.Parsing.{fails_first}
+use Rattle.pcap_file.specs.Fields.{recording_fault_origin}
 
 pub returns-in_err-skip-clause-fault : goal.returns-in_err-skip-clause-fault
 unfolding passed_at
 returns-in_err-skip-clause-fault g c =
     let p = err_from_is_err_and c.from_residual.result c.from_residual.ensures.1 in
     rw (p.1, p.2)
-    (fails_first (skip_at c.args.count) (λ _. trailer_at c.args.order c.args.total) _
+    (fails_first recording_fault_origin (skip_at c.args.count)
+    (λ _. trailer_at c.args.order c.args.total) _
     c.in_err-skip.field-0.0 c.in_err-skip.ensures.fault)
 
 pub returns-clause-read : goal.returns-clause-read
@@ -31,9 +34,11 @@ unfolding passed_at
 returns-in_err-skip-clause-gave_wrong g c =
     let p = err_from_is_err_and c.from_residual.result c.from_residual.ensures.1 in
     rw (p.1, p.2)
-    (fault_one (skip_at c.args.count) (passed_at c.args.order c.args.total c.args.count) _ _ _
+    (fault_one recording_fault_origin (skip_at c.args.count)
+    (passed_at c.args.order c.args.total c.args.count) _ _ _
     c.in_err-skip.field-0.0
-    (λ was q. fails_first (skip_at c.args.count) (λ _. trailer_at c.args.order c.args.total)
+    (λ was q. fails_first recording_fault_origin (skip_at c.args.count)
+    (λ _. trailer_at c.args.order c.args.total)
     was c.in_err-skip.field-0.0 q) c.in_err-skip.ensures.gave_wrong)
 
 pub returns-clause-gave : goal.returns-clause-gave

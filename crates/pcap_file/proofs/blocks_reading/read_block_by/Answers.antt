@@ -3,8 +3,9 @@ use Rattle.std.proofs.lemmas.Result.{err_from_is_err_and}
 use Rattle.pcap_file.proofs.BlockReads.{by_kept, by_kept_fails, by_passed, by_passed_fails}
 use Rattle.std.proofs.Common.{Some, None}
 use Rattle.pcap_file.specs.NgReading.{block_by, kept_at, passed_at}
-use Rattle.pcap_file.proofs.Gave.{fault_one, gave_one}
 use Rattle.pcap_file.proofs.blocks_reading.read_block_by.Goals as goal
+use Rattle.st_format.proofs.Gave.{fault_one, gave_one}
+use Rattle.pcap_file.specs.Fields.{recording_fault_origin}
 
 pub returns-in_err-keep-clause-fault : goal.returns-in_err-keep-clause-fault
 returns-in_err-keep-clause-fault g c =
@@ -39,7 +40,8 @@ pub returns-in_err-keep-clause-gave_wrong : goal.returns-in_err-keep-clause-gave
 returns-in_err-keep-clause-gave_wrong g c =
     let p = err_from_is_err_and c.from_residual.result c.from_residual.ensures.1 in
     rw (p.1, p.2)
-    (fault_one (kept_at c.args.order c.args.total (length c.args.buf.now) c.args.count)
+    (fault_one recording_fault_origin
+    (kept_at c.args.order c.args.total (length c.args.buf.now) c.args.count)
     (block_by c.args.order c.args.kind c.args.total (length c.args.buf.now) c.args.count) _ _ _
     c.in_err-keep.field-0.0
     (λ was q. by_kept_fails c.args.order c.args.kind c.args.total (length c.args.buf.now)
@@ -63,7 +65,7 @@ returns-in_err-pass-clause-gave_wrong g c =
     err_from_is_err_and c.from_residual-in_err-pass.result
     c.from_residual-in_err-pass.ensures.1 in
     rw (p.1, p.2)
-    (fault_one (passed_at c.args.order c.args.total c.args.count)
+    (fault_one recording_fault_origin (passed_at c.args.order c.args.total c.args.count)
     (block_by c.args.order c.args.kind c.args.total (length c.args.buf.now) c.args.count) _ _ _
     c.in_err-pass.field-0.0
     (λ was q. by_passed_fails c.args.order c.args.kind c.args.total (length c.args.buf.now)

@@ -1,12 +1,13 @@
 use Rattle.std.proofs.Common.{◌≡◌, ℕ, length, take, ◌∙◌, arith}
 use Rattle.std.proofs.lemmas.List.{length-take, length-take-le}
 use Rattle.pcap_file.proofs.BlockReads.{front_cut, front_end, front_gives}
-use Rattle.pcap_file.proofs.Parsing.{gave_all}
 use Rattle.std.proofs.Common.{◌<◌, None, Some}
 use Rattle.pcap_file.specs.NgReading.{front_at}
 use Rattle.pcap_file.specs.declared.fault.RecordingFault.TheVariants.{Truncated}
-use Rattle.pcap_file.proofs.Gave.{cut_part, end_part, gave_part, grew_all}
+use Rattle.pcap_file.proofs.Gave.{cut_part, end_part, gave_part}
 use Rattle.pcap_file.proofs.blocks_reading.read_front.Goals as goal
+use Rattle.st_format.proofs.Gave.{grew_all}
+use Rattle.st_format.proofs.Parsing.{gave_all}
 
 pub returns-then-count-eq0-clause-read : goal.returns-then-count-eq0-clause-read
 returns-then-count-eq0-clause-read g c =

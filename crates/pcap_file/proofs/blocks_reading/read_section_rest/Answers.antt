@@ -1,17 +1,19 @@
 use Rattle.std.proofs.lemmas.Result.{err_from_is_err_and}
 use Rattle.pcap_file.specs.NgReading.{passed_at, section_rest_at, version_at}
 use Rattle.pcap_file.proofs.FieldReads.{two_fails, two_gives}
-use Rattle.pcap_file.proofs.Parsing.{fails_first}
 use Rattle.std.proofs.Common.{Ok, Err}
-use Rattle.pcap_file.proofs.Gave.{fault_one, fault_tail, gave_tail}
+use Rattle.pcap_file.proofs.Gave.{fault_tail, gave_tail}
 use Rattle.pcap_file.proofs.blocks_reading.read_section_rest.Goals as goal
+use Rattle.st_format.proofs.Gave.{fault_one}
+use Rattle.st_format.proofs.Parsing.{fails_first}
+use Rattle.pcap_file.specs.Fields.{recording_fault_origin}
 
 pub returns-in_err-read_version-clause-fault : goal.returns-in_err-read_version-clause-fault
 unfolding section_rest_at
 returns-in_err-read_version-clause-fault g c =
     let p = err_from_is_err_and c.from_residual.result c.from_residual.ensures.1 in
     rw (p.1, p.2)
-    (fails_first (version_at c.args.order)
+    (fails_first recording_fault_origin (version_at c.args.order)
     (λ _. passed_at c.args.order c.args.total c.args.count) _
     c.in_err-read_version.field-0.0 c.in_err-read_version.ensures.fault)
 
@@ -33,10 +35,11 @@ unfolding section_rest_at
 returns-in_err-read_version-clause-gave_wrong g c =
     let p = err_from_is_err_and c.from_residual.result c.from_residual.ensures.1 in
     rw (p.1, p.2)
-    (fault_one (version_at c.args.order) (section_rest_at c.args.order c.args.total c.args.count) _
+    (fault_one recording_fault_origin (version_at c.args.order)
+    (section_rest_at c.args.order c.args.total c.args.count) _
     _ _
     c.in_err-read_version.field-0.0
-    (λ was q. fails_first (version_at c.args.order)
+    (λ was q. fails_first recording_fault_origin (version_at c.args.order)
     (λ _. passed_at c.args.order c.args.total c.args.count)
     was c.in_err-read_version.field-0.0 q) c.in_err-read_version.ensures.gave_wrong)
 

@@ -2,9 +2,10 @@ use Rattle.std.proofs.lemmas.Result.{err_from_is_err_and}
 use Rattle.pcap_file.specs.BlockReading.{section_of}
 use Rattle.pcap_file.specs.NgReading.{version_at}
 use Rattle.pcap_file.proofs.FieldReads.{made_cut, made_fails, made_gives}
-use Rattle.pcap_file.specs.Fields.{field_at}
-use Rattle.pcap_file.proofs.Gave.{fault_made, fault_one, gave_made}
+use Rattle.pcap_file.specs.Fields.{field_at, recording_fault_origin}
+use Rattle.pcap_file.proofs.Gave.{fault_made, gave_made}
 use Rattle.pcap_file.proofs.blocks_reading.read_version.Goals as goal
+use Rattle.st_format.proofs.Gave.{fault_one}
 
 pub returns-in_err-read_field-clause-fault : goal.returns-in_err-read_field-clause-fault
 unfolding version_at
@@ -33,7 +34,8 @@ unfolding version_at
 returns-in_err-read_field-clause-gave_wrong g c =
     let p = err_from_is_err_and c.from_residual.result c.from_residual.ensures.1 in
     rw (p.1, p.2)
-    (fault_one (field_at 12) (version_at c.args.order) _ _ _ c.in_err-read_field.field-0.0
+    (fault_one recording_fault_origin (field_at 12) (version_at c.args.order) _ _ _
+    c.in_err-read_field.field-0.0
     (λ was q. made_cut 12 (section_of c.args.order) was
     c.in_err-read_field.field-0.0 q) c.in_err-read_field.ensures.gave_wrong)
 

@@ -2,11 +2,11 @@ use Rattle.std.proofs.Common.{◌≤◌, ◌+◌, refl, ◌≡◌, ℕ, length, 
 use Rattle.std.proofs.lemmas.List.{length-take, length-take-le}
 use Rattle.std.proofs.lemmas.Result.{err_from_is_err_and}
 use Rattle.pcap_file.proofs.FieldReads.{skip_cut, skip_more, skip_none}
-use Rattle.pcap_file.proofs.Parsing.{field_as}
-use Rattle.pcap_file.specs.Fields.{field_at}
+use Rattle.pcap_file.proofs.FieldReads.{field_as}
+use Rattle.pcap_file.specs.Fields.{field_at, recording_fault_origin}
 use Rattle.pcap_file.specs.NgReading.{skip_at}
-use Rattle.pcap_file.proofs.Gave.{fault_two, gave_none, gave_two}
 use Rattle.pcap_file.proofs.blocks_reading.skip.Goals as goal
+use Rattle.st_format.proofs.Gave.{fault_two, gave_none, gave_two}
 
 pub loop-done-init : goal.loop-done-init
 loop-done-init g c = (
@@ -45,7 +45,8 @@ returns-in_err-read_field-clause-gave_wrong g c =
       c.loop-done-test.true,
     ) in
     rw (p.1, p.2)
-    (fault_two (skip_at l.done) (field_at n) (skip_at c.args.count) tt _ _ _ _
+    (fault_two recording_fault_origin (skip_at l.done) (field_at n) (skip_at c.args.count) tt _ _ _
+    _
     c.in_err-read_field.field-0.0
     (λ was mid q r. skip_cut l.done n c.args.count was mid c.in_err-read_field.field-0.0 fits q r)
     l.invariant.2 c.in_err-read_field.ensures.gave_wrong)

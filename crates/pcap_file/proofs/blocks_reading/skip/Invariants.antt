@@ -1,5 +1,5 @@
 use Rattle.std.proofs.Common.{◌≡◌, ◌≤◌, ◌-◌}
-use Rattle.pcap_file.specs.Fields.{GaveValue, Takes}
+use Rattle.st_format.specs.Given.{GaveValue, Takes}
 use Rattle.pcap_file.specs.NgReading.{skip_at}
 use Rattle.pcap_file.proofs.blocks_reading.skip.Given as goal
 

@@ -1,14 +1,15 @@
 use Rattle.std.proofs.Common.{length, take, Option, subst}
 use Rattle.std.proofs.lemmas.Result.{err_from_is_err_and}
 use Rattle.pcap_file.specs.declared.pcap.PacketHead.{PacketHead}
-use Rattle.pcap_file.specs.Fields.{Takes}
+use Rattle.st_format.specs.Given.{GaveNext, Takes}
 use Rattle.pcap_file.specs.PcapReading.{head_at}
 use Rattle.pcap_file.proofs.PcapReads.{record_cut, record_end, record_fails, record_gives}
-use Rattle.pcap_file.specs.Fields.{GaveNext}
 use Rattle.pcap_file.specs.PcapReading.{octets_at, record_at}
 use Rattle.std.proofs.Common.{None, Some}
-use Rattle.pcap_file.proofs.Gave.{fault_one, fault_two, gave_two, whole_one}
+use Rattle.pcap_file.proofs.Gave.{whole_one}
 use Rattle.pcap_file.proofs.pcap_reading.next_record.Goals as goal
+use Rattle.st_format.proofs.Gave.{fault_one, fault_two, gave_two}
+use Rattle.pcap_file.specs.Fields.{recording_fault_origin}
 
 pub returns-in_err-packet-clause-fault : goal.returns-in_err-packet-clause-fault
 returns-in_err-packet-clause-fault g c =
@@ -51,7 +52,8 @@ pub returns-in_err-packet-clause-gave_wrong : goal.returns-in_err-packet-clause-
 returns-in_err-packet-clause-gave_wrong g c =
     let p = err_from_is_err_and c.from_residual.result c.from_residual.ensures.1 in
     rw (p.1, p.2)
-    (fault_one (head_at c.args.file.now) (record_at (length c.args.buf.now) c.args.file.now) _ _ _
+    (fault_one recording_fault_origin (head_at c.args.file.now)
+    (record_at (length c.args.buf.now) c.args.file.now) _ _ _
     c.in_err-packet.field-0.0
     (λ was q. record_cut (length c.args.buf.now) c.args.file.now was c.in_err-packet.field-0.0 q)
     c.in_err-packet.ensures.gave_wrong)
@@ -72,7 +74,7 @@ returns-in_err-record_rest-clause-gave_wrong g c =
     err_from_is_err_and c.from_residual-in_err-record_rest.result
     c.from_residual-in_err-record_rest.ensures.1 in
     rw (p.1, p.2)
-    (fault_two (head_at c.args.file.now)
+    (fault_two recording_fault_origin (head_at c.args.file.now)
     (octets_at (length c.args.buf.now) c.in-Some.packet)
     (record_at (length c.args.buf.now) c.args.file.now) (Some c.in-Some.packet) _ _ _ _
     c.in_err-record_rest.field-0.0

@@ -1,9 +1,10 @@
 use Rattle.std.proofs.lemmas.Result.{err_from_is_err_and}
 use Rattle.pcap_file.proofs.PcapReads.{pcap_cut, pcap_fails, pcap_gives}
-use Rattle.pcap_file.specs.Fields.{field_at}
+use Rattle.pcap_file.specs.Fields.{field_at, recording_fault_origin}
 use Rattle.pcap_file.specs.PcapReading.{pcap_at}
-use Rattle.pcap_file.proofs.Gave.{fault_made, fault_one, gave_made}
+use Rattle.pcap_file.proofs.Gave.{fault_made, gave_made}
 use Rattle.pcap_file.proofs.pcap_reading.read_pcap.Goals as goal
+use Rattle.st_format.proofs.Gave.{fault_one}
 
 pub returns-in_err-read_field-clause-fault : goal.returns-in_err-read_field-clause-fault
 returns-in_err-read_field-clause-fault g c =
@@ -24,7 +25,7 @@ pub returns-in_err-read_field-clause-gave_wrong : goal.returns-in_err-read_field
 returns-in_err-read_field-clause-gave_wrong g c =
     let p = err_from_is_err_and c.from_residual.result c.from_residual.ensures.1 in
     rw (p.1, p.2)
-    (fault_one (field_at 24) pcap_at _ _ _ c.in_err-read_field.field-0.0
+    (fault_one recording_fault_origin (field_at 24) pcap_at _ _ _ c.in_err-read_field.field-0.0
     (λ was q. pcap_cut was c.in_err-read_field.field-0.0 q) c.in_err-read_field.ensures.gave_wrong)
 
 pub returns-clause-gave : goal.returns-clause-gave

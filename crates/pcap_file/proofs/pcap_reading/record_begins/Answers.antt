@@ -1,15 +1,15 @@
 use Rattle.std.proofs.Common.{◌≡◌, ℕ, length, take, Option, Some, sym, subst, arith}
 use Rattle.std.proofs.lemmas.List.{length-take, length-take-le}
 use Rattle.pcap_file.specs.declared.pcap.PacketHead.{PacketHead}
-use Rattle.pcap_file.specs.Fields.{Takes}
+use Rattle.st_format.specs.Given.{GaveValue, Takes}
 use Rattle.pcap_file.specs.PcapReading.{head_at}
-use Rattle.pcap_file.proofs.Parsing.{gave_all}
 use Rattle.pcap_file.proofs.PcapReads.{head_cut, head_end, head_gives}
-use Rattle.pcap_file.specs.Fields.{GaveValue}
 use Rattle.std.proofs.Common.{◌<◌, None}
 use Rattle.pcap_file.specs.declared.fault.RecordingFault.TheVariants.{Truncated}
-use Rattle.pcap_file.proofs.Gave.{cut_part, end_part, gave_part, grew_all}
+use Rattle.pcap_file.proofs.Gave.{cut_part, end_part, gave_part}
 use Rattle.pcap_file.proofs.pcap_reading.record_begins.Goals as goal
+use Rattle.st_format.proofs.Gave.{grew_all}
+use Rattle.st_format.proofs.Parsing.{gave_all}
 
 pub returns-then-count-eq0-clause-read : goal.returns-then-count-eq0-clause-read
 returns-then-count-eq0-clause-read g c =

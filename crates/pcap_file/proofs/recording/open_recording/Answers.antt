@@ -1,12 +1,13 @@
 use Rattle.std.proofs.Common.{length}
 use Rattle.std.proofs.lemmas.Result.{err_from_is_err_and}
-use Rattle.pcap_file.specs.Fields.{field_at}
+use Rattle.pcap_file.specs.Fields.{field_at, recording_fault_origin}
 use Rattle.pcap_file.specs.Openings.{laid_behind}
 use Rattle.pcap_file.specs.Runs.{layout_seen, opened_at}
-use Rattle.pcap_file.proofs.Gave.{fault_one, fault_tail, gave_tail}
+use Rattle.pcap_file.proofs.Gave.{fault_tail, gave_tail}
 use Rattle.pcap_file.proofs.Openings.{opened_cut, opened_fails, opened_gives}
 use Rattle.pcap_file.proofs.Runs.{has_not_opened, has_not_opened_if, has_opened_if}
 use Rattle.pcap_file.proofs.recording.open_recording.Goals as goal
+use Rattle.st_format.proofs.Gave.{fault_one}
 
 pub returns-in_err-read_field-clause-fault : goal.returns-in_err-read_field-clause-fault
 returns-in_err-read_field-clause-fault g c =
@@ -14,7 +15,7 @@ returns-in_err-read_field-clause-fault g c =
     let p = err_from_is_err_and c.from_residual.result c.from_residual.ensures.1 in
     rw (p.1, p.2)
     (has_not_opened (length c.args.buf.now) _ _ _ f
-    (fault_one (field_at 4) opened_at _ _ _ f (λ was q. opened_cut was f q)
+    (fault_one recording_fault_origin (field_at 4) opened_at _ _ _ f (λ was q. opened_cut was f q)
     c.in_err-read_field.ensures.gave_wrong))
 
 pub returns-clause-read : goal.returns-clause-read

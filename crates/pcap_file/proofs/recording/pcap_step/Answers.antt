@@ -1,6 +1,6 @@
 use Rattle.std.proofs.Common.{◌-◌, Option, length, refl, subst, arith}
 use Rattle.pcap_file.specs.declared.pcap.PacketHead.{PacketHead}
-use Rattle.pcap_file.specs.Fields.{GaveNext}
+use Rattle.st_format.specs.Given.{GaveNext}
 use Rattle.pcap_file.specs.PcapReading.{option_recorded, record_at}
 use Rattle.pcap_file.specs.Runs.{InPcap}
 use Rattle.pcap_file.proofs.Runs.{pcap_ends, pcap_fault, pcap_reads, reads_too_many}

@@ -1,16 +1,17 @@
 use Rattle.std.proofs.Common.{Bool, length, sym, ◌∙◌, subst}
 use Rattle.std.proofs.lemmas.Result.{err_from_is_err_and}
-use Rattle.pcap_file.specs.Fields.{Takes}
+use Rattle.st_format.specs.Given.{GaveNext, Takes}
 use Rattle.pcap_file.specs.NgReading.{front_at, front_in}
 use Rattle.pcap_file.specs.NgSteps.{known}
 use Rattle.pcap_file.proofs.Steps.{step_cut, step_end, step_other, step_other_fails, step_section}
 use Rattle.pcap_file.proofs.Steps.{step_section_fails}
-use Rattle.pcap_file.specs.Fields.{GaveNext}
 use Rattle.std.proofs.Common.{None, Some, Ok, Err}
 use Rattle.pcap_file.specs.NgSteps.{other_step, section_step, step_at, step_seen}
-use Rattle.pcap_file.proofs.Gave.{fault_one, fault_tail, gave_tail, whole_one}
+use Rattle.pcap_file.proofs.Gave.{fault_tail, gave_tail, whole_one}
 use Rattle.pcap_file.proofs.Steps.{gave_goes_on}
 use Rattle.pcap_file.proofs.section.next_block.Goals as goal
+use Rattle.st_format.proofs.Gave.{fault_one}
+use Rattle.pcap_file.specs.Fields.{recording_fault_origin}
 
 pub returns-in_err-read_front-clause-fault : goal.returns-in_err-read_front-clause-fault
 returns-in_err-read_front-clause-fault g c =
@@ -64,7 +65,8 @@ pub returns-in_err-read_front-clause-gave_wrong : goal.returns-in_err-read_front
 returns-in_err-read_front-clause-gave_wrong g c =
     let p = err_from_is_err_and c.from_residual.result c.from_residual.ensures.1 in
     rw (p.1, p.2)
-    (fault_one front_at (step_at (length c.args.buf.now) (known c.args.section.now)) _ _ _
+    (fault_one recording_fault_origin front_at
+    (step_at (length c.args.buf.now) (known c.args.section.now)) _ _ _
     c.in_err-read_front.field-0.0
     (λ was q. step_cut (length c.args.buf.now) (known c.args.section.now) was
     c.in_err-read_front.field-0.0 q) c.in_err-read_front.ensures.gave_wrong)

@@ -4,8 +4,10 @@ use Rattle.pcap_file.proofs.Steps.{counts_pure, other_cut, other_fails, other_gi
 use Rattle.std.proofs.Common.{None, Some}
 use Rattle.pcap_file.specs.NgReading.{block_at}
 use Rattle.pcap_file.specs.NgSteps.{other_step, step_seen}
-use Rattle.pcap_file.proofs.Gave.{fault_made, fault_one, gave_made, gave_one}
+use Rattle.pcap_file.proofs.Gave.{fault_made, gave_made}
 use Rattle.pcap_file.proofs.section.next_other.Goals as goal
+use Rattle.st_format.proofs.Gave.{fault_one, gave_one}
+use Rattle.pcap_file.specs.Fields.{recording_fault_origin}
 
 pub returns-in-Ok-Some-clause-read : goal.returns-in-Ok-Some-clause-read
 returns-in-Ok-Some-clause-read g c =
@@ -69,7 +71,8 @@ returns-in-Ok-None-clause-gave g c =
 
 pub returns-in-Err-clause-gave_wrong : goal.returns-in-Err-clause-gave_wrong
 returns-in-Err-clause-gave_wrong g c =
-    fault_one (block_at c.args.section.now.order (length c.args.buf.now) c.args.front.now)
+    fault_one recording_fault_origin
+    (block_at c.args.section.now.order (length c.args.buf.now) c.args.front.now)
     (other_step (length c.args.buf.now) (known c.args.section.now) c.args.front.now) _ _ _
     c.in-Err.fault
     (λ was q. other_cut (length c.args.buf.now) (known c.args.section.now) c.args.front.now was

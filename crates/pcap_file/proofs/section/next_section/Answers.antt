@@ -4,8 +4,9 @@ use Rattle.pcap_file.proofs.Steps.{section_begins, section_cut}
 use Rattle.std.proofs.Common.{None, Some}
 use Rattle.pcap_file.specs.NgReading.{section_at}
 use Rattle.pcap_file.specs.NgSteps.{section_step}
-use Rattle.pcap_file.proofs.Gave.{fault_one, gave_one}
 use Rattle.pcap_file.proofs.section.next_section.Goals as goal
+use Rattle.st_format.proofs.Gave.{fault_one, gave_one}
+use Rattle.pcap_file.specs.Fields.{recording_fault_origin}
 
 pub returns-in_err-order-clause-fault : goal.returns-in_err-order-clause-fault
 returns-in_err-order-clause-fault g c =
@@ -22,7 +23,8 @@ pub returns-in_err-order-clause-gave_wrong : goal.returns-in_err-order-clause-ga
 returns-in_err-order-clause-gave_wrong g c =
     let p = err_from_is_err_and c.from_residual.result c.from_residual.ensures.1 in
     rw (p.1, p.2)
-    (fault_one (section_at c.args.front.now) (section_step c.args.front.now) _ _ _
+    (fault_one recording_fault_origin (section_at c.args.front.now) (section_step c.args.front.now)
+    _ _ _
     c.in_err-order.field-0.0
     (λ was q. section_cut c.args.front.now was c.in_err-order.field-0.0 q)
     c.in_err-order.ensures.gave_wrong)

@@ -1,6 +1,6 @@
 use Rattle.std.proofs.Common.{arith}
 use Rattle.media_file.specs.Faults.{CountsFault}
-use Rattle.media_file.specs.Fields.{Takes}
+use Rattle.st_format.specs.Given.{Takes}
 use Rattle.receiver_file.specs.Saved.{kept_frames}
 use Rattle.receiver_file.specs.StateReading.{all_held_at}
 use Rattle.std.proofs.Common.{◌≡◌, ℕ, ◌+◌, ◌∙◌, List, [], ◌∷◌, ◌++◌, length, length-append, ap}

@@ -2,7 +2,7 @@ use Rattle.std.proofs.Common.{◌≡◌, [], All, length}
 use Rattle.st_format.specs.Fields.{fields_of}
 use Rattle.st_format.specs.Raster.{Raster}
 use Rattle.path_merge.specs.Opening.{AreDifferent}
-use Rattle.media_file.specs.Fields.{Takes}
+use Rattle.st_format.specs.Given.{Takes}
 use Rattle.receiver_file.specs.Giving.{GaveOf}
 use Rattle.receiver_file.specs.Saved.{kept_frames}
 use Rattle.receiver_file.specs.StateReading.{all_held_at}

@@ -1,10 +1,11 @@
 use Rattle.std.proofs.lemmas.Result.{err_from_is_err_and}
 use Rattle.receiver_file.proofs.Stamped.{new_out, stamp_cut, stamp_fails, stamp_gives}
-use Rattle.media_file.proofs.Gave.{fault_one}
 use Rattle.receiver_file.proofs.Giving.{fault_made, gave_made}
 use Rattle.receiver_file.specs.Numbers.{number_at}
 use Rattle.receiver_file.specs.StateReading.{timestamp_at}
 use Rattle.receiver_file.proofs.frames.read_timestamp.Goals as goal
+use Rattle.st_format.proofs.Gave.{fault_one}
+use Rattle.media_file.specs.Faults.{file_fault_origin}
 
 pub returns-in_err-timestamp-clause-fault : goal.returns-in_err-timestamp-clause-fault
 returns-in_err-timestamp-clause-fault g c =
@@ -34,7 +35,8 @@ returns-in_err-timestamp-clause-gave_wrong g c =
     let before = c.args.before.now in
     let f = c.in_err-timestamp.field-0.0 in
     rw (p.1, p.2)
-    (fault_one number_at (timestamp_at before) _ _ _ f (λ was. stamp_cut before was f)
+    (fault_one file_fault_origin number_at (timestamp_at before) _ _ _ f
+    (λ was. stamp_cut before was f)
     c.in_err-timestamp.ensures.gave_wrong)
 
 pub returns-clause-gave : goal.returns-clause-gave

@@ -1,6 +1,5 @@
 use Rattle.std.proofs.lemmas.Result.{err_from_is_err_and}
 use Rattle.receiver_file.proofs.Fronting.{count_cut, count_gives, count_many, count_none}
-use Rattle.media_file.proofs.Gave.{fault_one}
 use Rattle.receiver_file.proofs.Giving.{fault_of, gave_one}
 use Rattle.media_file.specs.declared.fault.FileFault.TheVariants.{BadField}
 use Rattle.receiver_file.specs.Front.{count_at}
@@ -10,6 +9,8 @@ use Rattle.receiver_file.proofs.front.read_count.Goals.{
   then-count-eq0-via-else-count-eq0+then-count-gt16,
 }
 use Rattle.receiver_file.proofs.front.read_count.Goals as goal
+use Rattle.st_format.proofs.Gave.{fault_one}
+use Rattle.media_file.specs.Faults.{file_fault_origin}
 
 pub returns-in_err-count-clause-fault : goal.returns-in_err-count-clause-fault
 returns-in_err-count-clause-fault g c =
@@ -35,7 +36,7 @@ returns-in_err-count-clause-gave_wrong g c =
     err_from_is_err_and c.from_residual.result c.from_residual.ensures.1 in
     let f = c.in_err-count.field-0.0 in
     rw (p.1, p.2)
-    (fault_one octet_at count_at _ _ _ f (λ was. count_cut was f)
+    (fault_one file_fault_origin octet_at count_at _ _ _ f (λ was. count_cut was f)
     c.in_err-count.ensures.gave_wrong)
 
 pub returns-then-count-eq0-clause-gave_wrong : goal.returns-then-count-eq0-clause-gave_wrong

@@ -1,10 +1,11 @@
 use Rattle.std.proofs.lemmas.Result.{err_from_is_err_and}
 use Rattle.receiver_file.proofs.Fronting.{flag_cut, flag_fails, flag_gives}
-use Rattle.media_file.proofs.Gave.{fault_one}
 use Rattle.receiver_file.proofs.Giving.{fault_made, gave_made}
 use Rattle.receiver_file.specs.Front.{flag_at}
 use Rattle.receiver_file.specs.Numbers.{octet_at}
 use Rattle.receiver_file.proofs.front.read_flag.Goals as goal
+use Rattle.st_format.proofs.Gave.{fault_one}
+use Rattle.media_file.specs.Faults.{file_fault_origin}
 
 pub returns-in_err-code-clause-fault : goal.returns-in_err-code-clause-fault
 returns-in_err-code-clause-fault g c =
@@ -25,7 +26,8 @@ returns-in_err-code-clause-gave_wrong g c =
     err_from_is_err_and c.from_residual.result c.from_residual.ensures.1 in
     let f = c.in_err-code.field-0.0 in
     rw (p.1, p.2)
-    (fault_one octet_at flag_at _ _ _ f (λ was. flag_cut was f) c.in_err-code.ensures.gave_wrong)
+    (fault_one file_fault_origin octet_at flag_at _ _ _ f (λ was. flag_cut was f)
+    c.in_err-code.ensures.gave_wrong)
 
 pub returns-clause-gave : goal.returns-clause-gave
 returns-clause-gave g c =

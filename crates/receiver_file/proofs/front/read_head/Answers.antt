@@ -1,9 +1,10 @@
 use Rattle.std.proofs.lemmas.Result.{err_from_is_err_and}
 use Rattle.receiver_file.proofs.Fronting.{head_first, head_gives, head_second, head_third}
-use Rattle.media_file.proofs.Gave.{fault_one}
 use Rattle.receiver_file.proofs.Giving.{fault_three, fault_two, gave_three}
 use Rattle.receiver_file.specs.Front.{count_at, head_at, payload_type_at, ssrc_at}
 use Rattle.receiver_file.proofs.front.read_head.Goals as goal
+use Rattle.st_format.proofs.Gave.{fault_one}
+use Rattle.media_file.specs.Faults.{file_fault_origin}
 
 pub returns-in_err-payload_type-clause-fault : goal.returns-in_err-payload_type-clause-fault
 returns-in_err-payload_type-clause-fault g c =
@@ -40,7 +41,7 @@ returns-in_err-payload_type-clause-gave_wrong g c =
     err_from_is_err_and c.from_residual.result c.from_residual.ensures.1 in
     let f = c.in_err-payload_type.field-0.0 in
     rw (p.1, p.2)
-    (fault_one payload_type_at head_at _ _ _ f (λ was. head_first was f)
+    (fault_one file_fault_origin payload_type_at head_at _ _ _ f (λ was. head_first was f)
     c.in_err-payload_type.ensures.gave_wrong)
 
 pub returns-in_err-ssrc-clause-gave_wrong : goal.returns-in_err-ssrc-clause-gave_wrong

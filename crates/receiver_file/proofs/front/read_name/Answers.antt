@@ -1,11 +1,12 @@
 use Rattle.std.proofs.lemmas.Result.{err_from_is_err_and}
 use Rattle.receiver_file.proofs.Fronting.{name_cut, name_one, name_two}
-use Rattle.media_file.proofs.Gave.{fault_one}
 use Rattle.receiver_file.proofs.Giving.{fault_of, gave_octets, gave_one}
 use Rattle.media_file.specs.declared.fault.FileFault.TheVariants.{BadVersion}
 use Rattle.media_file.specs.Fronts.{kind_at, receiver_name}
 use Rattle.receiver_file.specs.Front.{name_at}
 use Rattle.receiver_file.proofs.front.read_name.Goals as goal
+use Rattle.st_format.proofs.Gave.{fault_one}
+use Rattle.media_file.specs.Faults.{file_fault_origin}
 
 pub returns-in_err-read_kind-clause-fault : goal.returns-in_err-read_kind-clause-fault
 returns-in_err-read_kind-clause-fault g c =
@@ -24,7 +25,7 @@ returns-in_err-read_kind-clause-gave_wrong g c =
     err_from_is_err_and c.from_residual.result c.from_residual.ensures.1 in
     let f = c.in_err-read_kind.field-0.0 in
     rw (p.1, p.2)
-    (fault_one (kind_at receiver_name) name_at _ _ _ f (λ was. name_cut was f)
+    (fault_one file_fault_origin (kind_at receiver_name) name_at _ _ _ f (λ was. name_cut was f)
     c.in_err-read_kind.ensures.gave_wrong)
 
 pub returns-in-One-clause-gave : goal.returns-in-One-clause-gave

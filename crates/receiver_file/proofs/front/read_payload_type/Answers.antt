@@ -1,11 +1,12 @@
 use Rattle.std.proofs.lemmas.Result.{err_from_is_err_and}
 use Rattle.receiver_file.proofs.Fronting.{payload_type_cut, payload_type_gives, payload_type_high}
-use Rattle.media_file.proofs.Gave.{fault_one}
 use Rattle.receiver_file.proofs.Giving.{fault_of, gave_one}
 use Rattle.media_file.specs.declared.fault.FileFault.TheVariants.{BadField}
 use Rattle.receiver_file.specs.Front.{payload_type_at}
 use Rattle.receiver_file.specs.Numbers.{octet_at}
 use Rattle.receiver_file.proofs.front.read_payload_type.Goals as goal
+use Rattle.st_format.proofs.Gave.{fault_one}
+use Rattle.media_file.specs.Faults.{file_fault_origin}
 
 pub returns-in_err-payload_type-clause-fault : goal.returns-in_err-payload_type-clause-fault
 returns-in_err-payload_type-clause-fault g c =
@@ -28,7 +29,7 @@ returns-in_err-payload_type-clause-gave_wrong g c =
     err_from_is_err_and c.from_residual.result c.from_residual.ensures.1 in
     let f = c.in_err-payload_type.field-0.0 in
     rw (p.1, p.2)
-    (fault_one octet_at payload_type_at _ _ _ f (λ was. payload_type_cut was f)
+    (fault_one file_fault_origin octet_at payload_type_at _ _ _ f (λ was. payload_type_cut was f)
     c.in_err-payload_type.ensures.gave_wrong)
 
 pub returns-then-payload_type-gt127-clause-gave_wrong :

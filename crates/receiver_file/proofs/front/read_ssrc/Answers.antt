@@ -1,10 +1,11 @@
 use Rattle.std.proofs.lemmas.Result.{err_from_is_err_and}
 use Rattle.receiver_file.proofs.Fronting.{ssrc_cut, ssrc_fails, ssrc_gives, ssrc_short}
-use Rattle.media_file.proofs.Gave.{fault_one}
 use Rattle.receiver_file.proofs.Giving.{fault_both, fault_two, gave_both}
 use Rattle.receiver_file.specs.Front.{flag_at, ssrc_at}
 use Rattle.receiver_file.specs.Numbers.{number_at}
 use Rattle.receiver_file.proofs.front.read_ssrc.Goals as goal
+use Rattle.st_format.proofs.Gave.{fault_one}
+use Rattle.media_file.specs.Faults.{file_fault_origin}
 
 pub returns-in_err-pinned-clause-fault : goal.returns-in_err-pinned-clause-fault
 returns-in_err-pinned-clause-fault g c =
@@ -36,7 +37,8 @@ returns-in_err-pinned-clause-gave_wrong g c =
     err_from_is_err_and c.from_residual.result c.from_residual.ensures.1 in
     let f = c.in_err-pinned.field-0.0 in
     rw (p.1, p.2)
-    (fault_one flag_at ssrc_at _ _ _ f (λ was. ssrc_cut was f) c.in_err-pinned.ensures.gave_wrong)
+    (fault_one file_fault_origin flag_at ssrc_at _ _ _ f (λ was. ssrc_cut was f)
+    c.in_err-pinned.ensures.gave_wrong)
 
 pub returns-in_err-ssrc-clause-gave_wrong : goal.returns-in_err-ssrc-clause-gave_wrong
 returns-in_err-ssrc-clause-gave_wrong g c =

@@ -1,10 +1,10 @@
 use Rattle.std.proofs.Common.{◌≡◌, ℕ, subst, arith}
 use Rattle.std.proofs.lemmas.Result.{err_from_is_err_and}
-use Rattle.media_file.specs.Fields.{Fails, Takes, field_at}
+use Rattle.media_file.specs.Fields.{Fails, field_at}
+use Rattle.st_format.specs.Given.{Takes}
 use Rattle.receiver_file.specs.Known.{shape_in}
 use Rattle.receiver_file.proofs.KnownReads.{gone_gives, group_cut, mixed_fault, mixed_then}
 use Rattle.receiver_file.proofs.KnownReads.{state_bad, whole_gives, whole_short}
-use Rattle.media_file.proofs.Gave.{fault_one}
 use Rattle.receiver_file.proofs.Giving.{fault_next, fault_of, fault_two, gave_next, gave_octets}
 use Rattle.receiver_file.proofs.Giving.{gave_one}
 use Rattle.receiver_file.proofs.Giving.{gave_two}
@@ -15,6 +15,8 @@ use Rattle.receiver_file.specs.Known.{cells_known, mixed_at}
 use Rattle.receiver_file.specs.Numbers.{octet_at}
 use Rattle.media_file.specs.Groups.{group_at}
 use Rattle.receiver_file.proofs.known.read_known.Goals as goal
+use Rattle.st_format.proofs.Gave.{fault_one}
+use Rattle.media_file.specs.Faults.{file_fault_origin}
 
 pub returns-in_err-read_octet-clause-fault : goal.returns-in_err-read_octet-clause-fault
 returns-in_err-read_octet-clause-fault g c =
@@ -70,7 +72,7 @@ returns-in_err-read_octet-clause-gave_wrong g c =
     let s = shape_in c.args.format.now in
     let f = c.in_err-read_octet.field-0.0 in
     rw (p.1, p.2)
-    (fault_one octet_at (group_at s) _ _ _ f (λ was. group_cut s was f)
+    (fault_one file_fault_origin octet_at (group_at s) _ _ _ f (λ was. group_cut s was f)
     c.in_err-read_octet.ensures.gave_wrong)
 
 pub returns-in_err-read_field-in-1-clause-gave_wrong :

@@ -1,17 +1,19 @@
 use Rattle.std.proofs.Common.{◌≡◌, ℕ, ◌∙◌, true, false, List, ap, sym, subst}
 use Rattle.std.proofs.lemmas.Result.{err_from_is_err_and}
 use Rattle.st_format.specs.Samples.{values_in}
-use Rattle.media_file.specs.Fields.{Fails, Takes, field_at}
+use Rattle.media_file.specs.Fields.{Fails, field_at}
+use Rattle.st_format.specs.Given.{Takes}
 use Rattle.media_file.specs.Groups.{Shape, cells_by}
 use Rattle.receiver_file.specs.Known.{mixed_at, shape_in}
 use Rattle.receiver_file.proofs.MixedReads.{is_other, mixed_cut, mixed_gives, mixed_other}
 use Rattle.receiver_file.proofs.MixedReads.{mixed_short, not_flipped}
-use Rattle.media_file.proofs.Gave.{fault_one}
 use Rattle.receiver_file.proofs.Giving.{fault_both_so, fault_two, gave_octets, gave_two}
 use Rattle.media_file.specs.declared.fault.FileFault.TheVariants.{MixedGroup}
 use Rattle.media_file.specs.Fields.{GaveFault}
 use Rattle.receiver_file.specs.Giving.{GaveOf}
 use Rattle.receiver_file.proofs.known.read_mixed.Goals as goal
+use Rattle.st_format.proofs.Gave.{fault_one}
+use Rattle.media_file.specs.Faults.{file_fault_origin}
 
 pub returns-in_err-read_field-clause-fault : goal.returns-in_err-read_field-clause-fault
 returns-in_err-read_field-clause-fault g c =
@@ -72,7 +74,7 @@ returns-in_err-read_field-clause-gave_wrong g c =
     let s : Shape = shape_in c.args.format.now in
     let f = c.in_err-read_field.field-0.0 in
     rw (p.1, p.2)
-    (fault_one (field_at 2) (mixed_at s) _ _ _ f (λ was. mixed_cut s was f)
+    (fault_one file_fault_origin (field_at 2) (mixed_at s) _ _ _ f (λ was. mixed_cut s was f)
     c.in_err-read_field.ensures.gave_wrong)
 
 pub returns-in_err-read_field-2-clause-gave_wrong :

@@ -1,11 +1,12 @@
 use Rattle.std.proofs.Common.{refl}
 use Rattle.std.proofs.lemmas.Result.{err_from_is_err_and}
 use Rattle.receiver_file.proofs.Valued.{octet_cut, octet_gives}
-use Rattle.media_file.proofs.Gave.{fault_one}
 use Rattle.media_file.specs.Fields.{field_at}
 use Rattle.receiver_file.proofs.Giving.{gave_octets, gave_one}
 use Rattle.receiver_file.specs.Numbers.{octet_at}
 use Rattle.receiver_file.proofs.octets.read_octet.Goals as goal
+use Rattle.st_format.proofs.Gave.{fault_one}
+use Rattle.media_file.specs.Faults.{file_fault_origin}
 
 pub returns-in_err-read_field-clause-fault : goal.returns-in_err-read_field-clause-fault
 returns-in_err-read_field-clause-fault g c =
@@ -22,7 +23,7 @@ returns-in_err-read_field-clause-gave_wrong g c =
     err_from_is_err_and c.from_residual.result c.from_residual.ensures.1 in
     let f = c.in_err-read_field.field-0.0 in
     rw (p.1, p.2)
-    (fault_one (field_at 1) octet_at _ _ _ f (λ was. octet_cut was f)
+    (fault_one file_fault_origin (field_at 1) octet_at _ _ _ f (λ was. octet_cut was f)
     c.in_err-read_field.ensures.gave_wrong)
 
 pub returns-clause-gave : goal.returns-clause-gave
