@@ -1,6 +1,7 @@
 pub mod Different
 pub mod Tables
 mod RunLaws
+mod TreeLaws
 pub mod CountLaws
 pub mod Keys
 mod BothLaws

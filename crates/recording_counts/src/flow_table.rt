@@ -96,7 +96,6 @@ impl<A: Allocator + Copy> FlowTable<A> {
     }
 }
 
-/// The key of a destination.
 fn flow_key_of(destination: SocketAddr) -> FlowKey
     ensures { result ≡ flow_key_of destination }
 {
@@ -107,7 +106,6 @@ fn flow_key_of(destination: SocketAddr) -> FlowKey
     }
 }
 
-/// The octets of an address, in a key.
 fn key_octets(octets: &[u8]) -> ArrayVec<u8, 16>
     requires { length octets.now ≤ 16 }
     ensures { result.items ≡ octets.now }

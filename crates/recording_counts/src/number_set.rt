@@ -1,11 +1,12 @@
 //! A set of numbers, as runs.
-ghost use Rattle.std.specs.Prelude.{◌≡◌, ◌+◌, ◌≤◌, ◌<◌, suc, false, length, not};
-ghost use Rattle.std.specs.Prelude.{IfOk, OnErr, OnOk, slice_index_or};
+ghost use Rattle.std.specs.Prelude.{◌≡◌, ◌+◌, ◌^◌, ◌<◌, ℕ, false, not};
+ghost use Rattle.std.specs.Prelude.{IfOk, OnErr, OnOk, Some};
 ghost use Rattle.std.specs.FinSet as set;
-ghost use Rattle.recording_counts.specs.declared.number_set.Run.{Run as RunValue};
-ghost use Rattle.recording_counts.specs.Runs.{Belongs, Rises, is_in, numbers_of};
+ghost use Rattle.recording_counts.specs.Runs.{Apart, AreRuns, Begins, HasOneMore, IsLastFrom, IsPut};
+ghost use Rattle.recording_counts.specs.Runs.{begin_of, reaches};
 
 use std::alloc::{AllocError, Allocator};
+use std::collections::BTreeMap;
 use std::marker::Model;
 
 /// Numbers that follow on one another, the first and the last of them.
@@ -18,23 +19,27 @@ pub struct Run {
 /// A set of numbers. Its memory grows with the gaps between them, and not with how many they are.
 #[derive(Drop)]
 pub struct NumberSet<A: Allocator> {
-    runs: Vec<Run, A>,
+    /// The run of the highest numbers, which most of those that come lengthen.
+    top: Option<Run>,
+    /// The runs below it: the last number of each, at its first. Whoever sends the numbers chooses
+    /// how many gaps there are, so they lie in a tree, which no choice makes slow.
+    below: BTreeMap<u64, u64, A>,
 }
 
 impl<A: Allocator> Model for NumberSet<A> {
     ghost use Rattle.std.specs.Ordering.{nat_cmp};
     ghost use Rattle.std.specs.FinSet as set;
     ghost use Rattle.std.specs.Coded.{coded_ℕ};
-    ghost use Rattle.recording_counts.specs.Runs.{Rises, numbers_of};
+    ghost use Rattle.recording_counts.specs.Runs.{AreRuns, all_runs, numbers_of};
 
     // The numbers
     ghost Value = { set.FinSet nat_cmp };
 
     ghost coded = { set.code coded_ℕ };
 
-    ghost view = { λ s. numbers_of s.runs.items };
+    ghost view = { λ s. numbers_of (all_runs s.top s.below) };
 
-    ghost invariant = { λ s. Rises 0 s.runs.items };
+    ghost invariant = { λ s. AreRuns s.top s.below };
 }
 
 impl<A: Allocator> NumberSet<A> {
@@ -43,7 +48,8 @@ impl<A: Allocator> NumberSet<A> {
         ensures { result ≡ set.empty }
     {
         NumberSet {
-            runs: Vec::new(alloc),
+            top: None,
+            below: BTreeMap::new(alloc),
         }
     }
 
@@ -51,11 +57,20 @@ impl<A: Allocator> NumberSet<A> {
     pub fn contains(&self, number: u64) -> bool
         ensures { result ≡ set.contains self.now number }
     {
-        let runs = self.runs.as_slice();
-        let place = place_of(runs, number);
-        place > 0 && number <= runs[place - 1].last
+        match self.top {
+            None => false,
+            Some(top) => {
+                if number < top.first {
+                    reaches(last_from(&self.below, number), number)
+                } else {
+                    number <= top.last
+                }
+            }
+        }
     }
+}
 
+impl<A: Allocator + Clone> NumberSet<A> {
     /// Puts a number into the set, and answers whether it is new there.
     ///
     /// # Errors
@@ -66,64 +81,155 @@ impl<A: Allocator> NumberSet<A> {
         ensures inserted { OnOk result (self.new ≡ set.insert self.old number) }
         ensures kept { OnErr result (self.new ≡ self.old) }
     {
-        let place = place_of(self.runs.as_slice(), number);
-        if place > 0 && number <= self.runs[place - 1].last {
-            return Ok(false);
+        match put(self.top, &mut self.below, number)? {
+            Some(top) => {
+                self.top = Some(top);
+                Ok(true)
+            }
+            None => Ok(false),
         }
-        put(&mut self.runs, place, number)?;
-        Ok(true)
     }
 }
 
-/// How many runs begin at a number or before it.
-fn place_of(runs: &[Run], number: u64) -> usize
-    requires { Rises 0 runs.now }
-    ensures bound { result ≤ length runs.now }
-    ensures belongs { Belongs number result runs.now }
+/// Puts a number to the runs, and answers the top one then; or nothing, where it is there.
+fn put<A: Allocator + Clone>(
+    top: Option<Run>,
+    below: &mut BTreeMap<u64, u64, A>,
+    number: u64,
+) -> Result<Option<Run>, AllocError>
+    requires { AreRuns top below.old }
+    ensures put { IfOk result (λ next. IsPut top below.old number next below.new) }
+    ensures kept { OnErr result (below.new.entries ≡ below.old.entries) }
 {
-    runs.partition_point(|run| run.first <= number)
+    let Some(top) = top else {
+        return Ok(Some(Run {
+            first: number,
+            last: number,
+        }));
+    };
+    if number > top.last {
+        return Ok(Some(put_above(top, below, number)?));
+    }
+    if number >= top.first {
+        return Ok(None);
+    }
+    put_below(top, below, number)
 }
 
-/// Puts a number that is in no run where it belongs: to the runs that it joins, or as a run of its
-/// own.
-fn put<A: Allocator>(runs: &mut Vec<Run, A>, place: usize, number: u64) -> Result<(), AllocError>
-    requires rises { Rises 0 runs.old.items }
-    requires belongs { Belongs number place runs.old.items }
-    requires absent { is_in number runs.old.items ≡ false }
-    ensures rises { OnOk result (Rises 0 runs.new.items) }
-    ensures put { OnOk result (numbers_of runs.new.items
-        ≡ set.insert (numbers_of runs.old.items) number) }
-    ensures kept { OnErr result (runs.new.items ≡ runs.old.items) }
+/// Puts a number above the top run, and answers the top one then.
+fn put_above<A: Allocator + Clone>(
+    top: Run,
+    below: &mut BTreeMap<u64, u64, A>,
+    number: u64,
+) -> Result<Run, AllocError>
+    requires runs { AreRuns (Some top) below.old }
+    requires above { top.last < number }
+    ensures put { IfOk result (λ next. IsPut (Some top) below.old number (Some next) below.new) }
+    ensures kept { OnErr result (below.new.entries ≡ below.old.entries) }
 {
-    if place > 0 && number - runs[place - 1].last == 1 {
-        lengthen(runs, place - 1, number);
-        return Ok(());
+    if number - top.last == 1 {
+        return Ok(Run {
+            first: top.first,
+            last: number,
+        });
     }
-    if place < runs.len() && runs[place].first - number == 1 {
-        runs[place].first = number;
-        return Ok(());
-    }
-    let run = Run {
+    below.insert(top.first, top.last)?;
+    Ok(Run {
         first: number,
         last: number,
-    };
-    runs.insert(place, run)?;
+    })
+}
+
+/// Puts a number below the top run, and answers the top one then; or nothing, where it is there.
+fn put_below<A: Allocator + Clone>(
+    top: Run,
+    below: &mut BTreeMap<u64, u64, A>,
+    number: u64,
+) -> Result<Option<Run>, AllocError>
+    requires runs { AreRuns (Some top) below.old }
+    requires below { number < top.first }
+    ensures put { IfOk result (λ next. IsPut (Some top) below.old number next below.new) }
+    ensures kept { OnErr result (below.new.entries ≡ below.old.entries) }
+{
+    let before = last_from(below, number);
+    if reaches(before, number) {
+        return Ok(None);
+    }
+    let first = begin_of(before, number);
+    if top.first - number > 1 {
+        put_between(below, first, number)?;
+        return Ok(Some(top));
+    }
+    if first < number {
+        below.remove(&first);
+    }
+    Ok(Some(Run {
+        first,
+        last: top.last,
+    }))
+}
+
+/// Puts a number that is in no run to those right before it, from the first of these on, and to
+/// those right behind it.
+fn put_between<A: Allocator + Clone>(
+    runs: &mut BTreeMap<u64, u64, A>,
+    first: u64,
+    number: u64,
+) -> Result<(), AllocError>
+    requires begins { Begins first number runs.old }
+    requires fits { number + 1 < 2 ^ 64 }
+    ensures put { OnOk result ((limit : ℕ) → number + 1 < limit → Apart limit runs.old
+        → Apart limit runs.new × HasOneMore runs.old number runs.new) }
+    ensures kept { OnErr result (runs.new.entries ≡ runs.old.entries) }
+{
+    match runs.get(&(number + 1)).copied() {
+        Some(last) => {
+            runs.insert(first, last)?;
+            runs.remove(&(number + 1));
+        }
+        None => {
+            runs.insert(first, number)?;
+        }
+    }
     Ok(())
 }
 
-/// Puts a number to the run that ends right before it, and that to the next one, where the number
-/// stands right before that.
-fn lengthen<A: Allocator>(runs: &mut Vec<Run, A>, at: usize, number: u64)
-    requires rises { Rises 0 runs.old.items }
-    requires belongs { Belongs number (suc at) runs.old.items }
-    requires follows { (d : RunValue) → (slice_index_or runs.old.items at d).last + 1 ≡ number }
-    ensures rises { Rises 0 runs.new.items }
-    ensures put { numbers_of runs.new.items ≡ set.insert (numbers_of runs.old.items) number }
+/// The last run that begins at a number or before it.
+fn last_from<A: Allocator>(runs: &BTreeMap<u64, u64, A>, number: u64) -> Option<Run>
+    ensures { IsLastFrom number runs.now result }
 {
-    if at + 1 < runs.len() && runs[at + 1].first - number == 1 {
-        let next = runs.remove(at + 1);
-        runs[at].last = next.last;
-    } else {
-        runs[at].last = number;
+    match runs.range(..=number).next_back() {
+        Some((first, last)) => Some(Run {
+            first: *first,
+            last: *last,
+        }),
+        None => None,
+    }
+}
+
+/// Whether the last run that begins at a number or before it has the number.
+fn reaches(run: Option<Run>, number: u64) -> bool
+    ensures { result ≡ reaches run number }
+{
+    match run {
+        Some(run) => number <= run.last,
+        None => false,
+    }
+}
+
+/// Where the run begins that a number is put to, behind this one.
+fn begin_of(run: Option<Run>, number: u64) -> u64
+    requires { reaches run number ≡ false }
+    ensures { result ≡ begin_of run number }
+{
+    match run {
+        Some(run) => {
+            if number - run.last == 1 {
+                run.first
+            } else {
+                number
+            }
+        }
+        None => number,
     }
 }

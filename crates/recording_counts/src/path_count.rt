@@ -36,7 +36,7 @@ pub struct PathCount<A: Allocator> {
     pub numbers: NumberSet<A>,
 }
 
-impl<A: Allocator> PathCount<A> {
+impl<A: Allocator + Clone> PathCount<A> {
     /// Of no packets.
     pub(crate) fn new(alloc: A) -> PathCount<A>
         ensures { result ≡ count_of [] }

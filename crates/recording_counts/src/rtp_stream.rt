@@ -51,7 +51,6 @@ impl RtpStream {
         }
     }
 
-    /// Whether it is of no packets.
     fn is_empty(&self) -> bool
         ensures { result ≡ (self.now.datagrams == 0) }
     {
@@ -59,7 +58,7 @@ impl RtpStream {
     }
 }
 
-/// The earlier of two timestamps.
+/// The one that the other is less than half a round of 2^32 ticks ahead of (RFC 3550, 5.1).
 fn earlier(one: u32, other: u32) -> u32
     ensures { result ≡ earlier one other }
 {
@@ -70,7 +69,7 @@ fn earlier(one: u32, other: u32) -> u32
     }
 }
 
-/// The later of two timestamps.
+/// The one that is less than half a round ahead of the other.
 fn later(one: u32, other: u32) -> u32
     ensures { result ≡ later one other }
 {

@@ -73,7 +73,7 @@ fn place_of(streams: &[RtpStream], payload_type: u8, ssrc: u32) -> Option<usize>
     first_of(streams, payload_type, ssrc)
 }
 
-/// The place of the first stream of a payload type and a source.
+/// `place_of`, by the walk that finds it.
 fn first_of(streams: &[RtpStream], payload_type: u8, ssrc: u32) -> Option<usize>
     ensures first { result ≡ position_from (λ s. is_same
         (record { payload_type = payload_type; ssrc = ssrc }) (stream_key_of s)) 0 streams.now }

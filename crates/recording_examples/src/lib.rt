@@ -22,6 +22,8 @@ mod import;
 #[cfg(test)]
 mod inspect;
 #[cfg(test)]
+mod numbers;
+#[cfg(test)]
 mod paced;
 #[cfg(test)]
 mod packets;

@@ -1,9 +1,8 @@
-use Rattle.std.proofs.Common.{◌≡◌, ◌∙◌, ◌<◌, List, None, Some, ℕ, Option, ap, arith, length, map, refl, sym}
+use Rattle.std.proofs.Common.{◌∙◌, ◌<◌, List, ap, arith, length, map, refl, sym}
 use Rattle.std.proofs.lemmas.Result.{on_ok_weaker}
-use Rattle.std.specs.declared.net.socket_addr.SocketAddr.{SocketAddr}
 use Rattle.recording_counts.specs.Flows.{arrival_of, is_same_flow}
 use Rattle.recording_counts.specs.FlowPlaces.{FlowKey, flow_key_cmp, flow_key_of, is_same_key}
-use Rattle.recording_counts.specs.FlowCounts.{flow_count_of, flow_counts}
+use Rattle.recording_counts.specs.FlowCounts.{flow_count_of}
 use Rattle.recording_counts.specs.Tables.{place_of}
 use Rattle.recording_counts.specs.declared.flow_count.FlowCount.{FlowCount}
 use Rattle.recording_counts.proofs.Keys.{exact_flows, flow_keys, flow_parts, flow_place}

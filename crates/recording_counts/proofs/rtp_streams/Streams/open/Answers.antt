@@ -1,8 +1,8 @@
-use Rattle.std.proofs.Common.{◌≡◌, ◌∙◌, ◌<◌, ap, arith, length, sym}
+use Rattle.std.proofs.Common.{◌∙◌, ap, arith, length, sym}
 use Rattle.std.proofs.lemmas.Bool.{eqb-false, eqb-true}
 use Rattle.rtp_header.specs.Views.{seen_rtp}
 use Rattle.recording_counts.specs.declared.rtp_stream.RtpStream.{RtpStream}
-use Rattle.std.proofs.Common.{◌++◌, ◌∷◌, [], List}
+use Rattle.std.proofs.Common.{◌++◌, ◌∷◌, []}
 use Rattle.recording_counts.proofs.Kept.{kept_full, kept_room}
 use Rattle.recording_counts.proofs.rtp_streams.Streams.open.Goals as goal
 
