@@ -10,7 +10,8 @@ use Rattle.std.specs.List.{AllByRecursion, AllZip, zip}
 use Rattle.st_format.specs.History.{IsRead}
 use Rattle.st_format.proofs.Histories.{since_is}
 use Rattle.flow.specs.declared.flows.Flows.{Flows}
-use Rattle.recording_counts.specs.LeftOut.{counted, left_out_of}
+use Rattle.recording_counts.specs.LeftOut.{left_out_of}
+use Rattle.recording_counts.specs.Numbering.{capped}
 use Rattle.recording_counts.specs.declared.omission.Omission.{Omission}
 use Rattle.media_file.specs.Fronts.{front_text}
 use Rattle.media_file.specs.Records.{Entry, records_text}
@@ -343,7 +344,7 @@ pub imports : {X S : Type 0} (a b : Option (List ℕ)) (Said : List ℕ → Type
     → HasImported told zs each ts text took took' (record { a = r.a; b = r.b }) → Said text
     → AsksFlows a b text flows → TellsPaths flows (length zs) each
     → ((os : List Omission) → AreLeftOut ts os → r.left_out ≡ left_out_of os)
-    → ((os : List Omission) → r.left_out ≡ left_out_of os → n ≡ counted (length os))
+    → ((os : List Omission) → r.left_out ≡ left_out_of os → n ≡ capped (length os))
     → shown' ≡ shown ++ (line_text (line.Recorded r.a r.b n) ++ 10 ∷ [])
     → Imports a b Said told zs took took' shown shown' r
 imports a b Said told zs each ts flows text took took' shown shown' r n has said asked tells left
@@ -361,9 +362,9 @@ imports a b Said told zs each ts flows text took took' shown shown' r n has said
       by_b = has.b;
       left_out = λ octets read. left (omissions_in each octets) (has.left octets read);
       printed = λ octets read.
-          let count : n ≡ counted (left_out_in each octets) =
+          let count : n ≡ capped (left_out_in each octets) =
           total (omissions_in each octets) (left (omissions_in each octets) (has.left octets read))
-          ∙ ap counted (all_omitted each octets) in
+          ∙ ap capped (all_omitted each octets) in
           printed ∙ ap (λ (l : Line). shown ++ (line_text l ++ 10 ∷ []))
           (ap (λ (k : ℕ). line.Recorded k r.b n) has.a
           ∙ ap (λ (k : ℕ). line.Recorded (count_of A has.entries) k n) has.b

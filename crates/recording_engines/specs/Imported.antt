@@ -7,7 +7,8 @@ use Rattle.flow.specs.Flow.{IsOnePlace}
 use Rattle.flow.specs.FlowText.{IsFlowText}
 use Rattle.flow.specs.declared.flows.Flow.{Flow}
 use Rattle.flow.specs.declared.flows.Flows.{Flows}
-use Rattle.recording_counts.specs.LeftOut.{counted, left_out_of}
+use Rattle.recording_counts.specs.LeftOut.{left_out_of}
+use Rattle.recording_counts.specs.Numbering.{capped}
 use Rattle.media_file.specs.Fronts.{front_text}
 use Rattle.media_file.specs.Records.{Entry, records_text}
 use Rattle.media_file.specs.declared.front.Version.TheVariants.{Two}
@@ -79,7 +80,7 @@ pub record Imports {S : Type 0} (a b : Option (List ℕ)) (Said : List ℕ → T
         → counts.left_out ≡ left_out_of (omissions_in each octets)
     pub printed : (octets : List (List ℕ)) → AllZip told recordings octets → shown' ≡ shown
         ++ (line_text (line.Recorded (count_of A entries) (count_of B entries)
-        (counted (left_out_in each octets))) ++ 10 ∷ [])
+        (capped (left_out_in each octets))) ++ 10 ∷ [])
 
 -- ---- refusals
 
