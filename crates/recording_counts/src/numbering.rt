@@ -8,7 +8,7 @@ use crate::packet::Packet;
 /// The number of a packet: of the first one what it says and 2^32, so that packets before it have a
 /// number too, and of each other one what is nearest to the highest number so far, in the spirit of
 /// RFC 3550, A.1.
-pub(crate) fn number_after(highest: Option<u64>, packet: &Packet) -> u64
+pub fn number_after(highest: Option<u64>, packet: &Packet) -> u64
     ensures { result ≡ number_after highest packet.now }
 {
     match highest {

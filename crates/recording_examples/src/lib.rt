@@ -34,6 +34,7 @@ mod reading;
 #[cfg(test)]
 mod recordings;
 #[cfg(test)]
+mod stream_numbers;
 mod streams;
 #[cfg(test)]
 mod written;
