@@ -4,3 +4,4 @@ pub mod Opened
 pub mod Received
 pub mod Window
 pub mod Refused
+pub mod Inspected

@@ -2,6 +2,7 @@
 #![tactic(auto)]
 
 mod differing;
+mod inspecting;
 mod looping;
 mod migrating;
 mod opening;
@@ -13,6 +14,7 @@ mod sending;
 mod window;
 
 pub use differing::{StreamFormat, said_otherwise};
+pub use inspecting::{StreamsCommand, begins_with_text};
 pub use looping::LoopCommand;
 pub use migrating::MigrateCommand;
 pub use opening::Files;

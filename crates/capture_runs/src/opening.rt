@@ -103,6 +103,19 @@ impl<'a> Files<'a> {
         }
     }
 
+    /// Reads the SDP where one is named, and finds by which flows each file is taken that is a
+    /// recording. No such file is looked at yet.
+    pub(crate) fn open_once(&mut self, rt: &'a HostRuntime, asked: Asked<'a>) -> Result<(), Fault>
+        requires { AreUnread self.old.sdp self.old.captures.items }
+        ensures unread { AreUnread self.new.sdp self.new.captures.items }
+        ensures refusal { IfErr result (λ f. OfRefusal f (λ r. IsTooLong self.new.unread r
+            ⊎ IsFlowRefusal (option_copied asked.entry.flows.a)
+            (option_copied asked.entry.flows.b) r)) }
+    {
+        self.read_sdp(rt, asked.sdp)?;
+        self.open_captures(rt, asked)
+    }
+
     /// Reads the SDP, where one is named.
     fn read_sdp(&mut self, rt: &'a HostRuntime, name: Option<&'a str>) -> Result<(), Fault>
         requires { AreUnread self.old.sdp self.old.captures.items }

@@ -28,6 +28,8 @@ enum Usage {
     Flag,
     /// An option with a value.
     Optional(&'static str),
+    /// An option with a value, beside which the word of this name may not be given.
+    OptionalUnless(&'static str, &'static str),
     /// An option with a value that has to be given.
     Required(&'static str),
     /// An option with a value of a kind that has to be given.
@@ -156,7 +158,8 @@ const IMPORT: Said = Said {
 
 const INSPECT: Said = Said {
     name: "inspect",
-    about: "Prints which streams of datagrams recordings of other tools have",
+    about: "Prints which streams of datagrams recordings of other tools have; or what came of a \
+        stream by each path, and what is missing",
     words: &[INSPECTED],
 };
 
@@ -465,11 +468,44 @@ const IMPORTED: &[Word] = &[
 /// The words of `inspect`.
 const INSPECTED: &[Word] = &[
     Word {
+        name: "sdp",
+        usage: Usage::OptionalUnless("FILE", "format"),
+        help: "SDP text that says the format and the payload type of a stream, and where the \
+            datagrams of each path go: tell what came of it",
+    },
+    Word {
+        name: "format",
+        usage: Usage::Optional("S B W H N/D"),
+        help: "The format of a stream in place of that, one word as 'YCbCr-4:2:2 10 1920 1080 \
+            60000/1001'",
+    },
+    Word {
+        name: "pt",
+        usage: Usage::DefaultBeside("N", U7, "96", "format"),
+        help: "The stream's payload type, up to 127",
+    },
+    Word {
+        name: "a",
+        usage: Usage::Optional("[ADDR:]PORT"),
+        help: "Where the datagrams of path A go in recordings of other tools, in place of what the \
+            SDP says of both paths",
+    },
+    Word {
+        name: "b",
+        usage: Usage::Optional("[ADDR:]PORT"),
+        help: "Where those of path B go, likewise",
+    },
+    Word {
         name: "json",
         usage: Usage::Flag,
         help: "Print objects of JSON for other tools, one in a line",
     },
-    RECORDINGS,
+    Word {
+        name: "recordings",
+        usage: Usage::Files("RECORDING"),
+        help: "Files of pcap or pcapng, and with a format captures too, or - for one on standard \
+            input",
+    },
 ];
 
 /// The words of `export`.
@@ -584,7 +620,9 @@ fn argument<'a>(alloc: Global, word: &Word) -> Result<Arg<'a>, AllocError> {
         Usage::Beside(_, other) | Usage::DefaultBeside(_, _, _, other) => {
             formed.requires_arg(other)
         }
-        Usage::FileUnless(_, other) => formed.conflicts_with(other),
+        Usage::FileUnless(_, other) | Usage::OptionalUnless(_, other) => {
+            formed.conflicts_with(other)
+        }
         Usage::Type(..) => formed.requires_if("sdp", "sdp"),
         _ => Ok(formed),
     }
@@ -595,7 +633,7 @@ fn formed<'a>(word: Arg<'a>, name: &'static str, form: Usage) -> Arg<'a> {
     match form {
         Usage::Flag => word.long(name).action(ArgAction::SetTrue),
         Usage::Optional(value) => option(word, name, value),
-        Usage::Beside(value, _) => option(word, name, value),
+        Usage::Beside(value, _) | Usage::OptionalUnless(value, _) => option(word, name, value),
         Usage::Required(value) => option(word, name, value).required(true),
         Usage::Number(value, kind) => option(word, name, value).required(true).value_parser(kind),
         Usage::Default(value, kind, text) => with_default(option(word, name, value), kind, text),

@@ -10,13 +10,22 @@ use flow::{Flow, read_flow};
 use st_format::{Format, FormatFault, FormatTextFault};
 
 /// Reads a format, or why there is none of words that have its form; none where they haven't.
-fn read_format(text: &str) -> Option<Result<Format, FormatFault>>
+pub fn read_format(text: &str) -> Option<Result<Format, FormatFault>>
     ensures { MatchOption result (IsNoFormat text.now) (λ r. IsFormatOf r (read_format text.now)) }
 {
     match text.parse::<Format>() {
         Ok(format) => Some(Ok(format)),
         Err(FormatTextFault::Refused(fault)) => Some(Err(fault)),
         Err(FormatTextFault::NotFormat | FormatTextFault::NotRate) => None,
+    }
+}
+
+/// The value that isn't a format.
+pub fn no_format<'w>(option: &'static str, value: &'w str) -> BadValue<'w> {
+    BadValue {
+        option,
+        value,
+        wanted: "sampling, depth, width, height and rate, as YCbCr-4:2:2 10 1920 1080 60000/1001",
     }
 }
 
@@ -48,11 +57,7 @@ pub fn read_stream<'w>(words: &WriteWords<'w>) -> Result<AnnouncedStream, BadVal
     ensures { MatchResult result (SaysStream words.now) (λ _. IsNoStream words.now) }
 {
     let Some(format) = read_format(words.format) else {
-        return Err(BadValue {
-            option: "--write <S B W H N/D>",
-            value: words.format,
-            wanted: "sampling, depth, width, height and rate, as YCbCr-4:2:2 10 1920 1080 60000/1001",
-        });
+        return Err(no_format("--write <S B W H N/D>", words.format));
     };
     let Some(a) = read_leg(words.a) else {
         return Err(no_leg("--a <ADDR:PORT>", words.a));

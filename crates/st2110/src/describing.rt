@@ -62,7 +62,7 @@ fn tell_edition(rt: &HostRuntime, text: &[u8]) {
 }
 
 /// Prints why a value isn't one of its option, and answers the status.
-fn refuse_value(rt: &HostRuntime, value: BadValue<'_>) -> u8 {
+pub(crate) fn refuse_value(rt: &HostRuntime, value: BadValue<'_>) -> u8 {
     match value.print(rt) {
         Ok(()) => Status::CommandLine.number(),
         Err(_) => Status::Device.number(),
