@@ -1,6 +1,6 @@
 //! `inspect` with a format over the devices of this machine.
 ghost use Rattle.std.specs.Prelude.{◌≡◌, ◌⊎◌, ◌∷◌, [], Any, Err, IfErr, IfOk, MatchResult, None, Ok};
-ghost use Rattle.std.specs.Prelude.{OnOk, sum_by};
+ghost use Rattle.std.specs.Prelude.{OnOk, if◌then◌else◌, sum_by};
 ghost use Rattle.std.specs.List.{zip};
 ghost use Rattle.std.specs.Option.{option_copied};
 ghost use Rattle.capture_runs.specs.Inspected.{IsSetRefusal};
@@ -63,16 +63,19 @@ impl<'a> StreamsCommand<'a> {
             rt,
             wanted,
             flows: asked.flows,
-            form: if words.is_json {
-                Form::Json
-            } else {
-                Form::Columns
-            },
+            form: form_of(words.is_json),
             opened,
             files,
             output: OutputSink::new(rt.stdout()),
         }
     }
+}
+
+/// The form that is asked for.
+fn form_of(is_json: bool) -> Form
+    ensures { result ≡ (if is_json then Form.Json else Form.Columns) }
+{
+    if is_json { Form::Json } else { Form::Columns }
 }
 
 /// What is read. A window and a source aren't asked for.
