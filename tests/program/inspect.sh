@@ -79,62 +79,6 @@ run inspect "$recordings/loopback.pcap" "$recordings/loopback.pcap.gz"
 says 'inspect: packed' 1 '' 'st2110: recording 10 Packed'
 run inspect no-such-file
 says 'inspect: no such file' 3 '' 'st2110: device'
-# inspect with a format: by an SDP, by words in place of it, and by a capture's own text, of a recording or the capture that
-# import makes of it. (Standard input isn't looked at first, so of it flows are told.)
-cards=$recordings/two-cards
-run inspect --sdp "$cards.sdp" "$cards.pcapng"
-cp out stream.said
-if [ "$status" = 0 ] && [ "$(tail -n 1 out)" = 'window 900,4500' ]; then
-    pass 'inspect: a stream'
-else
-    fail 'inspect: a stream' "status $status: $(cat out err)"
-fi
-run inspect --format 'YCbCr-4:2:2 8 32 18 25' --a 239.1.1.1:5004 --b 5006 "$cards.pcapng"
-alike 'inspect: a stream by its format' out stream.said
-run import --sdp "$cards.sdp" --out stream.cap "$cards.pcapng"
-run inspect stream.cap
-alike 'inspect: a stream by the text of a capture' out stream.said
-run inspect --sdp "$cards.sdp" stream.cap
-alike 'inspect: a stream of a capture by an SDP' out stream.said
-run inspect --format 'YCbCr-4:2:2 8 32 18 25' --pt 96 stream.cap
-alike 'inspect: a stream of a capture by its format' out stream.said
-"$program" inspect - <stream.cap >out 2>err
-status=$?
-says 'inspect: a capture on standard input' 1 '' 'st2110: recording 3 BadMagic'
-"$program" inspect --sdp "$cards.sdp" - <"$cards.pcapng" >out 2>err
-alike 'inspect: a stream on standard input' out stream.said
-octets "5332304341503032 0000" >none.cap
-run inspect none.cap
-says 'inspect: a capture without a text' 1 '' 'st2110: recording 3 BadMagic'
-run inspect --json --sdp "$cards.sdp" "$cards.pcapng"
-if command -v python3 >python3.path; then
-    while read -r object; do
-        printf '%s' "$object" | python3 -m json.tool >object.out 2>object.err ||
-            fail 'inspect --json: an object of a stream for Python' "$(cat object.err): $object"
-    done <out
-    pass 'inspect --json: objects of a stream for Python'
-fi
-# What is refused: a format that there isn't, words that are no format, no flow or none, an SDP, and files.
-run inspect --format 'RGB 8 4 2 0/1' "$cards.pcapng"
-says 'inspect: no such format' 1 '' 'st2110: format 3 BadRate'
-run inspect --format RGB "$cards.pcapng"
-if [ "$status" = 2 ] && grep -q "invalid value 'RGB' for '--format <S B W H N/D>'" err; then
-    pass 'inspect: words that are no format'
-else
-    fail 'inspect: words that are no format' "status $status: $(cat err)"
-fi
-run inspect --sdp "$cards.sdp" --a 500x4 "$cards.pcapng"
-says 'inspect: no flow' 1 '' 'st2110: import 2 BadFlow'
-run inspect --format 'YCbCr-4:2:2 8 32 18 25' "$cards.pcapng"
-says 'inspect: a recording without flows' 1 '' 'st2110: receive 4 NoSdp'
-head -c 16777217 /dev/zero >huge.sdp
-run inspect --sdp huge.sdp "$cards.pcapng"
-says 'inspect: a long SDP' 1 '' 'st2110: receive 3 SdpTooLong'
-rm -f huge.sdp
-run inspect --sdp "$cards.sdp" no-such-file
-says 'inspect: no such file, with an SDP' 3 '' 'st2110: device'
-run inspect --sdp "$cards.sdp" "$cards.sdp"
-says 'inspect: no capture' 1 '' 'st2110: capture 3 BadName'
-run inspect -v --format 'RGB 8 4 2 0/1' "$cards.pcapng"
-grep -q '^  at --format; wanted ' err && pass 'inspect: where no such format is' ||
-    fail 'inspect: where no such format is' "$(cat err)"
+# A pipe, of which what was read to see that it is no capture is given again.
+cat "$recordings/two-cards.pcapng" | "$program" inspect - >out 2>err
+alike 'inspect: a pipe' out again

@@ -57,7 +57,7 @@ fn first_format(rt: &HostRuntime, words: &SendWords<'_>) -> Option<Format> {
 }
 
 /// The file of a name, where it is a plain one.
-pub(crate) fn plain_file<'a>(rt: &'a HostRuntime, name: &'a str) -> Option<FileSource<'a>> {
+fn plain_file<'a>(rt: &'a HostRuntime, name: &'a str) -> Option<FileSource<'a>> {
     if fs::metadata(rt, name).ok()?.is_file() {
         Some(FileSource::new(rt, name))
     } else {

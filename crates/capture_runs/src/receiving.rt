@@ -87,6 +87,7 @@ impl ReceiveCommand<'_> {
         };
         Hints {
             takes_recordings: true,
+            has_format: false,
             sound,
             room: if self.wants_memory {
                 room_of(

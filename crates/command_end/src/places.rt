@@ -308,7 +308,7 @@ fn of_records(refusal: Refusal, said: Option<&'static str>) -> Option<&'static s
 
 /// Where a refusal is, and what was wanted there.
 fn of_refusal<'a>(refusal: Refusal, devices: &Devices<'a>) -> Option<Said<'a>> {
-    let wanted = refusal.wanted();
+    let wanted = devices.hints.wanted(refusal);
     match blamed_by(refusal) {
         Blamed::Word(name) => Some(Said::Name(name, wanted)),
         Blamed::Read => Some(of_file(refusal, devices.read?, devices, wanted)),

@@ -158,8 +158,8 @@ const IMPORT: Said = Said {
 
 const INSPECT: Said = Said {
     name: "inspect",
-    about: "Prints which streams of datagrams recordings of other tools have; or what came of a \
-        stream by each path, and what is missing",
+    about: "Prints which streams of datagrams recordings of other tools have, or, by a format, what \
+        came of a stream by each path and what is missing",
     words: &[INSPECTED],
 };
 
@@ -471,7 +471,7 @@ const INSPECTED: &[Word] = &[
         name: "sdp",
         usage: Usage::OptionalUnless("FILE", "format"),
         help: "SDP text that says the format and the payload type of a stream, and where the \
-            datagrams of each path go: tell what came of it",
+            datagrams of each path go; without it and --format a capture's own text says that",
     },
     Word {
         name: "format",
@@ -503,8 +503,8 @@ const INSPECTED: &[Word] = &[
     Word {
         name: "recordings",
         usage: Usage::Files("RECORDING"),
-        help: "Files of pcap or pcapng, and with a format captures too, or - for one on standard \
-            input",
+        help: "Recordings of other tools, pcap or pcapng, and captures, taken one after the other; - \
+            is standard input",
     },
 ];
 

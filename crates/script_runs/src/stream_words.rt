@@ -10,7 +10,7 @@ use flow::{Flow, read_flow};
 use st_format::{Format, FormatFault, FormatTextFault};
 
 /// Reads a format, or why there is none of words that have its form; none where they haven't.
-pub fn read_format(text: &str) -> Option<Result<Format, FormatFault>>
+fn read_format(text: &str) -> Option<Result<Format, FormatFault>>
     ensures { MatchOption result (IsNoFormat text.now) (λ r. IsFormatOf r (read_format text.now)) }
 {
     match text.parse::<Format>() {
@@ -20,12 +20,23 @@ pub fn read_format(text: &str) -> Option<Result<Format, FormatFault>>
     }
 }
 
-/// The value that isn't a format.
-pub fn no_format<'w>(option: &'static str, value: &'w str) -> BadValue<'w> {
-    BadValue {
-        option,
-        value,
-        wanted: "sampling, depth, width, height and rate, as YCbCr-4:2:2 10 1920 1080 60000/1001",
+/// Reads the word of an option that is a format's, or why there is no such format. The error is a
+/// word that isn't of a format's form.
+pub fn read_format_word<'w>(
+    option: &'static str,
+    text: &'w str,
+) -> Result<Result<Format, FormatFault>, BadValue<'w>>
+    ensures { MatchResult result (λ r. IsFormatOf r (read_format text.now))
+        (λ _. IsNoFormat text.now) }
+{
+    match read_format(text) {
+        Some(format) => Ok(format),
+        None => Err(BadValue {
+            option,
+            value: text,
+            wanted: "sampling, depth, width, height and rate, as YCbCr-4:2:2 10 1920 1080 \
+                60000/1001",
+        }),
     }
 }
 
@@ -56,9 +67,7 @@ fn no_leg<'w>(option: &'static str, value: &'w str) -> BadValue<'w> {
 pub fn read_stream<'w>(words: &WriteWords<'w>) -> Result<AnnouncedStream, BadValue<'w>>
     ensures { MatchResult result (SaysStream words.now) (λ _. IsNoStream words.now) }
 {
-    let Some(format) = read_format(words.format) else {
-        return Err(no_format("--write <S B W H N/D>", words.format));
-    };
+    let format = read_format_word("--write <S B W H N/D>", words.format)?;
     let Some(a) = read_leg(words.a) else {
         return Err(no_leg("--a <ADDR:PORT>", words.a));
     };

@@ -1,55 +1,46 @@
-//! `inspect`, of flows or of a stream.
+//! `inspect`, and what it tells of packets that are no datagram of a flow.
 use crate::describing::refuse_value;
-use crate::run_made;
-use capture_runs::{StreamsCommand, begins_with_text};
+use crate::importing::tell_left_out;
+use crate::receiving::tell_flows;
+use capture_runs::InspectCommand;
 use command_end::run_command;
-use command_line::{BadValue, InspectWords};
-use recording_runs::InspectCommand;
-use script_runs::{no_format, read_format};
+use command_line::{BadValue, FormatWords, InspectWords};
+use script_runs::read_format_word;
 use st_format::FormatFault;
-use stream_inspection::{Target, Wanted};
+use stream_inspection::Target;
 
-/// Tells which flows recordings have, or, where a format is said, what came of a stream; and answers
-/// the exit status.
-pub fn inspect(rt: &HostRuntime, words: &InspectWords<'_>, explains: bool) -> u8 {
-    match wanted(rt, words) {
-        Ok(None) => run_made(rt, explains, InspectCommand::new(rt, words)),
-        Ok(Some(wanted)) => {
-            run_command(rt, explains, StreamsCommand::new(rt, words, wanted)).status
-        }
-        Err(value) => refuse_value(rt, value),
+/// Tells which flows recordings have, or what came of a stream, and answers the exit status. Of a
+/// stream's recordings the packets that were left out are told by the reason, where that is asked
+/// for; and where a flow was asked for of which no datagram came, standard error is told the flows
+/// that the recordings have.
+pub fn inspect(rt: &HostRuntime, words: &InspectWords<'_>, explains: bool, is_verbose: bool) -> u8 {
+    let target = match words.format {
+        Some(given) => match target_of(given) {
+            Ok(target) => Some(target),
+            Err(value) => return refuse_value(rt, value),
+        },
+        None => None,
+    };
+    let ended = run_command(rt, explains, InspectCommand::new(rt, words, target));
+    let seen = ended.command.seen();
+    if is_verbose {
+        tell_left_out(rt, &seen.left_out);
     }
+    if ended.status == 0 && seen.lacks_flow() {
+        let names = words.recordings.as_slice();
+        tell_flows(rt, names, &ended.command.files.streams, explains);
+    }
+    ended.status
 }
 
-/// By what a stream is looked for: by the format that is given; by what the SDP says; or by what the
-/// first file says, where it is a capture with a text. Else flows are told. The error is a value that
-/// isn't a format's.
-fn wanted<'w>(
-    rt: &HostRuntime,
-    words: &InspectWords<'w>,
-) -> Result<Option<Result<Wanted, FormatFault>>, BadValue<'w>> {
-    let Some(given) = words.format else {
-        let is_said = words.sdp.is_some() || says_first(rt, words);
-        return Ok(if is_said {
-            Some(Ok(Wanted::Said))
-        } else {
-            None
-        });
-    };
-    match read_format(given.format) {
-        Some(Ok(format)) => Ok(Some(Ok(Wanted::Given(Target {
+/// The format and the payload type that are given, or why there is no such format. The error is a
+/// word that isn't of a format's form.
+fn target_of(given: FormatWords<'_>) -> Result<Result<Target, FormatFault>, BadValue<'_>> {
+    match read_format_word("--format <S B W H N/D>", given.format)? {
+        Ok(format) => Ok(Ok(Target {
             format,
             payload_type: given.payload_type,
-        })))),
-        Some(Err(fault)) => Ok(Some(Err(fault))),
-        None => Err(no_format("--format <S B W H N/D>", given.format)),
-    }
-}
-
-/// Whether the first file is a capture with a text.
-fn says_first(rt: &HostRuntime, words: &InspectWords<'_>) -> bool {
-    match words.recordings.as_slice().first() {
-        Some(name) => begins_with_text(rt, name),
-        None => false,
+        })),
+        Err(fault) => Ok(Err(fault)),
     }
 }

@@ -70,7 +70,7 @@ fn follow(rt: &HostRuntime, given: &Given<'_>) -> u8 {
         Words::Loop(words) => run_command(rt, explains, LoopCommand::new(rt, words)).status,
         Words::Import(words) => import(rt, words, explains, given.is_verbose),
         Words::Export(words) => export(rt, words, explains),
-        Words::Inspect(words) => inspect(rt, words, explains),
+        Words::Inspect(words) => inspect(rt, words, explains, given.is_verbose),
     }
 }
 
