@@ -170,7 +170,7 @@ $heading
 $stamps
             1          900            2            2           no            - -
 skew of B in nanoseconds: least -, middle -, greatest -, of 0 timestamps
-window 900" 'st2110: capture 1 Truncated'
+window 900" 'st2110: capture 5 Truncated'
 run inspect --sdp "$cards.sdp" "$recordings/cut-block.pcapng"
 if [ "$status" = 1 ] && [ "$(cat err)" = 'st2110: recording 2 Truncated' ] && [ "$(tail -n 1 out)" = 'window 900,4500' ]; then
     pass 'inspect a stream: a recording cut short'
@@ -197,7 +197,7 @@ run inspect -v --format 'RGB 8 4 2 0/1' "$cards.pcapng"
 grep -q '^  at --format; wanted ' err && pass 'inspect a stream: where no such format is' ||
     fail 'inspect a stream: where no such format is' "$(cat err)"
 run inspect --format RGB "$cards.pcapng"
-misworded 'inspect a stream: words that are no format' "invalid value 'RGB' for '--format <S B W H N/D>': wanted sampling, depth, width, height and rate, as YCbCr-4:2:2 10 1920 1080 60000/1001" -
+misworded 'inspect a stream: words that are no format' "invalid value 'RGB' for '--format <S B W H N/D>': sampling, depth, width, height and rate, as YCbCr-4:2:2 10 1920 1080 60000/1001" -
 run inspect --sdp "$cards.sdp" --a 500x4 "$cards.pcapng"
 says 'inspect a stream: no flow' 1 '' 'st2110: import 2 BadFlow'
 head -c 16777217 /dev/zero >huge.sdp

@@ -1,6 +1,6 @@
 -- What the first octets of a file say of it, and of several files.
 use Rattle.std.proofs.Common.{◌≡◌, ◌∙◌, ◌⊎◌, ◌++◌, ◌<◌, ◌≤◌, ◌∷◌, [], All, Bool, List, ap}
-use Rattle.std.proofs.Common.{absurd, append-nil, arith, false, inl, inr, length, refl, subst}
+use Rattle.std.proofs.Common.{append-nil, arith, false, inl, inr, length, refl, subst}
 use Rattle.std.proofs.Common.{sym, take, true, ℕ}
 use Rattle.std.proofs.Math.Nat.{eq-or-lt_of_le}
 use Rattle.std.proofs.Math.Seq.{get_or-append_seam}
@@ -76,10 +76,10 @@ any_last P files file holds = (
 have_one : (is : Bool) (files : List Replayed) (file : Replayed) → All IsNoCapture files
     → IsLooked is file → HaveCapture is (files ++ file ∷ [])
 have_one true files file none it =
-    record { yes = λ e. any_last IsCapture files file it; no = λ e. absurd (sym e) }
+    record { yes = λ e. any_last IsCapture files file it; no = λ e. absurd (cc) }
 have_one false files file none it =
     record {
-      yes = λ e. absurd e;
+      yes = λ e. absurd (cc);
       no = λ e. All-append IsNoCapture files (file ∷ []) none
           (All-cons IsNoCapture file [] it (All-nil IsNoCapture));
     }
@@ -89,7 +89,7 @@ have_more_by : (was is : Bool) (files : List Replayed) (file : Replayed) → Hav
     → HaveCapture is (files ++ file ∷ [])
 have_more_by true is files file have kept looked =
     subst (λ (b : Bool). HaveCapture b (files ++ file ∷ [])) (sym (kept refl))
-    (record { yes = λ e. any_more IsCapture files file (have.yes refl); no = λ e. absurd (sym e) })
+    (record { yes = λ e. any_more IsCapture files file (have.yes refl); no = λ e. absurd (cc) })
 have_more_by false is files file have kept looked =
     have_one is files file (have.no refl) (looked refl)
 

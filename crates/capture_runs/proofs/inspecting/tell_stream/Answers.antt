@@ -10,7 +10,7 @@ returns-clause-told c =
     c.inspect_streams-outcome.new.captures (sym c.as_mut_slice.ensures.len ∙ same)
     (c.inspect_streams-outcome.ensures.len ∙ same))
     (told_ok c.inspect_streams-outcome.result c.told_by.result _ _ c.told_by.ensures
-    (rw (c.as_mut_slice.ensures.value, c.form_of_streams.ensures)
+    (rw (c.as_mut_slice.ensures.value, c.form_of_streams-form.ensures)
     at c.inspect_streams-outcome.ensures.told))
 
 pub returns-clause-refusal : goal.returns-clause-refusal
@@ -23,5 +23,5 @@ returns-clause-refusal c =
     (told_refused c.inspect_streams-outcome.result c.told_by.result
     c.inspect_streams-outcome.new.captures _
     (rw (c.as_slice.ensures.value, back) at c.told_by.ensures)
-    (rw (c.as_mut_slice.ensures.value, c.form_of_streams.ensures)
+    (rw (c.as_mut_slice.ensures.value, c.form_of_streams-form.ensures)
     at c.inspect_streams-outcome.ensures.refusal))
