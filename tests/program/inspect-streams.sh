@@ -194,8 +194,8 @@ alike 'inspect a stream: of another flow' lacking out
 run inspect --format 'RGB 8 4 2 0/1' "$cards.pcapng"
 says 'inspect a stream: no such format' 1 '' 'st2110: format 3 BadRate'
 run inspect -v --format 'RGB 8 4 2 0/1' "$cards.pcapng"
-grep -q '^  at --format; wanted ' err && pass 'inspect a stream: where no such format is' ||
-    fail 'inspect a stream: where no such format is' "$(cat err)"
+says 'inspect a stream: where no such format is' 1 '' 'st2110: format 3 BadRate
+  at --format; wanted N and D from 1 to 1000000, and N/D from 1 to 300'
 run inspect --format RGB "$cards.pcapng"
 misworded 'inspect a stream: words that are no format' "invalid value 'RGB' for '--format <S B W H N/D>': sampling, depth, width, height and rate, as YCbCr-4:2:2 10 1920 1080 60000/1001" -
 run inspect --sdp "$cards.sdp" --a 500x4 "$cards.pcapng"
